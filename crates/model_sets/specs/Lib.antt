@@ -1,0 +1,2 @@
+-- What can be computed of a content model by recursion on its groups, proved against walks.
+pub mod Sets
