@@ -2,3 +2,4 @@
 pub mod Sets
 pub mod Bits
 pub mod Path
+pub mod Reach

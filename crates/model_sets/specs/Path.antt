@@ -53,33 +53,33 @@ numbered-apart g h lo m n p x y = omega (arith, has-range g lo m p x, has-range 
 
 -- A walk is a path.
 
-onward-mono : (g k : Group) → ((u : ℕ) → last g u ≡ true → last k u ≡ true) → ((u p : ℕ) → follow g u p ≡ true → follow k u p ≡ true) → (u : ℕ) (w : List ℕ) → Onward g u w → Onward k u w
+pub onward-mono : (g k : Group) → ((u : ℕ) → last g u ≡ true → last k u ≡ true) → ((u p : ℕ) → follow g u p ≡ true → follow k u p ≡ true) → (u : ℕ) (w : List ℕ) → Onward g u w → Onward k u w
 onward-mono g k l f u [] o = l u o
 onward-mono g k l f u (p ∷ w) (x, o) = (f u p x, onward-mono g k l f p w o)
 
-path-mono : (g k : Group) → (nullable g ≡ true → nullable k ≡ true) → ((p : ℕ) → first g p ≡ true → first k p ≡ true) → ((u : ℕ) → last g u ≡ true → last k u ≡ true) → ((u p : ℕ) → follow g u p ≡ true → follow k u p ≡ true) → (w : List ℕ) → IsPath g w → IsPath k w
+pub path-mono : (g k : Group) → (nullable g ≡ true → nullable k ≡ true) → ((p : ℕ) → first g p ≡ true → first k p ≡ true) → ((u : ℕ) → last g u ≡ true → last k u ≡ true) → ((u p : ℕ) → follow g u p ≡ true → follow k u p ≡ true) → (w : List ℕ) → IsPath g w → IsPath k w
 path-mono g k n i l f [] e = n e
 path-mono g k n i l f (p ∷ w) (x, o) = (i p x, onward-mono g k l f p w o)
 
-onward-second : (g h : Group) (u : ℕ) (w : List ℕ) → Onward h u w → Onward (seq g h) u w
+pub onward-second : (g h : Group) (u : ℕ) (w : List ℕ) → Onward h u w → Onward (seq g h) u w
 onward-second g h = onward-mono h (seq g h) (λ u e. or-left _ e) (λ u p e. or-right (follow g u p) (or-left _ e))
 
-onward-seq : (g h : Group) (u : ℕ) (s t : List ℕ) → Onward g u s → IsPath h t → Onward (seq g h) u (s ++ t)
+pub onward-seq : (g h : Group) (u : ℕ) (s t : List ℕ) → Onward g u s → IsPath h t → Onward (seq g h) u (s ++ t)
 onward-seq g h u [] [] a b = or-right (last h u) (and-both b a)
 onward-seq g h u [] (p ∷ t) a (x, o) = (or-right (follow g u p) (or-right (follow h u p) (and-both a x)), onward-second g h p t o)
 onward-seq g h u (p ∷ s) t (x, o) b = (or-left _ x, onward-seq g h p s t o b)
 
-path-seq : (g h : Group) (s t : List ℕ) → IsPath g s → IsPath h t → IsPath (seq g h) (s ++ t)
+pub path-seq : (g h : Group) (s t : List ℕ) → IsPath g s → IsPath h t → IsPath (seq g h) (s ++ t)
 path-seq g h [] [] a b = and-both a b
 path-seq g h [] (p ∷ t) a (x, o) = (or-right (first g p) (and-both a x), onward-second g h p t o)
 path-seq g h (p ∷ s) t (x, o) b = (or-left _ x, onward-seq g h p s t o b)
 
-onward-plus : (g : Group) (u : ℕ) (s t : List ℕ) → Onward g u s → IsPath (plus g) t → Onward (plus g) u (s ++ t)
+pub onward-plus : (g : Group) (u : ℕ) (s t : List ℕ) → Onward g u s → IsPath (plus g) t → Onward (plus g) u (s ++ t)
 onward-plus g u [] [] a b = a
 onward-plus g u [] (p ∷ t) a (x, o) = (or-right (follow g u p) (and-both a x), o)
 onward-plus g u (p ∷ s) t (x, o) b = (or-left _ x, onward-plus g p s t o b)
 
-path-plus : (g : Group) (s t : List ℕ) → IsPath g s → IsPath (plus g) t → IsPath (plus g) (s ++ t)
+pub path-plus : (g : Group) (s t : List ℕ) → IsPath g s → IsPath (plus g) t → IsPath (plus g) (s ++ t)
 path-plus g [] t a b = b
 path-plus g (p ∷ s) t (x, o) b = (x, onward-plus g p s t o b)
 
@@ -133,10 +133,10 @@ followed-has (plus g) u p e = or-cases (follow g u p) _ (followed-has g u p) (λ
 
 -- Where two members have no place in common, a place of one of them leads on as that member says.
 
-last-none : (g : Group) (u : ℕ) → (has g u ≡ true → ⊥) → last g u ≡ false
+pub last-none : (g : Group) (u : ℕ) → (has g u ≡ true → ⊥) → last g u ≡ false
 last-none g u d = not-true (last g u) (λ e. d (last-has g u e))
 
-follow-none : (g : Group) (u p : ℕ) → (has g u ≡ true → ⊥) → follow g u p ≡ false
+pub follow-none : (g : Group) (u p : ℕ) → (has g u ≡ true → ⊥) → follow g u p ≡ false
 follow-none g u p d = not-true (follow g u p) (λ e. d (followed-has g u p e))
 
 module _ (g h : Group) (apart : Apart g h) (u : ℕ) where
@@ -167,18 +167,18 @@ module _ (g h : Group) (apart : Apart g h) (u : ℕ) where
 -- A path of a numbered group is a walk.
 
 -- if places of g lead on in k as they do in g, what leads on in k from a place of g stays in g
-onward-stays : (k g : Group) → ((u : ℕ) → has g u ≡ true → last k u ≡ last g u) → ((u : ℕ) → has g u ≡ true → (p : ℕ) → follow k u p ≡ follow g u p) → (u : ℕ) (w : List ℕ) → has g u ≡ true → Onward k u w → Onward g u w
+pub onward-stays : (k g : Group) → ((u : ℕ) → has g u ≡ true → last k u ≡ last g u) → ((u : ℕ) → has g u ≡ true → (p : ℕ) → follow k u p ≡ follow g u p) → (u : ℕ) (w : List ℕ) → has g u ≡ true → Onward k u w → Onward g u w
 onward-stays k g l f u [] i o = sym (l u i) ∙ o
 onward-stays k g l f u (p ∷ w) i (x, o) = let y : follow g u p ≡ true = sym (f u i p) ∙ x in (y, onward-stays k g l f p w (follow-has g u p y) o)
 
 -- from the place u of g the places w lead to an end of g and go on with a path of h
-abbrev Cut : Group → Group → ℕ → List ℕ → Type 0
+abbrev pub Cut : Group → Group → ℕ → List ℕ → Type 0
 Cut g h u w = (s : List ℕ) × (t : List ℕ) × (w ≡ s ++ t) × Onward g u s × IsPath h t
 
 cut-step : (g h : Group) (u p : ℕ) (w : List ℕ) → follow g u p ≡ true → Cut g h p w → Cut g h u (p ∷ w)
 cut-step g h u p w x (s, t, e, o, q) = (p ∷ s, t, ap (_∷_ p) e, (x, o), q)
 
-onward-cut : (g h : Group) → Apart g h → (u : ℕ) (w : List ℕ) → has g u ≡ true → Onward (seq g h) u w → Cut g h u w
+pub onward-cut : (g h : Group) → Apart g h → (u : ℕ) (w : List ℕ) → has g u ≡ true → Onward (seq g h) u w → Cut g h u w
 onward-cut g h d u [] i o =
     let e : nullable h && last g u ≡ true = sym (seq-last-first g h d u i) ∙ o in
     ([], [], refl, and-right (nullable h) _ e, and-left (nullable h) _ e)
