@@ -3,3 +3,4 @@ pub mod Sets
 pub mod Bits
 pub mod Path
 pub mod Reach
+pub mod Ambiguous
