@@ -11,6 +11,7 @@ use Rattle.rules.specs.Ambiguity.{SpellSame, none, next, Ambiguous, PairAtFault
 use Rattle.model_sets.specs.Sets.{has}
 use Rattle.model_sets.specs.Path.{Onward, IsPath, walk-path, first-has, follow-has}
 use Rattle.model_sets.specs.Reach.{begins-shorter}
+use Rattle.model_sets.specs.Search.{least-unique}
 
 module _ (same : ℕ → ℕ → Bool) (g : Group) where
   -- some pair of the model is at fault
@@ -64,10 +65,4 @@ module _ (same : ℕ → ℕ → Bool) (g : Group) where
   -- At most one pair comes first.
 
   pub first-pair-unique : (p q a b : ℕ) → FirstPair same g p q → FirstPair same g a b → (p ≡ a) × (q ≡ b)
-  first-pair-unique p q a b (x, f) (y, k) = go (f a b y) (k p q x)
-    where
-      go : (p < a) ⊎ ((p ≡ a) × (q ≤ b)) → (a < p) ⊎ ((a ≡ p) × (b ≤ q)) → (p ≡ a) × (q ≡ b)
-      go (inl m) (inl n) = omega arith
-      go (inl m) (inr n) = omega arith
-      go (inr m) (inl n) = omega arith
-      go (inr m) (inr n) = omega arith
+  first-pair-unique p q a b (x, f) (y, k) = least-unique p q a b (f a b y) (k p q x)

@@ -3,4 +3,6 @@ pub mod Sets
 pub mod Bits
 pub mod Path
 pub mod Reach
+pub mod Search
 pub mod Ambiguous
+pub mod Pairs
