@@ -1,5 +1,5 @@
 -- The pairs at fault of a numbered group are found in the rows of what may come next, and the first of them by a search in order.
-use Prim.Native.Nat.{ℕ, zero, suc, _+_, _≤_, _<_}
+use Prim.Native.Nat.{ℕ, zero, suc, _≤_, _<_}
 use mathlib.Core.Path.{_≡_, refl, ap₂, subst}
 use mathlib.Core.Bool.{Bool, true, _&&_, _||_}
 use mathlib.Core.List.{List, [], _∷_, _++_, cons≢nil}
@@ -66,9 +66,13 @@ module _ (g : Group) (numbered : Numbered g 1) where
 abbrev pub clash : Group → ℕ → ℕ → Bool
 clash g p q = clashIn (nextIn g) (size g) p q
 
+-- and they have the same name
+abbrev pub atFault : (ℕ → ℕ → Bool) → Group → ℕ → ℕ → Bool
+atFault same g p q = same p q && clash g p q
+
 -- the first pair at fault, (0, 0) if there is none
 abbrev pub firstPairOf : (ℕ → ℕ → Bool) → Group → ℕ × ℕ
-firstPairOf same g = searchPair (λ p q. same p q && clash g p q) (size g)
+firstPairOf same g = searchPair (atFault same g) (size g)
 
 module _ (same : ℕ → ℕ → Bool) (g : Group) (numbered : Numbered g 1) where
   pub pair-row : (p q : ℕ) → PairAtFault same g p q → (u : ℕ) × (u ≤ size g) × (nextIn g u p ≡ true) × (nextIn g u q ≡ true)
@@ -80,12 +84,12 @@ module _ (same : ℕ → ℕ → Bool) (g : Group) (numbered : Numbered g 1) whe
       let (s, c, z) = row-begins g numbered u i in
       (l, e, s, next-complete g 1 numbered (omega arith) s p c (rw z a), next-complete g 1 numbered (omega arith) s q c (rw z b))
 
-  pub pair-clash : (p q : ℕ) → PairAtFault same g p q → (1 ≤ p) × (q ≤ size g) × (same p q && clash g p q ≡ true)
+  pub pair-clash : (p q : ℕ) → PairAtFault same g p q → (1 ≤ p) × (q ≤ size g) × (atFault same g p q ≡ true)
   pair-clash p q f =
       let (u, l, a, b) = pair-row p q f in
       (next-range g numbered u p a .0, next-range g numbered u q b .1, and-both (f .1) (row-clash (nextIn g) (size g) p q u l a b))
 
-  pub clash-pair : (p q : ℕ) → p < q → same p q && clash g p q ≡ true → PairAtFault same g p q
+  pub clash-pair : (p q : ℕ) → p < q → atFault same g p q ≡ true → PairAtFault same g p q
   clash-pair p q l e =
       let (u, i, a, b) = clash-row (nextIn g) (size g) p q (and-right (same p q) _ e) in
       row-pair p q l (and-left (same p q) _ e) u i a b
@@ -94,21 +98,21 @@ module _ (same : ℕ → ℕ → Bool) (g : Group) (numbered : Numbered g 1) whe
   pub firstPairOf-none : firstPairOf same g .0 ≡ 0 → (p q : ℕ) → PairAtFault same g p q → ⊥
   firstPairOf-none e p q f =
       let (a, b, c) = pair-clash p q f in
-      searchPair-none (λ x y. same x y && clash g x y) (size g) e p q a (f .0) b c
+      searchPair-none (atFault same g) (size g) e p q a (f .0) b c
 
   pub none-firstPairOf : ((p q : ℕ) → PairAtFault same g p q → ⊥) → firstPairOf same g ≡ (0, 0)
-  none-firstPairOf n = none-searchPair (λ x y. same x y && clash g x y) (size g) (λ p q a l b e. n p q (clash-pair p q l e))
+  none-firstPairOf n = none-searchPair (atFault same g) (size g) (λ p q a l b e. n p q (clash-pair p q l e))
 
   -- what the search finds is the first pair at fault
   pub firstPairOf-first : 1 ≤ firstPairOf same g .0 → FirstPair same g (firstPairOf same g .0) (firstPairOf same g .1)
   firstPairOf-first l =
-      let (i, d, b, e, m) = searchPair-some (λ x y. same x y && clash g x y) (size g) l in
+      let (i, d, b, e, m) = searchPair-some (atFault same g) (size g) l in
       (clash-pair (firstPairOf same g .0) (firstPairOf same g .1) d e, λ x y f. let (j, c, k) = pair-clash x y f in m x y j (f .0) c k)
 
   pub first-firstPairOf : (p q : ℕ) → FirstPair same g p q → (firstPairOf same g .0 ≡ p) × (firstPairOf same g .1 ≡ q)
   first-firstPairOf p q (f, m) =
       let (a, b, e) = pair-clash p q f in
-      first-searchPair (λ x y. same x y && clash g x y) (size g) p q (a, f .0, b, e, λ x y i l j k. m x y (clash-pair x y l k))
+      first-searchPair (atFault same g) (size g) p q (a, f .0, b, e, λ x y i l j k. m x y (clash-pair x y l k))
 
   -- the same of a pair by its numbers
   pub firstPairOf-is : (p q : ℕ) → firstPairOf same g ≡ (p, q) → 1 ≤ p → FirstPair same g p q

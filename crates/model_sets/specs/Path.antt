@@ -1,7 +1,7 @@
 -- First, last and follow decide the walks of a group whose places are numbered: a walk is a path.
 use Prim.Native.Nat.{ℕ, _+_, _≤_, _<_}
 use mathlib.Core.Path.{_≡_, refl, sym, _∙_, ap, subst}
-use mathlib.Core.Bool.{Bool, true, false, _&&_, _||_, false≢true, or-false, and-false}
+use mathlib.Core.Bool.{true, false, _&&_, _||_, false≢true, or-false, and-false}
 use mathlib.Core.Logic.{_⊎_, inl, inr}
 use mathlib.Core.List.{List, [], _∷_, _++_, append-nil}
 use native.Mathlib.Decide.{decLt}
