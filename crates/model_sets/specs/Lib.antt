@@ -1,2 +1,3 @@
 -- What can be computed of a content model by recursion on its groups, proved against walks.
 pub mod Sets
+pub mod Must
