@@ -1,352 +1,276 @@
--- The required place, computed by recursion on the group, is the required place of the walks.
-use Prim.Native.Nat.{ℕ, zero, suc, _+_, _≤_, _<_}
-use mathlib.Core.Path.{_≡_, refl, sym, _∙_, ap, subst}
-use mathlib.Core.Bool.{Bool, true, false, _&&_, _||_, not, cond, true≢false, false≢true}
-use mathlib.Core.Logic.{_⊎_, inl, inr, ⊎-elim, _↔_}
-use mathlib.Core.List.{List, [], _∷_, _++_, append-assoc, append-nil, nil≢cons, cons≢nil, head-eq-of-cons-eq, tail-eq-of-cons-eq, List·Memᴰ, List·Memᴰ·head, List·Memᴰ·tail, List·Memᴰ·not-nil, List·Memᴰ·eq-of-singleton, List·Memᴰ·append-cases, Memᴰ·append-left, Memᴰ·append-right}
+-- The required place, computed by recursion on the group, is the place that the walks require; there is at most one.
+use Prim.Native.Nat.{ℕ, zero, suc, _+_, _≤_}
+use mathlib.Core.Path.{_≡_, refl, sym, _∙_, ap}
+use mathlib.Core.Bool.{true, false, _&&_, not, cond, false≢true}
+use mathlib.Core.Logic.{inl, inr, ⊎-elim, _↔_}
+use mathlib.Core.List.{List, [], _∷_, _++_, append-nil, cons≢nil, List·Memᴰ, List·Memᴰ·head, List·Memᴰ·not-nil, List·Memᴰ·cases-cons, List·Memᴰ·append-cases, Memᴰ·append-left, Memᴰ·append-right}
 use native.Mathlib.Omega.{arith}
 use borrow.Author.Tests.{eqb-true, eq-eqb}
-use Rattle.rules.specs.Walk.{Group, place, seq, alt, opt, plus, Runs, once, more, Walk, Begins, MayComeNext, Required}
-use Rattle.model_sets.specs.Sets.{size, Numbered, has, nullable, last, must, mustAfter, requiredIn}
+use Rattle.rules.specs.Walk.{Group, place, seq, alt, opt, plus, Runs, once, more, Walk, Begins, MayComeNext, Complete, Required}
+use Rattle.model_sets.specs.Bits.{or-left, or-right, or-cases, and-left, and-right, and-both, not-true, bool-cases}
+use Rattle.model_sets.specs.Sets.{size, Numbered, has, nullable, first, last, follow, must, mustAfter, nextIn, requiredIn}
+use Rattle.model_sets.specs.Path.{Onward, IsPath, has-range, Apart, numbered-apart, onward-mono, onward-second, onward-seq, walk-path, path-walk, first-has, follow-has, onward-stays, onward-cut, seq-last-second, seq-follow-first, seq-follow-second, alt-last-first, alt-last-second, alt-follow-first, alt-follow-second}
+use Rattle.model_sets.specs.Reach.{some-walk, begins-none, begins-shorter, begins-last, lastOr0, lastOr0-snoc, After, next-has, walk-after, after-walk, next-sound, next-complete}
 
--- Booleans
+-- A walk is of places of the group.
 
-isFalse : (b : Bool) → (b ≡ true → ⊥) → b ≡ false
-isFalse true f = absurd (f refl)
-isFalse false f = refl
+onward-has : (g : Group) (u : ℕ) (w : List ℕ) (p : ℕ) → Onward g u w → List·Memᴰ p w → has g p ≡ true
+onward-has g u [] p o m = absurd (List·Memᴰ·not-nil m)
+onward-has g u (q ∷ w) p (x, o) m = ⊎-elim (λ e. rw e (follow-has g u q x)) (onward-has g q w p o) (List·Memᴰ·cases-cons m)
 
-orl : {a : Bool} (b : Bool) → a ≡ true → a || b ≡ true
-orl b e = rw e
+path-has : (g : Group) (w : List ℕ) (p : ℕ) → IsPath g w → List·Memᴰ p w → has g p ≡ true
+path-has g [] p q m = absurd (List·Memᴰ·not-nil m)
+path-has g (x ∷ w) p (f, o) m = ⊎-elim (λ e. rw e (first-has g x f)) (onward-has g x w p o) (List·Memᴰ·cases-cons m)
 
-orr : (a : Bool) {b : Bool} → b ≡ true → a || b ≡ true
-orr true e = refl
-orr false e = e
+walk-has : (g : Group) (w : List ℕ) (p : ℕ) → Walk g w → List·Memᴰ p w → has g p ≡ true
+walk-has g w p x m = path-has g w p (walk-path g w x) m
 
-or-cases : (a b : Bool) → a || b ≡ true → (a ≡ true) ⊎ (b ≡ true)
-or-cases true b e = inl refl
-or-cases false b e = inr e
+-- At the start.
 
-andl : (a b : Bool) → a && b ≡ true → a ≡ true
-andl true b e = refl
-andl false b e = e
+-- every walk of g passes p
+abbrev Passes : Group → ℕ → Type 0
+Passes g p = (w : List ℕ) → Walk g w → List·Memᴰ p w
 
-andr : (a b : Bool) → a && b ≡ true → b ≡ true
-andr true b e = e
-andr false b e = absurd (false≢true e)
+runs-pass : (g : Group) (p : ℕ) → Passes g p → {w : List ℕ} → Runs (Walk g) w → List·Memᴰ p w
+runs-pass g p f (once {w} x) = f w x
+runs-pass g p f (more s t e x r) = rw e (Memᴰ·append-left t (f s x))
 
--- Lists
+must-pass : (g : Group) (p : ℕ) → must g ≡ p → 1 ≤ p → Passes g p
+must-pass (place n) p e i w x = rw x (List·Memᴰ·head (sym e))
+must-pass (seq g h) p e i w (s, t, c, x, y) =
+    rw c (bool-cases (nullable g) (λ n. Memᴰ·append-right s (must-pass h p (rw n at e) i t y)) (λ n. Memᴰ·append-left t (must-pass g p (rw n at e) i s x)))
+must-pass (alt g h) p e i w x = absurd (omega arith)
+must-pass (opt g) p e i w x = absurd (omega arith)
+must-pass (plus g) p e i w x = runs-pass g p (must-pass g p e i) x
 
-nothing : (s t : List ℕ) → [] ≡ s ++ t → (s ≡ []) × (t ≡ [])
-nothing [] t e = (refl, sym e)
-nothing (x ∷ s) t e = absurd (nil≢cons e)
+must-first : (g : Group) (p : ℕ) → must g ≡ p → 1 ≤ p → first g p ≡ true
+must-first (place n) p e i = eq-eqb n p e
+must-first (seq g h) p e i =
+    bool-cases (nullable g) (λ n. or-right (first g p) (and-both n (must-first h p (rw n at e) i))) (λ n. or-left _ (must-first g p (rw n at e) i))
+must-first (alt g h) p e i = absurd (omega arith)
+must-first (opt g) p e i = absurd (omega arith)
+must-first (plus g) p e i = must-first g p e i
 
--- a list of one place cut at a place
-single : (s : List ℕ) {n u : ℕ} {t : List ℕ} → n ∷ [] ≡ s ++ u ∷ t → (s ≡ []) × (n ≡ u) × (t ≡ [])
-single [] e = (refl, head-eq-of-cons-eq e, sym (tail-eq-of-cons-eq e))
-single (x ∷ s) {t = t} e = absurd (cons≢nil (nothing s (_ ∷ t) (tail-eq-of-cons-eq e) .1))
+-- a place of g passed by what leads on through g and then by a walk of h is passed in g
+passed-first : (g h : Group) → Apart g h → (p : ℕ) → has g p ≡ true → (t : List ℕ) → List·Memᴰ p (t ++ some-walk h .0) → List·Memᴰ p t
+passed-first g h d p i t m = ⊎-elim (λ k. k) (λ k. absurd (d p i (walk-has h _ p (some-walk h .1) k))) (List·Memᴰ·append-cases t m)
 
--- where the place u of a list stands once the list is cut in two
-data Cut (s : List ℕ) (u : ℕ) (t a b : List ℕ) : Type 0 where
-  inFirst : (c : List ℕ) → a ≡ s ++ u ∷ c → t ≡ c ++ b → Cut s u t a b
-  inSecond : (c : List ℕ) → s ≡ a ++ c → b ≡ c ++ u ∷ t → Cut s u t a b
-
-cut : (s : List ℕ) (u : ℕ) (t a b : List ℕ) → s ++ u ∷ t ≡ a ++ b → Cut s u t a b
-cut [] u t [] b e = inSecond [] refl (sym e)
-cut [] u t (x ∷ a) b e = inFirst a (cc) (tail-eq-of-cons-eq e)
-cut (y ∷ s) u t [] b e = inSecond (y ∷ s) refl (sym e)
-cut (y ∷ s) u t (x ∷ a) b e = go (cut s u t a b (tail-eq-of-cons-eq e))
+pass-must : (g : Group) (lo : ℕ) → Numbered g lo → (p : ℕ) → first g p ≡ true → Passes g p → must g ≡ p
+pass-must (place n) lo d p e f = eqb-true n p e
+pass-must (seq g h) lo (m, n) p e f =
+    or-cases
+    (first g p)
+    _
+    (λ x. rw (full x) (pass-must g lo m p x (within x)))
+    (λ z. let x = and-left (nullable g) (first h p) z in rw x (pass-must h (lo + size g) n p (and-right (nullable g) _ z) (beyond x)))
+    e
   where
-    h : y ≡ x
-    h = head-eq-of-cons-eq e
+    d : Apart g h
+    d = numbered-apart g h lo m n
 
-    go : Cut s u t a b → Cut (y ∷ s) u t (x ∷ a) b
-    go (inFirst c p q) = inFirst c (cc) q
-    go (inSecond c p q) = inSecond c (cc) q
+    beyond : nullable g ≡ true → Passes h p
+    beyond z w y = f w ([], w, refl, path-walk g lo m [] z, y)
 
-regroup : {s : List ℕ} (a c v : List ℕ) → s ≡ a ++ c → s ++ v ≡ a ++ (c ++ v)
-regroup a c v e = rw (e, append-assoc)
+    full : first g p ≡ true → nullable g ≡ false
+    full x = not-true (nullable g) (λ z. d p (first-has g p x) (walk-has h _ p (some-walk h .1) (beyond z _ (some-walk h .1))))
 
--- Walks
+    within : first g p ≡ true → Passes g p
+    within x w y = passed-first g h d p (first-has g p x) w (f (w ++ some-walk h .0) (w, some-walk h .0, refl, y, some-walk h .1))
+pass-must (alt g h) lo (m, n) p e f =
+    let in-g : has g p ≡ true = walk-has g _ p (some-walk g .1) (f _ (inl (some-walk g .1))) in
+    let in-h : has h p ≡ true = walk-has h _ p (some-walk h .1) (f _ (inr (some-walk h .1))) in
+    absurd (numbered-apart g h lo m n p in-g in-h)
+pass-must (opt g) lo m p e f = absurd (List·Memᴰ·not-nil (f [] (inl refl)))
+pass-must (plus g) lo m p e f = pass-must g lo m p e (λ w x. f w (once x))
 
-some : (g : Group) → (w : List ℕ) × Walk g w
-some (place n) = (n ∷ [], refl)
-some (seq g h) = (some g .0 ++ some h .0, (some g .0, some h .0, refl, some g .1, some h .1))
-some (alt g h) = (some g .0, inl (some g .1))
-some (opt g) = ([], inl refl)
-some (plus g) = (some g .0, once (some g .1))
+-- After a place.
 
-null-walk : (g : Group) → nullable g ≡ true → Walk g []
-null-walk (place n) e = absurd (false≢true e)
-null-walk (seq g h) e = ([], [], refl, null-walk g (andl (nullable g) (nullable h) e), null-walk h (andr (nullable g) (nullable h) e))
-null-walk (alt g h) e = go (or-cases (nullable g) (nullable h) e) (null-walk g) (null-walk h)
+-- every way on from u passes p
+abbrev Ahead : Group → ℕ → ℕ → Type 0
+Ahead g u p = (t : List ℕ) → Onward g u t → List·Memᴰ p t
+
+-- what leads on in a repeated group leads first to an end of the group
+plus-front : (g : Group) (u : ℕ) (w : List ℕ) → Onward (plus g) u w → (s : List ℕ) × (t : List ℕ) × (w ≡ s ++ t) × Onward g u s
+plus-front g u [] o = ([], [], refl, o)
+plus-front g u (p ∷ w) (x, o) =
+    or-cases (follow g u p) _ (λ y. let (s, t, e, a) = plus-front g p w o in (p ∷ s, t, ap (_∷_ p) e, (y, a))) (λ z. ([], p ∷ w, refl, and-left (last g u) _ z)) x
+
+-- p may come after u, and every way on from u passes it
+abbrev Next : Group → ℕ → ℕ → Type 0
+Next g u p = (follow g u p ≡ true) × Ahead g u p
+
+-- places of g that lead on in k as they do in g
+stay-next : (k g : Group) (u p : ℕ) → ((v : ℕ) → has g v ≡ true → last k v ≡ last g v) → ((v : ℕ) → has g v ≡ true → (q : ℕ) → follow k v q ≡ follow g v q) → has g u ≡ true → Next g u p → Next k u p
+stay-next k g u p l f i (x, a) = (f u i p ∙ x, λ t o. a t (onward-stays k g l f u t i o))
+
+seq-next : (g h : Group) (lo : ℕ) → Numbered (seq g h) lo → (u p : ℕ) → has g u ≡ true → mustAfter (seq g h) u ≡ p → 1 ≤ p → (mustAfter g u ≡ p → Next g u p) → Next (seq g h) u p
+seq-next g h lo (m, n) u p i e z k = bool-cases (last g u && not (nullable h)) beyond within
   where
-    go : (nullable g ≡ true) ⊎ (nullable h ≡ true) → (nullable g ≡ true → Walk g []) → (nullable h ≡ true → Walk h []) → Walk g [] ⊎ Walk h []
-    go (inl x) f k = inl (f x)
-    go (inr y) f k = inr (k y)
-null-walk (opt g) e = inl refl
-null-walk (plus g) e = once (null-walk g e)
+    d : Apart g h
+    d = numbered-apart g h lo m n
 
-runs-null : (g : Group) → ((w : List ℕ) → [] ≡ w → Walk g w → nullable g ≡ true) → {w : List ℕ} → [] ≡ w → Runs (Walk g) w → nullable g ≡ true
-runs-null g f e (once {w} x) = f w e x
-runs-null g f e (more s t c x r) = f s (sym (nothing s t (e ∙ c) .0)) x
+    other : has h u ≡ false
+    other = not-true (has h u) (d u i)
 
-walk-null : (g : Group) (w : List ℕ) → [] ≡ w → Walk g w → nullable g ≡ true
-walk-null (place n) w e x = absurd (nil≢cons (e ∙ x))
-walk-null (seq g h) w e (s, t, c, x, y) = let z = nothing s t (e ∙ c) in rw (walk-null g s (sym (z .0)) x, walk-null h t (sym (z .1)) y)
-walk-null (alt g h) w e (inl x) = orl _ (walk-null g w e x)
-walk-null (alt g h) w e (inr y) = orr (nullable g) (walk-null h w e y)
-walk-null (opt g) w e x = refl
-walk-null (plus g) w e x = runs-null g (walk-null g) e x
+    beyond : last g u && not (nullable h) ≡ true → Next (seq g h) u p
+    beyond c =
+        let c′ : must h ≡ p = rw (other, c) at e in (
+          or-right (follow g u p) (or-right (follow h u p) (and-both (and-left (last g u) _ c) (must-first h p c′ z))),
+          λ t o. let (s, v, q, a, b) = onward-cut g h d u t i o in rw q (Memᴰ·append-right s (must-pass h p c′ z v (path-walk h (lo + size g) n v b))),
+        )
 
-runs-has : (g : Group) (p : ℕ) → ((w : List ℕ) → Walk g w → List·Memᴰ p w → has g p ≡ true) → {w : List ℕ} → Runs (Walk g) w → List·Memᴰ p w → has g p ≡ true
-runs-has g p f (once {w} x) m = f w x m
-runs-has g p f (more s t e x r) m = ⊎-elim (f s x) (runs-has g p f r) (List·Memᴰ·append-cases s (rw e at m))
+    within : last g u && not (nullable h) ≡ false → Next (seq g h) u p
+    within c =
+        let (x, f) = k (rw (other, c) at e) in
+        (or-left _ x, λ t o. let (s, v, q, a, b) = onward-cut g h d u t i o in rw q (Memᴰ·append-left v (f s a)))
 
--- a walk is of places of the group
-walk-has : (g : Group) (p : ℕ) (w : List ℕ) → Walk g w → List·Memᴰ p w → has g p ≡ true
-walk-has (place n) p w x m = eq-eqb n p (sym (List·Memᴰ·eq-of-singleton (rw x at m)))
-walk-has (seq g h) p w (s, t, e, x, y) m = ⊎-elim (λ k. orl _ (walk-has g p s x k)) (λ k. orr (has g p) (walk-has h p t y k)) (List·Memᴰ·append-cases s (rw e at m))
-walk-has (alt g h) p w (inl x) m = orl _ (walk-has g p w x m)
-walk-has (alt g h) p w (inr y) m = orr (has g p) (walk-has h p w y m)
-walk-has (opt g) p w (inl e) m = absurd (List·Memᴰ·not-nil (rw e at m))
-walk-has (opt g) p w (inr x) m = walk-has g p w x m
-walk-has (plus g) p w x m = runs-has g p (walk-has g p) x m
+after-next : (g : Group) (lo : ℕ) → Numbered g lo → (u p : ℕ) → has g u ≡ true → mustAfter g u ≡ p → 1 ≤ p → Next g u p
+after-next (place n) lo m u p i e z = absurd (omega arith)
+after-next (seq g h) lo (m, n) u p i e z =
+    let d = numbered-apart g h lo m n in
+    or-cases
+    (has g u)
+    (has h u)
+    (λ x. seq-next g h lo (m, n) u p x e z (λ c. after-next g lo m u p x c z))
+    (λ y. stay-next (seq g h) h u p (seq-last-second g h d) (seq-follow-second g h d) y (after-next h (lo + size g) n u p y (rw y at e) z))
+    i
+after-next (alt g h) lo (m, n) u p i e z =
+    let d = numbered-apart g h lo m n in
+    or-cases
+    (has g u)
+    (has h u)
+    (λ x. stay-next (alt g h) g u p (alt-last-first g h d) (alt-follow-first g h d) x (after-next g lo m u p x (rw (not-true (has h u) (d u x)) at e) z))
+    (λ y. stay-next (alt g h) h u p (alt-last-second g h d) (alt-follow-second g h d) y (after-next h (lo + size g) n u p y (rw y at e) z))
+    i
+after-next (opt g) lo m u p i e z = stay-next (opt g) g u p (λ v x. refl) (λ v x q. refl) i (after-next g lo m u p i e z)
+after-next (plus g) lo m u p i e z =
+    let (x, f) = after-next g lo m u p i e z in
+    (or-left _ x, λ t o. let (s, r, c, a) = plus-front g u t o in rw c (Memᴰ·append-left r (f s a)))
 
-at-has : (g : Group) (u : ℕ) (s t w : List ℕ) → w ≡ s ++ u ∷ t → Walk g w → has g u ≡ true
-at-has g u s t w e x = walk-has g u w x (rw e (Memᴰ·append-right s (List·Memᴰ·head refl)))
-
--- Numbers tell the places of two groups apart
-
-bounds : (g : Group) (lo : ℕ) → Numbered g lo → (p : ℕ) → has g p ≡ true → (lo ≤ p) × (p < lo + size g)
-bounds (place n) lo d p e = let q = eqb-true n p e in omega arith
-bounds (seq g h) lo d p e = go (or-cases (has g p) _ e) (bounds g lo (d .0) p) (bounds h _ (d .1) p)
+seq-after : (g h : Group) (lo : ℕ) → Numbered (seq g h) lo → (u p : ℕ) → has g u ≡ true → Next (seq g h) u p → (Next g u p → mustAfter g u ≡ p) → mustAfter (seq g h) u ≡ p
+seq-after g h lo (m, n) u p i (e, f) k = rw other (or-cases (follow g u p) (last g u && first h p) inside across (sym (seq-follow-first g h d u i p) ∙ e))
   where
-    go : (has g p ≡ true) ⊎ (has h p ≡ true) → (has g p ≡ true → (lo ≤ p) × (p < lo + size g)) → (has h p ≡ true → (lo + size g ≤ p) × (p < lo + size g + size h)) → (lo ≤ p) × (p < lo + (size g + size h))
-    go (inl x) f k = let b = f x in omega arith
-    go (inr y) f k = let b = k y in omega arith
-bounds (alt g h) lo d p e = go (or-cases (has g p) _ e) (bounds g lo (d .0) p) (bounds h _ (d .1) p)
-  where
-    go : (has g p ≡ true) ⊎ (has h p ≡ true) → (has g p ≡ true → (lo ≤ p) × (p < lo + size g)) → (has h p ≡ true → (lo + size g ≤ p) × (p < lo + size g + size h)) → (lo ≤ p) × (p < lo + (size g + size h))
-    go (inl x) f k = let b = f x in omega arith
-    go (inr y) f k = let b = k y in omega arith
-bounds (opt g) lo d p e = bounds g lo d p e
-bounds (plus g) lo d p e = bounds g lo d p e
+    d : Apart g h
+    d = numbered-apart g h lo m n
 
-apart : (g h : Group) (lo : ℕ) → Numbered g lo × Numbered h (lo + size g) → (p : ℕ) → has g p ≡ true → has h p ≡ true → ⊥
-apart g h lo d p x y = let a = bounds g lo (d .0) p x in let b = bounds h _ (d .1) p y in omega arith
+    other : has h u ≡ false
+    other = not-true (has h u) (d u i)
 
--- At the start
-
-abbrev Passed : Group → ℕ → Type 0
-Passed g p = (w : List ℕ) → Walk g w → List·Memᴰ p w
-
-runs-passed : (g : Group) (p : ℕ) → Passed g p → {w : List ℕ} → Runs (Walk g) w → List·Memᴰ p w
-runs-passed g p f (once {w} x) = f w x
-runs-passed g p f (more s t e x r) = rw e (Memᴰ·append-left t (f s x))
-
-start-pass : (g : Group) (p : ℕ) → must g ≡ p → 1 ≤ p → Passed g p
-start-pass (place n) p e i w x = rw x (List·Memᴰ·head (sym e))
-start-pass (seq g h) p e i w (s, t, c, x, y) = rw c (go (nullable g) e (λ z. start-pass g p z i s x) (λ z. start-pass h p z i t y))
-  where
-    go : (b : Bool) → cond b (must h) (must g) ≡ p → (must g ≡ p → List·Memᴰ p s) → (must h ≡ p → List·Memᴰ p t) → List·Memᴰ p (s ++ t)
-    go true z f k = Memᴰ·append-right s (k z)
-    go false z f k = Memᴰ·append-left t (f z)
-start-pass (alt g h) p e i w x = absurd (omega arith)
-start-pass (opt g) p e i w x = absurd (omega arith)
-start-pass (plus g) p e i w x = runs-passed g p (start-pass g p e i) x
-
-start-next : (g : Group) (p : ℕ) → must g ≡ p → 1 ≤ p → (r : List ℕ) × Walk g (p ∷ r)
-start-next (place n) p e i = ([], rw e)
-start-next (seq g h) p e i = go (nullable g) refl e (λ z. start-next g p z i) (λ z. start-next h p z i)
-  where
-    go : (b : Bool) → nullable g ≡ b → cond b (must h) (must g) ≡ p → (must g ≡ p → (r : List ℕ) × Walk g (p ∷ r)) → (must h ≡ p → (r : List ℕ) × Walk h (p ∷ r)) → (r : List ℕ) × Walk (seq g h) (p ∷ r)
-    go true n z f k = (k z .0, ([], p ∷ k z .0, refl, null-walk g n, k z .1))
-    go false n z f k = (f z .0 ++ some h .0, (p ∷ f z .0, some h .0, refl, f z .1, some h .1))
-start-next (alt g h) p e i = absurd (omega arith)
-start-next (opt g) p e i = absurd (omega arith)
-start-next (plus g) p e i = let z = start-next g p e i in (z .0, once (z .1))
-
--- a place that every walk of g and then h passes, and that is in g, every walk of g passes
-first-passes : (g h : Group) (lo : ℕ) → Numbered (seq g h) lo → (p : ℕ) → has g p ≡ true → (t : List ℕ) → List·Memᴰ p (t ++ some h .0) → List·Memᴰ p t
-first-passes g h lo d p i t m = ⊎-elim (λ k. k) (λ k. absurd (apart g h lo d p i (walk-has h p (some h .0) (some h .1) k))) (List·Memᴰ·append-cases t m)
-
-runs-first : (g : Group) {A : Type 0} (p : ℕ) → ((r w : List ℕ) → w ≡ p ∷ r → Walk g w → A) → (r : List ℕ) {w : List ℕ} → w ≡ p ∷ r → Runs (Walk g) w → A
-runs-first g p f r e (once {w} x) = f r w e x
-runs-first g p f r e (more [] t c x q) = runs-first g p f r (sym c ∙ e) q
-runs-first g p f r e (more (y ∷ s) t c x q) = f s (y ∷ s) (cc) x
-
-start-complete : (g : Group) (lo : ℕ) → Numbered g lo → (p : ℕ) → Passed g p → (r w : List ℕ) → w ≡ p ∷ r → Walk g w → must g ≡ p
-start-complete (place n) lo d p f r w e x = head-eq-of-cons-eq (sym x ∙ e)
-start-complete (seq g h) lo d p f r w e ([], t, c, x, y) = rw (walk-null g [] refl x) (start-complete h _ (d .1) p (λ v z. f v ([], v, refl, x, z)) r t (sym c ∙ e) y)
-start-complete (seq g h) lo d p f r w e (q ∷ s, t, c, x, y) =
-    rw full (start-complete g lo (d .0) p (λ v z. first-passes g h lo d p i v (f (v ++ some h .0) (v, some h .0, refl, z, some h .1))) s (q ∷ s) (cc) x)
-  where
-    i : has g p ≡ true
-    i = walk-has g p (q ∷ s) x (List·Memᴰ·head (cc))
-
-    full : nullable g ≡ false
-    full = isFalse (nullable g) (λ n. apart g h lo d p i (walk-has h p t y (f t ([], t, refl, null-walk g n, y))))
-start-complete (alt g h) lo d p f r w e (inl x) = absurd (apart g h lo d p (walk-has g p w x (rw e (List·Memᴰ·head refl))) (walk-has h p _ (some h .1) (f _ (inr (some h .1)))))
-start-complete (alt g h) lo d p f r w e (inr y) = absurd (apart g h lo d p (walk-has g p _ (some g .1) (f _ (inl (some g .1)))) (walk-has h p w y (rw e (List·Memᴰ·head refl))))
-start-complete (opt g) lo d p f r w e x = absurd (List·Memᴰ·not-nil (f [] (inl refl)))
-start-complete (plus g) lo d p f r w e x = runs-first g p (start-complete g lo d p (λ v z. f v (once z))) r e x
-
--- After a place
-
-last-has : (g : Group) (u : ℕ) → last g u ≡ true → has g u ≡ true
-last-has (place n) u e = e
-last-has (seq g h) u e = go (or-cases (last h u) _ e) (last-has g u) (last-has h u)
-  where
-    go : (last h u ≡ true) ⊎ (nullable h && last g u ≡ true) → (last g u ≡ true → has g u ≡ true) → (last h u ≡ true → has h u ≡ true) → has g u || has h u ≡ true
-    go (inl x) f k = orr (has g u) (k x)
-    go (inr y) f k = orl _ (f (andr (nullable h) (last g u) y))
-last-has (alt g h) u e = ⊎-elim (λ x. orl _ (last-has g u x)) (λ y. orr (has g u) (last-has h u y)) (or-cases (last g u) _ e)
-last-has (opt g) u e = last-has g u e
-last-has (plus g) u e = last-has g u e
-
-runs-ends : (g : Group) (u : ℕ) → ((s w : List ℕ) → w ≡ s ++ u ∷ [] → Walk g w → last g u ≡ true) → (s : List ℕ) {w : List ℕ} → w ≡ s ++ u ∷ [] → Runs (Walk g) w → last g u ≡ true
-runs-ends g u f s e (once {w} x) = f s w e x
-runs-ends g u f s e (more a b c x r) = go (cut s u [] a b (sym e ∙ c)) (λ v q. runs-ends g u f v q r)
-  where
-    go : Cut s u [] a b → ((v : List ℕ) → b ≡ v ++ u ∷ [] → last g u ≡ true) → last g u ≡ true
-    go (inFirst v p q) k = f s a (rw (nothing v b q .0) at p) x
-    go (inSecond v p q) k = k v q
-
--- the place that ends a walk is one that can
-ends : (g : Group) (u : ℕ) (s w : List ℕ) → w ≡ s ++ u ∷ [] → Walk g w → last g u ≡ true
-ends (place n) u s w e x = eq-eqb n u (single s (sym x ∙ e) .1)
-ends (seq g h) u s w e (a, b, c, x, y) = go (cut s u [] a b (sym e ∙ c)) (λ q. ends g u s a q x) (λ v q. ends h u v b q y)
-  where
-    go : Cut s u [] a b → (a ≡ s ++ u ∷ [] → last g u ≡ true) → ((v : List ℕ) → b ≡ v ++ u ∷ [] → last h u ≡ true) → last h u || (nullable h && last g u) ≡ true
-    go (inFirst v p q) f k = let z = nothing v b q in orr (last h u) (rw (walk-null h b (sym (z .1)) y, f (rw (z .0) at p)))
-    go (inSecond v p q) f k = orl _ (k v q)
-ends (alt g h) u s w e (inl x) = orl _ (ends g u s w e x)
-ends (alt g h) u s w e (inr y) = orr (last g u) (ends h u s w e y)
-ends (opt g) u s w e (inl x) = absurd (cons≢nil (nothing s (u ∷ []) (sym x ∙ e) .1))
-ends (opt g) u s w e (inr x) = ends g u s w e x
-ends (plus g) u s w e x = runs-ends g u (ends g u) s e x
-
-abbrev Closes : Group → ℕ → Type 0
-Closes g u = (s t w : List ℕ) → w ≡ s ++ u ∷ t → Walk g w → Walk g (s ++ u ∷ [])
-
-runs-close : (g : Group) (u : ℕ) → Closes g u → (s t : List ℕ) {w : List ℕ} → w ≡ s ++ u ∷ t → Runs (Walk g) w → Runs (Walk g) (s ++ u ∷ [])
-runs-close g u f s t e (once {w} x) = once (f s t w e x)
-runs-close g u f s t e (more a b c x r) = go (cut s u t a b (sym e ∙ c)) (λ v q. runs-close g u f v t q r)
-  where
-    go : Cut s u t a b → ((v : List ℕ) → b ≡ v ++ u ∷ t → Runs (Walk g) (v ++ u ∷ [])) → Runs (Walk g) (s ++ u ∷ [])
-    go (inFirst v p q) k = once (f s v a p x)
-    go (inSecond v p q) k = more a (v ++ u ∷ []) (regroup a v _ p) x (k v q)
-
--- a walk may end at a place that can end one
-close : (g : Group) (lo : ℕ) → Numbered g lo → (u : ℕ) → last g u ≡ true → Closes g u
-close (place n) lo d u l s t w e x = let z = single s (sym x ∙ e) in rw (z .0, z .1)
-close (seq g h) lo d u l s t w e (a, b, c, x, y) = go (cut s u t a b (sym e ∙ c)) (or-cases (last h u) _ l) (λ m v q. close g lo (d .0) u m s v a q x) (λ m v q. close h _ (d .1) u m v t b q y)
-  where
-    go : Cut s u t a b → (last h u ≡ true) ⊎ (nullable h && last g u ≡ true) → (last g u ≡ true → (v : List ℕ) → a ≡ s ++ u ∷ v → Walk g (s ++ u ∷ [])) → (last h u ≡ true → (v : List ℕ) → b ≡ v ++ u ∷ t → Walk h (v ++ u ∷ [])) → Walk (seq g h) (s ++ u ∷ [])
-    go (inFirst v p q) (inl m) f k = absurd (apart g h lo d u (at-has g u s v a p x) (last-has h u m))
-    go (inFirst v p q) (inr m) f k = (s ++ u ∷ [], [], sym (append-nil _), f (andr (nullable h) (last g u) m) v p, null-walk h (andl (nullable h) (last g u) m))
-    go (inSecond v p q) (inl m) f k = (a, v ++ u ∷ [], regroup a v _ p, x, k m v q)
-    go (inSecond v p q) (inr m) f k = absurd (apart g h lo d u (last-has g u (andr (nullable h) (last g u) m)) (at-has h u v t b q y))
-close (alt g h) lo d u l s t w e (inl x) = go (or-cases (last g u) _ l) (λ m. close g lo (d .0) u m s t w e x)
-  where
-    go : (last g u ≡ true) ⊎ (last h u ≡ true) → (last g u ≡ true → Walk g (s ++ u ∷ [])) → Walk (alt g h) (s ++ u ∷ [])
-    go (inl m) f = inl (f m)
-    go (inr m) f = absurd (apart g h lo d u (at-has g u s t w e x) (last-has h u m))
-close (alt g h) lo d u l s t w e (inr y) = go (or-cases (last g u) _ l) (λ m. close h _ (d .1) u m s t w e y)
-  where
-    go : (last g u ≡ true) ⊎ (last h u ≡ true) → (last h u ≡ true → Walk h (s ++ u ∷ [])) → Walk (alt g h) (s ++ u ∷ [])
-    go (inl m) f = absurd (apart g h lo d u (last-has g u m) (at-has h u s t w e y))
-    go (inr m) f = inr (f m)
-close (opt g) lo d u l s t w e (inl x) = absurd (cons≢nil (nothing s (u ∷ t) (sym x ∙ e) .1))
-close (opt g) lo d u l s t w e (inr x) = inr (close g lo d u l s t w e x)
-close (plus g) lo d u l s t w e x = runs-close g u (close g lo d u l) s t e x
-
--- every walk on from u passes p, and p may come next
-abbrev Sound : Group → ℕ → ℕ → Type 0
-Sound g u p = (s t w : List ℕ) → w ≡ s ++ u ∷ t → Walk g w → List·Memᴰ p t × (r : List ℕ) × Walk g (s ++ u ∷ p ∷ r)
-
-seq-sound : (g h : Group) (lo : ℕ) → Numbered (seq g h) lo → (u p : ℕ) → mustAfter (seq g h) u ≡ p → 1 ≤ p → (mustAfter g u ≡ p → Sound g u p) → (mustAfter h u ≡ p → Sound h u p) → Sound (seq g h) u p
-seq-sound g h lo d u p e i f k s t w q (a, b, c, x, y) = go (cut s u t a b (sym q ∙ c))
-  where
-    go : Cut s u t a b → List·Memᴰ p t × (r : List ℕ) × Walk (seq g h) (s ++ u ∷ p ∷ r)
-    go (inFirst v l m) = on (last g u && not (nullable h)) refl (rw other at e)
+    inside : follow g u p ≡ true → cond (last g u && not (nullable h)) (must h) (mustAfter g u) ≡ p
+    inside x = rw (not-true (last g u) (λ l. List·Memᴰ·not-nil (within [] l))) (k (x, within))
       where
-        other : has h u ≡ false
-        other = isFalse (has h u) (apart g h lo d u (at-has g u s v a l x))
+        within : Ahead g u p
+        within t o = passed-first g h d p (follow-has g u p x) t (f (t ++ some-walk h .0) (onward-seq g h u t _ o (walk-path h _ (some-walk h .1))))
 
-        on : (β : Bool) → last g u && not (nullable h) ≡ β → cond β (must h) (mustAfter g u) ≡ p → List·Memᴰ p t × (r : List ℕ) × Walk (seq g h) (s ++ u ∷ p ∷ r)
-        on true n o =
-            let z = start-next h p o i in
-            (rw m (Memᴰ·append-right v (start-pass h p o i b y)), z .0, (s ++ u ∷ [], p ∷ z .0, sym (append-assoc s _ _), close g lo (d .0) u (andl (last g u) _ n) s v a l x, z .1))
-        on false n o =
-            let z = f o s v a l x in
-            (rw m (Memᴰ·append-left b (z .0)), z .1 ++ b, (s ++ u ∷ p ∷ z .1, b, sym (append-assoc s _ _), z .2, y))
-    go (inSecond v l m) =
-        let z = k (rw (at-has h u v t b m y) at e) v t b m y in
-        (z .0, z .1, (a, v ++ u ∷ p ∷ z .1, regroup a v _ l, x, z .2))
-
-runs-sound : (g : Group) (u p : ℕ) → Sound g u p → (s t : List ℕ) {w : List ℕ} → w ≡ s ++ u ∷ t → Runs (Walk g) w → List·Memᴰ p t × (r : List ℕ) × Walk (plus g) (s ++ u ∷ p ∷ r)
-runs-sound g u p f s t e (once {w} x) = let z = f s t w e x in (z .0, z .1, once (z .2))
-runs-sound g u p f s t e (more a b c x r) = go (cut s u t a b (sym e ∙ c)) (λ v q. runs-sound g u p f v t q r)
-  where
-    go : Cut s u t a b → ((v : List ℕ) → b ≡ v ++ u ∷ t → List·Memᴰ p t × (r : List ℕ) × Walk (plus g) (v ++ u ∷ p ∷ r)) → List·Memᴰ p t × (r : List ℕ) × Walk (plus g) (s ++ u ∷ p ∷ r)
-    go (inFirst v l m) k = let z = f s v a l x in (rw m (Memᴰ·append-left b (z .0)), z .1, once (z .2))
-    go (inSecond v l m) k = let z = k v m in (z .0, z .1, more a (v ++ u ∷ p ∷ z .1) (regroup a v _ l) x (z .2))
-
-after-sound : (g : Group) (lo : ℕ) → Numbered g lo → (u p : ℕ) → mustAfter g u ≡ p → 1 ≤ p → Sound g u p
-after-sound (place n) lo d u p e i s t w q x = absurd (omega arith)
-after-sound (seq g h) lo d u p e i s t w q x = seq-sound g h lo d u p e i (λ o. after-sound g lo (d .0) u p o i) (λ o. after-sound h _ (d .1) u p o i) s t w q x
-after-sound (alt g h) lo d u p e i s t w q (inl x) =
-    let z = after-sound g lo (d .0) u p (rw (isFalse (has h u) (apart g h lo d u (at-has g u s t w q x))) at e) i s t w q x in
-    (z .0, z .1, inl (z .2))
-after-sound (alt g h) lo d u p e i s t w q (inr y) =
-    let z = after-sound h _ (d .1) u p (rw (at-has h u s t w q y) at e) i s t w q y in
-    (z .0, z .1, inr (z .2))
-after-sound (opt g) lo d u p e i s t w q (inl x) = absurd (cons≢nil (nothing s (u ∷ t) (sym x ∙ q) .1))
-after-sound (opt g) lo d u p e i s t w q (inr x) = let z = after-sound g lo d u p e i s t w q x in (z .0, z .1, inr (z .2))
-after-sound (plus g) lo d u p e i s t w q x = runs-sound g u p (after-sound g lo d u p e i) s t q x
-
--- what every walk on from u passes, and may come next, is computed
-abbrev Found : Group → ℕ → ℕ → Type 0
-Found g u p = (s : List ℕ) → ((t : List ℕ) → Walk g (s ++ u ∷ t) → List·Memᴰ p t) → (r w : List ℕ) → w ≡ s ++ u ∷ p ∷ r → Walk g w → mustAfter g u ≡ p
-
-seq-found : (g h : Group) (lo : ℕ) → Numbered (seq g h) lo → (u p : ℕ) → Found g u p → Found h u p → Found (seq g h) u p
-seq-found g h lo d u p f k s all r w q (a, b, c, x, y) = go (cut s u (p ∷ r) a b (sym q ∙ c))
-  where
-    go : Cut s u (p ∷ r) a b → mustAfter (seq g h) u ≡ p
-    go (inFirst [] l m) = rw (isFalse (has h u) (apart g h lo d u (at-has g u s [] a l x)), ends g u s a l x, full) (start-complete h _ (d .1) p on r b (sym m) y)
+    across : last g u && first h p ≡ true → cond (last g u && not (nullable h)) (must h) (mustAfter g u) ≡ p
+    across x = rw (l, full) (pass-must h (lo + size g) n p (and-right (last g u) _ x) beyond)
       where
-        on : Passed h p
-        on t z = all t (a, t, rw (l, append-assoc), x, z)
+        l : last g u ≡ true
+        l = and-left (last g u) _ x
+
+        beyond : Passes h p
+        beyond w y = f w (onward-seq g h u [] w l (walk-path h w y))
 
         full : nullable h ≡ false
-        full = isFalse (nullable h) (λ n. List·Memᴰ·not-nil (on [] (null-walk h n)))
-    go (inFirst (v ∷ vs) l m) = rw (isFalse (has h u) (apart g h lo d u (at-has g u s (v ∷ vs) a l x)), unended) (f s on vs a (rw (head-eq-of-cons-eq m) l) x)
-      where
-        i : has g p ≡ true
-        i = walk-has g p a x (rw (l, head-eq-of-cons-eq m) (Memᴰ·append-right s (List·Memᴰ·tail (List·Memᴰ·head refl))))
+        full = not-true (nullable h) (λ c. List·Memᴰ·not-nil (f [] (onward-seq g h u [] [] l c)))
 
-        on : (t : List ℕ) → Walk g (s ++ u ∷ t) → List·Memᴰ p t
-        on t z = first-passes g h lo d p i t (all (t ++ some h .0) (s ++ u ∷ t, some h .0, sym (append-assoc s _ _), z, some h .1))
+next-after : (g : Group) (lo : ℕ) → Numbered g lo → (u p : ℕ) → has g u ≡ true → Next g u p → mustAfter g u ≡ p
+next-after (place n) lo m u p i (e, f) = absurd (false≢true e)
+next-after (seq g h) lo (m, n) u p i (e, f) =
+    let d = numbered-apart g h lo m n in
+    or-cases
+    (has g u)
+    (has h u)
+    (λ x. seq-after g h lo (m, n) u p x (e, f) (λ a. next-after g lo m u p x (a .0, a .1)))
+    (λ y. rw y (next-after h (lo + size g) n u p y (sym (seq-follow-second g h d u y p) ∙ e, λ t o. f t (onward-second g h u t o))))
+    i
+next-after (alt g h) lo (m, n) u p i (e, f) =
+    let d = numbered-apart g h lo m n in
+    or-cases
+    (has g u)
+    (has h u)
+    (λ x. rw (not-true (has h u) (d u x)) (next-after g lo m u p x (sym (alt-follow-first g h d u x p) ∙ e, λ t o. f t (onward-mono g (alt g h) (λ v. or-left _) (λ v q. or-left _) u t o))))
+    (λ y. rw y (next-after h (lo + size g) n u p y (sym (alt-follow-second g h d u y p) ∙ e, λ t o. f t (onward-mono h (alt g h) (λ v. or-right (last g v)) (λ v q. or-right (follow g v q)) u t o))))
+    i
+next-after (opt g) lo m u p i (e, f) = next-after g lo m u p i (e, λ t o. f t (onward-mono g (opt g) (λ v x. x) (λ v q x. x) u t o))
+next-after (plus g) lo m u p i (e, f) =
+    or-cases
+    (follow g u p)
+    (last g u && first g p)
+    (λ x. next-after g lo m u p i (x, λ t o. f t (onward-mono g (plus g) (λ v y. y) (λ v q. or-left _) u t o)))
+    (λ x. absurd (List·Memᴰ·not-nil (f [] (and-left (last g u) _ x))))
+    e
 
-        unended : last g u ≡ false
-        unended = isFalse (last g u) (λ n. List·Memᴰ·not-nil (on [] (close g lo (d .0) u n s (v ∷ vs) a l x)))
-    go (inSecond v l m) = rw (at-has h u v (p ∷ r) b m y) (k v (λ t z. all t (a, v ++ u ∷ t, regroup a v _ l, x, z)) r b m y)
+-- By rows: row 0 is the start, row u > 0 is after the place u.
 
-runs-found : (g : Group) (u p : ℕ) → Found g u p → (s : List ℕ) → ((t : List ℕ) → Walk (plus g) (s ++ u ∷ t) → List·Memᴰ p t) → (r : List ℕ) {w : List ℕ} → w ≡ s ++ u ∷ p ∷ r → Runs (Walk g) w → mustAfter g u ≡ p
-runs-found g u p f s all r q (once {w} x) = f s (λ t z. all t (once z)) r w q x
-runs-found g u p f s all r q (more a b c x y) = go (cut s u (p ∷ r) a b (sym q ∙ c)) (λ v m on. runs-found g u p f v on r m y)
-  where
-    go : Cut s u (p ∷ r) a b → ((v : List ℕ) → b ≡ v ++ u ∷ p ∷ r → ((t : List ℕ) → Walk (plus g) (v ++ u ∷ t) → List·Memᴰ p t) → mustAfter g u ≡ p) → mustAfter g u ≡ p
-    go (inFirst [] l m) k = absurd (List·Memᴰ·not-nil (all [] (once (rw l at x))))
-    go (inFirst (v ∷ vs) l m) k = f s (λ t z. all t (once z)) vs a (rw (head-eq-of-cons-eq m) l) x
-    go (inSecond v l m) k = k v m (λ t z. all t (more a (v ++ u ∷ t) (regroup a v _ l) x z))
+-- p may come next in the row, and every way on from it passes p
+abbrev Row : Group → ℕ → ℕ → Type 0
+Row g u p = (nextIn g u p ≡ true) × ((t : List ℕ) → After g u t → List·Memᴰ p t)
 
-after-found : (g : Group) (lo : ℕ) → Numbered g lo → (u p : ℕ) → Found g u p
-after-found (place n) lo d u p s all r w q x = absurd (cons≢nil (single s (sym x ∙ q) .2))
-after-found (seq g h) lo d u p s all r w q x = seq-found g h lo d u p (after-found g lo (d .0) u p) (after-found h _ (d .1) u p) s all r w q x
-after-found (alt g h) lo d u p s all r w q (inl x) = rw (isFalse (has h u) (apart g h lo d u (at-has g u s (p ∷ r) w q x))) (after-found g lo (d .0) u p s (λ t z. all t (inl z)) r w q x)
-after-found (alt g h) lo d u p s all r w q (inr y) = rw (at-has h u s (p ∷ r) w q y) (after-found h _ (d .1) u p s (λ t z. all t (inr z)) r w q y)
-after-found (opt g) lo d u p s all r w q (inl x) = absurd (cons≢nil (nothing s (u ∷ p ∷ r) (sym x ∙ q) .1))
-after-found (opt g) lo d u p s all r w q (inr x) = after-found g lo d u p s (λ t z. all t (inr z)) r w q x
-after-found (plus g) lo d u p s all r w q x = runs-found g u p (after-found g lo d u p) s all r q x
+required-row : (g : Group) (lo : ℕ) → Numbered g lo → (u p : ℕ) → (1 ≤ u → has g u ≡ true) → requiredIn g u ≡ p → 1 ≤ p → Row g u p
+required-row g lo m zero p i e z = (must-first g p e z, λ t q. must-pass g p e z t (path-walk g lo m t q))
+required-row g lo m (suc u) p i e z = after-next g lo m (suc u) p (i (omega arith)) e z
+
+row-required : (g : Group) (lo : ℕ) → Numbered g lo → (u p : ℕ) → (1 ≤ u → has g u ≡ true) → Row g u p → requiredIn g u ≡ p
+row-required g lo m zero p i (e, f) = pass-must g lo m p e (λ w x. f w (walk-path g w x))
+row-required g lo m (suc u) p i r = next-after g lo m (suc u) p (i (omega arith)) r
+
+row-after : (g : Group) (u : ℕ) → 1 ≤ u → requiredIn g u ≡ mustAfter g u
+row-after g zero z = absurd (omega arith)
+row-after g (suc u) z = refl
+
+-- What is required, of a group whose places are numbered from 1 or more.
+module _ (g : Group) (lo : ℕ) (numbered : Numbered g lo) (low : 1 ≤ lo) where
+  last-in : (s : List ℕ) → Begins g s → 1 ≤ lastOr0 s → has g (lastOr0 s) ≡ true
+  last-in [] b z = absurd (omega arith)
+  last-in (p ∷ s) b z = begins-last g (p ∷ s) b cons≢nil
+
+  next-pos : (s : List ℕ) (p : ℕ) → MayComeNext g s p → 1 ≤ p
+  next-pos s p n = omega (arith, has-range g lo numbered p (next-has g (lastOr0 s) p (next-sound g lo numbered low s p n)))
+
+  -- what is computed for the row of the last place taken is required
+  pub required-sound : (s : List ℕ) → Begins g s → (p : ℕ) → requiredIn g (lastOr0 s) ≡ p → 1 ≤ p → Required g s p
+  required-sound s b p e z =
+      let (x, f) = required-row g lo numbered (lastOr0 s) p (last-in s b) e z in
+      (next-complete g lo numbered low s p b x, λ t w. f t (walk-after g lo numbered low s t w))
+
+  -- what is required is computed, and is a place
+  pub required-complete : (s : List ℕ) (p : ℕ) → Required g s p → (requiredIn g (lastOr0 s) ≡ p) × (1 ≤ p)
+  required-complete s p (n, f) =
+      let b = begins-shorter g s (p ∷ []) n in
+      (row-required g lo numbered (lastOr0 s) p (last-in s b) (next-sound g lo numbered low s p n, λ t a. f t (after-walk g lo numbered low s t b a)), next-pos s p n)
+
+  pub required-iff : (s : List ℕ) → Begins g s → (p : ℕ) → ((requiredIn g (lastOr0 s) ≡ p) × (1 ≤ p)) ↔ Required g s p
+  required-iff s b p = (λ (e, z). required-sound s b p e z, required-complete s p)
+
+  -- at most one place is required at a time
+  pub required-one : (s : List ℕ) (p q : ℕ) → Required g s p → Required g s q → p ≡ q
+  required-one s p q x y = sym (required-complete s p x .0) ∙ required-complete s q y .0
+
+  -- where the places taken are complete, the row requires nothing
+  pub complete-none : (s : List ℕ) → Complete g s → requiredIn g (lastOr0 s) ≡ 0
+  complete-none s w = go (requiredIn g (lastOr0 s)) refl
+    where
+      whole : Walk g (s ++ [])
+      whole = rw append-nil w
+
+      go : (p : ℕ) → requiredIn g (lastOr0 s) ≡ p → requiredIn g (lastOr0 s) ≡ 0
+      go zero e = e
+      go (suc p) e = absurd (List·Memᴰ·not-nil (required-sound s ([], whole) (suc p) e (omega arith) .1 [] whole))
+
+  -- The same of the two functions: at the start, and after the place u.
+
+  pub must-start-sound : (p : ℕ) → must g ≡ p → 1 ≤ p → Required g [] p
+  must-start-sound p e z = required-sound [] (begins-none g) p e z
+
+  pub must-start-complete : (p : ℕ) → Required g [] p → must g ≡ p
+  must-start-complete p r = required-complete [] p r .0
+
+  row-last : (s : List ℕ) (u : ℕ) → Begins g (s ++ u ∷ []) → requiredIn g (lastOr0 (s ++ u ∷ [])) ≡ mustAfter g u
+  row-last s u b = ap (requiredIn g) (lastOr0-snoc s u) ∙ row-after g u (next-pos s u b)
+
+  pub must-after-sound : (s : List ℕ) (u : ℕ) → Begins g (s ++ u ∷ []) → (p : ℕ) → mustAfter g u ≡ p → 1 ≤ p → Required g (s ++ u ∷ []) p
+  must-after-sound s u b p e z = required-sound (s ++ u ∷ []) b p (row-last s u b ∙ e) z
+
+  pub must-after-complete : (s : List ℕ) (u p : ℕ) → Required g (s ++ u ∷ []) p → mustAfter g u ≡ p
+  must-after-complete s u p r = sym (row-last s u (begins-shorter g (s ++ u ∷ []) (p ∷ []) (r .0))) ∙ required-complete (s ++ u ∷ []) p r .0
