@@ -6,3 +6,4 @@ pub mod Reach
 pub mod Search
 pub mod Ambiguous
 pub mod Pairs
+pub mod Must
