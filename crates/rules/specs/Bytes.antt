@@ -1,0 +1,68 @@
+-- Bytes, names and quantities (paper 01, "Bytes, names, quantities").
+use Prim.Native.Nat.{ℕ, zero, suc, _+_, _-_}
+use mathlib.Core.Bool.{Bool, true, false, _&&_, _||_, cond}
+use mathlib.Core.List.{List, [], _∷_}
+use lib.ListN.{getD, drop}
+use lib.Dec.{eqb, leb}
+
+-- The byte at a position. Past the end it is 0, which is not allowed and fits nowhere.
+abbrev pub byteAt : List ℕ → ℕ → ℕ
+byteAt s i = getD s i 0
+
+-- "Allowed bytes: 9, 10, 13, 32 to 126."
+unfoldable pub allowed : ℕ → Bool
+allowed b = eqb b 9 || eqb b 10 || eqb b 13 || (leb 32 b && leb b 126)
+
+-- "Separators: 9, 10, 13, 32."
+unfoldable pub separator : ℕ → Bool
+separator b = eqb b 9 || eqb b 10 || eqb b 13 || eqb b 32
+
+-- A letter of either case.
+unfoldable pub letter : ℕ → Bool
+letter b = (leb 65 b && leb b 90) || (leb 97 b && leb b 122)
+
+-- "Letters fold to upper case."
+unfoldable pub fold : ℕ → ℕ
+fold b = cond (leb 97 b && leb b 122) (b - 32) b
+
+-- "A name is a letter, then letters, digits, "." and "-"": what may go on a name.
+unfoldable pub nameByte : ℕ → Bool
+nameByte b = letter b || (leb 48 b && leb b 57) || eqb b 46 || eqb b 45
+
+-- How many of the first bytes pass a test.
+unfoldable pub span : (ℕ → Bool) → List ℕ → ℕ
+span t [] = 0
+span t (b ∷ r) = elim (t b) [ true ↦ suc (span t r) | false ↦ 0 ]
+
+-- Names, keywords and words "are read to their longest".
+unfoldable pub nameEnd : List ℕ → ℕ → ℕ
+nameEnd s at = at + span nameByte (drop at s)
+
+unfoldable pub separatorsEnd : List ℕ → ℕ → ℕ
+separatorsEnd s at = at + span separator (drop at s)
+
+-- n bytes of s from a and n bytes of t from b are the same, folded.
+unfoldable pub sameText : List ℕ → ℕ → List ℕ → ℕ → ℕ → Bool
+sameText s a t b zero = true
+sameText s a t b (suc n) = elim (eqb (fold (byteAt s a)) (fold (byteAt t b))) [ true ↦ sameText s (a + 1) t (b + 1) n | false ↦ false ]
+
+-- The quantities. NAMELEN is the longest name.
+abbrev pub NAMELEN : ℕ
+NAMELEN = 8
+
+-- "GRPCNT 32 tokens in one group, GRPLVL 16 group levels (the outermost is level 1), GRPGTCNT 96 content tokens in a model".
+abbrev pub GRPCNT : ℕ
+GRPCNT = 32
+
+abbrev pub GRPLVL : ℕ
+GRPLVL = 16
+
+abbrev pub GRPGTCNT : ℕ
+GRPGTCNT = 96
+
+-- "House figures: type file 32,768 bytes, .. 64 elements."
+abbrev pub typeLimit : ℕ
+typeLimit = 32768
+
+abbrev pub elementLimit : ℕ
+elementLimit = 64

@@ -1,0 +1,361 @@
+-- The type file: declarations, parameters, comments and model groups (paper 01, "The type file"), with refusals 3 to 8.
+-- Reading goes from left to right and refuses at the first fault, the lower number first where two stand at one position.
+-- A byte at which no form goes on is the unfit one of number 4; past the end it is 0, so the position is then the length.
+use Prim.Native.Nat.{ℕ, zero, suc, _+_, _-_}
+use mathlib.Core.Bool.{Bool, true, false, _&&_, _||_}
+use mathlib.Core.List.{List, [], _∷_, _++_}
+use lib.ListN.{length, drop}
+use lib.Dec.{eqb, leb, ltb}
+use Rattle.rules.specs.Bytes.{byteAt, letter, nameEnd, separatorsEnd, sameText, NAMELEN, GRPCNT, GRPLVL, GRPGTCNT, elementLimit}
+use Rattle.rules.specs.Reading.{Reading, refused, got, andThen}
+use Rattle.rules.specs.Walk.{Group, place, seq, alt, opt, plus, star}
+
+-- Comments
+
+abbrev pub atDashes : List ℕ → ℕ → Bool
+atDashes s i = eqb (byteAt s i) 45 && eqb (byteAt s (i + 1)) 45
+
+-- How many bytes stand before the first `--`; all of them where there is none.
+unfoldable pub beforeDashes : List ℕ → ℕ
+beforeDashes [] = 0
+beforeDashes (b ∷ r) = elim (atDashes (b ∷ r) 0) [ true ↦ 0 | false ↦ suc (beforeDashes r) ]
+
+-- The same for `-->`.
+unfoldable pub beforeClose : List ℕ → ℕ
+beforeClose [] = 0
+beforeClose (b ∷ r) = elim (atDashes (b ∷ r) 0 && eqb (byteAt (b ∷ r) 2) 62) [ true ↦ 0 | false ↦ suc (beforeClose r) ]
+
+-- "A comment declaration runs from `<!--` to the first `-->` after it." `at` is behind the `<!--`.
+unfoldable pub commentDeclaration : List ℕ → ℕ → Reading ℕ
+commentDeclaration s at =
+    let e = at + beforeClose (drop at s) in
+    elim (ltb e (length s)) [ true ↦ got (e + 3) | false ↦ refused 4 (length s) ]
+
+-- "Parameters are parted by one or more separators or comments (`--` to the next `--`)"; a `%` there is number 5.
+-- Each turn but the last takes a comment, so there are fewer turns than bytes.
+unfoldable pub gapWithin : ℕ → List ℕ → ℕ → Reading ℕ
+gapWithin zero s at = refused 4 (length s)
+gapWithin (suc turns) s at =
+    let i = separatorsEnd s at in
+    let e = i + 2 + beforeDashes (drop (i + 2) s) in
+    elim (atDashes s i) [
+      | true ↦ elim (ltb e (length s)) [ true ↦ gapWithin turns s (e + 2) | false ↦ refused 4 (length s) ]
+      | false ↦ elim (eqb (byteAt s i) 37) [ true ↦ refused 5 i | false ↦ got i ]
+    ]
+
+unfoldable pub gap : List ℕ → ℕ → Reading ℕ
+gap s at = gapWithin (suc (length s)) s at
+
+-- Words
+
+-- The word from `at` to `end` is the given one, folded.
+abbrev pub isWord : List ℕ → ℕ → ℕ → List ℕ → Bool
+isWord s at end w = elim (eqb (end - at) (length w)) [ true ↦ sameText s at w 0 (length w) | false ↦ false ]
+
+abbrev pub ELEMENT : List ℕ
+ELEMENT = 69 ∷ 76 ∷ 69 ∷ 77 ∷ 69 ∷ 78 ∷ 84 ∷ []
+
+abbrev pub EMPTY : List ℕ
+EMPTY = 69 ∷ 77 ∷ 80 ∷ 84 ∷ 89 ∷ []
+
+abbrev pub ANY : List ℕ
+ANY = 65 ∷ 78 ∷ 89 ∷ []
+
+abbrev pub CDATA : List ℕ
+CDATA = 67 ∷ 68 ∷ 65 ∷ 84 ∷ 65 ∷ []
+
+abbrev pub RCDATA : List ℕ
+RCDATA = 82 ∷ 67 ∷ 68 ∷ 65 ∷ 84 ∷ 65 ∷ []
+
+abbrev pub PCDATA : List ℕ
+PCDATA = 80 ∷ 67 ∷ 68 ∷ 65 ∷ 84 ∷ 65 ∷ []
+
+abbrev pub O : List ℕ
+O = 79 ∷ []
+
+-- Two names, each by its position and size, are the same name folded.
+abbrev pub sameName : List ℕ → ℕ → ℕ → ℕ → ℕ → Bool
+sameName s a m b n = elim (eqb m n) [ true ↦ sameText s a s b n | false ↦ false ]
+
+-- Model groups
+
+-- Where a place stands and how long its name is; 0 for `#PCDATA`.
+pub record Place : Type 0 where
+  pub at : ℕ
+  pub size : ℕ
+
+-- What was read of a model: the group, where it ends, and the places and content tokens of the model up to there.
+pub record Tokens : Type 0 where
+  pub group : Group
+  pub at : ℕ
+  pub places : List Place
+  pub tokens : ℕ
+
+-- "The indicator ("?", "+", "*") follows at once."
+unfoldable pub occurrence : List ℕ → Tokens → Tokens
+occurrence s t =
+    let b = byteAt s (t .at) in
+    let with : Group → Tokens = λ g. record { group = g; at = t .at + 1; places = t .places; tokens = t .tokens } in
+    elim (eqb b 63) [
+      | true ↦ with (opt (t .group))
+      | false ↦ elim (eqb b 43) [ true ↦ with (plus (t .group)) | false ↦ elim (eqb b 42) [ true ↦ with (star (t .group)) | false ↦ t ] ]
+    ]
+
+-- "The names and `#PCDATA`s of a model are its places, numbered from 1, left to right": the next one.
+abbrev pub newPlace : List Place → Group
+newPlace ps = place (suc (length ps))
+
+-- A name as content token. `full` says that the group or the model may have no further token.
+unfoldable pub nameToken : List ℕ → ℕ → Bool → List Place → ℕ → Reading Tokens
+nameToken s at full ps n =
+    let e = nameEnd s at in
+    elim (ltb NAMELEN (e - at)) [
+      | true ↦ refused 3 at
+      | false ↦ elim full [
+        | true ↦ refused 6 at
+        | false ↦ got (occurrence s (record { group = newPlace ps; at = e; places = ps ++ record { at = at; size = e - at } ∷ []; tokens = n + 1 }))
+      ]
+    ]
+
+-- "`#PCDATA` counts as "*"." "A wrong word after `#` stands at the `#`."
+unfoldable pub dataToken : List ℕ → ℕ → Bool → List Place → ℕ → Reading Tokens
+dataToken s at full ps n =
+    let e = nameEnd s (at + 1) in
+    elim (letter (byteAt s (at + 1))) [
+      | true ↦ elim (isWord s (at + 1) e PCDATA) [
+        | true ↦ elim full [
+          | true ↦ refused 6 at
+          | false ↦ got (record { group = star (newPlace ps); at = e; places = ps ++ record { at = at; size = 0 } ∷ []; tokens = n + 1 })
+        ]
+        | false ↦ refused 4 at
+      ]
+      | false ↦ elim full [ true ↦ refused 6 at | false ↦ refused 4 (at + 1) ]
+    ]
+
+-- A content token: "a name, a name with an indicator, `#PCDATA`, or a group with or without an indicator".
+-- `inner` reads a group one level further in, at its "(".
+unfoldable pub token : (ℕ → List Place → ℕ → Reading Tokens) → List ℕ → ℕ → Bool → List Place → ℕ → Reading Tokens
+token inner s at full ps n =
+    let b = byteAt s at in
+    elim (letter b) [
+      | true ↦ nameToken s at full ps n
+      | false ↦ elim (eqb b 35) [
+        | true ↦ dataToken s at full ps n
+        | false ↦ elim (eqb b 40) [
+          | true ↦ elim full [ true ↦ refused 6 at | false ↦ andThen (inner at ps (n + 1)) (λ t. got (occurrence s t)) ]
+          | false ↦ elim (eqb b 91 || eqb b 37) [ true ↦ refused 5 at | false ↦ refused 4 at ]
+        ]
+      ]
+    ]
+
+-- "A group holds content tokens joined by one kind of connector, "," or "|"."
+abbrev pub join : ℕ → Group → Group → Group
+join b g h = elim (eqb b 44) [ true ↦ seq g h | false ↦ alt g h ]
+
+-- The rest of a group of which `t` was read, k content tokens joined by the connector c (0: none yet).
+-- `left` is how many more it may have; where it is 0 the token was refused already.
+unfoldable pub members : (ℕ → List Place → ℕ → Reading Tokens) → List ℕ → (left : ℕ) → ℕ → ℕ → Tokens → Reading Tokens
+members inner s zero k c t = refused 6 (t .at)
+members inner s (suc left) k c t =
+    let i = separatorsEnd s (t .at) in
+    let b = byteAt s i in
+    let j = separatorsEnd s (i + 1) in
+    elim (eqb b 41) [
+      | true ↦ got (record { group = t .group; at = i + 1; places = t .places; tokens = t .tokens })
+      | false ↦ elim (eqb b 38 || eqb b 37) [
+        | true ↦ refused 5 i
+        | false ↦ elim ((eqb b 44 || eqb b 124) && (eqb c 0 || eqb c b)) [
+          | true ↦ andThen (token inner s j (leb GRPCNT k || leb GRPGTCNT (t .tokens)) (t .places) (t .tokens))
+              (λ u. members inner s left (k + 1) b (record { group = join b (t .group) (u .group); at = u .at; places = u .places; tokens = u .tokens }))
+          | false ↦ refused 4 i
+        ]
+      ]
+    ]
+
+-- A group whose "(" stands at `at`, with `levels` group levels left.
+unfoldable pub group : (levels : ℕ) → List ℕ → ℕ → List Place → ℕ → Reading Tokens
+group zero s at ps n = refused 6 at
+group (suc levels) s at ps n =
+    andThen (token (group levels s) s (separatorsEnd s (at + 1)) (leb GRPGTCNT n) ps n)
+    (λ t. members (group levels s) s GRPCNT 1 0 t)
+
+-- Element declarations
+
+-- "Content is EMPTY or a group."
+pub data Content : Type 0 where
+  empty : Content
+  model : Group → List Place → (tokens : ℕ) → Content
+
+pub record Element : Type 0 where
+  pub at : ℕ
+  pub size : ℕ
+  pub start : ℕ
+  pub end : ℕ
+  pub content : Content
+
+-- An element declared before has the name of this size at `at`.
+unfoldable pub isDeclared : List ℕ → List Element → ℕ → ℕ → Bool
+isDeclared s [] at size = false
+isDeclared s (e ∷ es) at size = elim (sameName s (e .at) (e .size) at size) [ true ↦ true | false ↦ isDeclared s es at size ]
+
+-- A byte that fits nowhere between parameters. A "-" could still open a comment: then the byte after it is the unfit one.
+abbrev pub unfit : {A : Type 0} → List ℕ → ℕ → Reading A
+unfit s i = elim (eqb (byteAt s i) 45) [ true ↦ refused 4 (i + 1) | false ↦ refused 4 i ]
+
+-- The element's name, and where it ends. "A group as element name" is number 5.
+unfoldable pub elementName : List ℕ → ℕ → List Element → Reading ℕ
+elementName s i es =
+    let e = nameEnd s i in
+    elim (letter (byteAt s i)) [
+      | true ↦ elim (ltb NAMELEN (e - i)) [
+        | true ↦ refused 3 i
+        | false ↦ elim (isDeclared s es i (e - i)) [
+          | true ↦ refused 7 i
+          | false ↦ elim (leb elementLimit (length es)) [ true ↦ refused 8 i | false ↦ got e ]
+        ]
+      ]
+      | false ↦ elim (eqb (byteAt s i) 40) [ true ↦ refused 5 i | false ↦ unfit s i ]
+    ]
+
+-- One of the "two words each "-" or "O"", and where it ends: 0 for "-", 1 for "O". The parameter before ended at `from`:
+-- "a parameter not parted from the one before is 4 at its first byte".
+pub record Word : Type 0 where
+  pub value : ℕ
+  pub at : ℕ
+
+unfoldable pub omission : List ℕ → (from : ℕ) → ℕ → Reading Word
+omission s from i =
+    let e = nameEnd s i in
+    elim (eqb (byteAt s i) 45 && ltb from i) [
+      | true ↦ got (record { value = 0; at = i + 1 })
+      | false ↦ elim (letter (byteAt s i)) [
+        | true ↦ elim (ltb NAMELEN (e - i)) [
+          | true ↦ refused 3 i
+          | false ↦ elim (ltb from i && isWord s i e O) [ true ↦ got (record { value = 1; at = e }) | false ↦ refused 4 i ]
+        ]
+        | false ↦ refused 4 i
+      ]
+    ]
+
+-- What stands before the content.
+pub record Head : Type 0 where
+  pub name : ℕ
+  pub size : ℕ
+  pub start : ℕ
+  pub end : ℕ
+  pub at : ℕ
+
+unfoldable pub head : List ℕ → ℕ → List Element → Reading Head
+head s at es =
+    andThen (gap s at) λ i.
+    andThen (elementName s i es) λ e.
+    andThen (gap s e) λ j.
+    andThen (omission s e j) λ a.
+    andThen (gap s (a .at)) λ k.
+    andThen (omission s (a .at) k) λ b.
+    got (record { name = i; size = e - i; start = a .value; end = b .value; at = b .at })
+
+-- What was read of the content and where it ends.
+pub record ContentEnd : Type 0 where
+  pub content : Content
+  pub at : ℕ
+
+-- A word as content: EMPTY, or one of those that number 5 names.
+unfoldable pub contentWord : List ℕ → (from : ℕ) → ℕ → Reading ContentEnd
+contentWord s from i =
+    let e = nameEnd s i in
+    elim (ltb NAMELEN (e - i)) [
+      | true ↦ refused 3 i
+      | false ↦ elim (ltb from i && isWord s i e EMPTY) [
+        | true ↦ got (record { content = empty; at = e })
+        | false ↦ elim (isWord s i e ANY || isWord s i e CDATA || isWord s i e RCDATA) [ true ↦ refused 5 i | false ↦ refused 4 i ]
+      ]
+    ]
+
+-- A model: "a group, which may have an indicator at once after it".
+unfoldable pub contentModel : List ℕ → ℕ → Reading ContentEnd
+contentModel s i =
+    andThen (group GRPLVL s i [] 0) λ t.
+    let u = occurrence s t in
+    got (record { content = model (u .group) (u .places) (u .tokens); at = u .at })
+
+unfoldable pub content : List ℕ → (from : ℕ) → ℕ → Reading ContentEnd
+content s from i =
+    elim (eqb (byteAt s i) 40) [
+      | true ↦ contentModel s i
+      | false ↦ elim (letter (byteAt s i)) [ true ↦ contentWord s from i | false ↦ unfit s i ]
+    ]
+
+-- The end of the declaration; "`-(` or `+(` after content" is number 5.
+unfoldable pub close : List ℕ → ℕ → Reading ℕ
+close s i =
+    let b = byteAt s i in
+    elim (eqb b 62) [
+      | true ↦ got (i + 1)
+      | false ↦ elim ((eqb b 45 || eqb b 43) && eqb (byteAt s (i + 1)) 40) [ true ↦ refused 5 i | false ↦ unfit s i ]
+    ]
+
+-- What was read of a type file: the elements in declaration order, and where it goes on.
+pub record Declared : Type 0 where
+  pub elements : List Element
+  pub at : ℕ
+
+-- An element declaration whose keyword ends at `at`.
+unfoldable pub element : List ℕ → ℕ → List Element → Reading Declared
+element s at es =
+    andThen (head s at es) λ h.
+    andThen (gap s (h .at)) λ i.
+    andThen (content s (h .at) i) λ c.
+    andThen (gap s (c .at)) λ j.
+    andThen (close s j) λ k.
+    got (record { elements = es ++ record { at = h .name; size = h .size; start = h .start; end = h .end; content = c .content } ∷ []; at = k })
+
+-- The type file
+
+-- `<!` and a letter: "`<!` and a name of 1 to 8 other than ELEMENT" is number 5.
+unfoldable pub keyword : List ℕ → ℕ → List Element → Reading Declared
+keyword s i es =
+    let e = nameEnd s (i + 2) in
+    elim (ltb NAMELEN (e - (i + 2))) [
+      | true ↦ refused 3 (i + 2)
+      | false ↦ elim (isWord s (i + 2) e ELEMENT) [ true ↦ element s e es | false ↦ refused 5 i ]
+    ]
+
+-- `<!` at i: `<!>`, a comment declaration, `<![` (number 5) or a keyword. "No gap stands between `<!` and its keyword."
+unfoldable pub markup : List ℕ → ℕ → List Element → Reading Declared
+markup s i es =
+    let b = byteAt s (i + 2) in
+    elim (eqb b 62) [
+      | true ↦ got (record { elements = es; at = i + 3 })
+      | false ↦ elim (eqb b 45) [
+        | true ↦ elim (eqb (byteAt s (i + 3)) 45) [
+          | true ↦ andThen (commentDeclaration s (i + 4)) λ j. got (record { elements = es; at = j })
+          | false ↦ refused 4 (i + 3)
+        ]
+        | false ↦ elim (eqb b 91) [ true ↦ refused 5 i | false ↦ elim (letter b) [ true ↦ keyword s i es | false ↦ refused 4 (i + 2) ] ]
+      ]
+    ]
+
+-- What stands at i, where a declaration may begin and the input does not end.
+unfoldable pub declaration : List ℕ → ℕ → List Element → Reading Declared
+declaration s i es =
+    let b = byteAt s i in
+    let c = byteAt s (i + 1) in
+    elim (eqb b 60) [
+      | true ↦ elim (eqb c 33) [ true ↦ markup s i es | false ↦ elim (eqb c 63) [ true ↦ refused 5 i | false ↦ refused 4 (i + 1) ] ]
+      | false ↦ elim (eqb b 37) [ true ↦ refused 5 i | false ↦ refused 4 i ]
+    ]
+
+-- "Separators, comment declarations, `<!>` and element declarations", from `at` on. A type file with no element is number 8 at its length.
+-- Each turn but the last takes a declaration, so there are fewer turns than bytes.
+unfoldable pub declarationsWithin : ℕ → List ℕ → ℕ → List Element → Reading (List Element)
+declarationsWithin zero s at es = refused 4 (length s)
+declarationsWithin (suc turns) s at es =
+    let i = separatorsEnd s at in
+    elim (leb (length s) i) [
+      | true ↦ elim (eqb (length es) 0) [ true ↦ refused 8 (length s) | false ↦ got es ]
+      | false ↦ andThen (declaration s i es) λ d. declarationsWithin turns s (d .at) (d .elements)
+    ]
+
+unfoldable pub typeFile : List ℕ → Reading (List Element)
+typeFile s = declarationsWithin (suc (length s)) s 0 []
