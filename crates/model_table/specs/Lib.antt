@@ -1,0 +1,3 @@
+-- The table of a content model: how it is filled, and what it then says.
+pub mod Each
+pub mod Fill
