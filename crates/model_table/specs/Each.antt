@@ -34,14 +34,14 @@ module _ (f : List ℕ → ℕ → List ℕ) (T : List ℕ) (a b : ℕ) where
   each-end R h r = sym (each-none h) ∙ r
 
 -- what holds at the start and is kept by each turn holds at the end
-module _ (f : List ℕ → ℕ → List ℕ) (b : ℕ) (P : List ℕ → ℕ → Type 0) (keeps : (S : List ℕ) (i : ℕ) → i < b → P S i → P (f S i) (i + 1)) where
-  kept : (k : ℕ) (T : List ℕ) (a : ℕ) → a + k ≡ b → P T a → P (turns f T a k) b
+module _ (f : List ℕ → ℕ → List ℕ) (a b : ℕ) (P : List ℕ → ℕ → Type 0) (keeps : (S : List ℕ) (i : ℕ) → a ≤ i → i < b → P S i → P (f S i) (i + 1)) where
+  kept : (k : ℕ) (T : List ℕ) (i : ℕ) → a ≤ i → i + k ≡ b → P T i → P (turns f T i k) b
   unfolding turns
-  kept zero T a e h =
-      let q : a ≡ b = omega arith in
+  kept zero T i le e h =
+      let q : i ≡ b = omega arith in
       rw q at h
-  kept (suc k) T a e h = kept k (f T a) (a + 1) (omega arith) (keeps T a (omega arith) h)
+  kept (suc k) T i le e h = kept k (f T i) (i + 1) (omega arith) (omega arith) (keeps T i le (omega arith) h)
 
-  pub each-keeps : (T : List ℕ) (a : ℕ) → a ≤ b → P T a → P (each f T a b) b
+  pub each-keeps : (T : List ℕ) → a ≤ b → P T a → P (each f T a b) b
   unfolding each
-  each-keeps T a le h = kept (b - a) T a (omega arith) h
+  each-keeps T le h = kept (b - a) T a (omega arith) (omega arith) h
