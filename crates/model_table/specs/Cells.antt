@@ -146,6 +146,20 @@ module _ (starts : ℕ → Bool) (c d : ℕ) (c-to : c ≤ d) (d-to : d ≤ 97)
         each-keeps (linkFrom c d) a b (Linked starts ends T a) link-one T a-to
         record { len = l; rows-before = λ k lt. refl; rows-after = λ k le. refl; row = λ u p ge lt p-to. absurd (omega arith) }
 
+-- what `link` leaves as it was in its rows
+pub cond-and-false : (b c : Bool) (x y : ℕ) → c ≡ false → cond (b && c) x y ≡ y
+cond-and-false true c x y e = rw e
+cond-and-false false c x y e = refl
+
+module _ (starts ends : ℕ → Bool) (T : List ℕ) (a : ℕ) (S : List ℕ) (i : ℕ) (h : Linked starts ends T a S i) where
+  pub linked-same : (u p : ℕ) → a ≤ u → u < i → p < 98 → starts p ≡ false → getD S (u * 98 + p) 0 ≡ getD T (u * 98 + p) 0
+  linked-same u p ge lt p-to e = h .row u p ge lt p-to ∙ cond-and-false (ends u) (starts p) 1 (getD T (u * 98 + p) 0) e
+
+  pub linked-end : (u : ℕ) → a ≤ u → u < i → starts 0 ≡ false → getD S (u * 98) 0 ≡ getD T (u * 98) 0
+  linked-end u ge lt e =
+      let z : u * 98 + 0 ≡ u * 98 = omega arith in
+      rw z at (linked-same u 0 ge lt (omega arith) e)
+
 -- Row u of T, where b says that u could end: it no longer can, and r is required after it. Nothing else is changed.
 record SettledRow (b : Bool) (r : ℕ) (T : List ℕ) (u : ℕ) (S : List ℕ) : Type 0 where
   len : length S ≡ 9506

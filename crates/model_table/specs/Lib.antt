@@ -2,3 +2,5 @@
 pub mod Each
 pub mod Fill
 pub mod Cells
+pub mod Places
+pub mod Means
