@@ -1,6 +1,6 @@
 -- What each change leaves in the table, number by number.
 use Prim.Native.Nat.{ℕ, _+_, _*_, _≤_, _<_}
-use mathlib.Core.Path.{_≡_, refl, sym, ap, _∙_}
+use mathlib.Core.Path.{_≡_, refl, ap, _∙_}
 use mathlib.Core.Logic.{_≢_, _⊎_, inl, inr, ⊎-elim}
 use mathlib.Core.Bool.{Bool, true, false, _&&_, cond}
 use mathlib.Core.List.{List}
@@ -10,7 +10,7 @@ use lib.ListN.{length, getD, set, length-set}
 use lib.Seq.{getD-set-same, getD-set-other}
 use lib.Dec.{eqb}
 use borrow.Author.Count.{below-more}
-use Rattle.model_table.specs.Each.{each, each-keeps}
+use Rattle.model_table.specs.Each.{each-keeps}
 use Rattle.model_table.specs.Fill.{linkCell, linkRow, linkFrom, link, settleRow, settle, unbeginCell, unbegin}
 
 -- a flag as the table holds it

@@ -50,10 +50,11 @@ unbegin T mid hi = each unbeginCell T mid hi
 abbrev pub part : Bool → ℕ → Part
 part n r = record { nullable = n; required = r }
 
--- of two groups in sequence, of which one is required if the first cannot be empty
+-- two groups in sequence: the whole requires what the first does, or what the second does if the first can be empty
 abbrev pub partSeq : Part → Part → Part
 partSeq g h = part (g .nullable && h .nullable) (cond (g .nullable) (h .required) (g .required))
 
+-- two groups of which one is taken: the whole requires no place
 abbrev pub partAlt : Part → Part → Part
 partAlt g h = part (g .nullable || h .nullable) 0
 

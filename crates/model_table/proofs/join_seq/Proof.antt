@@ -1,8 +1,9 @@
 -- `join_seq` meets its contract: its calls' contracts, one after the other.
 use Prim.Native.Nat.{ℕ}
-use mathlib.Core.Path.{ap, _∙_}
+use mathlib.Core.Path.{_≡_}
 use mathlib.Core.List.{List}
-use Rattle.model_table.specs.Fill.{closeEnds, closeStarts}
+use Rattle.model_table.specs.Fill.{link, closeEnds, closeStarts, joinSeq}
+use Rattle.model_table.specs.declared.Part.{Part}
 use borrow.Author.Needs.{needs}
 use Rattle.model_table.proofs.join_seq.Statement.{statement}
 use Rattle.model_table.proofs.join_seq.Tie as tie
@@ -19,17 +20,17 @@ close-starts-requires c κs = search needs
 part-seq-requires : tie.Need-part-seq-requires
 part-seq-requires c κs = search needs
 
+-- the three changes, one after the other
+three : (T A B C : List ℕ) (lo mid hi : ℕ) (g h : Part) → A ≡ link T lo mid mid hi → B ≡ closeEnds A lo mid h → C ≡ closeStarts B mid hi g → C ≡ joinSeq T lo mid hi g h
+three T A B C lo mid hi g h a b c = cc
+
 returns : tie.Need-returns
 returns c =
     let starts = c .before in
     let ends = starts .before .before in
     let linked = ends .before .before in
-    let x = linked .before .before .args in (
-      starts .close-starts .ensures
-          ∙ ap (λ (T : List ℕ). closeStarts T (x .mid) (x .hi) (x .g))
-          (ends .close-ends .ensures ∙ ap (λ (T : List ℕ). closeEnds T (x .lo) (x .mid) (x .h)) (linked .link .ensures)),
-      c .part-seq .ensures,
-    )
+    let x = linked .before .before .args in
+    (three _ _ _ _ _ _ _ (x .g) (x .h) (linked .link .ensures) (ends .close-ends .ensures) (starts .close-starts .ensures), c .part-seq .ensures)
 
 pub join-seq-spec : {M : Type 1} → statement M
 join-seq-spec =
