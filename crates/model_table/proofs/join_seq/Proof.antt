@@ -2,7 +2,7 @@
 use Prim.Native.Nat.{ℕ}
 use mathlib.Core.Path.{_≡_}
 use mathlib.Core.List.{List}
-use Rattle.model_table.specs.Fill.{link, closeEnds, closeStarts, joinSeq}
+use Rattle.model_table.specs.Fill.{closeEnds, closeStarts}
 use Rattle.model_table.specs.declared.Part.{Part}
 use borrow.Author.Needs.{needs}
 use Rattle.model_table.proofs.join_seq.Statement.{statement}
@@ -20,9 +20,10 @@ close-starts-requires c κs = search needs
 part-seq-requires : tie.Need-part-seq-requires
 part-seq-requires c κs = search needs
 
--- the three changes, one after the other
-three : (T A B C : List ℕ) (lo mid hi : ℕ) (g h : Part) → A ≡ link T lo mid mid hi → B ≡ closeEnds A lo mid h → C ≡ closeStarts B mid hi g → C ≡ joinSeq T lo mid hi g h
-three T A B C lo mid hi g h a b c = cc
+-- the changes, one after the other
+in-turn : (A L B C : List ℕ) (lo mid hi : ℕ) (g h : Part)
+    → A ≡ L → B ≡ closeEnds A lo mid h → C ≡ closeStarts B mid hi g → C ≡ closeStarts (closeEnds L lo mid h) mid hi g
+in-turn A L B C lo mid hi g h a b c = cc
 
 returns : tie.Need-returns
 returns c =
@@ -30,7 +31,7 @@ returns c =
     let ends = starts .before .before in
     let linked = ends .before .before in
     let x = linked .before .before .args in
-    (three _ _ _ _ _ _ _ (x .g) (x .h) (linked .link .ensures) (ends .close-ends .ensures) (starts .close-starts .ensures), c .part-seq .ensures)
+    (in-turn _ _ _ _ _ _ _ (x .g) (x .h) (linked .link .ensures) (ends .close-ends .ensures) (starts .close-starts .ensures), c .part-seq .ensures)
 
 pub join-seq-spec : {M : Type 1} → statement M
 join-seq-spec =
