@@ -1,0 +1,100 @@
+-- How the table of a content model is filled, group by group: functions on lists, of the shape of the code.
+-- The table has 97 rows of 98 numbers. Row 0 is the start, row u is after the place u; the places are 1 to 96.
+-- Column 0 is 1 where the content is complete, column p is 1 where the place p may come next, column 97 is the required place or 0.
+-- While a model is read, row 0 holds the places that can begin, and column 0 those that can end, the innermost finished group around them.
+use Prim.Native.Nat.{ℕ, _+_, _*_}
+use mathlib.Core.Bool.{Bool, _&&_, _||_, cond}
+use mathlib.Core.List.{List}
+use lib.ListN.{getD, set, replicate}
+use lib.Dec.{eqb}
+use Rattle.rules.specs.Walk.{Group, place, seq, alt, opt, plus}
+use Rattle.model_sets.specs.Sets.{size, nullable, must}
+use Rattle.model_table.specs.Each.{each}
+use Rattle.model_table.specs.declared.Part.{Part}
+
+-- a new place can begin and end itself
+abbrev pub putPlace : List ℕ → ℕ → List ℕ
+putPlace T p = set (set T p 1) (p * 98) 1
+
+-- p may come after u if it can begin the group
+unfoldable pub linkCell : ℕ → List ℕ → ℕ → List ℕ
+linkCell u T p = cond (eqb (getD T p 0) 1) (set T (u * 98 + p) 1) T
+
+-- so for each place of [c, d)
+abbrev pub linkRow : List ℕ → ℕ → ℕ → ℕ → List ℕ
+linkRow T u c d = each (linkCell u) T c d
+
+-- if u can end its group
+unfoldable pub linkFrom : ℕ → ℕ → List ℕ → ℕ → List ℕ
+linkFrom c d T u = cond (eqb (getD T (u * 98) 0) 1) (linkRow T u c d) T
+
+-- after each place in [a, b) that can end its group, each in [c, d) that can begin its own
+abbrev pub link : List ℕ → ℕ → ℕ → ℕ → ℕ → List ℕ
+link T a b c d = each (linkFrom c d) T a b
+
+-- u can no longer end its group: the place r is required after it
+unfoldable pub settleRow : ℕ → List ℕ → ℕ → List ℕ
+settleRow r T u = cond (eqb (getD T (u * 98) 0) 1) (set (set T (u * 98) 0) (u * 98 + 97) r) T
+
+abbrev pub settle : List ℕ → ℕ → ℕ → ℕ → List ℕ
+settle T lo mid r = each (settleRow r) T lo mid
+
+-- p can no longer begin
+unfoldable pub unbeginCell : List ℕ → ℕ → List ℕ
+unbeginCell T p = set T p 0
+
+abbrev pub unbegin : List ℕ → ℕ → ℕ → List ℕ
+unbegin T mid hi = each unbeginCell T mid hi
+
+-- what is kept of a group beside the table
+abbrev pub part : Bool → ℕ → Part
+part n r = record { nullable = n; required = r }
+
+-- two groups in sequence: the whole requires what the first does, or what the second does if the first can be empty
+abbrev pub partSeq : Part → Part → Part
+partSeq g h = part (g .nullable && h .nullable) (cond (g .nullable) (h .required) (g .required))
+
+-- two groups of which one is taken: the whole requires no place
+abbrev pub partAlt : Part → Part → Part
+partAlt g h = part (g .nullable || h .nullable) 0
+
+-- the ends of a first group stay ends if the second can be empty
+unfoldable pub closeEnds : List ℕ → ℕ → ℕ → Part → List ℕ
+closeEnds T lo mid h = cond (h .nullable) T (settle T lo mid (h .required))
+
+-- the starts of a second group stay starts if the first can be empty
+unfoldable pub closeStarts : List ℕ → ℕ → ℕ → Part → List ℕ
+closeStarts T mid hi g = cond (g .nullable) T (unbegin T mid hi)
+
+-- [lo, mid) is filled with a first group, [mid, hi) with a second: the two in sequence
+abbrev pub joinSeq : List ℕ → ℕ → ℕ → ℕ → Part → Part → List ℕ
+joinSeq T lo mid hi g h = closeStarts (closeEnds (link T lo mid mid hi) lo mid h) mid hi g
+
+-- any of [lo, hi) that can end may be followed by any that can begin
+abbrev pub repeated : List ℕ → ℕ → ℕ → List ℕ
+repeated T lo hi = link T lo hi lo hi
+
+-- row 0 gets its two columns: whether the whole model can be empty, and which place it requires
+abbrev pub finished : List ℕ → Part → List ℕ
+finished T g = set (set T 0 (cond (g .nullable) 1 0)) 97 (g .required)
+
+-- what is kept of a group
+abbrev pub partOf : Group → Part
+partOf g = part (nullable g) (must g)
+
+-- what a group g whose places are numbered from lo does to the table
+abbrev pub fill : Group → ℕ → List ℕ → List ℕ
+fill (place n) lo T = putPlace T n
+fill (seq g h) lo T =
+    joinSeq (fill h (lo + size g) (fill g lo T)) lo (lo + size g) (lo + size g + size h) (partOf g) (partOf h)
+fill (alt g h) lo T = fill h (lo + size g) (fill g lo T)
+fill (opt g) lo T = fill g lo T
+fill (plus g) lo T = repeated (fill g lo T) lo (lo + size g)
+
+-- the empty table
+abbrev pub blank : List ℕ
+blank = replicate 9506 0
+
+-- the table of a model whose places are numbered from 1
+abbrev pub tableOf : Group → List ℕ
+tableOf g = finished (fill g 1 blank) (partOf g)

@@ -1,0 +1,418 @@
+-- The table of a content model says which places may come next, where the content is complete, and which place is required.
+use Prim.Native.Nat.{ℕ, zero, suc, _+_, _*_, _≤_, _<_}
+use mathlib.Core.Path.{_≡_, refl, sym, ap, _∙_}
+use mathlib.Core.Logic.{⊎-elim}
+use mathlib.Core.Bool.{Bool, true, false, _&&_, _||_, not, cond, and-true, or-comm}
+use mathlib.Core.List.{List}
+use native.Mathlib.Omega.{arith}
+use lib.ListN.{length, getD, set, replicate, length-set, length-replicate}
+use lib.Seq.{getD-set-same, getD-set-other}
+use borrow.Author.Tests.{eq-eqb}
+use Rattle.rules.specs.Walk.{Group, place, seq, alt, opt, plus}
+use Rattle.model_sets.specs.Sets.{size, Numbered, has, nullable, first, last, follow, must, mustAfter, nextIn, completeIn, requiredIn}
+use Rattle.model_table.specs.Fill.{putPlace, link, settle, unbegin, closeEnds, closeStarts, joinSeq, partOf, finished, fill, blank, tableOf}
+use Rattle.model_table.specs.Cells.{bit, below-or-from, Linked, linked, linked-same, linked-end, cond-and-false, Settled, settled, Unbegun, unbegun}
+use Rattle.model_table.specs.Places.{none-first, none-last, none-follow, has-under, has-over, has-inside}
+
+-- S differs from T only in what it says of the places [lo, hi): row 0 says F, column 0 L, the columns between N and the last column M.
+pub record Shows (lo hi : ℕ) (T S : List ℕ) (F L : ℕ → Bool) (N : ℕ → ℕ → Bool) (M : ℕ → ℕ) : Type 0 where
+  pub len : length S ≡ 9506
+  pub under : (k : ℕ) → k < lo → getD S k 0 ≡ getD T k 0
+  pub between : (k : ℕ) → hi ≤ k → k < lo * 98 → getD S k 0 ≡ getD T k 0
+  pub over : (k : ℕ) → hi * 98 ≤ k → getD S k 0 ≡ getD T k 0
+  pub begins : (p : ℕ) → lo ≤ p → p < hi → getD S p 0 ≡ bit (F p)
+  pub ends : (u : ℕ) → lo ≤ u → u < hi → getD S (u * 98) 0 ≡ bit (L u)
+  pub follows : (u p : ℕ) → lo ≤ u → u < hi → 1 ≤ p → p < 97 → getD S (u * 98 + p) 0 ≡ bit (N u p)
+  pub requires : (u : ℕ) → lo ≤ u → u < hi → getD S (u * 98 + 97) 0 ≡ M u
+
+-- S says of the places of g what is computed of g.
+abbrev pub Filled : Group → ℕ → List ℕ → List ℕ → Type 0
+Filled g lo T S = Shows lo (lo + size g) T S (first g) (last g) (follow g) (mustAfter g)
+
+-- T says nothing yet of the places from lo on.
+pub record Fresh (lo : ℕ) (T : List ℕ) : Type 0 where
+  pub len : length T ≡ 9506
+  pub row-0 : (k : ℕ) → lo ≤ k → k < 97 → getD T k 0 ≡ 0
+  pub rows : (k : ℕ) → lo * 98 ≤ k → getD T k 0 ≡ 0
+
+fresh-after : (g : Group) (lo : ℕ) (T S : List ℕ) → 1 ≤ lo → Fresh lo T → Filled g lo T S → Fresh (lo + size g) S
+fresh-after g lo T S from t s =
+    record {
+      len = s .len;
+      row-0 = λ k ge lt. s .between k ge (omega arith) ∙ t .row-0 k (omega arith) lt;
+      rows = λ k ge. s .over k ge ∙ t .rows k (omega arith);
+    }
+
+-- a place alone
+placed : (n lo : ℕ) (T : List ℕ) → 1 ≤ lo → lo + 1 ≤ 97 → n ≡ lo → Fresh lo T → Filled (place n) lo T (putPlace T n)
+placed n lo T from to e t =
+    let l = t .len in
+    let S : List ℕ = set T n 1 in
+    let m : length S ≡ 9506 = length-set T n 1 ∙ l in
+    let else : (k : ℕ) → (k ≡ n → ⊥) → (k ≡ n * 98 → ⊥) → getD (set S (n * 98) 1) k 0 ≡ getD T k 0 =
+    λ k x y. getD-set-other S (n * 98) k 1 0 y ∙ getD-set-other T n k 1 0 x in
+    record {
+      len = length-set S (n * 98) 1 ∙ m;
+      under = λ k lt. else k (omega arith) (omega arith);
+      between = λ k le lt. else k (omega arith) (omega arith);
+      over = λ k le. else k (omega arith) (omega arith);
+      begins =
+          λ p ge lt.
+          let q : p ≡ n = omega arith in
+          rw (q, eq-eqb n n refl) (getD-set-other S (n * 98) n 1 0 (omega arith) ∙ getD-set-same T n 1 0 (omega arith));
+      ends =
+          λ u ge lt.
+          let q : u ≡ n = omega arith in
+          rw (q, eq-eqb n n refl) (getD-set-same S (n * 98) 1 0 (omega arith));
+      follows = λ u p ge lt p-from p-to. else (u * 98 + p) (omega arith) (omega arith) ∙ t .rows (u * 98 + p) (omega arith);
+      requires = λ u ge lt. else (u * 98 + 97) (omega arith) (omega arith) ∙ t .rows (u * 98 + 97) (omega arith);
+    }
+
+only-left : (a b : Bool) → b ≡ false → a ≡ (a || b)
+only-left true b e = refl
+only-left false b e = sym e
+
+only-right : (a b : Bool) → a ≡ false → b ≡ (a || b)
+only-right a b e = rw e
+
+-- a 1 written on a condition adds to what is there
+cond-or : (x a : Bool) → cond x 1 (bit a) ≡ bit (a || x)
+cond-or true true = refl
+cond-or true false = refl
+cond-or false true = refl
+cond-or false false = refl
+
+or-assoc : (a b c : Bool) → (a || b || c) ≡ (a || (b || c))
+or-assoc true b c = refl
+or-assoc false b c = refl
+
+or-and-false : (a b c : Bool) → b ≡ false → a ≡ (a || (b && c))
+or-and-false true b c e = refl
+or-and-false false b c e = rw e
+
+-- A group g of [lo, mid) and a group h of [mid, hi), one after the other.
+module _ (g h : Group) (lo : ℕ) (from : 1 ≤ lo) (to : lo + size g + size h ≤ 97) (gn : Numbered g lo) (hn : Numbered h (lo + size g)) where
+  no-g : (p : ℕ) → lo + size g ≤ p → has g p ≡ false
+  no-g p ge = has-over g lo p gn ge
+
+  no-h : (p : ℕ) → p < lo + size g → has h p ≡ false
+  no-h p lt = has-under h (lo + size g) p hn lt
+
+  -- what holds of a place of g and of a place of h
+  on-both : (P : ℕ → Type 0)
+      → ((p : ℕ) → lo ≤ p → p < lo + size g → P p)
+      → ((p : ℕ) → lo + size g ≤ p → p < lo + size g + size h → P p)
+      → (p : ℕ) → lo ≤ p → p < lo + (size g + size h) → P p
+  on-both P in-g in-h p ge lt =
+      ⊎-elim (λ (x : p < lo + size g). in-g p ge x) (λ (x : lo + size g ≤ p). in-h p x (omega arith)) (below-or-from p (lo + size g))
+
+  both : (T R S : List ℕ) → Filled g lo T R → Filled h (lo + size g) R S → Filled (alt g h) lo T S
+  both T R S fg fh =
+      record {
+        len = fh .len;
+        under = λ k lt. fh .under k (omega arith) ∙ fg .under k lt;
+        between = λ k le lt. fh .between k (omega arith) (omega arith) ∙ fg .between k (omega arith) lt;
+        over = λ k le. fh .over k (omega arith) ∙ fg .over k (omega arith);
+        begins =
+            on-both (λ (p : ℕ). getD S p 0 ≡ bit (first g p || first h p))
+            (λ p ge lt. fh .under p lt ∙ fg .begins p ge lt ∙ ap bit (only-left (first g p) (first h p) (none-first h p (no-h p lt))))
+            (λ p ge lt. fh .begins p ge lt ∙ ap bit (only-right (first g p) (first h p) (none-first g p (no-g p ge))));
+        ends =
+            on-both (λ (u : ℕ). getD S (u * 98) 0 ≡ bit (last g u || last h u))
+            (λ u ge lt.
+            fh .between (u * 98) (omega arith) (omega arith)
+            ∙ fg .ends u ge lt
+            ∙ ap bit (only-left (last g u) (last h u) (none-last h u (no-h u lt))))
+            (λ u ge lt. fh .ends u ge lt ∙ ap bit (only-right (last g u) (last h u) (none-last g u (no-g u ge))));
+        follows =
+            λ u p ge lt p-from p-to.
+            on-both (λ (v : ℕ). getD S (v * 98 + p) 0 ≡ bit (follow g v p || follow h v p))
+            (λ v ve vt.
+            fh .between (v * 98 + p) (omega arith) (omega arith)
+            ∙ fg .follows v p ve vt p-from p-to
+            ∙ ap bit (only-left (follow g v p) (follow h v p) (none-follow h v p (no-h v vt))))
+            (λ v ve vt. fh .follows v p ve vt p-from p-to ∙ ap bit (only-right (follow g v p) (follow h v p) (none-follow g v p (no-g v ve))))
+            u ge lt;
+        requires =
+            on-both (λ (u : ℕ). getD S (u * 98 + 97) 0 ≡ cond (has h u) (mustAfter h u) (mustAfter g u))
+            (λ u ge lt. rw (no-h u lt) (fh .between (u * 98 + 97) (omega arith) (omega arith) ∙ fg .requires u ge lt))
+            (λ u ge lt. rw (has-inside h (lo + size g) u hn ge lt) (fh .requires u ge lt));
+      }
+
+  -- where g can end and h can begin, h follows g
+  module _ (T S : List ℕ) (s : Filled (alt g h) lo T S) where
+    row-0 : (p : ℕ) → lo + size g ≤ p → p < lo + size g + size h → getD S p 0 ≡ bit (first h p)
+    row-0 p ge lt = s .begins p (omega arith) (omega arith) ∙ ap bit (sym (only-right (first g p) (first h p) (none-first g p (no-g p ge))))
+
+    column-0 : (u : ℕ) → lo ≤ u → u < lo + size g → getD S (u * 98) 0 ≡ bit (last g u)
+    column-0 u ge lt = s .ends u ge (omega arith) ∙ ap bit (sym (only-left (last g u) (last h u) (none-last h u (no-h u lt))))
+
+    R : List ℕ
+    R = link S lo (lo + size g) (lo + size g) (lo + size g + size h)
+
+    r : Linked (first h) (last g) S lo R (lo + size g)
+    unfolding R
+    r =
+        linked (first h) (lo + size g) (lo + size g + size h) (omega arith) to
+        (λ p lt. none-first h p (no-h p lt))
+        (λ p ge. none-first h p (has-over h (lo + size g) p hn ge))
+        (last g) S lo (lo + size g) (s .len) from (omega arith) (omega arith) row-0 column-0
+
+    first-h-0 : first h 0 ≡ false
+    first-h-0 = none-first h 0 (no-h 0 (omega arith))
+
+    first-h-97 : first h 97 ≡ false
+    first-h-97 = none-first h 97 (has-over h (lo + size g) 97 hn to)
+
+    in-sequence : Shows lo (lo + (size g + size h)) T R (first (alt g h)) (last (alt g h)) (follow (seq g h)) (mustAfter (alt g h))
+    in-sequence =
+        record {
+          len = r .len;
+          under = λ k lt. r .rows-before k (omega arith) ∙ s .under k lt;
+          between = λ k le lt. r .rows-before k lt ∙ s .between k le lt;
+          over = λ k le. r .rows-after k (omega arith) ∙ s .over k le;
+          begins = λ p ge lt. r .rows-before p (omega arith) ∙ s .begins p ge lt;
+          ends =
+              λ u ge lt.
+              ⊎-elim (λ (x : u < lo + size g). linked-end (first h) (last g) S lo R (lo + size g) r u ge x first-h-0 ∙ s .ends u ge lt)
+              (λ (x : lo + size g ≤ u). r .rows-after (u * 98) (omega arith) ∙ s .ends u ge lt)
+              (below-or-from u (lo + size g));
+          follows =
+              λ u p ge lt p-from p-to.
+              ⊎-elim
+              (λ (x : u < lo + size g).
+              r .row u p ge x (omega arith)
+              ∙ ap (λ (y : ℕ). cond (last g u && first h p) 1 y) (s .follows u p ge lt p-from p-to)
+              ∙ cond-or (last g u && first h p) (follow g u p || follow h u p)
+              ∙ ap bit (or-assoc (follow g u p) (follow h u p) (last g u && first h p)))
+              (λ (x : lo + size g ≤ u).
+              r .rows-after (u * 98 + p) (omega arith)
+              ∙ s .follows u p ge lt p-from p-to
+              ∙ ap (λ (y : Bool). bit (follow g u p || y)) (or-and-false (follow h u p) (last g u) (first h p) (none-last g u (no-g u x))))
+              (below-or-from u (lo + size g));
+          requires =
+              λ u ge lt.
+              ⊎-elim (λ (x : u < lo + size g). linked-same (first h) (last g) S lo R (lo + size g) r u 97 ge x (omega arith) first-h-97 ∙ s .requires u ge lt)
+              (λ (x : lo + size g ≤ u). r .rows-after (u * 98 + 97) (omega arith) ∙ s .requires u ge lt)
+              (below-or-from u (lo + size g));
+        }
+
+  -- where h cannot be empty, g no longer ends the whole, and what h requires is required after it
+  module _ (T R : List ℕ)
+      (s : Shows lo (lo + (size g + size h)) T R (first (alt g h)) (last (alt g h)) (follow (seq g h)) (mustAfter (alt g h))) where
+    ends-g : (u : ℕ) → lo ≤ u → u < lo + size g → getD R (u * 98) 0 ≡ bit (last g u)
+    ends-g u ge lt = s .ends u ge (omega arith) ∙ ap bit (sym (only-left (last g u) (last h u) (none-last h u (no-h u lt))))
+
+    ends-closed : (b : Bool)
+        → Shows lo (lo + (size g + size h)) T (cond b R (settle R lo (lo + size g) (must h))) (first (alt g h))
+        (λ u. last h u || (b && last g u)) (follow (seq g h))
+        (λ u. cond (has h u) (mustAfter h u) (cond (last g u && not b) (must h) (mustAfter g u)))
+    ends-closed true =
+        record {
+          len = s .len;
+          under = s .under;
+          between = s .between;
+          over = s .over;
+          begins = s .begins;
+          ends = λ u ge lt. s .ends u ge lt ∙ ap bit (or-comm (last g u) (last h u));
+          follows = s .follows;
+          requires =
+              λ u ge lt.
+              s .requires u ge lt
+              ∙ ap (λ (y : ℕ). cond (has h u) (mustAfter h u) y) (sym (cond-and-false (last g u) false (must h) (mustAfter g u) refl));
+        }
+    ends-closed false =
+        let S : List ℕ = settle R lo (lo + size g) (must h) in
+        let r : Settled (last g) (must h) R lo S (lo + size g) = settled (last g) (must h) R lo (lo + size g) (s .len) (omega arith) (omega arith) ends-g in
+        record {
+          len = r .len;
+          under = λ k lt. r .rows-before k (omega arith) ∙ s .under k lt;
+          between = λ k le lt. r .rows-before k lt ∙ s .between k le lt;
+          over = λ k le. r .rows-after k (omega arith) ∙ s .over k le;
+          begins = λ p ge lt. r .rows-before p (omega arith) ∙ s .begins p ge lt;
+          ends =
+              λ u ge lt.
+              ⊎-elim (λ (x : u < lo + size g). rw (none-last h u (no-h u x)) (r .end u ge x))
+              (λ (x : lo + size g ≤ u).
+              r .rows-after (u * 98) (omega arith)
+              ∙ s .ends u ge lt
+              ∙ ap bit (sym (only-right (last g u) (last h u) (none-last g u (no-g u x))) ∙ only-left (last h u) false refl))
+              (below-or-from u (lo + size g));
+          follows =
+              λ u p ge lt p-from p-to.
+              ⊎-elim (λ (x : u < lo + size g). r .row u p ge x p-from p-to ∙ s .follows u p ge lt p-from p-to)
+              (λ (x : lo + size g ≤ u). r .rows-after (u * 98 + p) (omega arith) ∙ s .follows u p ge lt p-from p-to)
+              (below-or-from u (lo + size g));
+          requires =
+              λ u ge lt.
+              ⊎-elim
+              (λ (x : u < lo + size g).
+              let was : getD R (u * 98 + 97) 0 ≡ mustAfter g u = rw (no-h u x) at (s .requires u ge lt) in
+              rw (no-h u x, and-true (last g u)) (r .required u ge x ∙ ap (λ (y : ℕ). cond (last g u) (must h) y) was))
+              (λ (x : lo + size g ≤ u).
+              let is-h : has h u ≡ true = has-inside h (lo + size g) u hn x (omega arith) in
+              rw is-h (r .rows-after (u * 98 + 97) (omega arith) ∙ (rw is-h at (s .requires u ge lt))))
+              (below-or-from u (lo + size g));
+        }
+
+  -- where g cannot be empty, h no longer begins the whole
+  starts-closed : (T R : List ℕ) (L : ℕ → Bool) (N : ℕ → ℕ → Bool) (M : ℕ → ℕ) (b : Bool)
+      → Shows lo (lo + (size g + size h)) T R (first (alt g h)) L N M
+      → Shows lo (lo + (size g + size h)) T (cond b R (unbegin R (lo + size g) (lo + size g + size h))) (λ p. first g p || (b && first h p)) L N M
+  starts-closed T R L N M true s =
+      record {
+        len = s .len;
+        under = s .under;
+        between = s .between;
+        over = s .over;
+        begins = s .begins;
+        ends = s .ends;
+        follows = s .follows;
+        requires = s .requires;
+      }
+  starts-closed T R L N M false s =
+      let S : List ℕ = unbegin R (lo + size g) (lo + size g + size h) in
+      let r : Unbegun R (lo + size g) S (lo + size g + size h) = unbegun R (lo + size g) (lo + size g + size h) (s .len) (omega arith) to in
+      record {
+        len = r .len;
+        under = λ k lt. r .under k (omega arith) ∙ s .under k lt;
+        between = λ k le lt. r .over k (omega arith) ∙ s .between k le lt;
+        over = λ k le. r .over k (omega arith) ∙ s .over k le;
+        begins =
+            λ p ge lt.
+            ⊎-elim
+            (λ (x : p < lo + size g). rw (none-first h p (no-h p x)) at (r .under p x ∙ s .begins p ge lt))
+            (λ (x : lo + size g ≤ p). rw (none-first g p (no-g p x)) (r .none p x (omega arith)))
+            (below-or-from p (lo + size g));
+        ends = λ u ge lt. r .over (u * 98) (omega arith) ∙ s .ends u ge lt;
+        follows = λ u p ge lt p-from p-to. r .over (u * 98 + p) (omega arith) ∙ s .follows u p ge lt p-from p-to;
+        requires = λ u ge lt. r .over (u * 98 + 97) (omega arith) ∙ s .requires u ge lt;
+      }
+
+  -- the two in sequence
+  sequence : (T S : List ℕ) → Filled (alt g h) lo T S
+      → Filled (seq g h) lo T (joinSeq S lo (lo + size g) (lo + size g + size h) (partOf g) (partOf h))
+  unfolding R closeEnds closeStarts
+  sequence T S s =
+      let linked-up = R T S s in
+      starts-closed T (cond (nullable h) linked-up (settle linked-up lo (lo + size g) (must h)))
+      (last (seq g h)) (follow (seq g h)) (mustAfter (seq g h)) (nullable g)
+      (ends-closed T linked-up (in-sequence T S s) (nullable h))
+
+-- one group once or more: where it can end, it can begin again
+module _ (g : Group) (lo : ℕ) (from : 1 ≤ lo) (to : lo + size g ≤ 97) (gn : Numbered g lo) (T S : List ℕ) (s : Filled g lo T S) where
+  again : Linked (first g) (last g) S lo (link S lo (lo + size g) lo (lo + size g)) (lo + size g)
+  again =
+      linked (first g) lo (lo + size g) (omega arith) to
+      (λ p lt. none-first g p (has-under g lo p gn lt))
+      (λ p ge. none-first g p (has-over g lo p gn ge))
+      (last g) S lo (lo + size g) (s .len) from (omega arith) to (s .begins) (s .ends)
+
+  repeats : Filled (plus g) lo T (link S lo (lo + size g) lo (lo + size g))
+  repeats =
+      let R : List ℕ = link S lo (lo + size g) lo (lo + size g) in
+      let r = again in
+      record {
+        len = r .len;
+        under = λ k lt. r .rows-before k (omega arith) ∙ s .under k lt;
+        between = λ k le lt. r .rows-before k lt ∙ s .between k le lt;
+        over = λ k le. r .rows-after k le ∙ s .over k le;
+        begins = λ p ge lt. r .rows-before p (omega arith) ∙ s .begins p ge lt;
+        ends =
+            λ u ge lt. linked-end (first g) (last g) S lo R (lo + size g) r u ge lt (none-first g 0 (has-under g lo 0 gn from)) ∙ s .ends u ge lt;
+        follows =
+            λ u p ge lt p-from p-to.
+            r .row u p ge lt (omega arith)
+            ∙ ap (λ (y : ℕ). cond (last g u && first g p) 1 y) (s .follows u p ge lt p-from p-to)
+            ∙ cond-or (last g u && first g p) (follow g u p);
+        requires =
+            λ u ge lt.
+            linked-same (first g) (last g) S lo R (lo + size g) r u 97 ge lt (omega arith) (none-first g 97 (has-over g lo 97 gn to))
+            ∙ s .requires u ge lt;
+      }
+
+-- A fresh table filled with a numbered group says of its places what is computed of the group.
+pub fills : (g : Group) (lo : ℕ) (T : List ℕ) → 1 ≤ lo → lo + size g ≤ 97 → Numbered g lo → Fresh lo T → Filled g lo T (fill g lo T)
+fills (place n) lo T from to e t = placed n lo T from to e t
+fills (seq g h) lo T from to e t =
+    let fg : Filled g lo T (fill g lo T) = fills g lo T from (omega arith) (e .0) t in
+    let fh : Filled h (lo + size g) (fill g lo T) (fill h (lo + size g) (fill g lo T)) =
+    fills h (lo + size g) (fill g lo T) (omega arith) (omega arith) (e .1) (fresh-after g lo T (fill g lo T) from t fg) in
+    sequence g h lo from (omega arith) (e .0) (e .1) T (fill h (lo + size g) (fill g lo T))
+    (both g h lo from (omega arith) (e .0) (e .1) T (fill g lo T) (fill h (lo + size g) (fill g lo T)) fg fh)
+fills (alt g h) lo T from to e t =
+    let fg : Filled g lo T (fill g lo T) = fills g lo T from (omega arith) (e .0) t in
+    let fh : Filled h (lo + size g) (fill g lo T) (fill h (lo + size g) (fill g lo T)) =
+    fills h (lo + size g) (fill g lo T) (omega arith) (omega arith) (e .1) (fresh-after g lo T (fill g lo T) from t fg) in
+    both g h lo from (omega arith) (e .0) (e .1) T (fill g lo T) (fill h (lo + size g) (fill g lo T)) fg fh
+fills (opt g) lo T from to e t = fills g lo T from to e t
+fills (plus g) lo T from to e t = repeats g lo from to e T (fill g lo T) (fills g lo T from to e t)
+
+zeros : (n k : ℕ) → _≡_ {A = ℕ} (getD (replicate n 0) k 0) 0
+zeros zero k = refl
+zeros (suc n) zero = refl
+zeros (suc n) (suc k) = zeros n k
+
+pub fresh-blank : (lo : ℕ) → Fresh lo blank
+fresh-blank lo = record { len = length-replicate {A = ℕ} 9506 0; row-0 = λ k ge lt. zeros 9506 k; rows = λ k ge. zeros 9506 k }
+
+-- What is read in a table of the model g: in row u what may come next, whether the content is complete and what is required, once u was
+-- the last place taken, or at the start where u is 0.
+pub record Says (g : Group) (T : List ℕ) : Type 0 where
+  pub len : length T ≡ 9506
+  pub next : (u p : ℕ) → u ≤ size g → 1 ≤ p → p ≤ 96 → getD T (u * 98 + p) 0 ≡ cond (nextIn g u p) 1 0
+  pub complete : (u : ℕ) → u ≤ size g → getD T (u * 98) 0 ≡ cond (completeIn g u) 1 0
+  pub required : (u : ℕ) → u ≤ size g → getD T (u * 98 + 97) 0 ≡ requiredIn g u
+
+module _ (g : Group) (gn : Numbered g 1) (to : size g ≤ 96) (F : List ℕ) (f : Filled g 1 blank F) where
+  Z : List ℕ
+  Z = set F 0 (cond (nullable g) 1 0)
+
+  len-Z : length Z ≡ 9506
+  unfolding Z
+  len-Z = length-set F 0 (cond (nullable g) 1 0) ∙ f .len
+
+  -- all but the first number and that of column 97 of row 0 are as they were
+  as-filled : (k : ℕ) → 1 ≤ k → (k ≡ 97 → ⊥) → getD (set Z 97 (must g)) k 0 ≡ getD F k 0
+  unfolding Z
+  as-filled k ge ne = getD-set-other Z 97 k (must g) 0 ne ∙ getD-set-other F 0 k (cond (nullable g) 1 0) 0 (omega arith)
+
+  begin : (p : ℕ) → 1 ≤ p → p ≤ 96 → getD F p 0 ≡ bit (first g p)
+  begin p ge le =
+      ⊎-elim (λ (x : p < 1 + size g). f .begins p ge x)
+      (λ (x : 1 + size g ≤ p). rw (none-first g p (has-over g 1 p gn x)) (f .between p x (omega arith) ∙ zeros 9506 p))
+      (below-or-from p (1 + size g))
+
+  next-in : (u p : ℕ) → u ≤ size g → 1 ≤ p → p ≤ 96 → getD (set Z 97 (must g)) (u * 98 + p) 0 ≡ cond (nextIn g u p) 1 0
+  next-in zero p le p-from p-to =
+      let e : 0 * 98 + p ≡ p = omega arith in
+      rw e (as-filled p p-from (omega arith) ∙ begin p p-from p-to)
+  next-in (suc u) p le p-from p-to =
+      as-filled (suc u * 98 + p) (omega arith) (omega arith) ∙ f .follows (suc u) p (omega arith) (omega arith) p-from (omega arith)
+
+  complete-in : (u : ℕ) → u ≤ size g → getD (set Z 97 (must g)) (u * 98) 0 ≡ cond (completeIn g u) 1 0
+  unfolding Z
+  complete-in zero le =
+      let l = f .len in
+      getD-set-other Z 97 0 (must g) 0 (omega arith) ∙ getD-set-same F 0 (cond (nullable g) 1 0) 0 (omega arith)
+  complete-in (suc u) le = as-filled (suc u * 98) (omega arith) (omega arith) ∙ f .ends (suc u) (omega arith) (omega arith)
+
+  required-in : (u : ℕ) → u ≤ size g → getD (set Z 97 (must g)) (u * 98 + 97) 0 ≡ requiredIn g u
+  required-in zero le =
+      let l = len-Z in
+      getD-set-same Z 97 (must g) 0 (omega arith)
+  required-in (suc u) le = as-filled (suc u * 98 + 97) (omega arith) (omega arith) ∙ f .requires (suc u) (omega arith) (omega arith)
+
+  says : Says g (finished F (partOf g))
+  unfolding Z
+  says =
+      record {
+        len = length-set Z 97 (must g) ∙ len-Z;
+        next = next-in;
+        complete = complete-in;
+        required = required-in;
+      }
+
+-- The table that is filled while a model is read says what is computed of the model.
+pub table-says : (g : Group) → Numbered g 1 → size g ≤ 96 → Says g (tableOf g)
+table-says g gn to = says g gn to (fill g 1 blank) (fills g 1 blank (omega arith) (omega arith) gn (fresh-blank 1))

@@ -1,0 +1,126 @@
+-- Where the places of a numbered group stand, and what is false or bounded for that.
+use Prim.Native.Nat.{ℕ, _+_, _≤_, _<_}
+use mathlib.Core.Path.{_≡_, refl}
+use mathlib.Core.Logic.{⊎-elim}
+use mathlib.Core.Bool.{Bool, true, false, _&&_, _||_, not, cond}
+use native.Mathlib.Omega.{arith}
+use borrow.Author.Tests.{eq-eqb, ne-eqb}
+use Rattle.rules.specs.Walk.{Group, place, seq, alt, opt, plus}
+use Rattle.model_sets.specs.Sets.{size, Numbered, has, nullable, first, last, follow, must, mustAfter}
+use Rattle.model_table.specs.Cells.{below-or-from}
+
+or-false : {a b : Bool} → a ≡ false → b ≡ false → (a || b) ≡ false
+or-false {a} {b} x y = rw (x, y)
+
+or-left : {a : Bool} (b : Bool) → a ≡ true → (a || b) ≡ true
+or-left b x = rw x
+
+or-right : (a : Bool) {b : Bool} → b ≡ true → (a || b) ≡ true
+or-right true x = refl
+or-right false x = x
+
+neither-left : (a b : Bool) → (a || b) ≡ false → a ≡ false
+neither-left true b e = e
+neither-left false b e = refl
+
+neither-right : (a b : Bool) → (a || b) ≡ false → b ≡ false
+neither-right true true e = e
+neither-right true false e = refl
+neither-right false b e = e
+
+and-false-left : {a : Bool} (b : Bool) → a ≡ false → (a && b) ≡ false
+and-false-left b x = rw x
+
+and-false-right : (a : Bool) {b : Bool} → b ≡ false → (a && b) ≡ false
+and-false-right true x = x
+and-false-right false x = refl
+
+-- What is no place of a group neither begins nor ends it, and nothing follows it there.
+pub none-first : (g : Group) (p : ℕ) → has g p ≡ false → first g p ≡ false
+none-first (place n) p e = e
+none-first (seq g h) p e =
+    or-false (none-first g p (neither-left (has g p) (has h p) e))
+    (and-false-right (nullable g) (none-first h p (neither-right (has g p) (has h p) e)))
+none-first (alt g h) p e =
+    or-false (none-first g p (neither-left (has g p) (has h p) e)) (none-first h p (neither-right (has g p) (has h p) e))
+none-first (opt g) p e = none-first g p e
+none-first (plus g) p e = none-first g p e
+
+pub none-last : (g : Group) (p : ℕ) → has g p ≡ false → last g p ≡ false
+none-last (place n) p e = e
+none-last (seq g h) p e =
+    or-false (none-last h p (neither-right (has g p) (has h p) e))
+    (and-false-right (nullable h) (none-last g p (neither-left (has g p) (has h p) e)))
+none-last (alt g h) p e =
+    or-false (none-last g p (neither-left (has g p) (has h p) e)) (none-last h p (neither-right (has g p) (has h p) e))
+none-last (opt g) p e = none-last g p e
+none-last (plus g) p e = none-last g p e
+
+pub none-follow : (g : Group) (u p : ℕ) → has g u ≡ false → follow g u p ≡ false
+none-follow (place n) u p e = refl
+none-follow (seq g h) u p e =
+    or-false (none-follow g u p (neither-left (has g u) (has h u) e))
+    (or-false (none-follow h u p (neither-right (has g u) (has h u) e))
+    (and-false-left (first h p) (none-last g u (neither-left (has g u) (has h u) e))))
+none-follow (alt g h) u p e =
+    or-false (none-follow g u p (neither-left (has g u) (has h u) e)) (none-follow h u p (neither-right (has g u) (has h u) e))
+none-follow (opt g) u p e = none-follow g u p e
+none-follow (plus g) u p e = or-false (none-follow g u p e) (and-false-left (first g p) (none-last g u e))
+
+-- A group numbered from lo has the places [lo, lo + size).
+pub has-under : (g : Group) (lo p : ℕ) → Numbered g lo → p < lo → has g p ≡ false
+has-under (place n) lo p e lt = ne-eqb n p (λ q. omega arith)
+has-under (seq g h) lo p e lt = or-false (has-under g lo p (e .0) lt) (has-under h (lo + size g) p (e .1) (omega arith))
+has-under (alt g h) lo p e lt = or-false (has-under g lo p (e .0) lt) (has-under h (lo + size g) p (e .1) (omega arith))
+has-under (opt g) lo p e lt = has-under g lo p e lt
+has-under (plus g) lo p e lt = has-under g lo p e lt
+
+pub has-over : (g : Group) (lo p : ℕ) → Numbered g lo → lo + size g ≤ p → has g p ≡ false
+has-over (place n) lo p e le = ne-eqb n p (λ q. omega arith)
+has-over (seq g h) lo p e le = or-false (has-over g lo p (e .0) (omega arith)) (has-over h (lo + size g) p (e .1) (omega arith))
+has-over (alt g h) lo p e le = or-false (has-over g lo p (e .0) (omega arith)) (has-over h (lo + size g) p (e .1) (omega arith))
+has-over (opt g) lo p e le = has-over g lo p e le
+has-over (plus g) lo p e le = has-over g lo p e le
+
+pub has-inside : (g : Group) (lo p : ℕ) → Numbered g lo → lo ≤ p → p < lo + size g → has g p ≡ true
+has-inside (place n) lo p e ge lt = eq-eqb n p (omega arith)
+has-inside (seq g h) lo p e ge lt =
+    ⊎-elim (λ (to : p < lo + size g). or-left (has h p) (has-inside g lo p (e .0) ge to))
+    (λ (from : lo + size g ≤ p). or-right (has g p) (has-inside h (lo + size g) p (e .1) from (omega arith)))
+    (below-or-from p (lo + size g))
+has-inside (alt g h) lo p e ge lt =
+    ⊎-elim (λ (to : p < lo + size g). or-left (has h p) (has-inside g lo p (e .0) ge to))
+    (λ (from : lo + size g ≤ p). or-right (has g p) (has-inside h (lo + size g) p (e .1) from (omega arith)))
+    (below-or-from p (lo + size g))
+has-inside (opt g) lo p e ge lt = has-inside g lo p e ge lt
+has-inside (plus g) lo p e ge lt = has-inside g lo p e ge lt
+
+cond-less : (b : Bool) (x y m : ℕ) → x < m → y < m → cond b x y < m
+cond-less true x y m h k = h
+cond-less false x y m h k = k
+
+-- A required place is one of the group, or 0.
+pub must-less : (g : Group) (lo : ℕ) → Numbered g lo → 1 ≤ lo → must g < lo + size g
+must-less (place n) lo e from = omega arith
+must-less (seq g h) lo e from =
+    let x = must-less g lo (e .0) from in
+    let y = must-less h (lo + size g) (e .1) (omega arith) in
+    cond-less (nullable g) (must h) (must g) (lo + (size g + size h)) (omega arith) (omega arith)
+must-less (alt g h) lo e from = omega arith
+must-less (opt g) lo e from = omega arith
+must-less (plus g) lo e from = must-less g lo e from
+
+pub mustAfter-less : (g : Group) (lo u : ℕ) → Numbered g lo → 1 ≤ lo → mustAfter g u < lo + size g
+mustAfter-less (place n) lo u e from = omega arith
+mustAfter-less (seq g h) lo u e from =
+    let x = mustAfter-less g lo u (e .0) from in
+    let y = mustAfter-less h (lo + size g) u (e .1) (omega arith) in
+    let z = must-less h (lo + size g) (e .1) (omega arith) in
+    cond-less (has h u) (mustAfter h u) (cond (last g u && not (nullable h)) (must h) (mustAfter g u)) (lo + (size g + size h)) (omega arith)
+    (cond-less (last g u && not (nullable h)) (must h) (mustAfter g u) (lo + (size g + size h)) (omega arith) (omega arith))
+mustAfter-less (alt g h) lo u e from =
+    let x = mustAfter-less g lo u (e .0) from in
+    let y = mustAfter-less h (lo + size g) u (e .1) (omega arith) in
+    cond-less (has h u) (mustAfter h u) (mustAfter g u) (lo + (size g + size h)) (omega arith) (omega arith)
+mustAfter-less (opt g) lo u e from = mustAfter-less g lo u e from
+mustAfter-less (plus g) lo u e from = mustAfter-less g lo u e from
