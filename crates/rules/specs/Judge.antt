@@ -1,5 +1,5 @@
 -- The type judge's answer and what its lent buffer holds after (paper 01, "What the reader takes and gives", "Refusal numbers", order).
-use Prim.Native.Nat.{ℕ, zero, suc, _+_, _-_, _*_, _<_, _≤_}
+use Prim.Native.Nat.{ℕ, zero, suc, _+_, _-_, _*_, _/_, _%_, _<_, _≤_}
 use mathlib.Core.Path.{_≡_}
 use mathlib.Core.Bool.{Bool}
 use mathlib.Core.List.{List, [], _∷_, _++_}
@@ -91,3 +91,13 @@ pub record Accepts (s : List ℕ) (es : List Element) : Type 0 where
 pub data Judged (s before : List ℕ) (a : Answer) (after : List ℕ) : Type 0 where
   refuses : Refuses s (length before) a → after ≡ replicate (length before) 0 → Judged s before a after
   accepts : (es : List Element) → Accepts s es → 6 * length es ≤ length before → a ≡ acceptance (length es) → after ≡ records es ++ drop (6 * length es) before → Judged s before a after
+
+-- "The numbers in the lent buffer then standing as four bytes each, low byte first."
+unfoldable pub bytesOf : List ℕ → List ℕ
+bytesOf [] = []
+bytesOf (n ∷ ns) = n % 256 ∷ n / 256 % 256 ∷ n / 65536 % 256 ∷ n / 16777216 % 256 ∷ bytesOf ns
+
+-- The same call on a buffer of bytes: "one to three bytes over at the end hold no number and are zeroed by a refusal".
+pub data JudgedBytes (s before : List ℕ) (a : Answer) (after : List ℕ) : Type 0 where
+  refuses : Refuses s (length before / 4) a → after ≡ replicate (length before) 0 → JudgedBytes s before a after
+  accepts : (es : List Element) → Accepts s es → 6 * length es ≤ length before / 4 → a ≡ acceptance (length es) → after ≡ bytesOf (records es) ++ drop (24 * length es) before → JudgedBytes s before a after

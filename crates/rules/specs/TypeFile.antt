@@ -73,6 +73,11 @@ PCDATA = 80 ∷ 67 ∷ 68 ∷ 65 ∷ 84 ∷ 65 ∷ []
 abbrev pub O : List ℕ
 O = 79 ∷ []
 
+-- The input ends within the word from `at` to `end`, which could have gone on as the given one: then no byte of it is unfit, and
+-- number 4 stands at the input's end and not at the word's first byte.
+abbrev pub isCut : List ℕ → ℕ → ℕ → List ℕ → Bool
+isCut s at end w = leb (length s) end && (ltb (end - at) (length w) && sameText s at w 0 (end - at))
+
 -- Two names, each by its position and size, are the same name folded.
 abbrev pub sameName : List ℕ → ℕ → ℕ → ℕ → ℕ → Bool
 sameName s a m b n = elim (eqb m n) [ true ↦ sameText s a s b n | false ↦ false ]
@@ -127,9 +132,9 @@ dataToken s at full ps n =
           | true ↦ refused 6 at
           | false ↦ got (record { group = star (newPlace ps); at = e; places = ps ++ record { at = at; size = 0 } ∷ []; tokens = n + 1 })
         ]
-        | false ↦ refused 4 at
+        | false ↦ elim (isCut s (at + 1) e PCDATA) [ true ↦ refused 4 (length s) | false ↦ refused 4 at ]
       ]
-      | false ↦ elim full [ true ↦ refused 6 at | false ↦ refused 4 (at + 1) ]
+      | false ↦ refused 4 (at + 1)
     ]
 
 -- A content token: "a name, a name with an indicator, `#PCDATA`, or a group with or without an indicator".
@@ -152,25 +157,35 @@ token inner s at full ps n =
 abbrev pub join : ℕ → Group → Group → Group
 join b g h = elim (eqb b 44) [ true ↦ seq g h | false ↦ alt g h ]
 
--- The rest of a group of which `t` was read, k content tokens joined by the connector c (0: none yet).
--- `left` is how many more it may have; where it is 0 the token was refused already.
-unfoldable pub members : (ℕ → List Place → ℕ → Reading Tokens) → List ℕ → (left : ℕ) → ℕ → ℕ → Tokens → Reading Tokens
-members inner s zero k c t = refused 6 (t .at)
-members inner s (suc left) k c t =
+-- What follows a content token of a group: the group's ")", or a connector and a further content token.
+pub data Further : Type 0 where
+  closed : Tokens → Further
+  joined : (connector : ℕ) → Tokens → Further
+
+-- What follows when `t` was read of the group: k content tokens joined by the connector c (0: none yet).
+-- "&" as connector is number 5.
+unfoldable pub further : (ℕ → List Place → ℕ → Reading Tokens) → List ℕ → (k c : ℕ) → Tokens → Reading Further
+further inner s k c t =
     let i = separatorsEnd s (t .at) in
     let b = byteAt s i in
-    let j = separatorsEnd s (i + 1) in
     elim (eqb b 41) [
-      | true ↦ got (record { group = t .group; at = i + 1; places = t .places; tokens = t .tokens })
+      | true ↦ got (closed (record { group = t .group; at = i + 1; places = t .places; tokens = t .tokens }))
       | false ↦ elim (eqb b 38 || eqb b 37) [
         | true ↦ refused 5 i
         | false ↦ elim ((eqb b 44 || eqb b 124) && (eqb c 0 || eqb c b)) [
-          | true ↦ andThen (token inner s j (leb GRPCNT k || leb GRPGTCNT (t .tokens)) (t .places) (t .tokens))
-              (λ u. members inner s left (k + 1) b (record { group = join b (t .group) (u .group); at = u .at; places = u .places; tokens = u .tokens }))
+          | true ↦ andThen
+              (token inner s (separatorsEnd s (i + 1)) (leb GRPCNT k || leb GRPGTCNT (t .tokens)) (t .places) (t .tokens))
+              (λ u. got (joined b (record { group = join b (t .group) (u .group); at = u .at; places = u .places; tokens = u .tokens })))
           | false ↦ refused 4 i
         ]
       ]
     ]
+
+-- The rest of the group. `left` is how many more content tokens it may have; where it is 0 the token was refused already.
+unfoldable pub members : (ℕ → List Place → ℕ → Reading Tokens) → List ℕ → (left k c : ℕ) → Tokens → Reading Tokens
+members inner s zero k c t = refused 6 (t .at)
+members inner s (suc left) k c t =
+    andThen (further inner s k c t) (elim [ closed u ↦ got u | joined b u ↦ members inner s left (k + 1) b u ])
 
 -- A group whose "(" stands at `at`, with `levels` group levels left.
 unfoldable pub group : (levels : ℕ) → List ℕ → ℕ → List Place → ℕ → Reading Tokens
@@ -198,9 +213,9 @@ unfoldable pub isDeclared : List ℕ → List Element → ℕ → ℕ → Bool
 isDeclared s [] at size = false
 isDeclared s (e ∷ es) at size = elim (sameName s (e .at) (e .size) at size) [ true ↦ true | false ↦ isDeclared s es at size ]
 
--- A byte that fits nowhere between parameters. A "-" could still open a comment: then the byte after it is the unfit one.
+-- What fits nowhere between parameters is number 4 there. But a "-" at the input's end could still have opened a comment.
 abbrev pub unfit : {A : Type 0} → List ℕ → ℕ → Reading A
-unfit s i = elim (eqb (byteAt s i) 45) [ true ↦ refused 4 (i + 1) | false ↦ refused 4 i ]
+unfit s i = elim (eqb (byteAt s i) 45 && leb (length s) (i + 1)) [ true ↦ refused 4 (length s) | false ↦ refused 4 i ]
 
 -- The element's name, and where it ends. "A group as element name" is number 5.
 unfoldable pub elementName : List ℕ → ℕ → List Element → Reading ℕ
@@ -245,15 +260,20 @@ pub record Head : Type 0 where
   pub end : ℕ
   pub at : ℕ
 
-unfoldable pub head : List ℕ → ℕ → List Element → Reading Head
-head s at es =
-    andThen (gap s at) λ i.
-    andThen (elementName s i es) λ e.
+-- The two words after the name from i to e.
+unfoldable pub words : List ℕ → (i e : ℕ) → Reading Head
+words s i e =
     andThen (gap s e) λ j.
     andThen (omission s e j) λ a.
     andThen (gap s (a .at)) λ k.
     andThen (omission s (a .at) k) λ b.
     got (record { name = i; size = e - i; start = a .value; end = b .value; at = b .at })
+
+unfoldable pub head : List ℕ → ℕ → List Element → Reading Head
+head s at es =
+    andThen (gap s at) λ i.
+    andThen (elementName s i es) λ e.
+    words s i e
 
 -- What was read of the content and where it ends.
 pub record ContentEnd : Type 0 where
@@ -268,7 +288,10 @@ contentWord s from i =
       | true ↦ refused 3 i
       | false ↦ elim (ltb from i && isWord s i e EMPTY) [
         | true ↦ got (record { content = empty; at = e })
-        | false ↦ elim (isWord s i e ANY || isWord s i e CDATA || isWord s i e RCDATA) [ true ↦ refused 5 i | false ↦ refused 4 i ]
+        | false ↦ elim (isWord s i e ANY || isWord s i e CDATA || isWord s i e RCDATA) [
+          | true ↦ refused 5 i
+          | false ↦ elim (ltb from i && isCut s i e EMPTY) [ true ↦ refused 4 (length s) | false ↦ refused 4 i ]
+        ]
       ]
     ]
 
@@ -300,15 +323,18 @@ pub record Declared : Type 0 where
   pub elements : List Element
   pub at : ℕ
 
--- An element declaration whose keyword ends at `at`.
-unfoldable pub element : List ℕ → ℕ → List Element → Reading Declared
-element s at es =
-    andThen (head s at es) λ h.
+-- What follows the head: the content and the end of the declaration.
+unfoldable pub rest : List ℕ → List Element → Head → Reading Declared
+rest s es h =
     andThen (gap s (h .at)) λ i.
     andThen (content s (h .at) i) λ c.
     andThen (gap s (c .at)) λ j.
     andThen (close s j) λ k.
     got (record { elements = es ++ record { at = h .name; size = h .size; start = h .start; end = h .end; content = c .content } ∷ []; at = k })
+
+-- An element declaration whose keyword ends at `at`.
+unfoldable pub element : List ℕ → ℕ → List Element → Reading Declared
+element s at es = andThen (head s at es) (rest s es)
 
 -- The type file
 
