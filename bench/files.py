@@ -1,0 +1,43 @@
+# files.py - writes the type files of the benchmark into a folder: python3 files.py FOLDER
+import os
+import sys
+
+folder = sys.argv[1]
+os.makedirs(folder, exist_ok=True)
+
+
+def write(name, text):
+    with open(os.path.join(folder, name + ".type"), "w") as f:
+        f.write(text)
+
+
+def tokens(first, count, connector, suffix=""):
+    return connector.join("N%d%s" % (first + i, suffix) for i in range(count))
+
+
+def model(count, outer, inner, suffix=""):
+    """A content model of `count` content tokens: groups of up to 31 names, each group a token itself."""
+    groups, left, first = [], count, 0
+    while left > 1:
+        n = min(31, left - 1)
+        groups.append("(" + tokens(first, n, inner, suffix) + ")")
+        left -= n + 1
+        first += n
+    return "(" + outer.join(groups) + ")"
+
+
+def elements(n, content):
+    return "".join("<!ELEMENT E%d - O %s>\n" % (k, content) for k in range(n))
+
+
+write("T", "<!ELEMENT LIST O O (ITEM+)><!ELEMENT ITEM O O (NAME,QTY?)><!ELEMENT NAME O O (#PCDATA)><!ELEMENT QTY - O (#PCDATA)>")
+typical = "<!-- a catalogue -->\n<!ELEMENT LIST O O (HEAD?,(SECTION|ITEM)+)>\n<!ELEMENT HEAD - O (#PCDATA)>\n"
+for k in range(24):
+    typical += "<!ELEMENT P%d - O (NAME%d,(QTY%d|UNIT%d)*,NOTE%d?)> -- parts --\n".replace(" -- parts --", "") % ((k,) * 5)
+write("typical", typical + "<!ELEMENT ITEM O O (NAME,QTY?,PAR?)>\n")
+write("largest-sequence", elements(64, model(96, ",", ",")))
+write("largest-choice", elements(64, model(96, ",", "|")))
+write("largest-optional", elements(64, model(96, ",", ",", "?")))
+write("largest-repeated", elements(64, model(96, "|", "|") + "+"))
+for n in (8, 16, 32, 64, 96):
+    write("tokens-%02d" % n, elements(64, model(n, ",", "|")))

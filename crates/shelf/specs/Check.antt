@@ -1,0 +1,109 @@
+-- A computed test of what the rules say of a type file with one element, and that it is right.
+use Prim.Native.Nat.{ℕ, zero, suc, _+_, _-_, _≤_}
+use mathlib.Core.Path.{_≡_, refl, sym, _∙_, ap, subst}
+use mathlib.Core.Bool.{Bool, true, false, _&&_}
+use mathlib.Core.List.{List, [], _∷_}
+use lib.Dec.{eqb}
+use borrow.Author.Tests.{eqb-true}
+use native.Mathlib.Omega.{arith}
+use Rattle.rules.specs.Walk.{Group, place, seq, alt, opt, plus}
+use Rattle.rules.specs.Reading.{Reading, refused, got}
+use Rattle.rules.specs.TypeFile.{Place, Content, empty, model, Element, typeFile}
+use Rattle.rules.specs.Judge.{samePlace, placeAt, Unambiguous, AllUnambiguous, PairStandsAt, FirstAmbiguous, here}
+use Rattle.model_sets.specs.Bits.{and-left, and-right}
+use Rattle.model_sets.specs.Sets.{size, Numbered}
+use Rattle.model_sets.specs.Pairs.{firstPairOf, firstPairOf-none, firstPairOf-is}
+
+-- A type file, and the pair that the judge must name in it; both 0 where it must accept it.
+pub record Example : Type 0 where
+  pub text : List ℕ
+  pub first : ℕ
+  pub second : ℕ
+
+-- The rules read the type, and name just that pair, or no pair is at fault.
+abbrev pub Named : List ℕ → ℕ → ℕ → List Element → Type 0
+Named s zero q es = AllUnambiguous s es
+Named s (suc p) q es = (k : ℕ) × FirstAmbiguous s k (suc p) q es
+
+pub record Right (x : Example) : Type 0 where
+  pub elements : List Element
+  pub reads : typeFile (x .text) ≡ got elements
+  pub named : Named (x .text) (x .first) (x .second) elements
+
+unfoldable pub isNumbered : Group → ℕ → Bool
+isNumbered (place n) lo = eqb n lo
+isNumbered (seq g h) lo = isNumbered g lo && isNumbered h (lo + size g)
+isNumbered (alt g h) lo = isNumbered g lo && isNumbered h (lo + size g)
+isNumbered (opt g) lo = isNumbered g lo
+isNumbered (plus g) lo = isNumbered g lo
+
+numbered : (g : Group) (lo : ℕ) → isNumbered g lo ≡ true → Numbered g lo
+unfolding isNumbered
+numbered (place n) lo e = eqb-true n lo e
+numbered (seq g h) lo e =
+    (numbered g lo (and-left (isNumbered g lo) _ e), numbered h (lo + size g) (and-right (isNumbered g lo) _ e))
+numbered (alt g h) lo e =
+    (numbered g lo (and-left (isNumbered g lo) _ e), numbered h (lo + size g) (and-right (isNumbered g lo) _ e))
+numbered (opt g) lo e = numbered g lo e
+numbered (plus g) lo e = numbered g lo e
+
+-- the two numbers are those of a pair
+unfoldable pub isPair : ℕ × ℕ → ℕ → ℕ → Bool
+isPair r p q = eqb (r .0) p && eqb (r .1) q
+
+unfoldable pub ofContent : List ℕ → ℕ → ℕ → Content → Bool
+ofContent s p q empty = false
+ofContent s p q (model g ps n) = isNumbered g 1 && isPair (firstPairOf (samePlace s ps) g) p q
+
+unfoldable pub readsAs : List ℕ → ℕ → ℕ → Reading (List Element) → Bool
+readsAs s p q (refused n k) = false
+readsAs s p q (got []) = false
+readsAs s p q (got (e ∷ [])) = ofContent s p q (e .content)
+readsAs s p q (got (e ∷ (f ∷ es))) = false
+
+false-is : {A : Type 0} → false ≡ true → A
+false-is e = let z : _≡_ {A = ℕ} 0 1 = cc in absurd (omega arith)
+
+pair-is : (r : ℕ × ℕ) (p q : ℕ) → isPair r p q ≡ true → (r .0 ≡ p) × (r .1 ≡ q)
+unfolding isPair
+pair-is r p q e = (eqb-true (r .0) p (and-left (eqb (r .0) p) _ e), eqb-true (r .1) q (and-right (eqb (r .0) p) _ e))
+
+-- what the test says of one content model, in the rules' terms
+module _ (s : List ℕ) (e : Element) where
+  named-in : (p q : ℕ) (c : Content) → e .content ≡ c → ofContent s p q c ≡ true → Named s p q (e ∷ [])
+  unfolding ofContent
+  named-in p q empty is t = false-is t
+  named-in zero q (model g ps n) is t =
+      let pair = pair-is (firstPairOf (samePlace s ps) g) zero q (and-right (isNumbered g 1) _ t) in
+      (subst (Unambiguous s) (sym is) (firstPairOf-none (samePlace s ps) g (numbered g 1 (and-left (isNumbered g 1) _ t)) (pair .0)), tt)
+  named-in (suc p) q (model g ps n) is t =
+      let pair = pair-is (firstPairOf (samePlace s ps) g) (suc p) q (and-right (isNumbered g 1) _ t) in
+      let found = firstPairOf-is (samePlace s ps) g (numbered g 1 (and-left (isNumbered g 1) _ t)) (suc p) q (λ i. (pair .0 i, pair .1 i)) (omega arith) in
+      (placeAt ps (q - 1) .at, here (subst (λ (c : Content). PairStandsAt s c (placeAt ps (q - 1) .at) (suc p) q) (sym is) (found, refl)))
+
+unfoldable pub test : Example → Bool
+test x = readsAs (x .text) (x .first) (x .second) (typeFile (x .text))
+
+pub right : (x : Example) → test x ≡ true → Right x
+unfolding test readsAs
+right x t = go (typeFile (x .text)) refl t
+  where
+    go : (r : Reading (List Element)) → typeFile (x .text) ≡ r → readsAs (x .text) (x .first) (x .second) r ≡ true → Right x
+    go (refused n k) is u = false-is u
+    go (got []) is u = false-is u
+    go (got (e ∷ [])) is u = record { elements = e ∷ []; reads = is; named = named-in (x .text) e (x .first) (x .second) (e .content) refl u }
+    go (got (e ∷ (f ∷ es))) is u = false-is u
+
+-- a list of examples of which each passes the test
+abbrev pub AllRight : List Example → Type 0
+AllRight [] = Unit {0}
+AllRight (x ∷ xs) = Right x × AllRight xs
+
+unfoldable pub allPass : List Example → Bool
+allPass [] = true
+allPass (x ∷ xs) = test x && allPass xs
+
+pub all-right : (xs : List Example) → allPass xs ≡ true → AllRight xs
+unfolding allPass
+all-right [] t = tt
+all-right (x ∷ xs) t = (right x (and-left (test x) _ t), all-right xs (and-right (test x) _ t))

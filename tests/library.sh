@@ -1,0 +1,30 @@
+# The proved library behind its C interface: the header, the vectors, and generated type files held against the second implementation.
+set -eu
+cd "$(dirname "$0")/.."
+out=target/tests
+mkdir -p "$out"
+command -v rustc >/dev/null || { apt-get update -qq && apt-get install -y -qq rustc >/dev/null; }
+rt staticlib sgml >"$out/staticlib.log" 2>&1 || { cat "$out/staticlib.log"; exit 1; }
+
+echo "the header as C99 and as C++"
+echo '#include "sgml.h"' >"$out/header.c"
+cc -std=c99 -Wall -Wextra -pedantic -Werror -Iinclude -c "$out/header.c" -o "$out/header.o"
+c++ -Wall -Wextra -pedantic -Werror -Iinclude -x c++ -c "$out/header.c" -o "$out/header.o"
+
+echo "the second implementation on the vectors, and on all walks of small models"
+rustc -O --edition 2021 tests/oracle/vectors.rs -o "$out/vectors"
+"$out/vectors" tests/vectors
+rustc -O --edition 2021 tests/oracle/walks.rs -o "$out/walks"
+"$out/walks" 3000 1
+
+echo "the library's boundary in C"
+cc -std=c99 -Wall -Wextra -pedantic -Werror -g -Iinclude tests/boundary.c target/staticlib/libsgml.a -o "$out/boundary"
+"$out/boundary"
+
+echo "the library on the vectors"
+cc -std=c99 -Wall -Wextra -pedantic -Werror -O2 -Iinclude tests/judged.c target/staticlib/libsgml.a -o "$out/judged"
+"$out/judged" tests/vectors/*/*/
+
+echo "the library against the second implementation, on generated and damaged type files"
+rustc -O --edition 2021 tests/oracle/compare.rs -L target/staticlib -l static=sgml -o "$out/compare"
+"$out/compare" "${CASES:-100000}" "${SEED:-1}"

@@ -1,0 +1,1103 @@
+//! Second implementation of the type judge and the document reader, written from the paper alone
+//! and as plainly as we could, to be held against the first. NOTES.md numbers the open points.
+
+use std::collections::{BTreeMap, BTreeSet};
+
+const NAMELEN: usize = 8;
+const GRPCNT: usize = 32;
+const GRPLVL: usize = 16;
+const GRPGTCNT: usize = 96;
+const TAGLVL: usize = 24;
+const TYPE_BYTES: usize = 32_768;
+const DOCUMENT_BYTES: usize = 65_535;
+const ELEMENTS: usize = 64;
+
+const IN_TYPE: u32 = 1;
+const IN_DOCUMENT: u32 = 2;
+
+const NUMBERS_PER_ELEMENT: usize = 6;
+const NUMBERS_PER_EVENT: usize = 4;
+
+/// The full answer of either call; number 0 is acceptance.
+#[derive(Clone, Copy, Debug, Default, PartialEq, Eq)]
+pub struct Answer {
+    pub number: u32,
+    pub input: u32,
+    pub position: u32,
+    /// The pair at fault under number 9, else 0 and 0.
+    pub first: u32,
+    pub second: u32,
+    /// Records written: elements for the judge, events for the reader.
+    pub count: u32,
+}
+
+/// Judges the type file; an accepted one leaves six numbers per element in `buffer`.
+pub fn judge(type_file: &[u8], buffer: &mut [u32]) -> Answer {
+    let elements = check_length(type_file, TYPE_BYTES, IN_TYPE)
+        .and_then(|()| check_bytes(type_file, IN_TYPE))
+        .and_then(|()| judged(type_file));
+    let numbers = elements.map(|elements| elements.iter().flat_map(Element::record).collect());
+    hand_over(numbers, NUMBERS_PER_ELEMENT, IN_TYPE, buffer)
+}
+
+/// Reads the document under the type file; an accepted one leaves four numbers per event.
+pub fn read(type_file: &[u8], document: &[u8], buffer: &mut [u32]) -> Answer {
+    let numbers = events(type_file, document).map(|events| events.concat());
+    hand_over(numbers, NUMBERS_PER_EVENT, IN_DOCUMENT, buffer)
+}
+
+/// A refusal, in the order of the answer's numbers.
+struct Refusal {
+    number: u32,
+    input: u32,
+    position: usize,
+    pair: (usize, usize),
+}
+
+impl Refusal {
+    fn new(number: u32, input: u32, position: usize) -> Self {
+        Refusal {
+            number,
+            input,
+            position,
+            pair: (0, 0),
+        }
+    }
+
+    fn answer(&self) -> Answer {
+        Answer {
+            number: self.number,
+            input: self.input,
+            position: self.position as u32,
+            first: self.pair.0 as u32,
+            second: self.pair.1 as u32,
+            count: 0,
+        }
+    }
+}
+
+/// Puts the numbers in the lent buffer, or zeroes it: number 19 comes after everything else.
+fn hand_over(
+    numbers: Result<Vec<u32>, Refusal>,
+    per_record: usize,
+    input_of_19: u32,
+    buffer: &mut [u32],
+) -> Answer {
+    let fitting = numbers.and_then(|numbers| match numbers.len() <= buffer.len() {
+        true => Ok(numbers),
+        false => Err(Refusal::new(19, input_of_19, 0)),
+    });
+    match fitting {
+        Ok(numbers) => {
+            buffer[..numbers.len()].copy_from_slice(&numbers);
+            Answer {
+                count: (numbers.len() / per_record) as u32,
+                ..Answer::default()
+            }
+        }
+        Err(refusal) => {
+            buffer.fill(0);
+            refusal.answer()
+        }
+    }
+}
+
+/// Order of the paper: 1 type, 1 document, 2 type, 2 document, the type's 3 to 9, the document.
+fn events(type_file: &[u8], document: &[u8]) -> Result<Vec<[u32; NUMBERS_PER_EVENT]>, Refusal> {
+    check_length(type_file, TYPE_BYTES, IN_TYPE)?;
+    check_length(document, DOCUMENT_BYTES, IN_DOCUMENT)?;
+    check_bytes(type_file, IN_TYPE)?;
+    check_bytes(document, IN_DOCUMENT)?;
+    let elements = judged(type_file)?;
+    read_document(&elements, document)
+        .map_err(|(position, number)| Refusal::new(number, IN_DOCUMENT, position))
+}
+
+/// Number 1.
+fn check_length(bytes: &[u8], limit: usize, input: u32) -> Result<(), Refusal> {
+    match bytes.len() > limit {
+        true => Err(Refusal::new(1, input, 0)),
+        false => Ok(()),
+    }
+}
+
+/// Number 2.
+fn check_bytes(bytes: &[u8], input: u32) -> Result<(), Refusal> {
+    match bytes
+        .iter()
+        .position(|&byte| !is_separator(byte) && !(32..=126).contains(&byte))
+    {
+        Some(position) => Err(Refusal::new(2, input, position)),
+        None => Ok(()),
+    }
+}
+
+/// Numbers 3 to 8 over the whole type file, then 9 over its models in turn.
+fn judged(type_file: &[u8]) -> Result<Vec<Element>, Refusal> {
+    let elements = TypeReader {
+        bytes: type_file,
+        at: 0,
+        elements: Vec::new(),
+    }
+    .elements()
+    .map_err(|(position, number)| Refusal::new(number, IN_TYPE, position))?;
+    for model in elements.iter().filter_map(|element| element.model.as_ref()) {
+        if let Some((first, second)) = model.pair_at_fault() {
+            let position = model.places[second].position;
+            let pair = (first + 1, second + 1);
+            return Err(Refusal {
+                number: 9,
+                input: IN_TYPE,
+                position,
+                pair,
+            });
+        }
+    }
+    Ok(elements)
+}
+
+fn is_separator(byte: u8) -> bool {
+    matches!(byte, 9 | 10 | 13 | 32)
+}
+
+fn is_name_byte(byte: u8) -> bool {
+    byte.is_ascii_alphanumeric() || byte == b'.' || byte == b'-'
+}
+
+/// Position and number. Ordered as the paper orders 3 to 8: earliest position, then lower number.
+type Fault = (usize, u32);
+
+/// Folded text of the longest name at `start`.
+fn longest_name(bytes: &[u8], start: usize) -> String {
+    let name = bytes[start..]
+        .iter()
+        .take_while(|&&byte| is_name_byte(byte));
+    name.map(|byte| byte.to_ascii_uppercase() as char).collect()
+}
+
+/// Offset after the first `end` that stands whole in `bytes` at or after `from`.
+fn after_first(bytes: &[u8], from: usize, end: &[u8]) -> Option<usize> {
+    let found = bytes[from..]
+        .windows(end.len())
+        .position(|window| window == end)?;
+    Some(from + found + end.len())
+}
+
+// ---------------------------------------------------------------------------------------------
+// Content models and their walks
+
+const PCDATA: &str = "#PCDATA";
+
+#[derive(Clone, Copy, PartialEq)]
+enum Occurrence {
+    One,
+    Optional,
+    OneOrMore,
+    AnyNumber,
+}
+
+#[derive(Clone, Copy, PartialEq)]
+enum Connector {
+    Sequence,
+    Choice,
+}
+
+/// A content token, or the outermost group, without its occurrence indicator.
+enum Form {
+    Place(usize),
+    Group(Connector, Vec<usize>),
+}
+
+struct ContentToken {
+    form: Form,
+    occurrence: Occurrence,
+}
+
+/// A name or `#PCDATA` of a model; places count from 0 here and from 1 in answers.
+struct Place {
+    name: String,
+    position: usize,
+}
+
+/// A content model. Tokens refer to each other by number; the outermost group is the last.
+struct Model {
+    tokens: Vec<ContentToken>,
+    places: Vec<Place>,
+}
+
+/// One thing still to be walked.
+#[derive(Clone, Copy, PartialEq, Eq, PartialOrd, Ord)]
+enum Due {
+    /// A token with its occurrence indicator.
+    Token(usize),
+    /// Any number of further walks through a token without its indicator.
+    Again(usize),
+    /// The members of a sequence group from a given one on.
+    Members(usize, usize),
+}
+
+/// All that is still to be walked, in turn, the next thing last.
+type Stack = Vec<Due>;
+
+/// What may follow the places taken: any one of the stacks, walked to its end. This is the
+/// derivative of the model by the places taken, in parts as by Antimirov.
+type Remainder = BTreeSet<Stack>;
+
+impl Model {
+    fn start(&self) -> Remainder {
+        BTreeSet::from([vec![Due::Token(self.tokens.len() - 1)]])
+    }
+
+    /// The places that may come next, each with what remains once it is taken.
+    fn next(&self, remainder: &Remainder) -> BTreeMap<usize, Remainder> {
+        let mut next: BTreeMap<usize, Remainder> = BTreeMap::new();
+        for stack in remainder {
+            let mut below = stack.clone();
+            while let Some(due) = below.pop() {
+                self.enter(due, &mut below, &mut next);
+                if !self.can_be_empty(due) {
+                    break;
+                }
+            }
+        }
+        next
+    }
+
+    /// Adds each place that may come first in `due`, with what remains above `below` after it.
+    fn enter(&self, due: Due, below: &mut Stack, next: &mut BTreeMap<usize, Remainder>) {
+        let depth = below.len();
+        match due {
+            Due::Token(token) => {
+                if self.repeats(token) {
+                    below.push(Due::Again(token));
+                }
+                self.enter_form(token, below, next);
+            }
+            Due::Again(token) => {
+                below.push(Due::Again(token));
+                self.enter_form(token, below, next);
+            }
+            Due::Members(group, from) => {
+                let members = self.members(group);
+                for (index, &member) in members.iter().enumerate().skip(from) {
+                    if index + 1 < members.len() {
+                        below.push(Due::Members(group, index + 1));
+                    }
+                    self.enter(Due::Token(member), below, next);
+                    below.truncate(depth);
+                    if !self.can_be_empty(Due::Token(member)) {
+                        break;
+                    }
+                }
+            }
+        }
+        below.truncate(depth);
+    }
+
+    fn enter_form(&self, token: usize, below: &mut Stack, next: &mut BTreeMap<usize, Remainder>) {
+        match &self.tokens[token].form {
+            Form::Place(place) => {
+                next.entry(*place).or_default().insert(below.clone());
+            }
+            Form::Group(Connector::Sequence, _) => self.enter(Due::Members(token, 0), below, next),
+            Form::Group(Connector::Choice, members) => {
+                for &member in members {
+                    self.enter(Due::Token(member), below, next);
+                }
+            }
+        }
+    }
+
+    fn repeats(&self, token: usize) -> bool {
+        matches!(
+            self.tokens[token].occurrence,
+            Occurrence::OneOrMore | Occurrence::AnyNumber
+        )
+    }
+
+    fn members(&self, group: usize) -> &[usize] {
+        match &self.tokens[group].form {
+            Form::Group(_, members) => members,
+            Form::Place(_) => &[],
+        }
+    }
+
+    fn can_be_empty(&self, due: Due) -> bool {
+        self.can_avoid(due, |_| true)
+    }
+
+    /// Whether some walk through `due` passes no place of those `avoided`.
+    fn can_avoid(&self, due: Due, avoided: impl Fn(usize) -> bool + Copy) -> bool {
+        match due {
+            Due::Again(_) => true,
+            Due::Members(group, from) => self.members(group)[from..]
+                .iter()
+                .all(|&member| self.can_avoid(Due::Token(member), avoided)),
+            Due::Token(token) => match (self.tokens[token].occurrence, &self.tokens[token].form) {
+                (Occurrence::Optional | Occurrence::AnyNumber, _) => true,
+                (_, Form::Place(place)) => !avoided(*place),
+                (_, Form::Group(Connector::Sequence, _)) => {
+                    self.can_avoid(Due::Members(token, 0), avoided)
+                }
+                (_, Form::Group(Connector::Choice, members)) => members
+                    .iter()
+                    .any(|&member| self.can_avoid(Due::Token(member), avoided)),
+            },
+        }
+    }
+
+    /// Whether some walk through the remainder passes no place of those `avoided`.
+    fn can_end_avoiding(
+        &self,
+        remainder: &Remainder,
+        avoided: impl Fn(usize) -> bool + Copy,
+    ) -> bool {
+        remainder
+            .iter()
+            .any(|stack| stack.iter().all(|&due| self.can_avoid(due, avoided)))
+    }
+
+    /// The places taken are a walk.
+    fn complete(&self, remainder: &Remainder) -> bool {
+        self.can_end_avoiding(remainder, |_| true)
+    }
+
+    /// The place that may come next and that no walk from here on can do without. There is at
+    /// most one: of two, the walk that takes the one first would have to come round again for
+    /// the other, and "+" and "*" never force a second round.
+    fn required(&self, remainder: &Remainder) -> Option<usize> {
+        let next = self.next(remainder);
+        next.into_keys()
+            .find(|&place| !self.can_end_avoiding(remainder, |other| other == place))
+    }
+
+    /// The first pair of different places with one name that may both come next after some
+    /// sequence of places: looked for in every remainder that any sequence leaves.
+    fn pair_at_fault(&self) -> Option<(usize, usize)> {
+        let mut pairs = BTreeSet::new();
+        let mut seen = BTreeSet::new();
+        let mut waiting = vec![self.start()];
+        while let Some(remainder) = waiting.pop() {
+            if !seen.contains(&remainder) {
+                let next = self.next(&remainder);
+                pairs.extend(self.pairs_of_one_name(next.keys().copied().collect()));
+                waiting.extend(next.into_values());
+                seen.insert(remainder);
+            }
+        }
+        pairs.into_iter().next()
+    }
+
+    /// Pairs of one name among places in rising order.
+    fn pairs_of_one_name(&self, places: Vec<usize>) -> Vec<(usize, usize)> {
+        let mut pairs = Vec::new();
+        for (index, &first) in places.iter().enumerate() {
+            for &second in &places[index + 1..] {
+                if self.places[first].name == self.places[second].name {
+                    pairs.push((first, second));
+                }
+            }
+        }
+        pairs
+    }
+}
+
+// ---------------------------------------------------------------------------------------------
+// The type file
+
+struct Element {
+    name: String,
+    position: usize,
+    start_omissible: bool,
+    end_omissible: bool,
+    /// None is EMPTY.
+    model: Option<Model>,
+}
+
+impl Element {
+    fn record(&self) -> [u32; NUMBERS_PER_ELEMENT] {
+        // The outermost group is among the tokens of a model but isn't counted.
+        let tokens = self
+            .model
+            .as_ref()
+            .map_or(0, |model| model.tokens.len() - 1);
+        [
+            self.position as u32,
+            self.name.len() as u32,
+            self.start_omissible as u32,
+            self.end_omissible as u32,
+            self.model.is_some() as u32,
+            tokens as u32,
+        ]
+    }
+}
+
+struct TypeReader<'a> {
+    bytes: &'a [u8],
+    at: usize,
+    elements: Vec<Element>,
+}
+
+impl TypeReader<'_> {
+    fn elements(mut self) -> Result<Vec<Element>, Fault> {
+        loop {
+            self.skip_separators();
+            if self.at == self.bytes.len() {
+                break;
+            }
+            match self.bytes[self.at] {
+                b'<' => self.declaration()?,
+                b'%' => return Err((self.at, 5)),
+                _ => return Err((self.at, 4)),
+            }
+        }
+        match self.elements.is_empty() {
+            true => Err((self.bytes.len(), 8)),
+            false => Ok(self.elements),
+        }
+    }
+
+    /// The byte at hand; the input may not end here.
+    fn byte(&self) -> Result<u8, Fault> {
+        self.byte_after(0)
+    }
+
+    fn byte_after(&self, distance: usize) -> Result<u8, Fault> {
+        self.bytes
+            .get(self.at + distance)
+            .copied()
+            .ok_or((self.bytes.len(), 4))
+    }
+
+    fn skip_separators(&mut self) {
+        while self.at < self.bytes.len() && is_separator(self.bytes[self.at]) {
+            self.at += 1;
+        }
+    }
+
+    /// Goes past the longest name at hand, which begins with a letter. Number 3 is left to the
+    /// caller, since another fault may stand before it.
+    fn word(&mut self) -> String {
+        let word = longest_name(self.bytes, self.at);
+        self.at += word.len();
+        word
+    }
+
+    /// A word that begins with a letter, 1 to 8 long.
+    fn short_word(&mut self) -> Result<String, Fault> {
+        let start = self.at;
+        let word = self.word();
+        match word.len() > NAMELEN {
+            true => Err((start, 3)),
+            false => Ok(word),
+        }
+    }
+
+    /// Position of number 4 for a word just read that isn't the one that `fits`: where it stands,
+    /// but the end of input if that cut it short (open point 1).
+    fn wrong_word(&self, stands_at: usize, word: &str, fits: &str) -> Fault {
+        let cut_short = self.at == self.bytes.len() && fits.starts_with(word);
+        (if cut_short { self.at } else { stands_at }, 4)
+    }
+
+    /// From "<" to ">": a declaration, a comment declaration or `<!>`.
+    fn declaration(&mut self) -> Result<(), Fault> {
+        let start = self.at;
+        self.at += 1;
+        match self.byte()? {
+            b'!' => self.at += 1,
+            b'?' => return Err((start, 5)),
+            _ => return Err((self.at, 4)),
+        }
+        match self.byte()? {
+            b'>' => self.at += 1,
+            b'[' => return Err((start, 5)),
+            b'-' => self.comment_declaration()?,
+            byte if byte.is_ascii_alphabetic() => match self.short_word()?.as_str() {
+                "ELEMENT" => self.element_declaration()?,
+                // Also where the input ends within the keyword (open point 2).
+                _ => return Err((start, 5)),
+            },
+            _ => return Err((self.at, 4)),
+        }
+        Ok(())
+    }
+
+    /// What follows the `<!` of a comment declaration.
+    fn comment_declaration(&mut self) -> Result<(), Fault> {
+        if self.byte_after(1)? != b'-' {
+            return Err((self.at + 1, 4));
+        }
+        self.at = after_first(self.bytes, self.at + 2, b"-->").ok_or((self.bytes.len(), 4))?;
+        Ok(())
+    }
+
+    /// Separators and comments between parameters; says whether there were any.
+    fn parted(&mut self) -> Result<bool, Fault> {
+        let start = self.at;
+        loop {
+            self.skip_separators();
+            if self.bytes[self.at..].starts_with(b"--") {
+                let after = after_first(self.bytes, self.at + 2, b"--");
+                self.at = after.ok_or((self.bytes.len(), 4))?;
+            } else if self.bytes[self.at..].starts_with(b"%") {
+                return Err((self.at, 5));
+            } else {
+                return Ok(self.at > start);
+            }
+        }
+    }
+
+    /// What follows `<!ELEMENT`, up to and with ">".
+    fn element_declaration(&mut self) -> Result<(), Fault> {
+        self.parted()?;
+        let position = self.at;
+        let name = self.element_name()?;
+        let start_omissible = self.omission()?;
+        let end_omissible = self.omission()?;
+        let model = self.content()?;
+        self.declaration_close()?;
+        self.elements.push(Element {
+            name,
+            position,
+            start_omissible,
+            end_omissible,
+            model,
+        });
+        Ok(())
+    }
+
+    fn element_name(&mut self) -> Result<String, Fault> {
+        match self.byte()? {
+            b'(' => return Err((self.at, 5)),
+            byte if byte.is_ascii_alphabetic() => {}
+            _ => return Err(self.no_parameter()),
+        }
+        let position = self.at;
+        let name = self.short_word()?;
+        if self.elements.iter().any(|element| element.name == name) {
+            return Err((position, 7));
+        }
+        if self.elements.len() == ELEMENTS {
+            return Err((position, 8));
+        }
+        Ok(name)
+    }
+
+    /// The fault of a byte that begins neither a parameter due here nor, as `--`, a comment.
+    fn no_parameter(&self) -> Fault {
+        match &self.bytes[self.at..] {
+            // A second "-" could still follow and open a comment (open point 1).
+            b"-" => (self.bytes.len(), 4),
+            // A "-" by itself is a wrong word, so its own byte counts, not the next (open point 3).
+            _ => (self.at, 4),
+        }
+    }
+
+    /// A word "-" or "O"; true for "O".
+    fn omission(&mut self) -> Result<bool, Fault> {
+        let parted = self.parted()?;
+        let position = self.at;
+        let omissible = match self.byte()? {
+            b'-' => {
+                self.at += 1;
+                false
+            }
+            byte if byte.is_ascii_alphabetic() => match self.short_word()?.as_str() {
+                "O" => true,
+                _ => return Err((position, 4)),
+            },
+            _ => return Err((position, 4)),
+        };
+        match parted {
+            true => Ok(omissible),
+            false => Err((position, 4)),
+        }
+    }
+
+    /// EMPTY, which is None, or a group with or without an indicator.
+    fn content(&mut self) -> Result<Option<Model>, Fault> {
+        let parted = self.parted()?;
+        let position = self.at;
+        match self.byte()? {
+            b'(' => {
+                let mut model = Model {
+                    tokens: Vec::new(),
+                    places: Vec::new(),
+                };
+                let outermost = self.group(&mut model, 1, &mut 0)?;
+                model.tokens.push(outermost);
+                Ok(Some(model))
+            }
+            byte if byte.is_ascii_alphabetic() => match self.short_word()?.as_str() {
+                // What 5 names isn't 4 as well, so even where it isn't parted (open point 4).
+                "ANY" | "CDATA" | "RCDATA" => Err((position, 5)),
+                _ if !parted => Err((position, 4)),
+                "EMPTY" => Ok(None),
+                word => Err(self.wrong_word(position, word, "EMPTY")),
+            },
+            _ => Err(self.no_parameter()),
+        }
+    }
+
+    /// What follows the content: ">" and nothing else, but `-(` and `+(` are number 5. Any other
+    /// "+" is unfit by itself (open point 7).
+    fn declaration_close(&mut self) -> Result<(), Fault> {
+        self.parted()?;
+        match (self.byte()?, self.byte_after(1)) {
+            (b'>', _) => {
+                self.at += 1;
+                Ok(())
+            }
+            (b'-' | b'+', Ok(b'(')) => Err((self.at, 5)),
+            _ => Err(self.no_parameter()),
+        }
+    }
+
+    /// A group with its indicator, from its "(" on. `counted` is how many content tokens the model
+    /// has so far; it runs ahead of the tokens kept, since a group is kept after its members.
+    fn group(
+        &mut self,
+        model: &mut Model,
+        level: usize,
+        counted: &mut usize,
+    ) -> Result<ContentToken, Fault> {
+        if level > GRPLVL {
+            return Err((self.at, 6));
+        }
+        self.at += 1;
+        let mut members = Vec::new();
+        let mut connector = None;
+        loop {
+            let token = self.content_token(model, level, members.len(), counted)?;
+            model.tokens.push(token);
+            members.push(model.tokens.len() - 1);
+            match self.after_token(connector)? {
+                None => break,
+                joined => connector = joined,
+            }
+        }
+        let form = Form::Group(connector.unwrap_or(Connector::Sequence), members);
+        Ok(ContentToken {
+            form,
+            occurrence: self.indicator(),
+        })
+    }
+
+    /// A content token of a group that has `before` tokens already.
+    fn content_token(
+        &mut self,
+        model: &mut Model,
+        level: usize,
+        before: usize,
+        counted: &mut usize,
+    ) -> Result<ContentToken, Fault> {
+        self.skip_separators();
+        let position = self.at;
+        let too_many = before == GRPCNT || *counted == GRPGTCNT;
+        let first = self.byte()?;
+        *counted += 1;
+        let name = match first {
+            b'(' if too_many => return Err((position, 6)),
+            b'(' => return self.group(model, level + 1, counted),
+            b'#' => self.pcdata()?,
+            b'%' | b'[' => return Err((position, 5)),
+            byte if byte.is_ascii_alphabetic() => self.short_word()?,
+            _ => return Err((position, 4)),
+        };
+        // Only now: a name over 8 and a wrong word after "#" stand at the same byte with a lower
+        // number, and a "#" without a word is no token yet (open point 5).
+        if too_many {
+            return Err((position, 6));
+        }
+        // 11.2.4.2: `#PCDATA` counts as "*", and takes no indicator of its own.
+        let occurrence = if name == PCDATA {
+            Occurrence::AnyNumber
+        } else {
+            self.indicator()
+        };
+        model.places.push(Place { name, position });
+        Ok(ContentToken {
+            form: Form::Place(model.places.len() - 1),
+            occurrence,
+        })
+    }
+
+    /// `#PCDATA`, from its "#" on. A wrong word stands at the "#", also one over 8 long, whose
+    /// number 3 would stand one byte later (open point 6).
+    fn pcdata(&mut self) -> Result<String, Fault> {
+        let hash = self.at;
+        self.at += 1;
+        if !self.byte()?.is_ascii_alphabetic() {
+            return Err((self.at, 4));
+        }
+        match self.word().as_str() {
+            "PCDATA" => Ok(PCDATA.to_string()),
+            word => Err(self.wrong_word(hash, word, "PCDATA")),
+        }
+    }
+
+    /// The connector after a token, or None for ")". One kind of connector in a group.
+    fn after_token(&mut self, so_far: Option<Connector>) -> Result<Option<Connector>, Fault> {
+        self.skip_separators();
+        let position = self.at;
+        let found = match self.byte()? {
+            b')' => None,
+            b',' => Some(Connector::Sequence),
+            b'|' => Some(Connector::Choice),
+            // Even where the group has another connector: what 5 names isn't 4 as well.
+            b'&' | b'%' => return Err((position, 5)),
+            // A name has no place here, so one over 8 isn't number 3 either (open point 8).
+            _ => return Err((position, 4)),
+        };
+        if found.is_some() && so_far.is_some() && found != so_far {
+            return Err((position, 4));
+        }
+        self.at += 1;
+        Ok(found)
+    }
+
+    /// The occurrence indicator at hand, if there is one.
+    fn indicator(&mut self) -> Occurrence {
+        let occurrence = match self.bytes.get(self.at) {
+            Some(b'?') => Occurrence::Optional,
+            Some(b'+') => Occurrence::OneOrMore,
+            Some(b'*') => Occurrence::AnyNumber,
+            _ => return Occurrence::One,
+        };
+        self.at += 1;
+        occurrence
+    }
+}
+
+// ---------------------------------------------------------------------------------------------
+// The document
+
+const START_WRITTEN: u32 = 1;
+const START_INFERRED: u32 = 2;
+const END_WRITTEN: u32 = 3;
+const END_INFERRED: u32 = 4;
+const DATA: u32 = 5;
+const END_OF_EMPTY: u32 = 6;
+
+/// What is settled by steps 1 to 4.
+#[derive(Clone, Copy)]
+enum Token {
+    Start(usize),
+    Data,
+}
+
+/// An open element; at the very bottom the document itself, whose model is the document element.
+struct Open<'a> {
+    element: usize,
+    model: &'a Model,
+    remainder: Remainder,
+}
+
+struct DocumentReader<'a> {
+    elements: &'a [Element],
+    bytes: &'a [u8],
+    open: Vec<Open<'a>>,
+    events: Vec<[u32; NUMBERS_PER_EVENT]>,
+}
+
+fn read_document(
+    elements: &[Element],
+    bytes: &[u8],
+) -> Result<Vec<[u32; NUMBERS_PER_EVENT]>, Fault> {
+    // "With nothing open yet, only the document element may come next, and it is required."
+    let token = ContentToken {
+        form: Form::Place(0),
+        occurrence: Occurrence::One,
+    };
+    let place = Place {
+        name: elements[0].name.clone(),
+        position: 0,
+    };
+    let model = Model {
+        tokens: vec![token],
+        places: vec![place],
+    };
+    let document = Open {
+        element: usize::MAX,
+        model: &model,
+        remainder: model.start(),
+    };
+    let mut reader = DocumentReader {
+        elements,
+        bytes,
+        open: vec![document],
+        events: Vec::new(),
+    };
+    let mut at = 0;
+    while at < bytes.len() {
+        at = reader.piece(at)?;
+    }
+    reader.document_end()?;
+    Ok(reader.events)
+}
+
+impl<'a> DocumentReader<'a> {
+    /// Reads the tag, comment, skipped form or single byte at `at`; gives the offset after it.
+    fn piece(&mut self, at: usize) -> Result<usize, Fault> {
+        let letter = |distance| self.holds(at + distance, |byte| byte.is_ascii_alphabetic());
+        let rest = &self.bytes[at..];
+        if rest.starts_with(b"<!--") {
+            after_first(self.bytes, at + 4, b"-->").ok_or((self.bytes.len(), 4))
+        } else if rest.starts_with(b"<!>") {
+            Ok(at + 3)
+        } else if self.is_left_out(at) {
+            Err((at, 5))
+        } else if rest.starts_with(b"]]>") {
+            Err((at, 17))
+        } else if rest[0] == b'<' && letter(1) {
+            self.start_tag(at)
+        } else if rest.starts_with(b"</") && letter(2) {
+            self.end_tag(at)
+        } else {
+            self.single_byte(at)
+        }
+    }
+
+    fn holds(&self, at: usize, wanted: impl Fn(u8) -> bool) -> bool {
+        self.bytes.get(at).is_some_and(|&byte| wanted(byte))
+    }
+
+    /// Number 5 in a document.
+    fn is_left_out(&self, at: usize) -> bool {
+        let rest = &self.bytes[at..];
+        rest.starts_with(b"<?")
+            || rest.starts_with(b"<!")
+                && self.holds(at + 2, |byte| byte.is_ascii_alphabetic() || byte == b'[')
+            || rest.starts_with(b"&") && self.holds(at + 1, |byte| byte.is_ascii_alphabetic())
+            || rest.starts_with(b"&#") && self.holds(at + 2, |byte| byte.is_ascii_alphanumeric())
+    }
+
+    /// A byte that is data or ignored.
+    fn single_byte(&mut self, at: usize) -> Result<usize, Fault> {
+        let ignored = match self.bytes[at] {
+            10 => true,
+            9 | 13 | 32 => self.fitting(Token::Data).is_none(),
+            _ => false,
+        };
+        if !ignored {
+            self.settle(Token::Data, at)?;
+            match self.events.last_mut() {
+                // The longest run: the byte directly before was data too.
+                Some([DATA, _, offset, length]) if (*offset + *length) as usize == at => {
+                    *length += 1
+                }
+                _ => self.event(DATA, None, at, 1),
+            }
+        }
+        Ok(at + 1)
+    }
+
+    /// Name, separators, ">": gives the element and the offset after the tag. Numbers 3, 4, 10.
+    fn tag(&self, tag: usize, name_at: usize) -> Result<(usize, usize), Fault> {
+        let name = longest_name(self.bytes, name_at);
+        if name.len() > NAMELEN {
+            return Err((name_at, 3));
+        }
+        let mut at = name_at + name.len();
+        while self.holds(at, is_separator) {
+            at += 1;
+        }
+        // Past the end of input this is its length.
+        if !self.holds(at, |byte| byte == b'>') {
+            return Err((at, 4));
+        }
+        Ok((self.declared(&name).ok_or((tag, 10))?, at + 1))
+    }
+
+    fn declared(&self, name: &str) -> Option<usize> {
+        self.elements
+            .iter()
+            .position(|element| element.name == name)
+    }
+
+    fn start_tag(&mut self, at: usize) -> Result<usize, Fault> {
+        let (element, after) = self.tag(at, at + 1)?;
+        self.settle(Token::Start(element), at)?;
+        // This element counts too, an EMPTY one as well: it is open for an instant.
+        if self.open_elements() + 1 > TAGLVL {
+            return Err((at, 15));
+        }
+        self.event(START_WRITTEN, Some(element), at, after - at);
+        let elements = self.elements;
+        match &elements[element].model {
+            Some(model) => self.push(element, model),
+            None => self.event(END_OF_EMPTY, Some(element), after, 0),
+        }
+        Ok(after)
+    }
+
+    fn end_tag(&mut self, at: usize) -> Result<usize, Fault> {
+        let (element, after) = self.tag(at, at + 2)?;
+        if !self.open.iter().any(|open| open.element == element) {
+            return Err((at, 11));
+        }
+        while self.current().element != element {
+            self.infer_end_at_close(at)?;
+        }
+        if !self.current_complete() {
+            return Err((at, 13));
+        }
+        self.open.pop();
+        self.event(END_WRITTEN, Some(element), at, after - at);
+        Ok(after)
+    }
+
+    fn document_end(&mut self) -> Result<(), Fault> {
+        let end = self.bytes.len();
+        while self.open_elements() > 0 {
+            self.infer_end_at_close(end)?;
+        }
+        match self.current_complete() {
+            true => Ok(()),
+            false => Err((end, 18)),
+        }
+    }
+
+    /// Infers the current element's end because of an end tag or the document's end.
+    fn infer_end_at_close(&mut self, at: usize) -> Result<(), Fault> {
+        if !self.current_complete() {
+            return Err((at, 13));
+        }
+        if !self.end_omissible() {
+            return Err((at, 14));
+        }
+        self.infer_end(at);
+        Ok(())
+    }
+
+    fn infer_end(&mut self, at: usize) {
+        let element = self.current().element;
+        self.open.pop();
+        self.event(END_INFERRED, Some(element), at, 0);
+    }
+
+    fn current(&self) -> &Open<'a> {
+        self.open
+            .last()
+            .expect("the document itself is never popped")
+    }
+
+    fn open_elements(&self) -> usize {
+        self.open.len() - 1
+    }
+
+    /// Of the current element, which isn't the document itself.
+    fn end_omissible(&self) -> bool {
+        self.elements[self.current().element].end_omissible
+    }
+
+    fn current_complete(&self) -> bool {
+        self.current().model.complete(&self.current().remainder)
+    }
+
+    /// Steps 1 to 4. Afterwards the token's place is taken; its element isn't pushed yet.
+    fn settle(&mut self, token: Token, at: usize) -> Result<(), Fault> {
+        // The document element was there and has ended.
+        if self.open_elements() == 0 && self.current_complete() {
+            return Err((at, 16));
+        }
+        loop {
+            if self.fitting(token).is_some() {
+                break;
+            }
+            if let Some(chain) = self.chain(token) {
+                self.infer_starts(&chain, at);
+                break;
+            }
+            // Step 3 is for neither the document element nor the document around it.
+            if self.open_elements() <= 1 || !self.current_complete() || !self.end_omissible() {
+                return Err((at, 12));
+            }
+            self.infer_end(at);
+        }
+        self.take(token);
+        // Inferred starts alone can pass the limit.
+        match self.open_elements() > TAGLVL {
+            true => Err((at, 15)),
+            false => Ok(()),
+        }
+    }
+
+    fn token_name(&self, token: Token) -> &str {
+        match token {
+            Token::Start(element) => &self.elements[element].name,
+            Token::Data => PCDATA,
+        }
+    }
+
+    /// What remains of the current element's model if the token is taken as the next place.
+    fn fitting(&self, token: Token) -> Option<Remainder> {
+        let current = self.current();
+        self.fitting_in(token, current.model, &current.remainder)
+    }
+
+    fn fitting_in(&self, token: Token, model: &Model, taken: &Remainder) -> Option<Remainder> {
+        let name = self.token_name(token);
+        let next = model.next(taken).into_iter();
+        next.filter(|(place, _)| model.places[*place].name == name)
+            .map(|(_, rest)| rest)
+            .next()
+    }
+
+    fn take(&mut self, token: Token) {
+        let remainder = self
+            .fitting(token)
+            .expect("only a token that fits is taken");
+        self.open
+            .last_mut()
+            .expect("the document itself is never popped")
+            .remainder = remainder;
+    }
+
+    /// Step 2: the elements to infer, outermost first, with their models. The way is forced, for
+    /// there is at most one required place, so the chain found is the shortest.
+    fn chain(&self, token: Token) -> Option<Vec<(usize, &'a Model)>> {
+        let elements = self.elements;
+        let mut chain: Vec<(usize, &'a Model)> = Vec::new();
+        let mut model = self.current().model;
+        let mut remainder = self.current().remainder.clone();
+        loop {
+            let place = model.required(&remainder)?;
+            let element = self.declared(&model.places[place].name)?;
+            // Round in a circle: the token fits at none of these starts.
+            let seen = chain.iter().any(|&(earlier, _)| earlier == element);
+            if seen || !elements[element].start_omissible {
+                return None;
+            }
+            model = elements[element].model.as_ref()?;
+            remainder = model.start();
+            chain.push((element, model));
+            if self.fitting_in(token, model, &remainder).is_some() {
+                return Some(chain);
+            }
+        }
+    }
+
+    fn infer_starts(&mut self, chain: &[(usize, &'a Model)], at: usize) {
+        for &(element, model) in chain {
+            self.take(Token::Start(element));
+            self.event(START_INFERRED, Some(element), at, 0);
+            self.push(element, model);
+        }
+    }
+
+    fn push(&mut self, element: usize, model: &'a Model) {
+        self.open.push(Open {
+            element,
+            model,
+            remainder: model.start(),
+        });
+    }
+
+    fn event(&mut self, kind: u32, element: Option<usize>, offset: usize, length: usize) {
+        let number = element.map_or(0, |element| element as u32 + 1);
+        self.events
+            .push([kind, number, offset as u32, length as u32]);
+    }
+}

@@ -1,0 +1,89 @@
+//! Runs the oracle over a folder of vectors, each a folder GROUP/CASE with type.sgm, doc.sgm and
+//! expected, and checks that the small program would print exactly what is expected.
+//!
+//! rustc -O --edition 2021 vectors.rs && ./vectors FOLDER
+
+mod oracle;
+
+use std::fmt::Write;
+use std::path::{Path, PathBuf};
+use std::{env, fs, io, process};
+
+/// What the small program lends.
+const LENT: usize = 16_384;
+
+fn main() -> io::Result<()> {
+    let Some(folder) = env::args().nth(1) else {
+        eprintln!("usage: vectors FOLDER");
+        process::exit(2);
+    };
+    let (mut passed, mut failed) = (0, 0);
+    for group in folders_in(Path::new(&folder))? {
+        for case in folders_in(&group)? {
+            let printed = small_program(
+                &fs::read(case.join("type.sgm"))?,
+                &fs::read(case.join("doc.sgm"))?,
+            );
+            let expected = fs::read_to_string(case.join("expected"))?;
+            if printed == expected {
+                passed += 1;
+            } else {
+                failed += 1;
+                println!(
+                    "{}:\n  expected {expected:?}\n  printed  {printed:?}",
+                    case.display()
+                );
+            }
+        }
+    }
+    println!("{passed} passed, {failed} failed");
+    // A folder without vectors proves nothing.
+    process::exit((failed > 0 || passed == 0) as i32);
+}
+
+/// The folders in a folder, in the order of their names.
+fn folders_in(folder: &Path) -> io::Result<Vec<PathBuf>> {
+    let entries = fs::read_dir(folder)?.collect::<io::Result<Vec<_>>>()?;
+    let mut folders: Vec<PathBuf> = entries.into_iter().map(|entry| entry.path()).collect();
+    folders.retain(|path| path.is_dir());
+    folders.sort();
+    Ok(folders)
+}
+
+fn small_program(type_file: &[u8], document: &[u8]) -> String {
+    let mut buffer = [0; LENT];
+    let answer = oracle::read(type_file, document, &mut buffer);
+    if answer.number != 0 {
+        let input = if answer.input == 1 {
+            "type"
+        } else {
+            "document"
+        };
+        return format!(
+            "refused {} in {input} at {}\n",
+            answer.number, answer.position
+        );
+    }
+    let names = element_names(type_file);
+    let mut printed = format!("events {}\n", answer.count);
+    for event in buffer.chunks(4).take(answer.count as usize) {
+        let name = if event[1] == 0 {
+            "-"
+        } else {
+            &names[event[1] as usize - 1]
+        };
+        let _ = writeln!(printed, "{} {name} {} {}", event[0], event[2], event[3]);
+    }
+    printed
+}
+
+/// Upper case names of the declared elements, from the judge's records.
+fn element_names(type_file: &[u8]) -> Vec<String> {
+    let mut buffer = [0; 6 * 64];
+    let count = oracle::judge(type_file, &mut buffer).count as usize;
+    let name = |record: &[u32]| {
+        let (offset, length) = (record[0] as usize, record[1] as usize);
+        String::from_utf8_lossy(&type_file[offset..offset + length]).to_ascii_uppercase()
+    };
+    buffer.chunks(6).take(count).map(name).collect()
+}
