@@ -1,0 +1,3 @@
+-- The demands of paper 01: read Demands first.
+pub mod Demands
+pub mod Proofs

@@ -1,0 +1,243 @@
+-- The proofs behind Demands: what both calls promise is one relation, and the rules settle one answer.
+use Prim.Native.Nat.{ℕ, _-_, _*_, _/_, _<_, _≤_}
+use mathlib.Core.Path.{_≡_, refl, sym, ap, _∙_}
+use mathlib.Core.Logic.{_⊎_, inl, inr, ⊎-elim, _↔_}
+use mathlib.Core.List.{List, [], _∷_, _++_, List·Memᴰ, List·Memᴰ·head, List·Memᴰ·tail}
+use native.Mathlib.Omega.{arith}
+use lib.ListN.{length, drop, length-append, length-drop}
+use Rattle.rules.specs.Bytes.{allowed, span, typeLimit}
+use Rattle.rules.specs.Reading.{Reading, refused, got}
+use Rattle.rules.specs.Walk.{Group, Begins}
+use Rattle.rules.specs.Ambiguity.{SpellSame, Ambiguous, PairAtFault}
+use Rattle.rules.specs.TypeFile.{Place, Content, empty, model, Element, typeFile}
+use Rattle.rules.specs.Judge.{placeAt, samePlace, Answer, refusal, acceptance, Unambiguous, AllUnambiguous, PairStandsAt, FirstAmbiguous, here, later, contentNumbers, records, bytesOf, Legible, Refuses, tooLong, notAllowed, malformed, ambiguous, noRoom, Accepts}
+use Rattle.rules_laws.specs.Within.{ContentIn, all-mem, placeAt-in, typeFile-within, typeFile-elements}
+use Rattle.model_sets.specs.Ambiguous.{ambiguous-pair, pair-ambiguous, unambiguous-equal, first-pair-unique}
+use Rattle.model_names.specs.Laws.{samePlace-refl, samePlace-sym}
+
+-- The first model with a pair at fault.
+
+module _ (s : List ℕ) where
+  stands-at-fault : (c : Content) (k p q : ℕ) → PairStandsAt s c k p q → Unambiguous s c → ⊥
+  stands-at-fault empty k p q w u = w
+  stands-at-fault (model g ps n) k p q w u = u p q (w .0 .0)
+
+  stands-one : (c : Content) (k p q j a b : ℕ) → PairStandsAt s c k p q → PairStandsAt s c j a b → (k ≡ j) × (p ≡ a) × (q ≡ b)
+  stands-one empty k p q j a b v w = absurd v
+  stands-one (model g ps n) k p q j a b (f, x) (h, y) =
+      let (pa, qb) = first-pair-unique (samePlace s ps) g p q a b f h in
+      (x ∙ ap (λ (i : ℕ). placeAt ps (i - 1) .at) qb ∙ sym y, pa, qb)
+
+  stands-in : (c : Content) (k p q : ℕ) → ContentIn s c → PairStandsAt s c k p q → k ≤ length s
+  stands-in empty k p q i w = absurd w
+  stands-in (model g ps n) k p q i w = rw (w .1) (placeAt-in (i .places) (q - 1))
+
+  stands-model : (c : Content) (k p q : ℕ) → PairStandsAt s c k p q → (g : Group) × (ps : List Place) × (n : ℕ) × (c ≡ model g ps n) × PairAtFault (samePlace s ps) g p q
+  stands-model empty k p q w = absurd w
+  stands-model (model g ps n) k p q w = (g, ps, n, refl, w .0 .0)
+
+  pub first-all : {k p q : ℕ} {es : List Element} → FirstAmbiguous s k p q es → AllUnambiguous s es → ⊥
+  first-all {k} {p} {q} (here {e} w) u = stands-at-fault (e .content) k p q w (u .0)
+  first-all (later v f) u = first-all f (u .1)
+
+  pub first-one : {k p q j a b : ℕ} {es : List Element} → FirstAmbiguous s k p q es → FirstAmbiguous s j a b es → (k ≡ j) × (p ≡ a) × (q ≡ b)
+  first-one {k} {p} {q} {j} {a} {b} (here {e} v) (here w) = stands-one (e .content) k p q j a b v w
+  first-one {k} {p} {q} (here {e} v) (later u f) = absurd (stands-at-fault (e .content) k p q v u)
+  first-one {j} {a} {b} (later {e} u f) (here w) = absurd (stands-at-fault (e .content) j a b w u)
+  first-one (later u f) (later v h) = first-one f h
+
+  first-stands : {k p q : ℕ} {es : List Element} → FirstAmbiguous s k p q es → (e : Element) × List·Memᴰ e es × PairStandsAt s (e .content) k p q
+  first-stands (here {e} w) = (e, List·Memᴰ·head refl, w)
+  first-stands (later u f) =
+      let (e, m, w) = first-stands f in
+      (e, List·Memᴰ·tail m, w)
+
+  pub first-in : {k p q : ℕ} {es : List Element} → FirstAmbiguous s k p q es → typeFile s ≡ got es → k ≤ length s
+  first-in {k} {p} {q} {es} f r =
+      let (e, m, w) = first-stands f in
+      stands-in (e .content) k p q (all-mem (typeFile-elements s es r .1 .each) m .content) w
+
+  all-content : {es : List Element} {e : Element} → AllUnambiguous s es → List·Memᴰ e es → Unambiguous s (e .content)
+  all-content u (List·Memᴰ·head e) = rw e (u .0)
+  all-content u (List·Memᴰ·tail m) = all-content (u .1) m
+
+-- Models by demand 3, and their pairs at fault.
+
+module _ (s : List ℕ) (g : Group) (ps : List Place) where
+  pub model-exactly : Ambiguous (samePlace s ps) g ↔ ((p : ℕ) × (q : ℕ) × PairAtFault (samePlace s ps) g p q)
+  model-exactly =
+      (ambiguous-pair (samePlace s ps) g (samePlace-sym s ps), λ (p, q, f). pair-ambiguous (samePlace s ps) g (λ i h. samePlace-refl s ps i) p q f)
+
+  -- g is the model of an element e of es, where no model has a pair at fault.
+  module _ {es : List Element} {e : Element} {n : ℕ} (all : AllUnambiguous s es) (m : List·Memᴰ e es) (c : e .content ≡ model g ps n) where
+    no-pair : (p q : ℕ) → PairAtFault (samePlace s ps) g p q → ⊥
+    no-pair = rw c at (all-content s all m)
+
+    pub not-ambiguous : Ambiguous (samePlace s ps) g → ⊥
+    not-ambiguous x =
+        let (p, q, f) = model-exactly .0 x in
+        no-pair p q f
+
+    pub names-alone : (u v : List ℕ) → Begins g u → Begins g v → SpellSame (samePlace s ps) u v → u ≡ v
+    names-alone = unambiguous-equal (samePlace s ps) g (samePlace-sym s ps) no-pair
+
+pub first-model : {s : List ℕ} {k p q : ℕ} {es : List Element} → FirstAmbiguous s k p q es
+    → (g : Group) × (ps : List Place) × ((e : Element) × (n : ℕ) × List·Memᴰ e es × (e .content ≡ model g ps n)) × Ambiguous (samePlace s ps) g
+first-model {s} {k} {p} {q} f =
+    let (e, m, w) = first-stands s f in
+    let (g, ps, n, c, x) = stands-model s (e .content) k p q w in
+    (g, ps, (e, n, m, c), model-exactly s g ps .1 (p, q, x))
+
+-- Both calls promise this, of a buffer with room for so many numbers that is `zeroed` by a refusal and `filled` by an acceptance.
+pub data Settled (s : List ℕ) (room : ℕ) (zeroed : List ℕ) (filled : List Element → List ℕ) (a : Answer) (after : List ℕ) : Type 0 where
+  refuses : Refuses s room a → after ≡ zeroed → Settled s room zeroed filled a after
+  accepts : (es : List Element) → Accepts s es → 6 * length es ≤ room → a ≡ acceptance (length es) → after ≡ filled es → Settled s room zeroed filled a after
+
+-- The same of a legible type, by what its reading gives.
+data Read (s : List ℕ) (room : ℕ) (zeroed : List ℕ) (filled : List Element → List ℕ) (a : Answer) (after : List ℕ) : Reading (List Element) → Type 0 where
+  bad : {n k : ℕ} → a ≡ refusal n k 0 0 → after ≡ zeroed → Read s room zeroed filled a after (refused n k)
+  clash : {es : List Element} (k p q : ℕ) → FirstAmbiguous s k p q es → a ≡ refusal 9 k p q → after ≡ zeroed → Read s room zeroed filled a after (got es)
+  tight : {es : List Element} → AllUnambiguous s es → room < 6 * length es → a ≡ refusal 19 0 0 0 → after ≡ zeroed → Read s room zeroed filled a after (got es)
+  enough : {es : List Element} → AllUnambiguous s es → 6 * length es ≤ room → a ≡ acceptance (length es) → after ≡ filled es → Read s room zeroed filled a after (got es)
+
+both : {a b c : Answer} {x y z : List ℕ} → (a ≡ c) × (x ≡ z) → (b ≡ c) × (y ≡ z) → (a ≡ b) × (x ≡ y)
+both (e, f) (g, h) = (e ∙ sym g, f ∙ sym h)
+
+module _ {s : List ℕ} {room : ℕ} {zeroed : List ℕ} {filled : List Element → List ℕ} where
+  -- At each stage of the order there is one way to go on.
+
+  when-long : {a : Answer} {after : List ℕ} → typeLimit < length s → Settled s room zeroed filled a after → (a ≡ refusal 1 0 0 0) × (after ≡ zeroed)
+  when-long h (refuses (tooLong l e) z) = (e, z)
+  when-long h (refuses (notAllowed l d e) z) = absurd (omega arith)
+  when-long h (refuses (malformed l n k r e) z) = absurd (omega arith)
+  when-long h (refuses (ambiguous l es r k p q f e) z) = absurd (omega arith)
+  when-long h (refuses (noRoom l es r u f e) z) = absurd (omega arith)
+  when-long h (accepts es w f e z) = absurd (omega arith)
+
+  when-dirty : {a : Answer} {after : List ℕ} → length s ≤ typeLimit → span allowed s < length s → Settled s room zeroed filled a after → (a ≡ refusal 2 (span allowed s) 0 0) × (after ≡ zeroed)
+  when-dirty h d (refuses (tooLong l e) z) = absurd (omega arith)
+  when-dirty h d (refuses (notAllowed l c e) z) = (e, z)
+  when-dirty h d (refuses (malformed l n k r e) z) = absurd (omega arith)
+  when-dirty h d (refuses (ambiguous l es r k p q f e) z) = absurd (omega arith)
+  when-dirty h d (refuses (noRoom l es r u f e) z) = absurd (omega arith)
+  when-dirty h d (accepts es w f e z) = absurd (omega arith)
+
+  when-legible : {a : Answer} {after : List ℕ} → Legible s → Settled s room zeroed filled a after → Read s room zeroed filled a after (typeFile s)
+  when-legible h (refuses (tooLong l e) z) = absurd (omega arith)
+  when-legible h (refuses (notAllowed l d e) z) = absurd (omega arith)
+  when-legible h (refuses (malformed l n k r e) z) = rw r (bad e z)
+  when-legible h (refuses (ambiguous l es r k p q f e) z) = rw r (clash k p q f e z)
+  when-legible h (refuses (noRoom l es r u f e) z) = rw r (tight u f e z)
+  when-legible h (accepts es w f e z) = rw (w .elements) (enough (w .unambiguous) f e z)
+
+  read-one : {a b : Answer} {after other : List ℕ} {r : Reading (List Element)} → Read s room zeroed filled a after r → Read s room zeroed filled b other r → (a ≡ b) × (after ≡ other)
+  read-one (bad e z) (bad f y) = (e ∙ sym f, z ∙ sym y)
+  read-one (clash k p q x e z) (clash j i l w f y) =
+      let (c, d, g) = first-one s x w in
+      (cc, z ∙ sym y)
+  read-one (clash k p q x e z) (tight u h f y) = absurd (first-all s x u)
+  read-one (clash k p q x e z) (enough u h f y) = absurd (first-all s x u)
+  read-one (tight u h e z) (clash j i l w f y) = absurd (first-all s w u)
+  read-one (tight u h e z) (tight v l f y) = (e ∙ sym f, z ∙ sym y)
+  read-one (tight u h e z) (enough v l f y) = absurd (omega arith)
+  read-one (enough u h e z) (clash j i l w f y) = absurd (first-all s w u)
+  read-one (enough u h e z) (tight v l f y) = absurd (omega arith)
+  read-one (enough u h e z) (enough v l f y) = (e ∙ sym f, z ∙ sym y)
+
+  -- Two answers to one type are the same.
+  pub settled-one : {a b : Answer} {after other : List ℕ} → Settled s room zeroed filled a after → Settled s room zeroed filled b other → (a ≡ b) × (after ≡ other)
+  settled-one (refuses (tooLong l e) z) y = both (e, z) (when-long l y)
+  settled-one (refuses (notAllowed l d e) z) y = both (e, z) (when-dirty l d y)
+  settled-one (refuses (malformed l n k r e) z) y = read-one (rw r (bad e z)) (when-legible l y)
+  settled-one (refuses (ambiguous l es r k p q f e) z) y = read-one (rw r (clash k p q f e z)) (when-legible l y)
+  settled-one (refuses (noRoom l es r u f e) z) y = read-one (rw r (tight u f e z)) (when-legible l y)
+  settled-one (accepts es w f e z) y = read-one (rw (w .elements) (enough (w .unambiguous) f e z)) (when-legible (w .legible) y)
+
+  pub settled-refuses : {a : Answer} {after : List ℕ} → Settled s room zeroed filled a after → (a .number ≡ 0 → ⊥) → Refuses s room a × (after ≡ zeroed)
+  settled-refuses (refuses r z) h = (r, z)
+  settled-refuses (accepts es w f e z) h = absurd (h (rw e))
+
+-- What a refusal says.
+module _ {s : List ℕ} {room : ℕ} {a : Answer} where
+  pub refuses-named : Refuses s room a
+      → (n : ℕ) × (k : ℕ) × (p : ℕ) × (q : ℕ) × (a ≡ refusal n k p q) × (((1 ≤ n) × (n ≤ 9)) ⊎ (n ≡ 19)) × (k ≤ length s) × ((n ≡ 9 → ⊥) → (p ≡ 0) × (q ≡ 0))
+  refuses-named (tooLong l e) = (1, 0, 0, 0, e, inl (omega arith), omega arith, λ h. omega arith)
+  refuses-named (notAllowed l d e) = (2, span allowed s, 0, 0, e, inl (omega arith), omega arith, λ h. omega arith)
+  refuses-named (malformed l n k r e) =
+      let (i, j, b) = typeFile-within s n k r in
+      (n, k, 0, 0, e, inl (omega arith), b, λ h. omega arith)
+  refuses-named (ambiguous l es r k p q f e) = (9, k, p, q, e, inl (omega arith), first-in s f r, λ h. absurd (h refl))
+  refuses-named (noRoom l es r u f e) = (19, 0, 0, 0, e, inr refl, omega arith, λ h. omega arith)
+
+  pub refuses-some : Refuses s room a → a .number ≡ 0 → ⊥
+  refuses-some r h =
+      let (n, k, p, q, e, b, i, o) = refuses-named r in
+      let z : n ≡ 0 = rw e at h in
+      ⊎-elim (λ x. omega arith) (λ x. omega arith) b
+
+  -- Number 9, and number 19.
+  pub refuses-nine : Refuses s room a → a .number ≡ 9 → Legible s × (es : List Element) × (typeFile s ≡ got es) × FirstAmbiguous s (a .position) (a .first) (a .second) es
+  refuses-nine (tooLong l e) h = absurd (omega (arith, rw e at h))
+  refuses-nine (notAllowed l d e) h = absurd (omega (arith, rw e at h))
+  refuses-nine (malformed l n k r e) h = absurd (omega (arith, rw e at h, typeFile-within s n k r))
+  refuses-nine (ambiguous l es r k p q f e) h = rw e (l, es, r, f)
+  refuses-nine (noRoom l es r u f e) h = absurd (omega (arith, rw e at h))
+
+  pub refuses-nineteen : Refuses s room a → a .number ≡ 19 → (es : List Element) × Accepts s es × (room < 6 * length es)
+  refuses-nineteen (tooLong l e) h = absurd (omega (arith, rw e at h))
+  refuses-nineteen (notAllowed l d e) h = absurd (omega (arith, rw e at h))
+  refuses-nineteen (malformed l n k r e) h = absurd (omega (arith, rw e at h, typeFile-within s n k r))
+  refuses-nineteen (ambiguous l es r k p q f e) h = absurd (omega (arith, rw e at h))
+  refuses-nineteen (noRoom l es r u f e) h = (es, record { legible = l; elements = r; unambiguous = u }, f)
+
+read-fair : {s : List ℕ} {ds es : List Element} → Accepts s ds → typeFile s ≡ got es → AllUnambiguous s es
+read-fair {s} {ds} {es} w r =
+    let q = w .elements in
+    let e : ds ≡ es = cc in
+    rw e at (w .unambiguous)
+
+module _ {s : List ℕ} {room : ℕ} {zeroed : List ℕ} {filled : List Element → List ℕ} {a : Answer} {after : List ℕ} where
+  pub settled-accepts : Settled s room zeroed filled a after → a .number ≡ 0 → (es : List Element) × Accepts s es × (6 * length es ≤ room) × (a ≡ acceptance (length es)) × (after ≡ filled es)
+  settled-accepts (refuses r z) h = absurd (refuses-some r h)
+  settled-accepts (accepts es w f e z) h = (es, w, f, e, z)
+
+  -- Under 0 and 19 the models read have no pair at fault; under 9 some model has one.
+  pub settled-fair : Settled s room zeroed filled a after → (a .number ≡ 0) ⊎ (a .number ≡ 19) → (es : List Element) → typeFile s ≡ got es → AllUnambiguous s es
+  settled-fair x (inl h) es r = read-fair (settled-accepts x h .1) r
+  settled-fair x (inr h) es r = read-fair (refuses-nineteen (settled-refuses x (λ z. omega arith) .0) h .1) r
+
+  pub settled-faulty : Settled s room zeroed filled a after → Legible s → (es : List Element) → typeFile s ≡ got es → (AllUnambiguous s es → ⊥) → a .number ≡ 9
+  settled-faulty x l es r n = go (rw r at (when-legible l x))
+    where
+      go : Read s room zeroed filled a after (got es) → a .number ≡ 9
+      go (clash k p q f e z) = rw e
+      go (tight u f e z) = absurd (n u)
+      go (enough u f e z) = absurd (n u)
+
+-- The buffer keeps its length.
+
+pub settled-length : {s : List ℕ} {room : ℕ} {zeroed : List ℕ} {filled : List Element → List ℕ} {a : Answer} {after : List ℕ} (n : ℕ) → Settled s room zeroed filled a after
+    → length zeroed ≡ n → ((es : List Element) → 6 * length es ≤ room → length (filled es) ≡ n) → length after ≡ n
+settled-length n (refuses r z) h k = rw z h
+settled-length n (accepts es w f e z) h k = rw z (k es f)
+
+content-length : (c : Content) → length (contentNumbers c) ≡ 2
+content-length empty = refl
+content-length (model g ps n) = refl
+
+records-length : (es : List Element) → length (records es) ≡ 6 * length es
+unfolding records
+records-length [] = refl
+records-length (e ∷ es) = omega (arith, length-append (contentNumbers (e .content)) (records es), content-length (e .content), records-length es)
+
+bytes-length : (ns : List ℕ) → length (bytesOf ns) ≡ 4 * length ns
+unfolding bytesOf
+bytes-length [] = refl
+bytes-length (n ∷ ns) = omega (arith, bytes-length ns)
+
+pub numbers-kept : (es : List Element) (before : List ℕ) → 6 * length es ≤ length before → length (records es ++ drop (6 * length es) before) ≡ length before
+numbers-kept es before h = omega (arith, length-append (records es) (drop (6 * length es) before), length-drop (6 * length es) before, records-length es)
+
+pub bytes-kept : (es : List Element) (before : List ℕ) → 6 * length es ≤ length before / 4 → length (bytesOf (records es) ++ drop (24 * length es) before) ≡ length before
+bytes-kept es before h =
+    omega (arith, length-append (bytesOf (records es)) (drop (24 * length es) before), length-drop (24 * length es) before, bytes-length (records es), records-length es)

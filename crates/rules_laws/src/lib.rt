@@ -1,0 +1,1 @@
+// Laws of the rules: every reading of a type file stays within the input. No code.
