@@ -1,7 +1,7 @@
 -- Laws of a model's places and of the names that they share.
 use Prim.Native.Nat.{ℕ, zero, suc, _+_, _-_, _*_, _≤_, _<_}
-use mathlib.Core.Path.{_≡_, refl, sym, ap, _∙_}
-use mathlib.Core.Bool.{Bool, true, false, cond, true≢false}
+use mathlib.Core.Path.{_≡_, refl, sym, _∙_}
+use mathlib.Core.Bool.{Bool, true, false, true≢false}
 use mathlib.Core.List.{List, [], _∷_, _++_}
 use native.Mathlib.Decide.{ℕ-discrete}
 use native.Mathlib.Nat.{not-suc-le-zero, le-of-suc-le-suc}
@@ -75,14 +75,14 @@ placesOf-put names n at size h =
 -- Places with the same name.
 
 -- Two names that are the same are equally long and the same text.
-sameName-split : (s : List ℕ) (a m b n : ℕ) → sameName s a m b n ≡ true → (m ≡ n) × (sameText s a s b n ≡ true)
+pub sameName-split : (s : List ℕ) (a m b n : ℕ) → sameName s a m b n ≡ true → (m ≡ n) × (sameText s a s b n ≡ true)
 sameName-split s a m b n r = by-test (eqb m n) refl
   where
     by-test : (c : Bool) → eqb m n ≡ c → (m ≡ n) × (sameText s a s b n ≡ true)
     by-test true e = (eqb-true m n e, rw (e, sameName) at r)
     by-test false e = absurd (true≢false (sym (rw (e, sameName) at r)))
 
-sameName-join : (s : List ℕ) (a m b n : ℕ) → m ≡ n → sameText s a s b n ≡ true → sameName s a m b n ≡ true
+pub sameName-join : (s : List ℕ) (a m b n : ℕ) → m ≡ n → sameText s a s b n ≡ true → sameName s a m b n ≡ true
 sameName-join s a m b n e r = rw (eq-eqb m n e, sameName) r
 
 pub samePlace-refl : (s : List ℕ) (ps : List Place) (p : ℕ) → samePlace s ps p p ≡ true
@@ -99,12 +99,12 @@ samePlace-sym s ps p q r =
 
 -- Whether two places have the same name, from what is read of them: each is where it stands and how long it is.
 module _ (s names : List ℕ) (n p q : ℕ) (p-from : 1 ≤ p) (p-to : p ≤ n) (q-from : 1 ≤ q) (q-to : q ≤ n) where
-  same-places : samePlace s (placesOf names n) p q
+  pub same-places : samePlace s (placesOf names n) p q
       ≡ sameName s (placeIn names (p - 1) .at) (placeIn names (p - 1) .size) (placeIn names (q - 1) .at) (placeIn names (q - 1) .size)
   same-places = rw (placeAt-placesOf names n (p - 1) (omega arith), placeAt-placesOf names n (q - 1) (omega arith))
 
   module _ (a m b k : ℕ) (pa : a ≡ placeIn names (p - 1) .at) (pm : m ≡ placeIn names (p - 1) .size) (qb : b ≡ placeIn names (q - 1) .at) (qk : k ≡ placeIn names (q - 1) .size) where
-    read-places : samePlace s (placesOf names n) p q ≡ sameName s a m b k
+    pub read-places : samePlace s (placesOf names n) p q ≡ sameName s a m b k
     read-places = rw (pa, pm, qb, qk) same-places
 
     pub same-sizes : (r : Bool) → m ≡ k → r ≡ sameText s a s b m → r ≡ samePlace s (placesOf names n) p q
@@ -123,7 +123,7 @@ unfolding keyOf
 key-some s x n at a b e ne f g h = rw (keyOf, ← e, ← f, ne-eqb n 0 ne, g, h)
 
 -- Places with the same name share their key.
-same-key : (s : List ℕ) (a b m n : ℕ) → m ≡ n → sameText s a s b n ≡ true → keyOf s (record { at = a; size = m }) ≡ keyOf s (record { at = b; size = n })
+pub same-key : (s : List ℕ) (a b m n : ℕ) → m ≡ n → sameText s a s b n ≡ true → keyOf s (record { at = a; size = m }) ≡ keyOf s (record { at = b; size = n })
 unfolding keyOf
 same-key s a b m zero e t = rw e
 same-key s a b m (suc n) e t =
@@ -134,6 +134,5 @@ pub key-differs : (s names : List ℕ) (n p q : ℕ) → 1 ≤ p → p ≤ n →
 key-differs s names n p q a b c d r =
     let x = placeIn names (p - 1) in
     let y = placeIn names (q - 1) in
-    let (e, t) = sameName-split s (x .at) (x .size) (y .at) (y .size)
-    (rw (placeAt-placesOf names n (p - 1) (omega arith), placeAt-placesOf names n (q - 1) (omega arith)) at r) in
+    let (e, t) = sameName-split s (x .at) (x .size) (y .at) (y .size) (sym (same-places s names n p q a b c d) ∙ r) in
     same-key s (x .at) (y .at) (x .size) (y .size) e t

@@ -1,0 +1,94 @@
+-- `partner` meets its contract. The invariant: no place after `p` before `q` is at fault with it, so what is still to be searched gives the answer, and `q` has the name of `p`.
+use Prim.Native.Nat.{_+_, _-_, _≤_}
+use mathlib.Core.Path.{_≡_}
+use mathlib.Core.Bool.{true}
+use native.Mathlib.Omega.{arith}
+use Rattle.rules.specs.Judge.{samePlace}
+use Rattle.model_names.specs.Places.{placesOf}
+use Rattle.model_pairs.specs.Laws.{Seeks, seeks-start, seeks-on, seeks-past, seeks-found, seeks-none, apart, at-fault}
+use Rattle.model_pairs.proofs.partner.Statement.{statement}
+use Rattle.model_pairs.proofs.partner.Tie as tie
+
+abbrev Inv-loop : tie.InvT-loop
+Inv-loop s names table keys n p q₀ near q = Seeks s names table n p q × (q ≤ n → samePlace s (placesOf names n) p q ≡ true)
+
+abbrev μ-loop : tie.MeasureT-loop
+μ-loop s names table keys n p q₀ near q = n + 1 - q
+
+add-same-name : tie.Need-add-same-name Inv-loop μ-loop
+add-same-name c = omega arith
+
+same-name-requires : tie.Need-same-name-requires Inv-loop μ-loop
+same-name-requires c κs = (omega arith, c .before .pre .1)
+
+-- where the search begins
+begun : (c : tie.After-same-name Inv-loop μ-loop) →
+    let x = c .before .before .args in
+    Seeks (x .s .now) (x .names .now) (x .table .now) (x .n) (x .p) (c .same-name .result)
+begun c =
+    let found = c .same-name .ensures in
+    seeks-on _ _ _ _ _ _ _ (seeks-start _ _ _ _ _ (c .before .before .pre .0 .2)) (found .0) (found .1) (found .2)
+
+returns : tie.Need-returns Inv-loop μ-loop
+returns c = seeks-none _ _ _ _ _ _ (begun (c .before)) (omega arith)
+
+beside-requires : tie.Need-beside-requires Inv-loop μ-loop
+beside-requires c κs = omega arith
+
+loop-holds : tie.Need-loop-holds Inv-loop μ-loop
+loop-holds c =
+    let first = c .before .before in
+    (begun first, first .same-name .ensures .3)
+
+array-read-if2 : tie.Need-array-read-if2 Inv-loop μ-loop
+array-read-if2 c = omega arith
+
+returns-2 : tie.Need-returns-2 Inv-loop μ-loop
+returns-2 c =
+    let looped = c .before .before in
+    let inv = looped .loop .inv in
+    seeks-found _ _ _ _ _ _ (inv .0) (omega arith)
+    (at-fault _ _ _ _ _ _ _ (looped .before .beside .ensures _ (omega arith)) (inv .1 (omega arith)) (c .if2 .taken))
+
+add-same-name-2 : tie.Need-add-same-name-2 Inv-loop μ-loop
+add-same-name-2 c = omega arith
+
+same-name-requires-2 : tie.Need-same-name-requires-2 Inv-loop μ-loop
+same-name-requires-2 c κs = (omega arith, c .before .before .before .before .before .before .before .pre .1)
+
+loop-less : tie.Need-loop-less Inv-loop μ-loop
+loop-less c = omega arith
+
+loop-again : tie.Need-loop-again Inv-loop μ-loop
+loop-again c =
+    let found = c .same-name2 .ensures in
+    let tested = c .before in
+    let looped = tested .before .before in (
+      seeks-on _ _ _ _ _ _ _
+          (seeks-past _ _ _ _ _ _ (looped .loop .inv .0) (omega arith)
+          (apart _ _ _ _ _ _ _ (looped .before .beside .ensures _ (omega arith)) (tested .if2 .left)))
+          (found .0) (found .1) (found .2),
+      found .3,
+    )
+
+returns-3 : tie.Need-returns-3 Inv-loop μ-loop
+returns-3 c = seeks-none _ _ _ _ _ _ (c .before .loop .inv .0) (omega arith)
+
+pub partner-spec : {M : Type 1} → statement M
+partner-spec =
+    tie.close
+    (tie.spec
+    Inv-loop
+    μ-loop
+    add-same-name
+    same-name-requires
+    returns
+    beside-requires
+    loop-holds
+    array-read-if2
+    returns-2
+    add-same-name-2
+    same-name-requires-2
+    loop-less
+    loop-again
+    returns-3)

@@ -1,0 +1,64 @@
+-- `judge` meets its contract: an accepted verdict's records are written, any other zeroes the buffer.
+use Prim.Native.Nat.{_≤_, _*_}
+use mathlib.Core.Logic.{⊎-elim}
+use native.Mathlib.Omega.{arith}
+use lib.ListN.{length}
+use Rattle.type_judge.specs.Laws.{accepted-fits, judged-accepts, judged-refuses}
+use borrow.Author.Needs.{needs}
+use Rattle.type_judge.proofs.judge.Statement.{statement}
+use Rattle.type_judge.proofs.judge.Tie as tie
+
+-- The records fit the table and the buffer.
+fits : (c : tie.After-v) → (c .v .given .0 .0 ≤ 64) × (6 * c .v .given .0 .0 ≤ length (c .before .before .before .before .before .before .args .buffer .now))
+fits c =
+    let a = c .before .before .before .before .before .before .args in
+    let d = c .before .before .decide in
+    accepted-fits (a .s .now) (a .buffer .now) (d .last .1 .1 .0) (d .result) (d .ensures) (c .v .given .0 .0) (c .v .given .1)
+
+decide-requires : tie.Need-decide-requires
+decide-requires c κs = search needs
+
+enum-known-v : tie.Need-enum-known-v
+enum-known-v c = search needs
+
+mul-put-numbers : tie.Need-mul-put-numbers
+mul-put-numbers c = omega (arith, fits (c .before .before .before))
+
+put-numbers-requires : tie.Need-put-numbers-requires
+put-numbers-requires c κs = omega (arith, fits (c .before .before .before))
+
+clear-requires : tie.Need-clear-requires
+clear-requires c κs = search needs
+
+same-length : tie.Need-same-length
+same-length c = search needs
+
+returns : tie.Need-returns
+returns c =
+    let a = c .before .before .before .before .before .before .before .before .before .before .before .before .args in
+    let d = c .before .before .before .before .before .before .before .before .decide in
+    judged-accepts (a .s .now) (a .buffer .now) (d .last .1 .1 .0) (d .result) (d .ensures) _ _ (c .before .before .before .before .before .before .v .given .1) (c .before .before .put-numbers .ensures)
+
+same-length-2 : tie.Need-same-length-2
+same-length-2 c = search needs
+
+returns-2 : tie.Need-returns-2
+returns-2 c =
+    let a = c .before .before .before .before .before .before .before .before .before .args in
+    let d = c .before .before .before .before .before .decide in
+    judged-refuses (a .s .now) (a .buffer .now) (d .last .1 .1 .0) (d .result) (d .ensures) _
+    (λ n e. ⊎-elim (λ z. omega arith) (λ z. omega arith) (rw e at (c .before .before .before .before .match .keys2))) (c .before .before .clear .ensures)
+
+pub judge-spec : {M : Type 1} → statement M
+judge-spec =
+    tie.close
+    (tie.spec
+    decide-requires
+    enum-known-v
+    mul-put-numbers
+    put-numbers-requires
+    clear-requires
+    same-length
+    returns
+    same-length-2
+    returns-2)
