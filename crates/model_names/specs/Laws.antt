@@ -14,8 +14,8 @@ use borrow.Author.Tests.{eq-eqb, eqb-true, ne-eqb}
 use Rattle.rules.specs.Bytes.{byteAt, fold, sameText}
 use Rattle.rules.specs.TypeFile.{Place, sameName}
 use Rattle.rules.specs.Judge.{placeAt, samePlace}
-use Rattle.text.specs.Laws.{sameText-refl, sameText-sym, sameText-first, sameText-last}
-use Rattle.model_names.specs.Places.{placeIn, placesOf, keyOf}
+use Rattle.text.specs.Laws.{sameText-refl, sameText-sym, sameText-at, sameText-first, sameText-last}
+use Rattle.model_names.specs.Places.{placeIn, placesOf, middle, keyOf}
 
 -- A place of a list to which others are added: one of the list, or the next one.
 pub placeAt-append : (ps qs : List Place) (k : ℕ) → k < length ps → placeAt (ps ++ qs) k ≡ placeAt ps k
@@ -118,9 +118,10 @@ pub key-none : (s : List ℕ) (x : Place) → x .size ≡ 0 → 0 ≡ keyOf s x
 unfolding keyOf
 key-none s x e = rw (eq-eqb (x .size) 0 e, keyOf)
 
-pub key-some : (s : List ℕ) (x : Place) (n at a b : ℕ) → n ≡ x .size → (n ≡ 0 → ⊥) → at ≡ x .at → a ≡ fold (byteAt s at) → b ≡ fold (byteAt s (at + (n - 1))) → a * 256 + b ≡ keyOf s x
+pub key-some : (s : List ℕ) (x : Place) (n at a b c : ℕ) → n ≡ x .size → (n ≡ 0 → ⊥) → at ≡ x .at
+    → a ≡ fold (byteAt s at) → b ≡ fold (byteAt s (at + (n - 1))) → c ≡ fold (byteAt s (at + middle n)) → (a * 256 + b) * 256 + c ≡ keyOf s x
 unfolding keyOf
-key-some s x n at a b e ne f g h = rw (keyOf, ← e, ← f, ne-eqb n 0 ne, g, h)
+key-some s x n at a b c e ne f g h i = rw (keyOf, ← e, ← f, ne-eqb n 0 ne, g, h, i)
 
 -- Places with the same name share their key.
 pub same-key : (s : List ℕ) (a b m n : ℕ) → m ≡ n → sameText s a s b n ≡ true → keyOf s (record { at = a; size = m }) ≡ keyOf s (record { at = b; size = n })
@@ -128,7 +129,8 @@ unfolding keyOf
 same-key s a b m zero e t = rw e
 same-key s a b m (suc n) e t =
     let z : suc n - 1 ≡ n = omega arith in
-    rw (e, keyOf, eqb·suc-zero n, z, sameText-first s a s b n t, sameText-last s a s b n t)
+    let within : middle (suc n) < suc n = omega arith in
+    rw (e, keyOf, eqb·suc-zero n, z, sameText-first s a s b n t, sameText-last s a s b n t, sameText-at s a s b (suc n) (middle (suc n)) t within)
 
 pub key-differs : (s names : List ℕ) (n p q : ℕ) → 1 ≤ p → p ≤ n → 1 ≤ q → q ≤ n → samePlace s (placesOf names n) p q ≡ true → keyOf s (placeIn names (p - 1)) ≡ keyOf s (placeIn names (q - 1))
 key-differs s names n p q a b c d r =

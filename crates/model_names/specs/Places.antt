@@ -1,5 +1,5 @@
 -- The places of a model as its table of names holds them.
-use Prim.Native.Nat.{ℕ, zero, suc, _+_, _-_, _*_}
+use Prim.Native.Nat.{ℕ, zero, suc, _+_, _-_, _*_, _/_}
 use mathlib.Core.Bool.{cond}
 use lib.Dec.{eqb}
 use mathlib.Core.List.{List, [], _∷_, _++_}
@@ -16,6 +16,12 @@ unfoldable pub placesOf : List ℕ → ℕ → List Place
 placesOf names zero = []
 placesOf names (suc k) = placesOf names k ++ placeIn names k ∷ []
 
--- A number that places of the same name share: the folded first and last byte of the name, 0 for `#PCDATA`.
+-- How far in a name of a size its middle byte stands.
+abbrev pub middle : ℕ → ℕ
+middle n = n / 2
+
+-- A number that places of the same name share: the folded first, last and middle byte of the name, 0 for `#PCDATA`.
 unfoldable pub keyOf : List ℕ → Place → ℕ
-keyOf s x = cond (eqb (x .size) 0) 0 (fold (byteAt s (x .at)) * 256 + fold (byteAt s (x .at + (x .size - 1))))
+keyOf s x =
+    cond (eqb (x .size) 0) 0
+    ((fold (byteAt s (x .at)) * 256 + fold (byteAt s (x .at + (x .size - 1)))) * 256 + fold (byteAt s (x .at + middle (x .size))))

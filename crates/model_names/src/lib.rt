@@ -3,6 +3,7 @@ ghost use mathlib.Core.Path.{_≡_};
 ghost use mathlib.Core.List.{[], _∷_, _++_};
 ghost use Prim.Native.Nat.{ℕ, _+_, _-_, _≤_, _<_};
 ghost use lib.ListN.{length, getD};
+ghost use Rattle.rules.specs.Bytes.{byteAt, fold};
 ghost use Rattle.rules.specs.Judge.{samePlace};
 ghost use Rattle.model_names.specs.Places.{placeIn, placesOf, keyOf};
 
@@ -74,13 +75,21 @@ pub fn key(s: &[u8], names: &[u32; 192], p: usize) -> u32
         return 0;
     }
     let at = place_at(names, p);
-    let a = wide(text::folded(text::byte(s, at)));
-    let b = wide(text::folded(text::byte(s, at + (n - 1))));
-    a * 256 + b
+    let a = folded_at(s, at);
+    let b = folded_at(s, at + (n - 1));
+    let c = folded_at(s, at + n / 2);
+    (a * 256 + b) * 256 + c
+}
+
+// The byte at a place of the text, folded.
+fn folded_at(s: &[u8], at: usize) -> u32
+    ensures { λ r. ⌜ (r ≡ fold (byteAt (now (s .entry)) at)) × (r < 256) ⌝ }
+{
+    wide(text::folded(text::byte(s, at)))
 }
 
 fn wide(b: u8) -> u32
-    ensures { λ r. ⌜ r ≡ b ⌝ }
+    ensures { λ r. ⌜ (r ≡ b) × (r < 256) ⌝ }
 {
     b as u32
 }

@@ -1,6 +1,5 @@
 -- `key` meets its contract: what it reads of the place, one call after the other.
-use mathlib.Core.Path.{sym, ap, _∙_}
-use Rattle.rules.specs.Bytes.{fold}
+use mathlib.Core.Path.{sym, _∙_}
 use Rattle.model_names.specs.Laws.{key-none, key-some}
 use borrow.Author.Needs.{needs}
 use Rattle.model_names.proofs.key.Statement.{statement}
@@ -15,29 +14,23 @@ returns c = key-none _ _ (sym (c .before .place-size .ensures .0) ∙ c .if1 .ta
 place-at-requires : tie.Need-place-at-requires
 place-at-requires c κs = search needs
 
-byte-requires : tie.Need-byte-requires
-byte-requires c κs = search needs
+folded-at-requires : tie.Need-folded-at-requires
+folded-at-requires c κs = search needs
 
-folded-requires : tie.Need-folded-requires
-folded-requires c κs = search needs
+sub-folded-at : tie.Need-sub-folded-at
+sub-folded-at c = search needs
 
-wide-requires : tie.Need-wide-requires
-wide-requires c κs = search needs
+add-folded-at : tie.Need-add-folded-at
+add-folded-at c = search needs
 
-sub-byte : tie.Need-sub-byte
-sub-byte c = search needs
+folded-at-requires-2 : tie.Need-folded-at-requires-2
+folded-at-requires-2 c κs = search needs
 
-add-byte : tie.Need-add-byte
-add-byte c = search needs
+add-folded-at-2 : tie.Need-add-folded-at-2
+add-folded-at-2 c = search needs
 
-byte-requires-2 : tie.Need-byte-requires-2
-byte-requires-2 c κs = search needs
-
-folded-requires-2 : tie.Need-folded-requires-2
-folded-requires-2 c κs = search needs
-
-wide-requires-2 : tie.Need-wide-requires-2
-wide-requires-2 c κs = search needs
+folded-at-requires-3 : tie.Need-folded-at-requires-3
+folded-at-requires-3 c κs = search needs
 
 mul-result : tie.Need-mul-result
 mul-result c = search needs
@@ -45,14 +38,20 @@ mul-result c = search needs
 add-result : tie.Need-add-result
 add-result c = search needs
 
+mul-result-2 : tie.Need-mul-result-2
+mul-result-2 c = search needs
+
+add-result-2 : tie.Need-add-result-2
+add-result-2 c = search needs
+
 returns-2 : tie.Need-returns-2
 returns-2 c =
-    let last = c .before .before in
-    let first = last .before .before .before in
-    let size = first .before .before .before in
-    key-some _ _ _ _ _ _ (size .place-size .ensures .0) (first .before .before .if1 .left) (first .before .place-at .ensures .0)
-    (last .before .wide .ensures ∙ last .before .before .folded .ensures ∙ ap fold (first .byte .ensures))
-    (c .wide2 .ensures ∙ c .before .folded2 .ensures ∙ ap fold (last .byte2 .ensures))
+    let last = c .before in
+    let first = last .before in
+    let place = first .before in
+    let some = place .before in
+    key-some _ _ _ _ _ _ _ (some .before .place-size .ensures .0) (some .if1 .left) (place .place-at .ensures .0)
+    (first .folded-at .ensures .0) (last .folded-at2 .ensures .0) (c .folded-at3 .ensures .0)
 
 pub key-spec : {M : Type 1} → statement M
 key-spec =
@@ -61,14 +60,14 @@ key-spec =
     place-size-requires
     returns
     place-at-requires
-    byte-requires
-    folded-requires
-    wide-requires
-    sub-byte
-    add-byte
-    byte-requires-2
-    folded-requires-2
-    wide-requires-2
+    folded-at-requires
+    sub-folded-at
+    add-folded-at
+    folded-at-requires-2
+    add-folded-at-2
+    folded-at-requires-3
     mul-result
     add-result
+    mul-result-2
+    add-result-2
     returns-2)
