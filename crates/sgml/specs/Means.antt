@@ -1,0 +1,21 @@
+-- The answer of a call as C sees it: six numbers.
+use Prim.Native.Nat.{ℕ, _<_}
+use mathlib.Core.Path.{_≡_}
+use mathlib.Core.List.{List, [], _∷_}
+use Rattle.rules.specs.Judge.{Answer, JudgedBytes}
+use Rattle.type_judge.specs.declared.Verdict.{Verdict}
+use Rattle.type_judge.specs.declared.Verdict.the-variants.{Accepted, Malformed, Ambiguous}
+
+-- Refusal number, input, position, the two places, count.
+abbrev pub answerNumbers : Answer → List ℕ
+answerNumbers a = a .number ∷ a .input ∷ a .position ∷ a .first ∷ a .second ∷ a .count ∷ []
+
+-- The numbers are an answer to the type file, and the buffer holds after the call what goes with it.
+abbrev pub JudgedNumbers : (s before numbers after : List ℕ) → Type 0
+JudgedNumbers s before numbers after = (a : Answer) × (numbers ≡ answerNumbers a) × JudgedBytes s before a after
+
+-- The numbers of the answer are 32-bit numbers.
+abbrev pub VerdictFits : Verdict → Type 0
+VerdictFits (Accepted n) = n < 4294967296
+VerdictFits (Malformed f) = f .at < 4294967296
+VerdictFits (Ambiguous c) = Unit {0}
