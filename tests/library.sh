@@ -25,6 +25,14 @@ echo "the library on the vectors"
 cc -std=c99 -Wall -Wextra -pedantic -Werror -O2 -Iinclude tests/judged.c target/staticlib/libsgml.a -o "$out/judged"
 "$out/judged" tests/vectors/*/*/
 
+echo "the standard's own content models"
+cc -std=c99 -Wall -Wextra -pedantic -Werror -O2 -Iinclude tests/listed.c target/staticlib/libsgml.a -o "$out/listed"
+"$out/listed" tests/standard.cases
+
+echo "the stack that a call takes"
+cc -std=c99 -Wall -Wextra -pedantic -Werror -O2 -Iinclude tests/stack.c target/staticlib/libsgml.a -lpthread -o "$out/stack"
+"$out/stack"
+
 echo "the library against the second implementation, on generated and damaged type files"
 rustc -O --edition 2021 tests/oracle/compare.rs -L target/staticlib -l static=sgml -o "$out/compare"
 "$out/compare" "${CASES:-100000}" "${SEED:-1}"

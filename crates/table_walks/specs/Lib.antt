@@ -1,0 +1,2 @@
+-- What the entries of a model's table mean over walks.
+pub mod Means

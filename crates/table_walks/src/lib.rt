@@ -1,0 +1,1 @@
+// What the entries of a model's table mean over walks: what a document reader goes by. No code.

@@ -1,0 +1,45 @@
+/* listed.c - holds the judge against listed cases: NUMBER [FIRST SECOND] | TYPE FILE, with "^" before the byte at fault. */
+#include "sgml.h"
+#include <stdio.h>
+#include <string.h>
+
+int main(int argc, char **argv)
+{
+    static uint8_t buffer[SGML_ELEMENT_LIMIT * SGML_RECORD_NUMBERS * 4];
+    static char line[4096];
+    int passed = 0, failed = 0;
+    FILE *file = argc == 2 ? fopen(argv[1], "r") : NULL;
+    if (!file)
+        return 2;
+    while (fgets(line, sizeof line, file)) {
+        uint32_t answer[SGML_ANSWER_NUMBERS];
+        unsigned number, first = 0, second = 0;
+        char *type = strstr(line, " | "), *at;
+        size_t position = 0;
+        if (line[0] == '#')
+            continue;
+        line[strcspn(line, "\n")] = 0;
+        if (!type || sscanf(line, "%u %u %u |", &number, &first, &second) < 1) {
+            printf("not a case: %s\n", line);
+            failed++;
+            continue;
+        }
+        type += 3;
+        at = strchr(type, '^');
+        if (at) {
+            position = (size_t)(at - type);
+            memmove(at, at + 1, strlen(at));
+        }
+        sgml_judge((const uint8_t *)type, strlen(type), buffer, sizeof buffer, answer);
+        if (answer[SGML_NUMBER] == number && answer[SGML_POSITION] == position && answer[SGML_FIRST] == first && answer[SGML_SECOND] == second) {
+            passed++;
+        } else {
+            failed++;
+            printf("%s\n  judged %u at %u, places %u and %u; expected %u at %u, places %u and %u\n", type, (unsigned)answer[SGML_NUMBER],
+                   (unsigned)answer[SGML_POSITION], (unsigned)answer[SGML_FIRST], (unsigned)answer[SGML_SECOND], number, (unsigned)position, first, second);
+        }
+    }
+    fclose(file);
+    printf("%d passed, %d failed\n", passed, failed);
+    return failed != 0 || passed == 0;
+}

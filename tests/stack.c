@@ -1,0 +1,65 @@
+/* stack.c - how much stack a call of the judge takes: the call runs in a thread whose stack was painted before. */
+#define _GNU_SOURCE
+#include "sgml.h"
+#include <pthread.h>
+#include <stdio.h>
+#include <stdlib.h>
+#include <string.h>
+
+#define STACK (512 * 1024)
+#define LIMIT (256 * 1024)
+#define PAINT 0x5A
+
+static char type[SGML_TYPE_LIMIT];
+static size_t type_len;
+
+static void *call(void *buffer)
+{
+    uint32_t answer[SGML_ANSWER_NUMBERS];
+    sgml_judge((const uint8_t *)type, type_len, buffer, SGML_ELEMENT_LIMIT * SGML_RECORD_NUMBERS * 4, answer);
+    if (answer[SGML_NUMBER])
+        printf("refused %u at %u\n", (unsigned)answer[SGML_NUMBER], (unsigned)answer[SGML_POSITION]);
+    return NULL;
+}
+
+static void *nothing(void *unused)
+{
+    return unused;
+}
+
+/* The bytes of a painted stack that a function has written. */
+static size_t used(void *(*function)(void *), void *argument)
+{
+    uint8_t *stack = aligned_alloc(4096, STACK);
+    pthread_attr_t attributes;
+    pthread_t thread;
+    size_t i = 0;
+    memset(stack, PAINT, STACK);
+    pthread_attr_init(&attributes);
+    pthread_attr_setstack(&attributes, stack, STACK);
+    pthread_create(&thread, &attributes, function, argument);
+    pthread_join(thread, NULL);
+    while (i < STACK && stack[i] == PAINT)
+        i++;
+    free(stack);
+    return STACK - i;
+}
+
+int main(void)
+{
+    static uint8_t buffer[SGML_ELEMENT_LIMIT * SGML_RECORD_NUMBERS * 4];
+    int level, k;
+    size_t taken;
+    /* as many levels, tokens and elements as there may be */
+    for (k = 0; k < 64; k++) {
+        type_len += (size_t)sprintf(type + type_len, "<!ELEMENT E%d - O ", k);
+        for (level = 0; level < 16; level++)
+            type_len += (size_t)sprintf(type + type_len, "(");
+        for (level = 0; level < 16; level++)
+            type_len += (size_t)sprintf(type + type_len, "%cA%d,B%d,C%d)+", level ? ',' : ' ', level, level, level);
+        type_len += (size_t)sprintf(type + type_len, ">");
+    }
+    taken = used(call, buffer) - used(nothing, NULL);
+    printf("a call of the judge takes %zu bytes of stack; the limit is %d\n", taken, LIMIT);
+    return taken > LIMIT || taken == 0;
+}
