@@ -10,6 +10,7 @@ echo "the header as C99 and as C++"
 echo '#include "sgml.h"' >"$out/header.c"
 cc -std=c99 -Wall -Wextra -pedantic -Werror -Iinclude -c "$out/header.c" -o "$out/header.o"
 c++ -Wall -Wextra -pedantic -Werror -Iinclude -x c++ -c "$out/header.c" -o "$out/header.o"
+echo "2 passed, 0 failed"
 
 echo "the second implementation on the vectors, and on all walks of small models"
 rustc -O --edition 2021 tests/oracle/vectors.rs -o "$out/vectors"
@@ -32,6 +33,12 @@ cc -std=c99 -Wall -Wextra -pedantic -Werror -O2 -Iinclude tests/listed.c target/
 echo "the stack that a call takes"
 cc -std=c99 -Wall -Wextra -pedantic -Werror -O2 -Iinclude tests/stack.c target/staticlib/libsgml.a -lpthread -o "$out/stack"
 "$out/stack"
+echo "1 passed, 0 failed"
+
+echo "the example program on the example type files"
+examples/run >"$out/examples.txt"
+diff "$out/examples.txt" examples/expected.txt
+echo "1 passed, 0 failed"
 
 echo "the library against the second implementation, on generated and damaged type files"
 rustc -O --edition 2021 tests/oracle/compare.rs -L target/staticlib -l static=sgml -o "$out/compare"
