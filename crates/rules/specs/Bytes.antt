@@ -66,3 +66,11 @@ typeLimit = 32768
 
 abbrev pub elementLimit : ℕ
 elementLimit = 64
+
+-- "TAGLVL 24 open elements."
+abbrev pub TAGLVL : ℕ
+TAGLVL = 24
+
+-- "House figures: .. document 65,535."
+abbrev pub documentLimit : ℕ
+documentLimit = 65535

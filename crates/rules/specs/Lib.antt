@@ -5,3 +5,6 @@ pub mod Walk
 pub mod Ambiguity
 pub mod TypeFile
 pub mod Judge
+pub mod Document
+pub mod Settling
+pub mod Reader

@@ -1,0 +1,198 @@
+-- The rules decide one answer of the reader to every two inputs, and what the buffer holds after.
+-- That a type has one first ambiguous model is a fact of the type's half, taken here as given.
+use Prim.Native.Nat.{ℕ, _*_, _/_, _<_, _≤_}
+use mathlib.Core.Path.{_≡_, sym, _∙_, ap, subst}
+use mathlib.Core.List.{List, [], _++_}
+use native.Mathlib.Omega.{arith}
+use lib.ListN.{length, drop, replicate}
+use Rattle.rules.specs.Bytes.{allowed, span, typeLimit, documentLimit}
+use Rattle.rules.specs.Reading.{Reading, refused, got}
+use Rattle.rules.specs.TypeFile.{Element, typeFile}
+use Rattle.rules.specs.Judge.{Answer, refusal, acceptance, AllUnambiguous, FirstAmbiguous, Legible, Accepts, bytesOf}
+use Rattle.rules.specs.Settling.{Event}
+use Rattle.rules.specs.Reader.{eventNumbers, documentRefusal, BothLegible, Reads, RefusesBoth, typeTooLong, documentTooLong, typeNotAllowed, documentNotAllowed, malformed, ambiguous, unsettled, noRoom, ReadAs, ReadAsBytes}
+use Rattle.document_laws.specs.Laws.{same-elements, reads-one}
+
+-- Both calls promise this, of a buffer with room for so many numbers that is `zeroed` by a refusal and `filled` by an acceptance.
+data Settled (s d : List ℕ) (room : ℕ) (zeroed : List ℕ) (filled : List Event → List ℕ) (a : Answer) (after : List ℕ) : Type 0 where
+  refuses : RefusesBoth s d room a → after ≡ zeroed → Settled s d room zeroed filled a after
+  accepts : (es : List Element) (ev : List Event) → Reads s d es (got ev) → 4 * length ev ≤ room → a ≡ acceptance (length ev) → after ≡ filled ev → Settled s d room zeroed filled a after
+
+-- The same of legible inputs.
+data Read (s d : List ℕ) (room : ℕ) (zeroed : List ℕ) (filled : List Event → List ℕ) (a : Answer) (after : List ℕ) : Type 0 where
+  bad : (n k : ℕ) → typeFile s ≡ refused n k → a ≡ refusal n k 0 0 → after ≡ zeroed → Read s d room zeroed filled a after
+  clash : (es : List Element) → typeFile s ≡ got es → (k p q : ℕ) → FirstAmbiguous s k p q es → a ≡ refusal 9 k p q → after ≡ zeroed → Read s d room zeroed filled a after
+  stops : (es : List Element) (n k : ℕ) → Reads s d es (refused n k) → a ≡ documentRefusal n k → after ≡ zeroed → Read s d room zeroed filled a after
+  tight : (es : List Element) (ev : List Event) → Reads s d es (got ev) → room < 4 * length ev → a ≡ documentRefusal 19 0 → after ≡ zeroed → Read s d room zeroed filled a after
+  enough : (es : List Element) (ev : List Event) → Reads s d es (got ev) → 4 * length ev ≤ room → a ≡ acceptance (length ev) → after ≡ filled ev → Read s d room zeroed filled a after
+
+both : {a b c : Answer} {x y z : List ℕ} → (a ≡ c) × (x ≡ z) → (b ≡ c) × (y ≡ z) → (a ≡ b) × (x ≡ y)
+both (e, f) (g, h) = (e ∙ sym g, f ∙ sym h)
+
+-- What a reading got, or a refusal.
+
+abbrev IsGot : {A : Type 0} → Reading A → Type 0
+IsGot (refused n k) = ⊥
+IsGot (got a) = Unit {0}
+
+not-got : {A : Type 0} {n k : ℕ} {a : A} → refused n k ≡ got a → ⊥
+not-got e = subst IsGot (sym e) tt
+
+refusedIn : {A : Type 0} → (ℕ → ℕ → Answer) → Reading A → Answer
+refusedIn f (refused n k) = f n k
+refusedIn f (got a) = f 0 0
+
+same-refusal : {A : Type 0} (f : ℕ → ℕ → Answer) (n k m j : ℕ) → _≡_ {A = Reading A} (refused n k) (refused m j) → f n k ≡ f m j
+unfolding refusedIn
+same-refusal f n k m j e = ap (refusedIn f) e
+
+eventsOf : Reading (List Event) → List Event
+eventsOf (refused n k) = []
+eventsOf (got ev) = ev
+
+same-events : (ev fv : List Event) → got ev ≡ got fv → ev ≡ fv
+unfolding eventsOf
+same-events ev fv e = ap eventsOf e
+
+abbrev OneFirst : List ℕ → Type 0
+OneFirst s = (k p q j a b : ℕ) (es : List Element) → FirstAmbiguous s k p q es → FirstAmbiguous s j a b es → (k ≡ j) × (p ≡ a) × (q ≡ b)
+
+abbrev NoFirst : List ℕ → Type 0
+NoFirst s = (k p q : ℕ) (es : List Element) → FirstAmbiguous s k p q es → AllUnambiguous s es → ⊥
+
+module _ (s d : List ℕ) (room : ℕ) (zeroed : List ℕ) (filled : List Event → List ℕ) (one-first : OneFirst s) (no-first : NoFirst s) where
+  abbrev Is : Answer → List ℕ → Type 0
+  Is a after = Settled s d room zeroed filled a after
+
+  abbrev IsRead : Answer → List ℕ → Type 0
+  IsRead a after = Read s d room zeroed filled a after
+
+  -- At each stage of the order there is one way to go on.
+
+  when-type-long : (a : Answer) (after : List ℕ) → typeLimit < length s → Is a after → (a ≡ refusal 1 0 0 0) × (after ≡ zeroed)
+  when-type-long a after h (refuses (typeTooLong l e) z) = (e, z)
+  when-type-long a after h (refuses (documentTooLong l m e) z) = absurd (omega (arith, h, l, m))
+  when-type-long a after h (refuses (typeNotAllowed l m c e) z) = absurd (omega (arith, h, l, m, c))
+  when-type-long a after h (refuses (documentNotAllowed l m c e) z) = absurd (omega (arith, h, l .short, l .clean, m, c))
+  when-type-long a after h (refuses (malformed l n k r e) z) = absurd (omega (arith, h, l .type .short, l .type .clean, l .short, l .clean))
+  when-type-long a after h (refuses (ambiguous l es r k p q f e) z) = absurd (omega (arith, h, l .type .short, l .type .clean, l .short, l .clean))
+  when-type-long a after h (refuses (unsettled es n k r e) z) = absurd (omega (arith, h, r .legible .type .short, r .legible .type .clean, r .legible .short, r .legible .clean))
+  when-type-long a after h (refuses (noRoom es ev r f e) z) = absurd (omega (arith, h, r .legible .type .short, r .legible .type .clean, r .legible .short, r .legible .clean))
+  when-type-long a after h (accepts es ev r f e z) = absurd (omega (arith, h, r .legible .type .short, r .legible .type .clean, r .legible .short, r .legible .clean))
+
+  when-document-long : (a : Answer) (after : List ℕ) → length s ≤ typeLimit → documentLimit < length d → Is a after → (a ≡ documentRefusal 1 0) × (after ≡ zeroed)
+  when-document-long a after h g (refuses (typeTooLong l e) z) = absurd (omega (arith, h, g, l))
+  when-document-long a after h g (refuses (documentTooLong l m e) z) = (e, z)
+  when-document-long a after h g (refuses (typeNotAllowed l m c e) z) = absurd (omega (arith, h, g, l, m, c))
+  when-document-long a after h g (refuses (documentNotAllowed l m c e) z) = absurd (omega (arith, h, g, l .short, l .clean, m, c))
+  when-document-long a after h g (refuses (malformed l n k r e) z) = absurd (omega (arith, h, g, l .type .short, l .type .clean, l .short, l .clean))
+  when-document-long a after h g (refuses (ambiguous l es r k p q f e) z) = absurd (omega (arith, h, g, l .type .short, l .type .clean, l .short, l .clean))
+  when-document-long a after h g (refuses (unsettled es n k r e) z) = absurd (omega (arith, h, g, r .legible .type .short, r .legible .type .clean, r .legible .short, r .legible .clean))
+  when-document-long a after h g (refuses (noRoom es ev r f e) z) = absurd (omega (arith, h, g, r .legible .type .short, r .legible .type .clean, r .legible .short, r .legible .clean))
+  when-document-long a after h g (accepts es ev r f e z) = absurd (omega (arith, h, g, r .legible .type .short, r .legible .type .clean, r .legible .short, r .legible .clean))
+
+  when-type-dirty : (a : Answer) (after : List ℕ) → length s ≤ typeLimit → length d ≤ documentLimit → span allowed s < length s → Is a after → (a ≡ refusal 2 (span allowed s) 0 0) × (after ≡ zeroed)
+  when-type-dirty a after h g i (refuses (typeTooLong l e) z) = absurd (omega (arith, h, g, i, l))
+  when-type-dirty a after h g i (refuses (documentTooLong l m e) z) = absurd (omega (arith, h, g, i, l, m))
+  when-type-dirty a after h g i (refuses (typeNotAllowed l m c e) z) = (e, z)
+  when-type-dirty a after h g i (refuses (documentNotAllowed l m c e) z) = absurd (omega (arith, h, g, i, l .short, l .clean, m, c))
+  when-type-dirty a after h g i (refuses (malformed l n k r e) z) = absurd (omega (arith, h, g, i, l .type .short, l .type .clean, l .short, l .clean))
+  when-type-dirty a after h g i (refuses (ambiguous l es r k p q f e) z) = absurd (omega (arith, h, g, i, l .type .short, l .type .clean, l .short, l .clean))
+  when-type-dirty a after h g i (refuses (unsettled es n k r e) z) = absurd (omega (arith, h, g, i, r .legible .type .short, r .legible .type .clean, r .legible .short, r .legible .clean))
+  when-type-dirty a after h g i (refuses (noRoom es ev r f e) z) = absurd (omega (arith, h, g, i, r .legible .type .short, r .legible .type .clean, r .legible .short, r .legible .clean))
+  when-type-dirty a after h g i (accepts es ev r f e z) = absurd (omega (arith, h, g, i, r .legible .type .short, r .legible .type .clean, r .legible .short, r .legible .clean))
+
+  when-document-dirty : (a : Answer) (after : List ℕ) → Legible s → length d ≤ documentLimit → span allowed d < length d → Is a after → (a ≡ documentRefusal 2 (span allowed d)) × (after ≡ zeroed)
+  when-document-dirty a after h g i (refuses (typeTooLong l e) z) = absurd (omega (arith, h .short, h .clean, g, i, l))
+  when-document-dirty a after h g i (refuses (documentTooLong l m e) z) = absurd (omega (arith, h .short, h .clean, g, i, l, m))
+  when-document-dirty a after h g i (refuses (typeNotAllowed l m c e) z) = absurd (omega (arith, h .short, h .clean, g, i, l, m, c))
+  when-document-dirty a after h g i (refuses (documentNotAllowed l m c e) z) = (e, z)
+  when-document-dirty a after h g i (refuses (malformed l n k r e) z) = absurd (omega (arith, h .short, h .clean, g, i, l .type .short, l .type .clean, l .short, l .clean))
+  when-document-dirty a after h g i (refuses (ambiguous l es r k p q f e) z) = absurd (omega (arith, h .short, h .clean, g, i, l .type .short, l .type .clean, l .short, l .clean))
+  when-document-dirty a after h g i (refuses (unsettled es n k r e) z) = absurd (omega (arith, h .short, h .clean, g, i, r .legible .type .short, r .legible .type .clean, r .legible .short, r .legible .clean))
+  when-document-dirty a after h g i (refuses (noRoom es ev r f e) z) = absurd (omega (arith, h .short, h .clean, g, i, r .legible .type .short, r .legible .type .clean, r .legible .short, r .legible .clean))
+  when-document-dirty a after h g i (accepts es ev r f e z) = absurd (omega (arith, h .short, h .clean, g, i, r .legible .type .short, r .legible .type .clean, r .legible .short, r .legible .clean))
+
+  when-legible : (a : Answer) (after : List ℕ) → BothLegible s d → Is a after → IsRead a after
+  when-legible a after h (refuses (typeTooLong l e) z) = absurd (omega (arith, h .type .short, h .type .clean, h .short, h .clean, l))
+  when-legible a after h (refuses (documentTooLong l m e) z) = absurd (omega (arith, h .type .short, h .type .clean, h .short, h .clean, l, m))
+  when-legible a after h (refuses (typeNotAllowed l m c e) z) = absurd (omega (arith, h .type .short, h .type .clean, h .short, h .clean, l, m, c))
+  when-legible a after h (refuses (documentNotAllowed l m c e) z) = absurd (omega (arith, h .type .short, h .type .clean, h .short, h .clean, l .short, l .clean, m, c))
+  when-legible a after h (refuses (malformed l n k r e) z) = bad n k r e z
+  when-legible a after h (refuses (ambiguous l es r k p q f e) z) = clash es r k p q f e z
+  when-legible a after h (refuses (unsettled es n k r e) z) = stops es n k r e z
+  when-legible a after h (refuses (noRoom es ev r f e) z) = tight es ev r f e z
+  when-legible a after h (accepts es ev r f e z) = enough es ev r f e z
+
+  accepted-clash : (es fs : List Element) → typeFile s ≡ got es → (k p q : ℕ) → FirstAmbiguous s k p q es → Accepts s fs → ⊥
+  accepted-clash es fs e k p q f a = no-first k p q fs (subst (FirstAmbiguous s k p q) (same-elements s es fs e (a .elements)) f) (a .unambiguous)
+
+  accepted-bad : (n k : ℕ) (fs : List Element) → typeFile s ≡ refused n k → Accepts s fs → ⊥
+  accepted-bad n k fs e a = not-got (sym e ∙ a .elements)
+
+  same-got : (es fs : List Element) (ev fv : List Event) → Reads s d es (got ev) → Reads s d fs (got fv) → ev ≡ fv
+  same-got es fs ev fv x y = same-events ev fv (reads-one s d es fs (got ev) (got fv) x y .1)
+
+  not-both : (es fs : List Element) (n k : ℕ) (ev : List Event) → Reads s d es (refused n k) → Reads s d fs (got ev) → ⊥
+  not-both es fs n k ev x y = not-got (reads-one s d es fs (refused n k) (got ev) x y .1)
+
+  not-room : (es fs : List Element) (ev fv : List Event) → Reads s d es (got ev) → Reads s d fs (got fv) → room < 4 * length ev → 4 * length fv ≤ room → ⊥
+  not-room es fs ev fv x y l m = omega (arith, ap length (same-got es fs ev fv x y))
+
+  read-one : (a b : Answer) (after other : List ℕ) → IsRead a after → IsRead b other → (a ≡ b) × (after ≡ other)
+  read-one a b after other (bad n k r e z) (bad m j q f y) = (e ∙ same-refusal (λ n k. refusal n k 0 0) n k m j (sym r ∙ q) ∙ sym f, z ∙ sym y)
+  read-one a b after other (bad n k r e z) (clash es q j p i w f y) = absurd (not-got (sym r ∙ q))
+  read-one a b after other (bad n k r e z) (stops es m j w f y) = absurd (accepted-bad n k es r (w .accepted))
+  read-one a b after other (bad n k r e z) (tight es ev w l f y) = absurd (accepted-bad n k es r (w .accepted))
+  read-one a b after other (bad n k r e z) (enough es ev w l f y) = absurd (accepted-bad n k es r (w .accepted))
+  read-one a b after other (clash es r k p q x e z) (bad m j i f y) = absurd (not-got (sym i ∙ r))
+  read-one a b after other (clash es r k p q x e z) (clash fs i j l m w f y) =
+      let (c, g, h) = one-first k p q j l m es x (subst (FirstAmbiguous s j l m) (same-elements s fs es i r) w) in
+      (cc, z ∙ sym y)
+  read-one a b after other (clash es r k p q x e z) (stops fs m j w f y) = absurd (accepted-clash es fs r k p q x (w .accepted))
+  read-one a b after other (clash es r k p q x e z) (tight fs ev w l f y) = absurd (accepted-clash es fs r k p q x (w .accepted))
+  read-one a b after other (clash es r k p q x e z) (enough fs ev w l f y) = absurd (accepted-clash es fs r k p q x (w .accepted))
+  read-one a b after other (stops es n k x e z) (bad m j r f y) = absurd (accepted-bad m j es r (x .accepted))
+  read-one a b after other (stops es n k x e z) (clash fs r j p q w f y) = absurd (accepted-clash fs es r j p q w (x .accepted))
+  read-one a b after other (stops es n k x e z) (stops fs m j w f y) = (e ∙ same-refusal documentRefusal n k m j (reads-one s d es fs _ _ x w .1) ∙ sym f, z ∙ sym y)
+  read-one a b after other (stops es n k x e z) (tight fs ev w l f y) = absurd (not-both es fs n k ev x w)
+  read-one a b after other (stops es n k x e z) (enough fs ev w l f y) = absurd (not-both es fs n k ev x w)
+  read-one a b after other (tight es ev x l e z) (bad m j r f y) = absurd (accepted-bad m j es r (x .accepted))
+  read-one a b after other (tight es ev x l e z) (clash fs r j p q w f y) = absurd (accepted-clash fs es r j p q w (x .accepted))
+  read-one a b after other (tight es ev x l e z) (stops fs m j w f y) = absurd (not-both fs es m j ev w x)
+  read-one a b after other (tight es ev x l e z) (tight fs fv w m f y) = (e ∙ sym f, z ∙ sym y)
+  read-one a b after other (tight es ev x l e z) (enough fs fv w m f y) = absurd (not-room es fs ev fv x w l m)
+  read-one a b after other (enough es ev x l e z) (bad m j r f y) = absurd (accepted-bad m j es r (x .accepted))
+  read-one a b after other (enough es ev x l e z) (clash fs r j p q w f y) = absurd (accepted-clash fs es r j p q w (x .accepted))
+  read-one a b after other (enough es ev x l e z) (stops fs m j w f y) = absurd (not-both fs es m j ev w x)
+  read-one a b after other (enough es ev x l e z) (tight fs fv w m f y) = absurd (not-room fs es fv ev w x m l)
+  read-one a b after other (enough es ev x l e z) (enough fs fv w m f y) =
+      let c = same-got es fs ev fv x w in
+      (e ∙ ap (λ v. acceptance (length v)) c ∙ sym f, z ∙ ap filled c ∙ sym y)
+
+  -- Two answers to the same two inputs are the same.
+  settled-one : (a b : Answer) (after other : List ℕ) → Is a after → Is b other → (a ≡ b) × (after ≡ other)
+  settled-one a b after other (refuses (typeTooLong l e) z) y = both (e, z) (when-type-long b other l y)
+  settled-one a b after other (refuses (documentTooLong l m e) z) y = both (e, z) (when-document-long b other l m y)
+  settled-one a b after other (refuses (typeNotAllowed l m c e) z) y = both (e, z) (when-type-dirty b other l m c y)
+  settled-one a b after other (refuses (documentNotAllowed l m c e) z) y = both (e, z) (when-document-dirty b other l m c y)
+  settled-one a b after other (refuses (malformed l n k r e) z) y = read-one a b after other (bad n k r e z) (when-legible b other l y)
+  settled-one a b after other (refuses (ambiguous l es r k p q f e) z) y = read-one a b after other (clash es r k p q f e z) (when-legible b other l y)
+  settled-one a b after other (refuses (unsettled es n k r e) z) y = read-one a b after other (stops es n k r e z) (when-legible b other (r .legible) y)
+  settled-one a b after other (refuses (noRoom es ev r f e) z) y = read-one a b after other (tight es ev r f e z) (when-legible b other (r .legible) y)
+  settled-one a b after other (accepts es ev r f e z) y = read-one a b after other (enough es ev r f e z) (when-legible b other (r .legible) y)
+
+module _ (s d before : List ℕ) (one-first : OneFirst s) (no-first : NoFirst s) (a b : Answer) (after other : List ℕ) where
+  pub read-as-one : ReadAs s d before a after → ReadAs s d before b other → (a ≡ b) × (after ≡ other)
+  read-as-one x y = settled-one s d (length before) (replicate (length before) 0) (λ ev. eventNumbers ev ++ drop (4 * length ev) before) one-first no-first a b after other (is a after x) (is b other y)
+    where
+      is : (a : Answer) (after : List ℕ) → ReadAs s d before a after → Settled s d (length before) (replicate (length before) 0) (λ ev. eventNumbers ev ++ drop (4 * length ev) before) a after
+      is a after (ReadAs.refuses r z) = refuses r z
+      is a after (ReadAs.accepts es ev r f e z) = accepts es ev r f e z
+
+  pub read-as-bytes-one : ReadAsBytes s d before a after → ReadAsBytes s d before b other → (a ≡ b) × (after ≡ other)
+  read-as-bytes-one x y = settled-one s d (length before / 4) (replicate (length before) 0) (λ ev. bytesOf (eventNumbers ev) ++ drop (16 * length ev) before) one-first no-first a b after other (is a after x) (is b other y)
+    where
+      is : (a : Answer) (after : List ℕ) → ReadAsBytes s d before a after → Settled s d (length before / 4) (replicate (length before) 0) (λ ev. bytesOf (eventNumbers ev) ++ drop (16 * length ev) before) a after
+      is a after (ReadAsBytes.refuses r z) = refuses r z
+      is a after (ReadAsBytes.accepts es ev r f e z) = accepts es ev r f e z

@@ -1,0 +1,189 @@
+-- The chain that is looked for within as many elements as there are is the shortest of all chains, and is found if there is any.
+use Prim.Native.Nat.{ℕ, zero, suc, _+_, _≤_, _<_}
+use mathlib.Core.Path.{_≡_, refl, sym, _∙_, ap, subst}
+use mathlib.Core.Bool.{Bool, true, false, _&&_, false≢true}
+use mathlib.Core.Logic.{⊎-elim}
+use mathlib.Core.List.{List, [], _∷_, List·Memᴰ, List·Memᴰ·head, List·Memᴰ·tail, List·Memᴰ·not-nil, List·Memᴰ·cases-cons}
+use native.Mathlib.Decide.{ℕ-discrete}
+use native.Mathlib.Omega.{arith}
+use lib.ListN.{length}
+use lib.Dec.{eqb, leb}
+use borrow.Author.Tests.{leb-true, eqb-true, eqb-false}
+use Rattle.rules.specs.TypeFile.{Element}
+use Rattle.rules.specs.Settling.{contentOf, hasModel, startO, numberFrom, numberOf, isNamed, Token, Decisions, Open, elementOf, fitting, requiredPlace, inferable, chain}
+use Rattle.model_sets.specs.Bits.{bool-cases}
+use Rattle.document_laws.specs.Same.{link}
+
+-- Lists without a number twice
+
+abbrev Once : List ℕ → Type 0
+Once [] = Unit {0}
+Once (k ∷ ks) = (List·Memᴰ k ks → ⊥) × Once ks
+
+member : (k : ℕ) (ks : List ℕ) → Dec (List·Memᴰ k ks)
+member k [] = no List·Memᴰ·not-nil
+member k (j ∷ ks) = go (ℕ-discrete k j) (member k ks)
+  where
+    go : Dec (k ≡ j) → Dec (List·Memᴰ k ks) → Dec (List·Memᴰ k (j ∷ ks))
+    go (yes e) d = yes (List·Memᴰ·head e)
+    go (no e) (yes m) = yes (List·Memᴰ·tail m)
+    go (no e) (no m) = no (λ x. ⊎-elim e m (List·Memᴰ·cases-cons x))
+
+without : ℕ → List ℕ → List ℕ
+without m [] = []
+without m (k ∷ ks) = elim (eqb k m) [ true ↦ ks | false ↦ k ∷ without m ks ]
+
+without-length : (m : ℕ) (ks : List ℕ) → length ks ≤ suc (length (without m ks))
+unfolding without
+without-length m [] = omega arith
+without-length m (k ∷ ks) = bool-cases (eqb k m) (λ e. rw (e, without) (omega arith)) (λ e. rw (e, without) (omega (arith, without-length m ks)))
+
+without-member : (m p : ℕ) (ks : List ℕ) → Once ks → List·Memᴰ p (without m ks) → List·Memᴰ p ks × (p ≡ m → ⊥)
+unfolding without
+without-member m p [] o x = absurd (List·Memᴰ·not-nil x)
+without-member m p (k ∷ ks) (a, o) x = bool-cases (eqb k m) here (there (without-member m p ks o))
+  where
+    here : eqb k m ≡ true → List·Memᴰ p (k ∷ ks) × (p ≡ m → ⊥)
+    here e =
+        let y : List·Memᴰ p ks = rw (e, without) at x in
+        (List·Memᴰ·tail y, λ q. a (rw (eqb-true k m e ∙ sym q) y))
+
+    there : (List·Memᴰ p (without m ks) → List·Memᴰ p ks × (p ≡ m → ⊥)) → eqb k m ≡ false → List·Memᴰ p (k ∷ ks) × (p ≡ m → ⊥)
+    there ih e =
+        let y : List·Memᴰ p (k ∷ without m ks) = rw (e, without) at x in
+        ⊎-elim (λ q. (List·Memᴰ·head q, λ z. eqb-false k m e (sym q ∙ z))) (λ z. let (u, v) = ih z in (List·Memᴰ·tail u, v)) (List·Memᴰ·cases-cons y)
+
+without-once : (m : ℕ) (ks : List ℕ) → Once ks → Once (without m ks)
+unfolding without
+without-once m [] o = tt
+without-once m (k ∷ ks) (a, o) = bool-cases (eqb k m) (λ e. rw (e, without) o) (λ e. rw (e, without) (λ x. a (without-member m k ks o x .0), without-once m ks o))
+
+-- numbers from 1 to n, none twice, are at most n
+few : (n : ℕ) (ks : List ℕ) → Once ks → ((p : ℕ) → List·Memᴰ p ks → (1 ≤ p) × (p ≤ n)) → length ks ≤ n
+few zero [] o r = omega arith
+few zero (k ∷ ks) o r = absurd (omega (arith, r k (List·Memᴰ·head refl)))
+few (suc n) ks o r = omega (arith, without-length (suc n) ks, few n (without (suc n) ks) (without-once (suc n) ks o) less)
+  where
+    less : (p : ℕ) → List·Memᴰ p (without (suc n) ks) → (1 ≤ p) × (p ≤ n)
+    less p x =
+        let (m, d) = without-member (suc n) p ks o x in
+        let b = r p m in
+        (b .0, omega (arith, b .1, d))
+
+-- An element's number is one of the elements'.
+number-range : (k : ℕ) (s : List ℕ) (es : List Element) (t : List ℕ) (at size : ℕ) → 1 ≤ numberFrom k s es t at size → numberFrom k s es t at size < k + length es
+unfolding numberFrom
+number-range k s [] t at size h = absurd (omega arith)
+number-range k s (e ∷ es) t at size h =
+    bool-cases (isNamed s e t at size) (λ x. rw (x, numberFrom) (omega arith)) (λ x. rw (x, numberFrom) (omega (arith, number-range (k + 1) s es t at size (rw (x, numberFrom) at h))))
+
+-- One turn of a chain.
+
+link-fits : (k f : ℕ) (r : List ℕ) → leb 1 k ≡ true → leb 1 f ≡ true → link k f r ≡ k ∷ []
+unfolding link
+link-fits k f r i e = rw (link, i, e)
+
+link-on : (k f : ℕ) (r : List ℕ) (j : ℕ) (js : List ℕ) → leb 1 k ≡ true → leb 1 f ≡ false → r ≡ j ∷ js → link k f r ≡ k ∷ j ∷ js
+unfolding link
+link-on k f r j js i e c = rw (link, i, e, c)
+
+link-none : (k f : ℕ) → leb 1 k ≡ true → leb 1 f ≡ false → link k f [] ≡ []
+unfolding link
+link-none k f i e = rw (link, i, e)
+
+module _ (s : List ℕ) (es : List Element) (D : Decisions) (t : Token) where
+  abbrev fresh : ℕ → Open
+  fresh k = record { number = k; taken = [] }
+
+  -- The elements ks follow one another from o, each the one to infer in the one before, and the token fits at the last (at o, if there is none).
+  abbrev pub Leads : Open → List ℕ → Type 0
+  Leads o [] = leb 1 (fitting s es D o t) ≡ true
+  Leads o (k ∷ ks) = (inferable s es D o ≡ k) × (leb 1 k ≡ true) × Leads (fresh k) ks
+
+  inferable-range : (o : Open) → 1 ≤ inferable s es D o → inferable s es D o ≤ length es
+  unfolding inferable numberOf
+  inferable-range o h = go test refl h
+    where
+      p : ℕ
+      p = requiredPlace s es D o
+
+      k : ℕ
+      k = elementOf s es o p
+
+      test : Bool
+      test = leb 1 p && (leb 1 k && (startO es k && hasModel (contentOf es k)))
+
+      go : (c : Bool) → test ≡ c → 1 ≤ elim c [ true ↦ k | false ↦ 0 ] → elim c [ true ↦ k | false ↦ 0 ] ≤ length es
+      go true e l = omega (arith, number-range 1 s es s _ _ l)
+      go false e l = omega arith
+
+  leads-range : (o : Open) (ks : List ℕ) → Leads o ks → (p : ℕ) → List·Memᴰ p ks → (1 ≤ p) × (p ≤ length es)
+  leads-range o [] l p m = absurd (List·Memᴰ·not-nil m)
+  leads-range o (k ∷ ks) (e, i, l) p m = ⊎-elim (λ q. rw q (leb-true 1 k i, bound)) (leads-range (fresh k) ks l p) (List·Memᴰ·cases-cons m)
+    where
+      bound : k ≤ length es
+      bound = rw e at (inferable-range o (rw e (leb-true 1 k i)))
+
+  -- what follows an element of a chain follows that element anywhere
+  cut : (o : Open) (k : ℕ) (js : List ℕ) → Leads o js → Once js → List·Memᴰ k js → (ks : List ℕ) × Leads (fresh k) ks × Once (k ∷ ks) × (length ks ≤ length js)
+  cut o k [] l a m = absurd (List·Memᴰ·not-nil m)
+  cut o k (j ∷ js) (e, i, l) (a, b) m =
+      ⊎-elim (λ q. (js, rw q l, (rw q a, b), omega arith))
+      (λ n. let (ks, x, y, z) = cut (fresh j) k js l b n in (ks, x, y, omega arith))
+      (List·Memᴰ·cases-cons m)
+
+  -- a chain behind k with no element twice and k not again, no longer
+  loop-free : (k : ℕ) (ks : List ℕ) → Leads (fresh k) ks → (js : List ℕ) × Leads (fresh k) js × Once (k ∷ js) × (length js ≤ length ks)
+  loop-free k [] l = ([], l, (List·Memᴰ·not-nil, tt), omega arith)
+  loop-free k (j ∷ ks) (e, i, l) = go (loop-free j ks l)
+    where
+      go : (js : List ℕ) × Leads (fresh j) js × Once (j ∷ js) × (length js ≤ length ks) → (js : List ℕ) × Leads (fresh k) js × Once (k ∷ js) × (length js ≤ length (j ∷ ks))
+      go (js, m, a, b) = by-member (member k (j ∷ js))
+        where
+          by-member : Dec (List·Memᴰ k (j ∷ js)) → (us : List ℕ) × Leads (fresh k) us × Once (k ∷ us) × (length us ≤ length (j ∷ ks))
+          by-member (yes x) = let (us, u, v, w) = cut (fresh k) k (j ∷ js) (e, i, m) a x in (us, u, v, omega arith)
+          by-member (no x) = (j ∷ js, (e, i, m), (x, a), omega arith)
+
+  chain-step : (n : ℕ) (o : Open) (k : ℕ) → inferable s es D o ≡ k → chain s es D (suc n) t o ≡ link k (fitting s es D (fresh k) t) (chain s es D n t (fresh k))
+  unfolding chain link
+  chain-step n o k e = ap (λ k. link k (fitting s es D (fresh k) t) (chain s es D n t (fresh k))) e
+
+  -- a chain of at most n is found among n, the shortest
+  chain-finds : (n : ℕ) (o : Open) (k : ℕ) (ks : List ℕ) → Leads o (k ∷ ks) → length ks < n → (js : List ℕ) × (chain s es D n t o ≡ k ∷ js) × (length js ≤ length ks)
+  chain-finds zero o k ks l b = absurd (omega arith)
+  chain-finds (suc n) o k ks (e, i, l) b = bool-cases (leb 1 (fitting s es D (fresh k) t)) (λ f. ([], chain-step n o k e ∙ link-fits k _ _ i f, omega arith)) (λ f. further ks l b f (λ j js m c. chain-finds n (fresh k) j js m c))
+    where
+      further : (ks : List ℕ) → Leads (fresh k) ks → length ks < suc n → leb 1 (fitting s es D (fresh k) t) ≡ false
+          → ((j : ℕ) (js : List ℕ) → Leads (fresh k) (j ∷ js) → length js < n → (us : List ℕ) × (chain s es D n t (fresh k) ≡ j ∷ us) × (length us ≤ length js))
+          → (js : List ℕ) × (chain s es D (suc n) t o ≡ k ∷ js) × (length js ≤ length ks)
+      further [] l b f ih = absurd (false≢true (sym f ∙ l))
+      further (j ∷ js) l b f ih = let (us, c, d) = ih j js l (omega arith) in (j ∷ us, chain-step n o k e ∙ link-on k _ _ j us i f c, omega arith)
+
+  -- If there is a chain, one is found, and none is shorter.
+  pub chain-shortest : (o : Open) (k : ℕ) (ks : List ℕ) → Leads o (k ∷ ks) → (js : List ℕ) × (chain s es D (length es) t o ≡ k ∷ js) × (length js ≤ length ks)
+  chain-shortest o k ks (e, i, l) =
+      let (us, m, a, b) = loop-free k ks l in
+      let c = few (length es) (k ∷ us) a (leads-range o (k ∷ us) (e, i, m)) in
+      let (js, f, d) = chain-finds (length es) o k us (e, i, m) (omega arith) in
+      (js, f, omega arith)
+
+  abbrev Led : Open → List ℕ → Type 0
+  Led o [] = Unit {0}
+  Led o (k ∷ ks) = Leads o (k ∷ ks)
+
+  link-led : (o : Open) (k : ℕ) (r : List ℕ) → inferable s es D o ≡ k → Led (fresh k) r → Led o (link k (fitting s es D (fresh k) t) r)
+  unfolding link
+  link-led o k r e c = bool-cases (leb 1 k) (λ i. bool-cases (leb 1 (fitting s es D (fresh k) t)) (λ f. rw (link-fits k _ r i f) (e, i, f)) (λ f. by-rest i f r c)) (λ i. rw (i, link) tt)
+    where
+      by-rest : leb 1 k ≡ true → leb 1 (fitting s es D (fresh k) t) ≡ false → (r : List ℕ) → Led (fresh k) r → Led o (link k (fitting s es D (fresh k) t) r)
+      by-rest i f [] c = rw (link-none k _ i f) tt
+      by-rest i f (j ∷ js) c = rw (link-on k _ (j ∷ js) j js i f refl) (e, i, c)
+
+  led : (n : ℕ) (o : Open) → Led o (chain s es D n t o)
+  unfolding chain link
+  led zero o = tt
+  led (suc n) o = link-led o (inferable s es D o) (chain s es D n t (fresh (inferable s es D o))) refl (led n (fresh (inferable s es D o)))
+
+  -- What is found is a chain.
+  pub chain-leads : (n : ℕ) (o : Open) (k : ℕ) (ks : List ℕ) → chain s es D n t o ≡ k ∷ ks → Leads o (k ∷ ks)
+  chain-leads n o k ks e = subst (Led o) e (led n o)

@@ -1,0 +1,171 @@
+-- A computed test of what the rules say of a document under a type, and that it is right.
+use Prim.Native.Nat.{ℕ, _+_}
+use mathlib.Core.Path.{_≡_, refl, ap, ap₂}
+use mathlib.Core.Bool.{Bool, true, false, _&&_, false≢true}
+use mathlib.Core.List.{List, [], _∷_}
+use lib.ListN.{length}
+use lib.Dec.{eqb, leb}
+use borrow.Author.Tests.{eqb-true, leb-true}
+use Rattle.rules.specs.Bytes.{allowed, span, typeLimit, documentLimit}
+use Rattle.rules.specs.Reading.{Reading, refused, got}
+use Rattle.rules.specs.Walk.{Group, place, seq, alt, opt, plus}
+use Rattle.rules.specs.TypeFile.{Content, empty, model, Element, typeFile}
+use Rattle.rules.specs.Judge.{samePlace, Unambiguous, AllUnambiguous, Legible}
+use Rattle.rules.specs.Settling.{Event}
+use Rattle.rules.specs.Reader.{document, Reads}
+use Rattle.model_sets.specs.Bits.{and-left, and-right}
+use Rattle.model_sets.specs.Sets.{size, Numbered}
+use Rattle.model_sets.specs.Pairs.{firstPairOf, firstPairOf-none}
+use Rattle.document_laws.specs.Decide.{decided, NumberedIn, AllNumbered, decided-means}
+
+-- A type file, a document, and what reading it must give.
+pub record Example : Type 0 where
+  pub type : List ℕ
+  pub text : List ℕ
+  pub gives : Reading (List Event)
+
+-- The rules accept the type and read the document just so.
+pub record Right (x : Example) : Type 0 where
+  pub elements : List Element
+  pub reads : Reads (x .type) (x .text) elements (x .gives)
+
+-- The type's models
+
+unfoldable pub isNumbered : Group → ℕ → Bool
+isNumbered (place n) lo = eqb n lo
+isNumbered (seq g h) lo = isNumbered g lo && isNumbered h (lo + size g)
+isNumbered (alt g h) lo = isNumbered g lo && isNumbered h (lo + size g)
+isNumbered (opt g) lo = isNumbered g lo
+isNumbered (plus g) lo = isNumbered g lo
+
+numbered : (g : Group) (lo : ℕ) → isNumbered g lo ≡ true → Numbered g lo
+unfolding isNumbered
+numbered (place n) lo e = eqb-true n lo e
+numbered (seq g h) lo e = (numbered g lo (and-left (isNumbered g lo) _ e), numbered h (lo + size g) (and-right (isNumbered g lo) _ e))
+numbered (alt g h) lo e = (numbered g lo (and-left (isNumbered g lo) _ e), numbered h (lo + size g) (and-right (isNumbered g lo) _ e))
+numbered (opt g) lo e = numbered g lo e
+numbered (plus g) lo e = numbered g lo e
+
+-- the content is EMPTY, or a model numbered from 1 without a pair at fault
+unfoldable pub isFair : List ℕ → Content → Bool
+isFair s empty = true
+isFair s (model g ps n) = isNumbered g 1 && eqb (firstPairOf (samePlace s ps) g .0) 0
+
+fair : (s : List ℕ) (c : Content) → isFair s c ≡ true → NumberedIn c × Unambiguous s c
+unfolding isFair
+fair s empty e = (tt, tt)
+fair s (model g ps n) e =
+    let i = numbered g 1 (and-left (isNumbered g 1) _ e) in
+    (i, firstPairOf-none (samePlace s ps) g i (eqb-true _ 0 (and-right (isNumbered g 1) _ e)))
+
+unfoldable pub allFair : List ℕ → List Element → Bool
+allFair s [] = true
+allFair s (e ∷ es) = isFair s (e .content) && allFair s es
+
+all-fair : (s : List ℕ) (es : List Element) → allFair s es ≡ true → AllNumbered es × AllUnambiguous s es
+unfolding allFair
+all-fair s [] e = (tt, tt)
+all-fair s (x ∷ es) e =
+    let (a, b) = fair s (x .content) (and-left (isFair s (x .content)) _ e) in
+    let (c, d) = all-fair s es (and-right (isFair s (x .content)) _ e) in
+    ((a, c), (b, d))
+
+-- Two readings
+
+unfoldable pub sameEvent : Event → Event → Bool
+sameEvent a b = eqb (a .kind) (b .kind) && (eqb (a .number) (b .number) && (eqb (a .offset) (b .offset) && eqb (a .size) (b .size)))
+
+same-event : (a b : Event) → sameEvent a b ≡ true → a ≡ b
+unfolding sameEvent
+same-event a b e =
+    let k = eqb-true (a .kind) (b .kind) (and-left (eqb (a .kind) (b .kind)) _ e) in
+    let e₁ = and-right (eqb (a .kind) (b .kind)) _ e in
+    let n = eqb-true (a .number) (b .number) (and-left (eqb (a .number) (b .number)) _ e₁) in
+    let e₂ = and-right (eqb (a .number) (b .number)) _ e₁ in
+    let o = eqb-true (a .offset) (b .offset) (and-left (eqb (a .offset) (b .offset)) _ e₂) in
+    let z = eqb-true (a .size) (b .size) (and-right (eqb (a .offset) (b .offset)) _ e₂) in
+    λ i. record { kind = k i; number = n i; offset = o i; size = z i }
+
+unfoldable pub sameEvents : List Event → List Event → Bool
+sameEvents [] [] = true
+sameEvents [] (b ∷ ys) = false
+sameEvents (a ∷ xs) [] = false
+sameEvents (a ∷ xs) (b ∷ ys) = sameEvent a b && sameEvents xs ys
+
+same-events : (xs ys : List Event) → sameEvents xs ys ≡ true → xs ≡ ys
+unfolding sameEvents
+same-events [] [] e = refl
+same-events [] (b ∷ ys) e = absurd (false≢true e)
+same-events (a ∷ xs) [] e = absurd (false≢true e)
+same-events (a ∷ xs) (b ∷ ys) e = ap₂ _∷_ (same-event a b (and-left (sameEvent a b) _ e)) (same-events xs ys (and-right (sameEvent a b) _ e))
+
+unfoldable pub sameReading : Reading (List Event) → Reading (List Event) → Bool
+sameReading (refused n k) (refused m j) = eqb n m && eqb k j
+sameReading (refused n k) (got ys) = false
+sameReading (got xs) (refused m j) = false
+sameReading (got xs) (got ys) = sameEvents xs ys
+
+same-reading : (r q : Reading (List Event)) → sameReading r q ≡ true → r ≡ q
+unfolding sameReading
+same-reading (refused n k) (refused m j) e = ap₂ refused (eqb-true n m (and-left (eqb n m) _ e)) (eqb-true k j (and-right (eqb n m) _ e))
+same-reading (refused n k) (got ys) e = absurd (false≢true e)
+same-reading (got xs) (refused m j) e = absurd (false≢true e)
+same-reading (got xs) (got ys) e = ap got (same-events xs ys e)
+
+-- The test
+
+unfoldable pub isLegible : ℕ → List ℕ → Bool
+isLegible limit s = leb (length s) limit && eqb (span allowed s) (length s)
+
+unfoldable pub readsAs : Example → Reading (List Element) → Bool
+readsAs x (refused n k) = false
+readsAs x (got es) =
+    isLegible typeLimit (x .type) && (isLegible documentLimit (x .text) && (allFair (x .type) es && sameReading (document (x .type) es (decided (x .type) es) (x .text)) (x .gives)))
+
+unfoldable pub test : Example → Bool
+test x = readsAs x (typeFile (x .type))
+
+module _ (x : Example) (es : List Element) (read : typeFile (x .type) ≡ got es) (t : readsAs x (got es) ≡ true) where
+  right-in : Right x
+  unfolding readsAs isLegible
+  right-in =
+      let a = and-left (isLegible typeLimit (x .type)) _ t in
+      let t₁ = and-right (isLegible typeLimit (x .type)) _ t in
+      let b = and-left (isLegible documentLimit (x .text)) _ t₁ in
+      let t₂ = and-right (isLegible documentLimit (x .text)) _ t₁ in
+      let (n, u) = all-fair (x .type) es (and-left (allFair (x .type) es) _ t₂) in
+      let legible : Legible (x .type) =
+      record { short = leb-true (length (x .type)) typeLimit (and-left (leb (length (x .type)) typeLimit) _ a); clean = eqb-true _ _ (and-right (leb (length (x .type)) typeLimit) _ a) } in
+      record {
+        elements = es;
+        reads =
+            record {
+              legible = record { type = legible; short = leb-true (length (x .text)) documentLimit (and-left (leb (length (x .text)) documentLimit) _ b); clean = eqb-true _ _ (and-right (leb (length (x .text)) documentLimit) _ b) };
+              accepted = record { legible = legible; elements = read; unambiguous = u };
+              decisions = decided (x .type) es;
+              means = decided-means (x .type) es n u;
+              reading = same-reading _ (x .gives) (and-right (allFair (x .type) es) _ t₂);
+            };
+      }
+
+pub right : (x : Example) → test x ≡ true → Right x
+unfolding test readsAs
+right x t = go (typeFile (x .type)) refl t
+  where
+    go : (r : Reading (List Element)) → typeFile (x .type) ≡ r → readsAs x r ≡ true → Right x
+    go (refused n k) e u = absurd (false≢true u)
+    go (got es) e u = right-in x es e u
+
+-- a list of examples of which each passes the test
+abbrev pub AllRight : List Example → Type 0
+AllRight [] = Unit {0}
+AllRight (x ∷ xs) = Right x × AllRight xs
+
+unfoldable pub allPass : List Example → Bool
+allPass [] = true
+allPass (x ∷ xs) = test x && allPass xs
+
+pub all-right : (xs : List Example) → allPass xs ≡ true → AllRight xs
+unfolding allPass
+all-right [] t = tt
+all-right (x ∷ xs) t = (right x (and-left (test x) _ t), all-right xs (and-right (test x) _ t))

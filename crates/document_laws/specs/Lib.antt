@@ -1,0 +1,12 @@
+-- Laws of the document half of the rules: what the walks decide is decided, and in one way only.
+pub mod Laws
+pub mod Agree
+pub mod Decide
+pub mod Numbers
+pub mod Same
+pub mod Chain
+pub mod Answers
+-- The documents of the paper's shelf.
+pub mod Ascii
+pub mod Check
+pub mod Shelf

@@ -1,0 +1,77 @@
+-- Paper 01's shelf: the documents marked (p), read by the rules as the paper says, in one statement.
+use Prim.Native.Nat.{ℕ}
+use Prim.Native.String.{String}
+use mathlib.Core.Path.{refl}
+use mathlib.Core.List.{List, [], _∷_, _++_}
+use Rattle.rules.specs.Bytes.{allowed, separator, letter, fold, nameByte, span, nameEnd, separatorsEnd, sameText}
+use Rattle.rules.specs.Reading.{Reading, refused, got}
+use Rattle.rules.specs.TypeFile.{beforeDashes, gapWithin, gap, occurrence, nameToken, dataToken, token, further, members, group}
+use Rattle.rules.specs.TypeFile.{isDeclared, elementName, omission, words, head, contentWord, contentModel, content, close, rest, element}
+use Rattle.rules.specs.TypeFile.{commentDeclaration, beforeClose, keyword, markup, declaration, declarationsWithin, typeFile}
+use Rattle.rules.specs.Judge.{placeAt}
+use Rattle.rules.specs.Document.{tag, declarationPiece, markupPiece, bytePiece, piece}
+use Rattle.rules.specs.Settling.{Event, startWritten, startInferred, endInferred, dataRun, elementAt, numberFrom, numberOf, withData, limited, isOpen, inferable, chain, inferStarts, inward, settleFrom, settle, startElement, takeData, takeBlank, endLeftOut, closeFrom, endElement, endFrom, endDocument}
+use Rattle.rules.specs.Reader.{tagged, settlePiece, piecesWithin, document}
+use Rattle.document_laws.specs.Ascii.{ascii}
+use Rattle.document_laws.specs.Decide.{search, fitsIn, isCompleteIn, requiredOf}
+use Rattle.document_laws.specs.Check.{Example, AllRight, all-right, allPass, test, readsAs, isLegible, allFair, isFair, isNumbered, sameReading, sameEvents, sameEvent}
+
+-- Type T behind its first word of LIST.
+pub restOfT : List ℕ
+restOfT = ascii " O (ITEM+)><!ELEMENT ITEM O O (NAME,QTY?)><!ELEMENT NAME O O (#PCDATA)><!ELEMENT QTY - O (#PCDATA)>"
+
+pub T : List ℕ
+T = ascii "<!ELEMENT LIST O" ++ restOfT
+
+-- "With LIST declared "- O"."
+pub T- : List ℕ
+T- = ascii "<!ELEMENT LIST -" ++ restOfT
+
+pub under : List ℕ → String → Reading (List Event) → Example
+under s d r = record { type = s; text = ascii d; gives = r }
+
+abbrev LIST : ℕ
+LIST = 1
+
+abbrev ITEM : ℕ
+ITEM = 2
+
+abbrev NAME : ℕ
+NAME = 3
+
+abbrev QTY : ℕ
+QTY = 4
+
+-- "Document `clamp<QTY>40<ITEM>tape` (p) prints, whole"
+pub whole : List Event
+whole =
+    startInferred LIST 0 ∷
+    startInferred ITEM 0 ∷
+    startInferred NAME 0 ∷
+    dataRun 0 5 ∷
+    endInferred NAME 5 ∷
+    startWritten QTY 5 10 ∷
+    dataRun 10 2 ∷
+    endInferred QTY 12 ∷
+    endInferred ITEM 12 ∷
+    startWritten ITEM 12 18 ∷
+    startInferred NAME 18 ∷
+    dataRun 18 4 ∷
+    endInferred NAME 22 ∷
+    endInferred ITEM 22 ∷
+    endInferred LIST 22 ∷
+    []
+
+pub shelf : List Example
+shelf =
+    under T "clamp<QTY>40<ITEM>tape" (got whole) ∷
+    under T "" (refused 18 0) ∷
+    under T "</LIST>" (refused 11 0) ∷
+    under T "<LIST></LIST>" (refused 13 6) ∷
+    under T "<ITEM>" (refused 13 6) ∷
+    under T- "<ITEM>" (refused 12 0) ∷
+    []
+
+pub shelf-right : AllRight shelf
+unfolding ascii restOfT T T- under whole shelf allPass test readsAs isLegible allFair isFair isNumbered sameReading sameEvents sameEvent search fitsIn isCompleteIn requiredOf tagged settlePiece piecesWithin document elementAt numberFrom numberOf withData limited isOpen inferable chain inferStarts inward settleFrom settle startElement takeData takeBlank endLeftOut closeFrom endElement endFrom endDocument tag declarationPiece markupPiece bytePiece piece placeAt allowed separator letter fold nameByte span nameEnd separatorsEnd sameText beforeDashes gapWithin gap occurrence nameToken dataToken token further members group isDeclared elementName omission words head contentWord contentModel content close rest element commentDeclaration beforeClose keyword markup declaration declarationsWithin typeFile
+shelf-right = all-right shelf refl

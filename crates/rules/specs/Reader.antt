@@ -1,0 +1,103 @@
+-- The document reader's answer and what its lent buffer holds after (paper 01, "What the reader takes and gives", "Refusal numbers", order).
+use Prim.Native.Nat.{ℕ, zero, suc, _+_, _*_, _/_, _<_, _≤_}
+use mathlib.Core.Path.{_≡_}
+use mathlib.Core.Bool.{true, false}
+use mathlib.Core.List.{List, [], _∷_, _++_}
+use lib.ListN.{length, drop, replicate}
+use lib.Dec.{leb}
+use Rattle.rules.specs.Bytes.{allowed, span, typeLimit, documentLimit}
+use Rattle.rules.specs.Reading.{Reading, refused, got, andThen}
+use Rattle.rules.specs.TypeFile.{Element, typeFile}
+use Rattle.rules.specs.Judge.{Answer, refusal, acceptance, FirstAmbiguous, Legible, Accepts, bytesOf}
+use Rattle.rules.specs.Document.{Tag, Piece, startTag, endTag, skipped, blank, dataByte, piece}
+use Rattle.rules.specs.Settling.{Decisions, Means, Event, State, nothingOpen, numberOf, startElement, takeData, takeBlank, endElement, endDocument}
+
+-- Reading a document
+
+-- Where reading goes on, and with what is open.
+pub record Reached : Type 0 where
+  pub at : ℕ
+  pub state : State
+
+abbrev pub goOn : ℕ → Reading State → Reading Reached
+goOn at r = andThen r λ z. got (record { at = at; state = z })
+
+-- The document d under the type file s with the elements es.
+module _ (s : List ℕ) (es : List Element) (D : Decisions) (d : List ℕ) where
+  -- The number of the element that a tag at `at` names. "10: tag of undeclared name", at the tag.
+  unfoldable pub tagged : (at : ℕ) → Tag → Reading ℕ
+  tagged at t =
+      let k = numberOf s es d (t .name) (t .size) in
+      elim (leb 1 k) [ true ↦ got k | false ↦ refused 10 at ]
+
+  -- The piece at `at` is settled. "Within a tag: 3, 4, 10, then 16 (start) or 11 (end), then 12, 15 or 13, 14. Data: 17, 16, 12, 15."
+  unfoldable pub settlePiece : Piece → (at : ℕ) → State → Reading Reached
+  settlePiece (startTag t) at z = andThen (tagged at t) λ k. goOn (t .after) (startElement s es D k at (t .after) z)
+  settlePiece (endTag t) at z = andThen (tagged at t) λ k. goOn (t .after) (endElement s es D k at (t .after) z)
+  settlePiece (skipped after) at z = got (record { at = after; state = z })
+  settlePiece blank at z = goOn (at + 1) (takeBlank s es D at z)
+  settlePiece dataByte at z = goOn (at + 1) (takeData s es D at z)
+
+  -- "The document's tokens in turn", from `at` on. Each turn but the last takes a piece, so there are fewer turns than bytes.
+  unfoldable pub piecesWithin : ℕ → (at : ℕ) → State → Reading (List Event)
+  piecesWithin zero at z = refused 4 (length d)
+  piecesWithin (suc turns) at z =
+      elim (leb (length d) at) [
+        | true ↦ endDocument s es D (length d) z
+        | false ↦
+            andThen (piece d at) λ p.
+            andThen (settlePiece p at z) λ y.
+            piecesWithin turns (y .at) (y .state)
+      ]
+
+  unfoldable pub document : Reading (List Event)
+  document = piecesWithin (suc (length d)) 0 nothingOpen
+
+-- The answer
+
+-- "The reader gives four numbers per event: kind, element number from 1 (0 for data), offset, length."
+unfoldable pub eventNumbers : List Event → List ℕ
+eventNumbers [] = []
+eventNumbers (e ∷ ev) = e .kind ∷ e .number ∷ e .offset ∷ e .size ∷ eventNumbers ev
+
+-- "Input 1 is the type, 2 the document. The two places are 0 except under 9."
+abbrev pub documentRefusal : (number position : ℕ) → Answer
+documentRefusal n k = record { number = n; input = 2; position = k; first = 0; second = 0; count = 0 }
+
+-- Neither input is too long nor has a byte that is not allowed.
+pub record BothLegible (s d : List ℕ) : Type 0 where
+  pub type : Legible s
+  pub short : length d ≤ documentLimit
+  pub clean : span allowed d ≡ length d
+
+-- The type is accepted with the elements es, and the document, read as the walks of their models decide, gives r.
+pub record Reads (s d : List ℕ) (es : List Element) (r : Reading (List Event)) : Type 0 where
+  pub legible : BothLegible s d
+  pub accepted : Accepts s es
+  pub decisions : Decisions
+  pub means : Means s es decisions
+  pub reading : document s es decisions d ≡ r
+
+-- The refusal that the order picks: "1 type, 1 document, 2 type, 2 document; the type file's 3 to 8 ..; 9; then the document's tokens in
+-- turn; 19 only where nothing else is wrong, and exactly if the numbers don't fit"; "19 names .. the document in the reader". `room` is
+-- how many numbers the lent buffer holds.
+pub data RefusesBoth (s d : List ℕ) (room : ℕ) (a : Answer) : Type 0 where
+  typeTooLong : typeLimit < length s → a ≡ refusal 1 0 0 0 → RefusesBoth s d room a
+  documentTooLong : length s ≤ typeLimit → documentLimit < length d → a ≡ documentRefusal 1 0 → RefusesBoth s d room a
+  typeNotAllowed : length s ≤ typeLimit → length d ≤ documentLimit → span allowed s < length s → a ≡ refusal 2 (span allowed s) 0 0 → RefusesBoth s d room a
+  documentNotAllowed : Legible s → length d ≤ documentLimit → span allowed d < length d → a ≡ documentRefusal 2 (span allowed d) → RefusesBoth s d room a
+  malformed : BothLegible s d → (n k : ℕ) → typeFile s ≡ refused n k → a ≡ refusal n k 0 0 → RefusesBoth s d room a
+  ambiguous : BothLegible s d → (es : List Element) → typeFile s ≡ got es → (k p q : ℕ) → FirstAmbiguous s k p q es → a ≡ refusal 9 k p q → RefusesBoth s d room a
+  unsettled : (es : List Element) (n k : ℕ) → Reads s d es (refused n k) → a ≡ documentRefusal n k → RefusesBoth s d room a
+  noRoom : (es : List Element) (ev : List Event) → Reads s d es (got ev) → room < 4 * length ev → a ≡ documentRefusal 19 0 → RefusesBoth s d room a
+
+-- What the reader answers to a type file s and a document d, and what the lent buffer, `before` the call, holds after it.
+-- "What lies behind the last number written stays as it was; on refusal the whole buffer is zero and the count is 0."
+pub data ReadAs (s d before : List ℕ) (a : Answer) (after : List ℕ) : Type 0 where
+  refuses : RefusesBoth s d (length before) a → after ≡ replicate (length before) 0 → ReadAs s d before a after
+  accepts : (es : List Element) (ev : List Event) → Reads s d es (got ev) → 4 * length ev ≤ length before → a ≡ acceptance (length ev) → after ≡ eventNumbers ev ++ drop (4 * length ev) before → ReadAs s d before a after
+
+-- The same call on a buffer of bytes: "one to three bytes over at the end hold no number and are zeroed by a refusal".
+pub data ReadAsBytes (s d before : List ℕ) (a : Answer) (after : List ℕ) : Type 0 where
+  refuses : RefusesBoth s d (length before / 4) a → after ≡ replicate (length before) 0 → ReadAsBytes s d before a after
+  accepts : (es : List Element) (ev : List Event) → Reads s d es (got ev) → 4 * length ev ≤ length before / 4 → a ≡ acceptance (length ev) → after ≡ bytesOf (eventNumbers ev) ++ drop (16 * length ev) before → ReadAsBytes s d before a after

@@ -1,0 +1,308 @@
+-- Open elements, and how start tags, data, end tags and the document's end are settled (paper 01, "The document"), with refusals 11 to 16 and 18.
+use Prim.Native.Nat.{ℕ, zero, suc, _+_, _-_, _≤_}
+use mathlib.Core.Path.{_≡_}
+use mathlib.Core.Bool.{Bool, true, false, _&&_}
+use mathlib.Core.Logic.{_↔_}
+use mathlib.Core.List.{List, [], _∷_, _++_}
+use lib.ListN.{length}
+use lib.Dec.{eqb, leb, ltb}
+use Rattle.rules.specs.Bytes.{sameText, TAGLVL}
+use Rattle.rules.specs.Reading.{Reading, refused, got, andThen}
+use Rattle.rules.specs.Walk.{Group, place, Begins, MayComeNext, Complete, Required}
+use Rattle.rules.specs.TypeFile.{Place, Content, empty, model, Element, sameName}
+use Rattle.rules.specs.Judge.{placeAt}
+
+-- Elements by number
+
+-- The k-th element of the type, from 0.
+unfoldable pub elementAt : List Element → ℕ → Element
+elementAt [] k = record { at = 0; size = 0; start = 0; end = 0; content = empty }
+elementAt (e ∷ es) zero = e
+elementAt (e ∷ es) (suc k) = elementAt es k
+
+-- The element has the name of this size at `at` in the text t, folded.
+abbrev pub isNamed : List ℕ → Element → (t : List ℕ) (at size : ℕ) → Bool
+isNamed s e t at size = elim (eqb (e .size) size) [ true ↦ sameText s (e .at) t at size | false ↦ false ]
+
+-- "Element number from 1": the number of the element that has that name, 0 if none has. The first of these elements has the number k.
+unfoldable pub numberFrom : ℕ → List ℕ → List Element → (t : List ℕ) (at size : ℕ) → ℕ
+numberFrom k s [] t at size = 0
+numberFrom k s (e ∷ es) t at size = elim (isNamed s e t at size) [ true ↦ k | false ↦ numberFrom (k + 1) s es t at size ]
+
+unfoldable pub numberOf : List ℕ → List Element → (t : List ℕ) (at size : ℕ) → ℕ
+numberOf s es t at size = numberFrom 1 s es t at size
+
+-- "With nothing open yet, only the document element may come next, and it is required": the document itself is number 0, and its model is
+-- the first declared element.
+abbrev pub contentOf : List Element → ℕ → Content
+contentOf es zero = model (place 1) (record { at = elementAt es 0 .at; size = elementAt es 0 .size } ∷ []) 1
+contentOf es (suc k) = elementAt es k .content
+
+-- The places of a model; EMPTY has none.
+abbrev pub placesIn : Content → List Place
+placesIn empty = []
+placesIn (model g ps n) = ps
+
+abbrev pub hasModel : Content → Bool
+hasModel empty = false
+hasModel (model g ps n) = true
+
+-- The start tag, the end tag may be left out: "O".
+abbrev pub startO : List Element → ℕ → Bool
+startO es k = eqb (elementAt es (k - 1) .start) 1
+
+abbrev pub endO : List Element → ℕ → Bool
+endO es k = eqb (elementAt es (k - 1) .end) 1
+
+-- What walks decide
+
+-- What is settled: "a start tag, or a data byte (not an ignored one)".
+pub data Token : Type 0 where
+  start : (number : ℕ) → Token
+  pcdata : Token
+
+-- A token's name, as that of a place: `#PCDATA` has the size 0.
+abbrev pub tokenName : List Element → Token → Place
+tokenName es (start k) = record { at = elementAt es (k - 1) .at; size = elementAt es (k - 1) .size }
+tokenName es pcdata = record { at = 0; size = 0 }
+
+-- The place p has the token's name.
+abbrev pub hasName : List ℕ → List Element → List Place → Token → ℕ → Bool
+hasName s es ps t p = sameName s (tokenName es t .at) (tokenName es t .size) (placeAt ps (p - 1) .at) (placeAt ps (p - 1) .size)
+
+-- The token fits as the place p, the next after the places taken.
+pub record Fits (s : List ℕ) (es : List Element) (g : Group) (ps : List Place) (taken : List ℕ) (t : Token) (p : ℕ) : Type 0 where
+  pub name : hasName s es ps t p ≡ true
+  pub next : MayComeNext g taken p
+
+-- n is the only place of which P holds, and 0 where there is none: places are numbered from 1.
+pub record IsThe (P : ℕ → Type 0) (n : ℕ) : Type 0 where
+  pub some : 1 ≤ n → P n
+  pub only : (p : ℕ) → P p → n ≡ p
+
+-- What settling asks about an open element, by its number and the places taken in it: the place as which a token fits (0: none), whether
+-- its content is complete, and the place required (0: none).
+pub record Decisions : Type 0 where
+  pub fits : (number : ℕ) (taken : List ℕ) → Token → ℕ
+  pub complete : (number : ℕ) (taken : List ℕ) → Bool
+  pub required : (number : ℕ) (taken : List ℕ) → ℕ
+
+-- What the walks of the model g say where these places are taken in the element number k, the decisions say.
+pub record MeansAt (s : List ℕ) (es : List Element) (D : Decisions) (k : ℕ) (g : Group) (ps : List Place) (taken : List ℕ) : Type 0 where
+  pub fits : (t : Token) → IsThe (Fits s es g ps taken t) (D .fits k taken t)
+  pub complete : (D .complete k taken ≡ true) ↔ Complete g taken
+  pub required : IsThe (Required g taken) (D .required k taken)
+
+-- So they do for every model, and wherever the places taken begin a walk.
+pub record Means (s : List ℕ) (es : List Element) (D : Decisions) : Type 0 where
+  pub walks : (k : ℕ) {g : Group} {ps : List Place} {n : ℕ} → contentOf es k ≡ model g ps n → (taken : List ℕ) → Begins g taken → MeansAt s es D k g ps taken
+
+-- Events
+
+-- "Four numbers per event: kind, element number from 1 (0 for data), offset, length."
+pub record Event : Type 0 where
+  pub kind : ℕ
+  pub number : ℕ
+  pub offset : ℕ
+  pub size : ℕ
+
+-- "Kinds: 1 start tag written; 2 start tag inferred; 3 end tag written; 4 end tag inferred; 5 data; 6 end of an EMPTY element. Kinds 1 and 3
+-- have the place and length of the tag. Kinds 2 and 4 have the offset of the token that called for them, or the document's length, and
+-- length 0. Kind 6 has the offset after the tag and length 0."
+abbrev pub startWritten : (k at after : ℕ) → Event
+startWritten k at after = record { kind = 1; number = k; offset = at; size = after - at }
+
+abbrev pub startInferred : (k at : ℕ) → Event
+startInferred k at = record { kind = 2; number = k; offset = at; size = 0 }
+
+abbrev pub endWritten : (k at after : ℕ) → Event
+endWritten k at after = record { kind = 3; number = k; offset = at; size = after - at }
+
+abbrev pub endInferred : (k at : ℕ) → Event
+endInferred k at = record { kind = 4; number = k; offset = at; size = 0 }
+
+abbrev pub dataRun : (at size : ℕ) → Event
+dataRun at size = record { kind = 5; number = 0; offset = at; size = size }
+
+abbrev pub endOfEmpty : (k after : ℕ) → Event
+endOfEmpty k after = record { kind = 6; number = k; offset = after; size = 0 }
+
+-- "Kind 5 is a longest run of neighbouring data bytes; an ignored byte or a comment ends a run": the events with a data byte at `at`.
+unfoldable pub withData : ℕ → List Event → List Event
+withData at [] = dataRun at 1 ∷ []
+withData at (e ∷ []) =
+    elim (eqb (e .kind) 5 && eqb (e .offset + e .size) at) [ true ↦ dataRun (e .offset) (e .size + 1) ∷ [] | false ↦ e ∷ dataRun at 1 ∷ [] ]
+withData at (e ∷ f ∷ ev) = e ∷ withData at (f ∷ ev)
+
+-- Open elements
+
+pub record Open : Type 0 where
+  pub number : ℕ
+  pub taken : List ℕ
+
+-- The current element, those around it from its parent outwards, the document itself (number 0) last, and the events so far.
+-- So many elements are open as stand around the current one: each has a parent.
+pub record State : Type 0 where
+  pub current : Open
+  pub around : List Open
+  pub events : List Event
+
+-- Nothing is open yet.
+abbrev pub nothingOpen : State
+nothingOpen = record { current = record { number = 0; taken = [] }; around = []; events = [] }
+
+-- The current element takes the place p.
+abbrev pub takePlace : ℕ → State → State
+takePlace p z = record { current = record { number = z .current .number; taken = z .current .taken ++ p ∷ [] }; around = z .around; events = z .events }
+
+-- The element number k is opened in the current one.
+abbrev pub enter : ℕ → State → State
+enter k z = record { current = record { number = k; taken = [] }; around = z .current ∷ z .around; events = z .events }
+
+abbrev pub note : Event → State → State
+note e z = record { current = z .current; around = z .around; events = z .events ++ e ∷ [] }
+
+-- "15: more than 24 open", at the token.
+unfoldable pub limited : ℕ → State → Reading State
+limited at z = elim (ltb TAGLVL (length (z .around))) [ true ↦ refused 15 at | false ↦ got z ]
+
+-- The number of the element declared by the name of the place p of o, 0 if none is.
+abbrev pub elementOf : List ℕ → List Element → Open → ℕ → ℕ
+elementOf s es o p =
+    let x = placeAt (placesIn (contentOf es (o .number))) (p - 1) in
+    numberOf s es s (x .at) (x .size)
+
+-- The element number k is among these.
+unfoldable pub isOpen : ℕ → List Open → Bool
+isOpen k [] = false
+isOpen k (o ∷ os) = elim (eqb (o .number) k) [ true ↦ true | false ↦ isOpen k os ]
+
+-- What becomes of a token in the current element and in what may be inferred there.
+pub data Inward : Type 0 where
+  settled : State → Inward
+  stuck : Inward
+
+-- Settling, under the type file s with the elements es
+module _ (s : List ℕ) (es : List Element) (D : Decisions) where
+  abbrev pub fitting : Open → Token → ℕ
+  fitting o t = D .fits (o .number) (o .taken) t
+
+  abbrev pub isComplete : Open → Bool
+  isComplete o = D .complete (o .number) (o .taken)
+
+  abbrev pub requiredPlace : Open → ℕ
+  requiredPlace o = D .required (o .number) (o .taken)
+
+  -- The element that o requires next, if its start may be inferred: it is "declared, with start "O" and a model"; else 0.
+  unfoldable pub inferable : Open → ℕ
+  inferable o =
+      let p = requiredPlace o in
+      let k = elementOf s es o p in
+      elim (leb 1 p && (leb 1 k && (startO es k && hasModel (contentOf es k)))) [ true ↦ k | false ↦ 0 ]
+
+  -- "A chain of elements, the first at the required place, each later one required at the start of the one before, all declared, with start
+  -- "O" and a model, and the token fits at the start of the last": their numbers, none if there is no chain. At most one place is required,
+  -- so the chain goes on in one way only; the shortest comes to no element twice, so it has at most as many as there are elements.
+  unfoldable pub chain : (left : ℕ) → Token → Open → List ℕ
+  chain zero t o = []
+  chain (suc left) t o =
+      let k = inferable o in
+      let first : Open = record { number = k; taken = [] } in
+      elim (leb 1 k) [
+        | true ↦ elim (leb 1 (fitting first t)) [ true ↦ k ∷ [] | false ↦ elim (chain left t first) [ [] ↦ [] | j ∷ js ↦ k ∷ j ∷ js ] ]
+        | false ↦ []
+      ]
+
+  -- "Infer those starts."
+  unfoldable pub inferStarts : (at : ℕ) → List ℕ → State → State
+  inferStarts at [] z = z
+  inferStarts at (k ∷ ks) z = inferStarts at ks (note (startInferred k at) (enter k (takePlace (requiredPlace (z .current)) z)))
+
+  -- The current element takes the place as which the token fits.
+  abbrev pub takeToken : Token → State → State
+  takeToken t z = takePlace (fitting (z .current) t) z
+
+  -- "1. If it fits as the next place, take it. 2. Else, if there is a chain of elements ..: infer those starts, shortest chain."
+  unfoldable pub inward : Token → (at : ℕ) → State → Inward
+  inward t at z =
+      elim (leb 1 (fitting (z .current) t)) [
+        | true ↦ settled (takeToken t z)
+        | false ↦ elim (chain (length es) t (z .current)) [ [] ↦ stuck | k ∷ ks ↦ settled (takeToken t (inferStarts at (k ∷ ks) z)) ]
+      ]
+
+  -- "3. Else, if the content is complete, its end is "O" and it isn't the document element: infer its end and begin again at its parent.
+  -- 4. Else refuse." The parent of the document element is the document itself, number 0.
+  unfoldable pub settleFrom : Token → (at : ℕ) → List Open → Open → List Event → Reading State
+  settleFrom t at [] o ev = elim (inward t at (record { current = o; around = []; events = ev })) [ settled z ↦ got z | stuck ↦ refused 12 at ]
+  settleFrom t at (u ∷ around) o ev =
+      elim (inward t at (record { current = o; around = u ∷ around; events = ev })) [
+        | settled z ↦ got z
+        | stuck ↦ elim (isComplete o && (endO es (o .number) && leb 1 (u .number))) [
+          | true ↦ settleFrom t at around u (ev ++ endInferred (o .number) at ∷ [])
+          | false ↦ refused 12 at
+        ]
+      ]
+
+  -- The document element is there and has ended.
+  abbrev pub isOver : State → Bool
+  isOver z = eqb (z .current .number) 0 && isComplete (z .current)
+
+  -- "16: start tag or data after the document element", before 12.
+  unfoldable pub settle : Token → (at : ℕ) → State → Reading State
+  settle t at z = elim (isOver z) [ true ↦ refused 16 at | false ↦ settleFrom t at (z .around) (z .current) (z .events) ]
+
+  -- The start tag, from `at` to `after`, of the element number k. "An EMPTY element is open for an instant and counts toward 24."
+  unfoldable pub startElement : (k at after : ℕ) → State → Reading State
+  startElement k at after z =
+      andThen (settle (start k) at z) λ y.
+      andThen (limited at (enter k y)) λ x.
+      elim (hasModel (contentOf es k)) [
+        | true ↦ got (note (startWritten k at after) x)
+        | false ↦ got (note (endOfEmpty k after) (note (startWritten k at after) y))
+      ]
+
+  -- The data byte at `at`.
+  unfoldable pub takeData : (at : ℕ) → State → Reading State
+  takeData at z =
+      andThen (settle pcdata at z) λ y.
+      andThen (limited at y) λ x.
+      got (record { current = x .current; around = x .around; events = withData at (x .events) })
+
+  -- "Bytes 9, 13 and 32 are data where `#PCDATA` may come next in the current element, and ignored elsewhere."
+  unfoldable pub takeBlank : (at : ℕ) → State → Reading State
+  takeBlank at z = elim (leb 1 (fitting (z .current) pcdata)) [ true ↦ takeData at z | false ↦ got z ]
+
+  -- An end tag or the document's end at `at` infers the end of o, which "must be complete with end "O"": "13 comes before 14".
+  unfoldable pub endLeftOut : (at : ℕ) → Open → Reading Event
+  endLeftOut at o =
+      elim (isComplete o) [
+        | true ↦ elim (endO es (o .number)) [ true ↦ got (endInferred (o .number) at) | false ↦ refused 14 at ]
+        | false ↦ refused 13 at
+      ]
+
+  -- "An end tag closes the innermost open element of its name; those inside it must be complete with end "O" and are inferred ended; the
+  -- named one must be complete."
+  unfoldable pub closeFrom : (k at after : ℕ) → List Open → Open → List Event → Reading State
+  closeFrom k at after [] o ev = refused 11 at
+  closeFrom k at after (u ∷ around) o ev =
+      elim (eqb (o .number) k) [
+        | true ↦ elim (isComplete o) [
+          | true ↦ got (record { current = u; around = around; events = ev ++ endWritten k at after ∷ [] })
+          | false ↦ refused 13 at
+        ]
+        | false ↦ andThen (endLeftOut at o) λ e. closeFrom k at after around u (ev ++ e ∷ [])
+      ]
+
+  -- "11: end tag, no such element open", before 13 and 14.
+  unfoldable pub endElement : (k at after : ℕ) → State → Reading State
+  endElement k at after z =
+      elim (isOpen k (z .current ∷ z .around)) [ true ↦ closeFrom k at after (z .around) (z .current) (z .events) | false ↦ refused 11 at ]
+
+  -- "The end of the document does the same for all that are open, the document element included." "18: no document element." `at` is the
+  -- document's length.
+  unfoldable pub endFrom : (at : ℕ) → List Open → Open → List Event → Reading (List Event)
+  endFrom at [] o ev = elim (isComplete o) [ true ↦ got ev | false ↦ refused 18 at ]
+  endFrom at (u ∷ around) o ev = andThen (endLeftOut at o) λ e. endFrom at around u (ev ++ e ∷ [])
+
+  unfoldable pub endDocument : (at : ℕ) → State → Reading (List Event)
+  endDocument at z = endFrom at (z .around) (z .current) (z .events)
