@@ -1,7 +1,7 @@
 -- Laws of the rules' type file and of what the judge keeps while it reads one.
 use Prim.Native.Nat.{ℕ, zero, suc, _+_, _-_, _*_, _≤_, _<_}
 use mathlib.Core.Path.{_≡_, refl, sym, ap, subst, _∙_}
-use mathlib.Core.Bool.{Bool, true, false}
+use mathlib.Core.Bool.{true, false}
 use mathlib.Core.Logic.{_⊎_, inl, inr, ⊎-elim}
 use mathlib.Core.List.{List, [], _∷_, _++_, append-nil, append-assoc}
 use native.Mathlib.Omega.{arith}
@@ -9,15 +9,13 @@ use native.Mathlib.Numerals.{add-one}
 use native.Mathlib.Nat.{not-suc-le-zero, le-of-suc-le-suc}
 use lib.ListN.{length, take, drop, set, getD, replicate, length-append, length-set}
 use lib.Seq.{take-suc-set}
-use lib.Dec.{eqb, leb, ltb}
 use borrow.Author.Tests.{eq-eqb, ne-eqb, lt-ltb, le-ltb, le-leb, lt-leb}
 use Rattle.rules.specs.Bytes.{byteAt, allowed, letter, span, nameEnd, separatorsEnd}
 use Rattle.rules.specs.Reading.{Reading, refused, got, andThen}
 use Rattle.rules.specs.TypeFile.{Content, empty, model, Element, Declared, isWord, ELEMENT, commentDeclaration, element, keyword, markup, declaration, declarationsWithin, typeFile}
-use Rattle.rules.specs.Ambiguity.{PairAtFault, FirstPair}
-use Rattle.rules.specs.Judge.{records, contentNumbers, placeAt, samePlace, Unambiguous, AllUnambiguous, PairStandsAt, FirstAmbiguous, here, later, Legible, Refuses, Accepts, malformed, ambiguous, noRoom, Judged, refuses, accepts, refusal, acceptance}
+use Rattle.rules.specs.Judge.{records, contentNumbers, Unambiguous, AllUnambiguous, PairStandsAt, FirstAmbiguous, here, later, Legible, Refuses, Accepts, malformed, ambiguous, noRoom, Judged, refuses, accepts, refusal, acceptance}
 use Rattle.model_sets.specs.Search.{searchPair, searchPair-cases}
-use Rattle.model_names.specs.Places.{placeIn, placesOf}
+use Rattle.model_names.specs.Places.{placeIn}
 use Rattle.model_names.specs.Laws.{placeAt-placesOf}
 use Rattle.model_pairs.specs.Rows.{faultIn}
 use Rattle.model_pairs.specs.Finds.{answer-none, answer-first}
@@ -26,7 +24,7 @@ use Rattle.text.specs.Laws.{span-in, separatorsEnd-from, comment-range}
 use Rattle.text.specs.declared.Fault.{Fault}
 use Rattle.text.specs.declared.Reached.{Reached}
 use Rattle.text.specs.declared.Reached.the-variants as reachedAs
-use Rattle.element_reader.specs.Means.{Recorded, KeepsModel, KeepsContent, KeepsElement, MeetsElement, elementFault}
+use Rattle.element_reader.specs.Means.{Recorded, KeepsContent, KeepsElement, MeetsElement, elementFault}
 use Rattle.element_reader.specs.declared as declared
 use Rattle.element_reader.specs.declared.ElementRead.{ElementRead}
 use Rattle.element_reader.specs.declared.ElementRead.the-variants as elementRead

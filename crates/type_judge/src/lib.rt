@@ -58,7 +58,7 @@ fn refusal(number: u32, at: usize) -> Step
     })
 }
 
-// The table has as many numbers as its type says.
+// The table has as many numbers as its type says. Nothing is read of the copy, so no code is left of a call.
 fn whole(elements: [u32; 384])
     ensures { λ _. ⌜ length elements ≡ 384 ⌝ }
 {}
@@ -282,11 +282,13 @@ pub fn decide(s: &[u8], room: usize, elements: &mut [u32; 384]) -> Verdict
     let Step::Read(p) = r else {
         return Verdict::Malformed(fault_of(r));
     };
-    let c = p.clash;
-    if c.second != 0 {
-        return Verdict::Ambiguous(c);
+    let clash = p.clash;
+    let second = clash.second;
+    let numbers = 6 * p.count;
+    if second != 0 {
+        return Verdict::Ambiguous(clash);
     }
-    if room < 6 * p.count {
+    if room < numbers {
         return Verdict::Malformed(Fault { number: 19, at: 0 });
     }
     Verdict::Accepted(p.count)
@@ -296,10 +298,10 @@ pub fn decide(s: &[u8], room: usize, elements: &mut [u32; 384]) -> Verdict
 fn clear(buffer: &mut [u32])
     ensures { λ _. ⌜ now (buffer .exit) ≡ replicate (length (now (buffer .entry))) 0 ⌝ }
 {
-    let mut i = 0;
-    while i < buffer.len() {
-        buffer[i] = 0;
-        i += 1;
+    let mut at = 0;
+    while at < buffer.len() {
+        buffer[at] = 0;
+        at += 1;
     }
 }
 

@@ -22,30 +22,27 @@ returns-3 c es x h k =
     pending-clear (a .s .now) (a .c) es x (c .before .before .before .before .if1 .left) h
     (content-none (a .s .now) (a .names .now) (a .table .now) _ _ _ _ _ (c .before .first-pair .ensures) x (c .before .before .if2 .left) (c .if3 .taken) k)
 
-place-at-requires : tie.Need-place-at-requires
-place-at-requires c κs =
+-- Where a pair is found, its places are those of the model.
+places-in : (c : tie.Else3) →
+    let r = c .before .first-pair .result in
+    (1 ≤ r .first) × (r .first < r .second) × (r .second ≤ 96)
+places-in c =
     let a = c .before .before .before .before .before .before .before .args in
     let r = answer-in (a .s .now) (a .names .now) (a .table .now) (a .e .places) _ _ (c .before .first-pair .ensures) (c .if3 .left) in
     let n = c .before .before .before .before .before .before .before .pre (c .before .before .if2 .left) in
     omega arith
 
+place-at-requires : tie.Need-place-at-requires
+place-at-requires c κs = omega (arith, places-in c)
+
 cast-t11 : tie.Need-cast-t11
 cast-t11 c = record { fits = c .place-at .ensures .1 }
 
--- Where the pair is found, its places are those of the model.
-module _ (c : tie.After-place-at) where
-  places-in : (1 ≤ c .before .before .first-pair .result .first) × (c .before .before .first-pair .result .first < c .before .before .first-pair .result .second) × (c .before .before .first-pair .result .second ≤ 96)
-  places-in =
-      let a = c .before .before .before .before .before .before .before .before .args in
-      let r = answer-in (a .s .now) (a .names .now) (a .table .now) (a .e .places) _ _ (c .before .before .first-pair .ensures) (c .before .if3 .left) in
-      let n = c .before .before .before .before .before .before .before .before .pre (c .before .before .before .if2 .left) in
-      omega arith
-
 cast-t12 : tie.Need-cast-t12
-cast-t12 c = omega (arith, places-in c)
+cast-t12 c = omega (arith, places-in (c .before))
 
 cast-t13 : tie.Need-cast-t13
-cast-t13 c = omega (arith, places-in c)
+cast-t13 c = omega (arith, places-in (c .before))
 
 returns-4 : tie.Need-returns-4
 returns-4 c es x h k =

@@ -1,19 +1,19 @@
--- `clear` meets its contract: after i turns the first i numbers are 0 and the rest are as they were.
+-- `clear` meets its contract: after so many turns the first so many numbers are 0 and the rest are as they were.
 use Prim.Native.Nat.{_≤_, _-_}
-use mathlib.Core.Path.{_≡_, refl, sym, _∙_}
+use mathlib.Core.Path.{_≡_, refl, _∙_}
 use mathlib.Core.List.{_++_, append-nil}
 use native.Mathlib.Omega.{arith}
 use lib.ListN.{length, drop, replicate, length-set}
 use lib.Seq.{drop-length}
-use borrow.Author.Fill.{fill-none, fill-more}
+use borrow.Author.Fill.{fill-more}
 use Rattle.type_judge.proofs.clear.Statement.{statement}
 use Rattle.type_judge.proofs.clear.Tie as tie
 
 abbrev Inv-loop : tie.InvT-loop
-Inv-loop buffer₀ i₀ buffer i = (i ≤ length buffer₀) × (length buffer ≡ length buffer₀) × (buffer ≡ replicate i 0 ++ drop i buffer₀)
+Inv-loop buffer₀ at₀ buffer at = (at ≤ length buffer₀) × (length buffer ≡ length buffer₀) × (buffer ≡ replicate at 0 ++ drop at buffer₀)
 
 abbrev μ-loop : tie.MeasureT-loop
-μ-loop buffer₀ i₀ buffer i = length buffer₀ - i
+μ-loop buffer₀ at₀ buffer at = length buffer₀ - at
 
 loop-holds : tie.Need-loop-holds Inv-loop μ-loop
 loop-holds c = (omega arith, refl, refl)
@@ -24,8 +24,8 @@ mul-buffer c = omega arith
 slice-write-buffer : tie.Need-slice-write-buffer Inv-loop μ-loop
 slice-write-buffer c = omega arith
 
-add-i : tie.Need-add-i Inv-loop μ-loop
-add-i c = omega arith
+add-at : tie.Need-add-at Inv-loop μ-loop
+add-at c = omega arith
 
 loop-less : tie.Need-loop-less Inv-loop μ-loop
 loop-less c = omega arith
@@ -33,9 +33,9 @@ loop-less c = omega arith
 loop-again : tie.Need-loop-again Inv-loop μ-loop
 loop-again c =
     let s = c .before .before .args .buffer .now in
-    let i = c .before .loop in
-    let h = i .inv in
-    (omega arith, length-set (i .buffer) (i .i) 0 ∙ h .1, rw (h .2) (fill-more (i .i) 0 s (omega arith)))
+    let l = c .before .loop in
+    let h = l .inv in
+    (omega arith, length-set (l .buffer) (l .at) 0 ∙ h .1, rw (h .2) (fill-more (l .at) 0 s (omega arith)))
 
 same-length : tie.Need-same-length Inv-loop μ-loop
 same-length c = c .before .loop .inv .1
@@ -43,9 +43,9 @@ same-length c = c .before .loop .inv .1
 returns : tie.Need-returns Inv-loop μ-loop
 returns c =
     let s = c .before .before .args .buffer .now in
-    let i = c .before .loop in
-    let e : i .i ≡ length s = omega (arith, i .inv .0, i .inv .1, c .loop-test .left) in
-    i .inv .2 ∙ rw (e, drop-length s) (append-nil (replicate (length s) 0))
+    let l = c .before .loop in
+    let e : l .at ≡ length s = omega (arith, l .inv .0, l .inv .1, c .loop-test .left) in
+    l .inv .2 ∙ rw (e, drop-length s) (append-nil (replicate (length s) 0))
 
 pub clear-spec : {M : Type 1} → statement M
 clear-spec =
@@ -56,7 +56,7 @@ clear-spec =
     loop-holds
     mul-buffer
     slice-write-buffer
-    add-i
+    add-at
     loop-less
     loop-again
     same-length

@@ -54,28 +54,31 @@ returns-3 c =
     let f = c .before .before .before in
     decides-malformed (a .s .now) (a .room) (legible f) (f .file-read .last .1 .0) (f .file-read .result) (f .file-read .ensures) _ _ (c .before .enum-told .given .1) (c .fault-of .ensures)
 
+mul-numbers : tie.Need-mul-numbers
+mul-numbers c =
+    let (es, y, k) = kept (c .before .before .before) in
+    omega (arith, k .counted, k .room)
+
 returns-4 : tie.Need-returns-4
 returns-4 c =
     let a = c .before .before .before .before .before .before .before .before .before .before .before .before .args in
+    let f = legible (c .before .before .before .before .before .before) in
     let (es, y, k) = kept (c .before .before .before .before) in
-    decides-ambiguous (a .s .now) (a .room) (legible (c .before .before .before .before .before .before)) es y _ (k .pending) (c .if3 .taken)
-
-mul-if4 : tie.Need-mul-if4
-mul-if4 c =
-    let (es, y, k) = kept (c .before .before .before .before .before) in
-    omega (arith, k .counted, k .room)
+    decides-ambiguous (a .s .now) (a .room) f es y _ (k .pending) (c .if3 .taken)
 
 returns-5 : tie.Need-returns-5
 returns-5 c =
-    let a = c .before .before .before .before .before .before .before .before .before .before .before .before .before .before .args in
-    let (es, y, k) = kept (c .before .before .before .before .before .before) in
-    decides-full (a .s .now) (a .room) (legible (c .before .before .before .before .before .before .before .before)) es y _ (k .pending) (c .before .before .if3 .left) _ (k .counted) (c .if4 .taken)
+    let a = c .before .before .before .before .before .before .before .before .before .before .before .before .before .args in
+    let f = legible (c .before .before .before .before .before .before .before) in
+    let (es, y, k) = kept (c .before .before .before .before .before) in
+    decides-full (a .s .now) (a .room) f es y _ (k .pending) (c .before .if3 .left) _ (k .counted) (c .if4 .taken)
 
 returns-6 : tie.Need-returns-6
 returns-6 c =
-    let a = c .before .before .before .before .before .before .before .before .before .before .before .before .before .before .args in
-    let (es, y, k) = kept (c .before .before .before .before .before .before) in
-    decides-accepted (a .s .now) (a .room) (legible (c .before .before .before .before .before .before .before .before)) es y _ (k .pending) (c .before .before .if3 .left) (c .before .before .before .before .before .before .before .before .file-read .last .1 .0) (c .before .before .before .before .before .before .r .given .0 .0) k (c .if4 .left)
+    let a = c .before .before .before .before .before .before .before .before .before .before .before .before .before .args in
+    let f = c .before .before .before .before .before .before .before in
+    let (es, y, k) = kept (c .before .before .before .before .before) in
+    decides-accepted (a .s .now) (a .room) (legible f) es y _ (k .pending) (c .before .if3 .left) (f .file-read .last .1 .0) (c .before .before .before .before .before .r .given .0 .0) k (c .if4 .left)
 
 pub decide-spec : {M : Type 1} → statement M
 decide-spec =
@@ -89,7 +92,7 @@ decide-spec =
     enum-told
     fault-of-requires
     returns-3
+    mul-numbers
     returns-4
-    mul-if4
     returns-5
     returns-6)

@@ -25,7 +25,9 @@ markup-at-requires c κs =
 returns : tie.Need-returns
 returns c es k =
     let a = c .before .before .before .before .before .before .before .before .before .args in
-    rw (declaration-markup (a .s .now) (a .i) _ es (c .before .before .before .before .before .before .before .byte .ensures) _ (c .before .before .before .before .before .byte2 .ensures) (c .before .before .before .before .before .before .if1 .taken) (c .before .before .before .before .if2 .taken)) (c .markup-at .ensures es k)
+    let b = c .before .before .before .before .before .before .before .byte .ensures in
+    let d = c .before .before .before .before .before .byte2 .ensures in
+    rw (declaration-markup (a .s .now) (a .i) _ es b _ d (c .before .before .before .before .before .before .if1 .taken) (c .before .before .before .before .if2 .taken)) (c .markup-at .ensures es k)
 
 refusal-requires : tie.Need-refusal-requires
 refusal-requires c κs = tt
@@ -33,7 +35,10 @@ refusal-requires c κs = tt
 returns-2 : tie.Need-returns-2
 returns-2 c es k =
     let a = c .before .before .before .before .before .before .before .args in
-    step-refused (a .s .now) (a .elements .now) (a .i) 5 (a .i) _ _ (declaration-instruction (a .s .now) (a .i) _ es (c .before .before .before .before .before .byte .ensures) _ (c .before .before .before .byte2 .ensures) (c .before .before .before .before .if1 .taken) (c .before .if3 .taken)) (c .refusal .ensures)
+    let b = c .before .before .before .before .before .byte .ensures in
+    let d = c .before .before .before .byte2 .ensures in
+    step-refused (a .s .now) (a .elements .now) (a .i) 5 (a .i) _ _
+    (declaration-instruction (a .s .now) (a .i) _ es b _ d (c .before .before .before .before .if1 .taken) (c .before .if3 .taken)) (c .refusal .ensures)
 
 add-refusal : tie.Need-add-refusal
 add-refusal c = omega arith
@@ -44,8 +49,10 @@ refusal-requires-2 c κs = tt
 returns-3 : tie.Need-returns-3
 returns-3 c es k =
     let a = c .before .before .before .before .before .before .before .args in
+    let b = c .before .before .before .before .before .byte .ensures in
+    let d = c .before .before .before .byte2 .ensures in
     step-refused (a .s .now) (a .elements .now) (a .i) 4 (a .i + 1) _ _
-    (declaration-tag (a .s .now) (a .i) _ es (c .before .before .before .before .before .byte .ensures) _ (c .before .before .before .byte2 .ensures) (c .before .before .before .before .if1 .taken) (c .before .before .if2 .left) (c .before .if3 .left)) (c .refusal2 .ensures)
+    (declaration-tag (a .s .now) (a .i) _ es b _ d (c .before .before .before .before .if1 .taken) (c .before .before .if2 .left) (c .before .if3 .left)) (c .refusal2 .ensures)
 
 refusal-requires-3 : tie.Need-refusal-requires-3
 refusal-requires-3 c κs = tt
@@ -53,7 +60,9 @@ refusal-requires-3 c κs = tt
 returns-4 : tie.Need-returns-4
 returns-4 c es k =
     let a = c .before .before .before .before .before .args in
-    step-refused (a .s .now) (a .elements .now) (a .i) 5 (a .i) _ _ (declaration-reference (a .s .now) (a .i) _ es (c .before .before .before .byte .ensures) (c .before .if4 .taken)) (c .refusal3 .ensures)
+    let b = c .before .before .before .byte .ensures in
+    step-refused (a .s .now) (a .elements .now) (a .i) 5 (a .i) _ _
+    (declaration-reference (a .s .now) (a .i) _ es b (c .before .if4 .taken)) (c .refusal3 .ensures)
 
 refusal-requires-4 : tie.Need-refusal-requires-4
 refusal-requires-4 c κs = tt
@@ -61,7 +70,9 @@ refusal-requires-4 c κs = tt
 returns-5 : tie.Need-returns-5
 returns-5 c es k =
     let a = c .before .before .before .before .before .args in
-    step-refused (a .s .now) (a .elements .now) (a .i) 4 (a .i) _ _ (declaration-other (a .s .now) (a .i) _ es (c .before .before .before .byte .ensures) (c .before .before .if1 .left) (c .before .if4 .left)) (c .refusal4 .ensures)
+    let b = c .before .before .before .byte .ensures in
+    step-refused (a .s .now) (a .elements .now) (a .i) 4 (a .i) _ _
+    (declaration-other (a .s .now) (a .i) _ es b (c .before .before .if1 .left) (c .before .if4 .left)) (c .refusal4 .ensures)
 
 pub declaration-at-spec : {M : Type 1} → statement M
 declaration-at-spec =

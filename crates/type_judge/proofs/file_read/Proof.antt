@@ -17,9 +17,11 @@ abbrev μ-loop : tie.MeasureT-loop
 
 -- What a declaration comes to, after those read so far.
 read : (c : tie.After-declaration-at Inv-loop μ-loop) →
-    let l = c .before .before .before .before .before .before in
-    MeetsStep (l .before .before .args .s .now) (c .declaration-at .last .1 .1 .1 .0) (c .before .before .before .before .before .separators-end .result) (c .declaration-at .result)
-    (declaration (l .before .before .args .s .now) (c .before .before .before .before .before .separators-end .result) (l .loop .inv .1 .so-far))
+    let i = c .before .before .before .before .before in
+    let s = i .before .before .before .args .s .now in
+    let so-far = i .before .loop .inv .1 .so-far in
+    let at = i .separators-end .result in
+    MeetsStep s (c .declaration-at .last .1 .1 .1 .0) at (c .declaration-at .result) (declaration s at so-far)
 read c =
     let i = c .before .before .before .before .before .before .loop .inv .1 in
     c .declaration-at .ensures (i .so-far) (i .keeps)
@@ -30,9 +32,11 @@ turned : (c : tie.After-r Inv-loop μ-loop) →
     let q = c .r .given .0 .0 in
     ReadsOn s (c .before .before .declaration-at .last .1 .1 .1 .0) q × (c .before .before .before .before .before .before .before .before .loop .p .at < q .at) × (q .at ≤ length s)
 turned c =
+    let s = c .before .before .before .before .before .before .before .before .before .before .args .s .now in
     let l = c .before .before .before .before .before .before .before .before .loop in
+    let e = c .before .before .before .before .before .before .before .separators-end .ensures in
     let d = c .before .before .declaration-at in
-    reads-turn (c .before .before .before .before .before .before .before .before .before .before .args .s .now) (l .elements) (l .p) (l .inv .1) _ (c .before .before .before .before .before .before .before .separators-end .ensures) (c .before .before .before .before .before .before .if1 .left) (d .last .1 .1 .1 .0) (d .result) _ (c .r .given .1) (read (c .before .before))
+    reads-turn s (l .elements) (l .p) (l .inv .1) _ e (c .before .before .before .before .before .before .if1 .left) (d .last .1 .1 .1 .0) (d .result) _ (c .r .given .1) (read (c .before .before))
 
 loop-holds : tie.Need-loop-holds Inv-loop μ-loop
 loop-holds c = (c .before .pre, reads-start (c .before .args .s .now) (c .before .args .elements .now))
@@ -68,9 +72,11 @@ enum-told c = search needs
 
 returns-3 : tie.Need-returns-3 Inv-loop μ-loop
 returns-3 c =
+    let s = c .before .before .before .before .before .before .before .before .before .before .args .s .now in
     let l = c .before .before .before .before .before .before .before .before .loop in
+    let e = c .before .before .before .before .before .before .before .separators-end .ensures in
     let d = c .before .before .declaration-at in
-    reads-refused (c .before .before .before .before .before .before .before .before .before .before .args .s .now) (l .elements) (l .p) (l .inv .1) _ (c .before .before .before .before .before .before .before .separators-end .ensures) (c .before .before .before .before .before .before .if1 .left) (d .last .1 .1 .1 .0) (d .result) _ (c .enum-told .given .1)
+    reads-refused s (l .elements) (l .p) (l .inv .1) _ e (c .before .before .before .before .before .before .if1 .left) (d .last .1 .1 .1 .0) (d .result) _ (c .enum-told .given .1)
     (read (c .before .before))
 
 loop-less : tie.Need-loop-less Inv-loop μ-loop

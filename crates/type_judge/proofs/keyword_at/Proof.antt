@@ -30,7 +30,8 @@ refusal-requires c κs = tt
 returns : tie.Need-returns
 returns c es k =
     let a = c .before .before .before .before .args in
-    step-refused (a .s .now) (a .elements .now) (a .i) 3 (a .i + 2) _ _ (keyword-long (a .s .now) (a .i) _ es (c .before .before .name-end .ensures) (c .before .if1 .taken)) (c .refusal .ensures)
+    step-refused (a .s .now) (a .elements .now) (a .i) 3 (a .i + 2) _ _
+    (keyword-long (a .s .now) (a .i) _ es (c .before .before .name-end .ensures) (c .before .if1 .taken)) (c .refusal .ensures)
 
 add-is-word : tie.Need-add-is-word
 add-is-word c = omega arith
@@ -55,9 +56,12 @@ element-at-requires c κs =
 returns-2 : tie.Need-returns-2
 returns-2 c es k =
     let a = c .before .before .before .before .before .before .before .before .before .before .args in
-    let e = c .before .before .before .before .before .before .before .before .name-end .ensures in
-    rw (keyword-element (a .s .now) (a .i) _ es e (c .before .before .before .before .before .before .before .if1 .left) (sym (c .before .before .before .before .before .is-word .ensures) ∙ c .before .before .before .before .if2 .taken))
-    (step-back (a .s .now) (c .element-at .last .1 .1 .1 .0) (a .i) (c .before .before .before .before .before .before .before .before .name-end .result) (omega (arith, e, nameEnd-from (a .s .now) (a .i + 2))) (c .element-at .result) (element (a .s .now) (c .before .before .before .before .before .before .before .before .name-end .result) es) (c .element-at .ensures es k))
+    let e = c .before .before .before .before .before .before .before .before .name-end in
+    let r = c .element-at in
+    let w = sym (c .before .before .before .before .before .is-word .ensures) ∙ c .before .before .before .before .if2 .taken in
+    let from = nameEnd-from (a .s .now) (a .i + 2) in
+    rw (keyword-element (a .s .now) (a .i) _ es (e .ensures) (c .before .before .before .before .before .before .before .if1 .left) w)
+    (step-back (a .s .now) (r .last .1 .1 .1 .0) (a .i) (e .result) (omega (arith, e .ensures)) (r .result) (element (a .s .now) (e .result) es) (r .ensures es k))
 
 refusal-requires-2 : tie.Need-refusal-requires-2
 refusal-requires-2 c κs = tt
@@ -65,7 +69,9 @@ refusal-requires-2 c κs = tt
 returns-3 : tie.Need-returns-3
 returns-3 c es k =
     let a = c .before .before .before .before .before .before .before .args in
-    step-refused (a .s .now) (a .elements .now) (a .i) 5 (a .i) _ _ (keyword-other (a .s .now) (a .i) _ es (c .before .before .before .before .before .name-end .ensures) (c .before .before .before .before .if1 .left) (sym (c .before .before .is-word .ensures) ∙ c .before .if2 .left)) (c .refusal2 .ensures)
+    let w = sym (c .before .before .is-word .ensures) ∙ c .before .if2 .left in
+    step-refused (a .s .now) (a .elements .now) (a .i) 5 (a .i) _ _
+    (keyword-other (a .s .now) (a .i) _ es (c .before .before .before .before .before .name-end .ensures) (c .before .before .before .before .if1 .left) w) (c .refusal2 .ensures)
 
 pub keyword-at-spec : {M : Type 1} → statement M
 keyword-at-spec =

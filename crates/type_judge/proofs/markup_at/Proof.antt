@@ -23,8 +23,10 @@ onward-requires c κs = tt
 returns : tie.Need-returns
 returns c es k =
     let a = c .before .before .before .before .args in
-    let h = byte-is-in (a .s .now) (a .i + 2) 62 (sym (c .before .before .byte .ensures) ∙ c .before .if1 .taken) (omega arith) in
-    step-onward (a .s .now) (a .elements .now) (a .i) (a .i + 3) (a .p) es _ _ k (markup-none (a .s .now) (a .i) _ es (c .before .before .byte .ensures) (c .before .if1 .taken)) (c .onward .ensures) (omega arith) (omega arith)
+    let b = c .before .before .byte .ensures in
+    let q = c .before .if1 .taken in
+    let h = byte-is-in (a .s .now) (a .i + 2) 62 (sym b ∙ q) (omega arith) in
+    step-onward (a .s .now) (a .elements .now) (a .i) (a .i + 3) (a .p) es _ _ k (markup-none (a .s .now) (a .i) _ es b q) (c .onward .ensures) (omega arith) (omega arith)
 
 add-byte-2 : tie.Need-add-byte-2
 add-byte-2 c = omega arith
@@ -41,7 +43,10 @@ refusal-requires c κs = tt
 returns-2 : tie.Need-returns-2
 returns-2 c es k =
     let a = c .before .before .before .before .before .before .before .args in
-    step-refused (a .s .now) (a .elements .now) (a .i) 4 (a .i + 3) _ _ (markup-dash (a .s .now) (a .i) _ es (c .before .before .before .before .before .byte .ensures) _ (c .before .before .byte2 .ensures) (c .before .before .before .if2 .taken) (c .before .if3 .taken)) (c .refusal .ensures)
+    let b = c .before .before .before .before .before .byte .ensures in
+    let d = c .before .before .byte2 .ensures in
+    step-refused (a .s .now) (a .elements .now) (a .i) 4 (a .i + 3) _ _
+    (markup-dash (a .s .now) (a .i) _ es b _ d (c .before .before .before .if2 .taken) (c .before .if3 .taken)) (c .refusal .ensures)
 
 add-comment-end : tie.Need-add-comment-end
 add-comment-end c = omega arith
@@ -63,8 +68,11 @@ fault-of-requires c κs = tt
 returns-3 : tie.Need-returns-3
 returns-3 c es k =
     let a = c .before .before .before .before .before .before .before .before .before .before .args in
+    let b = c .before .before .before .before .before .before .before .before .byte .ensures in
+    let d = c .before .before .before .before .before .byte2 .ensures in
     comment-refused (a .s .now) (a .elements .now) (a .i) (a .p) es _ _
-    (markup-comment (a .s .now) (a .i) _ es (c .before .before .before .before .before .before .before .before .byte .ensures) _ (c .before .before .before .before .before .byte2 .ensures) (c .before .before .before .before .before .before .if2 .taken) _ (c .before .before .before .before .if3 .left) (c .before .before .before .comment-end .ensures)) _ _ (c .before .enum-told .given .1) (c .fault-of .ensures)
+    (markup-comment (a .s .now) (a .i) _ es b _ d (c .before .before .before .before .before .before .if2 .taken) _ (c .before .before .before .before .if3 .left) (c .before .before .before .comment-end .ensures)) _ _
+    (c .before .enum-told .given .1) (c .fault-of .ensures)
 
 onward-requires-2 : tie.Need-onward-requires-2
 onward-requires-2 c κs = tt
@@ -72,8 +80,11 @@ onward-requires-2 c κs = tt
 returns-4 : tie.Need-returns-4
 returns-4 c es k =
     let a = c .before .before .before .before .before .before .before .before .before .before .before .args in
+    let b = c .before .before .before .before .before .before .before .before .before .byte .ensures in
+    let d = c .before .before .before .before .before .before .byte2 .ensures in
+    let e = c .before .before .before .before .comment-end .ensures in
     comment-onward (a .s .now) (a .elements .now) (a .i) (a .p) es _ _
-    (markup-comment (a .s .now) (a .i) _ es (c .before .before .before .before .before .before .before .before .before .byte .ensures) _ (c .before .before .before .before .before .before .byte2 .ensures) (c .before .before .before .before .before .before .before .if2 .taken) _ (c .before .before .before .before .before .if3 .left) (c .before .before .before .before .comment-end .ensures)) _ _ (c .before .before .r .given .1) (c .before .before .before .before .comment-end .ensures) k (c .onward2 .ensures)
+    (markup-comment (a .s .now) (a .i) _ es b _ d (c .before .before .before .before .before .before .before .if2 .taken) _ (c .before .before .before .before .before .if3 .left) e) _ _ (c .before .before .r .given .1) e k (c .onward2 .ensures)
 
 refusal-requires-2 : tie.Need-refusal-requires-2
 refusal-requires-2 c κs = tt
@@ -81,7 +92,8 @@ refusal-requires-2 c κs = tt
 returns-5 : tie.Need-returns-5
 returns-5 c es k =
     let a = c .before .before .before .before .before .before .args in
-    step-refused (a .s .now) (a .elements .now) (a .i) 5 (a .i) _ _ (markup-section (a .s .now) (a .i) _ es (c .before .before .before .before .byte .ensures) (c .before .if4 .taken)) (c .refusal2 .ensures)
+    let b = c .before .before .before .before .byte .ensures in
+    step-refused (a .s .now) (a .elements .now) (a .i) 5 (a .i) _ _ (markup-section (a .s .now) (a .i) _ es b (c .before .if4 .taken)) (c .refusal2 .ensures)
 
 is-letter-requires : tie.Need-is-letter-requires
 is-letter-requires c κs = tt
@@ -92,7 +104,10 @@ keyword-at-requires c κs = c .before .before .before .before .before .before .b
 returns-6 : tie.Need-returns-6
 returns-6 c es k =
     let a = c .before .before .before .before .before .before .before .before .before .before .before .args in
-    rw (markup-keyword (a .s .now) (a .i) _ es (c .before .before .before .before .before .before .before .before .before .byte .ensures) (c .before .before .before .before .before .before .before .before .if1 .left) (c .before .before .before .before .before .before .before .if2 .left) (c .before .before .before .before .before .before .if4 .left) (sym (c .before .before .before .before .before .is-letter .ensures) ∙ c .before .before .before .before .if5 .taken)) (c .keyword-at .ensures es k)
+    let b = c .before .before .before .before .before .before .before .before .before .byte .ensures in
+    let l = sym (c .before .before .before .before .before .is-letter .ensures) ∙ c .before .before .before .before .if5 .taken in
+    rw (markup-keyword (a .s .now) (a .i) _ es b (c .before .before .before .before .before .before .before .before .if1 .left) (c .before .before .before .before .before .before .before .if2 .left) (c .before .before .before .before .before .before .if4 .left) l)
+    (c .keyword-at .ensures es k)
 
 add-refusal-2 : tie.Need-add-refusal-2
 add-refusal-2 c = omega arith
@@ -103,8 +118,10 @@ refusal-requires-3 c κs = tt
 returns-7 : tie.Need-returns-7
 returns-7 c es k =
     let a = c .before .before .before .before .before .before .before .before .args in
+    let b = c .before .before .before .before .before .before .byte .ensures in
+    let l = sym (c .before .before .is-letter .ensures) ∙ c .before .if5 .left in
     step-refused (a .s .now) (a .elements .now) (a .i) 4 (a .i + 2) _ _
-    (markup-other (a .s .now) (a .i) _ es (c .before .before .before .before .before .before .byte .ensures) (c .before .before .before .before .before .if1 .left) (c .before .before .before .before .if2 .left) (c .before .before .before .if4 .left) (sym (c .before .before .is-letter .ensures) ∙ c .before .if5 .left)) (c .refusal3 .ensures)
+    (markup-other (a .s .now) (a .i) _ es b (c .before .before .before .before .before .if1 .left) (c .before .before .before .before .if2 .left) (c .before .before .before .if4 .left) l) (c .refusal3 .ensures)
 
 pub markup-at-spec : {M : Type 1} → statement M
 markup-at-spec =

@@ -1,11 +1,10 @@
 -- `put_numbers` meets its contract: after i turns the first i numbers are those of the table and the rest are as they were.
 use Prim.Native.Nat.{_≤_, _-_}
-use mathlib.Core.Path.{_≡_, refl, sym, _∙_}
+use mathlib.Core.Path.{_≡_, refl, _∙_}
 use mathlib.Core.List.{_++_}
 use native.Mathlib.Omega.{arith}
 use lib.ListN.{length, take, drop, getD, length-set}
 use Rattle.type_judge.specs.Laws.{copy-more}
-use borrow.Author.Needs.{needs}
 use Rattle.type_judge.proofs.put_numbers.Statement.{statement}
 use Rattle.type_judge.proofs.put_numbers.Tie as tie
 
