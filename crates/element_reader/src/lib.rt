@@ -380,7 +380,8 @@ fn rest_at(s: &[u8], h: Head, names: &mut [u32; 192], table: &mut [u8; 9506]) ->
     })
 }
 
-// An element declaration whose keyword ends at `at`, after those recorded in `elements`.
+// An element declaration whose keyword ends at `at`, after those recorded in `elements`. Where it is refused or the content is EMPTY,
+// what `names` and `table` hold is not decided.
 pub fn element_at(
     s: &[u8],
     at: usize,

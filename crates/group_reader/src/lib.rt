@@ -299,7 +299,8 @@ fn next_at(
     Next::Joined(b, joined_by(table, b, lo, m, u))
 }
 
-// A group whose "(" stands at `at`; `levels` is how many group levels are left.
+// A group whose "(" stands at `at`; `levels` is how many group levels are left. Where it is refused, what `names` and `table` hold
+// is not decided; they are filled anew for the next model.
 pub fn group_at(
     s: &[u8],
     at: usize,

@@ -1,8 +1,8 @@
 // The names of a model's places: where each stands in the type file and how long it is.
 ghost use mathlib.Core.Path.{_≡_};
 ghost use mathlib.Core.List.{[], _∷_, _++_};
-ghost use Prim.Native.Nat.{ℕ, _+_, _-_, _≤_, _<_};
-ghost use lib.ListN.{length, getD};
+ghost use Prim.Native.Nat.{ℕ, _+_, _*_, _-_, _≤_, _<_};
+ghost use lib.ListN.{length, getD, set};
 ghost use Rattle.rules.specs.Bytes.{byteAt, fold};
 ghost use Rattle.rules.specs.Judge.{samePlace};
 ghost use Rattle.model_names.specs.Places.{placeIn, placesOf, keyOf};
@@ -15,7 +15,8 @@ fn whole(names: [u32; 192])
 // The next place is written down: where its name stands and how long it is, 0 for `#PCDATA`.
 pub fn put_name(names: &mut [u32; 192], places: usize, at: usize, size: usize)
     requires { ⌜ (places < 96) × (at < 4294967296) × (size < 4294967296) ⌝ }
-    ensures { λ _. ⌜ placesOf (now (names .exit)) (places + 1) ≡ placesOf (now (names .entry)) places ++ record { at = at; size = size } ∷ [] ⌝ }
+    ensures { λ _. ⌜ (placesOf (now (names .exit)) (places + 1) ≡ placesOf (now (names .entry)) places ++ record { at = at; size = size } ∷ [])
+        × (now (names .exit) ≡ set (set (now (names .entry)) (2 * places) at) (2 * places + 1) size) ⌝ }
 {
     whole(*names);
     names[2 * places] = at as u32;

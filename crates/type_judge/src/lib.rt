@@ -267,7 +267,8 @@ fn file_read(s: &[u8], elements: &mut [u32; 384]) -> Step
     }
 }
 
-// The verdict, where the lent buffer has room for so many numbers: if accepted, the elements are recorded in `elements`.
+// The verdict, where the lent buffer has room for so many numbers: if accepted, the elements are recorded in `elements`;
+// what stands behind their records, and in all of it on refusal, is not decided.
 pub fn decide(s: &[u8], room: usize, elements: &mut [u32; 384]) -> Verdict
     ensures { λ r. ⌜ Decides (now (s .entry)) room (now (elements .exit)) r ⌝ }
 {

@@ -116,7 +116,7 @@ returns-3 c =
     got-meets _ _ _ _ _ _ _ _ _ refl
     (data-got (x .s .now) (x .at) (x .full) _ (x .tokens) (is-one (e .before)) (e .name-end .result) (e .name-end .ensures) (w .is-word .result) (w .is-word .ensures) (not-false _ (d .before .if2 .left)) (d .if3 .left))
     (new-data _ (x .at) (e .name-end .result) (x .places) (x .tokens) (x .table .now) (x .names .now) _ _ _ (p .put-place .result) _
-    (omega (arith, nameEnd-le (x .s .now) (x .at + 1) (omega (arith, a .pre)), e .name-end .ensures)) (room d .0) (room d .1) (n .put-name .ensures) (p .put-place .ensures .0) (p .put-place .ensures .1) (r .repeat .ensures) (c .optional .ensures))
+    (omega (arith, nameEnd-le (x .s .now) (x .at + 1) (omega (arith, a .pre)), e .name-end .ensures)) (room d .0) (room d .1) (n .put-name .ensures .0) (p .put-place .ensures .0) (p .put-place .ensures .1) (r .repeat .ensures) (c .optional .ensures))
 
 add-refusal : tie.Need-add-refusal
 add-refusal c = search needs

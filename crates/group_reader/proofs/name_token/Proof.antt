@@ -75,7 +75,7 @@ returns-3 c =
     (name-got (x .s .now) (x .at) (e .name-end .result) (x .full) _ (x .tokens) (e .name-end .ensures) (d .before .if1 .left) (d .if2 .left))
     (c .with-occurrence .ensures _ _ _
     (new-place _ (x .at) (e .name-end .result) _ (x .places) (x .tokens) (x .table .now) (x .names .now) _ _ (p .put-place .result)
-    (omega (arith, nameEnd-le (x .s .now) (x .at) (a .pre .0 .0), e .name-end .ensures)) (a .pre .1 .0) (a .pre .1 .1 (d .if2 .left)) (n .put-name .ensures) (p .put-place .ensures .0) (p .put-place .ensures .1)))
+    (omega (arith, nameEnd-le (x .s .now) (x .at) (a .pre .0 .0), e .name-end .ensures)) (a .pre .1 .0) (a .pre .1 .1 (d .if2 .left)) (n .put-name .ensures .0) (p .put-place .ensures .0) (p .put-place .ensures .1)))
 
 pub name-token-spec : {M : Type 1} → statement M
 name-token-spec =

@@ -1,4 +1,5 @@
 -- `put_name` meets its contract: the table has room for the two numbers, and they are written behind those of the places before.
+use mathlib.Core.Path.{refl}
 use native.Mathlib.Omega.{arith}
 use Rattle.model_names.specs.Laws.{placesOf-put}
 use borrow.Author.Needs.{needs}
@@ -36,7 +37,7 @@ element-write-names-2 : tie.Need-element-write-names-2
 element-write-names-2 c = search needs
 
 returns : tie.Need-returns
-returns c = placesOf-put _ _ _ _ (omega (arith, c .whole .ensures))
+returns c = (placesOf-put _ _ _ _ (omega (arith, c .whole .ensures)), refl)
 
 pub put-name-spec : {M : Type 1} → statement M
 put-name-spec =
