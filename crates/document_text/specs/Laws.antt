@@ -13,7 +13,12 @@ use Rattle.rules.specs.Reading.{Reading, refused, got, andThen}
 use Rattle.rules.specs.TypeFile.{atDashes, beforeClose, commentDeclaration}
 use Rattle.rules.specs.Document.{Tag, Piece, startTag, endTag, skipped, blank, dataByte, tag, declarationPiece, markupPiece, isReference, isSectionEnd, bytePiece, piece}
 use Rattle.text.specs.Laws.{byte-is-in, letter-in, nameEnd-from, nameEnd-le, separatorsEnd-from, separatorsEnd-le, second, comment-closed, comment-open, comment-range}
-use Rattle.document_text.specs.Means.{asStartTag, asEndTag, asSkipped, isRun, runs, runEnd, special}
+use Rattle.text.specs.Means.{refusalOf}
+use Rattle.text.specs.declared.Fault.{Fault}
+use Rattle.document_text.specs.Means.{tagIn, pieceOf, asStartTag, asEndTag, asSkipped, isRun, runs, runEnd, special}
+use Rattle.document_text.specs.declared.Tag as here
+use Rattle.document_text.specs.declared.Token.{Token}
+use Rattle.document_text.specs.declared.Token.the-variants as token
 
 -- A tag, whose name ends at e and whose separators end at j.
 module _ (s : List ℕ) (at e : ℕ) (q : e ≡ nameEnd s at) where
@@ -303,3 +308,23 @@ runs-each (suc n) s i k h = by-test (isRun (piece s i)) refl k h (runs-each n s 
         let l : i + suc k ≡ i + 1 + k = omega arith in
         rw l (ih k (omega (arith, runs-more n s i e)))
     by-test false e k h ih = absurd (not-suc-le-zero (rw (runs-none (suc n) s i e) at h))
+
+-- A token by cases: what the rules read, where the code's answer is known.
+module _ {x : Reading Piece} {r : Token} (e : pieceOf r ≡ x) where
+  pub token-start : {t : here.Tag} → r ≡ token.StartTag t → x ≡ got (startTag (tagIn t))
+  token-start q = sym e ∙ ap pieceOf q
+
+  pub token-end : {t : here.Tag} → r ≡ token.EndTag t → x ≡ got (endTag (tagIn t))
+  token-end q = sym e ∙ ap pieceOf q
+
+  pub token-skipped : {i : ℕ} → r ≡ token.Skipped i → x ≡ got (skipped i)
+  token-skipped q = sym e ∙ ap pieceOf q
+
+  pub token-blank : r ≡ token.Blank → x ≡ got blank
+  token-blank q = sym e ∙ ap pieceOf q
+
+  pub token-data : r ≡ token.Data → x ≡ got dataByte
+  token-data q = sym e ∙ ap pieceOf q
+
+  pub token-refused : {f : Fault} → r ≡ token.Refused f → x ≡ refusalOf f
+  token-refused q = sym e ∙ ap pieceOf q

@@ -18,7 +18,7 @@ sub-if1 c =
 returns : tie.Need-returns
 returns c =
     let a = c .before .before .before .args in
-    tag-long (a .s .now) (a .i) _ (c .before .name-end .ensures) (c .if1 .taken)
+    tag-long (a .s .now) (a .i) _ (c .before .name-end .ensures) (omega arith)
 
 separators-end-requires : tie.Need-separators-end-requires
 separators-end-requires c κs =
@@ -41,12 +41,12 @@ add-t10 c =
 returns-2 : tie.Need-returns-2
 returns-2 c =
     let a = c .before .before .before .before .before .before .args in
-    tag-read (a .s .now) (a .i) _ (c .before .before .before .before .name-end .ensures) _ (c .before .before .separators-end .ensures) (c .before .before .before .if1 .left) (sym (c .before .byte .ensures) ∙ c .if2 .taken)
+    tag-read (a .s .now) (a .i) _ (c .before .before .before .before .name-end .ensures) _ (c .before .before .separators-end .ensures) (omega arith) (sym (c .before .byte .ensures) ∙ c .if2 .taken)
 
 returns-3 : tie.Need-returns-3
 returns-3 c =
     let a = c .before .before .before .before .before .before .args in
-    tag-open (a .s .now) (a .i) _ (c .before .before .before .before .name-end .ensures) _ (c .before .before .separators-end .ensures) (c .before .before .before .if1 .left) (λ e. c .if2 .left (c .before .byte .ensures ∙ e))
+    tag-open (a .s .now) (a .i) _ (c .before .before .before .before .name-end .ensures) _ (c .before .before .separators-end .ensures) (omega arith) (λ e. c .if2 .left (c .before .byte .ensures ∙ e))
 
 pub tag-at-spec : {M : Type 1} → statement M
 tag-at-spec =
