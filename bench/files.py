@@ -32,8 +32,8 @@ def elements(n, content):
 
 write("T", "<!ELEMENT LIST O O (ITEM+)><!ELEMENT ITEM O O (NAME,QTY?)><!ELEMENT NAME O O (#PCDATA)><!ELEMENT QTY - O (#PCDATA)>")
 typical = "<!-- a catalogue -->\n<!ELEMENT LIST O O (HEAD?,(SECTION|ITEM)+)>\n<!ELEMENT HEAD - O (#PCDATA)>\n"
-for k in range(24):
-    typical += "<!ELEMENT P%d - O (NAME%d,(QTY%d|UNIT%d)*,NOTE%d?)> -- parts --\n".replace(" -- parts --", "") % ((k,) * 5)
+for k in range(38):
+    typical += "<!ELEMENT P%d - O (NAME%d,(QTY%d|UNIT%d)*,NOTE%d?)>\n" % ((k,) * 5)
 write("typical", typical + "<!ELEMENT ITEM O O (NAME,QTY?,PAR?)>\n")
 write("largest-sequence", elements(64, model(96, ",", ",")))
 write("largest-choice", elements(64, model(96, ",", "|")))
