@@ -7,15 +7,17 @@ use native.Mathlib.Decide.{ℕ-discrete}
 use native.Mathlib.Nat.{add-zero}
 use native.Mathlib.Numerals.{add-one}
 use native.Mathlib.Omega.{arith}
+use lib.Dec.{eqb}
+use borrow.Author.Tests.{eq-eqb, ne-eqb}
 use lib.ListN.{length, getD, set, replicate, length-set}
 use lib.Seq.{getD-set-same, getD-set-other}
 use Rattle.rules.specs.Judge.{samePlace}
-use Rattle.model_sets.specs.Bits.{not-true, and-left}
+use Rattle.model_sets.specs.Bits.{not-true, and-left, or-left, or-right, not-both}
 use Rattle.model_sets.specs.Search.{findFrom, pairOr, pairFrom, searchPair}
 use Rattle.model_sets.specs.Pairs.{clashIn}
 use Rattle.model_names.specs.Places.{placeIn, placesOf, keyOf}
 use Rattle.model_names.specs.Laws.{key-differs}
-use Rattle.model_pairs.specs.Rows.{rowIn, faultIn}
+use Rattle.model_pairs.specs.Rows.{rowIn, faultIn, anyKey}
 
 -- A set of 97 to which the numbers below i that pass a test are added.
 pub record Added (f : ℕ → Bool) (start set : List Bool) (i : ℕ) : Type 0 where
@@ -249,3 +251,64 @@ module _ (s names table : List ℕ) (n : ℕ) where
     pairs-none h =
         let l : n + 1 - p ≡ 0 = omega arith in
         rw l at (k .still)
+
+-- Whether a place after p shares its key, looked at up to i.
+pub record Shares (keys : List ℕ) (key n p : ℕ) (some : Bool) (i : ℕ) : Type 0 where
+  pub after : p < i
+  pub within : i ≤ n + 1
+  pub still : some || anyKey keys key (n + 1 - i) i ≡ anyKey keys key (n - p) (suc p)
+
+module _ (keys : List ℕ) (key n p : ℕ) where
+  pub shares-start : p ≤ n → Shares keys key n p false (p + 1)
+  shares-start h =
+      let l : n + 1 - suc p ≡ n - p = omega arith in
+      record { after = omega arith; within = omega arith; still = rw (add-one p, l) }
+
+  module _ (some : Bool) (i : ℕ) (k : Shares keys key n p some i) where
+    pub shares-hit : i ≤ n → getD keys i 0 ≡ key → Shares keys key n p true (i + 1)
+    unfolding anyKey
+    shares-hit h e =
+        let l : n + 1 - i ≡ suc (n + 1 - (i + 1)) = omega arith in
+        let a = k .after in
+        record {
+          after = omega arith;
+          within = omega arith;
+          still = sym (or-right some (or-left (anyKey keys key (n + 1 - (i + 1)) (suc i)) (eq-eqb (getD keys i 0) key e))) ∙ (rw l at (k .still));
+        }
+
+    pub shares-miss : i ≤ n → (getD keys i 0 ≡ key → ⊥) → Shares keys key n p some (i + 1)
+    unfolding anyKey
+    shares-miss h ne =
+        let l : n + 1 - i ≡ suc (n + 1 - (i + 1)) = omega arith in
+        let a = k .after in
+        record {
+          after = omega arith;
+          within = omega arith;
+          still = ap (λ (x : ℕ). some || anyKey keys key (n + 1 - (i + 1)) x) (add-one i) ∙ (rw (l, ne-eqb (getD keys i 0) key ne) at (k .still));
+        }
+
+    pub shares-end : n < i → some ≡ anyKey keys key (n - p) (suc p)
+    unfolding anyKey
+    shares-end h =
+        let l : n + 1 - i ≡ 0 = omega arith in
+        sym (or-false some) ∙ (rw l at (k .still))
+
+no-key : (keys : List ℕ) (key n q : ℕ) → anyKey keys key n q ≡ false → (x : ℕ) → q ≤ x → x < q + n → getD keys x 0 ≡ key → ⊥
+unfolding anyKey
+no-key keys key zero q e x a b k = absurd (omega arith)
+no-key keys key (suc n) q e x a b k = here (ℕ-discrete q x) (no-key keys key n (suc q))
+  where
+    later : (b : Bool) → b || anyKey keys key n (suc q) ≡ false → anyKey keys key n (suc q) ≡ false
+    later true f = absurd (true≢false f)
+    later false f = f
+
+    here : Dec (q ≡ x) → (anyKey keys key n (suc q) ≡ false → (x : ℕ) → suc q ≤ x → x < suc q + n → getD keys x 0 ≡ key → ⊥) → ⊥
+    here (yes i) r = not-both e (or-left (anyKey keys key n (suc q)) (eq-eqb (getD keys q 0) key (rw i k)))
+    here (no ne) r = r (later (eqb (getD keys q 0) key) e) x (omega arith) (omega arith) k
+
+-- No place after p shares its key, so none has its name.
+pub unshared : (s names keys : List ℕ) (n p : ℕ) → 1 ≤ p → p ≤ n → ((x : ℕ) → 1 ≤ x → x ≤ n → getD keys x 0 ≡ keyOf s (placeIn names (x - 1)))
+    → anyKey keys (getD keys p 0) (n - p) (suc p) ≡ false → (x : ℕ) → p + 1 ≤ x → x < n + 1 → samePlace s (placesOf names n) p x ≡ true → ⊥
+unshared s names keys n p p-from p-to known none x a b e =
+    no-key keys (getD keys p 0) (n - p) (suc p) none x (omega arith) (omega arith)
+    (known x (omega arith) (omega arith) ∙ sym (key-differs s names n p x p-from p-to (omega arith) (omega arith) e) ∙ sym (known p p-from p-to))

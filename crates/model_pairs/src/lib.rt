@@ -7,7 +7,7 @@ ghost use Rattle.model_sets.specs.Search.{findFrom, searchPair};
 ghost use Rattle.model_sets.specs.Pairs.{clashIn};
 ghost use Rattle.rules.specs.Judge.{samePlace};
 ghost use Rattle.model_names.specs.Places.{placeIn, placesOf, keyOf};
-ghost use Rattle.model_pairs.specs.Rows.{rowIn, faultIn};
+ghost use Rattle.model_pairs.specs.Rows.{rowIn, faultIn, anyKey};
 
 // Two places, the smaller number first; both 0 if there is no pair.
 pub struct Pair {
@@ -83,6 +83,23 @@ fn same_name(s: &[u8], names: &[u32; 192], keys: &[u32; 97], n: usize, p: usize,
     i
 }
 
+// Whether a place after p shares its key. The loop has no way out, so that it goes by several keys at a time.
+fn shares_key(keys: &[u32; 97], n: usize, p: usize) -> bool
+    requires { ⌜ (n ≤ 96) × (p ≤ n) ⌝ }
+    ensures { λ r. ⌜ r ≡ anyKey (now (keys .entry)) (getD (now (keys .entry)) p 0) (n - p) (suc p) ⌝ }
+{
+    let key = keys[p];
+    let mut some = false;
+    let mut x = p + 1;
+    while x <= n {
+        if keys[x] == key {
+            some = true;
+        }
+        x += 1;
+    }
+    some
+}
+
 // The first place after p that is at fault with it, 0 if there is none.
 fn partner(
     s: &[u8],
@@ -96,6 +113,9 @@ fn partner(
     requires { ⌜ ((x : ℕ) → 1 ≤ x → x ≤ n → getD (now keys) x 0 ≡ keyOf (now s) (placeIn (now names) (x - 1))) ⌝ }
     ensures { λ r. ⌜ r ≡ findFrom (faultIn (now (s .entry)) (now (names .entry)) (now (table .entry)) n p) (n - p) (suc p) ⌝ }
 {
+    if !shares_key(keys, n, p) {
+        return 0;
+    }
     let mut q = same_name(s, names, keys, n, p, p + 1);
     if n < q {
         return 0;

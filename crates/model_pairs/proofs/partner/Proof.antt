@@ -1,11 +1,12 @@
 -- `partner` meets its contract. The invariant: no place after `p` before `q` is at fault with it, so what is still to be searched gives the answer, and `q` has the name of `p`.
 use Prim.Native.Nat.{_+_, _-_, _≤_}
-use mathlib.Core.Path.{_≡_}
+use mathlib.Core.Path.{_≡_, sym, _∙_}
 use mathlib.Core.Bool.{true}
 use native.Mathlib.Omega.{arith}
+use borrow.Author.Tests.{not-true}
 use Rattle.rules.specs.Judge.{samePlace}
 use Rattle.model_names.specs.Places.{placesOf}
-use Rattle.model_pairs.specs.Laws.{Seeks, seeks-start, seeks-on, seeks-past, seeks-found, seeks-none, apart, at-fault}
+use Rattle.model_pairs.specs.Laws.{Seeks, seeks-start, seeks-on, seeks-past, seeks-found, seeks-none, apart, at-fault, unshared}
 use Rattle.model_pairs.proofs.partner.Statement.{statement}
 use Rattle.model_pairs.proofs.partner.Tie as tie
 
@@ -15,22 +16,34 @@ Inv-loop s names table keys n p q₀ near q = Seeks s names table n p q × (q �
 abbrev μ-loop : tie.MeasureT-loop
 μ-loop s names table keys n p q₀ near q = n + 1 - q
 
+shares-key-requires : tie.Need-shares-key-requires Inv-loop μ-loop
+shares-key-requires c κs = omega arith
+
+returns : tie.Need-returns Inv-loop μ-loop
+returns c =
+    let start = c .before .before .before in
+    let x = start .args in
+    seeks-none _ _ _ _ _ _
+    (seeks-on (x .s .now) (x .names .now) (x .table .now) (x .n) (x .p) (x .p + 1) (x .n + 1) (seeks-start _ _ _ _ _ (start .pre .0 .2)) (omega arith) (omega arith)
+    (unshared (x .s .now) (x .names .now) (x .keys .now) (x .n) (x .p) (start .pre .0 .1) (start .pre .0 .2) (start .pre .1) (sym (c .before .shares-key .ensures) ∙ not-true _ (c .if1 .taken))))
+    (omega arith)
+
 add-same-name : tie.Need-add-same-name Inv-loop μ-loop
 add-same-name c = omega arith
 
 same-name-requires : tie.Need-same-name-requires Inv-loop μ-loop
-same-name-requires c κs = (omega arith, c .before .pre .1)
+same-name-requires c κs = (omega arith, c .before .before .before .pre .1)
 
 -- where the search begins
 begun : (c : tie.After-same-name Inv-loop μ-loop) →
-    let x = c .before .before .args in
+    let x = c .before .before .before .before .args in
     Seeks (x .s .now) (x .names .now) (x .table .now) (x .n) (x .p) (c .same-name .result)
 begun c =
     let found = c .same-name .ensures in
-    seeks-on _ _ _ _ _ _ _ (seeks-start _ _ _ _ _ (c .before .before .pre .0 .2)) (found .0) (found .1) (found .2)
+    seeks-on _ _ _ _ _ _ _ (seeks-start _ _ _ _ _ (c .before .before .before .before .pre .0 .2)) (found .0) (found .1) (found .2)
 
-returns : tie.Need-returns Inv-loop μ-loop
-returns c = seeks-none _ _ _ _ _ _ (begun (c .before)) (omega arith)
+returns-2 : tie.Need-returns-2 Inv-loop μ-loop
+returns-2 c = seeks-none _ _ _ _ _ _ (begun (c .before)) (omega arith)
 
 beside-requires : tie.Need-beside-requires Inv-loop μ-loop
 beside-requires c κs = omega arith
@@ -40,21 +53,21 @@ loop-holds c =
     let first = c .before .before in
     (begun first, first .same-name .ensures .3)
 
-array-read-if2 : tie.Need-array-read-if2 Inv-loop μ-loop
-array-read-if2 c = omega arith
+array-read-if3 : tie.Need-array-read-if3 Inv-loop μ-loop
+array-read-if3 c = omega arith
 
-returns-2 : tie.Need-returns-2 Inv-loop μ-loop
-returns-2 c =
+returns-3 : tie.Need-returns-3 Inv-loop μ-loop
+returns-3 c =
     let looped = c .before .before in
     let inv = looped .loop .inv in
     seeks-found _ _ _ _ _ _ (inv .0) (omega arith)
-    (at-fault _ _ _ _ _ _ _ (looped .before .beside .ensures _ (omega arith)) (inv .1 (omega arith)) (c .if2 .taken))
+    (at-fault _ _ _ _ _ _ _ (looped .before .beside .ensures _ (omega arith)) (inv .1 (omega arith)) (c .if3 .taken))
 
 add-same-name-2 : tie.Need-add-same-name-2 Inv-loop μ-loop
 add-same-name-2 c = omega arith
 
 same-name-requires-2 : tie.Need-same-name-requires-2 Inv-loop μ-loop
-same-name-requires-2 c κs = (omega arith, c .before .before .before .before .before .before .before .pre .1)
+same-name-requires-2 c κs = (omega arith, c .before .before .before .before .before .before .before .before .before .pre .1)
 
 loop-less : tie.Need-loop-less Inv-loop μ-loop
 loop-less c = omega arith
@@ -66,13 +79,13 @@ loop-again c =
     let looped = tested .before .before in (
       seeks-on _ _ _ _ _ _ _
           (seeks-past _ _ _ _ _ _ (looped .loop .inv .0) (omega arith)
-          (apart _ _ _ _ _ _ _ (looped .before .beside .ensures _ (omega arith)) (tested .if2 .left)))
+          (apart _ _ _ _ _ _ _ (looped .before .beside .ensures _ (omega (arith, tested .before .before .before .before .before .before .before .before .before .pre .0))) (tested .if3 .left)))
           (found .0) (found .1) (found .2),
       found .3,
     )
 
-returns-3 : tie.Need-returns-3 Inv-loop μ-loop
-returns-3 c = seeks-none _ _ _ _ _ _ (c .before .loop .inv .0) (omega arith)
+returns-4 : tie.Need-returns-4 Inv-loop μ-loop
+returns-4 c = seeks-none _ _ _ _ _ _ (c .before .loop .inv .0) (omega arith)
 
 pub partner-spec : {M : Type 1} → statement M
 partner-spec =
@@ -80,15 +93,17 @@ partner-spec =
     (tie.spec
     Inv-loop
     μ-loop
+    shares-key-requires
+    returns
     add-same-name
     same-name-requires
-    returns
+    returns-2
     beside-requires
     loop-holds
-    array-read-if2
-    returns-2
+    array-read-if3
+    returns-3
     add-same-name-2
     same-name-requires-2
     loop-less
     loop-again
-    returns-3)
+    returns-4)
