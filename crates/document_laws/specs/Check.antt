@@ -38,7 +38,7 @@ isNumbered (alt g h) lo = isNumbered g lo && isNumbered h (lo + size g)
 isNumbered (opt g) lo = isNumbered g lo
 isNumbered (plus g) lo = isNumbered g lo
 
-numbered : (g : Group) (lo : ℕ) → isNumbered g lo ≡ true → Numbered g lo
+pub numbered : (g : Group) (lo : ℕ) → isNumbered g lo ≡ true → Numbered g lo
 unfolding isNumbered
 numbered (place n) lo e = eqb-true n lo e
 numbered (seq g h) lo e = (numbered g lo (and-left (isNumbered g lo) _ e), numbered h (lo + size g) (and-right (isNumbered g lo) _ e))

@@ -51,7 +51,8 @@ fn refusal(number: u32, at: usize) -> ModelRead
     })
 }
 
-// The occurrence indicator at once after a name or a group whose first place is `lo`.
+// The occurrence indicator at once after a name or a group whose first place is `lo`. What it gives where m and the table stand for no
+// such group is not decided.
 pub fn with_occurrence(s: &[u8], table: &mut [u8; 9506], lo: usize, m: Model) -> Model
     requires { ⌜ m .at ≤ length (now s) ⌝ }
     requires { ⌜ m .places ≤ 96 ⌝ }

@@ -1,18 +1,17 @@
 -- A computed test of what the rules say of a type file with one element, and that it is right.
-use Prim.Native.Nat.{ℕ, zero, suc, _+_, _-_, _≤_}
+use Prim.Native.Nat.{ℕ, zero, suc, _-_}
 use mathlib.Core.Path.{_≡_, refl, sym, _∙_, ap, subst}
 use mathlib.Core.Bool.{Bool, true, false, _&&_}
 use mathlib.Core.List.{List, [], _∷_}
 use lib.Dec.{eqb}
 use borrow.Author.Tests.{eqb-true}
 use native.Mathlib.Omega.{arith}
-use Rattle.rules.specs.Walk.{Group, place, seq, alt, opt, plus}
 use Rattle.rules.specs.Reading.{Reading, refused, got}
 use Rattle.rules.specs.TypeFile.{Place, Content, empty, model, Element, typeFile}
 use Rattle.rules.specs.Judge.{samePlace, placeAt, Unambiguous, AllUnambiguous, PairStandsAt, FirstAmbiguous, here}
 use Rattle.model_sets.specs.Bits.{and-left, and-right}
-use Rattle.model_sets.specs.Sets.{size, Numbered}
 use Rattle.model_sets.specs.Pairs.{firstPairOf, firstPairOf-none, firstPairOf-is}
+use Rattle.document_laws.specs.Check.{isNumbered, numbered}
 
 -- A type file, and the pair that the judge must name in it; both 0 where it must accept it.
 pub record Example : Type 0 where
@@ -29,23 +28,6 @@ pub record Right (x : Example) : Type 0 where
   pub elements : List Element
   pub reads : typeFile (x .text) ≡ got elements
   pub named : Named (x .text) (x .first) (x .second) elements
-
-unfoldable pub isNumbered : Group → ℕ → Bool
-isNumbered (place n) lo = eqb n lo
-isNumbered (seq g h) lo = isNumbered g lo && isNumbered h (lo + size g)
-isNumbered (alt g h) lo = isNumbered g lo && isNumbered h (lo + size g)
-isNumbered (opt g) lo = isNumbered g lo
-isNumbered (plus g) lo = isNumbered g lo
-
-numbered : (g : Group) (lo : ℕ) → isNumbered g lo ≡ true → Numbered g lo
-unfolding isNumbered
-numbered (place n) lo e = eqb-true n lo e
-numbered (seq g h) lo e =
-    (numbered g lo (and-left (isNumbered g lo) _ e), numbered h (lo + size g) (and-right (isNumbered g lo) _ e))
-numbered (alt g h) lo e =
-    (numbered g lo (and-left (isNumbered g lo) _ e), numbered h (lo + size g) (and-right (isNumbered g lo) _ e))
-numbered (opt g) lo e = numbered g lo e
-numbered (plus g) lo e = numbered g lo e
 
 -- the two numbers are those of a pair
 unfoldable pub isPair : ℕ × ℕ → ℕ → ℕ → Bool

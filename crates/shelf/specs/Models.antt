@@ -7,7 +7,8 @@ use Rattle.rules.specs.TypeFile.{beforeDashes, gapWithin, gap, occurrence, name
 use Rattle.rules.specs.TypeFile.{isDeclared, elementName, omission, words, head, contentWord, contentModel, content, close, rest, element}
 use Rattle.rules.specs.TypeFile.{commentDeclaration, beforeClose, keyword, markup, declaration, declarationsWithin, typeFile}
 use Rattle.rules.specs.Judge.{placeAt}
-use Rattle.shelf.specs.Check.{Example, Right, AllRight, all-right, allPass, test, readsAs, ofContent, isPair, isNumbered}
+use Rattle.shelf.specs.Check.{Example, Right, AllRight, all-right, allPass, test, readsAs, ofContent, isPair}
+use Rattle.document_laws.specs.Check.{isNumbered}
 
 -- `<!ELEMENT X O O ` and `>` around a model
 pub declared : List ℕ → List ℕ
