@@ -1,0 +1,2 @@
+-- Settling by the last place taken in each open element.
+pub mod Last
