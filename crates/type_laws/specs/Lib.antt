@@ -3,3 +3,4 @@ pub mod Gives
 pub mod Models
 pub mod Made
 pub mod Names
+pub mod Width
