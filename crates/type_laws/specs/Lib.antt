@@ -4,3 +4,4 @@ pub mod Models
 pub mod Made
 pub mod Names
 pub mod Width
+pub mod Pcdata
