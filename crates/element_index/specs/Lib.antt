@@ -1,0 +1,2 @@
+-- What an index of a type's elements says.
+pub mod Means
