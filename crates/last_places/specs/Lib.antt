@@ -1,2 +1,3 @@
 -- Settling by the last place taken in each open element.
 pub mod Last
+pub mod Short
