@@ -1,3 +1,8 @@
 -- Settling by the last place taken in each open element.
 pub mod Last
 pub mod Short
+pub mod Joins
+pub mod Enough
+pub mod Leaves
+pub mod Run
+pub mod Turns

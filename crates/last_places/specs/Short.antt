@@ -144,7 +144,7 @@ module _ (s : List ℕ) (es : List Element) where
   abbrev D : Decisions
   D = decided s es
 
-  fitting-short : (o : Open) (t : Token) → fitting s es D o t ≡ fitting s es D (lastOnly o) t
+  pub fitting-short : (o : Open) (t : Token) → fitting s es D o t ≡ fitting s es D (lastOnly o) t
   fitting-short o t = fits-last s es (o .number) t (o .taken) (lastOnly o .taken) (sym (last-placed (lastOr0 (o .taken))))
 
   complete-short : (o : Open) → isComplete s es D o ≡ isComplete s es D (lastOnly o)
