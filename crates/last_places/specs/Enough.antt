@@ -1,6 +1,6 @@
 -- The rest of a document goes by the position and the state: a bound on the turns that is enough is like any other, and a turn goes on.
 use Prim.Native.Nat.{ℕ, zero, suc, _+_, _-_, _≤_, _<_}
-use mathlib.Core.Path.{_≡_, refl, sym, _∙_, ap}
+use mathlib.Core.Path.{_≡_, refl}
 use mathlib.Core.Bool.{Bool, true, false}
 use mathlib.Core.List.{List}
 use native.Mathlib.Omega.{arith}
@@ -9,8 +9,8 @@ use lib.Dec.{leb}
 use borrow.Author.Tests.{leb-false, lt-leb, le-leb}
 use Rattle.rules.specs.Reading.{Reading, refused, got, andThen}
 use Rattle.rules.specs.TypeFile.{Element}
-use Rattle.rules.specs.Document.{Tag, Piece, startTag, endTag, skipped, blank, dataByte, piece}
-use Rattle.rules.specs.Settling.{Decisions, Event, State, startElement, takeData, takeBlank, endElement, endDocument}
+use Rattle.rules.specs.Document.{Piece, startTag, endTag, skipped, blank, dataByte, piece}
+use Rattle.rules.specs.Settling.{Decisions, State, startElement, takeData, takeBlank, endElement, endDocument}
 use Rattle.rules.specs.Reader.{Reached, goOn, tagged, settlePiece, piecesWithin}
 use Rattle.model_sets.specs.Bits.{bool-cases}
 use Rattle.document_laws.specs.Same.{Kept}

@@ -1,25 +1,20 @@
 -- What settling leaves: the token taken as a place as which it fits, and no event on which data goes on that was not there before.
-use Prim.Native.Nat.{ℕ, zero, suc, _+_, _≤_}
-use mathlib.Core.Path.{_≡_, refl, ap}
+use Prim.Native.Nat.{ℕ, _≤_}
+use mathlib.Core.Path.{_≡_, refl}
 use mathlib.Core.Bool.{Bool, true, false, _&&_}
 use mathlib.Core.List.{List, [], _∷_, _++_}
 use lib.ListN.{length}
-use lib.Dec.{eqb, leb, ltb}
+use lib.Dec.{eqb, leb}
 use borrow.Author.Tests.{leb-true}
-use Rattle.rules.specs.Bytes.{TAGLVL}
-use Rattle.rules.specs.Reading.{Reading, refused, got, andThen}
+use Rattle.rules.specs.Reading.{Reading, refused, got}
 use Rattle.rules.specs.TypeFile.{Element}
 use Rattle.rules.specs.Settling.{contentOf, hasModel, endO, Token, start, Decisions, Event, startWritten, startInferred, endWritten, endInferred, endOfEmpty, Open, State, takePlace, enter, note, limited, isOpen, Inward, settled, stuck, fitting, isComplete, requiredPlace, chain, inferStarts, takeToken, inward, settleFrom, isOver, settle, startElement, endLeftOut, closeFrom, endElement}
-use Rattle.model_sets.specs.Bits.{bool-cases}
 use Rattle.document_laws.specs.Same.{Kept}
 use Rattle.document_laws.specs.Chain.{Leads, chain-leads}
 use Rattle.last_places.specs.Last.{joins}
-use Rattle.last_places.specs.Short.{took}
+use Rattle.last_places.specs.Short.{state, took}
 use Rattle.last_places.specs.Joins.{joins-other}
 use Rattle.last_places.specs.Enough.{kept-then, kept-either, kept-any}
-
-abbrev pub state : Open → List Open → List Event → State
-state o around ev = record { current = o; around = around; events = ev }
 
 -- The token t was settled, where `before` were the events: it is the last that the current element took, and no data goes on an event that is
 -- new.

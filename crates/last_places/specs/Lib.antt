@@ -6,3 +6,4 @@ pub mod Enough
 pub mod Leaves
 pub mod Run
 pub mod Turns
+pub mod Depth

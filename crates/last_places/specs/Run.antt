@@ -4,12 +4,11 @@ use mathlib.Core.Path.{_≡_, refl, sym, _∙_, ap, ap₂}
 use mathlib.Core.Bool.{Bool, true, false, _&&_, false≢true}
 use mathlib.Core.List.{List, [], _∷_, _++_}
 use native.Mathlib.Omega.{arith}
-use native.Mathlib.Nat.{add-zero}
 use lib.ListN.{length}
 use lib.Dec.{eqb, leb, ltb}
 use borrow.Author.Tests.{le-leb, ne-eqb}
 use Rattle.rules.specs.Bytes.{TAGLVL}
-use Rattle.rules.specs.Reading.{Reading, refused, got, andThen}
+use Rattle.rules.specs.Reading.{Reading, refused, got}
 use Rattle.rules.specs.Walk.{place}
 use Rattle.rules.specs.TypeFile.{Element}
 use Rattle.rules.specs.Document.{Piece, startTag, endTag, skipped, blank, dataByte, piece}
@@ -21,14 +20,14 @@ use Rattle.document_laws.specs.Decide.{search, fitsIn, decided}
 use Rattle.document_text.specs.Means.{isRun, runs, runEnd}
 use Rattle.document_text.specs.Laws.{runs-each, runEnd-in}
 use Rattle.last_places.specs.Last.{lastOnly, allLast, short, shortly, takeRun, pieces, joins}
-use Rattle.last_places.specs.Short.{took, withLast, allLast-twice, allLast-length, lastOnly-took, fits-last, fitting-short, pieces-short}
+use Rattle.last_places.specs.Short.{state, took, withLast, allLast-twice, allLast-length, lastOnly-took, fitting-short, pieces-short}
 use Rattle.last_places.specs.Joins.{withData-new, withData-more}
 use Rattle.last_places.specs.Enough.{kept-got, pieces-stop, pieces-on}
-use Rattle.last_places.specs.Leaves.{state, Settled, settle-leaves}
+use Rattle.last_places.specs.Leaves.{Settled, settle-leaves}
 
 -- Data again
 
--- After a data byte another fits as the same place: "`#PCDATA` counts as `*`".
+-- After a data byte another fits as the same place: "`#PCDATA` counts as "*"".
 abbrev pub Stays : List ℕ → List Element → Type 0
 Stays s es = (k : ℕ) (taken : List ℕ) → 1 ≤ decided s es .fits k taken pcdata → decided s es .fits k (taken ++ decided s es .fits k taken pcdata ∷ []) pcdata ≡ decided s es .fits k taken pcdata
 
@@ -131,10 +130,10 @@ module _ (s : List ℕ) (es : List Element) (stays : Stays s es) (d : List ℕ) 
   taken : ℕ
   taken = fitting s es D (after .place) pcdata
 
-  -- what was taken of the current element, seen from behind it
-  last : lastOnly (x .current) ≡ withLast (after .place .number) taken
+  -- the current element has taken data last
+  data-last : lastOnly (x .current) ≡ withLast (after .place .number) taken
   unfolding taken
-  last = ap lastOnly (after .current) ∙ lastOnly-took (after .place) taken
+  data-last = ap lastOnly (after .current) ∙ lastOnly-took (after .place) taken
 
   again : fitting s es D (lastOnly (x .current)) pcdata ≡ taken
   unfolding taken
@@ -163,7 +162,7 @@ module _ (s : List ℕ) (es : List Element) (stays : Stays s es) (d : List ℕ) 
   unfolding taken
   byte-leaves n =
       let o = lastOnly (x .current) in
-      let c : lastOnly (took o (fitting s es D o pcdata)) ≡ o = lastOnly-took o (fitting s es D o pcdata) ∙ ap₂ withLast (ap (λ o. o .number) last) again ∙ sym last in
+      let c : lastOnly (took o (fitting s es D o pcdata)) ≡ o = lastOnly-took o (fitting s es D o pcdata) ∙ ap₂ withLast (ap (λ o. o .number) data-last) again ∙ sym data-last in
       ap₂ (λ c a. state c a (withData (at + n) (x .events ++ dataRun at n ∷ []))) c (allLast-twice (x .around))
       ∙ ap (state (lastOnly (x .current)) (allLast (x .around))) (withData-more at n (at + n) (x .events) refl)
 

@@ -1,5 +1,5 @@
 -- Settling goes by the last place taken in each open element: it does with a state what it does with the short one.
-use Prim.Native.Nat.{ℕ, zero, suc, _+_, _≤_}
+use Prim.Native.Nat.{ℕ, zero, suc, _+_}
 use mathlib.Core.Path.{_≡_, refl, sym, _∙_, ap, ap₂}
 use mathlib.Core.Bool.{Bool, true, false, _&&_}
 use mathlib.Core.List.{List, [], _∷_, _++_}
@@ -8,7 +8,7 @@ use lib.Dec.{eqb, leb, ltb}
 use Rattle.rules.specs.Bytes.{TAGLVL}
 use Rattle.rules.specs.Reading.{Reading, refused, got, andThen}
 use Rattle.rules.specs.TypeFile.{Content, empty, model, Element}
-use Rattle.rules.specs.Document.{Tag, Piece, startTag, endTag, skipped, blank, dataByte, piece}
+use Rattle.rules.specs.Document.{Piece, startTag, endTag, skipped, blank, dataByte, piece}
 use Rattle.rules.specs.Settling.{contentOf, hasModel, startO, endO, Token, start, pcdata, hasName, Decisions, Event, startWritten, startInferred, endWritten, endInferred, endOfEmpty, dataRun, withData, Open, State, takePlace, enter, note, limited, isOpen, Inward, settled, stuck, fitting, isComplete, requiredPlace, elementOf, inferable, chain, inferStarts, takeToken, inward, settleFrom, settle, startElement, takeData, takeBlank, endLeftOut, closeFrom, endElement, endFrom, endDocument}
 use Rattle.rules.specs.Reader.{Reached, goOn, tagged, settlePiece, piecesWithin}
 use Rattle.model_sets.specs.Sets.{size, nextIn, completeIn, requiredIn}
@@ -38,7 +38,7 @@ pub allLast-length : (os : List Open) → length (allLast os) ≡ length os
 allLast-length [] = refl
 allLast-length (o ∷ os) = ap suc (allLast-length os)
 
-abbrev state : Open → List Open → List Event → State
+abbrev pub state : Open → List Open → List Event → State
 state o around ev = record { current = o; around = around; events = ev }
 
 pub short-short : (z : State) → short (short z) ≡ short z
@@ -329,9 +329,6 @@ module _ (s : List ℕ) (es : List Element) where
   endDocument-short at z = endFrom-short at (z .around) (z .current) (z .events)
 
   -- The document
-
-  reached : ℕ → State → Reached
-  reached at z = record { at = at; state = z }
 
   shortReached : Reached → Reached
   shortReached y = record { at = y .at; state = short (y .state) }

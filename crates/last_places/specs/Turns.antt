@@ -1,17 +1,17 @@
 -- The loop of a reader that keeps a position and a state, as laws: what each turn leaves, and what the document reads as where it ends.
-use Prim.Native.Nat.{ℕ, zero, suc, _+_, _-_, _≤_, _<_}
+use Prim.Native.Nat.{ℕ, suc, _+_, _-_, _≤_, _<_}
 use mathlib.Core.Path.{_≡_, refl, sym, _∙_, ap}
-use mathlib.Core.Bool.{Bool, true, false, false≢true}
-use mathlib.Core.List.{List, []}
+use mathlib.Core.Bool.{true, false, false≢true}
+use mathlib.Core.List.{List}
 use native.Mathlib.Omega.{arith}
 use lib.ListN.{length}
-use lib.Dec.{eqb, leb}
-use borrow.Author.Tests.{le-leb, lt-leb, ne-eqb}
-use Rattle.rules.specs.Reading.{Reading, refused, got, andThen}
+use lib.Dec.{leb}
+use borrow.Author.Tests.{le-leb, ne-eqb}
+use Rattle.rules.specs.Reading.{Reading, refused, got}
 use Rattle.rules.specs.TypeFile.{Element}
 use Rattle.rules.specs.Document.{Tag, Piece, startTag, endTag, skipped, blank, piece}
-use Rattle.rules.specs.Settling.{pcdata, Decisions, Event, dataRun, State, nothingOpen, numberOf, startElement, takeData, takeBlank, endElement, endDocument}
-use Rattle.rules.specs.Reader.{Reached, goOn, tagged, settlePiece, piecesWithin, document}
+use Rattle.rules.specs.Settling.{pcdata, Decisions, Event, dataRun, State, nothingOpen, numberOf, startElement, takeBlank, endElement, endDocument}
+use Rattle.rules.specs.Reader.{goOn, tagged, settlePiece, piecesWithin, document}
 use Rattle.document_laws.specs.Decide.{decided}
 use Rattle.document_laws.specs.Same.{Kept}
 use Rattle.document_text.specs.Means.{isRun, runEnd}
@@ -86,12 +86,12 @@ module _ {s : List ℕ} {es : List Element} {d : List ℕ} {at : ℕ} {z : State
   D = decided s es
 
   -- All are read.
-  pub reaches-end : (x : Reading (List Event)) → at ≡ length d → endDocument s es D (length d) z ≡ x → document s es D d ≡ x
-  reaches-end x e h = sym (r .rest) ∙ pieces-end s es D d at z (omega arith) ∙ h
+  pub reaches-end : {x : Reading (List Event)} → at ≡ length d → endDocument s es D (length d) z ≡ x → document s es D d ≡ x
+  reaches-end e h = sym (r .rest) ∙ pieces-end s es D d at z (omega arith) ∙ h
 
   module _ (h : at < length d) where
-    pub refused-piece : (n k : ℕ) → piece d at ≡ refused n k → document s es D d ≡ refused n k
-    refused-piece n k e = sym (r .rest) ∙ pieces-refused s es D d at z h n k e
+    pub refused-piece : {n k : ℕ} → piece d at ≡ refused n k → document s es D d ≡ refused n k
+    refused-piece {n} {k} e = sym (r .rest) ∙ pieces-refused s es D d at z h n k e
 
     -- A piece after which nothing goes on a run.
     settles-on : (p : Piece) (after : ℕ) (q : Reading State) (y : State) → piece d at ≡ got p → settlePiece s es D d p at z ≡ goOn after q → after ≤ length d → Kept Parted q → shortly q ≡ got y → Reaches s es d after y
