@@ -14,7 +14,7 @@
 // where the start may be omitted, the end may be omitted, and the content is a model.
 ghost use mathlib.Core.Path.{_≡_};
 ghost use mathlib.Core.List.{List};
-ghost use Prim.Native.Nat.{_+_, _*_, _≤_};
+ghost use Prim.Native.Nat.{ℕ, _+_, _*_, _≤_};
 ghost use Rattle.rules.specs.TypeFile.{Element};
 ghost use Rattle.rules.specs.Settling.{Token, contentOf, hasModel, endO};
 ghost use Rattle.rules.specs.Settling as rules;

@@ -1,0 +1,1 @@
+-- How open elements are closed.

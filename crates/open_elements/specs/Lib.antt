@@ -1,0 +1,2 @@
+-- What the open elements of the code stand for, in the rules' terms.
+pub mod Means

@@ -1,0 +1,120 @@
+-- What the open elements of the code stand for, in the rules' terms.
+use Prim.Native.Nat.{ℕ, zero, suc, _+_, _-_, _*_, _≤_}
+use mathlib.Core.Path.{_≡_}
+use mathlib.Core.List.{List, [], _∷_, _++_}
+use lib.ListN.{length, getD, set, replicate}
+use Rattle.rules.specs.Reading.{Reading, refused, got}
+use Rattle.rules.specs.TypeFile.{Element}
+use Rattle.rules.specs.Settling.{Event, State}
+use Rattle.rules.specs.Settling as rules
+use Rattle.last_places.specs.Last.{Sound}
+use Rattle.type_tables.specs.Means.{standing, Rows, Facts, Tables}
+use Rattle.open_elements.specs.declared.Entry.{Entry}
+use Rattle.open_elements.specs.declared.Open.{Open}
+
+-- The state
+
+abbrev none : Entry
+none = record { element = 0; place = 0 }
+
+abbrev pub opened : Entry → rules.Open
+opened x = standing (x .element) (x .place)
+
+-- The first n entries, the last of them innermost and first.
+abbrev pub aroundOf : List Entry → ℕ → List rules.Open
+aroundOf a zero = []
+aroundOf a (suc n) = opened (getD a n none) ∷ aroundOf a n
+
+abbrev pub current : Open → rules.Open
+current o = standing (o .element) (o .place)
+
+abbrev pub around : Open → List rules.Open
+around o = aroundOf (o .around) (o .count)
+
+-- The state of the rules, with these events so far.
+abbrev pub stateOf : Open → List Event → State
+stateOf o ev = record { current = current o; around = around o; events = ev }
+
+-- Of the last token nothing is known yet.
+abbrev pub Fresh : Open → Type 0
+Fresh o = (o .events ≡ 0) × (o .number ≡ 0)
+
+-- What the methods do
+
+abbrev pub fresh : Open
+fresh = record { around = replicate 24 none; count = 0; element = 0; place = 0; events = 0; number = 0 }
+
+abbrev pub took : ℕ → Open → Open
+took p o = record { around = o .around; count = o .count; element = o .element; place = p; events = o .events; number = o .number }
+
+abbrev pub opening : ℕ → Open → Open
+opening k o =
+    record {
+      around = set (o .around) (o .count) (record { element = o .element; place = o .place });
+      count = o .count + 1;
+      element = k;
+      place = 0;
+      events = o .events;
+      number = o .number;
+    }
+
+abbrev pub ended : Open → Open
+ended o =
+    record {
+      around = o .around;
+      count = o .count - 1;
+      element = getD (o .around) (o .count - 1) none .element;
+      place = getD (o .around) (o .count - 1) none .place;
+      events = o .events;
+      number = o .number;
+    }
+
+abbrev pub bringing : ℕ → Open → Open
+bringing n o = record { around = o .around; count = o .count; element = o .element; place = o .place; events = n; number = o .number }
+
+abbrev pub refusing : ℕ → Open → Open
+refusing n o = record { around = o .around; count = o .count; element = o .element; place = o .place; events = o .events; number = n }
+
+-- Events
+
+abbrev pub noted : (kind number offset size : ℕ) → Event
+noted kind number offset size = record { kind = kind; number = number; offset = offset; size = size }
+
+abbrev pub eventAt : List ℕ → ℕ → Event
+eventAt l n = noted (getD l (4 * n) 0) (getD l (4 * n + 1) 0) (getD l (4 * n + 2) 0) (getD l (4 * n + 3) 0)
+
+-- The first n events, four numbers each.
+abbrev pub eventsIn : List ℕ → ℕ → List Event
+eventsIn l zero = []
+eventsIn l (suc n) = eventsIn l n ++ eventAt l n ∷ []
+
+-- What has become of a token at `at`, where these events were before it.
+abbrev pub outcomeOf : (at number : ℕ) → State → Reading State
+outcomeOf at zero z = got z
+outcomeOf at (suc n) z = refused (suc n) at
+
+abbrev pub outcome : (at : ℕ) → Open → (events : List ℕ) → (before : List Event) → Reading State
+outcome at o events before = outcomeOf at (o .number) (stateOf o (before ++ eventsIn events (o .events)))
+
+-- The same of the document's end.
+abbrev pub closedOf : (at number : ℕ) → List Event → Reading (List Event)
+closedOf at zero ev = got ev
+closedOf at (suc n) ev = refused (suc n) at
+
+abbrev pub closed : (at : ℕ) → Open → (events : List ℕ) → (before : List Event) → Reading (List Event)
+closed at o events before = closedOf at (o .number) (before ++ eventsIn events (o .events))
+
+-- What holds from token to token
+
+-- At most 24 are open, each an element of the type at a place of its model.
+pub record Stands (es : List Element) (o : Open) : Type 0 where
+  pub few : o .count ≤ 24
+  pub sound : Sound es (current o) (around o)
+
+-- The tables are those of some type, of which these elements are open and which has so many elements.
+abbrev pub AnyStands : (rows places facts : List ℕ) → Open → ℕ → Type 0
+AnyStands rows places facts o x = (s : List ℕ) × (es : List Element) × Tables s es rows places facts × Stands es o × (x ≤ length es)
+
+-- The same for what closing asks of the tables.
+abbrev pub AnyClosing : (rows facts : List ℕ) → Open → Type 0
+AnyClosing rows facts o = (s : List ℕ) × (es : List Element) × (length es ≤ 64) × Rows es rows × Facts s es facts × Stands es o

@@ -1,0 +1,1 @@
+-- How a start tag or a run of data is settled.
