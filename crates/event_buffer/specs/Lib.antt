@@ -1,0 +1,2 @@
+-- What a lent buffer holds after events were written.
+pub mod Means
