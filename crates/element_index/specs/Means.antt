@@ -1,9 +1,9 @@
 -- What an index of a type's elements says.
 use Prim.Native.Nat.{ℕ, _+_, _-_, _*_, _%_, _≤_, _<_}
 use mathlib.Core.Path.{_≡_}
-use mathlib.Core.Bool.{Bool, _&&_}
+use mathlib.Core.Bool.{Bool}
 use mathlib.Core.List.{List}
-use lib.ListN.{length, getD}
+use lib.ListN.{length, getD, set}
 use lib.Dec.{eqb}
 use Rattle.rules.specs.Bytes.{byteAt}
 use Rattle.rules.specs.TypeFile.{Element}
@@ -35,3 +35,7 @@ pub record Indexed (s : List ℕ) (es : List Element) (elements index : List ℕ
 -- Some elements are indexed so.
 abbrev pub AnyIndexed : (s elements index : List ℕ) → Type 0
 AnyIndexed s elements index = (es : List Element) × Indexed s es elements index
+
+-- The index with k before the elements of the bucket b.
+abbrev pub putIn : (index : List ℕ) (b k : ℕ) → List ℕ
+putIn index b k = set (set index k (getD index (65 + b) 0)) (65 + b) k

@@ -5,28 +5,39 @@
 ghost use mathlib.Core.Path.{_≡_};
 ghost use mathlib.Core.List.{List};
 ghost use Prim.Native.Nat.{_+_, _-_, _*_, _≤_, _<_};
-ghost use lib.ListN.{length, replicate};
+ghost use lib.ListN.{length, getD, replicate};
+ghost use Rattle.rules.specs.Bytes.{byteAt};
 ghost use Rattle.rules.specs.TypeFile.{Element};
 ghost use Rattle.rules.specs.Judge.{Accepts};
 ghost use Rattle.rules.specs.Settling.{numberOf};
 ghost use Rattle.element_reader.specs.Means.{Recorded};
-ghost use Rattle.element_index.specs.Means.{Judged, Indexed, AnyIndexed};
+ghost use Rattle.element_index.specs.Means.{Judged, bucketOf, Indexed, AnyIndexed, putIn};
 
-fn wide(b: u8) -> usize {
+fn wide(b: u8) -> usize
+    ensures { λ r. ⌜ (r ≡ b) × (r < 256) ⌝ }
+{
     b as usize
 }
 
-fn widened(x: u32) -> usize {
+fn widened(x: u32) -> usize
+    ensures { λ r. ⌜ (r ≡ x) × (r < 4294967296) ⌝ }
+{
     x as usize
 }
 
 // The bucket of a name by its first byte and its length, 1 to 8. Letters that fold to one another are in the same.
-fn bucket(first: u8, size: usize) -> usize {
+fn bucket(first: u8, size: usize) -> usize
+    requires { ⌜ (1 ≤ size) × (size ≤ 8) ⌝ }
+    ensures { λ r. ⌜ (r ≡ 65 + bucketOf first size) × (r < 321) ⌝ }
+{
     65 + (size - 1) * 32 + wide(first % 32)
 }
 
 // Where the name of the element k stands in the type file.
-fn offset(elements: &[u32; 384], k: usize) -> usize {
+fn offset(elements: &[u32; 384], k: usize) -> usize
+    requires { ⌜ (1 ≤ k) × (k ≤ 64) ⌝ }
+    ensures { λ r. ⌜ (r ≡ getD (now (elements .entry)) (6 * (k - 1)) 0) × (r < 4294967296) ⌝ }
+{
     widened(elements[6 * (k - 1)])
 }
 
@@ -56,7 +67,11 @@ pub fn find(
 }
 
 // The element k comes before those of its bucket that are there.
-fn put_index(s: &[u8], elements: &[u32; 384], index: &mut [u8; 321], k: usize) {
+fn put_index(s: &[u8], elements: &[u32; 384], index: &mut [u8; 321], k: usize)
+    requires { ⌜ (1 ≤ k) × (k ≤ 64) × (1 ≤ getD (now elements) (6 * (k - 1) + 1) 0) × (getD (now elements) (6 * (k - 1) + 1) 0 ≤ 8) ⌝ }
+    ensures { λ _. ⌜ now (index .exit) ≡ putIn (now (index .entry))
+        (bucketOf (byteAt (now (s .entry)) (getD (now (elements .entry)) (6 * (k - 1)) 0)) (getD (now (elements .entry)) (6 * (k - 1) + 1) 0)) k ⌝ }
+{
     let size = widened(elements[6 * (k - 1) + 1]);
     let b = bucket(text::byte(s, offset(elements, k)), size);
     index[k] = index[b];
