@@ -14,25 +14,34 @@
 // where the start may be omitted, the end may be omitted, and the content is a model.
 ghost use mathlib.Core.Path.{_≡_};
 ghost use mathlib.Core.List.{List};
-ghost use Prim.Native.Nat.{ℕ, _+_, _*_, _≤_};
+ghost use Prim.Native.Nat.{ℕ, _+_, _*_, _/_, _%_, _≤_, _<_};
+ghost use lib.ListN.{getD};
 ghost use Rattle.rules.specs.TypeFile.{Element};
-ghost use Rattle.rules.specs.Settling.{Token, contentOf, hasModel, endO};
+ghost use Rattle.rules.specs.Settling.{Token, contentOf, hasModel, startO, endO};
 ghost use Rattle.rules.specs.Settling as rules;
 ghost use Rattle.document_laws.specs.Decide.{decided};
 ghost use Rattle.last_places.specs.Last.{placed, InRange};
-ghost use Rattle.type_tables.specs.Means.{standing, nameNumber, Declares, Rows, Facts, Tables, Ready, ReadyFor};
+ghost use Rattle.type_tables.specs.Means.{standing, nameNumber, rowAt, bitOf, Declares, Rows, Facts, Tables, Ready, ReadyFor};
 
-fn wide(b: u8) -> usize {
+fn wide(b: u8) -> usize
+    ensures { λ r. ⌜ (r ≡ b) × (r < 256) ⌝ }
+{
     b as usize
 }
 
 // Where the row of the element e after the place u begins.
-fn row(e: usize, u: usize) -> usize {
+fn row(e: usize, u: usize) -> usize
+    requires { ⌜ (e ≤ 64) × (u ≤ 96) ⌝ }
+    ensures { λ r. ⌜ r ≡ rowAt e u ⌝ }
+{
     (e * 97 + u) * 14
 }
 
 // Whether the place p may come next in the element e after the place u; for 0, whether the content is complete.
-fn bit(rows: &[u8; 88270], e: usize, u: usize, p: usize) -> bool {
+fn bit(rows: &[u8; 88270], e: usize, u: usize, p: usize) -> bool
+    requires { ⌜ (e ≤ 64) × (u ≤ 96) × (p ≤ 96) ⌝ }
+    ensures { λ r. ⌜ r ≡ bitOf (getD (now (rows .entry)) (rowAt e u + p / 8) 0) (p % 8) ⌝ }
+{
     let b = wide(rows[row(e, u) + p / 8]);
     (b >> (p % 8)) % 2 == 1
 }
@@ -55,20 +64,32 @@ pub fn required(rows: &[u8; 88270], e: usize, u: usize) -> usize
 }
 
 // What the place p of the element e names: an element, 255 for `#PCDATA`, 0 if that is not declared.
-fn named(places: &[u8; 12610], e: usize, p: usize) -> usize {
+fn named(places: &[u8; 12610], e: usize, p: usize) -> usize
+    requires { ⌜ (e ≤ 64) × (p ≤ 96) ⌝ }
+    ensures { λ r. ⌜ r ≡ getD (now (places .entry)) ((e * 97 + p) * 2) 0 ⌝ }
+{
     wide(places[(e * 97 + p) * 2])
 }
 
 // The next smaller place of the same name.
-fn smaller(places: &[u8; 12610], e: usize, p: usize) -> usize {
+fn smaller(places: &[u8; 12610], e: usize, p: usize) -> usize
+    requires { ⌜ (e ≤ 64) × (p ≤ 96) ⌝ }
+    ensures { λ r. ⌜ r ≡ getD (now (places .entry)) ((e * 97 + p) * 2 + 1) 0 ⌝ }
+{
     wide(places[(e * 97 + p) * 2 + 1])
 }
 
-fn largest(facts: &[u8; 4420], e: usize, x: usize) -> usize {
+fn largest(facts: &[u8; 4420], e: usize, x: usize) -> usize
+    requires { ⌜ (e ≤ 64) × (x ≤ 64) ⌝ }
+    ensures { λ r. ⌜ r ≡ getD (now (facts .entry)) (e * 68 + x) 0 ⌝ }
+{
     wide(facts[e * 68 + x])
 }
 
-fn start_omitted(facts: &[u8; 4420], e: usize) -> bool {
+fn start_omitted(facts: &[u8; 4420], e: usize) -> bool
+    requires { ⌜ e ≤ 64 ⌝ }
+    ensures { λ r. ⌜ ((s : List ℕ) (es : List Element) → Facts s es (now (facts .entry)) → Declares es (rules.start e) → r ≡ startO es e) ⌝ }
+{
     facts[e * 68 + 65] == 1
 }
 
