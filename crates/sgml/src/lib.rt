@@ -1,4 +1,5 @@
 // The calls for C: numbers and byte slices.
+use document_reader::Answer;
 use type_judge::Verdict;
 ghost use mathlib.Core.Path.{_≡_};
 ghost use mathlib.Core.List.{[], _∷_, _++_};
@@ -6,7 +7,8 @@ ghost use Prim.Native.Nat.{_+_, _*_, _≤_, _<_};
 ghost use lib.ListN.{length, take, drop, replicate};
 ghost use Rattle.rules.specs.Judge.{bytesOf};
 ghost use Rattle.type_judge.specs.Means.{answerOf};
-ghost use Rattle.sgml.specs.Means.{answerNumbers, JudgedNumbers, VerdictFits};
+ghost use Rattle.document_reader.specs.Means as reader;
+ghost use Rattle.sgml.specs.Means.{answerNumbers, JudgedNumbers, VerdictFits, ReadNumbers, AnswerFits};
 
 // Every byte of the buffer is 0.
 fn clear(buffer: &mut [u8])
@@ -74,4 +76,32 @@ pub extern "C" fn sgml_judge(type_file: &[u8], buffer: &mut [u8], answer: &mut [
         clear(buffer);
     }
     *answer = numbers_of(v);
+}
+
+// The six numbers of the reader's answer.
+fn numbers_read(a: Answer) -> [u32; 6]
+    requires { ⌜ AnswerFits a ⌝ }
+    ensures { λ r. ⌜ r ≡ answerNumbers (reader.answerOf a) ⌝ }
+{
+    match a {
+        Answer::Accepted(n) => [0, 0, 0, 0, 0, n as u32],
+        Answer::InType(f) => [f.number, 1, f.at as u32, 0, 0, 0],
+        Answer::Ambiguous(c) => [9, 1, c.at, c.first, c.second, 0],
+        Answer::InDocument(f) => [f.number, 2, f.at as u32, 0, 0, 0],
+    }
+}
+
+// The document reader for C. `buffer` gets four numbers of four bytes for each event, or is zeroed; `answer` gets the
+// refusal number, input, position, the two places and the count.
+#[no_mangle]
+pub extern "C" fn sgml_read(
+    type_file: &[u8],
+    document: &[u8],
+    buffer: &mut [u8],
+    answer: &mut [u32; 6],
+)
+    ensures { λ _. ⌜ ReadNumbers (now («type_file» .entry)) (now (document .entry)) (now (buffer .entry)) (now (answer .exit)) (now (buffer .exit)) ⌝ }
+{
+    let a = document_reader::read_to_bytes(type_file, document, buffer);
+    *answer = numbers_read(a);
 }
