@@ -1,4 +1,4 @@
-# The proved library behind its C interface: the header, the vectors, and generated type files held against the second implementation.
+# The proved library behind its C interface: the header, the vectors, and generated inputs held against the second implementation.
 set -eu
 cd "$(dirname "$0")/.."
 out=target/tests
@@ -40,6 +40,10 @@ examples/run >"$out/examples.txt"
 diff "$out/examples.txt" examples/expected.txt
 echo "1 passed, 0 failed"
 
-echo "the library against the second implementation, on generated and damaged type files"
+echo "the library against the second implementation, on generated and damaged type files and documents"
 rustc -O --edition 2021 tests/oracle/compare.rs -L target/staticlib -l static=sgml -o "$out/compare"
 "$out/compare" "${CASES:-100000}" "${SEED:-1}"
+
+echo "the same on the vectors' inputs, cut at every byte and with every byte value"
+rustc -O --edition 2021 tests/oracle/edges.rs -L target/staticlib -l static=sgml -o "$out/edges"
+"$out/edges" tests/vectors

@@ -1,4 +1,5 @@
-/* stack.c - how much stack a call of the judge takes: the call runs in a thread whose stack was painted before. */
+/* stack.c - how much stack a call of the judge and one of the reader takes: each runs in a thread whose stack was painted
+ * before. */
 #define _GNU_SOURCE
 #include "sgml.h"
 #include <pthread.h>
@@ -9,6 +10,7 @@
 #define STACK (512 * 1024)
 #define LIMIT (256 * 1024)
 #define PAINT 0x5A
+#define ROOM (SGML_ELEMENT_LIMIT * SGML_RECORD_NUMBERS * 4)
 
 static char type[SGML_TYPE_LIMIT];
 static size_t type_len;
@@ -16,9 +18,19 @@ static size_t type_len;
 static void *call(void *buffer)
 {
     uint32_t answer[SGML_ANSWER_NUMBERS];
-    sgml_judge((const uint8_t *)type, type_len, buffer, SGML_ELEMENT_LIMIT * SGML_RECORD_NUMBERS * 4, answer);
+    sgml_judge((const uint8_t *)type, type_len, buffer, ROOM, answer);
     if (answer[SGML_NUMBER])
         printf("refused %u at %u\n", (unsigned)answer[SGML_NUMBER], (unsigned)answer[SGML_POSITION]);
+    return NULL;
+}
+
+static void *read_call(void *buffer)
+{
+    static const char document[] = "<E0><E1>";
+    uint32_t answer[SGML_ANSWER_NUMBERS];
+    sgml_read((const uint8_t *)type, type_len, (const uint8_t *)document, sizeof document - 1, buffer, ROOM, answer);
+    if (answer[SGML_NUMBER] != SGML_NOT_ALLOWED_HERE)
+        printf("answered %u at %u\n", (unsigned)answer[SGML_NUMBER], (unsigned)answer[SGML_POSITION]);
     return NULL;
 }
 
@@ -47,9 +59,9 @@ static size_t used(void *(*function)(void *), void *argument)
 
 int main(void)
 {
-    static uint8_t buffer[SGML_ELEMENT_LIMIT * SGML_RECORD_NUMBERS * 4];
+    static uint8_t buffer[ROOM];
     int level, k;
-    size_t taken;
+    size_t taken, reading;
     /* as many levels, tokens and elements as there may be */
     for (k = 0; k < 64; k++) {
         type_len += (size_t)sprintf(type + type_len, "<!ELEMENT E%d - O ", k);
@@ -60,6 +72,7 @@ int main(void)
         type_len += (size_t)sprintf(type + type_len, ">");
     }
     taken = used(call, buffer) - used(nothing, NULL);
-    printf("a call of the judge takes %zu bytes of stack; the limit is %d\n", taken, LIMIT);
-    return taken > LIMIT || taken == 0;
+    reading = used(read_call, buffer) - used(nothing, NULL);
+    printf("a call of the judge takes %zu bytes of stack, one of the reader %zu; the limit is %d\n", taken, reading, LIMIT);
+    return taken > LIMIT || taken == 0 || reading > LIMIT || reading == 0;
 }
