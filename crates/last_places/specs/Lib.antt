@@ -1,2 +1,9 @@
 -- Settling by the last place taken in each open element.
 pub mod Last
+pub mod Short
+pub mod Joins
+pub mod Enough
+pub mod Leaves
+pub mod Run
+pub mod Turns
+pub mod Depth

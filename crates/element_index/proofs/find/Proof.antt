@@ -1,0 +1,103 @@
+-- `find` meets its contract. The invariant: whatever is indexed, no element above k has the name, and k is in the bucket of the name.
+use Prim.Native.Nat.{_≤_}
+use mathlib.Core.List.{List}
+use native.Mathlib.Omega.{arith}
+use borrow.Author.Needs.{needs}
+use Rattle.rules.specs.TypeFile.{Element}
+use Rattle.element_index.specs.Means.{Indexed}
+use Rattle.element_index.specs.Laws.{Seeks, bucket-read, seeks-start, seeks-end, seeks-found, seeks-next, next-smaller}
+use Rattle.element_index.proofs.find.Statement.{statement}
+use Rattle.element_index.proofs.find.Tie as tie
+
+abbrev Inv-loop : tie.InvT-loop
+Inv-loop s elements index t at size k₀ k =
+    (k ≤ 64) × ((es : List Element) → Indexed s es elements index → Seeks s es t at size k)
+
+abbrev μ-loop : tie.MeasureT-loop
+μ-loop s elements index t at size k₀ k = k
+
+byte-requires : tie.Need-byte-requires Inv-loop μ-loop
+byte-requires c κs = search needs
+
+bucket-requires : tie.Need-bucket-requires Inv-loop μ-loop
+bucket-requires c κs = omega arith
+
+element-copy-out-wide : tie.Need-element-copy-out-wide Inv-loop μ-loop
+element-copy-out-wide c = omega arith
+
+wide-requires : tie.Need-wide-requires Inv-loop μ-loop
+wide-requires c κs = search needs
+
+loop-holds : tie.Need-loop-holds Inv-loop μ-loop
+loop-holds c =
+    let begun = c .before .before .before .before .before .before in
+    let a = begun .args in
+    let (es, x) = begun .pre .0 in
+    let named = c .before .before in
+    let read = bucket-read (a .index .now) (a .t .now) (a .at) (a .size) _ _ _ (named .before .byte .ensures) (named .bucket .ensures .0) (c .wide .ensures .0) in
+    let seeks : (es : List Element) → Indexed (a .s .now) es (a .elements .now) (a .index .now) → Seeks (a .s .now) es (a .t .now) (a .at) (a .size) (c .wide .result) =
+    λ es x. seeks-start (a .t .now) (a .at) (a .size) x (omega arith) (omega arith) read in
+    (omega (arith, x .few, seeks es x .within), seeks)
+
+offset-requires : tie.Need-offset-requires Inv-loop μ-loop
+offset-requires c κs = omega arith
+
+same-text-requires : tie.Need-same-text-requires Inv-loop μ-loop
+same-text-requires c κs = omega arith
+
+returns : tie.Need-returns Inv-loop μ-loop
+returns c =
+    let turn = c .before .before .before .before in
+    let a = turn .before .before .before .before .before .before .before .args in
+    (λ es x. seeks-found (a .t .now) (a .at) (a .size) x (omega arith) (turn .loop .inv .1 es x) (omega arith) (c .before .before .offset .ensures .0) (c .before .same-text .ensures) (c .if1 .taken), omega arith)
+
+element-copy-out-wide-2 : tie.Need-element-copy-out-wide-2 Inv-loop μ-loop
+element-copy-out-wide-2 c = omega arith
+
+wide-requires-2 : tie.Need-wide-requires-2 Inv-loop μ-loop
+wide-requires-2 c κs = search needs
+
+loop-less : tie.Need-loop-less Inv-loop μ-loop
+loop-less c =
+    let turn = c .before .before .before .before .before .before in
+    let begun = turn .before .before .before .before .before .before .before in
+    let a = begun .args in
+    let (es, x) = begun .pre .0 in
+    omega (arith, c .wide2 .ensures .0, next-smaller (a .t .now) (a .at) (a .size) x (omega arith) (turn .loop .inv .1 es x) (omega arith))
+
+loop-again : tie.Need-loop-again Inv-loop μ-loop
+loop-again c =
+    let missed = c .before .before in
+    let turn = missed .before .before .before .before in
+    let begun = turn .before .before .before .before .before .before .before in
+    let a = begun .args in
+    let (es, x) = begun .pre .0 in
+    let seeks : (es : List Element) → Indexed (a .s .now) es (a .elements .now) (a .index .now) → Seeks (a .s .now) es (a .t .now) (a .at) (a .size) (c .wide2 .result) =
+    λ es x. seeks-next (a .t .now) (a .at) (a .size) x (omega arith) (turn .loop .inv .1 es x) (omega arith) (missed .before .before .offset .ensures .0) (missed .before .same-text .ensures) (missed .if1 .left) (c .wide2 .ensures .0) in
+    (omega (arith, x .few, seeks es x .within), seeks)
+
+returns-2 : tie.Need-returns-2 Inv-loop μ-loop
+returns-2 c =
+    let begun = c .before .before .before .before .before .before .before .before in
+    let a = begun .args in
+    (λ es x. seeks-end (a .t .now) (a .at) (a .size) x (omega arith) (c .before .loop .inv .1 es x) (c .loop-test .left), omega arith)
+
+pub find-spec : {M : Type 1} → statement M
+find-spec =
+    tie.close
+    (tie.spec
+    Inv-loop
+    μ-loop
+    byte-requires
+    bucket-requires
+    element-copy-out-wide
+    wide-requires
+    loop-holds
+    offset-requires
+    same-text-requires
+    returns
+    element-copy-out-wide-2
+    wide-requires-2
+    loop-less
+    loop-again
+    returns-2)

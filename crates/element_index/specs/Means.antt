@@ -1,0 +1,41 @@
+-- What an index of a type's elements says.
+use Prim.Native.Nat.{ℕ, _+_, _-_, _*_, _%_, _≤_, _<_}
+use mathlib.Core.Path.{_≡_}
+use mathlib.Core.Bool.{Bool}
+use mathlib.Core.List.{List}
+use lib.ListN.{length, getD, set}
+use lib.Dec.{eqb}
+use Rattle.rules.specs.Bytes.{byteAt}
+use Rattle.rules.specs.TypeFile.{Element}
+use Rattle.rules.specs.Judge.{Accepts}
+use Rattle.rules.specs.Settling.{elementAt}
+use Rattle.element_reader.specs.Means.{Recorded}
+use Rattle.document_laws.specs.Decide.{search}
+
+-- An accepted type whose elements are recorded.
+abbrev pub Judged : (s elements : List ℕ) (count : ℕ) → Type 0
+Judged s elements count = (es : List Element) × Accepts s es × (length es ≡ count) × Recorded elements es
+
+-- The bucket of a name by its first byte and its size.
+abbrev pub bucketOf : (first size : ℕ) → ℕ
+bucketOf first size = (size - 1) * 32 + first % 32
+
+-- The element number k is in the bucket b.
+abbrev pub isIn : List ℕ → List Element → (b k : ℕ) → Bool
+isIn s es b k = eqb (bucketOf (byteAt s (elementAt es (k - 1) .at)) (elementAt es (k - 1) .size)) b
+
+-- Each bucket leads through its elements, from the largest number down.
+pub record Indexed (s : List ℕ) (es : List Element) (elements index : List ℕ) : Type 0 where
+  pub accepted : Accepts s es
+  pub few : length es ≤ 64
+  pub recorded : Recorded elements es
+  pub largest : (b : ℕ) → b < 256 → getD index (65 + b) 0 ≡ search (isIn s es b) (length es)
+  pub smaller : (b k : ℕ) → 1 ≤ k → k ≤ length es → isIn s es b k ≡ Bool.true → getD index k 0 ≡ search (isIn s es b) (k - 1)
+
+-- Some elements are indexed so.
+abbrev pub AnyIndexed : (s elements index : List ℕ) → Type 0
+AnyIndexed s elements index = (es : List Element) × Indexed s es elements index
+
+-- The index with k before the elements of the bucket b.
+abbrev pub putIn : (index : List ℕ) (b k : ℕ) → List ℕ
+putIn index b k = set (set index k (getD index (65 + b) 0)) (65 + b) k

@@ -1,0 +1,93 @@
+// The elements of a type by name.
+//
+// `index`: number k is the next smaller element whose name has the same length and first letter as that of k, or 0.
+// Number 65 + b is the largest element of the bucket b. `elements` are the records of the type's elements.
+ghost use mathlib.Core.Path.{_≡_};
+ghost use mathlib.Core.List.{List};
+ghost use Prim.Native.Nat.{_+_, _-_, _*_, _≤_, _<_};
+ghost use lib.ListN.{length, getD, replicate};
+ghost use Rattle.rules.specs.Bytes.{byteAt};
+ghost use Rattle.rules.specs.TypeFile.{Element};
+ghost use Rattle.rules.specs.Judge.{Accepts};
+ghost use Rattle.rules.specs.Settling.{numberOf};
+ghost use Rattle.element_reader.specs.Means.{Recorded};
+ghost use Rattle.element_index.specs.Means.{Judged, bucketOf, Indexed, AnyIndexed, putIn};
+
+fn wide(b: u8) -> usize
+    ensures { λ r. ⌜ (r ≡ b) × (r < 256) ⌝ }
+{
+    b as usize
+}
+
+fn widened(x: u32) -> usize
+    ensures { λ r. ⌜ (r ≡ x) × (r < 4294967296) ⌝ }
+{
+    x as usize
+}
+
+// The bucket of a name by its first byte and its length, 1 to 8. Letters that fold to one another are in the same.
+fn bucket(first: u8, size: usize) -> usize
+    requires { ⌜ (1 ≤ size) × (size ≤ 8) ⌝ }
+    ensures { λ r. ⌜ (r ≡ 65 + bucketOf first size) × (r < 321) ⌝ }
+{
+    65 + (size - 1) * 32 + wide(first % 32)
+}
+
+// Where the name of the element k stands in the type file.
+fn offset(elements: &[u32; 384], k: usize) -> usize
+    requires { ⌜ (1 ≤ k) × (k ≤ 64) ⌝ }
+    ensures { λ r. ⌜ (r ≡ getD (now (elements .entry)) (6 * (k - 1)) 0) × (r < 4294967296) ⌝ }
+{
+    widened(elements[6 * (k - 1)])
+}
+
+// Which element has the name of this size at `at` of t, or 0. The type file is s.
+pub fn find(
+    s: &[u8],
+    elements: &[u32; 384],
+    index: &[u8; 321],
+    t: &[u8],
+    at: usize,
+    size: usize,
+) -> usize
+    requires { ⌜ AnyIndexed (now s) (now elements) (now index) ⌝ }
+    requires { ⌜ (1 ≤ size) × (size ≤ 8) × (at < 4294967296) ⌝ }
+    ensures { λ r. ⌜ ((es : List Element) → Indexed (now (s .entry)) es (now (elements .entry)) (now (index .entry)) →
+        r ≡ numberOf (now (s .entry)) es (now (t .entry)) at size) ⌝ }
+    ensures { λ r. ⌜ r ≤ 64 ⌝ }
+{
+    let mut k = wide(index[bucket(text::byte(t, at), size)]);
+    while k != 0 {
+        if text::same_text(s, offset(elements, k), t, at, size) {
+            return k;
+        }
+        k = wide(index[k]);
+    }
+    0
+}
+
+// The element k comes before those of its bucket that are there.
+fn put_index(s: &[u8], elements: &[u32; 384], index: &mut [u8; 321], k: usize)
+    requires { ⌜ (1 ≤ k) × (k ≤ 64) × (1 ≤ getD (now elements) (6 * (k - 1) + 1) 0) × (getD (now elements) (6 * (k - 1) + 1) 0 ≤ 8) ⌝ }
+    ensures { λ _. ⌜ now (index .exit) ≡ putIn (now (index .entry))
+        (bucketOf (byteAt (now (s .entry)) (getD (now (elements .entry)) (6 * (k - 1)) 0)) (getD (now (elements .entry)) (6 * (k - 1) + 1) 0)) k ⌝ }
+{
+    let size = widened(elements[6 * (k - 1) + 1]);
+    let b = bucket(text::byte(s, offset(elements, k)), size);
+    index[k] = index[b];
+    index[b] = k as u8;
+}
+
+// Fills the index, which is all 0, with the elements of an accepted type.
+pub fn fill_index(s: &[u8], elements: &[u32; 384], count: usize, index: &mut [u8; 321])
+    requires { ⌜ Judged (now s) (now elements) count ⌝ }
+    requires { ⌜ now index ≡ replicate 321 0 ⌝ }
+    ensures { λ _. ⌜ ((es : List Element) → Accepts (now (s .entry)) es → length es ≡ count →
+        Recorded (now (elements .entry)) es → Indexed (now (s .entry)) es (now (elements .entry)) (now (index .exit))) ⌝ }
+{
+    let mut k = 1;
+    while k <= count {
+        put_index(s, elements, index, k);
+        k += 1;
+    }
+}

@@ -1,0 +1,169 @@
+-- The loop of a reader that keeps a position and a state, as laws: what each turn leaves, and what the document reads as where it ends.
+use Prim.Native.Nat.{ℕ, suc, _+_, _-_, _≤_, _<_}
+use mathlib.Core.Path.{_≡_, refl, sym, _∙_, ap}
+use mathlib.Core.Bool.{true, false, false≢true}
+use mathlib.Core.List.{List}
+use native.Mathlib.Omega.{arith}
+use lib.ListN.{length}
+use lib.Dec.{leb}
+use borrow.Author.Tests.{le-leb, ne-eqb}
+use Rattle.rules.specs.Reading.{Reading, refused, got}
+use Rattle.rules.specs.TypeFile.{Element}
+use Rattle.rules.specs.Document.{Tag, Piece, startTag, endTag, skipped, blank, piece}
+use Rattle.rules.specs.Settling.{pcdata, Decisions, Event, dataRun, State, nothingOpen, numberOf, startElement, takeBlank, endElement, endDocument}
+use Rattle.rules.specs.Reader.{goOn, tagged, settlePiece, piecesWithin, document}
+use Rattle.document_laws.specs.Decide.{decided}
+use Rattle.document_laws.specs.Same.{Kept}
+use Rattle.document_text.specs.Means.{isRun, runEnd}
+use Rattle.document_text.specs.Laws.{start-tag-range, end-tag-range, skipped-range, runEnd-in}
+use Rattle.last_places.specs.Last.{short, shortly, takeRun, pieces, joins}
+use Rattle.last_places.specs.Short.{pieces-short}
+use Rattle.last_places.specs.Joins.{joins-snoc}
+use Rattle.last_places.specs.Enough.{kept-got, pieces-end, pieces-refused, pieces-stop, pieces-on}
+use Rattle.last_places.specs.Leaves.{Parted, startElement-parted, endElement-parted}
+use Rattle.last_places.specs.Run.{Stays, runEnd-stop, run-once, run-taken, run-refused, data-stop}
+
+-- Reading has come to `at` with the state z: what is left reads as the whole document does, and a run of data that begins here or later is a
+-- new event.
+pub record Reaches (s : List ℕ) (es : List Element) (d : List ℕ) (at : ℕ) (z : State) : Type 0 where
+  pub rest : pieces s es (decided s es) d at z ≡ document s es (decided s es) d
+  pub inside : at ≤ length d
+  pub parted : at < length d → isRun (piece d at) ≡ true → joins at (z .events) ≡ false
+  pub beyond : (j : ℕ) → at < j → joins j (z .events) ≡ false
+
+pub reaches-start : (s : List ℕ) (es : List Element) (d : List ℕ) → Reaches s es d 0 nothingOpen
+unfolding document
+reaches-start s es d =
+    record { rest = ap (λ n. piecesWithin s es (decided s es) d (suc n) 0 nothingOpen) whole; inside = omega arith; parted = λ h e. refl; beyond = λ j h. refl }
+  where
+    whole : length d - 0 ≡ length d
+    whole = omega arith
+
+-- Readings with the last places
+
+shortly-got : (q : Reading State) (y : State) → shortly q ≡ got y → (x : State) × (q ≡ got x) × (short x ≡ y)
+shortly-got (refused n k) y e = let no : _≡_ {A = ℕ} 0 1 = cc in absurd (omega arith)
+shortly-got (got x) y e = (x, refl, cc)
+
+shortly-refused : (q : Reading State) (n k : ℕ) → shortly q ≡ refused n k → q ≡ refused n k
+shortly-refused (refused m j) n k e = e
+shortly-refused (got x) n k e = let no : _≡_ {A = ℕ} 0 1 = cc in absurd (omega arith)
+
+-- The element of a tag
+
+module _ (s : List ℕ) (es : List Element) (D : Decisions) (d : List ℕ) (at : ℕ) (t : Tag) (z : State) where
+  tagged-declared : (k : ℕ) → numberOf s es d (t .name) (t .size) ≡ k → 1 ≤ k → tagged s es D d at t ≡ got k
+  unfolding tagged
+  tagged-declared k e h = ap number e ∙ rw (le-leb 1 k h)
+    where
+      number : ℕ → Reading ℕ
+      number k = elim (leb 1 k) [ true ↦ got k | false ↦ refused 10 at ]
+
+  tagged-undeclared : numberOf s es d (t .name) (t .size) ≡ 0 → tagged s es D d at t ≡ refused 10 at
+  unfolding tagged
+  tagged-undeclared e = rw (tagged, e)
+
+  start-settles : (k : ℕ) → numberOf s es d (t .name) (t .size) ≡ k → 1 ≤ k → settlePiece s es D d (startTag t) at z ≡ goOn (t .after) (startElement s es D k at (t .after) z)
+  unfolding settlePiece
+  start-settles k e h = rw (settlePiece, tagged-declared k e h)
+
+  end-settles : (k : ℕ) → numberOf s es d (t .name) (t .size) ≡ k → 1 ≤ k → settlePiece s es D d (endTag t) at z ≡ goOn (t .after) (endElement s es D k at (t .after) z)
+  unfolding settlePiece
+  end-settles k e h = rw (settlePiece, tagged-declared k e h)
+
+  start-undeclared : numberOf s es d (t .name) (t .size) ≡ 0 → settlePiece s es D d (startTag t) at z ≡ refused 10 at
+  unfolding settlePiece
+  start-undeclared e = rw (settlePiece, tagged-undeclared e)
+
+  end-undeclared : numberOf s es d (t .name) (t .size) ≡ 0 → settlePiece s es D d (endTag t) at z ≡ refused 10 at
+  unfolding settlePiece
+  end-undeclared e = rw (settlePiece, tagged-undeclared e)
+
+-- Turns
+
+module _ {s : List ℕ} {es : List Element} {d : List ℕ} {at : ℕ} {z : State} (r : Reaches s es d at z) where
+  abbrev D : Decisions
+  D = decided s es
+
+  -- All are read.
+  pub reaches-end : {x : Reading (List Event)} → at ≡ length d → endDocument s es D (length d) z ≡ x → document s es D d ≡ x
+  reaches-end e h = sym (r .rest) ∙ pieces-end s es D d at z (omega arith) ∙ h
+
+  module _ (h : at < length d) where
+    pub refused-piece : {n k : ℕ} → piece d at ≡ refused n k → document s es D d ≡ refused n k
+    refused-piece {n} {k} e = sym (r .rest) ∙ pieces-refused s es D d at z h n k e
+
+    -- A piece after which nothing goes on a run.
+    settles-on : (p : Piece) (after : ℕ) (q : Reading State) (y : State) → piece d at ≡ got p → settlePiece s es D d p at z ≡ goOn after q → after ≤ length d → Kept Parted q → shortly q ≡ got y → Reaches s es d after y
+    settles-on p after q y e f i g v =
+        let (x, a, b) = shortly-got q y v in
+        let w : (j : ℕ) → joins j (y .events) ≡ false = λ j. sym (ap (λ u. joins j (u .events)) b) ∙ kept-got Parted q x g a j in
+        record {
+          rest = ap (pieces s es D d after) (sym b) ∙ sym (pieces-short s es d (suc (length d - after)) after x) ∙ sym (pieces-on s es D d at z h p e (record { at = after; state = x }) (f ∙ ap (goOn after) a)) ∙ r .rest;
+          inside = i;
+          parted = λ l m. w after;
+          beyond = λ j l. w j;
+        }
+
+    settles-not : (p : Piece) (n k : ℕ) → piece d at ≡ got p → settlePiece s es D d p at z ≡ refused n k → document s es D d ≡ refused n k
+    settles-not p n k e f = sym (r .rest) ∙ pieces-stop s es D d at z h p e n k f
+
+    module _ {t : Tag} (e : piece d at ≡ got (startTag t)) where
+      pub refused-undeclared-start : numberOf s es d (t .name) (t .size) ≡ 0 → document s es D d ≡ refused 10 at
+      refused-undeclared-start i = settles-not (startTag t) 10 at e (start-undeclared s es D d at t z i)
+
+      module _ (k : ℕ) (i : numberOf s es d (t .name) (t .size) ≡ k) (l : 1 ≤ k) where
+        pub reaches-start-tag : {y : State} → shortly (startElement s es D k at (t .after) z) ≡ got y → Reaches s es d (t .after) y
+        reaches-start-tag {y} v =
+            settles-on (startTag t) (t .after) (startElement s es D k at (t .after) z) y e (start-settles s es D d at t z k i l) (start-tag-range d at h t e .1) (startElement-parted s es D k at (t .after) z) v
+
+        pub refused-start-tag : {n j : ℕ} → shortly (startElement s es D k at (t .after) z) ≡ refused n j → document s es D d ≡ refused n j
+        refused-start-tag {n} {j} v =
+            settles-not (startTag t) n j e (start-settles s es D d at t z k i l ∙ ap (goOn (t .after)) (shortly-refused (startElement s es D k at (t .after) z) n j v))
+
+    module _ {t : Tag} (e : piece d at ≡ got (endTag t)) where
+      pub refused-undeclared-end : numberOf s es d (t .name) (t .size) ≡ 0 → document s es D d ≡ refused 10 at
+      refused-undeclared-end i = settles-not (endTag t) 10 at e (end-undeclared s es D d at t z i)
+
+      module _ (k : ℕ) (i : numberOf s es d (t .name) (t .size) ≡ k) (l : 1 ≤ k) where
+        pub reaches-end-tag : {y : State} → shortly (endElement s es D k at (t .after) z) ≡ got y → Reaches s es d (t .after) y
+        reaches-end-tag {y} v =
+            settles-on (endTag t) (t .after) (endElement s es D k at (t .after) z) y e (end-settles s es D d at t z k i l) (end-tag-range d at h t e .1) (endElement-parted s es D k at (t .after) z) v
+
+        pub refused-end-tag : {n j : ℕ} → shortly (endElement s es D k at (t .after) z) ≡ refused n j → document s es D d ≡ refused n j
+        refused-end-tag {n} {j} v =
+            settles-not (endTag t) n j e (end-settles s es D d at t z k i l ∙ ap (goOn (t .after)) (shortly-refused (endElement s es D k at (t .after) z) n j v))
+
+    -- The state stays, and the position goes on: a run behind it is a new one.
+    passes-by : (p : Piece) (after : ℕ) → piece d at ≡ got p → settlePiece s es D d p at z ≡ got (record { at = after; state = z }) → at < after → after ≤ length d → Reaches s es d after z
+    passes-by p after e f i j =
+        record {
+          rest = sym (pieces-on s es D d at z h p e (record { at = after; state = z }) f) ∙ r .rest;
+          inside = j;
+          parted = λ l m. r .beyond after i;
+          beyond = λ k l. r .beyond k (omega arith);
+        }
+
+    pub reaches-skipped : {e : ℕ} → piece d at ≡ got (skipped e) → Reaches s es d e z
+    unfolding settlePiece
+    reaches-skipped {e} q = let (i, j) = skipped-range d at h e q in passes-by (skipped e) e q refl i j
+
+    pub reaches-blank : piece d at ≡ got blank → D .fits (z .current .number) (z .current .taken) pcdata ≡ 0 → Reaches s es d (at + 1) z
+    unfolding settlePiece takeBlank
+    reaches-blank q e = passes-by blank (at + 1) q (rw (settlePiece, takeBlank, e)) (omega arith) (omega arith)
+
+    module _ (run : isRun (piece d at) ≡ true) (fits : piece d at ≡ got blank → 1 ≤ D .fits (z .current .number) (z .current .taken) pcdata) where
+      pub reaches-run : Stays s es → {y : State} → shortly (takeRun s es D at (runEnd d (at + 1) - at) z) ≡ got y → Reaches s es d (runEnd d (at + 1)) y
+      reaches-run stays {y} v =
+          let e = runEnd d (at + 1) in
+          let (i, j) = runEnd-in d (at + 1) (omega arith) in
+          let (x, settles, few, same) = run-taken s es D at (e - at) z y v in
+          record {
+            rest = ap (pieces s es D d e) (sym same) ∙ sym (run-once s es stays d at z x settles few h run fits (r .parted h run)) ∙ r .rest;
+            inside = j;
+            parted = λ l m. absurd (false≢true (sym (runEnd-stop d (at + 1) (omega arith) l) ∙ m));
+            beyond = λ k l. rw (← same) (joins-snoc k (x .events) (dataRun at (e - at)) ∙ ne-eqb (at + (e - at)) k (omega arith));
+          }
+
+      pub refused-run : {n k : ℕ} → shortly (takeRun s es D at (runEnd d (at + 1) - at) z) ≡ refused n k → document s es D d ≡ refused n k
+      refused-run {n} {k} v = sym (r .rest) ∙ data-stop s es D d at z run fits n k h (run-refused s es D at (runEnd d (at + 1) - at) z n k v)

@@ -1,0 +1,80 @@
+-- What the tables of a type say, in the rules' terms: the decisions of the walks, by the last place taken.
+use Prim.Native.Nat.{ℕ, _+_, _-_, _*_, _/_, _%_, _^_, _≤_}
+use mathlib.Core.Path.{_≡_}
+use mathlib.Core.Bool.{Bool, true, false, cond}
+use mathlib.Core.List.{List}
+use lib.ListN.{length, getD}
+use lib.Dec.{eqb}
+use Rattle.rules.specs.TypeFile.{Place, Content, empty, model, Element}
+use Rattle.rules.specs.Judge.{Accepts, placeAt}
+use Rattle.rules.specs.Settling.{elementAt, numberOf, contentOf, placesIn, hasModel, Token, start, pcdata, hasName, Open}
+use Rattle.model_sets.specs.Sets.{nextIn}
+use Rattle.document_laws.specs.Decide.{search, isCompleteIn, requiredOf}
+use Rattle.last_places.specs.Last.{placed, InRange}
+
+-- The element number e after the place u.
+abbrev pub standing : (e u : ℕ) → Open
+standing e u = record { number = e; taken = placed u }
+
+-- How many places the model of the element number e has; EMPTY has none.
+abbrev pub width : List Element → ℕ → ℕ
+width es e = length (placesIn (contentOf es e))
+
+-- A token's name as the tables have it: the element's number, 0 for `#PCDATA`.
+abbrev pub nameNumber : Token → ℕ
+nameNumber (start k) = k
+nameNumber pcdata = 0
+
+-- A start tag's element is declared.
+abbrev pub Declares : List Element → Token → Type 0
+Declares es (start k) = (1 ≤ k) × (k ≤ length es)
+Declares es pcdata = Unit {0}
+
+-- The tables
+
+-- Where the row of the element e after the place u begins.
+abbrev pub rowAt : (e u : ℕ) → ℕ
+rowAt e u = (e * 97 + u) * 14
+
+-- Whether the bit k of a number is 1.
+abbrev pub bitOf : (b k : ℕ) → Bool
+bitOf b k = eqb (b / 2 ^ k % 2) 1
+
+-- The place p may come next after the place u.
+abbrev pub nextOf : Content → (u p : ℕ) → Bool
+nextOf empty u p = false
+nextOf (model g ps n) u p = nextIn g u p
+
+pub record Rows (es : List Element) (rows : List ℕ) : Type 0 where
+  pub next : (e u p : ℕ) → e ≤ length es → u ≤ width es e → 1 ≤ p → p ≤ 96 → bitOf (getD rows (rowAt e u + p / 8) 0) (p % 8) ≡ nextOf (contentOf es e) u p
+  pub complete : (e u : ℕ) → e ≤ length es → u ≤ width es e → eqb (getD rows (rowAt e u) 0 % 2) 1 ≡ isCompleteIn (contentOf es e) (placed u)
+  pub required : (e u : ℕ) → e ≤ length es → u ≤ width es e → getD rows (rowAt e u + 13) 0 ≡ requiredOf (contentOf es e) (placed u)
+
+-- What the place p of a model names: an element, 255 for `#PCDATA`, 0 if that is not declared.
+abbrev pub namedBy : List ℕ → List Element → List Place → ℕ → ℕ
+namedBy s es ps p = cond (eqb (placeAt ps (p - 1) .size) 0) 255 (numberOf s es s (placeAt ps (p - 1) .at) (placeAt ps (p - 1) .size))
+
+pub record Places (s : List ℕ) (es : List Element) (places : List ℕ) : Type 0 where
+  pub named : (e p : ℕ) → e ≤ length es → 1 ≤ p → p ≤ width es e → getD places ((e * 97 + p) * 2) 0 ≡ namedBy s es (placesIn (contentOf es e)) p
+  pub smaller : (e p : ℕ) (t : Token) → e ≤ length es → 1 ≤ p → p ≤ width es e → Declares es t → hasName s es (placesIn (contentOf es e)) t p ≡ true → getD places ((e * 97 + p) * 2 + 1) 0 ≡ search (hasName s es (placesIn (contentOf es e)) t) (p - 1)
+
+pub record Facts (s : List ℕ) (es : List Element) (facts : List ℕ) : Type 0 where
+  pub largest : (e : ℕ) (t : Token) → e ≤ length es → Declares es t → getD facts (e * 68 + nameNumber t) 0 ≡ search (hasName s es (placesIn (contentOf es e)) t) (width es e)
+  pub start : (e : ℕ) → 1 ≤ e → e ≤ length es → getD facts (e * 68 + 65) 0 ≡ elementAt es (e - 1) .start
+  pub end : (e : ℕ) → 1 ≤ e → e ≤ length es → getD facts (e * 68 + 66) 0 ≡ elementAt es (e - 1) .end
+  pub has : (e : ℕ) → 1 ≤ e → e ≤ length es → getD facts (e * 68 + 67) 0 ≡ cond (hasModel (contentOf es e)) 1 0
+
+pub record Tables (s : List ℕ) (es : List Element) (rows places facts : List ℕ) : Type 0 where
+  pub accepted : Accepts s es
+  pub few : length es ≤ 64
+  pub rows-say : Rows es rows
+  pub places-say : Places s es places
+  pub facts-say : Facts s es facts
+
+-- The tables are those of some type, which has this element and place.
+abbrev pub Ready : (rows places facts : List ℕ) (e u : ℕ) → Type 0
+Ready rows places facts e u = (s : List ℕ) × (es : List Element) × Tables s es rows places facts × InRange es (standing e u)
+
+-- The type has so many elements, too.
+abbrev pub ReadyFor : (rows places facts : List ℕ) (e u x : ℕ) → Type 0
+ReadyFor rows places facts e u x = (s : List ℕ) × (es : List Element) × Tables s es rows places facts × InRange es (standing e u) × (x ≤ length es)

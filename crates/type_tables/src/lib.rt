@@ -1,0 +1,166 @@
+// What the document reader asks of an accepted type, kept in tables.
+//
+// Elements have the numbers 1 to 64, in declaration order; 0 stands for the document itself, whose model is the one
+// place of the document element. A name is an element's number, or 0 for `#PCDATA`.
+//
+// `rows`: for each element 97 rows of 14 numbers. Row 0 is the start, row u is after the place u. The bits of the first 13
+// numbers say, bit 0 whether the content is complete, bit p whether the place p may come next. Number 13 is the required
+// place, or 0. An EMPTY element's content is complete at its start.
+//
+// `places`: for each element 97 pairs. Of the place p: what it names (an element, 255 for `#PCDATA`, 0 if that is not
+// declared), and the next smaller place of the same name, or 0.
+//
+// `facts`: for each element 68 numbers. Number x is the largest place of the name x, or 0. Numbers 65, 66 and 67 are 1
+// where the start may be omitted, the end may be omitted, and the content is a model.
+ghost use mathlib.Core.Path.{_≡_};
+ghost use mathlib.Core.List.{List};
+ghost use Prim.Native.Nat.{ℕ, _+_, _*_, _/_, _%_, _≤_, _<_};
+ghost use lib.ListN.{getD};
+ghost use Rattle.rules.specs.TypeFile.{Element};
+ghost use Rattle.rules.specs.Settling.{Token, contentOf, hasModel, startO, endO};
+ghost use Rattle.rules.specs.Settling as rules;
+ghost use Rattle.document_laws.specs.Decide.{decided};
+ghost use Rattle.last_places.specs.Last.{placed, InRange};
+ghost use Rattle.type_tables.specs.Means.{standing, nameNumber, rowAt, bitOf, Declares, Rows, Facts, Tables, Ready, ReadyFor};
+
+fn wide(b: u8) -> usize
+    ensures { λ r. ⌜ (r ≡ b) × (r < 256) ⌝ }
+{
+    b as usize
+}
+
+// Where the row of the element e after the place u begins.
+fn row(e: usize, u: usize) -> usize
+    requires { ⌜ (e ≤ 64) × (u ≤ 96) ⌝ }
+    ensures { λ r. ⌜ r ≡ rowAt e u ⌝ }
+{
+    (e * 97 + u) * 14
+}
+
+// Whether the place p may come next in the element e after the place u; for 0, whether the content is complete.
+fn bit(rows: &[u8; 88270], e: usize, u: usize, p: usize) -> bool
+    requires { ⌜ (e ≤ 64) × (u ≤ 96) × (p ≤ 96) ⌝ }
+    ensures { λ r. ⌜ r ≡ bitOf (getD (now (rows .entry)) (rowAt e u + p / 8) 0) (p % 8) ⌝ }
+{
+    let b = wide(rows[row(e, u) + p / 8]);
+    (b >> (p % 8)) % 2 == 1
+}
+
+pub fn complete(rows: &[u8; 88270], e: usize, u: usize) -> bool
+    requires { ⌜ (e ≤ 64) × (u ≤ 96) ⌝ }
+    ensures { λ r. ⌜ ((s : List ℕ) (es : List Element) → Rows es (now (rows .entry)) → InRange es (standing e u) →
+        r ≡ decided s es .complete e (placed u)) ⌝ }
+{
+    rows[row(e, u)] % 2 == 1
+}
+
+// The required place, or 0.
+pub fn required(rows: &[u8; 88270], e: usize, u: usize) -> usize
+    requires { ⌜ (e ≤ 64) × (u ≤ 96) ⌝ }
+    ensures { λ r. ⌜ ((s : List ℕ) (es : List Element) → Rows es (now (rows .entry)) → InRange es (standing e u) →
+        r ≡ decided s es .required e (placed u)) ⌝ }
+{
+    wide(rows[row(e, u) + 13])
+}
+
+// What the place p of the element e names: an element, 255 for `#PCDATA`, 0 if that is not declared.
+fn named(places: &[u8; 12610], e: usize, p: usize) -> usize
+    requires { ⌜ (e ≤ 64) × (p ≤ 96) ⌝ }
+    ensures { λ r. ⌜ r ≡ getD (now (places .entry)) ((e * 97 + p) * 2) 0 ⌝ }
+{
+    wide(places[(e * 97 + p) * 2])
+}
+
+// The next smaller place of the same name.
+fn smaller(places: &[u8; 12610], e: usize, p: usize) -> usize
+    requires { ⌜ (e ≤ 64) × (p ≤ 96) ⌝ }
+    ensures { λ r. ⌜ r ≡ getD (now (places .entry)) ((e * 97 + p) * 2 + 1) 0 ⌝ }
+{
+    wide(places[(e * 97 + p) * 2 + 1])
+}
+
+fn largest(facts: &[u8; 4420], e: usize, x: usize) -> usize
+    requires { ⌜ (e ≤ 64) × (x ≤ 64) ⌝ }
+    ensures { λ r. ⌜ r ≡ getD (now (facts .entry)) (e * 68 + x) 0 ⌝ }
+{
+    wide(facts[e * 68 + x])
+}
+
+fn start_omitted(facts: &[u8; 4420], e: usize) -> bool
+    requires { ⌜ e ≤ 64 ⌝ }
+    ensures { λ r. ⌜ ((s : List ℕ) (es : List Element) → Facts s es (now (facts .entry)) → Declares es (rules.start e) → r ≡ startO es e) ⌝ }
+{
+    facts[e * 68 + 65] == 1
+}
+
+pub fn end_omitted(facts: &[u8; 4420], e: usize) -> bool
+    requires { ⌜ e ≤ 64 ⌝ }
+    ensures { λ r. ⌜ ((s : List ℕ) (es : List Element) → Facts s es (now (facts .entry)) → Declares es (rules.start e) → r ≡ endO es e) ⌝ }
+{
+    facts[e * 68 + 66] == 1
+}
+
+pub fn has_model(facts: &[u8; 4420], e: usize) -> bool
+    requires { ⌜ e ≤ 64 ⌝ }
+    ensures { λ r. ⌜ ((s : List ℕ) (es : List Element) → Facts s es (now (facts .entry)) → Declares es (rules.start e) →
+        r ≡ hasModel (contentOf es e)) ⌝ }
+{
+    facts[e * 68 + 67] == 1
+}
+
+// The place of the name x that may come next in the element e after the place u, or 0.
+pub fn fitting(
+    rows: &[u8; 88270],
+    places: &[u8; 12610],
+    facts: &[u8; 4420],
+    e: usize,
+    u: usize,
+    x: usize,
+) -> usize
+    requires { ⌜ ReadyFor (now rows) (now places) (now facts) e u x ⌝ }
+    ensures { λ r. ⌜ ((s : List ℕ) (es : List Element) → Tables s es (now (rows .entry)) (now (places .entry)) (now (facts .entry)) → InRange es (standing e u) →
+        (t : Token) → nameNumber t ≡ x → Declares es t → r ≡ decided s es .fits e (placed u) t) ⌝ }
+    ensures { λ r. ⌜ r ≤ 96 ⌝ }
+{
+    let mut p = largest(facts, e, x);
+    while p != 0 {
+        if bit(rows, e, u, p) {
+            return p;
+        }
+        p = smaller(places, e, p);
+    }
+    0
+}
+
+// The element whose start is to be inferred in the element e after the place u, or 0.
+pub fn inferable(
+    rows: &[u8; 88270],
+    places: &[u8; 12610],
+    facts: &[u8; 4420],
+    e: usize,
+    u: usize,
+) -> usize
+    requires { ⌜ Ready (now rows) (now places) (now facts) e u ⌝ }
+    ensures { λ r. ⌜ ((s : List ℕ) (es : List Element) → Tables s es (now (rows .entry)) (now (places .entry)) (now (facts .entry)) → InRange es (standing e u) →
+        r ≡ rules.inferable s es (decided s es) (standing e u)) ⌝ }
+    ensures { λ r. ⌜ r ≤ 64 ⌝ }
+{
+    let p = required(rows, e, u);
+    if p == 0 {
+        return 0;
+    }
+    let k = named(places, e, p);
+    if k == 0 {
+        return 0;
+    }
+    if k == 255 {
+        return 0;
+    }
+    if !start_omitted(facts, k) {
+        return 0;
+    }
+    if !has_model(facts, k) {
+        return 0;
+    }
+    k
+}
