@@ -7,3 +7,4 @@ pub mod Leaves
 pub mod Run
 pub mod Turns
 pub mod Depth
+pub mod Within
