@@ -176,21 +176,21 @@ module _ {s : List ℕ} {room : ℕ} {a : Answer} where
       ⊎-elim (λ x. omega arith) (λ x. omega arith) b
 
   -- Number 9, and number 19.
-  pub refuses-nine : Refuses s room a → a .number ≡ 9 → Legible s × (es : List Element) × (typeFile s ≡ got es) × FirstAmbiguous s (a .position) (a .first) (a .second) es
+  refuses-nine : Refuses s room a → a .number ≡ 9 → Legible s × (es : List Element) × (typeFile s ≡ got es) × FirstAmbiguous s (a .position) (a .first) (a .second) es
   refuses-nine (tooLong l e) h = absurd (omega (arith, rw e at h))
   refuses-nine (notAllowed l d e) h = absurd (omega (arith, rw e at h))
   refuses-nine (malformed l n k r e) h = absurd (omega (arith, rw e at h, typeFile-within s n k r))
   refuses-nine (ambiguous l es r k p q f e) h = rw e (l, es, r, f)
   refuses-nine (noRoom l es r u f e) h = absurd (omega (arith, rw e at h))
 
-  pub refuses-nineteen : Refuses s room a → a .number ≡ 19 → (es : List Element) × Accepts s es × (room < 6 * length es)
+  refuses-nineteen : Refuses s room a → a .number ≡ 19 → (es : List Element) × Accepts s es × (room < 6 * length es)
   refuses-nineteen (tooLong l e) h = absurd (omega (arith, rw e at h))
   refuses-nineteen (notAllowed l d e) h = absurd (omega (arith, rw e at h))
   refuses-nineteen (malformed l n k r e) h = absurd (omega (arith, rw e at h, typeFile-within s n k r))
   refuses-nineteen (ambiguous l es r k p q f e) h = absurd (omega (arith, rw e at h))
   refuses-nineteen (noRoom l es r u f e) h = (es, record { legible = l; elements = r; unambiguous = u }, f)
 
-read-fair : {s : List ℕ} {ds es : List Element} → Accepts s ds → typeFile s ≡ got es → AllUnambiguous s es
+pub read-fair : {s : List ℕ} {ds es : List Element} → Accepts s ds → typeFile s ≡ got es → AllUnambiguous s es
 read-fair {s} {ds} {es} w r =
     let q = w .elements in
     let e : ds ≡ es = cc in
@@ -201,10 +201,16 @@ module _ {s : List ℕ} {room : ℕ} {zeroed : List ℕ} {filled : List Element 
   settled-accepts (refuses r z) h = absurd (refuses-some r h)
   settled-accepts (accepts es w f e z) h = (es, w, f, e, z)
 
+  pub settled-nine : Settled s room zeroed filled a after → a .number ≡ 9 → Legible s × (es : List Element) × (typeFile s ≡ got es) × FirstAmbiguous s (a .position) (a .first) (a .second) es
+  settled-nine x h = refuses-nine (settled-refuses x (λ z. omega arith) .0) h
+
+  pub settled-nineteen : Settled s room zeroed filled a after → a .number ≡ 19 → (es : List Element) × Accepts s es × (room < 6 * length es)
+  settled-nineteen x h = refuses-nineteen (settled-refuses x (λ z. omega arith) .0) h
+
   -- Under 0 and 19 the models read have no pair at fault; under 9 some model has one.
   pub settled-fair : Settled s room zeroed filled a after → (a .number ≡ 0) ⊎ (a .number ≡ 19) → (es : List Element) → typeFile s ≡ got es → AllUnambiguous s es
   settled-fair x (inl h) es r = read-fair (settled-accepts x h .1) r
-  settled-fair x (inr h) es r = read-fair (refuses-nineteen (settled-refuses x (λ z. omega arith) .0) h .1) r
+  settled-fair x (inr h) es r = read-fair (settled-nineteen x h .1) r
 
   pub settled-faulty : Settled s room zeroed filled a after → Legible s → (es : List Element) → typeFile s ≡ got es → (AllUnambiguous s es → ⊥) → a .number ≡ 9
   settled-faulty x l es r n = go (rw r at (when-legible l x))
@@ -230,7 +236,7 @@ unfolding records
 records-length [] = refl
 records-length (e ∷ es) = omega (arith, length-append (contentNumbers (e .content)) (records es), content-length (e .content), records-length es)
 
-bytes-length : (ns : List ℕ) → length (bytesOf ns) ≡ 4 * length ns
+pub bytes-length : (ns : List ℕ) → length (bytesOf ns) ≡ 4 * length ns
 unfolding bytesOf
 bytes-length [] = refl
 bytes-length (n ∷ ns) = omega (arith, bytes-length ns)

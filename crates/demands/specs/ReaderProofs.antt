@@ -1,0 +1,190 @@
+-- The proofs behind the reader's part of Demands: what both of its calls promise is one relation, from which each demand follows.
+use Prim.Native.Nat.{ℕ, _*_, _/_, _<_, _≤_}
+use mathlib.Core.Path.{_≡_, refl}
+use mathlib.Core.Logic.{_⊎_, inl, inr, ⊎-elim}
+use mathlib.Core.List.{List, [], _∷_, _++_}
+use native.Mathlib.Omega.{arith}
+use lib.ListN.{length, drop, replicate, length-append, length-drop}
+use Rattle.rules.specs.Bytes.{allowed, span}
+use Rattle.rules.specs.Reading.{Reading, refused, got}
+use Rattle.rules.specs.TypeFile.{Element, typeFile}
+use Rattle.rules.specs.Judge.{Answer, refusal, acceptance, AllUnambiguous, FirstAmbiguous, Refuses, Accepts, bytesOf}
+use Rattle.rules.specs.Settling.{Event}
+use Rattle.rules.specs.Reader.{eventNumbers, documentRefusal, BothLegible, Reads, RefusesBoth, typeTooLong, documentTooLong, typeNotAllowed, documentNotAllowed, malformed, ambiguous, unsettled, noRoom, ReadAs, ReadAsBytes}
+use Rattle.rules_laws.specs.Within.{typeFile-within}
+use Rattle.document_laws.specs.Laws.{reads-some, reads-one}
+use Rattle.document_laws.specs.Answers.{read-as-one, read-as-bytes-one}
+use Rattle.last_places.specs.Within.{DocumentNumber, document-within}
+use Rattle.demands.specs.Proofs.{first-one, first-all, first-in, read-fair, bytes-length}
+
+-- Both calls promise this, of a buffer with room for so many numbers that is `zeroed` by a refusal and `filled` by an acceptance.
+pub data Given (s d : List ℕ) (room : ℕ) (zeroed : List ℕ) (filled : List Event → List ℕ) (a : Answer) (after : List ℕ) : Type 0 where
+  refuses : RefusesBoth s d room a → after ≡ zeroed → Given s d room zeroed filled a after
+  accepts : (es : List Element) (ev : List Event) → Reads s d es (got ev) → 4 * length ev ≤ room → a ≡ acceptance (length ev) → after ≡ filled ev → Given s d room zeroed filled a after
+
+module _ {s d before : List ℕ} {a : Answer} {after : List ℕ} where
+  pub from-numbers : ReadAs s d before a after → Given s d (length before) (replicate (length before) 0) (λ ev. eventNumbers ev ++ drop (4 * length ev) before) a after
+  from-numbers (ReadAs.refuses r z) = refuses r z
+  from-numbers (ReadAs.accepts es ev r f e z) = accepts es ev r f e z
+
+  pub to-numbers : Given s d (length before) (replicate (length before) 0) (λ ev. eventNumbers ev ++ drop (4 * length ev) before) a after → ReadAs s d before a after
+  to-numbers (refuses r z) = ReadAs.refuses r z
+  to-numbers (accepts es ev r f e z) = ReadAs.accepts es ev r f e z
+
+  pub from-bytes : ReadAsBytes s d before a after → Given s d (length before / 4) (replicate (length before) 0) (λ ev. bytesOf (eventNumbers ev) ++ drop (16 * length ev) before) a after
+  from-bytes (ReadAsBytes.refuses r z) = refuses r z
+  from-bytes (ReadAsBytes.accepts es ev r f e z) = accepts es ev r f e z
+
+  pub to-bytes : Given s d (length before / 4) (replicate (length before) 0) (λ ev. bytesOf (eventNumbers ev) ++ drop (16 * length ev) before) a after → ReadAsBytes s d before a after
+  to-bytes (refuses r z) = ReadAsBytes.refuses r z
+  to-bytes (accepts es ev r f e z) = ReadAsBytes.accepts es ev r f e z
+
+-- Two answers to the same two inputs are the same: that a type has one first ambiguous model is the judge's half.
+module _ (s d before : List ℕ) (a b : Answer) (after other : List ℕ) where
+  pub numbers-one : ReadAs s d before a after → ReadAs s d before b other → (a ≡ b) × (after ≡ other)
+  numbers-one = read-as-one s d before (λ k p q j i l es x y. first-one s x y) (λ k p q es x u. first-all s x u) a b after other
+
+  pub bytes-one : ReadAsBytes s d before a after → ReadAsBytes s d before b other → (a ≡ b) × (after ≡ other)
+  bytes-one = read-as-bytes-one s d before (λ k p q j i l es x y. first-one s x y) (λ k p q es x u. first-all s x u) a b after other
+
+-- Under an accepted type each document has a reading, and only one.
+pub reading-one : (s d : List ℕ) (es : List Element) → BothLegible s d → Accepts s es
+    → (r : Reading (List Event)) × Reads s d es r × ((fs : List Element) (q : Reading (List Event)) → Reads s d fs q → (es ≡ fs) × (r ≡ q))
+reading-one s d es l w =
+    let x = reads-some s d es l w in
+    (_, x, λ fs q y. reads-one s d es fs _ q x y)
+
+-- What a refusal says: where it stands, and by which numbers.
+abbrev TypeSays : List ℕ → Answer → Type 0
+TypeSays s a = (a .input ≡ 1) × (a .position ≤ length s) × (1 ≤ a .number) × (a .number ≤ 9)
+
+abbrev DocumentSays : List ℕ → Answer → Type 0
+DocumentSays d a = (a .input ≡ 2) × (a .position ≤ length d) × (((1 ≤ a .number) × (a .number ≤ 5)) ⊎ ((10 ≤ a .number) × (a .number ≤ 19)))
+
+abbrev Says : (s d : List ℕ) → Answer → Type 0
+Says s d a = (TypeSays s a ⊎ DocumentSays d a) × ((a .number ≡ 9 → ⊥) → (a .first ≡ 0) × (a .second ≡ 0)) × (a .count ≡ 0)
+
+type-says : (s d : List ℕ) (n k : ℕ) → (1 ≤ n) × (n ≤ 9) → k ≤ length s → Says s d (refusal n k 0 0)
+type-says s d n k h i = (inl (refl, i, h .0, h .1), λ o. (refl, refl), refl)
+
+document-says : (s d : List ℕ) (n k : ℕ) → ((1 ≤ n) × (n ≤ 5)) ⊎ ((10 ≤ n) × (n ≤ 19)) → k ≤ length d → Says s d (documentRefusal n k)
+document-says s d n k h i = (inr (refl, i, h), λ o. (refl, refl), refl)
+
+document-number : {n : ℕ} → DocumentNumber n → ((1 ≤ n) × (n ≤ 5)) ⊎ ((10 ≤ n) × (n ≤ 19))
+document-number = ⊎-elim (λ h. inl (omega arith)) (λ h. inr (omega arith))
+
+module _ {s d : List ℕ} {room : ℕ} {a : Answer} where
+  pub both-says : RefusesBoth s d room a → Says s d a
+  both-says (typeTooLong l e) = rw e (type-says s d 1 0 (omega arith) (omega arith))
+  both-says (documentTooLong l m e) = rw e (document-says s d 1 0 (inl (omega arith)) (omega arith))
+  both-says (typeNotAllowed l m c e) = rw e (type-says s d 2 (span allowed s) (omega arith) (omega arith))
+  both-says (documentNotAllowed l m c e) = rw e (document-says s d 2 (span allowed d) (inl (omega arith)) (omega arith))
+  both-says (malformed l n k r e) =
+      let (i, j, b) = typeFile-within s n k r in
+      rw e (type-says s d n k (omega arith) b)
+  both-says (ambiguous l es r k p q f e) = rw e (inl (refl, first-in s f r, omega arith, omega arith), λ h. absurd (h refl), refl)
+  both-says (unsettled es n k r e) =
+      let (i, b) = document-within s es (r .decisions) d n k (r .reading) in
+      rw e (document-says s d n k (document-number i) b)
+  both-says (noRoom es ev r f e) = rw e (document-says s d 19 0 (inr (omega arith)) (omega arith))
+
+  pub both-some : RefusesBoth s d room a → a .number ≡ 0 → ⊥
+  both-some r h = ⊎-elim (λ i. omega arith) (λ i. ⊎-elim (λ j. omega arith) (λ j. omega arith) (i .2)) (both-says r .0)
+
+  -- Number 9, and number 19.
+  both-nine : RefusesBoth s d room a → a .number ≡ 9 → BothLegible s d × (es : List Element) × (typeFile s ≡ got es) × FirstAmbiguous s (a .position) (a .first) (a .second) es
+  both-nine (typeTooLong l e) h = absurd (omega (arith, rw e at h))
+  both-nine (documentTooLong l m e) h = absurd (omega (arith, rw e at h))
+  both-nine (typeNotAllowed l m c e) h = absurd (omega (arith, rw e at h))
+  both-nine (documentNotAllowed l m c e) h = absurd (omega (arith, rw e at h))
+  both-nine (malformed l n k r e) h = absurd (omega (arith, rw e at h, typeFile-within s n k r))
+  both-nine (ambiguous l es r k p q f e) h = rw e (l, es, r, f)
+  both-nine (unsettled es n k r e) h =
+      absurd (⊎-elim (λ j. omega (arith, rw e at h)) (λ j. omega (arith, rw e at h)) (document-within s es (r .decisions) d n k (r .reading) .0))
+  both-nine (noRoom es ev r f e) h = absurd (omega (arith, rw e at h))
+
+  both-nineteen : RefusesBoth s d room a → a .number ≡ 19 → (es : List Element) × (ev : List Event) × Reads s d es (got ev) × (room < 4 * length ev)
+  both-nineteen (typeTooLong l e) h = absurd (omega (arith, rw e at h))
+  both-nineteen (documentTooLong l m e) h = absurd (omega (arith, rw e at h))
+  both-nineteen (typeNotAllowed l m c e) h = absurd (omega (arith, rw e at h))
+  both-nineteen (documentNotAllowed l m c e) h = absurd (omega (arith, rw e at h))
+  both-nineteen (malformed l n k r e) h = absurd (omega (arith, rw e at h, typeFile-within s n k r))
+  both-nineteen (ambiguous l es r k p q f e) h = absurd (omega (arith, rw e at h))
+  both-nineteen (unsettled es n k r e) h =
+      absurd (⊎-elim (λ j. omega (arith, rw e at h)) (λ j. omega (arith, rw e at h)) (document-within s es (r .decisions) d n k (r .reading) .0))
+  both-nineteen (noRoom es ev r f e) h = (es, ev, r, f)
+
+-- What the judge refuses a type for, but for want of room, the reader refuses it for.
+pub type-refused : {s d : List ℕ} {room other : ℕ} {a : Answer} → BothLegible s d → Refuses s room a → a .number ≤ 9 → RefusesBoth s d other a
+type-refused i (Refuses.tooLong l e) h = absurd (omega (arith, i .type .short))
+type-refused i (Refuses.notAllowed l c e) h = absurd (omega (arith, i .type .clean))
+type-refused i (Refuses.malformed l n k r e) h = malformed i n k r e
+type-refused i (Refuses.ambiguous l es r k p q f e) h = ambiguous i es r k p q f e
+type-refused i (Refuses.noRoom l es r u f e) h = absurd (omega (arith, rw e at h))
+
+-- What the answer to two legible inputs tells of the type.
+data OfType (s : List ℕ) (a : Answer) : Type 0 where
+  bad : (n k : ℕ) → typeFile s ≡ refused n k → OfType s a
+  clash : a .number ≡ 9 → OfType s a
+  fair : (es : List Element) → Accepts s es → OfType s a
+
+module _ {s : List ℕ} {a : Answer} {es : List Element} where
+  of-faulty : OfType s a → typeFile s ≡ got es → (AllUnambiguous s es → ⊥) → a .number ≡ 9
+  of-faulty (bad m k e) r n = let z : _≡_ {A = ℕ} 0 1 = cc in absurd (omega arith)
+  of-faulty (clash h) r n = h
+  of-faulty (fair fs w) r n = absurd (n (read-fair w r))
+
+  of-fair : OfType s a → typeFile s ≡ got es → (a .number ≡ 9 → ⊥) → AllUnambiguous s es
+  of-fair (bad m k e) r n = let z : _≡_ {A = ℕ} 0 1 = cc in absurd (omega arith)
+  of-fair (clash h) r n = absurd (n h)
+  of-fair (fair fs w) r n = read-fair w r
+
+module _ {s d : List ℕ} {room : ℕ} {zeroed : List ℕ} {filled : List Event → List ℕ} {a : Answer} {after : List ℕ} where
+  pub given-refuses : Given s d room zeroed filled a after → (a .number ≡ 0 → ⊥) → RefusesBoth s d room a × (after ≡ zeroed)
+  given-refuses (refuses r z) h = (r, z)
+  given-refuses (accepts es ev r f e z) h = absurd (h (rw e))
+
+  pub given-accepts : Given s d room zeroed filled a after → a .number ≡ 0 → (es : List Element) × (ev : List Event) × Reads s d es (got ev) × (4 * length ev ≤ room) × (a ≡ acceptance (length ev)) × (after ≡ filled ev)
+  given-accepts (refuses r z) h = absurd (both-some r h)
+  given-accepts (accepts es ev r f e z) h = (es, ev, r, f, e, z)
+
+  pub given-nine : Given s d room zeroed filled a after → a .number ≡ 9 → BothLegible s d × (es : List Element) × (typeFile s ≡ got es) × FirstAmbiguous s (a .position) (a .first) (a .second) es
+  given-nine x h = both-nine (given-refuses x (λ z. omega arith) .0) h
+
+  pub given-nineteen : Given s d room zeroed filled a after → a .number ≡ 19 → (es : List Element) × (ev : List Event) × Reads s d es (got ev) × (room < 4 * length ev)
+  given-nineteen x h = both-nineteen (given-refuses x (λ z. omega arith) .0) h
+
+  given-type : BothLegible s d → Given s d room zeroed filled a after → OfType s a
+  given-type i (refuses (typeTooLong l e) z) = absurd (omega (arith, i .type .short))
+  given-type i (refuses (documentTooLong l m e) z) = absurd (omega (arith, i .short))
+  given-type i (refuses (typeNotAllowed l m c e) z) = absurd (omega (arith, i .type .clean))
+  given-type i (refuses (documentNotAllowed l m c e) z) = absurd (omega (arith, i .clean))
+  given-type i (refuses (malformed l n k r e) z) = bad n k r
+  given-type i (refuses (ambiguous l es r k p q f e) z) = clash (rw e)
+  given-type i (refuses (unsettled es n k r e) z) = fair es (r .accepted)
+  given-type i (refuses (noRoom es ev r f e) z) = fair es (r .accepted)
+  given-type i (accepts es ev r f e z) = fair es (r .accepted)
+
+  -- Under 9 some model has a pair at fault; else none has.
+  pub given-faulty : Given s d room zeroed filled a after → BothLegible s d → {es : List Element} → typeFile s ≡ got es → (AllUnambiguous s es → ⊥) → a .number ≡ 9
+  given-faulty x i r n = of-faulty (given-type i x) r n
+
+  pub given-fair : Given s d room zeroed filled a after → BothLegible s d → {es : List Element} → typeFile s ≡ got es → (a .number ≡ 9 → ⊥) → AllUnambiguous s es
+  given-fair x i r n = of-fair (given-type i x) r n
+
+  -- The buffer keeps its length.
+  pub given-length : (n : ℕ) → Given s d room zeroed filled a after → length zeroed ≡ n → ((ev : List Event) → 4 * length ev ≤ room → length (filled ev) ≡ n) → length after ≡ n
+  given-length n (refuses r z) h k = rw z h
+  given-length n (accepts es ev r f e z) h k = rw z (k ev f)
+
+events-length : (ev : List Event) → length (eventNumbers ev) ≡ 4 * length ev
+unfolding eventNumbers
+events-length [] = refl
+events-length (e ∷ ev) = omega (arith, events-length ev)
+
+pub events-kept : (ev : List Event) (before : List ℕ) → 4 * length ev ≤ length before → length (eventNumbers ev ++ drop (4 * length ev) before) ≡ length before
+events-kept ev before h = omega (arith, length-append (eventNumbers ev) (drop (4 * length ev) before), length-drop (4 * length ev) before, events-length ev)
+
+pub event-bytes-kept : (ev : List Event) (before : List ℕ) → 4 * length ev ≤ length before / 4 → length (bytesOf (eventNumbers ev) ++ drop (16 * length ev) before) ≡ length before
+event-bytes-kept ev before h =
+    omega (arith, length-append (bytesOf (eventNumbers ev)) (drop (16 * length ev) before), length-drop (16 * length ev) before, bytes-length (eventNumbers ev), events-length ev)
