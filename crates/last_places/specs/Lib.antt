@@ -7,7 +7,4 @@ pub mod Leaves
 pub mod Run
 pub mod Turns
 pub mod Depth
-<<<<<<< HEAD
-=======
 pub mod Within
->>>>>>> main
