@@ -269,15 +269,63 @@ fn is_special(b: u8) -> bool
     b == 10
 }
 
+// Whether `<!` at i goes on a run of data.
+fn declaration_runs_on(s: &[u8], i: usize) -> bool
+    requires { ⌜ i < length (now s) ⌝ }
+    ensures { λ r. ⌜ r ≡ isRun (declarationPiece (now (s .entry)) i) ⌝ }
+{
+    let b = text::byte(s, i + 2);
+    if b == b'>' {
+        return false;
+    }
+    if dashes_at(s, i) {
+        return false;
+    }
+    !is_left_out(b)
+}
+
+// Whether `<` at i goes on a run of data. No tag is read for this: one ends the run even where it is refused.
+fn markup_runs_on(s: &[u8], i: usize) -> bool
+    requires { ⌜ i < length (now s) ⌝ }
+    ensures { λ r. ⌜ r ≡ isRun (markupPiece (now (s .entry)) i) ⌝ }
+{
+    let b = text::byte(s, i + 1);
+    if text::is_letter(b) {
+        return false;
+    }
+    if is_end_tag(s, i) {
+        return false;
+    }
+    if b == b'!' {
+        return declaration_runs_on(s, i);
+    }
+    b != b'?'
+}
+
 // Whether what stands at i goes on a run of data.
 fn runs_on(s: &[u8], i: usize) -> bool
     requires { ⌜ i < length (now s) ⌝ }
     ensures { λ r. ⌜ r ≡ isRun (piece (now (s .entry)) i) ⌝ }
 {
-    if is_special(text::byte(s, i)) {
-        return goes_on(token_at(s, i));
+    if text::byte(s, i) == b'<' {
+        return markup_runs_on(s, i);
     }
-    true
+    goes_on(token_at(s, i))
+}
+
+// The first special byte from `at` on, or the document's length: a run ends at the same place from there.
+fn plain_end(s: &[u8], at: usize) -> usize
+    requires { ⌜ at ≤ length (now s) ⌝ }
+    ensures { λ r. ⌜ (at ≤ r) × (r ≤ length (now (s .entry))) × (runEnd (now (s .entry)) r ≡ runEnd (now (s .entry)) at) ⌝ }
+{
+    let mut i = at;
+    while i < s.len() {
+        if is_special(s[i]) {
+            return i;
+        }
+        i += 1;
+    }
+    i
 }
 
 // Where the run of data that goes on at `at` ends.
@@ -285,12 +333,12 @@ pub fn run_end(s: &[u8], at: usize) -> usize
     requires { ⌜ at ≤ length (now s) ⌝ }
     ensures { λ r. ⌜ r ≡ runEnd (now (s .entry)) at ⌝ }
 {
-    let mut i = at;
+    let mut i = plain_end(s, at);
     while i < s.len() {
         if !runs_on(s, i) {
             return i;
         }
-        i += 1;
+        i = plain_end(s, i + 1);
     }
     i
 }
