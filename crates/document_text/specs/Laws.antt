@@ -264,6 +264,18 @@ markup-runs s i b q l t n = by-test (eqb b 63) refl
     by-test true e = ap isRun (markup-out s i b q l t n (eqb-true b 63 e))
     by-test false e = ap isRun (markup-data s i b q l t n (eqb-false b 63 e))
 
+-- A byte by itself goes on a run, unless it is byte 10.
+pub byte-runs : (s : List ℕ) (i b : ℕ) → b ≡ byteAt s i → not (eqb b 10) ≡ isRun (bytePiece s i)
+byte-runs s i b q = by-test (eqb b 10) refl
+  where
+    by-blank : (b ≡ 10 → ⊥) → (w : Bool) → (eqb b 9 || (eqb b 13 || eqb b 32)) ≡ w → true ≡ isRun (bytePiece s i)
+    by-blank h true e = ap isRun (byte-blank s i b q h e)
+    by-blank h false e = ap isRun (byte-data s i b q h e)
+
+    by-test : (w : Bool) → eqb b 10 ≡ w → not w ≡ isRun (bytePiece s i)
+    by-test true e = ap isRun (byte-skipped s i b q (eqb-true b 10 e))
+    by-test false e = by-blank (eqb-false b 10 e) (eqb b 9 || (eqb b 13 || eqb b 32)) refl
+
 -- A byte that is not special goes on a run.
 pub plain-runs : (s : List ℕ) (i b : ℕ) → b ≡ byteAt s i → special b ≡ false → isRun (piece s i) ≡ true
 unfolding piece bytePiece

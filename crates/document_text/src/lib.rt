@@ -239,20 +239,6 @@ pub fn token_at(s: &[u8], i: usize) -> Token
     byte_at(s, i)
 }
 
-// Whether a token goes on a run of data.
-fn goes_on(t: Token) -> bool
-    ensures { λ r. ⌜ r ≡ isRun (pieceOf t) ⌝ }
-{
-    match t {
-        Token::StartTag(_) => false,
-        Token::EndTag(_) => false,
-        Token::Skipped(_) => false,
-        Token::Blank => true,
-        Token::Data => true,
-        Token::Refused(_) => false,
-    }
-}
-
 // Whether a byte may begin something else than data: `<`, `&`, `]`, or byte 10.
 fn is_special(b: u8) -> bool
     ensures { λ r. ⌜ r ≡ special b ⌝ }
@@ -307,10 +293,17 @@ fn runs_on(s: &[u8], i: usize) -> bool
     requires { ⌜ i < length (now s) ⌝ }
     ensures { λ r. ⌜ r ≡ isRun (piece (now (s .entry)) i) ⌝ }
 {
-    if text::byte(s, i) == b'<' {
+    let b = text::byte(s, i);
+    if b == b'<' {
         return markup_runs_on(s, i);
     }
-    goes_on(token_at(s, i))
+    if is_reference(s, i) {
+        return false;
+    }
+    if is_section_end(s, i) {
+        return false;
+    }
+    b != 10
 }
 
 // The first special byte from `at` on, or the document's length: a run ends at the same place from there.
