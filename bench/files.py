@@ -1,4 +1,4 @@
-# files.py - writes the type files of the benchmark into a folder: python3 files.py FOLDER
+# files.py - writes the type files and documents of the benchmark into a folder: python3 files.py FOLDER
 import os
 import sys
 
@@ -6,8 +6,8 @@ folder = sys.argv[1]
 os.makedirs(folder, exist_ok=True)
 
 
-def write(name, text):
-    with open(os.path.join(folder, name + ".type"), "w") as f:
+def write(name, text, suffix=".type"):
+    with open(os.path.join(folder, name + suffix), "w") as f:
         f.write(text)
 
 
@@ -41,3 +41,32 @@ write("largest-optional", elements(64, model(96, ",", ",", "?")))
 write("largest-repeated", elements(64, model(96, "|", "|") + "+"))
 for n in (8, 16, 32, 64, 96):
     write("tokens-%02d" % n, elements(64, model(n, ",", "|")))
+
+
+# Documents under T: as SGML with most tags left out, and as XML with all of them.
+WARES = ("artery clamp small", "adhesive tape", "gauze swab 10x10", "hollow needle")
+
+
+def catalogue(limit):
+    """Items as (name, quantity), so many that the document of them has at most `limit` bytes."""
+    items, left = [], limit + len("<ITEM>")
+    while True:
+        item = (WARES[len(items) % 4], str(10 + len(items) % 90))
+        left -= len("<ITEM><QTY>") + len(item[0]) + len(item[1])
+        if left < 0:
+            return items
+        items.append(item)
+
+
+def document(name, items):
+    left_out = "<ITEM>".join(n + (q and "<QTY>" + q) for n, q in items)
+    full = "".join("<ITEM><NAME>%s</NAME>%s</ITEM>" % (n, q and "<QTY>" + q + "</QTY>") for n, q in items)
+    write(name, left_out, ".sgm")
+    write(name, "<LIST>" + full + "</LIST>", ".xml")
+
+
+document("catalogue", catalogue(65000))
+document("tiny", [("clamp", "40"), ("tape", "")])
+document("plain", [(("gauze swab 10x10 and adhesive tape; " * 2000)[:65000], "")])
+for n in (1, 2, 4, 8, 16, 32, 65):
+    document("growth-%02d" % n, catalogue(n * 1000))

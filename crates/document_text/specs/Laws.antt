@@ -1,13 +1,13 @@
 -- Laws of the rules' pieces: each way that reading goes, and where it ends.
 use Prim.Native.Nat.{ℕ, zero, suc, _+_, _-_, _≤_, _<_}
 use mathlib.Core.Path.{_≡_, refl, sym, ap, _∙_}
-use mathlib.Core.Bool.{Bool, true, false, _&&_, _||_, true≢false}
+use mathlib.Core.Bool.{Bool, true, false, not, _&&_, _||_, true≢false}
 use mathlib.Core.List.{List}
 use native.Mathlib.Omega.{arith}
 use native.Mathlib.Nat.{add-zero, not-suc-le-zero}
 use lib.ListN.{length, drop}
 use lib.Dec.{eqb, leb, ltb}
-use borrow.Author.Tests.{eq-eqb, ne-eqb, lt-ltb, le-ltb, eqb-true, ltb-true, ltb-false}
+use borrow.Author.Tests.{eq-eqb, ne-eqb, lt-ltb, le-ltb, eqb-true, eqb-false, ltb-true, ltb-false}
 use Rattle.rules.specs.Bytes.{byteAt, letter, nameEnd, separatorsEnd}
 use Rattle.rules.specs.Reading.{Reading, refused, got, andThen}
 use Rattle.rules.specs.TypeFile.{atDashes, beforeClose, commentDeclaration}
@@ -238,6 +238,43 @@ module _ (s : List ℕ) (i : ℕ) (h : i < length s) where
 neither : (a b : Bool) → (a || b) ≡ false → (a ≡ false) × (b ≡ false)
 neither true b e = absurd (true≢false e)
 neither false b e = (refl, e)
+
+-- What was read as a tag or a comment ends a run, refused or not.
+pub start-stops : (r : Reading Tag) → isRun (asStartTag r) ≡ false
+start-stops (refused n k) = refl
+start-stops (got t) = refl
+
+pub end-stops : (r : Reading Tag) → isRun (asEndTag r) ≡ false
+end-stops (refused n k) = refl
+end-stops (got t) = refl
+
+pub skipped-stops : (r : Reading ℕ) → isRun (asSkipped r) ≡ false
+skipped-stops (refused n k) = refl
+skipped-stops (got e) = refl
+
+-- `<!` and `<` that begin no tag, no comment and no `<!>` go on a run, unless the form is one that is left out.
+pub declaration-runs : (s : List ℕ) (i b : ℕ) → b ≡ byteAt s (i + 2) → (b ≡ 62 → ⊥) → atDashes s (i + 2) ≡ false → (w : Bool) → w ≡ (letter b || eqb b 91) → not w ≡ isRun (declarationPiece s i)
+declaration-runs s i b q h d true e = ap isRun (declaration-out s i b q h d (sym e))
+declaration-runs s i b q h d false e = ap isRun (declaration-data s i b q h d (sym e))
+
+pub markup-runs : (s : List ℕ) (i b : ℕ) → b ≡ byteAt s (i + 1) → letter b ≡ false → (eqb (byteAt s (i + 1)) 47 && letter (byteAt s (i + 2))) ≡ false → (b ≡ 33 → ⊥) → not (eqb b 63) ≡ isRun (markupPiece s i)
+markup-runs s i b q l t n = by-test (eqb b 63) refl
+  where
+    by-test : (w : Bool) → eqb b 63 ≡ w → not w ≡ isRun (markupPiece s i)
+    by-test true e = ap isRun (markup-out s i b q l t n (eqb-true b 63 e))
+    by-test false e = ap isRun (markup-data s i b q l t n (eqb-false b 63 e))
+
+-- A byte by itself goes on a run, unless it is byte 10.
+pub byte-runs : (s : List ℕ) (i b : ℕ) → b ≡ byteAt s i → not (eqb b 10) ≡ isRun (bytePiece s i)
+byte-runs s i b q = by-test (eqb b 10) refl
+  where
+    by-blank : (b ≡ 10 → ⊥) → (w : Bool) → (eqb b 9 || (eqb b 13 || eqb b 32)) ≡ w → true ≡ isRun (bytePiece s i)
+    by-blank h true e = ap isRun (byte-blank s i b q h e)
+    by-blank h false e = ap isRun (byte-data s i b q h e)
+
+    by-test : (w : Bool) → eqb b 10 ≡ w → not w ≡ isRun (bytePiece s i)
+    by-test true e = ap isRun (byte-skipped s i b q (eqb-true b 10 e))
+    by-test false e = by-blank (eqb-false b 10 e) (eqb b 9 || (eqb b 13 || eqb b 32)) refl
 
 -- A byte that is not special goes on a run.
 pub plain-runs : (s : List ℕ) (i b : ℕ) → b ≡ byteAt s i → special b ≡ false → isRun (piece s i) ≡ true

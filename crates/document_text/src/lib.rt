@@ -239,20 +239,6 @@ pub fn token_at(s: &[u8], i: usize) -> Token
     byte_at(s, i)
 }
 
-// Whether a token goes on a run of data.
-fn goes_on(t: Token) -> bool
-    ensures { λ r. ⌜ r ≡ isRun (pieceOf t) ⌝ }
-{
-    match t {
-        Token::StartTag(_) => false,
-        Token::EndTag(_) => false,
-        Token::Skipped(_) => false,
-        Token::Blank => true,
-        Token::Data => true,
-        Token::Refused(_) => false,
-    }
-}
-
 // Whether a byte may begin something else than data: `<`, `&`, `]`, or byte 10.
 fn is_special(b: u8) -> bool
     ensures { λ r. ⌜ r ≡ special b ⌝ }
@@ -269,15 +255,70 @@ fn is_special(b: u8) -> bool
     b == 10
 }
 
+// Whether `<!` at i goes on a run of data.
+fn declaration_runs_on(s: &[u8], i: usize) -> bool
+    requires { ⌜ i < length (now s) ⌝ }
+    ensures { λ r. ⌜ r ≡ isRun (declarationPiece (now (s .entry)) i) ⌝ }
+{
+    let b = text::byte(s, i + 2);
+    if b == b'>' {
+        return false;
+    }
+    if dashes_at(s, i) {
+        return false;
+    }
+    !is_left_out(b)
+}
+
+// Whether `<` at i goes on a run of data. No tag is read for this: one ends the run even where it is refused.
+fn markup_runs_on(s: &[u8], i: usize) -> bool
+    requires { ⌜ i < length (now s) ⌝ }
+    ensures { λ r. ⌜ r ≡ isRun (markupPiece (now (s .entry)) i) ⌝ }
+{
+    let b = text::byte(s, i + 1);
+    if text::is_letter(b) {
+        return false;
+    }
+    if is_end_tag(s, i) {
+        return false;
+    }
+    if b == b'!' {
+        return declaration_runs_on(s, i);
+    }
+    b != b'?'
+}
+
 // Whether what stands at i goes on a run of data.
 fn runs_on(s: &[u8], i: usize) -> bool
     requires { ⌜ i < length (now s) ⌝ }
     ensures { λ r. ⌜ r ≡ isRun (piece (now (s .entry)) i) ⌝ }
 {
-    if is_special(text::byte(s, i)) {
-        return goes_on(token_at(s, i));
+    let b = text::byte(s, i);
+    if b == b'<' {
+        return markup_runs_on(s, i);
     }
-    true
+    if is_reference(s, i) {
+        return false;
+    }
+    if is_section_end(s, i) {
+        return false;
+    }
+    b != 10
+}
+
+// The first special byte from `at` on, or the document's length: a run ends at the same place from there.
+fn plain_end(s: &[u8], at: usize) -> usize
+    requires { ⌜ at ≤ length (now s) ⌝ }
+    ensures { λ r. ⌜ (at ≤ r) × (r ≤ length (now (s .entry))) × (runEnd (now (s .entry)) r ≡ runEnd (now (s .entry)) at) ⌝ }
+{
+    let mut i = at;
+    while i < s.len() {
+        if is_special(s[i]) {
+            return i;
+        }
+        i += 1;
+    }
+    i
 }
 
 // Where the run of data that goes on at `at` ends.
@@ -285,12 +326,12 @@ pub fn run_end(s: &[u8], at: usize) -> usize
     requires { ⌜ at ≤ length (now s) ⌝ }
     ensures { λ r. ⌜ r ≡ runEnd (now (s .entry)) at ⌝ }
 {
-    let mut i = at;
+    let mut i = plain_end(s, at);
     while i < s.len() {
         if !runs_on(s, i) {
             return i;
         }
-        i += 1;
+        i = plain_end(s, i + 1);
     }
     i
 }

@@ -2,6 +2,7 @@
 ghost use mathlib.Core.Path.{_≡_};
 ghost use Prim.Native.Nat.{_+_, _≤_, _<_};
 ghost use lib.ListN.{length, drop};
+ghost use lib.Dec.{eqb};
 ghost use Rattle.rules.specs.Bytes.{byteAt, allowed, separator, letter, nameByte, fold, span, nameEnd, separatorsEnd, sameText};
 ghost use Rattle.rules.specs.TypeFile.{atDashes, beforeDashes, beforeClose, commentDeclaration, gap, isWord, isCut};
 ghost use Rattle.text.specs.Means.{reached, faultOf};
@@ -65,7 +66,19 @@ pub fn is_letter(b: u8) -> bool
 pub fn is_name_byte(b: u8) -> bool
     ensures { λ r. ⌜ r ≡ nameByte b ⌝ }
 {
-    is_letter(b) || (48 <= b && b <= 57) || b == 46 || b == 45
+    if 97 <= b {
+        return b <= 122;
+    }
+    if 65 <= b {
+        return b <= 90;
+    }
+    if 48 <= b {
+        return b <= 57;
+    }
+    if b == 46 {
+        return true;
+    }
+    b == 45
 }
 
 // Letters fold to upper case.
@@ -188,6 +201,16 @@ pub fn gap_end(s: &[u8], at: usize) -> Reached
     Reached::At(i)
 }
 
+// Whether two bytes are equal, folded. Most that are, are equal as they stand.
+fn is_same(x: u8, y: u8) -> bool
+    ensures { λ r. ⌜ r ≡ eqb (fold x) (fold y) ⌝ }
+{
+    if x == y {
+        return true;
+    }
+    folded(x) == folded(y)
+}
+
 // Whether n bytes of s from a and n bytes of t from b are equal, folded.
 pub fn same_text(s: &[u8], a: usize, t: &[u8], b: usize, n: usize) -> bool
     requires { ⌜ (a < 4294967296) × (b < 4294967296) × (n < 4294967296) ⌝ }
@@ -195,7 +218,7 @@ pub fn same_text(s: &[u8], a: usize, t: &[u8], b: usize, n: usize) -> bool
 {
     let mut k = 0;
     while k < n {
-        if folded(byte(s, a + k)) != folded(byte(t, b + k)) {
+        if !is_same(byte(s, a + k), byte(t, b + k)) {
             return false;
         }
         k += 1;

@@ -1,11 +1,18 @@
 -- `same_text` meets its contract. The invariant: what is left to compare is the same as the whole was.
-use Prim.Native.Nat.{_+_, _-_}
-use mathlib.Core.Path.{_≡_, sym, ap, _∙_}
+use Prim.Native.Nat.{ℕ, _+_, _-_}
+use mathlib.Core.Bool.{Bool}
+use mathlib.Core.Path.{_≡_, sym, _∙_}
 use native.Mathlib.Omega.{arith}
+use lib.Dec.{eqb}
+use borrow.Author.Tests.{not-true, not-false, eqb-true, eqb-false}
 use Rattle.rules.specs.Bytes.{fold, sameText}
 use Rattle.text.specs.Laws.{sameText-start, sameText-turn, sameText-other, sameText-all}
 use Rattle.text.proofs.same_text.Statement.{statement}
 use Rattle.text.proofs.same_text.Tie as tie
+
+-- What the test of two bytes that were read says.
+is-same-at : {x y b c : ℕ} {r v : Bool} → b ≡ x → c ≡ y → r ≡ eqb (fold b) (fold c) → r ≡ v → eqb (fold x) (fold y) ≡ v
+is-same-at p q e f = cc
 
 abbrev Inv-loop : tie.InvT-loop
 Inv-loop s a t b n k₀ k = sameText s (a + k) t (b + k) (n - k) ≡ sameText s a t b n
@@ -24,26 +31,21 @@ add-byte c = omega arith
 byte-requires : tie.Need-byte-requires Inv-loop μ-loop
 byte-requires c κs = tt
 
-folded-requires : tie.Need-folded-requires Inv-loop μ-loop
-folded-requires c κs = tt
-
 add-byte-2 : tie.Need-add-byte-2 Inv-loop μ-loop
 add-byte-2 c = omega arith
 
 byte-requires-2 : tie.Need-byte-requires-2 Inv-loop μ-loop
 byte-requires-2 c κs = tt
 
-folded-requires-2 : tie.Need-folded-requires-2 Inv-loop μ-loop
-folded-requires-2 c κs = tt
+is-same-requires : tie.Need-is-same-requires Inv-loop μ-loop
+is-same-requires c κs = tt
 
 returns : tie.Need-returns Inv-loop μ-loop
 returns c =
-    let args = c .before .before .before .before .before .before .before .before .before .args in
-    let left = c .before .before .before .folded .ensures ∙ ap fold (c .before .before .before .before .byte .ensures) in
-    let right = c .before .folded2 .ensures ∙ ap fold (c .before .before .byte2 .ensures) in
-    let in-loop = c .before .before .before .before .before in
-    sym (sameText-other (args .s .now) (args .a) (args .t .now) (args .b) _ _ (in-loop .loop-test .taken) (λ e. c .if1 .taken (left ∙ e ∙ sym right)))
-    ∙ in-loop .before .loop .inv
+    let args = c .before .before .before .before .before .before .before .before .args in
+    let in-loop = c .before .before .before .before in
+    let differ = is-same-at (c .before .before .before .byte .ensures) (c .before .before .byte2 .ensures) (c .before .is-same .ensures) (not-true _ (c .if1 .taken)) in
+    sym (sameText-other (args .s .now) (args .a) (args .t .now) (args .b) _ _ (in-loop .loop-test .taken) (eqb-false _ _ differ)) ∙ in-loop .before .loop .inv
 
 add-k : tie.Need-add-k Inv-loop μ-loop
 add-k c = omega arith
@@ -53,12 +55,10 @@ loop-less c = omega arith
 
 loop-again : tie.Need-loop-again Inv-loop μ-loop
 loop-again c =
-    let args = c .before .before .before .before .before .before .before .before .before .args in
-    let left = c .before .before .before .folded .ensures ∙ ap fold (c .before .before .before .before .byte .ensures) in
-    let right = c .before .folded2 .ensures ∙ ap fold (c .before .before .byte2 .ensures) in
-    let in-loop = c .before .before .before .before .before in
-    sameText-turn (args .s .now) (args .a) (args .t .now) (args .b) _ _ (in-loop .loop-test .taken) (sym left ∙ c .if1 .left ∙ right)
-    ∙ in-loop .before .loop .inv
+    let args = c .before .before .before .before .before .before .before .before .args in
+    let in-loop = c .before .before .before .before in
+    let same = is-same-at (c .before .before .before .byte .ensures) (c .before .before .byte2 .ensures) (c .before .is-same .ensures) (not-false _ (c .if1 .left)) in
+    sameText-turn (args .s .now) (args .a) (args .t .now) (args .b) _ _ (in-loop .loop-test .taken) (eqb-true _ _ same) ∙ in-loop .before .loop .inv
 
 returns-2 : tie.Need-returns-2 Inv-loop μ-loop
 returns-2 c =
@@ -74,10 +74,9 @@ same-text-spec =
     loop-holds
     add-byte
     byte-requires
-    folded-requires
     add-byte-2
     byte-requires-2
-    folded-requires-2
+    is-same-requires
     returns
     add-k
     loop-less

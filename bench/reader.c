@@ -1,0 +1,50 @@
+/* reader.c - times the document reader on documents of one type: reader TYPE DOCUMENT.. The best of many calls, the buffer
+ * cleared before each. */
+#include "sgml.h"
+#include <stdio.h>
+#include <string.h>
+#include <time.h>
+
+static uint8_t type[SGML_TYPE_LIMIT + 1], document[65536], buffer[65536 * 5];
+
+static double now(void)
+{
+    struct timespec t;
+    clock_gettime(CLOCK_MONOTONIC, &t);
+    return t.tv_sec * 1e6 + t.tv_nsec / 1e3;
+}
+
+static size_t load(const char *path, uint8_t *to, size_t room)
+{
+    FILE *file = fopen(path, "rb");
+    size_t n = file ? fread(to, 1, room, file) : 0;
+    if (file)
+        fclose(file);
+    return n;
+}
+
+int main(int argc, char **argv)
+{
+    size_t t = argc < 2 ? 0 : load(argv[1], type, sizeof type);
+    int i, k;
+    for (i = 2; i < argc; i++) {
+        uint32_t answer[SGML_ANSWER_NUMBERS];
+        double best = 1e12;
+        size_t d = load(argv[i], document, sizeof document);
+        for (k = 0; k < 300; k++) {
+            double start;
+            memset(buffer, 0, sizeof buffer);
+            start = now();
+            sgml_read(type, t, document, d, buffer, sizeof buffer, answer);
+            start = now() - start;
+            if (start < best)
+                best = start;
+        }
+        if (answer[SGML_NUMBER]) {
+            fprintf(stderr, "%s: refused %u at %u\n", argv[i], (unsigned)answer[SGML_NUMBER], (unsigned)answer[SGML_POSITION]);
+            return 1;
+        }
+        printf("%s %.2f %u\n", argv[i], best, (unsigned)answer[SGML_COUNT]);
+    }
+    return 0;
+}
