@@ -1,6 +1,6 @@
 -- Eight numbers of a model's table as the bits of one.
 use Prim.Native.Nat.{ℕ, zero, suc, _+_, _*_, _/_, _%_, _^_, _≤_, _<_}
-use mathlib.Core.Path.{_≡_, refl, ap, _∙_}
+use mathlib.Core.Path.{_≡_, ap, _∙_}
 use mathlib.Core.Bool.{Bool, true, false, cond}
 use mathlib.Core.List.{List}
 use native.Mathlib.Omega.{arith}
@@ -29,19 +29,17 @@ module _ (a b c d e f g h : ℕ) (a-to : a ≤ 1) (b-to : b ≤ 1) (c-to : c ≤
   weighed : Bit 0 a × Bit 1 b × Bit 2 c × Bit 3 d × Bit 4 e × Bit 5 f × Bit 6 g × Bit 7 h
   weighed = omega arith
 
-flag-most : (b : Bool) → cond b 1 0 ≤ 1
+-- A flag, 1 or 0.
+pub flag-most : (b : Bool) → cond b 1 0 ≤ 1
 flag-most true = omega arith
 flag-most false = omega arith
 
-flag-is : (b : Bool) → eqb (cond b 1 0) 1 ≡ b
-flag-is true = refl
-flag-is false = refl
+pub flag-is : (b : Bool) (x : ℕ) → x ≡ cond b 1 0 → eqb x 1 ≡ b
+flag-is true x q = rw q
+flag-is false x q = rw q
 
 pub cell-most : (T : List ℕ) (i : ℕ) → cellOf T i ≤ 1
 cell-most T i = flag-most (eqb (getD T i 0) 1)
-
-cell-is : (T : List ℕ) (i x : ℕ) → x ≡ cellOf T i → eqb x 1 ≡ eqb (getD T i 0) 1
-cell-is T i x q = ap (λ (y : ℕ). eqb y 1) q ∙ flag-is (eqb (getD T i 0) 1)
 
 module _ (T : List ℕ) (i : ℕ) where
   most : (k : ℕ) → cellOf T (i + k) ≤ 1
@@ -68,11 +66,11 @@ module _ (T : List ℕ) (i : ℕ) where
       by-place k h (rw z (weighed _ _ _ _ _ _ _ _ (cell-most T i) (most 1) (most 2) (most 3) (most 4) (most 5) (most 6) (most 7)))
 
   pub packed-bit : (k : ℕ) → k < 8 → bitOf (packedOf T i) k ≡ eqb (getD T (i + k) 0) 1
-  packed-bit k h = cell-is T (i + k) _ (bit-in k h)
+  packed-bit k h = flag-is (eqb (getD T (i + k) 0) 1) _ (bit-in k h)
 
 -- Bit 0, and the one bit of a number that is no more.
 pub lowest-bit : (x : ℕ) → eqb (x % 2) 1 ≡ bitOf x 0
 lowest-bit x = let e : x % 2 ≡ x / 2 ^ 0 % 2 = omega arith in ap (λ (y : ℕ). eqb y 1) e
 
 pub single-bit : (T : List ℕ) (i x : ℕ) → x ≡ cellOf T i → bitOf x 0 ≡ eqb (getD T i 0) 1
-single-bit T i x q = let e : x / 2 ^ 0 % 2 ≡ x = omega (arith, cell-most T i) in cell-is T i _ (e ∙ q)
+single-bit T i x q = let e : x / 2 ^ 0 % 2 ≡ x = omega (arith, cell-most T i) in flag-is (eqb (getD T i 0) 1) _ (e ∙ q)

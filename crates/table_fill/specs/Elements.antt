@@ -1,7 +1,6 @@
 -- One element of an indexed type: what its record and its declaration, read again, put into the tables.
 use Prim.Native.Nat.{ℕ, zero, suc, _+_, _-_, _*_, _≤_, _<_}
 use mathlib.Core.Path.{_≡_, refl, subst, _∙_}
-use mathlib.Core.Bool.{cond}
 use mathlib.Core.List.{List, [], _∷_}
 use native.Mathlib.Nat.{not-suc-le-zero, le-of-suc-le-suc}
 use native.Mathlib.Omega.{arith}
@@ -23,6 +22,7 @@ use Rattle.type_laws.specs.Again.{typeFile-sizes}
 use Rattle.type_laws.specs.Width.{typeFile-content}
 use Rattle.element_index.specs.Means.{Indexed}
 use Rattle.type_tables.specs.Means.{rowAt}
+use Rattle.table_fill.specs.Bits.{flag-most}
 use Rattle.table_fill.specs.Rows.{RowsPut}
 use Rattle.table_fill.specs.Places.{PlacesPut, places-none}
 use Rattle.table_fill.specs.Filled.{Filled, RowsFor, TagsPut, filled-more}
@@ -48,10 +48,6 @@ pub record ElementDue (s : List ℕ) (es : List Element) (elements index rows pl
   pub to : e ≤ length es
   pub filled : Filled s es rows places facts e
 
-flag-most : (c : Content) → cond (hasModel c) 1 0 ≤ 1
-flag-most empty = omega arith
-flag-most (model g ps n) = omega arith
-
 short-at : (s : List ℕ) (ps : List Place) → All (PlaceIn s) ps → (k : ℕ) → k < length ps → placeAt ps k .size ≤ 8
 unfolding placeAt
 short-at s [] w k h = absurd (not-suc-le-zero h)
@@ -76,7 +72,7 @@ module _ (s : List ℕ) (es : List Element) (elements index R P F : List ℕ) (e
       record {
         start = omega (arith, recorded-start elements es (due .indexed .recorded) k k-in);
         end = omega (arith, recorded-end elements es (due .indexed .recorded) k k-in);
-        kind = omega (arith, recorded-kind elements es (due .indexed .recorded) k k-in, flag-most (elementAt es k .content));
+        kind = omega (arith, recorded-kind elements es (due .indexed .recorded) k k-in, flag-most (hasModel (elementAt es k .content)));
       }
 
   -- Where the name stands, and how long the type file is.
@@ -85,37 +81,31 @@ module _ (s : List ℕ) (es : List Element) (elements index R P F : List ℕ) (e
       let (a, b, c, d, f) = typeFile-sizes s es (due .indexed .accepted .elements) k k-in in
       (omega (arith, recorded-name elements es (due .indexed .recorded) k k-in), due .indexed .accepted .legible .short, omega (arith, few))
 
-  abbrev a₀ : ℕ
-  a₀ = getD elements (6 * (e - 1) + 2) 0
-
-  abbrev a₁ : ℕ
-  a₁ = getD elements (6 * (e - 1) + 3) 0
-
-  abbrev a₂ : ℕ
-  a₂ = getD elements (6 * (e - 1) + 4) 0
-
   tags-put : TagsPut (elementAt es k) (contentOf es e) e F (factsPut F elements e)
   tags-put =
-      let m = few in
+      let most : e ≤ 64 = few in
       let r = due .indexed .recorded in
       let x : ℕ = e * 68 + 65 in
       let y : ℕ = e * 68 + 66 in
       let z : ℕ = e * 68 + 67 in
-      let F₁ : List ℕ = set F x a₀ in
-      let F₂ : List ℕ = set F₁ y a₁ in
+      let a : ℕ = getD elements (6 * (e - 1) + 2) 0 in
+      let b : ℕ = getD elements (6 * (e - 1) + 3) 0 in
+      let c : ℕ = getD elements (6 * (e - 1) + 4) 0 in
+      let F₁ : List ℕ = set F x a in
+      let F₂ : List ℕ = set F₁ y b in
       let l : length F ≡ 4420 = due .filled .facts-len in
-      let l₁ : length F₁ ≡ 4420 = length-set F x a₀ ∙ l in
-      let l₂ : length F₂ ≡ 4420 = length-set F₁ y a₁ ∙ l₁ in
-      let else : (j : ℕ) → (j ≡ x → ⊥) → (j ≡ y → ⊥) → (j ≡ z → ⊥) → getD (set F₂ z a₂) j 0 ≡ getD F j 0 =
-      λ j p q r. getD-set-other F₂ z j a₂ 0 r ∙ getD-set-other F₁ y j a₁ 0 q ∙ getD-set-other F x j a₀ 0 p in
+      let l₁ : length F₁ ≡ 4420 = length-set F x a ∙ l in
+      let l₂ : length F₂ ≡ 4420 = length-set F₁ y b ∙ l₁ in
+      let else : (j : ℕ) → (j ≡ x → ⊥) → (j ≡ y → ⊥) → (j ≡ z → ⊥) → getD (set F₂ z c) j 0 ≡ getD F j 0 =
+      λ j p q r. getD-set-other F₂ z j c 0 r ∙ getD-set-other F₁ y j b 0 q ∙ getD-set-other F x j a 0 p in
       record {
-        len = length-set F₂ z a₂ ∙ l₂;
+        len = length-set F₂ z c ∙ l₂;
         under = λ j h. else j (omega arith) (omega arith) (omega arith);
         over = λ j h. else j (omega arith) (omega arith) (omega arith);
         tags = λ h. record {
-          start = getD-set-other F₂ z x a₂ 0 (omega arith) ∙ getD-set-other F₁ y x a₁ 0 (omega arith) ∙ getD-set-same F x a₀ 0 (omega arith) ∙ recorded-start elements es r k k-in;
-          end = getD-set-other F₂ z y a₂ 0 (omega arith) ∙ getD-set-same F₁ y a₁ 0 (omega arith) ∙ recorded-end elements es r k k-in;
-          has = rw (content-at es e (due .from)) (getD-set-same F₂ z a₂ 0 (omega arith) ∙ recorded-kind elements es r k k-in);
+          start = getD-set-other F₂ z x c 0 (omega arith) ∙ getD-set-other F₁ y x b 0 (omega arith) ∙ getD-set-same F x a 0 (omega arith) ∙ recorded-start elements es r k k-in;
+          end = getD-set-other F₂ z y c 0 (omega arith) ∙ getD-set-same F₁ y b 0 (omega arith) ∙ recorded-end elements es r k k-in;
+          has = rw (content-at es e (due .from)) (getD-set-same F₂ z c 0 (omega arith) ∙ recorded-kind elements es r k k-in);
         };
       }
 

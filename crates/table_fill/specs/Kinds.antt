@@ -153,6 +153,17 @@ module _ (T : List ℕ) (l : length T ≡ 88270) (zeros : (k : ℕ) → getD T k
       by-row (suc zero) h = after-it
       by-row (suc (suc u)) h = absurd (omega arith)
 
+-- The tables before anything is put.
+
+abbrev pub noRows : List ℕ
+noRows = replicate 88270 0
+
+abbrev pub noPlaces : List ℕ
+noPlaces = replicate 12610 0
+
+abbrev pub noFacts : List ℕ
+noFacts = replicate 4420 0
+
 zeros-in : (n k : ℕ) → _≡_ {A = ℕ} (getD (replicate n 0) k 0) 0
 zeros-in zero k = refl
 zeros-in (suc n) zero = refl
@@ -169,7 +180,7 @@ module _ (s : List ℕ) (es : List Element) (read : typeFile s ≡ got es) where
       let i = isNamed-join s x s (x .at) (x .size) refl (sameText-refl s (x .at) (x .size)) in
       rw (ne-eqb (x .size) 0 (λ z. omega (arith, n .some))) (sym (typeFile-distinct s es read 0 h s (x .at) (x .size) i))
 
-  filled-none : Filled s es (replicate 88270 0) (replicate 12610 0) (replicate 4420 0) 0
+  filled-none : Filled s es noRows noPlaces noFacts 0
   filled-none =
       record {
         rows-len = length-replicate {A = ℕ} 88270 0;
@@ -180,13 +191,12 @@ module _ (s : List ℕ) (es : List Element) (read : typeFile s ≡ got es) where
         says = λ e h. absurd (omega arith);
       }
 
-  pub filled-document : (P F : List ℕ) → PlacePut 0 1 1 (replicate 12610 0) (replicate 4420 0) P F → Filled s es (documentRows (replicate 88270 0)) P F 1
+  pub filled-document : (P F : List ℕ) → PlacePut 0 1 1 noPlaces noFacts P F → Filled s es (documentRows noRows) P F 1
   filled-document P F w =
       let h = filled-none in
       let ps = placesIn (contentOf es 0) in
-      filled-more s es read 0 (replicate 88270 0) (replicate 12610 0) (replicate 4420 0) h
-      (documentRows (replicate 88270 0)) (replicate 4420 0) P F
-      (rows-document (replicate 88270 0) (h .rows-len) (λ k. zeros-in 88270 k) ps refl)
+      filled-more s es read 0 noRows noPlaces noFacts h (documentRows noRows) noFacts P F
+      (rows-document noRows (h .rows-len) (λ k. zeros-in 88270 k) ps refl)
       (record { len = h .facts-len; under = λ k l. refl; over = λ k l. refl; tags = λ l. absurd (omega arith) })
-      (places-more s es read ps 0 (replicate 12610 0) (replicate 4420 0) (replicate 12610 0) (replicate 4420 0) 1 (omega arith) (omega arith)
-      (places-none s es read ps 0 (replicate 12610 0) (replicate 4420 0) (h .places-len) (h .facts-len) (λ k a b. zeros-in 4420 k)) 1 document-names P F w)
+      (places-more s es read ps 0 noPlaces noFacts noPlaces noFacts 1 (omega arith) (omega arith)
+      (places-none s es read ps 0 noPlaces noFacts (h .places-len) (h .facts-len) (λ k a b. zeros-in 4420 k)) 1 document-names P F w)

@@ -2,7 +2,7 @@
 use Prim.Native.Nat.{ℕ, _+_}
 use mathlib.Core.Path.{_≡_, subst}
 use mathlib.Core.List.{List, []}
-use lib.ListN.{length, replicate, length-replicate}
+use lib.ListN.{length, length-replicate}
 use Rattle.rules.specs.Reading.{refused, got}
 use Rattle.rules.specs.TypeFile.{Element, typeFile}
 use Rattle.rules.specs.Judge.{Accepts}
@@ -10,7 +10,7 @@ use Rattle.element_index.specs.Means.{Judged, Indexed, AnyIndexed}
 use Rattle.type_tables.specs.Means.{Tables}
 use Rattle.table_fill.specs.Places.{PlacePut}
 use Rattle.table_fill.specs.Filled.{Filled, filled-all}
-use Rattle.table_fill.specs.Kinds.{documentRows, filled-document}
+use Rattle.table_fill.specs.Kinds.{documentRows, noRows, noPlaces, noFacts, filled-document}
 
 -- The elements of a type file, none where it is refused.
 unfoldable pub elementsOf : List ℕ → List Element
@@ -32,7 +32,7 @@ tables-own s R P F n h q es a = filled-all s es (a .elements) R P F a (rw (own s
 -- The tables at the start
 
 abbrev Blank : (R P F : List ℕ) → Type 0
-Blank R P F = (R ≡ replicate 88270 0) × (P ≡ replicate 12610 0) × (F ≡ replicate 4420 0)
+Blank R P F = (R ≡ noRows) × (P ≡ noPlaces) × (F ≡ noFacts)
 
 pub blank-lengths : {R P F : List ℕ} → Blank R P F → (length P ≡ 12610) × (length F ≡ 4420)
 blank-lengths (a, b, c) = (rw b (length-replicate {A = ℕ} 12610 0), rw c (length-replicate {A = ℕ} 4420 0))

@@ -2,7 +2,6 @@
 use Prim.Native.Nat.{ℕ, zero, suc, _+_, _*_, _/_, _%_, _≤_, _<_}
 use mathlib.Core.Path.{_≡_, refl, ap, _∙_}
 use mathlib.Core.Logic.{⊎-elim}
-use mathlib.Core.Bool.{Bool, true, false, cond}
 use mathlib.Core.List.{List}
 use native.Mathlib.Omega.{arith}
 use lib.ListN.{length, getD, set, length-set}
@@ -19,7 +18,7 @@ use Rattle.model_table.specs.Means.{table-says}
 use Rattle.document_laws.specs.Decide.{isCompleteIn, requiredOf}
 use Rattle.last_places.specs.Last.{placed}
 use Rattle.type_tables.specs.Means.{rowAt, bitOf, nextOf}
-use Rattle.table_fill.specs.Bits.{cellOf, packedOf, packed-bit, lowest-bit, single-bit}
+use Rattle.table_fill.specs.Bits.{cellOf, packedOf, flag-is, packed-bit, lowest-bit, single-bit}
 
 -- What is put
 
@@ -124,10 +123,6 @@ row-says-still c e u T S same h =
       complete = ap (λ (x : ℕ). eqb (x % 2) 1) (same (rowAt e u) (omega arith) (omega arith)) ∙ h .complete;
       required = same (rowAt e u + 13) (omega arith) (omega arith) ∙ h .required;
     }
-
-flag-is : (b : Bool) (x : ℕ) → x ≡ cond b 1 0 → eqb x 1 ≡ b
-flag-is true x q = rw q
-flag-is false x q = rw q
 
 module _ (table : List ℕ) (e u : ℕ) (S : List ℕ) (h : RowHas table e u S) where
   -- The bit p of the row is the number p of the table's row.
