@@ -1,1 +1,10 @@
--- How the tables of a type are filled.
+-- How the tables of a type are filled, and that they then say what they are to say.
+pub mod Bits
+pub mod Rows
+pub mod Places
+pub mod Filled
+pub mod Kinds
+pub mod Again
+pub mod Names
+pub mod Elements
+pub mod Own

@@ -4,44 +4,58 @@
 use element_reader::ElementRead;
 ghost use mathlib.Core.Path.{_≡_};
 ghost use mathlib.Core.List.{List};
-ghost use Prim.Native.Nat.{_+_, _*_, _≤_};
-ghost use lib.ListN.{length, replicate};
+ghost use Prim.Native.Nat.{_+_, _-_, _*_, _≤_, _<_};
+ghost use lib.ListN.{length, replicate, getD};
 ghost use Rattle.rules.specs.TypeFile.{Element};
 ghost use Rattle.rules.specs.Judge.{Accepts};
+ghost use Rattle.model_names.specs.Places.{placeIn, placesOf};
 ghost use Rattle.element_reader.specs.Means.{Recorded};
 ghost use Rattle.element_index.specs.Means.{Judged, Indexed, AnyIndexed};
-ghost use Rattle.type_tables.specs.Means.{Tables};
+ghost use Rattle.type_tables.specs.Means.{rowAt, Tables};
+ghost use Rattle.table_fill.specs.Bits.{cellOf, packedOf};
+ghost use Rattle.table_fill.specs.Rows.{RowPut, RowsPut};
+ghost use Rattle.table_fill.specs.Places.{slotOf, PlacePut, PlacesPut};
+ghost use Rattle.table_fill.specs.Filled.{Filled};
+ghost use Rattle.table_fill.specs.Kinds.{documentRows};
+ghost use Rattle.table_fill.specs.Names.{nameOf, PlacesDue};
+ghost use Rattle.table_fill.specs.Own.{elementsOf};
+ghost use Rattle.table_fill.specs.Elements.{factsPut, Flags, ElementDue};
 
-fn widened(x: u32) -> usize {
+fn widened(x: u32) -> usize
+    ensures { λ r. ⌜ (r ≡ x) × (r < 4294967296) ⌝ }
+{
     x as usize
 }
 
 // Where the name of the element k stands in the type file.
-fn offset(elements: &[u32; 384], k: usize) -> usize {
+fn offset(elements: &[u32; 384], k: usize) -> usize
+    requires { ⌜ (1 ≤ k) × (k ≤ 64) ⌝ }
+    ensures { λ r. ⌜ r ≡ getD (now (elements .entry)) (6 * (k - 1)) 0 ⌝ }
+{
     widened(elements[6 * (k - 1)])
 }
 
 // Where the row of the element e after the place u begins.
-fn row(e: usize, u: usize) -> usize {
+fn row(e: usize, u: usize) -> usize
+    requires { ⌜ (e ≤ 64) × (u ≤ 96) ⌝ }
+    ensures { λ r. ⌜ r ≡ rowAt e u ⌝ }
+{
     (e * 97 + u) * 14
 }
 
-// The document: its one place is the document element, required at the start.
-fn put_document(rows: &mut [u8; 88270], places: &mut [u8; 12610], facts: &mut [u8; 4420]) {
-    rows[0] = 2;
-    rows[13] = 1;
-    rows[14] = 1;
-    places[2] = 1;
-    facts[1] = 1;
-}
-
 // Whether a number of a model's table is 1, as 1 or 0.
-fn cell(table: &[u8; 9506], i: usize) -> u8 {
+fn cell(table: &[u8; 9506], i: usize) -> u8
+    requires { ⌜ i < 9506 ⌝ }
+    ensures { λ r. ⌜ (r ≡ cellOf (now (table .entry)) i) × (r ≤ 1) ⌝ }
+{
     if table[i] == 1 { 1 } else { 0 }
 }
 
 // Eight numbers of a model's table as bits, the first the lowest.
-fn packed(table: &[u8; 9506], i: usize) -> u8 {
+fn packed(table: &[u8; 9506], i: usize) -> u8
+    requires { ⌜ i + 8 ≤ 9506 ⌝ }
+    ensures { λ r. ⌜ r ≡ packedOf (now (table .entry)) i ⌝ }
+{
     cell(table, i)
         + cell(table, i + 1) * 2
         + cell(table, i + 2) * 4
@@ -53,7 +67,10 @@ fn packed(table: &[u8; 9506], i: usize) -> u8 {
 }
 
 // The row of the element e after the place u.
-fn put_row(rows: &mut [u8; 88270], e: usize, table: &[u8; 9506], u: usize) {
+fn put_row(rows: &mut [u8; 88270], e: usize, table: &[u8; 9506], u: usize)
+    requires { ⌜ (e ≤ 64) × (u ≤ 96) × (length (now rows) ≡ 88270) ⌝ }
+    ensures { λ _. ⌜ RowPut (now (table .entry)) e u (now (rows .entry)) (now (rows .exit)) ⌝ }
+{
     let r = row(e, u);
     let mut j = 0;
     while j < 12 {
@@ -61,10 +78,15 @@ fn put_row(rows: &mut [u8; 88270], e: usize, table: &[u8; 9506], u: usize) {
         j += 1;
     }
     rows[r + 12] = cell(table, u * 98 + 96);
-    rows[r + 13] = table[u * 98 + 97];
+    let required = table[u * 98 + 97];
+    rows[r + 13] = required;
 }
 
-fn put_rows(rows: &mut [u8; 88270], e: usize, table: &[u8; 9506], count: usize) {
+// The rows of the element e, whose model has `count` places.
+fn put_rows(rows: &mut [u8; 88270], e: usize, table: &[u8; 9506], count: usize)
+    requires { ⌜ (e ≤ 64) × (count ≤ 96) × (length (now rows) ≡ 88270) ⌝ }
+    ensures { λ _. ⌜ RowsPut (now (table .entry)) e (now (rows .entry)) (now (rows .exit)) (count + 1) ⌝ }
+{
     let mut u = 0;
     while u <= count {
         put_row(rows, e, table, u);
@@ -72,38 +94,56 @@ fn put_rows(rows: &mut [u8; 88270], e: usize, table: &[u8; 9506], count: usize) 
     }
 }
 
-// The place p of the element e has the name x: it comes before those of that name that are there.
-fn put_same(places: &mut [u8; 12610], facts: &mut [u8; 4420], e: usize, p: usize, x: usize) {
-    let f = e * 68 + x;
-    places[(e * 97 + p) * 2 + 1] = facts[f];
+// By which number a place that names v is filed: that of the element, 0 for `#PCDATA`.
+fn slot(v: usize) -> usize
+    ensures { λ r. ⌜ r ≡ slotOf v ⌝ }
+{
+    if v == 255 { 0 } else { v }
+}
+
+// The place p of the element e names v: it comes before those of that name that are there.
+fn put_place(places: &mut [u8; 12610], facts: &mut [u8; 4420], e: usize, p: usize, v: usize)
+    requires { ⌜ (e ≤ 64) × (p ≤ 96) × (v ≤ 255) × (slotOf v ≤ 64) × (length (now places) ≡ 12610) × (length (now facts) ≡ 4420) ⌝ }
+    ensures { λ _. ⌜ PlacePut e p v (now (places .entry)) (now (facts .entry)) (now (places .exit)) (now (facts .exit)) ⌝ }
+{
+    let q = (e * 97 + p) * 2;
+    places[q] = v as u8;
+    if v == 0 {
+        return;
+    }
+    let f = e * 68 + slot(v);
+    let earlier = facts[f];
+    places[q + 1] = earlier;
     facts[f] = p as u8;
 }
 
-// What the place p of the element e names, where the model's names are in `names`.
-fn put_place(
-    s: &[u8],
-    elements: &[u32; 384],
-    index: &[u8; 321],
-    places: &mut [u8; 12610],
-    facts: &mut [u8; 4420],
-    e: usize,
-    names: &[u32; 192],
-    p: usize,
-) {
-    let size = widened(names[2 * (p - 1) + 1]);
-    if size == 0 {
-        places[(e * 97 + p) * 2] = 255;
-        put_same(places, facts, e, p, 0);
-        return;
-    }
-    let k = element_index::find(s, elements, index, s, model_names::place_at(names, p), size);
-    if k == 0 {
-        return;
-    }
-    places[(e * 97 + p) * 2] = k as u8;
-    put_same(places, facts, e, p, k);
+// The document: its one place is the document element, required at the start.
+fn put_document(rows: &mut [u8; 88270], places: &mut [u8; 12610], facts: &mut [u8; 4420])
+    requires { ⌜ (length (now places) ≡ 12610) × (length (now facts) ≡ 4420) ⌝ }
+    ensures { λ _. ⌜ (now (rows .exit) ≡ documentRows (now (rows .entry)))
+        × PlacePut 0 1 1 (now (places .entry)) (now (facts .entry)) (now (places .exit)) (now (facts .exit)) ⌝ }
+{
+    rows[0] = 2;
+    rows[13] = 1;
+    rows[14] = 1;
+    put_place(places, facts, 0, 1, 1);
 }
 
+// What the place p of the model whose names are in `names` names: an element, 255 for `#PCDATA`, 0 if that is not declared.
+fn name(s: &[u8], elements: &[u32; 384], index: &[u8; 321], names: &[u32; 192], p: usize) -> usize
+    requires { ⌜ Indexed (now s) (elementsOf (now s)) (now elements) (now index) ⌝ }
+    requires { ⌜ (1 ≤ p) × (p ≤ 96) × (placeIn (now names) (p - 1) .size ≤ 8) ⌝ }
+    ensures { λ r. ⌜ r ≡ nameOf (now (s .entry)) (elementsOf (now (s .entry))) (placeIn (now (names .entry)) (p - 1)) ⌝ }
+{
+    let size = widened(names[2 * (p - 1) + 1]);
+    if size == 0 {
+        return 255;
+    }
+    let at = model_names::place_at(names, p);
+    element_index::find(s, elements, index, s, at, size)
+}
+
+// The places of the element e, whose model has `count` places with their names in `names`.
 fn put_places(
     s: &[u8],
     elements: &[u32; 384],
@@ -113,16 +153,24 @@ fn put_places(
     e: usize,
     names: &[u32; 192],
     count: usize,
-) {
+)
+    requires { ⌜ PlacesDue (now s) (elementsOf (now s)) (now elements) (now index) (now names) (now places) (now facts) e count ⌝ }
+    ensures { λ _. ⌜ PlacesPut (now (s .entry)) (elementsOf (now (s .entry))) (placesOf (now (names .entry)) count) e
+        (now (places .entry)) (now (facts .entry)) (now (places .exit)) (now (facts .exit)) (count + 1) ⌝ }
+{
     let mut p = 1;
     while p <= count {
-        put_place(s, elements, index, places, facts, e, names, p);
+        let v = name(s, elements, index, names, p);
+        put_place(places, facts, e, p, v);
         p += 1;
     }
 }
 
 // Both omissions and the content of the element e.
-fn put_facts(facts: &mut [u8; 4420], elements: &[u32; 384], e: usize) {
+fn put_facts(facts: &mut [u8; 4420], elements: &[u32; 384], e: usize)
+    requires { ⌜ (1 ≤ e) × (e ≤ 64) × Flags (now elements) e ⌝ }
+    ensures { λ _. ⌜ now (facts .exit) ≡ factsPut (now (facts .entry)) (now (elements .entry)) e ⌝ }
+{
     let k = 6 * (e - 1);
     facts[e * 68 + 65] = elements[k + 2] as u8;
     facts[e * 68 + 66] = elements[k + 3] as u8;
@@ -140,7 +188,10 @@ fn put_element(
     e: usize,
     names: &mut [u32; 192],
     table: &mut [u8; 9506],
-) {
+)
+    requires { ⌜ ElementDue (now s) (elementsOf (now s)) (now elements) (now index) (now rows) (now places) (now facts) e ⌝ }
+    ensures { λ _. ⌜ Filled (now (s .entry)) (elementsOf (now (s .entry))) (now (rows .exit)) (now (places .exit)) (now (facts .exit)) (e + 1) ⌝ }
+{
     put_facts(facts, elements, e);
     let r = element_reader::element_at(s, offset(elements, e), elements, e - 1, names, table);
     let ElementRead::Read(d) = r else {

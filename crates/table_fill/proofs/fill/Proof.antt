@@ -1,0 +1,62 @@
+-- `fill` meets its contract. The invariant: the tables are filled up to the element `e`.
+use Prim.Native.Nat.{_+_, _-_, _≤_}
+use native.Mathlib.Omega.{arith}
+use Rattle.table_fill.specs.Filled.{Filled}
+use Rattle.table_fill.specs.Own.{elementsOf, indexed-own, counted-own, tables-own, blank-lengths, filled-own}
+use Rattle.table_fill.proofs.fill.Statement.{statement}
+use Rattle.table_fill.proofs.fill.Tie as tie
+
+abbrev Inv-loop : tie.InvT-loop
+Inv-loop s elements count index rows₀ places₀ facts₀ names₀ table₀ e₀ rows places facts names table e =
+    (1 ≤ e) × (e ≤ count + 1) × Filled s (elementsOf s) rows places facts e
+
+abbrev μ-loop : tie.MeasureT-loop
+μ-loop s elements count index rows₀ places₀ facts₀ names₀ table₀ e₀ rows places facts names table e =
+    count + 1 - e
+
+put-document-requires : tie.Need-put-document-requires Inv-loop μ-loop
+put-document-requires c κs = blank-lengths (c .before .before .before .before .pre .1 .1)
+
+loop-holds : tie.Need-loop-holds Inv-loop μ-loop
+loop-holds c =
+    let pre = c .before .before .before .before .before .pre in
+    (omega arith, omega arith, filled-own _ _ _ _ _ _ _ _ _ (pre .1 .0) (pre .1 .1) (c .put-document .ensures .0) (c .put-document .ensures .1))
+
+put-element-requires : tie.Need-put-element-requires Inv-loop μ-loop
+put-element-requires c κs =
+    let turn = c .before .before .before .before .before .before in
+    let pre = turn .before .before .before .before .before .before .pre in
+    record { indexed = indexed-own _ _ _ (pre .1 .0); from = turn .loop .inv .0; to = omega (arith, counted-own _ _ _ (pre .0)); filled = turn .loop .inv .2 }
+
+add-e : tie.Need-add-e Inv-loop μ-loop
+add-e c =
+    let pre = c .before .before .before .before .before .before .before .before .before .before .before .before .before .pre in
+    let few = indexed-own _ _ _ (pre .1 .0) .few in
+    let counted = counted-own _ _ _ (pre .0) in
+    omega arith
+
+loop-less : tie.Need-loop-less Inv-loop μ-loop
+loop-less c = omega arith
+
+loop-again : tie.Need-loop-again Inv-loop μ-loop
+loop-again c = (omega arith, omega arith, c .put-element .ensures)
+
+returns : tie.Need-returns Inv-loop μ-loop
+returns c es a n r =
+    let pre = c .before .before .before .before .before .before .before .pre in
+    let counted = counted-own _ _ _ (pre .0) in
+    tables-own _ _ _ _ _ (c .before .loop .inv .2) (omega arith) es a
+
+pub fill-spec : {M : Type 1} → statement M
+fill-spec =
+    tie.close
+    (tie.spec
+    Inv-loop
+    μ-loop
+    put-document-requires
+    loop-holds
+    put-element-requires
+    add-e
+    loop-less
+    loop-again
+    returns)

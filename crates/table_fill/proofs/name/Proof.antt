@@ -1,0 +1,55 @@
+-- `name` meets its contract: what the place holds is `#PCDATA`, or a name that is looked up.
+use Rattle.table_fill.specs.Names.{name-some}
+use mathlib.Core.Path.{sym, _∙_}
+use borrow.Author.Tests.{eq-eqb}
+use borrow.Author.Needs.{needs}
+use Rattle.table_fill.proofs.name.Statement.{statement}
+use Rattle.table_fill.proofs.name.Tie as tie
+
+sub-widened : tie.Need-sub-widened
+sub-widened c = search needs
+
+mul-widened : tie.Need-mul-widened
+mul-widened c = search needs
+
+add-widened : tie.Need-add-widened
+add-widened c = search needs
+
+mul-widened-2 : tie.Need-mul-widened-2
+mul-widened-2 c = search needs
+
+element-copy-out-widened : tie.Need-element-copy-out-widened
+element-copy-out-widened c = search needs
+
+widened-requires : tie.Need-widened-requires
+widened-requires c κs = search needs
+
+returns : tie.Need-returns
+returns c = simp (eq-eqb _ _ (sym (c .before .widened .ensures .0) ∙ c .if1 .taken))
+
+place-at-requires : tie.Need-place-at-requires
+place-at-requires c κs = search needs
+
+find-requires : tie.Need-find-requires
+find-requires c κs = search needs
+
+returns-2 : tie.Need-returns-2
+returns-2 c =
+    let tested = c .before .before in
+    let start = tested .before .before .before .before in
+    name-some _ _ _ _ _ _ (tested .before .widened .ensures .0) (c .before .place-at .ensures .0) (tested .if1 .left) (c .find .ensures .0 _ (start .pre .0))
+
+pub name-spec : {M : Type 1} → statement M
+name-spec =
+    tie.close
+    (tie.spec
+    sub-widened
+    mul-widened
+    add-widened
+    mul-widened-2
+    element-copy-out-widened
+    widened-requires
+    returns
+    place-at-requires
+    find-requires
+    returns-2)

@@ -1,0 +1,188 @@
+-- One element of an indexed type: what its record and its declaration, read again, put into the tables.
+use Prim.Native.Nat.{ℕ, zero, suc, _+_, _-_, _*_, _≤_, _<_}
+use mathlib.Core.Path.{_≡_, refl, subst, _∙_}
+use mathlib.Core.List.{List, [], _∷_}
+use native.Mathlib.Nat.{not-suc-le-zero, le-of-suc-le-suc}
+use native.Mathlib.Omega.{arith}
+use lib.ListN.{length, getD, set, length-set}
+use lib.Seq.{getD-set-same, getD-set-other}
+use Rattle.rules.specs.Walk.{Group}
+use Rattle.rules.specs.TypeFile.{Place, Content, empty, model, Element, element}
+use Rattle.rules.specs.Judge.{placeAt}
+use Rattle.rules.specs.Settling.{elementAt, contentOf, placesIn, hasModel}
+use Rattle.model_names.specs.Places.{placesOf}
+use Rattle.model_names.specs.Laws.{placeAt-placesOf}
+use Rattle.text.specs.declared.Fault.{Fault}
+use Rattle.element_reader.specs.Means.{Recorded, KeepsModel, KeepsContent, MeetsElement}
+use Rattle.element_reader.specs.declared as declared
+use Rattle.element_reader.specs.declared.ElementRead.{ElementRead}
+use Rattle.element_reader.specs.declared.ElementRead.the-variants as elementRead
+use Rattle.rules_laws.specs.Within.{All, more, PlaceIn, ContentIn}
+use Rattle.type_laws.specs.Again.{typeFile-sizes}
+use Rattle.type_laws.specs.Width.{typeFile-content}
+use Rattle.element_index.specs.Means.{Indexed}
+use Rattle.type_tables.specs.Means.{rowAt}
+use Rattle.table_fill.specs.Bits.{flag-most}
+use Rattle.table_fill.specs.Rows.{RowsPut}
+use Rattle.table_fill.specs.Places.{PlacesPut, places-none}
+use Rattle.table_fill.specs.Filled.{Filled, RowsFor, TagsPut, filled-more}
+use Rattle.table_fill.specs.Kinds.{rows-model, rows-empty}
+use Rattle.table_fill.specs.Again.{ReadsAs, recorded-name, recorded-start, recorded-end, recorded-kind, content-at, reads-again}
+use Rattle.table_fill.specs.Names.{NamesShort, PlacesDue}
+
+-- Both omissions and the content, from the record of the element e.
+abbrev pub factsPut : (F elements : List ℕ) → ℕ → List ℕ
+factsPut F elements e =
+    set (set (set F (e * 68 + 65) (getD elements (6 * (e - 1) + 2) 0)) (e * 68 + 66) (getD elements (6 * (e - 1) + 3) 0)) (e * 68 + 67) (getD elements (6 * (e - 1) + 4) 0)
+
+-- The three numbers are 0 or 1.
+pub record Flags (elements : List ℕ) (e : ℕ) : Type 0 where
+  pub start : getD elements (6 * (e - 1) + 2) 0 ≤ 1
+  pub end : getD elements (6 * (e - 1) + 3) 0 ≤ 1
+  pub kind : getD elements (6 * (e - 1) + 4) 0 ≤ 1
+
+-- What is asked for the element e to be put: the type is indexed, and the tables are filled up to e.
+pub record ElementDue (s : List ℕ) (es : List Element) (elements index rows places facts : List ℕ) (e : ℕ) : Type 0 where
+  pub indexed : Indexed s es elements index
+  pub from : 1 ≤ e
+  pub to : e ≤ length es
+  pub filled : Filled s es rows places facts e
+
+short-at : (s : List ℕ) (ps : List Place) → All (PlaceIn s) ps → (k : ℕ) → k < length ps → placeAt ps k .size ≤ 8
+unfolding placeAt
+short-at s [] w k h = absurd (not-suc-le-zero h)
+short-at s (x ∷ ps) (more p w) zero h = p .short
+short-at s (x ∷ ps) (more p w) (suc k) h = short-at s ps w k (le-of-suc-le-suc h)
+
+module _ (s : List ℕ) (es : List Element) (elements index R P F : List ℕ) (e : ℕ) (due : ElementDue s es elements index R P F e) where
+  abbrev k : ℕ
+  k = e - 1
+
+  k-in : k < length es
+  k-in = let a = due .from in let b = due .to in omega arith
+
+  pub few : e ≤ 64
+  few = omega (arith, due .to, due .indexed .few)
+
+  -- The record
+
+  pub flags : Flags elements e
+  flags =
+      let (a, b, c, d, f) = typeFile-sizes s es (due .indexed .accepted .elements) k k-in in
+      record {
+        start = omega (arith, recorded-start elements es (due .indexed .recorded) k k-in);
+        end = omega (arith, recorded-end elements es (due .indexed .recorded) k k-in);
+        kind = omega (arith, recorded-kind elements es (due .indexed .recorded) k k-in, flag-most (hasModel (elementAt es k .content)));
+      }
+
+  -- Where the name stands, and how long the type file is.
+  pub name-in : (at : ℕ) → at ≡ getD elements (6 * (e - 1)) 0 → (at ≤ length s) × (length s ≤ 32768) × (e - 1 ≤ 64)
+  name-in at q =
+      let (a, b, c, d, f) = typeFile-sizes s es (due .indexed .accepted .elements) k k-in in
+      (omega (arith, recorded-name elements es (due .indexed .recorded) k k-in), due .indexed .accepted .legible .short, omega (arith, few))
+
+  tags-put : TagsPut (elementAt es k) (contentOf es e) e F (factsPut F elements e)
+  tags-put =
+      let most : e ≤ 64 = few in
+      let r = due .indexed .recorded in
+      let x : ℕ = e * 68 + 65 in
+      let y : ℕ = e * 68 + 66 in
+      let z : ℕ = e * 68 + 67 in
+      let a : ℕ = getD elements (6 * (e - 1) + 2) 0 in
+      let b : ℕ = getD elements (6 * (e - 1) + 3) 0 in
+      let c : ℕ = getD elements (6 * (e - 1) + 4) 0 in
+      let F₁ : List ℕ = set F x a in
+      let F₂ : List ℕ = set F₁ y b in
+      let l : length F ≡ 4420 = due .filled .facts-len in
+      let l₁ : length F₁ ≡ 4420 = length-set F x a ∙ l in
+      let l₂ : length F₂ ≡ 4420 = length-set F₁ y b ∙ l₁ in
+      let else : (j : ℕ) → (j ≡ x → ⊥) → (j ≡ y → ⊥) → (j ≡ z → ⊥) → getD (set F₂ z c) j 0 ≡ getD F j 0 =
+      λ j p q r. getD-set-other F₂ z j c 0 r ∙ getD-set-other F₁ y j b 0 q ∙ getD-set-other F x j a 0 p in
+      record {
+        len = length-set F₂ z c ∙ l₂;
+        under = λ j h. else j (omega arith) (omega arith) (omega arith);
+        over = λ j h. else j (omega arith) (omega arith) (omega arith);
+        tags = λ h. record {
+          start = getD-set-other F₂ z x c 0 (omega arith) ∙ getD-set-other F₁ y x b 0 (omega arith) ∙ getD-set-same F x a 0 (omega arith) ∙ recorded-start elements es r k k-in;
+          end = getD-set-other F₂ z y c 0 (omega arith) ∙ getD-set-same F₁ y b 0 (omega arith) ∙ recorded-end elements es r k k-in;
+          has = rw (content-at es e (due .from)) (getD-set-same F₂ z c 0 (omega arith) ∙ recorded-kind elements es r k k-in);
+        };
+      }
+
+  -- The declaration, read again
+
+  module _ (names table : List ℕ) (at : ℕ) (x : ElementRead) (stands : at ≡ getD elements (6 * (e - 1)) 0)
+      (met : (fs : List Element) → length fs ≡ e - 1 → Recorded elements fs → MeetsElement (length s) at names table fs x (element s at fs)) where
+    again : ReadsAs names table (contentOf es e) x
+    again = reads-again s elements es (due .indexed .accepted .elements) (due .indexed .recorded) e (due .from) (due .to) names table at x stands met
+
+    pub not-refused : (f : Fault) → x ≡ elementRead.Refused f → ⊥
+    not-refused f q = rw q at again
+
+    module _ (d : declared.Element.Element) (is : x ≡ elementRead.Read d) where
+      keeps : KeepsContent names table (d .kind) (d .tokens) (d .places) (contentOf es e)
+      keeps = rw is at again
+
+      pub places-few : (d .kind ≡ 0 → ⊥) → d .places ≤ 96
+      places-few z = by-content (contentOf es e) keeps
+        where
+          by-content : (c : Content) → KeepsContent names table (d .kind) (d .tokens) (d .places) c → d .places ≤ 96
+          by-content empty w = absurd (z (w .0))
+          by-content (model g ps n) w = w .3 .places-in
+
+      names-short : (d .kind ≡ 0 → ⊥) → NamesShort names (d .places)
+      names-short z = by-content (contentOf es e) keeps (typeFile-content s es (due .indexed .accepted .elements) e)
+        where
+          by-content : (c : Content) → KeepsContent names table (d .kind) (d .tokens) (d .places) c → ContentIn s c → NamesShort names (d .places)
+          by-content empty w y p a b = absurd (z (w .0))
+          by-content (model g ps n) w y p a b =
+              let m = w .3 in
+              subst (λ (x : Place). x .size ≤ 8) (placeAt-placesOf names (d .places) (p - 1) (omega arith))
+              (rw (m .names-hold) (short-at s ps (y .places) (p - 1) (omega (arith, m .counted))))
+
+      -- With the facts of the record put.
+      module _ (G : List ℕ) (put : G ≡ factsPut F elements e) where
+        tags : TagsPut (elementAt es k) (contentOf es e) e F G
+        tags = rw put tags-put
+
+        pub places-due : (d .kind ≡ 0 → ⊥) → PlacesDue s es elements index names P G e (d .places)
+        places-due z =
+            record {
+              indexed = due .indexed;
+              element = few;
+              few = places-few z;
+              short = names-short z;
+              places-len = due .filled .places-len;
+              facts-len = tags .len;
+              blank = λ j a b. tags .under j b ∙ due .filled .facts-rest j a;
+            }
+
+        -- It is EMPTY.
+        is-empty : (c : Content) → KeepsContent names table (d .kind) (d .tokens) (d .places) c → d .kind ≡ 0 → empty ≡ c
+        is-empty empty w z = refl
+        is-empty (model g ps n) w z = absurd (omega (arith, w .0))
+
+        pub element-empty : d .kind ≡ 0 → (i : ℕ) → i ≡ rowAt e 0 → Filled s es (set R i 1) P G (e + 1)
+        element-empty z i at =
+            let h = due .filled in
+            let q = is-empty (contentOf es e) keeps z in
+            rw at (filled-more s es (due .indexed .accepted .elements) e R P F h (set R (rowAt e 0) 1) G P G
+            (subst (λ (c : Content). RowsFor c e R (set R (rowAt e 0) 1)) q (rows-empty e R few (h .rows-len) (h .rows-rest)))
+            tags
+            (subst (λ (c : Content). PlacesPut s es (placesIn c) e P G P G (length (placesIn c) + 1)) q
+            (places-none s es (due .indexed .accepted .elements) [] e P G (h .places-len) (tags .len) (λ j a b. tags .under j b ∙ h .facts-rest j a))))
+
+        -- It is a model.
+        is-model : (c : Content) → KeepsContent names table (d .kind) (d .tokens) (d .places) c → (d .kind ≡ 0 → ⊥)
+            → (g : Group) × (ps : List Place) × (n : ℕ) × (model g ps n ≡ c) × KeepsModel names table (d .places) g ps
+        is-model empty w z = absurd (z (w .0))
+        is-model (model g ps n) w z = (g, ps, n, refl, w .3)
+
+        pub element-model : (d .kind ≡ 0 → ⊥) → (R′ P′ F′ : List ℕ) → RowsPut table e R R′ (d .places + 1) → PlacesPut s es (placesOf names (d .places)) e P G P′ F′ (d .places + 1)
+            → Filled s es R′ P′ F′ (e + 1)
+        element-model z R′ P′ F′ r w =
+            let (g, ps, n, q, m) = is-model (contentOf es e) keeps z in
+            filled-more s es (due .indexed .accepted .elements) e R P F (due .filled) R′ G P′ F′
+            (subst (λ (c : Content). RowsFor c e R R′) q (rows-model g ps n e R R′ (m .numbered) (m .sized ∙ m .counted) (omega arith) (rw (← m .table-filled, ← m .counted) r)))
+            tags
+            (subst (λ (c : Content). PlacesPut s es (placesIn c) e P G P′ F′ (length (placesIn c) + 1)) q (rw (← m .counted, ← m .names-hold) w))

@@ -1,0 +1,51 @@
+-- The names of a model's places, looked up in an indexed type, and the places filed by them.
+use Prim.Native.Nat.{ℕ, _+_, _-_, _*_, _≤_, _<_}
+use mathlib.Core.Path.{_≡_}
+use mathlib.Core.Bool.{cond}
+use mathlib.Core.List.{List}
+use native.Mathlib.Omega.{arith}
+use lib.ListN.{length, getD}
+use lib.Dec.{eqb}
+use borrow.Author.Tests.{ne-eqb}
+use Rattle.rules.specs.TypeFile.{Place, Element}
+use Rattle.rules.specs.Settling.{numberOf}
+use Rattle.model_names.specs.Places.{placeIn, placesOf}
+use Rattle.model_names.specs.Laws.{placeAt-placesOf}
+use Rattle.element_index.specs.Means.{Indexed}
+use Rattle.type_tables.specs.Means.{namedBy}
+use Rattle.table_fill.specs.Places.{slotOf, PlacePut, PlacesPut, named-fits, places-more}
+
+-- What a place names: an element, 255 for `#PCDATA`, 0 if that is not declared.
+abbrev pub nameOf : List ℕ → List Element → Place → ℕ
+nameOf s es x = cond (eqb (x .size) 0) 255 (numberOf s es s (x .at) (x .size))
+
+pub name-some : (s : List ℕ) (es : List Element) (x : Place) (size at v : ℕ) → size ≡ x .size → at ≡ x .at → (size ≡ 0 → ⊥) → v ≡ numberOf s es s at size → v ≡ nameOf s es x
+name-some s es x size at v p q z n = rw (← p, ← q, ne-eqb size 0 z) n
+
+-- No name of the first n places is longer than 8.
+abbrev pub NamesShort : List ℕ → ℕ → Type 0
+NamesShort names n = (p : ℕ) → 1 ≤ p → p ≤ n → placeIn names (p - 1) .size ≤ 8
+
+-- What is asked for the n places of the element e to be filed: their names are short, and no place of e is filed yet.
+pub record PlacesDue (s : List ℕ) (es : List Element) (elements index names places facts : List ℕ) (e n : ℕ) : Type 0 where
+  pub indexed : Indexed s es elements index
+  pub element : e ≤ 64
+  pub few : n ≤ 96
+  pub short : NamesShort names n
+  pub places-len : length places ≡ 12610
+  pub facts-len : length facts ≡ 4420
+  pub blank : (k : ℕ) → e * 68 ≤ k → k < e * 68 + 65 → getD facts k 0 ≡ 0
+
+-- A turn of the loop that files them.
+module _ (s : List ℕ) (es : List Element) (elements index names P F : List ℕ) (e n : ℕ) (due : PlacesDue s es elements index names P F e n)
+    (p v : ℕ) (from : 1 ≤ p) (to : p ≤ n) (is : v ≡ nameOf s es (placeIn names (p - 1))) where
+  names-it : v ≡ namedBy s es (placesOf names n) p
+  names-it = rw (placeAt-placesOf names n (p - 1) (omega arith)) is
+
+  pub place-fits : (v ≤ 255) × (slotOf v ≤ 64)
+  place-fits = named-fits s es (due .indexed .accepted .elements) (placesOf names n) p v names-it
+
+  pub place-filed : (Q G R H : List ℕ) → PlacesPut s es (placesOf names n) e P F Q G p → PlacePut e p v Q G R H → PlacesPut s es (placesOf names n) e P F R H (p + 1)
+  place-filed Q G R H h w =
+      let few = due .few in
+      places-more s es (due .indexed .accepted .elements) (placesOf names n) e P F Q G p from (omega arith) h v names-it R H w
