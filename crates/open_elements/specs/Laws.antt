@@ -1,20 +1,22 @@
 -- Laws of the open elements and of the scratch of events: what the methods do to the rules' state, and what stays so from token to token.
 use Prim.Native.Nat.{ℕ, zero, suc, _+_, _-_, _*_, _≤_, _<_}
 use mathlib.Core.Path.{_≡_, refl, ap, sym, _∙_, subst}
+use mathlib.Core.Bool.{true, false}
 use mathlib.Core.List.{List, [], _∷_, _++_, append-assoc, append-nil}
 use native.Mathlib.Numerals.{add-one, sub-one}
 use native.Mathlib.Omega.{arith}
+use borrow.Author.Tests.{eq-eqb, ne-eqb}
 use lib.ListN.{length, getD, set, length-set, length-replicate}
 use lib.Seq.{getD-set-same, getD-set-other}
 use Rattle.rules.specs.TypeFile.{Element}
-use Rattle.rules.specs.Settling.{Event}
+use Rattle.rules.specs.Settling.{Event, isOpen}
 use Rattle.rules.specs.Settling as rules
 use Rattle.last_places.specs.Last.{InRange, Sound}
 use Rattle.last_places.specs.Short.{last-placed}
 use Rattle.type_tables.specs.Means.{standing, width}
 use Rattle.open_elements.specs.declared.Entry.{Entry}
 use Rattle.open_elements.specs.declared.Open.{Open}
-use Rattle.open_elements.specs.Means.{none, aroundOf, current, around, fresh, took, opening, ended, bringing, refusing, eventAt, eventsIn, Stands}
+use Rattle.open_elements.specs.Means.{none, opened, aroundOf, current, around, fresh, took, opening, ended, bringing, refusing, noted, eventAt, eventsIn, Stands}
 
 -- The elements around the current one
 
@@ -38,7 +40,7 @@ around-opening k o w l =
       aroundOf-set (o .around) (o .count) (record { element = o .element; place = o .place }) (o .count) (omega arith),
     )
 
-aroundOf-less : (a : List Entry) (n : ℕ) → 1 ≤ n → aroundOf a n ≡ standing (getD a (n - 1) none .element) (getD a (n - 1) none .place) ∷ aroundOf a (n - 1)
+aroundOf-less : (a : List Entry) (n : ℕ) → 1 ≤ n → aroundOf a n ≡ opened (getD a (n - 1) none) ∷ aroundOf a (n - 1)
 aroundOf-less a zero l = absurd (omega arith)
 aroundOf-less a (suc n) l = let e : suc n - 1 ≡ n = omega arith in rw e
 
@@ -49,6 +51,27 @@ around-ended o l = aroundOf-less (o .around) (o .count) l
 -- Where nothing is open, nothing is around the current element.
 pub around-none : (o : Open) → o .count ≡ 0 → around o ≡ []
 around-none o e = rw e
+
+-- Whether an element is open
+
+pub open-here : (x : ℕ) (o : rules.Open) (os : List rules.Open) → o .number ≡ x → isOpen x (o ∷ os) ≡ true
+unfolding isOpen
+open-here x o os e = rw (eq-eqb (o .number) x e, isOpen)
+
+pub open-past : (x : ℕ) (o : rules.Open) (os : List rules.Open) → (o .number ≡ x → ⊥) → isOpen x (o ∷ os) ≡ isOpen x os
+unfolding isOpen
+open-past x o os n = rw (ne-eqb (o .number) x n, isOpen)
+
+pub open-none : (x : ℕ) → isOpen x [] ≡ false
+unfolding isOpen
+open-none x = refl
+
+-- The last of the first i entries, looked at.
+pub open-entry : (x : ℕ) (a : List Entry) (i : ℕ) → 1 ≤ i → getD a (i - 1) none .element ≡ x → isOpen x (aroundOf a i) ≡ true
+open-entry x a i l e = ap (isOpen x) (aroundOf-less a i l) ∙ open-here x (opened (getD a (i - 1) none)) (aroundOf a (i - 1)) e
+
+pub open-further : (x : ℕ) (a : List Entry) (i : ℕ) → 1 ≤ i → (getD a (i - 1) none .element ≡ x → ⊥) → isOpen x (aroundOf a i) ≡ isOpen x (aroundOf a (i - 1))
+open-further x a i l n = ap (isOpen x) (aroundOf-less a i l) ∙ open-past x (opened (getD a (i - 1) none)) (aroundOf a (i - 1)) n
 
 -- What stays so from token to token
 
@@ -126,3 +149,30 @@ eventAt-set l i x m h =
 pub eventsIn-set : (l : List ℕ) (i x m : ℕ) → 4 * m ≤ i → eventsIn (set l i x) m ≡ eventsIn l m
 eventsIn-set l i x zero h = refl
 eventsIn-set l i x (suc m) h = rw (eventsIn-set l i x m (omega arith), eventAt-set l i x m (omega arith))
+
+-- Four numbers written after n events are one event more.
+pub events-put : (l : List ℕ) (n a b c d : ℕ) → length l ≡ 200 → n < 50 → eventsIn (set (set (set (set l (4 * n) a) (4 * n + 1) b) (4 * n + 2) c) (4 * n + 3) d) (n + 1) ≡ eventsIn l n ++ noted a b c d ∷ []
+events-put l n a b c d w h =
+    let l1 = set l (4 * n) a in
+    let l2 = set l1 (4 * n + 1) b in
+    let l3 = set l2 (4 * n + 2) c in
+    let w1 : length l1 ≡ 200 = simp length-set w in
+    let w2 : length l2 ≡ 200 = simp length-set w in
+    let w3 : length l3 ≡ 200 = simp length-set w in
+    rw (
+      add-one n,
+      eventsIn-set l3 (4 * n + 3) d n (omega arith),
+      eventsIn-set l2 (4 * n + 2) c n (omega arith),
+      eventsIn-set l1 (4 * n + 1) b n (omega arith),
+      eventsIn-set l (4 * n) a n (omega arith),
+      getD-set-same l3 (4 * n + 3) d 0 (omega arith),
+      getD-set-other l3 (4 * n + 3) (4 * n + 2) d 0 (λ e. omega arith),
+      getD-set-other l3 (4 * n + 3) (4 * n + 1) d 0 (λ e. omega arith),
+      getD-set-other l3 (4 * n + 3) (4 * n) d 0 (λ e. omega arith),
+      getD-set-same l2 (4 * n + 2) c 0 (omega arith),
+      getD-set-other l2 (4 * n + 2) (4 * n + 1) c 0 (λ e. omega arith),
+      getD-set-other l2 (4 * n + 2) (4 * n) c 0 (λ e. omega arith),
+      getD-set-same l1 (4 * n + 1) b 0 (omega arith),
+      getD-set-other l1 (4 * n + 1) (4 * n) b 0 (λ e. omega arith),
+      getD-set-same l (4 * n) a 0 (omega arith),
+    )

@@ -35,7 +35,7 @@ fn wide(b: u8) -> usize
 
 fn entry_of(element: usize, place: usize) -> Entry
     requires { ⌜ (element < 256) × (place < 256) ⌝ }
-    ensures { λ r. ⌜ (r .element ≡ element) × (r .place ≡ place) ⌝ }
+    ensures { λ r. ⌜ r ≡ record { element = element; place = place } ⌝ }
 {
     Entry {
         element: element as u8,
@@ -131,10 +131,11 @@ pub fn put_event(
     ensures { λ r. ⌜ (r ≡ n + 1) × (eventsIn (now (events .exit)) (n + 1) ≡ eventsIn (now (events .entry)) n ++ noted kind element at size ∷ []) ⌝ }
 {
     whole(*events);
-    events[4 * n] = kind;
-    events[4 * n + 1] = element as u32;
-    events[4 * n + 2] = at as u32;
-    events[4 * n + 3] = size as u32;
+    let i = 4 * n;
+    events[i] = kind;
+    events[i + 1] = element as u32;
+    events[i + 2] = at as u32;
+    events[i + 3] = size as u32;
     n + 1
 }
 
