@@ -1,2 +1,3 @@
 -- What the open elements of the code stand for, in the rules' terms.
 pub mod Means
+pub mod Laws

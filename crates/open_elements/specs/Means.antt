@@ -5,6 +5,7 @@ use mathlib.Core.List.{List, [], _∷_, _++_}
 use lib.ListN.{length, getD, set, replicate}
 use Rattle.rules.specs.Reading.{Reading, refused, got}
 use Rattle.rules.specs.TypeFile.{Element}
+use Rattle.rules.specs.Judge.{Accepts}
 use Rattle.rules.specs.Settling.{Event, State}
 use Rattle.rules.specs.Settling as rules
 use Rattle.last_places.specs.Last.{Sound}
@@ -14,7 +15,7 @@ use Rattle.open_elements.specs.declared.Open.{Open}
 
 -- The state
 
-abbrev none : Entry
+abbrev pub none : Entry
 none = record { element = 0; place = 0 }
 
 abbrev pub opened : Entry → rules.Open
@@ -106,8 +107,9 @@ closed at o events before = closedOf at (o .number) (before ++ eventsIn events (
 
 -- What holds from token to token
 
--- At most 24 are open, each an element of the type at a place of its model.
+-- At most 24 are open, each an element of the type at a place of its model; the array has room for as many.
 pub record Stands (es : List Element) (o : Open) : Type 0 where
+  pub whole : length (o .around) ≡ 24
   pub few : o .count ≤ 24
   pub sound : Sound es (current o) (around o)
 
@@ -115,6 +117,6 @@ pub record Stands (es : List Element) (o : Open) : Type 0 where
 abbrev pub AnyStands : (rows places facts : List ℕ) → Open → ℕ → Type 0
 AnyStands rows places facts o x = (s : List ℕ) × (es : List Element) × Tables s es rows places facts × Stands es o × (x ≤ length es)
 
--- The same for what closing asks of the tables.
+-- The same for what closing asks of the tables; that a model has at most 96 places is known of an accepted type.
 abbrev pub AnyClosing : (rows facts : List ℕ) → Open → Type 0
-AnyClosing rows facts o = (s : List ℕ) × (es : List Element) × (length es ≤ 64) × Rows es rows × Facts s es facts × Stands es o
+AnyClosing rows facts o = (s : List ℕ) × (es : List Element) × Accepts s es × (length es ≤ 64) × Rows es rows × Facts s es facts × Stands es o

@@ -3,7 +3,8 @@
 // What a token brings is written to `events`, four numbers each: kind, element, offset, length.
 ghost use mathlib.Core.Path.{_≡_};
 ghost use mathlib.Core.List.{_∷_, [], _++_};
-ghost use Prim.Native.Nat.{_+_, _-_, _*_, _≤_, _<_};
+ghost use Prim.Native.Nat.{_+_, _≤_, _<_};
+ghost use lib.ListN.{length};
 ghost use Rattle.rules.specs.Settling.{isOpen, Event, endInferred};
 ghost use Rattle.open_elements.specs.Means.{fresh, took, opening, ended, bringing, refusing, around, current, eventsIn, noted};
 
@@ -26,11 +27,16 @@ pub struct Open {
     pub number: u32,
 }
 
-fn wide(b: u8) -> usize {
+fn wide(b: u8) -> usize
+    ensures { λ r. ⌜ r ≡ b ⌝ }
+{
     b as usize
 }
 
-fn entry_of(element: usize, place: usize) -> Entry {
+fn entry_of(element: usize, place: usize) -> Entry
+    requires { ⌜ (element < 256) × (place < 256) ⌝ }
+    ensures { λ r. ⌜ r ≡ record { element = element; place = place } ⌝ }
+{
     Entry {
         element: element as u8,
         place: place as u8,
@@ -107,6 +113,11 @@ impl Open {
     }
 }
 
+// The scratch of events is whole.
+fn whole(events: [u32; 200])
+    ensures { λ _. ⌜ length events ≡ 200 ⌝ }
+{}
+
 // An event of a token, after n others.
 pub fn put_event(
     events: &mut [u32; 200],
@@ -119,10 +130,12 @@ pub fn put_event(
     requires { ⌜ (n < 50) × (element < 4294967296) × (at < 4294967296) × (size < 4294967296) ⌝ }
     ensures { λ r. ⌜ (r ≡ n + 1) × (eventsIn (now (events .exit)) (n + 1) ≡ eventsIn (now (events .entry)) n ++ noted kind element at size ∷ []) ⌝ }
 {
-    events[4 * n] = kind;
-    events[4 * n + 1] = element as u32;
-    events[4 * n + 2] = at as u32;
-    events[4 * n + 3] = size as u32;
+    whole(*events);
+    let i = 4 * n;
+    events[i] = kind;
+    events[i + 1] = element as u32;
+    events[i + 2] = at as u32;
+    events[i + 3] = size as u32;
     n + 1
 }
 

@@ -1,0 +1,27 @@
+-- `end` meets its contract: the parent is read as it was written down.
+use borrow.Author.Needs.{needs}
+use Rattle.open_elements.proofs.Open.end.Statement.{statement}
+use Rattle.open_elements.proofs.Open.end.Tie as tie
+
+sub-n : tie.Need-sub-n
+sub-n c = search needs
+
+mul-parent : tie.Need-mul-parent
+mul-parent c = search needs
+
+element-copy-out-parent : tie.Need-element-copy-out-parent
+element-copy-out-parent c = search needs
+
+wide-requires : tie.Need-wide-requires
+wide-requires c κs = search needs
+
+wide-requires-2 : tie.Need-wide-requires-2
+wide-requires-2 c κs = search needs
+
+returns : tie.Need-returns
+returns c = rw (c .before .wide .ensures, c .wide2 .ensures)
+
+pub end-spec : {M : Type 1} → statement M
+end-spec =
+    tie.close
+    (tie.spec sub-n mul-parent element-copy-out-parent wide-requires wide-requires-2 returns)

@@ -1,0 +1,178 @@
+-- Laws of the open elements and of the scratch of events: what the methods do to the rules' state, and what stays so from token to token.
+use Prim.Native.Nat.{ℕ, zero, suc, _+_, _-_, _*_, _≤_, _<_}
+use mathlib.Core.Path.{_≡_, refl, ap, sym, _∙_, subst}
+use mathlib.Core.Bool.{true, false}
+use mathlib.Core.List.{List, [], _∷_, _++_, append-assoc, append-nil}
+use native.Mathlib.Numerals.{add-one, sub-one}
+use native.Mathlib.Omega.{arith}
+use borrow.Author.Tests.{eq-eqb, ne-eqb}
+use lib.ListN.{length, getD, set, length-set, length-replicate}
+use lib.Seq.{getD-set-same, getD-set-other}
+use Rattle.rules.specs.TypeFile.{Element}
+use Rattle.rules.specs.Settling.{Event, isOpen}
+use Rattle.rules.specs.Settling as rules
+use Rattle.last_places.specs.Last.{InRange, Sound}
+use Rattle.last_places.specs.Short.{last-placed}
+use Rattle.type_tables.specs.Means.{standing, width}
+use Rattle.open_elements.specs.declared.Entry.{Entry}
+use Rattle.open_elements.specs.declared.Open.{Open}
+use Rattle.open_elements.specs.Means.{none, opened, aroundOf, current, around, fresh, took, opening, ended, bringing, refusing, noted, eventAt, eventsIn, Stands}
+
+-- The elements around the current one
+
+aroundOf-set : (a : List Entry) (n : ℕ) (x : Entry) (m : ℕ) → m ≤ n → aroundOf (set a n x) m ≡ aroundOf a m
+aroundOf-set a n x zero l = refl
+aroundOf-set a n x (suc m) l = rw (getD-set-other a n m x none (λ e. omega arith), aroundOf-set a n x m (omega arith))
+
+aroundOf-length : (a : List Entry) (n : ℕ) → length (aroundOf a n) ≡ n
+aroundOf-length a zero = refl
+aroundOf-length a (suc n) = ap suc (aroundOf-length a n)
+
+pub around-length : (o : Open) → length (around o) ≡ o .count
+around-length o = aroundOf-length (o .around) (o .count)
+
+-- Opening an element puts the current one in front of those around it.
+pub around-opening : (k : ℕ) (o : Open) → length (o .around) ≡ 24 → o .count < 24 → around (opening k o) ≡ current o ∷ around o
+around-opening k o w l =
+    rw (
+      add-one (o .count),
+      getD-set-same (o .around) (o .count) (record { element = o .element; place = o .place }) none (omega arith),
+      aroundOf-set (o .around) (o .count) (record { element = o .element; place = o .place }) (o .count) (omega arith),
+    )
+
+aroundOf-less : (a : List Entry) (n : ℕ) → 1 ≤ n → aroundOf a n ≡ opened (getD a (n - 1) none) ∷ aroundOf a (n - 1)
+aroundOf-less a zero l = absurd (omega arith)
+aroundOf-less a (suc n) l = let e : suc n - 1 ≡ n = omega arith in rw e
+
+-- Ending the current element makes the innermost of those around it the current one.
+pub around-ended : (o : Open) → 1 ≤ o .count → around o ≡ current (ended o) ∷ around (ended o)
+around-ended o l = aroundOf-less (o .around) (o .count) l
+
+-- Where nothing is open, nothing is around the current element.
+pub around-none : (o : Open) → o .count ≡ 0 → around o ≡ []
+around-none o e = rw e
+
+-- Whether an element is open
+
+pub open-here : (x : ℕ) (o : rules.Open) (os : List rules.Open) → o .number ≡ x → isOpen x (o ∷ os) ≡ true
+unfolding isOpen
+open-here x o os e = rw (eq-eqb (o .number) x e, isOpen)
+
+pub open-past : (x : ℕ) (o : rules.Open) (os : List rules.Open) → (o .number ≡ x → ⊥) → isOpen x (o ∷ os) ≡ isOpen x os
+unfolding isOpen
+open-past x o os n = rw (ne-eqb (o .number) x n, isOpen)
+
+pub open-none : (x : ℕ) → isOpen x [] ≡ false
+unfolding isOpen
+open-none x = refl
+
+-- The last of the first i entries, looked at.
+pub open-entry : (x : ℕ) (a : List Entry) (i : ℕ) → 1 ≤ i → getD a (i - 1) none .element ≡ x → isOpen x (aroundOf a i) ≡ true
+open-entry x a i l e = ap (isOpen x) (aroundOf-less a i l) ∙ open-here x (opened (getD a (i - 1) none)) (aroundOf a (i - 1)) e
+
+pub open-further : (x : ℕ) (a : List Entry) (i : ℕ) → 1 ≤ i → (getD a (i - 1) none .element ≡ x → ⊥) → isOpen x (aroundOf a i) ≡ isOpen x (aroundOf a (i - 1))
+open-further x a i l n = ap (isOpen x) (aroundOf-less a i l) ∙ open-past x (opened (getD a (i - 1) none)) (aroundOf a (i - 1)) n
+
+-- What stays so from token to token
+
+place-in : (es : List Element) (e p : ℕ) → e ≤ length es → p ≤ width es e → InRange es (standing e p)
+place-in es e p d w = record { declared = d; place = rw (last-placed p) w }
+
+sound-place : (es : List Element) (e u p : ℕ) (os : List rules.Open) → p ≤ width es e → Sound es (standing e u) os → Sound es (standing e p) os
+sound-place es e u p [] w h = place-in es e p (h .declared) w
+sound-place es e u p (x ∷ os) w h = (h .0, place-in es e p (h .1 .declared) w, h .2)
+
+sound-first : (es : List Element) (o : rules.Open) (os : List rules.Open) → Sound es o os → InRange es o
+sound-first es o [] h = h
+sound-first es o (x ∷ os) h = h .1
+
+-- The current element is one of the type, at a place of its model.
+pub stands-range : {es : List Element} {o : Open} → Stands es o → InRange es (current o)
+stands-range {es} {o} h = sound-first es (current o) (around o) (h .sound)
+
+pub stands-place : {es : List Element} {o : Open} → Stands es o → o .place ≤ width es (o .element)
+stands-place {es} {o} h = rw (last-placed (o .place)) at (stands-range h .place)
+
+-- Around the current element there is an open one or the document: it is an element, and so may end.
+around-parts : {es : List Element} {o : Open} → Stands es o → 1 ≤ o .count → Sound es (current o) (current (ended o) ∷ around (ended o))
+around-parts {es} {o} h l = subst (λ (os : List rules.Open). Sound es (current o) os) (around-ended o l) (h .sound)
+
+pub stands-element : {es : List Element} {o : Open} → Stands es o → 1 ≤ o .count → 1 ≤ o .element
+stands-element h l = around-parts h l .0
+
+pub stands-fresh : (es : List Element) → Stands es fresh
+stands-fresh es =
+    record { whole = length-replicate 24 none; few = omega arith; sound = place-in es 0 0 (omega arith) (omega arith) }
+
+pub stands-took : {es : List Element} {o : Open} (p : ℕ) → Stands es o → p ≤ width es (o .element) → Stands es (took p o)
+stands-took {es} {o} p h w =
+    record { whole = h .whole; few = h .few; sound = sound-place es (o .element) (o .place) p (around o) w (h .sound) }
+
+pub stands-opening : {es : List Element} {o : Open} (k : ℕ) → Stands es o → o .count < 24 → 1 ≤ k → k ≤ length es → Stands es (opening k o)
+stands-opening {es} {o} k h l some there =
+    record {
+      whole = simp length-set (h .whole);
+      few = omega arith;
+      sound =
+          subst (λ (os : List rules.Open). Sound es (standing k 0) os) (sym (around-opening k o (h .whole) l))
+          (some, place-in es k 0 there (omega arith), h .sound);
+    }
+
+pub stands-ended : {es : List Element} {o : Open} → Stands es o → 1 ≤ o .count → Stands es (ended o)
+stands-ended h l = record { whole = h .whole; few = omega (arith, h .few); sound = around-parts h l .2 }
+
+pub stands-bringing : {es : List Element} {o : Open} (n : ℕ) → Stands es o → Stands es (bringing n o)
+stands-bringing n h = record { whole = h .whole; few = h .few; sound = h .sound }
+
+pub stands-refusing : {es : List Element} {o : Open} (n : ℕ) → Stands es o → Stands es (refusing n o)
+stands-refusing n h = record { whole = h .whole; few = h .few; sound = h .sound }
+
+-- Events
+
+pub events-none : (before : List Event) (l : List ℕ) (n : ℕ) → n ≡ 0 → before ++ eventsIn l n ≡ before
+events-none before l n e = rw (e, append-nil)
+
+-- One event more, of the token and of all.
+pub events-more : (before xs : List Event) (e : Event) {ys : List Event} → ys ≡ xs ++ e ∷ [] → before ++ ys ≡ (before ++ xs) ++ e ∷ []
+events-more before xs e h = ap (λ (l : List Event). before ++ l) h ∙ sym (append-assoc before xs (e ∷ []))
+
+-- Numbers past the first m events are none of theirs.
+eventAt-set : (l : List ℕ) (i x m : ℕ) → 4 * m + 4 ≤ i → eventAt (set l i x) m ≡ eventAt l m
+eventAt-set l i x m h =
+    rw (
+      getD-set-other l i (4 * m) x 0 (λ e. omega arith),
+      getD-set-other l i (4 * m + 1) x 0 (λ e. omega arith),
+      getD-set-other l i (4 * m + 2) x 0 (λ e. omega arith),
+      getD-set-other l i (4 * m + 3) x 0 (λ e. omega arith),
+    )
+
+pub eventsIn-set : (l : List ℕ) (i x m : ℕ) → 4 * m ≤ i → eventsIn (set l i x) m ≡ eventsIn l m
+eventsIn-set l i x zero h = refl
+eventsIn-set l i x (suc m) h = rw (eventsIn-set l i x m (omega arith), eventAt-set l i x m (omega arith))
+
+-- Four numbers written after n events are one event more.
+pub events-put : (l : List ℕ) (n a b c d : ℕ) → length l ≡ 200 → n < 50 → eventsIn (set (set (set (set l (4 * n) a) (4 * n + 1) b) (4 * n + 2) c) (4 * n + 3) d) (n + 1) ≡ eventsIn l n ++ noted a b c d ∷ []
+events-put l n a b c d w h =
+    let l1 = set l (4 * n) a in
+    let l2 = set l1 (4 * n + 1) b in
+    let l3 = set l2 (4 * n + 2) c in
+    let w1 : length l1 ≡ 200 = simp length-set w in
+    let w2 : length l2 ≡ 200 = simp length-set w in
+    let w3 : length l3 ≡ 200 = simp length-set w in
+    rw (
+      add-one n,
+      eventsIn-set l3 (4 * n + 3) d n (omega arith),
+      eventsIn-set l2 (4 * n + 2) c n (omega arith),
+      eventsIn-set l1 (4 * n + 1) b n (omega arith),
+      eventsIn-set l (4 * n) a n (omega arith),
+      getD-set-same l3 (4 * n + 3) d 0 (omega arith),
+      getD-set-other l3 (4 * n + 3) (4 * n + 2) d 0 (λ e. omega arith),
+      getD-set-other l3 (4 * n + 3) (4 * n + 1) d 0 (λ e. omega arith),
+      getD-set-other l3 (4 * n + 3) (4 * n) d 0 (λ e. omega arith),
+      getD-set-same l2 (4 * n + 2) c 0 (omega arith),
+      getD-set-other l2 (4 * n + 2) (4 * n + 1) c 0 (λ e. omega arith),
+      getD-set-other l2 (4 * n + 2) (4 * n) c 0 (λ e. omega arith),
+      getD-set-same l1 (4 * n + 1) b 0 (omega arith),
+      getD-set-other l1 (4 * n + 1) (4 * n) b 0 (λ e. omega arith),
+      getD-set-same l (4 * n) a 0 (omega arith),
+    )
