@@ -43,6 +43,8 @@ fn entry_of(element: usize, place: usize) -> Entry
     }
 }
 
+// The array is moved to a local and the struct made anew where an entry is written or read: the other fields then stay in
+// registers.
 impl Open {
     // Nothing is open yet.
     pub fn new() -> Self
@@ -70,30 +72,39 @@ impl Open {
     }
 
     // The element is opened.
-    pub fn start(mut self, element: usize) -> Self
+    pub fn start(self, element: usize) -> Self
         requires { ⌜ (self .count < 24) × (self .element < 256) × (self .place < 256) ⌝ }
         ensures { λ r. ⌜ r ≡ opening element self ⌝ }
     {
         let n = self.count;
-        let parent = entry_of(self.element, self.place);
-        self.around[n] = parent;
-        self.count = n + 1;
-        self.element = element;
-        self.place = 0;
-        self
+        let mut around = self.around;
+        around[n] = entry_of(self.element, self.place);
+        Open {
+            around: around,
+            count: n + 1,
+            element: element,
+            place: 0,
+            events: self.events,
+            number: self.number,
+        }
     }
 
     // The current element has ended.
-    pub fn end(mut self) -> Self
+    pub fn end(self) -> Self
         requires { ⌜ (1 ≤ self .count) × (self .count ≤ 24) ⌝ }
         ensures { λ r. ⌜ r ≡ ended self ⌝ }
     {
         let n = self.count - 1;
-        let parent = self.around[n];
-        self.count = n;
-        self.element = wide(parent.element);
-        self.place = wide(parent.place);
-        self
+        let around = self.around;
+        let parent = around[n];
+        Open {
+            around: around,
+            count: n,
+            element: wide(parent.element),
+            place: wide(parent.place),
+            events: self.events,
+            number: self.number,
+        }
     }
 
     // So many events, of the token that is being settled.

@@ -9,8 +9,8 @@ sub-n c = search needs
 mul-parent : tie.Need-mul-parent
 mul-parent c = search needs
 
-element-copy-out-parent : tie.Need-element-copy-out-parent
-element-copy-out-parent c = search needs
+array-copy-out-parent : tie.Need-array-copy-out-parent
+array-copy-out-parent c = search needs
 
 wide-requires : tie.Need-wide-requires
 wide-requires c κs = search needs
@@ -24,4 +24,4 @@ returns c = rw (c .before .wide .ensures, c .wide2 .ensures)
 pub end-spec : {M : Type 1} → statement M
 end-spec =
     tie.close
-    (tie.spec sub-n mul-parent element-copy-out-parent wide-requires wide-requires-2 returns)
+    (tie.spec sub-n mul-parent array-copy-out-parent wide-requires wide-requires-2 returns)
