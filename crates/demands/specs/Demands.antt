@@ -1,294 +1,100 @@
--- The demands of paper 01 as theorems: a page to read before the rules of crates/rules, from which it has its words.
--- First the type judge, whose two calls promise `Judged` and `JudgedBytes`; then the document reader, whose two calls promise `ReadAs` and
--- `ReadAsBytes`. What is said here holds of every answer that keeps such a promise.
-use Prim.Native.Nat.{ℕ, _*_, _/_, _<_, _≤_}
-use mathlib.Core.Path.{_≡_, refl, sym}
+-- The three demands of paper 01 on the type judge and on the document reader, in a page. Read this first, then Words for the words in it, then
+-- the rules of crates/rules. The calls promise `Judged`, `JudgedBytes`, `ReadAs` and `ReadAsBytes`; here stands what every answer that
+-- keeps such a promise has. That the code keeps them is the contract of each call; that it ends and stays in its buffers is checked with it.
+use Prim.Native.Nat.{ℕ, _*_, _<_, _≤_}
+use mathlib.Core.Path.{_≡_}
 use mathlib.Core.Logic.{_⊎_, _↔_}
-use mathlib.Core.List.{List, _++_, List·Memᴰ}
-use native.Mathlib.Omega.{arith}
-use lib.ListN.{length, drop, replicate, length-replicate}
+use mathlib.Core.List.{List}
+use lib.ListN.{length}
 use Rattle.rules.specs.Reading.{Reading, got}
-use Rattle.rules.specs.Walk.{Group, Begins}
-use Rattle.rules.specs.Ambiguity.{SpellSame, Ambiguous, PairAtFault}
-use Rattle.rules.specs.TypeFile.{Place, model, Element, typeFile}
-use Rattle.rules.specs.Judge.{samePlace, Answer, acceptance, FirstAmbiguous, records, bytesOf, Legible, Refuses, noRoom, Accepts, Judged, JudgedBytes}
+use Rattle.rules.specs.TypeFile.{Element, typeFile}
+use Rattle.rules.specs.Judge.{Answer, Legible, Refuses, Accepts}
 use Rattle.rules.specs.Settling.{Event, State}
-use Rattle.rules.specs.Reader.{eventNumbers, BothLegible, Reads, RefusesBoth, ReadAs, ReadAsBytes}
-use Rattle.last_places.specs.Depth.{Passes, passes-few}
-use Rattle.demands.specs.Proofs.{Settled, refuses, accepts, settled-one, settled-refuses, settled-accepts, settled-fair, settled-faulty, refuses-named, refuses-some, settled-nine, settled-nineteen, first-model, model-exactly, not-ambiguous, names-alone, settled-length, numbers-kept, bytes-kept}
-use Rattle.demands.specs.ReaderProofs.{Given, from-numbers, from-bytes, to-numbers, to-bytes, numbers-one, bytes-one, reading-one, both-says, both-some, given-nine, given-nineteen, type-refused, given-refuses, given-accepts, given-faulty, given-fair, given-length, events-kept, event-bytes-kept}
+use Rattle.rules.specs.Reader.{BothLegible, Reads, RefusesBoth}
+use Rattle.last_places.specs.Depth.{Passes}
+use Rattle.demands.specs.Words.{Lent, Promise, room, Refusal, Acceptance, SomeAmbiguous, NamesFirst, NamesDecide, ReaderPromise, ReaderRefusal, ReaderAcceptance, SameVerdict}
+use Rattle.demands.specs.Kept as kept
 
--- The type judge
-
--- "The type judge takes a type file and a lent buffer of 32-bit numbers"; from C it is lent bytes, "the numbers then standing as four bytes each".
-pub data Lent : Type 0 where
-  numbers : Lent
-  bytes : Lent
-
--- The call on the type file s, lent a buffer that holds `before`, answers a and leaves `after` in it.
-abbrev pub Promise : Lent → (s before : List ℕ) (a : Answer) (after : List ℕ) → Type 0
-Promise numbers = Judged
-Promise bytes = JudgedBytes
-
--- How many numbers the buffer holds.
-abbrev pub room : Lent → (before : List ℕ) → ℕ
-room numbers before = length before
-room bytes before = length before / 4
-
--- The buffer once the elements' records are written: "what lies behind the last number written stays as it was".
-abbrev pub filled : Lent → (before : List ℕ) → List Element → List ℕ
-filled numbers before es = records es ++ drop (6 * length es) before
-filled bytes before es = bytesOf (records es) ++ drop (24 * length es) before
-
--- Demand 1: a refusal gives a number, which input and a byte position. "Input 1 is the type"; "the two places are 0 except under 9";
--- "on refusal the whole buffer is zero and the count is 0".
-pub record Refusal (s before : List ℕ) (a : Answer) (after : List ℕ) : Type 0 where
-  pub number : ((1 ≤ a .number) × (a .number ≤ 9)) ⊎ (a .number ≡ 19)
-  pub input : a .input ≡ 1
-  pub position : a .position ≤ length s
-  pub places : (a .number ≡ 9 → ⊥) → (a .first ≡ 0) × (a .second ≡ 0)
-  pub count : a .count ≡ 0
-  pub zeroed : after ≡ replicate (length before) 0
-
--- "An accepted call gives 0 for number, input and position, and how many records it wrote": those of the elements that the rules accept.
-pub record Acceptance (l : Lent) (s before : List ℕ) (a : Answer) (after : List ℕ) : Type 0 where
-  pub elements : List Element
-  pub accepted : Accepts s elements
-  pub fits : 6 * length elements ≤ room l before
-  pub answer : a ≡ acceptance (length elements)
-  pub written : after ≡ filled l before elements
-
--- An element of es has the content model g, with the places ps.
-abbrev pub ModelOf : List Element → Group → List Place → Type 0
-ModelOf es g ps = (e : Element) × (n : ℕ) × List·Memᴰ e es × (e .content ≡ model g ps n)
-
--- "Some content model has two different sequences of places, each the beginning of a walk, that spell the same names."
-abbrev pub SomeAmbiguous : List ℕ → List Element → Type 0
-SomeAmbiguous s es = (g : Group) × (ps : List Place) × ModelOf es g ps × Ambiguous (samePlace s ps) g
-
--- Number 9 names "the first model in the type file that has such a pair, at the first byte of the pair's second place. Of
--- that model's pairs the one reported comes first."
-abbrev pub NamesFirst : List ℕ → Answer → Type 0
-NamesFirst s a = (es : List Element) × (typeFile s ≡ got es) × FirstAmbiguous s (a .position) (a .first) (a .second) es
-
--- Names alone decide places: two beginnings of walks of one model that spell the same names are the same places.
-abbrev pub NamesDecide : List ℕ → List Element → Type 0
-NamesDecide s es = (g : Group) (ps : List Place) → ModelOf es g ps → (u v : List ℕ) → Begins g u → Begins g v → SpellSame (samePlace s ps) u v → u ≡ v
-
--- What the proofs take both promises for.
-settled : (l : Lent) (s before : List ℕ) (a : Answer) (after : List ℕ) → Promise l s before a after → Settled s (room l before) (replicate (length before) 0) (filled l before) a after
-settled numbers s before a after (Judged.refuses r z) = refuses r z
-settled numbers s before a after (Judged.accepts es w f e z) = accepts es w f e z
-settled bytes s before a after (JudgedBytes.refuses r z) = refuses r z
-settled bytes s before a after (JudgedBytes.accepts es w f e z) = accepts es w f e z
-
-filled-length : (l : Lent) (before : List ℕ) (es : List Element) → 6 * length es ≤ room l before → length (filled l before es) ≡ length before
-filled-length numbers before es = numbers-kept es before
-filled-length bytes before es = bytes-kept es before
-
-module _ (l : Lent) (s before : List ℕ) (a : Answer) (after : List ℕ) (judged : Promise l s before a after) where
-  promised : Settled s (room l before) (replicate (length before) 0) (filled l before) a after
-  promised = settled l s before a after judged
-
-  -- Demand 1.
-
+-- The judge, lent `before`, answers a to the type file s and leaves `after`.
+pub record JudgeKeeps (l : Lent) (s before : List ℕ) (a : Answer) (after : List ℕ) : Type 0 where
+  -- Demand 1: "a refusal gives a number, which input and a byte position; count 0, the whole lent buffer zero".
   pub refusal-whole : (a .number ≡ 0 → ⊥) → Refusal s before a after
-  refusal-whole h =
-      let (r, z) = settled-refuses promised h in
-      let (n, k, p, q, e, b, i, o) = refuses-named r in
-      rw e (record { number = b; input = refl; position = i; places = o; count = refl; zeroed = z })
-
   pub same-length : length after ≡ length before
-  same-length = settled-length (length before) promised (length-replicate (length before) 0) (filled-length l before)
-
-  -- Demand 2: the type is accepted exactly when the rules accept it and the numbers fit, and then with exactly their records.
-
+  -- Demand 2: accepted exactly when the rules accept it, with exactly their records; "every refusal is the one the stated order picks";
+  -- "19 only where nothing else is wrong, and exactly if the numbers don't fit".
   pub accepted-exactly : (a .number ≡ 0) ↔ ((es : List Element) × Accepts s es × (6 * length es ≤ room l before))
-  accepted-exactly = (
-    λ h. let (es, w, f, e, z) = settled-accepts promised h in (es, w, f),
-    λ (es, w, f). rw (settled-one promised (accepts es w f refl refl) .0),
-  )
-
   pub acceptance-whole : a .number ≡ 0 → Acceptance l s before a after
-  acceptance-whole h =
-      let (es, w, f, e, z) = settled-accepts promised h in
-      record { elements = es; accepted = w; fits = f; answer = e; written = z }
-
-  -- Every refusal is the one that the order picks: "1 type, .. 2 type, ..; the type file's 3 to 8 ..; 9; ..; 19".
   pub refused-exactly : (a .number ≡ 0 → ⊥) ↔ Refuses s (room l before) a
-  refused-exactly = (λ h. settled-refuses promised h .0, refuses-some)
-
   pub order-picks : (b : Answer) → Refuses s (room l before) b → a ≡ b
-  order-picks b r = settled-one promised (refuses r refl) .0
-
-  -- "19 only where nothing else is wrong, and exactly if the numbers don't fit."
   pub too-small-exactly : (a .number ≡ 19) ↔ ((es : List Element) × Accepts s es × (room l before < 6 * length es))
-  too-small-exactly = (
-    settled-nineteen promised,
-    λ (es, w, f). rw (order-picks _ (noRoom (w .legible) es (w .elements) (w .unambiguous) f refl)),
-  )
-
-  -- Demand 3: a type is refused as ambiguous exactly when some content model is.
-
+  -- Demand 3: refused as ambiguous "exactly when some content model has two different sequences of places, each the beginning of a walk,
+  -- that spell the same names; the first such model and its first pair are named. Else names alone decide places."
   pub ambiguous-exactly : (a .number ≡ 9) ↔ (Legible s × (es : List Element) × (typeFile s ≡ got es) × SomeAmbiguous s es)
-  ambiguous-exactly = (
-    λ h. let (i, es, r, f) = settled-nine promised h in (i, es, r, first-model f),
-    λ (i, es, r, (g, ps, (e, n, m, c), x)). settled-faulty promised i es r (λ u. not-ambiguous s g ps u m c x),
-  )
-
   pub ambiguous-named : a .number ≡ 9 → NamesFirst s a
-  ambiguous-named h = let (i, es, r, f) = settled-nine promised h in (es, r, f)
-
-  -- Else names alone decide places.
   pub names-decide : (a .number ≡ 0) ⊎ (a .number ≡ 19) → (es : List Element) → typeFile s ≡ got es → NamesDecide s es
-  names-decide h es r g ps (e, n, m, c) = names-alone s g ps (settled-fair promised h es r) m c
 
--- A model is ambiguous by demand 3 exactly if it has a pair at fault.
-pub pair-exactly : (s : List ℕ) (g : Group) (ps : List Place) → Ambiguous (samePlace s ps) g ↔ ((p : ℕ) × (q : ℕ) × PairAtFault (samePlace s ps) g p q)
-pair-exactly = model-exactly
-
--- The rules decide one answer, and what the buffer holds after.
-pub judged-one : (l : Lent) (s before : List ℕ) (a b : Answer) (after other : List ℕ) → Promise l s before a after → Promise l s before b other → (a ≡ b) × (after ≡ other)
-judged-one l s before a b after other x y = settled-one (settled l s before a after x) (settled l s before b other y)
-
--- The document reader
-
--- "The document reader takes a type file, a document and a lent buffer": the call on s and d, lent a buffer that holds `before`, answers a
--- and leaves `after` in it.
-abbrev pub ReaderPromise : Lent → (s d before : List ℕ) (a : Answer) (after : List ℕ) → Type 0
-ReaderPromise numbers = ReadAs
-ReaderPromise bytes = ReadAsBytes
-
--- The buffer once the events' numbers are written.
-abbrev pub noted : Lent → (before : List ℕ) → List Event → List ℕ
-noted numbers before ev = eventNumbers ev ++ drop (4 * length ev) before
-noted bytes before ev = bytesOf (eventNumbers ev) ++ drop (16 * length ev) before
-
--- "Input 1 is the type, 2 the document": each has its numbers, and the position stands in it.
-abbrev pub InType : (s : List ℕ) → Answer → Type 0
-InType s a = (a .input ≡ 1) × (a .position ≤ length s) × (1 ≤ a .number) × (a .number ≤ 9)
-
-abbrev pub InDocument : (d : List ℕ) → Answer → Type 0
-InDocument d a = (a .input ≡ 2) × (a .position ≤ length d) × (((1 ≤ a .number) × (a .number ≤ 5)) ⊎ ((10 ≤ a .number) × (a .number ≤ 19)))
-
--- Demand 1, as for the judge.
-pub record ReaderRefusal (s d before : List ℕ) (a : Answer) (after : List ℕ) : Type 0 where
-  pub stands : InType s a ⊎ InDocument d a
-  pub places : (a .number ≡ 9 → ⊥) → (a .first ≡ 0) × (a .second ≡ 0)
-  pub count : a .count ≡ 0
-  pub zeroed : after ≡ replicate (length before) 0
-
--- An accepted call gives the events of the one reading that the rules have of the document, and how many.
-pub record ReaderAcceptance (l : Lent) (s d before : List ℕ) (a : Answer) (after : List ℕ) : Type 0 where
-  pub elements : List Element
-  pub events : List Event
-  pub read : Reads s d elements (got events)
-  pub fits : 4 * length events ≤ room l before
-  pub answer : a ≡ acceptance (length events)
-  pub written : after ≡ noted l before events
-
--- The reader "judges the type afresh", and as the judge does, whose answer is a: where the type is at fault, b is the same answer.
-pub record SameVerdict (a b : Answer) : Type 0 where
-  pub ambiguous : (a .number ≡ 9) ↔ (b .number ≡ 9)
-  pub same : 1 ≤ a .number → a .number ≤ 9 → a ≡ b
-
--- What the proofs take both promises for, and back.
-module _ (s d before : List ℕ) (a : Answer) (after : List ℕ) where
-  given : (l : Lent) → ReaderPromise l s d before a after → Given s d (room l before) (replicate (length before) 0) (noted l before) a after
-  given numbers = from-numbers
-  given bytes = from-bytes
-
-  given-back : (l : Lent) → Given s d (room l before) (replicate (length before) 0) (noted l before) a after → ReaderPromise l s d before a after
-  given-back numbers = to-numbers
-  given-back bytes = to-bytes
-
-noted-length : (l : Lent) (before : List ℕ) (ev : List Event) → 4 * length ev ≤ room l before → length (noted l before ev) ≡ length before
-noted-length numbers before ev = events-kept ev before
-noted-length bytes before ev = event-bytes-kept ev before
-
--- The rules decide one answer of the reader, and what the buffer holds after.
-pub read-one : (l : Lent) (s d before : List ℕ) (a b : Answer) (after other : List ℕ) → ReaderPromise l s d before a after → ReaderPromise l s d before b other → (a ≡ b) × (after ≡ other)
-read-one numbers = numbers-one
-read-one bytes = bytes-one
-
-module _ (l : Lent) (s d before : List ℕ) (a : Answer) (after : List ℕ) (kept : ReaderPromise l s d before a after) where
-  called : Given s d (room l before) (replicate (length before) 0) (noted l before) a after
-  called = given s d before a after l kept
-
-  one : (b : Answer) (other : List ℕ) → Given s d (room l before) (replicate (length before) 0) (noted l before) b other → a ≡ b
-  one b other x = read-one l s d before a b after other kept (given-back s d before b other l x) .0
-
+-- The reader, lent `before`, answers a to the type file s and the document d and leaves `after`.
+pub record ReaderKeeps (l : Lent) (s d before : List ℕ) (a : Answer) (after : List ℕ) : Type 0 where
   -- Demand 1.
+  pub refusal-whole : (a .number ≡ 0 → ⊥) → ReaderRefusal s d before a after
+  pub same-length : length after ≡ length before
+  -- Demand 2: "a document is accepted exactly when paper 01's rules accept it, with exactly their events".
+  pub accepted-exactly : (a .number ≡ 0) ↔ ((es : List Element) × (ev : List Event) × Reads s d es (got ev) × (4 * length ev ≤ room l before))
+  pub acceptance-whole : a .number ≡ 0 → ReaderAcceptance l s d before a after
+  pub refused-exactly : (a .number ≡ 0 → ⊥) ↔ RefusesBoth s d (room l before) a
+  pub order-picks : (b : Answer) → RefusesBoth s d (room l before) b → a ≡ b
+  pub too-small-exactly : (a .number ≡ 19) ↔ ((es : List Element) × (ev : List Event) × Reads s d es (got ev) × (room l before < 4 * length ev))
+  -- Demand 3, whatever document and buffer come with the type.
+  pub ambiguous-exactly : (a .number ≡ 9) ↔ (BothLegible s d × (es : List Element) × (typeFile s ≡ got es) × SomeAmbiguous s es)
+  pub ambiguous-named : a .number ≡ 9 → NamesFirst s a
+  pub names-decide : BothLegible s d → (a .number ≡ 9 → ⊥) → (es : List Element) → typeFile s ≡ got es → NamesDecide s es
 
-  pub reader-refusal-whole : (a .number ≡ 0 → ⊥) → ReaderRefusal s d before a after
-  reader-refusal-whole h =
-      let (r, z) = given-refuses called h in
-      let (w, p, c) = both-says r in
-      record { stands = w; places = p; count = c; zeroed = z }
+pub judge-keeps : (l : Lent) (s before : List ℕ) (a : Answer) (after : List ℕ) → Promise l s before a after → JudgeKeeps l s before a after
+judge-keeps l s before a after p =
+    record {
+      refusal-whole = kept.refusal-whole l s before a after p;
+      same-length = kept.same-length l s before a after p;
+      accepted-exactly = kept.accepted-exactly l s before a after p;
+      acceptance-whole = kept.acceptance-whole l s before a after p;
+      refused-exactly = kept.refused-exactly l s before a after p;
+      order-picks = kept.order-picks l s before a after p;
+      too-small-exactly = kept.too-small-exactly l s before a after p;
+      ambiguous-exactly = kept.ambiguous-exactly l s before a after p;
+      ambiguous-named = kept.ambiguous-named l s before a after p;
+      names-decide = kept.names-decide l s before a after p;
+    }
 
-  pub reader-same-length : length after ≡ length before
-  reader-same-length = given-length (length before) called (length-replicate (length before) 0) (noted-length l before)
+pub reader-keeps : (l : Lent) (s d before : List ℕ) (a : Answer) (after : List ℕ) → ReaderPromise l s d before a after → ReaderKeeps l s d before a after
+reader-keeps l s d before a after p =
+    record {
+      refusal-whole = kept.reader-refusal-whole l s d before a after p;
+      same-length = kept.reader-same-length l s d before a after p;
+      accepted-exactly = kept.reader-accepted-exactly l s d before a after p;
+      acceptance-whole = kept.reader-acceptance-whole l s d before a after p;
+      refused-exactly = kept.reader-refused-exactly l s d before a after p;
+      order-picks = kept.reader-order-picks l s d before a after p;
+      too-small-exactly = kept.reader-too-small-exactly l s d before a after p;
+      ambiguous-exactly = kept.reader-ambiguous-exactly l s d before a after p;
+      ambiguous-named = kept.reader-ambiguous-named l s d before a after p;
+      names-decide = kept.reader-names-decide l s d before a after p;
+    }
 
-  -- Demand 2: the document is accepted exactly when the rules accept it and the numbers fit, and then with exactly their events.
+-- The rules decide one answer of each call, and what the buffer holds after.
+pub judged-one : (l : Lent) (s before : List ℕ) (a b : Answer) (after other : List ℕ) → Promise l s before a after → Promise l s before b other → (a ≡ b) × (after ≡ other)
+judged-one = kept.judged-one
 
-  pub reader-accepted-exactly : (a .number ≡ 0) ↔ ((es : List Element) × (ev : List Event) × Reads s d es (got ev) × (4 * length ev ≤ room l before))
-  reader-accepted-exactly = (
-    λ h. let (es, ev, r, f, e, z) = given-accepts called h in (es, ev, r, f),
-    λ (es, ev, r, f). rw (one _ _ (Given.accepts es ev r f refl refl)),
-  )
+pub read-one : (l : Lent) (s d before : List ℕ) (a b : Answer) (after other : List ℕ) → ReaderPromise l s d before a after → ReaderPromise l s d before b other → (a ≡ b) × (after ≡ other)
+read-one = kept.read-one
 
-  pub reader-acceptance-whole : a .number ≡ 0 → ReaderAcceptance l s d before a after
-  reader-acceptance-whole h =
-      let (es, ev, r, f, e, z) = given-accepts called h in
-      record { elements = es; events = ev; read = r; fits = f; answer = e; written = z }
-
-  -- Every refusal is the one that the order picks: "1 type, 1 document, 2 type, 2 document; the type file's 3 to 8 ..; 9; then the
-  -- document's tokens in turn; 19".
-  pub reader-refused-exactly : (a .number ≡ 0 → ⊥) ↔ RefusesBoth s d (room l before) a
-  reader-refused-exactly = (λ h. given-refuses called h .0, both-some)
-
-  pub reader-order-picks : (b : Answer) → RefusesBoth s d (room l before) b → a ≡ b
-  reader-order-picks b r = one b _ (Given.refuses r refl)
-
-  pub reader-too-small-exactly : (a .number ≡ 19) ↔ ((es : List Element) × (ev : List Event) × Reads s d es (got ev) × (room l before < 4 * length ev))
-  reader-too-small-exactly = (
-    given-nineteen called,
-    λ (es, ev, r, f). rw (reader-order-picks _ (RefusesBoth.noRoom es ev r f refl)),
-  )
-
-  -- Demand 3, whatever document and buffer come with the type: it is refused as ambiguous exactly when some content model is.
-
-  pub reader-ambiguous-exactly : (a .number ≡ 9) ↔ (BothLegible s d × (es : List Element) × (typeFile s ≡ got es) × SomeAmbiguous s es)
-  reader-ambiguous-exactly = (
-    λ h. let (i, es, r, f) = given-nine called h in (i, es, r, first-model f),
-    λ (i, es, r, (g, ps, (e, n, m, c), x)). given-faulty called i r (λ u. not-ambiguous s g ps u m c x),
-  )
-
-  pub reader-ambiguous-named : a .number ≡ 9 → NamesFirst s a
-  reader-ambiguous-named h = let (i, es, r, f) = given-nine called h in (es, r, f)
-
-  -- Else names alone decide places, also where the document is refused.
-  pub reader-names-decide : BothLegible s d → (a .number ≡ 9 → ⊥) → (es : List Element) → typeFile s ≡ got es → NamesDecide s es
-  reader-names-decide i h es r g ps (e, n, m, c) = names-alone s g ps (given-fair called i r h) m c
-
--- Demand 1, on the way: in every state that reading a document passes, 0 to 24 elements are open, as many as stand around the current one.
-pub few-open : (s d : List ℕ) (es : List Element) (r : Reading (List Event)) (x : Reads s d es r) (at : ℕ) (z : State) → Passes s es (x .decisions) d at z → length (z .around) ≤ 24
-few-open s d es r x at z = passes-few s es (x .decisions) d
-
--- Demand 2, whole: under an accepted type every document has a reading, and only one.
+-- Demand 2: under an accepted type every document has a reading, and only one.
 pub reading-exists : (s d : List ℕ) (es : List Element) → BothLegible s d → Accepts s es
     → (r : Reading (List Event)) × Reads s d es r × ((fs : List Element) (q : Reading (List Event)) → Reads s d fs q → (es ≡ fs) × (r ≡ q))
-reading-exists = reading-one
+reading-exists = kept.reading-exists
 
--- Demand 3, across the calls: the judge, lent `before`, and the reader, lent `other`, are of one mind on the type.
-module _ (l m : Lent) (s d before other : List ℕ) (a b : Answer) (after left : List ℕ) (judged : Promise l s before a after) (kept : ReaderPromise m s d other b left) where
-  same-answer : BothLegible s d → 1 ≤ a .number → a .number ≤ 9 → a ≡ b
-  same-answer i h k = sym (reader-order-picks m s d other b left kept a (type-refused i (refused-exactly l s before a after judged .0 (λ z. omega arith)) k))
+-- Demand 1: "0 to 24 elements open", in every state that reading a document passes: as many as stand around the current one.
+pub few-open : (s d : List ℕ) (es : List Element) (r : Reading (List Event)) (x : Reads s d es r) (at : ℕ) (z : State) → Passes s es (x .decisions) d at z → length (z .around) ≤ 24
+few-open = kept.few-open
 
-  same-nine : BothLegible s d → b .number ≡ 9 → a .number ≡ 9
-  same-nine i h =
-      let (j, es, r, x) = reader-ambiguous-exactly m s d other b left kept .0 h in
-      ambiguous-exactly l s before a after judged .1 (i .type, es, r, x)
-
-  pub same-verdict : BothLegible s d → SameVerdict a b
-  same-verdict i = record { ambiguous = (λ h. rw (same-answer i (omega arith) (omega arith)) at h, same-nine i); same = same-answer i }
+-- Demand 3: "type judge and reader refuse a type as ambiguous" alike, and in all else about the type.
+pub same-verdict : (l m : Lent) (s d before other : List ℕ) (a b : Answer) (after left : List ℕ) → Promise l s before a after → ReaderPromise m s d other b left → BothLegible s d → SameVerdict a b
+same-verdict = kept.same-verdict

@@ -1,4 +1,7 @@
--- The demands of paper 01: read Demands first.
+-- The demands of paper 01: read Demands first, then Words.
 pub mod Demands
+pub mod Words
+-- The proofs behind them.
+pub mod Kept
 pub mod Proofs
 pub mod ReaderProofs
