@@ -1,1 +1,3 @@
 -- How open elements are closed.
+pub mod Means
+pub mod Laws

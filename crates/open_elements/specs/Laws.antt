@@ -11,12 +11,12 @@ use lib.Seq.{getD-set-same, getD-set-other}
 use Rattle.rules.specs.TypeFile.{Element}
 use Rattle.rules.specs.Settling.{Event, isOpen}
 use Rattle.rules.specs.Settling as rules
-use Rattle.last_places.specs.Last.{InRange, Sound}
+use Rattle.last_places.specs.Last.{lastOnly, allLast, short, InRange, Sound}
 use Rattle.last_places.specs.Short.{last-placed}
 use Rattle.type_tables.specs.Means.{standing, width}
 use Rattle.open_elements.specs.declared.Entry.{Entry}
 use Rattle.open_elements.specs.declared.Open.{Open}
-use Rattle.open_elements.specs.Means.{none, opened, aroundOf, current, around, fresh, took, opening, ended, bringing, refusing, noted, eventAt, eventsIn, Stands}
+use Rattle.open_elements.specs.Means.{none, opened, aroundOf, current, around, stateOf, fresh, took, opening, ended, bringing, refusing, noted, eventAt, eventsIn, Stands}
 
 -- The elements around the current one
 
@@ -51,6 +51,17 @@ around-ended o l = aroundOf-less (o .around) (o .count) l
 -- Where nothing is open, nothing is around the current element.
 pub around-none : (o : Open) → o .count ≡ 0 → around o ≡ []
 around-none o e = rw e
+
+-- Of each open element the state has the last place only.
+standing-last : (e u : ℕ) → lastOnly (standing e u) ≡ standing e u
+standing-last e u = ap (standing e) (last-placed u)
+
+aroundOf-last : (a : List Entry) (n : ℕ) → allLast (aroundOf a n) ≡ aroundOf a n
+aroundOf-last a zero = refl
+aroundOf-last a (suc n) = rw (standing-last (getD a n none .element) (getD a n none .place), aroundOf-last a n)
+
+pub stateOf-short : (o : Open) (ev : List Event) → short (stateOf o ev) ≡ stateOf o ev
+stateOf-short o ev = rw (standing-last (o .element) (o .place), aroundOf-last (o .around) (o .count))
 
 -- Whether an element is open
 
