@@ -1,35 +1,27 @@
+-- `end_fault` meets its contract: each way by what the tables answer.
 use native.Mathlib.Omega.{arith}
 use borrow.Author.Needs.{needs}
 use borrow.Author.Tests.{not-true, not-false}
-use Rattle.closing.specs.Laws.{judges-incomplete, judges-out, judges-required}
+use Rattle.closing.specs.Loop.{judges-incomplete, judges-out, judges-required}
 use Rattle.closing.proofs.end_fault.Statement.{statement}
 use Rattle.closing.proofs.end_fault.Tie as tie
-use Rattle.closing.proofs.end_fault.Reads as reads
-use Rattle.closing.proofs.end_fault.Lts as lts
-use Rattle.type_tables.proofs.complete.Reads as complete-reads
-use Rattle.type_tables.proofs.end_omitted.Reads as end-omitted-reads
 
--- src/lib.rt:22:9
 complete-requires : tie.Need-complete-requires
 complete-requires c κs = search needs
 
--- src/lib.rt:23:9
 returns : tie.Need-returns
 returns c =
     let a = c .before .before .args in
     (omega arith, judges-incomplete (a .rows .now) (a .facts .now) (a .state) (not-true _ (c .if1 .taken)) (c .before .complete .ensures))
 
--- src/lib.rt:25:8
 end-omitted-requires : tie.Need-end-omitted-requires
 end-omitted-requires c κs = search needs
 
--- src/lib.rt:18:1
 returns-2 : tie.Need-returns-2
 returns-2 c =
     let a = c .before .before .before .before .args in
     (omega arith, judges-out (a .rows .now) (a .facts .now) (a .state) (not-false _ (c .before .before .if1 .left)) (c .before .before .before .complete .ensures) (c .if2 .taken) (c .before .end-omitted .ensures))
 
--- src/lib.rt:18:1
 returns-3 : tie.Need-returns-3
 returns-3 c =
     let a = c .before .before .before .before .args in

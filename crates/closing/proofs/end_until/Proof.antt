@@ -1,16 +1,12 @@
+-- `end_until` meets its contract: between two turns the rules go on from the present state as they would from the first.
 use Prim.Native.Nat.{_≤_}
 use mathlib.Core.Path.{ap}
 use native.Mathlib.Omega.{arith}
 use borrow.Author.Needs.{needs}
 use Rattle.closing.specs.Means.{Goes}
-use Rattle.closing.specs.Laws.{some-open, tabled, anyClosing-goes, goes-start, goes-turn, until-here, until-none, until-refused}
+use Rattle.closing.specs.Loop.{some-open, tabled, anyClosing-goes, goes-start, goes-turn, until-here, until-none, until-refused}
 use Rattle.closing.proofs.end_until.Statement.{statement}
 use Rattle.closing.proofs.end_until.Tie as tie
-use Rattle.closing.proofs.end_until.Reads as reads
-use Rattle.closing.proofs.end_until.Lts as lts
-use Rattle.closing.proofs.end_fault.Reads as end-fault-reads
-use Rattle.open_elements.proofs.Open.refused.Reads as refused-reads
-use Rattle.open_elements.proofs.infer_end.Reads as infer-end-reads
 
 abbrev Inv-loop : tie.InvT-loop
 Inv-loop rows facts x at events₀ o₀ events o = Goes rows facts x at o₀ events₀ o events
@@ -18,33 +14,27 @@ Inv-loop rows facts x at events₀ o₀ events o = Goes rows facts x at o₀ eve
 abbrev μ-loop : tie.MeasureT-loop
 μ-loop rows facts x at events₀ o₀ events o = o .count
 
--- src/lib.rt:46:5
 loop-holds : tie.Need-loop-holds Inv-loop μ-loop
 loop-holds c = goes-start (c .pre .1 .0 .1)
 
--- src/lib.rt:48:13
 returns : tie.Need-returns Inv-loop μ-loop
 returns c = until-here (c .before .before .before .before .loop .inv) (c .if2 .taken)
 
--- src/lib.rt:50:13
 end-fault-requires : tie.Need-end-fault-requires Inv-loop μ-loop
 end-fault-requires c κs =
     let l = c .before .before .before .before in
     let t = tabled (anyClosing-goes (l .before .pre .0) (l .loop .inv .stands)) in
     (t .0, t .1)
 
--- src/lib.rt:52:13
 refused-requires : tie.Need-refused-requires Inv-loop μ-loop
 refused-requires c κs = search needs
 
--- src/lib.rt:52:13
 returns-2 : tie.Need-returns-2 Inv-loop μ-loop
 returns-2 c =
     let l = c .before .before .before .before .before .before .before in
     let j = c .before .before .end-fault .ensures in
     until-refused (l .loop .inv) (some-open _ (c .before .before .before .before .before .if1 .taken)) (c .before .before .before .if2 .left) (c .before .if3 .taken) (j .0) (j .1) (c .refused .ensures)
 
--- src/lib.rt:54:13
 infer-end-requires : tie.Need-infer-end-requires Inv-loop μ-loop
 infer-end-requires c κs =
     let l = c .before .before .before .before .before .before .before in
@@ -53,20 +43,17 @@ infer-end-requires c κs =
     let n = l .loop .inv .few in
     (some-open _ (c .before .before .before .before .before .if1 .taken), t .2, omega arith, omega (arith, tabled (p .0) .2, p .1 .0 .0), p .1 .1)
 
--- src/lib.rt:46:5
 loop-less : tie.Need-loop-less Inv-loop μ-loop
 loop-less c =
     let e = ap (λ o. o .count) (c .infer-end .ensures .0) in
     omega (arith, some-open _ (c .before .before .before .before .before .before .if1 .taken))
 
--- src/lib.rt:46:5
 loop-again : tie.Need-loop-again Inv-loop μ-loop
 loop-again c =
     let l = c .before .before .before .before .before .before .before .before in
     goes-turn (l .loop .inv) (some-open _ (c .before .before .before .before .before .before .if1 .taken)) (c .before .before .before .before .if2 .left) (c .before .before .if3 .left)
     (c .before .before .before .end-fault .ensures .1) (c .infer-end .ensures .0) (c .infer-end .ensures .1)
 
--- src/lib.rt:33:1
 returns-3 : tie.Need-returns-3 Inv-loop μ-loop
 returns-3 c = until-none (c .before .before .loop .inv) (c .if1 .left)
 
