@@ -19,10 +19,6 @@ use Rattle.open_elements.specs.Laws.{around-ended, around-none, stands-range, s
 use Rattle.closing.specs.Means.{inferEnds, inferred, dueOf, Judges, Until, Goes}
 use Rattle.closing.specs.Ends.{left-incomplete, left-required, left-out, ends-here, ends-none, ends-past}
 
-pub some-open : (n : ℕ) → (n ≡ 0 → ⊥) → 1 ≤ n
-some-open zero h = absurd (h refl)
-some-open (suc n) h = omega arith
-
 -- What is asked of the tables
 
 width-in : {s : List ℕ} {es : List Element} → Accepts s es → (e : ℕ) → width es e ≤ 96

@@ -4,13 +4,12 @@
 use open_elements::Open;
 ghost use mathlib.Core.Path.{_≡_};
 ghost use mathlib.Core.List.{List};
-ghost use Prim.Native.Nat.{ℕ, _+_, _≤_, _<_};
+ghost use Prim.Native.Nat.{ℕ, _≤_, _<_};
 ghost use Rattle.rules.specs.TypeFile.{Element};
 ghost use Rattle.rules.specs.Settling.{Event, endElement, endDocument};
-ghost use Rattle.rules.specs.Settling as rules;
 ghost use Rattle.document_laws.specs.Decide.{decided};
 ghost use Rattle.last_places.specs.Last.{shortly};
-ghost use Rattle.type_tables.specs.Means.{Declares, Rows, Facts};
+ghost use Rattle.type_tables.specs.Means.{Rows, Facts};
 ghost use Rattle.open_elements.specs.Means.{stateOf, outcome, closed, Stands, AnyClosing, Fresh};
 ghost use Rattle.closing.specs.Means.{Judges, Until};
 
@@ -19,14 +18,15 @@ fn end_fault(rows: &[u8; 88270], facts: &[u8; 4420], state: Open) -> u32
     requires { ⌜ (state .element ≤ 64) × (state .place ≤ 96) ⌝ }
     ensures { λ r. ⌜ (r < 20) × Judges (now (rows .entry)) (now (facts .entry)) state r ⌝ }
 {
-    if !type_tables::complete(rows, state.element, state.place) {
+    let complete = type_tables::complete(rows, state.element, state.place);
+    let omitted = type_tables::end_omitted(facts, state.element);
+    if !complete {
         return 13;
     }
-    if type_tables::end_omitted(facts, state.element) {
-        0
-    } else {
-        14
+    if !omitted {
+        return 14;
     }
+    0
 }
 
 // Ends are inferred until the current element is x, or there is nothing around it.
@@ -43,7 +43,7 @@ fn end_until(
     ensures { λ r. ⌜ Until (now (rows .entry)) (now (facts .entry)) x at state (now (events .entry)) r (now (events .exit)) ⌝ }
 {
     let mut o = state;
-    while o.count != 0 {
+    while 0 < o.count {
         if o.element == x {
             return o;
         }

@@ -1,8 +1,9 @@
 -- `end_tag` meets its contract: each way by what the loop leaves and the tables answer.
 use mathlib.Core.Path.{sym, _∙_}
+use native.Mathlib.Omega.{arith}
 use borrow.Author.Needs.{needs}
 use borrow.Author.Tests.{not-true, not-false}
-use Rattle.closing.specs.Loop.{some-open, tabled, anyClosing-goes}
+use Rattle.closing.specs.Loop.{tabled, anyClosing-goes}
 use Rattle.closing.specs.Laws.{Sought, tag-unopened, tag-refused, tag-outermost, tag-incomplete, tag-closed}
 use Rattle.closing.proofs.end_tag.Statement.{statement}
 use Rattle.closing.proofs.end_tag.Tie as tie
@@ -57,7 +58,7 @@ refused-requires-3 c κs = search needs
 returns-4 : tie.Need-returns-4
 returns-4 c =
     let e = c .before .before .before .before .before .before .before in
-    tag-incomplete (e .before .before .before .before .args .after) (sought e) (c .before .before .before .before .before .if2 .left) (some-open _ (c .before .before .before .if3 .left)) (c .before .before .complete .ensures) (not-true _ (c .before .if4 .taken)) (c .refused3 .ensures)
+    tag-incomplete (e .before .before .before .before .args .after) (sought e) (c .before .before .before .before .before .if2 .left) (omega arith) (c .before .before .complete .ensures) (not-true _ (c .before .if4 .taken)) (c .refused3 .ensures)
 
 sub-put-event : tie.Need-sub-put-event
 sub-put-event c = search needs
@@ -75,7 +76,7 @@ returns-5 : tie.Need-returns-5
 returns-5 c =
     let e = c .before .before .before .before .before .before .before .before .before .before in
     let p = c .before .before .put-event in
-    tag-closed (e .before .before .before .before .args .after) (sought e) (c .before .before .before .before .before .before .before .before .if2 .left) (some-open _ (c .before .before .before .before .before .before .if3 .left)) (c .before .before .before .before .before .complete .ensures) (p .last .0) (not-false _ (c .before .before .before .before .if4 .left))
+    tag-closed (e .before .before .before .before .args .after) (sought e) (c .before .before .before .before .before .before .before .before .if2 .left) (omega (arith, c .before .before .before .before .before .before .if3 .left)) (c .before .before .before .before .before .complete .ensures) (p .last .0) (not-false _ (c .before .before .before .before .if4 .left))
     (p .ensures .1) (c .brought .ensures ∙ rw (c .before .end .ensures, p .ensures .0))
 
 pub end-tag-spec : {M : Type 1} → statement M

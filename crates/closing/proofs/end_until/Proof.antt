@@ -4,7 +4,7 @@ use mathlib.Core.Path.{ap}
 use native.Mathlib.Omega.{arith}
 use borrow.Author.Needs.{needs}
 use Rattle.closing.specs.Means.{Goes}
-use Rattle.closing.specs.Loop.{some-open, tabled, anyClosing-goes, goes-start, goes-turn, until-here, until-none, until-refused}
+use Rattle.closing.specs.Loop.{tabled, anyClosing-goes, goes-start, goes-turn, until-here, until-none, until-refused}
 use Rattle.closing.proofs.end_until.Statement.{statement}
 use Rattle.closing.proofs.end_until.Tie as tie
 
@@ -33,7 +33,7 @@ returns-2 : tie.Need-returns-2 Inv-loop μ-loop
 returns-2 c =
     let l = c .before .before .before .before .before .before .before in
     let j = c .before .before .end-fault .ensures in
-    until-refused (l .loop .inv) (some-open _ (c .before .before .before .before .before .if1 .taken)) (c .before .before .before .if2 .left) (c .before .if3 .taken) (j .0) (j .1) (c .refused .ensures)
+    until-refused (l .loop .inv) (omega arith) (c .before .before .before .if2 .left) (c .before .if3 .taken) (j .0) (j .1) (c .refused .ensures)
 
 infer-end-requires : tie.Need-infer-end-requires Inv-loop μ-loop
 infer-end-requires c κs =
@@ -41,21 +41,21 @@ infer-end-requires c κs =
     let p = l .before .pre in
     let t = tabled (anyClosing-goes (p .0) (l .loop .inv .stands)) in
     let n = l .loop .inv .few in
-    (some-open _ (c .before .before .before .before .before .if1 .taken), t .2, omega arith, omega (arith, tabled (p .0) .2, p .1 .0 .0), p .1 .1)
+    (omega arith, t .2, omega arith, omega (arith, tabled (p .0) .2, p .1 .0 .0), p .1 .1)
 
 loop-less : tie.Need-loop-less Inv-loop μ-loop
 loop-less c =
     let e = ap (λ o. o .count) (c .infer-end .ensures .0) in
-    omega (arith, some-open _ (c .before .before .before .before .before .before .if1 .taken))
+    omega arith
 
 loop-again : tie.Need-loop-again Inv-loop μ-loop
 loop-again c =
     let l = c .before .before .before .before .before .before .before .before in
-    goes-turn (l .loop .inv) (some-open _ (c .before .before .before .before .before .before .if1 .taken)) (c .before .before .before .before .if2 .left) (c .before .before .if3 .left)
+    goes-turn (l .loop .inv) (omega arith) (c .before .before .before .before .if2 .left) (c .before .before .if3 .left)
     (c .before .before .before .end-fault .ensures .1) (c .infer-end .ensures .0) (c .infer-end .ensures .1)
 
 returns-3 : tie.Need-returns-3 Inv-loop μ-loop
-returns-3 c = until-none (c .before .before .loop .inv) (c .if1 .left)
+returns-3 c = until-none (c .before .before .loop .inv) (omega arith)
 
 pub end-until-spec : {M : Type 1} → statement M
 end-until-spec =
