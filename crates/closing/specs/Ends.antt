@@ -1,5 +1,5 @@
 -- Ends inferred from the current element outwards, in the rules: what one end comes to, and how an end tag and the document's end go on where no more is inferred.
-use Prim.Native.Nat.{ℕ, _≤_}
+use Prim.Native.Nat.{ℕ}
 use mathlib.Core.Path.{_≡_, refl, ap, sym, _∙_}
 use mathlib.Core.Bool.{Bool, true, false}
 use mathlib.Core.List.{List, [], _∷_, _++_}

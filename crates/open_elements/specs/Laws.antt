@@ -3,7 +3,7 @@ use Prim.Native.Nat.{ℕ, zero, suc, _+_, _-_, _*_, _≤_, _<_}
 use mathlib.Core.Path.{_≡_, refl, ap, sym, _∙_, subst}
 use mathlib.Core.Bool.{true, false}
 use mathlib.Core.List.{List, [], _∷_, _++_, append-assoc, append-nil}
-use native.Mathlib.Numerals.{add-one, sub-one}
+use native.Mathlib.Numerals.{add-one}
 use native.Mathlib.Omega.{arith}
 use borrow.Author.Tests.{eq-eqb, ne-eqb}
 use lib.ListN.{length, getD, set, length-set, length-replicate}
@@ -47,6 +47,11 @@ aroundOf-less a (suc n) l = let e : suc n - 1 ≡ n = omega arith in rw e
 -- Ending the current element makes the innermost of those around it the current one.
 pub around-ended : (o : Open) → 1 ≤ o .count → around o ≡ current (ended o) ∷ around (ended o)
 around-ended o l = aroundOf-less (o .around) (o .count) l
+
+-- The parent's element and place, as they were read, make the state that `ended` gives.
+pub ended-by : (o : Open) {e p : ℕ} → e ≡ getD (o .around) (o .count - 1) none .element → p ≡ getD (o .around) (o .count - 1) none .place
+    → record { around = o .around; count = o .count - 1; element = e; place = p; events = o .events; number = o .number } ≡ ended o
+ended-by o h k = rw (h, k)
 
 -- Where nothing is open, nothing is around the current element.
 pub around-none : (o : Open) → o .count ≡ 0 → around o ≡ []

@@ -1,5 +1,4 @@
 -- `end_until` meets its contract: between two turns the rules go on from the present state as they would from the first.
-use Prim.Native.Nat.{_≤_}
 use mathlib.Core.Path.{ap}
 use native.Mathlib.Omega.{arith}
 use borrow.Author.Needs.{needs}
