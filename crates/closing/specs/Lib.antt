@@ -1,1 +1,5 @@
 -- How open elements are closed.
+pub mod Means
+pub mod Ends
+pub mod Loop
+pub mod Laws

@@ -4,25 +4,29 @@
 use open_elements::Open;
 ghost use mathlib.Core.Path.{_≡_};
 ghost use mathlib.Core.List.{List};
-ghost use Prim.Native.Nat.{ℕ, _+_, _≤_, _<_};
+ghost use Prim.Native.Nat.{ℕ, _≤_, _<_};
 ghost use Rattle.rules.specs.TypeFile.{Element};
 ghost use Rattle.rules.specs.Settling.{Event, endElement, endDocument};
-ghost use Rattle.rules.specs.Settling as rules;
 ghost use Rattle.document_laws.specs.Decide.{decided};
 ghost use Rattle.last_places.specs.Last.{shortly};
-ghost use Rattle.type_tables.specs.Means.{Declares, Rows, Facts};
+ghost use Rattle.type_tables.specs.Means.{Rows, Facts};
 ghost use Rattle.open_elements.specs.Means.{stateOf, outcome, closed, Stands, AnyClosing, Fresh};
+ghost use Rattle.closing.specs.Means.{Judges, Until};
 
 // Why the current element cannot have its end inferred by an end tag or the document's end: 13, 14, or 0 if it can.
-fn end_fault(rows: &[u8; 88270], facts: &[u8; 4420], state: Open) -> u32 {
-    if !type_tables::complete(rows, state.element, state.place) {
+fn end_fault(rows: &[u8; 88270], facts: &[u8; 4420], state: Open) -> u32
+    requires { ⌜ (state .element ≤ 64) × (state .place ≤ 96) ⌝ }
+    ensures { λ r. ⌜ (r < 20) × Judges (now (rows .entry)) (now (facts .entry)) state r ⌝ }
+{
+    let complete = type_tables::complete(rows, state.element, state.place);
+    let omitted = type_tables::end_omitted(facts, state.element);
+    if !complete {
         return 13;
     }
-    if type_tables::end_omitted(facts, state.element) {
-        0
-    } else {
-        14
+    if !omitted {
+        return 14;
     }
+    0
 }
 
 // Ends are inferred until the current element is x, or there is nothing around it.
@@ -33,9 +37,16 @@ fn end_until(
     x: usize,
     at: usize,
     events: &mut [u32; 200],
-) -> Open {
+) -> Open
+    requires { ⌜ AnyClosing (now rows) (now facts) state ⌝ }
+    requires { ⌜ Fresh state × (at < 4294967296) ⌝ }
+    ensures { λ r. ⌜ Until (now (rows .entry)) (now (facts .entry)) x at state (now (events .entry)) r (now (events .exit)) ⌝ }
+{
     let mut o = state;
-    while o.count != 0 && o.element != x {
+    while 0 < o.count {
+        if o.element == x {
+            return o;
+        }
         let f = end_fault(rows, facts, o);
         if f != 0 {
             return o.refused(f);

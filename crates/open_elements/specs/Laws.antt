@@ -3,7 +3,7 @@ use Prim.Native.Nat.{ℕ, zero, suc, _+_, _-_, _*_, _≤_, _<_}
 use mathlib.Core.Path.{_≡_, refl, ap, sym, _∙_, subst}
 use mathlib.Core.Bool.{true, false}
 use mathlib.Core.List.{List, [], _∷_, _++_, append-assoc, append-nil}
-use native.Mathlib.Numerals.{add-one, sub-one}
+use native.Mathlib.Numerals.{add-one}
 use native.Mathlib.Omega.{arith}
 use borrow.Author.Tests.{eq-eqb, ne-eqb}
 use lib.ListN.{length, getD, set, length-set, length-replicate}
@@ -11,12 +11,12 @@ use lib.Seq.{getD-set-same, getD-set-other}
 use Rattle.rules.specs.TypeFile.{Element}
 use Rattle.rules.specs.Settling.{Event, isOpen}
 use Rattle.rules.specs.Settling as rules
-use Rattle.last_places.specs.Last.{InRange, Sound}
+use Rattle.last_places.specs.Last.{lastOnly, allLast, short, InRange, Sound}
 use Rattle.last_places.specs.Short.{last-placed}
 use Rattle.type_tables.specs.Means.{standing, width}
 use Rattle.open_elements.specs.declared.Entry.{Entry}
 use Rattle.open_elements.specs.declared.Open.{Open}
-use Rattle.open_elements.specs.Means.{none, opened, aroundOf, current, around, fresh, took, opening, ended, bringing, refusing, noted, eventAt, eventsIn, Stands}
+use Rattle.open_elements.specs.Means.{none, opened, aroundOf, current, around, stateOf, fresh, took, opening, ended, bringing, refusing, noted, eventAt, eventsIn, Stands}
 
 -- The elements around the current one
 
@@ -48,9 +48,25 @@ aroundOf-less a (suc n) l = let e : suc n - 1 ≡ n = omega arith in rw e
 pub around-ended : (o : Open) → 1 ≤ o .count → around o ≡ current (ended o) ∷ around (ended o)
 around-ended o l = aroundOf-less (o .around) (o .count) l
 
+-- The parent's element and place, as they were read, make the state that `ended` gives.
+pub ended-by : (o : Open) {e p : ℕ} → e ≡ getD (o .around) (o .count - 1) none .element → p ≡ getD (o .around) (o .count - 1) none .place
+    → record { around = o .around; count = o .count - 1; element = e; place = p; events = o .events; number = o .number } ≡ ended o
+ended-by o h k = rw (h, k)
+
 -- Where nothing is open, nothing is around the current element.
 pub around-none : (o : Open) → o .count ≡ 0 → around o ≡ []
 around-none o e = rw e
+
+-- Of each open element the state has the last place only.
+standing-last : (e u : ℕ) → lastOnly (standing e u) ≡ standing e u
+standing-last e u = ap (standing e) (last-placed u)
+
+aroundOf-last : (a : List Entry) (n : ℕ) → allLast (aroundOf a n) ≡ aroundOf a n
+aroundOf-last a zero = refl
+aroundOf-last a (suc n) = rw (standing-last (getD a n none .element) (getD a n none .place), aroundOf-last a n)
+
+pub stateOf-short : (o : Open) (ev : List Event) → short (stateOf o ev) ≡ stateOf o ev
+stateOf-short o ev = rw (standing-last (o .element) (o .place), aroundOf-last (o .around) (o .count))
 
 -- Whether an element is open
 

@@ -5,7 +5,7 @@ ghost use mathlib.Core.Path.{_≡_};
 ghost use mathlib.Core.List.{_∷_, [], _++_};
 ghost use Prim.Native.Nat.{_+_, _≤_, _<_};
 ghost use lib.ListN.{length};
-ghost use Rattle.rules.specs.Settling.{isOpen, Event, endInferred};
+ghost use Rattle.rules.specs.Settling.{isOpen, endInferred};
 ghost use Rattle.open_elements.specs.Means.{fresh, took, opening, ended, bringing, refusing, around, current, eventsIn, noted};
 
 // An open element and the place that was taken last in it, or 0.

@@ -1,5 +1,6 @@
 -- `end` meets its contract: the parent is read as it was written down.
 use borrow.Author.Needs.{needs}
+use Rattle.open_elements.specs.Laws.{ended-by}
 use Rattle.open_elements.proofs.Open.end.Statement.{statement}
 use Rattle.open_elements.proofs.Open.end.Tie as tie
 
@@ -19,7 +20,7 @@ wide-requires-2 : tie.Need-wide-requires-2
 wide-requires-2 c κs = search needs
 
 returns : tie.Need-returns
-returns c = rw (c .before .wide .ensures, c .wide2 .ensures)
+returns c = ended-by (c .before .before .before .args .t1) (c .before .wide .ensures) (c .wide2 .ensures)
 
 pub end-spec : {M : Type 1} → statement M
 end-spec =
