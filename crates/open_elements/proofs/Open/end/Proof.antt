@@ -20,7 +20,7 @@ wide-requires-2 : tie.Need-wide-requires-2
 wide-requires-2 c κs = search needs
 
 returns : tie.Need-returns
-returns c = ended-by (c .before .before .before .args .t1) (c .before .wide .ensures) (c .wide2 .ensures)
+returns c = ended-by (c .before .before .before .before .before .args .self) (c .before .wide .ensures) (c .wide2 .ensures)
 
 pub end-spec : {M : Type 1} → statement M
 end-spec =
