@@ -1,2 +1,3 @@
--- What a lent buffer holds after events were written.
+-- What a lent buffer holds after events were written, and laws of it.
 pub mod Means
+pub mod Laws
