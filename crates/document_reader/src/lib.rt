@@ -4,10 +4,9 @@ use text::Fault;
 use type_judge::Clash;
 use type_judge::Verdict;
 ghost use mathlib.Core.Path.{_≡_};
-ghost use Prim.Native.Nat.{_≤_};
-ghost use lib.ListN.{length};
+ghost use Rattle.rules.specs.Bytes.{allowed};
 ghost use Rattle.rules.specs.Reader.{ReadAs, ReadAsBytes};
-ghost use Rattle.document_reader.specs.Means.{answerOf};
+ghost use Rattle.document_reader.specs.Means.{answerOf, isClean, failing, Judges, Answers, fittedTo, isRefusal};
 
 // How many numbers an event has.
 const WIDTH: usize = 4;
@@ -22,12 +21,16 @@ pub enum Answer {
 }
 
 // 1 for a byte that is not allowed, else 0.
-fn unfit(b: u8) -> u8 {
+fn unfit(b: u8) -> u8
+    ensures { λ r. ⌜ r ≡ failing (allowed b) ⌝ }
+{
     if text::is_allowed(b) { 0 } else { 1 }
 }
 
 // Whether all bytes are allowed. It looks at all of them, so that many can be looked at at a time.
-fn all_allowed(d: &[u8]) -> bool {
+fn all_allowed(d: &[u8]) -> bool
+    ensures { λ r. ⌜ r ≡ isClean (now (d .entry)) ⌝ }
+{
     let mut bad = 0u8;
     let mut i = 0;
     while i < d.len() {
@@ -41,7 +44,9 @@ fn all_allowed(d: &[u8]) -> bool {
 }
 
 // Numbers 1 and 2 of both inputs, then the type: accepted with so many elements in `elements`, or refused.
-fn judged(s: &[u8], d: &[u8], elements: &mut [u32; 384]) -> Answer {
+fn judged(s: &[u8], d: &[u8], elements: &mut [u32; 384]) -> Answer
+    ensures { λ r. ⌜ Judges (now (s .entry)) (now (d .entry)) (now (elements .exit)) r ⌝ }
+{
     if 32768 < s.len() {
         return Answer::InType(Fault { number: 1, at: 0 });
     }
@@ -53,10 +58,8 @@ fn judged(s: &[u8], d: &[u8], elements: &mut [u32; 384]) -> Answer {
         return Answer::InType(Fault { number: 2, at: a });
     }
     if !all_allowed(d) {
-        return Answer::InDocument(Fault {
-            number: 2,
-            at: text::allowed_end(d),
-        });
+        let b = text::allowed_end(d);
+        return Answer::InDocument(Fault { number: 2, at: b });
     }
     let v = type_judge::decide(s, 384, elements);
     match v {
@@ -67,7 +70,9 @@ fn judged(s: &[u8], d: &[u8], elements: &mut [u32; 384]) -> Answer {
 }
 
 // Judges the type and reads the document; a refusal zeroes nothing yet.
-fn answered(s: &[u8], d: &[u8], numbers: &mut [u32], bytes: &mut [u8]) -> Answer {
+fn answered(s: &[u8], d: &[u8], numbers: &mut [u32], bytes: &mut [u8]) -> Answer
+    ensures { λ r. ⌜ Answers (now (s .entry)) (now (d .entry)) (now (numbers .entry)) (now (numbers .exit)) (now (bytes .entry)) (now (bytes .exit)) r ⌝ }
+{
     let mut elements = [0u32; 384];
     let v = judged(s, d, &mut elements);
     let Answer::Accepted(n) = v else {
@@ -97,7 +102,9 @@ fn answered(s: &[u8], d: &[u8], numbers: &mut [u32], bytes: &mut [u8]) -> Answer
 }
 
 // The answer where so many events fit.
-fn fitted(a: Answer, room: usize) -> Answer {
+fn fitted(a: Answer, room: usize) -> Answer
+    ensures { λ r. ⌜ r ≡ fittedTo room a ⌝ }
+{
     let Answer::Accepted(count) = a else {
         return a;
     };
@@ -107,6 +114,18 @@ fn fitted(a: Answer, room: usize) -> Answer {
     a
 }
 
+// Whether the answer refuses one of the inputs.
+fn refuses(a: Answer) -> bool
+    ensures { λ r. ⌜ r ≡ isRefusal a ⌝ }
+{
+    match a {
+        Answer::Accepted(_) => false,
+        Answer::InType(_) => true,
+        Answer::Ambiguous(_) => true,
+        Answer::InDocument(_) => true,
+    }
+}
+
 // Reads a document under a type file. The buffer gets four numbers for each event, or is zeroed.
 pub fn read(s: &[u8], d: &[u8], buffer: &mut [u32]) -> Answer
     ensures { λ r. ⌜ ReadAs (now (s .entry)) (now (d .entry)) (now (buffer .entry)) (answerOf r) (now (buffer .exit)) ⌝ }
@@ -114,10 +133,9 @@ pub fn read(s: &[u8], d: &[u8], buffer: &mut [u32]) -> Answer
     let mut none = [0u8; 1];
     let v = answered(s, d, buffer, &mut none);
     let a = fitted(v, buffer.len() / WIDTH);
-    let Answer::Accepted(_) = a else {
+    if refuses(a) {
         event_buffer::clear_numbers(buffer);
-        return a;
-    };
+    }
     a
 }
 
@@ -128,9 +146,8 @@ pub fn read_to_bytes(s: &[u8], d: &[u8], buffer: &mut [u8]) -> Answer
     let mut none = [0u32; 1];
     let v = answered(s, d, &mut none, buffer);
     let a = fitted(v, buffer.len() / 4 / WIDTH);
-    let Answer::Accepted(_) = a else {
+    if refuses(a) {
         event_buffer::clear_bytes(buffer);
-        return a;
-    };
+    }
     a
 }

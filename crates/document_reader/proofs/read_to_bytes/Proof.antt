@@ -1,0 +1,56 @@
+-- `read_to_bytes` meets its contract: what was answered and fits is in the buffer, and a refusal clears it.
+use mathlib.Core.Path.{sym, _∙_}
+use Rattle.document_reader.specs.Laws.{bytes-accepted, bytes-refused}
+use borrow.Author.Needs.{needs}
+use Rattle.document_reader.proofs.read_to_bytes.Statement.{statement}
+use Rattle.document_reader.proofs.read_to_bytes.Tie as tie
+
+slice-aggregate-answered : tie.Need-slice-aggregate-answered
+slice-aggregate-answered c = search needs
+
+answered-requires : tie.Need-answered-requires
+answered-requires c κs = search needs
+
+fitted-requires : tie.Need-fitted-requires
+fitted-requires c κs = search needs
+
+refuses-requires : tie.Need-refuses-requires
+refuses-requires c κs = search needs
+
+clear-bytes-requires : tie.Need-clear-bytes-requires
+clear-bytes-requires c κs = search needs
+
+same-length : tie.Need-same-length
+same-length c = search needs
+
+returns : tie.Need-returns
+returns c =
+    let t = c .before .before .before .before in
+    let f = t .before .before in
+    let w = f .before .before .before .before .answered in
+    let g = sym (t .before .refuses .ensures) ∙ t .if1 .taken in
+    bytes-refused _ _ _ _ (w .result) (f .fitted .result) (w .kept .1 .1 .1 .0) _ _ (w .ensures) (f .fitted .ensures) _ g (c .before .before .clear-bytes .ensures)
+
+same-length-2 : tie.Need-same-length-2
+same-length-2 c = search needs
+
+returns-2 : tie.Need-returns-2
+returns-2 c =
+    let f = c .before .before in
+    let w = f .before .before .before .before .answered in
+    let g = sym (c .before .refuses .ensures) ∙ c .if1 .left in
+    bytes-accepted _ _ _ _ (w .result) (f .fitted .result) (w .kept .1 .1 .1 .0) _ _ (w .ensures) (f .fitted .ensures) g
+
+pub read-to-bytes-spec : {M : Type 1} → statement M
+read-to-bytes-spec =
+    tie.close
+    (tie.spec
+    slice-aggregate-answered
+    answered-requires
+    fitted-requires
+    refuses-requires
+    clear-bytes-requires
+    same-length
+    returns
+    same-length-2
+    returns-2)
