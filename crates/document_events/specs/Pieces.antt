@@ -110,9 +110,10 @@ module _ {rows places facts : List ℕ} {o : Open} {at : ℕ} {p : Piece} (fresh
     end-asked q =
         let (s, es, d, tables, stands, h, few, f) = a in
         let (n, l) = rw q at f in
-        let (k, m) = end-tag-range d at h _ (n .there) in
-        ((s, es, tables .accepted, tables .few, tables .rows-say, tables .facts-say, stands),
-        (fresh, omega arith, omega arith, omega arith, omega (arith, n .number, numberOf-range s es d (n .name) (n .size), tables .few)))
+        let (k, m) = end-tag-range d at h _ (n .there) in (
+          (s, es, tables .accepted, tables .few, tables .rows-say, tables .facts-say, stands),
+          (fresh, omega arith, omega arith, omega arith, omega (arith, n .number, numberOf-range s es d (n .name) (n .size), tables .few)),
+        )
 
   module _ {after : ℕ} (q : p ≡ found.Data after) where
     pub run-in : (at ≤ after) × (after ≤ 65535)

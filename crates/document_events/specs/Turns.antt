@@ -46,8 +46,17 @@ eventsIn-numbers l (suc n) h =
     let two : 4 * n + 2 ≡ suc (suc (4 * n)) = omega arith in
     let three : 4 * n + 3 ≡ suc (suc (suc (4 * n))) = omega arith in
     eventNumbers-append (eventsIn l n) (eventAt l n ∷ [])
-    ∙ rw (eventsIn-numbers l n (omega arith), one, two, three, four,
-    take-suc l (suc (suc (suc (4 * n)))) 0 (omega arith), take-suc l (suc (suc (4 * n))) 0 (omega arith), take-suc l (suc (4 * n)) 0 (omega arith), take-suc l (4 * n) 0 (omega arith))
+    ∙ rw (
+      eventsIn-numbers l n (omega arith),
+      one,
+      two,
+      three,
+      four,
+      take-suc l (suc (suc (suc (4 * n)))) 0 (omega arith),
+      take-suc l (suc (suc (4 * n))) 0 (omega arith),
+      take-suc l (suc (4 * n)) 0 (omega arith),
+      take-suc l (4 * n) 0 (omega arith),
+    )
     (simp append-assoc)
 
 -- What a turn leaves
@@ -153,14 +162,14 @@ going-start s elements index rows places facts d numbers bytes q =
       numbers-same = refl;
       bytes-same = refl;
       any = λ es i t.
-        record {
-          events = [];
-          reaches = reaches-start s es d;
-          stands = stands-fresh es;
-          counted = refl;
-          numbers-hold = written-none numbers;
-          bytes-hold = written-none bytes;
-        };
+          record {
+            events = [];
+            reaches = reaches-start s es d;
+            stands = stands-fresh es;
+            counted = refl;
+            numbers-hold = written-none numbers;
+            bytes-hold = written-none bytes;
+          };
     })
 
 -- What piece_at says of what stands at `at`, and settled of the turn.
@@ -213,16 +222,16 @@ module _ {s elements index rows places facts d numbers numbersNow bytes bytesNow
               numbers-same = written-length numbersNow (4 * count) _ ∙ g .numbers-same;
               bytes-same = written-length bytesNow (16 * count) _ ∙ g .bytes-same;
               any = λ es i t.
-                let c = g .any es i t in
-                let u = turned es i t in
-                record {
-                  events = c .events ++ eventsIn l (r .events);
-                  reaches = u .reaches z read;
-                  stands = stands-bringing 0 (u .stands z);
-                  counted = omega (arith, length-append (c .events) (eventsIn l (r .events)), eventsIn-length l (r .events));
-                  numbers-hold = events-more numbers numbersNow (c .events) (eventsIn l (r .events)) count (c .counted) (c .numbers-hold);
-                  bytes-hold = event-bytes-more bytes bytesNow (c .events) (eventsIn l (r .events)) count (c .counted) (c .bytes-hold);
-                };
+                  let c = g .any es i t in
+                  let u = turned es i t in
+                  record {
+                    events = c .events ++ eventsIn l (r .events);
+                    reaches = u .reaches z read;
+                    stands = stands-bringing 0 (u .stands z);
+                    counted = omega (arith, length-append (c .events) (eventsIn l (r .events)), eventsIn-length l (r .events));
+                    numbers-hold = events-more numbers numbersNow (c .events) (eventsIn l (r .events)) count (c .counted) (c .numbers-hold);
+                    bytes-hold = event-bytes-more bytes bytesNow (c .events) (eventsIn l (r .events)) count (c .counted) (c .bytes-hold);
+                  };
             })
 
   -- All is read.
@@ -246,9 +255,10 @@ module _ {s elements index rows places facts d numbers numbersNow bytes bytesNow
       pub end-counts : r .number ≡ 0 → {numbersAfter bytesAfter : List ℕ} → numbersAfter ≡ written numbersNow (4 * count) (eventNumbers (eventsIn l (r .events))) → bytesAfter ≡ written bytesNow (16 * count) (bytesOf (eventNumbers (eventsIn l (r .events)))) → (es : List Element) → Indexed s es elements index → Tables s es rows places facts → EventsOf s es d numbers numbersAfter bytes bytesAfter (counted.Events (count + r .events))
       end-counts z a b es i t =
           let c = g .any es i t in
-          rw (a, b)
-          (c .events ++ eventsIn l (r .events),
-          ends es i t (closed-got at r l (c .events) (closes es i t) z),
-          omega (arith, length-append (c .events) (eventsIn l (r .events)), eventsIn-length l (r .events), c .counted),
-          events-more numbers numbersNow (c .events) (eventsIn l (r .events)) count (c .counted) (c .numbers-hold),
-          event-bytes-more bytes bytesNow (c .events) (eventsIn l (r .events)) count (c .counted) (c .bytes-hold))
+          rw (a, b) (
+            c .events ++ eventsIn l (r .events),
+            ends es i t (closed-got at r l (c .events) (closes es i t) z),
+            omega (arith, length-append (c .events) (eventsIn l (r .events)), eventsIn-length l (r .events), c .counted),
+            events-more numbers numbersNow (c .events) (eventsIn l (r .events)) count (c .counted) (c .numbers-hold),
+            event-bytes-more bytes bytesNow (c .events) (eventsIn l (r .events)) count (c .counted) (c .bytes-hold),
+          )

@@ -57,46 +57,51 @@ returns c =
     let widened = c .before .before in
     let found = widened .before .before in
     let a = found .before .before .args in
-    let said = c .start-tag .ensures in
-    (λ s es d before tables stands h f reach.
-    let declared = start-declared s es d (a .state .element) (a .state .place) (a .at) (a .p) f (widened .widened .ensures) (found .p .given .1) in
-    turned-start s es d (a .at) (a .state) before h reach _ _ (said .1 .0 s es tables stands declared) (widened .widened .ensures) (a .p) (found .p .given .1) f (said .0 s es tables stands declared before),
-    said .1 .1)
+    let said = c .start-tag .ensures in (
+      λ s es d before tables stands h f reach.
+          let declared = start-declared s es d (a .state .element) (a .state .place) (a .at) (a .p) f (widened .widened .ensures) (found .p .given .1) in
+          turned-start s es d (a .at) (a .state) before h reach _ _ (said .1 .0 s es tables stands declared) (widened .widened .ensures) (a .p) (found .p .given .1) f (said .0 s es tables stands declared before),
+      said .1 .1,
+    )
 
 returns-2 : tie.Need-returns-2
 returns-2 c =
     let widened = c .before .before in
     let found = widened .before .before in
     let a = found .before .before .args in
-    let said = c .end-tag .ensures in
-    (λ s es d before tables stands h f reach.
-    turned-end s es d (a .at) (a .state) before h reach _ _ (said .1 .0 s es (tables .rows-say) (tables .facts-say) stands) (widened .widened2 .ensures) (a .p) (found .p2 .given .1) f (said .0 s es (tables .rows-say) (tables .facts-say) stands before),
-    said .1 .1)
+    let said = c .end-tag .ensures in (
+      λ s es d before tables stands h f reach.
+          turned-end s es d (a .at) (a .state) before h reach _ _ (said .1 .0 s es (tables .rows-say) (tables .facts-say) stands) (widened .widened2 .ensures) (a .p) (found .p2 .given .1) f (said .0 s es (tables .rows-say) (tables .facts-say) stands before),
+      said .1 .1,
+    )
 
 returns-3 : tie.Need-returns-3
 returns-3 c =
     let found = c .before .before .before in
     let a = found .before .before .args in
-    let said = c .data-run .ensures in
-    (λ s es d before tables stands h f reach.
-    turned-run s es d (a .at) (a .state) before h reach _ _ (said .1 .0 s es tables stands) (tables .accepted) (a .p) (found .p3 .given .1) f (said .0 s es tables stands before),
-    said .1 .1)
+    let said = c .data-run .ensures in (
+      λ s es d before tables stands h f reach.
+          turned-run s es d (a .at) (a .state) before h reach _ _ (said .1 .0 s es tables stands) (tables .accepted) (a .p) (found .p3 .given .1) f (said .0 s es tables stands before),
+      said .1 .1,
+    )
 
 returns-4 : tie.Need-returns-4
 returns-4 c =
     let start = c .before .before in
     let a = start .args in
-    let fresh = start .pre .1 in
-    (λ s es d before tables stands h f reach. turned-passed s es d (a .at) (a .state) fresh stands before h reach _ (a .p) (c .enum-told .given .1) f,
-    (omega arith, omega arith))
+    let fresh = start .pre .1 in (
+      λ s es d before tables stands h f reach. turned-passed s es d (a .at) (a .state) fresh stands before h reach _ (a .p) (c .enum-told .given .1) f,
+      (omega arith, omega arith),
+    )
 
 returns-5 : tie.Need-returns-5
 returns-5 c =
     let start = c .before .before in
     let a = start .args in
-    let fresh = start .pre .1 in
-    (λ s es d before tables stands h f reach. turned-refused s es d (a .at) (a .state) fresh stands before h reach _ (a .p) (c .enum-told2 .given .1),
-    (omega arith, omega arith))
+    let fresh = start .pre .1 in (
+      λ s es d before tables stands h f reach. turned-refused s es d (a .at) (a .state) fresh stands before h reach _ (a .p) (c .enum-told2 .given .1),
+      (omega arith, omega arith),
+    )
 
 pub settled-spec : {M : Type 1} → statement M
 settled-spec =
