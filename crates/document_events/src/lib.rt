@@ -10,9 +10,16 @@ ghost use mathlib.Core.List.{List};
 ghost use Prim.Native.Nat.{ℕ, _+_, _*_, _≤_, _<_};
 ghost use lib.ListN.{length};
 ghost use Rattle.rules.specs.TypeFile.{Element};
-ghost use Rattle.element_index.specs.Means.{Indexed};
-ghost use Rattle.type_tables.specs.Means.{Tables};
-ghost use Rattle.document_events.specs.Means.{AnyType, EventsOf};
+ghost use Rattle.rules.specs.Judge.{bytesOf};
+ghost use Rattle.rules.specs.Settling.{Event, numberOf};
+ghost use Rattle.rules.specs.Reader.{eventNumbers};
+ghost use Rattle.last_places.specs.Last.{InRange};
+ghost use Rattle.last_places.specs.Turns.{Reaches};
+ghost use Rattle.element_index.specs.Means.{Indexed, AnyIndexed};
+ghost use Rattle.type_tables.specs.Means.{standing, Tables, ReadyFor};
+ghost use Rattle.open_elements.specs.Means.{stateOf, eventsIn, Stands, Fresh};
+ghost use Rattle.event_buffer.specs.Means.{written};
+ghost use Rattle.document_events.specs.Means.{AnyType, EventsOf, Finds, endOf, AnyTurn, Turned};
 
 // How many events a document has, or its refusal.
 pub enum Counted {
@@ -33,16 +40,34 @@ pub enum Piece {
     Refused(Fault),
 }
 
-fn widened(x: u32) -> usize {
+fn widened(x: u32) -> usize
+    ensures { λ r. ⌜ r ≡ x ⌝ }
+{
     x as usize
 }
 
-fn undeclared(at: usize) -> Piece {
+fn undeclared(at: usize) -> Piece
+    ensures { λ r. ⌜ r ≡ Piece.Refused (record { number = 10; at = at }) ⌝ }
+{
     Piece::Refused(Fault { number: 10, at: at })
 }
 
+fn refusal(number: u32, at: usize) -> Counted
+    ensures { λ r. ⌜ r ≡ Counted.Refused (record { number = number; at = at }) ⌝ }
+{
+    Counted::Refused(Fault {
+        number: number,
+        at: at,
+    })
+}
+
 // The element that a tag names, or 0.
-fn tagged(s: &[u8], elements: &[u32; 384], index: &[u8; 321], d: &[u8], t: Tag) -> u32 {
+fn tagged(s: &[u8], elements: &[u32; 384], index: &[u8; 321], d: &[u8], t: Tag) -> u32
+    requires { ⌜ AnyIndexed (now s) (now elements) (now index) ⌝ }
+    requires { ⌜ (1 ≤ t .size) × (t .size ≤ 8) × (t .name < 4294967296) ⌝ }
+    ensures { λ r. ⌜ ((es : List Element) → Indexed (now (s .entry)) es (now (elements .entry)) (now (index .entry)) →
+        r ≡ numberOf (now (s .entry)) es (now (d .entry)) (t .name) (t .size)) ⌝ }
+{
     element_index::find(s, elements, index, d, t.name, t.size) as u32
 }
 
@@ -58,7 +83,13 @@ fn piece_at(
     e: usize,
     u: usize,
     at: usize,
-) -> Piece {
+) -> Piece
+    requires { ⌜ AnyIndexed (now s) (now elements) (now index) ⌝ }
+    requires { ⌜ ReadyFor (now rows) (now places) (now facts) e u 0 ⌝ }
+    requires { ⌜ (at < length (now d)) × (length (now d) ≤ 65535) ⌝ }
+    ensures { λ r. ⌜ ((es : List Element) → Indexed (now (s .entry)) es (now (elements .entry)) (now (index .entry)) → Tables (now (s .entry)) es (now (rows .entry)) (now (places .entry)) (now (facts .entry)) →
+        InRange es (standing e u) → Finds (now (s .entry)) es (now (d .entry)) e u at r) ⌝ }
+{
     let t = document_text::token_at(d, at);
     match t {
         Token::StartTag(g) => {
@@ -96,21 +127,28 @@ fn settled(
     p: Piece,
     at: usize,
     events: &mut [u32; 200],
-) -> Open {
-    let o = state.brought(0);
+) -> Open
+    requires { ⌜ AnyTurn (now rows) (now places) (now facts) state at p ⌝ }
+    requires { ⌜ Fresh state ⌝ }
+    ensures { λ r. ⌜ ((s : List ℕ) (es : List Element) (d : List ℕ) (before : List Event) → Tables s es (now (rows .entry)) (now (places .entry)) (now (facts .entry)) → Stands es state →
+        at < length d → Finds s es d (state .element) (state .place) at p → Reaches s es d at (stateOf state before) → Turned s es d at p (now (events .exit)) before r) ⌝ }
+    ensures { λ r. ⌜ (r .events ≤ 50) × (r .number < 20) ⌝ }
+{
     match p {
         Piece::Start(x, e) => {
-            settling::start_tag(rows, places, facts, o, widened(x), at, e, events)
+            settling::start_tag(rows, places, facts, state, widened(x), at, e, events)
         }
-        Piece::End(x, e) => closing::end_tag(rows, facts, o, widened(x), at, e, events),
-        Piece::Data(e) => settling::data_run(rows, places, facts, o, at, e - at, events),
-        Piece::Passed(_) => o,
-        Piece::Refused(f) => o.refused(f.number),
+        Piece::End(x, e) => closing::end_tag(rows, facts, state, widened(x), at, e, events),
+        Piece::Data(e) => settling::data_run(rows, places, facts, state, at, e - at, events),
+        Piece::Passed(_) => state,
+        Piece::Refused(_) => state,
     }
 }
 
 // Where reading goes on after what stands at `at`.
-fn end_of(p: Piece, at: usize) -> usize {
+fn end_of(p: Piece, at: usize) -> usize
+    ensures { λ r. ⌜ r ≡ endOf p at ⌝ }
+{
     match p {
         Piece::Start(_, e) => e,
         Piece::End(_, e) => e,
@@ -118,6 +156,22 @@ fn end_of(p: Piece, at: usize) -> usize {
         Piece::Passed(e) => e,
         Piece::Refused(_) => at,
     }
+}
+
+// The scratch of events is whole.
+fn whole(events: [u32; 200])
+    ensures { λ _. ⌜ length events ≡ 200 ⌝ }
+{}
+
+// The first n events of the scratch go to both buffers, after `count` others.
+fn put(numbers: &mut [u32], bytes: &mut [u8], count: usize, events: &[u32; 200], n: usize)
+    requires { ⌜ (n ≤ 50) × (count < 4294967296) ⌝ }
+    ensures { λ _. ⌜ (now (numbers .exit) ≡ written (now (numbers .entry)) (4 * count) (eventNumbers (eventsIn (now (events .entry)) n))) ×
+        (now (bytes .exit) ≡ written (now (bytes .entry)) (16 * count) (bytesOf (eventNumbers (eventsIn (now (events .entry)) n)))) ⌝ }
+{
+    whole(*events);
+    event_buffer::put_numbers(numbers, count, events, n);
+    event_buffer::put_bytes(bytes, count, events, n);
 }
 
 // The document d under a type. Its events go to a buffer of numbers and to one of bytes, each as far as they fit.
@@ -159,25 +213,17 @@ pub fn events_of(
         }
         let t = settled(rows, places, facts, o, p, at, &mut events);
         if t.number != 0 {
-            return Counted::Refused(Fault {
-                number: t.number,
-                at: at,
-            });
+            return refusal(t.number, at);
         }
-        event_buffer::put_numbers(numbers, count, &events, t.events);
-        event_buffer::put_bytes(bytes, count, &events, t.events);
+        put(numbers, bytes, count, &events, t.events);
         count += t.events;
         at = end_of(p, at);
-        o = t;
+        o = t.brought(0);
     }
-    let l = closing::finish(rows, facts, o.brought(0), at, &mut events);
+    let l = closing::finish(rows, facts, o, at, &mut events);
     if l.number != 0 {
-        return Counted::Refused(Fault {
-            number: l.number,
-            at: at,
-        });
+        return refusal(l.number, at);
     }
-    event_buffer::put_numbers(numbers, count, &events, l.events);
-    event_buffer::put_bytes(bytes, count, &events, l.events);
+    put(numbers, bytes, count, &events, l.events);
     Counted::Events(count + l.events)
 }
