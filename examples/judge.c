@@ -2,22 +2,6 @@
 #include "sgml.h"
 #include <stdio.h>
 
-static const char *text_of(uint32_t number)
-{
-    switch (number) {
-    case SGML_TOO_LONG: return "the type file is too long";
-    case SGML_BYTE: return "a byte that is not allowed";
-    case SGML_NAME_TOO_LONG: return "a name is too long";
-    case SGML_MALFORMED: return "malformed, or it ends too early";
-    case SGML_LEFT_OUT: return "a form of SGML that is not read here";
-    case SGML_QUANTITY: return "too many content tokens or group levels";
-    case SGML_DECLARED_TWICE: return "an element is declared twice";
-    case SGML_ELEMENTS: return "too many elements, or none";
-    case SGML_AMBIGUOUS: return "an ambiguous content model";
-    default: return "the lent buffer is too small";
-    }
-}
-
 int main(int argc, char **argv)
 {
     static uint8_t type[SGML_TYPE_LIMIT + 1], buffer[SGML_ELEMENT_LIMIT * SGML_RECORD_NUMBERS * 4];
@@ -34,7 +18,7 @@ int main(int argc, char **argv)
     sgml_judge(type, length, buffer, sizeof buffer, answer);
     if (answer[SGML_NUMBER]) {
         printf("refused %u in type at %u: %s", (unsigned)answer[SGML_NUMBER], (unsigned)answer[SGML_POSITION],
-               text_of(answer[SGML_NUMBER]));
+               sgml_refusal_text(answer[SGML_NUMBER]));
         if (answer[SGML_NUMBER] == SGML_AMBIGUOUS)
             printf(", places %u and %u", (unsigned)answer[SGML_FIRST], (unsigned)answer[SGML_SECOND]);
         printf("\n");

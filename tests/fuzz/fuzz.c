@@ -1,0 +1,240 @@
+/* fuzz.c - both calls on arbitrary bytes, held to what is true of every answer. What stands before the first byte 0 is the type
+ * file, what stands behind it the document. */
+#include "sgml.h"
+#include <ctype.h>
+#include <stdio.h>
+#include <stdlib.h>
+#include <string.h>
+
+#define GUARD 64
+#define FILL 0xA5
+#define RECORD_BYTES (4 * SGML_RECORD_NUMBERS)
+#define EVENT_BYTES (4 * SGML_EVENT_NUMBERS)
+
+struct slice {
+    const uint8_t *bytes;
+    size_t length;
+};
+
+struct answer {
+    uint32_t before, numbers[SGML_ANSWER_NUMBERS], behind;
+};
+
+/* What was answered leads libFuzzer on, since the library itself counts nothing for it. */
+__attribute__((section("__libfuzzer_extra_counters"))) uint8_t seen[8192];
+
+static void see(uint32_t what, uint32_t k)
+{
+    uint8_t *counter = seen + (what * 256 + k % 256) % sizeof seen;
+    *counter += *counter < 255;
+}
+
+static void must(int is_right, const char *what)
+{
+    if (!is_right) {
+        fprintf(stderr, "does not hold: %s\n", what);
+        abort();
+    }
+}
+
+static int all(const uint8_t *b, size_t n, uint8_t x)
+{
+    return n == 0 || (b[0] == x && !memcmp(b, b + 1, n - 1));
+}
+
+/* A buffer of `room` bytes between guards, filled and anyhow aligned, good until the next one is lent. */
+static uint8_t *lend(size_t room)
+{
+    static uint8_t *memory;
+    static size_t size;
+    if (size < room + 2 * GUARD + 4) {
+        size = room + 2 * GUARD + 4;
+        free(memory);
+        memory = malloc(size);
+        must(memory != NULL, "there is memory");
+    }
+    memset(memory, FILL, room + 2 * GUARD + 4);
+    return memory + GUARD + room % 4;
+}
+
+/* What is true of an answer and its buffer, whichever the call. */
+static void check_answer(const struct answer *a, const uint8_t *buffer, size_t room, size_t record, const size_t *lengths)
+{
+    const uint32_t *n = a->numbers;
+    size_t used = record * n[SGML_COUNT];
+    must(a->before == FILL && a->behind == FILL, "the answer's guards");
+    must(all(buffer - GUARD, GUARD, FILL) && all(buffer + room, GUARD, FILL), "the buffer's guards");
+    must(n[SGML_NUMBER] <= SGML_NO_ROOM, "a number is below 20");
+    must((n[SGML_FIRST] || n[SGML_SECOND]) == (n[SGML_NUMBER] == SGML_AMBIGUOUS), "places under 9 alone");
+    must(n[SGML_NUMBER] != SGML_AMBIGUOUS || (n[SGML_FIRST] && n[SGML_FIRST] < n[SGML_SECOND]), "the smaller place first");
+    if (n[SGML_NUMBER]) {
+        must(n[SGML_INPUT] == SGML_IN_TYPE || n[SGML_INPUT] == SGML_IN_DOCUMENT, "a refusal's input");
+        must(n[SGML_POSITION] <= lengths[n[SGML_INPUT] - 1] && n[SGML_COUNT] == 0, "a refusal's position and count");
+        must(all(buffer, room, 0), "a refusal zeroes the buffer");
+    } else {
+        must(n[SGML_INPUT] == 0 && n[SGML_POSITION] == 0, "input and position of an acceptance");
+        must(used <= room && all(buffer + used, room - used, FILL), "what lies behind the records is as it was");
+    }
+}
+
+static uint8_t *judge(struct slice type, size_t room, struct answer *a)
+{
+    size_t lengths[2] = { type.length, 0 };
+    uint8_t *buffer = lend(room);
+    a->before = a->behind = FILL;
+    sgml_judge(type.bytes, type.length, buffer, room, a->numbers);
+    check_answer(a, buffer, room, RECORD_BYTES, lengths);
+    must(a->numbers[SGML_INPUT] != SGML_IN_DOCUMENT, "the judge looks at the type only");
+    return buffer;
+}
+
+static uint8_t *read_events(struct slice type, struct slice document, size_t room, struct answer *a)
+{
+    size_t lengths[2] = { type.length, document.length };
+    uint8_t *buffer = lend(room);
+    a->before = a->behind = FILL;
+    sgml_read(type.bytes, type.length, document.bytes, document.length, buffer, room, a->numbers);
+    check_answer(a, buffer, room, EVENT_BYTES, lengths);
+    return buffer;
+}
+
+static void check_records(const uint8_t *records, uint32_t count, size_t type_length)
+{
+    uint32_t k, before = 0;
+    must(count >= 1 && count <= SGML_ELEMENT_LIMIT, "1 to 64 elements");
+    for (k = 0; k < count; k++) {
+        const uint8_t *r = records + RECORD_BYTES * k;
+        uint32_t offset = sgml_number(r, SGML_NAME_OFFSET), length = sgml_number(r, SGML_NAME_LENGTH);
+        uint32_t tokens = sgml_number(r, SGML_TOKENS);
+        must(length >= 1 && length <= SGML_NAMELEN && offset > before && offset + length < type_length, "a name's place");
+        must(sgml_number(r, SGML_START_TAG) <= 1 && sgml_number(r, SGML_END_TAG) <= 1, "omission is 0 or 1");
+        must(sgml_number(r, SGML_CONTENT) == (tokens > 0) && tokens <= SGML_GRPGTCNT, "tokens of a model, none of EMPTY");
+        before = offset + length;
+        see(1, tokens);
+    }
+}
+
+/* The bytes of a tag: "<" or "</", the element's name, whatever its case, and ">" last. */
+static int is_tag(struct slice document, struct sgml_event e, size_t lead, struct slice type, const uint8_t *records)
+{
+    const uint8_t *r = records + RECORD_BYTES * (e.element - 1), *name = type.bytes + sgml_number(r, SGML_NAME_OFFSET);
+    const uint8_t *tag = document.bytes + e.offset;
+    size_t i, length = sgml_number(r, SGML_NAME_LENGTH);
+    if (e.length < lead + length + 1 || memcmp(tag, "</", lead) || tag[e.length - 1] != '>')
+        return 0;
+    for (i = 0; i < length; i++)
+        if (toupper(tag[lead + i]) != toupper(name[i]))
+            return 0;
+    return 1;
+}
+
+/* What an event's own numbers must be. */
+static void check_event(struct sgml_event e, struct slice document, struct slice type, const uint8_t *records, uint32_t elements)
+{
+    must(e.kind >= SGML_START_WRITTEN && e.kind <= SGML_END_OF_EMPTY, "a kind is 1 to 6");
+    must(e.offset <= document.length && e.length <= document.length - e.offset, "an event lies in the document");
+    if (e.kind == SGML_DATA) {
+        must(e.element == 0 && e.length > 0, "data has no element, and bytes");
+        must(!memchr(document.bytes + e.offset, '\n', e.length), "byte 10 is no data");
+        return;
+    }
+    must(e.element >= 1 && e.element <= elements, "an element is declared");
+    if (e.kind == SGML_START_WRITTEN)
+        must(is_tag(document, e, 1, type, records), "a start tag stands there");
+    else if (e.kind == SGML_END_WRITTEN)
+        must(is_tag(document, e, 2, type, records), "an end tag stands there");
+    else
+        must(e.length == 0, "what is not written has length 0");
+}
+
+/* Events follow each other in the document, and an inferred one stands where the next one does, or at the end. */
+static void check_order(struct sgml_event before, struct sgml_event e)
+{
+    must(e.offset >= before.offset + before.length, "offsets never fall");
+    if (before.kind == SGML_START_INFERRED || before.kind == SGML_END_INFERRED)
+        must(e.offset == before.offset, "an inferred tag stands at what called for it");
+    if (e.kind == SGML_END_OF_EMPTY)
+        must(before.kind == SGML_START_WRITTEN && before.element == e.element && e.offset == before.offset + before.length,
+             "an EMPTY element ends after its tag");
+    if (e.kind == SGML_DATA && before.kind == SGML_DATA)
+        must(e.offset > before.offset + before.length, "a run is longest");
+}
+
+/* Starts and ends nest: never more than 24 open, none before the document element and after it. */
+static void check_events(const uint8_t *events, uint32_t count, struct slice document, struct slice type, const uint8_t *records,
+                         uint32_t elements)
+{
+    uint32_t open[SGML_TAGLVL], depth = 0, k;
+    struct sgml_event before = { 0, 0, 0, 0 };
+    must(count >= 2, "a document has an element");
+    for (k = 0; k < count; k++) {
+        struct sgml_event e = sgml_event_at(events, k);
+        check_event(e, document, type, records, elements);
+        check_order(before, e);
+        must(depth > 0 || k == 0, "nothing stands outside the document element");
+        if (e.kind == SGML_START_WRITTEN || e.kind == SGML_START_INFERRED) {
+            must(depth < SGML_TAGLVL && (k > 0 || e.element == 1), "at most 24 open, the document element first");
+            open[depth++] = e.element;
+        } else if (e.kind == SGML_DATA) {
+            must(depth > 0, "data stands in an element");
+        } else {
+            must(depth > 0 && open[--depth] == e.element, "an end is of the innermost open element");
+        }
+        see(2 + e.kind, before.kind * 32 + depth);
+        before = e;
+    }
+    must(depth == 0, "every element ends");
+    must(before.kind != SGML_END_INFERRED || before.offset == document.length, "the last inferred end stands at the end");
+}
+
+/* The same answer in exactly as much room, odd bytes included, and 19 with one number less. */
+static void check_room(struct slice type, struct slice document, uint32_t count, size_t odd)
+{
+    struct answer a;
+    read_events(type, document, (size_t)count * EVENT_BYTES + odd % 4, &a);
+    must(a.numbers[SGML_NUMBER] == 0 && a.numbers[SGML_COUNT] == count, "exactly enough room is enough");
+    read_events(type, document, (size_t)count * EVENT_BYTES - 4 + odd % 4, &a);
+    must(a.numbers[SGML_NUMBER] == SGML_NO_ROOM && a.numbers[SGML_INPUT] == SGML_IN_DOCUMENT && a.numbers[SGML_POSITION] == 0,
+         "one number short is 19");
+}
+
+static void check_calls(struct slice type, struct slice document)
+{
+    static uint8_t records[RECORD_BYTES * SGML_ELEMENT_LIMIT];
+    struct answer judged, a;
+    size_t room = 65536;
+    const uint8_t *events, *buffer = judge(type, sizeof records + type.length % 4, &judged);
+    memcpy(records, buffer, sizeof records);
+    if (!judged.numbers[SGML_NUMBER])
+        check_records(records, judged.numbers[SGML_COUNT], type.length);
+    for (events = read_events(type, document, room, &a); a.numbers[SGML_NUMBER] == SGML_NO_ROOM; room *= 2)
+        events = read_events(type, document, room * 2, &a);
+    see(0, a.numbers[SGML_NUMBER] * 2 + a.numbers[SGML_INPUT] % 2);
+    if (a.numbers[SGML_INPUT] == SGML_IN_TYPE)
+        must(!memcmp(&a, &judged, sizeof a), "reader and judge refuse a type alike");
+    else
+        must(!judged.numbers[SGML_NUMBER] || a.numbers[SGML_NUMBER] == SGML_TOO_LONG || a.numbers[SGML_NUMBER] == SGML_BYTE,
+             "a type that the judge refuses is not read under");
+    if (a.numbers[SGML_NUMBER] == 0) {
+        check_events(events, a.numbers[SGML_COUNT], document, type, records, judged.numbers[SGML_COUNT]);
+        check_room(type, document, a.numbers[SGML_COUNT], document.length);
+    }
+}
+
+int LLVMFuzzerTestOneInput(const uint8_t *data, size_t size)
+{
+    static uint8_t copy[1 << 20];
+    const uint8_t *parting = size ? memchr(data, 0, size) : NULL;
+    struct slice type = { data, parting ? (size_t)(parting - data) : size }, document = { data + size, 0 };
+    if (size > sizeof copy)
+        return 0;
+    if (parting) {
+        document.bytes = parting + 1;
+        document.length = size - type.length - 1;
+    }
+    if (size)
+        memcpy(copy, data, size);
+    check_calls(type, document);
+    must(!size || !memcmp(copy, data, size), "the inputs are as they were");
+    return 0;
+}
