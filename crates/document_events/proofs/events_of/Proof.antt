@@ -30,7 +30,7 @@ loop-holds c = going-start _ _ _ _ _ _ _ _ _ (c .new .ensures)
 piece-at-requires : tie.Need-piece-at-requires Inv-loop μ-loop
 piece-at-requires c κs =
     let start = c .before .before .before .before .before .before .before in
-    piece-asked (c .before .loop .inv) (start .pre .0) (c .loop-test .taken) (start .pre .1)
+    piece-asked (c .before .loop .inv) (start .pre .0) (omega (arith, c .loop-test .taken, c .before .loop .inv .inside)) (start .pre .1)
 
 enum-known-p : tie.Need-enum-known-p Inv-loop μ-loop
 enum-known-p c = search needs
@@ -45,7 +45,7 @@ returns : tie.Need-returns Inv-loop μ-loop
 returns c =
     let found = c .before in
     let read = found .before .before in
-    piece-refuses (read .before .before .loop .inv) (read .before .loop-test .taken) (read .piece-at .result) (read .piece-at .ensures) (found .p .given .1)
+    piece-refuses (read .before .before .loop .inv) (omega (arith, read .before .loop-test .taken, read .before .before .loop .inv .inside)) (read .piece-at .result) (read .piece-at .ensures) (found .p .given .1)
 
 -- What was found is not refused.
 no-key : (_≡_ {A = ℕ} 4 0) ⊎ ((_≡_ {A = ℕ} 4 1) ⊎ ((_≡_ {A = ℕ} 4 2) ⊎ (_≡_ {A = ℕ} 4 3))) → ⊥
@@ -62,7 +62,7 @@ settled-requires c κs =
     let found = c .before .before in
     let loop = found .before .before in
     let pre = loop .before .before .before .before .before .before .pre in
-    turn-asked (loop .loop .inv) (found .before .loop-test .taken) (found .piece-at .result) (found .piece-at .ensures) (pre .0) (pre .1)
+    turn-asked (loop .loop .inv) (omega (arith, found .before .loop-test .taken, found .before .before .loop .inv .inside)) (found .piece-at .result) (found .piece-at .ensures) (pre .0) (pre .1)
 
 refusal-requires : tie.Need-refusal-requires Inv-loop μ-loop
 refusal-requires c κs = search needs
@@ -77,7 +77,7 @@ returns-2 : tie.Need-returns-2 Inv-loop μ-loop
 returns-2 c =
     let turn = c .before .before .before in
     let found = turn .before .before .before in
-    turn-refuses (found .before .before .loop .inv) (found .before .loop-test .taken) (found .piece-at .result) (found .piece-at .ensures) _ _ (turn .settled .ensures .0) (c .before .if1 .taken) (c .refusal .ensures)
+    turn-refuses (found .before .before .loop .inv) (omega (arith, found .before .loop-test .taken, found .before .before .loop .inv .inside)) (found .piece-at .result) (found .piece-at .ensures) _ _ (turn .settled .ensures .0) (c .before .if1 .taken) (c .refusal .ensures)
 
 put-requires : tie.Need-put-requires Inv-loop μ-loop
 put-requires c κs =
@@ -85,7 +85,7 @@ put-requires c κs =
     let loop = turn .before .before .before .before .before in
     let going = loop .loop .inv in
     let short = loop .before .before .before .before .before .before .pre .1 in
-    (turn .settled .ensures .1 .0, omega (arith, going .few, going .inside, short))
+    (omega (arith, turn .settled .ensures .1 .0), omega (arith, going .few, going .inside, short))
 
 add-count : tie.Need-add-count Inv-loop μ-loop
 add-count c =
@@ -108,7 +108,7 @@ loop-less c =
     let found = turn .before .before .before in
     let loop = found .before .before in
     let pre = loop .before .before .before .before .before .before .pre in
-    let on = turn-range (loop .loop .inv) (found .before .loop-test .taken) (found .piece-at .result) (found .piece-at .ensures) (pre .0) (read (turn .before .before)) in
+    let on = turn-range (loop .loop .inv) (omega (arith, found .before .loop-test .taken, found .before .before .loop .inv .inside)) (found .piece-at .result) (found .piece-at .ensures) (pre .0) (read (turn .before .before)) in
     omega (arith, on, c .before .end-of .ensures)
 
 loop-again : tie.Need-loop-again Inv-loop μ-loop
@@ -119,14 +119,14 @@ loop-again c =
     let found = turn .before .before .before in
     let loop = found .before .before in
     let pre = loop .before .before .before .before .before .before .pre in
-    going-turn (loop .loop .inv) (found .before .loop-test .taken) (found .piece-at .result) (found .piece-at .ensures) _ _ (turn .settled .ensures .0) (pre .0) (read (turn .before .before)) (went .if1 .left)
+    going-turn (loop .loop .inv) (omega (arith, found .before .loop-test .taken, found .before .before .loop .inv .inside)) (found .piece-at .result) (found .piece-at .ensures) _ _ (turn .settled .ensures .0) (pre .0) (read (turn .before .before)) (went .if1 .left)
     (turn .settled .ensures .1 .0) (put .put .ensures .0) (put .put .ensures .1) (c .before .end-of .ensures) (c .brought .ensures)
 
 finish-requires : tie.Need-finish-requires Inv-loop μ-loop
 finish-requires c κs =
     let loop = c .before .before in
     let pre = loop .before .before .before .before .before .before .pre in
-    end-asked (loop .loop .inv) (c .before .loop-test .left) (pre .0) (pre .1)
+    end-asked (loop .loop .inv) (omega (arith, c .before .loop-test .left)) (pre .0) (pre .1)
 
 refusal-requires-2 : tie.Need-refusal-requires-2 Inv-loop μ-loop
 refusal-requires-2 c κs = search needs
@@ -141,7 +141,7 @@ returns-3 : tie.Need-returns-3 Inv-loop μ-loop
 returns-3 c =
     let end = c .before .before .before in
     let over = end .before .before in
-    end-refuses (over .before .loop .inv) (over .loop-test .left) (end .finish .last .1 .1 .1 .1 .0) (end .finish .result) (end .finish .ensures .0) (c .before .if2 .taken) (c .refusal2 .ensures)
+    end-refuses (over .before .loop .inv) (omega (arith, over .loop-test .left)) (end .finish .last .1 .1 .1 .1 .0) (end .finish .result) (end .finish .ensures .0) (c .before .if2 .taken) (c .refusal2 .ensures)
 
 put-requires-2 : tie.Need-put-requires-2 Inv-loop μ-loop
 put-requires-2 c κs =
@@ -149,7 +149,7 @@ put-requires-2 c κs =
     let loop = end .before .before .before in
     let going = loop .loop .inv in
     let short = loop .before .before .before .before .before .before .pre .1 in
-    (end .finish .ensures .1 .0, omega (arith, going .few, going .inside, short))
+    (omega (arith, end .finish .ensures .1 .0), omega (arith, going .few, going .inside, short))
 
 add-t35 : tie.Need-add-t35 Inv-loop μ-loop
 add-t35 c =
@@ -176,7 +176,7 @@ returns-4 c =
     let went = put .before .before .before .before in
     let end = went .before .before in
     let over = end .before .before in
-    end-counts (over .before .loop .inv) (over .loop-test .left) (end .finish .last .1 .1 .1 .1 .0) (end .finish .result) (end .finish .ensures .0) (went .if2 .left) (put .put2 .ensures .0) (put .put2 .ensures .1)
+    end-counts (over .before .loop .inv) (omega (arith, over .loop-test .left)) (end .finish .last .1 .1 .1 .1 .0) (end .finish .result) (end .finish .ensures .0) (went .if2 .left) (put .put2 .ensures .0) (put .put2 .ensures .1)
 
 pub events-of-spec : {M : Type 1} → statement M
 events-of-spec =

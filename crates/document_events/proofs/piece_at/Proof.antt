@@ -79,7 +79,7 @@ add-t23 : tie.Need-add-t23
 add-t23 c = search needs
 
 returns-3 : tie.Need-returns-3
-returns-3 c es i t range = finds-separator (c .before .fitting .ensures .0 _ es t range pcdata refl tt) (blank-stands (c .before .before)) (c .if3 .taken)
+returns-3 c es i t range = finds-separator (c .before .fitting .ensures .0 _ es t range pcdata refl tt) (blank-stands (c .before .before)) (omega (arith, c .if3 .taken))
 
 add-run-end : tie.Need-add-run-end
 add-run-end c = search needs
@@ -117,7 +117,7 @@ returns-6 c es i t range = skips (token-skipped (c .before .before .before .toke
 returns-7 : tie.Need-returns-7
 returns-7 c es i t range =
     let fits = c .before .before in
-    finds-blank-run (fits .fitting .ensures .0 _ es t range pcdata refl tt) (blank-stands (fits .before)) (c .before .if3 .left) (c .run-end .ensures)
+    finds-blank-run (fits .fitting .ensures .0 _ es t range pcdata refl tt) (blank-stands (fits .before)) (λ z. omega (arith, c .before .if3 .left)) (c .run-end .ensures)
 
 returns-8 : tie.Need-returns-8
 returns-8 c es i t range = finds-data-run (token-data (c .before .before .before .token-at .ensures) (c .before .enum-told2 .given .1)) (c .run-end2 .ensures)
