@@ -33,7 +33,7 @@ AnyType s elements index rows places facts = (es : List Element) × Indexed s es
 abbrev pub EventsOf : (s : List ℕ) (es : List Element) (d numbers numbersAfter bytes bytesAfter : List ℕ) → Counted → Type 0
 EventsOf s es d numbers numbersAfter bytes bytesAfter (counted.Events n) =
     (ev : List Event) × (document s es (decided s es) d ≡ got ev) × (n ≡ length ev) × Written numbers numbersAfter (eventNumbers ev) ×
-    Written bytes bytesAfter (bytesOf (eventNumbers ev))
+    Written bytes bytesAfter (bytesOf (eventNumbers ev)) × (n < 4294967296)
 EventsOf s es d numbers numbersAfter bytes bytesAfter (counted.Refused f) = document s es (decided s es) d ≡ refused (f .number) (f .at)
 
 -- What stands at a position

@@ -252,8 +252,8 @@ module _ {s elements index rows places facts d numbers numbersNow bytes bytesNow
       pub end-refuses : (r .number ≡ 0 → ⊥) → {answer : Counted} → answer ≡ counted.Refused (record { number = r .number; at = at }) → (es : List Element) → Indexed s es elements index → Tables s es rows places facts → EventsOf s es d numbers numbersNow bytes bytesNow answer
       end-refuses z q es i t = rw q (ends es i t (closed-refused at r l (g .any es i t .events) (closes es i t) (omega arith)))
 
-      pub end-counts : r .number ≡ 0 → {numbersAfter bytesAfter : List ℕ} → numbersAfter ≡ written numbersNow (4 * count) (eventNumbers (eventsIn l (r .events))) → bytesAfter ≡ written bytesNow (16 * count) (bytesOf (eventNumbers (eventsIn l (r .events)))) → (es : List Element) → Indexed s es elements index → Tables s es rows places facts → EventsOf s es d numbers numbersAfter bytes bytesAfter (counted.Events (count + r .events))
-      end-counts z a b es i t =
+      pub end-counts : r .number ≡ 0 → count + r .events < 4294967296 → {numbersAfter bytesAfter : List ℕ} → numbersAfter ≡ written numbersNow (4 * count) (eventNumbers (eventsIn l (r .events))) → bytesAfter ≡ written bytesNow (16 * count) (bytesOf (eventNumbers (eventsIn l (r .events)))) → (es : List Element) → Indexed s es elements index → Tables s es rows places facts → EventsOf s es d numbers numbersAfter bytes bytesAfter (counted.Events (count + r .events))
+      end-counts z m a b es i t =
           let c = g .any es i t in
           rw (a, b) (
             c .events ++ eventsIn l (r .events),
@@ -261,4 +261,5 @@ module _ {s elements index rows places facts d numbers numbersNow bytes bytesNow
             omega (arith, length-append (c .events) (eventsIn l (r .events)), eventsIn-length l (r .events), c .counted),
             events-more numbers numbersNow (c .events) (eventsIn l (r .events)) count (c .counted) (c .numbers-hold),
             event-bytes-more bytes bytesNow (c .events) (eventsIn l (r .events)) count (c .counted) (c .bytes-hold),
+            m,
           )

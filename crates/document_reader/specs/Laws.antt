@@ -26,7 +26,7 @@ use Rattle.event_buffer.specs.Laws.{eventNumbers-length, bytesOf-length}
 use Rattle.document_events.specs.Means.{EventsOf}
 use Rattle.document_events.specs.declared.Counted.{Counted}
 use Rattle.document_events.specs.declared.Counted.the-variants as counted
-use Rattle.document_reader.specs.Means.{answerOf, isClean, failing, Judges, Counts, Answers, unlessFull, fittedTo, isRefusal}
+use Rattle.document_reader.specs.Means.{answerOf, CountFits, isClean, failing, Judges, Counts, Answers, unlessFull, fittedTo, isRefusal}
 use Rattle.document_reader.specs.declared.Answer.{Answer}
 use Rattle.document_reader.specs.declared.Answer.the-variants as answer
 
@@ -124,7 +124,7 @@ module _ (s d numbers numbersAfter bytes bytesAfter : List ℕ) where
   module _ (es : List Element) (b : BothLegible s d) (a : Accepts s es) (c : Counted) (h : EventsOf s es d numbers numbersAfter bytes bytesAfter c) where
     pub answers-events : (n : ℕ) → c ≡ counted.Events n → Answers s d numbers numbersAfter bytes bytesAfter (answer.Accepted n)
     answers-events n e =
-        let (ev, r, k, x, y) = rw e at h in
+        let (ev, r, k, x, y, f) = rw e at h in
         record {
           elements = es;
           events = ev;
@@ -132,6 +132,7 @@ module _ (s d numbers numbersAfter bytes bytesAfter : List ℕ) where
           counted = k;
           in-numbers = x;
           in-bytes = y;
+          few = f;
         }
 
     pub answers-unsettled : (f : Fault) → c ≡ counted.Refused f → Answers s d numbers numbersAfter bytes bytesAfter (answer.InDocument f)
@@ -238,3 +239,14 @@ module _ (s d before after : List ℕ) (v a : Answer) (same : length after ≡ l
         ReadAsBytes.refuses
         (fitted-refused s d numbers numbersAfter before after (length after / 4 / 4) v a h e (refusal-is a g) (length before / 4) (ap (λ (n : ℕ). n / 4 / 4) same))
         (rw same at z)
+
+-- The count is a 32-bit number.
+count-unless : (b : Bool) (n : ℕ) → n < 4294967296 → CountFits (unlessFull b n)
+count-unless true n h = tt
+count-unless false n h = h
+
+pub count-fits : {s d numbers numbersAfter bytes bytesAfter : List ℕ} (room : ℕ) (v : Answer) {r : Answer} → Answers s d numbers numbersAfter bytes bytesAfter v → r ≡ fittedTo room v → CountFits r
+count-fits room (answer.Accepted n) a e = rw e (count-unless (ltb room n) n (a .few))
+count-fits room (answer.InType f) a e = rw e tt
+count-fits room (answer.Ambiguous c) a e = rw e tt
+count-fits room (answer.InDocument f) a e = rw e tt

@@ -1,5 +1,5 @@
 -- What the reader's answer stands for, in the rules' terms, and what is known on the way to it.
-use Prim.Native.Nat.{ℕ}
+use Prim.Native.Nat.{ℕ, _<_}
 use mathlib.Core.Path.{_≡_}
 use mathlib.Core.Bool.{Bool, true, false}
 use mathlib.Core.List.{List}
@@ -23,6 +23,13 @@ answerOf (answer.Accepted n) = acceptance n
 answerOf (answer.InType f) = refusal (f .number) (f .at) 0 0
 answerOf (answer.Ambiguous c) = refusal 9 (c .at) (c .first) (c .second)
 answerOf (answer.InDocument f) = documentRefusal (f .number) (f .at)
+
+-- The count is a 32-bit number.
+abbrev pub CountFits : Answer → Type 0
+CountFits (answer.Accepted n) = n < 4294967296
+CountFits (answer.InType f) = Unit {0}
+CountFits (answer.Ambiguous c) = Unit {0}
+CountFits (answer.InDocument f) = Unit {0}
 
 -- All bytes are allowed.
 abbrev pub isClean : List ℕ → Bool
@@ -53,6 +60,7 @@ pub record Counts (s d numbers numbersAfter bytes bytesAfter : List ℕ) (n : �
   pub counted : n ≡ length events
   pub in-numbers : Written numbers numbersAfter (eventNumbers events)
   pub in-bytes : Written bytes bytesAfter (bytesOf (eventNumbers events))
+  pub few : n < 4294967296
 
 -- It is read, or one of the inputs is refused.
 abbrev pub Answers : (s d numbers numbersAfter bytes bytesAfter : List ℕ) → Answer → Type 0

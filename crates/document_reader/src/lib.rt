@@ -6,7 +6,7 @@ use type_judge::Verdict;
 ghost use mathlib.Core.Path.{_≡_};
 ghost use Rattle.rules.specs.Bytes.{allowed};
 ghost use Rattle.rules.specs.Reader.{ReadAs, ReadAsBytes};
-ghost use Rattle.document_reader.specs.Means.{answerOf, isClean, failing, Judges, Answers, fittedTo, isRefusal};
+ghost use Rattle.document_reader.specs.Means.{answerOf, CountFits, isClean, failing, Judges, Answers, fittedTo, isRefusal};
 
 // How many numbers an event has.
 const WIDTH: usize = 4;
@@ -129,6 +129,7 @@ fn refuses(a: Answer) -> bool
 // Reads a document under a type file. The buffer gets four numbers for each event, or is zeroed.
 pub fn read(s: &[u8], d: &[u8], buffer: &mut [u32]) -> Answer
     ensures { λ r. ⌜ ReadAs (now (s .entry)) (now (d .entry)) (now (buffer .entry)) (answerOf r) (now (buffer .exit)) ⌝ }
+    ensures { λ r. ⌜ CountFits r ⌝ }
 {
     let mut none = [0u8; 1];
     let v = answered(s, d, buffer, &mut none);
@@ -142,6 +143,7 @@ pub fn read(s: &[u8], d: &[u8], buffer: &mut [u32]) -> Answer
 // The same with a buffer of bytes, four for each number.
 pub fn read_to_bytes(s: &[u8], d: &[u8], buffer: &mut [u8]) -> Answer
     ensures { λ r. ⌜ ReadAsBytes (now (s .entry)) (now (d .entry)) (now (buffer .entry)) (answerOf r) (now (buffer .exit)) ⌝ }
+    ensures { λ r. ⌜ CountFits r ⌝ }
 {
     let mut none = [0u32; 1];
     let v = answered(s, d, &mut none, buffer);

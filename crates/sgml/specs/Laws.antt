@@ -8,11 +8,16 @@ use lib.ListN.{length, take, drop, set, getD, replicate}
 use lib.Seq.{length-take-le, take-suc, take-at, drop-append-add, drop-drop, sets-eq}
 use Rattle.rules.specs.TypeFile.{Content, empty, model, Element}
 use Rattle.rules.specs.Judge.{Answer, refusal, acceptance, PairStandsAt, FirstAmbiguous, here, later, Refuses, tooLong, notAllowed, malformed, ambiguous, noRoom, bytesOf, JudgedBytes, refuses, accepts}
+use Rattle.rules.specs.Reader.{RefusesBoth, ReadAsBytes}
 use Rattle.rules_laws.specs.Within.{typeFile-within}
+use Rattle.last_places.specs.Within.{document-within}
+use Rattle.document_reader.specs.declared.Answer as reader
+use Rattle.document_reader.specs.declared.Answer.the-variants as answer
+use Rattle.document_reader.specs.Means as means
 use Rattle.type_judge.specs.Means.{answerOf, Decides}
 use Rattle.type_judge.specs.declared.Verdict.{Verdict}
 use Rattle.type_judge.specs.declared.Verdict.the-variants.{Accepted, Malformed, Ambiguous}
-use Rattle.sgml.specs.Means.{answerNumbers, JudgedNumbers, VerdictFits}
+use Rattle.sgml.specs.Means.{answerNumbers, JudgedNumbers, VerdictFits, ReadNumbers, AnswerFits}
 
 -- Four stores one after another.
 pub put-four : (b : List ℕ) (i x y z w : ℕ) → i + 4 ≤ length b
@@ -94,3 +99,27 @@ module _ (s before elements : List ℕ) (v : Verdict) (d : Decides s (length bef
         by-verdict (Accepted n) e h = absurd (other n e)
         by-verdict (Malformed f) e h = rw e (refuses h q)
         by-verdict (Ambiguous c) e h = rw e (refuses h q)
+
+-- The same for the reader: a refusal's position lies in its input, which is no longer than its limit, or is 0.
+position : {a b : Answer} → a ≡ b → a .position ≡ b .position
+position e = ap (λ (x : Answer). x .position) e
+
+refused-in : {s d : List ℕ} {room n i k : ℕ} → RefusesBoth s d room (record { number = n; input = i; position = k; first = 0; second = 0; count = 0 }) → k ≤ 65535
+refused-in (RefusesBoth.typeTooLong l e) = omega (arith, position e)
+refused-in (RefusesBoth.documentTooLong l m e) = omega (arith, position e)
+refused-in (RefusesBoth.typeNotAllowed l m h e) = omega (arith, position e)
+refused-in (RefusesBoth.documentNotAllowed l m h e) = omega (arith, position e)
+refused-in {s} (RefusesBoth.malformed l m j r e) = omega (arith, l .type .short, typeFile-within s m j r, position e)
+refused-in (RefusesBoth.ambiguous l es r j p q f e) = absurd (omega (arith, ambiguous-ordered f, ap (λ (a : Answer). a .second) e))
+refused-in {s} {d} (RefusesBoth.unsettled es m j x e) = omega (arith, x .legible .short, document-within s es (x .decisions) d m j (x .reading) .1, position e)
+refused-in (RefusesBoth.noRoom es ev x l e) = omega (arith, position e)
+
+read-in : {s d before after : List ℕ} {n i k : ℕ} → 1 ≤ i → ReadAsBytes s d before (record { number = n; input = i; position = k; first = 0; second = 0; count = 0 }) after → k ≤ 65535
+read-in h (ReadAsBytes.refuses r z) = refused-in r
+read-in h (ReadAsBytes.accepts es ev x f e z) = absurd (omega (arith, ap (λ (a : Answer). a .input) e))
+
+pub answer-fits : (s d before after : List ℕ) (a : reader.Answer) → ReadAsBytes s d before (means.answerOf a) after → means.CountFits a → AnswerFits a
+answer-fits s d before after (answer.Accepted n) r c = c
+answer-fits s d before after (answer.InType f) r c = let i = read-in (omega arith) r in omega arith
+answer-fits s d before after (answer.Ambiguous k) r c = tt
+answer-fits s d before after (answer.InDocument f) r c = let i = read-in (omega arith) r in omega arith
