@@ -1,0 +1,113 @@
+-- `sgml_events::printed` puts the text that the rules decide into the buffer: that of the events, or of the refusal.
+use mathlib.Core.Path.{refl, ap}
+use native.Mathlib.Omega.{arith}
+use borrow.Author.Needs.{needs}
+use Rattle.document_reader.specs.Means.{answerOf}
+use Rattle.sgml_events.specs.Printed.{events}
+use Rattle.sgml_events.specs.Answers.{accepted-read, prints-refusal, counts-of}
+use Rattle.sgml_events.proofs.printed.Statement.{statement}
+use Rattle.sgml_events.proofs.printed.Tie as tie
+
+slice-aggregate-read : tie.Need-slice-aggregate-read
+slice-aggregate-read c = search needs
+
+read-requires : tie.Need-read-requires
+read-requires c κs = tt
+
+enum-known-a : tie.Need-enum-known-a
+enum-known-a c = search needs
+
+put-events-requires : tie.Need-put-events-requires
+put-events-requires c κs =
+    let read = accepted-read _ _ _ _ _ refl (c .before .before .before .before .before .before .read .ensures) _ (ap answerOf (c .before .before .before .a .given .1)) in
+    (omega arith, (read .elements, read .reads .accepted), omega (arith, read .count, read .fits))
+
+enum-known-a-2 : tie.Need-enum-known-a-2
+enum-known-a-2 c = search needs
+
+slice-aggregate-put-refusal : tie.Need-slice-aggregate-put-refusal
+slice-aggregate-put-refusal c = search needs
+
+put-refusal-requires : tie.Need-put-refusal-requires
+put-refusal-requires c κs = search needs
+
+enum-known-a-3 : tie.Need-enum-known-a-3
+enum-known-a-3 c = search needs
+
+slice-aggregate-put-refusal-2 : tie.Need-slice-aggregate-put-refusal-2
+slice-aggregate-put-refusal-2 c = search needs
+
+cast-put-refusal : tie.Need-cast-put-refusal
+cast-put-refusal c = search needs
+
+put-refusal-requires-2 : tie.Need-put-refusal-requires-2
+put-refusal-requires-2 c κs = search needs
+
+enum-known-a-4 : tie.Need-enum-known-a-4
+enum-known-a-4 c = search needs
+
+slice-aggregate-put-refusal-3 : tie.Need-slice-aggregate-put-refusal-3
+slice-aggregate-put-refusal-3 c = search needs
+
+put-refusal-requires-3 : tie.Need-put-refusal-requires-3
+put-refusal-requires-3 c κs = search needs
+
+same-length : tie.Need-same-length
+same-length c = search needs
+
+returns : tie.Need-returns
+returns c =
+    let read = accepted-read _ _ _ _ _ refl (c .before .before .before .before .before .before .before .before .before .read .ensures) _ (ap answerOf (c .before .before .before .before .before .before .a .given .1)) in
+    let said = c .before .before .put-events .ensures in
+    (counts-of _ _ (said .0), events (read .elements) (read .evs) (read .reads) (read .fits) (said .1 (read .elements) (read .evs) (read .rest) (read .reads .accepted) (read .written) (read .count)))
+
+same-length-2 : tie.Need-same-length-2
+same-length-2 c = search needs
+
+returns-2 : tie.Need-returns-2
+returns-2 c =
+    let said = c .before .before .put-refusal .ensures in
+    (counts-of _ _ (said .0), prints-refusal _ _ _ _ _ refl (c .before .before .before .before .before .before .before .before .before .read .ensures) (ap answerOf (c .before .before .before .before .before .before .a2 .given .1)) (omega arith) (said .1))
+
+same-length-3 : tie.Need-same-length-3
+same-length-3 c = search needs
+
+returns-3 : tie.Need-returns-3
+returns-3 c =
+    let said = c .before .before .put-refusal2 .ensures in
+    (counts-of _ _ (said .0), prints-refusal _ _ _ _ _ refl (c .before .before .before .before .before .before .before .before .before .before .read .ensures) (ap answerOf (c .before .before .before .before .before .before .before .a3 .given .1)) (omega arith) (said .1))
+
+same-length-4 : tie.Need-same-length-4
+same-length-4 c = search needs
+
+returns-4 : tie.Need-returns-4
+returns-4 c =
+    let said = c .before .before .put-refusal3 .ensures in
+    (counts-of _ _ (said .0), prints-refusal _ _ _ _ _ refl (c .before .before .before .before .before .before .before .before .before .read .ensures) (ap answerOf (c .before .before .before .before .before .before .a4 .given .1)) (omega arith) (said .1))
+
+pub printed-spec : {M : Type 1} → statement M
+printed-spec =
+    tie.close
+    (tie.spec
+    slice-aggregate-read
+    read-requires
+    enum-known-a
+    put-events-requires
+    enum-known-a-2
+    slice-aggregate-put-refusal
+    put-refusal-requires
+    enum-known-a-3
+    slice-aggregate-put-refusal-2
+    cast-put-refusal
+    put-refusal-requires-2
+    enum-known-a-4
+    slice-aggregate-put-refusal-3
+    put-refusal-requires-3
+    same-length
+    returns
+    same-length-2
+    returns-2
+    same-length-3
+    returns-3
+    same-length-4
+    returns-4)

@@ -1,0 +1,124 @@
+-- The table of elements that the judge leaves, and the lines by the numbers of the buffers, as what the rules read.
+use Prim.Native.Nat.{ℕ, zero, suc, _+_, _-_, _*_, _≤_, _<_}
+use mathlib.Core.Path.{_≡_, refl, sym, ap, _∙_}
+use mathlib.Core.List.{List, [], _∷_, _++_}
+use native.Mathlib.Omega.{arith}
+use native.Mathlib.Decide.{decLt}
+use lib.ListN.{length, take, drop, getD, replicate, length-append, length-drop, length-replicate, getD-replicate, List·getD-eq-default}
+use lib.Seq.{take-at, getD-append-add, getD-drop, drop-drop}
+use Rattle.rules.specs.TypeFile.{Element, Content, empty, model}
+use Rattle.rules.specs.Judge.{Answer, contentNumbers, records, Accepts, Judged, accepts}
+use Rattle.rules.specs.Settling.{Event, elementAt}
+use Rattle.rules.specs.Reader.{eventNumbers}
+use Rattle.rules_laws.specs.Within.{typeFile-count}
+use Rattle.element_reader.specs.Means.{Recorded}
+use Rattle.element_index.specs.Laws.{recorded-offset, recorded-size}
+use Rattle.type_laws.specs.Again.{typeFile-sizes}
+use Rattle.demands.specs.Demands.{numbers, judged-one}
+use Rattle.sgml_events.specs.Printed.{decimal, word, nameText, line, eventLines, eventsWord, eventsText}
+use Rattle.sgml_events.specs.Means.{Adds, Fits, nameIn, lineAt, linesFrom}
+use Rattle.sgml_events.specs.Laws.{puts-both}
+
+content-length : (c : Content) → length (contentNumbers c) ≡ 2
+content-length empty = refl
+content-length (model g ps n) = refl
+
+records-length : (es : List Element) → length (records es) ≡ 6 * length es
+unfolding records
+records-length [] = refl
+records-length (e ∷ es) = omega (arith, length-append (contentNumbers (e .content)) (records es), content-length (e .content), records-length es)
+
+zero-at : (n i : ℕ) → _≡_ {A = ℕ} (getD (replicate n 0) i 0) 0
+zero-at n i = by-place (decLt i n)
+  where
+    by-place : Dec (i < n) → _≡_ {A = ℕ} (getD (replicate n 0) i 0) 0
+    by-place (yes h) = getD-replicate n i 0 0 h
+    by-place (no h) = List·getD-eq-default (replicate n 0) 0 {n = i} (omega (arith, length-replicate {A = ℕ} n 0))
+
+-- Past the last element there is none: its name is empty.
+element-past : (es : List Element) (k : ℕ) → length es ≤ k → (elementAt es k .at ≡ 0) × (elementAt es k .size ≡ 0)
+unfolding elementAt
+element-past [] k h = (refl, refl)
+element-past (e ∷ es) zero h = absurd (omega arith)
+element-past (e ∷ es) (suc k) h = element-past es k (omega arith)
+
+module _ (s : List ℕ) (es : List Element) (accepted : Accepts s es) (a : Answer) (before elements : List ℕ) (lent : before ≡ replicate 384 0) (judged : Judged s before a elements) where
+  few : 6 * length es ≤ 384
+  few = omega (arith, typeFile-count s es (accepted .elements))
+
+  elements-are : elements ≡ records es ++ drop (6 * length es) before
+  elements-are = judged-one numbers s before a _ elements _ judged (accepts es accepted (omega (arith, few, ap length lent, length-replicate {A = ℕ} 384 0)) refl refl) .1
+
+  recorded : Recorded elements es
+  recorded = rw elements-are (take-at (records es) (drop (6 * length es) before) (6 * length es) (records-length es))
+
+  -- Behind the records the table is as it was lent.
+  behind : (j : ℕ) → 6 * length es ≤ j → getD elements j 0 ≡ 0
+  behind j h =
+      let z : j ≡ length (records es) + (j - 6 * length es) = omega (arith, records-length es) in
+      let w : 6 * length es + (j - 6 * length es) ≡ j = omega arith in
+      rw (elements-are, z, getD-append-add, getD-drop, lent, zero-at)
+
+  at-is : (k : ℕ) → getD elements (6 * k) 0 ≡ elementAt es k .at
+  at-is k = by-place (decLt k (length es))
+    where
+      by-place : Dec (k < length es) → getD elements (6 * k) 0 ≡ elementAt es k .at
+      by-place (yes h) = recorded-offset elements es recorded k h
+      by-place (no h) = behind (6 * k) (omega arith) ∙ sym (element-past es k (omega arith) .0)
+
+  size-is : (k : ℕ) → getD elements (6 * k + 1) 0 ≡ elementAt es k .size
+  size-is k = by-place (decLt k (length es))
+    where
+      by-place : Dec (k < length es) → getD elements (6 * k + 1) 0 ≡ elementAt es k .size
+      by-place (yes h) = recorded-size elements es recorded k h
+      by-place (no h) = behind (6 * k + 1) (omega arith) ∙ sym (element-past es k (omega arith) .1)
+
+  name-fits : (k : ℕ) → (elementAt es k .size ≤ 8) × (elementAt es k .at + elementAt es k .size ≤ length s)
+  name-fits k = by-place (decLt k (length es))
+    where
+      by-place : Dec (k < length es) → (elementAt es k .size ≤ 8) × (elementAt es k .at + elementAt es k .size ≤ length s)
+      by-place (yes h) = let z = typeFile-sizes s es (accepted .elements) k h in (z .1, z .2)
+      by-place (no h) = let z = element-past es k (omega arith) in (omega arith, omega arith)
+
+  pub table-fits : Fits s elements
+  table-fits =
+      record {
+        whole = ap length elements-are ∙ omega (arith, length-append (records es) (drop (6 * length es) before), length-drop (6 * length es) before, records-length es, few, ap length lent, length-replicate {A = ℕ} 384 0);
+        short = λ k. rw (size-is k) (name-fits k .0);
+        inside = λ k. rw (at-is k, size-is k) (name-fits k .1);
+      }
+
+  pub names-are : (k : ℕ) → nameIn s elements k ≡ nameText s es k
+  names-are zero = refl
+  names-are (suc k) = rw (at-is k, size-is k)
+
+-- The lines by the numbers of the lent buffer are the lines of the events.
+module _ (s : List ℕ) (es : List Element) (elements : List ℕ) (names : (k : ℕ) → nameIn s elements k ≡ nameText s es k) (buffer rest : List ℕ) where
+  line-is : (e : Event) (ev : List Event) (i : ℕ) → drop (4 * i) buffer ≡ eventNumbers (e ∷ ev) ++ rest
+      → lineAt s elements buffer (4 * i) ≡ line (e .kind) (nameText s es (e .number)) (e .offset) (e .size)
+  unfolding eventNumbers lineAt
+  line-is e ev i q =
+      let number : (j : ℕ) → getD buffer (4 * i + j) 0 ≡ getD (eventNumbers (e ∷ ev) ++ rest) j 0 = λ j. sym (getD-drop (4 * i) buffer j 0) ∙ ap (λ (l : List ℕ). getD l j 0) q in
+      let first : 4 * i + 0 ≡ 4 * i = omega arith in
+      rw (rw first at (number 0), number 1, number 2, number 3, names (e .number))
+
+  lines-from : (ev : List Event) (i : ℕ) → drop (4 * i) buffer ≡ eventNumbers ev ++ rest → linesFrom s elements buffer (length ev) i ≡ eventLines s es ev
+  unfolding eventNumbers linesFrom eventLines
+  lines-from [] i q = refl
+  lines-from (e ∷ ev) i q =
+      let next : 4 * (i + 1) ≡ 4 * i + 4 = omega arith in
+      let more : drop (4 * (i + 1)) buffer ≡ eventNumbers ev ++ rest = rw (next, ← drop-drop 4 (4 * i) buffer, q) in
+      rw (line-is e ev i q, lines-from ev (i + 1) more)
+
+  pub lines-are : (ev : List Event) → buffer ≡ eventNumbers ev ++ rest → linesFrom s elements buffer (length ev) 0 ≡ eventLines s es ev
+  lines-are ev q = lines-from ev 0 q
+
+-- The whole text of the events.
+pub puts-events : {out first second after : List ℕ} {b c r : ℕ} (s elements buffer : List ℕ) (n : ℕ) → Adds out 0 first b eventsWord
+    → Adds first b second c (word (decimal n) 10) → Adds second c after r (linesFrom s elements buffer n 0)
+    → (es : List Element) (ev : List Event) (rest : List ℕ) → ((k : ℕ) → nameIn s elements k ≡ nameText s es k) → buffer ≡ eventNumbers ev ++ rest → n ≡ length ev
+    → take r after ≡ eventsText s es ev
+unfolding eventsText
+puts-events s elements buffer n x y z es ev rest names q count =
+    let all = puts-both x (puts-both y z) in
+    all .text-is ∙ rw (count, lines-are s es elements names buffer rest ev q)

@@ -1,0 +1,96 @@
+// Reads the type file `type.sgm` and the document `doc.sgm` of the folder that it runs in, and prints the document's
+// events or the one refusal.
+mod lines;
+
+use document_reader::Answer;
+use libc::STDOUT_FILENO;
+ghost use Prim.Native.Nat.{_≤_};
+ghost use lib.ListN.{length, take};
+ghost use Rattle.io.specs.Counts.{Counts};
+ghost use Rattle.sgml_events.specs.Printed.{Prints};
+ghost use Rattle.sgml_events.specs.Means.{LoadedIn};
+
+// How many bytes of a file were read.
+pub enum Loaded {
+    Bytes(usize),
+    Failed,
+}
+
+// Reads once; a failure is told on standard error.
+fn read_some(fd: i32, path: &[u8], part: &mut [u8]) -> Loaded
+    ensures { λ r. ⌜ LoadedIn r (now (part .exit)) ⌝ }
+{
+    let got = libc::read(fd, part);
+    if got < 0 {
+        os::fail(path);
+        return Loaded::Failed;
+    }
+    Loaded::Bytes(io::count(got, part))
+}
+
+// Reads until the file ends or buf is full.
+fn filled(fd: i32, path: &[u8], buf: &mut [u8]) -> Loaded
+    ensures { λ r. ⌜ LoadedIn r (now (buf .exit)) ⌝ }
+{
+    let mut at = 0;
+    while at < buf.len() {
+        let r = read_some(fd, path, &mut buf[at..]);
+        let Loaded::Bytes(n) = r else {
+            return Loaded::Failed;
+        };
+        if n == 0 {
+            break;
+        }
+        at += n;
+    }
+    Loaded::Bytes(at)
+}
+
+// The first bytes of a file, as many as buf holds. A file that is not to be had is told on standard error.
+fn file_read(path: &[u8], buf: &mut [u8]) -> Loaded
+    ensures { λ r. ⌜ LoadedIn r (now (buf .exit)) ⌝ }
+{
+    let fd = os::open_read(path);
+    if fd < 0 {
+        os::fail(path);
+        return Loaded::Failed;
+    }
+    let r = filled(fd, path, buf);
+    libc::close(fd);
+    r
+}
+
+// The text that is printed for a type file and a document, at the start of out.
+fn printed(s: &[u8], d: &[u8], out: &mut [u8]) -> usize
+    requires { ⌜ 294984 ≤ length (now out) ⌝ }
+    ensures { λ r. ⌜ Counts r (now (out .exit)) × Prints (now (s .entry)) (now (d .entry)) (take r (now (out .exit))) ⌝ }
+{
+    let mut numbers = [0u32; 16384];
+    let a = document_reader::read(s, d, &mut numbers);
+    match a {
+        Answer::Accepted(n) => lines::put_events(out, s, &numbers, n),
+        Answer::InType(f) => lines::put_refusal(out, f.number, b"in type at ", f.at),
+        Answer::Ambiguous(c) => lines::put_refusal(out, 9, b"in type at ", c.at as usize),
+        Answer::InDocument(f) => lines::put_refusal(out, f.number, b"in document at ", f.at),
+    }
+}
+
+fn main() {
+    // one byte more than the reader takes, so that it refuses what is longer
+    let mut s = [0u8; 32769];
+    let mut d = [0u8; 65536];
+    let a = file_read(b"type.sgm", &mut s);
+    let Loaded::Bytes(n) = a else {
+        return;
+    };
+    let b = file_read(b"doc.sgm", &mut d);
+    let Loaded::Bytes(m) = b else {
+        return;
+    };
+    // 72 bytes for the first line and for each of at most 4,096 events
+    let mut out = [0u8; 294984];
+    let k = printed(&s[..n], &d[..m], &mut out);
+    if !io::write_all(STDOUT_FILENO, &out[..k]) {
+        os::fail(b"standard output");
+    }
+}
