@@ -9,6 +9,7 @@
 
 mod generate;
 mod held;
+mod library;
 mod oracle;
 
 use generate::Random;

@@ -4,6 +4,7 @@
 //! rustc -O --edition 2021 edges.rs -L FOLDER -l static=NAME && ./edges VECTORS
 
 mod held;
+mod library;
 mod oracle;
 
 use held::{differs, show, Inputs, Lent};

@@ -96,11 +96,26 @@ pub fn any_type(random: &mut Random) -> Type {
     }
 }
 
+/// Chances in a hundred that a token is `#PCDATA`, in most models and in those of `mixed_type`.
+const SOME_DATA: usize = 8;
+const MUCH_DATA: usize = 35;
+
 /// A well-formed type file within the limits; its models may be ambiguous.
 pub fn sound_type(random: &mut Random) -> Type {
     if random.percent(20) {
         return chained_type(random);
     }
+    layered_type(random, SOME_DATA)
+}
+
+/// A well-formed type file with `#PCDATA` in many models, beside names and more than once. (`opensp.rs`
+/// alone asks for this.)
+#[allow(dead_code)]
+pub fn mixed_type(random: &mut Random) -> Type {
+    layered_type(random, MUCH_DATA)
+}
+
+fn layered_type(random: &mut Random, data: usize) -> Type {
     let count = random.between(1, 6);
     let names = some_of(random, &NAMES, count);
     // In layers, where a model has only names declared later, documents come to an end more often.
@@ -112,7 +127,7 @@ pub fn sound_type(random: &mut Random) -> Type {
         } else {
             &names[..]
         };
-        elements.push(sound_element(random, name, usable));
+        elements.push(sound_element(random, name, usable, data));
     }
     written_type(random, elements)
 }
@@ -125,6 +140,7 @@ fn repetitive_type(random: &mut Random) -> Type {
     let mut bag = Bag {
         names,
         put_back: true,
+        data: SOME_DATA,
     };
     let mut element = empty_element(random, 1);
     element.model = Some(sound_group(random, &mut bag, 1));
@@ -175,7 +191,7 @@ fn some_of(random: &mut Random, choices: &[&str], count: usize) -> Vec<String> {
         .collect()
 }
 
-fn sound_element(random: &mut Random, name: &str, usable: &[String]) -> Element {
+fn sound_element(random: &mut Random, name: &str, usable: &[String], data: usize) -> Element {
     let mut names = usable.to_vec();
     if random.percent(12) {
         names.push(random.pick(&UNDECLARED).to_string());
@@ -185,6 +201,7 @@ fn sound_element(random: &mut Random, name: &str, usable: &[String]) -> Element 
     let mut bag = Bag {
         names,
         put_back: random.percent(30),
+        data,
     };
     let model = if random.percent(8) {
         None
@@ -207,6 +224,8 @@ fn sound_element(random: &mut Random, name: &str, usable: &[String]) -> Element 
 struct Bag {
     names: Vec<String>,
     put_back: bool,
+    /// Chances in a hundred of `#PCDATA`.
+    data: usize,
 }
 
 impl Bag {
@@ -263,7 +282,7 @@ fn sound_token(random: &mut Random, bag: &mut Bag, level: usize) -> Token {
     if level < 5 && random.percent(22) {
         return sound_group(random, bag, level + 1);
     }
-    if random.percent(8) {
+    if random.percent(bag.data) {
         return pcdata();
     }
     let indicator = random.pick(&["", "", "", "?", "*", "+"]);
@@ -281,6 +300,7 @@ fn limit_type(random: &mut Random) -> Type {
         random,
         "A",
         &["A".to_string(), "B".to_string()],
+        SOME_DATA,
     )];
     match random.below(7) {
         0 => elements[0].model = Some(wide_group(random.between(31, 33), "N")),
@@ -292,7 +312,7 @@ fn limit_type(random: &mut Random) -> Type {
                 .map(|number| empty_element(random, number))
                 .collect();
         }
-        4 => elements.push(sound_element(random, "A", &["B".to_string()])),
+        4 => elements.push(sound_element(random, "A", &["B".to_string()], SOME_DATA)),
         _ => put_long_name(random, &mut elements[0]),
     }
     let mut written = written_type(random, elements);

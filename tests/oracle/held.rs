@@ -1,30 +1,8 @@
 //! The library under test, through its C interface, held against the oracle: the whole answer, the
 //! whole lent buffer and the bytes around it.
 
+use crate::library;
 use crate::oracle::{self, Answer};
-
-/// The C interface; this is its only declaration. The answer is number, input, position, first,
-/// second, count. The buffer holds numbers as four bytes each, low byte first.
-mod library {
-    extern "C" {
-        pub fn sgml_judge(
-            type_file: *const u8,
-            type_length: usize,
-            buffer: *mut u8,
-            buffer_length: usize,
-            answer: *mut u32,
-        );
-        pub fn sgml_read(
-            type_file: *const u8,
-            type_length: usize,
-            document: *const u8,
-            document_length: usize,
-            buffer: *mut u8,
-            buffer_length: usize,
-            answer: *mut u32,
-        );
-    }
-}
 
 /// Bytes on either side of the lent buffer that nobody may touch.
 const GUARD: usize = 24;
@@ -102,28 +80,8 @@ fn actual(inputs: &Inputs, lent: Lent) -> Outcome {
     let mut answer = [UNWRITTEN; 6];
     let type_file = &inputs.type_file;
     match &inputs.document {
-        // Safety: every pointer is that of a live slice and goes with its length.
-        None => unsafe {
-            library::sgml_judge(
-                type_file.as_ptr(),
-                type_file.len(),
-                buffer.as_mut_ptr(),
-                buffer.len(),
-                answer.as_mut_ptr(),
-            )
-        },
-        // Safety: as above.
-        Some(document) => unsafe {
-            library::sgml_read(
-                type_file.as_ptr(),
-                type_file.len(),
-                document.as_ptr(),
-                document.len(),
-                buffer.as_mut_ptr(),
-                buffer.len(),
-                answer.as_mut_ptr(),
-            )
-        },
+        None => library::judge(type_file, buffer, &mut answer),
+        Some(document) => library::read(type_file, document, buffer, &mut answer),
     }
     Outcome { answer, memory }
 }

@@ -46,6 +46,18 @@ pub fn read(type_file: &[u8], document: &[u8], buffer: &mut [u32]) -> Answer {
     hand_over(numbers, NUMBERS_PER_EVENT, IN_DOCUMENT, buffer)
 }
 
+/// Where separators were ignored in an element that has `#PCDATA` in its model, up to the refusal.
+/// The type file is an accepted one. (`opensp.rs` alone asks for this.)
+#[allow(dead_code)]
+pub fn ignored_beside_data(type_file: &[u8], document: &[u8]) -> Vec<usize> {
+    let mut ignored = Vec::new();
+    if let Ok(elements) = judged(type_file) {
+        // A refusal ends the list; what it is doesn't matter here.
+        let _ = read_document(&elements, document, &mut ignored);
+    }
+    ignored
+}
+
 /// A refusal, in the order of the answer's numbers.
 struct Refusal {
     number: u32,
@@ -109,7 +121,7 @@ fn events(type_file: &[u8], document: &[u8]) -> Result<Vec<[u32; NUMBERS_PER_EVE
     check_bytes(type_file, IN_TYPE)?;
     check_bytes(document, IN_DOCUMENT)?;
     let elements = judged(type_file)?;
-    read_document(&elements, document)
+    read_document(&elements, document, &mut Vec::new())
         .map_err(|(position, number)| Refusal::new(number, IN_DOCUMENT, position))
 }
 
@@ -799,11 +811,14 @@ struct DocumentReader<'a> {
     bytes: &'a [u8],
     open: Vec<Open<'a>>,
     events: Vec<[u32; NUMBERS_PER_EVENT]>,
+    /// For `ignored_beside_data`.
+    ignored: &'a mut Vec<usize>,
 }
 
 fn read_document(
     elements: &[Element],
     bytes: &[u8],
+    ignored: &mut Vec<usize>,
 ) -> Result<Vec<[u32; NUMBERS_PER_EVENT]>, Fault> {
     // "With nothing open yet, only the document element may come next, and it is required."
     let token = ContentToken {
@@ -828,6 +843,7 @@ fn read_document(
         bytes,
         open: vec![document],
         events: Vec::new(),
+        ignored,
     };
     let mut at = 0;
     while at < bytes.len() {
@@ -889,6 +905,14 @@ impl<'a> DocumentReader<'a> {
                 }
                 _ => self.event(DATA, None, at, 1),
             }
+        } else if self
+            .current()
+            .model
+            .places
+            .iter()
+            .any(|place| place.name == PCDATA)
+        {
+            self.ignored.push(at);
         }
         Ok(at + 1)
     }

@@ -1,0 +1,361 @@
+//! Holds the library beside OpenSP: generated documents without record ends are accepted by both or
+//! by neither, with the same elements, tags left out and text; generated type files likewise, with
+//! the same first pair of places where a model is ambiguous. Where the paper departs from ISO 8879
+//! (`departures.rs`), the inputs are written anew and compared once more.
+//!
+//! rustc -O --edition 2021 opensp.rs -L FOLDER -l static=NAME && ./opensp FILE DOCUMENTS TYPES SEED
+//!
+//! FILE is written anew for each case; onsgmls is to be found on the path.
+
+mod departures;
+mod generate;
+mod library;
+mod onsgmls;
+#[allow(dead_code)] // Only what a separator is, is asked of it.
+mod oracle;
+
+use departures::{plain_document, plain_type, without_comments, Kind, Kinds};
+use generate::Random;
+use onsgmls::{add_data, clashes, Event, Onsgmls};
+use std::collections::BTreeMap;
+use std::{env, io, process};
+
+const SHOWN_DIFFERENCES: usize = 3;
+
+/// Of each kind of departure but `House` inputs that show it: type file and document, or a type file.
+#[rustfmt::skip]
+const EXAMPLES: [(Kind, &str, Option<&str>); 10] = [
+    (Kind::Comment, "<!ELEMENT A - O (#PCDATA)>", Some("<A>x<!-- a -- b -->y")),
+    (Kind::Comment, "<!-- a -- b --><!ELEMENT A - O EMPTY>", None),
+    // Refused by onsgmls alone, by the reader alone, and accepted by both with other text.
+    (Kind::Separator, "<!ELEMENT A - O (#PCDATA,B)><!ELEMENT B - O EMPTY>", Some("<A>x<B> </A>")),
+    (Kind::Separator, "<!ELEMENT A - O (B,#PCDATA,A?)><!ELEMENT B O O (#PCDATA)>", Some("<A> <A>x")),
+    (Kind::Separator, "<!ELEMENT A - O (B,#PCDATA)><!ELEMENT B O O (#PCDATA)>", Some("<A> x")),
+    (Kind::LeftOut, "<!ELEMENT A - O (#PCDATA)>", Some("<A>&#65;")),
+    (Kind::LeftOut, "<!ELEMENT A - O ANY>", None),
+    (Kind::Net, "<!ELEMENT A - O (#PCDATA)>", Some("<A/x")),
+    (Kind::Parted, "<!ELEMENT A -O EMPTY>", None),
+    (Kind::Rank, "<!ELEMENT A - O EMPTY><!ELEMENT H 1 - O EMPTY>", None),
+];
+
+fn main() -> io::Result<()> {
+    let arguments: Vec<String> = env::args().skip(1).collect();
+    let number = |index: usize| arguments.get(index)?.parse::<u64>().ok();
+    let (Some(file), Some(documents), Some(types), Some(seed)) =
+        (arguments.first().cloned(), number(1), number(2), number(3))
+    else {
+        eprintln!("usage: opensp FILE DOCUMENTS TYPES SEED");
+        process::exit(2);
+    };
+    let beside = Onsgmls { file };
+    let (mut passed, mut failed) = (0, 0);
+    for (kind, type_file, document) in EXAMPLES {
+        match shows(&beside, kind, type_file, document)? {
+            true => passed += 1,
+            false => failed += 1,
+        }
+    }
+    for (what, count, compare) in [
+        ("documents", documents, any_document as Compare),
+        ("type files", types, any_type),
+    ] {
+        let mut tally = Tally::default();
+        for case in 0..count {
+            // Each case has its own stream, so that it is the same whatever came before it.
+            let mut random = Random::new(seed.wrapping_mul(1_000_000_007).wrapping_add(case));
+            tally.add(case, compare(&beside, &mut random)?);
+        }
+        tally.print(what);
+        passed += count - tally.failed;
+        failed += tally.failed;
+    }
+    println!("{passed} passed, {failed} failed");
+    process::exit((failed > 0) as i32);
+}
+
+/// Whether the example differs by its kind and by no other.
+fn shows(
+    beside: &Onsgmls,
+    kind: Kind,
+    type_file: &str,
+    document: Option<&str>,
+) -> io::Result<bool> {
+    let type_file = type_file.as_bytes().to_vec();
+    let compared = match document {
+        Some(document) => compare_document(beside, type_file, document.as_bytes().to_vec()),
+        None => compare_type(beside, type_file),
+    }?;
+    let alike_anew = compared.difference_anew.is_none();
+    let shown = compared.difference.is_some() && alike_anew && compared.kinds == [kind].into();
+    if !shown {
+        println!("no example of {kind:?}:");
+        compared.show(&compared.difference);
+        compared.show(&compared.difference_anew);
+    }
+    Ok(shown)
+}
+
+type Compare = fn(&Onsgmls, &mut Random) -> io::Result<Compared>;
+
+/// One case: what was given, the difference as it stands and once written anew, if there is one.
+struct Compared {
+    type_file: Vec<u8>,
+    document: Vec<u8>,
+    /// The library's refusal number.
+    number: u32,
+    difference: Option<String>,
+    difference_anew: Option<String>,
+    kinds: Kinds,
+}
+
+impl Compared {
+    fn show(&self, difference: &Option<String>) {
+        println!("  departures {:?}", self.kinds);
+        println!("  type     {}", self.type_file.escape_ascii());
+        println!("  document {}", self.document.escape_ascii());
+        println!("{}", difference.as_deref().unwrap_or("  alike"));
+    }
+}
+
+#[derive(Default)]
+struct Tally {
+    /// How many cases had each refusal number, 0 for acceptance.
+    numbers: BTreeMap<u32, u64>,
+    failed: u64,
+    /// Cases that differ as they stand and not once written anew.
+    departures: BTreeMap<Kinds, u64>,
+}
+
+impl Tally {
+    fn add(&mut self, case: u64, compared: Compared) {
+        *self.numbers.entry(compared.number).or_default() += 1;
+        if compared.difference_anew.is_some() {
+            self.failed += 1;
+            if self.failed as usize <= SHOWN_DIFFERENCES {
+                println!("difference in case {case}:");
+                compared.show(&compared.difference_anew);
+            }
+        } else if compared.difference.is_some() {
+            *self.departures.entry(compared.kinds).or_default() += 1;
+        }
+    }
+
+    fn print(&self, what: &str) {
+        let cases: u64 = self.numbers.values().sum();
+        let explained: u64 = self.departures.values().sum();
+        println!(
+            "{cases} {what}, by refusal number, 0 for acceptance: {:?}",
+            self.numbers
+        );
+        println!("  {} alike as they stand", cases - explained - self.failed);
+        for (kinds, count) in &self.departures {
+            println!("  {count} differ by {kinds:?}, alike once written anew");
+        }
+    }
+}
+
+fn any_document(beside: &Onsgmls, random: &mut Random) -> io::Result<Compared> {
+    let under = accepted_type(random);
+    let document = generate::any_document(random, &under);
+    let document = without_record_ends(random, &document);
+    compare_document(beside, under.file, document)
+}
+
+fn compare_document(
+    beside: &Onsgmls,
+    type_file: Vec<u8>,
+    document: Vec<u8>,
+) -> io::Result<Compared> {
+    let difference = document_difference(beside, &type_file, &document)?;
+    let (plain_type, plain, kinds) = plain_document(&type_file, &document);
+    let reading = reading(&type_file, &document);
+    // Of some, only the beginning is left.
+    let cut = [Kind::LeftOut, Kind::Net, Kind::House]
+        .iter()
+        .any(|kind| kinds.contains(kind));
+    let difference_anew = if kinds.is_empty() {
+        difference.clone()
+    } else if !cut && reading != self::reading(&plain_type, &plain) {
+        Some("  the library reads it otherwise once written anew".to_string())
+    } else {
+        document_difference(beside, &plain_type, &plain)?
+    };
+    Ok(Compared {
+        type_file,
+        document,
+        number: reading.err().unwrap_or(0),
+        difference,
+        difference_anew,
+        kinds,
+    })
+}
+
+/// Half of them with `#PCDATA` at many places.
+fn accepted_type(random: &mut Random) -> generate::Type {
+    loop {
+        let sound = match random.percent(50) {
+            true => generate::sound_type(random),
+            false => generate::mixed_type(random),
+        };
+        if judged(&sound.file)[0] == 0 {
+            return sound;
+        }
+    }
+}
+
+/// Spaces and tabs for record ends, and before some tags.
+fn without_record_ends(random: &mut Random, document: &[u8]) -> Vec<u8> {
+    let more = *random.pick(&[&0, &0, &15]);
+    let mut changed = Vec::new();
+    for &byte in document {
+        if byte == b'<' && random.percent(more) {
+            changed.push(*random.pick(&[&b' ', &b'\t']));
+        }
+        changed.push(match byte {
+            b'\n' => b' ',
+            b'\r' => b'\t',
+            _ => byte,
+        });
+    }
+    changed
+}
+
+/// The library's events, or its refusal number.
+fn reading(type_file: &[u8], document: &[u8]) -> Result<Vec<Event>, u32> {
+    let (mut answer, mut records) = ([0; 6], [0; 6 * 4 * 64]);
+    library::judge(type_file, &mut records, &mut answer);
+    // No token brings more than 50 events, and a token has at least one byte.
+    let mut buffer = vec![0; 16 * 50 * (document.len() + 1)];
+    library::read(type_file, document, &mut buffer, &mut answer);
+    if answer[0] != 0 {
+        return Err(answer[0]);
+    }
+    let number = |bytes: &[u8], index: usize| -> usize {
+        let four = bytes[4 * index..4 * index + 4].try_into().unwrap();
+        u32::from_le_bytes(four) as usize
+    };
+    let mut events = Vec::new();
+    for event in buffer.chunks_exact(16).take(answer[5] as usize) {
+        let [kind, element, offset, length] = [0, 1, 2, 3].map(|index| number(event, index));
+        if kind == 5 {
+            add_data(&mut events, document[offset..offset + length].to_vec());
+            continue;
+        }
+        let record = &records[24 * (element - 1)..];
+        let name = &type_file[number(record, 0)..][..number(record, 1)];
+        let name = String::from_utf8_lossy(name).to_uppercase();
+        // The end of an EMPTY element is never written.
+        let written = kind == 1 || kind == 3;
+        events.push(match kind {
+            1 | 2 => Event::Start { name, written },
+            _ => Event::End { name, written },
+        });
+    }
+    Ok(events)
+}
+
+fn document_difference(
+    beside: &Onsgmls,
+    type_file: &[u8],
+    document: &[u8],
+) -> io::Result<Option<String>> {
+    let ours = reading(type_file, document);
+    let theirs = beside.read(&root(type_file), type_file, document)?;
+    Ok(match (&ours, &theirs) {
+        (Ok(ours), Ok(theirs)) if ours == theirs => None,
+        (Err(_), Err(_)) => None,
+        _ => Some(format!("  library {ours:?}\n  onsgmls {theirs:?}")),
+    })
+}
+
+fn judged(type_file: &[u8]) -> [u32; 6] {
+    let mut answer = [0; 6];
+    library::judge(type_file, &mut [0; 6 * 4 * 64], &mut answer);
+    answer
+}
+
+/// The first element's name; any name where there is none.
+fn root(type_file: &[u8]) -> String {
+    let text = String::from_utf8_lossy(&without_comments(type_file)).to_uppercase();
+    let after = text.split_once("<!ELEMENT").map_or("", |(_, after)| after);
+    let name = after.split_whitespace().next().unwrap_or("");
+    let is_name_char = |c: char| c.is_ascii_alphanumeric() || c == '.' || c == '-';
+    match name.split(|c| !is_name_char(c)).next() {
+        Some(name) if name.starts_with(char::is_alphabetic) => name.to_string(),
+        _ => "A".to_string(),
+    }
+}
+
+fn any_type(beside: &Onsgmls, random: &mut Random) -> io::Result<Compared> {
+    loop {
+        let type_file = generate::any_type(random).file;
+        // A "]" would end the subset in which onsgmls is given the declarations.
+        if !without_comments(&type_file).contains(&b']') {
+            return compare_type(beside, type_file);
+        }
+    }
+}
+
+fn compare_type(beside: &Onsgmls, type_file: Vec<u8>) -> io::Result<Compared> {
+    let difference = type_difference(beside, &type_file)?;
+    let (plain, kinds) = plain_type(&type_file);
+    let difference_anew = match kinds.is_empty() {
+        true => difference.clone(),
+        false => type_difference(beside, &plain)?,
+    };
+    Ok(Compared {
+        number: judged(&type_file)[0],
+        type_file,
+        document: Vec::new(),
+        difference,
+        difference_anew,
+        kinds,
+    })
+}
+
+fn type_difference(beside: &Onsgmls, type_file: &[u8]) -> io::Result<Option<String>> {
+    let answer = judged(type_file);
+    let theirs = beside.judge(&root(type_file), type_file)?;
+    let alike = match (answer[0], &theirs) {
+        (0, theirs) => theirs.is_ok(),
+        (9, Err(messages)) => {
+            let places = places_of_model(type_file, answer[2] as usize);
+            first_pair(&places, messages) == Some([answer[3], answer[4], answer[2]])
+        }
+        (_, theirs) => theirs.is_err(),
+    };
+    Ok((!alike).then(|| format!("  library {answer:?}\n  onsgmls {theirs:?}")))
+}
+
+/// Names and offsets of the places of the model around a byte, which runs from the first "(" of its
+/// declaration up to ">".
+fn places_of_model(type_file: &[u8], at: usize) -> Vec<(String, usize)> {
+    let text = String::from_utf8_lossy(&without_comments(type_file)).to_uppercase();
+    let declaration = text[..at].rfind("<!").unwrap_or(0);
+    let mut at = text[declaration..]
+        .find('(')
+        .map_or(at, |group| declaration + group);
+    let model = text[at..].split('>').next().unwrap_or("");
+    let mut places = Vec::new();
+    for name in model.split(|c: char| !c.is_ascii_alphanumeric() && !"#.-".contains(c)) {
+        if !name.is_empty() {
+            places.push((name.to_string(), at));
+        }
+        at += name.len() + 1;
+    }
+    places
+}
+
+/// The first of all pairs that onsgmls calls possible at once, and the offset of its second place.
+fn first_pair(places: &[(String, usize)], messages: &str) -> Option<[u32; 3]> {
+    let mut pairs = Vec::new();
+    for (name, occurrences) in clashes(messages) {
+        let named: Vec<usize> = (0..places.len()).filter(|&k| places[k].0 == name).collect();
+        let mut found = occurrences
+            .iter()
+            .map(|occurrence| named.get(occurrence - 1));
+        let (first, second) = (*found.next()??, *found.next()??);
+        pairs.push([first as u32 + 1, second as u32 + 1, places[second].1 as u32]);
+    }
+    pairs.into_iter().min()
+}
