@@ -5,9 +5,9 @@ use mathlib.Core.Bool.{true, false, true≢false}
 use mathlib.Core.List.{List}
 use native.Mathlib.Omega.{arith}
 use lib.ListN.{length}
-use Rattle.rules.specs.Reading.{Reading, refused, got}
+use Rattle.rules.specs.Reading.{got}
 use Rattle.rules.specs.TypeFile.{Element}
-use Rattle.rules.specs.Document.{Tag, startTag, endTag, skipped, blank, dataByte, piece}
+use Rattle.rules.specs.Document.{Tag, startTag, endTag, blank, dataByte, piece}
 use Rattle.rules.specs.Document as rules
 use Rattle.rules.specs.Settling.{numberOf, pcdata, start}
 use Rattle.document_laws.specs.Decide.{decided}
@@ -22,7 +22,7 @@ use Rattle.open_elements.specs.declared.Open.{Open}
 use Rattle.open_elements.specs.Means.{AnyStands, AnyClosing, Fresh}
 use Rattle.document_events.specs.declared.Piece.{Piece}
 use Rattle.document_events.specs.declared.Piece.the-variants as found
-use Rattle.document_events.specs.Means.{Names, Ignored, skips, separates, Unread, malformed, undeclaredStart, undeclaredEnd, Runs, Finds, endOf, isRead, AnyTurn}
+use Rattle.document_events.specs.Means.{Names, Ignored, skips, separates, undeclaredStart, undeclaredEnd, Runs, Finds, endOf, isRead, AnyTurn}
 use Rattle.document_events.specs.Named.{start-tag-named, end-tag-named}
 
 -- From the token

@@ -27,7 +27,7 @@ use Rattle.document_events.specs.declared.Counted.{Counted}
 use Rattle.document_events.specs.declared.Counted.the-variants as counted
 use Rattle.document_events.specs.declared.Piece.{Piece}
 use Rattle.document_events.specs.declared.Piece.the-variants as found
-use Rattle.document_events.specs.Means.{AnyType, EventsOf, skips, separates, malformed, undeclaredStart, undeclaredEnd, Finds, endOf, isRead, AnyTurn, Turned, Comes, Going}
+use Rattle.document_events.specs.Means.{AnyType, EventsOf, skips, separates, malformed, undeclaredStart, undeclaredEnd, Finds, endOf, isRead, AnyTurn, Turned, Going}
 use Rattle.document_events.specs.Pieces.{finds-range}
 
 -- The scratch of events

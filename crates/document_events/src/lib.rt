@@ -218,7 +218,8 @@ pub fn events_of(
         put(numbers, bytes, count, &events, t.events);
         count += t.events;
         at = end_of(p, at);
-        o = t.brought(0);
+        o = t;
+        o.events = 0;
     }
     let l = closing::finish(rows, facts, o, at, &mut events);
     if l.number != 0 {

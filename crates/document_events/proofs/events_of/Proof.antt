@@ -1,7 +1,7 @@
 -- `events_of` meets its contract. The loop's invariant: reading has come to `at` with these elements open, and the events so far are in both
 -- buffers as far as they fit. The measure is what is left of the document.
 use Prim.Native.Nat.{ℕ, _-_}
-use mathlib.Core.Path.{_≡_, _∙_}
+use mathlib.Core.Path.{_≡_, refl, _∙_}
 use mathlib.Core.Bool.{true}
 use mathlib.Core.Logic.{_⊎_, inl, inr}
 use native.Mathlib.Omega.{arith}
@@ -99,28 +99,25 @@ add-count c =
 end-of-requires : tie.Need-end-of-requires Inv-loop μ-loop
 end-of-requires c κs = search needs
 
-brought-requires : tie.Need-brought-requires Inv-loop μ-loop
-brought-requires c κs = search needs
-
 loop-less : tie.Need-loop-less Inv-loop μ-loop
 loop-less c =
-    let turn = c .before .before .before .before .before .before .before .before .before .before .before .before .before in
+    let turn = c .before .before .before .before .before .before .before .before .before .before .before .before in
     let found = turn .before .before .before in
     let loop = found .before .before in
     let pre = loop .before .before .before .before .before .before .pre in
     let on = turn-range (loop .loop .inv) (omega (arith, found .before .loop-test .taken, found .before .before .loop .inv .inside)) (found .piece-at .result) (found .piece-at .ensures) (pre .0) (read (turn .before .before)) in
-    omega (arith, on, c .before .end-of .ensures)
+    omega (arith, on, c .end-of .ensures)
 
 loop-again : tie.Need-loop-again Inv-loop μ-loop
 loop-again c =
-    let put = c .before .before .before .before .before .before .before in
+    let put = c .before .before .before .before .before .before in
     let went = put .before .before .before .before in
     let turn = went .before .before in
     let found = turn .before .before .before in
     let loop = found .before .before in
     let pre = loop .before .before .before .before .before .before .pre in
     going-turn (loop .loop .inv) (omega (arith, found .before .loop-test .taken, found .before .before .loop .inv .inside)) (found .piece-at .result) (found .piece-at .ensures) _ _ (turn .settled .ensures .0) (pre .0) (read (turn .before .before)) (went .if1 .left)
-    (turn .settled .ensures .1 .0) (put .put .ensures .0) (put .put .ensures .1) (c .before .end-of .ensures) (c .brought .ensures)
+    (turn .settled .ensures .1 .0) (put .put .ensures .0) (put .put .ensures .1) (c .end-of .ensures) refl
 
 finish-requires : tie.Need-finish-requires Inv-loop μ-loop
 finish-requires c κs =
@@ -202,7 +199,6 @@ events-of-spec =
     put-requires
     add-count
     end-of-requires
-    brought-requires
     loop-less
     loop-again
     finish-requires

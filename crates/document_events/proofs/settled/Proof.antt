@@ -1,5 +1,4 @@
 -- `settled` meets its contract: by what stands there.
-use mathlib.Core.Path.{refl}
 use native.Mathlib.Omega.{arith}
 use borrow.Author.Needs.{needs}
 use Rattle.document_events.specs.Pieces.{start-declared, start-asked, end-asked, run-in, run-asked}
