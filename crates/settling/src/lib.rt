@@ -3,16 +3,16 @@
 // `rows`, `places` and `facts` are the tables of the type (crate type_tables). x is the element that starts, or 0 for data.
 use open_elements::Open;
 ghost use mathlib.Core.Path.{_≡_};
-ghost use mathlib.Core.List.{List};
-ghost use Prim.Native.Nat.{ℕ, _+_, _≤_, _<_};
-ghost use lib.ListN.{length};
+ghost use mathlib.Core.List.{List, _++_};
+ghost use Prim.Native.Nat.{ℕ, suc, _+_, _≤_, _<_};
 ghost use Rattle.rules.specs.TypeFile.{Element};
-ghost use Rattle.rules.specs.Settling.{Event, startElement};
+ghost use Rattle.rules.specs.Settling.{Token, Event, limited, takeToken, isOver, startElement};
 ghost use Rattle.rules.specs.Settling as rules;
 ghost use Rattle.document_laws.specs.Decide.{decided};
-ghost use Rattle.last_places.specs.Last.{shortly, takeRun};
-ghost use Rattle.type_tables.specs.Means.{Declares, Tables};
-ghost use Rattle.open_elements.specs.Means.{stateOf, outcome, Stands, AnyStands, Fresh};
+ghost use Rattle.last_places.specs.Last.{placed, InRange, shortly, takeRun};
+ghost use Rattle.type_tables.specs.Means.{standing, nameNumber, Declares, Rows, Facts, Tables, ReadyFor};
+ghost use Rattle.open_elements.specs.Means.{current, around, stateOf, eventsIn, outcome, Stands, AnyStands, Fresh};
+ghost use Rattle.settling.specs.Means.{wayOf, chained, mayEnd, inferMany, Infers, InfersOn, reads, Settled, AnyInfers};
 
 // What the current element has to say to a start tag or a data byte.
 pub enum Way {
@@ -31,7 +31,11 @@ fn chain(
     e: usize,
     u: usize,
     x: usize,
-) -> usize {
+) -> usize
+    requires { ⌜ ReadyFor (now rows) (now places) (now facts) e u x ⌝ }
+    ensures { λ r. ⌜ ((s : List ℕ) (es : List Element) → Tables s es (now (rows .entry)) (now (places .entry)) (now (facts .entry)) → InRange es (standing e u) →
+        (t : Token) → nameNumber t ≡ x → Declares es t → r ≡ chained s es t (standing e u)) ⌝ }
+{
     let mut c = type_tables::inferable(rows, places, facts, e, u);
     let mut n = 1;
     while n <= 64 && c != 0 {
@@ -52,7 +56,11 @@ fn way_at(
     e: usize,
     u: usize,
     x: usize,
-) -> Way {
+) -> Way
+    requires { ⌜ ReadyFor (now rows) (now places) (now facts) e u x ⌝ }
+    ensures { λ r. ⌜ ((s : List ℕ) (es : List Element) → Tables s es (now (rows .entry)) (now (places .entry)) (now (facts .entry)) → InRange es (standing e u) →
+        (t : Token) → nameNumber t ≡ x → Declares es t → r ≡ wayOf (decided s es .fits e (placed u) t) (chained s es t (standing e u))) ⌝ }
+{
     let p = type_tables::fitting(rows, places, facts, e, u, x);
     if p != 0 {
         return Way::Taken(p);
@@ -66,7 +74,11 @@ fn way_at(
 
 // Whether step 3 infers the current element's end: its content is complete, its end is "O" and it is not the document
 // element.
-fn may_end(rows: &[u8; 88270], facts: &[u8; 4420], state: Open) -> bool {
+fn may_end(rows: &[u8; 88270], facts: &[u8; 4420], state: Open) -> bool
+    requires { ⌜ (state .count ≤ 24) × (state .element ≤ 64) × (state .place ≤ 96) ⌝ }
+    ensures { λ r. ⌜ ((s : List ℕ) (es : List Element) → Rows es (now (rows .entry)) → Facts s es (now (facts .entry)) → Stands es state →
+        r ≡ mayEnd s es (current state) (around state)) ⌝ }
+{
     let n = state.count;
     if n == 0 {
         return false;
@@ -89,7 +101,13 @@ fn infer_start(
     state: Open,
     at: usize,
     events: &mut [u32; 200],
-) -> Open {
+) -> Open
+    requires { ⌜ AnyInfers (now rows) (now places) (now facts) state 1 0 ⌝ }
+    requires { ⌜ (state .count < 24) × (state .events < 50) × (at < 4294967296) ⌝ }
+    ensures { λ r. ⌜ ((s : List ℕ) (es : List Element) → Tables s es (now (rows .entry)) (now (places .entry)) (now (facts .entry)) → Stands es state → (left : ℕ) → Infers s es (suc left) (current state) →
+        InfersOn s es at left r (now (events .exit)) (suc left) state (now (events .entry))) ⌝ }
+    ensures { λ r. ⌜ (r .count ≡ state .count + 1) × (r .events ≡ state .events + 1) × (r .number ≡ state .number) ⌝ }
+{
     let e = state.element;
     let u = state.place;
     let k = type_tables::inferable(rows, places, facts, e, u);
@@ -107,7 +125,13 @@ fn infer_starts(
     starts: usize,
     at: usize,
     events: &mut [u32; 200],
-) -> Open {
+) -> Open
+    requires { ⌜ AnyInfers (now rows) (now places) (now facts) state starts 0 ⌝ }
+    requires { ⌜ (state .count + starts ≤ 24) × (state .events + starts ≤ 50) × (at < 4294967296) ⌝ }
+    ensures { λ r. ⌜ ((s : List ℕ) (es : List Element) → Tables s es (now (rows .entry)) (now (places .entry)) (now (facts .entry)) → Stands es state → Infers s es starts (current state) →
+        InfersOn s es at 0 r (now (events .exit)) starts state (now (events .entry))) ⌝ }
+    ensures { λ r. ⌜ (r .count ≡ state .count + starts) × (r .events ≡ state .events + starts) × (r .number ≡ state .number) ⌝ }
+{
     let mut o = state;
     let mut k = 0;
     while k < starts {
@@ -128,7 +152,13 @@ fn infer(
     x: usize,
     at: usize,
     events: &mut [u32; 200],
-) -> Open {
+) -> Open
+    requires { ⌜ AnyInfers (now rows) (now places) (now facts) state starts x ⌝ }
+    requires { ⌜ (starts ≤ 64) × (state .events + state .count ≤ 24) × (state .number ≡ 0) × (at < 4294967296) ⌝ }
+    ensures { λ r. ⌜ ((s : List ℕ) (es : List Element) → Tables s es (now (rows .entry)) (now (places .entry)) (now (facts .entry)) → Stands es state → Infers s es starts (current state) → (t : Token) → nameNumber t ≡ x → Declares es t →
+        Settled es at r (now (events .exit)) (λ before. limited at (takeToken s es (decided s es) t (inferMany s es at starts (stateOf state (before ++ eventsIn (now (events .entry)) (state .events))))))) ⌝ }
+    ensures { λ r. ⌜ (r .events ≤ 48) × (r .number < 20) ⌝ }
+{
     if 24 < state.count + starts {
         return state.refused(15);
     }
@@ -146,7 +176,13 @@ fn settle(
     x: usize,
     at: usize,
     events: &mut [u32; 200],
-) -> Open {
+) -> Open
+    requires { ⌜ AnyStands (now rows) (now places) (now facts) state x ⌝ }
+    requires { ⌜ Fresh state × (at < 4294967296) ⌝ }
+    ensures { λ r. ⌜ ((s : List ℕ) (es : List Element) → Tables s es (now (rows .entry)) (now (places .entry)) (now (facts .entry)) → Stands es state → (t : Token) → nameNumber t ≡ x → Declares es t →
+        Settled es at r (now (events .exit)) (reads s es t at state)) ⌝ }
+    ensures { λ r. ⌜ (r .events ≤ 48) × (r .number < 20) ⌝ }
+{
     let mut o = state;
     let found = loop {
         let w = way_at(rows, places, facts, o.element, o.place, x);
@@ -167,7 +203,11 @@ fn settle(
 }
 
 // Whether the document element was there and has ended.
-fn is_over(rows: &[u8; 88270], state: Open) -> bool {
+fn is_over(rows: &[u8; 88270], state: Open) -> bool
+    requires { ⌜ state .place ≤ 96 ⌝ }
+    ensures { λ r. ⌜ ((s : List ℕ) (es : List Element) → Rows es (now (rows .entry)) → Stands es state → (before : List Event) →
+        r ≡ isOver s es (decided s es) (stateOf state before)) ⌝ }
+{
     if state.element != 0 {
         return false;
     }
@@ -195,19 +235,19 @@ pub fn start_tag(
     if is_over(rows, state) {
         return state.refused(16);
     }
-    let o = settle(rows, places, facts, state, x, at, events);
-    if o.number != 0 {
-        return o;
+    let settled = settle(rows, places, facts, state, x, at, events);
+    if settled.number != 0 {
+        return settled;
     }
-    if 24 <= o.count {
-        return o.refused(15);
+    if 24 <= settled.count {
+        return settled.refused(15);
     }
-    let n = open_elements::put_event(events, o.events, 1, x, at, after - at);
+    let n = open_elements::put_event(events, settled.events, 1, x, at, after - at);
     if type_tables::has_model(facts, x) {
-        return o.start(x).brought(n);
+        return settled.start(x).brought(n);
     }
     let m = open_elements::put_event(events, n, 6, x, after, 0);
-    o.brought(m)
+    settled.brought(m)
 }
 
 // The run of data at `at`, of this size.

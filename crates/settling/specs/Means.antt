@@ -1,0 +1,89 @@
+-- What settling asks and does at one open element, by counts and by the last places: what its contracts cite.
+use Prim.Native.Nat.{ℕ, zero, suc, _≤_}
+use mathlib.Core.Path.{_≡_, refl}
+use mathlib.Core.Bool.{Bool, false, _&&_}
+use mathlib.Core.List.{List, [], _∷_, _++_}
+use native.Mathlib.Omega.{arith}
+use lib.ListN.{length}
+use lib.Dec.{leb}
+use Rattle.rules.specs.Reading.{Reading, andThen}
+use Rattle.rules.specs.TypeFile.{Element}
+use Rattle.rules.specs.Settling.{Token, start, pcdata, endO, startInferred, Event, State, takePlace, enter, note, limited, requiredPlace, isComplete, inferable, settleFrom}
+use Rattle.rules.specs.Settling as rules
+use Rattle.document_laws.specs.Decide.{decided}
+use Rattle.last_places.specs.Last.{short, shortly}
+use Rattle.type_tables.specs.Means.{nameNumber, Declares, Tables}
+use Rattle.open_elements.specs.declared.Open.{Open}
+use Rattle.open_elements.specs.Means.{stateOf, current, around, eventsIn, outcome, Stands}
+use Rattle.settling.specs.declared.Way.{Way}
+use Rattle.settling.specs.declared.Way.the-variants.{Taken, Inferred, Stuck}
+
+-- The token whose name has this number.
+abbrev pub tokenOf : ℕ → Token
+tokenOf zero = pcdata
+tokenOf (suc k) = start (suc k)
+
+pub tokenOf-number : (x : ℕ) → nameNumber (tokenOf x) ≡ x
+tokenOf-number zero = refl
+tokenOf-number (suc k) = refl
+
+pub tokenOf-declared : (es : List Element) (x : ℕ) → x ≤ length es → Declares es (tokenOf x)
+tokenOf-declared es zero l = tt
+tokenOf-declared es (suc k) l = (omega arith, l)
+
+-- Steps 1 and 2: the token fits as the place f, or else so many starts are inferred, or neither.
+abbrev pub wayOf : (f starts : ℕ) → Way
+wayOf zero zero = Stuck
+wayOf zero (suc n) = Inferred (suc n)
+wayOf (suc f) n = Taken (suc f)
+
+module _ (s : List ℕ) (es : List Element) where
+  -- How many starts the chain has, 0 if there is none.
+  abbrev pub chained : Token → rules.Open → ℕ
+  chained t o = length (rules.chain s es (decided s es) (length es) t o)
+
+  -- Step 3: the content is complete, the end is "O", and the parent is not the document itself.
+  abbrev pub mayEnd : rules.Open → List rules.Open → Bool
+  mayEnd o [] = false
+  mayEnd o (u ∷ us) = isComplete s es (decided s es) o && (endO es (o .number) && leb 1 (u .number))
+
+  -- The start of the element that the current one requires is inferred.
+  abbrev pub inferOne : (at : ℕ) → State → State
+  inferOne at z =
+      let k = inferable s es (decided s es) (z .current) in
+      note (startInferred k at) (enter k (takePlace (requiredPlace s es (decided s es) (z .current)) z))
+
+  -- So many starts are inferred, one in the other.
+  abbrev pub inferMany : (at starts : ℕ) → State → State
+  inferMany at zero z = z
+  inferMany at (suc n) z = inferMany at n (inferOne at z)
+
+  -- So many starts can be inferred in o, one in the other.
+  abbrev pub Infers : ℕ → rules.Open → Type 0
+  Infers zero o = Unit {0}
+  Infers (suc n) o = (1 ≤ inferable s es (decided s es) o) × Infers n (record { number = inferable s es (decided s es) o; taken = [] })
+
+-- To infer what is left from o, whose events are these, comes to the same as to infer so many starts from o₀.
+pub record InfersOn (s : List ℕ) (es : List Element) (at left : ℕ) (o : Open) (events : List ℕ) (starts : ℕ) (o₀ : Open) (events₀ : List ℕ) : Type 0 where
+  pub stands : Stands es o
+  pub infers : Infers s es left (current o)
+  pub same : (before : List Event) → short (inferMany s es at left (stateOf o (before ++ eventsIn events (o .events)))) ≡ short (inferMany s es at starts (stateOf o₀ (before ++ eventsIn events₀ (o₀ .events))))
+
+-- What is read of a token from the state o on, with the limit of 24: it is settled, where the document is not over.
+abbrev pub reads : List ℕ → List Element → Token → (at : ℕ) → Open → List Event → Reading State
+reads s es t at o before = andThen (settleFrom s es (decided s es) t at (around o) (current o) before) (limited at)
+
+-- What has become of a token at `at` is what is read of it, where these events were before it.
+pub record Settled (es : List Element) (at : ℕ) (o : Open) (events : List ℕ) (read : List Event → Reading State) : Type 0 where
+  pub comes : (before : List Event) → outcome at o events before ≡ shortly (read before)
+  pub stands : o .number ≡ 0 → Stands es o
+
+-- The tables are those of some type, of which these elements are open, in the current one of which so many starts can be inferred;
+-- the type has so many elements.
+pub record AnyInfers (rows places facts : List ℕ) (o : Open) (starts x : ℕ) : Type 0 where
+  pub s : List ℕ
+  pub es : List Element
+  pub tables : Tables s es rows places facts
+  pub stands : Stands es o
+  pub infers : Infers s es starts (current o)
+  pub most : x ≤ length es

@@ -1,0 +1,162 @@
+-- Starts that are inferred one in the other, by the last places taken.
+use Prim.Native.Nat.{ℕ, zero, suc, _+_, _-_, _≤_, _<_}
+use mathlib.Core.Path.{_≡_, refl, sym, _∙_, ap, ap₂, subst}
+use mathlib.Core.List.{List, [], _∷_, _++_}
+use native.Mathlib.Omega.{arith}
+use lib.ListN.{length, getD}
+use borrow.Author.Tests.{leb-true}
+use Rattle.rules.specs.TypeFile.{Element}
+use Rattle.rules.specs.Settling.{Token, Event, startInferred, State, takePlace, enter, note, requiredPlace, inferable, inferStarts}
+use Rattle.rules.specs.Settling as rules
+use Rattle.document_laws.specs.Decide.{decided}
+use Rattle.document_laws.specs.Chain.{Leads}
+use Rattle.last_places.specs.Last.{InRange, lastOnly, allLast, short}
+use Rattle.last_places.specs.Short.{state, last-placed, withLast, lastOnly-took}
+use Rattle.last_places.specs.Short as shorts
+use Rattle.type_tables.specs.Means.{standing, Rows, Tables, Ready}
+use Rattle.type_tables.specs.Ranges.{place-range, width-most, required-most}
+use Rattle.open_elements.specs.declared.Entry.{Entry}
+use Rattle.open_elements.specs.declared.Open.{Open}
+use Rattle.open_elements.specs.Means.{none, current, aroundOf, around, stateOf, took, opening, bringing, eventsIn, Stands}
+use Rattle.open_elements.specs.Laws.{around-opening, stands-range, stands-took, stands-opening, stands-bringing, events-more}
+use Rattle.settling.specs.Means.{inferOne, inferMany, Infers, InfersOn, AnyInfers}
+use Rattle.settling.specs.Chains.{inferable-most}
+
+-- The state of the code keeps the last places only
+
+standing-short : (e u : ℕ) → lastOnly (standing e u) ≡ standing e u
+standing-short e u = ap (withLast e) (last-placed u)
+
+aroundOf-short : (a : List Entry) (n : ℕ) → allLast (aroundOf a n) ≡ aroundOf a n
+aroundOf-short a zero = refl
+aroundOf-short a (suc n) = ap₂ (λ u us. u ∷ us) (standing-short (getD a n none .element) (getD a n none .place)) (aroundOf-short a n)
+
+pub around-short : (o : Open) → allLast (around o) ≡ around o
+around-short o = aroundOf-short (o .around) (o .count)
+
+pub state-short : (o : Open) (ev : List Event) → short (stateOf o ev) ≡ stateOf o ev
+state-short o ev = ap₂ (λ u us. state u us ev) (standing-short (o .element) (o .place)) (around-short o)
+
+module _ (s : List ℕ) (es : List Element) where
+  -- The start of k is inferred at the required place.
+  abbrev starting : (at k : ℕ) → State → State
+  starting at k z = note (startInferred k at) (enter k (takePlace (requiredPlace s es (decided s es) (z .current)) z))
+
+  -- The starts of a chain are those that are inferred one in the other.
+  pub chain-infers : (t : Token) (ks : List ℕ) (o : rules.Open) → Leads s es (decided s es) t o ks → Infers s es (length ks) o
+  chain-infers t [] o h = tt
+  chain-infers t (k ∷ ks) o (e, i, h) = rw e (leb-true 1 k i, chain-infers t ks (standing k 0) h)
+
+  pub chain-starts : (t : Token) (at : ℕ) (ks : List ℕ) (z : State) → Leads s es (decided s es) t (z .current) ks → inferStarts s es (decided s es) at ks z ≡ inferMany s es at (length ks) z
+  unfolding inferStarts
+  chain-starts t at [] z h = refl
+  chain-starts t at (k ∷ ks) z (e, i, h) = chain-starts t at ks (starting at k z) h ∙ ap (λ j. inferMany s es at (length ks) (starting at j z)) (sym e)
+
+  -- What lies around the current element matters by its last places only.
+  infer-around : (at n : ℕ) (o : rules.Open) (a b : List rules.Open) (ev : List Event) → allLast a ≡ allLast b → short (inferMany s es at n (state o a ev)) ≡ short (inferMany s es at n (state o b ev))
+  infer-around at zero o a b ev e = ap (λ us. state (lastOnly o) us ev) e
+  infer-around at (suc n) o a b ev e =
+      let k = inferable s es (decided s es) o in
+      let u = shorts.took o (requiredPlace s es (decided s es) o) in
+      infer-around at n (standing k 0) (u ∷ a) (u ∷ b) (ev ++ startInferred k at ∷ []) (ap (λ us. lastOnly u ∷ us) e)
+
+  pub infer-deeper : (at n : ℕ) (z : State) → length (inferMany s es at n z .around) ≡ length (z .around) + n
+  infer-deeper at zero z = omega arith
+  infer-deeper at (suc n) z = infer-deeper at n (inferOne s es at z) ∙ omega arith
+
+-- What is asked of the tables is in range.
+pub infers-ready : {rows places facts : List ℕ} {o : Open} {starts x : ℕ} → AnyInfers rows places facts o starts x → Ready rows places facts (o .element) (o .place)
+infers-ready a = (a .s, a .es, a .tables, stands-range (a .stands))
+
+pub required-few : {rows places facts : List ℕ} {o : Open} {starts x : ℕ} → AnyInfers rows places facts o starts x → (p : ℕ)
+    → ((s : List ℕ) (es : List Element) → Rows es rows → InRange es (current o) → p ≡ requiredPlace s es (decided s es) (current o)) → p ≤ 96
+required-few {o = o} a p says =
+    let range = stands-range (a .stands) in
+    let accepted = a .tables .accepted in
+    omega (arith, says (a .s) (a .es) (a .tables .rows-say) range, required-most (a .s) (a .es) accepted (o .element) (o .place) (place-range (a .es) (o .element) (o .place) range), width-most (a .s) (a .es) accepted (o .element))
+
+-- One start is inferred, the first of those to be inferred.
+module _ (s : List ℕ) (es : List Element) {rows places facts : List ℕ} (tables : Tables s es rows places facts) {o : Open} (stands : Stands es o) (less : o .count < 24) (k p n : ℕ)
+    (chosen : k ≡ inferable s es (decided s es) (current o)) (there : p ≡ requiredPlace s es (decided s es) (current o)) where
+  infer-stands : 1 ≤ inferable s es (decided s es) (current o) → Stands es (bringing n (opening k (took p o)))
+  infer-stands some =
+      stands-bringing n
+      (stands-opening k
+      (stands-took p stands (rw there (required-most s es (tables .accepted) (o .element) (o .place) (place-range es (o .element) (o .place) (stands-range stands)))))
+      less (rw chosen some) (rw chosen (inferable-most s es (current o))))
+
+  module _ (at left : ℕ) (events events' : List ℕ) (counted : n ≡ o .events + 1) (noted : eventsIn events' (o .events + 1) ≡ eventsIn events (o .events) ++ startInferred k at ∷ []) where
+    infer-same : (before : List Event)
+        → short (inferMany s es at left (stateOf (bringing n (opening k (took p o))) (before ++ eventsIn events' n))) ≡ short (inferMany s es at (suc left) (stateOf o (before ++ eventsIn events (o .events))))
+    infer-same before =
+        let ev = (before ++ eventsIn events (o .events)) ++ startInferred k at ∷ [] in
+        let opened : stateOf (bringing n (opening k (took p o))) (before ++ eventsIn events' n) ≡ state (standing k 0) (standing (o .element) p ∷ around o) ev =
+        ap₂ (λ us v. state (standing k 0) us v) (around-opening k (took p o) (stands .whole) less) (rw counted (events-more before (eventsIn events (o .events)) (startInferred k at) noted)) in
+        ap (λ z. short (inferMany s es at left z)) opened
+        ∙ infer-around s es at left (standing k 0) _ _ ev (ap (λ u. u ∷ allLast (around o)) (standing-short (o .element) p ∙ sym (lastOnly-took (current o) p)))
+        ∙ ap₂ (λ j q. short (inferMany s es at left (state (standing j 0) (shorts.took (current o) q ∷ around o) ((before ++ eventsIn events (o .events)) ++ startInferred j at ∷ [])))) chosen there
+
+    pub infers-one : Infers s es (suc left) (current o) → {r : Open} → r ≡ bringing n (opening k (took p o)) → InfersOn s es at left r events' (suc left) o events
+    infers-one (some, infers) e =
+        subst (λ (x : Open). InfersOn s es at left x events' (suc left) o events) (sym e)
+        record { stands = infer-stands some; infers = rw chosen infers; same = infer-same }
+
+-- Many starts
+
+-- k of the starts are inferred, and what is left to infer from o comes to the same as all of them from o₀.
+pub record InfersAlong (rows places facts : List ℕ) (at starts k : ℕ) (o : Open) (events : List ℕ) (o₀ : Open) (events₀ : List ℕ) : Type 0 where
+  pub most : k ≤ starts
+  pub deep : o .count ≡ o₀ .count + k
+  pub brought : o .events ≡ o₀ .events + k
+  pub number : o .number ≡ o₀ .number
+  pub along : (s : List ℕ) (es : List Element) → Tables s es rows places facts → Stands es o₀ → Infers s es starts (current o₀) → InfersOn s es at (starts - k) o events starts o₀ events₀
+
+infers-then : {s : List ℕ} {es : List Element} {at left m starts : ℕ} {o p q : Open} {events events' events₀ : List ℕ} → InfersOn s es at left p events' m o events → InfersOn s es at m o events starts q events₀ → InfersOn s es at left p events' starts q events₀
+infers-then a b = record { stands = a .stands; infers = a .infers; same = λ before. a .same before ∙ b .same before }
+
+infers-first : (s : List ℕ) (es : List Element) (n : ℕ) (o : rules.Open) → 1 ≤ n → Infers s es n o → Infers s es 1 o
+infers-first s es zero o l h = absurd (omega arith)
+infers-first s es (suc n) o l h = (h .0, tt)
+
+module _ (rows places facts : List ℕ) (at starts : ℕ) where
+  pub along-start : (o : Open) (events : List ℕ) → InfersAlong rows places facts at starts 0 o events o events
+  along-start o events =
+      let z : starts - 0 ≡ starts = omega arith in
+      record {
+        most = omega arith;
+        deep = omega arith;
+        brought = omega arith;
+        number = refl;
+        along = λ s es tables stands infers. rw z record { stands = stands; infers = infers; same = λ before. refl };
+      }
+
+  module _ {k : ℕ} {o o₀ : Open} {events events₀ : List ℕ} (h : InfersAlong rows places facts at starts k o events o₀ events₀) where
+    pub along-any : {x : ℕ} → AnyInfers rows places facts o₀ starts x → k < starts → AnyInfers rows places facts o 1 0
+    along-any a l =
+        let b = h .along (a .s) (a .es) (a .tables) (a .stands) (a .infers) in
+        record {
+          s = a .s;
+          es = a .es;
+          tables = a .tables;
+          stands = b .stands;
+          infers = infers-first (a .s) (a .es) (starts - k) (current o) (omega arith) (b .infers);
+          most = omega arith;
+        }
+
+    pub along-next : k < starts → {r : Open} {events' : List ℕ}
+        → ((s : List ℕ) (es : List Element) → Tables s es rows places facts → Stands es o → (left : ℕ) → Infers s es (suc left) (current o) → InfersOn s es at left r events' (suc left) o events)
+        → (r .count ≡ o .count + 1) × (r .events ≡ o .events + 1) × (r .number ≡ o .number) → InfersAlong rows places facts at starts (k + 1) r events' o₀ events₀
+    along-next l next (deeper, more, same) =
+        let z : starts - k ≡ suc (starts - (k + 1)) = omega arith in
+        record {
+          most = omega arith;
+          deep = omega (arith, h .deep);
+          brought = omega (arith, h .brought);
+          number = same ∙ h .number;
+          along = λ s es tables stands infers.
+              let b = rw z at (h .along s es tables stands infers) in
+              infers-then (next s es tables (b .stands) (starts - (k + 1)) (b .infers)) b;
+        }
+
+    pub along-all : starts ≤ k → (s : List ℕ) (es : List Element) → Tables s es rows places facts → Stands es o₀ → Infers s es starts (current o₀) → InfersOn s es at 0 o events starts o₀ events₀
+    along-all l s es tables stands infers = let z : starts - k ≡ 0 = omega arith in rw z at (h .along s es tables stands infers)
