@@ -120,7 +120,7 @@ module _ (s : List ℕ) (es : List Element) (d : List ℕ) (at : ℕ) (o : Open)
         refuses = λ k. refused-run reach h (runs .run) (runs .fits) (outcome-refused at r l before e k);
       })
 
--- Nothing is settled of what is ignored.
+-- What is ignored leaves the open elements as they were.
 module _ (s : List ℕ) (es : List Element) (d : List ℕ) (at : ℕ) (o : Open) (fresh : Fresh o) (stands : Stands es o) (before : List Event) (h : at < length d) (reach : Reaches s es d at (stateOf o before)) (l : List ℕ) (p : Piece) where
   same : before ++ eventsIn l (o .events) ≡ before
   same = events-none before l (o .events) (fresh .0)
@@ -172,7 +172,7 @@ going-start s elements index rows places facts d numbers bytes q =
           };
     })
 
--- What piece_at says of what stands at `at`, and settled of the turn.
+-- What piece_at ensures of what stands at `at`, settled of the turn, and closing's finish of the end.
 abbrev pub PieceSaid : (s elements index rows places facts d : List ℕ) (at : ℕ) → Open → Piece → Type 0
 PieceSaid s elements index rows places facts d at o p =
     (es : List Element) → Indexed s es elements index → Tables s es rows places facts → InRange es (standing (o .element) (o .place)) → Finds s es d (o .element) (o .place) at p
