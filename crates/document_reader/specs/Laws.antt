@@ -245,8 +245,8 @@ count-unless : (b : Bool) (n : ℕ) → n < 4294967296 → CountFits (unlessFull
 count-unless true n h = tt
 count-unless false n h = h
 
-pub count-fits : {s d numbers numbersAfter bytes bytesAfter : List ℕ} (room : ℕ) (v : Answer) {r : Answer} → Answers s d numbers numbersAfter bytes bytesAfter v → r ≡ fittedTo room v → CountFits r
-count-fits room (answer.Accepted n) a e = rw e (count-unless (ltb room n) n (a .few))
-count-fits room (answer.InType f) a e = rw e tt
-count-fits room (answer.Ambiguous c) a e = rw e tt
-count-fits room (answer.InDocument f) a e = rw e tt
+pub count-fits : (s d numbers numbersAfter bytes bytesAfter : List ℕ) (room : ℕ) (v : Answer) {r : Answer} → Answers s d numbers numbersAfter bytes bytesAfter v → r ≡ fittedTo room v → CountFits r
+count-fits s d numbers numbersAfter bytes bytesAfter room (answer.Accepted n) a e = rw e (count-unless (ltb room n) n (a .few))
+count-fits s d numbers numbersAfter bytes bytesAfter room (answer.InType f) a e = rw e tt
+count-fits s d numbers numbersAfter bytes bytesAfter room (answer.Ambiguous c) a e = rw e tt
+count-fits s d numbers numbersAfter bytes bytesAfter room (answer.InDocument f) a e = rw e tt

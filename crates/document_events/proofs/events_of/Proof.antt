@@ -175,8 +175,7 @@ returns-4 c =
     let over = end .before .before in
     let going = over .before .loop .inv in
     let short = over .before .before .before .before .before .before .before .pre .1 in
-    let fits = omega (arith, going .few, going .inside, short, end .finish .ensures .1 .0) in
-    end-counts going (omega (arith, over .loop-test .left)) (end .finish .last .1 .1 .1 .1 .0) (end .finish .result) (end .finish .ensures .0) (went .if2 .left) fits (put .put2 .ensures .0) (put .put2 .ensures .1)
+    end-counts going (omega (arith, over .loop-test .left)) (end .finish .last .1 .1 .1 .1 .0) (end .finish .result) (end .finish .ensures .0) (went .if2 .left) (omega (arith, going .few, going .inside, short, end .finish .ensures .1 .0)) (put .put2 .ensures .0) (put .put2 .ensures .1)
 
 pub events-of-spec : {M : Type 1} → statement M
 events-of-spec =
