@@ -14,7 +14,8 @@ use Rattle.rules_laws.specs.Within.{typeFile-count}
 use Rattle.element_reader.specs.Means.{Recorded}
 use Rattle.element_index.specs.Laws.{recorded-offset, recorded-size}
 use Rattle.type_laws.specs.Again.{typeFile-sizes}
-use Rattle.demands.specs.Demands.{numbers, judged-one}
+use Rattle.demands.specs.Demands.{judged-one}
+use Rattle.demands.specs.Words.{numbers}
 use Rattle.sgml_events.specs.Printed.{decimal, word, nameText, line, eventLines, eventsWord, eventsText}
 use Rattle.sgml_events.specs.Means.{Adds, Fits, nameIn, lineAt, linesFrom}
 use Rattle.sgml_events.specs.Laws.{puts-both}

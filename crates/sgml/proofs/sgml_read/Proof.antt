@@ -10,15 +10,17 @@ read-to-bytes-requires c κs = search needs
 
 numbers-read-requires : tie.Need-numbers-read-requires
 numbers-read-requires c κs =
-    let a = c .before .args in
-    let r = c .read-to-bytes in
+    let a = c .before .before .before .before .before .before .before .args in
+    let r = c .before .before .read-to-bytes in
     answer-fits (a .type-file .now) (a .document .now) (a .buffer .now) (r .last .1 .1 .0) (r .result) (r .ensures .0) (r .ensures .1)
 
 same-length : tie.Need-same-length
-same-length c = c .before .read-to-bytes .kept .1 .1 .0
+same-length c = c .before .before .before .read-to-bytes .kept .1 .1 .0
 
 returns : tie.Need-returns
-returns c = (answerOf (c .before .read-to-bytes .result), c .numbers-read .ensures, c .before .read-to-bytes .ensures .0)
+returns c =
+    let r = c .before .before .before .read-to-bytes in
+    (answerOf (r .result), c .numbers-read .ensures, r .ensures .0)
 
 pub sgml-read-spec : {M : Type 1} → statement M
 sgml-read-spec = tie.close (tie.spec read-to-bytes-requires numbers-read-requires same-length returns)

@@ -19,7 +19,7 @@ enum-known-a c = search needs
 
 put-events-requires : tie.Need-put-events-requires
 put-events-requires c κs =
-    let read = accepted-read _ _ _ _ _ refl (c .before .before .before .before .before .before .read .ensures) _ (ap answerOf (c .before .before .before .a .given .1)) in
+    let read = accepted-read _ _ _ _ _ refl (c .before .before .before .before .before .before .read .ensures .0) _ (ap answerOf (c .before .before .before .a .given .1)) in
     (omega arith, (read .elements, read .reads .accepted), omega (arith, read .count, read .fits))
 
 enum-known-a-2 : tie.Need-enum-known-a-2
@@ -57,7 +57,7 @@ same-length c = search needs
 
 returns : tie.Need-returns
 returns c =
-    let read = accepted-read _ _ _ _ _ refl (c .before .before .before .before .before .before .before .before .before .read .ensures) _ (ap answerOf (c .before .before .before .before .before .before .a .given .1)) in
+    let read = accepted-read _ _ _ _ _ refl (c .before .before .before .before .before .before .before .before .before .read .ensures .0) _ (ap answerOf (c .before .before .before .before .before .before .a .given .1)) in
     let said = c .before .before .put-events .ensures in
     (counts-of _ _ (said .0), events (read .elements) (read .evs) (read .reads) (read .fits) (said .1 (read .elements) (read .evs) (read .rest) (read .reads .accepted) (read .written) (read .count)))
 
@@ -67,7 +67,7 @@ same-length-2 c = search needs
 returns-2 : tie.Need-returns-2
 returns-2 c =
     let said = c .before .before .put-refusal .ensures in
-    (counts-of _ _ (said .0), prints-refusal _ _ _ _ _ refl (c .before .before .before .before .before .before .before .before .before .read .ensures) (ap answerOf (c .before .before .before .before .before .before .a2 .given .1)) (omega arith) (said .1))
+    (counts-of _ _ (said .0), prints-refusal _ _ _ _ _ refl (c .before .before .before .before .before .before .before .before .before .read .ensures .0) (ap answerOf (c .before .before .before .before .before .before .a2 .given .1)) (omega arith) (said .1))
 
 same-length-3 : tie.Need-same-length-3
 same-length-3 c = search needs
@@ -75,7 +75,7 @@ same-length-3 c = search needs
 returns-3 : tie.Need-returns-3
 returns-3 c =
     let said = c .before .before .put-refusal2 .ensures in
-    (counts-of _ _ (said .0), prints-refusal _ _ _ _ _ refl (c .before .before .before .before .before .before .before .before .before .before .read .ensures) (ap answerOf (c .before .before .before .before .before .before .before .a3 .given .1)) (omega arith) (said .1))
+    (counts-of _ _ (said .0), prints-refusal _ _ _ _ _ refl (c .before .before .before .before .before .before .before .before .before .before .read .ensures .0) (ap answerOf (c .before .before .before .before .before .before .before .a3 .given .1)) (omega arith) (said .1))
 
 same-length-4 : tie.Need-same-length-4
 same-length-4 c = search needs
@@ -83,7 +83,7 @@ same-length-4 c = search needs
 returns-4 : tie.Need-returns-4
 returns-4 c =
     let said = c .before .before .put-refusal3 .ensures in
-    (counts-of _ _ (said .0), prints-refusal _ _ _ _ _ refl (c .before .before .before .before .before .before .before .before .before .read .ensures) (ap answerOf (c .before .before .before .before .before .before .a4 .given .1)) (omega arith) (said .1))
+    (counts-of _ _ (said .0), prints-refusal _ _ _ _ _ refl (c .before .before .before .before .before .before .before .before .before .read .ensures .0) (ap answerOf (c .before .before .before .before .before .before .a4 .given .1)) (omega arith) (said .1))
 
 pub printed-spec : {M : Type 1} → statement M
 printed-spec =
