@@ -62,26 +62,28 @@ pub record Runs (s : List ℕ) (es : List Element) (d : List ℕ) (e u at after 
   pub fits : piece d at ≡ got blank → 1 ≤ decided s es .fits e (placed u) pcdata
   pub ends : after ≡ runEnd d (at + 1)
 
+-- What is to be settled at `at`, up to `after`: the start tag of the element x, or a run of data for 0.
+pub data ToSettle (s : List ℕ) (es : List Element) (d : List ℕ) (e u at x after : ℕ) : Type 0 where
+  runs : x ≡ 0 → Runs s es d e u at after → ToSettle s es d e u at x after
+  starts : 1 ≤ x → Names s es d startTag at x after → ToSettle s es d e u at x after
+
 -- What the code finds at `at` of d, where the current element is e after the place u.
 abbrev pub Finds : (s : List ℕ) (es : List Element) (d : List ℕ) (e u at : ℕ) → Piece → Type 0
-Finds s es d e u at (found.Start x after) = Names s es d startTag at x after × (1 ≤ x)
+Finds s es d e u at (found.Token x after) = ToSettle s es d e u at x after
 Finds s es d e u at (found.End x after) = Names s es d endTag at x after × (1 ≤ x)
-Finds s es d e u at (found.Data after) = Runs s es d e u at after
 Finds s es d e u at (found.Passed after) = Ignored s es d e u at after
 Finds s es d e u at (found.Refused f) = Unread s es d at (f .number) (f .at)
 
 -- Where reading goes on after what stands at `at`.
 abbrev pub endOf : Piece → (at : ℕ) → ℕ
-endOf (found.Start x after) at = after
+endOf (found.Token x after) at = after
 endOf (found.End x after) at = after
-endOf (found.Data after) at = after
 endOf (found.Passed after) at = after
 endOf (found.Refused f) at = at
 
 abbrev pub isRead : Piece → Bool
-isRead (found.Start x after) = true
+isRead (found.Token x after) = true
 isRead (found.End x after) = true
-isRead (found.Data after) = true
 isRead (found.Passed after) = true
 isRead (found.Refused f) = false
 

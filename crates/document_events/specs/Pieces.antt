@@ -9,7 +9,7 @@ use Rattle.rules.specs.Reading.{got}
 use Rattle.rules.specs.TypeFile.{Element}
 use Rattle.rules.specs.Document.{Tag, startTag, endTag, blank, dataByte, piece}
 use Rattle.rules.specs.Document as rules
-use Rattle.rules.specs.Settling.{numberOf, pcdata, start}
+use Rattle.rules.specs.Settling.{numberOf, pcdata}
 use Rattle.document_laws.specs.Decide.{decided}
 use Rattle.text.specs.declared.Fault.{Fault}
 use Rattle.document_text.specs.Means.{tagIn, isRun, runEnd}
@@ -17,12 +17,11 @@ use Rattle.document_text.specs.Laws.{start-tag-in, end-tag-in, start-tag-range,
 use Rattle.document_text.specs.declared.Tag as text
 use Rattle.last_places.specs.Last.{placed}
 use Rattle.type_laws.specs.Names.{numberOf-range}
-use Rattle.type_tables.specs.Means.{Declares}
 use Rattle.open_elements.specs.declared.Open.{Open}
 use Rattle.open_elements.specs.Means.{AnyStands, AnyClosing, Fresh}
 use Rattle.document_events.specs.declared.Piece.{Piece}
 use Rattle.document_events.specs.declared.Piece.the-variants as found
-use Rattle.document_events.specs.Means.{Names, Ignored, skips, separates, undeclaredStart, undeclaredEnd, Runs, Finds, endOf, isRead, AnyTurn}
+use Rattle.document_events.specs.Means.{Names, Ignored, skips, separates, undeclaredStart, undeclaredEnd, Runs, ToSettle, runs, starts, Finds, endOf, isRead, AnyTurn}
 use Rattle.document_events.specs.Named.{start-tag-named, end-tag-named}
 
 -- From the token
@@ -46,8 +45,8 @@ module _ (s : List ℕ) (es : List Element) (d : List ℕ) (at : ℕ) {t : text.
   named : (kind : Tag → rules.Piece) → piece d at ≡ got (kind (tagIn t)) → Names s es d kind at x (t .after)
   named kind p = record { name = t .name; size = t .size; there = p; number = sym q }
 
-  pub finds-start : piece d at ≡ got (startTag (tagIn t)) → (x ≡ 0 → ⊥) → Names s es d startTag at x (t .after) × (1 ≤ x)
-  finds-start p l = (named startTag p, omega arith)
+  pub finds-start : (e u : ℕ) → piece d at ≡ got (startTag (tagIn t)) → (x ≡ 0 → ⊥) → ToSettle s es d e u at x (t .after)
+  finds-start e u p l = starts (omega arith) (named startTag p)
 
   pub finds-end : piece d at ≡ got (endTag (tagIn t)) → (x ≡ 0 → ⊥) → Names s es d endTag at x (t .after) × (1 ≤ x)
   finds-end p l = (named endTag p, omega arith)
@@ -74,37 +73,40 @@ finds-data-run b a = record { run = ap isRun b; fits = λ w. let no : _≡_ {A =
 
 module _ (s : List ℕ) (es : List Element) (d : List ℕ) (e u at : ℕ) (h : at < length d) where
   pub finds-range : (p : Piece) → isRead p ≡ true → Finds s es d e u at p → (at < endOf p at) × (endOf p at ≤ length d)
-  finds-range (found.Start x after) r (n, l) = start-tag-range d at h _ (n .there)
+  finds-range (found.Token x after) r (starts l n) = start-tag-range d at h _ (n .there)
   finds-range (found.End x after) r (n, l) = end-tag-range d at h _ (n .there)
-  finds-range (found.Data after) r f = let (i, j) = runEnd-in d (at + 1) (omega arith) in (omega (arith, f .ends), omega (arith, f .ends))
+  finds-range (found.Token x after) r (runs z f) = let (i, j) = runEnd-in d (at + 1) (omega arith) in (omega (arith, f .ends), omega (arith, f .ends))
   finds-range (found.Passed after) r (skips q) = skipped-range d at h after q
   finds-range (found.Passed after) r (separates q z a) = (omega arith, omega arith)
   finds-range (found.Refused f) r q = absurd (true≢false (sym r))
 
 pub read-unless : (p : Piece) → ((f : Fault) → p ≡ found.Refused f → ⊥) → isRead p ≡ true
-read-unless (found.Start x after) other = refl
+read-unless (found.Token x after) other = refl
 read-unless (found.End x after) other = refl
-read-unless (found.Data after) other = refl
 read-unless (found.Passed after) other = refl
 read-unless (found.Refused f) other = absurd (other f refl)
 
 -- What settling asks
 
+-- The element of a start tag is declared.
+settles-declared : (s : List ℕ) (es : List Element) (d : List ℕ) (e u at x after : ℕ) → ToSettle s es d e u at x after → x ≤ length es
+settles-declared s es d e u at x after (runs z f) = omega arith
+settles-declared s es d e u at x after (starts l n) = omega (arith, n .number, numberOf-range s es d (n .name) (n .size))
+
 module _ (s : List ℕ) (es : List Element) (d : List ℕ) (e u at : ℕ) (p : Piece) (f : Finds s es d e u at p) {x y after : ℕ} (w : y ≡ x) where
-  pub start-declared : p ≡ found.Start x after → Declares es (start y)
-  start-declared q =
-      let (n, l) = rw q at f in
-      (omega arith, omega (arith, n .number, numberOf-range s es d (n .name) (n .size)))
+  pub token-declared : p ≡ found.Token x after → y ≤ length es
+  token-declared q = omega (arith, settles-declared s es d e u at x after (rw q at f))
 
 module _ {rows places facts : List ℕ} {o : Open} {at : ℕ} {p : Piece} (fresh : Fresh o) (a : AnyTurn rows places facts o at p) where
   module _ {x y after : ℕ} (w : y ≡ x) where
-    pub start-asked : p ≡ found.Start x after → AnyStands rows places facts o y × (Fresh o × (at ≤ after) × (after < 4294967296) × (1 ≤ y))
-    start-asked q =
+    pub token-asked : p ≡ found.Token x after → AnyStands rows places facts o y × (Fresh o × (at ≤ after) × (after < 4294967296))
+    token-asked q =
         let (s, es, d, tables, stands, h, few, f) = a in
-        let (i, j) = start-declared s es d (o .element) (o .place) at p f w q in
-        let (n, l) = rw q at f in
-        let (k, m) = start-tag-range d at h _ (n .there) in
-        ((s, es, tables, stands, j), (fresh, omega arith, omega arith, i))
+        let j = token-declared s es d (o .element) (o .place) at p f w q in
+        let (k, m) = finds-range s es d (o .element) (o .place) at h p (ap isRead q) f in
+        let range : (at < endOf p at) × (endOf p at ≤ 65535) = (k, omega arith) in
+        let (i, l) : (at < after) × (after ≤ 65535) = rw q at range in
+        ((s, es, tables, stands, j), (fresh, omega arith, omega arith))
 
     pub end-asked : p ≡ found.End x after → AnyClosing rows facts o × (Fresh o × (at ≤ after) × (after < 4294967296) × (1 ≤ y) × (y ≤ 64))
     end-asked q =
@@ -114,16 +116,3 @@ module _ {rows places facts : List ℕ} {o : Open} {at : ℕ} {p : Piece} (fresh
           (s, es, tables .accepted, tables .few, tables .rows-say, tables .facts-say, stands),
           (fresh, omega arith, omega arith, omega arith, omega (arith, n .number, numberOf-range s es d (n .name) (n .size), tables .few)),
         )
-
-  module _ {after : ℕ} (q : p ≡ found.Data after) where
-    pub run-in : (at ≤ after) × (after ≤ 65535)
-    run-in =
-        let (s, es, d, tables, stands, h, few, f) = a in
-        let (k, m) = finds-range s es d (o .element) (o .place) at h p (ap isRead q) f in
-        let range : (at ≤ endOf p at) × (endOf p at ≤ 65535) = (omega arith, omega arith) in
-        rw q at range
-
-    pub run-asked : AnyStands rows places facts o 0
-    run-asked =
-        let (s, es, d, tables, stands, h, few, f) = a in
-        (s, es, tables, stands, omega arith)

@@ -9,11 +9,11 @@ use lib.Seq.{take-suc}
 use Rattle.rules.specs.Reading.{Reading, refused, got}
 use Rattle.rules.specs.TypeFile.{Element}
 use Rattle.rules.specs.Judge.{Accepts, bytesOf}
-use Rattle.rules.specs.Settling.{Event, State, startElement, endElement, endDocument}
+use Rattle.rules.specs.Settling.{Event, State, endElement, endDocument}
 use Rattle.rules.specs.Reader.{document, eventNumbers}
 use Rattle.document_laws.specs.Decide.{decided}
 use Rattle.text.specs.declared.Fault.{Fault}
-use Rattle.last_places.specs.Last.{shortly, takeRun, InRange}
+use Rattle.last_places.specs.Last.{shortly, InRange}
 use Rattle.last_places.specs.Turns.{Reaches, reaches-start, reaches-end, refused-piece, refused-undeclared-start, refused-undeclared-end, reaches-start-tag, refused-start-tag, reaches-end-tag, refused-end-tag, reaches-skipped, reaches-blank, reaches-run, refused-run}
 use Rattle.type_laws.specs.Pcdata.{pcdata-stays}
 use Rattle.element_index.specs.Means.{Indexed, AnyIndexed}
@@ -21,13 +21,15 @@ use Rattle.type_tables.specs.Means.{standing, Rows, Facts, Tables, ReadyFor}
 use Rattle.open_elements.specs.declared.Open.{Open}
 use Rattle.open_elements.specs.Means.{stateOf, eventAt, eventsIn, outcomeOf, outcome, closedOf, closed, fresh, bringing, Stands, AnyClosing, Fresh}
 use Rattle.open_elements.specs.Laws.{stands-range, stands-fresh, stands-bringing, events-none}
+use Rattle.settling.specs.Means.{takes}
+use Rattle.settling.specs.Tokens.{takes-start, takes-run}
 use Rattle.event_buffer.specs.Means.{written}
 use Rattle.event_buffer.specs.Laws.{eventNumbers-append, written-none, written-length, events-more, event-bytes-more}
 use Rattle.document_events.specs.declared.Counted.{Counted}
 use Rattle.document_events.specs.declared.Counted.the-variants as counted
 use Rattle.document_events.specs.declared.Piece.{Piece}
 use Rattle.document_events.specs.declared.Piece.the-variants as found
-use Rattle.document_events.specs.Means.{AnyType, EventsOf, skips, separates, malformed, undeclaredStart, undeclaredEnd, Finds, endOf, isRead, AnyTurn, Turned, Going}
+use Rattle.document_events.specs.Means.{AnyType, EventsOf, skips, separates, malformed, undeclaredStart, undeclaredEnd, ToSettle, runs, starts, Finds, endOf, isRead, AnyTurn, Turned, Going}
 use Rattle.document_events.specs.Pieces.{finds-range}
 
 -- The scratch of events
@@ -90,16 +92,6 @@ module _ (at : ℕ) (r : Open) (l : List ℕ) (before : List Event) where
 module _ (s : List ℕ) (es : List Element) (d : List ℕ) (at : ℕ) (o : Open) (before : List Event) (h : at < length d) (reach : Reaches s es d at (stateOf o before)) (l : List ℕ) (r : Open) where
   -- What stands at `at` is a token that was settled.
   module _ (stands : r .number ≡ 0 → Stands es r) {x y after : ℕ} (w : y ≡ x) where
-    pub turned-start : (p : Piece) → p ≡ found.Start x after → Finds s es d (o .element) (o .place) at p → outcome at r l before ≡ shortly (startElement s es (decided s es) y at after (stateOf o before)) → Turned s es d at p l before r
-    turned-start p q f v =
-        let (n, i) = rw q at f in
-        let e = rw w at v in
-        rw q (record {
-          reaches = λ z _. reaches-start-tag reach h (n .there) x (n .number) i (outcome-got at r l before e z);
-          stands = stands;
-          refuses = λ k. refused-start-tag reach h (n .there) x (n .number) i (outcome-refused at r l before e k);
-        })
-
     pub turned-end : (p : Piece) → p ≡ found.End x after → Finds s es d (o .element) (o .place) at p → outcome at r l before ≡ shortly (endElement s es (decided s es) y at after (stateOf o before)) → Turned s es d at p l before r
     turned-end p q f v =
         let (n, i) = rw q at f in
@@ -110,15 +102,27 @@ module _ (s : List ℕ) (es : List Element) (d : List ℕ) (at : ℕ) (o : Open)
           refuses = λ k. refused-end-tag reach h (n .there) x (n .number) i (outcome-refused at r l before e k);
         })
 
-  pub turned-run : (r .number ≡ 0 → Stands es r) → Accepts s es → (p : Piece) {after : ℕ} → p ≡ found.Data after → Finds s es d (o .element) (o .place) at p → outcome at r l before ≡ shortly (takeRun s es (decided s es) at (after - at) (stateOf o before)) → Turned s es d at p l before r
-  turned-run stands accepted p {after} q f v =
-      let runs = rw q at f in
-      let e = rw (runs .ends) at v in
-      rw (q, runs .ends) (record {
-        reaches = λ z _. reaches-run reach h (runs .run) (runs .fits) (pcdata-stays s es accepted) (outcome-got at r l before e z);
-        stands = stands;
-        refuses = λ k. refused-run reach h (runs .run) (runs .fits) (outcome-refused at r l before e k);
-      })
+  -- A start tag or a run of data, for 0, up to `after`.
+  module _ (stands : r .number ≡ 0 → Stands es r) (accepted : Accepts s es) (x after : ℕ) where
+    turned-settled : ToSettle s es d (o .element) (o .place) at x after → outcome at r l before ≡ shortly (takes s es x at after (stateOf o before)) → Turned s es d at (found.Token x after) l before r
+    turned-settled (starts i n) v =
+        let e = v ∙ ap shortly (takes-start s es x at after (stateOf o before) (λ z. omega arith)) in
+        record {
+          reaches = λ z _. reaches-start-tag reach h (n .there) x (n .number) i (outcome-got at r l before e z);
+          stands = stands;
+          refuses = λ k. refused-start-tag reach h (n .there) x (n .number) i (outcome-refused at r l before e k);
+        }
+    turned-settled (runs z f) v =
+        let w = v ∙ ap shortly (takes-run s es x at after (stateOf o before) z) in
+        let e = rw (f .ends) at w in
+        rw (f .ends) (record {
+          reaches = λ z _. reaches-run reach h (f .run) (f .fits) (pcdata-stays s es accepted) (outcome-got at r l before e z);
+          stands = stands;
+          refuses = λ k. refused-run reach h (f .run) (f .fits) (outcome-refused at r l before e k);
+        })
+
+  pub turned-token : (r .number ≡ 0 → Stands es r) → Accepts s es → {x y after : ℕ} → y ≡ x → (p : Piece) → p ≡ found.Token x after → Finds s es d (o .element) (o .place) at p → outcome at r l before ≡ shortly (takes s es y at after (stateOf o before)) → Turned s es d at p l before r
+  turned-token stands accepted {x} {y} {after} w p q f v = rw q (turned-settled stands accepted x after (rw q at f) (rw w at v))
 
 -- What is ignored leaves the open elements as they were.
 module _ (s : List ℕ) (es : List Element) (d : List ℕ) (at : ℕ) (o : Open) (fresh : Fresh o) (stands : Stands es o) (before : List Event) (h : at < length d) (reach : Reaches s es d at (stateOf o before)) (l : List ℕ) (p : Piece) where

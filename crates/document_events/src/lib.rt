@@ -29,12 +29,10 @@ pub enum Counted {
 
 // What stands at a position of the document, names looked up.
 pub enum Piece {
-    // the start tag of an element, up to here
-    Start(u32, usize),
+    // the start tag of an element, or a run of data for 0, up to here
+    Token(u32, usize),
     // the end tag of an element, up to here
     End(u32, usize),
-    // a run of data, up to here
-    Data(usize),
     // ignored, up to here
     Passed(usize),
     Refused(Fault),
@@ -97,7 +95,7 @@ fn piece_at(
             if x == 0 {
                 return undeclared(at);
             }
-            Piece::Start(x, g.after)
+            Piece::Token(x, g.after)
         }
         Token::EndTag(g) => {
             let x = tagged(s, elements, index, d, g);
@@ -111,9 +109,9 @@ fn piece_at(
             if type_tables::fitting(rows, places, facts, e, u, 0) == 0 {
                 return Piece::Passed(at + 1);
             }
-            Piece::Data(document_text::run_end(d, at + 1))
+            Piece::Token(0, document_text::run_end(d, at + 1))
         }
-        Token::Data => Piece::Data(document_text::run_end(d, at + 1)),
+        Token::Data => Piece::Token(0, document_text::run_end(d, at + 1)),
         Token::Refused(f) => Piece::Refused(f),
     }
 }
@@ -135,11 +133,10 @@ fn settled(
     ensures { λ r. ⌜ (r .events ≤ 50) × (r .number < 20) ⌝ }
 {
     match p {
-        Piece::Start(x, e) => {
-            settling::start_tag(rows, places, facts, state, widened(x), at, e, events)
+        Piece::Token(x, e) => {
+            settling::token(rows, places, facts, state, widened(x), at, e, events)
         }
         Piece::End(x, e) => closing::end_tag(rows, facts, state, widened(x), at, e, events),
-        Piece::Data(e) => settling::data_run(rows, places, facts, state, at, e - at, events),
         Piece::Passed(_) => state,
         Piece::Refused(_) => state,
     }
@@ -150,9 +147,8 @@ fn end_of(p: Piece, at: usize) -> usize
     ensures { λ r. ⌜ r ≡ endOf p at ⌝ }
 {
     match p {
-        Piece::Start(_, e) => e,
+        Piece::Token(_, e) => e,
         Piece::End(_, e) => e,
-        Piece::Data(e) => e,
         Piece::Passed(e) => e,
         Piece::Refused(_) => at,
     }

@@ -1,5 +1,5 @@
 -- What settling asks and does at one open element, by counts and by the last places: what its contracts cite.
-use Prim.Native.Nat.{ℕ, zero, suc, _≤_}
+use Prim.Native.Nat.{ℕ, zero, suc, _-_, _≤_}
 use mathlib.Core.Path.{_≡_, refl}
 use mathlib.Core.Bool.{Bool, false, _&&_}
 use mathlib.Core.List.{List, [], _∷_, _++_}
@@ -8,10 +8,10 @@ use lib.ListN.{length}
 use lib.Dec.{leb}
 use Rattle.rules.specs.Reading.{Reading, andThen}
 use Rattle.rules.specs.TypeFile.{Element}
-use Rattle.rules.specs.Settling.{Token, start, pcdata, endO, startInferred, Event, State, takePlace, enter, note, limited, requiredPlace, isComplete, inferable, settleFrom}
+use Rattle.rules.specs.Settling.{Token, start, pcdata, endO, startInferred, Event, State, takePlace, enter, note, limited, requiredPlace, isComplete, inferable, settleFrom, startElement}
 use Rattle.rules.specs.Settling as rules
 use Rattle.document_laws.specs.Decide.{decided}
-use Rattle.last_places.specs.Last.{short, shortly}
+use Rattle.last_places.specs.Last.{short, shortly, takeRun}
 use Rattle.type_tables.specs.Means.{nameNumber, Declares, Tables}
 use Rattle.open_elements.specs.declared.Open.{Open}
 use Rattle.open_elements.specs.Means.{stateOf, current, around, eventsIn, outcome, Stands}
@@ -30,6 +30,11 @@ tokenOf-number (suc k) = refl
 pub tokenOf-declared : (es : List Element) (x : ℕ) → x ≤ length es → Declares es (tokenOf x)
 tokenOf-declared es zero l = tt
 tokenOf-declared es (suc k) l = (omega arith, l)
+
+-- What the rules make of a start tag of the element x, or of a run of data for 0, from `at` to `after`.
+abbrev pub takes : List ℕ → List Element → (x at after : ℕ) → State → Reading State
+takes s es zero at after z = takeRun s es (decided s es) at (after - at) z
+takes s es (suc k) at after z = startElement s es (decided s es) (suc k) at after z
 
 -- Steps 1 and 2: the token fits as the place f, or else so many starts are inferred, or neither.
 abbrev pub wayOf : (f starts : ℕ) → Way

@@ -1,5 +1,5 @@
 -- A start tag and a run of data, once they are settled: what is noted, opened and refused.
-use Prim.Native.Nat.{ℕ, zero, suc, _+_, _≤_, _<_}
+use Prim.Native.Nat.{ℕ, zero, suc, _+_, _-_, _≤_, _<_}
 use mathlib.Core.Path.{_≡_, refl, sym, _∙_, ap, ap₂}
 use mathlib.Core.Bool.{true, false}
 use mathlib.Core.List.{List, [], _∷_, _++_}
@@ -16,7 +16,7 @@ use Rattle.type_tables.specs.Means.{standing}
 use Rattle.open_elements.specs.declared.Open.{Open}
 use Rattle.open_elements.specs.Means.{current, around, stateOf, opening, bringing, refusing, eventsIn, outcomeOf, outcome}
 use Rattle.open_elements.specs.Laws.{around-opening, events-more}
-use Rattle.settling.specs.Means.{reads, Settled}
+use Rattle.settling.specs.Means.{tokenOf, takes, reads, Settled}
 use Rattle.settling.specs.Inward.{limited-few, limited-many, same-deep}
 
 -- Readings
@@ -180,3 +180,22 @@ module _ (s : List ℕ) (es : List Element) (at size : ℕ) (o₀ : Open) (befor
         rw i
         (outcome-got at (o .number) _ _ clear (ap (state (current o) (around o)) with-run)
         ∙ sym (ap shortly run-on ∙ ap (λ q. shortly (andThen q noting)) e ∙ ap (λ (w : State). got (state (w .current) (w .around) (w .events ++ dataRun at size ∷ []))) same))
+
+-- Either of them
+
+module _ (s : List ℕ) (es : List Element) where
+  pub takes-start : (x at after : ℕ) (z : State) → (x ≡ 0 → ⊥) → takes s es x at after z ≡ startElement s es (decided s es) x at after z
+  takes-start zero at after z h = absurd (h refl)
+  takes-start (suc k) at after z h = refl
+
+  pub takes-run : (x at after : ℕ) (z : State) → x ≡ 0 → takes s es x at after z ≡ takeRun s es (decided s es) at (after - at) z
+  takes-run zero at after z h = refl
+  takes-run (suc k) at after z h = absurd (omega arith)
+
+  pub takes-over : (x at after : ℕ) (o₀ : Open) (before : List Event) → isOver s es (decided s es) (stateOf o₀ before) ≡ true → {r : Open} (events : List ℕ) → r ≡ refusing 16 o₀ → outcome at r events before ≡ shortly (takes s es x at after (stateOf o₀ before))
+  takes-over zero at after o₀ before = run-over s es at (after - at) o₀ before
+  takes-over (suc k) at after o₀ before = tag-over s es (suc k) at after o₀ before
+
+  pub takes-stops : (x at after : ℕ) (o₀ : Open) (before : List Event) → isOver s es (decided s es) (stateOf o₀ before) ≡ false → {o : Open} {events : List ℕ} → Settled es at o events (reads s es (tokenOf x) at o₀) → (o .number ≡ 0 → ⊥) → outcome at o events before ≡ shortly (takes s es x at after (stateOf o₀ before))
+  takes-stops zero at after o₀ before goes h n = run-stops s es at (after - at) o₀ before goes h n
+  takes-stops (suc k) at after o₀ before goes h n = tag-stops s es (suc k) at after o₀ before goes h n

@@ -5,14 +5,15 @@ use open_elements::Open;
 ghost use mathlib.Core.Path.{_≡_};
 ghost use mathlib.Core.List.{List, _++_};
 ghost use Prim.Native.Nat.{ℕ, suc, _+_, _≤_, _<_};
+ghost use lib.ListN.{length};
 ghost use Rattle.rules.specs.TypeFile.{Element};
-ghost use Rattle.rules.specs.Settling.{Token, Event, limited, takeToken, isOver, startElement};
+ghost use Rattle.rules.specs.Settling.{Token, Event, limited, takeToken, isOver};
 ghost use Rattle.rules.specs.Settling as rules;
 ghost use Rattle.document_laws.specs.Decide.{decided};
-ghost use Rattle.last_places.specs.Last.{placed, InRange, shortly, takeRun};
+ghost use Rattle.last_places.specs.Last.{placed, InRange, shortly};
 ghost use Rattle.type_tables.specs.Means.{standing, nameNumber, Declares, Rows, Facts, Tables, ReadyFor};
 ghost use Rattle.open_elements.specs.Means.{current, around, stateOf, eventsIn, outcome, Stands, AnyStands, Fresh};
-ghost use Rattle.settling.specs.Means.{wayOf, chained, mayEnd, inferMany, Infers, InfersOn, reads, Settled, AnyInfers};
+ghost use Rattle.settling.specs.Means.{takes, wayOf, chained, mayEnd, inferMany, Infers, InfersOn, reads, Settled, AnyInfers};
 
 // What the current element has to say to a start tag or a data byte.
 pub enum Way {
@@ -214,8 +215,8 @@ fn is_over(rows: &[u8; 88270], state: Open) -> bool
     type_tables::complete(rows, 0, state.place)
 }
 
-// The start tag of the element x, from `at` to `after`.
-pub fn start_tag(
+// The start tag of the element x, or a run of data for 0, from `at` to `after`.
+pub fn token(
     rows: &[u8; 88270],
     places: &[u8; 12610],
     facts: &[u8; 4420],
@@ -226,10 +227,10 @@ pub fn start_tag(
     events: &mut [u32; 200],
 ) -> Open
     requires { ⌜ AnyStands (now rows) (now places) (now facts) state x ⌝ }
-    requires { ⌜ Fresh state × (at ≤ after) × (after < 4294967296) × (1 ≤ x) ⌝ }
-    ensures { λ r. ⌜ ((s : List ℕ) (es : List Element) → Tables s es (now (rows .entry)) (now (places .entry)) (now (facts .entry)) → Stands es state → Declares es (rules.start x) → (before : List Event) →
-        outcome at r (now (events .exit)) before ≡ shortly (startElement s es (decided s es) x at after (stateOf state before))) ⌝ }
-    ensures { λ r. ⌜ ((s : List ℕ) (es : List Element) → Tables s es (now (rows .entry)) (now (places .entry)) (now (facts .entry)) → Stands es state → Declares es (rules.start x) → r .number ≡ 0 → Stands es r) ⌝ }
+    requires { ⌜ Fresh state × (at ≤ after) × (after < 4294967296) ⌝ }
+    ensures { λ r. ⌜ ((s : List ℕ) (es : List Element) → Tables s es (now (rows .entry)) (now (places .entry)) (now (facts .entry)) → Stands es state → x ≤ length es → (before : List Event) →
+        outcome at r (now (events .exit)) before ≡ shortly (takes s es x at after (stateOf state before))) ⌝ }
+    ensures { λ r. ⌜ ((s : List ℕ) (es : List Element) → Tables s es (now (rows .entry)) (now (places .entry)) (now (facts .entry)) → Stands es state → x ≤ length es → r .number ≡ 0 → Stands es r) ⌝ }
     ensures { λ r. ⌜ (r .events ≤ 50) × (r .number < 20) ⌝ }
 {
     if is_over(rows, state) {
@@ -238,6 +239,10 @@ pub fn start_tag(
     let settled = settle(rows, places, facts, state, x, at, events);
     if settled.number != 0 {
         return settled;
+    }
+    if x == 0 {
+        let k = open_elements::put_event(events, settled.events, 5, 0, at, after - at);
+        return settled.brought(k);
     }
     if 24 <= settled.count {
         return settled.refused(15);
@@ -248,32 +253,4 @@ pub fn start_tag(
     }
     let m = open_elements::put_event(events, n, 6, x, after, 0);
     settled.brought(m)
-}
-
-// The run of data at `at`, of this size.
-pub fn data_run(
-    rows: &[u8; 88270],
-    places: &[u8; 12610],
-    facts: &[u8; 4420],
-    state: Open,
-    at: usize,
-    size: usize,
-    events: &mut [u32; 200],
-) -> Open
-    requires { ⌜ AnyStands (now rows) (now places) (now facts) state 0 ⌝ }
-    requires { ⌜ Fresh state × (at < 4294967296) × (size < 4294967296) ⌝ }
-    ensures { λ r. ⌜ ((s : List ℕ) (es : List Element) → Tables s es (now (rows .entry)) (now (places .entry)) (now (facts .entry)) → Stands es state → (before : List Event) →
-        outcome at r (now (events .exit)) before ≡ shortly (takeRun s es (decided s es) at size (stateOf state before))) ⌝ }
-    ensures { λ r. ⌜ ((s : List ℕ) (es : List Element) → Tables s es (now (rows .entry)) (now (places .entry)) (now (facts .entry)) → Stands es state → r .number ≡ 0 → Stands es r) ⌝ }
-    ensures { λ r. ⌜ (r .events ≤ 50) × (r .number < 20) ⌝ }
-{
-    if is_over(rows, state) {
-        return state.refused(16);
-    }
-    let o = settle(rows, places, facts, state, 0, at, events);
-    if o.number != 0 {
-        return o;
-    }
-    let n = open_elements::put_event(events, o.events, 5, 0, at, size);
-    o.brought(n)
 }

@@ -48,11 +48,10 @@ returns c =
     piece-refuses (read .before .before .loop .inv) (omega (arith, read .before .loop-test .taken, read .before .before .loop .inv .inside)) (read .piece-at .result) (read .piece-at .ensures) (found .p .given .1)
 
 -- What was found is not refused.
-no-key : (_≡_ {A = ℕ} 4 0) ⊎ ((_≡_ {A = ℕ} 4 1) ⊎ ((_≡_ {A = ℕ} 4 2) ⊎ (_≡_ {A = ℕ} 4 3))) → ⊥
+no-key : (_≡_ {A = ℕ} 3 0) ⊎ ((_≡_ {A = ℕ} 3 1) ⊎ (_≡_ {A = ℕ} 3 2)) → ⊥
 no-key (inl z) = omega arith
 no-key (inr (inl z)) = omega arith
-no-key (inr (inr (inl z))) = omega arith
-no-key (inr (inr (inr z))) = omega arith
+no-key (inr (inr z)) = omega arith
 
 read : (c : tie.At-match-keys2 Inv-loop μ-loop) → isRead (c .before .piece-at .result) ≡ true
 read c = read-unless (c .before .piece-at .result) (λ f e. no-key (rw e at (c .match .keys2)))

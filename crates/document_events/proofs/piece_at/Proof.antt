@@ -7,7 +7,7 @@ use Rattle.rules.specs.Document.{startTag, endTag, blank, piece}
 use Rattle.rules.specs.Settling.{pcdata}
 use Rattle.document_text.specs.Means.{tagIn}
 use Rattle.document_text.specs.Laws.{token-start, token-end, token-skipped, token-blank, token-data, token-refused}
-use Rattle.document_events.specs.Means.{skips, malformed}
+use Rattle.document_events.specs.Means.{skips, runs, malformed}
 use Rattle.document_events.specs.Pieces.{start-tag-asked, end-tag-asked, finds-start, finds-end, finds-undeclared-start, finds-undeclared-end, finds-separator, finds-blank-run, finds-data-run}
 use Rattle.document_events.proofs.piece_at.Statement.{statement}
 use Rattle.document_events.proofs.piece_at.Tie as tie
@@ -103,7 +103,7 @@ returns-4 : tie.Need-returns-4
 returns-4 c es i t range =
     let named = c .before in
     let a = named .before .before .before .before .before .before .before .args in
-    finds-start (a .s .now) es (a .d .now) (a .at) (named .tagged .ensures es i) (start-stands (named .before)) (c .if1 .left)
+    finds-start (a .s .now) es (a .d .now) (a .at) (named .tagged .ensures es i) (a .e) (a .u) (start-stands (named .before)) (c .if1 .left)
 
 returns-5 : tie.Need-returns-5
 returns-5 c es i t range =
@@ -117,10 +117,10 @@ returns-6 c es i t range = skips (token-skipped (c .before .before .before .toke
 returns-7 : tie.Need-returns-7
 returns-7 c es i t range =
     let fits = c .before .before in
-    finds-blank-run (fits .fitting .ensures .0 _ es t range pcdata refl tt) (blank-stands (fits .before)) (λ z. omega (arith, c .before .if3 .left)) (c .run-end .ensures)
+    runs refl (finds-blank-run (fits .fitting .ensures .0 _ es t range pcdata refl tt) (blank-stands (fits .before)) (λ z. omega (arith, c .before .if3 .left)) (c .run-end .ensures))
 
 returns-8 : tie.Need-returns-8
-returns-8 c es i t range = finds-data-run (token-data (c .before .before .before .token-at .ensures) (c .before .enum-told2 .given .1)) (c .run-end2 .ensures)
+returns-8 c es i t range = runs refl (finds-data-run (token-data (c .before .before .before .token-at .ensures) (c .before .enum-told2 .given .1)) (c .run-end2 .ensures))
 
 returns-9 : tie.Need-returns-9
 returns-9 c es i t range = malformed (token-refused (c .before .before .before .token-at .ensures) (c .before .t4 .given .1))
