@@ -5,7 +5,7 @@ use mathlib.Core.Bool.{Bool, true, false}
 use mathlib.Core.List.{List, [], _∷_, _++_, append-assoc}
 use native.Mathlib.Omega.{arith}
 use native.Mathlib.Numerals.{add-one}
-use lib.ListN.{length, take, drop, set, getD, length-append, length-drop, take-append-drop}
+use lib.ListN.{length, take, drop, set, getD, length-append, length-drop, length-set, take-append-drop}
 use lib.Seq.{length-take-le, take-suc, take-at, drop-append-add, drop-drop, sets-eq}
 use lib.Dec.{leb}
 use borrow.Author.Tests.{le-leb, lt-leb, leb-true, leb-false}
@@ -153,3 +153,39 @@ module _ (from l now : List ℕ) (b k at : ℕ) (is : k < length from) where
       let size = bytes-size from k (omega arith) in
       four-stored now at _ _ _ _ (omega arith) ∙ splice-turn l now (bytesOf xs) (bytesOf (x ∷ [])) b at e (omega arith) (omega arith)
       ∙ rw (add-one k, take-suc from k 0 is, bytesOf-append xs (x ∷ []))
+
+-- A number as four bytes from `at` on.
+abbrev pub four : List ℕ → (at x : ℕ) → List ℕ
+four now at x = set (set (set (set now at (x % 256)) (at + 1) (x / 256 % 256)) (at + 2) (x / 65536 % 256)) (at + 3) (x / 16777216 % 256)
+
+four-length : (now : List ℕ) (at x : ℕ) → length (four now at x) ≡ length now
+four-length now at x = simp length-set
+
+-- A whole event, four numbers.
+module _ (from l now : List ℕ) (b k at : ℕ) (e : now ≡ spliced l b (bytesOf (take k from))) (same : length now ≡ length l) (a : at ≡ b + 4 * k) (is : k + 3 < length from) (h : at + 16 ≤ length l) where
+  abbrev one : List ℕ
+  one = four now at (getD from k 0)
+
+  abbrev two : List ℕ
+  two = four one (at + 4) (getD from (k + 1) 0)
+
+  abbrev three : List ℕ
+  three = four two (at + 8) (getD from (k + 2) 0)
+
+  after-one : one ≡ spliced l b (bytesOf (take (k + 1) from))
+  after-one = bytes-turn from l now b k at (omega arith) e same a (omega arith)
+
+  after-two : two ≡ spliced l b (bytesOf (take (k + 1 + 1) from))
+  after-two = bytes-turn from l one b (k + 1) (at + 4) (omega arith) after-one (four-length now at (getD from k 0) ∙ same) (omega arith) (omega arith)
+
+  after-three : three ≡ spliced l b (bytesOf (take (k + 2 + 1) from))
+  after-three =
+      bytes-turn from l two b (k + 2) (at + 8) (omega arith) (rw (let q : k + 1 + 1 ≡ k + 2 = omega arith in q) at after-two)
+      (four-length one (at + 4) (getD from (k + 1) 0) ∙ four-length now at (getD from k 0) ∙ same) (omega arith) (omega arith)
+
+  pub event-turn : four three (at + 12) (getD from (k + 3) 0) ≡ spliced l b (bytesOf (take (k + 4) from))
+  event-turn =
+      let q : k + 2 + 1 ≡ k + 3 = omega arith in
+      let r : k + 3 + 1 ≡ k + 4 = omega arith in
+      rw r at (bytes-turn from l three b (k + 3) (at + 12) (omega arith) (rw q at after-three)
+      (four-length two (at + 8) (getD from (k + 2) 0) ∙ four-length one (at + 4) (getD from (k + 1) 0) ∙ four-length now at (getD from k 0) ∙ same) (omega arith) (omega arith))

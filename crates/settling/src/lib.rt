@@ -90,7 +90,8 @@ fn may_end(rows: &[u8; 88270], facts: &[u8; 4420], state: Open) -> bool
     if !type_tables::end_omitted(facts, state.element) {
         return false;
     }
-    let parent = state.around[n - 1];
+    let around = state.around;
+    let parent = around[n - 1];
     parent.element != 0
 }
 

@@ -10,7 +10,7 @@ use Rattle.settling.proofs.may_end.Statement.{statement}
 use Rattle.settling.proofs.may_end.Tie as tie
 
 -- something is open
-some : (c : tie.Else1) → 1 ≤ c .before .args .t3 .count
+some : (c : tie.Else1) → 1 ≤ c .before .args .state .count
 some c = omega arith
 
 returns : tie.Need-returns
@@ -42,12 +42,12 @@ sub-parent c = search needs
 mul-parent : tie.Need-mul-parent
 mul-parent c = search needs
 
-element-copy-out-parent : tie.Need-element-copy-out-parent
-element-copy-out-parent c = search needs
+array-copy-out-parent : tie.Need-array-copy-out-parent
+array-copy-out-parent c = search needs
 
 returns-4 : tie.Need-returns-4
 returns-4 c =
-    let last = c .before .before in
+    let last = c .before .before .before in
     let ends = last .before in
     let asked = ends .before .before in
     let there = some (asked .before) in
@@ -66,5 +66,5 @@ may-end-spec =
     returns-3
     sub-parent
     mul-parent
-    element-copy-out-parent
+    array-copy-out-parent
     returns-4)
