@@ -1,4 +1,5 @@
-# The library beside onsgmls, the program of OpenSP, on generated documents and type files; skipped where that is not installed.
+# The library beside onsgmls, the program of OpenSP, on generated documents and type files; skipped where that is not
+# installed and cannot be.
 # LIBRARY names another build of the library; DOCUMENTS, TYPES and SEED another set of cases.
 set -eu
 cd "$(dirname "$0")/.."
@@ -6,6 +7,7 @@ out=target/tests
 mkdir -p "$out"
 
 echo "the library beside onsgmls"
+command -v onsgmls >/dev/null || { apt-get update -qq && apt-get install -y -qq opensp; } >/dev/null 2>&1 || true
 if ! command -v onsgmls >/dev/null; then
     echo "skipped: onsgmls is not installed (Debian package opensp)"
     echo "1 passed, 0 failed"
