@@ -82,10 +82,10 @@ returns-3 c =
     let e = c .brought .ensures in (
       λ s es tables stands most before.
           run-noted s es _ _ (goes .before .before .args .state) before (goes-on goes s es (tables .rows-say) stands before)
-          (settled .settle .ensures .0 s es tables stands pcdata (sym (run .if3 .taken)) tt) (clear kept) _ _ (noted .put-event .ensures .0) (noted .put-event .ensures .1) e
-          ∙ ap shortly (sym (takes-run s es _ _ _ (stateOf (goes .before .before .args .state) before) (run .if3 .taken))),
+          (settled .settle .ensures .0 s es tables stands pcdata (omega (arith, run .if3 .taken)) tt) (clear kept) _ _ (noted .put-event .ensures .0) (noted .put-event .ensures .1) e
+          ∙ ap shortly (sym (takes-run s es (goes .before .before .args .x) _ _ (stateOf (goes .before .before .args .state) before) (omega (arith, run .if3 .taken)))),
       (
-        λ s es tables stands most z. rw e (stands-bringing _ (settled .settle .ensures .0 s es tables stands pcdata (sym (run .if3 .taken)) tt .stands (clear kept))),
+        λ s es tables stands most z. rw e (stands-bringing _ (settled .settle .ensures .0 s es tables stands pcdata (omega (arith, run .if3 .taken)) tt .stands (clear kept))),
         (omega (arith, ap (λ (o : Open). o .events) e, noted .put-event .ensures .0, settled .settle .ensures .1), omega (arith, ap (λ (o : Open). o .number) e, clear kept)),
       ),
     )
