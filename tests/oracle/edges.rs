@@ -3,12 +3,14 @@
 //!
 //! rustc -O --edition 2021 edges.rs -L FOLDER -l static=NAME && ./edges VECTORS
 
+mod folders;
 mod held;
 mod library;
 mod oracle;
 
-use held::{differs, show, Inputs, Lent};
-use std::path::{Path, PathBuf};
+use folders::cases_in;
+use held::{differs, show, show_smaller, Inputs, Lent};
+use std::path::Path;
 use std::{env, fs, io, process};
 
 /// Of longer inputs only so many cuts at either end are tried.
@@ -37,6 +39,7 @@ fn main() -> io::Result<()> {
             failed += 1;
             if failed <= SHOWN_DIFFERENCES {
                 show(failed as u64, &inputs, lent);
+                show_smaller(&inputs, lent);
             }
         } else {
             passed += 1;
@@ -76,21 +79,4 @@ fn every_byte(input: &[u8]) -> impl Iterator<Item = Vec<u8>> + '_ {
             changed
         })
     })
-}
-
-/// The folders of a folder's folders, in the order of their names.
-fn cases_in(folder: &Path) -> io::Result<Vec<PathBuf>> {
-    let mut cases = Vec::new();
-    for group in folders_in(folder)? {
-        cases.extend(folders_in(&group)?);
-    }
-    Ok(cases)
-}
-
-fn folders_in(folder: &Path) -> io::Result<Vec<PathBuf>> {
-    let entries = fs::read_dir(folder)?.collect::<io::Result<Vec<_>>>()?;
-    let mut folders: Vec<PathBuf> = entries.into_iter().map(|entry| entry.path()).collect();
-    folders.retain(|path| path.is_dir());
-    folders.sort();
-    Ok(folders)
 }

@@ -3,10 +3,12 @@
 //!
 //! rustc -O --edition 2021 vectors.rs && ./vectors FOLDER
 
+mod folders;
 mod oracle;
 
+use folders::cases_in;
 use std::fmt::Write;
-use std::path::{Path, PathBuf};
+use std::path::Path;
 use std::{env, fs, io, process};
 
 /// What the small program lends.
@@ -18,36 +20,25 @@ fn main() -> io::Result<()> {
         process::exit(2);
     };
     let (mut passed, mut failed) = (0, 0);
-    for group in folders_in(Path::new(&folder))? {
-        for case in folders_in(&group)? {
-            let printed = small_program(
-                &fs::read(case.join("type.sgm"))?,
-                &fs::read(case.join("doc.sgm"))?,
+    for case in cases_in(Path::new(&folder))? {
+        let printed = small_program(
+            &fs::read(case.join("type.sgm"))?,
+            &fs::read(case.join("doc.sgm"))?,
+        );
+        let expected = fs::read_to_string(case.join("expected"))?;
+        if printed == expected {
+            passed += 1;
+        } else {
+            failed += 1;
+            println!(
+                "{}:\n  expected {expected:?}\n  printed  {printed:?}",
+                case.display()
             );
-            let expected = fs::read_to_string(case.join("expected"))?;
-            if printed == expected {
-                passed += 1;
-            } else {
-                failed += 1;
-                println!(
-                    "{}:\n  expected {expected:?}\n  printed  {printed:?}",
-                    case.display()
-                );
-            }
         }
     }
     println!("{passed} passed, {failed} failed");
     // A folder without vectors proves nothing.
     process::exit((failed > 0 || passed == 0) as i32);
-}
-
-/// The folders in a folder, in the order of their names.
-fn folders_in(folder: &Path) -> io::Result<Vec<PathBuf>> {
-    let entries = fs::read_dir(folder)?.collect::<io::Result<Vec<_>>>()?;
-    let mut folders: Vec<PathBuf> = entries.into_iter().map(|entry| entry.path()).collect();
-    folders.retain(|path| path.is_dir());
-    folders.sort();
-    Ok(folders)
 }
 
 fn small_program(type_file: &[u8], document: &[u8]) -> String {
