@@ -12,8 +12,9 @@ VERSION := $(shell sed -n 's/^.define VERSION "\(.*\)"/\1/p' command/version.h)
 
 all: $(PROGRAMS)
 
-# rt proves again what has changed, and only that.
+# rt proves again what has changed, and only that; check takes several crates at a time, staticlib would take one by one.
 $(LIBRARY): crates.txt $(shell find crates -type f)
+	rt check sgml
 	rt staticlib sgml
 
 target/sgml: command/sgml.c command/version.h examples/position.h include/sgml.h $(LIBRARY)

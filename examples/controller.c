@@ -125,7 +125,16 @@ static int show_table(void)
         all.pieces += d->pieces;
     }
     printf("   all %10" PRIu32 " %10" PRIu32 " %12" PRIu64 "\n", all.items, all.counted, all.pieces);
-    return fflush(stdout) ? 2 : 0;
+    return 0;
+}
+
+/* What was shown counts only if it could be written. */
+static int shown(int status)
+{
+    if (!fflush(stdout) && !ferror(stdout))
+        return status;
+    fprintf(stderr, "controller: standard output cannot be written\n");
+    return 2;
 }
 
 int main(int argc, char **argv)
@@ -142,8 +151,8 @@ int main(int argc, char **argv)
         return 2;
     sgml_read(type.bytes, type.length, catalogue.bytes, catalogue.length, events, sizeof events, answer);
     if (answer[SGML_NUMBER])
-        return refuse(answer[SGML_INPUT] == SGML_IN_TYPE ? &type : &catalogue, answer[SGML_POSITION],
-                      sgml_refusal_text(answer[SGML_NUMBER]));
+        return shown(refuse(answer[SGML_INPUT] == SGML_IN_TYPE ? &type : &catalogue, answer[SGML_POSITION],
+                            sgml_refusal_text(answer[SGML_NUMBER])));
     find_roles(&type);
-    return count(&catalogue, events, answer[SGML_COUNT]) ? 1 : show_table();
+    return shown(count(&catalogue, events, answer[SGML_COUNT]) ? 1 : show_table());
 }

@@ -75,7 +75,7 @@ static inline const char *sgml_refusal_text(uint32_t number)
 {
     switch (number) {
     case SGML_ACCEPTED: return "accepted";
-    case SGML_TOO_LONG: return "the input is too long";
+    case SGML_TOO_LONG: return "too long: a type file has at most 32768 bytes, a document 65535";
     case SGML_BYTE: return "a byte that is not allowed";
     case SGML_NAME_TOO_LONG: return "a name of more than 8 bytes";
     case SGML_MALFORMED: return "malformed, or ends too early";

@@ -82,6 +82,11 @@ for c in examples/catalogues/*.cat; do
     echo "status $status"
 done >"$out/controller.txt"
 check "the controller prints what is expected" diff "$out/controller.txt" examples/controller.expected
+controller="target/controller examples/cabinet.type examples/catalogues"
+ends 2 "usage: controller TYPE CATALOGUE" target/controller
+ends 2 "controller: examples/catalogues cannot be read" $controller
+ends 2 "controller: standard output cannot be written" bash -c "$controller/few-tags.cat >&-"
+ends 2 "controller: standard output cannot be written" bash -c "$controller/end-tag-too-many.cat >/dev/full"
 told
 
 # The line that tells of a refusal: the paper's number and position, as file, line, column and the header's text.
@@ -153,9 +158,9 @@ ends 0 "" bash -c "cd $out && ../../sgml --check -- --check ../../../$few"
 ends 1 "<stdin>:1:7: this start tag or data is not allowed here" bash -c "printf '<LIST><QTY>' | $sgml examples/stock.type -"
 ends 1 "<stdin>:1:7: this start tag or data is not allowed here" bash -c "printf '<LIST><QTY>' | $sgml --esis examples/stock.type -"
 ends 1 "examples/two-drawers.type:2:27: an ambiguous content model, places 1 and 2" $sgml --check examples/two-drawers.type $few
-ends 1 "$out/long:1:1: the input is too long" $sgml $type "$out/long"
-ends 1 "$out/long:1:1: the input is too long" $sgml "$out/long" $few
-ends 1 "<stdin>:1:1: the input is too long" bash -c "$sgml $type - <$out/long"
+ends 1 "$out/long:1:1: too long: a type file has at most 32768 bytes, a document 65535" $sgml $type "$out/long"
+ends 1 "$out/long:1:1: too long: a type file has at most 32768 bytes, a document 65535" $sgml "$out/long" $few
+ends 1 "<stdin>:1:1: too long: a type file has at most 32768 bytes, a document 65535" bash -c "$sgml $type - <$out/long"
 ends 2 "sgml: a type file and a document are due" $sgml
 ends 2 "sgml: a type file and a document are due" $sgml $type
 ends 2 "sgml: one word too many: more" $sgml $type $few more
