@@ -98,6 +98,9 @@ written-length l k xs = by-room (leb (k + length xs) (length l)) refl
         rw (written-fits l k xs h) (splice-length l k xs h)
     by-room false e = rw (written-not l k xs (leb-false (k + length xs) (length l) e))
 
+pub written-keeps : (l : List ℕ) (k : ℕ) (xs : List ℕ) {after : List ℕ} → after ≡ written l k xs → length after ≡ length l
+written-keeps l k xs e = ap length e ∙ written-length l k xs
+
 -- Nothing is written yet.
 pub written-none : (before : List ℕ) → Written before before []
 written-none before h = refl
@@ -136,6 +139,11 @@ four-stored l i x y z w h =
     let three : i + 3 ≡ suc (suc (suc i)) = omega arith in
     rw (one, two, three) (sets-eq (x ∷ y ∷ z ∷ w ∷ []) l i h ∙ append-assoc (take i l) (x ∷ y ∷ z ∷ w ∷ []) (drop (i + 4) l))
 
+-- A number stored as four bytes, low byte first.
+pub number-stored : (l : List ℕ) (i x : ℕ) → i + 4 ≤ length l → set (set (set (set l i (x % 256)) (i + 1) (x / 256 % 256)) (i + 2) (x / 65536 % 256)) (i + 3) (x / 16777216 % 256) ≡ written l i (bytesOf (x ∷ []))
+unfolding bytesOf
+number-stored l i x h = four-stored l i _ _ _ _ h ∙ sym (written-fits l i (bytesOf (x ∷ [])) h)
+
 -- The k-th number of `from` is written behind those before it, at b and on; as a number, and as four bytes.
 module _ (from l now : List ℕ) (b k at : ℕ) (is : k < length from) where
   pub number-turn : now ≡ spliced l b (take k from) → length now ≡ length l → at ≡ b + k → at < length l → set now at (getD from k 0) ≡ spliced l b (take (k + 1) from)
@@ -145,47 +153,29 @@ module _ (from l now : List ℕ) (b k at : ℕ) (is : k < length from) where
       one-stored now at (getD from k 0) (omega arith) ∙ splice-turn l now xs (getD from k 0 ∷ []) b at e (omega arith) (omega arith)
       ∙ rw (add-one k, take-suc from k 0 is)
 
-  pub bytes-turn : now ≡ spliced l b (bytesOf (take k from)) → length now ≡ length l → at ≡ b + 4 * k → at + 4 ≤ length l → (let x = getD from k 0 in set (set (set (set now at (x % 256)) (at + 1) (x / 256 % 256)) (at + 2) (x / 65536 % 256)) (at + 3) (x / 16777216 % 256)) ≡ spliced l b (bytesOf (take (k + 1) from))
+  pub bytes-turn : now ≡ spliced l b (bytesOf (take k from)) → at ≡ b + 4 * k → at + 4 ≤ length l → {after : List ℕ} → after ≡ written now at (bytesOf (getD from k 0 ∷ [])) → after ≡ spliced l b (bytesOf (take (k + 1) from))
   unfolding bytesOf
-  bytes-turn e same a h =
+  bytes-turn e a h w =
       let x = getD from k 0 in
       let xs = take k from in
       let size = bytes-size from k (omega arith) in
-      four-stored now at _ _ _ _ (omega arith) ∙ splice-turn l now (bytesOf xs) (bytesOf (x ∷ [])) b at e (omega arith) (omega arith)
+      let same = ap length e ∙ splice-length l b (bytesOf xs) (omega arith) in
+      w ∙ written-fits now at (bytesOf (x ∷ [])) (omega arith) ∙ splice-turn l now (bytesOf xs) (bytesOf (x ∷ [])) b at e (omega arith) (omega arith)
       ∙ rw (add-one k, take-suc from k 0 is, bytesOf-append xs (x ∷ []))
 
--- A number as four bytes from `at` on.
-abbrev pub four : List ℕ → (at x : ℕ) → List ℕ
-four now at x = set (set (set (set now at (x % 256)) (at + 1) (x / 256 % 256)) (at + 2) (x / 65536 % 256)) (at + 3) (x / 16777216 % 256)
-
-four-length : (now : List ℕ) (at x : ℕ) → length (four now at x) ≡ length now
-four-length now at x = simp length-set
-
 -- A whole event, four numbers.
-module _ (from l now : List ℕ) (b k at : ℕ) (e : now ≡ spliced l b (bytesOf (take k from))) (same : length now ≡ length l) (a : at ≡ b + 4 * k) (is : k + 3 < length from) (h : at + 16 ≤ length l) where
-  abbrev one : List ℕ
-  one = four now at (getD from k 0)
-
-  abbrev two : List ℕ
-  two = four one (at + 4) (getD from (k + 1) 0)
-
-  abbrev three : List ℕ
-  three = four two (at + 8) (getD from (k + 2) 0)
-
-  after-one : one ≡ spliced l b (bytesOf (take (k + 1) from))
-  after-one = bytes-turn from l now b k at (omega arith) e same a (omega arith)
-
-  after-two : two ≡ spliced l b (bytesOf (take (k + 1 + 1) from))
-  after-two = bytes-turn from l one b (k + 1) (at + 4) (omega arith) after-one (four-length now at (getD from k 0) ∙ same) (omega arith) (omega arith)
-
-  after-three : three ≡ spliced l b (bytesOf (take (k + 2 + 1) from))
-  after-three =
-      bytes-turn from l two b (k + 2) (at + 8) (omega arith) (rw (let q : k + 1 + 1 ≡ k + 2 = omega arith in q) at after-two)
-      (four-length one (at + 4) (getD from (k + 1) 0) ∙ four-length now at (getD from k 0) ∙ same) (omega arith) (omega arith)
-
-  pub event-turn : four three (at + 12) (getD from (k + 3) 0) ≡ spliced l b (bytesOf (take (k + 4) from))
-  event-turn =
-      let q : k + 2 + 1 ≡ k + 3 = omega arith in
-      let r : k + 3 + 1 ≡ k + 4 = omega arith in
-      rw r at (bytes-turn from l three b (k + 3) (at + 12) (omega arith) (rw q at after-three)
-      (four-length two (at + 8) (getD from (k + 2) 0) ∙ four-length one (at + 4) (getD from (k + 1) 0) ∙ four-length now at (getD from k 0) ∙ same) (omega arith) (omega arith))
+module _ (from l : List ℕ) (b k : ℕ) (is : k + 3 < length from) (h : b + 4 * k + 16 ≤ length l) where
+  pub event-turn : {now one two three four : List ℕ} → now ≡ spliced l b (bytesOf (take k from)) → (at : ℕ) → at ≡ b + 4 * k
+      → one ≡ written now at (bytesOf (getD from k 0 ∷ []))
+      → two ≡ written one (at + 4) (bytesOf (getD from (k + 1) 0 ∷ []))
+      → three ≡ written two (at + 8) (bytesOf (getD from (k + 2) 0 ∷ []))
+      → four ≡ written three (at + 12) (bytesOf (getD from (k + 3) 0 ∷ []))
+      → four ≡ spliced l b (bytesOf (take (k + 4) from))
+  event-turn {now} {one} {two} {three} {four} e at a w x y z =
+      let two-is : k + 1 + 1 ≡ k + 2 = omega arith in
+      let three-is : k + 2 + 1 ≡ k + 3 = omega arith in
+      let four-is : k + 3 + 1 ≡ k + 4 = omega arith in
+      let after-one = bytes-turn from l now b k at (omega arith) e a (omega arith) w in
+      let after-two = rw two-is at (bytes-turn from l one b (k + 1) (at + 4) (omega arith) after-one (omega arith) (omega arith) x) in
+      let after-three = rw three-is at (bytes-turn from l two b (k + 2) (at + 8) (omega arith) after-two (omega arith) (omega arith) y) in
+      rw four-is at (bytes-turn from l three b (k + 3) (at + 12) (omega arith) after-three (omega arith) (omega arith) z)

@@ -1,5 +1,6 @@
 // The lent buffer: the events of a token are written behind those before, or all of it is zeroed.
 ghost use mathlib.Core.Path.{_≡_};
+ghost use mathlib.Core.List.{_∷_, []};
 ghost use Prim.Native.Nat.{_+_, _*_, _≤_, _<_};
 ghost use lib.ListN.{length, take, replicate};
 ghost use Rattle.rules.specs.Judge.{bytesOf};
@@ -28,6 +29,17 @@ pub fn put_numbers(buffer: &mut [u32], count: usize, events: &[u32; 200], n: usi
     }
 }
 
+// A number as four bytes, low byte first.
+fn put_number(buffer: &mut [u8], i: usize, x: u32)
+    requires { ⌜ i + 4 ≤ length (now buffer) ⌝ }
+    ensures { λ _. ⌜ now (buffer .exit) ≡ written (now (buffer .entry)) i (bytesOf (x ∷ [])) ⌝ }
+{
+    buffer[i] = (x % 256) as u8;
+    buffer[i + 1] = (x / 256 % 256) as u8;
+    buffer[i + 2] = (x / 65536 % 256) as u8;
+    buffer[i + 3] = (x / 16777216 % 256) as u8;
+}
+
 // The events of a token, written after `count` others if they fit, to a buffer of bytes: a number as four, low byte first.
 // A turn writes a whole event: for so few bytes that is faster than a copy of any length.
 pub fn put_bytes(buffer: &mut [u8], count: usize, events: &[u32; 200], n: usize)
@@ -39,29 +51,10 @@ pub fn put_bytes(buffer: &mut [u8], count: usize, events: &[u32; 200], n: usize)
         let mut k = 0;
         while k < WIDTH * n {
             let i = 4 * (WIDTH * count + k);
-            let x = events[k];
-            buffer[i] = (x % 256) as u8;
-            buffer[i + 1] = (x / 256 % 256) as u8;
-            buffer[i + 2] = (x / 65536 % 256) as u8;
-            buffer[i + 3] = (x / 16777216 % 256) as u8;
-            let j = i + 4;
-            let y = events[k + 1];
-            buffer[j] = (y % 256) as u8;
-            buffer[j + 1] = (y / 256 % 256) as u8;
-            buffer[j + 2] = (y / 65536 % 256) as u8;
-            buffer[j + 3] = (y / 16777216 % 256) as u8;
-            let l = i + 8;
-            let z = events[k + 2];
-            buffer[l] = (z % 256) as u8;
-            buffer[l + 1] = (z / 256 % 256) as u8;
-            buffer[l + 2] = (z / 65536 % 256) as u8;
-            buffer[l + 3] = (z / 16777216 % 256) as u8;
-            let m = i + 12;
-            let w = events[k + 3];
-            buffer[m] = (w % 256) as u8;
-            buffer[m + 1] = (w / 256 % 256) as u8;
-            buffer[m + 2] = (w / 65536 % 256) as u8;
-            buffer[m + 3] = (w / 16777216 % 256) as u8;
+            put_number(buffer, i, events[k]);
+            put_number(buffer, i + 4, events[k + 1]);
+            put_number(buffer, i + 8, events[k + 2]);
+            put_number(buffer, i + 12, events[k + 3]);
             k += WIDTH;
         }
     }

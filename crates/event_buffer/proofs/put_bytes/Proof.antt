@@ -2,10 +2,9 @@
 use Prim.Native.Nat.{_+_, _≤_, _*_, _-_, _%_}
 use mathlib.Core.Path.{_≡_, refl, sym, _∙_}
 use native.Mathlib.Omega.{arith}
-use lib.ListN.{length, take, length-set}
+use lib.ListN.{length, take}
 use Rattle.rules.specs.Judge.{bytesOf}
-use Rattle.event_buffer.specs.Laws.{spliced, splice-none, bytes-size, event-turn, written-fits, written-not}
-use borrow.Author.Needs.{needs}
+use Rattle.event_buffer.specs.Laws.{spliced, splice-none, bytes-size, event-turn, written-fits, written-not, written-keeps}
 use Rattle.event_buffer.proofs.put_bytes.Statement.{statement}
 use Rattle.event_buffer.proofs.put_bytes.Tie as tie
 
@@ -46,179 +45,68 @@ add-i c = omega arith
 mul-i-2 : tie.Need-mul-i-2 Inv-loop μ-loop
 mul-i-2 c = omega arith
 
-mul-x : tie.Need-mul-x Inv-loop μ-loop
-mul-x c = omega arith
+mul-put-number : tie.Need-mul-put-number Inv-loop μ-loop
+mul-put-number c = omega arith
 
-element-copy-out-x : tie.Need-element-copy-out-x Inv-loop μ-loop
-element-copy-out-x c = omega arith
+element-copy-out-put-number : tie.Need-element-copy-out-put-number Inv-loop μ-loop
+element-copy-out-put-number c = omega arith
 
-cast-buffer : tie.Need-cast-buffer Inv-loop μ-loop
-cast-buffer c = search needs
+put-number-requires : tie.Need-put-number-requires Inv-loop μ-loop
+put-number-requires c κs = omega arith
 
-slice-write-buffer : tie.Need-slice-write-buffer Inv-loop μ-loop
-slice-write-buffer c = omega arith
+add-put-number : tie.Need-add-put-number Inv-loop μ-loop
+add-put-number c = omega arith
 
-cast-buffer-2 : tie.Need-cast-buffer-2 Inv-loop μ-loop
-cast-buffer-2 c = search needs
+add-put-number-2 : tie.Need-add-put-number-2 Inv-loop μ-loop
+add-put-number-2 c = omega arith
 
-add-buffer : tie.Need-add-buffer Inv-loop μ-loop
-add-buffer c = omega arith
+mul-put-number-2 : tie.Need-mul-put-number-2 Inv-loop μ-loop
+mul-put-number-2 c = omega arith
 
-slice-write-buffer-2 : tie.Need-slice-write-buffer-2 Inv-loop μ-loop
-slice-write-buffer-2 c = simp length-set (omega arith)
+element-copy-out-put-number-2 : tie.Need-element-copy-out-put-number-2 Inv-loop μ-loop
+element-copy-out-put-number-2 c = omega arith
 
-cast-buffer-3 : tie.Need-cast-buffer-3 Inv-loop μ-loop
-cast-buffer-3 c = search needs
+put-number-requires-2 : tie.Need-put-number-requires-2 Inv-loop μ-loop
+put-number-requires-2 c κs =
+    let one = c .before .before .before .before .put-number in
+    omega (arith, written-keeps _ _ _ (one .ensures))
 
-add-buffer-2 : tie.Need-add-buffer-2 Inv-loop μ-loop
-add-buffer-2 c = omega arith
+add-put-number-3 : tie.Need-add-put-number-3 Inv-loop μ-loop
+add-put-number-3 c = omega arith
 
-slice-write-buffer-3 : tie.Need-slice-write-buffer-3 Inv-loop μ-loop
-slice-write-buffer-3 c = simp length-set (omega arith)
+add-put-number-4 : tie.Need-add-put-number-4 Inv-loop μ-loop
+add-put-number-4 c = omega arith
 
-cast-buffer-4 : tie.Need-cast-buffer-4 Inv-loop μ-loop
-cast-buffer-4 c = search needs
+mul-put-number-3 : tie.Need-mul-put-number-3 Inv-loop μ-loop
+mul-put-number-3 c = omega arith
 
-add-buffer-3 : tie.Need-add-buffer-3 Inv-loop μ-loop
-add-buffer-3 c = omega arith
+element-copy-out-put-number-3 : tie.Need-element-copy-out-put-number-3 Inv-loop μ-loop
+element-copy-out-put-number-3 c = omega arith
 
-slice-write-buffer-4 : tie.Need-slice-write-buffer-4 Inv-loop μ-loop
-slice-write-buffer-4 c = simp length-set (omega arith)
+put-number-requires-3 : tie.Need-put-number-requires-3 Inv-loop μ-loop
+put-number-requires-3 c κs =
+    let two = c .before .before .before .before .put-number2 in
+    let one = c .before .before .before .before .before .before .before .before .before .put-number in
+    omega (arith, written-keeps _ _ _ (two .ensures), written-keeps _ _ _ (one .ensures))
 
-add-j : tie.Need-add-j Inv-loop μ-loop
-add-j c = omega arith
+add-put-number-5 : tie.Need-add-put-number-5 Inv-loop μ-loop
+add-put-number-5 c = omega arith
 
-add-y : tie.Need-add-y Inv-loop μ-loop
-add-y c = omega arith
+add-put-number-6 : tie.Need-add-put-number-6 Inv-loop μ-loop
+add-put-number-6 c = omega arith
 
-mul-y : tie.Need-mul-y Inv-loop μ-loop
-mul-y c = omega arith
+mul-put-number-4 : tie.Need-mul-put-number-4 Inv-loop μ-loop
+mul-put-number-4 c = omega arith
 
-element-copy-out-y : tie.Need-element-copy-out-y Inv-loop μ-loop
-element-copy-out-y c = omega arith
+element-copy-out-put-number-4 : tie.Need-element-copy-out-put-number-4 Inv-loop μ-loop
+element-copy-out-put-number-4 c = omega arith
 
-cast-buffer-5 : tie.Need-cast-buffer-5 Inv-loop μ-loop
-cast-buffer-5 c = search needs
-
-slice-write-buffer-5 : tie.Need-slice-write-buffer-5 Inv-loop μ-loop
-slice-write-buffer-5 c = simp length-set (omega arith)
-
-cast-buffer-6 : tie.Need-cast-buffer-6 Inv-loop μ-loop
-cast-buffer-6 c = search needs
-
-add-buffer-4 : tie.Need-add-buffer-4 Inv-loop μ-loop
-add-buffer-4 c = omega arith
-
-slice-write-buffer-6 : tie.Need-slice-write-buffer-6 Inv-loop μ-loop
-slice-write-buffer-6 c = simp length-set (omega arith)
-
-cast-buffer-7 : tie.Need-cast-buffer-7 Inv-loop μ-loop
-cast-buffer-7 c = search needs
-
-add-buffer-5 : tie.Need-add-buffer-5 Inv-loop μ-loop
-add-buffer-5 c = omega arith
-
-slice-write-buffer-7 : tie.Need-slice-write-buffer-7 Inv-loop μ-loop
-slice-write-buffer-7 c = simp length-set (omega arith)
-
-cast-buffer-8 : tie.Need-cast-buffer-8 Inv-loop μ-loop
-cast-buffer-8 c = search needs
-
-add-buffer-6 : tie.Need-add-buffer-6 Inv-loop μ-loop
-add-buffer-6 c = omega arith
-
-slice-write-buffer-8 : tie.Need-slice-write-buffer-8 Inv-loop μ-loop
-slice-write-buffer-8 c = simp length-set (omega arith)
-
-add-l : tie.Need-add-l Inv-loop μ-loop
-add-l c = omega arith
-
-add-z : tie.Need-add-z Inv-loop μ-loop
-add-z c = omega arith
-
-mul-z : tie.Need-mul-z Inv-loop μ-loop
-mul-z c = omega arith
-
-element-copy-out-z : tie.Need-element-copy-out-z Inv-loop μ-loop
-element-copy-out-z c = omega arith
-
-cast-buffer-9 : tie.Need-cast-buffer-9 Inv-loop μ-loop
-cast-buffer-9 c = search needs
-
-slice-write-buffer-9 : tie.Need-slice-write-buffer-9 Inv-loop μ-loop
-slice-write-buffer-9 c = simp length-set (omega arith)
-
-cast-buffer-10 : tie.Need-cast-buffer-10 Inv-loop μ-loop
-cast-buffer-10 c = search needs
-
-add-buffer-7 : tie.Need-add-buffer-7 Inv-loop μ-loop
-add-buffer-7 c = omega arith
-
-slice-write-buffer-10 : tie.Need-slice-write-buffer-10 Inv-loop μ-loop
-slice-write-buffer-10 c = simp length-set (omega arith)
-
-cast-buffer-11 : tie.Need-cast-buffer-11 Inv-loop μ-loop
-cast-buffer-11 c = search needs
-
-add-buffer-8 : tie.Need-add-buffer-8 Inv-loop μ-loop
-add-buffer-8 c = omega arith
-
-slice-write-buffer-11 : tie.Need-slice-write-buffer-11 Inv-loop μ-loop
-slice-write-buffer-11 c = simp length-set (omega arith)
-
-cast-buffer-12 : tie.Need-cast-buffer-12 Inv-loop μ-loop
-cast-buffer-12 c = search needs
-
-add-buffer-9 : tie.Need-add-buffer-9 Inv-loop μ-loop
-add-buffer-9 c = omega arith
-
-slice-write-buffer-12 : tie.Need-slice-write-buffer-12 Inv-loop μ-loop
-slice-write-buffer-12 c = simp length-set (omega arith)
-
-add-m : tie.Need-add-m Inv-loop μ-loop
-add-m c = omega arith
-
-add-w : tie.Need-add-w Inv-loop μ-loop
-add-w c = omega arith
-
-mul-w : tie.Need-mul-w Inv-loop μ-loop
-mul-w c = omega arith
-
-element-copy-out-w : tie.Need-element-copy-out-w Inv-loop μ-loop
-element-copy-out-w c = omega arith
-
-cast-buffer-13 : tie.Need-cast-buffer-13 Inv-loop μ-loop
-cast-buffer-13 c = search needs
-
-slice-write-buffer-13 : tie.Need-slice-write-buffer-13 Inv-loop μ-loop
-slice-write-buffer-13 c = simp length-set (omega arith)
-
-cast-buffer-14 : tie.Need-cast-buffer-14 Inv-loop μ-loop
-cast-buffer-14 c = search needs
-
-add-buffer-10 : tie.Need-add-buffer-10 Inv-loop μ-loop
-add-buffer-10 c = omega arith
-
-slice-write-buffer-14 : tie.Need-slice-write-buffer-14 Inv-loop μ-loop
-slice-write-buffer-14 c = simp length-set (omega arith)
-
-cast-buffer-15 : tie.Need-cast-buffer-15 Inv-loop μ-loop
-cast-buffer-15 c = search needs
-
-add-buffer-11 : tie.Need-add-buffer-11 Inv-loop μ-loop
-add-buffer-11 c = omega arith
-
-slice-write-buffer-15 : tie.Need-slice-write-buffer-15 Inv-loop μ-loop
-slice-write-buffer-15 c = simp length-set (omega arith)
-
-cast-buffer-16 : tie.Need-cast-buffer-16 Inv-loop μ-loop
-cast-buffer-16 c = search needs
-
-add-buffer-12 : tie.Need-add-buffer-12 Inv-loop μ-loop
-add-buffer-12 c = omega arith
-
-slice-write-buffer-16 : tie.Need-slice-write-buffer-16 Inv-loop μ-loop
-slice-write-buffer-16 c = simp length-set (omega arith)
+put-number-requires-4 : tie.Need-put-number-requires-4 Inv-loop μ-loop
+put-number-requires-4 c κs =
+    let three = c .before .before .before .before .put-number3 in
+    let two = c .before .before .before .before .before .before .before .before .before .put-number2 in
+    let one = c .before .before .before .before .before .before .before .before .before .before .before .before .before .before .put-number in
+    omega (arith, written-keeps _ _ _ (three .ensures), written-keeps _ _ _ (two .ensures), written-keeps _ _ _ (one .ensures))
 
 add-k : tie.Need-add-k Inv-loop μ-loop
 add-k c = omega arith
@@ -228,14 +116,20 @@ loop-less c = omega arith
 
 loop-again : tie.Need-loop-again Inv-loop μ-loop
 loop-again c =
-    let a = c .before .before .before .before .before .before .before .before .before .before .args in
-    let i = c .before .before .before .before .before .loop in
+    let a = c .before .before .before .before .before .before .before .before .before .before .before .before .before .before .before .before .before .before .before .before .before .before .before .before .before .before .args in
+    let few = c .before .before .before .before .before .before .before .before .before .before .before .before .before .before .before .before .before .before .before .before .before .before .before .before .before .before .pre .0 in
+    let i = c .before .before .before .before .before .before .before .before .before .before .before .before .before .before .before .before .before .before .before .before .before .loop in
+    let four = c .before .before .put-number4 in
+    let three = c .before .before .before .before .before .before .before .put-number3 in
+    let two = c .before .before .before .before .before .before .before .before .before .before .before .before .put-number2 in
+    let one = c .before .before .before .before .before .before .before .before .before .before .before .before .before .before .before .before .before .put-number in
     let h = i .inv in (
       omega arith,
       omega arith,
       h .2,
-      simp length-set (h .3),
-      event-turn (a .events .now) (a .buffer .now) (i .buffer) (16 * a .count) (i .k) (4 * (4 * a .count + i .k)) (h .4) (h .3) (omega arith) (omega arith) (omega arith),
+      omega (arith, written-keeps _ _ _ (four .ensures), written-keeps _ _ _ (three .ensures), written-keeps _ _ _ (two .ensures), written-keeps _ _ _ (one .ensures), h .3),
+      event-turn (a .events .now) (a .buffer .now) (16 * a .count) (i .k) (omega (arith, few, h .2)) (omega arith) (h .4) (4 * (4 * a .count + i .k)) (omega arith)
+          (one .ensures) (two .ensures) (three .ensures) (four .ensures),
     )
 
 same-length : tie.Need-same-length Inv-loop μ-loop
@@ -270,64 +164,24 @@ put-bytes-spec =
     mul-i
     add-i
     mul-i-2
-    mul-x
-    element-copy-out-x
-    cast-buffer
-    slice-write-buffer
-    cast-buffer-2
-    add-buffer
-    slice-write-buffer-2
-    cast-buffer-3
-    add-buffer-2
-    slice-write-buffer-3
-    cast-buffer-4
-    add-buffer-3
-    slice-write-buffer-4
-    add-j
-    add-y
-    mul-y
-    element-copy-out-y
-    cast-buffer-5
-    slice-write-buffer-5
-    cast-buffer-6
-    add-buffer-4
-    slice-write-buffer-6
-    cast-buffer-7
-    add-buffer-5
-    slice-write-buffer-7
-    cast-buffer-8
-    add-buffer-6
-    slice-write-buffer-8
-    add-l
-    add-z
-    mul-z
-    element-copy-out-z
-    cast-buffer-9
-    slice-write-buffer-9
-    cast-buffer-10
-    add-buffer-7
-    slice-write-buffer-10
-    cast-buffer-11
-    add-buffer-8
-    slice-write-buffer-11
-    cast-buffer-12
-    add-buffer-9
-    slice-write-buffer-12
-    add-m
-    add-w
-    mul-w
-    element-copy-out-w
-    cast-buffer-13
-    slice-write-buffer-13
-    cast-buffer-14
-    add-buffer-10
-    slice-write-buffer-14
-    cast-buffer-15
-    add-buffer-11
-    slice-write-buffer-15
-    cast-buffer-16
-    add-buffer-12
-    slice-write-buffer-16
+    mul-put-number
+    element-copy-out-put-number
+    put-number-requires
+    add-put-number
+    add-put-number-2
+    mul-put-number-2
+    element-copy-out-put-number-2
+    put-number-requires-2
+    add-put-number-3
+    add-put-number-4
+    mul-put-number-3
+    element-copy-out-put-number-3
+    put-number-requires-3
+    add-put-number-5
+    add-put-number-6
+    mul-put-number-4
+    element-copy-out-put-number-4
+    put-number-requires-4
     add-k
     loop-less
     loop-again
