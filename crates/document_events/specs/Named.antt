@@ -1,4 +1,4 @@
--- A tag that is read has a name of one byte at least.
+-- A tag that is read has a name, which begins with a letter.
 use Prim.Native.Nat.{ℕ, _+_, _-_, _≤_}
 use mathlib.Core.Path.{_≡_, refl}
 use mathlib.Core.Bool.{Bool, true, false, _&&_, _||_}
@@ -28,54 +28,54 @@ any : {A : Type 0} (x : Reading A) → Gives (λ (_ : A). Unit {0}) x
 any (refused n k) = tt
 any (got a) = tt
 
-abbrev TagNamed : Tag → Type 0
-TagNamed t = 1 ≤ t .size
+abbrev pub TagNamed : List ℕ → Tag → Type 0
+TagNamed d t = (1 ≤ t .size) × (letter (byteAt d (t .name)) ≡ true)
 
-abbrev Named : Piece → Type 0
-Named (startTag t) = TagNamed t
-Named (endTag t) = TagNamed t
-Named (skipped e) = Unit {0}
-Named blank = Unit {0}
-Named dataByte = Unit {0}
+abbrev Named : List ℕ → Piece → Type 0
+Named d (startTag t) = TagNamed d t
+Named d (endTag t) = TagNamed d t
+Named d (skipped e) = Unit {0}
+Named d blank = Unit {0}
+Named d dataByte = Unit {0}
 
-tag-named : (d : List ℕ) (at : ℕ) → letter (byteAt d at) ≡ true → Gives TagNamed (tag d at)
+tag-named : (d : List ℕ) (at : ℕ) → letter (byteAt d at) ≡ true → Gives (TagNamed d) (tag d at)
 unfolding tag
 tag-named d at l =
     let e = nameEnd d at in
-    either TagNamed (ltb 8 (e - at)) _ _ (λ _. tt)
-    (either TagNamed (eqb (byteAt d (separatorsEnd d e)) 62) _ _ (λ _. omega (arith, nameEnd-more d at l)) tt)
+    either (TagNamed d) (ltb 8 (e - at)) _ _ (λ _. tt)
+    (either (TagNamed d) (eqb (byteAt d (separatorsEnd d e)) 62) _ _ (λ _. (omega (arith, nameEnd-more d at l), l)) tt)
 
-declaration-named : (d : List ℕ) (i : ℕ) → Gives Named (declarationPiece d i)
+declaration-named : (d : List ℕ) (i : ℕ) → Gives (Named d) (declarationPiece d i)
 unfolding declarationPiece
 declaration-named d i =
-    either Named (eqb (byteAt d (i + 2)) 62) _ _ (λ _. tt)
-    (either Named (atDashes d (i + 2)) _ _ (λ _. next (λ (_ : ℕ). Unit {0}) Named (commentDeclaration d (i + 4)) _ (any (commentDeclaration d (i + 4))) (λ e _. tt))
-    (either Named (letter (byteAt d (i + 2)) || eqb (byteAt d (i + 2)) 91) _ _ (λ _. tt) tt))
+    either (Named d) (eqb (byteAt d (i + 2)) 62) _ _ (λ _. tt)
+    (either (Named d) (atDashes d (i + 2)) _ _ (λ _. next (λ (_ : ℕ). Unit {0}) (Named d) (commentDeclaration d (i + 4)) _ (any (commentDeclaration d (i + 4))) (λ e _. tt))
+    (either (Named d) (letter (byteAt d (i + 2)) || eqb (byteAt d (i + 2)) 91) _ _ (λ _. tt) tt))
 
-markup-named : (d : List ℕ) (i : ℕ) → Gives Named (markupPiece d i)
+markup-named : (d : List ℕ) (i : ℕ) → Gives (Named d) (markupPiece d i)
 unfolding markupPiece
 markup-named d i =
     let b = byteAt d (i + 1) in
     let c = byteAt d (i + 2) in
-    either Named (letter b) _ _ (λ l. next TagNamed Named (tag d (i + 1)) _ (tag-named d (i + 1) l) (λ t h. h))
-    (either Named (eqb b 47 && letter c) _ _ (λ q. next TagNamed Named (tag d (i + 2)) _ (tag-named d (i + 2) (second (eqb b 47) (letter c) q)) (λ t h. h))
-    (either Named (eqb b 33) _ _ (λ _. declaration-named d i) (either Named (eqb b 63) _ _ (λ _. tt) tt)))
+    either (Named d) (letter b) _ _ (λ l. next (TagNamed d) (Named d) (tag d (i + 1)) _ (tag-named d (i + 1) l) (λ t h. h))
+    (either (Named d) (eqb b 47 && letter c) _ _ (λ q. next (TagNamed d) (Named d) (tag d (i + 2)) _ (tag-named d (i + 2) (second (eqb b 47) (letter c) q)) (λ t h. h))
+    (either (Named d) (eqb b 33) _ _ (λ _. declaration-named d i) (either (Named d) (eqb b 63) _ _ (λ _. tt) tt)))
 
-byte-named : (d : List ℕ) (i : ℕ) → Gives Named (bytePiece d i)
+byte-named : (d : List ℕ) (i : ℕ) → Gives (Named d) (bytePiece d i)
 unfolding bytePiece
 byte-named d i =
     let b = byteAt d i in
-    either Named (eqb b 10) _ _ (λ _. tt) (either Named (eqb b 9 || (eqb b 13 || eqb b 32)) _ _ (λ _. tt) tt)
+    either (Named d) (eqb b 10) _ _ (λ _. tt) (either (Named d) (eqb b 9 || (eqb b 13 || eqb b 32)) _ _ (λ _. tt) tt)
 
-piece-named : (d : List ℕ) (i : ℕ) → Gives Named (piece d i)
+piece-named : (d : List ℕ) (i : ℕ) → Gives (Named d) (piece d i)
 unfolding piece
 piece-named d i =
-    either Named (eqb (byteAt d i) 60) _ _ (λ _. markup-named d i)
-    (either Named (eqb (byteAt d i) 38 && isReference d i) _ _ (λ _. tt) (either Named (isSectionEnd d i) _ _ (λ _. tt) (byte-named d i)))
+    either (Named d) (eqb (byteAt d i) 60) _ _ (λ _. markup-named d i)
+    (either (Named d) (eqb (byteAt d i) 38 && isReference d i) _ _ (λ _. tt) (either (Named d) (isSectionEnd d i) _ _ (λ _. tt) (byte-named d i)))
 
 module _ (d : List ℕ) (i : ℕ) (t : Tag) where
-  pub start-tag-named : piece d i ≡ got (startTag t) → 1 ≤ t .size
+  pub start-tag-named : piece d i ≡ got (startTag t) → TagNamed d t
   start-tag-named e = rw e at (piece-named d i)
 
-  pub end-tag-named : piece d i ≡ got (endTag t) → 1 ≤ t .size
+  pub end-tag-named : piece d i ≡ got (endTag t) → TagNamed d t
   end-tag-named e = rw e at (piece-named d i)

@@ -5,6 +5,7 @@ use mathlib.Core.Bool.{true, false, true≢false}
 use mathlib.Core.List.{List}
 use native.Mathlib.Omega.{arith}
 use lib.ListN.{length}
+use Rattle.rules.specs.Bytes.{byteAt, letter}
 use Rattle.rules.specs.Reading.{got}
 use Rattle.rules.specs.TypeFile.{Element}
 use Rattle.rules.specs.Document.{Tag, startTag, endTag, blank, dataByte, piece}
@@ -27,19 +28,21 @@ use Rattle.document_events.specs.Named.{start-tag-named, end-tag-named}
 -- From the token
 
 -- What the index asks of a tag's name.
-abbrev pub NameAsked : Tag → Type 0
-NameAsked t = (1 ≤ t .size) × (t .size ≤ 8) × (t .name < 4294967296)
+abbrev pub NameAsked : List ℕ → Tag → Type 0
+NameAsked d t = (1 ≤ t .size) × (t .size ≤ 8) × (t .name < 4294967296) × (letter (byteAt d (t .name)) ≡ true)
 
 module _ (d : List ℕ) (at : ℕ) (h : at < length d) (few : length d ≤ 65535) (t : Tag) where
-  pub start-tag-asked : piece d at ≡ got (startTag t) → NameAsked t
+  pub start-tag-asked : piece d at ≡ got (startTag t) → NameAsked d t
   start-tag-asked e =
       let (i, j, k, l) = start-tag-in d at h t e in
-      (start-tag-named d at t e, l, omega arith)
+      let (some, letter) = start-tag-named d at t e in
+      (some, l, omega arith, letter)
 
-  pub end-tag-asked : piece d at ≡ got (endTag t) → NameAsked t
+  pub end-tag-asked : piece d at ≡ got (endTag t) → NameAsked d t
   end-tag-asked e =
       let (i, j, k, l) = end-tag-in d at h t e in
-      (end-tag-named d at t e, l, omega arith)
+      let (some, letter) = end-tag-named d at t e in
+      (some, l, omega arith, letter)
 
 module _ (s : List ℕ) (es : List Element) (d : List ℕ) (at : ℕ) {t : text.Tag} {x : ℕ} (q : x ≡ numberOf s es d (t .name) (t .size)) where
   named : (kind : Tag → rules.Piece) → piece d at ≡ got (kind (tagIn t)) → Names s es d kind at x (t .after)

@@ -6,9 +6,11 @@ use document_text::Token;
 use open_elements::Open;
 use text::Fault;
 ghost use mathlib.Core.Path.{_≡_};
+ghost use mathlib.Core.Bool.{true};
 ghost use mathlib.Core.List.{List};
 ghost use Prim.Native.Nat.{ℕ, _+_, _*_, _≤_, _<_};
 ghost use lib.ListN.{length};
+ghost use Rattle.rules.specs.Bytes.{byteAt, letter};
 ghost use Rattle.rules.specs.TypeFile.{Element};
 ghost use Rattle.rules.specs.Judge.{bytesOf};
 ghost use Rattle.rules.specs.Settling.{Event, numberOf};
@@ -62,11 +64,12 @@ fn refusal(number: u32, at: usize) -> Counted
 // The element that a tag names, or 0.
 fn tagged(s: &[u8], elements: &[u32; 384], index: &[u8; 321], d: &[u8], t: Tag) -> u32
     requires { ⌜ AnyIndexed (now s) (now elements) (now index) ⌝ }
-    requires { ⌜ (1 ≤ t .size) × (t .size ≤ 8) × (t .name < 4294967296) ⌝ }
+    requires { ⌜ (1 ≤ t .size) × (t .size ≤ 8) × (t .name < 4294967296) × (letter (byteAt (now d) (t .name)) ≡ true) ⌝ }
     ensures { λ r. ⌜ ((es : List Element) → Indexed (now (s .entry)) es (now (elements .entry)) (now (index .entry)) →
         r ≡ numberOf (now (s .entry)) es (now (d .entry)) (t .name) (t .size)) ⌝ }
 {
-    element_index::find(s, elements, index, d, t.name, t.size) as u32
+    let f = element_index::find(s, elements, index, d, t.name, t.size);
+    f.element as u32
 }
 
 // What stands at `at`, where the current element is e after the place u.

@@ -3,81 +3,93 @@ use Prim.Native.Nat.{ℕ, zero, suc, _+_, _-_, _*_, _%_, _≤_, _<_}
 use mathlib.Core.Path.{_≡_, refl, sym, ap, _∙_}
 use mathlib.Core.Bool.{Bool, true, false, _&&_}
 use mathlib.Core.List.{List, [], _∷_}
-use native.Mathlib.Decide.{ℕ-discrete, decLe}
+use native.Mathlib.Decide.{ℕ-discrete}
+use native.Mathlib.Nat.{not-suc-le-zero, le-of-suc-le-suc}
+use native.Mathlib.Numerals.{add-one}
 use native.Mathlib.Omega.{arith}
 use lib.ListN.{length, getD, set, drop, replicate, length-set, length-replicate, getD-replicate}
-use lib.Seq.{getD-set-same, getD-set-other}
-use lib.Dec.{leb}
+use lib.Seq.{drop-length, getD-set-same, getD-set-other}
+use lib.Dec.{eqb, leb}
 use borrow.Author.Tests.{eq-eqb, eqb-true, ne-eqb, leb-true}
-use Rattle.rules.specs.Bytes.{byteAt, fold, sameText}
+use Rattle.rules.specs.Bytes.{byteAt, letter, fold, sameText}
 use Rattle.rules.specs.TypeFile.{Element}
 use Rattle.rules.specs.Judge.{Accepts}
-use Rattle.rules.specs.Settling.{elementAt, isNamed, numberOf}
-use Rattle.model_sets.specs.Bits.{and-left, not-true, not-both, bool-cases}
+use Rattle.rules.specs.Settling.{elementAt, isNamed, numberFrom, numberOf}
+use Rattle.rules.specs.Lookup.{isAlike, compared}
+use Rattle.model_sets.specs.Bits.{and-left, and-right, and-both, or-cases, not-true, not-both, bool-cases}
 use Rattle.text.specs.Laws.{sameText-first}
 use Rattle.rules_laws.specs.Within.{typeFile-count}
 use Rattle.element_reader.specs.Means.{Recorded}
 use Rattle.element_reader.specs.Laws.{recorded-at}
-use Rattle.document_laws.specs.Decide.{search}
-use Rattle.type_laws.specs.Names.{numberOf-none, isNamed-split, typeFile-distinct}
+use Rattle.type_laws.specs.Names.{isNamed-split}
+use Rattle.type_laws.specs.Made.{typeFile-made}
 use Rattle.type_laws.specs.Again.{typeFile-sizes}
-use Rattle.element_index.specs.Means.{bucketOf, isIn, Indexed, putIn}
+use Rattle.element_index.specs.Means.{bucketOf, isIn, nextFrom, Indexed, putIn}
 
--- The search
+-- The next number that passes
 
-module _ (f : ℕ → Bool) where
-  search-range : (n : ℕ) → search f n ≤ n
-  unfolding search
-  search-range zero = omega arith
-  search-range (suc n) = bool-cases (f (suc n)) (λ e. rw (e, search) (omega arith)) (λ e. rw (e, search) (omega (arith, search-range n)))
+-- Above k - 1, where k is one of n: k itself if it passes, else the next above k.
+module _ (f : ℕ → Bool) (n k : ℕ) (from : 1 ≤ k) (to : k ≤ n) where
+  next-here : f k ≡ true → nextFrom f (n - (k - 1)) (k - 1) ≡ k
+  unfolding nextFrom
+  next-here e =
+      let z : n - (k - 1) ≡ suc (n - k) = omega arith in
+      let y : k - 1 + 1 ≡ k = omega arith in
+      rw (z, nextFrom, y, e, y)
 
-  search-passes : (n : ℕ) → 1 ≤ search f n → f (search f n) ≡ true
-  unfolding search
-  search-passes zero h = absurd (omega arith)
-  search-passes (suc n) h = bool-cases (f (suc n)) (λ e. rw (e, search) e) (λ e. rw (e, search) (search-passes n (rw (e, search) at h)))
-
-  -- None above the one that is found passes.
-  search-above : (n j : ℕ) → search f n < j → j ≤ n → f j ≡ false
-  unfolding search
-  search-above zero j a b = absurd (omega arith)
-  search-above (suc n) j a b =
-      bool-cases (f (suc n)) (λ e. let l : suc n < j = rw (e, search) at a in absurd (omega arith))
-      (λ e. by-place e (ℕ-discrete j (suc n)) (λ l. search-above n j (rw (e, search) at a) l))
-    where
-      by-place : f (suc n) ≡ false → Dec (j ≡ suc n) → (j ≤ n → f j ≡ false) → f j ≡ false
-      by-place e (yes z) below = rw z e
-      by-place e (no z) below = below (omega arith)
-
-  search-here : (k : ℕ) → 1 ≤ k → f k ≡ true → search f k ≡ k
-  unfolding search
-  search-here zero l e = absurd (omega arith)
-  search-here (suc n) l e = rw (e, search)
-
-  search-below : (k : ℕ) → 1 ≤ k → f k ≡ false → search f k ≡ search f (k - 1)
-  unfolding search
-  search-below zero l e = absurd (omega arith)
-  search-below (suc n) l e = let z : suc n - 1 ≡ n = omega arith in rw (e, search, z)
+  next-above : f k ≡ false → nextFrom f (n - (k - 1)) (k - 1) ≡ nextFrom f (n - k) k
+  unfolding nextFrom
+  next-above e =
+      let z : n - (k - 1) ≡ suc (n - k) = omega arith in
+      let y : k - 1 + 1 ≡ k = omega arith in
+      rw (z, nextFrom, y, e, y)
 
 -- The bucket of a name
-
--- Letters that fold to one another are 32 apart.
-fold-rest : (b : ℕ) → fold b % 32 ≡ b % 32
-unfolding fold
-fold-rest b = bool-cases (leb 97 b && leb b 122) (λ e. let l = leb-true 97 b (and-left _ _ e) in rw (e, fold) (omega arith)) (λ e. rw (e, fold))
 
 bucket-range : (first size : ℕ) → 1 ≤ size → size ≤ 8 → bucketOf first size < 256
 bucket-range first size l h = omega arith
 
-first-same : (s : List ℕ) (a : ℕ) (t : List ℕ) (b n : ℕ) → 1 ≤ n → sameText s a t b n ≡ true → byteAt s a % 32 ≡ byteAt t b % 32
-first-same s a t b zero l e = absurd (omega arith)
-first-same s a t b (suc n) l e = sym (fold-rest (byteAt s a)) ∙ ap (λ (x : ℕ). x % 32) (sameText-first s a t b n e) ∙ fold-rest (byteAt t b)
+-- A letter of either case by its number in the alphabet.
+letter-fold : (b : ℕ) → letter b ≡ true → fold b ≡ 64 + b % 32
+unfolding letter fold
+letter-fold b e =
+    bool-cases (leb 97 b && leb b 122) lower λ x. or-cases (leb 65 b && leb b 90) (leb 97 b && leb b 122) (upper x) (λ y. absurd (not-both x y)) e
+  where
+    lower : leb 97 b && leb b 122 ≡ true → fold b ≡ 64 + b % 32
+    lower y =
+        let l = leb-true 97 b (and-left _ _ y) in
+        let h = leb-true b 122 (and-right (leb 97 b) _ y) in
+        rw (y, fold) (omega arith)
 
--- An element is in the bucket of its name.
-named-bucket : (s : List ℕ) (e : Element) (t : List ℕ) (at size : ℕ) → 1 ≤ size → isNamed s e t at size ≡ true → bucketOf (byteAt s (e .at)) (e .size) ≡ bucketOf (byteAt t at) size
-named-bucket s e t at size l x =
-    let (z, same) = isNamed-split s e t at size x in
-    let r = first-same s (e .at) t at size l same in
-    omega arith
+    upper : leb 97 b && leb b 122 ≡ false → leb 65 b && leb b 90 ≡ true → fold b ≡ 64 + b % 32
+    upper x y =
+        let l = leb-true 65 b (and-left _ _ y) in
+        let h = leb-true b 90 (and-right (leb 65 b) _ y) in
+        rw (x, fold) (omega arith)
+
+-- Names that begin with a letter are in one bucket exactly where they are equally long and their first letters the same, folded.
+module _ (s : List ℕ) (e : Element) (t : List ℕ) (at size : ℕ) (p : letter (byteAt s (e .at)) ≡ true) (q : letter (byteAt t at) ≡ true)
+    (l : 1 ≤ e .size) (some : 1 ≤ size) where
+  bucket-alike : bucketOf (byteAt s (e .at)) (e .size) ≡ bucketOf (byteAt t at) size → isAlike s e t at size ≡ true
+  bucket-alike z =
+      let f = letter-fold (byteAt s (e .at)) p in
+      let g = letter-fold (byteAt t at) q in
+      and-both (eq-eqb (e .size) size (omega arith)) (eq-eqb (fold (byteAt s (e .at))) (fold (byteAt t at)) (omega arith))
+
+  alike-bucket : isAlike s e t at size ≡ true → bucketOf (byteAt s (e .at)) (e .size) ≡ bucketOf (byteAt t at) size
+  alike-bucket x =
+      let f = letter-fold (byteAt s (e .at)) p in
+      let g = letter-fold (byteAt t at) q in
+      let a = eqb-true (e .size) size (and-left _ _ x) in
+      let b = eqb-true (fold (byteAt s (e .at))) (fold (byteAt t at)) (and-right (eqb (e .size) size) _ x) in
+      omega arith
+
+-- What has the name is alike.
+named-alike : (s : List ℕ) (e : Element) (t : List ℕ) (at size : ℕ) → 1 ≤ size → isNamed s e t at size ≡ true → isAlike s e t at size ≡ true
+named-alike s e t at zero l x = absurd (omega arith)
+named-alike s e t at (suc n) l x =
+    let (z, same) = isNamed-split s e t at (suc n) x in
+    and-both (eq-eqb _ _ z) (eq-eqb _ _ (sameText-first s (e .at) t at n same))
 
 -- What is recorded of an element
 
@@ -99,7 +111,72 @@ module _ (elements : List ℕ) (es : List Element) (r : Recorded elements es) (k
       let x = recorded-at elements es k r h in
       rw (elementAt-drop es k (x .element) _ (x .stands)) (x .size)
 
--- A lookup
+-- A lookup, behind the first j elements
+
+drop-element : (es : List Element) (j : ℕ) → j < length es → drop j es ≡ elementAt es j ∷ drop (j + 1) es
+unfolding elementAt
+drop-element es j h = rw add-one (go es j h)
+  where
+    go : (es : List Element) (j : ℕ) → j < length es → drop j es ≡ elementAt es j ∷ drop (suc j) es
+    go [] j h = absurd (not-suc-le-zero h)
+    go (e ∷ es) zero h = refl
+    go (e ∷ es) (suc j) h = go es j (le-of-suc-le-suc h)
+
+-- No more are compared than are declared.
+compared-most : (s : List ℕ) (es : List Element) (t : List ℕ) (at size : ℕ) → compared s es t at size ≤ length es
+unfolding compared
+compared-most s [] t at size = omega arith
+compared-most s (e ∷ es) t at size =
+    let ih = compared-most s es t at size in
+    bool-cases (isAlike s e t at size)
+    (λ x. bool-cases (isNamed s e t at size) (λ y. rw (x, y, compared) (omega arith)) (λ y. rw (x, y, compared) (omega arith)))
+    (λ x. rw (x, compared) (omega arith))
+
+module _ (s : List ℕ) (es : List Element) (t : List ℕ) (at size : ℕ) where
+  abbrev pub answerFrom : ℕ → ℕ
+  answerFrom j = numberFrom (j + 1) s (drop j es) t at size
+
+  abbrev pub countFrom : ℕ → ℕ
+  countFrom j = compared s (drop j es) t at size
+
+  module _ (j : ℕ) (h : j < length es) where
+    -- The next has the name: it is alike, and the last that is compared.
+    found-answer : isNamed s (elementAt es j) t at size ≡ true → answerFrom j ≡ j + 1
+    unfolding numberFrom
+    found-answer y = rw (drop-element es j h, y, numberFrom)
+
+    found-count : isAlike s (elementAt es j) t at size ≡ true → isNamed s (elementAt es j) t at size ≡ true → countFrom j ≡ 1
+    unfolding compared
+    found-count x y = rw (drop-element es j h, x, y, compared)
+
+    -- It has another name, and is compared or passed over.
+    other-answer : isNamed s (elementAt es j) t at size ≡ false → answerFrom j ≡ answerFrom (j + 1)
+    unfolding numberFrom
+    other-answer y = rw (drop-element es j h, y, numberFrom)
+
+    other-count : isAlike s (elementAt es j) t at size ≡ true → isNamed s (elementAt es j) t at size ≡ false → countFrom j ≡ suc (countFrom (j + 1))
+    unfolding compared
+    other-count x y = rw (drop-element es j h, x, y, compared)
+
+    passed-count : isAlike s (elementAt es j) t at size ≡ false → countFrom j ≡ countFrom (j + 1)
+    unfolding compared
+    passed-count x = rw (drop-element es j h, x, compared)
+
+    some-count : isAlike s (elementAt es j) t at size ≡ true → 1 ≤ countFrom j
+    some-count x =
+        bool-cases (isNamed s (elementAt es j) t at size) (λ y. omega (arith, found-count x y)) (λ y. omega (arith, other-count x y))
+
+-- What is due from the element number k on: 0 where k is 0, and there is none.
+abbrev pub due : (ℕ → ℕ) → ℕ → ℕ
+due f zero = 0
+due f (suc j) = f j
+
+due-some : (f : ℕ → ℕ) (k : ℕ) → 1 ≤ k → due f k ≡ f (k - 1)
+due-some f zero l = absurd (omega arith)
+due-some f (suc j) l = ap f (omega arith)
+
+due-here : (f : ℕ → ℕ) (j : ℕ) → due f (j + 1) ≡ f j
+due-here f j = ap (due f) (add-one j)
 
 -- The bucket of the name of this size at `at` of t.
 abbrev pub bucketAt : List ℕ → (at size : ℕ) → ℕ
@@ -110,38 +187,89 @@ pub bucket-read : (index t : List ℕ) (at size first to k : ℕ) → first ≡ 
     → k ≡ getD index (65 + bucketAt t at size) 0
 bucket-read index t at size first to k f b e = rw (b, f) at e
 
--- No element above k has the name of this size at `at` of t, and k is 0 or in its bucket.
-pub record Seeks (s : List ℕ) (es : List Element) (t : List ℕ) (at size k : ℕ) : Type 0 where
+-- The element k is in the bucket of the name, or is 0; the answer is what is due from it on, and so is what is yet to be counted beside n.
+pub record Seeks (s : List ℕ) (es : List Element) (t : List ℕ) (at size k n : ℕ) : Type 0 where
   pub within : k ≤ length es
   pub inside : 1 ≤ k → isIn s es (bucketAt t at size) k ≡ true
-  pub above : (j : ℕ) → k < j → j ≤ length es → isNamed s (elementAt es (j - 1)) t at size ≡ false
+  pub answer : due (answerFrom s es t at size) k ≡ numberOf s es t at size
+  pub count : n + due (countFrom s es t at size) k ≡ compared s es t at size
 
-module _ {s : List ℕ} {es : List Element} {elements index : List ℕ} (t : List ℕ) (at size : ℕ) (x : Indexed s es elements index) (some : 1 ≤ size) where
-  -- What is not in the bucket has another name.
-  outside : (j : ℕ) → isIn s es (bucketAt t at size) j ≡ false → isNamed s (elementAt es (j - 1)) t at size ≡ false
-  outside j e = not-true _ (λ y. not-both e (eq-eqb _ _ (named-bucket s (elementAt es (j - 1)) t at size some y)))
+pub seeks-counted : {s : List ℕ} {es : List Element} {t : List ℕ} {at size k n m : ℕ} → n ≡ m → Seeks s es t at size k n → Seeks s es t at size k m
+seeks-counted e w = rw (← e) w
 
-  -- The search for the largest of the bucket up to n, where none above n has the name.
-  seeks-from : (n : ℕ) → n ≤ length es → ((j : ℕ) → n < j → j ≤ length es → isNamed s (elementAt es (j - 1)) t at size ≡ false)
-      → {k : ℕ} → k ≡ search (isIn s es (bucketAt t at size)) n → Seeks s es t at size k
-  seeks-from n h above {k} e =
-      let r = search-range (isIn s es (bucketAt t at size)) n in
-      record {
-        within = omega arith;
-        inside = λ l. rw e (search-passes (isIn s es (bucketAt t at size)) n (omega arith));
-        above = λ j l m. by-place j m (decLe j n) (search-above (isIn s es (bucketAt t at size)) n j (omega arith));
-      }
+-- No element between j and k is alike, nor any behind j where k is 0.
+record Leads (s : List ℕ) (es : List Element) (t : List ℕ) (at size j k : ℕ) : Type 0 where
+  within : k ≤ length es
+  inside : 1 ≤ k → isIn s es (bucketAt t at size) k ≡ true
+  answer : due (answerFrom s es t at size) k ≡ answerFrom s es t at size j
+  count : due (countFrom s es t at size) k ≡ countFrom s es t at size j
+
+module _ {s : List ℕ} {es : List Element} {elements index : List ℕ} (t : List ℕ) (at size : ℕ) (x : Indexed s es elements index) (some : 1 ≤ size)
+    (named : letter (byteAt t at) ≡ true) where
+  module _ (j : ℕ) (h : j < length es) where
+    letter-is : letter (byteAt s (elementAt es j .at)) ≡ true
+    letter-is = typeFile-made s es (x .accepted .elements) j h .named
+
+    size-some : 1 ≤ elementAt es j .size
+    size-some = typeFile-sizes s es (x .accepted .elements) j h .0
+
+    in-alike : eqb (bucketOf (byteAt s (elementAt es j .at)) (elementAt es j .size)) (bucketAt t at size) ≡ true → isAlike s (elementAt es j) t at size ≡ true
+    in-alike y = bucket-alike s (elementAt es j) t at size letter-is named size-some some (eqb-true _ _ y)
+
+    out-alike : eqb (bucketOf (byteAt s (elementAt es j .at)) (elementAt es j .size)) (bucketAt t at size) ≡ false → isAlike s (elementAt es j) t at size ≡ false
+    out-alike y = not-true _ (λ z. not-both y (eq-eqb _ _ (alike-bucket s (elementAt es j) t at size letter-is named size-some some z)))
+
+    other-name : isAlike s (elementAt es j) t at size ≡ false → isNamed s (elementAt es j) t at size ≡ false
+    other-name y = not-true _ (λ z. not-both y (named-alike s (elementAt es j) t at size some z))
+
+  leads : (left j : ℕ) → j + left ≡ length es → Leads s es t at size j (nextFrom (isIn s es (bucketAt t at size)) left j)
+  unfolding nextFrom numberFrom compared
+  leads zero j e =
+      let z : j ≡ length es = omega arith in
+      let d = drop-length es in
+      record { within = omega arith; inside = λ l. absurd (omega arith); answer = rw (z, d); count = rw (z, d) }
+  leads (suc left) j e = bool-cases (isIn s es (bucketAt t at size) (j + 1)) here (further (leads left (j + 1) (omega arith)))
     where
-      by-place : (j : ℕ) → j ≤ length es → Dec (j ≤ n) → (j ≤ n → isIn s es (bucketAt t at size) j ≡ false) → isNamed s (elementAt es (j - 1)) t at size ≡ false
-      by-place j m (yes l) below = outside j (below l)
-      by-place j m (no l) below = above j (omega arith) m
+      d : j + 1 - 1 ≡ j
+      d = omega arith
 
-  pub seeks-start : size ≤ 8 → {k : ℕ} → k ≡ getD index (65 + bucketAt t at size) 0 → Seeks s es t at size k
-  seeks-start short e = seeks-from (length es) (omega arith) (λ j l m. absurd (omega arith)) (e ∙ x .largest (bucketAt t at size) (bucket-range (byteAt t at) size some short))
+      here : isIn s es (bucketAt t at size) (j + 1) ≡ true → Leads s es t at size j (nextFrom (isIn s es (bucketAt t at size)) (suc left) j)
+      here y =
+          rw (y, nextFrom)
+          (record { within = omega arith; inside = λ _. y; answer = due-here (answerFrom s es t at size) j; count = due-here (countFrom s es t at size) j })
 
-  module _ {k : ℕ} (seeks : Seeks s es t at size k) where
-    pub seeks-end : k ≡ 0 → 0 ≡ numberOf s es t at size
-    seeks-end z = sym (numberOf-none s es t at size λ j l. let d : j + 1 - 1 ≡ j = omega arith in rw d at (seeks .above (j + 1) (omega arith) (omega arith)))
+      further : Leads s es t at size (j + 1) (nextFrom (isIn s es (bucketAt t at size)) left (j + 1)) → isIn s es (bucketAt t at size) (j + 1) ≡ false → Leads s es t at size j (nextFrom (isIn s es (bucketAt t at size)) (suc left) j)
+      further ih y =
+          let out = out-alike j (omega arith) (rw d at y) in
+          let other = other-name j (omega arith) out in
+          rw (y, nextFrom)
+          (record {
+            within = ih .within;
+            inside = ih .inside;
+            answer = ih .answer ∙ sym (other-answer s es t at size j (omega arith) other);
+            count = ih .count ∙ sym (passed-count s es t at size j (omega arith) out);
+          })
+
+  -- The next of the bucket behind the first j, where so much is due.
+  seeks-from : (j n : ℕ) → j ≤ length es → answerFrom s es t at size j ≡ numberOf s es t at size → n + countFrom s es t at size j ≡ compared s es t at size
+      → {k : ℕ} → k ≡ nextFrom (isIn s es (bucketAt t at size)) (length es - j) j → Seeks s es t at size k n
+  seeks-from j n h a c {k} e =
+      let w = leads (length es - j) j (omega arith) in
+      rw e (record { within = w .within; inside = w .inside; answer = w .answer ∙ a; count = ap (λ (m : ℕ). n + m) (w .count) ∙ c })
+
+  pub seeks-start : size ≤ 8 → {k : ℕ} → k ≡ getD index (65 + bucketAt t at size) 0 → Seeks s es t at size k 0
+  unfolding numberOf
+  seeks-start short e =
+      let z : length es - 0 ≡ length es = omega arith in
+      seeks-from 0 0 (omega arith) refl (omega arith) (rw z (e ∙ x .smallest (bucketAt t at size) (bucket-range (byteAt t at) size some short)))
+
+  module _ {k n : ℕ} (seeks : Seeks s es t at size k n) where
+    pub seeks-end : k ≡ 0 → (0 ≡ numberOf s es t at size) × (n ≡ compared s es t at size)
+    seeks-end z = (rw z at (seeks .answer), omega (arith, rw z at (seeks .count)))
+
+    -- No more were compared than are declared.
+    pub seeks-most : n ≤ length es
+    seeks-most = omega (arith, seeks .count, compared-most s es t at size)
 
     module _ (more : 1 ≤ k) where
       stands : k - 1 < length es
@@ -150,48 +278,55 @@ module _ {s : List ℕ} {es : List Element} {elements index : List ℕ} (t : Lis
       offset-is : getD elements (6 * (k - 1)) 0 ≡ elementAt es (k - 1) .at
       offset-is = recorded-offset elements es (x .recorded) (k - 1) stands
 
-      -- Names of one bucket are equally long.
-      size-is : elementAt es (k - 1) .size ≡ size
-      size-is =
-          let e : bucketOf (byteAt s (elementAt es (k - 1) .at)) (elementAt es (k - 1) .size) ≡ bucketAt t at size = eqb-true _ _ (seeks .inside more) in
-          let z = typeFile-sizes s es (x .accepted .elements) (k - 1) stands in
-          omega arith
+      alike : isAlike s (elementAt es (k - 1)) t at size ≡ true
+      alike = in-alike (k - 1) stands (seeks .inside more)
 
       -- What the code's test of its text says.
       named-is : {o : ℕ} {r v : Bool} → o ≡ getD elements (6 * (k - 1)) 0 → r ≡ sameText s o t at size → r ≡ v → isNamed s (elementAt es (k - 1)) t at size ≡ v
-      named-is f g e = rw (eq-eqb _ _ size-is, isNamed, ← offset-is, ← f, ← g) e
+      named-is f g e = rw (and-left (eqb (elementAt es (k - 1) .size) size) _ alike, isNamed, ← offset-is, ← f, ← g) e
 
-      pub seeks-found : {o : ℕ} {r : Bool} → o ≡ getD elements (6 * (k - 1)) 0 → r ≡ sameText s o t at size → r ≡ true → k ≡ numberOf s es t at size
-      seeks-found f g e = sym (typeFile-distinct s es (x .accepted .elements) (k - 1) stands t at size (named-is f g e) ∙ omega arith)
+      answer-is : answerFrom s es t at size (k - 1) ≡ numberOf s es t at size
+      answer-is = sym (due-some (answerFrom s es t at size) k more) ∙ seeks .answer
 
-      pub seeks-next : {o : ℕ} {r : Bool} → o ≡ getD elements (6 * (k - 1)) 0 → r ≡ sameText s o t at size → r ≡ false → {j : ℕ} → j ≡ getD index k 0 → Seeks s es t at size j
-      seeks-next f g e q =
-          let w = seeks .within in
-          seeks-from (k - 1) (omega arith) (λ j l m. above j (ℕ-discrete j k) l m) (q ∙ x .smaller (bucketAt t at size) k more w (seeks .inside more))
-        where
-          above : (j : ℕ) → Dec (j ≡ k) → k - 1 < j → j ≤ length es → isNamed s (elementAt es (j - 1)) t at size ≡ false
-          above j (yes z) l m = rw z (named-is f g e)
-          above j (no z) l m = seeks .above j (omega arith) m
+      count-is : n + countFrom s es t at size (k - 1) ≡ compared s es t at size
+      count-is = rw (due-some (countFrom s es t at size) k more) at (seeks .count)
 
-      -- The next of the bucket is smaller.
-      pub next-smaller : getD index k 0 < k
-      next-smaller = omega (arith, x .smaller (bucketAt t at size) k more (seeks .within) (seeks .inside more), search-range (isIn s es (bucketAt t at size)) (k - 1))
+      pub seeks-fewer : n < length es
+      seeks-fewer = omega (arith, count-is, some-count s es t at size (k - 1) stands alike, compared-most s es t at size)
+
+      module _ {o : ℕ} {r : Bool} (f : o ≡ getD elements (6 * (k - 1)) 0) (g : r ≡ sameText s o t at size) where
+        pub seeks-found : r ≡ true → (k ≡ numberOf s es t at size) × (n + 1 ≡ compared s es t at size)
+        seeks-found e =
+            let y = named-is f g e in (
+              omega (arith, answer-is, found-answer s es t at size (k - 1) stands y),
+              omega (arith, count-is, found-count s es t at size (k - 1) stands alike y),
+            )
+
+        pub seeks-next : r ≡ false → {m : ℕ} → m ≡ getD index k 0 → Seeks s es t at size m (n + 1)
+        seeks-next e q =
+            let y = named-is f g e in
+            let w = seeks .within in
+            let z : k - 1 + 1 ≡ k = omega arith in
+            let a : answerFrom s es t at size (k - 1) ≡ answerFrom s es t at size k = other-answer s es t at size (k - 1) stands y ∙ ap (answerFrom s es t at size) z in
+            let c : countFrom s es t at size (k - 1) ≡ suc (countFrom s es t at size k) = other-count s es t at size (k - 1) stands alike y ∙ ap (λ (j : ℕ). suc (countFrom s es t at size j)) z in
+            seeks-from k (n + 1) w (sym a ∙ answer-is) (omega (arith, count-is, c)) (q ∙ x .larger (bucketAt t at size) k more w (seeks .inside more))
 
 -- A further element
 
--- The elements before k are indexed.
+-- The elements above k are indexed.
 pub record Filled (s : List ℕ) (es : List Element) (index : List ℕ) (k : ℕ) : Type 0 where
   pub len : length index ≡ 321
-  pub largest : (b : ℕ) → b < 256 → getD index (65 + b) 0 ≡ search (isIn s es b) (k - 1)
-  pub smaller : (b j : ℕ) → 1 ≤ j → j < k → isIn s es b j ≡ true → getD index j 0 ≡ search (isIn s es b) (j - 1)
+  pub smallest : (b : ℕ) → b < 256 → getD index (65 + b) 0 ≡ nextFrom (isIn s es b) (length es - k) k
+  pub larger : (b j : ℕ) → k < j → j ≤ length es → isIn s es b j ≡ true → getD index j 0 ≡ nextFrom (isIn s es b) (length es - j) j
 
-pub filled-none : (s : List ℕ) (es : List Element) (index : List ℕ) → index ≡ replicate 321 0 → Filled s es index 1
-unfolding search
-filled-none s es index e =
+pub filled-none : (s : List ℕ) (es : List Element) (index : List ℕ) (k : ℕ) → length es ≡ k → index ≡ replicate 321 0 → Filled s es index k
+unfolding nextFrom
+filled-none s es index k n e =
+    let z : length es - k ≡ 0 = omega arith in
     record {
       len = rw e (length-replicate {A = ℕ} 321 0);
-      largest = λ b h. rw e (getD-replicate 321 (65 + b) 0 0 (omega arith));
-      smaller = λ b j l h x. absurd (omega arith);
+      smallest = λ b h. rw (e, z) (getD-replicate 321 (65 + b) 0 0 (omega arith));
+      larger = λ b j l h x. absurd (omega arith);
     }
 
 putIn-length : (index : List ℕ) (b k : ℕ) → length (putIn index b k) ≡ length index
@@ -222,32 +357,35 @@ module _ (index : List ℕ) (len : length index ≡ 321) (b k : ℕ) (in-range :
 abbrev bucketIn : List ℕ → List Element → ℕ → ℕ
 bucketIn s es k = bucketOf (byteAt s (elementAt es (k - 1) .at)) (elementAt es (k - 1) .size)
 
-module _ (s : List ℕ) (es : List Element) (index : List ℕ) (k : ℕ) (in-range : bucketIn s es k < 256) (from : 1 ≤ k) (few : k ≤ 64) (done : Filled s es index k) where
+module _ (s : List ℕ) (es : List Element) (index : List ℕ) (k : ℕ) (in-range : bucketIn s es k < 256) (from : 1 ≤ k) (to : k ≤ length es) (few : length es ≤ 64)
+    (done : Filled s es index k) where
   abbrev put : List ℕ
   put = putIn index (bucketIn s es k) k
 
-  largest-after : (b : ℕ) → b < 256 → Dec (bucketIn s es k ≡ b) → getD put (65 + b) 0 ≡ search (isIn s es b) k
-  largest-after b h (yes e) =
-      rw (← e) (put-bucket index (done .len) (bucketIn s es k) k in-range few ∙ sym (search-here (isIn s es (bucketIn s es k)) k from (eq-eqb (bucketIn s es k) (bucketIn s es k) refl)))
-  largest-after b h (no ne) =
-      put-elsewhere index (done .len) (bucketIn s es k) k in-range few (65 + b) (λ e. ne (omega arith)) (omega arith)
-      ∙ done .largest b h
-      ∙ sym (search-below (isIn s es b) k from (ne-eqb _ _ ne))
+  smallest-after : (b : ℕ) → b < 256 → Dec (bucketIn s es k ≡ b) → getD put (65 + b) 0 ≡ nextFrom (isIn s es b) (length es - (k - 1)) (k - 1)
+  smallest-after b h (yes e) =
+      put-at (65 + b) (ap (λ (c : ℕ). 65 + c) (sym e)) ∙ sym (next-here (isIn s es b) (length es) k from to (eq-eqb (bucketIn s es k) b e))
+    where
+      put-at : (i : ℕ) → i ≡ 65 + bucketIn s es k → getD put i 0 ≡ k
+      put-at i z = rw z (put-bucket index (done .len) (bucketIn s es k) k in-range (omega arith))
+  smallest-after b h (no ne) =
+      put-elsewhere index (done .len) (bucketIn s es k) k in-range (omega arith) (65 + b) (λ e. ne (omega arith)) (omega arith)
+      ∙ done .smallest b h
+      ∙ sym (next-above (isIn s es b) (length es) k from to (ne-eqb _ _ ne))
 
-  smaller-after : (b j : ℕ) → 1 ≤ j → j < k + 1 → isIn s es b j ≡ true → Dec (j ≡ k) → getD put j 0 ≡ search (isIn s es b) (j - 1)
-  smaller-after b j l h x (yes e) =
+  larger-after : (b j : ℕ) → k - 1 < j → j ≤ length es → isIn s es b j ≡ true → Dec (j ≡ k) → getD put j 0 ≡ nextFrom (isIn s es b) (length es - j) j
+  larger-after b j l h x (yes e) =
       let z : bucketIn s es k ≡ b = eqb-true _ _ (rw e at x) in
-      rw (e, ← z) (put-element index (done .len) (bucketIn s es k) k in-range few ∙ done .largest (bucketIn s es k) in-range)
-  smaller-after b j l h x (no ne) =
-      put-elsewhere index (done .len) (bucketIn s es k) k in-range few j (omega arith) ne ∙ done .smaller b j l (omega arith) x
+      rw (e, ← z) (put-element index (done .len) (bucketIn s es k) k in-range (omega arith) ∙ done .smallest (bucketIn s es k) in-range)
+  larger-after b j l h x (no ne) =
+      put-elsewhere index (done .len) (bucketIn s es k) k in-range (omega arith) j (omega arith) ne ∙ done .larger b j (omega arith) h x
 
-  filled-put : Filled s es put (k + 1)
+  filled-put : Filled s es put (k - 1)
   filled-put =
-      let z : k + 1 - 1 ≡ k = omega arith in
       record {
         len = putIn-length index (bucketIn s es k) k ∙ done .len;
-        largest = λ b h. rw z (largest-after b h (ℕ-discrete (bucketIn s es k) b));
-        smaller = λ b j l h x. smaller-after b j l h x (ℕ-discrete j k);
+        smallest = λ b h. smallest-after b h (ℕ-discrete (bucketIn s es k) b);
+        larger = λ b j l h x. larger-after b j l h x (ℕ-discrete j k);
       }
 
 -- The element k is put into the bucket of the name that its record says.
@@ -268,16 +406,16 @@ module _ (s : List ℕ) (es : List Element) (elements : List ℕ) (k : ℕ) (acc
   bucket-in = omega (arith, bucket-is, bucket-range (byteAt s (getD elements (6 * (k - 1)) 0)) (getD elements (6 * (k - 1) + 1) 0) (size-in .0) (size-in .1))
 
   pub filled-more : (index : List ℕ) → Filled s es index k → {after : List ℕ}
-      → after ≡ putIn index (bucketOf (byteAt s (getD elements (6 * (k - 1)) 0)) (getD elements (6 * (k - 1) + 1) 0)) k → Filled s es after (k + 1)
-  filled-more index done e = rw (e, bucket-is) (filled-put s es index k bucket-in from (omega (arith, few)) done)
+      → after ≡ putIn index (bucketOf (byteAt s (getD elements (6 * (k - 1)) 0)) (getD elements (6 * (k - 1) + 1) 0)) k → Filled s es after (k - 1)
+  filled-more index done e = rw (e, bucket-is) (filled-put s es index k bucket-in from to few done)
 
-pub filled-all : (s : List ℕ) (es : List Element) (elements index : List ℕ) (k : ℕ) → Accepts s es → Recorded elements es → k ≡ length es + 1 → Filled s es index k → Indexed s es elements index
+pub filled-all : (s : List ℕ) (es : List Element) (elements index : List ℕ) (k : ℕ) → Accepts s es → Recorded elements es → k ≡ 0 → Filled s es index k → Indexed s es elements index
 filled-all s es elements index k accepted recorded e done =
-    let z : k - 1 ≡ length es = omega arith in
+    let z : length es - 0 ≡ length es = omega arith in
     record {
       accepted = accepted;
       few = typeFile-count s es (accepted .elements) .1;
       recorded = recorded;
-      largest = λ b h. rw z at (done .largest b h);
-      smaller = λ b j l h x. done .smaller b j l (omega arith) x;
+      smallest = λ b h. rw (e, z) at (done .smallest b h);
+      larger = λ b j l h x. done .larger b j (omega arith) h x;
     }

@@ -1,7 +1,7 @@
 -- What an index of a type's elements says.
-use Prim.Native.Nat.{ℕ, _+_, _-_, _*_, _%_, _≤_, _<_}
+use Prim.Native.Nat.{ℕ, zero, suc, _+_, _-_, _*_, _%_, _≤_, _<_}
 use mathlib.Core.Path.{_≡_}
-use mathlib.Core.Bool.{Bool}
+use mathlib.Core.Bool.{Bool, true, false}
 use mathlib.Core.List.{List}
 use lib.ListN.{length, getD, set}
 use lib.Dec.{eqb}
@@ -10,7 +10,6 @@ use Rattle.rules.specs.TypeFile.{Element}
 use Rattle.rules.specs.Judge.{Accepts}
 use Rattle.rules.specs.Settling.{elementAt}
 use Rattle.element_reader.specs.Means.{Recorded}
-use Rattle.document_laws.specs.Decide.{search}
 
 -- An accepted type whose elements are recorded.
 abbrev pub Judged : (s elements : List ℕ) (count : ℕ) → Type 0
@@ -24,13 +23,18 @@ bucketOf first size = (size - 1) * 32 + first % 32
 abbrev pub isIn : List ℕ → List Element → (b k : ℕ) → Bool
 isIn s es b k = eqb (bucketOf (byteAt s (elementAt es (k - 1) .at)) (elementAt es (k - 1) .size)) b
 
--- Each bucket leads through its elements, from the largest number down.
+-- The first number above k that passes, of the `left` next; 0 where none does.
+unfoldable pub nextFrom : (ℕ → Bool) → (left k : ℕ) → ℕ
+nextFrom f zero k = 0
+nextFrom f (suc left) k = elim (f (k + 1)) [ true ↦ k + 1 | false ↦ nextFrom f left (k + 1) ]
+
+-- Each bucket leads through its elements, from the smallest number up.
 pub record Indexed (s : List ℕ) (es : List Element) (elements index : List ℕ) : Type 0 where
   pub accepted : Accepts s es
   pub few : length es ≤ 64
   pub recorded : Recorded elements es
-  pub largest : (b : ℕ) → b < 256 → getD index (65 + b) 0 ≡ search (isIn s es b) (length es)
-  pub smaller : (b k : ℕ) → 1 ≤ k → k ≤ length es → isIn s es b k ≡ Bool.true → getD index k 0 ≡ search (isIn s es b) (k - 1)
+  pub smallest : (b : ℕ) → b < 256 → getD index (65 + b) 0 ≡ nextFrom (isIn s es b) (length es) 0
+  pub larger : (b k : ℕ) → 1 ≤ k → k ≤ length es → isIn s es b k ≡ true → getD index k 0 ≡ nextFrom (isIn s es b) (length es - k) k
 
 -- Some elements are indexed so.
 abbrev pub AnyIndexed : (s elements index : List ℕ) → Type 0

@@ -1,15 +1,17 @@
 // The elements of a type by name.
 //
-// `index`: number k is the next smaller element whose name has the same length and first letter as that of k, or 0.
-// Number 65 + b is the largest element of the bucket b. `elements` are the records of the type's elements.
+// `index`: number k is the next larger element whose name has the same length and first letter as that of k, or 0.
+// Number 65 + b is the smallest element of the bucket b. `elements` are the records of the type's elements.
 ghost use mathlib.Core.Path.{_≡_};
 ghost use mathlib.Core.List.{List};
 ghost use Prim.Native.Nat.{_+_, _-_, _*_, _≤_, _<_};
 ghost use lib.ListN.{length, getD, replicate};
-ghost use Rattle.rules.specs.Bytes.{byteAt};
+ghost use mathlib.Core.Bool.{true};
+ghost use Rattle.rules.specs.Bytes.{byteAt, letter};
 ghost use Rattle.rules.specs.TypeFile.{Element};
 ghost use Rattle.rules.specs.Judge.{Accepts};
 ghost use Rattle.rules.specs.Settling.{numberOf};
+ghost use Rattle.rules.specs.Lookup.{compared};
 ghost use Rattle.element_reader.specs.Means.{Recorded};
 ghost use Rattle.element_index.specs.Means.{Judged, bucketOf, Indexed, AnyIndexed, putIn};
 
@@ -41,7 +43,14 @@ fn offset(elements: &[u32; 384], k: usize) -> usize
     widened(elements[6 * (k - 1)])
 }
 
-// Which element has the name of this size at `at` of t, or 0. The type file is s.
+// An element by its name, 0 if none has it, and with how many names that name was compared.
+pub struct Found {
+    pub element: usize,
+    pub compared: usize,
+}
+
+// Which element has the name of this size at `at` of t, which begins with a letter. The type file is s. Only names of the same length and
+// first letter are compared, in declaration order, up to the one that is found.
 pub fn find(
     s: &[u8],
     elements: &[u32; 384],
@@ -49,21 +58,29 @@ pub fn find(
     t: &[u8],
     at: usize,
     size: usize,
-) -> usize
+) -> Found
     requires { ⌜ AnyIndexed (now s) (now elements) (now index) ⌝ }
-    requires { ⌜ (1 ≤ size) × (size ≤ 8) × (at < 4294967296) ⌝ }
+    requires { ⌜ (1 ≤ size) × (size ≤ 8) × (at < 4294967296) × (letter (byteAt (now t) at) ≡ true) ⌝ }
     ensures { λ r. ⌜ ((es : List Element) → Indexed (now (s .entry)) es (now (elements .entry)) (now (index .entry)) →
-        r ≡ numberOf (now (s .entry)) es (now (t .entry)) at size) ⌝ }
-    ensures { λ r. ⌜ r ≤ 64 ⌝ }
+        (r .element ≡ numberOf (now (s .entry)) es (now (t .entry)) at size) × (r .compared ≡ compared (now (s .entry)) es (now (t .entry)) at size)) ⌝ }
+    ensures { λ r. ⌜ (r .element ≤ 64) × (r .compared ≤ 64) ⌝ }
 {
     let mut k = wide(index[bucket(text::byte(t, at), size)]);
+    let mut n = 0;
     while k != 0 {
         if text::same_text(s, offset(elements, k), t, at, size) {
-            return k;
+            return Found {
+                element: k,
+                compared: n + 1,
+            };
         }
+        n += 1;
         k = wide(index[k]);
     }
-    0
+    Found {
+        element: 0,
+        compared: n,
+    }
 }
 
 // The element k comes before those of its bucket that are there.
@@ -85,9 +102,9 @@ pub fn fill_index(s: &[u8], elements: &[u32; 384], count: usize, index: &mut [u8
     ensures { λ _. ⌜ ((es : List Element) → Accepts (now (s .entry)) es → length es ≡ count →
         Recorded (now (elements .entry)) es → Indexed (now (s .entry)) es (now (elements .entry)) (now (index .exit))) ⌝ }
 {
-    let mut k = 1;
-    while k <= count {
+    let mut k = count;
+    while 0 < k {
         put_index(s, elements, index, k);
-        k += 1;
+        k -= 1;
     }
 }

@@ -1,4 +1,4 @@
--- The rules of paper 01, in its order: read these files to know what is promised.
+-- The rules of paper 01, in its order, and what paper 02 adds (Lookup): read these files to know what is promised.
 pub mod Bytes
 pub mod Reading
 pub mod Walk
@@ -7,4 +7,5 @@ pub mod TypeFile
 pub mod Judge
 pub mod Document
 pub mod Settling
+pub mod Lookup
 pub mod Reader

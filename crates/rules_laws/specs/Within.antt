@@ -44,6 +44,7 @@ pub record PlaceIn (s : List ℕ) (x : Place) : Type 0 where
   pub begins : x .at < length s
   pub ends : x .at + x .size ≤ length s
   pub short : x .size ≤ NAMELEN
+  pub named : 1 ≤ x .size → letter (byteAt s (x .at)) ≡ true
 
 -- The places and content tokens of a model.
 pub record Fits (s : List ℕ) (ps : List Place) (n : ℕ) : Type 0 where
@@ -191,9 +192,10 @@ module _ (s : List ℕ) where
       (λ u. record { inside = omega (arith, test-in (λ x. eqb x 42) refl s (t .at) u); fits = w .fits })
       (λ u. w)))
 
-  pub nameToken-within : (at : ℕ) (full : Bool) (ps : List Place) (n : ℕ) → at < length s → Fits s ps n → (full ≡ false → n < GRPGTCNT) → Within s (TokensIn s) (nameToken s at full ps n)
+  pub nameToken-within : (at : ℕ) (full : Bool) (ps : List Place) (n : ℕ) → letter (byteAt s at) ≡ true → Fits s ps n → (full ≡ false → n < GRPGTCNT) → Within s (TokensIn s) (nameToken s at full ps n)
   unfolding nameToken
-  nameToken-within at full ps n h f room =
+  nameToken-within at full ps n x f room =
+      let h = letter-in s at x in
       let e = nameEnd s at in
       let l = nameEnd-le s at (omega arith) in
       either
@@ -202,7 +204,7 @@ module _ (s : List ℕ) where
       (λ y. either
       full
       (λ z. stops (omega arith))
-      (λ z. reads (occurrence-in _ (record { inside = l; fits = fits-place f (room z) (record { begins = h; ends = omega (arith, nameEnd-from s at); short = ltb-false _ _ y }) }))))
+      (λ z. reads (occurrence-in _ (record { inside = l; fits = fits-place f (room z) (record { begins = h; ends = omega (arith, nameEnd-from s at); short = ltb-false _ _ y; named = λ _. x }) }))))
 
   pub dataToken-within : (at : ℕ) (full : Bool) (ps : List Place) (n : ℕ) → at < length s → Fits s ps n → (full ≡ false → n < GRPGTCNT) → Within s (TokensIn s) (dataToken s at full ps n)
   unfolding dataToken
@@ -216,7 +218,7 @@ module _ (s : List ℕ) where
       (λ y. either
       full
       (λ z. stops (omega arith))
-      (λ z. reads (record { inside = l; fits = fits-place f (room z) (record { begins = h; ends = omega arith; short = omega arith }) })))
+      (λ z. reads (record { inside = l; fits = fits-place f (room z) (record { begins = h; ends = omega arith; short = omega arith; named = λ l. absurd (omega arith) }) })))
       (λ y. either (isCut s (at + 1) e PCDATA) (λ z. stops (omega arith)) (λ z. stops (omega arith))))
       (λ x. stops (omega arith))
 
@@ -231,7 +233,7 @@ module _ (s : List ℕ) where
         let b = byteAt s at in
         either
         (letter b)
-        (λ x. nameToken-within at full ps n (letter-in s at x) f room)
+        (λ x. nameToken-within at full ps n x f room)
         (λ x. either
         (eqb b 35)
         (λ y. dataToken-within at full ps n (test-in (λ v. eqb v 35) refl s at y) f room)

@@ -43,7 +43,7 @@ readsAs s p q (got []) = false
 readsAs s p q (got (e ∷ [])) = ofContent s p q (e .content)
 readsAs s p q (got (e ∷ (f ∷ es))) = false
 
-false-is : {A : Type 0} → false ≡ true → A
+pub false-is : {A : Type 0} → false ≡ true → A
 false-is e = let z : _≡_ {A = ℕ} 0 1 = cc in absurd (omega arith)
 
 pair-is : (r : ℕ × ℕ) (p q : ℕ) → isPair r p q ≡ true → (r .0 ≡ p) × (r .1 ≡ q)

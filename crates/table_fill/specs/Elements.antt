@@ -28,7 +28,7 @@ use Rattle.table_fill.specs.Places.{PlacesPut, places-none}
 use Rattle.table_fill.specs.Filled.{Filled, RowsFor, TagsPut, filled-more}
 use Rattle.table_fill.specs.Kinds.{rows-model, rows-empty}
 use Rattle.table_fill.specs.Again.{ReadsAs, recorded-name, recorded-start, recorded-end, recorded-kind, content-at, reads-again}
-use Rattle.table_fill.specs.Names.{NamesShort, PlacesDue}
+use Rattle.table_fill.specs.Names.{IsName, NamesFit, PlacesDue}
 
 -- Both omissions and the content, from the record of the element e.
 abbrev pub factsPut : (F elements : List ℕ) → ℕ → List ℕ
@@ -48,11 +48,11 @@ pub record ElementDue (s : List ℕ) (es : List Element) (elements index rows pl
   pub to : e ≤ length es
   pub filled : Filled s es rows places facts e
 
-short-at : (s : List ℕ) (ps : List Place) → All (PlaceIn s) ps → (k : ℕ) → k < length ps → placeAt ps k .size ≤ 8
+name-at : (s : List ℕ) (ps : List Place) → All (PlaceIn s) ps → (k : ℕ) → k < length ps → IsName s (placeAt ps k)
 unfolding placeAt
-short-at s [] w k h = absurd (not-suc-le-zero h)
-short-at s (x ∷ ps) (more p w) zero h = p .short
-short-at s (x ∷ ps) (more p w) (suc k) h = short-at s ps w k (le-of-suc-le-suc h)
+name-at s [] w k h = absurd (not-suc-le-zero h)
+name-at s (x ∷ ps) (more p w) zero h = (p .short, p .named)
+name-at s (x ∷ ps) (more p w) (suc k) h = name-at s ps w k (le-of-suc-le-suc h)
 
 module _ (s : List ℕ) (es : List Element) (elements index R P F : List ℕ) (e : ℕ) (due : ElementDue s es elements index R P F e) where
   abbrev k : ℕ
@@ -130,15 +130,15 @@ module _ (s : List ℕ) (es : List Element) (elements index R P F : List ℕ) (e
           by-content empty w = absurd (z (w .0))
           by-content (model g ps n) w = w .3 .places-in
 
-      names-short : (d .kind ≡ 0 → ⊥) → NamesShort names (d .places)
-      names-short z = by-content (contentOf es e) keeps (typeFile-content s es (due .indexed .accepted .elements) e)
+      names-fit : (d .kind ≡ 0 → ⊥) → NamesFit s names (d .places)
+      names-fit z = by-content (contentOf es e) keeps (typeFile-content s es (due .indexed .accepted .elements) e)
         where
-          by-content : (c : Content) → KeepsContent names table (d .kind) (d .tokens) (d .places) c → ContentIn s c → NamesShort names (d .places)
+          by-content : (c : Content) → KeepsContent names table (d .kind) (d .tokens) (d .places) c → ContentIn s c → NamesFit s names (d .places)
           by-content empty w y p a b = absurd (z (w .0))
           by-content (model g ps n) w y p a b =
               let m = w .3 in
-              subst (λ (x : Place). x .size ≤ 8) (placeAt-placesOf names (d .places) (p - 1) (omega arith))
-              (rw (m .names-hold) (short-at s ps (y .places) (p - 1) (omega (arith, m .counted))))
+              subst (IsName s) (placeAt-placesOf names (d .places) (p - 1) (omega arith))
+              (rw (m .names-hold) (name-at s ps (y .places) (p - 1) (omega (arith, m .counted))))
 
       -- With the facts of the record put.
       module _ (G : List ℕ) (put : G ≡ factsPut F elements e) where
@@ -151,7 +151,7 @@ module _ (s : List ℕ) (es : List Element) (elements index R P F : List ℕ) (e
               indexed = due .indexed;
               element = few;
               few = places-few z;
-              short = names-short z;
+              fit = names-fit z;
               places-len = due .filled .places-len;
               facts-len = tags .len;
               blank = λ j a b. tags .under j b ∙ due .filled .facts-rest j a;

@@ -1,12 +1,13 @@
 -- The names of a model's places, looked up in an indexed type, and the places filed by them.
 use Prim.Native.Nat.{ℕ, _+_, _-_, _*_, _≤_, _<_}
 use mathlib.Core.Path.{_≡_}
-use mathlib.Core.Bool.{cond}
+use mathlib.Core.Bool.{cond, true}
 use mathlib.Core.List.{List}
 use native.Mathlib.Omega.{arith}
 use lib.ListN.{length, getD}
 use lib.Dec.{eqb}
 use borrow.Author.Tests.{ne-eqb}
+use Rattle.rules.specs.Bytes.{byteAt, letter}
 use Rattle.rules.specs.TypeFile.{Place, Element}
 use Rattle.rules.specs.Settling.{numberOf}
 use Rattle.model_names.specs.Places.{placeIn, placesOf}
@@ -22,16 +23,24 @@ nameOf s es x = cond (eqb (x .size) 0) 255 (numberOf s es s (x .at) (x .size))
 pub name-some : (s : List ℕ) (es : List Element) (x : Place) (size at v : ℕ) → size ≡ x .size → at ≡ x .at → (size ≡ 0 → ⊥) → v ≡ numberOf s es s at size → v ≡ nameOf s es x
 name-some s es x size at v p q z n = rw (← p, ← q, ne-eqb size 0 z) n
 
--- No name of the first n places is longer than 8.
-abbrev pub NamesShort : List ℕ → ℕ → Type 0
-NamesShort names n = (p : ℕ) → 1 ≤ p → p ≤ n → placeIn names (p - 1) .size ≤ 8
+-- A name of at most 8 bytes that begins with a letter; `#PCDATA` has the size 0.
+abbrev pub IsName : List ℕ → Place → Type 0
+IsName s x = (x .size ≤ 8) × (1 ≤ x .size → letter (byteAt s (x .at)) ≡ true)
 
--- What is asked for the n places of the element e to be filed: their names are short, and no place of e is filed yet.
+-- What the lookup asks of the name of a place.
+pub name-asked : (s : List ℕ) (x : Place) (size at : ℕ) → size ≡ x .size → at ≡ x .at → (size ≡ 0 → ⊥) → IsName s x → letter (byteAt s at) ≡ true
+name-asked s x size at p q z n = rw q (n .1 (omega arith))
+
+-- So are those of the first n places.
+abbrev pub NamesFit : (s names : List ℕ) → ℕ → Type 0
+NamesFit s names n = (p : ℕ) → 1 ≤ p → p ≤ n → IsName s (placeIn names (p - 1))
+
+-- What is asked for the n places of the element e to be filed: their names are such, and no place of e is filed yet.
 pub record PlacesDue (s : List ℕ) (es : List Element) (elements index names places facts : List ℕ) (e n : ℕ) : Type 0 where
   pub indexed : Indexed s es elements index
   pub element : e ≤ 64
   pub few : n ≤ 96
-  pub short : NamesShort names n
+  pub fit : NamesFit s names n
   pub places-len : length places ≡ 12610
   pub facts-len : length facts ≡ 4420
   pub blank : (k : ℕ) → e * 68 ≤ k → k < e * 68 + 65 → getD facts k 0 ≡ 0

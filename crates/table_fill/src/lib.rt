@@ -17,7 +17,7 @@ ghost use Rattle.table_fill.specs.Rows.{RowPut, RowsPut};
 ghost use Rattle.table_fill.specs.Places.{slotOf, PlacePut, PlacesPut};
 ghost use Rattle.table_fill.specs.Filled.{Filled};
 ghost use Rattle.table_fill.specs.Kinds.{documentRows};
-ghost use Rattle.table_fill.specs.Names.{nameOf, PlacesDue};
+ghost use Rattle.table_fill.specs.Names.{nameOf, IsName, PlacesDue};
 ghost use Rattle.table_fill.specs.Own.{elementsOf};
 ghost use Rattle.table_fill.specs.Elements.{factsPut, Flags, ElementDue};
 
@@ -132,7 +132,7 @@ fn put_document(rows: &mut [u8; 88270], places: &mut [u8; 12610], facts: &mut [u
 // What the place p of the model whose names are in `names` names: an element, 255 for `#PCDATA`, 0 if that is not declared.
 fn name(s: &[u8], elements: &[u32; 384], index: &[u8; 321], names: &[u32; 192], p: usize) -> usize
     requires { ⌜ Indexed (now s) (elementsOf (now s)) (now elements) (now index) ⌝ }
-    requires { ⌜ (1 ≤ p) × (p ≤ 96) × (placeIn (now names) (p - 1) .size ≤ 8) ⌝ }
+    requires { ⌜ (1 ≤ p) × (p ≤ 96) × IsName (now s) (placeIn (now names) (p - 1)) ⌝ }
     ensures { λ r. ⌜ r ≡ nameOf (now (s .entry)) (elementsOf (now (s .entry))) (placeIn (now (names .entry)) (p - 1)) ⌝ }
 {
     let size = widened(names[2 * (p - 1) + 1]);
@@ -140,7 +140,8 @@ fn name(s: &[u8], elements: &[u32; 384], index: &[u8; 321], names: &[u32; 192], 
         return 255;
     }
     let at = model_names::place_at(names, p);
-    element_index::find(s, elements, index, s, at, size)
+    let f = element_index::find(s, elements, index, s, at, size);
+    f.element
 }
 
 // The places of the element e, whose model has `count` places with their names in `names`.

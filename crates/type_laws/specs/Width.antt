@@ -1,10 +1,12 @@
 -- The models of a type file that was read: as many places as names are kept of, at most 96, numbered from 1.
 use Prim.Native.Nat.{ℕ, zero, suc, _-_, _≤_}
 use mathlib.Core.Path.{_≡_, refl, subst}
+use mathlib.Core.Bool.{true}
 use mathlib.Core.List.{List, [], _∷_}
 use native.Mathlib.Omega.{arith}
 use lib.ListN.{length}
 use borrow.Author.Tests.{eqb-true}
+use Rattle.rules.specs.Bytes.{byteAt, letter}
 use Rattle.rules.specs.Reading.{got}
 use Rattle.rules.specs.Walk.{Group, place}
 use Rattle.rules.specs.TypeFile.{Place, model, Element, typeFile}
@@ -27,8 +29,9 @@ document-whole x l =
       repeats = λ p h z. absurd (let e : p - 1 ≡ 0 = omega (arith, eqb-true 1 p h) in omega (arith, rw (e, placeAt) at z));
     }
 
-document-fits : (s : List ℕ) (x : Place) → NameIn s (x .at) (x .size) → Fits s (x ∷ []) 1
-document-fits s x n = record { places = more {x = x} (record { begins = omega arith; ends = n .ends; short = n .short }) none; counted = omega arith; few = omega arith }
+document-fits : (s : List ℕ) (x : Place) → NameIn s (x .at) (x .size) → letter (byteAt s (x .at)) ≡ true → Fits s (x ∷ []) 1
+document-fits s x n l =
+    record { places = more {x = x} (record { begins = omega arith; ends = n .ends; short = n .short; named = λ _. l }) none; counted = omega arith; few = omega arith }
 
 module _ (s : List ℕ) (es : List Element) (read : typeFile s ≡ got es) where
   first-name : NameIn s (elementAt es 0 .at) (elementAt es 0 .size)
@@ -40,7 +43,7 @@ module _ (s : List ℕ) (es : List Element) (read : typeFile s ≡ got es) where
   typeFile-whole (suc k) = each-content WholeIn tt es (λ j h. typeFile-made s es read j h .whole) k
 
   pub typeFile-content : (k : ℕ) → ContentIn s (contentOf es k)
-  typeFile-content zero = document-fits s _ first-name
+  typeFile-content zero = document-fits s _ first-name (typeFile-made s es read 0 (typeFile-count s es read .0) .named)
   typeFile-content (suc k) = each-content (ContentIn s) tt es (λ j h. typeFile-element s es read j h .content) k
 
   pub typeFile-width : (k : ℕ) {g : Group} {ps : List Place} {n : ℕ} → contentOf es k ≡ model g ps n → (size g ≡ length ps) × (size g ≤ 96) × Numbered g 1

@@ -1,5 +1,5 @@
--- `fill_index` meets its contract. The invariant: whatever is recorded, the elements before k are indexed.
-use Prim.Native.Nat.{_+_, _-_, _≤_}
+-- `fill_index` meets its contract. The invariant: whatever is recorded, the elements above k are indexed.
+use Prim.Native.Nat.{_≤_}
 use mathlib.Core.Path.{_≡_}
 use mathlib.Core.List.{List}
 use native.Mathlib.Omega.{arith}
@@ -14,13 +14,12 @@ use Rattle.element_index.proofs.fill_index.Tie as tie
 
 abbrev Inv-loop : tie.InvT-loop
 Inv-loop s elements count index₀ k₀ index k =
-    (1 ≤ k)
-    × (k ≤ count + 1)
+    (k ≤ count)
     × (count ≤ 64)
     × ((es : List Element) → Accepts s es → length es ≡ count → Recorded elements es → Filled s es index k)
 
 abbrev μ-loop : tie.MeasureT-loop
-μ-loop s elements count index₀ k₀ index k = count + 1 - k
+μ-loop s elements count index₀ k₀ index k = k
 
 loop-holds : tie.Need-loop-holds Inv-loop μ-loop
 loop-holds c =
@@ -28,7 +27,7 @@ loop-holds c =
     let e = c .before .pre .1 in
     let (es, accepted, n, recorded) = c .before .pre .0 in
     let few = typeFile-count (a .s .now) es (accepted .elements) in
-    (omega arith, omega arith, omega arith, λ es accepted n recorded. filled-none (a .s .now) es (a .index .now) e)
+    (omega arith, omega arith, λ es accepted n recorded. filled-none (a .s .now) es (a .index .now) (a .count) n e)
 
 put-index-requires : tie.Need-put-index-requires Inv-loop μ-loop
 put-index-requires c κs =
@@ -39,8 +38,8 @@ put-index-requires c κs =
     let (some, short) = size-in (a .s .now) es (a .elements .now) (turn .loop .k) accepted recorded (omega arith) (omega arith) in
     (omega arith, omega arith, some, short)
 
-add-k : tie.Need-add-k Inv-loop μ-loop
-add-k c = omega arith
+sub-k : tie.Need-sub-k Inv-loop μ-loop
+sub-k c = omega arith
 
 loop-less : tie.Need-loop-less Inv-loop μ-loop
 loop-less c = omega arith
@@ -50,16 +49,16 @@ loop-again c =
     let turn = c .before .before .before in
     let a = turn .before .before .args in
     let index = turn .loop .index in
-    let (from, to, few, filled) = turn .loop .inv in
-    (omega arith, omega arith, few, λ es accepted n recorded. filled-more (a .s .now) es (a .elements .now) (turn .loop .k) accepted recorded (omega arith) (omega arith) index (filled es accepted n recorded) (c .put-index .ensures))
+    let (to, few, filled) = turn .loop .inv in
+    (omega arith, few, λ es accepted n recorded. filled-more (a .s .now) es (a .elements .now) (turn .loop .k) accepted recorded (omega arith) (omega arith) index (filled es accepted n recorded) (c .put-index .ensures))
 
 returns : tie.Need-returns Inv-loop μ-loop
 returns c =
     let a = c .before .before .before .args in
-    let (from, to, few, filled) = c .before .loop .inv in
+    let (to, few, filled) = c .before .loop .inv in
     λ es accepted n recorded. filled-all (a .s .now) es (a .elements .now) (c .before .loop .index) (c .before .loop .k) accepted recorded (omega arith) (filled es accepted n recorded)
 
 pub fill-index-spec : {M : Type 1} → statement M
 fill-index-spec =
     tie.close
-    (tie.spec Inv-loop μ-loop loop-holds put-index-requires add-k loop-less loop-again returns)
+    (tie.spec Inv-loop μ-loop loop-holds put-index-requires sub-k loop-less loop-again returns)

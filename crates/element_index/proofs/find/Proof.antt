@@ -1,20 +1,21 @@
--- `find` meets its contract. The invariant: whatever is indexed, no element above k has the name, and k is in the bucket of the name.
-use Prim.Native.Nat.{_≤_}
+-- `find` meets its contract. The invariant: whatever is indexed, k is in the bucket of the name, and the answer and the count are what n and the elements from k on give.
+use Prim.Native.Nat.{ℕ, _+_, _-_, _≤_, _<_}
+use mathlib.Core.Path.{_≡_, _∙_}
 use mathlib.Core.List.{List}
 use native.Mathlib.Omega.{arith}
 use borrow.Author.Needs.{needs}
 use Rattle.rules.specs.TypeFile.{Element}
 use Rattle.element_index.specs.Means.{Indexed}
-use Rattle.element_index.specs.Laws.{Seeks, bucket-read, seeks-start, seeks-end, seeks-found, seeks-next, next-smaller}
+use Rattle.element_index.specs.Laws.{Seeks, bucket-read, seeks-start, seeks-end, seeks-most, seeks-fewer, seeks-found, seeks-next, seeks-counted}
 use Rattle.element_index.proofs.find.Statement.{statement}
 use Rattle.element_index.proofs.find.Tie as tie
 
 abbrev Inv-loop : tie.InvT-loop
-Inv-loop s elements index t at size k₀ k =
-    (k ≤ 64) × ((es : List Element) → Indexed s es elements index → Seeks s es t at size k)
+Inv-loop s elements index t at size k₀ n₀ k n =
+    (k ≤ 64) × ((es : List Element) → Indexed s es elements index → Seeks s es t at size k n)
 
 abbrev μ-loop : tie.MeasureT-loop
-μ-loop s elements index t at size k₀ k = k
+μ-loop s elements index t at size k₀ n₀ k n = 64 - n
 
 byte-requires : tie.Need-byte-requires Inv-loop μ-loop
 byte-requires c κs = search needs
@@ -33,11 +34,21 @@ loop-holds c =
     let begun = c .before .before .before .before .before .before in
     let a = begun .args in
     let (es, x) = begun .pre .0 in
+    let (some, short, near, letter) = begun .pre .1 in
     let named = c .before .before in
     let read = bucket-read (a .index .now) (a .t .now) (a .at) (a .size) _ _ _ (named .before .byte .ensures) (named .bucket .ensures .0) (c .wide .ensures .0) in
-    let seeks : (es : List Element) → Indexed (a .s .now) es (a .elements .now) (a .index .now) → Seeks (a .s .now) es (a .t .now) (a .at) (a .size) (c .wide .result) =
-    λ es x. seeks-start (a .t .now) (a .at) (a .size) x (omega arith) (omega arith) read in
+    let seeks : (es : List Element) → Indexed (a .s .now) es (a .elements .now) (a .index .now) → Seeks (a .s .now) es (a .t .now) (a .at) (a .size) (c .wide .result) 0 =
+    λ es x. seeks-start (a .t .now) (a .at) (a .size) x some letter short read in
     (omega (arith, x .few, seeks es x .within), seeks)
+
+-- Fewer than 64 were compared where another is.
+fewer : (c : tie.In-loop Inv-loop μ-loop) → c .before .loop .n < 64
+fewer c =
+    let begun = c .before .before .before .before .before .before .before .before in
+    let a = begun .args in
+    let (es, x) = begun .pre .0 in
+    let (some, short, near, letter) = begun .pre .1 in
+    omega (arith, x .few, seeks-fewer (a .t .now) (a .at) (a .size) x some letter (c .before .loop .inv .1 es x) (omega arith))
 
 offset-requires : tie.Need-offset-requires Inv-loop μ-loop
 offset-requires c κs = omega arith
@@ -45,11 +56,23 @@ offset-requires c κs = omega arith
 same-text-requires : tie.Need-same-text-requires Inv-loop μ-loop
 same-text-requires c κs = omega arith
 
+add-t17 : tie.Need-add-t17 Inv-loop μ-loop
+add-t17 c = omega (arith, fewer (c .before .before .before))
+
+-- The pair that a law gives, with the count as the code has it.
+counted : {A : Type 0} {n m r : ℕ} → A × (n ≡ r) → m ≡ n → A × (m ≡ r)
+counted (a, e) q = (a, q ∙ e)
+
 returns : tie.Need-returns Inv-loop μ-loop
 returns c =
     let turn = c .before .before .before .before in
-    let a = turn .before .before .before .before .before .before .before .args in
-    (λ es x. seeks-found (a .t .now) (a .at) (a .size) x (omega arith) (turn .loop .inv .1 es x) (omega arith) (c .before .before .offset .ensures .0) (c .before .same-text .ensures) (c .if1 .taken), omega arith)
+    let begun = turn .before .before .before .before .before .before .before in
+    let a = begun .args in
+    let (some, short, near, letter) = begun .pre .1 in
+    (λ es x. counted (seeks-found (a .t .now) (a .at) (a .size) x some letter (turn .loop .inv .1 es x) (omega arith) (c .before .before .offset .ensures .0) (c .before .same-text .ensures) (c .if1 .taken)) (omega arith), (omega arith, omega (arith, fewer (c .before .before .before))))
+
+add-n : tie.Need-add-n Inv-loop μ-loop
+add-n c = omega (arith, fewer (c .before .before .before))
 
 element-copy-out-wide-2 : tie.Need-element-copy-out-wide-2 Inv-loop μ-loop
 element-copy-out-wide-2 c = omega arith
@@ -58,12 +81,7 @@ wide-requires-2 : tie.Need-wide-requires-2 Inv-loop μ-loop
 wide-requires-2 c κs = search needs
 
 loop-less : tie.Need-loop-less Inv-loop μ-loop
-loop-less c =
-    let turn = c .before .before .before .before .before .before in
-    let begun = turn .before .before .before .before .before .before .before in
-    let a = begun .args in
-    let (es, x) = begun .pre .0 in
-    omega (arith, c .wide2 .ensures .0, next-smaller (a .t .now) (a .at) (a .size) x (omega arith) (turn .loop .inv .1 es x) (omega arith))
+loop-less c = omega (arith, fewer (c .before .before .before .before .before))
 
 loop-again : tie.Need-loop-again Inv-loop μ-loop
 loop-again c =
@@ -72,15 +90,20 @@ loop-again c =
     let begun = turn .before .before .before .before .before .before .before in
     let a = begun .args in
     let (es, x) = begun .pre .0 in
-    let seeks : (es : List Element) → Indexed (a .s .now) es (a .elements .now) (a .index .now) → Seeks (a .s .now) es (a .t .now) (a .at) (a .size) (c .wide2 .result) =
-    λ es x. seeks-next (a .t .now) (a .at) (a .size) x (omega arith) (turn .loop .inv .1 es x) (omega arith) (missed .before .before .offset .ensures .0) (missed .before .same-text .ensures) (missed .if1 .left) (c .wide2 .ensures .0) in
-    (omega (arith, x .few, seeks es x .within), seeks)
+    let (some, short, near, letter) = begun .pre .1 in
+    let seeks : (es : List Element) → Indexed (a .s .now) es (a .elements .now) (a .index .now) → Seeks (a .s .now) es (a .t .now) (a .at) (a .size) (c .wide2 .result) (turn .loop .n + 1) =
+    λ es x. seeks-next (a .t .now) (a .at) (a .size) x some letter (turn .loop .inv .1 es x) (omega arith) (missed .before .before .offset .ensures .0) (missed .before .same-text .ensures) (missed .if1 .left) (c .wide2 .ensures .0) in
+    (omega (arith, x .few, seeks es x .within), λ es x. seeks-counted (omega arith) (seeks es x))
 
 returns-2 : tie.Need-returns-2 Inv-loop μ-loop
 returns-2 c =
     let begun = c .before .before .before .before .before .before .before .before in
     let a = begun .args in
-    (λ es x. seeks-end (a .t .now) (a .at) (a .size) x (omega arith) (c .before .loop .inv .1 es x) (c .loop-test .left), omega arith)
+    let (es, x) = begun .pre .0 in
+    let (some, short, near, letter) = begun .pre .1 in (
+      λ es x. seeks-end (a .t .now) (a .at) (a .size) x some letter (c .before .loop .inv .1 es x) (c .loop-test .left),
+      (omega arith, omega (arith, x .few, seeks-most (a .t .now) (a .at) (a .size) x some letter (c .before .loop .inv .1 es x))),
+    )
 
 pub find-spec : {M : Type 1} → statement M
 find-spec =
@@ -95,7 +118,9 @@ find-spec =
     loop-holds
     offset-requires
     same-text-requires
+    add-t17
     returns
+    add-n
     element-copy-out-wide-2
     wide-requires-2
     loop-less

@@ -23,7 +23,7 @@ loop-holds c =
 name-requires : tie.Need-name-requires Inv-loop μ-loop
 name-requires c κs =
     let pre = c .before .before .before .pre in
-    (pre .indexed, (omega arith, omega arith, pre .short (c .before .loop .p) (omega arith) (omega arith)))
+    (pre .indexed, (omega arith, omega arith, pre .fit (c .before .loop .p) (omega arith) (omega arith)))
 
 put-place-requires : tie.Need-put-place-requires Inv-loop μ-loop
 put-place-requires c κs =
