@@ -29,9 +29,9 @@ use Rattle.document_events.specs.Named.{start-tag-named, end-tag-named}
 
 -- What the index asks of a tag's name.
 abbrev pub NameAsked : List ℕ → Tag → Type 0
-NameAsked d t = (1 ≤ t .size) × (t .size ≤ 8) × (t .name < 4294967296) × (letter (byteAt d (t .name)) ≡ true)
+NameAsked d t = (1 ≤ t .size) × (t .size ≤ 8) × (t .name + t .size ≤ length d) × (letter (byteAt d (t .name)) ≡ true)
 
-module _ (d : List ℕ) (at : ℕ) (h : at < length d) (few : length d ≤ 65535) (t : Tag) where
+module _ (d : List ℕ) (at : ℕ) (h : at < length d) (t : Tag) where
   pub start-tag-asked : piece d at ≡ got (startTag t) → NameAsked d t
   start-tag-asked e =
       let (i, j, k, l) = start-tag-in d at h t e in

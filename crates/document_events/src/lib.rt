@@ -64,7 +64,7 @@ fn refusal(number: u32, at: usize) -> Counted
 // The element that a tag names, or 0.
 fn tagged(s: &[u8], elements: &[u32; 384], index: &[u8; 321], d: &[u8], t: Tag) -> u32
     requires { ⌜ AnyIndexed (now s) (now elements) (now index) ⌝ }
-    requires { ⌜ (1 ≤ t .size) × (t .size ≤ 8) × (t .name < 4294967296) × (letter (byteAt (now d) (t .name)) ≡ true) ⌝ }
+    requires { ⌜ (1 ≤ t .size) × (t .size ≤ 8) × (t .name + t .size ≤ length (now d)) × (letter (byteAt (now d) (t .name)) ≡ true) ⌝ }
     ensures { λ r. ⌜ ((es : List Element) → Indexed (now (s .entry)) es (now (elements .entry)) (now (index .entry)) →
         r ≡ numberOf (now (s .entry)) es (now (d .entry)) (t .name) (t .size)) ⌝ }
 {

@@ -294,6 +294,12 @@ module _ {s : List ℕ} {es : List Element} {elements index : List ℕ} (t : Lis
       pub seeks-fewer : n < length es
       seeks-fewer = omega (arith, count-is, some-count s es t at size (k - 1) stands alike, compared-most s es t at size)
 
+      -- The element's own name, which has the same size, lies within the type file.
+      pub seeks-within : {o : ℕ} → o ≡ getD elements (6 * (k - 1)) 0 → o + size ≤ length s
+      seeks-within f =
+          let z = eqb-true (elementAt es (k - 1) .size) size (and-left _ _ alike) in
+          omega (arith, offset-is, typeFile-sizes s es (x .accepted .elements) (k - 1) stands .2)
+
       module _ {o : ℕ} {r : Bool} (f : o ≡ getD elements (6 * (k - 1)) 0) (g : r ≡ sameText s o t at size) where
         pub seeks-found : r ≡ true → (k ≡ numberOf s es t at size) × (n + 1 ≡ compared s es t at size)
         seeks-found e =

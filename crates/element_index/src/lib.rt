@@ -7,7 +7,7 @@ ghost use mathlib.Core.List.{List};
 ghost use Prim.Native.Nat.{_+_, _-_, _*_, _≤_, _<_};
 ghost use lib.ListN.{length, getD, replicate};
 ghost use mathlib.Core.Bool.{true};
-ghost use Rattle.rules.specs.Bytes.{byteAt, letter};
+ghost use Rattle.rules.specs.Bytes.{byteAt, letter, sameText};
 ghost use Rattle.rules.specs.TypeFile.{Element};
 ghost use Rattle.rules.specs.Judge.{Accepts};
 ghost use Rattle.rules.specs.Settling.{numberOf};
@@ -43,14 +43,34 @@ fn offset(elements: &[u32; 384], k: usize) -> usize
     widened(elements[6 * (k - 1)])
 }
 
+// Whether n bytes of s from a and n bytes of t from b are equal, folded. All of them are there, so that none is asked whether it still is
+// within, as `text::same_text` does. Most that are equal are so as they stand.
+fn same_name(s: &[u8], a: usize, t: &[u8], b: usize, n: usize) -> bool
+    requires { ⌜ (a + n ≤ length (now s)) × (b + n ≤ length (now t)) ⌝ }
+    ensures { λ r. ⌜ r ≡ sameText (now (s .entry)) a (now (t .entry)) b n ⌝ }
+{
+    let mut i = 0;
+    while i < n {
+        let x = s[a + i];
+        let y = t[b + i];
+        if x != y {
+            if text::folded(x) != text::folded(y) {
+                return false;
+            }
+        }
+        i += 1;
+    }
+    true
+}
+
 // An element by its name, 0 if none has it, and with how many names that name was compared.
 pub struct Found {
     pub element: usize,
     pub compared: usize,
 }
 
-// Which element has the name of this size at `at` of t, which begins with a letter. The type file is s. Only names of the same length and
-// first letter are compared, in declaration order, up to the one that is found.
+// Which element has the name of this size at `at` of t, which lies within t and begins with a letter. The type file is s. Only names of the
+// same length and first letter are compared, in declaration order, up to the one that is found.
 pub fn find(
     s: &[u8],
     elements: &[u32; 384],
@@ -60,7 +80,7 @@ pub fn find(
     size: usize,
 ) -> Found
     requires { ⌜ AnyIndexed (now s) (now elements) (now index) ⌝ }
-    requires { ⌜ (1 ≤ size) × (size ≤ 8) × (at < 4294967296) × (letter (byteAt (now t) at) ≡ true) ⌝ }
+    requires { ⌜ (1 ≤ size) × (size ≤ 8) × (at + size ≤ length (now t)) × (letter (byteAt (now t) at) ≡ true) ⌝ }
     ensures { λ r. ⌜ ((es : List Element) → Indexed (now (s .entry)) es (now (elements .entry)) (now (index .entry)) →
         (r .element ≡ numberOf (now (s .entry)) es (now (t .entry)) at size) × (r .compared ≡ compared (now (s .entry)) es (now (t .entry)) at size)) ⌝ }
     ensures { λ r. ⌜ (r .element ≤ 64) × (r .compared ≤ 64) ⌝ }
@@ -68,7 +88,7 @@ pub fn find(
     let mut k = wide(index[bucket(text::byte(t, at), size)]);
     let mut n = 0;
     while k != 0 {
-        if text::same_text(s, offset(elements, k), t, at, size) {
+        if same_name(s, offset(elements, k), t, at, size) {
             return Found {
                 element: k,
                 compared: n + 1,

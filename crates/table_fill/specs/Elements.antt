@@ -51,7 +51,7 @@ pub record ElementDue (s : List ℕ) (es : List Element) (elements index rows pl
 name-at : (s : List ℕ) (ps : List Place) → All (PlaceIn s) ps → (k : ℕ) → k < length ps → IsName s (placeAt ps k)
 unfolding placeAt
 name-at s [] w k h = absurd (not-suc-le-zero h)
-name-at s (x ∷ ps) (more p w) zero h = (p .short, p .named)
+name-at s (x ∷ ps) (more p w) zero h = (p .short, p .ends, p .named)
 name-at s (x ∷ ps) (more p w) (suc k) h = name-at s ps w k (le-of-suc-le-suc h)
 
 module _ (s : List ℕ) (es : List Element) (elements index R P F : List ℕ) (e : ℕ) (due : ElementDue s es elements index R P F e) where

@@ -27,7 +27,7 @@ tagged-requires : tie.Need-tagged-requires
 tagged-requires c κs =
     let start = c .before .before .before .before .before .before in
     let a = start .args in
-    (start .pre .0, start-tag-asked (a .d .now) (a .at) (start .pre .1 .1 .0) (start .pre .1 .1 .1) _ (start-stands c))
+    (start .pre .0, start-tag-asked (a .d .now) (a .at) (start .pre .1 .1 .0) _ (start-stands c))
 
 undeclared-requires : tie.Need-undeclared-requires
 undeclared-requires c κs = search needs
@@ -50,7 +50,7 @@ tagged-requires-2 : tie.Need-tagged-requires-2
 tagged-requires-2 c κs =
     let start = c .before .before .before .before .before .before in
     let a = start .args in
-    (start .pre .0, end-tag-asked (a .d .now) (a .at) (start .pre .1 .1 .0) (start .pre .1 .1 .1) _ (end-stands c))
+    (start .pre .0, end-tag-asked (a .d .now) (a .at) (start .pre .1 .1 .0) _ (end-stands c))
 
 undeclared-requires-2 : tie.Need-undeclared-requires-2
 undeclared-requires-2 c κs = search needs

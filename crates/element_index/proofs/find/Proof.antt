@@ -6,7 +6,7 @@ use native.Mathlib.Omega.{arith}
 use borrow.Author.Needs.{needs}
 use Rattle.rules.specs.TypeFile.{Element}
 use Rattle.element_index.specs.Means.{Indexed}
-use Rattle.element_index.specs.Laws.{Seeks, bucket-read, seeks-start, seeks-end, seeks-most, seeks-fewer, seeks-found, seeks-next, seeks-counted}
+use Rattle.element_index.specs.Laws.{Seeks, bucket-read, seeks-start, seeks-end, seeks-most, seeks-fewer, seeks-within, seeks-found, seeks-next, seeks-counted}
 use Rattle.element_index.proofs.find.Statement.{statement}
 use Rattle.element_index.proofs.find.Tie as tie
 
@@ -34,7 +34,7 @@ loop-holds c =
     let begun = c .before .before .before .before .before .before in
     let a = begun .args in
     let (es, x) = begun .pre .0 in
-    let (some, short, near, letter) = begun .pre .1 in
+    let (some, short, inside, letter) = begun .pre .1 in
     let named = c .before .before in
     let read = bucket-read (a .index .now) (a .t .now) (a .at) (a .size) _ _ _ (named .before .byte .ensures) (named .bucket .ensures .0) (c .wide .ensures .0) in
     let seeks : (es : List Element) → Indexed (a .s .now) es (a .elements .now) (a .index .now) → Seeks (a .s .now) es (a .t .now) (a .at) (a .size) (c .wide .result) 0 =
@@ -47,14 +47,21 @@ fewer c =
     let begun = c .before .before .before .before .before .before .before .before in
     let a = begun .args in
     let (es, x) = begun .pre .0 in
-    let (some, short, near, letter) = begun .pre .1 in
+    let (some, short, inside, letter) = begun .pre .1 in
     omega (arith, x .few, seeks-fewer (a .t .now) (a .at) (a .size) x some letter (c .before .loop .inv .1 es x) (omega arith))
 
 offset-requires : tie.Need-offset-requires Inv-loop μ-loop
 offset-requires c κs = omega arith
 
-same-text-requires : tie.Need-same-text-requires Inv-loop μ-loop
-same-text-requires c κs = omega arith
+same-name-requires : tie.Need-same-name-requires Inv-loop μ-loop
+same-name-requires c κs =
+    let turn = c .before .before in
+    let begun = turn .before .before .before .before .before .before .before in
+    let a = begun .args in
+    let (es, x) = begun .pre .0 in
+    let (some, short, inside, letter) = begun .pre .1 in
+    let own = seeks-within (a .t .now) (a .at) (a .size) x some letter (turn .loop .inv .1 es x) (omega arith) (c .offset .ensures .0) in
+    (omega arith, omega arith)
 
 add-t17 : tie.Need-add-t17 Inv-loop μ-loop
 add-t17 c = omega (arith, fewer (c .before .before .before))
@@ -68,8 +75,8 @@ returns c =
     let turn = c .before .before .before .before in
     let begun = turn .before .before .before .before .before .before .before in
     let a = begun .args in
-    let (some, short, near, letter) = begun .pre .1 in
-    (λ es x. counted (seeks-found (a .t .now) (a .at) (a .size) x some letter (turn .loop .inv .1 es x) (omega arith) (c .before .before .offset .ensures .0) (c .before .same-text .ensures) (c .if1 .taken)) (omega arith), (omega arith, omega (arith, fewer (c .before .before .before))))
+    let (some, short, inside, letter) = begun .pre .1 in
+    (λ es x. counted (seeks-found (a .t .now) (a .at) (a .size) x some letter (turn .loop .inv .1 es x) (omega arith) (c .before .before .offset .ensures .0) (c .before .same-name .ensures) (c .if1 .taken)) (omega arith), (omega arith, omega (arith, fewer (c .before .before .before))))
 
 add-n : tie.Need-add-n Inv-loop μ-loop
 add-n c = omega (arith, fewer (c .before .before .before))
@@ -90,9 +97,9 @@ loop-again c =
     let begun = turn .before .before .before .before .before .before .before in
     let a = begun .args in
     let (es, x) = begun .pre .0 in
-    let (some, short, near, letter) = begun .pre .1 in
+    let (some, short, inside, letter) = begun .pre .1 in
     let seeks : (es : List Element) → Indexed (a .s .now) es (a .elements .now) (a .index .now) → Seeks (a .s .now) es (a .t .now) (a .at) (a .size) (c .wide2 .result) (turn .loop .n + 1) =
-    λ es x. seeks-next (a .t .now) (a .at) (a .size) x some letter (turn .loop .inv .1 es x) (omega arith) (missed .before .before .offset .ensures .0) (missed .before .same-text .ensures) (missed .if1 .left) (c .wide2 .ensures .0) in
+    λ es x. seeks-next (a .t .now) (a .at) (a .size) x some letter (turn .loop .inv .1 es x) (omega arith) (missed .before .before .offset .ensures .0) (missed .before .same-name .ensures) (missed .if1 .left) (c .wide2 .ensures .0) in
     (omega (arith, x .few, seeks es x .within), λ es x. seeks-counted (omega arith) (seeks es x))
 
 returns-2 : tie.Need-returns-2 Inv-loop μ-loop
@@ -100,7 +107,7 @@ returns-2 c =
     let begun = c .before .before .before .before .before .before .before .before in
     let a = begun .args in
     let (es, x) = begun .pre .0 in
-    let (some, short, near, letter) = begun .pre .1 in (
+    let (some, short, inside, letter) = begun .pre .1 in (
       λ es x. seeks-end (a .t .now) (a .at) (a .size) x some letter (c .before .loop .inv .1 es x) (c .loop-test .left),
       (omega arith, omega (arith, x .few, seeks-most (a .t .now) (a .at) (a .size) x some letter (c .before .loop .inv .1 es x))),
     )
@@ -117,7 +124,7 @@ find-spec =
     wide-requires
     loop-holds
     offset-requires
-    same-text-requires
+    same-name-requires
     add-t17
     returns
     add-n

@@ -35,8 +35,8 @@ find-requires : tie.Need-find-requires
 find-requires c κs =
     let tested = c .before in
     let start = tested .before .before .before .before in
-    let letter = name-asked (start .args .s .now) _ _ _ (tested .before .widened .ensures .0) (c .place-at .ensures .0) (tested .if1 .left) (start .pre .1 .2) in
-    ((_, start .pre .0), (omega arith, omega arith, omega arith, letter))
+    let (inside, letter) = name-asked (start .args .s .now) _ _ _ (tested .before .widened .ensures .0) (c .place-at .ensures .0) (tested .if1 .left) (start .pre .1 .2) in
+    ((_, start .pre .0), (omega arith, omega arith, inside, letter))
 
 returns-2 : tie.Need-returns-2
 returns-2 c =
