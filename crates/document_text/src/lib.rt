@@ -239,17 +239,21 @@ pub fn token_at(s: &[u8], i: usize) -> Token
     byte_at(s, i)
 }
 
-// Whether a byte may begin something else than data: `<`, `&`, `]`, or byte 10.
+// Whether a byte may begin something else than data: `<`, `&`, `]`, or byte 10. Most data bytes are past by one or two
+// comparisons.
 fn is_special(b: u8) -> bool
     ensures { λ r. ⌜ r ≡ special b ⌝ }
 {
-    if b == b'<' {
-        return true;
+    if b'^' <= b {
+        return false;
+    }
+    if b'=' <= b {
+        return b == b']';
+    }
+    if b'\'' <= b {
+        return b == b'<';
     }
     if b == b'&' {
-        return true;
-    }
-    if b == b']' {
         return true;
     }
     b == 10
