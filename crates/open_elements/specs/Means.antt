@@ -1,22 +1,23 @@
 -- What the open elements of the code stand for, in the rules' terms.
-use Prim.Native.Nat.{ℕ, zero, suc, _+_, _-_, _*_, _≤_}
+use Prim.Native.Nat.{ℕ, zero, suc, _+_, _-_, _*_, _≤_, _<_}
 use mathlib.Core.Path.{_≡_}
+use mathlib.Core.Bool.{Bool, false}
 use mathlib.Core.List.{List, [], _∷_, _++_}
 use lib.ListN.{length, getD, set, replicate}
 use Rattle.rules.specs.Reading.{Reading, refused, got}
 use Rattle.rules.specs.TypeFile.{Element}
-use Rattle.rules.specs.Judge.{Accepts}
-use Rattle.rules.specs.Settling.{Event, State}
+use Rattle.rules.specs.Settling.{Event, State, contentOf}
 use Rattle.rules.specs.Settling as rules
-use Rattle.last_places.specs.Last.{Sound}
-use Rattle.type_tables.specs.Means.{standing, Rows, Facts, Tables}
+use Rattle.document_laws.specs.Decide.{isCompleteIn, requiredOf}
+use Rattle.last_places.specs.Last.{placed, Sound}
+use Rattle.type_tables.specs.Means.{standing, completeAt, requiredAt, Facts, Tables}
 use Rattle.open_elements.specs.declared.Entry.{Entry}
 use Rattle.open_elements.specs.declared.Open.{Open}
 
 -- The state
 
 abbrev pub none : Entry
-none = record { element = 0; place = 0 }
+none = record { element = 0; place = 0; complete = false; required = 0 }
 
 abbrev pub opened : Entry → rules.Open
 opened x = standing (x .element) (x .place)
@@ -43,38 +44,81 @@ Fresh o = (o .events ≡ 0) × (o .number ≡ 0)
 -- What the methods do
 
 abbrev pub fresh : Open
-fresh = record { around = replicate 24 none; count = 0; element = 0; place = 0; events = 0; number = 0 }
+fresh = record { around = replicate 24 none; count = 0; element = 0; place = 0; complete = false; required = 1; events = 0; number = 0 }
 
-abbrev pub took : ℕ → Open → Open
-took p o = record { around = o .around; count = o .count; element = o .element; place = p; events = o .events; number = o .number }
-
-abbrev pub opening : ℕ → Open → Open
-opening k o =
+-- The marks are those that the rows have after the place.
+abbrev pub took : (rows : List ℕ) → ℕ → Open → Open
+took rows p o =
     record {
-      around = set (o .around) (o .count) (record { element = o .element; place = o .place });
-      count = o .count + 1;
-      element = k;
-      place = 0;
+      around = o .around;
+      count = o .count;
+      element = o .element;
+      place = p;
+      complete = completeAt rows (o .element) p;
+      required = requiredAt rows (o .element) p;
       events = o .events;
       number = o .number;
     }
+
+-- What is kept of the current element where another is opened in it.
+abbrev pub covered : Open → Entry
+covered o = record { element = o .element; place = o .place; complete = o .complete; required = o .required }
+
+abbrev pub opening : (rows : List ℕ) → ℕ → Open → Open
+opening rows k o =
+    record {
+      around = set (o .around) (o .count) (covered o);
+      count = o .count + 1;
+      element = k;
+      place = 0;
+      complete = completeAt rows k 0;
+      required = requiredAt rows k 0;
+      events = o .events;
+      number = o .number;
+    }
+
+-- The innermost of those around the current element.
+abbrev pub parentOf : Open → Entry
+parentOf o = getD (o .around) (o .count - 1) none
 
 abbrev pub ended : Open → Open
 ended o =
     record {
       around = o .around;
       count = o .count - 1;
-      element = getD (o .around) (o .count - 1) none .element;
-      place = getD (o .around) (o .count - 1) none .place;
+      element = parentOf o .element;
+      place = parentOf o .place;
+      complete = parentOf o .complete;
+      required = parentOf o .required;
       events = o .events;
       number = o .number;
     }
 
 abbrev pub bringing : ℕ → Open → Open
-bringing n o = record { around = o .around; count = o .count; element = o .element; place = o .place; events = n; number = o .number }
+bringing n o =
+    record {
+      around = o .around;
+      count = o .count;
+      element = o .element;
+      place = o .place;
+      complete = o .complete;
+      required = o .required;
+      events = n;
+      number = o .number;
+    }
 
 abbrev pub refusing : ℕ → Open → Open
-refusing n o = record { around = o .around; count = o .count; element = o .element; place = o .place; events = o .events; number = n }
+refusing n o =
+    record {
+      around = o .around;
+      count = o .count;
+      element = o .element;
+      place = o .place;
+      complete = o .complete;
+      required = o .required;
+      events = o .events;
+      number = n;
+    }
 
 -- Events
 
@@ -107,16 +151,24 @@ closed at o events before = closedOf at (o .number) (before ++ eventsIn events (
 
 -- What holds from token to token
 
--- At most 24 are open, each an element of the type at a place of its model; the array has room for as many.
+-- The marks of an open element are what the definition says after the place that was taken last in it.
+pub record Marked (es : List Element) (x : Entry) : Type 0 where
+  pub complete : x .complete ≡ isCompleteIn (contentOf es (x .element)) (placed (x .place))
+  pub required : x .required ≡ requiredOf (contentOf es (x .element)) (placed (x .place))
+
+-- At most 24 are open, each an element of the type at a place of its model; the array has room for as many. The marks are right for the
+-- current element and for each around it.
 pub record Stands (es : List Element) (o : Open) : Type 0 where
   pub whole : length (o .around) ≡ 24
   pub few : o .count ≤ 24
   pub sound : Sound es (current o) (around o)
+  pub marked : Marked es (covered o)
+  pub kept : (k : ℕ) → k < o .count → Marked es (getD (o .around) k none)
 
 -- The tables are those of some type, of which these elements are open and which has so many elements.
 abbrev pub AnyStands : (rows places facts : List ℕ) → Open → ℕ → Type 0
 AnyStands rows places facts o x = (s : List ℕ) × (es : List Element) × Tables s es rows places facts × Stands es o × (x ≤ length es)
 
--- The same for what closing asks of the tables; that a model has at most 96 places is known of an accepted type.
-abbrev pub AnyClosing : (rows facts : List ℕ) → Open → Type 0
-AnyClosing rows facts o = (s : List ℕ) × (es : List Element) × Accepts s es × (length es ≤ 64) × Rows es rows × Facts s es facts × Stands es o
+-- The same for what closing asks of the tables.
+abbrev pub AnyClosing : (facts : List ℕ) → Open → Type 0
+AnyClosing facts o = (s : List ℕ) × (es : List Element) × (length es ≤ 64) × Facts s es facts × Stands es o

@@ -8,13 +8,16 @@ ghost use lib.ListN.{length};
 ghost use Rattle.rules.specs.Settling.{isOpen, endInferred};
 ghost use Rattle.open_elements.specs.Means.{fresh, took, opening, ended, bringing, refusing, around, current, eventsIn, noted};
 
-// An open element and the place that was taken last in it, or 0.
+// An open element, the place that was taken last in it, or 0, and its marks: whether its content is complete there, and
+// the place that is required, or 0.
 pub struct Entry {
     pub element: u8,
     pub place: u8,
+    pub complete: bool,
+    pub required: u8,
 }
 
-// The state from token to token. The current element and the place that was taken last in it, how many elements are
+// The state from token to token. The current element, the place that was taken last in it and its marks, how many elements are
 // open, and what lies around the current one, the outermost first: the document itself (element 0), then the open
 // elements down to its parent. Where nothing is open the current element is the document. Then of the last token: how
 // many events it brought, and the refusal number or 0.
@@ -23,6 +26,8 @@ pub struct Open {
     pub count: usize,
     pub element: usize,
     pub place: usize,
+    pub complete: bool,
+    pub required: usize,
     pub events: usize,
     pub number: u32,
 }
@@ -33,20 +38,22 @@ fn wide(b: u8) -> usize
     b as usize
 }
 
-fn entry_of(element: usize, place: usize) -> Entry
-    requires { ⌜ (element < 256) × (place < 256) ⌝ }
-    ensures { λ r. ⌜ r ≡ record { element = element; place = place } ⌝ }
+fn entry_of(element: usize, place: usize, complete: bool, required: usize) -> Entry
+    requires { ⌜ (element < 256) × (place < 256) × (required < 256) ⌝ }
+    ensures { λ r. ⌜ r ≡ record { element = element; place = place; complete = complete; required = required } ⌝ }
 {
     Entry {
         element: element as u8,
         place: place as u8,
+        complete: complete,
+        required: required as u8,
     }
 }
 
 // The array is moved to a local and the struct made anew where an entry is written or read: the other fields then stay in
 // registers.
 impl Open {
-    // Nothing is open yet.
+    // Nothing is open yet: the document element is required.
     pub fn new() -> Self
         ensures { λ r. ⌜ r ≡ fresh ⌝ }
     {
@@ -54,36 +61,46 @@ impl Open {
             around: [Entry {
                 element: 0,
                 place: 0,
+                complete: false,
+                required: 0,
             }; 24],
             count: 0,
             element: 0,
             place: 0,
+            complete: false,
+            required: 1,
             events: 0,
             number: 0,
         }
     }
 
-    // The place is taken in the current element.
-    pub fn take(mut self, place: usize) -> Self
-        ensures { λ r. ⌜ r ≡ took place self ⌝ }
+    // The place is taken in the current element: its marks are those after this place.
+    pub fn take(mut self, rows: &[u8; 88270], place: usize) -> Self
+        requires { ⌜ (self .element ≤ 64) × (place ≤ 96) ⌝ }
+        ensures { λ r. ⌜ r ≡ took (now (rows .entry)) place self ⌝ }
     {
+        let e = self.element;
         self.place = place;
+        self.complete = type_tables::complete(rows, e, place);
+        self.required = type_tables::required(rows, e, place);
         self
     }
 
-    // The element is opened.
-    pub fn start(self, element: usize) -> Self
-        requires { ⌜ (self .count < 24) × (self .element < 256) × (self .place < 256) ⌝ }
-        ensures { λ r. ⌜ r ≡ opening element self ⌝ }
+    // The element is opened, with the marks of its start. The marks of the one around it are kept with it.
+    pub fn start(self, rows: &[u8; 88270], element: usize) -> Self
+        requires { ⌜ (self .count < 24) × (self .element < 256) × (self .place < 256) × (self .required < 256) × (element ≤ 64) ⌝ }
+        ensures { λ r. ⌜ r ≡ opening (now (rows .entry)) element self ⌝ }
     {
         let n = self.count;
         let mut around = self.around;
-        around[n] = entry_of(self.element, self.place);
+        around[n] = entry_of(self.element, self.place, self.complete, self.required);
         Open {
             around: around,
             count: n + 1,
             element: element,
             place: 0,
+            complete: type_tables::complete(rows, element, 0),
+            required: type_tables::required(rows, element, 0),
             events: self.events,
             number: self.number,
         }
@@ -102,6 +119,8 @@ impl Open {
             count: n,
             element: wide(parent.element),
             place: wide(parent.place),
+            complete: parent.complete,
+            required: wide(parent.required),
             events: self.events,
             number: self.number,
         }

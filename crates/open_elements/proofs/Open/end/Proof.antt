@@ -19,10 +19,13 @@ wide-requires c κs = search needs
 wide-requires-2 : tie.Need-wide-requires-2
 wide-requires-2 c κs = search needs
 
+wide-requires-3 : tie.Need-wide-requires-3
+wide-requires-3 c κs = search needs
+
 returns : tie.Need-returns
-returns c = ended-by (c .before .before .before .before .before .args .self) (c .before .wide .ensures) (c .wide2 .ensures)
+returns c = ended-by (c .before .before .before .before .before .before .args .self) (c .before .before .wide .ensures) (c .before .wide2 .ensures) (c .wide3 .ensures)
 
 pub end-spec : {M : Type 1} → statement M
 end-spec =
     tie.close
-    (tie.spec sub-n mul-parent array-copy-out-parent wide-requires wide-requires-2 returns)
+    (tie.spec sub-n mul-parent array-copy-out-parent wide-requires wide-requires-2 wide-requires-3 returns)
