@@ -1,6 +1,6 @@
 // How an end tag and the document's end close open elements.
 //
-// `rows` and `facts` are tables of the type (crate type_tables).
+// `facts` is a table of the type (crate type_tables). Whether an open element is complete is kept with it.
 use open_elements::Open;
 ghost use mathlib.Core.Path.{_≡_};
 ghost use mathlib.Core.List.{List};
@@ -9,16 +9,16 @@ ghost use Rattle.rules.specs.TypeFile.{Element};
 ghost use Rattle.rules.specs.Settling.{Event, endElement, endDocument};
 ghost use Rattle.document_laws.specs.Decide.{decided};
 ghost use Rattle.last_places.specs.Last.{shortly};
-ghost use Rattle.type_tables.specs.Means.{Rows, Facts};
+ghost use Rattle.type_tables.specs.Means.{Facts};
 ghost use Rattle.open_elements.specs.Means.{stateOf, outcome, closed, Stands, AnyClosing, Fresh};
 ghost use Rattle.closing.specs.Means.{Judges, Until};
 
 // Why the current element cannot have its end inferred by an end tag or the document's end: 13, 14, or 0 if it can.
-fn end_fault(rows: &[u8; 88270], facts: &[u8; 4420], state: Open) -> u32
-    requires { ⌜ (state .element ≤ 64) × (state .place ≤ 96) ⌝ }
-    ensures { λ r. ⌜ (r < 20) × Judges (now (rows .entry)) (now (facts .entry)) state r ⌝ }
+fn end_fault(facts: &[u8; 4420], state: Open) -> u32
+    requires { ⌜ state .element ≤ 64 ⌝ }
+    ensures { λ r. ⌜ (r < 20) × Judges (now (facts .entry)) state r ⌝ }
 {
-    let complete = type_tables::complete(rows, state.element, state.place);
+    let complete = state.complete;
     let omitted = type_tables::end_omitted(facts, state.element);
     if !complete {
         return 13;
@@ -31,23 +31,22 @@ fn end_fault(rows: &[u8; 88270], facts: &[u8; 4420], state: Open) -> u32
 
 // Ends are inferred until the current element is x, or there is nothing around it.
 fn end_until(
-    rows: &[u8; 88270],
     facts: &[u8; 4420],
     state: Open,
     x: usize,
     at: usize,
     events: &mut [u32; 200],
 ) -> Open
-    requires { ⌜ AnyClosing (now rows) (now facts) state ⌝ }
+    requires { ⌜ AnyClosing (now facts) state ⌝ }
     requires { ⌜ Fresh state × (at < 4294967296) ⌝ }
-    ensures { λ r. ⌜ Until (now (rows .entry)) (now (facts .entry)) x at state (now (events .entry)) r (now (events .exit)) ⌝ }
+    ensures { λ r. ⌜ Until (now (facts .entry)) x at state (now (events .entry)) r (now (events .exit)) ⌝ }
 {
     let mut o = state;
     while 0 < o.count {
         if o.element == x {
             return o;
         }
-        let f = end_fault(rows, facts, o);
+        let f = end_fault(facts, o);
         if f != 0 {
             return o.refused(f);
         }
@@ -59,7 +58,6 @@ fn end_until(
 
 // The end tag of the element x, from `at` to `after`.
 pub fn end_tag(
-    rows: &[u8; 88270],
     facts: &[u8; 4420],
     state: Open,
     x: usize,
@@ -67,24 +65,24 @@ pub fn end_tag(
     after: usize,
     events: &mut [u32; 200],
 ) -> Open
-    requires { ⌜ AnyClosing (now rows) (now facts) state ⌝ }
+    requires { ⌜ AnyClosing (now facts) state ⌝ }
     requires { ⌜ Fresh state × (at ≤ after) × (after < 4294967296) × (1 ≤ x) × (x ≤ 64) ⌝ }
-    ensures { λ r. ⌜ ((s : List ℕ) (es : List Element) → Rows es (now (rows .entry)) → Facts s es (now (facts .entry)) → Stands es state → (before : List Event) →
+    ensures { λ r. ⌜ ((s : List ℕ) (es : List Element) → Facts s es (now (facts .entry)) → Stands es state → (before : List Event) →
         outcome at r (now (events .exit)) before ≡ shortly (endElement s es (decided s es) x at after (stateOf state before))) ⌝ }
-    ensures { λ r. ⌜ ((s : List ℕ) (es : List Element) → Rows es (now (rows .entry)) → Facts s es (now (facts .entry)) → Stands es state → r .number ≡ 0 → Stands es r) ⌝ }
+    ensures { λ r. ⌜ ((s : List ℕ) (es : List Element) → Facts s es (now (facts .entry)) → Stands es state → r .number ≡ 0 → Stands es r) ⌝ }
     ensures { λ r. ⌜ (r .events ≤ 50) × (r .number < 20) ⌝ }
 {
     if !open_elements::is_open(state, x) {
         return state.refused(11);
     }
-    let o = end_until(rows, facts, state, x, at, events);
+    let o = end_until(facts, state, x, at, events);
     if o.number != 0 {
         return o;
     }
     if o.count == 0 {
         return o.refused(11);
     }
-    if !type_tables::complete(rows, x, o.place) {
+    if !o.complete {
         return o.refused(13);
     }
     let n = open_elements::put_event(events, o.events, 3, x, at, after - at);
@@ -93,23 +91,22 @@ pub fn end_tag(
 
 // The document's end, at its length.
 pub fn finish(
-    rows: &[u8; 88270],
     facts: &[u8; 4420],
     state: Open,
     at: usize,
     events: &mut [u32; 200],
 ) -> Open
-    requires { ⌜ AnyClosing (now rows) (now facts) state ⌝ }
+    requires { ⌜ AnyClosing (now facts) state ⌝ }
     requires { ⌜ Fresh state × (at < 4294967296) ⌝ }
-    ensures { λ r. ⌜ ((s : List ℕ) (es : List Element) → Rows es (now (rows .entry)) → Facts s es (now (facts .entry)) → Stands es state → (before : List Event) →
+    ensures { λ r. ⌜ ((s : List ℕ) (es : List Element) → Facts s es (now (facts .entry)) → Stands es state → (before : List Event) →
         closed at r (now (events .exit)) before ≡ endDocument s es (decided s es) at (stateOf state before)) ⌝ }
     ensures { λ r. ⌜ (r .events ≤ 50) × (r .number < 20) ⌝ }
 {
-    let o = end_until(rows, facts, state, 0, at, events);
+    let o = end_until(facts, state, 0, at, events);
     if o.number != 0 {
         return o;
     }
-    if !type_tables::complete(rows, o.element, o.place) {
+    if !o.complete {
         return o.refused(18);
     }
     o

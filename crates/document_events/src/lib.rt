@@ -136,7 +136,7 @@ fn settled(
         Piece::Token(x, e) => {
             settling::token(rows, places, facts, state, widened(x), at, e, events)
         }
-        Piece::End(x, e) => closing::end_tag(rows, facts, state, widened(x), at, e, events),
+        Piece::End(x, e) => closing::end_tag(facts, state, widened(x), at, e, events),
         Piece::Passed(_) => state,
         Piece::Refused(_) => state,
     }
@@ -217,7 +217,7 @@ pub fn events_of(
         o = t;
         o.events = 0;
     }
-    let l = closing::finish(rows, facts, o, at, &mut events);
+    let l = closing::finish(facts, o, at, &mut events);
     if l.number != 0 {
         return refusal(l.number, at);
     }

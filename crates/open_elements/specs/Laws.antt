@@ -16,7 +16,7 @@ use Rattle.rules.specs.Settling as rules
 use Rattle.document_laws.specs.Decide.{isCompleteIn, requiredOf}
 use Rattle.last_places.specs.Last.{lastOnly, allLast, short, InRange, Sound}
 use Rattle.last_places.specs.Short.{last-placed}
-use Rattle.type_tables.specs.Means.{standing, width, completeAt, requiredAt, Rows}
+use Rattle.type_tables.specs.Means.{standing, width, completeAt, requiredAt, Rows, Requires}
 use Rattle.type_tables.specs.Ranges.{width-most, required-most}
 use Rattle.open_elements.specs.declared.Entry.{Entry}
 use Rattle.open_elements.specs.declared.Open.{Open}
@@ -128,6 +128,10 @@ around-parts {es} {o} h l = subst (λ (os : List rules.Open). Sound es (current 
 
 pub stands-element : {es : List Element} {o : Open} → Stands es o → 1 ≤ o .count → 1 ≤ o .element
 stands-element h l = around-parts h l .0
+
+-- The place that is kept as required is required after the place taken last.
+pub stands-requires : {es : List Element} {o : Open} → Stands es o → Requires es (o .element) (o .required) (o .place)
+stands-requires h = record { range = stands-range h; required = h .marked .required }
 
 -- The required place is one of the model's, or 0.
 pub stands-required : {s : List ℕ} {es : List Element} {o : Open} → Accepts s es → Stands es o → o .required ≤ 96

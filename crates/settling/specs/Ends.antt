@@ -1,7 +1,7 @@
 -- When an end is inferred, and when the document is over.
 use Prim.Native.Nat.{ℕ, suc, zero, _≤_}
-use mathlib.Core.Path.{_≡_, refl, sym, _∙_, ap, subst}
-use mathlib.Core.Bool.{Bool, true, false, not, _&&_}
+use mathlib.Core.Path.{_≡_, refl, sym, _∙_, ap}
+use mathlib.Core.Bool.{true, false, not, _&&_}
 use mathlib.Core.List.{List}
 use native.Mathlib.Omega.{arith}
 use lib.Dec.{eqb, leb}
@@ -9,8 +9,7 @@ use borrow.Author.Tests.{le-leb, ne-eqb}
 use Rattle.rules.specs.TypeFile.{Element}
 use Rattle.rules.specs.Settling.{start, endO, Event, isOver}
 use Rattle.document_laws.specs.Decide.{decided}
-use Rattle.last_places.specs.Last.{placed, InRange}
-use Rattle.type_tables.specs.Means.{standing, Declares}
+use Rattle.type_tables.specs.Means.{Declares}
 use Rattle.open_elements.specs.declared.Open.{Open}
 use Rattle.open_elements.specs.Means.{stateOf, current, around, ended, Stands}
 use Rattle.open_elements.specs.Laws.{around-ended, around-none, stands-range, stands-element}
@@ -21,11 +20,8 @@ module _ (s : List ℕ) {es : List Element} {o : Open} (stands : Stands es o) wh
   pub open-goes-on : (o .element ≡ 0 → ⊥) → (before : List Event) → false ≡ isOver s es (decided s es) (stateOf o before)
   open-goes-on h before = rw (ne-eqb (o .element) 0 h)
 
-  pub over-if-complete : o .element ≡ 0 → (b : Bool) → (InRange es (standing 0 (o .place)) → b ≡ decided s es .complete 0 (placed (o .place)))
-      → (before : List Event) → b ≡ isOver s es (decided s es) (stateOf o before)
-  over-if-complete z b says before =
-      let range : InRange es (standing 0 (o .place)) = subst (λ (e : ℕ). InRange es (standing e (o .place))) z (stands-range stands) in
-      says range ∙ rw z
+  pub over-if-complete : o .element ≡ 0 → (before : List Event) → o .complete ≡ isOver s es (decided s es) (stateOf o before)
+  over-if-complete z before = stands .marked .complete ∙ rw z
 
   -- Nothing is open: no end is inferred.
   pub none-ends : o .count ≡ 0 → false ≡ mayEnd s es (current o) (around o)
@@ -36,13 +32,13 @@ module _ (s : List ℕ) {es : List Element} {o : Open} (stands : Stands es o) wh
     pub stands-declared : Declares es (start (o .element))
     stands-declared = (stands-element stands some, stands-range stands .declared)
 
-    may-end : mayEnd s es (current o) (around o) ≡ decided s es .complete (o .element) (placed (o .place)) && (endO es (o .element) && leb 1 (ended o .element))
-    may-end = rw (around-ended o some)
+    may-end : mayEnd s es (current o) (around o) ≡ o .complete && (endO es (o .element) && leb 1 (ended o .element))
+    may-end = rw (around-ended o some, stands .marked .complete)
 
-    pub incomplete-stays : decided s es .complete (o .element) (placed (o .place)) ≡ false → false ≡ mayEnd s es (current o) (around o)
+    pub incomplete-stays : o .complete ≡ false → false ≡ mayEnd s es (current o) (around o)
     incomplete-stays e = sym (may-end ∙ rw e)
 
-    module _ (complete : decided s es .complete (o .element) (placed (o .place)) ≡ true) where
+    module _ (complete : o .complete ≡ true) where
       pub end-wanted : endO es (o .element) ≡ false → false ≡ mayEnd s es (current o) (around o)
       end-wanted e = sym (may-end ∙ rw (complete, e))
 

@@ -87,7 +87,7 @@ module _ (o : Open) (ev : List Event) (z : State) (same : short z ≡ stateOf o 
   same-fits s es t = fitting-short s es (z .current) t ∙ ap (λ (y : State). fitting s es (decided s es) (y .current) t) same
 
   -- A place is taken where at most 24 are open.
-  pub same-took : (at p : ℕ) → o .count ≤ 24 → shortly (limited at (takePlace p z)) ≡ got (stateOf (took p o) ev)
-  same-took at p l =
+  pub same-took : (rows : List ℕ) (at p : ℕ) → o .count ≤ 24 → shortly (limited at (takePlace p z)) ≡ got (stateOf (took rows p o) ev)
+  same-took rows at p l =
       ap shortly (limited-few at (takePlace p z) (omega (arith, same-deep)))
       ∙ ap got (takePlace-short p z ∙ ap (λ (y : State). short (takePlace p y)) same ∙ ap₂ (λ u us. state u us ev) (lastOnly-took (current o) p) (around-short o))

@@ -12,7 +12,7 @@ use Rattle.rules.specs.Settling.{Token, start, pcdata, endO, startInferred, Eve
 use Rattle.rules.specs.Settling as rules
 use Rattle.document_laws.specs.Decide.{decided}
 use Rattle.last_places.specs.Last.{short, shortly, takeRun}
-use Rattle.type_tables.specs.Means.{nameNumber, Declares, Tables}
+use Rattle.type_tables.specs.Means.{nameNumber, Declares, Tables, Requires}
 use Rattle.open_elements.specs.declared.Open.{Open}
 use Rattle.open_elements.specs.Means.{stateOf, current, around, eventsIn, outcome, Stands}
 use Rattle.settling.specs.declared.Way.{Way}
@@ -82,6 +82,14 @@ reads s es t at o before = andThen (settleFrom s es (decided s es) t at (around 
 pub record Settled (es : List Element) (at : ℕ) (o : Open) (events : List ℕ) (read : List Event → Reading State) : Type 0 where
   pub comes : (before : List Event) → outcome at o events before ≡ shortly (read before)
   pub stands : o .number ≡ 0 → Stands es o
+
+-- The tables are those of some type, in which the place q is required after some place of the element e; the type has so many elements.
+abbrev pub AnyChain : (rows places facts : List ℕ) (e q x : ℕ) → Type 0
+AnyChain rows places facts e q x = (s : List ℕ) × (es : List Element) × (u : ℕ) × Tables s es rows places facts × Requires es e q u × (x ≤ length es)
+
+-- The same after the place u.
+abbrev pub AnyWay : (rows places facts : List ℕ) (e u q x : ℕ) → Type 0
+AnyWay rows places facts e u q x = (s : List ℕ) × (es : List Element) × Tables s es rows places facts × Requires es e q u × (x ≤ length es)
 
 -- The tables are those of some type, of which these elements are open, in the current one of which so many starts can be inferred;
 -- the type has so many elements.

@@ -23,9 +23,9 @@ use Rattle.settling.specs.Inward.{fits-most, inwardAs, inward-way, limit
 
 -- The token has its place, or is refused.
 
-settled-took : (es : List Element) (at p : ℕ) (events : List ℕ) (read : List Event → Reading State) (o : Open) {r : Open} → Stands es (took p o) → o .number ≡ 0 → r ≡ took p o
-    → ((before : List Event) → shortly (read before) ≡ got (stateOf (took p o) (before ++ eventsIn events (o .events)))) → Settled es at r events read
-settled-took es at p events read o stands e i same =
+settled-took : (es : List Element) (rows : List ℕ) (at p : ℕ) (events : List ℕ) (read : List Event → Reading State) (o : Open) {r : Open} → Stands es (took rows p o) → o .number ≡ 0 → r ≡ took rows p o
+    → ((before : List Event) → shortly (read before) ≡ got (stateOf (took rows p o) (before ++ eventsIn events (o .events)))) → Settled es at r events read
+settled-took es rows at p events read o stands e i same =
     subst (λ (x : Open). Settled es at x events read) (sym i) record { comes = λ before. rw e (sym (same before)); stands = λ z. stands }
 
 settled-refused : (es : List Element) (at n : ℕ) (events : List ℕ) (read : List Event → Reading State) (o : Open) {r : Open} → 1 ≤ n → r ≡ refusing n o
@@ -34,7 +34,7 @@ settled-refused es at zero events read o l e same = absurd (omega arith)
 settled-refused es at (suc n) events read o l e same =
     subst (λ (x : Open). Settled es at x events read) (sym e) record { comes = λ before. sym (same before); stands = λ z. absurd (omega arith) }
 
-way-fits : (p f n : ℕ) → Taken p ≡ wayOf f n → p ≡ f
+pub way-fits : (p f n : ℕ) → Taken p ≡ wayOf f n → p ≡ f
 way-fits p zero zero e = absurd (let z : _≡_ {A = ℕ} 0 1 = cc in omega arith)
 way-fits p zero (suc n) e = absurd (let z : _≡_ {A = ℕ} 0 1 = cc in omega arith)
 way-fits p (suc f) n e = cc
@@ -47,13 +47,13 @@ module _ (s : List ℕ) (es : List Element) (t : Token) (at starts : ℕ) (o₀ 
   inferring before = limited at (takeToken s es (decided s es) t (inferMany s es at starts (stateOf o₀ (before ++ eventsIn events₀ (o₀ .events)))))
 
   pub infer-took : {rows places facts : List ℕ} → Tables s es rows places facts → {o r : Open} {events : List ℕ} → InfersOn s es at 0 o events starts o₀ events₀ → o .number ≡ 0
-      → (p : ℕ) → p ≡ fitting s es (decided s es) (current o) t → r ≡ took p o → Settled es at r events inferring
-  infer-took tables {o} {r} {events} h e p fits i =
-      settled-took es at p events inferring o (stands-took p (h .stands) (rw fits (fits-most s es (tables .accepted) (o .element) (current o .taken) t))) e i λ before.
+      → (p : ℕ) → p ≡ fitting s es (decided s es) (current o) t → r ≡ took rows p o → Settled es at r events inferring
+  infer-took {rows} tables {o} {r} {events} h e p fits i =
+      settled-took es rows at p events inferring o (stands-took (tables .rows-say) p (h .stands) (rw fits (fits-most s es (tables .accepted) (o .element) (current o .taken) t))) e i λ before.
       let ev = before ++ eventsIn events (o .events) in
       let z = inferMany s es at starts (stateOf o₀ (before ++ eventsIn events₀ (o₀ .events))) in
       let same : short z ≡ stateOf o ev = sym (h .same before) ∙ state-short o ev in
-      ap (λ q. shortly (limited at (takePlace q z))) (same-fits o ev z same s es t ∙ sym fits) ∙ same-took o ev z same at p (h .stands .few)
+      ap (λ q. shortly (limited at (takePlace q z))) (same-fits o ev z same s es t ∙ sym fits) ∙ same-took o ev z same rows at p (h .stands .few)
 
   pub infer-refused : 24 < o₀ .count + starts → {r : Open} (events : List ℕ) → r ≡ refusing 15 o₀ → Settled es at r events inferring
   infer-refused l events e =
@@ -117,13 +117,13 @@ module _ {s : List ℕ} {es : List Element} {t : Token} {at : ℕ} {o : Open} {e
         ap (λ v. shortly (andThen (settleFrom s es (decided s es) t at (around o₀) (current o₀) v) (limited at))) (sym (events-none before events₀ (o₀ .events) none))
         ∙ ap (λ x. shortly (andThen x (limited at))) (sym (h .same before) ∙ e)
 
-    pub comes-took : {rows places facts : List ℕ} → Tables s es rows places facts → o .number ≡ 0 → (p : ℕ) → Taken p ≡ found → {r : Open} → r ≡ took p o → Settled es at r events read
-    comes-took tables e p w i =
+    pub comes-took : {rows places facts : List ℕ} → Tables s es rows places facts → o .number ≡ 0 → (p : ℕ) → Taken p ≡ found → {r : Open} → r ≡ took rows p o → Settled es at r events read
+    comes-took {rows} tables e p w i =
         let fits : p ≡ fitting s es (decided s es) (current o) t = way-fits p (fitting s es (decided s es) (current o) t) (chained s es t (current o)) w in
-        settled-took es at p events read o (stands-took p (h .stands) (rw fits (fits-most s es (tables .accepted) (o .element) (current o .taken) t))) e i λ before.
+        settled-took es rows at p events read o (stands-took (tables .rows-say) p (h .stands) (rw fits (fits-most s es (tables .accepted) (o .element) (current o .taken) t))) e i λ before.
         let ev = before ++ eventsIn events (o .events) in
         came-read before (got (takePlace p (stateOf o ev))) (settle-inward s es t at (around o) (current o) ev _ (came-inward (Taken p) w ev))
-        ∙ same-took o ev (stateOf o ev) (state-short o ev) at p (h .stands .few)
+        ∙ same-took o ev (stateOf o ev) (state-short o ev) rows at p (h .stands .few)
 
     pub comes-inferred : (k : ℕ) → Inferred k ≡ found → {r : Open} {events' : List ℕ} → Settled es at r events' (inferring s es t at k o events) → Settled es at r events' read
     comes-inferred k w y =

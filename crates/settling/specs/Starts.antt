@@ -10,15 +10,15 @@ use Rattle.rules.specs.Settling.{Token, Event, startInferred, State, takePlace,
 use Rattle.rules.specs.Settling as rules
 use Rattle.document_laws.specs.Decide.{decided}
 use Rattle.document_laws.specs.Chain.{Leads}
-use Rattle.last_places.specs.Last.{InRange, lastOnly, allLast, short}
+use Rattle.last_places.specs.Last.{lastOnly, allLast, short}
 use Rattle.last_places.specs.Short.{state, last-placed, withLast, lastOnly-took}
 use Rattle.last_places.specs.Short as shorts
-use Rattle.type_tables.specs.Means.{standing, Rows, Tables, Ready}
-use Rattle.type_tables.specs.Ranges.{place-range, width-most, required-most}
+use Rattle.type_tables.specs.Means.{standing, width, Tables}
+use Rattle.type_tables.specs.Ranges.{required-most}
 use Rattle.open_elements.specs.declared.Entry.{Entry}
 use Rattle.open_elements.specs.declared.Open.{Open}
 use Rattle.open_elements.specs.Means.{none, current, aroundOf, around, stateOf, took, opening, bringing, eventsIn, Stands}
-use Rattle.open_elements.specs.Laws.{around-opening, stands-range, stands-took, stands-opening, stands-bringing, events-more}
+use Rattle.open_elements.specs.Laws.{around-opening, stands-range, stands-place, stands-required, stands-took, stands-opening, stands-bringing, events-more}
 use Rattle.settling.specs.Means.{inferOne, inferMany, Infers, InfersOn, AnyInfers}
 use Rattle.settling.specs.Chains.{inferable-most}
 
@@ -64,39 +64,44 @@ module _ (s : List ℕ) (es : List Element) where
   infer-deeper at zero z = omega arith
   infer-deeper at (suc n) z = infer-deeper at n (inferOne s es at z) ∙ omega arith
 
--- What is asked of the tables is in range.
-pub infers-ready : {rows places facts : List ℕ} {o : Open} {starts x : ℕ} → AnyInfers rows places facts o starts x → Ready rows places facts (o .element) (o .place)
-infers-ready a = (a .s, a .es, a .tables, stands-range (a .stands))
+-- The required place is one of the model's.
+required-in : {s : List ℕ} {es : List Element} {rows places facts : List ℕ} → Tables s es rows places facts → {o : Open} → Stands es o → o .required ≤ width es (o .element)
+required-in {s} {es} tables {o} stands =
+    omega (arith, stands .marked .required, required-most s es (tables .accepted) (o .element) (o .place) (stands-place stands))
 
-pub required-few : {rows places facts : List ℕ} {o : Open} {starts x : ℕ} → AnyInfers rows places facts o starts x → (p : ℕ)
-    → ((s : List ℕ) (es : List Element) → Rows es rows → InRange es (current o) → p ≡ requiredPlace s es (decided s es) (current o)) → p ≤ 96
-required-few {o = o} a p says =
-    let range = stands-range (a .stands) in
-    let accepted = a .tables .accepted in
-    omega (arith, says (a .s) (a .es) (a .tables .rows-say) range, required-most (a .s) (a .es) accepted (o .element) (o .place) (place-range (a .es) (o .element) (o .place) range), width-most (a .s) (a .es) accepted (o .element))
+-- What is asked of the tables is in range, also where the required place is taken.
+pub infers-range : {rows places facts : List ℕ} {o : Open} {starts x : ℕ} → AnyInfers rows places facts o starts x → (o .element ≤ 64) × (o .required ≤ 96) × (took rows (o .required) o .required ≤ 96)
+infers-range {o = o} a = (
+  omega (arith, stands-range (a .stands) .declared, a .tables .few),
+  stands-required (a .tables .accepted) (a .stands),
+  stands-required (a .tables .accepted) (stands-took (a .tables .rows-say) (o .required) (a .stands) (required-in (a .tables) (a .stands))),
+)
 
 -- One start is inferred, the first of those to be inferred.
-module _ (s : List ℕ) (es : List Element) {rows places facts : List ℕ} (tables : Tables s es rows places facts) {o : Open} (stands : Stands es o) (less : o .count < 24) (k p n : ℕ)
-    (chosen : k ≡ inferable s es (decided s es) (current o)) (there : p ≡ requiredPlace s es (decided s es) (current o)) where
-  infer-stands : 1 ≤ inferable s es (decided s es) (current o) → Stands es (bringing n (opening k (took p o)))
+module _ (s : List ℕ) (es : List Element) {rows places facts : List ℕ} (tables : Tables s es rows places facts) {o : Open} (stands : Stands es o) (less : o .count < 24) (k n : ℕ)
+    (chosen : k ≡ inferable s es (decided s es) (current o)) where
+  -- the required place is taken, and the element opened there
+  abbrev pub inferring : Open
+  inferring = bringing n (opening rows k (took rows (o .required) o))
+
+  infer-stands : 1 ≤ inferable s es (decided s es) (current o) → Stands es inferring
   infer-stands some =
       stands-bringing n
-      (stands-opening k
-      (stands-took p stands (rw there (required-most s es (tables .accepted) (o .element) (o .place) (place-range es (o .element) (o .place) (stands-range stands)))))
-      less (rw chosen some) (rw chosen (inferable-most s es (current o))))
+      (stands-opening (tables .rows-say) k (stands-took (tables .rows-say) (o .required) stands (required-in tables stands)) less (rw chosen some) (rw chosen (inferable-most s es (current o))))
 
   module _ (at left : ℕ) (events events' : List ℕ) (counted : n ≡ o .events + 1) (noted : eventsIn events' (o .events + 1) ≡ eventsIn events (o .events) ++ startInferred k at ∷ []) where
     infer-same : (before : List Event)
-        → short (inferMany s es at left (stateOf (bringing n (opening k (took p o))) (before ++ eventsIn events' n))) ≡ short (inferMany s es at (suc left) (stateOf o (before ++ eventsIn events (o .events))))
+        → short (inferMany s es at left (stateOf inferring (before ++ eventsIn events' n))) ≡ short (inferMany s es at (suc left) (stateOf o (before ++ eventsIn events (o .events))))
     infer-same before =
+        let p = o .required in
         let ev = (before ++ eventsIn events (o .events)) ++ startInferred k at ∷ [] in
-        let opened : stateOf (bringing n (opening k (took p o))) (before ++ eventsIn events' n) ≡ state (standing k 0) (standing (o .element) p ∷ around o) ev =
-        ap₂ (λ us v. state (standing k 0) us v) (around-opening k (took p o) (stands .whole) less) (rw counted (events-more before (eventsIn events (o .events)) (startInferred k at) noted)) in
+        let opened : stateOf inferring (before ++ eventsIn events' n) ≡ state (standing k 0) (standing (o .element) p ∷ around o) ev =
+        ap₂ (λ us v. state (standing k 0) us v) (around-opening rows k (took rows p o) (stands .whole) less) (rw counted (events-more before (eventsIn events (o .events)) (startInferred k at) noted)) in
         ap (λ z. short (inferMany s es at left z)) opened
         ∙ infer-around s es at left (standing k 0) _ _ ev (ap (λ u. u ∷ allLast (around o)) (standing-short (o .element) p ∙ sym (lastOnly-took (current o) p)))
-        ∙ ap₂ (λ j q. short (inferMany s es at left (state (standing j 0) (shorts.took (current o) q ∷ around o) ((before ++ eventsIn events (o .events)) ++ startInferred j at ∷ [])))) chosen there
+        ∙ ap₂ (λ j q. short (inferMany s es at left (state (standing j 0) (shorts.took (current o) q ∷ around o) ((before ++ eventsIn events (o .events)) ++ startInferred j at ∷ [])))) chosen (stands .marked .required)
 
-    pub infers-one : Infers s es (suc left) (current o) → {r : Open} → r ≡ bringing n (opening k (took p o)) → InfersOn s es at left r events' (suc left) o events
+    pub infers-one : Infers s es (suc left) (current o) → {r : Open} → r ≡ inferring → InfersOn s es at left r events' (suc left) o events
     infers-one (some, infers) e =
         subst (λ (x : Open). InfersOn s es at left x events' (suc left) o events) (sym e)
         record { stands = infer-stands some; infers = rw chosen infers; same = infer-same }

@@ -132,11 +132,11 @@ module _ (s : List ℕ) (es : List Element) (k at after : ℕ) (o₀ : Open) (be
         with-tag : before ++ eventsIn events' n ≡ ev ++ startWritten k at after ∷ []
         with-tag = rw counted (events-more before (eventsIn events (o .events)) (startWritten k at after) noted)
 
-        pub tag-opens : hasModel (contentOf es k) ≡ true → {r : Open} → r ≡ bringing n (opening k o) → outcome at r events' before ≡ shortly tagged
-        tag-opens m i =
+        pub tag-opens : hasModel (contentOf es k) ≡ true → (rows : List ℕ) {r : Open} → r ≡ bringing n (opening rows k o) → outcome at r events' before ≡ shortly tagged
+        tag-opens m rows i =
             let (y, e, same) = tag-goes in
             rw i
-            (outcome-got at (o .number) _ _ clear (ap₂ (λ us v. state (standing k 0) us v) (around-opening k o (h .stands clear .whole) less) with-tag)
+            (outcome-got at (o .number) _ _ clear (ap₂ (λ us v. state (standing k 0) us v) (around-opening rows k o (h .stands clear .whole) less) with-tag)
             ∙ sym (e ∙ begun-model es k at after o ev y same less m))
 
         pub tag-empty : hasModel (contentOf es k) ≡ false → (m : ℕ) (events″ : List ℕ) → m ≡ n + 1 → eventsIn events″ (n + 1) ≡ eventsIn events' n ++ endOfEmpty k after ∷ []

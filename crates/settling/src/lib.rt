@@ -10,10 +10,10 @@ ghost use Rattle.rules.specs.TypeFile.{Element};
 ghost use Rattle.rules.specs.Settling.{Token, Event, limited, takeToken, isOver};
 ghost use Rattle.rules.specs.Settling as rules;
 ghost use Rattle.document_laws.specs.Decide.{decided};
-ghost use Rattle.last_places.specs.Last.{placed, InRange, shortly};
-ghost use Rattle.type_tables.specs.Means.{standing, nameNumber, Declares, Rows, Facts, Tables, ReadyFor};
+ghost use Rattle.last_places.specs.Last.{placed, shortly};
+ghost use Rattle.type_tables.specs.Means.{standing, nameNumber, Declares, Facts, Tables, Requires};
 ghost use Rattle.open_elements.specs.Means.{current, around, stateOf, eventsIn, outcome, Stands, AnyStands, Fresh};
-ghost use Rattle.settling.specs.Means.{takes, wayOf, chained, mayEnd, inferMany, Infers, InfersOn, reads, Settled, AnyInfers};
+ghost use Rattle.settling.specs.Means.{takes, wayOf, chained, mayEnd, inferMany, Infers, InfersOn, reads, Settled, AnyInfers, AnyChain, AnyWay};
 
 // What the current element has to say to a start tag or a data byte.
 pub enum Way {
@@ -24,20 +24,21 @@ pub enum Way {
     Stuck,
 }
 
-// How many starts must be inferred in the element e after the place u before x fits, or 0 if there is no such chain.
+// How many starts must be inferred in the element e where the place q is required before x fits, or 0 if there is no such
+// chain.
 fn chain(
     rows: &[u8; 88270],
     places: &[u8; 12610],
     facts: &[u8; 4420],
     e: usize,
-    u: usize,
+    q: usize,
     x: usize,
 ) -> usize
-    requires { ⌜ ReadyFor (now rows) (now places) (now facts) e u x ⌝ }
-    ensures { λ r. ⌜ ((s : List ℕ) (es : List Element) → Tables s es (now (rows .entry)) (now (places .entry)) (now (facts .entry)) → InRange es (standing e u) →
+    requires { ⌜ AnyChain (now rows) (now places) (now facts) e q x ⌝ }
+    ensures { λ r. ⌜ ((s : List ℕ) (es : List Element) → Tables s es (now (rows .entry)) (now (places .entry)) (now (facts .entry)) → (u : ℕ) → Requires es e q u →
         (t : Token) → nameNumber t ≡ x → Declares es t → r ≡ chained s es t (standing e u)) ⌝ }
 {
-    let mut c = type_tables::inferable(rows, places, facts, e, u);
+    let mut c = type_tables::startable(places, facts, e, q);
     let mut n = 1;
     while n <= 64 && c != 0 {
         if type_tables::fitting(rows, places, facts, c, 0, x) != 0 {
@@ -49,24 +50,25 @@ fn chain(
     0
 }
 
-// Steps 1 and 2 at the element e after the place u.
+// Steps 1 and 2 at the element e after the place u, where the place q is required.
 fn way_at(
     rows: &[u8; 88270],
     places: &[u8; 12610],
     facts: &[u8; 4420],
     e: usize,
     u: usize,
+    q: usize,
     x: usize,
 ) -> Way
-    requires { ⌜ ReadyFor (now rows) (now places) (now facts) e u x ⌝ }
-    ensures { λ r. ⌜ ((s : List ℕ) (es : List Element) → Tables s es (now (rows .entry)) (now (places .entry)) (now (facts .entry)) → InRange es (standing e u) →
+    requires { ⌜ AnyWay (now rows) (now places) (now facts) e u q x ⌝ }
+    ensures { λ r. ⌜ ((s : List ℕ) (es : List Element) → Tables s es (now (rows .entry)) (now (places .entry)) (now (facts .entry)) → Requires es e q u →
         (t : Token) → nameNumber t ≡ x → Declares es t → r ≡ wayOf (decided s es .fits e (placed u) t) (chained s es t (standing e u))) ⌝ }
 {
     let p = type_tables::fitting(rows, places, facts, e, u, x);
     if p != 0 {
         return Way::Taken(p);
     }
-    let n = chain(rows, places, facts, e, u, x);
+    let n = chain(rows, places, facts, e, q, x);
     if n != 0 {
         return Way::Inferred(n);
     }
@@ -75,16 +77,16 @@ fn way_at(
 
 // Whether step 3 infers the current element's end: its content is complete, its end is "O" and it is not the document
 // element.
-fn may_end(rows: &[u8; 88270], facts: &[u8; 4420], state: Open) -> bool
-    requires { ⌜ (state .count ≤ 24) × (state .element ≤ 64) × (state .place ≤ 96) ⌝ }
-    ensures { λ r. ⌜ ((s : List ℕ) (es : List Element) → Rows es (now (rows .entry)) → Facts s es (now (facts .entry)) → Stands es state →
+fn may_end(facts: &[u8; 4420], state: Open) -> bool
+    requires { ⌜ (state .count ≤ 24) × (state .element ≤ 64) ⌝ }
+    ensures { λ r. ⌜ ((s : List ℕ) (es : List Element) → Facts s es (now (facts .entry)) → Stands es state →
         r ≡ mayEnd s es (current state) (around state)) ⌝ }
 {
     let n = state.count;
     if n == 0 {
         return false;
     }
-    if !type_tables::complete(rows, state.element, state.place) {
+    if !state.complete {
         return false;
     }
     if !type_tables::end_omitted(facts, state.element) {
@@ -110,12 +112,10 @@ fn infer_start(
         InfersOn s es at left r (now (events .exit)) (suc left) state (now (events .entry))) ⌝ }
     ensures { λ r. ⌜ (r .count ≡ state .count + 1) × (r .events ≡ state .events + 1) × (r .number ≡ state .number) ⌝ }
 {
-    let e = state.element;
-    let u = state.place;
-    let k = type_tables::inferable(rows, places, facts, e, u);
-    let p = type_tables::required(rows, e, u);
+    let p = state.required;
+    let k = type_tables::startable(places, facts, state.element, p);
     let n = open_elements::put_event(events, state.events, 2, k, at, 0);
-    state.take(p).start(k).brought(n)
+    state.take(rows, p).start(rows, k).brought(n)
 }
 
 // So many starts are inferred.
@@ -166,7 +166,7 @@ fn infer(
     }
     let o = infer_starts(rows, places, facts, state, starts, at, events);
     let p = type_tables::fitting(rows, places, facts, o.element, o.place, x);
-    o.take(p)
+    o.take(rows, p)
 }
 
 // x, an element that starts or 0 for data, is settled: its place is taken, or there is a refusal.
@@ -187,33 +187,32 @@ fn settle(
 {
     let mut o = state;
     let found = loop {
-        let w = way_at(rows, places, facts, o.element, o.place, x);
+        let w = way_at(rows, places, facts, o.element, o.place, o.required, x);
         let Way::Stuck = w else {
             break w;
         };
-        if !may_end(rows, facts, o) {
+        if !may_end(facts, o) {
             break w;
         }
         let parent = open_elements::infer_end(o, at, events);
         o = parent;
     };
     match found {
-        Way::Taken(p) => o.take(p),
+        Way::Taken(p) => o.take(rows, p),
         Way::Inferred(k) => infer(rows, places, facts, o, k, x, at, events),
         Way::Stuck => o.refused(12),
     }
 }
 
 // Whether the document element was there and has ended.
-fn is_over(rows: &[u8; 88270], state: Open) -> bool
-    requires { ⌜ state .place ≤ 96 ⌝ }
-    ensures { λ r. ⌜ ((s : List ℕ) (es : List Element) → Rows es (now (rows .entry)) → Stands es state → (before : List Event) →
+fn is_over(state: Open) -> bool
+    ensures { λ r. ⌜ ((s : List ℕ) (es : List Element) → Stands es state → (before : List Event) →
         r ≡ isOver s es (decided s es) (stateOf state before)) ⌝ }
 {
     if state.element != 0 {
         return false;
     }
-    type_tables::complete(rows, 0, state.place)
+    state.complete
 }
 
 // The start tag of the element x, or a run of data for 0, from `at` to `after`.
@@ -234,7 +233,7 @@ pub fn token(
     ensures { λ r. ⌜ ((s : List ℕ) (es : List Element) → Tables s es (now (rows .entry)) (now (places .entry)) (now (facts .entry)) → Stands es state → x ≤ length es → r .number ≡ 0 → Stands es r) ⌝ }
     ensures { λ r. ⌜ (r .events ≤ 50) × (r .number < 20) ⌝ }
 {
-    if is_over(rows, state) {
+    if is_over(state) {
         return state.refused(16);
     }
     let settled = settle(rows, places, facts, state, x, at, events);
@@ -250,7 +249,7 @@ pub fn token(
     }
     let n = open_elements::put_event(events, settled.events, 1, x, at, after - at);
     if type_tables::has_model(facts, x) {
-        return settled.start(x).brought(n);
+        return settled.start(rows, x).brought(n);
     }
     let m = open_elements::put_event(events, n, 6, x, after, 0);
     settled.brought(m)

@@ -3,7 +3,7 @@ use mathlib.Core.Path.{sym, _∙_}
 use native.Mathlib.Omega.{arith}
 use borrow.Author.Needs.{needs}
 use borrow.Author.Tests.{not-true, not-false}
-use Rattle.closing.specs.Loop.{tabled, anyClosing-goes}
+use Rattle.closing.specs.Loop.{tabled}
 use Rattle.closing.specs.Laws.{Sought, tag-unopened, tag-refused, tag-outermost, tag-incomplete, tag-closed}
 use Rattle.closing.proofs.end_tag.Statement.{statement}
 use Rattle.closing.proofs.end_tag.Tie as tie
@@ -11,11 +11,11 @@ use Rattle.closing.proofs.end_tag.Tie as tie
 -- What is known where the loop has ended.
 sought : (c : tie.After-end-until) →
     let a = c .before .before .before .before .args in
-    Sought (a .rows .now) (a .facts .now) (a .x) (a .at) (a .state) (a .events .now) (c .end-until .result) (c .end-until .last .1 .1 .1 .1 .1 .0)
+    Sought (a .facts .now) (a .x) (a .at) (a .state) (a .events .now) (c .end-until .result) (c .end-until .last .1 .1 .1 .1 .0)
 sought c =
     let i = c .before .before in
     let p = i .before .before .pre in
-    record { until = c .end-until .ensures; fresh = p .1 .0 .0; few = tabled (p .0) .2; there = sym (i .before .is-open .ensures) ∙ not-false _ (i .if1 .left) }
+    record { until = c .end-until .ensures; fresh = p .1 .0 .0; few = tabled (p .0) .1; there = sym (i .before .is-open .ensures) ∙ not-false _ (i .if1 .left) }
 
 is-open-requires : tie.Need-is-open-requires
 is-open-requires c κs = search needs
@@ -27,7 +27,7 @@ returns : tie.Need-returns
 returns c =
     let p = c .before .before .before in
     let a = p .args in
-    tag-unopened (a .rows .now) (a .facts .now) (a .x) (a .at) (a .after) (a .state) (a .events .now) (p .pre .1 .0 .0)
+    tag-unopened (a .facts .now) (a .x) (a .at) (a .after) (a .state) (a .events .now) (p .pre .1 .0 .0)
     (sym (c .before .before .is-open .ensures) ∙ not-true _ (c .before .if1 .taken)) (c .refused .ensures)
 
 end-until-requires : tie.Need-end-until-requires
@@ -46,19 +46,13 @@ returns-3 c =
     let e = c .before .before .before .before .before in
     tag-outermost (e .before .before .before .before .args .after) (sought e) (c .before .before .before .if2 .left) (c .before .if3 .taken) (c .refused2 .ensures)
 
-complete-requires : tie.Need-complete-requires
-complete-requires c κs =
-    let e = c .before .before .before .before in
-    let p = e .before .before .before .before .pre in
-    (p .1 .4, tabled (anyClosing-goes (p .0) (e .end-until .ensures .stands)) .1)
-
 refused-requires-3 : tie.Need-refused-requires-3
 refused-requires-3 c κs = search needs
 
 returns-4 : tie.Need-returns-4
 returns-4 c =
     let e = c .before .before .before .before .before .before .before in
-    tag-incomplete (e .before .before .before .before .args .after) (sought e) (c .before .before .before .before .before .if2 .left) (omega arith) (c .before .before .complete .ensures) (not-true _ (c .before .if4 .taken)) (c .refused3 .ensures)
+    tag-incomplete (e .before .before .before .before .args .after) (sought e) (c .before .before .before .before .before .if2 .left) (omega arith) (not-true _ (c .before .if4 .taken)) (c .refused3 .ensures)
 
 sub-put-event : tie.Need-sub-put-event
 sub-put-event c = search needs
@@ -74,9 +68,10 @@ brought-requires c κs = search needs
 
 returns-5 : tie.Need-returns-5
 returns-5 c =
-    let e = c .before .before .before .before .before .before .before .before .before .before in
+    let complete = c .before .before .before .before in
+    let e = complete .before .before .before .before .before .before in
     let p = c .before .before .put-event in
-    tag-closed (e .before .before .before .before .args .after) (sought e) (c .before .before .before .before .before .before .before .before .if2 .left) (omega (arith, c .before .before .before .before .before .before .if3 .left)) (c .before .before .before .before .before .complete .ensures) (p .last .0) (not-false _ (c .before .before .before .before .if4 .left))
+    tag-closed (e .before .before .before .before .args .after) (sought e) (complete .before .before .before .before .if2 .left) (omega (arith, complete .before .before .if3 .left)) (p .last .0) (not-false _ (complete .if4 .left))
     (p .ensures .1) (c .brought .ensures ∙ rw (c .before .end .ensures, p .ensures .0))
 
 pub end-tag-spec : {M : Type 1} → statement M
@@ -90,7 +85,6 @@ end-tag-spec =
     returns-2
     refused-requires-2
     returns-3
-    complete-requires
     refused-requires-3
     returns-4
     sub-put-event

@@ -8,10 +8,10 @@ use Rattle.closing.proofs.end_until.Statement.{statement}
 use Rattle.closing.proofs.end_until.Tie as tie
 
 abbrev Inv-loop : tie.InvT-loop
-Inv-loop rows facts x at events₀ o₀ events o = Goes rows facts x at o₀ events₀ o events
+Inv-loop facts x at events₀ o₀ events o = Goes facts x at o₀ events₀ o events
 
 abbrev μ-loop : tie.MeasureT-loop
-μ-loop rows facts x at events₀ o₀ events o = o .count
+μ-loop facts x at events₀ o₀ events o = o .count
 
 loop-holds : tie.Need-loop-holds Inv-loop μ-loop
 loop-holds c = goes-start (c .pre .1 .0 .1)
@@ -22,8 +22,7 @@ returns c = until-here (c .before .before .before .before .loop .inv) (c .if2 .t
 end-fault-requires : tie.Need-end-fault-requires Inv-loop μ-loop
 end-fault-requires c κs =
     let l = c .before .before .before .before in
-    let t = tabled (anyClosing-goes (l .before .pre .0) (l .loop .inv .stands)) in
-    (t .0, t .1)
+    tabled (anyClosing-goes (l .before .pre .0) (l .loop .inv .stands)) .0
 
 refused-requires : tie.Need-refused-requires Inv-loop μ-loop
 refused-requires c κs = search needs
@@ -40,7 +39,7 @@ infer-end-requires c κs =
     let p = l .before .pre in
     let t = tabled (anyClosing-goes (p .0) (l .loop .inv .stands)) in
     let n = l .loop .inv .few in
-    (omega arith, t .2, omega arith, omega (arith, tabled (p .0) .2, p .1 .0 .0), p .1 .1)
+    (omega arith, t .1, omega arith, omega (arith, tabled (p .0) .1, p .1 .0 .0), p .1 .1)
 
 loop-less : tie.Need-loop-less Inv-loop μ-loop
 loop-less c =

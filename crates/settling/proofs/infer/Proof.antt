@@ -30,7 +30,11 @@ fitting-requires c κs =
     (a .s, a .es, a .tables, stands-range (c .infer-starts .ensures .0 (a .s) (a .es) (a .tables) (a .stands) (a .infers) .stands), a .most)
 
 take-requires : tie.Need-take-requires
-take-requires c κs = search needs
+take-requires c κs =
+    let inferred = c .before in
+    let a = inferred .before .before .before .before .pre .0 in
+    let range = stands-range (inferred .infer-starts .ensures .0 (a .s) (a .es) (a .tables) (a .stands) (a .infers) .stands) in
+    (omega (arith, range .declared, a .tables .few), c .fitting .ensures .1)
 
 returns-2 : tie.Need-returns-2
 returns-2 c =

@@ -3,37 +3,31 @@ use Prim.Native.Nat.{_≤_}
 use mathlib.Core.Path.{_≡_, _∙_, ap}
 use native.Mathlib.Omega.{arith}
 use borrow.Author.Needs.{needs}
-use Rattle.type_tables.specs.Ranges.{ready-range}
 use Rattle.open_elements.specs.declared.Open.{Open}
 use Rattle.open_elements.specs.Means.{took, opening, bringing}
-use Rattle.open_elements.specs.Laws.{stands-range}
-use Rattle.settling.specs.Starts.{infers-ready, required-few, infers-one}
+use Rattle.open_elements.specs.Laws.{stands-requires}
+use Rattle.settling.specs.Starts.{infers-range, infers-one}
 use Rattle.settling.proofs.infer_start.Statement.{statement}
 use Rattle.settling.proofs.infer_start.Tie as tie
 
--- the current element and the place are in range
-asked : (c : tie.Start) → (c .args .state .element ≤ 64) × (c .args .state .place ≤ 96)
-asked c = ready-range _ _ _ _ _ (infers-ready (c .pre .0))
-
-inferable-requires : tie.Need-inferable-requires
-inferable-requires c κs = infers-ready (c .pre .0)
-
-required-requires : tie.Need-required-requires
-required-requires c κs = asked (c .before)
+startable-requires : tie.Need-startable-requires
+startable-requires c κs =
+    let a = c .pre .0 in
+    (a .s, a .es, c .args .rows .now, c .args .state .place, a .tables, stands-requires (a .stands))
 
 put-event-requires : tie.Need-put-event-requires
 put-event-requires c κs = search needs
 
 take-requires : tie.Need-take-requires
-take-requires c κs = search needs
+take-requires c κs =
+    let a = infers-range (c .before .before .before .pre .0) in
+    (a .0, a .1)
 
 start-requires : tie.Need-start-requires
 start-requires c κs =
-    let required = c .before .before .before in
-    let start = required .before .before in
-    let p : required .required .result ≤ 96 = required-few (start .pre .0) _ (required .required .ensures) in
-    let a = asked start in
-    rw (c .take .ensures) (start .pre .1 .0, omega arith, omega arith)
+    let first = c .before .before .before in
+    let a = infers-range (first .before .pre .0) in
+    rw (c .take .ensures) (first .before .pre .1 .0, omega arith, omega arith, omega arith, first .startable .ensures .1)
 
 brought-requires : tie.Need-brought-requires
 brought-requires c κs = search needs
@@ -41,21 +35,20 @@ brought-requires c κs = search needs
 -- the state that is returned
 returned : (c : tie.After-brought) →
     let noted = c .before .before .before in
-    let required = noted .before .before in
-    let inferable = required .before in
-    c .brought .result ≡ bringing (noted .put-event .result) (opening (inferable .inferable .result) (took (required .required .result) (inferable .before .args .state)))
+    let first = noted .before .before in
+    let a = first .before .args in
+    c .brought .result ≡ bringing (noted .put-event .result) (opening (a .rows .now) (first .startable .result) (took (a .rows .now) (a .state .required) (a .state)))
 returned c =
-    c .brought .ensures ∙ ap (bringing _) (c .before .start .ensures ∙ ap (opening _) (c .before .before .take .ensures))
+    let first = c .before .before .before .before .before in
+    c .brought .ensures ∙ ap (bringing _) (c .before .start .ensures ∙ ap (opening (first .before .args .rows .now) (first .startable .result)) (c .before .before .take .ensures))
 
 returns : tie.Need-returns
 returns c =
     let noted = c .before .before .before in
-    let required = noted .before .before in
-    let inferable = required .before in (
+    let first = noted .before .before in (
       λ s es tables stands left infers.
-          infers-one s es tables stands (inferable .before .pre .1 .0) _ _ _
-          (inferable .inferable .ensures .0 s es tables (stands-range stands))
-          (required .required .ensures s es (tables .rows-say) (stands-range stands))
+          infers-one s es tables stands (first .before .pre .1 .0) _ _
+          (first .startable .ensures .0 s es _ tables _ (stands-requires stands))
           _ left _ _ (noted .put-event .ensures .0) (noted .put-event .ensures .1) infers (returned c),
       (ap (λ (o : Open). o .count) (returned c), ap (λ (o : Open). o .events) (returned c) ∙ noted .put-event .ensures .0, ap (λ (o : Open). o .number) (returned c)),
     )
@@ -64,8 +57,7 @@ pub infer-start-spec : {M : Type 1} → statement M
 infer-start-spec =
     tie.close
     (tie.spec
-    inferable-requires
-    required-requires
+    startable-requires
     put-event-requires
     take-requires
     start-requires

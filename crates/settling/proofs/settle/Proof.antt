@@ -6,7 +6,7 @@ use native.Mathlib.Omega.{arith}
 use borrow.Author.Needs.{needs}
 use borrow.Author.Tests.{not-true, not-false}
 use Rattle.open_elements.specs.declared.Open.{Open}
-use Rattle.settling.specs.Turns.{Turns, any-ready, any-range, turns-start, turns-any, turns-some, turns-end, turns-took, turns-infers, turns-inferred, turns-refused}
+use Rattle.settling.specs.Turns.{Turns, any-ready, any-range, turns-start, turns-any, turns-some, turns-end, turns-fits, turns-took, turns-infers, turns-inferred, turns-refused}
 use Rattle.settling.proofs.settle.Statement.{statement}
 use Rattle.settling.proofs.settle.Tie as tie
 
@@ -38,7 +38,8 @@ enum-told c = search needs
 may-end-requires : tie.Need-may-end-requires Inv-loop μ-loop
 may-end-requires c κs =
     let looped = c .before .before .before in
-    any-range _ _ _ _ _ (turns-any (looped .loop .inv) (looped .before .pre .0))
+    let range = any-range _ _ _ _ _ (turns-any (looped .loop .inv) (looped .before .pre .0)) in
+    (range .0, range .1)
 
 infer-end-requires : tie.Need-infer-end-requires Inv-loop μ-loop
 infer-end-requires c κs =
@@ -63,7 +64,12 @@ enum-known-found : tie.Need-enum-known-found Inv-loop μ-loop
 enum-known-found c = search needs
 
 take-requires : tie.Need-take-requires Inv-loop μ-loop
-take-requires c κs = search needs
+take-requires c κs =
+    let met = c .before .before .before in
+    let way = met .before in
+    let looped = way .before in
+    let pre = looped .before .pre in
+    turns-fits (looped .loop .inv) (pre .0) (pre .1 .0 .0) _ (way .way-at .ensures) _ (sym (kept met) ∙ c .before .found .given .1)
 
 enum-known-found-2 : tie.Need-enum-known-found-2 Inv-loop μ-loop
 enum-known-found-2 c = search needs

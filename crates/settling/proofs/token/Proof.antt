@@ -9,7 +9,7 @@ use borrow.Author.Needs.{needs}
 use Rattle.rules.specs.TypeFile.{Element}
 use Rattle.rules.specs.Settling.{start, pcdata, Event, isOver}
 use Rattle.document_laws.specs.Decide.{decided}
-use Rattle.type_tables.specs.Means.{Rows, Tables}
+use Rattle.type_tables.specs.Means.{Tables}
 use Rattle.open_elements.specs.declared.Open.{Open}
 use Rattle.open_elements.specs.Means.{stateOf, bringing, Stands}
 use Rattle.open_elements.specs.Laws.{stands-opening, stands-bringing}
@@ -23,15 +23,15 @@ use Rattle.settling.proofs.token.Tie as tie
 -- the document is not over
 goes-on : (c : tie.Else1) (s : List ℕ) (es : List Element) →
     let a = c .before .before .args in
-    Rows es (a .rows .now) → Stands es (a .state) → (before : List Event) → isOver s es (decided s es) (stateOf (a .state) before) ≡ false
-goes-on c s es rows stands before = sym (c .before .is-over .ensures s es rows stands before) ∙ c .if1 .left
+    Stands es (a .state) → (before : List Event) → isOver s es (decided s es) (stateOf (a .state) before) ≡ false
+goes-on c s es stands before = sym (c .before .is-over .ensures s es stands before) ∙ c .if1 .left
 
 -- the token is not refused so far
 clear : (c : tie.Else2) → c .before .before .settle .result .number ≡ 0
 clear c = omega (arith, c .if2 .left)
 
 is-over-requires : tie.Need-is-over-requires
-is-over-requires c κs = any-range _ _ _ _ _ (c .pre .0) .2
+is-over-requires c κs = search needs
 
 refused-requires : tie.Need-refused-requires
 refused-requires c κs = search needs
@@ -41,7 +41,7 @@ returns c =
     let asked = c .before .before in
     let e = c .refused .ensures in (
       λ s es tables stands declared before.
-          takes-over s es (asked .before .args .x) (asked .before .args .at) (asked .before .args .after) (asked .before .args .state) before (sym (asked .is-over .ensures s es (tables .rows-say) stands before) ∙ c .before .if1 .taken) _ e,
+          takes-over s es (asked .before .args .x) (asked .before .args .at) (asked .before .args .after) (asked .before .args .state) before (sym (asked .is-over .ensures s es stands before) ∙ c .before .if1 .taken) _ e,
       (
         λ s es tables stands declared z. absurd (omega (arith, ap (λ (o : Open). o .number) e)),
         (omega (arith, ap (λ (o : Open). o .events) e, asked .before .pre .1 .0), omega (arith, ap (λ (o : Open). o .number) e)),
@@ -57,7 +57,7 @@ returns-2 c =
     let goes = settled .before .before in (
       λ s es tables stands declared before.
           let x = goes .before .before .args .x in
-          takes-stops s es x (goes .before .before .args .at) (goes .before .before .args .after) (goes .before .before .args .state) before (goes-on goes s es (tables .rows-say) stands before)
+          takes-stops s es x (goes .before .before .args .at) (goes .before .before .args .after) (goes .before .before .args .state) before (goes-on goes s es stands before)
           (settled .settle .ensures .0 s es tables stands (tokenOf x) (tokenOf-number x) (tokenOf-declared es x declared)) (λ z. omega (arith, c .if2 .taken)),
       (λ s es tables stands declared z. absurd (omega (arith, c .if2 .taken)), (omega (arith, settled .settle .ensures .1), settled .settle .ensures .1 .1)),
     )
@@ -81,7 +81,7 @@ returns-3 c =
     let goes = settled .before .before in
     let e = c .brought .ensures in (
       λ s es tables stands most before.
-          run-noted s es _ _ (goes .before .before .args .state) before (goes-on goes s es (tables .rows-say) stands before)
+          run-noted s es _ _ (goes .before .before .args .state) before (goes-on goes s es stands before)
           (settled .settle .ensures .0 s es tables stands pcdata (omega (arith, run .if3 .taken)) tt) (clear kept) _ _ (noted .put-event .ensures .0) (noted .put-event .ensures .1) e
           ∙ ap shortly (sym (takes-run s es (goes .before .before .args .x) _ _ (stateOf (goes .before .before .args .state) before) (omega (arith, run .if3 .taken)))),
       (
@@ -109,7 +109,7 @@ returns-4 c =
     let goes = settled .before .before in
     let e = c .refused2 .ensures in (
       λ s es tables stands most before.
-          tag-many s es _ _ _ (goes .before .before .args .state) before (goes-on goes s es (tables .rows-say) stands before) (started some s es tables stands most) (clear kept) (many .if4 .taken) e
+          tag-many s es _ _ _ (goes .before .before .args .state) before (goes-on goes s es stands before) (started some s es tables stands most) (clear kept) (many .if4 .taken) e
           ∙ ap shortly (sym (takes-start s es _ _ _ (stateOf (goes .before .before .args .state) before) (some .if3 .left))),
       (
         λ s es tables stands most z. absurd (omega (arith, ap (λ (o : Open). o .number) e)),
@@ -136,7 +136,7 @@ start-requires c κs =
     let (s, es, tables, stands, most) = pre .0 in
     let here = started some s es tables stands most .stands (clear kept) in
     let range = any-range _ _ _ _ _ (s, es, tables, here, most) in
-    (less .if4 .left, omega arith, omega arith)
+    (less .if4 .left, omega arith, omega arith, omega arith, omega (arith, tables .few))
 
 brought-requires-2 : tie.Need-brought-requires-2
 brought-requires-2 c κs = search needs
@@ -152,12 +152,12 @@ returns-5 c =
     let goes = settled .before .before in
     let e = c .brought2 .ensures ∙ ap (bringing (noted .put-event2 .result)) (c .before .start .ensures) in (
       λ s es tables stands most before.
-          tag-opens s es _ _ _ (goes .before .before .args .state) before (goes-on goes s es (tables .rows-say) stands before) (started some s es tables stands most) (clear kept) (less .if4 .left) _ _
+          tag-opens s es _ _ _ (goes .before .before .args .state) before (goes-on goes s es stands before) (started some s es tables stands most) (clear kept) (less .if4 .left) _ _
           (noted .put-event2 .ensures .0) (noted .put-event2 .ensures .1)
-          (sym (model .before .has-model .ensures s es (tables .facts-say) (omega (arith, some .if3 .left), most)) ∙ model .if5 .taken) e
+          (sym (model .before .has-model .ensures s es (tables .facts-say) (omega (arith, some .if3 .left), most)) ∙ model .if5 .taken) (goes .before .before .args .rows .now) e
           ∙ ap shortly (sym (takes-start s es _ _ _ (stateOf (goes .before .before .args .state) before) (some .if3 .left))),
       (
-        λ s es tables stands most z. rw e (stands-bringing _ (stands-opening _ (started some s es tables stands most .stands (clear kept)) (less .if4 .left) (omega (arith, some .if3 .left)) most)),
+        λ s es tables stands most z. rw e (stands-bringing _ (stands-opening (tables .rows-say) _ (started some s es tables stands most .stands (clear kept)) (less .if4 .left) (omega (arith, some .if3 .left)) most)),
         (omega (arith, ap (λ (o : Open). o .events) e, noted .put-event2 .ensures .0, settled .settle .ensures .1), omega (arith, ap (λ (o : Open). o .number) e, clear kept)),
       ),
     )
@@ -180,7 +180,7 @@ returns-6 c =
     let goes = settled .before .before in
     let e = c .brought3 .ensures in (
       λ s es tables stands most before.
-          tag-empty s es _ _ _ (goes .before .before .args .state) before (goes-on goes s es (tables .rows-say) stands before) (started some s es tables stands most) (clear kept) (less .if4 .left) _ _
+          tag-empty s es _ _ _ (goes .before .before .args .state) before (goes-on goes s es stands before) (started some s es tables stands most) (clear kept) (less .if4 .left) _ _
           (noted .put-event2 .ensures .0) (noted .put-event2 .ensures .1)
           (sym (empty .before .has-model .ensures s es (tables .facts-say) (omega (arith, some .if3 .left), most)) ∙ empty .if5 .left) _ _ (ended .put-event3 .ensures .0) (ended .put-event3 .ensures .1) e
           ∙ ap shortly (sym (takes-start s es _ _ _ (stateOf (goes .before .before .args .state) before) (some .if3 .left))),
