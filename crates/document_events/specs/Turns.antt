@@ -17,7 +17,7 @@ use Rattle.last_places.specs.Last.{shortly, InRange}
 use Rattle.last_places.specs.Turns.{Reaches, reaches-start, reaches-end, refused-piece, refused-undeclared-start, refused-undeclared-end, reaches-start-tag, refused-start-tag, reaches-end-tag, refused-end-tag, reaches-skipped, reaches-blank, reaches-run, refused-run}
 use Rattle.type_laws.specs.Pcdata.{pcdata-stays}
 use Rattle.element_index.specs.Means.{Indexed, AnyIndexed}
-use Rattle.type_tables.specs.Means.{standing, Rows, Facts, Tables, ReadyFor}
+use Rattle.type_tables.specs.Means.{standing, Facts, Tables, ReadyFor}
 use Rattle.open_elements.specs.declared.Open.{Open}
 use Rattle.open_elements.specs.Means.{stateOf, eventAt, eventsIn, outcomeOf, outcome, closedOf, closed, fresh, bringing, Stands, AnyClosing, Fresh}
 use Rattle.open_elements.specs.Laws.{stands-range, stands-fresh, stands-bringing, events-none}
@@ -185,9 +185,9 @@ abbrev pub TurnSaid : (rows places facts : List ℕ) (at : ℕ) → Open → Pie
 TurnSaid rows places facts at o p l r =
     (s : List ℕ) (es : List Element) (d : List ℕ) (before : List Event) → Tables s es rows places facts → Stands es o → at < length d → Finds s es d (o .element) (o .place) at p → Reaches s es d at (stateOf o before) → Turned s es d at p l before r
 
-abbrev pub EndSaid : (rows facts : List ℕ) (at : ℕ) → Open → (events : List ℕ) → Open → Type 0
-EndSaid rows facts at o l r =
-    (s : List ℕ) (es : List Element) → Rows es rows → Facts s es facts → Stands es o → (before : List Event) → closed at r l before ≡ endDocument s es (decided s es) at (stateOf o before)
+abbrev pub EndSaid : (facts : List ℕ) (at : ℕ) → Open → (events : List ℕ) → Open → Type 0
+EndSaid facts at o l r =
+    (s : List ℕ) (es : List Element) → Facts s es facts → Stands es o → (before : List Event) → closed at r l before ≡ endDocument s es (decided s es) at (stateOf o before)
 
 module _ {s elements index rows places facts d numbers numbersNow bytes bytesNow : List ℕ} {count at : ℕ} {o : Open} (g : Going s elements index rows places facts d numbers numbersNow bytes bytesNow count at o) where
   pub piece-asked : AnyType s elements index rows places facts → at < length d → length d ≤ 65535 → AnyIndexed s elements index × (ReadyFor rows places facts (o .element) (o .place) 0 × ((at < length d) × (length d ≤ 65535)))
@@ -240,10 +240,10 @@ module _ {s elements index rows places facts d numbers numbersNow bytes bytesNow
 
   -- All is read.
   module _ (over : length d ≤ at) where
-    pub end-asked : AnyType s elements index rows places facts → length d ≤ 65535 → AnyClosing rows facts o × (Fresh o × (at < 4294967296))
-    end-asked (es, i, t) few = ((s, es, t .accepted, t .few, t .rows-say, t .facts-say, g .any es i t .stands), (g .fresh, omega arith))
+    pub end-asked : AnyType s elements index rows places facts → length d ≤ 65535 → AnyClosing facts o × (Fresh o × (at < 4294967296))
+    end-asked (es, i, t) few = ((s, es, t .few, t .facts-say, g .any es i t .stands), (g .fresh, omega arith))
 
-    module _ (l : List ℕ) (r : Open) (end : EndSaid rows facts at o l r) where
+    module _ (l : List ℕ) (r : Open) (end : EndSaid facts at o l r) where
       whole : at ≡ length d
       whole = omega arith
 
@@ -251,7 +251,7 @@ module _ {s elements index rows places facts d numbers numbersNow bytes bytesNow
       ends es i t e = let c = g .any es i t in reaches-end (c .reaches) whole (ap (λ (n : ℕ). endDocument s es (decided s es) n (stateOf o (c .events))) (sym whole) ∙ e)
 
       closes : (es : List Element) (i : Indexed s es elements index) (t : Tables s es rows places facts) → closed at r l (g .any es i t .events) ≡ endDocument s es (decided s es) at (stateOf o (g .any es i t .events))
-      closes es i t = end s es (t .rows-say) (t .facts-say) (g .any es i t .stands) (g .any es i t .events)
+      closes es i t = end s es (t .facts-say) (g .any es i t .stands) (g .any es i t .events)
 
       pub end-refuses : (r .number ≡ 0 → ⊥) → {answer : Counted} → answer ≡ counted.Refused (record { number = r .number; at = at }) → (es : List Element) → Indexed s es elements index → Tables s es rows places facts → EventsOf s es d numbers numbersNow bytes bytesNow answer
       end-refuses z q es i t = rw q (ends es i t (closed-refused at r l (g .any es i t .events) (closes es i t) (omega arith)))

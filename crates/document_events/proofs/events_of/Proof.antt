@@ -137,7 +137,7 @@ returns-3 : tie.Need-returns-3 Inv-loop μ-loop
 returns-3 c =
     let end = c .before .before .before in
     let over = end .before .before in
-    end-refuses (over .before .loop .inv) (omega (arith, over .loop-test .left)) (end .finish .last .1 .1 .1 .1 .0) (end .finish .result) (end .finish .ensures .0) (c .before .if2 .taken) (c .refusal2 .ensures)
+    end-refuses (over .before .loop .inv) (omega (arith, over .loop-test .left)) (end .finish .last .1 .1 .1 .0) (end .finish .result) (end .finish .ensures .0) (c .before .if2 .taken) (c .refusal2 .ensures)
 
 put-requires-2 : tie.Need-put-requires-2 Inv-loop μ-loop
 put-requires-2 c κs =
@@ -174,7 +174,7 @@ returns-4 c =
     let over = end .before .before in
     let going = over .before .loop .inv in
     let short = over .before .before .before .before .before .before .before .pre .1 in
-    end-counts going (omega (arith, over .loop-test .left)) (end .finish .last .1 .1 .1 .1 .0) (end .finish .result) (end .finish .ensures .0) (went .if2 .left) (omega (arith, going .few, going .inside, short, end .finish .ensures .1 .0)) (put .put2 .ensures .0) (put .put2 .ensures .1)
+    end-counts going (omega (arith, over .loop-test .left)) (end .finish .last .1 .1 .1 .0) (end .finish .result) (end .finish .ensures .0) (went .if2 .left) (omega (arith, going .few, going .inside, short, end .finish .ensures .1 .0)) (put .put2 .ensures .0) (put .put2 .ensures .1)
 
 pub events-of-spec : {M : Type 1} → statement M
 events-of-spec =

@@ -55,7 +55,7 @@ returns-2 c =
     let a = found .before .before .args in
     let said = c .end-tag .ensures in (
       λ s es d before tables stands h f reach.
-          turned-end s es d (a .at) (a .state) before h reach _ _ (said .1 .0 s es (tables .rows-say) (tables .facts-say) stands) (widened .widened2 .ensures) (a .p) (found .p2 .given .1) f (said .0 s es (tables .rows-say) (tables .facts-say) stands before),
+          turned-end s es d (a .at) (a .state) before h reach _ _ (said .1 .0 s es (tables .facts-say) stands) (widened .widened2 .ensures) (a .p) (found .p2 .given .1) f (said .0 s es (tables .facts-say) stands before),
       said .1 .1,
     )
 
