@@ -30,13 +30,7 @@ fn end_fault(facts: &[u8; 4420], state: Open) -> u32
 }
 
 // Ends are inferred until the current element is x, or there is nothing around it.
-fn end_until(
-    facts: &[u8; 4420],
-    state: Open,
-    x: usize,
-    at: usize,
-    events: &mut [u32; 200],
-) -> Open
+fn end_until(facts: &[u8; 4420], state: Open, x: usize, at: usize, events: &mut [u32; 200]) -> Open
     requires { ⌜ AnyClosing (now facts) state ⌝ }
     requires { ⌜ Fresh state × (at < 4294967296) ⌝ }
     ensures { λ r. ⌜ Until (now (facts .entry)) x at state (now (events .entry)) r (now (events .exit)) ⌝ }
@@ -90,24 +84,19 @@ pub fn end_tag(
 }
 
 // The document's end, at its length.
-pub fn finish(
-    facts: &[u8; 4420],
-    state: Open,
-    at: usize,
-    events: &mut [u32; 200],
-) -> Open
+pub fn finish(facts: &[u8; 4420], state: Open, at: usize, events: &mut [u32; 200]) -> Open
     requires { ⌜ AnyClosing (now facts) state ⌝ }
     requires { ⌜ Fresh state × (at < 4294967296) ⌝ }
     ensures { λ r. ⌜ ((s : List ℕ) (es : List Element) → Facts s es (now (facts .entry)) → Stands es state → (before : List Event) →
         closed at r (now (events .exit)) before ≡ endDocument s es (decided s es) at (stateOf state before)) ⌝ }
     ensures { λ r. ⌜ (r .events ≤ 50) × (r .number < 20) ⌝ }
 {
-    let o = end_until(facts, state, 0, at, events);
-    if o.number != 0 {
-        return o;
+    let left = end_until(facts, state, 0, at, events);
+    if left.number != 0 {
+        return left;
     }
-    if !o.complete {
-        return o.refused(18);
+    if !left.complete {
+        return left.refused(18);
     }
-    o
+    left
 }

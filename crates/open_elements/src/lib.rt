@@ -92,6 +92,8 @@ impl Open {
         ensures { λ r. ⌜ r ≡ opening (now (rows .entry)) element self ⌝ }
     {
         let n = self.count;
+        let complete = type_tables::complete(rows, element, 0);
+        let required = type_tables::required(rows, element, 0);
         let mut around = self.around;
         around[n] = entry_of(self.element, self.place, self.complete, self.required);
         Open {
@@ -99,8 +101,8 @@ impl Open {
             count: n + 1,
             element: element,
             place: 0,
-            complete: type_tables::complete(rows, element, 0),
-            required: type_tables::required(rows, element, 0),
+            complete: complete,
+            required: required,
             events: self.events,
             number: self.number,
         }

@@ -90,8 +90,7 @@ module _ {rows places facts : List ℕ} {x at : ℕ} {o : Open} {events : List �
         let (s, es, tables, stands, most) = turns-any in
         let t = tokenOf x in
         let i : Taken p ≡ wayOf (fitting s es (decided s es) (current o) t) (chained s es t (current o)) = sym e ∙ finds s es tables (stands-requires stands) t (tokenOf-number x) (tokenOf-declared es x most) in
-        let f = way-fits p (fitting s es (decided s es) (current o) t) (chained s es t (current o)) i in
-        (
+        let f = way-fits p (fitting s es (decided s es) (current o) t) (chained s es t (current o)) i in (
           omega (arith, stands-range stands .declared, tables .few),
           omega (arith, f, fits-most s es (tables .accepted) (o .element) (current o .taken) t, width-most s es (tables .accepted) (o .element)),
         )

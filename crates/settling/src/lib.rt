@@ -86,14 +86,14 @@ fn may_end(facts: &[u8; 4420], state: Open) -> bool
     if n == 0 {
         return false;
     }
+    let around = state.around;
+    let parent = around[n - 1];
     if !state.complete {
         return false;
     }
     if !type_tables::end_omitted(facts, state.element) {
         return false;
     }
-    let around = state.around;
-    let parent = around[n - 1];
     parent.element != 0
 }
 
