@@ -10,17 +10,18 @@ use lib.ListN.{getD}
 use Rattle.rules.specs.Walk.{Group, Complete, Required}
 use Rattle.rules.specs.TypeFile.{Place, Content, empty, model, Element}
 use Rattle.rules.specs.Judge.{Accepts}
-use Rattle.rules.specs.Settling.{contentOf, Event, State}
+use Rattle.rules.specs.Settling.{contentOf, Decisions, Means, Event, State}
 use Rattle.rules.specs.Settling as rules
 use Rattle.rules_laws.specs.Within.{All, none, more}
 use Rattle.model_sets.specs.Reach.{lastOr0, next-sound}
 use Rattle.model_sets.specs.Pairs.{next-range}
 use Rattle.document_laws.specs.Decide.{isCompleteIn, requiredOf, decided}
 use Rattle.document_laws.specs.Laws.{accepted-decided}
-use Rattle.document_laws.specs.Same.{Begun, AllBegun}
+use Rattle.document_laws.specs.Same.{Begun, AllBegun, Passes, passes-begun, passes-same}
 use Rattle.type_laws.specs.Width.{typeFile-width}
 use Rattle.last_places.specs.Last.{placed, lastOnly, allLast, short}
 use Rattle.last_places.specs.Short.{last-placed}
+use Rattle.last_places.specs.Turns.{Reaches}
 use Rattle.open_elements.specs.declared.Entry.{Entry}
 use Rattle.open_elements.specs.declared.Open.{Open}
 use Rattle.open_elements.specs.Means as kept
@@ -107,12 +108,29 @@ module _ (s : List ℕ) (es : List Element) (accepted : Accepts s es) where
       let j : allLast os ≡ aroundOf a n = cc in
       (say (getD a n kept.none) o (h n (omega arith)) i x, all-say a n os (λ k l. h k (omega arith)) j b)
 
-  -- "At every moment both must equal what 01's definition says of the places taken": so it is wherever `Stands` holds, which is before the
-  -- first token (`stands-fresh`) and, by the contracts of `settling::token` and `closing::end_tag`, after each that is not refused. Of the
-  -- rules' state z the code keeps the last places; that the places taken begin a walk (`AllBegun`) holds of every state that the rules reach.
+  -- So it is wherever `Stands` holds of the open elements and they have the last places of a state in which the places taken begin walks.
   pub marks-say : (o : Open) → Stands es o → (z : State) (ev : List Event) → AllBegun es z → short z ≡ stateOf o ev → MarksSay es o z
   marks-say o h z ev b e =
       record {
         current = say (covered o) (z .current) (h .marked) (ap (λ (y : State). y .current) e) (b .current);
         around = all-say (o .around) (o .count) (z .around) (λ k l. h .kept k (omega arith)) (ap (λ (y : State). y .around) e) (b .around);
+      }
+
+  -- "At every moment both must equal what 01's definition says of the places taken": reading the document d has come to `at`, and the rules,
+  -- by whatever decisions mean the walks, come there with the state z, of which the marks say what the walks say.
+  pub record AtMoment (d : List ℕ) (at : ℕ) (o : Open) : Type 1 where
+    pub state : State
+    pub passes : (D : Decisions) → Means s es D → Passes s es D d at state
+    pub marks : MarksSay es o state
+
+  -- `Reaches` and `Stands` hold before the first token (`reaches-start`, `stands-fresh`), and by the contracts of `settling::token` and
+  -- `closing::end_tag` after each that is not refused: `settled` of document_events promises both.
+  pub at-every-moment : (d : List ℕ) (at : ℕ) (o : Open) (ev : List Event) → Stands es o → Reaches s es d at (stateOf o ev) → AtMoment d at o
+  at-every-moment d at o ev h r =
+      let means = accepted-decided s es accepted in
+      let f = r .follows in
+      record {
+        state = f .state;
+        passes = λ D x. passes-same s es (decided s es) D means x d (f .passes);
+        marks = marks-say o h (f .state) ev (passes-begun s es (decided s es) means d (f .passes)) (f .same);
       }
