@@ -118,7 +118,7 @@ module _ (s : List ℕ) (es : List Element) (accepted : Accepts s es) where
 
   -- "At every moment both must equal what 01's definition says of the places taken": reading the document d has come to `at`, and the rules,
   -- by whatever decisions mean the walks, come there with the state z, of which the marks say what the walks say.
-  pub record AtMoment (d : List ℕ) (at : ℕ) (o : Open) : Type 1 where
+  pub record AtMoment (d : List ℕ) (at : ℕ) (o : Open) : Type 0 where
     pub state : State
     pub passes : (D : Decisions) → Means s es D → Passes s es D d at state
     pub marks : MarksSay es o state
