@@ -1,5 +1,4 @@
 -- `infer_start` meets its contract: the required place is taken, the element opened there, and its start noted.
-use Prim.Native.Nat.{_≤_}
 use mathlib.Core.Path.{_≡_, _∙_, ap}
 use native.Mathlib.Omega.{arith}
 use borrow.Author.Needs.{needs}

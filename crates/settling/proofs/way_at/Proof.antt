@@ -1,6 +1,5 @@
 -- `way_at` meets its contract: the token fits, or else there is a chain, or neither.
 use mathlib.Core.Path.{sym, _∙_}
-use borrow.Author.Needs.{needs}
 use Rattle.settling.specs.Chains.{way-taken, way-inferred, way-stuck}
 use Rattle.settling.proofs.way_at.Statement.{statement}
 use Rattle.settling.proofs.way_at.Tie as tie

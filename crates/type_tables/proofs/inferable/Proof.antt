@@ -1,5 +1,4 @@
 -- `inferable` meets its contract: what may be started at the place that is required.
-use native.Mathlib.Omega.{arith}
 use Rattle.type_tables.specs.Ranges.{ready-range}
 use Rattle.type_tables.proofs.inferable.Statement.{statement}
 use Rattle.type_tables.proofs.inferable.Tie as tie
