@@ -25,6 +25,6 @@ marks-going {s} {d = d} {at = at} {o = o} g es i t =
 
 -- After each piece that is settled and not refused: what `settled` promises.
 pub marks-turned : {s : List ℕ} {es : List Element} (a : Accepts s es) {d : List ℕ} {at : ℕ} {p : Piece} {l : List ℕ} {before : List Event} {r : Open}
-    → Turned s es d at p l before r → r .number ≡ 0 → isRead p ≡ true → AtMoment s es a d (endOf p at) r
+    → Turned s es d at p l before r → r .top .number ≡ 0 → isRead p ≡ true → AtMoment s es a d (endOf p at) r
 marks-turned {s} {es} a {d} {at} {p} {l} {before} {r} u z i =
-    at-every-moment s es a d (endOf p at) r (before ++ eventsIn l (r .events)) (u .stands z) (u .reaches z i)
+    at-every-moment s es a d (endOf p at) r (before ++ eventsIn l (r .top .events)) (u .stands z) (u .reaches z i)

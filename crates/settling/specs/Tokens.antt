@@ -188,6 +188,14 @@ module _ (s : List ℕ) (es : List Element) (at size : ℕ) (o₀ : Open) (befor
 -- Either of them
 
 module _ (s : List ℕ) (es : List Element) where
+  pub takes-start : (x at after : ℕ) (z : State) → (x ≡ 0 → ⊥) → takes s es x at after z ≡ startElement s es (decided s es) x at after z
+  takes-start zero at after z h = absurd (h refl)
+  takes-start (suc k) at after z h = refl
+
+  pub takes-run : (x at after : ℕ) (z : State) → x ≡ 0 → takes s es x at after z ≡ takeRun s es (decided s es) at (after - at) z
+  takes-run zero at after z h = refl
+  takes-run (suc k) at after z h = absurd (omega arith)
+
   pub takes-over : (x at after : ℕ) (o₀ : Open) (before : List Event) → isOver s es (decided s es) (stateOf o₀ before) ≡ true → {r : Open} (events : List ℕ) → r ≡ refusing 16 o₀ → outcome at r events before ≡ shortly (takes s es x at after (stateOf o₀ before))
   takes-over zero at after o₀ before = run-over s es at (after - at) o₀ before
   takes-over (suc k) at after o₀ before = tag-over s es (suc k) at after o₀ before
