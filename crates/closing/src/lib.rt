@@ -81,22 +81,37 @@ pub fn end_tag(
     let around = state.around;
     let top = state.top;
     if !open_elements::is_open(around, top, x) {
-        return Open { around: around, top: top.refused(11) };
+        return Open {
+            around: around,
+            top: top.refused(11),
+        };
     }
     let o = end_until(facts, around, top, x, at, events);
     if o.number != 0 {
-        return Open { around: around, top: o };
+        return Open {
+            around: around,
+            top: o,
+        };
     }
     let count = o.count;
     if count == 0 {
-        return Open { around: around, top: o.refused(11) };
+        return Open {
+            around: around,
+            top: o.refused(11),
+        };
     }
     if !o.complete {
-        return Open { around: around, top: o.refused(13) };
+        return Open {
+            around: around,
+            top: o.refused(13),
+        };
     }
     let n = open_elements::put_event(events, o.events, 3, x, at, after - at);
     let parent = around[count - 1];
-    Open { around: around, top: o.end(parent).brought(n) }
+    Open {
+        around: around,
+        top: o.end(parent).brought(n),
+    }
 }
 
 // The document's end, at its length.

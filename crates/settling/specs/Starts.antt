@@ -186,6 +186,6 @@ module _ {rows places facts : List ℕ} {at starts k : ℕ} {o o₀ : Open} {eve
       let first = begun (a .s) (a .es) (a .tables) (a .stands) .0 in
       along-next rows places facts at starts h l
       (λ s es tables stands left infers.
-          let (f, noted) = begun s es tables stands in
-          infers-one s es tables stands less (inferable s es (decided s es) (current o)) (o .top .events + 1) refl at left events events' refl noted infers (rw (i, e, f)))
+      let (f, noted) = begun s es tables stands in
+      infers-one s es tables stands less (inferable s es (decided s es) (current o)) (o .top .events + 1) refl at left events events' refl noted infers (rw (i, e, f)))
       (ap (λ (u : Top). u .count) first, ap (λ (u : Top). u .events) first, ap (λ (u : Top). u .number) first)

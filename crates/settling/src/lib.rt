@@ -234,7 +234,8 @@ pub fn token(
     let mut around = state.around;
     let mut o = state.top;
     if is_over(o) {
-        return Open { around: around, top: o.refused(16) };
+        let top = o.refused(16);
+        return Open { around, top };
     }
     let found = loop {
         let w = way_at(rows, places, facts, o.element, o.place, o.required, x);
@@ -245,34 +246,35 @@ pub fn token(
             break w;
         }
         let n = o.count - 1;
-        let parent = around[n];
-        let next = open_elements::infer_end(o, parent, at, events);
-        o = next;
+        o = open_elements::infer_end(o, around[n], at, events);
     };
     let starts = starts_of(found);
     if 24 < o.count + starts {
-        return Open { around: around, top: o.refused(15) };
+        let top = o.refused(15);
+        return Open { around, top };
     }
     let mut k = 0;
     while k < starts {
         let t = o.take(rows, o.required);
         let n = t.count;
         around[n] = t.entry();
-        let next = infer_start(rows, places, facts, t, at, events);
-        o = next;
+        o = infer_start(rows, places, facts, t, at, events);
         k += 1;
     }
-    let t = taken(rows, places, facts, o, found, x);
-    if t.number != 0 {
-        return Open { around: around, top: t };
+    let last = taken(rows, places, facts, o, found, x);
+    if last.number != 0 {
+        return Open { around, top: last };
     }
-    if is_full(t, x) {
-        return Open { around: around, top: t.refused(15) };
+    if is_full(last, x) {
+        let top = last.refused(15);
+        return Open { around, top };
     }
     if !opens(facts, x) {
-        return Open { around: around, top: written(t, x, at, after, events) };
+        let top = written(last, x, at, after, events);
+        return Open { around, top };
     }
-    let n = t.count;
-    around[n] = t.entry();
-    Open { around: around, top: started(rows, t, x, at, after, events) }
+    let n = last.count;
+    around[n] = last.entry();
+    let top = started(rows, last, x, at, after, events);
+    Open { around, top }
 }

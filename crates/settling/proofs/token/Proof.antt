@@ -96,11 +96,11 @@ may-end-requires c κs = any-range _ _ _ _ _ (any (c .before .before .before)) .
 sub-n : tie.Need-sub-n Inv-loop μ-loop Inv-loop2 μ-loop2
 sub-n c = omega (arith, some (c .before))
 
-mul-parent : tie.Need-mul-parent Inv-loop μ-loop Inv-loop2 μ-loop2
-mul-parent c = omega (arith, few (c .before .before .before .before .before .before), some (c .before))
+mul-infer-end : tie.Need-mul-infer-end Inv-loop μ-loop Inv-loop2 μ-loop2
+mul-infer-end c = omega (arith, few (c .before .before .before .before .before .before), some (c .before))
 
-array-copy-out-parent : tie.Need-array-copy-out-parent Inv-loop μ-loop Inv-loop2 μ-loop2
-array-copy-out-parent c = omega (arith, few (c .before .before .before .before .before .before), some (c .before))
+array-copy-out-infer-end : tie.Need-array-copy-out-infer-end Inv-loop μ-loop Inv-loop2 μ-loop2
+array-copy-out-infer-end c = omega (arith, few (c .before .before .before .before .before .before), some (c .before))
 
 infer-end-requires : tie.Need-infer-end-requires Inv-loop μ-loop Inv-loop2 μ-loop2
 infer-end-requires c κs =
@@ -405,8 +405,8 @@ token-spec =
     enum-told
     may-end-requires
     sub-n
-    mul-parent
-    array-copy-out-parent
+    mul-infer-end
+    array-copy-out-infer-end
     infer-end-requires
     loop-less
     loop-again
