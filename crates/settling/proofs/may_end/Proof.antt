@@ -9,7 +9,7 @@ use Rattle.settling.proofs.may_end.Statement.{statement}
 use Rattle.settling.proofs.may_end.Tie as tie
 
 returns : tie.Need-returns
-returns c = λ around s es facts stands. document-stays s stands (c .if1 .taken)
+returns c = λ around s es facts stands. document-stays s stands (omega (arith, c .if1 .taken))
 
 returns-2 : tie.Need-returns-2
 returns-2 c = λ around s es facts stands. incomplete-stays s stands (omega (arith, c .before .before .if1 .left)) (not-true _ (c .if2 .taken))
