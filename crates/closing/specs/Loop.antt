@@ -4,73 +4,58 @@ use mathlib.Core.Path.{_≡_, refl, ap, sym, _∙_, subst}
 use mathlib.Core.Bool.{Bool, true, false}
 use mathlib.Core.List.{List, [], _∷_, _++_}
 use native.Mathlib.Omega.{arith}
-use lib.ListN.{length}
 use Rattle.rules.specs.Reading.{refused, got, andThen}
-use Rattle.rules.specs.TypeFile.{Content, empty, model, Element}
-use Rattle.rules.specs.Judge.{Accepts}
-use Rattle.rules.specs.Settling.{contentOf, placesIn, endO, start, Event, endInferred, endLeftOut}
+use Rattle.rules.specs.TypeFile.{Element}
+use Rattle.rules.specs.Settling.{endO, start, Event, endInferred, endLeftOut}
 use Rattle.document_laws.specs.Decide.{decided}
-use Rattle.type_laws.specs.Width.{typeFile-width}
-use Rattle.last_places.specs.Last.{placed, InRange}
-use Rattle.type_tables.specs.Means.{standing, width, Declares, Rows, Facts}
+use Rattle.type_tables.specs.Means.{Declares, Facts}
 use Rattle.open_elements.specs.declared.Open.{Open}
-use Rattle.open_elements.specs.Means.{current, around, stateOf, ended, bringing, refusing, eventsIn, outcomeOf, outcome, Stands, AnyClosing}
-use Rattle.open_elements.specs.Laws.{around-ended, around-none, stands-range, stands-place, stands-element, stands-ended, stands-bringing, stands-refusing, events-more}
+use Rattle.open_elements.specs.Means.{current, around, stateOf, eventsIn, outcomeOf, outcome, Stands, AnyClosing}
+use Rattle.open_elements.specs.Whole.{ended, bringing, refusing}
+use Rattle.open_elements.specs.Laws.{around-ended, around-none, stands-range, stands-element, stands-ended, stands-bringing, stands-refusing, events-more}
 use Rattle.closing.specs.Means.{inferEnds, inferred, dueOf, Judges, Until, Goes}
 use Rattle.closing.specs.Ends.{left-incomplete, left-required, left-out, ends-here, ends-none, ends-past}
 
 -- What is asked of the tables
 
-width-in : {s : List ℕ} {es : List Element} → Accepts s es → (e : ℕ) → width es e ≤ 96
-width-in {s} {es} a e = by-content (contentOf es e) refl
-  where
-    by-content : (x : Content) → contentOf es e ≡ x → length (placesIn x) ≤ 96
-    by-content empty h = omega arith
-    by-content (model g ps n) h = let (same, few, numbered) = typeFile-width s es (a .elements) e h in omega arith
+-- The current element lies within the tables, and at most 24 are open.
+pub tabled : {facts : List ℕ} {o : Open} → AnyClosing facts o → (o .top .element ≤ 64) × (o .top .count ≤ 24)
+tabled {facts} {o} (s, es, few, f, h) = (omega (arith, stands-range h .declared), h .few)
 
--- The current element and its place lie within the tables, and at most 24 are open.
-pub tabled : {rows facts : List ℕ} {o : Open} → AnyClosing rows facts o → (o .element ≤ 64) × (o .place ≤ 96) × (o .count ≤ 24)
-tabled {rows} {facts} {o} (s, es, a, few, r, f, h) =
-    (omega (arith, stands-range h .declared), omega (arith, stands-place h, width-in a (o .element)), h .few)
-
-pub anyClosing-goes : {rows facts : List ℕ} {o r : Open} → AnyClosing rows facts o → ((es : List Element) → Stands es o → Stands es r) → AnyClosing rows facts r
-anyClosing-goes (s, es, a, few, r, f, h) go = (s, es, a, few, r, f, go es h)
+pub anyClosing-goes : {facts : List ℕ} {o r : Open} → AnyClosing facts o → ((es : List Element) → Stands es o → Stands es r) → AnyClosing facts r
+anyClosing-goes (s, es, few, f, h) go = (s, es, few, f, go es h)
 
 -- What the tables' answers say
-
--- The content of the element e after the place u is complete, or not.
-abbrev pub SaysComplete : (rows : List ℕ) (e u : ℕ) → Bool → Type 0
-SaysComplete rows e u b = (s : List ℕ) (es : List Element) → Rows es rows → InRange es (standing e u) → b ≡ decided s es .complete e (placed u)
 
 -- The end of the element e may be left out, or not.
 abbrev pub SaysOmitted : (facts : List ℕ) (e : ℕ) → Bool → Type 0
 SaysOmitted facts e b = (s : List ℕ) (es : List Element) → Facts s es facts → Declares es (start e) → b ≡ endO es e
 
 -- The current element is declared, where something is around it.
-declared : {es : List Element} {o : Open} → Stands es o → 1 ≤ o .count → Declares es (start (o .element))
+declared : {es : List Element} {o : Open} → Stands es o → 1 ≤ o .top .count → Declares es (start (o .top .element))
 declared h l = (stands-element h l, stands-range h .declared)
 
-module _ (rows facts : List ℕ) (o : Open) where
-  pub judges-incomplete : {b : Bool} → b ≡ false → SaysComplete rows (o .element) (o .place) b → Judges rows facts o 13
-  judges-incomplete e c s es r f h l at = left-incomplete s es (decided s es) at (current o) (sym (c s es r (stands-range h)) ∙ e)
+module _ (facts : List ℕ) (o : Open) where
+  pub judges-incomplete : o .top .complete ≡ false → Judges facts o 13
+  judges-incomplete e s es f h l at = left-incomplete s es (decided s es) at (current o) (sym (h .marked .complete) ∙ e)
 
-  pub judges-required : {b d : Bool} → b ≡ true → SaysComplete rows (o .element) (o .place) b → d ≡ false → SaysOmitted facts (o .element) d → Judges rows facts o 14
-  judges-required e c g m s es r f h l at =
-      left-required s es (decided s es) at (current o) (sym (c s es r (stands-range h)) ∙ e) (sym (m s es f (declared h l)) ∙ g)
+  pub judges-required : {d : Bool} → o .top .complete ≡ true → d ≡ false → SaysOmitted facts (o .top .element) d → Judges facts o 14
+  judges-required e g m s es f h l at =
+      left-required s es (decided s es) at (current o) (sym (h .marked .complete) ∙ e) (sym (m s es f (declared h l)) ∙ g)
 
-  pub judges-out : {b d : Bool} → b ≡ true → SaysComplete rows (o .element) (o .place) b → d ≡ true → SaysOmitted facts (o .element) d → Judges rows facts o 0
-  judges-out e c g m s es r f h l at =
-      left-out s es (decided s es) at (current o) (sym (c s es r (stands-range h)) ∙ e) (sym (m s es f (declared h l)) ∙ g)
+  pub judges-out : {d : Bool} → o .top .complete ≡ true → d ≡ true → SaysOmitted facts (o .top .element) d → Judges facts o 0
+  judges-out e g m s es f h l at =
+      left-out s es (decided s es) at (current o) (sym (h .marked .complete) ∙ e) (sym (m s es f (declared h l)) ∙ g)
 
 -- The loop
 
-pub outcome-got : (at : ℕ) (o : Open) (events : List ℕ) (before : List Event) → o .number ≡ 0 → outcome at o events before ≡ got (stateOf o (before ++ eventsIn events (o .events)))
+pub outcome-got : (at : ℕ) (o : Open) (events : List ℕ) (before : List Event) → o .top .number ≡ 0 → outcome at o events before ≡ got (stateOf o (before ++ eventsIn events (o .top .events)))
 outcome-got at o events before e = rw e
 
-pub outcome-refused : (at : ℕ) (o : Open) (events : List ℕ) (before : List Event) → (o .number ≡ 0 → ⊥) → outcome at o events before ≡ refused (o .number) at
-outcome-refused at o events before h = by-number (o .number) h
+pub outcome-refused : (at : ℕ) (o : Open) (events : List ℕ) (before : List Event) → (o .top .number ≡ 0 → ⊥) → outcome at o events before ≡ refused (o .top .number) at
+outcome-refused at o events before h = by-number (o .top .number) h
   where
-    by-number : (n : ℕ) → (n ≡ 0 → ⊥) → outcomeOf at n (stateOf o (before ++ eventsIn events (o .events))) ≡ refused n at
+    by-number : (n : ℕ) → (n ≡ 0 → ⊥) → outcomeOf at n (stateOf o (before ++ eventsIn events (o .top .events))) ≡ refused n at
     by-number zero h = absurd (h refl)
     by-number (suc n) h = refl
 
@@ -78,76 +63,76 @@ due-refused : (at n : ℕ) (e : Event) → (n ≡ 0 → ⊥) → dueOf at n e �
 due-refused at zero e h = absurd (h refl)
 due-refused at (suc n) e h = refl
 
-inferred-none : (s : List ℕ) (es : List Element) (x at : ℕ) (o : Open) (events : List ℕ) (before : List Event) → o .count ≡ 0
-    → inferred s es x at o events before ≡ got (stateOf o (before ++ eventsIn events (o .events)))
+inferred-none : (s : List ℕ) (es : List Element) (x at : ℕ) (o : Open) (events : List ℕ) (before : List Event) → o .top .count ≡ 0
+    → inferred s es x at o events before ≡ got (stateOf o (before ++ eventsIn events (o .top .events)))
 inferred-none s es x at o events before e =
-    let ev = before ++ eventsIn events (o .events) in
+    let ev = before ++ eventsIn events (o .top .events) in
     subst (λ os. inferEnds s es (decided s es) x at os (current o) ev ≡ got (record { current = current o; around = os; events = ev })) (sym (around-none o e))
     (ends-none s es (decided s es) x at (current o) ev)
 
 -- One turn: what is around the current element is taken apart, and its end is due.
-inferred-past : (s : List ℕ) (es : List Element) (x at : ℕ) (o : Open) (events : List ℕ) (before : List Event) → 1 ≤ o .count → (o .element ≡ x → ⊥)
+inferred-past : (s : List ℕ) (es : List Element) (x at : ℕ) (o : Open) (events : List ℕ) (before : List Event) → 1 ≤ o .top .count → (o .top .element ≡ x → ⊥)
     → inferred s es x at o events before
-    ≡ andThen (endLeftOut s es (decided s es) at (current o)) λ e. inferEnds s es (decided s es) x at (around (ended o)) (current (ended o)) ((before ++ eventsIn events (o .events)) ++ e ∷ [])
+    ≡ andThen (endLeftOut s es (decided s es) at (current o)) λ e. inferEnds s es (decided s es) x at (around (ended o)) (current (ended o)) ((before ++ eventsIn events (o .top .events)) ++ e ∷ [])
 inferred-past s es x at o events before l n =
-    ap (λ os. inferEnds s es (decided s es) x at os (current o) (before ++ eventsIn events (o .events))) (around-ended o l)
-    ∙ ends-past s es (decided s es) x at (current (ended o)) (around (ended o)) (current o) (before ++ eventsIn events (o .events)) n
+    ap (λ os. inferEnds s es (decided s es) x at os (current o) (before ++ eventsIn events (o .top .events))) (around-ended o l)
+    ∙ ends-past s es (decided s es) x at (current (ended o)) (around (ended o)) (current o) (before ++ eventsIn events (o .top .events)) n
 
-module _ {rows facts : List ℕ} {x at : ℕ} {o : Open} {from : List ℕ} where
-  pub goes-start : o .number ≡ 0 → Goes rows facts x at o from o from
-  goes-start e = record { few = omega arith; number = e; stands = λ es h. h; same = λ s es r f h before. refl }
+module _ {facts : List ℕ} {x at : ℕ} {o : Open} {from : List ℕ} where
+  pub goes-start : o .top .number ≡ 0 → Goes facts x at o from o from
+  goes-start e = record { few = omega arith; number = e; stands = λ es h. h; same = λ s es f h before. refl }
 
-  module _ {r : Open} {events : List ℕ} (g : Goes rows facts x at o from r events) where
-    pub goes-turn : {q : Open} {now : List ℕ} {n : ℕ} → 1 ≤ r .count → (r .element ≡ x → ⊥) → n ≡ 0 → Judges rows facts r n → q ≡ bringing (r .events + 1) (ended r)
-        → eventsIn now (r .events + 1) ≡ eventsIn events (r .events) ++ endInferred (r .element) at ∷ [] → Goes rows facts x at o from q now
+  module _ {r : Open} {events : List ℕ} (g : Goes facts x at o from r events) where
+    pub goes-turn : {q : Open} {now : List ℕ} {n : ℕ} → 1 ≤ r .top .count → (r .top .element ≡ x → ⊥) → n ≡ 0 → Judges facts r n → q ≡ bringing (r .top .events + 1) (ended r)
+        → eventsIn now (r .top .events + 1) ≡ eventsIn events (r .top .events) ++ endInferred (r .top .element) at ∷ [] → Goes facts x at o from q now
     goes-turn {q} {now} l m z j e ev =
-        subst (λ (t : Open). Goes rows facts x at o from t now) (sym e)
+        subst (λ (t : Open). Goes facts x at o from t now) (sym e)
         (record {
           few = omega (arith, g .few);
           number = g .number;
-          stands = λ es h. stands-bringing (r .events + 1) (stands-ended (g .stands es h) l);
-          same = λ s es w f h before.
-              ap (λ t. inferEnds s es (decided s es) x at (around (ended r)) (current (ended r)) t) (events-more before (eventsIn events (r .events)) (endInferred (r .element) at) ev)
+          stands = λ es h. stands-bringing (r .top .events + 1) (stands-ended (g .stands es h) l);
+          same = λ s es f h before.
+              ap (λ t. inferEnds s es (decided s es) x at (around (ended r)) (current (ended r)) t) (events-more before (eventsIn events (r .top .events)) (endInferred (r .top .element) at) ev)
               ∙ sym (inferred-past s es x at r events before l m
-              ∙ ap (λ d. andThen d λ t. inferEnds s es (decided s es) x at (around (ended r)) (current (ended r)) ((before ++ eventsIn events (r .events)) ++ t ∷ []))
-              (j s es w f (g .stands es h) l at ∙ ap (λ k. dueOf at k (endInferred (r .element) at)) z))
-              ∙ g .same s es w f h before;
+              ∙ ap (λ d. andThen d λ t. inferEnds s es (decided s es) x at (around (ended r)) (current (ended r)) ((before ++ eventsIn events (r .top .events)) ++ t ∷ []))
+              (j s es f (g .stands es h) l at ∙ ap (λ k. dueOf at k (endInferred (r .top .element) at)) z))
+              ∙ g .same s es f h before;
         })
 
-    pub until-here : r .element ≡ x → Until rows facts x at o from r events
+    pub until-here : r .top .element ≡ x → Until facts x at o from r events
     until-here e =
         record {
           few = g .few;
           small = omega (arith, g .number);
           stands = g .stands;
           reached = λ z l. e;
-          same = λ s es w f h before.
-              outcome-got at r events before (g .number) ∙ sym (ends-here s es (decided s es) x at (around r) (current r) (before ++ eventsIn events (r .events)) e) ∙ g .same s es w f h before;
+          same = λ s es f h before.
+              outcome-got at r events before (g .number) ∙ sym (ends-here s es (decided s es) x at (around r) (current r) (before ++ eventsIn events (r .top .events)) e) ∙ g .same s es f h before;
         }
 
-    pub until-none : r .count ≡ 0 → Until rows facts x at o from r events
+    pub until-none : r .top .count ≡ 0 → Until facts x at o from r events
     until-none e =
         record {
           few = g .few;
           small = omega (arith, g .number);
           stands = g .stands;
           reached = λ z l. absurd (omega arith);
-          same = λ s es w f h before.
-              outcome-got at r events before (g .number) ∙ sym (inferred-none s es x at r events before e) ∙ g .same s es w f h before;
+          same = λ s es f h before.
+              outcome-got at r events before (g .number) ∙ sym (inferred-none s es x at r events before e) ∙ g .same s es f h before;
         }
 
-    pub until-refused : {q : Open} {n : ℕ} → 1 ≤ r .count → (r .element ≡ x → ⊥) → (n ≡ 0 → ⊥) → n < 20 → Judges rows facts r n → q ≡ refusing n r → Until rows facts x at o from q events
+    pub until-refused : {q : Open} {n : ℕ} → 1 ≤ r .top .count → (r .top .element ≡ x → ⊥) → (n ≡ 0 → ⊥) → n < 20 → Judges facts r n → q ≡ refusing n r → Until facts x at o from q events
     until-refused {q} {n} l m z small j e =
-        subst (λ (t : Open). Until rows facts x at o from t events) (sym e)
+        subst (λ (t : Open). Until facts x at o from t events) (sym e)
         (record {
           few = g .few;
           small = small;
           stands = λ es h. stands-refusing n (g .stands es h);
           reached = λ y k. absurd (z y);
-          same = λ s es w f h before.
+          same = λ s es f h before.
               outcome-refused at (refusing n r) events before z
               ∙ sym (inferred-past s es x at r events before l m
-              ∙ ap (λ d. andThen d λ t. inferEnds s es (decided s es) x at (around (ended r)) (current (ended r)) ((before ++ eventsIn events (r .events)) ++ t ∷ []))
-              (j s es w f (g .stands es h) l at ∙ due-refused at n (endInferred (r .element) at) z))
-              ∙ g .same s es w f h before;
+              ∙ ap (λ d. andThen d λ t. inferEnds s es (decided s es) x at (around (ended r)) (current (ended r)) ((before ++ eventsIn events (r .top .events)) ++ t ∷ []))
+              (j s es f (g .stands es h) l at ∙ due-refused at n (endInferred (r .top .element) at) z))
+              ∙ g .same s es f h before;
         })

@@ -1,7 +1,9 @@
 // How an end tag and the document's end close open elements.
 //
-// `rows` and `facts` are tables of the type (crate type_tables).
+// `facts` is a table of the type (crate type_tables). Whether an open element is complete is kept with it.
+use open_elements::Entry;
 use open_elements::Open;
+use open_elements::Top;
 ghost use mathlib.Core.Path.{_≡_};
 ghost use mathlib.Core.List.{List};
 ghost use Prim.Native.Nat.{ℕ, _≤_, _<_};
@@ -9,17 +11,18 @@ ghost use Rattle.rules.specs.TypeFile.{Element};
 ghost use Rattle.rules.specs.Settling.{Event, endElement, endDocument};
 ghost use Rattle.document_laws.specs.Decide.{decided};
 ghost use Rattle.last_places.specs.Last.{shortly};
-ghost use Rattle.type_tables.specs.Means.{Rows, Facts};
-ghost use Rattle.open_elements.specs.Means.{stateOf, outcome, closed, Stands, AnyClosing, Fresh};
+ghost use Rattle.type_tables.specs.Means.{Facts};
+ghost use Rattle.open_elements.specs.declared.Entry.{Entry};
+ghost use Rattle.open_elements.specs.Means.{openOf, stateOf, outcome, closed, Stands, AnyClosing, Fresh};
 ghost use Rattle.closing.specs.Means.{Judges, Until};
 
 // Why the current element cannot have its end inferred by an end tag or the document's end: 13, 14, or 0 if it can.
-fn end_fault(rows: &[u8; 88270], facts: &[u8; 4420], state: Open) -> u32
-    requires { ⌜ (state .element ≤ 64) × (state .place ≤ 96) ⌝ }
-    ensures { λ r. ⌜ (r < 20) × Judges (now (rows .entry)) (now (facts .entry)) state r ⌝ }
+fn end_fault(facts: &[u8; 4420], top: Top) -> u32
+    requires { ⌜ top .element ≤ 64 ⌝ }
+    ensures { λ r. ⌜ (r < 20) × ((around : List Entry) → Judges (now (facts .entry)) (openOf around top) r) ⌝ }
 {
-    let complete = type_tables::complete(rows, state.element, state.place);
-    let omitted = type_tables::end_omitted(facts, state.element);
+    let complete = top.complete;
+    let omitted = type_tables::end_omitted(facts, top.element);
     if !complete {
         return 13;
     }
@@ -31,35 +34,36 @@ fn end_fault(rows: &[u8; 88270], facts: &[u8; 4420], state: Open) -> u32
 
 // Ends are inferred until the current element is x, or there is nothing around it.
 fn end_until(
-    rows: &[u8; 88270],
     facts: &[u8; 4420],
-    state: Open,
+    around: [Entry; 24],
+    top: Top,
     x: usize,
     at: usize,
     events: &mut [u32; 200],
-) -> Open
-    requires { ⌜ AnyClosing (now rows) (now facts) state ⌝ }
-    requires { ⌜ Fresh state × (at < 4294967296) ⌝ }
-    ensures { λ r. ⌜ Until (now (rows .entry)) (now (facts .entry)) x at state (now (events .entry)) r (now (events .exit)) ⌝ }
+) -> Top
+    requires { ⌜ AnyClosing (now facts) (openOf around top) ⌝ }
+    requires { ⌜ Fresh (openOf around top) × (at < 4294967296) ⌝ }
+    ensures { λ r. ⌜ Until (now (facts .entry)) x at (openOf around top) (now (events .entry)) (openOf around r) (now (events .exit)) ⌝ }
 {
-    let mut o = state;
+    let mut o = top;
     while 0 < o.count {
         if o.element == x {
             return o;
         }
-        let f = end_fault(rows, facts, o);
+        let f = end_fault(facts, o);
         if f != 0 {
             return o.refused(f);
         }
-        let parent = open_elements::infer_end(o, at, events);
-        o = parent;
+        let n = o.count - 1;
+        let parent = around[n];
+        let next = open_elements::infer_end(o, parent, at, events);
+        o = next;
     }
     o
 }
 
 // The end tag of the element x, from `at` to `after`.
 pub fn end_tag(
-    rows: &[u8; 88270],
     facts: &[u8; 4420],
     state: Open,
     x: usize,
@@ -67,50 +71,64 @@ pub fn end_tag(
     after: usize,
     events: &mut [u32; 200],
 ) -> Open
-    requires { ⌜ AnyClosing (now rows) (now facts) state ⌝ }
+    requires { ⌜ AnyClosing (now facts) state ⌝ }
     requires { ⌜ Fresh state × (at ≤ after) × (after < 4294967296) × (1 ≤ x) × (x ≤ 64) ⌝ }
-    ensures { λ r. ⌜ ((s : List ℕ) (es : List Element) → Rows es (now (rows .entry)) → Facts s es (now (facts .entry)) → Stands es state → (before : List Event) →
+    ensures { λ r. ⌜ ((s : List ℕ) (es : List Element) → Facts s es (now (facts .entry)) → Stands es state → (before : List Event) →
         outcome at r (now (events .exit)) before ≡ shortly (endElement s es (decided s es) x at after (stateOf state before))) ⌝ }
-    ensures { λ r. ⌜ ((s : List ℕ) (es : List Element) → Rows es (now (rows .entry)) → Facts s es (now (facts .entry)) → Stands es state → r .number ≡ 0 → Stands es r) ⌝ }
-    ensures { λ r. ⌜ (r .events ≤ 50) × (r .number < 20) ⌝ }
+    ensures { λ r. ⌜ ((s : List ℕ) (es : List Element) → Facts s es (now (facts .entry)) → Stands es state → r .top .number ≡ 0 → Stands es r) ⌝ }
+    ensures { λ r. ⌜ (r .top .events ≤ 50) × (r .top .number < 20) ⌝ }
 {
-    if !open_elements::is_open(state, x) {
-        return state.refused(11);
+    let around = state.around;
+    let top = state.top;
+    if !open_elements::is_open(around, top, x) {
+        return Open {
+            around: around,
+            top: top.refused(11),
+        };
     }
-    let o = end_until(rows, facts, state, x, at, events);
+    let o = end_until(facts, around, top, x, at, events);
     if o.number != 0 {
-        return o;
+        return Open {
+            around: around,
+            top: o,
+        };
     }
-    if o.count == 0 {
-        return o.refused(11);
+    let count = o.count;
+    if count == 0 {
+        return Open {
+            around: around,
+            top: o.refused(11),
+        };
     }
-    if !type_tables::complete(rows, x, o.place) {
-        return o.refused(13);
+    if !o.complete {
+        return Open {
+            around: around,
+            top: o.refused(13),
+        };
     }
     let n = open_elements::put_event(events, o.events, 3, x, at, after - at);
-    o.end().brought(n)
+    let parent = around[count - 1];
+    Open {
+        around: around,
+        top: o.end(parent).brought(n),
+    }
 }
 
 // The document's end, at its length.
-pub fn finish(
-    rows: &[u8; 88270],
-    facts: &[u8; 4420],
-    state: Open,
-    at: usize,
-    events: &mut [u32; 200],
-) -> Open
-    requires { ⌜ AnyClosing (now rows) (now facts) state ⌝ }
+pub fn finish(facts: &[u8; 4420], state: Open, at: usize, events: &mut [u32; 200]) -> Top
+    requires { ⌜ AnyClosing (now facts) state ⌝ }
     requires { ⌜ Fresh state × (at < 4294967296) ⌝ }
-    ensures { λ r. ⌜ ((s : List ℕ) (es : List Element) → Rows es (now (rows .entry)) → Facts s es (now (facts .entry)) → Stands es state → (before : List Event) →
+    ensures { λ r. ⌜ ((s : List ℕ) (es : List Element) → Facts s es (now (facts .entry)) → Stands es state → (before : List Event) →
         closed at r (now (events .exit)) before ≡ endDocument s es (decided s es) at (stateOf state before)) ⌝ }
     ensures { λ r. ⌜ (r .events ≤ 50) × (r .number < 20) ⌝ }
 {
-    let o = end_until(rows, facts, state, 0, at, events);
-    if o.number != 0 {
-        return o;
+    let around = state.around;
+    let left = end_until(facts, around, state.top, 0, at, events);
+    if left.number != 0 {
+        return left;
     }
-    if !type_tables::complete(rows, o.element, o.place) {
-        return o.refused(18);
+    if !left.complete {
+        return left.refused(18);
     }
-    o
+    left
 }

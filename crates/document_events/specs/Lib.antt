@@ -3,3 +3,4 @@ pub mod Means
 pub mod Named
 pub mod Pieces
 pub mod Turns
+pub mod Marks

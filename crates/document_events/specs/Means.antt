@@ -92,14 +92,14 @@ isRead (found.Refused f) = false
 -- These elements are open in some type whose tables these are, and this stands at `at` of some document.
 abbrev pub AnyTurn : (rows places facts : List ℕ) (o : Open) (at : ℕ) → Piece → Type 0
 AnyTurn rows places facts o at p =
-    (s : List ℕ) × (es : List Element) × (d : List ℕ) × Tables s es rows places facts × Stands es o × (at < length d) × (length d ≤ 65535) × Finds s es d (o .element) (o .place) at p
+    (s : List ℕ) × (es : List Element) × (d : List ℕ) × Tables s es rows places facts × Stands es o × (at < length d) × (length d ≤ 65535) × Finds s es d (o .top .element) (o .top .place) at p
 
 -- What a turn leaves of the open elements, where these events were before it: reading goes on behind what stands at `at`, or the document
 -- is refused there.
 pub record Turned (s : List ℕ) (es : List Element) (d : List ℕ) (at : ℕ) (p : Piece) (events : List ℕ) (before : List Event) (r : Open) : Type 0 where
-  pub reaches : r .number ≡ 0 → isRead p ≡ true → Reaches s es d (endOf p at) (stateOf r (before ++ eventsIn events (r .events)))
-  pub stands : r .number ≡ 0 → Stands es r
-  pub refuses : 1 ≤ r .number → document s es (decided s es) d ≡ refused (r .number) at
+  pub reaches : r .top .number ≡ 0 → isRead p ≡ true → Reaches s es d (endOf p at) (stateOf r (before ++ eventsIn events (r .top .events)))
+  pub stands : r .top .number ≡ 0 → Stands es r
+  pub refuses : 1 ≤ r .top .number → document s es (decided s es) d ≡ refused (r .top .number) at
 
 -- Reading has come to `at` with these elements open, and the events so far are in the buffers as far as they fit.
 pub record Comes (s : List ℕ) (es : List Element) (d numbers numbersNow bytes bytesNow : List ℕ) (count at : ℕ) (o : Open) : Type 0 where

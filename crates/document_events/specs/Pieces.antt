@@ -105,17 +105,17 @@ module _ {rows places facts : List ℕ} {o : Open} {at : ℕ} {p : Piece} (fresh
     pub token-asked : p ≡ found.Token x after → AnyStands rows places facts o y × (Fresh o × (at ≤ after) × (after < 4294967296))
     token-asked q =
         let (s, es, d, tables, stands, h, few, f) = a in
-        let j = token-declared s es d (o .element) (o .place) at p f w q in
-        let (k, m) = finds-range s es d (o .element) (o .place) at h p (ap isRead q) f in
+        let j = token-declared s es d (o .top .element) (o .top .place) at p f w q in
+        let (k, m) = finds-range s es d (o .top .element) (o .top .place) at h p (ap isRead q) f in
         let range : (at < endOf p at) × (endOf p at ≤ 65535) = (k, omega arith) in
         let (i, l) : (at < after) × (after ≤ 65535) = rw q at range in
         ((s, es, tables, stands, j), (fresh, omega arith, omega arith))
 
-    pub end-asked : p ≡ found.End x after → AnyClosing rows facts o × (Fresh o × (at ≤ after) × (after < 4294967296) × (1 ≤ y) × (y ≤ 64))
+    pub end-asked : p ≡ found.End x after → AnyClosing facts o × (Fresh o × (at ≤ after) × (after < 4294967296) × (1 ≤ y) × (y ≤ 64))
     end-asked q =
         let (s, es, d, tables, stands, h, few, f) = a in
         let (n, l) = rw q at f in
         let (k, m) = end-tag-range d at h _ (n .there) in (
-          (s, es, tables .accepted, tables .few, tables .rows-say, tables .facts-say, stands),
+          (s, es, tables .few, tables .facts-say, stands),
           (fresh, omega arith, omega arith, omega arith, omega (arith, n .number, numberOf-range s es d (n .name) (n .size), tables .few)),
         )

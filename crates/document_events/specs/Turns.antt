@@ -17,9 +17,11 @@ use Rattle.last_places.specs.Last.{shortly, InRange}
 use Rattle.last_places.specs.Turns.{Reaches, reaches-start, reaches-end, refused-piece, refused-undeclared-start, refused-undeclared-end, reaches-start-tag, refused-start-tag, reaches-end-tag, refused-end-tag, reaches-skipped, reaches-blank, reaches-run, refused-run}
 use Rattle.type_laws.specs.Pcdata.{pcdata-stays}
 use Rattle.element_index.specs.Means.{Indexed, AnyIndexed}
-use Rattle.type_tables.specs.Means.{standing, Rows, Facts, Tables, ReadyFor}
+use Rattle.type_tables.specs.Means.{standing, Facts, Tables, ReadyFor}
+use Rattle.open_elements.specs.declared.Top.{Top}
 use Rattle.open_elements.specs.declared.Open.{Open}
-use Rattle.open_elements.specs.Means.{stateOf, eventAt, eventsIn, outcomeOf, outcome, closedOf, closed, fresh, bringing, Stands, AnyClosing, Fresh}
+use Rattle.open_elements.specs.Means.{stateOf, eventAt, eventsIn, outcomeOf, outcome, closedOf, closed, fresh, Stands, AnyClosing, Fresh}
+use Rattle.open_elements.specs.Whole.{bringing}
 use Rattle.open_elements.specs.Laws.{stands-range, stands-fresh, stands-bringing, events-none}
 use Rattle.settling.specs.Means.{takes}
 use Rattle.settling.specs.Tokens.{takes-start, takes-run}
@@ -73,26 +75,26 @@ closedOf-refused at (suc n) ev l = refl
 
 module _ (at : ℕ) (r : Open) (l : List ℕ) (before : List Event) where
   abbrev after : List Event
-  after = before ++ eventsIn l (r .events)
+  after = before ++ eventsIn l (r .top .events)
 
   module _ {x : Reading State} (e : outcome at r l before ≡ x) where
-    outcome-got : r .number ≡ 0 → x ≡ got (stateOf r after)
+    outcome-got : r .top .number ≡ 0 → x ≡ got (stateOf r after)
     outcome-got z = sym e ∙ ap (λ (n : ℕ). outcomeOf at n (stateOf r after)) z
 
-    outcome-refused : 1 ≤ r .number → x ≡ refused (r .number) at
-    outcome-refused i = sym e ∙ outcomeOf-refused at (r .number) (stateOf r after) i
+    outcome-refused : 1 ≤ r .top .number → x ≡ refused (r .top .number) at
+    outcome-refused i = sym e ∙ outcomeOf-refused at (r .top .number) (stateOf r after) i
 
-  module _ {x : Reading (List Event)} (e : closed at r l before ≡ x) where
-    closed-got : r .number ≡ 0 → x ≡ got after
-    closed-got z = sym e ∙ ap (λ (n : ℕ). closedOf at n after) z
+module _ (at : ℕ) (r : Top) (l : List ℕ) (before : List Event) {x : Reading (List Event)} (e : closed at r l before ≡ x) where
+  closed-got : r .number ≡ 0 → x ≡ got (before ++ eventsIn l (r .events))
+  closed-got z = sym e ∙ ap (λ (n : ℕ). closedOf at n (before ++ eventsIn l (r .events))) z
 
-    closed-refused : 1 ≤ r .number → x ≡ refused (r .number) at
-    closed-refused i = sym e ∙ closedOf-refused at (r .number) after i
+  closed-refused : 1 ≤ r .number → x ≡ refused (r .number) at
+  closed-refused i = sym e ∙ closedOf-refused at (r .number) (before ++ eventsIn l (r .events)) i
 
 module _ (s : List ℕ) (es : List Element) (d : List ℕ) (at : ℕ) (o : Open) (before : List Event) (h : at < length d) (reach : Reaches s es d at (stateOf o before)) (l : List ℕ) (r : Open) where
   -- What stands at `at` is a token that was settled.
-  module _ (stands : r .number ≡ 0 → Stands es r) {x y after : ℕ} (w : y ≡ x) where
-    pub turned-end : (p : Piece) → p ≡ found.End x after → Finds s es d (o .element) (o .place) at p → outcome at r l before ≡ shortly (endElement s es (decided s es) y at after (stateOf o before)) → Turned s es d at p l before r
+  module _ (stands : r .top .number ≡ 0 → Stands es r) {x y after : ℕ} (w : y ≡ x) where
+    pub turned-end : (p : Piece) → p ≡ found.End x after → Finds s es d (o .top .element) (o .top .place) at p → outcome at r l before ≡ shortly (endElement s es (decided s es) y at after (stateOf o before)) → Turned s es d at p l before r
     turned-end p q f v =
         let (n, i) = rw q at f in
         let e = rw w at v in
@@ -103,8 +105,8 @@ module _ (s : List ℕ) (es : List Element) (d : List ℕ) (at : ℕ) (o : Open)
         })
 
   -- A start tag or a run of data, for 0, up to `after`.
-  module _ (stands : r .number ≡ 0 → Stands es r) (accepted : Accepts s es) (x after : ℕ) where
-    turned-settled : ToSettle s es d (o .element) (o .place) at x after → outcome at r l before ≡ shortly (takes s es x at after (stateOf o before)) → Turned s es d at (found.Token x after) l before r
+  module _ (stands : r .top .number ≡ 0 → Stands es r) (accepted : Accepts s es) (x after : ℕ) where
+    turned-settled : ToSettle s es d (o .top .element) (o .top .place) at x after → outcome at r l before ≡ shortly (takes s es x at after (stateOf o before)) → Turned s es d at (found.Token x after) l before r
     turned-settled (starts i n) v =
         let e = v ∙ ap shortly (takes-start s es x at after (stateOf o before) (λ z. omega arith)) in
         record {
@@ -121,13 +123,13 @@ module _ (s : List ℕ) (es : List Element) (d : List ℕ) (at : ℕ) (o : Open)
           refuses = λ k. refused-run reach h (f .run) (f .fits) (outcome-refused at r l before e k);
         })
 
-  pub turned-token : (r .number ≡ 0 → Stands es r) → Accepts s es → {x y after : ℕ} → y ≡ x → (p : Piece) → p ≡ found.Token x after → Finds s es d (o .element) (o .place) at p → outcome at r l before ≡ shortly (takes s es y at after (stateOf o before)) → Turned s es d at p l before r
+  pub turned-token : (r .top .number ≡ 0 → Stands es r) → Accepts s es → {x y after : ℕ} → y ≡ x → (p : Piece) → p ≡ found.Token x after → Finds s es d (o .top .element) (o .top .place) at p → outcome at r l before ≡ shortly (takes s es y at after (stateOf o before)) → Turned s es d at p l before r
   turned-token stands accepted {x} {y} {after} w p q f v = rw q (turned-settled stands accepted x after (rw q at f) (rw w at v))
 
 -- What is ignored leaves the open elements as they were.
 module _ (s : List ℕ) (es : List Element) (d : List ℕ) (at : ℕ) (o : Open) (fresh : Fresh o) (stands : Stands es o) (before : List Event) (h : at < length d) (reach : Reaches s es d at (stateOf o before)) (l : List ℕ) (p : Piece) where
-  same : before ++ eventsIn l (o .events) ≡ before
-  same = events-none before l (o .events) (fresh .0)
+  same : before ++ eventsIn l (o .top .events) ≡ before
+  same = events-none before l (o .top .events) (fresh .0)
 
   nothing : (isRead p ≡ true → Reaches s es d (endOf p at) (stateOf o before)) → Turned s es d at p l before o
   nothing go =
@@ -137,10 +139,10 @@ module _ (s : List ℕ) (es : List Element) (d : List ℕ) (at : ℕ) (o : Open)
         refuses = λ k. absurd (omega (arith, fresh .1));
       }
 
-  pub turned-passed : {after : ℕ} → p ≡ found.Passed after → Finds s es d (o .element) (o .place) at p → Turned s es d at p l before o
+  pub turned-passed : {after : ℕ} → p ≡ found.Passed after → Finds s es d (o .top .element) (o .top .place) at p → Turned s es d at p l before o
   turned-passed {after} q f = nothing (λ _. rw q (by-kind (rw q at f)))
     where
-      by-kind : Finds s es d (o .element) (o .place) at (found.Passed after) → Reaches s es d after (stateOf o before)
+      by-kind : Finds s es d (o .top .element) (o .top .place) at (found.Passed after) → Reaches s es d after (stateOf o before)
       by-kind (skips e) = reaches-skipped reach h e
       by-kind (separates e z a) = rw a (reaches-blank reach h e z)
 
@@ -149,7 +151,7 @@ module _ (s : List ℕ) (es : List Element) (d : List ℕ) (at : ℕ) (o : Open)
   turned-refused q = nothing (λ i. absurd (true≢false (sym i ∙ ap isRead q)))
 
 -- What is refused whatever is open.
-pub refused-unread : (s : List ℕ) (es : List Element) (d : List ℕ) (at : ℕ) (o : Open) (before : List Event) → at < length d → Reaches s es d at (stateOf o before) → (f : Fault) → Finds s es d (o .element) (o .place) at (found.Refused f) → document s es (decided s es) d ≡ refused (f .number) (f .at)
+pub refused-unread : (s : List ℕ) (es : List Element) (d : List ℕ) (at : ℕ) (o : Open) (before : List Event) → at < length d → Reaches s es d at (stateOf o before) → (f : Fault) → Finds s es d (o .top .element) (o .top .place) at (found.Refused f) → document s es (decided s es) d ≡ refused (f .number) (f .at)
 refused-unread s es d at o before h reach f (malformed e) = refused-piece reach h e
 refused-unread s es d at o before h reach f (undeclaredStart n e k) = rw (e, k) (refused-undeclared-start reach h (n .there) (n .number))
 refused-unread s es d at o before h reach f (undeclaredEnd n e k) = rw (e, k) (refused-undeclared-end reach h (n .there) (n .number))
@@ -179,29 +181,29 @@ going-start s elements index rows places facts d numbers bytes q =
 -- What piece_at ensures of what stands at `at`, settled of the turn, and closing's finish of the end.
 abbrev pub PieceSaid : (s elements index rows places facts d : List ℕ) (at : ℕ) → Open → Piece → Type 0
 PieceSaid s elements index rows places facts d at o p =
-    (es : List Element) → Indexed s es elements index → Tables s es rows places facts → InRange es (standing (o .element) (o .place)) → Finds s es d (o .element) (o .place) at p
+    (es : List Element) → Indexed s es elements index → Tables s es rows places facts → InRange es (standing (o .top .element) (o .top .place)) → Finds s es d (o .top .element) (o .top .place) at p
 
 abbrev pub TurnSaid : (rows places facts : List ℕ) (at : ℕ) → Open → Piece → (events : List ℕ) → Open → Type 0
 TurnSaid rows places facts at o p l r =
-    (s : List ℕ) (es : List Element) (d : List ℕ) (before : List Event) → Tables s es rows places facts → Stands es o → at < length d → Finds s es d (o .element) (o .place) at p → Reaches s es d at (stateOf o before) → Turned s es d at p l before r
+    (s : List ℕ) (es : List Element) (d : List ℕ) (before : List Event) → Tables s es rows places facts → Stands es o → at < length d → Finds s es d (o .top .element) (o .top .place) at p → Reaches s es d at (stateOf o before) → Turned s es d at p l before r
 
-abbrev pub EndSaid : (rows facts : List ℕ) (at : ℕ) → Open → (events : List ℕ) → Open → Type 0
-EndSaid rows facts at o l r =
-    (s : List ℕ) (es : List Element) → Rows es rows → Facts s es facts → Stands es o → (before : List Event) → closed at r l before ≡ endDocument s es (decided s es) at (stateOf o before)
+abbrev pub EndSaid : (facts : List ℕ) (at : ℕ) → Open → (events : List ℕ) → Top → Type 0
+EndSaid facts at o l r =
+    (s : List ℕ) (es : List Element) → Facts s es facts → Stands es o → (before : List Event) → closed at r l before ≡ endDocument s es (decided s es) at (stateOf o before)
 
 module _ {s elements index rows places facts d numbers numbersNow bytes bytesNow : List ℕ} {count at : ℕ} {o : Open} (g : Going s elements index rows places facts d numbers numbersNow bytes bytesNow count at o) where
-  pub piece-asked : AnyType s elements index rows places facts → at < length d → length d ≤ 65535 → AnyIndexed s elements index × (ReadyFor rows places facts (o .element) (o .place) 0 × ((at < length d) × (length d ≤ 65535)))
+  pub piece-asked : AnyType s elements index rows places facts → at < length d → length d ≤ 65535 → AnyIndexed s elements index × (ReadyFor rows places facts (o .top .element) (o .top .place) 0 × ((at < length d) × (length d ≤ 65535)))
   piece-asked (es, i, t) h few = ((es, i), ((s, es, t, stands-range (g .any es i t .stands), omega arith), (h, few)))
 
   module _ (h : at < length d) (p : Piece) (said : PieceSaid s elements index rows places facts d at o p) where
-    finds : (es : List Element) → Indexed s es elements index → Tables s es rows places facts → Finds s es d (o .element) (o .place) at p
+    finds : (es : List Element) → Indexed s es elements index → Tables s es rows places facts → Finds s es d (o .top .element) (o .top .place) at p
     finds es i t = said es i t (stands-range (g .any es i t .stands))
 
     pub turn-asked : AnyType s elements index rows places facts → length d ≤ 65535 → AnyTurn rows places facts o at p × Fresh o
     turn-asked (es, i, t) few = ((s, es, d, t, g .any es i t .stands, h, few, finds es i t), g .fresh)
 
     pub turn-range : AnyType s elements index rows places facts → isRead p ≡ true → (at < endOf p at) × (endOf p at ≤ length d)
-    turn-range (es, i, t) r = finds-range s es d (o .element) (o .place) at h p r (finds es i t)
+    turn-range (es, i, t) r = finds-range s es d (o .top .element) (o .top .place) at h p r (finds es i t)
 
     pub piece-refuses : {f : Fault} → p ≡ found.Refused f → (es : List Element) → Indexed s es elements index → Tables s es rows places facts → document s es (decided s es) d ≡ refused (f .number) (f .at)
     piece-refuses {f} q es i t =
@@ -212,11 +214,11 @@ module _ {s elements index rows places facts d numbers numbersNow bytes bytesNow
       turned : (es : List Element) (i : Indexed s es elements index) (t : Tables s es rows places facts) → Turned s es d at p l (g .any es i t .events) r
       turned es i t = turn s es d (g .any es i t .events) t (g .any es i t .stands) h (finds es i t) (g .any es i t .reaches)
 
-      pub turn-refuses : (r .number ≡ 0 → ⊥) → {answer : Counted} → answer ≡ counted.Refused (record { number = r .number; at = at }) → (es : List Element) → Indexed s es elements index → Tables s es rows places facts → EventsOf s es d numbers numbersNow bytes bytesNow answer
+      pub turn-refuses : (r .top .number ≡ 0 → ⊥) → {answer : Counted} → answer ≡ counted.Refused (record { number = r .top .number; at = at }) → (es : List Element) → Indexed s es elements index → Tables s es rows places facts → EventsOf s es d numbers numbersNow bytes bytesNow answer
       turn-refuses z q es i t = rw q (turned es i t .refuses (omega arith))
 
-      module _ (some : AnyType s elements index rows places facts) (read : isRead p ≡ true) (z : r .number ≡ 0) (few : r .events ≤ 50) where
-        pub going-turn : {numbersAfter bytesAfter : List ℕ} → numbersAfter ≡ written numbersNow (4 * count) (eventNumbers (eventsIn l (r .events))) → bytesAfter ≡ written bytesNow (16 * count) (bytesOf (eventNumbers (eventsIn l (r .events)))) → {after : ℕ} → after ≡ endOf p at → {next : Open} → next ≡ bringing 0 r → Going s elements index rows places facts d numbers numbersAfter bytes bytesAfter (count + r .events) after next
+      module _ (some : AnyType s elements index rows places facts) (read : isRead p ≡ true) (z : r .top .number ≡ 0) (few : r .top .events ≤ 50) where
+        pub going-turn : {numbersAfter bytesAfter : List ℕ} → numbersAfter ≡ written numbersNow (4 * count) (eventNumbers (eventsIn l (r .top .events))) → bytesAfter ≡ written bytesNow (16 * count) (bytesOf (eventNumbers (eventsIn l (r .top .events)))) → {after : ℕ} → after ≡ endOf p at → {next : Open} → next ≡ bringing 0 r → Going s elements index rows places facts d numbers numbersAfter bytes bytesAfter (count + r .top .events) after next
         going-turn a b e q =
             let (k, m) = turn-range some read in
             rw (a, b, e, q) (record {
@@ -229,21 +231,21 @@ module _ {s elements index rows places facts d numbers numbersNow bytes bytesNow
                   let c = g .any es i t in
                   let u = turned es i t in
                   record {
-                    events = c .events ++ eventsIn l (r .events);
+                    events = c .events ++ eventsIn l (r .top .events);
                     reaches = u .reaches z read;
                     stands = stands-bringing 0 (u .stands z);
-                    counted = omega (arith, length-append (c .events) (eventsIn l (r .events)), eventsIn-length l (r .events));
-                    numbers-hold = events-more numbers numbersNow (c .events) (eventsIn l (r .events)) count (c .counted) (c .numbers-hold);
-                    bytes-hold = event-bytes-more bytes bytesNow (c .events) (eventsIn l (r .events)) count (c .counted) (c .bytes-hold);
+                    counted = omega (arith, length-append (c .events) (eventsIn l (r .top .events)), eventsIn-length l (r .top .events));
+                    numbers-hold = events-more numbers numbersNow (c .events) (eventsIn l (r .top .events)) count (c .counted) (c .numbers-hold);
+                    bytes-hold = event-bytes-more bytes bytesNow (c .events) (eventsIn l (r .top .events)) count (c .counted) (c .bytes-hold);
                   };
             })
 
   -- All is read.
   module _ (over : length d ≤ at) where
-    pub end-asked : AnyType s elements index rows places facts → length d ≤ 65535 → AnyClosing rows facts o × (Fresh o × (at < 4294967296))
-    end-asked (es, i, t) few = ((s, es, t .accepted, t .few, t .rows-say, t .facts-say, g .any es i t .stands), (g .fresh, omega arith))
+    pub end-asked : AnyType s elements index rows places facts → length d ≤ 65535 → AnyClosing facts o × (Fresh o × (at < 4294967296))
+    end-asked (es, i, t) few = ((s, es, t .few, t .facts-say, g .any es i t .stands), (g .fresh, omega arith))
 
-    module _ (l : List ℕ) (r : Open) (end : EndSaid rows facts at o l r) where
+    module _ (l : List ℕ) (r : Top) (end : EndSaid facts at o l r) where
       whole : at ≡ length d
       whole = omega arith
 
@@ -251,7 +253,7 @@ module _ {s elements index rows places facts d numbers numbersNow bytes bytesNow
       ends es i t e = let c = g .any es i t in reaches-end (c .reaches) whole (ap (λ (n : ℕ). endDocument s es (decided s es) n (stateOf o (c .events))) (sym whole) ∙ e)
 
       closes : (es : List Element) (i : Indexed s es elements index) (t : Tables s es rows places facts) → closed at r l (g .any es i t .events) ≡ endDocument s es (decided s es) at (stateOf o (g .any es i t .events))
-      closes es i t = end s es (t .rows-say) (t .facts-say) (g .any es i t .stands) (g .any es i t .events)
+      closes es i t = end s es (t .facts-say) (g .any es i t .stands) (g .any es i t .events)
 
       pub end-refuses : (r .number ≡ 0 → ⊥) → {answer : Counted} → answer ≡ counted.Refused (record { number = r .number; at = at }) → (es : List Element) → Indexed s es elements index → Tables s es rows places facts → EventsOf s es d numbers numbersNow bytes bytesNow answer
       end-refuses z q es i t = rw q (ends es i t (closed-refused at r l (g .any es i t .events) (closes es i t) (omega arith)))

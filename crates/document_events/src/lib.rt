@@ -132,14 +132,14 @@ fn settled(
     requires { ⌜ AnyTurn (now rows) (now places) (now facts) state at p ⌝ }
     requires { ⌜ Fresh state ⌝ }
     ensures { λ r. ⌜ ((s : List ℕ) (es : List Element) (d : List ℕ) (before : List Event) → Tables s es (now (rows .entry)) (now (places .entry)) (now (facts .entry)) → Stands es state →
-        at < length d → Finds s es d (state .element) (state .place) at p → Reaches s es d at (stateOf state before) → Turned s es d at p (now (events .exit)) before r) ⌝ }
-    ensures { λ r. ⌜ (r .events ≤ 50) × (r .number < 20) ⌝ }
+        at < length d → Finds s es d (state .top .element) (state .top .place) at p → Reaches s es d at (stateOf state before) → Turned s es d at p (now (events .exit)) before r) ⌝ }
+    ensures { λ r. ⌜ (r .top .events ≤ 50) × (r .top .number < 20) ⌝ }
 {
     match p {
         Piece::Token(x, e) => {
             settling::token(rows, places, facts, state, widened(x), at, e, events)
         }
-        Piece::End(x, e) => closing::end_tag(rows, facts, state, widened(x), at, e, events),
+        Piece::End(x, e) => closing::end_tag(facts, state, widened(x), at, e, events),
         Piece::Passed(_) => state,
         Piece::Refused(_) => state,
     }
@@ -203,24 +203,23 @@ pub fn events_of(
             places,
             facts,
             d,
-            o.element,
-            o.place,
+            o.top.element,
+            o.top.place,
             at,
         );
         if let Piece::Refused(f) = p {
             return Counted::Refused(f);
         }
-        let t = settled(rows, places, facts, o, p, at, &mut events);
-        if t.number != 0 {
-            return refusal(t.number, at);
+        o = settled(rows, places, facts, o, p, at, &mut events);
+        if o.top.number != 0 {
+            return refusal(o.top.number, at);
         }
-        put(numbers, bytes, count, &events, t.events);
-        count += t.events;
+        put(numbers, bytes, count, &events, o.top.events);
+        count += o.top.events;
         at = end_of(p, at);
-        o = t;
-        o.events = 0;
+        o.top.events = 0;
     }
-    let l = closing::finish(rows, facts, o, at, &mut events);
+    let l = closing::finish(facts, o, at, &mut events);
     if l.number != 0 {
         return refusal(l.number, at);
     }

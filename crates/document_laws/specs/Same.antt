@@ -1,5 +1,5 @@
 -- The walks decide one reading of every document: any two decisions that mean them read it alike.
-use Prim.Native.Nat.{ℕ, zero, suc, _+_, _≤_}
+use Prim.Native.Nat.{ℕ, zero, suc, _+_, _≤_, _<_}
 use mathlib.Core.Path.{_≡_, refl, sym, _∙_, ap, ap₂, subst}
 use mathlib.Core.Bool.{Bool, true, false, _&&_, false≢true}
 use mathlib.Core.List.{List, [], _∷_, _++_}
@@ -313,3 +313,22 @@ module _ (s : List ℕ) (es : List Element) (D E : Decisions) (x : Means s es D)
     pub document-one : document s es D d ≡ document s es E d
     unfolding document
     document-one = piecesWithin-same (suc (length d)) 0 nothingOpen (record { current = fresh-begun es 0 refl; around = none }) .0
+
+-- The states that reading comes to
+
+-- Reading the document d, piece by piece, comes to `at` with the state z.
+pub data Passes (s : List ℕ) (es : List Element) (D : Decisions) (d : List ℕ) : ℕ → State → Type 0 where
+  begins : Passes s es D d 0 nothingOpen
+  goes : {at : ℕ} {z : State} {p : Piece} (r : Reached) → Passes s es D d at z → at < length d → piece d at ≡ got p → settlePiece s es D d p at z ≡ got r → Passes s es D d (r .at) (r .state)
+
+-- In each of them the places taken begin walks.
+pub passes-begun : (s : List ℕ) (es : List Element) (D : Decisions) → Means s es D → (d : List ℕ) {at : ℕ} {z : State} → Passes s es D d at z → AllBegun es z
+passes-begun s es D x d begins = record { current = fresh-begun es 0 refl; around = none }
+passes-begun s es D x d (goes {at} {z} {p} r h l e f) =
+    subst (Kept (ReachedBegun s es D D x x)) f (settlePiece-same s es D D x x d p at z (passes-begun s es D x d h) .1)
+
+-- Two decisions that mean the walks come to the same states.
+pub passes-same : (s : List ℕ) (es : List Element) (D E : Decisions) → Means s es D → Means s es E → (d : List ℕ) {at : ℕ} {z : State} → Passes s es D d at z → Passes s es E d at z
+passes-same s es D E x y d begins = begins
+passes-same s es D E x y d (goes {at} {z} {p} r h l e f) =
+    goes r (passes-same s es D E x y d h) l e (sym (settlePiece-same s es D E x y d p at z (passes-begun s es D x d h) .0) ∙ f)

@@ -1,6 +1,7 @@
 -- Settling by the last place taken in each open element.
 pub mod Last
 pub mod Short
+pub mod Follows
 pub mod Joins
 pub mod Enough
 pub mod Leaves

@@ -1,6 +1,6 @@
 -- A run of data settled at once is the run settled byte by byte, where after a data byte another fits as the same place.
 use Prim.Native.Nat.{ℕ, zero, suc, _+_, _-_, _≤_, _<_}
-use mathlib.Core.Path.{_≡_, refl, sym, _∙_, ap, ap₂}
+use mathlib.Core.Path.{_≡_, refl, sym, _∙_, ap, ap₂, subst}
 use mathlib.Core.Bool.{Bool, true, false, _&&_, false≢true}
 use mathlib.Core.List.{List, [], _∷_, _++_}
 use native.Mathlib.Omega.{arith}
@@ -20,7 +20,8 @@ use Rattle.document_laws.specs.Decide.{search, fitsIn, decided}
 use Rattle.document_text.specs.Means.{isRun, runs, runEnd}
 use Rattle.document_text.specs.Laws.{runs-each, runEnd-in}
 use Rattle.last_places.specs.Last.{lastOnly, allLast, short, shortly, takeRun, pieces, joins}
-use Rattle.last_places.specs.Short.{state, took, withLast, allLast-twice, allLast-length, lastOnly-took, fitting-short, pieces-short}
+use Rattle.last_places.specs.Short.{state, took, withLast, allLast-twice, allLast-length, lastOnly-took, fitting-short, takeData-short, pieces-short}
+use Rattle.last_places.specs.Follows.{Follows, follows-fits, follows-on}
 use Rattle.last_places.specs.Joins.{withData-new, withData-more}
 use Rattle.last_places.specs.Enough.{kept-got, pieces-stop, pieces-on}
 use Rattle.last_places.specs.Leaves.{Settled, settle-leaves}
@@ -181,6 +182,28 @@ module _ (s : List ℕ) (es : List Element) (stays : Stays s es) (d : List ℕ) 
       let l : suc n ≡ n + 1 = omega arith in
       bytes-turn n (omega arith) (λ k i. run k (omega arith)) ∙ byte-turn (n + 1) (omega arith) (run n (omega arith)) ∙ ap (λ m. pieces s es D d (at + (m + 1)) (within (m + 1))) (sym l)
 
+  -- Reading as the rules do has come to the byte n of the run.
+  record Read (n : ℕ) : Type 0 where
+    pub follows : Follows s es d (at + n) (within n)
+
+  -- A byte more, and n more.
+  byte-follows : (n : ℕ) → at + n < length d → isRun (piece d (at + n)) ≡ true → Read n → Read (n + 1)
+  byte-follows n h run f =
+      let l : at + n + 1 ≡ at + (n + 1) = omega arith in
+      let g = f .follows in
+      let (p, q, i) = run-settles s es D d (at + n) (g .state) run (λ e. omega (arith, follows-fits g pcdata, fits-again)) in
+      record {
+        follows =
+            rw l at (follows-on g h p q (at + n + 1) (takeData s es D (at + n)) i (takeData-short s es (at + n)) (within (n + 1))
+            (ap shortly (takeData-got s es D (at + n) (within n) _ (byte-settles n) few-short) ∙ ap got (byte-leaves n)));
+      }
+
+  bytes-follow : (n : ℕ) → at + (n + 1) ≤ length d → ((k : ℕ) → k < n → isRun (piece d (at + (k + 1))) ≡ true) → Read 1 → Read (n + 1)
+  bytes-follow zero h run f = f
+  bytes-follow (suc n) h run f =
+      let l : n + 1 ≡ suc n = omega arith in
+      subst (λ (m : ℕ). Read (m + 1)) l (byte-follows (n + 1) (omega arith) (run n (omega arith)) (bytes-follow n (omega arith) (λ k i. run k (omega arith)) f))
+
   module _ (inside : at < length d) (run : isRun (piece d at) ≡ true) (fits : piece d at ≡ got blank → 1 ≤ fitting s es D (z .current) pcdata) (parted : joins at (z .events) ≡ false) where
     first-byte : pieces s es D d at z ≡ pieces s es D d (at + 1) (within 1)
     first-byte =
@@ -189,18 +212,35 @@ module _ (s : List ℕ) (es : List Element) (stays : Stays s es) (d : List ℕ) 
         ∙ ap (λ ev. pieces s es D d (at + 1) (state (x .current) (x .around) ev)) (withData-new at (x .events) (after .parted at parted))
         ∙ pieces-short s es d (suc (length d - (at + 1))) (at + 1) (state (x .current) (x .around) (x .events ++ dataRun at 1 ∷ []))
 
+    first-follows : Follows s es d at z → Read 1
+    first-follows f =
+        let (p, q, i) = run-settles s es D d at (f .state) run (λ e. omega (arith, follows-fits f pcdata, fits e)) in
+        record {
+          follows =
+              follows-on f inside p q (at + 1) (takeData s es D at) i (takeData-short s es at) (within 1)
+              (ap shortly (takeData-got s es D at z x settles few) ∙ ap (λ ev. got (short (state (x .current) (x .around) ev))) (withData-new at (x .events) (after .parted at parted)));
+        }
+
+    each : (k : ℕ) → k < runs (length d - (at + 1)) d (at + 1) → isRun (piece d (at + (k + 1))) ≡ true
+    each k l =
+        let m : at + (k + 1) ≡ at + 1 + k = omega arith in
+        rw m (runs-each (length d - (at + 1)) d (at + 1) k l)
+
     -- The whole run
     pub run-once : pieces s es D d at z ≡ pieces s es D d (runEnd d (at + 1)) (within (runEnd d (at + 1) - at))
     run-once =
         let n = runs (length d - (at + 1)) d (at + 1) in
         let i : at + (n + 1) ≡ runEnd d (at + 1) = omega arith in
         let j : n + 1 ≡ runEnd d (at + 1) - at = omega arith in
-        first-byte ∙ bytes-turn n (omega (arith, runEnd-in d (at + 1) (omega arith))) (λ k l. each k l) ∙ ap₂ (λ e m. pieces s es D d e (within m)) i j
-      where
-        each : (k : ℕ) → k < runs (length d - (at + 1)) d (at + 1) → isRun (piece d (at + (k + 1))) ≡ true
-        each k l =
-            let m : at + (k + 1) ≡ at + 1 + k = omega arith in
-            rw m (runs-each (length d - (at + 1)) d (at + 1) k l)
+        first-byte ∙ bytes-turn n (omega (arith, runEnd-in d (at + 1) (omega arith))) each ∙ ap₂ (λ e m. pieces s es D d e (within m)) i j
+
+    pub run-follows : Follows s es d at z → Follows s es d (runEnd d (at + 1)) (within (runEnd d (at + 1) - at))
+    run-follows f =
+        let n = runs (length d - (at + 1)) d (at + 1) in
+        let i : at + (n + 1) ≡ runEnd d (at + 1) = omega arith in
+        let j : n + 1 ≡ runEnd d (at + 1) - at = omega arith in
+        let r = bytes-follow n (omega (arith, runEnd-in d (at + 1) (omega arith))) each (first-follows f) in
+        subst (λ (m : ℕ). Follows s es d (runEnd d (at + 1)) (within m)) j (subst (λ (e : ℕ). Follows s es d e (within (n + 1))) i (r .follows))
 
 -- What a run taken at once says of its first byte
 

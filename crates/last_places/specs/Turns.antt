@@ -10,40 +10,38 @@ use borrow.Author.Tests.{le-leb, ne-eqb}
 use Rattle.rules.specs.Reading.{Reading, refused, got}
 use Rattle.rules.specs.TypeFile.{Element}
 use Rattle.rules.specs.Document.{Tag, Piece, startTag, endTag, skipped, blank, piece}
-use Rattle.rules.specs.Settling.{pcdata, Decisions, Event, dataRun, State, nothingOpen, numberOf, startElement, takeBlank, endElement, endDocument}
+use Rattle.rules.specs.Settling.{pcdata, Decisions, Event, dataRun, State, nothingOpen, numberOf, fitting, startElement, takeBlank, endElement, endDocument}
 use Rattle.rules.specs.Reader.{goOn, tagged, settlePiece, piecesWithin, document}
 use Rattle.document_laws.specs.Decide.{decided}
 use Rattle.document_laws.specs.Same.{Kept}
 use Rattle.document_text.specs.Means.{isRun, runEnd}
 use Rattle.document_text.specs.Laws.{start-tag-range, end-tag-range, skipped-range, runEnd-in}
-use Rattle.last_places.specs.Last.{short, shortly, takeRun, pieces, joins}
-use Rattle.last_places.specs.Short.{pieces-short}
+use Rattle.last_places.specs.Last.{lastOnly, short, shortly, takeRun, pieces, joins}
+use Rattle.last_places.specs.Short.{lastOnly-twice, fitting-short, startElement-short, endElement-short, pieces-short}
+use Rattle.last_places.specs.Follows.{Follows, shortly-got, follows-start, follows-on, follows-by}
 use Rattle.last_places.specs.Joins.{joins-snoc}
 use Rattle.last_places.specs.Enough.{kept-got, pieces-end, pieces-refused, pieces-stop, pieces-on}
 use Rattle.last_places.specs.Leaves.{Parted, startElement-parted, endElement-parted}
-use Rattle.last_places.specs.Run.{Stays, runEnd-stop, run-once, run-taken, run-refused, data-stop}
+use Rattle.last_places.specs.Run.{Stays, runEnd-stop, run-once, run-follows, run-taken, run-refused, data-stop}
 
--- Reading has come to `at` with the state z: what is left reads as the whole document does, and a run of data that begins here or later is a
--- new event.
+-- Reading has come to `at` with the state z: what is left reads as the whole document does, a run of data that begins here or later is a
+-- new event, and z has the last places of the state that the rules come to.
 pub record Reaches (s : List ℕ) (es : List Element) (d : List ℕ) (at : ℕ) (z : State) : Type 0 where
   pub rest : pieces s es (decided s es) d at z ≡ document s es (decided s es) d
   pub inside : at ≤ length d
   pub parted : at < length d → isRun (piece d at) ≡ true → joins at (z .events) ≡ false
   pub beyond : (j : ℕ) → at < j → joins j (z .events) ≡ false
+  pub follows : Follows s es d at z
 
 pub reaches-start : (s : List ℕ) (es : List Element) (d : List ℕ) → Reaches s es d 0 nothingOpen
 unfolding document
 reaches-start s es d =
-    record { rest = ap (λ n. piecesWithin s es (decided s es) d (suc n) 0 nothingOpen) whole; inside = omega arith; parted = λ h e. refl; beyond = λ j h. refl }
+    record { rest = ap (λ n. piecesWithin s es (decided s es) d (suc n) 0 nothingOpen) whole; inside = omega arith; parted = λ h e. refl; beyond = λ j h. refl; follows = follows-start s es d }
   where
     whole : length d - 0 ≡ length d
     whole = omega arith
 
 -- Readings with the last places
-
-shortly-got : (q : Reading State) (y : State) → shortly q ≡ got y → (x : State) × (q ≡ got x) × (short x ≡ y)
-shortly-got (refused n k) y e = let no : _≡_ {A = ℕ} 0 1 = cc in absurd (omega arith)
-shortly-got (got x) y e = (x, refl, cc)
 
 shortly-refused : (q : Reading State) (n k : ℕ) → shortly q ≡ refused n k → q ≡ refused n k
 shortly-refused (refused m j) n k e = e
@@ -94,15 +92,17 @@ module _ {s : List ℕ} {es : List Element} {d : List ℕ} {at : ℕ} {z : State
     refused-piece {n} {k} e = sym (r .rest) ∙ pieces-refused s es D d at z h n k e
 
     -- A piece after which nothing goes on a run.
-    settles-on : (p : Piece) (after : ℕ) (q : Reading State) (y : State) → piece d at ≡ got p → settlePiece s es D d p at z ≡ goOn after q → after ≤ length d → Kept Parted q → shortly q ≡ got y → Reaches s es d after y
-    settles-on p after q y e f i g v =
-        let (x, a, b) = shortly-got q y v in
-        let w : (j : ℕ) → joins j (y .events) ≡ false = λ j. sym (ap (λ u. joins j (u .events)) b) ∙ kept-got Parted q x g a j in
+    settles-on : (p : Piece) (after : ℕ) (q : State → Reading State) (y : State) → piece d at ≡ got p → ((x : State) → settlePiece s es D d p at x ≡ goOn after (q x)) → ((x : State) → shortly (q x) ≡ shortly (q (short x)))
+        → after ≤ length d → Kept Parted (q z) → shortly (q z) ≡ got y → Reaches s es d after y
+    settles-on p after q y e f asks i g v =
+        let (x, a, b) = shortly-got (q z) y v in
+        let w : (j : ℕ) → joins j (y .events) ≡ false = λ j. sym (ap (λ u. joins j (u .events)) b) ∙ kept-got Parted (q z) x g a j in
         record {
-          rest = ap (pieces s es D d after) (sym b) ∙ sym (pieces-short s es d (suc (length d - after)) after x) ∙ sym (pieces-on s es D d at z h p e (record { at = after; state = x }) (f ∙ ap (goOn after) a)) ∙ r .rest;
+          rest = ap (pieces s es D d after) (sym b) ∙ sym (pieces-short s es d (suc (length d - after)) after x) ∙ sym (pieces-on s es D d at z h p e (record { at = after; state = x }) (f z ∙ ap (goOn after) a)) ∙ r .rest;
           inside = i;
           parted = λ l m. w after;
           beyond = λ j l. w j;
+          follows = follows-on (r .follows) h p e after q (f (r .follows .state)) asks y v;
         }
 
     settles-not : (p : Piece) (n k : ℕ) → piece d at ≡ got p → settlePiece s es D d p at z ≡ refused n k → document s es D d ≡ refused n k
@@ -115,7 +115,7 @@ module _ {s : List ℕ} {es : List Element} {d : List ℕ} {at : ℕ} {z : State
       module _ (k : ℕ) (i : numberOf s es d (t .name) (t .size) ≡ k) (l : 1 ≤ k) where
         pub reaches-start-tag : {y : State} → shortly (startElement s es D k at (t .after) z) ≡ got y → Reaches s es d (t .after) y
         reaches-start-tag {y} v =
-            settles-on (startTag t) (t .after) (startElement s es D k at (t .after) z) y e (start-settles s es D d at t z k i l) (start-tag-range d at h t e .1) (startElement-parted s es D k at (t .after) z) v
+            settles-on (startTag t) (t .after) (startElement s es D k at (t .after)) y e (λ x. start-settles s es D d at t x k i l) (startElement-short s es k at (t .after)) (start-tag-range d at h t e .1) (startElement-parted s es D k at (t .after) z) v
 
         pub refused-start-tag : {n j : ℕ} → shortly (startElement s es D k at (t .after) z) ≡ refused n j → document s es D d ≡ refused n j
         refused-start-tag {n} {j} v =
@@ -128,17 +128,20 @@ module _ {s : List ℕ} {es : List Element} {d : List ℕ} {at : ℕ} {z : State
       module _ (k : ℕ) (i : numberOf s es d (t .name) (t .size) ≡ k) (l : 1 ≤ k) where
         pub reaches-end-tag : {y : State} → shortly (endElement s es D k at (t .after) z) ≡ got y → Reaches s es d (t .after) y
         reaches-end-tag {y} v =
-            settles-on (endTag t) (t .after) (endElement s es D k at (t .after) z) y e (end-settles s es D d at t z k i l) (end-tag-range d at h t e .1) (endElement-parted s es D k at (t .after) z) v
+            settles-on (endTag t) (t .after) (endElement s es D k at (t .after)) y e (λ x. end-settles s es D d at t x k i l) (endElement-short s es k at (t .after)) (end-tag-range d at h t e .1) (endElement-parted s es D k at (t .after) z) v
 
         pub refused-end-tag : {n j : ℕ} → shortly (endElement s es D k at (t .after) z) ≡ refused n j → document s es D d ≡ refused n j
         refused-end-tag {n} {j} v =
             settles-not (endTag t) n j e (end-settles s es D d at t z k i l ∙ ap (goOn (t .after)) (shortly-refused (endElement s es D k at (t .after) z) n j v))
 
     -- The state stays, and the position goes on: a run behind it is a new one.
-    passes-by : (p : Piece) (after : ℕ) → piece d at ≡ got p → settlePiece s es D d p at z ≡ got (record { at = after; state = z }) → at < after → after ≤ length d → Reaches s es d after z
+    passes-by : (p : Piece) (after : ℕ) → piece d at ≡ got p → ((x : State) → lastOnly (x .current) ≡ lastOnly (z .current) → settlePiece s es D d p at x ≡ got (record { at = after; state = x })) → at < after → after ≤ length d → Reaches s es d after z
     passes-by p after e f i j =
+        let y = r .follows in
+        let last : lastOnly (y .state .current) ≡ lastOnly (z .current) = sym (lastOnly-twice (y .state .current)) ∙ ap (λ (w : State). lastOnly (w .current)) (y .same) in
         record {
-          rest = sym (pieces-on s es D d at z h p e (record { at = after; state = z }) f) ∙ r .rest;
+          rest = sym (pieces-on s es D d at z h p e (record { at = after; state = z }) (f z refl)) ∙ r .rest;
+          follows = follows-by y h p e after (f (y .state) last);
           inside = j;
           parted = λ l m. r .beyond after i;
           beyond = λ k l. r .beyond k (omega arith);
@@ -146,11 +149,14 @@ module _ {s : List ℕ} {es : List Element} {d : List ℕ} {at : ℕ} {z : State
 
     pub reaches-skipped : {e : ℕ} → piece d at ≡ got (skipped e) → Reaches s es d e z
     unfolding settlePiece
-    reaches-skipped {e} q = let (i, j) = skipped-range d at h e q in passes-by (skipped e) e q refl i j
+    reaches-skipped {e} q = let (i, j) = skipped-range d at h e q in passes-by (skipped e) e q (λ x l. refl) i j
 
     pub reaches-blank : piece d at ≡ got blank → D .fits (z .current .number) (z .current .taken) pcdata ≡ 0 → Reaches s es d (at + 1) z
     unfolding settlePiece takeBlank
-    reaches-blank q e = passes-by blank (at + 1) q (rw (settlePiece, takeBlank, e)) (omega arith) (omega arith)
+    reaches-blank q e =
+        passes-by blank (at + 1) q (λ x l.
+        let i : fitting s es D (x .current) pcdata ≡ 0 = fitting-short s es (x .current) pcdata ∙ ap (λ o. fitting s es D o pcdata) l ∙ sym (fitting-short s es (z .current) pcdata) ∙ e in
+        rw (settlePiece, takeBlank, i)) (omega arith) (omega arith)
 
     module _ (run : isRun (piece d at) ≡ true) (fits : piece d at ≡ got blank → 1 ≤ D .fits (z .current .number) (z .current .taken) pcdata) where
       pub reaches-run : Stays s es → {y : State} → shortly (takeRun s es D at (runEnd d (at + 1) - at) z) ≡ got y → Reaches s es d (runEnd d (at + 1)) y
@@ -163,6 +169,7 @@ module _ {s : List ℕ} {es : List Element} {d : List ℕ} {at : ℕ} {z : State
             inside = j;
             parted = λ l m. absurd (false≢true (sym (runEnd-stop d (at + 1) (omega arith) l) ∙ m));
             beyond = λ k l. rw (← same) (joins-snoc k (x .events) (dataRun at (e - at)) ∙ ne-eqb (at + (e - at)) k (omega arith));
+            follows = rw same at (run-follows s es stays d at z x settles few h run fits (r .parted h run) (r .follows));
           }
 
       pub refused-run : {n k : ℕ} → shortly (takeRun s es D at (runEnd d (at + 1) - at) z) ≡ refused n k → document s es D d ≡ refused n k

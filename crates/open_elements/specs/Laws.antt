@@ -1,22 +1,29 @@
 -- Laws of the open elements and of the scratch of events: what the methods do to the rules' state, and what stays so from token to token.
 use Prim.Native.Nat.{ℕ, zero, suc, _+_, _-_, _*_, _≤_, _<_}
 use mathlib.Core.Path.{_≡_, refl, ap, sym, _∙_, subst}
-use mathlib.Core.Bool.{true, false}
+use mathlib.Core.Bool.{Bool, true, false}
 use mathlib.Core.List.{List, [], _∷_, _++_, append-assoc, append-nil}
+use native.Mathlib.Decide.{ℕ-discrete}
 use native.Mathlib.Numerals.{add-one}
 use native.Mathlib.Omega.{arith}
 use borrow.Author.Tests.{eq-eqb, ne-eqb}
 use lib.ListN.{length, getD, set, length-set, length-replicate}
 use lib.Seq.{getD-set-same, getD-set-other}
 use Rattle.rules.specs.TypeFile.{Element}
+use Rattle.rules.specs.Judge.{Accepts}
 use Rattle.rules.specs.Settling.{Event, isOpen}
 use Rattle.rules.specs.Settling as rules
+use Rattle.document_laws.specs.Decide.{isCompleteIn, requiredOf}
 use Rattle.last_places.specs.Last.{lastOnly, allLast, short, InRange, Sound}
 use Rattle.last_places.specs.Short.{last-placed}
-use Rattle.type_tables.specs.Means.{standing, width}
+use Rattle.type_tables.specs.Means.{standing, width, completeAt, requiredAt, Rows, Requires}
+use Rattle.type_tables.specs.Ranges.{width-most, required-most}
 use Rattle.open_elements.specs.declared.Entry.{Entry}
+use Rattle.open_elements.specs.declared.Top.{Top}
 use Rattle.open_elements.specs.declared.Open.{Open}
-use Rattle.open_elements.specs.Means.{none, opened, aroundOf, current, around, stateOf, fresh, took, opening, ended, bringing, refusing, noted, eventAt, eventsIn, Stands}
+use Rattle.open_elements.specs.Means as top
+use Rattle.open_elements.specs.Means.{none, opened, aroundOf, current, around, stateOf, fresh, covered, noted, eventAt, eventsIn, Marked, Stands}
+use Rattle.open_elements.specs.Whole.{took, opening, ended, bringing, refusing}
 
 -- The elements around the current one
 
@@ -28,16 +35,16 @@ aroundOf-length : (a : List Entry) (n : ℕ) → length (aroundOf a n) ≡ n
 aroundOf-length a zero = refl
 aroundOf-length a (suc n) = ap suc (aroundOf-length a n)
 
-pub around-length : (o : Open) → length (around o) ≡ o .count
-around-length o = aroundOf-length (o .around) (o .count)
+pub around-length : (o : Open) → length (around o) ≡ o .top .count
+around-length o = aroundOf-length (o .around) (o .top .count)
 
 -- Opening an element puts the current one in front of those around it.
-pub around-opening : (k : ℕ) (o : Open) → length (o .around) ≡ 24 → o .count < 24 → around (opening k o) ≡ current o ∷ around o
-around-opening k o w l =
+pub around-opening : (rows : List ℕ) (k : ℕ) (o : Open) → length (o .around) ≡ 24 → o .top .count < 24 → around (opening rows k o) ≡ current o ∷ around o
+around-opening rows k o w l =
     rw (
-      add-one (o .count),
-      getD-set-same (o .around) (o .count) (record { element = o .element; place = o .place }) none (omega arith),
-      aroundOf-set (o .around) (o .count) (record { element = o .element; place = o .place }) (o .count) (omega arith),
+      add-one (o .top .count),
+      getD-set-same (o .around) (o .top .count) (covered (o .top)) none (omega arith),
+      aroundOf-set (o .around) (o .top .count) (covered (o .top)) (o .top .count) (omega arith),
     )
 
 aroundOf-less : (a : List Entry) (n : ℕ) → 1 ≤ n → aroundOf a n ≡ opened (getD a (n - 1) none) ∷ aroundOf a (n - 1)
@@ -45,16 +52,25 @@ aroundOf-less a zero l = absurd (omega arith)
 aroundOf-less a (suc n) l = let e : suc n - 1 ≡ n = omega arith in rw e
 
 -- Ending the current element makes the innermost of those around it the current one.
-pub around-ended : (o : Open) → 1 ≤ o .count → around o ≡ current (ended o) ∷ around (ended o)
-around-ended o l = aroundOf-less (o .around) (o .count) l
+pub around-ended : (o : Open) → 1 ≤ o .top .count → around o ≡ current (ended o) ∷ around (ended o)
+around-ended o l = aroundOf-less (o .around) (o .top .count) l
 
--- The parent's element and place, as they were read, make the state that `ended` gives.
-pub ended-by : (o : Open) {e p : ℕ} → e ≡ getD (o .around) (o .count - 1) none .element → p ≡ getD (o .around) (o .count - 1) none .place
-    → record { around = o .around; count = o .count - 1; element = e; place = p; events = o .events; number = o .number } ≡ ended o
-ended-by o h k = rw (h, k)
+-- What was read of the rows makes the state that `took` and `opening` give.
+pub took-by : (rows : List ℕ) (p : ℕ) (t : Top) {c : Bool} {q : ℕ} → c ≡ completeAt rows (t .element) p → q ≡ requiredAt rows (t .element) p
+    → record { count = t .count; element = t .element; place = p; complete = c; required = q; events = t .events; number = t .number } ≡ top.took rows p t
+took-by rows p t h k = rw (h, k)
+
+pub opening-by : (rows : List ℕ) (k : ℕ) (t : Top) {c : Bool} {q : ℕ} → c ≡ completeAt rows k 0 → q ≡ requiredAt rows k 0
+    → record { count = t .count + 1; element = k; place = 0; complete = c; required = q; events = t .events; number = t .number } ≡ top.opening rows k t
+opening-by rows k t h l = rw (h, l)
+
+-- The parent's element, place and required place, as they were read, make the state that `ended` gives.
+pub ended-by : (x : Entry) (t : Top) {e p q : ℕ} → e ≡ x .element → p ≡ x .place → q ≡ x .required
+    → record { count = t .count - 1; element = e; place = p; complete = x .complete; required = q; events = t .events; number = t .number } ≡ top.ended x t
+ended-by x t h k l = rw (h, k, l)
 
 -- Where nothing is open, nothing is around the current element.
-pub around-none : (o : Open) → o .count ≡ 0 → around o ≡ []
+pub around-none : (o : Open) → o .top .count ≡ 0 → around o ≡ []
 around-none o e = rw e
 
 -- Of each open element the state has the last place only.
@@ -66,7 +82,7 @@ aroundOf-last a zero = refl
 aroundOf-last a (suc n) = rw (standing-last (getD a n none .element) (getD a n none .place), aroundOf-last a n)
 
 pub stateOf-short : (o : Open) (ev : List Event) → short (stateOf o ev) ≡ stateOf o ev
-stateOf-short o ev = rw (standing-last (o .element) (o .place), aroundOf-last (o .around) (o .count))
+stateOf-short o ev = rw (standing-last (o .top .element) (o .top .place), aroundOf-last (o .around) (o .top .count))
 
 -- Whether an element is open
 
@@ -106,42 +122,108 @@ sound-first es o (x ∷ os) h = h .1
 pub stands-range : {es : List Element} {o : Open} → Stands es o → InRange es (current o)
 stands-range {es} {o} h = sound-first es (current o) (around o) (h .sound)
 
-pub stands-place : {es : List Element} {o : Open} → Stands es o → o .place ≤ width es (o .element)
-stands-place {es} {o} h = rw (last-placed (o .place)) at (stands-range h .place)
+pub stands-place : {es : List Element} {o : Open} → Stands es o → o .top .place ≤ width es (o .top .element)
+stands-place {es} {o} h = rw (last-placed (o .top .place)) at (stands-range h .place)
 
 -- Around the current element there is an open one or the document: it is an element, and so may end.
-around-parts : {es : List Element} {o : Open} → Stands es o → 1 ≤ o .count → Sound es (current o) (current (ended o) ∷ around (ended o))
+around-parts : {es : List Element} {o : Open} → Stands es o → 1 ≤ o .top .count → Sound es (current o) (current (ended o) ∷ around (ended o))
 around-parts {es} {o} h l = subst (λ (os : List rules.Open). Sound es (current o) os) (around-ended o l) (h .sound)
 
-pub stands-element : {es : List Element} {o : Open} → Stands es o → 1 ≤ o .count → 1 ≤ o .element
+pub stands-element : {es : List Element} {o : Open} → Stands es o → 1 ≤ o .top .count → 1 ≤ o .top .element
 stands-element h l = around-parts h l .0
 
+-- Of the elements around the current one, the outermost alone is the document itself.
+pub parent-element : {es : List Element} {o : Open} → Stands es o → 1 < o .top .count → 1 ≤ ended o .top .element
+parent-element {es} {o} h l = subst (λ (os : List rules.Open). Sound es (current (ended o)) os) (around-ended (ended o) (omega arith)) (around-parts h (omega arith) .2) .0
+
+pub parent-document : {es : List Element} {o : Open} → Stands es o → o .top .count ≡ 1 → ended o .top .element ≡ 0
+parent-document {es} {o} h e = let z : o .top .count - 1 ≡ 0 = omega arith in rw z (h .outermost (omega arith))
+
+-- The place that is kept as required is required after the place taken last.
+pub stands-requires : {es : List Element} {o : Open} → Stands es o → Requires es (o .top .element) (o .top .required) (o .top .place)
+stands-requires h = record { range = stands-range h; required = h .marked .required }
+
+-- The required place is one of the model's, or 0.
+pub stands-required : {s : List ℕ} {es : List Element} {o : Open} → Accepts s es → Stands es o → o .top .required ≤ 96
+stands-required {s} {es} {o} accepted h =
+    omega (arith, h .marked .required, required-most s es accepted (o .top .element) (o .top .place) (stands-place h), width-most s es accepted (o .top .element))
+
+-- Nothing is open: the document itself is not complete, and requires its one place.
 pub stands-fresh : (es : List Element) → Stands es fresh
+unfolding isCompleteIn requiredOf
 stands-fresh es =
-    record { whole = length-replicate 24 none; few = omega arith; sound = place-in es 0 0 (omega arith) (omega arith) }
+    record {
+      whole = length-replicate 24 none;
+      few = omega arith;
+      sound = place-in es 0 0 (omega arith) (omega arith);
+      marked = record { complete = refl; required = refl };
+      kept = λ k l. absurd (omega arith);
+      document = λ e. refl;
+      outermost = λ l. absurd (omega arith);
+    }
 
-pub stands-took : {es : List Element} {o : Open} (p : ℕ) → Stands es o → p ≤ width es (o .element) → Stands es (took p o)
-stands-took {es} {o} p h w =
-    record { whole = h .whole; few = h .few; sound = sound-place es (o .element) (o .place) p (around o) w (h .sound) }
+-- What the rows have after a place are the marks of the element there.
+rows-mark : {es : List Element} {rows : List ℕ} → Rows es rows → {x : Entry} → x .element ≤ length es → x .place ≤ width es (x .element)
+    → x .complete ≡ completeAt rows (x .element) (x .place) → x .required ≡ requiredAt rows (x .element) (x .place) → Marked es x
+rows-mark said {x} d w c r =
+    record { complete = c ∙ said .complete (x .element) (x .place) d w; required = r ∙ said .required (x .element) (x .place) d w }
 
-pub stands-opening : {es : List Element} {o : Open} (k : ℕ) → Stands es o → o .count < 24 → 1 ≤ k → k ≤ length es → Stands es (opening k o)
-stands-opening {es} {o} k h l some there =
+pub stands-took : {es : List Element} {rows : List ℕ} → Rows es rows → {o : Open} (p : ℕ) → Stands es o → p ≤ width es (o .top .element) → Stands es (took rows p o)
+stands-took {es} said {o} p h w =
+    record {
+      whole = h .whole;
+      few = h .few;
+      sound = sound-place es (o .top .element) (o .top .place) p (around o) w (h .sound);
+      marked = rows-mark said (stands-range h .declared) w refl refl;
+      kept = h .kept;
+      document = h .document;
+      outermost = h .outermost;
+    }
+
+-- The marks of the element in which another is opened are kept with it.
+kept-set : (es : List Element) (a : List Entry) (n : ℕ) (x : Entry) → n < length a → Marked es x → ((k : ℕ) → k < n → Marked es (getD a k none)) → (k : ℕ) → k < n + 1 → Marked es (getD (set a n x) k none)
+kept-set es a n x l m h k i = by-place (ℕ-discrete k n)
+  where
+    by-place : Dec (k ≡ n) → Marked es (getD (set a n x) k none)
+    by-place (yes e) = rw (e, getD-set-same a n x none l) m
+    by-place (no e) = rw (getD-set-other a n k x none e) (h k (omega arith))
+
+-- The outermost entry stays where one is written further in; the first that is written is the document itself.
+outermost-set : (a : List Entry) (n : ℕ) (x : Entry) → n < length a → (n ≡ 0 → x .element ≡ 0) → (1 ≤ n → getD a 0 none .element ≡ 0) → getD (set a n x) 0 none .element ≡ 0
+outermost-set a zero x l d h = rw (getD-set-same a 0 x none l) (d refl)
+outermost-set a (suc n) x l d h = rw (getD-set-other a (suc n) 0 x none (λ e. omega arith)) (h (omega arith))
+
+pub stands-opening : {es : List Element} {rows : List ℕ} → Rows es rows → {o : Open} (k : ℕ) → Stands es o → o .top .count < 24 → 1 ≤ k → k ≤ length es → Stands es (opening rows k o)
+stands-opening {es} {rows} said {o} k h l some there =
     record {
       whole = simp length-set (h .whole);
       few = omega arith;
       sound =
-          subst (λ (os : List rules.Open). Sound es (standing k 0) os) (sym (around-opening k o (h .whole) l))
+          subst (λ (os : List rules.Open). Sound es (standing k 0) os) (sym (around-opening rows k o (h .whole) l))
           (some, place-in es k 0 there (omega arith), h .sound);
+      marked = rows-mark said there (omega arith) refl refl;
+      kept = kept-set es (o .around) (o .top .count) (covered (o .top)) (omega (arith, h .whole)) (h .marked) (h .kept);
+      document = λ e. absurd (omega arith);
+      outermost = λ i. outermost-set (o .around) (o .top .count) (covered (o .top)) (omega (arith, h .whole)) (h .document) (h .outermost);
     }
 
-pub stands-ended : {es : List Element} {o : Open} → Stands es o → 1 ≤ o .count → Stands es (ended o)
-stands-ended h l = record { whole = h .whole; few = omega (arith, h .few); sound = around-parts h l .2 }
+pub stands-ended : {es : List Element} {o : Open} → Stands es o → 1 ≤ o .top .count → Stands es (ended o)
+stands-ended {es} {o} h l =
+    record {
+      whole = h .whole;
+      few = omega (arith, h .few);
+      sound = around-parts h l .2;
+      marked = h .kept (o .top .count - 1) (omega arith);
+      kept = λ k i. h .kept k (omega arith);
+      document = λ e. let z : o .top .count - 1 ≡ 0 = e in rw z (h .outermost l);
+      outermost = λ i. h .outermost l;
+    }
 
 pub stands-bringing : {es : List Element} {o : Open} (n : ℕ) → Stands es o → Stands es (bringing n o)
-stands-bringing n h = record { whole = h .whole; few = h .few; sound = h .sound }
+stands-bringing n h = record { whole = h .whole; few = h .few; sound = h .sound; marked = h .marked; kept = h .kept; document = h .document; outermost = h .outermost }
 
 pub stands-refusing : {es : List Element} {o : Open} (n : ℕ) → Stands es o → Stands es (refusing n o)
-stands-refusing n h = record { whole = h .whole; few = h .few; sound = h .sound }
+stands-refusing n h = record { whole = h .whole; few = h .few; sound = h .sound; marked = h .marked; kept = h .kept; document = h .document; outermost = h .outermost }
 
 -- Events
 

@@ -14,9 +14,9 @@ use Rattle.document_laws.specs.Same.{link}
 use Rattle.document_laws.specs.Chain.{chain-leads, chain-shortest}
 use Rattle.type_laws.specs.Names.{numberOf-range}
 use Rattle.last_places.specs.Last.{placed, InRange}
-use Rattle.type_tables.specs.Means.{standing, nameNumber, Declares, Tables, ReadyFor}
+use Rattle.type_tables.specs.Means.{standing, nameNumber, Declares, Tables, ReadyFor, Requires}
 use Rattle.settling.specs.declared.Way.the-variants.{Taken, Inferred, Stuck}
-use Rattle.settling.specs.Means.{tokenOf, tokenOf-number, tokenOf-declared, wayOf, chained}
+use Rattle.settling.specs.Means.{tokenOf, tokenOf-number, tokenOf-declared, wayOf, chained, AnyChain}
 
 -- One turn of a chain
 
@@ -164,54 +164,54 @@ module _ (s : List ℕ) (es : List Element) (t : Token) (o : Open) (c n : ℕ) (
         still = turn _ refl (omega arith) ∙ rw (f, past-on (n - 1) c _ (omega arith), m, ← e);
       }
 
--- The same in every type whose tables these are, for the token whose name is x.
-pub record Looks (rows places facts : List ℕ) (e u x c n : ℕ) : Type 0 where
-  pub left : (s : List ℕ) (es : List Element) → Tables s es rows places facts → InRange es (standing e u) → (t : Token) → nameNumber t ≡ x → Declares es t → Ahead s es t (standing e u) c n
+-- The same in every type whose tables these are and where the place q is required, for the token whose name is x.
+pub record Looks (rows places facts : List ℕ) (e q x c n : ℕ) : Type 0 where
+  pub left : (s : List ℕ) (es : List Element) → Tables s es rows places facts → (u : ℕ) → Requires es e q u → (t : Token) → nameNumber t ≡ x → Declares es t → Ahead s es t (standing e u) c n
 
--- The chain after the place u of the element e has so many starts, for the token whose name is x.
-abbrev Counts : (rows places facts : List ℕ) (e u x n : ℕ) → Type 0
-Counts rows places facts e u x n =
-    (s : List ℕ) (es : List Element) → Tables s es rows places facts → InRange es (standing e u) → (t : Token) → nameNumber t ≡ x → Declares es t → n ≡ chained s es t (standing e u)
+-- The chain has so many starts, for the token whose name is x.
+abbrev Counts : (rows places facts : List ℕ) (e q x n : ℕ) → Type 0
+Counts rows places facts e q x n =
+    (s : List ℕ) (es : List Element) → Tables s es rows places facts → (u : ℕ) → Requires es e q u → (t : Token) → nameNumber t ≡ x → Declares es t → n ≡ chained s es t (standing e u)
 
 -- That token fits as the place p at the start of c, or p is 0.
 abbrev FitsFirst : (rows places facts : List ℕ) (c x p : ℕ) → Type 0
 FitsFirst rows places facts c x p =
     (s : List ℕ) (es : List Element) → Tables s es rows places facts → InRange es (standing c 0) → (t : Token) → nameNumber t ≡ x → Declares es t → p ≡ decided s es .fits c (placed 0) t
 
-module _ (rows places facts : List ℕ) (e u x : ℕ) where
+module _ (rows places facts : List ℕ) (e q x : ℕ) where
   pub looks-start : (c : ℕ)
-      → ((s : List ℕ) (es : List Element) → Tables s es rows places facts → InRange es (standing e u) → c ≡ inferable s es (decided s es) (standing e u))
-      → Looks rows places facts e u x c 1
-  looks-start c found = record { left = λ s es tables range t i d. ahead-start s es t (standing e u) (tables .few) c (found s es tables range) }
+      → ((s : List ℕ) (es : List Element) (some : List ℕ) → Tables s es some places facts → (u : ℕ) → Requires es e q u → c ≡ inferable s es (decided s es) (standing e u))
+      → Looks rows places facts e q x c 1
+  looks-start c found = record { left = λ s es tables u requires t i d. ahead-start s es t (standing e u) (tables .few) c (found s es rows tables u requires) }
 
-  module _ (c n : ℕ) (h : Looks rows places facts e u x c n) where
-    pub looks-ready : ReadyFor rows places facts e u x → ReadyFor rows places facts c 0 x
-    looks-ready (s, es, tables, range, most) =
-        (s, es, tables, first-range es c (h .left s es tables range (tokenOf x) (tokenOf-number x) (tokenOf-declared es x most) .within), most)
+  module _ (c n : ℕ) (h : Looks rows places facts e q x c n) where
+    pub looks-ready : AnyChain rows places facts e q x → ReadyFor rows places facts c 0 x
+    looks-ready (s, es, u, tables, requires, most) =
+        (s, es, tables, first-range es c (h .left s es tables u requires (tokenOf x) (tokenOf-number x) (tokenOf-declared es x most) .within), most)
 
-    pub looks-over : 1 ≤ n → 64 < n → Counts rows places facts e u x 0
-    looks-over some l s es tables range t i d = ahead-over s es t (standing e u) c n some (h .left s es tables range t i d) l
+    pub looks-over : 1 ≤ n → 64 < n → Counts rows places facts e q x 0
+    looks-over some l s es tables u requires t i d = ahead-over s es t (standing e u) c n some (h .left s es tables u requires t i d) l
 
     module _ (some : 1 ≤ n) (most : n ≤ 64) where
-      pub looks-none : c ≡ 0 → Counts rows places facts e u x 0
-      looks-none z s es tables range t i d = ahead-none s es t (standing e u) c n some (h .left s es tables range t i d) most z
+      pub looks-none : c ≡ 0 → Counts rows places facts e q x 0
+      looks-none z s es tables u requires t i d = ahead-none s es t (standing e u) c n some (h .left s es tables u requires t i d) most z
 
       module _ (there : c ≡ 0 → ⊥) (p : ℕ) (fits : FitsFirst rows places facts c x p) where
-        fitted : (s : List ℕ) (es : List Element) → Tables s es rows places facts → InRange es (standing e u) → (t : Token) → nameNumber t ≡ x → Declares es t → p ≡ fitting s es (decided s es) (standing c 0) t
-        fitted s es tables range t i d = fits s es tables (first-range es c (h .left s es tables range t i d .within)) t i d
+        fitted : (s : List ℕ) (es : List Element) → Tables s es rows places facts → (u : ℕ) → Requires es e q u → (t : Token) → nameNumber t ≡ x → Declares es t → p ≡ fitting s es (decided s es) (standing c 0) t
+        fitted s es tables u requires t i d = fits s es tables (first-range es c (h .left s es tables u requires t i d .within)) t i d
 
-        pub looks-found : (p ≡ 0 → ⊥) → Counts rows places facts e u x n
-        looks-found z s es tables range t i d =
-            ahead-found s es t (standing e u) c n some (h .left s es tables range t i d) most there (λ y. z (fitted s es tables range t i d ∙ y))
+        pub looks-found : (p ≡ 0 → ⊥) → Counts rows places facts e q x n
+        looks-found z s es tables u requires t i d =
+            ahead-found s es t (standing e u) c n some (h .left s es tables u requires t i d) most there (λ y. z (fitted s es tables u requires t i d ∙ y))
 
         pub looks-next : p ≡ 0 → (k : ℕ)
             → ((s : List ℕ) (es : List Element) → Tables s es rows places facts → InRange es (standing c 0) → k ≡ inferable s es (decided s es) (standing c 0))
-            → Looks rows places facts e u x k (n + 1)
+            → Looks rows places facts e q x k (n + 1)
         looks-next z k found =
             record {
-              left = λ s es tables range t i d.
-                  let a = h .left s es tables range t i d in
-                  ahead-next s es t (standing e u) c n some a most there (sym (fitted s es tables range t i d) ∙ z) k (found s es tables (first-range es c (a .within)));
+              left = λ s es tables u requires t i d.
+                  let a = h .left s es tables u requires t i d in
+                  ahead-next s es t (standing e u) c n some a most there (sym (fitted s es tables u requires t i d) ∙ z) k (found s es tables (first-range es c (a .within)));
             }
 
 -- What is answered of an element

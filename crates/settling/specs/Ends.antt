@@ -1,54 +1,63 @@
 -- When an end is inferred, and when the document is over.
-use Prim.Native.Nat.{ℕ, suc, zero, _≤_}
-use mathlib.Core.Path.{_≡_, refl, sym, _∙_, ap, subst}
-use mathlib.Core.Bool.{Bool, true, false, not, _&&_}
+use Prim.Native.Nat.{ℕ, suc, zero, _≤_, _<_}
+use mathlib.Core.Path.{_≡_, refl, sym, _∙_}
+use mathlib.Core.Bool.{Bool, true, false, _&&_}
 use mathlib.Core.List.{List}
 use native.Mathlib.Omega.{arith}
-use lib.Dec.{eqb, leb}
+use lib.Dec.{leb}
 use borrow.Author.Tests.{le-leb, ne-eqb}
 use Rattle.rules.specs.TypeFile.{Element}
 use Rattle.rules.specs.Settling.{start, endO, Event, isOver}
 use Rattle.document_laws.specs.Decide.{decided}
-use Rattle.last_places.specs.Last.{placed, InRange}
-use Rattle.type_tables.specs.Means.{standing, Declares}
+use Rattle.type_tables.specs.Means.{Declares}
 use Rattle.open_elements.specs.declared.Open.{Open}
-use Rattle.open_elements.specs.Means.{stateOf, current, around, ended, Stands}
-use Rattle.open_elements.specs.Laws.{around-ended, around-none, stands-range, stands-element}
+use Rattle.open_elements.specs.Means.{stateOf, current, around, Stands}
+use Rattle.open_elements.specs.Whole.{ended}
+use Rattle.open_elements.specs.Laws.{around-ended, around-none, stands-range, stands-element, parent-element, parent-document}
 use Rattle.settling.specs.Means.{mayEnd}
 
 module _ (s : List ℕ) {es : List Element} {o : Open} (stands : Stands es o) where
   -- Something is open, or the document's content is not complete.
-  pub open-goes-on : (o .element ≡ 0 → ⊥) → (before : List Event) → false ≡ isOver s es (decided s es) (stateOf o before)
-  open-goes-on h before = rw (ne-eqb (o .element) 0 h)
+  pub open-goes-on : (o .top .element ≡ 0 → ⊥) → (before : List Event) → false ≡ isOver s es (decided s es) (stateOf o before)
+  open-goes-on h before = rw (ne-eqb (o .top .element) 0 h)
 
-  pub over-if-complete : o .element ≡ 0 → (b : Bool) → (InRange es (standing 0 (o .place)) → b ≡ decided s es .complete 0 (placed (o .place)))
-      → (before : List Event) → b ≡ isOver s es (decided s es) (stateOf o before)
-  over-if-complete z b says before =
-      let range : InRange es (standing 0 (o .place)) = subst (λ (e : ℕ). InRange es (standing e (o .place))) z (stands-range stands) in
-      says range ∙ rw z
+  pub over-if-complete : o .top .element ≡ 0 → (before : List Event) → o .top .complete ≡ isOver s es (decided s es) (stateOf o before)
+  over-if-complete z before = stands .marked .complete ∙ rw z
 
   -- Nothing is open: no end is inferred.
-  pub none-ends : o .count ≡ 0 → false ≡ mayEnd s es (current o) (around o)
+  pub none-ends : o .top .count ≡ 0 → false ≡ mayEnd s es (current o) (around o)
   none-ends z = rw (around-none o z)
 
-  module _ (some : 1 ≤ o .count) where
+  module _ (some : 1 ≤ o .top .count) where
     -- What is open is an element of the type.
-    pub stands-declared : Declares es (start (o .element))
+    pub stands-declared : Declares es (start (o .top .element))
     stands-declared = (stands-element stands some, stands-range stands .declared)
 
-    may-end : mayEnd s es (current o) (around o) ≡ decided s es .complete (o .element) (placed (o .place)) && (endO es (o .element) && leb 1 (ended o .element))
-    may-end = rw (around-ended o some)
+    may-end : mayEnd s es (current o) (around o) ≡ o .top .complete && (endO es (o .top .element) && leb 1 (ended o .top .element))
+    may-end = rw (around-ended o some, stands .marked .complete)
 
-    pub incomplete-stays : decided s es .complete (o .element) (placed (o .place)) ≡ false → false ≡ mayEnd s es (current o) (around o)
+    pub incomplete-stays : o .top .complete ≡ false → false ≡ mayEnd s es (current o) (around o)
     incomplete-stays e = sym (may-end ∙ rw e)
 
-    module _ (complete : decided s es .complete (o .element) (placed (o .place)) ≡ true) where
-      pub end-wanted : endO es (o .element) ≡ false → false ≡ mayEnd s es (current o) (around o)
-      end-wanted e = sym (may-end ∙ rw (complete, e))
+  -- Nothing is open but the document element: the document lies around it.
+  pub document-stays : o .top .count ≤ 1 → false ≡ mayEnd s es (current o) (around o)
+  document-stays l = by-count (o .top .count) refl
+    where
+      none : (b c : Bool) → b && (c && false) ≡ false
+      none true true = refl
+      none true false = refl
+      none false c = refl
 
-      pub ends-in-parent : endO es (o .element) ≡ true → not (eqb (ended o .element) 0) ≡ mayEnd s es (current o) (around o)
-      ends-in-parent e = sym (may-end ∙ rw (complete, e) (some-if (ended o .element)))
-        where
-          some-if : (k : ℕ) → leb 1 k ≡ not (eqb k 0)
-          some-if zero = refl
-          some-if (suc k) = le-leb 1 (suc k) (omega arith) ∙ sym (ap not (ne-eqb (suc k) 0 (λ e. omega arith)))
+      by-count : (n : ℕ) → o .top .count ≡ n → false ≡ mayEnd s es (current o) (around o)
+      by-count zero z = none-ends z
+      by-count (suc n) z =
+          let one : o .top .count ≡ 1 = omega arith in
+          sym (may-end (omega arith) ∙ rw (parent-document stands one) (none (o .top .complete) (endO es (o .top .element))))
+
+  -- Any other element's parent is an element.
+  pub ends-in-parent : 1 < o .top .count → o .top .complete ≡ true → endO es (o .top .element) ≡ mayEnd s es (current o) (around o)
+  ends-in-parent l e = sym (may-end (omega arith) ∙ rw (e, le-leb 1 (ended o .top .element) (parent-element stands l)) (all (endO es (o .top .element))))
+    where
+      all : (b : Bool) → b && true ≡ b
+      all true = refl
+      all false = refl

@@ -20,7 +20,8 @@ use Rattle.last_places.specs.Short.{state, allLast-length, lastOnly-took, takeP
 use Rattle.type_tables.specs.Means.{width}
 use Rattle.type_tables.specs.Search.{search-most}
 use Rattle.open_elements.specs.declared.Open.{Open}
-use Rattle.open_elements.specs.Means.{current, around, stateOf, took}
+use Rattle.open_elements.specs.Means.{current, around, stateOf}
+use Rattle.open_elements.specs.Whole.{took}
 use Rattle.open_elements.specs.Laws.{around-length}
 use Rattle.settling.specs.declared.Way.{Way}
 use Rattle.settling.specs.declared.Way.the-variants.{Taken, Inferred, Stuck}
@@ -80,14 +81,14 @@ limited-many at z l = rw (lt-ltb 24 (length (z .around)) l, limited)
 
 -- The state of the code, where z is the rules' state
 module _ (o : Open) (ev : List Event) (z : State) (same : short z ≡ stateOf o ev) where
-  pub same-deep : length (z .around) ≡ o .count
+  pub same-deep : length (z .around) ≡ o .top .count
   same-deep = sym (allLast-length (z .around)) ∙ ap (λ (y : State). length (y .around)) same ∙ around-length o
 
   pub same-fits : (s : List ℕ) (es : List Element) (t : Token) → fitting s es (decided s es) (z .current) t ≡ fitting s es (decided s es) (current o) t
   same-fits s es t = fitting-short s es (z .current) t ∙ ap (λ (y : State). fitting s es (decided s es) (y .current) t) same
 
   -- A place is taken where at most 24 are open.
-  pub same-took : (at p : ℕ) → o .count ≤ 24 → shortly (limited at (takePlace p z)) ≡ got (stateOf (took p o) ev)
-  same-took at p l =
+  pub same-took : (rows : List ℕ) (at p : ℕ) → o .top .count ≤ 24 → shortly (limited at (takePlace p z)) ≡ got (stateOf (took rows p o) ev)
+  same-took rows at p l =
       ap shortly (limited-few at (takePlace p z) (omega (arith, same-deep)))
       ∙ ap got (takePlace-short p z ∙ ap (λ (y : State). short (takePlace p y)) same ∙ ap₂ (λ u us. state u us ev) (lastOnly-took (current o) p) (around-short o))

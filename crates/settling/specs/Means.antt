@@ -1,5 +1,5 @@
 -- What settling asks and does at one open element, by counts and by the last places: what its contracts cite.
-use Prim.Native.Nat.{ℕ, zero, suc, _-_, _≤_}
+use Prim.Native.Nat.{ℕ, zero, suc, _+_, _-_, _≤_}
 use mathlib.Core.Path.{_≡_, refl}
 use mathlib.Core.Bool.{Bool, false, _&&_}
 use mathlib.Core.List.{List, [], _∷_, _++_}
@@ -8,13 +8,14 @@ use lib.ListN.{length}
 use lib.Dec.{leb}
 use Rattle.rules.specs.Reading.{Reading, andThen}
 use Rattle.rules.specs.TypeFile.{Element}
-use Rattle.rules.specs.Settling.{Token, start, pcdata, endO, startInferred, Event, State, takePlace, enter, note, limited, requiredPlace, isComplete, inferable, settleFrom, startElement}
+use Rattle.rules.specs.Settling.{Token, start, pcdata, endO, startInferred, startWritten, endOfEmpty, dataRun, Event, State, takePlace, enter, note, limited, requiredPlace, isComplete, inferable, settleFrom, startElement}
 use Rattle.rules.specs.Settling as rules
 use Rattle.document_laws.specs.Decide.{decided}
 use Rattle.last_places.specs.Last.{short, shortly, takeRun}
-use Rattle.type_tables.specs.Means.{nameNumber, Declares, Tables}
+use Rattle.type_tables.specs.Means.{nameNumber, Declares, Facts, Tables, Requires}
+use Rattle.open_elements.specs.declared.Top.{Top}
 use Rattle.open_elements.specs.declared.Open.{Open}
-use Rattle.open_elements.specs.Means.{stateOf, current, around, eventsIn, outcome, Stands}
+use Rattle.open_elements.specs.Means.{stateOf, current, around, took, opening, bringing, refusing, eventsIn, outcome, Stands}
 use Rattle.settling.specs.declared.Way.{Way}
 use Rattle.settling.specs.declared.Way.the-variants.{Taken, Inferred, Stuck}
 
@@ -72,7 +73,7 @@ module _ (s : List ℕ) (es : List Element) where
 pub record InfersOn (s : List ℕ) (es : List Element) (at left : ℕ) (o : Open) (events : List ℕ) (starts : ℕ) (o₀ : Open) (events₀ : List ℕ) : Type 0 where
   pub stands : Stands es o
   pub infers : Infers s es left (current o)
-  pub same : (before : List Event) → short (inferMany s es at left (stateOf o (before ++ eventsIn events (o .events)))) ≡ short (inferMany s es at starts (stateOf o₀ (before ++ eventsIn events₀ (o₀ .events))))
+  pub same : (before : List Event) → short (inferMany s es at left (stateOf o (before ++ eventsIn events (o .top .events)))) ≡ short (inferMany s es at starts (stateOf o₀ (before ++ eventsIn events₀ (o₀ .top .events))))
 
 -- What is read of a token from the state o on, with the limit of 24: it is settled, where the document is not over.
 abbrev pub reads : List ℕ → List Element → Token → (at : ℕ) → Open → List Event → Reading State
@@ -81,7 +82,52 @@ reads s es t at o before = andThen (settleFrom s es (decided s es) t at (around 
 -- What has become of a token at `at` is what is read of it, where these events were before it.
 pub record Settled (es : List Element) (at : ℕ) (o : Open) (events : List ℕ) (read : List Event → Reading State) : Type 0 where
   pub comes : (before : List Event) → outcome at o events before ≡ shortly (read before)
-  pub stands : o .number ≡ 0 → Stands es o
+  pub stands : o .top .number ≡ 0 → Stands es o
+
+-- Whether the end of the current element is inferred.
+abbrev pub MayEnd : (facts : List ℕ) → Open → Bool → Type 0
+MayEnd facts o b = (s : List ℕ) (es : List Element) → Facts s es facts → Stands es o → b ≡ mayEnd s es (current o) (around o)
+
+-- By what was found of the current element: how many starts are inferred, the place as which the token fits at once, and the place that is
+-- taken, where f is the place as which it fits after the starts.
+abbrev pub startsOf : Way → ℕ
+startsOf (Taken p) = 0
+startsOf (Inferred n) = n
+startsOf Stuck = 0
+
+abbrev pub fitOf : Way → ℕ
+fitOf (Taken p) = p
+fitOf (Inferred n) = 0
+fitOf Stuck = 0
+
+abbrev pub takenAs : (rows : List ℕ) (f : ℕ) → Way → Top → Top
+takenAs rows f (Taken p) o = took rows p o
+takenAs rows f (Inferred n) o = took rows f o
+takenAs rows f Stuck o = refusing 12 o
+
+-- The element k is opened, and the event of its start put after those of the token: a start that is inferred, or one that is written.
+abbrev pub InfersStart : (rows : List ℕ) (k at : ℕ) → Top → (events : List ℕ) → Top → (events' : List ℕ) → Type 0
+InfersStart rows k at o events r events' =
+    (r ≡ bringing (o .events + 1) (opening rows k o)) × (eventsIn events' (o .events + 1) ≡ eventsIn events (o .events) ++ startInferred k at ∷ [])
+
+abbrev pub WritesStart : (rows : List ℕ) (k at after : ℕ) → Top → (events : List ℕ) → Top → (events' : List ℕ) → Type 0
+WritesStart rows k at after o events r events' =
+    (r ≡ bringing (o .events + 1) (opening rows k o)) × (eventsIn events' (o .events + 1) ≡ eventsIn events (o .events) ++ startWritten k at after ∷ [])
+
+-- The event of a run of data is put there, or those of an EMPTY element x.
+abbrev pub Writes : (x at after : ℕ) → Top → (events : List ℕ) → Top → (events' : List ℕ) → Type 0
+Writes x at after o events r events' =
+    (x ≡ 0 → (r ≡ bringing (o .events + 1) o) × (eventsIn events' (o .events + 1) ≡ eventsIn events (o .events) ++ dataRun at (after - at) ∷ []))
+    × ((x ≡ 0 → ⊥) → (r ≡ bringing (o .events + 1 + 1) o)
+    × (eventsIn events' (o .events + 1 + 1) ≡ (eventsIn events (o .events) ++ startWritten x at after ∷ []) ++ endOfEmpty x after ∷ []))
+
+-- The tables are those of some type, in which the place q is required after some place of the element e; the type has so many elements.
+abbrev pub AnyChain : (rows places facts : List ℕ) (e q x : ℕ) → Type 0
+AnyChain rows places facts e q x = (s : List ℕ) × (es : List Element) × (u : ℕ) × Tables s es rows places facts × Requires es e q u × (x ≤ length es)
+
+-- The same after the place u.
+abbrev pub AnyWay : (rows places facts : List ℕ) (e u q x : ℕ) → Type 0
+AnyWay rows places facts e u q x = (s : List ℕ) × (es : List Element) × Tables s es rows places facts × Requires es e q u × (x ≤ length es)
 
 -- The tables are those of some type, of which these elements are open, in the current one of which so many starts can be inferred;
 -- the type has so many elements.

@@ -13,7 +13,8 @@ use Rattle.last_places.specs.Last.{short, shortly}
 use Rattle.last_places.specs.Short.{state}
 use Rattle.type_tables.specs.Means.{Tables}
 use Rattle.open_elements.specs.declared.Open.{Open}
-use Rattle.open_elements.specs.Means.{current, around, stateOf, took, ended, bringing, refusing, eventsIn, Stands}
+use Rattle.open_elements.specs.Means.{current, around, stateOf, eventsIn, Stands}
+use Rattle.open_elements.specs.Whole.{took, ended, bringing, refusing}
 use Rattle.open_elements.specs.Laws.{around-length, around-ended, stands-took, stands-ended, stands-bringing, events-none, events-more}
 use Rattle.settling.specs.declared.Way.{Way}
 use Rattle.settling.specs.declared.Way.the-variants.{Taken, Inferred, Stuck}
@@ -23,9 +24,9 @@ use Rattle.settling.specs.Inward.{fits-most, inwardAs, inward-way, limit
 
 -- The token has its place, or is refused.
 
-settled-took : (es : List Element) (at p : ℕ) (events : List ℕ) (read : List Event → Reading State) (o : Open) {r : Open} → Stands es (took p o) → o .number ≡ 0 → r ≡ took p o
-    → ((before : List Event) → shortly (read before) ≡ got (stateOf (took p o) (before ++ eventsIn events (o .events)))) → Settled es at r events read
-settled-took es at p events read o stands e i same =
+settled-took : (es : List Element) (rows : List ℕ) (at p : ℕ) (events : List ℕ) (read : List Event → Reading State) (o : Open) {r : Open} → Stands es (took rows p o) → o .top .number ≡ 0 → r ≡ took rows p o
+    → ((before : List Event) → shortly (read before) ≡ got (stateOf (took rows p o) (before ++ eventsIn events (o .top .events)))) → Settled es at r events read
+settled-took es rows at p events read o stands e i same =
     subst (λ (x : Open). Settled es at x events read) (sym i) record { comes = λ before. rw e (sym (same before)); stands = λ z. stands }
 
 settled-refused : (es : List Element) (at n : ℕ) (events : List ℕ) (read : List Event → Reading State) (o : Open) {r : Open} → 1 ≤ n → r ≡ refusing n o
@@ -34,7 +35,7 @@ settled-refused es at zero events read o l e same = absurd (omega arith)
 settled-refused es at (suc n) events read o l e same =
     subst (λ (x : Open). Settled es at x events read) (sym e) record { comes = λ before. sym (same before); stands = λ z. absurd (omega arith) }
 
-way-fits : (p f n : ℕ) → Taken p ≡ wayOf f n → p ≡ f
+pub way-fits : (p f n : ℕ) → Taken p ≡ wayOf f n → p ≡ f
 way-fits p zero zero e = absurd (let z : _≡_ {A = ℕ} 0 1 = cc in omega arith)
 way-fits p zero (suc n) e = absurd (let z : _≡_ {A = ℕ} 0 1 = cc in omega arith)
 way-fits p (suc f) n e = cc
@@ -44,21 +45,21 @@ way-fits p (suc f) n e = cc
 module _ (s : List ℕ) (es : List Element) (t : Token) (at starts : ℕ) (o₀ : Open) (events₀ : List ℕ) where
   -- The token after so many inferred starts, with the limit.
   abbrev pub inferring : List Event → Reading State
-  inferring before = limited at (takeToken s es (decided s es) t (inferMany s es at starts (stateOf o₀ (before ++ eventsIn events₀ (o₀ .events)))))
+  inferring before = limited at (takeToken s es (decided s es) t (inferMany s es at starts (stateOf o₀ (before ++ eventsIn events₀ (o₀ .top .events)))))
 
-  pub infer-took : {rows places facts : List ℕ} → Tables s es rows places facts → {o r : Open} {events : List ℕ} → InfersOn s es at 0 o events starts o₀ events₀ → o .number ≡ 0
-      → (p : ℕ) → p ≡ fitting s es (decided s es) (current o) t → r ≡ took p o → Settled es at r events inferring
-  infer-took tables {o} {r} {events} h e p fits i =
-      settled-took es at p events inferring o (stands-took p (h .stands) (rw fits (fits-most s es (tables .accepted) (o .element) (current o .taken) t))) e i λ before.
-      let ev = before ++ eventsIn events (o .events) in
-      let z = inferMany s es at starts (stateOf o₀ (before ++ eventsIn events₀ (o₀ .events))) in
+  pub infer-took : {rows places facts : List ℕ} → Tables s es rows places facts → {o r : Open} {events : List ℕ} → InfersOn s es at 0 o events starts o₀ events₀ → o .top .number ≡ 0
+      → (p : ℕ) → p ≡ fitting s es (decided s es) (current o) t → r ≡ took rows p o → Settled es at r events inferring
+  infer-took {rows} tables {o} {r} {events} h e p fits i =
+      settled-took es rows at p events inferring o (stands-took (tables .rows-say) p (h .stands) (rw fits (fits-most s es (tables .accepted) (o .top .element) (current o .taken) t))) e i λ before.
+      let ev = before ++ eventsIn events (o .top .events) in
+      let z = inferMany s es at starts (stateOf o₀ (before ++ eventsIn events₀ (o₀ .top .events))) in
       let same : short z ≡ stateOf o ev = sym (h .same before) ∙ state-short o ev in
-      ap (λ q. shortly (limited at (takePlace q z))) (same-fits o ev z same s es t ∙ sym fits) ∙ same-took o ev z same at p (h .stands .few)
+      ap (λ q. shortly (limited at (takePlace q z))) (same-fits o ev z same s es t ∙ sym fits) ∙ same-took o ev z same rows at p (h .stands .few)
 
-  pub infer-refused : 24 < o₀ .count + starts → {r : Open} (events : List ℕ) → r ≡ refusing 15 o₀ → Settled es at r events inferring
+  pub infer-refused : 24 < o₀ .top .count + starts → {r : Open} (events : List ℕ) → r ≡ refusing 15 o₀ → Settled es at r events inferring
   infer-refused l events e =
       settled-refused es at 15 events inferring o₀ (omega arith) e λ before.
-      let z = stateOf o₀ (before ++ eventsIn events₀ (o₀ .events)) in
+      let z = stateOf o₀ (before ++ eventsIn events₀ (o₀ .top .events)) in
       ap shortly (limited-many at (takeToken s es (decided s es) t (inferMany s es at starts z)) (omega (arith, infer-deeper s es at starts z, around-length o₀)))
 
 -- Steps 3 and 4
@@ -86,7 +87,7 @@ module _ (s : List ℕ) (es : List Element) (t : Token) (at : ℕ) where
 -- What is settled from o on is what is settled from o₀ on.
 pub record Comes (s : List ℕ) (es : List Element) (t : Token) (at : ℕ) (o : Open) (events : List ℕ) (o₀ : Open) (events₀ : List ℕ) : Type 0 where
   pub stands : Stands es o
-  pub same : (before : List Event) → settleFrom s es (decided s es) t at (around o) (current o) (before ++ eventsIn events (o .events)) ≡ settleFrom s es (decided s es) t at (around o₀) (current o₀) (before ++ eventsIn events₀ (o₀ .events))
+  pub same : (before : List Event) → settleFrom s es (decided s es) t at (around o) (current o) (before ++ eventsIn events (o .top .events)) ≡ settleFrom s es (decided s es) t at (around o₀) (current o₀) (before ++ eventsIn events₀ (o₀ .top .events))
 
 module _ {s : List ℕ} {es : List Element} {t : Token} {at : ℕ} {o : Open} {events : List ℕ} {o₀ : Open} {events₀ : List ℕ} (h : Comes s es t at o events o₀ events₀) where
   -- What is found of the current element.
@@ -97,39 +98,39 @@ module _ {s : List ℕ} {es : List Element} {t : Token} {at : ℕ} {o : Open} {e
   came-inward w e ev = inward-way s es t at (stateOf o ev) ∙ ap (λ x. inwardAs s es t at x (stateOf o ev)) (sym e)
 
   -- An end is inferred.
-  pub comes-end : Stuck ≡ found → mayEnd s es (current o) (around o) ≡ true → 1 ≤ o .count → (r : Open) (events' : List ℕ) → r ≡ bringing (o .events + 1) (ended o)
-      → eventsIn events' (o .events + 1) ≡ eventsIn events (o .events) ++ endInferred (o .element) at ∷ [] → Comes s es t at r events' o₀ events₀
-  comes-end w ends some r events' e noted = subst (λ (x : Open). Comes s es t at x events' o₀ events₀) (sym e) record { stands = stands-bringing (o .events + 1) (stands-ended (h .stands) some); same = turn }
+  pub comes-end : Stuck ≡ found → mayEnd s es (current o) (around o) ≡ true → 1 ≤ o .top .count → (r : Open) (events' : List ℕ) → r ≡ bringing (o .top .events + 1) (ended o)
+      → eventsIn events' (o .top .events + 1) ≡ eventsIn events (o .top .events) ++ endInferred (o .top .element) at ∷ [] → Comes s es t at r events' o₀ events₀
+  comes-end w ends some r events' e noted = subst (λ (x : Open). Comes s es t at x events' o₀ events₀) (sym e) record { stands = stands-bringing (o .top .events + 1) (stands-ended (h .stands) some); same = turn }
     where
-      turn : (before : List Event) → settleFrom s es (decided s es) t at (around (ended o)) (current (ended o)) (before ++ eventsIn events' (o .events + 1)) ≡ settleFrom s es (decided s es) t at (around o₀) (current o₀) (before ++ eventsIn events₀ (o₀ .events))
+      turn : (before : List Event) → settleFrom s es (decided s es) t at (around (ended o)) (current (ended o)) (before ++ eventsIn events' (o .top .events + 1)) ≡ settleFrom s es (decided s es) t at (around o₀) (current o₀) (before ++ eventsIn events₀ (o₀ .top .events))
       turn before =
-          let ev = before ++ eventsIn events (o .events) in
-          ap (settleFrom s es (decided s es) t at (around (ended o)) (current (ended o))) (events-more before (eventsIn events (o .events)) (endInferred (o .element) at) noted)
+          let ev = before ++ eventsIn events (o .top .events) in
+          ap (settleFrom s es (decided s es) t at (around (ended o)) (current (ended o))) (events-more before (eventsIn events (o .top .events)) (endInferred (o .top .element) at) noted)
           ∙ sym (settle-end s es t at (current (ended o)) (around (ended o)) (around o) (around-ended o some) (current o) ev (came-inward Stuck w ev) ends)
           ∙ h .same before
 
-  module _ (none : o₀ .events ≡ 0) where
+  module _ (none : o₀ .top .events ≡ 0) where
     abbrev read : List Event → Reading State
     read = reads s es t at o₀
 
-    came-read : (before : List Event) (q : Reading State) → settleFrom s es (decided s es) t at (around o) (current o) (before ++ eventsIn events (o .events)) ≡ q → shortly (read before) ≡ shortly (andThen q (limited at))
+    came-read : (before : List Event) (q : Reading State) → settleFrom s es (decided s es) t at (around o) (current o) (before ++ eventsIn events (o .top .events)) ≡ q → shortly (read before) ≡ shortly (andThen q (limited at))
     came-read before q e =
-        ap (λ v. shortly (andThen (settleFrom s es (decided s es) t at (around o₀) (current o₀) v) (limited at))) (sym (events-none before events₀ (o₀ .events) none))
+        ap (λ v. shortly (andThen (settleFrom s es (decided s es) t at (around o₀) (current o₀) v) (limited at))) (sym (events-none before events₀ (o₀ .top .events) none))
         ∙ ap (λ x. shortly (andThen x (limited at))) (sym (h .same before) ∙ e)
 
-    pub comes-took : {rows places facts : List ℕ} → Tables s es rows places facts → o .number ≡ 0 → (p : ℕ) → Taken p ≡ found → {r : Open} → r ≡ took p o → Settled es at r events read
-    comes-took tables e p w i =
+    pub comes-took : {rows places facts : List ℕ} → Tables s es rows places facts → o .top .number ≡ 0 → (p : ℕ) → Taken p ≡ found → {r : Open} → r ≡ took rows p o → Settled es at r events read
+    comes-took {rows} tables e p w i =
         let fits : p ≡ fitting s es (decided s es) (current o) t = way-fits p (fitting s es (decided s es) (current o) t) (chained s es t (current o)) w in
-        settled-took es at p events read o (stands-took p (h .stands) (rw fits (fits-most s es (tables .accepted) (o .element) (current o .taken) t))) e i λ before.
-        let ev = before ++ eventsIn events (o .events) in
+        settled-took es rows at p events read o (stands-took (tables .rows-say) p (h .stands) (rw fits (fits-most s es (tables .accepted) (o .top .element) (current o .taken) t))) e i λ before.
+        let ev = before ++ eventsIn events (o .top .events) in
         came-read before (got (takePlace p (stateOf o ev))) (settle-inward s es t at (around o) (current o) ev _ (came-inward (Taken p) w ev))
-        ∙ same-took o ev (stateOf o ev) (state-short o ev) at p (h .stands .few)
+        ∙ same-took o ev (stateOf o ev) (state-short o ev) rows at p (h .stands .few)
 
     pub comes-inferred : (k : ℕ) → Inferred k ≡ found → {r : Open} {events' : List ℕ} → Settled es at r events' (inferring s es t at k o events) → Settled es at r events' read
     comes-inferred k w y =
         record {
           comes = λ before.
-              let ev = before ++ eventsIn events (o .events) in
+              let ev = before ++ eventsIn events (o .top .events) in
               y .comes before ∙ sym (came-read before (got (takeToken s es (decided s es) t (inferMany s es at k (stateOf o ev)))) (settle-inward s es t at (around o) (current o) ev _ (came-inward (Inferred k) w ev)));
           stands = y .stands;
         }
@@ -137,5 +138,5 @@ module _ {s : List ℕ} {es : List Element} {t : Token} {at : ℕ} {o : Open} {e
     pub comes-refused : Stuck ≡ found → mayEnd s es (current o) (around o) ≡ false → {r : Open} → r ≡ refusing 12 o → Settled es at r events read
     comes-refused w ends e =
         settled-refused es at 12 events read o (omega arith) e λ before.
-        let ev = before ++ eventsIn events (o .events) in
+        let ev = before ++ eventsIn events (o .top .events) in
         came-read before (refused 12 at) (settle-stuck s es t at (around o) (current o) ev (came-inward Stuck w ev) ends)

@@ -3,23 +3,26 @@ use Prim.Native.Nat.{ℕ, zero, suc, _+_, _-_, _≤_, _<_}
 use mathlib.Core.Path.{_≡_, refl, sym, _∙_, ap, ap₂, subst}
 use mathlib.Core.List.{List, [], _∷_, _++_}
 use native.Mathlib.Omega.{arith}
-use lib.ListN.{length, getD}
+use lib.ListN.{length, getD, set}
 use borrow.Author.Tests.{leb-true}
 use Rattle.rules.specs.TypeFile.{Element}
 use Rattle.rules.specs.Settling.{Token, Event, startInferred, State, takePlace, enter, note, requiredPlace, inferable, inferStarts}
 use Rattle.rules.specs.Settling as rules
 use Rattle.document_laws.specs.Decide.{decided}
 use Rattle.document_laws.specs.Chain.{Leads}
-use Rattle.last_places.specs.Last.{InRange, lastOnly, allLast, short}
+use Rattle.last_places.specs.Last.{lastOnly, allLast, short}
 use Rattle.last_places.specs.Short.{state, last-placed, withLast, lastOnly-took}
 use Rattle.last_places.specs.Short as shorts
-use Rattle.type_tables.specs.Means.{standing, Rows, Tables, Ready}
-use Rattle.type_tables.specs.Ranges.{place-range, width-most, required-most}
+use Rattle.type_tables.specs.Means.{standing, width, Tables, Requires}
+use Rattle.type_tables.specs.Ranges.{required-most}
 use Rattle.open_elements.specs.declared.Entry.{Entry}
+use Rattle.open_elements.specs.declared.Top.{Top}
 use Rattle.open_elements.specs.declared.Open.{Open}
-use Rattle.open_elements.specs.Means.{none, current, aroundOf, around, stateOf, took, opening, bringing, eventsIn, Stands}
-use Rattle.open_elements.specs.Laws.{around-opening, stands-range, stands-took, stands-opening, stands-bringing, events-more}
-use Rattle.settling.specs.Means.{inferOne, inferMany, Infers, InfersOn, AnyInfers}
+use Rattle.open_elements.specs.Means as top
+use Rattle.open_elements.specs.Means.{none, openOf, covered, current, aroundOf, around, stateOf, eventsIn, Stands}
+use Rattle.open_elements.specs.Whole.{took, opening, bringing}
+use Rattle.open_elements.specs.Laws.{around-opening, stands-range, stands-place, stands-required, stands-requires, stands-took, stands-opening, stands-bringing, events-more}
+use Rattle.settling.specs.Means.{inferOne, inferMany, Infers, InfersOn, InfersStart, AnyInfers}
 use Rattle.settling.specs.Chains.{inferable-most}
 
 -- The state of the code keeps the last places only
@@ -32,10 +35,10 @@ aroundOf-short a zero = refl
 aroundOf-short a (suc n) = ap₂ (λ u us. u ∷ us) (standing-short (getD a n none .element) (getD a n none .place)) (aroundOf-short a n)
 
 pub around-short : (o : Open) → allLast (around o) ≡ around o
-around-short o = aroundOf-short (o .around) (o .count)
+around-short o = aroundOf-short (o .around) (o .top .count)
 
 pub state-short : (o : Open) (ev : List Event) → short (stateOf o ev) ≡ stateOf o ev
-state-short o ev = ap₂ (λ u us. state u us ev) (standing-short (o .element) (o .place)) (around-short o)
+state-short o ev = ap₂ (λ u us. state u us ev) (standing-short (o .top .element) (o .top .place)) (around-short o)
 
 module _ (s : List ℕ) (es : List Element) where
   -- The start of k is inferred at the required place.
@@ -64,39 +67,44 @@ module _ (s : List ℕ) (es : List Element) where
   infer-deeper at zero z = omega arith
   infer-deeper at (suc n) z = infer-deeper at n (inferOne s es at z) ∙ omega arith
 
--- What is asked of the tables is in range.
-pub infers-ready : {rows places facts : List ℕ} {o : Open} {starts x : ℕ} → AnyInfers rows places facts o starts x → Ready rows places facts (o .element) (o .place)
-infers-ready a = (a .s, a .es, a .tables, stands-range (a .stands))
+-- The required place is one of the model's.
+required-in : {s : List ℕ} {es : List Element} {rows places facts : List ℕ} → Tables s es rows places facts → {o : Open} → Stands es o → o .top .required ≤ width es (o .top .element)
+required-in {s} {es} tables {o} stands =
+    omega (arith, stands .marked .required, required-most s es (tables .accepted) (o .top .element) (o .top .place) (stands-place stands))
 
-pub required-few : {rows places facts : List ℕ} {o : Open} {starts x : ℕ} → AnyInfers rows places facts o starts x → (p : ℕ)
-    → ((s : List ℕ) (es : List Element) → Rows es rows → InRange es (current o) → p ≡ requiredPlace s es (decided s es) (current o)) → p ≤ 96
-required-few {o = o} a p says =
-    let range = stands-range (a .stands) in
-    let accepted = a .tables .accepted in
-    omega (arith, says (a .s) (a .es) (a .tables .rows-say) range, required-most (a .s) (a .es) accepted (o .element) (o .place) (place-range (a .es) (o .element) (o .place) range), width-most (a .s) (a .es) accepted (o .element))
+-- What is asked of the tables is in range, also where the required place is taken.
+pub infers-range : {rows places facts : List ℕ} {o : Open} {starts x : ℕ} → AnyInfers rows places facts o starts x → (o .top .element ≤ 64) × (o .top .required ≤ 96) × (took rows (o .top .required) o .top .required ≤ 96)
+infers-range {o = o} a = (
+  omega (arith, stands-range (a .stands) .declared, a .tables .few),
+  stands-required (a .tables .accepted) (a .stands),
+  stands-required (a .tables .accepted) (stands-took (a .tables .rows-say) (o .top .required) (a .stands) (required-in (a .tables) (a .stands))),
+)
 
 -- One start is inferred, the first of those to be inferred.
-module _ (s : List ℕ) (es : List Element) {rows places facts : List ℕ} (tables : Tables s es rows places facts) {o : Open} (stands : Stands es o) (less : o .count < 24) (k p n : ℕ)
-    (chosen : k ≡ inferable s es (decided s es) (current o)) (there : p ≡ requiredPlace s es (decided s es) (current o)) where
-  infer-stands : 1 ≤ inferable s es (decided s es) (current o) → Stands es (bringing n (opening k (took p o)))
+module _ (s : List ℕ) (es : List Element) {rows places facts : List ℕ} (tables : Tables s es rows places facts) {o : Open} (stands : Stands es o) (less : o .top .count < 24) (k n : ℕ)
+    (chosen : k ≡ inferable s es (decided s es) (current o)) where
+  -- the required place is taken, and the element opened there
+  abbrev pub inferring : Open
+  inferring = bringing n (opening rows k (took rows (o .top .required) o))
+
+  infer-stands : 1 ≤ inferable s es (decided s es) (current o) → Stands es inferring
   infer-stands some =
       stands-bringing n
-      (stands-opening k
-      (stands-took p stands (rw there (required-most s es (tables .accepted) (o .element) (o .place) (place-range es (o .element) (o .place) (stands-range stands)))))
-      less (rw chosen some) (rw chosen (inferable-most s es (current o))))
+      (stands-opening (tables .rows-say) k (stands-took (tables .rows-say) (o .top .required) stands (required-in tables stands)) less (rw chosen some) (rw chosen (inferable-most s es (current o))))
 
-  module _ (at left : ℕ) (events events' : List ℕ) (counted : n ≡ o .events + 1) (noted : eventsIn events' (o .events + 1) ≡ eventsIn events (o .events) ++ startInferred k at ∷ []) where
+  module _ (at left : ℕ) (events events' : List ℕ) (counted : n ≡ o .top .events + 1) (noted : eventsIn events' (o .top .events + 1) ≡ eventsIn events (o .top .events) ++ startInferred k at ∷ []) where
     infer-same : (before : List Event)
-        → short (inferMany s es at left (stateOf (bringing n (opening k (took p o))) (before ++ eventsIn events' n))) ≡ short (inferMany s es at (suc left) (stateOf o (before ++ eventsIn events (o .events))))
+        → short (inferMany s es at left (stateOf inferring (before ++ eventsIn events' n))) ≡ short (inferMany s es at (suc left) (stateOf o (before ++ eventsIn events (o .top .events))))
     infer-same before =
-        let ev = (before ++ eventsIn events (o .events)) ++ startInferred k at ∷ [] in
-        let opened : stateOf (bringing n (opening k (took p o))) (before ++ eventsIn events' n) ≡ state (standing k 0) (standing (o .element) p ∷ around o) ev =
-        ap₂ (λ us v. state (standing k 0) us v) (around-opening k (took p o) (stands .whole) less) (rw counted (events-more before (eventsIn events (o .events)) (startInferred k at) noted)) in
+        let p = o .top .required in
+        let ev = (before ++ eventsIn events (o .top .events)) ++ startInferred k at ∷ [] in
+        let opened : stateOf inferring (before ++ eventsIn events' n) ≡ state (standing k 0) (standing (o .top .element) p ∷ around o) ev =
+        ap₂ (λ us v. state (standing k 0) us v) (around-opening rows k (took rows p o) (stands .whole) less) (rw counted (events-more before (eventsIn events (o .top .events)) (startInferred k at) noted)) in
         ap (λ z. short (inferMany s es at left z)) opened
-        ∙ infer-around s es at left (standing k 0) _ _ ev (ap (λ u. u ∷ allLast (around o)) (standing-short (o .element) p ∙ sym (lastOnly-took (current o) p)))
-        ∙ ap₂ (λ j q. short (inferMany s es at left (state (standing j 0) (shorts.took (current o) q ∷ around o) ((before ++ eventsIn events (o .events)) ++ startInferred j at ∷ [])))) chosen there
+        ∙ infer-around s es at left (standing k 0) _ _ ev (ap (λ u. u ∷ allLast (around o)) (standing-short (o .top .element) p ∙ sym (lastOnly-took (current o) p)))
+        ∙ ap₂ (λ j q. short (inferMany s es at left (state (standing j 0) (shorts.took (current o) q ∷ around o) ((before ++ eventsIn events (o .top .events)) ++ startInferred j at ∷ [])))) chosen (stands .marked .required)
 
-    pub infers-one : Infers s es (suc left) (current o) → {r : Open} → r ≡ bringing n (opening k (took p o)) → InfersOn s es at left r events' (suc left) o events
+    pub infers-one : Infers s es (suc left) (current o) → {r : Open} → r ≡ inferring → InfersOn s es at left r events' (suc left) o events
     infers-one (some, infers) e =
         subst (λ (x : Open). InfersOn s es at left x events' (suc left) o events) (sym e)
         record { stands = infer-stands some; infers = rw chosen infers; same = infer-same }
@@ -106,9 +114,10 @@ module _ (s : List ℕ) (es : List Element) {rows places facts : List ℕ} (tabl
 -- k of the starts are inferred, and what is left to infer from o comes to the same as all of them from o₀.
 pub record InfersAlong (rows places facts : List ℕ) (at starts k : ℕ) (o : Open) (events : List ℕ) (o₀ : Open) (events₀ : List ℕ) : Type 0 where
   pub most : k ≤ starts
-  pub deep : o .count ≡ o₀ .count + k
-  pub brought : o .events ≡ o₀ .events + k
-  pub number : o .number ≡ o₀ .number
+  pub deep : o .top .count ≡ o₀ .top .count + k
+  pub brought : o .top .events ≡ o₀ .top .events + k
+  pub number : o .top .number ≡ o₀ .top .number
+  pub still : k ≡ 0 → (o ≡ o₀) × (events ≡ events₀)
   pub along : (s : List ℕ) (es : List Element) → Tables s es rows places facts → Stands es o₀ → Infers s es starts (current o₀) → InfersOn s es at (starts - k) o events starts o₀ events₀
 
 infers-then : {s : List ℕ} {es : List Element} {at left m starts : ℕ} {o p q : Open} {events events' events₀ : List ℕ} → InfersOn s es at left p events' m o events → InfersOn s es at m o events starts q events₀ → InfersOn s es at left p events' starts q events₀
@@ -127,6 +136,7 @@ module _ (rows places facts : List ℕ) (at starts : ℕ) where
         deep = omega arith;
         brought = omega arith;
         number = refl;
+        still = λ z. (refl, refl);
         along = λ s es tables stands infers. rw z record { stands = stands; infers = infers; same = λ before. refl };
       }
 
@@ -145,7 +155,7 @@ module _ (rows places facts : List ℕ) (at starts : ℕ) where
 
     pub along-next : k < starts → {r : Open} {events' : List ℕ}
         → ((s : List ℕ) (es : List Element) → Tables s es rows places facts → Stands es o → (left : ℕ) → Infers s es (suc left) (current o) → InfersOn s es at left r events' (suc left) o events)
-        → (r .count ≡ o .count + 1) × (r .events ≡ o .events + 1) × (r .number ≡ o .number) → InfersAlong rows places facts at starts (k + 1) r events' o₀ events₀
+        → (r .top .count ≡ o .top .count + 1) × (r .top .events ≡ o .top .events + 1) × (r .top .number ≡ o .top .number) → InfersAlong rows places facts at starts (k + 1) r events' o₀ events₀
     along-next l next (deeper, more, same) =
         let z : starts - k ≡ suc (starts - (k + 1)) = omega arith in
         record {
@@ -153,6 +163,7 @@ module _ (rows places facts : List ℕ) (at starts : ℕ) where
           deep = omega (arith, h .deep);
           brought = omega (arith, h .brought);
           number = same ∙ h .number;
+          still = λ z. absurd (omega arith);
           along = λ s es tables stands infers.
               let b = rw z at (h .along s es tables stands infers) in
               infers-then (next s es tables (b .stands) (starts - (k + 1)) (b .infers)) b;
@@ -160,3 +171,21 @@ module _ (rows places facts : List ℕ) (at starts : ℕ) where
 
     pub along-all : starts ≤ k → (s : List ℕ) (es : List Element) → Tables s es rows places facts → Stands es o₀ → Infers s es starts (current o₀) → InfersOn s es at 0 o events starts o₀ events₀
     along-all l s es tables stands infers = let z : starts - k ≡ 0 = omega arith in rw z at (h .along s es tables stands infers)
+
+-- A turn of the loop: the required place is taken, which makes t; the element is kept as x, and the start is inferred in it.
+module _ {rows places facts : List ℕ} {at starts k : ℕ} {o o₀ : Open} {events events₀ : List ℕ} (h : InfersAlong rows places facts at starts k o events o₀ events₀) (l : k < starts) (less : o .top .count < 24)
+    {t : Top} (e : t ≡ top.took rows (o .top .required) (o .top)) {r : Top} (events' : List ℕ)
+    (begins : (s : List ℕ) (es : List Element) → Tables s es rows places facts → (u : ℕ) → Requires es (t .element) (t .place) u → InfersStart rows (inferable s es (decided s es) (standing (t .element) u)) at t events r events') where
+  begun : (s : List ℕ) (es : List Element) → Tables s es rows places facts → Stands es o
+      → InfersStart rows (inferable s es (decided s es) (current o)) at (top.took rows (o .top .required) (o .top)) events r events'
+  begun s es tables stands = (rw e at begins) s es tables (o .top .place) (stands-requires stands)
+
+  pub along-step : {x : ℕ} → AnyInfers rows places facts o₀ starts x → {y : Entry} → y ≡ covered t → InfersAlong rows places facts at starts (k + 1) (openOf (set (o .around) (t .count) y) r) events' o₀ events₀
+  along-step any {y} i =
+      let a = along-any rows places facts at starts h any l in
+      let first = begun (a .s) (a .es) (a .tables) (a .stands) .0 in
+      along-next rows places facts at starts h l
+      (λ s es tables stands left infers.
+      let (f, noted) = begun s es tables stands in
+      infers-one s es tables stands less (inferable s es (decided s es) (current o)) (o .top .events + 1) refl at left events events' refl noted infers (rw (i, e, f)))
+      (ap (λ (u : Top). u .count) first, ap (λ (u : Top). u .events) first, ap (λ (u : Top). u .number) first)

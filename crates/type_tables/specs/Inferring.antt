@@ -11,10 +11,9 @@ use Rattle.rules.specs.TypeFile.{Place, Element}
 use Rattle.rules.specs.Judge.{placeAt}
 use Rattle.rules.specs.Settling.{contentOf, placesIn, hasModel, startO, start, elementOf, inferable}
 use Rattle.model_sets.specs.Bits.{bool-cases}
-use Rattle.document_laws.specs.Decide.{requiredOf, decided}
-use Rattle.last_places.specs.Last.{placed, InRange}
+use Rattle.document_laws.specs.Decide.{decided}
 use Rattle.type_laws.specs.Names.{numberOf-range, numberOf-pcdata}
-use Rattle.type_tables.specs.Means.{standing, width, Declares, namedBy, Rows, Tables}
+use Rattle.type_tables.specs.Means.{standing, width, Declares, namedBy, Tables, Requires}
 use Rattle.type_tables.specs.Ranges.{place-range, required-most}
 
 -- The number k where the test holds, else 0.
@@ -29,16 +28,9 @@ numberIf-zero false k z = refl
 abbrev may : List Element → (p k : ℕ) → Bool
 may es p k = leb 1 p && (leb 1 k && (startO es k && hasModel (contentOf es k)))
 
--- The place p is required, 0 for none, under every type whose rows these are.
-pub record Requires (rows : List ℕ) (e u p : ℕ) : Type 0 where
-  pub required : (s : List ℕ) (es : List Element) → Rows es rows → InRange es (standing e u) → p ≡ decided s es .required e (placed u)
-
-module _ (rows places facts : List ℕ) (e u p : ℕ) (requires : Requires rows e u p) (s : List ℕ) (es : List Element) (tables : Tables s es rows places facts) (range : InRange es (standing e u)) where
-  is-required : p ≡ requiredOf (contentOf es e) (placed u)
-  is-required = requires .required s es (tables .rows-say) range
-
+module _ (rows places facts : List ℕ) (e u p : ℕ) (s : List ℕ) (es : List Element) (tables : Tables s es rows places facts) (requires : Requires es e p u) where
   pub required-within : p ≤ width es e
-  required-within = omega (arith, is-required, required-most s es (tables .accepted) e u (place-range es e u range))
+  required-within = omega (arith, requires .required, required-most s es (tables .accepted) e u (place-range es e u (requires .range)))
 
   -- The element that the required place names.
   abbrev named : ℕ
@@ -46,7 +38,7 @@ module _ (rows places facts : List ℕ) (e u p : ℕ) (requires : Requires rows 
 
   inferred : inferable s es (decided s es) (standing e u) ≡ numberIf (may es p named) named
   unfolding inferable
-  inferred = rw is-required
+  inferred = rw (requires .required)
 
   pub none-required : p ≡ 0 → 0 ≡ inferable s es (decided s es) (standing e u)
   none-required z = sym (inferred ∙ let x : leb 1 p ≡ false = rw z in rw x)
@@ -60,7 +52,7 @@ module _ (rows places facts : List ℕ) (e u p : ℕ) (requires : Requires rows 
     stands = placeAt (placesIn (contentOf es e)) (p - 1)
 
     said : k ≡ namedBy s es (placesIn (contentOf es e)) p
-    said = read ∙ tables .places-say .named e p (range .declared) (omega arith) required-within
+    said = read ∙ tables .places-say .named e p (requires .range .declared) (omega arith) required-within
 
     named-range : named ≤ length es
     named-range = numberOf-range s es s (stands .at) (stands .size)
@@ -81,17 +73,16 @@ module _ (rows places facts : List ℕ) (e u p : ℕ) (requires : Requires rows 
     pub none-declared : k ≡ 0 → 0 ≡ inferable s es (decided s es) (standing e u)
     none-declared z = none-named (element-named (λ x. omega arith) ∙ z)
 
--- The place p is required and names the element k.
-pub record Names (rows places : List ℕ) (e u p k : ℕ) : Type 0 where
-  pub requires : Requires rows e u p
+-- The place p names the element k.
+pub record Names (places : List ℕ) (e p k : ℕ) : Type 0 where
   pub some : p ≡ 0 → ⊥
   pub read : k ≡ getD places ((e * 97 + p) * 2) 0
   pub declared : k ≡ 0 → ⊥
   pub element : k ≡ 255 → ⊥
 
-module _ (rows places facts : List ℕ) (e u p k : ℕ) (names : Names rows places e u p k) (s : List ℕ) (es : List Element) (tables : Tables s es rows places facts) (range : InRange es (standing e u)) where
+module _ (rows places facts : List ℕ) (e u p k : ℕ) (names : Names places e p k) (s : List ℕ) (es : List Element) (tables : Tables s es rows places facts) (requires : Requires es e p u) where
   is-named : elementOf s es (standing e u) p ≡ k
-  is-named = element-named rows places facts e u p (names .requires) s es tables range (names .some) k (names .read) (names .element)
+  is-named = element-named rows places facts e u p s es tables requires (names .some) k (names .read) (names .element)
 
   pub declares : Declares es (start k)
   declares =
@@ -99,7 +90,7 @@ module _ (rows places facts : List ℕ) (e u p k : ℕ) (names : Names rows plac
       (omega (arith, names .declared), omega (arith, is-named, numberOf-range s es s (x .at) (x .size)))
 
   is-inferred : inferable s es (decided s es) (standing e u) ≡ numberIf (may es p k) k
-  is-inferred = rw (← is-named) (inferred rows places facts e u p (names .requires) s es tables range)
+  is-inferred = rw (← is-named) (inferred rows places facts e u p s es tables requires)
 
   pub start-kept : startO es k ≡ false → 0 ≡ inferable s es (decided s es) (standing e u)
   start-kept x = sym (is-inferred ∙ rw (x, and-false, and-false))

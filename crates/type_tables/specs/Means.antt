@@ -40,6 +40,13 @@ rowAt e u = (e * 97 + u) * 14
 abbrev pub bitOf : (b k : ℕ) → Bool
 bitOf b k = eqb (b / 2 ^ k % 2) 1
 
+-- What the row of the element e after the place u has for "complete", and for the required place.
+abbrev pub completeAt : List ℕ → (e u : ℕ) → Bool
+completeAt rows e u = eqb (getD rows (rowAt e u) 0 % 2) 1
+
+abbrev pub requiredAt : List ℕ → (e u : ℕ) → ℕ
+requiredAt rows e u = getD rows (rowAt e u + 13) 0
+
 -- The place p may come next after the place u.
 abbrev pub nextOf : Content → (u p : ℕ) → Bool
 nextOf empty u p = false
@@ -47,8 +54,8 @@ nextOf (model g ps n) u p = nextIn g u p
 
 pub record Rows (es : List Element) (rows : List ℕ) : Type 0 where
   pub next : (e u p : ℕ) → e ≤ length es → u ≤ width es e → 1 ≤ p → p ≤ 96 → bitOf (getD rows (rowAt e u + p / 8) 0) (p % 8) ≡ nextOf (contentOf es e) u p
-  pub complete : (e u : ℕ) → e ≤ length es → u ≤ width es e → eqb (getD rows (rowAt e u) 0 % 2) 1 ≡ isCompleteIn (contentOf es e) (placed u)
-  pub required : (e u : ℕ) → e ≤ length es → u ≤ width es e → getD rows (rowAt e u + 13) 0 ≡ requiredOf (contentOf es e) (placed u)
+  pub complete : (e u : ℕ) → e ≤ length es → u ≤ width es e → completeAt rows e u ≡ isCompleteIn (contentOf es e) (placed u)
+  pub required : (e u : ℕ) → e ≤ length es → u ≤ width es e → requiredAt rows e u ≡ requiredOf (contentOf es e) (placed u)
 
 -- What the place p of a model names: an element, 255 for `#PCDATA`, 0 if that is not declared.
 abbrev pub namedBy : List ℕ → List Element → List Place → ℕ → ℕ
@@ -78,3 +85,12 @@ Ready rows places facts e u = (s : List ℕ) × (es : List Element) × Tables s 
 -- The type has so many elements, too.
 abbrev pub ReadyFor : (rows places facts : List ℕ) (e u x : ℕ) → Type 0
 ReadyFor rows places facts e u x = (s : List ℕ) × (es : List Element) × Tables s es rows places facts × InRange es (standing e u) × (x ≤ length es)
+
+-- In the element e after the place u the place p is required, 0 for none.
+pub record Requires (es : List Element) (e p u : ℕ) : Type 0 where
+  pub range : InRange es (standing e u)
+  pub required : p ≡ requiredOf (contentOf es e) (placed u)
+
+-- So it is after some place, in some type that has these tables.
+abbrev pub AnyRequires : (places facts : List ℕ) (e p : ℕ) → Type 0
+AnyRequires places facts e p = (s : List ℕ) × (es : List Element) × (rows : List ℕ) × (u : ℕ) × Tables s es rows places facts × Requires es e p u

@@ -21,7 +21,7 @@ ghost use Rattle.rules.specs.Settling.{Token, contentOf, hasModel, startO, endO
 ghost use Rattle.rules.specs.Settling as rules;
 ghost use Rattle.document_laws.specs.Decide.{decided};
 ghost use Rattle.last_places.specs.Last.{placed, InRange};
-ghost use Rattle.type_tables.specs.Means.{standing, nameNumber, rowAt, bitOf, Declares, Rows, Facts, Tables, Ready, ReadyFor};
+ghost use Rattle.type_tables.specs.Means.{standing, nameNumber, rowAt, bitOf, completeAt, requiredAt, Declares, Rows, Facts, Tables, Ready, ReadyFor, Requires, AnyRequires};
 
 fn wide(b: u8) -> usize
     ensures { λ r. ⌜ (r ≡ b) × (r < 256) ⌝ }
@@ -46,8 +46,10 @@ fn bit(rows: &[u8; 88270], e: usize, u: usize, p: usize) -> bool
     (b >> (p % 8)) % 2 == 1
 }
 
+// Whether the content of the element e is complete after the place u.
 pub fn complete(rows: &[u8; 88270], e: usize, u: usize) -> bool
     requires { ⌜ (e ≤ 64) × (u ≤ 96) ⌝ }
+    ensures { λ r. ⌜ r ≡ completeAt (now (rows .entry)) e u ⌝ }
     ensures { λ r. ⌜ ((s : List ℕ) (es : List Element) → Rows es (now (rows .entry)) → InRange es (standing e u) →
         r ≡ decided s es .complete e (placed u)) ⌝ }
 {
@@ -57,6 +59,7 @@ pub fn complete(rows: &[u8; 88270], e: usize, u: usize) -> bool
 // The required place, or 0.
 pub fn required(rows: &[u8; 88270], e: usize, u: usize) -> usize
     requires { ⌜ (e ≤ 64) × (u ≤ 96) ⌝ }
+    ensures { λ r. ⌜ r ≡ requiredAt (now (rows .entry)) e u ⌝ }
     ensures { λ r. ⌜ ((s : List ℕ) (es : List Element) → Rows es (now (rows .entry)) → InRange es (standing e u) →
         r ≡ decided s es .required e (placed u)) ⌝ }
 {
@@ -132,20 +135,13 @@ pub fn fitting(
     0
 }
 
-// The element whose start is to be inferred in the element e after the place u, or 0.
-pub fn inferable(
-    rows: &[u8; 88270],
-    places: &[u8; 12610],
-    facts: &[u8; 4420],
-    e: usize,
-    u: usize,
-) -> usize
-    requires { ⌜ Ready (now rows) (now places) (now facts) e u ⌝ }
-    ensures { λ r. ⌜ ((s : List ℕ) (es : List Element) → Tables s es (now (rows .entry)) (now (places .entry)) (now (facts .entry)) → InRange es (standing e u) →
+// The element whose start is to be inferred in the element e where the place p is required, or 0.
+pub fn startable(places: &[u8; 12610], facts: &[u8; 4420], e: usize, p: usize) -> usize
+    requires { ⌜ AnyRequires (now places) (now facts) e p ⌝ }
+    ensures { λ r. ⌜ ((s : List ℕ) (es : List Element) (rows : List ℕ) → Tables s es rows (now (places .entry)) (now (facts .entry)) → (u : ℕ) → Requires es e p u →
         r ≡ rules.inferable s es (decided s es) (standing e u)) ⌝ }
     ensures { λ r. ⌜ r ≤ 64 ⌝ }
 {
-    let p = required(rows, e, u);
     if p == 0 {
         return 0;
     }
@@ -163,4 +159,20 @@ pub fn inferable(
         return 0;
     }
     k
+}
+
+// The element whose start is to be inferred in the element e after the place u, or 0.
+pub fn inferable(
+    rows: &[u8; 88270],
+    places: &[u8; 12610],
+    facts: &[u8; 4420],
+    e: usize,
+    u: usize,
+) -> usize
+    requires { ⌜ Ready (now rows) (now places) (now facts) e u ⌝ }
+    ensures { λ r. ⌜ ((s : List ℕ) (es : List Element) → Tables s es (now (rows .entry)) (now (places .entry)) (now (facts .entry)) → InRange es (standing e u) →
+        r ≡ rules.inferable s es (decided s es) (standing e u)) ⌝ }
+    ensures { λ r. ⌜ r ≤ 64 ⌝ }
+{
+    startable(places, facts, e, required(rows, e, u))
 }

@@ -1,7 +1,7 @@
 -- `finish` meets its contract: each way by what the loop leaves and the tables answer.
 use borrow.Author.Needs.{needs}
 use borrow.Author.Tests.{not-true, not-false}
-use Rattle.closing.specs.Loop.{tabled, anyClosing-goes}
+use Rattle.closing.specs.Loop.{tabled}
 use Rattle.closing.specs.Laws.{end-refused, end-unfinished, end-finished}
 use Rattle.closing.proofs.finish.Statement.{statement}
 use Rattle.closing.proofs.finish.Tie as tie
@@ -12,14 +12,8 @@ end-until-requires c κs = search needs
 returns : tie.Need-returns
 returns c =
     let e = c .before .before in
-    let p = e .before .before .pre in
-    end-refused (e .end-until .ensures) (p .1 .0 .0) (tabled (p .0) .2) (c .if1 .taken)
-
-complete-requires : tie.Need-complete-requires
-complete-requires c κs =
-    let e = c .before .before in
-    let t = tabled (anyClosing-goes (e .before .before .pre .0) (e .end-until .ensures .stands)) in
-    (t .0, t .1)
+    let p = e .before .before .before .pre in
+    end-refused (e .end-until .ensures) (p .1 .0 .0) (tabled (p .0) .1) (c .if1 .taken)
 
 refused-requires : tie.Need-refused-requires
 refused-requires c κs = search needs
@@ -27,16 +21,16 @@ refused-requires c κs = search needs
 returns-2 : tie.Need-returns-2
 returns-2 c =
     let e = c .before .before .before .before .before in
-    let p = e .before .before .pre in
-    end-unfinished (e .end-until .ensures) (p .1 .0 .0) (tabled (p .0) .2) (c .before .before .before .if1 .left) (c .before .before .complete .ensures) (not-true _ (c .before .if2 .taken)) (c .refused .ensures)
+    let p = e .before .before .before .pre in
+    end-unfinished (e .end-until .ensures) (p .1 .0 .0) (tabled (p .0) .1) (c .before .before .before .if1 .left) (not-true _ (c .before .if2 .taken)) (c .refused .ensures)
 
 returns-3 : tie.Need-returns-3
 returns-3 c =
     let e = c .before .before .before .before in
-    let p = e .before .before .pre in
-    end-finished (e .end-until .ensures) (p .1 .0 .0) (tabled (p .0) .2) (c .before .before .if1 .left) (c .before .complete .ensures) (not-false _ (c .if2 .left))
+    let p = e .before .before .before .pre in
+    end-finished (e .end-until .ensures) (p .1 .0 .0) (tabled (p .0) .1) (c .before .before .if1 .left) (not-false _ (c .if2 .left))
 
 pub finish-spec : {M : Type 1} → statement M
 finish-spec =
     tie.close
-    (tie.spec end-until-requires returns complete-requires refused-requires returns-2 returns-3)
+    (tie.spec end-until-requires returns refused-requires returns-2 returns-3)

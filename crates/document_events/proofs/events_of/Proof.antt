@@ -100,23 +100,23 @@ end-of-requires c κs = search needs
 
 loop-less : tie.Need-loop-less Inv-loop μ-loop
 loop-less c =
-    let turn = c .before .before .before .before .before .before .before .before .before .before .before .before in
+    let turn = c .before .before .before .before .before .before .before .before .before .before .before .before .before in
     let found = turn .before .before .before in
     let loop = found .before .before in
     let pre = loop .before .before .before .before .before .before .pre in
     let on = turn-range (loop .loop .inv) (omega (arith, found .before .loop-test .taken, found .before .before .loop .inv .inside)) (found .piece-at .result) (found .piece-at .ensures) (pre .0) (read (turn .before .before)) in
-    omega (arith, on, c .end-of .ensures)
+    omega (arith, on, c .before .end-of .ensures)
 
 loop-again : tie.Need-loop-again Inv-loop μ-loop
 loop-again c =
-    let put = c .before .before .before .before .before .before in
+    let put = c .before .before .before .before .before .before .before in
     let went = put .before .before .before .before in
     let turn = went .before .before in
     let found = turn .before .before .before in
     let loop = found .before .before in
     let pre = loop .before .before .before .before .before .before .pre in
     going-turn (loop .loop .inv) (omega (arith, found .before .loop-test .taken, found .before .before .loop .inv .inside)) (found .piece-at .result) (found .piece-at .ensures) _ _ (turn .settled .ensures .0) (pre .0) (read (turn .before .before)) (went .if1 .left)
-    (turn .settled .ensures .1 .0) (put .put .ensures .0) (put .put .ensures .1) (c .end-of .ensures) refl
+    (turn .settled .ensures .1 .0) (put .put .ensures .0) (put .put .ensures .1) (c .before .end-of .ensures) refl
 
 finish-requires : tie.Need-finish-requires Inv-loop μ-loop
 finish-requires c κs =
@@ -137,7 +137,7 @@ returns-3 : tie.Need-returns-3 Inv-loop μ-loop
 returns-3 c =
     let end = c .before .before .before in
     let over = end .before .before in
-    end-refuses (over .before .loop .inv) (omega (arith, over .loop-test .left)) (end .finish .last .1 .1 .1 .1 .0) (end .finish .result) (end .finish .ensures .0) (c .before .if2 .taken) (c .refusal2 .ensures)
+    end-refuses (over .before .loop .inv) (omega (arith, over .loop-test .left)) (end .finish .last .1 .1 .1 .0) (end .finish .result) (end .finish .ensures .0) (c .before .if2 .taken) (c .refusal2 .ensures)
 
 put-requires-2 : tie.Need-put-requires-2 Inv-loop μ-loop
 put-requires-2 c κs =
@@ -147,8 +147,8 @@ put-requires-2 c κs =
     let short = loop .before .before .before .before .before .before .pre .1 in
     (omega (arith, end .finish .ensures .1 .0), omega (arith, going .few, going .inside, short))
 
-add-t35 : tie.Need-add-t35 Inv-loop μ-loop
-add-t35 c =
+add-t34 : tie.Need-add-t34 Inv-loop μ-loop
+add-t34 c =
     let end = c .before .before .before .before .before .before .before .before .before .before .before in
     let loop = end .before .before .before in
     let going = loop .loop .inv in
@@ -174,7 +174,7 @@ returns-4 c =
     let over = end .before .before in
     let going = over .before .loop .inv in
     let short = over .before .before .before .before .before .before .before .pre .1 in
-    end-counts going (omega (arith, over .loop-test .left)) (end .finish .last .1 .1 .1 .1 .0) (end .finish .result) (end .finish .ensures .0) (went .if2 .left) (omega (arith, going .few, going .inside, short, end .finish .ensures .1 .0)) (put .put2 .ensures .0) (put .put2 .ensures .1)
+    end-counts going (omega (arith, over .loop-test .left)) (end .finish .last .1 .1 .1 .0) (end .finish .result) (end .finish .ensures .0) (went .if2 .left) (omega (arith, going .few, going .inside, short, end .finish .ensures .1 .0)) (put .put2 .ensures .0) (put .put2 .ensures .1)
 
 pub events-of-spec : {M : Type 1} → statement M
 events-of-spec =
@@ -205,7 +205,7 @@ events-of-spec =
     same-length-6
     returns-3
     put-requires-2
-    add-t35
+    add-t34
     same-length-7
     same-length-8
     returns-4)

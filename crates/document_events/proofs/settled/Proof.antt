@@ -43,7 +43,7 @@ returns c =
     let a = found .before .before .args in
     let said = c .token .ensures in (
       λ s es d before tables stands h f reach.
-          let most = token-declared s es d (a .state .element) (a .state .place) (a .at) (a .p) f (widened .widened .ensures) (found .p .given .1) in
+          let most = token-declared s es d (a .state .top .element) (a .state .top .place) (a .at) (a .p) f (widened .widened .ensures) (found .p .given .1) in
           turned-token s es d (a .at) (a .state) before h reach _ _ (said .1 .0 s es tables stands most) (tables .accepted) (widened .widened .ensures) (a .p) (found .p .given .1) f (said .0 s es tables stands most before),
       said .1 .1,
     )
@@ -55,7 +55,7 @@ returns-2 c =
     let a = found .before .before .args in
     let said = c .end-tag .ensures in (
       λ s es d before tables stands h f reach.
-          turned-end s es d (a .at) (a .state) before h reach _ _ (said .1 .0 s es (tables .rows-say) (tables .facts-say) stands) (widened .widened2 .ensures) (a .p) (found .p2 .given .1) f (said .0 s es (tables .rows-say) (tables .facts-say) stands before),
+          turned-end s es d (a .at) (a .state) before h reach _ _ (said .1 .0 s es (tables .facts-say) stands) (widened .widened2 .ensures) (a .p) (found .p2 .given .1) f (said .0 s es (tables .facts-say) stands before),
       said .1 .1,
     )
 

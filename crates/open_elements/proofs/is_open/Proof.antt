@@ -1,26 +1,32 @@
 -- `is_open` meets its contract: what is still to be looked at decides, from the innermost outwards.
 use Prim.Native.Nat.{_≤_}
-use mathlib.Core.Path.{_≡_, sym, _∙_}
+use mathlib.Core.Path.{_≡_, refl, sym, _∙_}
 use mathlib.Core.List.{_∷_}
 use native.Mathlib.Omega.{arith}
 use borrow.Author.Needs.{needs}
 use Rattle.rules.specs.Settling.{isOpen}
 use Rattle.open_elements.specs.Laws.{open-here, open-past, open-none, open-entry, open-further}
-use Rattle.open_elements.specs.Means.{aroundOf, around, current}
+use Rattle.open_elements.specs.Means.{openOf, aroundOf, current}
 use Rattle.open_elements.proofs.is_open.Statement.{statement}
 use Rattle.open_elements.proofs.is_open.Tie as tie
 
 abbrev Inv-loop : tie.InvT-loop
-Inv-loop x state i₀ i = (i ≤ state .count) × (isOpen x (current state ∷ around state) ≡ isOpen x (aroundOf (state .around) i))
+Inv-loop x around i₀ i = (i ≤ i₀) × (isOpen x (aroundOf around i₀) ≡ isOpen x (aroundOf around i))
 
 abbrev μ-loop : tie.MeasureT-loop
-μ-loop x state i₀ i = i
+μ-loop x around i₀ i = i
+
+-- the current element is another
+past : (p : tie.At-loop Inv-loop μ-loop) →
+    let a = p .before .before .before .args in
+    isOpen (a .x) (current (openOf (a .t1) (a .top)) ∷ aroundOf (a .t1) (a .top .count)) ≡ isOpen (a .x) (aroundOf (a .t1) (p .loop .i))
+past p = open-past _ _ _ (p .before .if1 .left) ∙ p .loop .inv .1
 
 returns : tie.Need-returns Inv-loop μ-loop
 returns c = sym (open-here _ _ _ (c .if1 .taken))
 
 loop-holds : tie.Need-loop-holds Inv-loop μ-loop
-loop-holds c = (omega arith, open-past _ _ _ (c .if1 .left))
+loop-holds c = (omega arith, refl)
 
 sub-i : tie.Need-sub-i Inv-loop μ-loop
 sub-i c = search needs
@@ -28,8 +34,8 @@ sub-i c = search needs
 mul-c : tie.Need-mul-c Inv-loop μ-loop
 mul-c c = search needs
 
-element-copy-out-c : tie.Need-element-copy-out-c Inv-loop μ-loop
-element-copy-out-c c = search needs
+array-copy-out-c : tie.Need-array-copy-out-c Inv-loop μ-loop
+array-copy-out-c c = search needs
 
 wide-requires : tie.Need-wide-requires Inv-loop μ-loop
 wide-requires c κs = search needs
@@ -37,8 +43,8 @@ wide-requires c κs = search needs
 returns-2 : tie.Need-returns-2 Inv-loop μ-loop
 returns-2 c =
     let p = c .before .before .before .before in
-    let a = p .before .before .args in
-    sym (p .loop .inv .1 ∙ open-entry (a .x) (a .t1 .around) (p .loop .i) (omega arith) (sym (c .before .wide .ensures) ∙ c .if2 .taken))
+    let a = p .before .before .before .args in
+    sym (past p ∙ open-entry (a .x) (a .t1) (p .loop .i) (omega arith) (sym (c .before .wide .ensures) ∙ c .if2 .taken))
 
 loop-less : tie.Need-loop-less Inv-loop μ-loop
 loop-less c = search needs
@@ -46,15 +52,15 @@ loop-less c = search needs
 loop-again : tie.Need-loop-again Inv-loop μ-loop
 loop-again c =
     let p = c .before .before .before .before in
-    let a = p .before .before .args in
-    (omega arith, p .loop .inv .1 ∙ open-further (a .x) (a .t1 .around) (p .loop .i) (omega arith) (λ e. c .if2 .left (c .before .wide .ensures ∙ e)))
+    let a = p .before .before .before .args in
+    (omega arith, p .loop .inv .1 ∙ open-further (a .x) (a .t1) (p .loop .i) (omega arith) (λ e. c .if2 .left (c .before .wide .ensures ∙ e)))
 
 returns-3 : tie.Need-returns-3 Inv-loop μ-loop
 returns-3 c =
     let p = c .before in
-    let a = p .before .before .args in
+    let a = p .before .before .before .args in
     let e : p .loop .i ≡ 0 = omega arith in
-    sym (p .loop .inv .1 ∙ rw (e, open-none))
+    sym (past p ∙ rw (e, open-none))
 
 pub is-open-spec : {M : Type 1} → statement M
 is-open-spec =
@@ -66,7 +72,7 @@ is-open-spec =
     loop-holds
     sub-i
     mul-c
-    element-copy-out-c
+    array-copy-out-c
     wide-requires
     returns-2
     loop-less

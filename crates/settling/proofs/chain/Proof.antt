@@ -8,20 +8,20 @@ use Rattle.settling.proofs.chain.Statement.{statement}
 use Rattle.settling.proofs.chain.Tie as tie
 
 abbrev Inv-loop : tie.InvT-loop
-Inv-loop rows places facts e u x c₀ n₀ c n = (1 ≤ n) × Looks rows places facts e u x c n
+Inv-loop rows places facts e q x c₀ n₀ c n = (1 ≤ n) × Looks rows places facts e q x c n
 
 abbrev μ-loop : tie.MeasureT-loop
-μ-loop rows places facts e u x c₀ n₀ c n = 65 - n
+μ-loop rows places facts e q x c₀ n₀ c n = 65 - n
 
 -- the chain goes on
 there : (c : tie.Then1 Inv-loop μ-loop) → c .before .before .loop .c ≡ 0 → ⊥
 there c = eqb-false _ _ (not-true _ (c .if1 .taken))
 
-inferable-requires : tie.Need-inferable-requires Inv-loop μ-loop
-inferable-requires c κs = let (s, es, tables, range, most) = c .pre in (s, es, tables, range)
+startable-requires : tie.Need-startable-requires Inv-loop μ-loop
+startable-requires c κs = let (s, es, u, tables, requires, most) = c .pre in (s, es, c .args .rows .now, u, tables, requires)
 
 loop-holds : tie.Need-loop-holds Inv-loop μ-loop
-loop-holds c = (omega arith, looks-start _ _ _ _ _ _ _ (c .inferable .ensures .0))
+loop-holds c = (omega arith, looks-start _ _ _ _ _ _ _ (c .startable .ensures .0))
 
 fitting-requires : tie.Need-fitting-requires Inv-loop μ-loop
 fitting-requires c κs =
@@ -34,8 +34,8 @@ returns c =
     let inv = inside .before .loop .inv in
     looks-found _ _ _ _ _ _ _ _ (inv .1) (inv .0) (inside .loop-test .taken) (there (c .before .before)) _ (c .before .fitting .ensures .0) (λ z. omega (arith, c .if2 .taken))
 
-inferable-requires-2 : tie.Need-inferable-requires-2 Inv-loop μ-loop
-inferable-requires-2 c κs =
+inferable-requires : tie.Need-inferable-requires Inv-loop μ-loop
+inferable-requires c κs =
     let looped = c .before .before .before .before in
     let (s, es, tables, range, most) = looks-ready _ _ _ _ _ _ _ _ (looped .loop .inv .1) (looped .before .before .pre) in
     (s, es, tables, range)
@@ -50,7 +50,7 @@ loop-again : tie.Need-loop-again Inv-loop μ-loop
 loop-again c =
     let inside = c .before .before .before .before in
     let inv = inside .before .loop .inv in
-    (omega arith, looks-next _ _ _ _ _ _ _ _ (inv .1) (inv .0) (inside .loop-test .taken) (there (c .before .before .before)) _ (c .before .before .fitting .ensures .0) (omega (arith, c .before .if2 .left)) _ (c .inferable2 .ensures .0))
+    (omega arith, looks-next _ _ _ _ _ _ _ _ (inv .1) (inv .0) (inside .loop-test .taken) (there (c .before .before .before)) _ (c .before .before .fitting .ensures .0) (omega (arith, c .before .if2 .left)) _ (c .inferable .ensures .0))
 
 returns-2 : tie.Need-returns-2 Inv-loop μ-loop
 returns-2 c =
@@ -67,11 +67,11 @@ chain-spec =
     (tie.spec
     Inv-loop
     μ-loop
-    inferable-requires
+    startable-requires
     loop-holds
     fitting-requires
     returns
-    inferable-requires-2
+    inferable-requires
     add-n
     loop-less
     loop-again

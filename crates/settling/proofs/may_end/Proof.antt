@@ -1,70 +1,27 @@
 -- `may_end` meets its contract: each test is one of step 3.
-use Prim.Native.Nat.{_≤_}
-use mathlib.Core.Path.{sym, _∙_}
+use Prim.Native.Nat.{_<_}
+use mathlib.Core.Path.{_∙_}
 use native.Mathlib.Omega.{arith}
 use borrow.Author.Needs.{needs}
 use borrow.Author.Tests.{not-true, not-false}
-use Rattle.open_elements.specs.Laws.{stands-range}
-use Rattle.settling.specs.Ends.{stands-declared, none-ends, incomplete-stays, end-wanted, ends-in-parent}
+use Rattle.settling.specs.Ends.{stands-declared, document-stays, incomplete-stays, ends-in-parent}
 use Rattle.settling.proofs.may_end.Statement.{statement}
 use Rattle.settling.proofs.may_end.Tie as tie
 
--- something is open
-some : (c : tie.Else1) → 1 ≤ c .before .args .state .count
-some c = omega arith
-
 returns : tie.Need-returns
-returns c = λ s es rows facts stands. none-ends s stands (c .if1 .taken)
-
-complete-requires : tie.Need-complete-requires
-complete-requires c κs = search needs
+returns c = λ around s es facts stands. document-stays s stands (omega (arith, c .if1 .taken))
 
 returns-2 : tie.Need-returns-2
-returns-2 c =
-    let asked = c .before in
-    λ s es rows facts stands. incomplete-stays s stands (some (asked .before)) (sym (asked .complete .ensures s es rows (stands-range stands)) ∙ not-true _ (c .if2 .taken))
+returns-2 c = λ around s es facts stands. incomplete-stays s stands (omega (arith, c .before .before .if1 .left)) (not-true _ (c .if2 .taken))
 
 end-omitted-requires : tie.Need-end-omitted-requires
 end-omitted-requires c κs = search needs
 
 returns-3 : tie.Need-returns-3
 returns-3 c =
-    let ends = c .before in
-    let asked = ends .before .before in
-    let there = some (asked .before) in
-    λ s es rows facts stands.
-    end-wanted s stands there (sym (asked .complete .ensures s es rows (stands-range stands)) ∙ not-false _ (ends .before .if2 .left))
-    (sym (ends .end-omitted .ensures s es facts (stands-declared s stands there)) ∙ not-true _ (c .if3 .taken))
-
-sub-parent : tie.Need-sub-parent
-sub-parent c = search needs
-
-mul-parent : tie.Need-mul-parent
-mul-parent c = search needs
-
-array-copy-out-parent : tie.Need-array-copy-out-parent
-array-copy-out-parent c = search needs
-
-returns-4 : tie.Need-returns-4
-returns-4 c =
-    let last = c .before .before .before in
-    let ends = last .before in
-    let asked = ends .before .before in
-    let there = some (asked .before) in
-    λ s es rows facts stands.
-    ends-in-parent s stands there (sym (asked .complete .ensures s es rows (stands-range stands)) ∙ not-false _ (ends .before .if2 .left))
-    (sym (ends .end-omitted .ensures s es facts (stands-declared s stands there)) ∙ not-false _ (last .if3 .left))
+    let inner = c .before .before .before .if1 .left in
+    λ around s es facts stands.
+    c .end-omitted .ensures s es facts (stands-declared s stands (omega (arith, inner))) ∙ ends-in-parent s stands (omega (arith, inner)) (not-false _ (c .before .if2 .left))
 
 pub may-end-spec : {M : Type 1} → statement M
-may-end-spec =
-    tie.close
-    (tie.spec
-    returns
-    complete-requires
-    returns-2
-    end-omitted-requires
-    returns-3
-    sub-parent
-    mul-parent
-    array-copy-out-parent
-    returns-4)
+may-end-spec = tie.close (tie.spec returns returns-2 end-omitted-requires returns-3)

@@ -11,7 +11,9 @@ element-copy-out-result : tie.Need-element-copy-out-result
 element-copy-out-result c = search needs
 
 returns : tie.Need-returns
-returns c s es said range = rw (c .before .row .ensures) (said .complete _ _ (range .declared) (place-range _ _ _ range))
+returns c =
+    let e = c .before .row .ensures in
+    (rw e, λ s es said range. rw e (said .complete _ _ (range .declared) (place-range _ _ _ range)))
 
 pub complete-spec : {M : Type 1} → statement M
 complete-spec = tie.close (tie.spec row-requires element-copy-out-result returns)

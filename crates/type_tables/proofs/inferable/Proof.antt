@@ -1,120 +1,24 @@
--- `inferable` meets its contract: each test is one of the rule's, and what is asked of the tables is in range since they are those of some type.
-use Prim.Native.Nat.{_≤_}
-use mathlib.Core.Path.{sym, _∙_}
-use native.Mathlib.Omega.{arith}
-use borrow.Author.Tests.{not-true, not-false}
-use Rattle.type_tables.specs.Ranges.{width-most, ready-range}
-use Rattle.type_tables.specs.Inferring.{Requires, required-within, none-required, none-declared, data-required, Names, declares, start-kept, no-model, infers}
+-- `inferable` meets its contract: what may be started at the place that is required.
+use Rattle.type_tables.specs.Ranges.{ready-range}
 use Rattle.type_tables.proofs.inferable.Statement.{statement}
 use Rattle.type_tables.proofs.inferable.Tie as tie
 
-asked : (c : tie.Start) → (c .args .e ≤ 64) × (c .args .u ≤ 96)
-asked c =
+required-requires : tie.Need-required-requires
+required-requires c κs =
     let a = c .args in
     ready-range (a .rows .now) (a .places .now) (a .facts .now) (a .e) (a .u) (c .pre)
 
-requires : (c : tie.After-required) →
-    let a = c .before .args in
-    Requires (a .rows .now) (a .e) (a .u) (c .required .result)
-requires c = record { required = c .required .ensures }
-
-names : (c : tie.Else3) →
-    let named = c .before .before in
-    let first = named .before .before in
-    let a = first .before .args in
-    Names (a .rows .now) (a .places .now) (a .e) (a .u) (first .required .result) (named .named .result)
-names c =
-    let named = c .before .before in
-    record {
-      requires = requires (named .before .before);
-      some = named .before .if1 .left;
-      read = named .named .ensures;
-      declared = c .before .if2 .left;
-      element = c .if3 .left;
-    }
-
--- the element has a number
-numbered : (c : tie.Else3) → c .before .before .named .result ≤ 64
-numbered c =
-    let (s, es, tables, range) = c .before .before .before .before .before .pre in
-    omega (arith, tables .few, declares _ _ _ _ _ _ _ (names c) s es tables range)
-
-required-requires : tie.Need-required-requires
-required-requires c κs = omega (arith, asked c)
+startable-requires : tie.Need-startable-requires
+startable-requires c κs =
+    let (s, es, tables, range) = c .before .pre in
+    (s, es, c .before .args .rows .now, c .before .args .u, tables, record { range = range; required = c .required .ensures .1 s es (tables .rows-say) range })
 
 returns : tie.Need-returns
-returns c = (λ s es tables range. none-required _ _ _ _ _ _ (requires (c .before)) s es tables range (c .if1 .taken), omega arith)
-
-named-requires : tie.Need-named-requires
-named-requires c κs =
-    let first = c .before in
-    let (s, es, tables, range) = first .before .pre in
-    omega (arith, asked (first .before), required-within _ _ _ _ _ _ (requires first) s es tables range, width-most s es (tables .accepted) (first .before .args .e))
-
-returns-2 : tie.Need-returns-2
-returns-2 c =
-    let named = c .before in (
-      λ s es tables range. none-declared _ _ _ _ _ _ (requires (named .before .before)) s es tables range (named .before .if1 .left) _ (named .named .ensures) (c .if2 .taken),
-      omega arith,
-    )
-
-returns-3 : tie.Need-returns-3
-returns-3 c =
-    let named = c .before .before in (
-      λ s es tables range. data-required _ _ _ _ _ _ (requires (named .before .before)) s es tables range (named .before .if1 .left) _ (named .named .ensures) (c .if3 .taken),
-      omega arith,
-    )
-
-start-omitted-requires : tie.Need-start-omitted-requires
-start-omitted-requires c κs = numbered c
-
-returns-4 : tie.Need-returns-4
-returns-4 c =
-    let starts = c .before in
-    let named = names (starts .before) in (
-      λ s es tables range.
-          start-kept _ _ _ _ _ _ _ named s es tables range
-          (sym (starts .start-omitted .ensures s es (tables .facts-say) (declares _ _ _ _ _ _ _ named s es tables range)) ∙ not-true _ (c .if4 .taken)),
-      omega arith,
-    )
-
-has-model-requires : tie.Need-has-model-requires
-has-model-requires c κs = numbered (c .before .before)
-
-returns-5 : tie.Need-returns-5
-returns-5 c =
-    let models = c .before in
-    let named = names (models .before .before .before) in (
-      λ s es tables range.
-          no-model _ _ _ _ _ _ _ named s es tables range
-          (sym (models .has-model .ensures s es (tables .facts-say) (declares _ _ _ _ _ _ _ named s es tables range)) ∙ not-true _ (c .if5 .taken)),
-      omega arith,
-    )
-
-returns-6 : tie.Need-returns-6
-returns-6 c =
-    let models = c .before in
-    let starts = models .before .before in
-    let named = names (starts .before) in (
-      λ s es tables range.
-          let declared = declares _ _ _ _ _ _ _ named s es tables range in
-          infers _ _ _ _ _ _ _ named s es tables range
-          (sym (starts .start-omitted .ensures s es (tables .facts-say) declared) ∙ not-false _ (models .before .if4 .left))
-          (sym (models .has-model .ensures s es (tables .facts-say) declared) ∙ not-false _ (c .if5 .left)),
-      numbered (starts .before),
-    )
+returns c = (
+  λ s es tables range.
+      c .startable .ensures .0 s es _ tables (c .before .before .args .u) (record { range = range; required = c .before .required .ensures .1 s es (tables .rows-say) range }),
+  c .startable .ensures .1,
+)
 
 pub inferable-spec : {M : Type 1} → statement M
-inferable-spec =
-    tie.close
-    (tie.spec
-    required-requires
-    returns
-    named-requires
-    returns-2
-    returns-3
-    start-omitted-requires
-    returns-4
-    has-model-requires
-    returns-5
-    returns-6)
+inferable-spec = tie.close (tie.spec required-requires startable-requires returns)

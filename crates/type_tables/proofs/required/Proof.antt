@@ -17,7 +17,10 @@ wide-requires : tie.Need-wide-requires
 wide-requires c κs = search needs
 
 returns : tie.Need-returns
-returns c s es said range = rw (c .wide .ensures .0, c .before .before .row .ensures) (said .required _ _ (range .declared) (place-range _ _ _ range))
+returns c =
+    let w = c .wide .ensures .0 in
+    let e = c .before .before .row .ensures in
+    (rw (w, e), λ s es said range. rw (w, e) (said .required _ _ (range .declared) (place-range _ _ _ range)))
 
 pub required-spec : {M : Type 1} → statement M
 required-spec =
