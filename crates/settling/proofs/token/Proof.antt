@@ -191,7 +191,13 @@ take-requires : tie.Need-take-requires Inv-loop μ-loop Inv-loop2 μ-loop2
 take-requires c κs = let range = infers-range (here c) in (range .0, range .1)
 
 entry-requires : tie.Need-entry-requires Inv-loop μ-loop Inv-loop2 μ-loop2
-entry-requires c κs = let range = infers-range (here (c .before)) in rw (c .take .ensures) (omega (arith, range .0), omega (arith, range .1), omega (arith, range .2))
+entry-requires c κs =
+    let range = infers-range (here (c .before)) in
+    let e = c .take .ensures in (
+      omega (arith, range .0, ap (λ (t : Top). t .element) e),
+      omega (arith, range .1, ap (λ (t : Top). t .place) e),
+      omega (arith, range .2, ap (λ (t : Top). t .required) e),
+    )
 
 mul-around : tie.Need-mul-around Inv-loop μ-loop Inv-loop2 μ-loop2
 mul-around c = omega (arith, ap (λ (o : Top). o .count) (c .before .take .ensures), less (c .before .before))
