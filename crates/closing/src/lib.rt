@@ -1,6 +1,7 @@
 // How an end tag and the document's end close open elements.
 //
 // `facts` is a table of the type (crate type_tables). Whether an open element is complete is kept with it.
+// Of `events` only those that the token brings are decided, as in open_elements.
 use open_elements::Entry;
 use open_elements::Open;
 use open_elements::Top;

@@ -173,7 +173,8 @@ fn put(numbers: &mut [u32], bytes: &mut [u8], count: usize, events: &[u32; 200],
     event_buffer::put_bytes(bytes, count, events, n);
 }
 
-// The document d under a type. Its events go to a buffer of numbers and to one of bytes, each as far as they fit.
+// The document d under a type. Its events go to a buffer of numbers and to one of bytes, each as far as they fit. What a buffer holds
+// that is too small for all of them, or where the document is refused, is not decided; it keeps its length, and the reader zeroes it.
 pub fn events_of(
     s: &[u8],
     elements: &[u32; 384],

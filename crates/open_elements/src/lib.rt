@@ -1,6 +1,7 @@
 // The open elements from token to token: what is taken, opened and ended in them.
 //
-// What a token brings is written to `events`, four numbers each: kind, element, offset, length.
+// What a token brings is written to `events`, four numbers each: kind, element, offset, length. What stands behind the last of
+// them is not decided, here and in all that writes to `events`: nothing reads it before it is written.
 ghost use mathlib.Core.Path.{_≡_};
 ghost use mathlib.Core.List.{_∷_, [], _++_};
 ghost use Prim.Native.Nat.{_+_, _≤_, _<_};

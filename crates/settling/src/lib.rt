@@ -1,6 +1,7 @@
 // How a start tag or a run of data is settled among the open elements.
 //
 // `rows`, `places` and `facts` are the tables of the type (crate type_tables). x is the element that starts, or 0 for data.
+// Of `events` only those that the token brings are decided, as in open_elements.
 use open_elements::Open;
 use open_elements::Top;
 ghost use mathlib.Core.Path.{_≡_};

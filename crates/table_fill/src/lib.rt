@@ -207,7 +207,8 @@ fn put_element(
     put_places(s, elements, index, places, facts, e, names, n);
 }
 
-// Fills the tables, which are all 0, from an accepted type file whose elements are recorded in `elements`.
+// Fills the tables, which are all 0, from an accepted type file whose elements are recorded in `elements`. What they then hold for
+// numbers past the type's elements and past a model's places is not decided: the state never stands there.
 pub fn fill(
     s: &[u8],
     elements: &[u32; 384],
