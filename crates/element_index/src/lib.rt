@@ -14,32 +14,20 @@ ghost use Rattle.rules.specs.Lookup.{compared};
 ghost use Rattle.element_reader.specs.Means.{Recorded};
 ghost use Rattle.element_index.specs.Means.{Judged, bucketOf, follows, Indexed, putIn};
 
-fn wide(b: u8) -> usize
-    ensures { λ r. ⌜ (r ≡ b) × (r < 256) ⌝ }
-{
-    b as usize
-}
-
-fn widened(x: u32) -> usize
-    ensures { λ r. ⌜ (r ≡ x) × (r < 4294967296) ⌝ }
-{
-    x as usize
-}
-
 // The bucket of a name by its first byte and its length, 1 to 8. Letters that fold to one another are in the same.
 fn bucket(first: u8, size: usize) -> usize
     requires { ⌜ (1 ≤ size) × (size ≤ 8) ⌝ }
     ensures { λ r. ⌜ (r ≡ 65 + bucketOf first size) × (r < 321) ⌝ }
 {
-    65 + (size - 1) * 32 + wide(first % 32)
+    65 + (size - 1) * 32 + numbers::wide(first % 32)
 }
 
 // Where the name of the element k stands in the type file.
-fn offset(elements: &[u32; 384], k: usize) -> usize
+pub fn offset(elements: &[u32; 384], k: usize) -> usize
     requires { ⌜ (1 ≤ k) × (k ≤ 64) ⌝ }
     ensures { λ r. ⌜ (r ≡ getD (now (elements .entry)) (6 * (k - 1)) 0) × (r < 4294967296) ⌝ }
 {
-    widened(elements[6 * (k - 1)])
+    numbers::widened(elements[6 * (k - 1)])
 }
 
 // Whether n bytes of s from a and n bytes of t from b are equal, folded. All of them are there, so that none is asked whether it still is
@@ -106,7 +94,7 @@ pub fn find(
         };
     }
     let mut before = 0;
-    let mut k = wide(index[bucket(first, size)]);
+    let mut k = numbers::wide(index[bucket(first, size)]);
     let mut n = 0;
     while comes_next(s, elements, before, k, size) {
         if same_name(s, offset(elements, k), t, at, size) {
@@ -117,7 +105,7 @@ pub fn find(
         }
         n += 1;
         before = k;
-        k = wide(index[k]);
+        k = numbers::wide(index[k]);
     }
     Found {
         element: 0,
@@ -131,7 +119,7 @@ fn put_index(s: &[u8], elements: &[u32; 384], index: &mut [u8; 321], k: usize)
     ensures { λ _. ⌜ now (index .exit) ≡ putIn (now (index .entry))
         (bucketOf (byteAt (now (s .entry)) (getD (now (elements .entry)) (6 * (k - 1)) 0)) (getD (now (elements .entry)) (6 * (k - 1) + 1) 0)) k ⌝ }
 {
-    let size = widened(elements[6 * (k - 1) + 1]);
+    let size = numbers::widened(elements[6 * (k - 1) + 1]);
     let b = bucket(text::byte(s, offset(elements, k)), size);
     index[k] = index[b];
     index[b] = k as u8;

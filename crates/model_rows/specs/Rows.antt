@@ -18,7 +18,7 @@ use Rattle.model_table.specs.Means.{table-says}
 use Rattle.document_laws.specs.Decide.{isCompleteIn, requiredOf}
 use Rattle.last_places.specs.Last.{placed}
 use Rattle.type_tables.specs.Means.{rowAt, bitOf, nextOf}
-use Rattle.table_fill.specs.Bits.{cellOf, packedOf, flag-is, packed-bit, lowest-bit, single-bit}
+use Rattle.model_rows.specs.Bits.{cellOf, packedOf, flag-is, packed-bit, lowest-bit, single-bit}
 
 -- What is put
 

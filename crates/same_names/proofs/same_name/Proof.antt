@@ -3,9 +3,9 @@ use Prim.Native.Nat.{_+_, _-_, _≤_}
 use mathlib.Core.Logic.{⊎-elim}
 use mathlib.Core.Path.{sym, _∙_}
 use native.Mathlib.Omega.{arith}
-use Rattle.model_pairs.specs.Laws.{Unlike, unlike-name, unlike-key}
-use Rattle.model_pairs.proofs.same_name.Statement.{statement}
-use Rattle.model_pairs.proofs.same_name.Tie as tie
+use Rattle.same_names.specs.Laws.{Unlike, unlike-name, unlike-key}
+use Rattle.same_names.proofs.same_name.Statement.{statement}
+use Rattle.same_names.proofs.same_name.Tie as tie
 
 abbrev Inv-loop : tie.InvT-loop
 Inv-loop s names keys n p q key i₀ i = (q ≤ i) × (i ≤ n + 1) × Unlike s names n p q i

@@ -3,9 +3,9 @@ use Prim.Native.Nat.{_+_, _-_}
 use mathlib.Core.Logic.{⊎-elim}
 use native.Mathlib.Omega.{arith}
 use lib.ListN.{getD}
-use Rattle.model_pairs.specs.Laws.{Shares, shares-start, shares-hit, shares-miss, shares-end}
-use Rattle.model_pairs.proofs.shares_key.Statement.{statement}
-use Rattle.model_pairs.proofs.shares_key.Tie as tie
+use Rattle.same_names.specs.Laws.{Shares, shares-start, shares-hit, shares-miss, shares-end}
+use Rattle.same_names.proofs.shares_key.Statement.{statement}
+use Rattle.same_names.proofs.shares_key.Tie as tie
 
 abbrev Inv-loop : tie.InvT-loop
 Inv-loop keys n p key some₀ x₀ some x = Shares keys (getD keys p 0) n p some x

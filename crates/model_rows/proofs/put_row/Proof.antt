@@ -2,9 +2,9 @@
 use mathlib.Core.Path.{_≡_, refl}
 use Prim.Native.Nat.{_-_, _≤_}
 use native.Mathlib.Omega.{arith}
-use Rattle.table_fill.specs.Rows.{BitsPut, bits-none, bits-more, row-put}
-use Rattle.table_fill.proofs.put_row.Statement.{statement}
-use Rattle.table_fill.proofs.put_row.Tie as tie
+use Rattle.model_rows.specs.Rows.{BitsPut, bits-none, bits-more, row-put}
+use Rattle.model_rows.proofs.put_row.Statement.{statement}
+use Rattle.model_rows.proofs.put_row.Tie as tie
 
 abbrev Inv-loop : tie.InvT-loop
 Inv-loop rows₀ e table u r j₀ rows j = (j ≤ 12) × BitsPut table e u rows₀ rows j

@@ -2,8 +2,8 @@
 use native.Mathlib.Omega.{arith}
 use borrow.Author.Tests.{eq-eqb, ne-eqb}
 use borrow.Author.Needs.{needs}
-use Rattle.table_fill.proofs.cell.Statement.{statement}
-use Rattle.table_fill.proofs.cell.Tie as tie
+use Rattle.model_rows.proofs.cell.Statement.{statement}
+use Rattle.model_rows.proofs.cell.Tie as tie
 
 element-copy-out-if1 : tie.Need-element-copy-out-if1
 element-copy-out-if1 c = search needs

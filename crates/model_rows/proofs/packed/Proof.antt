@@ -1,8 +1,8 @@
 -- `packed` meets its contract: each of the eight is 0 or 1, so the sum fits.
-use Rattle.table_fill.specs.Bits.{packedOf}
+use Rattle.model_rows.specs.Bits.{packedOf}
 use borrow.Author.Needs.{needs}
-use Rattle.table_fill.proofs.packed.Statement.{statement}
-use Rattle.table_fill.proofs.packed.Tie as tie
+use Rattle.model_rows.proofs.packed.Statement.{statement}
+use Rattle.model_rows.proofs.packed.Tie as tie
 
 cell-requires : tie.Need-cell-requires
 cell-requires c κs = search needs

@@ -2,9 +2,9 @@
 use Prim.Native.Nat.{_+_, _-_, _≤_}
 use mathlib.Core.Path.{_≡_}
 use native.Mathlib.Omega.{arith}
-use Rattle.table_fill.specs.Rows.{RowsPut, rows-none, rows-more}
-use Rattle.table_fill.proofs.put_rows.Statement.{statement}
-use Rattle.table_fill.proofs.put_rows.Tie as tie
+use Rattle.model_rows.specs.Rows.{RowsPut, rows-none, rows-more}
+use Rattle.model_rows.proofs.put_rows.Statement.{statement}
+use Rattle.model_rows.proofs.put_rows.Tie as tie
 
 abbrev Inv-loop : tie.InvT-loop
 Inv-loop rows₀ e table count u₀ rows u = (u ≤ count + 1) × RowsPut table e rows₀ rows u

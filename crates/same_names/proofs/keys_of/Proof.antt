@@ -2,9 +2,9 @@
 use Prim.Native.Nat.{_+_, _-_, _≤_}
 use mathlib.Core.Path.{refl}
 use native.Mathlib.Omega.{arith}
-use Rattle.model_pairs.specs.Laws.{Keyed, keyed-one}
-use Rattle.model_pairs.proofs.keys_of.Statement.{statement}
-use Rattle.model_pairs.proofs.keys_of.Tie as tie
+use Rattle.same_names.specs.Laws.{Keyed, keyed-one}
+use Rattle.same_names.proofs.keys_of.Statement.{statement}
+use Rattle.same_names.proofs.keys_of.Tie as tie
 
 abbrev Inv-loop : tie.InvT-loop
 Inv-loop s names n keys₀ p₀ keys p = (1 ≤ p) × (p ≤ n + 1) × Keyed s names keys p
