@@ -25,7 +25,7 @@ use Rattle.rules_laws.specs.Within.{typeFile-count}
 use Rattle.type_laws.specs.Names.{typeFile-element, typeFile-distinct, isNamed-join}
 use Rattle.text.specs.Laws.{sameText-refl}
 use Rattle.type_tables.specs.Means.{rowAt, bitOf, namedBy}
-use Rattle.table_fill.specs.Rows.{RowsPut, RowSays, row-says}
+use Rattle.model_rows.specs.Rows.{RowsPut, RowSays, row-says}
 use Rattle.table_fill.specs.Places.{PlacePut, places-none, places-more}
 use Rattle.table_fill.specs.Filled.{Filled, RowsFor, filled-more}
 
