@@ -1,2 +1,6 @@
--- Laws of the rules: every reading of a type file stays within the input.
+-- Laws of the type-file half of the rules: what holds of a reading, and the grammar walked once.
+pub mod Holds
+pub mod In
+pub mod Groups
+pub mod Declarations
 pub mod Within
