@@ -12,7 +12,6 @@ use borrow.Author.Tests.{leb-true, eqb-true, eqb-false}
 use Rattle.rules.specs.TypeFile.{Element}
 use Rattle.rules.specs.Settling.{contentOf, hasModel, startO, numberFrom, numberOf, isNamed, Token, Decisions, Open, elementOf, fitting, requiredPlace, inferable, chain}
 use Rattle.model_sets.specs.Bits.{bool-cases}
-use Rattle.document_laws.specs.Same.{link}
 
 -- Lists without a number twice
 
@@ -77,7 +76,9 @@ number-range k s [] t at size h = absurd (omega arith)
 number-range k s (e ∷ es) t at size h =
     bool-cases (isNamed s e t at size) (λ x. rw (x, numberFrom) (omega arith)) (λ x. rw (x, numberFrom) (omega (arith, number-range (k + 1) s es t at size (rw (x, numberFrom) at h))))
 
--- One turn of a chain.
+-- One turn of a chain: the element k, as which place the token fits at its start, and the rest of the chain.
+unfoldable pub link : ℕ → ℕ → List ℕ → List ℕ
+link k f r = elim (leb 1 k) [ true ↦ elim (leb 1 f) [ true ↦ k ∷ [] | false ↦ elim r [ [] ↦ [] | j ∷ js ↦ k ∷ j ∷ js ] ] | false ↦ [] ]
 
 link-fits : (k f : ℕ) (r : List ℕ) → leb 1 k ≡ true → leb 1 f ≡ true → link k f r ≡ k ∷ []
 unfolding link

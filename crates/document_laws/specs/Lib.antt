@@ -3,8 +3,9 @@ pub mod Laws
 pub mod Agree
 pub mod Decide
 pub mod Numbers
-pub mod Same
 pub mod Chain
+pub mod Moves
+pub mod Same
 pub mod Answers
 -- The documents of the paper's shelf.
 pub mod Ascii

@@ -7,5 +7,4 @@ pub mod Enough
 pub mod Leaves
 pub mod Run
 pub mod Turns
-pub mod Depth
 pub mod Within

@@ -14,6 +14,7 @@ use Rattle.rules.specs.TypeFile.{Element}
 use Rattle.rules.specs.Document.{Piece, startTag, endTag, skipped, blank, dataByte, piece}
 use Rattle.rules.specs.Settling.{contentOf, placesIn, Token, pcdata, hasName, Decisions, Event, dataRun, withData, Open, State, limited, fitting, takeToken, inward, settleFrom, settle, takeData, takeBlank}
 use Rattle.rules.specs.Reader.{goOn, settlePiece}
+use Rattle.rules_laws.specs.Holds.{got-so}
 use Rattle.model_sets.specs.Sets.{nextIn}
 use Rattle.model_sets.specs.Reach.{lastOr0, lastOr0-snoc}
 use Rattle.document_laws.specs.Decide.{search, fitsIn, decided}
@@ -23,7 +24,7 @@ use Rattle.last_places.specs.Last.{lastOnly, allLast, short, shortly, ta
 use Rattle.last_places.specs.Short.{state, took, withLast, allLast-twice, allLast-length, lastOnly-took, fitting-short, takeData-short, pieces-short}
 use Rattle.last_places.specs.Follows.{Follows, follows-fits, follows-on}
 use Rattle.last_places.specs.Joins.{withData-new, withData-more}
-use Rattle.last_places.specs.Enough.{kept-got, pieces-stop, pieces-on}
+use Rattle.last_places.specs.Enough.{pieces-stop, pieces-on}
 use Rattle.last_places.specs.Leaves.{Settled, settle-leaves}
 
 -- Data again
@@ -126,7 +127,7 @@ module _ (s : List ℕ) (es : List Element) (stays : Stays s es) (d : List ℕ) 
   D = decided s es
 
   after : Settled s es D pcdata (z .events) x
-  after = kept-got (Settled s es D pcdata (z .events)) (settle s es D pcdata at z) x (settle-leaves s es D pcdata at z) settles
+  after = got-so (settle-leaves s es D pcdata at z) settles
 
   taken : ℕ
   taken = fitting s es D (after .place) pcdata

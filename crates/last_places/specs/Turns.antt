@@ -13,14 +13,15 @@ use Rattle.rules.specs.Document.{Tag, Piece, startTag, endTag, skipped, blank, 
 use Rattle.rules.specs.Settling.{pcdata, Decisions, Event, dataRun, State, nothingOpen, numberOf, fitting, startElement, takeBlank, endElement, endDocument}
 use Rattle.rules.specs.Reader.{goOn, tagged, settlePiece, piecesWithin, document}
 use Rattle.document_laws.specs.Decide.{decided}
-use Rattle.document_laws.specs.Same.{Kept}
+use Rattle.rules_laws.specs.Holds.{Holds, got-so}
+use Rattle.document_laws.specs.Moves.{At}
 use Rattle.document_text.specs.Means.{isRun, runEnd}
-use Rattle.document_text.specs.Laws.{start-tag-range, end-tag-range, skipped-range, runEnd-in}
+use Rattle.document_text.specs.Laws.{runEnd-in}
 use Rattle.last_places.specs.Last.{lastOnly, short, shortly, takeRun, pieces, joins}
 use Rattle.last_places.specs.Short.{lastOnly-twice, fitting-short, startElement-short, endElement-short, pieces-short}
 use Rattle.last_places.specs.Follows.{Follows, shortly-got, follows-start, follows-on, follows-by}
 use Rattle.last_places.specs.Joins.{joins-snoc}
-use Rattle.last_places.specs.Enough.{kept-got, pieces-end, pieces-refused, pieces-stop, pieces-on}
+use Rattle.last_places.specs.Enough.{piece-moves, pieces-end, pieces-refused, pieces-stop, pieces-on}
 use Rattle.last_places.specs.Leaves.{Parted, startElement-parted, endElement-parted}
 use Rattle.last_places.specs.Run.{Stays, runEnd-stop, run-once, run-follows, run-taken, run-refused, data-stop}
 
@@ -93,10 +94,10 @@ module _ {s : List ℕ} {es : List Element} {d : List ℕ} {at : ℕ} {z : State
 
     -- A piece after which nothing goes on a run.
     settles-on : (p : Piece) (after : ℕ) (q : State → Reading State) (y : State) → piece d at ≡ got p → ((x : State) → settlePiece s es D d p at x ≡ goOn after (q x)) → ((x : State) → shortly (q x) ≡ shortly (q (short x)))
-        → after ≤ length d → Kept Parted (q z) → shortly (q z) ≡ got y → Reaches s es d after y
+        → after ≤ length d → Holds (At at) Parted (q z) → shortly (q z) ≡ got y → Reaches s es d after y
     settles-on p after q y e f asks i g v =
         let (x, a, b) = shortly-got (q z) y v in
-        let w : (j : ℕ) → joins j (y .events) ≡ false = λ j. sym (ap (λ u. joins j (u .events)) b) ∙ kept-got Parted (q z) x g a j in
+        let w : (j : ℕ) → joins j (y .events) ≡ false = λ j. sym (ap (λ u. joins j (u .events)) b) ∙ got-so g a j in
         record {
           rest = ap (pieces s es D d after) (sym b) ∙ sym (pieces-short s es d (suc (length d - after)) after x) ∙ sym (pieces-on s es D d at z h p e (record { at = after; state = x }) (f z ∙ ap (goOn after) a)) ∙ r .rest;
           inside = i;
@@ -115,7 +116,7 @@ module _ {s : List ℕ} {es : List Element} {d : List ℕ} {at : ℕ} {z : State
       module _ (k : ℕ) (i : numberOf s es d (t .name) (t .size) ≡ k) (l : 1 ≤ k) where
         pub reaches-start-tag : {y : State} → shortly (startElement s es D k at (t .after) z) ≡ got y → Reaches s es d (t .after) y
         reaches-start-tag {y} v =
-            settles-on (startTag t) (t .after) (startElement s es D k at (t .after)) y e (λ x. start-settles s es D d at t x k i l) (startElement-short s es k at (t .after)) (start-tag-range d at h t e .1) (startElement-parted s es D k at (t .after) z) v
+            settles-on (startTag t) (t .after) (startElement s es D k at (t .after)) y e (λ x. start-settles s es D d at t x k i l) (startElement-short s es k at (t .after)) (piece-moves d at h (startTag t) e .1) (startElement-parted s es D k at (t .after) z) v
 
         pub refused-start-tag : {n j : ℕ} → shortly (startElement s es D k at (t .after) z) ≡ refused n j → document s es D d ≡ refused n j
         refused-start-tag {n} {j} v =
@@ -128,7 +129,7 @@ module _ {s : List ℕ} {es : List Element} {d : List ℕ} {at : ℕ} {z : State
       module _ (k : ℕ) (i : numberOf s es d (t .name) (t .size) ≡ k) (l : 1 ≤ k) where
         pub reaches-end-tag : {y : State} → shortly (endElement s es D k at (t .after) z) ≡ got y → Reaches s es d (t .after) y
         reaches-end-tag {y} v =
-            settles-on (endTag t) (t .after) (endElement s es D k at (t .after)) y e (λ x. end-settles s es D d at t x k i l) (endElement-short s es k at (t .after)) (end-tag-range d at h t e .1) (endElement-parted s es D k at (t .after) z) v
+            settles-on (endTag t) (t .after) (endElement s es D k at (t .after)) y e (λ x. end-settles s es D d at t x k i l) (endElement-short s es k at (t .after)) (piece-moves d at h (endTag t) e .1) (endElement-parted s es D k at (t .after) z) v
 
         pub refused-end-tag : {n j : ℕ} → shortly (endElement s es D k at (t .after) z) ≡ refused n j → document s es D d ≡ refused n j
         refused-end-tag {n} {j} v =
@@ -149,7 +150,7 @@ module _ {s : List ℕ} {es : List Element} {d : List ℕ} {at : ℕ} {z : State
 
     pub reaches-skipped : {e : ℕ} → piece d at ≡ got (skipped e) → Reaches s es d e z
     unfolding settlePiece
-    reaches-skipped {e} q = let (i, j) = skipped-range d at h e q in passes-by (skipped e) e q (λ x l. refl) i j
+    reaches-skipped {e} q = let (i, j) = piece-moves d at h (skipped e) q in passes-by (skipped e) e q (λ x l. refl) i j
 
     pub reaches-blank : piece d at ≡ got blank → D .fits (z .current .number) (z .current .taken) pcdata ≡ 0 → Reaches s es d (at + 1) z
     unfolding settlePiece takeBlank

@@ -90,11 +90,12 @@ record DeclaredRead (s : List ℕ) (i : ℕ) (es : List Element) (d : Declared) 
 module _ (s : List ℕ) where
   -- Comments and gaps
 
-  pub comment-within : (at : ℕ) → Holds (InType s) (Onward s (at + 1)) (commentDeclaration s at)
+  -- A comment declaration is refused by 4 at the input's end.
+  pub comment-holds : {R : (number position : ℕ) → Type 0} (at : ℕ) → R 4 (length s) → Holds R (Onward s (at + 1)) (commentDeclaration s at)
   unfolding commentDeclaration
-  comment-within at =
+  comment-holds at h =
       let e = at + beforeClose (drop at s) in
-      either (ltb e (length s)) (λ y. reads (omega arith, close-in s e (before-hit _ _ before-close s at (ltb-true _ _ y)))) (λ y. stops (omega arith))
+      either (ltb e (length s)) (λ y. reads (omega arith, close-in s e (before-hit _ _ before-close s at (ltb-true _ _ y)))) (λ y. stops h)
 
   gapWithin-within : (turns at : ℕ) → at ≤ length s → Holds (InType s) (In s) (gapWithin turns s at)
   unfolding gapWithin
@@ -236,7 +237,7 @@ module _ (s : List ℕ) where
       let b = byteAt s (i + 2) in
       either (eqb b 62) (λ x. reads (record { from = omega arith; inside = omega (arith, test-in (λ v. eqb v 62) refl s (i + 2) x); grows = same }))
       (λ x. either (eqb b 45)
-      (λ y. either (eqb (byteAt s (i + 3)) 45) (λ z. on (comment-within (i + 4)) (λ j l. reads (record { from = omega (arith, l); inside = l .1; grows = same })))
+      (λ y. either (eqb (byteAt s (i + 3)) 45) (λ z. on (comment-holds (i + 4) (omega arith)) (λ j l. reads (record { from = omega (arith, l); inside = l .1; grows = same })))
       (λ z. stops (omega (arith, test-in (λ v. eqb v 45) refl s (i + 2) y))))
       (λ y. either (eqb b 91) (λ z. stops (omega arith)) (λ z. either (letter b) (λ u. keyword-read i es h) (λ u. stops (omega arith)))))
 
