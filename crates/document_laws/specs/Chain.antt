@@ -1,5 +1,5 @@
 -- The chain that is looked for within as many elements as there are is the shortest of all chains, and is found if there is any.
-use Prim.Native.Nat.{ℕ, zero, suc, _+_, _≤_, _<_}
+use Prim.Native.Nat.{ℕ, zero, suc, _+_, _-_, _≤_, _<_}
 use mathlib.Core.Path.{_≡_, refl, sym, _∙_, ap, subst}
 use mathlib.Core.Bool.{Bool, true, false, _&&_, false≢true}
 use mathlib.Core.Logic.{⊎-elim}
@@ -10,7 +10,8 @@ use lib.ListN.{length}
 use lib.Dec.{eqb, leb}
 use borrow.Author.Tests.{leb-true, eqb-true, eqb-false}
 use Rattle.rules.specs.TypeFile.{Element}
-use Rattle.rules.specs.Settling.{contentOf, hasModel, startO, numberFrom, numberOf, isNamed, Token, Decisions, Open, elementOf, fitting, requiredPlace, inferable, chain}
+use Rattle.rules.specs.Settling.{contentOf, placesIn, hasModel, startO, numberFrom, numberOf, isNamed, Token, Decisions, Open, elementOf, fitting, requiredPlace, inferable, chain}
+use Rattle.rules.specs.Judge.{placeAt}
 use Rattle.model_sets.specs.Bits.{bool-cases}
 
 -- Lists without a number twice
@@ -70,11 +71,11 @@ few (suc n) ks o r = omega (arith, without-length (suc n) ks, few n (without (su
         (b .0, omega (arith, b .1, d))
 
 -- An element's number is one of the elements'.
-number-range : (k : ℕ) (s : List ℕ) (es : List Element) (t : List ℕ) (at size : ℕ) → 1 ≤ numberFrom k s es t at size → numberFrom k s es t at size < k + length es
+pub numberFrom-range : (s t : List ℕ) (at size k : ℕ) (es : List Element) → 1 ≤ k → numberFrom k s es t at size < k + length es
 unfolding numberFrom
-number-range k s [] t at size h = absurd (omega arith)
-number-range k s (e ∷ es) t at size h =
-    bool-cases (isNamed s e t at size) (λ x. rw (x, numberFrom) (omega arith)) (λ x. rw (x, numberFrom) (omega (arith, number-range (k + 1) s es t at size (rw (x, numberFrom) at h))))
+numberFrom-range s t at size k [] l = omega arith
+numberFrom-range s t at size k (e ∷ es) l =
+    bool-cases (isNamed s e t at size) (λ x. rw (x, numberFrom) (omega arith)) (λ x. rw (x, numberFrom) (omega (arith, numberFrom-range s t at size (k + 1) es (omega arith))))
 
 -- One turn of a chain: the element k, as which place the token fits at its start, and the rest of the chain.
 unfoldable pub link : ℕ → ℕ → List ℕ → List ℕ
@@ -115,7 +116,7 @@ module _ (s : List ℕ) (es : List Element) (D : Decisions) (t : Token) where
       test = leb 1 p && (leb 1 k && (startO es k && hasModel (contentOf es k)))
 
       go : (c : Bool) → test ≡ c → 1 ≤ elim c [ true ↦ k | false ↦ 0 ] → elim c [ true ↦ k | false ↦ 0 ] ≤ length es
-      go true e l = omega (arith, number-range 1 s es s _ _ l)
+      go true e l = let x = placeAt (placesIn (contentOf es (o .number))) (p - 1) in omega (arith, numberFrom-range s s (x .at) (x .size) 1 es (omega arith))
       go false e l = omega arith
 
   leads-range : (o : Open) (ks : List ℕ) → Leads o ks → (p : ℕ) → List·Memᴰ p ks → (1 ≤ p) × (p ≤ length es)

@@ -13,6 +13,7 @@ use Rattle.rules.specs.TypeFile.{Content, empty, model, Element, typeFile}
 use Rattle.rules.specs.Judge.{samePlace, Unambiguous, AllUnambiguous, Legible}
 use Rattle.rules.specs.Settling.{Event}
 use Rattle.rules.specs.Reader.{document, Reads}
+use Rattle.rules_laws.specs.In.{All, none, more}
 use Rattle.model_sets.specs.Bits.{and-left, and-right}
 use Rattle.model_sets.specs.Sets.{size, Numbered}
 use Rattle.model_sets.specs.Pairs.{firstPairOf, firstPairOf-none}
@@ -117,15 +118,24 @@ same-reading (got xs) (got ys) e = ap got (same-events xs ys e)
 unfoldable pub isLegible : ℕ → List ℕ → Bool
 isLegible limit s = leb (length s) limit && eqb (span allowed s) (length s)
 
-unfoldable pub readsAs : Example → Reading (List Element) → Bool
-readsAs x (refused n k) = false
-readsAs x (got es) =
+-- A reading passes a test if what is got does.
+unfoldable pub passes : {A : Type 0} → (A → Bool) → Reading A → Bool
+passes test (refused n k) = false
+passes test (got a) = test a
+
+pub passed : {A : Type 0} (test : A → Bool) (r : Reading A) → passes test r ≡ true → (a : A) × (r ≡ got a) × (test a ≡ true)
+unfolding passes
+passed test (refused n k) t = absurd (false≢true t)
+passed test (got a) t = (a, refl, t)
+
+unfoldable pub readsAs : Example → List Element → Bool
+readsAs x es =
     isLegible typeLimit (x .type) && (isLegible documentLimit (x .text) && (allFair (x .type) es && sameReading (document (x .type) es (decided (x .type) es) (x .text)) (x .gives)))
 
 unfoldable pub test : Example → Bool
-test x = readsAs x (typeFile (x .type))
+test x = passes (readsAs x) (typeFile (x .type))
 
-module _ (x : Example) (es : List Element) (read : typeFile (x .type) ≡ got es) (t : readsAs x (got es) ≡ true) where
+module _ (x : Example) (es : List Element) (read : typeFile (x .type) ≡ got es) (t : readsAs x es ≡ true) where
   right-in : Right x
   unfolding readsAs isLegible
   right-in =
@@ -149,23 +159,15 @@ module _ (x : Example) (es : List Element) (read : typeFile (x .type) ≡ got es
       }
 
 pub right : (x : Example) → test x ≡ true → Right x
-unfolding test readsAs
-right x t = go (typeFile (x .type)) refl t
-  where
-    go : (r : Reading (List Element)) → typeFile (x .type) ≡ r → readsAs x r ≡ true → Right x
-    go (refused n k) e u = absurd (false≢true u)
-    go (got es) e u = right-in x es e u
+unfolding test
+right x t = let (es, e, u) = passed (readsAs x) (typeFile (x .type)) t in right-in x es e u
 
--- a list of examples of which each passes the test
-abbrev pub AllRight : List Example → Type 0
-AllRight [] = Unit {0}
-AllRight (x ∷ xs) = Right x × AllRight xs
+-- What each of a list passes holds of each.
+unfoldable pub allPass : {A : Type 0} → (A → Bool) → List A → Bool
+allPass test [] = true
+allPass test (x ∷ xs) = test x && allPass test xs
 
-unfoldable pub allPass : List Example → Bool
-allPass [] = true
-allPass (x ∷ xs) = test x && allPass xs
-
-pub all-right : (xs : List Example) → allPass xs ≡ true → AllRight xs
+pub all-right : {A : Type 0} {P : A → Type 0} (test : A → Bool) → ((x : A) → test x ≡ true → P x) → (xs : List A) → allPass test xs ≡ true → All P xs
 unfolding allPass
-all-right [] t = tt
-all-right (x ∷ xs) t = (right x (and-left (test x) _ t), all-right xs (and-right (test x) _ t))
+all-right test f [] t = none
+all-right test f (x ∷ xs) t = more (f x (and-left (test x) _ t)) (all-right test f xs (and-right (test x) _ t))

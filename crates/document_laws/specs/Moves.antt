@@ -10,13 +10,12 @@ use lib.ListN.{length}
 use lib.Dec.{eqb, leb, ltb}
 use borrow.Author.Tests.{leb-true, leb-false, ltb-false}
 use Rattle.rules.specs.Bytes.{TAGLVL}
-use Rattle.rules.specs.Reading.{Reading, refused, got, andThen}
+use Rattle.rules.specs.Reading.{Reading, got}
 use Rattle.rules.specs.TypeFile.{Element}
-use Rattle.rules.specs.Judge.{placeAt}
 use Rattle.rules.specs.Document.{Tag, Piece, startTag, endTag, skipped, blank, dataByte, piece}
-use Rattle.rules.specs.Settling.{contentOf, placesIn, hasModel, startO, endO, numberOf, Token, start, pcdata, Decisions, Event, startWritten, startInferred, endWritten, endInferred, endOfEmpty, withData, Open, State, takePlace, enter, note, limited, isOpen, Inward, settled, stuck, fitting, isComplete, requiredPlace, elementOf, inferable, chain, inferStarts, takeToken, inward, settleFrom, isOver, settle, startElement, takeData, takeBlank, endLeftOut, closeFrom, endElement, endFrom, endDocument}
+use Rattle.rules.specs.Settling.{contentOf, hasModel, startO, endO, numberOf, Token, start, pcdata, Decisions, Event, startWritten, startInferred, endWritten, endInferred, endOfEmpty, withData, Open, State, takePlace, enter, note, limited, isOpen, Inward, settled, stuck, fitting, isComplete, requiredPlace, elementOf, inferable, chain, inferStarts, takeToken, inward, settleFrom, isOver, settle, startElement, takeData, takeBlank, endLeftOut, closeFrom, endElement, endFrom, endDocument}
 use Rattle.rules.specs.Reader.{Reached, goOn, tagged, settlePiece, piecesWithin}
-use Rattle.rules_laws.specs.Holds.{Holds, stops, reads, Refuses}
+use Rattle.rules_laws.specs.Holds.{stops, reads, Refuses}
 use Rattle.rules_laws.specs.Holds as holds
 use Rattle.rules_laws.specs.Both.{Both, stop, read, on, either, so, itself}
 use Rattle.model_sets.specs.Bits.{and-left, and-right, bool-cases}

@@ -16,7 +16,7 @@ use Rattle.rules_laws.specs.Both.{so, first, same}
 use Rattle.rules_laws.specs.In.{All, none, more}
 use Rattle.model_sets.specs.Reach.{begins-none}
 use Rattle.document_laws.specs.Agree.{agree}
-use Rattle.document_laws.specs.Moves.{fresh, parent, parent-is, Answers, Chosen, fits, required, Moves, Settles, Itself, keeps-ends, AnyState, any-moves, any-datum, withDatum, settlePiece-both, piecesWithin-both}
+use Rattle.document_laws.specs.Moves.{fresh, parent, parent-is, Answers, Chosen, fits, required, Moves, Itself, keeps-ends, any-moves, any-datum, withDatum, settlePiece-both, piecesWithin-both}
 unfoldable pub use Rattle.document_laws.specs.Chain.{link}
 
 -- Open elements whose places taken begin a walk

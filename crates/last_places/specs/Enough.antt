@@ -1,21 +1,21 @@
 -- The rest of a document goes by the position and the state: a bound on the turns that is enough is like any other, and a turn goes on.
-use Prim.Native.Nat.{ℕ, zero, suc, _+_, _-_, _≤_, _<_}
+use Prim.Native.Nat.{ℕ, zero, suc, _-_, _≤_, _<_}
 use mathlib.Core.Path.{_≡_, refl, sym, _∙_, ap}
 use mathlib.Core.List.{List}
 use native.Mathlib.Omega.{arith}
 use lib.ListN.{length}
 use lib.Dec.{leb}
 use borrow.Author.Tests.{leb-false, lt-leb, le-leb}
-use Rattle.rules.specs.Reading.{Reading, refused, got, andThen}
+use Rattle.rules.specs.Reading.{refused, got, andThen}
 use Rattle.rules.specs.TypeFile.{Element}
 use Rattle.rules.specs.Document.{Piece, startTag, endTag, skipped, blank, dataByte, piece}
 use Rattle.rules.specs.Settling.{Decisions, State, nothingOpen, endDocument}
 use Rattle.rules.specs.Reader.{Reached, settlePiece, piecesWithin, document}
-use Rattle.rules_laws.specs.Holds.{Holds, Gives, got-so, each, so, on-same}
+use Rattle.rules_laws.specs.Holds.{Holds, got-so, each, so, on-same}
 use Rattle.rules_laws.specs.Both.{first}
 use Rattle.rules_laws.specs.Pieces.{PieceRead, piece-read}
 use Rattle.model_sets.specs.Bits.{bool-cases}
-use Rattle.document_laws.specs.Moves.{At, pieceEnd, Settles, any-moves, any-datum, settlePiece-both}
+use Rattle.document_laws.specs.Moves.{At, pieceEnd, any-moves, any-datum, settlePiece-both}
 use Rattle.document_laws.specs.Same.{Passes, begins, goes}
 use Rattle.last_places.specs.Last.{pieces}
 

@@ -3,12 +3,11 @@ use Prim.Native.Nat.{ℕ, _≤_}
 use mathlib.Core.Path.{_≡_, refl, ap}
 use mathlib.Core.Bool.{false}
 use mathlib.Core.List.{List}
-use Rattle.rules.specs.Reading.{Reading}
 use Rattle.rules.specs.TypeFile.{Element}
 use Rattle.rules.specs.Settling.{Token, Decisions, Event, Open, State, takePlace, enter, fitting, settle, startElement, endElement}
 use Rattle.rules_laws.specs.Holds.{Holds}
 use Rattle.rules_laws.specs.Both.{first}
-use Rattle.document_laws.specs.Moves.{parent-is, At, Closed, Moves, Itself, keeps-ends, answers-itself, any-moves, Taken, settle-both, startElement-both, endElement-both}
+use Rattle.document_laws.specs.Moves.{parent-is, At, Closed, Moves, Itself, keeps-ends, answers-itself, any-moves, settle-both, startElement-both, endElement-both}
 use Rattle.last_places.specs.Last.{joins}
 use Rattle.last_places.specs.Short.{took}
 use Rattle.last_places.specs.Joins.{joins-other}

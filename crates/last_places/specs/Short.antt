@@ -1,19 +1,17 @@
 -- Settling goes by the last place taken in each open element: it does with a state what it does with the short one.
 use Prim.Native.Nat.{ℕ, zero, suc, _+_}
 use mathlib.Core.Path.{_≡_, refl, sym, _∙_, ap, ap₂}
-use mathlib.Core.Bool.{_&&_}
 use mathlib.Core.List.{List, [], _∷_, _++_}
 use lib.ListN.{length}
-use Rattle.rules.specs.Reading.{Reading, refused, got}
-use Rattle.rules.specs.TypeFile.{Content, empty, model, Element}
+use Rattle.rules.specs.Reading.{Reading, got}
+use Rattle.rules.specs.TypeFile.{Element}
 use Rattle.rules.specs.Document.{piece}
-use Rattle.rules.specs.Settling.{contentOf, Token, hasName, Decisions, Event, Open, State, takePlace, enter, note, fitting, isComplete, requiredPlace, startElement, takeData, endElement}
+use Rattle.rules.specs.Settling.{contentOf, Token, Decisions, Open, State, takePlace, enter, note, fitting, isComplete, requiredPlace, startElement, takeData, endElement}
 use Rattle.rules.specs.Reader.{piecesWithin}
 use Rattle.rules_laws.specs.Holds.{Holds, stops, reads, Any, each}
 use Rattle.rules_laws.specs.Both.{Both, stop, read, first, same}
-use Rattle.model_sets.specs.Sets.{size, nextIn, completeIn, requiredIn}
 use Rattle.model_sets.specs.Reach.{lastOr0, lastOr0-snoc}
-use Rattle.document_laws.specs.Decide.{search, fitsIn, isCompleteIn, requiredOf, decided}
+use Rattle.document_laws.specs.Decide.{decided, fitsIn-last, isCompleteIn-last, requiredOf-last}
 use Rattle.document_laws.specs.Moves.{parent, Answers, Ends, Moves, Itself, keeps-ends, answers-itself, withDatum, startElement-both, takeData-both, endElement-both, piecesWithin-both}
 use Rattle.last_places.specs.Last.{placed, lastOnly, allLast, short, shortly}
 pub use Rattle.document_laws.specs.Moves.{state}
@@ -53,32 +51,6 @@ pub takePlace-short : (p : ℕ) (z : State) → short (takePlace p z) ≡ short 
 takePlace-short p z =
     ap₂ (λ o around. state o around (z .events)) (lastOnly-took (z .current) p ∙ sym (lastOnly-took (lastOnly (z .current)) p)) (sym (allLast-twice (z .around)))
 
--- Answers by the last place
-
-pub fits-last : (s : List ℕ) (es : List Element) (k : ℕ) (t : Token) (a b : List ℕ) → lastOr0 a ≡ lastOr0 b → decided s es .fits k a t ≡ decided s es .fits k b t
-unfolding fitsIn
-fits-last s es k t a b e = go (contentOf es k)
-  where
-    go : (c : Content) → fitsIn s es c a t ≡ fitsIn s es c b t
-    go empty = refl
-    go (model g ps n) = ap (λ u. search (λ p. hasName s es ps t p && nextIn g u p) (size g)) e
-
-complete-last : (s : List ℕ) (es : List Element) (k : ℕ) (a b : List ℕ) → lastOr0 a ≡ lastOr0 b → decided s es .complete k a ≡ decided s es .complete k b
-unfolding isCompleteIn
-complete-last s es k a b e = go (contentOf es k)
-  where
-    go : (c : Content) → isCompleteIn c a ≡ isCompleteIn c b
-    go empty = refl
-    go (model g ps n) = ap (completeIn g) e
-
-required-last : (s : List ℕ) (es : List Element) (k : ℕ) (a b : List ℕ) → lastOr0 a ≡ lastOr0 b → decided s es .required k a ≡ decided s es .required k b
-unfolding requiredOf
-required-last s es k a b e = go (contentOf es k)
-  where
-    go : (c : Content) → requiredOf c a ≡ requiredOf c b
-    go empty = refl
-    go (model g ps n) = ap (requiredIn g) e
-
 -- The parent of the current element.
 short-parent : (z : State) → short (parent z) ≡ parent (short z)
 short-parent z = go (z .around)
@@ -101,13 +73,13 @@ module _ (s : List ℕ) (es : List Element) where
   D = decided s es
 
   pub fitting-short : (o : Open) (t : Token) → fitting s es D o t ≡ fitting s es D (lastOnly o) t
-  fitting-short o t = fits-last s es (o .number) t (o .taken) (lastOnly o .taken) (sym (last-placed (lastOr0 (o .taken))))
+  fitting-short o t = fitsIn-last s es (contentOf es (o .number)) (o .taken) (lastOnly o .taken) t (sym (last-placed (lastOr0 (o .taken))))
 
   complete-short : (o : Open) → isComplete s es D o ≡ isComplete s es D (lastOnly o)
-  complete-short o = complete-last s es (o .number) (o .taken) (lastOnly o .taken) (sym (last-placed (lastOr0 (o .taken))))
+  complete-short o = isCompleteIn-last (contentOf es (o .number)) (o .taken) (lastOnly o .taken) (sym (last-placed (lastOr0 (o .taken))))
 
   required-short : (o : Open) → requiredPlace s es D o ≡ requiredPlace s es D (lastOnly o)
-  required-short o = required-last s es (o .number) (o .taken) (lastOnly o .taken) (sym (last-placed (lastOr0 (o .taken))))
+  required-short o = requiredOf-last (contentOf es (o .number)) (o .taken) (lastOnly o .taken) (sym (last-placed (lastOr0 (o .taken))))
 
   -- Every move of settling goes by the last places.
 

@@ -5,14 +5,14 @@ use mathlib.Core.Logic.{_⊎_, inl, inr, ⊎-elim}
 use mathlib.Core.List.{List}
 use native.Mathlib.Omega.{arith}
 use lib.ListN.{length}
-use Rattle.rules.specs.Reading.{Reading, refused}
+use Rattle.rules.specs.Reading.{refused}
 use Rattle.rules.specs.TypeFile.{Element}
 use Rattle.rules.specs.Document.{piece}
-use Rattle.rules.specs.Settling.{Decisions, nothingOpen}
+use Rattle.rules.specs.Settling.{Decisions}
 use Rattle.rules.specs.Reader.{document}
-use Rattle.rules_laws.specs.Holds.{Holds, Refuses, refused-so, so}
+use Rattle.rules_laws.specs.Holds.{Refuses, refused-so, so}
 use Rattle.rules_laws.specs.Both.{refusals}
-use Rattle.rules_laws.specs.Pieces.{InPiece, piece-read}
+use Rattle.rules_laws.specs.Pieces.{piece-read}
 use Rattle.document_laws.specs.Moves.{At, any-moves, any-datum, piecesWithin-both}
 
 -- The numbers that a document may be refused by: those of its pieces, and those of settling them.

@@ -38,11 +38,7 @@ module _ {R : (number position : ℕ) → Type 0} where
   itself (stops x) = stop x
   itself (reads p) = read (refl, p)
 
--- Readings that get the same are the same, also as they are seen.
-pub same-by : {R : (number position : ℕ) → Type 0} {A B C : Type 0} (seen : A → C) (looked : B → C) {r : Reading A} {q : Reading B} → Both R (λ (a : A) (b : B). seen a ≡ looked b) r q → andThen r (λ a. got (seen a)) ≡ andThen q (λ b. got (looked b))
-same-by seen looked (stop x) = refl
-same-by seen looked (read e) = ap got e
-
+-- Readings that get the same are the same.
 pub same : {R : (number position : ℕ) → Type 0} {A : Type 0} {r q : Reading A} → Both R (λ (a b : A). a ≡ b) r q → r ≡ q
 same (stop x) = refl
 same (read e) = ap got e

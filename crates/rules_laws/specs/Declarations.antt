@@ -9,12 +9,12 @@ use lib.ListN.{length, drop}
 use lib.Dec.{eqb, leb, ltb}
 use borrow.Author.Tests.{eqb-false, ltb-true, ltb-false, leb-false}
 use Rattle.rules.specs.Bytes.{byteAt, letter, nameEnd, separatorsEnd, NAMELEN, elementLimit}
-use Rattle.rules.specs.Reading.{Reading, refused, got, andThen}
-use Rattle.rules.specs.TypeFile.{atDashes, beforeDashes, beforeClose, commentDeclaration, gapWithin, gap, isWord, O, ELEMENT, Content, Element, isDeclared, elementName, Word, omission, Head, words, head, ContentEnd, content, close, Declared, rest, element, keyword, markup, declaration, declarationsWithin, typeFile}
-use Rattle.text.specs.Laws.{test-in, letter-in, nameEnd-from, nameEnd-le, nameEnd-more, separatorsEnd-from, separatorsEnd-le, before-hit, before-close, close-in, dashes-end-in, comment-range, gap-range}
+use Rattle.rules.specs.Reading.{refused, got}
+use Rattle.rules.specs.TypeFile.{atDashes, beforeDashes, beforeClose, commentDeclaration, gapWithin, gap, isWord, O, ELEMENT, Content, Element, isDeclared, elementName, Word, omission, Head, words, head, content, close, Declared, rest, element, keyword, markup, declaration, declarationsWithin, typeFile}
+use Rattle.text.specs.Laws.{test-in, letter-in, nameEnd-from, nameEnd-le, nameEnd-more, separatorsEnd-from, separatorsEnd-le, before-hit, before-close, close-in, dashes-end-in, gap-range}
 use Rattle.rules_laws.specs.Holds.{Holds, stops, reads, got-so, known, so, on, on-same, either}
 use Rattle.rules_laws.specs.In.{In, NameIn}
-use Rattle.rules_laws.specs.Groups.{InType, InFrom, unfit-holds, ContentRead, content-read, whatever-builds}
+use Rattle.rules_laws.specs.Groups.{InType, InFrom, unfit-holds, content-read, whatever-builds}
 
 -- From i on, within the input.
 abbrev pub Onward : List ℕ → (i j : ℕ) → Type 0

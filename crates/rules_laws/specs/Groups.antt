@@ -1,19 +1,19 @@
 -- Model groups and content, walked once: each law of a model that is read is an instance of `Builds`, and cites the walk.
 use Prim.Native.Nat.{ℕ, zero, suc, _+_, _-_, _≤_, _<_}
-use mathlib.Core.Path.{_≡_, refl, sym, _∙_}
+use mathlib.Core.Path.{_≡_, refl}
 use mathlib.Core.Bool.{Bool, true, false, _&&_, _||_, true≢false}
 use mathlib.Core.List.{List, [], _∷_, _++_}
 use native.Mathlib.Omega.{arith}
 use lib.ListN.{length}
 use lib.Dec.{eqb, leb, ltb}
-use borrow.Author.Tests.{eqb-true, ltb-false, leb-false}
+use borrow.Author.Tests.{ltb-false, leb-false}
 use Rattle.rules.specs.Bytes.{byteAt, letter, nameEnd, separatorsEnd, NAMELEN, GRPCNT, GRPLVL, GRPGTCNT}
-use Rattle.rules.specs.Reading.{Reading, refused, got, andThen}
+use Rattle.rules.specs.Reading.{Reading, got, andThen}
 use Rattle.rules.specs.Walk.{Group, seq, alt, opt, plus, star}
 use Rattle.rules.specs.TypeFile.{isWord, isCut, PCDATA, EMPTY, ANY, CDATA, RCDATA, Place, Tokens, occurrence, newPlace, join, nameToken, dataToken, token, Further, closed, joined, further, members, group, Content, empty, model, unfit, ContentEnd, contentWord, contentModel, content}
 use Rattle.text.specs.Laws.{test-in, letter-in, nameEnd-from, nameEnd-le, nameEnd-more, separatorsEnd-from, separatorsEnd-le}
 use Rattle.rules_laws.specs.Holds.{Holds, stops, reads, Gives, got-so, each, so, on, on-same, either, whichever}
-use Rattle.rules_laws.specs.In.{PlaceIn, Fits, fits-none, fits-group, fits-place, ContentIn}
+use Rattle.rules_laws.specs.In.{Fits, fits-none, fits-group, fits-place, ContentIn}
 
 -- A refusal of a type file is one of 3 to 8 and stands in it.
 abbrev pub InType : List ℕ → (number position : ℕ) → Type 0

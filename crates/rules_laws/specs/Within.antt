@@ -1,11 +1,11 @@
 -- Every reading of the type file stays within the input: a refusal is one of 3 to 8 and stands in it, and so does what is read.
 use Prim.Native.Nat.{ℕ, _≤_}
-use mathlib.Core.Path.{_≡_, subst}
+use mathlib.Core.Path.{_≡_}
 use mathlib.Core.List.{List, [], _∷_, _++_}
 use native.Mathlib.Omega.{arith}
 use lib.ListN.{length, length-append}
 use Rattle.rules.specs.Bytes.{elementLimit}
-use Rattle.rules.specs.Reading.{Reading, refused, got}
+use Rattle.rules.specs.Reading.{refused, got}
 use Rattle.rules.specs.TypeFile.{Element, typeFile}
 use Rattle.rules_laws.specs.Holds.{Holds, refused-so, got-so}
 use Rattle.rules_laws.specs.Groups.{InType, content-read, whatever-builds}

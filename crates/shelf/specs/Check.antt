@@ -1,17 +1,17 @@
 -- A computed test of what the rules say of a type file with one element, and that it is right.
 use Prim.Native.Nat.{ℕ, zero, suc, _-_}
-use mathlib.Core.Path.{_≡_, refl, sym, _∙_, ap, subst}
-use mathlib.Core.Bool.{Bool, true, false, _&&_}
+use mathlib.Core.Path.{_≡_, refl, sym, subst}
+use mathlib.Core.Bool.{Bool, true, false, _&&_, false≢true}
 use mathlib.Core.List.{List, [], _∷_}
 use lib.Dec.{eqb}
 use borrow.Author.Tests.{eqb-true}
 use native.Mathlib.Omega.{arith}
-use Rattle.rules.specs.Reading.{Reading, refused, got}
-use Rattle.rules.specs.TypeFile.{Place, Content, empty, model, Element, typeFile}
+use Rattle.rules.specs.Reading.{got}
+use Rattle.rules.specs.TypeFile.{Content, empty, model, Element, typeFile}
 use Rattle.rules.specs.Judge.{samePlace, placeAt, Unambiguous, AllUnambiguous, PairStandsAt, FirstAmbiguous, here}
 use Rattle.model_sets.specs.Bits.{and-left, and-right}
 use Rattle.model_sets.specs.Pairs.{firstPairOf, firstPairOf-none, firstPairOf-is}
-use Rattle.document_laws.specs.Check.{isNumbered, numbered}
+use Rattle.document_laws.specs.Check.{isNumbered, numbered, passes, passed}
 
 -- A type file, and the pair that the judge must name in it; both 0 where it must accept it.
 pub record Example : Type 0 where
@@ -37,14 +37,11 @@ unfoldable pub ofContent : List ℕ → ℕ → ℕ → Content → Bool
 ofContent s p q empty = false
 ofContent s p q (model g ps n) = isNumbered g 1 && isPair (firstPairOf (samePlace s ps) g) p q
 
-unfoldable pub readsAs : List ℕ → ℕ → ℕ → Reading (List Element) → Bool
-readsAs s p q (refused n k) = false
-readsAs s p q (got []) = false
-readsAs s p q (got (e ∷ [])) = ofContent s p q (e .content)
-readsAs s p q (got (e ∷ (f ∷ es))) = false
-
-pub false-is : {A : Type 0} → false ≡ true → A
-false-is e = let z : _≡_ {A = ℕ} 0 1 = cc in absurd (omega arith)
+-- the type has one element, and its content is so
+unfoldable pub readsAs : Example → List Element → Bool
+readsAs x [] = false
+readsAs x (e ∷ []) = ofContent (x .text) (x .first) (x .second) (e .content)
+readsAs x (e ∷ (f ∷ es)) = false
 
 pair-is : (r : ℕ × ℕ) (p q : ℕ) → isPair r p q ≡ true → (r .0 ≡ p) × (r .1 ≡ q)
 unfolding isPair
@@ -54,7 +51,7 @@ pair-is r p q e = (eqb-true (r .0) p (and-left (eqb (r .0) p) _ e), eqb-true (r 
 module _ (s : List ℕ) (e : Element) where
   named-in : (p q : ℕ) (c : Content) → e .content ≡ c → ofContent s p q c ≡ true → Named s p q (e ∷ [])
   unfolding ofContent
-  named-in p q empty is t = false-is t
+  named-in p q empty is t = absurd (false≢true t)
   named-in zero q (model g ps n) is t =
       let pair = pair-is (firstPairOf (samePlace s ps) g) zero q (and-right (isNumbered g 1) _ t) in
       (subst (Unambiguous s) (sym is) (firstPairOf-none (samePlace s ps) g (numbered g 1 (and-left (isNumbered g 1) _ t)) (pair .0)), tt)
@@ -64,28 +61,13 @@ module _ (s : List ℕ) (e : Element) where
       (placeAt ps (q - 1) .at, here (subst (λ (c : Content). PairStandsAt s c (placeAt ps (q - 1) .at) (suc p) q) (sym is) (found, refl)))
 
 unfoldable pub test : Example → Bool
-test x = readsAs (x .text) (x .first) (x .second) (typeFile (x .text))
+test x = passes (readsAs x) (typeFile (x .text))
 
 pub right : (x : Example) → test x ≡ true → Right x
 unfolding test readsAs
-right x t = go (typeFile (x .text)) refl t
+right x t = let (es, is, u) = passed (readsAs x) (typeFile (x .text)) t in go es is u
   where
-    go : (r : Reading (List Element)) → typeFile (x .text) ≡ r → readsAs (x .text) (x .first) (x .second) r ≡ true → Right x
-    go (refused n k) is u = false-is u
-    go (got []) is u = false-is u
-    go (got (e ∷ [])) is u = record { elements = e ∷ []; reads = is; named = named-in (x .text) e (x .first) (x .second) (e .content) refl u }
-    go (got (e ∷ (f ∷ es))) is u = false-is u
-
--- a list of examples of which each passes the test
-abbrev pub AllRight : List Example → Type 0
-AllRight [] = Unit {0}
-AllRight (x ∷ xs) = Right x × AllRight xs
-
-unfoldable pub allPass : List Example → Bool
-allPass [] = true
-allPass (x ∷ xs) = test x && allPass xs
-
-pub all-right : (xs : List Example) → allPass xs ≡ true → AllRight xs
-unfolding allPass
-all-right [] t = tt
-all-right (x ∷ xs) t = (right x (and-left (test x) _ t), all-right xs (and-right (test x) _ t))
+    go : (es : List Element) → typeFile (x .text) ≡ got es → readsAs x es ≡ true → Right x
+    go [] is u = absurd (false≢true u)
+    go (e ∷ []) is u = record { elements = e ∷ []; reads = is; named = named-in (x .text) e (x .first) (x .second) (e .content) refl u }
+    go (e ∷ (f ∷ es)) is u = absurd (false≢true u)
