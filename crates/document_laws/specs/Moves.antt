@@ -13,8 +13,8 @@ use Rattle.rules.specs.Bytes.{TAGLVL}
 use Rattle.rules.specs.Reading.{Reading, got}
 use Rattle.rules.specs.TypeFile.{Element}
 use Rattle.rules.specs.Document.{Tag, Piece, startTag, endTag, skipped, blank, dataByte, piece}
-use Rattle.rules.specs.Settling.{contentOf, hasModel, startO, endO, numberOf, Token, start, pcdata, Decisions, Event, startWritten, startInferred, endWritten, endInferred, endOfEmpty, withData, Open, State, takePlace, enter, note, limited, isOpen, Inward, settled, stuck, fitting, isComplete, requiredPlace, elementOf, inferable, chain, inferStarts, takeToken, inward, settleFrom, isOver, settle, startElement, takeData, takeBlank, endLeftOut, closeFrom, endElement, endFrom, endDocument}
-use Rattle.rules.specs.Reader.{Reached, goOn, tagged, settlePiece, piecesWithin}
+use Rattle.rules.specs.Settling.{contentOf, hasModel, startO, endO, numberOf, Token, start, pcdata, Decisions, Event, startWritten, startInferred, endWritten, endInferred, endOfEmpty, withData, Open, State, nothingOpen, takePlace, enter, note, limited, isOpen, Inward, settled, stuck, fitting, isComplete, requiredPlace, elementOf, inferable, chain, inferStarts, takeToken, inward, settleFrom, isOver, settle, startElement, takeData, takeBlank, endLeftOut, closeFrom, endElement, endFrom, endDocument}
+use Rattle.rules.specs.Reader.{Reached, goOn, tagged, settlePiece, piecesWithin, document}
 use Rattle.rules_laws.specs.Holds.{stops, reads, Refuses}
 use Rattle.rules_laws.specs.Holds as holds
 use Rattle.rules_laws.specs.Both.{Both, stop, read, on, either, so, itself}
@@ -376,6 +376,11 @@ module _ {s : List ℕ} {es : List Element} {D E : Decisions} {Q : State → Sta
           rw (← i .0)
           (on (so (settlePiece-both p at q) (λ n k x. by-settling at n k (omega arith) x) (λ x w r. r)) λ x w r.
           subst (λ (m : ℕ). Both R (λ (x w : List Event). x ≡ w) (piecesWithin s es D d turns (x .at) (x .state)) (piecesWithin s es E d turns m (w .state))) (r .first ∙ sym (r .second)) (piecesWithin-both turns (x .at) (r .keeps))))
+
+      -- Two readings of the whole document.
+      pub document-both : Q nothingOpen nothingOpen → Both R (λ (x w : List Event). x ≡ w) (document s es D d) (document s es E d)
+      unfolding document
+      document-both q = piecesWithin-both (suc (length d)) 0 q
 
 -- One state
 

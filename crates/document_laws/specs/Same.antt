@@ -1,5 +1,5 @@
 -- The walks decide one reading of every document: any two decisions that mean them read it alike.
-use Prim.Native.Nat.{ℕ, suc, _≤_, _<_}
+use Prim.Native.Nat.{ℕ, _≤_, _<_}
 use mathlib.Core.Path.{_≡_, refl, sym, _∙_, ap, ap₂}
 use mathlib.Core.Bool.{true, false≢true}
 use mathlib.Core.List.{List, [], _∷_, _++_}
@@ -16,7 +16,7 @@ use Rattle.rules_laws.specs.Both.{so, first, same}
 use Rattle.rules_laws.specs.In.{All, none, more}
 use Rattle.model_sets.specs.Reach.{begins-none}
 use Rattle.document_laws.specs.Agree.{agree}
-use Rattle.document_laws.specs.Moves.{fresh, parent, parent-is, Answers, Chosen, fits, required, Moves, Itself, keeps-ends, any-moves, any-datum, withDatum, settlePiece-both, piecesWithin-both}
+use Rattle.document_laws.specs.Moves.{fresh, parent, parent-is, Answers, Chosen, fits, required, Moves, Itself, keeps-ends, any-moves, any-datum, withDatum, settlePiece-both, document-both}
 unfoldable pub use Rattle.document_laws.specs.Chain.{link}
 
 -- Open elements whose places taken begin a walk
@@ -81,9 +81,8 @@ module _ (s : List ℕ) (es : List Element) (D E : Decisions) (x : Means s es D)
 
   -- Two decisions that mean the walks read every document alike.
   pub document-one : (d : List ℕ) → document s es D d ≡ document s es E d
-  unfolding document
   document-one d =
-      same (piecesWithin-both begun-moves begun-datum d Any tt (λ at l. each (piece d at) (λ n k e. tt) (λ p e. tt)) (λ at n k l h. tt) (suc (length d)) 0 (refl, nothing-begun es))
+      same (document-both begun-moves begun-datum d Any tt (λ at l. each (piece d at) (λ n k e. tt) (λ p e. tt)) (λ at n k l h. tt) (refl, nothing-begun es))
 
 -- The states that reading comes to
 

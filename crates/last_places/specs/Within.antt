@@ -1,5 +1,5 @@
 -- A refusal of a document is one of 3 to 5 and 10 to 18 and stands in the document, whatever decides.
-use Prim.Native.Nat.{ℕ, suc, _≤_, _<_}
+use Prim.Native.Nat.{ℕ, _≤_, _<_}
 use mathlib.Core.Path.{_≡_, refl}
 use mathlib.Core.Logic.{_⊎_, inl, inr, ⊎-elim}
 use mathlib.Core.List.{List}
@@ -13,7 +13,7 @@ use Rattle.rules.specs.Reader.{document}
 use Rattle.rules_laws.specs.Holds.{Refuses, refused-so, so}
 use Rattle.rules_laws.specs.Both.{refusals}
 use Rattle.rules_laws.specs.Pieces.{piece-read}
-use Rattle.document_laws.specs.Moves.{At, any-moves, any-datum, piecesWithin-both}
+use Rattle.document_laws.specs.Moves.{At, any-moves, any-datum, document-both}
 
 -- The numbers that a document may be refused by: those of its pieces, and those of settling them.
 abbrev pub DocumentNumber : ℕ → Type 0
@@ -31,6 +31,5 @@ by-settling d at n k h r = (inr (r .0), omega (arith, r .1))
 
 module _ (s : List ℕ) (es : List Element) (D : Decisions) (d : List ℕ) where
   pub document-within : (n k : ℕ) → document s es D d ≡ refused n k → DocumentNumber n × (k ≤ length d)
-  unfolding document
   document-within n k e =
-      refused-so (refusals (piecesWithin-both (any-moves s es D) any-datum d (In d) (inl (omega arith), omega arith) (by-piece d) (by-settling d) (suc (length d)) 0 (refl, tt))) e
+      refused-so (refusals (document-both (any-moves s es D) any-datum d (In d) (inl (omega arith), omega arith) (by-piece d) (by-settling d) (refl, tt))) e
