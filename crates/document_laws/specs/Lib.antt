@@ -1,4 +1,4 @@
--- Laws of the document half of the rules: what the walks decide is decided, and in one way only.
+-- Laws of the document half of the rules: settling is walked once; what the walks decide is decided, and in one way only.
 pub mod Laws
 pub mod Agree
 pub mod Decide

@@ -3,7 +3,7 @@
 -- keeps is the case that both are the same.
 use Prim.Native.Nat.{ℕ, zero, suc, _+_, _≤_, _<_}
 use mathlib.Core.Path.{_≡_, refl, sym, _∙_, ap, ap₂, subst}
-use mathlib.Core.Bool.{Bool, true, false, _&&_, false≢true}
+use mathlib.Core.Bool.{Bool, true, false, _&&_}
 use mathlib.Core.List.{List, [], _∷_, _++_}
 use native.Mathlib.Omega.{arith}
 use lib.ListN.{length}
@@ -13,13 +13,12 @@ use Rattle.rules.specs.Bytes.{TAGLVL}
 use Rattle.rules.specs.Reading.{Reading, got}
 use Rattle.rules.specs.TypeFile.{Element}
 use Rattle.rules.specs.Document.{Tag, Piece, startTag, endTag, skipped, blank, dataByte, piece}
-use Rattle.rules.specs.Settling.{contentOf, hasModel, startO, endO, numberOf, Token, start, pcdata, Decisions, Event, startWritten, startInferred, endWritten, endInferred, endOfEmpty, withData, Open, State, nothingOpen, takePlace, enter, note, limited, isOpen, Inward, settled, stuck, fitting, isComplete, requiredPlace, elementOf, inferable, chain, inferStarts, takeToken, inward, settleFrom, isOver, settle, startElement, takeData, takeBlank, endLeftOut, closeFrom, endElement, endFrom, endDocument}
+use Rattle.rules.specs.Settling.{contentOf, hasModel, endO, numberOf, Token, start, pcdata, Decisions, Event, startWritten, startInferred, endWritten, endInferred, endOfEmpty, withData, Open, State, nothingOpen, takePlace, enter, note, limited, isOpen, Inward, settled, stuck, fitting, isComplete, requiredPlace, inferable, chain, inferStarts, takeToken, inward, settleFrom, isOver, settle, startElement, takeData, takeBlank, endLeftOut, closeFrom, endElement, endFrom, endDocument}
 use Rattle.rules.specs.Reader.{Reached, goOn, tagged, settlePiece, piecesWithin, document}
 use Rattle.rules_laws.specs.Holds.{stops, reads, Refuses}
 use Rattle.rules_laws.specs.Holds as holds
 use Rattle.rules_laws.specs.Both.{Both, stop, read, on, either, so, itself}
-use Rattle.model_sets.specs.Bits.{and-left, and-right, bool-cases}
-use Rattle.document_laws.specs.Chain.{link, Leads, chain-leads}
+use Rattle.document_laws.specs.Chain.{chosen, inferable-is, inferable-may, link-same, Leads, chain-step, chain-leads}
 
 abbrev pub state : Open → List Open → List Event → State
 state o around ev = record { current = o; around = around; events = ev }
@@ -144,17 +143,6 @@ module _ {s : List ℕ} {es : List Element} {D E : Decisions} {Q : State → Sta
 
 -- Starts and data
 
--- The element to infer in the element number n where the place p is required.
-chosen : List ℕ → List Element → (n p : ℕ) → ℕ
-chosen s es n p =
-    let o : Open = fresh n in
-    let k = elementOf s es o p in
-    elim (leb 1 p && (leb 1 k && (startO es k && hasModel (contentOf es k)))) [ true ↦ k | false ↦ 0 ]
-
-link-same : (k f g : ℕ) (r q : List ℕ) → (leb 1 k ≡ true → (f ≡ g) × (r ≡ q)) → link k f r ≡ link k g q
-unfolding link
-link-same k f g r q h = bool-cases (leb 1 k) (λ e. ap₂ (link k) (h e .0) (h e .1)) (λ e. rw (e, link))
-
 -- Steps 1 and 2: as which place the token fits, the chain, and what becomes of a chain.
 picked : ℕ → List ℕ → (List ℕ → State) → Inward
 picked f c h = elim (leb 1 f) [ true ↦ settled (h []) | false ↦ elim c [ [] ↦ stuck | k ∷ ks ↦ settled (h (k ∷ ks)) ] ]
@@ -194,27 +182,8 @@ module _ {s : List ℕ} {es : List Element} {D E : Decisions} {Q : State → Sta
   alike : {z y : State} → Q z y → Answers s es D E (z .current) (y .current)
   alike q = moves .ends .alike q
 
-  -- An element whose start may be inferred has a model, and its place is required.
-  inferable-model : (o : Open) → leb 1 (inferable s es D o) ≡ true → (1 ≤ requiredPlace s es D o) × (hasModel (contentOf es (inferable s es D o)) ≡ true)
-  unfolding inferable
-  inferable-model o h = go test refl h
-    where
-      p : ℕ
-      p = requiredPlace s es D o
-
-      k : ℕ
-      k = elementOf s es o p
-
-      test : Bool
-      test = leb 1 p && (leb 1 k && (startO es k && hasModel (contentOf es k)))
-
-      go : (c : Bool) → test ≡ c → leb 1 (elim c [ true ↦ k | false ↦ 0 ]) ≡ true → (1 ≤ p) × (hasModel (contentOf es (elim c [ true ↦ k | false ↦ 0 ])) ≡ true)
-      go true e l = (leb-true 1 p (and-left (leb 1 p) _ e), and-right (startO es k) _ (and-right (leb 1 k) _ (and-right (leb 1 p) _ e)))
-      go false e l = absurd (false≢true l)
-
   inferable-same : {z y : State} → Q z y → inferable s es D (z .current) ≡ inferable s es E (y .current)
-  unfolding inferable chosen
-  inferable-same q = ap₂ (chosen s es) (alike q .number) (alike q .required)
+  inferable-same {z} {y} q = inferable-is s es D (z .current) ∙ ap₂ (chosen s es) (alike q .number) (alike q .required) ∙ sym (inferable-is s es E (y .current))
 
   -- The start of k is inferred, at the required place.
   abbrev opened : Decisions → (at k : ℕ) → State → State
@@ -222,17 +191,19 @@ module _ {s : List ℕ} {es : List Element} {D E : Decisions} {Q : State → Sta
 
   opened-both : (at k : ℕ) {z y : State} → Q z y → inferable s es D (z .current) ≡ k → leb 1 k ≡ true → Q (opened D at k z) (opened E at k y)
   opened-both at k {z} {y} q e l =
-      let (i, m) = inferable-model (z .current) (rw e l) in
+      let m = inferable-may s es D (z .current) (rw e l) in
       let p = requiredPlace s es D (z .current) in
       subst (λ (r : ℕ). Q (opened D at k z) (note (startInferred k at) (enter k (takePlace r y)))) (alike q .required)
-      (moves .ends .note (moves .enter (moves .take q p (required i)) k (rw e at m)) (startInferred k at) refl)
+      (moves .ends .note (moves .enter (moves .take q p (required (m .place))) k (rw e at (m .model))) (startInferred k at) refl)
 
   chain-same : (left : ℕ) (t : Token) {z y : State} → Q z y → chain s es D left t (z .current) ≡ chain s es E left t (y .current)
-  unfolding chain link
+  unfolding chain
   chain-same zero t q = refl
   chain-same (suc left) t {z} {y} q =
-      link-same (inferable s es D (z .current)) _ _ _ _ (λ e. let r = opened-both 0 (inferable s es D (z .current)) q refl e in (alike r .fits t, chain-same left t r))
-      ∙ ap (λ k. link k (fitting s es E (fresh k) t) (chain s es E left t (fresh k))) (inferable-same q)
+      let k = inferable s es D (z .current) in
+      chain-step s es D t left (z .current) k refl
+      ∙ link-same k _ _ _ _ (λ e. let r = opened-both 0 k q refl e in (alike r .fits t, chain-same left t r))
+      ∙ sym (chain-step s es E t left (y .current) k (sym (inferable-same q)))
 
   starts-both : (t : Token) (at : ℕ) (ks : List ℕ) {z y : State} → Q z y → Leads s es D t (z .current) ks
       → Q (inferStarts s es D at ks z) (inferStarts s es E at ks y) × (1 ≤ fitting s es D (inferStarts s es D at ks z .current) t)

@@ -1,4 +1,4 @@
--- Laws of the type-file half of the rules: what holds of a reading, and the grammar walked once.
+-- Laws of the rules: what holds of one reading and of two, and each grammar walked once.
 pub mod Holds
 pub mod Both
 pub mod In
