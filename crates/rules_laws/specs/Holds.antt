@@ -56,11 +56,6 @@ module _ {R : (number position : ℕ) → Type 0} where
   either true f g = f refl
   either false f g = g refl
 
--- Reading goes on whatever was got.
-pub whatever : {A B : Type 0} {Q : B → Type 0} {f : A → Reading B} (r : Reading A) → ((a : A) → Gives Q (f a)) → Gives Q (andThen r f)
-whatever (refused n k) f = stops tt
-whatever (got a) f = f a
-
 -- Two ways to go on that agree where P holds.
 pub on-same : {A B : Type 0} {P : A → Type 0} {f h : A → Reading B} {r : Reading A} → Gives P r → ((a : A) → P a → f a ≡ h a) → andThen r f ≡ andThen r h
 on-same (stops h) e = refl

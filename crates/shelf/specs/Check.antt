@@ -11,7 +11,7 @@ use Rattle.rules.specs.TypeFile.{Content, empty, model, Element, typeFile}
 use Rattle.rules.specs.Judge.{samePlace, placeAt, Unambiguous, AllUnambiguous, PairStandsAt, FirstAmbiguous, here}
 use Rattle.model_sets.specs.Bits.{and-left, and-right}
 use Rattle.model_sets.specs.Pairs.{firstPairOf, firstPairOf-none, firstPairOf-is}
-use Rattle.document_laws.specs.Check.{isNumbered, numbered, passes, passed}
+use Rattle.document_laws.specs.Check.{isNumbered, numbered}
 
 -- A type file, and the pair that the judge must name in it; both 0 where it must accept it.
 pub record Example : Type 0 where
@@ -19,15 +19,10 @@ pub record Example : Type 0 where
   pub first : ℕ
   pub second : ℕ
 
--- The rules read the type, and name just that pair, or no pair is at fault.
+-- The pair p, q is named, or none is at fault.
 abbrev pub Named : List ℕ → ℕ → ℕ → List Element → Type 0
 Named s zero q es = AllUnambiguous s es
 Named s (suc p) q es = (k : ℕ) × FirstAmbiguous s k (suc p) q es
-
-pub record Right (x : Example) : Type 0 where
-  pub elements : List Element
-  pub reads : typeFile (x .text) ≡ got elements
-  pub named : Named (x .text) (x .first) (x .second) elements
 
 -- the two numbers are those of a pair
 unfoldable pub isPair : ℕ × ℕ → ℕ → ℕ → Bool
@@ -60,14 +55,12 @@ module _ (s : List ℕ) (e : Element) where
       let found = firstPairOf-is (samePlace s ps) g (numbered g 1 (and-left (isNumbered g 1) _ t)) (suc p) q (λ i. (pair .0 i, pair .1 i)) (omega arith) in
       (placeAt ps (q - 1) .at, here (subst (λ (c : Content). PairStandsAt s c (placeAt ps (q - 1) .at) (suc p) q) (sym is) (found, refl)))
 
-unfoldable pub test : Example → Bool
-test x = passes (readsAs x) (typeFile (x .text))
+-- The rules name just that pair of the example, or no pair is at fault.
+abbrev pub NamedSo : Example → List Element → Type 0
+NamedSo x es = Named (x .text) (x .first) (x .second) es
 
-pub right : (x : Example) → test x ≡ true → Right x
-unfolding test readsAs
-right x t = let (es, is, u) = passed (readsAs x) (typeFile (x .text)) t in go es is u
-  where
-    go : (es : List Element) → typeFile (x .text) ≡ got es → readsAs x es ≡ true → Right x
-    go [] is u = absurd (false≢true u)
-    go (e ∷ []) is u = record { elements = e ∷ []; reads = is; named = named-in (x .text) e (x .first) (x .second) (e .content) refl u }
-    go (e ∷ (f ∷ es)) is u = absurd (false≢true u)
+pub named-so : (x : Example) (es : List Element) → typeFile (x .text) ≡ got es → readsAs x es ≡ true → NamedSo x es
+unfolding readsAs
+named-so x [] is u = absurd (false≢true u)
+named-so x (e ∷ []) is u = named-in (x .text) e (x .first) (x .second) (e .content) refl u
+named-so x (e ∷ (f ∷ es)) is u = absurd (false≢true u)

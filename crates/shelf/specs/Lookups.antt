@@ -18,7 +18,7 @@ use Rattle.rules.specs.Settling.{numberFrom, numberOf}
 use Rattle.rules.specs.Lookup.{compared}
 use Rattle.model_sets.specs.Bits.{and-left, and-right}
 use Rattle.document_laws.specs.Ascii.{ascii}
-use Rattle.document_laws.specs.Check.{passes, passed, allPass, all-right}
+use Rattle.document_laws.specs.Check.{Right, passes, allPass, all-right}
 use Rattle.rules_laws.specs.In.{All}
 
 -- A type file, a name, and what looking it up must give.
@@ -28,25 +28,19 @@ pub record Example : Type 0 where
   pub number : ℕ
   pub count : ℕ
 
--- The rules read the type, and give that number and that count.
-pub record Right (x : Example) : Type 0 where
-  pub elements : List Element
-  pub reads : typeFile (x .type) ≡ got elements
-  pub numbered : numberOf (x .type) elements (x .name) 0 (length (x .name)) ≡ x .number
-  pub counted : compared (x .type) elements (x .name) 0 (length (x .name)) ≡ x .count
+-- The rules give that number and that count.
+pub record LooksUp (x : Example) (es : List Element) : Type 0 where
+  pub numbered : numberOf (x .type) es (x .name) 0 (length (x .name)) ≡ x .number
+  pub counted : compared (x .type) es (x .name) 0 (length (x .name)) ≡ x .count
 
 unfoldable pub readsAs : Example → List Element → Bool
 readsAs x es =
     eqb (numberOf (x .type) es (x .name) 0 (length (x .name))) (x .number) && eqb (compared (x .type) es (x .name) 0 (length (x .name))) (x .count)
 
-unfoldable pub test : Example → Bool
-test x = passes (readsAs x) (typeFile (x .type))
-
-pub right : (x : Example) → test x ≡ true → Right x
-unfolding test readsAs
-right x t =
-    let (es, is, u) = passed (readsAs x) (typeFile (x .type)) t in
-    record { elements = es; reads = is; numbered = eqb-true _ _ (and-left _ _ u); counted = eqb-true _ _ (and-right (eqb (numberOf (x .type) es (x .name) 0 (length (x .name))) (x .number)) _ u) }
+pub looks-up : (x : Example) (es : List Element) → typeFile (x .type) ≡ got es → readsAs x es ≡ true → LooksUp x es
+unfolding readsAs
+looks-up x es is u =
+    record { numbered = eqb-true _ _ (and-left _ _ u); counted = eqb-true _ _ (and-right (eqb (numberOf (x .type) es (x .name) 0 (length (x .name))) (x .number)) _ u) }
 
 -- Type T with NOTE, which is as long as NAME and begins with the same letter: LIST, ITEM, NAME, QTY, NOTE.
 pub T+ : List ℕ
@@ -71,6 +65,6 @@ lookups =
     named "LAMP" 0 1 ∷
     []
 
-pub lookups-right : All Right lookups
-unfolding ascii T+ named lookups allPass passes test readsAs numberFrom numberOf compared placeAt separator letter fold nameByte span nameEnd separatorsEnd sameText beforeDashes gapWithin gap occurrence nameToken dataToken token further members group isDeclared elementName omission words head contentWord contentModel content close rest element commentDeclaration beforeClose keyword markup declaration declarationsWithin typeFile
-lookups-right = all-right test right lookups refl
+pub lookups-right : All (Right (λ (x : Example). x .type) LooksUp) lookups
+unfolding ascii T+ named lookups allPass passes readsAs numberFrom numberOf compared placeAt separator letter fold nameByte span nameEnd separatorsEnd sameText beforeDashes gapWithin gap occurrence nameToken dataToken token further members group isDeclared elementName omission words head contentWord contentModel content close rest element commentDeclaration beforeClose keyword markup declaration declarationsWithin typeFile
+lookups-right = all-right (λ (x : Example). x .type) readsAs looks-up lookups refl
