@@ -28,13 +28,7 @@ fn number(names: &[u32; 192], k: usize) -> usize
     requires { ⌜ k < 192 ⌝ }
     ensures { λ r. ⌜ (r ≡ getD (now (names .entry)) k 0) × (r < 4294967296) ⌝ }
 {
-    widened(names[k])
-}
-
-fn widened(x: u32) -> usize
-    ensures { λ r. ⌜ (r ≡ x) × (r < 4294967296) ⌝ }
-{
-    x as usize
+    numbers::widened(names[k])
 }
 
 // Where the place p stands.

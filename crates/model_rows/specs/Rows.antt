@@ -13,7 +13,7 @@ use Rattle.rules.specs.TypeFile.{Place, Content, model}
 use Rattle.model_sets.specs.Sets.{size, Numbered, nextIn, completeIn}
 use Rattle.model_sets.specs.Reach.{lastOr0}
 use Rattle.model_table.specs.Fill.{tableOf}
-use Rattle.model_table.specs.Cells.{below-or-from}
+use Rattle.model_links.specs.Cells.{below-or-from}
 use Rattle.model_table.specs.Means.{table-says}
 use Rattle.document_laws.specs.Decide.{isCompleteIn, requiredOf}
 use Rattle.last_places.specs.Last.{placed}

@@ -1,9 +1,9 @@
 -- `settle_row` meets its contract: each way by the test that led there.
 use borrow.Author.Tests.{eq-eqb, ne-eqb}
-use Rattle.model_table.specs.Fill.{settleRow}
+use Rattle.model_links.specs.Links.{settleRow}
 use borrow.Author.Needs.{needs}
-use Rattle.model_table.proofs.settle_row.Statement.{statement}
-use Rattle.model_table.proofs.settle_row.Tie as tie
+use Rattle.model_links.proofs.settle_row.Statement.{statement}
+use Rattle.model_links.proofs.settle_row.Tie as tie
 
 mul-if1 : tie.Need-mul-if1
 mul-if1 c = search needs

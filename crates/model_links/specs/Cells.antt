@@ -10,8 +10,8 @@ use lib.ListN.{length, getD, set, length-set}
 use lib.Seq.{getD-set-same, getD-set-other}
 use lib.Dec.{eqb}
 use borrow.Author.Count.{below-more}
-use Rattle.model_table.specs.Each.{each-keeps}
-use Rattle.model_table.specs.Fill.{linkCell, linkRow, linkFrom, link, settleRow, settle, unbeginCell, unbegin}
+use Rattle.model_links.specs.Each.{each-keeps}
+use Rattle.model_links.specs.Links.{linkCell, linkRow, linkFrom, link, settleRow, settle, unbeginCell, unbegin}
 
 -- a flag as the table holds it
 abbrev pub bit : Bool → ℕ

@@ -1,15 +1,15 @@
 -- `unbegin` meets its contract. The invariant: what is left to do, done to the table as it is, gives the table that is to be.
-use Rattle.model_table.specs.Fill as Fill
+use Rattle.model_links.specs.Links as Links
 use Prim.Native.Nat.{_-_}
 use mathlib.Core.Path.{_≡_, refl}
 use native.Mathlib.Omega.{arith}
-use Rattle.model_table.specs.Each.{each-turn, each-end}
-use Rattle.model_table.specs.Fill.{unbeginCell}
-use Rattle.model_table.proofs.unbegin.Statement.{statement}
-use Rattle.model_table.proofs.unbegin.Tie as tie
+use Rattle.model_links.specs.Each.{each-turn, each-end}
+use Rattle.model_links.specs.Links.{unbeginCell}
+use Rattle.model_links.proofs.unbegin.Statement.{statement}
+use Rattle.model_links.proofs.unbegin.Tie as tie
 
 abbrev Inv-loop : tie.InvT-loop
-Inv-loop table₀ mid hi p₀ table p = Fill.unbegin table p hi ≡ Fill.unbegin table₀ mid hi
+Inv-loop table₀ mid hi p₀ table p = Links.unbegin table p hi ≡ Links.unbegin table₀ mid hi
 
 abbrev μ-loop : tie.MeasureT-loop
 μ-loop table₀ mid hi p₀ table p = hi - p

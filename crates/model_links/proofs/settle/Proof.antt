@@ -1,14 +1,14 @@
 -- `settle` meets its contract. The invariant: what is left to do, done to the table as it is, gives the table that is to be.
-use Rattle.model_table.specs.Fill as Fill
+use Rattle.model_links.specs.Links as Links
 use Prim.Native.Nat.{_-_}
 use mathlib.Core.Path.{_≡_, refl}
 use native.Mathlib.Omega.{arith}
-use Rattle.model_table.specs.Each.{each-turn, each-end}
-use Rattle.model_table.proofs.settle.Statement.{statement}
-use Rattle.model_table.proofs.settle.Tie as tie
+use Rattle.model_links.specs.Each.{each-turn, each-end}
+use Rattle.model_links.proofs.settle.Statement.{statement}
+use Rattle.model_links.proofs.settle.Tie as tie
 
 abbrev Inv-loop : tie.InvT-loop
-Inv-loop table₀ lo mid required u₀ table u = Fill.settle table u mid required ≡ Fill.settle table₀ lo mid required
+Inv-loop table₀ lo mid required u₀ table u = Links.settle table u mid required ≡ Links.settle table₀ lo mid required
 
 abbrev μ-loop : tie.MeasureT-loop
 μ-loop table₀ lo mid required u₀ table u = mid - u

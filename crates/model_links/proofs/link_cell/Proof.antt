@@ -1,9 +1,9 @@
 -- `link_cell` meets its contract: each way by the test that led there.
 use borrow.Author.Tests.{eq-eqb, ne-eqb}
-use Rattle.model_table.specs.Fill.{linkCell}
+use Rattle.model_links.specs.Links.{linkCell}
 use borrow.Author.Needs.{needs}
-use Rattle.model_table.proofs.link_cell.Statement.{statement}
-use Rattle.model_table.proofs.link_cell.Tie as tie
+use Rattle.model_links.proofs.link_cell.Statement.{statement}
+use Rattle.model_links.proofs.link_cell.Tie as tie
 
 element-copy-out-if1 : tie.Need-element-copy-out-if1
 element-copy-out-if1 c = search needs

@@ -1,14 +1,14 @@
 -- `link` meets its contract. The invariant: what is left to do, done to the table as it is, gives the table that is to be.
-use Rattle.model_table.specs.Fill as Fill
+use Rattle.model_links.specs.Links as Links
 use Prim.Native.Nat.{_-_}
 use mathlib.Core.Path.{_≡_, refl}
 use native.Mathlib.Omega.{arith}
-use Rattle.model_table.specs.Each.{each-turn, each-end}
-use Rattle.model_table.proofs.link.Statement.{statement}
-use Rattle.model_table.proofs.link.Tie as tie
+use Rattle.model_links.specs.Each.{each-turn, each-end}
+use Rattle.model_links.proofs.link.Statement.{statement}
+use Rattle.model_links.proofs.link.Tie as tie
 
 abbrev Inv-loop : tie.InvT-loop
-Inv-loop table₀ a b c d u₀ table u = Fill.link table u b c d ≡ Fill.link table₀ a b c d
+Inv-loop table₀ a b c d u₀ table u = Links.link table u b c d ≡ Links.link table₀ a b c d
 
 abbrev μ-loop : tie.MeasureT-loop
 μ-loop table₀ a b c d u₀ table u = b - u

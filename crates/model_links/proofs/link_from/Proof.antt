@@ -1,9 +1,9 @@
 -- `link_from` meets its contract: each way by the test that led there.
 use borrow.Author.Tests.{eq-eqb, ne-eqb}
-use Rattle.model_table.specs.Fill.{linkFrom}
+use Rattle.model_links.specs.Links.{linkFrom}
 use borrow.Author.Needs.{needs}
-use Rattle.model_table.proofs.link_from.Statement.{statement}
-use Rattle.model_table.proofs.link_from.Tie as tie
+use Rattle.model_links.proofs.link_from.Statement.{statement}
+use Rattle.model_links.proofs.link_from.Tie as tie
 
 mul-if1 : tie.Need-mul-if1
 mul-if1 c = search needs

@@ -2,10 +2,10 @@
 use Prim.Native.Nat.{_-_}
 use mathlib.Core.Path.{_≡_, refl}
 use native.Mathlib.Omega.{arith}
-use Rattle.model_table.specs.Each.{each-turn, each-end}
-use Rattle.model_table.specs.Fill.{linkRow}
-use Rattle.model_table.proofs.link_row.Statement.{statement}
-use Rattle.model_table.proofs.link_row.Tie as tie
+use Rattle.model_links.specs.Each.{each-turn, each-end}
+use Rattle.model_links.specs.Links.{linkRow}
+use Rattle.model_links.proofs.link_row.Statement.{statement}
+use Rattle.model_links.proofs.link_row.Tie as tie
 
 abbrev Inv-loop : tie.InvT-loop
 Inv-loop table₀ u c d p₀ table p = linkRow table u p d ≡ linkRow table₀ u c d
