@@ -70,12 +70,16 @@ kept-place n l = rw (le-leb n 96 l, placeOr0)
 pub no-place : (n : ℕ) → 96 < n → placeOr0 n ≡ 0
 no-place n l = rw (lt-leb n 96 l, placeOr0)
 
-pub place-most : (n : ℕ) → placeOr0 n ≤ 96
+place-most : (n : ℕ) → placeOr0 n ≤ 96
 place-most n = by-test (leb n 96) refl
   where
     by-test : (b : Bool) → leb n 96 ≡ b → elim b [ true ↦ n | false ↦ 0 ] ≤ 96
     by-test true e = leb-true n 96 e
     by-test false e = omega arith
+
+-- Whatever the rows hold, what is required is a place or 0.
+pub required-small : (rows : List ℕ) (e u : ℕ) → requiredAt rows e u ≤ 96
+required-small rows e u = place-most (getD rows (rowAt e u + 13) 0)
 
 -- In the rows of a type the required place is one of the model's.
 pub required-kept : (s : List ℕ) (es : List Element) → Accepts s es → (rows : List ℕ) → Rows es rows → (e u : ℕ) → e ≤ length es → u ≤ width es e → requiredAt rows e u ≡ requiredOf (contentOf es e) (placed u)
