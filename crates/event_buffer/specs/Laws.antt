@@ -2,7 +2,7 @@
 use Prim.Native.Nat.{ℕ, suc, _+_, _*_, _/_, _%_, _≤_, _<_}
 use mathlib.Core.Path.{_≡_, refl, sym, ap, _∙_}
 use mathlib.Core.Bool.{Bool, true, false}
-use mathlib.Core.List.{List, [], _∷_, _++_, append-assoc}
+use mathlib.Core.List.{List, [], _∷_, _++_, append-assoc, append-nil}
 use native.Mathlib.Omega.{arith}
 use native.Mathlib.Numerals.{add-one}
 use lib.ListN.{length, take, drop, set, getD, length-append, length-drop, length-set, take-append-drop}
@@ -12,7 +12,7 @@ use borrow.Author.Tests.{le-leb, lt-leb, leb-true, leb-false}
 use Rattle.rules.specs.Judge.{bytesOf}
 use Rattle.rules.specs.Settling.{Event}
 use Rattle.rules.specs.Reader.{eventNumbers}
-use Rattle.event_buffer.specs.Means.{written, Written}
+use Rattle.event_buffer.specs.Means.{written, Written, noted, Holds, Puts}
 
 -- Events as numbers, and numbers as bytes.
 pub eventNumbers-append : (ev fv : List Event) → eventNumbers (ev ++ fv) ≡ eventNumbers ev ++ eventNumbers fv
@@ -179,3 +179,66 @@ module _ (from l : List ℕ) (b k : ℕ) (is : k + 3 < length from) (h : b + 4 *
       let after-two = rw two-is at (bytes-turn from l one b (k + 1) (at + 4) (omega arith) after-one (omega arith) (omega arith) x) in
       let after-three = rw three-is at (bytes-turn from l two b (k + 2) (at + 8) (omega arith) after-two (omega arith) (omega arith) y) in
       rw four-is at (bytes-turn from l three b (k + 3) (at + 12) (omega arith) after-three (omega arith) (omega arith) z)
+
+-- What is written right behind what was written makes one with it.
+pub written-behind : (l now xs ys : List ℕ) (b at : ℕ) {after : List ℕ} → now ≡ written l b xs → at ≡ b + length xs → b + length xs + length ys ≤ length l → after ≡ written now at ys → after ≡ written l b (xs ++ ys)
+written-behind l now xs ys b at e a h w =
+    let sizes = length-append xs ys in
+    let same = written-keeps l b xs e in
+    let so-far = e ∙ written-fits l b xs (omega arith) in
+    w ∙ written-fits now at ys (omega arith) ∙ splice-turn l now xs ys b at so-far (omega arith) a ∙ sym (written-fits l b (xs ++ ys) (omega arith))
+
+-- Four numbers, each stored as four bytes.
+pub four-numbers-stored : (l : List ℕ) (i x y z w : ℕ) → i + 16 ≤ length l → {one two three four : List ℕ}
+    → one ≡ written l i (bytesOf (x ∷ []))
+    → two ≡ written one (i + 4) (bytesOf (y ∷ []))
+    → three ≡ written two (i + 8) (bytesOf (z ∷ []))
+    → four ≡ written three (i + 12) (bytesOf (w ∷ []))
+    → four ≡ written l i (bytesOf (x ∷ y ∷ z ∷ w ∷ []))
+unfolding bytesOf
+four-numbers-stored l i x y z w h {one} {two} {three} a b c d =
+    let after-two = written-behind l one (bytesOf (x ∷ [])) (bytesOf (y ∷ [])) i (i + 4) a (omega arith) (omega arith) b in
+    let after-three = written-behind l two (bytesOf (x ∷ y ∷ [])) (bytesOf (z ∷ [])) i (i + 8) after-two (omega arith) (omega arith) c in
+    written-behind l three (bytesOf (x ∷ y ∷ z ∷ [])) (bytesOf (w ∷ [])) i (i + 12) after-three (omega arith) (omega arith) d
+
+-- Nothing is put, an event is put, and what is put behind what was put makes one with it.
+pub puts-none : (numbers bytes : List ℕ) (n : ℕ) → Puts numbers bytes n [] numbers bytes
+puts-none numbers bytes n =
+    record {
+      numbers-kept = refl;
+      bytes-kept = refl;
+      behind = λ l m before c w. rw (append-nil before) w;
+    }
+
+module _ (numbers bytes : List ℕ) (n kind number offset size : ℕ) where
+  pub puts-noted : {numbers′ bytes′ : List ℕ} → numbers′ ≡ written numbers (4 * n) (kind ∷ number ∷ offset ∷ size ∷ []) → bytes′ ≡ written bytes (16 * n) (bytesOf (kind ∷ number ∷ offset ∷ size ∷ []))
+      → Puts numbers bytes n (noted kind number offset size ∷ []) numbers′ bytes′
+  unfolding eventNumbers
+  puts-noted {numbers′} {bytes′} e f =
+      let same = written-keeps numbers (4 * n) (kind ∷ number ∷ offset ∷ size ∷ []) e in
+      let same-bytes = written-keeps bytes (16 * n) (bytesOf (kind ∷ number ∷ offset ∷ size ∷ [])) f in
+      record {
+        numbers-kept = same;
+        bytes-kept = same-bytes;
+        behind = λ l m before c w.
+            record {
+              numbers-kept = same ∙ w .numbers-kept;
+              bytes-kept = same-bytes ∙ w .bytes-kept;
+              numbers-hold = rw e (events-more l numbers before (noted kind number offset size ∷ []) n c (w .numbers-hold));
+              bytes-hold = rw f (event-bytes-more m bytes before (noted kind number offset size ∷ []) n c (w .bytes-hold));
+            };
+      }
+
+pub puts-more : {a b a′ b′ a″ b″ : List ℕ} {n : ℕ} {ev fv : List Event} → Puts a b n ev a′ b′ → Puts a′ b′ (n + length ev) fv a″ b″ → Puts a b n (ev ++ fv) a″ b″
+puts-more {n = n} {ev} {fv} p q =
+    record {
+      numbers-kept = q .numbers-kept ∙ p .numbers-kept;
+      bytes-kept = q .bytes-kept ∙ p .bytes-kept;
+      behind = λ l m before c w.
+          let sizes = length-append before ev in
+          rw (sym (append-assoc before ev fv)) (q .behind l m (before ++ ev) (omega arith) (p .behind l m before c w));
+    }
+
+-- The same where the second count is another expression of the same number.
+pub puts-then : {a b a′ b′ a″ b″ : List ℕ} {n m : ℕ} {ev fv : List Event} → Puts a b n ev a′ b′ → m ≡ n + length ev → Puts a′ b′ m fv a″ b″ → Puts a b n (ev ++ fv) a″ b″
+puts-then p e q = puts-more p (rw e at q)

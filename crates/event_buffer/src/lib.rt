@@ -1,10 +1,10 @@
-// The lent buffer: the events of a token are written behind those before, or all of it is zeroed.
+// The lent buffers: an event is written behind those before, or all of a buffer is zeroed.
 ghost use mathlib.Core.Path.{_≡_};
 ghost use mathlib.Core.List.{_∷_, []};
 ghost use Prim.Native.Nat.{_+_, _*_, _≤_, _<_};
 ghost use lib.ListN.{length, take, replicate};
 ghost use Rattle.rules.specs.Judge.{bytesOf};
-ghost use Rattle.event_buffer.specs.Means.{written};
+ghost use Rattle.event_buffer.specs.Means.{written, noted, Puts};
 
 // How many numbers an event has.
 const WIDTH: usize = 4;
@@ -58,6 +58,56 @@ pub fn put_bytes(buffer: &mut [u8], count: usize, events: &[u32; 200], n: usize)
             k += WIDTH;
         }
     }
+}
+
+// The four numbers of an event, after n events, if they fit.
+fn note_numbers(buffer: &mut [u32], n: usize, kind: u32, element: u32, at: u32, size: u32)
+    requires { ⌜ n < 4294967296 ⌝ }
+    ensures { λ _. ⌜ now (buffer .exit) ≡ written (now (buffer .entry)) (4 * n) (kind ∷ element ∷ at ∷ size ∷ []) ⌝ }
+{
+    let i = WIDTH * n;
+    if i + WIDTH <= buffer.len() {
+        buffer[i] = kind;
+        buffer[i + 1] = element;
+        buffer[i + 2] = at;
+        buffer[i + 3] = size;
+    }
+}
+
+// The same to a buffer of bytes: a number as four, low byte first.
+fn note_bytes(buffer: &mut [u8], n: usize, kind: u32, element: u32, at: u32, size: u32)
+    requires { ⌜ n < 4294967296 ⌝ }
+    ensures { λ _. ⌜ now (buffer .exit) ≡ written (now (buffer .entry)) (16 * n) (bytesOf (kind ∷ element ∷ at ∷ size ∷ [])) ⌝ }
+{
+    let i = 4 * WIDTH * n;
+    if i + 4 * WIDTH <= buffer.len() {
+        put_number(buffer, i, kind);
+        put_number(buffer, i + 4, element);
+        put_number(buffer, i + 8, at);
+        put_number(buffer, i + 12, size);
+    }
+}
+
+// An event, after n others, to each buffer that it fits whole. What a buffer holds that is too small for all events is not decided;
+// it keeps its length.
+pub fn put_event(
+    numbers: &mut [u32],
+    bytes: &mut [u8],
+    n: usize,
+    kind: u32,
+    element: usize,
+    at: usize,
+    size: usize,
+) -> usize
+    requires { ⌜ (n < 4294967296) × (element < 4294967296) × (at < 4294967296) × (size < 4294967296) ⌝ }
+    ensures { λ r. ⌜ (r ≡ n + 1) × Puts (now (numbers .entry)) (now (bytes .entry)) n (noted kind element at size ∷ []) (now (numbers .exit)) (now (bytes .exit)) ⌝ }
+{
+    let e = element as u32;
+    let i = at as u32;
+    let k = size as u32;
+    note_numbers(numbers, n, kind, e, i, k);
+    note_bytes(bytes, n, kind, e, i, k);
+    n + 1
 }
 
 // Every number of the buffer is 0.
