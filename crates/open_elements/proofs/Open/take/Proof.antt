@@ -1,8 +1,8 @@
 -- `take` meets its contract: the marks are what the rows have after the place.
-use borrow.Author.Needs.{needs}
 use Rattle.open_elements.specs.Laws.{took-by}
-use Rattle.open_elements.proofs.Top.take.Statement.{statement}
-use Rattle.open_elements.proofs.Top.take.Tie as tie
+use borrow.Author.Needs.{needs}
+use Rattle.open_elements.proofs.Open.take.Statement.{statement}
+use Rattle.open_elements.proofs.Open.take.Tie as tie
 
 complete-requires : tie.Need-complete-requires
 complete-requires c κs = search needs

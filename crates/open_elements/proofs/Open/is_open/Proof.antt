@@ -6,9 +6,9 @@ use native.Mathlib.Omega.{arith}
 use borrow.Author.Needs.{needs}
 use Rattle.rules.specs.Settling.{isOpen}
 use Rattle.open_elements.specs.Laws.{open-here, open-past, open-none, open-entry, open-further}
-use Rattle.open_elements.specs.Means.{openOf, aroundOf, current}
-use Rattle.open_elements.proofs.is_open.Statement.{statement}
-use Rattle.open_elements.proofs.is_open.Tie as tie
+use Rattle.open_elements.specs.Means.{aroundOf, current, around}
+use Rattle.open_elements.proofs.Open.is_open.Statement.{statement}
+use Rattle.open_elements.proofs.Open.is_open.Tie as tie
 
 abbrev Inv-loop : tie.InvT-loop
 Inv-loop x around i₀ i = (i ≤ i₀) × (isOpen x (aroundOf around i₀) ≡ isOpen x (aroundOf around i))
@@ -18,9 +18,9 @@ abbrev μ-loop : tie.MeasureT-loop
 
 -- the current element is another
 past : (p : tie.At-loop Inv-loop μ-loop) →
-    let a = p .before .before .before .args in
-    isOpen (a .x) (current (openOf (a .t1) (a .top)) ∷ aroundOf (a .t1) (a .top .count)) ≡ isOpen (a .x) (aroundOf (a .t1) (p .loop .i))
-past p = open-past _ _ _ (p .before .if1 .left) ∙ p .loop .inv .1
+    let a = p .before .before .before .before .args in
+    isOpen (a .x) (current (a .self) ∷ around (a .self)) ≡ isOpen (a .x) (aroundOf (a .self .around) (p .loop .i))
+past p = open-past _ _ _ (p .before .before .if1 .left) ∙ p .loop .inv .1
 
 returns : tie.Need-returns Inv-loop μ-loop
 returns c = sym (open-here _ _ _ (c .if1 .taken))
@@ -43,8 +43,8 @@ wide-requires c κs = search needs
 returns-2 : tie.Need-returns-2 Inv-loop μ-loop
 returns-2 c =
     let p = c .before .before .before .before in
-    let a = p .before .before .before .args in
-    sym (past p ∙ open-entry (a .x) (a .t1) (p .loop .i) (omega arith) (sym (c .before .wide .ensures) ∙ c .if2 .taken))
+    let a = p .before .before .before .before .args in
+    sym (past p ∙ open-entry (a .x) (a .self .around) (p .loop .i) (omega arith) (sym (c .before .wide .ensures) ∙ c .if2 .taken))
 
 loop-less : tie.Need-loop-less Inv-loop μ-loop
 loop-less c = search needs
@@ -52,13 +52,13 @@ loop-less c = search needs
 loop-again : tie.Need-loop-again Inv-loop μ-loop
 loop-again c =
     let p = c .before .before .before .before in
-    let a = p .before .before .before .args in
-    (omega arith, p .loop .inv .1 ∙ open-further (a .x) (a .t1) (p .loop .i) (omega arith) (λ e. c .if2 .left (c .before .wide .ensures ∙ e)))
+    let a = p .before .before .before .before .args in
+    (omega arith, p .loop .inv .1 ∙ open-further (a .x) (a .self .around) (p .loop .i) (omega arith) (λ e. c .if2 .left (c .before .wide .ensures ∙ e)))
 
 returns-3 : tie.Need-returns-3 Inv-loop μ-loop
 returns-3 c =
     let p = c .before in
-    let a = p .before .before .before .args in
+    let a = p .before .before .before .before .args in
     let e : p .loop .i ≡ 0 = omega arith in
     sym (past p ∙ rw (e, open-none))
 
