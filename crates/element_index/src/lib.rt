@@ -6,14 +6,13 @@ ghost use mathlib.Core.Path.{_≡_};
 ghost use mathlib.Core.List.{List};
 ghost use Prim.Native.Nat.{_+_, _-_, _*_, _≤_, _<_};
 ghost use lib.ListN.{length, getD, replicate};
-ghost use mathlib.Core.Bool.{true};
-ghost use Rattle.rules.specs.Bytes.{byteAt, letter, sameText};
+ghost use Rattle.rules.specs.Bytes.{byteAt, sameText};
 ghost use Rattle.rules.specs.TypeFile.{Element};
 ghost use Rattle.rules.specs.Judge.{Accepts};
 ghost use Rattle.rules.specs.Settling.{numberOf};
 ghost use Rattle.rules.specs.Lookup.{compared};
 ghost use Rattle.element_reader.specs.Means.{Recorded};
-ghost use Rattle.element_index.specs.Means.{Judged, bucketOf, Indexed, AnyIndexed, putIn};
+ghost use Rattle.element_index.specs.Means.{Judged, bucketOf, follows, Indexed, putIn};
 
 fn wide(b: u8) -> usize
     ensures { λ r. ⌜ (r ≡ b) × (r < 256) ⌝ }
@@ -69,8 +68,23 @@ pub struct Found {
     pub compared: usize,
 }
 
-// Which element has the name of this size at `at` of t, which lies within t and begins with a letter. The type file is s. Only names of the
-// same length and first letter are compared, in declaration order, up to the one that is found.
+// Whether the element k comes behind the one before it, and a name of this size stands in s where its record says. In the index of a type
+// it does. Where the tables hold anything else, a search still ends and stays within them.
+fn comes_next(s: &[u8], elements: &[u32; 384], before: usize, k: usize, size: usize) -> bool
+    requires { ⌜ size ≤ 8 ⌝ }
+    ensures { λ r. ⌜ r ≡ follows (now (s .entry)) (now (elements .entry)) before k size ⌝ }
+{
+    if k <= before {
+        return false;
+    }
+    if 64 < k {
+        return false;
+    }
+    offset(elements, k) + size <= s.len()
+}
+
+// Which element has the name of this size at `at` of t, which lies within t. The type file is s. Only names of the same length and first
+// letter are compared, in declaration order, up to the one that is found.
 pub fn find(
     s: &[u8],
     elements: &[u32; 384],
@@ -79,15 +93,22 @@ pub fn find(
     at: usize,
     size: usize,
 ) -> Found
-    requires { ⌜ AnyIndexed (now s) (now elements) (now index) ⌝ }
-    requires { ⌜ (1 ≤ size) × (size ≤ 8) × (at + size ≤ length (now t)) × (letter (byteAt (now t) at) ≡ true) ⌝ }
+    requires { ⌜ (1 ≤ size) × (size ≤ 8) × (at + size ≤ length (now t)) ⌝ }
     ensures { λ r. ⌜ ((es : List Element) → Indexed (now (s .entry)) es (now (elements .entry)) (now (index .entry)) →
         (r .element ≡ numberOf (now (s .entry)) es (now (t .entry)) at size) × (r .compared ≡ compared (now (s .entry)) es (now (t .entry)) at size)) ⌝ }
     ensures { λ r. ⌜ (r .element ≤ 64) × (r .compared ≤ 64) ⌝ }
 {
-    let mut k = wide(index[bucket(text::byte(t, at), size)]);
+    let first = text::byte(t, at);
+    if !text::is_letter(first) {
+        return Found {
+            element: 0,
+            compared: 0,
+        };
+    }
+    let mut before = 0;
+    let mut k = wide(index[bucket(first, size)]);
     let mut n = 0;
-    while k != 0 {
+    while comes_next(s, elements, before, k, size) {
         if same_name(s, offset(elements, k), t, at, size) {
             return Found {
                 element: k,
@@ -95,6 +116,7 @@ pub fn find(
             };
         }
         n += 1;
+        before = k;
         k = wide(index[k]);
     }
     Found {
