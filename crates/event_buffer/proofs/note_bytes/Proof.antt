@@ -4,7 +4,8 @@ use mathlib.Core.Path.{sym}
 use mathlib.Core.List.{_∷_, []}
 use native.Mathlib.Omega.{arith}
 use Rattle.rules.specs.Judge.{bytesOf}
-use Rattle.event_buffer.specs.Laws.{four-numbers-stored, written-not}
+use Rattle.numbers.specs.Laws.{written-not}
+use Rattle.event_buffer.specs.Laws.{four-numbers-stored}
 use borrow.Author.Needs.{needs}
 use Rattle.event_buffer.proofs.note_bytes.Statement.{statement}
 use Rattle.event_buffer.proofs.note_bytes.Tie as tie

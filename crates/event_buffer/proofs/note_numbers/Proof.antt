@@ -4,7 +4,7 @@ use mathlib.Core.Path.{sym, _∙_}
 use mathlib.Core.List.{_∷_, []}
 use native.Mathlib.Omega.{arith}
 use lib.ListN.{length-set}
-use Rattle.event_buffer.specs.Laws.{four-stored, written-fits, written-not}
+use Rattle.numbers.specs.Laws.{four-stored, written-fits, written-not}
 use borrow.Author.Needs.{needs}
 use Rattle.event_buffer.proofs.note_numbers.Statement.{statement}
 use Rattle.event_buffer.proofs.note_numbers.Tie as tie
