@@ -71,12 +71,15 @@ pub around-none : (o : Open) → o .count ≡ 0 → around o ≡ []
 around-none o e = rw e
 
 -- Of each open element the state has the last place only.
-standing-last : (e u : ℕ) → lastOnly (standing e u) ≡ standing e u
+pub standing-last : (e u : ℕ) → lastOnly (standing e u) ≡ standing e u
 standing-last e u = ap (standing e) (last-placed u)
 
 aroundOf-last : (a : List Entry) (n : ℕ) → allLast (aroundOf a n) ≡ aroundOf a n
 aroundOf-last a zero = refl
 aroundOf-last a (suc n) = rw (standing-last (getD a n none .element) (getD a n none .place), aroundOf-last a n)
+
+pub around-last : (o : Open) → allLast (around o) ≡ around o
+around-last o = aroundOf-last (o .around) (o .count)
 
 pub stateOf-short : (o : Open) (ev : List Event) → short (stateOf o ev) ≡ stateOf o ev
 stateOf-short o ev = rw (standing-last (o .element) (o .place), aroundOf-last (o .around) (o .count))
