@@ -15,19 +15,18 @@ use Rattle.rules.specs.Settling as rules
 use Rattle.document_laws.specs.Decide.{fitsIn, decided}
 use Rattle.document_laws.specs.Chain.{chain-leads}
 use Rattle.type_laws.specs.Width.{typeFile-width}
-use Rattle.last_places.specs.Last.{short, shortly}
+use Rattle.last_places.specs.Last.{short}
 use Rattle.last_places.specs.Short.{state, allLast-length, lastOnly-took, takePlace-short, fitting-short}
 use Rattle.type_tables.specs.Means.{width}
 use Rattle.type_tables.specs.Search.{search-most}
 use Rattle.open_elements.specs.declared.Open.{Open}
-use Rattle.open_elements.specs.Means.{current, around, stateOf}
-use Rattle.open_elements.specs.Whole.{took}
-use Rattle.open_elements.specs.Laws.{around-length}
-use Rattle.settling.specs.declared.Way.{Way}
-use Rattle.settling.specs.declared.Way.the-variants.{Taken, Inferred, Stuck}
-use Rattle.settling.specs.Means.{wayOf, chained, inferMany, Infers}
-use Rattle.settling.specs.Chains.{chain-most}
-use Rattle.settling.specs.Starts.{around-short, chain-infers, chain-starts}
+use Rattle.open_elements.specs.Means.{current, around, stateOf, took}
+use Rattle.open_elements.specs.Laws.{around-length, around-last}
+use Rattle.ways.specs.declared.Way.{Way}
+use Rattle.ways.specs.declared.Way.the-variants.{Taken, Inferred, Stuck}
+use Rattle.ways.specs.Means.{wayOf, chained}
+use Rattle.settling.specs.Means.{inferMany, Infers}
+use Rattle.settling.specs.Starts.{chain-infers, chain-starts}
 
 -- The place as which a token fits is one of the model's.
 pub fits-most : (s : List ℕ) (es : List Element) → Accepts s es → (k : ℕ) (taken : List ℕ) (t : Token) → decided s es .fits k taken t ≤ width es k
@@ -59,14 +58,14 @@ module _ (s : List ℕ) (es : List Element) (t : Token) where
       by-fit (suc f) c e = rw (le-leb 1 (suc f) (omega arith))
 
   -- As many starts as are found can be inferred.
-  pub way-infers : (n : ℕ) (o : rules.Open) → Inferred n ≡ wayOf (fitting s es (decided s es) o t) (chained s es t o) → Infers s es n o × (n ≤ length es)
+  pub way-infers : (n : ℕ) (o : rules.Open) → Inferred n ≡ wayOf (fitting s es (decided s es) o t) (chained s es t o) → Infers s es t n o
   way-infers n o = by-fit (fitting s es (decided s es) o t) (chain s es (decided s es) (length es) t o) refl
     where
-      by-fit : (f : ℕ) (c : List ℕ) → chain s es (decided s es) (length es) t o ≡ c → Inferred n ≡ wayOf f (length c) → Infers s es n o × (n ≤ length es)
+      by-fit : (f : ℕ) (c : List ℕ) → chain s es (decided s es) (length es) t o ≡ c → Inferred n ≡ wayOf f (length c) → Infers s es t n o
       by-fit zero [] e w = absurd (let z : _≡_ {A = ℕ} 0 1 = cc in omega arith)
       by-fit zero (k ∷ ks) e w =
           let i : n ≡ length (k ∷ ks) = cc in
-          rw i (chain-infers s es t (k ∷ ks) o (chain-leads s es (decided s es) t (length es) o k ks e), omega (arith, chain-most s es t (length es) o, ap length e))
+          rw i (chain-infers s es t (k ∷ ks) o (chain-leads s es (decided s es) t (length es) o k ks e))
       by-fit (suc f) c e w = absurd (let z : _≡_ {A = ℕ} 0 1 = cc in omega arith)
 
 -- The limit
@@ -81,14 +80,18 @@ limited-many at z l = rw (lt-ltb 24 (length (z .around)) l, limited)
 
 -- The state of the code, where z is the rules' state
 module _ (o : Open) (ev : List Event) (z : State) (same : short z ≡ stateOf o ev) where
-  pub same-deep : length (z .around) ≡ o .top .count
+  pub same-deep : length (z .around) ≡ o .count
   same-deep = sym (allLast-length (z .around)) ∙ ap (λ (y : State). length (y .around)) same ∙ around-length o
 
   pub same-fits : (s : List ℕ) (es : List Element) (t : Token) → fitting s es (decided s es) (z .current) t ≡ fitting s es (decided s es) (current o) t
   same-fits s es t = fitting-short s es (z .current) t ∙ ap (λ (y : State). fitting s es (decided s es) (y .current) t) same
 
-  -- A place is taken where at most 24 are open.
-  pub same-took : (rows : List ℕ) (at p : ℕ) → o .top .count ≤ 24 → shortly (limited at (takePlace p z)) ≡ got (stateOf (took rows p o) ev)
-  same-took rows at p l =
-      ap shortly (limited-few at (takePlace p z) (omega (arith, same-deep)))
-      ∙ ap got (takePlace-short p z ∙ ap (λ (y : State). short (takePlace p y)) same ∙ ap₂ (λ u us. state u us ev) (lastOnly-took (current o) p) (around-short o))
+  -- A place is taken.
+  pub same-took : (rows : List ℕ) (p : ℕ) → short (takePlace p z) ≡ stateOf (took rows p o) ev
+  same-took rows p = takePlace-short p z ∙ ap (λ (y : State). short (takePlace p y)) same ∙ ap₂ (λ u us. state u us ev) (lastOnly-took (current o) p) (around-last o)
+
+-- The token fits as a place, which is the one that is found.
+pub way-fits : (p f n : ℕ) → Taken p ≡ wayOf f n → (p ≡ f) × (p ≡ 0 → ⊥)
+way-fits p zero zero e = absurd (let z : _≡_ {A = ℕ} 0 1 = cc in omega arith)
+way-fits p zero (suc n) e = absurd (let z : _≡_ {A = ℕ} 0 1 = cc in omega arith)
+way-fits p (suc f) n e = let i : p ≡ suc f = cc in (i, λ z. omega arith)
