@@ -5,9 +5,9 @@ use native.Mathlib.Omega.{arith}
 use borrow.Author.Needs.{needs}
 use Rattle.rules.specs.TypeFile.{element}
 use Rattle.text.specs.Laws.{nameEnd-from, nameEnd-le}
-use Rattle.type_judge.specs.Laws.{step-refused, step-back, keyword-long, keyword-element, keyword-other}
-use Rattle.type_judge.proofs.keyword_at.Statement.{statement}
-use Rattle.type_judge.proofs.keyword_at.Tie as tie
+use Rattle.type_file.specs.Declarations.{step-refused, step-back, keyword-long, keyword-element, keyword-other}
+use Rattle.type_file.proofs.keyword_at.Statement.{statement}
+use Rattle.type_file.proofs.keyword_at.Tie as tie
 
 add-name-end : tie.Need-add-name-end
 add-name-end c = omega arith

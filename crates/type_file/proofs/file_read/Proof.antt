@@ -4,10 +4,10 @@ use native.Mathlib.Omega.{arith}
 use lib.ListN.{length}
 use borrow.Author.Needs.{needs}
 use Rattle.rules.specs.TypeFile.{declaration}
-use Rattle.type_judge.specs.Means.{MeetsStep}
-use Rattle.type_judge.specs.Laws.{ReadsOn, reads-start, reads-none, reads-end, reads-refused, reads-turn}
-use Rattle.type_judge.proofs.file_read.Statement.{statement}
-use Rattle.type_judge.proofs.file_read.Tie as tie
+use Rattle.element_records.specs.Progress.{MeetsStep}
+use Rattle.type_file.specs.Turns.{ReadsOn, reads-start, reads-none, reads-end, reads-refused, reads-turn}
+use Rattle.type_file.proofs.file_read.Statement.{statement}
+use Rattle.type_file.proofs.file_read.Tie as tie
 
 abbrev Inv-loop : tie.InvT-loop
 Inv-loop s elements₀ names₀ table₀ p₀ elements names table p = (length s ≤ 32768) × ReadsOn s elements p

@@ -8,10 +8,10 @@ use borrow.Author.Needs.{needs}
 use Rattle.rules.specs.Reading.{got}
 use Rattle.rules.specs.TypeFile.{Element, Declared, element}
 use Rattle.element_reader.specs.Means.{KeepsElement, MeetsElement}
-use Rattle.type_judge.specs.Means.{KeepsProgress}
-use Rattle.type_judge.specs.Laws.{element-refused, element-kept, element-fits, element-places, element-step}
-use Rattle.type_judge.proofs.element_at.Statement.{statement}
-use Rattle.type_judge.proofs.element_at.Tie as tie
+use Rattle.element_records.specs.Progress.{KeepsProgress}
+use Rattle.element_records.specs.Declaration.{element-refused, element-kept, element-fits, element-places, element-step}
+use Rattle.element_records.proofs.element_at.Statement.{statement}
+use Rattle.element_records.proofs.element_at.Tie as tie
 
 -- What the element reader says of the elements before.
 read : (c : tie.After-element-at) →

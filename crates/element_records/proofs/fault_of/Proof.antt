@@ -1,6 +1,6 @@
 use borrow.Author.Needs.{needs}
-use Rattle.type_judge.proofs.fault_of.Statement.{statement}
-use Rattle.type_judge.proofs.fault_of.Tie as tie
+use Rattle.element_records.proofs.fault_of.Statement.{statement}
+use Rattle.element_records.proofs.fault_of.Tie as tie
 
 enum-told : tie.Need-enum-told
 enum-told c = search needs

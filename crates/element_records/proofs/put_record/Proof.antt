@@ -1,10 +1,10 @@
 -- `put_record` meets its contract: the table has room for the six numbers, and they are written behind those of the elements before.
 use Prim.Native.Nat.{_+_, _*_}
 use native.Mathlib.Omega.{arith}
-use Rattle.type_judge.specs.Laws.{put-six}
+use Rattle.element_records.specs.Records.{put-six}
 use borrow.Author.Needs.{needs}
-use Rattle.type_judge.proofs.put_record.Statement.{statement}
-use Rattle.type_judge.proofs.put_record.Tie as tie
+use Rattle.element_records.proofs.put_record.Statement.{statement}
+use Rattle.element_records.proofs.put_record.Tie as tie
 
 whole-requires : tie.Need-whole-requires
 whole-requires c κs = search needs

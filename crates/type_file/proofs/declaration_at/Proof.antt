@@ -3,9 +3,9 @@ use Prim.Native.Nat.{_+_}
 use mathlib.Core.Path.{sym, _∙_}
 use native.Mathlib.Omega.{arith}
 use Rattle.text.specs.Laws.{byte-is-in}
-use Rattle.type_judge.specs.Laws.{step-refused, declaration-markup, declaration-instruction, declaration-tag, declaration-reference, declaration-other}
-use Rattle.type_judge.proofs.declaration_at.Statement.{statement}
-use Rattle.type_judge.proofs.declaration_at.Tie as tie
+use Rattle.type_file.specs.Declarations.{step-refused, declaration-markup, declaration-instruction, declaration-tag, declaration-reference, declaration-other}
+use Rattle.type_file.proofs.declaration_at.Statement.{statement}
+use Rattle.type_file.proofs.declaration_at.Tie as tie
 
 byte-requires : tie.Need-byte-requires
 byte-requires c κs = tt

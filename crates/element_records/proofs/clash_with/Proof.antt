@@ -1,9 +1,9 @@
 -- `clash_with` meets its contract: a pair found before stays, EMPTY has none, and the search finds the first of a model.
 use Prim.Native.Nat.{_≤_, _<_}
 use native.Mathlib.Omega.{arith}
-use Rattle.type_judge.specs.Laws.{pending-kept, pending-clear, pending-first, content-empty, content-none, content-pair, answer-in}
-use Rattle.type_judge.proofs.clash_with.Statement.{statement}
-use Rattle.type_judge.proofs.clash_with.Tie as tie
+use Rattle.element_records.specs.Clashes.{pending-kept, pending-clear, pending-first, content-empty, content-none, content-pair, answer-in}
+use Rattle.element_records.proofs.clash_with.Statement.{statement}
+use Rattle.element_records.proofs.clash_with.Tie as tie
 
 returns : tie.Need-returns
 returns c es x h k = pending-kept _ _ _ _ (c .if1 .taken) h

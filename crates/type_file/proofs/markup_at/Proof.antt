@@ -4,9 +4,9 @@ use mathlib.Core.Path.{sym, _∙_}
 use native.Mathlib.Omega.{arith}
 use borrow.Author.Needs.{needs}
 use Rattle.text.specs.Laws.{byte-is-in}
-use Rattle.type_judge.specs.Laws.{step-refused, step-onward, markup-none, markup-dash, markup-comment, markup-section, markup-keyword, markup-other, comment-refused, comment-onward}
-use Rattle.type_judge.proofs.markup_at.Statement.{statement}
-use Rattle.type_judge.proofs.markup_at.Tie as tie
+use Rattle.type_file.specs.Declarations.{step-refused, step-onward, markup-none, markup-dash, markup-comment, markup-section, markup-keyword, markup-other, comment-refused, comment-onward}
+use Rattle.type_file.proofs.markup_at.Statement.{statement}
+use Rattle.type_file.proofs.markup_at.Tie as tie
 
 add-byte : tie.Need-add-byte
 add-byte c = omega arith
