@@ -1,18 +1,19 @@
 -- The three demands of paper 01 on the type judge and on the document reader, in a page. Read this first, then Words for the words in it, then
--- the rules of crates/rules. The calls promise `Judged`, `JudgedBytes`, `ReadAs` and `ReadAsBytes`; here stands what every answer that
--- keeps such a promise has. That the code keeps them is the contract of each call; that it ends and stays in its buffers is checked with it.
+-- the rules of crates/rules. The calls promise `Judged` and `ReadAs`, of a lent buffer of numbers or of bytes; here stands what every answer
+-- that keeps such a promise has. That the code keeps them is the contract of each call; that it ends and stays in its buffers is checked with it.
 use Prim.Native.Nat.{ℕ, _*_, _<_, _≤_}
 use mathlib.Core.Path.{_≡_}
 use mathlib.Core.Logic.{_⊎_, _↔_}
 use mathlib.Core.List.{List}
 use lib.ListN.{length}
+use Rattle.rules.specs.Lent.{Lent, room}
 use Rattle.rules.specs.Reading.{Reading, got}
 use Rattle.rules.specs.TypeFile.{Element, typeFile}
-use Rattle.rules.specs.Judge.{Answer, Legible, Refuses, Accepts}
+use Rattle.rules.specs.Judge.{Answer, Legible, Refuses, Accepts, Judged}
 use Rattle.rules.specs.Settling.{Event, State}
-use Rattle.rules.specs.Reader.{BothLegible, Reads, RefusesBoth}
+use Rattle.rules.specs.Reader.{BothLegible, Reads, RefusesBoth, ReadAs}
 use Rattle.document_laws.specs.Same.{Passes}
-use Rattle.demands.specs.Words.{Lent, Promise, room, Refusal, Acceptance, SomeAmbiguous, NamesFirst, NamesDecide, ReaderPromise, ReaderRefusal, ReaderAcceptance, SameVerdict}
+use Rattle.demands.specs.Words.{Refusal, Acceptance, SomeAmbiguous, NamesFirst, NamesDecide, ReaderRefusal, ReaderAcceptance, SameVerdict}
 use Rattle.demands.specs.Kept as kept
 
 -- The judge, lent `before`, answers a to the type file s and leaves `after`.
@@ -49,7 +50,7 @@ pub record ReaderKeeps (l : Lent) (s d before : List ℕ) (a : Answer) (after : 
   pub ambiguous-named : a .number ≡ 9 → NamesFirst s a
   pub names-decide : BothLegible s d → (a .number ≡ 9 → ⊥) → (es : List Element) → typeFile s ≡ got es → NamesDecide s es
 
-pub judge-keeps : (l : Lent) (s before : List ℕ) (a : Answer) (after : List ℕ) → Promise l s before a after → JudgeKeeps l s before a after
+pub judge-keeps : (l : Lent) (s before : List ℕ) (a : Answer) (after : List ℕ) → Judged l s before a after → JudgeKeeps l s before a after
 judge-keeps l s before a after p =
     record {
       refusal-whole = kept.refusal-whole l s before a after p;
@@ -64,7 +65,7 @@ judge-keeps l s before a after p =
       names-decide = kept.names-decide l s before a after p;
     }
 
-pub reader-keeps : (l : Lent) (s d before : List ℕ) (a : Answer) (after : List ℕ) → ReaderPromise l s d before a after → ReaderKeeps l s d before a after
+pub reader-keeps : (l : Lent) (s d before : List ℕ) (a : Answer) (after : List ℕ) → ReadAs l s d before a after → ReaderKeeps l s d before a after
 reader-keeps l s d before a after p =
     record {
       refusal-whole = kept.reader-refusal-whole l s d before a after p;
@@ -80,10 +81,10 @@ reader-keeps l s d before a after p =
     }
 
 -- The rules decide one answer of each call, and what the buffer holds after.
-pub judged-one : (l : Lent) (s before : List ℕ) (a b : Answer) (after other : List ℕ) → Promise l s before a after → Promise l s before b other → (a ≡ b) × (after ≡ other)
+pub judged-one : (l : Lent) (s before : List ℕ) (a b : Answer) (after other : List ℕ) → Judged l s before a after → Judged l s before b other → (a ≡ b) × (after ≡ other)
 judged-one = kept.judged-one
 
-pub read-one : (l : Lent) (s d before : List ℕ) (a b : Answer) (after other : List ℕ) → ReaderPromise l s d before a after → ReaderPromise l s d before b other → (a ≡ b) × (after ≡ other)
+pub read-one : (l : Lent) (s d before : List ℕ) (a b : Answer) (after other : List ℕ) → ReadAs l s d before a after → ReadAs l s d before b other → (a ≡ b) × (after ≡ other)
 read-one = kept.read-one
 
 -- Demand 2: under an accepted type every document has a reading, and only one.
@@ -96,5 +97,5 @@ pub few-open : (s d : List ℕ) (es : List Element) (r : Reading (List Event)) (
 few-open = kept.few-open
 
 -- Demand 3: "type judge and reader refuse a type as ambiguous" alike, and in all else about the type.
-pub same-verdict : (l m : Lent) (s d before other : List ℕ) (a b : Answer) (after left : List ℕ) → Promise l s before a after → ReaderPromise m s d other b left → BothLegible s d → SameVerdict a b
+pub same-verdict : (l m : Lent) (s d before other : List ℕ) (a b : Answer) (after left : List ℕ) → Judged l s before a after → ReadAs m s d other b left → BothLegible s d → SameVerdict a b
 same-verdict = kept.same-verdict

@@ -1,39 +1,26 @@
 -- The demands proved, one theorem each: Demands has them together, to be read first.
-use Prim.Native.Nat.{ℕ, _*_, _/_, _<_, _≤_}
+use Prim.Native.Nat.{ℕ, _*_, _<_, _≤_}
 use mathlib.Core.Path.{_≡_, refl, sym}
 use mathlib.Core.Logic.{_⊎_, _↔_}
-use mathlib.Core.List.{List, _++_, List·Memᴰ}
+use mathlib.Core.List.{List, List·Memᴰ}
 use native.Mathlib.Omega.{arith}
-use lib.ListN.{length, drop, replicate, length-replicate}
+use lib.ListN.{length}
+use Rattle.rules.specs.Lent.{Lent, room}
 use Rattle.rules.specs.Reading.{Reading, got}
 use Rattle.rules.specs.Walk.{Group, Begins}
 use Rattle.rules.specs.Ambiguity.{SpellSame, Ambiguous, PairAtFault}
 use Rattle.rules.specs.TypeFile.{Place, model, Element, typeFile}
-use Rattle.rules.specs.Judge.{samePlace, Answer, acceptance, FirstAmbiguous, records, bytesOf, Legible, Refuses, noRoom, Accepts, Judged, JudgedBytes}
+use Rattle.rules.specs.Judge.{samePlace, Answer, acceptance, FirstAmbiguous, Legible, Refuses, noRoom, Accepts, Judged, refuses, accepts}
 use Rattle.rules.specs.Settling.{Event, State}
-use Rattle.rules.specs.Reader.{eventNumbers, BothLegible, Reads, RefusesBoth, ReadAs, ReadAsBytes}
+use Rattle.rules.specs.Reader.{BothLegible, Reads, RefusesBoth, ReadAs}
 use Rattle.document_laws.specs.Same.{Passes, passes-few}
-use Rattle.demands.specs.Words.{Lent, numbers, bytes, Promise, room, filled, Refusal, Acceptance, SomeAmbiguous, NamesFirst, NamesDecide, ReaderPromise, noted, ReaderRefusal, ReaderAcceptance, SameVerdict}
-use Rattle.demands.specs.Proofs.{Settled, refuses, accepts, settled-one, settled-refuses, settled-accepts, settled-fair, settled-faulty, refuses-named, refuses-some, settled-nine, settled-nineteen, first-model, model-exactly, not-ambiguous, names-alone, settled-length, numbers-kept, bytes-kept}
-use Rattle.demands.specs.ReaderProofs.{Given, from-numbers, from-bytes, to-numbers, to-bytes, numbers-one, bytes-one, reading-one, both-says, both-some, given-nine, given-nineteen, type-refused, given-refuses, given-accepts, given-faulty, given-fair, given-length, events-kept, event-bytes-kept}
+use Rattle.demands.specs.Words.{Refusal, Acceptance, SomeAmbiguous, NamesFirst, NamesDecide, ReaderRefusal, ReaderAcceptance, SameVerdict}
+use Rattle.demands.specs.Proofs.{settled-one, settled-refuses, settled-accepts, settled-fair, settled-faulty, refuses-named, refuses-some, settled-nine, settled-nineteen, first-model, model-exactly, not-ambiguous, names-alone, settled-length}
+use Rattle.demands.specs.ReaderProofs.{given-one, reading-one, both-says, both-some, given-nine, given-nineteen, type-refused, given-refuses, given-accepts, given-faulty, given-fair, given-length}
 
 -- The type judge
 
--- What the proofs take both promises for.
-settled : (l : Lent) (s before : List ℕ) (a : Answer) (after : List ℕ) → Promise l s before a after → Settled s (room l before) (replicate (length before) 0) (filled l before) a after
-settled numbers s before a after (Judged.refuses r z) = refuses r z
-settled numbers s before a after (Judged.accepts es w f e z) = accepts es w f e z
-settled bytes s before a after (JudgedBytes.refuses r z) = refuses r z
-settled bytes s before a after (JudgedBytes.accepts es w f e z) = accepts es w f e z
-
-filled-length : (l : Lent) (before : List ℕ) (es : List Element) → 6 * length es ≤ room l before → length (filled l before es) ≡ length before
-filled-length numbers before es = numbers-kept es before
-filled-length bytes before es = bytes-kept es before
-
-module _ (l : Lent) (s before : List ℕ) (a : Answer) (after : List ℕ) (judged : Promise l s before a after) where
-  promised : Settled s (room l before) (replicate (length before) 0) (filled l before) a after
-  promised = settled l s before a after judged
-
+module _ (l : Lent) (s before : List ℕ) (a : Answer) (after : List ℕ) (promised : Judged l s before a after) where
   -- Demand 1.
 
   pub refusal-whole : (a .number ≡ 0 → ⊥) → Refusal s before a after
@@ -43,7 +30,7 @@ module _ (l : Lent) (s before : List ℕ) (a : Answer) (after : List ℕ) (judge
       rw e (record { number = b; input = refl; position = i; places = o; count = refl; zeroed = z })
 
   pub same-length : length after ≡ length before
-  same-length = settled-length (length before) promised (length-replicate (length before) 0) (filled-length l before)
+  same-length = settled-length promised
 
   -- Demand 2: the type is accepted exactly when the rules accept it and the numbers fit, and then with exactly their records.
 
@@ -92,36 +79,18 @@ pub pair-exactly : (s : List ℕ) (g : Group) (ps : List Place) → Ambiguous (s
 pair-exactly = model-exactly
 
 -- The rules decide one answer, and what the buffer holds after.
-pub judged-one : (l : Lent) (s before : List ℕ) (a b : Answer) (after other : List ℕ) → Promise l s before a after → Promise l s before b other → (a ≡ b) × (after ≡ other)
-judged-one l s before a b after other x y = settled-one (settled l s before a after x) (settled l s before b other y)
+pub judged-one : (l : Lent) (s before : List ℕ) (a b : Answer) (after other : List ℕ) → Judged l s before a after → Judged l s before b other → (a ≡ b) × (after ≡ other)
+judged-one l s before a b after other = settled-one
 
 -- The document reader
 
--- What the proofs take both promises for, and back.
-module _ (s d before : List ℕ) (a : Answer) (after : List ℕ) where
-  given : (l : Lent) → ReaderPromise l s d before a after → Given s d (room l before) (replicate (length before) 0) (noted l before) a after
-  given numbers = from-numbers
-  given bytes = from-bytes
-
-  given-back : (l : Lent) → Given s d (room l before) (replicate (length before) 0) (noted l before) a after → ReaderPromise l s d before a after
-  given-back numbers = to-numbers
-  given-back bytes = to-bytes
-
-noted-length : (l : Lent) (before : List ℕ) (ev : List Event) → 4 * length ev ≤ room l before → length (noted l before ev) ≡ length before
-noted-length numbers before ev = events-kept ev before
-noted-length bytes before ev = event-bytes-kept ev before
-
 -- The rules decide one answer of the reader, and what the buffer holds after.
-pub read-one : (l : Lent) (s d before : List ℕ) (a b : Answer) (after other : List ℕ) → ReaderPromise l s d before a after → ReaderPromise l s d before b other → (a ≡ b) × (after ≡ other)
-read-one numbers = numbers-one
-read-one bytes = bytes-one
+pub read-one : (l : Lent) (s d before : List ℕ) (a b : Answer) (after other : List ℕ) → ReadAs l s d before a after → ReadAs l s d before b other → (a ≡ b) × (after ≡ other)
+read-one = given-one
 
-module _ (l : Lent) (s d before : List ℕ) (a : Answer) (after : List ℕ) (kept : ReaderPromise l s d before a after) where
-  called : Given s d (room l before) (replicate (length before) 0) (noted l before) a after
-  called = given s d before a after l kept
-
-  one : (b : Answer) (other : List ℕ) → Given s d (room l before) (replicate (length before) 0) (noted l before) b other → a ≡ b
-  one b other x = read-one l s d before a b after other kept (given-back s d before b other l x) .0
+module _ (l : Lent) (s d before : List ℕ) (a : Answer) (after : List ℕ) (called : ReadAs l s d before a after) where
+  one : (b : Answer) (other : List ℕ) → ReadAs l s d before b other → a ≡ b
+  one b other x = read-one l s d before a b after other called x .0
 
   -- Demand 1.
 
@@ -132,14 +101,14 @@ module _ (l : Lent) (s d before : List ℕ) (a : Answer) (after : List ℕ) (kep
       record { stands = w; places = p; count = c; zeroed = z }
 
   pub reader-same-length : length after ≡ length before
-  reader-same-length = given-length (length before) called (length-replicate (length before) 0) (noted-length l before)
+  reader-same-length = given-length called
 
   -- Demand 2: the document is accepted exactly when the rules accept it and the numbers fit, and then with exactly their events.
 
   pub reader-accepted-exactly : (a .number ≡ 0) ↔ ((es : List Element) × (ev : List Event) × Reads s d es (got ev) × (4 * length ev ≤ room l before))
   reader-accepted-exactly = (
     λ h. let (es, ev, r, f, e, z) = given-accepts called h in (es, ev, r, f),
-    λ (es, ev, r, f). rw (one _ _ (Given.accepts es ev r f refl refl)),
+    λ (es, ev, r, f). rw (one _ _ (ReadAs.accepts es ev r f refl refl)),
   )
 
   pub reader-acceptance-whole : a .number ≡ 0 → ReaderAcceptance l s d before a after
@@ -153,7 +122,7 @@ module _ (l : Lent) (s d before : List ℕ) (a : Answer) (after : List ℕ) (kep
   reader-refused-exactly = (λ h. given-refuses called h .0, both-some)
 
   pub reader-order-picks : (b : Answer) → RefusesBoth s d (room l before) b → a ≡ b
-  reader-order-picks b r = one b _ (Given.refuses r refl)
+  reader-order-picks b r = one b _ (ReadAs.refuses r refl)
 
   pub reader-too-small-exactly : (a .number ≡ 19) ↔ ((es : List Element) × (ev : List Event) × Reads s d es (got ev) × (room l before < 4 * length ev))
   reader-too-small-exactly = (
@@ -186,7 +155,7 @@ pub reading-exists : (s d : List ℕ) (es : List Element) → BothLegible s d �
 reading-exists = reading-one
 
 -- Demand 3, across the calls: the judge, lent `before`, and the reader, lent `other`, are of one mind on the type.
-module _ (l m : Lent) (s d before other : List ℕ) (a b : Answer) (after left : List ℕ) (judged : Promise l s before a after) (kept : ReaderPromise m s d other b left) where
+module _ (l m : Lent) (s d before other : List ℕ) (a b : Answer) (after left : List ℕ) (judged : Judged l s before a after) (kept : ReadAs m s d other b left) where
   same-answer : BothLegible s d → 1 ≤ a .number → a .number ≤ 9 → a ≡ b
   same-answer i h k = sym (reader-order-picks m s d other b left kept a (type-refused i (refused-exactly l s before a after judged .0 (λ z. omega arith)) k))
 

@@ -1,16 +1,18 @@
--- The proofs behind Demands: what both calls promise is one relation, and the rules settle one answer.
-use Prim.Native.Nat.{ℕ, _-_, _*_, _/_, _<_, _≤_}
+-- The proofs behind Demands: the rules settle one answer of the judge.
+use Prim.Native.Nat.{ℕ, _-_, _*_, _<_, _≤_}
 use mathlib.Core.Path.{_≡_, refl, sym, ap, _∙_}
 use mathlib.Core.Logic.{_⊎_, inl, inr, ⊎-elim, _↔_}
-use mathlib.Core.List.{List, [], _∷_, _++_, List·Memᴰ, List·Memᴰ·head, List·Memᴰ·tail}
+use mathlib.Core.List.{List, [], _∷_, List·Memᴰ, List·Memᴰ·head, List·Memᴰ·tail}
 use native.Mathlib.Omega.{arith}
-use lib.ListN.{length, drop, length-append, length-drop}
+use lib.ListN.{length, length-replicate}
 use Rattle.rules.specs.Bytes.{allowed, span, typeLimit}
+use Rattle.rules.specs.Lent.{Lent, standing, room, filledWith, zeroed}
 use Rattle.rules.specs.Reading.{Reading, refused, got}
 use Rattle.rules.specs.Walk.{Group, Begins}
 use Rattle.rules.specs.Ambiguity.{SpellSame, Ambiguous, PairAtFault}
 use Rattle.rules.specs.TypeFile.{Place, Content, empty, model, Element, typeFile}
-use Rattle.rules.specs.Judge.{placeAt, samePlace, Answer, refusal, acceptance, Unambiguous, AllUnambiguous, PairStandsAt, FirstAmbiguous, here, later, contentNumbers, records, bytesOf, Legible, Refuses, tooLong, notAllowed, malformed, ambiguous, noRoom, Accepts}
+use Rattle.rules.specs.Judge.{placeAt, samePlace, Answer, refusal, acceptance, Unambiguous, AllUnambiguous, PairStandsAt, FirstAmbiguous, here, later, records, Legible, Refuses, tooLong, notAllowed, malformed, ambiguous, noRoom, Accepts, Judged, refuses, accepts}
+use Rattle.numbers.specs.Laws.{records-length, lent-length}
 use Rattle.rules_laws.specs.Within.{ContentIn, all-mem, placeAt-in, typeFile-within, typeFile-elements}
 use Rattle.model_sets.specs.Ambiguous.{ambiguous-pair, pair-ambiguous, unambiguous-equal, first-pair-unique}
 use Rattle.model_names.specs.Laws.{samePlace-refl, samePlace-sym}
@@ -88,25 +90,20 @@ first-model {s} {k} {p} {q} f =
     let (g, ps, n, c, x) = stands-model s (e .content) k p q w in
     (g, ps, (e, n, m, c), model-exactly s g ps .1 (p, q, x))
 
--- Both calls promise this, of a buffer with room for so many numbers that is `zeroed` by a refusal and `filled` by an acceptance.
-pub data Settled (s : List ℕ) (room : ℕ) (zeroed : List ℕ) (filled : List Element → List ℕ) (a : Answer) (after : List ℕ) : Type 0 where
-  refuses : Refuses s room a → after ≡ zeroed → Settled s room zeroed filled a after
-  accepts : (es : List Element) → Accepts s es → 6 * length es ≤ room → a ≡ acceptance (length es) → after ≡ filled es → Settled s room zeroed filled a after
-
--- The same of a legible type, by what its reading gives.
-data Read (s : List ℕ) (room : ℕ) (zeroed : List ℕ) (filled : List Element → List ℕ) (a : Answer) (after : List ℕ) : Reading (List Element) → Type 0 where
-  bad : {n k : ℕ} → a ≡ refusal n k 0 0 → after ≡ zeroed → Read s room zeroed filled a after (refused n k)
-  clash : {es : List Element} (k p q : ℕ) → FirstAmbiguous s k p q es → a ≡ refusal 9 k p q → after ≡ zeroed → Read s room zeroed filled a after (got es)
-  tight : {es : List Element} → AllUnambiguous s es → room < 6 * length es → a ≡ refusal 19 0 0 0 → after ≡ zeroed → Read s room zeroed filled a after (got es)
-  enough : {es : List Element} → AllUnambiguous s es → 6 * length es ≤ room → a ≡ acceptance (length es) → after ≡ filled es → Read s room zeroed filled a after (got es)
+-- What the judge promises of a legible type, by what its reading gives.
+data Read (l : Lent) (s before : List ℕ) (a : Answer) (after : List ℕ) : Reading (List Element) → Type 0 where
+  bad : {n k : ℕ} → a ≡ refusal n k 0 0 → after ≡ zeroed before → Read l s before a after (refused n k)
+  clash : {es : List Element} (k p q : ℕ) → FirstAmbiguous s k p q es → a ≡ refusal 9 k p q → after ≡ zeroed before → Read l s before a after (got es)
+  tight : {es : List Element} → AllUnambiguous s es → room l before < 6 * length es → a ≡ refusal 19 0 0 0 → after ≡ zeroed before → Read l s before a after (got es)
+  enough : {es : List Element} → AllUnambiguous s es → 6 * length es ≤ room l before → a ≡ acceptance (length es) → after ≡ filledWith (standing l (records es)) before → Read l s before a after (got es)
 
 both : {a b c : Answer} {x y z : List ℕ} → (a ≡ c) × (x ≡ z) → (b ≡ c) × (y ≡ z) → (a ≡ b) × (x ≡ y)
 both (e, f) (g, h) = (e ∙ sym g, f ∙ sym h)
 
-module _ {s : List ℕ} {room : ℕ} {zeroed : List ℕ} {filled : List Element → List ℕ} where
+module _ {l : Lent} {s before : List ℕ} where
   -- At each stage of the order there is one way to go on.
 
-  when-long : {a : Answer} {after : List ℕ} → typeLimit < length s → Settled s room zeroed filled a after → (a ≡ refusal 1 0 0 0) × (after ≡ zeroed)
+  when-long : {a : Answer} {after : List ℕ} → typeLimit < length s → Judged l s before a after → (a ≡ refusal 1 0 0 0) × (after ≡ zeroed before)
   when-long h (refuses (tooLong l e) z) = (e, z)
   when-long h (refuses (notAllowed l d e) z) = absurd (omega arith)
   when-long h (refuses (malformed l n k r e) z) = absurd (omega arith)
@@ -114,7 +111,7 @@ module _ {s : List ℕ} {room : ℕ} {zeroed : List ℕ} {filled : List Element 
   when-long h (refuses (noRoom l es r u f e) z) = absurd (omega arith)
   when-long h (accepts es w f e z) = absurd (omega arith)
 
-  when-dirty : {a : Answer} {after : List ℕ} → length s ≤ typeLimit → span allowed s < length s → Settled s room zeroed filled a after → (a ≡ refusal 2 (span allowed s) 0 0) × (after ≡ zeroed)
+  when-dirty : {a : Answer} {after : List ℕ} → length s ≤ typeLimit → span allowed s < length s → Judged l s before a after → (a ≡ refusal 2 (span allowed s) 0 0) × (after ≡ zeroed before)
   when-dirty h d (refuses (tooLong l e) z) = absurd (omega arith)
   when-dirty h d (refuses (notAllowed l c e) z) = (e, z)
   when-dirty h d (refuses (malformed l n k r e) z) = absurd (omega arith)
@@ -122,7 +119,7 @@ module _ {s : List ℕ} {room : ℕ} {zeroed : List ℕ} {filled : List Element 
   when-dirty h d (refuses (noRoom l es r u f e) z) = absurd (omega arith)
   when-dirty h d (accepts es w f e z) = absurd (omega arith)
 
-  when-legible : {a : Answer} {after : List ℕ} → Legible s → Settled s room zeroed filled a after → Read s room zeroed filled a after (typeFile s)
+  when-legible : {a : Answer} {after : List ℕ} → Legible s → Judged l s before a after → Read l s before a after (typeFile s)
   when-legible h (refuses (tooLong l e) z) = absurd (omega arith)
   when-legible h (refuses (notAllowed l d e) z) = absurd (omega arith)
   when-legible h (refuses (malformed l n k r e) z) = rw r (bad e z)
@@ -130,7 +127,7 @@ module _ {s : List ℕ} {room : ℕ} {zeroed : List ℕ} {filled : List Element 
   when-legible h (refuses (noRoom l es r u f e) z) = rw r (tight u f e z)
   when-legible h (accepts es w f e z) = rw (w .elements) (enough (w .unambiguous) f e z)
 
-  read-one : {a b : Answer} {after other : List ℕ} {r : Reading (List Element)} → Read s room zeroed filled a after r → Read s room zeroed filled b other r → (a ≡ b) × (after ≡ other)
+  read-one : {a b : Answer} {after other : List ℕ} {r : Reading (List Element)} → Read l s before a after r → Read l s before b other r → (a ≡ b) × (after ≡ other)
   read-one (bad e z) (bad f y) = (e ∙ sym f, z ∙ sym y)
   read-one (clash k p q x e z) (clash j i l w f y) =
       let (c, d, g) = first-one s x w in
@@ -145,7 +142,7 @@ module _ {s : List ℕ} {room : ℕ} {zeroed : List ℕ} {filled : List Element 
   read-one (enough u h e z) (enough v l f y) = (e ∙ sym f, z ∙ sym y)
 
   -- Two answers to one type are the same.
-  pub settled-one : {a b : Answer} {after other : List ℕ} → Settled s room zeroed filled a after → Settled s room zeroed filled b other → (a ≡ b) × (after ≡ other)
+  pub settled-one : {a b : Answer} {after other : List ℕ} → Judged l s before a after → Judged l s before b other → (a ≡ b) × (after ≡ other)
   settled-one (refuses (tooLong l e) z) y = both (e, z) (when-long l y)
   settled-one (refuses (notAllowed l d e) z) y = both (e, z) (when-dirty l d y)
   settled-one (refuses (malformed l n k r e) z) y = read-one (rw r (bad e z)) (when-legible l y)
@@ -153,7 +150,7 @@ module _ {s : List ℕ} {room : ℕ} {zeroed : List ℕ} {filled : List Element 
   settled-one (refuses (noRoom l es r u f e) z) y = read-one (rw r (tight u f e z)) (when-legible l y)
   settled-one (accepts es w f e z) y = read-one (rw (w .elements) (enough (w .unambiguous) f e z)) (when-legible (w .legible) y)
 
-  pub settled-refuses : {a : Answer} {after : List ℕ} → Settled s room zeroed filled a after → (a .number ≡ 0 → ⊥) → Refuses s room a × (after ≡ zeroed)
+  pub settled-refuses : {a : Answer} {after : List ℕ} → Judged l s before a after → (a .number ≡ 0 → ⊥) → Refuses s (room l before) a × (after ≡ zeroed before)
   settled-refuses (refuses r z) h = (r, z)
   settled-refuses (accepts es w f e z) h = absurd (h (rw e))
 
@@ -196,54 +193,31 @@ read-fair {s} {ds} {es} w r =
     let e : ds ≡ es = cc in
     rw e at (w .unambiguous)
 
-module _ {s : List ℕ} {room : ℕ} {zeroed : List ℕ} {filled : List Element → List ℕ} {a : Answer} {after : List ℕ} where
-  pub settled-accepts : Settled s room zeroed filled a after → a .number ≡ 0 → (es : List Element) × Accepts s es × (6 * length es ≤ room) × (a ≡ acceptance (length es)) × (after ≡ filled es)
+module _ {l : Lent} {s before : List ℕ} {a : Answer} {after : List ℕ} where
+  pub settled-accepts : Judged l s before a after → a .number ≡ 0 → (es : List Element) × Accepts s es × (6 * length es ≤ room l before) × (a ≡ acceptance (length es)) × (after ≡ filledWith (standing l (records es)) before)
   settled-accepts (refuses r z) h = absurd (refuses-some r h)
   settled-accepts (accepts es w f e z) h = (es, w, f, e, z)
 
-  pub settled-nine : Settled s room zeroed filled a after → a .number ≡ 9 → Legible s × (es : List Element) × (typeFile s ≡ got es) × FirstAmbiguous s (a .position) (a .first) (a .second) es
+  pub settled-nine : Judged l s before a after → a .number ≡ 9 → Legible s × (es : List Element) × (typeFile s ≡ got es) × FirstAmbiguous s (a .position) (a .first) (a .second) es
   settled-nine x h = refuses-nine (settled-refuses x (λ z. omega arith) .0) h
 
-  pub settled-nineteen : Settled s room zeroed filled a after → a .number ≡ 19 → (es : List Element) × Accepts s es × (room < 6 * length es)
+  pub settled-nineteen : Judged l s before a after → a .number ≡ 19 → (es : List Element) × Accepts s es × (room l before < 6 * length es)
   settled-nineteen x h = refuses-nineteen (settled-refuses x (λ z. omega arith) .0) h
 
   -- Under 0 and 19 the models read have no pair at fault; under 9 some model has one.
-  pub settled-fair : Settled s room zeroed filled a after → (a .number ≡ 0) ⊎ (a .number ≡ 19) → (es : List Element) → typeFile s ≡ got es → AllUnambiguous s es
+  pub settled-fair : Judged l s before a after → (a .number ≡ 0) ⊎ (a .number ≡ 19) → (es : List Element) → typeFile s ≡ got es → AllUnambiguous s es
   settled-fair x (inl h) es r = read-fair (settled-accepts x h .1) r
   settled-fair x (inr h) es r = read-fair (settled-nineteen x h .1) r
 
-  pub settled-faulty : Settled s room zeroed filled a after → Legible s → (es : List Element) → typeFile s ≡ got es → (AllUnambiguous s es → ⊥) → a .number ≡ 9
-  settled-faulty x l es r n = go (rw r at (when-legible l x))
+  pub settled-faulty : Judged l s before a after → Legible s → (es : List Element) → typeFile s ≡ got es → (AllUnambiguous s es → ⊥) → a .number ≡ 9
+  settled-faulty x i es r n = go (rw r at (when-legible i x))
     where
-      go : Read s room zeroed filled a after (got es) → a .number ≡ 9
+      go : Read l s before a after (got es) → a .number ≡ 9
       go (clash k p q f e z) = rw e
       go (tight u f e z) = absurd (n u)
       go (enough u f e z) = absurd (n u)
 
 -- The buffer keeps its length.
-
-pub settled-length : {s : List ℕ} {room : ℕ} {zeroed : List ℕ} {filled : List Element → List ℕ} {a : Answer} {after : List ℕ} (n : ℕ) → Settled s room zeroed filled a after
-    → length zeroed ≡ n → ((es : List Element) → 6 * length es ≤ room → length (filled es) ≡ n) → length after ≡ n
-settled-length n (refuses r z) h k = rw z h
-settled-length n (accepts es w f e z) h k = rw z (k es f)
-
-content-length : (c : Content) → length (contentNumbers c) ≡ 2
-content-length empty = refl
-content-length (model g ps n) = refl
-
-records-length : (es : List Element) → length (records es) ≡ 6 * length es
-unfolding records
-records-length [] = refl
-records-length (e ∷ es) = omega (arith, length-append (contentNumbers (e .content)) (records es), content-length (e .content), records-length es)
-
-pub bytes-length : (ns : List ℕ) → length (bytesOf ns) ≡ 4 * length ns
-unfolding bytesOf
-bytes-length [] = refl
-bytes-length (n ∷ ns) = omega (arith, bytes-length ns)
-
-pub numbers-kept : (es : List Element) (before : List ℕ) → 6 * length es ≤ length before → length (records es ++ drop (6 * length es) before) ≡ length before
-numbers-kept es before h = omega (arith, length-append (records es) (drop (6 * length es) before), length-drop (6 * length es) before, records-length es)
-
-pub bytes-kept : (es : List Element) (before : List ℕ) → 6 * length es ≤ length before / 4 → length (bytesOf (records es) ++ drop (24 * length es) before) ≡ length before
-bytes-kept es before h =
-    omega (arith, length-append (bytesOf (records es)) (drop (24 * length es) before), length-drop (24 * length es) before, bytes-length (records es), records-length es)
+pub settled-length : {l : Lent} {s before : List ℕ} {a : Answer} {after : List ℕ} → Judged l s before a after → length after ≡ length before
+settled-length {l} {s} {before} (refuses r z) = rw z (length-replicate (length before) 0)
+settled-length {l} {s} {before} (accepts es w f e z) = rw z (lent-length l (records es) before (omega (arith, records-length es)))

@@ -1,51 +1,27 @@
--- The proofs behind the reader's part of Demands: what both of its calls promise is one relation, from which each demand follows.
-use Prim.Native.Nat.{ℕ, _*_, _/_, _<_, _≤_}
+-- The proofs behind the reader's part of Demands.
+use Prim.Native.Nat.{ℕ, _*_, _<_, _≤_}
 use mathlib.Core.Path.{_≡_, refl}
 use mathlib.Core.Logic.{_⊎_, inl, inr, ⊎-elim}
-use mathlib.Core.List.{List, [], _∷_, _++_}
+use mathlib.Core.List.{List}
 use native.Mathlib.Omega.{arith}
-use lib.ListN.{length, drop, replicate, length-append, length-drop}
+use lib.ListN.{length, length-replicate}
 use Rattle.rules.specs.Bytes.{allowed, span}
+use Rattle.rules.specs.Lent.{Lent, standing, room, filledWith, zeroed}
 use Rattle.rules.specs.Reading.{Reading, refused, got}
 use Rattle.rules.specs.TypeFile.{Element, typeFile}
-use Rattle.rules.specs.Judge.{Answer, refusal, acceptance, AllUnambiguous, FirstAmbiguous, Refuses, Accepts, bytesOf}
+use Rattle.rules.specs.Judge.{Answer, refusal, acceptance, AllUnambiguous, FirstAmbiguous, Refuses, Accepts}
 use Rattle.rules.specs.Settling.{Event}
-use Rattle.rules.specs.Reader.{eventNumbers, documentRefusal, BothLegible, Reads, RefusesBoth, typeTooLong, documentTooLong, typeNotAllowed, documentNotAllowed, malformed, ambiguous, unsettled, noRoom, ReadAs, ReadAsBytes}
+use Rattle.rules.specs.Reader.{eventNumbers, documentRefusal, BothLegible, Reads, RefusesBoth, typeTooLong, documentTooLong, typeNotAllowed, documentNotAllowed, malformed, ambiguous, unsettled, noRoom, ReadAs, refuses, accepts}
+use Rattle.numbers.specs.Laws.{eventNumbers-length, lent-length}
 use Rattle.rules_laws.specs.Within.{typeFile-within}
 use Rattle.document_laws.specs.Laws.{reads-some, reads-one}
-use Rattle.document_laws.specs.Answers.{read-as-one, read-as-bytes-one}
+use Rattle.document_laws.specs.Answers.{read-as-one}
 use Rattle.last_places.specs.Within.{DocumentNumber, document-within}
-use Rattle.demands.specs.Proofs.{first-one, first-all, first-in, read-fair, bytes-length}
-
--- Both calls promise this, of a buffer with room for so many numbers that is `zeroed` by a refusal and `filled` by an acceptance.
-pub data Given (s d : List ℕ) (room : ℕ) (zeroed : List ℕ) (filled : List Event → List ℕ) (a : Answer) (after : List ℕ) : Type 0 where
-  refuses : RefusesBoth s d room a → after ≡ zeroed → Given s d room zeroed filled a after
-  accepts : (es : List Element) (ev : List Event) → Reads s d es (got ev) → 4 * length ev ≤ room → a ≡ acceptance (length ev) → after ≡ filled ev → Given s d room zeroed filled a after
-
-module _ {s d before : List ℕ} {a : Answer} {after : List ℕ} where
-  pub from-numbers : ReadAs s d before a after → Given s d (length before) (replicate (length before) 0) (λ ev. eventNumbers ev ++ drop (4 * length ev) before) a after
-  from-numbers (ReadAs.refuses r z) = refuses r z
-  from-numbers (ReadAs.accepts es ev r f e z) = accepts es ev r f e z
-
-  pub to-numbers : Given s d (length before) (replicate (length before) 0) (λ ev. eventNumbers ev ++ drop (4 * length ev) before) a after → ReadAs s d before a after
-  to-numbers (refuses r z) = ReadAs.refuses r z
-  to-numbers (accepts es ev r f e z) = ReadAs.accepts es ev r f e z
-
-  pub from-bytes : ReadAsBytes s d before a after → Given s d (length before / 4) (replicate (length before) 0) (λ ev. bytesOf (eventNumbers ev) ++ drop (16 * length ev) before) a after
-  from-bytes (ReadAsBytes.refuses r z) = refuses r z
-  from-bytes (ReadAsBytes.accepts es ev r f e z) = accepts es ev r f e z
-
-  pub to-bytes : Given s d (length before / 4) (replicate (length before) 0) (λ ev. bytesOf (eventNumbers ev) ++ drop (16 * length ev) before) a after → ReadAsBytes s d before a after
-  to-bytes (refuses r z) = ReadAsBytes.refuses r z
-  to-bytes (accepts es ev r f e z) = ReadAsBytes.accepts es ev r f e z
+use Rattle.demands.specs.Proofs.{first-one, first-all, first-in, read-fair}
 
 -- Two answers to the same two inputs are the same: that a type has one first ambiguous model is the judge's half.
-module _ (s d before : List ℕ) (a b : Answer) (after other : List ℕ) where
-  pub numbers-one : ReadAs s d before a after → ReadAs s d before b other → (a ≡ b) × (after ≡ other)
-  numbers-one = read-as-one s d before (λ k p q j i l es x y. first-one s x y) (λ k p q es x u. first-all s x u) a b after other
-
-  pub bytes-one : ReadAsBytes s d before a after → ReadAsBytes s d before b other → (a ≡ b) × (after ≡ other)
-  bytes-one = read-as-bytes-one s d before (λ k p q j i l es x y. first-one s x y) (λ k p q es x u. first-all s x u) a b after other
+pub given-one : (l : Lent) (s d before : List ℕ) (a b : Answer) (after other : List ℕ) → ReadAs l s d before a after → ReadAs l s d before b other → (a ≡ b) × (after ≡ other)
+given-one l s d before = read-as-one l s d before (λ k p q j i l es x y. first-one s x y) (λ k p q es x u. first-all s x u)
 
 -- Under an accepted type each document has a reading, and only one.
 pub reading-one : (s d : List ℕ) (es : List Element) → BothLegible s d → Accepts s es
@@ -139,22 +115,22 @@ module _ {s : List ℕ} {a : Answer} {es : List Element} where
   of-fair (clash h) r n = absurd (n h)
   of-fair (fair fs w) r n = read-fair w r
 
-module _ {s d : List ℕ} {room : ℕ} {zeroed : List ℕ} {filled : List Event → List ℕ} {a : Answer} {after : List ℕ} where
-  pub given-refuses : Given s d room zeroed filled a after → (a .number ≡ 0 → ⊥) → RefusesBoth s d room a × (after ≡ zeroed)
+module _ {l : Lent} {s d before : List ℕ} {a : Answer} {after : List ℕ} where
+  pub given-refuses : ReadAs l s d before a after → (a .number ≡ 0 → ⊥) → RefusesBoth s d (room l before) a × (after ≡ zeroed before)
   given-refuses (refuses r z) h = (r, z)
   given-refuses (accepts es ev r f e z) h = absurd (h (rw e))
 
-  pub given-accepts : Given s d room zeroed filled a after → a .number ≡ 0 → (es : List Element) × (ev : List Event) × Reads s d es (got ev) × (4 * length ev ≤ room) × (a ≡ acceptance (length ev)) × (after ≡ filled ev)
+  pub given-accepts : ReadAs l s d before a after → a .number ≡ 0 → (es : List Element) × (ev : List Event) × Reads s d es (got ev) × (4 * length ev ≤ room l before) × (a ≡ acceptance (length ev)) × (after ≡ filledWith (standing l (eventNumbers ev)) before)
   given-accepts (refuses r z) h = absurd (both-some r h)
   given-accepts (accepts es ev r f e z) h = (es, ev, r, f, e, z)
 
-  pub given-nine : Given s d room zeroed filled a after → a .number ≡ 9 → BothLegible s d × (es : List Element) × (typeFile s ≡ got es) × FirstAmbiguous s (a .position) (a .first) (a .second) es
+  pub given-nine : ReadAs l s d before a after → a .number ≡ 9 → BothLegible s d × (es : List Element) × (typeFile s ≡ got es) × FirstAmbiguous s (a .position) (a .first) (a .second) es
   given-nine x h = both-nine (given-refuses x (λ z. omega arith) .0) h
 
-  pub given-nineteen : Given s d room zeroed filled a after → a .number ≡ 19 → (es : List Element) × (ev : List Event) × Reads s d es (got ev) × (room < 4 * length ev)
+  pub given-nineteen : ReadAs l s d before a after → a .number ≡ 19 → (es : List Element) × (ev : List Event) × Reads s d es (got ev) × (room l before < 4 * length ev)
   given-nineteen x h = both-nineteen (given-refuses x (λ z. omega arith) .0) h
 
-  given-type : BothLegible s d → Given s d room zeroed filled a after → OfType s a
+  given-type : BothLegible s d → ReadAs l s d before a after → OfType s a
   given-type i (refuses (typeTooLong l e) z) = absurd (omega (arith, i .type .short))
   given-type i (refuses (documentTooLong l m e) z) = absurd (omega (arith, i .short))
   given-type i (refuses (typeNotAllowed l m c e) z) = absurd (omega (arith, i .type .clean))
@@ -166,25 +142,13 @@ module _ {s d : List ℕ} {room : ℕ} {zeroed : List ℕ} {filled : List Event 
   given-type i (accepts es ev r f e z) = fair es (r .accepted)
 
   -- Under 9 some model has a pair at fault; else none has.
-  pub given-faulty : Given s d room zeroed filled a after → BothLegible s d → {es : List Element} → typeFile s ≡ got es → (AllUnambiguous s es → ⊥) → a .number ≡ 9
+  pub given-faulty : ReadAs l s d before a after → BothLegible s d → {es : List Element} → typeFile s ≡ got es → (AllUnambiguous s es → ⊥) → a .number ≡ 9
   given-faulty x i r n = of-faulty (given-type i x) r n
 
-  pub given-fair : Given s d room zeroed filled a after → BothLegible s d → {es : List Element} → typeFile s ≡ got es → (a .number ≡ 9 → ⊥) → AllUnambiguous s es
+  pub given-fair : ReadAs l s d before a after → BothLegible s d → {es : List Element} → typeFile s ≡ got es → (a .number ≡ 9 → ⊥) → AllUnambiguous s es
   given-fair x i r n = of-fair (given-type i x) r n
 
   -- The buffer keeps its length.
-  pub given-length : (n : ℕ) → Given s d room zeroed filled a after → length zeroed ≡ n → ((ev : List Event) → 4 * length ev ≤ room → length (filled ev) ≡ n) → length after ≡ n
-  given-length n (refuses r z) h k = rw z h
-  given-length n (accepts es ev r f e z) h k = rw z (k ev f)
-
-events-length : (ev : List Event) → length (eventNumbers ev) ≡ 4 * length ev
-unfolding eventNumbers
-events-length [] = refl
-events-length (e ∷ ev) = omega (arith, events-length ev)
-
-pub events-kept : (ev : List Event) (before : List ℕ) → 4 * length ev ≤ length before → length (eventNumbers ev ++ drop (4 * length ev) before) ≡ length before
-events-kept ev before h = omega (arith, length-append (eventNumbers ev) (drop (4 * length ev) before), length-drop (4 * length ev) before, events-length ev)
-
-pub event-bytes-kept : (ev : List Event) (before : List ℕ) → 4 * length ev ≤ length before / 4 → length (bytesOf (eventNumbers ev) ++ drop (16 * length ev) before) ≡ length before
-event-bytes-kept ev before h =
-    omega (arith, length-append (bytesOf (eventNumbers ev)) (drop (16 * length ev) before), length-drop (16 * length ev) before, bytes-length (eventNumbers ev), events-length ev)
+  pub given-length : ReadAs l s d before a after → length after ≡ length before
+  given-length (refuses r z) = rw z (length-replicate (length before) 0)
+  given-length (accepts es ev r f e z) = rw z (lent-length l (eventNumbers ev) before (omega (arith, eventNumbers-length ev)))

@@ -1,38 +1,19 @@
--- The words of the demands: the two calls' promises, what a refusal and an acceptance are, and demand 3's words about models.
-use Prim.Native.Nat.{ℕ, _*_, _/_, _≤_}
+-- The words of the demands: what a refusal and an acceptance are, and demand 3's words about models.
+use Prim.Native.Nat.{ℕ, _*_, _≤_}
 use mathlib.Core.Path.{_≡_}
 use mathlib.Core.Logic.{_⊎_, _↔_}
-use mathlib.Core.List.{List, _++_, List·Memᴰ}
-use lib.ListN.{length, drop, replicate}
+use mathlib.Core.List.{List, List·Memᴰ}
+use lib.ListN.{length}
+use Rattle.rules.specs.Lent.{Lent, standing, room, filledWith, zeroed}
 use Rattle.rules.specs.Reading.{got}
 use Rattle.rules.specs.Walk.{Group, Begins}
 use Rattle.rules.specs.Ambiguity.{SpellSame, Ambiguous}
 use Rattle.rules.specs.TypeFile.{Place, model, Element, typeFile}
-use Rattle.rules.specs.Judge.{samePlace, Answer, acceptance, FirstAmbiguous, records, bytesOf, Accepts, Judged, JudgedBytes}
+use Rattle.rules.specs.Judge.{samePlace, Answer, acceptance, FirstAmbiguous, records, Accepts}
 use Rattle.rules.specs.Settling.{Event}
-use Rattle.rules.specs.Reader.{eventNumbers, Reads, ReadAs, ReadAsBytes}
+use Rattle.rules.specs.Reader.{eventNumbers, Reads}
 
 -- The type judge
-
--- "The type judge takes a type file and a lent buffer of 32-bit numbers"; from C it is lent bytes, "the numbers then standing as four bytes each".
-pub data Lent : Type 0 where
-  numbers : Lent
-  bytes : Lent
-
--- The call on the type file s, lent a buffer that holds `before`, answers a and leaves `after` in it.
-abbrev pub Promise : Lent → (s before : List ℕ) (a : Answer) (after : List ℕ) → Type 0
-Promise numbers = Judged
-Promise bytes = JudgedBytes
-
--- How many numbers the buffer holds.
-abbrev pub room : Lent → (before : List ℕ) → ℕ
-room numbers before = length before
-room bytes before = length before / 4
-
--- The buffer once the elements' records are written: "what lies behind the last number written stays as it was".
-abbrev pub filled : Lent → (before : List ℕ) → List Element → List ℕ
-filled numbers before es = records es ++ drop (6 * length es) before
-filled bytes before es = bytesOf (records es) ++ drop (24 * length es) before
 
 -- Demand 1: a refusal gives a number, which input and a byte position. "Input 1 is the type"; "the two places are 0 except under 9";
 -- "on refusal the whole buffer is zero and the count is 0".
@@ -42,7 +23,7 @@ pub record Refusal (s before : List ℕ) (a : Answer) (after : List ℕ) : Type 
   pub position : a .position ≤ length s
   pub places : (a .number ≡ 9 → ⊥) → (a .first ≡ 0) × (a .second ≡ 0)
   pub count : a .count ≡ 0
-  pub zeroed : after ≡ replicate (length before) 0
+  pub zeroed : after ≡ zeroed before
 
 -- "An accepted call gives 0 for number, input and position, and how many records it wrote": those of the elements that the rules accept.
 pub record Acceptance (l : Lent) (s before : List ℕ) (a : Answer) (after : List ℕ) : Type 0 where
@@ -50,7 +31,7 @@ pub record Acceptance (l : Lent) (s before : List ℕ) (a : Answer) (after : Lis
   pub accepted : Accepts s elements
   pub fits : 6 * length elements ≤ room l before
   pub answer : a ≡ acceptance (length elements)
-  pub written : after ≡ filled l before elements
+  pub written : after ≡ filledWith (standing l (records elements)) before
 
 -- An element of es has the content model g, with the places ps.
 abbrev pub ModelOf : List Element → Group → List Place → Type 0
@@ -71,17 +52,6 @@ NamesDecide s es = (g : Group) (ps : List Place) → ModelOf es g ps → (u v : 
 
 -- The document reader
 
--- "The document reader takes a type file, a document and a lent buffer": the call on s and d, lent a buffer that holds `before`, answers a
--- and leaves `after` in it.
-abbrev pub ReaderPromise : Lent → (s d before : List ℕ) (a : Answer) (after : List ℕ) → Type 0
-ReaderPromise numbers = ReadAs
-ReaderPromise bytes = ReadAsBytes
-
--- The buffer once the events' numbers are written.
-abbrev pub noted : Lent → (before : List ℕ) → List Event → List ℕ
-noted numbers before ev = eventNumbers ev ++ drop (4 * length ev) before
-noted bytes before ev = bytesOf (eventNumbers ev) ++ drop (16 * length ev) before
-
 -- "Input 1 is the type, 2 the document": each has its numbers, and the position stands in it.
 abbrev pub InType : (s : List ℕ) → Answer → Type 0
 InType s a = (a .input ≡ 1) × (a .position ≤ length s) × (1 ≤ a .number) × (a .number ≤ 9)
@@ -94,7 +64,7 @@ pub record ReaderRefusal (s d before : List ℕ) (a : Answer) (after : List ℕ)
   pub stands : InType s a ⊎ InDocument d a
   pub places : (a .number ≡ 9 → ⊥) → (a .first ≡ 0) × (a .second ≡ 0)
   pub count : a .count ≡ 0
-  pub zeroed : after ≡ replicate (length before) 0
+  pub zeroed : after ≡ zeroed before
 
 -- An accepted call gives the events of the one reading that the rules have of the document, and how many.
 pub record ReaderAcceptance (l : Lent) (s d before : List ℕ) (a : Answer) (after : List ℕ) : Type 0 where
@@ -103,7 +73,7 @@ pub record ReaderAcceptance (l : Lent) (s d before : List ℕ) (a : Answer) (aft
   pub read : Reads s d elements (got events)
   pub fits : 4 * length events ≤ room l before
   pub answer : a ≡ acceptance (length events)
-  pub written : after ≡ noted l before events
+  pub written : after ≡ filledWith (standing l (eventNumbers events)) before
 
 -- The reader "judges the type afresh", and as the judge does, whose answer is a: where the type is at fault, b is the same answer.
 pub record SameVerdict (a b : Answer) : Type 0 where

@@ -1,30 +1,26 @@
 -- The rules decide one answer of the reader to every two inputs, and what the buffer holds after.
 -- That a type has one first ambiguous model is a fact of the type's half, taken here as given.
-use Prim.Native.Nat.{ℕ, _*_, _/_, _<_, _≤_}
+use Prim.Native.Nat.{ℕ, _*_, _<_, _≤_}
 use mathlib.Core.Path.{_≡_, sym, _∙_, ap, subst}
-use mathlib.Core.List.{List, [], _++_}
+use mathlib.Core.List.{List, []}
 use native.Mathlib.Omega.{arith}
-use lib.ListN.{length, drop, replicate}
+use lib.ListN.{length}
 use Rattle.rules.specs.Bytes.{allowed, span, typeLimit, documentLimit}
+use Rattle.rules.specs.Lent.{Lent, standing, room, filledWith, zeroed}
 use Rattle.rules.specs.Reading.{Reading, refused, got}
 use Rattle.rules.specs.TypeFile.{Element, typeFile}
-use Rattle.rules.specs.Judge.{Answer, refusal, acceptance, AllUnambiguous, FirstAmbiguous, Legible, Accepts, bytesOf}
+use Rattle.rules.specs.Judge.{Answer, refusal, acceptance, AllUnambiguous, FirstAmbiguous, Legible, Accepts}
 use Rattle.rules.specs.Settling.{Event}
-use Rattle.rules.specs.Reader.{eventNumbers, documentRefusal, BothLegible, Reads, RefusesBoth, typeTooLong, documentTooLong, typeNotAllowed, documentNotAllowed, malformed, ambiguous, unsettled, noRoom, ReadAs, ReadAsBytes}
+use Rattle.rules.specs.Reader.{eventNumbers, documentRefusal, BothLegible, Reads, RefusesBoth, typeTooLong, documentTooLong, typeNotAllowed, documentNotAllowed, malformed, ambiguous, unsettled, noRoom, ReadAs, refuses, accepts}
 use Rattle.document_laws.specs.Laws.{same-elements, reads-one}
 
--- Both calls promise this, of a buffer with room for so many numbers that is `zeroed` by a refusal and `filled` by an acceptance.
-data Settled (s d : List ℕ) (room : ℕ) (zeroed : List ℕ) (filled : List Event → List ℕ) (a : Answer) (after : List ℕ) : Type 0 where
-  refuses : RefusesBoth s d room a → after ≡ zeroed → Settled s d room zeroed filled a after
-  accepts : (es : List Element) (ev : List Event) → Reads s d es (got ev) → 4 * length ev ≤ room → a ≡ acceptance (length ev) → after ≡ filled ev → Settled s d room zeroed filled a after
-
--- The same of legible inputs.
-data Read (s d : List ℕ) (room : ℕ) (zeroed : List ℕ) (filled : List Event → List ℕ) (a : Answer) (after : List ℕ) : Type 0 where
-  bad : (n k : ℕ) → typeFile s ≡ refused n k → a ≡ refusal n k 0 0 → after ≡ zeroed → Read s d room zeroed filled a after
-  clash : (es : List Element) → typeFile s ≡ got es → (k p q : ℕ) → FirstAmbiguous s k p q es → a ≡ refusal 9 k p q → after ≡ zeroed → Read s d room zeroed filled a after
-  stops : (es : List Element) (n k : ℕ) → Reads s d es (refused n k) → a ≡ documentRefusal n k → after ≡ zeroed → Read s d room zeroed filled a after
-  tight : (es : List Element) (ev : List Event) → Reads s d es (got ev) → room < 4 * length ev → a ≡ documentRefusal 19 0 → after ≡ zeroed → Read s d room zeroed filled a after
-  enough : (es : List Element) (ev : List Event) → Reads s d es (got ev) → 4 * length ev ≤ room → a ≡ acceptance (length ev) → after ≡ filled ev → Read s d room zeroed filled a after
+-- What the reader promises of legible inputs.
+data Read (l : Lent) (s d before : List ℕ) (a : Answer) (after : List ℕ) : Type 0 where
+  bad : (n k : ℕ) → typeFile s ≡ refused n k → a ≡ refusal n k 0 0 → after ≡ zeroed before → Read l s d before a after
+  clash : (es : List Element) → typeFile s ≡ got es → (k p q : ℕ) → FirstAmbiguous s k p q es → a ≡ refusal 9 k p q → after ≡ zeroed before → Read l s d before a after
+  stops : (es : List Element) (n k : ℕ) → Reads s d es (refused n k) → a ≡ documentRefusal n k → after ≡ zeroed before → Read l s d before a after
+  tight : (es : List Element) (ev : List Event) → Reads s d es (got ev) → room l before < 4 * length ev → a ≡ documentRefusal 19 0 → after ≡ zeroed before → Read l s d before a after
+  enough : (es : List Element) (ev : List Event) → Reads s d es (got ev) → 4 * length ev ≤ room l before → a ≡ acceptance (length ev) → after ≡ filledWith (standing l (eventNumbers ev)) before → Read l s d before a after
 
 both : {a b c : Answer} {x y z : List ℕ} → (a ≡ c) × (x ≡ z) → (b ≡ c) × (y ≡ z) → (a ≡ b) × (x ≡ y)
 both (e, f) (g, h) = (e ∙ sym g, f ∙ sym h)
@@ -60,16 +56,16 @@ OneFirst s = (k p q j a b : ℕ) (es : List Element) → FirstAmbiguous s k p q 
 abbrev NoFirst : List ℕ → Type 0
 NoFirst s = (k p q : ℕ) (es : List Element) → FirstAmbiguous s k p q es → AllUnambiguous s es → ⊥
 
-module _ (s d : List ℕ) (room : ℕ) (zeroed : List ℕ) (filled : List Event → List ℕ) (one-first : OneFirst s) (no-first : NoFirst s) where
+module _ (lent : Lent) (s d before : List ℕ) (one-first : OneFirst s) (no-first : NoFirst s) where
   abbrev Is : Answer → List ℕ → Type 0
-  Is a after = Settled s d room zeroed filled a after
+  Is a after = ReadAs lent s d before a after
 
   abbrev IsRead : Answer → List ℕ → Type 0
-  IsRead a after = Read s d room zeroed filled a after
+  IsRead a after = Read lent s d before a after
 
   -- At each stage of the order there is one way to go on.
 
-  when-type-long : (a : Answer) (after : List ℕ) → typeLimit < length s → Is a after → (a ≡ refusal 1 0 0 0) × (after ≡ zeroed)
+  when-type-long : (a : Answer) (after : List ℕ) → typeLimit < length s → Is a after → (a ≡ refusal 1 0 0 0) × (after ≡ zeroed before)
   when-type-long a after h (refuses (typeTooLong l e) z) = (e, z)
   when-type-long a after h (refuses (documentTooLong l m e) z) = absurd (omega (arith, h, l, m))
   when-type-long a after h (refuses (typeNotAllowed l m c e) z) = absurd (omega (arith, h, l, m, c))
@@ -80,7 +76,7 @@ module _ (s d : List ℕ) (room : ℕ) (zeroed : List ℕ) (filled : List Event 
   when-type-long a after h (refuses (noRoom es ev r f e) z) = absurd (omega (arith, h, r .legible .type .short, r .legible .type .clean, r .legible .short, r .legible .clean))
   when-type-long a after h (accepts es ev r f e z) = absurd (omega (arith, h, r .legible .type .short, r .legible .type .clean, r .legible .short, r .legible .clean))
 
-  when-document-long : (a : Answer) (after : List ℕ) → length s ≤ typeLimit → documentLimit < length d → Is a after → (a ≡ documentRefusal 1 0) × (after ≡ zeroed)
+  when-document-long : (a : Answer) (after : List ℕ) → length s ≤ typeLimit → documentLimit < length d → Is a after → (a ≡ documentRefusal 1 0) × (after ≡ zeroed before)
   when-document-long a after h g (refuses (typeTooLong l e) z) = absurd (omega (arith, h, g, l))
   when-document-long a after h g (refuses (documentTooLong l m e) z) = (e, z)
   when-document-long a after h g (refuses (typeNotAllowed l m c e) z) = absurd (omega (arith, h, g, l, m, c))
@@ -91,7 +87,7 @@ module _ (s d : List ℕ) (room : ℕ) (zeroed : List ℕ) (filled : List Event 
   when-document-long a after h g (refuses (noRoom es ev r f e) z) = absurd (omega (arith, h, g, r .legible .type .short, r .legible .type .clean, r .legible .short, r .legible .clean))
   when-document-long a after h g (accepts es ev r f e z) = absurd (omega (arith, h, g, r .legible .type .short, r .legible .type .clean, r .legible .short, r .legible .clean))
 
-  when-type-dirty : (a : Answer) (after : List ℕ) → length s ≤ typeLimit → length d ≤ documentLimit → span allowed s < length s → Is a after → (a ≡ refusal 2 (span allowed s) 0 0) × (after ≡ zeroed)
+  when-type-dirty : (a : Answer) (after : List ℕ) → length s ≤ typeLimit → length d ≤ documentLimit → span allowed s < length s → Is a after → (a ≡ refusal 2 (span allowed s) 0 0) × (after ≡ zeroed before)
   when-type-dirty a after h g i (refuses (typeTooLong l e) z) = absurd (omega (arith, h, g, i, l))
   when-type-dirty a after h g i (refuses (documentTooLong l m e) z) = absurd (omega (arith, h, g, i, l, m))
   when-type-dirty a after h g i (refuses (typeNotAllowed l m c e) z) = (e, z)
@@ -102,7 +98,7 @@ module _ (s d : List ℕ) (room : ℕ) (zeroed : List ℕ) (filled : List Event 
   when-type-dirty a after h g i (refuses (noRoom es ev r f e) z) = absurd (omega (arith, h, g, i, r .legible .type .short, r .legible .type .clean, r .legible .short, r .legible .clean))
   when-type-dirty a after h g i (accepts es ev r f e z) = absurd (omega (arith, h, g, i, r .legible .type .short, r .legible .type .clean, r .legible .short, r .legible .clean))
 
-  when-document-dirty : (a : Answer) (after : List ℕ) → Legible s → length d ≤ documentLimit → span allowed d < length d → Is a after → (a ≡ documentRefusal 2 (span allowed d)) × (after ≡ zeroed)
+  when-document-dirty : (a : Answer) (after : List ℕ) → Legible s → length d ≤ documentLimit → span allowed d < length d → Is a after → (a ≡ documentRefusal 2 (span allowed d)) × (after ≡ zeroed before)
   when-document-dirty a after h g i (refuses (typeTooLong l e) z) = absurd (omega (arith, h .short, h .clean, g, i, l))
   when-document-dirty a after h g i (refuses (documentTooLong l m e) z) = absurd (omega (arith, h .short, h .clean, g, i, l, m))
   when-document-dirty a after h g i (refuses (typeNotAllowed l m c e) z) = absurd (omega (arith, h .short, h .clean, g, i, l, m, c))
@@ -136,7 +132,7 @@ module _ (s d : List ℕ) (room : ℕ) (zeroed : List ℕ) (filled : List Event 
   not-both : (es fs : List Element) (n k : ℕ) (ev : List Event) → Reads s d es (refused n k) → Reads s d fs (got ev) → ⊥
   not-both es fs n k ev x y = not-got (reads-one s d es fs (refused n k) (got ev) x y .1)
 
-  not-room : (es fs : List Element) (ev fv : List Event) → Reads s d es (got ev) → Reads s d fs (got fv) → room < 4 * length ev → 4 * length fv ≤ room → ⊥
+  not-room : (es fs : List Element) (ev fv : List Event) → Reads s d es (got ev) → Reads s d fs (got fv) → room lent before < 4 * length ev → 4 * length fv ≤ room lent before → ⊥
   not-room es fs ev fv x y l m = omega (arith, ap length (same-got es fs ev fv x y))
 
   read-one : (a b : Answer) (after other : List ℕ) → IsRead a after → IsRead b other → (a ≡ b) × (after ≡ other)
@@ -168,31 +164,16 @@ module _ (s d : List ℕ) (room : ℕ) (zeroed : List ℕ) (filled : List Event 
   read-one a b after other (enough es ev x l e z) (tight fs fv w m f y) = absurd (not-room fs es fv ev w x m l)
   read-one a b after other (enough es ev x l e z) (enough fs fv w m f y) =
       let c = same-got es fs ev fv x w in
-      (e ∙ ap (λ v. acceptance (length v)) c ∙ sym f, z ∙ ap filled c ∙ sym y)
+      (e ∙ ap (λ v. acceptance (length v)) c ∙ sym f, z ∙ ap (λ v. filledWith (standing lent (eventNumbers v)) before) c ∙ sym y)
 
   -- Two answers to the same two inputs are the same.
-  settled-one : (a b : Answer) (after other : List ℕ) → Is a after → Is b other → (a ≡ b) × (after ≡ other)
-  settled-one a b after other (refuses (typeTooLong l e) z) y = both (e, z) (when-type-long b other l y)
-  settled-one a b after other (refuses (documentTooLong l m e) z) y = both (e, z) (when-document-long b other l m y)
-  settled-one a b after other (refuses (typeNotAllowed l m c e) z) y = both (e, z) (when-type-dirty b other l m c y)
-  settled-one a b after other (refuses (documentNotAllowed l m c e) z) y = both (e, z) (when-document-dirty b other l m c y)
-  settled-one a b after other (refuses (malformed l n k r e) z) y = read-one a b after other (bad n k r e z) (when-legible b other l y)
-  settled-one a b after other (refuses (ambiguous l es r k p q f e) z) y = read-one a b after other (clash es r k p q f e z) (when-legible b other l y)
-  settled-one a b after other (refuses (unsettled es n k r e) z) y = read-one a b after other (stops es n k r e z) (when-legible b other (r .legible) y)
-  settled-one a b after other (refuses (noRoom es ev r f e) z) y = read-one a b after other (tight es ev r f e z) (when-legible b other (r .legible) y)
-  settled-one a b after other (accepts es ev r f e z) y = read-one a b after other (enough es ev r f e z) (when-legible b other (r .legible) y)
-
-module _ (s d before : List ℕ) (one-first : OneFirst s) (no-first : NoFirst s) (a b : Answer) (after other : List ℕ) where
-  pub read-as-one : ReadAs s d before a after → ReadAs s d before b other → (a ≡ b) × (after ≡ other)
-  read-as-one x y = settled-one s d (length before) (replicate (length before) 0) (λ ev. eventNumbers ev ++ drop (4 * length ev) before) one-first no-first a b after other (is a after x) (is b other y)
-    where
-      is : (a : Answer) (after : List ℕ) → ReadAs s d before a after → Settled s d (length before) (replicate (length before) 0) (λ ev. eventNumbers ev ++ drop (4 * length ev) before) a after
-      is a after (ReadAs.refuses r z) = refuses r z
-      is a after (ReadAs.accepts es ev r f e z) = accepts es ev r f e z
-
-  pub read-as-bytes-one : ReadAsBytes s d before a after → ReadAsBytes s d before b other → (a ≡ b) × (after ≡ other)
-  read-as-bytes-one x y = settled-one s d (length before / 4) (replicate (length before) 0) (λ ev. bytesOf (eventNumbers ev) ++ drop (16 * length ev) before) one-first no-first a b after other (is a after x) (is b other y)
-    where
-      is : (a : Answer) (after : List ℕ) → ReadAsBytes s d before a after → Settled s d (length before / 4) (replicate (length before) 0) (λ ev. bytesOf (eventNumbers ev) ++ drop (16 * length ev) before) a after
-      is a after (ReadAsBytes.refuses r z) = refuses r z
-      is a after (ReadAsBytes.accepts es ev r f e z) = accepts es ev r f e z
+  pub read-as-one : (a b : Answer) (after other : List ℕ) → Is a after → Is b other → (a ≡ b) × (after ≡ other)
+  read-as-one a b after other (refuses (typeTooLong l e) z) y = both (e, z) (when-type-long b other l y)
+  read-as-one a b after other (refuses (documentTooLong l m e) z) y = both (e, z) (when-document-long b other l m y)
+  read-as-one a b after other (refuses (typeNotAllowed l m c e) z) y = both (e, z) (when-type-dirty b other l m c y)
+  read-as-one a b after other (refuses (documentNotAllowed l m c e) z) y = both (e, z) (when-document-dirty b other l m c y)
+  read-as-one a b after other (refuses (malformed l n k r e) z) y = read-one a b after other (bad n k r e z) (when-legible b other l y)
+  read-as-one a b after other (refuses (ambiguous l es r k p q f e) z) y = read-one a b after other (clash es r k p q f e z) (when-legible b other l y)
+  read-as-one a b after other (refuses (unsettled es n k r e) z) y = read-one a b after other (stops es n k r e z) (when-legible b other (r .legible) y)
+  read-as-one a b after other (refuses (noRoom es ev r f e) z) y = read-one a b after other (tight es ev r f e z) (when-legible b other (r .legible) y)
+  read-as-one a b after other (accepts es ev r f e z) y = read-one a b after other (enough es ev r f e z) (when-legible b other (r .legible) y)

@@ -4,16 +4,17 @@ use mathlib.Core.Path.{_≡_}
 use mathlib.Core.Bool.{Bool, true, false}
 use mathlib.Core.List.{List}
 use lib.ListN.{length}
-use lib.Dec.{eqb, ltb}
-use Rattle.rules.specs.Bytes.{allowed, span}
+use lib.Dec.{ltb}
+use Rattle.rules.specs.Lent.{Lent, standing}
 use Rattle.rules.specs.Reading.{got}
 use Rattle.rules.specs.TypeFile.{Element}
-use Rattle.rules.specs.Judge.{refusal, acceptance, Accepts, bytesOf}
+use Rattle.rules.specs.Judge.{refusal, acceptance, Accepts}
 use Rattle.rules.specs.Judge as rules
 use Rattle.rules.specs.Settling.{Event}
-use Rattle.rules.specs.Reader.{documentRefusal, eventNumbers, BothLegible, Reads, RefusesBoth}
+use Rattle.rules.specs.Reader.{documentRefusal, eventNumbers, BothLegible, Reads}
+use Rattle.numbers.specs.Means.{Written}
+use Rattle.inputs.specs.Means.{RefusesAlways}
 use Rattle.element_reader.specs.Means.{Recorded}
-use Rattle.event_buffer.specs.Means.{Written}
 use Rattle.document_reader.specs.declared.Answer.{Answer}
 use Rattle.document_reader.specs.declared.Answer.the-variants as answer
 
@@ -31,43 +32,34 @@ CountFits (answer.InType f) = Unit {0}
 CountFits (answer.Ambiguous c) = Unit {0}
 CountFits (answer.InDocument f) = Unit {0}
 
--- All bytes are allowed.
-abbrev pub isClean : List ℕ → Bool
-isClean d = eqb (span allowed d) (length d)
-
--- 1 for what fails a test, else 0.
-abbrev pub failing : Bool → ℕ
-failing true = 0
-failing false = 1
-
--- A refusal that no room changes.
-abbrev pub RefusesAlways : (s d : List ℕ) → Answer → Type 0
-RefusesAlways s d a = (room : ℕ) → RefusesBoth s d room (answerOf a)
-
 -- Numbers 1 and 2 of both inputs, and the type: accepted with elements that are recorded, or refused.
 abbrev pub Judges : (s d elements : List ℕ) → Answer → Type 0
 Judges s d elements (answer.Accepted n) =
     (es : List Element) × BothLegible s d × Accepts s es × (n ≡ length es) × Recorded elements es
-Judges s d elements (answer.InType f) = RefusesAlways s d (answer.InType f)
-Judges s d elements (answer.Ambiguous c) = RefusesAlways s d (answer.Ambiguous c)
-Judges s d elements (answer.InDocument f) = RefusesAlways s d (answer.InDocument f)
+Judges s d elements (answer.InType f) = RefusesAlways s d (answerOf (answer.InType f))
+Judges s d elements (answer.Ambiguous c) = RefusesAlways s d (answerOf (answer.Ambiguous c))
+Judges s d elements (answer.InDocument f) = RefusesAlways s d (answerOf (answer.InDocument f))
 
--- The document is read: its events are counted, and both buffers have got them as far as they fit.
+-- One of a list of numbers and a list of bytes: the one that is lent.
+abbrev pub lentOf : Lent → (numbers bytes : List ℕ) → List ℕ
+lentOf Lent.numbers numbers bytes = numbers
+lentOf Lent.bytes numbers bytes = bytes
+
+-- The document is read: its events are counted, and each of the two buffers has got them if they fit.
 pub record Counts (s d numbers numbersAfter bytes bytesAfter : List ℕ) (n : ℕ) : Type 0 where
   pub elements : List Element
   pub events : List Event
   pub reads : Reads s d elements (got events)
   pub counted : n ≡ length events
-  pub in-numbers : Written numbers numbersAfter (eventNumbers events)
-  pub in-bytes : Written bytes bytesAfter (bytesOf (eventNumbers events))
+  pub written : (l : Lent) → Written (lentOf l numbers bytes) (lentOf l numbersAfter bytesAfter) (standing l (eventNumbers events))
   pub few : n < 4294967296
 
 -- It is read, or one of the inputs is refused.
 abbrev pub Answers : (s d numbers numbersAfter bytes bytesAfter : List ℕ) → Answer → Type 0
 Answers s d numbers numbersAfter bytes bytesAfter (answer.Accepted n) = Counts s d numbers numbersAfter bytes bytesAfter n
-Answers s d numbers numbersAfter bytes bytesAfter (answer.InType f) = RefusesAlways s d (answer.InType f)
-Answers s d numbers numbersAfter bytes bytesAfter (answer.Ambiguous c) = RefusesAlways s d (answer.Ambiguous c)
-Answers s d numbers numbersAfter bytes bytesAfter (answer.InDocument f) = RefusesAlways s d (answer.InDocument f)
+Answers s d numbers numbersAfter bytes bytesAfter (answer.InType f) = RefusesAlways s d (answerOf (answer.InType f))
+Answers s d numbers numbersAfter bytes bytesAfter (answer.Ambiguous c) = RefusesAlways s d (answerOf (answer.Ambiguous c))
+Answers s d numbers numbersAfter bytes bytesAfter (answer.InDocument f) = RefusesAlways s d (answerOf (answer.InDocument f))
 
 -- n events, or number 19 where they do not fit: "19 only where nothing else is wrong".
 abbrev pub unlessFull : (full : Bool) (n : ℕ) → Answer

@@ -9,8 +9,27 @@ use lib.ListN.{length, take, drop, set, getD, length-append, length-drop, length
 use lib.Seq.{length-take-le, take-suc, take-at, drop-append-add, drop-drop, sets-eq}
 use lib.Dec.{leb}
 use borrow.Author.Tests.{le-leb, lt-leb, leb-true, leb-false}
-use Rattle.rules.specs.Judge.{bytesOf}
-use Rattle.numbers.specs.Means.{written, filledWith, Written}
+use Rattle.rules.specs.Lent.{Lent, numbers, bytes, bytesOf, standing, room, filledWith}
+use Rattle.rules.specs.TypeFile.{Content, empty, model, Element}
+use Rattle.rules.specs.Judge.{contentNumbers, records}
+use Rattle.rules.specs.Settling.{Event}
+use Rattle.rules.specs.Reader.{eventNumbers}
+use Rattle.numbers.specs.Means.{written, Written}
+
+-- How many numbers records and events have.
+content-length : (c : Content) → length (contentNumbers c) ≡ 2
+content-length empty = refl
+content-length (model g ps n) = refl
+
+pub records-length : (es : List Element) → length (records es) ≡ 6 * length es
+unfolding records
+records-length [] = refl
+records-length (e ∷ es) = omega (arith, length-append (contentNumbers (e .content)) (records es), content-length (e .content), records-length es)
+
+pub eventNumbers-length : (ev : List Event) → length (eventNumbers ev) ≡ 4 * length ev
+unfolding eventNumbers
+eventNumbers-length [] = refl
+eventNumbers-length (e ∷ ev) = omega (arith, eventNumbers-length ev)
 
 -- Numbers as bytes.
 pub bytesOf-append : (xs ys : List ℕ) → bytesOf (xs ++ ys) ≡ bytesOf xs ++ bytesOf ys
@@ -35,7 +54,7 @@ splice-none l k =
     let e : k + 0 ≡ k = omega arith in
     rw e (take-append-drop k l)
 
-pub splice-first : (l xs : List ℕ) → spliced l 0 xs ≡ xs ++ drop (length xs) l
+pub splice-first : (l xs : List ℕ) → spliced l 0 xs ≡ filledWith xs l
 splice-first l xs =
     let e : 0 + length xs ≡ length xs = omega arith in
     rw e
@@ -63,6 +82,17 @@ module _ (l : List ℕ) (k : ℕ) (xs : List ℕ) (fits : k + length xs ≤ leng
 
     pub splice-more : spliced (spliced l k xs) (k + length xs) ys ≡ spliced l k (xs ++ ys)
     splice-more = rw (front, rest) (simp append-assoc)
+
+-- Numbers that fit a lent buffer leave its length.
+filled-length : (xs before : List ℕ) → length xs ≤ length before → length (filledWith xs before) ≡ length before
+filled-length xs before h = omega (arith, length-append xs (drop (length xs) before), length-drop (length xs) before)
+
+pub standing-fits : (l : Lent) (xs before : List ℕ) → length xs ≤ room l before → length (standing l xs) ≤ length before
+standing-fits numbers xs before h = h
+standing-fits bytes xs before h = omega (arith, bytesOf-length xs)
+
+pub lent-length : (l : Lent) (xs before : List ℕ) → length xs ≤ room l before → length (filledWith (standing l xs) before) ≡ length before
+lent-length l xs before h = filled-length (standing l xs) before (standing-fits l xs before h)
 
 -- A turn of a loop that writes: ys right behind the xs that stand from b on.
 pub splice-turn : (l now xs ys : List ℕ) (b at : ℕ) → now ≡ spliced l b xs → b + length xs ≤ length l → at ≡ b + length xs → spliced now at ys ≡ spliced l b (xs ++ ys)

@@ -5,14 +5,11 @@ use mathlib.Core.Bool.{true, false}
 use mathlib.Core.List.{List, _++_}
 use lib.ListN.{length, take, drop}
 use lib.Dec.{leb}
+use Rattle.rules.specs.Lent.{filledWith}
 
 -- The list with the numbers xs from k on, if they fit.
 unfoldable pub written : List ℕ → (k : ℕ) → (xs : List ℕ) → List ℕ
 written l k xs = elim (leb (k + length xs) (length l)) [ true ↦ take k l ++ (xs ++ drop (k + length xs) l) | false ↦ l ]
-
--- "What lies behind the last number written stays as it was": a buffer that held `before`, once xs is written at its start.
-abbrev pub filledWith : (xs before : List ℕ) → List ℕ
-filledWith xs before = xs ++ drop (length xs) before
 
 -- The buffer, `before` the call, has got all of xs if they fit; what lies behind them is as it was.
 abbrev pub Written : (before after xs : List ℕ) → Type 0

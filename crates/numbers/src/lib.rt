@@ -2,9 +2,9 @@
 ghost use mathlib.Core.Path.{_≡_};
 ghost use mathlib.Core.List.{_∷_, []};
 ghost use Prim.Native.Nat.{_+_, _*_, _≤_, _<_};
-ghost use lib.ListN.{length, take, replicate};
-ghost use Rattle.rules.specs.Judge.{bytesOf};
-ghost use Rattle.numbers.specs.Means.{written, filledWith};
+ghost use lib.ListN.{length, take};
+ghost use Rattle.rules.specs.Lent.{bytesOf, filledWith, zeroed};
+ghost use Rattle.numbers.specs.Means.{written};
 
 // A byte as an index.
 pub fn wide(b: u8) -> usize
@@ -22,7 +22,7 @@ pub fn widened(x: u32) -> usize
 
 // Every number of the buffer is 0.
 pub fn clear_numbers(buffer: &mut [u32])
-    ensures { λ _. ⌜ now (buffer .exit) ≡ replicate (length (now (buffer .entry))) 0 ⌝ }
+    ensures { λ _. ⌜ now (buffer .exit) ≡ zeroed (now (buffer .entry)) ⌝ }
 {
     let mut i = 0;
     while i < buffer.len() {
@@ -33,7 +33,7 @@ pub fn clear_numbers(buffer: &mut [u32])
 
 // Every byte of the buffer is 0, those over at its end too.
 pub fn clear_bytes(buffer: &mut [u8])
-    ensures { λ _. ⌜ now (buffer .exit) ≡ replicate (length (now (buffer .entry))) 0 ⌝ }
+    ensures { λ _. ⌜ now (buffer .exit) ≡ zeroed (now (buffer .entry)) ⌝ }
 {
     let mut at = 0;
     while at < buffer.len() {

@@ -1,14 +1,16 @@
 -- The type judge's answer and what its lent buffer holds after (paper 01, "What the reader takes and gives", "Refusal numbers", order).
-use Prim.Native.Nat.{ℕ, zero, suc, _+_, _-_, _*_, _/_, _%_, _<_, _≤_}
+use Prim.Native.Nat.{ℕ, zero, suc, _-_, _*_, _<_, _≤_}
 use mathlib.Core.Path.{_≡_}
 use mathlib.Core.Bool.{Bool}
 use mathlib.Core.List.{List, [], _∷_, _++_}
-use lib.ListN.{length, drop, replicate}
+use lib.ListN.{length}
 use Rattle.rules.specs.Bytes.{allowed, span, typeLimit}
+use Rattle.rules.specs.Lent.{Lent, standing, room, filledWith, zeroed}
 use Rattle.rules.specs.Reading.{refused, got}
 use Rattle.rules.specs.Walk.{Group}
 use Rattle.rules.specs.Ambiguity.{PairAtFault, FirstPair}
 use Rattle.rules.specs.TypeFile.{Place, Content, empty, model, Element, sameName, typeFile}
+unfoldable pub use Rattle.rules.specs.Lent.{bytesOf}
 
 -- The k-th place of a model, from 0.
 unfoldable pub placeAt : List Place → ℕ → Place
@@ -88,16 +90,6 @@ pub record Accepts (s : List ℕ) (es : List Element) : Type 0 where
 
 -- What the judge answers to a type file and what the lent buffer, `before` the call, holds after it.
 -- "What lies behind the last number written stays as it was; on refusal the whole buffer is zero and the count is 0."
-pub data Judged (s before : List ℕ) (a : Answer) (after : List ℕ) : Type 0 where
-  refuses : Refuses s (length before) a → after ≡ replicate (length before) 0 → Judged s before a after
-  accepts : (es : List Element) → Accepts s es → 6 * length es ≤ length before → a ≡ acceptance (length es) → after ≡ records es ++ drop (6 * length es) before → Judged s before a after
-
--- "The numbers in the lent buffer then standing as four bytes each, low byte first."
-unfoldable pub bytesOf : List ℕ → List ℕ
-bytesOf [] = []
-bytesOf (n ∷ ns) = n % 256 ∷ n / 256 % 256 ∷ n / 65536 % 256 ∷ n / 16777216 % 256 ∷ bytesOf ns
-
--- The same call on a buffer of bytes: "one to three bytes over at the end hold no number and are zeroed by a refusal".
-pub data JudgedBytes (s before : List ℕ) (a : Answer) (after : List ℕ) : Type 0 where
-  refuses : Refuses s (length before / 4) a → after ≡ replicate (length before) 0 → JudgedBytes s before a after
-  accepts : (es : List Element) → Accepts s es → 6 * length es ≤ length before / 4 → a ≡ acceptance (length es) → after ≡ bytesOf (records es) ++ drop (24 * length es) before → JudgedBytes s before a after
+pub data Judged (l : Lent) (s before : List ℕ) (a : Answer) (after : List ℕ) : Type 0 where
+  refuses : Refuses s (room l before) a → after ≡ zeroed before → Judged l s before a after
+  accepts : (es : List Element) → Accepts s es → 6 * length es ≤ room l before → a ≡ acceptance (length es) → after ≡ filledWith (standing l (records es)) before → Judged l s before a after

@@ -1,14 +1,15 @@
 -- The document reader's answer and what its lent buffer holds after (paper 01, "What the reader takes and gives", "Refusal numbers", order).
-use Prim.Native.Nat.{ℕ, zero, suc, _+_, _*_, _/_, _<_, _≤_}
+use Prim.Native.Nat.{ℕ, zero, suc, _+_, _*_, _<_, _≤_}
 use mathlib.Core.Path.{_≡_}
 use mathlib.Core.Bool.{true, false}
-use mathlib.Core.List.{List, [], _∷_, _++_}
-use lib.ListN.{length, drop, replicate}
+use mathlib.Core.List.{List, [], _∷_}
+use lib.ListN.{length}
 use lib.Dec.{leb}
 use Rattle.rules.specs.Bytes.{allowed, span, typeLimit, documentLimit}
+use Rattle.rules.specs.Lent.{Lent, standing, room, filledWith, zeroed}
 use Rattle.rules.specs.Reading.{Reading, refused, got, andThen}
 use Rattle.rules.specs.TypeFile.{Element, typeFile}
-use Rattle.rules.specs.Judge.{Answer, refusal, acceptance, FirstAmbiguous, Legible, Accepts, bytesOf}
+use Rattle.rules.specs.Judge.{Answer, refusal, acceptance, FirstAmbiguous, Legible, Accepts}
 use Rattle.rules.specs.Document.{Tag, Piece, startTag, endTag, skipped, blank, dataByte, piece}
 use Rattle.rules.specs.Settling.{Decisions, Means, Event, State, nothingOpen, numberOf, startElement, takeData, takeBlank, endElement, endDocument}
 
@@ -93,11 +94,6 @@ pub data RefusesBoth (s d : List ℕ) (room : ℕ) (a : Answer) : Type 0 where
 
 -- What the reader answers to a type file s and a document d, and what the lent buffer, `before` the call, holds after it.
 -- "What lies behind the last number written stays as it was; on refusal the whole buffer is zero and the count is 0."
-pub data ReadAs (s d before : List ℕ) (a : Answer) (after : List ℕ) : Type 0 where
-  refuses : RefusesBoth s d (length before) a → after ≡ replicate (length before) 0 → ReadAs s d before a after
-  accepts : (es : List Element) (ev : List Event) → Reads s d es (got ev) → 4 * length ev ≤ length before → a ≡ acceptance (length ev) → after ≡ eventNumbers ev ++ drop (4 * length ev) before → ReadAs s d before a after
-
--- The same call on a buffer of bytes: "one to three bytes over at the end hold no number and are zeroed by a refusal".
-pub data ReadAsBytes (s d before : List ℕ) (a : Answer) (after : List ℕ) : Type 0 where
-  refuses : RefusesBoth s d (length before / 4) a → after ≡ replicate (length before) 0 → ReadAsBytes s d before a after
-  accepts : (es : List Element) (ev : List Event) → Reads s d es (got ev) → 4 * length ev ≤ length before / 4 → a ≡ acceptance (length ev) → after ≡ bytesOf (eventNumbers ev) ++ drop (16 * length ev) before → ReadAsBytes s d before a after
+pub data ReadAs (l : Lent) (s d before : List ℕ) (a : Answer) (after : List ℕ) : Type 0 where
+  refuses : RefusesBoth s d (room l before) a → after ≡ zeroed before → ReadAs l s d before a after
+  accepts : (es : List Element) (ev : List Event) → Reads s d es (got ev) → 4 * length ev ≤ room l before → a ≡ acceptance (length ev) → after ≡ filledWith (standing l (eventNumbers ev)) before → ReadAs l s d before a after

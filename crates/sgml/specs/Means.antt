@@ -2,8 +2,9 @@
 use Prim.Native.Nat.{ℕ, _<_}
 use mathlib.Core.Path.{_≡_}
 use mathlib.Core.List.{List, [], _∷_}
-use Rattle.rules.specs.Judge.{Answer, JudgedBytes}
-use Rattle.rules.specs.Reader.{ReadAsBytes}
+use Rattle.rules.specs.Lent.{bytes}
+use Rattle.rules.specs.Judge.{Answer, Judged}
+use Rattle.rules.specs.Reader.{ReadAs}
 use Rattle.type_judge.specs.declared.Verdict.{Verdict}
 use Rattle.type_judge.specs.declared.Verdict.the-variants.{Accepted, Malformed, Ambiguous}
 use Rattle.document_reader.specs.declared.Answer as reader
@@ -15,7 +16,7 @@ answerNumbers a = a .number ∷ a .input ∷ a .position ∷ a .first ∷ a .sec
 
 -- The numbers are an answer to the type file, and the buffer holds after the call what goes with it.
 abbrev pub JudgedNumbers : (s before numbers after : List ℕ) → Type 0
-JudgedNumbers s before numbers after = (a : Answer) × (numbers ≡ answerNumbers a) × JudgedBytes s before a after
+JudgedNumbers s before numbers after = (a : Answer) × (numbers ≡ answerNumbers a) × Judged bytes s before a after
 
 -- The numbers of the answer are 32-bit numbers.
 abbrev pub VerdictFits : Verdict → Type 0
@@ -25,7 +26,7 @@ VerdictFits (Ambiguous c) = Unit {0}
 
 -- The numbers are an answer to the type file and the document, and the buffer holds after the call what goes with it.
 abbrev pub ReadNumbers : (s d before numbers after : List ℕ) → Type 0
-ReadNumbers s d before numbers after = (a : Answer) × (numbers ≡ answerNumbers a) × ReadAsBytes s d before a after
+ReadNumbers s d before numbers after = (a : Answer) × (numbers ≡ answerNumbers a) × ReadAs bytes s d before a after
 
 -- The numbers of the reader's answer are 32-bit numbers.
 abbrev pub AnswerFits : reader.Answer → Type 0

@@ -5,6 +5,7 @@ use mathlib.Core.List.{List, _++_}
 use native.Mathlib.Omega.{arith}
 use lib.ListN.{length, drop, replicate, length-replicate}
 use lib.Seq.{length-take-le}
+use Rattle.rules.specs.Lent.{numbers}
 use Rattle.rules.specs.Reading.{got}
 use Rattle.rules.specs.TypeFile.{Element}
 use Rattle.rules.specs.Judge.{Answer, acceptance}
@@ -14,7 +15,8 @@ use Rattle.io.specs.Counts.{Counts}
 use Rattle.sgml_events.specs.Means.{LoadedIn}
 use Rattle.sgml_events.specs.declared.Loaded.{Loaded}
 use Rattle.sgml_events.specs.declared.Loaded.the-variants.{Bytes}
-use Rattle.sgml_events.specs.Printed.{inputText, refusedText, Prints, refusal}
+use Rattle.event_lines.specs.Printed.{inputText, refusedText}
+use Rattle.sgml_events.specs.Prints.{Prints, refusal}
 
 -- A refusal names its input, 1 or 2.
 refuses-input : {s d : List ℕ} {room : ℕ} {a : Answer} → RefusesBoth s d room a → 1 ≤ a .input
@@ -37,20 +39,20 @@ pub record Read (s d after : List ℕ) (n : ℕ) : Type 0 where
   pub count : n ≡ length evs
   pub written : after ≡ eventNumbers evs ++ rest
 
-module _ (s d before : List ℕ) (a : Answer) (after : List ℕ) (lent : before ≡ replicate 16384 0) (answered : ReadAs s d before a after) where
+module _ (s d before : List ℕ) (a : Answer) (after : List ℕ) (lent : before ≡ replicate 16384 0) (answered : ReadAs numbers s d before a after) where
   lent-length : length before ≡ 16384
   lent-length = ap length lent ∙ length-replicate {A = ℕ} 16384 0
 
   pub accepted-read : (n : ℕ) → a ≡ acceptance n → Read s d after n
   accepted-read n e = by-answer answered
     where
-      by-answer : ReadAs s d before a after → Read s d after n
+      by-answer : ReadAs numbers s d before a after → Read s d after n
       by-answer (refuses x z) = absurd (omega (arith, refuses-input x, ap (λ (y : Answer). y .input) e))
       by-answer (accepts es ev r f c w) =
           record {
             elements = es;
             evs = ev;
-            rest = drop (4 * length ev) before;
+            rest = drop (length (eventNumbers ev)) before;
             reads = r;
             fits = omega (arith, lent-length);
             count = ap (λ (y : Answer). y .count) (sym e ∙ c);
@@ -60,12 +62,12 @@ module _ (s d before : List ℕ) (a : Answer) (after : List ℕ) (lent : before 
   refused-read : 1 ≤ a .input → RefusesBoth s d 16384 a
   refused-read h = by-answer answered
     where
-      by-answer : ReadAs s d before a after → RefusesBoth s d 16384 a
+      by-answer : ReadAs numbers s d before a after → RefusesBoth s d 16384 a
       by-answer (refuses x z) = rw (← lent-length) x
       by-answer (accepts es ev r f c w) = absurd (omega (arith, ap (λ (y : Answer). y .input) c))
 
 -- A refusal that is known prints its number, input and position.
-pub prints-refusal : (s d before after text : List ℕ) {a b : Answer} → before ≡ replicate 16384 0 → ReadAs s d before a after → a ≡ b → 1 ≤ b .input
+pub prints-refusal : (s d before after text : List ℕ) {a b : Answer} → before ≡ replicate 16384 0 → ReadAs numbers s d before a after → a ≡ b → 1 ≤ b .input
     → text ≡ refusedText (b .number) (inputText (b .input)) (b .position) → Prints s d text
 prints-refusal s d before after text {a} {b} lent answered e h q =
     refusal b (rw e at (refused-read s d before a after lent answered (rw e h))) q

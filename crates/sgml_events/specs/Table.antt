@@ -4,30 +4,21 @@ use mathlib.Core.Path.{_≡_, refl, sym, ap, _∙_}
 use mathlib.Core.List.{List, [], _∷_, _++_}
 use native.Mathlib.Omega.{arith}
 use native.Mathlib.Decide.{decLt}
-use lib.ListN.{length, take, drop, getD, replicate, length-append, length-drop, length-replicate, getD-replicate, List·getD-eq-default}
+use lib.ListN.{length, take, drop, getD, replicate, length-replicate, getD-replicate, List·getD-eq-default}
 use lib.Seq.{take-at, getD-append-add, getD-drop, drop-drop}
-use Rattle.rules.specs.TypeFile.{Element, Content, empty, model}
-use Rattle.rules.specs.Judge.{Answer, contentNumbers, records, Accepts, Judged, accepts}
+use Rattle.rules.specs.Lent.{numbers, filledWith}
+use Rattle.rules.specs.TypeFile.{Element}
+use Rattle.rules.specs.Judge.{Answer, records, Accepts, Judged, accepts}
 use Rattle.rules.specs.Settling.{Event, elementAt}
 use Rattle.rules.specs.Reader.{eventNumbers}
+use Rattle.numbers.specs.Laws.{records-length, lent-length}
 use Rattle.rules_laws.specs.Within.{typeFile-count}
 use Rattle.element_reader.specs.Means.{Recorded}
 use Rattle.element_index.specs.Laws.{recorded-offset, recorded-size}
 use Rattle.type_laws.specs.Again.{typeFile-sizes}
 use Rattle.demands.specs.Demands.{judged-one}
-use Rattle.demands.specs.Words.{numbers}
-use Rattle.sgml_events.specs.Printed.{decimal, word, nameText, line, eventLines, eventsWord, eventsText}
-use Rattle.sgml_events.specs.Means.{Adds, Fits, nameIn, lineAt, linesFrom}
-use Rattle.sgml_events.specs.Laws.{puts-both}
-
-content-length : (c : Content) → length (contentNumbers c) ≡ 2
-content-length empty = refl
-content-length (model g ps n) = refl
-
-records-length : (es : List Element) → length (records es) ≡ 6 * length es
-unfolding records
-records-length [] = refl
-records-length (e ∷ es) = omega (arith, length-append (contentNumbers (e .content)) (records es), content-length (e .content), records-length es)
+use Rattle.event_lines.specs.Printed.{nameText, line, eventLines, eventsText}
+use Rattle.event_lines.specs.Means.{Fits, nameIn, lineAt, linesFrom, textOf}
 
 zero-at : (n i : ℕ) → _≡_ {A = ℕ} (getD (replicate n 0) i 0) 0
 zero-at n i = by-place (decLt i n)
@@ -43,21 +34,20 @@ element-past [] k h = (refl, refl)
 element-past (e ∷ es) zero h = absurd (omega arith)
 element-past (e ∷ es) (suc k) h = element-past es k (omega arith)
 
-module _ (s : List ℕ) (es : List Element) (accepted : Accepts s es) (a : Answer) (before elements : List ℕ) (lent : before ≡ replicate 384 0) (judged : Judged s before a elements) where
+module _ (s : List ℕ) (es : List Element) (accepted : Accepts s es) (a : Answer) (before elements : List ℕ) (lent : before ≡ replicate 384 0) (judged : Judged numbers s before a elements) where
   few : 6 * length es ≤ 384
   few = omega (arith, typeFile-count s es (accepted .elements))
 
-  elements-are : elements ≡ records es ++ drop (6 * length es) before
+  elements-are : elements ≡ filledWith (records es) before
   elements-are = judged-one numbers s before a _ elements _ judged (accepts es accepted (omega (arith, few, ap length lent, length-replicate {A = ℕ} 384 0)) refl refl) .1
 
   recorded : Recorded elements es
-  recorded = rw elements-are (take-at (records es) (drop (6 * length es) before) (6 * length es) (records-length es))
+  recorded = rw elements-are (take-at (records es) (drop (length (records es)) before) (6 * length es) (records-length es))
 
   -- Behind the records the table is as it was lent.
   behind : (j : ℕ) → 6 * length es ≤ j → getD elements j 0 ≡ 0
   behind j h =
       let z : j ≡ length (records es) + (j - 6 * length es) = omega (arith, records-length es) in
-      let w : 6 * length es + (j - 6 * length es) ≡ j = omega arith in
       rw (elements-are, z, getD-append-add, getD-drop, lent, zero-at)
 
   at-is : (k : ℕ) → getD elements (6 * k) 0 ≡ elementAt es k .at
@@ -84,7 +74,7 @@ module _ (s : List ℕ) (es : List Element) (accepted : Accepts s es) (a : Answe
   pub table-fits : Fits s elements
   table-fits =
       record {
-        whole = ap length elements-are ∙ omega (arith, length-append (records es) (drop (6 * length es) before), length-drop (6 * length es) before, records-length es, few, ap length lent, length-replicate {A = ℕ} 384 0);
+        whole = ap length elements-are ∙ lent-length numbers (records es) before (omega (arith, few, records-length es, ap length lent, length-replicate {A = ℕ} 384 0)) ∙ ap length lent ∙ length-replicate {A = ℕ} 384 0;
         short = λ k. rw (size-is k) (name-fits k .0);
         inside = λ k. rw (at-is k, size-is k) (name-fits k .1);
       }
@@ -115,11 +105,8 @@ module _ (s : List ℕ) (es : List Element) (elements : List ℕ) (names : (k : 
   lines-are ev q = lines-from ev 0 q
 
 -- The whole text of the events.
-pub puts-events : {out first second after : List ℕ} {b c r : ℕ} (s elements buffer : List ℕ) (n : ℕ) → Adds out 0 first b eventsWord
-    → Adds first b second c (word (decimal n) 10) → Adds second c after r (linesFrom s elements buffer n 0)
+pub text-is : {text : List ℕ} (s elements buffer : List ℕ) (n : ℕ) → text ≡ textOf s elements buffer n
     → (es : List Element) (ev : List Event) (rest : List ℕ) → ((k : ℕ) → nameIn s elements k ≡ nameText s es k) → buffer ≡ eventNumbers ev ++ rest → n ≡ length ev
-    → take r after ≡ eventsText s es ev
-unfolding eventsText
-puts-events s elements buffer n x y z es ev rest names q count =
-    let all = puts-both x (puts-both y z) in
-    all .text-is ∙ rw (count, lines-are s es elements names buffer rest ev q)
+    → text ≡ eventsText s es ev
+unfolding textOf eventsText
+text-is s elements buffer n t es ev rest names q count = t ∙ rw (count, lines-are s es elements names buffer rest ev q)

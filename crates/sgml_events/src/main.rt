@@ -1,14 +1,12 @@
 // Reads the type file `type.sgm` and the document `doc.sgm` of the folder that it runs in, and prints the document's
 // events or the one refusal.
-mod lines;
-
 use document_reader::Answer;
 use libc::STDOUT_FILENO;
 ghost use Prim.Native.Nat.{_≤_};
 ghost use lib.ListN.{length, take};
 ghost use Rattle.io.specs.Counts.{Counts};
-ghost use Rattle.sgml_events.specs.Printed.{Prints};
-ghost use Rattle.sgml_events.specs.Means.{LoadedIn};
+ghost use Rattle.sgml_events.specs.Prints.{Prints};
+ghost use Rattle.sgml_events.specs.Means.{LoadedIn, Accepted, EventsPut};
 
 // How many bytes of a file were read.
 pub enum Loaded {
@@ -60,6 +58,16 @@ fn file_read(path: &[u8], buf: &mut [u8]) -> Loaded
     r
 }
 
+// The text of n events of a document whose type is accepted; the judge gives where its elements' names stand.
+fn put_events(out: &mut [u8], s: &[u8], numbers: &[u32; 16384], n: usize) -> usize
+    requires { ⌜ (294984 ≤ length (now out)) × Accepted (now s) × (n ≤ 4096) ⌝ }
+    ensures { λ r. ⌜ Counts r (now (out .exit)) × EventsPut (now (s .entry)) (now (numbers .entry)) n (take r (now (out .exit))) ⌝ }
+{
+    let mut elements = [0u32; 384];
+    type_judge::judge(s, &mut elements);
+    event_lines::put_events(out, s, &elements, numbers, n)
+}
+
 // The text that is printed for a type file and a document, at the start of out.
 fn printed(s: &[u8], d: &[u8], out: &mut [u8]) -> usize
     requires { ⌜ 294984 ≤ length (now out) ⌝ }
@@ -68,10 +76,10 @@ fn printed(s: &[u8], d: &[u8], out: &mut [u8]) -> usize
     let mut numbers = [0u32; 16384];
     let a = document_reader::read(s, d, &mut numbers);
     match a {
-        Answer::Accepted(n) => lines::put_events(out, s, &numbers, n),
-        Answer::InType(f) => lines::put_refusal(out, f.number, b"in type at ", f.at),
-        Answer::Ambiguous(c) => lines::put_refusal(out, 9, b"in type at ", c.at as usize),
-        Answer::InDocument(f) => lines::put_refusal(out, f.number, b"in document at ", f.at),
+        Answer::Accepted(n) => put_events(out, s, &numbers, n),
+        Answer::InType(f) => event_lines::put_refusal(out, f.number, b"in type at ", f.at),
+        Answer::Ambiguous(c) => event_lines::put_refusal(out, 9, b"in type at ", c.at as usize),
+        Answer::InDocument(f) => event_lines::put_refusal(out, f.number, b"in document at ", f.at),
     }
 }
 

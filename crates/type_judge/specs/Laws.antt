@@ -1,17 +1,15 @@
 -- Laws of the verdict on a type file, and of the lent buffer.
-use Prim.Native.Nat.{ℕ, zero, suc, _+_, _*_, _≤_, _<_}
+use Prim.Native.Nat.{ℕ, _*_, _≤_, _<_}
 use mathlib.Core.Path.{_≡_, refl, ap}
 use mathlib.Core.Logic.{inl, inr}
-use mathlib.Core.List.{List, [], _∷_, _++_}
+use mathlib.Core.List.{List}
 use native.Mathlib.Omega.{arith}
-use native.Mathlib.Numerals.{add-one}
-use native.Mathlib.Nat.{not-suc-le-zero, le-of-suc-le-suc}
-use lib.ListN.{length, take, drop, set, getD, replicate}
-use Rattle.rules.specs.Bytes.{allowed, span}
+use lib.ListN.{length, take, drop, length-append, take-append-drop}
+use Rattle.rules.specs.Lent.{Lent, standing, room, filledWith, zeroed}
 use Rattle.rules.specs.Reading.{Reading, refused, got}
 use Rattle.rules.specs.TypeFile.{Element, typeFile}
 use Rattle.rules.specs.Judge.{Legible, Refuses, Accepts, malformed, ambiguous, noRoom, Judged, refuses, accepts, refusal, acceptance}
-use Rattle.text.specs.Laws.{span-in}
+use Rattle.numbers.specs.Laws.{records-length}
 use Rattle.text.specs.declared.Fault.{Fault}
 use Rattle.element_records.specs.declared.Clash.{Clash}
 use Rattle.element_records.specs.declared.Progress.{Progress}
@@ -24,20 +22,7 @@ use Rattle.element_records.specs.Clashes.{none-so-far}
 use Rattle.type_file.specs.File.{MeetsFile}
 use Rattle.type_judge.specs.Means.{answerOf, Decides}
 
--- A turn of the loop that copies numbers to the start of a list.
-copy-suc : (n : ℕ) (from onto : List ℕ) → n < length from → n < length onto → set (take n from ++ drop n onto) n (getD from n 0) ≡ take (suc n) from ++ drop (suc n) onto
-copy-suc n [] onto l m = absurd (not-suc-le-zero l)
-copy-suc n (x ∷ from) [] l m = absurd (not-suc-le-zero m)
-copy-suc zero (x ∷ from) (y ∷ onto) l m = refl
-copy-suc (suc n) (x ∷ from) (y ∷ onto) l m = ap (λ (t : List ℕ). x ∷ t) (copy-suc n from onto (le-of-suc-le-suc l) (le-of-suc-le-suc m))
-
-pub copy-more : (n : ℕ) (from onto : List ℕ) → n < length from → n < length onto → set (take n from ++ drop n onto) n (getD from n 0) ≡ take (n + 1) from ++ drop (n + 1) onto
-copy-more n from onto l m = rw (add-one n) (copy-suc n from onto l m)
-
 -- The verdict on a type file that was refused, or read.
-pub legible-all : (s : List ℕ) (a : ℕ) → length s ≤ 32768 → a ≡ span allowed s → length s ≤ a → Legible s
-legible-all s a h e l = record { short = h; clean = omega (arith, span-in allowed s 0 (omega arith)) }
-
 module _ (s : List ℕ) (room : ℕ) (legible : Legible s) where
   pub decides-malformed : (elements : List ℕ) (r : Step) → MeetsFile s elements r (typeFile s) → (f g : Fault) → r ≡ Refused f → g ≡ stepFault r → Refuses s room (refusal (g .number) (g .at) 0 0)
   decides-malformed elements r m f g e q = rw (q, e) (by-reading (typeFile s) refl (rw e at m))
@@ -61,21 +46,23 @@ module _ (s : List ℕ) (room : ℕ) (legible : Legible s) where
           (es, all, k .counted, rw (k .counted) at l, k .room, k .recorded)
 
 -- What the lent buffer holds after the verdict.
-module _ (s before elements : List ℕ) (v : Verdict) (d : Decides s (length before) elements v) where
-  pub accepted-fits : (n : ℕ) → v ≡ Accepted n → (n ≤ 64) × (6 * n ≤ length before)
+module _ (l : Lent) (s before elements : List ℕ) (v : Verdict) (d : Decides s (room l before) elements v) where
+  -- The records stand in the table, and fit the buffer.
+  pub accepted-fits : (n : ℕ) → v ≡ Accepted n → (n ≤ 64) × (6 * n ≤ room l before) × (6 * n ≤ length elements)
   accepted-fits n e =
-      let (es, a, c, room, few, w) = rw e at d in
-      (omega arith, omega arith)
+      let (es, a, c, fits, few, w) = rw e at d in
+      let whole = ap length (take-append-drop (6 * length es) elements) in
+      (omega arith, omega arith, omega (arith, length-append (take (6 * length es) elements) (drop (6 * length es) elements), ap length w, records-length es))
 
-  pub judged-accepts : (n : ℕ) (after : List ℕ) → v ≡ Accepted n → after ≡ take (6 * n) elements ++ drop (6 * n) before → Judged s before (answerOf (Accepted n)) after
+  pub judged-accepts : (n : ℕ) (after : List ℕ) → v ≡ Accepted n → after ≡ filledWith (standing l (take (6 * n) elements)) before → Judged l s before (answerOf (Accepted n)) after
   judged-accepts n after e q =
-      let (es, a, c, room, few, w) = rw e at d in
-      accepts es a room (ap acceptance c) (rw (q, c, w))
+      let (es, a, c, fits, few, w) = rw e at d in
+      accepts es a fits (ap acceptance c) (rw (q, c, w))
 
-  pub judged-refuses : (after : List ℕ) → ((n : ℕ) → v ≡ Accepted n → ⊥) → after ≡ replicate (length before) 0 → Judged s before (answerOf v) after
+  pub judged-refuses : (after : List ℕ) → ((n : ℕ) → v ≡ Accepted n → ⊥) → after ≡ zeroed before → Judged l s before (answerOf v) after
   judged-refuses after other q = by-verdict v refl d
     where
-      by-verdict : (u : Verdict) → v ≡ u → Decides s (length before) elements u → Judged s before (answerOf v) after
+      by-verdict : (u : Verdict) → v ≡ u → Decides s (room l before) elements u → Judged l s before (answerOf v) after
       by-verdict (Accepted n) e h = absurd (other n e)
       by-verdict (Malformed f) e h = rw e (refuses h q)
       by-verdict (Ambiguous c) e h = rw e (refuses h q)

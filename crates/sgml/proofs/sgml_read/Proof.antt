@@ -1,5 +1,6 @@
 -- `sgml_read` meets its contract: the reader's answer, as six numbers.
 use borrow.Author.Needs.{needs}
+use Rattle.rules.specs.Lent.{bytes}
 use Rattle.document_reader.specs.Means.{answerOf}
 use Rattle.sgml.specs.Laws.{answer-fits}
 use Rattle.sgml.proofs.sgml_read.Statement.{statement}
@@ -12,7 +13,7 @@ numbers-read-requires : tie.Need-numbers-read-requires
 numbers-read-requires c κs =
     let a = c .before .before .before .before .before .before .before .args in
     let r = c .before .before .read-to-bytes in
-    answer-fits (a .type-file .now) (a .document .now) (a .buffer .now) (r .last .1 .1 .0) (r .result) (r .ensures .0) (r .ensures .1)
+    answer-fits bytes (a .type-file .now) (a .document .now) (a .buffer .now) (r .last .1 .1 .0) (r .result) (r .ensures .0) (r .ensures .1)
 
 same-length : tie.Need-same-length
 same-length c = c .before .before .before .read-to-bytes .kept .1 .1 .0

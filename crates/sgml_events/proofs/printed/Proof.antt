@@ -3,7 +3,7 @@ use mathlib.Core.Path.{refl, ap}
 use native.Mathlib.Omega.{arith}
 use borrow.Author.Needs.{needs}
 use Rattle.document_reader.specs.Means.{answerOf}
-use Rattle.sgml_events.specs.Printed.{events}
+use Rattle.sgml_events.specs.Prints.{events}
 use Rattle.sgml_events.specs.Answers.{accepted-read, prints-refusal, counts-of}
 use Rattle.sgml_events.proofs.printed.Statement.{statement}
 use Rattle.sgml_events.proofs.printed.Tie as tie
@@ -59,7 +59,7 @@ returns : tie.Need-returns
 returns c =
     let read = accepted-read _ _ _ _ _ refl (c .before .before .before .before .before .before .before .before .before .read .ensures .0) _ (ap answerOf (c .before .before .before .before .before .before .a .given .1)) in
     let said = c .before .before .put-events .ensures in
-    (counts-of _ _ (said .0), events (read .elements) (read .evs) (read .reads) (read .fits) (said .1 (read .elements) (read .evs) (read .rest) (read .reads .accepted) (read .written) (read .count)))
+    (said .0, events (read .elements) (read .evs) (read .reads) (read .fits) (said .1 (read .elements) (read .evs) (read .rest) (read .reads .accepted) (read .written) (read .count)))
 
 same-length-2 : tie.Need-same-length-2
 same-length-2 c = search needs

@@ -3,17 +3,21 @@ use Prim.Native.Nat.{_≤_, _*_}
 use mathlib.Core.Logic.{⊎-elim}
 use native.Mathlib.Omega.{arith}
 use lib.ListN.{length}
+use Rattle.rules.specs.Lent.{numbers, room}
 use Rattle.type_judge.specs.Laws.{accepted-fits, judged-accepts, judged-refuses}
 use borrow.Author.Needs.{needs}
 use Rattle.type_judge.proofs.judge.Statement.{statement}
 use Rattle.type_judge.proofs.judge.Tie as tie
 
 -- The records fit the table and the buffer.
-fits : (c : tie.After-v) → (c .v .given .0 .0 ≤ 64) × (6 * c .v .given .0 .0 ≤ length (c .before .before .before .before .before .before .args .buffer .now))
+fits : (c : tie.After-v) →
+    let b = c .before .before .before .before .before .before .args .buffer .now in
+    let n = c .v .given .0 .0 in
+    (n ≤ 64) × (6 * n ≤ room numbers b) × (6 * n ≤ length (c .before .before .decide .last .1 .1 .0))
 fits c =
     let a = c .before .before .before .before .before .before .args in
     let d = c .before .before .decide in
-    accepted-fits (a .s .now) (a .buffer .now) (d .last .1 .1 .0) (d .result) (d .ensures) (c .v .given .0 .0) (c .v .given .1)
+    accepted-fits numbers (a .s .now) (a .buffer .now) (d .last .1 .1 .0) (d .result) (d .ensures) (c .v .given .0 .0) (c .v .given .1)
 
 decide-requires : tie.Need-decide-requires
 decide-requires c κs = search needs
@@ -21,23 +25,29 @@ decide-requires c κs = search needs
 enum-known-v : tie.Need-enum-known-v
 enum-known-v c = search needs
 
+whole-requires : tie.Need-whole-requires
+whole-requires c κs = tt
+
+slice-aggregate-put-numbers : tie.Need-slice-aggregate-put-numbers
+slice-aggregate-put-numbers c = search needs
+
 mul-put-numbers : tie.Need-mul-put-numbers
-mul-put-numbers c = omega (arith, fits (c .before .before .before))
+mul-put-numbers c = omega (arith, fits (c .before .before .before .before))
 
 put-numbers-requires : tie.Need-put-numbers-requires
-put-numbers-requires c κs = omega (arith, fits (c .before .before .before))
+put-numbers-requires c κs = omega (arith, fits (c .before .before .before .before))
 
-clear-requires : tie.Need-clear-requires
-clear-requires c κs = search needs
+clear-numbers-requires : tie.Need-clear-numbers-requires
+clear-numbers-requires c κs = search needs
 
 same-length : tie.Need-same-length
 same-length c = search needs
 
 returns : tie.Need-returns
 returns c =
-    let a = c .before .before .before .before .before .before .before .before .before .before .before .before .args in
-    let d = c .before .before .before .before .before .before .before .before .decide in
-    judged-accepts (a .s .now) (a .buffer .now) (d .last .1 .1 .0) (d .result) (d .ensures) _ _ (c .before .before .before .before .before .before .v .given .1) (c .before .before .put-numbers .ensures)
+    let a = c .before .before .before .before .before .before .before .before .before .before .before .before .before .args in
+    let d = c .before .before .before .before .before .before .before .before .before .decide in
+    judged-accepts numbers (a .s .now) (a .buffer .now) (d .last .1 .1 .0) (d .result) (d .ensures) _ _ (c .before .before .before .before .before .before .before .v .given .1) (c .before .before .put-numbers .ensures)
 
 same-length-2 : tie.Need-same-length-2
 same-length-2 c = search needs
@@ -46,8 +56,8 @@ returns-2 : tie.Need-returns-2
 returns-2 c =
     let a = c .before .before .before .before .before .before .before .before .before .args in
     let d = c .before .before .before .before .before .decide in
-    judged-refuses (a .s .now) (a .buffer .now) (d .last .1 .1 .0) (d .result) (d .ensures) _
-    (λ n e. ⊎-elim (λ z. omega arith) (λ z. omega arith) (rw e at (c .before .before .before .before .match .keys2))) (c .before .before .clear .ensures)
+    judged-refuses numbers (a .s .now) (a .buffer .now) (d .last .1 .1 .0) (d .result) (d .ensures) _
+    (λ n e. ⊎-elim (λ z. omega arith) (λ z. omega arith) (rw e at (c .before .before .before .before .match .keys2))) (c .before .before .clear-numbers .ensures)
 
 pub judge-spec : {M : Type 1} → statement M
 judge-spec =
@@ -55,9 +65,11 @@ judge-spec =
     (tie.spec
     decide-requires
     enum-known-v
+    whole-requires
+    slice-aggregate-put-numbers
     mul-put-numbers
     put-numbers-requires
-    clear-requires
+    clear-numbers-requires
     same-length
     returns
     same-length-2

@@ -1,0 +1,38 @@
+-- The printed text, worked out: numbers, and the text of a document with one element.
+use Prim.Native.Nat.{ℕ}
+use mathlib.Core.Path.{_≡_, refl}
+use mathlib.Core.List.{List, [], _∷_}
+use Rattle.rules.specs.Bytes.{fold}
+use Rattle.rules.specs.TypeFile.{Element, empty}
+use Rattle.rules.specs.Settling.{Event, elementAt}
+use Rattle.line_text.specs.Means.{decimalWithin, decimal, word, upper}
+use Rattle.event_lines.specs.Printed.{line, eventLines, eventsText, inType, refusedText}
+
+decimals : (decimal 0 ≡ 48 ∷ []) × (decimal 10 ≡ 49 ∷ 48 ∷ []) × (decimal 65535 ≡ 54 ∷ 53 ∷ 53 ∷ 51 ∷ 53 ∷ [])
+unfolding decimal decimalWithin
+decimals = (refl, refl, refl)
+
+-- `Qty`, declared EMPTY, and its events in the document `<Qty>`.
+abbrev typeText : List ℕ
+typeText = 81 ∷ 116 ∷ 121 ∷ []
+
+abbrev declared : Element
+declared = record { at = 0; size = 3; start = 1; end = 1; content = empty }
+
+abbrev written : Event
+written = record { kind = 1; number = 1; offset = 0; size = 5 }
+
+abbrev ended : Event
+ended = record { kind = 6; number = 1; offset = 5; size = 0 }
+
+-- `events 2`, `1 QTY 0 5`, `6 QTY 5 0`.
+lines : eventsText typeText (declared ∷ []) (written ∷ ended ∷ [])
+    ≡ 101 ∷ 118 ∷ 101 ∷ 110 ∷ 116 ∷ 115 ∷ 32 ∷ 50 ∷ 10 ∷ 49 ∷ 32 ∷ 81 ∷ 84 ∷ 89 ∷ 32 ∷ 48 ∷ 32 ∷ 53 ∷ 10 ∷ 54 ∷ 32 ∷ 81 ∷ 84 ∷ 89 ∷ 32 ∷ 53 ∷ 32 ∷ 48 ∷ 10 ∷ []
+unfolding eventsText eventLines line word upper decimal decimalWithin elementAt fold
+lines = refl
+
+-- `refused 9 in type at 19`.
+refused : refusedText 9 inType 19
+    ≡ 114 ∷ 101 ∷ 102 ∷ 117 ∷ 115 ∷ 101 ∷ 100 ∷ 32 ∷ 57 ∷ 32 ∷ 105 ∷ 110 ∷ 32 ∷ 116 ∷ 121 ∷ 112 ∷ 101 ∷ 32 ∷ 97 ∷ 116 ∷ 32 ∷ 49 ∷ 57 ∷ 10 ∷ []
+unfolding refusedText word decimal decimalWithin
+refused = refl

@@ -1,0 +1,30 @@
+-- What is known of both inputs before they are read.
+use Prim.Native.Nat.{ℕ}
+use mathlib.Core.Bool.{Bool, true, false}
+use mathlib.Core.List.{List}
+use lib.ListN.{length}
+use lib.Dec.{eqb}
+use Rattle.rules.specs.Bytes.{allowed, span}
+use Rattle.rules.specs.Judge.{Answer, refusal}
+use Rattle.rules.specs.Reader.{documentRefusal, BothLegible, RefusesBoth}
+use Rattle.inputs.specs.declared.Checked.{Checked}
+use Rattle.inputs.specs.declared.Checked.the-variants as checked
+
+-- All bytes are allowed.
+abbrev pub isClean : List ℕ → Bool
+isClean d = eqb (span allowed d) (length d)
+
+-- 1 for what fails a test, else 0.
+abbrev pub failing : Bool → ℕ
+failing true = 0
+failing false = 1
+
+-- A refusal that no room changes.
+abbrev pub RefusesAlways : (s d : List ℕ) → Answer → Type 0
+RefusesAlways s d a = (room : ℕ) → RefusesBoth s d room a
+
+-- Both inputs are legible, or one is refused by 1 or 2, as the order picks.
+abbrev pub Checks : (s d : List ℕ) → Checked → Type 0
+Checks s d checked.Legible = BothLegible s d
+Checks s d (checked.InType f) = RefusesAlways s d (refusal (f .number) (f .at) 0 0)
+Checks s d (checked.InDocument f) = RefusesAlways s d (documentRefusal (f .number) (f .at))

@@ -1,0 +1,31 @@
+-- `sgml_events::put_events` puts the text of the events: the table of elements that the judge leaves has their names.
+use mathlib.Core.Path.{refl}
+use native.Mathlib.Omega.{arith}
+use borrow.Author.Needs.{needs}
+use Rattle.sgml_events.specs.Table.{table-fits, names-are, text-is}
+use Rattle.sgml_events.specs.Answers.{counts-of}
+use Rattle.sgml_events.proofs.put_events.Statement.{statement}
+use Rattle.sgml_events.proofs.put_events.Tie as tie
+
+slice-aggregate-judge : tie.Need-slice-aggregate-judge
+slice-aggregate-judge c = search needs
+
+judge-requires : tie.Need-judge-requires
+judge-requires c κs = search needs
+
+put-events-requires : tie.Need-put-events-requires
+put-events-requires c κs =
+    let (es, accepted) = c .before .before .before .before .before .before .before .pre .1 in
+    (omega arith, table-fits _ es accepted _ _ _ refl (c .before .before .before .judge .ensures), omega arith)
+
+same-length : tie.Need-same-length
+same-length c = search needs
+
+returns : tie.Need-returns
+returns c =
+    let said = c .before .before .put-events .ensures in
+    let judged = c .before .before .before .before .before .before .judge .ensures in
+    (counts-of _ _ (said .0), λ es ev rest accepted q count. text-is _ _ _ _ (said .1) es ev rest (names-are _ es accepted _ _ _ refl judged) q count)
+
+pub put-events-spec : {M : Type 1} → statement M
+put-events-spec = tie.close (tie.spec slice-aggregate-judge judge-requires put-events-requires same-length returns)
