@@ -12,7 +12,7 @@ use Rattle.rules.specs.TypeFile.{Place, model, Element, typeFile}
 use Rattle.rules.specs.Judge.{samePlace, Answer, acceptance, FirstAmbiguous, records, bytesOf, Legible, Refuses, noRoom, Accepts, Judged, JudgedBytes}
 use Rattle.rules.specs.Settling.{Event, State}
 use Rattle.rules.specs.Reader.{eventNumbers, BothLegible, Reads, RefusesBoth, ReadAs, ReadAsBytes}
-use Rattle.last_places.specs.Depth.{Passes, passes-few}
+use Rattle.document_laws.specs.Same.{Passes, passes-few}
 use Rattle.demands.specs.Words.{Lent, numbers, bytes, Promise, room, filled, Refusal, Acceptance, SomeAmbiguous, NamesFirst, NamesDecide, ReaderPromise, noted, ReaderRefusal, ReaderAcceptance, SameVerdict}
 use Rattle.demands.specs.Proofs.{Settled, refuses, accepts, settled-one, settled-refuses, settled-accepts, settled-fair, settled-faulty, refuses-named, refuses-some, settled-nine, settled-nineteen, first-model, model-exactly, not-ambiguous, names-alone, settled-length, numbers-kept, bytes-kept}
 use Rattle.demands.specs.ReaderProofs.{Given, from-numbers, from-bytes, to-numbers, to-bytes, numbers-one, bytes-one, reading-one, both-says, both-some, given-nine, given-nineteen, type-refused, given-refuses, given-accepts, given-faulty, given-fair, given-length, events-kept, event-bytes-kept}

@@ -17,7 +17,7 @@ use Rattle.rules_laws.specs.Within.{typeFile-count}
 use Rattle.text.specs.Laws.{spanned, before-all, span-turn, span-end, span-in}
 use Rattle.text.specs.declared.Fault.{Fault}
 use Rattle.type_judge.specs.Means.{Decides}
-use Rattle.type_judge.specs.declared.Clash.{Clash}
+use Rattle.element_records.specs.declared.Clash.{Clash}
 use Rattle.type_judge.specs.declared.Verdict.{Verdict}
 use Rattle.type_judge.specs.declared.Verdict.the-variants as verdict
 use Rattle.document_laws.specs.Decide.{decided}

@@ -1,7 +1,7 @@
 // The document reader: a type file, a document and a lent buffer in, events or one refusal out.
 use document_events::Counted;
+use element_records::Clash;
 use text::Fault;
-use type_judge::Clash;
 use type_judge::Verdict;
 ghost use mathlib.Core.Path.{_≡_};
 ghost use Rattle.rules.specs.Bytes.{allowed};

@@ -114,7 +114,7 @@ fn declaration_at(s: &[u8], i: usize) -> Token
         return Token::Skipped(i + 3);
     }
     if dashes_at(s, i) {
-        return skipped(text::comment_end(s, i + 4));
+        return skipped(gaps::comment_end(s, i + 4));
     }
     if is_left_out(b) {
         return Token::Refused(Fault { number: 5, at: i });

@@ -31,7 +31,7 @@ pub fn offset(elements: &[u32; 384], k: usize) -> usize
 }
 
 // Whether n bytes of s from a and n bytes of t from b are equal, folded. All of them are there, so that none is asked whether it still is
-// within, as `text::same_text` does. Most that are equal are so as they stand.
+// within, as `words::same_text` does. Most that are equal are so as they stand.
 fn same_name(s: &[u8], a: usize, t: &[u8], b: usize, n: usize) -> bool
     requires { ⌜ (a + n ≤ length (now s)) × (b + n ≤ length (now t)) ⌝ }
     ensures { λ r. ⌜ r ≡ sameText (now (s .entry)) a (now (t .entry)) b n ⌝ }

@@ -54,7 +54,7 @@ pub fn same_place(s: &[u8], names: &[u32; 192], p: usize, q: usize) -> bool
 {
     let n = place_size(names, p);
     if n == place_size(names, q) {
-        text::same_text(s, place_at(names, p), s, place_at(names, q), n)
+        words::same_text(s, place_at(names, p), s, place_at(names, q), n)
     } else {
         false
     }

@@ -5,8 +5,9 @@ use native.Mathlib.Omega.{arith}
 use Rattle.rules.specs.Reading.{got}
 use Rattle.rules.specs.TypeFile.{Element, typeFile}
 use Rattle.rules.specs.Judge.{Legible, tooLong, notAllowed}
-use Rattle.type_judge.specs.Means.{KeepsProgress}
-use Rattle.type_judge.specs.Laws.{legible-all, decides-malformed, file-kept, decides-ambiguous, decides-full, decides-accepted}
+use Rattle.element_records.specs.Progress.{KeepsProgress}
+use Rattle.type_file.specs.Turns.{file-kept}
+use Rattle.type_judge.specs.Laws.{legible-all, decides-malformed, decides-ambiguous, decides-full, decides-accepted}
 use borrow.Author.Needs.{needs}
 use Rattle.type_judge.proofs.decide.Statement.{statement}
 use Rattle.type_judge.proofs.decide.Tie as tie

@@ -1,0 +1,106 @@
+-- `file_read` meets its contract: between two declarations what was read so far is kept, and the rules go on from there.
+use Prim.Native.Nat.{_≤_, _<_, _-_}
+use native.Mathlib.Omega.{arith}
+use lib.ListN.{length}
+use borrow.Author.Needs.{needs}
+use Rattle.rules.specs.TypeFile.{declaration}
+use Rattle.element_records.specs.Progress.{MeetsStep}
+use Rattle.type_file.specs.Turns.{ReadsOn, reads-start, reads-none, reads-end, reads-refused, reads-turn}
+use Rattle.type_file.proofs.file_read.Statement.{statement}
+use Rattle.type_file.proofs.file_read.Tie as tie
+
+abbrev Inv-loop : tie.InvT-loop
+Inv-loop s elements₀ names₀ table₀ p₀ elements names table p = (length s ≤ 32768) × ReadsOn s elements p
+
+abbrev μ-loop : tie.MeasureT-loop
+μ-loop s elements₀ names₀ table₀ p₀ elements names table p = length s - p .at
+
+-- What a declaration comes to, after those read so far.
+read : (c : tie.After-declaration-at Inv-loop μ-loop) →
+    let i = c .before .before .before .before .before in
+    let s = i .before .before .before .args .s .now in
+    let so-far = i .before .loop .inv .1 .so-far in
+    let at = i .separators-end .result in
+    MeetsStep s (c .declaration-at .last .1 .1 .1 .0) at (c .declaration-at .result) (declaration s at so-far)
+read c =
+    let i = c .before .before .before .before .before .before .loop .inv .1 in
+    c .declaration-at .ensures (i .so-far) (i .keeps)
+
+-- A turn that read a declaration.
+turned : (c : tie.After-r Inv-loop μ-loop) →
+    let s = c .before .before .before .before .before .before .before .before .before .before .args .s .now in
+    let q = c .r .given .0 .0 in
+    ReadsOn s (c .before .before .declaration-at .last .1 .1 .1 .0) q × (c .before .before .before .before .before .before .before .before .loop .p .at < q .at) × (q .at ≤ length s)
+turned c =
+    let s = c .before .before .before .before .before .before .before .before .before .before .args .s .now in
+    let l = c .before .before .before .before .before .before .before .before .loop in
+    let e = c .before .before .before .before .before .before .before .separators-end .ensures in
+    let d = c .before .before .declaration-at in
+    reads-turn s (l .elements) (l .p) (l .inv .1) _ e (c .before .before .before .before .before .before .if1 .left) (d .last .1 .1 .1 .0) (d .result) _ (c .r .given .1) (read (c .before .before))
+
+loop-holds : tie.Need-loop-holds Inv-loop μ-loop
+loop-holds c = (c .before .pre, reads-start (c .before .args .s .now) (c .before .args .elements .now))
+
+separators-end-requires : tie.Need-separators-end-requires Inv-loop μ-loop
+separators-end-requires c κs = c .loop .inv .1 .keeps .at-in
+
+refusal-requires : tie.Need-refusal-requires Inv-loop μ-loop
+refusal-requires c κs = tt
+
+returns : tie.Need-returns Inv-loop μ-loop
+returns c =
+    let s = c .before .before .before .before .before .before .before .args .s .now in
+    let l = c .before .before .before .before .before .loop in
+    reads-none s (l .elements) (l .p) (l .inv .1) _ _ (c .before .before .before .before .separators-end .ensures) (c .before .before .before .if1 .taken) (c .before .if2 .taken) (c .refusal .ensures)
+
+returns-2 : tie.Need-returns-2 Inv-loop μ-loop
+returns-2 c =
+    let s = c .before .before .before .before .before .before .args .s .now in
+    let l = c .before .before .before .before .loop in
+    reads-end s (l .elements) (l .p) (l .inv .1) _ (c .before .before .before .separators-end .ensures) (c .before .before .if1 .taken) (c .if2 .left)
+
+declaration-at-requires : tie.Need-declaration-at-requires Inv-loop μ-loop
+declaration-at-requires c κs =
+    let i = c .before .before .before .before .before .loop .inv in
+    ((c .before .before .before .if1 .left, i .0), (i .1 .so-far, i .1 .keeps))
+
+enum-known-r : tie.Need-enum-known-r Inv-loop μ-loop
+enum-known-r c = search needs
+
+enum-told : tie.Need-enum-told Inv-loop μ-loop
+enum-told c = search needs
+
+returns-3 : tie.Need-returns-3 Inv-loop μ-loop
+returns-3 c =
+    let s = c .before .before .before .before .before .before .before .before .before .before .args .s .now in
+    let l = c .before .before .before .before .before .before .before .before .loop in
+    let e = c .before .before .before .before .before .before .before .separators-end .ensures in
+    let d = c .before .before .declaration-at in
+    reads-refused s (l .elements) (l .p) (l .inv .1) _ e (c .before .before .before .before .before .before .if1 .left) (d .last .1 .1 .1 .0) (d .result) _ (c .enum-told .given .1)
+    (read (c .before .before))
+
+loop-less : tie.Need-loop-less Inv-loop μ-loop
+loop-less c =
+    let (on, further, within) = turned (c .before) in
+    omega arith
+
+loop-again : tie.Need-loop-again Inv-loop μ-loop
+loop-again c = (c .before .before .before .before .before .before .before .before .before .loop .inv .0, turned (c .before) .0)
+
+pub file-read-spec : {M : Type 1} → statement M
+file-read-spec =
+    tie.close
+    (tie.spec
+    Inv-loop
+    μ-loop
+    loop-holds
+    separators-end-requires
+    refusal-requires
+    returns
+    returns-2
+    declaration-at-requires
+    enum-known-r
+    enum-told
+    returns-3
+    loop-less
+    loop-again)

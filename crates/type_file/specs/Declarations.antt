@@ -1,0 +1,124 @@
+-- Laws of the rules' declarations: each way that reading of one goes.
+use Prim.Native.Nat.{ℕ, _+_, _-_, _≤_, _<_}
+use mathlib.Core.Path.{_≡_, refl, sym, ap, _∙_}
+use mathlib.Core.Bool.{true, false}
+use mathlib.Core.List.{List}
+use native.Mathlib.Omega.{arith}
+use lib.ListN.{length}
+use borrow.Author.Tests.{ne-eqb, lt-ltb, le-ltb}
+use Rattle.rules.specs.Bytes.{byteAt, letter, nameEnd}
+use Rattle.rules.specs.Reading.{Reading, refused, got, andThen}
+use Rattle.rules.specs.TypeFile.{Element, Declared, isWord, ELEMENT, commentDeclaration, element, keyword, markup, declaration}
+use Rattle.text.specs.Means.{reached, faultOf}
+use Rattle.text.specs.Laws.{comment-range}
+use Rattle.text.specs.declared.Fault.{Fault}
+use Rattle.text.specs.declared.Reached.{Reached}
+use Rattle.text.specs.declared.Reached.the-variants as reachedAs
+use Rattle.element_records.specs.declared.Progress.{Progress}
+use Rattle.element_records.specs.declared.Step.{Step}
+use Rattle.element_records.specs.declared.Step.the-variants.{Read, Refused}
+use Rattle.element_records.specs.Progress.{KeepsProgress, MeetsStep}
+
+-- A step that was refused, that goes on with the same elements, and that began further back.
+module _ (s elements : List ℕ) where
+  pub step-refused : (from n k : ℕ) (x : Reading Declared) (r : Step) → x ≡ refused n k → r ≡ Refused (record { number = n; at = k }) → MeetsStep s elements from r x
+  step-refused from n k x r e q = rw (e, q) (refl, refl)
+
+  pub step-onward : (from j : ℕ) (p : Progress) (es : List Element) (x : Reading Declared) (r : Step) → KeepsProgress s elements p es → x ≡ got (record { elements = es; at = j })
+      → r ≡ Read (record { at = j; count = p .count; clash = p .clash }) → from < j → j ≤ length s → MeetsStep s elements from r x
+  step-onward from j p es x r k e q f l =
+      rw (e, q) (record { counted = k .counted; room = k .room; recorded = k .recorded; at-in = l; pending = k .pending }, refl, f)
+
+  pub step-back : (from to : ℕ) → from ≤ to → (r : Step) (x : Reading Declared) → MeetsStep s elements to r x → MeetsStep s elements from r x
+  step-back from to l (Read p) (got d) m = (m .0, m .1, omega (arith, m .2))
+  step-back from to l (Read p) (refused n k) m = m
+  step-back from to l (Refused f) (got d) m = m
+  step-back from to l (Refused f) (refused n k) m = m
+
+-- Keywords, the one at i ending at e.
+module _ (s : List ℕ) (i e : ℕ) (es : List Element) (ends : e ≡ nameEnd s (i + 2)) where
+  pub keyword-long : 8 < e - (i + 2) → keyword s i es ≡ refused 3 (i + 2)
+  unfolding keyword
+  keyword-long h = rw (lt-ltb _ _ (rw ends at h), keyword)
+
+  module _ (h : e - (i + 2) ≤ 8) where
+    pub keyword-element : isWord s (i + 2) e ELEMENT ≡ true → keyword s i es ≡ element s e es
+    unfolding keyword
+    keyword-element w = rw (ends, le-ltb _ _ (rw ends at h), rw ends at w, keyword)
+
+    pub keyword-other : isWord s (i + 2) e ELEMENT ≡ false → keyword s i es ≡ refused 5 i
+    unfolding keyword
+    keyword-other w = rw (le-ltb _ _ (rw ends at h), rw ends at w, keyword)
+
+-- What stands behind `<!`, where the byte b follows.
+module _ (s : List ℕ) (i b : ℕ) (es : List Element) (read : b ≡ byteAt s (i + 2)) where
+  pub markup-none : b ≡ 62 → markup s i es ≡ got (record { elements = es; at = i + 3 })
+  unfolding markup
+  markup-none q = rw (rw read at q, markup)
+
+  module _ (d : ℕ) (then : d ≡ byteAt s (i + 3)) (q : b ≡ 45) where
+    pub markup-dash : (d ≡ 45 → ⊥) → markup s i es ≡ refused 4 (i + 3)
+    unfolding markup
+    markup-dash o =
+        let m = rw read at q in
+        rw (m, m, ne-eqb _ _ (rw then at o), markup)
+
+    pub markup-comment : (x : Reading ℕ) → d ≡ 45 → x ≡ commentDeclaration s (i + 4) → markup s i es ≡ andThen x (λ j. got (record { elements = es; at = j }))
+    unfolding markup
+    markup-comment x o c =
+        let m = rw read at q in
+        rw (m, m, rw then at o, ← c, markup)
+
+  pub markup-section : b ≡ 91 → markup s i es ≡ refused 5 i
+  unfolding markup
+  markup-section q =
+      let m = rw read at q in
+      rw (m, m, m, markup)
+
+  module _ (none : b ≡ 62 → ⊥) (dash : b ≡ 45 → ⊥) (section : b ≡ 91 → ⊥) where
+    pub markup-keyword : letter b ≡ true → markup s i es ≡ keyword s i es
+    unfolding markup
+    markup-keyword l = rw (ne-eqb _ _ (rw read at none), ne-eqb _ _ (rw read at dash), ne-eqb _ _ (rw read at section), rw read at l, markup)
+
+    pub markup-other : letter b ≡ false → markup s i es ≡ refused 4 (i + 2)
+    unfolding markup
+    markup-other l = rw (ne-eqb _ _ (rw read at none), ne-eqb _ _ (rw read at dash), ne-eqb _ _ (rw read at section), rw read at l, markup)
+
+-- The end of a comment declaration.
+module _ (s elements : List ℕ) (i : ℕ) (p : Progress) (es : List Element) (r : Reached) (x : Reading Declared)
+    (read : x ≡ andThen (reached r) (λ j. got (record { elements = es; at = j }))) where
+  pub comment-refused : (f g : Fault) → r ≡ reachedAs.Refused f → g ≡ faultOf r → MeetsStep s elements i (Refused g) x
+  comment-refused f g e q = rw (read, q, e) (refl, refl)
+
+  pub comment-onward : (j : ℕ) (z : Step) → r ≡ reachedAs.At j → reached r ≡ commentDeclaration s (i + 4) → KeepsProgress s elements p es
+      → z ≡ Read (record { at = j; count = p .count; clash = p .clash }) → MeetsStep s elements i z x
+  comment-onward j z e c k w =
+      let l = comment-range s (i + 4) j (sym c ∙ ap reached e) in
+      step-onward s elements i j p es x z k (read ∙ rw e) w (omega arith) (l .1)
+
+-- What stands at i, where a declaration may begin: the byte b.
+module _ (s : List ℕ) (i b : ℕ) (es : List Element) (read : b ≡ byteAt s i) where
+  module _ (d : ℕ) (then : d ≡ byteAt s (i + 1)) (q : b ≡ 60) where
+    pub declaration-markup : d ≡ 33 → declaration s i es ≡ markup s i es
+    unfolding declaration
+    declaration-markup o = rw (rw read at q, rw then at o, declaration)
+
+    pub declaration-instruction : d ≡ 63 → declaration s i es ≡ refused 5 i
+    unfolding declaration
+    declaration-instruction o =
+        let m = rw then at o in
+        rw (rw read at q, m, m, declaration)
+
+    pub declaration-tag : (d ≡ 33 → ⊥) → (d ≡ 63 → ⊥) → declaration s i es ≡ refused 4 (i + 1)
+    unfolding declaration
+    declaration-tag m o = rw (rw read at q, ne-eqb _ _ (rw then at m), ne-eqb _ _ (rw then at o), declaration)
+
+  pub declaration-reference : b ≡ 37 → declaration s i es ≡ refused 5 i
+  unfolding declaration
+  declaration-reference q =
+      let m = rw read at q in
+      rw (m, m, declaration)
+
+  pub declaration-other : (b ≡ 60 → ⊥) → (b ≡ 37 → ⊥) → declaration s i es ≡ refused 4 i
+  unfolding declaration
+  declaration-other m o = rw (ne-eqb _ _ (rw read at m), ne-eqb _ _ (rw read at o), declaration)

@@ -1,0 +1,159 @@
+// The whole type file: separators, comment declarations and element declarations to its end, or the first refusal.
+use element_records::Clash;
+use element_records::Progress;
+use element_records::Step;
+use text::Fault;
+use text::Reached;
+ghost use mathlib.Core.Path.{_≡_};
+ghost use mathlib.Core.List.{List};
+ghost use Prim.Native.Nat.{_+_, _≤_, _<_};
+ghost use lib.ListN.{length};
+ghost use Rattle.rules.specs.TypeFile.{keyword, markup, declaration, typeFile};
+ghost use Rattle.rules.specs.TypeFile as rules;
+ghost use Rattle.element_records.specs.Progress.{KeepsProgress, InProgress, MeetsStep};
+ghost use Rattle.type_file.specs.File.{MeetsFile};
+
+fn refusal(number: u32, at: usize) -> Step
+    ensures { λ r. ⌜ r ≡ Step.Refused (record { number = number; at = at }) ⌝ }
+{
+    Step::Refused(Fault {
+        number: number,
+        at: at,
+    })
+}
+
+// `<!` at i and a letter after it.
+fn keyword_at(
+    s: &[u8],
+    i: usize,
+    p: Progress,
+    elements: &mut [u32; 384],
+    names: &mut [u32; 192],
+    table: &mut [u8; 9506],
+) -> Step
+    requires { ⌜ (i + 2 ≤ length (now s)) × (length (now s) ≤ 32768) ⌝ }
+    requires { ⌜ InProgress (now s) (now elements) p ⌝ }
+    ensures { λ r. ⌜ ((es : List rules.Element) → KeepsProgress (now (s .entry)) (now (elements .entry)) p es →
+        MeetsStep (now (s .entry)) (now (elements .exit)) i r (keyword (now (s .entry)) i es)) ⌝ }
+{
+    let e = text::name_end(s, i + 2);
+    if 8 < e - (i + 2) {
+        return refusal(3, i + 2);
+    }
+    if words::is_word(s, i + 2, e, b"ELEMENT") {
+        return element_records::element_at(s, e, p, elements, names, table);
+    }
+    refusal(5, i)
+}
+
+// What p counts, read up to `at`.
+fn onward(p: Progress, at: usize) -> Step
+    ensures { λ r. ⌜ r ≡ Step.Read (record { at = at; count = p .count; clash = p .clash }) ⌝ }
+{
+    let c = p.clash;
+    Step::Read(Progress {
+        at: at,
+        count: p.count,
+        clash: c,
+    })
+}
+
+// `<!` at i.
+fn markup_at(
+    s: &[u8],
+    i: usize,
+    p: Progress,
+    elements: &mut [u32; 384],
+    names: &mut [u32; 192],
+    table: &mut [u8; 9506],
+) -> Step
+    requires { ⌜ (i + 2 ≤ length (now s)) × (length (now s) ≤ 32768) ⌝ }
+    requires { ⌜ InProgress (now s) (now elements) p ⌝ }
+    ensures { λ r. ⌜ ((es : List rules.Element) → KeepsProgress (now (s .entry)) (now (elements .entry)) p es →
+        MeetsStep (now (s .entry)) (now (elements .exit)) i r (markup (now (s .entry)) i es)) ⌝ }
+{
+    let b = text::byte(s, i + 2);
+    if b == b'>' {
+        return onward(p, i + 3);
+    }
+    if b == b'-' {
+        if text::byte(s, i + 3) != b'-' {
+            return refusal(4, i + 3);
+        }
+        let r = gaps::comment_end(s, i + 4);
+        let Reached::At(j) = r else {
+            return Step::Refused(text::fault_of(r));
+        };
+        return onward(p, j);
+    }
+    if b == b'[' {
+        return refusal(5, i);
+    }
+    if text::is_letter(b) {
+        return keyword_at(s, i, p, elements, names, table);
+    }
+    refusal(4, i + 2)
+}
+
+// What begins at i, where a declaration may begin.
+fn declaration_at(
+    s: &[u8],
+    i: usize,
+    p: Progress,
+    elements: &mut [u32; 384],
+    names: &mut [u32; 192],
+    table: &mut [u8; 9506],
+) -> Step
+    requires { ⌜ (i < length (now s)) × (length (now s) ≤ 32768) ⌝ }
+    requires { ⌜ InProgress (now s) (now elements) p ⌝ }
+    ensures { λ r. ⌜ ((es : List rules.Element) → KeepsProgress (now (s .entry)) (now (elements .entry)) p es →
+        MeetsStep (now (s .entry)) (now (elements .exit)) i r (declaration (now (s .entry)) i es)) ⌝ }
+{
+    let b = text::byte(s, i);
+    if b == b'<' {
+        let c = text::byte(s, i + 1);
+        if c == b'!' {
+            return markup_at(s, i, p, elements, names, table);
+        }
+        if c == b'?' {
+            return refusal(5, i);
+        }
+        return refusal(4, i + 1);
+    }
+    if b == b'%' {
+        return refusal(5, i);
+    }
+    refusal(4, i)
+}
+
+// The whole type file. What stands in `elements` behind the records of its elements, and in all of it on refusal, is not decided.
+pub fn file_read(s: &[u8], elements: &mut [u32; 384]) -> Step
+    requires { ⌜ length (now s) ≤ 32768 ⌝ }
+    ensures { λ r. ⌜ MeetsFile (now (s .entry)) (now (elements .exit)) r (typeFile (now (s .entry))) ⌝ }
+{
+    let mut names = [0u32; 192];
+    let mut table = [0u8; 9506];
+    let mut p = Progress {
+        at: 0,
+        count: 0,
+        clash: Clash {
+            at: 0,
+            first: 0,
+            second: 0,
+        },
+    };
+    loop {
+        let i = text::separators_end(s, p.at);
+        if s.len() <= i {
+            if p.count == 0 {
+                return refusal(8, s.len());
+            }
+            return Step::Read(p);
+        }
+        let r = declaration_at(s, i, p, elements, &mut names, &mut table);
+        let Step::Read(q) = r else {
+            return r;
+        };
+        p = q;
+    }
+}
