@@ -11,12 +11,12 @@ use borrow.Author.Count.{below-more}
 use Rattle.rules.specs.Walk.{Group}
 use Rattle.rules.specs.TypeFile.{Place, Content, model}
 use Rattle.model_sets.specs.Sets.{size, Numbered, nextIn, completeIn}
-use Rattle.model_sets.specs.Reach.{lastOr0}
 use Rattle.model_table.specs.Fill.{tableOf}
 use Rattle.model_links.specs.Cells.{below-or-from}
 use Rattle.model_table.specs.Means.{table-says}
 use Rattle.document_laws.specs.Decide.{isCompleteIn, requiredOf}
 use Rattle.last_places.specs.Last.{placed}
+use Rattle.last_places.specs.Short.{last-placed}
 use Rattle.type_tables.specs.Means.{rowAt, bitOf, nextOf}
 use Rattle.model_rows.specs.Bits.{cellOf, packedOf, flag-is, packed-bit, lowest-bit, single-bit}
 
@@ -142,11 +142,6 @@ module _ (table : List ℕ) (e u : ℕ) (S : List ℕ) (h : RowHas table e u S) 
           let b : p % 8 ≡ 0 = omega arith in
           let z : p ≡ 96 = omega arith in
           rw (a, b, z) (single-bit table (u * 98 + 96) _ (h .last))
-
--- The last place taken is u.
-last-placed : (u : ℕ) → lastOr0 (placed u) ≡ u
-last-placed zero = refl
-last-placed (suc u) = refl
 
 -- A row of a model's table says what the walks of the model decide.
 pub row-says : (g : Group) (ps : List Place) (n e u : ℕ) (S : List ℕ) → Numbered g 1 → size g ≤ 96 → u ≤ size g → RowHas (tableOf g) e u S → RowSays (model g ps n) e u S
