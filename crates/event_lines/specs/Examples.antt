@@ -5,7 +5,7 @@ use mathlib.Core.List.{List, [], _∷_}
 use Rattle.rules.specs.Bytes.{fold}
 use Rattle.rules.specs.TypeFile.{Element, empty}
 use Rattle.rules.specs.Settling.{Event, elementAt}
-use Rattle.printed_words.specs.Means.{decimalWithin, decimal, word, upper}
+use Rattle.line_text.specs.Means.{decimalWithin, decimal, word, upper}
 use Rattle.event_lines.specs.Printed.{line, eventLines, eventsText, inType, refusedText}
 
 decimals : (decimal 0 ≡ 48 ∷ []) × (decimal 10 ≡ 49 ∷ 48 ∷ []) × (decimal 65535 ≡ 54 ∷ 53 ∷ 53 ∷ 51 ∷ 53 ∷ [])

@@ -6,7 +6,7 @@ use lib.ListN.{length}
 use lib.Dec.{leb}
 use Rattle.rules.specs.TypeFile.{Element}
 use Rattle.rules.specs.Settling.{Event, elementAt}
-use Rattle.printed_words.specs.Means.{decimal, word, upper}
+use Rattle.line_text.specs.Means.{decimal, word, upper}
 
 -- "Element name in upper case or `-`".
 abbrev pub nameText : List ℕ → List Element → ℕ → List ℕ

@@ -2,7 +2,7 @@
 ghost use mathlib.Core.Path.{_≡_};
 ghost use Prim.Native.Nat.{_+_, _*_, _≤_, _<_};
 ghost use lib.ListN.{length, take};
-ghost use Rattle.printed_words.specs.Means.{word, Adds};
+ghost use Rattle.line_text.specs.Means.{word, Adds};
 ghost use Rattle.event_lines.specs.Printed.{refusedText};
 ghost use Rattle.event_lines.specs.Means.{Fits, nameIn, lineAt, linesFrom, textOf};
 
@@ -12,18 +12,18 @@ fn put_name(out: &mut [u8], at: usize, s: &[u8], elements: &[u32; 384], x: u32) 
     ensures { λ r. ⌜ Adds (now (out .entry)) at (now (out .exit)) r (word (nameIn (now (s .entry)) (now (elements .entry)) x) 32) × (r ≤ at + 9) ⌝ }
 {
     if x == 0 {
-        let dash = printed_words::put_byte(out, at, b'-');
-        return printed_words::put_byte(out, dash, b' ');
+        let dash = line_text::put_byte(out, at, b'-');
+        return line_text::put_byte(out, dash, b' ');
     }
     if 64 < x {
-        return printed_words::put_byte(out, at, b' ');
+        return line_text::put_byte(out, at, b' ');
     }
     let number = numbers::widened(x);
     let k = 6 * (number - 1);
     let from = numbers::widened(elements[k]);
     let size = numbers::widened(elements[k + 1]);
-    let end = printed_words::put_upper(out, at, s, from, size);
-    printed_words::put_byte(out, end, b' ')
+    let end = line_text::put_upper(out, at, s, from, size);
+    line_text::put_byte(out, end, b' ')
 }
 
 // The line of the event whose numbers begin at i.
@@ -38,10 +38,10 @@ fn put_event(
     requires { ⌜ (at + 72 ≤ length (now out)) × Fits (now s) (now elements) × (i + 4 ≤ 16384) ⌝ }
     ensures { λ r. ⌜ Adds (now (out .entry)) at (now (out .exit)) r (lineAt (now (s .entry)) (now (elements .entry)) (now (numbers .entry)) i) × (r ≤ at + 72) ⌝ }
 {
-    let a = printed_words::put_short(out, at, numbers[i], b' ');
+    let a = line_text::put_short(out, at, numbers[i], b' ');
     let b = put_name(out, a, s, elements, numbers[i + 1]);
-    let c = printed_words::put_short(out, b, numbers[i + 2], b' ');
-    printed_words::put_short(out, c, numbers[i + 3], b'\n')
+    let c = line_text::put_short(out, b, numbers[i + 2], b' ');
+    line_text::put_short(out, c, numbers[i + 3], b'\n')
 }
 
 // The lines of n events.
@@ -76,8 +76,8 @@ pub fn put_events(
     requires { ⌜ (294984 ≤ length (now out)) × Fits (now s) (now elements) × (n ≤ 4096) ⌝ }
     ensures { λ r. ⌜ (r ≤ length (now (out .exit))) × (take r (now (out .exit)) ≡ textOf (now (s .entry)) (now (elements .entry)) (now (numbers .entry)) n) ⌝ }
 {
-    let a = printed_words::put_bytes(out, 0, b"events ");
-    let b = printed_words::put_number(out, a, n as u64, b'\n');
+    let a = line_text::put_bytes(out, 0, b"events ");
+    let b = line_text::put_number(out, a, n as u64, b'\n');
     put_lines(out, b, s, elements, numbers, n)
 }
 
@@ -86,8 +86,8 @@ pub fn put_refusal(out: &mut [u8], number: u32, place: &[u8], position: usize) -
     requires { ⌜ 50 + length (now place) ≤ length (now out) ⌝ }
     ensures { λ r. ⌜ (r ≤ length (now (out .exit))) × (take r (now (out .exit)) ≡ refusedText number (now (place .entry)) position) ⌝ }
 {
-    let a = printed_words::put_bytes(out, 0, b"refused ");
-    let b = printed_words::put_short(out, a, number, b' ');
-    let c = printed_words::put_bytes(out, b, place);
-    printed_words::put_number(out, c, position as u64, b'\n')
+    let a = line_text::put_bytes(out, 0, b"refused ");
+    let b = line_text::put_short(out, a, number, b' ');
+    let c = line_text::put_bytes(out, b, place);
+    line_text::put_number(out, c, position as u64, b'\n')
 }

@@ -1,9 +1,9 @@
--- `printed_words::put_number` puts the number in decimal: the digits that `io::decimal` writes.
+-- `line_text::put_number` puts the number in decimal: the digits that `io::decimal` writes.
 use native.Mathlib.Omega.{arith}
 use borrow.Author.Needs.{needs}
-use Rattle.printed_words.specs.Laws.{puts-number}
-use Rattle.printed_words.proofs.put_number.Statement.{statement}
-use Rattle.printed_words.proofs.put_number.Tie as tie
+use Rattle.line_text.specs.Laws.{puts-number}
+use Rattle.line_text.proofs.put_number.Statement.{statement}
+use Rattle.line_text.proofs.put_number.Tie as tie
 
 decimal-requires : tie.Need-decimal-requires
 decimal-requires c κs = search needs

@@ -1,13 +1,13 @@
--- `printed_words::put_bytes` puts all the bytes. The invariant says what is left of them.
+-- `line_text::put_bytes` puts all the bytes. The invariant says what is left of them.
 use Prim.Native.Nat.{_-_}
 use mathlib.Core.Path.{refl}
 use native.Mathlib.Omega.{arith}
 use native.Mathlib.Numerals.{add-one}
 use lib.ListN.{length, drop}
 use lib.Seq.{drop-cons}
-use Rattle.printed_words.specs.Laws.{Puts, puts-start, puts-turn, puts-end}
-use Rattle.printed_words.proofs.put_bytes.Statement.{statement}
-use Rattle.printed_words.proofs.put_bytes.Tie as tie
+use Rattle.line_text.specs.Laws.{Puts, puts-start, puts-turn, puts-end}
+use Rattle.line_text.proofs.put_bytes.Statement.{statement}
+use Rattle.line_text.proofs.put_bytes.Tie as tie
 
 abbrev Inv-loop : tie.InvT-loop
 Inv-loop out₀ at bytes i₀ out i = Puts out₀ at out i (drop i bytes) bytes

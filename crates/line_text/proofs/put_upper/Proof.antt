@@ -1,10 +1,10 @@
--- `printed_words::put_upper` puts the bytes in upper case. The invariant says what is left of them.
+-- `line_text::put_upper` puts the bytes in upper case. The invariant says what is left of them.
 use Prim.Native.Nat.{_+_, _-_}
 use native.Mathlib.Omega.{arith}
-use Rattle.printed_words.specs.Means.{upper}
-use Rattle.printed_words.specs.Laws.{Puts, puts-start, puts-turn, puts-end, upper-length, upper-start, upper-next}
-use Rattle.printed_words.proofs.put_upper.Statement.{statement}
-use Rattle.printed_words.proofs.put_upper.Tie as tie
+use Rattle.line_text.specs.Means.{upper}
+use Rattle.line_text.specs.Laws.{Puts, puts-start, puts-turn, puts-end, upper-length, upper-start, upper-next}
+use Rattle.line_text.proofs.put_upper.Statement.{statement}
+use Rattle.line_text.proofs.put_upper.Tie as tie
 
 abbrev Inv-loop : tie.InvT-loop
 Inv-loop out₀ at s from size i₀ out i = Puts out₀ at out i (upper s (from + i) (size - i)) (upper s from size)

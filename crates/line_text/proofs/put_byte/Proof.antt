@@ -1,8 +1,8 @@
--- `printed_words::put_byte` puts one byte.
+-- `line_text::put_byte` puts one byte.
 use borrow.Author.Needs.{needs}
-use Rattle.printed_words.specs.Laws.{put-one}
-use Rattle.printed_words.proofs.put_byte.Statement.{statement}
-use Rattle.printed_words.proofs.put_byte.Tie as tie
+use Rattle.line_text.specs.Laws.{put-one}
+use Rattle.line_text.proofs.put_byte.Statement.{statement}
+use Rattle.line_text.proofs.put_byte.Tie as tie
 
 slice-write-out : tie.Need-slice-write-out
 slice-write-out c = search needs
