@@ -17,7 +17,7 @@ use Rattle.document_laws.specs.Decide.{isCompleteIn, requiredOf}
 use Rattle.last_places.specs.Last.{lastOnly, allLast, short, InRange, Sound}
 use Rattle.last_places.specs.Short.{last-placed}
 use Rattle.type_tables.specs.Means.{standing, width, completeAt, requiredAt, Rows, Requires}
-use Rattle.type_tables.specs.Ranges.{width-most, required-most, required-kept, required-small}
+use Rattle.type_tables.specs.Ranges.{required-kept, required-small}
 use Rattle.open_elements.specs.declared.Entry.{Entry}
 use Rattle.open_elements.specs.declared.Open.{Open}
 use Rattle.open_elements.specs.Means.{none, opened, aroundOf, current, around, stateOf, fresh, took, covered, opening, parentOf, ended, Within, Ranged, Marked, Stands}
@@ -142,11 +142,6 @@ parent-document {es} {o} h e = let z : o .count - 1 ≡ 0 = omega arith in rw z 
 -- The place that is kept as required is required after the place taken last.
 pub stands-requires : {es : List Element} {o : Open} → Stands es o → Requires es (o .element) (o .required) (o .place)
 stands-requires h = record { range = stands-range h; required = h .marked .required }
-
--- The required place is one of the model's, or 0.
-pub stands-required : {s : List ℕ} {es : List Element} {o : Open} → Accepts s es → Stands es o → o .required ≤ 96
-stands-required {s} {es} {o} accepted h =
-    omega (arith, h .marked .required, required-most s es accepted (o .element) (o .place) (stands-place h), width-most s es accepted (o .element))
 
 -- Nothing is open: the document itself is not complete, and requires its one place.
 pub stands-fresh : (es : List Element) → Stands es fresh

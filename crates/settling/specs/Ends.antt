@@ -7,7 +7,7 @@ use native.Mathlib.Omega.{arith}
 use lib.ListN.{length, length-append}
 use Rattle.rules.specs.Reading.{refused, got}
 use Rattle.rules.specs.TypeFile.{Element}
-use Rattle.rules.specs.Settling.{Token, Event, endInferred, State, settled, stuck, inward, settleFrom, fitting}
+use Rattle.rules.specs.Settling.{Token, Decisions, Event, endInferred, State, settled, stuck, inward, settleFrom, fitting}
 use Rattle.rules.specs.Settling as rules
 use Rattle.document_laws.specs.Decide.{decided}
 use Rattle.last_places.specs.Short.{state}
@@ -24,19 +24,19 @@ use Rattle.settling.specs.Inward.{inwardAs, inward-way}
 
 -- Steps 3 and 4
 
-module _ (s : List ℕ) (es : List Element) (t : Token) (at : ℕ) where
-  settle-inward : (us : List rules.Open) (o : rules.Open) (ev : List Event) (y : State) → inward s es (decided s es) t at (state o us ev) ≡ settled y → settleFrom s es (decided s es) t at us o ev ≡ got y
+module _ (s : List ℕ) (es : List Element) (D : Decisions) (t : Token) (at : ℕ) where
+  settle-inward : (us : List rules.Open) (o : rules.Open) (ev : List Event) (y : State) → inward s es D t at (state o us ev) ≡ settled y → settleFrom s es D t at us o ev ≡ got y
   unfolding settleFrom
   settle-inward [] o ev y e = rw (e, settleFrom)
   settle-inward (u ∷ us) o ev y e = rw (e, settleFrom)
 
-  settle-stuck : (us : List rules.Open) (o : rules.Open) (ev : List Event) → inward s es (decided s es) t at (state o us ev) ≡ stuck → mayEnd s es o us ≡ false → settleFrom s es (decided s es) t at us o ev ≡ refused 12 at
+  settle-stuck : (us : List rules.Open) (o : rules.Open) (ev : List Event) → inward s es D t at (state o us ev) ≡ stuck → mayEnd s es D o us ≡ false → settleFrom s es D t at us o ev ≡ refused 12 at
   unfolding settleFrom
   settle-stuck [] o ev e h = rw (e, settleFrom)
   settle-stuck (u ∷ us) o ev e h = rw (e, settleFrom, h)
 
-  settle-end : (u : rules.Open) (us ws : List rules.Open) → ws ≡ u ∷ us → (o : rules.Open) (ev : List Event) → inward s es (decided s es) t at (state o ws ev) ≡ stuck → mayEnd s es o ws ≡ true
-      → settleFrom s es (decided s es) t at ws o ev ≡ settleFrom s es (decided s es) t at us u (ev ++ endInferred (o .number) at ∷ [])
+  settle-end : (u : rules.Open) (us ws : List rules.Open) → ws ≡ u ∷ us → (o : rules.Open) (ev : List Event) → inward s es D t at (state o ws ev) ≡ stuck → mayEnd s es D o ws ≡ true
+      → settleFrom s es D t at ws o ev ≡ settleFrom s es D t at us u (ev ++ endInferred (o .number) at ∷ [])
   unfolding settleFrom
   settle-end u us [] q o ev e h = absurd (let z : _≡_ {A = ℕ} 0 1 = cc in omega arith)
   settle-end u us (w ∷ ws) q o ev e h =
@@ -45,31 +45,31 @@ module _ (s : List ℕ) (es : List Element) (t : Token) (at : ℕ) where
       rw (e, settleFrom, h, i, j)
 
   -- By what is found of the current element.
-  module _ (o : Open) (w : Way) (finds : w ≡ wayOf (fitting s es (decided s es) (current o) t) (chained s es t (current o))) (ev : List Event) where
-    found-inward : inward s es (decided s es) t at (stateOf o ev) ≡ inwardAs s es t at w (stateOf o ev)
-    found-inward = inward-way s es t at (stateOf o ev) ∙ ap (λ x. inwardAs s es t at x (stateOf o ev)) (sym finds)
+  module _ (o : Open) (w : Way) (finds : w ≡ wayOf (fitting s es D (current o) t) (chained s es D t (current o))) (ev : List Event) where
+    found-inward : inward s es D t at (stateOf o ev) ≡ inwardAs s es D t at w (stateOf o ev)
+    found-inward = inward-way s es D t at (stateOf o ev) ∙ ap (λ x. inwardAs s es D t at x (stateOf o ev)) (sym finds)
 
-    pub found-settled : (y : State) → inwardAs s es t at w (stateOf o ev) ≡ settled y → settleFrom s es (decided s es) t at (around o) (current o) ev ≡ got y
+    pub found-settled : (y : State) → inwardAs s es D t at w (stateOf o ev) ≡ settled y → settleFrom s es D t at (around o) (current o) ev ≡ got y
     found-settled y e = settle-inward (around o) (current o) ev y (found-inward ∙ e)
 
-    pub found-refused : w ≡ Stuck → mayEnd s es (current o) (around o) ≡ false → settleFrom s es (decided s es) t at (around o) (current o) ev ≡ refused 12 at
-    found-refused e h = settle-stuck (around o) (current o) ev (found-inward ∙ ap (λ x. inwardAs s es t at x (stateOf o ev)) e) h
+    pub found-refused : w ≡ Stuck → mayEnd s es D (current o) (around o) ≡ false → settleFrom s es D t at (around o) (current o) ev ≡ refused 12 at
+    found-refused e h = settle-stuck (around o) (current o) ev (found-inward ∙ ap (λ x. inwardAs s es D t at x (stateOf o ev)) e) h
 
-    found-ends : w ≡ Stuck → mayEnd s es (current o) (around o) ≡ true → 1 ≤ o .count
-        → settleFrom s es (decided s es) t at (around (ended o)) (current (ended o)) (ev ++ endInferred (o .element) at ∷ []) ≡ settleFrom s es (decided s es) t at (around o) (current o) ev
+    found-ends : w ≡ Stuck → mayEnd s es D (current o) (around o) ≡ true → 1 ≤ o .count
+        → settleFrom s es D t at (around (ended o)) (current (ended o)) (ev ++ endInferred (o .element) at ∷ []) ≡ settleFrom s es D t at (around o) (current o) ev
     found-ends e h some =
-        sym (settle-end (current (ended o)) (around (ended o)) (around o) (around-ended o some) (current o) ev (found-inward ∙ ap (λ x. inwardAs s es t at x (stateOf o ev)) e) h)
+        sym (settle-end (current (ended o)) (around (ended o)) (around o) (around-ended o some) (current o) ev (found-inward ∙ ap (λ x. inwardAs s es D t at x (stateOf o ev)) e) h)
 
 -- An end is inferred.
 comes-end : {s : List ℕ} {es : List Element} {t : Token} {at : ℕ} {o : Open} {events : List Event} {o₀ : Open} → Comes s es t at o events o₀
-    → (w : Way) → w ≡ wayOf (fitting s es (decided s es) (current o) t) (chained s es t (current o)) → w ≡ Stuck → mayEnd s es (current o) (around o) ≡ true → 1 ≤ o .count
+    → (w : Way) → w ≡ wayOf (fitting s es (decided s es) (current o) t) (chained s es (decided s es) t (current o)) → w ≡ Stuck → mayEnd s es (decided s es) (current o) (around o) ≡ true → 1 ≤ o .count
     → Comes s es t at (ended o) (events ++ endInferred (o .element) at ∷ []) o₀
 comes-end {s} {es} {t} {at} {o} {events} h w finds e ends some =
     record {
       stands = stands-ended (h .stands) some;
       same = λ before.
           ap (settleFrom s es (decided s es) t at (around (ended o)) (current (ended o))) (sym (append-assoc before events (endInferred (o .element) at ∷ [])))
-          ∙ found-ends s es t at o w finds (before ++ events) e ends some
+          ∙ found-ends s es (decided s es) t at o w finds (before ++ events) e ends some
           ∙ h .same before;
     }
 

@@ -10,7 +10,7 @@ use borrow.Author.Tests.{le-leb, le-ltb, lt-ltb}
 use Rattle.rules.specs.Reading.{refused, got}
 use Rattle.rules.specs.TypeFile.{Content, empty, model, Element}
 use Rattle.rules.specs.Judge.{Accepts}
-use Rattle.rules.specs.Settling.{contentOf, placesIn, Token, Event, State, Inward, settled, stuck, takePlace, limited, fitting, chain, inferStarts, takeToken, inward}
+use Rattle.rules.specs.Settling.{contentOf, placesIn, Token, Decisions, Event, State, Inward, settled, stuck, takePlace, limited, fitting, chain, inferStarts, takeToken, inward}
 use Rattle.rules.specs.Settling as rules
 use Rattle.document_laws.specs.Decide.{fitsIn, decided}
 use Rattle.document_laws.specs.Chain.{chain-leads}
@@ -39,33 +39,33 @@ fits-most s es accepted k taken t = go (contentOf es k) refl
 
 -- Steps 1 and 2
 
-module _ (s : List ℕ) (es : List Element) (t : Token) where
+module _ (s : List ℕ) (es : List Element) (D : Decisions) (t : Token) where
   -- What becomes of the token, by what is found.
   abbrev pub inwardAs : (at : ℕ) → Way → State → Inward
   inwardAs at (Taken p) z = settled (takePlace p z)
-  inwardAs at (Inferred n) z = settled (takeToken s es (decided s es) t (inferMany s es at n z))
+  inwardAs at (Inferred n) z = settled (takeToken s es D t (inferMany s es D at n z))
   inwardAs at Stuck z = stuck
 
-  pub inward-way : (at : ℕ) (z : State) → inward s es (decided s es) t at z ≡ inwardAs at (wayOf (fitting s es (decided s es) (z .current) t) (chained s es t (z .current))) z
+  pub inward-way : (at : ℕ) (z : State) → inward s es D t at z ≡ inwardAs at (wayOf (fitting s es D (z .current) t) (chained s es D t (z .current))) z
   unfolding inward
-  inward-way at z = by-fit (fitting s es (decided s es) (z .current) t) (chain s es (decided s es) (length es) t (z .current)) refl
+  inward-way at z = by-fit (fitting s es D (z .current) t) (chain s es D (length es) t (z .current)) refl
     where
-      by-fit : (f : ℕ) (c : List ℕ) → chain s es (decided s es) (length es) t (z .current) ≡ c
-          → elim (leb 1 f) [ true ↦ settled (takePlace f z) | false ↦ elim c [ [] ↦ stuck | k ∷ ks ↦ settled (takeToken s es (decided s es) t (inferStarts s es (decided s es) at (k ∷ ks) z)) ] ] ≡ inwardAs at (wayOf f (length c)) z
+      by-fit : (f : ℕ) (c : List ℕ) → chain s es D (length es) t (z .current) ≡ c
+          → elim (leb 1 f) [ true ↦ settled (takePlace f z) | false ↦ elim c [ [] ↦ stuck | k ∷ ks ↦ settled (takeToken s es D t (inferStarts s es D at (k ∷ ks) z)) ] ] ≡ inwardAs at (wayOf f (length c)) z
       by-fit zero [] e = refl
       by-fit zero (k ∷ ks) e =
-          ap (λ y. settled (takeToken s es (decided s es) t y)) (chain-starts s es t at (k ∷ ks) z (chain-leads s es (decided s es) t (length es) (z .current) k ks e))
+          ap (λ y. settled (takeToken s es D t y)) (chain-starts s es D t at (k ∷ ks) z (chain-leads s es D t (length es) (z .current) k ks e))
       by-fit (suc f) c e = rw (le-leb 1 (suc f) (omega arith))
 
   -- As many starts as are found can be inferred.
-  pub way-infers : (n : ℕ) (o : rules.Open) → Inferred n ≡ wayOf (fitting s es (decided s es) o t) (chained s es t o) → Infers s es t n o
-  way-infers n o = by-fit (fitting s es (decided s es) o t) (chain s es (decided s es) (length es) t o) refl
+  pub way-infers : (n : ℕ) (o : rules.Open) → Inferred n ≡ wayOf (fitting s es D o t) (chained s es D t o) → Infers s es D t n o
+  way-infers n o = by-fit (fitting s es D o t) (chain s es D (length es) t o) refl
     where
-      by-fit : (f : ℕ) (c : List ℕ) → chain s es (decided s es) (length es) t o ≡ c → Inferred n ≡ wayOf f (length c) → Infers s es t n o
+      by-fit : (f : ℕ) (c : List ℕ) → chain s es D (length es) t o ≡ c → Inferred n ≡ wayOf f (length c) → Infers s es D t n o
       by-fit zero [] e w = absurd (let z : _≡_ {A = ℕ} 0 1 = cc in omega arith)
       by-fit zero (k ∷ ks) e w =
           let i : n ≡ length (k ∷ ks) = cc in
-          rw i (chain-infers s es t (k ∷ ks) o (chain-leads s es (decided s es) t (length es) o k ks e))
+          rw i (chain-infers s es D t (k ∷ ks) o (chain-leads s es D t (length es) o k ks e))
       by-fit (suc f) c e w = absurd (let z : _≡_ {A = ℕ} 0 1 = cc in omega arith)
 
 -- The limit

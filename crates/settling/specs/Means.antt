@@ -6,7 +6,7 @@ use mathlib.Core.List.{List, [], _∷_, _++_}
 use lib.ListN.{length}
 use Rattle.rules.specs.Reading.{Reading, got, andThen}
 use Rattle.rules.specs.TypeFile.{Element}
-use Rattle.rules.specs.Settling.{contentOf, hasModel, Token, startInferred, startWritten, endOfEmpty, dataRun, Event, State, takePlace, enter, note, limited, fitting, requiredPlace, inferable, settleFrom, startElement}
+use Rattle.rules.specs.Settling.{contentOf, hasModel, Token, Decisions, startInferred, startWritten, endOfEmpty, dataRun, Event, State, takePlace, enter, note, limited, fitting, requiredPlace, inferable, settleFrom, startElement}
 use Rattle.rules.specs.Settling as rules
 use Rattle.document_laws.specs.Decide.{decided}
 use Rattle.last_places.specs.Last.{short, shortly, takeRun}
@@ -61,7 +61,7 @@ pub record Turns (rows places facts : List ℕ) (x at n : ℕ) (o₀ : Open) (nu
 -- What is found of the current element.
 abbrev pub Finds : (rows places facts : List ℕ) (x : ℕ) → Open → Way → Type 0
 Finds rows places facts x o w =
-    (s : List ℕ) (es : List Element) → Tables s es rows places facts → Requires es (o .element) (o .required) (o .place) → (t : Token) → nameNumber t ≡ x → Declares es t → w ≡ wayOf (fitting s es (decided s es) (current o) t) (chained s es t (current o))
+    (s : List ℕ) (es : List Element) → Tables s es rows places facts → Requires es (o .element) (o .required) (o .place) → (t : Token) → nameNumber t ≡ x → Declares es t → w ≡ wayOf (fitting s es (decided s es) (current o) t) (chained s es (decided s es) t (current o))
 
 -- No more ends are inferred.
 pub record Stops (rows places facts : List ℕ) (x at n : ℕ) (o₀ : Open) (numbers₀ bytes₀ : List ℕ) (r : Stop) (numbers bytes : List ℕ) : Type 0 where
@@ -73,12 +73,12 @@ pub record Stops (rows places facts : List ℕ) (x at n : ℕ) (o₀ : Open) (nu
 
 -- Starts
 
-module _ (s : List ℕ) (es : List Element) where
+module _ (s : List ℕ) (es : List Element) (D : Decisions) where
   -- The start of the element that the current one requires is inferred.
   abbrev pub inferOne : (at : ℕ) → State → State
   inferOne at z =
-      let k = inferable s es (decided s es) (z .current) in
-      note (startInferred k at) (enter k (takePlace (requiredPlace s es (decided s es) (z .current)) z))
+      let k = inferable s es D (z .current) in
+      note (startInferred k at) (enter k (takePlace (requiredPlace s es D (z .current)) z))
 
   -- So many starts are inferred, one in the other.
   abbrev pub inferMany : (at starts : ℕ) → State → State
@@ -87,14 +87,14 @@ module _ (s : List ℕ) (es : List Element) where
 
   -- So many starts can be inferred in o, one in the other, and the token fits in the last.
   abbrev pub Infers : Token → ℕ → rules.Open → Type 0
-  Infers t zero o = 1 ≤ fitting s es (decided s es) o t
-  Infers t (suc n) o = (1 ≤ inferable s es (decided s es) o) × Infers t n (record { number = inferable s es (decided s es) o; taken = [] })
+  Infers t zero o = 1 ≤ fitting s es D o t
+  Infers t (suc n) o = (1 ≤ inferable s es D o) × Infers t n (record { number = inferable s es D o; taken = [] })
 
 -- To infer what is left from o, after these events, comes to the same as to infer so many starts from o₀.
 pub record InfersOn (s : List ℕ) (es : List Element) (t : Token) (at left : ℕ) (o : Open) (events : List Event) (starts : ℕ) (o₀ : Open) : Type 0 where
   pub stands : Stands es o
-  pub infers : Infers s es t left (current o)
-  pub same : (before : List Event) → short (inferMany s es at left (stateOf o (before ++ events))) ≡ short (inferMany s es at starts (stateOf o₀ before))
+  pub infers : Infers s es (decided s es) t left (current o)
+  pub same : (before : List Event) → short (inferMany s es (decided s es) at left (stateOf o (before ++ events))) ≡ short (inferMany s es (decided s es) at starts (stateOf o₀ before))
 
 -- The required place is taken, the element k opened there, and its start noted; by the tables of a type it is the one whose start is to be
 -- inferred.
@@ -104,6 +104,17 @@ pub record InfersStart (rows places facts : List ℕ) (at n : ℕ) (o : Open) (n
   pub opens : r ≡ opening rows k (took rows (o .required) o)
   pub puts : Puts numbers bytes n (startInferred k at ∷ []) numbers′ bytes′
   pub chosen : (s : List ℕ) (es : List Element) → Tables s es rows places facts → Stands es o → k ≡ inferable s es (decided s es) (current o)
+
+-- k of the starts are inferred, and what is left to infer from o comes to the same as all of them from o₀.
+pub record Along (rows places facts : List ℕ) (at m starts k : ℕ) (o₀ : Open) (numbers₀ bytes₀ : List ℕ) (o : Open) (numbers bytes : List ℕ) : Type 0 where
+  pub most : k ≤ starts
+  pub events : List Event
+  pub puts : Puts numbers₀ bytes₀ m events numbers bytes
+  pub counted : length events ≡ k
+  pub deep : o .count ≡ o₀ .count + k
+  pub ranged : Ranged o
+  pub still : k ≡ 0 → (o ≡ o₀) × (events ≡ [])
+  pub along : (s : List ℕ) (es : List Element) → Tables s es rows places facts → Stands es o₀ → (t : Token) → Infers s es (decided s es) t starts (current o₀) → InfersOn s es t at (starts - k) o events starts o₀
 
 -- The place
 

@@ -17,6 +17,7 @@ use Rattle.model_sets.specs.Must.{required-sound}
 use Rattle.model_sets.specs.Pairs.{next-range, row-begins}
 use Rattle.document_laws.specs.Decide.{requiredOf}
 use Rattle.last_places.specs.Last.{placed, InRange}
+use Rattle.last_places.specs.Short.{last-placed}
 use Rattle.type_laws.specs.Width.{typeFile-width}
 use Rattle.type_tables.specs.Means.{standing, width, rowAt, placeOr0, requiredAt, Rows}
 
@@ -24,10 +25,6 @@ use Rattle.type_tables.specs.Means.{standing, width, rowAt, placeOr0, re
 pub one-if : (b : Bool) → eqb (cond b 1 0) 1 ≡ b
 one-if true = refl
 one-if false = refl
-
-pub last-placed : (u : ℕ) → lastOr0 (placed u) ≡ u
-last-placed zero = refl
-last-placed (suc u) = refl
 
 -- The last place taken is one of the model's, or 0.
 pub place-range : (es : List Element) (e u : ℕ) → InRange es (standing e u) → u ≤ width es e

@@ -24,7 +24,7 @@ module _ (s : List ℕ) {es : List Element} {o : Open} (stands : Stands es o) wh
   over-if-complete z before = stands .marked .complete ∙ rw z
 
   -- Nothing is open: no end is inferred.
-  pub none-ends : o .count ≡ 0 → false ≡ mayEnd s es (current o) (around o)
+  pub none-ends : o .count ≡ 0 → false ≡ mayEnd s es (decided s es) (current o) (around o)
   none-ends z = rw (around-none o z)
 
   module _ (some : 1 ≤ o .count) where
@@ -32,14 +32,14 @@ module _ (s : List ℕ) {es : List Element} {o : Open} (stands : Stands es o) wh
     pub stands-declared : Declares es (start (o .element))
     stands-declared = (stands-element stands some, stands-range stands .declared)
 
-    may-end : mayEnd s es (current o) (around o) ≡ o .complete && (endO es (o .element) && leb 1 (ended o .element))
+    may-end : mayEnd s es (decided s es) (current o) (around o) ≡ o .complete && (endO es (o .element) && leb 1 (ended o .element))
     may-end = rw (around-ended o some, stands .marked .complete)
 
-    pub incomplete-stays : o .complete ≡ false → false ≡ mayEnd s es (current o) (around o)
+    pub incomplete-stays : o .complete ≡ false → false ≡ mayEnd s es (decided s es) (current o) (around o)
     incomplete-stays e = sym (may-end ∙ rw e)
 
   -- Nothing is open but the document element: the document lies around it.
-  pub document-stays : o .count ≤ 1 → false ≡ mayEnd s es (current o) (around o)
+  pub document-stays : o .count ≤ 1 → false ≡ mayEnd s es (decided s es) (current o) (around o)
   document-stays l = by-count (o .count) refl
     where
       none : (b c : Bool) → b && (c && false) ≡ false
@@ -47,14 +47,14 @@ module _ (s : List ℕ) {es : List Element} {o : Open} (stands : Stands es o) wh
       none true false = refl
       none false c = refl
 
-      by-count : (n : ℕ) → o .count ≡ n → false ≡ mayEnd s es (current o) (around o)
+      by-count : (n : ℕ) → o .count ≡ n → false ≡ mayEnd s es (decided s es) (current o) (around o)
       by-count zero z = none-ends z
       by-count (suc n) z =
           let one : o .count ≡ 1 = omega arith in
           sym (may-end (omega arith) ∙ rw (parent-document stands one) (none (o .complete) (endO es (o .element))))
 
   -- Any other element's parent is an element.
-  pub ends-in-parent : 1 < o .count → o .complete ≡ true → endO es (o .element) ≡ mayEnd s es (current o) (around o)
+  pub ends-in-parent : 1 < o .count → o .complete ≡ true → endO es (o .element) ≡ mayEnd s es (decided s es) (current o) (around o)
   ends-in-parent l e = sym (may-end (omega arith) ∙ rw (e, le-leb 1 (ended o .element) (parent-element stands l)) (all (endO es (o .element))))
     where
       all : (b : Bool) → b && true ≡ b

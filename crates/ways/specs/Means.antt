@@ -7,7 +7,7 @@ use native.Mathlib.Omega.{arith}
 use lib.ListN.{length}
 use lib.Dec.{leb}
 use Rattle.rules.specs.TypeFile.{Element}
-use Rattle.rules.specs.Settling.{Token, start, pcdata, endO, isComplete}
+use Rattle.rules.specs.Settling.{Token, start, pcdata, endO, Decisions, isComplete}
 use Rattle.rules.specs.Settling as rules
 use Rattle.document_laws.specs.Decide.{decided}
 use Rattle.type_tables.specs.Means.{nameNumber, Declares, Facts}
@@ -35,19 +35,19 @@ wayOf zero zero = Stuck
 wayOf zero (suc n) = Inferred (suc n)
 wayOf (suc f) n = Taken (suc f)
 
-module _ (s : List ℕ) (es : List Element) where
+module _ (s : List ℕ) (es : List Element) (D : Decisions) where
   -- How many starts the chain has, 0 if there is none.
   abbrev pub chained : Token → rules.Open → ℕ
-  chained t o = length (rules.chain s es (decided s es) (length es) t o)
+  chained t o = length (rules.chain s es D (length es) t o)
 
   -- Step 3: the content is complete, the end is "O", and the parent is not the document itself.
   abbrev pub mayEnd : rules.Open → List rules.Open → Bool
   mayEnd o [] = false
-  mayEnd o (u ∷ us) = isComplete s es (decided s es) o && (endO es (o .number) && leb 1 (u .number))
+  mayEnd o (u ∷ us) = isComplete s es D o && (endO es (o .number) && leb 1 (u .number))
 
 -- Whether the end of the current element is inferred.
 abbrev pub MayEnd : (facts : List ℕ) → Open → Bool → Type 0
-MayEnd facts o b = (s : List ℕ) (es : List Element) → Facts s es facts → Stands es o → b ≡ mayEnd s es (current o) (around o)
+MayEnd facts o b = (s : List ℕ) (es : List Element) → Facts s es facts → Stands es o → b ≡ mayEnd s es (decided s es) (current o) (around o)
 
 -- By what was found of the current element: how many starts are inferred, the place as which the token fits at once, and the place that is
 -- taken, or 0, where f is the place as which it fits after the starts.

@@ -38,7 +38,7 @@ fn chain(
 ) -> usize
     requires { ⌜ (e ≤ 64) × (x ≤ 64) ⌝ }
     ensures { λ r. ⌜ ((s : List ℕ) (es : List Element) → Tables s es (now (rows .entry)) (now (places .entry)) (now (facts .entry)) → (u : ℕ) → Requires es e q u →
-        (t : Token) → nameNumber t ≡ x → Declares es t → r ≡ chained s es t (standing e u)) ⌝ }
+        (t : Token) → nameNumber t ≡ x → Declares es t → r ≡ chained s es (decided s es) t (standing e u)) ⌝ }
     ensures { λ r. ⌜ r ≤ 64 ⌝ }
 {
     let mut c = type_tables::startable(places, facts, e, q);
@@ -65,7 +65,7 @@ pub fn way_at(
 ) -> Way
     requires { ⌜ (e ≤ 64) × (u ≤ 96) × (x ≤ 64) ⌝ }
     ensures { λ r. ⌜ ((s : List ℕ) (es : List Element) → Tables s es (now (rows .entry)) (now (places .entry)) (now (facts .entry)) → Requires es e q u →
-        (t : Token) → nameNumber t ≡ x → Declares es t → r ≡ wayOf (decided s es .fits e (placed u) t) (chained s es t (standing e u))) ⌝ }
+        (t : Token) → nameNumber t ≡ x → Declares es t → r ≡ wayOf (decided s es .fits e (placed u) t) (chained s es (decided s es) t (standing e u))) ⌝ }
     ensures { λ r. ⌜ (fitOf r ≤ 96) × (startsOf r ≤ 64) ⌝ }
 {
     let p = type_tables::fitting(rows, places, facts, e, u, x);

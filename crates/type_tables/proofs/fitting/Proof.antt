@@ -51,7 +51,7 @@ smaller-requires c κs = search needs
 returns-3 : tie.Need-returns-3 Inv-loop μ-loop
 returns-3 c =
     let inside = c .before .before .before .before in
-    (seeks-rising _ _ _ _ _ _ _ (inside .before .loop .inv .1) (inside .loop-test .taken) _ (c .before .smaller .ensures) (c .if3 .taken), omega arith)
+    (seeks-rising _ _ _ _ _ _ _ (inside .before .loop .inv .1) (inside .loop-test .taken) _ (c .before .smaller .ensures) (omega (arith, c .if3 .taken)), omega arith)
 
 loop-less : tie.Need-loop-less Inv-loop μ-loop
 loop-less c = omega arith
