@@ -23,6 +23,7 @@ use Rattle.event_buffer.specs.Laws.{puts-none, puts-then}
 use Rattle.ways.specs.Chains.{inferable-most}
 use Rattle.settling.specs.Means.{inferOne, inferMany, Infers, InfersOn, InfersStart}
 
+-- By whatever decisions
 module _ (s : List ℕ) (es : List Element) (D : Decisions) where
   -- The start of k is inferred at the required place.
   abbrev starting : (at k : ℕ) → State → State

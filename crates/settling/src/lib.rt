@@ -15,10 +15,10 @@ ghost use Rattle.settling.specs.Means.{writtenOf, Stops, InfersStart, Pl
 
 // Where no more ends are inferred: the state come to, what its current element has to say to the token, and how many events there
 // are.
-pub struct Stop {
-    pub open: Open,
-    pub found: Way,
-    pub events: usize,
+struct Stop {
+    open: Open,
+    found: Way,
+    events: usize,
 }
 
 // Step 3, again and again: ends are inferred until x fits or starts can be inferred before it, or it is stuck.
