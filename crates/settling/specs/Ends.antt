@@ -22,7 +22,7 @@ use Rattle.ways.specs.Means.{wayOf, chained, mayEnd, MayEnd}
 use Rattle.settling.specs.Means.{Comes, Turns, Finds}
 use Rattle.settling.specs.Inward.{inwardAs, inward-way}
 
--- Steps 3 and 4
+-- Steps 3 and 4, by whatever decisions
 
 module _ (s : List ℕ) (es : List Element) (D : Decisions) (t : Token) (at : ℕ) where
   settle-inward : (us : List rules.Open) (o : rules.Open) (ev : List Event) (y : State) → inward s es D t at (state o us ev) ≡ settled y → settleFrom s es D t at us o ev ≡ got y

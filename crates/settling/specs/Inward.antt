@@ -37,7 +37,7 @@ fits-most s es accepted k taken t = go (contentOf es k) refl
     go empty e = omega arith
     go (model g ps n) e = rw (← typeFile-width s es (accepted .elements) k e .0) (search-most _ _)
 
--- Steps 1 and 2
+-- Steps 1 and 2, by whatever decisions
 
 module _ (s : List ℕ) (es : List Element) (D : Decisions) (t : Token) where
   -- What becomes of the token, by what is found.

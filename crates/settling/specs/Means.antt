@@ -105,17 +105,6 @@ pub record InfersStart (rows places facts : List ℕ) (at n : ℕ) (o : Open) (n
   pub puts : Puts numbers bytes n (startInferred k at ∷ []) numbers′ bytes′
   pub chosen : (s : List ℕ) (es : List Element) → Tables s es rows places facts → Stands es o → k ≡ inferable s es (decided s es) (current o)
 
--- k of the starts are inferred, and what is left to infer from o comes to the same as all of them from o₀.
-pub record Along (rows places facts : List ℕ) (at m starts k : ℕ) (o₀ : Open) (numbers₀ bytes₀ : List ℕ) (o : Open) (numbers bytes : List ℕ) : Type 0 where
-  pub most : k ≤ starts
-  pub events : List Event
-  pub puts : Puts numbers₀ bytes₀ m events numbers bytes
-  pub counted : length events ≡ k
-  pub deep : o .count ≡ o₀ .count + k
-  pub ranged : Ranged o
-  pub still : k ≡ 0 → (o ≡ o₀) × (events ≡ [])
-  pub along : (s : List ℕ) (es : List Element) → Tables s es rows places facts → Stands es o₀ → (t : Token) → Infers s es (decided s es) t starts (current o₀) → InfersOn s es t at (starts - k) o events starts o₀
-
 -- The place
 
 -- The token, which has the place p in o, is noted, and opened if it is an element with a model, or refused.

@@ -21,8 +21,9 @@ use Rattle.open_elements.specs.Laws.{standing-last, around-opening, stands-plac
 use Rattle.event_buffer.specs.Means.{Puts}
 use Rattle.event_buffer.specs.Laws.{puts-none, puts-then}
 use Rattle.ways.specs.Chains.{inferable-most}
-use Rattle.settling.specs.Means.{inferOne, inferMany, Infers, InfersOn, InfersStart, Along}
+use Rattle.settling.specs.Means.{inferOne, inferMany, Infers, InfersOn, InfersStart}
 
+-- By whatever decisions
 module _ (s : List ℕ) (es : List Element) (D : Decisions) where
   -- The start of k is inferred at the required place.
   abbrev starting : (at k : ℕ) → State → State
@@ -85,6 +86,17 @@ module _ (s : List ℕ) (es : List Element) {rows places facts : List ℕ} (tabl
 
 -- Many starts
 
+-- k of the starts are inferred, and what is left to infer from o comes to the same as all of them from o₀.
+pub record Along (rows places facts : List ℕ) (at m starts k : ℕ) (o₀ : Open) (numbers₀ bytes₀ : List ℕ) (o : Open) (numbers bytes : List ℕ) : Type 0 where
+  pub most : k ≤ starts
+  pub events : List Event
+  pub puts : Puts numbers₀ bytes₀ m events numbers bytes
+  pub counted : length events ≡ k
+  pub deep : o .count ≡ o₀ .count + k
+  pub ranged : Ranged o
+  pub still : k ≡ 0 → (o ≡ o₀) × (events ≡ [])
+  pub along : (s : List ℕ) (es : List Element) → Tables s es rows places facts → Stands es o₀ → (t : Token) → Infers s es (decided s es) t starts (current o₀) → InfersOn s es t at (starts - k) o events starts o₀
+
 infers-then : {s : List ℕ} {es : List Element} {t : Token} {at left m starts : ℕ} {o p q : Open} {ev fv : List Event} → InfersOn s es t at left p fv m o → InfersOn s es t at m o ev starts q → InfersOn s es t at left p (ev ++ fv) starts q
 infers-then {s} {es} {at = at} {left = left} {p = p} {ev = ev} {fv = fv} a b =
     record {
@@ -125,9 +137,6 @@ module _ (rows places facts : List ℕ) (at m starts : ℕ) where
               let b = rw z at (h .along s es tables stands t infers) in
               infers-then (infers-one s es tables (b .stands) less (i .k) (i .chosen s es tables (b .stands)) t at (starts - (k + 1)) (b .infers) (i .opens)) b;
         }
-
-    pub along-done : starts ≤ k → Along rows places facts at m starts starts o₀ numbers₀ bytes₀ o numbers bytes
-    along-done l = let z : k ≡ starts = omega (arith, h .most) in subst (λ (j : ℕ). Along rows places facts at m starts j o₀ numbers₀ bytes₀ o numbers bytes) z h
 
     pub along-all : starts ≤ k → (s : List ℕ) (es : List Element) → Tables s es rows places facts → Stands es o₀ → (t : Token) → Infers s es (decided s es) t starts (current o₀) → InfersOn s es t at 0 o (h .events) starts o₀
     along-all l s es tables stands t infers = let z : starts - k ≡ 0 = omega arith in rw z at (h .along s es tables stands t infers)

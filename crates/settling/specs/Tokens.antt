@@ -20,8 +20,8 @@ use Rattle.ways.specs.declared.Way.{Way}
 use Rattle.ways.specs.declared.Way.the-variants.{Taken, Inferred, Stuck}
 use Rattle.ways.specs.Means.{tokenOf, tokenOf-number, tokenOf-declared, wayOf, chained, startsOf, placeOf}
 use Rattle.settling.specs.declared.Stop.{Stop}
-use Rattle.settling.specs.Means.{takes, noting, Comes, Stops, inferMany, InfersOn, Along, Places, SettledAs, Settles}
-use Rattle.settling.specs.Starts.{infer-deeper, along-all}
+use Rattle.settling.specs.Means.{takes, noting, Comes, Stops, inferMany, InfersOn, Places, SettledAs, Settles}
+use Rattle.settling.specs.Starts.{infer-deeper, Along, along-all}
 use Rattle.settling.specs.Inward.{fits-most, way-fits, way-infers, same-fits, same-took}
 use Rattle.settling.specs.Ends.{found-settled, found-refused}
 use Rattle.settling.specs.Places.{noting-many}
@@ -113,8 +113,8 @@ module _ {rows places facts : List ℕ} {x at n : ℕ} {o₀ : Open} {numbers₀
       by-way s es tables stands most Stuck e before = absurd (omega (arith, rw e at l, h .turns .ranged .few))
 
   -- The starts are inferred, and the token takes its place.
-  module _ {starts : ℕ} {o : Open} {numbers′ bytes′ : List ℕ} (counted : starts ≡ startsOf (f .found)) (few : f .open .count + starts ≤ 24)
-      (a : Along rows places facts at (f .events) starts starts (f .open) numbers bytes o numbers′ bytes′)
+  module _ {starts k : ℕ} {o : Open} {numbers′ bytes′ : List ℕ} (counted : starts ≡ startsOf (f .found)) (few : f .open .count + starts ≤ 24)
+      (a : Along rows places facts at (f .events) starts k (f .open) numbers bytes o numbers′ bytes′) (all : starts ≤ k)
       {r : Outcome} {numbers″ bytes″ : List ℕ} (placed : Places rows places facts (f .found) x at after (f .events + starts) o numbers′ bytes′ r numbers″ bytes″) where
     abbrev events : List Event
     events = (h .turns .events ++ a .events) ++ placed .events
@@ -144,7 +144,7 @@ module _ {rows places facts : List ℕ} {x at n : ℕ} {o₀ : Open} {numbers₀
           let o₁ = f .open in
           let (fits, some) = way-fits p (fitting s es (decided s es) (current o₁) t) (chained s es (decided s es) t (current o₁)) (sym e ∙ found s es tables stands most) in
           let none : starts ≡ 0 = counted ∙ ap startsOf e in
-          let (same, same-events) = a .still none in
+          let (same, same-events) = a .still (omega (arith, a .most)) in
           let there : Stands es o = rw same (come s es tables stands most .stands) in
           let here : placed .p ≡ p = placed .place s es tables there most ∙ ap (placeOf (fitting s es (decided s es) (current o) t)) e in
           as-placed there (rw (here, fits, same) (fits-most s es (tables .accepted) (o₁ .element) (current o₁ .taken) t)) (λ z. some (sym here ∙ z)) λ before.
@@ -158,7 +158,7 @@ module _ {rows places facts : List ℕ} {x at n : ℕ} {o₀ : Open} {numbers₀
           let o₁ = f .open in
           let inferred = sym e ∙ found s es tables stands most in
           let n-starts : starts ≡ m = counted ∙ ap startsOf e in
-          let i = rw n-starts at (along-all rows places facts at (f .events) starts a (omega arith) s es tables (come s es tables stands most .stands) t (rw n-starts (way-infers s es (decided s es) t m (current o₁) inferred))) in
+          let i = rw n-starts at (along-all rows places facts at (f .events) starts a all s es tables (come s es tables stands most .stands) t (rw n-starts (way-infers s es (decided s es) t m (current o₁) inferred))) in
           let here : placed .p ≡ fitting s es (decided s es) (current o) t = placed .place s es tables (i .stands) most ∙ ap (placeOf (fitting s es (decided s es) (current o) t)) e in
           as-placed (i .stands) (rw here (fits-most s es (tables .accepted) (o .element) (current o .taken) t)) (λ z. omega (arith, i .infers, here)) λ before.
           let ev = before ++ h .turns .events in
@@ -171,7 +171,7 @@ module _ {rows places facts : List ℕ} {x at n : ℕ} {o₀ : Open} {numbers₀
       by-way Stuck e =
           let o₁ = f .open in
           let none : starts ≡ 0 = counted ∙ ap startsOf e in
-          let (same, same-events) = a .still none in
+          let (same, same-events) = a .still (omega (arith, a .most)) in
           let there : Stands es o = rw same (come s es tables stands most .stands) in
           let refuses : r .number ≡ 12 = placed .stuck (placed .place s es tables there most ∙ ap (placeOf (fitting s es (decided s es) (current o) (tokenOf x))) e) in
           record {
@@ -187,13 +187,13 @@ module _ {rows places facts : List ℕ} {x at n : ℕ} {o₀ : Open} {numbers₀
 
     pub settles-placed : Settles rows places facts x at after n o₀ numbers₀ bytes₀ r numbers″ bytes″
     settles-placed =
-        let first : f .events + starts ≡ n + length (h .turns .events ++ a .events) = simp length-append (omega (arith, h .turns .counted, a .counted)) in
+        let first : f .events + starts ≡ n + length (h .turns .events ++ a .events) = simp length-append (omega (arith, h .turns .counted, a .counted, a .most)) in
         record {
           ranged = placed .ranged;
           small = placed .small;
           events = events;
           puts = puts-then (puts-then (h .turns .puts) (h .turns .counted) (a .puts)) first (placed .puts);
           counted = placed .counted ∙ simp length-append (omega (arith, simp length-append at first));
-          few = simp length-append (omega (arith, h .turns .deep, a .counted, placed .few));
+          few = simp length-append (omega (arith, h .turns .deep, a .counted, a .most, placed .few));
           settles = λ s es tables stands most. by-way s es tables stands most (f .found) refl;
         }

@@ -11,14 +11,14 @@ ghost use lib.ListN.{length};
 ghost use Rattle.open_elements.specs.Means.{Ranged};
 ghost use Rattle.event_buffer.specs.Means.{Puts};
 ghost use Rattle.ways.specs.Means.{fitOf};
-ghost use Rattle.settling.specs.Means.{writtenOf, Stops, InfersStart, Along, Places, Settles};
+ghost use Rattle.settling.specs.Means.{writtenOf, Stops, InfersStart, Places, Settles};
 
 // Where no more ends are inferred: the state come to, what its current element has to say to the token, and how many events there
 // are.
-pub struct Stop {
-    pub open: Open,
-    pub found: Way,
-    pub events: usize,
+struct Stop {
+    open: Open,
+    found: Way,
+    events: usize,
 }
 
 // Step 3, again and again: ends are inferred until x fits or starts can be inferred before it, or it is stuck.
@@ -73,30 +73,6 @@ fn infer_start(
     let k = type_tables::startable(places, facts, state.element, state.required);
     event_buffer::put_event(numbers, bytes, n, 2, k, at, 0);
     state.take(rows, state.required).start(rows, k)
-}
-
-// So many starts are inferred, one in the other.
-fn starts(
-    rows: &[u8; 88270],
-    places: &[u8; 12610],
-    facts: &[u8; 4420],
-    state: Open,
-    count: usize,
-    at: usize,
-    n: usize,
-    numbers: &mut [u32],
-    bytes: &mut [u8],
-) -> Open
-    requires { ⌜ Ranged state × (state .count + count ≤ 24) × (at < 4294967296) × (n + 24 < 4294967296) ⌝ }
-    ensures { λ r. ⌜ Along (now (rows .entry)) (now (places .entry)) (now (facts .entry)) at n count count state (now (numbers .entry)) (now (bytes .entry)) r (now (numbers .exit)) (now (bytes .exit)) ⌝ }
-{
-    let mut o = state;
-    let mut k = 0;
-    while k < count {
-        o = infer_start(rows, places, facts, o, at, n + k, numbers, bytes);
-        k += 1;
-    }
-    o
 }
 
 // The events of a run of data, or of an EMPTY element x.
@@ -195,27 +171,31 @@ pub fn token(
     }
     let f = ends(rows, places, facts, state, x, at, n, numbers, bytes);
     let found = f.found;
-    let o = f.open;
+    let starts = ways::starts_of(found);
     let m = f.events;
-    let k = ways::starts_of(found);
-    if 24 < o.count + k {
+    let mut o = f.open;
+    if 24 < o.count + starts {
         return Outcome {
             open: o,
             events: m,
             number: 15,
         };
     }
-    let last = starts(rows, places, facts, o, k, at, m, numbers, bytes);
+    let mut k = 0;
+    while k < starts {
+        o = infer_start(rows, places, facts, o, at, m + k, numbers, bytes);
+        k += 1;
+    }
     placed(
         rows,
         places,
         facts,
-        last,
+        o,
         found,
         x,
         at,
         after,
-        m + k,
+        m + starts,
         numbers,
         bytes,
     )

@@ -60,6 +60,7 @@ past-none : (k : ℕ) (f : ℕ) (r : List ℕ) → past k (link 0 f r) ≡ 0
 unfolding link
 past-none k f r = refl
 
+-- By whatever decisions
 module _ (s : List ℕ) (es : List Element) (D : Decisions) where
   -- The element whose start is inferred is one of the type.
   pub inferable-most : (o : Open) → inferable s es D o ≤ length es
