@@ -85,17 +85,30 @@ fn plain_four(classes: &[u8; 256], s: &[u8], i: usize) -> usize
     4
 }
 
-// The first special byte from `at` on, or the document's length: a run ends at the same place from there. Four bytes a turn, while
+// The same of the eight bytes at i.
+fn plain_eight(classes: &[u8; 256], s: &[u8], i: usize) -> usize
+    requires { ⌜ Classes (now classes) × (i + 8 ≤ length (now s)) ⌝ }
+    ensures { λ r. ⌜ (r ≤ 8) × (runEnd (now (s .entry)) (i + r) ≡ runEnd (now (s .entry)) i) ⌝ }
+{
+    let k = plain_four(classes, s, i);
+    if k < 4 {
+        return k;
+    }
+    let m = plain_four(classes, s, i + 4);
+    m + 4
+}
+
+// The first special byte from `at` on, or the document's length: a run ends at the same place from there. Eight bytes a turn, while
 // there are as many.
 fn plain_end(classes: &[u8; 256], s: &[u8], at: usize) -> usize
     requires { ⌜ Classes (now classes) × (at ≤ length (now s)) ⌝ }
     ensures { λ r. ⌜ (at ≤ r) × (r ≤ length (now (s .entry))) × (runEnd (now (s .entry)) r ≡ runEnd (now (s .entry)) at) ⌝ }
 {
     let mut i = at;
-    while i + 4 <= s.len() {
-        let k = plain_four(classes, s, i);
+    while i + 8 <= s.len() {
+        let k = plain_eight(classes, s, i);
         i += k;
-        if k < 4 {
+        if k < 8 {
             return i;
         }
     }

@@ -26,20 +26,20 @@ loop-holds c = (omega arith, c .before .pre .1, refl)
 add-loop : tie.Need-add-loop Inv-loop μ-loop Inv-loop2 μ-loop2
 add-loop c = omega arith
 
-plain-four-requires : tie.Need-plain-four-requires Inv-loop μ-loop Inv-loop2 μ-loop2
-plain-four-requires c κs = (c .before .before .before .pre .0, c .loop-test .taken)
+plain-eight-requires : tie.Need-plain-eight-requires Inv-loop μ-loop Inv-loop2 μ-loop2
+plain-eight-requires c κs = (c .before .before .before .pre .0, c .loop-test .taken)
 
 add-i : tie.Need-add-i Inv-loop μ-loop Inv-loop2 μ-loop2
 add-i c = omega arith
 
 returns : tie.Need-returns Inv-loop μ-loop Inv-loop2 μ-loop2
-returns c = (omega arith, omega arith, c .before .plain-four .ensures .1 ∙ c .before .before .before .loop .inv .2)
+returns c = (omega arith, omega arith, c .before .plain-eight .ensures .1 ∙ c .before .before .before .loop .inv .2)
 
 loop-less : tie.Need-loop-less Inv-loop μ-loop Inv-loop2 μ-loop2
 loop-less c = omega arith
 
 loop-again : tie.Need-loop-again Inv-loop μ-loop Inv-loop2 μ-loop2
-loop-again c = (omega arith, omega arith, c .before .plain-four .ensures .1 ∙ c .before .before .before .loop .inv .2)
+loop-again c = (omega arith, omega arith, c .before .plain-eight .ensures .1 ∙ c .before .before .before .loop .inv .2)
 
 loop2-holds : tie.Need-loop2-holds Inv-loop μ-loop Inv-loop2 μ-loop2
 loop2-holds c = c .before .loop .inv
@@ -78,7 +78,7 @@ plain-end-spec =
     μ-loop2
     loop-holds
     add-loop
-    plain-four-requires
+    plain-eight-requires
     add-i
     returns
     loop-less
