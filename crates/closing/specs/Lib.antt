@@ -1,4 +1,4 @@
--- How open elements are closed.
+-- The loop that infers ends, and what end tags and the document's end promise.
 pub mod Means
 pub mod Ends
 pub mod Loop

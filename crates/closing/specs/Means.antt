@@ -3,15 +3,19 @@ use Prim.Native.Nat.{ℕ, zero, suc, _+_, _≤_, _<_}
 use mathlib.Core.Path.{_≡_}
 use mathlib.Core.Bool.{true, false}
 use mathlib.Core.List.{List, [], _∷_, _++_}
+use lib.ListN.{length}
 use lib.Dec.{eqb}
 use Rattle.rules.specs.Reading.{Reading, refused, got, andThen}
 use Rattle.rules.specs.TypeFile.{Element}
-use Rattle.rules.specs.Settling.{Decisions, Event, endInferred, State, endLeftOut}
+use Rattle.rules.specs.Settling.{Decisions, Event, endInferred, State, endLeftOut, endElement, endDocument}
 use Rattle.rules.specs.Settling as rules
 use Rattle.document_laws.specs.Decide.{decided}
+use Rattle.last_places.specs.Last.{shortly}
 use Rattle.type_tables.specs.Means.{Facts}
+use Rattle.event_buffer.specs.Means.{Puts}
 use Rattle.open_elements.specs.declared.Open.{Open}
-use Rattle.open_elements.specs.Means.{current, around, eventsIn, outcome, Stands}
+use Rattle.open_elements.specs.declared.Outcome.{Outcome}
+use Rattle.open_elements.specs.Means.{current, around, stateOf, outcomeOf, closedOf, Ranged, Stands}
 
 -- Ends are inferred until the current element is x, or nothing is around it: what an end tag and the document's end have in common.
 unfoldable pub inferEnds : List ℕ → List Element → Decisions → (x at : ℕ) → List rules.Open → rules.Open → List Event → Reading State
@@ -22,9 +26,9 @@ inferEnds s es D x at (u ∷ around) o ev =
       | false ↦ andThen (endLeftOut s es D at o) λ e. inferEnds s es D x at around u (ev ++ e ∷ [])
     ]
 
--- The same by the state of the code, after these events of the token.
-abbrev pub inferred : List ℕ → List Element → (x at : ℕ) → Open → (events : List ℕ) → List Event → Reading State
-inferred s es x at o events before = inferEnds s es (decided s es) x at (around o) (current o) (before ++ eventsIn events (o .top .events))
+-- The same by the state of the code, after these events.
+abbrev pub inferred : List ℕ → List Element → (x at : ℕ) → Open → List Event → Reading State
+inferred s es x at o ev = inferEnds s es (decided s es) x at (around o) (current o) ev
 
 -- What is read where an event is due, or a refusal if the number is not 0.
 abbrev pub dueOf : (at number : ℕ) → Event → Reading Event
@@ -32,22 +36,39 @@ dueOf at zero e = got e
 dueOf at (suc n) e = refused (suc n) at
 
 -- The number says whether the end of the current element, which is not the document, may be inferred.
-abbrev pub Judges : (facts : List ℕ) → Open → ℕ → Type 0
-Judges facts o number =
-    (s : List ℕ) (es : List Element) → Facts s es facts → Stands es o → 1 ≤ o .top .count → (at : ℕ)
-    → endLeftOut s es (decided s es) at (current o) ≡ dueOf at number (endInferred (o .top .element) at)
+pub record Judges (facts : List ℕ) (o : Open) (number : ℕ) : Type 0 where
+  pub small : number < 20
+  pub sure : number ≡ 0 → o .complete ≡ true
+  pub due : (s : List ℕ) (es : List Element) → Facts s es facts → Stands es o → 1 ≤ o .count → (at : ℕ) → endLeftOut s es (decided s es) at (current o) ≡ dueOf at number (endInferred (o .element) at)
 
--- The state r and its events are what inferring ends comes to, from the state o and its events `from`.
-pub record Until (facts : List ℕ) (x at : ℕ) (o : Open) (from : List ℕ) (r : Open) (events : List ℕ) : Type 0 where
-  pub few : r .top .events + r .top .count ≤ o .top .events + o .top .count
-  pub small : r .top .number < 20
-  pub stands : (es : List Element) → Stands es o → Stands es r
-  pub reached : r .top .number ≡ 0 → 1 ≤ r .top .count → r .top .element ≡ x
-  pub same : (s : List ℕ) (es : List Element) → Facts s es facts → Stands es o → (before : List Event) → outcome at r events before ≡ inferred s es x at o from before
+-- What is handed back, whatever the tables hold: the numbers of the state are in range, and these events were put behind n others.
+pub record Brings (n : ℕ) (numbers bytes : List ℕ) (r : Outcome) (numbers′ bytes′ : List ℕ) : Type 0 where
+  pub ranged : Ranged (r .open)
+  pub small : r .number < 20
+  pub events : List Event
+  pub puts : Puts numbers bytes n events numbers′ bytes′
+  pub counted : r .events ≡ n + length events
 
--- The state r and its events are on the way there.
-pub record Goes (facts : List ℕ) (x at : ℕ) (o : Open) (from : List ℕ) (r : Open) (events : List ℕ) : Type 0 where
-  pub few : r .top .events + r .top .count ≤ o .top .events + o .top .count
-  pub number : r .top .number ≡ 0
-  pub stands : (es : List Element) → Stands es o → Stands es r
-  pub same : (s : List ℕ) (es : List Element) → Facts s es facts → Stands es o → (before : List Event) → inferred s es x at r events before ≡ inferred s es x at o from before
+-- The outcome r is what inferring ends comes to from the state o. An end is inferred for each element that is open no more.
+pub record Until (facts : List ℕ) (x at n : ℕ) (o : Open) (numbers bytes : List ℕ) (r : Outcome) (numbers′ bytes′ : List ℕ) : Type 0 where
+  pub brings : Brings n numbers bytes r numbers′ bytes′
+  pub few : length (brings .events) + r .open .count ≤ o .count
+  pub stands : (es : List Element) → Stands es o → Stands es (r .open)
+  pub reached : r .number ≡ 0 → 1 ≤ r .open .count → r .open .element ≡ x
+  pub same : (s : List ℕ) (es : List Element) → Facts s es facts → Stands es o → (before : List Event)
+      → outcomeOf at (r .number) (stateOf (r .open) (before ++ brings .events)) ≡ inferred s es x at o before
+
+-- What `end_tag` promises: the state and the events are the rules' after the end tag of x, or it is refused as there.
+pub record Tagged (facts : List ℕ) (x at after n : ℕ) (o : Open) (numbers bytes : List ℕ) (r : Outcome) (numbers′ bytes′ : List ℕ) : Type 0 where
+  pub brings : Brings n numbers bytes r numbers′ bytes′
+  pub few : length (brings .events) ≤ 50
+  pub closes : (s : List ℕ) (es : List Element) → Facts s es facts → Stands es o → (before : List Event)
+      → outcomeOf at (r .number) (stateOf (r .open) (before ++ brings .events)) ≡ shortly (endElement s es (decided s es) x at after (stateOf o before))
+  pub stands : (s : List ℕ) (es : List Element) → Facts s es facts → Stands es o → r .number ≡ 0 → Stands es (r .open)
+
+-- What `finish` promises: the events are the rules' at the document's end, or it is refused as there.
+pub record Finished (facts : List ℕ) (at n : ℕ) (o : Open) (numbers bytes : List ℕ) (r : Outcome) (numbers′ bytes′ : List ℕ) : Type 0 where
+  pub brings : Brings n numbers bytes r numbers′ bytes′
+  pub few : length (brings .events) ≤ 50
+  pub ends : (s : List ℕ) (es : List Element) → Facts s es facts → Stands es o → (before : List Event)
+      → closedOf at (r .number) (before ++ brings .events) ≡ endDocument s es (decided s es) at (stateOf o before)

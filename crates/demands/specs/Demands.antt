@@ -12,7 +12,7 @@ use Rattle.rules.specs.TypeFile.{Element, typeFile}
 use Rattle.rules.specs.Judge.{Answer, Legible, Refuses, Accepts, Judged}
 use Rattle.rules.specs.Settling.{Event, State}
 use Rattle.rules.specs.Reader.{BothLegible, Reads, RefusesBoth, ReadAs}
-use Rattle.last_places.specs.Depth.{Passes}
+use Rattle.document_laws.specs.Same.{Passes}
 use Rattle.demands.specs.Words.{Refusal, Acceptance, SomeAmbiguous, NamesFirst, NamesDecide, ReaderRefusal, ReaderAcceptance, SameVerdict}
 use Rattle.demands.specs.Kept as kept
 

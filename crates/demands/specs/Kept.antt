@@ -13,7 +13,7 @@ use Rattle.rules.specs.TypeFile.{Place, model, Element, typeFile}
 use Rattle.rules.specs.Judge.{samePlace, Answer, acceptance, FirstAmbiguous, Legible, Refuses, noRoom, Accepts, Judged, refuses, accepts}
 use Rattle.rules.specs.Settling.{Event, State}
 use Rattle.rules.specs.Reader.{BothLegible, Reads, RefusesBoth, ReadAs}
-use Rattle.last_places.specs.Depth.{Passes, passes-few}
+use Rattle.document_laws.specs.Same.{Passes, passes-few}
 use Rattle.demands.specs.Words.{Refusal, Acceptance, SomeAmbiguous, NamesFirst, NamesDecide, ReaderRefusal, ReaderAcceptance, SameVerdict}
 use Rattle.demands.specs.Proofs.{settled-one, settled-refuses, settled-accepts, settled-fair, settled-faulty, refuses-named, refuses-some, settled-nine, settled-nineteen, first-model, model-exactly, not-ambiguous, names-alone, settled-length}
 use Rattle.demands.specs.ReaderProofs.{given-one, reading-one, both-says, both-some, given-nine, given-nineteen, type-refused, given-refuses, given-accepts, given-faulty, given-fair, given-length}

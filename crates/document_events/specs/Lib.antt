@@ -1,6 +1,4 @@
 -- What the events of a document are, in the rules' terms, and the laws of the loop that reads them.
 pub mod Means
-pub mod Named
-pub mod Pieces
 pub mod Turns
 pub mod Marks

@@ -1,6 +1,6 @@
 -- The chain that is looked for within as many elements as there are is the shortest of all chains, and is found if there is any.
-use Prim.Native.Nat.{ℕ, zero, suc, _+_, _≤_, _<_}
-use mathlib.Core.Path.{_≡_, refl, sym, _∙_, ap, subst}
+use Prim.Native.Nat.{ℕ, zero, suc, _+_, _-_, _≤_, _<_}
+use mathlib.Core.Path.{_≡_, refl, sym, _∙_, ap, ap₂, subst}
 use mathlib.Core.Bool.{Bool, true, false, _&&_, false≢true}
 use mathlib.Core.Logic.{⊎-elim}
 use mathlib.Core.List.{List, [], _∷_, List·Memᴰ, List·Memᴰ·head, List·Memᴰ·tail, List·Memᴰ·not-nil, List·Memᴰ·cases-cons}
@@ -9,10 +9,10 @@ use native.Mathlib.Omega.{arith}
 use lib.ListN.{length}
 use lib.Dec.{eqb, leb}
 use borrow.Author.Tests.{leb-true, eqb-true, eqb-false}
-use Rattle.rules.specs.TypeFile.{Element}
-use Rattle.rules.specs.Settling.{contentOf, hasModel, startO, numberFrom, numberOf, isNamed, Token, Decisions, Open, elementOf, fitting, requiredPlace, inferable, chain}
-use Rattle.model_sets.specs.Bits.{bool-cases}
-use Rattle.document_laws.specs.Same.{link}
+use Rattle.rules.specs.TypeFile.{Place, Element}
+use Rattle.rules.specs.Settling.{contentOf, placesIn, hasModel, startO, numberFrom, numberOf, isNamed, Token, Decisions, Open, elementOf, fitting, requiredPlace, inferable, chain}
+use Rattle.rules.specs.Judge.{placeAt}
+use Rattle.model_sets.specs.Bits.{and-left, and-right, bool-cases}
 
 -- Lists without a number twice
 
@@ -71,13 +71,19 @@ few (suc n) ks o r = omega (arith, without-length (suc n) ks, few n (without (su
         (b .0, omega (arith, b .1, d))
 
 -- An element's number is one of the elements'.
-number-range : (k : ℕ) (s : List ℕ) (es : List Element) (t : List ℕ) (at size : ℕ) → 1 ≤ numberFrom k s es t at size → numberFrom k s es t at size < k + length es
+pub numberFrom-range : (s t : List ℕ) (at size k : ℕ) (es : List Element) → 1 ≤ k → numberFrom k s es t at size < k + length es
 unfolding numberFrom
-number-range k s [] t at size h = absurd (omega arith)
-number-range k s (e ∷ es) t at size h =
-    bool-cases (isNamed s e t at size) (λ x. rw (x, numberFrom) (omega arith)) (λ x. rw (x, numberFrom) (omega (arith, number-range (k + 1) s es t at size (rw (x, numberFrom) at h))))
+numberFrom-range s t at size k [] l = omega arith
+numberFrom-range s t at size k (e ∷ es) l =
+    bool-cases (isNamed s e t at size) (λ x. rw (x, numberFrom) (omega arith)) (λ x. rw (x, numberFrom) (omega (arith, numberFrom-range s t at size (k + 1) es (omega arith))))
 
--- One turn of a chain.
+-- One turn of a chain: the element k, as which place the token fits at its start, and the rest of the chain.
+unfoldable pub link : ℕ → ℕ → List ℕ → List ℕ
+link k f r = elim (leb 1 k) [ true ↦ elim (leb 1 f) [ true ↦ k ∷ [] | false ↦ elim r [ [] ↦ [] | j ∷ js ↦ k ∷ j ∷ js ] ] | false ↦ [] ]
+
+pub link-same : (k f g : ℕ) (r q : List ℕ) → (leb 1 k ≡ true → (f ≡ g) × (r ≡ q)) → link k f r ≡ link k g q
+unfolding link
+link-same k f g r q h = bool-cases (leb 1 k) (λ e. ap₂ (link k) (h e .0) (h e .1)) (λ e. rw (e, link))
 
 link-fits : (k f : ℕ) (r : List ℕ) → leb 1 k ≡ true → leb 1 f ≡ true → link k f r ≡ k ∷ []
 unfolding link
@@ -91,6 +97,47 @@ link-none : (k f : ℕ) → leb 1 k ≡ true → leb 1 f ≡ false → link k f 
 unfolding link
 link-none k f i e = rw (link, i, e)
 
+-- The element to infer in the element number n where the place p is required: 0 where it may not be inferred.
+unfoldable pub chosen : List ℕ → List Element → (n p : ℕ) → ℕ
+chosen s es n p =
+    let k = elementOf s es (record { number = n; taken = [] }) p in
+    elim (leb 1 p && (leb 1 k && (startO es k && hasModel (contentOf es k)))) [ true ↦ k | false ↦ 0 ]
+
+pub inferable-is : (s : List ℕ) (es : List Element) (D : Decisions) (o : Open) → inferable s es D o ≡ chosen s es (o .number) (requiredPlace s es D o)
+unfolding inferable chosen
+inferable-is s es D o = refl
+
+-- Its place is required, it is one of the elements, and it has a model.
+pub record MayInfer (es : List Element) (p k : ℕ) : Type 0 where
+  pub place : 1 ≤ p
+  pub declared : k ≤ length es
+  pub model : hasModel (contentOf es k) ≡ true
+
+chosen-may : (s : List ℕ) (es : List Element) (n p : ℕ) → leb 1 (chosen s es n p) ≡ true → MayInfer es p (chosen s es n p)
+unfolding chosen numberOf
+chosen-may s es n p h = go test refl h
+  where
+    x : Place
+    x = placeAt (placesIn (contentOf es n)) (p - 1)
+
+    k : ℕ
+    k = numberOf s es s (x .at) (x .size)
+
+    test : Bool
+    test = leb 1 p && (leb 1 k && (startO es k && hasModel (contentOf es k)))
+
+    go : (c : Bool) → test ≡ c → leb 1 (elim c [ true ↦ k | false ↦ 0 ]) ≡ true → MayInfer es p (elim c [ true ↦ k | false ↦ 0 ])
+    go true e l =
+        record {
+          place = leb-true 1 p (and-left (leb 1 p) _ e);
+          declared = omega (arith, numberFrom-range s s (x .at) (x .size) 1 es (omega arith));
+          model = and-right (startO es k) _ (and-right (leb 1 k) _ (and-right (leb 1 p) _ e));
+        }
+    go false e l = absurd (false≢true l)
+
+pub inferable-may : (s : List ℕ) (es : List Element) (D : Decisions) (o : Open) → leb 1 (inferable s es D o) ≡ true → MayInfer es (requiredPlace s es D o) (inferable s es D o)
+inferable-may s es D o h = rw (inferable-is s es D o) (chosen-may s es (o .number) (requiredPlace s es D o) (rw (inferable-is s es D o) at h))
+
 module _ (s : List ℕ) (es : List Element) (D : Decisions) (t : Token) where
   abbrev fresh : ℕ → Open
   fresh k = record { number = k; taken = [] }
@@ -100,29 +147,12 @@ module _ (s : List ℕ) (es : List Element) (D : Decisions) (t : Token) where
   Leads o [] = leb 1 (fitting s es D o t) ≡ true
   Leads o (k ∷ ks) = (inferable s es D o ≡ k) × (leb 1 k ≡ true) × Leads (fresh k) ks
 
-  inferable-range : (o : Open) → 1 ≤ inferable s es D o → inferable s es D o ≤ length es
-  unfolding inferable numberOf
-  inferable-range o h = go test refl h
-    where
-      p : ℕ
-      p = requiredPlace s es D o
-
-      k : ℕ
-      k = elementOf s es o p
-
-      test : Bool
-      test = leb 1 p && (leb 1 k && (startO es k && hasModel (contentOf es k)))
-
-      go : (c : Bool) → test ≡ c → 1 ≤ elim c [ true ↦ k | false ↦ 0 ] → elim c [ true ↦ k | false ↦ 0 ] ≤ length es
-      go true e l = omega (arith, number-range 1 s es s _ _ l)
-      go false e l = omega arith
-
   leads-range : (o : Open) (ks : List ℕ) → Leads o ks → (p : ℕ) → List·Memᴰ p ks → (1 ≤ p) × (p ≤ length es)
   leads-range o [] l p m = absurd (List·Memᴰ·not-nil m)
   leads-range o (k ∷ ks) (e, i, l) p m = ⊎-elim (λ q. rw q (leb-true 1 k i, bound)) (leads-range (fresh k) ks l p) (List·Memᴰ·cases-cons m)
     where
       bound : k ≤ length es
-      bound = rw e at (inferable-range o (rw e (leb-true 1 k i)))
+      bound = rw e at (inferable-may s es D o (rw e i) .declared)
 
   -- what follows an element of a chain follows that element anywhere
   cut : (o : Open) (k : ℕ) (js : List ℕ) → Leads o js → Once js → List·Memᴰ k js → (ks : List ℕ) × Leads (fresh k) ks × Once (k ∷ ks) × (length ks ≤ length js)
@@ -144,7 +174,7 @@ module _ (s : List ℕ) (es : List Element) (D : Decisions) (t : Token) where
           by-member (yes x) = let (us, u, v, w) = cut (fresh k) k (j ∷ js) (e, i, m) a x in (us, u, v, omega arith)
           by-member (no x) = (j ∷ js, (e, i, m), (x, a), omega arith)
 
-  chain-step : (n : ℕ) (o : Open) (k : ℕ) → inferable s es D o ≡ k → chain s es D (suc n) t o ≡ link k (fitting s es D (fresh k) t) (chain s es D n t (fresh k))
+  pub chain-step : (n : ℕ) (o : Open) (k : ℕ) → inferable s es D o ≡ k → chain s es D (suc n) t o ≡ link k (fitting s es D (fresh k) t) (chain s es D n t (fresh k))
   unfolding chain link
   chain-step n o k e = ap (λ k. link k (fitting s es D (fresh k) t) (chain s es D n t (fresh k))) e
 
@@ -180,9 +210,11 @@ module _ (s : List ℕ) (es : List Element) (D : Decisions) (t : Token) where
       by-rest i f (j ∷ js) c = rw (link-on k _ (j ∷ js) j js i f refl) (e, i, c)
 
   led : (n : ℕ) (o : Open) → Led o (chain s es D n t o)
-  unfolding chain link
+  unfolding chain
   led zero o = tt
-  led (suc n) o = link-led o (inferable s es D o) (chain s es D n t (fresh (inferable s es D o))) refl (led n (fresh (inferable s es D o)))
+  led (suc n) o =
+      let k = inferable s es D o in
+      rw (chain-step n o k refl) (link-led o k (chain s es D n t (fresh k)) refl (led n (fresh k)))
 
   -- What is found is a chain.
   pub chain-leads : (n : ℕ) (o : Open) (k : ℕ) (ks : List ℕ) → chain s es D n t o ≡ k ∷ ks → Leads o (k ∷ ks)

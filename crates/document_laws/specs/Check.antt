@@ -13,6 +13,7 @@ use Rattle.rules.specs.TypeFile.{Content, empty, model, Element, typeFile}
 use Rattle.rules.specs.Judge.{samePlace, Unambiguous, AllUnambiguous, Legible}
 use Rattle.rules.specs.Settling.{Event}
 use Rattle.rules.specs.Reader.{document, Reads}
+use Rattle.rules_laws.specs.In.{All, none, more}
 use Rattle.model_sets.specs.Bits.{and-left, and-right}
 use Rattle.model_sets.specs.Sets.{size, Numbered}
 use Rattle.model_sets.specs.Pairs.{firstPairOf, firstPairOf-none}
@@ -23,11 +24,6 @@ pub record Example : Type 0 where
   pub type : List ℕ
   pub text : List ℕ
   pub gives : Reading (List Event)
-
--- The rules accept the type and read the document just so.
-pub record Right (x : Example) : Type 0 where
-  pub elements : List Element
-  pub reads : Reads (x .type) (x .text) elements (x .gives)
 
 -- The type's models
 
@@ -117,55 +113,57 @@ same-reading (got xs) (got ys) e = ap got (same-events xs ys e)
 unfoldable pub isLegible : ℕ → List ℕ → Bool
 isLegible limit s = leb (length s) limit && eqb (span allowed s) (length s)
 
-unfoldable pub readsAs : Example → Reading (List Element) → Bool
-readsAs x (refused n k) = false
-readsAs x (got es) =
+unfoldable pub readsAs : Example → List Element → Bool
+readsAs x es =
     isLegible typeLimit (x .type) && (isLegible documentLimit (x .text) && (allFair (x .type) es && sameReading (document (x .type) es (decided (x .type) es) (x .text)) (x .gives)))
 
-unfoldable pub test : Example → Bool
-test x = readsAs x (typeFile (x .type))
+-- The rules accept the type with these elements and read the document just so.
+abbrev pub ReadSo : Example → List Element → Type 0
+ReadSo x es = Reads (x .type) (x .text) es (x .gives)
 
-module _ (x : Example) (es : List Element) (read : typeFile (x .type) ≡ got es) (t : readsAs x (got es) ≡ true) where
-  right-in : Right x
-  unfolding readsAs isLegible
-  right-in =
-      let a = and-left (isLegible typeLimit (x .type)) _ t in
-      let t₁ = and-right (isLegible typeLimit (x .type)) _ t in
-      let b = and-left (isLegible documentLimit (x .text)) _ t₁ in
-      let t₂ = and-right (isLegible documentLimit (x .text)) _ t₁ in
-      let (n, u) = all-fair (x .type) es (and-left (allFair (x .type) es) _ t₂) in
-      let legible : Legible (x .type) =
-      record { short = leb-true (length (x .type)) typeLimit (and-left (leb (length (x .type)) typeLimit) _ a); clean = eqb-true _ _ (and-right (leb (length (x .type)) typeLimit) _ a) } in
-      record {
-        elements = es;
-        reads =
-            record {
-              legible = record { type = legible; short = leb-true (length (x .text)) documentLimit (and-left (leb (length (x .text)) documentLimit) _ b); clean = eqb-true _ _ (and-right (leb (length (x .text)) documentLimit) _ b) };
-              accepted = record { legible = legible; elements = read; unambiguous = u };
-              decisions = decided (x .type) es;
-              means = decided-means (x .type) es n u;
-              reading = same-reading _ (x .gives) (and-right (allFair (x .type) es) _ t₂);
-            };
-      }
+pub reads-so : (x : Example) (es : List Element) → typeFile (x .type) ≡ got es → readsAs x es ≡ true → ReadSo x es
+unfolding readsAs isLegible
+reads-so x es read t =
+    let a = and-left (isLegible typeLimit (x .type)) _ t in
+    let t₁ = and-right (isLegible typeLimit (x .type)) _ t in
+    let b = and-left (isLegible documentLimit (x .text)) _ t₁ in
+    let t₂ = and-right (isLegible documentLimit (x .text)) _ t₁ in
+    let (n, u) = all-fair (x .type) es (and-left (allFair (x .type) es) _ t₂) in
+    let legible : Legible (x .type) =
+    record { short = leb-true (length (x .type)) typeLimit (and-left (leb (length (x .type)) typeLimit) _ a); clean = eqb-true _ _ (and-right (leb (length (x .type)) typeLimit) _ a) } in
+    record {
+      legible = record { type = legible; short = leb-true (length (x .text)) documentLimit (and-left (leb (length (x .text)) documentLimit) _ b); clean = eqb-true _ _ (and-right (leb (length (x .text)) documentLimit) _ b) };
+      accepted = record { legible = legible; elements = read; unambiguous = u };
+      decisions = decided (x .type) es;
+      means = decided-means (x .type) es n u;
+      reading = same-reading _ (x .gives) (and-right (allFair (x .type) es) _ t₂);
+    }
 
-pub right : (x : Example) → test x ≡ true → Right x
-unfolding test readsAs
-right x t = go (typeFile (x .type)) refl t
-  where
-    go : (r : Reading (List Element)) → typeFile (x .type) ≡ r → readsAs x r ≡ true → Right x
-    go (refused n k) e u = absurd (false≢true u)
-    go (got es) e u = right-in x es e u
+-- Examples of any kind X: the type file of each is read, and of its elements holds what the example says.
 
--- a list of examples of which each passes the test
-abbrev pub AllRight : List Example → Type 0
-AllRight [] = Unit {0}
-AllRight (x ∷ xs) = Right x × AllRight xs
+pub record Right {X : Type 0} (type : X → List ℕ) (Says : X → List Element → Type 0) (x : X) : Type 0 where
+  pub elements : List Element
+  pub reads : typeFile (type x) ≡ got elements
+  pub says : Says x elements
 
-unfoldable pub allPass : List Example → Bool
-allPass [] = true
-allPass (x ∷ xs) = test x && allPass xs
+-- What is got passes the test.
+unfoldable pub passes : (List Element → Bool) → Reading (List Element) → Bool
+passes test (refused n k) = false
+passes test (got es) = test es
 
-pub all-right : (xs : List Example) → allPass xs ≡ true → AllRight xs
-unfolding allPass
-all-right [] t = tt
-all-right (x ∷ xs) t = (right x (and-left (test x) _ t), all-right xs (and-right (test x) _ t))
+unfoldable pub allPass : {X : Type 0} (type : X → List ℕ) → (X → List Element → Bool) → List X → Bool
+allPass type test [] = true
+allPass type test (x ∷ xs) = passes (test x) (typeFile (type x)) && allPass type test xs
+
+module _ {X : Type 0} (type : X → List ℕ) {Says : X → List Element → Type 0} (test : X → List Element → Bool) (means : (x : X) (es : List Element) → typeFile (type x) ≡ got es → test x es ≡ true → Says x es) where
+  right : (x : X) (r : Reading (List Element)) → typeFile (type x) ≡ r → passes (test x) r ≡ true → Right type Says x
+  unfolding passes
+  right x (refused n k) e t = absurd (false≢true t)
+  right x (got es) e t = record { elements = es; reads = e; says = means x es e t }
+
+  pub all-right : (xs : List X) → allPass type test xs ≡ true → All (Right type Says) xs
+  unfolding allPass
+  all-right [] t = none
+  all-right (x ∷ xs) t =
+      let b = passes (test x) (typeFile (type x)) in
+      more (right x (typeFile (type x)) refl (and-left b _ t)) (all-right xs (and-right b _ t))

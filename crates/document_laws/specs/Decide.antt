@@ -1,6 +1,6 @@
 -- Under a type whose models are numbered from 1 and have no pair at fault, the walks can be decided: the last place taken decides.
 use Prim.Native.Nat.{ℕ, zero, suc, _+_, _-_, _≤_, _<_}
-use mathlib.Core.Path.{_≡_, refl, sym, _∙_, subst}
+use mathlib.Core.Path.{_≡_, refl, sym, _∙_, ap, subst}
 use mathlib.Core.Bool.{Bool, true, false, _&&_}
 use mathlib.Core.Logic.{_↔_}
 use mathlib.Core.List.{List, [], _∷_}
@@ -47,9 +47,26 @@ decided s es =
       required = λ k taken. requiredOf (contentOf es k) taken;
     }
 
+-- The last place taken decides.
+
+pub fitsIn-last : (s : List ℕ) (es : List Element) (c : Content) (a b : List ℕ) (t : Token) → lastOr0 a ≡ lastOr0 b → fitsIn s es c a t ≡ fitsIn s es c b t
+unfolding fitsIn
+fitsIn-last s es empty a b t e = refl
+fitsIn-last s es (model g ps n) a b t e = ap (λ (u : ℕ). search (λ p. hasName s es ps t p && nextIn g u p) (size g)) e
+
+pub isCompleteIn-last : (c : Content) (a b : List ℕ) → lastOr0 a ≡ lastOr0 b → isCompleteIn c a ≡ isCompleteIn c b
+unfolding isCompleteIn
+isCompleteIn-last empty a b e = refl
+isCompleteIn-last (model g ps n) a b e = ap (completeIn g) e
+
+pub requiredOf-last : (c : Content) (a b : List ℕ) → lastOr0 a ≡ lastOr0 b → requiredOf c a ≡ requiredOf c b
+unfolding requiredOf
+requiredOf-last empty a b e = refl
+requiredOf-last (model g ps n) a b e = ap (requiredIn g) e
+
 -- The search
 
-search-passes : (f : ℕ → Bool) (n : ℕ) → 1 ≤ search f n → f (search f n) ≡ true
+pub search-passes : (f : ℕ → Bool) (n : ℕ) → 1 ≤ search f n → f (search f n) ≡ true
 unfolding search
 search-passes f zero h = absurd (omega arith)
 search-passes f (suc n) h = bool-cases (f (suc n)) (λ e. rw (e, search) e) (λ e. rw (e, search) (search-passes f n (rw (e, search) at h)))
@@ -65,13 +82,13 @@ search-finds f (suc n) p l h e = bool-cases (f (suc n)) (λ x. rw (x, search) (o
 
 -- Names
 
-sameText-trans : (s : List ℕ) (a b c n : ℕ) → sameText s a s b n ≡ true → sameText s b s c n ≡ true → sameText s a s c n ≡ true
+pub sameText-trans : (s : List ℕ) (a : ℕ) (t : List ℕ) (b : ℕ) (u : List ℕ) (c n : ℕ) → sameText s a t b n ≡ true → sameText t b u c n ≡ true → sameText s a u c n ≡ true
 unfolding sameText
-sameText-trans s a b c zero x y = refl
-sameText-trans s a b c (suc n) x y =
-    let (e, u) = sameText-split s a s b n x in
-    let (f, v) = sameText-split s b s c n y in
-    sameText-more s a s c n (e ∙ f) ∙ sameText-trans s (a + 1) (b + 1) (c + 1) n u v
+sameText-trans s a t b u c zero x y = refl
+sameText-trans s a t b u c (suc n) x y =
+    let (e, v) = sameText-split s a t b n x in
+    let (f, w) = sameText-split t b u c n y in
+    sameText-more s a u c n (e ∙ f) ∙ sameText-trans s (a + 1) t (b + 1) u (c + 1) n v w
 
 -- Two places that have one token's name have the same name.
 names-same : (s : List ℕ) (es : List Element) (ps : List Place) (t : Token) (p q : ℕ) → hasName s es ps t p ≡ true → hasName s es ps t q ≡ true → samePlace s ps p q ≡ true
@@ -83,7 +100,7 @@ names-same s es ps t p q x y =
     let (f, b) = sameName-split s (o .at) (o .size) (v .at) (v .size) y in
     let z : u .size ≡ v .size = sym e ∙ f in
     sameName-join s (u .at) (u .size) (v .at) (v .size) z
-    (sameText-trans s (u .at) (o .at) (v .at) (v .size) (rw z at (sameText-sym s (o .at) s (u .at) (u .size) a)) b)
+    (sameText-trans s (u .at) s (o .at) s (v .at) (v .size) (rw z at (sameText-sym s (o .at) s (u .at) (u .size) a)) b)
 
 -- One model
 

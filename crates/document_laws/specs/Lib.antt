@@ -1,10 +1,11 @@
--- Laws of the document half of the rules: what the walks decide is decided, and in one way only.
+-- Laws of the document half of the rules: settling is walked once; what the walks decide is decided, and in one way only.
 pub mod Laws
 pub mod Agree
 pub mod Decide
 pub mod Numbers
-pub mod Same
 pub mod Chain
+pub mod Moves
+pub mod Same
 pub mod Answers
 -- The documents of the paper's shelf.
 pub mod Ascii

@@ -12,9 +12,10 @@ use Rattle.rules.specs.Judge.{placeAt}
 use Rattle.rules.specs.Document.{tag, declarationPiece, markupPiece, bytePiece, piece}
 use Rattle.rules.specs.Settling.{Event, startWritten, startInferred, endInferred, dataRun, elementAt, numberFrom, numberOf, withData, limited, isOpen, inferable, chain, inferStarts, inward, settleFrom, settle, startElement, takeData, takeBlank, endLeftOut, closeFrom, endElement, endFrom, endDocument}
 use Rattle.rules.specs.Reader.{tagged, settlePiece, piecesWithin, document}
+use Rattle.rules_laws.specs.In.{All}
 use Rattle.document_laws.specs.Ascii.{ascii}
 use Rattle.document_laws.specs.Decide.{search, fitsIn, isCompleteIn, requiredOf}
-use Rattle.document_laws.specs.Check.{Example, AllRight, all-right, allPass, test, readsAs, isLegible, allFair, isFair, isNumbered, sameReading, sameEvents, sameEvent}
+use Rattle.document_laws.specs.Check.{Example, ReadSo, reads-so, Right, all-right, allPass, passes, readsAs, isLegible, allFair, isFair, isNumbered, sameReading, sameEvents, sameEvent}
 
 -- Type T behind its first word of LIST.
 pub restOfT : List ℕ
@@ -72,6 +73,6 @@ shelf =
     under T- "<ITEM>" (refused 12 0) ∷
     []
 
-pub shelf-right : AllRight shelf
-unfolding ascii restOfT T T- under whole shelf allPass test readsAs isLegible allFair isFair isNumbered sameReading sameEvents sameEvent search fitsIn isCompleteIn requiredOf tagged settlePiece piecesWithin document elementAt numberFrom numberOf withData limited isOpen inferable chain inferStarts inward settleFrom settle startElement takeData takeBlank endLeftOut closeFrom endElement endFrom endDocument tag declarationPiece markupPiece bytePiece piece placeAt allowed separator letter fold nameByte span nameEnd separatorsEnd sameText beforeDashes gapWithin gap occurrence nameToken dataToken token further members group isDeclared elementName omission words head contentWord contentModel content close rest element commentDeclaration beforeClose keyword markup declaration declarationsWithin typeFile
-shelf-right = all-right shelf refl
+pub shelf-right : All (Right (λ (x : Example). x .type) ReadSo) shelf
+unfolding ascii restOfT T T- under whole shelf allPass passes readsAs isLegible allFair isFair isNumbered sameReading sameEvents sameEvent search fitsIn isCompleteIn requiredOf tagged settlePiece piecesWithin document elementAt numberFrom numberOf withData limited isOpen inferable chain inferStarts inward settleFrom settle startElement takeData takeBlank endLeftOut closeFrom endElement endFrom endDocument tag declarationPiece markupPiece bytePiece piece placeAt allowed separator letter fold nameByte span nameEnd separatorsEnd sameText beforeDashes gapWithin gap occurrence nameToken dataToken token further members group isDeclared elementName omission words head contentWord contentModel content close rest element commentDeclaration beforeClose keyword markup declaration declarationsWithin typeFile
+shelf-right = all-right (λ (x : Example). x .type) readsAs reads-so shelf refl

@@ -1,9 +1,8 @@
 -- The rules' reading that an answer of the code stands for.
 use Prim.Native.Nat.{ℕ, zero, suc, _+_, _-_}
-use mathlib.Core.Bool.{Bool, true, false, _||_}
+use mathlib.Core.Bool.{Bool, true, false}
 use mathlib.Core.List.{List}
 use lib.ListN.{length}
-use lib.Dec.{eqb}
 use Rattle.rules.specs.Reading.{Reading, refused, got, andThen}
 use Rattle.rules.specs.Document.{Piece, startTag, endTag, skipped, blank, dataByte, piece}
 use Rattle.rules.specs.Document as rules
@@ -56,7 +55,3 @@ runs (suc n) d i = elim (isRun (piece d i)) [ true ↦ suc (runs n d (i + 1)) | 
 -- Where the run of data from `at` on ends.
 abbrev pub runEnd : List ℕ → ℕ → ℕ
 runEnd d at = at + runs (length d - at) d at
-
--- A byte that may begin something else than data: `<`, `&`, `]`, or byte 10.
-abbrev pub special : ℕ → Bool
-special b = eqb b 60 || (eqb b 38 || (eqb b 93 || eqb b 10))

@@ -9,14 +9,14 @@ use native.Mathlib.Numerals.{add-one}
 use native.Mathlib.Omega.{arith}
 use lib.ListN.{length, getD, set, drop, replicate, length-set, length-replicate, getD-replicate}
 use lib.Seq.{drop-length, getD-set-same, getD-set-other}
-use lib.Dec.{eqb, leb}
-use borrow.Author.Tests.{eq-eqb, eqb-true, ne-eqb, leb-true}
+use lib.Dec.{eqb, leb, ltb}
+use borrow.Author.Tests.{eq-eqb, eqb-true, ne-eqb, leb-true, ltb-true, lt-ltb, le-ltb, le-leb, lt-leb}
 use Rattle.rules.specs.Bytes.{byteAt, letter, fold, sameText}
 use Rattle.rules.specs.TypeFile.{Element}
 use Rattle.rules.specs.Judge.{Accepts}
 use Rattle.rules.specs.Settling.{elementAt, isNamed, numberFrom, numberOf}
 use Rattle.rules.specs.Lookup.{isAlike, compared}
-use Rattle.model_sets.specs.Bits.{and-left, and-right, and-both, or-cases, not-true, not-both, bool-cases}
+use Rattle.model_sets.specs.Bits.{or-left, or-right, or-cases, and-left, and-right, and-both, not-true, not-both, bool-cases}
 use Rattle.text.specs.Laws.{sameText-first}
 use Rattle.rules_laws.specs.Within.{typeFile-count}
 use Rattle.element_reader.specs.Means.{Recorded}
@@ -24,7 +24,7 @@ use Rattle.element_reader.specs.Laws.{recorded-at}
 use Rattle.type_laws.specs.Names.{isNamed-split}
 use Rattle.type_laws.specs.Made.{typeFile-made}
 use Rattle.type_laws.specs.Again.{typeFile-sizes}
-use Rattle.element_index.specs.Means.{bucketOf, isIn, nextFrom, Indexed, putIn}
+use Rattle.element_index.specs.Means.{bucketOf, isIn, nextFrom, follows, Indexed, putIn}
 
 -- The next number that passes
 
@@ -84,6 +84,36 @@ module _ (s : List ℕ) (e : Element) (t : List ℕ) (at size : ℕ) (p : letter
       let b = eqb-true (fold (byteAt s (e .at))) (fold (byteAt t at)) (and-right (eqb (e .size) size) _ x) in
       omega arith
 
+-- Exactly the letters fold to those from A to Z.
+letter-folds : (b : ℕ) → letter b ≡ true → (65 ≤ fold b) × (fold b ≤ 90)
+unfolding letter fold
+letter-folds b e =
+    bool-cases (leb 97 b && leb b 122) lower λ x. or-cases (leb 65 b && leb b 90) (leb 97 b && leb b 122) (upper x) (λ y. absurd (not-both x y)) e
+  where
+    lower : leb 97 b && leb b 122 ≡ true → (65 ≤ fold b) × (fold b ≤ 90)
+    lower y =
+        let l = leb-true 97 b (and-left _ _ y) in
+        let h = leb-true b 122 (and-right (leb 97 b) _ y) in
+        rw (y, fold) (omega arith, omega arith)
+
+    upper : leb 97 b && leb b 122 ≡ false → leb 65 b && leb b 90 ≡ true → (65 ≤ fold b) × (fold b ≤ 90)
+    upper x y = rw (x, fold) (leb-true 65 b (and-left _ _ y), leb-true b 90 (and-right (leb 65 b) _ y))
+
+folds-letter : (b : ℕ) → 65 ≤ fold b → fold b ≤ 90 → letter b ≡ true
+unfolding letter fold
+folds-letter b l h =
+    bool-cases (leb 97 b && leb b 122) (λ y. or-right (leb 65 b && leb b 90) y) λ y.
+    or-left (leb 97 b && leb b 122) (and-both (le-leb 65 b (rw (y, fold) at l)) (le-leb b 90 (rw (y, fold) at h)))
+
+-- A name that begins with no letter is not even alike to one that does.
+apart-alike : (s : List ℕ) (e : Element) (t : List ℕ) (at size : ℕ) → letter (byteAt s (e .at)) ≡ true → letter (byteAt t at) ≡ false
+    → isAlike s e t at size ≡ false
+apart-alike s e t at size p q =
+    not-true _ λ x.
+    let same = eqb-true (fold (byteAt s (e .at))) (fold (byteAt t at)) (and-right (eqb (e .size) size) _ x) in
+    let (l, h) = letter-folds (byteAt s (e .at)) p in
+    not-both q (folds-letter (byteAt t at) (omega arith) (omega arith))
+
 -- What has the name is alike.
 named-alike : (s : List ℕ) (e : Element) (t : List ℕ) (at size : ℕ) → 1 ≤ size → isNamed s e t at size ≡ true → isAlike s e t at size ≡ true
 named-alike s e t at zero l x = absurd (omega arith)
@@ -122,16 +152,6 @@ drop-element es j h = rw add-one (go es j h)
     go (e ∷ es) zero h = refl
     go (e ∷ es) (suc j) h = go es j (le-of-suc-le-suc h)
 
--- No more are compared than are declared.
-compared-most : (s : List ℕ) (es : List Element) (t : List ℕ) (at size : ℕ) → compared s es t at size ≤ length es
-unfolding compared
-compared-most s [] t at size = omega arith
-compared-most s (e ∷ es) t at size =
-    let ih = compared-most s es t at size in
-    bool-cases (isAlike s e t at size)
-    (λ x. bool-cases (isNamed s e t at size) (λ y. rw (x, y, compared) (omega arith)) (λ y. rw (x, y, compared) (omega arith)))
-    (λ x. rw (x, compared) (omega arith))
-
 module _ (s : List ℕ) (es : List Element) (t : List ℕ) (at size : ℕ) where
   abbrev pub answerFrom : ℕ → ℕ
   answerFrom j = numberFrom (j + 1) s (drop j es) t at size
@@ -162,10 +182,6 @@ module _ (s : List ℕ) (es : List Element) (t : List ℕ) (at size : ℕ) where
     unfolding compared
     passed-count x = rw (drop-element es j h, x, compared)
 
-    some-count : isAlike s (elementAt es j) t at size ≡ true → 1 ≤ countFrom j
-    some-count x =
-        bool-cases (isNamed s (elementAt es j) t at size) (λ y. omega (arith, found-count x y)) (λ y. omega (arith, other-count x y))
-
 -- What is due from the element number k on: 0 where k is 0, and there is none.
 abbrev pub due : (ℕ → ℕ) → ℕ → ℕ
 due f zero = 0
@@ -187,19 +203,42 @@ pub bucket-read : (index t : List ℕ) (at size first to k : ℕ) → first ≡ 
     → k ≡ getD index (65 + bucketAt t at size) 0
 bucket-read index t at size first to k f b e = rw (b, f) at e
 
--- The element k is in the bucket of the name, or is 0; the answer is what is due from it on, and so is what is yet to be counted beside n.
-pub record Seeks (s : List ℕ) (es : List Element) (t : List ℕ) (at size k n : ℕ) : Type 0 where
+-- What it reads of the first byte.
+pub letter-read : (t : List ℕ) (at first : ℕ) {r v : Bool} → first ≡ byteAt t at → r ≡ letter first → r ≡ v → letter (byteAt t at) ≡ v
+letter-read t at first f g e = rw (← f, ← g) e
+
+-- The element k, larger than the one before it, is in the bucket of the name, or is 0; the answer is what is due from it on, and so is what is yet to be counted beside n.
+pub record Seeks (s : List ℕ) (es : List Element) (t : List ℕ) (at size before k n : ℕ) : Type 0 where
   pub within : k ≤ length es
+  pub rises : 1 ≤ k → before < k
   pub inside : 1 ≤ k → isIn s es (bucketAt t at size) k ≡ true
   pub answer : due (answerFrom s es t at size) k ≡ numberOf s es t at size
   pub count : n + due (countFrom s es t at size) k ≡ compared s es t at size
 
-pub seeks-counted : {s : List ℕ} {es : List Element} {t : List ℕ} {at size k n m : ℕ} → n ≡ m → Seeks s es t at size k n → Seeks s es t at size k m
+pub seeks-counted : {s : List ℕ} {es : List Element} {t : List ℕ} {at size before k n m : ℕ} → n ≡ m → Seeks s es t at size before k n → Seeks s es t at size before k m
 seeks-counted e w = rw (← e) w
+
+-- What the code tests, one after the other.
+module _ (s elements : List ℕ) (before k size : ℕ) where
+  pub follows-falls : k ≤ before → false ≡ follows s elements before k size
+  follows-falls h = rw (le-ltb before k h)
+
+  pub follows-over : before < k → 64 < k → false ≡ follows s elements before k size
+  follows-over h l = rw (lt-ltb before k h, lt-leb k 64 l)
+
+  pub follows-by : before < k → k ≤ 64 → {o : ℕ} → o ≡ getD elements (6 * (k - 1)) 0 → leb (o + size) (length s) ≡ follows s elements before k size
+  follows-by h l e = rw (e, lt-ltb before k h, le-leb k 64 l)
+
+  pub follows-true : {r : Bool} → r ≡ follows s elements before k size → r ≡ true → (before < k) × (k ≤ 64) × (getD elements (6 * (k - 1)) 0 + size ≤ length s)
+  follows-true e q =
+      let w = rw q at e in
+      let z = and-right (ltb before k) _ (sym w) in
+      (ltb-true before k (and-left _ _ (sym w)), leb-true k 64 (and-left _ _ z), leb-true _ _ (and-right (leb k 64) _ z))
 
 -- No element between j and k is alike, nor any behind j where k is 0.
 record Leads (s : List ℕ) (es : List Element) (t : List ℕ) (at size j k : ℕ) : Type 0 where
   within : k ≤ length es
+  rises : 1 ≤ k → j < k
   inside : 1 ≤ k → isIn s es (bucketAt t at size) k ≡ true
   answer : due (answerFrom s es t at size) k ≡ answerFrom s es t at size j
   count : due (countFrom s es t at size) k ≡ countFrom s es t at size j
@@ -227,7 +266,7 @@ module _ {s : List ℕ} {es : List Element} {elements index : List ℕ} (t : Lis
   leads zero j e =
       let z : j ≡ length es = omega arith in
       let d = drop-length es in
-      record { within = omega arith; inside = λ l. absurd (omega arith); answer = rw (z, d); count = rw (z, d) }
+      record { within = omega arith; rises = λ l. absurd (omega arith); inside = λ l. absurd (omega arith); answer = rw (z, d); count = rw (z, d) }
   leads (suc left) j e = bool-cases (isIn s es (bucketAt t at size) (j + 1)) here (further (leads left (j + 1) (omega arith)))
     where
       d : j + 1 - 1 ≡ j
@@ -236,7 +275,7 @@ module _ {s : List ℕ} {es : List Element} {elements index : List ℕ} (t : Lis
       here : isIn s es (bucketAt t at size) (j + 1) ≡ true → Leads s es t at size j (nextFrom (isIn s es (bucketAt t at size)) (suc left) j)
       here y =
           rw (y, nextFrom)
-          (record { within = omega arith; inside = λ _. y; answer = due-here (answerFrom s es t at size) j; count = due-here (countFrom s es t at size) j })
+          (record { within = omega arith; rises = λ _. omega arith; inside = λ _. y; answer = due-here (answerFrom s es t at size) j; count = due-here (countFrom s es t at size) j })
 
       further : Leads s es t at size (j + 1) (nextFrom (isIn s es (bucketAt t at size)) left (j + 1)) → isIn s es (bucketAt t at size) (j + 1) ≡ false → Leads s es t at size j (nextFrom (isIn s es (bucketAt t at size)) (suc left) j)
       further ih y =
@@ -245,6 +284,7 @@ module _ {s : List ℕ} {es : List Element} {elements index : List ℕ} (t : Lis
           rw (y, nextFrom)
           (record {
             within = ih .within;
+            rises = λ l. let r = ih .rises l in omega arith;
             inside = ih .inside;
             answer = ih .answer ∙ sym (other-answer s es t at size j (omega arith) other);
             count = ih .count ∙ sym (passed-count s es t at size j (omega arith) out);
@@ -252,25 +292,18 @@ module _ {s : List ℕ} {es : List Element} {elements index : List ℕ} (t : Lis
 
   -- The next of the bucket behind the first j, where so much is due.
   seeks-from : (j n : ℕ) → j ≤ length es → answerFrom s es t at size j ≡ numberOf s es t at size → n + countFrom s es t at size j ≡ compared s es t at size
-      → {k : ℕ} → k ≡ nextFrom (isIn s es (bucketAt t at size)) (length es - j) j → Seeks s es t at size k n
+      → {k : ℕ} → k ≡ nextFrom (isIn s es (bucketAt t at size)) (length es - j) j → Seeks s es t at size j k n
   seeks-from j n h a c {k} e =
       let w = leads (length es - j) j (omega arith) in
-      rw e (record { within = w .within; inside = w .inside; answer = w .answer ∙ a; count = ap (λ (m : ℕ). n + m) (w .count) ∙ c })
+      rw e (record { within = w .within; rises = w .rises; inside = w .inside; answer = w .answer ∙ a; count = ap (λ (m : ℕ). n + m) (w .count) ∙ c })
 
-  pub seeks-start : size ≤ 8 → {k : ℕ} → k ≡ getD index (65 + bucketAt t at size) 0 → Seeks s es t at size k 0
+  pub seeks-start : size ≤ 8 → {k : ℕ} → k ≡ getD index (65 + bucketAt t at size) 0 → Seeks s es t at size 0 k 0
   unfolding numberOf
   seeks-start short e =
       let z : length es - 0 ≡ length es = omega arith in
       seeks-from 0 0 (omega arith) refl (omega arith) (rw z (e ∙ x .smallest (bucketAt t at size) (bucket-range (byteAt t at) size some short)))
 
-  module _ {k n : ℕ} (seeks : Seeks s es t at size k n) where
-    pub seeks-end : k ≡ 0 → (0 ≡ numberOf s es t at size) × (n ≡ compared s es t at size)
-    seeks-end z = (rw z at (seeks .answer), omega (arith, rw z at (seeks .count)))
-
-    -- No more were compared than are declared.
-    pub seeks-most : n ≤ length es
-    seeks-most = omega (arith, seeks .count, compared-most s es t at size)
-
+  module _ {before k n : ℕ} (seeks : Seeks s es t at size before k n) where
     module _ (more : 1 ≤ k) where
       stands : k - 1 < length es
       stands = let w = seeks .within in omega arith
@@ -291,9 +324,6 @@ module _ {s : List ℕ} {es : List Element} {elements index : List ℕ} (t : Lis
       count-is : n + countFrom s es t at size (k - 1) ≡ compared s es t at size
       count-is = rw (due-some (countFrom s es t at size) k more) at (seeks .count)
 
-      pub seeks-fewer : n < length es
-      seeks-fewer = omega (arith, count-is, some-count s es t at size (k - 1) stands alike, compared-most s es t at size)
-
       -- The element's own name, which has the same size, lies within the type file.
       pub seeks-within : {o : ℕ} → o ≡ getD elements (6 * (k - 1)) 0 → o + size ≤ length s
       seeks-within f =
@@ -308,7 +338,7 @@ module _ {s : List ℕ} {es : List Element} {elements index : List ℕ} (t : Lis
               omega (arith, count-is, found-count s es t at size (k - 1) stands alike y),
             )
 
-        pub seeks-next : r ≡ false → {m : ℕ} → m ≡ getD index k 0 → Seeks s es t at size m (n + 1)
+        pub seeks-next : r ≡ false → {m : ℕ} → m ≡ getD index k 0 → Seeks s es t at size k m (n + 1)
         seeks-next e q =
             let y = named-is f g e in
             let w = seeks .within in
@@ -317,6 +347,39 @@ module _ {s : List ℕ} {es : List Element} {elements index : List ℕ} (t : Lis
             let c : countFrom s es t at size (k - 1) ≡ suc (countFrom s es t at size k) = other-count s es t at size (k - 1) stands alike y ∙ ap (λ (j : ℕ). suc (countFrom s es t at size j)) z in
             seeks-from k (n + 1) w (sym a ∙ answer-is) (omega (arith, count-is, c)) (q ∙ x .larger (bucketAt t at size) k more w (seeks .inside more))
 
+    -- Where the search does not go on, there is no element: in an index each follows the one before.
+    pub seeks-end : {r : Bool} → r ≡ follows s elements before k size → r ≡ false → (0 ≡ numberOf s es t at size) × (n ≡ compared s es t at size)
+    seeks-end f e = by-number (ℕ-discrete k 0)
+      where
+        by-number : Dec (k ≡ 0) → (0 ≡ numberOf s es t at size) × (n ≡ compared s es t at size)
+        by-number (yes z) = (rw z at (seeks .answer), omega (arith, rw z at (seeks .count)))
+        by-number (no ne) =
+            let more : 1 ≤ k = omega arith in
+            let w = seeks .within in
+            let few = x .few in
+            absurd (not-both (sym f ∙ e)
+            (and-both (lt-ltb before k (seeks .rises more)) (and-both (le-leb k 64 (omega arith)) (le-leb _ _ (seeks-within more refl)))))
+
+-- A name that begins with no letter is compared with none, and no element has it.
+module _ {s : List ℕ} {es : List Element} {elements index : List ℕ} (t : List ℕ) (at size : ℕ) (x : Indexed s es elements index) (some : 1 ≤ size)
+    (other : letter (byteAt t at) ≡ false) where
+  none-from : (left j : ℕ) → j + left ≡ length es → (answerFrom s es t at size j ≡ 0) × (countFrom s es t at size j ≡ 0)
+  unfolding numberFrom compared
+  none-from zero j e =
+      let z : j ≡ length es = omega arith in
+      let d = drop-length es in
+      (rw (z, d), rw (z, d))
+  none-from (suc left) j e =
+      let h : j < length es = omega arith in
+      let (a, n) = none-from left (j + 1) (omega arith) in
+      let y = apart-alike s (elementAt es j) t at size (typeFile-made s es (x .accepted .elements) j h .named) other in
+      let z = not-true _ (λ z. not-both y (named-alike s (elementAt es j) t at size some z)) in
+      (other-answer s es t at size j h z ∙ a, passed-count s es t at size j h y ∙ n)
+
+  pub none-found : (0 ≡ numberOf s es t at size) × (0 ≡ compared s es t at size)
+  unfolding numberOf
+  none-found = let (a, n) = none-from (length es) 0 (omega arith) in (sym a, sym n)
+
 -- A further element
 
 -- The elements above k are indexed.
@@ -324,6 +387,8 @@ pub record Filled (s : List ℕ) (es : List Element) (index : List ℕ) (k : ℕ
   pub len : length index ≡ 321
   pub smallest : (b : ℕ) → b < 256 → getD index (65 + b) 0 ≡ nextFrom (isIn s es b) (length es - k) k
   pub larger : (b j : ℕ) → k < j → j ≤ length es → isIn s es b j ≡ true → getD index j 0 ≡ nextFrom (isIn s es b) (length es - j) j
+  pub spare : (j : ℕ) → j ≤ k → j ≤ 64 → getD index j 0 ≡ 0
+  pub behind : (j : ℕ) → length es < j → j ≤ 64 → getD index j 0 ≡ 0
 
 pub filled-none : (s : List ℕ) (es : List Element) (index : List ℕ) (k : ℕ) → length es ≡ k → index ≡ replicate 321 0 → Filled s es index k
 unfolding nextFrom
@@ -333,6 +398,8 @@ filled-none s es index k n e =
       len = rw e (length-replicate {A = ℕ} 321 0);
       smallest = λ b h. rw (e, z) (getD-replicate 321 (65 + b) 0 0 (omega arith));
       larger = λ b j l h x. absurd (omega arith);
+      spare = λ j l h. rw e (getD-replicate 321 j 0 0 (omega arith));
+      behind = λ j l h. rw e (getD-replicate 321 j 0 0 (omega arith));
     }
 
 putIn-length : (index : List ℕ) (b k : ℕ) → length (putIn index b k) ≡ length index
@@ -392,6 +459,8 @@ module _ (s : List ℕ) (es : List Element) (index : List ℕ) (k : ℕ) (in-ran
         len = putIn-length index (bucketIn s es k) k ∙ done .len;
         smallest = λ b h. smallest-after b h (ℕ-discrete (bucketIn s es k) b);
         larger = λ b j l h x. larger-after b j l h x (ℕ-discrete j k);
+        spare = λ j l h. put-elsewhere index (done .len) (bucketIn s es k) k in-range (omega arith) j (omega arith) (omega arith) ∙ done .spare j (omega arith) h;
+        behind = λ j l h. put-elsewhere index (done .len) (bucketIn s es k) k in-range (omega arith) j (omega arith) (omega arith) ∙ done .behind j l h;
       }
 
 -- The element k is put into the bucket of the name that its record says.
@@ -424,4 +493,6 @@ filled-all s es elements index k accepted recorded e done =
       recorded = recorded;
       smallest = λ b h. rw (e, z) at (done .smallest b h);
       larger = λ b j l h x. done .larger b j (omega arith) h x;
+      none = done .spare 0 (omega arith) (omega arith);
+      behind = done .behind;
     }

@@ -1,10 +1,10 @@
 -- What an index of a type's elements says.
 use Prim.Native.Nat.{ℕ, zero, suc, _+_, _-_, _*_, _%_, _≤_, _<_}
 use mathlib.Core.Path.{_≡_}
-use mathlib.Core.Bool.{Bool, true, false}
+use mathlib.Core.Bool.{Bool, true, false, _&&_}
 use mathlib.Core.List.{List}
 use lib.ListN.{length, getD, set}
-use lib.Dec.{eqb}
+use lib.Dec.{eqb, leb, ltb}
 use Rattle.rules.specs.Bytes.{byteAt}
 use Rattle.rules.specs.TypeFile.{Element}
 use Rattle.rules.specs.Judge.{Accepts}
@@ -28,17 +28,19 @@ unfoldable pub nextFrom : (ℕ → Bool) → (left k : ℕ) → ℕ
 nextFrom f zero k = 0
 nextFrom f (suc left) k = elim (f (k + 1)) [ true ↦ k + 1 | false ↦ nextFrom f left (k + 1) ]
 
--- Each bucket leads through its elements, from the smallest number up.
+-- Each bucket leads through its elements, from the smallest number up. What belongs to no element is 0.
 pub record Indexed (s : List ℕ) (es : List Element) (elements index : List ℕ) : Type 0 where
   pub accepted : Accepts s es
   pub few : length es ≤ 64
   pub recorded : Recorded elements es
   pub smallest : (b : ℕ) → b < 256 → getD index (65 + b) 0 ≡ nextFrom (isIn s es b) (length es) 0
   pub larger : (b k : ℕ) → 1 ≤ k → k ≤ length es → isIn s es b k ≡ true → getD index k 0 ≡ nextFrom (isIn s es b) (length es - k) k
+  pub none : getD index 0 0 ≡ 0
+  pub behind : (k : ℕ) → length es < k → k ≤ 64 → getD index k 0 ≡ 0
 
--- Some elements are indexed so.
-abbrev pub AnyIndexed : (s elements index : List ℕ) → Type 0
-AnyIndexed s elements index = (es : List Element) × Indexed s es elements index
+-- The element number k is larger than the one before it, and a name of this size stands in s where its record says.
+abbrev pub follows : (s elements : List ℕ) (before k size : ℕ) → Bool
+follows s elements before k size = ltb before k && (leb k 64 && leb (getD elements (6 * (k - 1)) 0 + size) (length s))
 
 -- The index with k before the elements of the bucket b.
 abbrev pub putIn : (index : List ℕ) (b k : ℕ) → List ℕ

@@ -6,45 +6,32 @@ ghost use mathlib.Core.Path.{_≡_};
 ghost use mathlib.Core.List.{List};
 ghost use Prim.Native.Nat.{_+_, _-_, _*_, _≤_, _<_};
 ghost use lib.ListN.{length, getD, replicate};
-ghost use mathlib.Core.Bool.{true};
-ghost use Rattle.rules.specs.Bytes.{byteAt, letter, sameText};
+ghost use Rattle.rules.specs.Bytes.{byteAt, sameText};
 ghost use Rattle.rules.specs.TypeFile.{Element};
 ghost use Rattle.rules.specs.Judge.{Accepts};
 ghost use Rattle.rules.specs.Settling.{numberOf};
 ghost use Rattle.rules.specs.Lookup.{compared};
 ghost use Rattle.element_reader.specs.Means.{Recorded};
-ghost use Rattle.element_index.specs.Means.{Judged, bucketOf, Indexed, AnyIndexed, putIn};
-
-fn wide(b: u8) -> usize
-    ensures { λ r. ⌜ (r ≡ b) × (r < 256) ⌝ }
-{
-    b as usize
-}
-
-fn widened(x: u32) -> usize
-    ensures { λ r. ⌜ (r ≡ x) × (r < 4294967296) ⌝ }
-{
-    x as usize
-}
+ghost use Rattle.element_index.specs.Means.{Judged, bucketOf, follows, Indexed, putIn};
 
 // The bucket of a name by its first byte and its length, 1 to 8. Letters that fold to one another are in the same.
 fn bucket(first: u8, size: usize) -> usize
     requires { ⌜ (1 ≤ size) × (size ≤ 8) ⌝ }
     ensures { λ r. ⌜ (r ≡ 65 + bucketOf first size) × (r < 321) ⌝ }
 {
-    65 + (size - 1) * 32 + wide(first % 32)
+    65 + (size - 1) * 32 + numbers::wide(first % 32)
 }
 
 // Where the name of the element k stands in the type file.
-fn offset(elements: &[u32; 384], k: usize) -> usize
+pub fn offset(elements: &[u32; 384], k: usize) -> usize
     requires { ⌜ (1 ≤ k) × (k ≤ 64) ⌝ }
     ensures { λ r. ⌜ (r ≡ getD (now (elements .entry)) (6 * (k - 1)) 0) × (r < 4294967296) ⌝ }
 {
-    widened(elements[6 * (k - 1)])
+    numbers::widened(elements[6 * (k - 1)])
 }
 
 // Whether n bytes of s from a and n bytes of t from b are equal, folded. All of them are there, so that none is asked whether it still is
-// within, as `text::same_text` does. Most that are equal are so as they stand.
+// within, as `words::same_text` does. Most that are equal are so as they stand.
 fn same_name(s: &[u8], a: usize, t: &[u8], b: usize, n: usize) -> bool
     requires { ⌜ (a + n ≤ length (now s)) × (b + n ≤ length (now t)) ⌝ }
     ensures { λ r. ⌜ r ≡ sameText (now (s .entry)) a (now (t .entry)) b n ⌝ }
@@ -69,8 +56,23 @@ pub struct Found {
     pub compared: usize,
 }
 
-// Which element has the name of this size at `at` of t, which lies within t and begins with a letter. The type file is s. Only names of the
-// same length and first letter are compared, in declaration order, up to the one that is found.
+// Whether the element k comes behind the one before it, and a name of this size stands in s where its record says. In the index of a type
+// it does. Where the tables hold anything else, a search still ends and stays within them.
+fn comes_next(s: &[u8], elements: &[u32; 384], before: usize, k: usize, size: usize) -> bool
+    requires { ⌜ size ≤ 8 ⌝ }
+    ensures { λ r. ⌜ r ≡ follows (now (s .entry)) (now (elements .entry)) before k size ⌝ }
+{
+    if k <= before {
+        return false;
+    }
+    if 64 < k {
+        return false;
+    }
+    offset(elements, k) + size <= s.len()
+}
+
+// Which element has the name of this size at `at` of t, which lies within t. The type file is s. Only names of the same length and first
+// letter are compared, in declaration order, up to the one that is found.
 pub fn find(
     s: &[u8],
     elements: &[u32; 384],
@@ -79,15 +81,22 @@ pub fn find(
     at: usize,
     size: usize,
 ) -> Found
-    requires { ⌜ AnyIndexed (now s) (now elements) (now index) ⌝ }
-    requires { ⌜ (1 ≤ size) × (size ≤ 8) × (at + size ≤ length (now t)) × (letter (byteAt (now t) at) ≡ true) ⌝ }
+    requires { ⌜ (1 ≤ size) × (size ≤ 8) × (at + size ≤ length (now t)) ⌝ }
     ensures { λ r. ⌜ ((es : List Element) → Indexed (now (s .entry)) es (now (elements .entry)) (now (index .entry)) →
         (r .element ≡ numberOf (now (s .entry)) es (now (t .entry)) at size) × (r .compared ≡ compared (now (s .entry)) es (now (t .entry)) at size)) ⌝ }
     ensures { λ r. ⌜ (r .element ≤ 64) × (r .compared ≤ 64) ⌝ }
 {
-    let mut k = wide(index[bucket(text::byte(t, at), size)]);
+    let first = text::byte(t, at);
+    if !text::is_letter(first) {
+        return Found {
+            element: 0,
+            compared: 0,
+        };
+    }
+    let mut before = 0;
+    let mut k = numbers::wide(index[bucket(first, size)]);
     let mut n = 0;
-    while k != 0 {
+    while comes_next(s, elements, before, k, size) {
         if same_name(s, offset(elements, k), t, at, size) {
             return Found {
                 element: k,
@@ -95,7 +104,8 @@ pub fn find(
             };
         }
         n += 1;
-        k = wide(index[k]);
+        before = k;
+        k = numbers::wide(index[k]);
     }
     Found {
         element: 0,
@@ -109,7 +119,7 @@ fn put_index(s: &[u8], elements: &[u32; 384], index: &mut [u8; 321], k: usize)
     ensures { λ _. ⌜ now (index .exit) ≡ putIn (now (index .entry))
         (bucketOf (byteAt (now (s .entry)) (getD (now (elements .entry)) (6 * (k - 1)) 0)) (getD (now (elements .entry)) (6 * (k - 1) + 1) 0)) k ⌝ }
 {
-    let size = widened(elements[6 * (k - 1) + 1]);
+    let size = numbers::widened(elements[6 * (k - 1) + 1]);
     let b = bucket(text::byte(s, offset(elements, k)), size);
     index[k] = index[b];
     index[b] = k as u8;

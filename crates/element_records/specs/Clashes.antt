@@ -11,7 +11,7 @@ use Rattle.model_names.specs.Places.{placeIn}
 use Rattle.model_names.specs.Laws.{placeAt-placesOf}
 use Rattle.model_pairs.specs.Rows.{faultIn}
 use Rattle.model_pairs.specs.Finds.{answer-none, answer-first}
-use Rattle.element_reader.specs.Means.{KeepsContent}
+use Rattle.element_content.specs.Kept.{KeepsContent}
 use Rattle.element_records.specs.declared.Clash.{Clash}
 use Rattle.element_records.specs.Progress.{Pending, PendingWith}
 

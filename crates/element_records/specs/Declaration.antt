@@ -7,7 +7,8 @@ use lib.ListN.{length, take}
 use Rattle.rules.specs.Reading.{Reading, refused, got}
 use Rattle.rules.specs.TypeFile.{Content, empty, model, Element, Declared}
 use Rattle.text.specs.declared.Fault.{Fault}
-use Rattle.element_reader.specs.Means.{KeepsContent, KeepsElement, MeetsElement, elementFault}
+use Rattle.element_content.specs.Kept.{KeepsContent}
+use Rattle.element_reader.specs.Means.{KeepsElement, MeetsElement, elementFault}
 use Rattle.element_reader.specs.declared as declared
 use Rattle.element_reader.specs.declared.ElementRead.{ElementRead}
 use Rattle.element_reader.specs.declared.ElementRead.the-variants as elementRead

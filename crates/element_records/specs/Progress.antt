@@ -8,7 +8,7 @@ use Rattle.rules.specs.Reading.{Reading, refused, got}
 use Rattle.rules.specs.TypeFile.{Content, Element, Declared}
 use Rattle.rules.specs.Judge.{AllUnambiguous, FirstAmbiguous}
 use Rattle.text.specs.declared.Fault.{Fault}
-use Rattle.element_reader.specs.Means.{Recorded}
+use Rattle.element_names.specs.Names.{Recorded}
 use Rattle.element_reader.specs.declared as declared
 use Rattle.element_records.specs.declared.Clash.{Clash}
 use Rattle.element_records.specs.declared.Progress.{Progress}

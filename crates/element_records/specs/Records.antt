@@ -8,7 +8,8 @@ use lib.ListN.{length, take, set, length-append, length-set}
 use lib.Seq.{take-suc-set}
 use Rattle.rules.specs.TypeFile.{Content, empty, model, Element}
 use Rattle.rules.specs.Judge.{records, contentNumbers}
-use Rattle.element_reader.specs.Means.{Recorded, KeepsContent}
+use Rattle.element_names.specs.Names.{Recorded}
+use Rattle.element_content.specs.Kept.{KeepsContent}
 use Rattle.element_reader.specs.declared as declared
 use Rattle.element_records.specs.Progress.{numbersOf}
 

@@ -7,7 +7,7 @@ ghost use mathlib.Core.List.{List, _++_};
 ghost use Prim.Native.Nat.{_+_, _*_, _≤_, _<_};
 ghost use lib.ListN.{length, take};
 ghost use Rattle.rules.specs.TypeFile as rules;
-ghost use Rattle.element_reader.specs.Means.{KeepsContent};
+ghost use Rattle.element_content.specs.Kept.{KeepsContent};
 ghost use Rattle.element_records.specs.Progress.{numbersOf, Pending, PendingWith, KeepsProgress, InProgress, MeetsStep, stepFault};
 
 // A pair at fault: where its second place stands and the two places; the second is 0 if there is none.

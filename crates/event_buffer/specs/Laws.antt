@@ -1,20 +1,17 @@
--- Laws of a lent buffer: stores in a row, and what one write after another leaves.
-use Prim.Native.Nat.{ℕ, suc, _+_, _*_, _/_, _%_, _≤_, _<_}
-use mathlib.Core.Path.{_≡_, refl, sym, ap, _∙_}
-use mathlib.Core.Bool.{Bool, true, false}
-use mathlib.Core.List.{List, [], _∷_, _++_, append-assoc}
+-- Laws of the lent buffers: what one event after another leaves.
+use Prim.Native.Nat.{ℕ, _+_, _*_, _≤_}
+use mathlib.Core.Path.{_≡_, refl, sym, _∙_}
+use mathlib.Core.List.{List, [], _∷_, _++_, append-assoc, append-nil}
 use native.Mathlib.Omega.{arith}
-use native.Mathlib.Numerals.{add-one}
-use lib.ListN.{length, take, drop, set, getD, length-append, length-drop, length-set, take-append-drop}
-use lib.Seq.{length-take-le, take-suc, take-at, drop-append-add, drop-drop, sets-eq}
-use lib.Dec.{leb}
-use borrow.Author.Tests.{le-leb, lt-leb, leb-true, leb-false}
+use lib.ListN.{length, length-append}
 use Rattle.rules.specs.Judge.{bytesOf}
 use Rattle.rules.specs.Settling.{Event}
 use Rattle.rules.specs.Reader.{eventNumbers}
-use Rattle.event_buffer.specs.Means.{written, Written}
+use Rattle.numbers.specs.Means.{written, Written}
+use Rattle.numbers.specs.Laws.{bytesOf-append, bytesOf-length, splice-turn, written-fits, written-keeps, written-more}
+use Rattle.event_buffer.specs.Means.{noted, Holds, Puts}
 
--- Events as numbers, and numbers as bytes.
+-- Events as numbers.
 pub eventNumbers-append : (ev fv : List Event) → eventNumbers (ev ++ fv) ≡ eventNumbers ev ++ eventNumbers fv
 unfolding eventNumbers
 eventNumbers-append [] fv = refl
@@ -24,97 +21,6 @@ pub eventNumbers-length : (ev : List Event) → length (eventNumbers ev) ≡ 4 *
 unfolding eventNumbers
 eventNumbers-length [] = refl
 eventNumbers-length (e ∷ ev) = omega (arith, eventNumbers-length ev)
-
-pub bytesOf-append : (xs ys : List ℕ) → bytesOf (xs ++ ys) ≡ bytesOf xs ++ bytesOf ys
-unfolding bytesOf
-bytesOf-append [] ys = refl
-bytesOf-append (x ∷ xs) ys = rw (bytesOf-append xs ys)
-
-pub bytesOf-length : (xs : List ℕ) → length (bytesOf xs) ≡ 4 * length xs
-unfolding bytesOf
-bytesOf-length [] = refl
-bytesOf-length (x ∷ xs) = omega (arith, bytesOf-length xs)
-
-pub bytes-size : (xs : List ℕ) (k : ℕ) → k ≤ length xs → length (bytesOf (take k xs)) ≡ 4 * k
-bytes-size xs k h = bytesOf-length (take k xs) ∙ ap (λ (n : ℕ). 4 * n) (length-take-le k xs h)
-
--- The list with xs in place of what stood from k on.
-abbrev pub spliced : List ℕ → ℕ → List ℕ → List ℕ
-spliced l k xs = take k l ++ (xs ++ drop (k + length xs) l)
-
-pub splice-none : (l : List ℕ) (k : ℕ) → spliced l k [] ≡ l
-splice-none l k =
-    let e : k + 0 ≡ k = omega arith in
-    rw e (take-append-drop k l)
-
-pub splice-first : (l xs : List ℕ) → spliced l 0 xs ≡ xs ++ drop (length xs) l
-splice-first l xs =
-    let e : 0 + length xs ≡ length xs = omega arith in
-    rw e
-
-module _ (l : List ℕ) (k : ℕ) (xs : List ℕ) (fits : k + length xs ≤ length l) where
-  head-length : length (take k l ++ xs) ≡ k + length xs
-  head-length = omega (arith, length-append (take k l) xs, length-take-le k l (omega arith))
-
-  parted : spliced l k xs ≡ (take k l ++ xs) ++ drop (k + length xs) l
-  parted = sym (append-assoc (take k l) xs (drop (k + length xs) l))
-
-  pub splice-length : length (spliced l k xs) ≡ length l
-  splice-length = omega (arith, ap length parted, length-append (take k l ++ xs) (drop (k + length xs) l), head-length, length-drop (k + length xs) l)
-
-  -- What comes right behind makes one with it.
-  module _ (ys : List ℕ) where
-    front : take (k + length xs) (spliced l k xs) ≡ take k l ++ xs
-    front = rw parted (take-at (take k l ++ xs) (drop (k + length xs) l) (k + length xs) head-length)
-
-    rest : drop (k + length xs + length ys) (spliced l k xs) ≡ drop (k + length (xs ++ ys)) l
-    rest =
-        let e : k + length (xs ++ ys) ≡ k + length xs + length ys = omega (arith, length-append xs ys) in
-        rw (parted, e)
-        (rw head-length at (drop-append-add (take k l ++ xs) (drop (k + length xs) l) (length ys)) ∙ drop-drop (length ys) (k + length xs) l)
-
-    pub splice-more : spliced (spliced l k xs) (k + length xs) ys ≡ spliced l k (xs ++ ys)
-    splice-more = rw (front, rest) (simp append-assoc)
-
--- A turn of a loop that writes: ys right behind the xs that stand from b on.
-pub splice-turn : (l now xs ys : List ℕ) (b at : ℕ) → now ≡ spliced l b xs → b + length xs ≤ length l → at ≡ b + length xs → spliced now at ys ≡ spliced l b (xs ++ ys)
-splice-turn l now xs ys b at e h a = rw (a, e) (splice-more l b xs h ys)
-
--- A write that fits, and one that does not.
-pub written-fits : (l : List ℕ) (k : ℕ) (xs : List ℕ) → k + length xs ≤ length l → written l k xs ≡ spliced l k xs
-unfolding written
-written-fits l k xs h = rw (le-leb (k + length xs) (length l) h, written)
-
-pub written-not : (l : List ℕ) (k : ℕ) (xs : List ℕ) → length l < k + length xs → written l k xs ≡ l
-unfolding written
-written-not l k xs h = rw (lt-leb (k + length xs) (length l) h, written)
-
-pub written-length : (l : List ℕ) (k : ℕ) (xs : List ℕ) → length (written l k xs) ≡ length l
-written-length l k xs = by-room (leb (k + length xs) (length l)) refl
-  where
-    by-room : (b : Bool) → leb (k + length xs) (length l) ≡ b → length (written l k xs) ≡ length l
-    by-room true e =
-        let h = leb-true (k + length xs) (length l) e in
-        rw (written-fits l k xs h) (splice-length l k xs h)
-    by-room false e = rw (written-not l k xs (leb-false (k + length xs) (length l) e))
-
-pub written-keeps : (l : List ℕ) (k : ℕ) (xs : List ℕ) {after : List ℕ} → after ≡ written l k xs → length after ≡ length l
-written-keeps l k xs e = ap length e ∙ written-length l k xs
-
--- Nothing is written yet.
-pub written-none : (before : List ℕ) → Written before before []
-written-none before h = refl
-
--- What is written right behind xs makes one with it.
-pub written-more : (before l xs ys : List ℕ) → Written before l xs → Written before (written l (length xs) ys) (xs ++ ys)
-written-more before l xs ys w h =
-    let sizes = length-append xs ys in
-    let has : length xs ≤ length before = omega arith in
-    let so-far = w has ∙ sym (splice-first before xs) in
-    let same : length l ≡ length before = ap length so-far ∙ splice-length before 0 xs (omega arith) in
-    written-fits l (length xs) ys (omega arith)
-    ∙ splice-turn before l xs ys 0 (length xs) so-far (omega arith) (omega arith)
-    ∙ splice-first before (xs ++ ys)
 
 -- The events of a token behind those before, as numbers and as bytes.
 module _ (before l : List ℕ) (ev fv : List Event) (count : ℕ) (c : count ≡ length ev) where
@@ -128,54 +34,65 @@ module _ (before l : List ℕ) (ev fv : List Event) (count : ℕ) (c : count ≡
       let e : 16 * count ≡ length (bytesOf (eventNumbers ev)) = omega (arith, eventNumbers-length ev, bytesOf-length (eventNumbers ev)) in
       rw (e, eventNumbers-append ev fv, bytesOf-append (eventNumbers ev) (eventNumbers fv)) (written-more before l (bytesOf (eventNumbers ev)) (bytesOf (eventNumbers fv)) w)
 
--- One store, and four in a row.
-pub one-stored : (l : List ℕ) (i x : ℕ) → i < length l → set l i x ≡ spliced l i (x ∷ [])
-one-stored l i x h = sets-eq (x ∷ []) l i (omega arith) ∙ append-assoc (take i l) (x ∷ []) (drop (i + 1) l)
+-- What is written right behind what was written makes one with it.
+pub written-behind : (l now xs ys : List ℕ) (b at : ℕ) {after : List ℕ} → now ≡ written l b xs → at ≡ b + length xs → b + length xs + length ys ≤ length l → after ≡ written now at ys → after ≡ written l b (xs ++ ys)
+written-behind l now xs ys b at e a h w =
+    let sizes = length-append xs ys in
+    let same = written-keeps l b xs e in
+    let so-far = e ∙ written-fits l b xs (omega arith) in
+    w ∙ written-fits now at ys (omega arith) ∙ splice-turn l now xs ys b at so-far (omega arith) a ∙ sym (written-fits l b (xs ++ ys) (omega arith))
 
-pub four-stored : (l : List ℕ) (i x y z w : ℕ) → i + 4 ≤ length l → set (set (set (set l i x) (i + 1) y) (i + 2) z) (i + 3) w ≡ spliced l i (x ∷ y ∷ z ∷ w ∷ [])
-four-stored l i x y z w h =
-    let one : i + 1 ≡ suc i = omega arith in
-    let two : i + 2 ≡ suc (suc i) = omega arith in
-    let three : i + 3 ≡ suc (suc (suc i)) = omega arith in
-    rw (one, two, three) (sets-eq (x ∷ y ∷ z ∷ w ∷ []) l i h ∙ append-assoc (take i l) (x ∷ y ∷ z ∷ w ∷ []) (drop (i + 4) l))
-
--- A number stored as four bytes, low byte first.
-pub number-stored : (l : List ℕ) (i x : ℕ) → i + 4 ≤ length l → set (set (set (set l i (x % 256)) (i + 1) (x / 256 % 256)) (i + 2) (x / 65536 % 256)) (i + 3) (x / 16777216 % 256) ≡ written l i (bytesOf (x ∷ []))
+-- Four numbers, each stored as four bytes.
+pub four-numbers-stored : (l : List ℕ) (i x y z w : ℕ) → i + 16 ≤ length l → {one two three four : List ℕ}
+    → one ≡ written l i (bytesOf (x ∷ []))
+    → two ≡ written one (i + 4) (bytesOf (y ∷ []))
+    → three ≡ written two (i + 8) (bytesOf (z ∷ []))
+    → four ≡ written three (i + 12) (bytesOf (w ∷ []))
+    → four ≡ written l i (bytesOf (x ∷ y ∷ z ∷ w ∷ []))
 unfolding bytesOf
-number-stored l i x h = four-stored l i _ _ _ _ h ∙ sym (written-fits l i (bytesOf (x ∷ [])) h)
+four-numbers-stored l i x y z w h {one} {two} {three} a b c d =
+    let after-two = written-behind l one (bytesOf (x ∷ [])) (bytesOf (y ∷ [])) i (i + 4) a (omega arith) (omega arith) b in
+    let after-three = written-behind l two (bytesOf (x ∷ y ∷ [])) (bytesOf (z ∷ [])) i (i + 8) after-two (omega arith) (omega arith) c in
+    written-behind l three (bytesOf (x ∷ y ∷ z ∷ [])) (bytesOf (w ∷ [])) i (i + 12) after-three (omega arith) (omega arith) d
 
--- The k-th number of `from` is written behind those before it, at b and on; as a number, and as four bytes.
-module _ (from l now : List ℕ) (b k at : ℕ) (is : k < length from) where
-  pub number-turn : now ≡ spliced l b (take k from) → length now ≡ length l → at ≡ b + k → at < length l → set now at (getD from k 0) ≡ spliced l b (take (k + 1) from)
-  number-turn e same a h =
-      let xs = take k from in
-      let size = length-take-le k from (omega arith) in
-      one-stored now at (getD from k 0) (omega arith) ∙ splice-turn l now xs (getD from k 0 ∷ []) b at e (omega arith) (omega arith)
-      ∙ rw (add-one k, take-suc from k 0 is)
+-- Nothing is put, an event is put, and what is put behind what was put makes one with it.
+pub puts-none : (numbers bytes : List ℕ) (n : ℕ) → Puts numbers bytes n [] numbers bytes
+puts-none numbers bytes n =
+    record {
+      numbers-kept = refl;
+      bytes-kept = refl;
+      behind = λ l m before c w. rw (append-nil before) w;
+    }
 
-  pub bytes-turn : now ≡ spliced l b (bytesOf (take k from)) → at ≡ b + 4 * k → at + 4 ≤ length l → {after : List ℕ} → after ≡ written now at (bytesOf (getD from k 0 ∷ [])) → after ≡ spliced l b (bytesOf (take (k + 1) from))
-  unfolding bytesOf
-  bytes-turn e a h w =
-      let x = getD from k 0 in
-      let xs = take k from in
-      let size = bytes-size from k (omega arith) in
-      let same = ap length e ∙ splice-length l b (bytesOf xs) (omega arith) in
-      w ∙ written-fits now at (bytesOf (x ∷ [])) (omega arith) ∙ splice-turn l now (bytesOf xs) (bytesOf (x ∷ [])) b at e (omega arith) (omega arith)
-      ∙ rw (add-one k, take-suc from k 0 is, bytesOf-append xs (x ∷ []))
+module _ (numbers bytes : List ℕ) (n kind number offset size : ℕ) where
+  pub puts-noted : {numbers′ bytes′ : List ℕ} → numbers′ ≡ written numbers (4 * n) (kind ∷ number ∷ offset ∷ size ∷ []) → bytes′ ≡ written bytes (16 * n) (bytesOf (kind ∷ number ∷ offset ∷ size ∷ []))
+      → Puts numbers bytes n (noted kind number offset size ∷ []) numbers′ bytes′
+  unfolding eventNumbers
+  puts-noted {numbers′} {bytes′} e f =
+      let same = written-keeps numbers (4 * n) (kind ∷ number ∷ offset ∷ size ∷ []) e in
+      let same-bytes = written-keeps bytes (16 * n) (bytesOf (kind ∷ number ∷ offset ∷ size ∷ [])) f in
+      record {
+        numbers-kept = same;
+        bytes-kept = same-bytes;
+        behind = λ l m before c w.
+            record {
+              numbers-kept = same ∙ w .numbers-kept;
+              bytes-kept = same-bytes ∙ w .bytes-kept;
+              numbers-hold = rw e (events-more l numbers before (noted kind number offset size ∷ []) n c (w .numbers-hold));
+              bytes-hold = rw f (event-bytes-more m bytes before (noted kind number offset size ∷ []) n c (w .bytes-hold));
+            };
+      }
 
--- A whole event, four numbers.
-module _ (from l : List ℕ) (b k : ℕ) (is : k + 3 < length from) (h : b + 4 * k + 16 ≤ length l) where
-  pub event-turn : {now one two three four : List ℕ} → now ≡ spliced l b (bytesOf (take k from)) → (at : ℕ) → at ≡ b + 4 * k
-      → one ≡ written now at (bytesOf (getD from k 0 ∷ []))
-      → two ≡ written one (at + 4) (bytesOf (getD from (k + 1) 0 ∷ []))
-      → three ≡ written two (at + 8) (bytesOf (getD from (k + 2) 0 ∷ []))
-      → four ≡ written three (at + 12) (bytesOf (getD from (k + 3) 0 ∷ []))
-      → four ≡ spliced l b (bytesOf (take (k + 4) from))
-  event-turn {now} {one} {two} {three} {four} e at a w x y z =
-      let two-is : k + 1 + 1 ≡ k + 2 = omega arith in
-      let three-is : k + 2 + 1 ≡ k + 3 = omega arith in
-      let four-is : k + 3 + 1 ≡ k + 4 = omega arith in
-      let after-one = bytes-turn from l now b k at (omega arith) e a (omega arith) w in
-      let after-two = rw two-is at (bytes-turn from l one b (k + 1) (at + 4) (omega arith) after-one (omega arith) (omega arith) x) in
-      let after-three = rw three-is at (bytes-turn from l two b (k + 2) (at + 8) (omega arith) after-two (omega arith) (omega arith) y) in
-      rw four-is at (bytes-turn from l three b (k + 3) (at + 12) (omega arith) after-three (omega arith) (omega arith) z)
+pub puts-more : {a b a′ b′ a″ b″ : List ℕ} {n : ℕ} {ev fv : List Event} → Puts a b n ev a′ b′ → Puts a′ b′ (n + length ev) fv a″ b″ → Puts a b n (ev ++ fv) a″ b″
+puts-more {n = n} {ev} {fv} p q =
+    record {
+      numbers-kept = q .numbers-kept ∙ p .numbers-kept;
+      bytes-kept = q .bytes-kept ∙ p .bytes-kept;
+      behind = λ l m before c w.
+          let sizes = length-append before ev in
+          rw (sym (append-assoc before ev fv)) (q .behind l m (before ++ ev) (omega arith) (p .behind l m before c w));
+    }
+
+-- The same where the second count is another expression of the same number.
+pub puts-then : {a b a′ b′ a″ b″ : List ℕ} {n m : ℕ} {ev fv : List Event} → Puts a b n ev a′ b′ → m ≡ n + length ev → Puts a′ b′ m fv a″ b″ → Puts a b n (ev ++ fv) a″ b″
+puts-then p e q = puts-more p (rw e at q)

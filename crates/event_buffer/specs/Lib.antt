@@ -1,3 +1,3 @@
--- What a lent buffer holds after events were written, and laws of it.
+-- What the lent buffers hold after events were written, and laws of it.
 pub mod Means
 pub mod Laws

@@ -1,15 +1,25 @@
 -- What a lent buffer holds after events were written.
-use Prim.Native.Nat.{ℕ, _+_, _≤_}
+use Prim.Native.Nat.{ℕ}
 use mathlib.Core.Path.{_≡_}
-use mathlib.Core.Bool.{true, false}
 use mathlib.Core.List.{List, _++_}
-use lib.ListN.{length, take, drop}
-use lib.Dec.{leb}
+use lib.ListN.{length}
+use Rattle.rules.specs.Judge.{bytesOf}
+use Rattle.rules.specs.Settling.{Event}
+use Rattle.rules.specs.Reader.{eventNumbers}
+use Rattle.numbers.specs.Means.{Written}
 
--- The list with the numbers xs from k on, if they fit.
-unfoldable pub written : List ℕ → (k : ℕ) → (xs : List ℕ) → List ℕ
-written l k xs = elim (leb (k + length xs) (length l)) [ true ↦ take k l ++ (xs ++ drop (k + length xs) l) | false ↦ l ]
+abbrev pub noted : (kind number offset size : ℕ) → Event
+noted kind number offset size = record { kind = kind; number = number; offset = offset; size = size }
 
--- The buffer, `before` the call, has got all of xs if they fit; what lies behind them is as it was.
-abbrev pub Written : (before after xs : List ℕ) → Type 0
-Written before after xs = length xs ≤ length before → after ≡ xs ++ drop (length xs) before
+-- The buffers, which were these at first, have got all of the events, each if they fit there.
+pub record Holds (numbers₀ bytes₀ numbers bytes : List ℕ) (ev : List Event) : Type 0 where
+  pub numbers-kept : length numbers ≡ length numbers₀
+  pub bytes-kept : length bytes ≡ length bytes₀
+  pub numbers-hold : Written numbers₀ numbers (eventNumbers ev)
+  pub bytes-hold : Written bytes₀ bytes (bytesOf (eventNumbers ev))
+
+-- These events are put behind n others: whatever the buffers held, they hold with them.
+pub record Puts (numbers bytes : List ℕ) (n : ℕ) (ev : List Event) (numbers′ bytes′ : List ℕ) : Type 0 where
+  pub numbers-kept : length numbers′ ≡ length numbers
+  pub bytes-kept : length bytes′ ≡ length bytes
+  pub behind : (numbers₀ bytes₀ : List ℕ) (before : List Event) → n ≡ length before → Holds numbers₀ bytes₀ numbers bytes before → Holds numbers₀ bytes₀ numbers′ bytes′ (before ++ ev)

@@ -1,3 +1,3 @@
--- What the group reader's answers and tables mean in the rules' terms, and laws of both.
-pub mod Means
-pub mod Laws
+-- What the group reader's answers mean in the rules' terms, and laws of the rules that it goes by.
+pub mod Further
+pub mod Groups

@@ -1,181 +1,22 @@
 // The recursive reader of model groups: bytes in, the model's places and its table out.
-use model_table::Part;
+use content_tokens::Model;
+use content_tokens::ModelRead;
 use text::Fault;
 ghost use mathlib.Core.Path.{_≡_};
-ghost use mathlib.Core.Bool.{false, _&&_, _||_};
+ghost use mathlib.Core.Bool.{false};
 ghost use mathlib.Core.List.{List};
-ghost use lib.Dec.{eqb};
 ghost use Prim.Native.Nat.{ℕ, _+_, _≤_, _<_};
 ghost use lib.ListN.{length};
-ghost use Rattle.rules.specs.TypeFile.{Tokens, occurrence, nameToken, dataToken, token, further, group};
+ghost use Rattle.rules.specs.TypeFile.{Tokens, token, further, group};
 ghost use Rattle.model_names.specs.Places.{placesOf};
-ghost use Rattle.group_reader.specs.Means.{Keeps, wrongData, Meets, MeetsFurther, modelFault, joinModel, joinTable};
-
-// What is kept of a model while it is read: where it ends so far, how many places and content tokens it has, and what
-// its table goes on with.
-pub struct Model {
-    pub at: usize,
-    pub places: usize,
-    pub tokens: usize,
-    pub part: Part,
-}
-
-pub enum ModelRead {
-    Read(Model),
-    Refused(Fault),
-}
+ghost use Rattle.content_tokens.specs.Kept.{Keeps, Meets};
+ghost use Rattle.group_reader.specs.Further.{MeetsFurther};
 
 // What follows a content token: the group's end, or a connector and a further content token.
 pub enum Next {
     Closed(Model),
     Joined(u8, Model),
     Unfit(Fault),
-}
-
-// The refusal of an answer that is one.
-pub fn fault_of(r: ModelRead) -> Fault
-    ensures { λ f. ⌜ f ≡ modelFault r ⌝ }
-{
-    match r {
-        ModelRead::Read(_) => Fault { number: 0, at: 0 },
-        ModelRead::Refused(f) => f,
-    }
-}
-
-fn refusal(number: u32, at: usize) -> ModelRead
-    ensures { λ r. ⌜ r ≡ ModelRead.Refused (record { number = number; at = at }) ⌝ }
-{
-    ModelRead::Refused(Fault {
-        number: number,
-        at: at,
-    })
-}
-
-// The occurrence indicator at once after a name or a group whose first place is `lo`. What it gives where m and the table stand for no
-// such group is not decided.
-pub fn with_occurrence(s: &[u8], table: &mut [u8; 9506], lo: usize, m: Model) -> Model
-    requires { ⌜ m .at ≤ length (now s) ⌝ }
-    requires { ⌜ m .places ≤ 96 ⌝ }
-    ensures { λ r. ⌜ ((T names : List ℕ) (t : Tokens) → Keeps (length (now (s .entry))) lo T names (now (table .entry)) m t →
-        Keeps (length (now (s .entry))) lo T names (now (table .exit)) r (occurrence (now (s .entry)) t)) ⌝ }
-{
-    let at = m.at;
-    let places = m.places;
-    let tokens = m.tokens;
-    let part = m.part;
-    let b = text::byte(s, at);
-    if b == b'?' {
-        return Model {
-            at: at + 1,
-            places: places,
-            tokens: tokens,
-            part: model_table::optional(part),
-        };
-    }
-    if b == b'+' {
-        model_table::repeat(table, lo, places + 1);
-        return Model {
-            at: at + 1,
-            places: places,
-            tokens: tokens,
-            part: part,
-        };
-    }
-    if b == b'*' {
-        model_table::repeat(table, lo, places + 1);
-        return Model {
-            at: at + 1,
-            places: places,
-            tokens: tokens,
-            part: model_table::optional(part),
-        };
-    }
-    m
-}
-
-// A name as content token.
-fn name_token(
-    s: &[u8],
-    at: usize,
-    full: bool,
-    places: usize,
-    tokens: usize,
-    names: &mut [u32; 192],
-    table: &mut [u8; 9506],
-) -> ModelRead
-    requires { ⌜ (at ≤ length (now s)) × (length (now s) ≤ 32768) ⌝ }
-    requires { ⌜ (places ≤ tokens) × (full ≡ false → tokens < 96) ⌝ }
-    ensures { λ r. ⌜ Meets (length (now (s .entry))) (places + 1) (now (table .entry)) (now (names .exit)) (now (table .exit)) r
-        (nameToken (now (s .entry)) at full (placesOf (now (names .entry)) places) tokens) ⌝ }
-{
-    let e = text::name_end(s, at);
-    let n = e - at;
-    if 8 < n {
-        return refusal(3, at);
-    }
-    if full {
-        return refusal(6, at);
-    }
-    model_names::put_name(names, places, at, n);
-    let p = places + 1;
-    let count = tokens + 1;
-    let part = model_table::put_place(table, p);
-    let m = Model {
-        at: e,
-        places: p,
-        tokens: count,
-        part: part,
-    };
-    ModelRead::Read(with_occurrence(s, table, p, m))
-}
-
-// A word after the `#` at `at` that ends at e and is not PCDATA: at the `#`, or where the input ends within it.
-fn wrong_data(s: &[u8], at: usize, e: usize) -> ModelRead
-    requires { ⌜ (at < e) × (e ≤ length (now s)) × (length (now s) ≤ 32768) ⌝ }
-    ensures { λ r. ⌜ r ≡ ModelRead.Refused (record { number = 4; at = wrongData (now (s .entry)) at e }) ⌝ }
-{
-    if text::is_cut(s, at + 1, e, b"PCDATA") {
-        return refusal(4, s.len());
-    }
-    refusal(4, at)
-}
-
-// `#PCDATA` as content token.
-fn data_token(
-    s: &[u8],
-    at: usize,
-    full: bool,
-    places: usize,
-    tokens: usize,
-    names: &mut [u32; 192],
-    table: &mut [u8; 9506],
-) -> ModelRead
-    requires { ⌜ (at < length (now s)) × (length (now s) ≤ 32768) ⌝ }
-    requires { ⌜ (places ≤ tokens) × (full ≡ false → tokens < 96) ⌝ }
-    ensures { λ r. ⌜ Meets (length (now (s .entry))) (places + 1) (now (table .entry)) (now (names .exit)) (now (table .exit)) r
-        (dataToken (now (s .entry)) at full (placesOf (now (names .entry)) places) tokens) ⌝ }
-{
-    let b = text::byte(s, at + 1);
-    if text::is_letter(b) {
-        let e = text::name_end(s, at + 1);
-        if !text::is_word(s, at + 1, e, b"PCDATA") {
-            return wrong_data(s, at, e);
-        }
-        if full {
-            return refusal(6, at);
-        }
-        model_names::put_name(names, places, at, 0);
-        let p = places + 1;
-        let part = model_table::put_place(table, p);
-        model_table::repeat(table, p, p + 1);
-        return ModelRead::Read(Model {
-            at: e,
-            places: p,
-            tokens: tokens + 1,
-            part: model_table::optional(part),
-        });
-    }
-    refusal(4, at + 1)
 }
 
 // A content token that begins at `at`.
@@ -196,63 +37,25 @@ fn token_at(
 {
     let b = text::byte(s, at);
     if text::is_letter(b) {
-        return name_token(s, at, full, places, tokens, names, table);
+        return content_tokens::name_token(s, at, full, places, tokens, names, table);
     }
     if b == b'#' {
-        return data_token(s, at, full, places, tokens, names, table);
+        return content_tokens::data_token(s, at, full, places, tokens, names, table);
     }
     if b == b'(' {
         if full {
-            return refusal(6, at);
+            return content_tokens::refusal(6, at);
         }
         let r = group_at(s, at, levels, places, tokens + 1, names, table);
         let ModelRead::Read(m) = r else {
             return r;
         };
-        return ModelRead::Read(with_occurrence(s, table, places + 1, m));
+        return ModelRead::Read(content_tokens::with_occurrence(s, table, places + 1, m));
     }
     if b == b'[' || b == b'%' {
-        return refusal(5, at);
+        return content_tokens::refusal(5, at);
     }
-    refusal(4, at)
-}
-
-// Whether a connector may stand after others: "," or "|", one kind in a group. `c` is the group's, 0 if there was none yet.
-fn is_connector(b: u8, c: u8) -> bool
-    ensures { λ r. ⌜ r ≡ (eqb b 44 || eqb b 124) && (eqb c 0 || eqb c b) ⌝ }
-{
-    if b == b',' || b == b'|' {
-        c == 0 || c == b
-    } else {
-        false
-    }
-}
-
-// The group of [lo, mid) and the token of [mid, hi) joined by the connector b.
-fn joined_by(table: &mut [u8; 9506], b: u8, lo: usize, m: Model, u: Model) -> Model
-    requires { ⌜ (m .places ≤ 96) × (u .places ≤ 96) ⌝ }
-    ensures { λ r. ⌜ r ≡ joinModel b m u ⌝ }
-    ensures { λ _. ⌜ now (table .exit) ≡ joinTable b lo m u (now (table .entry)) ⌝ }
-{
-    let at = u.at;
-    let places = u.places;
-    let tokens = u.tokens;
-    if b == b',' {
-        let part = model_table::join_seq(table, lo, m.places + 1, places + 1, m.part, u.part);
-        Model {
-            at: at,
-            places: places,
-            tokens: tokens,
-            part: part,
-        }
-    } else {
-        Model {
-            at: at,
-            places: places,
-            tokens: tokens,
-            part: model_table::join_alt(m.part, u.part),
-        }
-    }
+    content_tokens::refusal(4, at)
 }
 
 // What follows a content token, when m was read of the group, k content tokens joined by c (0: none yet).
@@ -288,16 +91,16 @@ fn next_at(
     if b == b'&' || b == b'%' {
         return Next::Unfit(Fault { number: 5, at: i });
     }
-    if !is_connector(b, c) {
+    if !content_tokens::is_connector(b, c) {
         return Next::Unfit(Fault { number: 4, at: i });
     }
     let j = text::separators_end(s, i + 1);
     let full = 32 <= k || 96 <= tokens;
     let r = token_at(s, j, levels, full, places, tokens, names, table);
     let ModelRead::Read(u) = r else {
-        return Next::Unfit(fault_of(r));
+        return Next::Unfit(content_tokens::fault_of(r));
     };
-    Next::Joined(b, joined_by(table, b, lo, m, u))
+    Next::Joined(b, content_tokens::joined_by(table, b, lo, m, u))
 }
 
 // A group whose "(" stands at `at`; `levels` is how many group levels are left. Where it is refused, what `names` and `table` hold
@@ -317,7 +120,7 @@ pub fn group_at(
         (group levels (now (s .entry)) at (placesOf (now (names .entry)) places) tokens) ⌝ }
 {
     if levels == 0 {
-        return refusal(6, at);
+        return content_tokens::refusal(6, at);
     }
     let i = text::separators_end(s, at + 1);
     let r = token_at(s, i, levels - 1, 96 <= tokens, places, tokens, names, table);

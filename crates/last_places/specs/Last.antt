@@ -1,12 +1,11 @@
 -- States that keep, of the places taken in each open element, the last only; and a run of data settled at once.
 use Prim.Native.Nat.{ℕ, zero, suc, _+_, _-_, _≤_}
-use mathlib.Core.Path.{_≡_}
 use mathlib.Core.Bool.{Bool, false, _&&_}
 use mathlib.Core.List.{List, [], _∷_, _++_}
 use lib.ListN.{length}
 use lib.Dec.{eqb}
 use Rattle.rules.specs.Reading.{Reading, refused, got, andThen}
-use Rattle.rules.specs.TypeFile.{Content, empty, model, Element}
+use Rattle.rules.specs.TypeFile.{model, Element}
 use Rattle.rules.specs.Settling.{contentOf, placesIn, pcdata, Decisions, Event, dataRun, Open, State, limited, settle}
 use Rattle.rules.specs.Reader.{piecesWithin}
 use Rattle.model_sets.specs.Reach.{lastOr0}

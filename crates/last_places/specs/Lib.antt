@@ -5,7 +5,7 @@ pub mod Follows
 pub mod Joins
 pub mod Enough
 pub mod Leaves
+pub mod Steps
 pub mod Run
 pub mod Turns
-pub mod Depth
 pub mod Within

@@ -5,15 +5,16 @@ use mathlib.Core.Bool.{Bool, true, false, _&&_, false≢true}
 use mathlib.Core.List.{List, [], _∷_, _++_}
 use native.Mathlib.Omega.{arith}
 use lib.ListN.{length}
-use lib.Dec.{eqb, leb, ltb}
+use lib.Dec.{eqb, ltb}
 use borrow.Author.Tests.{le-leb, ne-eqb}
 use Rattle.rules.specs.Bytes.{TAGLVL}
 use Rattle.rules.specs.Reading.{Reading, refused, got}
 use Rattle.rules.specs.Walk.{place}
 use Rattle.rules.specs.TypeFile.{Element}
 use Rattle.rules.specs.Document.{Piece, startTag, endTag, skipped, blank, dataByte, piece}
-use Rattle.rules.specs.Settling.{contentOf, placesIn, Token, pcdata, hasName, Decisions, Event, dataRun, withData, Open, State, limited, fitting, takeToken, inward, settleFrom, settle, takeData, takeBlank}
+use Rattle.rules.specs.Settling.{contentOf, placesIn, Token, pcdata, hasName, Decisions, dataRun, withData, Open, State, fitting, takeToken, settle, takeData}
 use Rattle.rules.specs.Reader.{goOn, settlePiece}
+use Rattle.rules_laws.specs.Holds.{got-so}
 use Rattle.model_sets.specs.Sets.{nextIn}
 use Rattle.model_sets.specs.Reach.{lastOr0, lastOr0-snoc}
 use Rattle.document_laws.specs.Decide.{search, fitsIn, decided}
@@ -23,7 +24,8 @@ use Rattle.last_places.specs.Last.{lastOnly, allLast, short, shortly, ta
 use Rattle.last_places.specs.Short.{state, took, withLast, allLast-twice, allLast-length, lastOnly-took, fitting-short, takeData-short, pieces-short}
 use Rattle.last_places.specs.Follows.{Follows, follows-fits, follows-on}
 use Rattle.last_places.specs.Joins.{withData-new, withData-more}
-use Rattle.last_places.specs.Enough.{kept-got, pieces-stop, pieces-on}
+use Rattle.last_places.specs.Enough.{pieces-stop, pieces-on}
+use Rattle.last_places.specs.Steps.{data-settles, blank-settles, settle-fits, takeData-got, Ways, refused-both, taken-both, ways}
 use Rattle.last_places.specs.Leaves.{Settled, settle-leaves}
 
 -- Data again
@@ -84,34 +86,11 @@ run-cases (got (skipped i)) e f g = absurd (false≢true e)
 run-cases (got blank) e f g = f refl
 run-cases (got dataByte) e f g = g refl
 
--- A token that fits
-
 module _ (s : List ℕ) (es : List Element) (D : Decisions) where
-  settleFrom-fits : (t : Token) (at : ℕ) (around : List Open) (o : Open) (ev : List Event) → leb 1 (fitting s es D o t) ≡ true → settleFrom s es D t at around o ev ≡ got (takeToken s es D t (state o around ev))
-  unfolding settleFrom inward
-  settleFrom-fits t at [] o ev h = rw (settleFrom, inward, h)
-  settleFrom-fits t at (u ∷ around) o ev h = rw (settleFrom, inward, h)
-
-  settle-fits : (t : Token) (at : ℕ) (z : State) → eqb (z .current .number) 0 ≡ false → leb 1 (fitting s es D (z .current) t) ≡ true → settle s es D t at z ≡ got (takeToken s es D t z)
-  unfolding settle
-  settle-fits t at z e h = rw (settle, e) (settleFrom-fits t at (z .around) (z .current) (z .events) h)
-
-  -- Data is settled, and not more than 24 are open.
-  module _ (at : ℕ) (z x : State) (i : settle s es D pcdata at z ≡ got x) (l : ltb TAGLVL (length (x .around)) ≡ false) where
-    pub takeData-got : takeData s es D at z ≡ got (state (x .current) (x .around) (withData at (x .events)))
-    unfolding takeData limited
-    takeData-got = rw (takeData, i, limited, l)
-
-    pub takeRun-got : (size : ℕ) → takeRun s es D at size z ≡ got (state (x .current) (x .around) (x .events ++ dataRun at size ∷ []))
-    unfolding takeRun limited
-    takeRun-got size = rw (takeRun, i, limited, l)
-
   -- A piece of a run where data may come next is a data byte.
   module _ (d : List ℕ) (at : ℕ) (z : State) (run : isRun (piece d at) ≡ true) (fits : piece d at ≡ got blank → 1 ≤ fitting s es D (z .current) pcdata) where
     pub run-settles : (p : Piece) × (piece d at ≡ got p) × (settlePiece s es D d p at z ≡ goOn (at + 1) (takeData s es D at z))
-    unfolding settlePiece takeBlank
-    run-settles =
-        run-cases (piece d at) run (λ e. (blank, e, rw (settlePiece, takeBlank, le-leb 1 (fitting s es D (z .current) pcdata) (fits e)))) (λ e. (dataByte, e, refl))
+    run-settles = run-cases (piece d at) run (λ e. (blank, e, blank-settles s es D d at z (fits e))) (λ e. (dataByte, e, data-settles s es D d at z))
 
     pub data-turn : (y : State) → at < length d → takeData s es D at z ≡ got y → pieces s es D d at z ≡ pieces s es D d (at + 1) y
     data-turn y h e = let (p, q, i) = run-settles in pieces-on s es D d at z h p q (record { at = at + 1; state = y }) (i ∙ ap (goOn (at + 1)) e)
@@ -126,7 +105,7 @@ module _ (s : List ℕ) (es : List Element) (stays : Stays s es) (d : List ℕ) 
   D = decided s es
 
   after : Settled s es D pcdata (z .events) x
-  after = kept-got (Settled s es D pcdata (z .events)) (settle s es D pcdata at z) x (settle-leaves s es D pcdata at z) settles
+  after = got-so (settle-leaves s es D pcdata at z) settles
 
   taken : ℕ
   taken = fitting s es D (after .place) pcdata
@@ -248,46 +227,26 @@ module _ (s : List ℕ) (es : List Element) (D : Decisions) (at size : ℕ) (z :
   -- A run is taken: it was settled, with few enough open.
   pub run-taken : (y : State) → shortly (takeRun s es D at size z) ≡ got y
       → (x : State) × (settle s es D pcdata at z ≡ got x) × (ltb TAGLVL (length (x .around)) ≡ false) × (short (state (x .current) (x .around) (x .events ++ dataRun at size ∷ [])) ≡ y)
-  unfolding takeRun limited
-  run-taken y e = by-settling (settle s es D pcdata at z) refl
+  run-taken y e = go (ways s es D at z)
     where
-      Answer : Type 0
-      Answer = (x : State) × (settle s es D pcdata at z ≡ got x) × (ltb TAGLVL (length (x .around)) ≡ false) × (short (state (x .current) (x .around) (x .events ++ dataRun at size ∷ [])) ≡ y)
-
-      by-settling : (r : Reading State) → settle s es D pcdata at z ≡ r → Answer
-      by-settling (refused n k) q =
-          let w : shortly (takeRun s es D at size z) ≡ refused n k = rw (takeRun, q) in
+      go : Ways s es D at z → (x : State) × (settle s es D pcdata at z ≡ got x) × (ltb TAGLVL (length (x .around)) ≡ false) × (short (state (x .current) (x .around) (x .events ++ dataRun at size ∷ [])) ≡ y)
+      go (refused-both n k q r) =
+          let w : shortly (takeRun s es D at size z) ≡ refused n k = rw (r size) in
           let no : _≡_ {A = ℕ} 0 1 = cc in
           absurd (omega arith)
-      by-settling (got x) q = by-count (ltb TAGLVL (length (x .around))) refl
-        where
-          by-count : (b : Bool) → ltb TAGLVL (length (x .around)) ≡ b → Answer
-          by-count true l =
-              let w : shortly (takeRun s es D at size z) ≡ refused 15 at = rw (takeRun, q, limited, l) in
-              let no : _≡_ {A = ℕ} 0 1 = cc in
-              absurd (omega arith)
-          by-count false l =
-              let w = takeRun-got s es D at z x q l size in
-              (x, q, l, cc)
+      go (taken-both x q l r) =
+          let w = r size in
+          (x, q, l, cc)
 
   -- A run is refused as its first byte is.
   pub run-refused : (n k : ℕ) → shortly (takeRun s es D at size z) ≡ refused n k → takeData s es D at z ≡ refused n k
-  unfolding takeRun takeData limited
-  run-refused n k e = by-settling (settle s es D pcdata at z) refl
+  run-refused n k e = go (ways s es D at z)
     where
-      by-settling : (r : Reading State) → settle s es D pcdata at z ≡ r → takeData s es D at z ≡ refused n k
-      by-settling (refused m j) q =
-          let w : shortly (takeRun s es D at size z) ≡ refused m j = rw (takeRun, q) in
-          let v : takeData s es D at z ≡ refused m j = rw (takeData, q) in
+      go : Ways s es D at z → takeData s es D at z ≡ refused n k
+      go (refused-both m j q r) =
+          let w : shortly (takeRun s es D at size z) ≡ refused m j = rw (r size) in
           cc
-      by-settling (got x) q = by-count (ltb TAGLVL (length (x .around))) refl
-        where
-          by-count : (b : Bool) → ltb TAGLVL (length (x .around)) ≡ b → takeData s es D at z ≡ refused n k
-          by-count true l =
-              let w : shortly (takeRun s es D at size z) ≡ refused 15 at = rw (takeRun, q, limited, l) in
-              let v : takeData s es D at z ≡ refused 15 at = rw (takeData, q, limited, l) in
-              cc
-          by-count false l =
-              let w = takeRun-got s es D at z x q l size in
-              let no : _≡_ {A = ℕ} 0 1 = cc in
-              absurd (omega arith)
+      go (taken-both x q l r) =
+          let w = r size in
+          let no : _≡_ {A = ℕ} 0 1 = cc in
+          absurd (omega arith)

@@ -5,23 +5,25 @@ use mathlib.Core.Bool.{true, false, false≢true}
 use mathlib.Core.List.{List}
 use native.Mathlib.Omega.{arith}
 use lib.ListN.{length}
-use lib.Dec.{leb}
-use borrow.Author.Tests.{le-leb, ne-eqb}
+use borrow.Author.Tests.{ne-eqb}
 use Rattle.rules.specs.Reading.{Reading, refused, got}
 use Rattle.rules.specs.TypeFile.{Element}
 use Rattle.rules.specs.Document.{Tag, Piece, startTag, endTag, skipped, blank, piece}
-use Rattle.rules.specs.Settling.{pcdata, Decisions, Event, dataRun, State, nothingOpen, numberOf, fitting, startElement, takeBlank, endElement, endDocument}
-use Rattle.rules.specs.Reader.{goOn, tagged, settlePiece, piecesWithin, document}
+use Rattle.rules.specs.Settling.{pcdata, Decisions, Event, dataRun, State, nothingOpen, numberOf, fitting, startElement, endElement, endDocument}
+use Rattle.rules.specs.Reader.{goOn, settlePiece, document}
 use Rattle.document_laws.specs.Decide.{decided}
-use Rattle.document_laws.specs.Same.{Kept}
+use Rattle.rules_laws.specs.Holds.{Holds, got-so}
+use Rattle.document_laws.specs.Moves.{At}
+use Rattle.document_laws.specs.Same.{begins}
 use Rattle.document_text.specs.Means.{isRun, runEnd}
-use Rattle.document_text.specs.Laws.{start-tag-range, end-tag-range, skipped-range, runEnd-in}
+use Rattle.document_text.specs.Laws.{runEnd-in}
 use Rattle.last_places.specs.Last.{lastOnly, short, shortly, takeRun, pieces, joins}
 use Rattle.last_places.specs.Short.{lastOnly-twice, fitting-short, startElement-short, endElement-short, pieces-short}
 use Rattle.last_places.specs.Follows.{Follows, shortly-got, follows-start, follows-on, follows-by}
 use Rattle.last_places.specs.Joins.{joins-snoc}
-use Rattle.last_places.specs.Enough.{kept-got, pieces-end, pieces-refused, pieces-stop, pieces-on}
+use Rattle.last_places.specs.Enough.{piece-moves, passes-rest, pieces-end, pieces-refused, pieces-stop, pieces-on}
 use Rattle.last_places.specs.Leaves.{Parted, startElement-parted, endElement-parted}
+use Rattle.last_places.specs.Steps.{start-settles, end-settles, start-undeclared, end-undeclared, skipped-settles, blank-ignored}
 use Rattle.last_places.specs.Run.{Stays, runEnd-stop, run-once, run-follows, run-taken, run-refused, data-stop}
 
 -- Reading has come to `at` with the state z: what is left reads as the whole document does, a run of data that begins here or later is a
@@ -34,48 +36,13 @@ pub record Reaches (s : List ℕ) (es : List Element) (d : List ℕ) (at : ℕ) 
   pub follows : Follows s es d at z
 
 pub reaches-start : (s : List ℕ) (es : List Element) (d : List ℕ) → Reaches s es d 0 nothingOpen
-unfolding document
-reaches-start s es d =
-    record { rest = ap (λ n. piecesWithin s es (decided s es) d (suc n) 0 nothingOpen) whole; inside = omega arith; parted = λ h e. refl; beyond = λ j h. refl; follows = follows-start s es d }
-  where
-    whole : length d - 0 ≡ length d
-    whole = omega arith
+reaches-start s es d = record { rest = passes-rest s es (decided s es) d begins; inside = omega arith; parted = λ h e. refl; beyond = λ j h. refl; follows = follows-start s es d }
 
 -- Readings with the last places
 
 shortly-refused : (q : Reading State) (n k : ℕ) → shortly q ≡ refused n k → q ≡ refused n k
 shortly-refused (refused m j) n k e = e
 shortly-refused (got x) n k e = let no : _≡_ {A = ℕ} 0 1 = cc in absurd (omega arith)
-
--- The element of a tag
-
-module _ (s : List ℕ) (es : List Element) (D : Decisions) (d : List ℕ) (at : ℕ) (t : Tag) (z : State) where
-  tagged-declared : (k : ℕ) → numberOf s es d (t .name) (t .size) ≡ k → 1 ≤ k → tagged s es D d at t ≡ got k
-  unfolding tagged
-  tagged-declared k e h = ap number e ∙ rw (le-leb 1 k h)
-    where
-      number : ℕ → Reading ℕ
-      number k = elim (leb 1 k) [ true ↦ got k | false ↦ refused 10 at ]
-
-  tagged-undeclared : numberOf s es d (t .name) (t .size) ≡ 0 → tagged s es D d at t ≡ refused 10 at
-  unfolding tagged
-  tagged-undeclared e = rw (tagged, e)
-
-  start-settles : (k : ℕ) → numberOf s es d (t .name) (t .size) ≡ k → 1 ≤ k → settlePiece s es D d (startTag t) at z ≡ goOn (t .after) (startElement s es D k at (t .after) z)
-  unfolding settlePiece
-  start-settles k e h = rw (settlePiece, tagged-declared k e h)
-
-  end-settles : (k : ℕ) → numberOf s es d (t .name) (t .size) ≡ k → 1 ≤ k → settlePiece s es D d (endTag t) at z ≡ goOn (t .after) (endElement s es D k at (t .after) z)
-  unfolding settlePiece
-  end-settles k e h = rw (settlePiece, tagged-declared k e h)
-
-  start-undeclared : numberOf s es d (t .name) (t .size) ≡ 0 → settlePiece s es D d (startTag t) at z ≡ refused 10 at
-  unfolding settlePiece
-  start-undeclared e = rw (settlePiece, tagged-undeclared e)
-
-  end-undeclared : numberOf s es d (t .name) (t .size) ≡ 0 → settlePiece s es D d (endTag t) at z ≡ refused 10 at
-  unfolding settlePiece
-  end-undeclared e = rw (settlePiece, tagged-undeclared e)
 
 -- Turns
 
@@ -93,10 +60,10 @@ module _ {s : List ℕ} {es : List Element} {d : List ℕ} {at : ℕ} {z : State
 
     -- A piece after which nothing goes on a run.
     settles-on : (p : Piece) (after : ℕ) (q : State → Reading State) (y : State) → piece d at ≡ got p → ((x : State) → settlePiece s es D d p at x ≡ goOn after (q x)) → ((x : State) → shortly (q x) ≡ shortly (q (short x)))
-        → after ≤ length d → Kept Parted (q z) → shortly (q z) ≡ got y → Reaches s es d after y
+        → after ≤ length d → Holds (At at) Parted (q z) → shortly (q z) ≡ got y → Reaches s es d after y
     settles-on p after q y e f asks i g v =
         let (x, a, b) = shortly-got (q z) y v in
-        let w : (j : ℕ) → joins j (y .events) ≡ false = λ j. sym (ap (λ u. joins j (u .events)) b) ∙ kept-got Parted (q z) x g a j in
+        let w : (j : ℕ) → joins j (y .events) ≡ false = λ j. sym (ap (λ u. joins j (u .events)) b) ∙ got-so g a j in
         record {
           rest = ap (pieces s es D d after) (sym b) ∙ sym (pieces-short s es d (suc (length d - after)) after x) ∙ sym (pieces-on s es D d at z h p e (record { at = after; state = x }) (f z ∙ ap (goOn after) a)) ∙ r .rest;
           inside = i;
@@ -115,7 +82,7 @@ module _ {s : List ℕ} {es : List Element} {d : List ℕ} {at : ℕ} {z : State
       module _ (k : ℕ) (i : numberOf s es d (t .name) (t .size) ≡ k) (l : 1 ≤ k) where
         pub reaches-start-tag : {y : State} → shortly (startElement s es D k at (t .after) z) ≡ got y → Reaches s es d (t .after) y
         reaches-start-tag {y} v =
-            settles-on (startTag t) (t .after) (startElement s es D k at (t .after)) y e (λ x. start-settles s es D d at t x k i l) (startElement-short s es k at (t .after)) (start-tag-range d at h t e .1) (startElement-parted s es D k at (t .after) z) v
+            settles-on (startTag t) (t .after) (startElement s es D k at (t .after)) y e (λ x. start-settles s es D d at t x k i l) (startElement-short s es k at (t .after)) (piece-moves d at h (startTag t) e .1) (startElement-parted s es D k at (t .after) z) v
 
         pub refused-start-tag : {n j : ℕ} → shortly (startElement s es D k at (t .after) z) ≡ refused n j → document s es D d ≡ refused n j
         refused-start-tag {n} {j} v =
@@ -128,7 +95,7 @@ module _ {s : List ℕ} {es : List Element} {d : List ℕ} {at : ℕ} {z : State
       module _ (k : ℕ) (i : numberOf s es d (t .name) (t .size) ≡ k) (l : 1 ≤ k) where
         pub reaches-end-tag : {y : State} → shortly (endElement s es D k at (t .after) z) ≡ got y → Reaches s es d (t .after) y
         reaches-end-tag {y} v =
-            settles-on (endTag t) (t .after) (endElement s es D k at (t .after)) y e (λ x. end-settles s es D d at t x k i l) (endElement-short s es k at (t .after)) (end-tag-range d at h t e .1) (endElement-parted s es D k at (t .after) z) v
+            settles-on (endTag t) (t .after) (endElement s es D k at (t .after)) y e (λ x. end-settles s es D d at t x k i l) (endElement-short s es k at (t .after)) (piece-moves d at h (endTag t) e .1) (endElement-parted s es D k at (t .after) z) v
 
         pub refused-end-tag : {n j : ℕ} → shortly (endElement s es D k at (t .after) z) ≡ refused n j → document s es D d ≡ refused n j
         refused-end-tag {n} {j} v =
@@ -148,15 +115,12 @@ module _ {s : List ℕ} {es : List Element} {d : List ℕ} {at : ℕ} {z : State
         }
 
     pub reaches-skipped : {e : ℕ} → piece d at ≡ got (skipped e) → Reaches s es d e z
-    unfolding settlePiece
-    reaches-skipped {e} q = let (i, j) = skipped-range d at h e q in passes-by (skipped e) e q (λ x l. refl) i j
+    reaches-skipped {e} q = let (i, j) = piece-moves d at h (skipped e) q in passes-by (skipped e) e q (λ x l. skipped-settles s es D d at x e) i j
 
     pub reaches-blank : piece d at ≡ got blank → D .fits (z .current .number) (z .current .taken) pcdata ≡ 0 → Reaches s es d (at + 1) z
-    unfolding settlePiece takeBlank
     reaches-blank q e =
-        passes-by blank (at + 1) q (λ x l.
-        let i : fitting s es D (x .current) pcdata ≡ 0 = fitting-short s es (x .current) pcdata ∙ ap (λ o. fitting s es D o pcdata) l ∙ sym (fitting-short s es (z .current) pcdata) ∙ e in
-        rw (settlePiece, takeBlank, i)) (omega arith) (omega arith)
+        passes-by blank (at + 1) q
+        (λ x l. blank-ignored s es D d at x (fitting-short s es (x .current) pcdata ∙ ap (λ o. fitting s es D o pcdata) l ∙ sym (fitting-short s es (z .current) pcdata) ∙ e)) (omega arith) (omega arith)
 
     module _ (run : isRun (piece d at) ≡ true) (fits : piece d at ≡ got blank → 1 ≤ D .fits (z .current .number) (z .current .taken) pcdata) where
       pub reaches-run : Stays s es → {y : State} → shortly (takeRun s es D at (runEnd d (at + 1) - at) z) ≡ got y → Reaches s es d (runEnd d (at + 1)) y

@@ -28,13 +28,7 @@ fn number(names: &[u32; 192], k: usize) -> usize
     requires { ⌜ k < 192 ⌝ }
     ensures { λ r. ⌜ (r ≡ getD (now (names .entry)) k 0) × (r < 4294967296) ⌝ }
 {
-    widened(names[k])
-}
-
-fn widened(x: u32) -> usize
-    ensures { λ r. ⌜ (r ≡ x) × (r < 4294967296) ⌝ }
-{
-    x as usize
+    numbers::widened(names[k])
 }
 
 // Where the place p stands.
@@ -60,7 +54,7 @@ pub fn same_place(s: &[u8], names: &[u32; 192], p: usize, q: usize) -> bool
 {
     let n = place_size(names, p);
     if n == place_size(names, q) {
-        text::same_text(s, place_at(names, p), s, place_at(names, q), n)
+        words::same_text(s, place_at(names, p), s, place_at(names, q), n)
     } else {
         false
     }

@@ -9,7 +9,7 @@ use Rattle.rules.specs.Walk.{Group}
 use Rattle.rules.specs.Ambiguity.{PairAtFault, FirstPair}
 use Rattle.rules.specs.Judge.{samePlace}
 use Rattle.model_sets.specs.Sets.{size, Numbered, nextIn}
-use Rattle.model_sets.specs.Search.{searchPair, searchPair-ext, searchPair-some}
+use Rattle.model_sets.specs.Search.{searchPair, searchPair-ext}
 use Rattle.model_sets.specs.Pairs.{clashIn-ext, atFault, firstPairOf, firstPairOf-none, firstPairOf-first}
 use Rattle.model_table.specs.Fill.{tableOf}
 use Rattle.model_table.specs.Means.{table-says}
@@ -57,9 +57,3 @@ module _ (s names table : List ℕ) (g : Group) (n : ℕ) (numbered : Numbered g
     pub answer-first : 1 ≤ p → FirstPair (samePlace s (placesOf names n)) g p q
     answer-first =
         subst (λ (r : ℕ × ℕ). 1 ≤ r .0 → FirstPair (samePlace s (placesOf names n)) g (r .0) (r .1)) (sym answered) search-first
-
--- Whatever the tables hold, the two numbers are of places of the model, or 0.
-pub answer-range : (s names table : List ℕ) (n p q : ℕ) → (p, q) ≡ searchPair (faultIn s names table n) n → 1 ≤ p → (p < q) × (q ≤ n)
-answer-range s names table n p q answered =
-    subst (λ (r : ℕ × ℕ). 1 ≤ r .0 → (r .0 < r .1) × (r .1 ≤ n)) (sym answered)
-    (λ h. let (a, b, c, d, e) = searchPair-some (faultIn s names table n) n h in (b, c))

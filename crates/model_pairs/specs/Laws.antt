@@ -1,23 +1,20 @@
 -- Laws of the loops that search for a pair at fault: what each has done, a turn of it, and its end.
-use Prim.Native.Nat.{ℕ, zero, suc, _+_, _-_, _≤_, _<_}
+use Prim.Native.Nat.{ℕ, zero, suc, _+_, _-_, _*_, _≤_, _<_}
 use mathlib.Core.Path.{_≡_, refl, sym, ap, _∙_}
-use mathlib.Core.Bool.{Bool, true, false, _&&_, _||_, true≢false, or-true, or-false, and-false}
+use mathlib.Core.Bool.{Bool, true, false, _&&_, _||_, or-true, or-false, and-false}
 use mathlib.Core.List.{List}
-use native.Mathlib.Decide.{ℕ-discrete}
 use native.Mathlib.Nat.{add-zero}
 use native.Mathlib.Numerals.{add-one}
 use native.Mathlib.Omega.{arith}
-use lib.Dec.{eqb}
-use borrow.Author.Tests.{eq-eqb, ne-eqb}
+use borrow.Author.Count.{below-more}
 use lib.ListN.{length, getD, set, replicate, length-set}
 use lib.Seq.{getD-set-same, getD-set-other}
 use Rattle.rules.specs.Judge.{samePlace}
-use Rattle.model_sets.specs.Bits.{not-true, and-left, or-left, or-right, not-both}
+use Rattle.model_sets.specs.Bits.{not-true, and-left}
 use Rattle.model_sets.specs.Search.{findFrom, pairOr, pairFrom, searchPair}
 use Rattle.model_sets.specs.Pairs.{clashIn}
-use Rattle.model_names.specs.Places.{placeIn, placesOf, keyOf}
-use Rattle.model_names.specs.Laws.{key-differs}
-use Rattle.model_pairs.specs.Rows.{rowIn, faultIn, anyKey}
+use Rattle.model_names.specs.Places.{placesOf}
+use Rattle.model_pairs.specs.Rows.{isNext, rowIn, faultIn}
 
 -- A set of 97 to which the numbers below i that pass a test are added.
 pub record Added (f : ℕ → Bool) (start set : List Bool) (i : ℕ) : Type 0 where
@@ -28,23 +25,14 @@ pub record Added (f : ℕ → Bool) (start set : List Bool) (i : ℕ) : Type 0 w
 pub added-none : (f : ℕ → Bool) (start : List Bool) → length start ≡ 97 → Added f start start 0
 added-none f start l = record { len = l; done = λ k h. absurd (omega arith); rest = λ k h. refl }
 
--- what holds below i and at i holds below i + 1
-at-or-below : (P : ℕ → Type 0) (i k : ℕ) → k < i + 1 → (k < i → P k) → P i → P k
-at-or-below P i k h below here = by-place (ℕ-discrete k i)
-  where
-    by-place : Dec (k ≡ i) → P k
-    by-place (yes e) = rw e here
-    by-place (no ne) = below (omega arith)
-
 module _ (f : ℕ → Bool) (start old : List Bool) (i : ℕ) (a : Added f start old i) where
   pub added-one : i < 97 → f i ≡ true → Added f start (set old i true) (i + 1)
   added-one h e =
       record {
         len = length-set old i true ∙ a .len;
         done =
-            λ k l.
-            at-or-below (λ (j : ℕ). getD (set old i true) j false ≡ (getD start j false || f j)) i k l
-            (λ b. getD-set-other old i k true false (omega arith) ∙ a .done k b)
+            below-more (λ (j : ℕ). getD (set old i true) j false ≡ (getD start j false || f j)) i
+            (λ k b. getD-set-other old i k true false (omega arith) ∙ a .done k b)
             (rw (e, or-true) (getD-set-same old i true false (omega (arith, a .len))));
         rest = λ k l. getD-set-other old i k true false (omega arith) ∙ a .rest k (omega arith);
       }
@@ -54,62 +42,19 @@ module _ (f : ℕ → Bool) (start old : List Bool) (i : ℕ) (a : Added f start
       record {
         len = a .len;
         done =
-            λ k l.
-            at-or-below (λ (j : ℕ). getD old j false ≡ (getD start j false || f j)) i k l (λ b. a .done k b)
+            below-more (λ (j : ℕ). getD old j false ≡ (getD start j false || f j)) i (a .done)
             (rw (e, or-false) (a .rest i (omega arith)));
         rest = λ k l. a .rest k (omega arith);
       }
 
--- The keys of the places before p are known.
-pub record Keyed (s names keys : List ℕ) (p : ℕ) : Type 0 where
-  pub len : length keys ≡ 97
-  pub known : (x : ℕ) → 1 ≤ x → x < p → getD keys x 0 ≡ keyOf s (placeIn names (x - 1))
-
-pub keyed-one : (s names keys : List ℕ) (p v : ℕ) → Keyed s names keys p → p < 97 → v ≡ keyOf s (placeIn names (p - 1)) → Keyed s names (set keys p v) (p + 1)
-keyed-one s names keys p v a h e =
-    record {
-      len = length-set keys p v ∙ a .len;
-      known =
-          λ x from to.
-          at-or-below (λ (y : ℕ). getD (set keys p v) y 0 ≡ keyOf s (placeIn names (y - 1))) p x to
-          (λ l. getD-set-other keys p x v 0 (omega arith) ∙ a .known x from l)
-          (getD-set-same keys p v 0 (omega (arith, a .len)) ∙ e);
-    }
-
--- No place from q on before i has the name of p.
-pub record Unlike (s names : List ℕ) (n p q i : ℕ) : Type 0 where
-  pub other : (x : ℕ) → q ≤ x → x < i → samePlace s (placesOf names n) p x ≡ true → ⊥
-
-module _ (s names : List ℕ) (n p q i : ℕ) (so-far : Unlike s names n p q i) where
-  pub unlike-name : (same : Bool) → same ≡ samePlace s (placesOf names n) p i → same ≡ false → Unlike s names n p q (i + 1)
-  unlike-name same a e =
-      record {
-        other =
-            λ x from to.
-            at-or-below (λ (y : ℕ). samePlace s (placesOf names n) p y ≡ true → ⊥) i x to (λ l. so-far .other x from l)
-            (λ r. true≢false (sym r ∙ sym a ∙ e));
-      }
-
-  -- a place with another key has another name
-  pub unlike-key : (keys : List ℕ) → ((x : ℕ) → 1 ≤ x → x ≤ n → getD keys x 0 ≡ keyOf s (placeIn names (x - 1))) → 1 ≤ p → p ≤ n → 1 ≤ i → i ≤ n
-      → (getD keys i 0 ≡ getD keys p 0 → ⊥) → Unlike s names n p q (i + 1)
-  unlike-key keys known p-from p-to i-from i-to ne =
-      unlike-name _ refl
-      (not-true (samePlace s (placesOf names n) p i)
-      (λ r. ne (known i i-from i-to ∙ sym (key-differs s names n p i p-from p-to i-from i-to r) ∙ sym (known p p-from p-to))))
-
--- Some row before u has both p and q.
-abbrev pub clashBelow : (ℕ → ℕ → Bool) → ℕ → ℕ → ℕ → Bool
-clashBelow next zero p q = false
-clashBelow next (suc u) p q = clashIn next u p q
-
-clash-more : (next : ℕ → ℕ → Bool) (u p q : ℕ) → clashBelow next (suc u) p q ≡ (clashBelow next u p q || (next u p && next u q))
-clash-more next zero p q = refl
-clash-more next (suc u) p q = refl
-
 -- A set holds the places that may come next in some row before u where p may.
 pub record Beside (next : ℕ → ℕ → Bool) (p u : ℕ) (set : List Bool) : Type 0 where
-  pub has : (q : ℕ) → q < 97 → getD set q false ≡ clashBelow next u p q
+  pub none : u ≡ 0 → (q : ℕ) → q < 97 → getD set q false ≡ false
+  pub has : 1 ≤ u → (q : ℕ) → q < 97 → getD set q false ≡ clashIn next (u - 1) p q
+
+clash-row : (next : ℕ → ℕ → Bool) (u p q : ℕ) (b : Bool) → (u ≡ 0 → b ≡ false) → (1 ≤ u → b ≡ clashIn next (u - 1) p q) → (b || (next u p && next u q)) ≡ clashIn next u p q
+clash-row next zero p q b none has = rw (none refl)
+clash-row next (suc u) p q b none has = let z : suc u - 1 ≡ u = omega arith in rw (has (omega arith), z)
 
 falses : (n k : ℕ) → getD (replicate n false) k false ≡ false
 falses zero k = refl
@@ -117,17 +62,39 @@ falses (suc n) zero = refl
 falses (suc n) (suc k) = falses n k
 
 pub beside-none : (next : ℕ → ℕ → Bool) (p : ℕ) → Beside next p 0 (replicate 97 false)
-beside-none next p = record { has = λ q h. falses 97 q }
+beside-none next p = record { none = λ z q h. falses 97 q; has = λ l. absurd (omega arith) }
 
 module _ (next : ℕ → ℕ → Bool) (p u : ℕ) (set : List Bool) (b : Beside next p u set) where
-  pub beside-row : (more : List Bool) → next u p ≡ true → ((q : ℕ) → q < 97 → getD more q false ≡ (getD set q false || next u q)) → Beside next p (u + 1) more
-  beside-row more e m = record { has = λ q h. rw (add-one u, clash-more next u p q, e, ← b .has q h) (m q h) }
+  more : (q : ℕ) → q < 97 → (getD set q false || (next u p && next u q)) ≡ clashIn next (u + 1 - 1) p q
+  more q h =
+      let z : u + 1 - 1 ≡ u = omega arith in
+      rw z (clash-row next u p q (getD set q false) (λ e. b .none e q h) (λ l. b .has l q h))
+
+  pub beside-row : (row : List ℕ) (after : List Bool) → next u p ≡ true → ((q : ℕ) → q < 97 → isNext (getD row q 0) ≡ next u q)
+      → ((q : ℕ) → q < 97 → getD after q false ≡ (getD set q false || isNext (getD row q 0))) → Beside next p (u + 1) after
+  beside-row row after e r m =
+      record { none = λ z. absurd (omega arith); has = λ l q h. m q h ∙ rw (r q h) (rw e at (more q h)) }
 
   pub beside-skip : next u p ≡ false → Beside next p (u + 1) set
-  beside-skip e = record { has = λ q h. rw (add-one u, clash-more next u p q, e, or-false) (b .has q h) }
+  beside-skip e = record { none = λ z. absurd (omega arith); has = λ l q h. sym (or-false (getD set q false)) ∙ (rw e at (more q h)) }
 
   pub beside-end : (n q : ℕ) → u ≡ n + 1 → q < 97 → getD set q false ≡ clashIn next n p q
-  beside-end n q e h = b .has q h ∙ rw (e, add-one n)
+  beside-end n q e h = let z : u - 1 ≡ n = omega arith in rw z at (b .has (omega arith) q h)
+
+-- The row is copied below i.
+pub record Copied (table : List ℕ) (u : ℕ) (row : List ℕ) (i : ℕ) : Type 0 where
+  pub len : length row ≡ 97
+  pub same : (q : ℕ) → q < i → getD row q 0 ≡ getD table (u * 98 + q) 0
+
+pub copied-one : (table : List ℕ) (u : ℕ) (row : List ℕ) (i v : ℕ) → Copied table u row i → i < 97 → v ≡ getD table (u * 98 + i) 0 → Copied table u (set row i v) (i + 1)
+copied-one table u row i v a h e =
+    record {
+      len = length-set row i v ∙ a .len;
+      same =
+          below-more (λ (q : ℕ). getD (set row i v) q 0 ≡ getD table (u * 98 + q) 0) i
+          (λ q l. getD-set-other row i q v 0 (omega arith) ∙ a .same q l)
+          (getD-set-same row i v 0 (omega (arith, a .len)) ∙ e);
+    }
 
 -- The numbers from q on are still to be searched for the first that passes, and those before do not pass: `end` is behind the last.
 module _ (f : ℕ → Bool) (end : ℕ) where
@@ -251,64 +218,3 @@ module _ (s names table : List ℕ) (n : ℕ) where
     pairs-none h =
         let l : n + 1 - p ≡ 0 = omega arith in
         rw l at (k .still)
-
--- Whether a place after p shares its key, looked at up to i.
-pub record Shares (keys : List ℕ) (key n p : ℕ) (some : Bool) (i : ℕ) : Type 0 where
-  pub after : p < i
-  pub within : i ≤ n + 1
-  pub still : some || anyKey keys key (n + 1 - i) i ≡ anyKey keys key (n - p) (suc p)
-
-module _ (keys : List ℕ) (key n p : ℕ) where
-  pub shares-start : p ≤ n → Shares keys key n p false (p + 1)
-  shares-start h =
-      let l : n + 1 - suc p ≡ n - p = omega arith in
-      record { after = omega arith; within = omega arith; still = rw (add-one p, l) }
-
-  module _ (some : Bool) (i : ℕ) (k : Shares keys key n p some i) where
-    pub shares-hit : i ≤ n → getD keys i 0 ≡ key → Shares keys key n p true (i + 1)
-    unfolding anyKey
-    shares-hit h e =
-        let l : n + 1 - i ≡ suc (n + 1 - (i + 1)) = omega arith in
-        let a = k .after in
-        record {
-          after = omega arith;
-          within = omega arith;
-          still = sym (or-right some (or-left (anyKey keys key (n + 1 - (i + 1)) (suc i)) (eq-eqb (getD keys i 0) key e))) ∙ (rw l at (k .still));
-        }
-
-    pub shares-miss : i ≤ n → (getD keys i 0 ≡ key → ⊥) → Shares keys key n p some (i + 1)
-    unfolding anyKey
-    shares-miss h ne =
-        let l : n + 1 - i ≡ suc (n + 1 - (i + 1)) = omega arith in
-        let a = k .after in
-        record {
-          after = omega arith;
-          within = omega arith;
-          still = ap (λ (x : ℕ). some || anyKey keys key (n + 1 - (i + 1)) x) (add-one i) ∙ (rw (l, ne-eqb (getD keys i 0) key ne) at (k .still));
-        }
-
-    pub shares-end : n < i → some ≡ anyKey keys key (n - p) (suc p)
-    unfolding anyKey
-    shares-end h =
-        let l : n + 1 - i ≡ 0 = omega arith in
-        sym (or-false some) ∙ (rw l at (k .still))
-
-no-key : (keys : List ℕ) (key n q : ℕ) → anyKey keys key n q ≡ false → (x : ℕ) → q ≤ x → x < q + n → getD keys x 0 ≡ key → ⊥
-unfolding anyKey
-no-key keys key zero q e x a b k = absurd (omega arith)
-no-key keys key (suc n) q e x a b k = here (ℕ-discrete q x) (no-key keys key n (suc q))
-  where
-    later : (b : Bool) → b || anyKey keys key n (suc q) ≡ false → anyKey keys key n (suc q) ≡ false
-    later true f = absurd (true≢false f)
-    later false f = f
-
-    here : Dec (q ≡ x) → (anyKey keys key n (suc q) ≡ false → (x : ℕ) → suc q ≤ x → x < suc q + n → getD keys x 0 ≡ key → ⊥) → ⊥
-    here (yes i) r = not-both e (or-left (anyKey keys key n (suc q)) (eq-eqb (getD keys q 0) key (rw i k)))
-    here (no ne) r = r (later (eqb (getD keys q 0) key) e) x (omega arith) (omega arith) k
-
--- No place after p shares its key, so none has its name.
-pub unshared : (s names keys : List ℕ) (n p : ℕ) → 1 ≤ p → p ≤ n → ((x : ℕ) → 1 ≤ x → x ≤ n → getD keys x 0 ≡ keyOf s (placeIn names (x - 1)))
-    → anyKey keys (getD keys p 0) (n - p) (suc p) ≡ false → (x : ℕ) → p + 1 ≤ x → x < n + 1 → samePlace s (placesOf names n) p x ≡ true → ⊥
-unshared s names keys n p p-from p-to known none x a b e =
-    no-key keys (getD keys p 0) (n - p) (suc p) none x (omega arith) (omega arith)
-    (known x (omega arith) (omega arith) ∙ sym (key-differs s names n p x p-from p-to (omega arith) (omega arith) e) ∙ sym (known p p-from p-to))

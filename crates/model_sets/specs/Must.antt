@@ -3,14 +3,14 @@ use Prim.Native.Nat.{ℕ, zero, suc, _+_, _≤_}
 use mathlib.Core.Path.{_≡_, refl, sym, _∙_, ap}
 use mathlib.Core.Bool.{true, false, _&&_, not, cond, false≢true}
 use mathlib.Core.Logic.{inl, inr, ⊎-elim, _↔_}
-use mathlib.Core.List.{List, [], _∷_, _++_, append-nil, cons≢nil, List·Memᴰ, List·Memᴰ·head, List·Memᴰ·not-nil, List·Memᴰ·cases-cons, List·Memᴰ·append-cases, Memᴰ·append-left, Memᴰ·append-right}
+use mathlib.Core.List.{List, [], _∷_, _++_, cons≢nil, List·Memᴰ, List·Memᴰ·head, List·Memᴰ·not-nil, List·Memᴰ·cases-cons, List·Memᴰ·append-cases, Memᴰ·append-left, Memᴰ·append-right}
 use native.Mathlib.Omega.{arith}
 use borrow.Author.Tests.{eqb-true, eq-eqb}
-use Rattle.rules.specs.Walk.{Group, place, seq, alt, opt, plus, Runs, once, more, Walk, Begins, MayComeNext, Complete, Required}
+use Rattle.rules.specs.Walk.{Group, place, seq, alt, opt, plus, Runs, once, more, Walk, Begins, MayComeNext, Required}
 use Rattle.model_sets.specs.Bits.{or-left, or-right, or-cases, and-left, and-right, and-both, not-true, bool-cases}
 use Rattle.model_sets.specs.Sets.{size, Numbered, has, nullable, first, last, follow, must, mustAfter, nextIn, requiredIn}
 use Rattle.model_sets.specs.Path.{Onward, IsPath, has-range, Apart, numbered-apart, onward-mono, onward-second, onward-seq, walk-path, path-walk, first-has, follow-has, onward-stays, onward-cut, seq-last-second, seq-follow-first, seq-follow-second, alt-last-first, alt-last-second, alt-follow-first, alt-follow-second}
-use Rattle.model_sets.specs.Reach.{some-walk, begins-none, begins-shorter, begins-last, lastOr0, lastOr0-snoc, After, next-has, walk-after, after-walk, next-sound, next-complete}
+use Rattle.model_sets.specs.Reach.{some-walk, begins-shorter, begins-last, lastOr0, After, next-has, walk-after, after-walk, next-sound, next-complete}
 
 -- A walk is of places of the group.
 
@@ -215,10 +215,6 @@ row-required : (g : Group) (lo : ℕ) → Numbered g lo → (u p : ℕ) → (1 �
 row-required g lo m zero p i (e, f) = pass-must g lo m p e (λ w x. f w (walk-path g w x))
 row-required g lo m (suc u) p i r = next-after g lo m (suc u) p (i (omega arith)) r
 
-row-after : (g : Group) (u : ℕ) → 1 ≤ u → requiredIn g u ≡ mustAfter g u
-row-after g zero z = absurd (omega arith)
-row-after g (suc u) z = refl
-
 -- What is required, of a group whose places are numbered from 1 or more.
 module _ (g : Group) (lo : ℕ) (numbered : Numbered g lo) (low : 1 ≤ lo) where
   last-in : (s : List ℕ) → Begins g s → 1 ≤ lastOr0 s → has g (lastOr0 s) ≡ true
@@ -242,35 +238,3 @@ module _ (g : Group) (lo : ℕ) (numbered : Numbered g lo) (low : 1 ≤ lo) wher
 
   pub required-iff : (s : List ℕ) → Begins g s → (p : ℕ) → ((requiredIn g (lastOr0 s) ≡ p) × (1 ≤ p)) ↔ Required g s p
   required-iff s b p = (λ (e, z). required-sound s b p e z, required-complete s p)
-
-  -- at most one place is required at a time
-  pub required-one : (s : List ℕ) (p q : ℕ) → Required g s p → Required g s q → p ≡ q
-  required-one s p q x y = sym (required-complete s p x .0) ∙ required-complete s q y .0
-
-  -- where the places taken are complete, the row requires nothing
-  pub complete-none : (s : List ℕ) → Complete g s → requiredIn g (lastOr0 s) ≡ 0
-  complete-none s w = go (requiredIn g (lastOr0 s)) refl
-    where
-      whole : Walk g (s ++ [])
-      whole = rw append-nil w
-
-      go : (p : ℕ) → requiredIn g (lastOr0 s) ≡ p → requiredIn g (lastOr0 s) ≡ 0
-      go zero e = e
-      go (suc p) e = absurd (List·Memᴰ·not-nil (required-sound s ([], whole) (suc p) e (omega arith) .1 [] whole))
-
-  -- The same of the two functions: at the start, and after the place u.
-
-  pub must-start-sound : (p : ℕ) → must g ≡ p → 1 ≤ p → Required g [] p
-  must-start-sound p e z = required-sound [] (begins-none g) p e z
-
-  pub must-start-complete : (p : ℕ) → Required g [] p → must g ≡ p
-  must-start-complete p r = required-complete [] p r .0
-
-  row-last : (s : List ℕ) (u : ℕ) → Begins g (s ++ u ∷ []) → requiredIn g (lastOr0 (s ++ u ∷ [])) ≡ mustAfter g u
-  row-last s u b = ap (requiredIn g) (lastOr0-snoc s u) ∙ row-after g u (next-pos s u b)
-
-  pub must-after-sound : (s : List ℕ) (u : ℕ) → Begins g (s ++ u ∷ []) → (p : ℕ) → mustAfter g u ≡ p → 1 ≤ p → Required g (s ++ u ∷ []) p
-  must-after-sound s u b p e z = required-sound (s ++ u ∷ []) b p (row-last s u b ∙ e) z
-
-  pub must-after-complete : (s : List ℕ) (u p : ℕ) → Required g (s ++ u ∷ []) p → mustAfter g u ≡ p
-  must-after-complete s u p r = sym (row-last s u (begins-shorter g (s ++ u ∷ []) (p ∷ []) (r .0))) ∙ required-complete (s ++ u ∷ []) p r .0

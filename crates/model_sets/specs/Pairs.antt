@@ -11,7 +11,7 @@ use Rattle.model_sets.specs.Bits.{or-left, or-right, or-cases, and-left,
 use Rattle.model_sets.specs.Sets.{size, Numbered, nextIn}
 use Rattle.model_sets.specs.Path.{has-range, range-has}
 use Rattle.model_sets.specs.Reach.{lastOr0, lastOr0-snoc, begins-none, begins-last, begins-shorter, place-begins, next-has, next-sound, next-complete}
-use Rattle.model_sets.specs.Search.{searchPair, searchPair-none, searchPair-some, none-searchPair, first-searchPair}
+use Rattle.model_sets.specs.Search.{searchPair, searchPair-none, searchPair-some}
 
 -- Two places in one row.
 
@@ -94,25 +94,17 @@ module _ (same : ℕ → ℕ → Bool) (g : Group) (numbered : Numbered g 1) whe
       let (u, i, a, b) = clash-row (nextIn g) (size g) p q (and-right (same p q) _ e) in
       row-pair p q l (and-left (same p q) _ e) u i a b
 
-  -- the search finds none exactly if no pair is at fault
+  -- where the search finds none, no pair is at fault
   pub firstPairOf-none : firstPairOf same g .0 ≡ 0 → (p q : ℕ) → PairAtFault same g p q → ⊥
   firstPairOf-none e p q f =
       let (a, b, c) = pair-clash p q f in
       searchPair-none (atFault same g) (size g) e p q a (f .0) b c
-
-  pub none-firstPairOf : ((p q : ℕ) → PairAtFault same g p q → ⊥) → firstPairOf same g ≡ (0, 0)
-  none-firstPairOf n = none-searchPair (atFault same g) (size g) (λ p q a l b e. n p q (clash-pair p q l e))
 
   -- what the search finds is the first pair at fault
   pub firstPairOf-first : 1 ≤ firstPairOf same g .0 → FirstPair same g (firstPairOf same g .0) (firstPairOf same g .1)
   firstPairOf-first l =
       let (i, d, b, e, m) = searchPair-some (atFault same g) (size g) l in
       (clash-pair (firstPairOf same g .0) (firstPairOf same g .1) d e, λ x y f. let (j, c, k) = pair-clash x y f in m x y j (f .0) c k)
-
-  pub first-firstPairOf : (p q : ℕ) → FirstPair same g p q → (firstPairOf same g .0 ≡ p) × (firstPairOf same g .1 ≡ q)
-  first-firstPairOf p q (f, m) =
-      let (a, b, e) = pair-clash p q f in
-      first-searchPair (atFault same g) (size g) p q (a, f .0, b, e, λ x y i l j k. m x y (clash-pair x y l k))
 
   -- the same of a pair by its numbers
   pub firstPairOf-is : (p q : ℕ) → firstPairOf same g ≡ (p, q) → 1 ≤ p → FirstPair same g p q

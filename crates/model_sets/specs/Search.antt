@@ -138,13 +138,3 @@ module _ (t : ℕ → ℕ → Bool) (n : ℕ) where
 
   pub searchPair-some : 1 ≤ searchPair t n .0 → IsFirst (searchPair t n .0) (searchPair t n .1)
   searchPair-some l = ⊎-elim (λ x. absurd (omega (arith, ap (λ (r : ℕ × ℕ). r .0) (x .0)))) (λ y. y) searchPair-cases
-
-  pub none-searchPair : NoPair → searchPair t n ≡ (0, 0)
-  none-searchPair m = ⊎-elim (λ x. x .0) (λ y. absurd (m (searchPair t n .0) (searchPair t n .1) (y .0) (y .1) (y .2) (y .3))) searchPair-cases
-
-  first-unique : (p q a b : ℕ) → IsFirst p q → IsFirst a b → (p ≡ a) × (q ≡ b)
-  first-unique p q a b (c, d, e, y, m) (f, h, k, z, o) = least-unique p q a b (m a b f h k z) (o p q c d e y)
-
-  pub first-searchPair : (p q : ℕ) → IsFirst p q → (searchPair t n .0 ≡ p) × (searchPair t n .1 ≡ q)
-  first-searchPair p q i =
-      ⊎-elim (λ x. absurd (x .1 p q (i .0) (i .1) (i .2) (i .3))) (λ y. first-unique (searchPair t n .0) (searchPair t n .1) p q y i) searchPair-cases

@@ -10,8 +10,9 @@ use lib.Seq.{getD-set-same, getD-set-other}
 use borrow.Author.Tests.{eq-eqb}
 use Rattle.rules.specs.Walk.{Group, place, seq, alt, opt, plus}
 use Rattle.model_sets.specs.Sets.{size, Numbered, has, nullable, first, last, follow, must, mustAfter, nextIn, completeIn, requiredIn}
-use Rattle.model_table.specs.Fill.{putPlace, link, settle, unbegin, closeEnds, closeStarts, joinSeq, partOf, finished, fill, blank, tableOf}
-use Rattle.model_table.specs.Cells.{bit, below-or-from, Linked, linked, linked-same, linked-end, cond-and-false, Settled, settled, Unbegun, unbegun}
+use Rattle.model_links.specs.Links.{link, settle, unbegin}
+use Rattle.model_table.specs.Fill.{putPlace, closeEnds, closeStarts, joinSeq, partOf, finished, fill, blank, tableOf}
+use Rattle.model_links.specs.Cells.{bit, below-or-from, Linked, linked, linked-same, linked-end, cond-and-false, Settled, settled, Unbegun, unbegun}
 use Rattle.model_table.specs.Places.{none-first, none-last, none-follow, has-under, has-over, has-inside}
 
 -- S differs from T only in what it says of the places [lo, hi): row 0 says F, column 0 L, the columns between N and the last column M.

@@ -6,18 +6,12 @@ use mathlib.Core.Bool.{Bool, true, false, _&&_, _||_, not, cond}
 use native.Mathlib.Omega.{arith}
 use borrow.Author.Tests.{eq-eqb, ne-eqb}
 use Rattle.rules.specs.Walk.{Group, place, seq, alt, opt, plus}
+use Rattle.model_sets.specs.Bits.{or-left, or-right}
 use Rattle.model_sets.specs.Sets.{size, Numbered, has, nullable, first, last, follow, must, mustAfter}
-use Rattle.model_table.specs.Cells.{below-or-from}
+use Rattle.model_links.specs.Cells.{below-or-from}
 
-or-false : {a b : Bool} → a ≡ false → b ≡ false → (a || b) ≡ false
-or-false {a} {b} x y = rw (x, y)
-
-or-left : {a : Bool} (b : Bool) → a ≡ true → (a || b) ≡ true
-or-left b x = rw x
-
-or-right : (a : Bool) {b : Bool} → b ≡ true → (a || b) ≡ true
-or-right true x = refl
-or-right false x = x
+neither : {a b : Bool} → a ≡ false → b ≡ false → (a || b) ≡ false
+neither {a} {b} x y = rw (x, y)
 
 neither-left : (a b : Bool) → (a || b) ≡ false → a ≡ false
 neither-left true b e = e
@@ -39,46 +33,46 @@ and-false-right false x = refl
 pub none-first : (g : Group) (p : ℕ) → has g p ≡ false → first g p ≡ false
 none-first (place n) p e = e
 none-first (seq g h) p e =
-    or-false (none-first g p (neither-left (has g p) (has h p) e))
+    neither (none-first g p (neither-left (has g p) (has h p) e))
     (and-false-right (nullable g) (none-first h p (neither-right (has g p) (has h p) e)))
 none-first (alt g h) p e =
-    or-false (none-first g p (neither-left (has g p) (has h p) e)) (none-first h p (neither-right (has g p) (has h p) e))
+    neither (none-first g p (neither-left (has g p) (has h p) e)) (none-first h p (neither-right (has g p) (has h p) e))
 none-first (opt g) p e = none-first g p e
 none-first (plus g) p e = none-first g p e
 
 pub none-last : (g : Group) (p : ℕ) → has g p ≡ false → last g p ≡ false
 none-last (place n) p e = e
 none-last (seq g h) p e =
-    or-false (none-last h p (neither-right (has g p) (has h p) e))
+    neither (none-last h p (neither-right (has g p) (has h p) e))
     (and-false-right (nullable h) (none-last g p (neither-left (has g p) (has h p) e)))
 none-last (alt g h) p e =
-    or-false (none-last g p (neither-left (has g p) (has h p) e)) (none-last h p (neither-right (has g p) (has h p) e))
+    neither (none-last g p (neither-left (has g p) (has h p) e)) (none-last h p (neither-right (has g p) (has h p) e))
 none-last (opt g) p e = none-last g p e
 none-last (plus g) p e = none-last g p e
 
 pub none-follow : (g : Group) (u p : ℕ) → has g u ≡ false → follow g u p ≡ false
 none-follow (place n) u p e = refl
 none-follow (seq g h) u p e =
-    or-false (none-follow g u p (neither-left (has g u) (has h u) e))
-    (or-false (none-follow h u p (neither-right (has g u) (has h u) e))
+    neither (none-follow g u p (neither-left (has g u) (has h u) e))
+    (neither (none-follow h u p (neither-right (has g u) (has h u) e))
     (and-false-left (first h p) (none-last g u (neither-left (has g u) (has h u) e))))
 none-follow (alt g h) u p e =
-    or-false (none-follow g u p (neither-left (has g u) (has h u) e)) (none-follow h u p (neither-right (has g u) (has h u) e))
+    neither (none-follow g u p (neither-left (has g u) (has h u) e)) (none-follow h u p (neither-right (has g u) (has h u) e))
 none-follow (opt g) u p e = none-follow g u p e
-none-follow (plus g) u p e = or-false (none-follow g u p e) (and-false-left (first g p) (none-last g u e))
+none-follow (plus g) u p e = neither (none-follow g u p e) (and-false-left (first g p) (none-last g u e))
 
 -- A group numbered from lo has the places [lo, lo + size).
 pub has-under : (g : Group) (lo p : ℕ) → Numbered g lo → p < lo → has g p ≡ false
 has-under (place n) lo p e lt = ne-eqb n p (λ q. omega arith)
-has-under (seq g h) lo p e lt = or-false (has-under g lo p (e .0) lt) (has-under h (lo + size g) p (e .1) (omega arith))
-has-under (alt g h) lo p e lt = or-false (has-under g lo p (e .0) lt) (has-under h (lo + size g) p (e .1) (omega arith))
+has-under (seq g h) lo p e lt = neither (has-under g lo p (e .0) lt) (has-under h (lo + size g) p (e .1) (omega arith))
+has-under (alt g h) lo p e lt = neither (has-under g lo p (e .0) lt) (has-under h (lo + size g) p (e .1) (omega arith))
 has-under (opt g) lo p e lt = has-under g lo p e lt
 has-under (plus g) lo p e lt = has-under g lo p e lt
 
 pub has-over : (g : Group) (lo p : ℕ) → Numbered g lo → lo + size g ≤ p → has g p ≡ false
 has-over (place n) lo p e le = ne-eqb n p (λ q. omega arith)
-has-over (seq g h) lo p e le = or-false (has-over g lo p (e .0) (omega arith)) (has-over h (lo + size g) p (e .1) (omega arith))
-has-over (alt g h) lo p e le = or-false (has-over g lo p (e .0) (omega arith)) (has-over h (lo + size g) p (e .1) (omega arith))
+has-over (seq g h) lo p e le = neither (has-over g lo p (e .0) (omega arith)) (has-over h (lo + size g) p (e .1) (omega arith))
+has-over (alt g h) lo p e le = neither (has-over g lo p (e .0) (omega arith)) (has-over h (lo + size g) p (e .1) (omega arith))
 has-over (opt g) lo p e le = has-over g lo p e le
 has-over (plus g) lo p e le = has-over g lo p e le
 

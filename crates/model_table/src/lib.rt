@@ -7,8 +7,7 @@
 ghost use mathlib.Core.Path.{_≡_};
 ghost use Prim.Native.Nat.{_≤_, _<_};
 ghost use mathlib.Core.Bool.{true, false};
-ghost use Rattle.model_table.specs.Fill.{putPlace, linkCell, linkRow, linkFrom, link, settleRow, settle, unbegin};
-ghost use Rattle.model_table.specs.Fill.{part, partSeq, partAlt, closeEnds, closeStarts, joinSeq, repeated, finished, blank};
+ghost use Rattle.model_table.specs.Fill.{putPlace, part, partSeq, partAlt, closeEnds, closeStarts, joinSeq, repeated, finished, blank};
 
 // What is kept of a group beside the table: whether it can be empty, and which place it requires, or 0.
 pub struct Part {
@@ -36,98 +35,27 @@ pub fn put_place(table: &mut [u8; 9506], p: usize) -> Part
     }
 }
 
-// p may come after u if it can begin the group.
-fn link_cell(table: &mut [u8; 9506], u: usize, p: usize)
-    requires { ⌜ u < 97 ⌝ }
-    requires { ⌜ p < 97 ⌝ }
-    ensures { λ _. ⌜ now (table .exit) ≡ linkCell u (now (table .entry)) p ⌝ }
-{
-    if table[p] == 1 {
-        table[u * 98 + p] = 1;
-    }
-}
-
-// So for each place of [c, d).
-fn link_row(table: &mut [u8; 9506], u: usize, c: usize, d: usize)
-    requires { ⌜ u < 97 ⌝ }
-    requires { ⌜ d ≤ 97 ⌝ }
-    ensures { λ _. ⌜ now (table .exit) ≡ linkRow (now (table .entry)) u c d ⌝ }
-{
-    for p in c..d {
-        link_cell(table, u, p);
-    }
-}
-
-// If u can end its group.
-fn link_from(table: &mut [u8; 9506], u: usize, c: usize, d: usize)
-    requires { ⌜ u < 97 ⌝ }
-    requires { ⌜ d ≤ 97 ⌝ }
-    ensures { λ _. ⌜ now (table .exit) ≡ linkFrom c d (now (table .entry)) u ⌝ }
-{
-    if table[u * 98] == 1 {
-        link_row(table, u, c, d);
-    }
-}
-
-// After each place of [a, b) that can end its group, each of [c, d) that can begin its own.
-pub fn link(table: &mut [u8; 9506], a: usize, b: usize, c: usize, d: usize)
-    requires { ⌜ b ≤ 97 ⌝ }
-    requires { ⌜ d ≤ 97 ⌝ }
-    ensures { λ _. ⌜ now (table .exit) ≡ link (now (table .entry)) a b c d ⌝ }
-{
-    for u in a..b {
-        link_from(table, u, c, d);
-    }
-}
-
-// u can no longer end its group: what is required comes after it.
-fn settle_row(table: &mut [u8; 9506], u: usize, required: u8)
-    requires { ⌜ u < 97 ⌝ }
-    ensures { λ _. ⌜ now (table .exit) ≡ settleRow required (now (table .entry)) u ⌝ }
-{
-    if table[u * 98] == 1 {
-        table[u * 98] = 0;
-        table[u * 98 + 97] = required;
-    }
-}
-
-fn settle(table: &mut [u8; 9506], lo: usize, mid: usize, required: u8)
-    requires { ⌜ mid ≤ 97 ⌝ }
-    ensures { λ _. ⌜ now (table .exit) ≡ settle (now (table .entry)) lo mid required ⌝ }
-{
-    for u in lo..mid {
-        settle_row(table, u, required);
-    }
-}
-
-// No place of [mid, hi) can begin any more.
-fn unbegin(table: &mut [u8; 9506], mid: usize, hi: usize)
-    requires { ⌜ hi ≤ 97 ⌝ }
-    ensures { λ _. ⌜ now (table .exit) ≡ unbegin (now (table .entry)) mid hi ⌝ }
-{
-    for p in mid..hi {
-        table[p] = 0;
-    }
-}
-
+// The ends of a first group stay ends only if the second can be empty.
 fn close_ends(table: &mut [u8; 9506], lo: usize, mid: usize, h: Part)
     requires { ⌜ mid ≤ 97 ⌝ }
     ensures { λ _. ⌜ now (table .exit) ≡ closeEnds (now (table .entry)) lo mid h ⌝ }
 {
     if !h.nullable {
-        settle(table, lo, mid, h.required);
+        model_links::settle(table, lo, mid, h.required);
     }
 }
 
+// The starts of a second group stay starts only if the first can be empty.
 fn close_starts(table: &mut [u8; 9506], mid: usize, hi: usize, g: Part)
     requires { ⌜ hi ≤ 97 ⌝ }
     ensures { λ _. ⌜ now (table .exit) ≡ closeStarts (now (table .entry)) mid hi g ⌝ }
 {
     if !g.nullable {
-        unbegin(table, mid, hi);
+        model_links::unbegin(table, mid, hi);
     }
 }
 
+// What is kept of two groups in sequence.
 fn part_seq(g: Part, h: Part) -> Part
     ensures { λ r. ⌜ r ≡ partSeq g h ⌝ }
 {
@@ -150,7 +78,7 @@ pub fn join_seq(table: &mut [u8; 9506], lo: usize, mid: usize, hi: usize, g: Par
     requires { ⌜ hi ≤ 97 ⌝ }
     ensures { λ r. ⌜ (now (table .exit) ≡ joinSeq (now (table .entry)) lo mid hi g h) × (r ≡ partSeq g h) ⌝ }
 {
-    link(table, lo, mid, mid, hi);
+    model_links::link(table, lo, mid, mid, hi);
     close_ends(table, lo, mid, h);
     close_starts(table, mid, hi, g);
     part_seq(g, h)
@@ -188,7 +116,7 @@ pub fn repeat(table: &mut [u8; 9506], lo: usize, hi: usize)
     requires { ⌜ hi ≤ 97 ⌝ }
     ensures { λ _. ⌜ now (table .exit) ≡ repeated (now (table .entry)) lo hi ⌝ }
 {
-    link(table, lo, hi, lo, hi);
+    model_links::link(table, lo, hi, lo, hi);
 }
 
 // The whole model is read: row 0 gets its first and its last number.

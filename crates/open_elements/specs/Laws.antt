@@ -1,4 +1,4 @@
--- Laws of the open elements and of the scratch of events: what the methods do to the rules' state, and what stays so from token to token.
+-- Laws of the open elements: what the methods do to the rules' state, and what stays so from token to token.
 use Prim.Native.Nat.{ℕ, zero, suc, _+_, _-_, _*_, _≤_, _<_}
 use mathlib.Core.Path.{_≡_, refl, ap, sym, _∙_, subst}
 use mathlib.Core.Bool.{Bool, true, false}
@@ -17,13 +17,10 @@ use Rattle.document_laws.specs.Decide.{isCompleteIn, requiredOf}
 use Rattle.last_places.specs.Last.{lastOnly, allLast, short, InRange, Sound}
 use Rattle.last_places.specs.Short.{last-placed}
 use Rattle.type_tables.specs.Means.{standing, width, completeAt, requiredAt, Rows, Requires}
-use Rattle.type_tables.specs.Ranges.{width-most, required-most}
+use Rattle.type_tables.specs.Ranges.{required-kept, required-small}
 use Rattle.open_elements.specs.declared.Entry.{Entry}
-use Rattle.open_elements.specs.declared.Top.{Top}
 use Rattle.open_elements.specs.declared.Open.{Open}
-use Rattle.open_elements.specs.Means as top
-use Rattle.open_elements.specs.Means.{none, opened, aroundOf, current, around, stateOf, fresh, covered, noted, eventAt, eventsIn, Marked, Stands}
-use Rattle.open_elements.specs.Whole.{took, opening, ended, bringing, refusing}
+use Rattle.open_elements.specs.Means.{none, opened, aroundOf, current, around, stateOf, fresh, took, covered, opening, parentOf, ended, Within, Ranged, Marked, Stands}
 
 -- The elements around the current one
 
@@ -35,16 +32,16 @@ aroundOf-length : (a : List Entry) (n : ℕ) → length (aroundOf a n) ≡ n
 aroundOf-length a zero = refl
 aroundOf-length a (suc n) = ap suc (aroundOf-length a n)
 
-pub around-length : (o : Open) → length (around o) ≡ o .top .count
-around-length o = aroundOf-length (o .around) (o .top .count)
+pub around-length : (o : Open) → length (around o) ≡ o .count
+around-length o = aroundOf-length (o .around) (o .count)
 
 -- Opening an element puts the current one in front of those around it.
-pub around-opening : (rows : List ℕ) (k : ℕ) (o : Open) → length (o .around) ≡ 24 → o .top .count < 24 → around (opening rows k o) ≡ current o ∷ around o
+pub around-opening : (rows : List ℕ) (k : ℕ) (o : Open) → length (o .around) ≡ 24 → o .count < 24 → around (opening rows k o) ≡ current o ∷ around o
 around-opening rows k o w l =
     rw (
-      add-one (o .top .count),
-      getD-set-same (o .around) (o .top .count) (covered (o .top)) none (omega arith),
-      aroundOf-set (o .around) (o .top .count) (covered (o .top)) (o .top .count) (omega arith),
+      add-one (o .count),
+      getD-set-same (o .around) (o .count) (covered o) none (omega arith),
+      aroundOf-set (o .around) (o .count) (covered o) (o .count) (omega arith),
     )
 
 aroundOf-less : (a : List Entry) (n : ℕ) → 1 ≤ n → aroundOf a n ≡ opened (getD a (n - 1) none) ∷ aroundOf a (n - 1)
@@ -52,37 +49,40 @@ aroundOf-less a zero l = absurd (omega arith)
 aroundOf-less a (suc n) l = let e : suc n - 1 ≡ n = omega arith in rw e
 
 -- Ending the current element makes the innermost of those around it the current one.
-pub around-ended : (o : Open) → 1 ≤ o .top .count → around o ≡ current (ended o) ∷ around (ended o)
-around-ended o l = aroundOf-less (o .around) (o .top .count) l
+pub around-ended : (o : Open) → 1 ≤ o .count → around o ≡ current (ended o) ∷ around (ended o)
+around-ended o l = aroundOf-less (o .around) (o .count) l
 
 -- What was read of the rows makes the state that `took` and `opening` give.
-pub took-by : (rows : List ℕ) (p : ℕ) (t : Top) {c : Bool} {q : ℕ} → c ≡ completeAt rows (t .element) p → q ≡ requiredAt rows (t .element) p
-    → record { count = t .count; element = t .element; place = p; complete = c; required = q; events = t .events; number = t .number } ≡ top.took rows p t
-took-by rows p t h k = rw (h, k)
+pub took-by : (rows : List ℕ) (p : ℕ) (o : Open) {c : Bool} {q : ℕ} → c ≡ completeAt rows (o .element) p → q ≡ requiredAt rows (o .element) p
+    → record { around = o .around; count = o .count; element = o .element; place = p; complete = c; required = q } ≡ took rows p o
+took-by rows p o h k = rw (h, k)
 
-pub opening-by : (rows : List ℕ) (k : ℕ) (t : Top) {c : Bool} {q : ℕ} → c ≡ completeAt rows k 0 → q ≡ requiredAt rows k 0
-    → record { count = t .count + 1; element = k; place = 0; complete = c; required = q; events = t .events; number = t .number } ≡ top.opening rows k t
-opening-by rows k t h l = rw (h, l)
+pub opening-by : (rows : List ℕ) (k : ℕ) (o : Open) {c : Bool} {q : ℕ} → c ≡ completeAt rows k 0 → q ≡ requiredAt rows k 0
+    → record { around = set (o .around) (o .count) (covered o); count = o .count + 1; element = k; place = 0; complete = c; required = q } ≡ opening rows k o
+opening-by rows k o h l = rw (h, l)
 
 -- The parent's element, place and required place, as they were read, make the state that `ended` gives.
-pub ended-by : (x : Entry) (t : Top) {e p q : ℕ} → e ≡ x .element → p ≡ x .place → q ≡ x .required
-    → record { count = t .count - 1; element = e; place = p; complete = x .complete; required = q; events = t .events; number = t .number } ≡ top.ended x t
-ended-by x t h k l = rw (h, k, l)
+pub ended-by : (o : Open) {e p q : ℕ} → e ≡ parentOf o .element → p ≡ parentOf o .place → q ≡ parentOf o .required
+    → record { around = o .around; count = o .count - 1; element = e; place = p; complete = parentOf o .complete; required = q } ≡ ended o
+ended-by o h k l = rw (h, k, l)
 
 -- Where nothing is open, nothing is around the current element.
-pub around-none : (o : Open) → o .top .count ≡ 0 → around o ≡ []
+pub around-none : (o : Open) → o .count ≡ 0 → around o ≡ []
 around-none o e = rw e
 
 -- Of each open element the state has the last place only.
-standing-last : (e u : ℕ) → lastOnly (standing e u) ≡ standing e u
+pub standing-last : (e u : ℕ) → lastOnly (standing e u) ≡ standing e u
 standing-last e u = ap (standing e) (last-placed u)
 
 aroundOf-last : (a : List Entry) (n : ℕ) → allLast (aroundOf a n) ≡ aroundOf a n
 aroundOf-last a zero = refl
 aroundOf-last a (suc n) = rw (standing-last (getD a n none .element) (getD a n none .place), aroundOf-last a n)
 
+pub around-last : (o : Open) → allLast (around o) ≡ around o
+around-last o = aroundOf-last (o .around) (o .count)
+
 pub stateOf-short : (o : Open) (ev : List Event) → short (stateOf o ev) ≡ stateOf o ev
-stateOf-short o ev = rw (standing-last (o .top .element) (o .top .place), aroundOf-last (o .around) (o .top .count))
+stateOf-short o ev = rw (standing-last (o .element) (o .place), aroundOf-last (o .around) (o .count))
 
 -- Whether an element is open
 
@@ -122,31 +122,26 @@ sound-first es o (x ∷ os) h = h .1
 pub stands-range : {es : List Element} {o : Open} → Stands es o → InRange es (current o)
 stands-range {es} {o} h = sound-first es (current o) (around o) (h .sound)
 
-pub stands-place : {es : List Element} {o : Open} → Stands es o → o .top .place ≤ width es (o .top .element)
-stands-place {es} {o} h = rw (last-placed (o .top .place)) at (stands-range h .place)
+pub stands-place : {es : List Element} {o : Open} → Stands es o → o .place ≤ width es (o .element)
+stands-place {es} {o} h = rw (last-placed (o .place)) at (stands-range h .place)
 
 -- Around the current element there is an open one or the document: it is an element, and so may end.
-around-parts : {es : List Element} {o : Open} → Stands es o → 1 ≤ o .top .count → Sound es (current o) (current (ended o) ∷ around (ended o))
+around-parts : {es : List Element} {o : Open} → Stands es o → 1 ≤ o .count → Sound es (current o) (current (ended o) ∷ around (ended o))
 around-parts {es} {o} h l = subst (λ (os : List rules.Open). Sound es (current o) os) (around-ended o l) (h .sound)
 
-pub stands-element : {es : List Element} {o : Open} → Stands es o → 1 ≤ o .top .count → 1 ≤ o .top .element
+pub stands-element : {es : List Element} {o : Open} → Stands es o → 1 ≤ o .count → 1 ≤ o .element
 stands-element h l = around-parts h l .0
 
 -- Of the elements around the current one, the outermost alone is the document itself.
-pub parent-element : {es : List Element} {o : Open} → Stands es o → 1 < o .top .count → 1 ≤ ended o .top .element
+pub parent-element : {es : List Element} {o : Open} → Stands es o → 1 < o .count → 1 ≤ ended o .element
 parent-element {es} {o} h l = subst (λ (os : List rules.Open). Sound es (current (ended o)) os) (around-ended (ended o) (omega arith)) (around-parts h (omega arith) .2) .0
 
-pub parent-document : {es : List Element} {o : Open} → Stands es o → o .top .count ≡ 1 → ended o .top .element ≡ 0
-parent-document {es} {o} h e = let z : o .top .count - 1 ≡ 0 = omega arith in rw z (h .outermost (omega arith))
+pub parent-document : {es : List Element} {o : Open} → Stands es o → o .count ≡ 1 → ended o .element ≡ 0
+parent-document {es} {o} h e = let z : o .count - 1 ≡ 0 = omega arith in rw z (h .outermost (omega arith))
 
 -- The place that is kept as required is required after the place taken last.
-pub stands-requires : {es : List Element} {o : Open} → Stands es o → Requires es (o .top .element) (o .top .required) (o .top .place)
+pub stands-requires : {es : List Element} {o : Open} → Stands es o → Requires es (o .element) (o .required) (o .place)
 stands-requires h = record { range = stands-range h; required = h .marked .required }
-
--- The required place is one of the model's, or 0.
-pub stands-required : {s : List ℕ} {es : List Element} {o : Open} → Accepts s es → Stands es o → o .top .required ≤ 96
-stands-required {s} {es} {o} accepted h =
-    omega (arith, h .marked .required, required-most s es accepted (o .top .element) (o .top .place) (stands-place h), width-most s es accepted (o .top .element))
 
 -- Nothing is open: the document itself is not complete, and requires its one place.
 pub stands-fresh : (es : List Element) → Stands es fresh
@@ -163,18 +158,18 @@ stands-fresh es =
     }
 
 -- What the rows have after a place are the marks of the element there.
-rows-mark : {es : List Element} {rows : List ℕ} → Rows es rows → {x : Entry} → x .element ≤ length es → x .place ≤ width es (x .element)
+rows-mark : {s : List ℕ} {es : List Element} → Accepts s es → {rows : List ℕ} → Rows es rows → {x : Entry} → x .element ≤ length es → x .place ≤ width es (x .element)
     → x .complete ≡ completeAt rows (x .element) (x .place) → x .required ≡ requiredAt rows (x .element) (x .place) → Marked es x
-rows-mark said {x} d w c r =
-    record { complete = c ∙ said .complete (x .element) (x .place) d w; required = r ∙ said .required (x .element) (x .place) d w }
+rows-mark {s} {es} accepted {rows} said {x} d w c r =
+    record { complete = c ∙ said .complete (x .element) (x .place) d w; required = r ∙ required-kept s es accepted rows said (x .element) (x .place) d w }
 
-pub stands-took : {es : List Element} {rows : List ℕ} → Rows es rows → {o : Open} (p : ℕ) → Stands es o → p ≤ width es (o .top .element) → Stands es (took rows p o)
-stands-took {es} said {o} p h w =
+pub stands-took : {s : List ℕ} {es : List Element} → Accepts s es → {rows : List ℕ} → Rows es rows → {o : Open} (p : ℕ) → Stands es o → p ≤ width es (o .element) → Stands es (took rows p o)
+stands-took {s} {es} accepted said {o} p h w =
     record {
       whole = h .whole;
       few = h .few;
-      sound = sound-place es (o .top .element) (o .top .place) p (around o) w (h .sound);
-      marked = rows-mark said (stands-range h .declared) w refl refl;
+      sound = sound-place es (o .element) (o .place) p (around o) w (h .sound);
+      marked = rows-mark accepted said (stands-range h .declared) w refl refl;
       kept = h .kept;
       document = h .document;
       outermost = h .outermost;
@@ -193,84 +188,76 @@ outermost-set : (a : List Entry) (n : ℕ) (x : Entry) → n < length a → (n �
 outermost-set a zero x l d h = rw (getD-set-same a 0 x none l) (d refl)
 outermost-set a (suc n) x l d h = rw (getD-set-other a (suc n) 0 x none (λ e. omega arith)) (h (omega arith))
 
-pub stands-opening : {es : List Element} {rows : List ℕ} → Rows es rows → {o : Open} (k : ℕ) → Stands es o → o .top .count < 24 → 1 ≤ k → k ≤ length es → Stands es (opening rows k o)
-stands-opening {es} {rows} said {o} k h l some there =
+pub stands-opening : {s : List ℕ} {es : List Element} → Accepts s es → {rows : List ℕ} → Rows es rows → {o : Open} (k : ℕ) → Stands es o → o .count < 24 → 1 ≤ k → k ≤ length es → Stands es (opening rows k o)
+stands-opening {s} {es} accepted {rows} said {o} k h l some there =
     record {
       whole = simp length-set (h .whole);
       few = omega arith;
       sound =
           subst (λ (os : List rules.Open). Sound es (standing k 0) os) (sym (around-opening rows k o (h .whole) l))
           (some, place-in es k 0 there (omega arith), h .sound);
-      marked = rows-mark said there (omega arith) refl refl;
-      kept = kept-set es (o .around) (o .top .count) (covered (o .top)) (omega (arith, h .whole)) (h .marked) (h .kept);
+      marked = rows-mark accepted said there (omega arith) refl refl;
+      kept = kept-set es (o .around) (o .count) (covered o) (omega (arith, h .whole)) (h .marked) (h .kept);
       document = λ e. absurd (omega arith);
-      outermost = λ i. outermost-set (o .around) (o .top .count) (covered (o .top)) (omega (arith, h .whole)) (h .document) (h .outermost);
+      outermost = λ i. outermost-set (o .around) (o .count) (covered o) (omega (arith, h .whole)) (h .document) (h .outermost);
     }
 
-pub stands-ended : {es : List Element} {o : Open} → Stands es o → 1 ≤ o .top .count → Stands es (ended o)
+pub stands-ended : {es : List Element} {o : Open} → Stands es o → 1 ≤ o .count → Stands es (ended o)
 stands-ended {es} {o} h l =
     record {
       whole = h .whole;
       few = omega (arith, h .few);
       sound = around-parts h l .2;
-      marked = h .kept (o .top .count - 1) (omega arith);
+      marked = h .kept (o .count - 1) (omega arith);
       kept = λ k i. h .kept k (omega arith);
-      document = λ e. let z : o .top .count - 1 ≡ 0 = e in rw z (h .outermost l);
+      document = λ e. let z : o .count - 1 ≡ 0 = e in rw z (h .outermost l);
       outermost = λ i. h .outermost l;
     }
 
-pub stands-bringing : {es : List Element} {o : Open} (n : ℕ) → Stands es o → Stands es (bringing n o)
-stands-bringing n h = record { whole = h .whole; few = h .few; sound = h .sound; marked = h .marked; kept = h .kept; document = h .document; outermost = h .outermost }
+-- What stays in range, whatever the tables hold
 
-pub stands-refusing : {es : List Element} {o : Open} (n : ℕ) → Stands es o → Stands es (refusing n o)
-stands-refusing n h = record { whole = h .whole; few = h .few; sound = h .sound; marked = h .marked; kept = h .kept; document = h .document; outermost = h .outermost }
+pub ranged-fresh : Ranged fresh
+ranged-fresh =
+    record {
+      whole = length-replicate 24 none;
+      few = omega arith;
+      element = omega arith;
+      place = omega arith;
+      required = omega arith;
+      kept = λ k l. absurd (omega arith);
+    }
 
--- Events
+pub ranged-took : (rows : List ℕ) (p : ℕ) {o : Open} → Ranged o → p ≤ 96 → Ranged (took rows p o)
+ranged-took rows p {o} h l = record { whole = h .whole; few = h .few; element = h .element; place = l; required = required-small rows (o .element) p; kept = h .kept }
 
-pub events-none : (before : List Event) (l : List ℕ) (n : ℕ) → n ≡ 0 → before ++ eventsIn l n ≡ before
-events-none before l n e = rw (e, append-nil)
+-- What is kept of the current element is in range, and what was kept before stays.
+within-set : (a : List Entry) (n : ℕ) (x : Entry) → n < length a → Within x → ((k : ℕ) → k < n → Within (getD a k none)) → (k : ℕ) → k < n + 1 → Within (getD (set a n x) k none)
+within-set a n x l m h k i = by-place (ℕ-discrete k n)
+  where
+    by-place : Dec (k ≡ n) → Within (getD (set a n x) k none)
+    by-place (yes e) = rw (e, getD-set-same a n x none l) m
+    by-place (no e) = rw (getD-set-other a n k x none e) (h k (omega arith))
 
--- One event more, of the token and of all.
-pub events-more : (before xs : List Event) (e : Event) {ys : List Event} → ys ≡ xs ++ e ∷ [] → before ++ ys ≡ (before ++ xs) ++ e ∷ []
-events-more before xs e h = ap (λ (l : List Event). before ++ l) h ∙ sym (append-assoc before xs (e ∷ []))
+pub ranged-opening : (rows : List ℕ) (k : ℕ) {o : Open} → Ranged o → o .count < 24 → k ≤ 64 → Ranged (opening rows k o)
+ranged-opening rows k {o} h l few =
+    record {
+      whole = simp length-set (h .whole);
+      few = omega arith;
+      element = few;
+      place = omega arith;
+      required = required-small rows k 0;
+      kept =
+          within-set (o .around) (o .count) (covered o) (omega (arith, h .whole)) record { element = h .element; place = h .place; required = h .required } (h .kept);
+    }
 
--- Numbers past the first m events are none of theirs.
-eventAt-set : (l : List ℕ) (i x m : ℕ) → 4 * m + 4 ≤ i → eventAt (set l i x) m ≡ eventAt l m
-eventAt-set l i x m h =
-    rw (
-      getD-set-other l i (4 * m) x 0 (λ e. omega arith),
-      getD-set-other l i (4 * m + 1) x 0 (λ e. omega arith),
-      getD-set-other l i (4 * m + 2) x 0 (λ e. omega arith),
-      getD-set-other l i (4 * m + 3) x 0 (λ e. omega arith),
-    )
-
-pub eventsIn-set : (l : List ℕ) (i x m : ℕ) → 4 * m ≤ i → eventsIn (set l i x) m ≡ eventsIn l m
-eventsIn-set l i x zero h = refl
-eventsIn-set l i x (suc m) h = rw (eventsIn-set l i x m (omega arith), eventAt-set l i x m (omega arith))
-
--- Four numbers written after n events are one event more.
-pub events-put : (l : List ℕ) (n a b c d : ℕ) → length l ≡ 200 → n < 50 → eventsIn (set (set (set (set l (4 * n) a) (4 * n + 1) b) (4 * n + 2) c) (4 * n + 3) d) (n + 1) ≡ eventsIn l n ++ noted a b c d ∷ []
-events-put l n a b c d w h =
-    let l1 = set l (4 * n) a in
-    let l2 = set l1 (4 * n + 1) b in
-    let l3 = set l2 (4 * n + 2) c in
-    let w1 : length l1 ≡ 200 = simp length-set w in
-    let w2 : length l2 ≡ 200 = simp length-set w in
-    let w3 : length l3 ≡ 200 = simp length-set w in
-    rw (
-      add-one n,
-      eventsIn-set l3 (4 * n + 3) d n (omega arith),
-      eventsIn-set l2 (4 * n + 2) c n (omega arith),
-      eventsIn-set l1 (4 * n + 1) b n (omega arith),
-      eventsIn-set l (4 * n) a n (omega arith),
-      getD-set-same l3 (4 * n + 3) d 0 (omega arith),
-      getD-set-other l3 (4 * n + 3) (4 * n + 2) d 0 (λ e. omega arith),
-      getD-set-other l3 (4 * n + 3) (4 * n + 1) d 0 (λ e. omega arith),
-      getD-set-other l3 (4 * n + 3) (4 * n) d 0 (λ e. omega arith),
-      getD-set-same l2 (4 * n + 2) c 0 (omega arith),
-      getD-set-other l2 (4 * n + 2) (4 * n + 1) c 0 (λ e. omega arith),
-      getD-set-other l2 (4 * n + 2) (4 * n) c 0 (λ e. omega arith),
-      getD-set-same l1 (4 * n + 1) b 0 (omega arith),
-      getD-set-other l1 (4 * n + 1) (4 * n) b 0 (λ e. omega arith),
-      getD-set-same l (4 * n) a 0 (omega arith),
-    )
+pub ranged-ended : {o : Open} → Ranged o → 1 ≤ o .count → Ranged (ended o)
+ranged-ended {o} h l =
+    let parent = h .kept (o .count - 1) (omega arith) in
+    record {
+      whole = h .whole;
+      few = omega (arith, h .few);
+      element = parent .element;
+      place = parent .place;
+      required = parent .required;
+      kept = λ k i. h .kept k (omega arith);
+    }

@@ -1,5 +1,4 @@
 -- What the open elements of the code stand for, in the rules' terms.
 pub mod Means
-pub mod Whole
 pub mod Laws
 pub mod Marks

@@ -48,8 +48,8 @@ AllSay es a (suc n) (o ∷ os) = Say es (getD a n kept.none) o × AllSay es a n 
 
 -- The marks of every open element say what the walks say of the rules' state z, which has all places taken.
 pub record MarksSay (es : List Element) (o : Open) (z : State) : Type 0 where
-  pub current : Say es (covered (o .top)) (z .current)
-  pub around : AllSay es (o .around) (o .top .count) (z .around)
+  pub current : Say es (covered o) (z .current)
+  pub around : AllSay es (o .around) (o .count) (z .around)
 
 -- The last place decides
 
@@ -112,8 +112,8 @@ module _ (s : List ℕ) (es : List Element) (accepted : Accepts s es) where
   pub marks-say : (o : Open) → Stands es o → (z : State) (ev : List Event) → AllBegun es z → short z ≡ stateOf o ev → MarksSay es o z
   marks-say o h z ev b e =
       record {
-        current = say (covered (o .top)) (z .current) (h .marked) (ap (λ (y : State). y .current) e) (b .current);
-        around = all-say (o .around) (o .top .count) (z .around) (λ k l. h .kept k (omega arith)) (ap (λ (y : State). y .around) e) (b .around);
+        current = say (covered o) (z .current) (h .marked) (ap (λ (y : State). y .current) e) (b .current);
+        around = all-say (o .around) (o .count) (z .around) (λ k l. h .kept k (omega arith)) (ap (λ (y : State). y .around) e) (b .around);
       }
 
   -- "At every moment both must equal what 01's definition says of the places taken": reading the document d has come to `at`, and the rules,

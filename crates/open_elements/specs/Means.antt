@@ -1,8 +1,8 @@
 -- What the open elements of the code stand for, in the rules' terms.
-use Prim.Native.Nat.{ℕ, zero, suc, _+_, _-_, _*_, _≤_, _<_}
+use Prim.Native.Nat.{ℕ, zero, suc, _+_, _-_, _≤_, _<_}
 use mathlib.Core.Path.{_≡_}
 use mathlib.Core.Bool.{false}
-use mathlib.Core.List.{List, [], _∷_, _++_}
+use mathlib.Core.List.{List, [], _∷_}
 use lib.ListN.{length, getD, set, replicate}
 use Rattle.rules.specs.Reading.{Reading, refused, got}
 use Rattle.rules.specs.TypeFile.{Element}
@@ -10,9 +10,8 @@ use Rattle.rules.specs.Settling.{Event, State, contentOf}
 use Rattle.rules.specs.Settling as rules
 use Rattle.document_laws.specs.Decide.{isCompleteIn, requiredOf}
 use Rattle.last_places.specs.Last.{placed, Sound}
-use Rattle.type_tables.specs.Means.{standing, completeAt, requiredAt, Facts, Tables}
+use Rattle.type_tables.specs.Means.{standing, completeAt, requiredAt}
 use Rattle.open_elements.specs.declared.Entry.{Entry}
-use Rattle.open_elements.specs.declared.Top.{Top}
 use Rattle.open_elements.specs.declared.Open.{Open}
 
 -- The state
@@ -28,124 +27,92 @@ abbrev pub aroundOf : List Entry → ℕ → List rules.Open
 aroundOf a zero = []
 aroundOf a (suc n) = opened (getD a n none) ∷ aroundOf a n
 
-abbrev pub openOf : List Entry → Top → Open
-openOf a t = record { around = a; top = t }
-
 abbrev pub current : Open → rules.Open
-current o = standing (o .top .element) (o .top .place)
+current o = standing (o .element) (o .place)
 
 abbrev pub around : Open → List rules.Open
-around o = aroundOf (o .around) (o .top .count)
+around o = aroundOf (o .around) (o .count)
 
 -- The state of the rules, with these events so far.
 abbrev pub stateOf : Open → List Event → State
 stateOf o ev = record { current = current o; around = around o; events = ev }
 
--- Of the last token nothing is known yet.
-abbrev pub Fresh : Open → Type 0
-Fresh o = (o .top .events ≡ 0) × (o .top .number ≡ 0)
-
 -- What the methods do
 
 abbrev pub fresh : Open
-fresh = record { around = replicate 24 none; top = record { count = 0; element = 0; place = 0; complete = false; required = 1; events = 0; number = 0 } }
+fresh = record { around = replicate 24 none; count = 0; element = 0; place = 0; complete = false; required = 1 }
 
 -- The marks are those that the rows have after the place.
-abbrev pub took : (rows : List ℕ) → ℕ → Top → Top
-took rows p t =
+abbrev pub took : (rows : List ℕ) → ℕ → Open → Open
+took rows p o =
     record {
-      count = t .count;
-      element = t .element;
+      around = o .around;
+      count = o .count;
+      element = o .element;
       place = p;
-      complete = completeAt rows (t .element) p;
-      required = requiredAt rows (t .element) p;
-      events = t .events;
-      number = t .number;
+      complete = completeAt rows (o .element) p;
+      required = requiredAt rows (o .element) p;
     }
 
 -- What is kept of the current element where another is opened in it.
-abbrev pub covered : Top → Entry
-covered t = record { element = t .element; place = t .place; complete = t .complete; required = t .required }
+abbrev pub covered : Open → Entry
+covered o = record { element = o .element; place = o .place; complete = o .complete; required = o .required }
 
-abbrev pub opening : (rows : List ℕ) → ℕ → Top → Top
-opening rows k t =
+abbrev pub opening : (rows : List ℕ) → ℕ → Open → Open
+opening rows k o =
     record {
-      count = t .count + 1;
+      around = set (o .around) (o .count) (covered o);
+      count = o .count + 1;
       element = k;
       place = 0;
       complete = completeAt rows k 0;
       required = requiredAt rows k 0;
-      events = t .events;
-      number = t .number;
     }
+
+-- The innermost of those around the current element.
+abbrev pub parentOf : Open → Entry
+parentOf o = getD (o .around) (o .count - 1) none
 
 -- The parent is the current element again, as it was kept.
-abbrev pub ended : Entry → Top → Top
-ended x t =
+abbrev pub ended : Open → Open
+ended o =
     record {
-      count = t .count - 1;
-      element = x .element;
-      place = x .place;
-      complete = x .complete;
-      required = x .required;
-      events = t .events;
-      number = t .number;
+      around = o .around;
+      count = o .count - 1;
+      element = parentOf o .element;
+      place = parentOf o .place;
+      complete = parentOf o .complete;
+      required = parentOf o .required;
     }
 
-abbrev pub bringing : ℕ → Top → Top
-bringing n t =
-    record {
-      count = t .count;
-      element = t .element;
-      place = t .place;
-      complete = t .complete;
-      required = t .required;
-      events = n;
-      number = t .number;
-    }
-
-abbrev pub refusing : ℕ → Top → Top
-refusing n t =
-    record {
-      count = t .count;
-      element = t .element;
-      place = t .place;
-      complete = t .complete;
-      required = t .required;
-      events = t .events;
-      number = n;
-    }
-
--- Events
-
-abbrev pub noted : (kind number offset size : ℕ) → Event
-noted kind number offset size = record { kind = kind; number = number; offset = offset; size = size }
-
-abbrev pub eventAt : List ℕ → ℕ → Event
-eventAt l n = noted (getD l (4 * n) 0) (getD l (4 * n + 1) 0) (getD l (4 * n + 2) 0) (getD l (4 * n + 3) 0)
-
--- The first n events, four numbers each.
-abbrev pub eventsIn : List ℕ → ℕ → List Event
-eventsIn l zero = []
-eventsIn l (suc n) = eventsIn l n ++ eventAt l n ∷ []
-
--- What has become of a token at `at`, where these events were before it.
+-- What has become of a token at `at`: it is refused by this number, or 0 and the state is z.
 abbrev pub outcomeOf : (at number : ℕ) → State → Reading State
 outcomeOf at zero z = got z
 outcomeOf at (suc n) z = refused (suc n) at
 
-abbrev pub outcome : (at : ℕ) → Open → (events : List ℕ) → (before : List Event) → Reading State
-outcome at o events before = outcomeOf at (o .top .number) (stateOf o (before ++ eventsIn events (o .top .events)))
-
--- The same of the document's end.
+-- The same of the document's end, with these events.
 abbrev pub closedOf : (at number : ℕ) → List Event → Reading (List Event)
 closedOf at zero ev = got ev
 closedOf at (suc n) ev = refused (suc n) at
 
-abbrev pub closed : (at : ℕ) → Top → (events : List ℕ) → (before : List Event) → Reading (List Event)
-closed at t events before = closedOf at (t .number) (before ++ eventsIn events (t .events))
+-- What holds of the numbers, whatever the tables hold
 
--- What holds from token to token
+-- The numbers of an open element are ones that the tables have room for.
+pub record Within (x : Entry) : Type 0 where
+  pub element : x .element ≤ 64
+  pub place : x .place ≤ 96
+  pub required : x .required ≤ 96
+
+-- At most 24 are open, for which the array has room, and all their numbers are such.
+pub record Ranged (o : Open) : Type 0 where
+  pub whole : length (o .around) ≡ 24
+  pub few : o .count ≤ 24
+  pub element : o .element ≤ 64
+  pub place : o .place ≤ 96
+  pub required : o .required ≤ 96
+  pub kept : (k : ℕ) → k < o .count → Within (getD (o .around) k none)
+
+-- What holds from token to token, by the tables of a type
 
 -- The marks of an open element are what the definition says after the place that was taken last in it.
 pub record Marked (es : List Element) (x : Entry) : Type 0 where
@@ -156,17 +123,9 @@ pub record Marked (es : List Element) (x : Entry) : Type 0 where
 -- current element and for each around it. The outermost is the document itself.
 pub record Stands (es : List Element) (o : Open) : Type 0 where
   pub whole : length (o .around) ≡ 24
-  pub few : o .top .count ≤ 24
+  pub few : o .count ≤ 24
   pub sound : Sound es (current o) (around o)
-  pub marked : Marked es (covered (o .top))
-  pub kept : (k : ℕ) → k < o .top .count → Marked es (getD (o .around) k none)
-  pub document : o .top .count ≡ 0 → o .top .element ≡ 0
-  pub outermost : 1 ≤ o .top .count → getD (o .around) 0 none .element ≡ 0
-
--- The tables are those of some type, of which these elements are open and which has so many elements.
-abbrev pub AnyStands : (rows places facts : List ℕ) → Open → ℕ → Type 0
-AnyStands rows places facts o x = (s : List ℕ) × (es : List Element) × Tables s es rows places facts × Stands es o × (x ≤ length es)
-
--- The same for what closing asks of the tables.
-abbrev pub AnyClosing : (facts : List ℕ) → Open → Type 0
-AnyClosing facts o = (s : List ℕ) × (es : List Element) × (length es ≤ 64) × Facts s es facts × Stands es o
+  pub marked : Marked es (covered o)
+  pub kept : (k : ℕ) → k < o .count → Marked es (getD (o .around) k none)
+  pub document : o .count ≡ 0 → o .element ≡ 0
+  pub outermost : 1 ≤ o .count → getD (o .around) 0 none .element ≡ 0

@@ -1,2 +1,8 @@
--- Laws of the rules: every reading of a type file stays within the input.
+-- Laws of the rules: what holds of one reading and of two, and each grammar walked once.
+pub mod Holds
+pub mod Both
+pub mod In
+pub mod Groups
+pub mod Declarations
 pub mod Within
+pub mod Pieces

@@ -1,1 +1,1 @@
-// Laws of the rules: every reading of a type file stays within the input. No code.
+// Laws of the rules: what holds of a reading, and the type file and a document's pieces walked once, for every other law to cite. No code.

@@ -10,24 +10,23 @@ use borrow.Author.Tests.{le-leb, le-ltb, lt-ltb}
 use Rattle.rules.specs.Reading.{refused, got}
 use Rattle.rules.specs.TypeFile.{Content, empty, model, Element}
 use Rattle.rules.specs.Judge.{Accepts}
-use Rattle.rules.specs.Settling.{contentOf, placesIn, Token, Event, State, Inward, settled, stuck, takePlace, limited, fitting, chain, inferStarts, takeToken, inward}
+use Rattle.rules.specs.Settling.{contentOf, placesIn, Token, Decisions, Event, State, Inward, settled, stuck, takePlace, limited, fitting, chain, inferStarts, takeToken, inward}
 use Rattle.rules.specs.Settling as rules
 use Rattle.document_laws.specs.Decide.{fitsIn, decided}
 use Rattle.document_laws.specs.Chain.{chain-leads}
 use Rattle.type_laws.specs.Width.{typeFile-width}
-use Rattle.last_places.specs.Last.{short, shortly}
+use Rattle.last_places.specs.Last.{short}
 use Rattle.last_places.specs.Short.{state, allLast-length, lastOnly-took, takePlace-short, fitting-short}
 use Rattle.type_tables.specs.Means.{width}
 use Rattle.type_tables.specs.Search.{search-most}
 use Rattle.open_elements.specs.declared.Open.{Open}
-use Rattle.open_elements.specs.Means.{current, around, stateOf}
-use Rattle.open_elements.specs.Whole.{took}
-use Rattle.open_elements.specs.Laws.{around-length}
-use Rattle.settling.specs.declared.Way.{Way}
-use Rattle.settling.specs.declared.Way.the-variants.{Taken, Inferred, Stuck}
-use Rattle.settling.specs.Means.{wayOf, chained, inferMany, Infers}
-use Rattle.settling.specs.Chains.{chain-most}
-use Rattle.settling.specs.Starts.{around-short, chain-infers, chain-starts}
+use Rattle.open_elements.specs.Means.{current, around, stateOf, took}
+use Rattle.open_elements.specs.Laws.{around-length, around-last}
+use Rattle.ways.specs.declared.Way.{Way}
+use Rattle.ways.specs.declared.Way.the-variants.{Taken, Inferred, Stuck}
+use Rattle.ways.specs.Means.{wayOf, chained}
+use Rattle.settling.specs.Means.{inferMany, Infers}
+use Rattle.settling.specs.Starts.{chain-infers, chain-starts}
 
 -- The place as which a token fits is one of the model's.
 pub fits-most : (s : List ℕ) (es : List Element) → Accepts s es → (k : ℕ) (taken : List ℕ) (t : Token) → decided s es .fits k taken t ≤ width es k
@@ -40,33 +39,33 @@ fits-most s es accepted k taken t = go (contentOf es k) refl
 
 -- Steps 1 and 2
 
-module _ (s : List ℕ) (es : List Element) (t : Token) where
+module _ (s : List ℕ) (es : List Element) (D : Decisions) (t : Token) where
   -- What becomes of the token, by what is found.
   abbrev pub inwardAs : (at : ℕ) → Way → State → Inward
   inwardAs at (Taken p) z = settled (takePlace p z)
-  inwardAs at (Inferred n) z = settled (takeToken s es (decided s es) t (inferMany s es at n z))
+  inwardAs at (Inferred n) z = settled (takeToken s es D t (inferMany s es D at n z))
   inwardAs at Stuck z = stuck
 
-  pub inward-way : (at : ℕ) (z : State) → inward s es (decided s es) t at z ≡ inwardAs at (wayOf (fitting s es (decided s es) (z .current) t) (chained s es t (z .current))) z
+  pub inward-way : (at : ℕ) (z : State) → inward s es D t at z ≡ inwardAs at (wayOf (fitting s es D (z .current) t) (chained s es D t (z .current))) z
   unfolding inward
-  inward-way at z = by-fit (fitting s es (decided s es) (z .current) t) (chain s es (decided s es) (length es) t (z .current)) refl
+  inward-way at z = by-fit (fitting s es D (z .current) t) (chain s es D (length es) t (z .current)) refl
     where
-      by-fit : (f : ℕ) (c : List ℕ) → chain s es (decided s es) (length es) t (z .current) ≡ c
-          → elim (leb 1 f) [ true ↦ settled (takePlace f z) | false ↦ elim c [ [] ↦ stuck | k ∷ ks ↦ settled (takeToken s es (decided s es) t (inferStarts s es (decided s es) at (k ∷ ks) z)) ] ] ≡ inwardAs at (wayOf f (length c)) z
+      by-fit : (f : ℕ) (c : List ℕ) → chain s es D (length es) t (z .current) ≡ c
+          → elim (leb 1 f) [ true ↦ settled (takePlace f z) | false ↦ elim c [ [] ↦ stuck | k ∷ ks ↦ settled (takeToken s es D t (inferStarts s es D at (k ∷ ks) z)) ] ] ≡ inwardAs at (wayOf f (length c)) z
       by-fit zero [] e = refl
       by-fit zero (k ∷ ks) e =
-          ap (λ y. settled (takeToken s es (decided s es) t y)) (chain-starts s es t at (k ∷ ks) z (chain-leads s es (decided s es) t (length es) (z .current) k ks e))
+          ap (λ y. settled (takeToken s es D t y)) (chain-starts s es D t at (k ∷ ks) z (chain-leads s es D t (length es) (z .current) k ks e))
       by-fit (suc f) c e = rw (le-leb 1 (suc f) (omega arith))
 
   -- As many starts as are found can be inferred.
-  pub way-infers : (n : ℕ) (o : rules.Open) → Inferred n ≡ wayOf (fitting s es (decided s es) o t) (chained s es t o) → Infers s es n o × (n ≤ length es)
-  way-infers n o = by-fit (fitting s es (decided s es) o t) (chain s es (decided s es) (length es) t o) refl
+  pub way-infers : (n : ℕ) (o : rules.Open) → Inferred n ≡ wayOf (fitting s es D o t) (chained s es D t o) → Infers s es D t n o
+  way-infers n o = by-fit (fitting s es D o t) (chain s es D (length es) t o) refl
     where
-      by-fit : (f : ℕ) (c : List ℕ) → chain s es (decided s es) (length es) t o ≡ c → Inferred n ≡ wayOf f (length c) → Infers s es n o × (n ≤ length es)
+      by-fit : (f : ℕ) (c : List ℕ) → chain s es D (length es) t o ≡ c → Inferred n ≡ wayOf f (length c) → Infers s es D t n o
       by-fit zero [] e w = absurd (let z : _≡_ {A = ℕ} 0 1 = cc in omega arith)
       by-fit zero (k ∷ ks) e w =
           let i : n ≡ length (k ∷ ks) = cc in
-          rw i (chain-infers s es t (k ∷ ks) o (chain-leads s es (decided s es) t (length es) o k ks e), omega (arith, chain-most s es t (length es) o, ap length e))
+          rw i (chain-infers s es D t (k ∷ ks) o (chain-leads s es D t (length es) o k ks e))
       by-fit (suc f) c e w = absurd (let z : _≡_ {A = ℕ} 0 1 = cc in omega arith)
 
 -- The limit
@@ -81,14 +80,18 @@ limited-many at z l = rw (lt-ltb 24 (length (z .around)) l, limited)
 
 -- The state of the code, where z is the rules' state
 module _ (o : Open) (ev : List Event) (z : State) (same : short z ≡ stateOf o ev) where
-  pub same-deep : length (z .around) ≡ o .top .count
+  pub same-deep : length (z .around) ≡ o .count
   same-deep = sym (allLast-length (z .around)) ∙ ap (λ (y : State). length (y .around)) same ∙ around-length o
 
   pub same-fits : (s : List ℕ) (es : List Element) (t : Token) → fitting s es (decided s es) (z .current) t ≡ fitting s es (decided s es) (current o) t
   same-fits s es t = fitting-short s es (z .current) t ∙ ap (λ (y : State). fitting s es (decided s es) (y .current) t) same
 
-  -- A place is taken where at most 24 are open.
-  pub same-took : (rows : List ℕ) (at p : ℕ) → o .top .count ≤ 24 → shortly (limited at (takePlace p z)) ≡ got (stateOf (took rows p o) ev)
-  same-took rows at p l =
-      ap shortly (limited-few at (takePlace p z) (omega (arith, same-deep)))
-      ∙ ap got (takePlace-short p z ∙ ap (λ (y : State). short (takePlace p y)) same ∙ ap₂ (λ u us. state u us ev) (lastOnly-took (current o) p) (around-short o))
+  -- A place is taken.
+  pub same-took : (rows : List ℕ) (p : ℕ) → short (takePlace p z) ≡ stateOf (took rows p o) ev
+  same-took rows p = takePlace-short p z ∙ ap (λ (y : State). short (takePlace p y)) same ∙ ap₂ (λ u us. state u us ev) (lastOnly-took (current o) p) (around-last o)
+
+-- The token fits as a place, which is the one that is found.
+pub way-fits : (p f n : ℕ) → Taken p ≡ wayOf f n → (p ≡ f) × (p ≡ 0 → ⊥)
+way-fits p zero zero e = absurd (let z : _≡_ {A = ℕ} 0 1 = cc in omega arith)
+way-fits p zero (suc n) e = absurd (let z : _≡_ {A = ℕ} 0 1 = cc in omega arith)
+way-fits p (suc f) n e = let i : p ≡ suc f = cc in (i, λ z. omega arith)

@@ -1,241 +1,199 @@
--- A start tag and a run of data, once they are settled: what is noted, opened and refused.
-use Prim.Native.Nat.{ℕ, zero, suc, _+_, _-_, _≤_, _<_}
-use mathlib.Core.Path.{_≡_, refl, sym, _∙_, ap, ap₂, subst}
+-- The whole of a token: the ends, the starts and its place, put together as the rules have them.
+use Prim.Native.Nat.{ℕ, zero, suc, _+_, _≤_, _<_}
+use mathlib.Core.Path.{_≡_, refl, sym, _∙_, ap, ap₂}
 use mathlib.Core.Bool.{true, false}
-use mathlib.Core.List.{List, [], _∷_, _++_}
-use native.Mathlib.Decide.{decLt}
+use mathlib.Core.List.{List, [], _∷_, _++_, append-assoc, append-nil}
 use native.Mathlib.Omega.{arith}
-use lib.ListN.{length, set}
+use lib.ListN.{length, length-append}
 use Rattle.rules.specs.Reading.{Reading, refused, got, andThen}
 use Rattle.rules.specs.TypeFile.{Element}
-use Rattle.rules.specs.Settling.{contentOf, hasModel, Token, start, pcdata, Event, startWritten, endOfEmpty, dataRun, State, enter, note, limited, isOver, settleFrom, settle, startElement}
+use Rattle.rules.specs.Settling.{Token, Decisions, Event, State, takePlace, fitting, takeToken, isOver, settleFrom, settle, startElement}
 use Rattle.document_laws.specs.Decide.{decided}
 use Rattle.last_places.specs.Last.{short, shortly, takeRun}
-use Rattle.last_places.specs.Short.{state}
-use Rattle.type_tables.specs.Means.{standing}
-use Rattle.open_elements.specs.declared.Top.{Top}
+use Rattle.type_tables.specs.Means.{width, Tables}
 use Rattle.open_elements.specs.declared.Open.{Open}
-use Rattle.open_elements.specs.Means.{openOf, current, around, covered, stateOf, eventsIn, outcomeOf, outcome, Stands}
-use Rattle.open_elements.specs.Whole.{opening, bringing, refusing}
-use Rattle.open_elements.specs.Laws.{around-opening, stands-bringing, events-more}
-use Rattle.settling.specs.Means.{tokenOf, takes, reads, Settled, WritesStart, Writes}
-use Rattle.settling.specs.Inward.{limited-few, limited-many, same-deep}
+use Rattle.open_elements.specs.declared.Outcome.{Outcome}
+use Rattle.open_elements.specs.Means.{current, around, stateOf, took, outcomeOf, Ranged, Stands}
+use Rattle.open_elements.specs.Laws.{around-length, stateOf-short, stands-requires, stands-took}
+use Rattle.event_buffer.specs.Laws.{puts-none, puts-then}
+use Rattle.ways.specs.declared.Way.{Way}
+use Rattle.ways.specs.declared.Way.the-variants.{Taken, Inferred, Stuck}
+use Rattle.ways.specs.Means.{tokenOf, tokenOf-number, tokenOf-declared, wayOf, chained, startsOf, placeOf}
+use Rattle.settling.specs.declared.Stop.{Stop}
+use Rattle.settling.specs.Means.{takes, noting, Comes, Stops, inferMany, InfersOn, Along, Places, SettledAs, Settles}
+use Rattle.settling.specs.Starts.{infer-deeper, along-all}
+use Rattle.settling.specs.Inward.{fits-most, way-fits, way-infers, same-fits, same-took}
+use Rattle.settling.specs.Ends.{found-settled, found-refused}
+use Rattle.settling.specs.Places.{noting-many}
 
--- Readings
+-- What the rules make of a token: it is settled, then noted.
+takes-noting : (s : List ℕ) (es : List Element) (x at after : ℕ) (z : State) → takes s es x at after z ≡ andThen (settle s es (decided s es) (tokenOf x) at z) (noting es x at after)
+unfolding startElement takeRun
+takes-noting s es zero at after z = refl
+takes-noting s es (suc k) at after z = refl
 
-then-limited : (at : ℕ) (r : Reading State) (f : State → Reading State) → ((y : State) → andThen (limited at y) f ≡ f y) → andThen r f ≡ andThen (andThen r (limited at)) f
-then-limited at (refused n k) f e = refl
-then-limited at (got y) f e = sym (e y)
+settle-over : (s : List ℕ) (es : List Element) (D : Decisions) (t : Token) (at : ℕ) (z : State) → isOver s es D z ≡ true → settle s es D t at z ≡ refused 16 at
+unfolding settle
+settle-over s es D t at z e = rw (e, settle)
 
-then-then : (at : ℕ) (r : Reading State) (f : State → Reading State) → andThen r (λ y. andThen (limited at y) f) ≡ andThen (andThen r (limited at)) f
-then-then at (refused n k) f = refl
-then-then at (got y) f = refl
+settle-on : (s : List ℕ) (es : List Element) (D : Decisions) (t : Token) (at : ℕ) (z : State) → isOver s es D z ≡ false → settle s es D t at z ≡ settleFrom s es D t at (z .around) (z .current) (z .events)
+unfolding settle
+settle-on s es D t at z e = rw (e, settle)
 
--- A refusal stays, whatever follows.
-then-stops : (at n : ℕ) (z : State) (q : Reading State) (f : State → Reading State) → (n ≡ 0 → ⊥) → outcomeOf at n z ≡ shortly q → outcomeOf at n z ≡ shortly (andThen q f)
-then-stops at zero z q f h e = absurd (h refl)
-then-stops at (suc n) z (refused m k) f h e = e
-then-stops at (suc n) z (got y) f h e = absurd (let q : _≡_ {A = ℕ} 0 1 = cc in omega arith)
-
-then-goes : (at n : ℕ) (z : State) (q : Reading State) → n ≡ 0 → outcomeOf at n z ≡ shortly q → (y : State) × (q ≡ got y) × (short y ≡ z)
-then-goes at zero z (refused m k) h e = absurd (let q : _≡_ {A = ℕ} 0 1 = cc in omega arith)
-then-goes at zero z (got y) h e = (y, refl, cc)
-then-goes at (suc n) z q h e = absurd (omega arith)
-
-outcome-got : (at n : ℕ) (z y : State) → n ≡ 0 → z ≡ y → outcomeOf at n z ≡ got y
-outcome-got at zero z y h e = ap got e
-outcome-got at (suc n) z y h e = absurd (omega arith)
-
-outcome-refused : (at n : ℕ) (z : State) → 1 ≤ n → outcomeOf at n z ≡ refused n at
-outcome-refused at zero z l = absurd (omega arith)
-outcome-refused at (suc n) z l = refl
-
--- What follows once a start tag is settled.
-module _ (es : List Element) (k at after : ℕ) where
-  abbrev tag : Event
-  tag = startWritten k at after
-
-  abbrev begun : State → Reading State
-  begun y =
-      andThen (limited at (enter k y)) λ x.
-      elim (hasModel (contentOf es k)) [ true ↦ got (note tag x) | false ↦ got (note (endOfEmpty k after) (note tag y)) ]
-
-  -- The limit refuses one more wherever it refuses those that are open.
-  begun-limited : (y : State) → andThen (limited at y) begun ≡ begun y
-  begun-limited y = by-depth (decLt 24 (length (y .around)))
-    where
-      by-depth : Dec (24 < length (y .around)) → andThen (limited at y) begun ≡ begun y
-      by-depth (yes l) = rw (limited-many at y l, limited-many at (enter k y) (omega arith))
-      by-depth (no l) = rw (limited-few at y (omega arith))
-
-  module _ (o : Open) (ev : List Event) (y : State) (same : short y ≡ stateOf o ev) where
-    begun-many : 24 ≤ o .top .count → begun y ≡ refused 15 at
-    begun-many l = rw (limited-many at (enter k y) (omega (arith, same-deep o ev y same)))
-
-    begun-model : o .top .count < 24 → hasModel (contentOf es k) ≡ true → shortly (begun y) ≡ got (state (standing k 0) (current o ∷ around o) (ev ++ tag ∷ []))
-    begun-model l h =
-        rw (limited-few at (enter k y) (omega (arith, same-deep o ev y same)), h) (ap (λ (w : State). got (state (standing k 0) (w .current ∷ w .around) (w .events ++ tag ∷ []))) same)
-
-    begun-empty : o .top .count < 24 → hasModel (contentOf es k) ≡ false → shortly (begun y) ≡ got (state (current o) (around o) ((ev ++ tag ∷ []) ++ endOfEmpty k after ∷ []))
-    begun-empty l h =
-        rw (limited-few at (enter k y) (omega (arith, same-deep o ev y same)), h) (ap (λ (w : State). got (state (w .current) (w .around) ((w .events ++ tag ∷ []) ++ endOfEmpty k after ∷ []))) same)
+outcome-refused : (at n m : ℕ) (z : State) → n ≡ m → 1 ≤ m → outcomeOf at n z ≡ refused m at
+outcome-refused at n zero z e l = absurd (omega arith)
+outcome-refused at n (suc m) z e l = rw e
 
 -- The token comes after the document.
+pub settles-over : (rows places facts : List ℕ) (x at after n : ℕ) (o : Open) (numbers bytes : List ℕ) → Ranged o
+    → ((s : List ℕ) (es : List Element) → Stands es o → (before : List Event) → isOver s es (decided s es) (stateOf o before) ≡ true)
+    → Settles rows places facts x at after n o numbers bytes (record { «open» = o; events = n; number = 16 }) numbers bytes
+settles-over rows places facts x at after n o numbers bytes h over =
+    record {
+      ranged = h;
+      small = omega arith;
+      events = [];
+      puts = puts-none numbers bytes n;
+      counted = omega arith;
+      few = omega arith;
+      settles = λ s es tables stands most.
+          record {
+            comes = λ before.
+                sym (ap shortly (takes-noting s es x at after (stateOf o before) ∙ ap (λ q. andThen q (noting es x at after)) (settle-over s es (decided s es) (tokenOf x) at (stateOf o before) (over s es stands before))));
+            stands = λ z. absurd (omega arith);
+          };
+    }
 
-settle-over : (s : List ℕ) (es : List Element) (t : Token) (at : ℕ) (z : State) → isOver s es (decided s es) z ≡ true → settle s es (decided s es) t at z ≡ refused 16 at
-unfolding settle
-settle-over s es t at z e = rw (e, settle)
+module _ {rows places facts : List ℕ} {x at n : ℕ} {o₀ : Open} {numbers₀ bytes₀ : List ℕ} {f : Stop} {numbers bytes : List ℕ} (after : ℕ) (most₀ : o₀ .count ≤ 24)
+    (on : (s : List ℕ) (es : List Element) → Stands es o₀ → (before : List Event) → isOver s es (decided s es) (stateOf o₀ before) ≡ false)
+    (h : Stops rows places facts x at n o₀ numbers₀ bytes₀ f numbers bytes) where
+  module _ (s : List ℕ) (es : List Element) (tables : Tables s es rows places facts) (stands : Stands es o₀) (most : x ≤ length es) where
+    abbrev t : Token
+    t = tokenOf x
 
-settle-on : (s : List ℕ) (es : List Element) (t : Token) (at : ℕ) (z : State) → isOver s es (decided s es) z ≡ false → settle s es (decided s es) t at z ≡ settleFrom s es (decided s es) t at (z .around) (z .current) (z .events)
-unfolding settle
-settle-on s es t at z e = rw (e, settle)
+    come : Comes s es t at (f .open) (h .turns .events) o₀
+    come = h .turns .comes s es tables stands t (tokenOf-number x) (tokenOf-declared es x most)
 
--- What becomes of a token that is refused.
-refusing-outcome : (at n : ℕ) (o r : Open) (events : List ℕ) (before : List Event) → 1 ≤ n → r ≡ refusing n o → outcome at r events before ≡ refused n at
-refusing-outcome at n o r events before l e = rw e (outcome-refused at n _ l)
+    found : f .found ≡ wayOf (fitting s es (decided s es) (current (f .open)) t) (chained s es (decided s es) t (current (f .open)))
+    found = h .finds s es tables (stands-requires (come .stands)) t (tokenOf-number x) (tokenOf-declared es x most)
 
--- A start tag
+    -- What is settled from the state come to is noted.
+    from-there : (before : List Event) (q : Reading State) → settleFrom s es (decided s es) t at (around (f .open)) (current (f .open)) (before ++ h .turns .events) ≡ q
+        → takes s es x at after (stateOf o₀ before) ≡ andThen q (noting es x at after)
+    from-there before q e =
+        takes-noting s es x at after (stateOf o₀ before)
+        ∙ ap (λ r. andThen r (noting es x at after)) (settle-on s es (decided s es) t at (stateOf o₀ before) (on s es stands before) ∙ sym (come .same before) ∙ e)
 
-module _ (s : List ℕ) (es : List Element) (k at after : ℕ) (o₀ : Open) (before : List Event) where
-  abbrev tagged : Reading State
-  tagged = startElement s es (decided s es) k at after (stateOf o₀ before)
+    -- so many starts would be too many
+    many : (k : ℕ) → f .found ≡ Inferred k → 24 < f .open .count + k → (before : List Event) → refused 15 at ≡ shortly (takes s es x at after (stateOf o₀ before))
+    many k e l before =
+        let ev = before ++ h .turns .events in
+        let z = inferMany s es (decided s es) at k (stateOf (f .open) ev) in
+        sym
+        (ap shortly
+        (from-there before (got (takeToken s es (decided s es) t z)) (found-settled s es (decided s es) t at (f .open) (Inferred k) (sym e ∙ found) ev _ refl)
+        ∙ noting-many es x at after (takeToken s es (decided s es) t z) (omega (arith, infer-deeper s es (decided s es) at k (stateOf (f .open) ev), around-length (f .open)))))
 
-  pub tag-over : isOver s es (decided s es) (stateOf o₀ before) ≡ true → {r : Open} (events : List ℕ) → r ≡ refusing 16 o₀ → outcome at r events before ≡ shortly tagged
-  unfolding startElement
-  tag-over e {r} events i =
-      refusing-outcome at 16 o₀ r events before (omega arith) i ∙ ap (λ q. shortly (andThen q (begun es k at after))) (sym (settle-over s es (start k) at (stateOf o₀ before) e))
+  pub settles-many : 24 < f .open .count + startsOf (f .found) → Settles rows places facts x at after n o₀ numbers₀ bytes₀ (record { «open» = f .open; events = f .events; number = 15 }) numbers bytes
+  settles-many l =
+      record {
+        ranged = h .turns .ranged;
+        small = omega arith;
+        events = h .turns .events;
+        puts = h .turns .puts;
+        counted = h .turns .counted;
+        few = omega (arith, h .turns .deep);
+        settles = λ s es tables stands most. record { comes = by-way s es tables stands most (f .found) refl; stands = λ z. absurd (omega arith) };
+      }
+    where
+      by-way : (s : List ℕ) (es : List Element) → Tables s es rows places facts → Stands es o₀ → x ≤ length es → (w : Way) → f .found ≡ w
+          → (before : List Event) → refused 15 at ≡ shortly (takes s es x at after (stateOf o₀ before))
+      by-way s es tables stands most (Taken p) e before = absurd (omega (arith, rw e at l, h .turns .ranged .few))
+      by-way s es tables stands most (Inferred k) e before = many s es tables stands most k e (rw e at l) before
+      by-way s es tables stands most Stuck e before = absurd (omega (arith, rw e at l, h .turns .ranged .few))
 
-  module _ (goes : isOver s es (decided s es) (stateOf o₀ before) ≡ false) {o : Open} {events : List ℕ} (h : Settled es at o events (reads s es (start k) at o₀)) where
-    tag-on : tagged ≡ andThen (reads s es (start k) at o₀ before) (begun es k at after)
-    unfolding startElement
-    tag-on =
-        ap (λ q. andThen q (begun es k at after)) (settle-on s es (start k) at (stateOf o₀ before) goes)
-        ∙ then-limited at (settleFrom s es (decided s es) (start k) at (around o₀) (current o₀) before) (begun es k at after) (begun-limited es k at after)
+  -- The starts are inferred, and the token takes its place.
+  module _ {starts : ℕ} {o : Open} {numbers′ bytes′ : List ℕ} (counted : starts ≡ startsOf (f .found)) (few : f .open .count + starts ≤ 24)
+      (a : Along rows places facts at (f .events) starts starts (f .open) numbers bytes o numbers′ bytes′)
+      {r : Outcome} {numbers″ bytes″ : List ℕ} (placed : Places rows places facts (f .found) x at after (f .events + starts) o numbers′ bytes′ r numbers″ bytes″) where
+    abbrev events : List Event
+    events = (h .turns .events ++ a .events) ++ placed .events
 
-    pub tag-stops : (o .top .number ≡ 0 → ⊥) → outcome at o events before ≡ shortly tagged
-    tag-stops n = then-stops at (o .top .number) _ (reads s es (start k) at o₀ before) (begun es k at after) n (h .comes before) ∙ ap shortly (sym tag-on)
+    regroup : (before : List Event) → before ++ events ≡ ((before ++ h .turns .events) ++ a .events) ++ placed .events
+    regroup before = simp append-assoc
 
-    module _ (clear : o .top .number ≡ 0) where
-      abbrev ev : List Event
-      ev = before ++ eventsIn events (o .top .events)
+    module _ (s : List ℕ) (es : List Element) (tables : Tables s es rows places facts) (stands : Stands es o₀) (most : x ≤ length es) where
+      -- The token has the place p after the starts, in the state whose short form is that of the code.
+      as-placed : Stands es o → placed .p ≤ width es (o .element) → (placed .p ≡ 0 → ⊥)
+          → ((before : List Event) → (z : State) × (short z ≡ stateOf o ((before ++ h .turns .events) ++ a .events)) × (settleFrom s es (decided s es) (tokenOf x) at (around (f .open)) (current (f .open)) (before ++ h .turns .events) ≡ got (takePlace (placed .p) z)))
+          → SettledAs s es x at after o₀ events r
+      as-placed there wide some goes =
+          let notes = placed .notes some s es tables (stands-took (tables .accepted) (tables .rows-say) (placed .p) there wide) most in
+          record {
+            comes = λ before.
+                let (z, same, settled) = goes before in
+                ap (λ l. outcomeOf at (r .number) (stateOf (r .open) l)) (regroup before)
+                ∙ notes .comes ((before ++ h .turns .events) ++ a .events) (takePlace (placed .p) z) (same-took o ((before ++ h .turns .events) ++ a .events) z same rows (placed .p))
+                ∙ sym (ap shortly (from-there s es tables stands most before (got (takePlace (placed .p) z)) settled));
+            stands = notes .stands;
+          }
 
-      tag-goes : (y : State) × (shortly tagged ≡ shortly (begun es k at after y)) × (short y ≡ stateOf o ev)
-      tag-goes =
-          let (y, e, same) = then-goes at (o .top .number) (stateOf o ev) (reads s es (start k) at o₀ before) clear (h .comes before) in
-          (y, ap shortly tag-on ∙ ap (λ q. shortly (andThen q (begun es k at after))) e, same)
+      by-way : (w : Way) → f .found ≡ w → SettledAs s es x at after o₀ events r
+      by-way (Taken p) e =
+          let t = tokenOf x in
+          let o₁ = f .open in
+          let (fits, some) = way-fits p (fitting s es (decided s es) (current o₁) t) (chained s es (decided s es) t (current o₁)) (sym e ∙ found s es tables stands most) in
+          let none : starts ≡ 0 = counted ∙ ap startsOf e in
+          let (same, same-events) = a .still none in
+          let there : Stands es o = rw same (come s es tables stands most .stands) in
+          let here : placed .p ≡ p = placed .place s es tables there most ∙ ap (placeOf (fitting s es (decided s es) (current o) t)) e in
+          as-placed there (rw (here, fits, same) (fits-most s es (tables .accepted) (o₁ .element) (current o₁ .taken) t)) (λ z. some (sym here ∙ z)) λ before.
+          let ev = before ++ h .turns .events in (
+            stateOf o₁ ev,
+            stateOf-short o₁ ev ∙ ap₂ stateOf (sym same) (sym (rw (same-events, append-nil))),
+            found-settled s es (decided s es) t at o₁ (Taken p) (sym e ∙ found s es tables stands most) ev _ refl ∙ ap (λ q. got (takePlace q (stateOf o₁ ev))) (sym here),
+          )
+      by-way (Inferred m) e =
+          let t = tokenOf x in
+          let o₁ = f .open in
+          let inferred = sym e ∙ found s es tables stands most in
+          let n-starts : starts ≡ m = counted ∙ ap startsOf e in
+          let i = rw n-starts at (along-all rows places facts at (f .events) starts a (omega arith) s es tables (come s es tables stands most .stands) t (rw n-starts (way-infers s es (decided s es) t m (current o₁) inferred))) in
+          let here : placed .p ≡ fitting s es (decided s es) (current o) t = placed .place s es tables (i .stands) most ∙ ap (placeOf (fitting s es (decided s es) (current o) t)) e in
+          as-placed (i .stands) (rw here (fits-most s es (tables .accepted) (o .element) (current o .taken) t)) (λ z. omega (arith, i .infers, here)) λ before.
+          let ev = before ++ h .turns .events in
+          let z = inferMany s es (decided s es) at m (stateOf o₁ ev) in
+          let same : short z ≡ stateOf o (ev ++ a .events) = sym (i .same ev) ∙ stateOf-short o (ev ++ a .events) in (
+            z,
+            same,
+            found-settled s es (decided s es) t at o₁ (Inferred m) inferred ev _ refl ∙ ap (λ q. got (takePlace q z)) (same-fits o (ev ++ a .events) z same s es t ∙ sym here),
+          )
+      by-way Stuck e =
+          let o₁ = f .open in
+          let none : starts ≡ 0 = counted ∙ ap startsOf e in
+          let (same, same-events) = a .still none in
+          let there : Stands es o = rw same (come s es tables stands most .stands) in
+          let refuses : r .number ≡ 12 = placed .stuck (placed .place s es tables there most ∙ ap (placeOf (fitting s es (decided s es) (current o) (tokenOf x))) e) in
+          record {
+            comes = λ before.
+                let ev = before ++ h .turns .events in
+                outcome-refused at (r .number) 12 _ refuses (omega arith)
+                ∙ sym
+                (ap shortly
+                (from-there s es tables stands most before (refused 12 at)
+                (found-refused s es (decided s es) (tokenOf x) at o₁ (f .found) (found s es tables stands most) ev e (sym (h .stays e s es (tables .facts-say) (come s es tables stands most .stands))))));
+            stands = λ z. absurd (omega arith);
+          }
 
-      pub tag-many : 24 ≤ o .top .count → {r : Open} → r ≡ refusing 15 o → outcome at r events before ≡ shortly tagged
-      tag-many l {r} i =
-          let (y, e, same) = tag-goes in
-          refusing-outcome at 15 o r events before (omega arith) i ∙ sym (e ∙ ap shortly (begun-many es k at after o ev y same l))
-
-      module _ (less : o .top .count < 24) (n : ℕ) (events' : List ℕ) (counted : n ≡ o .top .events + 1) (noted : eventsIn events' (o .top .events + 1) ≡ eventsIn events (o .top .events) ++ startWritten k at after ∷ []) where
-        -- the events with the tag
-        with-tag : before ++ eventsIn events' n ≡ ev ++ startWritten k at after ∷ []
-        with-tag = rw counted (events-more before (eventsIn events (o .top .events)) (startWritten k at after) noted)
-
-        pub tag-opens : hasModel (contentOf es k) ≡ true → (rows : List ℕ) {r : Open} → r ≡ bringing n (opening rows k o) → outcome at r events' before ≡ shortly tagged
-        tag-opens m rows i =
-            let (y, e, same) = tag-goes in
-            rw i
-            (outcome-got at (o .top .number) _ _ clear (ap₂ (λ us v. state (standing k 0) us v) (around-opening rows k o (h .stands clear .whole) less) with-tag)
-            ∙ sym (e ∙ begun-model es k at after o ev y same less m))
-
-      pub tag-empty : o .top .count < 24 → hasModel (contentOf es k) ≡ false → (events' : List ℕ)
-          → eventsIn events' (o .top .events + 1 + 1) ≡ (eventsIn events (o .top .events) ++ startWritten k at after ∷ []) ++ endOfEmpty k after ∷ [] → {r : Open} → r ≡ bringing (o .top .events + 1 + 1) o
-          → outcome at r events' before ≡ shortly tagged
-      tag-empty less none events' noted i =
-          let (y, e, same) = tag-goes in
-          let own = eventsIn events (o .top .events) in
-          let with-end : before ++ eventsIn events' (o .top .events + 1 + 1) ≡ (ev ++ startWritten k at after ∷ []) ++ endOfEmpty k after ∷ [] =
-          events-more before (own ++ startWritten k at after ∷ []) (endOfEmpty k after) noted ∙ ap (λ v. v ++ endOfEmpty k after ∷ []) (events-more before own (startWritten k at after) refl) in
-          rw i (outcome-got at (o .top .number) _ _ clear (ap (state (current o) (around o)) with-end) ∙ sym (e ∙ begun-empty es k at after o ev y same less none))
-
--- A run of data
-
-module _ (s : List ℕ) (es : List Element) (at size : ℕ) (o₀ : Open) (before : List Event) where
-  abbrev run : Reading State
-  run = takeRun s es (decided s es) at size (stateOf o₀ before)
-
-  abbrev noting : State → Reading State
-  noting y = got (state (y .current) (y .around) (y .events ++ dataRun at size ∷ []))
-
-  pub run-over : isOver s es (decided s es) (stateOf o₀ before) ≡ true → {r : Open} (events : List ℕ) → r ≡ refusing 16 o₀ → outcome at r events before ≡ shortly run
-  unfolding takeRun
-  run-over e {r} events i =
-      refusing-outcome at 16 o₀ r events before (omega arith) i ∙ ap (λ q. shortly (andThen q (λ y. andThen (limited at y) noting))) (sym (settle-over s es pcdata at (stateOf o₀ before) e))
-
-  module _ (goes : isOver s es (decided s es) (stateOf o₀ before) ≡ false) {o : Open} {events : List ℕ} (h : Settled es at o events (reads s es pcdata at o₀)) where
-    run-on : run ≡ andThen (reads s es pcdata at o₀ before) noting
-    unfolding takeRun
-    run-on =
-        ap (λ q. andThen q (λ y. andThen (limited at y) noting)) (settle-on s es pcdata at (stateOf o₀ before) goes)
-        ∙ then-then at (settleFrom s es (decided s es) pcdata at (around o₀) (current o₀) before) noting
-
-    pub run-stops : (o .top .number ≡ 0 → ⊥) → outcome at o events before ≡ shortly run
-    run-stops n = then-stops at (o .top .number) _ (reads s es pcdata at o₀ before) noting n (h .comes before) ∙ ap shortly (sym run-on)
-
-    pub run-noted : o .top .number ≡ 0 → (n : ℕ) (events' : List ℕ) → n ≡ o .top .events + 1 → eventsIn events' (o .top .events + 1) ≡ eventsIn events (o .top .events) ++ dataRun at size ∷ []
-        → {r : Open} → r ≡ bringing n o → outcome at r events' before ≡ shortly run
-    run-noted clear n events' counted noted i =
-        let ev = before ++ eventsIn events (o .top .events) in
-        let (y, e, same) = then-goes at (o .top .number) (stateOf o ev) (reads s es pcdata at o₀ before) clear (h .comes before) in
-        let with-run : before ++ eventsIn events' n ≡ ev ++ dataRun at size ∷ [] = rw counted (events-more before (eventsIn events (o .top .events)) (dataRun at size) noted) in
-        rw i
-        (outcome-got at (o .top .number) _ _ clear (ap (state (current o) (around o)) with-run)
-        ∙ sym (ap shortly run-on ∙ ap (λ q. shortly (andThen q noting)) e ∙ ap (λ (w : State). got (state (w .current) (w .around) (w .events ++ dataRun at size ∷ []))) same))
-
--- Either of them
-
-module _ (s : List ℕ) (es : List Element) where
-  pub takes-start : (x at after : ℕ) (z : State) → (x ≡ 0 → ⊥) → takes s es x at after z ≡ startElement s es (decided s es) x at after z
-  takes-start zero at after z h = absurd (h refl)
-  takes-start (suc k) at after z h = refl
-
-  pub takes-run : (x at after : ℕ) (z : State) → x ≡ 0 → takes s es x at after z ≡ takeRun s es (decided s es) at (after - at) z
-  takes-run zero at after z h = refl
-  takes-run (suc k) at after z h = absurd (omega arith)
-
-  pub takes-over : (x at after : ℕ) (o₀ : Open) (before : List Event) → isOver s es (decided s es) (stateOf o₀ before) ≡ true → {r : Open} (events : List ℕ) → r ≡ refusing 16 o₀ → outcome at r events before ≡ shortly (takes s es x at after (stateOf o₀ before))
-  takes-over zero at after o₀ before = run-over s es at (after - at) o₀ before
-  takes-over (suc k) at after o₀ before = tag-over s es (suc k) at after o₀ before
-
-  pub takes-stops : (x at after : ℕ) (o₀ : Open) (before : List Event) → isOver s es (decided s es) (stateOf o₀ before) ≡ false → {o : Open} {events : List ℕ} → Settled es at o events (reads s es (tokenOf x) at o₀) → (o .top .number ≡ 0 → ⊥) → outcome at o events before ≡ shortly (takes s es x at after (stateOf o₀ before))
-  takes-stops zero at after o₀ before goes h n = run-stops s es at (after - at) o₀ before goes h n
-  takes-stops (suc k) at after o₀ before goes h n = tag-stops s es (suc k) at after o₀ before goes h n
-
-  -- The token has its place: there is no room, or it is an element that is opened, or it is noted.
-  pub takes-many : (x at after : ℕ) (o₀ : Open) (before : List Event) → isOver s es (decided s es) (stateOf o₀ before) ≡ false → {o : Open} {events : List ℕ} → Settled es at o events (reads s es (tokenOf x) at o₀) → o .top .number ≡ 0
-      → (x ≡ 0 → ⊥) → 24 ≤ o .top .count → {r : Open} → r ≡ refusing 15 o → outcome at r events before ≡ shortly (takes s es x at after (stateOf o₀ before))
-  takes-many zero at after o₀ before goes h clear some l i = absurd (some refl)
-  takes-many (suc k) at after o₀ before goes h clear some l i = tag-many s es (suc k) at after o₀ before goes h clear l i
-
-  pub takes-opens : (x at after : ℕ) (o₀ : Open) (before : List Event) → isOver s es (decided s es) (stateOf o₀ before) ≡ false → {o : Open} {events : List ℕ} → Settled es at o events (reads s es (tokenOf x) at o₀) → o .top .number ≡ 0
-      → (x ≡ 0 → ⊥) → o .top .count < 24 → hasModel (contentOf es x) ≡ true → (rows : List ℕ) {r : Top} (events' : List ℕ) → WritesStart rows x at after (o .top) events r events'
-      → outcome at (openOf (set (o .around) (o .top .count) (covered (o .top))) r) events' before ≡ shortly (takes s es x at after (stateOf o₀ before))
-  takes-opens zero at after o₀ before goes h clear some l m rows events' w = absurd (some refl)
-  takes-opens (suc k) at after o₀ before goes {o} h clear some l m rows {r} events' (e, noted) =
-      tag-opens s es (suc k) at after o₀ before goes h clear l (o .top .events + 1) events' refl noted m rows (ap (openOf (set (o .around) (o .top .count) (covered (o .top)))) e)
-
-  pub takes-written : (x at after : ℕ) (o₀ : Open) (before : List Event) → isOver s es (decided s es) (stateOf o₀ before) ≡ false → {o : Open} {events : List ℕ} → Settled es at o events (reads s es (tokenOf x) at o₀) → o .top .number ≡ 0
-      → ((x ≡ 0 → ⊥) → (o .top .count < 24) × (hasModel (contentOf es x) ≡ false)) → {r : Top} (events' : List ℕ) → Writes x at after (o .top) events r events'
-      → outcome at (openOf (o .around) r) events' before ≡ shortly (takes s es x at after (stateOf o₀ before))
-  takes-written zero at after o₀ before goes {o} h clear none {r} events' w =
-      run-noted s es at (after - at) o₀ before goes h clear (o .top .events + 1) events' refl (w .0 refl .1) (ap (openOf (o .around)) (w .0 refl .0))
-  takes-written (suc k) at after o₀ before goes {o} h clear none {r} events' w =
-      let some : suc k ≡ 0 → ⊥ = (λ z. omega arith) in
-      tag-empty s es (suc k) at after o₀ before goes h clear (none some .0) (none some .1) events' (w .1 some .1) (ap (openOf (o .around)) (w .1 some .0))
-
--- What is written of a token
-module _ (at after : ℕ) (events : List ℕ) {r : Top} (events' : List ℕ) where
-  pub stands-written : (x : ℕ) {es : List Element} (o : Open) → Stands es o → Writes x at after (o .top) events r events' → Stands es (openOf (o .around) r)
-  stands-written zero {es} o h w = subst (λ (u : Top). Stands es (openOf (o .around) u)) (sym (w .0 refl .0)) (stands-bringing (o .top .events + 1) h)
-  stands-written (suc k) {es} o h w = subst (λ (u : Top). Stands es (openOf (o .around) u)) (sym (w .1 (λ z. omega arith) .0)) (stands-bringing (o .top .events + 1 + 1) h)
-
-  pub written-few : (x : ℕ) (o : Top) → Writes x at after o events r events' → (r .events ≤ o .events + 2) × (r .number ≡ o .number)
-  written-few zero o w = let e = w .0 refl .0 in (omega (arith, ap (λ (u : Top). u .events) e), ap (λ (u : Top). u .number) e)
-  written-few (suc k) o w = let e = w .1 (λ z. omega arith) .0 in (omega (arith, ap (λ (u : Top). u .events) e), ap (λ (u : Top). u .number) e)
-
--- Two events, one after the other.
-pub events-two : (l l' l″ : List ℕ) (n m : ℕ) (a b : Event) → n ≡ m + 1 → eventsIn l' (m + 1) ≡ eventsIn l m ++ a ∷ [] → eventsIn l″ (n + 1) ≡ eventsIn l' n ++ b ∷ [] → eventsIn l″ (m + 1 + 1) ≡ (eventsIn l m ++ a ∷ []) ++ b ∷ []
-events-two l l' l″ n m a b e h i = ap (λ j. eventsIn l″ (j + 1)) (sym e) ∙ i ∙ ap (λ j. eventsIn l' j ++ b ∷ []) e ∙ ap (λ v. v ++ b ∷ []) h
+    pub settles-placed : Settles rows places facts x at after n o₀ numbers₀ bytes₀ r numbers″ bytes″
+    settles-placed =
+        let first : f .events + starts ≡ n + length (h .turns .events ++ a .events) = simp length-append (omega (arith, h .turns .counted, a .counted)) in
+        record {
+          ranged = placed .ranged;
+          small = placed .small;
+          events = events;
+          puts = puts-then (puts-then (h .turns .puts) (h .turns .counted) (a .puts)) first (placed .puts);
+          counted = placed .counted ∙ simp length-append (omega (arith, simp length-append at first));
+          few = simp length-append (omega (arith, h .turns .deep, a .counted, placed .few));
+          settles = λ s es tables stands most. by-way s es tables stands most (f .found) refl;
+        }

@@ -1,13 +1,13 @@
 -- A computed test of what the rules say of a type file with one element, and that it is right.
 use Prim.Native.Nat.{ℕ, zero, suc, _-_}
-use mathlib.Core.Path.{_≡_, refl, sym, _∙_, ap, subst}
-use mathlib.Core.Bool.{Bool, true, false, _&&_}
+use mathlib.Core.Path.{_≡_, refl, sym, subst}
+use mathlib.Core.Bool.{Bool, true, false, _&&_, false≢true}
 use mathlib.Core.List.{List, [], _∷_}
 use lib.Dec.{eqb}
 use borrow.Author.Tests.{eqb-true}
 use native.Mathlib.Omega.{arith}
-use Rattle.rules.specs.Reading.{Reading, refused, got}
-use Rattle.rules.specs.TypeFile.{Place, Content, empty, model, Element, typeFile}
+use Rattle.rules.specs.Reading.{got}
+use Rattle.rules.specs.TypeFile.{Content, empty, model, Element, typeFile}
 use Rattle.rules.specs.Judge.{samePlace, placeAt, Unambiguous, AllUnambiguous, PairStandsAt, FirstAmbiguous, here}
 use Rattle.model_sets.specs.Bits.{and-left, and-right}
 use Rattle.model_sets.specs.Pairs.{firstPairOf, firstPairOf-none, firstPairOf-is}
@@ -19,15 +19,10 @@ pub record Example : Type 0 where
   pub first : ℕ
   pub second : ℕ
 
--- The rules read the type, and name just that pair, or no pair is at fault.
+-- The pair p, q is named, or none is at fault.
 abbrev pub Named : List ℕ → ℕ → ℕ → List Element → Type 0
 Named s zero q es = AllUnambiguous s es
 Named s (suc p) q es = (k : ℕ) × FirstAmbiguous s k (suc p) q es
-
-pub record Right (x : Example) : Type 0 where
-  pub elements : List Element
-  pub reads : typeFile (x .text) ≡ got elements
-  pub named : Named (x .text) (x .first) (x .second) elements
 
 -- the two numbers are those of a pair
 unfoldable pub isPair : ℕ × ℕ → ℕ → ℕ → Bool
@@ -37,14 +32,11 @@ unfoldable pub ofContent : List ℕ → ℕ → ℕ → Content → Bool
 ofContent s p q empty = false
 ofContent s p q (model g ps n) = isNumbered g 1 && isPair (firstPairOf (samePlace s ps) g) p q
 
-unfoldable pub readsAs : List ℕ → ℕ → ℕ → Reading (List Element) → Bool
-readsAs s p q (refused n k) = false
-readsAs s p q (got []) = false
-readsAs s p q (got (e ∷ [])) = ofContent s p q (e .content)
-readsAs s p q (got (e ∷ (f ∷ es))) = false
-
-pub false-is : {A : Type 0} → false ≡ true → A
-false-is e = let z : _≡_ {A = ℕ} 0 1 = cc in absurd (omega arith)
+-- the type has one element, and its content is so
+unfoldable pub readsAs : Example → List Element → Bool
+readsAs x [] = false
+readsAs x (e ∷ []) = ofContent (x .text) (x .first) (x .second) (e .content)
+readsAs x (e ∷ (f ∷ es)) = false
 
 pair-is : (r : ℕ × ℕ) (p q : ℕ) → isPair r p q ≡ true → (r .0 ≡ p) × (r .1 ≡ q)
 unfolding isPair
@@ -54,7 +46,7 @@ pair-is r p q e = (eqb-true (r .0) p (and-left (eqb (r .0) p) _ e), eqb-true (r 
 module _ (s : List ℕ) (e : Element) where
   named-in : (p q : ℕ) (c : Content) → e .content ≡ c → ofContent s p q c ≡ true → Named s p q (e ∷ [])
   unfolding ofContent
-  named-in p q empty is t = false-is t
+  named-in p q empty is t = absurd (false≢true t)
   named-in zero q (model g ps n) is t =
       let pair = pair-is (firstPairOf (samePlace s ps) g) zero q (and-right (isNumbered g 1) _ t) in
       (subst (Unambiguous s) (sym is) (firstPairOf-none (samePlace s ps) g (numbered g 1 (and-left (isNumbered g 1) _ t)) (pair .0)), tt)
@@ -63,29 +55,12 @@ module _ (s : List ℕ) (e : Element) where
       let found = firstPairOf-is (samePlace s ps) g (numbered g 1 (and-left (isNumbered g 1) _ t)) (suc p) q (λ i. (pair .0 i, pair .1 i)) (omega arith) in
       (placeAt ps (q - 1) .at, here (subst (λ (c : Content). PairStandsAt s c (placeAt ps (q - 1) .at) (suc p) q) (sym is) (found, refl)))
 
-unfoldable pub test : Example → Bool
-test x = readsAs (x .text) (x .first) (x .second) (typeFile (x .text))
+-- The rules name just that pair of the example, or no pair is at fault.
+abbrev pub NamedSo : Example → List Element → Type 0
+NamedSo x es = Named (x .text) (x .first) (x .second) es
 
-pub right : (x : Example) → test x ≡ true → Right x
-unfolding test readsAs
-right x t = go (typeFile (x .text)) refl t
-  where
-    go : (r : Reading (List Element)) → typeFile (x .text) ≡ r → readsAs (x .text) (x .first) (x .second) r ≡ true → Right x
-    go (refused n k) is u = false-is u
-    go (got []) is u = false-is u
-    go (got (e ∷ [])) is u = record { elements = e ∷ []; reads = is; named = named-in (x .text) e (x .first) (x .second) (e .content) refl u }
-    go (got (e ∷ (f ∷ es))) is u = false-is u
-
--- a list of examples of which each passes the test
-abbrev pub AllRight : List Example → Type 0
-AllRight [] = Unit {0}
-AllRight (x ∷ xs) = Right x × AllRight xs
-
-unfoldable pub allPass : List Example → Bool
-allPass [] = true
-allPass (x ∷ xs) = test x && allPass xs
-
-pub all-right : (xs : List Example) → allPass xs ≡ true → AllRight xs
-unfolding allPass
-all-right [] t = tt
-all-right (x ∷ xs) t = (right x (and-left (test x) _ t), all-right xs (and-right (test x) _ t))
+pub named-so : (x : Example) (es : List Element) → typeFile (x .text) ≡ got es → readsAs x es ≡ true → NamedSo x es
+unfolding readsAs
+named-so x [] is u = absurd (false≢true u)
+named-so x (e ∷ []) is u = named-in (x .text) e (x .first) (x .second) (e .content) refl u
+named-so x (e ∷ (f ∷ es)) is u = absurd (false≢true u)

@@ -3,13 +3,13 @@
 use Prim.Native.Nat.{ℕ}
 use Prim.Native.String.{String}
 use mathlib.Core.Path.{_≡_, refl}
-use mathlib.Core.Bool.{Bool, true, false, _&&_}
+use mathlib.Core.Bool.{Bool, true, _&&_}
 use mathlib.Core.List.{List, [], _∷_}
 use lib.ListN.{length}
 use lib.Dec.{eqb}
 use borrow.Author.Tests.{eqb-true}
 use Rattle.rules.specs.Bytes.{separator, letter, fold, nameByte, span, nameEnd, separatorsEnd, sameText}
-use Rattle.rules.specs.Reading.{Reading, refused, got}
+use Rattle.rules.specs.Reading.{got}
 use Rattle.rules.specs.TypeFile.{beforeDashes, gapWithin, gap, occurrence, nameToken, dataToken, token, further, members, group}
 use Rattle.rules.specs.TypeFile.{isDeclared, elementName, omission, words, head, contentWord, contentModel, content, close, rest, element}
 use Rattle.rules.specs.TypeFile.{commentDeclaration, beforeClose, keyword, markup, declaration, declarationsWithin, Element, typeFile}
@@ -18,7 +18,8 @@ use Rattle.rules.specs.Settling.{numberFrom, numberOf}
 use Rattle.rules.specs.Lookup.{compared}
 use Rattle.model_sets.specs.Bits.{and-left, and-right}
 use Rattle.document_laws.specs.Ascii.{ascii}
-use Rattle.shelf.specs.Check.{false-is}
+use Rattle.document_laws.specs.Check.{Right, passes, allPass, all-right}
+use Rattle.rules_laws.specs.In.{All}
 
 -- A type file, a name, and what looking it up must give.
 pub record Example : Type 0 where
@@ -27,38 +28,19 @@ pub record Example : Type 0 where
   pub number : ℕ
   pub count : ℕ
 
--- The rules read the type, and give that number and that count.
-pub record Right (x : Example) : Type 0 where
-  pub elements : List Element
-  pub reads : typeFile (x .type) ≡ got elements
-  pub numbered : numberOf (x .type) elements (x .name) 0 (length (x .name)) ≡ x .number
-  pub counted : compared (x .type) elements (x .name) 0 (length (x .name)) ≡ x .count
+-- The rules give that number and that count.
+pub record LooksUp (x : Example) (es : List Element) : Type 0 where
+  pub numbered : numberOf (x .type) es (x .name) 0 (length (x .name)) ≡ x .number
+  pub counted : compared (x .type) es (x .name) 0 (length (x .name)) ≡ x .count
 
-unfoldable pub readsAs : Example → Reading (List Element) → Bool
-readsAs x (refused n k) = false
-readsAs x (got es) =
+unfoldable pub readsAs : Example → List Element → Bool
+readsAs x es =
     eqb (numberOf (x .type) es (x .name) 0 (length (x .name))) (x .number) && eqb (compared (x .type) es (x .name) 0 (length (x .name))) (x .count)
 
-pub right : (x : Example) → readsAs x (typeFile (x .type)) ≡ true → Right x
+pub looks-up : (x : Example) (es : List Element) → typeFile (x .type) ≡ got es → readsAs x es ≡ true → LooksUp x es
 unfolding readsAs
-right x t = go (typeFile (x .type)) refl t
-  where
-    go : (r : Reading (List Element)) → typeFile (x .type) ≡ r → readsAs x r ≡ true → Right x
-    go (refused n k) is u = false-is u
-    go (got es) is u = record { elements = es; reads = is; numbered = eqb-true _ _ (and-left _ _ u); counted = eqb-true _ _ (and-right (eqb (numberOf (x .type) es (x .name) 0 (length (x .name))) (x .number)) _ u) }
-
-abbrev pub AllRight : List Example → Type 0
-AllRight [] = Unit {0}
-AllRight (x ∷ xs) = Right x × AllRight xs
-
-unfoldable pub allPass : List Example → Bool
-allPass [] = true
-allPass (x ∷ xs) = readsAs x (typeFile (x .type)) && allPass xs
-
-pub all-right : (xs : List Example) → allPass xs ≡ true → AllRight xs
-unfolding allPass
-all-right [] t = tt
-all-right (x ∷ xs) t = (right x (and-left _ _ t), all-right xs (and-right (readsAs x (typeFile (x .type))) _ t))
+looks-up x es is u =
+    record { numbered = eqb-true _ _ (and-left _ _ u); counted = eqb-true _ _ (and-right (eqb (numberOf (x .type) es (x .name) 0 (length (x .name))) (x .number)) _ u) }
 
 -- Type T with NOTE, which is as long as NAME and begins with the same letter: LIST, ITEM, NAME, QTY, NOTE.
 pub T+ : List ℕ
@@ -83,6 +65,6 @@ lookups =
     named "LAMP" 0 1 ∷
     []
 
-pub lookups-right : AllRight lookups
-unfolding ascii T+ named lookups allPass readsAs numberFrom numberOf compared placeAt separator letter fold nameByte span nameEnd separatorsEnd sameText beforeDashes gapWithin gap occurrence nameToken dataToken token further members group isDeclared elementName omission words head contentWord contentModel content close rest element commentDeclaration beforeClose keyword markup declaration declarationsWithin typeFile
-lookups-right = all-right lookups refl
+pub lookups-right : All (Right (λ (x : Example). x .type) LooksUp) lookups
+unfolding ascii T+ named lookups allPass passes readsAs numberFrom numberOf compared placeAt separator letter fold nameByte span nameEnd separatorsEnd sameText beforeDashes gapWithin gap occurrence nameToken dataToken token further members group isDeclared elementName omission words head contentWord contentModel content close rest element commentDeclaration beforeClose keyword markup declaration declarationsWithin typeFile
+lookups-right = all-right (λ (x : Example). x .type) readsAs looks-up lookups refl

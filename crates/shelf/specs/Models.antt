@@ -1,14 +1,15 @@
 -- Paper 01's shelf: the models marked (p), judged by the rules as the paper says, in one statement.
 use Prim.Native.Nat.{ℕ}
-use mathlib.Core.Path.{_≡_, refl}
+use mathlib.Core.Path.{refl}
 use mathlib.Core.List.{List, [], _∷_, _++_}
 use Rattle.rules.specs.Bytes.{separator, letter, fold, nameByte, span, nameEnd, separatorsEnd, sameText}
 use Rattle.rules.specs.TypeFile.{beforeDashes, gapWithin, gap, occurrence, nameToken, dataToken, token, further, members, group}
 use Rattle.rules.specs.TypeFile.{isDeclared, elementName, omission, words, head, contentWord, contentModel, content, close, rest, element}
 use Rattle.rules.specs.TypeFile.{commentDeclaration, beforeClose, keyword, markup, declaration, declarationsWithin, typeFile}
 use Rattle.rules.specs.Judge.{placeAt}
-use Rattle.shelf.specs.Check.{Example, Right, AllRight, all-right, allPass, test, readsAs, ofContent, isPair}
-use Rattle.document_laws.specs.Check.{isNumbered}
+use Rattle.rules_laws.specs.In.{All}
+use Rattle.shelf.specs.Check.{Example, NamedSo, named-so, readsAs, ofContent, isPair}
+use Rattle.document_laws.specs.Check.{isNumbered, Right, passes, allPass, all-right}
 
 -- `<!ELEMENT X O O ` and `>` around a model
 pub declared : List ℕ → List ℕ
@@ -32,6 +33,6 @@ shelf =
     record { text = declared (40 ∷ 35 ∷ 80 ∷ 67 ∷ 68 ∷ 65 ∷ 84 ∷ 65 ∷ 44 ∷ 40 ∷ 35 ∷ 80 ∷ 67 ∷ 68 ∷ 65 ∷ 84 ∷ 65 ∷ 124 ∷ 65 ∷ 41 ∷ 42 ∷ 41 ∷ []); first = 1; second = 2 } ∷
     []
 
-pub shelf-right : AllRight shelf
-unfolding shelf declared allPass test readsAs ofContent isPair isNumbered placeAt separator letter fold nameByte span nameEnd separatorsEnd sameText beforeDashes gapWithin gap occurrence nameToken dataToken token further members group isDeclared elementName omission words head contentWord contentModel content close rest element commentDeclaration beforeClose keyword markup declaration declarationsWithin typeFile
-shelf-right = all-right shelf refl
+pub shelf-right : All (Right (λ (x : Example). x .text) NamedSo) shelf
+unfolding shelf declared allPass passes readsAs ofContent isPair isNumbered placeAt separator letter fold nameByte span nameEnd separatorsEnd sameText beforeDashes gapWithin gap occurrence nameToken dataToken token further members group isDeclared elementName omission words head contentWord contentModel content close rest element commentDeclaration beforeClose keyword markup declaration declarationsWithin typeFile
+shelf-right = all-right (λ (x : Example). x .text) readsAs named-so shelf refl

@@ -22,8 +22,8 @@ use Rattle.type_laws.specs.Again.{typeFile-sizes}
 use Rattle.type_laws.specs.Width.{typeFile-content}
 use Rattle.element_index.specs.Means.{Indexed}
 use Rattle.type_tables.specs.Means.{rowAt}
-use Rattle.table_fill.specs.Bits.{flag-most}
-use Rattle.table_fill.specs.Rows.{RowsPut}
+use Rattle.model_rows.specs.Bits.{flag-most}
+use Rattle.model_rows.specs.Rows.{RowsPut}
 use Rattle.table_fill.specs.Places.{PlacesPut, places-none}
 use Rattle.table_fill.specs.Filled.{Filled, RowsFor, TagsPut, filled-more}
 use Rattle.table_fill.specs.Kinds.{rows-model, rows-empty}
@@ -51,7 +51,7 @@ pub record ElementDue (s : List ℕ) (es : List Element) (elements index rows pl
 name-at : (s : List ℕ) (ps : List Place) → All (PlaceIn s) ps → (k : ℕ) → k < length ps → IsName s (placeAt ps k)
 unfolding placeAt
 name-at s [] w k h = absurd (not-suc-le-zero h)
-name-at s (x ∷ ps) (more p w) zero h = (p .short, p .ends, p .named)
+name-at s (x ∷ ps) (more p w) zero h = (p .short, p .ends)
 name-at s (x ∷ ps) (more p w) (suc k) h = name-at s ps w k (le-of-suc-le-suc h)
 
 module _ (s : List ℕ) (es : List Element) (elements index R P F : List ℕ) (e : ℕ) (due : ElementDue s es elements index R P F e) where

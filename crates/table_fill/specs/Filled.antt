@@ -14,7 +14,7 @@ use Rattle.document_laws.specs.Decide.{search}
 use Rattle.rules_laws.specs.Within.{typeFile-count}
 use Rattle.type_laws.specs.Width.{typeFile-width}
 use Rattle.type_tables.specs.Means.{width, nameNumber, Declares, rowAt, namedBy, Tables}
-use Rattle.table_fill.specs.Rows.{RowSays, row-says-still}
+use Rattle.model_rows.specs.Rows.{RowSays, row-says-still}
 use Rattle.table_fill.specs.Places.{PlacesPut, number-few}
 
 -- What is said of one element

@@ -19,13 +19,13 @@ use Rattle.rules.specs.Judge.{placeAt}
 use Rattle.rules.specs.Settling.{elementAt, contentOf, placesIn}
 use Rattle.model_sets.specs.Sets.{size, Numbered}
 use Rattle.model_table.specs.Fill.{tableOf}
-use Rattle.model_table.specs.Cells.{below-or-from}
+use Rattle.model_links.specs.Cells.{below-or-from}
 use Rattle.document_laws.specs.Decide.{isCompleteIn, requiredOf}
 use Rattle.rules_laws.specs.Within.{typeFile-count}
 use Rattle.type_laws.specs.Names.{typeFile-element, typeFile-distinct, isNamed-join}
 use Rattle.text.specs.Laws.{sameText-refl}
 use Rattle.type_tables.specs.Means.{rowAt, bitOf, namedBy}
-use Rattle.table_fill.specs.Rows.{RowsPut, RowSays, row-says}
+use Rattle.model_rows.specs.Rows.{RowsPut, RowSays, row-says}
 use Rattle.table_fill.specs.Places.{PlacePut, places-none, places-more}
 use Rattle.table_fill.specs.Filled.{Filled, RowsFor, filled-more}
 

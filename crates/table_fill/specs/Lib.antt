@@ -1,6 +1,4 @@
 -- How the tables of a type are filled, and that they then say what they are to say.
-pub mod Bits
-pub mod Rows
 pub mod Places
 pub mod Filled
 pub mod Kinds

@@ -1,13 +1,12 @@
 -- The names of a model's places, looked up in an indexed type, and the places filed by them.
 use Prim.Native.Nat.{ℕ, _+_, _-_, _*_, _≤_, _<_}
 use mathlib.Core.Path.{_≡_}
-use mathlib.Core.Bool.{cond, true}
+use mathlib.Core.Bool.{cond}
 use mathlib.Core.List.{List}
 use native.Mathlib.Omega.{arith}
 use lib.ListN.{length, getD}
 use lib.Dec.{eqb}
 use borrow.Author.Tests.{ne-eqb}
-use Rattle.rules.specs.Bytes.{byteAt, letter}
 use Rattle.rules.specs.TypeFile.{Place, Element}
 use Rattle.rules.specs.Settling.{numberOf}
 use Rattle.model_names.specs.Places.{placeIn, placesOf}
@@ -23,13 +22,9 @@ nameOf s es x = cond (eqb (x .size) 0) 255 (numberOf s es s (x .at) (x .size))
 pub name-some : (s : List ℕ) (es : List Element) (x : Place) (size at v : ℕ) → size ≡ x .size → at ≡ x .at → (size ≡ 0 → ⊥) → v ≡ numberOf s es s at size → v ≡ nameOf s es x
 name-some s es x size at v p q z n = rw (← p, ← q, ne-eqb size 0 z) n
 
--- A name of at most 8 bytes, within the type file, that begins with a letter; `#PCDATA` has the size 0.
+-- A name of at most 8 bytes, within the type file; `#PCDATA` has the size 0.
 abbrev pub IsName : List ℕ → Place → Type 0
-IsName s x = (x .size ≤ 8) × (x .at + x .size ≤ length s) × (1 ≤ x .size → letter (byteAt s (x .at)) ≡ true)
-
--- What the lookup asks of the name of a place.
-pub name-asked : (s : List ℕ) (x : Place) (size at : ℕ) → size ≡ x .size → at ≡ x .at → (size ≡ 0 → ⊥) → IsName s x → (at + size ≤ length s) × (letter (byteAt s at) ≡ true)
-name-asked s x size at p q z n = (omega arith, rw q (n .2 (omega arith)))
+IsName s x = (x .size ≤ 8) × (x .at + x .size ≤ length s)
 
 -- So are those of the first n places.
 abbrev pub NamesFit : (s names : List ℕ) → ℕ → Type 0

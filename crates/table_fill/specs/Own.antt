@@ -6,7 +6,7 @@ use lib.ListN.{length, length-replicate}
 use Rattle.rules.specs.Reading.{refused, got}
 use Rattle.rules.specs.TypeFile.{Element, typeFile}
 use Rattle.rules.specs.Judge.{Accepts}
-use Rattle.element_index.specs.Means.{Judged, Indexed, AnyIndexed}
+use Rattle.element_index.specs.Means.{Judged, Indexed}
 use Rattle.type_tables.specs.Means.{Tables}
 use Rattle.table_fill.specs.Places.{PlacePut}
 use Rattle.table_fill.specs.Filled.{Filled, filled-all}
@@ -20,7 +20,7 @@ own : (s : List ℕ) (es : List Element) → typeFile s ≡ got es → es ≡ el
 unfolding elementsOf
 own s es read = rw (read, elementsOf)
 
-pub indexed-own : (s elements index : List ℕ) → AnyIndexed s elements index → Indexed s (elementsOf s) elements index
+pub indexed-own : (s elements index : List ℕ) → (es : List Element) × Indexed s es elements index → Indexed s (elementsOf s) elements index
 indexed-own s elements index (es, i) = subst (λ (l : List Element). Indexed s l elements index) (own s es (i .accepted .elements)) i
 
 pub counted-own : (s elements : List ℕ) (count : ℕ) → Judged s elements count → length (elementsOf s) ≡ count
@@ -37,7 +37,7 @@ Blank R P F = (R ≡ noRows) × (P ≡ noPlaces) × (F ≡ noFacts)
 pub blank-lengths : {R P F : List ℕ} → Blank R P F → (length P ≡ 12610) × (length F ≡ 4420)
 blank-lengths (a, b, c) = (rw b (length-replicate {A = ℕ} 12610 0), rw c (length-replicate {A = ℕ} 4420 0))
 
-pub filled-own : (s elements index R P F R′ P′ F′ : List ℕ) → AnyIndexed s elements index → Blank R P F → R′ ≡ documentRows R → PlacePut 0 1 1 P F P′ F′ → Filled s (elementsOf s) R′ P′ F′ 1
+pub filled-own : (s elements index R P F R′ P′ F′ : List ℕ) → (es : List Element) × Indexed s es elements index → Blank R P F → R′ ≡ documentRows R → PlacePut 0 1 1 P F P′ F′ → Filled s (elementsOf s) R′ P′ F′ 1
 filled-own s elements index R P F R′ P′ F′ i (a, b, c) q w =
     let own = indexed-own s elements index i in
     rw (q, a) (filled-document s (elementsOf s) (own .accepted .elements) P′ F′ (rw (b, c) at w))

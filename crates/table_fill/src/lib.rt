@@ -10,89 +10,14 @@ ghost use Rattle.rules.specs.TypeFile.{Element};
 ghost use Rattle.rules.specs.Judge.{Accepts};
 ghost use Rattle.model_names.specs.Places.{placeIn, placesOf};
 ghost use Rattle.element_reader.specs.Means.{Recorded};
-ghost use Rattle.element_index.specs.Means.{Judged, Indexed, AnyIndexed};
-ghost use Rattle.type_tables.specs.Means.{rowAt, Tables};
-ghost use Rattle.table_fill.specs.Bits.{cellOf, packedOf};
-ghost use Rattle.table_fill.specs.Rows.{RowPut, RowsPut};
+ghost use Rattle.element_index.specs.Means.{Judged, Indexed};
+ghost use Rattle.type_tables.specs.Means.{Tables};
 ghost use Rattle.table_fill.specs.Places.{slotOf, PlacePut, PlacesPut};
 ghost use Rattle.table_fill.specs.Filled.{Filled};
 ghost use Rattle.table_fill.specs.Kinds.{documentRows};
 ghost use Rattle.table_fill.specs.Names.{nameOf, IsName, PlacesDue};
 ghost use Rattle.table_fill.specs.Own.{elementsOf};
 ghost use Rattle.table_fill.specs.Elements.{factsPut, Flags, ElementDue};
-
-fn widened(x: u32) -> usize
-    ensures { λ r. ⌜ (r ≡ x) × (r < 4294967296) ⌝ }
-{
-    x as usize
-}
-
-// Where the name of the element k stands in the type file.
-fn offset(elements: &[u32; 384], k: usize) -> usize
-    requires { ⌜ (1 ≤ k) × (k ≤ 64) ⌝ }
-    ensures { λ r. ⌜ r ≡ getD (now (elements .entry)) (6 * (k - 1)) 0 ⌝ }
-{
-    widened(elements[6 * (k - 1)])
-}
-
-// Where the row of the element e after the place u begins.
-fn row(e: usize, u: usize) -> usize
-    requires { ⌜ (e ≤ 64) × (u ≤ 96) ⌝ }
-    ensures { λ r. ⌜ r ≡ rowAt e u ⌝ }
-{
-    (e * 97 + u) * 14
-}
-
-// Whether a number of a model's table is 1, as 1 or 0.
-fn cell(table: &[u8; 9506], i: usize) -> u8
-    requires { ⌜ i < 9506 ⌝ }
-    ensures { λ r. ⌜ (r ≡ cellOf (now (table .entry)) i) × (r ≤ 1) ⌝ }
-{
-    if table[i] == 1 { 1 } else { 0 }
-}
-
-// Eight numbers of a model's table as bits, the first the lowest.
-fn packed(table: &[u8; 9506], i: usize) -> u8
-    requires { ⌜ i + 8 ≤ 9506 ⌝ }
-    ensures { λ r. ⌜ r ≡ packedOf (now (table .entry)) i ⌝ }
-{
-    cell(table, i)
-        + cell(table, i + 1) * 2
-        + cell(table, i + 2) * 4
-        + cell(table, i + 3) * 8
-        + cell(table, i + 4) * 16
-        + cell(table, i + 5) * 32
-        + cell(table, i + 6) * 64
-        + cell(table, i + 7) * 128
-}
-
-// The row of the element e after the place u.
-fn put_row(rows: &mut [u8; 88270], e: usize, table: &[u8; 9506], u: usize)
-    requires { ⌜ (e ≤ 64) × (u ≤ 96) × (length (now rows) ≡ 88270) ⌝ }
-    ensures { λ _. ⌜ RowPut (now (table .entry)) e u (now (rows .entry)) (now (rows .exit)) ⌝ }
-{
-    let r = row(e, u);
-    let mut j = 0;
-    while j < 12 {
-        rows[r + j] = packed(table, u * 98 + 8 * j);
-        j += 1;
-    }
-    rows[r + 12] = cell(table, u * 98 + 96);
-    let required = table[u * 98 + 97];
-    rows[r + 13] = required;
-}
-
-// The rows of the element e, whose model has `count` places.
-fn put_rows(rows: &mut [u8; 88270], e: usize, table: &[u8; 9506], count: usize)
-    requires { ⌜ (e ≤ 64) × (count ≤ 96) × (length (now rows) ≡ 88270) ⌝ }
-    ensures { λ _. ⌜ RowsPut (now (table .entry)) e (now (rows .entry)) (now (rows .exit)) (count + 1) ⌝ }
-{
-    let mut u = 0;
-    while u <= count {
-        put_row(rows, e, table, u);
-        u += 1;
-    }
-}
 
 // By which number a place that names v is filed: that of the element, 0 for `#PCDATA`.
 fn slot(v: usize) -> usize
@@ -135,7 +60,7 @@ fn name(s: &[u8], elements: &[u32; 384], index: &[u8; 321], names: &[u32; 192], 
     requires { ⌜ (1 ≤ p) × (p ≤ 96) × IsName (now s) (placeIn (now names) (p - 1)) ⌝ }
     ensures { λ r. ⌜ r ≡ nameOf (now (s .entry)) (elementsOf (now (s .entry))) (placeIn (now (names .entry)) (p - 1)) ⌝ }
 {
-    let size = widened(names[2 * (p - 1) + 1]);
+    let size = numbers::widened(names[2 * (p - 1) + 1]);
     if size == 0 {
         return 255;
     }
@@ -194,16 +119,23 @@ fn put_element(
     ensures { λ _. ⌜ Filled (now (s .entry)) (elementsOf (now (s .entry))) (now (rows .exit)) (now (places .exit)) (now (facts .exit)) (e + 1) ⌝ }
 {
     put_facts(facts, elements, e);
-    let r = element_reader::element_at(s, offset(elements, e), elements, e - 1, names, table);
+    let r = element_reader::element_at(
+        s,
+        element_index::offset(elements, e),
+        elements,
+        e - 1,
+        names,
+        table,
+    );
     let ElementRead::Read(d) = r else {
         return;
     };
     if d.kind == 0 {
-        rows[row(e, 0)] = 1;
+        rows[model_rows::row(e, 0)] = 1;
         return;
     }
     let n = d.places;
-    put_rows(rows, e, table, n);
+    model_rows::put_rows(rows, e, table, n);
     put_places(s, elements, index, places, facts, e, names, n);
 }
 
@@ -219,7 +151,7 @@ pub fn fill(
     facts: &mut [u8; 4420],
 )
     requires { ⌜ Judged (now s) (now elements) count ⌝ }
-    requires { ⌜ AnyIndexed (now s) (now elements) (now index) ⌝ }
+    requires { ⌜ ((es : List Element) × Indexed (now s) es (now elements) (now index)) ⌝ }
     requires { ⌜ (now rows ≡ replicate 88270 0) × (now places ≡ replicate 12610 0) × (now facts ≡ replicate 4420 0) ⌝ }
     ensures { λ _. ⌜ ((es : List Element) → Accepts (now (s .entry)) es → length es ≡ count → Recorded (now (elements .entry)) es →
         Tables (now (s .entry)) es (now (rows .exit)) (now (places .exit)) (now (facts .exit))) ⌝ }

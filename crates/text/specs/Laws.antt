@@ -1,7 +1,7 @@
 -- Laws of the rules' words: bytes, names, separators, comments and gaps.
 use Prim.Native.Nat.{ℕ, zero, suc, _+_, _-_, _≤_, _<_}
 use mathlib.Core.Path.{_≡_, refl, sym, ap, _∙_}
-use mathlib.Core.Bool.{Bool, true, false, not, _&&_, _||_, true≢false}
+use mathlib.Core.Bool.{Bool, true, false, not, _&&_, _||_, cond, true≢false}
 use mathlib.Core.List.{List, [], _∷_}
 use native.Mathlib.Omega.{arith}
 use native.Mathlib.Numerals.{add-one}
@@ -12,6 +12,10 @@ use borrow.Author.Tests.{not-true, not-false, eq-eqb, eqb-true, lt-ltb, le-ltb, 
 use Rattle.rules.specs.Reading.{Reading, refused, got}
 use Rattle.rules.specs.Bytes.{byteAt, allowed, separator, letter, nameByte, fold, span, nameEnd, separatorsEnd, sameText}
 use Rattle.rules.specs.TypeFile.{atDashes, beforeDashes, beforeClose, commentDeclaration, gapWithin, gap, isWord}
+use Rattle.text.specs.Means.{refusalOf, reached, faultOf}
+use Rattle.text.specs.declared.Fault.{Fault}
+use Rattle.text.specs.declared.Reached.{Reached}
+use Rattle.text.specs.declared.Reached.the-variants.{At, Refused}
 
 -- A byte above 0 stands in the input.
 pub byte-in : (s : List ℕ) (i : ℕ) → 0 < byteAt s i → i < length s
@@ -159,14 +163,23 @@ pub separatorsEnd-le : (s : List ℕ) (at : ℕ) → at ≤ length s → separat
 unfolding separatorsEnd
 separatorsEnd-le = span-in separator
 
-pub separatorsEnd-more : (s : List ℕ) (at : ℕ) → separator (byteAt s at) ≡ true → at < separatorsEnd s at
-unfolding separatorsEnd separator
-separatorsEnd-more s at e = omega (arith, span-more separator refl s at e)
-
 -- The second part of a test that is passed.
 pub second : (a b : Bool) → (a && b) ≡ true → b ≡ true
 second true b e = e
 second false b e = absurd (true≢false (sym e))
+
+-- A refusal at one of two places, as a test says.
+pub cut-or : {A : Type 0} (b : Bool) (x y : ℕ) → _≡_ {A = Reading A} (refused 4 (cond b x y)) (elim b [ true ↦ refused 4 x | false ↦ refused 4 y ])
+cut-or true x y = refl
+cut-or false x y = refl
+
+-- An answer by cases and the reading that it stands for.
+module _ {r : Reached} {x : Reading ℕ} (h : reached r ≡ x) where
+  pub reached-got : {i : ℕ} → r ≡ At i → x ≡ got i
+  reached-got q = sym h ∙ ap reached q
+
+  pub reached-refused : {f g : Fault} → r ≡ Refused f → g ≡ faultOf r → x ≡ refusalOf g
+  reached-refused q e = sym h ∙ ap reached q ∙ ap refusalOf (sym (e ∙ ap faultOf q))
 
 -- Comments.
 

@@ -40,7 +40,7 @@ fn keyword_at(
     if 8 < e - (i + 2) {
         return refusal(3, i + 2);
     }
-    if text::is_word(s, i + 2, e, b"ELEMENT") {
+    if words::is_word(s, i + 2, e, b"ELEMENT") {
         return element_records::element_at(s, e, p, elements, names, table);
     }
     refusal(5, i)
@@ -80,7 +80,7 @@ fn markup_at(
         if text::byte(s, i + 3) != b'-' {
             return refusal(4, i + 3);
         }
-        let r = text::comment_end(s, i + 4);
+        let r = gaps::comment_end(s, i + 4);
         let Reached::At(j) = r else {
             return Step::Refused(text::fault_of(r));
         };

@@ -5,7 +5,7 @@ use mathlib.Core.List.{List}
 use lib.ListN.{length}
 use Rattle.rules.specs.TypeFile.{Element}
 use Rattle.rules.specs.Judge.{Answer, refusal, acceptance, Refuses, Accepts}
-use Rattle.element_reader.specs.Means.{Recorded}
+use Rattle.element_names.specs.Names.{Recorded}
 use Rattle.type_judge.specs.declared.Verdict.{Verdict}
 use Rattle.type_judge.specs.declared.Verdict.the-variants.{Accepted, Malformed, Ambiguous}
 

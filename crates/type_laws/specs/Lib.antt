@@ -1,5 +1,4 @@
 -- Laws of a type file that was read: its names, its declarations and its models.
-pub mod Gives
 pub mod Models
 pub mod Made
 pub mod Names

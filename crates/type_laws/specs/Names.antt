@@ -16,19 +16,15 @@ use Rattle.rules.specs.TypeFile.{Place, Element, sameName, isDeclared, typeFile
 use Rattle.rules.specs.Judge.{placeAt}
 use Rattle.rules.specs.Settling.{elementAt, isNamed, numberFrom, numberOf, start, pcdata, hasName}
 use Rattle.model_sets.specs.Bits.{not-true, not-both, bool-cases}
-use Rattle.text.specs.Laws.{sameText-sym, sameText-split, sameText-more}
+use Rattle.text.specs.Laws.{sameText-sym}
+use Rattle.document_laws.specs.Decide.{sameText-trans}
+use Rattle.document_laws.specs.Chain.{numberFrom-range}
 use Rattle.rules_laws.specs.Within.{All, more, ElementIn, typeFile-elements}
 use Rattle.type_laws.specs.Made.{elementAt-take, typeFile-made}
 
 -- The search by name
 
 module _ (s t : List ℕ) (at size : ℕ) where
-  numberFrom-range : (k : ℕ) (es : List Element) → 1 ≤ k → numberFrom k s es t at size < k + length es
-  unfolding numberFrom
-  numberFrom-range k [] l = omega arith
-  numberFrom-range k (e ∷ es) l =
-      bool-cases (isNamed s e t at size) (λ x. rw (x, numberFrom) (omega arith)) (λ x. rw (x, numberFrom) (omega (arith, numberFrom-range (k + 1) es (omega arith))))
-
   -- A number that is found is that of an element with the name.
   abbrev Found : ℕ → List Element → ℕ → Type 0
   Found k es n = (k ≤ n) × (isNamed s (elementAt es (n - k)) t at size ≡ true)
@@ -75,14 +71,6 @@ unfolding numberOf
 numberOf-none s es t at size f = numberFrom-none s t at size 1 es f
 
 -- Names that are the same
-
-pub sameText-trans : (s : List ℕ) (a : ℕ) (t : List ℕ) (b : ℕ) (u : List ℕ) (c n : ℕ) → sameText s a t b n ≡ true → sameText t b u c n ≡ true → sameText s a u c n ≡ true
-unfolding sameText
-sameText-trans s a t b u c zero x y = refl
-sameText-trans s a t b u c (suc n) x y =
-    let (e, v) = sameText-split s a t b n x in
-    let (f, w) = sameText-split t b u c n y in
-    sameText-more s a u c n (e ∙ f) ∙ sameText-trans s (a + 1) t (b + 1) u (c + 1) n v w
 
 pub isNamed-split : (s : List ℕ) (e : Element) (t : List ℕ) (at size : ℕ) → isNamed s e t at size ≡ true → (e .size ≡ size) × (sameText s (e .at) t at size ≡ true)
 isNamed-split s e t at size r =

@@ -1,6 +1,6 @@
 -- "`#PCDATA` counts as "*"": where a data byte was taken as a place, the next one fits as the same place.
 use Prim.Native.Nat.{ℕ, zero, suc, _≤_}
-use mathlib.Core.Path.{_≡_, refl, sym, _∙_, ap}
+use mathlib.Core.Path.{_≡_, refl, sym, _∙_}
 use mathlib.Core.Bool.{Bool, true, _&&_}
 use mathlib.Core.List.{List, [], _∷_, _++_}
 use native.Mathlib.Nat.{not-suc-le-zero}
@@ -9,27 +9,16 @@ use borrow.Author.Tests.{eqb-true}
 use Rattle.rules.specs.Walk.{Group}
 use Rattle.rules.specs.TypeFile.{Place, Content, empty, model, Element}
 use Rattle.rules.specs.Judge.{Accepts}
-use Rattle.rules.specs.Settling.{contentOf, Token, pcdata, hasName, Fits}
-use Rattle.model_sets.specs.Bits.{and-left, and-right, bool-cases}
+use Rattle.rules.specs.Settling.{contentOf, pcdata, hasName, Fits}
+use Rattle.model_sets.specs.Bits.{and-left, and-right}
 use Rattle.model_sets.specs.Sets.{size, nextIn, follow}
 use Rattle.model_sets.specs.Reach.{lastOr0, lastOr0-snoc, next-has, next-complete}
 use Rattle.model_sets.specs.Pairs.{next-range, row-begins}
-use Rattle.document_laws.specs.Decide.{search, fitsIn, decided}
+use Rattle.document_laws.specs.Decide.{fitsIn, decided, fitsIn-last, search-passes}
 use Rattle.document_laws.specs.Laws.{accepted-decided}
 use Rattle.type_laws.specs.Models.{Whole, WholeIn}
 use Rattle.type_laws.specs.Width.{typeFile-whole}
 use Rattle.type_laws.specs.Names.{pcdata-name}
-
-search-passes : (f : ℕ → Bool) (n : ℕ) → 1 ≤ search f n → f (search f n) ≡ true
-unfolding search
-search-passes f zero h = absurd (not-suc-le-zero h)
-search-passes f (suc n) h = bool-cases (f (suc n)) (λ e. rw (e, search) e) (λ e. rw (e, search) (search-passes f n (rw (e, search) at h)))
-
--- The last place taken decides.
-fitsIn-last : (s : List ℕ) (es : List Element) (c : Content) (a b : List ℕ) (t : Token) → lastOr0 a ≡ lastOr0 b → fitsIn s es c a t ≡ fitsIn s es c b t
-unfolding fitsIn
-fitsIn-last s es empty a b t e = refl
-fitsIn-last s es (model g ps n) a b t e = ap (λ (u : ℕ). search (λ p. hasName s es ps t p && nextIn g u p) (size g)) e
 
 next-itself : (g : Group) (p : ℕ) → 1 ≤ p → follow g p p ≡ true → nextIn g p p ≡ true
 next-itself g zero l e = absurd (not-suc-le-zero l)

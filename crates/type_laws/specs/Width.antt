@@ -14,7 +14,7 @@ use Rattle.rules.specs.Judge.{placeAt}
 use Rattle.rules.specs.Settling.{elementAt, contentOf}
 use Rattle.model_sets.specs.Sets.{size, Numbered}
 use Rattle.rules_laws.specs.Within.{none, more, NameIn, Fits, ContentIn, typeFile-count}
-use Rattle.type_laws.specs.Models.{Whole, WholeIn}
+use Rattle.type_laws.specs.Models.{Whole, WholeIn, declared-whole}
 use Rattle.type_laws.specs.Made.{each-content, typeFile-made}
 use Rattle.type_laws.specs.Names.{typeFile-element}
 
@@ -40,7 +40,7 @@ module _ (s : List ℕ) (es : List Element) (read : typeFile s ≡ got es) where
   -- Every content is whole, and stands in the input.
   pub typeFile-whole : (k : ℕ) → WholeIn (contentOf es k)
   typeFile-whole zero = document-whole _ (first-name .some)
-  typeFile-whole (suc k) = each-content WholeIn tt es (λ j h. typeFile-made s es read j h .whole) k
+  typeFile-whole (suc k) = each-content WholeIn tt es (λ j h. declared-whole (typeFile-made s es read j h)) k
 
   pub typeFile-content : (k : ℕ) → ContentIn s (contentOf es k)
   typeFile-content zero = document-fits s _ first-name (typeFile-made s es read 0 (typeFile-count s es read .0) .named)

@@ -6,27 +6,15 @@ use mathlib.Core.List.{List}
 use native.Mathlib.Omega.{arith}
 use lib.ListN.{length, getD}
 use Rattle.rules.specs.TypeFile.{Content, empty, model, Element}
-use Rattle.rules.specs.Settling.{contentOf, placesIn, Token, start, pcdata, hasName}
+use Rattle.rules.specs.Settling.{contentOf, placesIn, Token, hasName}
 use Rattle.model_sets.specs.Bits.{and-both}
 use Rattle.document_laws.specs.Decide.{search, fitsIn}
 use Rattle.last_places.specs.Last.{placed, InRange}
+use Rattle.last_places.specs.Short.{last-placed}
 use Rattle.type_laws.specs.Width.{typeFile-width}
-use Rattle.type_tables.specs.Means.{standing, width, nameNumber, Declares, rowAt, bitOf, nextOf, Tables, ReadyFor}
+use Rattle.type_tables.specs.Means.{standing, width, nameNumber, Declares, rowAt, bitOf, nextOf, Tables}
 use Rattle.type_tables.specs.Search.{search-most, search-passes, search-none, search-hit, search-miss, search-both}
-use Rattle.type_tables.specs.Ranges.{last-placed, place-range, width-most}
-
--- The token with a name's number.
-abbrev tokenOf : ℕ → Token
-tokenOf zero = pcdata
-tokenOf (suc k) = start (suc k)
-
-token-number : (x : ℕ) → nameNumber (tokenOf x) ≡ x
-token-number zero = refl
-token-number (suc k) = refl
-
-token-declared : (es : List Element) (x : ℕ) → x ≤ length es → Declares es (tokenOf x)
-token-declared es zero h = tt
-token-declared es (suc k) h = (omega arith, h)
+use Rattle.type_tables.specs.Ranges.{place-range, width-most}
 
 -- The places that are still to be looked at, p and below, give the answer, and p is 0 or has the token's name.
 pub record Left (s : List ℕ) (es : List Element) (e u : ℕ) (t : Token) (p : ℕ) : Type 0 where
@@ -82,27 +70,29 @@ module _ (s : List ℕ) (es : List Element) (rows places facts : List ℕ) (tabl
 
 -- The search, over the tables alone
 
+-- The answer is n, for every type whose tables these are, and the token of the name x.
+abbrev Answers : (rows places facts : List ℕ) (e u x n : ℕ) → Type 0
+Answers rows places facts e u x n =
+    (s : List ℕ) (es : List Element) → Tables s es rows places facts → InRange es (standing e u) → (t : Token) → nameNumber t ≡ x → Declares es t → n ≡ fitsIn s es (contentOf es e) (placed u) t
+
 module _ (rows places facts : List ℕ) (e u x : ℕ) where
   pub seeks-start : (p : ℕ) → p ≡ getD facts (e * 68 + x) 0 → Seeks rows places facts e u x p
   seeks-start p z = record { left = λ s es tables range t n d. rw (z, ← n) (left-start s es rows places facts tables e u range t d) }
 
   module _ (p : ℕ) (seeks : Seeks rows places facts e u x p) where
-    -- The place is one of the model's.
-    pub seeks-within : ReadyFor rows places facts e u x → p ≤ 96
-    seeks-within (s, es, tables, range, few) =
-        let left = seeks .left s es tables range (tokenOf x) (token-number x) (token-declared es x few) in
-        omega (arith, left .within, width-most s es (tables .accepted) e)
+    -- No type has so large a place.
+    pub seeks-large : 96 < p → Answers rows places facts e u x 0
+    seeks-large l s es tables range t n d = absurd (omega (arith, seeks .left s es tables range t n d .within, width-most s es (tables .accepted) e))
 
-    pub seeks-none : p ≡ 0 → (s : List ℕ) (es : List Element) → Tables s es rows places facts → InRange es (standing e u) → (t : Token) → nameNumber t ≡ x → Declares es t → 0 ≡ fitsIn s es (contentOf es e) (placed u) t
+    pub seeks-none : p ≡ 0 → Answers rows places facts e u x 0
     seeks-none z s es tables range t n d = sym (seeks .left s es tables range t n d .still ∙ rw (z, search-none))
 
     module _ (some : p ≡ 0 → ⊥) where
-      pub seeks-less : ReadyFor rows places facts e u x → (q : ℕ) → q ≡ getD places ((e * 97 + p) * 2 + 1) 0 → q < p
-      seeks-less (s, es, tables, range, few) q z =
-          let t = tokenOf x in
-          let d = token-declared es x few in
-          let left = seeks .left s es tables range t (token-number x) d in
-          omega (arith, smaller-last s es rows places facts tables e u range t d p left (omega arith), search-most (hasName s es (placesIn (contentOf es e)) t) (p - 1))
+      -- In no type does the link rise.
+      pub seeks-rising : (q : ℕ) → q ≡ getD places ((e * 97 + p) * 2 + 1) 0 → p ≤ q → Answers rows places facts e u x 0
+      seeks-rising q z l s es tables range t n d =
+          let left = seeks .left s es tables range t n d in
+          absurd (omega (arith, smaller-last s es rows places facts tables e u range t d p left (omega arith), search-most (hasName s es (placesIn (contentOf es e)) t) (p - 1)))
 
       module _ (bit : Bool) (read : bit ≡ bitOf (getD rows (rowAt e u + p / 8) 0) (p % 8)) where
         pub seeks-next : bit ≡ false → (q : ℕ) → q ≡ getD places ((e * 97 + p) * 2 + 1) 0 → Seeks rows places facts e u x q
@@ -115,7 +105,7 @@ module _ (rows places facts : List ℕ) (e u x : ℕ) where
                   rw z (left-next s es rows places facts tables e u range t d p left (omega arith) (sym next ∙ sym read ∙ b));
             }
 
-        pub seeks-found : bit ≡ true → (s : List ℕ) (es : List Element) → Tables s es rows places facts → InRange es (standing e u) → (t : Token) → nameNumber t ≡ x → Declares es t → p ≡ fitsIn s es (contentOf es e) (placed u) t
+        pub seeks-found : bit ≡ true → Answers rows places facts e u x p
         seeks-found b s es tables range t n d =
             let left = seeks .left s es tables range t n d in
             let next = bit-next s es rows places facts tables e u range t d p left (omega arith) in

@@ -1,5 +1,5 @@
 -- The element whose start is to be inferred, from what the tables say: the required place, what it names, and what is declared of that.
-use Prim.Native.Nat.{ℕ, _+_, _-_, _*_, _≤_}
+use Prim.Native.Nat.{ℕ, _+_, _-_, _*_, _≤_, _<_}
 use mathlib.Core.Path.{_≡_, refl, sym, _∙_}
 use mathlib.Core.Bool.{Bool, true, false, _&&_, and-false}
 use mathlib.Core.List.{List}
@@ -14,7 +14,7 @@ use Rattle.model_sets.specs.Bits.{bool-cases}
 use Rattle.document_laws.specs.Decide.{decided}
 use Rattle.type_laws.specs.Names.{numberOf-range, numberOf-pcdata}
 use Rattle.type_tables.specs.Means.{standing, width, Declares, namedBy, Tables, Requires}
-use Rattle.type_tables.specs.Ranges.{place-range, required-most}
+use Rattle.type_tables.specs.Ranges.{place-range, width-most, required-most}
 
 -- The number k where the test holds, else 0.
 abbrev numberIf : Bool → ℕ → ℕ
@@ -29,7 +29,7 @@ abbrev may : List Element → (p k : ℕ) → Bool
 may es p k = leb 1 p && (leb 1 k && (startO es k && hasModel (contentOf es k)))
 
 module _ (rows places facts : List ℕ) (e u p : ℕ) (s : List ℕ) (es : List Element) (tables : Tables s es rows places facts) (requires : Requires es e p u) where
-  pub required-within : p ≤ width es e
+  required-within : p ≤ width es e
   required-within = omega (arith, requires .required, required-most s es (tables .accepted) e u (place-range es e u (requires .range)))
 
   -- The element that the required place names.
@@ -39,6 +39,10 @@ module _ (rows places facts : List ℕ) (e u p : ℕ) (s : List ℕ) (es : List 
   inferred : inferable s es (decided s es) (standing e u) ≡ numberIf (may es p named) named
   unfolding inferable
   inferred = rw (requires .required)
+
+  -- No type requires so large a place.
+  pub large-required : 96 < p → 0 ≡ inferable s es (decided s es) (standing e u)
+  large-required l = absurd (omega (arith, required-within, width-most s es (tables .accepted) e))
 
   pub none-required : p ≡ 0 → 0 ≡ inferable s es (decided s es) (standing e u)
   none-required z = sym (inferred ∙ let x : leb 1 p ≡ false = rw z in rw x)
@@ -57,8 +61,8 @@ module _ (rows places facts : List ℕ) (e u p : ℕ) (s : List ℕ) (es : List 
     named-range : named ≤ length es
     named-range = numberOf-range s es s (stands .at) (stands .size)
 
-    -- 255 is no element's number: the place is `#PCDATA`.
-    pub data-required : k ≡ 255 → 0 ≡ inferable s es (decided s es) (standing e u)
+    -- A number above 64 is no element's: the place is `#PCDATA`.
+    pub data-required : 64 < k → 0 ≡ inferable s es (decided s es) (standing e u)
     data-required z = none-named (bool-cases (eqb (stands .size) 0) nameless other)
       where
         nameless : eqb (stands .size) 0 ≡ true → named ≡ 0
@@ -67,18 +71,18 @@ module _ (rows places facts : List ℕ) (e u p : ℕ) (s : List ℕ) (es : List 
         other : eqb (stands .size) 0 ≡ false → named ≡ 0
         other x = let y : k ≡ named = rw x at said in absurd (omega (arith, named-range, tables .few))
 
-    element-named : (k ≡ 255 → ⊥) → named ≡ k
-    element-named ne = bool-cases (eqb (stands .size) 0) (λ x. absurd (ne (rw x at said))) (λ x. sym (rw x at said))
+    element-named : k ≤ 64 → named ≡ k
+    element-named l = bool-cases (eqb (stands .size) 0) (λ x. absurd (let y : k ≡ 255 = rw x at said in omega arith)) (λ x. sym (rw x at said))
 
     pub none-declared : k ≡ 0 → 0 ≡ inferable s es (decided s es) (standing e u)
-    none-declared z = none-named (element-named (λ x. omega arith) ∙ z)
+    none-declared z = none-named (element-named (omega arith) ∙ z)
 
 -- The place p names the element k.
 pub record Names (places : List ℕ) (e p k : ℕ) : Type 0 where
   pub some : p ≡ 0 → ⊥
   pub read : k ≡ getD places ((e * 97 + p) * 2) 0
   pub declared : k ≡ 0 → ⊥
-  pub element : k ≡ 255 → ⊥
+  pub element : k ≤ 64
 
 module _ (rows places facts : List ℕ) (e u p k : ℕ) (names : Names places e p k) (s : List ℕ) (es : List Element) (tables : Tables s es rows places facts) (requires : Requires es e p u) where
   is-named : elementOf s es (standing e u) p ≡ k

@@ -4,7 +4,7 @@ use mathlib.Core.Path.{_≡_}
 use mathlib.Core.Bool.{Bool, true, false, cond}
 use mathlib.Core.List.{List}
 use lib.ListN.{length, getD}
-use lib.Dec.{eqb}
+use lib.Dec.{eqb, leb}
 use Rattle.rules.specs.TypeFile.{Place, Content, empty, model, Element}
 use Rattle.rules.specs.Judge.{Accepts, placeAt}
 use Rattle.rules.specs.Settling.{elementAt, numberOf, contentOf, placesIn, hasModel, Token, start, pcdata, hasName, Open}
@@ -40,12 +40,16 @@ rowAt e u = (e * 97 + u) * 14
 abbrev pub bitOf : (b k : ℕ) → Bool
 bitOf b k = eqb (b / 2 ^ k % 2) 1
 
+-- A number that is a place, or 0: in the tables of a type no other stands where a place is kept.
+abbrev pub placeOr0 : ℕ → ℕ
+placeOr0 n = elim (leb n 96) [ true ↦ n | false ↦ 0 ]
+
 -- What the row of the element e after the place u has for "complete", and for the required place.
 abbrev pub completeAt : List ℕ → (e u : ℕ) → Bool
 completeAt rows e u = eqb (getD rows (rowAt e u) 0 % 2) 1
 
 abbrev pub requiredAt : List ℕ → (e u : ℕ) → ℕ
-requiredAt rows e u = getD rows (rowAt e u + 13) 0
+requiredAt rows e u = placeOr0 (getD rows (rowAt e u + 13) 0)
 
 -- The place p may come next after the place u.
 abbrev pub nextOf : Content → (u p : ℕ) → Bool
@@ -55,7 +59,7 @@ nextOf (model g ps n) u p = nextIn g u p
 pub record Rows (es : List Element) (rows : List ℕ) : Type 0 where
   pub next : (e u p : ℕ) → e ≤ length es → u ≤ width es e → 1 ≤ p → p ≤ 96 → bitOf (getD rows (rowAt e u + p / 8) 0) (p % 8) ≡ nextOf (contentOf es e) u p
   pub complete : (e u : ℕ) → e ≤ length es → u ≤ width es e → completeAt rows e u ≡ isCompleteIn (contentOf es e) (placed u)
-  pub required : (e u : ℕ) → e ≤ length es → u ≤ width es e → requiredAt rows e u ≡ requiredOf (contentOf es e) (placed u)
+  pub required : (e u : ℕ) → e ≤ length es → u ≤ width es e → getD rows (rowAt e u + 13) 0 ≡ requiredOf (contentOf es e) (placed u)
 
 -- What the place p of a model names: an element, 255 for `#PCDATA`, 0 if that is not declared.
 abbrev pub namedBy : List ℕ → List Element → List Place → ℕ → ℕ
@@ -78,19 +82,7 @@ pub record Tables (s : List ℕ) (es : List Element) (rows places facts : List �
   pub places-say : Places s es places
   pub facts-say : Facts s es facts
 
--- The tables are those of some type, which has this element and place.
-abbrev pub Ready : (rows places facts : List ℕ) (e u : ℕ) → Type 0
-Ready rows places facts e u = (s : List ℕ) × (es : List Element) × Tables s es rows places facts × InRange es (standing e u)
-
--- The type has so many elements, too.
-abbrev pub ReadyFor : (rows places facts : List ℕ) (e u x : ℕ) → Type 0
-ReadyFor rows places facts e u x = (s : List ℕ) × (es : List Element) × Tables s es rows places facts × InRange es (standing e u) × (x ≤ length es)
-
 -- In the element e after the place u the place p is required, 0 for none.
 pub record Requires (es : List Element) (e p u : ℕ) : Type 0 where
   pub range : InRange es (standing e u)
   pub required : p ≡ requiredOf (contentOf es e) (placed u)
-
--- So it is after some place, in some type that has these tables.
-abbrev pub AnyRequires : (places facts : List ℕ) (e p : ℕ) → Type 0
-AnyRequires places facts e p = (s : List ℕ) × (es : List Element) × (rows : List ℕ) × (u : ℕ) × Tables s es rows places facts × Requires es e p u

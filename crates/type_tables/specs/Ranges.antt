@@ -1,11 +1,12 @@
 -- What is asked of the tables of a type is in range: the width of a model, the last place taken, the place that is required.
-use Prim.Native.Nat.{ℕ, zero, suc, _≤_}
-use mathlib.Core.Path.{_≡_, refl, _∙_, ap}
+use Prim.Native.Nat.{ℕ, zero, suc, _+_, _≤_, _<_}
+use mathlib.Core.Path.{_≡_, refl, sym, _∙_, ap}
 use mathlib.Core.Bool.{Bool, true, false, cond}
 use mathlib.Core.List.{List}
 use native.Mathlib.Omega.{arith}
-use lib.ListN.{length}
-use lib.Dec.{eqb}
+use lib.ListN.{length, getD}
+use lib.Dec.{eqb, leb}
+use borrow.Author.Tests.{le-leb, lt-leb, leb-true}
 use Rattle.rules.specs.Walk.{Group}
 use Rattle.rules.specs.TypeFile.{Content, empty, model, Element}
 use Rattle.rules.specs.Judge.{Accepts}
@@ -16,17 +17,14 @@ use Rattle.model_sets.specs.Must.{required-sound}
 use Rattle.model_sets.specs.Pairs.{next-range, row-begins}
 use Rattle.document_laws.specs.Decide.{requiredOf}
 use Rattle.last_places.specs.Last.{placed, InRange}
+use Rattle.last_places.specs.Short.{last-placed}
 use Rattle.type_laws.specs.Width.{typeFile-width}
-use Rattle.type_tables.specs.Means.{standing, width, Ready, ReadyFor}
+use Rattle.type_tables.specs.Means.{standing, width, rowAt, placeOr0, requiredAt, Rows}
 
 -- A test that is kept as a number.
 pub one-if : (b : Bool) → eqb (cond b 1 0) 1 ≡ b
 one-if true = refl
 one-if false = refl
-
-pub last-placed : (u : ℕ) → lastOr0 (placed u) ≡ u
-last-placed zero = refl
-last-placed (suc u) = refl
 
 -- The last place taken is one of the model's, or 0.
 pub place-range : (es : List Element) (e u : ℕ) → InRange es (standing e u) → u ≤ width es e
@@ -61,12 +59,44 @@ module _ (s : List ℕ) (es : List Element) (accepted : Accepts s es) (k : ℕ) 
           let (counted, few, numbered) = typeFile-width s es (accepted .elements) k e in
           rw last-placed (omega (arith, required-range g numbered u (omega arith)))
 
--- What is asked of the tables of a type is in range for them.
-pub ready-range : (rows places facts : List ℕ) (e u : ℕ) → Ready rows places facts e u → (e ≤ 64) × (u ≤ 96)
-ready-range rows places facts e u (s, es, tables, range) =
-    (omega (arith, tables .few, range .declared), omega (arith, place-range es e u range, width-most s es (tables .accepted) e))
+-- The number that is kept as a place
 
-pub ready-for-range : (rows places facts : List ℕ) (e u x : ℕ) → ReadyFor rows places facts e u x → (e ≤ 64) × (u ≤ 96) × (x ≤ 64)
-ready-for-range rows places facts e u x (s, es, tables, range, few) =
-    let (a, b) = ready-range rows places facts e u (s, es, tables, range) in
-    (a, b, omega (arith, tables .few))
+pub kept-place : (n : ℕ) → n ≤ 96 → placeOr0 n ≡ n
+kept-place n l = rw (le-leb n 96 l, placeOr0)
+
+pub no-place : (n : ℕ) → 96 < n → placeOr0 n ≡ 0
+no-place n l = rw (lt-leb n 96 l, placeOr0)
+
+place-most : (n : ℕ) → placeOr0 n ≤ 96
+place-most n = by-test (leb n 96) refl
+  where
+    by-test : (b : Bool) → leb n 96 ≡ b → elim b [ true ↦ n | false ↦ 0 ] ≤ 96
+    by-test true e = leb-true n 96 e
+    by-test false e = omega arith
+
+-- Whatever the rows hold, what is required is a place or 0.
+pub required-small : (rows : List ℕ) (e u : ℕ) → requiredAt rows e u ≤ 96
+required-small rows e u = place-most (getD rows (rowAt e u + 13) 0)
+
+-- In the rows of a type the required place is one of the model's.
+pub required-kept : (s : List ℕ) (es : List Element) → Accepts s es → (rows : List ℕ) → Rows es rows → (e u : ℕ) → e ≤ length es → u ≤ width es e → requiredAt rows e u ≡ requiredOf (contentOf es e) (placed u)
+required-kept s es accepted rows said e u d l =
+    let said-so = said .required e u d l in
+    kept-place (getD rows (rowAt e u + 13) 0) (omega (arith, said-so, required-most s es accepted e u l, width-most s es accepted e)) ∙ said-so
+
+-- What is read of the rows, at b, is the required place, also by the rules.
+module _ (rows : List ℕ) (e u r b : ℕ) (there : b ≡ rowAt e u) (read : r ≡ getD rows (b + 13) 0) where
+  abbrev RequiresAt : ℕ → Type 0
+  RequiresAt q = (q ≡ requiredAt rows e u) × ((s : List ℕ) (es : List Element) → Accepts s es → Rows es rows → InRange es (standing e u) → q ≡ requiredOf (contentOf es e) (placed u))
+
+  by-rows : (q : ℕ) → q ≡ requiredAt rows e u → RequiresAt q
+  by-rows q z = (z, λ s es accepted said range. z ∙ required-kept s es accepted rows said e u (range .declared) (place-range es e u range))
+
+  read-there : getD rows (rowAt e u + 13) 0 ≡ r
+  read-there = rw (← there) (sym read)
+
+  pub requires-none : 96 < r → RequiresAt 0
+  requires-none l = by-rows 0 (sym (ap placeOr0 read-there ∙ no-place r l))
+
+  pub requires-some : r ≤ 96 → RequiresAt r
+  requires-some l = by-rows r (sym (ap placeOr0 read-there ∙ kept-place r l))

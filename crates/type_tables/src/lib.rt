@@ -12,16 +12,19 @@
 //
 // `facts`: for each element 68 numbers. Number x is the largest place of the name x, or 0. Numbers 65, 66 and 67 are 1
 // where the start may be omitted, the end may be omitted, and the content is a model.
+//
+// Whatever the tables hold, each function ends and stays within them; a number that no table of a type has is answered by 0.
 ghost use mathlib.Core.Path.{_≡_};
 ghost use mathlib.Core.List.{List};
 ghost use Prim.Native.Nat.{ℕ, _+_, _*_, _/_, _%_, _≤_, _<_};
 ghost use lib.ListN.{getD};
 ghost use Rattle.rules.specs.TypeFile.{Element};
+ghost use Rattle.rules.specs.Judge.{Accepts};
 ghost use Rattle.rules.specs.Settling.{Token, contentOf, hasModel, startO, endO};
 ghost use Rattle.rules.specs.Settling as rules;
 ghost use Rattle.document_laws.specs.Decide.{decided};
 ghost use Rattle.last_places.specs.Last.{placed, InRange};
-ghost use Rattle.type_tables.specs.Means.{standing, nameNumber, rowAt, bitOf, completeAt, requiredAt, Declares, Rows, Facts, Tables, Ready, ReadyFor, Requires, AnyRequires};
+ghost use Rattle.type_tables.specs.Means.{standing, nameNumber, rowAt, bitOf, completeAt, requiredAt, Declares, Rows, Facts, Tables, Requires};
 
 fn wide(b: u8) -> usize
     ensures { λ r. ⌜ (r ≡ b) × (r < 256) ⌝ }
@@ -60,18 +63,14 @@ pub fn complete(rows: &[u8; 88270], e: usize, u: usize) -> bool
 pub fn required(rows: &[u8; 88270], e: usize, u: usize) -> usize
     requires { ⌜ (e ≤ 64) × (u ≤ 96) ⌝ }
     ensures { λ r. ⌜ r ≡ requiredAt (now (rows .entry)) e u ⌝ }
-    ensures { λ r. ⌜ ((s : List ℕ) (es : List Element) → Rows es (now (rows .entry)) → InRange es (standing e u) →
+    ensures { λ r. ⌜ ((s : List ℕ) (es : List Element) → Accepts s es → Rows es (now (rows .entry)) → InRange es (standing e u) →
         r ≡ decided s es .required e (placed u)) ⌝ }
 {
-    wide(rows[row(e, u) + 13])
-}
-
-// What the place p of the element e names: an element, 255 for `#PCDATA`, 0 if that is not declared.
-fn named(places: &[u8; 12610], e: usize, p: usize) -> usize
-    requires { ⌜ (e ≤ 64) × (p ≤ 96) ⌝ }
-    ensures { λ r. ⌜ r ≡ getD (now (places .entry)) ((e * 97 + p) * 2) 0 ⌝ }
-{
-    wide(places[(e * 97 + p) * 2])
+    let p = wide(rows[row(e, u) + 13]);
+    if 96 < p {
+        return 0;
+    }
+    p
 }
 
 // The next smaller place of the same name.
@@ -80,13 +79,6 @@ fn smaller(places: &[u8; 12610], e: usize, p: usize) -> usize
     ensures { λ r. ⌜ r ≡ getD (now (places .entry)) ((e * 97 + p) * 2 + 1) 0 ⌝ }
 {
     wide(places[(e * 97 + p) * 2 + 1])
-}
-
-fn largest(facts: &[u8; 4420], e: usize, x: usize) -> usize
-    requires { ⌜ (e ≤ 64) × (x ≤ 64) ⌝ }
-    ensures { λ r. ⌜ r ≡ getD (now (facts .entry)) (e * 68 + x) 0 ⌝ }
-{
-    wide(facts[e * 68 + x])
 }
 
 fn start_omitted(facts: &[u8; 4420], e: usize) -> bool
@@ -111,7 +103,7 @@ pub fn has_model(facts: &[u8; 4420], e: usize) -> bool
     facts[e * 68 + 67] == 1
 }
 
-// The place of the name x that may come next in the element e after the place u, or 0.
+// The place of the name x that may come next in the element e after the place u, or 0. The places of a name are linked downwards.
 pub fn fitting(
     rows: &[u8; 88270],
     places: &[u8; 12610],
@@ -120,24 +112,31 @@ pub fn fitting(
     u: usize,
     x: usize,
 ) -> usize
-    requires { ⌜ ReadyFor (now rows) (now places) (now facts) e u x ⌝ }
+    requires { ⌜ (e ≤ 64) × (u ≤ 96) × (x ≤ 64) ⌝ }
     ensures { λ r. ⌜ ((s : List ℕ) (es : List Element) → Tables s es (now (rows .entry)) (now (places .entry)) (now (facts .entry)) → InRange es (standing e u) →
         (t : Token) → nameNumber t ≡ x → Declares es t → r ≡ decided s es .fits e (placed u) t) ⌝ }
     ensures { λ r. ⌜ r ≤ 96 ⌝ }
 {
-    let mut p = largest(facts, e, x);
+    let mut p = wide(facts[e * 68 + x]);
+    if 96 < p {
+        return 0;
+    }
     while p != 0 {
         if bit(rows, e, u, p) {
             return p;
         }
-        p = smaller(places, e, p);
+        let q = smaller(places, e, p);
+        if p <= q {
+            return 0;
+        }
+        p = q;
     }
     0
 }
 
 // The element whose start is to be inferred in the element e where the place p is required, or 0.
 pub fn startable(places: &[u8; 12610], facts: &[u8; 4420], e: usize, p: usize) -> usize
-    requires { ⌜ AnyRequires (now places) (now facts) e p ⌝ }
+    requires { ⌜ e ≤ 64 ⌝ }
     ensures { λ r. ⌜ ((s : List ℕ) (es : List Element) (rows : List ℕ) → Tables s es rows (now (places .entry)) (now (facts .entry)) → (u : ℕ) → Requires es e p u →
         r ≡ rules.inferable s es (decided s es) (standing e u)) ⌝ }
     ensures { λ r. ⌜ r ≤ 64 ⌝ }
@@ -145,11 +144,15 @@ pub fn startable(places: &[u8; 12610], facts: &[u8; 4420], e: usize, p: usize) -
     if p == 0 {
         return 0;
     }
-    let k = named(places, e, p);
+    if 96 < p {
+        return 0;
+    }
+    // what the place names: an element, 255 for `#PCDATA`, 0 if that is not declared
+    let k = wide(places[(e * 97 + p) * 2]);
     if k == 0 {
         return 0;
     }
-    if k == 255 {
+    if 64 < k {
         return 0;
     }
     if !start_omitted(facts, k) {
@@ -169,7 +172,7 @@ pub fn inferable(
     e: usize,
     u: usize,
 ) -> usize
-    requires { ⌜ Ready (now rows) (now places) (now facts) e u ⌝ }
+    requires { ⌜ (e ≤ 64) × (u ≤ 96) ⌝ }
     ensures { λ r. ⌜ ((s : List ℕ) (es : List Element) → Tables s es (now (rows .entry)) (now (places .entry)) (now (facts .entry)) → InRange es (standing e u) →
         r ≡ rules.inferable s es (decided s es) (standing e u)) ⌝ }
     ensures { λ r. ⌜ r ≤ 64 ⌝ }

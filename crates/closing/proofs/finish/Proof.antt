@@ -1,36 +1,51 @@
 -- `finish` meets its contract: each way by what the loop leaves and the tables answer.
-use borrow.Author.Needs.{needs}
 use borrow.Author.Tests.{not-true, not-false}
-use Rattle.closing.specs.Loop.{tabled}
 use Rattle.closing.specs.Laws.{end-refused, end-unfinished, end-finished}
+use borrow.Author.Needs.{needs}
 use Rattle.closing.proofs.finish.Statement.{statement}
 use Rattle.closing.proofs.finish.Tie as tie
 
 end-until-requires : tie.Need-end-until-requires
 end-until-requires c κs = search needs
 
-returns : tie.Need-returns
-returns c =
-    let e = c .before .before in
-    let p = e .before .before .before .pre in
-    end-refused (e .end-until .ensures) (p .1 .0 .0) (tabled (p .0) .1) (c .if1 .taken)
+same-length : tie.Need-same-length
+same-length c = search needs
 
-refused-requires : tie.Need-refused-requires
-refused-requires c κs = search needs
+same-length-2 : tie.Need-same-length-2
+same-length-2 c = search needs
+
+returns : tie.Need-returns
+returns c = end-refused (c .before .before .before .before .before .before .end-until .ensures) (c .before .before .before .before .before .before .before .before .before .before .before .pre .0 .few) (c .if1 .taken)
+
+same-length-3 : tie.Need-same-length-3
+same-length-3 c = search needs
+
+same-length-4 : tie.Need-same-length-4
+same-length-4 c = search needs
 
 returns-2 : tie.Need-returns-2
-returns-2 c =
-    let e = c .before .before .before .before .before in
-    let p = e .before .before .before .pre in
-    end-unfinished (e .end-until .ensures) (p .1 .0 .0) (tabled (p .0) .1) (c .before .before .before .if1 .left) (not-true _ (c .before .if2 .taken)) (c .refused .ensures)
+returns-2 c = end-unfinished (c .before .before .before .before .before .before .before .before .before .end-until .ensures) (c .before .before .before .before .before .before .before .before .before .before .before .before .before .before .pre .0 .few) (c .before .before .before .if1 .left) (not-true _ (c .if2 .taken))
+
+same-length-5 : tie.Need-same-length-5
+same-length-5 c = search needs
+
+same-length-6 : tie.Need-same-length-6
+same-length-6 c = search needs
 
 returns-3 : tie.Need-returns-3
-returns-3 c =
-    let e = c .before .before .before .before in
-    let p = e .before .before .before .pre in
-    end-finished (e .end-until .ensures) (p .1 .0 .0) (tabled (p .0) .1) (c .before .before .if1 .left) (not-false _ (c .if2 .left))
+returns-3 c = end-finished (c .before .before .before .before .before .before .before .before .before .end-until .ensures) (c .before .before .before .before .before .before .before .before .before .before .before .before .before .before .pre .0 .few) (c .before .before .before .if1 .left) (not-false _ (c .if2 .left))
 
 pub finish-spec : {M : Type 1} → statement M
 finish-spec =
     tie.close
-    (tie.spec end-until-requires returns refused-requires returns-2 returns-3)
+    (tie.spec
+    end-until-requires
+    same-length
+    same-length-2
+    returns
+    same-length-3
+    same-length-4
+    returns-2
+    same-length-5
+    same-length-6
+    returns-3)

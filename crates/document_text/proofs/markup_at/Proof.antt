@@ -41,8 +41,9 @@ add-tag-at-2 c = search needs
 
 tag-at-requires-2 : tie.Need-tag-at-requires-2
 tag-at-requires-2 c κs =
-    let a = c .before .before .before .before .before .before .args in
-    omega (arith, letter-in (a .s .now) (a .i + 2) (second (eqb (byteAt (a .s .now) (a .i + 1)) 47) _ (sym (c .before .is-end-tag .ensures) ∙ c .if2 .taken)))
+    let p = c .before .before .before .before .before .before in
+    let a = p .args in
+    (p .pre .0, omega (arith, letter-in (a .s .now) (a .i + 2) (second (eqb (byteAt (a .s .now) (a .i + 1)) 47) _ (sym (c .before .is-end-tag .ensures) ∙ c .if2 .taken))))
 
 end-tag-requires : tie.Need-end-tag-requires
 end-tag-requires c κs = search needs

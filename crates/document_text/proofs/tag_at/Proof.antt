@@ -23,18 +23,18 @@ returns c =
 separators-end-requires : tie.Need-separators-end-requires
 separators-end-requires c κs =
     let a = c .before .before .before .args in
-    omega (arith, nameEnd-le (a .s .now) (a .i) (c .before .before .before .pre))
+    omega (arith, nameEnd-le (a .s .now) (a .i) (c .before .before .before .pre .1))
 
 byte-requires : tie.Need-byte-requires
 byte-requires c κs = search needs
 
-sub-t9 : tie.Need-sub-t9
-sub-t9 c =
+sub-t10 : tie.Need-sub-t10
+sub-t10 c =
     let a = c .before .before .before .before .before .before .args in
     omega (arith, nameEnd-from (a .s .now) (a .i))
 
-add-t10 : tie.Need-add-t10
-add-t10 c =
+add-t11 : tie.Need-add-t11
+add-t11 c =
     let a = c .before .before .before .before .before .before .args in
     omega (arith, byte-is-in (a .s .now) (c .before .before .separators-end .result) 62 (sym (c .before .byte .ensures) ∙ c .if2 .taken) (omega arith))
 
@@ -57,7 +57,7 @@ tag-at-spec =
     returns
     separators-end-requires
     byte-requires
-    sub-t9
-    add-t10
+    sub-t10
+    add-t11
     returns-2
     returns-3)

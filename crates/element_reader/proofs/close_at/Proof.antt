@@ -8,7 +8,8 @@ use borrow.Author.Needs.{needs}
 use borrow.Author.Tests.{eq-eqb, ne-eqb}
 use Rattle.rules.specs.Bytes.{byteAt}
 use Rattle.text.specs.Means.{refusalOf}
-use Rattle.element_reader.specs.Laws.{unfit-is, close-end, close-exception, close-unfit}
+use Rattle.gaps.specs.Unfit.{unfit-is}
+use Rattle.element_reader.specs.Laws.{close-end, close-exception, close-unfit}
 use Rattle.element_reader.proofs.close_at.Statement.{statement}
 use Rattle.element_reader.proofs.close_at.Tie as tie
 

@@ -2,8 +2,9 @@
 use Prim.Native.Nat.{_≤_, _<_}
 use lib.ListN.{length}
 use borrow.Author.Needs.{needs}
-use Rattle.element_reader.specs.Laws.{head-got, head-refused, element-head, element-rest, element-refused, element-from, element-room}
-use Rattle.element_reader.specs.Ends.{head-within}
+use Rattle.element_head.specs.Words.{head-got, head-refused}
+use Rattle.element_reader.specs.Laws.{element-head, element-rest, element-refused, element-from, element-room}
+use Rattle.element_head.specs.Ends.{head-within}
 use Rattle.element_reader.proofs.element_at.Statement.{statement}
 use Rattle.element_reader.proofs.element_at.Tie as tie
 

@@ -1,8 +1,6 @@
 use borrow.Author.Needs.{needs}
 use Rattle.element_reader.proofs.fault_of.Statement.{statement}
 use Rattle.element_reader.proofs.fault_of.Tie as tie
-use Rattle.element_reader.proofs.fault_of.Reads as reads
-use Rattle.element_reader.proofs.fault_of.Lts as lts
 
 -- src/lib.rt:96:33
 enum-told : tie.Need-enum-told

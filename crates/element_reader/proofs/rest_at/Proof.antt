@@ -6,10 +6,12 @@ use lib.ListN.{length}
 use borrow.Author.Needs.{needs}
 use Rattle.rules.specs.Reading.{got}
 use Rattle.rules.specs.TypeFile.{ContentEnd, gap, content}
-use Rattle.text.specs.Laws.{gap-range}
-use Rattle.element_reader.specs.Means.{headIn, KeepsBody}
-use Rattle.element_reader.specs.Laws.{reached-got, reached-refused, body-read, body-fault, rest-gap, rest-content, rest-between, rest-close, rest-got, element-meets, element-refused}
-use Rattle.element_reader.specs.Ends.{content-from, close-range}
+use Rattle.text.specs.Laws.{gap-range, reached-got, reached-refused}
+use Rattle.element_head.specs.Heads.{headIn}
+use Rattle.element_content.specs.Kept.{KeepsBody}
+use Rattle.element_content.specs.Contents.{body-read, body-fault}
+use Rattle.element_reader.specs.Laws.{rest-gap, rest-content, rest-between, rest-close, rest-got, element-meets, element-refused}
+use Rattle.element_head.specs.Ends.{content-from, close-range}
 use Rattle.element_reader.proofs.rest_at.Statement.{statement}
 use Rattle.element_reader.proofs.rest_at.Tie as tie
 

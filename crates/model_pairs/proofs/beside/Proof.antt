@@ -1,9 +1,11 @@
 -- `beside` meets its contract. The invariant: the set holds what may come next in some row before `u` where `p` may.
 use Prim.Native.Nat.{_+_, _-_, _≤_}
+use mathlib.Core.Path.{ap}
 use mathlib.Core.Logic.{⊎-elim}
 use native.Mathlib.Omega.{arith}
+use borrow.Author.Needs.{needs}
 use borrow.Author.Tests.{eq-eqb, ne-eqb}
-use Rattle.model_pairs.specs.Rows.{rowIn}
+use Rattle.model_pairs.specs.Rows.{isNext, rowIn}
 use Rattle.model_pairs.specs.Laws.{Beside, beside-none, beside-row, beside-skip, beside-end}
 use Rattle.model_pairs.proofs.beside.Statement.{statement}
 use Rattle.model_pairs.proofs.beside.Tie as tie
@@ -26,8 +28,11 @@ add-if1 c = omega arith
 element-copy-out-if1 : tie.Need-element-copy-out-if1 Inv-loop μ-loop
 element-copy-out-if1 c = omega arith
 
-with-row-requires : tie.Need-with-row-requires Inv-loop μ-loop
-with-row-requires c κs = omega arith
+next-after-requires : tie.Need-next-after-requires Inv-loop μ-loop
+next-after-requires c κs = omega arith
+
+with-next-requires : tie.Need-with-next-requires Inv-loop μ-loop
+with-next-requires c κs = search needs
 
 add-u : tie.Need-add-u Inv-loop μ-loop
 add-u c = omega arith
@@ -39,7 +44,8 @@ loop-again : tie.Need-loop-again Inv-loop μ-loop
 loop-again c =
     let so-far = c .before .before .before .loop .inv .1 in
     ⊎-elim
-    (λ w. (omega arith, rw (w .2) (beside-row _ _ _ _ so-far _ (eq-eqb _ _ (w .0 .taken)) (w .1 .ensures))))
+    (λ w.
+    (omega arith, rw (w .3) (beside-row _ _ _ _ so-far (w .1 .result) _ (eq-eqb _ _ (w .0 .taken)) (λ q h. ap isNext (w .1 .ensures q h)) (w .2 .ensures))))
     (λ w. (omega arith, rw (w .1) (beside-skip _ _ _ _ so-far (ne-eqb _ _ (w .0 .left)))))
     (c .if1 .came)
 
@@ -56,7 +62,8 @@ beside-spec =
     mul-if1
     add-if1
     element-copy-out-if1
-    with-row-requires
+    next-after-requires
+    with-next-requires
     add-u
     loop-less
     loop-again

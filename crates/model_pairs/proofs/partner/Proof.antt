@@ -6,7 +6,8 @@ use native.Mathlib.Omega.{arith}
 use borrow.Author.Tests.{not-true}
 use Rattle.rules.specs.Judge.{samePlace}
 use Rattle.model_names.specs.Places.{placesOf}
-use Rattle.model_pairs.specs.Laws.{Seeks, seeks-start, seeks-on, seeks-past, seeks-found, seeks-none, apart, at-fault, unshared}
+use Rattle.same_names.specs.Laws.{unshared}
+use Rattle.model_pairs.specs.Laws.{Seeks, seeks-start, seeks-on, seeks-past, seeks-found, seeks-none, apart, at-fault}
 use Rattle.model_pairs.proofs.partner.Statement.{statement}
 use Rattle.model_pairs.proofs.partner.Tie as tie
 

@@ -1,9 +1,9 @@
 -- `name` meets its contract: what the place holds is `#PCDATA`, or a name that is looked up.
-use Rattle.table_fill.specs.Names.{name-asked, name-some}
 use mathlib.Core.Path.{sym, _∙_}
 use native.Mathlib.Omega.{arith}
 use borrow.Author.Tests.{eq-eqb}
 use borrow.Author.Needs.{needs}
+use Rattle.table_fill.specs.Names.{name-some}
 use Rattle.table_fill.proofs.name.Statement.{statement}
 use Rattle.table_fill.proofs.name.Tie as tie
 
@@ -32,11 +32,7 @@ place-at-requires : tie.Need-place-at-requires
 place-at-requires c κs = search needs
 
 find-requires : tie.Need-find-requires
-find-requires c κs =
-    let tested = c .before in
-    let start = tested .before .before .before .before in
-    let (inside, letter) = name-asked (start .args .s .now) _ _ _ (tested .before .widened .ensures .0) (c .place-at .ensures .0) (tested .if1 .left) (start .pre .1 .2) in
-    ((_, start .pre .0), (omega arith, omega arith, inside, letter))
+find-requires c κs = (omega arith, omega arith, omega arith)
 
 returns-2 : tie.Need-returns-2
 returns-2 c =

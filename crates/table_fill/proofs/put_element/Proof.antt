@@ -20,7 +20,7 @@ sub-element-at c = search needs
 
 element-at-requires : tie.Need-element-at-requires
 element-at-requires c κs =
-    name-in _ _ _ _ _ _ _ _ (c .before .before .before .before .before .before .pre) _ (c .before .before .offset .ensures)
+    name-in _ _ _ _ _ _ _ _ (c .before .before .before .before .before .before .pre) _ (c .before .before .offset .ensures .0)
 
 enum-known-r : tie.Need-enum-known-r
 enum-known-r c = search needs
@@ -32,7 +32,7 @@ returns : tie.Need-returns
 returns c =
     let reading = c .before .before in
     let start = reading .before .before .before .before .before .before .before in
-    let offset = reading .before .before .before .offset .ensures in
+    let offset = reading .before .before .before .offset .ensures .0 in
     let met = reading .element-at .ensures .0 in
     absurd (not-refused _ _ _ _ _ _ _ _ (start .pre) _ _ _ _ offset met _ (c .enum-told .given .1))
 
@@ -46,7 +46,7 @@ returns-2 : tie.Need-returns-2
 returns-2 c =
     let reading = c .before .before .before .before .before .before in
     let start = reading .before .before .before .before .before .before .before in
-    let offset = reading .before .before .before .offset .ensures in
+    let offset = reading .before .before .before .offset .ensures .0 in
     let met = reading .element-at .ensures .0 in
     let is = c .before .before .before .before .r .given .1 in
     element-empty _ _ _ _ _ _ _ _ (start .pre) _ _ _ _ offset met _ is _ (reading .before .before .before .before .put-facts .ensures) (c .before .if1 .taken) _ (c .row .ensures)
@@ -55,7 +55,7 @@ put-rows-requires : tie.Need-put-rows-requires
 put-rows-requires c κs =
     let reading = c .before .before .before .before .before .before .before in
     let start = reading .before .before .before .before .before .before .before in
-    let offset = reading .before .before .before .offset .ensures in
+    let offset = reading .before .before .before .offset .ensures .0 in
     let met = reading .element-at .ensures .0 in
     let is = c .before .before .before .before .before .r .given .1 in
     (few _ _ _ _ _ _ _ _ (start .pre), places-few _ _ _ _ _ _ _ _ (start .pre) _ _ _ _ offset met _ is (c .before .before .if1 .left), start .pre .filled .rows-len)
@@ -64,7 +64,7 @@ put-places-requires : tie.Need-put-places-requires
 put-places-requires c κs =
     let reading = c .before .before .before .before .before .before .before .before .before .before .before in
     let start = reading .before .before .before .before .before .before .before in
-    let offset = reading .before .before .before .offset .ensures in
+    let offset = reading .before .before .before .offset .ensures .0 in
     let met = reading .element-at .ensures .0 in
     let is = c .before .before .before .before .before .before .before .before .before .r .given .1 in
     places-due _ _ _ _ _ _ _ _ (start .pre) _ _ _ _ offset met _ is _ (reading .before .before .before .before .put-facts .ensures) (c .before .before .before .before .before .before .if1 .left)
@@ -73,7 +73,7 @@ returns-3 : tie.Need-returns-3
 returns-3 c =
     let reading = c .before .before .before .before .before .before .before .before .before .before .before .before in
     let start = reading .before .before .before .before .before .before .before in
-    let offset = reading .before .before .before .offset .ensures in
+    let offset = reading .before .before .before .offset .ensures .0 in
     let met = reading .element-at .ensures .0 in
     let is = c .before .before .before .before .before .before .before .before .before .before .r .given .1 in
     element-model _ _ _ _ _ _ _ _ (start .pre) _ _ _ _ offset met _ is _ (reading .before .before .before .before .put-facts .ensures) (c .before .before .before .before .before .before .before .if1 .left) _ _ _ (c .before .before .before .before .put-rows .ensures) (c .put-places .ensures)

@@ -1,22 +1,18 @@
 -- `inferable` meets its contract: what may be started at the place that is required.
-use Rattle.type_tables.specs.Ranges.{ready-range}
+use borrow.Author.Needs.{needs}
 use Rattle.type_tables.proofs.inferable.Statement.{statement}
 use Rattle.type_tables.proofs.inferable.Tie as tie
 
 required-requires : tie.Need-required-requires
-required-requires c κs =
-    let a = c .args in
-    ready-range (a .rows .now) (a .places .now) (a .facts .now) (a .e) (a .u) (c .pre)
+required-requires c κs = search needs
 
 startable-requires : tie.Need-startable-requires
-startable-requires c κs =
-    let (s, es, tables, range) = c .before .pre in
-    (s, es, c .before .args .rows .now, c .before .args .u, tables, record { range = range; required = c .required .ensures .1 s es (tables .rows-say) range })
+startable-requires c κs = search needs
 
 returns : tie.Need-returns
 returns c = (
   λ s es tables range.
-      c .startable .ensures .0 s es _ tables (c .before .before .args .u) (record { range = range; required = c .before .required .ensures .1 s es (tables .rows-say) range }),
+      c .startable .ensures .0 s es _ tables (c .before .before .args .u) (record { range = range; required = c .before .required .ensures .1 s es (tables .accepted) (tables .rows-say) range }),
   c .startable .ensures .1,
 )
 

@@ -1,6 +1,6 @@
 -- `required` meets its contract: the row holds what the rules decide.
 use borrow.Author.Needs.{needs}
-use Rattle.type_tables.specs.Ranges.{place-range}
+use Rattle.type_tables.specs.Ranges.{requires-none, requires-some}
 use Rattle.type_tables.proofs.required.Statement.{statement}
 use Rattle.type_tables.proofs.required.Tie as tie
 
@@ -18,10 +18,17 @@ wide-requires c κs = search needs
 
 returns : tie.Need-returns
 returns c =
-    let w = c .wide .ensures .0 in
-    let e = c .before .before .row .ensures in
-    (rw (w, e), λ s es said range. rw (w, e) (said .required _ _ (range .declared) (place-range _ _ _ range)))
+    let read = c .before in
+    let a = read .before .before .before .args in
+    requires-none (a .rows .now) (a .e) (a .u) _ _ (read .before .before .row .ensures) (read .wide .ensures .0) (c .if1 .taken)
+
+returns-2 : tie.Need-returns-2
+returns-2 c =
+    let read = c .before in
+    let a = read .before .before .before .args in
+    requires-some (a .rows .now) (a .e) (a .u) _ _ (read .before .before .row .ensures) (read .wide .ensures .0) (c .if1 .left)
 
 pub required-spec : {M : Type 1} → statement M
 required-spec =
-    tie.close (tie.spec row-requires add-wide element-copy-out-wide wide-requires returns)
+    tie.close
+    (tie.spec row-requires add-wide element-copy-out-wide wide-requires returns returns-2)

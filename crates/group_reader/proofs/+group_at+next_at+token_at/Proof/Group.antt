@@ -1,20 +1,18 @@
 -- The needs of `group_at`: the first token, and a loop over the others. Its invariant: what is kept of the members so far, whatever
 -- was kept of the first one; its measure: how many members there may still be.
-use Prim.Native.Nat.{ℕ, _+_, _-_, _≤_, _<_}
-use mathlib.Core.Path.{_≡_, refl, sym, ap, _∙_}
-use mathlib.Core.List.{List}
+use Prim.Native.Nat.{ℕ, _+_, _-_}
+use mathlib.Core.Path.{_≡_}
 use native.Mathlib.Omega.{arith}
 use lib.ListN.{length}
 use lib.Dec.{leb}
 use borrow.Author.Needs.{needs}
 use borrow.Author.Tests.{leb-false}
-use Rattle.rules.specs.Reading.{Reading, got, andThen}
 use Rattle.rules.specs.TypeFile.{Tokens, group, token, members}
 use Rattle.model_names.specs.Places.{placesOf}
 use Rattle.text.specs.Laws.{separatorsEnd-le}
-use Rattle.group_reader.specs.declared.Model.{Model}
-use Rattle.group_reader.specs.Means.{Keeps}
-use Rattle.group_reader.specs.Laws.{refused-meets, refused-then, group-none, group-some, group-begun, So, so-first, so-in, so-closed, so-unfit, so-joined}
+use Rattle.content_tokens.specs.Kept.{Keeps}
+use Rattle.content_tokens.specs.Readings.{refused-meets, refused-then}
+use Rattle.group_reader.specs.Groups.{group-none, group-some, group-begun, So, so-first, so-in, so-closed, so-unfit, so-joined}
 use Rattle.group_reader.proofs.group_at.Reads as group-at
 use Rattle.group_reader.proofs.+group_at+next_at+token_at.Lts-group_at as lts
 use Rattle.group_reader.proofs.+group_at+next_at+token_at.Proof.Measures.{group-at-at, group-at-calls}

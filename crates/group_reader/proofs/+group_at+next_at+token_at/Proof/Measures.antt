@@ -12,13 +12,13 @@ use Rattle.group_reader.proofs.+group_at+next_at+token_at.Lts-next_at a
 use Rattle.group_reader.proofs.token_at.Reads as token-at
 use Rattle.group_reader.proofs.token_at.Kinds as token-at-kinds
 use Rattle.group_reader.proofs.+group_at+next_at+token_at.Lts-token_at as token-at-lts
-use Rattle.group_reader.proofs.data_token.Reads as data-token-reads
-use Rattle.group_reader.proofs.fault_of.Reads as fault-of-reads
-use Rattle.group_reader.proofs.is_connector.Reads as is-connector-reads
-use Rattle.group_reader.proofs.joined_by.Reads as joined-by-reads
-use Rattle.group_reader.proofs.name_token.Reads as name-token-reads
-use Rattle.group_reader.proofs.refusal.Reads as refusal-reads
-use Rattle.group_reader.proofs.with_occurrence.Reads as with-occurrence-reads
+use Rattle.content_tokens.proofs.data_token.Reads as data-token-reads
+use Rattle.content_tokens.proofs.fault_of.Reads as fault-of-reads
+use Rattle.content_tokens.proofs.is_connector.Reads as is-connector-reads
+use Rattle.content_tokens.proofs.joined_by.Reads as joined-by-reads
+use Rattle.content_tokens.proofs.name_token.Reads as name-token-reads
+use Rattle.content_tokens.proofs.refusal.Reads as refusal-reads
+use Rattle.content_tokens.proofs.with_occurrence.Reads as with-occurrence-reads
 use Rattle.text.proofs.byte.Reads as byte-reads
 use Rattle.text.proofs.is_letter.Reads as is-letter-reads
 use Rattle.text.proofs.separators_end.Reads as separators-end-reads
@@ -52,16 +52,7 @@ token-at-below t = and 3 token-at-kinds.ps (falls 3 token-at-kinds.ps _<_ μ-tok
 
 -- what each member knows of what it calls
 abbrev pub group-at-calls : ℕ → group-at-lts.Claims
-group-at-calls t = (
-  refusal-reads.Asked,
-  refusal-reads.Learnt,
-  separators-end-reads.Asked,
-  separators-end-reads.Learnt,
-  token-at-below t,
-  token-at.Post,
-  next-at-below t,
-  next-at.Post,
-)
+group-at-calls t = (refusal-reads.Asked, refusal-reads.Learnt, separators-end-reads.Asked, separators-end-reads.Learnt, token-at-below t, token-at.Post, next-at-below t, next-at.Post)
 
 abbrev pub next-at-calls : ℕ → next-at-lts.Claims
 next-at-calls t = (

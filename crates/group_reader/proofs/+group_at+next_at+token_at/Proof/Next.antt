@@ -1,17 +1,18 @@
 -- The needs of `next_at`: what can follow a content token, as the rules tell it apart.
 use Prim.Native.Nat.{ℕ, _+_, _≤_, _<_}
-use mathlib.Core.Path.{_≡_, refl, sym, ap, _∙_}
-use mathlib.Core.Bool.{true, false, _||_}
+use mathlib.Core.Path.{_≡_}
+use mathlib.Core.Bool.{_||_}
 use mathlib.Core.Logic.{⊎-elim}
 use native.Mathlib.Omega.{arith}
 use lib.ListN.{length}
-use lib.Dec.{eqb, leb}
+use lib.Dec.{leb}
 use borrow.Author.Needs.{needs}
 use borrow.Author.Tests.{eq-eqb, ne-eqb, le-leb, lt-leb, not-true, not-false}
 use Rattle.rules.specs.TypeFile.{group, token}
 use Rattle.model_names.specs.Places.{placesOf}
 use Rattle.text.specs.Laws.{separatorsEnd-le, or-taken, or-left}
-use Rattle.group_reader.specs.Laws.{or-first, or-second, or-other, connector-in, read-in, next-closed, next-unfit, next-other, next-refused, next-joined}
+use Rattle.content_tokens.specs.Readings.{read-in}
+use Rattle.group_reader.specs.Groups.{or-first, or-second, or-other, connector-in, next-closed, next-unfit, next-other, next-refused, next-joined}
 use Rattle.group_reader.proofs.next_at.Reads as next-at
 use Rattle.group_reader.proofs.+group_at+next_at+token_at.Lts-next_at as lts
 use Rattle.group_reader.proofs.+group_at+next_at+token_at.Proof.Measures.{next-at-at, next-at-calls}

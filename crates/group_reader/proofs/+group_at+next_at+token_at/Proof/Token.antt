@@ -1,16 +1,15 @@
 -- The needs of `token_at`: each way that a content token can begin, as the rules tell them apart.
-use Prim.Native.Nat.{ℕ, _+_, _≤_, _<_}
-use mathlib.Core.Path.{_≡_, refl, sym, _∙_}
-use mathlib.Core.Bool.{true, false, _||_}
+use Prim.Native.Nat.{ℕ, _+_}
+use mathlib.Core.Path.{sym, _∙_}
 use mathlib.Core.Logic.{⊎-elim}
 use native.Mathlib.Omega.{arith}
-use lib.Dec.{eqb}
 use borrow.Author.Needs.{needs}
 use borrow.Author.Tests.{eq-eqb, ne-eqb}
 use Rattle.rules.specs.TypeFile.{group, occurrence}
 use Rattle.model_names.specs.Places.{placesOf}
-use Rattle.text.specs.Laws.{byte-is-in, letter-in}
-use Rattle.group_reader.specs.Laws.{or-first, or-second, refused-meets, read-in, refused-then, read-then, token-name, token-data, token-full, token-group, token-unfit, token-other}
+use Rattle.text.specs.Laws.{byte-is-in}
+use Rattle.content_tokens.specs.Readings.{refused-meets, read-in, refused-then, read-then}
+use Rattle.group_reader.specs.Groups.{or-first, or-second, token-name, token-data, token-full, token-group, token-unfit, token-other}
 use Rattle.group_reader.proofs.token_at.Reads as token-at
 use Rattle.group_reader.proofs.+group_at+next_at+token_at.Lts-token_at as lts
 use Rattle.group_reader.proofs.+group_at+next_at+token_at.Proof.Measures.{token-at-at, token-at-calls}

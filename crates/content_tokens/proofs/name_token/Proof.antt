@@ -1,0 +1,96 @@
+-- `name_token` meets its contract: the name's size, then the room for a token; then the new place with its indicator.
+use mathlib.Core.Path.{refl}
+use native.Mathlib.Omega.{arith}
+use borrow.Author.Needs.{needs}
+use Rattle.text.specs.Laws.{nameEnd-from, nameEnd-le}
+use Rattle.content_tokens.specs.Readings.{got-meets, refused-meets}
+use Rattle.content_tokens.specs.Grown.{name-long, name-full, name-got, new-place}
+use Rattle.content_tokens.proofs.name_token.Statement.{statement}
+use Rattle.content_tokens.proofs.name_token.Tie as tie
+
+name-end-requires : tie.Need-name-end-requires
+name-end-requires c κs = search needs
+
+sub-n : tie.Need-sub-n
+sub-n c =
+    let x = c .before .before .args in
+    omega (arith, nameEnd-from (x .s .now) (x .at), c .name-end .ensures)
+
+refusal-requires : tie.Need-refusal-requires
+refusal-requires c κs = search needs
+
+returns : tie.Need-returns
+returns c =
+    let e = c .before .before in
+    let x = e .before .before .args in
+    refused-meets _ _ _ _ _ _ 3 (x .at) _ (c .refusal .ensures) (name-long (x .s .now) (x .at) (e .name-end .result) (x .full) _ (x .tokens) (e .name-end .ensures) (c .before .if1 .taken))
+
+refusal-requires-2 : tie.Need-refusal-requires-2
+refusal-requires-2 c κs = search needs
+
+returns-2 : tie.Need-returns-2
+returns-2 c =
+    let d = c .before .before in
+    let e = d .before in
+    let x = e .before .before .args in
+    refused-meets _ _ _ _ _ _ 6 (x .at) _ (c .refusal2 .ensures) (name-full (x .s .now) (x .at) (e .name-end .result) (x .full) _ (x .tokens) (e .name-end .ensures) (d .if1 .left) (c .before .if2 .taken))
+
+put-name-requires : tie.Need-put-name-requires
+put-name-requires c κs =
+    let e = c .before .before .before in
+    let a = e .before .before in
+    let x = a .args in
+    omega (arith, a .pre, a .pre .1 .1 (c .before .if2 .left), c .before .before .if1 .left)
+
+add-p : tie.Need-add-p
+add-p c =
+    let a = c .before .before .before .before .before .before in
+    omega (arith, a .pre, a .pre .1 .1 (c .before .before .if2 .left))
+
+add-count : tie.Need-add-count
+add-count c =
+    let a = c .before .before .before .before .before .before in
+    omega (arith, a .pre, a .pre .1 .1 (c .before .before .if2 .left))
+
+put-place-requires : tie.Need-put-place-requires
+put-place-requires c κs =
+    let a = c .before .before .before .before .before .before .before in
+    omega (arith, a .pre, a .pre .1 .1 (c .before .before .before .if2 .left))
+
+with-occurrence-requires : tie.Need-with-occurrence-requires
+with-occurrence-requires c κs =
+    let e = c .before .before .before .before .before .before .before in
+    let a = e .before .before in
+    let x = a .args in
+    omega (arith, a .pre, a .pre .1 .1 (c .before .before .before .before .before .if2 .left), nameEnd-le (x .s .now) (x .at) (a .pre .0 .0), e .name-end .ensures)
+
+returns-3 : tie.Need-returns-3
+returns-3 c =
+    let p = c .before .before in
+    let n = p .before .before in
+    let d = n .before .before in
+    let e = d .before .before in
+    let a = e .before .before in
+    let x = a .args in
+    got-meets _ _ _ _ _ _ _ _ _ refl
+    (name-got (x .s .now) (x .at) (e .name-end .result) (x .full) _ (x .tokens) (e .name-end .ensures) (d .before .if1 .left) (d .if2 .left))
+    (c .with-occurrence .ensures _ _ _
+    (new-place _ (x .at) (e .name-end .result) _ (x .places) (x .tokens) (x .table .now) (x .names .now) _ _ (p .put-place .result)
+    (omega (arith, nameEnd-le (x .s .now) (x .at) (a .pre .0 .0), e .name-end .ensures)) (a .pre .1 .0) (a .pre .1 .1 (d .if2 .left)) (n .put-name .ensures .0) (p .put-place .ensures .0) (p .put-place .ensures .1)))
+
+pub name-token-spec : {M : Type 1} → statement M
+name-token-spec =
+    tie.close
+    (tie.spec
+    name-end-requires
+    sub-n
+    refusal-requires
+    returns
+    refusal-requires-2
+    returns-2
+    put-name-requires
+    add-p
+    add-count
+    put-place-requires
+    with-occurrence-requires
+    returns-3)

@@ -1,0 +1,2 @@
+-- What goes on a run of data, and where it ends.
+pub mod Laws

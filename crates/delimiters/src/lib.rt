@@ -1,0 +1,84 @@
+// What marks the beginning of markup: delimiters before a byte that lets them be recognized.
+//
+// A table of byte classes, 256 numbers, is handed down by all readers of a document (`Classes` of the specs).
+ghost use mathlib.Core.Path.{_≡_};
+ghost use mathlib.Core.Bool.{_&&_, _||_};
+ghost use Prim.Native.Nat.{_+_, _<_};
+ghost use lib.ListN.{length};
+ghost use lib.Dec.{eqb, leb};
+ghost use Rattle.rules.specs.Bytes.{byteAt, letter};
+ghost use Rattle.rules.specs.TypeFile.{atDashes};
+ghost use Rattle.rules.specs.Document.{isReference, isSectionEnd};
+
+// Whether `/` and a letter stand behind `<` at i.
+pub fn is_end_tag(s: &[u8], i: usize) -> bool
+    requires { ⌜ i < length (now s) ⌝ }
+    ensures { λ r. ⌜ r ≡ (eqb (byteAt (now (s .entry)) (i + 1)) 47 && letter (byteAt (now (s .entry)) (i + 2))) ⌝ }
+{
+    if text::byte(s, i + 1) != b'/' {
+        return false;
+    }
+    text::is_letter(text::byte(s, i + 2))
+}
+
+// Whether `--` stands behind `<!` at i.
+pub fn dashes_at(s: &[u8], i: usize) -> bool
+    requires { ⌜ i < length (now s) ⌝ }
+    ensures { λ r. ⌜ r ≡ atDashes (now (s .entry)) (i + 2) ⌝ }
+{
+    if text::byte(s, i + 2) != b'-' {
+        return false;
+    }
+    text::byte(s, i + 2 + 1) == b'-'
+}
+
+// Whether `<!` before the byte b is a form that is left out.
+pub fn is_left_out(b: u8) -> bool
+    ensures { λ r. ⌜ r ≡ (letter b || eqb b 91) ⌝ }
+{
+    if text::is_letter(b) {
+        return true;
+    }
+    b == b'['
+}
+
+fn is_letter_or_digit(b: u8) -> bool
+    ensures { λ r. ⌜ r ≡ (letter b || (leb 48 b && leb b 57)) ⌝ }
+{
+    if text::is_letter(b) {
+        return true;
+    }
+    48 <= b && b <= 57
+}
+
+// Whether an entity or character reference stands at i.
+pub fn is_reference(s: &[u8], i: usize) -> bool
+    requires { ⌜ i < length (now s) ⌝ }
+    ensures { λ r. ⌜ r ≡ (eqb (byteAt (now (s .entry)) i) 38 && isReference (now (s .entry)) i) ⌝ }
+{
+    if text::byte(s, i) != b'&' {
+        return false;
+    }
+    let b = text::byte(s, i + 1);
+    if text::is_letter(b) {
+        return true;
+    }
+    if b != b'#' {
+        return false;
+    }
+    is_letter_or_digit(text::byte(s, i + 2))
+}
+
+// Whether `]]>` stands at i.
+pub fn is_section_end(s: &[u8], i: usize) -> bool
+    requires { ⌜ i < length (now s) ⌝ }
+    ensures { λ r. ⌜ r ≡ isSectionEnd (now (s .entry)) i ⌝ }
+{
+    if text::byte(s, i) != b']' {
+        return false;
+    }
+    if text::byte(s, i + 1) != b']' {
+        return false;
+    }
+    text::byte(s, i + 2) == b'>'
+}

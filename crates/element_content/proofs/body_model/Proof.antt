@@ -1,0 +1,93 @@
+-- `body_model` meets its contract: the group, its indicator and the table's first row, one call after the other.
+use mathlib.Core.Path.{_≡_}
+use mathlib.Core.List.{[]}
+use native.Mathlib.Omega.{arith}
+use lib.ListN.{length}
+use borrow.Author.Needs.{needs}
+use Rattle.rules.specs.Bytes.{GRPLVL}
+use Rattle.rules.specs.Reading.{got}
+use Rattle.rules.specs.TypeFile.{Tokens, group}
+use Rattle.content_tokens.specs.Kept.{Keeps}
+use Rattle.content_tokens.specs.Readings.{read-got}
+use Rattle.model_names.specs.Places.{placesOf}
+use Rattle.element_content.specs.Contents.{model-fault, model-refused, model-got, model-kept, body-meets, body-refused}
+use Rattle.element_content.proofs.body_model.Statement.{statement}
+use Rattle.element_content.proofs.body_model.Tie as tie
+
+clear-requires : tie.Need-clear-requires
+clear-requires c κs = search needs
+
+group-at-requires : tie.Need-group-at-requires
+group-at-requires c κs = omega arith
+
+enum-known-r : tie.Need-enum-known-r
+enum-known-r c = search needs
+
+enum-told : tie.Need-enum-told
+enum-told c = search needs
+
+fault-of-requires : tie.Need-fault-of-requires
+fault-of-requires c κs = search needs
+
+returns : tie.Need-returns
+unfolding placesOf
+returns c =
+    let read = c .before .before .before in
+    let a = read .before .before .before .before .before .before .args in
+    let last = read .group-at .last .1 .1 .1 .1 .1 in
+    let T = read .before .before .before .clear .last .0 in
+    body-refused (length (a .s .now)) (last .0) (last .1 .0) _ _
+    (model-refused (a .s .now) (a .i)
+    (model-fault (length (a .s .now)) 1 T (last .0) (last .1 .0) (read .group-at .result) _ (read .group-at .ensures) (c .before .enum-told .given .1) (c .fault-of .ensures)))
+
+-- The group was read.
+group-read : (c : tie.After-known-told)
+    → (t : Tokens)
+    × (group GRPLVL (c .before .before .before .before .before .before .before .before .before .args .s .now) (c .before .before .before .before .before .before .before .before .before .args .i) [] 0 ≡ got t)
+    × Keeps
+    (length (c .before .before .before .before .before .before .before .before .before .args .s .now))
+    1
+    (c .before .before .before .before .before .before .clear .last .0)
+    (c .before .before .before .group-at .last .1 .1 .1 .1 .1 .0)
+    (c .before .before .before .group-at .last .1 .1 .1 .1 .1 .1 .0)
+    (c .before .r .given .0 .0)
+    t
+unfolding placesOf
+group-read c =
+    let read = c .before .before .before in
+    let a = read .before .before .before .before .before .before .args in
+    let last = read .group-at .last .1 .1 .1 .1 .1 in
+    read-got (length (a .s .now)) 1 (read .before .before .before .clear .last .0) (last .0) (last .1 .0) (c .before .r .given .0 .0) _ (rw (c .before .r .given .1) at (read .group-at .ensures))
+
+with-occurrence-requires : tie.Need-with-occurrence-requires
+with-occurrence-requires c κs =
+    let keeps = group-read (c .before) .2 in
+    (omega arith, omega arith)
+
+finish-requires : tie.Need-finish-requires
+finish-requires c κs = search needs
+
+returns-2 : tie.Need-returns-2
+returns-2 c =
+    let with = c .before .before .before in
+    let read = with .before .before in
+    let a = read .before .before .before .before .before .before .before .before .before .args in
+    let names = read .before .before .before .group-at .last .1 .1 .1 .1 .1 .0 in
+    let model = group-read read in
+    let kept = with .with-occurrence .ensures _ names (model .0) (model .2) in
+    body-meets (length (a .s .now)) names (c .finish .last .0) _ _ _ (model-got (a .s .now) (a .i) (model .1))
+    (model-kept kept (read .before .before .before .before .before .before .clear .ensures) (c .finish .ensures))
+
+pub body-model-spec : {M : Type 1} → statement M
+body-model-spec =
+    tie.close
+    (tie.spec
+    clear-requires
+    group-at-requires
+    enum-known-r
+    enum-told
+    fault-of-requires
+    returns
+    with-occurrence-requires
+    finish-requires
+    returns-2)

@@ -1,0 +1,116 @@
+// The content of an element: EMPTY, or a model group with its names and its table.
+use content_tokens::ModelRead;
+use text::Fault;
+ghost use mathlib.Core.Path.{_≡_};
+ghost use Prim.Native.Nat.{_≤_, _<_};
+ghost use lib.ListN.{length};
+ghost use Rattle.rules.specs.TypeFile.{contentWord, contentModel, content};
+ghost use Rattle.element_content.specs.Kept.{wrongWord, MeetsBody, bodyFault};
+
+// The content: EMPTY (0) or a model (1), its content tokens and places.
+pub struct Body {
+    pub kind: u32,
+    pub tokens: usize,
+    pub places: usize,
+    pub at: usize,
+}
+
+pub enum BodyRead {
+    Read(Body),
+    Refused(Fault),
+}
+
+// The refusal of an answer that is one.
+pub fn fault_of_body(r: BodyRead) -> Fault
+    ensures { λ f. ⌜ f ≡ bodyFault r ⌝ }
+{
+    match r {
+        BodyRead::Read(_) => Fault { number: 0, at: 0 },
+        BodyRead::Refused(f) => f,
+    }
+}
+
+// A word from i to e that is no content: at its first byte, or where the input ends within EMPTY.
+fn wrong_word(s: &[u8], from: usize, i: usize, e: usize) -> Fault
+    requires { ⌜ (i ≤ e) × (e ≤ length (now s)) × (length (now s) ≤ 32768) ⌝ }
+    ensures { λ r. ⌜ r ≡ record { number = 4; at = wrongWord (now (s .entry)) from i e } ⌝ }
+{
+    if i <= from {
+        return Fault { number: 4, at: i };
+    }
+    if words::is_cut(s, i, e, b"EMPTY") {
+        return Fault {
+            number: 4,
+            at: s.len(),
+        };
+    }
+    Fault { number: 4, at: i }
+}
+
+// A word as content.
+fn body_word(s: &[u8], from: usize, i: usize, names: &[u32; 192], table: &[u8; 9506]) -> BodyRead
+    requires { ⌜ (i ≤ length (now s)) × (length (now s) ≤ 32768) ⌝ }
+    ensures { λ r. ⌜ MeetsBody (length (now (s .entry))) (now (names .entry)) (now (table .entry)) r (contentWord (now (s .entry)) from i) ⌝ }
+{
+    let e = text::name_end(s, i);
+    if 8 < e - i {
+        return BodyRead::Refused(Fault { number: 3, at: i });
+    }
+    if from < i && words::is_word(s, i, e, b"EMPTY") {
+        return BodyRead::Read(Body {
+            kind: 0,
+            tokens: 0,
+            places: 0,
+            at: e,
+        });
+    }
+    if words::is_word(s, i, e, b"ANY")
+        || words::is_word(s, i, e, b"CDATA")
+        || words::is_word(s, i, e, b"RCDATA")
+    {
+        return BodyRead::Refused(Fault { number: 5, at: i });
+    }
+    BodyRead::Refused(wrong_word(s, from, i, e))
+}
+
+// A model group as content, with its names and its table.
+fn body_model(s: &[u8], i: usize, names: &mut [u32; 192], table: &mut [u8; 9506]) -> BodyRead
+    requires { ⌜ (i < length (now s)) × (length (now s) ≤ 32768) ⌝ }
+    ensures { λ r. ⌜ MeetsBody (length (now (s .entry))) (now (names .exit)) (now (table .exit)) r (contentModel (now (s .entry)) i) ⌝ }
+{
+    model_table::clear(table);
+    let r = group_reader::group_at(s, i, 16, 0, 0, names, table);
+    let ModelRead::Read(g) = r else {
+        return BodyRead::Refused(content_tokens::fault_of(r));
+    };
+    let m = content_tokens::with_occurrence(s, table, 1, g);
+    let part = m.part;
+    model_table::finish(table, part);
+    BodyRead::Read(Body {
+        kind: 1,
+        tokens: m.tokens,
+        places: m.places,
+        at: m.at,
+    })
+}
+
+// The content at i, where the parameter before ended at `from`. Where it is refused or EMPTY, what `names` and `table` hold is not decided.
+pub fn body_at(
+    s: &[u8],
+    from: usize,
+    i: usize,
+    names: &mut [u32; 192],
+    table: &mut [u8; 9506],
+) -> BodyRead
+    requires { ⌜ (i ≤ length (now s)) × (length (now s) ≤ 32768) ⌝ }
+    ensures { λ r. ⌜ MeetsBody (length (now (s .entry))) (now (names .exit)) (now (table .exit)) r (content (now (s .entry)) from i) ⌝ }
+{
+    let b = text::byte(s, i);
+    if b == b'(' {
+        return body_model(s, i, names, table);
+    }
+    if text::is_letter(b) {
+        return body_word(s, from, i, names, table);
+    }
+    BodyRead::Refused(gaps::unfit_at(s, i))
+}

@@ -1,0 +1,18 @@
+-- The elements declared so far as their table holds them, and the name of one more, in the rules' terms.
+use Prim.Native.Nat.{ℕ, _+_, _*_, _≤_, _<_}
+use mathlib.Core.Path.{_≡_}
+use mathlib.Core.List.{List}
+use lib.ListN.{length, take}
+use Rattle.rules.specs.TypeFile as rules
+use Rattle.rules.specs.Judge.{records}
+use Rattle.text.specs.declared.Reached.{Reached}
+use Rattle.text.specs.declared.Reached.the-variants as reached
+
+-- The table of elements begins with the records of es.
+abbrev pub Recorded : List ℕ → List rules.Element → Type 0
+Recorded elements es = take (6 * length es) elements ≡ records es
+
+-- Whatever was declared before: a name that is read lies in the input, is at most 8 long, and one more element has room.
+abbrev pub NameIn : (end i count : ℕ) → Reached → Type 0
+NameIn end i count (reached.At e) = (i ≤ e) × (e ≤ end) × (e ≤ i + 8) × (count < 64)
+NameIn end i count (reached.Refused f) = Unit {0}

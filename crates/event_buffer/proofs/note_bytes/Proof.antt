@@ -1,0 +1,78 @@
+-- `note_bytes` meets its contract: the four calls store the bytes of the event's numbers.
+use Prim.Native.Nat.{_*_}
+use mathlib.Core.Path.{sym}
+use mathlib.Core.List.{_∷_, []}
+use native.Mathlib.Omega.{arith}
+use Rattle.rules.specs.Judge.{bytesOf}
+use Rattle.numbers.specs.Laws.{written-not}
+use Rattle.event_buffer.specs.Laws.{four-numbers-stored}
+use borrow.Author.Needs.{needs}
+use Rattle.event_buffer.proofs.note_bytes.Statement.{statement}
+use Rattle.event_buffer.proofs.note_bytes.Tie as tie
+
+mul-i : tie.Need-mul-i
+mul-i c = search needs
+
+mul-i-2 : tie.Need-mul-i-2
+mul-i-2 c = search needs
+
+mul-if1 : tie.Need-mul-if1
+mul-if1 c = search needs
+
+add-if1 : tie.Need-add-if1
+add-if1 c = search needs
+
+put-number-requires : tie.Need-put-number-requires
+put-number-requires c κs = search needs
+
+add-put-number : tie.Need-add-put-number
+add-put-number c = search needs
+
+put-number-requires-2 : tie.Need-put-number-requires-2
+put-number-requires-2 c κs = search needs
+
+add-put-number-2 : tie.Need-add-put-number-2
+add-put-number-2 c = search needs
+
+put-number-requires-3 : tie.Need-put-number-requires-3
+put-number-requires-3 c κs = search needs
+
+add-put-number-3 : tie.Need-add-put-number-3
+add-put-number-3 c = search needs
+
+put-number-requires-4 : tie.Need-put-number-requires-4
+put-number-requires-4 c κs = search needs
+
+same-length : tie.Need-same-length
+same-length c = search needs
+
+returns : tie.Need-returns
+returns c =
+    let a = c .before .before .before .before .before .before .before .before .before .before .before .before .before .before .before .before .before .before .args in
+    four-numbers-stored (a .buffer .now) (16 * a .n) (a .kind) (a .element) (a .at) (a .size) (omega arith)
+    (c .before .before .before .before .before .before .before .before .before .before .before .before .before .before .put-number .ensures) (c .before .before .before .before .before .before .before .before .before .before .put-number2 .ensures) (c .before .before .before .before .before .before .put-number3 .ensures) (c .before .before .put-number4 .ensures)
+
+returns-2 : tie.Need-returns-2
+unfolding bytesOf
+returns-2 c =
+    let a = c .before .before .args in
+    sym (written-not (a .buffer .now) (16 * a .n) (bytesOf (a .kind ∷ a .element ∷ a .at ∷ a .size ∷ [])) (omega arith))
+
+pub note-bytes-spec : {M : Type 1} → statement M
+note-bytes-spec =
+    tie.close
+    (tie.spec
+    mul-i
+    mul-i-2
+    mul-if1
+    add-if1
+    put-number-requires
+    add-put-number
+    put-number-requires-2
+    add-put-number-2
+    put-number-requires-3
+    add-put-number-3
+    put-number-requires-4
+    same-length
+    returns
+    returns-2)

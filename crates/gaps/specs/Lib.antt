@@ -1,0 +1,2 @@
+-- What fits nowhere between parameters, in the rules' terms.
+pub mod Unfit

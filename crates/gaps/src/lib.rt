@@ -1,0 +1,104 @@
+// What stands between the parameters of a declaration: separators and comments, to the next byte of another kind; and where a comment ends.
+use text::Fault;
+use text::Reached;
+ghost use mathlib.Core.Path.{_≡_};
+ghost use Prim.Native.Nat.{_+_, _≤_, _<_};
+ghost use lib.ListN.{length, drop};
+ghost use Rattle.rules.specs.TypeFile.{atDashes, beforeDashes, beforeClose, commentDeclaration, gap};
+ghost use Rattle.text.specs.Means.{reached};
+ghost use Rattle.gaps.specs.Unfit.{unfitAt};
+
+// Whether `--` stands at a position.
+fn at_dashes(s: &[u8], at: usize) -> bool
+    requires { ⌜ at ≤ length (now s) ⌝ }
+    ensures { λ r. ⌜ r ≡ atDashes (now (s .entry)) at ⌝ }
+{
+    text::byte(s, at) == b'-' && text::byte(s, at + 1) == b'-'
+}
+
+// The first `--` from `at` on, or the input's length.
+fn to_dashes(s: &[u8], at: usize) -> usize
+    requires { ⌜ at ≤ length (now s) ⌝ }
+    ensures { λ r. ⌜ r ≡ at + beforeDashes (drop at (now (s .entry))) ⌝ }
+{
+    let mut i = at;
+    while i < s.len() {
+        if at_dashes(s, i) {
+            return i;
+        }
+        i += 1;
+    }
+    i
+}
+
+// The first `-->` from `at` on, or the input's length.
+fn to_close(s: &[u8], at: usize) -> usize
+    requires { ⌜ at ≤ length (now s) ⌝ }
+    ensures { λ r. ⌜ r ≡ at + beforeClose (drop at (now (s .entry))) ⌝ }
+{
+    let mut i = at;
+    while i < s.len() {
+        if at_dashes(s, i) {
+            if text::byte(s, i + 2) == b'>' {
+                return i;
+            }
+        }
+        i += 1;
+    }
+    i
+}
+
+// The end of a comment declaration of which `<!--` ends at `at`.
+pub fn comment_end(s: &[u8], at: usize) -> Reached
+    requires { ⌜ at ≤ length (now s) ⌝ }
+    ensures { λ r. ⌜ reached r ≡ commentDeclaration (now (s .entry)) at ⌝ }
+{
+    let i = to_close(s, at);
+    if i < s.len() {
+        Reached::At(i + 3)
+    } else {
+        Reached::Refused(Fault {
+            number: 4,
+            at: s.len(),
+        })
+    }
+}
+
+// Separators and comments between parameters, to the next byte of another kind.
+pub fn gap_end(s: &[u8], at: usize) -> Reached
+    requires { ⌜ at ≤ length (now s) ⌝ }
+    ensures { λ r. ⌜ reached r ≡ gap (now (s .entry)) at ⌝ }
+{
+    let mut i = text::separators_end(s, at);
+    while at_dashes(s, i) {
+        let e = to_dashes(s, i + 2);
+        if s.len() <= e {
+            return Reached::Refused(Fault {
+                number: 4,
+                at: s.len(),
+            });
+        }
+        i = text::separators_end(s, e + 2);
+    }
+    if text::byte(s, i) == b'%' {
+        return Reached::Refused(Fault { number: 5, at: i });
+    }
+    Reached::At(i)
+}
+
+// What cannot stand between parameters. A "-" at the input's end could still have opened a comment.
+pub fn unfit_at(s: &[u8], i: usize) -> Fault
+    requires { ⌜ i ≤ length (now s) ⌝ }
+    ensures { λ r. ⌜ r ≡ unfitAt (now (s .entry)) i ⌝ }
+{
+    if text::byte(s, i) != b'-' {
+        return Fault { number: 4, at: i };
+    }
+    if i + 1 < s.len() {
+        return Fault { number: 4, at: i };
+    }
+    Fault {
+        number: 4,
+        at: s.len(),
+    }
+}

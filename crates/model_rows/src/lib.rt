@@ -1,0 +1,68 @@
+// The rows of a model's table, put into the rows of a type as bits.
+//
+// The layout is that of the crate type_tables.
+ghost use mathlib.Core.Path.{_≡_};
+ghost use Prim.Native.Nat.{_+_, _*_, _≤_, _<_};
+ghost use lib.ListN.{length};
+ghost use Rattle.type_tables.specs.Means.{rowAt};
+ghost use Rattle.model_rows.specs.Bits.{cellOf, packedOf};
+ghost use Rattle.model_rows.specs.Rows.{RowPut, RowsPut};
+
+// Where the row of the element e after the place u begins.
+pub fn row(e: usize, u: usize) -> usize
+    requires { ⌜ (e ≤ 64) × (u ≤ 96) ⌝ }
+    ensures { λ r. ⌜ r ≡ rowAt e u ⌝ }
+{
+    (e * 97 + u) * 14
+}
+
+// Whether a number of a model's table is 1, as 1 or 0.
+fn cell(table: &[u8; 9506], i: usize) -> u8
+    requires { ⌜ i < 9506 ⌝ }
+    ensures { λ r. ⌜ (r ≡ cellOf (now (table .entry)) i) × (r ≤ 1) ⌝ }
+{
+    if table[i] == 1 { 1 } else { 0 }
+}
+
+// Eight numbers of a model's table as bits, the first the lowest.
+fn packed(table: &[u8; 9506], i: usize) -> u8
+    requires { ⌜ i + 8 ≤ 9506 ⌝ }
+    ensures { λ r. ⌜ r ≡ packedOf (now (table .entry)) i ⌝ }
+{
+    cell(table, i)
+        + cell(table, i + 1) * 2
+        + cell(table, i + 2) * 4
+        + cell(table, i + 3) * 8
+        + cell(table, i + 4) * 16
+        + cell(table, i + 5) * 32
+        + cell(table, i + 6) * 64
+        + cell(table, i + 7) * 128
+}
+
+// The row of the element e after the place u.
+fn put_row(rows: &mut [u8; 88270], e: usize, table: &[u8; 9506], u: usize)
+    requires { ⌜ (e ≤ 64) × (u ≤ 96) × (length (now rows) ≡ 88270) ⌝ }
+    ensures { λ _. ⌜ RowPut (now (table .entry)) e u (now (rows .entry)) (now (rows .exit)) ⌝ }
+{
+    let r = row(e, u);
+    let mut j = 0;
+    while j < 12 {
+        rows[r + j] = packed(table, u * 98 + 8 * j);
+        j += 1;
+    }
+    rows[r + 12] = cell(table, u * 98 + 96);
+    let required = table[u * 98 + 97];
+    rows[r + 13] = required;
+}
+
+// The rows of the element e, whose model has `count` places.
+pub fn put_rows(rows: &mut [u8; 88270], e: usize, table: &[u8; 9506], count: usize)
+    requires { ⌜ (e ≤ 64) × (count ≤ 96) × (length (now rows) ≡ 88270) ⌝ }
+    ensures { λ _. ⌜ RowsPut (now (table .entry)) e (now (rows .entry)) (now (rows .exit)) (count + 1) ⌝ }
+{
+    let mut u = 0;
+    while u <= count {
+        put_row(rows, e, table, u);
+        u += 1;
+    }
+}

@@ -1,0 +1,40 @@
+-- `end` meets its contract: the parent is read as it was kept.
+use Rattle.open_elements.specs.Laws.{ended-by}
+use borrow.Author.Needs.{needs}
+use Rattle.open_elements.proofs.Open.end.Statement.{statement}
+use Rattle.open_elements.proofs.Open.end.Tie as tie
+
+sub-n : tie.Need-sub-n
+sub-n c = search needs
+
+mul-parent : tie.Need-mul-parent
+mul-parent c = search needs
+
+array-copy-out-parent : tie.Need-array-copy-out-parent
+array-copy-out-parent c = search needs
+
+wide-requires : tie.Need-wide-requires
+wide-requires c κs = search needs
+
+wide-requires-2 : tie.Need-wide-requires-2
+wide-requires-2 c κs = search needs
+
+wide-requires-3 : tie.Need-wide-requires-3
+wide-requires-3 c κs = search needs
+
+returns : tie.Need-returns
+returns c =
+    let a = c .before .before .before .before .before .before .args in
+    ended-by (a .self) (c .before .before .wide .ensures) (c .before .wide2 .ensures) (c .wide3 .ensures)
+
+pub end-spec : {M : Type 1} → statement M
+end-spec =
+    tie.close
+    (tie.spec
+    sub-n
+    mul-parent
+    array-copy-out-parent
+    wide-requires
+    wide-requires-2
+    wide-requires-3
+    returns)

@@ -1,0 +1,48 @@
+-- `start` meets its contract: the current element is kept, and the marks are those of the start of the one that is opened.
+use Rattle.open_elements.specs.Laws.{opening-by}
+use borrow.Author.Needs.{needs}
+use Rattle.open_elements.proofs.Open.start.Statement.{statement}
+use Rattle.open_elements.proofs.Open.start.Tie as tie
+
+cast-t6 : tie.Need-cast-t6
+cast-t6 c = search needs
+
+cast-t7 : tie.Need-cast-t7
+cast-t7 c = search needs
+
+cast-t8 : tie.Need-cast-t8
+cast-t8 c = search needs
+
+mul-around : tie.Need-mul-around
+mul-around c = search needs
+
+array-set-from-around : tie.Need-array-set-from-around
+array-set-from-around c = search needs
+
+add-self : tie.Need-add-self
+add-self c = search needs
+
+complete-requires : tie.Need-complete-requires
+complete-requires c κs = search needs
+
+required-requires : tie.Need-required-requires
+required-requires c κs = search needs
+
+returns : tie.Need-returns
+returns c =
+    let a = c .before .before .before .before .before .before .args in
+    opening-by (a .rows .now) (a .element) (a .self) (c .before .complete .ensures .0) (c .required .ensures .0)
+
+pub start-spec : {M : Type 1} → statement M
+start-spec =
+    tie.close
+    (tie.spec
+    cast-t6
+    cast-t7
+    cast-t8
+    mul-around
+    array-set-from-around
+    add-self
+    complete-requires
+    required-requires
+    returns)

@@ -1,0 +1,92 @@
+// What stands at a position of a document, names looked up.
+//
+// `elements` and `index` are those of the crate element_index, `rows`, `places` and `facts` those of type_tables, `classes` that of
+// delimiters.
+use document_text::Tag;
+use document_text::Token;
+use text::Fault;
+ghost use mathlib.Core.Path.{_≡_};
+ghost use mathlib.Core.List.{List};
+ghost use Prim.Native.Nat.{_+_, _≤_, _<_};
+ghost use lib.ListN.{length};
+ghost use Rattle.rules.specs.TypeFile.{Element};
+ghost use Rattle.rules.specs.Settling.{numberOf};
+ghost use Rattle.last_places.specs.Last.{InRange};
+ghost use Rattle.delimiters.specs.Means.{Classes};
+ghost use Rattle.element_index.specs.Means.{Indexed};
+ghost use Rattle.type_tables.specs.Means.{standing, Tables};
+ghost use Rattle.pieces.specs.Means.{Finds, Onward};
+
+// What stands at a position of the document, names looked up.
+pub enum Piece {
+    // the start tag of an element, or a run of data for 0, up to here
+    Token(usize, usize),
+    // the end tag of an element, up to here
+    End(usize, usize),
+    // ignored, up to here
+    Passed(usize),
+    Refused(Fault),
+}
+
+fn undeclared(at: usize) -> Piece
+    ensures { λ r. ⌜ r ≡ Piece.Refused (record { number = 10; at = at }) ⌝ }
+{
+    Piece::Refused(Fault { number: 10, at: at })
+}
+
+// The element that a tag names, or 0.
+fn tagged(s: &[u8], elements: &[u32; 384], index: &[u8; 321], d: &[u8], t: Tag) -> usize
+    requires { ⌜ (1 ≤ t .size) × (t .size ≤ 8) × (t .name + t .size ≤ length (now d)) ⌝ }
+    ensures { λ r. ⌜ ((es : List Element) → Indexed (now (s .entry)) es (now (elements .entry)) (now (index .entry)) →
+        r ≡ numberOf (now (s .entry)) es (now (d .entry)) (t .name) (t .size)) × (r ≤ 64) ⌝ }
+{
+    let f = element_index::find(s, elements, index, d, t.name, t.size);
+    f.element
+}
+
+// What stands at `at`, where the current element is e after the place u.
+pub fn piece_at(
+    s: &[u8],
+    elements: &[u32; 384],
+    index: &[u8; 321],
+    rows: &[u8; 88270],
+    places: &[u8; 12610],
+    facts: &[u8; 4420],
+    classes: &[u8; 256],
+    d: &[u8],
+    e: usize,
+    u: usize,
+    at: usize,
+) -> Piece
+    requires { ⌜ Classes (now classes) × (e ≤ 64) × (u ≤ 96) × (at < length (now d)) × (length (now d) ≤ 65535) ⌝ }
+    ensures { λ r. ⌜ Onward (length (now (d .entry))) at r ⌝ }
+    ensures { λ r. ⌜ ((es : List Element) → Indexed (now (s .entry)) es (now (elements .entry)) (now (index .entry)) → Tables (now (s .entry)) es (now (rows .entry)) (now (places .entry)) (now (facts .entry)) →
+        InRange es (standing e u) → Finds (now (s .entry)) es (now (d .entry)) e u at r) ⌝ }
+{
+    let t = document_text::token_at(classes, d, at);
+    match t {
+        Token::StartTag(g) => {
+            let x = tagged(s, elements, index, d, g);
+            if x == 0 {
+                return undeclared(at);
+            }
+            Piece::Token(x, g.after)
+        }
+        Token::EndTag(g) => {
+            let x = tagged(s, elements, index, d, g);
+            if x == 0 {
+                return undeclared(at);
+            }
+            Piece::End(x, g.after)
+        }
+        Token::Skipped(j) => Piece::Passed(j),
+        Token::Blank => {
+            if type_tables::fitting(rows, places, facts, e, u, 0) == 0 {
+                return Piece::Passed(at + 1);
+            }
+            Piece::Token(0, data_runs::run_end(classes, d, at + 1))
+        }
+        Token::Data => Piece::Token(0, data_runs::run_end(classes, d, at + 1)),
+        Token::Refused(f) => Piece::Refused(f),
+    }
+}

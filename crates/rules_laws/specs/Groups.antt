@@ -1,0 +1,279 @@
+-- Model groups and content, walked once: each law of a model that is read is an instance of `Builds`, and cites the walk.
+use Prim.Native.Nat.{ℕ, zero, suc, _+_, _-_, _≤_, _<_}
+use mathlib.Core.Path.{_≡_, refl}
+use mathlib.Core.Bool.{Bool, true, false, _&&_, _||_, true≢false}
+use mathlib.Core.List.{List, [], _∷_, _++_}
+use native.Mathlib.Omega.{arith}
+use lib.ListN.{length}
+use lib.Dec.{eqb, leb, ltb}
+use borrow.Author.Tests.{ltb-false, leb-false}
+use Rattle.rules.specs.Bytes.{byteAt, letter, nameEnd, separatorsEnd, NAMELEN, GRPCNT, GRPLVL, GRPGTCNT}
+use Rattle.rules.specs.Reading.{Reading, got, andThen}
+use Rattle.rules.specs.Walk.{Group, seq, alt, opt, plus, star}
+use Rattle.rules.specs.TypeFile.{isWord, isCut, PCDATA, EMPTY, ANY, CDATA, RCDATA, Place, Tokens, occurrence, newPlace, join, nameToken, dataToken, token, Further, closed, joined, further, members, group, Content, empty, model, unfit, ContentEnd, contentWord, contentModel, content}
+use Rattle.text.specs.Laws.{test-in, letter-in, nameEnd-from, nameEnd-le, nameEnd-more, separatorsEnd-from, separatorsEnd-le}
+use Rattle.rules_laws.specs.Holds.{Holds, stops, reads, Gives, got-so, each, so, on, on-same, either, whichever}
+use Rattle.rules_laws.specs.In.{Fits, fits-none, fits-group, fits-place, ContentIn}
+
+-- A refusal of a type file is one of 3 to 8 and stands in it.
+abbrev pub InType : List ℕ → (number position : ℕ) → Type 0
+InType s n k = (3 ≤ n) × (n ≤ 8) × (k ≤ length s)
+
+-- The same of a refusal by what begins at `at`, if that stands in the input.
+abbrev pub InFrom : List ℕ → (at : ℕ) → (number position : ℕ) → Type 0
+InFrom s at n k = at ≤ length s → InType s n k
+
+or-none : (a b : Bool) → a || b ≡ false → (a ≡ false) × (b ≡ false)
+or-none true b e = absurd (true≢false e)
+or-none false b e = (refl, e)
+
+-- The tokens t, with another group and up to i.
+abbrev pub grouped : Group → ℕ → Tokens → Tokens
+grouped g i t = record { group = g; at = i; places = t .places; tokens = t .tokens }
+
+-- A name and a `#PCDATA` as content token.
+abbrev pub namePlace : List ℕ → ℕ → Place
+namePlace s at = record { at = at; size = nameEnd s at - at }
+
+abbrev pub dataPlace : ℕ → Place
+dataPlace at = record { at = at; size = 0 }
+
+abbrev pub withPlace : Group → ℕ → Place → List Place → ℕ → Tokens
+withPlace g i x ps n = record { group = g; at = i; places = ps ++ x ∷ []; tokens = n + 1 }
+
+-- Each rule by its ways
+
+-- What an indicator makes of a group.
+pub data Indicated : Group → Group → Type 0 where
+  optional : {g : Group} → Indicated g (opt g)
+  repeated : {g : Group} → Indicated g (plus g)
+  any : {g : Group} → Indicated g (star g)
+
+pub occurrence-holds : (P : Tokens → Type 0) (s : List ℕ) (t : Tokens) → P t → ((g : Group) → Indicated (t .group) g → t .at < length s → P (grouped g (t .at + 1) t)) → P (occurrence s t)
+unfolding occurrence
+occurrence-holds P s t p f =
+    let b = byteAt s (t .at) in
+    whichever P (eqb b 63) (λ x. f _ optional (test-in (λ v. eqb v 63) refl s (t .at) x))
+    (λ x. whichever P (eqb b 43) (λ y. f _ repeated (test-in (λ v. eqb v 43) refl s (t .at) y))
+    (λ y. whichever P (eqb b 42) (λ z. f _ any (test-in (λ v. eqb v 42) refl s (t .at) z)) (λ z. p)))
+
+module _ {R : (number position : ℕ) → Type 0} (s : List ℕ) where
+  pub unfit-holds : {A : Type 0} {P : A → Type 0} (i : ℕ) → ((n k : ℕ) → InFrom s i n k → R n k) → Holds R P (unfit s i)
+  unfit-holds i stop = either (eqb (byteAt s i) 45 && leb (length s) (i + 1)) (λ y. stops (stop 4 (length s) (λ h. omega arith))) (λ y. stops (stop 4 i (λ h. omega arith)))
+
+  module _ (inner : ℕ → List Place → ℕ → Reading Tokens) where
+    -- A content token: a name, `#PCDATA`, or a group; none where the group or the model is full.
+    pub token-holds : {P : Tokens → Type 0} (at : ℕ) (full : Bool) (ps : List Place) (n : ℕ)
+        → ((m k : ℕ) → InFrom s at m k → R m k)
+        → (full ≡ false → letter (byteAt s at) ≡ true → nameEnd s at - at ≤ NAMELEN → P (occurrence s (withPlace (newPlace ps) (nameEnd s at) (namePlace s at) ps n)))
+        → (full ≡ false → at < length s → P (withPlace (star (newPlace ps)) (nameEnd s (at + 1)) (dataPlace at) ps n))
+        → (full ≡ false → at < length s → Holds R P (andThen (inner at ps (n + 1)) (λ t. got (occurrence s t))))
+        → Holds R P (token inner s at full ps n)
+    unfolding token nameToken dataToken
+    token-holds at full ps n stop name pcdata nested =
+        let b = byteAt s at in
+        let e = nameEnd s (at + 1) in
+        either (letter b)
+        (λ x. either (ltb NAMELEN (nameEnd s at - at)) (λ y. stops (stop 3 at (λ h. omega arith)))
+        (λ y. either full (λ z. stops (stop 6 at (λ h. omega arith))) (λ z. reads (name z x (ltb-false _ _ y)))))
+        (λ x. either (eqb b 35)
+        (λ y.
+        let i = test-in (λ v. eqb v 35) refl s at y in
+        either (letter (byteAt s (at + 1)))
+        (λ z. either (isWord s (at + 1) e PCDATA)
+        (λ u. either full (λ v. stops (stop 6 at (λ h. omega arith))) (λ v. reads (pcdata v i)))
+        (λ u. either (isCut s (at + 1) e PCDATA) (λ v. stops (stop 4 (length s) (λ h. omega arith))) (λ v. stops (stop 4 at (λ h. omega arith)))))
+        (λ z. stops (stop 4 (at + 1) (λ h. omega arith))))
+        (λ y. either (eqb b 40)
+        (λ z. either full (λ u. stops (stop 6 at (λ h. omega arith))) (λ u. nested u (test-in (λ v. eqb v 40) refl s at z)))
+        (λ z. either (eqb b 91 || eqb b 37) (λ u. stops (stop 5 at (λ h. omega arith))) (λ u. stops (stop 4 at (λ h. omega arith))))))
+
+    -- What follows: the end of the group, or a connector and a further token.
+    pub further-holds : {P : Further → Type 0} (k c : ℕ) (t : Tokens)
+        → ((m k : ℕ) → InFrom s (t .at) m k → R m k)
+        → ((i : ℕ) → t .at ≤ i → i < length s → P (closed (grouped (t .group) (i + 1) t)))
+        → ((b j : ℕ) → t .at ≤ j → j ≤ length s
+        → Holds R P (andThen (token inner s j (leb GRPCNT k || leb GRPGTCNT (t .tokens)) (t .places) (t .tokens)) (λ u. got (joined b (grouped (join b (t .group) (u .group)) (u .at) u)))))
+        → Holds R P (further inner s k c t)
+    unfolding further
+    further-holds k c t stop close next =
+        let i = separatorsEnd s (t .at) in
+        let from = separatorsEnd-from s (t .at) in
+        let b = byteAt s i in
+        let inside : t .at ≤ length s → i ≤ length s = separatorsEnd-le s (t .at) in
+        either (eqb b 41) (λ x. reads (close i from (test-in (λ v. eqb v 41) refl s i x)))
+        (λ x. either (eqb b 38 || eqb b 37) (λ y. stops (stop 5 i (λ h. omega (arith, inside h))))
+        (λ y. either ((eqb b 44 || eqb b 124) && (eqb c 0 || eqb c b))
+        (λ z.
+        let l = test-in (λ v. (eqb v 44 || eqb v 124) && (eqb c 0 || eqb c v)) refl s i z in
+        next b (separatorsEnd s (i + 1)) (omega (arith, from, separatorsEnd-from s (i + 1))) (separatorsEnd-le s (i + 1) (omega arith)))
+        (λ z. stops (stop 4 i (λ h. omega (arith, inside h))))))
+
+-- Room
+
+module _ (inner : ℕ → List Place → ℕ → Reading Tokens) (s : List ℕ) where
+  -- A content token that is read had room.
+  pub token-room : (at : ℕ) (full : Bool) (ps : List Place) (n : ℕ) → Gives (λ (t : Tokens). full ≡ false) (token inner s at full ps n)
+  token-room at full ps n =
+      token-holds s inner at full ps n (λ m k h. tt) (λ x l e. x) (λ x l. x) (λ x l. on (each (inner at ps (n + 1)) (λ m k e. tt) (λ t e. x)) (λ t y. reads y))
+
+  abbrev Roomy : ℕ → Further → Type 0
+  Roomy k (closed t) = Unit {0}
+  Roomy k (joined b t) = k < GRPCNT
+
+  further-roomy : (k c : ℕ) (t : Tokens) → Gives (Roomy k) (further inner s k c t)
+  further-roomy k c t =
+      further-holds s inner k c t (λ m k h. tt) (λ i l h. tt)
+      (λ b j l h. on (token-room j (leb GRPCNT k || leb GRPGTCNT (t .tokens)) (t .places) (t .tokens)) (λ u x. reads (leb-false GRPCNT k (or-none _ _ x .0))))
+
+  pub further-room : (k c : ℕ) (t : Tokens) (b : ℕ) (u : Tokens) → further inner s k c t ≡ got (joined b u) → k < GRPCNT
+  further-room k c t b u e = got-so (further-roomy k c t) e
+
+  -- The bound on the content tokens of a group is never reached: any two that are enough give the same.
+  pub members-enough : (m n k c : ℕ) (t : Tokens) → k ≤ GRPCNT → GRPCNT < m + k → GRPCNT < n + k → members inner s m k c t ≡ members inner s n k c t
+  unfolding members
+  members-enough zero n k c t h i j = absurd (omega arith)
+  members-enough (suc m) zero k c t h i j = absurd (omega arith)
+  members-enough (suc m) (suc n) k c t h i j = on-same (further-roomy k c t) (by-further (λ b u l. members-enough m n (k + 1) b u (omega arith) (omega arith) (omega arith)))
+    where
+      by-further : ((b : ℕ) (u : Tokens) → k < GRPCNT → members inner s m (k + 1) b u ≡ members inner s n (k + 1) b u) → (x : Further) → Roomy k x
+          → _≡_ {A = Reading Tokens} (elim x [ closed u ↦ got u | joined b u ↦ members inner s m (k + 1) b u ]) (elim x [ closed u ↦ got u | joined b u ↦ members inner s n (k + 1) b u ])
+      by-further ih (closed u) r = refl
+      by-further ih (joined b u) r = ih b u r
+
+-- The walk
+
+-- What is to hold of a group g that is read behind the places ps, where qs are the places then: of a place, of an indicator, of a connector.
+pub record Builds (T : (ps : List Place) → Group → (qs : List Place) → Type 0) : Type 0 where
+  pub name : (ps : List Place) (x : Place) → 1 ≤ x .size → T ps (newPlace ps) (ps ++ x ∷ [])
+  pub pcdata : (ps : List Place) (x : Place) → x .size ≡ 0 → T ps (star (newPlace ps)) (ps ++ x ∷ [])
+  pub optional : {ps qs : List Place} {g : Group} → T ps g qs → T ps (opt g) qs
+  pub repeated : {ps qs : List Place} {g : Group} → T ps g qs → T ps (plus g) qs
+  pub sequence : {ps qs rs : List Place} {g h : Group} → T ps g qs → T qs h rs → T ps (seq g h) rs
+  pub choice : {ps qs rs : List Place} {g h : Group} → T ps g qs → T qs h rs → T ps (alt g h) rs
+
+-- What was read from `at` on, behind the places ps.
+pub record Read (s : List ℕ) (T : List Place → Group → List Place → Type 0) (at : ℕ) (ps : List Place) (t : Tokens) : Type 0 where
+  pub from : at ≤ t .at
+  pub inside : t .at ≤ length s
+  pub fits : Fits s (t .places) (t .tokens)
+  pub built : T ps (t .group) (t .places)
+
+-- The same of a content, read from i on.
+abbrev pub Built : (List Place → Group → List Place → Type 0) → Content → Type 0
+Built T empty = Unit {0}
+Built T (model g ps n) = T [] g ps
+
+pub record ContentRead (s : List ℕ) (T : List Place → Group → List Place → Type 0) (i : ℕ) (c : ContentEnd) : Type 0 where
+  pub from : i ≤ c .at
+  pub inside : c .at ≤ length s
+  pub content : ContentIn s (c .content)
+  pub built : Built T (c .content)
+
+module _ (s : List ℕ) {T : List Place → Group → List Place → Type 0} (build : Builds T) where
+  indicated : {g h : Group} {ps qs : List Place} → Indicated g h → T ps g qs → T ps h qs
+  indicated optional x = build .optional x
+  indicated repeated x = build .repeated x
+  indicated any x = build .optional (build .repeated x)
+
+  connected : (b : ℕ) {g h : Group} {ps qs rs : List Place} → T ps g qs → T qs h rs → T ps (join b g h) rs
+  connected b {g} {h} {ps} {qs} {rs} x y = whichever (λ (k : Group). T ps k rs) (eqb b 44) (λ e. build .sequence x y) (λ e. build .choice x y)
+
+  occurrence-read : {at : ℕ} {ps : List Place} (t : Tokens) → Read s T at ps t → Read s T at ps (occurrence s t)
+  occurrence-read {at} {ps} t r =
+      occurrence-holds (Read s T at ps) s t r (λ g i l. record { from = omega (arith, r .from); inside = omega arith; fits = r .fits; built = indicated i (r .built) })
+
+  abbrev InnerRead : (ℕ → List Place → ℕ → Reading Tokens) → Type 0
+  InnerRead inner = (at : ℕ) (ps : List Place) (n : ℕ) → at < length s → Fits s ps n → Holds (InType s) (Read s T at ps) (inner at ps n)
+
+  -- What follows behind the places ps, from `at` on.
+  abbrev FurtherRead : (at : ℕ) → List Place → Further → Type 0
+  FurtherRead at ps (closed t) = Read s T at ps t
+  FurtherRead at ps (joined b t) = Read s T at ps t
+
+  module _ (inner : ℕ → List Place → ℕ → Reading Tokens) (inner-read : InnerRead inner) where
+    token-read : (at : ℕ) (full : Bool) (ps : List Place) (n : ℕ) → at ≤ length s → Fits s ps n → (full ≡ false → n < GRPGTCNT) → Holds (InType s) (Read s T at ps) (token inner s at full ps n)
+    token-read at full ps n h f room =
+        token-holds s inner at full ps n (λ m k i. i h)
+        (λ x l e.
+        let i = letter-in s at l in
+        occurrence-read _
+        (record {
+          from = nameEnd-from s at;
+          inside = nameEnd-le s at h;
+          fits = fits-place f (room x) (record { begins = i; ends = omega (arith, nameEnd-from s at, nameEnd-le s at h); short = e; named = λ _. l });
+          built = build .name ps (namePlace s at) (omega (arith, nameEnd-more s at l));
+        }))
+        (λ x l.
+        record {
+          from = omega (arith, nameEnd-from s (at + 1));
+          inside = nameEnd-le s (at + 1) (omega arith);
+          fits = fits-place f (room x) (record { begins = l; ends = omega arith; short = omega arith; named = λ i. absurd (omega arith) });
+          built = build .pcdata ps (dataPlace at) refl;
+        })
+        (λ x l. on (inner-read at ps (n + 1) l (fits-group f (room x))) (λ t r. reads (occurrence-read t r)))
+
+    further-read : {at : ℕ} {ps : List Place} (k c : ℕ) (t : Tokens) → Read s T at ps t → Holds (InType s) (FurtherRead at ps) (further inner s k c t)
+    further-read {at} {ps} k c t r =
+        further-holds s inner k c t (λ m k i. i (r .inside))
+        (λ i l h. record { from = omega (arith, r .from); inside = omega arith; fits = r .fits; built = r .built })
+        (λ b j l h.
+        on (token-read j (leb GRPCNT k || leb GRPGTCNT (t .tokens)) (t .places) (t .tokens) h (r .fits) (λ x. leb-false _ _ (or-none (leb GRPCNT k) _ x .1)))
+        (λ u v. reads (record { from = omega (arith, r .from, v .from); inside = v .inside; fits = v .fits; built = connected b (r .built) (v .built) })))
+
+    members-read : {at : ℕ} {ps : List Place} (left k c : ℕ) (t : Tokens) → Read s T at ps t → Holds (InType s) (Read s T at ps) (members inner s left k c t)
+    unfolding members
+    members-read zero k c t r = stops {n = 6} {k = t .at} (omega (arith, r .inside))
+    members-read {at} {ps} (suc left) k c t r = on (further-read k c t r) (by-further (λ b u v. members-read left (k + 1) b u v))
+      where
+        by-further : ((b : ℕ) (u : Tokens) → Read s T at ps u → Holds (InType s) (Read s T at ps) (members inner s left (k + 1) b u))
+            → (x : Further) → FurtherRead at ps x → Holds (InType s) (Read s T at ps) (elim x [ closed u ↦ got u | joined b u ↦ members inner s left (k + 1) b u ])
+        by-further ih (closed u) v = reads v
+        by-further ih (joined b u) v = ih b u v
+
+  earlier : {at i : ℕ} {ps : List Place} {t : Tokens} → at ≤ i → Read s T i ps t → Read s T at ps t
+  earlier h r = record { from = omega (arith, r .from); inside = r .inside; fits = r .fits; built = r .built }
+
+  pub group-read : (levels : ℕ) → InnerRead (group levels s)
+  unfolding group
+  group-read zero at ps n h f = stops {n = 6} {k = at} (omega arith)
+  group-read (suc levels) at ps n h f =
+      let i = separatorsEnd s (at + 1) in
+      on (token-read (group levels s) (group-read levels) i (leb GRPGTCNT n) ps n (separatorsEnd-le s (at + 1) (omega arith)) f (leb-false _ _))
+      (λ t r. members-read (group levels s) (group-read levels) GRPCNT 1 0 t (earlier (omega (arith, separatorsEnd-from s (at + 1))) r))
+
+  contentModel-read : (i : ℕ) → i < length s → Holds (InFrom s i) (ContentRead s T i) (contentModel s i)
+  unfolding contentModel
+  contentModel-read i h =
+      on (so (group-read GRPLVL i [] 0 h (fits-none s)) (λ n k x l. x) (λ t r. r)) λ t r.
+      let v = occurrence-read t r in
+      reads (record { from = v .from; inside = v .inside; content = v .fits; built = v .built })
+
+  contentWord-read : (from i : ℕ) → letter (byteAt s i) ≡ true → Holds (InFrom s i) (ContentRead s T i) (contentWord s from i)
+  unfolding contentWord
+  contentWord-read from i l =
+      let e = nameEnd s i in
+      let h = letter-in s i l in
+      either (ltb NAMELEN (e - i)) (λ x. stops (λ y. omega arith))
+      (λ x. either (ltb from i && isWord s i e EMPTY) (λ y. reads (record { from = nameEnd-from s i; inside = nameEnd-le s i (omega arith); content = tt; built = tt }))
+      (λ y. either (isWord s i e ANY || isWord s i e CDATA || isWord s i e RCDATA) (λ z. stops (λ u. omega arith))
+      (λ z. either (ltb from i && isCut s i e EMPTY) (λ u. stops (λ v. omega arith)) (λ u. stops (λ v. omega arith)))))
+
+  -- The content of a declaration. Only a refusal asks that it begins in the input.
+  pub content-read : (from i : ℕ) → Holds (InFrom s i) (ContentRead s T i) (content s from i)
+  unfolding content
+  content-read from i =
+      let b = byteAt s i in
+      either (eqb b 40) (λ x. contentModel-read i (test-in (λ v. eqb v 40) refl s i x))
+      (λ x. either (letter b) (λ y. contentWord-read from i y) (λ y. unfit-holds s i (λ n k h. h)))
+
+-- Where nothing is asked of the group.
+abbrev pub Whatever : List Place → Group → List Place → Type 0
+Whatever ps g qs = Unit {0}
+
+pub whatever-builds : Builds Whatever
+whatever-builds = record { name = λ ps x l. tt; pcdata = λ ps x e. tt; optional = λ x. tt; repeated = λ x. tt; sequence = λ x y. tt; choice = λ x y. tt }
+
+-- A content ends behind where it begins.
+pub content-from : (s : List ℕ) (from i : ℕ) (c : ContentEnd) → content s from i ≡ got c → i ≤ c .at
+content-from s from i c e = got-so (content-read s whatever-builds from i) e .from

@@ -1,0 +1,224 @@
+-- The chain of starts, looked for element by element, is the chain of the rules.
+use Prim.Native.Nat.{ℕ, zero, suc, _+_, _-_, _≤_, _<_}
+use mathlib.Core.Path.{_≡_, refl, sym, _∙_, ap}
+use mathlib.Core.Bool.{Bool, true, false, _&&_}
+use mathlib.Core.List.{List, [], _∷_}
+use native.Mathlib.Omega.{arith}
+use lib.ListN.{length}
+use lib.Dec.{leb}
+use borrow.Author.Tests.{le-leb}
+use Rattle.rules.specs.TypeFile.{Element}
+use Rattle.rules.specs.Settling.{contentOf, hasModel, startO, Token, Decisions, Open, elementOf, fitting, requiredPlace, inferable, chain}
+use Rattle.document_laws.specs.Decide.{decided}
+use Rattle.document_laws.specs.Same.{link}
+use Rattle.document_laws.specs.Chain.{chain-leads, chain-shortest}
+use Rattle.type_laws.specs.Names.{numberOf-range}
+use Rattle.last_places.specs.Last.{placed, InRange}
+use Rattle.type_tables.specs.Means.{standing, nameNumber, Declares, Tables, Requires}
+use Rattle.ways.specs.declared.Way.the-variants.{Taken, Inferred, Stuck}
+use Rattle.ways.specs.Means.{wayOf, chained}
+
+-- One turn of a chain
+
+link-more : (k f : ℕ) (r q : List ℕ) → ((j : ℕ) (js : List ℕ) → r ≡ j ∷ js → q ≡ j ∷ js) → (i : ℕ) (is : List ℕ) → link k f r ≡ i ∷ is → link k f q ≡ i ∷ is
+unfolding link
+link-more k f r q h i is = by-tests (leb 1 k) (leb 1 f) r h
+  where
+    by-tests : (b c : Bool) (r : List ℕ) → ((j : ℕ) (js : List ℕ) → r ≡ j ∷ js → q ≡ j ∷ js)
+        → elim b [ true ↦ elim c [ true ↦ k ∷ [] | false ↦ elim r [ [] ↦ [] | j ∷ js ↦ k ∷ j ∷ js ] ] | false ↦ [] ] ≡ i ∷ is
+        → elim b [ true ↦ elim c [ true ↦ k ∷ [] | false ↦ elim q [ [] ↦ [] | j ∷ js ↦ k ∷ j ∷ js ] ] | false ↦ [] ] ≡ i ∷ is
+    by-tests true true r h e = e
+    by-tests true false [] h e = absurd (let z : _≡_ {A = ℕ} 0 1 = cc in omega arith)
+    by-tests true false (j ∷ js) h e = rw (h j js refl) e
+    by-tests false c r h e = e
+
+link-most : (k f : ℕ) (r : List ℕ) → length (link k f r) ≤ suc (length r)
+unfolding link
+link-most k f r = by-tests (leb 1 k) (leb 1 f) r
+  where
+    by-tests : (b c : Bool) (r : List ℕ) → length {A = ℕ} (elim b [ true ↦ elim c [ true ↦ k ∷ [] | false ↦ elim r [ [] ↦ [] | j ∷ js ↦ k ∷ j ∷ js ] ] | false ↦ [] ]) ≤ suc (length r)
+    by-tests true true r = omega arith
+    by-tests true false [] = omega arith
+    by-tests true false (j ∷ js) = omega arith
+    by-tests false c r = omega arith
+
+-- How many starts there are, if any, after k others.
+abbrev past : ℕ → List ℕ → ℕ
+past k [] = 0
+past k (j ∷ js) = k + length (j ∷ js)
+
+past-found : (k c f : ℕ) (r : List ℕ) → 1 ≤ c → 1 ≤ f → past k (link c f r) ≡ k + 1
+unfolding link
+past-found k c f r l h = rw (link, le-leb 1 c l, le-leb 1 f h)
+
+past-on : (k c : ℕ) (r : List ℕ) → 1 ≤ c → past k (link c 0 r) ≡ past (k + 1) r
+unfolding link
+past-on k c [] l = rw (link, le-leb 1 c l)
+past-on k c (j ∷ js) l = rw (link, le-leb 1 c l) (omega arith)
+
+past-none : (k : ℕ) (f : ℕ) (r : List ℕ) → past k (link 0 f r) ≡ 0
+unfolding link
+past-none k f r = refl
+
+module _ (s : List ℕ) (es : List Element) (D : Decisions) where
+  -- The element whose start is inferred is one of the type.
+  pub inferable-most : (o : Open) → inferable s es D o ≤ length es
+  unfolding inferable
+  inferable-most o = by-test (leb 1 p && (leb 1 k && (startO es k && hasModel (contentOf es k))))
+    where
+      p : ℕ
+      p = requiredPlace s es D o
+
+      k : ℕ
+      k = elementOf s es o p
+
+      by-test : (b : Bool) → elim b [ true ↦ k | false ↦ 0 ] ≤ length es
+      by-test true = numberOf-range s es s _ _
+      by-test false = omega arith
+
+  module _ (t : Token) where
+    -- The chain among so many elements, whose first is c.
+    unfoldable pub chainFrom : (left c : ℕ) → List ℕ
+    chainFrom zero c = []
+    chainFrom (suc left) c = link c (fitting s es D (standing c 0) t) (chainFrom left (inferable s es D (standing c 0)))
+
+    chain-from : (n : ℕ) (o : Open) → chain s es D n t o ≡ chainFrom n (inferable s es D o)
+    unfolding chain link chainFrom
+    chain-from zero o = refl
+    chain-from (suc n) o =
+        let k = inferable s es D o in
+        ap (link k (fitting s es D (standing k 0) t)) (chain-from n (standing k 0))
+
+    -- A chain that is found among n elements is found among more.
+    chain-more : (n m : ℕ) → n ≤ m → (o : Open) (k : ℕ) (ks : List ℕ) → chain s es D n t o ≡ k ∷ ks → chain s es D m t o ≡ k ∷ ks
+    unfolding chain link
+    chain-more zero m l o k ks e = absurd (let z : _≡_ {A = ℕ} 0 1 = cc in omega arith)
+    chain-more (suc n) zero l o k ks e = absurd (omega arith)
+    chain-more (suc n) (suc m) l o k ks e =
+        let j = inferable s es D o in
+        link-more j (fitting s es D (standing j 0) t) _ _ (λ i is. chain-more n m (omega arith) (standing j 0) i is) k ks e
+
+    -- A chain found among n elements has at most n.
+    pub chain-most : (n : ℕ) (o : Open) → length (chain s es D n t o) ≤ n
+    unfolding chain link
+    chain-most zero o = omega arith
+    chain-most (suc n) o =
+        let k = inferable s es D o in
+        omega (arith, link-most k (fitting s es D (standing k 0) t) (chain s es D n t (standing k 0)), chain-most n (standing k 0))
+
+    -- To look among more than there are finds no other.
+    pub chain-enough : (n : ℕ) → length es ≤ n → (o : Open) → chain s es D n t o ≡ chain s es D (length es) t o
+    chain-enough n l o = by-chain _ refl _ refl
+      where
+        by-chain : (r : List ℕ) → chain s es D (length es) t o ≡ r → (q : List ℕ) → chain s es D n t o ≡ q → q ≡ r
+        by-chain (k ∷ ks) e q f = sym f ∙ chain-more (length es) n l o k ks e
+        by-chain [] e [] f = refl
+        by-chain [] e (k ∷ ks) f =
+            let (js, g, h) = chain-shortest s es D t o k ks (chain-leads s es D t n o k ks f) in
+            absurd (let z : _≡_ {A = ℕ} 0 1 = cc in omega arith)
+
+-- The loop: what is still to be looked for, from the element c on after n - 1 others, gives the chain.
+pub record Ahead (s : List ℕ) (es : List Element) (D : Decisions) (t : Token) (o : Open) (c n : ℕ) : Type 0 where
+  pub within : c ≤ length es
+  pub still : chained s es D t o ≡ past (n - 1) (chainFrom s es D t (65 - n) c)
+
+first-range : (es : List Element) (c : ℕ) → c ≤ length es → InRange es (standing c 0)
+first-range es c l = record { declared = l; place = omega arith }
+
+module _ (s : List ℕ) (es : List Element) (D : Decisions) (t : Token) (o : Open) (few : length es ≤ 64) where
+  ahead-start : (c : ℕ) → c ≡ inferable s es D o → Ahead s es D t o c 1
+  ahead-start c e =
+      record {
+        within = rw e (inferable-most s es D o);
+        still = ap length (sym (chain-enough s es D t 64 few o) ∙ chain-from s es D t 64 o) ∙ past-all (chainFrom s es D t 64 (inferable s es D o)) ∙ ap (λ k. past 0 (chainFrom s es D t 64 k)) (sym e);
+      }
+    where
+      past-all : (l : List ℕ) → length l ≡ past 0 l
+      past-all [] = refl
+      past-all (j ∷ js) = omega arith
+
+module _ (s : List ℕ) (es : List Element) (D : Decisions) (t : Token) (o : Open) (c n : ℕ) (some : 1 ≤ n) (h : Ahead s es D t o c n) where
+  ahead-over : 64 < n → 0 ≡ chained s es D t o
+  unfolding chainFrom
+  ahead-over l = let e : 65 - n ≡ 0 = omega arith in sym (h .still ∙ rw (e, chainFrom))
+
+  -- one turn, where there is one
+  turn : (l : ℕ) → l ≡ 65 - n → 1 ≤ l → chained s es D t o ≡ past (n - 1) (link c (fitting s es D (standing c 0) t) (chainFrom s es D t (65 - (n + 1)) (inferable s es D (standing c 0))))
+  unfolding chainFrom
+  turn zero e i = absurd (omega arith)
+  turn (suc l) e i =
+      let f : l ≡ 65 - (n + 1) = omega arith in
+      h .still ∙ rw (← e, chainFrom, f)
+
+  ahead-none : n ≤ 64 → c ≡ 0 → 0 ≡ chained s es D t o
+  ahead-none l e = sym (turn _ refl (omega arith) ∙ rw e (past-none (n - 1) _ _))
+
+  ahead-found : n ≤ 64 → (c ≡ 0 → ⊥) → (fitting s es D (standing c 0) t ≡ 0 → ⊥) → n ≡ chained s es D t o
+  ahead-found l i j = let e : (n - 1) + 1 ≡ n = omega arith in sym (turn _ refl (omega arith) ∙ past-found (n - 1) c _ _ (omega arith) (omega arith) ∙ e)
+
+  ahead-next : n ≤ 64 → (c ≡ 0 → ⊥) → fitting s es D (standing c 0) t ≡ 0 → (k : ℕ) → k ≡ inferable s es D (standing c 0) → Ahead s es D t o k (n + 1)
+  ahead-next l i f k e =
+      let m : (n - 1) + 1 ≡ n + 1 - 1 = omega arith in
+      record {
+        within = rw e (inferable-most s es D (standing c 0));
+        still = turn _ refl (omega arith) ∙ rw (f, past-on (n - 1) c _ (omega arith), m, ← e);
+      }
+
+-- The same in every type whose tables these are and where the place q is required, for the token whose name is x.
+pub record Looks (rows places facts : List ℕ) (e q x c n : ℕ) : Type 0 where
+  pub left : (s : List ℕ) (es : List Element) → Tables s es rows places facts → (u : ℕ) → Requires es e q u → (t : Token) → nameNumber t ≡ x → Declares es t → Ahead s es (decided s es) t (standing e u) c n
+
+-- The chain has so many starts, for the token whose name is x.
+abbrev Counts : (rows places facts : List ℕ) (e q x n : ℕ) → Type 0
+Counts rows places facts e q x n =
+    (s : List ℕ) (es : List Element) → Tables s es rows places facts → (u : ℕ) → Requires es e q u → (t : Token) → nameNumber t ≡ x → Declares es t → n ≡ chained s es (decided s es) t (standing e u)
+
+-- That token fits as the place p at the start of c, or p is 0.
+abbrev FitsFirst : (rows places facts : List ℕ) (c x p : ℕ) → Type 0
+FitsFirst rows places facts c x p =
+    (s : List ℕ) (es : List Element) → Tables s es rows places facts → InRange es (standing c 0) → (t : Token) → nameNumber t ≡ x → Declares es t → p ≡ decided s es .fits c (placed 0) t
+
+module _ (rows places facts : List ℕ) (e q x : ℕ) where
+  pub looks-start : (c : ℕ)
+      → ((s : List ℕ) (es : List Element) (some : List ℕ) → Tables s es some places facts → (u : ℕ) → Requires es e q u → c ≡ inferable s es (decided s es) (standing e u))
+      → Looks rows places facts e q x c 1
+  looks-start c found = record { left = λ s es tables u requires t i d. ahead-start s es (decided s es) t (standing e u) (tables .few) c (found s es rows tables u requires) }
+
+  module _ (c n : ℕ) (h : Looks rows places facts e q x c n) where
+    pub looks-over : 1 ≤ n → 64 < n → Counts rows places facts e q x 0
+    looks-over some l s es tables u requires t i d = ahead-over s es (decided s es) t (standing e u) c n some (h .left s es tables u requires t i d) l
+
+    module _ (some : 1 ≤ n) (most : n ≤ 64) where
+      pub looks-none : c ≡ 0 → Counts rows places facts e q x 0
+      looks-none z s es tables u requires t i d = ahead-none s es (decided s es) t (standing e u) c n some (h .left s es tables u requires t i d) most z
+
+      module _ (there : c ≡ 0 → ⊥) (p : ℕ) (fits : FitsFirst rows places facts c x p) where
+        fitted : (s : List ℕ) (es : List Element) → Tables s es rows places facts → (u : ℕ) → Requires es e q u → (t : Token) → nameNumber t ≡ x → Declares es t → p ≡ fitting s es (decided s es) (standing c 0) t
+        fitted s es tables u requires t i d = fits s es tables (first-range es c (h .left s es tables u requires t i d .within)) t i d
+
+        pub looks-found : (p ≡ 0 → ⊥) → Counts rows places facts e q x n
+        looks-found z s es tables u requires t i d =
+            ahead-found s es (decided s es) t (standing e u) c n some (h .left s es tables u requires t i d) most there (λ y. z (fitted s es tables u requires t i d ∙ y))
+
+        pub looks-next : p ≡ 0 → (k : ℕ)
+            → ((s : List ℕ) (es : List Element) → Tables s es rows places facts → InRange es (standing c 0) → k ≡ inferable s es (decided s es) (standing c 0))
+            → Looks rows places facts e q x k (n + 1)
+        looks-next z k found =
+            record {
+              left = λ s es tables u requires t i d.
+                  let a = h .left s es tables u requires t i d in
+                  ahead-next s es (decided s es) t (standing e u) c n some a most there (sym (fitted s es tables u requires t i d) ∙ z) k (found s es tables (first-range es c (a .within)));
+            }
+
+-- What is answered of an element
+
+pub way-taken : (p f n : ℕ) → p ≡ f → (p ≡ 0 → ⊥) → Taken p ≡ wayOf f n
+way-taken zero f n e z = absurd (z refl)
+way-taken (suc p) f n e z = rw (← e)
+
+pub way-inferred : (k f n : ℕ) → f ≡ 0 → k ≡ n → (k ≡ 0 → ⊥) → Inferred k ≡ wayOf f n
+way-inferred zero f n e i z = absurd (z refl)
+way-inferred (suc k) f n e i z = rw (e, ← i)
+
+pub way-stuck : (f n : ℕ) → f ≡ 0 → n ≡ 0 → Stuck ≡ wayOf f n
+way-stuck f n e i = rw (e, i)

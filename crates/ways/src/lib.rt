@@ -1,0 +1,161 @@
+// What the current element has to say to a start tag or to data: whether it fits, how many starts are inferred before it, and
+// whether the element's end is inferred. Nothing is changed here.
+//
+// `rows`, `places` and `facts` are the tables of the type (crate type_tables). x is the element that starts, or 0 for data.
+use open_elements::Open;
+ghost use mathlib.Core.Path.{_≡_};
+ghost use mathlib.Core.Bool.{true, false};
+ghost use mathlib.Core.List.{List};
+ghost use Prim.Native.Nat.{ℕ, _≤_, _<_};
+ghost use lib.Dec.{leb};
+ghost use Rattle.rules.specs.TypeFile.{Element};
+ghost use Rattle.rules.specs.Settling.{contentOf, hasModel, Token, Event, isOver};
+ghost use Rattle.rules.specs.Settling as rules;
+ghost use Rattle.document_laws.specs.Decide.{decided};
+ghost use Rattle.last_places.specs.Last.{placed, InRange};
+ghost use Rattle.type_tables.specs.Means.{standing, nameNumber, Declares, Facts, Tables, Requires};
+ghost use Rattle.open_elements.specs.Means.{stateOf, Stands};
+ghost use Rattle.ways.specs.Means.{wayOf, chained, startsOf, fitOf, placeOf, MayEnd};
+
+// What the current element has to say to a start tag or a data byte.
+pub enum Way {
+    // it fits at this place
+    Taken(usize),
+    // so many starts are inferred before it
+    Inferred(usize),
+    Stuck,
+}
+
+// How many starts must be inferred in the element e where the place q is required before x fits, or 0 if there is no such
+// chain.
+fn chain(
+    rows: &[u8; 88270],
+    places: &[u8; 12610],
+    facts: &[u8; 4420],
+    e: usize,
+    q: usize,
+    x: usize,
+) -> usize
+    requires { ⌜ (e ≤ 64) × (x ≤ 64) ⌝ }
+    ensures { λ r. ⌜ ((s : List ℕ) (es : List Element) → Tables s es (now (rows .entry)) (now (places .entry)) (now (facts .entry)) → (u : ℕ) → Requires es e q u →
+        (t : Token) → nameNumber t ≡ x → Declares es t → r ≡ chained s es (decided s es) t (standing e u)) ⌝ }
+    ensures { λ r. ⌜ r ≤ 64 ⌝ }
+{
+    let mut c = type_tables::startable(places, facts, e, q);
+    let mut n = 1;
+    while n <= 64 && c != 0 {
+        if type_tables::fitting(rows, places, facts, c, 0, x) != 0 {
+            return n;
+        }
+        c = type_tables::inferable(rows, places, facts, c, 0);
+        n += 1;
+    }
+    0
+}
+
+// Steps 1 and 2 at the element e after the place u, where the place q is required.
+pub fn way_at(
+    rows: &[u8; 88270],
+    places: &[u8; 12610],
+    facts: &[u8; 4420],
+    e: usize,
+    u: usize,
+    q: usize,
+    x: usize,
+) -> Way
+    requires { ⌜ (e ≤ 64) × (u ≤ 96) × (x ≤ 64) ⌝ }
+    ensures { λ r. ⌜ ((s : List ℕ) (es : List Element) → Tables s es (now (rows .entry)) (now (places .entry)) (now (facts .entry)) → Requires es e q u →
+        (t : Token) → nameNumber t ≡ x → Declares es t → r ≡ wayOf (decided s es .fits e (placed u) t) (chained s es (decided s es) t (standing e u))) ⌝ }
+    ensures { λ r. ⌜ (fitOf r ≤ 96) × (startsOf r ≤ 64) ⌝ }
+{
+    let p = type_tables::fitting(rows, places, facts, e, u, x);
+    if p != 0 {
+        return Way::Taken(p);
+    }
+    let n = chain(rows, places, facts, e, q, x);
+    if n != 0 {
+        return Way::Inferred(n);
+    }
+    Way::Stuck
+}
+
+// Whether step 3 infers the current element's end: its content is complete, its end is "O" and it is not the document
+// element. The document alone lies around the document element.
+pub fn may_end(facts: &[u8; 4420], o: Open) -> bool
+    requires { ⌜ o .element ≤ 64 ⌝ }
+    ensures { λ r. ⌜ MayEnd (now (facts .entry)) o r ⌝ }
+    ensures { λ r. ⌜ (r ≡ true → (1 < o .count) × (o .complete ≡ true)) ⌝ }
+{
+    if o.count <= 1 {
+        return false;
+    }
+    if !o.complete {
+        return false;
+    }
+    type_tables::end_omitted(facts, o.element)
+}
+
+// How many starts are inferred.
+pub fn starts_of(w: Way) -> usize
+    ensures { λ r. ⌜ r ≡ startsOf w ⌝ }
+{
+    match w {
+        Way::Taken(_) => 0,
+        Way::Inferred(k) => k,
+        Way::Stuck => 0,
+    }
+}
+
+// The place of x by what was found, in the element e after the place u, or 0 where nothing fits. Where starts were inferred, e is the
+// last that was started.
+pub fn place_of(
+    rows: &[u8; 88270],
+    places: &[u8; 12610],
+    facts: &[u8; 4420],
+    e: usize,
+    u: usize,
+    found: Way,
+    x: usize,
+) -> usize
+    requires { ⌜ (e ≤ 64) × (u ≤ 96) × (x ≤ 64) × (fitOf found ≤ 96) ⌝ }
+    ensures { λ r. ⌜ ((s : List ℕ) (es : List Element) → Tables s es (now (rows .entry)) (now (places .entry)) (now (facts .entry)) → InRange es (standing e u) →
+        (t : Token) → nameNumber t ≡ x → Declares es t → r ≡ placeOf (decided s es .fits e (placed u) t) found) ⌝ }
+    ensures { λ r. ⌜ r ≤ 96 ⌝ }
+{
+    match found {
+        Way::Taken(p) => p,
+        Way::Inferred(_) => type_tables::fitting(rows, places, facts, e, u, x),
+        Way::Stuck => 0,
+    }
+}
+
+// Whether x is an element for which there is no room among so many.
+pub fn is_full(count: usize, x: usize) -> bool
+    ensures { λ r. ⌜ (x ≡ 0 → r ≡ false) × ((x ≡ 0 → ⊥) → r ≡ leb 24 count) ⌝ }
+{
+    if x == 0 {
+        return false;
+    }
+    24 <= count
+}
+
+// Whether x is an element with a model: it is open once it has started.
+pub fn opens(facts: &[u8; 4420], x: usize) -> bool
+    requires { ⌜ x ≤ 64 ⌝ }
+    ensures { λ r. ⌜ (x ≡ 0 → r ≡ false) × ((s : List ℕ) (es : List Element) → Facts s es (now (facts .entry)) → Declares es (rules.start x) → r ≡ hasModel (contentOf es x)) ⌝ }
+{
+    if x == 0 {
+        return false;
+    }
+    type_tables::has_model(facts, x)
+}
+
+// Whether the document element was there and has ended.
+pub fn is_over(o: Open) -> bool
+    ensures { λ r. ⌜ ((s : List ℕ) (es : List Element) → Stands es o → (before : List Event) → r ≡ isOver s es (decided s es) (stateOf o before)) ⌝ }
+{
+    if o.element != 0 {
+        return false;
+    }
+    o.complete
+}
