@@ -35,16 +35,18 @@ none-so-far s c es z (inl h) = h .1
 none-so-far s c es z (inr h) = absurd (omega arith)
 
 module _ (s : List ℕ) (c : Clash) (es : List Element) (x : Content) where
+  -- A pair found before stays, whatever the next model is.
   pub pending-kept : (c .second ≡ 0 → ⊥) → Pending s c es → PendingWith s c es x
   pending-kept z (inl h) e q = absurd (z (h .0))
   pending-kept z (inr h) e q = inr (h .0, first-more s e (h .1))
 
-  module _ (z : c .second ≡ 0) (h : Pending s c es) where
-    pub pending-clear : Unambiguous s x → PendingWith s c es x
-    pending-clear u e q = inl (z, all-more s e es (none-so-far s c es z h) (rw q u))
+  -- So does whatever is pending where the next model is unambiguous.
+  pub pending-clear : Pending s c es → Unambiguous s x → PendingWith s c es x
+  pending-clear (inl h) u e q = inl (h .0, all-more s e es (h .1) (rw q u))
+  pending-clear (inr h) u e q = inr (h .0, first-more s e (h .1))
 
-    pub pending-first : (d : Clash) → (d .second ≡ 0 → ⊥) → PairStandsAt s x (d .at) (d .first) (d .second) → PendingWith s d es x
-    pending-first d n f e q = inr (omega arith, first-last s e (d .at) (d .first) (d .second) es (none-so-far s c es z h) (rw q f))
+  pub pending-first : c .second ≡ 0 → Pending s c es → (d : Clash) → (d .second ≡ 0 → ⊥) → PairStandsAt s x (d .at) (d .first) (d .second) → PendingWith s d es x
+  pending-first z h d n f e q = inr (omega arith, first-last s e (d .at) (d .first) (d .second) es (none-so-far s c es z h) (rw q f))
 
 -- What the search for a pair answers: no place, or two of the model.
 module _ (s names table : List ℕ) (places p q : ℕ) (answered : (p, q) ≡ searchPair (faultIn s names table places) places) where

@@ -5,17 +5,18 @@ use mathlib.Core.Bool.{Bool, true, false, _&&_, _||_, cond, true≢false}
 use mathlib.Core.List.{List}
 use native.Mathlib.Omega.{arith}
 use lib.ListN.{length}
-use lib.Dec.{eqb, leb, ltb}
+use lib.Dec.{eqb, leb}
 use borrow.Author.Tests.{eq-eqb, ne-eqb, leb-false}
-use Rattle.rules.specs.Bytes.{byteAt, letter, nameEnd, separatorsEnd, GRPCNT, GRPGTCNT}
+use Rattle.rules.specs.Bytes.{byteAt, letter, separatorsEnd, GRPCNT, GRPGTCNT}
 use Rattle.rules.specs.Reading.{Reading, refused, got, andThen}
 use Rattle.rules.specs.Walk.{seq, alt}
-use Rattle.rules.specs.TypeFile.{Place, Tokens, Further, closed, joined, occurrence, nameToken, dataToken, token, join, further, members, group, isWord, isCut, PCDATA}
+use Rattle.rules.specs.TypeFile.{Place, Tokens, Further, closed, joined, occurrence, nameToken, dataToken, token, join, further, members, group}
 use Rattle.text.specs.declared.Fault.{Fault}
 use Rattle.text.specs.Laws.{byte-is-in}
 use Rattle.model_sets.specs.Sets.{size, Numbered}
 use Rattle.model_table.specs.Fill.{fill, partSeq, partAlt, joinSeq}
 use Rattle.model_names.specs.Places.{placesOf}
+use Rattle.rules_laws.specs.Groups.{further-room}
 use Rattle.content_tokens.specs.declared.Model.{Model}
 use Rattle.content_tokens.specs.declared.ModelRead.{ModelRead}
 use Rattle.content_tokens.specs.declared.ModelRead.the-variants.{Read, Refused}
@@ -97,24 +98,6 @@ module _ (inner : ℕ → List Place → ℕ → Reading Tokens) (s : List ℕ) 
     unfolding token
     token-other r f = rw (← B, ← L, p, ← B, ne-eqb _ _ q, ← B, ne-eqb _ _ r, ← B, f, token)
 
--- Where there is no room for a token, there is none.
-
-abbrev Refuses : Reading Tokens → Type 0
-Refuses (refused n k) = Unit {0}
-Refuses (got a) = ⊥
-
-either : (b : Bool) (x y : Reading Tokens) → Refuses x → Refuses y → Refuses (elim b [ true ↦ x | false ↦ y ])
-either true x y p q = p
-either false x y p q = q
-
-no-room : (inner : ℕ → List Place → ℕ → Reading Tokens) (s : List ℕ) (at : ℕ) (ps : List Place) (n : ℕ) → Refuses (token inner s at true ps n)
-unfolding token nameToken dataToken
-no-room inner s at ps n =
-    either (letter (byteAt s at)) _ _ (either (ltb 8 (nameEnd s at - at)) _ _ tt tt)
-    (either (eqb (byteAt s at) 35) _ _
-    (either (letter (byteAt s (at + 1))) _ _ (either (isWord s (at + 1) (nameEnd s (at + 1)) PCDATA) _ _ tt (either (isCut s (at + 1) (nameEnd s (at + 1)) PCDATA) _ _ tt tt)) tt)
-    (either (eqb (byteAt s at) 40) _ _ tt (either (eqb (byteAt s at) 91 || eqb (byteAt s at) 37) _ _ tt tt)))
-
 -- What follows a content token.
 
 -- the group of t, with one more token u of it
@@ -142,39 +125,6 @@ module _ (inner : ℕ → List Place → ℕ → Reading Tokens) (s : List ℕ) 
         → further inner s k c t ≡ andThen (token inner s (separatorsEnd s (i + 1)) (leb GRPCNT k || leb GRPGTCNT (t .tokens)) (t .places) (t .tokens)) (joins b t)
     unfolding further
     further-on q r = rw (← I, ← B, ne-eqb _ _ p, ← I, ← B, q, ← I, ← B, r, further, B, I)
-
--- A further token needs room.
-
-abbrev Ends : Reading Further → Type 0
-Ends (refused n k) = Unit {0}
-Ends (got (closed t)) = Unit {0}
-Ends (got (joined b t)) = ⊥
-
-one-ends : (b : Bool) (x y : Reading Further) → Ends x → Ends y → Ends (elim b [ true ↦ x | false ↦ y ])
-one-ends true x y p q = p
-one-ends false x y p q = q
-
-then-ends : (x : Reading Tokens) (f : Tokens → Reading Further) → Refuses x → Ends (andThen x f)
-then-ends (refused n k) f h = tt
-then-ends (got t) f h = absurd h
-
-no-further : (inner : ℕ → List Place → ℕ → Reading Tokens) (s : List ℕ) (k c : ℕ) (t : Tokens) → leb 32 k ≡ true → Ends (further inner s k c t)
-unfolding further
-no-further inner s k c t q =
-    let i = separatorsEnd s (t .at) in
-    let b = byteAt s i in
-    let x : Reading Tokens = token inner s (separatorsEnd s (i + 1)) (leb 32 k || leb 96 (t .tokens)) (t .places) (t .tokens) in
-    let full : Refuses x = rw q (no-room inner s _ _ _) in
-    one-ends (eqb b 41) _ _ tt
-    (one-ends (eqb b 38 || eqb b 37) _ _ tt
-    (one-ends ((eqb b 44 || eqb b 124) && (eqb c 0 || eqb c b)) _ _ (then-ends x (joins b t) full) tt))
-
-pub further-room : (inner : ℕ → List Place → ℕ → Reading Tokens) (s : List ℕ) (k c : ℕ) (t : Tokens) (b : ℕ) (u : Tokens) → further inner s k c t ≡ got (joined b u) → k < 32
-further-room inner s k c t b u e = by-test (leb 32 k) refl
-  where
-    by-test : (x : Bool) → leb 32 k ≡ x → k < 32
-    by-test true q = absurd (rw e at (no-further inner s k c t q))
-    by-test false q = leb-false 32 k q
 
 -- The members of a group, from the one after the k-th on; there are 33 - k at most.
 

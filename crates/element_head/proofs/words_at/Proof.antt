@@ -7,7 +7,7 @@ use Rattle.rules.specs.Reading.{got}
 use Rattle.rules.specs.TypeFile.{gap, omission}
 use Rattle.text.specs.Laws.{gap-range, reached-got, reached-refused}
 use Rattle.element_head.specs.Words.{word-got, word-refused, words-gap, words-start, words-between, words-end, words-got}
-use Rattle.element_head.specs.Ends.{omission-range}
+use Rattle.rules_laws.specs.Declarations.{omission-range}
 use Rattle.element_head.proofs.words_at.Statement.{statement}
 use Rattle.element_head.proofs.words_at.Tie as tie
 

@@ -11,7 +11,8 @@ use Rattle.element_head.specs.Heads.{headIn}
 use Rattle.element_content.specs.Kept.{KeepsBody}
 use Rattle.element_content.specs.Contents.{body-read, body-fault}
 use Rattle.element_reader.specs.Laws.{rest-gap, rest-content, rest-between, rest-close, rest-got, element-meets, element-refused}
-use Rattle.element_head.specs.Ends.{content-from, close-range}
+use Rattle.rules_laws.specs.Groups.{content-from}
+use Rattle.rules_laws.specs.Declarations.{close-range}
 use Rattle.element_reader.proofs.rest_at.Statement.{statement}
 use Rattle.element_reader.proofs.rest_at.Tie as tie
 

@@ -6,12 +6,14 @@ use Rattle.element_records.proofs.clash_with.Statement.{statement}
 use Rattle.element_records.proofs.clash_with.Tie as tie
 
 returns : tie.Need-returns
-returns c es x h k = pending-kept _ _ _ _ (c .if1 .taken) h
+returns c es x h k =
+    let a = c .before .before .before .args in
+    pending-kept (a .s .now) (a .c) es x (λ z. omega (arith, z, c .if1 .taken)) h
 
 returns-2 : tie.Need-returns-2
 returns-2 c es x h k =
     let a = c .before .before .before .before .before .args in
-    pending-clear (a .s .now) (a .c) es x (c .before .before .if1 .left) h (content-empty (a .s .now) _ _ _ _ _ x (c .if2 .taken) k)
+    pending-clear (a .s .now) (a .c) es x h (content-empty (a .s .now) _ _ _ _ _ x (c .if2 .taken) k)
 
 first-pair-requires : tie.Need-first-pair-requires
 first-pair-requires c κs = c .before .before .before .before .before .pre (c .if2 .left)
@@ -19,7 +21,7 @@ first-pair-requires c κs = c .before .before .before .before .before .pre (c .i
 returns-3 : tie.Need-returns-3
 returns-3 c es x h k =
     let a = c .before .before .before .before .before .before .before .args in
-    pending-clear (a .s .now) (a .c) es x (c .before .before .before .before .if1 .left) h
+    pending-clear (a .s .now) (a .c) es x h
     (content-none (a .s .now) (a .names .now) (a .table .now) _ _ _ _ _ (c .before .first-pair .ensures) x (c .before .before .if2 .left) (c .if3 .taken) k)
 
 -- Where a pair is found, its places are those of the model.

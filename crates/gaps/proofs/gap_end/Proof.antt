@@ -1,9 +1,11 @@
 -- `gap_end` meets its contract. The invariant: the gap goes on from `i` as it went on from the start.
-use Prim.Native.Nat.{_+_, _-_, _≤_}
+use Prim.Native.Nat.{ℕ, _+_, _-_, _≤_}
 use mathlib.Core.Path.{_≡_, sym, _∙_}
 use mathlib.Core.Bool.{true, false}
+use mathlib.Core.List.{List}
 use native.Mathlib.Omega.{arith}
 use lib.ListN.{length}
+use Rattle.rules.specs.Bytes.{separatorsEnd}
 use Rattle.rules.specs.TypeFile.{atDashes, gap}
 use Rattle.text.specs.Laws.{separatorsEnd-from, separatorsEnd-le, dashes-in, dashes-end-in}
 use Rattle.text.specs.Laws.{gapOn, gapOn-open, gapOn-percent, gapOn-end, gap-start, gap-turn}
@@ -53,19 +55,23 @@ add-separators-end : tie.Need-add-separators-end Inv-loop μ-loop
 add-separators-end c = omega (arith, closed c)
 
 separators-end-requires-2 : tie.Need-separators-end-requires-2 Inv-loop μ-loop
-separators-end-requires-2 c κs = closed c
+separators-end-requires-2 c κs = omega (arith, closed c)
+
+-- Where separators that begin in the input end.
+ends-in : (s : List ℕ) {at j : ℕ} → j ≡ separatorsEnd s at → at ≤ length s → (at ≤ j) × (j ≤ length s)
+ends-in s {at} e h = omega (arith, separatorsEnd-from s at, separatorsEnd-le s at h)
 
 loop-less : tie.Need-loop-less Inv-loop μ-loop
 loop-less c =
     let s = c .before .before .before .before .before .before .before .before .args .s .now in
-    let e = c .before .before .to-dashes .result in
-    omega (arith, closed (c .before), separatorsEnd-from s (e + 2), c .separators-end2 .ensures, c .before .before .to-dashes .ensures)
+    let r = ends-in s (c .separators-end2 .ensures) (omega (arith, closed (c .before))) in
+    omega (arith, closed (c .before), r, c .before .before .to-dashes .ensures)
 
 loop-again : tie.Need-loop-again Inv-loop μ-loop
 loop-again c =
     let s = c .before .before .before .before .before .before .before .before .args .s .now in
     let e = c .before .before .to-dashes .result in (
-      omega (arith, separatorsEnd-le s (e + 2) (closed (c .before)), c .separators-end2 .ensures),
+      ends-in s (c .separators-end2 .ensures) (omega (arith, closed (c .before))) .1,
       rw (c .separators-end2 .ensures)
           (gap-turn s _ e (dashed (c .before .before .before)) (c .before .before .to-dashes .ensures) (c .before .if2 .left) ∙ c .before .before .before .before .before .loop .inv .1),
     )
