@@ -14,7 +14,7 @@ use Rattle.rules.specs.Settling.{Event}
 use Rattle.rules.specs.Reader.{documentRefusal, eventNumbers, BothLegible, Reads}
 use Rattle.numbers.specs.Means.{Written}
 use Rattle.inputs.specs.Means.{RefusesAlways}
-use Rattle.element_reader.specs.Means.{Recorded}
+use Rattle.element_names.specs.Names.{Recorded}
 use Rattle.document_reader.specs.declared.Answer.{Answer}
 use Rattle.document_reader.specs.declared.Answer.the-variants as answer
 

@@ -5,8 +5,16 @@ use inputs::Checked;
 use text::Fault;
 use type_judge::Verdict;
 ghost use mathlib.Core.Path.{_≡_};
+ghost use mathlib.Core.List.{List};
+ghost use Prim.Native.Nat.{_≤_};
+ghost use lib.ListN.{length};
 ghost use Rattle.rules.specs.Lent.{Lent};
+ghost use Rattle.rules.specs.TypeFile.{Element};
+ghost use Rattle.rules.specs.Judge.{Accepts};
 ghost use Rattle.rules.specs.Reader.{ReadAs};
+ghost use Rattle.element_names.specs.Names.{Recorded};
+ghost use Rattle.element_index.specs.Means.{Judged};
+ghost use Rattle.document_events.specs.Means.{EventsOf};
 ghost use Rattle.document_reader.specs.Means.{answerOf, CountFits, Judges, Answers, fittedTo, isRefusal};
 
 // How many numbers an event has.
@@ -39,6 +47,48 @@ fn judged(s: &[u8], d: &[u8], elements: &mut [u32; 384]) -> Answer
     }
 }
 
+// Reads the document under an accepted type, whose n elements are recorded.
+fn read_under(
+    s: &[u8],
+    d: &[u8],
+    elements: &[u32; 384],
+    n: usize,
+    numbers: &mut [u32],
+    bytes: &mut [u8],
+) -> Counted
+    requires { ⌜ Judged (now s) (now elements) n × (length (now d) ≤ 65535) ⌝ }
+    ensures { λ r. ⌜ ((es : List Element) → Accepts (now (s .entry)) es → length es ≡ n → Recorded (now (elements .entry)) es →
+        EventsOf (now (s .entry)) es (now (d .entry)) (now (numbers .entry)) (now (numbers .exit)) (now (bytes .entry)) (now (bytes .exit)) r) ⌝ }
+{
+    let mut index = [0u8; 321];
+    let mut rows = [0u8; 88270];
+    let mut places = [0u8; 12610];
+    let mut facts = [0u8; 4420];
+    element_index::fill_index(s, elements, n, &mut index);
+    table_fill::fill(s, elements, n, &index, &mut rows, &mut places, &mut facts);
+    // the class of each byte, 32 a row: 1 for one that may begin something else than data, 2 for one that may go on a name
+    let classes = b"\0\0\0\0\0\0\0\0\0\0\x01\0\0\0\0\0\0\0\0\0\0\0\0\0\0\0\0\0\0\0\0\0\
+        \0\0\0\0\0\0\x01\0\0\0\0\0\0\x02\x02\0\x02\x02\x02\x02\x02\x02\x02\x02\x02\x02\0\0\x01\0\0\0\
+        \0\x02\x02\x02\x02\x02\x02\x02\x02\x02\x02\x02\x02\x02\x02\x02\x02\x02\x02\x02\x02\x02\x02\x02\x02\x02\x02\0\0\x01\0\0\
+        \0\x02\x02\x02\x02\x02\x02\x02\x02\x02\x02\x02\x02\x02\x02\x02\x02\x02\x02\x02\x02\x02\x02\x02\x02\x02\x02\0\0\0\0\0\
+        \0\0\0\0\0\0\0\0\0\0\0\0\0\0\0\0\0\0\0\0\0\0\0\0\0\0\0\0\0\0\0\0\
+        \0\0\0\0\0\0\0\0\0\0\0\0\0\0\0\0\0\0\0\0\0\0\0\0\0\0\0\0\0\0\0\0\
+        \0\0\0\0\0\0\0\0\0\0\0\0\0\0\0\0\0\0\0\0\0\0\0\0\0\0\0\0\0\0\0\0\
+        \0\0\0\0\0\0\0\0\0\0\0\0\0\0\0\0\0\0\0\0\0\0\0\0\0\0\0\0\0\0\0\0";
+    document_events::events_of(
+        s,
+        elements,
+        &index,
+        &rows,
+        &places,
+        &facts,
+        classes,
+        d,
+        numbers,
+        bytes,
+    )
+}
+
 // Judges the type and reads the document; a refusal zeroes nothing yet.
 fn answered(s: &[u8], d: &[u8], numbers: &mut [u32], bytes: &mut [u8]) -> Answer
     ensures { λ r. ⌜ Answers (now (s .entry)) (now (d .entry)) (now (numbers .entry)) (now (numbers .exit)) (now (bytes .entry)) (now (bytes .exit)) r ⌝ }
@@ -48,23 +98,7 @@ fn answered(s: &[u8], d: &[u8], numbers: &mut [u32], bytes: &mut [u8]) -> Answer
     let Answer::Accepted(n) = v else {
         return v;
     };
-    let mut index = [0u8; 321];
-    let mut rows = [0u8; 88270];
-    let mut places = [0u8; 12610];
-    let mut facts = [0u8; 4420];
-    element_index::fill_index(s, &elements, n, &mut index);
-    table_fill::fill(s, &elements, n, &index, &mut rows, &mut places, &mut facts);
-    let c = document_events::events_of(
-        s,
-        &elements,
-        &index,
-        &rows,
-        &places,
-        &facts,
-        d,
-        numbers,
-        bytes,
-    );
+    let c = read_under(s, d, &elements, n, numbers, bytes);
     match c {
         Counted::Events(k) => Answer::Accepted(k),
         Counted::Refused(f) => Answer::InDocument(f),

@@ -9,12 +9,6 @@ use borrow.Author.Needs.{needs}
 use Rattle.inputs.proofs.check.Statement.{statement}
 use Rattle.inputs.proofs.check.Tie as tie
 
--- Neither input is too long, and the type's bytes are allowed.
-legible : (c : tie.Else3) → Legible (c .before .before .before .before .before .before .args .s .now)
-legible c =
-    let s = c .before .before .before .before .before .before .args .s .now in
-    legible-type s _ (omega arith) (c .before .allowed-end .ensures) (c .if3 .left)
-
 returns : tie.Need-returns
 returns c room = RefusesBoth.typeTooLong (omega arith) refl
 
@@ -28,6 +22,12 @@ returns-3 : tie.Need-returns-3
 returns-3 c room =
     let e = c .before .allowed-end .ensures in
     RefusesBoth.typeNotAllowed (omega arith) (omega arith) (omega arith) (rw e)
+
+-- Neither input is too long, and the type's bytes are allowed.
+legible : (c : tie.Else3) → Legible (c .before .before .before .before .before .before .args .s .now)
+legible c =
+    let s = c .before .before .before .before .before .before .args .s .now in
+    legible-type s _ (omega arith) (c .before .allowed-end .ensures) (c .if3 .left)
 
 all-allowed-requires : tie.Need-all-allowed-requires
 all-allowed-requires c κs = search needs
