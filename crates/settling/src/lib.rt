@@ -136,8 +136,8 @@ fn placed(
             number: 0,
         };
     }
-    let m = event_buffer::put_event(numbers, bytes, n, 1, x, at, after - at);
     let inner = last.start(rows, x);
+    let m = event_buffer::put_event(numbers, bytes, n, 1, x, at, after - at);
     Outcome {
         open: inner,
         events: m,

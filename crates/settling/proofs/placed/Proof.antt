@@ -58,7 +58,7 @@ put-event-requires c κs = search needs
 
 start-requires : tie.Need-start-requires
 start-requires c κs =
-    let tested = c .before .before .before .before .before .before .before in
+    let tested = c in
     let took = tested .before .before in
     let full = took .before .before in
     let found = full .before .before in
@@ -77,14 +77,15 @@ same-length-4 c = search needs
 
 returns-4 : tie.Need-returns-4
 returns-4 c =
-    let put = c .before .before .before .before .before in
-    let tested = put .before .before .before in
+    let put = c .before .before .before .before in
+    let opened = put .before .before .before in
+    let tested = opened .before in
     let took = tested .before .before in
     let full = took .before .before in
     let found = full .before .before in
     let first = found .before .before .before in
     placed-opened (first .pre .0) (record { answers = found .place-of .ensures .0 }) (full .before .if1 .left) (full .is-full .ensures) (took .before .if2 .left) (found .place-of .ensures .1)
-    (tested .before .opens .ensures) (not-false _ (tested .if3 .left)) (first .pre .2) (c .start .ensures ∙ rw (took .take .ensures)) (put .put-event .ensures)
+    (tested .before .opens .ensures) (not-false _ (tested .if3 .left)) (first .pre .2) (opened .start .ensures ∙ rw (took .take .ensures)) (put .put-event .ensures)
 
 pub placed-spec : {M : Type 1} → statement M
 placed-spec =
@@ -100,9 +101,9 @@ placed-spec =
     same-length
     same-length-2
     returns-3
+    start-requires
     sub-put-event
     put-event-requires
-    start-requires
     same-length-3
     same-length-4
     returns-4)
