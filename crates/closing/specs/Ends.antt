@@ -8,7 +8,10 @@ use lib.Dec.{eqb}
 use borrow.Author.Tests.{eq-eqb, ne-eqb, eqb-true, eqb-false}
 use Rattle.rules.specs.Reading.{Reading, refused, got, andThen}
 use Rattle.rules.specs.TypeFile.{Element}
-use Rattle.rules.specs.Settling.{endO, Decisions, Event, endInferred, endWritten, Open, State, isOpen, isComplete, endLeftOut, closeFrom, endElement, endFrom, endDocument}
+use Rattle.rules.specs.Elements.{endO}
+use Rattle.rules.specs.Decisions.{Decisions}
+use Rattle.rules.specs.Events.{Event, endInferred, endWritten}
+use Rattle.rules.specs.Settling.{Open, State, isOpen, isComplete, endLeftOut, closeFrom, endElement, endFrom, endDocument}
 use Rattle.last_places.specs.Last.{Sound}
 use Rattle.closing.specs.Means.{inferEnds}
 

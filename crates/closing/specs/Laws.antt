@@ -7,7 +7,8 @@ use native.Mathlib.Omega.{arith}
 use lib.ListN.{length, length-append}
 use Rattle.rules.specs.Reading.{refused, got, andThen}
 use Rattle.rules.specs.TypeFile.{Element}
-use Rattle.rules.specs.Settling.{Event, endWritten, isOpen, isComplete, closeFrom, endElement, endFrom, endDocument}
+use Rattle.rules.specs.Events.{Event, endWritten}
+use Rattle.rules.specs.Settling.{isOpen, isComplete, closeFrom, endElement, endFrom, endDocument}
 use Rattle.document_laws.specs.Decide.{decided}
 use Rattle.last_places.specs.Last.{shortly}
 use Rattle.last_places.specs.Short.{endElement-exact}

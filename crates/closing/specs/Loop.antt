@@ -7,7 +7,10 @@ use native.Mathlib.Omega.{arith}
 use lib.ListN.{length, length-append}
 use Rattle.rules.specs.Reading.{refused, got, andThen}
 use Rattle.rules.specs.TypeFile.{Element}
-use Rattle.rules.specs.Settling.{endO, start, Event, State, endInferred, endLeftOut}
+use Rattle.rules.specs.Elements.{endO}
+use Rattle.rules.specs.Decisions.{start}
+use Rattle.rules.specs.Events.{Event, endInferred}
+use Rattle.rules.specs.Settling.{State, endLeftOut}
 use Rattle.document_laws.specs.Decide.{decided}
 use Rattle.type_tables.specs.Means.{Declares, Facts}
 use Rattle.event_buffer.specs.Means.{noted, Puts}

@@ -7,7 +7,9 @@ use lib.ListN.{length}
 use lib.Dec.{eqb}
 use Rattle.rules.specs.Reading.{Reading, refused, got, andThen}
 use Rattle.rules.specs.TypeFile.{Element}
-use Rattle.rules.specs.Settling.{Decisions, Event, endInferred, State, endLeftOut, endElement, endDocument}
+use Rattle.rules.specs.Decisions.{Decisions}
+use Rattle.rules.specs.Events.{Event, endInferred}
+use Rattle.rules.specs.Settling.{State, endLeftOut, endElement, endDocument}
 use Rattle.rules.specs.Settling as rules
 use Rattle.document_laws.specs.Decide.{decided}
 use Rattle.last_places.specs.Last.{shortly}

@@ -10,7 +10,8 @@ use Rattle.rules.specs.Lent.{Lent, room}
 use Rattle.rules.specs.Reading.{Reading, got}
 use Rattle.rules.specs.TypeFile.{Element, typeFile}
 use Rattle.rules.specs.Judge.{Answer, Legible, Refuses, Accepts, Judged}
-use Rattle.rules.specs.Settling.{Event, State}
+use Rattle.rules.specs.Events.{Event}
+use Rattle.rules.specs.Settling.{State}
 use Rattle.rules.specs.Reader.{BothLegible, Reads, RefusesBoth, ReadAs}
 use Rattle.document_laws.specs.Same.{Passes}
 use Rattle.demands.specs.Words.{Refusal, Acceptance, SomeAmbiguous, NamesFirst, NamesDecide, ReaderRefusal, ReaderAcceptance, SameVerdict}

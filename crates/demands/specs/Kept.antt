@@ -11,7 +11,8 @@ use Rattle.rules.specs.Walk.{Group, Begins}
 use Rattle.rules.specs.Ambiguity.{SpellSame, Ambiguous, PairAtFault}
 use Rattle.rules.specs.TypeFile.{Place, model, Element, typeFile}
 use Rattle.rules.specs.Judge.{samePlace, Answer, acceptance, FirstAmbiguous, Legible, Refuses, noRoom, Accepts, Judged, refuses, accepts}
-use Rattle.rules.specs.Settling.{Event, State}
+use Rattle.rules.specs.Events.{Event}
+use Rattle.rules.specs.Settling.{State}
 use Rattle.rules.specs.Reader.{BothLegible, Reads, RefusesBoth, ReadAs}
 use Rattle.document_laws.specs.Same.{Passes, passes-few}
 use Rattle.demands.specs.Words.{Refusal, Acceptance, SomeAmbiguous, NamesFirst, NamesDecide, ReaderRefusal, ReaderAcceptance, SameVerdict}

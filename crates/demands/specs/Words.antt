@@ -10,7 +10,7 @@ use Rattle.rules.specs.Walk.{Group, Begins}
 use Rattle.rules.specs.Ambiguity.{SpellSame, Ambiguous}
 use Rattle.rules.specs.TypeFile.{Place, model, Element, typeFile}
 use Rattle.rules.specs.Judge.{samePlace, Answer, acceptance, FirstAmbiguous, records, Accepts}
-use Rattle.rules.specs.Settling.{Event}
+use Rattle.rules.specs.Events.{Event}
 use Rattle.rules.specs.Reader.{eventNumbers, Reads}
 
 -- The type judge

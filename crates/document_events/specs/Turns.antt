@@ -7,7 +7,8 @@ use lib.ListN.{length, length-append}
 use Rattle.rules.specs.Reading.{Reading, refused, got}
 use Rattle.rules.specs.TypeFile.{Element}
 use Rattle.rules.specs.Judge.{Accepts, bytesOf}
-use Rattle.rules.specs.Settling.{Event, State, startElement, endElement, endDocument}
+use Rattle.rules.specs.Events.{Event}
+use Rattle.rules.specs.Settling.{State, startElement, endElement, endDocument}
 use Rattle.rules.specs.Reader.{document, eventNumbers}
 use Rattle.numbers.specs.Laws.{written-none}
 use Rattle.text.specs.declared.Fault.{Fault}

@@ -7,7 +7,8 @@ use mathlib.Core.List.{List}
 use native.Mathlib.Omega.{arith}
 use Rattle.rules.specs.Walk.{Group, Begins}
 use Rattle.rules.specs.TypeFile.{Place, model, Element}
-use Rattle.rules.specs.Settling.{contentOf, Token, IsThe, Decisions, Means}
+use Rattle.rules.specs.Elements.{contentOf}
+use Rattle.rules.specs.Decisions.{Token, IsThe, Decisions, Means}
 
 -- There is one such number.
 pub the-one : {P : ℕ → Type 0} (n m : ℕ) → IsThe P n → IsThe P m → n ≡ m

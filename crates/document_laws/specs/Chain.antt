@@ -10,7 +10,9 @@ use lib.ListN.{length}
 use lib.Dec.{eqb, leb}
 use borrow.Author.Tests.{leb-true, eqb-true, eqb-false}
 use Rattle.rules.specs.TypeFile.{Place, Element}
-use Rattle.rules.specs.Settling.{contentOf, placesIn, hasModel, startO, numberFrom, numberOf, isNamed, Token, Decisions, Open, elementOf, fitting, requiredPlace, inferable, chain}
+use Rattle.rules.specs.Elements.{contentOf, placesIn, hasModel, startO, numberFrom, numberOf, isNamed}
+use Rattle.rules.specs.Decisions.{Token, Decisions}
+use Rattle.rules.specs.Settling.{Open, elementOf, fitting, requiredPlace, inferable, chain}
 use Rattle.rules.specs.Judge.{placeAt}
 use Rattle.model_sets.specs.Bits.{and-left, and-right, bool-cases}
 

@@ -11,7 +11,7 @@ use Rattle.rules.specs.Reading.{Reading, refused, got}
 use Rattle.rules.specs.Walk.{Group, place, seq, alt, opt, plus}
 use Rattle.rules.specs.TypeFile.{Content, empty, model, Element, typeFile}
 use Rattle.rules.specs.Judge.{samePlace, Unambiguous, AllUnambiguous, Legible}
-use Rattle.rules.specs.Settling.{Event}
+use Rattle.rules.specs.Events.{Event}
 use Rattle.rules.specs.Reader.{document, Reads}
 use Rattle.rules_laws.specs.In.{All, none, more}
 use Rattle.model_sets.specs.Bits.{and-left, and-right}

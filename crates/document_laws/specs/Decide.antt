@@ -11,7 +11,8 @@ use Rattle.rules.specs.Walk.{Group, place, Begins, Complete, Required}
 use Rattle.rules.specs.Ambiguity.{PairAtFault}
 use Rattle.rules.specs.TypeFile.{Place, Content, empty, model, Element}
 use Rattle.rules.specs.Judge.{placeAt, samePlace, Unambiguous, AllUnambiguous}
-use Rattle.rules.specs.Settling.{elementAt, contentOf, Token, tokenName, hasName, Fits, IsThe, Decisions, MeansAt, Means}
+use Rattle.rules.specs.Elements.{elementAt, contentOf}
+use Rattle.rules.specs.Decisions.{Token, tokenName, hasName, Fits, IsThe, Decisions, MeansAt, Means}
 use Rattle.model_sets.specs.Bits.{and-left, and-right, and-both, not-both, bool-cases}
 use Rattle.model_sets.specs.Sets.{size, Numbered, nextIn, completeIn, requiredIn}
 use Rattle.model_sets.specs.Reach.{lastOr0, next-sound, next-complete, complete-sound, complete-complete}

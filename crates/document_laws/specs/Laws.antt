@@ -5,7 +5,8 @@ use mathlib.Core.List.{List, []}
 use Rattle.rules.specs.Reading.{Reading, refused, got}
 use Rattle.rules.specs.TypeFile.{Element, typeFile}
 use Rattle.rules.specs.Judge.{Accepts}
-use Rattle.rules.specs.Settling.{Decisions, Means, Event}
+use Rattle.rules.specs.Decisions.{Decisions, Means}
+use Rattle.rules.specs.Events.{Event}
 use Rattle.rules.specs.Reader.{document, BothLegible, Reads}
 use Rattle.document_laws.specs.Decide.{decided, decided-means}
 use Rattle.document_laws.specs.Numbers.{typeFile-numbered}

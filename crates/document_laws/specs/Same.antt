@@ -9,7 +9,9 @@ use Rattle.rules.specs.Reading.{Reading, got}
 use Rattle.rules.specs.Walk.{Group, Begins}
 use Rattle.rules.specs.TypeFile.{Place, Content, empty, model, Element}
 use Rattle.rules.specs.Document.{Piece, piece}
-use Rattle.rules.specs.Settling.{contentOf, hasModel, Decisions, Means, Open, State, nothingOpen, takePlace, enter}
+use Rattle.rules.specs.Elements.{contentOf, hasModel}
+use Rattle.rules.specs.Decisions.{Decisions, Means}
+use Rattle.rules.specs.Settling.{Open, State, nothingOpen, takePlace, enter}
 use Rattle.rules.specs.Reader.{Reached, settlePiece, document}
 use Rattle.rules_laws.specs.Holds.{Any, got-so, each}
 use Rattle.rules_laws.specs.Both.{so, first, same}

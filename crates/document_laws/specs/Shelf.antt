@@ -10,7 +10,9 @@ use Rattle.rules.specs.TypeFile.{isDeclared, elementName, omission, words, head
 use Rattle.rules.specs.TypeFile.{commentDeclaration, beforeClose, keyword, markup, declaration, declarationsWithin, typeFile}
 use Rattle.rules.specs.Judge.{placeAt}
 use Rattle.rules.specs.Document.{tag, declarationPiece, markupPiece, bytePiece, piece}
-use Rattle.rules.specs.Settling.{Event, startWritten, startInferred, endInferred, dataRun, elementAt, numberFrom, numberOf, withData, limited, isOpen, inferable, chain, inferStarts, inward, settleFrom, settle, startElement, takeData, takeBlank, endLeftOut, closeFrom, endElement, endFrom, endDocument}
+use Rattle.rules.specs.Elements.{elementAt, numberFrom, numberOf}
+use Rattle.rules.specs.Events.{Event, startWritten, startInferred, endInferred, dataRun, withData}
+use Rattle.rules.specs.Settling.{limited, isOpen, inferable, chain, inferStarts, inward, settleFrom, settle, startElement, takeData, takeBlank, endLeftOut, closeFrom, endElement, endFrom, endDocument}
 use Rattle.rules.specs.Reader.{tagged, settlePiece, piecesWithin, document}
 use Rattle.rules_laws.specs.In.{All}
 use Rattle.document_laws.specs.Ascii.{ascii}

@@ -12,7 +12,7 @@ use Rattle.rules.specs.Lent.{Lent, bytesOf, standing, room, zeroed}
 use Rattle.rules.specs.TypeFile.{Element}
 use Rattle.rules.specs.Judge.{acceptance, Legible, Accepts, Refuses}
 use Rattle.rules.specs.Judge as rules
-use Rattle.rules.specs.Settling.{Event}
+use Rattle.rules.specs.Events.{Event}
 use Rattle.rules.specs.Reader.{eventNumbers, BothLegible, RefusesBoth, ReadAs}
 use Rattle.numbers.specs.Means.{Written}
 use Rattle.numbers.specs.Laws.{eventNumbers-length, standing-fits}

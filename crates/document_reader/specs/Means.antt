@@ -10,7 +10,7 @@ use Rattle.rules.specs.Reading.{got}
 use Rattle.rules.specs.TypeFile.{Element}
 use Rattle.rules.specs.Judge.{refusal, acceptance, Accepts}
 use Rattle.rules.specs.Judge as rules
-use Rattle.rules.specs.Settling.{Event}
+use Rattle.rules.specs.Events.{Event}
 use Rattle.rules.specs.Reader.{documentRefusal, eventNumbers, BothLegible, Reads}
 use Rattle.numbers.specs.Means.{Written}
 use Rattle.inputs.specs.Means.{RefusesAlways}

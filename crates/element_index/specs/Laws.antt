@@ -14,7 +14,7 @@ use borrow.Author.Tests.{eq-eqb, eqb-true, ne-eqb, leb-true, ltb-true, lt-ltb, l
 use Rattle.rules.specs.Bytes.{byteAt, letter, fold, sameText}
 use Rattle.rules.specs.TypeFile.{Element}
 use Rattle.rules.specs.Judge.{Accepts}
-use Rattle.rules.specs.Settling.{elementAt, isNamed, numberFrom, numberOf}
+use Rattle.rules.specs.Elements.{elementAt, isNamed, numberFrom, numberOf}
 use Rattle.rules.specs.Lookup.{isAlike, compared}
 use Rattle.model_sets.specs.Bits.{or-left, or-right, or-cases, and-left, and-right, and-both, not-true, not-both, bool-cases}
 use Rattle.text.specs.Laws.{sameText-first}

@@ -8,7 +8,7 @@ use lib.Dec.{eqb, leb, ltb}
 use Rattle.rules.specs.Bytes.{byteAt}
 use Rattle.rules.specs.TypeFile.{Element}
 use Rattle.rules.specs.Judge.{Accepts}
-use Rattle.rules.specs.Settling.{elementAt}
+use Rattle.rules.specs.Elements.{elementAt}
 use Rattle.element_reader.specs.Means.{Recorded}
 
 -- An accepted type whose elements are recorded.

@@ -9,7 +9,7 @@ ghost use lib.ListN.{length, getD, replicate};
 ghost use Rattle.rules.specs.Bytes.{byteAt, sameText};
 ghost use Rattle.rules.specs.TypeFile.{Element};
 ghost use Rattle.rules.specs.Judge.{Accepts};
-ghost use Rattle.rules.specs.Settling.{numberOf};
+ghost use Rattle.rules.specs.Elements.{numberOf};
 ghost use Rattle.rules.specs.Lookup.{compared};
 ghost use Rattle.element_reader.specs.Means.{Recorded};
 ghost use Rattle.element_index.specs.Means.{Judged, bucketOf, follows, Indexed, putIn};

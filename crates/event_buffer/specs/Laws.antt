@@ -5,7 +5,7 @@ use mathlib.Core.List.{List, [], _∷_, _++_, append-assoc, append-nil}
 use native.Mathlib.Omega.{arith}
 use lib.ListN.{length, length-append}
 use Rattle.rules.specs.Judge.{bytesOf}
-use Rattle.rules.specs.Settling.{Event}
+use Rattle.rules.specs.Events.{Event}
 use Rattle.rules.specs.Reader.{eventNumbers}
 use Rattle.numbers.specs.Means.{written, Written}
 use Rattle.numbers.specs.Laws.{bytesOf-append, bytesOf-length, splice-turn, written-fits, written-keeps, written-more}

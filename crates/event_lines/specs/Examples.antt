@@ -4,7 +4,8 @@ use mathlib.Core.Path.{_≡_, refl}
 use mathlib.Core.List.{List, [], _∷_}
 use Rattle.rules.specs.Bytes.{fold}
 use Rattle.rules.specs.TypeFile.{Element, empty}
-use Rattle.rules.specs.Settling.{Event, elementAt}
+use Rattle.rules.specs.Elements.{elementAt}
+use Rattle.rules.specs.Events.{Event}
 use Rattle.line_text.specs.Means.{decimalWithin, decimal, word, upper}
 use Rattle.event_lines.specs.Printed.{line, eventLines, eventsText, inType, refusedText}
 

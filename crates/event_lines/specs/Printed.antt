@@ -5,7 +5,8 @@ use mathlib.Core.List.{List, [], _∷_, _++_}
 use lib.ListN.{length}
 use lib.Dec.{leb}
 use Rattle.rules.specs.TypeFile.{Element}
-use Rattle.rules.specs.Settling.{Event, elementAt}
+use Rattle.rules.specs.Elements.{elementAt}
+use Rattle.rules.specs.Events.{Event}
 use Rattle.line_text.specs.Means.{decimal, word, upper}
 
 -- "Element name in upper case or `-`".

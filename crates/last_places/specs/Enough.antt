@@ -9,7 +9,8 @@ use borrow.Author.Tests.{leb-false, lt-leb, le-leb}
 use Rattle.rules.specs.Reading.{refused, got, andThen}
 use Rattle.rules.specs.TypeFile.{Element}
 use Rattle.rules.specs.Document.{Piece, startTag, endTag, skipped, blank, dataByte, piece}
-use Rattle.rules.specs.Settling.{Decisions, State, nothingOpen, endDocument}
+use Rattle.rules.specs.Decisions.{Decisions}
+use Rattle.rules.specs.Settling.{State, nothingOpen, endDocument}
 use Rattle.rules.specs.Reader.{Reached, settlePiece, piecesWithin, document}
 use Rattle.rules_laws.specs.Holds.{Holds, got-so, each, so, on-same}
 use Rattle.rules_laws.specs.Both.{first}

@@ -7,7 +7,8 @@ use lib.ListN.{length}
 use Rattle.rules.specs.Reading.{Reading, refused, got}
 use Rattle.rules.specs.TypeFile.{Element}
 use Rattle.rules.specs.Document.{Piece, piece}
-use Rattle.rules.specs.Settling.{Token, State, nothingOpen, fitting}
+use Rattle.rules.specs.Decisions.{Token}
+use Rattle.rules.specs.Settling.{State, nothingOpen, fitting}
 use Rattle.rules.specs.Reader.{goOn, settlePiece}
 use Rattle.document_laws.specs.Decide.{decided}
 use Rattle.document_laws.specs.Same.{Passes, begins, goes}

@@ -5,7 +5,7 @@ use mathlib.Core.Bool.{false, _&&_}
 use mathlib.Core.List.{List, [], _∷_, _++_}
 use lib.Dec.{eqb}
 use borrow.Author.Tests.{eq-eqb}
-use Rattle.rules.specs.Settling.{Event, dataRun, withData}
+use Rattle.rules.specs.Events.{Event, dataRun, withData}
 use Rattle.last_places.specs.Last.{joins}
 
 -- The last event decides.

@@ -6,7 +6,10 @@ use lib.ListN.{length}
 use lib.Dec.{eqb}
 use Rattle.rules.specs.Reading.{Reading, refused, got, andThen}
 use Rattle.rules.specs.TypeFile.{model, Element}
-use Rattle.rules.specs.Settling.{contentOf, placesIn, pcdata, Decisions, Event, dataRun, Open, State, limited, settle}
+use Rattle.rules.specs.Elements.{contentOf, placesIn}
+use Rattle.rules.specs.Decisions.{pcdata, Decisions}
+use Rattle.rules.specs.Events.{Event, dataRun}
+use Rattle.rules.specs.Settling.{Open, State, limited, settle}
 use Rattle.rules.specs.Reader.{piecesWithin}
 use Rattle.model_sets.specs.Reach.{lastOr0}
 

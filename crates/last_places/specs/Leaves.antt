@@ -4,7 +4,9 @@ use mathlib.Core.Path.{_≡_, refl, ap}
 use mathlib.Core.Bool.{false}
 use mathlib.Core.List.{List}
 use Rattle.rules.specs.TypeFile.{Element}
-use Rattle.rules.specs.Settling.{Token, Decisions, Event, Open, State, takePlace, enter, fitting, settle, startElement, endElement}
+use Rattle.rules.specs.Decisions.{Token, Decisions}
+use Rattle.rules.specs.Events.{Event}
+use Rattle.rules.specs.Settling.{Open, State, takePlace, enter, fitting, settle, startElement, endElement}
 use Rattle.rules_laws.specs.Holds.{Holds}
 use Rattle.rules_laws.specs.Both.{first}
 use Rattle.document_laws.specs.Moves.{parent-is, At, Closed, Moves, Itself, keeps-ends, answers-itself, any-moves, settle-both, startElement-both, endElement-both}

@@ -12,7 +12,10 @@ use Rattle.rules.specs.Reading.{Reading, refused, got}
 use Rattle.rules.specs.Walk.{place}
 use Rattle.rules.specs.TypeFile.{Element}
 use Rattle.rules.specs.Document.{Piece, startTag, endTag, skipped, blank, dataByte, piece}
-use Rattle.rules.specs.Settling.{contentOf, placesIn, Token, pcdata, hasName, Decisions, dataRun, withData, Open, State, fitting, takeToken, settle, takeData}
+use Rattle.rules.specs.Elements.{contentOf, placesIn}
+use Rattle.rules.specs.Decisions.{Token, pcdata, hasName, Decisions}
+use Rattle.rules.specs.Events.{dataRun, withData}
+use Rattle.rules.specs.Settling.{Open, State, fitting, takeToken, settle, takeData}
 use Rattle.rules.specs.Reader.{goOn, settlePiece}
 use Rattle.rules_laws.specs.Holds.{got-so}
 use Rattle.model_sets.specs.Sets.{nextIn}

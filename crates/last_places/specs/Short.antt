@@ -6,7 +6,9 @@ use lib.ListN.{length}
 use Rattle.rules.specs.Reading.{Reading, got}
 use Rattle.rules.specs.TypeFile.{Element}
 use Rattle.rules.specs.Document.{piece}
-use Rattle.rules.specs.Settling.{contentOf, Token, Decisions, Open, State, takePlace, enter, note, fitting, isComplete, requiredPlace, startElement, takeData, endElement}
+use Rattle.rules.specs.Elements.{contentOf}
+use Rattle.rules.specs.Decisions.{Token, Decisions}
+use Rattle.rules.specs.Settling.{Open, State, takePlace, enter, note, fitting, isComplete, requiredPlace, startElement, takeData, endElement}
 use Rattle.rules.specs.Reader.{piecesWithin}
 use Rattle.rules_laws.specs.Holds.{Holds, stops, reads, Any, each}
 use Rattle.rules_laws.specs.Both.{Both, stop, read, first, same}

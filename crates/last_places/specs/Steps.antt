@@ -10,7 +10,10 @@ use Rattle.rules.specs.Bytes.{TAGLVL}
 use Rattle.rules.specs.Reading.{Reading, refused, got}
 use Rattle.rules.specs.TypeFile.{Element}
 use Rattle.rules.specs.Document.{Tag, startTag, endTag, skipped, blank, dataByte}
-use Rattle.rules.specs.Settling.{Token, pcdata, Decisions, Event, dataRun, withData, Open, State, numberOf, limited, fitting, takeToken, inward, settleFrom, settle, startElement, takeData, takeBlank, endElement}
+use Rattle.rules.specs.Elements.{numberOf}
+use Rattle.rules.specs.Decisions.{Token, pcdata, Decisions}
+use Rattle.rules.specs.Events.{Event, dataRun, withData}
+use Rattle.rules.specs.Settling.{Open, State, limited, fitting, takeToken, inward, settleFrom, settle, startElement, takeData, takeBlank, endElement}
 use Rattle.rules.specs.Reader.{goOn, tagged, settlePiece}
 use Rattle.document_laws.specs.Moves.{state}
 use Rattle.last_places.specs.Last.{takeRun}

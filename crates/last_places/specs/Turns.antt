@@ -9,7 +9,10 @@ use borrow.Author.Tests.{ne-eqb}
 use Rattle.rules.specs.Reading.{Reading, refused, got}
 use Rattle.rules.specs.TypeFile.{Element}
 use Rattle.rules.specs.Document.{Tag, Piece, startTag, endTag, skipped, blank, piece}
-use Rattle.rules.specs.Settling.{pcdata, Decisions, Event, dataRun, State, nothingOpen, numberOf, fitting, startElement, endElement, endDocument}
+use Rattle.rules.specs.Elements.{numberOf}
+use Rattle.rules.specs.Decisions.{pcdata, Decisions}
+use Rattle.rules.specs.Events.{Event, dataRun}
+use Rattle.rules.specs.Settling.{State, nothingOpen, fitting, startElement, endElement, endDocument}
 use Rattle.rules.specs.Reader.{goOn, settlePiece, document}
 use Rattle.document_laws.specs.Decide.{decided}
 use Rattle.rules_laws.specs.Holds.{Holds, got-so}

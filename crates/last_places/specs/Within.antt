@@ -8,7 +8,7 @@ use lib.ListN.{length}
 use Rattle.rules.specs.Reading.{refused}
 use Rattle.rules.specs.TypeFile.{Element}
 use Rattle.rules.specs.Document.{piece}
-use Rattle.rules.specs.Settling.{Decisions}
+use Rattle.rules.specs.Decisions.{Decisions}
 use Rattle.rules.specs.Reader.{document}
 use Rattle.rules_laws.specs.Holds.{Refuses, refused-so, so}
 use Rattle.rules_laws.specs.Both.{refusals}

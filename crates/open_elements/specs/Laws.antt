@@ -11,7 +11,8 @@ use lib.ListN.{length, getD, set, length-set, length-replicate}
 use lib.Seq.{getD-set-same, getD-set-other}
 use Rattle.rules.specs.TypeFile.{Element}
 use Rattle.rules.specs.Judge.{Accepts}
-use Rattle.rules.specs.Settling.{Event, isOpen}
+use Rattle.rules.specs.Events.{Event}
+use Rattle.rules.specs.Settling.{isOpen}
 use Rattle.rules.specs.Settling as rules
 use Rattle.document_laws.specs.Decide.{isCompleteIn, requiredOf}
 use Rattle.last_places.specs.Last.{lastOnly, allLast, short, InRange, Sound}

@@ -10,7 +10,10 @@ use lib.ListN.{getD}
 use Rattle.rules.specs.Walk.{Group, Complete, Required}
 use Rattle.rules.specs.TypeFile.{Place, Content, empty, model, Element}
 use Rattle.rules.specs.Judge.{Accepts}
-use Rattle.rules.specs.Settling.{contentOf, Decisions, Means, Event, State}
+use Rattle.rules.specs.Elements.{contentOf}
+use Rattle.rules.specs.Decisions.{Decisions, Means}
+use Rattle.rules.specs.Events.{Event}
+use Rattle.rules.specs.Settling.{State}
 use Rattle.rules.specs.Settling as rules
 use Rattle.rules_laws.specs.Within.{All, none, more}
 use Rattle.model_sets.specs.Reach.{lastOr0, next-sound}

@@ -6,7 +6,9 @@ use mathlib.Core.List.{List, [], _∷_}
 use lib.ListN.{length, getD, set, replicate}
 use Rattle.rules.specs.Reading.{Reading, refused, got}
 use Rattle.rules.specs.TypeFile.{Element}
-use Rattle.rules.specs.Settling.{Event, State, contentOf}
+use Rattle.rules.specs.Elements.{contentOf}
+use Rattle.rules.specs.Events.{Event}
+use Rattle.rules.specs.Settling.{State}
 use Rattle.rules.specs.Settling as rules
 use Rattle.document_laws.specs.Decide.{isCompleteIn, requiredOf}
 use Rattle.last_places.specs.Last.{placed, Sound}

@@ -7,7 +7,8 @@ use Rattle.rules.specs.Reading.{refused, got}
 use Rattle.rules.specs.TypeFile.{Element}
 use Rattle.rules.specs.Document.{Tag, startTag, endTag, skipped, blank, piece}
 use Rattle.rules.specs.Document as rules
-use Rattle.rules.specs.Settling.{numberOf, pcdata}
+use Rattle.rules.specs.Elements.{numberOf}
+use Rattle.rules.specs.Decisions.{pcdata}
 use Rattle.document_laws.specs.Decide.{decided}
 use Rattle.document_text.specs.Means.{isRun, runEnd}
 use Rattle.last_places.specs.Last.{placed}

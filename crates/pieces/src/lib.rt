@@ -10,7 +10,7 @@ ghost use mathlib.Core.List.{List};
 ghost use Prim.Native.Nat.{_+_, _≤_, _<_};
 ghost use lib.ListN.{length};
 ghost use Rattle.rules.specs.TypeFile.{Element};
-ghost use Rattle.rules.specs.Settling.{numberOf};
+ghost use Rattle.rules.specs.Elements.{numberOf};
 ghost use Rattle.last_places.specs.Last.{InRange};
 ghost use Rattle.delimiters.specs.Means.{Classes};
 ghost use Rattle.element_index.specs.Means.{Indexed};

@@ -7,6 +7,9 @@ pub mod Ambiguity
 pub mod TypeFile
 pub mod Judge
 pub mod Document
+pub mod Elements
+pub mod Decisions
+pub mod Events
 pub mod Settling
 pub mod Lookup
 pub mod Reader

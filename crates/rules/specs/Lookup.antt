@@ -5,7 +5,7 @@ use mathlib.Core.List.{List, [], _∷_}
 use lib.Dec.{eqb}
 use Rattle.rules.specs.Bytes.{byteAt, fold}
 use Rattle.rules.specs.TypeFile.{Element}
-use Rattle.rules.specs.Settling.{isNamed}
+use Rattle.rules.specs.Elements.{isNamed}
 
 -- "Compare byte by byte only with names of the same length and first letter, folded": the element's name and the one of this size at `at` in
 -- the text t are so compared.

@@ -11,7 +11,10 @@ use Rattle.rules.specs.Reading.{Reading, refused, got, andThen}
 use Rattle.rules.specs.TypeFile.{Element, typeFile}
 use Rattle.rules.specs.Judge.{Answer, refusal, acceptance, FirstAmbiguous, Legible, Accepts}
 use Rattle.rules.specs.Document.{Tag, Piece, startTag, endTag, skipped, blank, dataByte, piece}
-use Rattle.rules.specs.Settling.{Decisions, Means, Event, State, nothingOpen, numberOf, startElement, takeData, takeBlank, endElement, endDocument}
+use Rattle.rules.specs.Elements.{numberOf}
+use Rattle.rules.specs.Decisions.{Decisions, Means}
+use Rattle.rules.specs.Events.{Event}
+use Rattle.rules.specs.Settling.{State, nothingOpen, startElement, takeData, takeBlank, endElement, endDocument}
 
 -- Reading a document
 

@@ -1,138 +1,16 @@
 -- Open elements, and how start tags, data, end tags and the document's end are settled (paper 01, "The document"), with refusals 11 to 16 and 18.
-use Prim.Native.Nat.{ℕ, zero, suc, _+_, _-_, _≤_}
-use mathlib.Core.Path.{_≡_}
+use Prim.Native.Nat.{ℕ, zero, suc, _-_}
 use mathlib.Core.Bool.{Bool, true, false, _&&_}
-use mathlib.Core.Logic.{_↔_}
 use mathlib.Core.List.{List, [], _∷_, _++_}
 use lib.ListN.{length}
 use lib.Dec.{eqb, leb, ltb}
-use Rattle.rules.specs.Bytes.{sameText, TAGLVL}
+use Rattle.rules.specs.Bytes.{TAGLVL}
 use Rattle.rules.specs.Reading.{Reading, refused, got, andThen}
-use Rattle.rules.specs.Walk.{Group, place, Begins, MayComeNext, Complete, Required}
-use Rattle.rules.specs.TypeFile.{Place, Content, empty, model, Element, sameName}
+use Rattle.rules.specs.TypeFile.{Element}
 use Rattle.rules.specs.Judge.{placeAt}
-
--- Elements by number
-
--- The k-th element of the type, from 0.
-unfoldable pub elementAt : List Element → ℕ → Element
-elementAt [] k = record { at = 0; size = 0; start = 0; end = 0; content = empty }
-elementAt (e ∷ es) zero = e
-elementAt (e ∷ es) (suc k) = elementAt es k
-
--- The element has the name of this size at `at` in the text t, folded.
-abbrev pub isNamed : List ℕ → Element → (t : List ℕ) (at size : ℕ) → Bool
-isNamed s e t at size = elim (eqb (e .size) size) [ true ↦ sameText s (e .at) t at size | false ↦ false ]
-
--- "Element number from 1": the number of the element that has that name, 0 if none has. The first of these elements has the number k.
-unfoldable pub numberFrom : ℕ → List ℕ → List Element → (t : List ℕ) (at size : ℕ) → ℕ
-numberFrom k s [] t at size = 0
-numberFrom k s (e ∷ es) t at size = elim (isNamed s e t at size) [ true ↦ k | false ↦ numberFrom (k + 1) s es t at size ]
-
-unfoldable pub numberOf : List ℕ → List Element → (t : List ℕ) (at size : ℕ) → ℕ
-numberOf s es t at size = numberFrom 1 s es t at size
-
--- "With nothing open yet, only the document element may come next, and it is required": the document itself is number 0, and its model is
--- the first declared element.
-abbrev pub contentOf : List Element → ℕ → Content
-contentOf es zero = model (place 1) (record { at = elementAt es 0 .at; size = elementAt es 0 .size } ∷ []) 1
-contentOf es (suc k) = elementAt es k .content
-
--- The places of a model; EMPTY has none.
-abbrev pub placesIn : Content → List Place
-placesIn empty = []
-placesIn (model g ps n) = ps
-
-abbrev pub hasModel : Content → Bool
-hasModel empty = false
-hasModel (model g ps n) = true
-
--- The start tag, the end tag may be left out: "O".
-abbrev pub startO : List Element → ℕ → Bool
-startO es k = eqb (elementAt es (k - 1) .start) 1
-
-abbrev pub endO : List Element → ℕ → Bool
-endO es k = eqb (elementAt es (k - 1) .end) 1
-
--- What walks decide
-
--- What is settled: "a start tag, or a data byte (not an ignored one)".
-pub data Token : Type 0 where
-  start : (number : ℕ) → Token
-  pcdata : Token
-
--- A token's name, as that of a place: `#PCDATA` has the size 0.
-abbrev pub tokenName : List Element → Token → Place
-tokenName es (start k) = record { at = elementAt es (k - 1) .at; size = elementAt es (k - 1) .size }
-tokenName es pcdata = record { at = 0; size = 0 }
-
--- The place p has the token's name.
-abbrev pub hasName : List ℕ → List Element → List Place → Token → ℕ → Bool
-hasName s es ps t p = sameName s (tokenName es t .at) (tokenName es t .size) (placeAt ps (p - 1) .at) (placeAt ps (p - 1) .size)
-
--- The token fits as the place p, the next after the places taken.
-pub record Fits (s : List ℕ) (es : List Element) (g : Group) (ps : List Place) (taken : List ℕ) (t : Token) (p : ℕ) : Type 0 where
-  pub name : hasName s es ps t p ≡ true
-  pub next : MayComeNext g taken p
-
--- n is the only place of which P holds, and 0 where there is none: places are numbered from 1.
-pub record IsThe (P : ℕ → Type 0) (n : ℕ) : Type 0 where
-  pub some : 1 ≤ n → P n
-  pub only : (p : ℕ) → P p → n ≡ p
-
--- What settling asks about an open element, by its number and the places taken in it: the place as which a token fits (0: none), whether
--- its content is complete, and the place required (0: none).
-pub record Decisions : Type 0 where
-  pub fits : (number : ℕ) (taken : List ℕ) → Token → ℕ
-  pub complete : (number : ℕ) (taken : List ℕ) → Bool
-  pub required : (number : ℕ) (taken : List ℕ) → ℕ
-
--- What the walks of the model g say where these places are taken in the element number k, the decisions say.
-pub record MeansAt (s : List ℕ) (es : List Element) (D : Decisions) (k : ℕ) (g : Group) (ps : List Place) (taken : List ℕ) : Type 0 where
-  pub fits : (t : Token) → IsThe (Fits s es g ps taken t) (D .fits k taken t)
-  pub complete : (D .complete k taken ≡ true) ↔ Complete g taken
-  pub required : IsThe (Required g taken) (D .required k taken)
-
--- So they do for every model, and wherever the places taken begin a walk.
-pub record Means (s : List ℕ) (es : List Element) (D : Decisions) : Type 0 where
-  pub walks : (k : ℕ) {g : Group} {ps : List Place} {n : ℕ} → contentOf es k ≡ model g ps n → (taken : List ℕ) → Begins g taken → MeansAt s es D k g ps taken
-
--- Events
-
--- "Four numbers per event: kind, element number from 1 (0 for data), offset, length."
-pub record Event : Type 0 where
-  pub kind : ℕ
-  pub number : ℕ
-  pub offset : ℕ
-  pub size : ℕ
-
--- "Kinds: 1 start tag written; 2 start tag inferred; 3 end tag written; 4 end tag inferred; 5 data; 6 end of an EMPTY element. Kinds 1 and 3
--- have the place and length of the tag. Kinds 2 and 4 have the offset of the token that called for them, or the document's length, and
--- length 0. Kind 6 has the offset after the tag and length 0."
-abbrev pub startWritten : (k at after : ℕ) → Event
-startWritten k at after = record { kind = 1; number = k; offset = at; size = after - at }
-
-abbrev pub startInferred : (k at : ℕ) → Event
-startInferred k at = record { kind = 2; number = k; offset = at; size = 0 }
-
-abbrev pub endWritten : (k at after : ℕ) → Event
-endWritten k at after = record { kind = 3; number = k; offset = at; size = after - at }
-
-abbrev pub endInferred : (k at : ℕ) → Event
-endInferred k at = record { kind = 4; number = k; offset = at; size = 0 }
-
-abbrev pub dataRun : (at size : ℕ) → Event
-dataRun at size = record { kind = 5; number = 0; offset = at; size = size }
-
-abbrev pub endOfEmpty : (k after : ℕ) → Event
-endOfEmpty k after = record { kind = 6; number = k; offset = after; size = 0 }
-
--- "Kind 5 is a longest run of neighbouring data bytes; an ignored byte or a comment ends a run": the events with a data byte at `at`.
-unfoldable pub withData : ℕ → List Event → List Event
-withData at [] = dataRun at 1 ∷ []
-withData at (e ∷ []) =
-    elim (eqb (e .kind) 5 && eqb (e .offset + e .size) at) [ true ↦ dataRun (e .offset) (e .size + 1) ∷ [] | false ↦ e ∷ dataRun at 1 ∷ [] ]
-withData at (e ∷ f ∷ ev) = e ∷ withData at (f ∷ ev)
+use Rattle.rules.specs.Elements.{numberOf, contentOf, placesIn, hasModel, startO, endO}
+use Rattle.rules.specs.Decisions.{Token, start, pcdata, Decisions}
+use Rattle.rules.specs.Events.{Event, startWritten, startInferred, endWritten, endInferred, dataRun, endOfEmpty, withData}
 
 -- Open elements
 

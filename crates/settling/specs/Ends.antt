@@ -7,7 +7,9 @@ use native.Mathlib.Omega.{arith}
 use lib.ListN.{length, length-append}
 use Rattle.rules.specs.Reading.{refused, got}
 use Rattle.rules.specs.TypeFile.{Element}
-use Rattle.rules.specs.Settling.{Token, Decisions, Event, endInferred, State, settled, stuck, inward, settleFrom, fitting}
+use Rattle.rules.specs.Decisions.{Token, Decisions}
+use Rattle.rules.specs.Events.{Event, endInferred}
+use Rattle.rules.specs.Settling.{State, settled, stuck, inward, settleFrom, fitting}
 use Rattle.rules.specs.Settling as rules
 use Rattle.document_laws.specs.Decide.{decided}
 use Rattle.last_places.specs.Short.{state}

@@ -10,7 +10,10 @@ use borrow.Author.Tests.{le-leb, le-ltb, lt-ltb}
 use Rattle.rules.specs.Reading.{refused, got}
 use Rattle.rules.specs.TypeFile.{Content, empty, model, Element}
 use Rattle.rules.specs.Judge.{Accepts}
-use Rattle.rules.specs.Settling.{contentOf, placesIn, Token, Decisions, Event, State, Inward, settled, stuck, takePlace, limited, fitting, chain, inferStarts, takeToken, inward}
+use Rattle.rules.specs.Elements.{contentOf, placesIn}
+use Rattle.rules.specs.Decisions.{Token, Decisions}
+use Rattle.rules.specs.Events.{Event}
+use Rattle.rules.specs.Settling.{State, Inward, settled, stuck, takePlace, limited, fitting, chain, inferStarts, takeToken, inward}
 use Rattle.rules.specs.Settling as rules
 use Rattle.document_laws.specs.Decide.{fitsIn, decided}
 use Rattle.document_laws.specs.Chain.{chain-leads}

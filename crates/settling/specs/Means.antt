@@ -6,7 +6,10 @@ use mathlib.Core.List.{List, [], _∷_, _++_}
 use lib.ListN.{length}
 use Rattle.rules.specs.Reading.{Reading, got, andThen}
 use Rattle.rules.specs.TypeFile.{Element}
-use Rattle.rules.specs.Settling.{contentOf, hasModel, Token, Decisions, startInferred, startWritten, endOfEmpty, dataRun, Event, State, takePlace, enter, note, limited, fitting, requiredPlace, inferable, settleFrom, startElement}
+use Rattle.rules.specs.Elements.{contentOf, hasModel}
+use Rattle.rules.specs.Decisions.{Token, Decisions}
+use Rattle.rules.specs.Events.{startInferred, startWritten, endOfEmpty, dataRun, Event}
+use Rattle.rules.specs.Settling.{State, takePlace, enter, note, limited, fitting, requiredPlace, inferable, settleFrom, startElement}
 use Rattle.rules.specs.Settling as rules
 use Rattle.document_laws.specs.Decide.{decided}
 use Rattle.last_places.specs.Last.{short, shortly, takeRun}

@@ -9,7 +9,10 @@ use lib.Dec.{leb}
 use borrow.Author.Tests.{leb-true, leb-false}
 use Rattle.rules.specs.Reading.{refused, got}
 use Rattle.rules.specs.TypeFile.{Element}
-use Rattle.rules.specs.Settling.{contentOf, hasModel, Token, start, Event, startWritten, endOfEmpty, dataRun, State, enter, note}
+use Rattle.rules.specs.Elements.{contentOf, hasModel}
+use Rattle.rules.specs.Decisions.{Token, start}
+use Rattle.rules.specs.Events.{Event, startWritten, endOfEmpty, dataRun}
+use Rattle.rules.specs.Settling.{State, enter, note}
 use Rattle.document_laws.specs.Decide.{decided}
 use Rattle.last_places.specs.Last.{placed, short, shortly, InRange}
 use Rattle.last_places.specs.Short.{state}

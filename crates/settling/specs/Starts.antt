@@ -6,7 +6,9 @@ use native.Mathlib.Omega.{arith}
 use lib.ListN.{length, length-append}
 use borrow.Author.Tests.{leb-true}
 use Rattle.rules.specs.TypeFile.{Element}
-use Rattle.rules.specs.Settling.{Token, Decisions, Event, startInferred, State, takePlace, enter, note, fitting, requiredPlace, inferable, inferStarts}
+use Rattle.rules.specs.Decisions.{Token, Decisions}
+use Rattle.rules.specs.Events.{Event, startInferred}
+use Rattle.rules.specs.Settling.{State, takePlace, enter, note, fitting, requiredPlace, inferable, inferStarts}
 use Rattle.rules.specs.Settling as rules
 use Rattle.document_laws.specs.Decide.{decided}
 use Rattle.document_laws.specs.Chain.{Leads}

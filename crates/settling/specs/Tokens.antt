@@ -7,7 +7,9 @@ use native.Mathlib.Omega.{arith}
 use lib.ListN.{length, length-append}
 use Rattle.rules.specs.Reading.{Reading, refused, got, andThen}
 use Rattle.rules.specs.TypeFile.{Element}
-use Rattle.rules.specs.Settling.{Token, Decisions, Event, State, takePlace, fitting, takeToken, isOver, settleFrom, settle, startElement}
+use Rattle.rules.specs.Decisions.{Token, Decisions}
+use Rattle.rules.specs.Events.{Event}
+use Rattle.rules.specs.Settling.{State, takePlace, fitting, takeToken, isOver, settleFrom, settle, startElement}
 use Rattle.document_laws.specs.Decide.{decided}
 use Rattle.last_places.specs.Last.{short, shortly, takeRun}
 use Rattle.type_tables.specs.Means.{width, Tables}

@@ -9,7 +9,7 @@ use Rattle.rules.specs.Lent.{numbers}
 use Rattle.rules.specs.Reading.{got}
 use Rattle.rules.specs.TypeFile.{Element}
 use Rattle.rules.specs.Judge.{Answer, acceptance}
-use Rattle.rules.specs.Settling.{Event}
+use Rattle.rules.specs.Events.{Event}
 use Rattle.rules.specs.Reader.{eventNumbers, Reads, RefusesBoth, typeTooLong, documentTooLong, typeNotAllowed, documentNotAllowed, malformed, ambiguous, unsettled, noRoom, ReadAs, refuses, accepts}
 use Rattle.io.specs.Counts.{Counts}
 use Rattle.sgml_events.specs.Means.{LoadedIn}

@@ -6,7 +6,7 @@ use lib.ListN.{length}
 use Rattle.rules.specs.Reading.{got}
 use Rattle.rules.specs.TypeFile.{Element}
 use Rattle.rules.specs.Judge.{Answer}
-use Rattle.rules.specs.Settling.{Event}
+use Rattle.rules.specs.Events.{Event}
 use Rattle.rules.specs.Reader.{Reads, RefusesBoth}
 use Rattle.event_lines.specs.Printed.{eventsText, refusedText, inputText}
 

@@ -9,7 +9,8 @@ use lib.Seq.{take-at, getD-append-add, getD-drop, drop-drop}
 use Rattle.rules.specs.Lent.{numbers, filledWith}
 use Rattle.rules.specs.TypeFile.{Element}
 use Rattle.rules.specs.Judge.{Answer, records, Accepts, Judged, accepts}
-use Rattle.rules.specs.Settling.{Event, elementAt}
+use Rattle.rules.specs.Elements.{elementAt}
+use Rattle.rules.specs.Events.{Event}
 use Rattle.rules.specs.Reader.{eventNumbers}
 use Rattle.numbers.specs.Laws.{records-length, lent-length}
 use Rattle.rules_laws.specs.Within.{typeFile-count}

@@ -14,7 +14,7 @@ use Rattle.rules.specs.TypeFile.{beforeDashes, gapWithin, gap, occurrence, name
 use Rattle.rules.specs.TypeFile.{isDeclared, elementName, omission, words, head, contentWord, contentModel, content, close, rest, element}
 use Rattle.rules.specs.TypeFile.{commentDeclaration, beforeClose, keyword, markup, declaration, declarationsWithin, Element, typeFile}
 use Rattle.rules.specs.Judge.{placeAt}
-use Rattle.rules.specs.Settling.{numberFrom, numberOf}
+use Rattle.rules.specs.Elements.{numberFrom, numberOf}
 use Rattle.rules.specs.Lookup.{compared}
 use Rattle.model_sets.specs.Bits.{and-left, and-right}
 use Rattle.document_laws.specs.Ascii.{ascii}

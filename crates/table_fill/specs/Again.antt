@@ -10,7 +10,7 @@ use lib.Seq.{length-take-le, take-take, take-append-add, getD-append-add, getD-t
 use Rattle.rules.specs.Reading.{got}
 use Rattle.rules.specs.TypeFile.{Content, empty, model, Element, Declared, element, typeFile}
 use Rattle.rules.specs.Judge.{contentNumbers, records}
-use Rattle.rules.specs.Settling.{elementAt, contentOf, hasModel}
+use Rattle.rules.specs.Elements.{elementAt, contentOf, hasModel}
 use Rattle.element_reader.specs.Means.{Recorded, KeepsContent, MeetsElement}
 use Rattle.element_reader.specs.declared.ElementRead.{ElementRead}
 use Rattle.element_reader.specs.declared.ElementRead.the-variants as elementRead

@@ -9,7 +9,7 @@ use lib.Seq.{getD-set-same, getD-set-other}
 use Rattle.rules.specs.Walk.{Group}
 use Rattle.rules.specs.TypeFile.{Place, Content, empty, model, Element, element}
 use Rattle.rules.specs.Judge.{placeAt}
-use Rattle.rules.specs.Settling.{elementAt, contentOf, placesIn, hasModel}
+use Rattle.rules.specs.Elements.{elementAt, contentOf, placesIn, hasModel}
 use Rattle.model_names.specs.Places.{placesOf}
 use Rattle.model_names.specs.Laws.{placeAt-placesOf}
 use Rattle.text.specs.declared.Fault.{Fault}

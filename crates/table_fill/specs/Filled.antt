@@ -9,7 +9,8 @@ use borrow.Author.Count.{below-more}
 use Rattle.rules.specs.Reading.{got}
 use Rattle.rules.specs.TypeFile.{Content, empty, model, Element, typeFile}
 use Rattle.rules.specs.Judge.{Accepts}
-use Rattle.rules.specs.Settling.{elementAt, contentOf, placesIn, hasModel, Token, hasName}
+use Rattle.rules.specs.Elements.{elementAt, contentOf, placesIn, hasModel}
+use Rattle.rules.specs.Decisions.{Token, hasName}
 use Rattle.document_laws.specs.Decide.{search}
 use Rattle.rules_laws.specs.Within.{typeFile-count}
 use Rattle.type_laws.specs.Width.{typeFile-width}

@@ -16,7 +16,7 @@ use Rattle.rules.specs.Reading.{got}
 use Rattle.rules.specs.Walk.{Group, place}
 use Rattle.rules.specs.TypeFile.{Place, empty, model, Element, typeFile}
 use Rattle.rules.specs.Judge.{placeAt}
-use Rattle.rules.specs.Settling.{elementAt, contentOf, placesIn}
+use Rattle.rules.specs.Elements.{elementAt, contentOf, placesIn}
 use Rattle.model_sets.specs.Sets.{size, Numbered}
 use Rattle.model_table.specs.Fill.{tableOf}
 use Rattle.model_links.specs.Cells.{below-or-from}

@@ -8,7 +8,7 @@ use lib.ListN.{length, getD}
 use lib.Dec.{eqb}
 use borrow.Author.Tests.{ne-eqb}
 use Rattle.rules.specs.TypeFile.{Place, Element}
-use Rattle.rules.specs.Settling.{numberOf}
+use Rattle.rules.specs.Elements.{numberOf}
 use Rattle.model_names.specs.Places.{placeIn, placesOf}
 use Rattle.model_names.specs.Laws.{placeAt-placesOf}
 use Rattle.element_index.specs.Means.{Indexed}

@@ -12,7 +12,8 @@ use borrow.Author.Tests.{eq-eqb, eqb-true, eqb-false, ne-eqb}
 use Rattle.rules.specs.Reading.{got}
 use Rattle.rules.specs.TypeFile.{Place, Element, typeFile}
 use Rattle.rules.specs.Judge.{placeAt}
-use Rattle.rules.specs.Settling.{numberOf, Token, start, pcdata, hasName}
+use Rattle.rules.specs.Elements.{numberOf}
+use Rattle.rules.specs.Decisions.{Token, start, pcdata, hasName}
 use Rattle.model_sets.specs.Bits.{not-both, bool-cases}
 use Rattle.document_laws.specs.Decide.{search}
 use Rattle.rules_laws.specs.Within.{typeFile-count}

@@ -10,7 +10,7 @@ use borrow.Author.Tests.{leb-true, ne-eqb}
 use Rattle.rules.specs.Bytes.{byteAt, letter, separator, separatorsEnd}
 use Rattle.rules.specs.Reading.{got}
 use Rattle.rules.specs.TypeFile.{atDashes, gap, Element, head, Declared, element, typeFile}
-use Rattle.rules.specs.Settling.{elementAt}
+use Rattle.rules.specs.Elements.{elementAt}
 use Rattle.model_sets.specs.Bits.{or-cases, and-left}
 use Rattle.text.specs.Laws.{span-end, gapOn-end, gap-start}
 use Rattle.type_laws.specs.Made.{typeFile-made}

@@ -9,7 +9,7 @@ use lib.ListN.{length, take, length-append}
 use lib.Seq.{take-append-le, take-append-seam}
 use Rattle.rules.specs.Reading.{got}
 use Rattle.rules.specs.TypeFile.{Element, Content, empty, typeFile}
-use Rattle.rules.specs.Settling.{elementAt}
+use Rattle.rules.specs.Elements.{elementAt}
 use Rattle.rules_laws.specs.Holds.{got-so}
 use Rattle.rules_laws.specs.Declarations.{Declares, typeFile-holds}
 

@@ -14,7 +14,8 @@ use Rattle.rules.specs.Bytes.{sameText}
 use Rattle.rules.specs.Reading.{got}
 use Rattle.rules.specs.TypeFile.{Place, Element, sameName, isDeclared, typeFile}
 use Rattle.rules.specs.Judge.{placeAt}
-use Rattle.rules.specs.Settling.{elementAt, isNamed, numberFrom, numberOf, start, pcdata, hasName}
+use Rattle.rules.specs.Elements.{elementAt, isNamed, numberFrom, numberOf}
+use Rattle.rules.specs.Decisions.{start, pcdata, hasName}
 use Rattle.model_sets.specs.Bits.{not-true, not-both, bool-cases}
 use Rattle.text.specs.Laws.{sameText-sym}
 use Rattle.document_laws.specs.Decide.{sameText-trans}

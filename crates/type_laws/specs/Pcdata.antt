@@ -9,7 +9,8 @@ use borrow.Author.Tests.{eqb-true}
 use Rattle.rules.specs.Walk.{Group}
 use Rattle.rules.specs.TypeFile.{Place, Content, empty, model, Element}
 use Rattle.rules.specs.Judge.{Accepts}
-use Rattle.rules.specs.Settling.{contentOf, pcdata, hasName, Fits}
+use Rattle.rules.specs.Elements.{contentOf}
+use Rattle.rules.specs.Decisions.{pcdata, hasName, Fits}
 use Rattle.model_sets.specs.Bits.{and-left, and-right}
 use Rattle.model_sets.specs.Sets.{size, nextIn, follow}
 use Rattle.model_sets.specs.Reach.{lastOr0, lastOr0-snoc, next-has, next-complete}

@@ -11,7 +11,7 @@ use Rattle.rules.specs.Reading.{got}
 use Rattle.rules.specs.Walk.{Group, place}
 use Rattle.rules.specs.TypeFile.{Place, model, Element, typeFile}
 use Rattle.rules.specs.Judge.{placeAt}
-use Rattle.rules.specs.Settling.{elementAt, contentOf}
+use Rattle.rules.specs.Elements.{elementAt, contentOf}
 use Rattle.model_sets.specs.Sets.{size, Numbered}
 use Rattle.rules_laws.specs.Within.{none, more, NameIn, Fits, ContentIn, typeFile-count}
 use Rattle.type_laws.specs.Models.{Whole, WholeIn, declared-whole}

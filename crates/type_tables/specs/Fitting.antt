@@ -6,7 +6,8 @@ use mathlib.Core.List.{List}
 use native.Mathlib.Omega.{arith}
 use lib.ListN.{length, getD}
 use Rattle.rules.specs.TypeFile.{Content, empty, model, Element}
-use Rattle.rules.specs.Settling.{contentOf, placesIn, Token, hasName}
+use Rattle.rules.specs.Elements.{contentOf, placesIn}
+use Rattle.rules.specs.Decisions.{Token, hasName}
 use Rattle.model_sets.specs.Bits.{and-both}
 use Rattle.document_laws.specs.Decide.{search, fitsIn}
 use Rattle.last_places.specs.Last.{placed, InRange}

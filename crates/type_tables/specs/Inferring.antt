@@ -9,7 +9,9 @@ use lib.Dec.{eqb, leb}
 use borrow.Author.Tests.{eqb-true, le-leb}
 use Rattle.rules.specs.TypeFile.{Place, Element}
 use Rattle.rules.specs.Judge.{placeAt}
-use Rattle.rules.specs.Settling.{contentOf, placesIn, hasModel, startO, start, elementOf, inferable}
+use Rattle.rules.specs.Elements.{contentOf, placesIn, hasModel, startO}
+use Rattle.rules.specs.Decisions.{start}
+use Rattle.rules.specs.Settling.{elementOf, inferable}
 use Rattle.model_sets.specs.Bits.{bool-cases}
 use Rattle.document_laws.specs.Decide.{decided}
 use Rattle.type_laws.specs.Names.{numberOf-range, numberOf-pcdata}

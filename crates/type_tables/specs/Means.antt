@@ -7,7 +7,9 @@ use lib.ListN.{length, getD}
 use lib.Dec.{eqb, leb}
 use Rattle.rules.specs.TypeFile.{Place, Content, empty, model, Element}
 use Rattle.rules.specs.Judge.{Accepts, placeAt}
-use Rattle.rules.specs.Settling.{elementAt, numberOf, contentOf, placesIn, hasModel, Token, start, pcdata, hasName, Open}
+use Rattle.rules.specs.Elements.{elementAt, numberOf, contentOf, placesIn, hasModel}
+use Rattle.rules.specs.Decisions.{Token, start, pcdata, hasName}
+use Rattle.rules.specs.Settling.{Open}
 use Rattle.model_sets.specs.Sets.{nextIn}
 use Rattle.document_laws.specs.Decide.{search, isCompleteIn, requiredOf}
 use Rattle.last_places.specs.Last.{placed, InRange}

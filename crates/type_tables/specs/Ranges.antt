@@ -10,7 +10,7 @@ use borrow.Author.Tests.{le-leb, lt-leb, leb-true}
 use Rattle.rules.specs.Walk.{Group}
 use Rattle.rules.specs.TypeFile.{Content, empty, model, Element}
 use Rattle.rules.specs.Judge.{Accepts}
-use Rattle.rules.specs.Settling.{contentOf, placesIn}
+use Rattle.rules.specs.Elements.{contentOf, placesIn}
 use Rattle.model_sets.specs.Sets.{size, Numbered, requiredIn}
 use Rattle.model_sets.specs.Reach.{lastOr0, next-sound}
 use Rattle.model_sets.specs.Must.{required-sound}

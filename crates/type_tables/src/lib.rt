@@ -20,8 +20,10 @@ ghost use Prim.Native.Nat.{ℕ, _+_, _*_, _/_, _%_, _≤_, _<_};
 ghost use lib.ListN.{getD};
 ghost use Rattle.rules.specs.TypeFile.{Element};
 ghost use Rattle.rules.specs.Judge.{Accepts};
-ghost use Rattle.rules.specs.Settling.{Token, contentOf, hasModel, startO, endO};
+ghost use Rattle.rules.specs.Elements.{contentOf, hasModel, startO, endO};
+ghost use Rattle.rules.specs.Decisions.{Token};
 ghost use Rattle.rules.specs.Settling as rules;
+ghost use Rattle.rules.specs.Decisions as decisions;
 ghost use Rattle.document_laws.specs.Decide.{decided};
 ghost use Rattle.last_places.specs.Last.{placed, InRange};
 ghost use Rattle.type_tables.specs.Means.{standing, nameNumber, rowAt, bitOf, completeAt, requiredAt, Declares, Rows, Facts, Tables, Requires};
@@ -83,21 +85,21 @@ fn smaller(places: &[u8; 12610], e: usize, p: usize) -> usize
 
 fn start_omitted(facts: &[u8; 4420], e: usize) -> bool
     requires { ⌜ e ≤ 64 ⌝ }
-    ensures { λ r. ⌜ ((s : List ℕ) (es : List Element) → Facts s es (now (facts .entry)) → Declares es (rules.start e) → r ≡ startO es e) ⌝ }
+    ensures { λ r. ⌜ ((s : List ℕ) (es : List Element) → Facts s es (now (facts .entry)) → Declares es (decisions.start e) → r ≡ startO es e) ⌝ }
 {
     facts[e * 68 + 65] == 1
 }
 
 pub fn end_omitted(facts: &[u8; 4420], e: usize) -> bool
     requires { ⌜ e ≤ 64 ⌝ }
-    ensures { λ r. ⌜ ((s : List ℕ) (es : List Element) → Facts s es (now (facts .entry)) → Declares es (rules.start e) → r ≡ endO es e) ⌝ }
+    ensures { λ r. ⌜ ((s : List ℕ) (es : List Element) → Facts s es (now (facts .entry)) → Declares es (decisions.start e) → r ≡ endO es e) ⌝ }
 {
     facts[e * 68 + 66] == 1
 }
 
 pub fn has_model(facts: &[u8; 4420], e: usize) -> bool
     requires { ⌜ e ≤ 64 ⌝ }
-    ensures { λ r. ⌜ ((s : List ℕ) (es : List Element) → Facts s es (now (facts .entry)) → Declares es (rules.start e) →
+    ensures { λ r. ⌜ ((s : List ℕ) (es : List Element) → Facts s es (now (facts .entry)) → Declares es (decisions.start e) →
         r ≡ hasModel (contentOf es e)) ⌝ }
 {
     facts[e * 68 + 67] == 1

@@ -8,7 +8,9 @@ use lib.ListN.{length}
 use lib.Dec.{leb}
 use borrow.Author.Tests.{le-leb}
 use Rattle.rules.specs.TypeFile.{Element}
-use Rattle.rules.specs.Settling.{contentOf, hasModel, startO, Token, Decisions, Open, elementOf, fitting, requiredPlace, inferable, chain}
+use Rattle.rules.specs.Elements.{contentOf, hasModel, startO}
+use Rattle.rules.specs.Decisions.{Token, Decisions}
+use Rattle.rules.specs.Settling.{Open, elementOf, fitting, requiredPlace, inferable, chain}
 use Rattle.document_laws.specs.Decide.{decided}
 use Rattle.document_laws.specs.Same.{link}
 use Rattle.document_laws.specs.Chain.{chain-leads, chain-shortest}

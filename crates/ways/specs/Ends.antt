@@ -7,7 +7,10 @@ use native.Mathlib.Omega.{arith}
 use lib.Dec.{leb}
 use borrow.Author.Tests.{le-leb, ne-eqb}
 use Rattle.rules.specs.TypeFile.{Element}
-use Rattle.rules.specs.Settling.{start, endO, Event, isOver}
+use Rattle.rules.specs.Elements.{endO}
+use Rattle.rules.specs.Decisions.{start}
+use Rattle.rules.specs.Events.{Event}
+use Rattle.rules.specs.Settling.{isOver}
 use Rattle.document_laws.specs.Decide.{decided}
 use Rattle.type_tables.specs.Means.{Declares}
 use Rattle.open_elements.specs.declared.Open.{Open}

@@ -7,7 +7,9 @@ use native.Mathlib.Omega.{arith}
 use lib.ListN.{length}
 use lib.Dec.{leb}
 use Rattle.rules.specs.TypeFile.{Element}
-use Rattle.rules.specs.Settling.{Token, start, pcdata, endO, Decisions, isComplete}
+use Rattle.rules.specs.Elements.{endO}
+use Rattle.rules.specs.Decisions.{Token, start, pcdata, Decisions}
+use Rattle.rules.specs.Settling.{isComplete}
 use Rattle.rules.specs.Settling as rules
 use Rattle.document_laws.specs.Decide.{decided}
 use Rattle.type_tables.specs.Means.{nameNumber, Declares, Facts}

@@ -9,8 +9,11 @@ ghost use mathlib.Core.List.{List};
 ghost use Prim.Native.Nat.{ℕ, _≤_, _<_};
 ghost use lib.Dec.{leb};
 ghost use Rattle.rules.specs.TypeFile.{Element};
-ghost use Rattle.rules.specs.Settling.{contentOf, hasModel, Token, Event, isOver};
-ghost use Rattle.rules.specs.Settling as rules;
+ghost use Rattle.rules.specs.Elements.{contentOf, hasModel};
+ghost use Rattle.rules.specs.Decisions.{Token};
+ghost use Rattle.rules.specs.Events.{Event};
+ghost use Rattle.rules.specs.Settling.{isOver};
+ghost use Rattle.rules.specs.Decisions as decisions;
 ghost use Rattle.document_laws.specs.Decide.{decided};
 ghost use Rattle.last_places.specs.Last.{placed, InRange};
 ghost use Rattle.type_tables.specs.Means.{standing, nameNumber, Declares, Facts, Tables, Requires};
@@ -142,7 +145,7 @@ pub fn is_full(count: usize, x: usize) -> bool
 // Whether x is an element with a model: it is open once it has started.
 pub fn opens(facts: &[u8; 4420], x: usize) -> bool
     requires { ⌜ x ≤ 64 ⌝ }
-    ensures { λ r. ⌜ (x ≡ 0 → r ≡ false) × ((s : List ℕ) (es : List Element) → Facts s es (now (facts .entry)) → Declares es (rules.start x) → r ≡ hasModel (contentOf es x)) ⌝ }
+    ensures { λ r. ⌜ (x ≡ 0 → r ≡ false) × ((s : List ℕ) (es : List Element) → Facts s es (now (facts .entry)) → Declares es (decisions.start x) → r ≡ hasModel (contentOf es x)) ⌝ }
 {
     if x == 0 {
         return false;

@@ -3,7 +3,7 @@ use mathlib.Core.Path.{_≡_, refl}
 use native.Mathlib.Omega.{arith}
 use Rattle.rules.specs.Reading.{got}
 use Rattle.rules.specs.Document.{startTag, endTag, blank, piece}
-use Rattle.rules.specs.Settling.{pcdata}
+use Rattle.rules.specs.Decisions.{pcdata}
 use Rattle.document_text.specs.Means.{tagIn}
 use Rattle.document_text.specs.Laws.{token-start, token-end, token-skipped, token-blank, token-data, token-refused}
 use Rattle.pieces.specs.Means.{skips, runs, malformed}

@@ -6,7 +6,8 @@ use mathlib.Core.List.{List}
 use native.Mathlib.Omega.{arith}
 use borrow.Author.Needs.{needs}
 use Rattle.rules.specs.TypeFile.{Element}
-use Rattle.rules.specs.Settling.{Event, isOver}
+use Rattle.rules.specs.Events.{Event}
+use Rattle.rules.specs.Settling.{isOver}
 use Rattle.document_laws.specs.Decide.{decided}
 use Rattle.open_elements.specs.Means.{stateOf, Stands}
 use Rattle.settling.specs.Starts.{Along, along-start, along-next}
