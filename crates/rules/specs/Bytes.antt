@@ -9,13 +9,81 @@ use lib.Dec.{eqb, leb}
 abbrev pub byteAt : List ℕ → ℕ → ℕ
 byteAt s i = getD s i 0
 
+-- Bytes by the standard's names: TAB, RS, RE and SPACE are function characters, the others delimiters of its figure 3. `<!`, `<?`, `</`, `&#`
+-- and `]]` are of two bytes: "!" and "/" stand in no other delimiter, and "." in none.
+abbrev pub TAB : ℕ
+TAB = 9
+
+abbrev pub RS : ℕ
+RS = 10
+
+abbrev pub RE : ℕ
+RE = 13
+
+abbrev pub SPACE : ℕ
+SPACE = 32
+
+abbrev pub EXCLAMATION : ℕ
+EXCLAMATION = 33
+
+abbrev pub RNI : ℕ
+RNI = 35
+
+abbrev pub PERO : ℕ
+PERO = 37
+
+abbrev pub AND : ℕ
+AND = 38
+
+abbrev pub GRPO : ℕ
+GRPO = 40
+
+abbrev pub GRPC : ℕ
+GRPC = 41
+
+abbrev pub REP : ℕ
+REP = 42
+
+abbrev pub PLUS : ℕ
+PLUS = 43
+
+abbrev pub SEQ : ℕ
+SEQ = 44
+
+abbrev pub MINUS : ℕ
+MINUS = 45
+
+abbrev pub STOP : ℕ
+STOP = 46
+
+abbrev pub SOLIDUS : ℕ
+SOLIDUS = 47
+
+abbrev pub STAGO : ℕ
+STAGO = 60
+
+abbrev pub MDC : ℕ
+MDC = 62
+
+abbrev pub OPT : ℕ
+OPT = 63
+
+abbrev pub DSO : ℕ
+DSO = 91
+
+abbrev pub DSC : ℕ
+DSC = 93
+
+abbrev pub OR : ℕ
+OR = 124
+
 -- "Allowed bytes: 9, 10, 13, 32 to 126."
 unfoldable pub allowed : ℕ → Bool
-allowed b = eqb b 9 || eqb b 10 || eqb b 13 || (leb 32 b && leb b 126)
+allowed b = eqb b TAB || eqb b RS || eqb b RE || (leb 32 b && leb b 126)
 
 -- "Separators: 9, 10, 13, 32."
 unfoldable pub separator : ℕ → Bool
-separator b = eqb b 9 || eqb b 10 || eqb b 13 || eqb b 32
+separator b = eqb b TAB || eqb b RS || eqb b RE || eqb b SPACE
 
 -- A letter of either case.
 unfoldable pub letter : ℕ → Bool
@@ -27,7 +95,7 @@ fold b = cond (leb 97 b && leb b 122) (b - 32) b
 
 -- "A name is a letter, then letters, digits, "." and "-"": what may go on a name.
 unfoldable pub nameByte : ℕ → Bool
-nameByte b = letter b || (leb 48 b && leb b 57) || eqb b 46 || eqb b 45
+nameByte b = letter b || (leb 48 b && leb b 57) || eqb b STOP || eqb b MINUS
 
 -- How many of the first bytes pass a test.
 unfoldable pub span : (ℕ → Bool) → List ℕ → ℕ

@@ -4,7 +4,7 @@ use Prim.Native.Nat.{ℕ, _+_, _-_}
 use mathlib.Core.Bool.{Bool, true, false, _&&_, _||_}
 use mathlib.Core.List.{List}
 use lib.Dec.{eqb, leb, ltb}
-use Rattle.rules.specs.Bytes.{byteAt, letter, nameEnd, separatorsEnd, NAMELEN}
+use Rattle.rules.specs.Bytes.{byteAt, letter, nameEnd, separatorsEnd, NAMELEN, TAB, RS, RE, SPACE, EXCLAMATION, RNI, AND, SOLIDUS, STAGO, MDC, OPT, DSO, DSC}
 use Rattle.rules.specs.Reading.{Reading, refused, got, andThen}
 use Rattle.rules.specs.TypeFile.{atDashes, commentDeclaration}
 
@@ -31,18 +31,18 @@ tag d at =
     let i = separatorsEnd d e in
     elim (ltb NAMELEN (e - at)) [
       | true ↦ refused 3 at
-      | false ↦ elim (eqb (byteAt d i) 62) [ true ↦ got (record { name = at; size = e - at; after = i + 1 }) | false ↦ refused 4 i ]
+      | false ↦ elim (eqb (byteAt d i) MDC) [ true ↦ got (record { name = at; size = e - at; after = i + 1 }) | false ↦ refused 4 i ]
     ]
 
 -- `<!` at i: "`<!--` starts a comment declaration (ends as above); `<!>` is skipped". "`<!` then a letter or "["" is number 5.
 unfoldable pub declarationPiece : List ℕ → ℕ → Reading Piece
 declarationPiece d i =
     let b = byteAt d (i + 2) in
-    elim (eqb b 62) [
+    elim (eqb b MDC) [
       | true ↦ got (skipped (i + 3))
       | false ↦ elim (atDashes d (i + 2)) [
         | true ↦ andThen (commentDeclaration d (i + 4)) λ e. got (skipped e)
-        | false ↦ elim (letter b || eqb b 91) [ true ↦ refused 5 i | false ↦ got dataByte ]
+        | false ↦ elim (letter b || eqb b DSO) [ true ↦ refused 5 i | false ↦ got dataByte ]
       ]
     ]
 
@@ -52,11 +52,11 @@ markupPiece d i =
     let b = byteAt d (i + 1) in
     elim (letter b) [
       | true ↦ andThen (tag d (i + 1)) λ t. got (startTag t)
-      | false ↦ elim (eqb b 47 && letter (byteAt d (i + 2))) [
+      | false ↦ elim (eqb b SOLIDUS && letter (byteAt d (i + 2))) [
         | true ↦ andThen (tag d (i + 2)) λ t. got (endTag t)
-        | false ↦ elim (eqb b 33) [
+        | false ↦ elim (eqb b EXCLAMATION) [
           | true ↦ declarationPiece d i
-          | false ↦ elim (eqb b 63) [ true ↦ refused 5 i | false ↦ got dataByte ]
+          | false ↦ elim (eqb b OPT) [ true ↦ refused 5 i | false ↦ got dataByte ]
         ]
       ]
     ]
@@ -66,28 +66,28 @@ abbrev pub isReference : List ℕ → ℕ → Bool
 isReference d i =
     let b = byteAt d (i + 1) in
     let c = byteAt d (i + 2) in
-    letter b || (eqb b 35 && (letter c || (leb 48 c && leb c 57)))
+    letter b || (eqb b RNI && (letter c || (leb 48 c && leb c 57)))
 
 -- "`]]>` outside tags and comments" is number 17.
 abbrev pub isSectionEnd : List ℕ → ℕ → Bool
-isSectionEnd d i = eqb (byteAt d i) 93 && (eqb (byteAt d (i + 1)) 93 && eqb (byteAt d (i + 2)) 62)
+isSectionEnd d i = eqb (byteAt d i) DSC && (eqb (byteAt d (i + 1)) DSC && eqb (byteAt d (i + 2)) MDC)
 
 -- A byte by itself. "Byte 10 outside tags and comments is ignored. Bytes 9, 13 and 32 are data where `#PCDATA` may come next in the
 -- current element, and ignored elsewhere." "Anything not named here or under numbers 5 and 17 is data."
 unfoldable pub bytePiece : List ℕ → ℕ → Reading Piece
 bytePiece d i =
     let b = byteAt d i in
-    elim (eqb b 10) [
+    elim (eqb b RS) [
       | true ↦ got (skipped (i + 1))
-      | false ↦ elim (eqb b 9 || (eqb b 13 || eqb b 32)) [ true ↦ got blank | false ↦ got dataByte ]
+      | false ↦ elim (eqb b TAB || (eqb b RE || eqb b SPACE)) [ true ↦ got blank | false ↦ got dataByte ]
     ]
 
 -- What stands at i, where the document does not end.
 unfoldable pub piece : List ℕ → ℕ → Reading Piece
 piece d i =
-    elim (eqb (byteAt d i) 60) [
+    elim (eqb (byteAt d i) STAGO) [
       | true ↦ markupPiece d i
-      | false ↦ elim (eqb (byteAt d i) 38 && isReference d i) [
+      | false ↦ elim (eqb (byteAt d i) AND && isReference d i) [
         | true ↦ refused 5 i
         | false ↦ elim (isSectionEnd d i) [ true ↦ refused 17 i | false ↦ bytePiece d i ]
       ]

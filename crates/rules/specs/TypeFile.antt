@@ -6,14 +6,14 @@ use mathlib.Core.Bool.{Bool, true, false, _&&_, _||_}
 use mathlib.Core.List.{List, [], _∷_, _++_}
 use lib.ListN.{length, drop}
 use lib.Dec.{eqb, leb, ltb}
-use Rattle.rules.specs.Bytes.{byteAt, letter, nameEnd, separatorsEnd, sameText, NAMELEN, GRPCNT, GRPLVL, GRPGTCNT, elementLimit}
+use Rattle.rules.specs.Bytes.{byteAt, letter, nameEnd, separatorsEnd, sameText, NAMELEN, GRPCNT, GRPLVL, GRPGTCNT, elementLimit, EXCLAMATION, RNI, PERO, AND, GRPO, GRPC, REP, PLUS, SEQ, MINUS, STAGO, MDC, OPT, DSO, OR}
 use Rattle.rules.specs.Reading.{Reading, refused, got, andThen}
 use Rattle.rules.specs.Walk.{Group, place, seq, alt, opt, plus, star}
 
 -- Comments
 
 abbrev pub atDashes : List ℕ → ℕ → Bool
-atDashes s i = eqb (byteAt s i) 45 && eqb (byteAt s (i + 1)) 45
+atDashes s i = eqb (byteAt s i) MINUS && eqb (byteAt s (i + 1)) MINUS
 
 -- How many bytes stand before the first `--`; all of them where there is none.
 unfoldable pub beforeDashes : List ℕ → ℕ
@@ -23,7 +23,7 @@ beforeDashes (b ∷ r) = elim (atDashes (b ∷ r) 0) [ true ↦ 0 | false ↦ su
 -- The same for `-->`.
 unfoldable pub beforeClose : List ℕ → ℕ
 beforeClose [] = 0
-beforeClose (b ∷ r) = elim (atDashes (b ∷ r) 0 && eqb (byteAt (b ∷ r) 2) 62) [ true ↦ 0 | false ↦ suc (beforeClose r) ]
+beforeClose (b ∷ r) = elim (atDashes (b ∷ r) 0 && eqb (byteAt (b ∷ r) 2) MDC) [ true ↦ 0 | false ↦ suc (beforeClose r) ]
 
 -- "A comment declaration runs from `<!--` to the first `-->` after it." `at` is behind the `<!--`.
 unfoldable pub commentDeclaration : List ℕ → ℕ → Reading ℕ
@@ -40,7 +40,7 @@ gapWithin (suc turns) s at =
     let e = i + 2 + beforeDashes (drop (i + 2) s) in
     elim (atDashes s i) [
       | true ↦ elim (ltb e (length s)) [ true ↦ gapWithin turns s (e + 2) | false ↦ refused 4 (length s) ]
-      | false ↦ elim (eqb (byteAt s i) 37) [ true ↦ refused 5 i | false ↦ got i ]
+      | false ↦ elim (eqb (byteAt s i) PERO) [ true ↦ refused 5 i | false ↦ got i ]
     ]
 
 unfoldable pub gap : List ℕ → ℕ → Reading ℕ
@@ -101,9 +101,9 @@ unfoldable pub occurrence : List ℕ → Tokens → Tokens
 occurrence s t =
     let b = byteAt s (t .at) in
     let with : Group → Tokens = λ g. record { group = g; at = t .at + 1; places = t .places; tokens = t .tokens } in
-    elim (eqb b 63) [
+    elim (eqb b OPT) [
       | true ↦ with (opt (t .group))
-      | false ↦ elim (eqb b 43) [ true ↦ with (plus (t .group)) | false ↦ elim (eqb b 42) [ true ↦ with (star (t .group)) | false ↦ t ] ]
+      | false ↦ elim (eqb b PLUS) [ true ↦ with (plus (t .group)) | false ↦ elim (eqb b REP) [ true ↦ with (star (t .group)) | false ↦ t ] ]
     ]
 
 -- "The names and `#PCDATA`s of a model are its places, numbered from 1, left to right": the next one.
@@ -144,18 +144,18 @@ token inner s at full ps n =
     let b = byteAt s at in
     elim (letter b) [
       | true ↦ nameToken s at full ps n
-      | false ↦ elim (eqb b 35) [
+      | false ↦ elim (eqb b RNI) [
         | true ↦ dataToken s at full ps n
-        | false ↦ elim (eqb b 40) [
+        | false ↦ elim (eqb b GRPO) [
           | true ↦ elim full [ true ↦ refused 6 at | false ↦ andThen (inner at ps (n + 1)) (λ t. got (occurrence s t)) ]
-          | false ↦ elim (eqb b 91 || eqb b 37) [ true ↦ refused 5 at | false ↦ refused 4 at ]
+          | false ↦ elim (eqb b DSO || eqb b PERO) [ true ↦ refused 5 at | false ↦ refused 4 at ]
         ]
       ]
     ]
 
 -- "A group holds content tokens joined by one kind of connector, "," or "|"."
 abbrev pub join : ℕ → Group → Group → Group
-join b g h = elim (eqb b 44) [ true ↦ seq g h | false ↦ alt g h ]
+join b g h = elim (eqb b SEQ) [ true ↦ seq g h | false ↦ alt g h ]
 
 -- What follows a content token of a group: the group's ")", or a connector and a further content token.
 pub data Further : Type 0 where
@@ -168,11 +168,11 @@ unfoldable pub further : (ℕ → List Place → ℕ → Reading Tokens) → Lis
 further inner s k c t =
     let i = separatorsEnd s (t .at) in
     let b = byteAt s i in
-    elim (eqb b 41) [
+    elim (eqb b GRPC) [
       | true ↦ got (closed (record { group = t .group; at = i + 1; places = t .places; tokens = t .tokens }))
-      | false ↦ elim (eqb b 38 || eqb b 37) [
+      | false ↦ elim (eqb b AND || eqb b PERO) [
         | true ↦ refused 5 i
-        | false ↦ elim ((eqb b 44 || eqb b 124) && (eqb c 0 || eqb c b)) [
+        | false ↦ elim ((eqb b SEQ || eqb b OR) && (eqb c 0 || eqb c b)) [
           | true ↦ andThen
               (token inner s (separatorsEnd s (i + 1)) (leb GRPCNT k || leb GRPGTCNT (t .tokens)) (t .places) (t .tokens))
               (λ u. got (joined b (record { group = join b (t .group) (u .group); at = u .at; places = u .places; tokens = u .tokens })))
@@ -215,7 +215,7 @@ isDeclared s (e ∷ es) at size = elim (sameName s (e .at) (e .size) at size) [ 
 
 -- What fits nowhere between parameters is number 4 there. But a "-" at the input's end could still have opened a comment.
 abbrev pub unfit : {A : Type 0} → List ℕ → ℕ → Reading A
-unfit s i = elim (eqb (byteAt s i) 45 && leb (length s) (i + 1)) [ true ↦ refused 4 (length s) | false ↦ refused 4 i ]
+unfit s i = elim (eqb (byteAt s i) MINUS && leb (length s) (i + 1)) [ true ↦ refused 4 (length s) | false ↦ refused 4 i ]
 
 -- The element's name, and where it ends. "A group as element name" is number 5.
 unfoldable pub elementName : List ℕ → ℕ → List Element → Reading ℕ
@@ -229,7 +229,7 @@ elementName s i es =
           | false ↦ elim (leb elementLimit (length es)) [ true ↦ refused 8 i | false ↦ got e ]
         ]
       ]
-      | false ↦ elim (eqb (byteAt s i) 40) [ true ↦ refused 5 i | false ↦ unfit s i ]
+      | false ↦ elim (eqb (byteAt s i) GRPO) [ true ↦ refused 5 i | false ↦ unfit s i ]
     ]
 
 -- One of the "two words each "-" or "O"", and where it ends: 0 for "-", 1 for "O". The parameter before ended at `from`:
@@ -241,7 +241,7 @@ pub record Word : Type 0 where
 unfoldable pub omission : List ℕ → (from : ℕ) → ℕ → Reading Word
 omission s from i =
     let e = nameEnd s i in
-    elim (eqb (byteAt s i) 45 && ltb from i) [
+    elim (eqb (byteAt s i) MINUS && ltb from i) [
       | true ↦ got (record { value = 0; at = i + 1 })
       | false ↦ elim (letter (byteAt s i)) [
         | true ↦ elim (ltb NAMELEN (e - i)) [
@@ -304,7 +304,7 @@ contentModel s i =
 
 unfoldable pub content : List ℕ → (from : ℕ) → ℕ → Reading ContentEnd
 content s from i =
-    elim (eqb (byteAt s i) 40) [
+    elim (eqb (byteAt s i) GRPO) [
       | true ↦ contentModel s i
       | false ↦ elim (letter (byteAt s i)) [ true ↦ contentWord s from i | false ↦ unfit s i ]
     ]
@@ -313,9 +313,9 @@ content s from i =
 unfoldable pub close : List ℕ → ℕ → Reading ℕ
 close s i =
     let b = byteAt s i in
-    elim (eqb b 62) [
+    elim (eqb b MDC) [
       | true ↦ got (i + 1)
-      | false ↦ elim ((eqb b 45 || eqb b 43) && eqb (byteAt s (i + 1)) 40) [ true ↦ refused 5 i | false ↦ unfit s i ]
+      | false ↦ elim ((eqb b MINUS || eqb b PLUS) && eqb (byteAt s (i + 1)) GRPO) [ true ↦ refused 5 i | false ↦ unfit s i ]
     ]
 
 -- What was read of a type file: the elements in declaration order, and where it goes on.
@@ -351,14 +351,14 @@ keyword s i es =
 unfoldable pub markup : List ℕ → ℕ → List Element → Reading Declared
 markup s i es =
     let b = byteAt s (i + 2) in
-    elim (eqb b 62) [
+    elim (eqb b MDC) [
       | true ↦ got (record { elements = es; at = i + 3 })
-      | false ↦ elim (eqb b 45) [
-        | true ↦ elim (eqb (byteAt s (i + 3)) 45) [
+      | false ↦ elim (eqb b MINUS) [
+        | true ↦ elim (eqb (byteAt s (i + 3)) MINUS) [
           | true ↦ andThen (commentDeclaration s (i + 4)) λ j. got (record { elements = es; at = j })
           | false ↦ refused 4 (i + 3)
         ]
-        | false ↦ elim (eqb b 91) [ true ↦ refused 5 i | false ↦ elim (letter b) [ true ↦ keyword s i es | false ↦ refused 4 (i + 2) ] ]
+        | false ↦ elim (eqb b DSO) [ true ↦ refused 5 i | false ↦ elim (letter b) [ true ↦ keyword s i es | false ↦ refused 4 (i + 2) ] ]
       ]
     ]
 
@@ -367,9 +367,9 @@ unfoldable pub declaration : List ℕ → ℕ → List Element → Reading Decla
 declaration s i es =
     let b = byteAt s i in
     let c = byteAt s (i + 1) in
-    elim (eqb b 60) [
-      | true ↦ elim (eqb c 33) [ true ↦ markup s i es | false ↦ elim (eqb c 63) [ true ↦ refused 5 i | false ↦ refused 4 (i + 1) ] ]
-      | false ↦ elim (eqb b 37) [ true ↦ refused 5 i | false ↦ refused 4 i ]
+    elim (eqb b STAGO) [
+      | true ↦ elim (eqb c EXCLAMATION) [ true ↦ markup s i es | false ↦ elim (eqb c OPT) [ true ↦ refused 5 i | false ↦ refused 4 (i + 1) ] ]
+      | false ↦ elim (eqb b PERO) [ true ↦ refused 5 i | false ↦ refused 4 i ]
     ]
 
 -- "Separators, comment declarations, `<!>` and element declarations", from `at` on. A type file with no element is number 8 at its length.
