@@ -2,6 +2,7 @@
 //
 // `facts` is a table of the type (crate type_tables). Whether an open element is complete is kept with it. n events stand in the
 // buffers before.
+use layout::FACTS;
 use open_elements::Open;
 use open_elements::Outcome;
 ghost use mathlib.Core.Path.{_≡_};
@@ -10,7 +11,7 @@ ghost use Rattle.open_elements.specs.Means.{Ranged};
 ghost use Rattle.closing.specs.Means.{Judges, Until, Tagged, Finished};
 
 // Why the current element cannot have its end inferred by an end tag or the document's end: 13, 14, or 0 if it can.
-fn end_fault(facts: &[u8; 4420], o: Open) -> u32
+fn end_fault(facts: &[u8; FACTS], o: Open) -> u32
     requires { ⌜ Ranged o ⌝ }
     ensures { λ r. ⌜ Judges (now (facts .entry)) o r ⌝ }
 {
@@ -27,7 +28,7 @@ fn end_fault(facts: &[u8; 4420], o: Open) -> u32
 
 // Ends are inferred until the current element is x, or there is nothing around it.
 fn end_until(
-    facts: &[u8; 4420],
+    facts: &[u8; FACTS],
     state: Open,
     x: usize,
     at: usize,
@@ -68,7 +69,7 @@ fn end_until(
 
 // The end tag of the element x, from `at` to `after`.
 pub fn end_tag(
-    facts: &[u8; 4420],
+    facts: &[u8; FACTS],
     state: Open,
     x: usize,
     at: usize,
@@ -116,7 +117,7 @@ pub fn end_tag(
 
 // The document's end, at its length.
 pub fn finish(
-    facts: &[u8; 4420],
+    facts: &[u8; FACTS],
     state: Open,
     at: usize,
     n: usize,

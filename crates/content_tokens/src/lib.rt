@@ -1,5 +1,7 @@
 // The content tokens of a model: a name, `#PCDATA`, an occurrence indicator, and two groups joined by a connector, each with what it adds to
 // the model's places and to its table.
+use layout::MODEL;
+use layout::NAMES;
 use model_table::Part;
 use text::Fault;
 ghost use mathlib.Core.Path.{_≡_};
@@ -48,7 +50,7 @@ pub fn refusal(number: u32, at: usize) -> ModelRead
 
 // The occurrence indicator at once after a name or a group whose first place is `lo`. What it gives where m and the table stand for no
 // such group is not decided.
-pub fn with_occurrence(s: &[u8], table: &mut [u8; 9506], lo: usize, m: Model) -> Model
+pub fn with_occurrence(s: &[u8], table: &mut [u8; MODEL], lo: usize, m: Model) -> Model
     requires { ⌜ m .at ≤ length (now s) ⌝ }
     requires { ⌜ m .places ≤ 96 ⌝ }
     ensures { λ r. ⌜ ((T names : List ℕ) (t : Tokens) → Keeps (length (now (s .entry))) lo T names (now (table .entry)) m t →
@@ -95,8 +97,8 @@ pub fn name_token(
     full: bool,
     places: usize,
     tokens: usize,
-    names: &mut [u32; 192],
-    table: &mut [u8; 9506],
+    names: &mut [u32; NAMES],
+    table: &mut [u8; MODEL],
 ) -> ModelRead
     requires { ⌜ (at ≤ length (now s)) × (length (now s) ≤ 32768) ⌝ }
     requires { ⌜ (places ≤ tokens) × (full ≡ false → tokens < 96) ⌝ }
@@ -142,8 +144,8 @@ pub fn data_token(
     full: bool,
     places: usize,
     tokens: usize,
-    names: &mut [u32; 192],
-    table: &mut [u8; 9506],
+    names: &mut [u32; NAMES],
+    table: &mut [u8; MODEL],
 ) -> ModelRead
     requires { ⌜ (at < length (now s)) × (length (now s) ≤ 32768) ⌝ }
     requires { ⌜ (places ≤ tokens) × (full ≡ false → tokens < 96) ⌝ }
@@ -185,7 +187,7 @@ pub fn is_connector(b: u8, c: u8) -> bool
 }
 
 // The group of [lo, mid) and the token of [mid, hi) joined by the connector b.
-pub fn joined_by(table: &mut [u8; 9506], b: u8, lo: usize, m: Model, u: Model) -> Model
+pub fn joined_by(table: &mut [u8; MODEL], b: u8, lo: usize, m: Model, u: Model) -> Model
     requires { ⌜ (m .places ≤ 96) × (u .places ≤ 96) ⌝ }
     ensures { λ r. ⌜ r ≡ joinModel b m u ⌝ }
     ensures { λ _. ⌜ now (table .exit) ≡ joinTable b lo m u (now (table .entry)) ⌝ }

@@ -2,6 +2,11 @@
 //
 // `elements` and `index` are those of the crate element_index, `rows`, `places` and `facts` those of type_tables, `classes` that of
 // delimiters.
+use layout::FACTS;
+use layout::INDEX;
+use layout::PLACES;
+use layout::RECORDS;
+use layout::ROWS;
 use open_elements::Open;
 use pieces::Piece;
 use text::Fault;
@@ -34,11 +39,11 @@ fn refusal(number: u32, at: usize) -> Counted
 // that is too small for all of them, or where the document is refused, is not decided; it keeps its length, and the reader zeroes it.
 pub fn events_of(
     s: &[u8],
-    elements: &[u32; 384],
-    index: &[u8; 321],
-    rows: &[u8; 88270],
-    places: &[u8; 12610],
-    facts: &[u8; 4420],
+    elements: &[u32; RECORDS],
+    index: &[u8; INDEX],
+    rows: &[u8; ROWS],
+    places: &[u8; PLACES],
+    facts: &[u8; FACTS],
     classes: &[u8; 256],
     d: &[u8],
     numbers: &mut [u32],

@@ -2,6 +2,11 @@
 use document_events::Counted;
 use element_records::Clash;
 use inputs::Checked;
+use layout::FACTS;
+use layout::INDEX;
+use layout::PLACES;
+use layout::RECORDS;
+use layout::ROWS;
 use text::Fault;
 use type_judge::Verdict;
 ghost use mathlib.Core.Path.{_≡_};
@@ -30,7 +35,7 @@ pub enum Answer {
 }
 
 // Numbers 1 and 2 of both inputs, then the type: accepted with so many elements in `elements`, or refused.
-fn judged(s: &[u8], d: &[u8], elements: &mut [u32; 384]) -> Answer
+fn judged(s: &[u8], d: &[u8], elements: &mut [u32; RECORDS]) -> Answer
     ensures { λ r. ⌜ Judges (now (s .entry)) (now (d .entry)) (now (elements .exit)) r ⌝ }
 {
     let c = inputs::check(s, d);
@@ -39,7 +44,7 @@ fn judged(s: &[u8], d: &[u8], elements: &mut [u32; 384]) -> Answer
         Checked::InDocument(f) => return Answer::InDocument(f),
         Checked::Legible => {}
     }
-    let v = type_judge::decide_legible(s, 384, elements);
+    let v = type_judge::decide_legible(s, RECORDS, elements);
     match v {
         Verdict::Accepted(n) => Answer::Accepted(n),
         Verdict::Malformed(f) => Answer::InType(f),
@@ -51,7 +56,7 @@ fn judged(s: &[u8], d: &[u8], elements: &mut [u32; 384]) -> Answer
 fn read_under(
     s: &[u8],
     d: &[u8],
-    elements: &[u32; 384],
+    elements: &[u32; RECORDS],
     n: usize,
     numbers: &mut [u32],
     bytes: &mut [u8],
@@ -60,10 +65,10 @@ fn read_under(
     ensures { λ r. ⌜ ((es : List Element) → Accepts (now (s .entry)) es → length es ≡ n → Recorded (now (elements .entry)) es →
         EventsOf (now (s .entry)) es (now (d .entry)) (now (numbers .entry)) (now (numbers .exit)) (now (bytes .entry)) (now (bytes .exit)) r) ⌝ }
 {
-    let mut index = [0u8; 321];
-    let mut rows = [0u8; 88270];
-    let mut places = [0u8; 12610];
-    let mut facts = [0u8; 4420];
+    let mut index = [0u8; INDEX];
+    let mut rows = [0u8; ROWS];
+    let mut places = [0u8; PLACES];
+    let mut facts = [0u8; FACTS];
     element_index::fill_index(s, elements, n, &mut index);
     table_fill::fill(s, elements, n, &index, &mut rows, &mut places, &mut facts);
     // the class of each byte, 32 a row: 1 for one that may begin something else than data, 2 for one that may go on a name
@@ -93,7 +98,7 @@ fn read_under(
 fn answered(s: &[u8], d: &[u8], numbers: &mut [u32], bytes: &mut [u8]) -> Answer
     ensures { λ r. ⌜ Answers (now (s .entry)) (now (d .entry)) (now (numbers .entry)) (now (numbers .exit)) (now (bytes .entry)) (now (bytes .exit)) r ⌝ }
 {
-    let mut elements = [0u32; 384];
+    let mut elements = [0u32; RECORDS];
     let v = judged(s, d, &mut elements);
     let Answer::Accepted(n) = v else {
         return v;

@@ -1,5 +1,7 @@
 // The content of an element: EMPTY, or a model group with its names and its table.
 use content_tokens::ModelRead;
+use layout::MODEL;
+use layout::NAMES;
 use text::Fault;
 ghost use mathlib.Core.Path.{_≡_};
 ghost use Prim.Native.Nat.{_≤_, _<_};
@@ -48,7 +50,7 @@ fn wrong_word(s: &[u8], from: usize, i: usize, e: usize) -> Fault
 }
 
 // A word as content.
-fn body_word(s: &[u8], from: usize, i: usize, names: &[u32; 192], table: &[u8; 9506]) -> BodyRead
+fn body_word(s: &[u8], from: usize, i: usize, names: &[u32; NAMES], table: &[u8; MODEL]) -> BodyRead
     requires { ⌜ (i ≤ length (now s)) × (length (now s) ≤ 32768) ⌝ }
     ensures { λ r. ⌜ MeetsBody (length (now (s .entry))) (now (names .entry)) (now (table .entry)) r (contentWord (now (s .entry)) from i) ⌝ }
 {
@@ -74,7 +76,7 @@ fn body_word(s: &[u8], from: usize, i: usize, names: &[u32; 192], table: &[u8; 9
 }
 
 // A model group as content, with its names and its table.
-fn body_model(s: &[u8], i: usize, names: &mut [u32; 192], table: &mut [u8; 9506]) -> BodyRead
+fn body_model(s: &[u8], i: usize, names: &mut [u32; NAMES], table: &mut [u8; MODEL]) -> BodyRead
     requires { ⌜ (i < length (now s)) × (length (now s) ≤ 32768) ⌝ }
     ensures { λ r. ⌜ MeetsBody (length (now (s .entry))) (now (names .exit)) (now (table .exit)) r (contentModel (now (s .entry)) i) ⌝ }
 {
@@ -99,8 +101,8 @@ pub fn body_at(
     s: &[u8],
     from: usize,
     i: usize,
-    names: &mut [u32; 192],
-    table: &mut [u8; 9506],
+    names: &mut [u32; NAMES],
+    table: &mut [u8; MODEL],
 ) -> BodyRead
     requires { ⌜ (i ≤ length (now s)) × (length (now s) ≤ 32768) ⌝ }
     ensures { λ r. ⌜ MeetsBody (length (now (s .entry))) (now (names .exit)) (now (table .exit)) r (content (now (s .entry)) from i) ⌝ }

@@ -1,4 +1,5 @@
 // The head of an element declaration: its name and the two words of omitted tag minimization.
+use layout::RECORDS;
 use text::Fault;
 use text::Reached;
 ghost use mathlib.Core.Path.{_≡_};
@@ -71,7 +72,7 @@ fn omission_at(s: &[u8], from: usize, i: usize) -> Omission
 }
 
 // From the end of the keyword to the second word.
-pub fn head_at(s: &[u8], at: usize, elements: &[u32; 384], count: usize) -> HeadRead
+pub fn head_at(s: &[u8], at: usize, elements: &[u32; RECORDS], count: usize) -> HeadRead
     requires { ⌜ (at ≤ length (now s)) × (length (now s) ≤ 32768) × (count ≤ 64) ⌝ }
     ensures { λ r. ⌜ ((es : List rules.Element) → length es ≡ count → Recorded (now (elements .entry)) es →
         headOf r ≡ head (now (s .entry)) at es) ⌝ }

@@ -16,6 +16,7 @@ use Rattle.rules.specs.TypeFile.{Element}
 use Rattle.rules.specs.Judge.{Accepts}
 use Rattle.rules.specs.Elements.{elementAt, isNamed, numberFrom, numberOf}
 use Rattle.rules.specs.Lookup.{isAlike, compared}
+use Rattle.layout.specs.Sizes.{INDEX}
 use Rattle.model_sets.specs.Bits.{or-left, or-right, or-cases, and-left, and-right, and-both, not-true, not-both, bool-cases}
 use Rattle.text.specs.Laws.{sameText-first}
 use Rattle.rules_laws.specs.Within.{typeFile-count}
@@ -384,22 +385,22 @@ module _ {s : List ℕ} {es : List Element} {elements index : List ℕ} (t : Lis
 
 -- The elements above k are indexed.
 pub record Filled (s : List ℕ) (es : List Element) (index : List ℕ) (k : ℕ) : Type 0 where
-  pub len : length index ≡ 321
+  pub len : length index ≡ INDEX
   pub smallest : (b : ℕ) → b < 256 → getD index (65 + b) 0 ≡ nextFrom (isIn s es b) (length es - k) k
   pub larger : (b j : ℕ) → k < j → j ≤ length es → isIn s es b j ≡ true → getD index j 0 ≡ nextFrom (isIn s es b) (length es - j) j
   pub spare : (j : ℕ) → j ≤ k → j ≤ 64 → getD index j 0 ≡ 0
   pub behind : (j : ℕ) → length es < j → j ≤ 64 → getD index j 0 ≡ 0
 
-pub filled-none : (s : List ℕ) (es : List Element) (index : List ℕ) (k : ℕ) → length es ≡ k → index ≡ replicate 321 0 → Filled s es index k
+pub filled-none : (s : List ℕ) (es : List Element) (index : List ℕ) (k : ℕ) → length es ≡ k → index ≡ replicate INDEX 0 → Filled s es index k
 unfolding nextFrom
 filled-none s es index k n e =
     let z : length es - k ≡ 0 = omega arith in
     record {
-      len = rw e (length-replicate {A = ℕ} 321 0);
-      smallest = λ b h. rw (e, z) (getD-replicate 321 (65 + b) 0 0 (omega arith));
+      len = rw e (length-replicate {A = ℕ} INDEX 0);
+      smallest = λ b h. rw (e, z) (getD-replicate INDEX (65 + b) 0 0 (omega arith));
       larger = λ b j l h x. absurd (omega arith);
-      spare = λ j l h. rw e (getD-replicate 321 j 0 0 (omega arith));
-      behind = λ j l h. rw e (getD-replicate 321 j 0 0 (omega arith));
+      spare = λ j l h. rw e (getD-replicate INDEX j 0 0 (omega arith));
+      behind = λ j l h. rw e (getD-replicate INDEX j 0 0 (omega arith));
     }
 
 putIn-length : (index : List ℕ) (b k : ℕ) → length (putIn index b k) ≡ length index
@@ -411,7 +412,7 @@ pub put-read : (index s : List ℕ) (k to first size at A Z : ℕ) → to ≡ 65
 put-read index s k to first size at A Z b f a z = rw (b, f, a, z)
 
 -- The index after an element is put into it: at the bucket, at the element, and elsewhere.
-module _ (index : List ℕ) (len : length index ≡ 321) (b k : ℕ) (in-range : b < 256) (few : k ≤ 64) where
+module _ (index : List ℕ) (len : length index ≡ INDEX) (b k : ℕ) (in-range : b < 256) (few : k ≤ 64) where
   put-bucket : getD (putIn index b k) (65 + b) 0 ≡ k
   put-bucket =
       let l = length-set index k (getD index (65 + b) 0) in

@@ -2,6 +2,8 @@
 //
 // `index`: number k is the next larger element whose name has the same length and first letter as that of k, or 0.
 // Number 65 + b is the smallest element of the bucket b. `elements` are the records of the type's elements.
+use layout::INDEX;
+use layout::RECORDS;
 ghost use mathlib.Core.Path.{_≡_};
 ghost use mathlib.Core.List.{List};
 ghost use Prim.Native.Nat.{_+_, _-_, _*_, _≤_, _<_};
@@ -11,19 +13,20 @@ ghost use Rattle.rules.specs.TypeFile.{Element};
 ghost use Rattle.rules.specs.Judge.{Accepts};
 ghost use Rattle.rules.specs.Elements.{numberOf};
 ghost use Rattle.rules.specs.Lookup.{compared};
+ghost use Rattle.layout.specs.Sizes.{INDEX};
 ghost use Rattle.element_reader.specs.Means.{Recorded};
 ghost use Rattle.element_index.specs.Means.{Judged, bucketOf, follows, Indexed, putIn};
 
 // The bucket of a name by its first byte and its length, 1 to 8. Letters that fold to one another are in the same.
 fn bucket(first: u8, size: usize) -> usize
     requires { ⌜ (1 ≤ size) × (size ≤ 8) ⌝ }
-    ensures { λ r. ⌜ (r ≡ 65 + bucketOf first size) × (r < 321) ⌝ }
+    ensures { λ r. ⌜ (r ≡ 65 + bucketOf first size) × (r < INDEX) ⌝ }
 {
     65 + (size - 1) * 32 + numbers::wide(first % 32)
 }
 
 // Where the name of the element k stands in the type file.
-pub fn offset(elements: &[u32; 384], k: usize) -> usize
+pub fn offset(elements: &[u32; RECORDS], k: usize) -> usize
     requires { ⌜ (1 ≤ k) × (k ≤ 64) ⌝ }
     ensures { λ r. ⌜ (r ≡ getD (now (elements .entry)) (6 * (k - 1)) 0) × (r < 4294967296) ⌝ }
 {
@@ -58,7 +61,7 @@ pub struct Found {
 
 // Whether the element k comes behind the one before it, and a name of this size stands in s where its record says. In the index of a type
 // it does. Where the tables hold anything else, a search still ends and stays within them.
-fn comes_next(s: &[u8], elements: &[u32; 384], before: usize, k: usize, size: usize) -> bool
+fn comes_next(s: &[u8], elements: &[u32; RECORDS], before: usize, k: usize, size: usize) -> bool
     requires { ⌜ size ≤ 8 ⌝ }
     ensures { λ r. ⌜ r ≡ follows (now (s .entry)) (now (elements .entry)) before k size ⌝ }
 {
@@ -75,8 +78,8 @@ fn comes_next(s: &[u8], elements: &[u32; 384], before: usize, k: usize, size: us
 // letter are compared, in declaration order, up to the one that is found.
 pub fn find(
     s: &[u8],
-    elements: &[u32; 384],
-    index: &[u8; 321],
+    elements: &[u32; RECORDS],
+    index: &[u8; INDEX],
     t: &[u8],
     at: usize,
     size: usize,
@@ -114,7 +117,7 @@ pub fn find(
 }
 
 // The element k comes before those of its bucket that are there.
-fn put_index(s: &[u8], elements: &[u32; 384], index: &mut [u8; 321], k: usize)
+fn put_index(s: &[u8], elements: &[u32; RECORDS], index: &mut [u8; INDEX], k: usize)
     requires { ⌜ (1 ≤ k) × (k ≤ 64) × (1 ≤ getD (now elements) (6 * (k - 1) + 1) 0) × (getD (now elements) (6 * (k - 1) + 1) 0 ≤ 8) ⌝ }
     ensures { λ _. ⌜ now (index .exit) ≡ putIn (now (index .entry))
         (bucketOf (byteAt (now (s .entry)) (getD (now (elements .entry)) (6 * (k - 1)) 0)) (getD (now (elements .entry)) (6 * (k - 1) + 1) 0)) k ⌝ }
@@ -126,9 +129,9 @@ fn put_index(s: &[u8], elements: &[u32; 384], index: &mut [u8; 321], k: usize)
 }
 
 // Fills the index, which is all 0, with the elements of an accepted type.
-pub fn fill_index(s: &[u8], elements: &[u32; 384], count: usize, index: &mut [u8; 321])
+pub fn fill_index(s: &[u8], elements: &[u32; RECORDS], count: usize, index: &mut [u8; INDEX])
     requires { ⌜ Judged (now s) (now elements) count ⌝ }
-    requires { ⌜ now index ≡ replicate 321 0 ⌝ }
+    requires { ⌜ now index ≡ replicate INDEX 0 ⌝ }
     ensures { λ _. ⌜ ((es : List Element) → Accepts (now (s .entry)) es → length es ≡ count →
         Recorded (now (elements .entry)) es → Indexed (now (s .entry)) es (now (elements .entry)) (now (index .exit))) ⌝ }
 {

@@ -1,4 +1,5 @@
 // The name of an element that is declared: at most 8 bytes long, declared for the first time, and at most the 64th.
+use layout::RECORDS;
 use text::Fault;
 use text::Reached;
 ghost use mathlib.Core.Path.{_≡_};
@@ -17,7 +18,7 @@ fn widened(x: u32) -> usize
 }
 
 // A number of the table of elements.
-fn number(elements: &[u32; 384], k: usize) -> usize
+fn number(elements: &[u32; RECORDS], k: usize) -> usize
     requires { ⌜ k < 384 ⌝ }
     ensures { λ r. ⌜ (r ≡ getD (now (elements .entry)) k 0) × (r < 4294967296) ⌝ }
 {
@@ -25,7 +26,7 @@ fn number(elements: &[u32; 384], k: usize) -> usize
 }
 
 // Whether one of the first `count` records has the name of this size at `at`.
-fn declared(s: &[u8], elements: &[u32; 384], count: usize, at: usize, size: usize) -> bool
+fn declared(s: &[u8], elements: &[u32; RECORDS], count: usize, at: usize, size: usize) -> bool
     requires { ⌜ (count ≤ 64) × (at < 4294967296) × (size < 4294967296) ⌝ }
     ensures { λ r. ⌜ ((es : List rules.Element) → length es ≡ count → Recorded (now (elements .entry)) es →
         r ≡ isDeclared (now (s .entry)) es at size) ⌝ }
@@ -43,7 +44,7 @@ fn declared(s: &[u8], elements: &[u32; 384], count: usize, at: usize, size: usiz
 }
 
 // The name of the element, declared for the first time, at most the 64th.
-pub fn element_name(s: &[u8], i: usize, elements: &[u32; 384], count: usize) -> Reached
+pub fn element_name(s: &[u8], i: usize, elements: &[u32; RECORDS], count: usize) -> Reached
     requires { ⌜ (i ≤ length (now s)) × (length (now s) ≤ 32768) × (count ≤ 64) ⌝ }
     ensures { λ r. ⌜ ((es : List rules.Element) → length es ≡ count → Recorded (now (elements .entry)) es →
         reached r ≡ elementName (now (s .entry)) i es) ⌝ }

@@ -2,6 +2,9 @@
 use element_content::BodyRead;
 use element_head::Head;
 use element_head::HeadRead;
+use layout::MODEL;
+use layout::NAMES;
+use layout::RECORDS;
 use text::Fault;
 use text::Reached;
 ghost use mathlib.Core.Path.{_≡_};
@@ -60,7 +63,7 @@ fn close_at(s: &[u8], i: usize) -> Reached
 }
 
 // What follows the two words: the content and the end, of an element whose head is h.
-fn rest_at(s: &[u8], h: Head, names: &mut [u32; 192], table: &mut [u8; 9506]) -> ElementRead
+fn rest_at(s: &[u8], h: Head, names: &mut [u32; NAMES], table: &mut [u8; MODEL]) -> ElementRead
     requires { ⌜ (h .at ≤ length (now s)) × (length (now s) ≤ 32768) × (h .offset ≤ length (now s)) × (h .size ≤ 8) ⌝ }
     ensures { λ r. ⌜ ((es : List rules.Element) → MeetsElement (length (now (s .entry))) (h .at) (now (names .exit)) (now (table .exit)) es r
         (rest (now (s .entry)) es (headIn h))) ⌝ }
@@ -99,10 +102,10 @@ fn rest_at(s: &[u8], h: Head, names: &mut [u32; 192], table: &mut [u8; 9506]) ->
 pub fn element_at(
     s: &[u8],
     at: usize,
-    elements: &[u32; 384],
+    elements: &[u32; RECORDS],
     count: usize,
-    names: &mut [u32; 192],
-    table: &mut [u8; 9506],
+    names: &mut [u32; NAMES],
+    table: &mut [u8; MODEL],
 ) -> ElementRead
     requires { ⌜ (at ≤ length (now s)) × (length (now s) ≤ 32768) × (count ≤ 64) ⌝ }
     ensures { λ r. ⌜ ((es : List rules.Element) → length es ≡ count → Recorded (now (elements .entry)) es →

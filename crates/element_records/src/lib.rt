@@ -1,6 +1,9 @@
 // The elements of a type file as they are read: each is recorded in the table of elements, and the first pair at fault is kept.
 use element_reader::Element;
 use element_reader::ElementRead;
+use layout::MODEL;
+use layout::NAMES;
+use layout::RECORDS;
 use text::Fault;
 ghost use mathlib.Core.Path.{_≡_};
 ghost use mathlib.Core.List.{List, _++_};
@@ -40,12 +43,12 @@ pub fn fault_of(r: Step) -> Fault
 }
 
 // The table has as many numbers as its type says. Nothing is read of the copy, so no code is left of a call.
-pub fn whole(elements: [u32; 384])
+pub fn whole(elements: [u32; RECORDS])
     ensures { λ _. ⌜ length elements ≡ 384 ⌝ }
 {}
 
 // The record of the element that was declared after k others.
-fn put_record(elements: &mut [u32; 384], k: usize, e: Element)
+fn put_record(elements: &mut [u32; RECORDS], k: usize, e: Element)
     requires { ⌜ (k < 64) × (e .offset < 4294967296) × (e .size < 4294967296) × (e .tokens < 4294967296) ⌝ }
     ensures { λ _. ⌜ take (6 * (k + 1)) (now (elements .exit)) ≡ take (6 * k) (now (elements .entry)) ++ numbersOf e ⌝ }
 {
@@ -59,7 +62,7 @@ fn put_record(elements: &mut [u32; 384], k: usize, e: Element)
 }
 
 // The first pair at fault so far, where the element e, read last, has its model in `names` and `table`.
-fn clash_with(s: &[u8], c: Clash, e: Element, names: &[u32; 192], table: &[u8; 9506]) -> Clash
+fn clash_with(s: &[u8], c: Clash, e: Element, names: &[u32; NAMES], table: &[u8; MODEL]) -> Clash
     requires { ⌜ ((e .kind ≡ 0 → ⊥) → e .places ≤ 96) ⌝ }
     ensures { λ r. ⌜ ((es : List rules.Element) (x : rules.Content) → Pending (now (s .entry)) c es →
         KeepsContent (now (names .entry)) (now (table .entry)) (e .kind) (e .tokens) (e .places) x → PendingWith (now (s .entry)) r es x) ⌝ }
@@ -90,9 +93,9 @@ pub fn element_at(
     s: &[u8],
     at: usize,
     p: Progress,
-    elements: &mut [u32; 384],
-    names: &mut [u32; 192],
-    table: &mut [u8; 9506],
+    elements: &mut [u32; RECORDS],
+    names: &mut [u32; NAMES],
+    table: &mut [u8; MODEL],
 ) -> Step
     requires { ⌜ (at ≤ length (now s)) × (length (now s) ≤ 32768) ⌝ }
     requires { ⌜ InProgress (now s) (now elements) p ⌝ }

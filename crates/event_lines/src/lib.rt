@@ -1,4 +1,5 @@
 // The text of events and of a refusal, put into a buffer word by word.
+use layout::RECORDS;
 ghost use mathlib.Core.Path.{_≡_};
 ghost use Prim.Native.Nat.{_+_, _*_, _≤_, _<_};
 ghost use lib.ListN.{length, take};
@@ -7,7 +8,7 @@ ghost use Rattle.event_lines.specs.Printed.{refusedText};
 ghost use Rattle.event_lines.specs.Means.{Fits, nameIn, lineAt, linesFrom, textOf};
 
 // The name of the element with the number x, `-` for 0, and a space after it.
-fn put_name(out: &mut [u8], at: usize, s: &[u8], elements: &[u32; 384], x: u32) -> usize
+fn put_name(out: &mut [u8], at: usize, s: &[u8], elements: &[u32; RECORDS], x: u32) -> usize
     requires { ⌜ (at + 9 ≤ length (now out)) × Fits (now s) (now elements) ⌝ }
     ensures { λ r. ⌜ Adds (now (out .entry)) at (now (out .exit)) r (word (nameIn (now (s .entry)) (now (elements .entry)) x) 32) × (r ≤ at + 9) ⌝ }
 {
@@ -31,7 +32,7 @@ fn put_event(
     out: &mut [u8],
     at: usize,
     s: &[u8],
-    elements: &[u32; 384],
+    elements: &[u32; RECORDS],
     numbers: &[u32; 16384],
     i: usize,
 ) -> usize
@@ -49,7 +50,7 @@ fn put_lines(
     out: &mut [u8],
     at: usize,
     s: &[u8],
-    elements: &[u32; 384],
+    elements: &[u32; RECORDS],
     numbers: &[u32; 16384],
     n: usize,
 ) -> usize
@@ -69,7 +70,7 @@ fn put_lines(
 pub fn put_events(
     out: &mut [u8],
     s: &[u8],
-    elements: &[u32; 384],
+    elements: &[u32; RECORDS],
     numbers: &[u32; 16384],
     n: usize,
 ) -> usize

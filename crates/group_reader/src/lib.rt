@@ -1,6 +1,8 @@
 // The recursive reader of model groups: bytes in, the model's places and its table out.
 use content_tokens::Model;
 use content_tokens::ModelRead;
+use layout::MODEL;
+use layout::NAMES;
 use text::Fault;
 ghost use mathlib.Core.Path.{_≡_};
 ghost use mathlib.Core.Bool.{false};
@@ -27,8 +29,8 @@ fn token_at(
     full: bool,
     places: usize,
     tokens: usize,
-    names: &mut [u32; 192],
-    table: &mut [u8; 9506],
+    names: &mut [u32; NAMES],
+    table: &mut [u8; MODEL],
 ) -> ModelRead
     requires { ⌜ (at ≤ length (now s)) × (length (now s) ≤ 32768) ⌝ }
     requires { ⌜ (places ≤ tokens) × (full ≡ false → tokens < 96) ⌝ }
@@ -66,8 +68,8 @@ fn next_at(
     k: usize,
     c: u8,
     m: Model,
-    names: &mut [u32; 192],
-    table: &mut [u8; 9506],
+    names: &mut [u32; NAMES],
+    table: &mut [u8; MODEL],
 ) -> Next
     requires { ⌜ (m .at ≤ length (now s)) × (length (now s) ≤ 32768) ⌝ }
     requires { ⌜ (m .places ≤ m .tokens) × (m .tokens ≤ 96) ⌝ }
@@ -111,8 +113,8 @@ pub fn group_at(
     levels: usize,
     places: usize,
     tokens: usize,
-    names: &mut [u32; 192],
-    table: &mut [u8; 9506],
+    names: &mut [u32; NAMES],
+    table: &mut [u8; MODEL],
 ) -> ModelRead
     requires { ⌜ (at < length (now s)) × (length (now s) ≤ 32768) ⌝ }
     requires { ⌜ (places ≤ tokens) × (tokens ≤ 96) ⌝ }

@@ -4,11 +4,12 @@ use mathlib.Core.Bool.{cond}
 use mathlib.Core.List.{List}
 use lib.ListN.{getD, set}
 use lib.Dec.{eqb}
+use Rattle.layout.specs.Sizes.{MODEL-ROW}
 use Rattle.model_links.specs.Each.{each}
 
 -- p may come after u if it can begin the group
 unfoldable pub linkCell : ℕ → List ℕ → ℕ → List ℕ
-linkCell u T p = cond (eqb (getD T p 0) 1) (set T (u * 98 + p) 1) T
+linkCell u T p = cond (eqb (getD T p 0) 1) (set T (u * MODEL-ROW + p) 1) T
 
 -- so for each place of [c, d)
 abbrev pub linkRow : List ℕ → ℕ → ℕ → ℕ → List ℕ
@@ -16,7 +17,7 @@ linkRow T u c d = each (linkCell u) T c d
 
 -- if u can end its group
 unfoldable pub linkFrom : ℕ → ℕ → List ℕ → ℕ → List ℕ
-linkFrom c d T u = cond (eqb (getD T (u * 98) 0) 1) (linkRow T u c d) T
+linkFrom c d T u = cond (eqb (getD T (u * MODEL-ROW) 0) 1) (linkRow T u c d) T
 
 -- after each place in [a, b) that can end its group, each in [c, d) that can begin its own
 abbrev pub link : List ℕ → ℕ → ℕ → ℕ → ℕ → List ℕ
@@ -24,7 +25,7 @@ link T a b c d = each (linkFrom c d) T a b
 
 -- u can no longer end its group: the place r is required after it
 unfoldable pub settleRow : ℕ → List ℕ → ℕ → List ℕ
-settleRow r T u = cond (eqb (getD T (u * 98) 0) 1) (set (set T (u * 98) 0) (u * 98 + 97) r) T
+settleRow r T u = cond (eqb (getD T (u * MODEL-ROW) 0) 1) (set (set T (u * MODEL-ROW) 0) (u * MODEL-ROW + 97) r) T
 
 abbrev pub settle : List ℕ → ℕ → ℕ → ℕ → List ℕ
 settle T lo mid r = each (settleRow r) T lo mid

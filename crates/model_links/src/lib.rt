@@ -2,23 +2,26 @@
 //
 // The layout is that of the crate model_table: 97 rows of 98 numbers, row 0 with the places that can begin a group, column 0 with those
 // that can end one, the last column with the required place.
+use layout::MODEL;
+use layout::MODEL_ROW;
+use layout::POSITIONS;
 ghost use mathlib.Core.Path.{_≡_};
 ghost use Prim.Native.Nat.{_≤_, _<_};
 ghost use Rattle.model_links.specs.Links.{linkCell, linkRow, linkFrom, link, settleRow, settle, unbegin};
 
 // p may come after u if it can begin the group.
-fn link_cell(table: &mut [u8; 9506], u: usize, p: usize)
+fn link_cell(table: &mut [u8; MODEL], u: usize, p: usize)
     requires { ⌜ u < 97 ⌝ }
     requires { ⌜ p < 97 ⌝ }
     ensures { λ _. ⌜ now (table .exit) ≡ linkCell u (now (table .entry)) p ⌝ }
 {
     if table[p] == 1 {
-        table[u * 98 + p] = 1;
+        table[u * MODEL_ROW + p] = 1;
     }
 }
 
 // So for each place of [c, d).
-fn link_row(table: &mut [u8; 9506], u: usize, c: usize, d: usize)
+fn link_row(table: &mut [u8; MODEL], u: usize, c: usize, d: usize)
     requires { ⌜ u < 97 ⌝ }
     requires { ⌜ d ≤ 97 ⌝ }
     ensures { λ _. ⌜ now (table .exit) ≡ linkRow (now (table .entry)) u c d ⌝ }
@@ -29,18 +32,18 @@ fn link_row(table: &mut [u8; 9506], u: usize, c: usize, d: usize)
 }
 
 // If u can end its group.
-fn link_from(table: &mut [u8; 9506], u: usize, c: usize, d: usize)
+fn link_from(table: &mut [u8; MODEL], u: usize, c: usize, d: usize)
     requires { ⌜ u < 97 ⌝ }
     requires { ⌜ d ≤ 97 ⌝ }
     ensures { λ _. ⌜ now (table .exit) ≡ linkFrom c d (now (table .entry)) u ⌝ }
 {
-    if table[u * 98] == 1 {
+    if table[u * MODEL_ROW] == 1 {
         link_row(table, u, c, d);
     }
 }
 
 // After each place of [a, b) that can end its group, each of [c, d) that can begin its own.
-pub fn link(table: &mut [u8; 9506], a: usize, b: usize, c: usize, d: usize)
+pub fn link(table: &mut [u8; MODEL], a: usize, b: usize, c: usize, d: usize)
     requires { ⌜ b ≤ 97 ⌝ }
     requires { ⌜ d ≤ 97 ⌝ }
     ensures { λ _. ⌜ now (table .exit) ≡ link (now (table .entry)) a b c d ⌝ }
@@ -51,18 +54,18 @@ pub fn link(table: &mut [u8; 9506], a: usize, b: usize, c: usize, d: usize)
 }
 
 // u can no longer end its group: what is required comes after it.
-fn settle_row(table: &mut [u8; 9506], u: usize, required: u8)
+fn settle_row(table: &mut [u8; MODEL], u: usize, required: u8)
     requires { ⌜ u < 97 ⌝ }
     ensures { λ _. ⌜ now (table .exit) ≡ settleRow required (now (table .entry)) u ⌝ }
 {
-    if table[u * 98] == 1 {
-        table[u * 98] = 0;
-        table[u * 98 + 97] = required;
+    if table[u * MODEL_ROW] == 1 {
+        table[u * MODEL_ROW] = 0;
+        table[u * MODEL_ROW + POSITIONS] = required;
     }
 }
 
 // So each place of [lo, mid) that can end its group.
-pub fn settle(table: &mut [u8; 9506], lo: usize, mid: usize, required: u8)
+pub fn settle(table: &mut [u8; MODEL], lo: usize, mid: usize, required: u8)
     requires { ⌜ mid ≤ 97 ⌝ }
     ensures { λ _. ⌜ now (table .exit) ≡ settle (now (table .entry)) lo mid required ⌝ }
 {
@@ -72,7 +75,7 @@ pub fn settle(table: &mut [u8; 9506], lo: usize, mid: usize, required: u8)
 }
 
 // No place of [mid, hi) can begin any more.
-pub fn unbegin(table: &mut [u8; 9506], mid: usize, hi: usize)
+pub fn unbegin(table: &mut [u8; MODEL], mid: usize, hi: usize)
     requires { ⌜ hi ≤ 97 ⌝ }
     ensures { λ _. ⌜ now (table .exit) ≡ unbegin (now (table .entry)) mid hi ⌝ }
 {

@@ -10,6 +10,7 @@ use borrow.Author.Count.{below-more}
 use lib.ListN.{length, getD, set, replicate, length-set}
 use lib.Seq.{getD-set-same, getD-set-other}
 use Rattle.rules.specs.Judge.{samePlace}
+use Rattle.layout.specs.Sizes.{MODEL-ROW}
 use Rattle.model_sets.specs.Bits.{not-true, and-left}
 use Rattle.model_sets.specs.Search.{findFrom, pairOr, pairFrom, searchPair}
 use Rattle.model_sets.specs.Pairs.{clashIn}
@@ -84,14 +85,14 @@ module _ (next : ℕ → ℕ → Bool) (p u : ℕ) (set : List Bool) (b : Beside
 -- The row is copied below i.
 pub record Copied (table : List ℕ) (u : ℕ) (row : List ℕ) (i : ℕ) : Type 0 where
   pub len : length row ≡ 97
-  pub same : (q : ℕ) → q < i → getD row q 0 ≡ getD table (u * 98 + q) 0
+  pub same : (q : ℕ) → q < i → getD row q 0 ≡ getD table (u * MODEL-ROW + q) 0
 
-pub copied-one : (table : List ℕ) (u : ℕ) (row : List ℕ) (i v : ℕ) → Copied table u row i → i < 97 → v ≡ getD table (u * 98 + i) 0 → Copied table u (set row i v) (i + 1)
+pub copied-one : (table : List ℕ) (u : ℕ) (row : List ℕ) (i v : ℕ) → Copied table u row i → i < 97 → v ≡ getD table (u * MODEL-ROW + i) 0 → Copied table u (set row i v) (i + 1)
 copied-one table u row i v a h e =
     record {
       len = length-set row i v ∙ a .len;
       same =
-          below-more (λ (q : ℕ). getD (set row i v) q 0 ≡ getD table (u * 98 + q) 0) i
+          below-more (λ (q : ℕ). getD (set row i v) q 0 ≡ getD table (u * MODEL-ROW + q) 0) i
           (λ q l. getD-set-other row i q v 0 (omega arith) ∙ a .same q l)
           (getD-set-same row i v 0 (omega (arith, a .len)) ∙ e);
     }

@@ -5,6 +5,7 @@ use mathlib.Core.List.{List}
 use lib.ListN.{getD}
 use lib.Dec.{eqb}
 use Rattle.rules.specs.Judge.{samePlace}
+use Rattle.layout.specs.Sizes.{MODEL-ROW}
 use Rattle.model_sets.specs.Pairs.{clashIn}
 use Rattle.model_names.specs.Places.{placesOf}
 
@@ -14,7 +15,7 @@ isNext x = eqb x 1
 
 -- p may come next after u, or at the start where u is 0
 abbrev pub rowIn : List ℕ → ℕ → ℕ → Bool
-rowIn table u p = isNext (getD table (u * 98 + p) 0)
+rowIn table u p = isNext (getD table (u * MODEL-ROW + p) 0)
 
 -- the places p and q have the same name, and both may come next after one place or at the start
 unfoldable pub faultIn : List ℕ → List ℕ → List ℕ → ℕ → ℕ → ℕ → Bool

@@ -1,8 +1,13 @@
 // The first pair of places at fault in a content model.
+use layout::MODEL;
+use layout::MODEL_ROW;
+use layout::NAMES;
+use layout::POSITIONS;
 ghost use mathlib.Core.Path.{_≡_};
 ghost use mathlib.Core.Bool.{false, _||_};
 ghost use Prim.Native.Nat.{ℕ, suc, _+_, _-_, _*_, _≤_, _<_};
 ghost use lib.ListN.{getD};
+ghost use Rattle.layout.specs.Sizes.{MODEL-ROW};
 ghost use Rattle.model_sets.specs.Search.{findFrom, searchPair};
 ghost use Rattle.model_sets.specs.Pairs.{clashIn};
 ghost use Rattle.model_names.specs.Places.{placeIn, keyOf};
@@ -15,26 +20,26 @@ pub struct Pair {
 }
 
 // The places that may come next after u, or at the start where u is 0: 1 at their numbers.
-fn next_after(table: &[u8; 9506], u: usize) -> [u8; 97]
+fn next_after(table: &[u8; MODEL], u: usize) -> [u8; POSITIONS]
     requires { ⌜ u ≤ 96 ⌝ }
-    ensures { λ r. ⌜ ((q : ℕ) → q < 97 → getD r q 0 ≡ getD (now (table .entry)) (u * 98 + q) 0) ⌝ }
+    ensures { λ r. ⌜ ((q : ℕ) → q < 97 → getD r q 0 ≡ getD (now (table .entry)) (u * MODEL-ROW + q) 0) ⌝ }
 {
-    let mut next = [0u8; 97];
+    let mut next = [0u8; POSITIONS];
     let mut q = 0;
-    while q < 97 {
-        next[q] = table[u * 98 + q];
+    while q < POSITIONS {
+        next[q] = table[u * MODEL_ROW + q];
         q += 1;
     }
     next
 }
 
 // The set with those places.
-fn with_next(next: [u8; 97], set: [bool; 97]) -> [bool; 97]
+fn with_next(next: [u8; POSITIONS], set: [bool; POSITIONS]) -> [bool; POSITIONS]
     ensures { λ r. ⌜ ((q : ℕ) → q < 97 → getD r q false ≡ getD set q false || isNext (getD next q 0)) ⌝ }
 {
     let mut more = set;
     let mut q = 0;
-    while q < 97 {
+    while q < POSITIONS {
         if next[q] == 1 {
             more[q] = true;
         }
@@ -44,14 +49,14 @@ fn with_next(next: [u8; 97], set: [bool; 97]) -> [bool; 97]
 }
 
 // The places that may come next somewhere where p may, in a model with n places.
-fn beside(table: &[u8; 9506], n: usize, p: usize) -> [bool; 97]
+fn beside(table: &[u8; MODEL], n: usize, p: usize) -> [bool; POSITIONS]
     requires { ⌜ (n ≤ 96) × (p ≤ 96) ⌝ }
     ensures { λ r. ⌜ ((q : ℕ) → q < 97 → getD r q false ≡ clashIn (rowIn (now (table .entry))) n p q) ⌝ }
 {
-    let mut set = [false; 97];
+    let mut set = [false; POSITIONS];
     let mut u = 0;
     while u <= n {
-        if table[u * 98 + p] == 1 {
+        if table[u * MODEL_ROW + p] == 1 {
             let next = next_after(table, u);
             let more = with_next(next, set);
             set = more;
@@ -64,9 +69,9 @@ fn beside(table: &[u8; 9506], n: usize, p: usize) -> [bool; 97]
 // The first place after p that is at fault with it, 0 if there is none.
 fn partner(
     s: &[u8],
-    names: &[u32; 192],
-    table: &[u8; 9506],
-    keys: &[u32; 97],
+    names: &[u32; NAMES],
+    table: &[u8; MODEL],
+    keys: &[u32; POSITIONS],
     n: usize,
     p: usize,
 ) -> usize
@@ -92,7 +97,7 @@ fn partner(
 }
 
 // The model's first pair at fault: s is the type file, `names` and `table` are those of the model, n is how many places it has.
-pub fn first_pair(s: &[u8], names: &[u32; 192], table: &[u8; 9506], n: usize) -> Pair
+pub fn first_pair(s: &[u8], names: &[u32; NAMES], table: &[u8; MODEL], n: usize) -> Pair
     requires { ⌜ n ≤ 96 ⌝ }
     ensures { λ r. ⌜ (r .first, r .second) ≡ searchPair (faultIn (now (s .entry)) (now (names .entry)) (now (table .entry)) n) n ⌝ }
 {

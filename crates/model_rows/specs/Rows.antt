@@ -10,6 +10,7 @@ use lib.Dec.{eqb}
 use borrow.Author.Count.{below-more}
 use Rattle.rules.specs.Walk.{Group}
 use Rattle.rules.specs.TypeFile.{Place, Content, model}
+use Rattle.layout.specs.Sizes.{MODEL-ROW, ROWS}
 use Rattle.model_sets.specs.Sets.{size, Numbered, nextIn, completeIn}
 use Rattle.model_table.specs.Fill.{tableOf}
 use Rattle.model_links.specs.Cells.{below-or-from}
@@ -24,27 +25,27 @@ use Rattle.model_rows.specs.Bits.{cellOf, packedOf, flag-is, packed-bit,
 
 -- The row of the element e after the place u holds the row u of a model's table.
 pub record RowHas (table : List ℕ) (e u : ℕ) (S : List ℕ) : Type 0 where
-  pub bits : (j : ℕ) → j < 12 → getD S (rowAt e u + j) 0 ≡ packedOf table (u * 98 + 8 * j)
-  pub last : getD S (rowAt e u + 12) 0 ≡ cellOf table (u * 98 + 96)
-  pub required : getD S (rowAt e u + 13) 0 ≡ getD table (u * 98 + 97) 0
+  pub bits : (j : ℕ) → j < 12 → getD S (rowAt e u + j) 0 ≡ packedOf table (u * MODEL-ROW + 8 * j)
+  pub last : getD S (rowAt e u + 12) 0 ≡ cellOf table (u * MODEL-ROW + 96)
+  pub required : getD S (rowAt e u + 13) 0 ≡ getD table (u * MODEL-ROW + 97) 0
 
 -- The first j numbers of that row, and nothing else, are put into T.
 pub record BitsPut (table : List ℕ) (e u : ℕ) (T S : List ℕ) (j : ℕ) : Type 0 where
-  pub len : length S ≡ 88270
+  pub len : length S ≡ ROWS
   pub under : (k : ℕ) → k < rowAt e u → getD S k 0 ≡ getD T k 0
   pub over : (k : ℕ) → rowAt e u + j ≤ k → getD S k 0 ≡ getD T k 0
-  pub bits : (i : ℕ) → i < j → getD S (rowAt e u + i) 0 ≡ packedOf table (u * 98 + 8 * i)
+  pub bits : (i : ℕ) → i < j → getD S (rowAt e u + i) 0 ≡ packedOf table (u * MODEL-ROW + 8 * i)
 
 -- The row, and nothing else, is put into T.
 pub record RowPut (table : List ℕ) (e u : ℕ) (T S : List ℕ) : Type 0 where
-  pub len : length S ≡ 88270
+  pub len : length S ≡ ROWS
   pub under : (k : ℕ) → k < rowAt e u → getD S k 0 ≡ getD T k 0
   pub over : (k : ℕ) → rowAt e u + 14 ≤ k → getD S k 0 ≡ getD T k 0
   pub has : RowHas table e u S
 
 -- The first n rows of e, and nothing else, are put into T.
 pub record RowsPut (table : List ℕ) (e : ℕ) (T S : List ℕ) (n : ℕ) : Type 0 where
-  pub len : length S ≡ 88270
+  pub len : length S ≡ ROWS
   pub under : (k : ℕ) → k < rowAt e 0 → getD S k 0 ≡ getD T k 0
   pub over : (k : ℕ) → rowAt e n ≤ k → getD S k 0 ≡ getD T k 0
   pub has : (u : ℕ) → u < n → RowHas table e u S
@@ -59,10 +60,10 @@ row-has-still table e u T S same h =
     }
 
 module _ (table : List ℕ) (e u : ℕ) (T : List ℕ) (e-to : e ≤ 64) (u-to : u ≤ 96) where
-  pub bits-none : length T ≡ 88270 → BitsPut table e u T T 0
+  pub bits-none : length T ≡ ROWS → BitsPut table e u T T 0
   bits-none l = record { len = l; under = λ k h. refl; over = λ k h. refl; bits = λ i h. absurd (omega arith) }
 
-  pub bits-more : (S : List ℕ) (j at v : ℕ) → BitsPut table e u T S j → j < 12 → at ≡ rowAt e u + j → v ≡ packedOf table (u * 98 + 8 * j) → BitsPut table e u T (set S at v) (j + 1)
+  pub bits-more : (S : List ℕ) (j at v : ℕ) → BitsPut table e u T S j → j < 12 → at ≡ rowAt e u + j → v ≡ packedOf table (u * MODEL-ROW + 8 * j) → BitsPut table e u T (set S at v) (j + 1)
   bits-more S j at v h l w q =
       let m = h .len in
       record {
@@ -70,18 +71,18 @@ module _ (table : List ℕ) (e u : ℕ) (T : List ℕ) (e-to : e ≤ 64) (u-to :
         under = λ k lt. getD-set-other S at k v 0 (omega arith) ∙ h .under k lt;
         over = λ k le. getD-set-other S at k v 0 (omega arith) ∙ h .over k (omega arith);
         bits =
-            below-more (λ (i : ℕ). getD (set S at v) (rowAt e u + i) 0 ≡ packedOf table (u * 98 + 8 * i)) j
+            below-more (λ (i : ℕ). getD (set S at v) (rowAt e u + i) 0 ≡ packedOf table (u * MODEL-ROW + 8 * i)) j
             (λ i lt. getD-set-other S at (rowAt e u + i) v 0 (omega arith) ∙ h .bits i lt)
             (rw (← w) (getD-set-same S at v 0 (omega arith)) ∙ q);
       }
 
   -- The last two numbers are put.
-  pub row-put : (S : List ℕ) (i j a b : ℕ) → BitsPut table e u T S 12 → i ≡ rowAt e u + 12 → j ≡ rowAt e u + 13 → a ≡ cellOf table (u * 98 + 96) → b ≡ getD table (u * 98 + 97) 0
+  pub row-put : (S : List ℕ) (i j a b : ℕ) → BitsPut table e u T S 12 → i ≡ rowAt e u + 12 → j ≡ rowAt e u + 13 → a ≡ cellOf table (u * MODEL-ROW + 96) → b ≡ getD table (u * MODEL-ROW + 97) 0
       → RowPut table e u T (set (set S i a) j b)
   row-put S i j a b h w y p q =
       let m = h .len in
       let R : List ℕ = set S i a in
-      let n : length R ≡ 88270 = length-set S i a ∙ m in
+      let n : length R ≡ ROWS = length-set S i a ∙ m in
       let else : (k : ℕ) → (k ≡ i → ⊥) → (k ≡ j → ⊥) → getD (set R j b) k 0 ≡ getD S k 0 =
       λ k x y. getD-set-other R j k b 0 y ∙ getD-set-other S i k a 0 x in
       record {
@@ -96,7 +97,7 @@ module _ (table : List ℕ) (e u : ℕ) (T : List ℕ) (e-to : e ≤ 64) (u-to :
       }
 
 module _ (table : List ℕ) (e : ℕ) (T : List ℕ) where
-  pub rows-none : length T ≡ 88270 → RowsPut table e T T 0
+  pub rows-none : length T ≡ ROWS → RowsPut table e T T 0
   rows-none l = record { len = l; under = λ k h. refl; over = λ k h. refl; has = λ u h. absurd (omega arith) }
 
   pub rows-more : (R S : List ℕ) (u : ℕ) → RowsPut table e T R u → RowPut table e u R S → RowsPut table e T S (u + 1)
@@ -126,29 +127,29 @@ row-says-still c e u T S same h =
 
 module _ (table : List ℕ) (e u : ℕ) (S : List ℕ) (h : RowHas table e u S) where
   -- The bit p of the row is the number p of the table's row.
-  bit-at : (p : ℕ) → p ≤ 96 → bitOf (getD S (rowAt e u + p / 8) 0) (p % 8) ≡ eqb (getD table (u * 98 + p) 0) 1
+  bit-at : (p : ℕ) → p ≤ 96 → bitOf (getD S (rowAt e u + p / 8) 0) (p % 8) ≡ eqb (getD table (u * MODEL-ROW + p) 0) 1
   bit-at p l = ⊎-elim inside end (below-or-from (p / 8) 12)
     where
-      inside : p / 8 < 12 → bitOf (getD S (rowAt e u + p / 8) 0) (p % 8) ≡ eqb (getD table (u * 98 + p) 0) 1
+      inside : p / 8 < 12 → bitOf (getD S (rowAt e u + p / 8) 0) (p % 8) ≡ eqb (getD table (u * MODEL-ROW + p) 0) 1
       inside k =
-          let z : u * 98 + 8 * (p / 8) + p % 8 ≡ u * 98 + p = omega arith in
+          let z : u * MODEL-ROW + 8 * (p / 8) + p % 8 ≡ u * MODEL-ROW + p = omega arith in
           ap (λ (x : ℕ). bitOf x (p % 8)) (h .bits (p / 8) k)
-          ∙ packed-bit table (u * 98 + 8 * (p / 8)) (p % 8) (omega arith)
+          ∙ packed-bit table (u * MODEL-ROW + 8 * (p / 8)) (p % 8) (omega arith)
           ∙ ap (λ (i : ℕ). eqb (getD table i 0) 1) z
 
-      end : 12 ≤ p / 8 → bitOf (getD S (rowAt e u + p / 8) 0) (p % 8) ≡ eqb (getD table (u * 98 + p) 0) 1
+      end : 12 ≤ p / 8 → bitOf (getD S (rowAt e u + p / 8) 0) (p % 8) ≡ eqb (getD table (u * MODEL-ROW + p) 0) 1
       end k =
           let a : p / 8 ≡ 12 = omega arith in
           let b : p % 8 ≡ 0 = omega arith in
           let z : p ≡ 96 = omega arith in
-          rw (a, b, z) (single-bit table (u * 98 + 96) _ (h .last))
+          rw (a, b, z) (single-bit table (u * MODEL-ROW + 96) _ (h .last))
 
 -- A row of a model's table says what the walks of the model decide.
 pub row-says : (g : Group) (ps : List Place) (n e u : ℕ) (S : List ℕ) → Numbered g 1 → size g ≤ 96 → u ≤ size g → RowHas (tableOf g) e u S → RowSays (model g ps n) e u S
 unfolding isCompleteIn requiredOf
 row-says g ps n e u S numbered few l h =
     let t = table-says g numbered few in
-    let y : u * 98 + 0 ≡ u * 98 = omega arith in
+    let y : u * MODEL-ROW + 0 ≡ u * MODEL-ROW = omega arith in
     let z : rowAt e u + 0 / 8 ≡ rowAt e u = omega arith in
     record {
       next = λ p a b. bit-at (tableOf g) e u S h p b ∙ flag-is (nextIn g u p) _ (t .next u p l a b);

@@ -1,9 +1,15 @@
 // The rows of a model's table, put into the rows of a type as bits.
 //
 // The layout is that of the crate type_tables.
+use layout::MODEL;
+use layout::MODEL_ROW;
+use layout::POSITIONS;
+use layout::ROW;
+use layout::ROWS;
 ghost use mathlib.Core.Path.{_≡_};
 ghost use Prim.Native.Nat.{_+_, _*_, _≤_, _<_};
 ghost use lib.ListN.{length};
+ghost use Rattle.layout.specs.Sizes.{MODEL, ROWS};
 ghost use Rattle.type_tables.specs.Means.{rowAt};
 ghost use Rattle.model_rows.specs.Bits.{cellOf, packedOf};
 ghost use Rattle.model_rows.specs.Rows.{RowPut, RowsPut};
@@ -13,20 +19,20 @@ pub fn row(e: usize, u: usize) -> usize
     requires { ⌜ (e ≤ 64) × (u ≤ 96) ⌝ }
     ensures { λ r. ⌜ r ≡ rowAt e u ⌝ }
 {
-    (e * 97 + u) * 14
+    (e * POSITIONS + u) * ROW
 }
 
 // Whether a number of a model's table is 1, as 1 or 0.
-fn cell(table: &[u8; 9506], i: usize) -> u8
-    requires { ⌜ i < 9506 ⌝ }
+fn cell(table: &[u8; MODEL], i: usize) -> u8
+    requires { ⌜ i < MODEL ⌝ }
     ensures { λ r. ⌜ (r ≡ cellOf (now (table .entry)) i) × (r ≤ 1) ⌝ }
 {
     if table[i] == 1 { 1 } else { 0 }
 }
 
 // Eight numbers of a model's table as bits, the first the lowest.
-fn packed(table: &[u8; 9506], i: usize) -> u8
-    requires { ⌜ i + 8 ≤ 9506 ⌝ }
+fn packed(table: &[u8; MODEL], i: usize) -> u8
+    requires { ⌜ i + 8 ≤ MODEL ⌝ }
     ensures { λ r. ⌜ r ≡ packedOf (now (table .entry)) i ⌝ }
 {
     cell(table, i)
@@ -40,24 +46,24 @@ fn packed(table: &[u8; 9506], i: usize) -> u8
 }
 
 // The row of the element e after the place u.
-fn put_row(rows: &mut [u8; 88270], e: usize, table: &[u8; 9506], u: usize)
-    requires { ⌜ (e ≤ 64) × (u ≤ 96) × (length (now rows) ≡ 88270) ⌝ }
+fn put_row(rows: &mut [u8; ROWS], e: usize, table: &[u8; MODEL], u: usize)
+    requires { ⌜ (e ≤ 64) × (u ≤ 96) × (length (now rows) ≡ ROWS) ⌝ }
     ensures { λ _. ⌜ RowPut (now (table .entry)) e u (now (rows .entry)) (now (rows .exit)) ⌝ }
 {
     let r = row(e, u);
     let mut j = 0;
     while j < 12 {
-        rows[r + j] = packed(table, u * 98 + 8 * j);
+        rows[r + j] = packed(table, u * MODEL_ROW + 8 * j);
         j += 1;
     }
-    rows[r + 12] = cell(table, u * 98 + 96);
-    let required = table[u * 98 + 97];
+    rows[r + 12] = cell(table, u * MODEL_ROW + 96);
+    let required = table[u * MODEL_ROW + POSITIONS];
     rows[r + 13] = required;
 }
 
 // The rows of the element e, whose model has `count` places.
-pub fn put_rows(rows: &mut [u8; 88270], e: usize, table: &[u8; 9506], count: usize)
-    requires { ⌜ (e ≤ 64) × (count ≤ 96) × (length (now rows) ≡ 88270) ⌝ }
+pub fn put_rows(rows: &mut [u8; ROWS], e: usize, table: &[u8; MODEL], count: usize)
+    requires { ⌜ (e ≤ 64) × (count ≤ 96) × (length (now rows) ≡ ROWS) ⌝ }
     ensures { λ _. ⌜ RowsPut (now (table .entry)) e (now (rows .entry)) (now (rows .exit)) (count + 1) ⌝ }
 {
     let mut u = 0;

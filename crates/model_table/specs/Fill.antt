@@ -7,13 +7,14 @@ use mathlib.Core.Bool.{Bool, _&&_, _||_, cond}
 use mathlib.Core.List.{List}
 use lib.ListN.{set, replicate}
 use Rattle.rules.specs.Walk.{Group, place, seq, alt, opt, plus}
+use Rattle.layout.specs.Sizes.{MODEL-ROW, MODEL}
 use Rattle.model_sets.specs.Sets.{size, nullable, must}
 use Rattle.model_links.specs.Links.{link, settle, unbegin}
 use Rattle.model_table.specs.declared.Part.{Part}
 
 -- a new place can begin and end itself
 abbrev pub putPlace : List ℕ → ℕ → List ℕ
-putPlace T p = set (set T p 1) (p * 98) 1
+putPlace T p = set (set T p 1) (p * MODEL-ROW) 1
 
 -- what is kept of a group beside the table
 abbrev pub part : Bool → ℕ → Part
@@ -62,7 +63,7 @@ fill (plus g) lo T = repeated (fill g lo T) lo (lo + size g)
 
 -- the empty table
 abbrev pub blank : List ℕ
-blank = replicate 9506 0
+blank = replicate MODEL 0
 
 -- the table of a model whose places are numbered from 1
 abbrev pub tableOf : Group → List ℕ

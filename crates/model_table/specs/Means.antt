@@ -9,6 +9,7 @@ use lib.ListN.{length, getD, set, replicate, length-set, length-replicate}
 use lib.Seq.{getD-set-same, getD-set-other}
 use borrow.Author.Tests.{eq-eqb}
 use Rattle.rules.specs.Walk.{Group, place, seq, alt, opt, plus}
+use Rattle.layout.specs.Sizes.{MODEL-ROW, MODEL}
 use Rattle.model_sets.specs.Sets.{size, Numbered, has, nullable, first, last, follow, must, mustAfter, nextIn, completeIn, requiredIn}
 use Rattle.model_links.specs.Links.{link, settle, unbegin}
 use Rattle.model_table.specs.Fill.{putPlace, closeEnds, closeStarts, joinSeq, partOf, finished, fill, blank, tableOf}
@@ -17,14 +18,14 @@ use Rattle.model_table.specs.Places.{none-first, none-last, none-follow,
 
 -- S differs from T only in what it says of the places [lo, hi): row 0 says F, column 0 L, the columns between N and the last column M.
 pub record Shows (lo hi : ℕ) (T S : List ℕ) (F L : ℕ → Bool) (N : ℕ → ℕ → Bool) (M : ℕ → ℕ) : Type 0 where
-  pub len : length S ≡ 9506
+  pub len : length S ≡ MODEL
   pub under : (k : ℕ) → k < lo → getD S k 0 ≡ getD T k 0
-  pub between : (k : ℕ) → hi ≤ k → k < lo * 98 → getD S k 0 ≡ getD T k 0
-  pub over : (k : ℕ) → hi * 98 ≤ k → getD S k 0 ≡ getD T k 0
+  pub between : (k : ℕ) → hi ≤ k → k < lo * MODEL-ROW → getD S k 0 ≡ getD T k 0
+  pub over : (k : ℕ) → hi * MODEL-ROW ≤ k → getD S k 0 ≡ getD T k 0
   pub begins : (p : ℕ) → lo ≤ p → p < hi → getD S p 0 ≡ bit (F p)
-  pub ends : (u : ℕ) → lo ≤ u → u < hi → getD S (u * 98) 0 ≡ bit (L u)
-  pub follows : (u p : ℕ) → lo ≤ u → u < hi → 1 ≤ p → p < 97 → getD S (u * 98 + p) 0 ≡ bit (N u p)
-  pub requires : (u : ℕ) → lo ≤ u → u < hi → getD S (u * 98 + 97) 0 ≡ M u
+  pub ends : (u : ℕ) → lo ≤ u → u < hi → getD S (u * MODEL-ROW) 0 ≡ bit (L u)
+  pub follows : (u p : ℕ) → lo ≤ u → u < hi → 1 ≤ p → p < 97 → getD S (u * MODEL-ROW + p) 0 ≡ bit (N u p)
+  pub requires : (u : ℕ) → lo ≤ u → u < hi → getD S (u * MODEL-ROW + 97) 0 ≡ M u
 
 -- S says of the places of g what is computed of g.
 abbrev pub Filled : Group → ℕ → List ℕ → List ℕ → Type 0
@@ -32,9 +33,9 @@ Filled g lo T S = Shows lo (lo + size g) T S (first g) (last g) (follow g) (must
 
 -- T says nothing yet of the places from lo on.
 pub record Fresh (lo : ℕ) (T : List ℕ) : Type 0 where
-  pub len : length T ≡ 9506
+  pub len : length T ≡ MODEL
   pub row-0 : (k : ℕ) → lo ≤ k → k < 97 → getD T k 0 ≡ 0
-  pub rows : (k : ℕ) → lo * 98 ≤ k → getD T k 0 ≡ 0
+  pub rows : (k : ℕ) → lo * MODEL-ROW ≤ k → getD T k 0 ≡ 0
 
 fresh-after : (g : Group) (lo : ℕ) (T S : List ℕ) → 1 ≤ lo → Fresh lo T → Filled g lo T S → Fresh (lo + size g) S
 fresh-after g lo T S from t s =
@@ -49,24 +50,24 @@ placed : (n lo : ℕ) (T : List ℕ) → 1 ≤ lo → lo + 1 ≤ 97 → n ≡ lo
 placed n lo T from to e t =
     let l = t .len in
     let S : List ℕ = set T n 1 in
-    let m : length S ≡ 9506 = length-set T n 1 ∙ l in
-    let else : (k : ℕ) → (k ≡ n → ⊥) → (k ≡ n * 98 → ⊥) → getD (set S (n * 98) 1) k 0 ≡ getD T k 0 =
-    λ k x y. getD-set-other S (n * 98) k 1 0 y ∙ getD-set-other T n k 1 0 x in
+    let m : length S ≡ MODEL = length-set T n 1 ∙ l in
+    let else : (k : ℕ) → (k ≡ n → ⊥) → (k ≡ n * MODEL-ROW → ⊥) → getD (set S (n * MODEL-ROW) 1) k 0 ≡ getD T k 0 =
+    λ k x y. getD-set-other S (n * MODEL-ROW) k 1 0 y ∙ getD-set-other T n k 1 0 x in
     record {
-      len = length-set S (n * 98) 1 ∙ m;
+      len = length-set S (n * MODEL-ROW) 1 ∙ m;
       under = λ k lt. else k (omega arith) (omega arith);
       between = λ k le lt. else k (omega arith) (omega arith);
       over = λ k le. else k (omega arith) (omega arith);
       begins =
           λ p ge lt.
           let q : p ≡ n = omega arith in
-          rw (q, eq-eqb n n refl) (getD-set-other S (n * 98) n 1 0 (omega arith) ∙ getD-set-same T n 1 0 (omega arith));
+          rw (q, eq-eqb n n refl) (getD-set-other S (n * MODEL-ROW) n 1 0 (omega arith) ∙ getD-set-same T n 1 0 (omega arith));
       ends =
           λ u ge lt.
           let q : u ≡ n = omega arith in
-          rw (q, eq-eqb n n refl) (getD-set-same S (n * 98) 1 0 (omega arith));
-      follows = λ u p ge lt p-from p-to. else (u * 98 + p) (omega arith) (omega arith) ∙ t .rows (u * 98 + p) (omega arith);
-      requires = λ u ge lt. else (u * 98 + 97) (omega arith) (omega arith) ∙ t .rows (u * 98 + 97) (omega arith);
+          rw (q, eq-eqb n n refl) (getD-set-same S (n * MODEL-ROW) 1 0 (omega arith));
+      follows = λ u p ge lt p-from p-to. else (u * MODEL-ROW + p) (omega arith) (omega arith) ∙ t .rows (u * MODEL-ROW + p) (omega arith);
+      requires = λ u ge lt. else (u * MODEL-ROW + 97) (omega arith) (omega arith) ∙ t .rows (u * MODEL-ROW + 97) (omega arith);
     }
 
 only-left : (a b : Bool) → b ≡ false → a ≡ (a || b)
@@ -119,24 +120,24 @@ module _ (g h : Group) (lo : ℕ) (from : 1 ≤ lo) (to : lo + size g + size h �
             (λ p ge lt. fh .under p lt ∙ fg .begins p ge lt ∙ ap bit (only-left (first g p) (first h p) (none-first h p (no-h p lt))))
             (λ p ge lt. fh .begins p ge lt ∙ ap bit (only-right (first g p) (first h p) (none-first g p (no-g p ge))));
         ends =
-            on-both (λ (u : ℕ). getD S (u * 98) 0 ≡ bit (last g u || last h u))
+            on-both (λ (u : ℕ). getD S (u * MODEL-ROW) 0 ≡ bit (last g u || last h u))
             (λ u ge lt.
-            fh .between (u * 98) (omega arith) (omega arith)
+            fh .between (u * MODEL-ROW) (omega arith) (omega arith)
             ∙ fg .ends u ge lt
             ∙ ap bit (only-left (last g u) (last h u) (none-last h u (no-h u lt))))
             (λ u ge lt. fh .ends u ge lt ∙ ap bit (only-right (last g u) (last h u) (none-last g u (no-g u ge))));
         follows =
             λ u p ge lt p-from p-to.
-            on-both (λ (v : ℕ). getD S (v * 98 + p) 0 ≡ bit (follow g v p || follow h v p))
+            on-both (λ (v : ℕ). getD S (v * MODEL-ROW + p) 0 ≡ bit (follow g v p || follow h v p))
             (λ v ve vt.
-            fh .between (v * 98 + p) (omega arith) (omega arith)
+            fh .between (v * MODEL-ROW + p) (omega arith) (omega arith)
             ∙ fg .follows v p ve vt p-from p-to
             ∙ ap bit (only-left (follow g v p) (follow h v p) (none-follow h v p (no-h v vt))))
             (λ v ve vt. fh .follows v p ve vt p-from p-to ∙ ap bit (only-right (follow g v p) (follow h v p) (none-follow g v p (no-g v ve))))
             u ge lt;
         requires =
-            on-both (λ (u : ℕ). getD S (u * 98 + 97) 0 ≡ cond (has h u) (mustAfter h u) (mustAfter g u))
-            (λ u ge lt. rw (no-h u lt) (fh .between (u * 98 + 97) (omega arith) (omega arith) ∙ fg .requires u ge lt))
+            on-both (λ (u : ℕ). getD S (u * MODEL-ROW + 97) 0 ≡ cond (has h u) (mustAfter h u) (mustAfter g u))
+            (λ u ge lt. rw (no-h u lt) (fh .between (u * MODEL-ROW + 97) (omega arith) (omega arith) ∙ fg .requires u ge lt))
             (λ u ge lt. rw (has-inside h (lo + size g) u hn ge lt) (fh .requires u ge lt));
       }
 
@@ -145,7 +146,7 @@ module _ (g h : Group) (lo : ℕ) (from : 1 ≤ lo) (to : lo + size g + size h �
     row-0 : (p : ℕ) → lo + size g ≤ p → p < lo + size g + size h → getD S p 0 ≡ bit (first h p)
     row-0 p ge lt = s .begins p (omega arith) (omega arith) ∙ ap bit (sym (only-right (first g p) (first h p) (none-first g p (no-g p ge))))
 
-    column-0 : (u : ℕ) → lo ≤ u → u < lo + size g → getD S (u * 98) 0 ≡ bit (last g u)
+    column-0 : (u : ℕ) → lo ≤ u → u < lo + size g → getD S (u * MODEL-ROW) 0 ≡ bit (last g u)
     column-0 u ge lt = s .ends u ge (omega arith) ∙ ap bit (sym (only-left (last g u) (last h u) (none-last h u (no-h u lt))))
 
     R : List ℕ
@@ -176,7 +177,7 @@ module _ (g h : Group) (lo : ℕ) (from : 1 ≤ lo) (to : lo + size g + size h �
           ends =
               λ u ge lt.
               ⊎-elim (λ (x : u < lo + size g). linked-end (first h) (last g) S lo R (lo + size g) r u ge x first-h-0 ∙ s .ends u ge lt)
-              (λ (x : lo + size g ≤ u). r .rows-after (u * 98) (omega arith) ∙ s .ends u ge lt)
+              (λ (x : lo + size g ≤ u). r .rows-after (u * MODEL-ROW) (omega arith) ∙ s .ends u ge lt)
               (below-or-from u (lo + size g));
           follows =
               λ u p ge lt p-from p-to.
@@ -187,21 +188,21 @@ module _ (g h : Group) (lo : ℕ) (from : 1 ≤ lo) (to : lo + size g + size h �
               ∙ cond-or (last g u && first h p) (follow g u p || follow h u p)
               ∙ ap bit (or-assoc (follow g u p) (follow h u p) (last g u && first h p)))
               (λ (x : lo + size g ≤ u).
-              r .rows-after (u * 98 + p) (omega arith)
+              r .rows-after (u * MODEL-ROW + p) (omega arith)
               ∙ s .follows u p ge lt p-from p-to
               ∙ ap (λ (y : Bool). bit (follow g u p || y)) (or-and-false (follow h u p) (last g u) (first h p) (none-last g u (no-g u x))))
               (below-or-from u (lo + size g));
           requires =
               λ u ge lt.
               ⊎-elim (λ (x : u < lo + size g). linked-same (first h) (last g) S lo R (lo + size g) r u 97 ge x (omega arith) first-h-97 ∙ s .requires u ge lt)
-              (λ (x : lo + size g ≤ u). r .rows-after (u * 98 + 97) (omega arith) ∙ s .requires u ge lt)
+              (λ (x : lo + size g ≤ u). r .rows-after (u * MODEL-ROW + 97) (omega arith) ∙ s .requires u ge lt)
               (below-or-from u (lo + size g));
         }
 
   -- where h cannot be empty, g no longer ends the whole, and what h requires is required after it
   module _ (T R : List ℕ)
       (s : Shows lo (lo + (size g + size h)) T R (first (alt g h)) (last (alt g h)) (follow (seq g h)) (mustAfter (alt g h))) where
-    ends-g : (u : ℕ) → lo ≤ u → u < lo + size g → getD R (u * 98) 0 ≡ bit (last g u)
+    ends-g : (u : ℕ) → lo ≤ u → u < lo + size g → getD R (u * MODEL-ROW) 0 ≡ bit (last g u)
     ends-g u ge lt = s .ends u ge (omega arith) ∙ ap bit (sym (only-left (last g u) (last h u) (none-last h u (no-h u lt))))
 
     ends-closed : (b : Bool)
@@ -235,24 +236,24 @@ module _ (g h : Group) (lo : ℕ) (from : 1 ≤ lo) (to : lo + size g + size h �
               λ u ge lt.
               ⊎-elim (λ (x : u < lo + size g). rw (none-last h u (no-h u x)) (r .end u ge x))
               (λ (x : lo + size g ≤ u).
-              r .rows-after (u * 98) (omega arith)
+              r .rows-after (u * MODEL-ROW) (omega arith)
               ∙ s .ends u ge lt
               ∙ ap bit (sym (only-right (last g u) (last h u) (none-last g u (no-g u x))) ∙ only-left (last h u) false refl))
               (below-or-from u (lo + size g));
           follows =
               λ u p ge lt p-from p-to.
               ⊎-elim (λ (x : u < lo + size g). r .row u p ge x p-from p-to ∙ s .follows u p ge lt p-from p-to)
-              (λ (x : lo + size g ≤ u). r .rows-after (u * 98 + p) (omega arith) ∙ s .follows u p ge lt p-from p-to)
+              (λ (x : lo + size g ≤ u). r .rows-after (u * MODEL-ROW + p) (omega arith) ∙ s .follows u p ge lt p-from p-to)
               (below-or-from u (lo + size g));
           requires =
               λ u ge lt.
               ⊎-elim
               (λ (x : u < lo + size g).
-              let was : getD R (u * 98 + 97) 0 ≡ mustAfter g u = rw (no-h u x) at (s .requires u ge lt) in
+              let was : getD R (u * MODEL-ROW + 97) 0 ≡ mustAfter g u = rw (no-h u x) at (s .requires u ge lt) in
               rw (no-h u x, and-true (last g u)) (r .required u ge x ∙ ap (λ (y : ℕ). cond (last g u) (must h) y) was))
               (λ (x : lo + size g ≤ u).
               let is-h : has h u ≡ true = has-inside h (lo + size g) u hn x (omega arith) in
-              rw is-h (r .rows-after (u * 98 + 97) (omega arith) ∙ (rw is-h at (s .requires u ge lt))))
+              rw is-h (r .rows-after (u * MODEL-ROW + 97) (omega arith) ∙ (rw is-h at (s .requires u ge lt))))
               (below-or-from u (lo + size g));
         }
 
@@ -285,9 +286,9 @@ module _ (g h : Group) (lo : ℕ) (from : 1 ≤ lo) (to : lo + size g + size h �
             (λ (x : p < lo + size g). rw (none-first h p (no-h p x)) at (r .under p x ∙ s .begins p ge lt))
             (λ (x : lo + size g ≤ p). rw (none-first g p (no-g p x)) (r .none p x (omega arith)))
             (below-or-from p (lo + size g));
-        ends = λ u ge lt. r .over (u * 98) (omega arith) ∙ s .ends u ge lt;
-        follows = λ u p ge lt p-from p-to. r .over (u * 98 + p) (omega arith) ∙ s .follows u p ge lt p-from p-to;
-        requires = λ u ge lt. r .over (u * 98 + 97) (omega arith) ∙ s .requires u ge lt;
+        ends = λ u ge lt. r .over (u * MODEL-ROW) (omega arith) ∙ s .ends u ge lt;
+        follows = λ u p ge lt p-from p-to. r .over (u * MODEL-ROW + p) (omega arith) ∙ s .follows u p ge lt p-from p-to;
+        requires = λ u ge lt. r .over (u * MODEL-ROW + 97) (omega arith) ∙ s .requires u ge lt;
       }
 
   -- the two in sequence
@@ -355,21 +356,21 @@ zeros (suc n) zero = refl
 zeros (suc n) (suc k) = zeros n k
 
 pub fresh-blank : (lo : ℕ) → Fresh lo blank
-fresh-blank lo = record { len = length-replicate {A = ℕ} 9506 0; row-0 = λ k ge lt. zeros 9506 k; rows = λ k ge. zeros 9506 k }
+fresh-blank lo = record { len = length-replicate {A = ℕ} MODEL 0; row-0 = λ k ge lt. zeros MODEL k; rows = λ k ge. zeros MODEL k }
 
 -- What is read in a table of the model g: in row u what may come next, whether the content is complete and what is required, once u was
 -- the last place taken, or at the start where u is 0.
 pub record Says (g : Group) (T : List ℕ) : Type 0 where
-  pub len : length T ≡ 9506
-  pub next : (u p : ℕ) → u ≤ size g → 1 ≤ p → p ≤ 96 → getD T (u * 98 + p) 0 ≡ cond (nextIn g u p) 1 0
-  pub complete : (u : ℕ) → u ≤ size g → getD T (u * 98) 0 ≡ cond (completeIn g u) 1 0
-  pub required : (u : ℕ) → u ≤ size g → getD T (u * 98 + 97) 0 ≡ requiredIn g u
+  pub len : length T ≡ MODEL
+  pub next : (u p : ℕ) → u ≤ size g → 1 ≤ p → p ≤ 96 → getD T (u * MODEL-ROW + p) 0 ≡ cond (nextIn g u p) 1 0
+  pub complete : (u : ℕ) → u ≤ size g → getD T (u * MODEL-ROW) 0 ≡ cond (completeIn g u) 1 0
+  pub required : (u : ℕ) → u ≤ size g → getD T (u * MODEL-ROW + 97) 0 ≡ requiredIn g u
 
 module _ (g : Group) (gn : Numbered g 1) (to : size g ≤ 96) (F : List ℕ) (f : Filled g 1 blank F) where
   Z : List ℕ
   Z = set F 0 (cond (nullable g) 1 0)
 
-  len-Z : length Z ≡ 9506
+  len-Z : length Z ≡ MODEL
   unfolding Z
   len-Z = length-set F 0 (cond (nullable g) 1 0) ∙ f .len
 
@@ -381,28 +382,28 @@ module _ (g : Group) (gn : Numbered g 1) (to : size g ≤ 96) (F : List ℕ) (f 
   begin : (p : ℕ) → 1 ≤ p → p ≤ 96 → getD F p 0 ≡ bit (first g p)
   begin p ge le =
       ⊎-elim (λ (x : p < 1 + size g). f .begins p ge x)
-      (λ (x : 1 + size g ≤ p). rw (none-first g p (has-over g 1 p gn x)) (f .between p x (omega arith) ∙ zeros 9506 p))
+      (λ (x : 1 + size g ≤ p). rw (none-first g p (has-over g 1 p gn x)) (f .between p x (omega arith) ∙ zeros MODEL p))
       (below-or-from p (1 + size g))
 
-  next-in : (u p : ℕ) → u ≤ size g → 1 ≤ p → p ≤ 96 → getD (set Z 97 (must g)) (u * 98 + p) 0 ≡ cond (nextIn g u p) 1 0
+  next-in : (u p : ℕ) → u ≤ size g → 1 ≤ p → p ≤ 96 → getD (set Z 97 (must g)) (u * MODEL-ROW + p) 0 ≡ cond (nextIn g u p) 1 0
   next-in zero p le p-from p-to =
-      let e : 0 * 98 + p ≡ p = omega arith in
+      let e : 0 * MODEL-ROW + p ≡ p = omega arith in
       rw e (as-filled p p-from (omega arith) ∙ begin p p-from p-to)
   next-in (suc u) p le p-from p-to =
-      as-filled (suc u * 98 + p) (omega arith) (omega arith) ∙ f .follows (suc u) p (omega arith) (omega arith) p-from (omega arith)
+      as-filled (suc u * MODEL-ROW + p) (omega arith) (omega arith) ∙ f .follows (suc u) p (omega arith) (omega arith) p-from (omega arith)
 
-  complete-in : (u : ℕ) → u ≤ size g → getD (set Z 97 (must g)) (u * 98) 0 ≡ cond (completeIn g u) 1 0
+  complete-in : (u : ℕ) → u ≤ size g → getD (set Z 97 (must g)) (u * MODEL-ROW) 0 ≡ cond (completeIn g u) 1 0
   unfolding Z
   complete-in zero le =
       let l = f .len in
       getD-set-other Z 97 0 (must g) 0 (omega arith) ∙ getD-set-same F 0 (cond (nullable g) 1 0) 0 (omega arith)
-  complete-in (suc u) le = as-filled (suc u * 98) (omega arith) (omega arith) ∙ f .ends (suc u) (omega arith) (omega arith)
+  complete-in (suc u) le = as-filled (suc u * MODEL-ROW) (omega arith) (omega arith) ∙ f .ends (suc u) (omega arith) (omega arith)
 
-  required-in : (u : ℕ) → u ≤ size g → getD (set Z 97 (must g)) (u * 98 + 97) 0 ≡ requiredIn g u
+  required-in : (u : ℕ) → u ≤ size g → getD (set Z 97 (must g)) (u * MODEL-ROW + 97) 0 ≡ requiredIn g u
   required-in zero le =
       let l = len-Z in
       getD-set-same Z 97 (must g) 0 (omega arith)
-  required-in (suc u) le = as-filled (suc u * 98 + 97) (omega arith) (omega arith) ∙ f .requires (suc u) (omega arith) (omega arith)
+  required-in (suc u) le = as-filled (suc u * MODEL-ROW + 97) (omega arith) (omega arith) ∙ f .requires (suc u) (omega arith) (omega arith)
 
   says : Says g (finished F (partOf g))
   unfolding Z

@@ -4,6 +4,9 @@
 // Column 0 is 1 where the content is complete, column p is 1 where the place p may come next, column 97 is the
 // required place, or 0. While a model is read, row 0 holds the places that can begin, and column 0 those that can
 // end, the innermost finished group around them. The places of a group are [lo, hi).
+use layout::MODEL;
+use layout::MODEL_ROW;
+use layout::POSITIONS;
 ghost use mathlib.Core.Path.{_≡_};
 ghost use Prim.Native.Nat.{_≤_, _<_};
 ghost use mathlib.Core.Bool.{true, false};
@@ -16,19 +19,19 @@ pub struct Part {
 }
 
 // Every number is 0.
-pub fn clear(table: &mut [u8; 9506])
+pub fn clear(table: &mut [u8; MODEL])
     ensures { λ _. ⌜ now (table .exit) ≡ blank ⌝ }
 {
-    *table = [0u8; 9506];
+    *table = [0u8; MODEL];
 }
 
 // A new place p.
-pub fn put_place(table: &mut [u8; 9506], p: usize) -> Part
+pub fn put_place(table: &mut [u8; MODEL], p: usize) -> Part
     requires { ⌜ p < 97 ⌝ }
     ensures { λ r. ⌜ (now (table .exit) ≡ putPlace (now (table .entry)) p) × (r ≡ part false p) ⌝ }
 {
     table[p] = 1;
-    table[p * 98] = 1;
+    table[p * MODEL_ROW] = 1;
     Part {
         nullable: false,
         required: p as u8,
@@ -36,7 +39,7 @@ pub fn put_place(table: &mut [u8; 9506], p: usize) -> Part
 }
 
 // The ends of a first group stay ends only if the second can be empty.
-fn close_ends(table: &mut [u8; 9506], lo: usize, mid: usize, h: Part)
+fn close_ends(table: &mut [u8; MODEL], lo: usize, mid: usize, h: Part)
     requires { ⌜ mid ≤ 97 ⌝ }
     ensures { λ _. ⌜ now (table .exit) ≡ closeEnds (now (table .entry)) lo mid h ⌝ }
 {
@@ -46,7 +49,7 @@ fn close_ends(table: &mut [u8; 9506], lo: usize, mid: usize, h: Part)
 }
 
 // The starts of a second group stay starts only if the first can be empty.
-fn close_starts(table: &mut [u8; 9506], mid: usize, hi: usize, g: Part)
+fn close_starts(table: &mut [u8; MODEL], mid: usize, hi: usize, g: Part)
     requires { ⌜ hi ≤ 97 ⌝ }
     ensures { λ _. ⌜ now (table .exit) ≡ closeStarts (now (table .entry)) mid hi g ⌝ }
 {
@@ -73,7 +76,7 @@ fn part_seq(g: Part, h: Part) -> Part
 }
 
 // The group g of [lo, mid), then the group h of [mid, hi).
-pub fn join_seq(table: &mut [u8; 9506], lo: usize, mid: usize, hi: usize, g: Part, h: Part) -> Part
+pub fn join_seq(table: &mut [u8; MODEL], lo: usize, mid: usize, hi: usize, g: Part, h: Part) -> Part
     requires { ⌜ mid ≤ 97 ⌝ }
     requires { ⌜ hi ≤ 97 ⌝ }
     ensures { λ r. ⌜ (now (table .exit) ≡ joinSeq (now (table .entry)) lo mid hi g h) × (r ≡ partSeq g h) ⌝ }
@@ -112,7 +115,7 @@ pub fn optional(g: Part) -> Part
 }
 
 // The group of [lo, hi), once or more.
-pub fn repeat(table: &mut [u8; 9506], lo: usize, hi: usize)
+pub fn repeat(table: &mut [u8; MODEL], lo: usize, hi: usize)
     requires { ⌜ hi ≤ 97 ⌝ }
     ensures { λ _. ⌜ now (table .exit) ≡ repeated (now (table .entry)) lo hi ⌝ }
 {
@@ -120,7 +123,7 @@ pub fn repeat(table: &mut [u8; 9506], lo: usize, hi: usize)
 }
 
 // The whole model is read: row 0 gets its first and its last number.
-pub fn finish(table: &mut [u8; 9506], g: Part)
+pub fn finish(table: &mut [u8; MODEL], g: Part)
     ensures { λ _. ⌜ now (table .exit) ≡ finished (now (table .entry)) g ⌝ }
 {
     if g.nullable {
@@ -128,5 +131,5 @@ pub fn finish(table: &mut [u8; 9506], g: Part)
     } else {
         table[0] = 0;
     }
-    table[97] = g.required;
+    table[POSITIONS] = g.required;
 }

@@ -1,4 +1,5 @@
 // The open elements from token to token: what is taken, opened and ended in them.
+use layout::ROWS;
 ghost use mathlib.Core.Path.{_≡_};
 ghost use mathlib.Core.Bool.{true};
 ghost use mathlib.Core.List.{_∷_};
@@ -63,7 +64,7 @@ impl Open {
     }
 
     // The place is taken in the current element: its marks are those after this place.
-    pub fn take(mut self, rows: &[u8; 88270], place: usize) -> Self
+    pub fn take(mut self, rows: &[u8; ROWS], place: usize) -> Self
         requires { ⌜ Ranged self × (place ≤ 96) ⌝ }
         ensures { λ r. ⌜ r ≡ took (now (rows .entry)) place self ⌝ }
     {
@@ -75,7 +76,7 @@ impl Open {
     }
 
     // The element is opened in the current one, which is kept; its marks are those of its start.
-    pub fn start(mut self, rows: &[u8; 88270], element: usize) -> Self
+    pub fn start(mut self, rows: &[u8; ROWS], element: usize) -> Self
         requires { ⌜ Ranged self × (self .count < 24) × (element ≤ 64) ⌝ }
         ensures { λ r. ⌜ r ≡ opening (now (rows .entry)) element self ⌝ }
     {

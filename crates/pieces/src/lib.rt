@@ -4,6 +4,11 @@
 // delimiters.
 use document_text::Tag;
 use document_text::Token;
+use layout::FACTS;
+use layout::INDEX;
+use layout::PLACES;
+use layout::RECORDS;
+use layout::ROWS;
 use text::Fault;
 ghost use mathlib.Core.Path.{_≡_};
 ghost use mathlib.Core.List.{List};
@@ -35,7 +40,7 @@ fn undeclared(at: usize) -> Piece
 }
 
 // The element that a tag names, or 0.
-fn tagged(s: &[u8], elements: &[u32; 384], index: &[u8; 321], d: &[u8], t: Tag) -> usize
+fn tagged(s: &[u8], elements: &[u32; RECORDS], index: &[u8; INDEX], d: &[u8], t: Tag) -> usize
     requires { ⌜ (1 ≤ t .size) × (t .size ≤ 8) × (t .name + t .size ≤ length (now d)) ⌝ }
     ensures { λ r. ⌜ ((es : List Element) → Indexed (now (s .entry)) es (now (elements .entry)) (now (index .entry)) →
         r ≡ numberOf (now (s .entry)) es (now (d .entry)) (t .name) (t .size)) × (r ≤ 64) ⌝ }
@@ -47,11 +52,11 @@ fn tagged(s: &[u8], elements: &[u32; 384], index: &[u8; 321], d: &[u8], t: Tag) 
 // What stands at `at`, where the current element is e after the place u.
 pub fn piece_at(
     s: &[u8],
-    elements: &[u32; 384],
-    index: &[u8; 321],
-    rows: &[u8; 88270],
-    places: &[u8; 12610],
-    facts: &[u8; 4420],
+    elements: &[u32; RECORDS],
+    index: &[u8; INDEX],
+    rows: &[u8; ROWS],
+    places: &[u8; PLACES],
+    facts: &[u8; FACTS],
     classes: &[u8; 256],
     d: &[u8],
     e: usize,

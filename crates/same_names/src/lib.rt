@@ -1,4 +1,6 @@
 // The places of a content model that have the same name, found by their keys.
+use layout::NAMES;
+use layout::POSITIONS;
 ghost use mathlib.Core.Path.{_≡_};
 ghost use mathlib.Core.Bool.{true};
 ghost use Prim.Native.Nat.{ℕ, suc, _+_, _-_, _≤_, _<_};
@@ -8,11 +10,11 @@ ghost use Rattle.model_names.specs.Places.{placeIn, placesOf, keyOf};
 ghost use Rattle.same_names.specs.Laws.{anyKey};
 
 // The keys of the places of a model with n places, at their numbers.
-pub fn keys_of(s: &[u8], names: &[u32; 192], n: usize) -> [u32; 97]
+pub fn keys_of(s: &[u8], names: &[u32; NAMES], n: usize) -> [u32; POSITIONS]
     requires { ⌜ n ≤ 96 ⌝ }
     ensures { λ r. ⌜ ((p : ℕ) → 1 ≤ p → p ≤ n → getD r p 0 ≡ keyOf (now (s .entry)) (placeIn (now (names .entry)) (p - 1))) ⌝ }
 {
-    let mut keys = [0u32; 97];
+    let mut keys = [0u32; POSITIONS];
     let mut p = 1;
     while p <= n {
         keys[p] = model_names::key(s, names, p);
@@ -24,8 +26,8 @@ pub fn keys_of(s: &[u8], names: &[u32; 192], n: usize) -> [u32; 97]
 // The first of the places from q to n that has the name of p, n + 1 if there is none.
 pub fn same_name(
     s: &[u8],
-    names: &[u32; 192],
-    keys: &[u32; 97],
+    names: &[u32; NAMES],
+    keys: &[u32; POSITIONS],
     n: usize,
     p: usize,
     q: usize,
@@ -50,7 +52,7 @@ pub fn same_name(
 }
 
 // Whether a place after p shares its key. The loop has no way out, so that it goes by several keys at a time.
-pub fn shares_key(keys: &[u32; 97], n: usize, p: usize) -> bool
+pub fn shares_key(keys: &[u32; POSITIONS], n: usize, p: usize) -> bool
     requires { ⌜ (n ≤ 96) × (p ≤ n) ⌝ }
     ensures { λ r. ⌜ r ≡ anyKey (now (keys .entry)) (getD (now (keys .entry)) p 0) (n - p) (suc p) ⌝ }
 {

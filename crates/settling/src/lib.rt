@@ -2,6 +2,9 @@
 //
 // `rows`, `places` and `facts` are the tables of the type (crate type_tables). x is the element that starts, or 0 for data. n is how
 // many events there are so far; they are put to `numbers` and `bytes` (crate event_buffer).
+use layout::FACTS;
+use layout::PLACES;
+use layout::ROWS;
 use open_elements::Open;
 use open_elements::Outcome;
 use ways::Way;
@@ -23,9 +26,9 @@ struct Stop {
 
 // Step 3, again and again: ends are inferred until x fits or starts can be inferred before it, or it is stuck.
 fn ends(
-    rows: &[u8; 88270],
-    places: &[u8; 12610],
-    facts: &[u8; 4420],
+    rows: &[u8; ROWS],
+    places: &[u8; PLACES],
+    facts: &[u8; FACTS],
     state: Open,
     x: usize,
     at: usize,
@@ -58,9 +61,9 @@ fn ends(
 
 // One start is inferred: the required place is taken, and its element opened.
 fn infer_start(
-    rows: &[u8; 88270],
-    places: &[u8; 12610],
-    facts: &[u8; 4420],
+    rows: &[u8; ROWS],
+    places: &[u8; PLACES],
+    facts: &[u8; FACTS],
     state: Open,
     at: usize,
     n: usize,
@@ -97,9 +100,9 @@ fn put_written(
 
 // The token takes its place by what was found, and is noted; an element with a model is opened.
 fn placed(
-    rows: &[u8; 88270],
-    places: &[u8; 12610],
-    facts: &[u8; 4420],
+    rows: &[u8; ROWS],
+    places: &[u8; PLACES],
+    facts: &[u8; FACTS],
     state: Open,
     found: Way,
     x: usize,
@@ -148,9 +151,9 @@ fn placed(
 // The start tag of the element x, or a run of data for 0, from `at` to `after`. Where the token is refused the state is not used any
 // more: nothing decides it, but that its numbers are in range.
 pub fn token(
-    rows: &[u8; 88270],
-    places: &[u8; 12610],
-    facts: &[u8; 4420],
+    rows: &[u8; ROWS],
+    places: &[u8; PLACES],
+    facts: &[u8; FACTS],
     state: Open,
     x: usize,
     at: usize,

@@ -1,6 +1,7 @@
 // Reads the type file `type.sgm` and the document `doc.sgm` of the folder that it runs in, and prints the document's
 // events or the one refusal.
 use document_reader::Answer;
+use layout::RECORDS;
 use libc::STDOUT_FILENO;
 ghost use Prim.Native.Nat.{_≤_};
 ghost use lib.ListN.{length, take};
@@ -63,7 +64,7 @@ fn put_events(out: &mut [u8], s: &[u8], numbers: &[u32; 16384], n: usize) -> usi
     requires { ⌜ (294984 ≤ length (now out)) × Accepted (now s) × (n ≤ 4096) ⌝ }
     ensures { λ r. ⌜ Counts r (now (out .exit)) × EventsPut (now (s .entry)) (now (numbers .entry)) n (take r (now (out .exit))) ⌝ }
 {
-    let mut elements = [0u32; 384];
+    let mut elements = [0u32; RECORDS];
     type_judge::judge(s, &mut elements);
     event_lines::put_events(out, s, &elements, numbers, n)
 }

@@ -10,6 +10,7 @@ use Rattle.rules.specs.Walk.{Group}
 use Rattle.rules.specs.TypeFile.{Place, Content, empty, model, Element, element}
 use Rattle.rules.specs.Judge.{placeAt}
 use Rattle.rules.specs.Elements.{elementAt, contentOf, placesIn, hasModel}
+use Rattle.layout.specs.Sizes.{FACT, FACTS}
 use Rattle.model_names.specs.Places.{placesOf}
 use Rattle.model_names.specs.Laws.{placeAt-placesOf}
 use Rattle.text.specs.declared.Fault.{Fault}
@@ -33,7 +34,7 @@ use Rattle.table_fill.specs.Names.{IsName, NamesFit, PlacesDue}
 -- Both omissions and the content, from the record of the element e.
 abbrev pub factsPut : (F elements : List ℕ) → ℕ → List ℕ
 factsPut F elements e =
-    set (set (set F (e * 68 + 65) (getD elements (6 * (e - 1) + 2) 0)) (e * 68 + 66) (getD elements (6 * (e - 1) + 3) 0)) (e * 68 + 67) (getD elements (6 * (e - 1) + 4) 0)
+    set (set (set F (e * FACT + 65) (getD elements (6 * (e - 1) + 2) 0)) (e * FACT + 66) (getD elements (6 * (e - 1) + 3) 0)) (e * FACT + 67) (getD elements (6 * (e - 1) + 4) 0)
 
 -- The three numbers are 0 or 1.
 pub record Flags (elements : List ℕ) (e : ℕ) : Type 0 where
@@ -85,17 +86,17 @@ module _ (s : List ℕ) (es : List Element) (elements index R P F : List ℕ) (e
   tags-put =
       let most : e ≤ 64 = few in
       let r = due .indexed .recorded in
-      let x : ℕ = e * 68 + 65 in
-      let y : ℕ = e * 68 + 66 in
-      let z : ℕ = e * 68 + 67 in
+      let x : ℕ = e * FACT + 65 in
+      let y : ℕ = e * FACT + 66 in
+      let z : ℕ = e * FACT + 67 in
       let a : ℕ = getD elements (6 * (e - 1) + 2) 0 in
       let b : ℕ = getD elements (6 * (e - 1) + 3) 0 in
       let c : ℕ = getD elements (6 * (e - 1) + 4) 0 in
       let F₁ : List ℕ = set F x a in
       let F₂ : List ℕ = set F₁ y b in
-      let l : length F ≡ 4420 = due .filled .facts-len in
-      let l₁ : length F₁ ≡ 4420 = length-set F x a ∙ l in
-      let l₂ : length F₂ ≡ 4420 = length-set F₁ y b ∙ l₁ in
+      let l : length F ≡ FACTS = due .filled .facts-len in
+      let l₁ : length F₁ ≡ FACTS = length-set F x a ∙ l in
+      let l₂ : length F₂ ≡ FACTS = length-set F₁ y b ∙ l₁ in
       let else : (j : ℕ) → (j ≡ x → ⊥) → (j ≡ y → ⊥) → (j ≡ z → ⊥) → getD (set F₂ z c) j 0 ≡ getD F j 0 =
       λ j p q r. getD-set-other F₂ z j c 0 r ∙ getD-set-other F₁ y j b 0 q ∙ getD-set-other F x j a 0 p in
       record {

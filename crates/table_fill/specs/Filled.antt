@@ -11,6 +11,7 @@ use Rattle.rules.specs.TypeFile.{Content, empty, model, Element, typeFile}
 use Rattle.rules.specs.Judge.{Accepts}
 use Rattle.rules.specs.Elements.{elementAt, contentOf, placesIn, hasModel}
 use Rattle.rules.specs.Decisions.{Token, hasName}
+use Rattle.layout.specs.Sizes.{POSITIONS, ROWS, PLACES, FACT, FACTS}
 use Rattle.document_laws.specs.Decide.{search}
 use Rattle.rules_laws.specs.Within.{typeFile-count}
 use Rattle.type_laws.specs.Width.{typeFile-width}
@@ -22,40 +23,40 @@ use Rattle.table_fill.specs.Places.{PlacesPut, number-few}
 
 -- Of its omissions and its content.
 pub record TagsSay (x : Element) (c : Content) (e : ℕ) (facts : List ℕ) : Type 0 where
-  pub start : getD facts (e * 68 + 65) 0 ≡ x .start
-  pub end : getD facts (e * 68 + 66) 0 ≡ x .end
-  pub has : getD facts (e * 68 + 67) 0 ≡ cond (hasModel c) 1 0
+  pub start : getD facts (e * FACT + 65) 0 ≡ x .start
+  pub end : getD facts (e * FACT + 66) 0 ≡ x .end
+  pub has : getD facts (e * FACT + 67) 0 ≡ cond (hasModel c) 1 0
 
 pub record ElementSays (s : List ℕ) (es : List Element) (e : ℕ) (rows places facts : List ℕ) : Type 0 where
   pub rows-say : (u : ℕ) → u ≤ width es e → RowSays (contentOf es e) e u rows
-  pub named : (p : ℕ) → 1 ≤ p → p ≤ width es e → getD places ((e * 97 + p) * 2) 0 ≡ namedBy s es (placesIn (contentOf es e)) p
-  pub smaller : (p : ℕ) (t : Token) → 1 ≤ p → p ≤ width es e → Declares es t → hasName s es (placesIn (contentOf es e)) t p ≡ true → getD places ((e * 97 + p) * 2 + 1) 0 ≡ search (hasName s es (placesIn (contentOf es e)) t) (p - 1)
-  pub largest : (t : Token) → Declares es t → getD facts (e * 68 + nameNumber t) 0 ≡ search (hasName s es (placesIn (contentOf es e)) t) (width es e)
+  pub named : (p : ℕ) → 1 ≤ p → p ≤ width es e → getD places ((e * POSITIONS + p) * 2) 0 ≡ namedBy s es (placesIn (contentOf es e)) p
+  pub smaller : (p : ℕ) (t : Token) → 1 ≤ p → p ≤ width es e → Declares es t → hasName s es (placesIn (contentOf es e)) t p ≡ true → getD places ((e * POSITIONS + p) * 2 + 1) 0 ≡ search (hasName s es (placesIn (contentOf es e)) t) (p - 1)
+  pub largest : (t : Token) → Declares es t → getD facts (e * FACT + nameNumber t) 0 ≡ search (hasName s es (placesIn (contentOf es e)) t) (width es e)
   pub tags : 1 ≤ e → TagsSay (elementAt es (e - 1)) (contentOf es e) e facts
 
 -- The tables are filled up to the element n.
 pub record Filled (s : List ℕ) (es : List Element) (rows places facts : List ℕ) (n : ℕ) : Type 0 where
-  pub rows-len : length rows ≡ 88270
-  pub places-len : length places ≡ 12610
-  pub facts-len : length facts ≡ 4420
+  pub rows-len : length rows ≡ ROWS
+  pub places-len : length places ≡ PLACES
+  pub facts-len : length facts ≡ FACTS
   pub rows-rest : (k : ℕ) → rowAt n 0 ≤ k → getD rows k 0 ≡ 0
-  pub facts-rest : (k : ℕ) → n * 68 ≤ k → getD facts k 0 ≡ 0
+  pub facts-rest : (k : ℕ) → n * FACT ≤ k → getD facts k 0 ≡ 0
   pub says : (e : ℕ) → e < n → ElementSays s es e rows places facts
 
 -- What is put of one element
 
 -- Its rows, and nothing else.
 pub record RowsFor (c : Content) (e : ℕ) (T S : List ℕ) : Type 0 where
-  pub len : length S ≡ 88270
+  pub len : length S ≡ ROWS
   pub under : (k : ℕ) → k < rowAt e 0 → getD S k 0 ≡ getD T k 0
   pub over : (k : ℕ) → rowAt (e + 1) 0 ≤ k → getD S k 0 ≡ getD T k 0
   pub says : (u : ℕ) → u ≤ length (placesIn c) → RowSays c e u S
 
 -- Its omissions and its content, and nothing else; the document itself has none.
 pub record TagsPut (x : Element) (c : Content) (e : ℕ) (F G : List ℕ) : Type 0 where
-  pub len : length G ≡ 4420
-  pub under : (k : ℕ) → k < e * 68 + 65 → getD G k 0 ≡ getD F k 0
-  pub over : (k : ℕ) → e * 68 + 68 ≤ k → getD G k 0 ≡ getD F k 0
+  pub len : length G ≡ FACTS
+  pub under : (k : ℕ) → k < e * FACT + 65 → getD G k 0 ≡ getD F k 0
+  pub over : (k : ℕ) → e * FACT + 68 ≤ k → getD G k 0 ≡ getD F k 0
   pub tags : 1 ≤ e → TagsSay x c e G
 
 width-few : (s : List ℕ) (es : List Element) → typeFile s ≡ got es → (e : ℕ) → width es e ≤ 96
@@ -67,21 +68,21 @@ width-few s es read e = by-content (contentOf es e) refl
 
 module _ (s : List ℕ) (es : List Element) (read : typeFile s ≡ got es) where
   -- What is said of an element stays so where its numbers stay.
-  still : (e : ℕ) (R P F R′ P′ F′ : List ℕ) → ((k : ℕ) → k < rowAt (e + 1) 0 → getD R′ k 0 ≡ getD R k 0) → ((k : ℕ) → k < (e + 1) * 97 * 2 → getD P′ k 0 ≡ getD P k 0)
-      → ((k : ℕ) → k < (e + 1) * 68 → getD F′ k 0 ≡ getD F k 0) → ElementSays s es e R P F → ElementSays s es e R′ P′ F′
+  still : (e : ℕ) (R P F R′ P′ F′ : List ℕ) → ((k : ℕ) → k < rowAt (e + 1) 0 → getD R′ k 0 ≡ getD R k 0) → ((k : ℕ) → k < (e + 1) * POSITIONS * 2 → getD P′ k 0 ≡ getD P k 0)
+      → ((k : ℕ) → k < (e + 1) * FACT → getD F′ k 0 ≡ getD F k 0) → ElementSays s es e R P F → ElementSays s es e R′ P′ F′
   still e R P F R′ P′ F′ rows places facts h =
       let w = width-few s es read e in
       record {
         rows-say = λ u l. row-says-still (contentOf es e) e u R R′ (λ k a b. rows k (omega arith)) (h .rows-say u l);
-        named = λ p a b. places ((e * 97 + p) * 2) (omega arith) ∙ h .named p a b;
-        smaller = λ p t a b d y. places ((e * 97 + p) * 2 + 1) (omega arith) ∙ h .smaller p t a b d y;
-        largest = λ t d. facts (e * 68 + nameNumber t) (omega (arith, number-few es t (typeFile-count s es read .1) d)) ∙ h .largest t d;
+        named = λ p a b. places ((e * POSITIONS + p) * 2) (omega arith) ∙ h .named p a b;
+        smaller = λ p t a b d y. places ((e * POSITIONS + p) * 2 + 1) (omega arith) ∙ h .smaller p t a b d y;
+        largest = λ t d. facts (e * FACT + nameNumber t) (omega (arith, number-few es t (typeFile-count s es read .1) d)) ∙ h .largest t d;
         tags = λ l.
             let t = h .tags l in
             record {
-              start = facts (e * 68 + 65) (omega arith) ∙ t .start;
-              end = facts (e * 68 + 66) (omega arith) ∙ t .end;
-              has = facts (e * 68 + 67) (omega arith) ∙ t .has;
+              start = facts (e * FACT + 65) (omega arith) ∙ t .start;
+              end = facts (e * FACT + 66) (omega arith) ∙ t .end;
+              has = facts (e * FACT + 67) (omega arith) ∙ t .has;
             };
       }
 
@@ -99,9 +100,9 @@ module _ (s : List ℕ) (es : List Element) (read : typeFile s ≡ got es) where
           tags = λ l.
               let x = t .tags l in
               record {
-                start = w .facts-over (e * 68 + 65) (omega arith) ∙ x .start;
-                end = w .facts-over (e * 68 + 66) (omega arith) ∙ x .end;
-                has = w .facts-over (e * 68 + 67) (omega arith) ∙ x .has;
+                start = w .facts-over (e * FACT + 65) (omega arith) ∙ x .start;
+                end = w .facts-over (e * FACT + 66) (omega arith) ∙ x .end;
+                has = w .facts-over (e * FACT + 67) (omega arith) ∙ x .has;
               };
         }
 

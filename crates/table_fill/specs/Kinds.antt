@@ -17,6 +17,7 @@ use Rattle.rules.specs.Walk.{Group, place}
 use Rattle.rules.specs.TypeFile.{Place, empty, model, Element, typeFile}
 use Rattle.rules.specs.Judge.{placeAt}
 use Rattle.rules.specs.Elements.{elementAt, contentOf, placesIn}
+use Rattle.layout.specs.Sizes.{ROWS, PLACES, FACTS}
 use Rattle.model_sets.specs.Sets.{size, Numbered}
 use Rattle.model_table.specs.Fill.{tableOf}
 use Rattle.model_links.specs.Cells.{below-or-from}
@@ -65,7 +66,7 @@ module _ (e u : ℕ) (S : List ℕ) (x : ℕ) (first : getD S (rowAt e u) 0 ≡ 
       high b = rw (others (p / 8) (omega arith) (omega arith)) (high-bit 0 (p % 8) (omega arith))
 
 -- EMPTY: the content is complete at the start.
-pub rows-empty : (e : ℕ) (T : List ℕ) → e ≤ 64 → length T ≡ 88270 → ((k : ℕ) → rowAt e 0 ≤ k → getD T k 0 ≡ 0) → RowsFor empty e T (set T (rowAt e 0) 1)
+pub rows-empty : (e : ℕ) (T : List ℕ) → e ≤ 64 → length T ≡ ROWS → ((k : ℕ) → rowAt e 0 ≤ k → getD T k 0 ≡ 0) → RowsFor empty e T (set T (rowAt e 0) 1)
 unfolding isCompleteIn requiredOf
 rows-empty e T e-to l rest =
     let S : List ℕ = set T (rowAt e 0) 1 in
@@ -91,7 +92,7 @@ rows-empty e T e-to l rest =
 abbrev pub documentRows : List ℕ → List ℕ
 documentRows T = set (set (set T 0 2) 13 1) 14 1
 
-module _ (T : List ℕ) (l : length T ≡ 88270) (zeros : (k : ℕ) → getD T k 0 ≡ 0) (ps : List Place) (counted : length ps ≡ 1) where
+module _ (T : List ℕ) (l : length T ≡ ROWS) (zeros : (k : ℕ) → getD T k 0 ≡ 0) (ps : List Place) (counted : length ps ≡ 1) where
   abbrev T₁ : List ℕ
   T₁ = set T 0 2
 
@@ -101,10 +102,10 @@ module _ (T : List ℕ) (l : length T ≡ 88270) (zeros : (k : ℕ) → getD T k
   abbrev S : List ℕ
   S = documentRows T
 
-  len₁ : length T₁ ≡ 88270
+  len₁ : length T₁ ≡ ROWS
   len₁ = length-set T 0 2 ∙ l
 
-  len₂ : length T₂ ≡ 88270
+  len₂ : length T₂ ≡ ROWS
   len₂ = length-set T₁ 13 1 ∙ len₁
 
   at-0 : getD S 0 0 ≡ 2
@@ -156,13 +157,13 @@ module _ (T : List ℕ) (l : length T ≡ 88270) (zeros : (k : ℕ) → getD T k
 -- The tables before anything is put.
 
 abbrev pub noRows : List ℕ
-noRows = replicate 88270 0
+noRows = replicate ROWS 0
 
 abbrev pub noPlaces : List ℕ
-noPlaces = replicate 12610 0
+noPlaces = replicate PLACES 0
 
 abbrev pub noFacts : List ℕ
-noFacts = replicate 4420 0
+noFacts = replicate FACTS 0
 
 zeros-in : (n k : ℕ) → _≡_ {A = ℕ} (getD (replicate n 0) k 0) 0
 zeros-in zero k = refl
@@ -183,11 +184,11 @@ module _ (s : List ℕ) (es : List Element) (read : typeFile s ≡ got es) where
   filled-none : Filled s es noRows noPlaces noFacts 0
   filled-none =
       record {
-        rows-len = length-replicate {A = ℕ} 88270 0;
-        places-len = length-replicate {A = ℕ} 12610 0;
-        facts-len = length-replicate {A = ℕ} 4420 0;
-        rows-rest = λ k h. zeros-in 88270 k;
-        facts-rest = λ k h. zeros-in 4420 k;
+        rows-len = length-replicate {A = ℕ} ROWS 0;
+        places-len = length-replicate {A = ℕ} PLACES 0;
+        facts-len = length-replicate {A = ℕ} FACTS 0;
+        rows-rest = λ k h. zeros-in ROWS k;
+        facts-rest = λ k h. zeros-in FACTS k;
         says = λ e h. absurd (omega arith);
       }
 
@@ -196,7 +197,7 @@ module _ (s : List ℕ) (es : List Element) (read : typeFile s ≡ got es) where
       let h = filled-none in
       let ps = placesIn (contentOf es 0) in
       filled-more s es read 0 noRows noPlaces noFacts h (documentRows noRows) noFacts P F
-      (rows-document noRows (h .rows-len) (λ k. zeros-in 88270 k) ps refl)
+      (rows-document noRows (h .rows-len) (λ k. zeros-in ROWS k) ps refl)
       (record { len = h .facts-len; under = λ k l. refl; over = λ k l. refl; tags = λ l. absurd (omega arith) })
       (places-more s es read ps 0 noPlaces noFacts noPlaces noFacts 1 (omega arith) (omega arith)
-      (places-none s es read ps 0 noPlaces noFacts (h .places-len) (h .facts-len) (λ k a b. zeros-in 4420 k)) 1 document-names P F w)
+      (places-none s es read ps 0 noPlaces noFacts (h .places-len) (h .facts-len) (λ k a b. zeros-in FACTS k)) 1 document-names P F w)

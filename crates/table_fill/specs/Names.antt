@@ -9,6 +9,7 @@ use lib.Dec.{eqb}
 use borrow.Author.Tests.{ne-eqb}
 use Rattle.rules.specs.TypeFile.{Place, Element}
 use Rattle.rules.specs.Elements.{numberOf}
+use Rattle.layout.specs.Sizes.{PLACES, FACT, FACTS}
 use Rattle.model_names.specs.Places.{placeIn, placesOf}
 use Rattle.model_names.specs.Laws.{placeAt-placesOf}
 use Rattle.element_index.specs.Means.{Indexed}
@@ -36,9 +37,9 @@ pub record PlacesDue (s : List ℕ) (es : List Element) (elements index names pl
   pub element : e ≤ 64
   pub few : n ≤ 96
   pub fit : NamesFit s names n
-  pub places-len : length places ≡ 12610
-  pub facts-len : length facts ≡ 4420
-  pub blank : (k : ℕ) → e * 68 ≤ k → k < e * 68 + 65 → getD facts k 0 ≡ 0
+  pub places-len : length places ≡ PLACES
+  pub facts-len : length facts ≡ FACTS
+  pub blank : (k : ℕ) → e * FACT ≤ k → k < e * FACT + 65 → getD facts k 0 ≡ 0
 
 -- A turn of the loop that files them.
 module _ (s : List ℕ) (es : List Element) (elements index names P F : List ℕ) (e n : ℕ) (due : PlacesDue s es elements index names P F e n)

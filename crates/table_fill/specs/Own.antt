@@ -6,6 +6,7 @@ use lib.ListN.{length, length-replicate}
 use Rattle.rules.specs.Reading.{refused, got}
 use Rattle.rules.specs.TypeFile.{Element, typeFile}
 use Rattle.rules.specs.Judge.{Accepts}
+use Rattle.layout.specs.Sizes.{PLACES, FACTS}
 use Rattle.element_index.specs.Means.{Judged, Indexed}
 use Rattle.type_tables.specs.Means.{Tables}
 use Rattle.table_fill.specs.Places.{PlacePut}
@@ -34,8 +35,8 @@ tables-own s R P F n h q es a = filled-all s es (a .elements) R P F a (rw (own s
 abbrev Blank : (R P F : List ℕ) → Type 0
 Blank R P F = (R ≡ noRows) × (P ≡ noPlaces) × (F ≡ noFacts)
 
-pub blank-lengths : {R P F : List ℕ} → Blank R P F → (length P ≡ 12610) × (length F ≡ 4420)
-blank-lengths (a, b, c) = (rw b (length-replicate {A = ℕ} 12610 0), rw c (length-replicate {A = ℕ} 4420 0))
+pub blank-lengths : {R P F : List ℕ} → Blank R P F → (length P ≡ PLACES) × (length F ≡ FACTS)
+blank-lengths (a, b, c) = (rw b (length-replicate {A = ℕ} PLACES 0), rw c (length-replicate {A = ℕ} FACTS 0))
 
 pub filled-own : (s elements index R P F R′ P′ F′ : List ℕ) → (es : List Element) × Indexed s es elements index → Blank R P F → R′ ≡ documentRows R → PlacePut 0 1 1 P F P′ F′ → Filled s (elementsOf s) R′ P′ F′ 1
 filled-own s elements index R P F R′ P′ F′ i (a, b, c) q w =

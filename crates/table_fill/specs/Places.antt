@@ -14,6 +14,7 @@ use Rattle.rules.specs.TypeFile.{Place, Element, typeFile}
 use Rattle.rules.specs.Judge.{placeAt}
 use Rattle.rules.specs.Elements.{numberOf}
 use Rattle.rules.specs.Decisions.{Token, start, pcdata, hasName}
+use Rattle.layout.specs.Sizes.{POSITIONS, PLACES, FACT, FACTS}
 use Rattle.model_sets.specs.Bits.{not-both, bool-cases}
 use Rattle.document_laws.specs.Decide.{search}
 use Rattle.rules_laws.specs.Within.{typeFile-count}
@@ -80,18 +81,18 @@ module _ (s : List ℕ) (es : List Element) (read : typeFile s ≡ got es) (ps :
 
 -- The place p of the element e, which names v, is put before those of the name that are there.
 pub record PlacePut (e p v : ℕ) (P F P′ F′ : List ℕ) : Type 0 where
-  pub places-len : length P′ ≡ 12610
-  pub facts-len : length F′ ≡ 4420
-  pub under : (k : ℕ) → k < (e * 97 + p) * 2 → getD P′ k 0 ≡ getD P k 0
-  pub named : getD P′ ((e * 97 + p) * 2) 0 ≡ v
-  pub smaller : 1 ≤ v → getD P′ ((e * 97 + p) * 2 + 1) 0 ≡ getD F (e * 68 + slotOf v) 0
-  pub largest : 1 ≤ v → getD F′ (e * 68 + slotOf v) 0 ≡ p
-  pub others : (k : ℕ) → (1 ≤ v → k ≡ e * 68 + slotOf v → ⊥) → getD F′ k 0 ≡ getD F k 0
+  pub places-len : length P′ ≡ PLACES
+  pub facts-len : length F′ ≡ FACTS
+  pub under : (k : ℕ) → k < (e * POSITIONS + p) * 2 → getD P′ k 0 ≡ getD P k 0
+  pub named : getD P′ ((e * POSITIONS + p) * 2) 0 ≡ v
+  pub smaller : 1 ≤ v → getD P′ ((e * POSITIONS + p) * 2 + 1) 0 ≡ getD F (e * FACT + slotOf v) 0
+  pub largest : 1 ≤ v → getD F′ (e * FACT + slotOf v) 0 ≡ p
+  pub others : (k : ℕ) → (1 ≤ v → k ≡ e * FACT + slotOf v → ⊥) → getD F′ k 0 ≡ getD F k 0
 
-module _ (e p v : ℕ) (P F : List ℕ) (e-to : e ≤ 64) (p-to : p ≤ 96) (l : length P ≡ 12610) (m : length F ≡ 4420) where
-  pub place-none : v ≡ 0 → PlacePut e p v P F (set P ((e * 97 + p) * 2) v) F
+module _ (e p v : ℕ) (P F : List ℕ) (e-to : e ≤ 64) (p-to : p ≤ 96) (l : length P ≡ PLACES) (m : length F ≡ FACTS) where
+  pub place-none : v ≡ 0 → PlacePut e p v P F (set P ((e * POSITIONS + p) * 2) v) F
   place-none z =
-      let q : ℕ = (e * 97 + p) * 2 in
+      let q : ℕ = (e * POSITIONS + p) * 2 in
       record {
         places-len = length-set P q v ∙ l;
         facts-len = m;
@@ -102,11 +103,11 @@ module _ (e p v : ℕ) (P F : List ℕ) (e-to : e ≤ 64) (p-to : p ≤ 96) (l :
         others = λ k h. refl;
       }
 
-  pub place-some : (f a : ℕ) → 1 ≤ v → slotOf v ≤ 64 → f ≡ e * 68 + slotOf v → a ≡ getD F f 0 → PlacePut e p v P F (set (set P ((e * 97 + p) * 2) v) ((e * 97 + p) * 2 + 1) a) (set F f p)
+  pub place-some : (f a : ℕ) → 1 ≤ v → slotOf v ≤ 64 → f ≡ e * FACT + slotOf v → a ≡ getD F f 0 → PlacePut e p v P F (set (set P ((e * POSITIONS + p) * 2) v) ((e * POSITIONS + p) * 2 + 1) a) (set F f p)
   place-some f a some s-to is has =
-      let q : ℕ = (e * 97 + p) * 2 in
+      let q : ℕ = (e * POSITIONS + p) * 2 in
       let R : List ℕ = set P q v in
-      let n : length R ≡ 12610 = length-set P q v ∙ l in
+      let n : length R ≡ PLACES = length-set P q v ∙ l in
       record {
         places-len = length-set R (q + 1) a ∙ n;
         facts-len = length-set F f p ∙ m;
@@ -121,14 +122,14 @@ module _ (e p v : ℕ) (P F : List ℕ) (e-to : e ≤ 64) (p-to : p ≤ 96) (l :
 
 -- The places of the element e below p, and nothing else of it, are filed in P and F.
 pub record PlacesPut (s : List ℕ) (es : List Element) (ps : List Place) (e : ℕ) (P F P′ F′ : List ℕ) (p : ℕ) : Type 0 where
-  pub places-len : length P′ ≡ 12610
-  pub facts-len : length F′ ≡ 4420
-  pub places-under : (k : ℕ) → k < e * 97 * 2 → getD P′ k 0 ≡ getD P k 0
-  pub facts-under : (k : ℕ) → k < e * 68 → getD F′ k 0 ≡ getD F k 0
-  pub facts-over : (k : ℕ) → e * 68 + 65 ≤ k → getD F′ k 0 ≡ getD F k 0
-  pub named : (q : ℕ) → q < p → 1 ≤ q → getD P′ ((e * 97 + q) * 2) 0 ≡ namedBy s es ps q
-  pub smaller : (q : ℕ) → q < p → 1 ≤ q → (t : Token) → Declares es t → hasName s es ps t q ≡ true → getD P′ ((e * 97 + q) * 2 + 1) 0 ≡ search (hasName s es ps t) (q - 1)
-  pub largest : (t : Token) → Declares es t → getD F′ (e * 68 + nameNumber t) 0 ≡ search (hasName s es ps t) (p - 1)
+  pub places-len : length P′ ≡ PLACES
+  pub facts-len : length F′ ≡ FACTS
+  pub places-under : (k : ℕ) → k < e * POSITIONS * 2 → getD P′ k 0 ≡ getD P k 0
+  pub facts-under : (k : ℕ) → k < e * FACT → getD F′ k 0 ≡ getD F k 0
+  pub facts-over : (k : ℕ) → e * FACT + 65 ≤ k → getD F′ k 0 ≡ getD F k 0
+  pub named : (q : ℕ) → q < p → 1 ≤ q → getD P′ ((e * POSITIONS + q) * 2) 0 ≡ namedBy s es ps q
+  pub smaller : (q : ℕ) → q < p → 1 ≤ q → (t : Token) → Declares es t → hasName s es ps t q ≡ true → getD P′ ((e * POSITIONS + q) * 2 + 1) 0 ≡ search (hasName s es ps t) (q - 1)
+  pub largest : (t : Token) → Declares es t → getD F′ (e * FACT + nameNumber t) 0 ≡ search (hasName s es ps t) (p - 1)
 
 pub number-few : (es : List Element) (t : Token) → length es ≤ 64 → Declares es t → nameNumber t ≤ 64
 number-few es (start k) l d = omega arith
@@ -146,7 +147,7 @@ search-miss f zero l h = absurd (omega arith)
 search-miss f (suc p) l h = let z : suc p - 1 ≡ p = omega arith in rw (z, h, search)
 
 module _ (s : List ℕ) (es : List Element) (read : typeFile s ≡ got es) (ps : List Place) (e : ℕ) (P F : List ℕ) where
-  pub places-none : length P ≡ 12610 → length F ≡ 4420 → ((k : ℕ) → e * 68 ≤ k → k < e * 68 + 65 → getD F k 0 ≡ 0) → PlacesPut s es ps e P F P F 1
+  pub places-none : length P ≡ PLACES → length F ≡ FACTS → ((k : ℕ) → e * FACT ≤ k → k < e * FACT + 65 → getD F k 0 ≡ 0) → PlacesPut s es ps e P F P F 1
   unfolding search
   places-none l m blank =
       record {
@@ -157,23 +158,23 @@ module _ (s : List ℕ) (es : List Element) (read : typeFile s ≡ got es) (ps :
         facts-over = λ k h. refl;
         named = λ q a b. absurd (omega arith);
         smaller = λ q a b t d h. absurd (omega arith);
-        largest = λ t d. blank (e * 68 + nameNumber t) (omega arith) (omega (arith, number-few es t (typeFile-count s es read .1) d));
+        largest = λ t d. blank (e * FACT + nameNumber t) (omega arith) (omega (arith, number-few es t (typeFile-count s es read .1) d));
       }
 
   module _ (Q G : List ℕ) (p : ℕ) (from : 1 ≤ p) (to : p ≤ 96) (h : PlacesPut s es ps e P F Q G p) (v : ℕ) (is : v ≡ namedBy s es ps p) (R H : List ℕ) (w : PlacePut e p v Q G R H) where
     slot-in : slotOf v ≤ 64
     slot-in = named-fits s es read ps p v is .1
 
-    largest-more : (t : Token) → Declares es t → getD H (e * 68 + nameNumber t) 0 ≡ search (hasName s es ps t) p
+    largest-more : (t : Token) → Declares es t → getD H (e * FACT + nameNumber t) 0 ≡ search (hasName s es ps t) p
     largest-more t d =
         bool-cases (hasName s es ps t p)
         (λ y. let (l, q) = filed s es read ps p v is t d y in (rw q at (w .largest l)) ∙ sym (search-hit _ p from y))
         (λ y.
-        w .others (e * 68 + nameNumber t) (λ l q. not-both y (filed-only s es read ps p v is t d l (omega arith)))
+        w .others (e * FACT + nameNumber t) (λ l q. not-both y (filed-only s es read ps p v is t d l (omega arith)))
         ∙ h .largest t d
         ∙ sym (search-miss _ p from y))
 
-    smaller-more : 1 ≤ p → (t : Token) → Declares es t → hasName s es ps t p ≡ true → getD R ((e * 97 + p) * 2 + 1) 0 ≡ search (hasName s es ps t) (p - 1)
+    smaller-more : 1 ≤ p → (t : Token) → Declares es t → hasName s es ps t p ≡ true → getD R ((e * POSITIONS + p) * 2 + 1) 0 ≡ search (hasName s es ps t) (p - 1)
     smaller-more l t d y = let (a, q) = filed s es read ps p v is t d y in w .smaller a ∙ rw q (h .largest t d)
 
     pub places-more : PlacesPut s es ps e P F R H (p + 1)
@@ -185,10 +186,10 @@ module _ (s : List ℕ) (es : List Element) (read : typeFile s ≡ got es) (ps :
           places-under = λ k l. w .under k (omega arith) ∙ h .places-under k l;
           facts-under = λ k l. w .others k (λ a q. omega arith) ∙ h .facts-under k l;
           facts-over = λ k l. w .others k (λ a q. omega (arith, slot-in)) ∙ h .facts-over k l;
-          named = below-more (λ (q : ℕ). 1 ≤ q → getD R ((e * 97 + q) * 2) 0 ≡ namedBy s es ps q) p (λ q a b. w .under ((e * 97 + q) * 2) (omega arith) ∙ h .named q a b) (λ b. w .named ∙ is);
+          named = below-more (λ (q : ℕ). 1 ≤ q → getD R ((e * POSITIONS + q) * 2) 0 ≡ namedBy s es ps q) p (λ q a b. w .under ((e * POSITIONS + q) * 2) (omega arith) ∙ h .named q a b) (λ b. w .named ∙ is);
           smaller =
-              below-more (λ (q : ℕ). 1 ≤ q → (t : Token) → Declares es t → hasName s es ps t q ≡ true → getD R ((e * 97 + q) * 2 + 1) 0 ≡ search (hasName s es ps t) (q - 1)) p
-              (λ q a b t d y. w .under ((e * 97 + q) * 2 + 1) (omega arith) ∙ h .smaller q a b t d y)
+              below-more (λ (q : ℕ). 1 ≤ q → (t : Token) → Declares es t → hasName s es ps t q ≡ true → getD R ((e * POSITIONS + q) * 2 + 1) 0 ≡ search (hasName s es ps t) (q - 1)) p
+              (λ q a b t d y. w .under ((e * POSITIONS + q) * 2 + 1) (omega arith) ∙ h .smaller q a b t d y)
               smaller-more;
           largest = λ t d. rw z (largest-more t d);
         }

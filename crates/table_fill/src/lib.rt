@@ -2,12 +2,24 @@
 //
 // The layout is that of the crate type_tables.
 use element_reader::ElementRead;
+use layout::FACT;
+use layout::FACTS;
+use layout::INDEX;
+use layout::LINK;
+use layout::MODEL;
+use layout::NAMES;
+use layout::PLACES;
+use layout::POSITIONS;
+use layout::RECORDS;
+use layout::ROW;
+use layout::ROWS;
 ghost use mathlib.Core.Path.{_≡_};
 ghost use mathlib.Core.List.{List};
 ghost use Prim.Native.Nat.{_+_, _-_, _*_, _≤_, _<_};
 ghost use lib.ListN.{length, replicate, getD};
 ghost use Rattle.rules.specs.TypeFile.{Element};
 ghost use Rattle.rules.specs.Judge.{Accepts};
+ghost use Rattle.layout.specs.Sizes.{ROWS, PLACES, FACTS};
 ghost use Rattle.model_names.specs.Places.{placeIn, placesOf};
 ghost use Rattle.element_reader.specs.Means.{Recorded};
 ghost use Rattle.element_index.specs.Means.{Judged, Indexed};
@@ -27,35 +39,41 @@ fn slot(v: usize) -> usize
 }
 
 // The place p of the element e names v: it comes before those of that name that are there.
-fn put_place(places: &mut [u8; 12610], facts: &mut [u8; 4420], e: usize, p: usize, v: usize)
-    requires { ⌜ (e ≤ 64) × (p ≤ 96) × (v ≤ 255) × (slotOf v ≤ 64) × (length (now places) ≡ 12610) × (length (now facts) ≡ 4420) ⌝ }
+fn put_place(places: &mut [u8; PLACES], facts: &mut [u8; FACTS], e: usize, p: usize, v: usize)
+    requires { ⌜ (e ≤ 64) × (p ≤ 96) × (v ≤ 255) × (slotOf v ≤ 64) × (length (now places) ≡ PLACES) × (length (now facts) ≡ FACTS) ⌝ }
     ensures { λ _. ⌜ PlacePut e p v (now (places .entry)) (now (facts .entry)) (now (places .exit)) (now (facts .exit)) ⌝ }
 {
-    let q = (e * 97 + p) * 2;
+    let q = (e * POSITIONS + p) * LINK;
     places[q] = v as u8;
     if v == 0 {
         return;
     }
-    let f = e * 68 + slot(v);
+    let f = e * FACT + slot(v);
     let earlier = facts[f];
     places[q + 1] = earlier;
     facts[f] = p as u8;
 }
 
 // The document: its one place is the document element, required at the start.
-fn put_document(rows: &mut [u8; 88270], places: &mut [u8; 12610], facts: &mut [u8; 4420])
-    requires { ⌜ (length (now places) ≡ 12610) × (length (now facts) ≡ 4420) ⌝ }
+fn put_document(rows: &mut [u8; ROWS], places: &mut [u8; PLACES], facts: &mut [u8; FACTS])
+    requires { ⌜ (length (now places) ≡ PLACES) × (length (now facts) ≡ FACTS) ⌝ }
     ensures { λ _. ⌜ (now (rows .exit) ≡ documentRows (now (rows .entry)))
         × PlacePut 0 1 1 (now (places .entry)) (now (facts .entry)) (now (places .exit)) (now (facts .exit)) ⌝ }
 {
     rows[0] = 2;
     rows[13] = 1;
-    rows[14] = 1;
+    rows[ROW] = 1;
     put_place(places, facts, 0, 1, 1);
 }
 
 // What the place p of the model whose names are in `names` names: an element, 255 for `#PCDATA`, 0 if that is not declared.
-fn name(s: &[u8], elements: &[u32; 384], index: &[u8; 321], names: &[u32; 192], p: usize) -> usize
+fn name(
+    s: &[u8],
+    elements: &[u32; RECORDS],
+    index: &[u8; INDEX],
+    names: &[u32; NAMES],
+    p: usize,
+) -> usize
     requires { ⌜ Indexed (now s) (elementsOf (now s)) (now elements) (now index) ⌝ }
     requires { ⌜ (1 ≤ p) × (p ≤ 96) × IsName (now s) (placeIn (now names) (p - 1)) ⌝ }
     ensures { λ r. ⌜ r ≡ nameOf (now (s .entry)) (elementsOf (now (s .entry))) (placeIn (now (names .entry)) (p - 1)) ⌝ }
@@ -72,12 +90,12 @@ fn name(s: &[u8], elements: &[u32; 384], index: &[u8; 321], names: &[u32; 192], 
 // The places of the element e, whose model has `count` places with their names in `names`.
 fn put_places(
     s: &[u8],
-    elements: &[u32; 384],
-    index: &[u8; 321],
-    places: &mut [u8; 12610],
-    facts: &mut [u8; 4420],
+    elements: &[u32; RECORDS],
+    index: &[u8; INDEX],
+    places: &mut [u8; PLACES],
+    facts: &mut [u8; FACTS],
     e: usize,
-    names: &[u32; 192],
+    names: &[u32; NAMES],
     count: usize,
 )
     requires { ⌜ PlacesDue (now s) (elementsOf (now s)) (now elements) (now index) (now names) (now places) (now facts) e count ⌝ }
@@ -93,27 +111,27 @@ fn put_places(
 }
 
 // Both omissions and the content of the element e.
-fn put_facts(facts: &mut [u8; 4420], elements: &[u32; 384], e: usize)
+fn put_facts(facts: &mut [u8; FACTS], elements: &[u32; RECORDS], e: usize)
     requires { ⌜ (1 ≤ e) × (e ≤ 64) × Flags (now elements) e ⌝ }
     ensures { λ _. ⌜ now (facts .exit) ≡ factsPut (now (facts .entry)) (now (elements .entry)) e ⌝ }
 {
     let k = 6 * (e - 1);
-    facts[e * 68 + 65] = elements[k + 2] as u8;
-    facts[e * 68 + 66] = elements[k + 3] as u8;
-    facts[e * 68 + 67] = elements[k + 4] as u8;
+    facts[e * FACT + 65] = elements[k + 2] as u8;
+    facts[e * FACT + 66] = elements[k + 3] as u8;
+    facts[e * FACT + 67] = elements[k + 4] as u8;
 }
 
 // The element e: its declaration is read again from its name on, which fills `names` and `table`.
 fn put_element(
     s: &[u8],
-    elements: &[u32; 384],
-    index: &[u8; 321],
-    rows: &mut [u8; 88270],
-    places: &mut [u8; 12610],
-    facts: &mut [u8; 4420],
+    elements: &[u32; RECORDS],
+    index: &[u8; INDEX],
+    rows: &mut [u8; ROWS],
+    places: &mut [u8; PLACES],
+    facts: &mut [u8; FACTS],
     e: usize,
-    names: &mut [u32; 192],
-    table: &mut [u8; 9506],
+    names: &mut [u32; NAMES],
+    table: &mut [u8; MODEL],
 )
     requires { ⌜ ElementDue (now s) (elementsOf (now s)) (now elements) (now index) (now rows) (now places) (now facts) e ⌝ }
     ensures { λ _. ⌜ Filled (now (s .entry)) (elementsOf (now (s .entry))) (now (rows .exit)) (now (places .exit)) (now (facts .exit)) (e + 1) ⌝ }
@@ -143,21 +161,21 @@ fn put_element(
 // numbers past the type's elements and past a model's places is not decided: the state never stands there.
 pub fn fill(
     s: &[u8],
-    elements: &[u32; 384],
+    elements: &[u32; RECORDS],
     count: usize,
-    index: &[u8; 321],
-    rows: &mut [u8; 88270],
-    places: &mut [u8; 12610],
-    facts: &mut [u8; 4420],
+    index: &[u8; INDEX],
+    rows: &mut [u8; ROWS],
+    places: &mut [u8; PLACES],
+    facts: &mut [u8; FACTS],
 )
     requires { ⌜ Judged (now s) (now elements) count ⌝ }
     requires { ⌜ ((es : List Element) × Indexed (now s) es (now elements) (now index)) ⌝ }
-    requires { ⌜ (now rows ≡ replicate 88270 0) × (now places ≡ replicate 12610 0) × (now facts ≡ replicate 4420 0) ⌝ }
+    requires { ⌜ (now rows ≡ replicate ROWS 0) × (now places ≡ replicate PLACES 0) × (now facts ≡ replicate FACTS 0) ⌝ }
     ensures { λ _. ⌜ ((es : List Element) → Accepts (now (s .entry)) es → length es ≡ count → Recorded (now (elements .entry)) es →
         Tables (now (s .entry)) es (now (rows .exit)) (now (places .exit)) (now (facts .exit))) ⌝ }
 {
-    let mut names = [0u32; 192];
-    let mut table = [0u8; 9506];
+    let mut names = [0u32; NAMES];
+    let mut table = [0u8; MODEL];
     put_document(rows, places, facts);
     let mut e = 1;
     while e <= count {

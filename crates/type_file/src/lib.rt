@@ -2,6 +2,9 @@
 use element_records::Clash;
 use element_records::Progress;
 use element_records::Step;
+use layout::MODEL;
+use layout::NAMES;
+use layout::RECORDS;
 use text::Fault;
 use text::Reached;
 ghost use mathlib.Core.Path.{_≡_};
@@ -27,9 +30,9 @@ fn keyword_at(
     s: &[u8],
     i: usize,
     p: Progress,
-    elements: &mut [u32; 384],
-    names: &mut [u32; 192],
-    table: &mut [u8; 9506],
+    elements: &mut [u32; RECORDS],
+    names: &mut [u32; NAMES],
+    table: &mut [u8; MODEL],
 ) -> Step
     requires { ⌜ (i + 2 ≤ length (now s)) × (length (now s) ≤ 32768) ⌝ }
     requires { ⌜ InProgress (now s) (now elements) p ⌝ }
@@ -63,9 +66,9 @@ fn markup_at(
     s: &[u8],
     i: usize,
     p: Progress,
-    elements: &mut [u32; 384],
-    names: &mut [u32; 192],
-    table: &mut [u8; 9506],
+    elements: &mut [u32; RECORDS],
+    names: &mut [u32; NAMES],
+    table: &mut [u8; MODEL],
 ) -> Step
     requires { ⌜ (i + 2 ≤ length (now s)) × (length (now s) ≤ 32768) ⌝ }
     requires { ⌜ InProgress (now s) (now elements) p ⌝ }
@@ -100,9 +103,9 @@ fn declaration_at(
     s: &[u8],
     i: usize,
     p: Progress,
-    elements: &mut [u32; 384],
-    names: &mut [u32; 192],
-    table: &mut [u8; 9506],
+    elements: &mut [u32; RECORDS],
+    names: &mut [u32; NAMES],
+    table: &mut [u8; MODEL],
 ) -> Step
     requires { ⌜ (i < length (now s)) × (length (now s) ≤ 32768) ⌝ }
     requires { ⌜ InProgress (now s) (now elements) p ⌝ }
@@ -127,12 +130,12 @@ fn declaration_at(
 }
 
 // The whole type file. What stands in `elements` behind the records of its elements, and in all of it on refusal, is not decided.
-pub fn file_read(s: &[u8], elements: &mut [u32; 384]) -> Step
+pub fn file_read(s: &[u8], elements: &mut [u32; RECORDS]) -> Step
     requires { ⌜ length (now s) ≤ 32768 ⌝ }
     ensures { λ r. ⌜ MeetsFile (now (s .entry)) (now (elements .exit)) r (typeFile (now (s .entry))) ⌝ }
 {
-    let mut names = [0u32; 192];
-    let mut table = [0u8; 9506];
+    let mut names = [0u32; NAMES];
+    let mut table = [0u8; MODEL];
     let mut p = Progress {
         at: 0,
         count: 0,

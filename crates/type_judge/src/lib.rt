@@ -1,6 +1,7 @@
 // The type judge: a type file and a lent buffer in, element records or one refusal out.
 use element_records::Clash;
 use element_records::Step;
+use layout::RECORDS;
 use text::Fault;
 ghost use Prim.Native.Nat.{_≤_};
 ghost use lib.ListN.{length};
@@ -19,7 +20,7 @@ pub enum Verdict {
 // The verdict on a type file whose length and bytes were looked at, where the lent buffer has room for so many numbers: if
 // accepted, the elements are recorded in `elements`; what stands behind their records, and in all of it on refusal, is not
 // decided. Nor is the verdict where a byte is not allowed.
-pub fn decide_legible(s: &[u8], room: usize, elements: &mut [u32; 384]) -> Verdict
+pub fn decide_legible(s: &[u8], room: usize, elements: &mut [u32; RECORDS]) -> Verdict
     requires { ⌜ length (now s) ≤ 32768 ⌝ }
     ensures { λ r. ⌜ (Legible (now (s .entry)) → Decides (now (s .entry)) room (now (elements .exit)) r) ⌝ }
 {
@@ -40,7 +41,7 @@ pub fn decide_legible(s: &[u8], room: usize, elements: &mut [u32; 384]) -> Verdi
 }
 
 // The verdict on any type file: numbers 1 and 2 come first.
-pub fn decide(s: &[u8], room: usize, elements: &mut [u32; 384]) -> Verdict
+pub fn decide(s: &[u8], room: usize, elements: &mut [u32; RECORDS]) -> Verdict
     ensures { λ r. ⌜ Decides (now (s .entry)) room (now (elements .exit)) r ⌝ }
 {
     if 32768 < s.len() {
@@ -57,7 +58,7 @@ pub fn decide(s: &[u8], room: usize, elements: &mut [u32; 384]) -> Verdict
 pub fn judge(s: &[u8], buffer: &mut [u32]) -> Verdict
     ensures { λ r. ⌜ Judged numbers (now (s .entry)) (now (buffer .entry)) (answerOf r) (now (buffer .exit)) ⌝ }
 {
-    let mut elements = [0u32; 384];
+    let mut elements = [0u32; RECORDS];
     let v = decide(s, buffer.len(), &mut elements);
     if let Verdict::Accepted(n) = v {
         element_records::whole(elements);
@@ -72,7 +73,7 @@ pub fn judge(s: &[u8], buffer: &mut [u32]) -> Verdict
 pub fn judge_to_bytes(s: &[u8], buffer: &mut [u8]) -> Verdict
     ensures { λ r. ⌜ Judged bytes (now (s .entry)) (now (buffer .entry)) (answerOf r) (now (buffer .exit)) ⌝ }
 {
-    let mut elements = [0u32; 384];
+    let mut elements = [0u32; RECORDS];
     let v = decide(s, buffer.len() / 4, &mut elements);
     if let Verdict::Accepted(n) = v {
         element_records::whole(elements);

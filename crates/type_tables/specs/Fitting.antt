@@ -8,6 +8,7 @@ use lib.ListN.{length, getD}
 use Rattle.rules.specs.TypeFile.{Content, empty, model, Element}
 use Rattle.rules.specs.Elements.{contentOf, placesIn}
 use Rattle.rules.specs.Decisions.{Token, hasName}
+use Rattle.layout.specs.Sizes.{POSITIONS, FACT}
 use Rattle.model_sets.specs.Bits.{and-both}
 use Rattle.document_laws.specs.Decide.{search, fitsIn}
 use Rattle.last_places.specs.Last.{placed, InRange}
@@ -51,17 +52,17 @@ module _ (s : List ℕ) (es : List Element) (rows places facts : List ℕ) (tabl
         still = z ∙ search-both has next n;
       }
 
-  left-start : Left s es e u t (getD facts (e * 68 + nameNumber t) 0)
+  left-start : Left s es e u t (getD facts (e * FACT + nameNumber t) 0)
   left-start = rw (tables .facts-say .largest e t (range .declared) declared) (left-last (width es e) (omega arith) fits-search)
 
   module _ (p : ℕ) (left : Left s es e u t p) (some : 1 ≤ p) where
     bit-next : bitOf (getD rows (rowAt e u + p / 8) 0) (p % 8) ≡ next p
     bit-next = tables .rows-say .next e u p (range .declared) (place-range es e u range) some (omega (arith, left .within, width-most s es (tables .accepted) e))
 
-    smaller-last : getD places ((e * 97 + p) * 2 + 1) 0 ≡ search has (p - 1)
+    smaller-last : getD places ((e * POSITIONS + p) * 2 + 1) 0 ≡ search has (p - 1)
     smaller-last = tables .places-say .smaller e p t (range .declared) some (left .within) declared (left .named some)
 
-    left-next : next p ≡ false → Left s es e u t (getD places ((e * 97 + p) * 2 + 1) 0)
+    left-next : next p ≡ false → Left s es e u t (getD places ((e * POSITIONS + p) * 2 + 1) 0)
     left-next z =
         let misses : has p && next p ≡ false = rw (z, and-false) in
         rw smaller-last (left-last (p - 1) (omega (arith, left .within)) (left .still ∙ search-miss _ p some misses))
@@ -77,7 +78,7 @@ Answers rows places facts e u x n =
     (s : List ℕ) (es : List Element) → Tables s es rows places facts → InRange es (standing e u) → (t : Token) → nameNumber t ≡ x → Declares es t → n ≡ fitsIn s es (contentOf es e) (placed u) t
 
 module _ (rows places facts : List ℕ) (e u x : ℕ) where
-  pub seeks-start : (p : ℕ) → p ≡ getD facts (e * 68 + x) 0 → Seeks rows places facts e u x p
+  pub seeks-start : (p : ℕ) → p ≡ getD facts (e * FACT + x) 0 → Seeks rows places facts e u x p
   seeks-start p z = record { left = λ s es tables range t n d. rw (z, ← n) (left-start s es rows places facts tables e u range t d) }
 
   module _ (p : ℕ) (seeks : Seeks rows places facts e u x p) where
@@ -90,13 +91,13 @@ module _ (rows places facts : List ℕ) (e u x : ℕ) where
 
     module _ (some : p ≡ 0 → ⊥) where
       -- In no type does the link rise.
-      pub seeks-rising : (q : ℕ) → q ≡ getD places ((e * 97 + p) * 2 + 1) 0 → p ≤ q → Answers rows places facts e u x 0
+      pub seeks-rising : (q : ℕ) → q ≡ getD places ((e * POSITIONS + p) * 2 + 1) 0 → p ≤ q → Answers rows places facts e u x 0
       seeks-rising q z l s es tables range t n d =
           let left = seeks .left s es tables range t n d in
           absurd (omega (arith, smaller-last s es rows places facts tables e u range t d p left (omega arith), search-most (hasName s es (placesIn (contentOf es e)) t) (p - 1)))
 
       module _ (bit : Bool) (read : bit ≡ bitOf (getD rows (rowAt e u + p / 8) 0) (p % 8)) where
-        pub seeks-next : bit ≡ false → (q : ℕ) → q ≡ getD places ((e * 97 + p) * 2 + 1) 0 → Seeks rows places facts e u x q
+        pub seeks-next : bit ≡ false → (q : ℕ) → q ≡ getD places ((e * POSITIONS + p) * 2 + 1) 0 → Seeks rows places facts e u x q
         seeks-next b q z =
             record {
               left =

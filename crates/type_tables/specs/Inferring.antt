@@ -12,6 +12,7 @@ use Rattle.rules.specs.Judge.{placeAt}
 use Rattle.rules.specs.Elements.{contentOf, placesIn, hasModel, startO}
 use Rattle.rules.specs.Decisions.{start}
 use Rattle.rules.specs.Settling.{elementOf, inferable}
+use Rattle.layout.specs.Sizes.{POSITIONS}
 use Rattle.model_sets.specs.Bits.{bool-cases}
 use Rattle.document_laws.specs.Decide.{decided}
 use Rattle.type_laws.specs.Names.{numberOf-range, numberOf-pcdata}
@@ -53,7 +54,7 @@ module _ (rows places facts : List ℕ) (e u p : ℕ) (s : List ℕ) (es : List 
   none-named z = sym (inferred ∙ numberIf-zero (may es p named) named z)
 
   -- The number k is kept of what the place names.
-  module _ (some : p ≡ 0 → ⊥) (k : ℕ) (read : k ≡ getD places ((e * 97 + p) * 2) 0) where
+  module _ (some : p ≡ 0 → ⊥) (k : ℕ) (read : k ≡ getD places ((e * POSITIONS + p) * 2) 0) where
     abbrev stands : Place
     stands = placeAt (placesIn (contentOf es e)) (p - 1)
 
@@ -82,7 +83,7 @@ module _ (rows places facts : List ℕ) (e u p : ℕ) (s : List ℕ) (es : List 
 -- The place p names the element k.
 pub record Names (places : List ℕ) (e p k : ℕ) : Type 0 where
   pub some : p ≡ 0 → ⊥
-  pub read : k ≡ getD places ((e * 97 + p) * 2) 0
+  pub read : k ≡ getD places ((e * POSITIONS + p) * 2) 0
   pub declared : k ≡ 0 → ⊥
   pub element : k ≤ 64
 

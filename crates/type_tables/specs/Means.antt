@@ -10,6 +10,7 @@ use Rattle.rules.specs.Judge.{Accepts, placeAt}
 use Rattle.rules.specs.Elements.{elementAt, numberOf, contentOf, placesIn, hasModel}
 use Rattle.rules.specs.Decisions.{Token, start, pcdata, hasName}
 use Rattle.rules.specs.Settling.{Open}
+use Rattle.layout.specs.Sizes.{POSITIONS, ROW, FACT}
 use Rattle.model_sets.specs.Sets.{nextIn}
 use Rattle.document_laws.specs.Decide.{search, isCompleteIn, requiredOf}
 use Rattle.last_places.specs.Last.{placed, InRange}
@@ -36,7 +37,7 @@ Declares es pcdata = Unit {0}
 
 -- Where the row of the element e after the place u begins.
 abbrev pub rowAt : (e u : ℕ) → ℕ
-rowAt e u = (e * 97 + u) * 14
+rowAt e u = (e * POSITIONS + u) * ROW
 
 -- Whether the bit k of a number is 1.
 abbrev pub bitOf : (b k : ℕ) → Bool
@@ -68,14 +69,14 @@ abbrev pub namedBy : List ℕ → List Element → List Place → ℕ → ℕ
 namedBy s es ps p = cond (eqb (placeAt ps (p - 1) .size) 0) 255 (numberOf s es s (placeAt ps (p - 1) .at) (placeAt ps (p - 1) .size))
 
 pub record Places (s : List ℕ) (es : List Element) (places : List ℕ) : Type 0 where
-  pub named : (e p : ℕ) → e ≤ length es → 1 ≤ p → p ≤ width es e → getD places ((e * 97 + p) * 2) 0 ≡ namedBy s es (placesIn (contentOf es e)) p
-  pub smaller : (e p : ℕ) (t : Token) → e ≤ length es → 1 ≤ p → p ≤ width es e → Declares es t → hasName s es (placesIn (contentOf es e)) t p ≡ true → getD places ((e * 97 + p) * 2 + 1) 0 ≡ search (hasName s es (placesIn (contentOf es e)) t) (p - 1)
+  pub named : (e p : ℕ) → e ≤ length es → 1 ≤ p → p ≤ width es e → getD places ((e * POSITIONS + p) * 2) 0 ≡ namedBy s es (placesIn (contentOf es e)) p
+  pub smaller : (e p : ℕ) (t : Token) → e ≤ length es → 1 ≤ p → p ≤ width es e → Declares es t → hasName s es (placesIn (contentOf es e)) t p ≡ true → getD places ((e * POSITIONS + p) * 2 + 1) 0 ≡ search (hasName s es (placesIn (contentOf es e)) t) (p - 1)
 
 pub record Facts (s : List ℕ) (es : List Element) (facts : List ℕ) : Type 0 where
-  pub largest : (e : ℕ) (t : Token) → e ≤ length es → Declares es t → getD facts (e * 68 + nameNumber t) 0 ≡ search (hasName s es (placesIn (contentOf es e)) t) (width es e)
-  pub start : (e : ℕ) → 1 ≤ e → e ≤ length es → getD facts (e * 68 + 65) 0 ≡ elementAt es (e - 1) .start
-  pub end : (e : ℕ) → 1 ≤ e → e ≤ length es → getD facts (e * 68 + 66) 0 ≡ elementAt es (e - 1) .end
-  pub has : (e : ℕ) → 1 ≤ e → e ≤ length es → getD facts (e * 68 + 67) 0 ≡ cond (hasModel (contentOf es e)) 1 0
+  pub largest : (e : ℕ) (t : Token) → e ≤ length es → Declares es t → getD facts (e * FACT + nameNumber t) 0 ≡ search (hasName s es (placesIn (contentOf es e)) t) (width es e)
+  pub start : (e : ℕ) → 1 ≤ e → e ≤ length es → getD facts (e * FACT + 65) 0 ≡ elementAt es (e - 1) .start
+  pub end : (e : ℕ) → 1 ≤ e → e ≤ length es → getD facts (e * FACT + 66) 0 ≡ elementAt es (e - 1) .end
+  pub has : (e : ℕ) → 1 ≤ e → e ≤ length es → getD facts (e * FACT + 67) 0 ≡ cond (hasModel (contentOf es e)) 1 0
 
 pub record Tables (s : List ℕ) (es : List Element) (rows places facts : List ℕ) : Type 0 where
   pub accepted : Accepts s es

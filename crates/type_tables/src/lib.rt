@@ -14,6 +14,13 @@
 // where the start may be omitted, the end may be omitted, and the content is a model.
 //
 // Whatever the tables hold, each function ends and stays within them; a number that no table of a type has is answered by 0.
+use layout::FACT;
+use layout::FACTS;
+use layout::LINK;
+use layout::PLACES;
+use layout::POSITIONS;
+use layout::ROW;
+use layout::ROWS;
 ghost use mathlib.Core.Path.{_≡_};
 ghost use mathlib.Core.List.{List};
 ghost use Prim.Native.Nat.{ℕ, _+_, _*_, _/_, _%_, _≤_, _<_};
@@ -24,6 +31,7 @@ ghost use Rattle.rules.specs.Elements.{contentOf, hasModel, startO, endO};
 ghost use Rattle.rules.specs.Decisions.{Token};
 ghost use Rattle.rules.specs.Settling as rules;
 ghost use Rattle.rules.specs.Decisions as decisions;
+ghost use Rattle.layout.specs.Sizes.{POSITIONS};
 ghost use Rattle.document_laws.specs.Decide.{decided};
 ghost use Rattle.last_places.specs.Last.{placed, InRange};
 ghost use Rattle.type_tables.specs.Means.{standing, nameNumber, rowAt, bitOf, completeAt, requiredAt, Declares, Rows, Facts, Tables, Requires};
@@ -39,11 +47,11 @@ fn row(e: usize, u: usize) -> usize
     requires { ⌜ (e ≤ 64) × (u ≤ 96) ⌝ }
     ensures { λ r. ⌜ r ≡ rowAt e u ⌝ }
 {
-    (e * 97 + u) * 14
+    (e * POSITIONS + u) * ROW
 }
 
 // Whether the place p may come next in the element e after the place u; for 0, whether the content is complete.
-fn bit(rows: &[u8; 88270], e: usize, u: usize, p: usize) -> bool
+fn bit(rows: &[u8; ROWS], e: usize, u: usize, p: usize) -> bool
     requires { ⌜ (e ≤ 64) × (u ≤ 96) × (p ≤ 96) ⌝ }
     ensures { λ r. ⌜ r ≡ bitOf (getD (now (rows .entry)) (rowAt e u + p / 8) 0) (p % 8) ⌝ }
 {
@@ -52,7 +60,7 @@ fn bit(rows: &[u8; 88270], e: usize, u: usize, p: usize) -> bool
 }
 
 // Whether the content of the element e is complete after the place u.
-pub fn complete(rows: &[u8; 88270], e: usize, u: usize) -> bool
+pub fn complete(rows: &[u8; ROWS], e: usize, u: usize) -> bool
     requires { ⌜ (e ≤ 64) × (u ≤ 96) ⌝ }
     ensures { λ r. ⌜ r ≡ completeAt (now (rows .entry)) e u ⌝ }
     ensures { λ r. ⌜ ((s : List ℕ) (es : List Element) → Rows es (now (rows .entry)) → InRange es (standing e u) →
@@ -62,7 +70,7 @@ pub fn complete(rows: &[u8; 88270], e: usize, u: usize) -> bool
 }
 
 // The required place, or 0.
-pub fn required(rows: &[u8; 88270], e: usize, u: usize) -> usize
+pub fn required(rows: &[u8; ROWS], e: usize, u: usize) -> usize
     requires { ⌜ (e ≤ 64) × (u ≤ 96) ⌝ }
     ensures { λ r. ⌜ r ≡ requiredAt (now (rows .entry)) e u ⌝ }
     ensures { λ r. ⌜ ((s : List ℕ) (es : List Element) → Accepts s es → Rows es (now (rows .entry)) → InRange es (standing e u) →
@@ -76,40 +84,40 @@ pub fn required(rows: &[u8; 88270], e: usize, u: usize) -> usize
 }
 
 // The next smaller place of the same name.
-fn smaller(places: &[u8; 12610], e: usize, p: usize) -> usize
+fn smaller(places: &[u8; PLACES], e: usize, p: usize) -> usize
     requires { ⌜ (e ≤ 64) × (p ≤ 96) ⌝ }
-    ensures { λ r. ⌜ r ≡ getD (now (places .entry)) ((e * 97 + p) * 2 + 1) 0 ⌝ }
+    ensures { λ r. ⌜ r ≡ getD (now (places .entry)) ((e * POSITIONS + p) * 2 + 1) 0 ⌝ }
 {
-    wide(places[(e * 97 + p) * 2 + 1])
+    wide(places[(e * POSITIONS + p) * LINK + 1])
 }
 
-fn start_omitted(facts: &[u8; 4420], e: usize) -> bool
+fn start_omitted(facts: &[u8; FACTS], e: usize) -> bool
     requires { ⌜ e ≤ 64 ⌝ }
     ensures { λ r. ⌜ ((s : List ℕ) (es : List Element) → Facts s es (now (facts .entry)) → Declares es (decisions.start e) → r ≡ startO es e) ⌝ }
 {
-    facts[e * 68 + 65] == 1
+    facts[e * FACT + 65] == 1
 }
 
-pub fn end_omitted(facts: &[u8; 4420], e: usize) -> bool
+pub fn end_omitted(facts: &[u8; FACTS], e: usize) -> bool
     requires { ⌜ e ≤ 64 ⌝ }
     ensures { λ r. ⌜ ((s : List ℕ) (es : List Element) → Facts s es (now (facts .entry)) → Declares es (decisions.start e) → r ≡ endO es e) ⌝ }
 {
-    facts[e * 68 + 66] == 1
+    facts[e * FACT + 66] == 1
 }
 
-pub fn has_model(facts: &[u8; 4420], e: usize) -> bool
+pub fn has_model(facts: &[u8; FACTS], e: usize) -> bool
     requires { ⌜ e ≤ 64 ⌝ }
     ensures { λ r. ⌜ ((s : List ℕ) (es : List Element) → Facts s es (now (facts .entry)) → Declares es (decisions.start e) →
         r ≡ hasModel (contentOf es e)) ⌝ }
 {
-    facts[e * 68 + 67] == 1
+    facts[e * FACT + 67] == 1
 }
 
 // The place of the name x that may come next in the element e after the place u, or 0. The places of a name are linked downwards.
 pub fn fitting(
-    rows: &[u8; 88270],
-    places: &[u8; 12610],
-    facts: &[u8; 4420],
+    rows: &[u8; ROWS],
+    places: &[u8; PLACES],
+    facts: &[u8; FACTS],
     e: usize,
     u: usize,
     x: usize,
@@ -119,7 +127,7 @@ pub fn fitting(
         (t : Token) → nameNumber t ≡ x → Declares es t → r ≡ decided s es .fits e (placed u) t) ⌝ }
     ensures { λ r. ⌜ r ≤ 96 ⌝ }
 {
-    let mut p = wide(facts[e * 68 + x]);
+    let mut p = wide(facts[e * FACT + x]);
     if 96 < p {
         return 0;
     }
@@ -137,7 +145,7 @@ pub fn fitting(
 }
 
 // The element whose start is to be inferred in the element e where the place p is required, or 0.
-pub fn startable(places: &[u8; 12610], facts: &[u8; 4420], e: usize, p: usize) -> usize
+pub fn startable(places: &[u8; PLACES], facts: &[u8; FACTS], e: usize, p: usize) -> usize
     requires { ⌜ e ≤ 64 ⌝ }
     ensures { λ r. ⌜ ((s : List ℕ) (es : List Element) (rows : List ℕ) → Tables s es rows (now (places .entry)) (now (facts .entry)) → (u : ℕ) → Requires es e p u →
         r ≡ rules.inferable s es (decided s es) (standing e u)) ⌝ }
@@ -150,7 +158,7 @@ pub fn startable(places: &[u8; 12610], facts: &[u8; 4420], e: usize, p: usize) -
         return 0;
     }
     // what the place names: an element, 255 for `#PCDATA`, 0 if that is not declared
-    let k = wide(places[(e * 97 + p) * 2]);
+    let k = wide(places[(e * POSITIONS + p) * LINK]);
     if k == 0 {
         return 0;
     }
@@ -168,9 +176,9 @@ pub fn startable(places: &[u8; 12610], facts: &[u8; 4420], e: usize, p: usize) -
 
 // The element whose start is to be inferred in the element e after the place u, or 0.
 pub fn inferable(
-    rows: &[u8; 88270],
-    places: &[u8; 12610],
-    facts: &[u8; 4420],
+    rows: &[u8; ROWS],
+    places: &[u8; PLACES],
+    facts: &[u8; FACTS],
     e: usize,
     u: usize,
 ) -> usize

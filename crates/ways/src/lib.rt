@@ -2,6 +2,9 @@
 // whether the element's end is inferred. Nothing is changed here.
 //
 // `rows`, `places` and `facts` are the tables of the type (crate type_tables). x is the element that starts, or 0 for data.
+use layout::FACTS;
+use layout::PLACES;
+use layout::ROWS;
 use open_elements::Open;
 ghost use mathlib.Core.Path.{_≡_};
 ghost use mathlib.Core.Bool.{true, false};
@@ -32,9 +35,9 @@ pub enum Way {
 // How many starts must be inferred in the element e where the place q is required before x fits, or 0 if there is no such
 // chain.
 fn chain(
-    rows: &[u8; 88270],
-    places: &[u8; 12610],
-    facts: &[u8; 4420],
+    rows: &[u8; ROWS],
+    places: &[u8; PLACES],
+    facts: &[u8; FACTS],
     e: usize,
     q: usize,
     x: usize,
@@ -58,9 +61,9 @@ fn chain(
 
 // Steps 1 and 2 at the element e after the place u, where the place q is required.
 pub fn way_at(
-    rows: &[u8; 88270],
-    places: &[u8; 12610],
-    facts: &[u8; 4420],
+    rows: &[u8; ROWS],
+    places: &[u8; PLACES],
+    facts: &[u8; FACTS],
     e: usize,
     u: usize,
     q: usize,
@@ -84,7 +87,7 @@ pub fn way_at(
 
 // Whether step 3 infers the current element's end: its content is complete, its end is "O" and it is not the document
 // element. The document alone lies around the document element.
-pub fn may_end(facts: &[u8; 4420], o: Open) -> bool
+pub fn may_end(facts: &[u8; FACTS], o: Open) -> bool
     requires { ⌜ o .element ≤ 64 ⌝ }
     ensures { λ r. ⌜ MayEnd (now (facts .entry)) o r ⌝ }
     ensures { λ r. ⌜ (r ≡ true → (1 < o .count) × (o .complete ≡ true)) ⌝ }
@@ -112,9 +115,9 @@ pub fn starts_of(w: Way) -> usize
 // The place of x by what was found, in the element e after the place u, or 0 where nothing fits. Where starts were inferred, e is the
 // last that was started.
 pub fn place_of(
-    rows: &[u8; 88270],
-    places: &[u8; 12610],
-    facts: &[u8; 4420],
+    rows: &[u8; ROWS],
+    places: &[u8; PLACES],
+    facts: &[u8; FACTS],
     e: usize,
     u: usize,
     found: Way,
@@ -143,7 +146,7 @@ pub fn is_full(count: usize, x: usize) -> bool
 }
 
 // Whether x is an element with a model: it is open once it has started.
-pub fn opens(facts: &[u8; 4420], x: usize) -> bool
+pub fn opens(facts: &[u8; FACTS], x: usize) -> bool
     requires { ⌜ x ≤ 64 ⌝ }
     ensures { λ r. ⌜ (x ≡ 0 → r ≡ false) × ((s : List ℕ) (es : List Element) → Facts s es (now (facts .entry)) → Declares es (decisions.start x) → r ≡ hasModel (contentOf es x)) ⌝ }
 {

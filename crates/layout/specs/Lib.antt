@@ -1,0 +1,2 @@
+-- How large the tables are that are lent from crate to crate.
+pub mod Sizes

@@ -1,0 +1,42 @@
+-- The sizes of the tables, by the names that the code has for them.
+use Prim.Native.Nat.{ℕ, _+_, _*_}
+use Rattle.rules.specs.Bytes.{NAMELEN, GRPGTCNT, elementLimit}
+
+-- Where one can stand in a content model: at its start, or after one of its places.
+abbrev pub POSITIONS : ℕ
+POSITIONS = GRPGTCNT + 1
+
+-- The table of a model: a row for each position, with a cell for each position and one for the required place.
+abbrev pub MODEL-ROW : ℕ
+MODEL-ROW = POSITIONS + 1
+
+abbrev pub MODEL : ℕ
+MODEL = POSITIONS * MODEL-ROW
+
+-- The records of a type: six numbers for each element.
+abbrev pub RECORDS : ℕ
+RECORDS = 6 * elementLimit
+
+-- What has content: the document itself (0), and the elements.
+abbrev pub CONTENTS : ℕ
+CONTENTS = elementLimit + 1
+
+-- The elements by name: a link for each, and a bucket for each length of a name and each first letter.
+abbrev pub INDEX : ℕ
+INDEX = CONTENTS + 32 * NAMELEN
+
+-- The tables of a type.
+abbrev pub ROW : ℕ
+ROW = 14
+
+abbrev pub ROWS : ℕ
+ROWS = CONTENTS * POSITIONS * ROW
+
+abbrev pub PLACES : ℕ
+PLACES = CONTENTS * POSITIONS * 2
+
+abbrev pub FACT : ℕ
+FACT = CONTENTS + 3
+
+abbrev pub FACTS : ℕ
+FACTS = CONTENTS * FACT

@@ -1,0 +1,45 @@
+// How large the tables are that are lent from crate to crate. A quantity of the paper that changes is changed here and in
+// `rules/specs/Bytes.antt`; `specs/Sizes.antt` has the same names for the laws.
+
+// The longest name; the content tokens of a model; the declared elements.
+pub const NAMELEN: usize = 8;
+
+pub const GRPGTCNT: usize = 96;
+
+pub const ELEMENTS: usize = 64;
+
+// Where one can stand in a content model: at its start, or after one of its places.
+pub const POSITIONS: usize = GRPGTCNT + 1;
+
+// The names of a model: of each place where it stands and how long it is.
+pub const NAMES: usize = 2 * GRPGTCNT;
+
+// The table of a model: a row for each position, with a cell for each position and one for the required place.
+pub const MODEL_ROW: usize = POSITIONS + 1;
+
+pub const MODEL: usize = POSITIONS * MODEL_ROW;
+
+// The records of a type: six numbers for each element.
+pub const RECORD: usize = 6;
+
+pub const RECORDS: usize = RECORD * ELEMENTS;
+
+// What has content: the document itself (0), and the elements.
+pub const CONTENTS: usize = ELEMENTS + 1;
+
+// The elements by name: a link for each, and a bucket for each length of a name and each first letter.
+pub const INDEX: usize = CONTENTS + 32 * NAMELEN;
+
+// The tables of a type: of each content and position a row of bits with the required place; of each content and place a name
+// and a link; of each content a place for each name, and three facts.
+pub const ROW: usize = 14;
+
+pub const ROWS: usize = CONTENTS * POSITIONS * ROW;
+
+pub const LINK: usize = 2;
+
+pub const PLACES: usize = CONTENTS * POSITIONS * LINK;
+
+pub const FACT: usize = CONTENTS + 3;
+
+pub const FACTS: usize = CONTENTS * FACT;
