@@ -10,27 +10,27 @@
 #define STACK (512 * 1024)
 #define LIMIT (256 * 1024)
 #define PAINT 0x5A
-#define ROOM (SGML_ELEMENT_LIMIT * SGML_RECORD_NUMBERS * 4)
+#define ROOM (SGML_ELEMENT_LIMIT * SGML_RECORD_SIZE * 4)
 
 static char type[SGML_TYPE_LIMIT];
 static size_t type_len;
 
 static void *call(void *buffer)
 {
-    uint32_t answer[SGML_ANSWER_NUMBERS];
+    uint32_t answer[SGML_ANSWER_SIZE];
     sgml_judge((const uint8_t *)type, type_len, buffer, ROOM, answer);
-    if (answer[SGML_NUMBER])
-        printf("refused %u at %u\n", (unsigned)answer[SGML_NUMBER], (unsigned)answer[SGML_POSITION]);
+    if (answer[SGML_ANSWER_NUMBER])
+        printf("refused %u at %u\n", (unsigned)answer[SGML_ANSWER_NUMBER], (unsigned)answer[SGML_ANSWER_POSITION]);
     return NULL;
 }
 
 static void *read_call(void *buffer)
 {
     static const char document[] = "<E0><E1>";
-    uint32_t answer[SGML_ANSWER_NUMBERS];
+    uint32_t answer[SGML_ANSWER_SIZE];
     sgml_read((const uint8_t *)type, type_len, (const uint8_t *)document, sizeof document - 1, buffer, ROOM, answer);
-    if (answer[SGML_NUMBER] != SGML_NOT_ALLOWED_HERE)
-        printf("answered %u at %u\n", (unsigned)answer[SGML_NUMBER], (unsigned)answer[SGML_POSITION]);
+    if (answer[SGML_ANSWER_NUMBER] != SGML_ERR_NOT_ALLOWED_HERE)
+        printf("answered %u at %u\n", (unsigned)answer[SGML_ANSWER_NUMBER], (unsigned)answer[SGML_ANSWER_POSITION]);
     return NULL;
 }
 
