@@ -8,8 +8,6 @@
 
 #define GUARD 64
 #define FILL 0xA5
-#define RECORD_BYTES (4 * SGML_RECORD_SIZE)
-#define EVENT_BYTES (4 * SGML_EVENT_SIZE)
 
 struct slice {
     const uint8_t *bytes;
@@ -83,7 +81,7 @@ static uint8_t *judge(struct slice type, size_t room, struct answer *a)
     uint8_t *buffer = lend(room);
     a->before = a->behind = FILL;
     sgml_judge(type.bytes, type.length, buffer, room, a->numbers);
-    check_answer(a, buffer, room, RECORD_BYTES, lengths);
+    check_answer(a, buffer, room, SGML_RECORD_BYTES, lengths);
     must(a->numbers[SGML_ANSWER_INPUT] != SGML_IN_DOCUMENT, "the judge looks at the type only");
     return buffer;
 }
@@ -94,7 +92,7 @@ static uint8_t *read_events(struct slice type, struct slice document, size_t roo
     uint8_t *buffer = lend(room);
     a->before = a->behind = FILL;
     sgml_read(type.bytes, type.length, document.bytes, document.length, buffer, room, a->numbers);
-    check_answer(a, buffer, room, EVENT_BYTES, lengths);
+    check_answer(a, buffer, room, SGML_EVENT_BYTES, lengths);
     return buffer;
 }
 
@@ -103,7 +101,7 @@ static void check_records(const uint8_t *records, uint32_t count, size_t type_le
     uint32_t k, before = 0;
     must(count >= 1 && count <= SGML_ELEMENT_LIMIT, "1 to 64 elements");
     for (k = 0; k < count; k++) {
-        const uint8_t *r = records + RECORD_BYTES * k;
+        const uint8_t *r = records + SGML_RECORD_BYTES * k;
         uint32_t offset = sgml_number(r, SGML_RECORD_NAME_OFFSET), length = sgml_number(r, SGML_RECORD_NAME_LENGTH);
         uint32_t tokens = sgml_number(r, SGML_RECORD_TOKENS);
         must(length >= 1 && length <= SGML_NAMELEN && offset > before && offset + length < type_length, "a name's place");
@@ -117,7 +115,7 @@ static void check_records(const uint8_t *records, uint32_t count, size_t type_le
 /* The bytes of a tag: "<" or "</", the element's name, whatever its case, and ">" last. */
 static int is_tag(struct slice document, struct sgml_event e, size_t lead, struct slice type, const uint8_t *records)
 {
-    const uint8_t *r = records + RECORD_BYTES * (e.element - 1), *name = type.bytes + sgml_number(r, SGML_RECORD_NAME_OFFSET);
+    const uint8_t *r = records + SGML_RECORD_BYTES * (e.element - 1), *name = type.bytes + sgml_number(r, SGML_RECORD_NAME_OFFSET);
     const uint8_t *tag = document.bytes + e.offset;
     size_t i, length = sgml_number(r, SGML_RECORD_NAME_LENGTH);
     if (e.length < lead + length + 1 || memcmp(tag, "</", lead) || tag[e.length - 1] != '>')
@@ -167,6 +165,7 @@ static void check_events(const uint8_t *events, uint32_t count, struct slice doc
     uint32_t open[SGML_TAGLVL], depth = 0, k;
     struct sgml_event before = { 0, 0, 0, 0 };
     must(count >= 2, "a document has an element");
+    must(count <= SGML_MOST_EVENTS(document.length), "no more events than the header says");
     for (k = 0; k < count; k++) {
         struct sgml_event e = sgml_event_at(events, k);
         check_event(e, document, type, records, elements);
@@ -191,16 +190,16 @@ static void check_events(const uint8_t *events, uint32_t count, struct slice doc
 static void check_room(struct slice type, struct slice document, uint32_t count, size_t odd)
 {
     struct answer a;
-    read_events(type, document, (size_t)count * EVENT_BYTES + odd % 4, &a);
+    read_events(type, document, (size_t)count * SGML_EVENT_BYTES + odd % 4, &a);
     must(a.numbers[SGML_ANSWER_NUMBER] == 0 && a.numbers[SGML_ANSWER_COUNT] == count, "exactly enough room is enough");
-    read_events(type, document, (size_t)count * EVENT_BYTES - 4 + odd % 4, &a);
+    read_events(type, document, (size_t)count * SGML_EVENT_BYTES - 4 + odd % 4, &a);
     must(a.numbers[SGML_ANSWER_NUMBER] == SGML_ERR_NO_ROOM && a.numbers[SGML_ANSWER_INPUT] == SGML_IN_DOCUMENT && a.numbers[SGML_ANSWER_POSITION] == 0,
          "one number short is 19");
 }
 
 static void check_calls(struct slice type, struct slice document)
 {
-    static uint8_t records[RECORD_BYTES * SGML_ELEMENT_LIMIT];
+    static uint8_t records[SGML_RECORD_BYTES * SGML_ELEMENT_LIMIT];
     struct answer judged, a;
     size_t room = 65536;
     const uint8_t *events, *buffer = judge(type, sizeof records + type.length % 4, &judged);
