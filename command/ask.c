@@ -7,7 +7,7 @@ enum {
     TAIL = 1024, /* bytes put behind a beginning */
     DEPTH = 8,  /* start tags and data put there, where all are tried */
     STEPS = 40, /* and where one is tried */
-    WORK = 50 * 1000 * 1000 /* bytes read for that at most, twice: half a second or less */
+    WORK = 40 * 1000 * 1000 /* bytes read for that at most, twice: a second or so */
 };
 
 /* Bytes read since a tail is sought; judging a byte of a type takes some five times as long as reading one of a document. */

@@ -179,7 +179,7 @@ static void unfit_in_type(const struct fault *f)
     if (isalnum(byte) || byte == '#')
         fprintf(f->to, "%s may not stand here", name_at(f->type, f->at));
     else
-        fprintf(f->to, "\"%c\" may not stand here", byte);
+        fprintf(f->to, byte <= ' ' ? "a separator may not stand here" : "\"%c\" may not stand here", byte);
     if (is_name_byte(byte) && fits(f, name_at(f->type, f->at)))
         fprintf(f->to, "; a space is missing before it");
     else
@@ -198,9 +198,9 @@ static void unfit_in_tag(const struct fault *f)
     if (byte == '<')
         fprintf(f->to, "the \">\" is missing before this \"<\"");
     else if (isalpha(byte))
-        fprintf(f->to, "stands %s: attributes are not supported", name_at(f->document, f->at));
+        fprintf(f->to, "only \">\" may stand here, and not %s: attributes are not supported", name_at(f->document, f->at));
     else
-        fprintf(f->to, "stands \"%c\": a tag has a name and \">\"", byte);
+        fprintf(f->to, "only \">\" may stand here, and not \"%c\"", byte);
 }
 
 static void malformed(const struct fault *f)
@@ -305,18 +305,43 @@ static void ambiguous(const struct fault *f)
     fprintf(f->to, ", place %u", first);
 }
 
+/* One letter more, less or other, or two letters in the wrong order. */
+static int is_near(const char *a, const char *b)
+{
+    size_t n = strlen(a), m = strlen(b);
+    while (n && m && *a == *b) {
+        a++, b++;
+        n--, m--;
+    }
+    while (n && m && a[n - 1] == b[m - 1])
+        n--, m--;
+    return (n <= 1 && m <= 1) || (n == 2 && m == 2 && a[0] == b[1] && a[1] == b[0]);
+}
+
 static void undeclared(const struct fault *f)
 {
+    static struct question q;
+    char name[SGML_NAMELEN + 1];
+    struct list list = { "", 0 };
+    uint32_t k;
+    begin_question(&q, f->type, f->document, f->at);
+    for (k = 1; k <= q.elements; k++) {
+        sgml_copy_name(f->type->bytes, q.records, k, name, sizeof name);
+        if (is_near(tag_name(f->document, f->at), name))
+            add(&list, name);
+    }
     fprintf(f->to, "the element %s is not declared in %s", tag_name(f->document, f->at), f->type->name);
+    put_list(f, "; is it ", &list);
+    fprintf(f->to, list.count ? "?" : "");
 }
 
 static void put_open(const struct fault *f, const struct question *q, struct open o)
 {
     char name[SGML_NAMELEN + 1];
     sgml_copy_name(q->type->bytes, q->records, o.element, name, sizeof name);
-    fprintf(f->to, "%s, %s at ", name, o.is_written ? "which began" : "whose start was inferred");
+    fprintf(f->to, "%s (%s at ", name, o.is_written ? "begun" : "inferred");
     put_place(f, f->document, o.offset);
-    fprintf(f->to, ",");
+    fprintf(f->to, ")");
 }
 
 static void not_open(const struct fault *f)
@@ -395,25 +420,36 @@ static void put_missing_end(const struct fault *f, const struct question *q, con
     }
 }
 
+/* Why nothing of that kind may come: an element is not complete, its end tag is missing, or the type has it nowhere here. */
+static void put_stuck(const struct fault *f, const struct question *q, const struct open *open, size_t depth)
+{
+    int is_incomplete;
+    size_t stuck = stuck_at(q, open, depth, &is_incomplete);
+    if (is_incomplete || stuck) {
+        fprintf(f->to, ": ");
+        put_open(f, q, open[stuck]);
+        fprintf(f->to, is_incomplete ? " is not complete" : " is open");
+    } else {
+        fprintf(f->to, ", in ");
+        put_open(f, q, open[depth - 1]);
+        fprintf(f->to, depth > 1 ? " or around it" : "");
+    }
+    put_missing_end(f, q, open, depth);
+}
+
 static void not_allowed_here(const struct fault *f)
 {
     static struct question q;
     struct open open[SGML_TAGLVL];
-    size_t depth, stuck;
-    int is_incomplete;
+    size_t depth;
     begin_question(&q, f->type, f->document, f->at);
     depth = open_at(&q, open);
     if (is_tag(f->document, f->at))
         fprintf(f->to, "<%s> is not allowed here", tag_name(f->document, f->at));
     else
         fprintf(f->to, "data is not allowed here");
-    if (depth) {
-        stuck = stuck_at(&q, open, depth, &is_incomplete);
-        fprintf(f->to, ": ");
-        put_open(f, &q, open[stuck]);
-        fprintf(f->to, is_incomplete ? " is not complete" : " is open");
-        put_missing_end(f, &q, open, depth);
-    }
+    if (depth)
+        put_stuck(f, &q, open, depth);
     put_allowed(f, &q, open, depth);
 }
 

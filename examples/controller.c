@@ -3,6 +3,7 @@
 #include "position.h"
 #include "sgml.h"
 #include <ctype.h>
+#include <errno.h>
 #include <inttypes.h>
 #include <stdlib.h>
 #include <string.h>
@@ -44,14 +45,15 @@ struct reading {
 static int is_loaded(struct input *input, size_t room)
 {
     FILE *file = fopen(input->name, "rb");
-    int is_read = 0;
+    int is_read = file != NULL;
     if (file) {
         input->length = fread(input->bytes, 1, room, file);
         is_read = !ferror(file);
-        fclose(file);
     }
     if (!is_read)
-        fprintf(stderr, "controller: %s cannot be read\n", input->name);
+        fprintf(stderr, "controller: %s: %s\n", input->name, strerror(errno));
+    if (file)
+        fclose(file);
     return is_read;
 }
 
@@ -252,9 +254,10 @@ static enum status count(const struct input *type, const struct input *catalogue
 /* What was shown counts only if it could be written. */
 static enum status shown(enum status status)
 {
+    errno = 0;
     if (!fflush(stdout) && !ferror(stdout))
         return status;
-    fprintf(stderr, "controller: standard output cannot be written\n");
+    fprintf(stderr, "controller: standard output: %s\n", errno ? strerror(errno) : "cannot be written");
     return NOT_RUN;
 }
 

@@ -93,13 +93,13 @@ done >"$out/controller.txt"
 check "the controller prints what is expected" diff "$out/controller.txt" examples/controller.expected
 controller="target/controller examples/cabinet.type examples/catalogues"
 ends 2 "usage: controller TYPE CATALOGUE" target/controller
-ends 2 "controller: examples/catalogues cannot be read" $controller
-ends 2 "controller: standard output cannot be written" bash -c "$controller/few-tags.cat >&-"
-ends 2 "controller: standard output cannot be written" bash -c "$controller/end-tag-too-many.cat >/dev/full"
-# a catalogue of 65,534 bytes has 27,304 events: ten to a drawer with its number and item, and two for the cabinet
-{ for i in $(seq 2730); do printf '<DRAWER>1<ITEM>x<QTY>1\n'; done; printf '%44s' ''; } >"$out/full.cat"
+ends 2 "controller: examples/catalogues: Is a directory" $controller
+ends 2 "controller: standard output: Bad file descriptor" bash -c "$controller/few-tags.cat >&-"
+ends 2 "controller: standard output: No space left on device" bash -c "$controller/end-tag-too-many.cat >/dev/full"
+# a catalogue of 65,527 bytes with 37,039 events, thirteen to a drawer and two more
+for i in $(seq 2849); do printf '<DRAWER>1<ITEM>x<QTY>1\n'; done >"$out/full.cat"
 ran target/controller examples/cabinet.type "$out/full.cat"
-printf '%s\n' "drawer      items    counted       pieces" "     1       2730       2730         2730" "   all       2730       2730         2730" >"$out/full"
+printf '%s\n' "drawer      items    counted       pieces" "     1       2849       2849         2849" "   all       2849       2849         2849" >"$out/full"
 check "the controller on a full catalogue" diff "$out/stdout" "$out/full"
 ran target/controller examples/two-drawers.type examples/catalogues/few-tags.cat
 check "both places of an ambiguous model" test "$status,$(head -1 "$out/stdout")" = "1,examples/two-drawers.type:2:27: an ambiguous content model: this ITEM, place 2, or ITEM at 2:21, place 1"
@@ -176,7 +176,7 @@ ends 0 "" bash -c "$sgml --check $type $few >&-"
 ends 0 "" bash -c "cd $out && ../../sgml --check -- --check ../../../$few"
 ends 0 "" $sgml --check -q $type $few examples/catalogues/larger.cat
 ends 0 "" $sgml --check $type
-here="<stdin>:1:7: <QTY> is not allowed here: LIST, which began at 1:1, is not complete; here may come <ITEM>, <NAME> or data [12]"
+here="<stdin>:1:7: <QTY> is not allowed here: LIST (begun at 1:1) is not complete; here may come <ITEM>, <NAME> or data [12]"
 ends 1 "$here" bash -c "printf '<LIST><QTY>' | $sgml examples/stock.type -"
 check "the line with a caret" test "$(tail -n +2 "$out/stderr")" = "<LIST><QTY>
       ^"
@@ -223,7 +223,7 @@ ran $sgml $type $few $short nowhere $few
 { echo "$few:"; $sgml $type $few; echo "$short:"; echo "$few:"; $sgml $type $few; } >"$out/several"
 check "several documents: the output" diff "$out/stdout" "$out/several"
 check "several documents: status 2 if one could not be read" test "$status" -eq 2
-check "several documents: the refusal" grep -q "^$short:4:1: the document ends, but NUMBER" "$out/stderr"
+check "several documents: the refusal" grep -q "^$short:4:1: the document ends, but ITEM (begun at 3:1) is not complete" "$out/stderr"
 check "several documents: the missing one" grep -qx "sgml: nowhere: No such file or directory" "$out/stderr"
 ran $sgml --check $type $few $short $few
 check "several documents: status 1 if one is refused" test "$status" -eq 1 -a ! -s "$out/stdout"
