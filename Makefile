@@ -7,7 +7,7 @@ FUZZ_SECONDS ?= 60
 
 LIBRARY := target/staticlib/libsgml.a
 PROGRAMS := target/sgml target/judge target/controller
-COMMAND := command/sgml.c command/ask.c command/explain.c
+COMMAND := $(wildcard command/*.c)
 COMPILE = $(CC) -std=c99 -Wall -Wextra -pedantic $(CPPFLAGS) $(CFLAGS) -Iinclude
 VERSION := $(shell sed -n 's/^.define SGML_VERSION "\(.*\)"/\1/p' include/sgml.h)
 # what "make install" puts under PREFIX, and "make uninstall" takes away
@@ -20,7 +20,7 @@ $(LIBRARY): crates.txt $(shell find crates -type f)
 	rt check sgml
 	rt staticlib sgml
 
-target/sgml: $(COMMAND) command/ask.h command/explain.h examples/position.h include/sgml.h $(LIBRARY)
+target/sgml: $(COMMAND) $(wildcard command/*.h) examples/position.h include/sgml.h $(LIBRARY)
 	$(COMPILE) $(LDFLAGS) $(COMMAND) $(LIBRARY) -o $@
 
 target/judge: examples/judge.c include/sgml.h $(LIBRARY)

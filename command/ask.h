@@ -35,7 +35,7 @@ int may_stand(const struct input *type, size_t cut, const char *tail, size_t bef
 /* The beginning of an input ends within a tag, a comment or a declaration. The type alone is asked where no document is given. */
 int ends_within(const struct input *type, const struct input *document, size_t cut);
 
-/* The beginning of the document and then a tail, whose last token begins `before` bytes after the cut: whether that token may come. */
+/* The beginning of the document and then a tail: whether the token may come that begins `before` bytes after the cut. */
 int may_come(const struct question *q, const char *tail, size_t before);
 
 /* Appends an element's tag to a text, if there is room: before is "<" or "</". */

@@ -235,7 +235,9 @@ static enum status tell(const char *text, const char *more)
 /* Takes an option; 0 if there is none of that name. */
 static int is_option(struct job *job, const char *word, int *forms)
 {
-    enum form wanted = !strcmp(word, "--esis") ? ESIS : !strcmp(word, "--check") ? CHECK : !strcmp(word, "--answer") ? ANSWER : EVENTS;
+    enum form wanted = !strcmp(word, "--esis") ? ESIS : !strcmp(word, "--check") ? CHECK : EVENTS;
+    if (!strcmp(word, "--answer"))
+        wanted = ANSWER;
     if (!strcmp(word, "-q")) {
         job->is_short = 1;
         return 1;
