@@ -33,7 +33,8 @@ static void check_answer(const uint32_t *answer, struct slice buffer)
         check(answer[SGML_ANSWER_INPUT] == SGML_IN_NEITHER && answer[SGML_ANSWER_POSITION] == 0, "input and position of an acceptance");
         check(used <= buffer.length && all(buffer.bytes + used, buffer.length - used, FILL), "what lies behind is as it was");
     }
-    check(answer[SGML_ANSWER_NUMBER] == SGML_ERR_AMBIGUOUS || (answer[SGML_ANSWER_FIRST] == 0 && answer[SGML_ANSWER_SECOND] == 0), "places only under 9");
+    check(answer[SGML_ANSWER_NUMBER] == SGML_ERR_AMBIGUOUS || (answer[SGML_ANSWER_FIRST] == 0 && answer[SGML_ANSWER_SECOND] == 0),
+          "places only under 9");
 }
 
 /* Reads a document into a fresh buffer of `room` bytes, and checks what must hold whatever the answer. */

@@ -113,23 +113,28 @@ place() {
     echo "$1:$line:$column"
 }
 
-echo "the command on the vectors"
+# is_same STATUS FILE: what ran ended so and printed the file.
+is_same() { [ "$status" -eq "$1" ] && cmp -s "$out/stdout" "$2"; }
+
+echo "the command, with sanitizers, on the vectors"
+sanitized=$out/sgml
+cc -std=c99 $strict -g -fsanitize=address,undefined -fno-sanitize-recover=all -Iinclude command/*.c $library -o "$sanitized"
 for v in tests/vectors/*/*; do
     read -r word number _ input _ position <"$v/expected"
     case $word,$number,$input in
     events,*)
-        ran target/sgml "$v/type.sgm" "$v/doc.sgm"
-        check "$v" cmp -s "$out/stdout" "$v/expected"
+        ran "$sanitized" "$v/type.sgm" "$v/doc.sgm"
+        check "$v" is_same 0 "$v/expected"
         ;;
     refused,19,*)
-        ran target/sgml "$v/type.sgm" "$v/doc.sgm"
+        ran "$sanitized" "$v/type.sgm" "$v/doc.sgm"
         check "$v: the command's own buffer grows" grep -q '^events ' "$out/stdout"
         ;;
-    refused,*,type) refuses "$(place "$v/type.sgm" "$position")" "$number" target/sgml "$v/type.sgm" "$v/doc.sgm" ;;
-    *) refuses "$(place "$v/doc.sgm" "$position")" "$number" target/sgml "$v/type.sgm" "$v/doc.sgm" ;;
+    refused,*,type) refuses "$(place "$v/type.sgm" "$position")" "$number" "$sanitized" "$v/type.sgm" "$v/doc.sgm" ;;
+    *) refuses "$(place "$v/doc.sgm" "$position")" "$number" "$sanitized" "$v/type.sgm" "$v/doc.sgm" ;;
     esac
-    ran target/sgml --answer "$v/type.sgm" "$v/doc.sgm"
-    check "$v by --answer" cmp -s "$out/stdout" "$v/expected"
+    ran "$sanitized" --answer "$v/type.sgm" "$v/doc.sgm"
+    check "$v by --answer" is_same "$([ "$word" = refused ] && echo 1 || echo 0)" "$v/expected"
 done
 told
 
