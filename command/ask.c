@@ -198,7 +198,7 @@ uint8_t *events_of(const struct input *type, const struct input *document, uint3
         if (!events)
             return NULL;
         sgml_read(type->bytes, type->length, document->bytes, document->length, events, room, answer);
-        if (answer[SGML_ANSWER_NUMBER] != SGML_ERR_NO_ROOM)
+        if (answer[SGML_ANSWER_NUMBER] != SGML_ERR_NO_ROOM || room >= most)
             return events;
         free(events);
         room = 4 * room < most ? 4 * room : most;
