@@ -1,5 +1,6 @@
 /* boundary.c - the judge's C boundary: null and empty slices, buffers of every length modulo 4, exactly enough room and one
- * number short, guard bytes around every slice, and the odd bytes at the end. With an argument there are no guards. */
+ * number short, guard bytes around every slice, and the odd bytes at the end; then the helpers of the header. With an argument
+ * there are no guards. */
 #include "check.h"
 
 /* Judges a type file into a fresh buffer of `room` bytes, and checks what must hold whatever the answer. */
@@ -26,6 +27,54 @@ static uint32_t judged(const char *text, size_t room, size_t count)
     return number;
 }
 
+/* The short text of every number; people look them up, so a change is meant. */
+static void check_texts(void)
+{
+    static const char *const texts[] = {
+        "accepted",
+        "longer than the limit",
+        "a byte that is not allowed",
+        "a name longer than the limit",
+        "malformed, or ends too early",
+        "a form of ISO 8879 that is not supported",
+        "too many content tokens or group levels",
+        "an element declared twice",
+        "too many elements, or none",
+        "an ambiguous content model",
+        "a tag of an undeclared element",
+        "an end tag, but no such element is open",
+        "this start tag or data is not allowed here",
+        "an element ends before its content is complete",
+        "an end tag that may not be omitted is missing",
+        "too many elements are open",
+        "a start tag or data after the document element",
+        "]]> outside tags and comments",
+        "there is no document element",
+        "the lent buffer is too small",
+        "no refusal has this number",
+    };
+    uint32_t number;
+    for (number = 0; number < sizeof texts / sizeof *texts; number++)
+        check(!strcmp(sgml_refusal_text(number), texts[number]), texts[number]);
+}
+
+/* The records of two elements by their fields, and a name as far as there is room. */
+static void check_records(const char *two)
+{
+    uint8_t records[SGML_MOST_RECORD_BYTES];
+    uint32_t answer[SGML_ANSWER_SIZE];
+    char name[SGML_NAMELEN + 1];
+    struct sgml_record a, b;
+    sgml_judge((const uint8_t *)two, strlen(two), records, sizeof records, answer);
+    a = sgml_record_at(records, 0);
+    b = sgml_record_at(records, 1);
+    check(a.name_offset == 10 && a.name_length == 3 && !a.start_tag && a.end_tag && a.content == 1 && a.tokens == 2, "a record");
+    check(b.name_length == 1 && b.start_tag && b.end_tag && !b.content && !b.tokens, "the record of an EMPTY element");
+    check(sgml_copy_name((const uint8_t *)two, records, 1, name, sizeof name) == 3 && !strcmp(name, "A.1"), "a name in upper case");
+    check(sgml_copy_name((const uint8_t *)two, records, 1, name, 3) == 3 && !strcmp(name, "A."), "a name without room");
+    check(sgml_copy_name((const uint8_t *)two, records, 1, NULL, 0) == 3, "a name without any room");
+}
+
 int main(int argc, char **argv)
 {
     const char *two = "<!ELEMENT A - O (B)><!ELEMENT B O O EMPTY>";
@@ -41,5 +90,7 @@ int main(int argc, char **argv)
     memset(answer, FILL, sizeof answer);
     sgml_judge(NULL, 0, NULL, 0, answer);
     check(answer[SGML_ANSWER_NUMBER] == SGML_ERR_ELEMENTS && answer[SGML_ANSWER_POSITION] == 0, "null and empty");
+    check_texts();
+    check_records("<!ELEMENT a.1 - O (B,#PCDATA)><!ELEMENT B O O EMPTY>");
     return told();
 }
