@@ -236,9 +236,9 @@ void after_end(const struct fault *f)
         fprintf(f->to, "<%s> comes ", tag_name(f->document, f->at));
     else
         fprintf(f->to, "data comes ");
-    fprintf(f->to, "after the document has ended");
+    fprintf(f->to, "after the end of the document");
     if (events && answer[SGML_ANSWER_COUNT]) {
-        fprintf(f->to, ", at ");
+        fprintf(f->to, ", which is at ");
         put_place(f, f->document, sgml_event_at(events, answer[SGML_ANSWER_COUNT] - 1).offset);
     }
     free(events);

@@ -1,6 +1,7 @@
 /* most.c - documents that bring as many events as SGML_MOST_EVENTS says, or nearly: the macro is enough and not far too large.
  * Tag Z and data "." bring 23 starts each, by turns, and each calls for the ends of those before. A round begins with tag P, since
- * nothing can be required where a repeated group begins again. With "time" the longest of them is read and the time is told. */
+ * nothing can be required where a repeated group begins again. With "time" the longest of them is read, and a type file judged that
+ * takes long, and the times are told. */
 #define _POSIX_C_SOURCE 199309L
 #include "check.h"
 #include <time.h>
@@ -99,22 +100,63 @@ static void make_longest(void)
     }
 }
 
-static void tell_time(void)
+static uint32_t read_longest(void)
+{
+    uint32_t number;
+    return count_in(SGML_EVENT_BYTES * SGML_MOST_EVENTS(document_len), &number);
+}
+
+static uint32_t judge_type(void)
+{
+    uint8_t records[SGML_MOST_RECORD_BYTES];
+    uint32_t answer[SGML_ANSWER_SIZE];
+    sgml_judge((const uint8_t *)type, type_len, records, sizeof records, answer);
+    return answer[SGML_ANSWER_COUNT];
+}
+
+/* As many models as there may be, each of one name 93 times: each two of its places are compared. */
+static void make_same_type(void)
+{
+    int k, g, n;
+    type_len = 0;
+    for (k = 0; k < SGML_ELEMENT_LIMIT; k++) {
+        type_len += (size_t)sprintf(type + type_len, "<!ELEMENT E%d - O (", k);
+        for (g = 0; g < 3; g++) {
+            declare(g ? ",(A" : "(A");
+            for (n = 1; n < 31; n++)
+                declare(",A");
+            declare(")");
+        }
+        declare(")>");
+    }
+}
+
+/* The best time of some calls, in milliseconds. */
+static double best_of(uint32_t (*call)(void), uint32_t *count)
 {
     double best = 1e9;
-    uint32_t number, count = 0;
     int k;
-    for (k = 0; k < 10; k++) {
+    for (k = 0; k < 30; k++) {
         struct timespec a, b;
         double taken;
         clock_gettime(CLOCK_MONOTONIC, &a);
-        count = count_in(SGML_EVENT_BYTES * SGML_MOST_EVENTS(document_len), &number);
+        *count = call();
         clock_gettime(CLOCK_MONOTONIC, &b);
         taken = (double)(b.tv_sec - a.tv_sec) * 1e3 + (double)(b.tv_nsec - a.tv_nsec) / 1e6;
         if (taken < best)
             best = taken;
     }
+    return best;
+}
+
+static void tell_times(void)
+{
+    uint32_t count;
+    double best = best_of(read_longest, &count);
     printf("%zu bytes, %u events of at most %zu: %.2f ms\n", document_len, (unsigned)count, SGML_MOST_EVENTS(document_len), best);
+    make_same_type();
+    best = best_of(judge_type, &count);
+    printf("type file of %zu bytes, %u elements: %.2f ms\n", type_len, (unsigned)count, best);
 }
 
 int main(int argc, char **argv)
@@ -133,7 +175,7 @@ int main(int argc, char **argv)
     }
     make_longest();
     if (argc > 1 && !strcmp(argv[1], "time")) {
-        tell_time();
+        tell_times();
         return 0;
     }
     check_count(SGML_MOST_EVENTS(document_len) / 100 * 98);
