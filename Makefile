@@ -1,4 +1,5 @@
-# Builds, tests and installs the reader: a thin cover over rt, which proves and compiles the library. Nothing is fetched.
+# Builds, tests and installs the reader: a thin cover over rt, which proves and compiles the library. Nothing is fetched, and nothing
+# is installed but by "make install".
 PREFIX ?= /usr/local
 DESTDIR ?=
 CFLAGS ?= -O2
@@ -6,9 +7,11 @@ FUZZ_SECONDS ?= 60
 
 LIBRARY := target/staticlib/libsgml.a
 PROGRAMS := target/sgml target/judge target/controller
+COMMAND := $(wildcard command/*.c)
 COMPILE = $(CC) -std=c99 -Wall -Wextra -pedantic $(CPPFLAGS) $(CFLAGS) -Iinclude
-NAME := $(shell sed -n 's/^.define NAME "\(.*\)"/\1/p' command/version.h)
-VERSION := $(shell sed -n 's/^.define VERSION "\(.*\)"/\1/p' command/version.h)
+VERSION := $(shell sed -n 's/^.define SGML_VERSION "\(.*\)"/\1/p' include/sgml.h)
+# what "make install" puts under PREFIX, and "make uninstall" takes away
+INSTALLED := bin/sgml include/sgml.h lib/libsgml.a lib/pkgconfig/sgml.pc share/man/man1/sgml.1
 
 all: $(PROGRAMS)
 
@@ -17,8 +20,8 @@ $(LIBRARY): crates.txt $(shell find crates -type f)
 	rt check sgml
 	rt staticlib sgml
 
-target/sgml: command/sgml.c command/version.h examples/position.h include/sgml.h $(LIBRARY)
-	$(COMPILE) $(LDFLAGS) $< $(LIBRARY) -o $@
+target/sgml: $(COMMAND) $(wildcard command/*.h) examples/position.h include/sgml.h $(LIBRARY)
+	$(COMPILE) $(LDFLAGS) $(COMMAND) $(LIBRARY) -o $@
 
 target/judge: examples/judge.c include/sgml.h $(LIBRARY)
 	$(COMPILE) $(LDFLAGS) $< $(LIBRARY) -o $@
@@ -26,9 +29,14 @@ target/judge: examples/judge.c include/sgml.h $(LIBRARY)
 target/controller: examples/controller.c examples/position.h include/sgml.h $(LIBRARY)
 	$(COMPILE) $(LDFLAGS) $< $(LIBRARY) -o $@
 
-# The gate: everything from nothing, and all the tests.
+# The tests alone, on what is proved and built.
+check: all
+	rt check sgml_events
+	for t in tests/*.sh; do echo "== $$t"; INSTALL= bash "$$t" || exit 1; done
+
+# The gate: everything from nothing, the edits that must fail, and all the tests.
 test:
-	.ci/run
+	INSTALL= .ci/run
 
 fuzz: $(LIBRARY)
 	tests/fuzz/run $(FUZZ_SECONDS)
@@ -39,11 +47,14 @@ install: all
 	install -m 644 include/sgml.h "$(DESTDIR)$(PREFIX)/include/sgml.h"
 	install -m 644 $(LIBRARY) "$(DESTDIR)$(PREFIX)/lib/libsgml.a"
 	install -m 644 command/sgml.1 "$(DESTDIR)$(PREFIX)/share/man/man1/sgml.1"
-	sed 's|@PREFIX@|$(abspath $(PREFIX))|; s|@NAME@|$(NAME)|; s|@VERSION@|$(VERSION)|' command/sgml.pc.in >target/sgml.pc
+	sed 's|@PREFIX@|$(abspath $(PREFIX))|; s|@VERSION@|$(VERSION)|' command/sgml.pc.in >target/sgml.pc
 	install -m 644 target/sgml.pc "$(DESTDIR)$(PREFIX)/lib/pkgconfig/sgml.pc"
+
+uninstall:
+	rm -f $(addprefix "$(DESTDIR)$(PREFIX)"/,$(INSTALLED))
 
 # Everything built, the proofs that rt remembers too.
 clean:
 	rm -rf target
 
-.PHONY: all test fuzz install clean
+.PHONY: all check test fuzz install uninstall clean

@@ -16,7 +16,7 @@ int main(int argc, char **argv)
     static uint8_t type[SGML_TYPE_LIMIT + 1], buffer[16384 * 4];
     int i, k;
     for (i = 1; i < argc; i++) {
-        uint32_t answer[SGML_ANSWER_NUMBERS];
+        uint32_t answer[SGML_ANSWER_SIZE];
         double best = 1e12;
         FILE *file = fopen(argv[i], "rb");
         size_t n = file ? fread(type, 1, sizeof type, file) : 0;
@@ -31,7 +31,7 @@ int main(int argc, char **argv)
             if (t < best)
                 best = t;
         }
-        printf("%s %.2f %u\n", argv[i], best, (unsigned)answer[SGML_NUMBER]);
+        printf("%s %.2f %u\n", argv[i], best, (unsigned)answer[SGML_ANSWER_NUMBER]);
     }
     return 0;
 }

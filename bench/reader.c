@@ -28,7 +28,7 @@ int main(int argc, char **argv)
     size_t t = argc < 2 ? 0 : load(argv[1], type, sizeof type);
     int i, k;
     for (i = 2; i < argc; i++) {
-        uint32_t answer[SGML_ANSWER_NUMBERS];
+        uint32_t answer[SGML_ANSWER_SIZE];
         double best = 1e12;
         size_t d = load(argv[i], document, sizeof document);
         for (k = 0; k < 300; k++) {
@@ -40,11 +40,11 @@ int main(int argc, char **argv)
             if (start < best)
                 best = start;
         }
-        if (answer[SGML_NUMBER]) {
-            fprintf(stderr, "%s: refused %u at %u\n", argv[i], (unsigned)answer[SGML_NUMBER], (unsigned)answer[SGML_POSITION]);
+        if (answer[SGML_ANSWER_NUMBER]) {
+            fprintf(stderr, "%s: refused %u at %u\n", argv[i], (unsigned)answer[SGML_ANSWER_NUMBER], (unsigned)answer[SGML_ANSWER_POSITION]);
             return 1;
         }
-        printf("%s %.2f %u\n", argv[i], best, (unsigned)answer[SGML_COUNT]);
+        printf("%s %.2f %u\n", argv[i], best, (unsigned)answer[SGML_ANSWER_COUNT]);
     }
     return 0;
 }

@@ -1,37 +1,54 @@
-/* sgml.c - the reader as a command: prints a document's events under a type file, or where and why one of the two is refused.
+/* sgml.c - the reader as a command: prints the events of documents under a type file, or where and why one of them is refused.
  * It decides nothing: what is accepted, and where and why not, is the library's answer. */
 #include "../examples/position.h"
+#include "ask.h"
+#include "explain.h"
 #include "sgml.h"
-#include "version.h"
-#include <ctype.h>
 #include <errno.h>
 #include <stdlib.h>
 #include <string.h>
 
-enum status { ACCEPTED = 0, REFUSED = 1, NOT_RUN = 2 };
-enum form { EVENTS, ESIS, CHECK };
+#define NAME "sgml"
 
-struct input {
-    const char *name;
-    uint8_t *bytes;
-    size_t length;
+enum status { ACCEPTED = 0, REFUSED = 1, NOT_RUN = 2 };
+enum form { EVENTS, ESIS, CHECK, ANSWER };
+
+/* What was asked for on the command line. */
+struct job {
+    enum form form;
+    int is_short;      /* a refusal is one line */
+    const char *type;  /* files; the documents stand where the words do */
+    char **documents;
+    int count;
 };
 
-static const char usage[] = "usage: " NAME " [--esis | --check] [--] TYPE DOCUMENT\n"
-                            "       " NAME " --help | --version\n";
+/* The type, as it was read once, and the records of an accepted one. */
+static uint8_t type_bytes[SGML_TYPE_LIMIT + 1], document_bytes[SGML_DOCUMENT_LIMIT + 1];
+static uint8_t records[SGML_MOST_RECORD_BYTES];
 
-static const char help[] = "Reads an SGML document under a type file and prints its events.\n"
-                           "\n"
-                           "  TYPE        element declarations; - for standard input\n"
-                           "  DOCUMENT    the document; - for standard input\n"
-                           "  --esis      print the events in the output form of onsgmls\n"
-                           "  --check     print nothing but a refusal\n"
-                           "  --help      print this and end\n"
-                           "  --version   print name and version and end\n"
-                           "  --          end the options\n"
-                           "\n"
-                           "A refusal is a line FILE:LINE:COLUMN: TEXT on standard error.\n"
-                           "Exit status: 0 accepted, 1 refused, 2 could not run.\n";
+static const char usage[] = "usage: " NAME " [-q] [--esis | --check | --answer] [--] TYPE DOCUMENT...\n"
+                            "       " NAME " [-q] --check [--] TYPE\n"
+                            "       " NAME " -h | --help | --version\n";
+
+static const char help[] =
+    "Reads SGML documents under a type file and prints their events.\n"
+    "\n"
+    "  TYPE        element declarations; - for standard input\n"
+    "  DOCUMENT    a document; - for standard input\n"
+    "  --check     print nothing but refusals; without a document judge the type alone,\n"
+    "              and warn of names in its content models that are never declared\n"
+    "  --esis      print the events in the output form of onsgmls. Line ends differ:\n"
+    "              here byte 10 is ignored, so words on two lines join, and byte 13 is data\n"
+    "  --answer    print on standard output what the small program of the scope paper prints:\n"
+    "              a refusal as \"refused N in type at P\" too, and at most 4,096 events\n"
+    "  -q          a refusal is one line, without the line of the file\n"
+    "  -h, --help  print this and end\n"
+    "  --version   print name and version and end\n"
+    "  --          end the options\n"
+    "\n"
+    "A refusal is a line FILE:LINE:COLUMN: TEXT [NUMBER] on standard error, then that line of the file.\n"
+    "With several documents each output stands under a line with the document's name.\n"
+    "Exit status: 0 all accepted, 1 one is refused, 2 could not run.\n";
 
 static enum status misused(const char *text, const char *what)
 {
@@ -48,7 +65,15 @@ static enum status failed(const char *name, const char *why)
 /* What was printed counts only if it could be written. */
 static enum status written(enum status status)
 {
-    return fflush(stdout) || ferror(stdout) ? failed("standard output", "cannot be written") : status;
+    errno = 0;
+    if (!fflush(stdout) && !ferror(stdout))
+        return status;
+    return failed("standard output", errno ? strerror(errno) : "cannot be written");
+}
+
+static enum status worse(enum status a, enum status b)
+{
+    return a > b ? a : b;
 }
 
 /* Fills an input from its file, "-" being standard input. There is room for a byte more than the library takes, so a file that
@@ -70,56 +95,31 @@ static enum status load(struct input *input, size_t room)
     return status;
 }
 
-/* Reads with a larger and larger buffer, until the events fit. Null if there is no more memory. */
-static uint8_t *events_of(const struct input *type, const struct input *document, uint32_t *answer)
+/* FILE:LINE:COLUMN: TEXT [NUMBER], and the line with a caret. */
+static enum status refused(const struct job *job, const struct input *type, const struct input *document, const uint32_t *answer)
 {
-    size_t room = 65536;
-    uint8_t *events;
-    for (;;) {
-        events = malloc(room);
-        if (!events)
-            return NULL;
-        sgml_read(type->bytes, type->length, document->bytes, document->length, events, room, answer);
-        if (answer[SGML_NUMBER] != SGML_NO_ROOM)
-            return events;
-        free(events);
-        room *= 2;
-    }
-}
-
-static enum status refused(const struct input *type, const struct input *document, const uint32_t *answer)
-{
-    const struct input *input = answer[SGML_INPUT] == SGML_IN_TYPE ? type : document;
-    struct position p = position_of(input->bytes, input->length, answer[SGML_POSITION]);
-    fprintf(stderr, "%s:%zu:%zu: %s", input->name, p.line, p.column, sgml_refusal_text(answer[SGML_NUMBER]));
-    if (answer[SGML_NUMBER] == SGML_AMBIGUOUS)
-        fprintf(stderr, ", places %u and %u", (unsigned)answer[SGML_FIRST], (unsigned)answer[SGML_SECOND]);
-    fputc('\n', stderr);
+    const struct input *input = answer[SGML_ANSWER_INPUT] == SGML_IN_TYPE ? type : document;
+    size_t at = answer[SGML_ANSWER_POSITION];
+    print_place(stderr, input, at);
+    explain(stderr, type, document, answer);
+    fprintf(stderr, " [%u]\n", (unsigned)answer[SGML_ANSWER_NUMBER]);
+    if (!job->is_short && answer[SGML_ANSWER_NUMBER] != SGML_ERR_TOO_LONG)
+        print_line(stderr, input->bytes, position_of(input->bytes, input->length, at));
     return REFUSED;
 }
 
-/* An element's name in upper case, from the records of its type. */
-static void print_name(const struct input *type, const uint8_t *records, uint32_t element)
+static void print_events(const struct input *type, const uint8_t *events, uint32_t count)
 {
-    const uint8_t *record = records + 4 * SGML_RECORD_NUMBERS * (element - 1);
-    const uint8_t *name = type->bytes + sgml_number(record, SGML_NAME_OFFSET);
-    uint32_t i, length = sgml_number(record, SGML_NAME_LENGTH);
-    for (i = 0; i < length; i++)
-        putchar(toupper(name[i]));
-}
-
-static void print_events(const struct input *type, const uint8_t *records, const uint8_t *events, uint32_t count)
-{
+    char name[SGML_NAMELEN + 1];
     uint32_t k;
     printf("events %u\n", (unsigned)count);
     for (k = 0; k < count; k++) {
         struct sgml_event e = sgml_event_at(events, k);
-        printf("%u ", (unsigned)e.kind);
-        if (e.kind == SGML_DATA)
-            putchar('-');
+        if (e.kind == SGML_KIND_DATA)
+            strcpy(name, "-");
         else
-            print_name(type, records, e.element);
-        printf(" %u %u\n", (unsigned)e.offset, (unsigned)e.length);
+            sgml_copy_name(type->bytes, records, e.element, name, sizeof name);
+        printf("%u %s %u %u\n", (unsigned)e.kind, name, (unsigned)e.offset, (unsigned)e.length);
     }
 }
 
@@ -137,59 +137,92 @@ static void print_escaped(uint8_t byte)
 }
 
 /* Runs of data with no tag between them are one line, as with onsgmls. */
-static void print_esis(const struct input *type, const struct input *document, const uint8_t *records, const uint8_t *events,
-                       uint32_t count)
+static void print_esis(const struct input *type, const struct input *document, const uint8_t *events, uint32_t count)
 {
+    char name[SGML_NAMELEN + 1];
     uint32_t k, i, before = 0;
     for (k = 0; k < count; k++) {
         struct sgml_event e = sgml_event_at(events, k);
-        if (before == SGML_DATA && e.kind != SGML_DATA)
+        if (before == SGML_KIND_DATA && e.kind != SGML_KIND_DATA)
             putchar('\n');
-        if (e.kind == SGML_DATA) {
-            if (before != SGML_DATA)
+        if (e.kind == SGML_KIND_DATA) {
+            if (before != SGML_KIND_DATA)
                 putchar('-');
             for (i = 0; i < e.length; i++)
                 print_escaped(document->bytes[e.offset + i]);
         } else {
-            putchar(e.kind == SGML_START_WRITTEN || e.kind == SGML_START_INFERRED ? '(' : ')');
-            print_name(type, records, e.element);
-            putchar('\n');
+            sgml_copy_name(type->bytes, records, e.element, name, sizeof name);
+            printf("%c%s\n", e.kind == SGML_KIND_START || e.kind == SGML_KIND_START_INFERRED ? '(' : ')', name);
         }
         before = e.kind;
     }
     fputs("C\n", stdout);
 }
 
-static enum status print(enum form form, const struct input *type, const struct input *document, const uint8_t *events,
-                         uint32_t count)
+/* What the small program prints: its buffer has 16,384 numbers, and a refusal goes to standard output. */
+static enum status answered(const struct input *type, const struct input *document)
 {
-    static uint8_t records[4 * SGML_RECORD_NUMBERS * SGML_ELEMENT_LIMIT];
-    uint32_t answer[SGML_ANSWER_NUMBERS];
-    sgml_judge(type->bytes, type->length, records, sizeof records, answer);
-    if (form == ESIS)
-        print_esis(type, document, records, events, count);
+    static uint8_t events[4 * 16384];
+    uint32_t answer[SGML_ANSWER_SIZE];
+    sgml_read(type->bytes, type->length, document->bytes, document->length, events, sizeof events, answer);
+    if (answer[SGML_ANSWER_NUMBER])
+        printf("refused %u in %s at %u\n", (unsigned)answer[SGML_ANSWER_NUMBER],
+               answer[SGML_ANSWER_INPUT] == SGML_IN_TYPE ? "type" : "document", (unsigned)answer[SGML_ANSWER_POSITION]);
     else
-        print_events(type, records, events, count);
-    return written(ACCEPTED);
+        print_events(type, events, answer[SGML_ANSWER_COUNT]);
+    return written(answer[SGML_ANSWER_NUMBER] ? REFUSED : ACCEPTED);
 }
 
-static enum status run(enum form form, const char *type_name, const char *document_name)
+/* One document and its own result. */
+static enum status read_document(const struct job *job, const struct input *type, const struct input *document)
 {
-    static uint8_t type_bytes[SGML_TYPE_LIMIT + 1], document_bytes[SGML_DOCUMENT_LIMIT + 1];
-    struct input type = { type_name, type_bytes, 0 }, document = { document_name, document_bytes, 0 };
-    uint32_t answer[SGML_ANSWER_NUMBERS];
+    uint32_t answer[SGML_ANSWER_SIZE];
     enum status status = ACCEPTED;
     uint8_t *events;
-    if (load(&type, sizeof type_bytes) || load(&document, sizeof document_bytes))
-        return NOT_RUN;
-    events = events_of(&type, &document, answer);
+    if (job->count > 1 && job->form != CHECK)
+        printf("%s:\n", document->name);
+    if (job->form == ANSWER)
+        return answered(type, document);
+    events = events_of(type, document, answer);
     if (!events)
-        return failed(document.name, "not enough memory for its events");
-    if (answer[SGML_NUMBER])
-        status = refused(&type, &document, answer);
-    else if (form != CHECK)
-        status = print(form, &type, &document, events, answer[SGML_COUNT]);
+        return failed(document->name, strerror(ENOMEM));
+    if (answer[SGML_ANSWER_NUMBER])
+        status = refused(job, type, document, answer);
+    else if (job->form == ESIS)
+        print_esis(type, document, events, answer[SGML_ANSWER_COUNT]);
+    else if (job->form == EVENTS)
+        print_events(type, events, answer[SGML_ANSWER_COUNT]);
     free(events);
+    return job->form == CHECK ? status : written(status);
+}
+
+/* The type alone. A name that is never declared is allowed in a model, and often a slip. */
+static enum status judge(const struct job *job, const struct input *type, const uint32_t *answer)
+{
+    if (answer[SGML_ANSWER_NUMBER])
+        return refused(job, type, NULL, answer);
+    warn_of_undeclared(stderr, type, job->is_short);
+    return ACCEPTED;
+}
+
+static enum status run(struct job *job)
+{
+    struct input type = { job->type, type_bytes, 0 };
+    uint32_t answer[SGML_ANSWER_SIZE];
+    enum status status = ACCEPTED;
+    int i;
+    if (load(&type, sizeof type_bytes))
+        return NOT_RUN;
+    sgml_judge(type.bytes, type.length, records, sizeof records, answer);
+    if (!job->count)
+        return judge(job, &type, answer);
+    if (answer[SGML_ANSWER_NUMBER] && job->form != ANSWER)
+        job->count = 1; /* a type that is refused is told of once */
+    for (i = 0; i < job->count; i++) {
+        struct input document = { job->documents[i], document_bytes, 0 };
+        enum status own = load(&document, sizeof document_bytes);
+        status = worse(status, own ? own : read_document(job, &type, &document));
+    }
     return status;
 }
 
@@ -199,35 +232,50 @@ static enum status tell(const char *text, const char *more)
     return written(ACCEPTED);
 }
 
+/* Takes an option; 0 if there is none of that name. */
+static int is_option(struct job *job, const char *word, int *forms)
+{
+    enum form wanted = !strcmp(word, "--esis") ? ESIS : !strcmp(word, "--check") ? CHECK : EVENTS;
+    if (!strcmp(word, "--answer"))
+        wanted = ANSWER;
+    if (!strcmp(word, "-q")) {
+        job->is_short = 1;
+        return 1;
+    }
+    if (wanted == EVENTS)
+        return 0;
+    *forms += job->form != wanted;
+    job->form = wanted;
+    return 1;
+}
+
 int main(int argc, char **argv)
 {
-    const char *names[2] = { NULL, NULL };
-    enum form form = EVENTS;
-    int i, count = 0, is_over = 0; /* is_over: the options have ended */
+    struct job job = { EVENTS, 0, NULL, argv, 0 };
+    int i, forms = 0, standard = 0, is_over = 0; /* is_over: the options have ended */
     for (i = 1; i < argc; i++) {
-        const char *word = argv[i];
-        enum form wanted = !strcmp(word, "--esis") ? ESIS : !strcmp(word, "--check") ? CHECK : EVENTS;
+        char *word = argv[i];
         if (is_over || word[0] != '-' || !word[1]) {
-            if (count == 2)
-                return misused("one word too many: ", word);
-            names[count++] = word;
+            standard += !strcmp(word, "-");
+            if (job.type)
+                job.documents[job.count++] = word;
+            else
+                job.type = word;
         } else if (!strcmp(word, "--")) {
             is_over = 1;
-        } else if (!strcmp(word, "--help")) {
+        } else if (!strcmp(word, "--help") || !strcmp(word, "-h")) {
             return tell(usage, help);
         } else if (!strcmp(word, "--version")) {
-            return tell(NAME " " VERSION, "\n");
-        } else if (wanted == EVENTS) {
+            return tell(NAME " " SGML_VERSION, "\n");
+        } else if (!is_option(&job, word, &forms)) {
             return misused("no such option: ", word);
-        } else if (form != EVENTS && form != wanted) {
-            return misused("--esis and --check exclude each other", "");
-        } else {
-            form = wanted;
         }
     }
-    if (count < 2)
+    if (!job.type || (!job.count && job.form != CHECK))
         return misused("a type file and a document are due", "");
-    if (!strcmp(names[0], "-") && !strcmp(names[1], "-"))
-        return misused("only one of the two can be standard input", "");
-    return run(form, names[0], names[1]);
+    if (forms > 1)
+        return misused("--esis, --check and --answer exclude each other", "");
+    if (standard > 1)
+        return misused("only one file can be standard input", "");
+    return run(&job);
 }

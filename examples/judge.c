@@ -1,36 +1,48 @@
 /* judge.c - judges a type file and prints its element records, or where and why it is refused. */
 #include "sgml.h"
+#include <errno.h>
 #include <stdio.h>
+#include <string.h>
+
+static uint8_t type[SGML_TYPE_LIMIT + 1], records[SGML_MOST_RECORD_BYTES]; /* a byte more: a file that is too long is refused */
+
+static int refused(const uint32_t *answer)
+{
+    printf("refused %u in type at %u: %s", (unsigned)answer[SGML_ANSWER_NUMBER], (unsigned)answer[SGML_ANSWER_POSITION],
+           sgml_refusal_text(answer[SGML_ANSWER_NUMBER]));
+    if (answer[SGML_ANSWER_NUMBER] == SGML_ERR_AMBIGUOUS)
+        printf(", places %u and %u", (unsigned)answer[SGML_ANSWER_FIRST], (unsigned)answer[SGML_ANSWER_SECOND]);
+    printf("\n");
+    return 1;
+}
 
 int main(int argc, char **argv)
 {
-    static uint8_t type[SGML_TYPE_LIMIT + 1], buffer[SGML_ELEMENT_LIMIT * SGML_RECORD_NUMBERS * 4];
-    uint32_t answer[SGML_ANSWER_NUMBERS], k;
+    uint32_t answer[SGML_ANSWER_SIZE], k;
+    char name[SGML_NAMELEN + 1];
     FILE *file;
     size_t length;
-
-    if (argc != 2 || !(file = fopen(argv[1], "rb"))) {
+    if (argc != 2) {
         fprintf(stderr, "usage: judge TYPE-FILE\n");
+        return 2;
+    }
+    file = fopen(argv[1], "rb");
+    if (!file) {
+        fprintf(stderr, "judge: %s: %s\n", argv[1], strerror(errno));
         return 2;
     }
     length = fread(type, 1, sizeof type, file);
     fclose(file);
-    sgml_judge(type, length, buffer, sizeof buffer, answer);
-    if (answer[SGML_NUMBER]) {
-        printf("refused %u in type at %u: %s", (unsigned)answer[SGML_NUMBER], (unsigned)answer[SGML_POSITION],
-               sgml_refusal_text(answer[SGML_NUMBER]));
-        if (answer[SGML_NUMBER] == SGML_AMBIGUOUS)
-            printf(", places %u and %u", (unsigned)answer[SGML_FIRST], (unsigned)answer[SGML_SECOND]);
-        printf("\n");
-        return 1;
-    }
-    printf("elements %u\n", (unsigned)answer[SGML_COUNT]);
-    for (k = 0; k < answer[SGML_COUNT]; k++) {
-        const uint8_t *r = buffer + k * SGML_RECORD_NUMBERS * 4;
-        printf("%.*s %c %c ", (int)sgml_number(r, SGML_NAME_LENGTH), (const char *)type + sgml_number(r, SGML_NAME_OFFSET),
-               sgml_number(r, SGML_START_TAG) ? 'O' : '-', sgml_number(r, SGML_END_TAG) ? 'O' : '-');
-        if (sgml_number(r, SGML_CONTENT))
-            printf("model of %u content tokens\n", (unsigned)sgml_number(r, SGML_TOKENS));
+    sgml_judge(type, length, records, sizeof records, answer);
+    if (answer[SGML_ANSWER_NUMBER])
+        return refused(answer);
+    printf("elements %u\n", (unsigned)answer[SGML_ANSWER_COUNT]);
+    for (k = 0; k < answer[SGML_ANSWER_COUNT]; k++) {
+        struct sgml_record r = sgml_record_at(records, k);
+        sgml_copy_name(type, records, k + 1, name, sizeof name);
+        printf("%s %c %c ", name, r.start_tag ? 'O' : '-', r.end_tag ? 'O' : '-');
+        if (r.content)
+            printf("model of %u content tokens\n", (unsigned)r.tokens);
         else
             printf("EMPTY\n");
     }

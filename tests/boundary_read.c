@@ -24,29 +24,30 @@ static int are_clamp_events(const uint8_t *buffer)
 /* What the buffer holds after an answer, and what the answer says beside its number. */
 static void check_answer(const uint32_t *answer, struct slice buffer)
 {
-    size_t used = answer[SGML_COUNT] * SGML_EVENT_NUMBERS * 4;
-    if (answer[SGML_NUMBER]) {
+    size_t used = answer[SGML_ANSWER_COUNT] * SGML_EVENT_SIZE * 4;
+    if (answer[SGML_ANSWER_NUMBER]) {
         check(all(buffer.bytes, buffer.length, 0), "a refusal zeroes the whole buffer, odd bytes too");
-        check(answer[SGML_COUNT] == 0, "no events with a refusal");
-        check(answer[SGML_INPUT] == SGML_IN_TYPE || answer[SGML_INPUT] == SGML_IN_DOCUMENT, "a refusal names an input");
+        check(answer[SGML_ANSWER_COUNT] == 0, "no events with a refusal");
+        check(answer[SGML_ANSWER_INPUT] == SGML_IN_TYPE || answer[SGML_ANSWER_INPUT] == SGML_IN_DOCUMENT, "a refusal names an input");
     } else {
-        check(answer[SGML_INPUT] == SGML_IN_NEITHER && answer[SGML_POSITION] == 0, "input and position of an acceptance");
+        check(answer[SGML_ANSWER_INPUT] == SGML_IN_NEITHER && answer[SGML_ANSWER_POSITION] == 0, "input and position of an acceptance");
         check(used <= buffer.length && all(buffer.bytes + used, buffer.length - used, FILL), "what lies behind is as it was");
     }
-    check(answer[SGML_NUMBER] == SGML_AMBIGUOUS || (answer[SGML_FIRST] == 0 && answer[SGML_SECOND] == 0), "places only under 9");
+    check(answer[SGML_ANSWER_NUMBER] == SGML_ERR_AMBIGUOUS || (answer[SGML_ANSWER_FIRST] == 0 && answer[SGML_ANSWER_SECOND] == 0),
+          "places only under 9");
 }
 
 /* Reads a document into a fresh buffer of `room` bytes, and checks what must hold whatever the answer. */
 static uint32_t number_of(const char *type_text, const char *text, size_t room, size_t skew)
 {
     struct slice type = lend(type_text, strlen(type_text), (skew + 1) % 4), document = lend(text, strlen(text), (skew + 3) % 4);
-    struct slice buffer = lend(NULL, room, skew), lent = lend(NULL, 4 * SGML_ANSWER_NUMBERS, 0);
+    struct slice buffer = lend(NULL, room, skew), lent = lend(NULL, 4 * SGML_ANSWER_SIZE, 0);
     uint32_t *answer = (uint32_t *)(void *)lent.bytes, number;
     sgml_read(type.bytes, type.length, document.bytes, document.length, buffer.bytes, room, answer);
-    number = answer[SGML_NUMBER];
+    number = answer[SGML_ANSWER_NUMBER];
     check_answer(answer, buffer);
     if (text == clamp && !number)
-        check(answer[SGML_COUNT] == 15 && are_clamp_events(buffer.bytes), "the events of the shelf's document");
+        check(answer[SGML_ANSWER_COUNT] == 15 && are_clamp_events(buffer.bytes), "the events of the shelf's document");
     check(!memcmp(type.bytes, type_text, type.length), "the type file is as it was");
     check(!memcmp(document.bytes, text, document.length), "the document is as it was");
     check(is_whole(type), "guards of the type file");
@@ -62,13 +63,13 @@ static void check_rooms(void)
     size_t room, skew;
     for (skew = 0; skew < 4; skew++) {
         for (room = 0; room < enough + 20; room++)
-            check(number_of(stock, clamp, room, skew) == (room / 4 < enough / 4 ? SGML_NO_ROOM : 0), "19 exactly if it does not fit");
+            check(number_of(stock, clamp, room, skew) == (room / 4 < enough / 4 ? SGML_ERR_NO_ROOM : 0), "19 exactly if it does not fit");
         for (room = 0; room < 8; room++) {
-            check(number_of(stock, "<LIST></LIST>", room, skew) == SGML_INCOMPLETE, "13 comes before 19");
-            check(number_of(stock, "a\001", room, skew) == SGML_BYTE, "2 comes before 19");
-            check(number_of(stock, "", room, skew) == SGML_NO_DOCUMENT, "18 comes before 19");
-            check(number_of("<!ELEMENT A - O (B?,B)>", clamp, room, skew) == SGML_AMBIGUOUS, "9 comes before 19");
-            check(number_of("", clamp, room, skew) == SGML_ELEMENTS, "8 comes before 19");
+            check(number_of(stock, "<LIST></LIST>", room, skew) == SGML_ERR_INCOMPLETE, "13 comes before 19");
+            check(number_of(stock, "a\001", room, skew) == SGML_ERR_BYTE, "2 comes before 19");
+            check(number_of(stock, "", room, skew) == SGML_ERR_NO_DOCUMENT, "18 comes before 19");
+            check(number_of("<!ELEMENT A - O (B?,B)>", clamp, room, skew) == SGML_ERR_AMBIGUOUS, "9 comes before 19");
+            check(number_of("", clamp, room, skew) == SGML_ERR_ELEMENTS, "8 comes before 19");
         }
     }
 }
@@ -77,11 +78,11 @@ static void check_rooms(void)
 static void check_slices(const char *type, size_t type_len, const char *document, size_t document_len, uint32_t number,
                          uint32_t input, uint32_t position, const char *what)
 {
-    uint32_t answer[SGML_ANSWER_NUMBERS];
+    uint32_t answer[SGML_ANSWER_SIZE];
     memset(answer, FILL, sizeof answer);
     sgml_read((const uint8_t *)type, type_len, (const uint8_t *)document, document_len, NULL, 0, answer);
-    check(answer[SGML_NUMBER] == number && answer[SGML_INPUT] == input && answer[SGML_POSITION] == position &&
-              answer[SGML_FIRST] == 0 && answer[SGML_SECOND] == 0 && answer[SGML_COUNT] == 0, what);
+    check(answer[SGML_ANSWER_NUMBER] == number && answer[SGML_ANSWER_INPUT] == input && answer[SGML_ANSWER_POSITION] == position &&
+              answer[SGML_ANSWER_FIRST] == 0 && answer[SGML_ANSWER_SECOND] == 0 && answer[SGML_ANSWER_COUNT] == 0, what);
 }
 
 int main(int argc, char **argv)
@@ -91,12 +92,12 @@ int main(int argc, char **argv)
     if (argc > 1)
         guard = 0;
     check_rooms();
-    check_slices(NULL, 0, NULL, 0, SGML_ELEMENTS, SGML_IN_TYPE, 0, "all null");
-    check_slices(stock, 0, clamp, 0, SGML_ELEMENTS, SGML_IN_TYPE, 0, "all empty");
-    check_slices(NULL, 0, clamp, m, SGML_ELEMENTS, SGML_IN_TYPE, 0, "null type file");
-    check_slices(stock, n, NULL, 0, SGML_NO_DOCUMENT, SGML_IN_DOCUMENT, 0, "null document");
-    check_slices(stock, n, clamp, m, SGML_NO_ROOM, SGML_IN_DOCUMENT, 0, "null buffer");
-    check_slices(stock, n, stock, n, SGML_LEFT_OUT, SGML_IN_DOCUMENT, 0, "one slice for both inputs");
-    check_slices(stock, n, stock + n, 0, SGML_NO_DOCUMENT, SGML_IN_DOCUMENT, 0, "an empty document at the type file's end");
+    check_slices(NULL, 0, NULL, 0, SGML_ERR_ELEMENTS, SGML_IN_TYPE, 0, "all null");
+    check_slices(stock, 0, clamp, 0, SGML_ERR_ELEMENTS, SGML_IN_TYPE, 0, "all empty");
+    check_slices(NULL, 0, clamp, m, SGML_ERR_ELEMENTS, SGML_IN_TYPE, 0, "null type file");
+    check_slices(stock, n, NULL, 0, SGML_ERR_NO_DOCUMENT, SGML_IN_DOCUMENT, 0, "null document");
+    check_slices(stock, n, clamp, m, SGML_ERR_NO_ROOM, SGML_IN_DOCUMENT, 0, "null buffer");
+    check_slices(stock, n, stock, n, SGML_ERR_LEFT_OUT, SGML_IN_DOCUMENT, 0, "one slice for both inputs");
+    check_slices(stock, n, stock + n, 0, SGML_ERR_NO_DOCUMENT, SGML_IN_DOCUMENT, 0, "an empty document at the type file's end");
     return told();
 }

@@ -2,6 +2,7 @@
 set -eu
 cd "$(dirname "$0")/.."
 export LC_ALL=C
+. tests/tools
 out=target/tests/command
 rm -rf "$out"
 mkdir -p "$out"
@@ -51,9 +52,17 @@ told() {
     passed=0 failed=0
 }
 
-# found PROGRAM: it is there, or can be installed; else what needs it is skipped.
-found() {
-    command -v "$1" >/dev/null || apt-get install -y -qq "$1" >/dev/null 2>&1 || { echo "skipped: there is no $1"; return 1; }
+# is_refusal WHERE NUMBER: what ran ended with 1, printed nothing, and told of a refusal there by that number.
+is_refusal() {
+    local line
+    line=$(head -1 "$out/stderr")
+    [[ $status -eq 1 && ! -s $out/stdout && $line == "$1: "?*" [$2]" ]]
+}
+
+# refuses WHERE NUMBER COMMAND..
+refuses() {
+    ran "${@:3}"
+    check "${*:3}: ended with $status, $(head -1 "$out/stderr")" is_refusal "$1" "$2"
 }
 
 echo "the boundary in C: plain, with sanitizers, under valgrind"
@@ -63,7 +72,7 @@ for p in boundary boundary_read; do
     clean "$out/$p"
     clean "$out/$p.sanitized"
     clean "$out/$p.sanitized" bare
-    if found valgrind; then
+    if needs valgrind valgrind "the boundary under valgrind"; then
         clean valgrind -q --error-exitcode=9 "$out/$p" bare
     fi
 done
@@ -84,31 +93,48 @@ done >"$out/controller.txt"
 check "the controller prints what is expected" diff "$out/controller.txt" examples/controller.expected
 controller="target/controller examples/cabinet.type examples/catalogues"
 ends 2 "usage: controller TYPE CATALOGUE" target/controller
-ends 2 "controller: examples/catalogues cannot be read" $controller
-ends 2 "controller: standard output cannot be written" bash -c "$controller/few-tags.cat >&-"
-ends 2 "controller: standard output cannot be written" bash -c "$controller/end-tag-too-many.cat >/dev/full"
+ends 2 "controller: examples/catalogues: Is a directory" $controller
+ends 2 "controller: standard output: Bad file descriptor" bash -c "$controller/few-tags.cat >&-"
+ends 2 "controller: standard output: No space left on device" bash -c "$controller/end-tag-too-many.cat >/dev/full"
+# a catalogue of 65,527 bytes with 37,039 events, thirteen to a drawer and two more
+for i in $(seq 2849); do printf '<DRAWER>1<ITEM>x<QTY>1\n'; done >"$out/full.cat"
+ran target/controller examples/cabinet.type "$out/full.cat"
+printf '%s\n' "drawer      items    counted       pieces" "     1       2849       2849         2849" "   all       2849       2849         2849" >"$out/full"
+check "the controller on a full catalogue" diff "$out/stdout" "$out/full"
+ran target/controller examples/two-drawers.type examples/catalogues/few-tags.cat
+check "both places of an ambiguous model" test "$status,$(head -1 "$out/stdout")" = "1,examples/two-drawers.type:2:27: an ambiguous content model: this ITEM, place 2, or ITEM at 2:21, place 1"
 told
 
-# The line that tells of a refusal: the paper's number and position, as file, line, column and the header's text.
-mapfile -t texts < <(sed -n 's/^    case SGML_.*return "\(.*\)";$/\1/p' include/sgml.h)
-refusal() {
-    local file=$1 number=$2 position=$3 line column
-    line=$(($(head -c "$position" "$file" | wc -l) + 1))
-    column=$(($(head -c "$position" "$file" | tail -n "+$line" | wc -c) + 1))
-    echo "$file:$line:$column: ${texts[$number]}"
+# Where a byte of a file stands, as FILE:LINE:COLUMN.
+place() {
+    local line column
+    line=$(($(head -c "$2" "$1" | wc -l) + 1))
+    column=$(($(head -c "$2" "$1" | tail -n "+$line" | wc -c) + 1))
+    echo "$1:$line:$column"
 }
 
-echo "the command on the vectors"
+# is_same STATUS FILE: what ran ended so and printed the file.
+is_same() { [ "$status" -eq "$1" ] && cmp -s "$out/stdout" "$2"; }
+
+echo "the command, with sanitizers, on the vectors"
+sanitized=$out/sgml
+cc -std=c99 $strict -g -fsanitize=address,undefined -fno-sanitize-recover=all -Iinclude command/*.c $library -o "$sanitized"
 for v in tests/vectors/*/*; do
     read -r word number _ input _ position <"$v/expected"
-    ran target/sgml "$v/type.sgm" "$v/doc.sgm"
-    sed -i 's/, places [0-9]* and [0-9]*$//' "$out/stderr"
     case $word,$number,$input in
-    events,*) check "$v" cmp -s "$out/stdout" "$v/expected" ;;
-    refused,19,*) check "$v: the command's own buffer grows" grep -q '^events ' "$out/stdout" ;;
-    refused,*,type) check "$v" is_silent 1 "$(refusal "$v/type.sgm" "$number" "$position")" ;;
-    *) check "$v" is_silent 1 "$(refusal "$v/doc.sgm" "$number" "$position")" ;;
+    events,*)
+        ran "$sanitized" "$v/type.sgm" "$v/doc.sgm"
+        check "$v" is_same 0 "$v/expected"
+        ;;
+    refused,19,*)
+        ran "$sanitized" "$v/type.sgm" "$v/doc.sgm"
+        check "$v: the command's own buffer grows" grep -q '^events ' "$out/stdout"
+        ;;
+    refused,*,type) refuses "$(place "$v/type.sgm" "$position")" "$number" "$sanitized" "$v/type.sgm" "$v/doc.sgm" ;;
+    *) refuses "$(place "$v/doc.sgm" "$position")" "$number" "$sanitized" "$v/type.sgm" "$v/doc.sgm" ;;
     esac
+    ran "$sanitized" --answer "$v/type.sgm" "$v/doc.sgm"
+    check "$v by --answer" is_same "$([ "$word" = refused ] && echo 1 || echo 0)" "$v/expected"
 done
 told
 
@@ -128,7 +154,7 @@ agree() {
     { printf '<!DOCTYPE %s [' "$element"; cat "$1"; printf ']>'; cat "$2"; } >"$out/whole.sgm"
     onsgmls -w no-all "<OSFILE RECORDS=ASIS>$out/whole.sgm" 2>"$out/stderr" | diff -q - "$out/esis" >/dev/null
 }
-if command -v onsgmls >/dev/null; then
+if needs onsgmls opensp "onsgmls on the same documents"; then
     check "onsgmls on $escapes" agree "$note" "$escapes"
     for c in all-tags few-tags larger; do
         check "onsgmls on $c" agree examples/cabinet.type "examples/catalogues/$c.cat"
@@ -138,8 +164,6 @@ if command -v onsgmls >/dev/null; then
         case $v in */bare-marks | */mixed/165 | */comment-dashes | */return-is-data) continue ;; esac
         [ "$(head -c 6 "$v/expected")" != events ] || check "onsgmls on $v" agree "$v/type.sgm" "$v/doc.sgm"
     done
-else
-    echo "skipped: there is no onsgmls to compare with"
 fi
 told
 
@@ -155,32 +179,66 @@ ends 0 "" bash -c "$sgml --check $type - <$few"
 ends 0 "" bash -c "$sgml --check - $few <$type"
 ends 0 "" bash -c "$sgml --check $type $few >&-"
 ends 0 "" bash -c "cd $out && ../../sgml --check -- --check ../../../$few"
-ends 1 "<stdin>:1:7: this start tag or data is not allowed here" bash -c "printf '<LIST><QTY>' | $sgml examples/stock.type -"
-ends 1 "<stdin>:1:7: this start tag or data is not allowed here" bash -c "printf '<LIST><QTY>' | $sgml --esis examples/stock.type -"
-ends 1 "examples/two-drawers.type:2:27: an ambiguous content model, places 1 and 2" $sgml --check examples/two-drawers.type $few
-ends 1 "$out/long:1:1: too long: a type file has at most 32768 bytes, a document 65535" $sgml $type "$out/long"
-ends 1 "$out/long:1:1: too long: a type file has at most 32768 bytes, a document 65535" $sgml "$out/long" $few
-ends 1 "<stdin>:1:1: too long: a type file has at most 32768 bytes, a document 65535" bash -c "$sgml $type - <$out/long"
+ends 0 "" $sgml --check -q $type $few examples/catalogues/larger.cat
+ends 0 "" $sgml --check $type
+here="<stdin>:1:7: <QTY> is not allowed here: LIST (begun at 1:1) is not complete; here may come <ITEM>, <NAME> or data [12]"
+ends 1 "$here" bash -c "printf '<LIST><QTY>' | $sgml examples/stock.type -"
+check "the line with a caret" test "$(tail -n +2 "$out/stderr")" = "<LIST><QTY>
+      ^"
+ends 1 "$here" bash -c "printf '<LIST><QTY>' | $sgml --esis examples/stock.type -"
+ends 1 "$here" bash -c "printf '<LIST><QTY>' | $sgml -q --check examples/stock.type -"
+check "-q prints one line" test "$(wc -l <"$out/stderr")" -eq 1
+two="examples/two-drawers.type:2:27: this content model is ambiguous: ITEM may be this one, place 2, or ITEM at 2:21, place 1 [9]"
+ends 1 "$two" $sgml --check examples/two-drawers.type $few
+ends 1 "$two" $sgml --check examples/two-drawers.type
+ends 1 "$two" $sgml -q examples/two-drawers.type $few $few $few
+check "a refused type is told of once" test "$(wc -l <"$out/stderr")" -eq 1
+ends 1 "$out/long:1:1: this document has more than 65535 bytes [1]" $sgml $type "$out/long"
+ends 1 "$out/long:1:1: this type file has more than 32768 bytes [1]" $sgml "$out/long" $few
+ends 1 "<stdin>:1:1: this document has more than 65535 bytes [1]" bash -c "$sgml $type - <$out/long"
 ends 2 "sgml: a type file and a document are due" $sgml
 ends 2 "sgml: a type file and a document are due" $sgml $type
-ends 2 "sgml: one word too many: more" $sgml $type $few more
+ends 2 "sgml: a type file and a document are due" $sgml --answer $type
 ends 2 "sgml: no such option: --verify" $sgml --verify $type $few
 ends 2 "sgml: no such option: -x" $sgml -x $type $few
-ends 2 "sgml: --esis and --check exclude each other" $sgml --esis --check $type $few
-ends 2 "sgml: only one of the two can be standard input" $sgml - -
+ends 2 "sgml: --esis, --check and --answer exclude each other" $sgml --esis --check $type $few
+ends 2 "sgml: --esis, --check and --answer exclude each other" $sgml --answer --check $type $few
+ends 2 "sgml: only one file can be standard input" $sgml - -
+ends 2 "sgml: only one file can be standard input" $sgml $type - $few -
 ends 2 "sgml: examples: Is a directory" $sgml $type examples
 ends 2 "sgml: examples: Is a directory" $sgml examples $few
 ends 2 "sgml: nowhere: No such file or directory" $sgml $type nowhere
 ends 2 "sgml: <stdin>: Bad file descriptor" bash -c "$sgml $type - <&-"
-ends 2 "sgml: standard output: cannot be written" bash -c "$sgml $type $few >&-"
-ends 2 "sgml: standard output: cannot be written" bash -c "$sgml --esis $type $few >&-"
-ends 2 "sgml: standard output: cannot be written" bash -c "$sgml --help >&-"
-ends 2 "sgml: standard output: cannot be written" bash -c "$sgml $type $few >/dev/full"
-ran $sgml --help
-check "--help" grep -q "^usage: sgml" "$out/stdout"
+ends 2 "sgml: standard output: Bad file descriptor" bash -c "$sgml $type $few >&-"
+ends 2 "sgml: standard output: Bad file descriptor" bash -c "$sgml --esis $type $few >&-"
+ends 2 "sgml: standard output: Bad file descriptor" bash -c "$sgml --help >&-"
+ends 2 "sgml: standard output: No space left on device" bash -c "$sgml $type $few >/dev/full"
+ends 2 "sgml: standard output: No space left on device" bash -c "$sgml --answer $type $few >/dev/full"
+for option in -h --help; do
+    ran $sgml $option
+    check "$option" grep -q "^usage: sgml" "$out/stdout"
+done
 ran $sgml --version
-version=$(sed -n 's/^.define VERSION "\(.*\)"/\1/p' command/version.h)
+version=$(sed -n 's/^.define SGML_VERSION "\(.*\)"/\1/p' include/sgml.h)
 check "--version" grep -qx "sgml $version" "$out/stdout"
+
+# several documents, each with its own result
+short=examples/catalogues/cut-short.cat
+ran $sgml $type $few $short nowhere $few
+{ echo "$few:"; $sgml $type $few; echo "$short:"; echo "$few:"; $sgml $type $few; } >"$out/several"
+check "several documents: the output" diff "$out/stdout" "$out/several"
+check "several documents: status 2 if one could not be read" test "$status" -eq 2
+check "several documents: the refusal" grep -q "^$short:4:1: the document ends, but ITEM (begun at 3:1) is not complete" "$out/stderr"
+check "several documents: the missing one" grep -qx "sgml: nowhere: No such file or directory" "$out/stderr"
+ran $sgml --check $type $few $short $few
+check "several documents: status 1 if one is refused" test "$status" -eq 1 -a ! -s "$out/stdout"
+
+# names that are never declared
+printf '<!-- TAPE -->\n<!ELEMENT A - O (B,(CLAMPP|TAPE)*,B,#PCDATA,b1) -- NONE -->\n<!ELEMENT B - O EMPTY>' >"$out/slips.type"
+ran $sgml -q --check "$out/slips.type"
+printf "$out/slips.type:2:%s: warning: %s stands in a content model and is never declared\n" 21 CLAMPP 28 TAPE 45 B1 >"$out/slips"
+check "names never declared" diff "$out/stderr" "$out/slips"
+check "they are allowed" test "$status" -eq 0 -a ! -s "$out/stdout"
 told
 
 echo "make install, and a program that links by pkg-config"
@@ -194,7 +252,7 @@ check "the files under PREFIX" diff "$out/files" "$out/files.prefix"
 check "the files under DESTDIR" diff "$out/files" "$out/files.stage"
 check "DESTDIR is not in sgml.pc" grep -qx "prefix=/usr" "$out/stage/usr/lib/pkgconfig/sgml.pc"
 ends 0 "" "$prefix/bin/sgml" --check $type $few
-if found pkg-config; then
+if needs pkg-config pkg-config "a program that links by pkg-config"; then
     flags=$(PKG_CONFIG_PATH=$prefix/lib/pkgconfig pkg-config --cflags --libs sgml)
     check "the version for pkg-config" test "$(PKG_CONFIG_PATH=$prefix/lib/pkgconfig pkg-config --modversion sgml)" = "$version"
     check "as C99" cc -std=c99 $strict tests/command/installed.c $flags -o "$out/installed"
@@ -205,8 +263,30 @@ if found pkg-config; then
         check "$p runs" diff "$out/stdout" "$out/installed.expected"
     done
 fi
-if command -v groff >/dev/null; then
+if needs groff groff "the manual page"; then
     check "the manual page" test -z "$(groff -man -ww -z command/sgml.1 2>&1)"
 fi
+touch "$prefix/lib/other.a"
+make uninstall PREFIX="$prefix" >"$out/install.log"
+check "make uninstall takes away what was installed, and no more" test "$(cd "$prefix" && find . -type f)" = ./lib/other.a
+told
+
+echo "the programs in the header and the README"
+# program FILE MARKER BLANKS: the first lines after the marker that begin with these blanks, as the body of a program.
+program() {
+    { printf '#include "sgml.h"\n#include <stdio.h>\n#include <stdlib.h>\n'
+      printf 'static const uint8_t type[] = "<!ELEMENT A O O (#PCDATA)>", document[] = "clamp";\n'
+      printf 'int main(void) {\nsize_t type_len = sizeof type - 1, document_len = sizeof document - 1;\n'
+      awk -v marker="$2" -v blanks="$3" 'index($0, blanks) == 1 && after { print substr($0, length(blanks) + 1); code = 1; next }
+          code { exit } index($0, marker) { after = 1 }' "$1" | grep -v '^#include'
+      printf 'return 0;\n}\n'; } >"$out/program.c"
+}
+echo "2 1 0 0 5 0 0 5 4 1 5 0" >"$out/program.expected"
+program include/sgml.h "A program of ten lines" " *     "
+check "that of the header compiles" cc -std=c99 $strict -Iinclude "$out/program.c" $library -o "$out/program"
+check "and prints the events" test "$("$out/program" | tr '\n' ' ')" = "$(cat "$out/program.expected") "
+program README.md "From C" "    "
+check "that of the README compiles" cc -std=c99 $strict -Iinclude "$out/program.c" $library -o "$out/program"
+check "and prints the events" test "$("$out/program" | tr '\n' ' ')" = "$(cat "$out/program.expected") "
 told
 [ "$all_failed" -eq 0 ]

@@ -14,7 +14,8 @@ static void hold(const char *folder, int is_right, const char *expected, const u
         return;
     }
     failed++;
-    printf("%s: expected %s, judged %u at %u\n", folder, expected, (unsigned)answer[SGML_NUMBER], (unsigned)answer[SGML_POSITION]);
+    printf("%s: expected %s, judged %u at %u\n", folder, expected, (unsigned)answer[SGML_ANSWER_NUMBER],
+           (unsigned)answer[SGML_ANSWER_POSITION]);
 }
 
 static size_t content_of(const char *folder, const char *name, uint8_t *to, size_t room)
@@ -36,11 +37,11 @@ static size_t content_of(const char *folder, const char *name, uint8_t *to, size
 
 int main(int argc, char **argv)
 {
-    static uint8_t type[70000], buffer[SGML_ELEMENT_LIMIT * SGML_RECORD_NUMBERS * 4];
+    static uint8_t type[70000], buffer[SGML_MOST_RECORD_BYTES];
     char expected[64];
     int i;
     for (i = 1; i < argc; i++) {
-        uint32_t answer[SGML_ANSWER_NUMBERS];
+        uint32_t answer[SGML_ANSWER_SIZE];
         unsigned number, position;
         size_t n = content_of(argv[i], "expected", (uint8_t *)expected, sizeof expected - 1);
         expected[n] = 0;
@@ -48,11 +49,14 @@ int main(int argc, char **argv)
         n = content_of(argv[i], "type.sgm", type, sizeof type);
         sgml_judge(type, n, buffer, sizeof buffer, answer);
         if (sscanf(expected, "refused %u in type at %u", &number, &position) == 2)
-            hold(argv[i], answer[SGML_NUMBER] == number && answer[SGML_INPUT] == 1 && answer[SGML_POSITION] == position, expected, answer);
+            hold(argv[i],
+                 answer[SGML_ANSWER_NUMBER] == number && answer[SGML_ANSWER_INPUT] == SGML_IN_TYPE &&
+                     answer[SGML_ANSWER_POSITION] == position,
+                 expected, answer);
         else if (sscanf(expected, "refused %u in document", &number) == 1 && number < 10)
             continue;
         else
-            hold(argv[i], answer[SGML_NUMBER] == 0 && answer[SGML_COUNT] > 0, expected, answer);
+            hold(argv[i], answer[SGML_ANSWER_NUMBER] == 0 && answer[SGML_ANSWER_COUNT] > 0, expected, answer);
     }
     printf("%d passed, %d failed\n", passed, failed);
     return failed != 0 || passed == 0;

@@ -3,7 +3,7 @@ set -eu
 cd "$(dirname "$0")/.."
 out=target/tests
 mkdir -p "$out"
-command -v rustc >/dev/null || { apt-get update -qq && apt-get install -y -qq rustc >/dev/null; }
+. tests/tools
 rt staticlib sgml >"$out/staticlib.log" 2>&1 || { cat "$out/staticlib.log"; exit 1; }
 
 echo "the header as C99 and as C++"
@@ -12,11 +12,13 @@ cc -std=c99 -Wall -Wextra -pedantic -Werror -Iinclude -c "$out/header.c" -o "$ou
 c++ -Wall -Wextra -pedantic -Werror -Iinclude -x c++ -c "$out/header.c" -o "$out/header.o"
 echo "2 passed, 0 failed"
 
-echo "the second implementation on the vectors, and on all walks of small models"
-rustc -O --edition 2021 tests/oracle/vectors.rs -o "$out/vectors"
-"$out/vectors" tests/vectors
-rustc -O --edition 2021 tests/oracle/walks.rs -o "$out/walks"
-"$out/walks" 3000 1
+if needs rustc rustc "the second implementation on the vectors, and on all walks of small models"; then
+    echo "the second implementation on the vectors, and on all walks of small models"
+    rustc -O --edition 2021 tests/oracle/vectors.rs -o "$out/vectors"
+    "$out/vectors" tests/vectors
+    rustc -O --edition 2021 tests/oracle/walks.rs -o "$out/walks"
+    "$out/walks" 3000 1
+fi
 
 echo "the library's boundary in C"
 cc -std=c99 -Wall -Wextra -pedantic -Werror -g -Iinclude tests/boundary.c target/staticlib/libsgml.a -o "$out/boundary"
@@ -35,15 +37,21 @@ cc -std=c99 -Wall -Wextra -pedantic -Werror -O2 -Iinclude tests/stack.c target/s
 "$out/stack"
 echo "1 passed, 0 failed"
 
+echo "as many events as SGML_MOST_EVENTS says"
+cc -std=c99 -Wall -Wextra -pedantic -Werror -O2 -Iinclude tests/most.c target/staticlib/libsgml.a -o "$out/most"
+"$out/most"
+
 echo "the example program on the example type files"
 examples/run >"$out/examples.txt"
 diff "$out/examples.txt" examples/expected.txt
 echo "1 passed, 0 failed"
 
-echo "the library against the second implementation, on generated and damaged type files and documents"
-rustc -O --edition 2021 tests/oracle/compare.rs -L target/staticlib -l static=sgml -o "$out/compare"
-"$out/compare" "${CASES:-100000}" "${SEED:-1}"
+if needs rustc rustc "the library against the second implementation"; then
+    echo "the library against the second implementation, on generated and damaged type files and documents"
+    rustc -O --edition 2021 tests/oracle/compare.rs -L target/staticlib -l static=sgml -o "$out/compare"
+    "$out/compare" "${CASES:-100000}" "${SEED:-1}"
 
-echo "the same on the vectors' inputs, cut at every byte and with every byte value"
-rustc -O --edition 2021 tests/oracle/edges.rs -L target/staticlib -l static=sgml -o "$out/edges"
-"$out/edges" tests/vectors
+    echo "the same on the vectors' inputs, cut at every byte and with every byte value"
+    rustc -O --edition 2021 tests/oracle/edges.rs -L target/staticlib -l static=sgml -o "$out/edges"
+    "$out/edges" tests/vectors
+fi

@@ -5,14 +5,14 @@
 
 int main(int argc, char **argv)
 {
-    static uint8_t buffer[SGML_ELEMENT_LIMIT * SGML_RECORD_NUMBERS * 4];
+    static uint8_t buffer[SGML_MOST_RECORD_BYTES];
     static char line[4096];
     int passed = 0, failed = 0;
     FILE *file = argc == 2 ? fopen(argv[1], "r") : NULL;
     if (!file)
         return 2;
     while (fgets(line, sizeof line, file)) {
-        uint32_t answer[SGML_ANSWER_NUMBERS];
+        uint32_t answer[SGML_ANSWER_SIZE];
         unsigned number, first = 0, second = 0;
         char *type = strstr(line, " | "), *at;
         size_t position = 0;
@@ -31,12 +31,14 @@ int main(int argc, char **argv)
             memmove(at, at + 1, strlen(at));
         }
         sgml_judge((const uint8_t *)type, strlen(type), buffer, sizeof buffer, answer);
-        if (answer[SGML_NUMBER] == number && answer[SGML_POSITION] == position && answer[SGML_FIRST] == first && answer[SGML_SECOND] == second) {
+        if (answer[SGML_ANSWER_NUMBER] == number && answer[SGML_ANSWER_POSITION] == position && answer[SGML_ANSWER_FIRST] == first &&
+            answer[SGML_ANSWER_SECOND] == second) {
             passed++;
         } else {
             failed++;
-            printf("%s\n  judged %u at %u, places %u and %u; expected %u at %u, places %u and %u\n", type, (unsigned)answer[SGML_NUMBER],
-                   (unsigned)answer[SGML_POSITION], (unsigned)answer[SGML_FIRST], (unsigned)answer[SGML_SECOND], number, (unsigned)position, first, second);
+            printf("%s\n  judged %u at %u, places %u and %u", type, (unsigned)answer[SGML_ANSWER_NUMBER],
+                   (unsigned)answer[SGML_ANSWER_POSITION], (unsigned)answer[SGML_ANSWER_FIRST], (unsigned)answer[SGML_ANSWER_SECOND]);
+            printf("; expected %u at %u, places %u and %u\n", number, (unsigned)position, first, second);
         }
     }
     fclose(file);

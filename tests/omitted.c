@@ -1,7 +1,6 @@
 /* omitted.c - holds the reader against listed cases: lines "type ..", lines "doc  ..", then what the small program prints, up to an
  * empty line. Lines of one kind are joined by byte 10; a case without a type file has that of the case before. */
 #include "sgml.h"
-#include <ctype.h>
 #include <stdio.h>
 #include <string.h>
 
@@ -18,40 +17,34 @@ static void add_line(char *text, const char *line)
 }
 
 /* An element's name in upper case, by the judge's record of it. */
-static void name_of(uint32_t element, char name[16])
+static void name_of(uint32_t element, char name[SGML_NAMELEN + 1])
 {
-    static uint8_t records[4 * SGML_RECORD_NUMBERS * SGML_ELEMENT_LIMIT];
-    uint32_t answer[SGML_ANSWER_NUMBERS];
-    const char *from;
-    size_t k, record = (size_t)SGML_RECORD_NUMBERS * (element - 1), length;
+    static uint8_t records[SGML_MOST_RECORD_BYTES];
+    uint32_t answer[SGML_ANSWER_SIZE];
     sgml_judge((const uint8_t *)type, strlen(type), records, sizeof records, answer);
-    from = type + sgml_number(records, record + SGML_NAME_OFFSET);
-    length = sgml_number(records, record + SGML_NAME_LENGTH);
-    for (k = 0; k < length; k++)
-        name[k] = (char)toupper((unsigned char)from[k]);
-    name[length] = 0;
+    sgml_copy_name((const uint8_t *)type, records, element, name, SGML_NAMELEN + 1);
 }
 
 /* What the small program prints of the type file and the document at hand. */
 static void print_reading(void)
 {
     static uint8_t buffer[LENT];
-    uint32_t answer[SGML_ANSWER_NUMBERS], k;
-    char line[80], name[16];
+    uint32_t answer[SGML_ANSWER_SIZE], k;
+    char line[80], name[SGML_NAMELEN + 1];
     printed[0] = 0;
     sgml_read((const uint8_t *)type, strlen(type), (const uint8_t *)document, strlen(document), buffer, sizeof buffer, answer);
-    if (answer[SGML_NUMBER]) {
-        snprintf(line, sizeof line, "refused %u in %s at %u", (unsigned)answer[SGML_NUMBER],
-                 answer[SGML_INPUT] == SGML_IN_TYPE ? "type" : "document", (unsigned)answer[SGML_POSITION]);
+    if (answer[SGML_ANSWER_NUMBER]) {
+        snprintf(line, sizeof line, "refused %u in %s at %u", (unsigned)answer[SGML_ANSWER_NUMBER],
+                 answer[SGML_ANSWER_INPUT] == SGML_IN_TYPE ? "type" : "document", (unsigned)answer[SGML_ANSWER_POSITION]);
         add_line(printed, line);
         return;
     }
-    snprintf(line, sizeof line, "events %u", (unsigned)answer[SGML_COUNT]);
+    snprintf(line, sizeof line, "events %u", (unsigned)answer[SGML_ANSWER_COUNT]);
     add_line(printed, line);
-    for (k = 0; k < answer[SGML_COUNT]; k++) {
+    for (k = 0; k < answer[SGML_ANSWER_COUNT]; k++) {
         struct sgml_event event = sgml_event_at(buffer, k);
         strcpy(name, "-");
-        if (event.kind != SGML_DATA)
+        if (event.kind != SGML_KIND_DATA)
             name_of(event.element, name);
         snprintf(line, sizeof line, "%u %s %u %u", (unsigned)event.kind, name, (unsigned)event.offset, (unsigned)event.length);
         add_line(printed, line);

@@ -1,5 +1,5 @@
 /* stack.c - how much stack a call of the judge and one of the reader takes: each runs in a thread whose stack was painted
- * before. */
+ * before. The limit is what the header promises. */
 #define _GNU_SOURCE
 #include "sgml.h"
 #include <pthread.h>
@@ -8,29 +8,28 @@
 #include <string.h>
 
 #define STACK (512 * 1024)
-#define LIMIT (256 * 1024)
 #define PAINT 0x5A
-#define ROOM (SGML_ELEMENT_LIMIT * SGML_RECORD_NUMBERS * 4)
+#define ROOM SGML_MOST_RECORD_BYTES
 
 static char type[SGML_TYPE_LIMIT];
 static size_t type_len;
 
 static void *call(void *buffer)
 {
-    uint32_t answer[SGML_ANSWER_NUMBERS];
+    uint32_t answer[SGML_ANSWER_SIZE];
     sgml_judge((const uint8_t *)type, type_len, buffer, ROOM, answer);
-    if (answer[SGML_NUMBER])
-        printf("refused %u at %u\n", (unsigned)answer[SGML_NUMBER], (unsigned)answer[SGML_POSITION]);
+    if (answer[SGML_ANSWER_NUMBER])
+        printf("refused %u at %u\n", (unsigned)answer[SGML_ANSWER_NUMBER], (unsigned)answer[SGML_ANSWER_POSITION]);
     return NULL;
 }
 
 static void *read_call(void *buffer)
 {
     static const char document[] = "<E0><E1>";
-    uint32_t answer[SGML_ANSWER_NUMBERS];
+    uint32_t answer[SGML_ANSWER_SIZE];
     sgml_read((const uint8_t *)type, type_len, (const uint8_t *)document, sizeof document - 1, buffer, ROOM, answer);
-    if (answer[SGML_NUMBER] != SGML_NOT_ALLOWED_HERE)
-        printf("answered %u at %u\n", (unsigned)answer[SGML_NUMBER], (unsigned)answer[SGML_POSITION]);
+    if (answer[SGML_ANSWER_NUMBER] != SGML_ERR_NOT_ALLOWED_HERE)
+        printf("answered %u at %u\n", (unsigned)answer[SGML_ANSWER_NUMBER], (unsigned)answer[SGML_ANSWER_POSITION]);
     return NULL;
 }
 
@@ -73,6 +72,6 @@ int main(void)
     }
     taken = used(call, buffer) - used(nothing, NULL);
     reading = used(read_call, buffer) - used(nothing, NULL);
-    printf("a call of the judge takes %zu bytes of stack, one of the reader %zu; the limit is %d\n", taken, reading, LIMIT);
-    return taken > LIMIT || taken == 0 || reading > LIMIT || reading == 0;
+    printf("a call of the judge takes %zu bytes of stack, one of the reader %zu; the limit is %d\n", taken, reading, SGML_STACK_BYTES);
+    return taken > SGML_STACK_BYTES || taken == 0 || reading > SGML_STACK_BYTES || reading == 0;
 }

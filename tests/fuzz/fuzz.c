@@ -8,8 +8,6 @@
 
 #define GUARD 64
 #define FILL 0xA5
-#define RECORD_BYTES (4 * SGML_RECORD_NUMBERS)
-#define EVENT_BYTES (4 * SGML_EVENT_NUMBERS)
 
 struct slice {
     const uint8_t *bytes;
@@ -17,7 +15,7 @@ struct slice {
 };
 
 struct answer {
-    uint32_t before, numbers[SGML_ANSWER_NUMBERS], behind;
+    uint32_t before, numbers[SGML_ANSWER_SIZE], behind;
 };
 
 /* What was answered leads libFuzzer on, since the library itself counts nothing for it. */
@@ -61,18 +59,18 @@ static uint8_t *lend(size_t room)
 static void check_answer(const struct answer *a, const uint8_t *buffer, size_t room, size_t record, const size_t *lengths)
 {
     const uint32_t *n = a->numbers;
-    size_t used = record * n[SGML_COUNT];
+    size_t used = record * n[SGML_ANSWER_COUNT];
     must(a->before == FILL && a->behind == FILL, "the answer's guards");
     must(all(buffer - GUARD, GUARD, FILL) && all(buffer + room, GUARD, FILL), "the buffer's guards");
-    must(n[SGML_NUMBER] <= SGML_NO_ROOM, "a number is below 20");
-    must((n[SGML_FIRST] || n[SGML_SECOND]) == (n[SGML_NUMBER] == SGML_AMBIGUOUS), "places under 9 alone");
-    must(n[SGML_NUMBER] != SGML_AMBIGUOUS || (n[SGML_FIRST] && n[SGML_FIRST] < n[SGML_SECOND]), "the smaller place first");
-    if (n[SGML_NUMBER]) {
-        must(n[SGML_INPUT] == SGML_IN_TYPE || n[SGML_INPUT] == SGML_IN_DOCUMENT, "a refusal's input");
-        must(n[SGML_POSITION] <= lengths[n[SGML_INPUT] - 1] && n[SGML_COUNT] == 0, "a refusal's position and count");
+    must(n[SGML_ANSWER_NUMBER] <= SGML_ERR_NO_ROOM, "a number is below 20");
+    must((n[SGML_ANSWER_FIRST] || n[SGML_ANSWER_SECOND]) == (n[SGML_ANSWER_NUMBER] == SGML_ERR_AMBIGUOUS), "places under 9 alone");
+    must(n[SGML_ANSWER_NUMBER] != SGML_ERR_AMBIGUOUS || (n[SGML_ANSWER_FIRST] && n[SGML_ANSWER_FIRST] < n[SGML_ANSWER_SECOND]), "the smaller place first");
+    if (n[SGML_ANSWER_NUMBER]) {
+        must(n[SGML_ANSWER_INPUT] == SGML_IN_TYPE || n[SGML_ANSWER_INPUT] == SGML_IN_DOCUMENT, "a refusal's input");
+        must(n[SGML_ANSWER_POSITION] <= lengths[n[SGML_ANSWER_INPUT] - 1] && n[SGML_ANSWER_COUNT] == 0, "a refusal's position and count");
         must(all(buffer, room, 0), "a refusal zeroes the buffer");
     } else {
-        must(n[SGML_INPUT] == 0 && n[SGML_POSITION] == 0, "input and position of an acceptance");
+        must(n[SGML_ANSWER_INPUT] == 0 && n[SGML_ANSWER_POSITION] == 0, "input and position of an acceptance");
         must(used <= room && all(buffer + used, room - used, FILL), "what lies behind the records is as it was");
     }
 }
@@ -83,8 +81,8 @@ static uint8_t *judge(struct slice type, size_t room, struct answer *a)
     uint8_t *buffer = lend(room);
     a->before = a->behind = FILL;
     sgml_judge(type.bytes, type.length, buffer, room, a->numbers);
-    check_answer(a, buffer, room, RECORD_BYTES, lengths);
-    must(a->numbers[SGML_INPUT] != SGML_IN_DOCUMENT, "the judge looks at the type only");
+    check_answer(a, buffer, room, SGML_RECORD_BYTES, lengths);
+    must(a->numbers[SGML_ANSWER_INPUT] != SGML_IN_DOCUMENT, "the judge looks at the type only");
     return buffer;
 }
 
@@ -94,7 +92,7 @@ static uint8_t *read_events(struct slice type, struct slice document, size_t roo
     uint8_t *buffer = lend(room);
     a->before = a->behind = FILL;
     sgml_read(type.bytes, type.length, document.bytes, document.length, buffer, room, a->numbers);
-    check_answer(a, buffer, room, EVENT_BYTES, lengths);
+    check_answer(a, buffer, room, SGML_EVENT_BYTES, lengths);
     return buffer;
 }
 
@@ -103,12 +101,12 @@ static void check_records(const uint8_t *records, uint32_t count, size_t type_le
     uint32_t k, before = 0;
     must(count >= 1 && count <= SGML_ELEMENT_LIMIT, "1 to 64 elements");
     for (k = 0; k < count; k++) {
-        const uint8_t *r = records + RECORD_BYTES * k;
-        uint32_t offset = sgml_number(r, SGML_NAME_OFFSET), length = sgml_number(r, SGML_NAME_LENGTH);
-        uint32_t tokens = sgml_number(r, SGML_TOKENS);
+        const uint8_t *r = records + SGML_RECORD_BYTES * k;
+        uint32_t offset = sgml_number(r, SGML_RECORD_NAME_OFFSET), length = sgml_number(r, SGML_RECORD_NAME_LENGTH);
+        uint32_t tokens = sgml_number(r, SGML_RECORD_TOKENS);
         must(length >= 1 && length <= SGML_NAMELEN && offset > before && offset + length < type_length, "a name's place");
-        must(sgml_number(r, SGML_START_TAG) <= 1 && sgml_number(r, SGML_END_TAG) <= 1, "omission is 0 or 1");
-        must(sgml_number(r, SGML_CONTENT) == (tokens > 0) && tokens <= SGML_GRPGTCNT, "tokens of a model, none of EMPTY");
+        must(sgml_number(r, SGML_RECORD_START_TAG) <= 1 && sgml_number(r, SGML_RECORD_END_TAG) <= 1, "omission is 0 or 1");
+        must(sgml_number(r, SGML_RECORD_CONTENT) == (tokens > 0) && tokens <= SGML_GRPGTCNT, "tokens of a model, none of EMPTY");
         before = offset + length;
         see(1, tokens);
     }
@@ -117,9 +115,9 @@ static void check_records(const uint8_t *records, uint32_t count, size_t type_le
 /* The bytes of a tag: "<" or "</", the element's name, whatever its case, and ">" last. */
 static int is_tag(struct slice document, struct sgml_event e, size_t lead, struct slice type, const uint8_t *records)
 {
-    const uint8_t *r = records + RECORD_BYTES * (e.element - 1), *name = type.bytes + sgml_number(r, SGML_NAME_OFFSET);
+    const uint8_t *r = records + SGML_RECORD_BYTES * (e.element - 1), *name = type.bytes + sgml_number(r, SGML_RECORD_NAME_OFFSET);
     const uint8_t *tag = document.bytes + e.offset;
-    size_t i, length = sgml_number(r, SGML_NAME_LENGTH);
+    size_t i, length = sgml_number(r, SGML_RECORD_NAME_LENGTH);
     if (e.length < lead + length + 1 || memcmp(tag, "</", lead) || tag[e.length - 1] != '>')
         return 0;
     for (i = 0; i < length; i++)
@@ -131,17 +129,17 @@ static int is_tag(struct slice document, struct sgml_event e, size_t lead, struc
 /* What an event's own numbers must be. */
 static void check_event(struct sgml_event e, struct slice document, struct slice type, const uint8_t *records, uint32_t elements)
 {
-    must(e.kind >= SGML_START_WRITTEN && e.kind <= SGML_END_OF_EMPTY, "a kind is 1 to 6");
+    must(e.kind >= SGML_KIND_START && e.kind <= SGML_KIND_END_OF_EMPTY, "a kind is 1 to 6");
     must(e.offset <= document.length && e.length <= document.length - e.offset, "an event lies in the document");
-    if (e.kind == SGML_DATA) {
+    if (e.kind == SGML_KIND_DATA) {
         must(e.element == 0 && e.length > 0, "data has no element, and bytes");
         must(!memchr(document.bytes + e.offset, '\n', e.length), "byte 10 is no data");
         return;
     }
     must(e.element >= 1 && e.element <= elements, "an element is declared");
-    if (e.kind == SGML_START_WRITTEN)
+    if (e.kind == SGML_KIND_START)
         must(is_tag(document, e, 1, type, records), "a start tag stands there");
-    else if (e.kind == SGML_END_WRITTEN)
+    else if (e.kind == SGML_KIND_END)
         must(is_tag(document, e, 2, type, records), "an end tag stands there");
     else
         must(e.length == 0, "what is not written has length 0");
@@ -151,12 +149,12 @@ static void check_event(struct sgml_event e, struct slice document, struct slice
 static void check_order(struct sgml_event before, struct sgml_event e)
 {
     must(e.offset >= before.offset + before.length, "offsets never fall");
-    if (before.kind == SGML_START_INFERRED || before.kind == SGML_END_INFERRED)
+    if (before.kind == SGML_KIND_START_INFERRED || before.kind == SGML_KIND_END_INFERRED)
         must(e.offset == before.offset, "an inferred tag stands at what called for it");
-    if (e.kind == SGML_END_OF_EMPTY)
-        must(before.kind == SGML_START_WRITTEN && before.element == e.element && e.offset == before.offset + before.length,
+    if (e.kind == SGML_KIND_END_OF_EMPTY)
+        must(before.kind == SGML_KIND_START && before.element == e.element && e.offset == before.offset + before.length,
              "an EMPTY element ends after its tag");
-    if (e.kind == SGML_DATA && before.kind == SGML_DATA)
+    if (e.kind == SGML_KIND_DATA && before.kind == SGML_KIND_DATA)
         must(e.offset > before.offset + before.length, "a run is longest");
 }
 
@@ -167,15 +165,16 @@ static void check_events(const uint8_t *events, uint32_t count, struct slice doc
     uint32_t open[SGML_TAGLVL], depth = 0, k;
     struct sgml_event before = { 0, 0, 0, 0 };
     must(count >= 2, "a document has an element");
+    must(count <= SGML_MOST_EVENTS(document.length), "no more events than the header says");
     for (k = 0; k < count; k++) {
         struct sgml_event e = sgml_event_at(events, k);
         check_event(e, document, type, records, elements);
         check_order(before, e);
         must(depth > 0 || k == 0, "nothing stands outside the document element");
-        if (e.kind == SGML_START_WRITTEN || e.kind == SGML_START_INFERRED) {
+        if (e.kind == SGML_KIND_START || e.kind == SGML_KIND_START_INFERRED) {
             must(depth < SGML_TAGLVL && (k > 0 || e.element == 1), "at most 24 open, the document element first");
             open[depth++] = e.element;
-        } else if (e.kind == SGML_DATA) {
+        } else if (e.kind == SGML_KIND_DATA) {
             must(depth > 0, "data stands in an element");
         } else {
             must(depth > 0 && open[--depth] == e.element, "an end is of the innermost open element");
@@ -184,40 +183,40 @@ static void check_events(const uint8_t *events, uint32_t count, struct slice doc
         before = e;
     }
     must(depth == 0, "every element ends");
-    must(before.kind != SGML_END_INFERRED || before.offset == document.length, "the last inferred end stands at the end");
+    must(before.kind != SGML_KIND_END_INFERRED || before.offset == document.length, "the last inferred end stands at the end");
 }
 
 /* The same answer in exactly as much room, odd bytes included, and 19 with one number less. */
 static void check_room(struct slice type, struct slice document, uint32_t count, size_t odd)
 {
     struct answer a;
-    read_events(type, document, (size_t)count * EVENT_BYTES + odd % 4, &a);
-    must(a.numbers[SGML_NUMBER] == 0 && a.numbers[SGML_COUNT] == count, "exactly enough room is enough");
-    read_events(type, document, (size_t)count * EVENT_BYTES - 4 + odd % 4, &a);
-    must(a.numbers[SGML_NUMBER] == SGML_NO_ROOM && a.numbers[SGML_INPUT] == SGML_IN_DOCUMENT && a.numbers[SGML_POSITION] == 0,
+    read_events(type, document, (size_t)count * SGML_EVENT_BYTES + odd % 4, &a);
+    must(a.numbers[SGML_ANSWER_NUMBER] == 0 && a.numbers[SGML_ANSWER_COUNT] == count, "exactly enough room is enough");
+    read_events(type, document, (size_t)count * SGML_EVENT_BYTES - 4 + odd % 4, &a);
+    must(a.numbers[SGML_ANSWER_NUMBER] == SGML_ERR_NO_ROOM && a.numbers[SGML_ANSWER_INPUT] == SGML_IN_DOCUMENT && a.numbers[SGML_ANSWER_POSITION] == 0,
          "one number short is 19");
 }
 
 static void check_calls(struct slice type, struct slice document)
 {
-    static uint8_t records[RECORD_BYTES * SGML_ELEMENT_LIMIT];
+    static uint8_t records[SGML_RECORD_BYTES * SGML_ELEMENT_LIMIT];
     struct answer judged, a;
     size_t room = 65536;
     const uint8_t *events, *buffer = judge(type, sizeof records + type.length % 4, &judged);
     memcpy(records, buffer, sizeof records);
-    if (!judged.numbers[SGML_NUMBER])
-        check_records(records, judged.numbers[SGML_COUNT], type.length);
-    for (events = read_events(type, document, room, &a); a.numbers[SGML_NUMBER] == SGML_NO_ROOM; room *= 2)
+    if (!judged.numbers[SGML_ANSWER_NUMBER])
+        check_records(records, judged.numbers[SGML_ANSWER_COUNT], type.length);
+    for (events = read_events(type, document, room, &a); a.numbers[SGML_ANSWER_NUMBER] == SGML_ERR_NO_ROOM; room *= 2)
         events = read_events(type, document, room * 2, &a);
-    see(0, a.numbers[SGML_NUMBER] * 2 + a.numbers[SGML_INPUT] % 2);
-    if (a.numbers[SGML_INPUT] == SGML_IN_TYPE)
+    see(0, a.numbers[SGML_ANSWER_NUMBER] * 2 + a.numbers[SGML_ANSWER_INPUT] % 2);
+    if (a.numbers[SGML_ANSWER_INPUT] == SGML_IN_TYPE)
         must(!memcmp(&a, &judged, sizeof a), "reader and judge refuse a type alike");
     else
-        must(!judged.numbers[SGML_NUMBER] || a.numbers[SGML_NUMBER] == SGML_TOO_LONG || a.numbers[SGML_NUMBER] == SGML_BYTE,
+        must(!judged.numbers[SGML_ANSWER_NUMBER] || a.numbers[SGML_ANSWER_NUMBER] == SGML_ERR_TOO_LONG || a.numbers[SGML_ANSWER_NUMBER] == SGML_ERR_BYTE,
              "a type that the judge refuses is not read under");
-    if (a.numbers[SGML_NUMBER] == 0) {
-        check_events(events, a.numbers[SGML_COUNT], document, type, records, judged.numbers[SGML_COUNT]);
-        check_room(type, document, a.numbers[SGML_COUNT], document.length);
+    if (a.numbers[SGML_ANSWER_NUMBER] == 0) {
+        check_events(events, a.numbers[SGML_ANSWER_COUNT], document, type, records, judged.numbers[SGML_ANSWER_COUNT]);
+        check_room(type, document, a.numbers[SGML_ANSWER_COUNT], document.length);
     }
 }
 
