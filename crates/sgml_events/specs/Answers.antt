@@ -4,17 +4,12 @@ use mathlib.Core.Path.{_≡_, sym, ap, _∙_}
 use mathlib.Core.List.{List, _++_}
 use native.Mathlib.Omega.{arith}
 use lib.ListN.{length, drop, replicate, length-replicate}
-use lib.Seq.{length-take-le}
 use Rattle.rules.specs.Lent.{numbers}
 use Rattle.rules.specs.Reading.{got}
 use Rattle.rules.specs.TypeFile.{Element}
 use Rattle.rules.specs.Judge.{Answer, acceptance}
 use Rattle.rules.specs.Events.{Event}
 use Rattle.rules.specs.Reader.{eventNumbers, Reads, RefusesBoth, typeTooLong, documentTooLong, typeNotAllowed, documentNotAllowed, malformed, ambiguous, unsettled, noRoom, ReadAs, refuses, accepts}
-use Rattle.io.specs.Counts.{Counts}
-use Rattle.sgml_events.specs.Means.{LoadedIn}
-use Rattle.sgml_events.specs.declared.Loaded.{Loaded}
-use Rattle.sgml_events.specs.declared.Loaded.the-variants.{Bytes}
 use Rattle.event_lines.specs.Printed.{inputText, refusedText}
 use Rattle.sgml_events.specs.Prints.{Prints, refusal}
 
@@ -71,9 +66,3 @@ pub prints-refusal : (s d before after text : List ℕ) {a b : Answer} → befor
     → text ≡ refusedText (b .number) (inputText (b .input)) (b .position) → Prints s d text
 prints-refusal s d before after text {a} {b} lent answered e h q =
     refusal b (rw e at (refused-read s d before a after lent answered (rw e h))) q
-
-pub counts-of : (r : ℕ) (out : List ℕ) → r ≤ length out → Counts r out
-counts-of r out h = (h, sym (length-take-le r out h))
-
-pub loaded-in : {r : Loaded} {n : ℕ} (buffer : List ℕ) → r ≡ Bytes n → LoadedIn r buffer → Counts n buffer
-loaded-in buffer e l = rw e at l

@@ -1,20 +1,13 @@
--- How much of a file was read, and what is put for a document that is accepted.
-use Prim.Native.Nat.{ℕ, _≤_}
+-- What is put for a document that is accepted.
+use Prim.Native.Nat.{ℕ}
 use mathlib.Core.Path.{_≡_}
 use mathlib.Core.List.{List, _++_}
-use lib.ListN.{length, take}
+use lib.ListN.{length}
 use Rattle.rules.specs.TypeFile.{Element}
 use Rattle.rules.specs.Judge.{Accepts}
 use Rattle.rules.specs.Events.{Event}
 use Rattle.rules.specs.Reader.{eventNumbers}
 use Rattle.event_lines.specs.Printed.{eventsText}
-use Rattle.sgml_events.specs.declared.Loaded.{Loaded}
-use Rattle.sgml_events.specs.declared.Loaded.the-variants.{Bytes, Failed}
-
--- So many bytes at the start of a buffer were read, if any could be.
-abbrev pub LoadedIn : Loaded → List ℕ → Type 0
-LoadedIn (Bytes n) buffer = (n ≤ length buffer) × (n ≡ length (take n buffer))
-LoadedIn Failed buffer = Unit {0}
 
 -- The type is accepted.
 abbrev pub Accepted : List ℕ → Type 0

@@ -1,63 +1,14 @@
 // Reads the type file `type.sgm` and the document `doc.sgm` of the folder that it runs in, and prints the document's
 // events or the one refusal.
 use document_reader::Answer;
+use file_reader::Loaded;
 use layout::RECORDS;
 use libc::STDOUT_FILENO;
 ghost use Prim.Native.Nat.{_≤_};
 ghost use lib.ListN.{length, take};
 ghost use Rattle.io.specs.Counts.{Counts};
 ghost use Rattle.sgml_events.specs.Prints.{Prints};
-ghost use Rattle.sgml_events.specs.Means.{LoadedIn, Accepted, EventsPut};
-
-// How many bytes of a file were read.
-pub enum Loaded {
-    Bytes(usize),
-    Failed,
-}
-
-// Reads once; a failure is told on standard error.
-fn read_some(fd: i32, path: &[u8], part: &mut [u8]) -> Loaded
-    ensures { λ r. ⌜ LoadedIn r (now (part .exit)) ⌝ }
-{
-    let got = libc::read(fd, part);
-    if got < 0 {
-        os::fail(path);
-        return Loaded::Failed;
-    }
-    Loaded::Bytes(io::count(got, part))
-}
-
-// Reads until the file ends or buf is full.
-fn filled(fd: i32, path: &[u8], buf: &mut [u8]) -> Loaded
-    ensures { λ r. ⌜ LoadedIn r (now (buf .exit)) ⌝ }
-{
-    let mut at = 0;
-    while at < buf.len() {
-        let r = read_some(fd, path, &mut buf[at..]);
-        let Loaded::Bytes(n) = r else {
-            return Loaded::Failed;
-        };
-        if n == 0 {
-            break;
-        }
-        at += n;
-    }
-    Loaded::Bytes(at)
-}
-
-// The first bytes of a file, as many as buf holds. A file that is not to be had is told on standard error.
-fn file_read(path: &[u8], buf: &mut [u8]) -> Loaded
-    ensures { λ r. ⌜ LoadedIn r (now (buf .exit)) ⌝ }
-{
-    let fd = os::open_read(path);
-    if fd < 0 {
-        os::fail(path);
-        return Loaded::Failed;
-    }
-    let r = filled(fd, path, buf);
-    libc::close(fd);
-    r
-}
+ghost use Rattle.sgml_events.specs.Means.{Accepted, EventsPut};
 
 // The text of n events of a document whose type is accepted; the judge gives where its elements' names stand.
 fn put_events(out: &mut [u8], s: &[u8], numbers: &[u32; 16384], n: usize) -> usize
@@ -88,11 +39,11 @@ fn main() {
     // one byte more than the reader takes, so that it refuses what is longer
     let mut s = [0u8; 32769];
     let mut d = [0u8; 65536];
-    let a = file_read(b"type.sgm", &mut s);
+    let a = file_reader::first_bytes(b"type.sgm", &mut s);
     let Loaded::Bytes(n) = a else {
         return;
     };
-    let b = file_read(b"doc.sgm", &mut d);
+    let b = file_reader::first_bytes(b"doc.sgm", &mut d);
     let Loaded::Bytes(m) = b else {
         return;
     };

@@ -1,17 +1,17 @@
 -- `sgml_events::main` is safe and ends: what was read of a file lies in its buffer.
 use borrow.Author.Needs.{needs}
-use Rattle.sgml_events.specs.Answers.{loaded-in}
+use Rattle.file_reader.specs.Laws.{loaded-in}
 use Rattle.sgml_events.proofs.main.Statement.{statement}
 use Rattle.sgml_events.proofs.main.Tie as tie
 
-slice-aggregate-file-read : tie.Need-slice-aggregate-file-read
-slice-aggregate-file-read c = search needs
+slice-aggregate-first-bytes : tie.Need-slice-aggregate-first-bytes
+slice-aggregate-first-bytes c = search needs
 
-slice-aggregate-file-read-2 : tie.Need-slice-aggregate-file-read-2
-slice-aggregate-file-read-2 c = search needs
+slice-aggregate-first-bytes-2 : tie.Need-slice-aggregate-first-bytes-2
+slice-aggregate-first-bytes-2 c = search needs
 
-file-read-requires : tie.Need-file-read-requires
-file-read-requires c κs = search needs
+first-bytes-requires : tie.Need-first-bytes-requires
+first-bytes-requires c κs = search needs
 
 enum-known-a : tie.Need-enum-known-a
 enum-known-a c = search needs
@@ -22,14 +22,14 @@ enum-told c = search needs
 returns : tie.Need-returns
 returns c = search needs
 
-slice-aggregate-file-read-3 : tie.Need-slice-aggregate-file-read-3
-slice-aggregate-file-read-3 c = search needs
+slice-aggregate-first-bytes-3 : tie.Need-slice-aggregate-first-bytes-3
+slice-aggregate-first-bytes-3 c = search needs
 
-slice-aggregate-file-read-4 : tie.Need-slice-aggregate-file-read-4
-slice-aggregate-file-read-4 c = search needs
+slice-aggregate-first-bytes-4 : tie.Need-slice-aggregate-first-bytes-4
+slice-aggregate-first-bytes-4 c = search needs
 
-file-read-requires-2 : tie.Need-file-read-requires-2
-file-read-requires-2 c κs = search needs
+first-bytes-requires-2 : tie.Need-first-bytes-requires-2
+first-bytes-requires-2 c κs = search needs
 
 enum-known-b : tie.Need-enum-known-b
 enum-known-b c = search needs
@@ -41,16 +41,16 @@ returns-2 : tie.Need-returns-2
 returns-2 c = search needs
 
 array-share-prefix-s : tie.Need-array-share-prefix-s
-array-share-prefix-s c = loaded-in (c .before .before .before .before .before .before .before .before .before .before .before .file-read .last .1 .0) (c .before .before .before .before .before .before .before .before .a .given .1) (c .before .before .before .before .before .before .before .before .before .before .before .file-read .ensures) .0
+array-share-prefix-s c = loaded-in (c .before .before .before .before .before .before .before .before .before .before .before .first-bytes .last .1 .0) (c .before .before .before .before .before .before .before .before .a .given .1) (c .before .before .before .before .before .before .before .before .before .before .before .first-bytes .ensures) .0
 
 slice-aggregate-printed : tie.Need-slice-aggregate-printed
-slice-aggregate-printed c = loaded-in (c .before .before .before .before .before .before .before .before .before .before .before .before .file-read .last .1 .0) (c .before .before .before .before .before .before .before .before .before .a .given .1) (c .before .before .before .before .before .before .before .before .before .before .before .before .file-read .ensures) .1
+slice-aggregate-printed c = loaded-in (c .before .before .before .before .before .before .before .before .before .before .before .before .first-bytes .last .1 .0) (c .before .before .before .before .before .before .before .before .before .a .given .1) (c .before .before .before .before .before .before .before .before .before .before .before .before .first-bytes .ensures) .1
 
 array-share-prefix-d : tie.Need-array-share-prefix-d
-array-share-prefix-d c = loaded-in (c .before .before .before .before .before .file-read2 .last .1 .0) (c .before .before .b .given .1) (c .before .before .before .before .before .file-read2 .ensures) .0
+array-share-prefix-d c = loaded-in (c .before .before .before .before .before .first-bytes2 .last .1 .0) (c .before .before .b .given .1) (c .before .before .before .before .before .first-bytes2 .ensures) .0
 
 slice-aggregate-printed-2 : tie.Need-slice-aggregate-printed-2
-slice-aggregate-printed-2 c = loaded-in (c .before .before .before .before .before .before .file-read2 .last .1 .0) (c .before .before .before .b .given .1) (c .before .before .before .before .before .before .file-read2 .ensures) .1
+slice-aggregate-printed-2 c = loaded-in (c .before .before .before .before .before .before .first-bytes2 .last .1 .0) (c .before .before .before .b .given .1) (c .before .before .before .before .before .before .first-bytes2 .ensures) .1
 
 slice-aggregate-printed-3 : tie.Need-slice-aggregate-printed-3
 slice-aggregate-printed-3 c = search needs
@@ -83,15 +83,15 @@ pub main-spec : {M : Type 1} → statement M
 main-spec =
     tie.close
     (tie.spec
-    slice-aggregate-file-read
-    slice-aggregate-file-read-2
-    file-read-requires
+    slice-aggregate-first-bytes
+    slice-aggregate-first-bytes-2
+    first-bytes-requires
     enum-known-a
     enum-told
     returns
-    slice-aggregate-file-read-3
-    slice-aggregate-file-read-4
-    file-read-requires-2
+    slice-aggregate-first-bytes-3
+    slice-aggregate-first-bytes-4
+    first-bytes-requires-2
     enum-known-b
     enum-told-2
     returns-2

@@ -4,7 +4,8 @@ use native.Mathlib.Omega.{arith}
 use borrow.Author.Needs.{needs}
 use Rattle.document_reader.specs.Means.{answerOf}
 use Rattle.sgml_events.specs.Prints.{events}
-use Rattle.sgml_events.specs.Answers.{accepted-read, prints-refusal, counts-of}
+use Rattle.file_reader.specs.Laws.{counts-of}
+use Rattle.sgml_events.specs.Answers.{accepted-read, prints-refusal}
 use Rattle.sgml_events.proofs.printed.Statement.{statement}
 use Rattle.sgml_events.proofs.printed.Tie as tie
 

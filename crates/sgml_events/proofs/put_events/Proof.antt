@@ -3,7 +3,7 @@ use mathlib.Core.Path.{refl}
 use native.Mathlib.Omega.{arith}
 use borrow.Author.Needs.{needs}
 use Rattle.sgml_events.specs.Table.{table-fits, names-are, text-is}
-use Rattle.sgml_events.specs.Answers.{counts-of}
+use Rattle.file_reader.specs.Laws.{counts-of}
 use Rattle.sgml_events.proofs.put_events.Statement.{statement}
 use Rattle.sgml_events.proofs.put_events.Tie as tie
 

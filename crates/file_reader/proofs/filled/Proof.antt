@@ -1,4 +1,4 @@
--- `sgml_events::filled` reads no more bytes than the buffer holds, and ends. The measure is what is left of the buffer.
+-- `file_reader::filled` reads no more bytes than the buffer holds, and ends. The measure is what is left of the buffer.
 use Prim.Native.Nat.{ℕ, _+_, _-_, _≤_}
 use mathlib.Core.Path.{_≡_, refl, _∙_}
 use mathlib.Core.List.{List}
@@ -6,12 +6,12 @@ use native.Mathlib.Omega.{arith}
 use lib.ListN.{length}
 use borrow.Rule.Slice.PartMut.{midOf, mid-len}
 use borrow.Author.Needs.{needs}
-use Rattle.sgml_events.specs.Means.{LoadedIn}
-use Rattle.sgml_events.specs.Answers.{counts-of, loaded-in}
-use Rattle.sgml_events.specs.declared.Loaded.{Loaded}
-use Rattle.sgml_events.specs.declared.Loaded.the-variants.{Bytes}
-use Rattle.sgml_events.proofs.filled.Statement.{statement}
-use Rattle.sgml_events.proofs.filled.Tie as tie
+use Rattle.file_reader.specs.Means.{LoadedIn}
+use Rattle.file_reader.specs.Laws.{counts-of, loaded-in}
+use Rattle.file_reader.specs.declared.Loaded.{Loaded}
+use Rattle.file_reader.specs.declared.Loaded.the-variants.{Bytes}
+use Rattle.file_reader.proofs.filled.Statement.{statement}
+use Rattle.file_reader.proofs.filled.Tie as tie
 
 -- The part behind `at` got n bytes: they lie in the buffer.
 part-in : (buf ys : List ℕ) (at : ℕ) {n : ℕ} {r : Loaded} → at ≤ length buf → length ys ≡ length (midOf at (length buf - at) buf) → r ≡ Bytes n → LoadedIn r ys → at + n ≤ length buf
