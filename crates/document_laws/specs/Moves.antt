@@ -66,7 +66,7 @@ pub record Ends (s : List ℕ) (es : List Element) (D E : Decisions) (Q : State 
 
 pub record Moves (s : List ℕ) (es : List Element) (D E : Decisions) (Q : State → State → Type 0) : Type 0 where
   pub ends : Ends s es D E Q
-  pub take : {z y : State} → Q z y → (p : ℕ) → Chosen s es D (z .current) p → Q (takePlace p z) (takePlace p y)
+  pub taking : {z y : State} → Q z y → (p : ℕ) → Chosen s es D (z .current) p → Q (takePlace p z) (takePlace p y)
   pub enter : {z y : State} → Q z y → (k : ℕ) → hasModel (contentOf es k) ≡ true → Q (enter k z) (enter k y)
 
 -- The last event is no run of data.
@@ -197,7 +197,7 @@ module _ {s : List ℕ} {es : List Element} {D E : Decisions} {Q : State → Sta
       let m = inferable-may s es D (z .current) (rw e l) in
       let p = requiredPlace s es D (z .current) in
       subst (λ (r : ℕ). Q (opened D at k z) (note (startInferred k at) (enter k (takePlace r y)))) (alike q .required)
-      (moves .ends .note (moves .enter (moves .take q p (required (m .place))) k (rw e at (m .model))) (startInferred k at) refl)
+      (moves .ends .note (moves .enter (moves .taking q p (required (m .place))) k (rw e at (m .model))) (startInferred k at) refl)
 
   chain-same : (left : ℕ) (t : Token) {z y : State} → Q z y → chain s es D left t (z .current) ≡ chain s es E left t (y .current)
   unfolding chain
@@ -226,7 +226,7 @@ module _ {s : List ℕ} {es : List Element} {D E : Decisions} {Q : State → Sta
   taken-keeps : {t : Token} {x w : State} → Taken t x w → Q x w
   taken-keeps {t} {x} {w} a =
       let p = fitting s es D (a .here .current) t in
-      let q = moves .take (a .keeps) p (fits t (a .fits)) in
+      let q = moves .taking (a .keeps) p (fits t (a .fits)) in
       let e = alike (a .keeps) .fits t in
       rw (a .first, a .second, ← e) q
 
@@ -388,7 +388,7 @@ pub any-moves : (s : List ℕ) (es : List Element) (D : Decisions) → Moves s e
 any-moves s es D =
     record {
       ends = keeps-ends (record { alike = λ {z} x. answers-itself s es D (z .current); note = λ x e k. tt; leave = λ x. tt });
-      take = λ q p c. (ap (takePlace p) (q .0), tt);
+      taking = λ q p c. (ap (takePlace p) (q .0), tt);
       enter = λ q k m. (ap (enter k) (q .0), tt);
     }
 

@@ -74,7 +74,7 @@ module _ (s : List ℕ) (es : List Element) (D E : Decisions) (x : Means s es D)
               note = λ g e k. record { current = g .current; around = g .around };
               leave = λ {z} g. parent-begun es z g;
             });
-        take = λ {z} q p c. (ap (takePlace p) (q .0), record { current = took-begun (z .current) p (q .1 .current) c; around = q .1 .around });
+        taking = λ {z} q p c. (ap (takePlace p) (q .0), record { current = took-begun (z .current) p (q .1 .current) c; around = q .1 .around });
         enter = λ q k m. (ap (enter k) (q .0), record { current = fresh-begun es k m; around = more (q .1 .current) (q .1 .around) });
       }
 

@@ -126,9 +126,6 @@ module _ {A : Type 0} (len : ℕ) (P : A → Type 0) where
   read-in : (x : Reading A) (a : A) → In len P x → x ≡ got a → P a
   read-in x a h q = rw q at h
 
-  refused-in : (x : Reading A) (n k : ℕ) → In len P x → x ≡ refused n k → k ≤ len
-  refused-in x n k h q = rw q at h
-
 next : {A B : Type 0} (len : ℕ) (P : A → Type 0) (Q : B → Type 0) (x : Reading A) (f : A → Reading B) → In len P x → ((a : A) → P a → In len Q (f a)) → In len Q (andThen x f)
 next len P Q (refused n k) f h g = h
 next len P Q (got a) f h g = g a h
@@ -229,9 +226,6 @@ module _ (s : List ℕ) (i : ℕ) (h : i < length s) where
 
   pub skipped-range : (e : ℕ) → piece s i ≡ got (skipped e) → (i < e) × (e ≤ length s)
   skipped-range e = read-in (length s) (PieceIn (length s) i) (piece s i) (skipped e) (piece-in s i h)
-
-  pub refused-range : (n k : ℕ) → piece s i ≡ refused n k → k ≤ length s
-  refused-range n k = refused-in (length s) (PieceIn (length s) i) (piece s i) n k (piece-in s i h)
 
 -- Runs of data.
 

@@ -8,7 +8,7 @@ use Rattle.rules.specs.Judge.{bytesOf}
 use Rattle.rules.specs.Events.{Event}
 use Rattle.rules.specs.Reader.{eventNumbers}
 use Rattle.numbers.specs.Means.{written, Written}
-use Rattle.numbers.specs.Laws.{bytesOf-append, bytesOf-length, splice-turn, written-fits, written-keeps, written-more}
+use Rattle.numbers.specs.Laws.{bytesOf-append, bytesOf-length, eventNumbers-length, splice-turn, written-fits, written-keeps, written-more}
 use Rattle.event_buffer.specs.Means.{noted, Holds, Puts}
 
 -- Events as numbers.
@@ -16,11 +16,6 @@ pub eventNumbers-append : (ev fv : List Event) → eventNumbers (ev ++ fv) ≡ e
 unfolding eventNumbers
 eventNumbers-append [] fv = refl
 eventNumbers-append (e ∷ ev) fv = rw (eventNumbers-append ev fv)
-
-pub eventNumbers-length : (ev : List Event) → length (eventNumbers ev) ≡ 4 * length ev
-unfolding eventNumbers
-eventNumbers-length [] = refl
-eventNumbers-length (e ∷ ev) = omega (arith, eventNumbers-length ev)
 
 -- The events of a token behind those before, as numbers and as bytes.
 module _ (before l : List ℕ) (ev fv : List Event) (count : ℕ) (c : count ≡ length ev) where

@@ -44,7 +44,7 @@ module _ (s : List ℕ) (es : List Element) (D : Decisions) where
               note = λ {z} h e k j i. joins-other j (z .events) e k;
               leave = λ {z} h. parent-is (PartedFrom before) z h (λ u around e. h);
             });
-        take = λ q p c. (ap (takePlace p) (q .0), q .1);
+        taking = λ q p c. (ap (takePlace p) (q .0), q .1);
         enter = λ q k m. (ap (enter k) (q .0), q .1);
       }
 

@@ -108,7 +108,7 @@ module _ (s : List ℕ) (es : List Element) where
               note = λ e ev k. ap (note ev) e;
               leave = λ {z} {y} e. short-parent z ∙ ap parent e ∙ sym (short-parent y);
             };
-        take = λ {z} {y} e p c. takePlace-short p z ∙ ap (λ (w : State). short (takePlace p w)) e ∙ sym (takePlace-short p y);
+        taking = λ {z} {y} e p c. takePlace-short p z ∙ ap (λ (w : State). short (takePlace p w)) e ∙ sym (takePlace-short p y);
         enter = λ e k m. ap (enter k) e;
       }
 

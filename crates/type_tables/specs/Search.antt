@@ -11,11 +11,6 @@ unfolding search
 search-most f zero = omega arith
 search-most f (suc n) = bool-cases (f (suc n)) (λ x. rw (x, search) (omega arith)) (λ x. rw (x, search) (omega (arith, search-most f n)))
 
-pub search-passes : (f : ℕ → Bool) (n : ℕ) → 1 ≤ search f n → f (search f n) ≡ true
-unfolding search
-search-passes f zero h = absurd (omega arith)
-search-passes f (suc n) h = bool-cases (f (suc n)) (λ x. rw (x, search) x) (λ x. rw (x, search) (search-passes f n (rw (x, search) at h)))
-
 pub search-none : (f : ℕ → Bool) → search f 0 ≡ 0
 unfolding search
 search-none f = refl
