@@ -1,6 +1,7 @@
 // The content tokens of a model: a name, `#PCDATA`, an occurrence indicator, and two groups joined by a connector, each with what it adds to
 // the model's places and to its table.
 use layout::MODEL;
+use layout::NAMELEN;
 use layout::NAMES;
 use model_table::Part;
 use text::Fault;
@@ -107,7 +108,7 @@ pub fn name_token(
 {
     let e = text::name_end(s, at);
     let n = e - at;
-    if 8 < n {
+    if NAMELEN < n {
         return refusal(3, at);
     }
     if full {

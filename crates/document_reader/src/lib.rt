@@ -2,8 +2,10 @@
 use document_events::Counted;
 use element_records::Clash;
 use inputs::Checked;
+use layout::EVENT;
 use layout::FACTS;
 use layout::INDEX;
+use layout::NUMBER;
 use layout::PLACES;
 use layout::RECORDS;
 use layout::ROWS;
@@ -21,9 +23,6 @@ ghost use Rattle.element_names.specs.Names.{Recorded};
 ghost use Rattle.element_index.specs.Means.{Judged};
 ghost use Rattle.document_events.specs.Means.{EventsOf};
 ghost use Rattle.document_reader.specs.Means.{answerOf, CountFits, Judges, Answers, fittedTo, isRefusal};
-
-// How many numbers an event has.
-const WIDTH: usize = 4;
 
 // The reader's answer.
 pub enum Answer {
@@ -143,7 +142,7 @@ pub fn read(s: &[u8], d: &[u8], buffer: &mut [u32]) -> Answer
     // no bytes are lent, so that events go to the numbers alone
     let mut none = [0u8; 0];
     let v = answered(s, d, buffer, &mut none);
-    let a = fitted(v, buffer.len() / WIDTH);
+    let a = fitted(v, buffer.len() / EVENT);
     if refuses(a) {
         numbers::clear_numbers(buffer);
     }
@@ -158,7 +157,7 @@ pub fn read_to_bytes(s: &[u8], d: &[u8], buffer: &mut [u8]) -> Answer
     // no numbers are lent, so that events go to the bytes alone
     let mut none = [0u32; 0];
     let v = answered(s, d, &mut none, buffer);
-    let a = fitted(v, buffer.len() / 4 / WIDTH);
+    let a = fitted(v, buffer.len() / NUMBER / EVENT);
     if refuses(a) {
         numbers::clear_bytes(buffer);
     }

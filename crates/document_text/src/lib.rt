@@ -1,4 +1,5 @@
 // The tokens of a document, read from its bytes.
+use layout::NAMELEN;
 use text::Fault;
 use text::Reached;
 ghost use mathlib.Core.Path.{_≡_};
@@ -91,7 +92,7 @@ pub fn tag_at(classes: &[u8; 256], s: &[u8], i: usize) -> TagRead
     ensures { λ r. ⌜ tagOf r ≡ tag (now (s .entry)) i ⌝ }
 {
     let e = name_end(classes, s, i);
-    if 8 < e - i {
+    if NAMELEN < e - i {
         return TagRead::Refused(Fault { number: 3, at: i });
     }
     let j = text::separators_end(s, e);

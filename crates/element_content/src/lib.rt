@@ -1,6 +1,7 @@
 // The content of an element: EMPTY, or a model group with its names and its table.
 use content_tokens::ModelRead;
 use layout::MODEL;
+use layout::NAMELEN;
 use layout::NAMES;
 use text::Fault;
 ghost use mathlib.Core.Path.{_≡_};
@@ -55,7 +56,7 @@ fn body_word(s: &[u8], from: usize, i: usize, names: &[u32; NAMES], table: &[u8;
     ensures { λ r. ⌜ MeetsBody (length (now (s .entry))) (now (names .entry)) (now (table .entry)) r (contentWord (now (s .entry)) from i) ⌝ }
 {
     let e = text::name_end(s, i);
-    if 8 < e - i {
+    if NAMELEN < e - i {
         return BodyRead::Refused(Fault { number: 3, at: i });
     }
     if from < i && words::is_word(s, i, e, b"EMPTY") {

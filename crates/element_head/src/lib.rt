@@ -1,4 +1,5 @@
 // The head of an element declaration: its name and the two words of omitted tag minimization.
+use layout::NAMELEN;
 use layout::RECORDS;
 use text::Fault;
 use text::Reached;
@@ -61,7 +62,7 @@ fn omission_at(s: &[u8], from: usize, i: usize) -> Omission
     }
     if text::is_letter(b) {
         let e = text::name_end(s, i);
-        if 8 < e - i {
+        if NAMELEN < e - i {
             return Omission::Refused(Fault { number: 3, at: i });
         }
         if from < i && words::is_word(s, i, e, b"O") {

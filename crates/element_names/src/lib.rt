@@ -1,4 +1,5 @@
 // The name of an element that is declared: at most 8 bytes long, declared for the first time, and at most the 64th.
+use layout::NAMELEN;
 use layout::RECORDS;
 use text::Fault;
 use text::Reached;
@@ -11,18 +12,12 @@ ghost use Rattle.rules.specs.TypeFile as rules;
 ghost use Rattle.text.specs.Means.{reached};
 ghost use Rattle.element_names.specs.Names.{Recorded, NameIn};
 
-fn widened(x: u32) -> usize
-    ensures { λ r. ⌜ (r ≡ x) × (r < 4294967296) ⌝ }
-{
-    x as usize
-}
-
 // A number of the table of elements.
 fn number(elements: &[u32; RECORDS], k: usize) -> usize
     requires { ⌜ k < 384 ⌝ }
     ensures { λ r. ⌜ (r ≡ getD (now (elements .entry)) k 0) × (r < 4294967296) ⌝ }
 {
-    widened(elements[k])
+    numbers::widened(elements[k])
 }
 
 // Whether one of the first `count` records has the name of this size at `at`.
@@ -53,7 +48,7 @@ pub fn element_name(s: &[u8], i: usize, elements: &[u32; RECORDS], count: usize)
     let b = text::byte(s, i);
     if text::is_letter(b) {
         let e = text::name_end(s, i);
-        if 8 < e - i {
+        if NAMELEN < e - i {
             return Reached::Refused(Fault { number: 3, at: i });
         }
         if declared(s, elements, count, i, e - i) {

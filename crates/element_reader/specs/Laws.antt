@@ -8,7 +8,7 @@ use lib.Dec.{eqb}
 use borrow.Author.Tests.{eq-eqb, ne-eqb}
 use Rattle.rules.specs.Bytes.{byteAt}
 use Rattle.rules.specs.Reading.{Reading, refused, got}
-use Rattle.rules.specs.TypeFile.{Head, Declared, ContentEnd, gap, unfit, head, close, content, rest, element}
+use Rattle.rules.specs.TypeFile.{Head, Declared, ContentEnd, gap, unfit, head, close, content, rest, element, declare}
 use Rattle.rules.specs.TypeFile as rules
 use Rattle.text.specs.Means.{refusalOf}
 use Rattle.text.specs.declared.Fault.{Fault}
@@ -54,7 +54,7 @@ module _ (s : List ℕ) (es : List rules.Element) (h : Head) where
         rest-close q = rw (g, rest, b, l, q)
 
         pub rest-got : {k : ℕ} → close s j ≡ got k
-            → rest s es h ≡ got (record { elements = es ++ record { at = h .name; size = h .size; start = h .start; end = h .end; content = c .content } ∷ []; at = k })
+            → rest s es h ≡ got (record { elements = es ++ declare h (c .content) ∷ []; at = k })
         unfolding rest
         rest-got q = rw (g, rest, b, l, q)
 

@@ -1,4 +1,6 @@
 // The lent buffers: an event is written behind those before.
+use layout::EVENT;
+use layout::NUMBER;
 ghost use mathlib.Core.Path.{_≡_};
 ghost use mathlib.Core.List.{_∷_, []};
 ghost use Prim.Native.Nat.{_+_, _*_, _<_};
@@ -6,16 +8,13 @@ ghost use Rattle.rules.specs.Judge.{bytesOf};
 ghost use Rattle.numbers.specs.Means.{written};
 ghost use Rattle.event_buffer.specs.Means.{noted, Puts};
 
-// How many numbers an event has.
-const WIDTH: usize = 4;
-
 // The four numbers of an event, after n events, if they fit.
 fn note_numbers(buffer: &mut [u32], n: usize, kind: u32, element: u32, at: u32, size: u32)
     requires { ⌜ n < 4294967296 ⌝ }
     ensures { λ _. ⌜ now (buffer .exit) ≡ written (now (buffer .entry)) (4 * n) (kind ∷ element ∷ at ∷ size ∷ []) ⌝ }
 {
-    let i = WIDTH * n;
-    if i + WIDTH <= buffer.len() {
+    let i = EVENT * n;
+    if i + EVENT <= buffer.len() {
         buffer[i] = kind;
         buffer[i + 1] = element;
         buffer[i + 2] = at;
@@ -28,8 +27,8 @@ fn note_bytes(buffer: &mut [u8], n: usize, kind: u32, element: u32, at: u32, siz
     requires { ⌜ n < 4294967296 ⌝ }
     ensures { λ _. ⌜ now (buffer .exit) ≡ written (now (buffer .entry)) (16 * n) (bytesOf (kind ∷ element ∷ at ∷ size ∷ [])) ⌝ }
 {
-    let i = 4 * WIDTH * n;
-    if i + 4 * WIDTH <= buffer.len() {
+    let i = NUMBER * EVENT * n;
+    if i + NUMBER * EVENT <= buffer.len() {
         numbers::put_number(buffer, i, kind);
         numbers::put_number(buffer, i + 4, element);
         numbers::put_number(buffer, i + 8, at);

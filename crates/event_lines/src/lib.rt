@@ -1,4 +1,5 @@
 // The text of events and of a refusal, put into a buffer word by word.
+use layout::EVENT;
 use layout::RECORDS;
 ghost use mathlib.Core.Path.{_≡_};
 ghost use Prim.Native.Nat.{_+_, _*_, _≤_, _<_};
@@ -60,7 +61,7 @@ fn put_lines(
     let mut end = at;
     let mut i = 0;
     while i < n {
-        end = put_event(out, end, s, elements, numbers, 4 * i);
+        end = put_event(out, end, s, elements, numbers, EVENT * i);
         i += 1;
     }
     end

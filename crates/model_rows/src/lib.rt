@@ -4,23 +4,13 @@
 use layout::MODEL;
 use layout::MODEL_ROW;
 use layout::POSITIONS;
-use layout::ROW;
 use layout::ROWS;
 ghost use mathlib.Core.Path.{_≡_};
 ghost use Prim.Native.Nat.{_+_, _*_, _≤_, _<_};
 ghost use lib.ListN.{length};
 ghost use Rattle.layout.specs.Sizes.{MODEL, ROWS};
-ghost use Rattle.type_tables.specs.Means.{rowAt};
 ghost use Rattle.model_rows.specs.Bits.{cellOf, packedOf};
 ghost use Rattle.model_rows.specs.Rows.{RowPut, RowsPut};
-
-// Where the row of the element e after the place u begins.
-pub fn row(e: usize, u: usize) -> usize
-    requires { ⌜ (e ≤ 64) × (u ≤ 96) ⌝ }
-    ensures { λ r. ⌜ r ≡ rowAt e u ⌝ }
-{
-    (e * POSITIONS + u) * ROW
-}
 
 // Whether a number of a model's table is 1, as 1 or 0.
 fn cell(table: &[u8; MODEL], i: usize) -> u8
@@ -50,7 +40,7 @@ fn put_row(rows: &mut [u8; ROWS], e: usize, table: &[u8; MODEL], u: usize)
     requires { ⌜ (e ≤ 64) × (u ≤ 96) × (length (now rows) ≡ ROWS) ⌝ }
     ensures { λ _. ⌜ RowPut (now (table .entry)) e u (now (rows .entry)) (now (rows .exit)) ⌝ }
 {
-    let r = row(e, u);
+    let r = type_tables::row(e, u);
     let mut j = 0;
     while j < 12 {
         rows[r + j] = packed(table, u * MODEL_ROW + 8 * j);

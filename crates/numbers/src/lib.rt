@@ -1,4 +1,5 @@
 // Numbers and bytes: one of them as an index, a buffer zeroed, and numbers written as they stand or as four bytes each.
+use layout::NUMBER;
 ghost use mathlib.Core.Path.{_≡_};
 ghost use mathlib.Core.List.{_∷_, []};
 ghost use Prim.Native.Nat.{_+_, _*_, _≤_, _<_};
@@ -72,7 +73,7 @@ pub fn put_bytes(buffer: &mut [u8], table: &[u32], n: usize)
 {
     let mut k = 0;
     while k < n {
-        put_number(buffer, 4 * k, table[k]);
+        put_number(buffer, NUMBER * k, table[k]);
         k += 1;
     }
 }

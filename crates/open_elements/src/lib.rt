@@ -37,12 +37,6 @@ pub struct Outcome {
     pub number: u32,
 }
 
-fn wide(b: u8) -> usize
-    ensures { λ r. ⌜ r ≡ b ⌝ }
-{
-    b as usize
-}
-
 impl Open {
     // Nothing is open yet: the document element is required.
     pub fn new() -> Self
@@ -106,10 +100,10 @@ impl Open {
         let around = self.around;
         let parent = around[n];
         self.count = n;
-        self.element = wide(parent.element);
-        self.place = wide(parent.place);
+        self.element = numbers::wide(parent.element);
+        self.place = numbers::wide(parent.place);
         self.complete = parent.complete;
-        self.required = wide(parent.required);
+        self.required = numbers::wide(parent.required);
         self
     }
 
@@ -134,7 +128,7 @@ impl Open {
         while 0 < i {
             i -= 1;
             let c = around[i];
-            if wide(c.element) == x {
+            if numbers::wide(c.element) == x {
                 return true;
             }
         }

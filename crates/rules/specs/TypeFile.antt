@@ -323,6 +323,10 @@ pub record Declared : Type 0 where
   pub elements : List Element
   pub at : ℕ
 
+-- The element that is declared with this head and this content.
+abbrev pub declare : Head → Content → Element
+declare h c = record { at = h .name; size = h .size; start = h .start; end = h .end; content = c }
+
 -- What follows the head: the content and the end of the declaration.
 unfoldable pub rest : List ℕ → List Element → Head → Reading Declared
 rest s es h =
@@ -330,7 +334,7 @@ rest s es h =
     andThen (content s (h .at) i) λ c.
     andThen (gap s (c .at)) λ j.
     andThen (close s j) λ k.
-    got (record { elements = es ++ record { at = h .name; size = h .size; start = h .start; end = h .end; content = c .content } ∷ []; at = k })
+    got (record { elements = es ++ declare h (c .content) ∷ []; at = k })
 
 -- An element declaration whose keyword ends at `at`.
 unfoldable pub element : List ℕ → ℕ → List Element → Reading Declared

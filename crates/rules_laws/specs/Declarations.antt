@@ -10,7 +10,7 @@ use lib.Dec.{eqb, leb, ltb}
 use borrow.Author.Tests.{eqb-false, ltb-true, ltb-false, leb-false}
 use Rattle.rules.specs.Bytes.{byteAt, letter, nameEnd, separatorsEnd, NAMELEN, elementLimit}
 use Rattle.rules.specs.Reading.{refused, got}
-use Rattle.rules.specs.TypeFile.{atDashes, beforeDashes, beforeClose, commentDeclaration, gapWithin, gap, isWord, O, ELEMENT, Content, Element, isDeclared, elementName, Word, omission, Head, words, head, content, close, Declared, rest, element, keyword, markup, declaration, declarationsWithin, typeFile}
+use Rattle.rules.specs.TypeFile.{atDashes, beforeDashes, beforeClose, commentDeclaration, gapWithin, gap, isWord, O, ELEMENT, Content, Element, isDeclared, elementName, Word, omission, Head, words, head, content, close, Declared, rest, element, keyword, markup, declaration, declarationsWithin, typeFile, declare}
 use Rattle.text.specs.Laws.{test-in, letter-in, nameEnd-from, nameEnd-le, nameEnd-more, separatorsEnd-from, separatorsEnd-le, before-hit, before-close, close-in, dashes-end-in, gap-range}
 use Rattle.rules_laws.specs.Holds.{Holds, stops, reads, got-so, known, so, on, on-same, either}
 use Rattle.rules_laws.specs.In.{In, NameIn}
@@ -73,7 +73,7 @@ record RestRead (s : List ℕ) (es : List Element) (h : Head) (d : Declared) : T
   ends : ℕ
   inner : Content
   contentRead : content s before begun ≡ got (record { content = inner; at = ends })
-  elements : d .elements ≡ es ++ record { at = h .name; size = h .size; start = h .start; end = h .end; content = inner } ∷ []
+  elements : d .elements ≡ es ++ declare h inner ∷ []
   from : h .at < d .at
   inside : d .at ≤ length s
 
@@ -193,7 +193,7 @@ module _ (s : List ℕ) where
 
   declares : (at : ℕ) (es : List Element) (h : Head) (d : Declared) → element s at es ≡ got d → HeadRead s es at h → RestRead s es h d → Grows s es (d .elements)
   declares at es h d r w a =
-      let e : Element = record { at = h .name; size = h .size; start = h .start; end = h .end; content = a .inner } in
+      let e = declare h (a .inner) in
       let whole : d ≡ record { elements = es ++ e ∷ []; at = d .at } = ap (λ (l : List Element). record { elements = l; at = d .at }) (a .elements) in
       let z : h .name + h .size - h .name ≡ h .size = omega arith in
       subst (Grows s es) (sym (a .elements))

@@ -149,7 +149,7 @@ fn put_element(
         return;
     };
     if d.kind == 0 {
-        rows[model_rows::row(e, 0)] = 1;
+        rows[type_tables::row(e, 0)] = 1;
         return;
     }
     let n = d.places;

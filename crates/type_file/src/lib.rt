@@ -3,6 +3,7 @@ use element_records::Clash;
 use element_records::Progress;
 use element_records::Step;
 use layout::MODEL;
+use layout::NAMELEN;
 use layout::NAMES;
 use layout::RECORDS;
 use text::Fault;
@@ -40,7 +41,7 @@ fn keyword_at(
         MeetsStep (now (s .entry)) (now (elements .exit)) i r (keyword (now (s .entry)) i es)) ⌝ }
 {
     let e = text::name_end(s, i + 2);
-    if 8 < e - (i + 2) {
+    if NAMELEN < e - (i + 2) {
         return refusal(3, i + 2);
     }
     if words::is_word(s, i + 2, e, b"ELEMENT") {

@@ -1,6 +1,7 @@
 // The type judge: a type file and a lent buffer in, element records or one refusal out.
 use element_records::Clash;
 use element_records::Step;
+use layout::NUMBER;
 use layout::RECORDS;
 use text::Fault;
 ghost use Prim.Native.Nat.{_≤_};
@@ -74,7 +75,7 @@ pub fn judge_to_bytes(s: &[u8], buffer: &mut [u8]) -> Verdict
     ensures { λ r. ⌜ Judged bytes (now (s .entry)) (now (buffer .entry)) (answerOf r) (now (buffer .exit)) ⌝ }
 {
     let mut elements = [0u32; RECORDS];
-    let v = decide(s, buffer.len() / 4, &mut elements);
+    let v = decide(s, buffer.len() / NUMBER, &mut elements);
     if let Verdict::Accepted(n) = v {
         element_records::whole(elements);
         numbers::put_bytes(buffer, &elements, 6 * n);

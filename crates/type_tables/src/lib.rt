@@ -36,14 +36,8 @@ ghost use Rattle.document_laws.specs.Decide.{decided};
 ghost use Rattle.last_places.specs.Last.{placed, InRange};
 ghost use Rattle.type_tables.specs.Means.{standing, nameNumber, rowAt, bitOf, completeAt, requiredAt, Declares, Rows, Facts, Tables, Requires};
 
-fn wide(b: u8) -> usize
-    ensures { λ r. ⌜ (r ≡ b) × (r < 256) ⌝ }
-{
-    b as usize
-}
-
 // Where the row of the element e after the place u begins.
-fn row(e: usize, u: usize) -> usize
+pub fn row(e: usize, u: usize) -> usize
     requires { ⌜ (e ≤ 64) × (u ≤ 96) ⌝ }
     ensures { λ r. ⌜ r ≡ rowAt e u ⌝ }
 {
@@ -55,7 +49,7 @@ fn bit(rows: &[u8; ROWS], e: usize, u: usize, p: usize) -> bool
     requires { ⌜ (e ≤ 64) × (u ≤ 96) × (p ≤ 96) ⌝ }
     ensures { λ r. ⌜ r ≡ bitOf (getD (now (rows .entry)) (rowAt e u + p / 8) 0) (p % 8) ⌝ }
 {
-    let b = wide(rows[row(e, u) + p / 8]);
+    let b = numbers::wide(rows[row(e, u) + p / 8]);
     (b >> (p % 8)) % 2 == 1
 }
 
@@ -76,7 +70,7 @@ pub fn required(rows: &[u8; ROWS], e: usize, u: usize) -> usize
     ensures { λ r. ⌜ ((s : List ℕ) (es : List Element) → Accepts s es → Rows es (now (rows .entry)) → InRange es (standing e u) →
         r ≡ decided s es .required e (placed u)) ⌝ }
 {
-    let p = wide(rows[row(e, u) + 13]);
+    let p = numbers::wide(rows[row(e, u) + 13]);
     if 96 < p {
         return 0;
     }
@@ -88,7 +82,7 @@ fn smaller(places: &[u8; PLACES], e: usize, p: usize) -> usize
     requires { ⌜ (e ≤ 64) × (p ≤ 96) ⌝ }
     ensures { λ r. ⌜ r ≡ getD (now (places .entry)) ((e * POSITIONS + p) * 2 + 1) 0 ⌝ }
 {
-    wide(places[(e * POSITIONS + p) * LINK + 1])
+    numbers::wide(places[(e * POSITIONS + p) * LINK + 1])
 }
 
 fn start_omitted(facts: &[u8; FACTS], e: usize) -> bool
@@ -127,7 +121,7 @@ pub fn fitting(
         (t : Token) → nameNumber t ≡ x → Declares es t → r ≡ decided s es .fits e (placed u) t) ⌝ }
     ensures { λ r. ⌜ r ≤ 96 ⌝ }
 {
-    let mut p = wide(facts[e * FACT + x]);
+    let mut p = numbers::wide(facts[e * FACT + x]);
     if 96 < p {
         return 0;
     }
@@ -158,7 +152,7 @@ pub fn startable(places: &[u8; PLACES], facts: &[u8; FACTS], e: usize, p: usize)
         return 0;
     }
     // what the place names: an element, 255 for `#PCDATA`, 0 if that is not declared
-    let k = wide(places[(e * POSITIONS + p) * LINK]);
+    let k = numbers::wide(places[(e * POSITIONS + p) * LINK]);
     if k == 0 {
         return 0;
     }

@@ -25,7 +25,7 @@ wide-requires-3 c κs = search needs
 returns : tie.Need-returns
 returns c =
     let a = c .before .before .before .before .before .before .args in
-    ended-by (a .self) (c .before .before .wide .ensures) (c .before .wide2 .ensures) (c .wide3 .ensures)
+    ended-by (a .self) (c .before .before .wide .ensures .0) (c .before .wide2 .ensures .0) (c .wide3 .ensures .0)
 
 pub end-spec : {M : Type 1} → statement M
 end-spec =

@@ -44,7 +44,7 @@ returns-2 : tie.Need-returns-2 Inv-loop μ-loop
 returns-2 c =
     let p = c .before .before .before .before in
     let a = p .before .before .before .before .args in
-    sym (past p ∙ open-entry (a .x) (a .self .around) (p .loop .i) (omega arith) (sym (c .before .wide .ensures) ∙ c .if2 .taken))
+    sym (past p ∙ open-entry (a .x) (a .self .around) (p .loop .i) (omega arith) (sym (c .before .wide .ensures .0) ∙ c .if2 .taken))
 
 loop-less : tie.Need-loop-less Inv-loop μ-loop
 loop-less c = search needs
@@ -53,7 +53,7 @@ loop-again : tie.Need-loop-again Inv-loop μ-loop
 loop-again c =
     let p = c .before .before .before .before in
     let a = p .before .before .before .before .args in
-    (omega arith, p .loop .inv .1 ∙ open-further (a .x) (a .self .around) (p .loop .i) (omega arith) (λ e. c .if2 .left (c .before .wide .ensures ∙ e)))
+    (omega arith, p .loop .inv .1 ∙ open-further (a .x) (a .self .around) (p .loop .i) (omega arith) (λ e. c .if2 .left (c .before .wide .ensures .0 ∙ e)))
 
 returns-3 : tie.Need-returns-3 Inv-loop μ-loop
 returns-3 c =
