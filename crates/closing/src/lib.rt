@@ -67,7 +67,8 @@ fn end_until(
     }
 }
 
-// The end tag of the element x, from `at` to `after`.
+// The end tag of the element x, from `at` to `after`. Where it is refused nothing decides the state, but that its numbers are in range,
+// nor how many events there are, nor what the buffers hold: nobody reads them.
 pub fn end_tag(
     facts: &[u8; FACTS],
     state: Open,
@@ -115,7 +116,8 @@ pub fn end_tag(
     }
 }
 
-// The document's end, at its length.
+// The document's end, at its length. The state is not used any more: nothing decides it, but that its numbers are in range. Where the
+// end is refused, nor are the events and the buffers decided.
 pub fn finish(
     facts: &[u8; FACTS],
     state: Open,

@@ -5,7 +5,7 @@ use mathlib.Core.List.{List, _++_}
 use lib.ListN.{length}
 use Rattle.rules.specs.Reading.{refused, got}
 use Rattle.rules.specs.TypeFile.{Element}
-use Rattle.rules.specs.Judge.{bytesOf}
+use Rattle.rules.specs.Lent.{bytesOf}
 use Rattle.rules.specs.Events.{Event}
 use Rattle.rules.specs.Reader.{document, eventNumbers}
 use Rattle.numbers.specs.Means.{Written}

@@ -6,7 +6,8 @@ use native.Mathlib.Omega.{arith}
 use lib.ListN.{length, length-append}
 use Rattle.rules.specs.Reading.{Reading, refused, got}
 use Rattle.rules.specs.TypeFile.{Element}
-use Rattle.rules.specs.Judge.{Accepts, bytesOf}
+use Rattle.rules.specs.Lent.{bytesOf}
+use Rattle.rules.specs.Judge.{Accepts}
 use Rattle.rules.specs.Events.{Event}
 use Rattle.rules.specs.Settling.{State, startElement, endElement, endDocument}
 use Rattle.rules.specs.Reader.{document, eventNumbers}

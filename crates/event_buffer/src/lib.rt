@@ -4,7 +4,7 @@ use layout::NUMBER;
 ghost use mathlib.Core.Path.{_≡_};
 ghost use mathlib.Core.List.{_∷_, []};
 ghost use Prim.Native.Nat.{_+_, _*_, _<_};
-ghost use Rattle.rules.specs.Judge.{bytesOf};
+ghost use Rattle.rules.specs.Lent.{bytesOf};
 ghost use Rattle.numbers.specs.Means.{written};
 ghost use Rattle.event_buffer.specs.Means.{noted, Puts};
 

@@ -37,7 +37,8 @@ fn filled(fd: i32, path: &[u8], buf: &mut [u8]) -> Loaded
     Loaded::Bytes(at)
 }
 
-// The first bytes of a file, as many as buf holds. A file that is not to be had is told on standard error.
+// The first bytes of a file, as many as buf holds. A file that is not to be had is told on standard error. No contract can say which
+// bytes a file has: that these are its first is read from the code, and tested.
 pub fn first_bytes(path: &[u8], buf: &mut [u8]) -> Loaded
     ensures { λ r. ⌜ LoadedIn r (now (buf .exit)) ⌝ }
 {

@@ -1,5 +1,5 @@
 -- What is known of both inputs before they are read.
-use Prim.Native.Nat.{ℕ}
+use Prim.Native.Nat.{ℕ, _≤_}
 use mathlib.Core.Bool.{Bool, true, false}
 use mathlib.Core.List.{List}
 use lib.ListN.{length}
@@ -26,5 +26,5 @@ RefusesAlways s d a = (room : ℕ) → RefusesBoth s d room a
 -- Both inputs are legible, or one is refused by 1 or 2, as the order picks.
 abbrev pub Checks : (s d : List ℕ) → Checked → Type 0
 Checks s d checked.Legible = BothLegible s d
-Checks s d (checked.InType f) = RefusesAlways s d (refusal (f .number) (f .at) 0 0)
-Checks s d (checked.InDocument f) = RefusesAlways s d (documentRefusal (f .number) (f .at))
+Checks s d (checked.InType f) = (f .number ≤ 2) × RefusesAlways s d (refusal (f .number) (f .at) 0 0)
+Checks s d (checked.InDocument f) = (f .number ≤ 2) × RefusesAlways s d (documentRefusal (f .number) (f .at))

@@ -26,6 +26,7 @@ pub const RECORDS: usize = RECORD * ELEMENTS;
 
 // The events: four numbers each. A number stands as four bytes where bytes are lent.
 pub const EVENT: usize = 4;
+
 pub const NUMBER: usize = 4;
 
 // What has content: the document itself (0), and the elements.

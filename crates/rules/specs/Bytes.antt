@@ -9,8 +9,9 @@ use lib.Dec.{eqb, leb}
 abbrev pub byteAt : List ℕ → ℕ → ℕ
 byteAt s i = getD s i 0
 
--- Bytes by the standard's names: TAB, RS, RE and SPACE are function characters, the others delimiters of its figure 3. `<!`, `<?`, `</`, `&#`
--- and `]]` are of two bytes: "!" and "/" stand in no other delimiter, and "." in none.
+-- Bytes by the standard's names: TAB, RS, RE and SPACE are function characters, the others stand in its figure 3. A byte has the name of one of
+-- its roles: ">" is MDC also where it is TAGC, "&" is AND where it is ERO, "[" is DSO where it is DTGO. Others are parts of `<!`, `<?`, `</`,
+-- `&#`, `--` and `]]`. "!", "/" and "." have plain names: the first two stand here only within `<!` and `</`, and "." is no delimiter.
 abbrev pub TAB : ℕ
 TAB = 9
 

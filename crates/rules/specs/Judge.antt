@@ -10,7 +10,6 @@ use Rattle.rules.specs.Reading.{refused, got}
 use Rattle.rules.specs.Walk.{Group}
 use Rattle.rules.specs.Ambiguity.{PairAtFault, FirstPair}
 use Rattle.rules.specs.TypeFile.{Place, Content, empty, model, Element, sameName, typeFile}
-unfoldable pub use Rattle.rules.specs.Lent.{bytesOf}
 
 -- The k-th place of a model, from 0.
 unfoldable pub placeAt : List Place → ℕ → Place

@@ -1,7 +1,7 @@
 -- The rules of paper 01, in its order, and what paper 02 adds (Lookup): read these files to know what is promised.
+pub mod Lent
 pub mod Bytes
 pub mod Reading
-pub mod Lent
 pub mod Walk
 pub mod Ambiguity
 pub mod TypeFile

@@ -149,7 +149,7 @@ fn placed(
 }
 
 // The start tag of the element x, or a run of data for 0, from `at` to `after`. Where the token is refused the state is not used any
-// more: nothing decides it, but that its numbers are in range.
+// more: nothing decides it, but that its numbers are in range, nor how many events there are, nor what the buffers hold.
 pub fn token(
     rows: &[u8; ROWS],
     places: &[u8; PLACES],

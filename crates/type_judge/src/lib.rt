@@ -41,7 +41,7 @@ pub fn decide_legible(s: &[u8], room: usize, elements: &mut [u32; RECORDS]) -> V
     Verdict::Accepted(p.count)
 }
 
-// The verdict on any type file: numbers 1 and 2 come first.
+// The verdict on any type file: numbers 1 and 2 come first. What `elements` holds is as there.
 pub fn decide(s: &[u8], room: usize, elements: &mut [u32; RECORDS]) -> Verdict
     ensures { λ r. ⌜ Decides (now (s .entry)) room (now (elements .exit)) r ⌝ }
 {

@@ -25,7 +25,7 @@ enum-known-c c = search needs
 returns : tie.Need-returns
 returns c =
     let a = c .before .before .before .before .before .before .args in
-    subst (Checks (a .s .now) (a .d .now)) (c .before .c .given .1) (c .before .before .before .check .ensures)
+    subst (Checks (a .s .now) (a .d .now)) (c .before .c .given .1) (c .before .before .before .check .ensures) .1
 
 enum-known-c-2 : tie.Need-enum-known-c-2
 enum-known-c-2 c = search needs
@@ -33,7 +33,7 @@ enum-known-c-2 c = search needs
 returns-2 : tie.Need-returns-2
 returns-2 c =
     let a = c .before .before .before .before .before .before .args in
-    subst (Checks (a .s .now) (a .d .now)) (c .before .c2 .given .1) (c .before .before .before .check .ensures)
+    subst (Checks (a .s .now) (a .d .now)) (c .before .c2 .given .1) (c .before .before .before .check .ensures) .1
 
 enum-told : tie.Need-enum-told
 enum-told c = search needs

@@ -3,7 +3,7 @@ use Prim.Native.Nat.{_*_}
 use mathlib.Core.Path.{sym}
 use mathlib.Core.List.{_∷_, []}
 use native.Mathlib.Omega.{arith}
-use Rattle.rules.specs.Judge.{bytesOf}
+use Rattle.rules.specs.Lent.{bytesOf}
 use Rattle.numbers.specs.Laws.{written-not}
 use Rattle.event_buffer.specs.Laws.{four-numbers-stored}
 use borrow.Author.Needs.{needs}

@@ -10,18 +10,18 @@ use Rattle.inputs.proofs.check.Statement.{statement}
 use Rattle.inputs.proofs.check.Tie as tie
 
 returns : tie.Need-returns
-returns c room = RefusesBoth.typeTooLong (omega arith) refl
+returns c = (omega arith, λ room. RefusesBoth.typeTooLong (omega arith) refl)
 
 returns-2 : tie.Need-returns-2
-returns-2 c room = RefusesBoth.documentTooLong (omega arith) (omega arith) refl
+returns-2 c = (omega arith, λ room. RefusesBoth.documentTooLong (omega arith) (omega arith) refl)
 
 allowed-end-requires : tie.Need-allowed-end-requires
 allowed-end-requires c κs = search needs
 
 returns-3 : tie.Need-returns-3
-returns-3 c room =
+returns-3 c =
     let e = c .before .allowed-end .ensures in
-    RefusesBoth.typeNotAllowed (omega arith) (omega arith) (omega arith) (rw e)
+    (omega arith, λ room. RefusesBoth.typeNotAllowed (omega arith) (omega arith) (omega arith) (rw e))
 
 -- Neither input is too long, and the type's bytes are allowed.
 legible : (c : tie.Else3) → Legible (c .before .before .before .before .before .before .args .s .now)
@@ -39,7 +39,7 @@ returns-4 : tie.Need-returns-4
 returns-4 c =
     let w = c .before .before .before in
     let a = w .before .before .before .before .before .before .args in
-    document-unclean (a .s .now) (a .d .now) (legible w) (w .before .before .if2 .left) (sym (c .before .before .all-allowed .ensures) ∙ not-true _ (c .before .if4 .taken)) _ (c .allowed-end2 .ensures)
+    (omega arith, document-unclean (a .s .now) (a .d .now) (legible w) (w .before .before .if2 .left) (sym (c .before .before .all-allowed .ensures) ∙ not-true _ (c .before .if4 .taken)) _ (c .allowed-end2 .ensures))
 
 returns-5 : tie.Need-returns-5
 returns-5 c =

@@ -74,7 +74,7 @@ add-t24 c = omega (arith, c .before .before .before .before .before .before .bef
 returns-3 : tie.Need-returns-3
 returns-3 c = (
   (omega arith, omega (arith, c .before .before .before .before .before .before .before .pre .3)),
-  λ es i t range. finds-separator (c .before .fitting .ensures .0 _ es t range pcdata refl tt) (blank-stands (c .before .before)) (omega (arith, c .if3 .taken)),
+  λ es i t range. finds-separator (c .before .fitting .ensures .0 _ es t range pcdata refl tt) (blank-stands (c .before .before)) (omega (arith, c .if3 .taken, c .before .fitting .ensures .1)),
 )
 
 add-run-end : tie.Need-add-run-end
