@@ -3,50 +3,54 @@
 -- that keeps such a promise has. That the code keeps them is the contract of each call; that it ends and stays in its buffers is checked with it.
 use Prim.Native.Nat.{ℕ, _*_, _<_, _≤_}
 use mathlib.Core.Path.{_≡_}
-use mathlib.Core.Logic.{_⊎_, _↔_}
+use mathlib.Core.Logic.{_↔_}
 use mathlib.Core.List.{List}
 use lib.ListN.{length}
 use Rattle.rules.specs.Lent.{Lent, room}
 use Rattle.rules.specs.Reading.{Reading, got}
-use Rattle.rules.specs.TypeFile.{Element, typeFile}
-use Rattle.rules.specs.Judge.{Answer, Legible, Refuses, Accepts, Judged}
+use Rattle.rules.specs.Walk.{Group}
+use Rattle.rules.specs.Ambiguity.{Ambiguous, PairAtFault}
+use Rattle.rules.specs.TypeFile.{Place, Element, typeFile}
+use Rattle.rules.specs.Judge.{samePlace, Answer, Legible, Refuses, Accepts, Judged}
 use Rattle.rules.specs.Events.{Event}
 use Rattle.rules.specs.Settling.{State}
 use Rattle.rules.specs.Reader.{BothLegible, Reads, RefusesBoth, ReadAs}
 use Rattle.document_laws.specs.Same.{Passes}
-use Rattle.demands.specs.Words.{Refusal, Acceptance, SomeAmbiguous, NamesFirst, NamesDecide, ReaderRefusal, ReaderAcceptance, SameVerdict}
+use Rattle.demands.specs.Words.{Refusal, Acceptance, ModelOf, SomeAmbiguous, NamesFirst, NamesDecide, ReaderRefusal, ReaderAcceptance, SameVerdict}
 use Rattle.demands.specs.Kept as kept
 
 -- The judge, lent `before`, answers a to the type file s and leaves `after`.
 pub record JudgeKeeps (l : Lent) (s before : List ℕ) (a : Answer) (after : List ℕ) : Type 0 where
-  -- Demand 1: "a refusal gives a number, which input and a byte position; count 0, the whole lent buffer zero".
+  -- Demand 1: a refusal gives a number, which input and a byte position, the count 0, and a lent buffer that is zero.
   pub refusal-whole : (a .number ≡ 0 → ⊥) → Refusal s before a after
   pub same-length : length after ≡ length before
-  -- Demand 2: accepted exactly when the rules accept it, with exactly their records; "every refusal is the one the stated order picks";
+  -- Demand 2: accepted exactly when the rules accept it, with exactly their records; every refusal is the one that the stated order picks;
   -- "19 only where nothing else is wrong, and exactly if the numbers don't fit".
   pub accepted-exactly : (a .number ≡ 0) ↔ ((es : List Element) × Accepts s es × (6 * length es ≤ room l before))
   pub acceptance-whole : a .number ≡ 0 → Acceptance l s before a after
   pub refused-exactly : (a .number ≡ 0 → ⊥) ↔ Refuses s (room l before) a
   pub order-picks : (b : Answer) → Refuses s (room l before) b → a ≡ b
   pub too-small-exactly : (a .number ≡ 19) ↔ ((es : List Element) × Accepts s es × (room l before < 6 * length es))
-  -- Demand 3: refused as ambiguous "exactly when some content model has two different sequences of places, each the beginning of a walk,
-  -- that spell the same names; the first such model and its first pair are named. Else names alone decide places."
+  -- Demand 3, of a type file "where nothing is wrong that the stated order puts before ambiguity": it is legible and was read. It is refused
+  -- as ambiguous "exactly when some content model in it has two different sequences of places, of whatever length, each the beginning of some
+  -- walk, that spell the same names. The refusal names the first such model, and in it the first pair"; "where there is no such refusal, the
+  -- names alone decide the places in every model".
   pub ambiguous-exactly : (a .number ≡ 9) ↔ (Legible s × (es : List Element) × (typeFile s ≡ got es) × SomeAmbiguous s es)
   pub ambiguous-named : a .number ≡ 9 → NamesFirst s a
-  pub names-decide : (a .number ≡ 0) ⊎ (a .number ≡ 19) → (es : List Element) → typeFile s ≡ got es → NamesDecide s es
+  pub names-decide : Legible s → (a .number ≡ 9 → ⊥) → (es : List Element) → typeFile s ≡ got es → NamesDecide s es
 
 -- The reader, lent `before`, answers a to the type file s and the document d and leaves `after`.
 pub record ReaderKeeps (l : Lent) (s d before : List ℕ) (a : Answer) (after : List ℕ) : Type 0 where
   -- Demand 1.
   pub refusal-whole : (a .number ≡ 0 → ⊥) → ReaderRefusal s d before a after
   pub same-length : length after ≡ length before
-  -- Demand 2: "a document is accepted exactly when paper 01's rules accept it, with exactly their events".
+  -- Demand 2: a document is accepted exactly when paper 01's rules accept it, with exactly their events.
   pub accepted-exactly : (a .number ≡ 0) ↔ ((es : List Element) × (ev : List Event) × Reads s d es (got ev) × (4 * length ev ≤ room l before))
   pub acceptance-whole : a .number ≡ 0 → ReaderAcceptance l s d before a after
   pub refused-exactly : (a .number ≡ 0 → ⊥) ↔ RefusesBoth s d (room l before) a
   pub order-picks : (b : Answer) → RefusesBoth s d (room l before) b → a ≡ b
   pub too-small-exactly : (a .number ≡ 19) ↔ ((es : List Element) × (ev : List Event) × Reads s d es (got ev) × (room l before < 4 * length ev))
-  -- Demand 3, whatever document and buffer come with the type.
+  -- Demand 3, "whatever document and lent buffer come with it".
   pub ambiguous-exactly : (a .number ≡ 9) ↔ (BothLegible s d × (es : List Element) × (typeFile s ≡ got es) × SomeAmbiguous s es)
   pub ambiguous-named : a .number ≡ 9 → NamesFirst s a
   pub names-decide : BothLegible s d → (a .number ≡ 9 → ⊥) → (es : List Element) → typeFile s ≡ got es → NamesDecide s es
@@ -81,9 +85,15 @@ reader-keeps l s d before a after p =
       names-decide = kept.reader-names-decide l s d before a after p;
     }
 
--- The rules decide one answer of each call, and what the buffer holds after.
+-- The rules have an answer to every call, and only one, with what the buffer holds after: so they are total, whatever the code does.
+pub judged-exists : (l : Lent) (s before : List ℕ) → (a : Answer) × (after : List ℕ) × Judged l s before a after
+judged-exists = kept.judged-exists
+
 pub judged-one : (l : Lent) (s before : List ℕ) (a b : Answer) (after other : List ℕ) → Judged l s before a after → Judged l s before b other → (a ≡ b) × (after ≡ other)
 judged-one = kept.judged-one
+
+pub read-exists : (l : Lent) (s d before : List ℕ) → (a : Answer) × (after : List ℕ) × ReadAs l s d before a after
+read-exists = kept.read-exists
 
 pub read-one : (l : Lent) (s d before : List ℕ) (a b : Answer) (after other : List ℕ) → ReadAs l s d before a after → ReadAs l s d before b other → (a ≡ b) × (after ≡ other)
 read-one = kept.read-one
@@ -93,10 +103,18 @@ pub reading-exists : (s d : List ℕ) (es : List Element) → BothLegible s d �
     → (r : Reading (List Event)) × Reads s d es r × ((fs : List Element) (q : Reading (List Event)) → Reads s d fs q → (es ≡ fs) × (r ≡ q))
 reading-exists = kept.reading-exists
 
--- Demand 1: "0 to 24 elements open", in every state that reading a document passes: as many as stand around the current one.
+-- Demand 1: 0 to 24 elements are open, in every state that reading a document passes: as many as stand around the current one.
 pub few-open : (s d : List ℕ) (es : List Element) (r : Reading (List Event)) (x : Reads s d es r) (at : ℕ) (z : State) → Passes s es (x .decisions) d at z → length (z .around) ≤ 24
 few-open = kept.few-open
 
--- Demand 3: "type judge and reader refuse a type as ambiguous" alike, and in all else about the type.
+-- Demand 3 by pairs at fault: a model is ambiguous exactly if it has one; of a model that was read, both its places are places of the model.
+pub pair-exactly : (s : List ℕ) (g : Group) (ps : List Place) → Ambiguous (samePlace s ps) g ↔ ((p : ℕ) × (q : ℕ) × PairAtFault (samePlace s ps) g p q)
+pair-exactly = kept.pair-exactly
+
+pub pair-places : (s : List ℕ) (es : List Element) → typeFile s ≡ got es → (g : Group) (ps : List Place) → ModelOf es g ps
+    → (p q : ℕ) → PairAtFault (samePlace s ps) g p q → (1 ≤ p) × (q ≤ length ps)
+pair-places = kept.pair-places
+
+-- Demand 3: "the type judge and the reader alike", and in all else about the type.
 pub same-verdict : (l m : Lent) (s d before other : List ℕ) (a b : Answer) (after left : List ℕ) → Judged l s before a after → ReadAs m s d other b left → BothLegible s d → SameVerdict a b
 same-verdict = kept.same-verdict

@@ -1,22 +1,24 @@
 -- The demands proved, one theorem each: Demands has them together, to be read first.
 use Prim.Native.Nat.{ℕ, _*_, _<_, _≤_}
 use mathlib.Core.Path.{_≡_, refl, sym}
-use mathlib.Core.Logic.{_⊎_, _↔_}
-use mathlib.Core.List.{List, List·Memᴰ}
+use mathlib.Core.Logic.{_↔_}
+use mathlib.Core.List.{List}
 use native.Mathlib.Omega.{arith}
 use lib.ListN.{length}
 use Rattle.rules.specs.Lent.{Lent, room}
 use Rattle.rules.specs.Reading.{Reading, got}
-use Rattle.rules.specs.Walk.{Group, Begins}
-use Rattle.rules.specs.Ambiguity.{SpellSame, Ambiguous, PairAtFault}
-use Rattle.rules.specs.TypeFile.{Place, model, Element, typeFile}
-use Rattle.rules.specs.Judge.{samePlace, Answer, acceptance, FirstAmbiguous, Legible, Refuses, noRoom, Accepts, Judged, refuses, accepts}
+use Rattle.rules.specs.Walk.{Group}
+use Rattle.rules.specs.Ambiguity.{Ambiguous, PairAtFault}
+use Rattle.rules.specs.TypeFile.{Place, Element, typeFile}
+use Rattle.rules.specs.Judge.{samePlace, Answer, Legible, Refuses, noRoom, Accepts, Judged, refuses, accepts}
 use Rattle.rules.specs.Events.{Event}
 use Rattle.rules.specs.Settling.{State}
 use Rattle.rules.specs.Reader.{BothLegible, Reads, RefusesBoth, ReadAs}
 use Rattle.document_laws.specs.Same.{Passes, passes-few}
-use Rattle.demands.specs.Words.{Refusal, Acceptance, SomeAmbiguous, NamesFirst, NamesDecide, ReaderRefusal, ReaderAcceptance, SameVerdict}
+use Rattle.demands.specs.Words.{Refusal, Acceptance, ModelOf, SomeAmbiguous, NamesFirst, NamesDecide, ReaderRefusal, ReaderAcceptance, SameVerdict}
 use Rattle.demands.specs.Proofs.{settled-one, settled-refuses, settled-accepts, settled-fair, settled-faulty, refuses-named, refuses-some, settled-nine, settled-nineteen, first-model, model-exactly, not-ambiguous, names-alone, settled-length}
+use Rattle.demands.specs.Models.{pair-in, names-first}
+use Rattle.demands.specs.Exists.{judged-some, read-some}
 use Rattle.demands.specs.ReaderProofs.{given-one, reading-one, both-says, both-some, given-nine, given-nineteen, type-refused, given-refuses, given-accepts, given-faulty, given-fair, given-length}
 
 -- The type judge
@@ -69,23 +71,34 @@ module _ (l : Lent) (s before : List ℕ) (a : Answer) (after : List ℕ) (promi
   )
 
   pub ambiguous-named : a .number ≡ 9 → NamesFirst s a
-  ambiguous-named h = let (i, es, r, f) = settled-nine promised h in (es, r, f)
+  ambiguous-named h = let (i, es, r, f) = settled-nine promised h in names-first s a es r f
 
-  -- Else names alone decide places.
-  pub names-decide : (a .number ≡ 0) ⊎ (a .number ≡ 19) → (es : List Element) → typeFile s ≡ got es → NamesDecide s es
-  names-decide h es r g ps (e, n, m, c) = names-alone s g ps (settled-fair promised h es r) m c
+  -- Else names alone decide places, also where the buffer is too small.
+  pub names-decide : Legible s → (a .number ≡ 9 → ⊥) → (es : List Element) → typeFile s ≡ got es → NamesDecide s es
+  names-decide i h es r g ps (e, n, m, c) = names-alone s g ps (settled-fair promised i es r h) m c
 
 -- A model is ambiguous by demand 3 exactly if it has a pair at fault.
 pub pair-exactly : (s : List ℕ) (g : Group) (ps : List Place) → Ambiguous (samePlace s ps) g ↔ ((p : ℕ) × (q : ℕ) × PairAtFault (samePlace s ps) g p q)
 pair-exactly = model-exactly
 
--- The rules decide one answer, and what the buffer holds after.
+-- Of a model that was read both places are places of the model.
+pub pair-places : (s : List ℕ) (es : List Element) → typeFile s ≡ got es → (g : Group) (ps : List Place) → ModelOf es g ps
+    → (p q : ℕ) → PairAtFault (samePlace s ps) g p q → (1 ≤ p) × (q ≤ length ps)
+pair-places = pair-in
+
+-- The rules have an answer, and only one, with what the buffer holds after.
+pub judged-exists : (l : Lent) (s before : List ℕ) → (a : Answer) × (after : List ℕ) × Judged l s before a after
+judged-exists = judged-some
+
 pub judged-one : (l : Lent) (s before : List ℕ) (a b : Answer) (after other : List ℕ) → Judged l s before a after → Judged l s before b other → (a ≡ b) × (after ≡ other)
 judged-one l s before a b after other = settled-one
 
 -- The document reader
 
--- The rules decide one answer of the reader, and what the buffer holds after.
+-- The rules have an answer of the reader, and only one, with what the buffer holds after.
+pub read-exists : (l : Lent) (s d before : List ℕ) → (a : Answer) × (after : List ℕ) × ReadAs l s d before a after
+read-exists = read-some
+
 pub read-one : (l : Lent) (s d before : List ℕ) (a b : Answer) (after other : List ℕ) → ReadAs l s d before a after → ReadAs l s d before b other → (a ≡ b) × (after ≡ other)
 read-one = given-one
 
@@ -140,7 +153,7 @@ module _ (l : Lent) (s d before : List ℕ) (a : Answer) (after : List ℕ) (cal
   )
 
   pub reader-ambiguous-named : a .number ≡ 9 → NamesFirst s a
-  reader-ambiguous-named h = let (i, es, r, f) = given-nine called h in (es, r, f)
+  reader-ambiguous-named h = let (i, es, r, f) = given-nine called h in names-first s a es r f
 
   -- Else names alone decide places, also where the document is refused.
   pub reader-names-decide : BothLegible s d → (a .number ≡ 9 → ⊥) → (es : List Element) → typeFile s ≡ got es → NamesDecide s es

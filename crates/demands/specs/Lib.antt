@@ -4,4 +4,6 @@ pub mod Words
 -- The proofs behind them.
 pub mod Kept
 pub mod Proofs
+pub mod Models
+pub mod Exists
 pub mod ReaderProofs

@@ -2,14 +2,14 @@
 use Prim.Native.Nat.{ℕ, _-_, _*_, _<_, _≤_}
 use mathlib.Core.Path.{_≡_, refl, sym, ap, _∙_}
 use mathlib.Core.Logic.{_⊎_, inl, inr, ⊎-elim, _↔_}
-use mathlib.Core.List.{List, [], _∷_, List·Memᴰ, List·Memᴰ·head, List·Memᴰ·tail}
+use mathlib.Core.List.{List, List·Memᴰ, List·Memᴰ·head, List·Memᴰ·tail}
 use native.Mathlib.Omega.{arith}
 use lib.ListN.{length, length-replicate}
 use Rattle.rules.specs.Bytes.{allowed, span, typeLimit}
 use Rattle.rules.specs.Lent.{Lent, standing, room, filledWith, zeroed}
 use Rattle.rules.specs.Reading.{Reading, refused, got}
 use Rattle.rules.specs.Walk.{Group, Begins}
-use Rattle.rules.specs.Ambiguity.{SpellSame, Ambiguous, PairAtFault}
+use Rattle.rules.specs.Ambiguity.{SpellSame, Ambiguous, PairAtFault, FirstPair}
 use Rattle.rules.specs.TypeFile.{Place, Content, empty, model, Element, typeFile}
 use Rattle.rules.specs.Judge.{placeAt, samePlace, Answer, refusal, acceptance, Unambiguous, AllUnambiguous, PairStandsAt, FirstAmbiguous, here, later, records, Legible, Refuses, tooLong, notAllowed, malformed, ambiguous, noRoom, Accepts, Judged, refuses, accepts}
 use Rattle.numbers.specs.Laws.{records-length, lent-length}
@@ -34,9 +34,10 @@ module _ (s : List ℕ) where
   stands-in empty k p q i w = absurd w
   stands-in (model g ps n) k p q i w = rw (w .1) (placeAt-in (i .places) (q - 1))
 
-  stands-model : (c : Content) (k p q : ℕ) → PairStandsAt s c k p q → (g : Group) × (ps : List Place) × (n : ℕ) × (c ≡ model g ps n) × PairAtFault (samePlace s ps) g p q
+  pub stands-model : (c : Content) (k p q : ℕ) → PairStandsAt s c k p q
+      → (g : Group) × (ps : List Place) × (n : ℕ) × (c ≡ model g ps n) × FirstPair (samePlace s ps) g p q × (k ≡ placeAt ps (q - 1) .at)
   stands-model empty k p q w = absurd w
-  stands-model (model g ps n) k p q w = (g, ps, n, refl, w .0 .0)
+  stands-model (model g ps n) k p q (f, x) = (g, ps, n, refl, f, x)
 
   pub first-all : {k p q : ℕ} {es : List Element} → FirstAmbiguous s k p q es → AllUnambiguous s es → ⊥
   first-all {k} {p} {q} (here {e} w) u = stands-at-fault (e .content) k p q w (u .0)
@@ -87,8 +88,8 @@ pub first-model : {s : List ℕ} {k p q : ℕ} {es : List Element} → FirstAmbi
     → (g : Group) × (ps : List Place) × ((e : Element) × (n : ℕ) × List·Memᴰ e es × (e .content ≡ model g ps n)) × Ambiguous (samePlace s ps) g
 first-model {s} {k} {p} {q} f =
     let (e, m, w) = first-stands s f in
-    let (g, ps, n, c, x) = stands-model s (e .content) k p q w in
-    (g, ps, (e, n, m, c), model-exactly s g ps .1 (p, q, x))
+    let (g, ps, n, c, x, y) = stands-model s (e .content) k p q w in
+    (g, ps, (e, n, m, c), model-exactly s g ps .1 (p, q, x .0))
 
 -- What the judge promises of a legible type, by what its reading gives.
 data Read (l : Lent) (s before : List ℕ) (a : Answer) (after : List ℕ) : Reading (List Element) → Type 0 where
@@ -204,10 +205,14 @@ module _ {l : Lent} {s before : List ℕ} {a : Answer} {after : List ℕ} where
   pub settled-nineteen : Judged l s before a after → a .number ≡ 19 → (es : List Element) × Accepts s es × (room l before < 6 * length es)
   settled-nineteen x h = refuses-nineteen (settled-refuses x (λ z. omega arith) .0) h
 
-  -- Under 0 and 19 the models read have no pair at fault; under 9 some model has one.
-  pub settled-fair : Judged l s before a after → (a .number ≡ 0) ⊎ (a .number ≡ 19) → (es : List Element) → typeFile s ≡ got es → AllUnambiguous s es
-  settled-fair x (inl h) es r = read-fair (settled-accepts x h .1) r
-  settled-fair x (inr h) es r = read-fair (settled-nineteen x h .1) r
+  -- Under 9 some model has a pair at fault; else none that was read has.
+  pub settled-fair : Judged l s before a after → Legible s → (es : List Element) → typeFile s ≡ got es → (a .number ≡ 9 → ⊥) → AllUnambiguous s es
+  settled-fair x i es r n = go (rw r at (when-legible i x))
+    where
+      go : Read l s before a after (got es) → AllUnambiguous s es
+      go (clash k p q f e z) = absurd (n (rw e))
+      go (tight u f e z) = u
+      go (enough u f e z) = u
 
   pub settled-faulty : Judged l s before a after → Legible s → (es : List Element) → typeFile s ≡ got es → (AllUnambiguous s es → ⊥) → a .number ≡ 9
   settled-faulty x i es r n = go (rw r at (when-legible i x))

@@ -1,15 +1,15 @@
 -- The words of the demands: what a refusal and an acceptance are, and demand 3's words about models.
-use Prim.Native.Nat.{ℕ, _*_, _≤_}
+use Prim.Native.Nat.{ℕ, _-_, _*_, _<_, _≤_}
 use mathlib.Core.Path.{_≡_}
 use mathlib.Core.Logic.{_⊎_, _↔_}
-use mathlib.Core.List.{List, List·Memᴰ}
+use mathlib.Core.List.{List, _∷_, _++_, List·Memᴰ}
 use lib.ListN.{length}
 use Rattle.rules.specs.Lent.{Lent, standing, room, filledWith, zeroed}
 use Rattle.rules.specs.Reading.{got}
 use Rattle.rules.specs.Walk.{Group, Begins}
-use Rattle.rules.specs.Ambiguity.{SpellSame, Ambiguous}
+use Rattle.rules.specs.Ambiguity.{SpellSame, Ambiguous, FirstPair}
 use Rattle.rules.specs.TypeFile.{Place, model, Element, typeFile}
-use Rattle.rules.specs.Judge.{samePlace, Answer, acceptance, FirstAmbiguous, records, Accepts}
+use Rattle.rules.specs.Judge.{placeAt, samePlace, Answer, acceptance, records, Accepts}
 use Rattle.rules.specs.Events.{Event}
 use Rattle.rules.specs.Reader.{eventNumbers, Reads}
 
@@ -37,16 +37,33 @@ pub record Acceptance (l : Lent) (s before : List ℕ) (a : Answer) (after : Lis
 abbrev pub ModelOf : List Element → Group → List Place → Type 0
 ModelOf es g ps = (e : Element) × (n : ℕ) × List·Memᴰ e es × (e .content ≡ model g ps n)
 
--- "Some content model has two different sequences of places, each the beginning of a walk, that spell the same names."
+-- "Some content model in it has two different sequences of places, of whatever length, each the beginning of some walk, that spell the same
+-- names."
 abbrev pub SomeAmbiguous : List ℕ → List Element → Type 0
 SomeAmbiguous s es = (g : Group) × (ps : List Place) × ModelOf es g ps × Ambiguous (samePlace s ps) g
 
--- Number 9 names "the first model in the type file that has such a pair, at the first byte of the pair's second place. Of
--- that model's pairs the one reported comes first."
-abbrev pub NamesFirst : List ℕ → Answer → Type 0
-NamesFirst s a = (es : List Element) × (typeFile s ≡ got es) × FirstAmbiguous s (a .position) (a .first) (a .second) es
+-- "The refusal names the first such model, and in it the first pair of different places that can follow one shared beginning under one name:
+-- every other such pair there has a larger first place, or the same first place and a larger second." The elements before that of the model
+-- have no such model. Both places are places of the model, which are numbered from 1 (`samePlace` reads place 0 as place 1), and the refusal
+-- stands where the second does.
+pub record NamesFirst (s : List ℕ) (a : Answer) : Type 0 where
+  pub earlier : List Element
+  pub element : Element
+  pub later : List Element
+  pub read : typeFile s ≡ got (earlier ++ element ∷ later)
+  pub unambiguous : SomeAmbiguous s earlier → ⊥
+  pub group : Group
+  pub places : List Place
+  pub tokens : ℕ
+  pub content : element .content ≡ model group places tokens
+  pub ambiguous : Ambiguous (samePlace s places) group
+  pub pair : FirstPair (samePlace s places) group (a .first) (a .second)
+  pub from-one : 1 ≤ a .first
+  pub in-order : a .first < a .second
+  pub counted : a .second ≤ length places
+  pub stands : a .position ≡ placeAt places (a .second - 1) .at
 
--- Names alone decide places: two beginnings of walks of one model that spell the same names are the same places.
+-- "The names alone decide the places in every model: two beginnings of walks that spell the same names are equal."
 abbrev pub NamesDecide : List ℕ → List Element → Type 0
 NamesDecide s es = (g : Group) (ps : List Place) → ModelOf es g ps → (u v : List ℕ) → Begins g u → Begins g v → SpellSame (samePlace s ps) u v → u ≡ v
 

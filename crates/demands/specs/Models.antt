@@ -1,0 +1,106 @@
+-- The proofs behind demand 3: the models that were read, their places, and the first of them that is ambiguous.
+use Prim.Native.Nat.{ℕ, zero, suc, _-_, _≤_}
+use mathlib.Core.Path.{_≡_, refl, ap, subst, _∙_}
+use mathlib.Core.Logic.{_⊎_, inl, inr}
+use mathlib.Core.List.{List, [], _∷_, _++_, List·Memᴰ, List·Memᴰ·head, List·Memᴰ·tail}
+use native.Mathlib.Omega.{arith}
+use lib.ListN.{length}
+use Rattle.rules.specs.Reading.{got}
+use Rattle.rules.specs.Walk.{Group}
+use Rattle.rules.specs.Ambiguity.{PairAtFault}
+use Rattle.rules.specs.TypeFile.{Place, Content, empty, model, Element, typeFile}
+use Rattle.rules.specs.Judge.{placeAt, samePlace, Answer, Unambiguous, AllUnambiguous, PairStandsAt, FirstAmbiguous, here, later}
+use Rattle.rules_laws.specs.In.{All, none, more, all-snoc, all-mem}
+use Rattle.rules_laws.specs.Holds.{got-so}
+use Rattle.rules_laws.specs.Groups.{Built, content-read}
+use Rattle.rules_laws.specs.Declarations.{Declares, typeFile-holds}
+use Rattle.model_sets.specs.Sets.{Numbered}
+use Rattle.model_sets.specs.Pairs.{firstPairOf, pair-clash, firstPairOf-none, firstPairOf-is}
+use Rattle.document_laws.specs.Numbers.{Counted, counted-builds}
+use Rattle.demands.specs.Words.{ModelOf, NamesFirst}
+use Rattle.demands.specs.Proofs.{stands-model, model-exactly, not-ambiguous}
+
+-- The places of a model that was read are numbered from 1, left to right, and as many as were written down.
+abbrev pub PlacesCounted : Element → Type 0
+PlacesCounted e = Built Counted (e .content)
+
+module _ (s : List ℕ) where
+  counted-more : (es : List Element) (e : Element) → All PlacesCounted es → Declares s es e → All PlacesCounted (es ++ e ∷ [])
+  counted-more es e a d = all-snoc a (got-so (content-read s counted-builds (d .before) (d .begun)) (d .contentRead) .built)
+
+  pub typeFile-counted : (es : List Element) → typeFile s ≡ got es → All PlacesCounted es
+  typeFile-counted es e = got-so (typeFile-holds s (All PlacesCounted) counted-more none) e .1
+
+  model-counted : (es : List Element) → typeFile s ≡ got es → (g : Group) (ps : List Place) → ModelOf es g ps → Counted [] g ps
+  model-counted es r g ps (e, n, m, c) = subst (Built Counted) c (all-mem (typeFile-counted es r) m)
+
+  -- So are those of a pair at fault.
+  pub pair-in : (es : List Element) → typeFile s ≡ got es → (g : Group) (ps : List Place) → ModelOf es g ps
+      → (p q : ℕ) → PairAtFault (samePlace s ps) g p q → (1 ≤ p) × (q ≤ length ps)
+  pair-in es r g ps m p q f =
+      let c = model-counted es r g ps m in
+      let (i, j, x) = pair-clash (samePlace s ps) g (c .numbered) p q f in
+      omega (arith, c .counted)
+
+-- The first ambiguous model, and what stands before and behind it.
+
+member : (es : List Element) (e : Element) (fs : List Element) → List·Memᴰ e (es ++ e ∷ fs)
+member [] e fs = List·Memᴰ·head refl
+member (x ∷ es) e fs = List·Memᴰ·tail (member es e fs)
+
+parted : {s : List ℕ} {k p q : ℕ} {es : List Element} → FirstAmbiguous s k p q es
+    → (front : List Element) × (e : Element) × (rest : List Element) × (es ≡ front ++ e ∷ rest) × AllUnambiguous s front × PairStandsAt s (e .content) k p q
+parted (here {e} {es} w) = ([], e, es, refl, tt, w)
+parted (later {e} u f) =
+    let (front, x, rest, z, v, w) = parted f in
+    (e ∷ front, x, rest, ap (λ (l : List Element). e ∷ l) z, (u, v), w)
+
+pub names-first : (s : List ℕ) (a : Answer) (es : List Element) → typeFile s ≡ got es → FirstAmbiguous s (a .position) (a .first) (a .second) es → NamesFirst s a
+names-first s a es r f =
+    let (front, e, rest, z, u, w) = parted f in
+    let (g, ps, n, c, x, at) = stands-model s (e .content) (a .position) (a .first) (a .second) w in
+    let whole : typeFile s ≡ got (front ++ e ∷ rest) = r ∙ ap got z in
+    let (i, j) = pair-in s (front ++ e ∷ rest) whole g ps (e, n, member front e rest, c) (a .first) (a .second) (x .0) in
+    record {
+      earlier = front;
+      element = e;
+      later = rest;
+      read = whole;
+      unambiguous = λ (h, qs, (y, m, b, d), v). not-ambiguous s h qs u b d v;
+      group = g;
+      places = ps;
+      tokens = n;
+      content = c;
+      ambiguous = model-exactly s g ps .1 (a .first, a .second, x .0);
+      pair = x;
+      from-one = i;
+      in-order = x .0 .0;
+      counted = j;
+      stands = at;
+    }
+
+-- A model has a first pair at fault, or none: a search over its places finds which.
+
+module _ (s : List ℕ) where
+  abbrev Searched : Content → Type 0
+  Searched c = ((k : ℕ) × (p : ℕ) × (q : ℕ) × PairStandsAt s c k p q) ⊎ Unambiguous s c
+
+  by-pair : (g : Group) (ps : List Place) (n : ℕ) → Numbered g 1 → (r : ℕ × ℕ) → firstPairOf (samePlace s ps) g ≡ r → Searched (model g ps n)
+  by-pair g ps n i (zero, q) e = inr (firstPairOf-none (samePlace s ps) g i (ap (λ (r : ℕ × ℕ). r .0) e))
+  by-pair g ps n i (suc p, q) e = inl (placeAt ps (q - 1) .at, suc p, q, (firstPairOf-is (samePlace s ps) g i (suc p) q e (omega arith), refl))
+
+  searched : (c : Content) → Built Counted c → Searched c
+  searched empty b = inr tt
+  searched (model g ps n) b = by-pair g ps n (b .numbered) (firstPairOf (samePlace s ps) g) refl
+
+  abbrev pub SomeFirst : List Element → Type 0
+  SomeFirst es = (k : ℕ) × (p : ℕ) × (q : ℕ) × FirstAmbiguous s k p q es
+
+  pub first-or-none : (es : List Element) → All PlacesCounted es → SomeFirst es ⊎ AllUnambiguous s es
+  first-or-none [] none = inr tt
+  first-or-none (e ∷ es) (more b a) = go (searched (e .content) b) (first-or-none es a)
+    where
+      go : Searched (e .content) → SomeFirst es ⊎ AllUnambiguous s es → SomeFirst (e ∷ es) ⊎ AllUnambiguous s (e ∷ es)
+      go (inl (k, p, q, w)) r = inl (k, p, q, here w)
+      go (inr u) (inl (k, p, q, f)) = inl (k, p, q, later u f)
+      go (inr u) (inr v) = inr (u, v)
