@@ -1,7 +1,7 @@
 // The events of a document under a type whose tables are filled.
 //
 // `elements` and `index` are those of the crate element_index, `rows`, `places` and `facts` those of type_tables, `classes` that of
-// delimiters.
+// delimiters. Where the tables are no type's, neither the answer nor what the buffers hold is decided; the loop ends all the same.
 use layout::FACTS;
 use layout::INDEX;
 use layout::PLACES;

@@ -1,4 +1,4 @@
-// The text of events and of a refusal, put into a buffer word by word.
+// The text of events and of a refusal, put into a buffer word by word. What the buffer holds behind the text is not decided.
 use layout::EVENT;
 use layout::RECORDS;
 ghost use mathlib.Core.Path.{_≡_};

@@ -28,7 +28,7 @@ goOn at r = andThen r λ z. got (record { at = at; state = z })
 
 -- The document d under the type file s with the elements es.
 module _ (s : List ℕ) (es : List Element) (D : Decisions) (d : List ℕ) where
-  -- The number of the element that a tag at `at` names. "10: tag of undeclared name", at the tag.
+  -- The number of the element that a tag at `at` names. Number 10, "tag of undeclared name", at the tag.
   unfoldable pub tagged : (at : ℕ) → Tag → Reading ℕ
   tagged at t =
       let k = numberOf s es d (t .name) (t .size) in

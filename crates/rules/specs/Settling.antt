@@ -40,7 +40,7 @@ enter k z = record { current = record { number = k; taken = [] }; around = z .cu
 abbrev pub note : Event → State → State
 note e z = record { current = z .current; around = z .around; events = z .events ++ e ∷ [] }
 
--- "15: more than 24 open", at the token.
+-- Number 15, "more than 24 open", at the token.
 unfoldable pub limited : ℕ → State → Reading State
 limited at z = elim (ltb TAGLVL (length (z .around))) [ true ↦ refused 15 at | false ↦ got z ]
 
@@ -125,7 +125,7 @@ module _ (s : List ℕ) (es : List Element) (D : Decisions) where
   abbrev pub isOver : State → Bool
   isOver z = eqb (z .current .number) 0 && isComplete (z .current)
 
-  -- "16: start tag or data after the document element", before 12.
+  -- Number 16, "start tag or data after the document element", before 12.
   unfoldable pub settle : Token → (at : ℕ) → State → Reading State
   settle t at z = elim (isOver z) [ true ↦ refused 16 at | false ↦ settleFrom t at (z .around) (z .current) (z .events) ]
 
@@ -171,12 +171,12 @@ module _ (s : List ℕ) (es : List Element) (D : Decisions) where
         | false ↦ andThen (endLeftOut at o) λ e. closeFrom k at after around u (ev ++ e ∷ [])
       ]
 
-  -- "11: end tag, no such element open", before 13 and 14.
+  -- Number 11, "end tag, no such element open", before 13 and 14.
   unfoldable pub endElement : (k at after : ℕ) → State → Reading State
   endElement k at after z =
       elim (isOpen k (z .current ∷ z .around)) [ true ↦ closeFrom k at after (z .around) (z .current) (z .events) | false ↦ refused 11 at ]
 
-  -- "The end of the document does the same for all that are open, the document element included." "18: no document element." `at` is the
+  -- "The end of the document does the same for all that are open, the document element included." Number 18, "no document element". `at` is the
   -- document's length.
   unfoldable pub endFrom : (at : ℕ) → List Open → Open → List Event → Reading (List Event)
   endFrom at [] o ev = elim (isComplete o) [ true ↦ got ev | false ↦ refused 18 at ]

@@ -9,7 +9,7 @@ ghost use Rattle.rules.specs.Judge.{samePlace};
 ghost use Rattle.model_names.specs.Places.{placeIn, placesOf, keyOf};
 ghost use Rattle.same_names.specs.Laws.{anyKey};
 
-// The keys of the places of a model with n places, at their numbers.
+// The keys of the places of a model with n places, at their numbers. Number 0 and those past n are not decided.
 pub fn keys_of(s: &[u8], names: &[u32; NAMES], n: usize) -> [u32; POSITIONS]
     requires { ⌜ n ≤ 96 ⌝ }
     ensures { λ r. ⌜ ((p : ℕ) → 1 ≤ p → p ≤ n → getD r p 0 ≡ keyOf (now (s .entry)) (placeIn (now (names .entry)) (p - 1))) ⌝ }

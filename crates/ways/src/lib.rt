@@ -2,6 +2,7 @@
 // whether the element's end is inferred. Nothing is changed here.
 //
 // `rows`, `places` and `facts` are the tables of the type (crate type_tables). x is the element that starts, or 0 for data.
+// Where the tables are no type's, an answer is not decided, but for the range that its contract has.
 use layout::FACTS;
 use layout::PLACES;
 use layout::ROWS;
