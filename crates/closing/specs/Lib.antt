@@ -1,5 +1,3 @@
--- The loop that infers ends, and what end tags and the document's end promise.
-pub mod Means
-pub mod Ends
-pub mod Loop
-pub mod Laws
+-- What end tags and the document's end promise, by each way that their code goes.
+pub mod Closed
+pub mod Ways

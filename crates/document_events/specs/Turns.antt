@@ -24,8 +24,9 @@ use Rattle.open_elements.specs.declared.Open.{Open}
 use Rattle.open_elements.specs.declared.Outcome.{Outcome}
 use Rattle.open_elements.specs.Means.{stateOf, outcomeOf, closedOf, fresh, Ranged, Stands}
 use Rattle.open_elements.specs.Laws.{stands-range, stands-fresh, ranged-fresh}
-use Rattle.settling.specs.Means.{takes, Settles}
-use Rattle.closing.specs.Means.{Brings, Tagged, Finished}
+use Rattle.settling.specs.Settled.{takes, Settles}
+use Rattle.left_out_ends.specs.Until.{Brings}
+use Rattle.closing.specs.Closed.{Tagged, Finished}
 use Rattle.pieces.specs.declared.Piece.{Piece}
 use Rattle.pieces.specs.declared.Piece.the-variants as found
 use Rattle.pieces.specs.Means.{skips, separates, malformed, undeclaredStart, undeclaredEnd, ToSettle, runs, starts, Finds, Onward}

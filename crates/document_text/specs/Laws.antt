@@ -15,25 +15,11 @@ use Rattle.rules.specs.Document.{Tag, Piece, startTag, endTag, skipped, blank, 
 use Rattle.text.specs.Laws.{byte-is-in, letter-in, nameEnd-from, nameEnd-le, separatorsEnd-from, separatorsEnd-le, second, comment-closed, comment-open, comment-range}
 use Rattle.text.specs.Means.{refusalOf}
 use Rattle.text.specs.declared.Fault.{Fault}
-use Rattle.document_text.specs.Means.{tagIn, pieceOf, asStartTag, asEndTag, asSkipped, isRun, runs, runEnd}
-use Rattle.document_text.specs.declared.Tag as here
+use Rattle.tags.specs.Tags.{tagIn}
+use Rattle.document_text.specs.Means.{pieceOf, asStartTag, asEndTag, asSkipped, isRun, runs, runEnd}
+use Rattle.tags.specs.declared.Tag as here
 use Rattle.document_text.specs.declared.Token.{Token}
 use Rattle.document_text.specs.declared.Token.the-variants as token
-
--- A tag, whose name ends at e and whose separators end at j.
-module _ (s : List ℕ) (at e : ℕ) (q : e ≡ nameEnd s at) where
-  pub tag-long : 8 < e - at → refused 3 at ≡ tag s at
-  unfolding tag
-  tag-long h = rw (tag, lt-ltb _ _ (rw q at h))
-
-  module _ (j : ℕ) (p : j ≡ separatorsEnd s e) (h : e - at ≤ 8) where
-    pub tag-read : byteAt s j ≡ 62 → got (record { name = at; size = e - at; after = j + 1 }) ≡ tag s at
-    unfolding tag
-    tag-read g = rw (p, q, tag, le-ltb _ _ (rw q at h), eq-eqb _ _ (rw (p, q) at g))
-
-    pub tag-open : (byteAt s j ≡ 62 → ⊥) → refused 4 j ≡ tag s at
-    unfolding tag
-    tag-open g = rw (p, q, tag, le-ltb _ _ (rw q at h), ne-eqb _ _ (rw (p, q) at g))
 
 -- `<!` at i, before the byte b.
 module _ (s : List ℕ) (i b : ℕ) (q : b ≡ byteAt s (i + 2)) where

@@ -7,18 +7,9 @@ use Rattle.rules.specs.Reading.{Reading, refused, got, andThen}
 use Rattle.rules.specs.Document.{Piece, startTag, endTag, skipped, blank, dataByte, piece}
 use Rattle.rules.specs.Document as rules
 use Rattle.text.specs.Means.{refusalOf}
-use Rattle.document_text.specs.declared.Tag.{Tag}
-use Rattle.document_text.specs.declared.TagRead.{TagRead}
-use Rattle.document_text.specs.declared.TagRead.the-variants as tagRead
+use Rattle.tags.specs.Tags.{tagIn}
 use Rattle.document_text.specs.declared.Token.{Token}
 use Rattle.document_text.specs.declared.Token.the-variants as token
-
-abbrev pub tagIn : Tag → rules.Tag
-tagIn t = record { name = t .name; size = t .size; after = t .after }
-
-abbrev pub tagOf : TagRead → Reading rules.Tag
-tagOf (tagRead.Read t) = got (tagIn t)
-tagOf (tagRead.Refused f) = refusalOf f
 
 abbrev pub pieceOf : Token → Reading Piece
 pieceOf (token.StartTag t) = got (startTag (tagIn t))

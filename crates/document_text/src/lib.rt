@@ -1,5 +1,6 @@
 // The tokens of a document, read from its bytes.
-use layout::NAMELEN;
+use tags::Tag;
+use tags::TagRead;
 use text::Fault;
 use text::Reached;
 ghost use mathlib.Core.Path.{_≡_};
@@ -7,23 +8,11 @@ ghost use mathlib.Core.Bool.{_||_};
 ghost use Prim.Native.Nat.{_≤_, _<_};
 ghost use lib.ListN.{length};
 ghost use lib.Dec.{eqb};
-ghost use Rattle.rules.specs.Bytes.{nameByte, nameEnd};
-ghost use Rattle.rules.specs.Document.{tag, declarationPiece, markupPiece, bytePiece, piece};
+ghost use Rattle.rules.specs.Document.{declarationPiece, markupPiece, bytePiece, piece};
 ghost use Rattle.text.specs.Means.{reached};
 ghost use Rattle.delimiters.specs.Means.{Classes};
-ghost use Rattle.document_text.specs.Means.{tagOf, pieceOf, asStartTag, asEndTag, asSkipped};
-
-// A tag: where its name stands, how long that is, and where the tag ends.
-pub struct Tag {
-    pub name: usize,
-    pub size: usize,
-    pub after: usize,
-}
-
-pub enum TagRead {
-    Read(Tag),
-    Refused(Fault),
-}
+ghost use Rattle.tags.specs.Tags.{tagOf};
+ghost use Rattle.document_text.specs.Means.{pieceOf, asStartTag, asEndTag, asSkipped};
 
 // What stands at a position of the document.
 pub enum Token {
@@ -64,48 +53,6 @@ fn skipped(r: Reached) -> Token
     }
 }
 
-fn is_name_byte(classes: &[u8; 256], b: u8) -> bool
-    requires { ⌜ Classes (now classes) ⌝ }
-    ensures { λ r. ⌜ r ≡ nameByte b ⌝ }
-{
-    classes[b as usize] / 2 % 2 == 1
-}
-
-// Where the name that begins at `at` ends.
-fn name_end(classes: &[u8; 256], s: &[u8], at: usize) -> usize
-    requires { ⌜ Classes (now classes) × (at ≤ length (now s)) ⌝ }
-    ensures { λ r. ⌜ r ≡ nameEnd (now (s .entry)) at ⌝ }
-{
-    let mut i = at;
-    while i < s.len() {
-        if !is_name_byte(classes, s[i]) {
-            return i;
-        }
-        i += 1;
-    }
-    i
-}
-
-// Name, separators, `>`, where the name begins at i. A name that is too long is refused before what follows it.
-pub fn tag_at(classes: &[u8; 256], s: &[u8], i: usize) -> TagRead
-    requires { ⌜ Classes (now classes) × (i ≤ length (now s)) ⌝ }
-    ensures { λ r. ⌜ tagOf r ≡ tag (now (s .entry)) i ⌝ }
-{
-    let e = name_end(classes, s, i);
-    if NAMELEN < e - i {
-        return TagRead::Refused(Fault { number: 3, at: i });
-    }
-    let j = text::separators_end(s, e);
-    if text::byte(s, j) == b'>' {
-        return TagRead::Read(Tag {
-            name: i,
-            size: e - i,
-            after: j + 1,
-        });
-    }
-    TagRead::Refused(Fault { number: 4, at: j })
-}
-
 // What `<!` at i begins.
 fn declaration_at(s: &[u8], i: usize) -> Token
     requires { ⌜ i < length (now s) ⌝ }
@@ -131,10 +78,10 @@ fn markup_at(classes: &[u8; 256], s: &[u8], i: usize) -> Token
 {
     let b = text::byte(s, i + 1);
     if text::is_letter(b) {
-        return start_tag(tag_at(classes, s, i + 1));
+        return start_tag(tags::tag_at(classes, s, i + 1));
     }
     if delimiters::is_end_tag(s, i) {
-        return end_tag(tag_at(classes, s, i + 2));
+        return end_tag(tags::tag_at(classes, s, i + 2));
     }
     if b == b'!' {
         return declaration_at(s, i);

@@ -12,9 +12,10 @@ use Rattle.rules.specs.Elements.{numberOf}
 use Rattle.rules.specs.Decisions.{pcdata}
 use Rattle.document_laws.specs.Decide.{decided}
 use Rattle.text.specs.declared.Fault.{Fault}
-use Rattle.document_text.specs.Means.{tagIn, isRun, runEnd}
+use Rattle.tags.specs.Tags.{tagIn}
+use Rattle.document_text.specs.Means.{isRun, runEnd}
 use Rattle.document_text.specs.Laws.{start-tag-in, end-tag-in, start-tag-range, end-tag-range, skipped-range, runEnd-in}
-use Rattle.document_text.specs.declared.Tag as text
+use Rattle.tags.specs.declared.Tag as text
 use Rattle.last_places.specs.Last.{placed}
 use Rattle.pieces.specs.declared.Piece.{Piece}
 use Rattle.pieces.specs.declared.Piece.the-variants as found

@@ -3,13 +3,13 @@
 // `elements` and `index` are those of the crate element_index, `rows`, `places` and `facts` those of type_tables, `classes` that of
 // delimiters. Where the tables are no type's, what is found is not decided, but that its element is at most 64 and that it ends
 // further on, within the document, unless it is refused.
-use document_text::Tag;
 use document_text::Token;
 use layout::FACTS;
 use layout::INDEX;
 use layout::PLACES;
 use layout::RECORDS;
 use layout::ROWS;
+use tags::Tag;
 use text::Fault;
 ghost use mathlib.Core.Path.{_≡_};
 ghost use mathlib.Core.List.{List};

@@ -21,12 +21,15 @@ use Rattle.event_buffer.specs.Laws.{puts-none, puts-then}
 use Rattle.ways.specs.declared.Way.{Way}
 use Rattle.ways.specs.declared.Way.the-variants.{Taken, Inferred, Stuck}
 use Rattle.ways.specs.Means.{tokenOf, tokenOf-number, tokenOf-declared, wayOf, chained, startsOf, placeOf}
-use Rattle.settling.specs.declared.Stop.{Stop}
-use Rattle.settling.specs.Means.{takes, noting, Comes, Stops, inferMany, InfersOn, Places, SettledAs, Settles}
-use Rattle.settling.specs.Starts.{infer-deeper, Along, along-all}
-use Rattle.settling.specs.Inward.{fits-most, way-fits, way-infers, same-fits, same-took}
-use Rattle.settling.specs.Ends.{found-settled, found-refused}
-use Rattle.settling.specs.Places.{noting-many}
+use Rattle.inferring.specs.declared.Stop.{Stop}
+use Rattle.inferring.specs.Inferring.{Comes, Stops, inferMany, InfersOn}
+use Rattle.inferring.specs.Starts.{infer-deeper, Along, along-all}
+use Rattle.inferring.specs.Inward.{fits-most, way-fits, way-infers}
+use Rattle.inferring.specs.Ends.{found-settled, found-refused}
+use Rattle.placing.specs.Noting.{noting, Places}
+use Rattle.placing.specs.Limits.{same-fits, same-took}
+use Rattle.placing.specs.Places.{noting-many}
+use Rattle.settling.specs.Settled.{takes, SettledAs, Settles}
 
 -- What the rules make of a token: it is settled, then noted.
 takes-noting : (s : List ℕ) (es : List Element) (x at after : ℕ) (z : State) → takes s es x at after z ≡ andThen (settle s es (decided s es) (tokenOf x) at z) (noting es x at after)

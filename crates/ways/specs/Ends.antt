@@ -1,11 +1,11 @@
 -- When an end is inferred, and when the document is over.
 use Prim.Native.Nat.{ℕ, suc, zero, _≤_, _<_}
-use mathlib.Core.Path.{_≡_, refl, sym, _∙_}
+use mathlib.Core.Path.{_≡_, refl, sym, _∙_, ap}
 use mathlib.Core.Bool.{Bool, true, false, _&&_}
 use mathlib.Core.List.{List}
 use native.Mathlib.Omega.{arith}
-use lib.Dec.{leb}
-use borrow.Author.Tests.{le-leb, ne-eqb}
+use lib.Dec.{eqb, leb}
+use borrow.Author.Tests.{le-leb}
 use Rattle.rules.specs.TypeFile.{Element}
 use Rattle.rules.specs.Elements.{endO}
 use Rattle.rules.specs.Decisions.{start}
@@ -19,12 +19,9 @@ use Rattle.open_elements.specs.Laws.{around-ended, around-none, stands-range, s
 use Rattle.ways.specs.Means.{mayEnd}
 
 module _ (s : List ℕ) {es : List Element} {o : Open} (stands : Stands es o) where
-  -- Something is open, or the document's content is not complete.
-  pub open-goes-on : (o .element ≡ 0 → ⊥) → (before : List Event) → false ≡ isOver s es (decided s es) (stateOf o before)
-  open-goes-on h before = rw (ne-eqb (o .element) 0 h)
-
-  pub over-if-complete : o .element ≡ 0 → (before : List Event) → o .complete ≡ isOver s es (decided s es) (stateOf o before)
-  over-if-complete z before = stands .marked .complete ∙ rw z
+  -- The document is over where nothing is open and its content is complete.
+  pub over-says : (before : List Event) → (eqb (o .element) 0 && o .complete) ≡ isOver s es (decided s es) (stateOf o before)
+  over-says before = ap (λ b. eqb (o .element) 0 && b) (stands .marked .complete)
 
   -- Nothing is open: no end is inferred.
   pub none-ends : o .count ≡ 0 → false ≡ mayEnd s es (decided s es) (current o) (around o)

@@ -8,20 +8,17 @@ use layout::PLACES;
 use layout::ROWS;
 use open_elements::Open;
 ghost use mathlib.Core.Path.{_≡_};
-ghost use mathlib.Core.Bool.{true, false};
+ghost use mathlib.Core.Bool.{true, false, _&&_};
 ghost use mathlib.Core.List.{List};
 ghost use Prim.Native.Nat.{ℕ, _≤_, _<_};
-ghost use lib.Dec.{leb};
+ghost use lib.Dec.{eqb, leb};
 ghost use Rattle.rules.specs.TypeFile.{Element};
 ghost use Rattle.rules.specs.Elements.{contentOf, hasModel};
 ghost use Rattle.rules.specs.Decisions.{Token};
-ghost use Rattle.rules.specs.Events.{Event};
-ghost use Rattle.rules.specs.Settling.{isOver};
 ghost use Rattle.rules.specs.Decisions as decisions;
 ghost use Rattle.document_laws.specs.Decide.{decided};
 ghost use Rattle.last_places.specs.Last.{placed, InRange};
 ghost use Rattle.type_tables.specs.Means.{standing, nameNumber, Declares, Facts, Tables, Requires};
-ghost use Rattle.open_elements.specs.Means.{stateOf, Stands};
 ghost use Rattle.ways.specs.Means.{wayOf, chained, startsOf, fitOf, placeOf, MayEnd};
 
 // What the current element has to say to a start tag or a data byte.
@@ -159,7 +156,7 @@ pub fn opens(facts: &[u8; FACTS], x: usize) -> bool
 
 // Whether the document element was there and has ended.
 pub fn is_over(o: Open) -> bool
-    ensures { λ r. ⌜ ((s : List ℕ) (es : List Element) → Stands es o → (before : List Event) → r ≡ isOver s es (decided s es) (stateOf o before)) ⌝ }
+    ensures { λ r. ⌜ r ≡ (eqb (o .element) 0 && o .complete) ⌝ }
 {
     if o.element != 0 {
         return false;

@@ -2,7 +2,7 @@
 use mathlib.Core.Path.{sym, _∙_}
 use native.Mathlib.Omega.{arith}
 use borrow.Author.Tests.{not-true, not-false}
-use Rattle.closing.specs.Laws.{sought, tag-unopened, tag-refused, tag-outermost, tag-incomplete, tag-closed}
+use Rattle.closing.specs.Ways.{sought, tag-unopened, tag-refused, tag-outermost, tag-incomplete, tag-closed}
 use borrow.Author.Needs.{needs}
 use Rattle.closing.proofs.end_tag.Statement.{statement}
 use Rattle.closing.proofs.end_tag.Tie as tie

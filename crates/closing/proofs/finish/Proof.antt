@@ -1,6 +1,6 @@
 -- `finish` meets its contract: each way by what the loop leaves and the tables answer.
 use borrow.Author.Tests.{not-true, not-false}
-use Rattle.closing.specs.Laws.{end-refused, end-unfinished, end-finished}
+use Rattle.closing.specs.Ways.{end-refused, end-unfinished, end-finished}
 use borrow.Author.Needs.{needs}
 use Rattle.closing.proofs.finish.Statement.{statement}
 use Rattle.closing.proofs.finish.Tie as tie

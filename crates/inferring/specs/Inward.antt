@@ -1,0 +1,78 @@
+-- Steps 1 and 2 by what the code finds of an element.
+use Prim.Native.Nat.{ℕ, zero, suc, _≤_, _<_}
+use mathlib.Core.Path.{_≡_, refl, sym, _∙_, ap, ap₂}
+use mathlib.Core.Bool.{true, false}
+use mathlib.Core.List.{List, [], _∷_}
+use native.Mathlib.Omega.{arith}
+use lib.ListN.{length}
+use lib.Dec.{leb}
+use borrow.Author.Tests.{le-leb, le-ltb, lt-ltb}
+use Rattle.rules.specs.Reading.{refused, got}
+use Rattle.rules.specs.TypeFile.{Content, empty, model, Element}
+use Rattle.rules.specs.Judge.{Accepts}
+use Rattle.rules.specs.Elements.{contentOf, placesIn}
+use Rattle.rules.specs.Decisions.{Token, Decisions}
+use Rattle.rules.specs.Events.{Event}
+use Rattle.rules.specs.Settling.{State, Inward, settled, stuck, takePlace, limited, fitting, chain, inferStarts, takeToken, inward}
+use Rattle.rules.specs.Settling as rules
+use Rattle.document_laws.specs.Decide.{fitsIn, decided}
+use Rattle.document_laws.specs.Chain.{chain-leads}
+use Rattle.type_laws.specs.Width.{typeFile-width}
+use Rattle.last_places.specs.Last.{short}
+use Rattle.last_places.specs.Short.{state, allLast-length, lastOnly-took, takePlace-short, fitting-short}
+use Rattle.type_tables.specs.Means.{width}
+use Rattle.type_tables.specs.Search.{search-most}
+use Rattle.open_elements.specs.declared.Open.{Open}
+use Rattle.open_elements.specs.Means.{current, around, stateOf, took}
+use Rattle.open_elements.specs.Laws.{around-length, around-last}
+use Rattle.ways.specs.declared.Way.{Way}
+use Rattle.ways.specs.declared.Way.the-variants.{Taken, Inferred, Stuck}
+use Rattle.ways.specs.Means.{wayOf, chained}
+use Rattle.inferring.specs.Inferring.{inferMany, Infers}
+use Rattle.inferring.specs.Starts.{chain-infers, chain-starts}
+
+-- The place as which a token fits is one of the model's.
+pub fits-most : (s : List ℕ) (es : List Element) → Accepts s es → (k : ℕ) (taken : List ℕ) (t : Token) → decided s es .fits k taken t ≤ width es k
+unfolding fitsIn
+fits-most s es accepted k taken t = go (contentOf es k) refl
+  where
+    go : (c : Content) → contentOf es k ≡ c → fitsIn s es c taken t ≤ length (placesIn c)
+    go empty e = omega arith
+    go (model g ps n) e = rw (← typeFile-width s es (accepted .elements) k e .0) (search-most _ _)
+
+-- Steps 1 and 2, by whatever decisions
+
+module _ (s : List ℕ) (es : List Element) (D : Decisions) (t : Token) where
+  -- What becomes of the token, by what is found.
+  abbrev pub inwardAs : (at : ℕ) → Way → State → Inward
+  inwardAs at (Taken p) z = settled (takePlace p z)
+  inwardAs at (Inferred n) z = settled (takeToken s es D t (inferMany s es D at n z))
+  inwardAs at Stuck z = stuck
+
+  pub inward-way : (at : ℕ) (z : State) → inward s es D t at z ≡ inwardAs at (wayOf (fitting s es D (z .current) t) (chained s es D t (z .current))) z
+  unfolding inward
+  inward-way at z = by-fit (fitting s es D (z .current) t) (chain s es D (length es) t (z .current)) refl
+    where
+      by-fit : (f : ℕ) (c : List ℕ) → chain s es D (length es) t (z .current) ≡ c
+          → elim (leb 1 f) [ true ↦ settled (takePlace f z) | false ↦ elim c [ [] ↦ stuck | k ∷ ks ↦ settled (takeToken s es D t (inferStarts s es D at (k ∷ ks) z)) ] ] ≡ inwardAs at (wayOf f (length c)) z
+      by-fit zero [] e = refl
+      by-fit zero (k ∷ ks) e =
+          ap (λ y. settled (takeToken s es D t y)) (chain-starts s es D t at (k ∷ ks) z (chain-leads s es D t (length es) (z .current) k ks e))
+      by-fit (suc f) c e = rw (le-leb 1 (suc f) (omega arith))
+
+  -- As many starts as are found can be inferred.
+  pub way-infers : (n : ℕ) (o : rules.Open) → Inferred n ≡ wayOf (fitting s es D o t) (chained s es D t o) → Infers s es D t n o
+  way-infers n o = by-fit (fitting s es D o t) (chain s es D (length es) t o) refl
+    where
+      by-fit : (f : ℕ) (c : List ℕ) → chain s es D (length es) t o ≡ c → Inferred n ≡ wayOf f (length c) → Infers s es D t n o
+      by-fit zero [] e w = absurd (let z : _≡_ {A = ℕ} 0 1 = cc in omega arith)
+      by-fit zero (k ∷ ks) e w =
+          let i : n ≡ length (k ∷ ks) = cc in
+          rw i (chain-infers s es D t (k ∷ ks) o (chain-leads s es D t (length es) o k ks e))
+      by-fit (suc f) c e w = absurd (let z : _≡_ {A = ℕ} 0 1 = cc in omega arith)
+
+-- The token fits as a place, which is the one that is found.
+pub way-fits : (p f n : ℕ) → Taken p ≡ wayOf f n → (p ≡ f) × (p ≡ 0 → ⊥)
+way-fits p zero zero e = absurd (let z : _≡_ {A = ℕ} 0 1 = cc in omega arith)
+way-fits p zero (suc n) e = absurd (let z : _≡_ {A = ℕ} 0 1 = cc in omega arith)
+way-fits p (suc f) n e = let i : p ≡ suc f = cc in (i, λ z. omega arith)

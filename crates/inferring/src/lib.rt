@@ -1,0 +1,74 @@
+// The ends and starts that are inferred before a start tag or a run of data, their events put behind those before.
+//
+// `rows`, `places` and `facts` are the tables of the type (crate type_tables). x is the element that starts, or 0 for data. n is how
+// many events there are so far; they are put to `numbers` and `bytes` (crate event_buffer).
+use layout::FACTS;
+use layout::PLACES;
+use layout::ROWS;
+use open_elements::Open;
+use ways::Way;
+ghost use Prim.Native.Nat.{_+_, _≤_, _<_};
+ghost use Rattle.open_elements.specs.Means.{Ranged};
+ghost use Rattle.inferring.specs.Inferring.{Stops, InfersStart};
+
+// Where no more ends are inferred: the state come to, what its current element has to say to the token, and how many events there
+// are.
+pub struct Stop {
+    pub open: Open,
+    pub found: Way,
+    pub events: usize,
+}
+
+// Step 3, again and again: ends are inferred until x fits or starts can be inferred before it, or it is stuck.
+pub fn ends(
+    rows: &[u8; ROWS],
+    places: &[u8; PLACES],
+    facts: &[u8; FACTS],
+    state: Open,
+    x: usize,
+    at: usize,
+    n: usize,
+    numbers: &mut [u32],
+    bytes: &mut [u8],
+) -> Stop
+    requires { ⌜ Ranged state × (x ≤ 64) × (at < 4294967296) × (n + 50 < 4294967296) ⌝ }
+    ensures { λ r. ⌜ Stops (now (rows .entry)) (now (places .entry)) (now (facts .entry)) x at n state (now (numbers .entry)) (now (bytes .entry)) r (now (numbers .exit)) (now (bytes .exit)) ⌝ }
+{
+    let mut o = state;
+    let mut m = n;
+    let found = loop {
+        let w = ways::way_at(rows, places, facts, o.element, o.place, o.required, x);
+        let Way::Stuck = w else {
+            break w;
+        };
+        if !ways::may_end(facts, o) {
+            break w;
+        }
+        m = event_buffer::put_event(numbers, bytes, m, 4, o.element, at, 0);
+        o = o.infer_end();
+    };
+    Stop {
+        open: o,
+        found: found,
+        events: m,
+    }
+}
+
+// One start is inferred: the required place is taken, and its element opened.
+pub fn infer_start(
+    rows: &[u8; ROWS],
+    places: &[u8; PLACES],
+    facts: &[u8; FACTS],
+    state: Open,
+    at: usize,
+    n: usize,
+    numbers: &mut [u32],
+    bytes: &mut [u8],
+) -> Open
+    requires { ⌜ Ranged state × (state .count < 24) × (at < 4294967296) × (n < 4294967296) ⌝ }
+    ensures { λ r. ⌜ InfersStart (now (rows .entry)) (now (places .entry)) (now (facts .entry)) at n state (now (numbers .entry)) (now (bytes .entry)) r (now (numbers .exit)) (now (bytes .exit)) ⌝ }
+{
+    let k = type_tables::startable(places, facts, state.element, state.required);
+    event_buffer::put_event(numbers, bytes, n, 2, k, at, 0);
+    state.take(rows, state.required).start(rows, k)
+}

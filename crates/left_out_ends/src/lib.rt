@@ -1,0 +1,67 @@
+// The ends that an end tag and the document's end infer, from the current element outwards.
+//
+// `facts` is a table of the type (crate type_tables). Whether an open element is complete is kept with it. n events stand in the
+// buffers before.
+use layout::FACTS;
+use open_elements::Open;
+use open_elements::Outcome;
+ghost use Prim.Native.Nat.{_+_, _<_};
+ghost use Rattle.open_elements.specs.Means.{Ranged};
+ghost use Rattle.left_out_ends.specs.Until.{Judges, Until};
+
+// Why the current element cannot have its end inferred by an end tag or the document's end: 13, 14, or 0 if it can.
+fn end_fault(facts: &[u8; FACTS], o: Open) -> u32
+    requires { ⌜ Ranged o ⌝ }
+    ensures { λ r. ⌜ Judges (now (facts .entry)) o r ⌝ }
+{
+    let complete = o.complete;
+    let omitted = type_tables::end_omitted(facts, o.element);
+    if !complete {
+        return 13;
+    }
+    if !omitted {
+        return 14;
+    }
+    0
+}
+
+// Ends are inferred until the current element is x, or there is nothing around it.
+pub fn end_until(
+    facts: &[u8; FACTS],
+    state: Open,
+    x: usize,
+    at: usize,
+    n: usize,
+    numbers: &mut [u32],
+    bytes: &mut [u8],
+) -> Outcome
+    requires { ⌜ Ranged state × (at < 4294967296) × (n + 50 < 4294967296) ⌝ }
+    ensures { λ r. ⌜ Until (now (facts .entry)) x at n state (now (numbers .entry)) (now (bytes .entry)) r (now (numbers .exit)) (now (bytes .exit)) ⌝ }
+{
+    let mut o = state;
+    let mut k = n;
+    while 0 < o.count {
+        if o.element == x {
+            return Outcome {
+                open: o,
+                events: k,
+                number: 0,
+            };
+        }
+        let f = end_fault(facts, o);
+        if f != 0 {
+            return Outcome {
+                open: o,
+                events: k,
+                number: f,
+            };
+        }
+        k = event_buffer::put_event(numbers, bytes, k, 4, o.element, at, 0);
+        o = o.infer_end();
+    }
+    Outcome {
+        open: o,
+        events: k,
+        number: 0,
+    }
+}

@@ -1,0 +1,109 @@
+-- `placed` meets its contract: the token takes the place that was found, and is noted there or refused.
+use native.Mathlib.Omega.{arith}
+use borrow.Author.Needs.{needs}
+use mathlib.Core.Path.{_∙_}
+use borrow.Author.Tests.{not-true, not-false}
+use Rattle.open_elements.specs.Laws.{ranged-took}
+use Rattle.placing.specs.Places.{placed-nowhere, placed-full, placed-written, opening-room, placed-opened}
+use Rattle.placing.proofs.placed.Statement.{statement}
+use Rattle.placing.proofs.placed.Tie as tie
+
+place-of-requires : tie.Need-place-of-requires
+place-of-requires c κs = search needs
+
+returns : tie.Need-returns
+returns c =
+    let found = c .before in
+    placed-nowhere (found .before .before .before .pre .0) (record { answers = found .place-of .ensures .0 }) (omega (arith, c .if1 .taken, found .place-of .ensures .1))
+
+is-full-requires : tie.Need-is-full-requires
+is-full-requires c κs = search needs
+
+returns-2 : tie.Need-returns-2
+returns-2 c =
+    let full = c .before in
+    let found = full .before .before in
+    placed-full (found .before .before .before .pre .0) (record { answers = found .place-of .ensures .0 }) (λ z. omega (arith, full .before .if1 .left)) (full .is-full .ensures) (c .if2 .taken)
+
+take-requires : tie.Need-take-requires
+take-requires c κs = search needs
+
+opens-requires : tie.Need-opens-requires
+opens-requires c κs = search needs
+
+put-written-requires : tie.Need-put-written-requires
+put-written-requires c κs = search needs
+
+same-length : tie.Need-same-length
+same-length c = search needs
+
+same-length-2 : tie.Need-same-length-2
+same-length-2 c = search needs
+
+returns-3 : tie.Need-returns-3
+returns-3 c =
+    let put = c .before .before .before .before in
+    let tested = put .before .before .before in
+    let took = tested .before .before in
+    let full = took .before .before in
+    let found = full .before .before in
+    placed-written (found .before .before .before .pre .0) (record { answers = found .place-of .ensures .0 }) (full .before .if1 .left) (full .is-full .ensures) (took .before .if2 .left) (found .place-of .ensures .1)
+    (tested .before .opens .ensures) (not-true _ (tested .if3 .taken)) (took .take .ensures) (put .put-written .ensures)
+
+sub-put-event : tie.Need-sub-put-event
+sub-put-event c = search needs
+
+put-event-requires : tie.Need-put-event-requires
+put-event-requires c κs = search needs
+
+start-requires : tie.Need-start-requires
+start-requires c κs =
+    let tested = c in
+    let took = tested .before .before in
+    let full = took .before .before in
+    let found = full .before .before in
+    let first = found .before .before .before in
+    rw (took .take .ensures) (
+      ranged-took (first .args .rows .now) _ (first .pre .0) (found .place-of .ensures .1),
+      opening-room (full .is-full .ensures .1) (took .before .if2 .left) (tested .before .opens .ensures .0) (not-false _ (tested .if3 .left)),
+      first .pre .2,
+    )
+
+same-length-3 : tie.Need-same-length-3
+same-length-3 c = search needs
+
+same-length-4 : tie.Need-same-length-4
+same-length-4 c = search needs
+
+returns-4 : tie.Need-returns-4
+returns-4 c =
+    let put = c .before .before .before .before in
+    let opened = put .before .before .before in
+    let tested = opened .before in
+    let took = tested .before .before in
+    let full = took .before .before in
+    let found = full .before .before in
+    let first = found .before .before .before in
+    placed-opened (first .pre .0) (record { answers = found .place-of .ensures .0 }) (full .before .if1 .left) (full .is-full .ensures) (took .before .if2 .left) (found .place-of .ensures .1)
+    (tested .before .opens .ensures) (not-false _ (tested .if3 .left)) (first .pre .2) (opened .start .ensures ∙ rw (took .take .ensures)) (put .put-event .ensures)
+
+pub placed-spec : {M : Type 1} → statement M
+placed-spec =
+    tie.close
+    (tie.spec
+    place-of-requires
+    returns
+    is-full-requires
+    returns-2
+    take-requires
+    opens-requires
+    put-written-requires
+    same-length
+    same-length-2
+    returns-3
+    start-requires
+    sub-put-event
+    put-event-requires
+    same-length-3
+    same-length-4
+    returns-4)

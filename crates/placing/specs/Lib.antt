@@ -1,0 +1,4 @@
+-- How a token takes its place.
+pub mod Noting
+pub mod Limits
+pub mod Places

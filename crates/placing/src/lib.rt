@@ -1,0 +1,87 @@
+// How a start tag or a run of data takes its place in the current element, its events put behind those before.
+//
+// `rows`, `places` and `facts` are the tables of the type (crate type_tables). x is the element that starts, or 0 for data. n is how
+// many events there are so far; they are put to `numbers` and `bytes` (crate event_buffer).
+use layout::FACTS;
+use layout::PLACES;
+use layout::ROWS;
+use open_elements::Open;
+use open_elements::Outcome;
+use ways::Way;
+ghost use mathlib.Core.Path.{_≡_};
+ghost use Prim.Native.Nat.{_+_, _≤_, _<_};
+ghost use lib.ListN.{length};
+ghost use Rattle.open_elements.specs.Means.{Ranged};
+ghost use Rattle.event_buffer.specs.Means.{Puts};
+ghost use Rattle.ways.specs.Means.{fitOf};
+ghost use Rattle.placing.specs.Noting.{writtenOf, Places};
+
+// The events of a run of data, or of an EMPTY element x.
+fn put_written(
+    x: usize,
+    at: usize,
+    after: usize,
+    n: usize,
+    numbers: &mut [u32],
+    bytes: &mut [u8],
+) -> usize
+    requires { ⌜ (x ≤ 64) × (at ≤ after) × (after < 4294967296) × (n + 2 < 4294967296) ⌝ }
+    ensures { λ r. ⌜ (r ≡ n + length (writtenOf x at after)) ×
+        Puts (now (numbers .entry)) (now (bytes .entry)) n (writtenOf x at after) (now (numbers .exit)) (now (bytes .exit)) ⌝ }
+{
+    if x == 0 {
+        return event_buffer::put_event(numbers, bytes, n, 5, 0, at, after - at);
+    }
+    let m = event_buffer::put_event(numbers, bytes, n, 1, x, at, after - at);
+    event_buffer::put_event(numbers, bytes, m, 6, x, after, 0)
+}
+
+// The token takes its place by what was found, and is noted; an element with a model is opened.
+pub fn placed(
+    rows: &[u8; ROWS],
+    places: &[u8; PLACES],
+    facts: &[u8; FACTS],
+    state: Open,
+    found: Way,
+    x: usize,
+    at: usize,
+    after: usize,
+    n: usize,
+    numbers: &mut [u32],
+    bytes: &mut [u8],
+) -> Outcome
+    requires { ⌜ Ranged state × (fitOf found ≤ 96) × (x ≤ 64) × (at ≤ after) × (after < 4294967296) × (n + 2 < 4294967296) ⌝ }
+    ensures { λ r. ⌜ Places (now (rows .entry)) (now (places .entry)) (now (facts .entry)) found x at after n state (now (numbers .entry)) (now (bytes .entry)) r (now (numbers .exit)) (now (bytes .exit)) ⌝ }
+{
+    let p = ways::place_of(rows, places, facts, state.element, state.place, found, x);
+    if p == 0 {
+        return Outcome {
+            open: state,
+            events: n,
+            number: 12,
+        };
+    }
+    if ways::is_full(state.count, x) {
+        return Outcome {
+            open: state,
+            events: n,
+            number: 15,
+        };
+    }
+    let last = state.take(rows, p);
+    if !ways::opens(facts, x) {
+        let m = put_written(x, at, after, n, numbers, bytes);
+        return Outcome {
+            open: last,
+            events: m,
+            number: 0,
+        };
+    }
+    let inner = last.start(rows, x);
+    let m = event_buffer::put_event(numbers, bytes, n, 1, x, at, after - at);
+    Outcome {
+        open: inner,
+        events: m,
+        number: 0,
+    }
+}

@@ -1,0 +1,35 @@
+-- The rules' tag that an answer of the code stands for, and each way that the rules read one.
+use Prim.Native.Nat.{ℕ, _+_, _-_, _≤_, _<_}
+use mathlib.Core.Path.{_≡_}
+use mathlib.Core.List.{List}
+use borrow.Author.Tests.{eq-eqb, ne-eqb, lt-ltb, le-ltb}
+use Rattle.rules.specs.Bytes.{byteAt, nameEnd, separatorsEnd}
+use Rattle.rules.specs.Reading.{Reading, refused, got}
+use Rattle.rules.specs.Document.{tag}
+use Rattle.rules.specs.Document as rules
+use Rattle.text.specs.Means.{refusalOf}
+use Rattle.tags.specs.declared.Tag.{Tag}
+use Rattle.tags.specs.declared.TagRead.{TagRead}
+use Rattle.tags.specs.declared.TagRead.the-variants as tagRead
+
+abbrev pub tagIn : Tag → rules.Tag
+tagIn t = record { name = t .name; size = t .size; after = t .after }
+
+abbrev pub tagOf : TagRead → Reading rules.Tag
+tagOf (tagRead.Read t) = got (tagIn t)
+tagOf (tagRead.Refused f) = refusalOf f
+
+-- A tag, whose name ends at e and whose separators end at j.
+module _ (s : List ℕ) (at e : ℕ) (q : e ≡ nameEnd s at) where
+  pub tag-long : 8 < e - at → refused 3 at ≡ tag s at
+  unfolding tag
+  tag-long h = rw (tag, lt-ltb _ _ (rw q at h))
+
+  module _ (j : ℕ) (p : j ≡ separatorsEnd s e) (h : e - at ≤ 8) where
+    pub tag-read : byteAt s j ≡ 62 → got (record { name = at; size = e - at; after = j + 1 }) ≡ tag s at
+    unfolding tag
+    tag-read g = rw (p, q, tag, le-ltb _ _ (rw q at h), eq-eqb _ _ (rw (p, q) at g))
+
+    pub tag-open : (byteAt s j ≡ 62 → ⊥) → refused 4 j ≡ tag s at
+    unfolding tag
+    tag-open g = rw (p, q, tag, le-ltb _ _ (rw q at h), ne-eqb _ _ (rw (p, q) at g))
