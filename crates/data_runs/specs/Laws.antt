@@ -12,8 +12,9 @@ use Rattle.rules.specs.Reading.{Reading, refused, got}
 use Rattle.rules.specs.TypeFile.{atDashes}
 use Rattle.rules.specs.Document.{Tag, blank, dataByte, declarationPiece, markupPiece, bytePiece, piece}
 use Rattle.delimiters.specs.Means.{special}
-use Rattle.document_text.specs.Means.{asStartTag, asEndTag, asSkipped, isRun, runs, runEnd}
-use Rattle.document_text.specs.Laws.{declaration-out, declaration-data, markup-out, markup-data, byte-skipped, byte-blank, byte-data, runs-more, runs-none}
+use Rattle.rules_laws.specs.Runs.{isRun, runs, runEnd, runs-more, runs-none}
+use Rattle.document_text.specs.Means.{asStartTag, asEndTag, asSkipped}
+use Rattle.document_text.specs.Laws.{declaration-out, declaration-data, markup-out, markup-data, byte-skipped, byte-blank, byte-data}
 
 neither : (a b : Bool) → (a || b) ≡ false → (a ≡ false) × (b ≡ false)
 neither true b e = absurd (true≢false e)

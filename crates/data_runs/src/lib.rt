@@ -4,7 +4,7 @@ ghost use Prim.Native.Nat.{_+_, _≤_, _<_};
 ghost use lib.ListN.{length};
 ghost use Rattle.rules.specs.Document.{declarationPiece, markupPiece, piece};
 ghost use Rattle.delimiters.specs.Means.{special, Classes};
-ghost use Rattle.document_text.specs.Means.{isRun, runEnd};
+ghost use Rattle.rules_laws.specs.Runs.{isRun, runEnd};
 
 // Whether a byte may begin something else than data: `<`, `&`, `]`, or byte 10.
 fn is_special(classes: &[u8; 256], b: u8) -> bool

@@ -15,7 +15,7 @@ use Rattle.rules.specs.Judge.{placeAt, samePlace, Answer, refusal, acceptance, 
 use Rattle.numbers.specs.Laws.{records-length, lent-length}
 use Rattle.rules_laws.specs.Within.{ContentIn, all-mem, placeAt-in, typeFile-within, typeFile-elements}
 use Rattle.model_sets.specs.Ambiguous.{ambiguous-pair, pair-ambiguous, unambiguous-equal, first-pair-unique}
-use Rattle.model_names.specs.Laws.{samePlace-refl, samePlace-sym}
+use Rattle.rules_laws.specs.Names.{samePlace-refl, samePlace-sym}
 
 -- The first model with a pair at fault.
 

@@ -18,7 +18,7 @@ use Rattle.model_sets.specs.Sets.{size, Numbered, nextIn, completeIn, requiredI
 use Rattle.model_sets.specs.Reach.{lastOr0, next-sound, next-complete, complete-sound, complete-complete}
 use Rattle.model_sets.specs.Must.{required-sound, required-complete}
 use Rattle.model_sets.specs.Pairs.{next-range, pair-row}
-use Rattle.model_names.specs.Laws.{sameName-split, sameName-join}
+use Rattle.rules_laws.specs.Names.{sameName-split, sameName-join}
 use Rattle.text.specs.Laws.{sameText-sym, sameText-split, sameText-more}
 
 -- The decisions

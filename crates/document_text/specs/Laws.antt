@@ -16,7 +16,7 @@ use Rattle.text.specs.Laws.{byte-is-in, letter-in, nameEnd-from, nameEnd-le, se
 use Rattle.text.specs.Means.{refusalOf}
 use Rattle.text.specs.declared.Fault.{Fault}
 use Rattle.tags.specs.Tags.{tagIn}
-use Rattle.document_text.specs.Means.{pieceOf, asStartTag, asEndTag, asSkipped, isRun, runs, runEnd}
+use Rattle.document_text.specs.Means.{pieceOf, asStartTag, asEndTag, asSkipped}
 use Rattle.tags.specs.declared.Tag as here
 use Rattle.document_text.specs.declared.Token.{Token}
 use Rattle.document_text.specs.declared.Token.the-variants as token
@@ -212,43 +212,6 @@ module _ (s : List ℕ) (i : ℕ) (h : i < length s) where
 
   pub skipped-range : (e : ℕ) → piece s i ≡ got (skipped e) → (i < e) × (e ≤ length s)
   skipped-range e = read-in (length s) (PieceIn (length s) i) (piece s i) (skipped e) (piece-in s i h)
-
--- Runs of data.
-
--- A run goes on, or ends.
-pub runs-more : (n : ℕ) (s : List ℕ) (i : ℕ) → isRun (piece s i) ≡ true → runs (suc n) s i ≡ suc (runs n s (i + 1))
-unfolding runs
-runs-more n s i e = rw (runs, e)
-
-pub runs-none : (n : ℕ) (s : List ℕ) (i : ℕ) → isRun (piece s i) ≡ false → runs n s i ≡ 0
-unfolding runs
-runs-none zero s i e = refl
-runs-none (suc n) s i e = rw (runs, e)
-
--- A run stays within the positions that are left, and each of them stands in it.
-pub runs-le : (n : ℕ) (s : List ℕ) (i : ℕ) → runs n s i ≤ n
-unfolding runs
-runs-le zero s i = omega arith
-runs-le (suc n) s i = by-test (isRun (piece s i)) refl (runs-le n s (i + 1))
-  where
-    by-test : (b : Bool) → isRun (piece s i) ≡ b → runs n s (i + 1) ≤ n → runs (suc n) s i ≤ suc n
-    by-test true e h = omega (arith, runs-more n s i e)
-    by-test false e h = omega (arith, runs-none (suc n) s i e)
-
-pub runEnd-in : (s : List ℕ) (at : ℕ) → at ≤ length s → (at ≤ runEnd s at) × (runEnd s at ≤ length s)
-runEnd-in s at h = (omega arith, omega (arith, runs-le (length s - at) s at))
-
-pub runs-each : (n : ℕ) (s : List ℕ) (i k : ℕ) → k < runs n s i → isRun (piece s (i + k)) ≡ true
-unfolding runs
-runs-each zero s i k h = absurd (not-suc-le-zero h)
-runs-each (suc n) s i k h = by-test (isRun (piece s i)) refl k h (runs-each n s (i + 1))
-  where
-    by-test : (b : Bool) → isRun (piece s i) ≡ b → (k : ℕ) → k < runs (suc n) s i → ((j : ℕ) → j < runs n s (i + 1) → isRun (piece s (i + 1 + j)) ≡ true) → isRun (piece s (i + k)) ≡ true
-    by-test true e zero h ih = rw (add-zero i) e
-    by-test true e (suc k) h ih =
-        let l : i + suc k ≡ i + 1 + k = omega arith in
-        rw l (ih k (omega (arith, runs-more n s i e)))
-    by-test false e k h ih = absurd (not-suc-le-zero (rw (runs-none (suc n) s i e) at h))
 
 -- A token by cases: what the rules read, where the code's answer is known.
 module _ {x : Reading Piece} {r : Token} (e : pieceOf r ≡ x) where

@@ -21,8 +21,7 @@ use Rattle.rules_laws.specs.Holds.{got-so}
 use Rattle.model_sets.specs.Sets.{nextIn}
 use Rattle.model_sets.specs.Reach.{lastOr0, lastOr0-snoc}
 use Rattle.document_laws.specs.Decide.{search, fitsIn, decided}
-use Rattle.document_text.specs.Means.{isRun, runs, runEnd}
-use Rattle.document_text.specs.Laws.{runs-each, runEnd-in}
+use Rattle.rules_laws.specs.Runs.{isRun, runs, runEnd, runs-each, runEnd-in}
 use Rattle.last_places.specs.Last.{lastOnly, allLast, short, shortly, takeRun, pieces, joins}
 use Rattle.last_places.specs.Short.{state, took, withLast, allLast-twice, allLast-length, lastOnly-took, fitting-short, takeData-short, pieces-short}
 use Rattle.last_places.specs.Follows.{Follows, follows-fits, follows-on}

@@ -18,8 +18,7 @@ use Rattle.document_laws.specs.Decide.{decided}
 use Rattle.rules_laws.specs.Holds.{Holds, got-so}
 use Rattle.document_laws.specs.Moves.{At}
 use Rattle.document_laws.specs.Same.{begins}
-use Rattle.document_text.specs.Means.{isRun, runEnd}
-use Rattle.document_text.specs.Laws.{runEnd-in}
+use Rattle.rules_laws.specs.Runs.{isRun, runEnd, runEnd-in}
 use Rattle.last_places.specs.Last.{lastOnly, short, shortly, takeRun, pieces, joins}
 use Rattle.last_places.specs.Short.{lastOnly-twice, fitting-short, startElement-short, endElement-short, pieces-short}
 use Rattle.last_places.specs.Follows.{Follows, shortly-got, follows-start, follows-on, follows-by}

@@ -13,8 +13,8 @@ use Rattle.rules.specs.Decisions.{pcdata}
 use Rattle.document_laws.specs.Decide.{decided}
 use Rattle.text.specs.declared.Fault.{Fault}
 use Rattle.tags.specs.Tags.{tagIn}
-use Rattle.document_text.specs.Means.{isRun, runEnd}
-use Rattle.document_text.specs.Laws.{start-tag-in, end-tag-in, start-tag-range, end-tag-range, skipped-range, runEnd-in}
+use Rattle.rules_laws.specs.Runs.{isRun, runEnd, runEnd-in}
+use Rattle.document_text.specs.Laws.{start-tag-in, end-tag-in, start-tag-range, end-tag-range, skipped-range}
 use Rattle.tags.specs.declared.Tag as text
 use Rattle.last_places.specs.Last.{placed}
 use Rattle.pieces.specs.declared.Piece.{Piece}

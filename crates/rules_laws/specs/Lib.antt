@@ -6,3 +6,5 @@ pub mod Groups
 pub mod Declarations
 pub mod Within
 pub mod Pieces
+pub mod Names
+pub mod Runs

@@ -13,7 +13,7 @@ use Rattle.rules.specs.Judge.{placeAt}
 use Rattle.rules_laws.specs.Holds.{got-so}
 use Rattle.rules_laws.specs.Groups.{Builds, Built, content-read}
 use Rattle.rules_laws.specs.Declarations.{Declares}
-use Rattle.model_names.specs.Laws.{placeAt-append, placeAt-next}
+use Rattle.rules_laws.specs.Names.{placeAt-append, placeAt-next}
 use Rattle.model_sets.specs.Bits.{or-left, or-right, or-cases, and-both}
 use Rattle.model_sets.specs.Sets.{size, Numbered, has, follow}
 use Rattle.model_sets.specs.Path.{has-range}

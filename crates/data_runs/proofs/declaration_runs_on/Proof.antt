@@ -3,7 +3,7 @@ use Prim.Native.Nat.{_+_}
 use mathlib.Core.Path.{refl, sym, ap, _∙_}
 use borrow.Author.Needs.{needs}
 use Rattle.rules.specs.TypeFile.{commentDeclaration}
-use Rattle.document_text.specs.Means.{isRun}
+use Rattle.rules_laws.specs.Runs.{isRun}
 use Rattle.document_text.specs.Laws.{declaration-none, declaration-comment}
 use Rattle.data_runs.specs.Laws.{declaration-runs, skipped-stops}
 use Rattle.data_runs.proofs.declaration_runs_on.Statement.{statement}

@@ -3,7 +3,7 @@ use Prim.Native.Nat.{_+_}
 use mathlib.Core.Path.{refl, sym, ap, _∙_}
 use borrow.Author.Needs.{needs}
 use Rattle.rules.specs.Document.{tag}
-use Rattle.document_text.specs.Means.{isRun}
+use Rattle.rules_laws.specs.Runs.{isRun}
 use Rattle.document_text.specs.Laws.{markup-start, markup-end, markup-declaration}
 use Rattle.data_runs.specs.Laws.{markup-runs, start-stops, end-stops}
 use Rattle.data_runs.proofs.markup_runs_on.Statement.{statement}

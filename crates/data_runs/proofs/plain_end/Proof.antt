@@ -3,7 +3,7 @@ use Prim.Native.Nat.{_-_, _≤_}
 use mathlib.Core.Path.{_≡_, refl, sym, _∙_}
 use native.Mathlib.Omega.{arith}
 use lib.ListN.{length}
-use Rattle.document_text.specs.Means.{runEnd}
+use Rattle.rules_laws.specs.Runs.{runEnd}
 use Rattle.data_runs.specs.Laws.{plain-turn}
 use Rattle.data_runs.proofs.plain_end.Statement.{statement}
 use Rattle.data_runs.proofs.plain_end.Tie as tie

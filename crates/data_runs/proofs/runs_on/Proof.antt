@@ -1,7 +1,7 @@
 -- `runs_on` meets its contract: each way by the tests that led there.
 use mathlib.Core.Path.{sym, ap, _∙_}
 use borrow.Author.Needs.{needs}
-use Rattle.document_text.specs.Means.{isRun}
+use Rattle.rules_laws.specs.Runs.{isRun}
 use Rattle.document_text.specs.Laws.{piece-markup, piece-reference, piece-section, piece-byte}
 use Rattle.data_runs.specs.Laws.{byte-runs}
 use Rattle.data_runs.proofs.runs_on.Statement.{statement}

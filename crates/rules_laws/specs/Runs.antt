@@ -1,0 +1,63 @@
+-- Where a run of data ends, and laws of it.
+use Prim.Native.Nat.{ℕ, zero, suc, _+_, _-_, _≤_, _<_}
+use mathlib.Core.Path.{_≡_, refl}
+use mathlib.Core.Bool.{Bool, true, false}
+use mathlib.Core.List.{List}
+use native.Mathlib.Omega.{arith}
+use native.Mathlib.Nat.{add-zero, not-suc-le-zero}
+use lib.ListN.{length}
+use Rattle.rules.specs.Reading.{Reading, refused, got}
+use Rattle.rules.specs.Document.{Piece, startTag, endTag, skipped, blank, dataByte, piece}
+
+-- Whether a piece goes on a run of data.
+abbrev pub isRun : Reading Piece → Bool
+isRun (refused n k) = false
+isRun (got (startTag t)) = false
+isRun (got (endTag t)) = false
+isRun (got (skipped i)) = false
+isRun (got blank) = true
+isRun (got dataByte) = true
+
+-- How many of the n positions from i on stand in one run of data.
+unfoldable pub runs : ℕ → List ℕ → ℕ → ℕ
+runs zero d i = 0
+runs (suc n) d i = elim (isRun (piece d i)) [ true ↦ suc (runs n d (i + 1)) | false ↦ 0 ]
+
+-- Where the run of data from `at` on ends.
+abbrev pub runEnd : List ℕ → ℕ → ℕ
+runEnd d at = at + runs (length d - at) d at
+
+-- A run goes on, or ends.
+pub runs-more : (n : ℕ) (s : List ℕ) (i : ℕ) → isRun (piece s i) ≡ true → runs (suc n) s i ≡ suc (runs n s (i + 1))
+unfolding runs
+runs-more n s i e = rw (runs, e)
+
+pub runs-none : (n : ℕ) (s : List ℕ) (i : ℕ) → isRun (piece s i) ≡ false → runs n s i ≡ 0
+unfolding runs
+runs-none zero s i e = refl
+runs-none (suc n) s i e = rw (runs, e)
+
+-- A run stays within the positions that are left, and each of them stands in it.
+pub runs-le : (n : ℕ) (s : List ℕ) (i : ℕ) → runs n s i ≤ n
+unfolding runs
+runs-le zero s i = omega arith
+runs-le (suc n) s i = by-test (isRun (piece s i)) refl (runs-le n s (i + 1))
+  where
+    by-test : (b : Bool) → isRun (piece s i) ≡ b → runs n s (i + 1) ≤ n → runs (suc n) s i ≤ suc n
+    by-test true e h = omega (arith, runs-more n s i e)
+    by-test false e h = omega (arith, runs-none (suc n) s i e)
+
+pub runEnd-in : (s : List ℕ) (at : ℕ) → at ≤ length s → (at ≤ runEnd s at) × (runEnd s at ≤ length s)
+runEnd-in s at h = (omega arith, omega (arith, runs-le (length s - at) s at))
+
+pub runs-each : (n : ℕ) (s : List ℕ) (i k : ℕ) → k < runs n s i → isRun (piece s (i + k)) ≡ true
+unfolding runs
+runs-each zero s i k h = absurd (not-suc-le-zero h)
+runs-each (suc n) s i k h = by-test (isRun (piece s i)) refl k h (runs-each n s (i + 1))
+  where
+    by-test : (b : Bool) → isRun (piece s i) ≡ b → (k : ℕ) → k < runs (suc n) s i → ((j : ℕ) → j < runs n s (i + 1) → isRun (piece s (i + 1 + j)) ≡ true) → isRun (piece s (i + k)) ≡ true
+    by-test true e zero h ih = rw (add-zero i) e
+    by-test true e (suc k) h ih =
+        let l : i + suc k ≡ i + 1 + k = omega arith in
+        rw l (ih k (omega (arith, runs-more n s i e)))
+    by-test false e k h ih = absurd (not-suc-le-zero (rw (runs-none (suc n) s i e) at h))
