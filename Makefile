@@ -32,7 +32,7 @@ target/controller: examples/controller.c examples/position.h include/sgml.h $(LI
 # The tests alone, on what is proved and built.
 check: all
 	rt check sgml_events
-	for t in tests/*.sh; do echo "== $$t"; INSTALL= bash "$$t" || exit 1; done
+	for t in tests/*.sh; do echo "== $$t"; INSTALL= BUILT=yes bash "$$t" || exit 1; done
 
 # The gate: everything from nothing, the edits that must fail, and all the tests.
 test:

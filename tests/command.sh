@@ -7,7 +7,7 @@ out=target/tests/command
 rm -rf "$out"
 mkdir -p "$out"
 # make goes by the files' times; what the library is, rt decides
-{ rt staticlib sgml && make; } >"$out/make.log" 2>&1 || { cat "$out/make.log"; exit 1; }
+{ built && make; } >"$out/make.log" 2>&1 || { cat "$out/make.log"; exit 1; }
 strict="-Wall -Wextra -pedantic -Werror"
 library=target/staticlib/libsgml.a
 passed=0 failed=0 all_failed=0

@@ -4,7 +4,7 @@ cd "$(dirname "$0")/.."
 out=target/tests
 mkdir -p "$out"
 . tests/tools
-rt staticlib sgml >"$out/staticlib.log" 2>&1 || { cat "$out/staticlib.log"; exit 1; }
+built >"$out/staticlib.log" 2>&1 || { cat "$out/staticlib.log"; exit 1; }
 
 echo "the header as C99 and as C++"
 echo '#include "sgml.h"' >"$out/header.c"

@@ -12,6 +12,6 @@ if ! needs onsgmls opensp "the library beside onsgmls" || ! needs rustc rustc "t
     echo "0 passed, 0 failed"
     exit 0
 fi
-[ -n "${LIBRARY:-}" ] || rt staticlib sgml >"$out/staticlib.log" 2>&1 || { cat "$out/staticlib.log"; exit 1; }
+[ -n "${LIBRARY:-}" ] || built >"$out/staticlib.log" 2>&1 || { cat "$out/staticlib.log"; exit 1; }
 rustc -O --edition 2021 tests/oracle/opensp.rs -C link-arg="${LIBRARY:-target/staticlib/libsgml.a}" -o "$out/opensp"
 "$out/opensp" "$out/opensp.sgm" "${DOCUMENTS:-1500}" "${TYPES:-1000}" "${SEED:-1}"

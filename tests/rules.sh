@@ -6,7 +6,8 @@ export LC_ALL=C
 out=$PWD/target/tests/rules
 rm -rf "$out"
 mkdir -p "$out/case"
-{ rt staticlib sgml && make; } >"$out/make.log" 2>&1 || { cat "$out/make.log"; exit 1; }
+. tests/tools
+{ built && make; } >"$out/make.log" 2>&1 || { cat "$out/make.log"; exit 1; }
 PATH=$PWD/target:$PATH
 passed=0 failed=0 where="the beginning" seen=
 

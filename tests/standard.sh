@@ -3,7 +3,8 @@ set -eu
 cd "$(dirname "$0")/.."
 out=target/tests
 mkdir -p "$out"
-[ -n "${LIBRARY:-}" ] || rt staticlib sgml >"$out/staticlib.log" 2>&1 || { cat "$out/staticlib.log"; exit 1; }
+. tests/tools
+[ -n "${LIBRARY:-}" ] || built >"$out/staticlib.log" 2>&1 || { cat "$out/staticlib.log"; exit 1; }
 
 echo "the standard's own examples of omitted tags"
 cc -std=c99 -Wall -Wextra -pedantic -Werror -O2 -Iinclude tests/omitted.c "${LIBRARY:-target/staticlib/libsgml.a}" -o "$out/omitted"
