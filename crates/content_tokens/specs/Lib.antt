@@ -1,4 +1,4 @@
--- What is kept of a model while its content tokens are read, and laws of the rules that this goes by.
-pub mod Kept
+-- What content tokens add to a model, and laws of the rules that this goes by.
+pub mod Meets
 pub mod Readings
-pub mod Grown
+pub mod Tokens

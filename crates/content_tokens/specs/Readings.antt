@@ -6,10 +6,11 @@ use native.Mathlib.Omega.{arith}
 use Rattle.rules.specs.Reading.{Reading, refused, got, andThen}
 use Rattle.rules.specs.TypeFile.{Tokens}
 use Rattle.text.specs.declared.Fault.{Fault}
-use Rattle.content_tokens.specs.declared.Model.{Model}
+use Rattle.connectors.specs.declared.Model.{Model}
+use Rattle.connectors.specs.Kept.{Keeps}
 use Rattle.content_tokens.specs.declared.ModelRead.{ModelRead}
 use Rattle.content_tokens.specs.declared.ModelRead.the-variants.{Read, Refused}
-use Rattle.content_tokens.specs.Kept.{Keeps, Meets}
+use Rattle.content_tokens.specs.Meets.{Meets}
 
 module _ (end lo : ℕ) (T names table : List ℕ) where
   pub read-got : (m : Model) (x : Reading Tokens) → Meets end lo T names table (Read m) x → (t : Tokens) × (x ≡ got t) × Keeps end lo T names table m t

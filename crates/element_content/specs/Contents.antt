@@ -14,11 +14,12 @@ use Rattle.text.specs.Laws.{cut-or}
 use Rattle.text.specs.Means.{refusalOf}
 use Rattle.text.specs.declared.Fault.{Fault}
 use Rattle.model_table.specs.Fill.{blank, finished}
-use Rattle.content_tokens.specs.Kept.{Keeps, Meets, modelFault}
+use Rattle.connectors.specs.Kept.{Keeps}
+use Rattle.content_tokens.specs.Meets.{Meets, modelFault}
 use Rattle.content_tokens.specs.Readings.{refused-is}
 use Rattle.content_tokens.specs.declared.ModelRead.{ModelRead}
 use Rattle.content_tokens.specs.declared.ModelRead.the-variants as modelRead
-use Rattle.content_tokens.specs.declared.Model.{Model}
+use Rattle.connectors.specs.declared.Model.{Model}
 use Rattle.element_content.specs.declared.Body.{Body}
 use Rattle.element_content.specs.declared.BodyRead.{BodyRead}
 use Rattle.element_content.specs.declared.BodyRead.the-variants as bodyRead

@@ -86,7 +86,7 @@ fn body_model(s: &[u8], i: usize, names: &mut [u32; NAMES], table: &mut [u8; MOD
     let ModelRead::Read(g) = r else {
         return BodyRead::Refused(content_tokens::fault_of(r));
     };
-    let m = content_tokens::with_occurrence(s, table, 1, g);
+    let m = connectors::with_occurrence(s, table, 1, g);
     let part = m.part;
     model_table::finish(table, part);
     BodyRead::Read(Body {

@@ -6,7 +6,7 @@ use Rattle.rules.specs.Reading.{Reading, refused, got}
 use Rattle.rules.specs.TypeFile.{Further, closed, joined}
 use Rattle.group_reader.specs.declared.Next.{Next}
 use Rattle.group_reader.specs.declared.Next.the-variants.{Closed, Joined, Unfit}
-use Rattle.content_tokens.specs.Kept.{Keeps}
+use Rattle.connectors.specs.Kept.{Keeps}
 
 -- An answer stands for a reading: the group's end, a further content token with what is kept of both, or a refusal.
 abbrev pub MeetsFurther : (end lo : ℕ) (T names table : List ℕ) → Next → Reading Further → Type 0

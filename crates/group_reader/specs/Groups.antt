@@ -17,12 +17,13 @@ use Rattle.model_sets.specs.Sets.{size, Numbered}
 use Rattle.model_table.specs.Fill.{fill, partSeq, partAlt, joinSeq}
 use Rattle.model_names.specs.Places.{placesOf}
 use Rattle.rules_laws.specs.Groups.{further-room}
-use Rattle.content_tokens.specs.declared.Model.{Model}
+use Rattle.connectors.specs.declared.Model.{Model}
 use Rattle.content_tokens.specs.declared.ModelRead.{ModelRead}
 use Rattle.content_tokens.specs.declared.ModelRead.the-variants.{Read, Refused}
-use Rattle.content_tokens.specs.Kept.{Keeps, Meets, modelFault, joinModel, joinTable}
+use Rattle.connectors.specs.Kept.{Keeps, joinModel, joinTable}
+use Rattle.content_tokens.specs.Meets.{Meets, modelFault}
 use Rattle.content_tokens.specs.Readings.{read-got, refused-is, got-meets, refused-meets}
-use Rattle.content_tokens.specs.Grown.{grouped, keeps-on}
+use Rattle.connectors.specs.Grown.{grouped, keeps-on}
 use Rattle.group_reader.specs.declared.Next.{Next}
 use Rattle.group_reader.specs.declared.Next.the-variants.{Closed, Joined, Unfit}
 use Rattle.group_reader.specs.Further.{MeetsFurther}

@@ -1,5 +1,5 @@
 // The recursive reader of model groups: bytes in, the model's places and its table out.
-use content_tokens::Model;
+use connectors::Model;
 use content_tokens::ModelRead;
 use layout::MODEL;
 use layout::NAMES;
@@ -11,7 +11,8 @@ ghost use Prim.Native.Nat.{ℕ, _+_, _≤_, _<_};
 ghost use lib.ListN.{length};
 ghost use Rattle.rules.specs.TypeFile.{Tokens, token, further, group};
 ghost use Rattle.model_names.specs.Places.{placesOf};
-ghost use Rattle.content_tokens.specs.Kept.{Keeps, Meets};
+ghost use Rattle.connectors.specs.Kept.{Keeps};
+ghost use Rattle.content_tokens.specs.Meets.{Meets};
 ghost use Rattle.group_reader.specs.Further.{MeetsFurther};
 
 // What follows a content token: the group's end, or a connector and a further content token.
@@ -52,7 +53,7 @@ fn token_at(
         let ModelRead::Read(m) = r else {
             return r;
         };
-        return ModelRead::Read(content_tokens::with_occurrence(s, table, places + 1, m));
+        return ModelRead::Read(connectors::with_occurrence(s, table, places + 1, m));
     }
     if b == b'[' || b == b'%' {
         return content_tokens::refusal(5, at);
@@ -93,7 +94,7 @@ fn next_at(
     if b == b'&' || b == b'%' {
         return Next::Unfit(Fault { number: 5, at: i });
     }
-    if !content_tokens::is_connector(b, c) {
+    if !connectors::is_connector(b, c) {
         return Next::Unfit(Fault { number: 4, at: i });
     }
     let j = text::separators_end(s, i + 1);
@@ -102,7 +103,7 @@ fn next_at(
     let ModelRead::Read(u) = r else {
         return Next::Unfit(content_tokens::fault_of(r));
     };
-    Next::Joined(b, content_tokens::joined_by(table, b, lo, m, u))
+    Next::Joined(b, connectors::joined_by(table, b, lo, m, u))
 }
 
 // A group whose "(" stands at `at`; `levels` is how many group levels are left. Where it is refused, what `names` and `table` hold

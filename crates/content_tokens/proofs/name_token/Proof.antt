@@ -4,7 +4,7 @@ use native.Mathlib.Omega.{arith}
 use borrow.Author.Needs.{needs}
 use Rattle.text.specs.Laws.{nameEnd-from, nameEnd-le}
 use Rattle.content_tokens.specs.Readings.{got-meets, refused-meets}
-use Rattle.content_tokens.specs.Grown.{name-long, name-full, name-got, new-place}
+use Rattle.content_tokens.specs.Tokens.{name-long, name-full, name-got, new-place}
 use Rattle.content_tokens.proofs.name_token.Statement.{statement}
 use Rattle.content_tokens.proofs.name_token.Tie as tie
 

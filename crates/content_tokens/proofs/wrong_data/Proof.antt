@@ -1,6 +1,6 @@
 -- `wrong_data` meets its contract: each way by what `is_cut` says.
 use borrow.Author.Needs.{needs}
-use Rattle.content_tokens.specs.Grown.{wrong-cut, wrong-whole}
+use Rattle.content_tokens.specs.Tokens.{wrong-cut, wrong-whole}
 use Rattle.content_tokens.proofs.wrong_data.Statement.{statement}
 use Rattle.content_tokens.proofs.wrong_data.Tie as tie
 

@@ -7,7 +7,7 @@ use borrow.Author.Needs.{needs}
 use Rattle.rules.specs.Bytes.{GRPLVL}
 use Rattle.rules.specs.Reading.{got}
 use Rattle.rules.specs.TypeFile.{Tokens, group}
-use Rattle.content_tokens.specs.Kept.{Keeps}
+use Rattle.connectors.specs.Kept.{Keeps}
 use Rattle.content_tokens.specs.Readings.{read-got}
 use Rattle.model_names.specs.Places.{placesOf}
 use Rattle.element_content.specs.Contents.{model-fault, model-refused, model-got, model-kept, body-meets, body-refused}

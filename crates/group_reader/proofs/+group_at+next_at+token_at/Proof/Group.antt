@@ -10,7 +10,7 @@ use borrow.Author.Tests.{leb-false}
 use Rattle.rules.specs.TypeFile.{Tokens, group, token, members}
 use Rattle.model_names.specs.Places.{placesOf}
 use Rattle.text.specs.Laws.{separatorsEnd-le}
-use Rattle.content_tokens.specs.Kept.{Keeps}
+use Rattle.connectors.specs.Kept.{Keeps}
 use Rattle.content_tokens.specs.Readings.{refused-meets, refused-then}
 use Rattle.group_reader.specs.Groups.{group-none, group-some, group-begun, So, so-first, so-in, so-closed, so-unfit, so-joined}
 use Rattle.group_reader.proofs.group_at.Reads as group-at

@@ -14,11 +14,11 @@ use Rattle.group_reader.proofs.token_at.Kinds as token-at-kinds
 use Rattle.group_reader.proofs.+group_at+next_at+token_at.Lts-token_at as token-at-lts
 use Rattle.content_tokens.proofs.data_token.Reads as data-token-reads
 use Rattle.content_tokens.proofs.fault_of.Reads as fault-of-reads
-use Rattle.content_tokens.proofs.is_connector.Reads as is-connector-reads
-use Rattle.content_tokens.proofs.joined_by.Reads as joined-by-reads
+use Rattle.connectors.proofs.is_connector.Reads as is-connector-reads
+use Rattle.connectors.proofs.joined_by.Reads as joined-by-reads
 use Rattle.content_tokens.proofs.name_token.Reads as name-token-reads
 use Rattle.content_tokens.proofs.refusal.Reads as refusal-reads
-use Rattle.content_tokens.proofs.with_occurrence.Reads as with-occurrence-reads
+use Rattle.connectors.proofs.with_occurrence.Reads as with-occurrence-reads
 use Rattle.text.proofs.byte.Reads as byte-reads
 use Rattle.text.proofs.is_letter.Reads as is-letter-reads
 use Rattle.text.proofs.separators_end.Reads as separators-end-reads

@@ -1,8 +1,8 @@
 -- `with_occurrence` meets its contract: what is kept goes through each of the indicators, or there is none.
 use borrow.Author.Needs.{needs}
-use Rattle.content_tokens.specs.Grown.{occurs-opt, occurs-plus, occurs-star, occurs-not}
-use Rattle.content_tokens.proofs.with_occurrence.Statement.{statement}
-use Rattle.content_tokens.proofs.with_occurrence.Tie as tie
+use Rattle.connectors.specs.Grown.{occurs-opt, occurs-plus, occurs-star, occurs-not}
+use Rattle.connectors.proofs.with_occurrence.Statement.{statement}
+use Rattle.connectors.proofs.with_occurrence.Tie as tie
 
 byte-requires : tie.Need-byte-requires
 byte-requires c κs = search needs

@@ -1,8 +1,8 @@
 -- `joined_by` meets its contract, by the two connectors.
 use borrow.Author.Needs.{needs}
-use Rattle.content_tokens.specs.Grown.{by-seq, by-alt}
-use Rattle.content_tokens.proofs.joined_by.Statement.{statement}
-use Rattle.content_tokens.proofs.joined_by.Tie as tie
+use Rattle.connectors.specs.Grown.{by-seq, by-alt}
+use Rattle.connectors.proofs.joined_by.Statement.{statement}
+use Rattle.connectors.proofs.joined_by.Tie as tie
 
 add-join-seq : tie.Need-add-join-seq
 add-join-seq c = search needs

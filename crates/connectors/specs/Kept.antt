@@ -1,19 +1,15 @@
 -- What is kept of a model while it is read, in the rules' terms.
 use Prim.Native.Nat.{ℕ, _+_, _≤_}
 use mathlib.Core.Path.{_≡_}
+use mathlib.Core.Bool.{cond}
 use mathlib.Core.List.{List}
 use lib.ListN.{length}
-use Rattle.rules.specs.Reading.{Reading, refused, got}
-use Rattle.rules.specs.TypeFile.{Tokens, isCut, PCDATA}
-use Rattle.model_sets.specs.Sets.{size, Numbered}
-use mathlib.Core.Bool.{cond}
 use lib.Dec.{eqb}
+use Rattle.rules.specs.TypeFile.{Tokens}
+use Rattle.model_sets.specs.Sets.{size, Numbered}
 use Rattle.model_table.specs.Fill.{fill, partOf, partSeq, partAlt, joinSeq}
-use Rattle.text.specs.declared.Fault.{Fault}
 use Rattle.model_names.specs.Places.{placesOf}
-use Rattle.content_tokens.specs.declared.Model.{Model}
-use Rattle.content_tokens.specs.declared.ModelRead.{ModelRead}
-use Rattle.content_tokens.specs.declared.ModelRead.the-variants.{Read, Refused}
+use Rattle.connectors.specs.declared.Model.{Model}
 
 -- m is what the code keeps of t beside its two tables: of an input of `end` bytes, the group's places from `lo` on, over the table T.
 pub record Keeps (end : ℕ) (lo : ℕ) (T names table : List ℕ) (m : Model) (t : Tokens) : Type 0 where
@@ -30,13 +26,6 @@ pub record Keeps (end : ℕ) (lo : ℕ) (T names table : List ℕ) (m : Model) (
   pub places-in : length (t .places) ≤ t .tokens
   pub tokens-in : t .tokens ≤ 96
 
--- An answer stands for a reading: a refusal with its number and position, or a model with what is kept of it.
-abbrev pub Meets : (end lo : ℕ) (T names table : List ℕ) → ModelRead → Reading Tokens → Type 0
-Meets end lo T names table (Read m) (got t) = Keeps end lo T names table m t
-Meets end lo T names table (Read m) (refused n k) = ⊥
-Meets end lo T names table (Refused f) (got t) = ⊥
-Meets end lo T names table (Refused f) (refused n k) = (f .number ≡ n) × (f .at ≡ k)
-
 -- Two groups of a model joined by the connector b, as the code does it.
 abbrev pub joinModel : ℕ → Model → Model → Model
 joinModel b m u =
@@ -44,12 +33,3 @@ joinModel b m u =
 
 abbrev pub joinTable : ℕ → ℕ → Model → Model → List ℕ → List ℕ
 joinTable b lo m u T = cond (eqb b 44) (joinSeq T lo (m .places + 1) (u .places + 1) (m .part) (u .part)) T
-
--- The refusal in an answer that is one.
-abbrev pub modelFault : ModelRead → Fault
-modelFault (Read m) = record { number = 0; at = 0 }
-modelFault (Refused f) = f
-
--- Where a word after the `#` at `at` makes number 4 stand, that ends at e and is not PCDATA.
-abbrev pub wrongData : List ℕ → (at e : ℕ) → ℕ
-wrongData s at e = cond (isCut s (at + 1) e PCDATA) (length s) at

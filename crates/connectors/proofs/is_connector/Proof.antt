@@ -4,8 +4,8 @@ use mathlib.Core.Bool.{_||_}
 use mathlib.Core.Logic.{⊎-elim}
 use lib.Dec.{eqb}
 use borrow.Author.Tests.{eq-eqb, ne-eqb}
-use Rattle.content_tokens.proofs.is_connector.Statement.{statement}
-use Rattle.content_tokens.proofs.is_connector.Tie as tie
+use Rattle.connectors.proofs.is_connector.Statement.{statement}
+use Rattle.connectors.proofs.is_connector.Tie as tie
 
 kinds : (c : tie.Joined1) → c .if1 .if2 ≡ (eqb (c .before .args .b) 44 || eqb (c .before .args .b) 124)
 kinds c = ⊎-elim (λ w. cc (eq-eqb _ _ (w .0 .taken))) (λ w. cc (ne-eqb _ _ (w .0 .left))) (c .if1 .came)

@@ -1,0 +1,3 @@
+-- What is kept of a model while it is read, and how it grows.
+pub mod Kept
+pub mod Grown
