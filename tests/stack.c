@@ -26,27 +26,25 @@ static void text(const char *what, int times)
         type_len += (size_t)sprintf(type + type_len, "%s", what);
 }
 
-static void look(const uint32_t *answer)
+static void look(uint32_t number, const uint32_t *answer)
 {
-    if (answer[SGML_ANSWER_NUMBER] == expected)
+    if (number == expected)
         return;
     wrong = 1;
-    printf("answered %u at %u, expected %u\n", (unsigned)answer[SGML_ANSWER_NUMBER], (unsigned)answer[SGML_ANSWER_POSITION], (unsigned)expected);
+    printf("answered %u at %u, expected %u\n", (unsigned)number, (unsigned)answer[SGML_ANSWER_POSITION], (unsigned)expected);
 }
 
 static void *judge_call(void *buffer)
 {
     uint32_t answer[SGML_ANSWER_SIZE];
-    sgml_judge((const uint8_t *)type, type_len, buffer, ROOM, answer);
-    look(answer);
+    look(sgml_judge((const uint8_t *)type, type_len, buffer, ROOM, answer), answer);
     return NULL;
 }
 
 static void *read_call(void *buffer)
 {
     uint32_t answer[SGML_ANSWER_SIZE];
-    sgml_read((const uint8_t *)type, type_len, (const uint8_t *)document, strlen(document), buffer, ROOM, answer);
-    look(answer);
+    look(sgml_read((const uint8_t *)type, type_len, (const uint8_t *)document, strlen(document), buffer, ROOM, answer), answer);
     return NULL;
 }
 
