@@ -91,7 +91,8 @@ pub fn with_occurrence(s: &[u8], table: &mut [u8; MODEL], lo: usize, m: Model) -
     m
 }
 
-// A name as content token. Where it is refused, what `names` and `table` hold is not decided.
+// A name as content token. Where it is refused, what `names` and `table` hold is not decided; nor is, here and below, what `names` holds
+// behind the places that were read.
 pub fn name_token(
     s: &[u8],
     at: usize,

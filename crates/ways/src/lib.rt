@@ -157,7 +157,7 @@ pub fn opens(facts: &[u8; FACTS], x: usize) -> bool
     type_tables::has_model(facts, x)
 }
 
-// Whether the document element was there and has ended.
+// Whether the document element was there and has ended. Of a state that stands in no type the answer is not decided.
 pub fn is_over(o: Open) -> bool
     ensures { λ r. ⌜ ((s : List ℕ) (es : List Element) → Stands es o → (before : List Event) → r ≡ isOver s es (decided s es) (stateOf o before)) ⌝ }
 {
