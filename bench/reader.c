@@ -28,20 +28,20 @@ int main(int argc, char **argv)
     size_t t = argc < 2 ? 0 : load(argv[1], type, sizeof type);
     int i, k;
     for (i = 2; i < argc; i++) {
-        uint32_t answer[SGML_ANSWER_SIZE];
+        uint32_t answer[SGML_ANSWER_SIZE], number = 0;
         double best = 1e12;
         size_t d = load(argv[i], document, sizeof document);
         for (k = 0; k < 300; k++) {
             double start;
             memset(buffer, 0, sizeof buffer);
             start = now();
-            sgml_read(type, t, document, d, buffer, sizeof buffer, answer);
+            number = sgml_read(type, t, document, d, buffer, sizeof buffer, answer);
             start = now() - start;
             if (start < best)
                 best = start;
         }
-        if (answer[SGML_ANSWER_NUMBER]) {
-            fprintf(stderr, "%s: refused %u at %u\n", argv[i], (unsigned)answer[SGML_ANSWER_NUMBER], (unsigned)answer[SGML_ANSWER_POSITION]);
+        if (number) {
+            fprintf(stderr, "%s: refused %u at %u\n", argv[i], (unsigned)number, (unsigned)answer[SGML_ANSWER_POSITION]);
             return 1;
         }
         printf("%s %.2f %u\n", argv[i], best, (unsigned)answer[SGML_ANSWER_COUNT]);

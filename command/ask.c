@@ -19,9 +19,9 @@ struct reply {
     size_t position;
 };
 
-static struct reply reply_of(const uint32_t *answer)
+static struct reply reply_of(uint32_t number, const uint32_t *answer)
 {
-    struct reply r = { answer[SGML_ANSWER_NUMBER], answer[SGML_ANSWER_INPUT], answer[SGML_ANSWER_POSITION] };
+    struct reply r = { number, answer[SGML_ANSWER_INPUT], answer[SGML_ANSWER_POSITION] };
     return r;
 }
 
@@ -39,8 +39,7 @@ static struct reply ask_type(const struct input *type, size_t cut, const char *t
     static uint8_t room[SGML_TYPE_LIMIT + TAIL];
     struct input whole = joined(type, cut, tail, room);
     uint32_t answer[SGML_ANSWER_SIZE];
-    sgml_judge(whole.bytes, whole.length, NULL, 0, answer);
-    return reply_of(answer);
+    return reply_of(sgml_judge(whole.bytes, whole.length, NULL, 0, answer), answer);
 }
 
 static struct reply ask_document(const struct input *type, const struct input *document, size_t cut, const char *tail)
@@ -48,9 +47,8 @@ static struct reply ask_document(const struct input *type, const struct input *d
     static uint8_t room[SGML_DOCUMENT_LIMIT + TAIL];
     struct input whole = joined(document, cut, tail, room);
     uint32_t answer[SGML_ANSWER_SIZE];
-    sgml_read(type->bytes, type->length, whole.bytes, whole.length, NULL, 0, answer);
     work += 5 * type->length + whole.length;
-    return reply_of(answer);
+    return reply_of(sgml_read(type->bytes, type->length, whole.bytes, whole.length, NULL, 0, answer), answer);
 }
 
 void begin_question(struct question *q, const struct input *type, const struct input *document, size_t cut)
@@ -59,8 +57,7 @@ void begin_question(struct question *q, const struct input *type, const struct i
     q->type = type;
     q->document = document;
     q->cut = cut;
-    sgml_judge(type->bytes, type->length, q->records, sizeof q->records, answer);
-    q->elements = answer[SGML_ANSWER_COUNT];
+    q->elements = sgml_judge(type->bytes, type->length, q->records, sizeof q->records, answer) ? 0 : answer[SGML_ANSWER_COUNT];
 }
 
 /* 3 to 8 come by position, and before 9 and 19: so a word is unfit exactly if one of them stands at it or before it. */
@@ -197,8 +194,7 @@ uint8_t *events_of(const struct input *type, const struct input *document, uint3
         uint8_t *events = malloc(room);
         if (!events)
             return NULL;
-        sgml_read(type->bytes, type->length, document->bytes, document->length, events, room, answer);
-        if (answer[SGML_ANSWER_NUMBER] != SGML_ERR_NO_ROOM || room >= most)
+        if (sgml_read(type->bytes, type->length, document->bytes, document->length, events, room, answer) != SGML_ERR_NO_ROOM || room >= most)
             return events;
         free(events);
         room = 4 * room < most ? 4 * room : most;

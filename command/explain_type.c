@@ -101,8 +101,7 @@ static int is_token(const struct input *type, size_t at, size_t length)
     memcpy(changed, type->bytes, at);
     changed[at] = '[';
     memcpy(changed + at + 1, type->bytes + at + length, type->length - at - length);
-    sgml_judge(changed, type->length - length + 1, NULL, 0, answer);
-    return answer[SGML_ANSWER_NUMBER] == SGML_ERR_LEFT_OUT && answer[SGML_ANSWER_POSITION] == at;
+    return sgml_judge(changed, type->length - length + 1, NULL, 0, answer) == SGML_ERR_LEFT_OUT && answer[SGML_ANSWER_POSITION] == at;
 }
 
 /* The name is one of those that stand one after the other, each in SGML_NAMELEN bytes and a zero. */

@@ -164,13 +164,13 @@ static enum status answered(const struct input *type, const struct input *docume
 {
     static uint8_t events[4 * 16384];
     uint32_t answer[SGML_ANSWER_SIZE];
-    sgml_read(type->bytes, type->length, document->bytes, document->length, events, sizeof events, answer);
-    if (answer[SGML_ANSWER_NUMBER])
-        printf("refused %u in %s at %u\n", (unsigned)answer[SGML_ANSWER_NUMBER],
+    uint32_t number = sgml_read(type->bytes, type->length, document->bytes, document->length, events, sizeof events, answer);
+    if (number)
+        printf("refused %u in %s at %u\n", (unsigned)number,
                answer[SGML_ANSWER_INPUT] == SGML_IN_TYPE ? "type" : "document", (unsigned)answer[SGML_ANSWER_POSITION]);
     else
         print_events(type, events, answer[SGML_ANSWER_COUNT]);
-    return written(answer[SGML_ANSWER_NUMBER] ? REFUSED : ACCEPTED);
+    return written(number ? REFUSED : ACCEPTED);
 }
 
 /* One document and its own result. */
@@ -208,15 +208,15 @@ static enum status judge(const struct job *job, const struct input *type, const 
 static enum status run(struct job *job)
 {
     struct input type = { job->type, type_bytes, 0 };
-    uint32_t answer[SGML_ANSWER_SIZE];
+    uint32_t answer[SGML_ANSWER_SIZE], number;
     enum status status = ACCEPTED;
     int i;
     if (load(&type, sizeof type_bytes))
         return NOT_RUN;
-    sgml_judge(type.bytes, type.length, records, sizeof records, answer);
+    number = sgml_judge(type.bytes, type.length, records, sizeof records, answer);
     if (!job->count)
         return judge(job, &type, answer);
-    if (answer[SGML_ANSWER_NUMBER] && job->form != ANSWER)
+    if (number && job->form != ANSWER)
         job->count = 1; /* a type that is refused is told of once */
     for (i = 0; i < job->count; i++) {
         struct input document = { job->documents[i], document_bytes, 0 };

@@ -6,8 +6,7 @@
  *     uint32_t answer[SGML_ANSWER_SIZE];
  *     size_t room = SGML_EVENT_BYTES * SGML_MOST_EVENTS(document_len), k;
  *     uint8_t *buffer = malloc(room);
- *     sgml_read(type, type_len, document, document_len, buffer, room, answer);
- *     if (answer[SGML_ANSWER_NUMBER]) {
+ *     if (sgml_read(type, type_len, document, document_len, buffer, room, answer)) {
  *         printf("%s at byte %u\n", sgml_refusal_text(answer[SGML_ANSWER_NUMBER]), (unsigned)answer[SGML_ANSWER_POSITION]);
  *         return 1;
  *     }
@@ -40,11 +39,18 @@
 #include <stddef.h>
 #include <stdint.h>
 
-#define SGML_VERSION "0.2.0"
-#define SGML_VERSION_NUMBER 200 /* 10000 times the major version, 100 times the minor one and the patch */
+#define SGML_VERSION "0.3.0"
+#define SGML_VERSION_NUMBER 300 /* 10000 times the major version, 100 times the minor one and the patch */
 
 #ifdef __cplusplus
 extern "C" {
+#endif
+
+/* Marks a call whose answer must be looked at: gcc and clang warn of one that is not. */
+#if defined(__GNUC__)
+#define SGML_LOOK_AT_ANSWER __attribute__((warn_unused_result))
+#else
+#define SGML_LOOK_AT_ANSWER
 #endif
 
 /* The limits. */
@@ -197,8 +203,11 @@ struct sgml_event {
  *
  * Accepted (answer[SGML_ANSWER_NUMBER] is 0): the buffer begins with answer[SGML_ANSWER_COUNT] records of SGML_RECORD_SIZE
  * numbers, one for each element in declaration order; every byte behind them is as it was.
- * Refused: every byte of the buffer is zero and answer[SGML_ANSWER_COUNT] is 0. */
-void sgml_judge(const uint8_t *type, size_t type_len, uint8_t *buffer, size_t buffer_len, uint32_t answer[SGML_ANSWER_SIZE]);
+ * Refused: every byte of the buffer is zero and answer[SGML_ANSWER_COUNT] is 0.
+ *
+ * Gives back answer[SGML_ANSWER_NUMBER]: SGML_ACCEPTED, which is 0, or the refusal's number. */
+SGML_LOOK_AT_ANSWER uint32_t sgml_judge(const uint8_t *type, size_t type_len, uint8_t *buffer, size_t buffer_len,
+                                        uint32_t answer[SGML_ANSWER_SIZE]);
 
 /* Reads a document under a type file, which is judged afresh.
  *
@@ -211,9 +220,11 @@ void sgml_judge(const uint8_t *type, size_t type_len, uint8_t *buffer, size_t bu
  * Accepted (answer[SGML_ANSWER_NUMBER] is 0): the buffer begins with answer[SGML_ANSWER_COUNT] events of SGML_EVENT_SIZE numbers,
  * in the order of the document; every byte behind them is as it was.
  * Refused: every byte of the buffer is zero and answer[SGML_ANSWER_COUNT] is 0. SGML_ERR_NO_ROOM is given only where nothing
- * else is wrong; position 0 of input SGML_IN_DOCUMENT. */
-void sgml_read(const uint8_t *type, size_t type_len, const uint8_t *document, size_t document_len, uint8_t *buffer,
-               size_t buffer_len, uint32_t answer[SGML_ANSWER_SIZE]);
+ * else is wrong; position 0 of input SGML_IN_DOCUMENT.
+ *
+ * Gives back answer[SGML_ANSWER_NUMBER], as sgml_judge does. */
+SGML_LOOK_AT_ANSWER uint32_t sgml_read(const uint8_t *type, size_t type_len, const uint8_t *document, size_t document_len,
+                                       uint8_t *buffer, size_t buffer_len, uint32_t answer[SGML_ANSWER_SIZE]);
 
 /* The k-th number of a lent buffer. */
 static inline uint32_t sgml_number(const uint8_t *buffer, size_t k)

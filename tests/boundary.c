@@ -10,8 +10,8 @@ static uint32_t judged(const char *text, size_t room, size_t count)
     struct slice lent = lend(NULL, 4 * SGML_ANSWER_SIZE, 0);
     uint32_t *answer = (uint32_t *)(void *)lent.bytes, number;
     size_t used;
-    sgml_judge(type.bytes, type.length, buffer.bytes, room, answer);
-    number = answer[SGML_ANSWER_NUMBER];
+    number = sgml_judge(type.bytes, type.length, buffer.bytes, room, answer);
+    check(number == answer[SGML_ANSWER_NUMBER], "the call gives back the answer's number");
     if (number) {
         check(all(buffer.bytes, room, 0), "a refusal zeroes the whole buffer, odd bytes too");
         check(answer[SGML_ANSWER_COUNT] == 0 && answer[SGML_ANSWER_INPUT] == SGML_IN_TYPE, "count and input of a refusal");
@@ -65,7 +65,7 @@ static void check_records(const char *two)
     uint32_t answer[SGML_ANSWER_SIZE];
     char name[SGML_NAMELEN + 1];
     struct sgml_record a, b;
-    sgml_judge((const uint8_t *)two, strlen(two), records, sizeof records, answer);
+    check(sgml_judge((const uint8_t *)two, strlen(two), records, sizeof records, answer) == SGML_ACCEPTED, "two elements");
     a = sgml_record_at(records, 0);
     b = sgml_record_at(records, 1);
     check(a.name_offset == 10 && a.name_length == 3 && !a.start_tag && a.end_tag && a.content == 1 && a.tokens == 2, "a record");
@@ -88,7 +88,7 @@ int main(int argc, char **argv)
     for (room = 0; room < 8; room++)
         check(judged("<!ELEMENT A - O (B?,B)>", room, 0) == SGML_ERR_AMBIGUOUS, "9 comes before 19");
     memset(answer, FILL, sizeof answer);
-    sgml_judge(NULL, 0, NULL, 0, answer);
+    check(sgml_judge(NULL, 0, NULL, 0, answer) == SGML_ERR_ELEMENTS, "null and empty, given back");
     check(answer[SGML_ANSWER_NUMBER] == SGML_ERR_ELEMENTS && answer[SGML_ANSWER_POSITION] == 0, "null and empty");
     check_texts();
     check_records("<!ELEMENT a.1 - O (B,#PCDATA)><!ELEMENT B O O EMPTY>");

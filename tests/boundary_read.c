@@ -43,8 +43,8 @@ static uint32_t number_of(const char *type_text, const char *text, size_t room, 
     struct slice type = lend(type_text, strlen(type_text), (skew + 1) % 4), document = lend(text, strlen(text), (skew + 3) % 4);
     struct slice buffer = lend(NULL, room, skew), lent = lend(NULL, 4 * SGML_ANSWER_SIZE, 0);
     uint32_t *answer = (uint32_t *)(void *)lent.bytes, number;
-    sgml_read(type.bytes, type.length, document.bytes, document.length, buffer.bytes, room, answer);
-    number = answer[SGML_ANSWER_NUMBER];
+    number = sgml_read(type.bytes, type.length, document.bytes, document.length, buffer.bytes, room, answer);
+    check(number == answer[SGML_ANSWER_NUMBER], "the call gives back the answer's number");
     check_answer(answer, buffer);
     if (text == clamp && !number)
         check(answer[SGML_ANSWER_COUNT] == 15 && are_clamp_events(buffer.bytes), "the events of the shelf's document");
@@ -80,7 +80,7 @@ static void check_slices(const char *type, size_t type_len, const char *document
 {
     uint32_t answer[SGML_ANSWER_SIZE];
     memset(answer, FILL, sizeof answer);
-    sgml_read((const uint8_t *)type, type_len, (const uint8_t *)document, document_len, NULL, 0, answer);
+    check(sgml_read((const uint8_t *)type, type_len, (const uint8_t *)document, document_len, NULL, 0, answer) == number, what);
     check(answer[SGML_ANSWER_NUMBER] == number && answer[SGML_ANSWER_INPUT] == input && answer[SGML_ANSWER_POSITION] == position &&
               answer[SGML_ANSWER_FIRST] == 0 && answer[SGML_ANSWER_SECOND] == 0 && answer[SGML_ANSWER_COUNT] == 0, what);
 }

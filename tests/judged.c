@@ -41,22 +41,22 @@ int main(int argc, char **argv)
     char expected[64];
     int i;
     for (i = 1; i < argc; i++) {
-        uint32_t answer[SGML_ANSWER_SIZE];
+        uint32_t answer[SGML_ANSWER_SIZE], given;
         unsigned number, position;
         size_t n = content_of(argv[i], "expected", (uint8_t *)expected, sizeof expected - 1);
         expected[n] = 0;
         expected[strcspn(expected, "\n")] = 0;
         n = content_of(argv[i], "type.sgm", type, sizeof type);
-        sgml_judge(type, n, buffer, sizeof buffer, answer);
+        given = sgml_judge(type, n, buffer, sizeof buffer, answer);
         if (sscanf(expected, "refused %u in type at %u", &number, &position) == 2)
             hold(argv[i],
-                 answer[SGML_ANSWER_NUMBER] == number && answer[SGML_ANSWER_INPUT] == SGML_IN_TYPE &&
+                 given == number && answer[SGML_ANSWER_NUMBER] == number && answer[SGML_ANSWER_INPUT] == SGML_IN_TYPE &&
                      answer[SGML_ANSWER_POSITION] == position,
                  expected, answer);
         else if (sscanf(expected, "refused %u in document", &number) == 1 && number < 10)
             continue;
         else
-            hold(argv[i], answer[SGML_ANSWER_NUMBER] == 0 && answer[SGML_ANSWER_COUNT] > 0, expected, answer);
+            hold(argv[i], given == 0 && answer[SGML_ANSWER_NUMBER] == 0 && answer[SGML_ANSWER_COUNT] > 0, expected, answer);
     }
     printf("%d passed, %d failed\n", passed, failed);
     return failed != 0 || passed == 0;

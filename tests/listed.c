@@ -12,7 +12,7 @@ int main(int argc, char **argv)
     if (!file)
         return 2;
     while (fgets(line, sizeof line, file)) {
-        uint32_t answer[SGML_ANSWER_SIZE];
+        uint32_t answer[SGML_ANSWER_SIZE], given;
         unsigned number, first = 0, second = 0;
         char *type = strstr(line, " | "), *at;
         size_t position = 0;
@@ -30,8 +30,8 @@ int main(int argc, char **argv)
             position = (size_t)(at - type);
             memmove(at, at + 1, strlen(at));
         }
-        sgml_judge((const uint8_t *)type, strlen(type), buffer, sizeof buffer, answer);
-        if (answer[SGML_ANSWER_NUMBER] == number && answer[SGML_ANSWER_POSITION] == position && answer[SGML_ANSWER_FIRST] == first &&
+        given = sgml_judge((const uint8_t *)type, strlen(type), buffer, sizeof buffer, answer);
+        if (given == number && answer[SGML_ANSWER_NUMBER] == number && answer[SGML_ANSWER_POSITION] == position && answer[SGML_ANSWER_FIRST] == first &&
             answer[SGML_ANSWER_SECOND] == second) {
             passed++;
         } else {

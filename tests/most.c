@@ -73,9 +73,8 @@ static uint32_t count_in(size_t room, uint32_t *number)
     uint8_t *buffer = malloc(room);
     if (!buffer)
         abort();
-    sgml_read((const uint8_t *)type, type_len, (const uint8_t *)document, document_len, buffer, room, answer);
+    *number = sgml_read((const uint8_t *)type, type_len, (const uint8_t *)document, document_len, buffer, room, answer);
     free(buffer);
-    *number = answer[SGML_ANSWER_NUMBER];
     return answer[SGML_ANSWER_COUNT];
 }
 
@@ -110,8 +109,7 @@ static uint32_t judge_type(void)
 {
     uint8_t records[SGML_MOST_RECORD_BYTES];
     uint32_t answer[SGML_ANSWER_SIZE];
-    sgml_judge((const uint8_t *)type, type_len, records, sizeof records, answer);
-    return answer[SGML_ANSWER_COUNT];
+    return sgml_judge((const uint8_t *)type, type_len, records, sizeof records, answer) ? 0 : answer[SGML_ANSWER_COUNT];
 }
 
 /* As many models as there may be, each of one name 93 times: each two of its places are compared. */

@@ -1,4 +1,5 @@
-# The proved program on every vector, at the limits of its inputs and its numbers, and where a file is missing.
+# The proved program on every vector, at the limits of its inputs and its numbers, on files that come in pieces or stand under each
+# other's name, and where a file is missing.
 set -eu
 cd "$(dirname "$0")/.."
 program=$PWD/target/bin/sgml_events
@@ -91,6 +92,70 @@ many 32769 ' ' >"$room/case/type.sgm"
 many 65536 x >"$room/case/doc.sgm"
 echo "refused 1 in type at 0" >"$room/expected"
 prints "both too long" "$room/expected"
+fresh
+{ cat "$type"; many $((32768 - length)) ' '; } >"$room/case/type.sgm"
+many 65535 x >"$room/case/doc.sgm"
+printf '%s\n' 'events 7' '2 LIST 0 0' '2 ITEM 0 0' '2 NAME 0 0' '5 - 0 65535' '4 NAME 65535 0' '4 ITEM 65535 0' '4 LIST 65535 0' >"$room/expected"
+prints "both as long as they may be" "$room/expected"
+counted
+
+# Hands a file on in pieces: the first ones small, with a pause after each, and then the rest.
+pieces() {
+    (
+        exec 3<"$1"
+        exec >"$2"
+        for size in 1 2 7 1 50; do
+            dd bs="$size" count=1 <&3 2>/dev/null
+            sleep 0.02
+        done
+        cat <&3
+    ) 2>/dev/null &
+}
+
+# A file that is a pipe: a read gives what is there by then, which need not be all.
+echo "the program on files that come in pieces"
+for v in tests/vectors/document/*/; do
+    fresh
+    mkfifo "$room/case/type.sgm" "$room/case/doc.sgm"
+    pieces "$v/type.sgm" "$room/case/type.sgm"
+    pieces "$v/doc.sgm" "$room/case/doc.sgm"
+    prints "$v in pieces" "$v/expected"
+    wait
+    [ "$passed" -lt 12 ] || break
+done
+for bytes in 65535 65536 200000; do
+    fresh
+    cp "$type" "$room/case"
+    mkfifo "$room/case/doc.sgm"
+    many "$bytes" x >"$room/document"
+    pieces "$room/document" "$room/case/doc.sgm"
+    if [ "$bytes" -le 65535 ]; then
+        printf '%s\n' 'events 7' '2 LIST 0 0' '2 ITEM 0 0' '2 NAME 0 0' '5 - 0 65535' '4 NAME 65535 0' '4 ITEM 65535 0' '4 LIST 65535 0' >"$room/expected"
+    else
+        echo "refused 1 in document at 0" >"$room/expected"
+    fi
+    prints "a document of $bytes bytes in pieces" "$room/expected"
+    wait
+done
+counted
+
+# Each of these two is a type file: which is which is told by the name alone.
+echo "the program on files under each other's name"
+fresh
+printf '<!ELEMENT A O O (#PCDATA)>' >"$room/case/type.sgm"
+printf '<!ELEMENT A - O EMPTY>\n' >"$room/case/doc.sgm"
+echo "refused 5 in document at 0" >"$room/expected"
+prints "a type file as document" "$room/expected"
+fresh
+printf '<!-- a --><A>' >"$room/case/doc.sgm"
+printf '<!ELEMENT A - O EMPTY>' >"$room/case/type.sgm"
+printf '%s\n' 'events 2' '1 A 10 3' '6 A 13 0' >"$room/expected"
+prints "a type file and a document" "$room/expected"
+mv "$room/case/doc.sgm" "$room/case/type"
+mv "$room/case/type.sgm" "$room/case/doc.sgm"
+mv "$room/case/type" "$room/case/type.sgm"
+echo "refused 4 in type at 11" >"$room/expected"
+prints "the same two swapped" "$room/expected"
 counted
 
 # An item with data has five events, one with an empty quantity two more, and the list itself two.

@@ -1,35 +1,50 @@
-/* stack.c - how much stack a call of the judge and one of the reader takes: each runs in a thread whose stack was painted
- * before. The limit is what the header promises. */
+/* stack.c - how much stack a call takes: each runs in a thread whose stack was painted before, and then in one that has no more than
+ * the header promises, above a page that may not be touched. The types have models as deep as they may be, which is where the judge and
+ * the reader go deepest. */
 #define _GNU_SOURCE
 #include "sgml.h"
 #include <pthread.h>
 #include <stdio.h>
 #include <stdlib.h>
 #include <string.h>
+#include <sys/mman.h>
+#include <unistd.h>
 
 #define STACK (512 * 1024)
 #define PAINT 0x5A
-#define ROOM SGML_MOST_RECORD_BYTES
+#define ROOM (SGML_EVENT_BYTES * 64 + SGML_MOST_RECORD_BYTES)
 
 static char type[SGML_TYPE_LIMIT];
 static size_t type_len;
+static const char *document;
+static uint32_t expected; /* the number of the answer */
+static int wrong;
 
-static void *call(void *buffer)
+static void text(const char *what, int times)
+{
+    while (times--)
+        type_len += (size_t)sprintf(type + type_len, "%s", what);
+}
+
+static void look(uint32_t number, const uint32_t *answer)
+{
+    if (number == expected)
+        return;
+    wrong = 1;
+    printf("answered %u at %u, expected %u\n", (unsigned)number, (unsigned)answer[SGML_ANSWER_POSITION], (unsigned)expected);
+}
+
+static void *judge_call(void *buffer)
 {
     uint32_t answer[SGML_ANSWER_SIZE];
-    sgml_judge((const uint8_t *)type, type_len, buffer, ROOM, answer);
-    if (answer[SGML_ANSWER_NUMBER])
-        printf("refused %u at %u\n", (unsigned)answer[SGML_ANSWER_NUMBER], (unsigned)answer[SGML_ANSWER_POSITION]);
+    look(sgml_judge((const uint8_t *)type, type_len, buffer, ROOM, answer), answer);
     return NULL;
 }
 
 static void *read_call(void *buffer)
 {
-    static const char document[] = "<E0><E1>";
     uint32_t answer[SGML_ANSWER_SIZE];
-    sgml_read((const uint8_t *)type, type_len, (const uint8_t *)document, sizeof document - 1, buffer, ROOM, answer);
-    if (answer[SGML_ANSWER_NUMBER] != SGML_ERR_NOT_ALLOWED_HERE)
-        printf("answered %u at %u\n", (unsigned)answer[SGML_ANSWER_NUMBER], (unsigned)answer[SGML_ANSWER_POSITION]);
+    look(sgml_read((const uint8_t *)type, type_len, (const uint8_t *)document, strlen(document), buffer, ROOM, answer), answer);
     return NULL;
 }
 
@@ -38,40 +53,80 @@ static void *nothing(void *unused)
     return unused;
 }
 
-/* The bytes of a painted stack that a function has written. */
-static size_t used(void *(*function)(void *), void *argument)
+/* The bytes of a painted stack of this size that a function has written. */
+static size_t used(void *(*function)(void *), void *argument, size_t size)
 {
-    uint8_t *stack = aligned_alloc(4096, STACK);
+    size_t page = (size_t)sysconf(_SC_PAGESIZE), i = 0;
+    uint8_t *below = mmap(NULL, page + size, PROT_READ | PROT_WRITE, MAP_PRIVATE | MAP_ANONYMOUS, -1, 0), *stack;
     pthread_attr_t attributes;
     pthread_t thread;
-    size_t i = 0;
-    memset(stack, PAINT, STACK);
+    if (below == MAP_FAILED || mprotect(below, page, PROT_NONE)) {
+        perror("a stack");
+        exit(1);
+    }
+    stack = below + page;
+    memset(stack, PAINT, size);
     pthread_attr_init(&attributes);
-    pthread_attr_setstack(&attributes, stack, STACK);
-    pthread_create(&thread, &attributes, function, argument);
+    if (pthread_attr_setstack(&attributes, stack, size) || pthread_create(&thread, &attributes, function, argument)) {
+        puts("no thread");
+        exit(1);
+    }
     pthread_join(thread, NULL);
-    while (i < STACK && stack[i] == PAINT)
+    while (i < size && stack[i] == PAINT)
         i++;
-    free(stack);
-    return STACK - i;
+    munmap(below, page + size);
+    return size - i;
+}
+
+/* How much a call takes beside what its thread does; and it runs in what the header promises. */
+static size_t taken(void *(*function)(void *))
+{
+    static uint8_t buffer[ROOM];
+    size_t thread = used(nothing, NULL, STACK), most = used(function, buffer, STACK) - thread;
+    if (most == 0 || most > SGML_STACK_BYTES) {
+        printf("a call takes %zu bytes of stack; the limit is %d\n", most, SGML_STACK_BYTES);
+        wrong = 1;
+        return most;
+    }
+    used(function, buffer, (SGML_STACK_BYTES + thread + 4095) / 4096 * 4096);
+    return most;
 }
 
 int main(void)
 {
-    static uint8_t buffer[ROOM];
     int level, k;
-    size_t taken, reading;
+    size_t judging, reading, chain;
     /* as many levels, tokens and elements as there may be */
-    for (k = 0; k < 64; k++) {
+    for (k = 0; k < SGML_ELEMENT_LIMIT; k++) {
         type_len += (size_t)sprintf(type + type_len, "<!ELEMENT E%d - O ", k);
-        for (level = 0; level < 16; level++)
-            type_len += (size_t)sprintf(type + type_len, "(");
-        for (level = 0; level < 16; level++)
+        text("(", SGML_GRPLVL);
+        for (level = 0; level < SGML_GRPLVL; level++)
             type_len += (size_t)sprintf(type + type_len, "%cA%d,B%d,C%d)+", level ? ',' : ' ', level, level, level);
-        type_len += (size_t)sprintf(type + type_len, ">");
+        text(">", 1);
     }
-    taken = used(call, buffer) - used(nothing, NULL);
-    reading = used(read_call, buffer) - used(nothing, NULL);
-    printf("a call of the judge takes %zu bytes of stack, one of the reader %zu; the limit is %d\n", taken, reading, SGML_STACK_BYTES);
-    return taken > SGML_STACK_BYTES || taken == 0 || reading > SGML_STACK_BYTES || reading == 0;
+    expected = SGML_ACCEPTED;
+    judging = taken(judge_call);
+    expected = SGML_ERR_NOT_ALLOWED_HERE;
+    document = "<E0><E1>";
+    reading = taken(read_call);
+
+    /* as many elements open as there may be, all inferred, in models of as many levels */
+    type_len = 0;
+    for (k = 0; k < SGML_TAGLVL; k++) {
+        type_len += (size_t)sprintf(type + type_len, "<!ELEMENT E%d O O ", k);
+        text("(", SGML_GRPLVL);
+        if (k + 1 < SGML_TAGLVL)
+            type_len += (size_t)sprintf(type + type_len, "E%d", k + 1);
+        else
+            text("#PCDATA", 1);
+        text(")", SGML_GRPLVL);
+        text(">", 1);
+    }
+    expected = SGML_ACCEPTED;
+    document = "x<!-- -->y</E20>";
+    chain = taken(read_call);
+    if (chain > reading)
+        reading = chain;
+    printf("a call of the judge takes %zu bytes of stack, one of the reader %zu; the limit is %d\n", judging, reading, SGML_STACK_BYTES);
+    return wrong;
 }

@@ -80,7 +80,7 @@ static uint8_t *judge(struct slice type, size_t room, struct answer *a)
     size_t lengths[2] = { type.length, 0 };
     uint8_t *buffer = lend(room);
     a->before = a->behind = FILL;
-    sgml_judge(type.bytes, type.length, buffer, room, a->numbers);
+    must(sgml_judge(type.bytes, type.length, buffer, room, a->numbers) == a->numbers[SGML_ANSWER_NUMBER], "the judge gives back the number");
     check_answer(a, buffer, room, SGML_RECORD_BYTES, lengths);
     must(a->numbers[SGML_ANSWER_INPUT] != SGML_IN_DOCUMENT, "the judge looks at the type only");
     return buffer;
@@ -91,7 +91,8 @@ static uint8_t *read_events(struct slice type, struct slice document, size_t roo
     size_t lengths[2] = { type.length, document.length };
     uint8_t *buffer = lend(room);
     a->before = a->behind = FILL;
-    sgml_read(type.bytes, type.length, document.bytes, document.length, buffer, room, a->numbers);
+    must(sgml_read(type.bytes, type.length, document.bytes, document.length, buffer, room, a->numbers) == a->numbers[SGML_ANSWER_NUMBER],
+         "the reader gives back the number");
     check_answer(a, buffer, room, SGML_EVENT_BYTES, lengths);
     return buffer;
 }

@@ -23,9 +23,11 @@ pub struct Lent {
     pub pattern: u8,
 }
 
-/// What is left behind by a call: the answer, and the buffer with the bytes around it.
+/// What is left behind by a call: the number that it gives back, the answer, and the buffer with the
+/// bytes around it.
 #[derive(PartialEq)]
 struct Outcome {
+    given: u32,
     answer: [u32; 6],
     memory: Vec<u8>,
 }
@@ -68,6 +70,7 @@ fn expected(inputs: &Inputs, lent: Lent) -> Outcome {
         count,
     } = answer;
     Outcome {
+        given: number,
         answer: [number, input, position, first, second, count],
         memory,
     }
@@ -79,11 +82,15 @@ fn actual(inputs: &Inputs, lent: Lent) -> Outcome {
     let buffer = &mut memory[start..start + lent.length];
     let mut answer = [UNWRITTEN; 6];
     let type_file = &inputs.type_file;
-    match &inputs.document {
+    let given = match &inputs.document {
         None => library::judge(type_file, buffer, &mut answer),
         Some(document) => library::read(type_file, document, buffer, &mut answer),
+    };
+    Outcome {
+        given,
+        answer,
+        memory,
     }
-    Outcome { answer, memory }
 }
 
 pub fn show(case: u64, inputs: &Inputs, lent: Lent) {

@@ -1,5 +1,6 @@
 //! The library under test, through its C interface. The answer is number, input, position, first,
-//! second, count. The buffer holds numbers as four bytes each, low byte first.
+//! second, count; a call gives back the number once more. The buffer holds numbers as four bytes
+//! each, low byte first.
 
 /// The only declaration of the C interface here.
 mod c {
@@ -10,7 +11,7 @@ mod c {
             buffer: *mut u8,
             buffer_length: usize,
             answer: *mut u32,
-        );
+        ) -> u32;
         pub fn sgml_read(
             type_file: *const u8,
             type_length: usize,
@@ -19,11 +20,11 @@ mod c {
             buffer: *mut u8,
             buffer_length: usize,
             answer: *mut u32,
-        );
+        ) -> u32;
     }
 }
 
-pub fn judge(type_file: &[u8], buffer: &mut [u8], answer: &mut [u32; 6]) {
+pub fn judge(type_file: &[u8], buffer: &mut [u8], answer: &mut [u32; 6]) -> u32 {
     // Safety: every pointer is that of a live slice and goes with its length.
     unsafe {
         c::sgml_judge(
@@ -36,7 +37,7 @@ pub fn judge(type_file: &[u8], buffer: &mut [u8], answer: &mut [u32; 6]) {
     }
 }
 
-pub fn read(type_file: &[u8], document: &[u8], buffer: &mut [u8], answer: &mut [u32; 6]) {
+pub fn read(type_file: &[u8], document: &[u8], buffer: &mut [u8], answer: &mut [u32; 6]) -> u32 {
     // Safety: as above.
     unsafe {
         c::sgml_read(

@@ -97,7 +97,8 @@ fn body_model(s: &[u8], i: usize, names: &mut [u32; NAMES], table: &mut [u8; MOD
     })
 }
 
-// The content at i, where the parameter before ended at `from`. Where it is refused or EMPTY, what `names` and `table` hold is not decided.
+// The content at i, where the parameter before ended at `from`. Where it is refused or EMPTY, what `names` and `table` hold is not decided,
+// nor how many places EMPTY has; behind the places of a model, `names` is not decided either.
 pub fn body_at(
     s: &[u8],
     from: usize,

@@ -72,7 +72,7 @@ fn omission_at(s: &[u8], from: usize, i: usize) -> Omission
     Omission::Refused(Fault { number: 4, at: i })
 }
 
-// From the end of the keyword to the second word.
+// From the end of the keyword to the second word. Where `elements` holds no records of elements, the answer is not decided, but for its range.
 pub fn head_at(s: &[u8], at: usize, elements: &[u32; RECORDS], count: usize) -> HeadRead
     requires { ⌜ (at ≤ length (now s)) × (length (now s) ≤ 32768) × (count ≤ 64) ⌝ }
     ensures { λ r. ⌜ ((es : List rules.Element) → length es ≡ count → Recorded (now (elements .entry)) es →

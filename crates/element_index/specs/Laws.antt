@@ -18,11 +18,10 @@ use Rattle.rules.specs.Elements.{elementAt, isNamed, numberFrom, numberOf}
 use Rattle.rules.specs.Lookup.{isAlike, compared}
 use Rattle.layout.specs.Sizes.{INDEX}
 use Rattle.model_sets.specs.Bits.{or-left, or-right, or-cases, and-left, and-right, and-both, not-true, not-both, bool-cases}
-use Rattle.text.specs.Laws.{sameText-first}
 use Rattle.rules_laws.specs.Within.{typeFile-count}
+use Rattle.element_names.specs.Records.{unlike-other}
 use Rattle.element_reader.specs.Means.{Recorded}
 use Rattle.element_reader.specs.Laws.{recorded-at}
-use Rattle.type_laws.specs.Names.{isNamed-split}
 use Rattle.type_laws.specs.Made.{typeFile-made}
 use Rattle.type_laws.specs.Again.{typeFile-sizes}
 use Rattle.element_index.specs.Means.{bucketOf, isIn, nextFrom, follows, Indexed, putIn}
@@ -114,13 +113,6 @@ apart-alike s e t at size p q =
     let same = eqb-true (fold (byteAt s (e .at))) (fold (byteAt t at)) (and-right (eqb (e .size) size) _ x) in
     let (l, h) = letter-folds (byteAt s (e .at)) p in
     not-both q (folds-letter (byteAt t at) (omega arith) (omega arith))
-
--- What has the name is alike.
-named-alike : (s : List ℕ) (e : Element) (t : List ℕ) (at size : ℕ) → 1 ≤ size → isNamed s e t at size ≡ true → isAlike s e t at size ≡ true
-named-alike s e t at zero l x = absurd (omega arith)
-named-alike s e t at (suc n) l x =
-    let (z, same) = isNamed-split s e t at (suc n) x in
-    and-both (eq-eqb _ _ z) (eq-eqb _ _ (sameText-first s (e .at) t at n same))
 
 -- What is recorded of an element
 
@@ -260,7 +252,7 @@ module _ {s : List ℕ} {es : List Element} {elements index : List ℕ} (t : Lis
     out-alike y = not-true _ (λ z. not-both y (eq-eqb _ _ (alike-bucket s (elementAt es j) t at size letter-is named size-some some z)))
 
     other-name : isAlike s (elementAt es j) t at size ≡ false → isNamed s (elementAt es j) t at size ≡ false
-    other-name y = not-true _ (λ z. not-both y (named-alike s (elementAt es j) t at size some z))
+    other-name y = unlike-other s (elementAt es j) t at size some y
 
   leads : (left j : ℕ) → j + left ≡ length es → Leads s es t at size j (nextFrom (isIn s es (bucketAt t at size)) left j)
   unfolding nextFrom numberFrom compared
@@ -374,7 +366,7 @@ module _ {s : List ℕ} {es : List Element} {elements index : List ℕ} (t : Lis
       let h : j < length es = omega arith in
       let (a, n) = none-from left (j + 1) (omega arith) in
       let y = apart-alike s (elementAt es j) t at size (typeFile-made s es (x .accepted .elements) j h .named) other in
-      let z = not-true _ (λ z. not-both y (named-alike s (elementAt es j) t at size some z)) in
+      let z = unlike-other s (elementAt es j) t at size some y in
       (other-answer s es t at size j h z ∙ a, passed-count s es t at size j h y ∙ n)
 
   pub none-found : (0 ≡ numberOf s es t at size) × (0 ≡ compared s es t at size)

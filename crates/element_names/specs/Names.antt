@@ -2,7 +2,8 @@
 use Prim.Native.Nat.{ℕ, _+_, _*_, _≤_, _<_}
 use mathlib.Core.Path.{_≡_}
 use mathlib.Core.List.{List}
-use lib.ListN.{length, take}
+use lib.ListN.{length, take, getD}
+use Rattle.rules.specs.TypeFile.{empty}
 use Rattle.rules.specs.TypeFile as rules
 use Rattle.rules.specs.Judge.{records}
 use Rattle.text.specs.declared.Reached.{Reached}
@@ -11,6 +12,10 @@ use Rattle.text.specs.declared.Reached.the-variants as reached
 -- The table of elements begins with the records of es.
 abbrev pub Recorded : List ℕ → List rules.Element → Type 0
 Recorded elements es = take (6 * length es) elements ≡ records es
+
+-- An element of which only the name is known: that of the k-th record.
+abbrev pub nameAt : List ℕ → ℕ → rules.Element
+nameAt elements k = record { at = getD elements (6 * k) 0; size = getD elements (6 * k + 1) 0; start = 0; end = 0; content = empty }
 
 -- Whatever was declared before: a name that is read lies in the input, is at most 8 long, and one more element has room.
 abbrev pub NameIn : (end i count : ℕ) → Reached → Type 0

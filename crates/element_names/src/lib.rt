@@ -9,8 +9,9 @@ ghost use Prim.Native.Nat.{_≤_, _<_};
 ghost use lib.ListN.{length, getD};
 ghost use Rattle.rules.specs.TypeFile.{isDeclared, elementName};
 ghost use Rattle.rules.specs.TypeFile as rules;
+ghost use Rattle.rules.specs.Lookup.{isAlike, compared};
 ghost use Rattle.text.specs.Means.{reached};
-ghost use Rattle.element_names.specs.Names.{Recorded, NameIn};
+ghost use Rattle.element_names.specs.Names.{Recorded, nameAt, NameIn};
 
 // A number of the table of elements.
 fn number(elements: &[u32; RECORDS], k: usize) -> usize
@@ -20,25 +21,55 @@ fn number(elements: &[u32; RECORDS], k: usize) -> usize
     numbers::widened(elements[k])
 }
 
-// Whether one of the first `count` records has the name of this size at `at`.
-fn declared(s: &[u8], elements: &[u32; RECORDS], count: usize, at: usize, size: usize) -> bool
-    requires { ⌜ (count ≤ 64) × (at < 4294967296) × (size < 4294967296) ⌝ }
-    ensures { λ r. ⌜ ((es : List rules.Element) → length es ≡ count → Recorded (now (elements .entry)) es →
-        r ≡ isDeclared (now (s .entry)) es at size) ⌝ }
+// Whether the name of the k-th record is of this size and begins with the letter at `at`, folded.
+fn is_alike(s: &[u8], elements: &[u32; RECORDS], k: usize, at: usize, size: usize) -> bool
+    requires { ⌜ k < 64 ⌝ }
+    ensures { λ r. ⌜ r ≡ isAlike (now (s .entry)) (nameAt (now (elements .entry)) k) (now (s .entry)) at size ⌝ }
 {
+    if number(elements, 6 * k + 1) != size {
+        return false;
+    }
+    let first = text::byte(s, number(elements, 6 * k));
+    text::folded(first) == text::folded(text::byte(s, at))
+}
+
+// Whether a name is declared, and with how many names it was compared.
+pub struct Lookup {
+    pub found: bool,
+    pub compared: usize,
+}
+
+// Whether one of the first `count` records has the name of this size at `at`. Only names of the same length and first letter are
+// compared, in declaration order, up to the one that is found. Where the table holds no records of elements, neither is decided, but that
+// no more names are compared than it is told of.
+pub fn declared(s: &[u8], elements: &[u32; RECORDS], count: usize, at: usize, size: usize) -> Lookup
+    requires { ⌜ (count ≤ 64) × (at < 4294967296) × (1 ≤ size) × (size < 4294967296) ⌝ }
+    ensures { λ r. ⌜ ((es : List rules.Element) → length es ≡ count → Recorded (now (elements .entry)) es →
+        (r .found ≡ isDeclared (now (s .entry)) es at size) × (r .compared ≡ compared (now (s .entry)) es (now (s .entry)) at size)) ⌝ }
+    ensures { λ r. ⌜ r .compared ≤ count ⌝ }
+{
+    let mut n = 0;
     let mut k = 0;
     while k < count {
-        if number(elements, 6 * k + 1) == size {
+        if is_alike(s, elements, k, at, size) {
             if words::same_text(s, number(elements, 6 * k), s, at, size) {
-                return true;
+                return Lookup {
+                    found: true,
+                    compared: n + 1,
+                };
             }
+            n += 1;
         }
         k += 1;
     }
-    false
+    Lookup {
+        found: false,
+        compared: n,
+    }
 }
 
-// The name of the element, declared for the first time, at most the 64th.
+// The name of the element, declared for the first time, at most the 64th. Where the table holds no records of elements, what is answered to a
+// name of at most 8 bytes is not decided, but for its range.
 pub fn element_name(s: &[u8], i: usize, elements: &[u32; RECORDS], count: usize) -> Reached
     requires { ⌜ (i ≤ length (now s)) × (length (now s) ≤ 32768) × (count ≤ 64) ⌝ }
     ensures { λ r. ⌜ ((es : List rules.Element) → length es ≡ count → Recorded (now (elements .entry)) es →
@@ -51,7 +82,7 @@ pub fn element_name(s: &[u8], i: usize, elements: &[u32; RECORDS], count: usize)
         if NAMELEN < e - i {
             return Reached::Refused(Fault { number: 3, at: i });
         }
-        if declared(s, elements, count, i, e - i) {
+        if declared(s, elements, count, i, e - i).found {
             return Reached::Refused(Fault { number: 7, at: i });
         }
         if 64 <= count {

@@ -98,7 +98,8 @@ fn rest_at(s: &[u8], h: Head, names: &mut [u32; NAMES], table: &mut [u8; MODEL])
 }
 
 // An element declaration whose keyword ends at `at`, after those recorded in `elements`. Where it is refused or the content is EMPTY,
-// what `names` and `table` hold is not decided.
+// what `names` and `table` hold is not decided, nor how many places an EMPTY element has; behind the places of a model, `names` is not
+// decided either. Where `elements` holds no records of elements, all that is decided is that one more has room.
 pub fn element_at(
     s: &[u8],
     at: usize,

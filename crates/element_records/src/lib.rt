@@ -88,7 +88,7 @@ fn clash_with(s: &[u8], c: Clash, e: Element, names: &[u32; NAMES], table: &[u8;
 }
 
 // An element declaration whose keyword ends at `at`, after those that p counts. What stands in `elements` behind the records, or where it is
-// refused, and what `names` and `table` then hold, is not decided.
+// refused in all of it, is not decided, nor what `names` and `table` hold after any answer.
 pub fn element_at(
     s: &[u8],
     at: usize,

@@ -106,8 +106,8 @@ fn next_at(
     Next::Joined(b, connectors::joined_by(table, b, lo, m, u))
 }
 
-// A group whose "(" stands at `at`; `levels` is how many group levels are left. Where it is refused, what `names` and `table` hold
-// is not decided; they are filled anew for the next model.
+// A group whose "(" stands at `at`; `levels` is how many group levels are left. What `names` holds behind the places read so far, and where
+// it is refused what `names` and `table` hold, is not decided; they are filled anew for the next model.
 pub fn group_at(
     s: &[u8],
     at: usize,

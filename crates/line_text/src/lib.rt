@@ -60,7 +60,8 @@ pub fn put_upper(out: &mut [u8], at: usize, s: &[u8], from: usize, size: usize) 
 {
     let mut i = 0;
     while i < size {
-        out[at + i] = text::folded(s[from + i]);
+        let b = s[from + i];
+        out[at + i] = text::folded(b);
         i += 1;
     }
     at + i

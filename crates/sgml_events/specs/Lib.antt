@@ -3,3 +3,4 @@ pub mod Prints
 pub mod Means
 pub mod Table
 pub mod Answers
+pub mod Files

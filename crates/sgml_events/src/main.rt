@@ -8,9 +8,10 @@ ghost use Prim.Native.Nat.{_≤_};
 ghost use lib.ListN.{length, take};
 ghost use Rattle.io.specs.Counts.{Counts};
 ghost use Rattle.sgml_events.specs.Prints.{Prints};
-ghost use Rattle.sgml_events.specs.Means.{Accepted, EventsPut};
+ghost use Rattle.sgml_events.specs.Means.{Accepted, EventsPut, Whole};
 
-// The text of n events of a document whose type is accepted; the judge gives where its elements' names stand.
+// The text of n events of a document whose type is accepted; the judge gives where its elements' names stand. What out holds behind the text
+// is decided neither here nor below.
 fn put_events(out: &mut [u8], s: &[u8], numbers: &[u32; 16384], n: usize) -> usize
     requires { ⌜ (294984 ≤ length (now out)) × Accepted (now s) × (n ≤ 4096) ⌝ }
     ensures { λ r. ⌜ Counts r (now (out .exit)) × EventsPut (now (s .entry)) (now (numbers .entry)) n (take r (now (out .exit))) ⌝ }
@@ -35,22 +36,38 @@ fn printed(s: &[u8], d: &[u8], out: &mut [u8]) -> usize
     }
 }
 
+// Writes the text that is printed for a type file and a document; no contract can say that standard output takes it.
+fn written(s: &[u8], d: &[u8], text: &[u8]) -> bool
+    requires { ⌜ Prints (now s) (now d) (now text) ⌝ }
+{
+    io::write_all(STDOUT_FILENO, text)
+}
+
+// Prints what is printed for a type file and a document, of which the last read gave so many bytes.
+fn print(s: &[u8], s_last: usize, d: &[u8], d_last: usize)
+    requires { ⌜ Whole 32768 (now s) «s_last» × Whole 65535 (now d) «d_last» ⌝ }
+{
+    // 72 bytes for the first line and for each of at most 4,096 events
+    let mut out = [0u8; 294984];
+    let k = printed(s, d, &mut out);
+    if !written(s, d, &out[..k]) {
+        os::fail(b"standard output");
+    }
+}
+
 fn main() {
     // one byte more than the reader takes, so that it refuses what is longer
     let mut s = [0u8; 32769];
     let mut d = [0u8; 65536];
     let a = file_reader::first_bytes(b"type.sgm", &mut s);
-    let Loaded::Bytes(n) = a else {
+    let Loaded::Bytes(x) = a else {
         return;
     };
     let b = file_reader::first_bytes(b"doc.sgm", &mut d);
-    let Loaded::Bytes(m) = b else {
+    let Loaded::Bytes(y) = b else {
         return;
     };
-    // 72 bytes for the first line and for each of at most 4,096 events
-    let mut out = [0u8; 294984];
-    let k = printed(&s[..n], &d[..m], &mut out);
-    if !io::write_all(STDOUT_FILENO, &out[..k]) {
-        os::fail(b"standard output");
-    }
+    let n = x.size;
+    let m = y.size;
+    print(&s[..n], x.last, &d[..m], y.last);
 }

@@ -85,6 +85,8 @@ fn smaller(places: &[u8; PLACES], e: usize, p: usize) -> usize
     numbers::wide(places[(e * POSITIONS + p) * LINK + 1])
 }
 
+// Whether the start tag of the element e may be omitted. Of an element that is not declared, and where the tables are no type's, neither this
+// answer nor the next two are decided.
 fn start_omitted(facts: &[u8; FACTS], e: usize) -> bool
     requires { ⌜ e ≤ 64 ⌝ }
     ensures { λ r. ⌜ ((s : List ℕ) (es : List Element) → Facts s es (now (facts .entry)) → Declares es (decisions.start e) → r ≡ startO es e) ⌝ }
@@ -92,6 +94,7 @@ fn start_omitted(facts: &[u8; FACTS], e: usize) -> bool
     facts[e * FACT + 65] == 1
 }
 
+// Whether its end tag may be omitted.
 pub fn end_omitted(facts: &[u8; FACTS], e: usize) -> bool
     requires { ⌜ e ≤ 64 ⌝ }
     ensures { λ r. ⌜ ((s : List ℕ) (es : List Element) → Facts s es (now (facts .entry)) → Declares es (decisions.start e) → r ≡ endO es e) ⌝ }
@@ -99,6 +102,7 @@ pub fn end_omitted(facts: &[u8; FACTS], e: usize) -> bool
     facts[e * FACT + 66] == 1
 }
 
+// Whether its content is a model.
 pub fn has_model(facts: &[u8; FACTS], e: usize) -> bool
     requires { ⌜ e ≤ 64 ⌝ }
     ensures { λ r. ⌜ ((s : List ℕ) (es : List Element) → Facts s es (now (facts .entry)) → Declares es (decisions.start e) →

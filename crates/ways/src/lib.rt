@@ -154,7 +154,7 @@ pub fn opens(facts: &[u8; FACTS], x: usize) -> bool
     type_tables::has_model(facts, x)
 }
 
-// Whether the document element was there and has ended.
+// Whether the document element was there and has ended. Of a state that stands in no type the answer is not decided.
 pub fn is_over(o: Open) -> bool
     ensures { λ r. ⌜ r ≡ (eqb (o .element) 0 && o .complete) ⌝ }
 {

@@ -5,7 +5,7 @@ use native.Mathlib.Omega.{arith}
 use borrow.Author.Needs.{needs}
 use Rattle.rules.specs.Bytes.{byteAt, letter}
 use Rattle.text.specs.Means.{refusalOf}
-use Rattle.text.specs.Laws.{tested, nameEnd-from, nameEnd-le}
+use Rattle.text.specs.Laws.{tested, nameEnd-from, nameEnd-le, nameEnd-more}
 use Rattle.gaps.specs.Unfit.{unfit-is}
 use Rattle.element_names.specs.Naming.{name-long, name-again, name-many, name-got, name-group, name-unfit}
 use Rattle.element_names.proofs.element_name.Statement.{statement}
@@ -42,13 +42,15 @@ sub-declared c =
     omega (arith, nameEnd-from (a .s .now) (a .i))
 
 declared-requires : tie.Need-declared-requires
-declared-requires c κs = search needs
+declared-requires c κs =
+    let a = c .before .before .before .before .before .before .args in
+    (omega arith, omega arith, omega (arith, nameEnd-more (a .s .now) (a .i) (a-letter (c .before .before))), omega arith)
 
 returns-2 : tie.Need-returns-2
 returns-2 c =
     let a = c .before .before .before .before .before .before .before .before .args in
     let name = c .before .before .before in (
-      λ es n r. sym (name-again (a .s .now) (a .i) es (a-letter (name .before)) (omega arith) (rw (← name .name-end .ensures) (sym (c .before .declared .ensures es n r) ∙ c .if3 .taken))),
+      λ es n r. sym (name-again (a .s .now) (a .i) es (a-letter (name .before)) (omega arith) (rw (← name .name-end .ensures) (sym (c .before .declared .ensures .0 es n r .0) ∙ c .if3 .taken))),
       tt,
     )
 
@@ -56,7 +58,7 @@ returns-3 : tie.Need-returns-3
 returns-3 c =
     let a = c .before .before .before .before .before .before .before .before .before .args in
     let name = c .before .before .before .before in (
-      λ es n r. sym (name-many (a .s .now) (a .i) es (a-letter (name .before)) (omega arith) (rw (← name .name-end .ensures) (sym (c .before .before .declared .ensures es n r) ∙ c .before .if3 .left)) (omega arith)),
+      λ es n r. sym (name-many (a .s .now) (a .i) es (a-letter (name .before)) (omega arith) (rw (← name .name-end .ensures) (sym (c .before .before .declared .ensures .0 es n r .0) ∙ c .before .if3 .left)) (omega arith)),
       tt,
     )
 
@@ -67,7 +69,7 @@ returns-4 c =
     let name = c .before .before .before .before in (
       λ es n r.
           rw (name .name-end .ensures)
-          (sym (name-got (a .s .now) (a .i) es (a-letter (name .before)) (omega arith) (rw (← name .name-end .ensures) (sym (c .before .before .declared .ensures es n r) ∙ c .before .if3 .left)) (omega arith))),
+          (sym (name-got (a .s .now) (a .i) es (a-letter (name .before)) (omega arith) (rw (← name .name-end .ensures) (sym (c .before .before .declared .ensures .0 es n r .0) ∙ c .before .if3 .left)) (omega arith))),
       omega (arith, start .pre, nameEnd-from (a .s .now) (a .i), nameEnd-le (a .s .now) (a .i) (start .pre .0)),
     )
 

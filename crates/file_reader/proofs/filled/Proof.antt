@@ -1,27 +1,29 @@
--- `file_reader::filled` reads no more bytes than the buffer holds, and ends. The measure is what is left of the buffer.
+-- `file_reader::filled` reads no more bytes than the buffer holds, and ends where a read gives nothing or the buffer is full. The measure is
+-- what is left of the buffer.
 use Prim.Native.Nat.{ℕ, _+_, _-_, _≤_}
 use mathlib.Core.Path.{_≡_, refl, _∙_}
 use mathlib.Core.List.{List}
+use mathlib.Core.Logic.{inl, inr}
 use native.Mathlib.Omega.{arith}
 use lib.ListN.{length}
 use borrow.Rule.Slice.PartMut.{midOf, mid-len}
 use borrow.Author.Needs.{needs}
-use Rattle.file_reader.specs.Means.{LoadedIn}
-use Rattle.file_reader.specs.Laws.{counts-of, loaded-in}
-use Rattle.file_reader.specs.declared.Loaded.{Loaded}
-use Rattle.file_reader.specs.declared.Loaded.the-variants.{Bytes}
+use Rattle.file_reader.specs.Means.{GivenIn}
+use Rattle.file_reader.specs.Laws.{given-in, loaded-of}
+use Rattle.file_reader.specs.declared.Given.{Given}
+use Rattle.file_reader.specs.declared.Given.the-variants.{Bytes}
 use Rattle.file_reader.proofs.filled.Statement.{statement}
 use Rattle.file_reader.proofs.filled.Tie as tie
 
 -- The part behind `at` got n bytes: they lie in the buffer.
-part-in : (buf ys : List ℕ) (at : ℕ) {n : ℕ} {r : Loaded} → at ≤ length buf → length ys ≡ length (midOf at (length buf - at) buf) → r ≡ Bytes n → LoadedIn r ys → at + n ≤ length buf
-part-in buf ys at h e q l = omega (arith, loaded-in ys q l, mid-len at (length buf) buf (omega arith))
+part-in : (buf ys : List ℕ) (at : ℕ) {n : ℕ} {r : Given} → at ≤ length buf → length ys ≡ length (midOf at (length buf - at) buf) → r ≡ Bytes n → GivenIn r ys → at + n ≤ length buf
+part-in buf ys at h e q l = omega (arith, given-in ys q l, mid-len at (length buf) buf (omega arith))
 
 abbrev Inv-loop : tie.InvT-loop
-Inv-loop fd path buf₀ at₀ buf at = (at ≤ length buf) × (length buf ≡ length buf₀)
+Inv-loop fd path buf₀ at₀ last₀ buf at last = (at ≤ length buf) × (length buf ≡ length buf₀)
 
 abbrev μ-loop : tie.MeasureT-loop
-μ-loop fd path buf₀ at₀ buf at = length buf - at
+μ-loop fd path buf₀ at₀ last₀ buf at last = length buf - at
 
 loop-holds : tie.Need-loop-holds Inv-loop μ-loop
 loop-holds c = (omega arith, refl)
@@ -79,7 +81,7 @@ same-length-2 : tie.Need-same-length-2 Inv-loop μ-loop
 same-length-2 c = c .before .loop .inv .1
 
 returns-2 : tie.Need-returns-2 Inv-loop μ-loop
-returns-2 c = counts-of _ _ (c .before .loop .inv .0)
+returns-2 c = loaded-of _ _ (c .before .loop .inv .0) (inr (omega arith))
 
 same-length-3 : tie.Need-same-length-3 Inv-loop μ-loop
 same-length-3 c = search needs
@@ -91,7 +93,7 @@ returns-3 c =
     let back = c .before .before .before .before .before .buf .given in
     let same = back .1 in
     let more = part-in (turn .buf) (part .last .1 .1 .0) (turn .at) (turn .inv .0) (back .0) (c .before .before .r .given .1) (part .ensures) in
-    counts-of _ _ (omega arith)
+    loaded-of _ _ (omega arith) (inl (omega arith))
 
 pub filled-spec : {M : Type 1} → statement M
 filled-spec =

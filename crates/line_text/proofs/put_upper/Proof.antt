@@ -15,11 +15,11 @@ abbrev μ-loop : tie.MeasureT-loop
 loop-holds : tie.Need-loop-holds Inv-loop μ-loop
 loop-holds c = puts-start _ _ _ _ (upper-start _ _ _)
 
-add-folded : tie.Need-add-folded Inv-loop μ-loop
-add-folded c = omega arith
+add-b : tie.Need-add-b Inv-loop μ-loop
+add-b c = omega arith
 
-shared-slice-read-folded : tie.Need-shared-slice-read-folded Inv-loop μ-loop
-shared-slice-read-folded c = omega arith
+shared-slice-read-b : tie.Need-shared-slice-read-b Inv-loop μ-loop
+shared-slice-read-b c = omega arith
 
 folded-requires : tie.Need-folded-requires Inv-loop μ-loop
 folded-requires c κs = tt
@@ -42,7 +42,7 @@ loop-again c =
     let from = c .before .before .before .before .before .before .args .from in
     let size = c .before .before .before .before .before .before .args .size in
     puts-turn (c .before .before .before .loop .inv) (omega (arith, upper-length s from size))
-    (upper-next s from size (c .before .before .before .loop .i) _ (omega arith) (c .folded .ensures))
+    (upper-next s from size (c .before .before .before .loop .i) _ (omega arith) (omega (arith, c .folded .ensures)))
 
 add-result : tie.Need-add-result Inv-loop μ-loop
 add-result c =
@@ -68,8 +68,8 @@ put-upper-spec =
     Inv-loop
     μ-loop
     loop-holds
-    add-folded
-    shared-slice-read-folded
+    add-b
+    shared-slice-read-b
     folded-requires
     add-out
     slice-write-out

@@ -1,6 +1,9 @@
--- `sgml_events::main` is safe and ends: what was read of a file lies in its buffer.
+-- `sgml_events::main` is safe and ends, and prints for all of both files, or for more than their limits: what was read of a file lies in its
+-- buffer, and reading ended where the file did or the buffer was full.
+use native.Mathlib.Omega.{arith}
 use borrow.Author.Needs.{needs}
-use Rattle.file_reader.specs.Laws.{loaded-in}
+use Rattle.file_reader.specs.Laws.{loaded-in, loaded-whole}
+use Rattle.sgml_events.specs.Files.{whole-of}
 use Rattle.sgml_events.proofs.main.Statement.{statement}
 use Rattle.sgml_events.proofs.main.Tie as tie
 
@@ -41,43 +44,41 @@ returns-2 : tie.Need-returns-2
 returns-2 c = search needs
 
 array-share-prefix-s : tie.Need-array-share-prefix-s
-array-share-prefix-s c = loaded-in (c .before .before .before .before .before .before .before .before .before .before .before .first-bytes .last .1 .0) (c .before .before .before .before .before .before .before .before .a .given .1) (c .before .before .before .before .before .before .before .before .before .before .before .first-bytes .ensures) .0
+array-share-prefix-s c =
+    let a = c .before .before .before .before .before .before .before .before in
+    let read = a .before .before .before .first-bytes in
+    loaded-in (read .last .1 .0) (a .a .given .1) (read .ensures) .0
 
-slice-aggregate-printed : tie.Need-slice-aggregate-printed
-slice-aggregate-printed c = loaded-in (c .before .before .before .before .before .before .before .before .before .before .before .before .first-bytes .last .1 .0) (c .before .before .before .before .before .before .before .before .before .a .given .1) (c .before .before .before .before .before .before .before .before .before .before .before .before .first-bytes .ensures) .1
+slice-aggregate-print : tie.Need-slice-aggregate-print
+slice-aggregate-print c =
+    let a = c .before .before .before .before .before .before .before .before .before in
+    let read = a .before .before .before .first-bytes in
+    loaded-in (read .last .1 .0) (a .a .given .1) (read .ensures) .1
 
 array-share-prefix-d : tie.Need-array-share-prefix-d
-array-share-prefix-d c = loaded-in (c .before .before .before .before .before .first-bytes2 .last .1 .0) (c .before .before .b .given .1) (c .before .before .before .before .before .first-bytes2 .ensures) .0
+array-share-prefix-d c =
+    let b = c .before .before in
+    let read = b .before .before .before .first-bytes2 in
+    loaded-in (read .last .1 .0) (b .b .given .1) (read .ensures) .0
 
-slice-aggregate-printed-2 : tie.Need-slice-aggregate-printed-2
-slice-aggregate-printed-2 c = loaded-in (c .before .before .before .before .before .before .first-bytes2 .last .1 .0) (c .before .before .before .b .given .1) (c .before .before .before .before .before .before .first-bytes2 .ensures) .1
+slice-aggregate-print-2 : tie.Need-slice-aggregate-print-2
+slice-aggregate-print-2 c =
+    let b = c .before .before .before in
+    let read = b .before .before .before .first-bytes2 in
+    loaded-in (read .last .1 .0) (b .b .given .1) (read .ensures) .1
 
-slice-aggregate-printed-3 : tie.Need-slice-aggregate-printed-3
-slice-aggregate-printed-3 c = search needs
-
-printed-requires : tie.Need-printed-requires
-printed-requires c κs = search needs
-
-array-share-prefix-out : tie.Need-array-share-prefix-out
-array-share-prefix-out c = search needs
-
-slice-aggregate-write-all : tie.Need-slice-aggregate-write-all
-slice-aggregate-write-all c = search needs
-
-write-all-requires : tie.Need-write-all-requires
-write-all-requires c κs = search needs
-
-slice-aggregate-fail : tie.Need-slice-aggregate-fail
-slice-aggregate-fail c = search needs
-
-fail-requires : tie.Need-fail-requires
-fail-requires c κs = search needs
+print-requires : tie.Need-print-requires
+print-requires c κs =
+    let b = c .before .before .before in
+    let a = b .before .before .before .before .before .before .before in
+    let type = a .before .before .before .first-bytes in
+    let document = b .before .before .before .first-bytes2 in (
+      whole-of 32768 (type .last .1 .0) (loaded-in (type .last .1 .0) (a .a .given .1) (type .ensures)) (loaded-whole (type .last .1 .0) (a .a .given .1) (type .ensures)) (omega (arith, a .before .before .s2 .given)),
+      whole-of 65535 (document .last .1 .0) (loaded-in (document .last .1 .0) (b .b .given .1) (document .ensures)) (loaded-whole (document .last .1 .0) (b .b .given .1) (document .ensures)) (omega (arith, b .before .before .d2 .given)),
+    )
 
 returns-3 : tie.Need-returns-3
 returns-3 c = search needs
-
-returns-4 : tie.Need-returns-4
-returns-4 c = search needs
 
 pub main-spec : {M : Type 1} → statement M
 main-spec =
@@ -96,15 +97,8 @@ main-spec =
     enum-told-2
     returns-2
     array-share-prefix-s
-    slice-aggregate-printed
+    slice-aggregate-print
     array-share-prefix-d
-    slice-aggregate-printed-2
-    slice-aggregate-printed-3
-    printed-requires
-    array-share-prefix-out
-    slice-aggregate-write-all
-    write-all-requires
-    slice-aggregate-fail
-    fail-requires
-    returns-3
-    returns-4)
+    slice-aggregate-print-2
+    print-requires
+    returns-3)
