@@ -19,13 +19,16 @@ fn numbers_of(v: Verdict) -> [u32; 6]
 }
 
 // The type judge for C. `buffer` gets six numbers of four bytes for each element, or is zeroed; `answer` gets the refusal
-// number, input, position, the two places and the count.
+// number, input, position, the two places and the count. The refusal number is returned as well, so that a compiler can say
+// where it is left unread.
 #[no_mangle]
-pub extern "C" fn sgml_judge(type_file: &[u8], buffer: &mut [u8], answer: &mut [u32; 6])
-    ensures { λ _. ⌜ JudgedNumbers (now («type_file» .entry)) (now (buffer .entry)) (now (answer .exit)) (now (buffer .exit)) ⌝ }
+pub extern "C" fn sgml_judge(type_file: &[u8], buffer: &mut [u8], answer: &mut [u32; 6]) -> u32
+    ensures { λ r. ⌜ JudgedNumbers (now («type_file» .entry)) (now (buffer .entry)) r (now (answer .exit)) (now (buffer .exit)) ⌝ }
 {
     let v = type_judge::judge_to_bytes(type_file, buffer);
-    *answer = numbers_of(v);
+    let six = numbers_of(v);
+    *answer = six;
+    six[0]
 }
 
 // The six numbers of the reader's answer.
@@ -42,16 +45,18 @@ fn numbers_read(a: Answer) -> [u32; 6]
 }
 
 // The document reader for C. `buffer` gets four numbers of four bytes for each event, or is zeroed; `answer` gets the
-// refusal number, input, position, the two places and the count.
+// refusal number, input, position, the two places and the count. The refusal number is returned as well.
 #[no_mangle]
 pub extern "C" fn sgml_read(
     type_file: &[u8],
     document: &[u8],
     buffer: &mut [u8],
     answer: &mut [u32; 6],
-)
-    ensures { λ _. ⌜ ReadNumbers (now («type_file» .entry)) (now (document .entry)) (now (buffer .entry)) (now (answer .exit)) (now (buffer .exit)) ⌝ }
+) -> u32
+    ensures { λ r. ⌜ ReadNumbers (now («type_file» .entry)) (now (document .entry)) (now (buffer .entry)) r (now (answer .exit)) (now (buffer .exit)) ⌝ }
 {
     let a = document_reader::read_to_bytes(type_file, document, buffer);
-    *answer = numbers_read(a);
+    let six = numbers_read(a);
+    *answer = six;
+    six[0]
 }

@@ -1,4 +1,9 @@
 -- `sgml_judge` meets its contract: the judge's answer, as six numbers.
+use Prim.Native.Nat.{ℕ}
+use mathlib.Core.Path.{ap}
+use mathlib.Core.List.{List}
+use native.Mathlib.Omega.{arith}
+use lib.ListN.{length, getD}
 use borrow.Author.Needs.{needs}
 use Rattle.rules.specs.Lent.{bytes}
 use Rattle.type_judge.specs.Means.{answerOf}
@@ -15,13 +20,16 @@ numbers-of-requires c κs =
     let r = c .before .before .judge-to-bytes in
     verdict-fits bytes (a .type-file .now) (a .buffer .now) (r .last .1 .0) (r .result) (r .ensures)
 
+array-read-result : tie.Need-array-read-result
+array-read-result c = omega (arith, ap length (c .numbers-of .ensures))
+
 same-length : tie.Need-same-length
 same-length c = c .before .before .before .judge-to-bytes .kept .1 .0
 
 returns : tie.Need-returns
 returns c =
     let r = c .before .before .before .judge-to-bytes in
-    (answerOf (r .result), c .numbers-of .ensures, r .ensures)
+    (answerOf (r .result), ap (λ (six : List ℕ). getD six 0 0) (c .numbers-of .ensures), c .numbers-of .ensures, r .ensures)
 
 pub sgml-judge-spec : {M : Type 1} → statement M
-sgml-judge-spec = tie.close (tie.spec judge-to-bytes-requires numbers-of-requires same-length returns)
+sgml-judge-spec = tie.close (tie.spec judge-to-bytes-requires numbers-of-requires array-read-result same-length returns)

@@ -1,4 +1,9 @@
 -- `sgml_read` meets its contract: the reader's answer, as six numbers.
+use Prim.Native.Nat.{ℕ}
+use mathlib.Core.Path.{ap}
+use mathlib.Core.List.{List}
+use native.Mathlib.Omega.{arith}
+use lib.ListN.{length, getD}
 use borrow.Author.Needs.{needs}
 use Rattle.rules.specs.Lent.{bytes}
 use Rattle.document_reader.specs.Means.{answerOf}
@@ -15,13 +20,16 @@ numbers-read-requires c κs =
     let r = c .before .before .read-to-bytes in
     answer-fits bytes (a .type-file .now) (a .document .now) (a .buffer .now) (r .last .1 .1 .0) (r .result) (r .ensures .0) (r .ensures .1)
 
+array-read-result : tie.Need-array-read-result
+array-read-result c = omega (arith, ap length (c .numbers-read .ensures))
+
 same-length : tie.Need-same-length
 same-length c = c .before .before .before .read-to-bytes .kept .1 .1 .0
 
 returns : tie.Need-returns
 returns c =
     let r = c .before .before .before .read-to-bytes in
-    (answerOf (r .result), c .numbers-read .ensures, r .ensures .0)
+    (answerOf (r .result), ap (λ (six : List ℕ). getD six 0 0) (c .numbers-read .ensures), c .numbers-read .ensures, r .ensures .0)
 
 pub sgml-read-spec : {M : Type 1} → statement M
-sgml-read-spec = tie.close (tie.spec read-to-bytes-requires numbers-read-requires same-length returns)
+sgml-read-spec = tie.close (tie.spec read-to-bytes-requires numbers-read-requires array-read-result same-length returns)
