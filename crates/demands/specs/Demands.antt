@@ -1,11 +1,16 @@
--- The three demands of paper 01 on the type judge and on the document reader, in a page. Read this first, then Words for the words in it, then
--- the rules of crates/rules. The calls promise `Judged` and `ReadAs`, of a lent buffer of numbers or of bytes; here stands what every answer
--- that keeps such a promise has. That the code keeps them is the contract of each call; that it ends and stays in its buffers is checked with it.
+-- The three demands of paper 01 on the type judge and on the document reader, in a page. Read this first, then Words of crates/answer_laws for the
+-- words in it, then the rules of crates/rules. `JudgeKeeps` and `ReaderKeeps` say what the demands ask of an answer and of what the lent buffer holds
+-- after; the theorems under "The calls" say that each call of the source gives just that. That it ends and stays in its buffers is checked with its
+-- contract. Meets says the same of the routines of both calls for C.
 use Prim.Native.Nat.{ℕ, _*_, _<_, _≤_}
 use mathlib.Core.Path.{_≡_}
 use mathlib.Core.Logic.{_↔_}
 use mathlib.Core.List.{List}
 use lib.ListN.{length}
+use contract.Lifetimes.{Lfts}
+use denote.Ref.{now}
+use denote.Triple.Clauses.{AtExit}
+use borrow.Fn.World.{ArgsD}
 use Rattle.rules.specs.Lent.{Lent, room}
 use Rattle.rules.specs.Reading.{Reading, got}
 use Rattle.rules.specs.Walk.{Group}
@@ -15,9 +20,26 @@ use Rattle.rules.specs.Judge.{samePlace, Answer, Legible, Refuses, Accepts, Jud
 use Rattle.rules.specs.Events.{Event}
 use Rattle.rules.specs.Settling.{State}
 use Rattle.rules.specs.Reader.{BothLegible, Reads, RefusesBoth, ReadAs}
+use Rattle.rules.specs.Calls.{answerNumbers}
 use Rattle.document_laws.specs.Same.{Passes}
-use Rattle.demands.specs.Words.{Refusal, Acceptance, ModelOf, SomeAmbiguous, NamesFirst, NamesDecide, ReaderRefusal, ReaderAcceptance, SameVerdict}
-use Rattle.demands.specs.Kept as kept
+use Rattle.answer_laws.specs.Words.{Refusal, Acceptance, ModelOf, SomeAmbiguous, NamesFirst, NamesDecide, ReaderRefusal, ReaderAcceptance, SameVerdict}
+use Rattle.answer_laws.specs.Kept as kept
+use Rattle.type_judge.specs.declared.Verdict.{Verdict}
+use Rattle.type_judge.specs.Means as verdict
+use Rattle.type_judge.proofs.judge as judge-call
+use Rattle.type_judge.proofs.judge.Reads as judge-reads
+use Rattle.type_judge.proofs.judge_to_bytes as judge-bytes
+use Rattle.type_judge.proofs.judge_to_bytes.Reads as judge-bytes-reads
+use Rattle.document_reader.specs.declared.Answer as reader
+use Rattle.document_reader.specs.Means as means
+use Rattle.document_reader.proofs.read as read-call
+use Rattle.document_reader.proofs.read.Reads as read-reads
+use Rattle.document_reader.proofs.read_to_bytes as read-bytes
+use Rattle.document_reader.proofs.read_to_bytes.Reads as read-bytes-reads
+use Rattle.sgml.proofs.sgml_judge as c-judge
+use Rattle.sgml.proofs.sgml_judge.Reads as c-judge-reads
+use Rattle.sgml.proofs.sgml_read as c-read
+use Rattle.sgml.proofs.sgml_read.Reads as c-read-reads
 
 -- The judge, lent `before`, answers a to the type file s and leaves `after`.
 pub record JudgeKeeps (l : Lent) (s before : List ℕ) (a : Answer) (after : List ℕ) : Type 0 where
@@ -84,6 +106,57 @@ reader-keeps l s d before a after p =
       ambiguous-named = kept.reader-ambiguous-named l s d before a after p;
       names-decide = kept.reader-names-decide l s d before a after p;
     }
+
+-- The calls
+
+-- What follows goes from the contract of each call as it stands in the source: its `Learnt` is generated from the function's `ensures`, and is what
+-- whoever calls the function learns. κs are the lifetimes of what is passed, a is what is passed, r what is returned, and e what was passed, as it
+-- is after the call.
+
+-- What C gets of `sgml_judge`: the number that is returned and the six numbers are those of one answer, and with what the lent bytes hold then it
+-- keeps the demands.
+pub record JudgeCall (s before : List ℕ) (returned : ℕ) (numbers after : List ℕ) : Type 0 where
+  pub answer : Answer
+  pub returned-is : returned ≡ answer .number
+  pub numbers-are : numbers ≡ answerNumbers answer
+  pub keeps : JudgeKeeps Lent.bytes s before answer after
+
+abbrev pub JudgeGives : (κs : Lfts 3) → ArgsD c-judge.signature κs → ℕ → AtExit c-judge.ended κs → Type 0
+JudgeGives κs a r e = JudgeCall (now (a .0)) (now (a .1 .0)) r (now (e .1 .1 .0)) (now (e .1 .0))
+
+pub sgml-judge : (κs : Lfts 3) (a : ArgsD c-judge.signature κs) (r : ℕ) (e : AtExit c-judge.ended κs) → c-judge-reads.Learnt κs a r e → JudgeGives κs a r e
+sgml-judge κs a r e (answer, returned, numbers, judged) = record { answer = answer; returned-is = returned; numbers-are = numbers; keeps = judge-keeps Lent.bytes _ _ answer _ judged }
+
+-- What C gets of `sgml_read`.
+pub record ReadCall (s d before : List ℕ) (returned : ℕ) (numbers after : List ℕ) : Type 0 where
+  pub answer : Answer
+  pub returned-is : returned ≡ answer .number
+  pub numbers-are : numbers ≡ answerNumbers answer
+  pub keeps : ReaderKeeps Lent.bytes s d before answer after
+
+abbrev pub ReadGives : (κs : Lfts 4) → ArgsD c-read.signature κs → ℕ → AtExit c-read.ended κs → Type 0
+ReadGives κs a r e = ReadCall (now (a .0)) (now (a .1 .0)) (now (a .1 .1 .0)) r (now (e .1 .1 .1 .0)) (now (e .1 .1 .0))
+
+pub sgml-read : (κs : Lfts 4) (a : ArgsD c-read.signature κs) (r : ℕ) (e : AtExit c-read.ended κs) → c-read-reads.Learnt κs a r e → ReadGives κs a r e
+sgml-read κs a r e (answer, returned, numbers, as-read) = record { answer = answer; returned-is = returned; numbers-are = numbers; keeps = reader-keeps Lent.bytes _ _ _ answer _ as-read }
+
+-- What Rattle callers get: `judge` with a lent buffer of numbers, `judge_to_bytes` with one of bytes, and the reader likewise. `answerOf` has the paper's
+-- numbers for each case of what they return.
+pub judge : (κs : Lfts 2) (a : ArgsD judge-call.signature κs) (r : Verdict) (e : AtExit judge-call.ended κs) → judge-reads.Learnt κs a r e
+    → JudgeKeeps Lent.numbers (now (a .0)) (now (a .1 .0)) (verdict.answerOf r) (now (e .1 .0))
+judge κs a r e judged = judge-keeps Lent.numbers _ _ _ _ judged
+
+pub judge-to-bytes : (κs : Lfts 2) (a : ArgsD judge-bytes.signature κs) (r : Verdict) (e : AtExit judge-bytes.ended κs) → judge-bytes-reads.Learnt κs a r e
+    → JudgeKeeps Lent.bytes (now (a .0)) (now (a .1 .0)) (verdict.answerOf r) (now (e .1 .0))
+judge-to-bytes κs a r e judged = judge-keeps Lent.bytes _ _ _ _ judged
+
+pub read : (κs : Lfts 3) (a : ArgsD read-call.signature κs) (r : reader.Answer) (e : AtExit read-call.ended κs) → read-reads.Learnt κs a r e
+    → ReaderKeeps Lent.numbers (now (a .0)) (now (a .1 .0)) (now (a .1 .1 .0)) (means.answerOf r) (now (e .1 .1 .0))
+read κs a r e (as-read, fits) = reader-keeps Lent.numbers _ _ _ _ _ as-read
+
+pub read-to-bytes : (κs : Lfts 3) (a : ArgsD read-bytes.signature κs) (r : reader.Answer) (e : AtExit read-bytes.ended κs) → read-bytes-reads.Learnt κs a r e
+    → ReaderKeeps Lent.bytes (now (a .0)) (now (a .1 .0)) (now (a .1 .1 .0)) (means.answerOf r) (now (e .1 .1 .0))
+read-to-bytes κs a r e (as-read, fits) = reader-keeps Lent.bytes _ _ _ _ _ as-read
 
 -- The rules have an answer to every call, and only one, with what the buffer holds after: so they are total, whatever the code does.
 pub judged-exists : (l : Lent) (s before : List ℕ) → (a : Answer) × (after : List ℕ) × Judged l s before a after

@@ -1,9 +1,3 @@
--- The demands of paper 01: read Demands first, then Words.
+-- The demands of paper 01 on the calls of the source: read Demands.
 pub mod Demands
-pub mod Words
--- The proofs behind them.
-pub mod Kept
-pub mod Proofs
-pub mod Models
-pub mod Exists
-pub mod ReaderProofs
+pub mod Meets

@@ -17,8 +17,8 @@ use Rattle.rules_laws.specs.Within.{typeFile-count}
 use Rattle.element_reader.specs.Means.{Recorded}
 use Rattle.element_index.specs.Laws.{recorded-offset, recorded-size}
 use Rattle.type_laws.specs.Again.{typeFile-sizes}
-use Rattle.demands.specs.Demands.{judged-one}
-use Rattle.event_lines.specs.Printed.{nameText, line, eventLines, eventsText}
+use Rattle.answer_laws.specs.Kept.{judged-one}
+use Rattle.rules.specs.Printed.{nameText, line, eventLines, eventsText}
 use Rattle.event_lines.specs.Means.{Fits, nameIn, lineAt, linesFrom, textOf}
 
 zero-at : (n i : ℕ) → _≡_ {A = ℕ} (getD (replicate n 0) i 0) 0

@@ -1,0 +1,1 @@
+// What every answer has that the rules allow. No code.
