@@ -41,7 +41,7 @@ fresh-begun es k h = go (contentOf es k) refl h
     go empty e i = absurd (false≢true i)
     go (model g ps n) e i = record { group = g; places = ps; tokens = n; has = e; begins = begins-none g }
 
-nothing-begun : (es : List Element) → AllBegun es nothingOpen
+pub nothing-begun : (es : List Element) → AllBegun es nothingOpen
 nothing-begun es = record { current = fresh-begun es 0 refl; around = none }
 
 -- Every move keeps them so.
@@ -64,7 +64,7 @@ module _ (s : List ℕ) (es : List Element) (D E : Decisions) (x : Means s es D)
   took-begun o p b (required l) =
       record { group = b .group; places = b .places; tokens = b .tokens; has = b .has; begins = x .walks (o .number) (b .has) (o .taken) (b .begins) .required .some l .0 }
 
-  begun-moves : Moves s es D E (Itself (AllBegun es))
+  pub begun-moves : Moves s es D E (Itself (AllBegun es))
   begun-moves =
       record {
         ends =
