@@ -18,10 +18,13 @@ use Rattle.rules.specs.Ambiguity.{Ambiguous, PairAtFault}
 use Rattle.rules.specs.TypeFile.{Place, Element, typeFile}
 use Rattle.rules.specs.Judge.{samePlace, Answer, Legible, Refuses, Accepts, Judged}
 use Rattle.rules.specs.Events.{Event}
-use Rattle.rules.specs.Settling.{State}
+use Rattle.rules.specs.Settling.{State, nothingOpen}
+use Rattle.rules.specs.Acts.{Acts}
 use Rattle.rules.specs.Reader.{BothLegible, Reads, RefusesBoth, ReadAs}
 use Rattle.rules.specs.Calls.{answerNumbers}
+use Rattle.document_laws.specs.Moves.{Few}
 use Rattle.document_laws.specs.Same.{Passes}
+use Rattle.acts.specs.Readings.{passes-acts}
 use Rattle.answer_laws.specs.Words.{Refusal, Acceptance, ModelOf, SomeAmbiguous, NamesFirst, NamesDecide, ReaderRefusal, ReaderAcceptance, SameVerdict}
 use Rattle.answer_laws.specs.Kept as kept
 use Rattle.type_judge.specs.declared.Verdict.{Verdict}
@@ -176,9 +179,10 @@ pub reading-exists : (s d : List ℕ) (es : List Element) → BothLegible s d �
     → (r : Reading (List Event)) × Reads s d es r × ((fs : List Element) (q : Reading (List Event)) → Reads s d fs q → (es ≡ fs) × (r ≡ q))
 reading-exists = kept.reading-exists
 
--- Demand 1: 0 to 24 elements are open, in every state that reading a document passes: as many as stand around the current one.
-pub few-open : (s d : List ℕ) (es : List Element) (r : Reading (List Event)) (x : Reads s d es r) (at : ℕ) (z : State) → Passes s es (x .decisions) d at z → length (z .around) ≤ 24
-few-open = kept.few-open
+-- Demand 1: 0 to 24 elements are open (`Few`: as many as stand around the current one) in every state that reading a document passes, within each token
+-- too: after each start and end, written or inferred. OpenElements says it of the program.
+pub few-open : (s d : List ℕ) (es : List Element) (r : Reading (List Event)) (x : Reads s d es r) (at : ℕ) (z : State) → Passes s es (x .decisions) d at z → Acts s es (x .decisions) Few nothingOpen z
+few-open s d es r x at z = passes-acts s es (x .decisions) d
 
 -- Demand 3 by pairs at fault: a model is ambiguous exactly if it has one; of a model that was read, both its places are places of the model.
 pub pair-exactly : (s : List ℕ) (g : Group) (ps : List Place) → Ambiguous (samePlace s ps) g ↔ ((p : ℕ) × (q : ℕ) × PairAtFault (samePlace s ps) g p q)

@@ -50,3 +50,9 @@ pub record Alike (o q : Open) : Type 0 where
   pub complete : o .complete ≡ q .complete
   pub required : o .required ≡ q .required
   pub around : (k : ℕ) → k < o .count → getD (o .around) k none ≡ getD (q .around) k none
+
+-- From the moment at which the rules have z and the program o, acts lead to the rules' state y, and beside it to open elements alike to r.
+pub record Leads (s : List ℕ) (es : List Element) (D : Decisions) (rows : List ℕ) (z : State) (o : Open) (y : State) (r : Open) : Type 0 where
+  pub to : Open
+  pub beside : Beside s es D rows z o y to
+  pub alike : Alike r to
