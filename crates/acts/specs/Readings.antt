@@ -157,7 +157,8 @@ module _ (s : List ℕ) (es : List Element) (D : Decisions) where
 
   -- Ends
 
-  leftOut : (at : ℕ) (o : Open) → Gives (λ (e : Event). (e ≡ endInferred (o .number) at) × (isComplete s es D o ≡ true) × (endO es (o .number) ≡ true)) (endLeftOut s es D at o)
+  -- An end that is left out is inferred of an element that is complete, with end "O".
+  pub leftOut : (at : ℕ) (o : Open) → Gives (λ (e : Event). (e ≡ endInferred (o .number) at) × (isComplete s es D o ≡ true) × (endO es (o .number) ≡ true)) (endLeftOut s es D at o)
   unfolding endLeftOut
   leftOut at o = either (isComplete s es D o) (λ c. either (endO es (o .number)) (λ e. reads (refl, c, e)) (λ e. stops tt)) (λ c. stops tt)
 

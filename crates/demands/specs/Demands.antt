@@ -116,6 +116,16 @@ reader-keeps l s d before a after p =
 -- whoever calls the function learns. κs are the lifetimes of what is passed, a is what is passed, r what is returned, and e what was passed, as it
 -- is after the call.
 
+-- Demand 1, "checks everything itself": no call asks anything of whoever calls it (`Asked` is generated from `requires`).
+pub asks-nothing :
+    ((κs : Lfts 3) (a : ArgsD c-judge.signature κs) → c-judge-reads.Asked κs a)
+    × ((κs : Lfts 4) (a : ArgsD c-read.signature κs) → c-read-reads.Asked κs a)
+    × ((κs : Lfts 2) (a : ArgsD judge-call.signature κs) → judge-reads.Asked κs a)
+    × ((κs : Lfts 2) (a : ArgsD judge-bytes.signature κs) → judge-bytes-reads.Asked κs a)
+    × ((κs : Lfts 3) (a : ArgsD read-call.signature κs) → read-reads.Asked κs a)
+    × ((κs : Lfts 3) (a : ArgsD read-bytes.signature κs) → read-bytes-reads.Asked κs a)
+asks-nothing = (λ κs a. tt, λ κs a. tt, λ κs a. tt, λ κs a. tt, λ κs a. tt, λ κs a. tt)
+
 -- What C gets of `sgml_judge`: the number that is returned and the six numbers are those of one answer, and with what the lent bytes hold then it
 -- keeps the demands.
 pub record JudgeCall (s before : List ℕ) (returned : ℕ) (numbers after : List ℕ) : Type 0 where

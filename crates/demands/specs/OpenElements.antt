@@ -4,7 +4,7 @@
 use Prim.Native.Nat.{ℕ, suc, _≤_}
 use mathlib.Core.Path.{_≡_, sym, subst}
 use mathlib.Core.Bool.{true}
-use mathlib.Core.List.{List}
+use mathlib.Core.List.{List, _++_}
 use lib.ListN.{length}
 use contract.Lifetimes.{Lfts}
 use denote.Ref.{now}
@@ -13,10 +13,13 @@ use borrow.Fn.World.{ArgsD}
 use Rattle.rules.specs.Reading.{Reading, got}
 use Rattle.rules.specs.TypeFile.{Element}
 use Rattle.rules.specs.Judge.{Accepts}
+use Rattle.rules.specs.Decisions.{Decisions, Means}
 use Rattle.rules.specs.Events.{Event}
 use Rattle.rules.specs.Settling.{State, nothingOpen, isComplete, startElement, takeData, endElement}
+use Rattle.rules.specs.Acts.{Act}
 use Rattle.rules.specs.Reader.{Reads}
 use Rattle.document_laws.specs.Decide.{decided}
+use Rattle.document_laws.specs.Moves.{Few}
 use Rattle.document_laws.specs.Same.{Passes}
 use Rattle.last_places.specs.Turns.{Reaches}
 use Rattle.type_tables.specs.Means.{Rows, Facts, Tables}
@@ -40,8 +43,10 @@ use Rattle.closing.proofs.end_tag as end-tag
 use Rattle.closing.proofs.end_tag.Reads as end-tag-reads
 use Rattle.closing.proofs.finish as finish
 use Rattle.closing.proofs.finish.Reads as finish-reads
-use Rattle.moments.specs.Means.{Moment, Beside, Leads}
+use Rattle.moments.specs.Means.{done, Moment, Beside, Leads}
+use Rattle.moments.specs.Beside.{moment-first, moment-act}
 use Rattle.moments.specs.Results.{passes-beside, document-beside, reaches-leads, settles-leads, data-leads, tagged-leads}
+use Rattle.moments.specs.Steps.{finished-beside}
 
 -- Demand 1
 
@@ -72,11 +77,20 @@ end-tag-few κs a r e tagged = tagged .brings .ranged
 pub finish-few : (κs : Lfts 3) (a : ArgsD finish.signature κs) (r : Outcome) (e : AtExit finish.ended κs) → finish-reads.Learnt κs a r e → Ranged (r .open)
 finish-few κs a r e finished = finished .brings .ranged
 
--- Every moment
+-- Every moment: "At every moment both must equal what 01's definition says of the places taken."
 
--- `Beside` leads from the first moment, at which nothing is open, to another, act by act as the rules have it (`Act`), and the methods of the open
--- elements beside (`done`). At each moment (`Moment`) 0 to 24 are open, as many in the program as in the rules, the program stands for the rules' state,
--- and the marks of the current element and of each around it say what the walks say of all places taken.
+-- At a moment (`Moment`) 0 to 24 are open, as many in the program as in the rules, the program stands for the rules' state, and the marks of the current
+-- element and of each around it say what the walks say of all places taken (`MarksMean` of the rules). Nothing is open at the first moment, and from a
+-- moment each act (`Act` of the rules: a start, written or inferred, an end, written or inferred, data) leads to a moment, with what the methods of the
+-- open elements make of it (`done`): so it is wherever a token has come to, though it may still be refused.
+module _ (s : List ℕ) (es : List Element) (accepted : Accepts s es) (D : Decisions) (means : Means s es D) (rows : List ℕ) (said : Rows es rows) where
+  pub first-moment : Moment es nothingOpen fresh
+  first-moment = moment-first s es accepted D means rows said
+
+  pub each-act : (z y : State) (o : Open) → Moment es z o → (a : Act s es D z y) → Few y → Moment es y (done s es D rows a o)
+  each-act z y o m a few = moment-act s es accepted D means rows said m a few
+
+-- `Beside` leads from one moment to another, act by act.
 module _ (s d : List ℕ) (es : List Element) (rows : List ℕ) (said : Rows es rows) where
   -- All moments before any position that reading comes to between tokens, those within each token too.
   pub every-moment : (r : Reading (List Event)) (x : Reads s d es r) (at : ℕ) (z : State) → Passes s es (x .decisions) d at z → (o : Open) × Beside s es (x .decisions) rows nothingOpen fresh z o
@@ -125,3 +139,12 @@ pub within-end-tag : (κs : Lfts 3) (a : ArgsD end-tag.signature κs) (r : Outco
     r .number ≡ 0 → (z : State) → Moment es z o
     → (y : State) × (endElement s es (decided s es) x at after z ≡ got y) × Leads s es (decided s es) rows z o y (r .open)
 within-end-tag κs a r e tagged s es rows accepted said facts-say done z m = tagged-leads s es accepted rows said facts-say tagged done z m
+
+-- Within the document's end that is not refused: the ends that it infers, until nothing is open and the document itself is complete, with the events that
+-- it brings.
+pub within-end : (κs : Lfts 3) (a : ArgsD finish.signature κs) (r : Outcome) (e : AtExit finish.ended κs) (h : finish-reads.Learnt κs a r e)
+    → (s : List ℕ) (es : List Element) (rows : List ℕ) → Accepts s es → Rows es rows → Facts s es (now (a .0))
+    → let o = a .1 .0 in
+    r .number ≡ 0 → (z : State) → Moment es z o
+    → (y : State) × (q : Open) × Beside s es (decided s es) rows z o y q × (q .count ≡ 0) × (isComplete s es (decided s es) (y .current) ≡ true) × (y .events ≡ z .events ++ h .brings .events)
+within-end κs a r e finished s es rows accepted said facts-say none z m = finished-beside s es accepted rows said facts-say finished none z m

@@ -44,7 +44,7 @@ module _ (s : List ℕ) (es : List Element) (accepted : Accepts s es) (D : Decis
   moment-first = moment nothingOpen fresh ranged-fresh (stands-fresh es) (nothing-begun es) refl
 
   module _ (z : State) (o : Open) (m : Moment es z o) where
-    number-same : z .current .number ≡ o .element
+    pub number-same : z .current .number ≡ o .element
     number-same = ap (λ (y : State). y .current .number) (m .same)
 
     answers : Answers s es D (decided s es) (z .current) (z .current)

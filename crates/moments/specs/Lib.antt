@@ -3,3 +3,4 @@ pub mod Means
 pub mod Beside
 pub mod Alike
 pub mod Results
+pub mod Steps

@@ -55,7 +55,7 @@ module _ (s : List ℕ) (es : List Element) (accepted : Accepts s es) (rows : Li
   means : Means s es D
   means = accepted-decided s es accepted
 
-  leads : {z y : State} {o : Open} → Moment es z o → Acts s es D Few z y → (r : Open) → Stands es r → (ev : List Event) → short y ≡ stateOf r ev → Leads s es D rows z o y r
+  pub leads : {z y : State} {o : Open} → Moment es z o → Acts s es D Few z y → (r : Open) → Stands es r → (ev : List Event) → short y ≡ stateOf r ev → Leads s es D rows z o y r
   leads {z} {y} m a r h ev e =
       let (q, b) = acts-beside s es accepted D means rows said m a in
       let n = beside-last b in
