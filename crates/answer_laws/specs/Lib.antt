@@ -1,8 +1,3 @@
--- What every answer has that the rules allow, in the words of the demands: the page is crates/demands.
-pub mod Words
--- The proofs.
-pub mod Kept
-pub mod Proofs
-pub mod Models
-pub mod Exists
-pub mod ReaderProofs
+-- The rules settle one answer of the judge and one of the reader, and what each such answer is: what the page of crates/demands goes by.
+pub mod Judge
+pub mod Reader

@@ -1,1 +1,1 @@
-// What every answer has that the rules allow. No code.
+// The rules settle one answer of each call. No code.

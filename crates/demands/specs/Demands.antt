@@ -1,5 +1,5 @@
--- The three demands of paper 01 on the type judge and on the document reader, in a page. Read this first, then Words of crates/answer_laws for the
--- words in it, then the rules of crates/rules. `JudgeKeeps` and `ReaderKeeps` say what the demands ask of an answer and of what the lent buffer holds
+-- The three demands of paper 01 on the type judge and on the document reader, in a page. Read this first, then Words for the words in it, then
+-- the rules of crates/rules. `JudgeKeeps` and `ReaderKeeps` say what the demands ask of an answer and of what the lent buffer holds
 -- after; the theorems under "The calls" say that each call of the source gives just that. That it ends and stays in its buffers is checked with its
 -- contract. Meets says the same of the routines of both calls for C.
 use Prim.Native.Nat.{ℕ, _*_, _<_, _≤_}
@@ -25,8 +25,8 @@ use Rattle.rules.specs.Calls.{answerNumbers}
 use Rattle.document_laws.specs.Moves.{Few}
 use Rattle.document_laws.specs.Same.{Passes}
 use Rattle.acts.specs.Readings.{passes-acts}
-use Rattle.answer_laws.specs.Words.{Refusal, Acceptance, ModelOf, SomeAmbiguous, NamesFirst, NamesDecide, ReaderRefusal, ReaderAcceptance, SameVerdict}
-use Rattle.answer_laws.specs.Kept as kept
+use Rattle.demands.specs.Words.{Refusal, Acceptance, ModelOf, SomeAmbiguous, NamesFirst, NamesDecide, ReaderRefusal, ReaderAcceptance, SameVerdict}
+use Rattle.demands.specs.Kept as kept
 use Rattle.type_judge.specs.declared.Verdict.{Verdict}
 use Rattle.type_judge.specs.Means as verdict
 use Rattle.type_judge.proofs.judge as judge-call

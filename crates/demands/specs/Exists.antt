@@ -15,7 +15,7 @@ use Rattle.rules.specs.Events.{Event}
 use Rattle.rules.specs.Reader.{eventNumbers, documentRefusal, BothLegible, Reads, RefusesBoth, ReadAs}
 use Rattle.text.specs.Laws.{span-in}
 use Rattle.document_laws.specs.Laws.{reads-some}
-use Rattle.answer_laws.specs.Models.{typeFile-counted, SomeFirst, first-or-none}
+use Rattle.demands.specs.Models.{typeFile-counted, SomeFirst, first-or-none}
 
 -- All bytes are allowed, or there is a first that is not.
 all-allowed : (s : List ℕ) → (span allowed s < length s → ⊥) → span allowed s ≡ length s

@@ -17,8 +17,8 @@ use Rattle.rules_laws.specs.Declarations.{Declares, typeFile-holds}
 use Rattle.model_sets.specs.Sets.{Numbered}
 use Rattle.model_sets.specs.Pairs.{firstPairOf, pair-clash, firstPairOf-none, firstPairOf-is}
 use Rattle.document_laws.specs.Numbers.{Counted, counted-builds}
-use Rattle.answer_laws.specs.Words.{ModelOf, NamesFirst}
-use Rattle.answer_laws.specs.Proofs.{stands-model, model-exactly, not-ambiguous}
+use Rattle.demands.specs.Words.{ModelOf, NamesFirst}
+use Rattle.answer_laws.specs.Judge.{stands-model, model-exactly, not-ambiguous}
 
 -- The places of a model that was read are numbered from 1, left to right, and as many as were written down.
 abbrev pub PlacesCounted : Element → Type 0

@@ -13,11 +13,11 @@ use Rattle.rules.specs.TypeFile.{Place, Element, typeFile}
 use Rattle.rules.specs.Judge.{samePlace, Answer, Legible, Refuses, noRoom, Accepts, Judged, refuses, accepts}
 use Rattle.rules.specs.Events.{Event}
 use Rattle.rules.specs.Reader.{BothLegible, Reads, RefusesBoth, ReadAs}
-use Rattle.answer_laws.specs.Words.{Refusal, Acceptance, ModelOf, SomeAmbiguous, NamesFirst, NamesDecide, ReaderRefusal, ReaderAcceptance, SameVerdict}
-use Rattle.answer_laws.specs.Proofs.{settled-one, settled-refuses, settled-accepts, settled-fair, settled-faulty, refuses-named, refuses-some, settled-nine, settled-nineteen, first-model, model-exactly, not-ambiguous, names-alone, settled-length}
-use Rattle.answer_laws.specs.Models.{pair-in, names-first}
-use Rattle.answer_laws.specs.Exists.{judged-some, read-some}
-use Rattle.answer_laws.specs.ReaderProofs.{given-one, reading-one, both-says, both-some, given-nine, given-nineteen, type-refused, given-refuses, given-accepts, given-faulty, given-fair, given-length}
+use Rattle.demands.specs.Words.{Refusal, Acceptance, ModelOf, SomeAmbiguous, NamesFirst, NamesDecide, ReaderRefusal, ReaderAcceptance, SameVerdict}
+use Rattle.answer_laws.specs.Judge.{settled-one, settled-refuses, settled-accepts, settled-fair, settled-faulty, refuses-named, refuses-some, settled-nine, settled-nineteen, first-model, model-exactly, not-ambiguous, names-alone, settled-length}
+use Rattle.demands.specs.Models.{pair-in, names-first}
+use Rattle.demands.specs.Exists.{judged-some, read-some}
+use Rattle.answer_laws.specs.Reader.{given-one, reading-one, both-says, both-some, given-nine, given-nineteen, type-refused, given-refuses, given-accepts, given-faulty, given-fair, given-length}
 
 -- The type judge
 
