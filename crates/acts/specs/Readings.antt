@@ -134,12 +134,16 @@ module _ (s : List ℕ) (es : List Element) (D : Decisions) where
       (next {z = c .here} (omega (arith, here-deep c)) (empties k at after d (c .fits) m (omega (arith, here-deep c)))
       (still {z = note (endOfEmpty k after) (note (startWritten k at after) (takeToken s es D (start k) (c .here)))} (omega (arith, here-deep c)))))
 
-  pub startElement-acts : (k at after : ℕ) (z : State) → Declared es k → Few z → Gives (Acts s es D Few z) (startElement s es D k at after z)
-  unfolding startElement
-  startElement-acts k at after z d f =
-      on (settle-comes (start k) at z) λ y c.
+  -- A start tag that has its place in y is noted, and its element opened, or over at once.
+  pub noted-acts : (k at after : ℕ) (z y : State) → Declared es k → Few z → Comes (start k) z y
+      → Gives (Acts s es D Few z) (andThen (limited at (enter k y)) λ x. elim (hasModel (contentOf es k)) [ true ↦ got (note (startWritten k at after) x) | false ↦ got (note (endOfEmpty k after) (note (startWritten k at after) y)) ])
+  noted-acts k at after z y d f c =
       on (limited-few at (enter k y)) λ x l.
       either (hasModel (contentOf es k)) (λ m. reads (rw (l .0) (started k at after f d c (l .1) m))) (λ m. reads (emptied k at after f d c (l .1) m))
+
+  pub startElement-acts : (k at after : ℕ) (z : State) → Declared es k → Few z → Gives (Acts s es D Few z) (startElement s es D k at after z)
+  unfolding startElement
+  startElement-acts k at after z d f = on (settle-comes (start k) at z) λ y c. noted-acts k at after z y d f c
 
   pub takeData-acts : (at : ℕ) (z : State) → Few z → Gives (Acts s es D Few z) (takeData s es D at z)
   unfolding takeData

@@ -51,7 +51,7 @@ module _ (s : List ℕ) (es : List Element) (accepted : Accepts s es) (D : Decis
     answers = begun-moves s es D (decided s es) means (accepted-decided s es accepted) .ends .alike (refl, m .begun)
 
     -- The place as which a token fits is one of the model's, and so is the required one.
-    fits-in : (t : Token) → fitting s es D (z .current) t ≤ width es (o .element)
+    pub fits-in : (t : Token) → fitting s es D (z .current) t ≤ width es (o .element)
     fits-in t = rw (← number-same) (rw (answers .fits t) (fits-most s es accepted (z .current .number) (z .current .taken) t))
 
     last-same : lastOr0 (z .current .taken) ≡ o .place
@@ -72,13 +72,13 @@ module _ (s : List ℕ) (es : List Element) (accepted : Accepts s es) (D : Decis
       small : p ≤ 96
       small = omega (arith, width-most s es accepted (o .element))
 
-      took-stands : Stands es (took rows p o)
+      pub took-stands : Stands es (took rows p o)
       took-stands = stands-took accepted said p (m .stands) l
 
       took-ranged : Ranged (took rows p o)
       took-ranged = ranged-took rows p (m .ranged) small
 
-      took-same : short (takePlace p z) ≡ stateOf (took rows p o) (z .events)
+      pub took-same : short (takePlace p z) ≡ stateOf (took rows p o) (z .events)
       took-same = same-took o (z .events) z (m .same) rows p
 
       -- A place is taken, whatever is noted of it.

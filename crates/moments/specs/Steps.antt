@@ -1,6 +1,6 @@
--- The steps within a token, each by the contract of the function that takes it: a start that is inferred, the ends that an end tag and the document's end
--- infer.
-use Prim.Native.Nat.{ℕ, _≤_}
+-- The steps within a token, each by the contract of the function that takes it: a start that is inferred, the place of a start tag, the ends that an
+-- end tag and the document's end infer.
+use Prim.Native.Nat.{ℕ, suc, _≤_}
 use mathlib.Core.Path.{_≡_, refl, sym, _∙_, ap, ap₂, subst}
 use mathlib.Core.Bool.{Bool, true, false}
 use mathlib.Core.List.{List, [], _∷_, _++_}
@@ -12,9 +12,9 @@ use Rattle.rules.specs.Reading.{Reading, refused, got, andThen}
 use Rattle.rules.specs.TypeFile.{Element}
 use Rattle.rules.specs.Judge.{Accepts}
 use Rattle.rules.specs.Elements.{contentOf, endO}
-use Rattle.rules.specs.Decisions.{Decisions, Means}
+use Rattle.rules.specs.Decisions.{start, Decisions, Means}
 use Rattle.rules.specs.Events.{Event, endInferred}
-use Rattle.rules.specs.Settling.{State, isComplete, inferable, endLeftOut, endFrom, endDocument}
+use Rattle.rules.specs.Settling.{State, takePlace, fitting, isComplete, inferable, endLeftOut, endFrom, endDocument}
 use Rattle.rules.specs.Settling as rules
 use Rattle.rules.specs.Acts.{Act, infers, infers-end, Acts}
 use Rattle.rules.specs.Acts as act
@@ -32,11 +32,12 @@ use Rattle.open_elements.specs.declared.Open.{Open}
 use Rattle.open_elements.specs.declared.Outcome.{Outcome}
 use Rattle.open_elements.specs.Means.{current, stateOf, took, opening, outcomeOf, closedOf, Stands}
 use Rattle.open_elements.specs.Laws.{stateOf-short}
-use Rattle.settling.specs.Means.{InfersStart}
+use Rattle.ways.specs.declared.Way.{Way}
+use Rattle.settling.specs.Means.{noting, InfersStart, Places}
 use Rattle.closing.specs.Means.{inferEnds, Until, Finished}
-use Rattle.acts.specs.Readings.{leftOut, endDocument-acts}
+use Rattle.acts.specs.Readings.{Comes, leftOut, noted-acts, endDocument-acts}
 use Rattle.moments.specs.Means.{done, Moment, Beside, Leads}
-use Rattle.moments.specs.Beside.{number-same, required-kept, acts-beside, beside-last}
+use Rattle.moments.specs.Beside.{number-same, fits-in, required-kept, took-stands, took-same, acts-beside, beside-last}
 use Rattle.moments.specs.Results.{leads}
 
 -- The last places decide
@@ -113,6 +114,22 @@ module _ (s : List ℕ) (es : List Element) (accepted : Accepts s es) (rows : Li
       ∙ sym (inferable-is s es (D s es) (current o))
       ∙ sym (h .chosen s es tables (m .stands)) in
       (_, infers (h .k) at same some, h .opens ∙ ap (λ (p : ℕ). opening rows (h .k) (took rows p o)) (sym kept))
+
+  -- The place of a start tag (`placed` of settling), where it is the one as which the token fits, and the tag is not refused: one act, which opens its
+  -- element or, of an EMPTY one, leaves what is open.
+  pub places-leads : {places facts : List ℕ} → Tables s es rows places facts → {found : Way} {k at after n : ℕ} {o : Open} {numbers bytes : List ℕ} {r : Outcome} {numbers′ bytes′ : List ℕ}
+      → (h : Places rows places facts found (suc k) at after n o numbers bytes r numbers′ bytes′) → suc k ≤ length es → r .number ≡ 0 → (z : State) → Moment es z o → fitting s es (D s es) (z .current) (start (suc k)) ≡ h .p → 1 ≤ h .p
+      → (y : State) × (noting es (suc k) at after (takePlace (h .p) z) ≡ got y) × Leads s es (D s es) rows z o y (r .open)
+  places-leads tables {k = k} {at} {after} {o = o} {r = r} h most none z m fits some =
+      let p = h .p in
+      let ev = z .events ++ h .events in
+      let inside = rw fits at (fits-in s es accepted (D s es) means rows said z o m (start (suc k))) in
+      let notes = h .notes (λ e. omega arith) s es tables (took-stands s es accepted (D s es) means rows said z o m p inside) most in
+      let (y, e, f) =
+      shortly-got (noting es (suc k) at after (takePlace p z)) (stateOf (r .open) ev)
+      (sym (notes .comes (z .events) (takePlace p z) (took-same s es accepted (D s es) means rows said z o m p inside)) ∙ ap (λ (n : ℕ). outcomeOf at n (stateOf (r .open) ev)) none) in
+      let comes : Comes s es (D s es) (start (suc k)) z (takePlace p z) = record { here = z; acts = λ n l j. act.still l; fits = omega (arith, fits); taken = ap (λ (q : ℕ). takePlace q z) (sym fits) } in
+      (y, e, leads s es accepted rows said m (got-so (noted-acts s es (D s es) (suc k) at after z (takePlace p z) (omega arith, most) (omega (arith, m .many, m .ranged .few)) comes) e) (r .open) (notes .stands none) ev f)
 
   -- The ends that are inferred until the current element is x, or nothing is around it (`end_until` of closing).
   pub until-leads : {facts : List ℕ} → Facts s es facts → {x at n : ℕ} {o : Open} {numbers bytes : List ℕ} {r : Outcome} {numbers′ bytes′ : List ℕ}
