@@ -125,3 +125,8 @@ module _ (s : List ℕ) (es : List Element) (accepted : Accepts s es) (D : Decis
 pub beside-last : {s : List ℕ} {es : List Element} {D : Decisions} {rows : List ℕ} {z x : State} {o q : Open} → Beside s es D rows z o x q → Moment es x q
 beside-last (still m) = m
 beside-last (next m a b) = beside-last b
+
+-- One act more.
+pub beside-then : {s : List ℕ} {es : List Element} {D : Decisions} {rows : List ℕ} {z y x : State} {o q : Open} → Beside s es D rows z o y q → (a : Act s es D y x) → Moment es x (done s es D rows a q) → Beside s es D rows z o x (done s es D rows a q)
+beside-then (still m) a n = next m a (still n)
+beside-then (next m b r) a n = next m b (beside-then r a n)

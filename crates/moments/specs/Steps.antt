@@ -1,8 +1,8 @@
--- The steps within a token, each by the contract of the function that takes it: a start that is inferred, the place of a start tag, the ends that an
--- end tag and the document's end infer.
+-- The steps within a token, each by the contract of the function that takes it: the ends of step 3, a start that is inferred, the place of a start
+-- tag, the ends that an end tag and the document's end infer.
 use Prim.Native.Nat.{ℕ, suc, _≤_}
 use mathlib.Core.Path.{_≡_, refl, sym, _∙_, ap, ap₂, subst}
-use mathlib.Core.Bool.{Bool, true, false}
+use mathlib.Core.Bool.{Bool, true, false, false≢true}
 use mathlib.Core.List.{List, [], _∷_, _++_}
 use native.Mathlib.Omega.{arith}
 use lib.ListN.{length}
@@ -19,6 +19,7 @@ use Rattle.rules.specs.Settling as rules
 use Rattle.rules.specs.Acts.{Act, infers, infers-end, Acts}
 use Rattle.rules.specs.Acts as act
 use Rattle.rules_laws.specs.Holds.{Gives, reads, so, on, either, got-so}
+use Rattle.model_sets.specs.Bits.{and-left, and-right}
 use Rattle.model_sets.specs.Reach.{lastOr0}
 use Rattle.document_laws.specs.Decide.{decided, isCompleteIn-last}
 use Rattle.document_laws.specs.Laws.{accepted-decided}
@@ -30,14 +31,15 @@ use Rattle.last_places.specs.Follows.{shortly-got}
 use Rattle.type_tables.specs.Means.{Rows, Facts, Tables}
 use Rattle.open_elements.specs.declared.Open.{Open}
 use Rattle.open_elements.specs.declared.Outcome.{Outcome}
-use Rattle.open_elements.specs.Means.{current, stateOf, took, opening, outcomeOf, closedOf, Stands}
+use Rattle.open_elements.specs.Means.{current, around, stateOf, took, opening, ended, outcomeOf, closedOf}
 use Rattle.open_elements.specs.Laws.{stateOf-short}
 use Rattle.ways.specs.declared.Way.{Way}
-use Rattle.settling.specs.Means.{noting, InfersStart, Places}
+use Rattle.ways.specs.Means.{tokenOf, tokenOf-number, tokenOf-declared, mayEnd}
+use Rattle.settling.specs.Means.{noting, EndsTo, none, more, Turns, InfersStart, Places}
 use Rattle.closing.specs.Means.{inferEnds, Until, Finished}
 use Rattle.acts.specs.Readings.{Comes, leftOut, noted-acts, endDocument-acts}
-use Rattle.moments.specs.Means.{done, Moment, Beside, Leads}
-use Rattle.moments.specs.Beside.{number-same, fits-in, required-kept, took-stands, took-same, acts-beside, beside-last}
+use Rattle.moments.specs.Means.{done, Moment, Beside, still, Leads}
+use Rattle.moments.specs.Beside.{number-same, fits-in, required-kept, took-stands, took-same, moment-act, acts-beside, beside-then, beside-last}
 use Rattle.moments.specs.Results.{leads}
 
 -- The last places decide
@@ -96,11 +98,44 @@ module _ (s : List ℕ) (es : List Element) where
       so (ends-acts x at around u (ev ++ i ∷ []) (omega arith)) (λ n j q. q)
       (λ y r. act.next {z = state o (u ∷ around) ev} f (infers-end u around at refl (l .1) (l .2)) (subst (λ (k : Event). Acts s es D Few (state u around (ev ++ k ∷ [])) y) (l .0) r)))
 
+may-end-so : (s : List ℕ) (es : List Element) (D : Decisions) (o : rules.Open) (us : List rules.Open) → mayEnd s es D o us ≡ true → (isComplete s es D o ≡ true) × (endO es (o .number) ≡ true)
+may-end-so s es D o [] e = absurd (false≢true e)
+may-end-so s es D o (u ∷ us) e = (and-left (isComplete s es D o) _ e, and-left (endO es (o .number)) _ (and-right (isComplete s es D o) _ e))
+
 -- The functions
 
 module _ (s : List ℕ) (es : List Element) (accepted : Accepts s es) (rows : List ℕ) (said : Rows es rows) where
   means : Means s es (D s es)
   means = accepted-decided s es accepted
+
+  -- One end that step 3 infers is one act, after which as many methods lead to `ended`.
+  end-does : (at : ℕ) (y : State) (o : Open) → Moment es y o → 1 ≤ o .count → mayEnd s es (D s es) (current o) (around o) ≡ true → (x : State) × (a : Act s es (D s es) y x) × Few x × (done s es (D s es) rows a o ≡ ended o)
+  end-does at y o n some may = by-around (y .around) refl
+    where
+      allowed : (isComplete s es (D s es) (current o) ≡ true) × (endO es (o .element) ≡ true)
+      allowed = may-end-so s es (D s es) (current o) (around o) may
+
+      by-around : (us : List rules.Open) → y .around ≡ us → (x : State) × (a : Act s es (D s es) y x) × Few x × (done s es (D s es) rows a o ≡ ended o)
+      by-around [] e = absurd (omega (arith, n .many, ap (λ (l : List rules.Open). length l) e))
+      by-around (u ∷ us) e =
+          let complete : isComplete s es (D s es) (y .current) ≡ true = complete-short s es (y .current) ∙ ap (λ (w : State). isComplete s es (D s es) (w .current)) (n .same) ∙ allowed .0 in
+          let omitted : endO es (y .current .number) ≡ true = ap (endO es) (number-same s es accepted (D s es) means rows said y o n) ∙ allowed .1 in
+          (_, infers-end u us at e complete omitted, omega (arith, n .many, n .ranged .few, ap (λ (l : List rules.Open). length l) e), refl)
+
+  ends-lead : {at : ℕ} {o₀ o : Open} {ev : List Event} → EndsTo s es at o₀ ev o → (z : State) → Moment es z o₀ → (y : State) × Beside s es (D s es) rows z o₀ y o
+  ends-lead none z m = (z, still m)
+  ends-lead {at} {o₀} (more {o = o} h some may) z m =
+      let (y, b) = ends-lead h z m in
+      let n = beside-last b in
+      let (x, a, few, e) = end-does at y o n some may in
+      (x, subst (λ (q : Open). Beside s es (D s es) rows z o₀ x q) e (beside-then b a (moment-act s es accepted (D s es) means rows said n a few)))
+
+  -- The ends of step 3 (`ends` of settling, whose contract has `Turns`): acts lead to just the open elements q that it gives, though the token may still
+  -- be refused there.
+  pub turns-lead : {places facts : List ℕ} → Tables s es rows places facts → {x at n : ℕ} {o : Open} {numbers bytes : List ℕ} {q : Open} {k : ℕ} {numbers′ bytes′ : List ℕ}
+      → Turns rows places facts x at n o numbers bytes q k numbers′ bytes′ → x ≤ length es → (z : State) → Moment es z o
+      → (y : State) × Beside s es (D s es) rows z o y q
+  turns-lead tables {x} h most z m = ends-lead (h .comes s es tables (m .stands) (tokenOf x) (tokenOf-number x) (tokenOf-declared es x most) .ends) z m
 
   -- One start that is inferred (`infer_start` of settling) is one act.
   pub infers-start-does : {places facts : List ℕ} → Tables s es rows places facts → {at n : ℕ} {o : Open} {numbers bytes : List ℕ} {r : Open} {numbers′ bytes′ : List ℕ}
@@ -120,29 +155,29 @@ module _ (s : List ℕ) (es : List Element) (accepted : Accepts s es) (rows : Li
   pub places-leads : {places facts : List ℕ} → Tables s es rows places facts → {found : Way} {k at after n : ℕ} {o : Open} {numbers bytes : List ℕ} {r : Outcome} {numbers′ bytes′ : List ℕ}
       → (h : Places rows places facts found (suc k) at after n o numbers bytes r numbers′ bytes′) → suc k ≤ length es → r .number ≡ 0 → (z : State) → Moment es z o → fitting s es (D s es) (z .current) (start (suc k)) ≡ h .p → 1 ≤ h .p
       → (y : State) × (noting es (suc k) at after (takePlace (h .p) z) ≡ got y) × Leads s es (D s es) rows z o y (r .open)
-  places-leads tables {k = k} {at} {after} {o = o} {r = r} h most none z m fits some =
+  places-leads tables {k = k} {at} {after} {o = o} {r = r} h most fine z m fits some =
       let p = h .p in
       let ev = z .events ++ h .events in
       let inside = rw fits at (fits-in s es accepted (D s es) means rows said z o m (start (suc k))) in
       let notes = h .notes (λ e. omega arith) s es tables (took-stands s es accepted (D s es) means rows said z o m p inside) most in
       let (y, e, f) =
       shortly-got (noting es (suc k) at after (takePlace p z)) (stateOf (r .open) ev)
-      (sym (notes .comes (z .events) (takePlace p z) (took-same s es accepted (D s es) means rows said z o m p inside)) ∙ ap (λ (n : ℕ). outcomeOf at n (stateOf (r .open) ev)) none) in
+      (sym (notes .comes (z .events) (takePlace p z) (took-same s es accepted (D s es) means rows said z o m p inside)) ∙ ap (λ (n : ℕ). outcomeOf at n (stateOf (r .open) ev)) fine) in
       let comes : Comes s es (D s es) (start (suc k)) z (takePlace p z) = record { here = z; acts = λ n l j. act.still l; fits = omega (arith, fits); taken = ap (λ (q : ℕ). takePlace q z) (sym fits) } in
-      (y, e, leads s es accepted rows said m (got-so (noted-acts s es (D s es) (suc k) at after z (takePlace p z) (omega arith, most) (omega (arith, m .many, m .ranged .few)) comes) e) (r .open) (notes .stands none) ev f)
+      (y, e, leads s es accepted rows said m (got-so (noted-acts s es (D s es) (suc k) at after z (takePlace p z) (omega arith, most) (omega (arith, m .many, m .ranged .few)) comes) e) (r .open) (notes .stands fine) ev f)
 
   -- The ends that are inferred until the current element is x, or nothing is around it (`end_until` of closing).
   pub until-leads : {facts : List ℕ} → Facts s es facts → {x at n : ℕ} {o : Open} {numbers bytes : List ℕ} {r : Outcome} {numbers′ bytes′ : List ℕ}
       → Until facts x at n o numbers bytes r numbers′ bytes′ → r .number ≡ 0 → (z : State) → Moment es z o
       → (y : State) × (inferEnds s es (D s es) x at (z .around) (z .current) (z .events) ≡ got y) × Leads s es (D s es) rows z o y (r .open)
-  until-leads facts-say {x} {at} {o = o} {r = r} h none z m =
+  until-leads facts-say {x} {at} {o = o} {r = r} h fine z m =
       let ev = z .events ++ h .brings .events in
       let q : State → Reading State = λ w. inferEnds s es (D s es) x at (w .around) (w .current) (w .events) in
       let (y, e, f) =
       shortly-got (q z) (stateOf (r .open) ev)
       (ends-short s es x at (z .around) (z .current) (z .events)
       ∙ ap (λ (w : State). shortly (q w)) (m .same)
-      ∙ ap shortly (sym (h .same s es facts-say (m .stands) (z .events)) ∙ ap (λ (n : ℕ). outcomeOf at n (stateOf (r .open) ev)) none)
+      ∙ ap shortly (sym (h .same s es facts-say (m .stands) (z .events)) ∙ ap (λ (n : ℕ). outcomeOf at n (stateOf (r .open) ev)) fine)
       ∙ ap got (stateOf-short (r .open) ev)) in
       (y, e, leads s es accepted rows said m (got-so (ends-acts s es x at (z .around) (z .current) (z .events) (omega (arith, m .many, m .ranged .few))) e) (r .open) (h .stands es (m .stands)) ev f)
 
@@ -151,10 +186,10 @@ module _ (s : List ℕ) (es : List Element) (accepted : Accepts s es) (rows : Li
   pub finished-beside : {facts : List ℕ} → Facts s es facts → {at n : ℕ} {o : Open} {numbers bytes : List ℕ} {r : Outcome} {numbers′ bytes′ : List ℕ}
       → (h : Finished facts at n o numbers bytes r numbers′ bytes′) → r .number ≡ 0 → (z : State) → Moment es z o
       → (y : State) × (q : Open) × Beside s es (D s es) rows z o y q × (q .count ≡ 0) × (isComplete s es (D s es) (y .current) ≡ true) × (y .events ≡ z .events ++ h .brings .events)
-  finished-beside facts-say {at} {o = o} {r = r} h none z m =
+  finished-beside facts-say {at} {o = o} {r = r} h fine z m =
       let ev = z .events ++ h .brings .events in
       let e : endDocument s es (D s es) at z ≡ got ev =
-      endDocument-short s es at z ∙ ap (endDocument s es (D s es) at) (m .same) ∙ sym (h .ends s es facts-say (m .stands) (z .events)) ∙ ap (λ (n : ℕ). closedOf at n ev) none in
+      endDocument-short s es at z ∙ ap (endDocument s es (D s es) at) (m .same) ∙ sym (h .ends s es facts-say (m .stands) (z .events)) ∙ ap (λ (n : ℕ). closedOf at n ev) fine in
       let over = got-so (endDocument-acts s es (D s es) at z (omega (arith, m .many, m .ranged .few))) e in
       let (q, b) = acts-beside s es accepted (D s es) means rows said m (over .acts) in
       (over .last, q, b, beside-last b .many ∙ ap length (over .nothing), over .complete, over .events)

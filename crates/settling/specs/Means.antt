@@ -8,7 +8,7 @@ use Rattle.rules.specs.Reading.{Reading, got, andThen}
 use Rattle.rules.specs.TypeFile.{Element}
 use Rattle.rules.specs.Elements.{contentOf, hasModel}
 use Rattle.rules.specs.Decisions.{Token, Decisions}
-use Rattle.rules.specs.Events.{startInferred, startWritten, endOfEmpty, dataRun, Event}
+use Rattle.rules.specs.Events.{startInferred, startWritten, endInferred, endOfEmpty, dataRun, Event}
 use Rattle.rules.specs.Settling.{State, takePlace, enter, note, limited, fitting, requiredPlace, inferable, settleFrom, startElement}
 use Rattle.rules.specs.Settling as rules
 use Rattle.document_laws.specs.Decide.{decided}
@@ -16,11 +16,11 @@ use Rattle.last_places.specs.Last.{short, shortly, takeRun}
 use Rattle.type_tables.specs.Means.{nameNumber, Declares, Tables, Requires}
 use Rattle.open_elements.specs.declared.Open.{Open}
 use Rattle.open_elements.specs.declared.Outcome.{Outcome}
-use Rattle.open_elements.specs.Means.{stateOf, current, around, took, opening, outcomeOf, Ranged, Stands}
+use Rattle.open_elements.specs.Means.{stateOf, current, around, took, opening, ended, outcomeOf, Ranged, Stands}
 use Rattle.event_buffer.specs.Means.{Puts}
 use Rattle.ways.specs.declared.Way.{Way}
 use Rattle.ways.specs.declared.Way.the-variants.{Stuck}
-use Rattle.ways.specs.Means.{tokenOf, wayOf, chained, startsOf, fitOf, placeOf, MayEnd}
+use Rattle.ways.specs.Means.{tokenOf, wayOf, chained, startsOf, fitOf, placeOf, mayEnd, MayEnd}
 use Rattle.settling.specs.declared.Stop.{Stop}
 
 -- What the rules make of a start tag of the element x, or of a run of data for 0, from `at` to `after`.
@@ -47,9 +47,15 @@ writtenOf (suc k) at after = startWritten (suc k) at after ∷ endOfEmpty (suc k
 
 -- Ends
 
--- What is settled from o on, after these events, is what is settled from o₀ on.
+-- From o₀ ends are inferred one after another, with these events, each where step 3 allows it.
+pub data EndsTo (s : List ℕ) (es : List Element) (at : ℕ) (o₀ : Open) : List Event → Open → Type 0 where
+  none : EndsTo s es at o₀ [] o₀
+  more : {events : List Event} {o : Open} → EndsTo s es at o₀ events o → 1 ≤ o .count → mayEnd s es (decided s es) (current o) (around o) ≡ true → EndsTo s es at o₀ (events ++ endInferred (o .element) at ∷ []) (ended o)
+
+-- What is settled from o on, after these events, is what is settled from o₀ on, and ends alone were inferred between.
 pub record Comes (s : List ℕ) (es : List Element) (t : Token) (at : ℕ) (o : Open) (events : List Event) (o₀ : Open) : Type 0 where
   pub stands : Stands es o
+  pub ends : EndsTo s es at o₀ events o
   pub same : (before : List Event) → settleFrom s es (decided s es) t at (around o) (current o) (before ++ events) ≡ settleFrom s es (decided s es) t at (around o₀) (current o₀) before
 
 -- So it is for every type whose tables these are, and the token whose name is x. An end was inferred for each event.
