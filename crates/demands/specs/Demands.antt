@@ -1,11 +1,16 @@
 -- The three demands of paper 01 on the type judge and on the document reader, in a page. Read this first, then Words for the words in it, then
--- the rules of crates/rules. The calls promise `Judged` and `ReadAs`, of a lent buffer of numbers or of bytes; here stands what every answer
--- that keeps such a promise has. That the code keeps them is the contract of each call; that it ends and stays in its buffers is checked with it.
+-- the rules of crates/rules. `JudgeKeeps` and `ReaderKeeps` say what the demands ask of an answer and of what the lent buffer holds
+-- after; the theorems under "The calls" say that each call of the source gives just that. That it ends and stays in its buffers is checked with its
+-- contract. Meets says the same of the routines of both calls for C.
 use Prim.Native.Nat.{ℕ, _*_, _<_, _≤_}
 use mathlib.Core.Path.{_≡_}
 use mathlib.Core.Logic.{_↔_}
 use mathlib.Core.List.{List}
 use lib.ListN.{length}
+use contract.Lifetimes.{Lfts}
+use denote.Ref.{now}
+use denote.Triple.Clauses.{AtExit}
+use borrow.Fn.World.{ArgsD}
 use Rattle.rules.specs.Lent.{Lent, room}
 use Rattle.rules.specs.Reading.{Reading, got}
 use Rattle.rules.specs.Walk.{Group}
@@ -13,11 +18,31 @@ use Rattle.rules.specs.Ambiguity.{Ambiguous, PairAtFault}
 use Rattle.rules.specs.TypeFile.{Place, Element, typeFile}
 use Rattle.rules.specs.Judge.{samePlace, Answer, Legible, Refuses, Accepts, Judged}
 use Rattle.rules.specs.Events.{Event}
-use Rattle.rules.specs.Settling.{State}
+use Rattle.rules.specs.Settling.{State, nothingOpen}
+use Rattle.rules.specs.Acts.{Acts}
 use Rattle.rules.specs.Reader.{BothLegible, Reads, RefusesBoth, ReadAs}
+use Rattle.rules.specs.Calls.{answerNumbers}
+use Rattle.document_laws.specs.Moves.{Few}
 use Rattle.document_laws.specs.Same.{Passes}
+use Rattle.acts.specs.Readings.{passes-acts}
 use Rattle.demands.specs.Words.{Refusal, Acceptance, ModelOf, SomeAmbiguous, NamesFirst, NamesDecide, ReaderRefusal, ReaderAcceptance, SameVerdict}
 use Rattle.demands.specs.Kept as kept
+use Rattle.type_judge.specs.declared.Verdict.{Verdict}
+use Rattle.type_judge.specs.Means as verdict
+use Rattle.type_judge.proofs.judge as judge-call
+use Rattle.type_judge.proofs.judge.Reads as judge-reads
+use Rattle.type_judge.proofs.judge_to_bytes as judge-bytes
+use Rattle.type_judge.proofs.judge_to_bytes.Reads as judge-bytes-reads
+use Rattle.document_reader.specs.declared.Answer as reader
+use Rattle.document_reader.specs.Means as means
+use Rattle.document_reader.proofs.read as read-call
+use Rattle.document_reader.proofs.read.Reads as read-reads
+use Rattle.document_reader.proofs.read_to_bytes as read-bytes
+use Rattle.document_reader.proofs.read_to_bytes.Reads as read-bytes-reads
+use Rattle.sgml.proofs.sgml_judge as c-judge
+use Rattle.sgml.proofs.sgml_judge.Reads as c-judge-reads
+use Rattle.sgml.proofs.sgml_read as c-read
+use Rattle.sgml.proofs.sgml_read.Reads as c-read-reads
 
 -- The judge, lent `before`, answers a to the type file s and leaves `after`.
 pub record JudgeKeeps (l : Lent) (s before : List ℕ) (a : Answer) (after : List ℕ) : Type 0 where
@@ -85,6 +110,67 @@ reader-keeps l s d before a after p =
       names-decide = kept.reader-names-decide l s d before a after p;
     }
 
+-- The calls
+
+-- What follows goes from the contract of each call as it stands in the source: its `Learnt` is generated from the function's `ensures`, and is what
+-- whoever calls the function learns. κs are the lifetimes of what is passed, a is what is passed, r what is returned, and e what was passed, as it
+-- is after the call.
+
+-- Demand 1, "checks everything itself": no call asks anything of whoever calls it (`Asked` is generated from `requires`).
+pub asks-nothing :
+    ((κs : Lfts 3) (a : ArgsD c-judge.signature κs) → c-judge-reads.Asked κs a)
+    × ((κs : Lfts 4) (a : ArgsD c-read.signature κs) → c-read-reads.Asked κs a)
+    × ((κs : Lfts 2) (a : ArgsD judge-call.signature κs) → judge-reads.Asked κs a)
+    × ((κs : Lfts 2) (a : ArgsD judge-bytes.signature κs) → judge-bytes-reads.Asked κs a)
+    × ((κs : Lfts 3) (a : ArgsD read-call.signature κs) → read-reads.Asked κs a)
+    × ((κs : Lfts 3) (a : ArgsD read-bytes.signature κs) → read-bytes-reads.Asked κs a)
+asks-nothing = (λ κs a. tt, λ κs a. tt, λ κs a. tt, λ κs a. tt, λ κs a. tt, λ κs a. tt)
+
+-- What C gets of `sgml_judge`: the number that is returned and the six numbers are those of one answer, and with what the lent bytes hold then it
+-- keeps the demands.
+pub record JudgeCall (s before : List ℕ) (returned : ℕ) (numbers after : List ℕ) : Type 0 where
+  pub answer : Answer
+  pub returned-is : returned ≡ answer .number
+  pub numbers-are : numbers ≡ answerNumbers answer
+  pub keeps : JudgeKeeps Lent.bytes s before answer after
+
+abbrev pub JudgeGives : (κs : Lfts 3) → ArgsD c-judge.signature κs → ℕ → AtExit c-judge.ended κs → Type 0
+JudgeGives κs a r e = JudgeCall (now (a .0)) (now (a .1 .0)) r (now (e .1 .1 .0)) (now (e .1 .0))
+
+pub sgml-judge : (κs : Lfts 3) (a : ArgsD c-judge.signature κs) (r : ℕ) (e : AtExit c-judge.ended κs) → c-judge-reads.Learnt κs a r e → JudgeGives κs a r e
+sgml-judge κs a r e (answer, returned, numbers, judged) = record { answer = answer; returned-is = returned; numbers-are = numbers; keeps = judge-keeps Lent.bytes _ _ answer _ judged }
+
+-- What C gets of `sgml_read`.
+pub record ReadCall (s d before : List ℕ) (returned : ℕ) (numbers after : List ℕ) : Type 0 where
+  pub answer : Answer
+  pub returned-is : returned ≡ answer .number
+  pub numbers-are : numbers ≡ answerNumbers answer
+  pub keeps : ReaderKeeps Lent.bytes s d before answer after
+
+abbrev pub ReadGives : (κs : Lfts 4) → ArgsD c-read.signature κs → ℕ → AtExit c-read.ended κs → Type 0
+ReadGives κs a r e = ReadCall (now (a .0)) (now (a .1 .0)) (now (a .1 .1 .0)) r (now (e .1 .1 .1 .0)) (now (e .1 .1 .0))
+
+pub sgml-read : (κs : Lfts 4) (a : ArgsD c-read.signature κs) (r : ℕ) (e : AtExit c-read.ended κs) → c-read-reads.Learnt κs a r e → ReadGives κs a r e
+sgml-read κs a r e (answer, returned, numbers, as-read) = record { answer = answer; returned-is = returned; numbers-are = numbers; keeps = reader-keeps Lent.bytes _ _ _ answer _ as-read }
+
+-- What Rattle callers get: `judge` with a lent buffer of numbers, `judge_to_bytes` with one of bytes, and the reader likewise. `answerOf` has the paper's
+-- numbers for each case of what they return.
+pub judge : (κs : Lfts 2) (a : ArgsD judge-call.signature κs) (r : Verdict) (e : AtExit judge-call.ended κs) → judge-reads.Learnt κs a r e
+    → JudgeKeeps Lent.numbers (now (a .0)) (now (a .1 .0)) (verdict.answerOf r) (now (e .1 .0))
+judge κs a r e judged = judge-keeps Lent.numbers _ _ _ _ judged
+
+pub judge-to-bytes : (κs : Lfts 2) (a : ArgsD judge-bytes.signature κs) (r : Verdict) (e : AtExit judge-bytes.ended κs) → judge-bytes-reads.Learnt κs a r e
+    → JudgeKeeps Lent.bytes (now (a .0)) (now (a .1 .0)) (verdict.answerOf r) (now (e .1 .0))
+judge-to-bytes κs a r e judged = judge-keeps Lent.bytes _ _ _ _ judged
+
+pub read : (κs : Lfts 3) (a : ArgsD read-call.signature κs) (r : reader.Answer) (e : AtExit read-call.ended κs) → read-reads.Learnt κs a r e
+    → ReaderKeeps Lent.numbers (now (a .0)) (now (a .1 .0)) (now (a .1 .1 .0)) (means.answerOf r) (now (e .1 .1 .0))
+read κs a r e (as-read, fits) = reader-keeps Lent.numbers _ _ _ _ _ as-read
+
+pub read-to-bytes : (κs : Lfts 3) (a : ArgsD read-bytes.signature κs) (r : reader.Answer) (e : AtExit read-bytes.ended κs) → read-bytes-reads.Learnt κs a r e
+    → ReaderKeeps Lent.bytes (now (a .0)) (now (a .1 .0)) (now (a .1 .1 .0)) (means.answerOf r) (now (e .1 .1 .0))
+read-to-bytes κs a r e (as-read, fits) = reader-keeps Lent.bytes _ _ _ _ _ as-read
+
 -- The rules have an answer to every call, and only one, with what the buffer holds after: so they are total, whatever the code does.
 pub judged-exists : (l : Lent) (s before : List ℕ) → (a : Answer) × (after : List ℕ) × Judged l s before a after
 judged-exists = kept.judged-exists
@@ -103,9 +189,10 @@ pub reading-exists : (s d : List ℕ) (es : List Element) → BothLegible s d �
     → (r : Reading (List Event)) × Reads s d es r × ((fs : List Element) (q : Reading (List Event)) → Reads s d fs q → (es ≡ fs) × (r ≡ q))
 reading-exists = kept.reading-exists
 
--- Demand 1: 0 to 24 elements are open, in every state that reading a document passes: as many as stand around the current one.
-pub few-open : (s d : List ℕ) (es : List Element) (r : Reading (List Event)) (x : Reads s d es r) (at : ℕ) (z : State) → Passes s es (x .decisions) d at z → length (z .around) ≤ 24
-few-open = kept.few-open
+-- Demand 1: 0 to 24 elements are open (`Few`: as many as stand around the current one) in every state that reading a document passes, within each token
+-- too: after each start and end, written or inferred. OpenElements says it of the program.
+pub few-open : (s d : List ℕ) (es : List Element) (r : Reading (List Event)) (x : Reads s d es r) (at : ℕ) (z : State) → Passes s es (x .decisions) d at z → Acts s es (x .decisions) Few nothingOpen z
+few-open s d es r x at z = passes-acts s es (x .decisions) d
 
 -- Demand 3 by pairs at fault: a model is ambiguous exactly if it has one; of a model that was read, both its places are places of the model.
 pub pair-exactly : (s : List ℕ) (g : Group) (ps : List Place) → Ambiguous (samePlace s ps) g ↔ ((p : ℕ) × (q : ℕ) × PairAtFault (samePlace s ps) g p q)

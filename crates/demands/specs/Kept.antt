@@ -12,14 +12,12 @@ use Rattle.rules.specs.Ambiguity.{Ambiguous, PairAtFault}
 use Rattle.rules.specs.TypeFile.{Place, Element, typeFile}
 use Rattle.rules.specs.Judge.{samePlace, Answer, Legible, Refuses, noRoom, Accepts, Judged, refuses, accepts}
 use Rattle.rules.specs.Events.{Event}
-use Rattle.rules.specs.Settling.{State}
 use Rattle.rules.specs.Reader.{BothLegible, Reads, RefusesBoth, ReadAs}
-use Rattle.document_laws.specs.Same.{Passes, passes-few}
 use Rattle.demands.specs.Words.{Refusal, Acceptance, ModelOf, SomeAmbiguous, NamesFirst, NamesDecide, ReaderRefusal, ReaderAcceptance, SameVerdict}
-use Rattle.demands.specs.Proofs.{settled-one, settled-refuses, settled-accepts, settled-fair, settled-faulty, refuses-named, refuses-some, settled-nine, settled-nineteen, first-model, model-exactly, not-ambiguous, names-alone, settled-length}
+use Rattle.answer_laws.specs.Judge.{settled-one, settled-refuses, settled-accepts, settled-fair, settled-faulty, refuses-named, refuses-some, settled-nine, settled-nineteen, first-model, model-exactly, not-ambiguous, names-alone, settled-length}
 use Rattle.demands.specs.Models.{pair-in, names-first}
 use Rattle.demands.specs.Exists.{judged-some, read-some}
-use Rattle.demands.specs.ReaderProofs.{given-one, reading-one, both-says, both-some, given-nine, given-nineteen, type-refused, given-refuses, given-accepts, given-faulty, given-fair, given-length}
+use Rattle.answer_laws.specs.Reader.{given-one, reading-one, both-says, both-some, given-nine, given-nineteen, type-refused, given-refuses, given-accepts, given-faulty, given-fair, given-length}
 
 -- The type judge
 
@@ -158,10 +156,6 @@ module _ (l : Lent) (s d before : List ℕ) (a : Answer) (after : List ℕ) (cal
   -- Else names alone decide places, also where the document is refused.
   pub reader-names-decide : BothLegible s d → (a .number ≡ 9 → ⊥) → (es : List Element) → typeFile s ≡ got es → NamesDecide s es
   reader-names-decide i h es r g ps (e, n, m, c) = names-alone s g ps (given-fair called i r h) m c
-
--- Demand 1, on the way: in every state that reading a document passes, 0 to 24 elements are open, as many as stand around the current one.
-pub few-open : (s d : List ℕ) (es : List Element) (r : Reading (List Event)) (x : Reads s d es r) (at : ℕ) (z : State) → Passes s es (x .decisions) d at z → length (z .around) ≤ 24
-few-open s d es r x at z = passes-few s es (x .decisions) d
 
 -- Demand 2, whole: under an accepted type every document has a reading, and only one.
 pub reading-exists : (s d : List ℕ) (es : List Element) → BothLegible s d → Accepts s es

@@ -1,9 +1,9 @@
--- The demands of paper 01: read Demands first, then Words.
+-- The demands of paper 01 on the calls of the source: read Demands first, then Words; OpenElements for the open elements at every moment.
 pub mod Demands
 pub mod Words
--- The proofs behind them.
+pub mod OpenElements
+-- The routines of the calls for C, and the proofs behind the page.
+pub mod Meets
 pub mod Kept
-pub mod Proofs
 pub mod Models
 pub mod Exists
-pub mod ReaderProofs

@@ -18,7 +18,7 @@ use Rattle.model_sets.specs.Sets.{Numbered}
 use Rattle.model_sets.specs.Pairs.{firstPairOf, pair-clash, firstPairOf-none, firstPairOf-is}
 use Rattle.document_laws.specs.Numbers.{Counted, counted-builds}
 use Rattle.demands.specs.Words.{ModelOf, NamesFirst}
-use Rattle.demands.specs.Proofs.{stands-model, model-exactly, not-ambiguous}
+use Rattle.answer_laws.specs.Judge.{stands-model, model-exactly, not-ambiguous}
 
 -- The places of a model that was read are numbered from 1, left to right, and as many as were written down.
 abbrev pub PlacesCounted : Element → Type 0

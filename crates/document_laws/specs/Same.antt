@@ -1,9 +1,8 @@
 -- The walks decide one reading of every document: any two decisions that mean them read it alike.
-use Prim.Native.Nat.{ℕ, _≤_, _<_}
+use Prim.Native.Nat.{ℕ, _<_}
 use mathlib.Core.Path.{_≡_, refl, sym, _∙_, ap, ap₂}
 use mathlib.Core.Bool.{true, false≢true}
 use mathlib.Core.List.{List, [], _∷_, _++_}
-use native.Mathlib.Omega.{arith}
 use lib.ListN.{length}
 use Rattle.rules.specs.Reading.{Reading, got}
 use Rattle.rules.specs.Walk.{Group, Begins}
@@ -18,7 +17,7 @@ use Rattle.rules_laws.specs.Both.{so, first, same}
 use Rattle.rules_laws.specs.In.{All, none, more}
 use Rattle.model_sets.specs.Reach.{begins-none}
 use Rattle.document_laws.specs.Agree.{agree}
-use Rattle.document_laws.specs.Moves.{fresh, parent, parent-is, Answers, Chosen, fits, required, Moves, Itself, keeps-ends, any-moves, any-datum, withDatum, settlePiece-both, document-both}
+use Rattle.document_laws.specs.Moves.{fresh, parent, parent-is, Answers, Chosen, fits, required, Moves, Itself, keeps-ends, withDatum, settlePiece-both, document-both}
 unfoldable pub use Rattle.document_laws.specs.Chain.{link}
 
 -- Open elements whose places taken begin a walk
@@ -41,7 +40,7 @@ fresh-begun es k h = go (contentOf es k) refl h
     go empty e i = absurd (false≢true i)
     go (model g ps n) e i = record { group = g; places = ps; tokens = n; has = e; begins = begins-none g }
 
-nothing-begun : (es : List Element) → AllBegun es nothingOpen
+pub nothing-begun : (es : List Element) → AllBegun es nothingOpen
 nothing-begun es = record { current = fresh-begun es 0 refl; around = none }
 
 -- Every move keeps them so.
@@ -64,7 +63,7 @@ module _ (s : List ℕ) (es : List Element) (D E : Decisions) (x : Means s es D)
   took-begun o p b (required l) =
       record { group = b .group; places = b .places; tokens = b .tokens; has = b .has; begins = x .walks (o .number) (b .has) (o .taken) (b .begins) .required .some l .0 }
 
-  begun-moves : Moves s es D E (Itself (AllBegun es))
+  pub begun-moves : Moves s es D E (Itself (AllBegun es))
   begun-moves =
       record {
         ends =
@@ -99,11 +98,6 @@ module _ (s : List ℕ) (es : List Element) (D : Decisions) where
   passes-begun x d begins = nothing-begun es
   passes-begun x d (goes {at} {z} {p} r h l e f) =
       got-so (first (settlePiece-both (begun-moves s es D D x x) (begun-datum s es D D x x) d p at (refl, passes-begun x d h)) (λ r w a. a .keeps .1)) f
-
-  -- At most 24 elements are open, as many as stand around the current one: "TAGLVL 24 open elements".
-  pub passes-few : (d : List ℕ) {at : ℕ} {z : State} → Passes s es D d at z → length (z .around) ≤ 24
-  passes-few d begins = omega arith
-  passes-few d (goes {at} {z} {p} r h l e f) = got-so (first (settlePiece-both (any-moves s es D) any-datum d p at (refl, tt)) (λ r w a. a .few (passes-few d h))) f
 
 -- Two decisions that mean the walks come to the same states.
 pub passes-same : (s : List ℕ) (es : List Element) (D E : Decisions) → Means s es D → Means s es E → (d : List ℕ) {at : ℕ} {z : State} → Passes s es D d at z → Passes s es E d at z

@@ -6,8 +6,7 @@ use Rattle.rules.specs.Bytes.{fold}
 use Rattle.rules.specs.TypeFile.{Element, empty}
 use Rattle.rules.specs.Elements.{elementAt}
 use Rattle.rules.specs.Events.{Event}
-use Rattle.line_text.specs.Means.{decimalWithin, decimal, word, upper}
-use Rattle.event_lines.specs.Printed.{line, eventLines, eventsText, inType, refusedText}
+use Rattle.rules.specs.Printed.{decimalWithin, decimal, word, upper, line, eventLines, eventsText, inType, refusedText}
 
 decimals : (decimal 0 ≡ 48 ∷ []) × (decimal 10 ≡ 49 ∷ 48 ∷ []) × (decimal 65535 ≡ 54 ∷ 53 ∷ 53 ∷ 51 ∷ 53 ∷ [])
 unfolding decimal decimalWithin

@@ -4,9 +4,9 @@ use mathlib.Core.Path.{_≡_, refl, sym, ap, _∙_}
 use mathlib.Core.List.{List, [], _∷_, _++_, append-assoc, append-nil}
 use native.Mathlib.Omega.{arith}
 use lib.ListN.{length, take, getD, length-append, List·getD-eq-default}
-use Rattle.line_text.specs.Means.{decimal, word, upper, Adds}
+use Rattle.rules.specs.Printed.{decimal, word, upper, line, eventsWord, refusedWord, refusedText}
+use Rattle.line_text.specs.Means.{Adds}
 use Rattle.line_text.specs.Laws.{puts-both}
-use Rattle.event_lines.specs.Printed.{line, eventsWord, refusedWord, refusedText}
 use Rattle.event_lines.specs.Means.{Fits, nameIn, lineAt, linesFrom, textOf}
 
 -- A name and the space after it.

@@ -1,5 +1,4 @@
--- The printed text, and laws that the functions which put it go by.
-pub mod Printed
+-- The printed text by the numbers of the buffers, and laws that the functions which put it go by.
 pub mod Means
 pub mod Laws
 mod Examples

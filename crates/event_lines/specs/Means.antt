@@ -3,8 +3,7 @@ use Prim.Native.Nat.{ℕ, zero, suc, _+_, _*_, _≤_}
 use mathlib.Core.Path.{_≡_}
 use mathlib.Core.List.{List, [], _∷_, _++_}
 use lib.ListN.{length, getD}
-use Rattle.line_text.specs.Means.{decimal, word, upper}
-use Rattle.event_lines.specs.Printed.{line, eventsWord}
+use Rattle.rules.specs.Printed.{decimal, word, upper, line, eventsWord}
 
 -- The table has the numbers of 64 elements, whose names stand in s and are short.
 pub record Fits (s elements : List ℕ) : Type 0 where

@@ -4,8 +4,8 @@ use layout::RECORDS;
 ghost use mathlib.Core.Path.{_≡_};
 ghost use Prim.Native.Nat.{_+_, _*_, _≤_, _<_};
 ghost use lib.ListN.{length, take};
-ghost use Rattle.line_text.specs.Means.{word, Adds};
-ghost use Rattle.event_lines.specs.Printed.{refusedText};
+ghost use Rattle.rules.specs.Printed.{word, refusedText};
+ghost use Rattle.line_text.specs.Means.{Adds};
 ghost use Rattle.event_lines.specs.Means.{Fits, nameIn, lineAt, linesFrom, textOf};
 
 // The name of the element with the number x, `-` for 0, and a space after it.

@@ -21,7 +21,7 @@ use Rattle.event_buffer.specs.Laws.{puts-none, puts-then}
 use Rattle.ways.specs.declared.Way.{Way}
 use Rattle.ways.specs.declared.Way.the-variants.{Taken, Inferred, Stuck}
 use Rattle.ways.specs.Means.{wayOf, chained, mayEnd, MayEnd}
-use Rattle.inferring.specs.Inferring.{Comes, Turns, Finds}
+use Rattle.inferring.specs.Inferring.{none, more, Comes, Turns, Finds}
 use Rattle.inferring.specs.Inward.{inwardAs, inward-way}
 
 -- Steps 3 and 4, by whatever decisions
@@ -69,6 +69,7 @@ comes-end : {s : List ℕ} {es : List Element} {t : Token} {at : ℕ} {o : Open}
 comes-end {s} {es} {t} {at} {o} {events} h w finds e ends some =
     record {
       stands = stands-ended (h .stands) some;
+      ends = more (h .ends) some ends;
       same = λ before.
           ap (settleFrom s es (decided s es) t at (around (ended o)) (current (ended o))) (sym (append-assoc before events (endInferred (o .element) at ∷ [])))
           ∙ found-ends s es (decided s es) t at o w finds (before ++ events) e ends some
@@ -86,7 +87,7 @@ module _ (rows places facts : List ℕ) (x at n : ℕ) where
         counted = omega arith;
         deep = omega arith;
         ranged = h;
-        comes = λ s es tables stands t i d. record { stands = stands; same = λ before. rw append-nil };
+        comes = λ s es tables stands t i d. record { stands = stands; ends = none; same = λ before. rw append-nil };
       }
 
   -- A turn: the end of the current element is inferred, and noted.

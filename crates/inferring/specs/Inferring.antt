@@ -1,30 +1,36 @@
 -- What inferring ends and starts does, step by step, by counts and by the last places: what its contracts cite.
 use Prim.Native.Nat.{ℕ, zero, suc, _+_, _≤_}
 use mathlib.Core.Path.{_≡_}
-use mathlib.Core.Bool.{false}
+use mathlib.Core.Bool.{true, false}
 use mathlib.Core.List.{List, [], _∷_, _++_}
 use lib.ListN.{length}
 use Rattle.rules.specs.TypeFile.{Element}
 use Rattle.rules.specs.Decisions.{Token, Decisions}
-use Rattle.rules.specs.Events.{startInferred, Event}
+use Rattle.rules.specs.Events.{startInferred, endInferred, Event}
 use Rattle.rules.specs.Settling.{State, takePlace, enter, note, fitting, requiredPlace, inferable, settleFrom}
 use Rattle.rules.specs.Settling as rules
 use Rattle.document_laws.specs.Decide.{decided}
 use Rattle.last_places.specs.Last.{short}
 use Rattle.type_tables.specs.Means.{nameNumber, Declares, Tables, Requires}
 use Rattle.open_elements.specs.declared.Open.{Open}
-use Rattle.open_elements.specs.Means.{stateOf, current, around, took, opening, Ranged, Stands}
+use Rattle.open_elements.specs.Means.{stateOf, current, around, took, opening, ended, Ranged, Stands}
 use Rattle.event_buffer.specs.Means.{Puts}
 use Rattle.ways.specs.declared.Way.{Way}
 use Rattle.ways.specs.declared.Way.the-variants.{Stuck}
-use Rattle.ways.specs.Means.{wayOf, chained, startsOf, fitOf, MayEnd}
+use Rattle.ways.specs.Means.{wayOf, chained, startsOf, fitOf, mayEnd, MayEnd}
 use Rattle.inferring.specs.declared.Stop.{Stop}
 
 -- Ends
 
--- What is settled from o on, after these events, is what is settled from o₀ on.
+-- From o₀ ends are inferred one after another, with these events, each where step 3 allows it.
+pub data EndsTo (s : List ℕ) (es : List Element) (at : ℕ) (o₀ : Open) : List Event → Open → Type 0 where
+  none : EndsTo s es at o₀ [] o₀
+  more : {events : List Event} {o : Open} → EndsTo s es at o₀ events o → 1 ≤ o .count → mayEnd s es (decided s es) (current o) (around o) ≡ true → EndsTo s es at o₀ (events ++ endInferred (o .element) at ∷ []) (ended o)
+
+-- What is settled from o on, after these events, is what is settled from o₀ on, and ends alone were inferred between.
 pub record Comes (s : List ℕ) (es : List Element) (t : Token) (at : ℕ) (o : Open) (events : List Event) (o₀ : Open) : Type 0 where
   pub stands : Stands es o
+  pub ends : EndsTo s es at o₀ events o
   pub same : (before : List Event) → settleFrom s es (decided s es) t at (around o) (current o) (before ++ events) ≡ settleFrom s es (decided s es) t at (around o₀) (current o₀) before
 
 -- So it is for every type whose tables these are, and the token whose name is x. An end was inferred for each event.

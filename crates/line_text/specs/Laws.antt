@@ -10,7 +10,8 @@ use lib.Seq.{take-suc-set}
 use borrow.Author.Tests.{le-leb, lt-leb, lt-ltb}
 use Rattle.io.specs.Digits.{digits, glyph, Fewest}
 use Rattle.rules.specs.Bytes.{byteAt, fold}
-use Rattle.line_text.specs.Means.{decimalWithin, decimal, word, upper, Adds}
+use Rattle.rules.specs.Printed.{decimalWithin, decimal, word, upper}
+use Rattle.line_text.specs.Means.{Adds}
 
 -- A byte is put behind what was put before it.
 pub put-one : (out : List ℕ) (at b : ℕ) → at < length out → Adds out at (set out at b) (at + 1) (b ∷ [])

@@ -1,3 +1,3 @@
--- Words, what is put into a buffer, and laws that the functions which put them go by.
+-- What is put into a buffer, and laws that the functions which put words there go by.
 pub mod Means
 pub mod Laws

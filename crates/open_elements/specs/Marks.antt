@@ -2,18 +2,17 @@
 -- 01's definition says of the places taken." (paper 02, request four)
 use Prim.Native.Nat.{ℕ, zero, suc, _≤_}
 use mathlib.Core.Path.{_≡_, refl, sym, _∙_, ap}
-use mathlib.Core.Bool.{true}
-use mathlib.Core.Logic.{_↔_}
 use mathlib.Core.List.{List, [], _∷_}
 use native.Mathlib.Omega.{arith}
 use lib.ListN.{getD}
-use Rattle.rules.specs.Walk.{Group, Complete, Required}
+use Rattle.rules.specs.Walk.{Group}
 use Rattle.rules.specs.TypeFile.{Place, Content, empty, model, Element}
 use Rattle.rules.specs.Judge.{Accepts}
 use Rattle.rules.specs.Elements.{contentOf}
 use Rattle.rules.specs.Decisions.{Decisions, Means}
 use Rattle.rules.specs.Events.{Event}
 use Rattle.rules.specs.Settling.{State}
+use Rattle.rules.specs.Acts.{MarksMean}
 use Rattle.rules.specs.Settling as rules
 use Rattle.rules_laws.specs.Within.{All, none, more}
 use Rattle.model_sets.specs.Reach.{lastOr0, next-sound}
@@ -30,17 +29,10 @@ use Rattle.open_elements.specs.declared.Open.{Open}
 use Rattle.open_elements.specs.Means as kept
 use Rattle.open_elements.specs.Means.{opened, aroundOf, covered, stateOf, Marked, Stands}
 
--- The marks of an open element, in the words of paper 01, where g is its model: "complete" is true exactly where the places taken are a walk,
--- and the required place is p exactly where p is required, 0 where no place is.
-pub record SayOf (x : Entry) (g : Group) (taken : List ℕ) : Type 0 where
-  pub complete : (x .complete ≡ true) ↔ Complete g taken
-  pub required : (p : ℕ) → 1 ≤ p → (x .required ≡ p) ↔ Required g taken p
-  pub none : (x .required ≡ 0) ↔ ((p : ℕ) → Required g taken p → ⊥)
-
 -- The entry is that of the rules' open element o, and its marks say so. An EMPTY element has no model, and none is ever entered.
 pub record Say (es : List Element) (x : Entry) (o : rules.Open) : Type 0 where
   pub element : x .element ≡ o .number
-  pub marks : {g : Group} {ps : List Place} {n : ℕ} → contentOf es (o .number) ≡ model g ps n → SayOf x g (o .taken)
+  pub marks : {g : Group} {ps : List Place} {n : ℕ} → contentOf es (o .number) ≡ model g ps n → MarksMean (x .complete) (x .required) g (o .taken)
 
 -- So do the first n entries, the last of them innermost, of the open elements from the innermost outwards.
 abbrev pub AllSay : List Element → List Entry → ℕ → List rules.Open → Type 0
@@ -79,7 +71,7 @@ module _ (s : List ℕ) (es : List Element) (accepted : Accepts s es) where
     say : Begun es o → Say es x o
     say b = record { element = ap (λ (u : rules.Open). u .number) (sym same); marks = by-model }
       where
-        by-model : {g : Group} {ps : List Place} {n : ℕ} → contentOf es (o .number) ≡ model g ps n → SayOf x g (o .taken)
+        by-model : {g : Group} {ps : List Place} {n : ℕ} → contentOf es (o .number) ≡ model g ps n → MarksMean (x .complete) (x .required) g (o .taken)
         by-model {g} {ps} {n} e =
             let i : b .group ≡ g = cc in
             let means = accepted-decided s es accepted .walks (o .number) e (o .taken) (rw i at (b .begins)) in

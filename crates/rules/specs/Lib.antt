@@ -1,4 +1,4 @@
--- The rules of paper 01, in its order, and what paper 02 adds (Lookup): read these files to know what is promised.
+-- The rules of paper 01, in its order, and what paper 02 adds (Lookup, and the marks in Acts): read these files to know what is promised.
 pub mod Lent
 pub mod Bytes
 pub mod Reading
@@ -11,5 +11,8 @@ pub mod Elements
 pub mod Decisions
 pub mod Events
 pub mod Settling
+pub mod Acts
 pub mod Lookup
 pub mod Reader
+pub mod Calls
+pub mod Printed

@@ -2,9 +2,10 @@
 use document_reader::Answer;
 use type_judge::Verdict;
 ghost use mathlib.Core.Path.{_≡_};
+ghost use Rattle.rules.specs.Calls.{answerNumbers, JudgedNumbers, ReadNumbers};
 ghost use Rattle.type_judge.specs.Means.{answerOf};
 ghost use Rattle.document_reader.specs.Means as reader;
-ghost use Rattle.sgml.specs.Means.{answerNumbers, JudgedNumbers, VerdictFits, ReadNumbers, AnswerFits};
+ghost use Rattle.sgml.specs.Means.{VerdictFits, AnswerFits};
 
 // The six numbers of the judge's answer.
 fn numbers_of(v: Verdict) -> [u32; 6]

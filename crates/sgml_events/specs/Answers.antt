@@ -10,8 +10,7 @@ use Rattle.rules.specs.TypeFile.{Element}
 use Rattle.rules.specs.Judge.{Answer, acceptance}
 use Rattle.rules.specs.Events.{Event}
 use Rattle.rules.specs.Reader.{eventNumbers, Reads, RefusesBoth, typeTooLong, documentTooLong, typeNotAllowed, documentNotAllowed, malformed, ambiguous, unsettled, noRoom, ReadAs, refuses, accepts}
-use Rattle.event_lines.specs.Printed.{inputText, refusedText}
-use Rattle.sgml_events.specs.Prints.{Prints, refusal}
+use Rattle.rules.specs.Printed.{inputText, refusedText, Prints, refusal}
 
 -- A refusal names its input, 1 or 2.
 refuses-input : {s d : List ℕ} {room : ℕ} {a : Answer} → RefusesBoth s d room a → 1 ≤ a .input

@@ -1,5 +1,4 @@
 -- What the program prints, and laws that its functions go by.
-pub mod Prints
 pub mod Means
 pub mod Table
 pub mod Answers

@@ -8,7 +8,7 @@ use Rattle.rules.specs.TypeFile.{Element}
 use Rattle.rules.specs.Judge.{Accepts}
 use Rattle.rules.specs.Events.{Event}
 use Rattle.rules.specs.Reader.{eventNumbers}
-use Rattle.event_lines.specs.Printed.{eventsText}
+use Rattle.rules.specs.Printed.{eventsText}
 
 -- The type is accepted.
 abbrev pub Accepted : List ℕ → Type 0

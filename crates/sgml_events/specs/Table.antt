@@ -17,8 +17,8 @@ use Rattle.rules_laws.specs.Within.{typeFile-count}
 use Rattle.element_reader.specs.Means.{Recorded}
 use Rattle.element_index.specs.Laws.{recorded-offset, recorded-size}
 use Rattle.type_laws.specs.Again.{typeFile-sizes}
-use Rattle.demands.specs.Demands.{judged-one}
-use Rattle.event_lines.specs.Printed.{nameText, line, eventLines, eventsText}
+use Rattle.answer_laws.specs.Judge.{settled-one}
+use Rattle.rules.specs.Printed.{nameText, line, eventLines, eventsText}
 use Rattle.event_lines.specs.Means.{Fits, nameIn, lineAt, linesFrom, textOf}
 
 zero-at : (n i : ℕ) → _≡_ {A = ℕ} (getD (replicate n 0) i 0) 0
@@ -40,7 +40,7 @@ module _ (s : List ℕ) (es : List Element) (accepted : Accepts s es) (a : Answe
   few = omega (arith, typeFile-count s es (accepted .elements))
 
   elements-are : elements ≡ filledWith (records es) before
-  elements-are = judged-one numbers s before a _ elements _ judged (accepts es accepted (omega (arith, few, ap length lent, length-replicate {A = ℕ} 384 0)) refl refl) .1
+  elements-are = settled-one judged (accepts es accepted (omega (arith, few, ap length lent, length-replicate {A = ℕ} 384 0)) refl refl) .1
 
   recorded : Recorded elements es
   recorded = rw elements-are (take-at (records es) (drop (length (records es)) before) (6 * length es) (records-length es))

@@ -7,7 +7,7 @@ use libc::STDOUT_FILENO;
 ghost use Prim.Native.Nat.{_≤_};
 ghost use lib.ListN.{length, take};
 ghost use Rattle.io.specs.Counts.{Counts};
-ghost use Rattle.sgml_events.specs.Prints.{Prints};
+ghost use Rattle.rules.specs.Printed.{Prints};
 ghost use Rattle.sgml_events.specs.Means.{Accepted, EventsPut, Whole};
 
 // The text of n events of a document whose type is accepted; the judge gives where its elements' names stand. What out holds behind the text

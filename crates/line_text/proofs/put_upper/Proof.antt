@@ -1,7 +1,7 @@
 -- `line_text::put_upper` puts the bytes in upper case. The invariant says what is left of them.
 use Prim.Native.Nat.{_+_, _-_}
 use native.Mathlib.Omega.{arith}
-use Rattle.line_text.specs.Means.{upper}
+use Rattle.rules.specs.Printed.{upper}
 use Rattle.line_text.specs.Laws.{Puts, puts-start, puts-turn, puts-end, upper-length, upper-start, upper-next}
 use Rattle.line_text.proofs.put_upper.Statement.{statement}
 use Rattle.line_text.proofs.put_upper.Tie as tie

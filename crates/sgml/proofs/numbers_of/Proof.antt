@@ -1,8 +1,9 @@
 -- `numbers_of` meets its contract: the verdict's constructor is known in each arm.
 use mathlib.Core.Path.{sym, ap, subst}
 use native.Mathlib.Omega.{arith}
+use Rattle.rules.specs.Calls.{answerNumbers}
 use Rattle.type_judge.specs.Means.{answerOf}
-use Rattle.sgml.specs.Means.{answerNumbers, VerdictFits}
+use Rattle.sgml.specs.Means.{VerdictFits}
 use borrow.Author.Needs.{needs}
 use Rattle.sgml.proofs.numbers_of.Statement.{statement}
 use Rattle.sgml.proofs.numbers_of.Tie as tie

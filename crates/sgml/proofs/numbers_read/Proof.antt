@@ -1,8 +1,9 @@
 -- `numbers_read` meets its contract: the answer's constructor is known in each arm.
 use mathlib.Core.Path.{sym, ap, subst}
 use native.Mathlib.Omega.{arith}
+use Rattle.rules.specs.Calls.{answerNumbers}
 use Rattle.document_reader.specs.Means.{answerOf}
-use Rattle.sgml.specs.Means.{answerNumbers, AnswerFits}
+use Rattle.sgml.specs.Means.{AnswerFits}
 use borrow.Author.Needs.{needs}
 use Rattle.sgml.proofs.numbers_read.Statement.{statement}
 use Rattle.sgml.proofs.numbers_read.Tie as tie

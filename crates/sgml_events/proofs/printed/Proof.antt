@@ -3,7 +3,7 @@ use mathlib.Core.Path.{refl, ap}
 use native.Mathlib.Omega.{arith}
 use borrow.Author.Needs.{needs}
 use Rattle.document_reader.specs.Means.{answerOf}
-use Rattle.sgml_events.specs.Prints.{events}
+use Rattle.rules.specs.Printed.{events}
 use Rattle.file_reader.specs.Laws.{counts-of}
 use Rattle.sgml_events.specs.Answers.{accepted-read, prints-refusal}
 use Rattle.sgml_events.proofs.printed.Statement.{statement}

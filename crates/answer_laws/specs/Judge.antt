@@ -1,4 +1,4 @@
--- The proofs behind Demands: the rules settle one answer of the judge.
+-- The rules settle one answer of the judge, and what each such answer is.
 use Prim.Native.Nat.{ℕ, _-_, _*_, _<_, _≤_}
 use mathlib.Core.Path.{_≡_, refl, sym, ap, _∙_}
 use mathlib.Core.Logic.{_⊎_, inl, inr, ⊎-elim, _↔_}

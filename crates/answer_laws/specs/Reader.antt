@@ -1,4 +1,4 @@
--- The proofs behind the reader's part of Demands.
+-- The rules settle one answer of the reader, and what each such answer is.
 use Prim.Native.Nat.{ℕ, _*_, _<_, _≤_}
 use mathlib.Core.Path.{_≡_, refl}
 use mathlib.Core.Logic.{_⊎_, inl, inr, ⊎-elim}
@@ -17,7 +17,7 @@ use Rattle.rules_laws.specs.Within.{typeFile-within}
 use Rattle.document_laws.specs.Laws.{reads-some, reads-one}
 use Rattle.document_laws.specs.Answers.{read-as-one}
 use Rattle.last_places.specs.Within.{DocumentNumber, document-within}
-use Rattle.demands.specs.Proofs.{first-one, first-all, first-in, read-fair}
+use Rattle.answer_laws.specs.Judge.{first-one, first-all, first-in, read-fair}
 
 -- Two answers to the same two inputs are the same: that a type has one first ambiguous model is the judge's half.
 pub given-one : (l : Lent) (s d before : List ℕ) (a b : Answer) (after other : List ℕ) → ReadAs l s d before a after → ReadAs l s d before b other → (a ≡ b) × (after ≡ other)

@@ -1,0 +1,3 @@
+-- The acts of which a reading consists: what is true of them, and that every reading is such a sequence.
+pub mod Laws
+pub mod Readings

@@ -1,0 +1,1 @@
+// The rules settle one answer of each call. No code.

@@ -1,0 +1,150 @@
+-- The open elements of the program, at every step of settling and closing: demand 1, "keeps between 0 and 24 elements open", and paper 02, request four,
+-- "Store the mark, and the required place if there is one, with each open element. At every moment both must equal what 01's definition says of
+-- the places taken." The hypotheses are the contracts as they stand in the source, as on the page of the calls: `Asked` is what a function requires.
+use Prim.Native.Nat.{ℕ, suc, _≤_}
+use mathlib.Core.Path.{_≡_, sym, subst}
+use mathlib.Core.Bool.{true}
+use mathlib.Core.List.{List, _++_}
+use lib.ListN.{length}
+use contract.Lifetimes.{Lfts}
+use denote.Ref.{now}
+use denote.Triple.Clauses.{AtExit}
+use borrow.Fn.World.{ArgsD}
+use Rattle.rules.specs.Reading.{Reading, got}
+use Rattle.rules.specs.TypeFile.{Element}
+use Rattle.rules.specs.Judge.{Accepts}
+use Rattle.rules.specs.Decisions.{Decisions, Means}
+use Rattle.rules.specs.Events.{Event}
+use Rattle.rules.specs.Settling.{State, nothingOpen, isComplete, startElement, takeData, endElement}
+use Rattle.rules.specs.Acts.{Act}
+use Rattle.rules.specs.Reader.{Reads}
+use Rattle.document_laws.specs.Decide.{decided}
+use Rattle.document_laws.specs.Moves.{Few}
+use Rattle.document_laws.specs.Same.{Passes}
+use Rattle.last_places.specs.Turns.{Reaches}
+use Rattle.type_tables.specs.Means.{Rows, Facts, Tables}
+use Rattle.open_elements.specs.declared.Open.{Open}
+use Rattle.open_elements.specs.declared.Outcome.{Outcome}
+use Rattle.open_elements.specs.Means.{stateOf, fresh, Ranged, Stands}
+use Rattle.open_elements.specs.Laws.{ranged-fresh, ranged-took, ranged-opening, ranged-ended}
+use Rattle.open_elements.proofs.Open.new as new
+use Rattle.open_elements.proofs.Open.new.Reads as new-reads
+use Rattle.open_elements.proofs.Open.take as take
+use Rattle.open_elements.proofs.Open.take.Reads as take-reads
+use Rattle.open_elements.proofs.Open.start as start
+use Rattle.open_elements.proofs.Open.start.Reads as start-reads
+use Rattle.open_elements.proofs.Open.infer_end as infer-end
+use Rattle.open_elements.proofs.Open.infer_end.Reads as infer-end-reads
+use Rattle.open_elements.proofs.Open.end as end
+use Rattle.open_elements.proofs.Open.end.Reads as end-reads
+use Rattle.settling.proofs.token as token
+use Rattle.settling.proofs.token.Reads as token-reads
+use Rattle.closing.proofs.end_tag as end-tag
+use Rattle.closing.proofs.end_tag.Reads as end-tag-reads
+use Rattle.closing.proofs.finish as finish
+use Rattle.closing.proofs.finish.Reads as finish-reads
+use Rattle.moments.specs.Means.{done, Moment, Beside, Leads}
+use Rattle.moments.specs.Beside.{moment-first, moment-act}
+use Rattle.moments.specs.Results.{passes-beside, document-beside, reaches-leads, settles-leads, data-leads, tagged-leads}
+use Rattle.moments.specs.Steps.{finished-beside}
+
+-- Demand 1
+
+-- At most 24 are open, and the array has its 24 entries (`Ranged`), before and after each method, whatever the tables hold: a state that any function of
+-- the program hands to a method is so, since the method requires it, and so is what it is handed back.
+pub new-few : (κs : Lfts 0) (a : ArgsD new.signature κs) (r : Open) (e : AtExit new.ended κs) → new-reads.Learnt κs a r e → Ranged r
+new-few κs a r e made = subst Ranged (sym made) ranged-fresh
+
+pub take-few : (κs : Lfts 1) (a : ArgsD take.signature κs) (r : Open) (e : AtExit take.ended κs) → take-reads.Asked κs a → take-reads.Learnt κs a r e → Ranged (a .0) × Ranged r
+take-few κs a r e asked made = (asked .0, subst Ranged (sym made) (ranged-took (now (a .1 .0)) (a .1 .1 .0) (asked .0) (asked .1)))
+
+pub start-few : (κs : Lfts 1) (a : ArgsD start.signature κs) (r : Open) (e : AtExit start.ended κs) → start-reads.Asked κs a → start-reads.Learnt κs a r e → Ranged (a .0) × Ranged r
+start-few κs a r e asked made = (asked .0, subst Ranged (sym made) (ranged-opening (now (a .1 .0)) (a .1 .1 .0) (asked .0) (asked .1) (asked .2)))
+
+pub infer-end-few : (κs : Lfts 0) (a : ArgsD infer-end.signature κs) (r : Open) (e : AtExit infer-end.ended κs) → infer-end-reads.Asked κs a → infer-end-reads.Learnt κs a r e → Ranged (a .0) × Ranged r
+infer-end-few κs a r e asked made = (asked .0, subst Ranged (sym made) (ranged-ended (asked .0) (asked .1)))
+
+pub end-few : (κs : Lfts 0) (a : ArgsD end.signature κs) (r : Open) (e : AtExit end.ended κs) → end-reads.Asked κs a → end-reads.Learnt κs a r e → Ranged (a .0) × Ranged r
+end-few κs a r e asked made = (asked .0, subst Ranged (sym made) (ranged-ended (asked .0) (asked .1)))
+
+-- So it is of what settling a start tag or data, an end tag, and the document's end hand back, where they refuse as well.
+pub token-few : (κs : Lfts 5) (a : ArgsD token.signature κs) (r : Outcome) (e : AtExit token.ended κs) → token-reads.Learnt κs a r e → Ranged (r .open)
+token-few κs a r e settles = settles .ranged
+
+pub end-tag-few : (κs : Lfts 3) (a : ArgsD end-tag.signature κs) (r : Outcome) (e : AtExit end-tag.ended κs) → end-tag-reads.Learnt κs a r e → Ranged (r .open)
+end-tag-few κs a r e tagged = tagged .brings .ranged
+
+pub finish-few : (κs : Lfts 3) (a : ArgsD finish.signature κs) (r : Outcome) (e : AtExit finish.ended κs) → finish-reads.Learnt κs a r e → Ranged (r .open)
+finish-few κs a r e finished = finished .brings .ranged
+
+-- Every moment: "At every moment both must equal what 01's definition says of the places taken."
+
+-- At a moment (`Moment`) 0 to 24 are open, as many in the program as in the rules, the program stands for the rules' state, and the marks of the current
+-- element and of each around it say what the walks say of all places taken (`MarksMean` of the rules). Nothing is open at the first moment, and from a
+-- moment each act (`Act` of the rules: a start, written or inferred, an end, written or inferred, data) leads to a moment, with what the methods of the
+-- open elements make of it (`done`): so it is wherever a token has come to, though it may still be refused.
+module _ (s : List ℕ) (es : List Element) (accepted : Accepts s es) (D : Decisions) (means : Means s es D) (rows : List ℕ) (said : Rows es rows) where
+  pub first-moment : Moment es nothingOpen fresh
+  first-moment = moment-first s es accepted D means rows said
+
+  pub each-act : (z y : State) (o : Open) → Moment es z o → (a : Act s es D z y) → Few y → Moment es y (done s es D rows a o)
+  each-act z y o m a few = moment-act s es accepted D means rows said m a few
+
+-- `Beside` leads from one moment to another, act by act.
+module _ (s d : List ℕ) (es : List Element) (rows : List ℕ) (said : Rows es rows) where
+  -- All moments before any position that reading comes to between tokens, those within each token too.
+  pub every-moment : (r : Reading (List Event)) (x : Reads s d es r) (at : ℕ) (z : State) → Passes s es (x .decisions) d at z → (o : Open) × Beside s es (x .decisions) rows nothingOpen fresh z o
+  every-moment r x at z p = passes-beside s es (x .accepted) (x .decisions) (x .means) rows said d at z p
+
+  -- All moments of a document that is read to its end, where nothing is open any more.
+  pub every-moment-read : (ev : List Event) (x : Reads s d es (got ev))
+      → (z : State) × (o : Open) × Beside s es (x .decisions) rows nothingOpen fresh z o × (o .count ≡ 0) × (isComplete s es (x .decisions) (z .current) ≡ true) × (z .events ≡ ev)
+  every-moment-read ev x = document-beside s es (x .accepted) (x .decisions) (x .means) rows said d ev (x .reading)
+
+  -- What the program has between tokens is what the acts lead to: `Stands` and `Reaches` are what its loop keeps (`Going` of document_events).
+  pub between-tokens : Accepts s es → (at : ℕ) (o : Open) (ev : List Event) → Stands es o → Reaches s es d at (stateOf o ev)
+      → (z : State) × Passes s es (decided s es) d at z × Leads s es (decided s es) rows nothingOpen fresh z o
+  between-tokens accepted at o ev h r = reaches-leads s es accepted rows said d at o ev h r
+
+-- Within a start tag that is not refused: the ends that it infers, the starts that it infers, then itself, with a moment before and after each. x is the
+-- element, from `at` to `after`. What `token` gives is what these acts lead to.
+pub within-start-tag : (κs : Lfts 5) (a : ArgsD token.signature κs) (r : Outcome) (e : AtExit token.ended κs) → token-reads.Learnt κs a r e
+    → (s : List ℕ) (es : List Element) → Tables s es (now (a .0)) (now (a .1 .0)) (now (a .1 .1 .0))
+    → let o = a .1 .1 .1 .0 in
+    let x = a .1 .1 .1 .1 .0 in
+    let at = a .1 .1 .1 .1 .1 .0 in
+    let after = a .1 .1 .1 .1 .1 .1 .0 in
+    1 ≤ x → x ≤ length es → r .number ≡ 0 → (z : State) → Moment es z o
+    → (y : State) × (startElement s es (decided s es) x at after z ≡ got y) × Leads s es (decided s es) (now (a .0)) z o y (r .open)
+within-start-tag κs a r e settles s es tables some most done z m = settles-leads s es (tables .accepted) (now (a .0)) (tables .rows-say) tables _ settles some most done z m
+
+-- Within a run of data that is not refused: x is 0. The first byte of the run infers what is inferred and takes its place; each further byte takes the
+-- same place again.
+pub within-data : (κs : Lfts 5) (a : ArgsD token.signature κs) (r : Outcome) (e : AtExit token.ended κs) → token-reads.Learnt κs a r e
+    → (s : List ℕ) (es : List Element) → Tables s es (now (a .0)) (now (a .1 .0)) (now (a .1 .1 .0))
+    → let o = a .1 .1 .1 .0 in
+    let x = a .1 .1 .1 .1 .0 in
+    let at = a .1 .1 .1 .1 .1 .0 in
+    x ≡ 0 → r .number ≡ 0 → (z : State) → Moment es z o
+    → (y : State) × (takeData s es (decided s es) at z ≡ got y) × Leads s es (decided s es) (now (a .0)) z o y (r .open)
+within-data κs a r e settles s es tables nothing done z m = data-leads s es (tables .accepted) (now (a .0)) (tables .rows-say) tables _ settles nothing done z m
+
+-- Within an end tag that is not refused: the ends that it infers, then itself. The rows are those of the type, which an end tag does not ask.
+pub within-end-tag : (κs : Lfts 3) (a : ArgsD end-tag.signature κs) (r : Outcome) (e : AtExit end-tag.ended κs) → end-tag-reads.Learnt κs a r e
+    → (s : List ℕ) (es : List Element) (rows : List ℕ) → Accepts s es → Rows es rows → Facts s es (now (a .0))
+    → let o = a .1 .0 in
+    let x = a .1 .1 .0 in
+    let at = a .1 .1 .1 .0 in
+    let after = a .1 .1 .1 .1 .0 in
+    r .number ≡ 0 → (z : State) → Moment es z o
+    → (y : State) × (endElement s es (decided s es) x at after z ≡ got y) × Leads s es (decided s es) rows z o y (r .open)
+within-end-tag κs a r e tagged s es rows accepted said facts-say done z m = tagged-leads s es accepted rows said facts-say tagged done z m
+
+-- Within the document's end that is not refused: the ends that it infers, until nothing is open and the document itself is complete, with the events that
+-- it brings.
+pub within-end : (κs : Lfts 3) (a : ArgsD finish.signature κs) (r : Outcome) (e : AtExit finish.ended κs) (h : finish-reads.Learnt κs a r e)
+    → (s : List ℕ) (es : List Element) (rows : List ℕ) → Accepts s es → Rows es rows → Facts s es (now (a .0))
+    → let o = a .1 .0 in
+    r .number ≡ 0 → (z : State) → Moment es z o
+    → (y : State) × (q : Open) × Beside s es (decided s es) rows z o y q × (q .count ≡ 0) × (isComplete s es (decided s es) (y .current) ≡ true) × (y .events ≡ z .events ++ h .brings .events)
+within-end κs a r e finished s es rows accepted said facts-say none z m = finished-beside s es accepted rows said facts-say finished none z m

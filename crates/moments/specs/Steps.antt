@@ -1,0 +1,197 @@
+-- The steps within a token, each by the contract of the function that takes it: the ends of step 3, a start that is inferred, the place of a start
+-- tag, the ends that an end tag and the document's end infer.
+use Prim.Native.Nat.{ℕ, suc, _≤_}
+use mathlib.Core.Path.{_≡_, refl, sym, _∙_, ap, ap₂, subst}
+use mathlib.Core.Bool.{Bool, true, false, false≢true}
+use mathlib.Core.List.{List, [], _∷_, _++_}
+use native.Mathlib.Omega.{arith}
+use lib.ListN.{length}
+use lib.Dec.{eqb}
+use Rattle.rules.specs.Bytes.{TAGLVL}
+use Rattle.rules.specs.Reading.{Reading, refused, got, andThen}
+use Rattle.rules.specs.TypeFile.{Element}
+use Rattle.rules.specs.Judge.{Accepts}
+use Rattle.rules.specs.Elements.{contentOf, endO}
+use Rattle.rules.specs.Decisions.{start, Decisions, Means}
+use Rattle.rules.specs.Events.{Event, endInferred}
+use Rattle.rules.specs.Settling.{State, takePlace, fitting, isComplete, inferable, endLeftOut, endFrom, endDocument}
+use Rattle.rules.specs.Settling as rules
+use Rattle.rules.specs.Acts.{Act, infers, infers-end, Acts}
+use Rattle.rules.specs.Acts as act
+use Rattle.rules_laws.specs.Holds.{Gives, reads, so, on, either, got-so}
+use Rattle.model_sets.specs.Bits.{and-left, and-right}
+use Rattle.model_sets.specs.Reach.{lastOr0}
+use Rattle.document_laws.specs.Decide.{decided, isCompleteIn-last}
+use Rattle.document_laws.specs.Laws.{accepted-decided}
+use Rattle.document_laws.specs.Chain.{chosen, inferable-is}
+use Rattle.document_laws.specs.Moves.{Few}
+use Rattle.last_places.specs.Last.{lastOnly, allLast, short, shortly}
+use Rattle.last_places.specs.Short.{state, last-placed, lastOnly-twice, short-short}
+use Rattle.last_places.specs.Follows.{shortly-got}
+use Rattle.type_tables.specs.Means.{Rows, Facts, Tables}
+use Rattle.open_elements.specs.declared.Open.{Open}
+use Rattle.open_elements.specs.declared.Outcome.{Outcome}
+use Rattle.open_elements.specs.Means.{current, around, stateOf, took, opening, ended, outcomeOf, closedOf}
+use Rattle.open_elements.specs.Laws.{stateOf-short}
+use Rattle.ways.specs.declared.Way.{Way}
+use Rattle.ways.specs.Means.{tokenOf, tokenOf-number, tokenOf-declared, mayEnd}
+use Rattle.placing.specs.Noting.{noting, Places}
+use Rattle.inferring.specs.Inferring.{EndsTo, none, more, Turns, InfersStart}
+use Rattle.left_out_ends.specs.Until.{inferEnds, Until}
+use Rattle.closing.specs.Closed.{Finished}
+use Rattle.acts.specs.Readings.{Comes, leftOut, noted-acts, endDocument-acts}
+use Rattle.moments.specs.Means.{done, Moment, Beside, still, Leads}
+use Rattle.moments.specs.Beside.{number-same, fits-in, required-kept, took-stands, took-same, moment-act, acts-beside, beside-then, beside-last}
+use Rattle.moments.specs.Results.{leads}
+
+-- The last places decide
+
+module _ (s : List ℕ) (es : List Element) where
+  abbrev D : Decisions
+  D = decided s es
+
+  complete-short : (o : rules.Open) → isComplete s es D o ≡ isComplete s es D (lastOnly o)
+  complete-short o = isCompleteIn-last (contentOf es (o .number)) (o .taken) (lastOnly o .taken) (sym (last-placed (lastOr0 (o .taken))))
+
+  leftOut-short : (at : ℕ) (o : rules.Open) → endLeftOut s es D at o ≡ endLeftOut s es D at (lastOnly o)
+  unfolding endLeftOut
+  leftOut-short at o =
+      ap (λ (b : Bool). elim b [ true ↦ elim (endO es (o .number)) [ true ↦ got (endInferred (o .number) at) | false ↦ refused 14 at ] | false ↦ refused 13 at ]) (complete-short o)
+
+  then-short : (r : Reading Event) (f g : Event → Reading State) → ((e : Event) → shortly (f e) ≡ shortly (g e)) → shortly (andThen r f) ≡ shortly (andThen r g)
+  then-short (refused n k) f g h = refl
+  then-short (got e) f g h = h e
+
+  -- Ends are inferred by the last places.
+  ends-short : (x at : ℕ) (around : List rules.Open) (o : rules.Open) (ev : List Event) → shortly (inferEnds s es D x at around o ev) ≡ shortly (inferEnds s es D x at (allLast around) (lastOnly o) ev)
+  unfolding inferEnds
+  ends-short x at [] o ev = ap (λ (v : rules.Open). got (state v [] ev)) (sym (lastOnly-twice o))
+  ends-short x at (u ∷ around) o ev = by-test (eqb (o .number) x) (λ e. ends-short x at around u (ev ++ e ∷ []))
+    where
+      by-test : (b : Bool) → ((e : Event) → shortly (inferEnds s es D x at around u (ev ++ e ∷ [])) ≡ shortly (inferEnds s es D x at (allLast around) (lastOnly u) (ev ++ e ∷ [])))
+          → shortly (elim b [ true ↦ got (state o (u ∷ around) ev) | false ↦ andThen (endLeftOut s es D at o) λ e. inferEnds s es D x at around u (ev ++ e ∷ []) ])
+          ≡ shortly (elim b [ true ↦ got (state (lastOnly o) (lastOnly u ∷ allLast around) ev) | false ↦ andThen (endLeftOut s es D at (lastOnly o)) λ e. inferEnds s es D x at (allLast around) (lastOnly u) (ev ++ e ∷ []) ])
+      by-test true ih = ap got (sym (short-short (state o (u ∷ around) ev)))
+      by-test false ih =
+          then-short (endLeftOut s es D at o) _ _ ih ∙ ap (λ (r : Reading Event). shortly (andThen r λ e. inferEnds s es D x at (allLast around) (lastOnly u) (ev ++ e ∷ []))) (leftOut-short at o)
+
+  then-same : (r : Reading Event) (f g : Event → Reading (List Event)) → ((e : Event) → f e ≡ g e) → andThen r f ≡ andThen r g
+  then-same (refused n k) f g h = refl
+  then-same (got e) f g h = h e
+
+  endFrom-short : (at : ℕ) (around : List rules.Open) (o : rules.Open) (ev : List Event) → endFrom s es D at around o ev ≡ endFrom s es D at (allLast around) (lastOnly o) ev
+  unfolding endFrom
+  endFrom-short at [] o ev = ap (λ (b : Bool). elim b [ true ↦ got ev | false ↦ refused 18 at ]) (complete-short o)
+  endFrom-short at (u ∷ around) o ev =
+      then-same (endLeftOut s es D at o) _ _ (λ e. endFrom-short at around u (ev ++ e ∷ []))
+      ∙ ap (λ (r : Reading Event). andThen r λ e. endFrom s es D at (allLast around) (lastOnly u) (ev ++ e ∷ [])) (leftOut-short at o)
+
+  endDocument-short : (at : ℕ) (z : State) → endDocument s es D at z ≡ endDocument s es D at (short z)
+  unfolding endDocument
+  endDocument-short at z = endFrom-short at (z .around) (z .current) (z .events)
+
+  -- Ends that are inferred are acts.
+  ends-acts : (x at : ℕ) (around : List rules.Open) (o : rules.Open) (ev : List Event) → length around ≤ TAGLVL → Gives (Acts s es D Few (state o around ev)) (inferEnds s es D x at around o ev)
+  unfolding inferEnds
+  ends-acts x at [] o ev f = reads (act.still {z = state o [] ev} f)
+  ends-acts x at (u ∷ around) o ev f =
+      either (eqb (o .number) x) (λ e. reads (act.still {z = state o (u ∷ around) ev} f))
+      (λ e. on (leftOut s es D at o) λ i l.
+      so (ends-acts x at around u (ev ++ i ∷ []) (omega arith)) (λ n j q. q)
+      (λ y r. act.next {z = state o (u ∷ around) ev} f (infers-end u around at refl (l .1) (l .2)) (subst (λ (k : Event). Acts s es D Few (state u around (ev ++ k ∷ [])) y) (l .0) r)))
+
+may-end-so : (s : List ℕ) (es : List Element) (D : Decisions) (o : rules.Open) (us : List rules.Open) → mayEnd s es D o us ≡ true → (isComplete s es D o ≡ true) × (endO es (o .number) ≡ true)
+may-end-so s es D o [] e = absurd (false≢true e)
+may-end-so s es D o (u ∷ us) e = (and-left (isComplete s es D o) _ e, and-left (endO es (o .number)) _ (and-right (isComplete s es D o) _ e))
+
+-- The functions
+
+module _ (s : List ℕ) (es : List Element) (accepted : Accepts s es) (rows : List ℕ) (said : Rows es rows) where
+  means : Means s es (D s es)
+  means = accepted-decided s es accepted
+
+  -- One end that step 3 infers is one act, after which as many methods lead to `ended`.
+  end-does : (at : ℕ) (y : State) (o : Open) → Moment es y o → 1 ≤ o .count → mayEnd s es (D s es) (current o) (around o) ≡ true → (x : State) × (a : Act s es (D s es) y x) × Few x × (done s es (D s es) rows a o ≡ ended o)
+  end-does at y o n some may = by-around (y .around) refl
+    where
+      allowed : (isComplete s es (D s es) (current o) ≡ true) × (endO es (o .element) ≡ true)
+      allowed = may-end-so s es (D s es) (current o) (around o) may
+
+      by-around : (us : List rules.Open) → y .around ≡ us → (x : State) × (a : Act s es (D s es) y x) × Few x × (done s es (D s es) rows a o ≡ ended o)
+      by-around [] e = absurd (omega (arith, n .many, ap (λ (l : List rules.Open). length l) e))
+      by-around (u ∷ us) e =
+          let complete : isComplete s es (D s es) (y .current) ≡ true = complete-short s es (y .current) ∙ ap (λ (w : State). isComplete s es (D s es) (w .current)) (n .same) ∙ allowed .0 in
+          let omitted : endO es (y .current .number) ≡ true = ap (endO es) (number-same s es accepted (D s es) means rows said y o n) ∙ allowed .1 in
+          (_, infers-end u us at e complete omitted, omega (arith, n .many, n .ranged .few, ap (λ (l : List rules.Open). length l) e), refl)
+
+  ends-lead : {at : ℕ} {o₀ o : Open} {ev : List Event} → EndsTo s es at o₀ ev o → (z : State) → Moment es z o₀ → (y : State) × Beside s es (D s es) rows z o₀ y o
+  ends-lead none z m = (z, still m)
+  ends-lead {at} {o₀} (more {o = o} h some may) z m =
+      let (y, b) = ends-lead h z m in
+      let n = beside-last b in
+      let (x, a, few, e) = end-does at y o n some may in
+      (x, subst (λ (q : Open). Beside s es (D s es) rows z o₀ x q) e (beside-then b a (moment-act s es accepted (D s es) means rows said n a few)))
+
+  -- The ends of step 3 (`ends` of settling, whose contract has `Turns`): acts lead to just the open elements q that it gives, though the token may still
+  -- be refused there.
+  pub turns-lead : {places facts : List ℕ} → Tables s es rows places facts → {x at n : ℕ} {o : Open} {numbers bytes : List ℕ} {q : Open} {k : ℕ} {numbers′ bytes′ : List ℕ}
+      → Turns rows places facts x at n o numbers bytes q k numbers′ bytes′ → x ≤ length es → (z : State) → Moment es z o
+      → (y : State) × Beside s es (D s es) rows z o y q
+  turns-lead tables {x} h most z m = ends-lead (h .comes s es tables (m .stands) (tokenOf x) (tokenOf-number x) (tokenOf-declared es x most) .ends) z m
+
+  -- One start that is inferred (`infer_start` of settling) is one act.
+  pub infers-start-does : {places facts : List ℕ} → Tables s es rows places facts → {at n : ℕ} {o : Open} {numbers bytes : List ℕ} {r : Open} {numbers′ bytes′ : List ℕ}
+      → (h : InfersStart rows places facts at n o numbers bytes r numbers′ bytes′) → 1 ≤ h .k → (z : State) → Moment es z o
+      → (y : State) × (a : Act s es (D s es) z y) × (r ≡ done s es (D s es) rows a o)
+  infers-start-does tables {at} {o = o} h some z m =
+      let kept = required-kept s es accepted (D s es) means rows said z o m in
+      let same : inferable s es (D s es) (z .current) ≡ h .k =
+      inferable-is s es (D s es) (z .current)
+      ∙ ap₂ (chosen s es) (number-same s es accepted (D s es) means rows said z o m) (kept ∙ m .stands .marked .required)
+      ∙ sym (inferable-is s es (D s es) (current o))
+      ∙ sym (h .chosen s es tables (m .stands)) in
+      (_, infers (h .k) at same some, h .opens ∙ ap (λ (p : ℕ). opening rows (h .k) (took rows p o)) (sym kept))
+
+  -- The place of a start tag (`placed` of settling), where it is the one as which the token fits, and the tag is not refused: one act, which opens its
+  -- element or, of an EMPTY one, leaves what is open.
+  pub places-leads : {places facts : List ℕ} → Tables s es rows places facts → {found : Way} {k at after n : ℕ} {o : Open} {numbers bytes : List ℕ} {r : Outcome} {numbers′ bytes′ : List ℕ}
+      → (h : Places rows places facts found (suc k) at after n o numbers bytes r numbers′ bytes′) → suc k ≤ length es → r .number ≡ 0 → (z : State) → Moment es z o → fitting s es (D s es) (z .current) (start (suc k)) ≡ h .p → 1 ≤ h .p
+      → (y : State) × (noting es (suc k) at after (takePlace (h .p) z) ≡ got y) × Leads s es (D s es) rows z o y (r .open)
+  places-leads tables {k = k} {at} {after} {o = o} {r = r} h most fine z m fits some =
+      let p = h .p in
+      let ev = z .events ++ h .events in
+      let inside = rw fits at (fits-in s es accepted (D s es) means rows said z o m (start (suc k))) in
+      let notes = h .notes (λ e. omega arith) s es tables (took-stands s es accepted (D s es) means rows said z o m p inside) most in
+      let (y, e, f) =
+      shortly-got (noting es (suc k) at after (takePlace p z)) (stateOf (r .open) ev)
+      (sym (notes .comes (z .events) (takePlace p z) (took-same s es accepted (D s es) means rows said z o m p inside)) ∙ ap (λ (n : ℕ). outcomeOf at n (stateOf (r .open) ev)) fine) in
+      let comes : Comes s es (D s es) (start (suc k)) z (takePlace p z) = record { here = z; acts = λ n l j. act.still l; fits = omega (arith, fits); taken = ap (λ (q : ℕ). takePlace q z) (sym fits) } in
+      (y, e, leads s es accepted rows said m (got-so (noted-acts s es (D s es) (suc k) at after z (takePlace p z) (omega arith, most) (omega (arith, m .many, m .ranged .few)) comes) e) (r .open) (notes .stands fine) ev f)
+
+  -- The ends that are inferred until the current element is x, or nothing is around it (`end_until` of closing).
+  pub until-leads : {facts : List ℕ} → Facts s es facts → {x at n : ℕ} {o : Open} {numbers bytes : List ℕ} {r : Outcome} {numbers′ bytes′ : List ℕ}
+      → Until facts x at n o numbers bytes r numbers′ bytes′ → r .number ≡ 0 → (z : State) → Moment es z o
+      → (y : State) × (inferEnds s es (D s es) x at (z .around) (z .current) (z .events) ≡ got y) × Leads s es (D s es) rows z o y (r .open)
+  until-leads facts-say {x} {at} {o = o} {r = r} h fine z m =
+      let ev = z .events ++ h .brings .events in
+      let q : State → Reading State = λ w. inferEnds s es (D s es) x at (w .around) (w .current) (w .events) in
+      let (y, e, f) =
+      shortly-got (q z) (stateOf (r .open) ev)
+      (ends-short s es x at (z .around) (z .current) (z .events)
+      ∙ ap (λ (w : State). shortly (q w)) (m .same)
+      ∙ ap shortly (sym (h .same s es facts-say (m .stands) (z .events)) ∙ ap (λ (n : ℕ). outcomeOf at n (stateOf (r .open) ev)) fine)
+      ∙ ap got (stateOf-short (r .open) ev)) in
+      (y, e, leads s es accepted rows said m (got-so (ends-acts s es x at (z .around) (z .current) (z .events) (omega (arith, m .many, m .ranged .few))) e) (r .open) (h .stands es (m .stands)) ev f)
+
+  -- The document's end (`finish` of closing), where it is not refused: the ends that it infers lead to where nothing is open, with the events that it brings.
+  -- The state that it gives is not decided: nobody reads it.
+  pub finished-beside : {facts : List ℕ} → Facts s es facts → {at n : ℕ} {o : Open} {numbers bytes : List ℕ} {r : Outcome} {numbers′ bytes′ : List ℕ}
+      → (h : Finished facts at n o numbers bytes r numbers′ bytes′) → r .number ≡ 0 → (z : State) → Moment es z o
+      → (y : State) × (q : Open) × Beside s es (D s es) rows z o y q × (q .count ≡ 0) × (isComplete s es (D s es) (y .current) ≡ true) × (y .events ≡ z .events ++ h .brings .events)
+  finished-beside facts-say {at} {o = o} {r = r} h fine z m =
+      let ev = z .events ++ h .brings .events in
+      let e : endDocument s es (D s es) at z ≡ got ev =
+      endDocument-short s es at z ∙ ap (endDocument s es (D s es) at) (m .same) ∙ sym (h .ends s es facts-say (m .stands) (z .events)) ∙ ap (λ (n : ℕ). closedOf at n ev) fine in
+      let over = got-so (endDocument-acts s es (D s es) at z (omega (arith, m .many, m .ranged .few))) e in
+      let (q, b) = acts-beside s es accepted (D s es) means rows said m (over .acts) in
+      (over .last, q, b, beside-last b .many ∙ ap length (over .nothing), over .complete, over .events)

@@ -1,0 +1,57 @@
+-- What each event does to the open elements (paper 01, "The document"): the acts of which a reading consists, one after another, with the
+-- states between, and what the marks of an open element say of the places taken in it (paper 02, request four). What holds of every state that
+-- the acts of a reading pass holds at every moment of it.
+use Prim.Native.Nat.{ℕ, _≤_, _<_}
+use mathlib.Core.Path.{_≡_}
+use mathlib.Core.Bool.{Bool, true, false}
+use mathlib.Core.Logic.{_↔_}
+use mathlib.Core.List.{List, [], _∷_, _++_}
+use lib.ListN.{length}
+use Rattle.rules.specs.Bytes.{TAGLVL}
+use Rattle.rules.specs.Walk.{Group, Complete, Required}
+use Rattle.rules.specs.TypeFile.{Element}
+use Rattle.rules.specs.Elements.{contentOf, hasModel, endO}
+use Rattle.rules.specs.Decisions.{start, pcdata, Decisions}
+use Rattle.rules.specs.Events.{startWritten, startInferred, endWritten, endInferred, endOfEmpty, withData}
+use Rattle.rules.specs.Settling.{Open, State, takePlace, enter, note, fitting, isComplete, requiredPlace, inferable, takeToken}
+
+-- Acts
+
+-- The number is that of an element of the type.
+abbrev pub Declared : List Element → ℕ → Type 0
+Declared es k = (1 ≤ k) × (k ≤ length es)
+
+-- One act, from the state z to another.
+pub data Act (s : List ℕ) (es : List Element) (D : Decisions) (z : State) : State → Type 0 where
+  -- A start tag "fits as the next place", which it takes, and its element, which has a model, is opened.
+  starts : (k at after : ℕ) → Declared es k → 1 ≤ fitting s es D (z .current) (start k) → hasModel (contentOf es k) ≡ true
+      → Act s es D z (note (startWritten k at after) (enter k (takeToken s es D (start k) z)))
+  -- "An EMPTY element is open for an instant and counts toward 24": it has taken its place, and what is open stays.
+  empties : (k at after : ℕ) → Declared es k → 1 ≤ fitting s es D (z .current) (start k) → hasModel (contentOf es k) ≡ false → length (z .around) < TAGLVL
+      → Act s es D z (note (endOfEmpty k after) (note (startWritten k at after) (takeToken s es D (start k) z)))
+  -- A start is inferred: the required place is taken, and its element opened.
+  infers : (k at : ℕ) → inferable s es D (z .current) ≡ k → 1 ≤ k → Act s es D z (note (startInferred k at) (enter k (takePlace (requiredPlace s es D (z .current)) z)))
+  -- A data byte takes the place as which it fits.
+  data-byte : (at : ℕ) → 1 ≤ fitting s es D (z .current) pcdata
+      → Act s es D z (record { current = takeToken s es D pcdata z .current; around = z .around; events = withData at (z .events) })
+  -- An end is inferred: the content is complete and the end is "O". The parent u is the current element again.
+  infers-end : (u : Open) (us : List Open) (at : ℕ) → z .around ≡ u ∷ us → isComplete s es D (z .current) ≡ true → endO es (z .current .number) ≡ true
+      → Act s es D z (record { current = u; around = us; events = z .events ++ endInferred (z .current .number) at ∷ [] })
+  -- An end tag closes its element, whose content is complete.
+  ends : (u : Open) (us : List Open) (at after : ℕ) → z .around ≡ u ∷ us → isComplete s es D (z .current) ≡ true
+      → Act s es D z (record { current = u; around = us; events = z .events ++ endWritten (z .current .number) at after ∷ [] })
+
+-- Acts one after another, where P holds of each state that is passed, the first and the last among them.
+pub data Acts (s : List ℕ) (es : List Element) (D : Decisions) (P : State → Type 0) : State → State → Type 0 where
+  still : {z : State} → P z → Acts s es D P z z
+  next : {z y x : State} → P z → Act s es D z y → Acts s es D P y x → Acts s es D P z x
+
+-- Marks
+
+-- "Store the mark, and the required place if there is one, with each open element. At every moment both must equal what 01's definition says of
+-- the places taken": the mark is true exactly where the places taken in the model g are a walk, and the place is p exactly where p is required,
+-- 0 where none is.
+pub record MarksMean (mark : Bool) (place : ℕ) (g : Group) (taken : List ℕ) : Type 0 where
+  pub complete : (mark ≡ true) ↔ Complete g taken
+  pub required : (p : ℕ) → 1 ≤ p → (place ≡ p) ↔ Required g taken p
+  pub none : (place ≡ 0) ↔ ((p : ℕ) → Required g taken p → ⊥)

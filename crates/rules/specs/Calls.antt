@@ -1,0 +1,21 @@
+-- The calls as C sees them: numbers and byte slices (paper 01, "What the reader takes and gives").
+use Prim.Native.Nat.{ℕ}
+use mathlib.Core.Path.{_≡_}
+use mathlib.Core.List.{List, [], _∷_}
+use Rattle.rules.specs.Lent.{bytes}
+use Rattle.rules.specs.Judge.{Answer, Judged}
+use Rattle.rules.specs.Reader.{ReadAs}
+
+-- "An accepted call gives 0 for number, input and position, and how many records it wrote; input 1 is the type, 2 the document. The two
+-- places are 0 except under 9." The six numbers of an answer are these, in this order: number, input, position, the two places, and how many.
+abbrev pub answerNumbers : Answer → List ℕ
+answerNumbers a = a .number ∷ a .input ∷ a .position ∷ a .first ∷ a .second ∷ a .count ∷ []
+
+-- "Both calls are reachable from it through numbers and byte slices": the judge returns the number of an answer to the type file s, gives the
+-- answer's six numbers, and leaves in the lent bytes, `before` the call, what goes with that answer.
+abbrev pub JudgedNumbers : (s before : List ℕ) (returned : ℕ) (numbers after : List ℕ) → Type 0
+JudgedNumbers s before returned numbers after = (a : Answer) × (returned ≡ a .number) × (numbers ≡ answerNumbers a) × Judged bytes s before a after
+
+-- The same of the reader, for the type file s and the document d.
+abbrev pub ReadNumbers : (s d before : List ℕ) (returned : ℕ) (numbers after : List ℕ) → Type 0
+ReadNumbers s d before returned numbers after = (a : Answer) × (returned ≡ a .number) × (numbers ≡ answerNumbers a) × ReadAs bytes s d before a after

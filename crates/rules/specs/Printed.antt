@@ -1,0 +1,84 @@
+-- What the small program prints (paper 01, "What the reader takes and gives"): "A small program reads `type.sgm` and `doc.sgm`, lends 16,384
+-- numbers and prints `events N`, then a line per event: kind, element name in upper case or `-`, offset, length, one space between. On refusal
+-- it prints only `refused N in type at P` or `refused N in document at P`."
+use Prim.Native.Nat.{ℕ, zero, suc, _+_, _*_, _/_, _%_, _≤_}
+use mathlib.Core.Path.{_≡_}
+use mathlib.Core.Bool.{true, false}
+use mathlib.Core.List.{List, [], _∷_, _++_}
+use lib.ListN.{length}
+use lib.Dec.{leb}
+use Rattle.rules.specs.Bytes.{byteAt, fold}
+use Rattle.rules.specs.Reading.{got}
+use Rattle.rules.specs.TypeFile.{Element}
+use Rattle.rules.specs.Judge.{Answer}
+use Rattle.rules.specs.Elements.{elementAt}
+use Rattle.rules.specs.Events.{Event}
+use Rattle.rules.specs.Reader.{Reads, RefusesBoth}
+
+-- Words
+
+-- A number in decimal, with at most so many digits before the last.
+unfoldable pub decimalWithin : ℕ → ℕ → List ℕ
+decimalWithin zero n = (48 + n % 10) ∷ []
+decimalWithin (suc k) n = elim (leb 10 n) [ true ↦ decimalWithin k (n / 10) ++ ((48 + n % 10) ∷ []) | false ↦ (48 + n % 10) ∷ [] ]
+
+-- It has fewer digits before the last than it counts.
+unfoldable pub decimal : ℕ → List ℕ
+decimal n = decimalWithin n n
+
+-- A word and the byte after it: a space (32) or the end of the line (10).
+unfoldable pub word : List ℕ → ℕ → List ℕ
+word x b = x ++ b ∷ []
+
+-- So many bytes from a position on, "in upper case".
+unfoldable pub upper : List ℕ → (at size : ℕ) → List ℕ
+upper s at zero = []
+upper s at (suc n) = fold (byteAt s at) ∷ upper s (at + 1) n
+
+-- Events
+
+-- "Element name in upper case or `-`".
+abbrev pub nameText : List ℕ → List Element → ℕ → List ℕ
+nameText s es zero = 45 ∷ []
+nameText s es (suc k) = upper s (elementAt es k .at) (elementAt es k .size)
+
+-- "A line per event: kind, element name in upper case or `-`, offset, length, one space between."
+unfoldable pub line : (kind : ℕ) → (name : List ℕ) → (offset size : ℕ) → List ℕ
+line k x o n = word (decimal k) 32 ++ (word x 32 ++ (word (decimal o) 32 ++ word (decimal n) 10))
+
+unfoldable pub eventLines : List ℕ → List Element → List Event → List ℕ
+eventLines s es [] = []
+eventLines s es (e ∷ ev) = line (e .kind) (nameText s es (e .number)) (e .offset) (e .size) ++ eventLines s es ev
+
+-- `events N`, and the lines of the events.
+abbrev pub eventsWord : List ℕ
+eventsWord = 101 ∷ 118 ∷ 101 ∷ 110 ∷ 116 ∷ 115 ∷ 32 ∷ []
+
+unfoldable pub eventsText : List ℕ → List Element → List Event → List ℕ
+eventsText s es ev = eventsWord ++ (word (decimal (length ev)) 10 ++ eventLines s es ev)
+
+-- A refusal
+
+-- `refused N in type at P` and `refused N in document at P`.
+abbrev pub refusedWord : List ℕ
+refusedWord = 114 ∷ 101 ∷ 102 ∷ 117 ∷ 115 ∷ 101 ∷ 100 ∷ 32 ∷ []
+
+abbrev pub inType : List ℕ
+inType = 105 ∷ 110 ∷ 32 ∷ 116 ∷ 121 ∷ 112 ∷ 101 ∷ 32 ∷ 97 ∷ 116 ∷ 32 ∷ []
+
+abbrev pub inDocument : List ℕ
+inDocument = 105 ∷ 110 ∷ 32 ∷ 100 ∷ 111 ∷ 99 ∷ 117 ∷ 109 ∷ 101 ∷ 110 ∷ 116 ∷ 32 ∷ 97 ∷ 116 ∷ 32 ∷ []
+
+unfoldable pub refusedText : (number : ℕ) → (input : List ℕ) → (position : ℕ) → List ℕ
+refusedText n x k = refusedWord ++ (word (decimal n) 32 ++ (x ++ word (decimal k) 10))
+
+-- "Input 1 is the type, 2 the document."
+abbrev pub inputText : ℕ → List ℕ
+inputText k = elim (leb 2 k) [ true ↦ inDocument | false ↦ inType ]
+
+-- The whole text
+
+-- The text for the type file s and the document d, read with 16,384 numbers lent.
+pub data Prints (s d text : List ℕ) : Type 0 where
+  events : (es : List Element) (ev : List Event) → Reads s d es (got ev) → 4 * length ev ≤ 16384 → text ≡ eventsText s es ev → Prints s d text
+  refusal : (a : Answer) → RefusesBoth s d 16384 a → text ≡ refusedText (a .number) (inputText (a .input)) (a .position) → Prints s d text
