@@ -40,8 +40,8 @@ pub struct Lookup {
 }
 
 // Whether one of the first `count` records has the name of this size at `at`. Only names of the same length and first letter are
-// compared, in declaration order, up to the one that is found. Where the table holds no records of elements, neither is decided, but that
-// no more names are compared than it is told of.
+// compared, in declaration order, up to the one that is found. Where the table holds no records of elements the answer is not decided, but
+// that at most `count` names are compared.
 pub fn declared(s: &[u8], elements: &[u32; RECORDS], count: usize, at: usize, size: usize) -> Lookup
     requires { ⌜ (count ≤ 64) × (at < 4294967296) × (1 ≤ size) × (size < 4294967296) ⌝ }
     ensures { λ r. ⌜ ((es : List rules.Element) → length es ≡ count → Recorded (now (elements .entry)) es →
