@@ -19,11 +19,9 @@ use Rattle.rules.specs.TypeFile.{Place, Element, typeFile}
 use Rattle.rules.specs.Judge.{samePlace, Answer, Legible, Refuses, Accepts, Judged}
 use Rattle.rules.specs.Events.{Event}
 use Rattle.rules.specs.Settling.{State, nothingOpen}
-use Rattle.rules.specs.Acts.{Acts}
+use Rattle.rules.specs.Acts.{Acts, Passes, Few}
 use Rattle.rules.specs.Reader.{BothLegible, Reads, RefusesBoth, ReadAs}
 use Rattle.rules.specs.Calls.{answerNumbers}
-use Rattle.document_laws.specs.Moves.{Few}
-use Rattle.document_laws.specs.Same.{Passes}
 use Rattle.acts.specs.Readings.{passes-acts}
 use Rattle.demands.specs.Words.{Refusal, Acceptance, ModelOf, SomeAmbiguous, NamesFirst, NamesDecide, ReaderRefusal, ReaderAcceptance, SameVerdict}
 use Rattle.demands.specs.Kept as kept
