@@ -1,6 +1,6 @@
 -- Acts one after another: how they are put together, and what stays so from act to act.
 use Prim.Native.Nat.{ℕ}
-use mathlib.Core.Path.{_≡_, refl, subst}
+use mathlib.Core.Path.{refl, subst}
 use mathlib.Core.List.{List, _∷_}
 use borrow.Author.Tests.{le-leb}
 use Rattle.rules.specs.TypeFile.{Element}

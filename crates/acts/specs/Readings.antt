@@ -16,12 +16,11 @@ use Rattle.rules.specs.Decisions.{Token, start, pcdata, Decisions}
 use Rattle.rules.specs.Events.{Event, startWritten, startInferred, endWritten, endInferred, endOfEmpty}
 use Rattle.rules.specs.Settling.{Open, State, nothingOpen, takePlace, enter, note, limited, isOpen, Inward, settled, stuck, fitting, isComplete, requiredPlace, chain, inferStarts, takeToken, inward, settleFrom, isOver, settle, startElement, takeData, takeBlank, endLeftOut, closeFrom, endElement, endFrom, endDocument}
 use Rattle.rules.specs.Reader.{Reached, tagged, settlePiece, piecesWithin, document}
-use Rattle.rules.specs.Acts.{Declared, starts, empties, infers, data-byte, infers-end, ends, Acts, still, next}
-use Rattle.rules_laws.specs.Holds.{Holds, stops, reads, Gives, each, so, on, either, got-so}
+use Rattle.rules.specs.Acts.{Declared, starts, empties, infers, data-byte, infers-end, ends, Acts, still, next, Passes, begins, goes, Few}
+use Rattle.rules_laws.specs.Holds.{stops, reads, Gives, each, so, on, either, got-so}
 use Rattle.model_sets.specs.Bits.{and-left, and-right}
 use Rattle.document_laws.specs.Chain.{numberFrom-range, Leads, chain-leads}
-use Rattle.document_laws.specs.Moves.{state, Few, withDatum}
-use Rattle.document_laws.specs.Same.{Passes, begins, goes}
+use Rattle.document_laws.specs.Moves.{state, withDatum}
 use Rattle.acts.specs.Laws.{acts-then, acts-last}
 
 -- At most n are open.

@@ -19,11 +19,9 @@ use Rattle.rules.specs.TypeFile.{Place, Element, typeFile}
 use Rattle.rules.specs.Judge.{samePlace, Answer, Legible, Refuses, Accepts, Judged}
 use Rattle.rules.specs.Events.{Event}
 use Rattle.rules.specs.Settling.{State, nothingOpen}
-use Rattle.rules.specs.Acts.{Acts}
+use Rattle.rules.specs.Acts.{Acts, Passes, Few}
 use Rattle.rules.specs.Reader.{BothLegible, Reads, RefusesBoth, ReadAs}
 use Rattle.rules.specs.Calls.{answerNumbers}
-use Rattle.document_laws.specs.Moves.{Few}
-use Rattle.document_laws.specs.Same.{Passes}
 use Rattle.acts.specs.Readings.{passes-acts}
 use Rattle.demands.specs.Words.{Refusal, Acceptance, ModelOf, SomeAmbiguous, NamesFirst, NamesDecide, ReaderRefusal, ReaderAcceptance, SameVerdict}
 use Rattle.demands.specs.Kept as kept
@@ -134,6 +132,7 @@ pub record JudgeCall (s before : List ℕ) (returned : ℕ) (numbers after : Lis
   pub numbers-are : numbers ≡ answerNumbers answer
   pub keeps : JudgeKeeps Lent.bytes s before answer after
 
+-- Passed are the type file, the lent bytes and the array for the answer, in this order.
 abbrev pub JudgeGives : (κs : Lfts 3) → ArgsD c-judge.signature κs → ℕ → AtExit c-judge.ended κs → Type 0
 JudgeGives κs a r e = JudgeCall (now (a .0)) (now (a .1 .0)) r (now (e .1 .1 .0)) (now (e .1 .0))
 
@@ -147,14 +146,15 @@ pub record ReadCall (s d before : List ℕ) (returned : ℕ) (numbers after : Li
   pub numbers-are : numbers ≡ answerNumbers answer
   pub keeps : ReaderKeeps Lent.bytes s d before answer after
 
+-- Passed are the type file, the document, the lent bytes and the array for the answer.
 abbrev pub ReadGives : (κs : Lfts 4) → ArgsD c-read.signature κs → ℕ → AtExit c-read.ended κs → Type 0
 ReadGives κs a r e = ReadCall (now (a .0)) (now (a .1 .0)) (now (a .1 .1 .0)) r (now (e .1 .1 .1 .0)) (now (e .1 .1 .0))
 
 pub sgml-read : (κs : Lfts 4) (a : ArgsD c-read.signature κs) (r : ℕ) (e : AtExit c-read.ended κs) → c-read-reads.Learnt κs a r e → ReadGives κs a r e
 sgml-read κs a r e (answer, returned, numbers, as-read) = record { answer = answer; returned-is = returned; numbers-are = numbers; keeps = reader-keeps Lent.bytes _ _ _ answer _ as-read }
 
--- What Rattle callers get: `judge` with a lent buffer of numbers, `judge_to_bytes` with one of bytes, and the reader likewise. `answerOf` has the paper's
--- numbers for each case of what they return.
+-- What Rattle callers get: `judge` with a lent buffer of numbers, `judge_to_bytes` with one of bytes, and the reader likewise. `answerOf`, beside the
+-- code of each, has the paper's numbers for each case of what it returns.
 pub judge : (κs : Lfts 2) (a : ArgsD judge-call.signature κs) (r : Verdict) (e : AtExit judge-call.ended κs) → judge-reads.Learnt κs a r e
     → JudgeKeeps Lent.numbers (now (a .0)) (now (a .1 .0)) (verdict.answerOf r) (now (e .1 .0))
 judge κs a r e judged = judge-keeps Lent.numbers _ _ _ _ judged

@@ -1,7 +1,7 @@
 -- The open elements of the program, at every step of settling and closing: demand 1, "keeps between 0 and 24 elements open", and paper 02, request four,
 -- "Store the mark, and the required place if there is one, with each open element. At every moment both must equal what 01's definition says of
 -- the places taken." The hypotheses are the contracts as they stand in the source, as on the page of the calls: `Asked` is what a function requires.
-use Prim.Native.Nat.{ℕ, suc, _≤_}
+use Prim.Native.Nat.{ℕ, _≤_}
 use mathlib.Core.Path.{_≡_, sym, subst}
 use mathlib.Core.Bool.{true}
 use mathlib.Core.List.{List, _++_}
@@ -11,21 +11,22 @@ use denote.Ref.{now}
 use denote.Triple.Clauses.{AtExit}
 use borrow.Fn.World.{ArgsD}
 use Rattle.rules.specs.Reading.{Reading, got}
-use Rattle.rules.specs.TypeFile.{Element}
+use Rattle.rules.specs.Walk.{Group}
+use Rattle.rules.specs.TypeFile.{Place, model, Element}
 use Rattle.rules.specs.Judge.{Accepts}
+use Rattle.rules.specs.Elements.{contentOf}
 use Rattle.rules.specs.Decisions.{Decisions, Means}
 use Rattle.rules.specs.Events.{Event}
 use Rattle.rules.specs.Settling.{State, nothingOpen, isComplete, startElement, takeData, endElement}
-use Rattle.rules.specs.Acts.{Act}
+use Rattle.rules.specs.Acts.{Act, MarksMean, Passes, Few}
 use Rattle.rules.specs.Reader.{Reads}
 use Rattle.document_laws.specs.Decide.{decided}
-use Rattle.document_laws.specs.Moves.{Few}
-use Rattle.document_laws.specs.Same.{Passes}
 use Rattle.last_places.specs.Turns.{Reaches}
 use Rattle.type_tables.specs.Means.{Rows, Facts, Tables}
 use Rattle.open_elements.specs.declared.Open.{Open}
 use Rattle.open_elements.specs.declared.Outcome.{Outcome}
 use Rattle.open_elements.specs.Means.{stateOf, fresh, Ranged, Stands}
+use Rattle.open_elements.specs.Marks.{AllSay}
 use Rattle.open_elements.specs.Laws.{ranged-fresh, ranged-took, ranged-opening, ranged-ended}
 use Rattle.open_elements.proofs.Open.new as new
 use Rattle.open_elements.proofs.Open.new.Reads as new-reads
@@ -48,34 +49,39 @@ use Rattle.moments.specs.Beside.{moment-first, moment-act}
 use Rattle.moments.specs.Results.{passes-beside, document-beside, reaches-leads, settles-leads, data-leads, tagged-leads}
 use Rattle.moments.specs.Steps.{finished-beside}
 
--- Demand 1
+-- Demand 1, "keeps between 0 and 24 elements open", and what is kept of them lies in the array of 24 entries.
+abbrev pub KeepsFew : Open → Type 0
+KeepsFew o = (o .count ≤ 24) × (length (o .around) ≡ 24)
 
--- At most 24 are open, and the array has its 24 entries (`Ranged`), before and after each method, whatever the tables hold: a state that any function of
--- the program hands to a method is so, since the method requires it, and so is what it is handed back.
-pub new-few : (κs : Lfts 0) (a : ArgsD new.signature κs) (r : Open) (e : AtExit new.ended κs) → new-reads.Learnt κs a r e → Ranged r
-new-few κs a r e made = subst Ranged (sym made) ranged-fresh
+keeps-few : {o : Open} → Ranged o → KeepsFew o
+keeps-few h = (h .few, h .whole)
 
-pub take-few : (κs : Lfts 1) (a : ArgsD take.signature κs) (r : Open) (e : AtExit take.ended κs) → take-reads.Asked κs a → take-reads.Learnt κs a r e → Ranged (a .0) × Ranged r
-take-few κs a r e asked made = (asked .0, subst Ranged (sym made) (ranged-took (now (a .1 .0)) (a .1 .1 .0) (asked .0) (asked .1)))
+-- Before and after each method, whatever the tables hold: open elements that any function of the program hands to a method are so, since the method
+-- requires it, and so are those that it is handed back.
+pub new-few : (κs : Lfts 0) (a : ArgsD new.signature κs) (r : Open) (e : AtExit new.ended κs) → new-reads.Learnt κs a r e → KeepsFew r
+new-few κs a r e made = keeps-few (subst Ranged (sym made) ranged-fresh)
 
-pub start-few : (κs : Lfts 1) (a : ArgsD start.signature κs) (r : Open) (e : AtExit start.ended κs) → start-reads.Asked κs a → start-reads.Learnt κs a r e → Ranged (a .0) × Ranged r
-start-few κs a r e asked made = (asked .0, subst Ranged (sym made) (ranged-opening (now (a .1 .0)) (a .1 .1 .0) (asked .0) (asked .1) (asked .2)))
+pub take-few : (κs : Lfts 1) (a : ArgsD take.signature κs) (r : Open) (e : AtExit take.ended κs) → take-reads.Asked κs a → take-reads.Learnt κs a r e → KeepsFew (a .0) × KeepsFew r
+take-few κs a r e asked made = (keeps-few (asked .0), keeps-few (subst Ranged (sym made) (ranged-took (now (a .1 .0)) (a .1 .1 .0) (asked .0) (asked .1))))
 
-pub infer-end-few : (κs : Lfts 0) (a : ArgsD infer-end.signature κs) (r : Open) (e : AtExit infer-end.ended κs) → infer-end-reads.Asked κs a → infer-end-reads.Learnt κs a r e → Ranged (a .0) × Ranged r
-infer-end-few κs a r e asked made = (asked .0, subst Ranged (sym made) (ranged-ended (asked .0) (asked .1)))
+pub start-few : (κs : Lfts 1) (a : ArgsD start.signature κs) (r : Open) (e : AtExit start.ended κs) → start-reads.Asked κs a → start-reads.Learnt κs a r e → KeepsFew (a .0) × KeepsFew r
+start-few κs a r e asked made = (keeps-few (asked .0), keeps-few (subst Ranged (sym made) (ranged-opening (now (a .1 .0)) (a .1 .1 .0) (asked .0) (asked .1) (asked .2))))
 
-pub end-few : (κs : Lfts 0) (a : ArgsD end.signature κs) (r : Open) (e : AtExit end.ended κs) → end-reads.Asked κs a → end-reads.Learnt κs a r e → Ranged (a .0) × Ranged r
-end-few κs a r e asked made = (asked .0, subst Ranged (sym made) (ranged-ended (asked .0) (asked .1)))
+pub infer-end-few : (κs : Lfts 0) (a : ArgsD infer-end.signature κs) (r : Open) (e : AtExit infer-end.ended κs) → infer-end-reads.Asked κs a → infer-end-reads.Learnt κs a r e → KeepsFew (a .0) × KeepsFew r
+infer-end-few κs a r e asked made = (keeps-few (asked .0), keeps-few (subst Ranged (sym made) (ranged-ended (asked .0) (asked .1))))
 
--- So it is of what settling a start tag or data, an end tag, and the document's end hand back, where they refuse as well.
-pub token-few : (κs : Lfts 5) (a : ArgsD token.signature κs) (r : Outcome) (e : AtExit token.ended κs) → token-reads.Learnt κs a r e → Ranged (r .open)
-token-few κs a r e settles = settles .ranged
+pub end-few : (κs : Lfts 0) (a : ArgsD end.signature κs) (r : Open) (e : AtExit end.ended κs) → end-reads.Asked κs a → end-reads.Learnt κs a r e → KeepsFew (a .0) × KeepsFew r
+end-few κs a r e asked made = (keeps-few (asked .0), keeps-few (subst Ranged (sym made) (ranged-ended (asked .0) (asked .1))))
 
-pub end-tag-few : (κs : Lfts 3) (a : ArgsD end-tag.signature κs) (r : Outcome) (e : AtExit end-tag.ended κs) → end-tag-reads.Learnt κs a r e → Ranged (r .open)
-end-tag-few κs a r e tagged = tagged .brings .ranged
+-- So are those that settling a start tag or data, an end tag and the document's end are handed and hand back, where they refuse as well.
+pub token-few : (κs : Lfts 5) (a : ArgsD token.signature κs) (r : Outcome) (e : AtExit token.ended κs) → token-reads.Asked κs a → token-reads.Learnt κs a r e → KeepsFew (a .1 .1 .1 .0) × KeepsFew (r .open)
+token-few κs a r e asked settles = (keeps-few (asked .0), keeps-few (settles .ranged))
 
-pub finish-few : (κs : Lfts 3) (a : ArgsD finish.signature κs) (r : Outcome) (e : AtExit finish.ended κs) → finish-reads.Learnt κs a r e → Ranged (r .open)
-finish-few κs a r e finished = finished .brings .ranged
+pub end-tag-few : (κs : Lfts 3) (a : ArgsD end-tag.signature κs) (r : Outcome) (e : AtExit end-tag.ended κs) → end-tag-reads.Asked κs a → end-tag-reads.Learnt κs a r e → KeepsFew (a .1 .0) × KeepsFew (r .open)
+end-tag-few κs a r e asked tagged = (keeps-few (asked .0), keeps-few (tagged .brings .ranged))
+
+pub finish-few : (κs : Lfts 3) (a : ArgsD finish.signature κs) (r : Outcome) (e : AtExit finish.ended κs) → finish-reads.Asked κs a → finish-reads.Learnt κs a r e → KeepsFew (a .1 .0) × KeepsFew (r .open)
+finish-few κs a r e asked finished = (keeps-few (asked .0), keeps-few (finished .brings .ranged))
 
 -- Every moment: "At every moment both must equal what 01's definition says of the places taken."
 
@@ -83,6 +89,18 @@ finish-few κs a r e finished = finished .brings .ranged
 -- element and of each around it say what the walks say of all places taken (`MarksMean` of the rules). Nothing is open at the first moment, and from a
 -- moment each act (`Act` of the rules: a start, written or inferred, an end, written or inferred, data) leads to a moment, with what the methods of the
 -- open elements make of it (`done`): so it is wherever a token has come to, though it may still be refused.
+pub moment-few : (es : List Element) (z : State) (o : Open) → Moment es z o → (o .count ≡ length (z .around)) × KeepsFew o
+moment-few es z o m = (m .many, keeps-few (m .ranged))
+
+pub moment-marks : (es : List Element) (z : State) (o : Open) → Moment es z o
+    → (o .element ≡ z .current .number) × ((g : Group) (ps : List Place) (n : ℕ) → contentOf es (z .current .number) ≡ model g ps n → MarksMean (o .complete) (o .required) g (z .current .taken))
+moment-marks es z o m = (m .marks .current .element, λ g ps n e. m .marks .current .marks e)
+
+-- So it is of each element around the current one: the entries of the array say it of the elements of the rules' state, the innermost first (`AllSay` of
+-- open_elements/specs/Marks).
+pub moment-marks-around : (es : List Element) (z : State) (o : Open) → Moment es z o → AllSay es (o .around) (o .count) (z .around)
+moment-marks-around es z o m = m .marks .around
+
 module _ (s : List ℕ) (es : List Element) (accepted : Accepts s es) (D : Decisions) (means : Means s es D) (rows : List ℕ) (said : Rows es rows) where
   pub first-moment : Moment es nothingOpen fresh
   first-moment = moment-first s es accepted D means rows said

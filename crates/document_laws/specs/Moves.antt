@@ -22,6 +22,7 @@ use Rattle.rules_laws.specs.Holds.{stops, reads, Refuses}
 use Rattle.rules_laws.specs.Holds as holds
 use Rattle.rules_laws.specs.Both.{Both, stop, read, on, either, so, itself}
 use Rattle.document_laws.specs.Chain.{chosen, inferable-is, inferable-may, link-same, Leads, chain-step, chain-leads}
+pub use Rattle.rules.specs.Acts.{Few}
 
 abbrev pub state : Open → List Open → List Event → State
 state o around ev = record { current = o; around = around; events = ev }
@@ -75,9 +76,6 @@ pub record Closed (x : State) : Type 0 where
   pub event : Event
   pub other : eqb (event .kind) 5 ≡ false
   pub last : x .events ≡ before ++ event ∷ []
-
-abbrev pub Few : State → Type 0
-Few z = length (z .around) ≤ TAGLVL
 
 -- Ends of elements
 

@@ -1,17 +1,15 @@
 -- The walks decide one reading of every document: any two decisions that mean them read it alike.
-use Prim.Native.Nat.{ℕ, _<_}
+use Prim.Native.Nat.{ℕ}
 use mathlib.Core.Path.{_≡_, refl, sym, _∙_, ap, ap₂}
 use mathlib.Core.Bool.{true, false≢true}
 use mathlib.Core.List.{List, [], _∷_, _++_}
-use lib.ListN.{length}
-use Rattle.rules.specs.Reading.{Reading, got}
 use Rattle.rules.specs.Walk.{Group, Begins}
 use Rattle.rules.specs.TypeFile.{Place, Content, empty, model, Element}
-use Rattle.rules.specs.Document.{Piece, piece}
+use Rattle.rules.specs.Document.{piece}
 use Rattle.rules.specs.Elements.{contentOf, hasModel}
 use Rattle.rules.specs.Decisions.{Decisions, Means}
 use Rattle.rules.specs.Settling.{Open, State, nothingOpen, takePlace, enter}
-use Rattle.rules.specs.Reader.{Reached, settlePiece, document}
+use Rattle.rules.specs.Reader.{settlePiece, document}
 use Rattle.rules_laws.specs.Holds.{Any, got-so, each}
 use Rattle.rules_laws.specs.Both.{so, first, same}
 use Rattle.rules_laws.specs.In.{All, none, more}
@@ -19,6 +17,7 @@ use Rattle.model_sets.specs.Reach.{begins-none}
 use Rattle.document_laws.specs.Agree.{agree}
 use Rattle.document_laws.specs.Moves.{fresh, parent, parent-is, Answers, Chosen, fits, required, Moves, Itself, keeps-ends, withDatum, settlePiece-both, document-both}
 unfoldable pub use Rattle.document_laws.specs.Chain.{link}
+pub use Rattle.rules.specs.Acts.{Passes, begins, goes}
 
 -- Open elements whose places taken begin a walk
 
@@ -86,11 +85,6 @@ module _ (s : List ℕ) (es : List Element) (D E : Decisions) (x : Means s es D)
       same (document-both begun-moves begun-datum d Any tt (λ at l. each (piece d at) (λ n k e. tt) (λ p e. tt)) (λ at n k l h. tt) (refl, nothing-begun es))
 
 -- The states that reading comes to
-
--- Reading the document d, piece by piece, comes to `at` with the state z.
-pub data Passes (s : List ℕ) (es : List Element) (D : Decisions) (d : List ℕ) : ℕ → State → Type 0 where
-  begins : Passes s es D d 0 nothingOpen
-  goes : {at : ℕ} {z : State} {p : Piece} (r : Reached) → Passes s es D d at z → at < length d → piece d at ≡ got p → settlePiece s es D d p at z ≡ got r → Passes s es D d (r .at) (r .state)
 
 module _ (s : List ℕ) (es : List Element) (D : Decisions) where
   -- In each of them the places taken begin walks.

@@ -1,5 +1,5 @@
 -- From moment to moment: after each act the program's open elements stand for the rules' state again, and their marks are right.
-use Prim.Native.Nat.{ℕ, suc, _+_, _≤_, _<_}
+use Prim.Native.Nat.{ℕ, _+_, _≤_, _<_}
 use mathlib.Core.Path.{_≡_, refl, sym, _∙_, ap, ap₂}
 use mathlib.Core.List.{List, [], _∷_, _++_}
 use native.Mathlib.Omega.{arith}
@@ -12,14 +12,14 @@ use Rattle.rules.specs.Decisions.{Token, start, pcdata, Decisions, Means}
 use Rattle.rules.specs.Events.{Event}
 use Rattle.rules.specs.Settling.{State, nothingOpen, takePlace, enter, note, fitting, requiredPlace}
 use Rattle.rules.specs.Settling as rules
-use Rattle.rules.specs.Acts.{Declared, Act, starts, empties, infers, data-byte, infers-end, ends, Acts}
+use Rattle.rules.specs.Acts.{Declared, Act, starts, empties, infers, data-byte, infers-end, ends, Acts, Few}
 use Rattle.rules.specs.Acts as act
 use Rattle.rules_laws.specs.Within.{typeFile-count}
 use Rattle.model_sets.specs.Reach.{lastOr0}
 use Rattle.document_laws.specs.Decide.{requiredOf, decided, requiredOf-last}
 use Rattle.document_laws.specs.Laws.{accepted-decided}
 use Rattle.document_laws.specs.Chain.{inferable-may}
-use Rattle.document_laws.specs.Moves.{Few, Answers}
+use Rattle.document_laws.specs.Moves.{Answers}
 use Rattle.document_laws.specs.Same.{AllBegun, begun-moves, nothing-begun}
 use Rattle.last_places.specs.Last.{placed, lastOnly, allLast, short}
 use Rattle.last_places.specs.Short.{state, last-placed}

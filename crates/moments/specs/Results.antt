@@ -12,12 +12,11 @@ use Rattle.rules.specs.Decisions.{Decisions, Means}
 use Rattle.rules.specs.Events.{Event, withData}
 use Rattle.rules.specs.Settling.{State, nothingOpen, isComplete, startElement, takeData, endElement}
 use Rattle.rules.specs.Reader.{document}
-use Rattle.rules.specs.Acts.{Acts}
+use Rattle.rules.specs.Acts.{Acts, Passes, Few}
 use Rattle.rules_laws.specs.Holds.{got-so}
 use Rattle.document_laws.specs.Decide.{decided}
 use Rattle.document_laws.specs.Laws.{accepted-decided}
-use Rattle.document_laws.specs.Moves.{Few, withDatum}
-use Rattle.document_laws.specs.Same.{Passes}
+use Rattle.document_laws.specs.Moves.{withDatum}
 use Rattle.last_places.specs.Last.{short, shortly, takeRun}
 use Rattle.last_places.specs.Short.{state, startElement-short, takeData-short, endElement-short}
 use Rattle.last_places.specs.Steps.{takeData-got}

@@ -16,7 +16,7 @@ use Rattle.rules.specs.Decisions.{start, Decisions, Means}
 use Rattle.rules.specs.Events.{Event, endInferred}
 use Rattle.rules.specs.Settling.{State, takePlace, fitting, isComplete, inferable, endLeftOut, endFrom, endDocument}
 use Rattle.rules.specs.Settling as rules
-use Rattle.rules.specs.Acts.{Act, infers, infers-end, Acts}
+use Rattle.rules.specs.Acts.{Act, infers, infers-end, Acts, Few}
 use Rattle.rules.specs.Acts as act
 use Rattle.rules_laws.specs.Holds.{Gives, reads, so, on, either, got-so}
 use Rattle.model_sets.specs.Bits.{and-left, and-right}
@@ -24,7 +24,6 @@ use Rattle.model_sets.specs.Reach.{lastOr0}
 use Rattle.document_laws.specs.Decide.{decided, isCompleteIn-last}
 use Rattle.document_laws.specs.Laws.{accepted-decided}
 use Rattle.document_laws.specs.Chain.{chosen, inferable-is}
-use Rattle.document_laws.specs.Moves.{Few}
 use Rattle.last_places.specs.Last.{lastOnly, allLast, short, shortly}
 use Rattle.last_places.specs.Short.{state, last-placed, lastOnly-twice, short-short}
 use Rattle.last_places.specs.Follows.{shortly-got}

@@ -8,12 +8,15 @@ use mathlib.Core.Logic.{_↔_}
 use mathlib.Core.List.{List, [], _∷_, _++_}
 use lib.ListN.{length}
 use Rattle.rules.specs.Bytes.{TAGLVL}
+use Rattle.rules.specs.Reading.{got}
 use Rattle.rules.specs.Walk.{Group, Complete, Required}
 use Rattle.rules.specs.TypeFile.{Element}
+use Rattle.rules.specs.Document.{Piece, piece}
 use Rattle.rules.specs.Elements.{contentOf, hasModel, endO}
 use Rattle.rules.specs.Decisions.{start, pcdata, Decisions}
 use Rattle.rules.specs.Events.{startWritten, startInferred, endWritten, endInferred, endOfEmpty, withData}
-use Rattle.rules.specs.Settling.{Open, State, takePlace, enter, note, fitting, isComplete, requiredPlace, inferable, takeToken}
+use Rattle.rules.specs.Settling.{Open, State, nothingOpen, takePlace, enter, note, fitting, isComplete, requiredPlace, inferable, takeToken}
+use Rattle.rules.specs.Reader.{Reached, settlePiece}
 
 -- Acts
 
@@ -45,6 +48,17 @@ pub data Act (s : List ℕ) (es : List Element) (D : Decisions) (z : State) : St
 pub data Acts (s : List ℕ) (es : List Element) (D : Decisions) (P : State → Type 0) : State → State → Type 0 where
   still : {z : State} → P z → Acts s es D P z z
   next : {z y x : State} → P z → Act s es D z y → Acts s es D P y x → Acts s es D P z x
+
+-- The states that reading comes to between pieces, and how many are open
+
+-- Reading the document d, piece by piece, comes to `at` with the state z.
+pub data Passes (s : List ℕ) (es : List Element) (D : Decisions) (d : List ℕ) : ℕ → State → Type 0 where
+  begins : Passes s es D d 0 nothingOpen
+  goes : {at : ℕ} {z : State} {p : Piece} (r : Reached) → Passes s es D d at z → at < length d → piece d at ≡ got p → settlePiece s es D d p at z ≡ got r → Passes s es D d (r .at) (r .state)
+
+-- "TAGLVL 24 open elements": as many as stand around the current one.
+abbrev pub Few : State → Type 0
+Few z = length (z .around) ≤ TAGLVL
 
 -- Marks
 

@@ -11,8 +11,8 @@ use Rattle.rules.specs.Reader.{ReadAs}
 abbrev pub answerNumbers : Answer → List ℕ
 answerNumbers a = a .number ∷ a .input ∷ a .position ∷ a .first ∷ a .second ∷ a .count ∷ []
 
--- "Both calls are reachable from it through numbers and byte slices": the judge returns the number of an answer to the type file s, gives the
--- answer's six numbers, and leaves in the lent bytes, `before` the call, what goes with that answer.
+-- The main program is in C; "both calls are reachable from it through numbers and byte slices". The judge returns the number of an answer to the type
+-- file s, gives the answer's six numbers, and leaves in the lent bytes, `before` the call, what goes with that answer.
 abbrev pub JudgedNumbers : (s before : List ℕ) (returned : ℕ) (numbers after : List ℕ) → Type 0
 JudgedNumbers s before returned numbers after = (a : Answer) × (returned ≡ a .number) × (numbers ≡ answerNumbers a) × Judged bytes s before a after
 

@@ -11,8 +11,8 @@ pub mod Elements
 pub mod Decisions
 pub mod Events
 pub mod Settling
-pub mod Acts
 pub mod Lookup
 pub mod Reader
+pub mod Acts
 pub mod Calls
 pub mod Printed

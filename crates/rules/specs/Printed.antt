@@ -37,12 +37,12 @@ upper s at (suc n) = fold (byteAt s at) ∷ upper s (at + 1) n
 
 -- Events
 
--- "Element name in upper case or `-`".
+-- The "element name in upper case or `-`".
 abbrev pub nameText : List ℕ → List Element → ℕ → List ℕ
 nameText s es zero = 45 ∷ []
 nameText s es (suc k) = upper s (elementAt es k .at) (elementAt es k .size)
 
--- "A line per event: kind, element name in upper case or `-`, offset, length, one space between."
+-- The line of an event: "kind, element name in upper case or `-`, offset, length, one space between."
 unfoldable pub line : (kind : ℕ) → (name : List ℕ) → (offset size : ℕ) → List ℕ
 line k x o n = word (decimal k) 32 ++ (word x 32 ++ (word (decimal o) 32 ++ word (decimal n) 10))
 
@@ -72,7 +72,7 @@ inDocument = 105 ∷ 110 ∷ 32 ∷ 100 ∷ 111 ∷ 99 ∷ 117 ∷ 109 ∷ 101 �
 unfoldable pub refusedText : (number : ℕ) → (input : List ℕ) → (position : ℕ) → List ℕ
 refusedText n x k = refusedWord ++ (word (decimal n) 32 ++ (x ++ word (decimal k) 10))
 
--- "Input 1 is the type, 2 the document."
+-- "input 1 is the type, 2 the document."
 abbrev pub inputText : ℕ → List ℕ
 inputText k = elim (leb 2 k) [ true ↦ inDocument | false ↦ inType ]
 

@@ -1,5 +1,5 @@
 -- The numbers of an answer are such as C gets.
-use Prim.Native.Nat.{ℕ, _<_}
+use Prim.Native.Nat.{_<_}
 use Rattle.type_judge.specs.declared.Verdict.{Verdict}
 use Rattle.type_judge.specs.declared.Verdict.the-variants.{Accepted, Malformed, Ambiguous}
 use Rattle.document_reader.specs.declared.Answer as reader
