@@ -24,6 +24,8 @@ use Rattle.rules.specs.Reader.{BothLegible, Reads, RefusesBoth, ReadAs}
 use Rattle.rules.specs.Calls.{answerNumbers}
 use Rattle.acts.specs.Readings.{passes-acts}
 use Rattle.demands.specs.Words.{Refusal, Acceptance, ModelOf, SomeAmbiguous, NamesFirst, NamesDecide, ReaderRefusal, ReaderAcceptance, SameVerdict}
+use Rattle.answer_laws.specs.Reader.{given-one, reading-one}
+use Rattle.demands.specs.Exists.{judged-some, read-some}
 use Rattle.demands.specs.Kept as kept
 use Rattle.type_judge.specs.declared.Verdict.{Verdict}
 use Rattle.type_judge.specs.Means as verdict
@@ -173,21 +175,21 @@ read-to-bytes κs a r e (as-read, fits) = reader-keeps Lent.bytes _ _ _ _ _ as-r
 
 -- The rules have an answer to every call, and only one, with what the buffer holds after: so they are total, whatever the code does.
 pub judged-exists : (l : Lent) (s before : List ℕ) → (a : Answer) × (after : List ℕ) × Judged l s before a after
-judged-exists = kept.judged-exists
+judged-exists = judged-some
 
 pub judged-one : (l : Lent) (s before : List ℕ) (a b : Answer) (after other : List ℕ) → Judged l s before a after → Judged l s before b other → (a ≡ b) × (after ≡ other)
 judged-one = kept.judged-one
 
 pub read-exists : (l : Lent) (s d before : List ℕ) → (a : Answer) × (after : List ℕ) × ReadAs l s d before a after
-read-exists = kept.read-exists
+read-exists = read-some
 
 pub read-one : (l : Lent) (s d before : List ℕ) (a b : Answer) (after other : List ℕ) → ReadAs l s d before a after → ReadAs l s d before b other → (a ≡ b) × (after ≡ other)
-read-one = kept.read-one
+read-one = given-one
 
 -- Demand 2: under an accepted type every document has a reading, and only one.
 pub reading-exists : (s d : List ℕ) (es : List Element) → BothLegible s d → Accepts s es
     → (r : Reading (List Event)) × Reads s d es r × ((fs : List Element) (q : Reading (List Event)) → Reads s d fs q → (es ≡ fs) × (r ≡ q))
-reading-exists = kept.reading-exists
+reading-exists = reading-one
 
 -- Demand 1: 0 to 24 elements are open (`Few`: as many as stand around the current one) in every state that reading a document passes, within each token
 -- too: after each start and end, written or inferred. OpenElements says it of the program.

@@ -6,7 +6,7 @@ use mathlib.Core.List.{List}
 use native.Mathlib.Omega.{arith}
 use lib.ListN.{length}
 use Rattle.rules.specs.Lent.{Lent, room}
-use Rattle.rules.specs.Reading.{Reading, got}
+use Rattle.rules.specs.Reading.{got}
 use Rattle.rules.specs.Walk.{Group}
 use Rattle.rules.specs.Ambiguity.{Ambiguous, PairAtFault}
 use Rattle.rules.specs.TypeFile.{Place, Element, typeFile}
@@ -16,8 +16,7 @@ use Rattle.rules.specs.Reader.{BothLegible, Reads, RefusesBoth, ReadAs}
 use Rattle.demands.specs.Words.{Refusal, Acceptance, ModelOf, SomeAmbiguous, NamesFirst, NamesDecide, ReaderRefusal, ReaderAcceptance, SameVerdict}
 use Rattle.answer_laws.specs.Judge.{settled-one, settled-refuses, settled-accepts, settled-fair, settled-faulty, refuses-named, refuses-some, settled-nine, settled-nineteen, first-model, model-exactly, not-ambiguous, names-alone, settled-length}
 use Rattle.demands.specs.Models.{pair-in, names-first}
-use Rattle.demands.specs.Exists.{judged-some, read-some}
-use Rattle.answer_laws.specs.Reader.{given-one, reading-one, both-says, both-some, given-nine, given-nineteen, type-refused, given-refuses, given-accepts, given-faulty, given-fair, given-length}
+use Rattle.answer_laws.specs.Reader.{given-one, both-says, both-some, given-nine, given-nineteen, type-refused, given-refuses, given-accepts, given-faulty, given-fair, given-length}
 
 -- The type judge
 
@@ -84,25 +83,15 @@ pub pair-places : (s : List ℕ) (es : List Element) → typeFile s ≡ got es �
     → (p q : ℕ) → PairAtFault (samePlace s ps) g p q → (1 ≤ p) × (q ≤ length ps)
 pair-places = pair-in
 
--- The rules have an answer, and only one, with what the buffer holds after.
-pub judged-exists : (l : Lent) (s before : List ℕ) → (a : Answer) × (after : List ℕ) × Judged l s before a after
-judged-exists = judged-some
-
+-- The rules have only one answer of the judge, with what the buffer holds after.
 pub judged-one : (l : Lent) (s before : List ℕ) (a b : Answer) (after other : List ℕ) → Judged l s before a after → Judged l s before b other → (a ≡ b) × (after ≡ other)
 judged-one l s before a b after other = settled-one
 
 -- The document reader
 
--- The rules have an answer of the reader, and only one, with what the buffer holds after.
-pub read-exists : (l : Lent) (s d before : List ℕ) → (a : Answer) × (after : List ℕ) × ReadAs l s d before a after
-read-exists = read-some
-
-pub read-one : (l : Lent) (s d before : List ℕ) (a b : Answer) (after other : List ℕ) → ReadAs l s d before a after → ReadAs l s d before b other → (a ≡ b) × (after ≡ other)
-read-one = given-one
-
 module _ (l : Lent) (s d before : List ℕ) (a : Answer) (after : List ℕ) (called : ReadAs l s d before a after) where
   one : (b : Answer) (other : List ℕ) → ReadAs l s d before b other → a ≡ b
-  one b other x = read-one l s d before a b after other called x .0
+  one b other x = given-one l s d before a b after other called x .0
 
   -- Demand 1.
 
@@ -156,11 +145,6 @@ module _ (l : Lent) (s d before : List ℕ) (a : Answer) (after : List ℕ) (cal
   -- Else names alone decide places, also where the document is refused.
   pub reader-names-decide : BothLegible s d → (a .number ≡ 9 → ⊥) → (es : List Element) → typeFile s ≡ got es → NamesDecide s es
   reader-names-decide i h es r g ps (e, n, m, c) = names-alone s g ps (given-fair called i r h) m c
-
--- Demand 2, whole: under an accepted type every document has a reading, and only one.
-pub reading-exists : (s d : List ℕ) (es : List Element) → BothLegible s d → Accepts s es
-    → (r : Reading (List Event)) × Reads s d es r × ((fs : List Element) (q : Reading (List Event)) → Reads s d fs q → (es ≡ fs) × (r ≡ q))
-reading-exists = reading-one
 
 -- Demand 3, across the calls: the judge, lent `before`, and the reader, lent `other`, are of one mind on the type.
 module _ (l m : Lent) (s d before other : List ℕ) (a b : Answer) (after left : List ℕ) (judged : Judged l s before a after) (kept : ReadAs m s d other b left) where
