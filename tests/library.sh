@@ -46,6 +46,9 @@ echo "the standard's own content models"
 cc -std=c99 -Wall -Wextra -pedantic -Werror -O2 -Iinclude tests/listed.c target/staticlib/libsgml.a -o "$out/listed"
 "$out/listed" tests/standard.cases
 
+echo "the type file's open points, as they are settled"
+"$out/listed" tests/decided.cases
+
 echo "the stack that a call takes"
 cc -std=c99 -Wall -Wextra -pedantic -Werror -O2 -Iinclude tests/stack.c target/staticlib/libsgml.a -lpthread -o "$out/stack"
 "$out/stack"
