@@ -2,6 +2,8 @@
 //
 // `facts` is a table of the type (crate type_tables). Whether an open element is complete is kept with it. n events stand in the
 // buffers before.
+// Where the table is no type's, or the state stands in none, what is brought is not decided, but that the state's numbers are in range, that the
+// refusal number is below 20, and that so many events were put as are counted.
 use layout::FACTS;
 use open_elements::Open;
 use open_elements::Outcome;

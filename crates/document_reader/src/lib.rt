@@ -33,7 +33,8 @@ pub enum Answer {
     InDocument(Fault),
 }
 
-// Numbers 1 and 2 of both inputs, then the type: accepted with so many elements in `elements`, or refused.
+// Numbers 1 and 2 of both inputs, then the type: accepted with so many elements in `elements`, or refused. On refusal what `elements`
+// holds is not decided.
 fn judged(s: &[u8], d: &[u8], elements: &mut [u32; RECORDS]) -> Answer
     ensures { λ r. ⌜ Judges (now (s .entry)) (now (d .entry)) (now (elements .exit)) r ⌝ }
 {
@@ -93,7 +94,8 @@ fn read_under(
     )
 }
 
-// Judges the type and reads the document; a refusal zeroes nothing yet.
+// Judges the type and reads the document; a refusal zeroes nothing yet. Where it refuses, or the room is short, what the buffers hold is not
+// decided, but that they keep their length.
 fn answered(s: &[u8], d: &[u8], numbers: &mut [u32], bytes: &mut [u8]) -> Answer
     ensures { λ r. ⌜ Answers (now (s .entry)) (now (d .entry)) (now (numbers .entry)) (now (numbers .exit)) (now (bytes .entry)) (now (bytes .exit)) r ⌝ }
 {

@@ -2,6 +2,8 @@
 //
 // `rows`, `places` and `facts` are the tables of the type (crate type_tables). x is the element that starts, or 0 for data. n is how
 // many events there are so far; they are put to `numbers` and `bytes` (crate event_buffer).
+// Where the tables are no type's, or the state stands in none, what a token brings is not decided, but that the state's numbers are in range,
+// that the refusal number is below 20, and that so many events were put as are counted.
 use layout::FACTS;
 use layout::PLACES;
 use layout::ROWS;
