@@ -95,7 +95,7 @@ fn read_under(
 }
 
 // Judges the type and reads the document; a refusal zeroes nothing yet. Where it refuses, or the room is short, what the buffers hold is not
-// decided, but that they keep their length.
+// decided.
 fn answered(s: &[u8], d: &[u8], numbers: &mut [u32], bytes: &mut [u8]) -> Answer
     ensures { λ r. ⌜ Answers (now (s .entry)) (now (d .entry)) (now (numbers .entry)) (now (numbers .exit)) (now (bytes .entry)) (now (bytes .exit)) r ⌝ }
 {
