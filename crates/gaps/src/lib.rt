@@ -4,7 +4,7 @@ use text::Reached;
 ghost use mathlib.Core.Path.{_≡_};
 ghost use Prim.Native.Nat.{_+_, _≤_, _<_};
 ghost use lib.ListN.{length, drop};
-ghost use Rattle.rules.specs.TypeFile.{atDashes, beforeDashes, beforeClose, commentDeclaration, gap};
+ghost use Rattle.rules.specs.TypeFile.{atDashes, beforeDashes, commentDeclaration, gap};
 ghost use Rattle.text.specs.Means.{reached};
 ghost use Rattle.gaps.specs.Unfit.{unfitAt};
 
@@ -31,39 +31,6 @@ fn to_dashes(s: &[u8], at: usize) -> usize
     i
 }
 
-// The first `-->` from `at` on, or the input's length.
-fn to_close(s: &[u8], at: usize) -> usize
-    requires { ⌜ at ≤ length (now s) ⌝ }
-    ensures { λ r. ⌜ r ≡ at + beforeClose (drop at (now (s .entry))) ⌝ }
-{
-    let mut i = at;
-    while i < s.len() {
-        if at_dashes(s, i) {
-            if text::byte(s, i + 2) == b'>' {
-                return i;
-            }
-        }
-        i += 1;
-    }
-    i
-}
-
-// The end of a comment declaration of which `<!--` ends at `at`.
-pub fn comment_end(s: &[u8], at: usize) -> Reached
-    requires { ⌜ at ≤ length (now s) ⌝ }
-    ensures { λ r. ⌜ reached r ≡ commentDeclaration (now (s .entry)) at ⌝ }
-{
-    let i = to_close(s, at);
-    if i < s.len() {
-        Reached::At(i + 3)
-    } else {
-        Reached::Refused(Fault {
-            number: 4,
-            at: s.len(),
-        })
-    }
-}
-
 // Separators and comments between parameters, to the next byte of another kind.
 pub fn gap_end(s: &[u8], at: usize) -> Reached
     requires { ⌜ at ≤ length (now s) ⌝ }
@@ -84,6 +51,29 @@ pub fn gap_end(s: &[u8], at: usize) -> Reached
         return Reached::Refused(Fault { number: 5, at: i });
     }
     Reached::At(i)
+}
+
+// The end of a comment declaration of which `<!` ends at `at`: comments with separators between, then `>`. A "-" behind them could
+// only open a further comment, so the byte after it is the unfit one.
+pub fn comment_end(s: &[u8], at: usize) -> Reached
+    requires { ⌜ at ≤ length (now s) ⌝ }
+    ensures { λ r. ⌜ reached r ≡ commentDeclaration (now (s .entry)) at ⌝ }
+{
+    let r = gap_end(s, at);
+    let Reached::At(i) = r else {
+        return r;
+    };
+    let b = text::byte(s, i);
+    if b == b'>' {
+        return Reached::At(i + 1);
+    }
+    if b == b'-' {
+        return Reached::Refused(Fault {
+            number: 4,
+            at: i + 1,
+        });
+    }
+    Reached::Refused(Fault { number: 4, at: i })
 }
 
 // What cannot stand between parameters. A "-" at the input's end could still have opened a comment.

@@ -63,7 +63,7 @@ module _ (s : List ℕ) (i b : ℕ) (es : List Element) (read : b ≡ byteAt s (
         let m = rw read at q in
         rw (m, m, ne-eqb _ _ (rw then at o), markup)
 
-    pub markup-comment : (x : Reading ℕ) → d ≡ 45 → x ≡ commentDeclaration s (i + 4) → markup s i es ≡ andThen x (λ j. got (record { elements = es; at = j }))
+    pub markup-comment : (x : Reading ℕ) → d ≡ 45 → x ≡ commentDeclaration s (i + 2) → markup s i es ≡ andThen x (λ j. got (record { elements = es; at = j }))
     unfolding markup
     markup-comment x o c =
         let m = rw read at q in
@@ -90,10 +90,10 @@ module _ (s elements : List ℕ) (i : ℕ) (p : Progress) (es : List Element) (r
   pub comment-refused : (f g : Fault) → r ≡ reachedAs.Refused f → g ≡ faultOf r → MeetsStep s elements i (Refused g) x
   comment-refused f g e q = rw (read, q, e) (refl, refl)
 
-  pub comment-onward : (j : ℕ) (z : Step) → r ≡ reachedAs.At j → reached r ≡ commentDeclaration s (i + 4) → KeepsProgress s elements p es
+  pub comment-onward : (j : ℕ) (z : Step) → i + 2 ≤ length s → r ≡ reachedAs.At j → reached r ≡ commentDeclaration s (i + 2) → KeepsProgress s elements p es
       → z ≡ Read (record { at = j; count = p .count; clash = p .clash }) → MeetsStep s elements i z x
-  comment-onward j z e c k w =
-      let l = comment-range s (i + 4) j (sym c ∙ ap reached e) in
+  comment-onward j z h e c k w =
+      let l = comment-range s (i + 2) j h (sym c ∙ ap reached e) in
       step-onward s elements i j p es x z k (read ∙ rw e) w (omega arith) (l .1)
 
 -- What stands at i, where a declaration may begin: the byte b.

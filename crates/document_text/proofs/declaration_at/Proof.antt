@@ -33,13 +33,13 @@ comment-end-requires c κs =
     let a = c .before .before .before .before .before .args in
     omega (arith, dashes-in (a .s .now) (a .i + 2) (sym (c .before .dashes-at .ensures) ∙ c .if2 .taken))
 
-skipped-requires : tie.Need-skipped-requires
-skipped-requires c κs = search needs
+comment-requires : tie.Need-comment-requires
+comment-requires c κs = search needs
 
 returns-2 : tie.Need-returns-2
 returns-2 c =
     let a = c .before .before .before .before .before .before .before .args in
-    c .skipped .ensures ∙ declaration-comment (a .s .now) (a .i) _ (c .before .before .before .before .before .byte .ensures) (c .before .before .before .before .if1 .left) _ (c .before .comment-end .ensures) (sym (c .before .before .before .dashes-at .ensures) ∙ c .before .before .if2 .taken)
+    c .comment .ensures ∙ declaration-comment (a .s .now) (a .i) _ (c .before .before .before .before .before .byte .ensures) (c .before .before .before .before .if1 .left) _ (c .before .comment-end .ensures) (sym (c .before .before .before .dashes-at .ensures) ∙ c .before .before .if2 .taken)
 
 is-left-out-requires : tie.Need-is-left-out-requires
 is-left-out-requires c κs = search needs
@@ -65,7 +65,7 @@ declaration-at-spec =
     dashes-at-requires
     add-comment-end
     comment-end-requires
-    skipped-requires
+    comment-requires
     returns-2
     is-left-out-requires
     returns-3

@@ -84,7 +84,7 @@ returns-4 c es k =
     let d = c .before .before .before .before .before .before .byte2 .ensures in
     let e = c .before .before .before .before .comment-end .ensures in
     comment-onward (a .s .now) (a .elements .now) (a .i) (a .p) es _ _
-    (markup-comment (a .s .now) (a .i) _ es b _ d (c .before .before .before .before .before .before .before .if2 .taken) _ (c .before .before .before .before .before .if3 .left) e) _ _ (c .before .before .r .given .1) e k (c .onward2 .ensures)
+    (markup-comment (a .s .now) (a .i) _ es b _ d (c .before .before .before .before .before .before .before .if2 .taken) _ (c .before .before .before .before .before .if3 .left) e) _ _ (omega arith) (c .before .before .r .given .1) e k (c .onward2 .ensures)
 
 refusal-requires-2 : tie.Need-refusal-requires-2
 refusal-requires-2 c κs = tt
