@@ -72,7 +72,9 @@ const TOO_LONG: &str = "ABCDEFGHI";
 
 const SEPARATORS: [&str; 4] = [" ", "\n", "\r", "\t"];
 /// Insides of comments: none holds `--` or ends in "-".
-const COMMENTS: [&str; 11] = ["", " c ", ">", "<x", "%", "&", "- ", "a-b", "(", "->", "]]>"];
+const COMMENTS: [&str; 11] = [
+    "", " c ", ">", "<x", "%", "&", "- ", "a-b", "(", "->", "]]>",
+];
 /// What makes comment declarations, whole and faulty ones.
 const COMMENT_FRAGMENTS: [&str; 13] = [
     "-", "--", "--", "---", " ", "\n", "\t", ">", "-->", "%", "b", "<", "x",
@@ -91,7 +93,7 @@ pub fn any_type(random: &mut Random) -> Type {
         }
         64..=69 => {
             let mut commented = sound_type(random);
-            let at = if random.percent(50) { 0 } else { commented.file.len() };
+            let at = random.below(2) * commented.file.len();
             let mut comment = Vec::new();
             nearly_a_comment(random, &mut comment);
             commented.file.splice(at..at, comment);
@@ -448,7 +450,8 @@ fn comment_declaration(random: &mut Random, text: &mut String) {
 
 /// What begins as a comment declaration; some of these are whole.
 fn nearly_a_comment(random: &mut Random, bytes: &mut Vec<u8>) {
-    bytes.extend(random.pick(&["<!--", "<!-- a --", "<!----", "<!-", "<! --"]).bytes());
+    let start = random.pick(&["<!--", "<!-- a --", "<!----", "<!-", "<! --"]);
+    bytes.extend(start.bytes());
     for _ in 0..random.below(8) {
         bytes.extend(random.pick(&COMMENT_FRAGMENTS).bytes());
     }

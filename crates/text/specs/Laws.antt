@@ -163,7 +163,11 @@ pub separatorsEnd-le : (s : List ℕ) (at : ℕ) → at ≤ length s → separat
 unfolding separatorsEnd
 separatorsEnd-le = span-in separator
 
--- The second part of a test that is passed.
+-- Each part of a test that is passed.
+first : (a b : Bool) → (a && b) ≡ true → a ≡ true
+first true b e = refl
+first false b e = absurd (true≢false (sym e))
+
 pub second : (a b : Bool) → (a && b) ≡ true → b ≡ true
 second true b e = e
 second false b e = absurd (true≢false (sym e))
@@ -298,53 +302,62 @@ pub gap-start : (s : List ℕ) (at : ℕ) → gapOn (length s) s (separatorsEnd 
 unfolding gap
 gap-start s at = sym (gap-on (length s) s at)
 
-pub gap-turn : (s : List ℕ) (i e : ℕ) → atDashes s i ≡ true → e ≡ i + 2 + beforeDashes (drop (i + 2) s) → e < length s → gapOn (length s) s (separatorsEnd s (e + 2)) ≡ gapOn (length s) s i
-gap-turn s i e d q h = sym (gapOn-comment (length s) s i e d q h ∙ gap-enough (length s) (suc (length s)) s (e + 2) (omega arith) (omega arith) ∙ gap-on (length s) s (e + 2))
+pub gap-turn : (s : List ℕ) (i e j : ℕ) → atDashes s i ≡ true → e ≡ i + 2 + beforeDashes (drop (i + 2) s) → e < length s → j ≡ separatorsEnd s (e + 2) → gapOn (length s) s j ≡ gapOn (length s) s i
+gap-turn s i e j d q h p =
+    rw p (sym (gapOn-comment (length s) s i e d q h ∙ gap-enough (length s) (suc (length s)) s (e + 2) (omega arith) (omega arith) ∙ gap-on (length s) s (e + 2)))
 
--- Comment declarations, of which `<!` ends at `at`.
+-- A gap that begins with a comment.
+gap-dashes : (s : List ℕ) (at : ℕ) → atDashes s at ≡ true → gapOn (length s) s at ≡ gap s at
+unfolding separatorsEnd separator
+gap-dashes s at d =
+    let b : byteAt s at ≡ 45 = eqb-true _ _ (first (eqb (byteAt s at) 45) _ d) in
+    let here : separator (byteAt s at) ≡ false = rw b in
+    let stays : at ≡ separatorsEnd s at = span-end separator s at _ here refl in
+    ap (gapOn (length s) s) stays ∙ gap-start s at
 
-pub comment-cut : (s : List ℕ) (at n k : ℕ) → gap s at ≡ refused n k → commentDeclaration s at ≡ refused n k
-unfolding commentDeclaration
-comment-cut s at n k g = rw (commentDeclaration, g)
+-- Comment declarations.
 
--- Each way on from where the comments and separators end.
-module _ (s : List ℕ) (at i : ℕ) (g : gap s at ≡ got i) where
-  comment-on : commentDeclaration s at ≡ commentClose s i
+-- Where the unfit byte stands, if no `>` follows the comments: behind a "-", which could only open a further one.
+abbrev pub behindDash : List ℕ → ℕ → ℕ
+behindDash s i = cond (eqb (byteAt s i) 45) (i + 1) i
+
+-- Each way on from where the comments and separators end, of which the first `--` stands at `at`.
+module _ (s : List ℕ) (at : ℕ) (d : atDashes s at ≡ true) where
+  pub comment-cut : (n k : ℕ) → gapOn (length s) s at ≡ refused n k → commentDeclaration s at ≡ refused n k
   unfolding commentDeclaration
-  comment-on = rw (commentDeclaration, g)
+  comment-cut n k g = rw (commentDeclaration, sym (gap-dashes s at d) ∙ g)
 
-  pub comment-closed : byteAt s i ≡ 62 → commentDeclaration s at ≡ got (i + 1)
-  comment-closed e = comment-on ∙ rw (eq-eqb _ _ e, commentClose)
+  module _ (i : ℕ) (g : gapOn (length s) s at ≡ got i) where
+    comment-on : commentDeclaration s at ≡ commentClose s i
+    unfolding commentDeclaration
+    comment-on = rw (commentDeclaration, sym (gap-dashes s at d) ∙ g)
 
-  pub comment-dash : byteAt s i ≡ 45 → commentDeclaration s at ≡ refused 4 (i + 1)
-  comment-dash e = comment-on ∙ rw (e, e, commentClose)
+    pub comment-closed : byteAt s i ≡ 62 → commentDeclaration s at ≡ got (i + 1)
+    comment-closed e = comment-on ∙ rw (eq-eqb _ _ e, commentClose)
 
-  pub comment-other : (byteAt s i ≡ 62 → ⊥) → (byteAt s i ≡ 45 → ⊥) → commentDeclaration s at ≡ refused 4 i
-  comment-other m o = comment-on ∙ rw (ne-eqb _ _ m, ne-eqb _ _ o, commentClose)
+    pub comment-unfit : (byteAt s i ≡ 62 → ⊥) → commentDeclaration s at ≡ refused 4 (behindDash s i)
+    comment-unfit m = comment-on ∙ rw (ne-eqb _ _ m, commentClose) (sym (cut-or (eqb (byteAt s i) 45) (i + 1) i))
 
-pub comment-range : (s : List ℕ) (at j : ℕ) → at ≤ length s → commentDeclaration s at ≡ got j → (at < j) × (j ≤ length s)
-comment-range s at j h r = by-gap (gap s at) refl
-  where
-    by-dash : (i : ℕ) → gap s at ≡ got i → (byteAt s i ≡ 62 → ⊥) → (b : Bool) → eqb (byteAt s i) 45 ≡ b → (at < j) × (j ≤ length s)
-    by-dash i g m true q =
-        let z : _≡_ {A = ℕ} 0 1 = cc (comment-dash s at i g (eqb-true (byteAt s i) 45 q)) in
-        omega arith
-    by-dash i g m false q =
-        let z : _≡_ {A = ℕ} 0 1 = cc (comment-other s at i g m (eqb-false (byteAt s i) 45 q)) in
-        omega arith
+    pub comment-inside : i ≤ length s
+    comment-inside = gap-range s at i (omega (arith, dashes-in s at d)) (sym (gap-dashes s at d) ∙ g) .1
 
-    by-close : (i : ℕ) → gap s at ≡ got i → (b : Bool) → eqb (byteAt s i) 62 ≡ b → (at < j) × (j ≤ length s)
-    by-close i g true q =
-        let e = eqb-true (byteAt s i) 62 q in
-        let n : i + 1 ≡ j = cc (comment-closed s at i g e) in
-        omega (arith, gap-range s at i h g, byte-is-in s i 62 e (omega arith))
-    by-close i g false q = by-dash i g (eqb-false (byteAt s i) 62 q) (eqb (byteAt s i) 45) refl
+  pub comment-range : (j : ℕ) → commentDeclaration s at ≡ got j → (at < j) × (j ≤ length s)
+  comment-range j r = by-gap (gapOn (length s) s at) refl
+    where
+      by-close : (i : ℕ) → gapOn (length s) s at ≡ got i → (b : Bool) → eqb (byteAt s i) 62 ≡ b → (at < j) × (j ≤ length s)
+      by-close i g true q =
+          let e = eqb-true (byteAt s i) 62 q in
+          let n : i + 1 ≡ j = cc (comment-closed i g e) in
+          omega (arith, gap-range s at i (omega (arith, dashes-in s at d)) (sym (gap-dashes s at d) ∙ g), byte-is-in s i 62 e (omega arith))
+      by-close i g false q =
+          let z : _≡_ {A = ℕ} 0 1 = cc (comment-unfit i g (eqb-false (byteAt s i) 62 q)) in
+          omega arith
 
-    by-gap : (x : Reading ℕ) → gap s at ≡ x → (at < j) × (j ≤ length s)
-    by-gap (refused n k) g =
-        let z : _≡_ {A = ℕ} 0 1 = cc (comment-cut s at n k g) in
-        omega arith
-    by-gap (got i) g = by-close i g (eqb (byteAt s i) 62) refl
+      by-gap : (x : Reading ℕ) → gapOn (length s) s at ≡ x → (at < j) × (j ≤ length s)
+      by-gap (refused n k) g =
+          let z : _≡_ {A = ℕ} 0 1 = cc (comment-cut n k g) in
+          omega arith
+      by-gap (got i) g = by-close i g (eqb (byteAt s i) 62) refl
 
 -- Words.
 

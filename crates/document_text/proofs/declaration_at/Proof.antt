@@ -1,9 +1,6 @@
 -- `declaration_at` meets its contract: each way by the tests that led there.
-use Prim.Native.Nat.{_+_}
 use mathlib.Core.Path.{sym, _∙_}
-use native.Mathlib.Omega.{arith}
 use borrow.Author.Needs.{needs}
-use Rattle.text.specs.Laws.{dashes-in}
 use Rattle.document_text.specs.Laws.{declaration-none, declaration-comment, declaration-out, declaration-data}
 use Rattle.document_text.proofs.declaration_at.Statement.{statement}
 use Rattle.document_text.proofs.declaration_at.Tie as tie
@@ -29,9 +26,7 @@ add-comment-end : tie.Need-add-comment-end
 add-comment-end c = search needs
 
 comment-end-requires : tie.Need-comment-end-requires
-comment-end-requires c κs =
-    let a = c .before .before .before .before .before .args in
-    omega (arith, dashes-in (a .s .now) (a .i + 2) (sym (c .before .dashes-at .ensures) ∙ c .if2 .taken))
+comment-end-requires c κs = sym (c .before .dashes-at .ensures) ∙ c .if2 .taken
 
 comment-requires : tie.Need-comment-requires
 comment-requires c κs = search needs
