@@ -188,6 +188,8 @@ check "the line with a caret" test "$(tail -n +2 "$out/stderr")" = "<LIST><QTY>
 ends 1 "$here" bash -c "printf '<LIST><QTY>' | $sgml --esis examples/stock.type -"
 ends 1 "$here" bash -c "printf '<LIST><QTY>' | $sgml -q --check examples/stock.type -"
 check "-q prints one line" test "$(wc -l <"$out/stderr")" -eq 1
+open="<stdin>:1:17: the document ends within the comment that began at 1:7 and has no \">\" [4]"
+ends 1 "$open" bash -c "printf '<LIST><!-- a -- ' | $sgml -q --check examples/stock.type -"
 two="examples/two-drawers.type:2:27: this content model is ambiguous: ITEM may be this one, place 2, or ITEM at 2:21, place 1 [9]"
 ends 1 "$two" $sgml --check examples/two-drawers.type $few
 ends 1 "$two" $sgml --check examples/two-drawers.type
