@@ -27,6 +27,16 @@ static void long_name(const struct fault *f)
             name_length(f->input->bytes, f->input->length, f->at), SGML_NAMELEN);
 }
 
+/* These bytes may stand at the fault. */
+static int may_follow(const struct fault *f, const char *bytes)
+{
+    static struct question q;
+    if (f->input == f->type)
+        return may_stand(f->type, f->at, bytes, 0);
+    begin_question(&q, f->type, f->document, f->at);
+    return may_come(&q, bytes, 0);
+}
+
 static void unfinished(const struct fault *f)
 {
     size_t s = form_start(f);
@@ -42,13 +52,31 @@ static void unfinished(const struct fault *f)
     else
         fprintf(f->to, "the tag <%s%s that began at ", stands(f->input, s, "</") ? "/" : "", tag_name(f->input, s));
     put_place(f, f->input, s);
-    fprintf(f->to, stands(f->input, s, "<!--") ? " and has no -->" : " and has no \">\"");
+    fprintf(f->to, stands(f->input, s, "<!--") && may_follow(f, "x") ? " and has no -->" : " and has no \">\"");
+}
+
+/* Between the comments of a declaration, or behind a "-" there. */
+static void unfit_in_comment(const struct fault *f)
+{
+    uint8_t byte = byte_at(f->input, f->at);
+    fprintf(f->to, "in the comment that began at ");
+    put_place(f, f->input, form_start(f));
+    fprintf(f->to, " only %s may stand here", may_follow(f, ">") ? "\"--\", \">\" or a separator" : "a second \"-\"");
+    fprintf(f->to, byte <= ' ' ? ", and not a separator" : ", and not \"%c\"", byte);
+    fprintf(f->to, ": a \"--\" before it ended the comment's text");
+}
+
+static int is_in_comment(const struct fault *f)
+{
+    return ends_within(f->type, f->input == f->document ? f->document : NULL, f->at) && stands(f->input, form_start(f), "<!--");
 }
 
 static void malformed(const struct fault *f)
 {
     if (f->at == f->input->length)
         unfinished(f);
+    else if (is_in_comment(f))
+        unfit_in_comment(f);
     else if (f->input == f->type)
         unfit_in_type(f);
     else

@@ -7,8 +7,6 @@ use std::collections::BTreeSet;
 /// Kinds of departure; DECISIONS.md has the sentence of the paper for each ("Beside OpenSP").
 #[derive(Clone, Copy, Debug, PartialEq, Eq, PartialOrd, Ord)]
 pub enum Kind {
-    /// A comment declaration runs to the first `-->`, whatever pairs of `--` it holds.
-    Comment,
     /// A separator is ignored in an element with `#PCDATA` where `#PCDATA` may not come next.
     Separator,
     /// Number 5: a form of ISO 8879 left out.
@@ -31,22 +29,21 @@ const POSITION: usize = 2;
 const TYPE_BYTES: usize = 32_768;
 const DOCUMENT_BYTES: usize = 65_535;
 
-/// Type file and document without what a departure bears on. Of a document with a form that the
-/// reader refuses and onsgmls takes, only the part before that form stays.
-pub fn plain_document(type_file: &[u8], document: &[u8]) -> (Vec<u8>, Vec<u8>, Kinds) {
+/// The document without what a departure bears on. Of one with a form that the reader refuses and
+/// onsgmls takes, only the part before that form stays.
+pub fn plain_document(type_file: &[u8], document: &[u8]) -> (Vec<u8>, Kinds) {
     let mut kinds = Kinds::new();
-    let type_file = plain_comments(type_file, &comments_of_type(type_file), &mut kinds);
-    let mut document = plain_comments(document, &comments_of_document(document), &mut kinds);
-    if let Some((kind, start)) = form_refused(&type_file, &document) {
+    let mut document = document.to_vec();
+    if let Some((kind, start)) = form_refused(type_file, &document) {
         document.truncate(start);
         kinds.insert(kind);
     }
-    let ignored = oracle::ignored_beside_data(&type_file, &document);
+    let ignored = oracle::ignored_beside_data(type_file, &document);
     for at in ignored.into_iter().rev() {
         document.remove(at);
         kinds.insert(Kind::Separator);
     }
-    (type_file, document, kinds)
+    (document, kinds)
 }
 
 /// Where a form begins that the reader refuses and onsgmls takes.
@@ -69,7 +66,7 @@ fn form_refused(type_file: &[u8], document: &[u8]) -> Option<(Kind, usize)> {
 /// ahead of it stay.
 pub fn plain_type(type_file: &[u8]) -> (Vec<u8>, Kinds) {
     let mut kinds = Kinds::new();
-    let mut file = plain_comments(type_file, &comments_of_type(type_file), &mut kinds);
+    let mut file = type_file.to_vec();
     loop {
         let answer = judged(&file);
         let at = answer[POSITION] as usize;
@@ -133,88 +130,25 @@ fn is_name_byte(byte: u8) -> bool {
     byte.is_ascii_alphanumeric() || byte == b'.' || byte == b'-'
 }
 
-/// Offsets of a comment's first byte, of its inside and of what follows the inside.
-struct Comment {
-    start: usize,
-    inside: usize,
-    inside_end: usize,
-    end: usize,
-    is_declaration: bool,
-}
-
-/// The comment that opens at `start`, if one does; one without an end goes to the input's.
-fn comment(bytes: &[u8], start: usize, open: &str, close: &str) -> Option<Comment> {
-    let inside = start + open.len();
-    if !bytes[start..].starts_with(open.as_bytes()) {
-        return None;
-    }
-    let inside_end = first(&bytes[inside..], close).map(|at| inside + at);
-    Some(Comment {
-        start,
-        inside,
-        inside_end: inside_end.unwrap_or(bytes.len()),
-        end: inside_end.map_or(bytes.len(), |at| at + close.len()),
-        is_declaration: open.starts_with('<'),
-    })
-}
-
-fn first(bytes: &[u8], wanted: &str) -> Option<usize> {
-    let mut windows = bytes.windows(wanted.len());
-    windows.position(|window| window == wanted.as_bytes())
-}
-
-fn comments_of_document(bytes: &[u8]) -> Vec<Comment> {
-    let mut comments = Vec::new();
-    let mut at = 0;
-    while at < bytes.len() {
-        let found = comment(bytes, at, "<!--", "-->");
-        at = found.as_ref().map_or(at + 1, |comment| comment.end);
-        comments.extend(found);
-    }
-    comments
-}
-
-/// Comment declarations, and the comments inside declarations.
-fn comments_of_type(bytes: &[u8]) -> Vec<Comment> {
-    let mut comments = Vec::new();
-    let mut at = 0;
-    while at < bytes.len() {
-        // A "-" may belong to a name.
-        if letter_at(bytes, at) {
-            at += bytes[at..]
-                .iter()
-                .take_while(|&&byte| is_name_byte(byte))
-                .count();
-            continue;
-        }
-        let found = comment(bytes, at, "<!--", "-->").or_else(|| comment(bytes, at, "--", "--"));
-        at = found.as_ref().map_or(at + 1, |comment| comment.end);
-        comments.extend(found);
-    }
-    comments
-}
-
-/// Spaces for each "-" inside the comment declarations in which ISO 8879 would see more than one
-/// comment.
-fn plain_comments(bytes: &[u8], comments: &[Comment], kinds: &mut Kinds) -> Vec<u8> {
-    let mut plain = bytes.to_vec();
-    for comment in comments.iter().filter(|comment| comment.is_declaration) {
-        let close = first(&bytes[comment.inside..], "--");
-        if close.is_some_and(|at| comment.inside + at != comment.inside_end) {
-            let inside = &mut plain[comment.inside..comment.inside_end];
-            let dashes = inside.iter_mut().filter(|byte| **byte == b'-');
-            dashes.for_each(|byte| *byte = b' ');
-            kinds.insert(Kind::Comment);
-        }
-    }
-    plain
-}
-
-/// The type file with spaces for its comments, every other byte where it was.
+/// The type file with spaces for its comments, every other byte where it was. Within declarations of
+/// either kind a comment runs from `--` to the next `--`; one without an end goes to the input's.
 pub fn without_comments(type_file: &[u8]) -> Vec<u8> {
     let mut plain = type_file.to_vec();
-    for comment in comments_of_type(type_file) {
-        plain[comment.start..comment.end].fill(b' ');
+    let mut at = 0;
+    while at < plain.len() {
+        if letter_at(&plain, at) {
+            // A "-" may belong to a name.
+            let name = plain[at..].iter().take_while(|&&byte| is_name_byte(byte));
+            at += name.count();
+        } else if plain[at..].starts_with(b"--") {
+            let inside = &plain[at + 2..];
+            let close = inside.windows(2).position(|window| window == b"--");
+            let end = close.map_or(plain.len(), |close| at + 2 + close + 2);
+            plain[at..end].fill(b' ');
+            at = end;
+        } else {
+            at += 1;
+        }
     }
     plain
 }

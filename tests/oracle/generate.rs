@@ -71,10 +71,14 @@ const UNDECLARED: [&str; 3] = ["U", "U2", "UVWXYZ12"];
 const TOO_LONG: &str = "ABCDEFGHI";
 
 const SEPARATORS: [&str; 4] = [" ", "\n", "\r", "\t"];
-/// Insides of comments within declarations: none holds `--` or ends in "-".
-const COMMENTS: [&str; 9] = ["", " c ", ">", "<x", "%", "&", "- ", "a-b", "("];
-/// Insides of comment declarations: none holds `-->`.
-const COMMENT_DECLARATIONS: [&str; 8] = [" c ", "", "-", ">", " -- x", "%<!", "->", "]]>"];
+/// Insides of comments: none holds `--` or ends in "-".
+const COMMENTS: [&str; 11] = [
+    "", " c ", ">", "<x", "%", "&", "- ", "a-b", "(", "->", "]]>",
+];
+/// What makes comment declarations, whole and faulty ones.
+const COMMENT_FRAGMENTS: [&str; 13] = [
+    "-", "--", "--", "---", " ", "\n", "\t", ">", "-->", "%", "b", "<", "x",
+];
 
 /// A type file of any kind: mostly small, now and then at the limits.
 pub fn any_type(random: &mut Random) -> Type {
@@ -82,10 +86,18 @@ pub fn any_type(random: &mut Random) -> Type {
         0..=19 => sound_type(random),
         20..=34 => repetitive_type(random),
         35..=39 => limit_type(random),
-        40..=69 => {
+        40..=63 => {
             let mut damaged = sound_type(random);
             damage(random, &mut damaged.file, &TYPE_FRAGMENTS);
             damaged
+        }
+        64..=69 => {
+            let mut commented = sound_type(random);
+            let at = random.below(2) * commented.file.len();
+            let mut comment = Vec::new();
+            nearly_a_comment(random, &mut comment);
+            commented.file.splice(at..at, comment);
+            commented
         }
         70..=71 => {
             let mut damaged = limit_type(random);
@@ -413,13 +425,38 @@ fn between_declarations(random: &mut Random, file: &mut String) {
     while random.percent(35) {
         match random.below(4) {
             0 => file.push_str("<!>"),
-            1 => {
-                file.push_str("<!--");
-                file.push_str(random.pick(&COMMENT_DECLARATIONS));
-                file.push_str("-->");
-            }
+            1 => comment_declaration(random, file),
             _ => file.push_str(random.pick(&SEPARATORS)),
         }
+    }
+}
+
+/// A whole comment declaration: comments, with separators or none between.
+fn comment_declaration(random: &mut Random, text: &mut String) {
+    text.push_str("<!");
+    loop {
+        text.push_str("--");
+        text.push_str(random.pick(&COMMENTS));
+        text.push_str("--");
+        while random.percent(35) {
+            text.push_str(random.pick(&SEPARATORS));
+        }
+        if random.percent(60) {
+            break;
+        }
+    }
+    text.push('>');
+}
+
+/// What begins as a comment declaration; some of these are whole.
+fn nearly_a_comment(random: &mut Random, bytes: &mut Vec<u8>) {
+    let start = random.pick(&["<!--", "<!-- a --", "<!----", "<!-", "<! --"]);
+    bytes.extend(start.bytes());
+    for _ in 0..random.below(8) {
+        bytes.extend(random.pick(&COMMENT_FRAGMENTS).bytes());
+    }
+    if random.percent(60) {
+        bytes.extend(random.pick(&["-->", ">", "-- >"]).bytes());
     }
 }
 
@@ -512,12 +549,12 @@ fn separators(random: &mut Random, file: &mut String) {
 // Random type files and damage
 
 #[rustfmt::skip]
-const TYPE_FRAGMENTS: [&str; 52] = [
+const TYPE_FRAGMENTS: [&str; 58] = [
     "<!ELEMENT ", "<!ELEMENT", "<!element A - O ", "A", "B", "a.-9", "ABCDEFGH", "ABCDEFGHI", " ",
     "\n", "\r", "\t", "-", "O", "o", "(", ")", ",", "|", "&", "?", "*", "+", "#PCDATA", "#PCDAT",
     "#pcdataX", "#ABCDEFGHI", "#", "EMPTY", "EMPTYX", "ANY", "CDATA", "RCDATA", ">", "--", "%", "<!",
     "<", "<!--", "-->", "<!>", "<!ATTLIST", "<![", "<?", "[", "-(", "+(", " -O", "-- x --", "()", "9",
-    "- - ANY",
+    "- - ANY", "<!-- a -- ", "<!-- a -- -- b -- >", "<!-- a -- b -->", "---", "-- %", "-- -",
 ];
 
 /// Fragments in a row, alone or where the inside of a declaration or of a group is due.
@@ -544,6 +581,9 @@ fn random_type(random: &mut Random) -> Type {
         file.extend(nearly_full_group(random).into_bytes());
     }
     for _ in 0..random.below(12) {
+        if random.percent(5) {
+            nearly_a_comment(random, &mut file);
+        }
         file.extend(random.pick(&TYPE_FRAGMENTS).as_bytes());
     }
     if random.percent(30) {
@@ -598,11 +638,12 @@ fn damage(random: &mut Random, bytes: &mut Vec<u8>, fragments: &[&str]) {
 // Documents
 
 #[rustfmt::skip]
-const DOCUMENT_FRAGMENTS: [&str; 44] = [
+const DOCUMENT_FRAGMENTS: [&str; 50] = [
     "x", "40", " ", "\n", "\r", "\t", "<", "</", "</>", "<!", "<!>", "<!-- c -->", "<!--", "-->",
     "<!-", "<!-->", "<![", "<!D", "<?", "&", "&a", "&#", "&#6", "&#;", "]", "]]", "]]>", "]]]>", ">",
     "<A>", "</A>", "<B>", "</B >", "<LIST>", "</LIST>", "<ITEM\n>", "</item>", "<ABCDEFGH>",
-    "<ABCDEFGHI>", "<Q>", "</Q>", "<A x>", "<A/>", "<A",
+    "<ABCDEFGHI>", "<Q>", "</Q>", "<A x>", "<A/>", "<A", "<!-- a -- ", "<!-- a -- -- b -- >",
+    "<!-- a -- b -->", "--", "-- >", "---",
 ];
 
 /// A document of any kind for the given type, whose file may be damaged.
@@ -626,7 +667,9 @@ pub fn any_document(random: &mut Random, under: &Type) -> Vec<u8> {
 fn random_document(random: &mut Random, under: &Type) -> Vec<u8> {
     let mut document = Vec::new();
     for _ in 0..random.below(16) {
-        if under.elements.is_empty() || random.percent(40) {
+        if random.percent(8) {
+            nearly_a_comment(random, &mut document);
+        } else if under.elements.is_empty() || random.percent(40) {
             document.extend(random.pick(&DOCUMENT_FRAGMENTS).as_bytes());
         } else {
             let name = &under.elements[random.below(under.elements.len())].name;
@@ -741,8 +784,11 @@ impl TreeWriter<'_> {
 
     fn filler(&mut self, random: &mut Random) {
         while random.percent(10) {
-            let text = random.pick(&[" ", "\n", "\r", "\t", "\n", "<!>", "<!-- c -->", "<!-->-->"]);
-            self.document.push_str(text);
+            match random.below(8) {
+                0 => self.document.push_str("<!>"),
+                1 | 2 => comment_declaration(random, &mut self.document),
+                _ => self.document.push_str(random.pick(&SEPARATORS)),
+            }
         }
     }
 }

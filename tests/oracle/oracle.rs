@@ -195,6 +195,39 @@ fn after_first(bytes: &[u8], from: usize, end: &[u8]) -> Option<usize> {
     Some(from + found + end.len())
 }
 
+/// How far a comment declaration has come.
+enum Comments {
+    /// So many "-" are due, of a `--` that opens a comment.
+    Due { dashes: usize },
+    /// Within a comment, behind so many "-" in a row, none or one.
+    Within { dashes: usize },
+    /// Behind a comment, where a separator, a further comment or the `>` may stand.
+    Between,
+}
+
+/// Offset after the comment declaration whose `<!` ends at `start`: comments each from `--` to the
+/// next `--`, the first at once, separators or further comments between, then `>`. `percent` is the
+/// number of a `%` where a separator may stand (open point 9).
+fn comment_declaration(bytes: &[u8], start: usize, percent: u32) -> Result<usize, Fault> {
+    let mut state = Comments::Due { dashes: 2 };
+    for (at, &byte) in bytes.iter().enumerate().skip(start) {
+        state = match (state, byte) {
+            (Comments::Due { dashes: 2 }, b'-') => Comments::Due { dashes: 1 },
+            (Comments::Due { .. }, b'-') => Comments::Within { dashes: 0 },
+            (Comments::Due { .. }, _) => return Err((at, 4)),
+            (Comments::Within { dashes: 0 }, b'-') => Comments::Within { dashes: 1 },
+            (Comments::Within { .. }, b'-') => Comments::Between,
+            (Comments::Within { .. }, _) => Comments::Within { dashes: 0 },
+            (Comments::Between, b'-') => Comments::Due { dashes: 1 },
+            (Comments::Between, b'>') => return Ok(at + 1),
+            (Comments::Between, b'%') => return Err((at, percent)),
+            (Comments::Between, _) if is_separator(byte) => Comments::Between,
+            (Comments::Between, _) => return Err((at, 4)),
+        };
+    }
+    Err((bytes.len(), 4))
+}
+
 // ---------------------------------------------------------------------------------------------
 // Content models and their walks
 
@@ -524,7 +557,7 @@ impl TypeReader<'_> {
         match self.byte()? {
             b'>' => self.at += 1,
             b'[' => return Err((start, 5)),
-            b'-' => self.comment_declaration()?,
+            b'-' => self.at = comment_declaration(self.bytes, self.at, 5)?,
             byte if byte.is_ascii_alphabetic() => match self.short_word()?.as_str() {
                 "ELEMENT" => self.element_declaration()?,
                 // Also where the input ends within the keyword (open point 2).
@@ -532,15 +565,6 @@ impl TypeReader<'_> {
             },
             _ => return Err((self.at, 4)),
         }
-        Ok(())
-    }
-
-    /// What follows the `<!` of a comment declaration.
-    fn comment_declaration(&mut self) -> Result<(), Fault> {
-        if self.byte_after(1)? != b'-' {
-            return Err((self.at + 1, 4));
-        }
-        self.at = after_first(self.bytes, self.at + 2, b"-->").ok_or((self.bytes.len(), 4))?;
         Ok(())
     }
 
@@ -859,7 +883,7 @@ impl<'a> DocumentReader<'a> {
         let letter = |distance| self.holds(at + distance, |byte| byte.is_ascii_alphabetic());
         let rest = &self.bytes[at..];
         if rest.starts_with(b"<!--") {
-            after_first(self.bytes, at + 4, b"-->").ok_or((self.bytes.len(), 4))
+            comment_declaration(self.bytes, at + 2, 4)
         } else if rest.starts_with(b"<!>") {
             Ok(at + 3)
         } else if self.is_left_out(at) {

@@ -7,7 +7,7 @@ use Rattle.rules.specs.Bytes.{allowed, separator, letter, fold, nameByte, span,
 use Rattle.rules.specs.Reading.{Reading, refused, got}
 use Rattle.rules.specs.TypeFile.{beforeDashes, gapWithin, gap, occurrence, nameToken, dataToken, token, further, members, group}
 use Rattle.rules.specs.TypeFile.{isDeclared, elementName, omission, words, head, contentWord, contentModel, content, close, rest, element}
-use Rattle.rules.specs.TypeFile.{commentDeclaration, beforeClose, keyword, markup, declaration, declarationsWithin, typeFile}
+use Rattle.rules.specs.TypeFile.{commentDeclaration, keyword, markup, declaration, declarationsWithin, typeFile}
 use Rattle.rules.specs.Judge.{placeAt}
 use Rattle.rules.specs.Document.{tag, declarationPiece, markupPiece, bytePiece, piece}
 use Rattle.rules.specs.Elements.{elementAt, numberFrom, numberOf}
@@ -76,5 +76,5 @@ shelf =
     []
 
 pub shelf-right : All (Right (λ (x : Example). x .type) ReadSo) shelf
-unfolding ascii restOfT T T- under whole shelf allPass passes readsAs isLegible allFair isFair isNumbered sameReading sameEvents sameEvent search fitsIn isCompleteIn requiredOf tagged settlePiece piecesWithin document elementAt numberFrom numberOf withData limited isOpen inferable chain inferStarts inward settleFrom settle startElement takeData takeBlank endLeftOut closeFrom endElement endFrom endDocument tag declarationPiece markupPiece bytePiece piece placeAt allowed separator letter fold nameByte span nameEnd separatorsEnd sameText beforeDashes gapWithin gap occurrence nameToken dataToken token further members group isDeclared elementName omission words head contentWord contentModel content close rest element commentDeclaration beforeClose keyword markup declaration declarationsWithin typeFile
+unfolding ascii restOfT T T- under whole shelf allPass passes readsAs isLegible allFair isFair isNumbered sameReading sameEvents sameEvent search fitsIn isCompleteIn requiredOf tagged settlePiece piecesWithin document elementAt numberFrom numberOf withData limited isOpen inferable chain inferStarts inward settleFrom settle startElement takeData takeBlank endLeftOut closeFrom endElement endFrom endDocument tag declarationPiece markupPiece bytePiece piece placeAt allowed separator letter fold nameByte span nameEnd separatorsEnd sameText beforeDashes gapWithin gap occurrence nameToken dataToken token further members group isDeclared elementName omission words head contentWord contentModel content close rest element commentDeclaration keyword markup declaration declarationsWithin typeFile
 shelf-right = all-right (λ (x : Example). x .type) readsAs reads-so shelf refl

@@ -8,7 +8,7 @@ ghost use mathlib.Core.Bool.{_||_};
 ghost use Prim.Native.Nat.{_≤_, _<_};
 ghost use lib.ListN.{length};
 ghost use lib.Dec.{eqb};
-ghost use Rattle.rules.specs.Document.{declarationPiece, markupPiece, bytePiece, piece};
+ghost use Rattle.rules.specs.Document.{malformed, declarationPiece, markupPiece, bytePiece, piece};
 ghost use Rattle.text.specs.Means.{reached};
 ghost use Rattle.delimiters.specs.Means.{Classes};
 ghost use Rattle.tags.specs.Tags.{tagOf};
@@ -44,12 +44,16 @@ fn end_tag(r: TagRead) -> Token
     }
 }
 
-fn skipped(r: Reached) -> Token
-    ensures { λ t. ⌜ pieceOf t ≡ asSkipped (reached r) ⌝ }
+// A comment declaration in a document. What is refused in it is number 4: number 5 names no `%` there.
+fn comment(r: Reached) -> Token
+    ensures { λ t. ⌜ pieceOf t ≡ asSkipped (malformed (reached r)) ⌝ }
 {
     match r {
         Reached::At(i) => Token::Skipped(i),
-        Reached::Refused(f) => Token::Refused(f),
+        Reached::Refused(f) => Token::Refused(Fault {
+            number: 4,
+            at: f.at,
+        }),
     }
 }
 
@@ -63,7 +67,7 @@ fn declaration_at(s: &[u8], i: usize) -> Token
         return Token::Skipped(i + 3);
     }
     if delimiters::dashes_at(s, i) {
-        return skipped(gaps::comment_end(s, i + 4));
+        return comment(gaps::comment_end(s, i + 2));
     }
     if delimiters::is_left_out(b) {
         return Token::Refused(Fault { number: 5, at: i });

@@ -2,10 +2,12 @@
 use text::Fault;
 use text::Reached;
 ghost use mathlib.Core.Path.{_≡_};
+ghost use mathlib.Core.Bool.{true};
 ghost use Prim.Native.Nat.{_+_, _≤_, _<_};
 ghost use lib.ListN.{length, drop};
-ghost use Rattle.rules.specs.TypeFile.{atDashes, beforeDashes, beforeClose, commentDeclaration, gap};
+ghost use Rattle.rules.specs.TypeFile.{atDashes, beforeDashes, commentDeclaration, gap};
 ghost use Rattle.text.specs.Means.{reached};
+ghost use Rattle.text.specs.Laws.{gapOn, behindDash};
 ghost use Rattle.gaps.specs.Unfit.{unfitAt};
 
 // Whether `--` stands at a position.
@@ -31,45 +33,12 @@ fn to_dashes(s: &[u8], at: usize) -> usize
     i
 }
 
-// The first `-->` from `at` on, or the input's length.
-fn to_close(s: &[u8], at: usize) -> usize
+// How a gap goes on at `at`, where its next separators have ended: comments with separators between, to the next byte of another kind.
+fn gap_on(s: &[u8], at: usize) -> Reached
     requires { ⌜ at ≤ length (now s) ⌝ }
-    ensures { λ r. ⌜ r ≡ at + beforeClose (drop at (now (s .entry))) ⌝ }
+    ensures { λ r. ⌜ reached r ≡ gapOn (length (now (s .entry))) (now (s .entry)) at ⌝ }
 {
     let mut i = at;
-    while i < s.len() {
-        if at_dashes(s, i) {
-            if text::byte(s, i + 2) == b'>' {
-                return i;
-            }
-        }
-        i += 1;
-    }
-    i
-}
-
-// The end of a comment declaration of which `<!--` ends at `at`.
-pub fn comment_end(s: &[u8], at: usize) -> Reached
-    requires { ⌜ at ≤ length (now s) ⌝ }
-    ensures { λ r. ⌜ reached r ≡ commentDeclaration (now (s .entry)) at ⌝ }
-{
-    let i = to_close(s, at);
-    if i < s.len() {
-        Reached::At(i + 3)
-    } else {
-        Reached::Refused(Fault {
-            number: 4,
-            at: s.len(),
-        })
-    }
-}
-
-// Separators and comments between parameters, to the next byte of another kind.
-pub fn gap_end(s: &[u8], at: usize) -> Reached
-    requires { ⌜ at ≤ length (now s) ⌝ }
-    ensures { λ r. ⌜ reached r ≡ gap (now (s .entry)) at ⌝ }
-{
-    let mut i = text::separators_end(s, at);
     while at_dashes(s, i) {
         let e = to_dashes(s, i + 2);
         if s.len() <= e {
@@ -78,12 +47,51 @@ pub fn gap_end(s: &[u8], at: usize) -> Reached
                 at: s.len(),
             });
         }
-        i = text::separators_end(s, e + 2);
+        let after = e + 2;
+        i = text::separators_end(s, after);
     }
     if text::byte(s, i) == b'%' {
         return Reached::Refused(Fault { number: 5, at: i });
     }
     Reached::At(i)
+}
+
+// Separators and comments between parameters, to the next byte of another kind.
+pub fn gap_end(s: &[u8], at: usize) -> Reached
+    requires { ⌜ at ≤ length (now s) ⌝ }
+    ensures { λ r. ⌜ reached r ≡ gap (now (s .entry)) at ⌝ }
+{
+    gap_on(s, text::separators_end(s, at))
+}
+
+// The byte at i, or the one behind it where it is a "-".
+fn behind_dash(s: &[u8], i: usize) -> usize
+    requires { ⌜ i ≤ length (now s) ⌝ }
+    ensures { λ r. ⌜ r ≡ behindDash (now (s .entry)) i ⌝ }
+{
+    if text::byte(s, i) == b'-' {
+        return i + 1;
+    }
+    i
+}
+
+// The end of a comment declaration of which `<!` ends at `at`, where `--` stands: comments with separators between, then `>`. A "-"
+// behind them could only open a further comment, so the byte after it is the unfit one.
+pub fn comment_end(s: &[u8], at: usize) -> Reached
+    requires { ⌜ atDashes (now s) at ≡ true ⌝ }
+    ensures { λ r. ⌜ reached r ≡ commentDeclaration (now (s .entry)) at ⌝ }
+{
+    let r = gap_on(s, at);
+    let Reached::At(i) = r else {
+        return r;
+    };
+    if text::byte(s, i) == b'>' {
+        return Reached::At(i + 1);
+    }
+    Reached::Refused(Fault {
+        number: 4,
+        at: behind_dash(s, i),
+    })
 }
 
 // What cannot stand between parameters. A "-" at the input's end could still have opened a comment.

@@ -8,7 +8,7 @@ use lib.Dec.{eqb, ltb}
 use Rattle.rules.specs.Bytes.{byteAt, letter, nameEnd, separatorsEnd}
 use Rattle.rules.specs.Reading.{Reading, refused, got, andThen}
 use Rattle.rules.specs.TypeFile.{atDashes, commentDeclaration}
-use Rattle.rules.specs.Document.{Tag, Piece, startTag, endTag, skipped, blank, dataByte, tag, declarationPiece, markupPiece, isReference, isSectionEnd, bytePiece, piece}
+use Rattle.rules.specs.Document.{Tag, Piece, startTag, endTag, skipped, blank, dataByte, tag, malformed, declarationPiece, markupPiece, isReference, isSectionEnd, bytePiece, piece}
 use Rattle.text.specs.Laws.{nameEnd-more, second}
 
 -- Of what is got, P holds.
@@ -49,7 +49,7 @@ declaration-named : (d : List ℕ) (i : ℕ) → Gives Named (declarationPiece d
 unfolding declarationPiece
 declaration-named d i =
     either Named (eqb (byteAt d (i + 2)) 62) _ _ (λ _. tt)
-    (either Named (atDashes d (i + 2)) _ _ (λ _. next (λ (_ : ℕ). Unit {0}) Named (commentDeclaration d (i + 4)) _ (any (commentDeclaration d (i + 4))) (λ e _. tt))
+    (either Named (atDashes d (i + 2)) _ _ (λ _. next (λ (_ : ℕ). Unit {0}) Named (malformed (commentDeclaration d (i + 2))) _ (any (malformed (commentDeclaration d (i + 2)))) (λ e _. tt))
     (either Named (letter (byteAt d (i + 2)) || eqb (byteAt d (i + 2)) 91) _ _ (λ _. tt) tt))
 
 markup-named : (d : List ℕ) (i : ℕ) → Gives Named (markupPiece d i)

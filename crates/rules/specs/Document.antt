@@ -34,6 +34,11 @@ tag d at =
       | false ↦ elim (eqb (byteAt d i) MDC) [ true ↦ got (record { name = at; size = e - at; after = i + 1 }) | false ↦ refused 4 i ]
     ]
 
+-- What is refused in a comment declaration is number 4 in a document: number 5 names no `%` there.
+abbrev pub malformed : {A : Type 0} → Reading A → Reading A
+malformed (refused n p) = refused 4 p
+malformed (got a) = got a
+
 -- `<!` at i: "`<!--` starts a comment declaration (ends as above); `<!>` is skipped". "`<!` then a letter or "["" is number 5.
 unfoldable pub declarationPiece : List ℕ → ℕ → Reading Piece
 declarationPiece d i =
@@ -41,7 +46,7 @@ declarationPiece d i =
     elim (eqb b MDC) [
       | true ↦ got (skipped (i + 3))
       | false ↦ elim (atDashes d (i + 2)) [
-        | true ↦ andThen (commentDeclaration d (i + 4)) λ e. got (skipped e)
+        | true ↦ andThen (malformed (commentDeclaration d (i + 2))) λ e. got (skipped e)
         | false ↦ elim (letter b || eqb b DSO) [ true ↦ refused 5 i | false ↦ got dataByte ]
       ]
     ]

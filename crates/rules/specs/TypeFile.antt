@@ -20,17 +20,6 @@ unfoldable pub beforeDashes : List ℕ → ℕ
 beforeDashes [] = 0
 beforeDashes (b ∷ r) = elim (atDashes (b ∷ r) 0) [ true ↦ 0 | false ↦ suc (beforeDashes r) ]
 
--- The same for `-->`.
-unfoldable pub beforeClose : List ℕ → ℕ
-beforeClose [] = 0
-beforeClose (b ∷ r) = elim (atDashes (b ∷ r) 0 && eqb (byteAt (b ∷ r) 2) MDC) [ true ↦ 0 | false ↦ suc (beforeClose r) ]
-
--- "A comment declaration runs from `<!--` to the first `-->` after it." `at` is behind the `<!--`.
-unfoldable pub commentDeclaration : List ℕ → ℕ → Reading ℕ
-commentDeclaration s at =
-    let e = at + beforeClose (drop at s) in
-    elim (ltb e (length s)) [ true ↦ got (e + 3) | false ↦ refused 4 (length s) ]
-
 -- "Parameters are parted by one or more separators or comments (`--` to the next `--`)"; a `%` there is number 5.
 -- Each turn but the last takes a comment, so there are fewer turns than bytes.
 unfoldable pub gapWithin : ℕ → List ℕ → ℕ → Reading ℕ
@@ -45,6 +34,21 @@ gapWithin (suc turns) s at =
 
 unfoldable pub gap : List ℕ → ℕ → Reading ℕ
 gap s at = gapWithin (suc (length s)) s at
+
+-- The end of a comment declaration, where its comments and separators end at i. A "-" there could only open a further comment, so the
+-- byte after it is the unfit one.
+abbrev pub commentClose : List ℕ → ℕ → Reading ℕ
+commentClose s i =
+    elim (eqb (byteAt s i) MDC) [
+      | true ↦ got (i + 1)
+      | false ↦ elim (eqb (byteAt s i) MINUS) [ true ↦ refused 4 (i + 1) | false ↦ refused 4 i ]
+    ]
+
+-- Production (91) of source document 004, in the words of paper 02, request two: "`<!`, then comments each from `--` to the next `--`,
+-- with separators or further comments between, then `>`; the first comment follows `<!` at once". `at` is behind the `<!`, where `--`
+-- stands. A separator may stand between the comments, so a `%` there is number 5.
+unfoldable pub commentDeclaration : List ℕ → ℕ → Reading ℕ
+commentDeclaration s at = andThen (gap s at) (commentClose s)
 
 -- Words
 
@@ -359,7 +363,7 @@ markup s i es =
       | true ↦ got (record { elements = es; at = i + 3 })
       | false ↦ elim (eqb b MINUS) [
         | true ↦ elim (eqb (byteAt s (i + 3)) MINUS) [
-          | true ↦ andThen (commentDeclaration s (i + 4)) λ j. got (record { elements = es; at = j })
+          | true ↦ andThen (commentDeclaration s (i + 2)) λ j. got (record { elements = es; at = j })
           | false ↦ refused 4 (i + 3)
         ]
         | false ↦ elim (eqb b DSO) [ true ↦ refused 5 i | false ↦ elim (letter b) [ true ↦ keyword s i es | false ↦ refused 4 (i + 2) ] ]

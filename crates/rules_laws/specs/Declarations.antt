@@ -10,8 +10,8 @@ use lib.Dec.{eqb, leb, ltb}
 use borrow.Author.Tests.{eqb-false, ltb-true, ltb-false, leb-false}
 use Rattle.rules.specs.Bytes.{byteAt, letter, nameEnd, separatorsEnd, NAMELEN, elementLimit}
 use Rattle.rules.specs.Reading.{refused, got}
-use Rattle.rules.specs.TypeFile.{atDashes, beforeDashes, beforeClose, commentDeclaration, gapWithin, gap, isWord, O, ELEMENT, Content, Element, isDeclared, elementName, Word, omission, Head, words, head, content, close, Declared, rest, element, keyword, markup, declaration, declarationsWithin, typeFile, declare}
-use Rattle.text.specs.Laws.{test-in, letter-in, nameEnd-from, nameEnd-le, nameEnd-more, separatorsEnd-from, separatorsEnd-le, before-hit, before-close, close-in, dashes-end-in, gap-range}
+use Rattle.rules.specs.TypeFile.{atDashes, beforeDashes, commentDeclaration, gapWithin, gap, isWord, O, ELEMENT, Content, Element, isDeclared, elementName, Word, omission, Head, words, head, content, close, Declared, rest, element, keyword, markup, declaration, declarationsWithin, typeFile, declare}
+use Rattle.text.specs.Laws.{test-in, letter-in, nameEnd-from, nameEnd-le, nameEnd-more, separatorsEnd-from, separatorsEnd-le, dashes-end-in, gap-range}
 use Rattle.rules_laws.specs.Holds.{Holds, stops, reads, got-so, known, so, on, on-same, either}
 use Rattle.rules_laws.specs.In.{In, NameIn}
 use Rattle.rules_laws.specs.Groups.{InType, InFrom, unfit-holds, content-read, whatever-builds}
@@ -90,13 +90,6 @@ record DeclaredRead (s : List ℕ) (i : ℕ) (es : List Element) (d : Declared) 
 module _ (s : List ℕ) where
   -- Comments and gaps
 
-  -- A comment declaration is refused by 4 at the input's end.
-  pub comment-holds : {R : (number position : ℕ) → Type 0} (at : ℕ) → R 4 (length s) → Holds R (Onward s (at + 1)) (commentDeclaration s at)
-  unfolding commentDeclaration
-  comment-holds at h =
-      let e = at + beforeClose (drop at s) in
-      either (ltb e (length s)) (λ y. reads (omega arith, close-in s e (before-hit _ _ before-close s at (ltb-true _ _ y)))) (λ y. stops h)
-
   gapWithin-within : (turns at : ℕ) → at ≤ length s → Holds (InType s) (In s) (gapWithin turns s at)
   unfolding gapWithin
   gapWithin-within zero at h = stops {n = 4} {k = length s} (omega arith)
@@ -111,6 +104,13 @@ module _ (s : List ℕ) where
   pub gap-within : (at : ℕ) → at ≤ length s → Holds (InType s) (Onward s at) (gap s at)
   unfolding gap
   gap-within at h = so (known (gapWithin-within (suc (length s)) at h)) (λ n k x. x) (λ i x. gap-range s at i h (x .0))
+
+  pub comment-within : (at : ℕ) → at ≤ length s → Holds (InType s) (Onward s (at + 1)) (commentDeclaration s at)
+  unfolding commentDeclaration
+  comment-within at h =
+      on (gap-within at h)
+      (λ i r. either (eqb (byteAt s i) 62) (λ x. reads (omega (arith, r, test-in (λ v. eqb v 62) refl s i x)))
+      (λ x. either (eqb (byteAt s i) 45) (λ y. stops (omega (arith, test-in (λ v. eqb v 45) refl s i y))) (λ y. stops (omega (arith, r)))))
 
   -- Element declarations
 
@@ -237,7 +237,7 @@ module _ (s : List ℕ) where
       let b = byteAt s (i + 2) in
       either (eqb b 62) (λ x. reads (record { from = omega arith; inside = omega (arith, test-in (λ v. eqb v 62) refl s (i + 2) x); grows = same }))
       (λ x. either (eqb b 45)
-      (λ y. either (eqb (byteAt s (i + 3)) 45) (λ z. on (comment-holds (i + 4) (omega arith)) (λ j l. reads (record { from = omega (arith, l); inside = l .1; grows = same })))
+      (λ y. either (eqb (byteAt s (i + 3)) 45) (λ z. on (comment-within (i + 2) h) (λ j l. reads (record { from = omega (arith, l); inside = l .1; grows = same })))
       (λ z. stops (omega (arith, test-in (λ v. eqb v 45) refl s (i + 2) y))))
       (λ y. either (eqb b 91) (λ z. stops (omega arith)) (λ z. either (letter b) (λ u. keyword-read i es h) (λ u. stops (omega arith)))))
 

@@ -9,12 +9,13 @@ use lib.ListN.{length}
 use lib.Dec.{eqb, ltb}
 use borrow.Author.Tests.{ltb-false}
 use Rattle.rules.specs.Bytes.{byteAt, letter, nameEnd, separatorsEnd, NAMELEN}
-use Rattle.rules.specs.Reading.{refused}
+use Rattle.rules.specs.Reading.{Reading, refused}
 use Rattle.rules.specs.TypeFile.{atDashes, commentDeclaration}
-use Rattle.rules.specs.Document.{Tag, Piece, startTag, endTag, skipped, blank, dataByte, tag, declarationPiece, markupPiece, isReference, isSectionEnd, bytePiece, piece}
-use Rattle.text.specs.Laws.{test-in, letter-in, nameEnd-from, nameEnd-le, nameEnd-more, separatorsEnd-from, separatorsEnd-le, second}
+use Rattle.rules.specs.Document.{Tag, Piece, startTag, endTag, skipped, blank, dataByte, tag, malformed, declarationPiece, markupPiece, isReference, isSectionEnd, bytePiece, piece}
+use Rattle.text.specs.Laws.{test-in, letter-in, nameEnd-from, nameEnd-le, nameEnd-more, separatorsEnd-from, separatorsEnd-le, second, dashes-in}
 use Rattle.rules_laws.specs.Holds.{Holds, stops, reads, on, either}
-use Rattle.rules_laws.specs.Declarations.{Onward, comment-holds}
+use Rattle.rules_laws.specs.Groups.{InType}
+use Rattle.rules_laws.specs.Declarations.{Onward, comment-within}
 
 -- A piece is refused by 3 to 5 or 17, in the document.
 abbrev pub InPiece : List ℕ → (number position : ℕ) → Type 0
@@ -38,8 +39,12 @@ PieceRead d i dataByte = Unit {0}
 
 module _ (d : List ℕ) where
   -- A comment declaration is refused by 4 alone.
-  comment-read : (at : ℕ) → Holds (InPiece d) (Onward d (at + 1)) (commentDeclaration d at)
-  comment-read at = comment-holds d at (inl (omega arith), omega arith)
+  malformed-in : {P : ℕ → Type 0} {r : Reading ℕ} → Holds (InType d) P r → Holds (InPiece d) P (malformed r)
+  malformed-in (stops {n} {k} h) = stops {n = 4} {k = k} (inl (omega arith), omega (arith, h))
+  malformed-in (reads p) = reads p
+
+  comment-read : (at : ℕ) → at ≤ length d → Holds (InPiece d) (Onward d (at + 1)) (malformed (commentDeclaration d at))
+  comment-read at h = malformed-in (comment-within d at h)
 
   early : {A : Type 0} {P : A → Type 0} {n k : ℕ} → (3 ≤ n) × (n ≤ 5) × (k ≤ length d) → Holds (InPiece d) P (refused n k)
   early (a, b, c) = stops (inl (a, b), c)
@@ -65,7 +70,7 @@ module _ (d : List ℕ) where
       let b = byteAt d (i + 2) in
       either (eqb b 62) (λ x. reads (omega arith, omega (arith, test-in (λ v. eqb v 62) refl d (i + 2) x)))
       (λ x. either (atDashes d (i + 2))
-      (λ y. on (comment-read (i + 4)) (λ e r. reads (omega (arith, r), r .1)))
+      (λ y. on (comment-read (i + 2) (omega (arith, dashes-in d (i + 2) y))) (λ e r. reads (omega (arith, r), r .1)))
       (λ y. either (letter b || eqb b 91) (λ z. early (omega arith)) (λ z. reads tt)))
 
   markup-read : (i : ℕ) → i < length d → Holds (InPiece d) (PieceRead d i) (markupPiece d i)

@@ -11,7 +11,7 @@ use lib.Dec.{eqb, ltb}
 use borrow.Author.Tests.{not-true, not-false, eq-eqb, eqb-true, lt-ltb, le-ltb, ltb-true, ltb-false, eqb-false, ne-eqb}
 use Rattle.rules.specs.Reading.{Reading, refused, got}
 use Rattle.rules.specs.Bytes.{byteAt, allowed, separator, letter, nameByte, fold, span, nameEnd, separatorsEnd, sameText}
-use Rattle.rules.specs.TypeFile.{atDashes, beforeDashes, beforeClose, commentDeclaration, gapWithin, gap, isWord}
+use Rattle.rules.specs.TypeFile.{atDashes, beforeDashes, gapWithin, gap, commentClose, commentDeclaration, isWord}
 use Rattle.text.specs.Means.{refusalOf, reached, faultOf}
 use Rattle.text.specs.declared.Fault.{Fault}
 use Rattle.text.specs.declared.Reached.{Reached}
@@ -163,7 +163,11 @@ pub separatorsEnd-le : (s : List ℕ) (at : ℕ) → at ≤ length s → separat
 unfolding separatorsEnd
 separatorsEnd-le = span-in separator
 
--- The second part of a test that is passed.
+-- Each part of a test that is passed.
+first : (a b : Bool) → (a && b) ≡ true → a ≡ true
+first true b e = refl
+first false b e = absurd (true≢false (sym e))
+
 pub second : (a b : Bool) → (a && b) ≡ true → b ≡ true
 second true b e = e
 second false b e = absurd (true≢false (sym e))
@@ -192,52 +196,13 @@ before-dashes = record {
   along = λ b r i. rw (suc-add i 1);
 }
 
-abbrev pub atClose : List ℕ → ℕ → Bool
-atClose s i = atDashes s i && eqb (byteAt s (i + 2)) 62
-
-pub before-close : Before beforeClose atClose
-unfolding beforeClose
-before-close = record {
-  none = refl;
-  found = λ b r e. rw (e, beforeClose);
-  more = λ b r e. rw (e, beforeClose);
-  along = λ b r i. rw (suc-add i 1, suc-add i 2);
-}
-
--- `--` and `-->` stand in the input.
+-- `--` stands in the input.
 pub dashes-in : (s : List ℕ) (i : ℕ) → atDashes s i ≡ true → i + 2 ≤ length s
 dashes-in s i e = omega (arith, byte-is-in s (i + 1) 45 (eqb-true _ _ (second (eqb (byteAt s i) 45) _ e)) (omega arith))
-
-pub close-in : (s : List ℕ) (i : ℕ) → atClose s i ≡ true → i + 3 ≤ length s
-close-in s i e = omega (arith, byte-is-in s (i + 2) 62 (eqb-true _ _ (second (atDashes s i) _ e)) (omega arith))
 
 -- Where `--` ends a comment from `at` on, it stands in the input.
 pub dashes-end-in : (s : List ℕ) (at e : ℕ) → e ≡ at + beforeDashes (drop at s) → e < length s → e + 2 ≤ length s
 dashes-end-in s at e q h = rw q (dashes-in s _ (before-hit _ _ before-dashes s at (rw q at h)))
-
--- The two ends of a comment declaration whose first `-->` stands at e.
-pub comment-closed : (s : List ℕ) (at e : ℕ) → e ≡ at + beforeClose (drop at s) → e < length s → commentDeclaration s at ≡ got (e + 3)
-unfolding commentDeclaration
-comment-closed s at e q h = rw (q, commentDeclaration, lt-ltb _ _ (rw q at h))
-
-pub comment-open : (s : List ℕ) (at e : ℕ) → e ≡ at + beforeClose (drop at s) → length s ≤ e → commentDeclaration s at ≡ refused 4 (length s)
-unfolding commentDeclaration
-comment-open s at e q h = rw (commentDeclaration, le-ltb _ _ (rw q at h))
-
-pub comment-range : (s : List ℕ) (at j : ℕ) → commentDeclaration s at ≡ got j → (at < j) × (j ≤ length s)
-comment-range s at j r = by-test (ltb e (length s)) refl
-  where
-    e : ℕ
-    e = at + beforeClose (drop at s)
-
-    by-test : (b : Bool) → ltb e (length s) ≡ b → (at < j) × (j ≤ length s)
-    by-test true q =
-        let h = ltb-true e (length s) q in
-        let n : e + 3 ≡ j = cc (comment-closed s at e refl h) in
-        omega (arith, close-in s e (before-hit _ _ before-close s at h))
-    by-test false q =
-        let n : _≡_ {A = ℕ} 0 1 = cc (comment-open s at e refl (ltb-false e (length s) q)) in
-        omega arith
 
 -- Gaps.
 
@@ -337,8 +302,62 @@ pub gap-start : (s : List ℕ) (at : ℕ) → gapOn (length s) s (separatorsEnd 
 unfolding gap
 gap-start s at = sym (gap-on (length s) s at)
 
-pub gap-turn : (s : List ℕ) (i e : ℕ) → atDashes s i ≡ true → e ≡ i + 2 + beforeDashes (drop (i + 2) s) → e < length s → gapOn (length s) s (separatorsEnd s (e + 2)) ≡ gapOn (length s) s i
-gap-turn s i e d q h = sym (gapOn-comment (length s) s i e d q h ∙ gap-enough (length s) (suc (length s)) s (e + 2) (omega arith) (omega arith) ∙ gap-on (length s) s (e + 2))
+pub gap-turn : (s : List ℕ) (i e j : ℕ) → atDashes s i ≡ true → e ≡ i + 2 + beforeDashes (drop (i + 2) s) → e < length s → j ≡ separatorsEnd s (e + 2) → gapOn (length s) s j ≡ gapOn (length s) s i
+gap-turn s i e j d q h p =
+    rw p (sym (gapOn-comment (length s) s i e d q h ∙ gap-enough (length s) (suc (length s)) s (e + 2) (omega arith) (omega arith) ∙ gap-on (length s) s (e + 2)))
+
+-- A gap that begins with a comment.
+gap-dashes : (s : List ℕ) (at : ℕ) → atDashes s at ≡ true → gapOn (length s) s at ≡ gap s at
+unfolding separatorsEnd separator
+gap-dashes s at d =
+    let b : byteAt s at ≡ 45 = eqb-true _ _ (first (eqb (byteAt s at) 45) _ d) in
+    let here : separator (byteAt s at) ≡ false = rw b in
+    let stays : at ≡ separatorsEnd s at = span-end separator s at _ here refl in
+    ap (gapOn (length s) s) stays ∙ gap-start s at
+
+-- Comment declarations.
+
+-- Where the unfit byte stands, if no `>` follows the comments: behind a "-", which could only open a further one.
+abbrev pub behindDash : List ℕ → ℕ → ℕ
+behindDash s i = cond (eqb (byteAt s i) 45) (i + 1) i
+
+-- Each way on from where the comments and separators end, of which the first `--` stands at `at`.
+module _ (s : List ℕ) (at : ℕ) (d : atDashes s at ≡ true) where
+  pub comment-cut : (n k : ℕ) → gapOn (length s) s at ≡ refused n k → commentDeclaration s at ≡ refused n k
+  unfolding commentDeclaration
+  comment-cut n k g = rw (commentDeclaration, sym (gap-dashes s at d) ∙ g)
+
+  module _ (i : ℕ) (g : gapOn (length s) s at ≡ got i) where
+    comment-on : commentDeclaration s at ≡ commentClose s i
+    unfolding commentDeclaration
+    comment-on = rw (commentDeclaration, sym (gap-dashes s at d) ∙ g)
+
+    pub comment-closed : byteAt s i ≡ 62 → commentDeclaration s at ≡ got (i + 1)
+    comment-closed e = comment-on ∙ rw (eq-eqb _ _ e, commentClose)
+
+    pub comment-unfit : (byteAt s i ≡ 62 → ⊥) → commentDeclaration s at ≡ refused 4 (behindDash s i)
+    comment-unfit m = comment-on ∙ rw (ne-eqb _ _ m, commentClose) (sym (cut-or (eqb (byteAt s i) 45) (i + 1) i))
+
+    pub comment-inside : i ≤ length s
+    comment-inside = gap-range s at i (omega (arith, dashes-in s at d)) (sym (gap-dashes s at d) ∙ g) .1
+
+  pub comment-range : (j : ℕ) → commentDeclaration s at ≡ got j → (at < j) × (j ≤ length s)
+  comment-range j r = by-gap (gapOn (length s) s at) refl
+    where
+      by-close : (i : ℕ) → gapOn (length s) s at ≡ got i → (b : Bool) → eqb (byteAt s i) 62 ≡ b → (at < j) × (j ≤ length s)
+      by-close i g true q =
+          let e = eqb-true (byteAt s i) 62 q in
+          let n : i + 1 ≡ j = cc (comment-closed i g e) in
+          omega (arith, gap-range s at i (omega (arith, dashes-in s at d)) (sym (gap-dashes s at d) ∙ g), byte-is-in s i 62 e (omega arith))
+      by-close i g false q =
+          let z : _≡_ {A = ℕ} 0 1 = cc (comment-unfit i g (eqb-false (byteAt s i) 62 q)) in
+          omega arith
+
+      by-gap : (x : Reading ℕ) → gapOn (length s) s at ≡ x → (at < j) × (j ≤ length s)
+      by-gap (refused n k) g =
+          let z : _≡_ {A = ℕ} 0 1 = cc (comment-cut n k g) in
+          omega arith
+      by-gap (got i) g = by-close i g (eqb (byteAt s i) 62) refl
 
 -- Words.
 

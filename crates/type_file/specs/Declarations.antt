@@ -8,7 +8,7 @@ use lib.ListN.{length}
 use borrow.Author.Tests.{ne-eqb, lt-ltb, le-ltb}
 use Rattle.rules.specs.Bytes.{byteAt, letter, nameEnd}
 use Rattle.rules.specs.Reading.{Reading, refused, got, andThen}
-use Rattle.rules.specs.TypeFile.{Element, Declared, isWord, ELEMENT, commentDeclaration, element, keyword, markup, declaration}
+use Rattle.rules.specs.TypeFile.{Element, Declared, atDashes, isWord, ELEMENT, commentDeclaration, element, keyword, markup, declaration}
 use Rattle.text.specs.Means.{reached, faultOf}
 use Rattle.text.specs.Laws.{comment-range}
 use Rattle.text.specs.declared.Fault.{Fault}
@@ -63,7 +63,7 @@ module _ (s : List ℕ) (i b : ℕ) (es : List Element) (read : b ≡ byteAt s (
         let m = rw read at q in
         rw (m, m, ne-eqb _ _ (rw then at o), markup)
 
-    pub markup-comment : (x : Reading ℕ) → d ≡ 45 → x ≡ commentDeclaration s (i + 4) → markup s i es ≡ andThen x (λ j. got (record { elements = es; at = j }))
+    pub markup-comment : (x : Reading ℕ) → d ≡ 45 → x ≡ commentDeclaration s (i + 2) → markup s i es ≡ andThen x (λ j. got (record { elements = es; at = j }))
     unfolding markup
     markup-comment x o c =
         let m = rw read at q in
@@ -84,16 +84,21 @@ module _ (s : List ℕ) (i b : ℕ) (es : List Element) (read : b ≡ byteAt s (
     unfolding markup
     markup-other l = rw (ne-eqb _ _ (rw read at none), ne-eqb _ _ (rw read at dash), ne-eqb _ _ (rw read at section), rw read at l, markup)
 
--- The end of a comment declaration.
+-- A comment declaration, from its first `--` to its end.
+pub comment-opens : (s : List ℕ) (i : ℕ) → byteAt s (i + 2) ≡ 45 → byteAt s (i + 3) ≡ 45 → atDashes s (i + 2) ≡ true
+comment-opens s i b d =
+    let n : i + 2 + 1 ≡ i + 3 = omega arith in
+    rw (b, n, d)
+
 module _ (s elements : List ℕ) (i : ℕ) (p : Progress) (es : List Element) (r : Reached) (x : Reading Declared)
     (read : x ≡ andThen (reached r) (λ j. got (record { elements = es; at = j }))) where
   pub comment-refused : (f g : Fault) → r ≡ reachedAs.Refused f → g ≡ faultOf r → MeetsStep s elements i (Refused g) x
   comment-refused f g e q = rw (read, q, e) (refl, refl)
 
-  pub comment-onward : (j : ℕ) (z : Step) → r ≡ reachedAs.At j → reached r ≡ commentDeclaration s (i + 4) → KeepsProgress s elements p es
+  pub comment-onward : (j : ℕ) (z : Step) → atDashes s (i + 2) ≡ true → r ≡ reachedAs.At j → reached r ≡ commentDeclaration s (i + 2) → KeepsProgress s elements p es
       → z ≡ Read (record { at = j; count = p .count; clash = p .clash }) → MeetsStep s elements i z x
-  comment-onward j z e c k w =
-      let l = comment-range s (i + 4) j (sym c ∙ ap reached e) in
+  comment-onward j z d e c k w =
+      let l = comment-range s (i + 2) d j (sym c ∙ ap reached e) in
       step-onward s elements i j p es x z k (read ∙ rw e) w (omega arith) (l .1)
 
 -- What stands at i, where a declaration may begin: the byte b.

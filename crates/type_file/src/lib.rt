@@ -84,7 +84,7 @@ fn markup_at(
         if text::byte(s, i + 3) != b'-' {
             return refusal(4, i + 3);
         }
-        let r = gaps::comment_end(s, i + 4);
+        let r = gaps::comment_end(s, i + 2);
         let Reached::At(j) = r else {
             return Step::Refused(text::fault_of(r));
         };

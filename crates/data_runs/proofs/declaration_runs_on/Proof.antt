@@ -3,6 +3,7 @@ use Prim.Native.Nat.{_+_}
 use mathlib.Core.Path.{refl, sym, ap, _∙_}
 use borrow.Author.Needs.{needs}
 use Rattle.rules.specs.TypeFile.{commentDeclaration}
+use Rattle.rules.specs.Document.{malformed}
 use Rattle.rules_laws.specs.Runs.{isRun}
 use Rattle.document_text.specs.Laws.{declaration-none, declaration-comment}
 use Rattle.data_runs.specs.Laws.{declaration-runs, skipped-stops}
@@ -26,8 +27,8 @@ dashes-at-requires c κs = search needs
 returns-2 : tie.Need-returns-2
 returns-2 c =
     let a = c .before .before .before .before .before .args in
-    let comment = commentDeclaration (a .s .now) (a .i + 4) in
-    sym (skipped-stops comment) ∙ ap isRun (declaration-comment (a .s .now) (a .i) _ (c .before .before .before .byte .ensures) (c .before .before .if1 .left) comment refl (sym (c .before .dashes-at .ensures) ∙ c .if2 .taken))
+    let comment = commentDeclaration (a .s .now) (a .i + 2) in
+    sym (skipped-stops (malformed comment)) ∙ ap isRun (declaration-comment (a .s .now) (a .i) _ (c .before .before .before .byte .ensures) (c .before .before .if1 .left) comment refl (sym (c .before .dashes-at .ensures) ∙ c .if2 .taken))
 
 is-left-out-requires : tie.Need-is-left-out-requires
 is-left-out-requires c κs = search needs

@@ -1,9 +1,6 @@
 -- `declaration_at` meets its contract: each way by the tests that led there.
-use Prim.Native.Nat.{_+_}
 use mathlib.Core.Path.{sym, _∙_}
-use native.Mathlib.Omega.{arith}
 use borrow.Author.Needs.{needs}
-use Rattle.text.specs.Laws.{dashes-in}
 use Rattle.document_text.specs.Laws.{declaration-none, declaration-comment, declaration-out, declaration-data}
 use Rattle.document_text.proofs.declaration_at.Statement.{statement}
 use Rattle.document_text.proofs.declaration_at.Tie as tie
@@ -29,17 +26,15 @@ add-comment-end : tie.Need-add-comment-end
 add-comment-end c = search needs
 
 comment-end-requires : tie.Need-comment-end-requires
-comment-end-requires c κs =
-    let a = c .before .before .before .before .before .args in
-    omega (arith, dashes-in (a .s .now) (a .i + 2) (sym (c .before .dashes-at .ensures) ∙ c .if2 .taken))
+comment-end-requires c κs = sym (c .before .dashes-at .ensures) ∙ c .if2 .taken
 
-skipped-requires : tie.Need-skipped-requires
-skipped-requires c κs = search needs
+comment-requires : tie.Need-comment-requires
+comment-requires c κs = search needs
 
 returns-2 : tie.Need-returns-2
 returns-2 c =
     let a = c .before .before .before .before .before .before .before .args in
-    c .skipped .ensures ∙ declaration-comment (a .s .now) (a .i) _ (c .before .before .before .before .before .byte .ensures) (c .before .before .before .before .if1 .left) _ (c .before .comment-end .ensures) (sym (c .before .before .before .dashes-at .ensures) ∙ c .before .before .if2 .taken)
+    c .comment .ensures ∙ declaration-comment (a .s .now) (a .i) _ (c .before .before .before .before .before .byte .ensures) (c .before .before .before .before .if1 .left) _ (c .before .comment-end .ensures) (sym (c .before .before .before .dashes-at .ensures) ∙ c .before .before .if2 .taken)
 
 is-left-out-requires : tie.Need-is-left-out-requires
 is-left-out-requires c κs = search needs
@@ -65,7 +60,7 @@ declaration-at-spec =
     dashes-at-requires
     add-comment-end
     comment-end-requires
-    skipped-requires
+    comment-requires
     returns-2
     is-left-out-requires
     returns-3

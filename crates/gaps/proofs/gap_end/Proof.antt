@@ -1,113 +1,22 @@
--- `gap_end` meets its contract. The invariant: the gap goes on from `i` as it went on from the start.
-use Prim.Native.Nat.{ℕ, _+_, _-_, _≤_}
-use mathlib.Core.Path.{_≡_, sym, _∙_}
-use mathlib.Core.Bool.{true, false}
-use mathlib.Core.List.{List}
+-- `gap_end` meets its contract: the gap goes on where its first separators end.
+use mathlib.Core.Path.{_∙_}
 use native.Mathlib.Omega.{arith}
-use lib.ListN.{length}
-use Rattle.rules.specs.Bytes.{separatorsEnd}
-use Rattle.rules.specs.TypeFile.{atDashes, gap}
-use Rattle.text.specs.Laws.{separatorsEnd-from, separatorsEnd-le, dashes-in, dashes-end-in}
-use Rattle.text.specs.Laws.{gapOn, gapOn-open, gapOn-percent, gapOn-end, gap-start, gap-turn}
+use Rattle.text.specs.Laws.{separatorsEnd-le, gap-start}
 use Rattle.gaps.proofs.gap_end.Statement.{statement}
 use Rattle.gaps.proofs.gap_end.Tie as tie
 
-abbrev Inv-loop : tie.InvT-loop
-Inv-loop s at i₀ i = (i ≤ length s) × (gapOn (length s) s i ≡ gap s at)
-
-abbrev μ-loop : tie.MeasureT-loop
-μ-loop s at i₀ i = length s - i
-
-separators-end-requires : tie.Need-separators-end-requires Inv-loop μ-loop
+separators-end-requires : tie.Need-separators-end-requires
 separators-end-requires c κs = c .before .pre
 
-loop-holds : tie.Need-loop-holds Inv-loop μ-loop
-loop-holds c =
-    let s = c .before .before .args .s .now in
-    let at = c .before .before .args .at in
-    (omega (arith, separatorsEnd-le s at (c .before .before .pre)), rw (c .separators-end .ensures) (gap-start s at))
+gap-on-requires : tie.Need-gap-on-requires
+gap-on-requires c κs =
+    let start = c .before .before in
+    omega (arith, separatorsEnd-le (start .args .s .now) (start .args .at) (start .pre), c .separators-end .ensures)
 
-at-dashes-requires : tie.Need-at-dashes-requires Inv-loop μ-loop
-at-dashes-requires c κs = c .loop .inv .0
-
-dashed : (c : tie.Then1 Inv-loop μ-loop) → atDashes (c .before .before .before .before .before .args .s .now) (c .before .before .loop .i) ≡ true
-dashed c = sym (c .before .at-dashes .ensures) ∙ c .if1 .taken
-
-opened : (c : tie.Then1 Inv-loop μ-loop) → c .before .before .loop .i + 2 ≤ length (c .before .before .before .before .before .args .s .now)
-opened c = dashes-in (c .before .before .before .before .before .args .s .now) _ (dashed c)
-
-add-to-dashes : tie.Need-add-to-dashes Inv-loop μ-loop
-add-to-dashes c = omega (arith, opened c)
-
-to-dashes-requires : tie.Need-to-dashes-requires Inv-loop μ-loop
-to-dashes-requires c κs = opened c
-
-returns : tie.Need-returns Inv-loop μ-loop
+returns : tie.Need-returns
 returns c =
-    let s = c .before .before .before .before .before .before .before .args .s .now in
-    sym (gapOn-open (length s) s _ _ (dashed (c .before .before)) (c .before .to-dashes .ensures) (c .if2 .taken)) ∙ c .before .before .before .before .loop .inv .1
-
-closed : (c : tie.Else2 Inv-loop μ-loop) → c .before .to-dashes .result + 2 ≤ length (c .before .before .before .before .before .before .before .args .s .now)
-closed c =
-    dashes-end-in (c .before .before .before .before .before .before .before .args .s .now) (c .before .before .before .before .loop .i + 2) _ (c .before .to-dashes .ensures) (c .if2 .left)
-
-add-separators-end : tie.Need-add-separators-end Inv-loop μ-loop
-add-separators-end c = omega (arith, closed c)
-
-separators-end-requires-2 : tie.Need-separators-end-requires-2 Inv-loop μ-loop
-separators-end-requires-2 c κs = omega (arith, closed c)
-
--- Where separators that begin in the input end.
-ends-in : (s : List ℕ) {at j : ℕ} → j ≡ separatorsEnd s at → at ≤ length s → (at ≤ j) × (j ≤ length s)
-ends-in s {at} e h = omega (arith, separatorsEnd-from s at, separatorsEnd-le s at h)
-
-loop-less : tie.Need-loop-less Inv-loop μ-loop
-loop-less c =
-    let s = c .before .before .before .before .before .before .before .before .args .s .now in
-    let r = ends-in s (c .separators-end2 .ensures) (omega (arith, closed (c .before))) in
-    omega (arith, closed (c .before), r, c .before .before .to-dashes .ensures)
-
-loop-again : tie.Need-loop-again Inv-loop μ-loop
-loop-again c =
-    let s = c .before .before .before .before .before .before .before .before .args .s .now in
-    let e = c .before .before .to-dashes .result in (
-      ends-in s (c .separators-end2 .ensures) (omega (arith, closed (c .before))) .1,
-      rw (c .separators-end2 .ensures)
-          (gap-turn s _ e (dashed (c .before .before .before)) (c .before .before .to-dashes .ensures) (c .before .if2 .left) ∙ c .before .before .before .before .before .loop .inv .1),
-    )
-
-byte-requires : tie.Need-byte-requires Inv-loop μ-loop
-byte-requires c κs = tt
-
-ended : (c : tie.Else1 Inv-loop μ-loop) → atDashes (c .before .before .before .before .before .args .s .now) (c .before .before .loop .i) ≡ false
-ended c = sym (c .before .at-dashes .ensures) ∙ c .if1 .left
-
-returns-2 : tie.Need-returns-2 Inv-loop μ-loop
-returns-2 c =
-    let s = c .before .before .before .before .before .before .before .args .s .now in
-    sym (gapOn-percent (length s) s _ (ended (c .before .before)) (sym (c .before .byte .ensures) ∙ c .if3 .taken)) ∙ c .before .before .before .before .loop .inv .1
-
-returns-3 : tie.Need-returns-3 Inv-loop μ-loop
-returns-3 c =
-    let s = c .before .before .before .before .before .before .before .args .s .now in
-    sym (gapOn-end (length s) s _ (ended (c .before .before)) (λ e. c .if3 .left (c .before .byte .ensures ∙ e))) ∙ c .before .before .before .before .loop .inv .1
+    let a = c .before .before .before .args in
+    c .gap-on .ensures ∙ rw (c .before .separators-end .ensures) (gap-start (a .s .now) (a .at))
 
 pub gap-end-spec : {M : Type 1} → statement M
-gap-end-spec =
-    tie.close
-    (tie.spec
-    Inv-loop
-    μ-loop
-    separators-end-requires
-    loop-holds
-    at-dashes-requires
-    add-to-dashes
-    to-dashes-requires
-    returns
-    add-separators-end
-    separators-end-requires-2
-    loop-less
-    loop-again
-    byte-requires
-    returns-2
-    returns-3)
+gap-end-spec = tie.close (tie.spec separators-end-requires gap-on-requires returns)

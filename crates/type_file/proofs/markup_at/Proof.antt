@@ -1,10 +1,12 @@
 -- `markup_at` meets its contract: each way by the tests that led there.
 use Prim.Native.Nat.{_+_}
-use mathlib.Core.Path.{sym, _∙_}
+use mathlib.Core.Path.{_≡_, sym, _∙_}
+use mathlib.Core.Bool.{true}
 use native.Mathlib.Omega.{arith}
 use borrow.Author.Needs.{needs}
+use Rattle.rules.specs.TypeFile.{atDashes}
 use Rattle.text.specs.Laws.{byte-is-in}
-use Rattle.type_file.specs.Declarations.{step-refused, step-onward, markup-none, markup-dash, markup-comment, markup-section, markup-keyword, markup-other, comment-refused, comment-onward}
+use Rattle.type_file.specs.Declarations.{step-refused, step-onward, markup-none, markup-dash, markup-comment, markup-section, markup-keyword, markup-other, comment-opens, comment-refused, comment-onward}
 use Rattle.type_file.proofs.markup_at.Statement.{statement}
 use Rattle.type_file.proofs.markup_at.Tie as tie
 
@@ -51,10 +53,13 @@ returns-2 c es k =
 add-comment-end : tie.Need-add-comment-end
 add-comment-end c = omega arith
 
-comment-end-requires : tie.Need-comment-end-requires
-comment-end-requires c κs =
+opened : (c : tie.Else3) → atDashes (c .before .before .before .before .before .before .args .s .now) (c .before .before .before .before .before .before .args .i + 2) ≡ true
+opened c =
     let a = c .before .before .before .before .before .before .args in
-    omega (arith, byte-is-in (a .s .now) (a .i + 3) 45 (sym (c .before .byte2 .ensures) ∙ c .if3 .left) (omega arith))
+    comment-opens (a .s .now) (a .i) (sym (c .before .before .before .before .byte .ensures) ∙ c .before .before .if2 .taken) (sym (c .before .byte2 .ensures) ∙ c .if3 .left)
+
+comment-end-requires : tie.Need-comment-end-requires
+comment-end-requires c κs = opened c
 
 enum-known-r : tie.Need-enum-known-r
 enum-known-r c = search needs
@@ -84,7 +89,7 @@ returns-4 c es k =
     let d = c .before .before .before .before .before .before .byte2 .ensures in
     let e = c .before .before .before .before .comment-end .ensures in
     comment-onward (a .s .now) (a .elements .now) (a .i) (a .p) es _ _
-    (markup-comment (a .s .now) (a .i) _ es b _ d (c .before .before .before .before .before .before .before .if2 .taken) _ (c .before .before .before .before .before .if3 .left) e) _ _ (c .before .before .r .given .1) e k (c .onward2 .ensures)
+    (markup-comment (a .s .now) (a .i) _ es b _ d (c .before .before .before .before .before .before .before .if2 .taken) _ (c .before .before .before .before .before .if3 .left) e) _ _ (opened (c .before .before .before .before .before)) (c .before .before .r .given .1) e k (c .onward2 .ensures)
 
 refusal-requires-2 : tie.Need-refusal-requires-2
 refusal-requires-2 c κs = tt
