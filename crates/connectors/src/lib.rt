@@ -72,7 +72,7 @@ pub fn is_connector(b: u8, c: u8) -> bool
     }
 }
 
-// The group of [lo, mid) and the token of [mid, hi) joined by the connector b.
+// The group m, whose first place is `lo`, and the token u after it, joined by the connector b; any byte but "," joins as "|" does.
 pub fn joined_by(table: &mut [u8; MODEL], b: u8, lo: usize, m: Model, u: Model) -> Model
     requires { ⌜ (m .places ≤ 96) × (u .places ≤ 96) ⌝ }
     ensures { λ r. ⌜ r ≡ joinModel b m u ⌝ }

@@ -85,7 +85,7 @@ fn plain_four(classes: &[u8; 256], s: &[u8], i: usize) -> usize
     4
 }
 
-// The same of the eight bytes at i.
+// How many of the eight bytes at i stand before a special one.
 fn plain_eight(classes: &[u8; 256], s: &[u8], i: usize) -> usize
     requires { ⌜ Classes (now classes) × (i + 8 ≤ length (now s)) ⌝ }
     ensures { λ r. ⌜ (r ≤ 8) × (runEnd (now (s .entry)) (i + r) ≡ runEnd (now (s .entry)) i) ⌝ }

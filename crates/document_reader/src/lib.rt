@@ -26,7 +26,7 @@ ghost use Rattle.document_reader.specs.Means.{answerOf, CountFits, Judge
 
 // The reader's answer.
 pub enum Answer {
-    // so many events
+    // It has so many events.
     Accepted(usize),
     InType(Fault),
     Ambiguous(Clash),
@@ -71,7 +71,7 @@ fn read_under(
     let mut facts = [0u8; FACTS];
     element_index::fill_index(s, elements, n, &mut index);
     table_fill::fill(s, elements, n, &index, &mut rows, &mut places, &mut facts);
-    // the class of each byte, 32 a row: 1 for one that may begin something else than data, 2 for one that may go on a name
+    // The class of each byte, 32 a row, is 1 for one that may begin something else than data, 2 for one that may go on a name
     let classes = b"\0\0\0\0\0\0\0\0\0\0\x01\0\0\0\0\0\0\0\0\0\0\0\0\0\0\0\0\0\0\0\0\0\
         \0\0\0\0\0\0\x01\0\0\0\0\0\0\x02\x02\0\x02\x02\x02\x02\x02\x02\x02\x02\x02\x02\0\0\x01\0\0\0\
         \0\x02\x02\x02\x02\x02\x02\x02\x02\x02\x02\x02\x02\x02\x02\x02\x02\x02\x02\x02\x02\x02\x02\x02\x02\x02\x02\0\0\x01\0\0\
@@ -141,7 +141,7 @@ pub fn read(s: &[u8], d: &[u8], buffer: &mut [u32]) -> Answer
     ensures { λ r. ⌜ ReadAs Lent.numbers (now (s .entry)) (now (d .entry)) (now (buffer .entry)) (answerOf r) (now (buffer .exit)) ⌝ }
     ensures { λ r. ⌜ CountFits r ⌝ }
 {
-    // no bytes are lent, so that events go to the numbers alone
+    // No bytes are lent, so that events go to the numbers alone.
     let mut none = [0u8; 0];
     let v = answered(s, d, buffer, &mut none);
     let a = fitted(v, buffer.len() / EVENT);
@@ -151,12 +151,12 @@ pub fn read(s: &[u8], d: &[u8], buffer: &mut [u32]) -> Answer
     a
 }
 
-// The same with a buffer of bytes, four for each number.
+// Reads a document under a type file. The buffer of bytes gets four numbers of four bytes for each event, or is zeroed.
 pub fn read_to_bytes(s: &[u8], d: &[u8], buffer: &mut [u8]) -> Answer
     ensures { λ r. ⌜ ReadAs Lent.bytes (now (s .entry)) (now (d .entry)) (now (buffer .entry)) (answerOf r) (now (buffer .exit)) ⌝ }
     ensures { λ r. ⌜ CountFits r ⌝ }
 {
-    // no numbers are lent, so that events go to the bytes alone
+    // No numbers are lent, so that events go to the bytes alone.
     let mut none = [0u32; 0];
     let v = answered(s, d, &mut none, buffer);
     let a = fitted(v, buffer.len() / NUMBER / EVENT);

@@ -18,9 +18,9 @@ ghost use Rattle.document_text.specs.Means.{pieceOf, asStartTag, asEndTa
 pub enum Token {
     StartTag(Tag),
     EndTag(Tag),
-    // a comment declaration, `<!>` or byte 10, up to here
+    // It is a comment declaration, `<!>` or byte 10, up to here.
     Skipped(usize),
-    // byte 9, 13 or 32: data or ignored
+    // It is byte 9, 13 or 32, which is data or ignored.
     Blank,
     Data,
     Refused(Fault),

@@ -68,8 +68,8 @@ pub fn declared(s: &[u8], elements: &[u32; RECORDS], count: usize, at: usize, si
     }
 }
 
-// The name of the element, declared for the first time, at most the 64th. Where the table holds no records of elements, what is answered to a
-// name of at most 8 bytes is not decided, but for its range.
+// The name of the element, declared for the first time, at most the 64th. Where the table holds no records of elements the answer is
+// not decided, but that a name that is got lies in the input, has at most 8 bytes, and is at most the 64th.
 pub fn element_name(s: &[u8], i: usize, elements: &[u32; RECORDS], count: usize) -> Reached
     requires { ⌜ (i ≤ length (now s)) × (length (now s) ≤ 32768) × (count ≤ 64) ⌝ }
     ensures { λ r. ⌜ ((es : List rules.Element) → length es ≡ count → Recorded (now (elements .entry)) es →

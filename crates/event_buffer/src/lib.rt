@@ -22,7 +22,7 @@ fn note_numbers(buffer: &mut [u32], n: usize, kind: u32, element: u32, at: u32, 
     }
 }
 
-// The same to a buffer of bytes: a number as four, low byte first.
+// The four numbers of an event as four bytes each, low byte first, after n events, if they fit.
 fn note_bytes(buffer: &mut [u8], n: usize, kind: u32, element: u32, at: u32, size: u32)
     requires { ⌜ n < 4294967296 ⌝ }
     ensures { λ _. ⌜ now (buffer .exit) ≡ written (now (buffer .entry)) (16 * n) (bytesOf (kind ∷ element ∷ at ∷ size ∷ [])) ⌝ }
@@ -37,7 +37,7 @@ fn note_bytes(buffer: &mut [u8], n: usize, kind: u32, element: u32, at: u32, siz
 }
 
 // An event, after n others, to each buffer that it fits whole. What a buffer holds that is too small for all events is not decided;
-// it keeps its length.
+// it keeps its length. Nor is it where the n events in one buffer are not those in the other.
 pub fn put_event(
     numbers: &mut [u32],
     bytes: &mut [u8],

@@ -56,7 +56,8 @@ fn filled(fd: i32, path: &[u8], buf: &mut [u8]) -> Loaded
 }
 
 // The first bytes of a file, as many as buf holds. A file that is not to be had is told on standard error. No contract can say which
-// bytes a file has: that these are its first is read from the code, and tested. What buf holds behind them is not decided.
+// bytes a file has, nor that a read was made: that these are its first, and that `last` is what the last read gave, is read from the code, and
+// tested. What buf holds behind them, and all of it on failure, is not decided.
 pub fn first_bytes(path: &[u8], buf: &mut [u8]) -> Loaded
     ensures { λ r. ⌜ LoadedIn r (now (buf .exit)) ⌝ }
 {

@@ -50,7 +50,7 @@ pub record Brings (n : ℕ) (numbers bytes : List ℕ) (r : Outcome) (numbers′
   pub puts : Puts numbers bytes n events numbers′ bytes′
   pub counted : r .events ≡ n + length events
 
--- The outcome r is what inferring ends comes to from the state o. An end is inferred for each element that is open no more.
+-- The outcome r is what inferring ends comes to from the state o. At most one end is inferred for each element that is open no more.
 pub record Until (facts : List ℕ) (x at n : ℕ) (o : Open) (numbers bytes : List ℕ) (r : Outcome) (numbers′ bytes′ : List ℕ) : Type 0 where
   pub brings : Brings n numbers bytes r numbers′ bytes′
   pub few : length (brings .events) + r .open .count ≤ o .count

@@ -12,7 +12,7 @@ fn whole(digits: [u8; 20])
     ensures { λ _. ⌜ length digits ≡ 20 ⌝ }
 {}
 
-// A byte.
+// Puts one byte.
 pub fn put_byte(out: &mut [u8], at: usize, b: u8) -> usize
     requires { ⌜ at < length (now out) ⌝ }
     ensures { λ r. ⌜ Adds (now (out .entry)) at (now (out .exit)) r (b ∷ []) ⌝ }
@@ -21,7 +21,7 @@ pub fn put_byte(out: &mut [u8], at: usize, b: u8) -> usize
     at + 1
 }
 
-// Bytes as they are.
+// Puts bytes as they are.
 pub fn put_bytes(out: &mut [u8], at: usize, bytes: &[u8]) -> usize
     requires { ⌜ at + length (now bytes) ≤ length (now out) ⌝ }
     ensures { λ r. ⌜ Adds (now (out .entry)) at (now (out .exit)) r (now (bytes .entry)) ⌝ }
@@ -46,7 +46,7 @@ pub fn put_number(out: &mut [u8], at: usize, n: u64, b: u8) -> usize
     put_byte(out, end, b)
 }
 
-// The same of a 32-bit number.
+// Puts a 32-bit number in decimal, and the byte b after it.
 pub fn put_short(out: &mut [u8], at: usize, n: u32, b: u8) -> usize
     requires { ⌜ at + 21 ≤ length (now out) ⌝ }
     ensures { λ r. ⌜ Adds (now (out .entry)) at (now (out .exit)) r (word (decimal n) b) × (r ≤ at + 21) ⌝ }

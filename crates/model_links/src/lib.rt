@@ -20,7 +20,7 @@ fn link_cell(table: &mut [u8; MODEL], u: usize, p: usize)
     }
 }
 
-// So for each place of [c, d).
+// Each place of [c, d) that can begin its group may come after u.
 fn link_row(table: &mut [u8; MODEL], u: usize, c: usize, d: usize)
     requires { ⌜ u < 97 ⌝ }
     requires { ⌜ d ≤ 97 ⌝ }
@@ -31,7 +31,7 @@ fn link_row(table: &mut [u8; MODEL], u: usize, c: usize, d: usize)
     }
 }
 
-// If u can end its group.
+// If u can end its group, each place of [c, d) that can begin its own may come after it.
 fn link_from(table: &mut [u8; MODEL], u: usize, c: usize, d: usize)
     requires { ⌜ u < 97 ⌝ }
     requires { ⌜ d ≤ 97 ⌝ }
@@ -64,7 +64,7 @@ fn settle_row(table: &mut [u8; MODEL], u: usize, required: u8)
     }
 }
 
-// So each place of [lo, mid) that can end its group.
+// No place of [lo, mid) can end its group any more: after those that could, what is required comes.
 pub fn settle(table: &mut [u8; MODEL], lo: usize, mid: usize, required: u8)
     requires { ⌜ mid ≤ 97 ⌝ }
     ensures { λ _. ⌜ now (table .exit) ≡ settle (now (table .entry)) lo mid required ⌝ }

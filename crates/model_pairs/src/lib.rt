@@ -33,7 +33,7 @@ fn next_after(table: &[u8; MODEL], u: usize) -> [u8; POSITIONS]
     next
 }
 
-// The set with those places.
+// The set with the places of `next` in it.
 fn with_next(next: [u8; POSITIONS], set: [bool; POSITIONS]) -> [bool; POSITIONS]
     ensures { λ r. ⌜ ((q : ℕ) → q < 97 → getD r q false ≡ getD set q false || isNext (getD next q 0)) ⌝ }
 {

@@ -131,14 +131,14 @@ module _ (s : List ℕ) (es : List Element) (accepted : Accepts s es) (rows : Li
       let (x, a, few, e) = end-does at y o n some may in
       (x, subst (λ (q : Open). Beside s es (D s es) rows z o₀ x q) e (beside-then b a (moment-act s es accepted (D s es) means rows said n a few)))
 
-  -- The ends of step 3 (`ends` of settling, whose contract has `Turns`): acts lead to just the open elements q that it gives, though the token may still
+  -- The ends of step 3 (`ends` of inferring, whose contract has `Turns`): acts lead to just the open elements q that it gives, though the token may still
   -- be refused there.
   pub turns-lead : {places facts : List ℕ} → Tables s es rows places facts → {x at n : ℕ} {o : Open} {numbers bytes : List ℕ} {q : Open} {k : ℕ} {numbers′ bytes′ : List ℕ}
       → Turns rows places facts x at n o numbers bytes q k numbers′ bytes′ → x ≤ length es → (z : State) → Moment es z o
       → (y : State) × Beside s es (D s es) rows z o y q
   turns-lead tables {x} h most z m = ends-lead (h .comes s es tables (m .stands) (tokenOf x) (tokenOf-number x) (tokenOf-declared es x most) .ends) z m
 
-  -- One start that is inferred (`infer_start` of settling) is one act.
+  -- One start that is inferred (`infer_start` of inferring) is one act.
   pub infers-start-does : {places facts : List ℕ} → Tables s es rows places facts → {at n : ℕ} {o : Open} {numbers bytes : List ℕ} {r : Open} {numbers′ bytes′ : List ℕ}
       → (h : InfersStart rows places facts at n o numbers bytes r numbers′ bytes′) → 1 ≤ h .k → (z : State) → Moment es z o
       → (y : State) × (a : Act s es (D s es) z y) × (r ≡ done s es (D s es) rows a o)
@@ -151,7 +151,7 @@ module _ (s : List ℕ) (es : List Element) (accepted : Accepts s es) (rows : Li
       ∙ sym (h .chosen s es tables (m .stands)) in
       (_, infers (h .k) at same some, h .opens ∙ ap (λ (p : ℕ). opening rows (h .k) (took rows p o)) (sym kept))
 
-  -- The place of a start tag (`placed` of settling), where it is the one as which the token fits, and the tag is not refused: one act, which opens its
+  -- The place of a start tag (`placed` of placing), where it is the one as which the token fits, and the tag is not refused: one act, which opens its
   -- element or, of an EMPTY one, leaves what is open.
   pub places-leads : {places facts : List ℕ} → Tables s es rows places facts → {found : Way} {k at after n : ℕ} {o : Open} {numbers bytes : List ℕ} {r : Outcome} {numbers′ bytes′ : List ℕ}
       → (h : Places rows places facts found (suc k) at after n o numbers bytes r numbers′ bytes′) → suc k ≤ length es → r .number ≡ 0 → (z : State) → Moment es z o → fitting s es (D s es) (z .current) (start (suc k)) ≡ h .p → 1 ≤ h .p
@@ -167,7 +167,7 @@ module _ (s : List ℕ) (es : List Element) (accepted : Accepts s es) (rows : Li
       let comes : Comes s es (D s es) (start (suc k)) z (takePlace p z) = record { here = z; acts = λ n l j. act.still l; fits = omega (arith, fits); taken = ap (λ (q : ℕ). takePlace q z) (sym fits) } in
       (y, e, leads s es accepted rows said m (got-so (noted-acts s es (D s es) (suc k) at after z (takePlace p z) (omega arith, most) (omega (arith, m .many, m .ranged .few)) comes) e) (r .open) (notes .stands fine) ev f)
 
-  -- The ends that are inferred until the current element is x, or nothing is around it (`end_until` of closing).
+  -- The ends that are inferred until the current element is x, or nothing is around it (`end_until` of left_out_ends).
   pub until-leads : {facts : List ℕ} → Facts s es facts → {x at n : ℕ} {o : Open} {numbers bytes : List ℕ} {r : Outcome} {numbers′ bytes′ : List ℕ}
       → Until facts x at n o numbers bytes r numbers′ bytes′ → r .number ≡ 0 → (z : State) → Moment es z o
       → (y : State) × (inferEnds s es (D s es) x at (z .around) (z .current) (z .events) ≡ got y) × Leads s es (D s es) rows z o y (r .open)

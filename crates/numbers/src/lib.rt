@@ -66,7 +66,7 @@ pub fn put_numbers(buffer: &mut [u32], table: &[u32], n: usize)
     }
 }
 
-// The same in a buffer of bytes.
+// The first n numbers of a table, as four bytes each, at the start of a buffer of bytes.
 pub fn put_bytes(buffer: &mut [u8], table: &[u32], n: usize)
     requires { ⌜ (n ≤ length (now table)) × (4 * n ≤ length (now buffer)) ⌝ }
     ensures { λ _. ⌜ now (buffer .exit) ≡ filledWith (bytesOf (take n (now (table .entry)))) (now (buffer .entry)) ⌝ }

@@ -119,7 +119,7 @@ module _ (s : List ℕ) (es : List Element) (accepted : Accepts s es) where
     pub marks : MarksSay es o state
 
   -- `Reaches` and `Stands` hold before the first token (`reaches-start`, `stands-fresh`), and by the contracts of `settling::token` and
-  -- `closing::end_tag` after each that is not refused: `settled` of document_events promises both.
+  -- `closing::end_tag` after each that is not refused: `Going` and `Turned` of document_events have both.
   pub at-every-moment : (d : List ℕ) (at : ℕ) (o : Open) (ev : List Event) → Stands es o → Reaches s es d at (stateOf o ev) → AtMoment d at o
   at-every-moment d at o ev h r =
       let means = accepted-decided s es accepted in

@@ -25,11 +25,11 @@ ghost use Rattle.pieces.specs.Means.{Finds, Onward};
 
 // What stands at a position of the document, names looked up.
 pub enum Piece {
-    // the start tag of an element, or a run of data for 0, up to here
+    // It is the start tag of an element, or a run of data for 0, up to here.
     Token(usize, usize),
-    // the end tag of an element, up to here
+    // It is the end tag of an element, up to here.
     End(usize, usize),
-    // ignored, up to here
+    // It is ignored, up to here.
     Passed(usize),
     Refused(Fault),
 }

@@ -38,7 +38,8 @@ fn put_written(
     event_buffer::put_event(numbers, bytes, m, 6, x, after, 0)
 }
 
-// The token takes its place by what was found, and is noted; an element with a model is opened.
+// The token takes its place by what was found, and is noted; an element with a model is opened. Where it is refused neither the state, but for
+// its range, nor the events are decided.
 pub fn placed(
     rows: &[u8; ROWS],
     places: &[u8; PLACES],

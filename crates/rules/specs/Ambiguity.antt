@@ -14,7 +14,7 @@ module _ (same : ℕ → ℕ → Bool) where
     none : SpellSame [] []
     next : {p q : ℕ} {s t : List ℕ} → same p q ≡ true → SpellSame s t → SpellSame (p ∷ s) (q ∷ t)
 
-  -- Demand 3: two different sequences of places, "of whatever length, each the beginning of some walk, that spell the same names".
+  -- Demand 3: two different sequences of places, of any length, each the beginning of a walk, spell the same names.
   abbrev pub Ambiguous : Group → Type 0
   Ambiguous g = (s : List ℕ) × (t : List ℕ) × Begins g s × Begins g t × SpellSame s t × (s ≡ t → ⊥)
 

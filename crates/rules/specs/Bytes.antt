@@ -78,7 +78,7 @@ DSC = 93
 abbrev pub OR : ℕ
 OR = 124
 
--- "Allowed bytes: 9, 10, 13, 32 to 126."
+-- "Allowed bytes: 9, 10, 13, 32 to 126".
 unfoldable pub allowed : ℕ → Bool
 allowed b = eqb b TAB || eqb b RS || eqb b RE || (leb 32 b && leb b 126)
 
@@ -140,6 +140,6 @@ elementLimit = 64
 abbrev pub TAGLVL : ℕ
 TAGLVL = 24
 
--- "House figures: .. document 65,535."
+-- "House figures: .. document 65,535".
 abbrev pub documentLimit : ℕ
 documentLimit = 65535

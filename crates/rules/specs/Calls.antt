@@ -8,6 +8,7 @@ use Rattle.rules.specs.Reader.{ReadAs}
 
 -- "An accepted call gives 0 for number, input and position, and how many records it wrote; input 1 is the type, 2 the document. The two
 -- places are 0 except under 9." The six numbers of an answer are these, in this order: number, input, position, the two places, and how many.
+-- The paper names no order: this one is ours, and that the number is also returned.
 abbrev pub answerNumbers : Answer → List ℕ
 answerNumbers a = a .number ∷ a .input ∷ a .position ∷ a .first ∷ a .second ∷ a .count ∷ []
 
@@ -16,6 +17,7 @@ answerNumbers a = a .number ∷ a .input ∷ a .position ∷ a .first ∷ a .sec
 abbrev pub JudgedNumbers : (s before : List ℕ) (returned : ℕ) (numbers after : List ℕ) → Type 0
 JudgedNumbers s before returned numbers after = (a : Answer) × (returned ≡ a .number) × (numbers ≡ answerNumbers a) × Judged bytes s before a after
 
--- The same of the reader, for the type file s and the document d.
+-- The reader returns the number of an answer to the type file s and the document d, gives its six numbers, and leaves in the lent bytes what goes
+-- with it.
 abbrev pub ReadNumbers : (s d before : List ℕ) (returned : ℕ) (numbers after : List ℕ) → Type 0
 ReadNumbers s d before returned numbers after = (a : Answer) × (returned ≡ a .number) × (numbers ≡ answerNumbers a) × ReadAs bytes s d before a after

@@ -46,6 +46,6 @@ pub record MeansAt (s : List ℕ) (es : List Element) (D : Decisions) (k : ℕ) 
   pub complete : (D .complete k taken ≡ true) ↔ Complete g taken
   pub required : IsThe (Required g taken) (D .required k taken)
 
--- So they do for every model, and wherever the places taken begin a walk.
+-- The decisions say what the walks say for every model, and wherever the places taken begin a walk.
 pub record Means (s : List ℕ) (es : List Element) (D : Decisions) : Type 0 where
   pub walks : (k : ℕ) {g : Group} {ps : List Place} {n : ℕ} → contentOf es k ≡ model g ps n → (taken : List ℕ) → Begins g taken → MeansAt s es D k g ps taken

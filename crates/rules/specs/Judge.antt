@@ -34,7 +34,7 @@ pub record Answer : Type 0 where
 abbrev pub refusal : (number position first second : ℕ) → Answer
 refusal n k p q = record { number = n; input = 1; position = k; first = p; second = q; count = 0 }
 
--- "An accepted call gives 0 for number, input and position, and how many records it wrote."
+-- "An accepted call gives 0 for number, input and position, and how many records it wrote".
 abbrev pub acceptance : (count : ℕ) → Answer
 acceptance n = record { number = 0; input = 0; position = 0; first = 0; second = 0; count = n }
 

@@ -8,7 +8,7 @@ pub data Lent : Type 0 where
   numbers : Lent
   bytes : Lent
 
--- "The numbers in the lent buffer then standing as four bytes each, low byte first."
+-- "The numbers in the lent buffer then standing as four bytes each, low byte first".
 unfoldable pub bytesOf : List ℕ → List ℕ
 bytesOf [] = []
 bytesOf (n ∷ ns) = n % 256 ∷ n / 256 % 256 ∷ n / 65536 % 256 ∷ n / 16777216 % 256 ∷ bytesOf ns

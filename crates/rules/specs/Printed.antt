@@ -22,7 +22,7 @@ unfoldable pub decimalWithin : ℕ → ℕ → List ℕ
 decimalWithin zero n = (48 + n % 10) ∷ []
 decimalWithin (suc k) n = elim (leb 10 n) [ true ↦ decimalWithin k (n / 10) ++ ((48 + n % 10) ∷ []) | false ↦ (48 + n % 10) ∷ [] ]
 
--- It has fewer digits before the last than it counts.
+-- A number in decimal: as many digits before the last as the number counts are enough.
 unfoldable pub decimal : ℕ → List ℕ
 decimal n = decimalWithin n n
 

@@ -91,7 +91,7 @@ module _ (s : List ℕ) (es : List Element) (D : Decisions) where
         | false ↦ []
       ]
 
-  -- "Infer those starts."
+  -- Those starts are inferred, one in the other.
   unfoldable pub inferStarts : (at : ℕ) → List ℕ → State → State
   inferStarts at [] z = z
   inferStarts at (k ∷ ks) z = inferStarts at ks (note (startInferred k at) (enter k (takePlace (requiredPlace (z .current)) z)))

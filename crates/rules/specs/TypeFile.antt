@@ -126,7 +126,7 @@ nameToken s at full ps n =
       ]
     ]
 
--- "`#PCDATA` counts as "*"." "A wrong word after `#` stands at the `#`."
+-- "`#PCDATA` counts as "*"". "A wrong word after `#` stands at the `#`."
 unfoldable pub dataToken : List ℕ → ℕ → Bool → List Place → ℕ → Reading Tokens
 dataToken s at full ps n =
     let e = nameEnd s (at + 1) in
@@ -157,7 +157,7 @@ token inner s at full ps n =
       ]
     ]
 
--- "A group holds content tokens joined by one kind of connector, "," or "|"."
+-- "A group holds content tokens joined by one kind of connector, "," or "|"".
 abbrev pub join : ℕ → Group → Group → Group
 join b g h = elim (eqb b SEQ) [ true ↦ seq g h | false ↦ alt g h ]
 
@@ -200,7 +200,7 @@ group (suc levels) s at ps n =
 
 -- Element declarations
 
--- "Content is EMPTY or a group."
+-- "Content is EMPTY or a group".
 pub data Content : Type 0 where
   empty : Content
   model : Group → List Place → (tokens : ℕ) → Content

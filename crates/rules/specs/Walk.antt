@@ -23,7 +23,7 @@ pub data Runs (P : List ℕ → Type 0) : List ℕ → Type 0 where
   more : {w : List ℕ} (s t : List ℕ) → w ≡ s ++ t → P s → Runs P t → Runs P w
 
 -- "A walk is a sequence of places: through "," each member in turn; through "|" one member;
--- "?" none or one walk, "+" one or more, "*" any number."
+-- "?" none or one walk, "+" one or more, "*" any number".
 abbrev pub Walk : Group → List ℕ → Type 0
 Walk (place p) w = w ≡ p ∷ []
 Walk (seq g h) w = (s : List ℕ) × (t : List ℕ) × (w ≡ s ++ t) × Walk g s × Walk h t

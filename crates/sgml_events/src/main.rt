@@ -36,7 +36,8 @@ fn printed(s: &[u8], d: &[u8], out: &mut [u8]) -> usize
     }
 }
 
-// Writes the text that is printed for a type file and a document; no contract can say that standard output takes it.
+// Writes the text that is printed for a type file and a document. It can be handed no other text; that it writes this one, and that standard
+// output takes it, no contract can say.
 fn written(s: &[u8], d: &[u8], text: &[u8]) -> bool
     requires { ⌜ Prints (now s) (now d) (now text) ⌝ }
 {
@@ -47,7 +48,7 @@ fn written(s: &[u8], d: &[u8], text: &[u8]) -> bool
 fn print(s: &[u8], s_last: usize, d: &[u8], d_last: usize)
     requires { ⌜ Whole 32768 (now s) «s_last» × Whole 65535 (now d) «d_last» ⌝ }
 {
-    // 72 bytes for the first line and for each of at most 4,096 events
+    // The first line and each of at most 4,096 events take 72 bytes at most.
     let mut out = [0u8; 294984];
     let k = printed(s, d, &mut out);
     if !written(s, d, &out[..k]) {
@@ -56,7 +57,7 @@ fn print(s: &[u8], s_last: usize, d: &[u8], d_last: usize)
 }
 
 fn main() {
-    // one byte more than the reader takes, so that it refuses what is longer
+    // Each buffer holds one byte more than the reader takes, so that it refuses what is longer.
     let mut s = [0u8; 32769];
     let mut d = [0u8; 65536];
     let a = file_reader::first_bytes(b"type.sgm", &mut s);

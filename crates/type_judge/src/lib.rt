@@ -12,7 +12,7 @@ ghost use Rattle.type_judge.specs.Means.{answerOf, Decides};
 
 // The judge's answer.
 pub enum Verdict {
-    // so many records
+    // It has so many records.
     Accepted(usize),
     Malformed(Fault),
     Ambiguous(Clash),
@@ -41,7 +41,8 @@ pub fn decide_legible(s: &[u8], room: usize, elements: &mut [u32; RECORDS]) -> V
     Verdict::Accepted(p.count)
 }
 
-// The verdict on any type file: numbers 1 and 2 come first. What `elements` holds is as there.
+// The verdict on any type file: numbers 1 and 2 come first. Behind the records, and on refusal, what `elements`
+// holds is not decided.
 pub fn decide(s: &[u8], room: usize, elements: &mut [u32; RECORDS]) -> Verdict
     ensures { λ r. ⌜ Decides (now (s .entry)) room (now (elements .exit)) r ⌝ }
 {
@@ -70,7 +71,7 @@ pub fn judge(s: &[u8], buffer: &mut [u32]) -> Verdict
     v
 }
 
-// The same with a buffer of bytes, four for each number.
+// Judges a type file. The buffer of bytes gets six numbers of four bytes for each element, or is zeroed.
 pub fn judge_to_bytes(s: &[u8], buffer: &mut [u8]) -> Verdict
     ensures { λ r. ⌜ Judged bytes (now (s .entry)) (now (buffer .entry)) (answerOf r) (now (buffer .exit)) ⌝ }
 {

@@ -13,7 +13,8 @@
 // `facts`: for each element 68 numbers. Number x is the largest place of the name x, or 0. Numbers 65, 66 and 67 are 1
 // where the start may be omitted, the end may be omitted, and the content is a model.
 //
-// Whatever the tables hold, each function ends and stays within them; a number that no table of a type has is answered by 0.
+// Whatever the tables hold, each function ends and stays within them. Where they are no type's, what `fitting`, `startable` and `inferable`
+// answer is not decided, but that a place is at most 96 and an element at most 64.
 use layout::FACT;
 use layout::FACTS;
 use layout::LINK;
@@ -85,8 +86,8 @@ fn smaller(places: &[u8; PLACES], e: usize, p: usize) -> usize
     numbers::wide(places[(e * POSITIONS + p) * LINK + 1])
 }
 
-// Whether the start tag of the element e may be omitted. Of an element that is not declared, and where the tables are no type's, neither this
-// answer nor the next two are decided.
+// Whether the start tag of the element e may be omitted. Of an element that is not declared, or where the tables are no type's, it is not
+// decided.
 fn start_omitted(facts: &[u8; FACTS], e: usize) -> bool
     requires { ⌜ e ≤ 64 ⌝ }
     ensures { λ r. ⌜ ((s : List ℕ) (es : List Element) → Facts s es (now (facts .entry)) → Declares es (decisions.start e) → r ≡ startO es e) ⌝ }
@@ -94,7 +95,7 @@ fn start_omitted(facts: &[u8; FACTS], e: usize) -> bool
     facts[e * FACT + 65] == 1
 }
 
-// Whether its end tag may be omitted.
+// Whether the end tag of the element e may be omitted. Of an element that is not declared, or where the tables are no type's, it is not decided.
 pub fn end_omitted(facts: &[u8; FACTS], e: usize) -> bool
     requires { ⌜ e ≤ 64 ⌝ }
     ensures { λ r. ⌜ ((s : List ℕ) (es : List Element) → Facts s es (now (facts .entry)) → Declares es (decisions.start e) → r ≡ endO es e) ⌝ }
@@ -102,7 +103,7 @@ pub fn end_omitted(facts: &[u8; FACTS], e: usize) -> bool
     facts[e * FACT + 66] == 1
 }
 
-// Whether its content is a model.
+// Whether the content of the element e is a model. Of an element that is not declared, or where the tables are no type's, it is not decided.
 pub fn has_model(facts: &[u8; FACTS], e: usize) -> bool
     requires { ⌜ e ≤ 64 ⌝ }
     ensures { λ r. ⌜ ((s : List ℕ) (es : List Element) → Facts s es (now (facts .entry)) → Declares es (decisions.start e) →
@@ -155,7 +156,7 @@ pub fn startable(places: &[u8; PLACES], facts: &[u8; FACTS], e: usize, p: usize)
     if 96 < p {
         return 0;
     }
-    // what the place names: an element, 255 for `#PCDATA`, 0 if that is not declared
+    // What the place names is an element, 255 for `#PCDATA`, or 0 if that is not declared.
     let k = numbers::wide(places[(e * POSITIONS + p) * LINK]);
     if k == 0 {
         return 0;

@@ -23,9 +23,9 @@ ghost use Rattle.ways.specs.Means.{wayOf, chained, startsOf, fitOf, plac
 
 // What the current element has to say to a start tag or a data byte.
 pub enum Way {
-    // it fits at this place
+    // It fits at this place.
     Taken(usize),
-    // so many starts are inferred before it
+    // So many starts are inferred before it.
     Inferred(usize),
     Stuck,
 }
@@ -154,7 +154,7 @@ pub fn opens(facts: &[u8; FACTS], x: usize) -> bool
     type_tables::has_model(facts, x)
 }
 
-// Whether the document element was there and has ended. Of a state that stands in no type the answer is not decided.
+// Whether the document element was there and has ended: the document itself is the current element, and it is complete.
 pub fn is_over(o: Open) -> bool
     ensures { λ r. ⌜ r ≡ (eqb (o .element) 0 && o .complete) ⌝ }
 {
