@@ -119,10 +119,11 @@ module _ (s d : List ℕ) (es : List Element) (rows : List ℕ) (said : Rows es 
       → (z : State) × (o : Open) × Beside s es (x .decisions) rows nothingOpen fresh z o × (o .count ≡ 0) × (isComplete s es (x .decisions) (z .current) ≡ true) × (z .events ≡ ev)
   every-moment-read ev x = document-beside s es (x .accepted) (x .decisions) (x .means) rows said d ev (x .reading)
 
-  -- What the program has between tokens is what the acts lead to: `Stands` and `Reaches` are what its loop keeps (`Going` of document_events).
-  pub between-tokens : Accepts s es → (at : ℕ) (o : Open) (ev : List Event) → Stands es o → Reaches s es d at (stateOf o ev)
+  -- What the program has between tokens is what the acts lead to: `Ranged`, `Stands` and `Reaches` are what its loop keeps (`Going` of document_events).
+  -- The state that is handed from token to token is at a moment itself (`there` of `Leads`).
+  pub between-tokens : Accepts s es → (at : ℕ) (o : Open) (ev : List Event) → Ranged o → Stands es o → Reaches s es d at (stateOf o ev)
       → (z : State) × Passes s es (decided s es) d at z × Leads s es (decided s es) rows nothingOpen fresh z o
-  between-tokens accepted at o ev h r = reaches-leads s es accepted rows said d at o ev h r
+  between-tokens accepted at o ev g h r = reaches-leads s es accepted rows said d at o ev g h r
 
 -- Within a start tag that is not refused: the ends that it infers, the starts that it infers, then itself, with a moment before and after each. x is the
 -- element, from `at` to `after`. What `token` gives is what these acts lead to.

@@ -36,7 +36,7 @@ use Rattle.moments.specs.Means.{done, Moment, Beside, still, next}
 
 module _ (s : List ℕ) (es : List Element) (accepted : Accepts s es) (D : Decisions) (means : Means s es D) (rows : List ℕ) (said : Rows es rows) where
   -- What has been shown of the two states makes a moment.
-  moment : (z : State) (o : Open) → Ranged o → Stands es o → AllBegun es z → short z ≡ stateOf o (z .events) → Moment es z o
+  pub moment : (z : State) (o : Open) → Ranged o → Stands es o → AllBegun es z → short z ≡ stateOf o (z .events) → Moment es z o
   moment z o r h b e =
       record { many = sym (same-deep o (z .events) z e); ranged = r; same = e; stands = h; begun = b; marks = marks-say s es accepted o h z (z .events) b e }
 

@@ -165,7 +165,7 @@ module _ (s : List ℕ) (es : List Element) (accepted : Accepts s es) (rows : Li
       shortly-got (noting es (suc k) at after (takePlace p z)) (stateOf (r .open) ev)
       (sym (notes .comes (z .events) (takePlace p z) (took-same s es accepted (D s es) means rows said z o m p inside)) ∙ ap (λ (n : ℕ). outcomeOf at n (stateOf (r .open) ev)) fine) in
       let comes : Comes s es (D s es) (start (suc k)) z (takePlace p z) = record { here = z; acts = λ n l j. act.still l; fits = omega (arith, fits); taken = ap (λ (q : ℕ). takePlace q z) (sym fits) } in
-      (y, e, leads s es accepted rows said m (got-so (noted-acts s es (D s es) (suc k) at after z (takePlace p z) (omega arith, most) (omega (arith, m .many, m .ranged .few)) comes) e) (r .open) (notes .stands fine) ev f)
+      (y, e, leads s es accepted rows said m (got-so (noted-acts s es (D s es) (suc k) at after z (takePlace p z) (omega arith, most) (omega (arith, m .many, m .ranged .few)) comes) e) (r .open) (h .ranged) (notes .stands fine) ev f)
 
   -- The ends that are inferred until the current element is x, or nothing is around it (`end_until` of closing).
   pub until-leads : {facts : List ℕ} → Facts s es facts → {x at n : ℕ} {o : Open} {numbers bytes : List ℕ} {r : Outcome} {numbers′ bytes′ : List ℕ}
@@ -180,7 +180,7 @@ module _ (s : List ℕ) (es : List Element) (accepted : Accepts s es) (rows : Li
       ∙ ap (λ (w : State). shortly (q w)) (m .same)
       ∙ ap shortly (sym (h .same s es facts-say (m .stands) (z .events)) ∙ ap (λ (n : ℕ). outcomeOf at n (stateOf (r .open) ev)) fine)
       ∙ ap got (stateOf-short (r .open) ev)) in
-      (y, e, leads s es accepted rows said m (got-so (ends-acts s es x at (z .around) (z .current) (z .events) (omega (arith, m .many, m .ranged .few))) e) (r .open) (h .stands es (m .stands)) ev f)
+      (y, e, leads s es accepted rows said m (got-so (ends-acts s es x at (z .around) (z .current) (z .events) (omega (arith, m .many, m .ranged .few))) e) (r .open) (h .brings .ranged) (h .stands es (m .stands)) ev f)
 
   -- The document's end (`finish` of closing), where it is not refused: the ends that it infers lead to where nothing is open, with the events that it brings.
   -- The state that it gives is not decided: nobody reads it.
