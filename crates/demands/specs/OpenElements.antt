@@ -2,9 +2,10 @@
 -- "Store the mark, and the required place if there is one, with each open element. At every moment both must equal what 01's definition says of
 -- the places taken." The hypotheses are the contracts as they stand in the source, as on the page of the calls: `Asked` is what a function requires.
 use Prim.Native.Nat.{ℕ, _≤_}
-use mathlib.Core.Path.{_≡_, sym, subst}
+use mathlib.Core.Path.{_≡_, sym, _∙_, ap, subst}
 use mathlib.Core.Bool.{true}
 use mathlib.Core.List.{List, _++_}
+use native.Mathlib.Omega.{arith}
 use lib.ListN.{length}
 use contract.Lifetimes.{Lfts}
 use denote.Ref.{now}
@@ -14,18 +15,19 @@ use Rattle.rules.specs.Reading.{Reading, got}
 use Rattle.rules.specs.Walk.{Group}
 use Rattle.rules.specs.TypeFile.{Place, model, Element}
 use Rattle.rules.specs.Judge.{Accepts}
-use Rattle.rules.specs.Elements.{contentOf}
-use Rattle.rules.specs.Decisions.{Decisions, Means}
+use Rattle.rules.specs.Elements.{contentOf, hasModel}
+use Rattle.rules.specs.Decisions.{Token, Decisions, Means}
 use Rattle.rules.specs.Events.{Event}
-use Rattle.rules.specs.Settling.{State, nothingOpen, isComplete, startElement, takeData, endElement}
-use Rattle.rules.specs.Acts.{Act, MarksMean, Passes, Few}
+use Rattle.rules.specs.Settling.{State, nothingOpen, takePlace, enter, fitting, isComplete, requiredPlace, takeToken, startElement, takeData, endElement}
+use Rattle.rules.specs.Acts.{Declared, Act, MarksMean, Passes, Few}
 use Rattle.rules.specs.Reader.{Reads}
 use Rattle.document_laws.specs.Decide.{decided}
+use Rattle.document_laws.specs.Moves.{fits, required}
 use Rattle.last_places.specs.Turns.{Reaches}
 use Rattle.type_tables.specs.Means.{Rows, Facts, Tables}
 use Rattle.open_elements.specs.declared.Open.{Open}
 use Rattle.open_elements.specs.declared.Outcome.{Outcome}
-use Rattle.open_elements.specs.Means.{stateOf, fresh, Ranged, Stands}
+use Rattle.open_elements.specs.Means.{stateOf, fresh, took, Ranged, Stands}
 use Rattle.open_elements.specs.Marks.{AllSay}
 use Rattle.open_elements.specs.Laws.{ranged-fresh, ranged-took, ranged-opening, ranged-ended}
 use Rattle.open_elements.proofs.Open.new as new
@@ -45,7 +47,7 @@ use Rattle.closing.proofs.end_tag.Reads as end-tag-reads
 use Rattle.closing.proofs.finish as finish
 use Rattle.closing.proofs.finish.Reads as finish-reads
 use Rattle.moments.specs.Means.{done, Moment, Beside, Leads}
-use Rattle.moments.specs.Beside.{moment-first, moment-act}
+use Rattle.moments.specs.Beside.{moment-first, moment-noted, moment-entered, moment-act, moment-took, required-kept}
 use Rattle.moments.specs.Results.{passes-beside, document-beside, reaches-leads, settles-leads, data-leads, tagged-leads}
 use Rattle.moments.specs.Steps.{finished-beside}
 
@@ -101,12 +103,57 @@ moment-marks es z o m = (m .marks .current .element, λ g ps n e. m .marks .curr
 pub moment-marks-around : (es : List Element) (z : State) (o : Open) → Moment es z o → AllSay es (o .around) (o .count) (z .around)
 moment-marks-around es z o m = m .marks .around
 
-module _ (s : List ℕ) (es : List Element) (accepted : Accepts s es) (D : Decisions) (means : Means s es D) (rows : List ℕ) (said : Rows es rows) where
-  pub first-moment : Moment es nothingOpen fresh
-  first-moment = moment-first s es accepted D means rows said
+pub first-moment : (s : List ℕ) (es : List Element) → Accepts s es → Moment es nothingOpen fresh
+first-moment = moment-first
 
+module _ (s : List ℕ) (es : List Element) (accepted : Accepts s es) (D : Decisions) (means : Means s es D) (rows : List ℕ) (said : Rows es rows) where
   pub each-act : (z y : State) (o : Open) → Moment es z o → (a : Act s es D z y) → Few y → Moment es y (done s es D rows a o)
   each-act z y o m a few = moment-act s es accepted D means rows said m a few
+
+-- Before and after each method, "At every moment both must equal what 01's definition says of the places taken": the methods are all that changes the open
+-- elements, and from a moment each leads to a moment, whether or not the token is refused in the end: `take` of a place as which a token fits or which is
+-- required, `start` of an element that has a model, and both that end the current element. A start is two calls, `take` and `start`, with a moment between
+-- them.
+
+-- `new`: nothing is open yet.
+pub new-moment : (κs : Lfts 0) (a : ArgsD new.signature κs) (r : Open) (e : AtExit new.ended κs) → new-reads.Learnt κs a r e
+    → (s : List ℕ) (es : List Element) → Accepts s es → Moment es nothingOpen r
+new-moment κs a r e made s es accepted = subst (Moment es nothingOpen) (sym made) (moment-first s es accepted)
+
+-- `take`, by the rows of the type, of the place as which a start tag or a data byte fits: that place is taken in the rules' state.
+pub take-fitting : (κs : Lfts 1) (a : ArgsD take.signature κs) (r : Open) (e : AtExit take.ended κs) → take-reads.Learnt κs a r e
+    → (s : List ℕ) (es : List Element) → Accepts s es → (D : Decisions) → Means s es D → Rows es (now (a .1 .0))
+    → let o = a .0 in
+    let place = a .1 .1 .0 in
+    (z : State) → Moment es z o → (t : Token) → place ≡ fitting s es D (z .current) t → 1 ≤ place → Moment es (takeToken s es D t z) r
+take-fitting κs a r e made s es accepted D means said z m t same some =
+    subst (Moment es _) (sym (made ∙ ap (λ (p : ℕ). took (now (a .1 .0)) p (a .0)) same))
+    (moment-took s es accepted D means (now (a .1 .0)) said z (a .0) m (fits t (omega (arith, same))))
+
+-- `take` of the required place, which is kept with the current element: it is the place that the rules require, and is taken in their state.
+pub take-required : (κs : Lfts 1) (a : ArgsD take.signature κs) (r : Open) (e : AtExit take.ended κs) → take-reads.Learnt κs a r e
+    → (s : List ℕ) (es : List Element) → Accepts s es → (D : Decisions) → Means s es D → Rows es (now (a .1 .0))
+    → let o = a .0 in
+    let place = a .1 .1 .0 in
+    (z : State) → Moment es z o → place ≡ o .required → 1 ≤ place → Moment es (takePlace (requiredPlace s es D (z .current)) z) r
+take-required κs a r e made s es accepted D means said z m same some =
+    let kept = same ∙ sym (required-kept s es accepted D means (now (a .1 .0)) said z (a .0) m) in
+    subst (Moment es _) (sym (made ∙ ap (λ (p : ℕ). took (now (a .1 .0)) p (a .0)) kept))
+    (moment-took s es accepted D means (now (a .1 .0)) said z (a .0) m (required (omega (arith, kept))))
+
+-- `start` of an element that has a model: it is entered in the rules' state.
+pub start-moment : (κs : Lfts 1) (a : ArgsD start.signature κs) (r : Open) (e : AtExit start.ended κs) → start-reads.Asked κs a → start-reads.Learnt κs a r e
+    → (s : List ℕ) (es : List Element) → Accepts s es → Rows es (now (a .1 .0))
+    → let o = a .0 in
+    let k = a .1 .1 .0 in
+    (z : State) → Moment es z o → Declared es k → hasModel (contentOf es k) ≡ true → Moment es (enter k z) r
+start-moment κs a r e asked made s es accepted said z m declared has =
+    subst (Moment es _) (sym made) (moment-entered s es accepted (now (a .1 .0)) said z (a .0) m (a .1 .1 .0) declared has (asked .1))
+
+-- To note events, which no method does, leaves a moment a moment.
+pub noted-moment : (s : List ℕ) (es : List Element) → Accepts s es → (z : State) (o : Open) → Moment es z o → (ev : List Event)
+    → Moment es (record { current = z .current; around = z .around; events = ev }) o
+noted-moment s es accepted z o m ev = moment-noted s es accepted z o m ev
 
 -- `Beside` leads from one moment to another, act by act.
 module _ (s d : List ℕ) (es : List Element) (rows : List ℕ) (said : Rows es rows) where

@@ -38,13 +38,13 @@ use Rattle.moments.specs.Alike.{stands-alike}
 module _ (s : List ℕ) (es : List Element) (accepted : Accepts s es) (D : Decisions) (means : Means s es D) (rows : List ℕ) (said : Rows es rows) (d : List ℕ) where
   -- Wherever reading comes, acts lead to, from nothing open on, and the program's open elements stand beside at every moment.
   pub passes-beside : (at : ℕ) (z : State) → Passes s es D d at z → (o : Open) × Beside s es D rows nothingOpen fresh z o
-  passes-beside at z p = acts-beside s es accepted D means rows said (moment-first s es accepted D means rows said) (passes-acts s es D d p)
+  passes-beside at z p = acts-beside s es accepted D means rows said (moment-first s es accepted) (passes-acts s es D d p)
 
   -- A document that is read to its end: at last nothing is open.
   pub document-beside : (ev : List Event) → document s es D d ≡ got ev → (z : State) × (o : Open) × Beside s es D rows nothingOpen fresh z o × (o .count ≡ 0) × (isComplete s es D (z .current) ≡ true) × (z .events ≡ ev)
   document-beside ev e =
       let r = document-acts s es D d ev e in
-      let (o, b) = acts-beside s es accepted D means rows said (moment-first s es accepted D means rows said) (r .acts) in
+      let (o, b) = acts-beside s es accepted D means rows said (moment-first s es accepted) (r .acts) in
       (r .last, o, b, beside-last b .many ∙ ap length (r .nothing), r .complete, r .events)
 
 module _ (s : List ℕ) (es : List Element) (accepted : Accepts s es) (rows : List ℕ) (said : Rows es rows) where
@@ -63,7 +63,7 @@ module _ (s : List ℕ) (es : List Element) (accepted : Accepts s es) (rows : Li
         to = q;
         beside = b;
         alike = stands-alike h (n .stands) ev (sym e ∙ n .same ∙ ap (stateOf q) i);
-        there = moment s es accepted D means rows said y r g h (n .begun) (e ∙ ap (stateOf r) (sym i));
+        there = moment s es accepted y r g h (n .begun) (e ∙ ap (stateOf r) (sym i));
       }
 
   -- Between tokens: reading has come to `at` (`Reaches`, `Stands` and `Ranged`: what the loop over a document's tokens keeps). All moments before were
@@ -72,7 +72,7 @@ module _ (s : List ℕ) (es : List Element) (accepted : Accepts s es) (rows : Li
       → (z : State) × Passes s es D d at z × Leads s es D rows nothingOpen fresh z o
   reaches-leads d at o ev g h r =
       let f = r .follows in
-      (f .state, f .passes, leads (moment-first s es accepted D means rows said) (passes-acts s es D d (f .passes)) o g h ev (f .same))
+      (f .state, f .passes, leads (moment-first s es accepted) (passes-acts s es D d (f .passes)) o g h ev (f .same))
 
   -- The outcome of a token that is not refused, by what the rules make of the state that the program has.
   outcome-got : (at : ℕ) (z : State) (o : Open) (r : Outcome) (ev : List Event) (q : State → Reading State) → short z ≡ stateOf o (z .events) → ((y : State) → shortly (q y) ≡ shortly (q (short y)))
