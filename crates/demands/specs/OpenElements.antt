@@ -4,7 +4,7 @@
 use Prim.Native.Nat.{ℕ, _≤_}
 use mathlib.Core.Path.{_≡_, sym, _∙_, ap, subst}
 use mathlib.Core.Bool.{true}
-use mathlib.Core.List.{List, _++_}
+use mathlib.Core.List.{List, [], _∷_, _++_}
 use native.Mathlib.Omega.{arith}
 use lib.ListN.{length}
 use contract.Lifetimes.{Lfts}
@@ -17,8 +17,9 @@ use Rattle.rules.specs.TypeFile.{Place, model, Element}
 use Rattle.rules.specs.Judge.{Accepts}
 use Rattle.rules.specs.Elements.{contentOf, hasModel}
 use Rattle.rules.specs.Decisions.{Token, Decisions, Means}
-use Rattle.rules.specs.Events.{Event}
+use Rattle.rules.specs.Events.{endWritten, endInferred, Event}
 use Rattle.rules.specs.Settling.{State, nothingOpen, takePlace, enter, fitting, isComplete, requiredPlace, takeToken, startElement, takeData, endElement}
+use Rattle.rules.specs.Settling as rules
 use Rattle.rules.specs.Acts.{Declared, Act, MarksMean, Passes, Few}
 use Rattle.rules.specs.Reader.{Reads}
 use Rattle.document_laws.specs.Decide.{decided}
@@ -47,7 +48,7 @@ use Rattle.closing.proofs.end_tag.Reads as end-tag-reads
 use Rattle.closing.proofs.finish as finish
 use Rattle.closing.proofs.finish.Reads as finish-reads
 use Rattle.moments.specs.Means.{done, Moment, Beside, Leads}
-use Rattle.moments.specs.Beside.{moment-first, moment-noted, moment-entered, moment-act, moment-took, required-kept}
+use Rattle.moments.specs.Beside.{moment-first, moment-noted, moment-parent, moment-ended, moment-entered, complete-kept, required-kept, moment-took, moment-act}
 use Rattle.moments.specs.Results.{passes-beside, document-beside, reaches-leads, settles-leads, data-leads, tagged-leads}
 use Rattle.moments.specs.Steps.{finished-beside}
 
@@ -137,7 +138,7 @@ pub take-required : (κs : Lfts 1) (a : ArgsD take.signature κs) (r : Open) (e 
     let place = a .1 .1 .0 in
     (z : State) → Moment es z o → place ≡ o .required → 1 ≤ place → Moment es (takePlace (requiredPlace s es D (z .current)) z) r
 take-required κs a r e made s es accepted D means said z m same some =
-    let kept = same ∙ sym (required-kept s es accepted D means (now (a .1 .0)) said z (a .0) m) in
+    let kept = same ∙ sym (required-kept s es accepted D means z (a .0) m) in
     subst (Moment es _) (sym (made ∙ ap (λ (p : ℕ). took (now (a .1 .0)) p (a .0)) kept))
     (moment-took s es accepted D means (now (a .1 .0)) said z (a .0) m (required (omega (arith, kept))))
 
@@ -149,6 +150,26 @@ pub start-moment : (κs : Lfts 1) (a : ArgsD start.signature κs) (r : Open) (e 
     (z : State) → Moment es z o → Declared es k → hasModel (contentOf es k) ≡ true → Moment es (enter k z) r
 start-moment κs a r e asked made s es accepted said z m declared has =
     subst (Moment es _) (sym made) (moment-entered s es accepted (now (a .1 .0)) said z (a .0) m (a .1 .1 .0) declared has (asked .1))
+
+-- `infer_end`: the method asks for the mark, so that the content is complete in the rules too. The parent u of the current element is the current one again,
+-- with us around it, and the end is noted. So it is of each end that a start tag, data, an end tag or the document's end infers.
+pub infer-end-moment : (κs : Lfts 0) (a : ArgsD infer-end.signature κs) (r : Open) (e : AtExit infer-end.ended κs) → infer-end-reads.Asked κs a → infer-end-reads.Learnt κs a r e
+    → (s : List ℕ) (es : List Element) → Accepts s es → (D : Decisions) → Means s es D → (z : State) → Moment es z (a .0) → (at : ℕ)
+    → (isComplete s es D (z .current) ≡ true)
+    × (u : rules.Open) × (us : List rules.Open) × (z .around ≡ u ∷ us)
+    × Moment es (record { current = u; around = us; events = z .events ++ endInferred (z .current .number) at ∷ [] }) r
+infer-end-moment κs a r e asked made s es accepted D means z m at =
+    let (u, us, parent) = moment-parent s es accepted z (a .0) m (asked .1) in
+    (complete-kept s es accepted D means z (a .0) m ∙ asked .2, u, us, parent, subst (Moment es _) (sym made) (moment-ended s es accepted z (a .0) m u us _ parent))
+
+-- `end`, of an end tag, likewise.
+pub end-moment : (κs : Lfts 0) (a : ArgsD end.signature κs) (r : Open) (e : AtExit end.ended κs) → end-reads.Asked κs a → end-reads.Learnt κs a r e
+    → (s : List ℕ) (es : List Element) → Accepts s es → (z : State) → Moment es z (a .0) → (at after : ℕ)
+    → (u : rules.Open) × (us : List rules.Open) × (z .around ≡ u ∷ us)
+    × Moment es (record { current = u; around = us; events = z .events ++ endWritten (z .current .number) at after ∷ [] }) r
+end-moment κs a r e asked made s es accepted z m at after =
+    let (u, us, parent) = moment-parent s es accepted z (a .0) m (asked .1) in
+    (u, us, parent, subst (Moment es _) (sym made) (moment-ended s es accepted z (a .0) m u us _ parent))
 
 -- To note events, which no method does, leaves a moment a moment.
 pub noted-moment : (s : List ℕ) (es : List Element) → Accepts s es → (z : State) (o : Open) → Moment es z o → (ev : List Event)

@@ -2,7 +2,7 @@
 use Prim.Native.Nat.{ℕ, _≤_, _<_}
 use mathlib.Core.Path.{_≡_, refl, sym, _∙_, ap, ap₂}
 use mathlib.Core.Bool.{true}
-use mathlib.Core.List.{List, _∷_}
+use mathlib.Core.List.{List, [], _∷_}
 use native.Mathlib.Omega.{arith}
 use lib.ListN.{length}
 use borrow.Author.Tests.{le-leb}
@@ -11,13 +11,13 @@ use Rattle.rules.specs.Judge.{Accepts}
 use Rattle.rules.specs.Elements.{contentOf, hasModel}
 use Rattle.rules.specs.Decisions.{Token, start, pcdata, Decisions, Means}
 use Rattle.rules.specs.Events.{Event}
-use Rattle.rules.specs.Settling.{State, nothingOpen, takePlace, enter, fitting, requiredPlace}
+use Rattle.rules.specs.Settling.{State, nothingOpen, takePlace, enter, fitting, isComplete, requiredPlace}
 use Rattle.rules.specs.Settling as rules
 use Rattle.rules.specs.Acts.{Declared, Act, starts, empties, infers, data-byte, infers-end, ends, Acts, Few}
 use Rattle.rules.specs.Acts as act
 use Rattle.rules_laws.specs.Within.{typeFile-count}
 use Rattle.model_sets.specs.Reach.{lastOr0}
-use Rattle.document_laws.specs.Decide.{requiredOf, decided, requiredOf-last}
+use Rattle.document_laws.specs.Decide.{isCompleteIn, requiredOf, decided, isCompleteIn-last, requiredOf-last}
 use Rattle.document_laws.specs.Laws.{accepted-decided}
 use Rattle.document_laws.specs.Chain.{inferable-may}
 use Rattle.document_laws.specs.Moves.{Answers, Chosen, fits, required}
@@ -51,6 +51,14 @@ module _ (s : List ℕ) (es : List Element) (accepted : Accepts s es) where
     moment-noted ev =
         moment _ o (m .ranged) (m .stands) (record { current = m .begun .current; around = m .begun .around }) (ap (λ (y : State). state (y .current) (y .around) ev) (m .same))
 
+    -- Where any are open, the current element has a parent in the rules too.
+    pub moment-parent : 1 ≤ o .count → (u : rules.Open) × (us : List rules.Open) × (z .around ≡ u ∷ us)
+    moment-parent some = by-around (z .around) refl
+      where
+        by-around : (vs : List rules.Open) → z .around ≡ vs → (u : rules.Open) × (us : List rules.Open) × (z .around ≡ u ∷ us)
+        by-around [] e = absurd (omega (arith, m .many, ap (λ (l : List rules.Open). length l) e))
+        by-around (u ∷ us) e = (u, us, e)
+
     -- The current element has ended.
     pub moment-ended : (u : rules.Open) (us : List rules.Open) (ev : List Event) → z .around ≡ u ∷ us → Moment es (state u us ev) (ended o)
     moment-ended u us ev e =
@@ -71,7 +79,7 @@ module _ (s : List ℕ) (es : List Element) (accepted : Accepts s es) where
         (ap (λ (y : State). state (standing k 0) (y .current ∷ y .around) (z .events)) (m .same)
         ∙ sym (ap (λ (us : List rules.Open). state (standing k 0) us (z .events)) (around-opening rows k o (m .ranged .whole) less)))
 
-module _ (s : List ℕ) (es : List Element) (accepted : Accepts s es) (D : Decisions) (means : Means s es D) (rows : List ℕ) (said : Rows es rows) where
+module _ (s : List ℕ) (es : List Element) (accepted : Accepts s es) (D : Decisions) (means : Means s es D) where
   module _ (z : State) (o : Open) (m : Moment es z o) where
     pub number-same : z .current .number ≡ o .element
     number-same = ap (λ (y : State). y .current .number) (m .same)
@@ -86,7 +94,14 @@ module _ (s : List ℕ) (es : List Element) (accepted : Accepts s es) (D : Decis
     last-same : lastOr0 (z .current .taken) ≡ o .place
     last-same = sym (last-placed (lastOr0 (z .current .taken))) ∙ ap (λ (y : State). lastOr0 (y .current .taken)) (m .same) ∙ last-placed (o .place)
 
-    -- The required place is the one that is kept.
+    -- Whether the content is complete, and the required place, are what is kept.
+    pub complete-kept : isComplete s es D (z .current) ≡ o .complete
+    complete-kept =
+        answers .complete
+        ∙ isCompleteIn-last (contentOf es (z .current .number)) (z .current .taken) (placed (o .place)) (last-same ∙ sym (last-placed (o .place)))
+        ∙ ap (λ (k : ℕ). isCompleteIn (contentOf es k) (placed (o .place))) number-same
+        ∙ sym (m .stands .marked .complete)
+
     pub required-kept : requiredPlace s es D (z .current) ≡ o .required
     required-kept =
         answers .required
@@ -97,6 +112,12 @@ module _ (s : List ℕ) (es : List Element) (accepted : Accepts s es) (D : Decis
     required-in : requiredPlace s es D (z .current) ≤ width es (o .element)
     required-in = omega (arith, required-kept, m .stands .marked .required, required-most s es accepted (o .element) (o .place) (stands-place (m .stands)))
 
+    chosen-in : {p : ℕ} → Chosen s es D (z .current) p → p ≤ width es (o .element)
+    chosen-in (fits t l) = fits-in t
+    chosen-in (required l) = required-in
+
+module _ (s : List ℕ) (es : List Element) (accepted : Accepts s es) (D : Decisions) (means : Means s es D) (rows : List ℕ) (said : Rows es rows) where
+  module _ (z : State) (o : Open) (m : Moment es z o) where
     module _ (p : ℕ) (l : p ≤ width es (o .element)) where
       small : p ≤ 96
       small = omega (arith, width-most s es accepted (o .element))
@@ -110,14 +131,10 @@ module _ (s : List ℕ) (es : List Element) (accepted : Accepts s es) (D : Decis
       pub took-same : short (takePlace p z) ≡ stateOf (took rows p o) (z .events)
       took-same = same-took o (z .events) z (m .same) rows p
 
-    chosen-in : {p : ℕ} → Chosen s es D (z .current) p → p ≤ width es (o .element)
-    chosen-in (fits t l) = fits-in t
-    chosen-in (required l) = required-in
-
     -- The place is taken as which a token fits, or the one that is required.
     pub moment-took : {p : ℕ} → Chosen s es D (z .current) p → Moment es (takePlace p z) (took rows p o)
     moment-took {p} c =
-        let l = chosen-in c in
+        let l = chosen-in s es accepted D means z o m c in
         moment s es accepted (takePlace p z) (took rows p o) (took-ranged p l) (took-stands p l) (begun-moves s es D D means means .taking (refl, m .begun) p c .1) (took-same p l)
 
   -- After an act in the rules, and what the methods make of it, there is a moment again.

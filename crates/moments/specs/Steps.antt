@@ -40,7 +40,7 @@ use Rattle.left_out_ends.specs.Until.{inferEnds, Until}
 use Rattle.closing.specs.Closed.{Finished}
 use Rattle.acts.specs.Readings.{Comes, leftOut, noted-acts, endDocument-acts}
 use Rattle.moments.specs.Means.{done, Moment, Beside, still, Leads}
-use Rattle.moments.specs.Beside.{number-same, fits-in, required-kept, took-stands, took-same, moment-act, acts-beside, beside-then, beside-last}
+use Rattle.moments.specs.Beside.{moment-parent, number-same, fits-in, required-kept, took-stands, took-same, moment-act, acts-beside, beside-then, beside-last}
 use Rattle.moments.specs.Results.{leads}
 
 -- The last places decide
@@ -111,17 +111,12 @@ module _ (s : List ℕ) (es : List Element) (accepted : Accepts s es) (rows : Li
 
   -- One end that step 3 infers is one act, after which as many methods lead to `ended`.
   end-does : (at : ℕ) (y : State) (o : Open) → Moment es y o → 1 ≤ o .count → mayEnd s es (D s es) (current o) (around o) ≡ true → (x : State) × (a : Act s es (D s es) y x) × Few x × (done s es (D s es) rows a o ≡ ended o)
-  end-does at y o n some may = by-around (y .around) refl
-    where
-      allowed : (isComplete s es (D s es) (current o) ≡ true) × (endO es (o .element) ≡ true)
-      allowed = may-end-so s es (D s es) (current o) (around o) may
-
-      by-around : (us : List rules.Open) → y .around ≡ us → (x : State) × (a : Act s es (D s es) y x) × Few x × (done s es (D s es) rows a o ≡ ended o)
-      by-around [] e = absurd (omega (arith, n .many, ap (λ (l : List rules.Open). length l) e))
-      by-around (u ∷ us) e =
-          let complete : isComplete s es (D s es) (y .current) ≡ true = complete-short s es (y .current) ∙ ap (λ (w : State). isComplete s es (D s es) (w .current)) (n .same) ∙ allowed .0 in
-          let omitted : endO es (y .current .number) ≡ true = ap (endO es) (number-same s es accepted (D s es) means rows said y o n) ∙ allowed .1 in
-          (_, infers-end u us at e complete omitted, omega (arith, n .many, n .ranged .few, ap (λ (l : List rules.Open). length l) e), refl)
+  end-does at y o n some may =
+      let allowed = may-end-so s es (D s es) (current o) (around o) may in
+      let (u, us, e) = moment-parent s es accepted y o n some in
+      let complete : isComplete s es (D s es) (y .current) ≡ true = complete-short s es (y .current) ∙ ap (λ (w : State). isComplete s es (D s es) (w .current)) (n .same) ∙ allowed .0 in
+      let omitted : endO es (y .current .number) ≡ true = ap (endO es) (number-same s es accepted (D s es) means y o n) ∙ allowed .1 in
+      (_, infers-end u us at e complete omitted, omega (arith, n .many, n .ranged .few, ap (λ (l : List rules.Open). length l) e), refl)
 
   ends-lead : {at : ℕ} {o₀ o : Open} {ev : List Event} → EndsTo s es at o₀ ev o → (z : State) → Moment es z o₀ → (y : State) × Beside s es (D s es) rows z o₀ y o
   ends-lead none z m = (z, still m)
@@ -143,10 +138,10 @@ module _ (s : List ℕ) (es : List Element) (accepted : Accepts s es) (rows : Li
       → (h : InfersStart rows places facts at n o numbers bytes r numbers′ bytes′) → 1 ≤ h .k → (z : State) → Moment es z o
       → (y : State) × (a : Act s es (D s es) z y) × (r ≡ done s es (D s es) rows a o)
   infers-start-does tables {at} {o = o} h some z m =
-      let kept = required-kept s es accepted (D s es) means rows said z o m in
+      let kept = required-kept s es accepted (D s es) means z o m in
       let same : inferable s es (D s es) (z .current) ≡ h .k =
       inferable-is s es (D s es) (z .current)
-      ∙ ap₂ (chosen s es) (number-same s es accepted (D s es) means rows said z o m) (kept ∙ m .stands .marked .required)
+      ∙ ap₂ (chosen s es) (number-same s es accepted (D s es) means z o m) (kept ∙ m .stands .marked .required)
       ∙ sym (inferable-is s es (D s es) (current o))
       ∙ sym (h .chosen s es tables (m .stands)) in
       (_, infers (h .k) at same some, h .opens ∙ ap (λ (p : ℕ). opening rows (h .k) (took rows p o)) (sym kept))
@@ -159,7 +154,7 @@ module _ (s : List ℕ) (es : List Element) (accepted : Accepts s es) (rows : Li
   places-leads tables {k = k} {at} {after} {o = o} {r = r} h most fine z m fits some =
       let p = h .p in
       let ev = z .events ++ h .events in
-      let inside = rw fits at (fits-in s es accepted (D s es) means rows said z o m (start (suc k))) in
+      let inside = rw fits at (fits-in s es accepted (D s es) means z o m (start (suc k))) in
       let notes = h .notes (λ e. omega arith) s es tables (took-stands s es accepted (D s es) means rows said z o m p inside) most in
       let (y, e, f) =
       shortly-got (noting es (suc k) at after (takePlace p z)) (stateOf (r .open) ev)
