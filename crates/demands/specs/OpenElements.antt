@@ -16,9 +16,9 @@ use Rattle.rules.specs.Walk.{Group}
 use Rattle.rules.specs.TypeFile.{Place, model, Element}
 use Rattle.rules.specs.Judge.{Accepts}
 use Rattle.rules.specs.Elements.{contentOf, hasModel}
-use Rattle.rules.specs.Decisions.{Token, Decisions, Means}
-use Rattle.rules.specs.Events.{endWritten, endInferred, Event}
-use Rattle.rules.specs.Settling.{State, nothingOpen, takePlace, enter, fitting, isComplete, requiredPlace, takeToken, startElement, takeData, endElement}
+use Rattle.rules.specs.Decisions.{Token, pcdata, Decisions, Means}
+use Rattle.rules.specs.Events.{endWritten, endInferred, Event, withData}
+use Rattle.rules.specs.Settling.{State, nothingOpen, takePlace, enter, fitting, isComplete, requiredPlace, inferable, takeToken, startElement, takeData, endElement}
 use Rattle.rules.specs.Settling as rules
 use Rattle.rules.specs.Acts.{Declared, Act, MarksMean, Passes, Few}
 use Rattle.rules.specs.Reader.{Reads}
@@ -41,6 +41,20 @@ use Rattle.open_elements.proofs.Open.infer_end as infer-end
 use Rattle.open_elements.proofs.Open.infer_end.Reads as infer-end-reads
 use Rattle.open_elements.proofs.Open.end as end
 use Rattle.open_elements.proofs.Open.end.Reads as end-reads
+use Rattle.left_out_ends.specs.Until.{inferEnds}
+use Rattle.left_out_ends.proofs.end_until as end-until
+use Rattle.left_out_ends.proofs.end_until.Reads as end-until-reads
+use Rattle.ways.specs.declared.Way.the-variants.{Taken}
+use Rattle.ways.specs.Means.{tokenOf}
+use Rattle.inferring.specs.declared.Stop.{Stop}
+use Rattle.inferring.specs.Inferring.{inferOne}
+use Rattle.inferring.proofs.ends as step-ends
+use Rattle.inferring.proofs.ends.Reads as step-ends-reads
+use Rattle.inferring.proofs.infer_start as infer-start
+use Rattle.inferring.proofs.infer_start.Reads as infer-start-reads
+use Rattle.placing.specs.Noting.{noting}
+use Rattle.placing.proofs.placed as place
+use Rattle.placing.proofs.placed.Reads as place-reads
 use Rattle.settling.proofs.token as token
 use Rattle.settling.proofs.token.Reads as token-reads
 use Rattle.closing.proofs.end_tag as end-tag
@@ -50,7 +64,7 @@ use Rattle.closing.proofs.finish.Reads as finish-reads
 use Rattle.moments.specs.Means.{done, Moment, Beside, Leads}
 use Rattle.moments.specs.Beside.{moment-first, moment-noted, moment-parent, moment-ended, moment-entered, complete-kept, required-kept, moment-took, moment-act}
 use Rattle.moments.specs.Results.{passes-beside, document-beside, reaches-leads, settles-leads, data-leads, tagged-leads}
-use Rattle.moments.specs.Steps.{finished-beside}
+use Rattle.moments.specs.Steps.{turns-lead, infers-start-does, places-leads, places-data, until-leads, finished-beside}
 
 -- Demand 1, "keeps between 0 and 24 elements open", and what is kept of them lies in the array of 24 entries.
 abbrev pub KeepsFew : Open → Type 0
@@ -235,3 +249,63 @@ pub within-end : (κs : Lfts 3) (a : ArgsD finish.signature κs) (r : Outcome) (
     r .number ≡ 0 → (z : State) → Moment es z o
     → (y : State) × (q : Open) × Beside s es (decided s es) rows z o y q × (q .count ≡ 0) × (isComplete s es (decided s es) (y .current) ≡ true) × (y .events ≡ z .events ++ h .brings .events)
 within-end κs a r e finished s es rows accepted said facts-say none z m = finished-beside s es accepted rows said facts-say finished none z m
+
+-- The steps within a token, "At every moment both must equal what 01's definition says of the places taken": each by the contract of the function that takes
+-- it, from the moment before it to the moment after it, though the token may still be refused later.
+
+-- Within a start tag of x, or data for 0, the ends that are inferred before it (`ends` of inferring): act by act they lead to just the open elements that are
+-- handed back.
+pub within-ends : (κs : Lfts 5) (a : ArgsD step-ends.signature κs) (r : Stop) (e : AtExit step-ends.ended κs) → step-ends-reads.Learnt κs a r e
+    → (s : List ℕ) (es : List Element) → Tables s es (now (a .0)) (now (a .1 .0)) (now (a .1 .1 .0))
+    → let o = a .1 .1 .1 .0 in
+    let x = a .1 .1 .1 .1 .0 in
+    x ≤ length es → (z : State) → Moment es z o → (y : State) × Beside s es (decided s es) (now (a .0)) z o y (r .open)
+within-ends κs a r e stops s es tables most z m = turns-lead s es (tables .accepted) (now (a .0)) (tables .rows-say) tables (stops .turns) most z m
+
+-- Each start that is inferred before it (`infer_start` of inferring), where the rules infer one: it is one act, after which there is a moment with the open
+-- elements that are handed back.
+pub within-inferred-start : (κs : Lfts 5) (a : ArgsD infer-start.signature κs) (r : Open) (e : AtExit infer-start.ended κs) → infer-start-reads.Asked κs a → infer-start-reads.Learnt κs a r e
+    → (s : List ℕ) (es : List Element) → Tables s es (now (a .0)) (now (a .1 .0)) (now (a .1 .1 .0))
+    → let o = a .1 .1 .1 .0 in
+    let at = a .1 .1 .1 .1 .0 in
+    (z : State) → Moment es z o → 1 ≤ inferable s es (decided s es) (z .current)
+    → Act s es (decided s es) z (inferOne s es (decided s es) at z) × Moment es (inferOne s es (decided s es) at z) r
+within-inferred-start κs a r e asked infers s es tables z m some = infers-start-does s es (tables .accepted) (now (a .0)) (tables .rows-say) tables infers (asked .1) z m some
+
+-- The place of a start tag of x (`placed` of placing), which is not refused there: the rules' state takes the place as which the tag fits and notes it, and
+-- one act leads there. What was found before is starts to infer, or the place as which the tag fits.
+pub within-place : (κs : Lfts 5) (a : ArgsD place.signature κs) (r : Outcome) (e : AtExit place.ended κs) → place-reads.Learnt κs a r e
+    → (s : List ℕ) (es : List Element) → Tables s es (now (a .0)) (now (a .1 .0)) (now (a .1 .1 .0))
+    → let o = a .1 .1 .1 .0 in
+    let found = a .1 .1 .1 .1 .0 in
+    let x = a .1 .1 .1 .1 .1 .0 in
+    let at = a .1 .1 .1 .1 .1 .1 .0 in
+    let after = a .1 .1 .1 .1 .1 .1 .1 .0 in
+    1 ≤ x → x ≤ length es → r .number ≡ 0 → (z : State) → Moment es z o
+    → ((p : ℕ) → found ≡ Taken p → p ≡ fitting s es (decided s es) (z .current) (tokenOf x))
+    → (y : State) × (noting es x at after (takeToken s es (decided s es) (tokenOf x) z) ≡ got y) × Leads s es (decided s es) (now (a .0)) z o y (r .open)
+within-place κs a r e places s es tables some most done z m right = places-leads s es (tables .accepted) (now (a .0)) (tables .rows-say) tables _ places some most done z m right
+
+-- The place of a run of data likewise: the act is that of its first byte.
+pub within-data-place : (κs : Lfts 5) (a : ArgsD place.signature κs) (r : Outcome) (e : AtExit place.ended κs) → place-reads.Learnt κs a r e
+    → (s : List ℕ) (es : List Element) → Tables s es (now (a .0)) (now (a .1 .0)) (now (a .1 .1 .0))
+    → let o = a .1 .1 .1 .0 in
+    let found = a .1 .1 .1 .1 .0 in
+    let x = a .1 .1 .1 .1 .1 .0 in
+    let at = a .1 .1 .1 .1 .1 .1 .0 in
+    x ≡ 0 → r .number ≡ 0 → (z : State) → Moment es z o
+    → ((p : ℕ) → found ≡ Taken p → p ≡ fitting s es (decided s es) (z .current) (tokenOf x))
+    → let y = takeToken s es (decided s es) pcdata z in
+    Leads s es (decided s es) (now (a .0)) z o (record { current = y .current; around = y .around; events = withData at (y .events) }) (r .open)
+within-data-place κs a r e places s es tables nothing done z m right = places-data s es (tables .accepted) (now (a .0)) (tables .rows-say) tables _ places nothing done z m right
+
+-- Within an end tag of x, or the document's end, the ends that are inferred until the current element is x or nothing is around it (`end_until` of
+-- left_out_ends), where none of them is refused. `infer-end-moment` has the moment after each.
+pub within-left-out-ends : (κs : Lfts 3) (a : ArgsD end-until.signature κs) (r : Outcome) (e : AtExit end-until.ended κs) → end-until-reads.Learnt κs a r e
+    → (s : List ℕ) (es : List Element) (rows : List ℕ) → Accepts s es → Rows es rows → Facts s es (now (a .0))
+    → let o = a .1 .0 in
+    let x = a .1 .1 .0 in
+    let at = a .1 .1 .1 .0 in
+    r .number ≡ 0 → (z : State) → Moment es z o
+    → (y : State) × (inferEnds s es (decided s es) x at (z .around) (z .current) (z .events) ≡ got y) × Leads s es (decided s es) rows z o y (r .open)
+within-left-out-ends κs a r e until s es rows accepted said facts-say done z m = until-leads s es accepted rows said facts-say until done z m
