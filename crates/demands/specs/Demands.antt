@@ -191,8 +191,8 @@ pub reading-exists : (s d : List ℕ) (es : List Element) → BothLegible s d �
     → (r : Reading (List Event)) × Reads s d es r × ((fs : List Element) (q : Reading (List Event)) → Reads s d fs q → (es ≡ fs) × (r ≡ q))
 reading-exists = reading-one
 
--- Demand 1, "keeps between 0 and 24 elements open": `Few` says that at most 24 stand around the current one, which is how many are open, since the outermost
--- of them is the document itself. So it is in every state that acts pass (after each start and end, written or inferred, and each data byte) from nothing
+-- Demand 1: 0 to 24 elements are open. `Few` says that at most 24 stand around the current one, which is how many are open, since the outermost of them is
+-- the document itself. So it is in every state that acts pass (after each start and end, written or inferred, and each data byte) from nothing
 -- open to any position that reading a document comes to between pieces, be it refused later or not. OpenElements says it of the program.
 pub few-open : (s d : List ℕ) (es : List Element) (r : Reading (List Event)) (x : Reads s d es r) (at : ℕ) (z : State) → Passes s es (x .decisions) d at z → Acts s es (x .decisions) Few nothingOpen z
 few-open s d es r x at z = passes-acts s es (x .decisions) d

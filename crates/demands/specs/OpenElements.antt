@@ -1,7 +1,7 @@
 -- The open elements of the program, at every step of settling and closing: demand 1, "keeps between 0 and 24 elements open", and paper 02, request four,
 -- "Store the mark, and the required place if there is one, with each open element. At every moment both must equal what 01's definition says of
 -- the places taken." The hypotheses are the contracts as they stand in the source, as on the page of the calls: `Asked` is what a function requires.
-use Prim.Native.Nat.{ℕ, _≤_}
+use Prim.Native.Nat.{ℕ, suc, _≤_}
 use mathlib.Core.Path.{_≡_, sym, _∙_, ap, subst}
 use mathlib.Core.Bool.{true}
 use mathlib.Core.List.{List, [], _∷_, _++_}
@@ -18,7 +18,7 @@ use Rattle.rules.specs.Judge.{Accepts}
 use Rattle.rules.specs.Elements.{contentOf, hasModel}
 use Rattle.rules.specs.Decisions.{Token, pcdata, Decisions, Means}
 use Rattle.rules.specs.Events.{endWritten, endInferred, Event, withData}
-use Rattle.rules.specs.Settling.{State, nothingOpen, takePlace, enter, fitting, isComplete, requiredPlace, inferable, takeToken, startElement, takeData, endElement}
+use Rattle.rules.specs.Settling.{State, nothingOpen, takePlace, enter, fitting, isComplete, requiredPlace, takeToken, startElement, takeData, endElement}
 use Rattle.rules.specs.Settling as rules
 use Rattle.rules.specs.Acts.{Declared, Act, MarksMean, Passes, Few}
 use Rattle.rules.specs.Reader.{Reads}
@@ -44,10 +44,10 @@ use Rattle.open_elements.proofs.Open.end.Reads as end-reads
 use Rattle.left_out_ends.specs.Until.{inferEnds}
 use Rattle.left_out_ends.proofs.end_until as end-until
 use Rattle.left_out_ends.proofs.end_until.Reads as end-until-reads
-use Rattle.ways.specs.declared.Way.the-variants.{Taken}
-use Rattle.ways.specs.Means.{tokenOf}
+use Rattle.ways.specs.declared.Way.the-variants.{Taken, Stuck}
+use Rattle.ways.specs.Means.{tokenOf, startsOf}
 use Rattle.inferring.specs.declared.Stop.{Stop}
-use Rattle.inferring.specs.Inferring.{inferOne}
+use Rattle.inferring.specs.Inferring.{inferOne, Infers}
 use Rattle.inferring.proofs.ends as step-ends
 use Rattle.inferring.proofs.ends.Reads as step-ends-reads
 use Rattle.inferring.proofs.infer_start as infer-start
@@ -64,7 +64,7 @@ use Rattle.closing.proofs.finish.Reads as finish-reads
 use Rattle.moments.specs.Means.{done, Moment, Beside, Leads}
 use Rattle.moments.specs.Beside.{moment-first, moment-noted, moment-parent, moment-ended, moment-entered, complete-kept, required-kept, moment-took, moment-act}
 use Rattle.moments.specs.Results.{passes-beside, document-beside, reaches-leads, settles-leads, data-leads, tagged-leads}
-use Rattle.moments.specs.Steps.{turns-lead, infers-start-does, places-leads, places-data, until-leads, finished-beside}
+use Rattle.moments.specs.Steps.{stops-lead, infers-start-does, places-leads, places-data, until-leads, finished-beside}
 
 -- Demand 1, "keeps between 0 and 24 elements open", and what is kept of them lies in the array of 24 entries.
 abbrev pub KeepsFew : Open → Type 0
@@ -254,26 +254,33 @@ within-end κs a r e finished s es rows accepted said facts-say none z m = finis
 -- it, from the moment before it to the moment after it, though the token may still be refused later.
 
 -- Within a start tag of x, or data for 0, the ends that are inferred before it (`ends` of inferring): act by act they lead to just the open elements that are
--- handed back.
+-- handed back. Where the token is not stuck there, so many starts can be inferred one in the other as were found, none if the token fits, and it fits in the
+-- last; a place that was found is the one as which the token fits.
 pub within-ends : (κs : Lfts 5) (a : ArgsD step-ends.signature κs) (r : Stop) (e : AtExit step-ends.ended κs) → step-ends-reads.Learnt κs a r e
     → (s : List ℕ) (es : List Element) → Tables s es (now (a .0)) (now (a .1 .0)) (now (a .1 .1 .0))
     → let o = a .1 .1 .1 .0 in
     let x = a .1 .1 .1 .1 .0 in
-    x ≤ length es → (z : State) → Moment es z o → (y : State) × Beside s es (decided s es) (now (a .0)) z o y (r .open)
-within-ends κs a r e stops s es tables most z m = turns-lead s es (tables .accepted) (now (a .0)) (tables .rows-say) tables (stops .turns) most z m
+    x ≤ length es → (z : State) → Moment es z o
+    → (y : State) × Beside s es (decided s es) (now (a .0)) z o y (r .open)
+    × ((r .found ≡ Stuck → ⊥) → Infers s es (decided s es) (tokenOf x) (startsOf (r .found)) (y .current))
+    × ((p : ℕ) → r .found ≡ Taken p → p ≡ fitting s es (decided s es) (y .current) (tokenOf x))
+within-ends κs a r e stops s es tables most z m = stops-lead s es (tables .accepted) (now (a .0)) (tables .rows-say) tables stops most z m
 
--- Each start that is inferred before it (`infer_start` of inferring), where the rules infer one: it is one act, after which there is a moment with the open
--- elements that are handed back.
+-- Each start that is inferred before it (`infer_start` of inferring), where one or more are left to infer: it is one act, after which there is a moment with
+-- the open elements that are handed back, and one start fewer is left.
 pub within-inferred-start : (κs : Lfts 5) (a : ArgsD infer-start.signature κs) (r : Open) (e : AtExit infer-start.ended κs) → infer-start-reads.Asked κs a → infer-start-reads.Learnt κs a r e
     → (s : List ℕ) (es : List Element) → Tables s es (now (a .0)) (now (a .1 .0)) (now (a .1 .1 .0))
     → let o = a .1 .1 .1 .0 in
     let at = a .1 .1 .1 .1 .0 in
-    (z : State) → Moment es z o → 1 ≤ inferable s es (decided s es) (z .current)
-    → Act s es (decided s es) z (inferOne s es (decided s es) at z) × Moment es (inferOne s es (decided s es) at z) r
-within-inferred-start κs a r e asked infers s es tables z m some = infers-start-does s es (tables .accepted) (now (a .0)) (tables .rows-say) tables infers (asked .1) z m some
+    (z : State) → Moment es z o → (t : Token) (left : ℕ) → Infers s es (decided s es) t (suc left) (z .current)
+    → let y = inferOne s es (decided s es) at z in
+    Act s es (decided s es) z y × Moment es y r × Infers s es (decided s es) t left (y .current)
+within-inferred-start κs a r e asked infers s es tables z m t left (some, rest) =
+    let (does, there) = infers-start-does s es (tables .accepted) (now (a .0)) (tables .rows-say) tables infers (asked .1) z m some in
+    (does, there, rest)
 
 -- The place of a start tag of x (`placed` of placing), which is not refused there: the rules' state takes the place as which the tag fits and notes it, and
--- one act leads there. What was found before is starts to infer, or the place as which the tag fits.
+-- one act leads there. What was found before (`within-ends`) is how many starts to infer, or the place as which the tag fits.
 pub within-place : (κs : Lfts 5) (a : ArgsD place.signature κs) (r : Outcome) (e : AtExit place.ended κs) → place-reads.Learnt κs a r e
     → (s : List ℕ) (es : List Element) → Tables s es (now (a .0)) (now (a .1 .0)) (now (a .1 .1 .0))
     → let o = a .1 .1 .1 .0 in

@@ -12,9 +12,9 @@ use Rattle.rules.specs.Reading.{Reading, refused, got, andThen}
 use Rattle.rules.specs.TypeFile.{Element}
 use Rattle.rules.specs.Judge.{Accepts}
 use Rattle.rules.specs.Elements.{contentOf, endO}
-use Rattle.rules.specs.Decisions.{start, pcdata, Decisions, Means}
+use Rattle.rules.specs.Decisions.{Token, start, pcdata, Decisions, Means}
 use Rattle.rules.specs.Events.{Event, endInferred, dataRun, withData}
-use Rattle.rules.specs.Settling.{State, takePlace, fitting, isComplete, inferable, takeToken, endLeftOut, endFrom, endDocument}
+use Rattle.rules.specs.Settling.{State, takePlace, fitting, isComplete, inferable, chain, takeToken, endLeftOut, endFrom, endDocument}
 use Rattle.rules.specs.Settling as rules
 use Rattle.rules.specs.Acts.{Act, infers, data-byte, infers-end, Acts, Few}
 use Rattle.rules.specs.Acts as act
@@ -23,7 +23,7 @@ use Rattle.model_sets.specs.Bits.{and-left, and-right}
 use Rattle.model_sets.specs.Reach.{lastOr0}
 use Rattle.document_laws.specs.Decide.{decided, isCompleteIn-last}
 use Rattle.document_laws.specs.Laws.{accepted-decided}
-use Rattle.document_laws.specs.Chain.{chosen, inferable-is}
+use Rattle.document_laws.specs.Chain.{chosen, inferable-is, chain-step, chain-leads}
 use Rattle.document_laws.specs.Moves.{withDatum}
 use Rattle.last_places.specs.Last.{lastOnly, allLast, short, shortly}
 use Rattle.last_places.specs.Short.{state, last-placed, lastOnly-twice, short-short}
@@ -32,13 +32,15 @@ use Rattle.type_tables.specs.Means.{width, Rows, Facts, Tables}
 use Rattle.open_elements.specs.declared.Open.{Open}
 use Rattle.open_elements.specs.declared.Outcome.{Outcome}
 use Rattle.open_elements.specs.Means.{current, around, stateOf, took, opening, ended, outcomeOf, closedOf}
-use Rattle.open_elements.specs.Laws.{stateOf-short}
+use Rattle.open_elements.specs.Laws.{stands-requires, stateOf-short}
 use Rattle.ways.specs.declared.Way.{Way}
 use Rattle.ways.specs.declared.Way.the-variants.{Taken, Inferred, Stuck}
-use Rattle.ways.specs.Means.{tokenOf, tokenOf-number, tokenOf-declared, mayEnd, placeOf}
+use Rattle.ways.specs.Means.{tokenOf, tokenOf-number, tokenOf-declared, wayOf, mayEnd, startsOf, placeOf}
 use Rattle.placing.specs.Noting.{noting, Notes, Places}
 use Rattle.placing.specs.Limits.{limited-few, same-fits}
-use Rattle.inferring.specs.Inferring.{EndsTo, none, more, Turns, inferOne, InfersStart}
+use Rattle.inferring.specs.Inferring.{EndsTo, none, more, Turns, Stops, inferOne, Infers, InfersStart}
+use Rattle.inferring.specs.declared.Stop.{Stop}
+use Rattle.inferring.specs.Starts.{chain-infers}
 use Rattle.left_out_ends.specs.Until.{inferEnds, Until}
 use Rattle.closing.specs.Closed.{Finished}
 use Rattle.acts.specs.Readings.{Comes, leftOut, noted-acts, endDocument-acts}
@@ -106,6 +108,24 @@ may-end-so : (s : List ℕ) (es : List Element) (D : Decisions) (o : rules.Open)
 may-end-so s es D o [] e = absurd (false≢true e)
 may-end-so s es D o (u ∷ us) e = (and-left (isComplete s es D o) _ e, and-left (endO es (o .number)) _ (and-right (isComplete s es D o) _ e))
 
+module _ (s : List ℕ) (es : List Element) (t : Token) where
+  -- The chain goes by the start that is to be inferred.
+  chain-same : (n : ℕ) (o v : rules.Open) → inferable s es (D s es) o ≡ inferable s es (D s es) v → chain s es (D s es) n t o ≡ chain s es (D s es) n t v
+  unfolding chain
+  chain-same zero o v e = refl
+  chain-same (suc n) o v e = chain-step s es (D s es) t n o _ e ∙ sym (chain-step s es (D s es) t n v _ refl)
+
+  way-infers : (o : rules.Open) (ks : List ℕ) → chain s es (D s es) (length es) t o ≡ ks → (f : ℕ) → fitting s es (D s es) o t ≡ f → (wayOf f (length ks) ≡ Stuck → ⊥)
+      → Infers s es (D s es) t (startsOf (wayOf f (length ks))) o
+  way-infers o [] e zero i n = absurd (n refl)
+  way-infers o (k ∷ ks) e zero i n = chain-infers s es (D s es) t (k ∷ ks) o (chain-leads s es (D s es) t (length es) o k ks e)
+  way-infers o ks e (suc f) i n = omega (arith, i)
+
+way-taken : (f n p : ℕ) → wayOf f n ≡ Taken p → p ≡ f
+way-taken zero zero p e = absurd (let z : _≡_ {A = ℕ} 0 1 = cc in omega arith)
+way-taken zero (suc n) p e = absurd (let z : _≡_ {A = ℕ} 0 1 = cc in omega arith)
+way-taken (suc f) n p e = let i : suc f ≡ p = cc in sym i
+
 -- The place that is taken by what was found is the one as which the token fits, where no other was found.
 place-found : (f : ℕ) (w : Way) (p : ℕ) → p ≡ placeOf f w → (p ≡ 0 → ⊥) → ((q : ℕ) → w ≡ Taken q → q ≡ f) → p ≡ f
 place-found f (Taken q) p e n h = e ∙ h q refl
@@ -141,10 +161,40 @@ module _ (s : List ℕ) (es : List Element) (accepted : Accepts s es) (rows : Li
 
   -- The ends of step 3 (`ends` of inferring, whose contract has `Turns`): acts lead to just the open elements q that it gives, though the token may still
   -- be refused there.
-  pub turns-lead : {places facts : List ℕ} → Tables s es rows places facts → {x at n : ℕ} {o : Open} {numbers bytes : List ℕ} {q : Open} {k : ℕ} {numbers′ bytes′ : List ℕ}
+  turns-lead : {places facts : List ℕ} → Tables s es rows places facts → {x at n : ℕ} {o : Open} {numbers bytes : List ℕ} {q : Open} {k : ℕ} {numbers′ bytes′ : List ℕ}
       → Turns rows places facts x at n o numbers bytes q k numbers′ bytes′ → x ≤ length es → (z : State) → Moment es z o
       → (y : State) × Beside s es (D s es) rows z o y q
   turns-lead tables {x} h most z m = ends-lead (h .comes s es tables (m .stands) (tokenOf x) (tokenOf-number x) (tokenOf-declared es x most) .ends) z m
+
+  -- At a moment the rules infer the same start in the current element as by its last place.
+  inferable-same : (z : State) (o : Open) → Moment es z o → inferable s es (D s es) (z .current) ≡ inferable s es (D s es) (current o)
+  inferable-same z o m =
+      inferable-is s es (D s es) (z .current)
+      ∙ ap₂ (chosen s es) (number-same s es accepted (D s es) means z o m) (required-kept s es accepted (D s es) means z o m ∙ m .stands .marked .required)
+      ∙ sym (inferable-is s es (D s es) (current o))
+
+  -- What `ends` of inferring gives where it stops: acts lead to just its open elements, and what it found is what the rules say of the token there. Where it
+  -- is not stuck, so many starts can be inferred one in the other, and the token fits in the last; a place that was found is the one as which the token fits.
+  pub stops-lead : {places facts : List ℕ} → Tables s es rows places facts → {x at n : ℕ} {o : Open} {numbers bytes : List ℕ} {r : Stop} {numbers′ bytes′ : List ℕ}
+      → Stops rows places facts x at n o numbers bytes r numbers′ bytes′ → x ≤ length es → (z : State) → Moment es z o
+      → (y : State) × Beside s es (D s es) rows z o y (r .open)
+      × ((r .found ≡ Stuck → ⊥) → Infers s es (D s es) (tokenOf x) (startsOf (r .found)) (y .current))
+      × ((p : ℕ) → r .found ≡ Taken p → p ≡ fitting s es (D s es) (y .current) (tokenOf x))
+  stops-lead tables {x} {r = r} h most z m =
+      let (y, b) = turns-lead tables (h .turns) most z m in
+      let n = beside-last b in
+      let t = tokenOf x in
+      let q = r .open in
+      let f = fitting s es (D s es) (y .current) t in
+      let ks = chain s es (D s es) (length es) t (y .current) in
+      let way : r .found ≡ wayOf f (length ks) =
+      h .finds s es tables (stands-requires (n .stands)) t (tokenOf-number x) (tokenOf-declared es x most)
+      ∙ ap₂ (λ (g : ℕ) (js : List ℕ). wayOf g (length js)) (sym (same-fits q (y .events) y (n .same) s es t)) (sym (chain-same s es t (length es) (y .current) (current q) (inferable-same y q n))) in (
+        y,
+        b,
+        λ i. subst (λ (w : Way). Infers s es (D s es) t (startsOf w) (y .current)) (sym way) (way-infers s es t (y .current) ks refl f refl (λ e. i (way ∙ e))),
+        λ p e. way-taken f (length ks) p (sym way ∙ e),
+      )
 
   -- One start that is inferred (`infer_start` of inferring) is one act, where there is one to infer.
   pub infers-start-does : {places facts : List ℕ} → Tables s es rows places facts → {at n : ℕ} {o : Open} {numbers bytes : List ℕ} {r : Open} {numbers′ bytes′ : List ℕ}
@@ -152,11 +202,7 @@ module _ (s : List ℕ) (es : List Element) (accepted : Accepts s es) (rows : Li
       → Act s es (D s es) z (inferOne s es (D s es) at z) × Moment es (inferOne s es (D s es) at z) r
   infers-start-does tables {at} {o = o} h less z m some =
       let kept = required-kept s es accepted (D s es) means z o m in
-      let same : inferable s es (D s es) (z .current) ≡ h .k =
-      inferable-is s es (D s es) (z .current)
-      ∙ ap₂ (chosen s es) (number-same s es accepted (D s es) means z o m) (kept ∙ m .stands .marked .required)
-      ∙ sym (inferable-is s es (D s es) (current o))
-      ∙ sym (h .chosen s es tables (m .stands)) in
+      let same : inferable s es (D s es) (z .current) ≡ h .k = inferable-same z o m ∙ sym (h .chosen s es tables (m .stands)) in
       let a : Act s es (D s es) z (inferOne s es (D s es) at z) = infers (inferable s es (D s es) (z .current)) at refl some in
       let opens = h .opens ∙ ap₂ (λ (k p : ℕ). opening rows k (took rows p o)) (sym same) (sym kept) in
       (a, subst (Moment es _) (sym opens) (moment-act s es accepted (D s es) means rows said m a (omega (arith, m .many))))
