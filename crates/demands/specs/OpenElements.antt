@@ -279,8 +279,8 @@ within-inferred-start κs a r e asked infers s es tables z m t left (some, rest)
     let (does, there) = infers-start-does s es (tables .accepted) (now (a .0)) (tables .rows-say) tables infers (asked .1) z m some in
     (does, there, rest)
 
--- The place of a start tag of x (`placed` of placing), which is not refused there: the rules' state takes the place as which the tag fits and notes it, and
--- one act leads there. What was found before (`within-ends`) is how many starts to infer, or the place as which the tag fits.
+-- The place of a start tag of x (`placed` of placing), which is not refused there: in the rules' state the place is taken as which the tag fits, and the tag is
+-- noted; acts lead there, and what is handed back is at that moment. What was found before (`within-ends`) is how many starts to infer, or that place.
 pub within-place : (κs : Lfts 5) (a : ArgsD place.signature κs) (r : Outcome) (e : AtExit place.ended κs) → place-reads.Learnt κs a r e
     → (s : List ℕ) (es : List Element) → Tables s es (now (a .0)) (now (a .1 .0)) (now (a .1 .1 .0))
     → let o = a .1 .1 .1 .0 in
@@ -293,7 +293,7 @@ pub within-place : (κs : Lfts 5) (a : ArgsD place.signature κs) (r : Outcome) 
     → (y : State) × (noting es x at after (takeToken s es (decided s es) (tokenOf x) z) ≡ got y) × Leads s es (decided s es) (now (a .0)) z o y (r .open)
 within-place κs a r e places s es tables some most done z m right = places-leads s es (tables .accepted) (now (a .0)) (tables .rows-say) tables _ places some most done z m right
 
--- The place of a run of data likewise: the act is that of its first byte.
+-- The place of a run of data likewise: the rules' state is the one after its first byte. Each further byte takes the same place again.
 pub within-data-place : (κs : Lfts 5) (a : ArgsD place.signature κs) (r : Outcome) (e : AtExit place.ended κs) → place-reads.Learnt κs a r e
     → (s : List ℕ) (es : List Element) → Tables s es (now (a .0)) (now (a .1 .0)) (now (a .1 .1 .0))
     → let o = a .1 .1 .1 .0 in
