@@ -1,19 +1,21 @@
 -- Acts one after another: how they are put together, and what stays so from act to act.
 use Prim.Native.Nat.{ℕ}
-use mathlib.Core.Path.{refl, subst}
+use mathlib.Core.Path.{_≡_, subst}
 use mathlib.Core.List.{List, _∷_}
-use borrow.Author.Tests.{le-leb}
 use Rattle.rules.specs.TypeFile.{Element}
-use Rattle.rules.specs.Decisions.{start, pcdata, Decisions, Means}
+use Rattle.rules.specs.Decisions.{Decisions}
+use Rattle.rules.specs.Events.{Event}
 use Rattle.rules.specs.Settling.{Open, State}
-use Rattle.rules.specs.Acts.{Act, starts, empties, infers, data-byte, infers-end, ends, Acts, still, next}
+use Rattle.rules.specs.Acts.{Act, Acts, still, next}
 use Rattle.rules_laws.specs.In.{All, more}
-use Rattle.document_laws.specs.Chain.{inferable-may}
-use Rattle.document_laws.specs.Moves.{fits, required}
-use Rattle.document_laws.specs.Same.{Begun, AllBegun, begun-moves}
+use Rattle.document_laws.specs.Same.{Begun, AllBegun}
 
 parts : {es : List Element} {u : Open} {us : List Open} → All (Begun es) (u ∷ us) → Begun es u × All (Begun es) us
 parts (more p q) = (p, q)
+
+-- Where the places taken begin walks in each open element, they do so in those that are left where the current one has ended.
+pub ended-begun : {es : List Element} {z : State} (u : Open) (us : List Open) (ev : List Event) → z .around ≡ u ∷ us → AllBegun es z → AllBegun es (record { current = u; around = us; events = ev })
+ended-begun {es} u us ev e b = let (p, q) = parts (subst (All (Begun es)) e (b .around)) in record { current = p; around = q }
 
 module _ {s : List ℕ} {es : List Element} {D : Decisions} where
   module _ {P : State → Type 0} where
@@ -39,23 +41,3 @@ module _ {s : List ℕ} {es : List Element} {D : Decisions} where
     pub acts-keep : {Q : State → Type 0} → ((z y : State) → Act s es D z y → Q z → Q y) → {z y : State} → Q z → Acts s es D P z y → Acts s es D (λ (x : State). P x × Q x) z y
     acts-keep f q (still p) = still (p, q)
     acts-keep f {z} q (next {y = y} p a r) = next (p, q) a (acts-keep f (f z y a q) r)
-
-  -- In each open element the places taken begin a walk: every act keeps this, by decisions that mean the walks.
-  pub act-begun : Means s es D → (z y : State) → Act s es D z y → AllBegun es z → AllBegun es y
-  act-begun m z y (starts k at after d f h) b =
-      let moves = begun-moves s es D D m m in
-      let c = moves .enter (moves .taking (refl, b) _ (fits (start k) f)) k h .1 in
-      record { current = c .current; around = c .around }
-  act-begun m z y (empties k at after d f h l) b =
-      let c = begun-moves s es D D m m .taking (refl, b) _ (fits (start k) f) .1 in
-      record { current = c .current; around = c .around }
-  act-begun m z y (infers k at e l) b =
-      let moves = begun-moves s es D D m m in
-      let i = inferable-may s es D (z .current) (rw e (le-leb 1 k l)) in
-      let c = moves .enter (moves .taking (refl, b) _ (required (i .place))) k (rw e at (i .model)) .1 in
-      record { current = c .current; around = c .around }
-  act-begun m z y (data-byte at f) b =
-      let c = begun-moves s es D D m m .taking (refl, b) _ (fits pcdata f) .1 in
-      record { current = c .current; around = c .around }
-  act-begun m z y (infers-end u us at e c o) b = let (p, q) = parts (subst (All (Begun es)) e (b .around)) in record { current = p; around = q }
-  act-begun m z y (ends u us at after e c) b = let (p, q) = parts (subst (All (Begun es)) e (b .around)) in record { current = p; around = q }

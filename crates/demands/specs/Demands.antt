@@ -5,7 +5,7 @@
 use Prim.Native.Nat.{ℕ, _*_, _<_, _≤_}
 use mathlib.Core.Path.{_≡_}
 use mathlib.Core.Logic.{_↔_}
-use mathlib.Core.List.{List}
+use mathlib.Core.List.{List, []}
 use lib.ListN.{length}
 use contract.Lifetimes.{Lfts}
 use denote.Ref.{now}
@@ -22,7 +22,7 @@ use Rattle.rules.specs.Settling.{State, nothingOpen}
 use Rattle.rules.specs.Acts.{Acts, Passes, Few}
 use Rattle.rules.specs.Reader.{BothLegible, Reads, RefusesBoth, ReadAs}
 use Rattle.rules.specs.Calls.{answerNumbers}
-use Rattle.acts.specs.Readings.{passes-acts}
+use Rattle.acts.specs.Readings.{passes-acts, document-acts}
 use Rattle.demands.specs.Words.{Refusal, Acceptance, ModelOf, SomeAmbiguous, NamesFirst, NamesDecide, ReaderRefusal, ReaderAcceptance, SameVerdict}
 use Rattle.answer_laws.specs.Reader.{given-one, reading-one}
 use Rattle.demands.specs.Exists.{judged-some, read-some}
@@ -191,10 +191,18 @@ pub reading-exists : (s d : List ℕ) (es : List Element) → BothLegible s d �
     → (r : Reading (List Event)) × Reads s d es r × ((fs : List Element) (q : Reading (List Event)) → Reads s d fs q → (es ≡ fs) × (r ≡ q))
 reading-exists = reading-one
 
--- Demand 1: 0 to 24 elements are open (`Few`: as many as stand around the current one) in every state that reading a document passes, within each token
--- too: after each start and end, written or inferred. OpenElements says it of the program.
+-- Demand 1: 0 to 24 elements are open. `Few` says that at most 24 stand around the current one, which is how many are open, since the outermost of them is
+-- the document itself. So it is in every state that acts pass (after each start and end, written or inferred, and each data byte) from nothing
+-- open to any position that reading a document comes to between pieces, be it refused later or not. OpenElements says it of the program.
 pub few-open : (s d : List ℕ) (es : List Element) (r : Reading (List Event)) (x : Reads s d es r) (at : ℕ) (z : State) → Passes s es (x .decisions) d at z → Acts s es (x .decisions) Few nothingOpen z
 few-open s d es r x at z = passes-acts s es (x .decisions) d
+
+-- So it is in every state that acts pass up to the last one of a document that is read to its end, the ends that are inferred at the document's end among
+-- them: there nothing is open any more.
+pub few-open-read : (s d : List ℕ) (es : List Element) (ev : List Event) (x : Reads s d es (got ev)) → (z : State) × Acts s es (x .decisions) Few nothingOpen z × (z .around ≡ []) × (z .events ≡ ev)
+few-open-read s d es ev x =
+    let over = document-acts s es (x .decisions) d ev (x .reading) in
+    (over .last, over .acts, over .nothing, over .events)
 
 -- Demand 3 by pairs at fault: a model is ambiguous exactly if it has one; of a model that was read, both its places are places of the model.
 pub pair-exactly : (s : List ℕ) (g : Group) (ps : List Place) → Ambiguous (samePlace s ps) g ↔ ((p : ℕ) × (q : ℕ) × PairAtFault (samePlace s ps) g p q)

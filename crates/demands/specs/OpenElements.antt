@@ -1,10 +1,11 @@
 -- The open elements of the program, at every step of settling and closing: demand 1, "keeps between 0 and 24 elements open", and paper 02, request four,
 -- "Store the mark, and the required place if there is one, with each open element. At every moment both must equal what 01's definition says of
 -- the places taken." The hypotheses are the contracts as they stand in the source, as on the page of the calls: `Asked` is what a function requires.
-use Prim.Native.Nat.{ℕ, _≤_}
-use mathlib.Core.Path.{_≡_, sym, subst}
+use Prim.Native.Nat.{ℕ, suc, _≤_}
+use mathlib.Core.Path.{_≡_, sym, _∙_, ap, subst}
 use mathlib.Core.Bool.{true}
-use mathlib.Core.List.{List, _++_}
+use mathlib.Core.List.{List, [], _∷_, _++_}
+use native.Mathlib.Omega.{arith}
 use lib.ListN.{length}
 use contract.Lifetimes.{Lfts}
 use denote.Ref.{now}
@@ -14,18 +15,20 @@ use Rattle.rules.specs.Reading.{Reading, got}
 use Rattle.rules.specs.Walk.{Group}
 use Rattle.rules.specs.TypeFile.{Place, model, Element}
 use Rattle.rules.specs.Judge.{Accepts}
-use Rattle.rules.specs.Elements.{contentOf}
-use Rattle.rules.specs.Decisions.{Decisions, Means}
-use Rattle.rules.specs.Events.{Event}
-use Rattle.rules.specs.Settling.{State, nothingOpen, isComplete, startElement, takeData, endElement}
-use Rattle.rules.specs.Acts.{Act, MarksMean, Passes, Few}
+use Rattle.rules.specs.Elements.{contentOf, hasModel}
+use Rattle.rules.specs.Decisions.{Token, pcdata, Decisions, Means}
+use Rattle.rules.specs.Events.{endWritten, endInferred, Event, withData}
+use Rattle.rules.specs.Settling.{State, nothingOpen, takePlace, enter, fitting, isComplete, requiredPlace, takeToken, startElement, takeData, endElement}
+use Rattle.rules.specs.Settling as rules
+use Rattle.rules.specs.Acts.{Declared, Act, MarksMean, Passes, Few}
 use Rattle.rules.specs.Reader.{Reads}
 use Rattle.document_laws.specs.Decide.{decided}
+use Rattle.document_laws.specs.Moves.{fits, required}
 use Rattle.last_places.specs.Turns.{Reaches}
 use Rattle.type_tables.specs.Means.{Rows, Facts, Tables}
 use Rattle.open_elements.specs.declared.Open.{Open}
 use Rattle.open_elements.specs.declared.Outcome.{Outcome}
-use Rattle.open_elements.specs.Means.{stateOf, fresh, Ranged, Stands}
+use Rattle.open_elements.specs.Means.{stateOf, fresh, took, Ranged, Stands}
 use Rattle.open_elements.specs.Marks.{AllSay}
 use Rattle.open_elements.specs.Laws.{ranged-fresh, ranged-took, ranged-opening, ranged-ended}
 use Rattle.open_elements.proofs.Open.new as new
@@ -38,6 +41,20 @@ use Rattle.open_elements.proofs.Open.infer_end as infer-end
 use Rattle.open_elements.proofs.Open.infer_end.Reads as infer-end-reads
 use Rattle.open_elements.proofs.Open.end as end
 use Rattle.open_elements.proofs.Open.end.Reads as end-reads
+use Rattle.left_out_ends.specs.Until.{inferEnds}
+use Rattle.left_out_ends.proofs.end_until as end-until
+use Rattle.left_out_ends.proofs.end_until.Reads as end-until-reads
+use Rattle.ways.specs.declared.Way.the-variants.{Taken, Stuck}
+use Rattle.ways.specs.Means.{tokenOf, startsOf}
+use Rattle.inferring.specs.declared.Stop.{Stop}
+use Rattle.inferring.specs.Inferring.{inferOne, Infers}
+use Rattle.inferring.proofs.ends as step-ends
+use Rattle.inferring.proofs.ends.Reads as step-ends-reads
+use Rattle.inferring.proofs.infer_start as infer-start
+use Rattle.inferring.proofs.infer_start.Reads as infer-start-reads
+use Rattle.placing.specs.Noting.{noting}
+use Rattle.placing.proofs.placed as place
+use Rattle.placing.proofs.placed.Reads as place-reads
 use Rattle.settling.proofs.token as token
 use Rattle.settling.proofs.token.Reads as token-reads
 use Rattle.closing.proofs.end_tag as end-tag
@@ -45,9 +62,9 @@ use Rattle.closing.proofs.end_tag.Reads as end-tag-reads
 use Rattle.closing.proofs.finish as finish
 use Rattle.closing.proofs.finish.Reads as finish-reads
 use Rattle.moments.specs.Means.{done, Moment, Beside, Leads}
-use Rattle.moments.specs.Beside.{moment-first, moment-act}
+use Rattle.moments.specs.Beside.{moment-first, moment-noted, moment-parent, moment-ended, moment-entered, complete-kept, required-kept, moment-took, moment-act}
 use Rattle.moments.specs.Results.{passes-beside, document-beside, reaches-leads, settles-leads, data-leads, tagged-leads}
-use Rattle.moments.specs.Steps.{finished-beside}
+use Rattle.moments.specs.Steps.{stops-lead, infers-start-does, places-leads, places-data, until-leads, finished-beside}
 
 -- Demand 1, "keeps between 0 and 24 elements open", and what is kept of them lies in the array of 24 entries.
 abbrev pub KeepsFew : Open → Type 0
@@ -101,12 +118,77 @@ moment-marks es z o m = (m .marks .current .element, λ g ps n e. m .marks .curr
 pub moment-marks-around : (es : List Element) (z : State) (o : Open) → Moment es z o → AllSay es (o .around) (o .count) (z .around)
 moment-marks-around es z o m = m .marks .around
 
-module _ (s : List ℕ) (es : List Element) (accepted : Accepts s es) (D : Decisions) (means : Means s es D) (rows : List ℕ) (said : Rows es rows) where
-  pub first-moment : Moment es nothingOpen fresh
-  first-moment = moment-first s es accepted D means rows said
+pub first-moment : (s : List ℕ) (es : List Element) → Accepts s es → Moment es nothingOpen fresh
+first-moment = moment-first
 
+module _ (s : List ℕ) (es : List Element) (accepted : Accepts s es) (D : Decisions) (means : Means s es D) (rows : List ℕ) (said : Rows es rows) where
   pub each-act : (z y : State) (o : Open) → Moment es z o → (a : Act s es D z y) → Few y → Moment es y (done s es D rows a o)
   each-act z y o m a few = moment-act s es accepted D means rows said m a few
+
+-- Before and after each method, "At every moment both must equal what 01's definition says of the places taken": the methods are all that changes the open
+-- elements, and from a moment each leads to a moment, whether or not the token is refused in the end: `take` of a place as which a token fits or which is
+-- required, `start` of an element that has a model, and both that end the current element. A start is two calls, `take` and `start`, with a moment between
+-- them.
+
+-- `new`: nothing is open yet.
+pub new-moment : (κs : Lfts 0) (a : ArgsD new.signature κs) (r : Open) (e : AtExit new.ended κs) → new-reads.Learnt κs a r e
+    → (s : List ℕ) (es : List Element) → Accepts s es → Moment es nothingOpen r
+new-moment κs a r e made s es accepted = subst (Moment es nothingOpen) (sym made) (moment-first s es accepted)
+
+-- `take`, by the rows of the type, of the place as which a start tag or a data byte fits: that place is taken in the rules' state.
+pub take-fitting : (κs : Lfts 1) (a : ArgsD take.signature κs) (r : Open) (e : AtExit take.ended κs) → take-reads.Learnt κs a r e
+    → (s : List ℕ) (es : List Element) → Accepts s es → (D : Decisions) → Means s es D → Rows es (now (a .1 .0))
+    → let o = a .0 in
+    let place = a .1 .1 .0 in
+    (z : State) → Moment es z o → (t : Token) → place ≡ fitting s es D (z .current) t → 1 ≤ place → Moment es (takeToken s es D t z) r
+take-fitting κs a r e made s es accepted D means said z m t same some =
+    subst (Moment es _) (sym (made ∙ ap (λ (p : ℕ). took (now (a .1 .0)) p (a .0)) same))
+    (moment-took s es accepted D means (now (a .1 .0)) said z (a .0) m (fits t (omega (arith, same))))
+
+-- `take` of the required place, which is kept with the current element: it is the place that the rules require, and is taken in their state.
+pub take-required : (κs : Lfts 1) (a : ArgsD take.signature κs) (r : Open) (e : AtExit take.ended κs) → take-reads.Learnt κs a r e
+    → (s : List ℕ) (es : List Element) → Accepts s es → (D : Decisions) → Means s es D → Rows es (now (a .1 .0))
+    → let o = a .0 in
+    let place = a .1 .1 .0 in
+    (z : State) → Moment es z o → place ≡ o .required → 1 ≤ place → Moment es (takePlace (requiredPlace s es D (z .current)) z) r
+take-required κs a r e made s es accepted D means said z m same some =
+    let kept = same ∙ sym (required-kept s es accepted D means z (a .0) m) in
+    subst (Moment es _) (sym (made ∙ ap (λ (p : ℕ). took (now (a .1 .0)) p (a .0)) kept))
+    (moment-took s es accepted D means (now (a .1 .0)) said z (a .0) m (required (omega (arith, kept))))
+
+-- `start` of an element that has a model: it is entered in the rules' state.
+pub start-moment : (κs : Lfts 1) (a : ArgsD start.signature κs) (r : Open) (e : AtExit start.ended κs) → start-reads.Asked κs a → start-reads.Learnt κs a r e
+    → (s : List ℕ) (es : List Element) → Accepts s es → Rows es (now (a .1 .0))
+    → let o = a .0 in
+    let k = a .1 .1 .0 in
+    (z : State) → Moment es z o → Declared es k → hasModel (contentOf es k) ≡ true → Moment es (enter k z) r
+start-moment κs a r e asked made s es accepted said z m declared has =
+    subst (Moment es _) (sym made) (moment-entered s es accepted (now (a .1 .0)) said z (a .0) m (a .1 .1 .0) declared has (asked .1))
+
+-- `infer_end`: the method asks for the mark, so that the content is complete in the rules too. The parent u of the current element is the current one again,
+-- with us around it, and the end is noted. So it is of each end that a start tag, data, an end tag or the document's end infers.
+pub infer-end-moment : (κs : Lfts 0) (a : ArgsD infer-end.signature κs) (r : Open) (e : AtExit infer-end.ended κs) → infer-end-reads.Asked κs a → infer-end-reads.Learnt κs a r e
+    → (s : List ℕ) (es : List Element) → Accepts s es → (D : Decisions) → Means s es D → (z : State) → Moment es z (a .0) → (at : ℕ)
+    → (isComplete s es D (z .current) ≡ true)
+    × (u : rules.Open) × (us : List rules.Open) × (z .around ≡ u ∷ us)
+    × Moment es (record { current = u; around = us; events = z .events ++ endInferred (z .current .number) at ∷ [] }) r
+infer-end-moment κs a r e asked made s es accepted D means z m at =
+    let (u, us, parent) = moment-parent s es accepted z (a .0) m (asked .1) in
+    (complete-kept s es accepted D means z (a .0) m ∙ asked .2, u, us, parent, subst (Moment es _) (sym made) (moment-ended s es accepted z (a .0) m u us _ parent))
+
+-- `end`, of an end tag, likewise.
+pub end-moment : (κs : Lfts 0) (a : ArgsD end.signature κs) (r : Open) (e : AtExit end.ended κs) → end-reads.Asked κs a → end-reads.Learnt κs a r e
+    → (s : List ℕ) (es : List Element) → Accepts s es → (z : State) → Moment es z (a .0) → (at after : ℕ)
+    → (u : rules.Open) × (us : List rules.Open) × (z .around ≡ u ∷ us)
+    × Moment es (record { current = u; around = us; events = z .events ++ endWritten (z .current .number) at after ∷ [] }) r
+end-moment κs a r e asked made s es accepted z m at after =
+    let (u, us, parent) = moment-parent s es accepted z (a .0) m (asked .1) in
+    (u, us, parent, subst (Moment es _) (sym made) (moment-ended s es accepted z (a .0) m u us _ parent))
+
+-- To note events, which no method does, leaves a moment a moment.
+pub noted-moment : (s : List ℕ) (es : List Element) → Accepts s es → (z : State) (o : Open) → Moment es z o → (ev : List Event)
+    → Moment es (record { current = z .current; around = z .around; events = ev }) o
+noted-moment s es accepted z o m ev = moment-noted s es accepted z o m ev
 
 -- `Beside` leads from one moment to another, act by act.
 module _ (s d : List ℕ) (es : List Element) (rows : List ℕ) (said : Rows es rows) where
@@ -119,10 +201,11 @@ module _ (s d : List ℕ) (es : List Element) (rows : List ℕ) (said : Rows es 
       → (z : State) × (o : Open) × Beside s es (x .decisions) rows nothingOpen fresh z o × (o .count ≡ 0) × (isComplete s es (x .decisions) (z .current) ≡ true) × (z .events ≡ ev)
   every-moment-read ev x = document-beside s es (x .accepted) (x .decisions) (x .means) rows said d ev (x .reading)
 
-  -- What the program has between tokens is what the acts lead to: `Stands` and `Reaches` are what its loop keeps (`Going` of document_events).
-  pub between-tokens : Accepts s es → (at : ℕ) (o : Open) (ev : List Event) → Stands es o → Reaches s es d at (stateOf o ev)
+  -- What the program has between tokens is what the acts lead to: `Ranged`, `Stands` and `Reaches` are what its loop keeps (`Going` of document_events).
+  -- The state that is handed from token to token is at a moment itself (`there` of `Leads`).
+  pub between-tokens : Accepts s es → (at : ℕ) (o : Open) (ev : List Event) → Ranged o → Stands es o → Reaches s es d at (stateOf o ev)
       → (z : State) × Passes s es (decided s es) d at z × Leads s es (decided s es) rows nothingOpen fresh z o
-  between-tokens accepted at o ev h r = reaches-leads s es accepted rows said d at o ev h r
+  between-tokens accepted at o ev g h r = reaches-leads s es accepted rows said d at o ev g h r
 
 -- Within a start tag that is not refused: the ends that it infers, the starts that it infers, then itself, with a moment before and after each. x is the
 -- element, from `at` to `after`. What `token` gives is what these acts lead to.
@@ -166,3 +249,70 @@ pub within-end : (κs : Lfts 3) (a : ArgsD finish.signature κs) (r : Outcome) (
     r .number ≡ 0 → (z : State) → Moment es z o
     → (y : State) × (q : Open) × Beside s es (decided s es) rows z o y q × (q .count ≡ 0) × (isComplete s es (decided s es) (y .current) ≡ true) × (y .events ≡ z .events ++ h .brings .events)
 within-end κs a r e finished s es rows accepted said facts-say none z m = finished-beside s es accepted rows said facts-say finished none z m
+
+-- The steps within a token, "At every moment both must equal what 01's definition says of the places taken": each by the contract of the function that takes
+-- it, from the moment before it to the moment after it, though the token may still be refused later.
+
+-- Within a start tag of x, or data for 0, the ends that are inferred before it (`ends` of inferring): act by act they lead to just the open elements that are
+-- handed back. Where the token is not stuck there, so many starts can be inferred one in the other as were found, none if the token fits, and it fits in the
+-- last; a place that was found is the one as which the token fits.
+pub within-ends : (κs : Lfts 5) (a : ArgsD step-ends.signature κs) (r : Stop) (e : AtExit step-ends.ended κs) → step-ends-reads.Learnt κs a r e
+    → (s : List ℕ) (es : List Element) → Tables s es (now (a .0)) (now (a .1 .0)) (now (a .1 .1 .0))
+    → let o = a .1 .1 .1 .0 in
+    let x = a .1 .1 .1 .1 .0 in
+    x ≤ length es → (z : State) → Moment es z o
+    → (y : State) × Beside s es (decided s es) (now (a .0)) z o y (r .open)
+    × ((r .found ≡ Stuck → ⊥) → Infers s es (decided s es) (tokenOf x) (startsOf (r .found)) (y .current))
+    × ((p : ℕ) → r .found ≡ Taken p → p ≡ fitting s es (decided s es) (y .current) (tokenOf x))
+within-ends κs a r e stops s es tables most z m = stops-lead s es (tables .accepted) (now (a .0)) (tables .rows-say) tables stops most z m
+
+-- Each start that is inferred before it (`infer_start` of inferring), where one or more are left to infer: it is one act, after which there is a moment with
+-- the open elements that are handed back, and one start fewer is left.
+pub within-inferred-start : (κs : Lfts 5) (a : ArgsD infer-start.signature κs) (r : Open) (e : AtExit infer-start.ended κs) → infer-start-reads.Asked κs a → infer-start-reads.Learnt κs a r e
+    → (s : List ℕ) (es : List Element) → Tables s es (now (a .0)) (now (a .1 .0)) (now (a .1 .1 .0))
+    → let o = a .1 .1 .1 .0 in
+    let at = a .1 .1 .1 .1 .0 in
+    (z : State) → Moment es z o → (t : Token) (left : ℕ) → Infers s es (decided s es) t (suc left) (z .current)
+    → let y = inferOne s es (decided s es) at z in
+    Act s es (decided s es) z y × Moment es y r × Infers s es (decided s es) t left (y .current)
+within-inferred-start κs a r e asked infers s es tables z m t left (some, rest) =
+    let (does, there) = infers-start-does s es (tables .accepted) (now (a .0)) (tables .rows-say) tables infers (asked .1) z m some in
+    (does, there, rest)
+
+-- The place of a start tag of x (`placed` of placing), which is not refused there: in the rules' state the place is taken as which the tag fits, and the tag is
+-- noted; acts lead there, and what is handed back is at that moment. What was found before (`within-ends`) is how many starts to infer, or that place.
+pub within-place : (κs : Lfts 5) (a : ArgsD place.signature κs) (r : Outcome) (e : AtExit place.ended κs) → place-reads.Learnt κs a r e
+    → (s : List ℕ) (es : List Element) → Tables s es (now (a .0)) (now (a .1 .0)) (now (a .1 .1 .0))
+    → let o = a .1 .1 .1 .0 in
+    let found = a .1 .1 .1 .1 .0 in
+    let x = a .1 .1 .1 .1 .1 .0 in
+    let at = a .1 .1 .1 .1 .1 .1 .0 in
+    let after = a .1 .1 .1 .1 .1 .1 .1 .0 in
+    1 ≤ x → x ≤ length es → r .number ≡ 0 → (z : State) → Moment es z o
+    → ((p : ℕ) → found ≡ Taken p → p ≡ fitting s es (decided s es) (z .current) (tokenOf x))
+    → (y : State) × (noting es x at after (takeToken s es (decided s es) (tokenOf x) z) ≡ got y) × Leads s es (decided s es) (now (a .0)) z o y (r .open)
+within-place κs a r e places s es tables some most done z m right = places-leads s es (tables .accepted) (now (a .0)) (tables .rows-say) tables _ places some most done z m right
+
+-- The place of a run of data likewise: the rules' state is the one after its first byte. Each further byte takes the same place again.
+pub within-data-place : (κs : Lfts 5) (a : ArgsD place.signature κs) (r : Outcome) (e : AtExit place.ended κs) → place-reads.Learnt κs a r e
+    → (s : List ℕ) (es : List Element) → Tables s es (now (a .0)) (now (a .1 .0)) (now (a .1 .1 .0))
+    → let o = a .1 .1 .1 .0 in
+    let found = a .1 .1 .1 .1 .0 in
+    let x = a .1 .1 .1 .1 .1 .0 in
+    let at = a .1 .1 .1 .1 .1 .1 .0 in
+    x ≡ 0 → r .number ≡ 0 → (z : State) → Moment es z o
+    → ((p : ℕ) → found ≡ Taken p → p ≡ fitting s es (decided s es) (z .current) (tokenOf x))
+    → let y = takeToken s es (decided s es) pcdata z in
+    Leads s es (decided s es) (now (a .0)) z o (record { current = y .current; around = y .around; events = withData at (y .events) }) (r .open)
+within-data-place κs a r e places s es tables nothing done z m right = places-data s es (tables .accepted) (now (a .0)) (tables .rows-say) tables _ places nothing done z m right
+
+-- Within an end tag of x, or the document's end, the ends that are inferred until the current element is x or nothing is around it (`end_until` of
+-- left_out_ends), where none of them is refused. `infer-end-moment` has the moment after each.
+pub within-left-out-ends : (κs : Lfts 3) (a : ArgsD end-until.signature κs) (r : Outcome) (e : AtExit end-until.ended κs) → end-until-reads.Learnt κs a r e
+    → (s : List ℕ) (es : List Element) (rows : List ℕ) → Accepts s es → Rows es rows → Facts s es (now (a .0))
+    → let o = a .1 .0 in
+    let x = a .1 .1 .0 in
+    let at = a .1 .1 .1 .0 in
+    r .number ≡ 0 → (z : State) → Moment es z o
+    → (y : State) × (inferEnds s es (decided s es) x at (z .around) (z .current) (z .events) ≡ got y) × Leads s es (decided s es) rows z o y (r .open)
+within-left-out-ends κs a r e until s es rows accepted said facts-say done z m = until-leads s es accepted rows said facts-say until done z m

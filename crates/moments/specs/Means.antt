@@ -50,8 +50,10 @@ pub record Alike (o q : Open) : Type 0 where
   pub required : o .required ≡ q .required
   pub around : (k : ℕ) → k < o .count → getD (o .around) k none ≡ getD (q .around) k none
 
--- From the moment at which the rules have z and the program o, acts lead to the rules' state y, and beside it to open elements alike to r.
+-- From the moment at which the rules have z and the program o, acts lead to the rules' state y, and beside it to open elements alike to r. There is a
+-- moment again with r itself, from which what comes next may lead on.
 pub record Leads (s : List ℕ) (es : List Element) (D : Decisions) (rows : List ℕ) (z : State) (o : Open) (y : State) (r : Open) : Type 0 where
   pub to : Open
   pub beside : Beside s es D rows z o y to
   pub alike : Alike r to
+  pub there : Moment es y r

@@ -26,25 +26,25 @@ use Rattle.last_places.specs.Turns.{Reaches}
 use Rattle.type_tables.specs.Means.{Rows, Facts, Tables}
 use Rattle.open_elements.specs.declared.Open.{Open}
 use Rattle.open_elements.specs.declared.Outcome.{Outcome}
-use Rattle.open_elements.specs.Means.{stateOf, fresh, outcomeOf, Stands}
+use Rattle.open_elements.specs.Means.{stateOf, fresh, outcomeOf, Ranged, Stands}
 use Rattle.settling.specs.Settled.{Settles}
 use Rattle.closing.specs.Closed.{Tagged}
 use Rattle.acts.specs.Readings.{startElement-acts, takeData-acts, endElement-acts, passes-acts, document-acts}
 use Rattle.moments.specs.Means.{Moment, Beside, Leads}
-use Rattle.moments.specs.Beside.{moment-first, acts-beside, beside-last}
+use Rattle.moments.specs.Beside.{moment, moment-first, acts-beside, beside-last}
 use Rattle.moments.specs.Alike.{stands-alike}
 
 -- By whatever decisions mean the walks
 module _ (s : List ℕ) (es : List Element) (accepted : Accepts s es) (D : Decisions) (means : Means s es D) (rows : List ℕ) (said : Rows es rows) (d : List ℕ) where
   -- Wherever reading comes, acts lead to, from nothing open on, and the program's open elements stand beside at every moment.
   pub passes-beside : (at : ℕ) (z : State) → Passes s es D d at z → (o : Open) × Beside s es D rows nothingOpen fresh z o
-  passes-beside at z p = acts-beside s es accepted D means rows said (moment-first s es accepted D means rows said) (passes-acts s es D d p)
+  passes-beside at z p = acts-beside s es accepted D means rows said (moment-first s es accepted) (passes-acts s es D d p)
 
   -- A document that is read to its end: at last nothing is open.
   pub document-beside : (ev : List Event) → document s es D d ≡ got ev → (z : State) × (o : Open) × Beside s es D rows nothingOpen fresh z o × (o .count ≡ 0) × (isComplete s es D (z .current) ≡ true) × (z .events ≡ ev)
   document-beside ev e =
       let r = document-acts s es D d ev e in
-      let (o, b) = acts-beside s es accepted D means rows said (moment-first s es accepted D means rows said) (r .acts) in
+      let (o, b) = acts-beside s es accepted D means rows said (moment-first s es accepted) (r .acts) in
       (r .last, o, b, beside-last b .many ∙ ap length (r .nothing), r .complete, r .events)
 
 module _ (s : List ℕ) (es : List Element) (accepted : Accepts s es) (rows : List ℕ) (said : Rows es rows) where
@@ -54,20 +54,25 @@ module _ (s : List ℕ) (es : List Element) (accepted : Accepts s es) (rows : Li
   means : Means s es D
   means = accepted-decided s es accepted
 
-  pub leads : {z y : State} {o : Open} → Moment es z o → Acts s es D Few z y → (r : Open) → Stands es r → (ev : List Event) → short y ≡ stateOf r ev → Leads s es D rows z o y r
-  leads {z} {y} m a r h ev e =
+  pub leads : {z y : State} {o : Open} → Moment es z o → Acts s es D Few z y → (r : Open) → Ranged r → Stands es r → (ev : List Event) → short y ≡ stateOf r ev → Leads s es D rows z o y r
+  leads {z} {y} m a r g h ev e =
       let (q, b) = acts-beside s es accepted D means rows said m a in
       let n = beside-last b in
       let i : y .events ≡ ev = ap (λ (w : State). w .events) e in
-      record { to = q; beside = b; alike = stands-alike h (n .stands) ev (sym e ∙ n .same ∙ ap (stateOf q) i) }
+      record {
+        to = q;
+        beside = b;
+        alike = stands-alike h (n .stands) ev (sym e ∙ n .same ∙ ap (stateOf q) i);
+        there = moment s es accepted y r g h (n .begun) (e ∙ ap (stateOf r) (sym i));
+      }
 
-  -- Between tokens: reading has come to `at` (`Reaches`, `Stands`: what the loop over a document's tokens keeps). All moments before were
+  -- Between tokens: reading has come to `at` (`Reaches`, `Stands` and `Ranged`: what the loop over a document's tokens keeps). All moments before were
   -- passed by acts, from nothing open on.
-  pub reaches-leads : (d : List ℕ) (at : ℕ) (o : Open) (ev : List Event) → Stands es o → Reaches s es d at (stateOf o ev)
+  pub reaches-leads : (d : List ℕ) (at : ℕ) (o : Open) (ev : List Event) → Ranged o → Stands es o → Reaches s es d at (stateOf o ev)
       → (z : State) × Passes s es D d at z × Leads s es D rows nothingOpen fresh z o
-  reaches-leads d at o ev h r =
+  reaches-leads d at o ev g h r =
       let f = r .follows in
-      (f .state, f .passes, leads (moment-first s es accepted D means rows said) (passes-acts s es D d (f .passes)) o h ev (f .same))
+      (f .state, f .passes, leads (moment-first s es accepted) (passes-acts s es D d (f .passes)) o g h ev (f .same))
 
   -- The outcome of a token that is not refused, by what the rules make of the state that the program has.
   outcome-got : (at : ℕ) (z : State) (o : Open) (r : Outcome) (ev : List Event) (q : State → Reading State) → short z ≡ stateOf o (z .events) → ((y : State) → shortly (q y) ≡ shortly (q (short y)))
@@ -85,7 +90,7 @@ module _ (s : List ℕ) (es : List Element) (accepted : Accepts s es) (rows : Li
       let ev = z .events ++ h .events in
       let c = h .settles s es tables (m .stands) most in
       let (y, e, f) = outcome-got at z o r ev (startElement s es D (suc k) at after) (m .same) (startElement-short s es (suc k) at after) (c .comes (z .events)) done in
-      (y, e, leads m (got-so (startElement-acts s es D (suc k) at after z (some, most) (omega (arith, m .many, m .ranged .few))) e) (r .open) (c .stands done) ev f)
+      (y, e, leads m (got-so (startElement-acts s es D (suc k) at after z (some, most) (omega (arith, m .many, m .ranged .few))) e) (r .open) (h .ranged) (c .stands done) ev f)
 
   -- What is left of a run of data is left of its first byte, but for the events.
   data-got : (at size : ℕ) (z : State) (o r : Open) (ev : List Event) → short z ≡ stateOf o (z .events) → shortly (takeRun s es D at size (stateOf o (z .events))) ≡ got (stateOf r ev)
@@ -106,7 +111,7 @@ module _ (s : List ℕ) (es : List Element) (accepted : Accepts s es) (rows : Li
       let ev = z .events ++ h .events in
       let c = h .settles s es tables (m .stands) (omega arith) in
       let (y, e, fv, f) = data-got at (after - at) z o (r .open) ev (m .same) (sym (c .comes (z .events)) ∙ ap (λ (k : ℕ). outcomeOf at k (stateOf (r .open) ev)) done) in
-      (y, e, leads m (got-so (takeData-acts s es D at z (omega (arith, m .many, m .ranged .few))) e) (r .open) (c .stands done) fv f)
+      (y, e, leads m (got-so (takeData-acts s es D at z (omega (arith, m .many, m .ranged .few))) e) (r .open) (h .ranged) (c .stands done) fv f)
 
   -- An end tag (`end_tag` of closing): the ends that it infers, then itself.
   pub tagged-leads : {facts : List ℕ} → Facts s es facts → {x at after n : ℕ} {o : Open} {numbers bytes : List ℕ} {r : Outcome} {numbers′ bytes′ : List ℕ}
@@ -115,4 +120,4 @@ module _ (s : List ℕ) (es : List Element) (accepted : Accepts s es) (rows : Li
   tagged-leads facts-say {x} {at} {after} {o = o} {r = r} h done z m =
       let ev = z .events ++ h .brings .events in
       let (y, e, f) = outcome-got at z o r ev (endElement s es D x at after) (m .same) (endElement-short s es x at after) (h .closes s es facts-say (m .stands) (z .events)) done in
-      (y, e, leads m (got-so (endElement-acts s es D x at after z (omega (arith, m .many, m .ranged .few))) e) (r .open) (h .stands s es facts-say (m .stands) done) ev f)
+      (y, e, leads m (got-so (endElement-acts s es D x at after z (omega (arith, m .many, m .ranged .few))) e) (r .open) (h .brings .ranged) (h .stands s es facts-say (m .stands) done) ev f)

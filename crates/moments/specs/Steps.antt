@@ -1,6 +1,6 @@
 -- The steps within a token, each by the contract of the function that takes it: the ends of step 3, a start that is inferred, the place of a start
 -- tag, the ends that an end tag and the document's end infer.
-use Prim.Native.Nat.{ℕ, suc, _≤_}
+use Prim.Native.Nat.{ℕ, zero, suc, _-_, _≤_, _<_}
 use mathlib.Core.Path.{_≡_, refl, sym, _∙_, ap, ap₂, subst}
 use mathlib.Core.Bool.{Bool, true, false, false≢true}
 use mathlib.Core.List.{List, [], _∷_, _++_}
@@ -12,35 +12,40 @@ use Rattle.rules.specs.Reading.{Reading, refused, got, andThen}
 use Rattle.rules.specs.TypeFile.{Element}
 use Rattle.rules.specs.Judge.{Accepts}
 use Rattle.rules.specs.Elements.{contentOf, endO}
-use Rattle.rules.specs.Decisions.{start, Decisions, Means}
-use Rattle.rules.specs.Events.{Event, endInferred}
-use Rattle.rules.specs.Settling.{State, takePlace, fitting, isComplete, inferable, endLeftOut, endFrom, endDocument}
+use Rattle.rules.specs.Decisions.{Token, start, pcdata, Decisions, Means}
+use Rattle.rules.specs.Events.{Event, endInferred, dataRun, withData}
+use Rattle.rules.specs.Settling.{State, takePlace, fitting, isComplete, inferable, chain, takeToken, endLeftOut, endFrom, endDocument}
 use Rattle.rules.specs.Settling as rules
-use Rattle.rules.specs.Acts.{Act, infers, infers-end, Acts, Few}
+use Rattle.rules.specs.Acts.{Act, infers, data-byte, infers-end, Acts, Few}
 use Rattle.rules.specs.Acts as act
 use Rattle.rules_laws.specs.Holds.{Gives, reads, so, on, either, got-so}
 use Rattle.model_sets.specs.Bits.{and-left, and-right}
 use Rattle.model_sets.specs.Reach.{lastOr0}
 use Rattle.document_laws.specs.Decide.{decided, isCompleteIn-last}
 use Rattle.document_laws.specs.Laws.{accepted-decided}
-use Rattle.document_laws.specs.Chain.{chosen, inferable-is}
+use Rattle.document_laws.specs.Chain.{chosen, inferable-is, chain-step, chain-leads}
+use Rattle.document_laws.specs.Moves.{withDatum}
 use Rattle.last_places.specs.Last.{lastOnly, allLast, short, shortly}
 use Rattle.last_places.specs.Short.{state, last-placed, lastOnly-twice, short-short}
 use Rattle.last_places.specs.Follows.{shortly-got}
-use Rattle.type_tables.specs.Means.{Rows, Facts, Tables}
+use Rattle.type_tables.specs.Means.{width, Rows, Facts, Tables}
 use Rattle.open_elements.specs.declared.Open.{Open}
 use Rattle.open_elements.specs.declared.Outcome.{Outcome}
 use Rattle.open_elements.specs.Means.{current, around, stateOf, took, opening, ended, outcomeOf, closedOf}
-use Rattle.open_elements.specs.Laws.{stateOf-short}
+use Rattle.open_elements.specs.Laws.{stands-requires, stateOf-short}
 use Rattle.ways.specs.declared.Way.{Way}
-use Rattle.ways.specs.Means.{tokenOf, tokenOf-number, tokenOf-declared, mayEnd}
-use Rattle.placing.specs.Noting.{noting, Places}
-use Rattle.inferring.specs.Inferring.{EndsTo, none, more, Turns, InfersStart}
+use Rattle.ways.specs.declared.Way.the-variants.{Taken, Inferred, Stuck}
+use Rattle.ways.specs.Means.{tokenOf, tokenOf-number, tokenOf-declared, wayOf, mayEnd, startsOf, placeOf}
+use Rattle.placing.specs.Noting.{noting, Notes, Places}
+use Rattle.placing.specs.Limits.{limited-few, same-fits}
+use Rattle.inferring.specs.Inferring.{EndsTo, none, more, Turns, Stops, inferOne, Infers, InfersStart}
+use Rattle.inferring.specs.declared.Stop.{Stop}
+use Rattle.inferring.specs.Starts.{chain-infers}
 use Rattle.left_out_ends.specs.Until.{inferEnds, Until}
 use Rattle.closing.specs.Closed.{Finished}
 use Rattle.acts.specs.Readings.{Comes, leftOut, noted-acts, endDocument-acts}
 use Rattle.moments.specs.Means.{done, Moment, Beside, still, Leads}
-use Rattle.moments.specs.Beside.{number-same, fits-in, required-kept, took-stands, took-same, moment-act, acts-beside, beside-then, beside-last}
+use Rattle.moments.specs.Beside.{moment-parent, number-same, fits-in, required-kept, took-stands, took-same, moment-act, acts-beside, beside-then, beside-last}
 use Rattle.moments.specs.Results.{leads}
 
 -- The last places decide
@@ -103,6 +108,34 @@ may-end-so : (s : List ℕ) (es : List Element) (D : Decisions) (o : rules.Open)
 may-end-so s es D o [] e = absurd (false≢true e)
 may-end-so s es D o (u ∷ us) e = (and-left (isComplete s es D o) _ e, and-left (endO es (o .number)) _ (and-right (isComplete s es D o) _ e))
 
+module _ (s : List ℕ) (es : List Element) (t : Token) where
+  -- The chain goes by the start that is to be inferred.
+  chain-same : (n : ℕ) (o v : rules.Open) → inferable s es (D s es) o ≡ inferable s es (D s es) v → chain s es (D s es) n t o ≡ chain s es (D s es) n t v
+  unfolding chain
+  chain-same zero o v e = refl
+  chain-same (suc n) o v e = chain-step s es (D s es) t n o _ e ∙ sym (chain-step s es (D s es) t n v _ refl)
+
+  way-infers : (o : rules.Open) (ks : List ℕ) → chain s es (D s es) (length es) t o ≡ ks → (f : ℕ) → fitting s es (D s es) o t ≡ f → (wayOf f (length ks) ≡ Stuck → ⊥)
+      → Infers s es (D s es) t (startsOf (wayOf f (length ks))) o
+  way-infers o [] e zero i n = absurd (n refl)
+  way-infers o (k ∷ ks) e zero i n = chain-infers s es (D s es) t (k ∷ ks) o (chain-leads s es (D s es) t (length es) o k ks e)
+  way-infers o ks e (suc f) i n = omega (arith, i)
+
+way-taken : (f n p : ℕ) → wayOf f n ≡ Taken p → p ≡ f
+way-taken zero zero p e = absurd (let z : _≡_ {A = ℕ} 0 1 = cc in omega arith)
+way-taken zero (suc n) p e = absurd (let z : _≡_ {A = ℕ} 0 1 = cc in omega arith)
+way-taken (suc f) n p e = let i : suc f ≡ p = cc in sym i
+
+-- The place that is taken by what was found is the one as which the token fits, where no other was found.
+place-found : (f : ℕ) (w : Way) (p : ℕ) → p ≡ placeOf f w → (p ≡ 0 → ⊥) → ((q : ℕ) → w ≡ Taken q → q ≡ f) → p ≡ f
+place-found f (Taken q) p e n h = e ∙ h q refl
+place-found f (Inferred k) p e n h = e
+place-found f Stuck p e n h = absurd (n e)
+
+not-none : (n : ℕ) → (n ≡ 0 → ⊥) → 1 ≤ n
+not-none zero h = absurd (h refl)
+not-none (suc n) h = omega arith
+
 -- The functions
 
 module _ (s : List ℕ) (es : List Element) (accepted : Accepts s es) (rows : List ℕ) (said : Rows es rows) where
@@ -111,17 +144,12 @@ module _ (s : List ℕ) (es : List Element) (accepted : Accepts s es) (rows : Li
 
   -- One end that step 3 infers is one act, after which as many methods lead to `ended`.
   end-does : (at : ℕ) (y : State) (o : Open) → Moment es y o → 1 ≤ o .count → mayEnd s es (D s es) (current o) (around o) ≡ true → (x : State) × (a : Act s es (D s es) y x) × Few x × (done s es (D s es) rows a o ≡ ended o)
-  end-does at y o n some may = by-around (y .around) refl
-    where
-      allowed : (isComplete s es (D s es) (current o) ≡ true) × (endO es (o .element) ≡ true)
-      allowed = may-end-so s es (D s es) (current o) (around o) may
-
-      by-around : (us : List rules.Open) → y .around ≡ us → (x : State) × (a : Act s es (D s es) y x) × Few x × (done s es (D s es) rows a o ≡ ended o)
-      by-around [] e = absurd (omega (arith, n .many, ap (λ (l : List rules.Open). length l) e))
-      by-around (u ∷ us) e =
-          let complete : isComplete s es (D s es) (y .current) ≡ true = complete-short s es (y .current) ∙ ap (λ (w : State). isComplete s es (D s es) (w .current)) (n .same) ∙ allowed .0 in
-          let omitted : endO es (y .current .number) ≡ true = ap (endO es) (number-same s es accepted (D s es) means rows said y o n) ∙ allowed .1 in
-          (_, infers-end u us at e complete omitted, omega (arith, n .many, n .ranged .few, ap (λ (l : List rules.Open). length l) e), refl)
+  end-does at y o n some may =
+      let allowed = may-end-so s es (D s es) (current o) (around o) may in
+      let (u, us, e) = moment-parent s es accepted y o n some in
+      let complete : isComplete s es (D s es) (y .current) ≡ true = complete-short s es (y .current) ∙ ap (λ (w : State). isComplete s es (D s es) (w .current)) (n .same) ∙ allowed .0 in
+      let omitted : endO es (y .current .number) ≡ true = ap (endO es) (number-same s es accepted (D s es) means y o n) ∙ allowed .1 in
+      (_, infers-end u us at e complete omitted, omega (arith, n .many, n .ranged .few, ap (λ (l : List rules.Open). length l) e), refl)
 
   ends-lead : {at : ℕ} {o₀ o : Open} {ev : List Event} → EndsTo s es at o₀ ev o → (z : State) → Moment es z o₀ → (y : State) × Beside s es (D s es) rows z o₀ y o
   ends-lead none z m = (z, still m)
@@ -133,39 +161,115 @@ module _ (s : List ℕ) (es : List Element) (accepted : Accepts s es) (rows : Li
 
   -- The ends of step 3 (`ends` of inferring, whose contract has `Turns`): acts lead to just the open elements q that it gives, though the token may still
   -- be refused there.
-  pub turns-lead : {places facts : List ℕ} → Tables s es rows places facts → {x at n : ℕ} {o : Open} {numbers bytes : List ℕ} {q : Open} {k : ℕ} {numbers′ bytes′ : List ℕ}
+  turns-lead : {places facts : List ℕ} → Tables s es rows places facts → {x at n : ℕ} {o : Open} {numbers bytes : List ℕ} {q : Open} {k : ℕ} {numbers′ bytes′ : List ℕ}
       → Turns rows places facts x at n o numbers bytes q k numbers′ bytes′ → x ≤ length es → (z : State) → Moment es z o
       → (y : State) × Beside s es (D s es) rows z o y q
   turns-lead tables {x} h most z m = ends-lead (h .comes s es tables (m .stands) (tokenOf x) (tokenOf-number x) (tokenOf-declared es x most) .ends) z m
 
-  -- One start that is inferred (`infer_start` of inferring) is one act.
-  pub infers-start-does : {places facts : List ℕ} → Tables s es rows places facts → {at n : ℕ} {o : Open} {numbers bytes : List ℕ} {r : Open} {numbers′ bytes′ : List ℕ}
-      → (h : InfersStart rows places facts at n o numbers bytes r numbers′ bytes′) → 1 ≤ h .k → (z : State) → Moment es z o
-      → (y : State) × (a : Act s es (D s es) z y) × (r ≡ done s es (D s es) rows a o)
-  infers-start-does tables {at} {o = o} h some z m =
-      let kept = required-kept s es accepted (D s es) means rows said z o m in
-      let same : inferable s es (D s es) (z .current) ≡ h .k =
+  -- At a moment the rules infer the same start in the current element as by its last place.
+  inferable-same : (z : State) (o : Open) → Moment es z o → inferable s es (D s es) (z .current) ≡ inferable s es (D s es) (current o)
+  inferable-same z o m =
       inferable-is s es (D s es) (z .current)
-      ∙ ap₂ (chosen s es) (number-same s es accepted (D s es) means rows said z o m) (kept ∙ m .stands .marked .required)
+      ∙ ap₂ (chosen s es) (number-same s es accepted (D s es) means z o m) (required-kept s es accepted (D s es) means z o m ∙ m .stands .marked .required)
       ∙ sym (inferable-is s es (D s es) (current o))
-      ∙ sym (h .chosen s es tables (m .stands)) in
-      (_, infers (h .k) at same some, h .opens ∙ ap (λ (p : ℕ). opening rows (h .k) (took rows p o)) (sym kept))
 
-  -- The place of a start tag (`placed` of placing), where it is the one as which the token fits, and the tag is not refused: one act, which opens its
-  -- element or, of an EMPTY one, leaves what is open.
-  pub places-leads : {places facts : List ℕ} → Tables s es rows places facts → {found : Way} {k at after n : ℕ} {o : Open} {numbers bytes : List ℕ} {r : Outcome} {numbers′ bytes′ : List ℕ}
-      → (h : Places rows places facts found (suc k) at after n o numbers bytes r numbers′ bytes′) → suc k ≤ length es → r .number ≡ 0 → (z : State) → Moment es z o → fitting s es (D s es) (z .current) (start (suc k)) ≡ h .p → 1 ≤ h .p
-      → (y : State) × (noting es (suc k) at after (takePlace (h .p) z) ≡ got y) × Leads s es (D s es) rows z o y (r .open)
-  places-leads tables {k = k} {at} {after} {o = o} {r = r} h most fine z m fits some =
-      let p = h .p in
-      let ev = z .events ++ h .events in
-      let inside = rw fits at (fits-in s es accepted (D s es) means rows said z o m (start (suc k))) in
-      let notes = h .notes (λ e. omega arith) s es tables (took-stands s es accepted (D s es) means rows said z o m p inside) most in
-      let (y, e, f) =
-      shortly-got (noting es (suc k) at after (takePlace p z)) (stateOf (r .open) ev)
-      (sym (notes .comes (z .events) (takePlace p z) (took-same s es accepted (D s es) means rows said z o m p inside)) ∙ ap (λ (n : ℕ). outcomeOf at n (stateOf (r .open) ev)) fine) in
-      let comes : Comes s es (D s es) (start (suc k)) z (takePlace p z) = record { here = z; acts = λ n l j. act.still l; fits = omega (arith, fits); taken = ap (λ (q : ℕ). takePlace q z) (sym fits) } in
-      (y, e, leads s es accepted rows said m (got-so (noted-acts s es (D s es) (suc k) at after z (takePlace p z) (omega arith, most) (omega (arith, m .many, m .ranged .few)) comes) e) (r .open) (notes .stands fine) ev f)
+  -- What `ends` of inferring gives where it stops: acts lead to just its open elements, and what it found is what the rules say of the token there. Where it
+  -- is not stuck, so many starts can be inferred one in the other, and the token fits in the last; a place that was found is the one as which the token fits.
+  pub stops-lead : {places facts : List ℕ} → Tables s es rows places facts → {x at n : ℕ} {o : Open} {numbers bytes : List ℕ} {r : Stop} {numbers′ bytes′ : List ℕ}
+      → Stops rows places facts x at n o numbers bytes r numbers′ bytes′ → x ≤ length es → (z : State) → Moment es z o
+      → (y : State) × Beside s es (D s es) rows z o y (r .open)
+      × ((r .found ≡ Stuck → ⊥) → Infers s es (D s es) (tokenOf x) (startsOf (r .found)) (y .current))
+      × ((p : ℕ) → r .found ≡ Taken p → p ≡ fitting s es (D s es) (y .current) (tokenOf x))
+  stops-lead tables {x} {r = r} h most z m =
+      let (y, b) = turns-lead tables (h .turns) most z m in
+      let n = beside-last b in
+      let t = tokenOf x in
+      let q = r .open in
+      let f = fitting s es (D s es) (y .current) t in
+      let ks = chain s es (D s es) (length es) t (y .current) in
+      let way : r .found ≡ wayOf f (length ks) =
+      h .finds s es tables (stands-requires (n .stands)) t (tokenOf-number x) (tokenOf-declared es x most)
+      ∙ ap₂ (λ (g : ℕ) (js : List ℕ). wayOf g (length js)) (sym (same-fits q (y .events) y (n .same) s es t)) (sym (chain-same s es t (length es) (y .current) (current q) (inferable-same y q n))) in (
+        y,
+        b,
+        λ i. subst (λ (w : Way). Infers s es (D s es) t (startsOf w) (y .current)) (sym way) (way-infers s es t (y .current) ks refl f refl (λ e. i (way ∙ e))),
+        λ p e. way-taken f (length ks) p (sym way ∙ e),
+      )
+
+  -- One start that is inferred (`infer_start` of inferring) is one act, where there is one to infer.
+  pub infers-start-does : {places facts : List ℕ} → Tables s es rows places facts → {at n : ℕ} {o : Open} {numbers bytes : List ℕ} {r : Open} {numbers′ bytes′ : List ℕ}
+      → InfersStart rows places facts at n o numbers bytes r numbers′ bytes′ → o .count < 24 → (z : State) → Moment es z o → 1 ≤ inferable s es (D s es) (z .current)
+      → Act s es (D s es) z (inferOne s es (D s es) at z) × Moment es (inferOne s es (D s es) at z) r
+  infers-start-does tables {at} {o = o} h less z m some =
+      let kept = required-kept s es accepted (D s es) means z o m in
+      let same : inferable s es (D s es) (z .current) ≡ h .k = inferable-same z o m ∙ sym (h .chosen s es tables (m .stands)) in
+      let a : Act s es (D s es) z (inferOne s es (D s es) at z) = infers (inferable s es (D s es) (z .current)) at refl some in
+      let opens = h .opens ∙ ap₂ (λ (k p : ℕ). opening rows k (took rows p o)) (sym same) (sym kept) in
+      (a, subst (Moment es _) (sym opens) (moment-act s es accepted (D s es) means rows said m a (omega (arith, m .many))))
+
+  -- The place of a token (`placed` of placing) that is not refused there, where what was found is not another place than the one as which the token fits.
+  module _ {places facts : List ℕ} (tables : Tables s es rows places facts) (x : ℕ) {found : Way} {at after n : ℕ} {o : Open} {numbers bytes : List ℕ} {r : Outcome} {numbers′ bytes′ : List ℕ}
+      (h : Places rows places facts found x at after n o numbers bytes r numbers′ bytes′) (most : x ≤ length es) (fine : r .number ≡ 0) (z : State) (m : Moment es z o)
+      (right : (p : ℕ) → found ≡ Taken p → p ≡ fitting s es (D s es) (z .current) (tokenOf x)) where
+    some-place : h .p ≡ 0 → ⊥
+    some-place e = omega (arith, h .stuck e)
+
+    place-fits : fitting s es (D s es) (z .current) (tokenOf x) ≡ h .p
+    place-fits =
+        sym (place-found _ found (h .p) (h .place s es tables (m .stands) most ∙ ap (λ (f : ℕ). placeOf f found) (sym (same-fits o (z .events) z (m .same) s es (tokenOf x)))) some-place right)
+
+    inside : h .p ≤ width es (o .element)
+    inside = rw place-fits at (fits-in s es accepted (D s es) means z o m (tokenOf x))
+
+    notes : Notes es rows x at after (h .p) o (h .events) r
+    notes = h .notes some-place s es tables (took-stands s es accepted (D s es) means rows said z o m (h .p) inside) most
+
+    -- What is noted is what the rules note.
+    noted : (y : State) × (noting es x at after (takePlace (h .p) z) ≡ got y) × (short y ≡ stateOf (r .open) (z .events ++ h .events))
+    noted =
+        shortly-got (noting es x at after (takePlace (h .p) z)) (stateOf (r .open) (z .events ++ h .events))
+        (sym (notes .comes (z .events) (takePlace (h .p) z) (took-same s es accepted (D s es) means rows said z o m (h .p) inside))
+        ∙ ap (λ (n : ℕ). outcomeOf at n (stateOf (r .open) (z .events ++ h .events))) fine)
+
+    fits-some : 1 ≤ fitting s es (D s es) (z .current) (tokenOf x)
+    fits-some = omega (arith, place-fits, not-none (h .p) some-place)
+
+  -- That of a start tag: one act, which opens its element or, of an EMPTY one, leaves what is open.
+  pub places-leads : {places facts : List ℕ} → Tables s es rows places facts → (x : ℕ) {found : Way} {at after n : ℕ} {o : Open} {numbers bytes : List ℕ} {r : Outcome} {numbers′ bytes′ : List ℕ}
+      → Places rows places facts found x at after n o numbers bytes r numbers′ bytes′ → 1 ≤ x → x ≤ length es → r .number ≡ 0 → (z : State) → Moment es z o
+      → ((p : ℕ) → found ≡ Taken p → p ≡ fitting s es (D s es) (z .current) (tokenOf x))
+      → (y : State) × (noting es x at after (takeToken s es (D s es) (tokenOf x) z) ≡ got y) × Leads s es (D s es) rows z o y (r .open)
+  places-leads tables zero h some most fine z m right = absurd (omega arith)
+  places-leads tables (suc k) {at = at} {after} {o = o} {r = r} h some most fine z m right =
+      let (y, e, f) = noted tables (suc k) h most fine z m right in
+      let same = place-fits tables (suc k) h most fine z m right in
+      let comes : Comes s es (D s es) (start (suc k)) z (takePlace (h .p) z) =
+      record { here = z; acts = λ n l j. act.still l; fits = fits-some tables (suc k) h most fine z m right; taken = ap (λ (q : ℕ). takePlace q z) (sym same) } in (
+        y,
+        ap (λ (q : ℕ). noting es (suc k) at after (takePlace q z)) same ∙ e,
+        leads s es accepted rows said m (got-so (noted-acts s es (D s es) (suc k) at after z (takePlace (h .p) z) (some, most) (omega (arith, m .many, m .ranged .few)) comes) e) (r .open) (h .ranged)
+            (notes tables (suc k) h most fine z m right .stands fine) (z .events ++ h .events) f,
+      )
+
+  -- That of a run of data: one act, of its first byte. Each further byte takes the same place again, which leaves the program's open elements as they are.
+  pub places-data : {places facts : List ℕ} → Tables s es rows places facts → (x : ℕ) {found : Way} {at after n : ℕ} {o : Open} {numbers bytes : List ℕ} {r : Outcome} {numbers′ bytes′ : List ℕ}
+      → Places rows places facts found x at after n o numbers bytes r numbers′ bytes′ → x ≡ 0 → r .number ≡ 0 → (z : State) → Moment es z o
+      → ((p : ℕ) → found ≡ Taken p → p ≡ fitting s es (D s es) (z .current) (tokenOf x))
+      → Leads s es (D s es) rows z o (withDatum at (takeToken s es (D s es) pcdata z)) (r .open)
+  places-data tables (suc k) h nothing fine z m right = absurd (omega arith)
+  places-data tables zero {at = at} {after} {o = o} {r = r} h nothing fine z m right =
+      let few : length (z .around) ≤ 24 = omega (arith, m .many, m .ranged .few) in
+      let (y, e, f) = noted tables zero h (omega arith) fine z m right in
+      let w = takePlace (h .p) z in
+      let i : got (state (w .current) (z .around) (z .events ++ dataRun at (after - at) ∷ [])) ≡ got y =
+      ap (λ (q : Reading State). andThen q λ (v : State). got (state (v .current) (v .around) (v .events ++ dataRun at (after - at) ∷ []))) (sym (limited-few at w few)) ∙ e in
+      let j : state (w .current) (z .around) (z .events ++ dataRun at (after - at) ∷ []) ≡ y = cc in
+      let ev = withData at (z .events) in
+      let taken : short (withDatum at w) ≡ stateOf (r .open) ev = ap (λ (v : State). state (v .current) (v .around) ev) (ap short j ∙ f) in
+      let same = place-fits tables zero h (omega arith) fine z m right in
+      let byte : Act s es (D s es) z (withDatum at (takeToken s es (D s es) pcdata z)) = data-byte at (fits-some tables zero h (omega arith) fine z m right) in
+      leads s es accepted rows said m (act.next few byte (act.still few)) (r .open) (h .ranged) (notes tables zero h (omega arith) fine z m right .stands fine) ev
+      (ap (λ (q : ℕ). short (withDatum at (takePlace q z))) same ∙ taken)
 
   -- The ends that are inferred until the current element is x, or nothing is around it (`end_until` of left_out_ends).
   pub until-leads : {facts : List ℕ} → Facts s es facts → {x at n : ℕ} {o : Open} {numbers bytes : List ℕ} {r : Outcome} {numbers′ bytes′ : List ℕ}
@@ -180,7 +284,7 @@ module _ (s : List ℕ) (es : List Element) (accepted : Accepts s es) (rows : Li
       ∙ ap (λ (w : State). shortly (q w)) (m .same)
       ∙ ap shortly (sym (h .same s es facts-say (m .stands) (z .events)) ∙ ap (λ (n : ℕ). outcomeOf at n (stateOf (r .open) ev)) fine)
       ∙ ap got (stateOf-short (r .open) ev)) in
-      (y, e, leads s es accepted rows said m (got-so (ends-acts s es x at (z .around) (z .current) (z .events) (omega (arith, m .many, m .ranged .few))) e) (r .open) (h .stands es (m .stands)) ev f)
+      (y, e, leads s es accepted rows said m (got-so (ends-acts s es x at (z .around) (z .current) (z .events) (omega (arith, m .many, m .ranged .few))) e) (r .open) (h .brings .ranged) (h .stands es (m .stands)) ev f)
 
   -- The document's end (`finish` of closing), where it is not refused: the ends that it infers lead to where nothing is open, with the events that it brings.
   -- The state that it gives is not decided: nobody reads it.

@@ -56,7 +56,7 @@ pub data Passes (s : List ℕ) (es : List Element) (D : Decisions) (d : List ℕ
   begins : Passes s es D d 0 nothingOpen
   goes : {at : ℕ} {z : State} {p : Piece} (r : Reached) → Passes s es D d at z → at < length d → piece d at ≡ got p → settlePiece s es D d p at z ≡ got r → Passes s es D d (r .at) (r .state)
 
--- "TAGLVL 24 open elements": as many as stand around the current one.
+-- "TAGLVL 24 open elements": at most 24 stand around the current one, which is how many are open, since the outermost of them is the document itself.
 abbrev pub Few : State → Type 0
 Few z = length (z .around) ≤ TAGLVL
 
