@@ -76,15 +76,19 @@ for bytes in 32768 32769 100000; do
     if [ "$bytes" -le 32768 ]; then cp "$example/stdout" "$room/expected"; else echo "refused 1 in type at 0" >"$room/expected"; fi
     prints "a type file of $bytes bytes" "$room/expected"
 done
+# What is printed of a document of so many bytes "x": one run of data up to the limit, a refusal beyond it.
+expect_document() {
+    if [ "$1" -le 65535 ]; then
+        printf '%s\n' 'events 7' '2 LIST 0 0' '2 ITEM 0 0' '2 NAME 0 0' '5 - 0 65535' '4 NAME 65535 0' '4 ITEM 65535 0' '4 LIST 65535 0'
+    else
+        echo "refused 1 in document at 0"
+    fi >"$room/expected"
+}
 for bytes in 65535 65536 200000; do
     fresh
     cp "$type" "$room/case"
     many "$bytes" x >"$room/case/doc.sgm"
-    if [ "$bytes" -le 65535 ]; then
-        printf '%s\n' 'events 7' '2 LIST 0 0' '2 ITEM 0 0' '2 NAME 0 0' '5 - 0 65535' '4 NAME 65535 0' '4 ITEM 65535 0' '4 LIST 65535 0' >"$room/expected"
-    else
-        echo "refused 1 in document at 0" >"$room/expected"
-    fi
+    expect_document "$bytes"
     prints "a document of $bytes bytes" "$room/expected"
 done
 fresh
@@ -129,11 +133,7 @@ for bytes in 65535 65536 200000; do
     mkfifo "$room/case/doc.sgm"
     many "$bytes" x >"$room/document"
     pieces "$room/document" "$room/case/doc.sgm"
-    if [ "$bytes" -le 65535 ]; then
-        printf '%s\n' 'events 7' '2 LIST 0 0' '2 ITEM 0 0' '2 NAME 0 0' '5 - 0 65535' '4 NAME 65535 0' '4 ITEM 65535 0' '4 LIST 65535 0' >"$room/expected"
-    else
-        echo "refused 1 in document at 0" >"$room/expected"
-    fi
+    expect_document "$bytes"
     prints "a document of $bytes bytes in pieces" "$room/expected"
     wait
 done
