@@ -1,6 +1,8 @@
-/* judge.c - times the judge on type files: the best of many calls, the buffer cleared before each. */
+/* judge.c - times the judge on type files: judge [-n LENGTH] TYPE.. The best of many calls, the buffer cleared before each. Names have
+ * at most LENGTH bytes, 8 where it is not given. */
 #include "sgml.h"
 #include <stdio.h>
+#include <stdlib.h>
 #include <string.h>
 #include <time.h>
 
@@ -14,8 +16,9 @@ static double now(void)
 int main(int argc, char **argv)
 {
     static uint8_t type[SGML_TYPE_LIMIT + 1], buffer[16384 * 4];
-    int i, k;
-    for (i = 1; i < argc; i++) {
+    int i = argc > 2 && !strcmp(argv[1], "-n") ? 3 : 1, k;
+    uint32_t length = i > 1 ? (uint32_t)atoi(argv[2]) : SGML_NAMELEN;
+    for (; i < argc; i++) {
         uint32_t answer[SGML_ANSWER_SIZE], number = 0;
         double best = 1e12;
         FILE *file = fopen(argv[i], "rb");
@@ -26,7 +29,7 @@ int main(int argc, char **argv)
         for (k = 0; k < 300; k++) {
             double t = now();
             memset(buffer, 0, sizeof buffer);
-            number = sgml_judge(type, n, buffer, sizeof buffer, answer);
+            number = sgml_judge(type, n, buffer, sizeof buffer, answer, length);
             t = now() - t;
             if (t < best)
                 best = t;

@@ -1,7 +1,8 @@
-/* reader.c - times the document reader on documents of one type: reader TYPE DOCUMENT.. The best of many calls, the buffer
- * cleared before each. */
+/* reader.c - times the document reader on documents of one type: reader [-n LENGTH] TYPE DOCUMENT.. The best of many calls, the buffer
+ * cleared before each. Names have at most LENGTH bytes, 8 where it is not given. */
 #include "sgml.h"
 #include <stdio.h>
+#include <stdlib.h>
 #include <string.h>
 #include <time.h>
 
@@ -25,9 +26,10 @@ static size_t load(const char *path, uint8_t *to, size_t room)
 
 int main(int argc, char **argv)
 {
-    size_t t = argc < 2 ? 0 : load(argv[1], type, sizeof type);
-    int i, k;
-    for (i = 2; i < argc; i++) {
+    int i = argc > 2 && !strcmp(argv[1], "-n") ? 3 : 1, k;
+    uint32_t length = i > 1 ? (uint32_t)atoi(argv[2]) : SGML_NAMELEN;
+    size_t t = i < argc ? load(argv[i++], type, sizeof type) : 0;
+    for (; i < argc; i++) {
         uint32_t answer[SGML_ANSWER_SIZE], number = 0;
         double best = 1e12;
         size_t d = load(argv[i], document, sizeof document);
@@ -35,7 +37,7 @@ int main(int argc, char **argv)
             double start;
             memset(buffer, 0, sizeof buffer);
             start = now();
-            number = sgml_read(type, t, document, d, buffer, sizeof buffer, answer);
+            number = sgml_read(type, t, document, d, buffer, sizeof buffer, answer, length);
             start = now() - start;
             if (start < best)
                 best = start;

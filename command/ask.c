@@ -4,11 +4,13 @@
 #include <string.h>
 
 enum {
-    TAIL = 1024, /* bytes put behind a beginning */
+    TAIL = 2048, /* bytes put behind a beginning */
     DEPTH = 8,  /* start tags and data put there, where all are tried */
     STEPS = 40, /* and where one is tried */
     WORK = 40 * 1000 * 1000 /* bytes read for that at most, twice: a second or so */
 };
+
+uint32_t name_limit = SGML_NAMELEN;
 
 /* Bytes read since a tail is sought; judging a byte of a type takes some five times as long as reading one of a document. */
 static size_t work;
@@ -39,7 +41,7 @@ static struct reply ask_type(const struct input *type, size_t cut, const char *t
     static uint8_t room[SGML_TYPE_LIMIT + TAIL];
     struct input whole = joined(type, cut, tail, room);
     uint32_t answer[SGML_ANSWER_SIZE];
-    return reply_of(sgml_judge(whole.bytes, whole.length, NULL, 0, answer), answer);
+    return reply_of(sgml_judge(whole.bytes, whole.length, NULL, 0, answer, name_limit), answer);
 }
 
 static struct reply ask_document(const struct input *type, const struct input *document, size_t cut, const char *tail)
@@ -48,7 +50,7 @@ static struct reply ask_document(const struct input *type, const struct input *d
     struct input whole = joined(document, cut, tail, room);
     uint32_t answer[SGML_ANSWER_SIZE];
     work += 5 * type->length + whole.length;
-    return reply_of(sgml_read(type->bytes, type->length, whole.bytes, whole.length, NULL, 0, answer), answer);
+    return reply_of(sgml_read(type->bytes, type->length, whole.bytes, whole.length, NULL, 0, answer, name_limit), answer);
 }
 
 void begin_question(struct question *q, const struct input *type, const struct input *document, size_t cut)
@@ -57,7 +59,7 @@ void begin_question(struct question *q, const struct input *type, const struct i
     q->type = type;
     q->document = document;
     q->cut = cut;
-    q->elements = sgml_judge(type->bytes, type->length, q->records, sizeof q->records, answer) ? 0 : answer[SGML_ANSWER_COUNT];
+    q->elements = sgml_judge(type->bytes, type->length, q->records, sizeof q->records, answer, name_limit) ? 0 : answer[SGML_ANSWER_COUNT];
 }
 
 /* 3 to 8 come by position, and before 9 and 19: so a word is unfit exactly if one of them stands at it or before it. */
@@ -83,7 +85,7 @@ int may_come(const struct question *q, const char *tail, size_t before)
 
 void add_tag(const struct question *q, char *text, size_t room, const char *before, uint32_t element)
 {
-    char name[SGML_NAMELEN + 1];
+    char name[SGML_MOST_NAMELEN + 1];
     sgml_copy_name(q->type->bytes, q->records, element, name, sizeof name);
     if (strlen(text) + strlen(before) + strlen(name) + 2 <= room) {
         strcat(text, before);
@@ -122,7 +124,7 @@ static uint32_t ended(const struct question *q, char *tail)
     uint32_t number;
     do
         number = ask_document(q->type, q->document, q->cut, tail).number;
-    while (number == SGML_ERR_END_MISSING && work < WORK && strlen(tail) + SGML_NAMELEN + 4 < TAIL && add_end(q, tail));
+    while (number == SGML_ERR_END_MISSING && work < WORK && strlen(tail) + SGML_MOST_NAMELEN + 4 < TAIL && add_end(q, tail));
     return number;
 }
 
@@ -177,7 +179,7 @@ static int is_completed(const struct question *q, char *tail)
     }
     work = 0;
     tail[0] = 0;
-    for (step = 0; step < STEPS && work < WORK && strlen(tail) + SGML_NAMELEN + 4 < TAIL; step++) {
+    for (step = 0; step < STEPS && work < WORK && strlen(tail) + SGML_MOST_NAMELEN + 4 < TAIL; step++) {
         uint32_t number = ended(q, tail);
         if (number != SGML_ERR_INCOMPLETE)
             return number == SGML_ERR_NO_ROOM;
@@ -194,7 +196,7 @@ uint8_t *events_of(const struct input *type, const struct input *document, uint3
         uint8_t *events = malloc(room);
         if (!events)
             return NULL;
-        if (sgml_read(type->bytes, type->length, document->bytes, document->length, events, room, answer) != SGML_ERR_NO_ROOM || room >= most)
+        if (sgml_read(type->bytes, type->length, document->bytes, document->length, events, room, answer, name_limit) != SGML_ERR_NO_ROOM || room >= most)
             return events;
         free(events);
         room = 4 * room < most ? 4 * room : most;

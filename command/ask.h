@@ -6,6 +6,9 @@
 
 #include "sgml.h"
 
+/* How long a name may be: what both calls are given as long as the command runs. */
+extern uint32_t name_limit;
+
 struct input {
     const char *name; /* as people call it */
     uint8_t *bytes;

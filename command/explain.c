@@ -23,8 +23,8 @@ static void bad_byte(const struct fault *f)
 
 static void long_name(const struct fault *f)
 {
-    fprintf(f->to, "%s has %zu bytes, and a name has at most %d", name_at(f->input, f->at),
-            name_length(f->input->bytes, f->input->length, f->at), SGML_NAMELEN);
+    fprintf(f->to, "%s has %zu bytes, and a name has at most %u", name_at(f->input, f->at),
+            name_length(f->input->bytes, f->input->length, f->at), (unsigned)name_limit);
 }
 
 /* These bytes may stand at the fault. */
@@ -137,6 +137,12 @@ static void no_room(const struct fault *f)
     fprintf(f->to, "%s", sgml_refusal_text(f->answer[SGML_ANSWER_NUMBER]));
 }
 
+static void not_offered(const struct fault *f)
+{
+    fprintf(f->to, "%s: it is a number from %d to %d, and not %u", sgml_refusal_text(SGML_ERR_SETTINGS), SGML_NAMELEN, SGML_MOST_NAMELEN,
+            (unsigned)name_limit);
+}
+
 void explain(FILE *to, const struct input *type, const struct input *document, const uint32_t *answer)
 {
     static void (*const texts[])(const struct fault *) = {
@@ -146,7 +152,9 @@ void explain(FILE *to, const struct input *type, const struct input *document, c
     const struct input *input = answer[SGML_ANSWER_INPUT] == SGML_IN_TYPE ? type : document;
     struct fault f = { to, type, document, input, answer[SGML_ANSWER_POSITION], answer };
     uint32_t number = answer[SGML_ANSWER_NUMBER];
-    if (number && number < sizeof texts / sizeof *texts)
+    if (number == SGML_ERR_SETTINGS)
+        not_offered(&f);
+    else if (number && number < sizeof texts / sizeof *texts)
         texts[number](&f);
     else
         no_room(&f);

@@ -39,7 +39,7 @@ static int is_near(const char *a, const char *b)
 void undeclared(const struct fault *f)
 {
     static struct question q;
-    char name[SGML_NAMELEN + 1];
+    char name[SGML_MOST_NAMELEN + 1];
     struct list list = { "", 0, 0 };
     uint32_t k;
     begin_question(&q, f->type, f->document, f->at);
@@ -55,7 +55,7 @@ void undeclared(const struct fault *f)
 
 static void put_open(const struct fault *f, const struct question *q, struct open o)
 {
-    char name[SGML_NAMELEN + 1];
+    char name[SGML_MOST_NAMELEN + 1];
     sgml_copy_name(q->type->bytes, q->records, o.element, name, sizeof name);
     fprintf(f->to, "%s (%s at ", name, o.is_written ? "begun" : "inferred");
     put_place(f, f->document, o.offset);
@@ -72,7 +72,7 @@ void not_open(const struct fault *f)
     depth = open_at(&q, open);
     fprintf(f->to, "</%s>, but no %s is open", tag_name(f->document, f->at), tag_name(f->document, f->at));
     for (i = 0; i < depth; i++) {
-        char name[SGML_NAMELEN + 1];
+        char name[SGML_MOST_NAMELEN + 1];
         sgml_copy_name(q.type->bytes, q.records, open[i].element, name, sizeof name);
         add(&list, name);
     }
@@ -84,7 +84,7 @@ void not_open(const struct fault *f)
  * its own may not, or may not be omitted. Its index from the outermost. */
 static size_t stuck_at(const struct question *q, const struct open *open, size_t depth, int *is_incomplete)
 {
-    char tail[SGML_TAGLVL * (SGML_NAMELEN + 3) + 1] = "";
+    char tail[SGML_TAGLVL * (SGML_MOST_NAMELEN + 3) + 1] = "";
     size_t i = depth;
     for (;;) {
         size_t before = strlen(tail);
@@ -99,7 +99,7 @@ static size_t stuck_at(const struct question *q, const struct open *open, size_t
 static void put_allowed(const struct fault *f, const struct question *q, const struct open *open, size_t depth)
 {
     struct list list = { "", 0, 0 };
-    char tag[SGML_NAMELEN + 4];
+    char tag[SGML_MOST_NAMELEN + 4];
     uint32_t k;
     for (k = 1; k <= q->elements; k++) {
         tag[0] = 0;
@@ -121,10 +121,10 @@ static void put_allowed(const struct fault *f, const struct question *q, const s
 /* The end tag that would let the refused start tag or data come, if there is one. */
 static void put_missing_end(const struct fault *f, const struct question *q, const struct open *open, size_t depth)
 {
-    char tail[2 * SGML_NAMELEN + 8], token[SGML_NAMELEN + 3] = ".";
+    char tail[2 * SGML_MOST_NAMELEN + 8], token[SGML_MOST_NAMELEN + 3] = ".";
     size_t i = depth;
     if (is_tag(f->document, f->at))
-        snprintf(token, sizeof token, "<%.*s>", SGML_NAMELEN, tag_name(f->document, f->at));
+        snprintf(token, sizeof token, "<%.*s>", SGML_MOST_NAMELEN, tag_name(f->document, f->at));
     while (i-- > 1) {
         size_t before;
         tail[0] = 0;
@@ -203,7 +203,7 @@ void end_missing(const struct fault *f)
     struct open open[SGML_TAGLVL];
     size_t depth, stuck;
     int is_incomplete;
-    char tag[SGML_NAMELEN + 4] = "";
+    char tag[SGML_MOST_NAMELEN + 4] = "";
     begin_question(&q, f->type, f->document, f->at);
     depth = open_at(&q, open);
     put_end(f);
@@ -252,7 +252,7 @@ void section_end(const struct fault *f)
 void no_document(const struct fault *f)
 {
     static struct question q;
-    char tag[SGML_NAMELEN + 3] = "";
+    char tag[SGML_MOST_NAMELEN + 3] = "";
     begin_question(&q, f->type, f->document, f->at);
     add_tag(&q, tag, sizeof tag, "<", 1);
     fprintf(f->to, "the document has neither a tag nor data; it is one element, %s", tag);

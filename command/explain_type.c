@@ -8,7 +8,7 @@
 /* A word may stand at the fault. Behind another name it is parted from that by a space. */
 static int fits(const struct fault *f, const char *word)
 {
-    char tail[32];
+    char tail[96];
     size_t parted = is_name_byte((uint8_t)word[0]) && f->at && is_name_byte(f->type->bytes[f->at - 1]);
     snprintf(tail, sizeof tail, "%s%s ", parted ? " " : "", word);
     return may_stand(f->type, f->at, tail, parted);
@@ -62,7 +62,7 @@ void declared_twice(const struct fault *f)
     struct input before = { f->type->name, f->type->bytes, form_start(f) };
     static struct question q;
     uint32_t k;
-    char name[SGML_NAMELEN + 1];
+    char name[SGML_MOST_NAMELEN + 1];
     fprintf(f->to, "%s is declared twice", name_at(f->type, f->at));
     begin_question(&q, &before, NULL, 0);
     for (k = 1; k <= q.elements; k++) {
@@ -101,33 +101,33 @@ static int is_token(const struct input *type, size_t at, size_t length)
     memcpy(changed, type->bytes, at);
     changed[at] = '[';
     memcpy(changed + at + 1, type->bytes + at + length, type->length - at - length);
-    return sgml_judge(changed, type->length - length + 1, NULL, 0, answer) == SGML_ERR_LEFT_OUT && answer[SGML_ANSWER_POSITION] == at;
+    return sgml_judge(changed, type->length - length + 1, NULL, 0, answer, name_limit) == SGML_ERR_LEFT_OUT && answer[SGML_ANSWER_POSITION] == at;
 }
 
-/* The name is one of those that stand one after the other, each in SGML_NAMELEN bytes and a zero. */
+/* The name is one of those that stand one after the other, each in SGML_MOST_NAMELEN bytes and a zero. */
 static int is_known(const char *names, size_t count, const char *name)
 {
     size_t k;
     for (k = 0; k < count; k++)
-        if (!strcmp(names + k * (SGML_NAMELEN + 1), name))
+        if (!strcmp(names + k * (SGML_MOST_NAMELEN + 1), name))
             return 1;
     return 0;
 }
 
 void warn_of_undeclared(FILE *to, const struct input *type, int is_short)
 {
-    static char names[SGML_TYPE_LIMIT / 2 * (SGML_NAMELEN + 1)]; /* declared, or warned of */
+    static char names[SGML_TYPE_LIMIT / 2 * (SGML_MOST_NAMELEN + 1)]; /* declared, or warned of */
     static struct question q;
     size_t count, at, length;
     begin_question(&q, type, NULL, 0);
     for (count = 0; count < q.elements; count++)
-        sgml_copy_name(type->bytes, q.records, (uint32_t)count + 1, names + count * (SGML_NAMELEN + 1), SGML_NAMELEN + 1);
+        sgml_copy_name(type->bytes, q.records, (uint32_t)count + 1, names + count * (SGML_MOST_NAMELEN + 1), SGML_MOST_NAMELEN + 1);
     for (at = 0; at < type->length; at += length ? length : 1) {
         const char *name = name_at(type, at);
         length = name_length(type->bytes, type->length, at);
-        if (!isalpha(type->bytes[at]) || length > SGML_NAMELEN || is_known(names, count, name) || !is_token(type, at, length))
+        if (!isalpha(type->bytes[at]) || length > name_limit || is_known(names, count, name) || !is_token(type, at, length))
             continue;
-        strcpy(names + count++ * (SGML_NAMELEN + 1), name);
+        strcpy(names + count++ * (SGML_MOST_NAMELEN + 1), name);
         print_place(to, type, at);
         fprintf(to, "warning: %s stands in a content model and is never declared\n", name);
         if (!is_short)

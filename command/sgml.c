@@ -26,8 +26,8 @@ struct job {
 static uint8_t type_bytes[SGML_TYPE_LIMIT + 1], document_bytes[SGML_DOCUMENT_LIMIT + 1];
 static uint8_t records[SGML_MOST_RECORD_BYTES];
 
-static const char usage[] = "usage: " NAME " [-q] [--esis | --check | --answer] [--] TYPE DOCUMENT...\n"
-                            "       " NAME " [-q] --check [--] TYPE\n"
+static const char usage[] = "usage: " NAME " [-q] [--name-length N] [--esis | --check | --answer] [--] TYPE DOCUMENT...\n"
+                            "       " NAME " [-q] [--name-length N] --check [--] TYPE\n"
                             "       " NAME " -h | --help | --version\n";
 
 static const char help[] =
@@ -41,6 +41,8 @@ static const char help[] =
     "              here byte 10 is ignored, so words on two lines join, and byte 13 is data\n"
     "  --answer    print on standard output what the small program of the scope paper prints:\n"
     "              a refusal as \"refused N in type at P\" too, and at most 4,096 events\n"
+    "  --name-length N\n"
+    "              names have at most N bytes, 8 to 32; 8 where it is not given\n"
     "  -q          a refusal is one line, without the line of the file\n"
     "  -h, --help  print this and end\n"
     "  --version   print name and version and end\n"
@@ -103,14 +105,14 @@ static enum status refused(const struct job *job, const struct input *type, cons
     print_place(stderr, input, at);
     explain(stderr, type, document, answer);
     fprintf(stderr, " [%u]\n", (unsigned)answer[SGML_ANSWER_NUMBER]);
-    if (!job->is_short && answer[SGML_ANSWER_NUMBER] != SGML_ERR_TOO_LONG)
+    if (!job->is_short && answer[SGML_ANSWER_NUMBER] != SGML_ERR_TOO_LONG && answer[SGML_ANSWER_NUMBER] != SGML_ERR_SETTINGS)
         print_line(stderr, input->bytes, position_of(input->bytes, input->length, at));
     return REFUSED;
 }
 
 static void print_events(const struct input *type, const uint8_t *events, uint32_t count)
 {
-    char name[SGML_NAMELEN + 1];
+    char name[SGML_MOST_NAMELEN + 1];
     uint32_t k;
     printf("events %u\n", (unsigned)count);
     for (k = 0; k < count; k++) {
@@ -139,7 +141,7 @@ static void print_escaped(uint8_t byte)
 /* Runs of data with no tag between them are one line, as with onsgmls. */
 static void print_esis(const struct input *type, const struct input *document, const uint8_t *events, uint32_t count)
 {
-    char name[SGML_NAMELEN + 1];
+    char name[SGML_MOST_NAMELEN + 1];
     uint32_t k, i, before = 0;
     for (k = 0; k < count; k++) {
         struct sgml_event e = sgml_event_at(events, k);
@@ -164,7 +166,7 @@ static enum status answered(const struct input *type, const struct input *docume
 {
     static uint8_t events[4 * 16384];
     uint32_t answer[SGML_ANSWER_SIZE];
-    uint32_t number = sgml_read(type->bytes, type->length, document->bytes, document->length, events, sizeof events, answer);
+    uint32_t number = sgml_read(type->bytes, type->length, document->bytes, document->length, events, sizeof events, answer, name_limit);
     if (number)
         printf("refused %u in %s at %u\n", (unsigned)number,
                answer[SGML_ANSWER_INPUT] == SGML_IN_TYPE ? "type" : "document", (unsigned)answer[SGML_ANSWER_POSITION]);
@@ -213,7 +215,7 @@ static enum status run(struct job *job)
     int i;
     if (load(&type, sizeof type_bytes))
         return NOT_RUN;
-    number = sgml_judge(type.bytes, type.length, records, sizeof records, answer);
+    number = sgml_judge(type.bytes, type.length, records, sizeof records, answer, name_limit);
     if (!job->count)
         return judge(job, &type, answer);
     if (number && job->form != ANSWER)
@@ -230,6 +232,19 @@ static enum status tell(const char *text, const char *more)
 {
     printf("%s%s", text, more);
     return written(ACCEPTED);
+}
+
+/* Takes how long a name may be; 0 if the word is no number. What the library does not take is the library's to refuse, and that is so of
+ * every number that 32 bits do not hold. */
+static int is_name_length(const char *word)
+{
+    size_t digits = word ? strspn(word, "0123456789") : 0;
+    unsigned long long number;
+    if (!digits || word[digits])
+        return 0;
+    number = strtoull(word, NULL, 10);
+    name_limit = number < UINT32_MAX ? (uint32_t)number : UINT32_MAX;
+    return 1;
 }
 
 /* Takes an option; 0 if there is none of that name. */
@@ -267,6 +282,9 @@ int main(int argc, char **argv)
             return tell(usage, help);
         } else if (!strcmp(word, "--version")) {
             return tell(NAME " " SGML_VERSION, "\n");
+        } else if (!strcmp(word, "--name-length")) {
+            if (!is_name_length(argv[++i]))
+                return misused("--name-length takes a number", "");
         } else if (!is_option(&job, word, &forms)) {
             return misused("no such option: ", word);
         }

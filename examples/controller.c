@@ -97,7 +97,7 @@ static uint8_t *events_of(const struct input *type, const struct input *catalogu
         uint8_t *events = malloc(room);
         if (!events)
             return NULL;
-        if (sgml_read(type->bytes, type->length, catalogue->bytes, catalogue->length, events, room, answer) != SGML_ERR_NO_ROOM || room >= most)
+        if (sgml_read(type->bytes, type->length, catalogue->bytes, catalogue->length, events, room, answer, SGML_NAMELEN) != SGML_ERR_NO_ROOM || room >= most)
             return events;
         free(events);
         room = 4 * room < most ? 4 * room : most;
@@ -110,7 +110,7 @@ static void find_roles(const struct input *type)
     static uint8_t records[SGML_MOST_RECORD_BYTES];
     uint32_t answer[SGML_ANSWER_SIZE];
     char name[SGML_NAMELEN + 1];
-    if (sgml_judge(type->bytes, type->length, records, sizeof records, answer))
+    if (sgml_judge(type->bytes, type->length, records, sizeof records, answer, SGML_NAMELEN))
         return;
     for (uint32_t element = 1; element <= answer[SGML_ANSWER_COUNT]; element++) {
         sgml_copy_name(type->bytes, records, element, name, sizeof name);

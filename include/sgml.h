@@ -6,7 +6,7 @@
  *     uint32_t answer[SGML_ANSWER_SIZE];
  *     size_t room = SGML_EVENT_BYTES * SGML_MOST_EVENTS(document_len), k;
  *     uint8_t *buffer = malloc(room);
- *     if (sgml_read(type, type_len, document, document_len, buffer, room, answer)) {
+ *     if (sgml_read(type, type_len, document, document_len, buffer, room, answer, SGML_NAMELEN)) {
  *         printf("%s at byte %u\n", sgml_refusal_text(answer[SGML_ANSWER_NUMBER]), (unsigned)answer[SGML_ANSWER_POSITION]);
  *         return 1;
  *     }
@@ -15,6 +15,10 @@
  *         printf("%u %u %u %u\n", (unsigned)e.kind, (unsigned)e.element, (unsigned)e.offset, (unsigned)e.length);
  *     }
  *
+ * Names.  Both calls take last how long a name may be: SGML_NAMELEN, which is 8, where nothing else is agreed, and up to
+ *     SGML_MOST_NAMELEN, which is 32, for suppliers who declare a longer NAMELEN. Another number is SGML_ERR_SETTINGS, before anything
+ *     else is looked at. Before 0.4.0 the calls did not take it, and 8 was what they went by: so a program that was written for 0.3.0
+ *     passes SGML_NAMELEN as the last argument of both calls, and nothing else changes for it.
  * Memory.  Nothing here allocates, keeps state or touches memory other than what the caller lends. The inputs are the caller's
  *     and only read; buffer and answer are lent for the call. A pointer may be null where its length is 0. The two inputs may
  *     overlap each other. Buffer and answer overlap nothing, neither each other nor an input: where they do, no call promises
@@ -39,8 +43,8 @@
 #include <stddef.h>
 #include <stdint.h>
 
-#define SGML_VERSION "0.3.0"
-#define SGML_VERSION_NUMBER 300 /* 10000 times the major version, 100 times the minor one and the patch */
+#define SGML_VERSION "0.4.0"
+#define SGML_VERSION_NUMBER 400 /* 10000 times the major version, 100 times the minor one and the patch */
 
 #ifdef __cplusplus
 extern "C" {
@@ -58,7 +62,8 @@ enum {
     SGML_TYPE_LIMIT = 32768,     /* bytes of a type file */
     SGML_DOCUMENT_LIMIT = 65535, /* bytes of a document */
     SGML_ELEMENT_LIMIT = 64,     /* declared elements */
-    SGML_NAMELEN = 8,            /* bytes of a name */
+    SGML_NAMELEN = 8,            /* bytes of a name: the least that a caller may give */
+    SGML_MOST_NAMELEN = 32,      /* and the most */
     SGML_GRPCNT = 32,            /* content tokens in one model group */
     SGML_GRPLVL = 16,            /* levels of model groups */
     SGML_GRPGTCNT = 96,          /* content tokens in a content model */
@@ -105,12 +110,13 @@ enum sgml_answer {
 /* The inputs of a call, as answer[SGML_ANSWER_INPUT] names them. */
 enum sgml_input { SGML_IN_NEITHER = 0, SGML_IN_TYPE = 1, SGML_IN_DOCUMENT = 2 };
 
-/* The refusals. 1 to 5 are of a type file or a document, 6 to 9 of a type file, 10 to 18 of a document. */
+/* The refusals. 1 to 5 are of a type file or a document, 6 to 9 of a type file, 10 to 18 of a document; 24 is of neither, and
+ * answered as position 0 of the type file. */
 enum sgml_refusal {
     SGML_ACCEPTED = 0,
     SGML_ERR_TOO_LONG = 1,          /* the input is longer than its limit; position 0 */
     SGML_ERR_BYTE = 2,              /* a byte that is not allowed: the first such */
-    SGML_ERR_NAME_TOO_LONG = 3,     /* a name, keyword or word of more than SGML_NAMELEN bytes: its first byte */
+    SGML_ERR_NAME_TOO_LONG = 3,     /* a name, keyword or word of more than name_length bytes: its first byte */
     SGML_ERR_MALFORMED = 4,         /* malformed: the first unfit byte; or the input ends within a form: the input's length */
     SGML_ERR_LEFT_OUT = 5,          /* a form of ISO 8879 that is left out here: its first byte */
     SGML_ERR_QUANTITY = 6,          /* GRPCNT, GRPLVL or GRPGTCNT passed: the token or "(" too many */
@@ -126,7 +132,8 @@ enum sgml_refusal {
     SGML_ERR_AFTER_END = 16,        /* a start tag or data after the document element */
     SGML_ERR_SECTION_END = 17,      /* "]]>" outside tags and comments: its first byte */
     SGML_ERR_NO_DOCUMENT = 18,      /* no document element: the document's length */
-    SGML_ERR_NO_ROOM = 19           /* the lent buffer is too small; position 0 */
+    SGML_ERR_NO_ROOM = 19,          /* the lent buffer is too small; position 0 */
+    SGML_ERR_SETTINGS = 24          /* name_length is not one of SGML_NAMELEN to SGML_MOST_NAMELEN: position 0 of the type file */
 };
 
 /* A refusal's number in words. */
@@ -153,6 +160,7 @@ static inline const char *sgml_refusal_text(uint32_t number)
     case SGML_ERR_SECTION_END: return "]]> outside tags and comments";
     case SGML_ERR_NO_DOCUMENT: return "there is no document element";
     case SGML_ERR_NO_ROOM: return "the lent buffer is too small";
+    case SGML_ERR_SETTINGS: return "a length of names that is not offered";
     default: return "no refusal has this number";
     }
 }
@@ -200,6 +208,7 @@ struct sgml_event {
  *   buffer, buffer_len  lent for the records: 32-bit numbers of four bytes each, low byte first. One to three bytes over at
  *                       the end hold no number. SGML_MOST_RECORD_BYTES bytes are always enough.
  *   answer              lent for the SGML_ANSWER_SIZE numbers of the answer
+ *   name_length         how many bytes a name may have: SGML_NAMELEN to SGML_MOST_NAMELEN
  *
  * Accepted (answer[SGML_ANSWER_NUMBER] is 0): the buffer begins with answer[SGML_ANSWER_COUNT] records of SGML_RECORD_SIZE
  * numbers, one for each element in declaration order; every byte behind them is as it was.
@@ -207,7 +216,7 @@ struct sgml_event {
  *
  * Gives back answer[SGML_ANSWER_NUMBER]: SGML_ACCEPTED, which is 0, or the refusal's number. */
 SGML_LOOK_AT_ANSWER uint32_t sgml_judge(const uint8_t *type, size_t type_len, uint8_t *buffer, size_t buffer_len,
-                                        uint32_t answer[SGML_ANSWER_SIZE]);
+                                        uint32_t answer[SGML_ANSWER_SIZE], uint32_t name_length);
 
 /* Reads a document under a type file, which is judged afresh.
  *
@@ -216,6 +225,7 @@ SGML_LOOK_AT_ANSWER uint32_t sgml_judge(const uint8_t *type, size_t type_len, ui
  *   buffer, buffer_len      lent for the events: 32-bit numbers of four bytes each, low byte first, as above.
  *                           SGML_EVENT_BYTES * SGML_MOST_EVENTS(document_len) bytes are always enough.
  *   answer                  lent for the SGML_ANSWER_SIZE numbers of the answer
+ *   name_length             how many bytes a name may have, as above
  *
  * Accepted (answer[SGML_ANSWER_NUMBER] is 0): the buffer begins with answer[SGML_ANSWER_COUNT] events of SGML_EVENT_SIZE numbers,
  * in the order of the document; every byte behind them is as it was.
@@ -224,7 +234,7 @@ SGML_LOOK_AT_ANSWER uint32_t sgml_judge(const uint8_t *type, size_t type_len, ui
  *
  * Gives back answer[SGML_ANSWER_NUMBER], as sgml_judge does. */
 SGML_LOOK_AT_ANSWER uint32_t sgml_read(const uint8_t *type, size_t type_len, const uint8_t *document, size_t document_len,
-                                       uint8_t *buffer, size_t buffer_len, uint32_t answer[SGML_ANSWER_SIZE]);
+                                       uint8_t *buffer, size_t buffer_len, uint32_t answer[SGML_ANSWER_SIZE], uint32_t name_length);
 
 /* The k-th number of a lent buffer. */
 static inline uint32_t sgml_number(const uint8_t *buffer, size_t k)
@@ -260,7 +270,7 @@ static inline struct sgml_record sgml_record_at(const uint8_t *buffer, size_t k)
 }
 
 /* Copies the name of the element number `element`, from 1, to a text of `room` bytes, in upper case and with a zero behind it, as
- * far as there is room. `type` is the type file that the records are of. SGML_NAMELEN + 1 bytes are always enough. Gives back
+ * far as there is room. `type` is the type file that the records are of. SGML_MOST_NAMELEN + 1 bytes are always enough. Gives back
  * how long the name is. */
 static inline size_t sgml_copy_name(const uint8_t *type, const uint8_t *records, uint32_t element, char *to, size_t room)
 {

@@ -1,16 +1,16 @@
 /* boundary.c - the judge's C boundary: null and empty slices, buffers of every length modulo 4, exactly enough room and one
- * number short, guard bytes around every slice, and the odd bytes at the end; then the helpers of the header. With an argument
- * there are no guards. */
+ * number short, guard bytes around every slice, and the odd bytes at the end; lengths of names; then the helpers of the header. With an
+ * argument there are no guards. */
 #include "check.h"
 
 /* Judges a type file into a fresh buffer of `room` bytes, and checks what must hold whatever the answer. */
-static uint32_t judged(const char *text, size_t room, size_t count)
+static uint32_t judged_with(uint32_t name_length, const char *text, size_t room, size_t count)
 {
     struct slice type = lend(text, strlen(text), room % 3), buffer = lend(NULL, room, room % 5);
     struct slice lent = lend(NULL, 4 * SGML_ANSWER_SIZE, 0);
     uint32_t *answer = (uint32_t *)(void *)lent.bytes, number;
     size_t used;
-    number = sgml_judge(type.bytes, type.length, buffer.bytes, room, answer);
+    number = sgml_judge(type.bytes, type.length, buffer.bytes, room, answer, name_length);
     check(number == answer[SGML_ANSWER_NUMBER], "the call gives back the answer's number");
     if (number) {
         check(all(buffer.bytes, room, 0), "a refusal zeroes the whole buffer, odd bytes too");
@@ -25,6 +25,33 @@ static uint32_t judged(const char *text, size_t room, size_t count)
     check(is_whole(buffer), "guards of the buffer");
     check(is_whole(lent), "guards of the answer");
     return number;
+}
+
+static uint32_t judged(const char *text, size_t room, size_t count)
+{
+    return judged_with(SGML_NAMELEN, text, room, count);
+}
+
+/* Names of 1 to 40 bytes where a name may have 0 to 40, and 4,294,967,295. */
+static void check_lengths(void)
+{
+    static const char letters[] = "ABCDEFGHIJKLMNOPQRSTUVWXYZabcdefghijklmn";
+    char text[80];
+    uint32_t k, n;
+    for (k = 0; k <= 41; k++) {
+        uint32_t length = k <= 40 ? k : UINT32_MAX;
+        int is_offered = length >= SGML_NAMELEN && length <= SGML_MOST_NAMELEN;
+        for (n = 1; n <= 40; n++) {
+            snprintf(text, sizeof text, "<!ELEMENT %.*s - O EMPTY>", (int)n, letters);
+            check(judged_with(length, text, 24 + n, 1) ==
+                      (is_offered ? n <= length ? SGML_ACCEPTED : SGML_ERR_NAME_TOO_LONG : SGML_ERR_SETTINGS),
+                  "a name of every length");
+        }
+        check(judged_with(length, "\001", 3, 0) == (is_offered ? SGML_ERR_BYTE : SGML_ERR_SETTINGS), "24 comes before 2");
+        check(judged_with(length, "<!ELEMENTAL>", 3, 0) ==
+                  (!is_offered ? SGML_ERR_SETTINGS : length < 9 ? SGML_ERR_NAME_TOO_LONG : SGML_ERR_LEFT_OUT),
+              "a keyword that is none");
+    }
 }
 
 /* The short text of every number; people look them up, so a change is meant. */
@@ -52,6 +79,11 @@ static void check_texts(void)
         "there is no document element",
         "the lent buffer is too small",
         "no refusal has this number",
+        "no refusal has this number",
+        "no refusal has this number",
+        "no refusal has this number",
+        "a length of names that is not offered",
+        "no refusal has this number",
     };
     uint32_t number;
     for (number = 0; number < sizeof texts / sizeof *texts; number++)
@@ -63,9 +95,9 @@ static void check_records(const char *two)
 {
     uint8_t records[SGML_MOST_RECORD_BYTES];
     uint32_t answer[SGML_ANSWER_SIZE];
-    char name[SGML_NAMELEN + 1];
+    char name[SGML_MOST_NAMELEN + 1];
     struct sgml_record a, b;
-    check(sgml_judge((const uint8_t *)two, strlen(two), records, sizeof records, answer) == SGML_ACCEPTED, "two elements");
+    check(sgml_judge((const uint8_t *)two, strlen(two), records, sizeof records, answer, SGML_NAMELEN) == SGML_ACCEPTED, "two elements");
     a = sgml_record_at(records, 0);
     b = sgml_record_at(records, 1);
     check(a.name_offset == 10 && a.name_length == 3 && !a.start_tag && a.end_tag && a.content == 1 && a.tokens == 2, "a record");
@@ -88,8 +120,9 @@ int main(int argc, char **argv)
     for (room = 0; room < 8; room++)
         check(judged("<!ELEMENT A - O (B?,B)>", room, 0) == SGML_ERR_AMBIGUOUS, "9 comes before 19");
     memset(answer, FILL, sizeof answer);
-    check(sgml_judge(NULL, 0, NULL, 0, answer) == SGML_ERR_ELEMENTS, "null and empty, given back");
+    check(sgml_judge(NULL, 0, NULL, 0, answer, SGML_NAMELEN) == SGML_ERR_ELEMENTS, "null and empty, given back");
     check(answer[SGML_ANSWER_NUMBER] == SGML_ERR_ELEMENTS && answer[SGML_ANSWER_POSITION] == 0, "null and empty");
+    check_lengths();
     check_texts();
     check_records("<!ELEMENT a.1 - O (B,#PCDATA)><!ELEMENT B O O EMPTY>");
     return told();

@@ -1,6 +1,6 @@
 /* boundary_read.c - the reader's C boundary: null and empty slices, buffers of every length modulo 4, exactly enough room and one
- * number short, guard bytes around every slice, both inputs as they were, and the odd bytes at the end. With an argument there
- * are no guards. */
+ * number short, guard bytes around every slice, both inputs as they were, and the odd bytes at the end; lengths of names. With an argument
+ * there are no guards. */
 #include "check.h"
 
 static const char stock[] = "<!ELEMENT LIST O O (ITEM+)><!ELEMENT ITEM O O (NAME,QTY?)>"
@@ -38,12 +38,12 @@ static void check_answer(const uint32_t *answer, struct slice buffer)
 }
 
 /* Reads a document into a fresh buffer of `room` bytes, and checks what must hold whatever the answer. */
-static uint32_t number_of(const char *type_text, const char *text, size_t room, size_t skew)
+static uint32_t number_with(uint32_t name_length, const char *type_text, const char *text, size_t room, size_t skew)
 {
     struct slice type = lend(type_text, strlen(type_text), (skew + 1) % 4), document = lend(text, strlen(text), (skew + 3) % 4);
     struct slice buffer = lend(NULL, room, skew), lent = lend(NULL, 4 * SGML_ANSWER_SIZE, 0);
     uint32_t *answer = (uint32_t *)(void *)lent.bytes, number;
-    number = sgml_read(type.bytes, type.length, document.bytes, document.length, buffer.bytes, room, answer);
+    number = sgml_read(type.bytes, type.length, document.bytes, document.length, buffer.bytes, room, answer, name_length);
     check(number == answer[SGML_ANSWER_NUMBER], "the call gives back the answer's number");
     check_answer(answer, buffer);
     if (text == clamp && !number)
@@ -55,6 +55,33 @@ static uint32_t number_of(const char *type_text, const char *text, size_t room, 
     check(is_whole(buffer), "guards of the buffer");
     check(is_whole(lent), "guards of the answer");
     return number;
+}
+
+static uint32_t number_of(const char *type_text, const char *text, size_t room, size_t skew)
+{
+    return number_with(SGML_NAMELEN, type_text, text, room, skew);
+}
+
+/* Tags with names of 1 to 40 bytes where a name may have 0 to 40, and 4,294,967,295. The element has the longest name that is allowed, so
+ * a shorter one is not declared. */
+static void check_lengths(void)
+{
+    static const char letters[] = "ABCDEFGHIJKLMNOPQRSTUVWXYZabcdefghijklmn";
+    char type[80], document[64];
+    uint32_t k, n;
+    for (k = 0; k <= 41; k++) {
+        uint32_t length = k <= 40 ? k : UINT32_MAX;
+        int is_offered = length >= SGML_NAMELEN && length <= SGML_MOST_NAMELEN;
+        uint32_t above = is_offered ? SGML_ERR_NAME_TOO_LONG : SGML_ERR_SETTINGS, below = is_offered ? SGML_ERR_UNDECLARED : SGML_ERR_SETTINGS;
+        snprintf(type, sizeof type, "<!ELEMENT %.*s - O EMPTY>", is_offered ? (int)length : 8, letters);
+        for (n = 1; n <= 40; n++) {
+            snprintf(document, sizeof document, "<%.*s>", (int)n, letters);
+            check(number_with(length, type, document, 2 * SGML_EVENT_BYTES + n, n % 4) ==
+                      (is_offered && n == length ? SGML_ACCEPTED : n < length ? below : above),
+                  "a tag of every length");
+        }
+        check(number_with(length, "", "\001", 5, 0) == (is_offered ? SGML_ERR_BYTE : SGML_ERR_SETTINGS), "24 comes before 2");
+    }
 }
 
 static void check_rooms(void)
@@ -80,7 +107,7 @@ static void check_slices(const char *type, size_t type_len, const char *document
 {
     uint32_t answer[SGML_ANSWER_SIZE];
     memset(answer, FILL, sizeof answer);
-    check(sgml_read((const uint8_t *)type, type_len, (const uint8_t *)document, document_len, NULL, 0, answer) == number, what);
+    check(sgml_read((const uint8_t *)type, type_len, (const uint8_t *)document, document_len, NULL, 0, answer, SGML_NAMELEN) == number, what);
     check(answer[SGML_ANSWER_NUMBER] == number && answer[SGML_ANSWER_INPUT] == input && answer[SGML_ANSWER_POSITION] == position &&
               answer[SGML_ANSWER_FIRST] == 0 && answer[SGML_ANSWER_SECOND] == 0 && answer[SGML_ANSWER_COUNT] == 0, what);
 }
@@ -92,6 +119,7 @@ int main(int argc, char **argv)
     if (argc > 1)
         guard = 0;
     check_rooms();
+    check_lengths();
     check_slices(NULL, 0, NULL, 0, SGML_ERR_ELEMENTS, SGML_IN_TYPE, 0, "all null");
     check_slices(stock, 0, clamp, 0, SGML_ERR_ELEMENTS, SGML_IN_TYPE, 0, "all empty");
     check_slices(NULL, 0, clamp, m, SGML_ERR_ELEMENTS, SGML_IN_TYPE, 0, "null type file");

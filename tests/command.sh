@@ -121,19 +121,20 @@ sanitized=$out/sgml
 cc -std=c99 $strict -g -fsanitize=address,undefined -fno-sanitize-recover=all -Iinclude command/*.c $library -o "$sanitized"
 for v in tests/vectors/*/*; do
     read -r word number _ input _ position <"$v/expected"
+    names=$(sed -n 's/^namelen /--name-length /p' "$v/args" 2>/dev/null || true)
     case $word,$number,$input in
     events,*)
-        ran "$sanitized" "$v/type.sgm" "$v/doc.sgm"
+        ran "$sanitized" $names "$v/type.sgm" "$v/doc.sgm"
         check "$v" is_same 0 "$v/expected"
         ;;
     refused,19,*)
-        ran "$sanitized" "$v/type.sgm" "$v/doc.sgm"
+        ran "$sanitized" $names "$v/type.sgm" "$v/doc.sgm"
         check "$v: the command's own buffer grows" grep -q '^events ' "$out/stdout"
         ;;
-    refused,*,type) refuses "$(place "$v/type.sgm" "$position")" "$number" "$sanitized" "$v/type.sgm" "$v/doc.sgm" ;;
-    *) refuses "$(place "$v/doc.sgm" "$position")" "$number" "$sanitized" "$v/type.sgm" "$v/doc.sgm" ;;
+    refused,*,type) refuses "$(place "$v/type.sgm" "$position")" "$number" "$sanitized" $names "$v/type.sgm" "$v/doc.sgm" ;;
+    *) refuses "$(place "$v/doc.sgm" "$position")" "$number" "$sanitized" $names "$v/type.sgm" "$v/doc.sgm" ;;
     esac
-    ran "$sanitized" --answer "$v/type.sgm" "$v/doc.sgm"
+    ran "$sanitized" $names --answer "$v/type.sgm" "$v/doc.sgm"
     check "$v by --answer" is_same "$([ "$word" = refused ] && echo 1 || echo 0)" "$v/expected"
 done
 told
@@ -162,6 +163,8 @@ if needs onsgmls opensp "onsgmls on the same documents"; then
     for v in tests/vectors/*/*; do
         # onsgmls has short tags, and ignores a record end at the start and end of an element
         case $v in */bare-marks | */mixed/165 | */return-is-data) continue ;; esac
+        # nor is it given a declaration with another NAMELEN here
+        [ ! -e "$v/args" ] || continue
         [ "$(head -c 6 "$v/expected")" != events ] || check "onsgmls on $v" agree "$v/type.sgm" "$v/doc.sgm"
     done
 fi
@@ -198,6 +201,23 @@ check "a refused type is told of once" test "$(wc -l <"$out/stderr")" -eq 1
 ends 1 "$out/long:1:1: this document has more than 65535 bytes [1]" $sgml $type "$out/long"
 ends 1 "$out/long:1:1: this type file has more than 32768 bytes [1]" $sgml "$out/long" $few
 ends 1 "<stdin>:1:1: this document has more than 65535 bytes [1]" bash -c "$sgml $type - <$out/long"
+# the length of names
+printf '<!ELEMENT ABCDEFGHI - O (#PCDATA)>' >"$out/nine.type"
+printf '<ABCDEFGHI>x' >"$out/nine.sgm"
+ends 0 "" $sgml --check --name-length 9 "$out/nine.type" "$out/nine.sgm"
+ends 0 "" $sgml --name-length 32 --check "$out/nine.type"
+ends 1 "$out/nine.type:1:11: ABCDEFGHI has 9 bytes, and a name has at most 8 [3]" $sgml "$out/nine.type" "$out/nine.sgm"
+for length in 0 7 33 4294967295 99999999999999999999; do
+    number=$length
+    [ ${#length} -lt 12 ] || number=4294967295
+    ends 1 "$type:1:1: a length of names that is not offered: it is a number from 8 to 32, and not $number [24]" $sgml --name-length $length $type $few
+    check "24 shows no line" test "$(wc -l <"$out/stderr")" -eq 1
+    ends 1 "$type:1:1: a length of names that is not offered: it is a number from 8 to 32, and not $number [24]" $sgml --check --name-length $length $type
+done
+for word in "" x 9x -9 " 9"; do
+    ends 2 "sgml: --name-length takes a number" $sgml --check $type --name-length "$word"
+done
+ends 2 "sgml: --name-length takes a number" $sgml --check $type --name-length
 ends 2 "sgml: a type file and a document are due" $sgml
 ends 2 "sgml: a type file and a document are due" $sgml $type
 ends 2 "sgml: a type file and a document are due" $sgml --answer $type

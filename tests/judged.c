@@ -1,6 +1,6 @@
 /* judged.c - holds the judge against vectors: folders with type.sgm and the expected output of the small program.
  * "refused N in type" is the judge's answer too, and events, or a refusal of the document that comes after the type was
- * judged (10 on), mean that the type is accepted. */
+ * judged (10 on), mean that the type is accepted. A file args gives the length of names where it is not 8. */
 #include "sgml.h"
 #include <stdio.h>
 #include <string.h>
@@ -35,6 +35,21 @@ static size_t content_of(const char *folder, const char *name, uint8_t *to, size
     return n;
 }
 
+/* namelen N of the file args; 8 where there is no such file. */
+static uint32_t name_length_of(const char *folder)
+{
+    char path[512];
+    FILE *file;
+    unsigned length = SGML_NAMELEN;
+    snprintf(path, sizeof path, "%s/args", folder);
+    file = fopen(path, "r");
+    if (file && fscanf(file, "namelen %u", &length) != 1)
+        length = SGML_NAMELEN;
+    if (file)
+        fclose(file);
+    return length;
+}
+
 int main(int argc, char **argv)
 {
     static uint8_t type[70000], buffer[SGML_MOST_RECORD_BYTES];
@@ -47,7 +62,7 @@ int main(int argc, char **argv)
         expected[n] = 0;
         expected[strcspn(expected, "\n")] = 0;
         n = content_of(argv[i], "type.sgm", type, sizeof type);
-        given = sgml_judge(type, n, buffer, sizeof buffer, answer);
+        given = sgml_judge(type, n, buffer, sizeof buffer, answer, name_length_of(argv[i]));
         if (sscanf(expected, "refused %u in type at %u", &number, &position) == 2)
             hold(argv[i],
                  given == number && answer[SGML_ANSWER_NUMBER] == number && answer[SGML_ANSWER_INPUT] == SGML_IN_TYPE &&

@@ -21,7 +21,7 @@ static void name_of(uint32_t element, char name[SGML_NAMELEN + 1])
 {
     static uint8_t records[SGML_MOST_RECORD_BYTES];
     uint32_t answer[SGML_ANSWER_SIZE];
-    if (sgml_judge((const uint8_t *)type, strlen(type), records, sizeof records, answer) == SGML_ACCEPTED)
+    if (sgml_judge((const uint8_t *)type, strlen(type), records, sizeof records, answer, SGML_NAMELEN) == SGML_ACCEPTED)
         sgml_copy_name((const uint8_t *)type, records, element, name, SGML_NAMELEN + 1);
 }
 
@@ -32,7 +32,7 @@ static void print_reading(void)
     uint32_t answer[SGML_ANSWER_SIZE], k;
     char line[80], name[SGML_NAMELEN + 1];
     printed[0] = 0;
-    if (sgml_read((const uint8_t *)type, strlen(type), (const uint8_t *)document, strlen(document), buffer, sizeof buffer, answer)) {
+    if (sgml_read((const uint8_t *)type, strlen(type), (const uint8_t *)document, strlen(document), buffer, sizeof buffer, answer, SGML_NAMELEN)) {
         snprintf(line, sizeof line, "refused %u in %s at %u", (unsigned)answer[SGML_ANSWER_NUMBER],
                  answer[SGML_ANSWER_INPUT] == SGML_IN_TYPE ? "type" : "document", (unsigned)answer[SGML_ANSWER_POSITION]);
         add_line(printed, line);

@@ -71,14 +71,14 @@ while IFS= read -r line; do
     esac
 done <docs/RULES.md
 where="the numbers"
-for number in $(seq 19); do
+for number in $(seq 19) 24; do
     held "$number has an example" grep -qw "$number" <<<"$seen"
     held "$number is in the table" grep -q "^| \[$number\](#$number-" docs/RULES.md
 done
 
 # The limits of the header, as the document and the manual page have them.
 where="the limits"
-for name in TYPE_LIMIT DOCUMENT_LIMIT ELEMENT_LIMIT NAMELEN GRPCNT GRPLVL GRPGTCNT TAGLVL; do
+for name in TYPE_LIMIT DOCUMENT_LIMIT ELEMENT_LIMIT NAMELEN MOST_NAMELEN GRPCNT GRPLVL GRPGTCNT TAGLVL; do
     number=$(sed -n "s/^    SGML_$name = \([0-9]*\),.*/\1/p" include/sgml.h | sed 's/\(...\)$/,\1/; s/^,//')
     held "$name in docs/RULES.md" grep -q "^| .* | $number | [0-9]* |$" docs/RULES.md
     held "$name in command/sgml.1" grep -q "^[a-z ]*  $number$" command/sgml.1

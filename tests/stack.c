@@ -1,6 +1,6 @@
 /* stack.c - how much stack a call takes: each runs in a thread whose stack was painted before, and then in one that has no more than
  * the header promises, above a page that may not be touched. The types have models as deep as they may be, which is where the judge and
- * the reader go deepest. */
+ * the reader go deepest; names may be as long as they ever may. */
 #define _GNU_SOURCE
 #include "sgml.h"
 #include <pthread.h>
@@ -37,14 +37,14 @@ static void look(uint32_t number, const uint32_t *answer)
 static void *judge_call(void *buffer)
 {
     uint32_t answer[SGML_ANSWER_SIZE];
-    look(sgml_judge((const uint8_t *)type, type_len, buffer, ROOM, answer), answer);
+    look(sgml_judge((const uint8_t *)type, type_len, buffer, ROOM, answer, SGML_MOST_NAMELEN), answer);
     return NULL;
 }
 
 static void *read_call(void *buffer)
 {
     uint32_t answer[SGML_ANSWER_SIZE];
-    look(sgml_read((const uint8_t *)type, type_len, (const uint8_t *)document, strlen(document), buffer, ROOM, answer), answer);
+    look(sgml_read((const uint8_t *)type, type_len, (const uint8_t *)document, strlen(document), buffer, ROOM, answer, SGML_MOST_NAMELEN), answer);
     return NULL;
 }
 

@@ -23,7 +23,7 @@ static uint64_t state;
 
 static const char *const words[] = {
     "<!ELEMENT ", " - O ", " O O ", "EMPTY>", "(#PCDATA)", "#PCDATA", "<!--", "-->", "<!>", "--", ")>", "(A|B)*", ",", "|", "?", "+",
-    "*", "(", ")", "<A>", "</A>", "<B>", "</B>", "<", "</", ">", "]]>", "&#", "\n", "\r", " ", "A", "B", "ABCDEFGH", "%", "-",
+    "*", "(", ")", "<A>", "</A>", "<B>", "</B>", "<", "</", ">", "]]>", "&#", "\n", "\r", " ", "A", "B", "ABCDEFGH", "ABCDEFGHI", "\x8c", "\xa0", "%", "-",
 };
 
 static size_t below(size_t n)

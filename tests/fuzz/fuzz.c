@@ -1,5 +1,5 @@
-/* fuzz.c - both calls on arbitrary bytes, held to what is true of every answer. What stands before the first byte 0 is the type
- * file, what stands behind it the document. */
+/* fuzz.c - both calls on arbitrary bytes, held to what is true of every answer. A first byte from 128 on says how long a name may be,
+ * 128 for 0; else that is 8. What stands before the first byte 0 is the type file, what stands behind it the document. */
 #include "sgml.h"
 #include <ctype.h>
 #include <stdio.h>
@@ -17,6 +17,9 @@ struct slice {
 struct answer {
     uint32_t before, numbers[SGML_ANSWER_SIZE], behind;
 };
+
+/* How long a name may be in this input. */
+static uint32_t name_length;
 
 /* What was answered leads libFuzzer on, since the library itself counts nothing for it. */
 __attribute__((section("__libfuzzer_extra_counters"))) uint8_t seen[8192];
@@ -62,7 +65,10 @@ static void check_answer(const struct answer *a, const uint8_t *buffer, size_t r
     size_t used = record * n[SGML_ANSWER_COUNT];
     must(a->before == FILL && a->behind == FILL, "the answer's guards");
     must(all(buffer - GUARD, GUARD, FILL) && all(buffer + room, GUARD, FILL), "the buffer's guards");
-    must(n[SGML_ANSWER_NUMBER] <= SGML_ERR_NO_ROOM, "a number is below 20");
+    must(n[SGML_ANSWER_NUMBER] <= SGML_ERR_NO_ROOM || n[SGML_ANSWER_NUMBER] == SGML_ERR_SETTINGS, "a number is below 20, or 24");
+    must((n[SGML_ANSWER_NUMBER] == SGML_ERR_SETTINGS) == (name_length < SGML_NAMELEN || name_length > SGML_MOST_NAMELEN),
+         "24 exactly if names may not be so long");
+    must(n[SGML_ANSWER_NUMBER] != SGML_ERR_SETTINGS || (n[SGML_ANSWER_INPUT] == SGML_IN_TYPE && n[SGML_ANSWER_POSITION] == 0), "24 in the type at 0");
     must((n[SGML_ANSWER_FIRST] || n[SGML_ANSWER_SECOND]) == (n[SGML_ANSWER_NUMBER] == SGML_ERR_AMBIGUOUS), "places under 9 alone");
     must(n[SGML_ANSWER_NUMBER] != SGML_ERR_AMBIGUOUS || (n[SGML_ANSWER_FIRST] && n[SGML_ANSWER_FIRST] < n[SGML_ANSWER_SECOND]), "the smaller place first");
     if (n[SGML_ANSWER_NUMBER]) {
@@ -80,7 +86,7 @@ static uint8_t *judge(struct slice type, size_t room, struct answer *a)
     size_t lengths[2] = { type.length, 0 };
     uint8_t *buffer = lend(room);
     a->before = a->behind = FILL;
-    must(sgml_judge(type.bytes, type.length, buffer, room, a->numbers) == a->numbers[SGML_ANSWER_NUMBER], "the judge gives back the number");
+    must(sgml_judge(type.bytes, type.length, buffer, room, a->numbers, name_length) == a->numbers[SGML_ANSWER_NUMBER], "the judge gives back the number");
     check_answer(a, buffer, room, SGML_RECORD_BYTES, lengths);
     must(a->numbers[SGML_ANSWER_INPUT] != SGML_IN_DOCUMENT, "the judge looks at the type only");
     return buffer;
@@ -91,7 +97,7 @@ static uint8_t *read_events(struct slice type, struct slice document, size_t roo
     size_t lengths[2] = { type.length, document.length };
     uint8_t *buffer = lend(room);
     a->before = a->behind = FILL;
-    must(sgml_read(type.bytes, type.length, document.bytes, document.length, buffer, room, a->numbers) == a->numbers[SGML_ANSWER_NUMBER],
+    must(sgml_read(type.bytes, type.length, document.bytes, document.length, buffer, room, a->numbers, name_length) == a->numbers[SGML_ANSWER_NUMBER],
          "the reader gives back the number");
     check_answer(a, buffer, room, SGML_EVENT_BYTES, lengths);
     return buffer;
@@ -105,7 +111,7 @@ static void check_records(const uint8_t *records, uint32_t count, size_t type_le
         const uint8_t *r = records + SGML_RECORD_BYTES * k;
         uint32_t offset = sgml_number(r, SGML_RECORD_NAME_OFFSET), length = sgml_number(r, SGML_RECORD_NAME_LENGTH);
         uint32_t tokens = sgml_number(r, SGML_RECORD_TOKENS);
-        must(length >= 1 && length <= SGML_NAMELEN && offset > before && offset + length < type_length, "a name's place");
+        must(length >= 1 && length <= name_length && offset > before && offset + length < type_length, "a name's place");
         must(sgml_number(r, SGML_RECORD_START_TAG) <= 1 && sgml_number(r, SGML_RECORD_END_TAG) <= 1, "omission is 0 or 1");
         must(sgml_number(r, SGML_RECORD_CONTENT) == (tokens > 0) && tokens <= SGML_GRPGTCNT, "tokens of a model, none of EMPTY");
         before = offset + length;
@@ -198,6 +204,22 @@ static void check_room(struct slice type, struct slice document, uint32_t count,
          "one number short is 19");
 }
 
+/* What is accepted is accepted where names may be longer, with the same events: it has no name that was too long. */
+static void check_longer(struct slice type, struct slice document, size_t room, const uint8_t *events, uint32_t count)
+{
+    static uint8_t before[1 << 20];
+    uint32_t given = name_length;
+    struct answer a;
+    size_t used = (size_t)count * SGML_EVENT_BYTES;
+    if (used > sizeof before)
+        return;
+    memcpy(before, events, used);
+    name_length = SGML_MOST_NAMELEN;
+    events = read_events(type, document, room, &a);
+    must(a.numbers[SGML_ANSWER_NUMBER] == 0 && a.numbers[SGML_ANSWER_COUNT] == count && !memcmp(before, events, used), "longer names change nothing");
+    name_length = given;
+}
+
 static void check_calls(struct slice type, struct slice document)
 {
     static uint8_t records[SGML_RECORD_BYTES * SGML_ELEMENT_LIMIT];
@@ -217,6 +239,7 @@ static void check_calls(struct slice type, struct slice document)
              "a type that the judge refuses is not read under");
     if (a.numbers[SGML_ANSWER_NUMBER] == 0) {
         check_events(events, a.numbers[SGML_ANSWER_COUNT], document, type, records, judged.numbers[SGML_ANSWER_COUNT]);
+        check_longer(type, document, room, events, a.numbers[SGML_ANSWER_COUNT]);
         check_room(type, document, a.numbers[SGML_ANSWER_COUNT], document.length);
     }
 }
@@ -224,17 +247,29 @@ static void check_calls(struct slice type, struct slice document)
 int LLVMFuzzerTestOneInput(const uint8_t *data, size_t size)
 {
     static uint8_t copy[1 << 20];
-    const uint8_t *parting = size ? memchr(data, 0, size) : NULL;
-    struct slice type = { data, parting ? (size_t)(parting - data) : size }, document = { data + size, 0 };
+    const uint8_t *parting, *whole = data;
+    size_t whole_size = size;
+    struct slice type, document;
     if (size > sizeof copy)
         return 0;
+    name_length = SGML_NAMELEN;
+    if (size && data[0] >= 128) {
+        name_length = data[0] - 128;
+        data++;
+        size--;
+    }
+    parting = size ? memchr(data, 0, size) : NULL;
+    type.bytes = data;
+    type.length = parting ? (size_t)(parting - data) : size;
+    document.bytes = data + size;
+    document.length = 0;
     if (parting) {
         document.bytes = parting + 1;
         document.length = size - type.length - 1;
     }
-    if (size)
-        memcpy(copy, data, size);
+    if (whole_size)
+        memcpy(copy, whole, whole_size);
     check_calls(type, document);
-    must(!size || !memcmp(copy, data, size), "the inputs are as they were");
+    must(!whole_size || !memcmp(copy, whole, whole_size), "the inputs are as they were");
     return 0;
 }

@@ -3,7 +3,8 @@
 //!
 //! rustc -O --edition 2021 compare.rs -L FOLDER -l static=NAME && ./compare COUNT SEED [FIRST] [trace]
 //!
-//! The judge on a type file, and the reader on three documents for each.
+//! The judge on a type file, and the reader on three documents for each, half of them with names longer
+//! than 8 and a length of names to go with them, now and then one that is refused.
 //! Case number n of a seed is always the same; FIRST skips the cases before it, and `trace` prints
 //! each case's number first, to find one that ends the program.
 
@@ -61,20 +62,33 @@ struct Tally {
 
 /// A type file, a document under it and two under an accepted one.
 fn compare_case(case: u64, random: &mut Random, tally: &mut Tally) {
+    let longest = generate::name_length(random);
     let any = generate::any_type(random);
     let inputs = Inputs {
-        type_file: any.file.clone(),
+        name_length: given(random, longest),
+        type_file: generate::stretched(&any.file, longest),
         document: None,
     };
     compare_inputs(case, random, &inputs, tally);
     let accepted = accepted_type(random);
     for under in [&any, &accepted, &accepted] {
-        let document = Some(generate::any_document(random, under));
+        let document = generate::any_document(random, under);
         let inputs = Inputs {
-            type_file: under.file.clone(),
-            document,
+            name_length: given(random, longest),
+            type_file: generate::stretched(&under.file, longest),
+            document: Some(generate::stretched(&document, longest)),
         };
         compare_inputs(case, random, &inputs, tally);
+    }
+}
+
+/// The length to which names were stretched, now and then the one beside it or one that is refused.
+fn given(random: &mut Random, longest: usize) -> u32 {
+    match random.below(100) {
+        0..=3 => (longest - 1) as u32,
+        4..=7 => (longest + 1) as u32,
+        8..=10 => *random.pick(&[&0, &1, &7, &33, &64, &u32::MAX]),
+        _ => longest as u32,
     }
 }
 
@@ -82,7 +96,7 @@ fn compare_case(case: u64, random: &mut Random, tally: &mut Tally) {
 fn accepted_type(random: &mut Random) -> generate::Type {
     loop {
         let sound = generate::sound_type(random);
-        if oracle::judge(&sound.file, &mut [0; JUDGE_ROOM]).number == 0 {
+        if oracle::judge(8, &sound.file, &mut [0; JUDGE_ROOM]).number == 0 {
             return sound;
         }
     }
@@ -124,12 +138,17 @@ fn record_bytes(inputs: &Inputs) -> usize {
 /// The oracle's answer where the buffer is no limit.
 fn answer_with_room(inputs: &Inputs) -> Answer {
     match &inputs.document {
-        None => oracle::judge(&inputs.type_file, &mut [0; JUDGE_ROOM]),
+        None => oracle::judge(inputs.name_length, &inputs.type_file, &mut [0; JUDGE_ROOM]),
         // No document brings more events than this: under 50 for each token, see the paper's
         // limit of 24 open elements, and a token has at least one byte.
         Some(document) => {
             let room = 4 * 50 * (document.len().min(65_535) + 1);
-            oracle::read(&inputs.type_file, document, &mut vec![0; room])
+            oracle::read(
+                inputs.name_length,
+                &inputs.type_file,
+                document,
+                &mut vec![0; room],
+            )
         }
     }
 }

@@ -31,14 +31,14 @@ const DOCUMENT_BYTES: usize = 65_535;
 
 /// The document without what a departure bears on. Of one with a form that the reader refuses and
 /// onsgmls takes, only the part before that form stays.
-pub fn plain_document(type_file: &[u8], document: &[u8]) -> (Vec<u8>, Kinds) {
+pub fn plain_document(name_length: u32, type_file: &[u8], document: &[u8]) -> (Vec<u8>, Kinds) {
     let mut kinds = Kinds::new();
     let mut document = document.to_vec();
-    if let Some((kind, start)) = form_refused(type_file, &document) {
+    if let Some((kind, start)) = form_refused(name_length, type_file, &document) {
         document.truncate(start);
         kinds.insert(kind);
     }
-    let ignored = oracle::ignored_beside_data(type_file, &document);
+    let ignored = oracle::ignored_beside_data(name_length, type_file, &document);
     for at in ignored.into_iter().rev() {
         document.remove(at);
         kinds.insert(Kind::Separator);
@@ -47,9 +47,9 @@ pub fn plain_document(type_file: &[u8], document: &[u8]) -> (Vec<u8>, Kinds) {
 }
 
 /// Where a form begins that the reader refuses and onsgmls takes.
-fn form_refused(type_file: &[u8], document: &[u8]) -> Option<(Kind, usize)> {
+fn form_refused(name_length: u32, type_file: &[u8], document: &[u8]) -> Option<(Kind, usize)> {
     let mut answer = [0; 6];
-    library::read(type_file, document, &mut [], &mut answer);
+    library::read(name_length, type_file, document, &mut [], &mut answer);
     let at = answer[POSITION] as usize;
     match answer[NUMBER] {
         1 => Some((Kind::House, DOCUMENT_BYTES)),
@@ -64,11 +64,11 @@ fn form_refused(type_file: &[u8], document: &[u8]) -> Option<(Kind, usize)> {
 
 /// The type file likewise: before a form left out, or the first element too many, the declarations
 /// ahead of it stay.
-pub fn plain_type(type_file: &[u8]) -> (Vec<u8>, Kinds) {
+pub fn plain_type(name_length: u32, type_file: &[u8]) -> (Vec<u8>, Kinds) {
     let mut kinds = Kinds::new();
     let mut file = type_file.to_vec();
     loop {
-        let answer = judged(&file);
+        let answer = judged(name_length, &file);
         let at = answer[POSITION] as usize;
         let kind = match answer[NUMBER] {
             4 if at > 0 && file[at - 1] == b'-' && letter_at(&file, at) => {
@@ -105,9 +105,9 @@ fn declaration_start(file: &[u8], at: usize) -> usize {
     start.unwrap_or(0)
 }
 
-fn judged(type_file: &[u8]) -> [u32; 6] {
+fn judged(name_length: u32, type_file: &[u8]) -> [u32; 6] {
     let mut answer = [0; 6];
-    library::judge(type_file, &mut [0; 6 * 64 * 4], &mut answer);
+    library::judge(name_length, type_file, &mut [0; 6 * 64 * 4], &mut answer);
     answer
 }
 

@@ -8,7 +8,7 @@ mod held;
 mod library;
 mod oracle;
 
-use folders::cases_in;
+use folders::{cases_in, name_length};
 use held::{differs, show, show_smaller, Inputs, Lent};
 use std::path::Path;
 use std::{env, fs, io, process};
@@ -25,8 +25,9 @@ fn main() -> io::Result<()> {
         process::exit(2);
     };
     let (mut passed, mut failed) = (0, 0);
-    let mut try_one = |type_file: &[u8], document: &[u8]| {
+    let mut try_one = |name_length: u32, type_file: &[u8], document: &[u8]| {
         let inputs = Inputs {
+            name_length,
             type_file: type_file.to_vec(),
             document: Some(document.to_vec()),
         };
@@ -46,17 +47,18 @@ fn main() -> io::Result<()> {
         }
     };
     for case in cases_in(Path::new(&folder))? {
+        let length = name_length(&case);
         let type_file = fs::read(case.join("type.sgm"))?;
         let document = fs::read(case.join("doc.sgm"))?;
         for cut in cuts(document.len()) {
-            try_one(&type_file, &document[..cut]);
+            try_one(length, &type_file, &document[..cut]);
         }
         for cut in cuts(type_file.len()) {
-            try_one(&type_file[..cut], &document);
+            try_one(length, &type_file[..cut], &document);
         }
         if document.len() <= SHORT {
             for changed in every_byte(&document) {
-                try_one(&type_file, &changed);
+                try_one(length, &type_file, &changed);
             }
         }
     }

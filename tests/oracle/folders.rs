@@ -1,4 +1,4 @@
-//! The cases in a folder of vectors, each a folder GROUP/CASE.
+//! The cases in a folder of vectors, each a folder GROUP/CASE, and how long a name may be in each.
 
 use std::path::{Path, PathBuf};
 use std::{fs, io};
@@ -10,6 +10,15 @@ pub fn cases_in(folder: &Path) -> io::Result<Vec<PathBuf>> {
         cases.extend(folders_in(&group)?);
     }
     Ok(cases)
+}
+
+/// `namelen N` of the case's file `args`; 8 where there is no such line.
+pub fn name_length(case: &Path) -> u32 {
+    let args = fs::read_to_string(case.join("args")).unwrap_or_default();
+    let given = args
+        .lines()
+        .find_map(|line| line.strip_prefix("namelen ")?.parse().ok());
+    given.unwrap_or(8)
 }
 
 fn folders_in(folder: &Path) -> io::Result<Vec<PathBuf>> {

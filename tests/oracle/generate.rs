@@ -398,6 +398,45 @@ fn put_long_name(random: &mut Random, element: &mut Element) {
     }
 }
 
+/// A length of names: 8 in half of the cases, else more, mostly one that the tests name. (`compare.rs`
+/// alone asks for this.)
+#[allow(dead_code)]
+pub fn name_length(random: &mut Random) -> usize {
+    match random.below(4) {
+        0 | 1 => 8,
+        2 => *random.pick(&[&9, &12, &31, &32]),
+        _ => random.between(9, 32),
+    }
+}
+
+/// The text with some names made longer, for readers that allow `longest` bytes to a name: those of 8 come
+/// to just that, the one of 9 to one more, others to a length between. What is a name goes by its bytes
+/// alone, so that a type file and a document go on together, damaged or not.
+pub fn stretched(text: &[u8], longest: usize) -> Vec<u8> {
+    let is_name_byte = |byte: &u8| byte.is_ascii_alphanumeric() || b".-".contains(byte);
+    let mut changed = Vec::new();
+    let mut rest = text;
+    while let Some(&byte) = rest.first() {
+        let name = &rest[..rest.iter().take_while(|byte| is_name_byte(byte)).count()];
+        let length = match name.to_ascii_uppercase().as_slice() {
+            _ if longest == 8 => name.len(),
+            b"ABCDEFGH" | b"UVWXYZ12" => longest,
+            b"ABCDEFGHI" => longest + 1,
+            b"LIST" => longest - 1,
+            b"ITEM" | b"NAME" => 9,
+            b"X-Y" => (8 + longest) / 2,
+            _ => name.len(),
+        };
+        if name.is_empty() {
+            changed.push(byte);
+        }
+        changed.extend_from_slice(name);
+        changed.extend(b"-a.B7".iter().cycle().take(length - name.len()));
+        rest = &rest[name.len().max(1)..];
+    }
+    changed
+}
+
 /// Lengthens the input to `length` by separators at its end.
 pub fn pad(bytes: &mut Vec<u8>, length: usize) {
     if bytes.len() < length {

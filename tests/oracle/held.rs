@@ -11,6 +11,7 @@ const UNWRITTEN: u32 = 0xDEAD_BEEF;
 /// What one call is given, but for the buffer. Without a document the judge is called.
 #[derive(Clone)]
 pub struct Inputs {
+    pub name_length: u32,
     pub type_file: Vec<u8>,
     pub document: Option<Vec<u8>>,
 }
@@ -51,8 +52,13 @@ fn expected(inputs: &Inputs, lent: Lent) -> Outcome {
     let number = |bytes: &[u8]| u32::from_le_bytes([bytes[0], bytes[1], bytes[2], bytes[3]]);
     let mut numbers: Vec<u32> = buffer.chunks_exact(4).map(number).collect();
     let answer = match &inputs.document {
-        None => oracle::judge(&inputs.type_file, &mut numbers),
-        Some(document) => oracle::read(&inputs.type_file, document, &mut numbers),
+        None => oracle::judge(inputs.name_length, &inputs.type_file, &mut numbers),
+        Some(document) => oracle::read(
+            inputs.name_length,
+            &inputs.type_file,
+            document,
+            &mut numbers,
+        ),
     };
     // One to three bytes over hold no number: a refusal zeroes them, acceptance leaves them.
     if answer.number != 0 {
@@ -83,8 +89,10 @@ fn actual(inputs: &Inputs, lent: Lent) -> Outcome {
     let mut answer = [UNWRITTEN; 6];
     let type_file = &inputs.type_file;
     let given = match &inputs.document {
-        None => library::judge(type_file, buffer, &mut answer),
-        Some(document) => library::read(type_file, document, buffer, &mut answer),
+        None => library::judge(inputs.name_length, type_file, buffer, &mut answer),
+        Some(document) => {
+            library::read(inputs.name_length, type_file, document, buffer, &mut answer)
+        }
     };
     Outcome {
         given,
@@ -102,6 +110,7 @@ pub fn show(case: u64, inputs: &Inputs, lent: Lent) {
     println!(
         "difference in case {case}, buffer of {length} bytes at offset {offset}, pattern {pattern}"
     );
+    println!("  names of at most {} bytes", inputs.name_length);
     show_input("type", &inputs.type_file);
     if let Some(document) = &inputs.document {
         show_input("document", document);

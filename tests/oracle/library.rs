@@ -11,6 +11,7 @@ mod c {
             buffer: *mut u8,
             buffer_length: usize,
             answer: *mut u32,
+            name_length: u32,
         ) -> u32;
         pub fn sgml_read(
             type_file: *const u8,
@@ -20,11 +21,12 @@ mod c {
             buffer: *mut u8,
             buffer_length: usize,
             answer: *mut u32,
+            name_length: u32,
         ) -> u32;
     }
 }
 
-pub fn judge(type_file: &[u8], buffer: &mut [u8], answer: &mut [u32; 6]) -> u32 {
+pub fn judge(name_length: u32, type_file: &[u8], buffer: &mut [u8], answer: &mut [u32; 6]) -> u32 {
     // Safety: every pointer is that of a live slice and goes with its length.
     unsafe {
         c::sgml_judge(
@@ -33,11 +35,18 @@ pub fn judge(type_file: &[u8], buffer: &mut [u8], answer: &mut [u32; 6]) -> u32 
             buffer.as_mut_ptr(),
             buffer.len(),
             answer.as_mut_ptr(),
+            name_length,
         )
     }
 }
 
-pub fn read(type_file: &[u8], document: &[u8], buffer: &mut [u8], answer: &mut [u32; 6]) -> u32 {
+pub fn read(
+    name_length: u32,
+    type_file: &[u8],
+    document: &[u8],
+    buffer: &mut [u8],
+    answer: &mut [u32; 6],
+) -> u32 {
     // Safety: as above.
     unsafe {
         c::sgml_read(
@@ -48,6 +57,7 @@ pub fn read(type_file: &[u8], document: &[u8], buffer: &mut [u8], answer: &mut [
             buffer.as_mut_ptr(),
             buffer.len(),
             answer.as_mut_ptr(),
+            name_length,
         )
     }
 }

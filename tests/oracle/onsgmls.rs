@@ -5,15 +5,25 @@ use std::collections::{BTreeMap, BTreeSet};
 use std::process::{Command, Output};
 use std::{fs, io};
 
-/// The declaration of source document 003 with OMITTAG YES. The syntax it names has the reference
-/// quantity set, which is that of the paper.
+/// The declaration of source document 003 with OMITTAG YES, up to its syntax. That is the reference
+/// concrete syntax written out, since its quantity set, which is that of the paper, gets another NAMELEN.
 const DECLARATION: &str = r#"<!SGML "ISO 8879:1986"
 CHARSET
   BASESET "ISO 646-1983//CHARSET International Reference Version (IRV)//ESC 2/5 4/0"
   DESCSET 0 9 UNUSED 9 2 9 11 2 UNUSED 13 1 13 14 18 UNUSED 32 95 32 127 1 UNUSED
 CAPACITY PUBLIC "ISO 8879-1986//CAPACITY Reference//EN"
 SCOPE DOCUMENT
-SYNTAX PUBLIC "ISO 8879-1986//SYNTAX Reference//EN"
+SYNTAX
+  SHUNCHAR CONTROLS 0 1 2 3 4 5 6 7 8 9 10 11 12 13 14 15 16 17 18 19 20 21 22 23 24 25 26 27 28 29 30 31 127 255
+  BASESET "ISO 646-1983//CHARSET International Reference Version (IRV)//ESC 2/5 4/0"
+  DESCSET 0 128 0
+  FUNCTION RE 13 RS 10 SPACE 32 TAB SEPCHAR 9
+  NAMING LCNMSTRT "" UCNMSTRT "" LCNMCHAR "-." UCNMCHAR "-." NAMECASE GENERAL YES ENTITY NO
+  DELIM GENERAL SGMLREF SHORTREF SGMLREF
+  NAMES SGMLREF
+  QUANTITY SGMLREF NAMELEN "#;
+
+const FEATURES: &str = r#"
 FEATURES
   MINIMIZE DATATAG NO OMITTAG YES RANK NO SHORTTAG NO
   LINK SIMPLE NO IMPLICIT NO EXPLICIT NO
@@ -48,6 +58,8 @@ pub fn add_data(events: &mut Vec<Event>, bytes: Vec<u8>) {
 pub struct Onsgmls {
     /// A file to write each case to.
     pub file: String,
+    /// How long a name may be.
+    pub name_length: u32,
 }
 
 impl Onsgmls {
@@ -84,7 +96,8 @@ impl Onsgmls {
         type_file: &[u8],
         document: &[u8],
     ) -> io::Result<Output> {
-        let doctype = format!("{DECLARATION}<!DOCTYPE {root} [");
+        let longest = self.name_length;
+        let doctype = format!("{DECLARATION}{longest}{FEATURES}<!DOCTYPE {root} [");
         fs::write(
             &self.file,
             [doctype.as_bytes(), type_file, b"]>", document].concat(),

@@ -1,9 +1,10 @@
 //! Holds the library beside OpenSP: generated documents without record ends are accepted by both or
 //! by neither, with the same elements, tags left out and text; generated type files likewise, with
 //! the same first pair of places where a model is ambiguous. Where the paper departs from ISO 8879
-//! (`departures.rs`), the inputs are written anew and compared once more.
+//! (`departures.rs`), the inputs are written anew and compared once more. Names may have LENGTH bytes, in
+//! the declaration that onsgmls is given too.
 //!
-//! rustc -O --edition 2021 opensp.rs -L FOLDER -l static=NAME && ./opensp FILE DOCUMENTS TYPES SEED
+//! rustc -O --edition 2021 opensp.rs -L FOLDER -l static=NAME && ./opensp FILE DOCUMENTS TYPES SEED LENGTH
 //!
 //! FILE is written anew for each case; onsgmls is to be found on the path.
 
@@ -39,13 +40,20 @@ const EXAMPLES: [(Kind, &str, Option<&str>); 8] = [
 fn main() -> io::Result<()> {
     let arguments: Vec<String> = env::args().skip(1).collect();
     let number = |index: usize| arguments.get(index)?.parse::<u64>().ok();
-    let (Some(file), Some(documents), Some(types), Some(seed)) =
-        (arguments.first().cloned(), number(1), number(2), number(3))
-    else {
-        eprintln!("usage: opensp FILE DOCUMENTS TYPES SEED");
+    let (Some(file), Some(documents), Some(types), Some(seed), Some(length)) = (
+        arguments.first().cloned(),
+        number(1),
+        number(2),
+        number(3),
+        number(4),
+    ) else {
+        eprintln!("usage: opensp FILE DOCUMENTS TYPES SEED LENGTH");
         process::exit(2);
     };
-    let beside = Onsgmls { file };
+    let beside = Onsgmls {
+        file,
+        name_length: length as u32,
+    };
     let (mut passed, mut failed) = (0, 0);
     for (kind, type_file, document) in EXAMPLES {
         match shows(&beside, kind, type_file, document)? {
@@ -156,7 +164,12 @@ fn any_document(beside: &Onsgmls, random: &mut Random) -> io::Result<Compared> {
     let under = accepted_type(random);
     let document = generate::any_document(random, &under);
     let document = without_record_ends(random, &document);
-    compare_document(beside, under.file, document)
+    let longest = beside.name_length as usize;
+    compare_document(
+        beside,
+        generate::stretched(&under.file, longest),
+        generate::stretched(&document, longest),
+    )
 }
 
 fn compare_document(
@@ -165,15 +178,15 @@ fn compare_document(
     document: Vec<u8>,
 ) -> io::Result<Compared> {
     let difference = document_difference(beside, &type_file, &document)?;
-    let (plain, kinds) = plain_document(&type_file, &document);
-    let reading = reading(&type_file, &document);
+    let (plain, kinds) = plain_document(beside.name_length, &type_file, &document);
+    let reading = reading(beside.name_length, &type_file, &document);
     // Of some, only the beginning is left.
     let cut = [Kind::LeftOut, Kind::Net, Kind::House]
         .iter()
         .any(|kind| kinds.contains(kind));
     let difference_anew = if kinds.is_empty() {
         difference.clone()
-    } else if !cut && reading != self::reading(&type_file, &plain) {
+    } else if !cut && reading != self::reading(beside.name_length, &type_file, &plain) {
         Some("  the library reads it otherwise once written anew".to_string())
     } else {
         document_difference(beside, &type_file, &plain)?
@@ -195,7 +208,7 @@ fn accepted_type(random: &mut Random) -> generate::Type {
             true => generate::sound_type(random),
             false => generate::mixed_type(random),
         };
-        if judged(&sound.file)[0] == 0 {
+        if judged(8, &sound.file)[0] == 0 {
             return sound;
         }
     }
@@ -219,12 +232,12 @@ fn without_record_ends(random: &mut Random, document: &[u8]) -> Vec<u8> {
 }
 
 /// The library's events, or its refusal number.
-fn reading(type_file: &[u8], document: &[u8]) -> Result<Vec<Event>, u32> {
+fn reading(name_length: u32, type_file: &[u8], document: &[u8]) -> Result<Vec<Event>, u32> {
     let (mut answer, mut records) = ([0; 6], [0; 6 * 4 * 64]);
-    library::judge(type_file, &mut records, &mut answer);
+    library::judge(name_length, type_file, &mut records, &mut answer);
     // No token brings more than 50 events, and a token has at least one byte.
     let mut buffer = vec![0; 16 * 50 * (document.len() + 1)];
-    library::read(type_file, document, &mut buffer, &mut answer);
+    library::read(name_length, type_file, document, &mut buffer, &mut answer);
     if answer[0] != 0 {
         return Err(answer[0]);
     }
@@ -257,7 +270,7 @@ fn document_difference(
     type_file: &[u8],
     document: &[u8],
 ) -> io::Result<Option<String>> {
-    let ours = reading(type_file, document);
+    let ours = reading(beside.name_length, type_file, document);
     let theirs = beside.read(&root(type_file), type_file, document)?;
     Ok(match (&ours, &theirs) {
         (Ok(ours), Ok(theirs)) if ours == theirs => None,
@@ -266,9 +279,9 @@ fn document_difference(
     })
 }
 
-fn judged(type_file: &[u8]) -> [u32; 6] {
+fn judged(name_length: u32, type_file: &[u8]) -> [u32; 6] {
     let mut answer = [0; 6];
-    library::judge(type_file, &mut [0; 6 * 4 * 64], &mut answer);
+    library::judge(name_length, type_file, &mut [0; 6 * 4 * 64], &mut answer);
     answer
 }
 
@@ -287,6 +300,7 @@ fn root(type_file: &[u8]) -> String {
 fn any_type(beside: &Onsgmls, random: &mut Random) -> io::Result<Compared> {
     loop {
         let type_file = generate::any_type(random).file;
+        let type_file = generate::stretched(&type_file, beside.name_length as usize);
         // A "]" would end the subset in which onsgmls is given the declarations.
         if !without_comments(&type_file).contains(&b']') {
             return compare_type(beside, type_file);
@@ -296,13 +310,13 @@ fn any_type(beside: &Onsgmls, random: &mut Random) -> io::Result<Compared> {
 
 fn compare_type(beside: &Onsgmls, type_file: Vec<u8>) -> io::Result<Compared> {
     let difference = type_difference(beside, &type_file)?;
-    let (plain, kinds) = plain_type(&type_file);
+    let (plain, kinds) = plain_type(beside.name_length, &type_file);
     let difference_anew = match kinds.is_empty() {
         true => difference.clone(),
         false => type_difference(beside, &plain)?,
     };
     Ok(Compared {
-        number: judged(&type_file)[0],
+        number: judged(beside.name_length, &type_file)[0],
         type_file,
         document: Vec::new(),
         difference,
@@ -312,7 +326,7 @@ fn compare_type(beside: &Onsgmls, type_file: Vec<u8>) -> io::Result<Compared> {
 }
 
 fn type_difference(beside: &Onsgmls, type_file: &[u8]) -> io::Result<Option<String>> {
-    let answer = judged(type_file);
+    let answer = judged(beside.name_length, type_file);
     let theirs = beside.judge(&root(type_file), type_file)?;
     let alike = match (answer[0], &theirs) {
         (0, theirs) => theirs.is_ok(),

@@ -1,9 +1,10 @@
-//! Second implementation of the type judge and the document reader, written from the paper alone
+//! Second implementation of the type judge and the document reader, written from the papers alone
 //! and as plainly as we could, to be held against the first. NOTES.md numbers the open points.
 
 use std::collections::{BTreeMap, BTreeSet};
 
-const NAMELEN: usize = 8;
+/// The numbers that a caller may give for the length of names.
+const NAME_LENGTHS: std::ops::RangeInclusive<u32> = 8..=32;
 const GRPCNT: usize = 32;
 const GRPLVL: usize = 16;
 const GRPGTCNT: usize = 96;
@@ -31,29 +32,31 @@ pub struct Answer {
     pub count: u32,
 }
 
-/// Judges the type file; an accepted one leaves six numbers per element in `buffer`.
-pub fn judge(type_file: &[u8], buffer: &mut [u32]) -> Answer {
-    let elements = check_length(type_file, TYPE_BYTES, IN_TYPE)
+/// Judges the type file, whose names may be so long; an accepted one leaves six numbers per element in
+/// `buffer`.
+pub fn judge(name_length: u32, type_file: &[u8], buffer: &mut [u32]) -> Answer {
+    let elements = check_settings(name_length)
+        .and_then(|()| check_length(type_file, TYPE_BYTES, IN_TYPE))
         .and_then(|()| check_bytes(type_file, IN_TYPE))
-        .and_then(|()| judged(type_file));
+        .and_then(|()| judged(name_length, type_file));
     let numbers = elements.map(|elements| elements.iter().flat_map(Element::record).collect());
     hand_over(numbers, NUMBERS_PER_ELEMENT, IN_TYPE, buffer)
 }
 
 /// Reads the document under the type file; an accepted one leaves four numbers per event.
-pub fn read(type_file: &[u8], document: &[u8], buffer: &mut [u32]) -> Answer {
-    let numbers = events(type_file, document).map(|events| events.concat());
+pub fn read(name_length: u32, type_file: &[u8], document: &[u8], buffer: &mut [u32]) -> Answer {
+    let numbers = events(name_length, type_file, document).map(|events| events.concat());
     hand_over(numbers, NUMBERS_PER_EVENT, IN_DOCUMENT, buffer)
 }
 
 /// Where separators were ignored in an element that has `#PCDATA` in its model, up to the refusal.
 /// The type file is an accepted one. (`opensp.rs` alone asks for this.)
 #[allow(dead_code)]
-pub fn ignored_beside_data(type_file: &[u8], document: &[u8]) -> Vec<usize> {
+pub fn ignored_beside_data(name_length: u32, type_file: &[u8], document: &[u8]) -> Vec<usize> {
     let mut ignored = Vec::new();
-    if let Ok(elements) = judged(type_file) {
+    if let Ok(elements) = judged(name_length, type_file) {
         // A refusal ends the list; what it is doesn't matter here.
-        let _ = read_document(&elements, document, &mut ignored);
+        let _ = read_document(name_length, &elements, document, &mut ignored);
     }
     ignored
 }
@@ -114,15 +117,28 @@ fn hand_over(
     }
 }
 
-/// Order of the paper: 1 type, 1 document, 2 type, 2 document, the type's 3 to 9, the document.
-fn events(type_file: &[u8], document: &[u8]) -> Result<Vec<[u32; NUMBERS_PER_EVENT]>, Refusal> {
+/// Order of the papers: 24, 1 type, 1 document, 2 type, 2 document, the type's 3 to 9, the document.
+fn events(
+    name_length: u32,
+    type_file: &[u8],
+    document: &[u8],
+) -> Result<Vec<[u32; NUMBERS_PER_EVENT]>, Refusal> {
+    check_settings(name_length)?;
     check_length(type_file, TYPE_BYTES, IN_TYPE)?;
     check_length(document, DOCUMENT_BYTES, IN_DOCUMENT)?;
     check_bytes(type_file, IN_TYPE)?;
     check_bytes(document, IN_DOCUMENT)?;
-    let elements = judged(type_file)?;
-    read_document(&elements, document, &mut Vec::new())
+    let elements = judged(name_length, type_file)?;
+    read_document(name_length, &elements, document, &mut Vec::new())
         .map_err(|(position, number)| Refusal::new(number, IN_DOCUMENT, position))
+}
+
+/// Number 24, in the type at 0, before everything else.
+fn check_settings(name_length: u32) -> Result<(), Refusal> {
+    match NAME_LENGTHS.contains(&name_length) {
+        true => Ok(()),
+        false => Err(Refusal::new(24, IN_TYPE, 0)),
+    }
 }
 
 /// Number 1.
@@ -145,8 +161,9 @@ fn check_bytes(bytes: &[u8], input: u32) -> Result<(), Refusal> {
 }
 
 /// Numbers 3 to 8 over the whole type file, then 9 over its models in turn.
-fn judged(type_file: &[u8]) -> Result<Vec<Element>, Refusal> {
+fn judged(name_length: u32, type_file: &[u8]) -> Result<Vec<Element>, Refusal> {
     let elements = TypeReader {
+        longest: name_length as usize,
         bytes: type_file,
         at: 0,
         elements: Vec::new(),
@@ -478,6 +495,8 @@ impl Element {
 }
 
 struct TypeReader<'a> {
+    /// Bytes that a name may have.
+    longest: usize,
     bytes: &'a [u8],
     at: usize,
     elements: Vec<Element>,
@@ -528,11 +547,11 @@ impl TypeReader<'_> {
         word
     }
 
-    /// A word that begins with a letter, 1 to 8 long.
+    /// A word that begins with a letter and is no longer than a name may be.
     fn short_word(&mut self) -> Result<String, Fault> {
         let start = self.at;
         let word = self.word();
-        match word.len() > NAMELEN {
+        match word.len() > self.longest {
             true => Err((start, 3)),
             false => Ok(word),
         }
@@ -831,6 +850,8 @@ struct Open<'a> {
 }
 
 struct DocumentReader<'a> {
+    /// Bytes that a name may have.
+    longest: usize,
     elements: &'a [Element],
     bytes: &'a [u8],
     open: Vec<Open<'a>>,
@@ -840,6 +861,7 @@ struct DocumentReader<'a> {
 }
 
 fn read_document(
+    name_length: u32,
     elements: &[Element],
     bytes: &[u8],
     ignored: &mut Vec<usize>,
@@ -863,6 +885,7 @@ fn read_document(
         remainder: model.start(),
     };
     let mut reader = DocumentReader {
+        longest: name_length as usize,
         elements,
         bytes,
         open: vec![document],
@@ -944,7 +967,7 @@ impl<'a> DocumentReader<'a> {
     /// Name, separators, ">": gives the element and the offset after the tag. Numbers 3, 4, 10.
     fn tag(&self, tag: usize, name_at: usize) -> Result<(usize, usize), Fault> {
         let name = longest_name(self.bytes, name_at);
-        if name.len() > NAMELEN {
+        if name.len() > self.longest {
             return Err((name_at, 3));
         }
         let mut at = name_at + name.len();

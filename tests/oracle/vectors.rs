@@ -1,12 +1,13 @@
 //! Runs the oracle over a folder of vectors, each a folder GROUP/CASE with type.sgm, doc.sgm and
-//! expected, and checks that the small program would print exactly what is expected.
+//! expected, and checks that the small program would print exactly what is expected; where a file `args`
+//! gives another length of names than 8, that a program would which gives that one.
 //!
 //! rustc -O --edition 2021 vectors.rs && ./vectors FOLDER
 
 mod folders;
 mod oracle;
 
-use folders::cases_in;
+use folders::{cases_in, name_length};
 use std::fmt::Write;
 use std::path::Path;
 use std::{env, fs, io, process};
@@ -22,6 +23,7 @@ fn main() -> io::Result<()> {
     let (mut passed, mut failed) = (0, 0);
     for case in cases_in(Path::new(&folder))? {
         let printed = small_program(
+            name_length(&case),
             &fs::read(case.join("type.sgm"))?,
             &fs::read(case.join("doc.sgm"))?,
         );
@@ -41,9 +43,9 @@ fn main() -> io::Result<()> {
     process::exit((failed > 0 || passed == 0) as i32);
 }
 
-fn small_program(type_file: &[u8], document: &[u8]) -> String {
+fn small_program(name_length: u32, type_file: &[u8], document: &[u8]) -> String {
     let mut buffer = [0; LENT];
-    let answer = oracle::read(type_file, document, &mut buffer);
+    let answer = oracle::read(name_length, type_file, document, &mut buffer);
     if answer.number != 0 {
         let input = if answer.input == 1 {
             "type"
@@ -55,7 +57,7 @@ fn small_program(type_file: &[u8], document: &[u8]) -> String {
             answer.number, answer.position
         );
     }
-    let names = element_names(type_file);
+    let names = element_names(name_length, type_file);
     let mut printed = format!("events {}\n", answer.count);
     for event in buffer.chunks(4).take(answer.count as usize) {
         let name = if event[1] == 0 {
@@ -69,9 +71,9 @@ fn small_program(type_file: &[u8], document: &[u8]) -> String {
 }
 
 /// Upper case names of the declared elements, from the judge's records.
-fn element_names(type_file: &[u8]) -> Vec<String> {
+fn element_names(name_length: u32, type_file: &[u8]) -> Vec<String> {
     let mut buffer = [0; 6 * 64];
-    let count = oracle::judge(type_file, &mut buffer).count as usize;
+    let count = oracle::judge(name_length, type_file, &mut buffer).count as usize;
     let name = |record: &[u32]| {
         let (offset, length) = (record[0] as usize, record[1] as usize);
         String::from_utf8_lossy(&type_file[offset..offset + length]).to_ascii_uppercase()

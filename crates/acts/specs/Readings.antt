@@ -7,6 +7,7 @@ use native.Mathlib.Omega.{arith}
 use lib.ListN.{length}
 use lib.Dec.{eqb, leb, ltb}
 use borrow.Author.Tests.{leb-true, ltb-false, eqb-true}
+use Rattle.rules.specs.Settings.{Settings}
 use Rattle.rules.specs.Bytes.{TAGLVL}
 use Rattle.rules.specs.Reading.{Reading, refused, got, andThen}
 use Rattle.rules.specs.TypeFile.{Element}
@@ -226,23 +227,23 @@ module _ (s : List ℕ) (es : List Element) (D : Decisions) where
     settlePiece-acts dataByte at z f = on (takeData-acts at z f) λ y a. reads a
 
     -- The states that reading comes to between pieces are such that acts lead to.
-    pub passes-acts : {at : ℕ} {z : State} → Passes s es D d at z → Acts s es D Few nothingOpen z
+    pub passes-acts : {c : Settings} {at : ℕ} {z : State} → Passes c s es D d at z → Acts s es D Few nothingOpen z
     passes-acts begins = still {z = nothingOpen} (omega arith)
     passes-acts (goes {at} {z} {p} r h l e f) =
         let a = passes-acts h in
         acts-then a (got-so (settlePiece-acts p at z (acts-last a)) f)
 
-    piecesWithin-acts : (turns at : ℕ) (z : State) → Few z → Gives (Over z) (piecesWithin s es D d turns at z)
+    piecesWithin-acts : {c : Settings} (turns at : ℕ) (z : State) → Few z → Gives (Over z) (piecesWithin c s es D d turns at z)
     unfolding piecesWithin
     piecesWithin-acts zero at z f = stops tt
-    piecesWithin-acts (suc turns) at z f =
+    piecesWithin-acts {c} (suc turns) at z f =
         either (leb (length d) at) (λ e. endDocument-acts (length d) z f)
-        (λ e. on (each (piece d at) (λ n k i. tt) (λ p i. i)) λ p i.
+        (λ e. on (each (piece c d at) (λ n k i. tt) (λ p i. i)) λ p i.
         on (settlePiece-acts p at z f) λ y a.
         so (piecesWithin-acts turns (y .at) (y .state) (acts-last a)) (λ n k x. x)
         (λ ev o. record { last = o .last; acts = acts-then a (o .acts); nothing = o .nothing; complete = o .complete; events = o .events }))
 
     -- Every document that is read is a sequence of acts, from nothing open to nothing open, with at most 24 open in each state passed.
-    pub document-acts : (ev : List Event) → document s es D d ≡ got ev → Over nothingOpen ev
+    pub document-acts : {c : Settings} (ev : List Event) → document c s es D d ≡ got ev → Over nothingOpen ev
     unfolding document
     document-acts ev e = got-so (piecesWithin-acts (suc (length d)) 0 nothingOpen (omega arith)) e

@@ -1,13 +1,13 @@
 // The content tokens of a model that are no groups: a name and `#PCDATA`, each with what it adds to the model's places and to its table.
 use connectors::Model;
 use layout::MODEL;
-use layout::NAMELEN;
 use layout::NAMES;
 use text::Fault;
 ghost use mathlib.Core.Path.{_≡_};
 ghost use mathlib.Core.Bool.{false};
 ghost use Prim.Native.Nat.{_+_, _≤_, _<_};
 ghost use lib.ListN.{length};
+ghost use Rattle.rules.specs.Settings.{settings};
 ghost use Rattle.rules.specs.TypeFile.{nameToken, dataToken};
 ghost use Rattle.model_names.specs.Places.{placesOf};
 ghost use Rattle.content_tokens.specs.Meets.{wrongData, Meets, modelFault};
@@ -37,9 +37,10 @@ pub fn refusal(number: u32, at: usize) -> ModelRead
     })
 }
 
-// A name as content token. Where it is refused, what `names` and `table` hold is not decided; nor is, here and below, what `names` holds
+// A name as content token, at most `long` bytes long. Where it is refused, what `names` and `table` hold is not decided; nor is, here and below, what `names` holds
 // behind the places that were read.
 pub fn name_token(
+    long: usize,
     s: &[u8],
     at: usize,
     full: bool,
@@ -51,11 +52,11 @@ pub fn name_token(
     requires { ⌜ (at ≤ length (now s)) × (length (now s) ≤ 32768) ⌝ }
     requires { ⌜ (places ≤ tokens) × (full ≡ false → tokens < 96) ⌝ }
     ensures { λ r. ⌜ Meets (length (now (s .entry))) (places + 1) (now (table .entry)) (now (names .exit)) (now (table .exit)) r
-        (nameToken (now (s .entry)) at full (placesOf (now (names .entry)) places) tokens) ⌝ }
+        (nameToken (settings long) (now (s .entry)) at full (placesOf (now (names .entry)) places) tokens) ⌝ }
 {
     let e = text::name_end(s, at);
     let n = e - at;
-    if NAMELEN < n {
+    if long < n {
         return refusal(3, at);
     }
     if full {

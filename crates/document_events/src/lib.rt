@@ -14,6 +14,7 @@ ghost use mathlib.Core.Path.{_≡_};
 ghost use mathlib.Core.List.{List};
 ghost use Prim.Native.Nat.{_≤_};
 ghost use lib.ListN.{length};
+ghost use Rattle.rules.specs.Settings.{settings};
 ghost use Rattle.rules.specs.TypeFile.{Element};
 ghost use Rattle.delimiters.specs.Means.{Classes};
 ghost use Rattle.element_index.specs.Means.{Indexed};
@@ -38,6 +39,7 @@ fn refusal(number: u32, at: usize) -> Counted
 // The document d under a type. Its events go to a buffer of numbers and to one of bytes, each as far as they fit. What a buffer holds
 // that is too small for all of them, or where the document is refused, is not decided; it keeps its length, and the reader zeroes it.
 pub fn events_of(
+    long: usize,
     s: &[u8],
     elements: &[u32; RECORDS],
     index: &[u8; INDEX],
@@ -49,9 +51,9 @@ pub fn events_of(
     numbers: &mut [u32],
     bytes: &mut [u8],
 ) -> Counted
-    requires { ⌜ Classes (now classes) × (length (now d) ≤ 65535) ⌝ }
+    requires { ⌜ Classes (now classes) × (long ≤ 32) × (length (now d) ≤ 65535) ⌝ }
     ensures { λ r. ⌜ ((es : List Element) → Indexed (now (s .entry)) es (now (elements .entry)) (now (index .entry)) → Tables (now (s .entry)) es (now (rows .entry)) (now (places .entry)) (now (facts .entry)) →
-        EventsOf (now (s .entry)) es (now (d .entry)) (now (numbers .entry)) (now (numbers .exit)) (now (bytes .entry)) (now (bytes .exit)) r) ⌝ }
+        EventsOf (settings long) (now (s .entry)) es (now (d .entry)) (now (numbers .entry)) (now (numbers .exit)) (now (bytes .entry)) (now (bytes .exit)) r) ⌝ }
 {
     let mut at = 0;
     let mut n = 0;
@@ -60,6 +62,7 @@ pub fn events_of(
         let e = o.element;
         let u = o.place;
         let p = pieces::piece_at(
+            long,
             s,
             elements,
             index,

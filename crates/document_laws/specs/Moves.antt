@@ -9,6 +9,7 @@ use native.Mathlib.Omega.{arith}
 use lib.ListN.{length}
 use lib.Dec.{eqb, leb, ltb}
 use borrow.Author.Tests.{leb-true, leb-false, ltb-false}
+use Rattle.rules.specs.Settings.{Settings}
 use Rattle.rules.specs.Bytes.{TAGLVL}
 use Rattle.rules.specs.Reading.{Reading, got}
 use Rattle.rules.specs.TypeFile.{Element}
@@ -335,8 +336,8 @@ module _ {s : List ℕ} {es : List Element} {D E : Decisions} {Q : State → Sta
     settlePiece-both dataByte at {z} q = onward dataByte at (at + 1) z refl (so (takeData-both at q) (λ n k x. x) (λ x w r. (r .0, λ f. r .1)))
 
     -- The rest of the document, where R holds of what pieces and settling refuse.
-    module _ (R : (number position : ℕ) → Type 0) (bound : R 4 (length d)) (by-piece : (at : ℕ) → at < length d → Refuses R (piece d at)) (by-settling : (at n k : ℕ) → at ≤ length d → At at n k → R n k) where
-      pub piecesWithin-both : (turns at : ℕ) {z y : State} → Q z y → Both R (λ (x w : List Event). x ≡ w) (piecesWithin s es D d turns at z) (piecesWithin s es E d turns at y)
+    module _ {c : Settings} (R : (number position : ℕ) → Type 0) (bound : R 4 (length d)) (by-piece : (at : ℕ) → at < length d → Refuses R (piece c d at)) (by-settling : (at n k : ℕ) → at ≤ length d → At at n k → R n k) where
+      pub piecesWithin-both : (turns at : ℕ) {z y : State} → Q z y → Both R (λ (x w : List Event). x ≡ w) (piecesWithin c s es D d turns at z) (piecesWithin c s es E d turns at y)
       unfolding piecesWithin
       piecesWithin-both zero at q = stop bound
       piecesWithin-both (suc turns) at {z} {y} q =
@@ -347,10 +348,10 @@ module _ {s : List ℕ} {es : List Element} {D E : Decisions} {Q : State → Sta
           on (itself (by-piece at l)) λ p j i.
           rw (← i .0)
           (on (so (settlePiece-both p at q) (λ n k x. by-settling at n k (omega arith) x) (λ x w r. r)) λ x w r.
-          subst (λ (m : ℕ). Both R (λ (x w : List Event). x ≡ w) (piecesWithin s es D d turns (x .at) (x .state)) (piecesWithin s es E d turns m (w .state))) (r .first ∙ sym (r .second)) (piecesWithin-both turns (x .at) (r .keeps))))
+          subst (λ (m : ℕ). Both R (λ (x w : List Event). x ≡ w) (piecesWithin c s es D d turns (x .at) (x .state)) (piecesWithin c s es E d turns m (w .state))) (r .first ∙ sym (r .second)) (piecesWithin-both turns (x .at) (r .keeps))))
 
       -- Two readings of the whole document.
-      pub document-both : Q nothingOpen nothingOpen → Both R (λ (x w : List Event). x ≡ w) (document s es D d) (document s es E d)
+      pub document-both : Q nothingOpen nothingOpen → Both R (λ (x w : List Event). x ≡ w) (document c s es D d) (document c s es E d)
       unfolding document
       document-both q = piecesWithin-both (suc (length d)) 0 q
 

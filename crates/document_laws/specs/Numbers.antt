@@ -4,6 +4,7 @@ use mathlib.Core.Path.{_≡_, refl, subst}
 use mathlib.Core.List.{List, [], _∷_, _++_}
 use native.Mathlib.Omega.{arith}
 use lib.ListN.{length, length-append}
+use Rattle.rules.specs.Settings.{Settings}
 use Rattle.rules.specs.Reading.{got}
 use Rattle.rules.specs.Walk.{Group}
 use Rattle.rules.specs.TypeFile.{Place, Content, empty, model, Element, typeFile}
@@ -26,10 +27,10 @@ module _ {ps qs rs : List Place} {g h : Group} (c : Counted ps g qs) (d : Counte
   total : length rs ≡ length ps + (size g + size h)
   total = omega (arith, c .counted, d .counted)
 
-pub counted-builds : Builds Counted
+pub counted-builds : {long : ℕ} → Builds long Counted
 counted-builds =
     record {
-      name = λ ps x l. record { numbered = refl; counted = length-append ps (x ∷ []) };
+      name = λ ps x l m. record { numbered = refl; counted = length-append ps (x ∷ []) };
       pcdata = λ ps x e. record { numbered = refl; counted = length-append ps (x ∷ []) };
       optional = λ c. record { numbered = c .numbered; counted = c .counted };
       repeated = λ c. record { numbered = c .numbered; counted = c .counted };
@@ -41,13 +42,13 @@ content-numbered : (c : Content) → Built Counted c → NumberedIn c
 content-numbered empty x = tt
 content-numbered (model g ps n) x = x .numbered
 
-module _ (s : List ℕ) where
+module _ {c : Settings} (s : List ℕ) where
   numbered-more : (es : List Element) (e : Element) → AllNumbered es → NumberedIn (e .content) → AllNumbered (es ++ e ∷ [])
   numbered-more [] e a n = (n, tt)
   numbered-more (x ∷ es) e a n = (a .0, numbered-more es e (a .1) n)
 
-  declared-more : (es : List Element) (e : Element) → AllNumbered es → Declares s es e → AllNumbered (es ++ e ∷ [])
-  declared-more es e a d = numbered-more es e a (content-numbered (e .content) (got-so (content-read s counted-builds (d .before) (d .begun)) (d .contentRead) .built))
+  declared-more : (es : List Element) (e : Element) → AllNumbered es → Declares c s es e → AllNumbered (es ++ e ∷ [])
+  declared-more es e a d = numbered-more es e a (content-numbered (e .content) (got-so (content-read c s counted-builds (d .before) (d .begun)) (d .contentRead) .built))
 
-  pub typeFile-numbered : (es : List Element) → typeFile s ≡ got es → AllNumbered es
-  typeFile-numbered es e = got-so (typeFile-holds s AllNumbered declared-more tt) e .1
+  pub typeFile-numbered : (es : List Element) → typeFile c s ≡ got es → AllNumbered es
+  typeFile-numbered es e = got-so (typeFile-holds c s AllNumbered declared-more tt) e .1

@@ -3,6 +3,7 @@ use Prim.Native.Nat.{ℕ}
 use mathlib.Core.Path.{_≡_, refl, sym, _∙_, ap, ap₂}
 use mathlib.Core.Bool.{true, false≢true}
 use mathlib.Core.List.{List, [], _∷_, _++_}
+use Rattle.rules.specs.Settings.{Settings}
 use Rattle.rules.specs.Walk.{Group, Begins}
 use Rattle.rules.specs.TypeFile.{Place, Content, empty, model, Element}
 use Rattle.rules.specs.Document.{piece}
@@ -80,21 +81,21 @@ module _ (s : List ℕ) (es : List Element) (D E : Decisions) (x : Means s es D)
   begun-datum at z w q = (ap (withDatum at) (q .0), record { current = q .1 .current; around = q .1 .around })
 
   -- Two decisions that mean the walks read every document alike.
-  pub document-one : (d : List ℕ) → document s es D d ≡ document s es E d
-  document-one d =
-      same (document-both begun-moves begun-datum d Any tt (λ at l. each (piece d at) (λ n k e. tt) (λ p e. tt)) (λ at n k l h. tt) (refl, nothing-begun es))
+  pub document-one : (c : Settings) (d : List ℕ) → document c s es D d ≡ document c s es E d
+  document-one c d =
+      same (document-both begun-moves begun-datum d Any tt (λ at l. each (piece c d at) (λ n k e. tt) (λ p e. tt)) (λ at n k l h. tt) (refl, nothing-begun es))
 
 -- The states that reading comes to
 
 module _ (s : List ℕ) (es : List Element) (D : Decisions) where
   -- In each of them the places taken begin walks.
-  pub passes-begun : Means s es D → (d : List ℕ) {at : ℕ} {z : State} → Passes s es D d at z → AllBegun es z
+  pub passes-begun : {c : Settings} → Means s es D → (d : List ℕ) {at : ℕ} {z : State} → Passes c s es D d at z → AllBegun es z
   passes-begun x d begins = nothing-begun es
   passes-begun x d (goes {at} {z} {p} r h l e f) =
       got-so (first (settlePiece-both (begun-moves s es D D x x) (begun-datum s es D D x x) d p at (refl, passes-begun x d h)) (λ r w a. a .keeps .1)) f
 
 -- Two decisions that mean the walks come to the same states.
-pub passes-same : (s : List ℕ) (es : List Element) (D E : Decisions) → Means s es D → Means s es E → (d : List ℕ) {at : ℕ} {z : State} → Passes s es D d at z → Passes s es E d at z
+pub passes-same : {c : Settings} (s : List ℕ) (es : List Element) (D E : Decisions) → Means s es D → Means s es E → (d : List ℕ) {at : ℕ} {z : State} → Passes c s es D d at z → Passes c s es E d at z
 passes-same s es D E x y d begins = begins
 passes-same s es D E x y d (goes {at} {z} {p} r h l e f) = goes r (passes-same s es D E x y d h) l e (sym settles ∙ f)
   where

@@ -2,6 +2,7 @@
 use document_events::Counted;
 use element_records::Clash;
 use inputs::Checked;
+use inputs::Settings;
 use layout::EVENT;
 use layout::FACTS;
 use layout::INDEX;
@@ -16,10 +17,12 @@ ghost use mathlib.Core.List.{List};
 ghost use Prim.Native.Nat.{_≤_};
 ghost use lib.ListN.{length};
 ghost use Rattle.rules.specs.Lent.{Lent};
+ghost use Rattle.rules.specs.Settings.{settings};
 ghost use Rattle.rules.specs.TypeFile.{Element};
 ghost use Rattle.rules.specs.Judge.{Accepts};
 ghost use Rattle.rules.specs.Reader.{ReadAs};
 ghost use Rattle.element_names.specs.Names.{Recorded};
+ghost use Rattle.inputs.specs.Means.{settingsOf};
 ghost use Rattle.element_index.specs.Means.{Judged};
 ghost use Rattle.document_events.specs.Means.{EventsOf};
 ghost use Rattle.document_reader.specs.Means.{answerOf, CountFits, Judges, Answers, fittedTo, isRefusal};
@@ -33,27 +36,28 @@ pub enum Answer {
     InDocument(Fault),
 }
 
-// Numbers 1 and 2 of both inputs, then the type: accepted with so many elements in `elements`, or refused. On refusal what `elements`
+// Number 24 of the settings, numbers 1 and 2 of both inputs, then the type: accepted with so many elements in `elements`, or refused. On refusal what `elements`
 // holds is not decided.
-fn judged(s: &[u8], d: &[u8], elements: &mut [u32; RECORDS]) -> Answer
-    ensures { λ r. ⌜ Judges (now (s .entry)) (now (d .entry)) (now (elements .exit)) r ⌝ }
+fn judged(c: Settings, s: &[u8], d: &[u8], elements: &mut [u32; RECORDS]) -> Answer
+    ensures { λ r. ⌜ Judges (settingsOf c) (now (s .entry)) (now (d .entry)) (now (elements .exit)) r ⌝ }
 {
-    let c = inputs::check(s, d);
-    match c {
+    let g = inputs::check(c, s, d);
+    match g {
         Checked::InType(f) => return Answer::InType(f),
         Checked::InDocument(f) => return Answer::InDocument(f),
         Checked::Legible => {}
     }
-    let v = type_judge::decide_legible(s, RECORDS, elements);
+    let v = type_judge::decide_legible(c, s, RECORDS, elements);
     match v {
         Verdict::Accepted(n) => Answer::Accepted(n),
         Verdict::Malformed(f) => Answer::InType(f),
-        Verdict::Ambiguous(c) => Answer::Ambiguous(c),
+        Verdict::Ambiguous(x) => Answer::Ambiguous(x),
     }
 }
 
 // Reads the document under an accepted type, whose n elements are recorded.
 fn read_under(
+    long: usize,
     s: &[u8],
     d: &[u8],
     elements: &[u32; RECORDS],
@@ -61,16 +65,25 @@ fn read_under(
     numbers: &mut [u32],
     bytes: &mut [u8],
 ) -> Counted
-    requires { ⌜ Judged (now s) (now elements) n × (length (now d) ≤ 65535) ⌝ }
-    ensures { λ r. ⌜ ((es : List Element) → Accepts (now (s .entry)) es → length es ≡ n → Recorded (now (elements .entry)) es →
-        EventsOf (now (s .entry)) es (now (d .entry)) (now (numbers .entry)) (now (numbers .exit)) (now (bytes .entry)) (now (bytes .exit)) r) ⌝ }
+    requires { ⌜ Judged (settings long) (now s) (now elements) n × (length (now d) ≤ 65535) ⌝ }
+    ensures { λ r. ⌜ ((es : List Element) → Accepts (settings long) (now (s .entry)) es → length es ≡ n → Recorded (now (elements .entry)) es →
+        EventsOf (settings long) (now (s .entry)) es (now (d .entry)) (now (numbers .entry)) (now (numbers .exit)) (now (bytes .entry)) (now (bytes .exit)) r) ⌝ }
 {
     let mut index = [0u8; INDEX];
     let mut rows = [0u8; ROWS];
     let mut places = [0u8; PLACES];
     let mut facts = [0u8; FACTS];
     element_index::fill_index(s, elements, n, &mut index);
-    table_fill::fill(s, elements, n, &index, &mut rows, &mut places, &mut facts);
+    table_fill::fill(
+        long,
+        s,
+        elements,
+        n,
+        &index,
+        &mut rows,
+        &mut places,
+        &mut facts,
+    );
     // The class of each byte, 32 a row, is 1 for one that may begin something else than data, 2 for one that may go on a name
     let classes = b"\0\0\0\0\0\0\0\0\0\0\x01\0\0\0\0\0\0\0\0\0\0\0\0\0\0\0\0\0\0\0\0\0\
         \0\0\0\0\0\0\x01\0\0\0\0\0\0\x02\x02\0\x02\x02\x02\x02\x02\x02\x02\x02\x02\x02\0\0\x01\0\0\0\
@@ -81,6 +94,7 @@ fn read_under(
         \0\0\0\0\0\0\0\0\0\0\0\0\0\0\0\0\0\0\0\0\0\0\0\0\0\0\0\0\0\0\0\0\
         \0\0\0\0\0\0\0\0\0\0\0\0\0\0\0\0\0\0\0\0\0\0\0\0\0\0\0\0\0\0\0\0";
     document_events::events_of(
+        long,
         s,
         elements,
         &index,
@@ -96,16 +110,16 @@ fn read_under(
 
 // Judges the type and reads the document; a refusal zeroes nothing yet. Where it refuses, or the room is short, what the buffers hold is not
 // decided.
-fn answered(s: &[u8], d: &[u8], numbers: &mut [u32], bytes: &mut [u8]) -> Answer
-    ensures { λ r. ⌜ Answers (now (s .entry)) (now (d .entry)) (now (numbers .entry)) (now (numbers .exit)) (now (bytes .entry)) (now (bytes .exit)) r ⌝ }
+fn answered(c: Settings, s: &[u8], d: &[u8], numbers: &mut [u32], bytes: &mut [u8]) -> Answer
+    ensures { λ r. ⌜ Answers (settingsOf c) (now (s .entry)) (now (d .entry)) (now (numbers .entry)) (now (numbers .exit)) (now (bytes .entry)) (now (bytes .exit)) r ⌝ }
 {
     let mut elements = [0u32; RECORDS];
-    let v = judged(s, d, &mut elements);
+    let v = judged(c, s, d, &mut elements);
     let Answer::Accepted(n) = v else {
         return v;
     };
-    let c = read_under(s, d, &elements, n, numbers, bytes);
-    match c {
+    let r = read_under(c.name_length, s, d, &elements, n, numbers, bytes);
+    match r {
         Counted::Events(k) => Answer::Accepted(k),
         Counted::Refused(f) => Answer::InDocument(f),
     }
@@ -136,14 +150,14 @@ fn refuses(a: Answer) -> bool
     }
 }
 
-// Reads a document under a type file. The buffer gets four numbers for each event, or is zeroed.
-pub fn read(s: &[u8], d: &[u8], buffer: &mut [u32]) -> Answer
-    ensures { λ r. ⌜ ReadAs Lent.numbers (now (s .entry)) (now (d .entry)) (now (buffer .entry)) (answerOf r) (now (buffer .exit)) ⌝ }
+// Reads a document under a type file and the settings c. The buffer gets four numbers for each event, or is zeroed.
+pub fn read(c: Settings, s: &[u8], d: &[u8], buffer: &mut [u32]) -> Answer
+    ensures { λ r. ⌜ ReadAs Lent.numbers (settingsOf c) (now (s .entry)) (now (d .entry)) (now (buffer .entry)) (answerOf r) (now (buffer .exit)) ⌝ }
     ensures { λ r. ⌜ CountFits r ⌝ }
 {
     // No bytes are lent, so that events go to the numbers alone.
     let mut none = [0u8; 0];
-    let v = answered(s, d, buffer, &mut none);
+    let v = answered(c, s, d, buffer, &mut none);
     let a = fitted(v, buffer.len() / EVENT);
     if refuses(a) {
         numbers::clear_numbers(buffer);
@@ -151,14 +165,14 @@ pub fn read(s: &[u8], d: &[u8], buffer: &mut [u32]) -> Answer
     a
 }
 
-// Reads a document under a type file. The buffer of bytes gets four numbers of four bytes for each event, or is zeroed.
-pub fn read_to_bytes(s: &[u8], d: &[u8], buffer: &mut [u8]) -> Answer
-    ensures { λ r. ⌜ ReadAs Lent.bytes (now (s .entry)) (now (d .entry)) (now (buffer .entry)) (answerOf r) (now (buffer .exit)) ⌝ }
+// Reads a document under a type file and the settings c. The buffer of bytes gets four numbers of four bytes for each event, or is zeroed.
+pub fn read_to_bytes(c: Settings, s: &[u8], d: &[u8], buffer: &mut [u8]) -> Answer
+    ensures { λ r. ⌜ ReadAs Lent.bytes (settingsOf c) (now (s .entry)) (now (d .entry)) (now (buffer .entry)) (answerOf r) (now (buffer .exit)) ⌝ }
     ensures { λ r. ⌜ CountFits r ⌝ }
 {
     // No numbers are lent, so that events go to the bytes alone.
     let mut none = [0u32; 0];
-    let v = answered(s, d, &mut none, buffer);
+    let v = answered(c, s, d, &mut none, buffer);
     let a = fitted(v, buffer.len() / NUMBER / EVENT);
     if refuses(a) {
         numbers::clear_bytes(buffer);

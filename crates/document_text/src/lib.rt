@@ -8,6 +8,7 @@ ghost use mathlib.Core.Bool.{_||_};
 ghost use Prim.Native.Nat.{_≤_, _<_};
 ghost use lib.ListN.{length};
 ghost use lib.Dec.{eqb};
+ghost use Rattle.rules.specs.Settings.{settings};
 ghost use Rattle.rules.specs.Document.{malformed, declarationPiece, markupPiece, bytePiece, piece};
 ghost use Rattle.text.specs.Means.{reached};
 ghost use Rattle.delimiters.specs.Means.{Classes};
@@ -76,16 +77,16 @@ fn declaration_at(s: &[u8], i: usize) -> Token
 }
 
 // What `<` at i begins.
-fn markup_at(classes: &[u8; 256], s: &[u8], i: usize) -> Token
+fn markup_at(long: usize, classes: &[u8; 256], s: &[u8], i: usize) -> Token
     requires { ⌜ Classes (now classes) × (i < length (now s)) ⌝ }
-    ensures { λ r. ⌜ pieceOf r ≡ markupPiece (now (s .entry)) i ⌝ }
+    ensures { λ r. ⌜ pieceOf r ≡ markupPiece (settings long) (now (s .entry)) i ⌝ }
 {
     let b = text::byte(s, i + 1);
     if text::is_letter(b) {
-        return start_tag(tags::tag_at(classes, s, i + 1));
+        return start_tag(tags::tag_at(long, classes, s, i + 1));
     }
     if delimiters::is_end_tag(s, i) {
-        return end_tag(tags::tag_at(classes, s, i + 2));
+        return end_tag(tags::tag_at(long, classes, s, i + 2));
     }
     if b == b'!' {
         return declaration_at(s, i);
@@ -124,12 +125,12 @@ fn byte_at(s: &[u8], i: usize) -> Token
 }
 
 // What stands at i, where the document does not end.
-pub fn token_at(classes: &[u8; 256], s: &[u8], i: usize) -> Token
+pub fn token_at(long: usize, classes: &[u8; 256], s: &[u8], i: usize) -> Token
     requires { ⌜ Classes (now classes) × (i < length (now s)) ⌝ }
-    ensures { λ r. ⌜ pieceOf r ≡ piece (now (s .entry)) i ⌝ }
+    ensures { λ r. ⌜ pieceOf r ≡ piece (settings long) (now (s .entry)) i ⌝ }
 {
     if text::byte(s, i) == b'<' {
-        return markup_at(classes, s, i);
+        return markup_at(long, classes, s, i);
     }
     if delimiters::is_reference(s, i) {
         return Token::Refused(Fault { number: 5, at: i });

@@ -1,12 +1,12 @@
 // The content of an element: EMPTY, or a model group with its names and its table.
 use content_tokens::ModelRead;
 use layout::MODEL;
-use layout::NAMELEN;
 use layout::NAMES;
 use text::Fault;
 ghost use mathlib.Core.Path.{_≡_};
 ghost use Prim.Native.Nat.{_≤_, _<_};
 ghost use lib.ListN.{length};
+ghost use Rattle.rules.specs.Settings.{settings};
 ghost use Rattle.rules.specs.TypeFile.{contentWord, contentModel, content};
 ghost use Rattle.element_content.specs.Kept.{wrongWord, MeetsBody, bodyFault};
 
@@ -51,12 +51,19 @@ fn wrong_word(s: &[u8], from: usize, i: usize, e: usize) -> Fault
 }
 
 // A word as content.
-fn body_word(s: &[u8], from: usize, i: usize, names: &[u32; NAMES], table: &[u8; MODEL]) -> BodyRead
+fn body_word(
+    long: usize,
+    s: &[u8],
+    from: usize,
+    i: usize,
+    names: &[u32; NAMES],
+    table: &[u8; MODEL],
+) -> BodyRead
     requires { ⌜ (i ≤ length (now s)) × (length (now s) ≤ 32768) ⌝ }
-    ensures { λ r. ⌜ MeetsBody (length (now (s .entry))) (now (names .entry)) (now (table .entry)) r (contentWord (now (s .entry)) from i) ⌝ }
+    ensures { λ r. ⌜ MeetsBody (length (now (s .entry))) (now (names .entry)) (now (table .entry)) r (contentWord (settings long) (now (s .entry)) from i) ⌝ }
 {
     let e = text::name_end(s, i);
-    if NAMELEN < e - i {
+    if long < e - i {
         return BodyRead::Refused(Fault { number: 3, at: i });
     }
     if from < i && words::is_word(s, i, e, b"EMPTY") {
@@ -77,12 +84,18 @@ fn body_word(s: &[u8], from: usize, i: usize, names: &[u32; NAMES], table: &[u8;
 }
 
 // A model group as content, with its names and its table.
-fn body_model(s: &[u8], i: usize, names: &mut [u32; NAMES], table: &mut [u8; MODEL]) -> BodyRead
+fn body_model(
+    long: usize,
+    s: &[u8],
+    i: usize,
+    names: &mut [u32; NAMES],
+    table: &mut [u8; MODEL],
+) -> BodyRead
     requires { ⌜ (i < length (now s)) × (length (now s) ≤ 32768) ⌝ }
-    ensures { λ r. ⌜ MeetsBody (length (now (s .entry))) (now (names .exit)) (now (table .exit)) r (contentModel (now (s .entry)) i) ⌝ }
+    ensures { λ r. ⌜ MeetsBody (length (now (s .entry))) (now (names .exit)) (now (table .exit)) r (contentModel (settings long) (now (s .entry)) i) ⌝ }
 {
     model_table::clear(table);
-    let r = group_reader::group_at(s, i, 16, 0, 0, names, table);
+    let r = group_reader::group_at(long, s, i, 16, 0, 0, names, table);
     let ModelRead::Read(g) = r else {
         return BodyRead::Refused(content_tokens::fault_of(r));
     };
@@ -100,6 +113,7 @@ fn body_model(s: &[u8], i: usize, names: &mut [u32; NAMES], table: &mut [u8; MOD
 // The content at i, where the parameter before ended at `from`. Where it is refused or EMPTY, what `names` and `table` hold is not decided,
 // nor how many places EMPTY has; behind the places of a model, `names` is not decided either.
 pub fn body_at(
+    long: usize,
     s: &[u8],
     from: usize,
     i: usize,
@@ -107,14 +121,14 @@ pub fn body_at(
     table: &mut [u8; MODEL],
 ) -> BodyRead
     requires { ⌜ (i ≤ length (now s)) × (length (now s) ≤ 32768) ⌝ }
-    ensures { λ r. ⌜ MeetsBody (length (now (s .entry))) (now (names .exit)) (now (table .exit)) r (content (now (s .entry)) from i) ⌝ }
+    ensures { λ r. ⌜ MeetsBody (length (now (s .entry))) (now (names .exit)) (now (table .exit)) r (content (settings long) (now (s .entry)) from i) ⌝ }
 {
     let b = text::byte(s, i);
     if b == b'(' {
-        return body_model(s, i, names, table);
+        return body_model(long, s, i, names, table);
     }
     if text::is_letter(b) {
-        return body_word(s, from, i, names, table);
+        return body_word(long, s, from, i, names, table);
     }
     BodyRead::Refused(gaps::unfit_at(s, i))
 }

@@ -1,5 +1,4 @@
 // The head of an element declaration: its name and the two words of omitted tag minimization.
-use layout::NAMELEN;
 use layout::RECORDS;
 use text::Fault;
 use text::Reached;
@@ -7,6 +6,7 @@ ghost use mathlib.Core.Path.{_≡_};
 ghost use mathlib.Core.List.{List};
 ghost use Prim.Native.Nat.{_≤_, _<_};
 ghost use lib.ListN.{length};
+ghost use Rattle.rules.specs.Settings.{settings};
 ghost use Rattle.rules.specs.TypeFile.{omission, words, head};
 ghost use Rattle.rules.specs.TypeFile as rules;
 ghost use Rattle.element_names.specs.Names.{Recorded};
@@ -52,9 +52,9 @@ pub fn fault_of_head(r: HeadRead) -> Fault
 }
 
 // A word "-" or "O" at i, where the parameter before ended at `from`.
-fn omission_at(s: &[u8], from: usize, i: usize) -> Omission
+fn omission_at(long: usize, s: &[u8], from: usize, i: usize) -> Omission
     requires { ⌜ (i ≤ length (now s)) × (length (now s) ≤ 32768) ⌝ }
-    ensures { λ r. ⌜ omissionOf r ≡ omission (now (s .entry)) from i ⌝ }
+    ensures { λ r. ⌜ omissionOf r ≡ omission (settings long) (now (s .entry)) from i ⌝ }
 {
     let b = text::byte(s, i);
     if b == b'-' && from < i {
@@ -62,7 +62,7 @@ fn omission_at(s: &[u8], from: usize, i: usize) -> Omission
     }
     if text::is_letter(b) {
         let e = text::name_end(s, i);
-        if NAMELEN < e - i {
+        if long < e - i {
             return Omission::Refused(Fault { number: 3, at: i });
         }
         if from < i && words::is_word(s, i, e, b"O") {
@@ -73,33 +73,39 @@ fn omission_at(s: &[u8], from: usize, i: usize) -> Omission
 }
 
 // From the end of the keyword to the second word. Where `elements` holds no records of elements, the answer is not decided, but for its range.
-pub fn head_at(s: &[u8], at: usize, elements: &[u32; RECORDS], count: usize) -> HeadRead
+pub fn head_at(
+    long: usize,
+    s: &[u8],
+    at: usize,
+    elements: &[u32; RECORDS],
+    count: usize,
+) -> HeadRead
     requires { ⌜ (at ≤ length (now s)) × (length (now s) ≤ 32768) × (count ≤ 64) ⌝ }
     ensures { λ r. ⌜ ((es : List rules.Element) → length es ≡ count → Recorded (now (elements .entry)) es →
-        headOf r ≡ head (now (s .entry)) at es) ⌝ }
+        headOf r ≡ head (settings long) (now (s .entry)) at es) ⌝ }
     ensures { λ r. ⌜ HeadIn (length (now (s .entry))) at count r ⌝ }
 {
     let g = gaps::gap_end(s, at);
     let Reached::At(i) = g else {
         return HeadRead::Refused(text::fault_of(g));
     };
-    let n = element_names::element_name(s, i, elements, count);
+    let n = element_names::element_name(long, s, i, elements, count);
     let Reached::At(e) = n else {
         return HeadRead::Refused(text::fault_of(n));
     };
-    words_at(s, i, e)
+    words_at(long, s, i, e)
 }
 
 // The two words after the name from i to e.
-fn words_at(s: &[u8], i: usize, e: usize) -> HeadRead
+fn words_at(long: usize, s: &[u8], i: usize, e: usize) -> HeadRead
     requires { ⌜ (i ≤ e) × (e ≤ length (now s)) × (length (now s) ≤ 32768) ⌝ }
-    ensures { λ r. ⌜ headOf r ≡ words (now (s .entry)) i e ⌝ }
+    ensures { λ r. ⌜ headOf r ≡ words (settings long) (now (s .entry)) i e ⌝ }
 {
     let g = gaps::gap_end(s, e);
     let Reached::At(j) = g else {
         return HeadRead::Refused(text::fault_of(g));
     };
-    let a = omission_at(s, e, j);
+    let a = omission_at(long, s, e, j);
     let Omission::Word(start, k) = a else {
         return HeadRead::Refused(fault_of_omission(a));
     };
@@ -107,7 +113,7 @@ fn words_at(s: &[u8], i: usize, e: usize) -> HeadRead
     let Reached::At(l) = h else {
         return HeadRead::Refused(text::fault_of(h));
     };
-    let b = omission_at(s, k, l);
+    let b = omission_at(long, s, k, l);
     let Omission::Word(end, m) = b else {
         return HeadRead::Refused(fault_of_omission(b));
     };

@@ -1,5 +1,4 @@
-// The name of an element that is declared: at most 8 bytes long, declared for the first time, and at most the 64th.
-use layout::NAMELEN;
+// The name of an element that is declared: at most as long as the caller says, declared for the first time, and at most the 64th.
 use layout::RECORDS;
 use text::Fault;
 use text::Reached;
@@ -7,6 +6,7 @@ ghost use mathlib.Core.Path.{_≡_};
 ghost use mathlib.Core.List.{List};
 ghost use Prim.Native.Nat.{_≤_, _<_};
 ghost use lib.ListN.{length, getD};
+ghost use Rattle.rules.specs.Settings.{settings};
 ghost use Rattle.rules.specs.TypeFile.{isDeclared, elementName};
 ghost use Rattle.rules.specs.TypeFile as rules;
 ghost use Rattle.rules.specs.Lookup.{isAlike, compared};
@@ -69,17 +69,23 @@ pub fn declared(s: &[u8], elements: &[u32; RECORDS], count: usize, at: usize, si
 }
 
 // The name of the element, declared for the first time, at most the 64th. Where the table holds no records of elements the answer is
-// not decided, but that a name that is got lies in the input, has at most 8 bytes, and is at most the 64th.
-pub fn element_name(s: &[u8], i: usize, elements: &[u32; RECORDS], count: usize) -> Reached
+// not decided, but that a name that is got lies in the input and is at most the 64th.
+pub fn element_name(
+    long: usize,
+    s: &[u8],
+    i: usize,
+    elements: &[u32; RECORDS],
+    count: usize,
+) -> Reached
     requires { ⌜ (i ≤ length (now s)) × (length (now s) ≤ 32768) × (count ≤ 64) ⌝ }
     ensures { λ r. ⌜ ((es : List rules.Element) → length es ≡ count → Recorded (now (elements .entry)) es →
-        reached r ≡ elementName (now (s .entry)) i es) ⌝ }
+        reached r ≡ elementName (settings long) (now (s .entry)) i es) ⌝ }
     ensures { λ r. ⌜ NameIn (length (now (s .entry))) i count r ⌝ }
 {
     let b = text::byte(s, i);
     if text::is_letter(b) {
         let e = text::name_end(s, i);
-        if NAMELEN < e - i {
+        if long < e - i {
             return Reached::Refused(Fault { number: 3, at: i });
         }
         if declared(s, elements, count, i, e - i).found {

@@ -11,6 +11,7 @@ ghost use mathlib.Core.Path.{_≡_};
 ghost use mathlib.Core.List.{List};
 ghost use Prim.Native.Nat.{_≤_};
 ghost use lib.ListN.{length};
+ghost use Rattle.rules.specs.Settings.{settings};
 ghost use Rattle.rules.specs.TypeFile.{close, rest, element};
 ghost use Rattle.rules.specs.TypeFile as rules;
 ghost use Rattle.text.specs.Means.{reached};
@@ -63,17 +64,23 @@ fn close_at(s: &[u8], i: usize) -> Reached
 }
 
 // What follows the two words: the content and the end, of an element whose head is h.
-fn rest_at(s: &[u8], h: Head, names: &mut [u32; NAMES], table: &mut [u8; MODEL]) -> ElementRead
-    requires { ⌜ (h .at ≤ length (now s)) × (length (now s) ≤ 32768) × (h .offset ≤ length (now s)) × (h .size ≤ 8) ⌝ }
+fn rest_at(
+    long: usize,
+    s: &[u8],
+    h: Head,
+    names: &mut [u32; NAMES],
+    table: &mut [u8; MODEL],
+) -> ElementRead
+    requires { ⌜ (h .at ≤ length (now s)) × (length (now s) ≤ 32768) × (h .offset ≤ length (now s)) × (h .size ≤ length (now s)) ⌝ }
     ensures { λ r. ⌜ ((es : List rules.Element) → MeetsElement (length (now (s .entry))) (h .at) (now (names .exit)) (now (table .exit)) es r
-        (rest (now (s .entry)) es (headIn h))) ⌝ }
+        (rest (settings long) (now (s .entry)) es (headIn h))) ⌝ }
 {
     let from = h.at;
     let g = gaps::gap_end(s, from);
     let Reached::At(i) = g else {
         return ElementRead::Refused(text::fault_of(g));
     };
-    let c = element_content::body_at(s, from, i, names, table);
+    let c = element_content::body_at(long, s, from, i, names, table);
     let BodyRead::Read(b) = c else {
         return ElementRead::Refused(element_content::fault_of_body(c));
     };
@@ -101,6 +108,7 @@ fn rest_at(s: &[u8], h: Head, names: &mut [u32; NAMES], table: &mut [u8; MODEL])
 // what `names` and `table` hold is not decided, nor how many places an EMPTY element has; behind the places of a model, `names` is not
 // decided either. Where `elements` holds no records of elements, all that is decided is that one more has room.
 pub fn element_at(
+    long: usize,
     s: &[u8],
     at: usize,
     elements: &[u32; RECORDS],
@@ -110,12 +118,12 @@ pub fn element_at(
 ) -> ElementRead
     requires { ⌜ (at ≤ length (now s)) × (length (now s) ≤ 32768) × (count ≤ 64) ⌝ }
     ensures { λ r. ⌜ ((es : List rules.Element) → length es ≡ count → Recorded (now (elements .entry)) es →
-        MeetsElement (length (now (s .entry))) at (now (names .exit)) (now (table .exit)) es r (element (now (s .entry)) at es)) ⌝ }
+        MeetsElement (length (now (s .entry))) at (now (names .exit)) (now (table .exit)) es r (element (settings long) (now (s .entry)) at es)) ⌝ }
     ensures { λ r. ⌜ ElementIn count r ⌝ }
 {
-    let r = element_head::head_at(s, at, elements, count);
+    let r = element_head::head_at(long, s, at, elements, count);
     let HeadRead::Read(h) = r else {
         return ElementRead::Refused(element_head::fault_of_head(r));
     };
-    rest_at(s, h, names, table)
+    rest_at(long, s, h, names, table)
 }

@@ -9,6 +9,7 @@ ghost use mathlib.Core.Path.{_≡_};
 ghost use mathlib.Core.List.{List, _++_};
 ghost use Prim.Native.Nat.{_+_, _*_, _≤_, _<_};
 ghost use lib.ListN.{length, take};
+ghost use Rattle.rules.specs.Settings.{settings};
 ghost use Rattle.rules.specs.TypeFile as rules;
 ghost use Rattle.element_content.specs.Kept.{KeepsContent};
 ghost use Rattle.element_records.specs.Progress.{numbersOf, Pending, PendingWith, KeepsProgress, InProgress, MeetsStep, stepFault};
@@ -90,6 +91,7 @@ fn clash_with(s: &[u8], c: Clash, e: Element, names: &[u32; NAMES], table: &[u8;
 // An element declaration whose keyword ends at `at`, after those that p counts. What stands in `elements` behind the records, or where it is
 // refused in all of it, is not decided, nor what `names` and `table` hold after any answer.
 pub fn element_at(
+    long: usize,
     s: &[u8],
     at: usize,
     p: Progress,
@@ -100,10 +102,10 @@ pub fn element_at(
     requires { ⌜ (at ≤ length (now s)) × (length (now s) ≤ 32768) ⌝ }
     requires { ⌜ InProgress (now s) (now elements) p ⌝ }
     ensures { λ r. ⌜ ((es : List rules.Element) → KeepsProgress (now (s .entry)) (now (elements .entry)) p es →
-        MeetsStep (now (s .entry)) (now (elements .exit)) at r (rules.element (now (s .entry)) at es)) ⌝ }
+        MeetsStep (now (s .entry)) (now (elements .exit)) at r (rules.element (settings long) (now (s .entry)) at es)) ⌝ }
 {
     let count = p.count;
-    let r = element_reader::element_at(s, at, elements, count, names, table);
+    let r = element_reader::element_at(long, s, at, elements, count, names, table);
     let ElementRead::Read(e) = r else {
         return Step::Refused(element_reader::fault_of(r));
     };

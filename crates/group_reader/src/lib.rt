@@ -9,6 +9,7 @@ ghost use mathlib.Core.Bool.{false};
 ghost use mathlib.Core.List.{List};
 ghost use Prim.Native.Nat.{ℕ, _+_, _≤_, _<_};
 ghost use lib.ListN.{length};
+ghost use Rattle.rules.specs.Settings.{settings};
 ghost use Rattle.rules.specs.TypeFile.{Tokens, token, further, group};
 ghost use Rattle.model_names.specs.Places.{placesOf};
 ghost use Rattle.connectors.specs.Kept.{Keeps};
@@ -24,6 +25,7 @@ pub enum Next {
 
 // A content token that begins at `at`.
 fn token_at(
+    long: usize,
     s: &[u8],
     at: usize,
     levels: usize,
@@ -36,11 +38,11 @@ fn token_at(
     requires { ⌜ (at ≤ length (now s)) × (length (now s) ≤ 32768) ⌝ }
     requires { ⌜ (places ≤ tokens) × (full ≡ false → tokens < 96) ⌝ }
     ensures { λ r. ⌜ Meets (length (now (s .entry))) (places + 1) (now (table .entry)) (now (names .exit)) (now (table .exit)) r
-        (token (group levels (now (s .entry))) (now (s .entry)) at full (placesOf (now (names .entry)) places) tokens) ⌝ }
+        (token (settings long) (group (settings long) levels (now (s .entry))) (now (s .entry)) at full (placesOf (now (names .entry)) places) tokens) ⌝ }
 {
     let b = text::byte(s, at);
     if text::is_letter(b) {
-        return content_tokens::name_token(s, at, full, places, tokens, names, table);
+        return content_tokens::name_token(long, s, at, full, places, tokens, names, table);
     }
     if b == b'#' {
         return content_tokens::data_token(s, at, full, places, tokens, names, table);
@@ -49,7 +51,7 @@ fn token_at(
         if full {
             return content_tokens::refusal(6, at);
         }
-        let r = group_at(s, at, levels, places, tokens + 1, names, table);
+        let r = group_at(long, s, at, levels, places, tokens + 1, names, table);
         let ModelRead::Read(m) = r else {
             return r;
         };
@@ -63,6 +65,7 @@ fn token_at(
 
 // What follows a content token, when m was read of the group, k content tokens joined by c (0: none yet).
 fn next_at(
+    long: usize,
     s: &[u8],
     levels: usize,
     lo: usize,
@@ -76,7 +79,7 @@ fn next_at(
     requires { ⌜ (m .places ≤ m .tokens) × (m .tokens ≤ 96) ⌝ }
     ensures { λ r. ⌜ ((T : List ℕ) (t : Tokens) → Keeps (length (now (s .entry))) lo T (now (names .entry)) (now (table .entry)) m t →
         MeetsFurther (length (now (s .entry))) lo T (now (names .exit)) (now (table .exit)) r
-        (further (group levels (now (s .entry))) (now (s .entry)) k c t)) ⌝ }
+        (further (settings long) (group (settings long) levels (now (s .entry))) (now (s .entry)) k c t)) ⌝ }
 {
     let i = text::separators_end(s, m.at);
     let b = text::byte(s, i);
@@ -99,7 +102,7 @@ fn next_at(
     }
     let j = text::separators_end(s, i + 1);
     let full = 32 <= k || 96 <= tokens;
-    let r = token_at(s, j, levels, full, places, tokens, names, table);
+    let r = token_at(long, s, j, levels, full, places, tokens, names, table);
     let ModelRead::Read(u) = r else {
         return Next::Unfit(content_tokens::fault_of(r));
     };
@@ -109,6 +112,7 @@ fn next_at(
 // A group whose "(" stands at `at`; `levels` is how many group levels are left. What `names` holds behind the places read so far, and where
 // it is refused what `names` and `table` hold, is not decided; they are filled anew for the next model.
 pub fn group_at(
+    long: usize,
     s: &[u8],
     at: usize,
     levels: usize,
@@ -120,13 +124,23 @@ pub fn group_at(
     requires { ⌜ (at < length (now s)) × (length (now s) ≤ 32768) ⌝ }
     requires { ⌜ (places ≤ tokens) × (tokens ≤ 96) ⌝ }
     ensures { λ r. ⌜ Meets (length (now (s .entry))) (places + 1) (now (table .entry)) (now (names .exit)) (now (table .exit)) r
-        (group levels (now (s .entry)) at (placesOf (now (names .entry)) places) tokens) ⌝ }
+        (group (settings long) levels (now (s .entry)) at (placesOf (now (names .entry)) places) tokens) ⌝ }
 {
     if levels == 0 {
         return content_tokens::refusal(6, at);
     }
     let i = text::separators_end(s, at + 1);
-    let r = token_at(s, i, levels - 1, 96 <= tokens, places, tokens, names, table);
+    let r = token_at(
+        long,
+        s,
+        i,
+        levels - 1,
+        96 <= tokens,
+        places,
+        tokens,
+        names,
+        table,
+    );
     let ModelRead::Read(first) = r else {
         return r;
     };
@@ -134,7 +148,7 @@ pub fn group_at(
     let mut k: usize = 1;
     let mut c: u8 = 0;
     loop {
-        let n = next_at(s, levels - 1, places + 1, k, c, m, names, table);
+        let n = next_at(long, s, levels - 1, places + 1, k, c, m, names, table);
         match n {
             Next::Closed(u) => {
                 return ModelRead::Read(u);

@@ -1,14 +1,20 @@
--- What is known of both inputs before they are read.
+-- What is known of the settings and of both inputs before they are read.
 use Prim.Native.Nat.{ℕ, _≤_}
 use mathlib.Core.Bool.{Bool, true, false}
 use mathlib.Core.List.{List}
 use lib.ListN.{length}
 use lib.Dec.{eqb}
+use Rattle.rules.specs.Settings as rules
 use Rattle.rules.specs.Bytes.{allowed, span}
 use Rattle.rules.specs.Judge.{Answer, refusal}
 use Rattle.rules.specs.Reader.{documentRefusal, BothLegible, RefusesBoth}
+use Rattle.inputs.specs.declared.Settings.{Settings}
 use Rattle.inputs.specs.declared.Checked.{Checked}
 use Rattle.inputs.specs.declared.Checked.the-variants as checked
+
+-- The settings in the rules' terms.
+abbrev pub settingsOf : Settings → rules.Settings
+settingsOf c = rules.settings (c .name_length)
 
 -- All bytes are allowed.
 abbrev pub isClean : List ℕ → Bool
@@ -20,11 +26,11 @@ failing true = 0
 failing false = 1
 
 -- A refusal that no room changes.
-abbrev pub RefusesAlways : (s d : List ℕ) → Answer → Type 0
-RefusesAlways s d a = (room : ℕ) → RefusesBoth s d room a
+abbrev pub RefusesAlways : rules.Settings → (s d : List ℕ) → Answer → Type 0
+RefusesAlways c s d a = (room : ℕ) → RefusesBoth c s d room a
 
--- Both inputs are legible, or one is refused by 1 or 2, as the order picks.
-abbrev pub Checks : (s d : List ℕ) → Checked → Type 0
-Checks s d checked.Legible = BothLegible s d
-Checks s d (checked.InType f) = (f .number ≤ 2) × RefusesAlways s d (refusal (f .number) (f .at) 0 0)
-Checks s d (checked.InDocument f) = (f .number ≤ 2) × RefusesAlways s d (documentRefusal (f .number) (f .at))
+-- The settings are offered and both inputs legible, or a call is refused by 24, 1 or 2, as the order picks.
+abbrev pub Checks : rules.Settings → (s d : List ℕ) → Checked → Type 0
+Checks c s d checked.Legible = BothLegible c s d
+Checks c s d (checked.InType f) = (f .number ≤ 24) × RefusesAlways c s d (refusal (f .number) (f .at) 0 0)
+Checks c s d (checked.InDocument f) = (f .number ≤ 2) × RefusesAlways c s d (documentRefusal (f .number) (f .at))

@@ -1,8 +1,22 @@
-// Both inputs before they are read: neither is too long, and every byte is allowed.
+// What a call is given, before it is read: the settings are among those that the paper names, neither input is too long, and every byte
+// is allowed.
 use text::Fault;
 ghost use mathlib.Core.Path.{_≡_};
 ghost use Rattle.rules.specs.Bytes.{allowed};
-ghost use Rattle.inputs.specs.Means.{isClean, failing, Checks};
+ghost use Rattle.rules.specs.Settings.{isOffered};
+ghost use Rattle.inputs.specs.Means.{settingsOf, isClean, failing, Checks};
+
+// What the caller chooses: how long a name may be.
+pub struct Settings {
+    pub name_length: usize,
+}
+
+// Whether a call takes these settings: names of at most 8 bytes, or more, to 32.
+pub fn is_offered(c: Settings) -> bool
+    ensures { λ r. ⌜ r ≡ isOffered (settingsOf c) ⌝ }
+{
+    8 <= c.name_length && c.name_length <= 32
+}
 
 // Which of the two is refused, if one is.
 pub enum Checked {
@@ -34,10 +48,13 @@ fn all_allowed(d: &[u8]) -> bool
     bad == 0
 }
 
-// Numbers 1 and 2 of the type file s and of the document d, in their order.
-pub fn check(s: &[u8], d: &[u8]) -> Checked
-    ensures { λ r. ⌜ Checks (now (s .entry)) (now (d .entry)) r ⌝ }
+// Number 24 of the settings, numbers 1 and 2 of the type file s and of the document d, in their order.
+pub fn check(c: Settings, s: &[u8], d: &[u8]) -> Checked
+    ensures { λ r. ⌜ Checks (settingsOf c) (now (s .entry)) (now (d .entry)) r ⌝ }
 {
+    if !is_offered(c) {
+        return Checked::InType(Fault { number: 24, at: 0 });
+    }
     if 32768 < s.len() {
         return Checked::InType(Fault { number: 1, at: 0 });
     }

@@ -6,6 +6,7 @@ use native.Mathlib.Omega.{arith}
 use lib.ListN.{length}
 use lib.Dec.{leb}
 use borrow.Author.Tests.{leb-false, lt-leb, le-leb}
+use Rattle.rules.specs.Settings.{Settings}
 use Rattle.rules.specs.Reading.{refused, got, andThen}
 use Rattle.rules.specs.TypeFile.{Element}
 use Rattle.rules.specs.Document.{Piece, startTag, endTag, skipped, blank, dataByte, piece}
@@ -21,7 +22,7 @@ use Rattle.document_laws.specs.Same.{Passes, begins, goes}
 use Rattle.last_places.specs.Last.{pieces}
 
 -- A piece that is read moves on and stays within the document.
-pub piece-moves : (d : List ℕ) (at : ℕ) → at < length d → (p : Piece) → piece d at ≡ got p → (at < pieceEnd p at) × (pieceEnd p at ≤ length d)
+pub piece-moves : {c : Settings} (d : List ℕ) (at : ℕ) → at < length d → (p : Piece) → piece c d at ≡ got p → (at < pieceEnd p at) × (pieceEnd p at ≤ length d)
 piece-moves d at h p e = by-piece p (got-so (piece-read d at h) e)
   where
     by-piece : (p : Piece) → PieceRead d at p → (at < pieceEnd p at) × (pieceEnd p at ≤ length d)
@@ -31,52 +32,52 @@ piece-moves d at h p e = by-piece p (got-so (piece-read d at h) e)
     by-piece blank r = (omega arith, omega arith)
     by-piece dataByte r = (omega arith, omega arith)
 
-module _ (s : List ℕ) (es : List Element) (D : Decisions) (d : List ℕ) where
+module _ (c : Settings) (s : List ℕ) (es : List Element) (D : Decisions) (d : List ℕ) where
   abbrev Onward : ℕ → Reached → Type 0
   Onward at y = (at < y .at) × (y .at ≤ length d)
 
-  moves-on : (p : Piece) (at : ℕ) (z : State) → at < length d → piece d at ≡ got p → Holds (At at) (Onward at) (settlePiece s es D d p at z)
+  moves-on : (p : Piece) (at : ℕ) (z : State) → at < length d → piece c d at ≡ got p → Holds (At at) (Onward at) (settlePiece s es D d p at z)
   moves-on p at z h e = first (settlePiece-both (any-moves s es D) any-datum d p at (refl, tt)) (λ x w r. rw (r .first) (piece-moves d at h p e))
 
   -- More turns than bytes are left are enough.
-  pub enough : (n m at : ℕ) (z : State) → length d - at < n → length d - at < m → piecesWithin s es D d n at z ≡ piecesWithin s es D d m at z
+  pub enough : (n m at : ℕ) (z : State) → length d - at < n → length d - at < m → piecesWithin c s es D d n at z ≡ piecesWithin c s es D d m at z
   unfolding piecesWithin
   enough zero m at z i j = absurd (omega arith)
   enough (suc n) zero at z i j = absurd (omega arith)
   enough (suc n) (suc m) at z i j =
       bool-cases (leb (length d) at) (λ e. rw (piecesWithin, e))
-      (λ e. rw (piecesWithin, e) (on-same (each (piece d at) (λ n k h. tt) (λ p q. q))
+      (λ e. rw (piecesWithin, e) (on-same (each (piece c d at) (λ n k h. tt) (λ p q. q))
       (λ p q. on-same (so (moves-on p at z (leb-false (length d) at e) q) (λ n k h. tt) (λ y h. h))
       (λ y h. enough n m (y .at) (y .state) (omega (arith, h, leb-false (length d) at e)) (omega (arith, h, leb-false (length d) at e))))))
 
   -- One turn.
 
-  pub pieces-end : (at : ℕ) (z : State) → length d ≤ at → pieces s es D d at z ≡ endDocument s es D (length d) z
+  pub pieces-end : (at : ℕ) (z : State) → length d ≤ at → pieces c s es D d at z ≡ endDocument s es D (length d) z
   unfolding piecesWithin
   pieces-end at z h = rw (piecesWithin, le-leb (length d) at h)
 
   module _ (at : ℕ) (z : State) (h : at < length d) where
-    turn : pieces s es D d at z ≡ andThen (piece d at) (λ p. andThen (settlePiece s es D d p at z) λ y. piecesWithin s es D d (length d - at) (y .at) (y .state))
+    turn : pieces c s es D d at z ≡ andThen (piece c d at) (λ p. andThen (settlePiece s es D d p at z) λ y. piecesWithin c s es D d (length d - at) (y .at) (y .state))
     unfolding piecesWithin
     turn = rw (piecesWithin, lt-leb (length d) at h)
 
-    pub pieces-refused : (n k : ℕ) → piece d at ≡ refused n k → pieces s es D d at z ≡ refused n k
+    pub pieces-refused : (n k : ℕ) → piece c d at ≡ refused n k → pieces c s es D d at z ≡ refused n k
     pieces-refused n k e = rw (turn, e)
 
-    module _ (p : Piece) (q : piece d at ≡ got p) where
-      pub pieces-stop : (n k : ℕ) → settlePiece s es D d p at z ≡ refused n k → pieces s es D d at z ≡ refused n k
+    module _ (p : Piece) (q : piece c d at ≡ got p) where
+      pub pieces-stop : (n k : ℕ) → settlePiece s es D d p at z ≡ refused n k → pieces c s es D d at z ≡ refused n k
       pieces-stop n k e = rw (turn, q, e)
 
-      pub pieces-on : (y : Reached) → settlePiece s es D d p at z ≡ got y → pieces s es D d at z ≡ pieces s es D d (y .at) (y .state)
+      pub pieces-on : (y : Reached) → settlePiece s es D d p at z ≡ got y → pieces c s es D d at z ≡ pieces c s es D d (y .at) (y .state)
       pieces-on y e = rw (turn, q, e) (enough (length d - at) (suc (length d - y .at)) (y .at) (y .state) (omega (arith, range)) (omega arith))
         where
           range : (at < y .at) × (y .at ≤ length d)
           range = got-so (moves-on p at z h q) e
 
   -- What is left where reading comes to reads as the document does.
-  pub passes-rest : {at : ℕ} {z : State} → Passes s es D d at z → pieces s es D d at z ≡ document s es D d
+  pub passes-rest : {at : ℕ} {z : State} → Passes c s es D d at z → pieces c s es D d at z ≡ document c s es D d
   unfolding document
-  passes-rest begins = ap (λ n. piecesWithin s es D d (suc n) 0 nothingOpen) whole
+  passes-rest begins = ap (λ n. piecesWithin c s es D d (suc n) 0 nothingOpen) whole
     where
       whole : length d - 0 ≡ length d
       whole = omega arith

@@ -4,6 +4,7 @@ use mathlib.Core.Bool.{Bool, false, _&&_}
 use mathlib.Core.List.{List, [], _∷_, _++_}
 use lib.ListN.{length}
 use lib.Dec.{eqb}
+use Rattle.rules.specs.Settings.{Settings}
 use Rattle.rules.specs.Reading.{Reading, refused, got, andThen}
 use Rattle.rules.specs.TypeFile.{model, Element}
 use Rattle.rules.specs.Elements.{contentOf, placesIn}
@@ -56,8 +57,8 @@ takeRun s es D at size z =
     got (record { current = x .current; around = x .around; events = x .events ++ dataRun at size ∷ [] })
 
 -- The rest of the document d from `at` on.
-abbrev pub pieces : List ℕ → List Element → Decisions → (d : List ℕ) (at : ℕ) → State → Reading (List Event)
-pieces s es D d at z = piecesWithin s es D d (suc (length d - at)) at z
+abbrev pub pieces : Settings → List ℕ → List Element → Decisions → (d : List ℕ) (at : ℕ) → State → Reading (List Event)
+pieces c s es D d at z = piecesWithin c s es D d (suc (length d - at)) at z
 
 -- The last event is a run of data that ends at `at`.
 abbrev pub joins : ℕ → List Event → Bool

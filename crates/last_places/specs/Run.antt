@@ -7,6 +7,7 @@ use native.Mathlib.Omega.{arith}
 use lib.ListN.{length}
 use lib.Dec.{eqb, ltb}
 use borrow.Author.Tests.{le-leb, ne-eqb}
+use Rattle.rules.specs.Settings.{Settings}
 use Rattle.rules.specs.Bytes.{TAGLVL}
 use Rattle.rules.specs.Reading.{Reading, refused, got}
 use Rattle.rules.specs.Walk.{place}
@@ -21,7 +22,7 @@ use Rattle.rules_laws.specs.Holds.{got-so}
 use Rattle.model_sets.specs.Sets.{nextIn}
 use Rattle.model_sets.specs.Reach.{lastOr0, lastOr0-snoc}
 use Rattle.document_laws.specs.Decide.{search, fitsIn, decided}
-use Rattle.rules_laws.specs.Runs.{isRun, runs, runEnd, runs-each, runEnd-in}
+use Rattle.rules_laws.specs.Runs.{isRun, runs, runEnd, runs-each, runEnd-in, anyPiece, run-any}
 use Rattle.last_places.specs.Last.{lastOnly, allLast, short, shortly, takeRun, pieces, joins}
 use Rattle.last_places.specs.Short.{state, took, withLast, allLast-twice, allLast-length, lastOnly-took, fitting-short, takeData-short, pieces-short}
 use Rattle.last_places.specs.Follows.{Follows, follows-fits, follows-on}
@@ -62,12 +63,12 @@ no-data s es stays o h e = go (o .number) e h (stays (o .number) (o .taken) h)
 -- Runs
 
 -- The piece after a run is none of data.
-pub runs-stop : (n : ℕ) (d : List ℕ) (i : ℕ) → runs n d i < n → isRun (piece d (i + runs n d i)) ≡ false
+pub runs-stop : (n : ℕ) (d : List ℕ) (i : ℕ) → runs n d i < n → isRun (anyPiece d (i + runs n d i)) ≡ false
 unfolding runs
 runs-stop zero d i h = absurd (omega arith)
-runs-stop (suc n) d i h = by-test (isRun (piece d i)) refl (runs-stop n d (i + 1))
+runs-stop (suc n) d i h = by-test (isRun (anyPiece d i)) refl (runs-stop n d (i + 1))
   where
-    by-test : (b : Bool) → isRun (piece d i) ≡ b → (runs n d (i + 1) < n → isRun (piece d (i + 1 + runs n d (i + 1))) ≡ false) → isRun (piece d (i + runs (suc n) d i)) ≡ false
+    by-test : (b : Bool) → isRun (anyPiece d i) ≡ b → (runs n d (i + 1) < n → isRun (anyPiece d (i + 1 + runs n d (i + 1))) ≡ false) → isRun (anyPiece d (i + runs (suc n) d i)) ≡ false
     by-test true e ih =
         let m : runs (suc n) d i ≡ suc (runs n d (i + 1)) = rw (runs, e) in
         let l : i + runs (suc n) d i ≡ i + 1 + runs n d (i + 1) = omega arith in
@@ -77,7 +78,7 @@ runs-stop (suc n) d i h = by-test (isRun (piece d i)) refl (runs-stop n d (i + 1
         let l : i + runs (suc n) d i ≡ i = omega arith in
         rw l e
 
-pub runEnd-stop : (d : List ℕ) (i : ℕ) → i ≤ length d → runEnd d i < length d → isRun (piece d (runEnd d i)) ≡ false
+pub runEnd-stop : (d : List ℕ) (i : ℕ) → i ≤ length d → runEnd d i < length d → isRun (anyPiece d (runEnd d i)) ≡ false
 runEnd-stop d i l h = runs-stop (length d - i) d i (omega arith)
 
 run-cases : {C : Type 0} (r : Reading Piece) → isRun r ≡ true → (r ≡ got blank → C) → (r ≡ got dataByte → C) → C
@@ -90,19 +91,19 @@ run-cases (got dataByte) e f g = g refl
 
 module _ (s : List ℕ) (es : List Element) (D : Decisions) where
   -- A piece of a run where data may come next is a data byte.
-  module _ (d : List ℕ) (at : ℕ) (z : State) (run : isRun (piece d at) ≡ true) (fits : piece d at ≡ got blank → 1 ≤ fitting s es D (z .current) pcdata) where
-    pub run-settles : (p : Piece) × (piece d at ≡ got p) × (settlePiece s es D d p at z ≡ goOn (at + 1) (takeData s es D at z))
-    run-settles = run-cases (piece d at) run (λ e. (blank, e, blank-settles s es D d at z (fits e))) (λ e. (dataByte, e, data-settles s es D d at z))
+  module _ {c : Settings} (d : List ℕ) (at : ℕ) (z : State) (run : isRun (piece c d at) ≡ true) (fits : piece c d at ≡ got blank → 1 ≤ fitting s es D (z .current) pcdata) where
+    pub run-settles : (p : Piece) × (piece c d at ≡ got p) × (settlePiece s es D d p at z ≡ goOn (at + 1) (takeData s es D at z))
+    run-settles = run-cases (piece c d at) run (λ e. (blank, e, blank-settles s es D d at z (fits e))) (λ e. (dataByte, e, data-settles s es D d at z))
 
-    pub data-turn : (y : State) → at < length d → takeData s es D at z ≡ got y → pieces s es D d at z ≡ pieces s es D d (at + 1) y
-    data-turn y h e = let (p, q, i) = run-settles in pieces-on s es D d at z h p q (record { at = at + 1; state = y }) (i ∙ ap (goOn (at + 1)) e)
+    pub data-turn : (y : State) → at < length d → takeData s es D at z ≡ got y → pieces c s es D d at z ≡ pieces c s es D d (at + 1) y
+    data-turn y h e = let (p, q, i) = run-settles in pieces-on c s es D d at z h p q (record { at = at + 1; state = y }) (i ∙ ap (goOn (at + 1)) e)
 
-    pub data-stop : (n k : ℕ) → at < length d → takeData s es D at z ≡ refused n k → pieces s es D d at z ≡ refused n k
-    data-stop n k h e = let (p, q, i) = run-settles in pieces-stop s es D d at z h p q n k (i ∙ ap (goOn (at + 1)) e)
+    pub data-stop : (n k : ℕ) → at < length d → takeData s es D at z ≡ refused n k → pieces c s es D d at z ≡ refused n k
+    data-stop n k h e = let (p, q, i) = run-settles in pieces-stop c s es D d at z h p q n k (i ∙ ap (goOn (at + 1)) e)
 
 -- The run
 
-module _ (s : List ℕ) (es : List Element) (stays : Stays s es) (d : List ℕ) (at : ℕ) (z x : State) (settles : settle s es (decided s es) pcdata at z ≡ got x) (few : ltb TAGLVL (length (x .around)) ≡ false) where
+module _ (c : Settings) (s : List ℕ) (es : List Element) (stays : Stays s es) (d : List ℕ) (at : ℕ) (z x : State) (settles : settle s es (decided s es) pcdata at z ≡ got x) (few : ltb TAGLVL (length (x .around)) ≡ false) where
   abbrev D : Decisions
   D = decided s es
 
@@ -144,31 +145,31 @@ module _ (s : List ℕ) (es : List Element) (stays : Stays s es) (d : List ℕ) 
   unfolding taken
   byte-leaves n =
       let o = lastOnly (x .current) in
-      let c : lastOnly (took o (fitting s es D o pcdata)) ≡ o = lastOnly-took o (fitting s es D o pcdata) ∙ ap₂ withLast (ap (λ o. o .number) data-last) again ∙ sym data-last in
-      ap₂ (λ c a. state c a (withData (at + n) (x .events ++ dataRun at n ∷ []))) c (allLast-twice (x .around))
+      let same : lastOnly (took o (fitting s es D o pcdata)) ≡ o = lastOnly-took o (fitting s es D o pcdata) ∙ ap₂ withLast (ap (λ o. o .number) data-last) again ∙ sym data-last in
+      ap₂ (λ o a. state o a (withData (at + n) (x .events ++ dataRun at n ∷ []))) same (allLast-twice (x .around))
       ∙ ap (state (lastOnly (x .current)) (allLast (x .around))) (withData-more at n (at + n) (x .events) refl)
 
-  byte-turn : (n : ℕ) → at + n < length d → isRun (piece d (at + n)) ≡ true → pieces s es D d (at + n) (within n) ≡ pieces s es D d (at + (n + 1)) (within (n + 1))
+  byte-turn : (n : ℕ) → at + n < length d → isRun (piece c d (at + n)) ≡ true → pieces c s es D d (at + n) (within n) ≡ pieces c s es D d (at + (n + 1)) (within (n + 1))
   byte-turn n h run =
       let y = state (took (lastOnly (x .current)) (fitting s es D (lastOnly (x .current)) pcdata)) (allLast (x .around)) (withData (at + n) (x .events ++ dataRun at n ∷ [])) in
       let l : at + n + 1 ≡ at + (n + 1) = omega arith in
       data-turn s es D d (at + n) (within n) run (λ e. fits-again) y h (takeData-got s es D (at + n) (within n) _ (byte-settles n) few-short)
-      ∙ pieces-short s es d (suc (length d - (at + n + 1))) (at + n + 1) y
-      ∙ ap₂ (pieces s es D d) l (byte-leaves n)
+      ∙ pieces-short s es c d (suc (length d - (at + n + 1))) (at + n + 1) y
+      ∙ ap₂ (pieces c s es D d) l (byte-leaves n)
 
   -- n more bytes
-  bytes-turn : (n : ℕ) → at + (n + 1) ≤ length d → ((k : ℕ) → k < n → isRun (piece d (at + (k + 1))) ≡ true) → pieces s es D d (at + 1) (within 1) ≡ pieces s es D d (at + (n + 1)) (within (n + 1))
+  bytes-turn : (n : ℕ) → at + (n + 1) ≤ length d → ((k : ℕ) → k < n → isRun (piece c d (at + (k + 1))) ≡ true) → pieces c s es D d (at + 1) (within 1) ≡ pieces c s es D d (at + (n + 1)) (within (n + 1))
   bytes-turn zero h run = refl
   bytes-turn (suc n) h run =
       let l : suc n ≡ n + 1 = omega arith in
-      bytes-turn n (omega arith) (λ k i. run k (omega arith)) ∙ byte-turn (n + 1) (omega arith) (run n (omega arith)) ∙ ap (λ m. pieces s es D d (at + (m + 1)) (within (m + 1))) (sym l)
+      bytes-turn n (omega arith) (λ k i. run k (omega arith)) ∙ byte-turn (n + 1) (omega arith) (run n (omega arith)) ∙ ap (λ m. pieces c s es D d (at + (m + 1)) (within (m + 1))) (sym l)
 
   -- Reading as the rules do has come to the byte n of the run.
   record Read (n : ℕ) : Type 0 where
-    pub follows : Follows s es d (at + n) (within n)
+    pub follows : Follows c s es d (at + n) (within n)
 
   -- A byte more, and n more.
-  byte-follows : (n : ℕ) → at + n < length d → isRun (piece d (at + n)) ≡ true → Read n → Read (n + 1)
+  byte-follows : (n : ℕ) → at + n < length d → isRun (piece c d (at + n)) ≡ true → Read n → Read (n + 1)
   byte-follows n h run f =
       let l : at + n + 1 ≡ at + (n + 1) = omega arith in
       let g = f .follows in
@@ -179,21 +180,21 @@ module _ (s : List ℕ) (es : List Element) (stays : Stays s es) (d : List ℕ) 
             (ap shortly (takeData-got s es D (at + n) (within n) _ (byte-settles n) few-short) ∙ ap got (byte-leaves n)));
       }
 
-  bytes-follow : (n : ℕ) → at + (n + 1) ≤ length d → ((k : ℕ) → k < n → isRun (piece d (at + (k + 1))) ≡ true) → Read 1 → Read (n + 1)
+  bytes-follow : (n : ℕ) → at + (n + 1) ≤ length d → ((k : ℕ) → k < n → isRun (piece c d (at + (k + 1))) ≡ true) → Read 1 → Read (n + 1)
   bytes-follow zero h run f = f
   bytes-follow (suc n) h run f =
       let l : n + 1 ≡ suc n = omega arith in
       subst (λ (m : ℕ). Read (m + 1)) l (byte-follows (n + 1) (omega arith) (run n (omega arith)) (bytes-follow n (omega arith) (λ k i. run k (omega arith)) f))
 
-  module _ (inside : at < length d) (run : isRun (piece d at) ≡ true) (fits : piece d at ≡ got blank → 1 ≤ fitting s es D (z .current) pcdata) (parted : joins at (z .events) ≡ false) where
-    first-byte : pieces s es D d at z ≡ pieces s es D d (at + 1) (within 1)
+  module _ (inside : at < length d) (run : isRun (piece c d at) ≡ true) (fits : piece c d at ≡ got blank → 1 ≤ fitting s es D (z .current) pcdata) (parted : joins at (z .events) ≡ false) where
+    first-byte : pieces c s es D d at z ≡ pieces c s es D d (at + 1) (within 1)
     first-byte =
         let y = state (x .current) (x .around) (withData at (x .events)) in
         data-turn s es D d at z run fits y inside (takeData-got s es D at z x settles few)
-        ∙ ap (λ ev. pieces s es D d (at + 1) (state (x .current) (x .around) ev)) (withData-new at (x .events) (after .parted at parted))
-        ∙ pieces-short s es d (suc (length d - (at + 1))) (at + 1) (state (x .current) (x .around) (x .events ++ dataRun at 1 ∷ []))
+        ∙ ap (λ ev. pieces c s es D d (at + 1) (state (x .current) (x .around) ev)) (withData-new at (x .events) (after .parted at parted))
+        ∙ pieces-short s es c d (suc (length d - (at + 1))) (at + 1) (state (x .current) (x .around) (x .events ++ dataRun at 1 ∷ []))
 
-    first-follows : Follows s es d at z → Read 1
+    first-follows : Follows c s es d at z → Read 1
     first-follows f =
         let (p, q, i) = run-settles s es D d at (f .state) run (λ e. omega (arith, follows-fits f pcdata, fits e)) in
         record {
@@ -202,26 +203,26 @@ module _ (s : List ℕ) (es : List Element) (stays : Stays s es) (d : List ℕ) 
               (ap shortly (takeData-got s es D at z x settles few) ∙ ap (λ ev. got (short (state (x .current) (x .around) ev))) (withData-new at (x .events) (after .parted at parted)));
         }
 
-    each : (k : ℕ) → k < runs (length d - (at + 1)) d (at + 1) → isRun (piece d (at + (k + 1))) ≡ true
+    each : (k : ℕ) → k < runs (length d - (at + 1)) d (at + 1) → isRun (piece c d (at + (k + 1))) ≡ true
     each k l =
         let m : at + (k + 1) ≡ at + 1 + k = omega arith in
-        rw m (runs-each (length d - (at + 1)) d (at + 1) k l)
+        rw m (run-any c d (at + 1 + k) ∙ runs-each (length d - (at + 1)) d (at + 1) k l)
 
     -- The whole run
-    pub run-once : pieces s es D d at z ≡ pieces s es D d (runEnd d (at + 1)) (within (runEnd d (at + 1) - at))
+    pub run-once : pieces c s es D d at z ≡ pieces c s es D d (runEnd d (at + 1)) (within (runEnd d (at + 1) - at))
     run-once =
         let n = runs (length d - (at + 1)) d (at + 1) in
         let i : at + (n + 1) ≡ runEnd d (at + 1) = omega arith in
         let j : n + 1 ≡ runEnd d (at + 1) - at = omega arith in
-        first-byte ∙ bytes-turn n (omega (arith, runEnd-in d (at + 1) (omega arith))) each ∙ ap₂ (λ e m. pieces s es D d e (within m)) i j
+        first-byte ∙ bytes-turn n (omega (arith, runEnd-in d (at + 1) (omega arith))) each ∙ ap₂ (λ e m. pieces c s es D d e (within m)) i j
 
-    pub run-follows : Follows s es d at z → Follows s es d (runEnd d (at + 1)) (within (runEnd d (at + 1) - at))
+    pub run-follows : Follows c s es d at z → Follows c s es d (runEnd d (at + 1)) (within (runEnd d (at + 1) - at))
     run-follows f =
         let n = runs (length d - (at + 1)) d (at + 1) in
         let i : at + (n + 1) ≡ runEnd d (at + 1) = omega arith in
         let j : n + 1 ≡ runEnd d (at + 1) - at = omega arith in
         let r = bytes-follow n (omega (arith, runEnd-in d (at + 1) (omega arith))) each (first-follows f) in
-        subst (λ (m : ℕ). Follows s es d (runEnd d (at + 1)) (within m)) j (subst (λ (e : ℕ). Follows s es d e (within (n + 1))) i (r .follows))
+        subst (λ (m : ℕ). Follows c s es d (runEnd d (at + 1)) (within m)) j (subst (λ (e : ℕ). Follows c s es d e (within (n + 1))) i (r .follows))
 
 -- What a run taken at once says of its first byte
 

@@ -3,6 +3,7 @@ use Prim.Native.Nat.{ℕ, zero, suc, _+_}
 use mathlib.Core.Path.{_≡_, refl, sym, _∙_, ap, ap₂}
 use mathlib.Core.List.{List, [], _∷_, _++_}
 use lib.ListN.{length}
+use Rattle.rules.specs.Settings.{Settings}
 use Rattle.rules.specs.Reading.{Reading, got}
 use Rattle.rules.specs.TypeFile.{Element}
 use Rattle.rules.specs.Document.{piece}
@@ -128,8 +129,8 @@ module _ (s : List ℕ) (es : List Element) where
   pub endElement-short : (k at after : ℕ) (z : State) → shortly (endElement s es D k at after z) ≡ shortly (endElement s es D k at after (short z))
   endElement-short k at after z = shortly-both (endElement-both (last-moves .ends) k at after (shortened z)) (λ x w r. r .0)
 
-  pub pieces-short : (d : List ℕ) (n at : ℕ) (z : State) → piecesWithin s es D d n at z ≡ piecesWithin s es D d n at (short z)
-  pieces-short d n at z = same (piecesWithin-both last-moves last-datum d Any tt (λ i l. each (piece d i) (λ m k e. tt) (λ p e. tt)) (λ i m k l h. tt) n at (shortened z))
+  pub pieces-short : (c : Settings) (d : List ℕ) (n at : ℕ) (z : State) → piecesWithin c s es D d n at z ≡ piecesWithin c s es D d n at (short z)
+  pieces-short c d n at z = same (piecesWithin-both last-moves last-datum d Any tt (λ i l. each (piece c d i) (λ m k e. tt) (λ p e. tt)) (λ i m k l h. tt) n at (shortened z))
 
   -- An end tag takes no place: of a short state it leaves a short one.
   exact-ends : Ends s es D D (Itself (λ (z : State). short z ≡ z))

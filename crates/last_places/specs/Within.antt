@@ -5,6 +5,7 @@ use mathlib.Core.Logic.{_⊎_, inl, inr, ⊎-elim}
 use mathlib.Core.List.{List}
 use native.Mathlib.Omega.{arith}
 use lib.ListN.{length}
+use Rattle.rules.specs.Settings.{Settings}
 use Rattle.rules.specs.Reading.{refused}
 use Rattle.rules.specs.TypeFile.{Element}
 use Rattle.rules.specs.Document.{piece}
@@ -23,13 +24,13 @@ DocumentNumber n = ((3 ≤ n) × (n ≤ 5)) ⊎ ((10 ≤ n) × (n ≤ 18))
 abbrev In : List ℕ → (number position : ℕ) → Type 0
 In d n k = DocumentNumber n × (k ≤ length d)
 
-by-piece : (d : List ℕ) (i : ℕ) → i < length d → Refuses (In d) (piece d i)
-by-piece d i h = so (piece-read d i h) (λ n k r. (⊎-elim inl (λ e. inr (omega arith)) (r .0), r .1)) (λ p r. tt)
+by-piece : (c : Settings) (d : List ℕ) (i : ℕ) → i < length d → Refuses (In d) (piece c d i)
+by-piece c d i h = so (piece-read d i h) (λ n k r. (⊎-elim inl (λ e. inr (omega arith)) (r .0), r .1)) (λ p r. tt)
 
 by-settling : (d : List ℕ) (at n k : ℕ) → at ≤ length d → At at n k → In d n k
 by-settling d at n k h r = (inr (r .0), omega (arith, r .1))
 
-module _ (s : List ℕ) (es : List Element) (D : Decisions) (d : List ℕ) where
-  pub document-within : (n k : ℕ) → document s es D d ≡ refused n k → DocumentNumber n × (k ≤ length d)
+module _ {c : Settings} (s : List ℕ) (es : List Element) (D : Decisions) (d : List ℕ) where
+  pub document-within : (n k : ℕ) → document c s es D d ≡ refused n k → DocumentNumber n × (k ≤ length d)
   document-within n k e =
-      refused-so (refusals (document-both (any-moves s es D) any-datum d (In d) (inl (omega arith), omega arith) (by-piece d) (by-settling d) (refl, tt))) e
+      refused-so (refusals (document-both (any-moves s es D) any-datum d (In d) (inl (omega arith), omega arith) (by-piece c d) (by-settling d) (refl, tt))) e

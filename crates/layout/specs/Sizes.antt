@@ -1,6 +1,7 @@
 -- The sizes of the tables, by the names that the code has for them.
 use Prim.Native.Nat.{ℕ, _+_, _*_}
-use Rattle.rules.specs.Bytes.{NAMELEN, GRPGTCNT, elementLimit}
+use Rattle.rules.specs.Settings.{mostNameLength}
+use Rattle.rules.specs.Bytes.{GRPGTCNT, elementLimit}
 
 -- Where one can stand in a content model: at its start, or after one of its places.
 abbrev pub POSITIONS : ℕ
@@ -23,7 +24,7 @@ CONTENTS = elementLimit + 1
 
 -- The elements by name: a link for each, and a bucket for each length of a name and each first letter.
 abbrev pub INDEX : ℕ
-INDEX = CONTENTS + 32 * NAMELEN
+INDEX = CONTENTS + 32 * mostNameLength
 
 -- The tables of a type.
 abbrev pub ROW : ℕ

@@ -1,8 +1,8 @@
 // How large the tables are that are lent from crate to crate. A quantity of the paper that changes is changed here and in
 // `rules/specs/Bytes.antt`; `specs/Sizes.antt` has the same names for the laws.
 
-// The longest name; the content tokens of a model; the declared elements.
-pub const NAMELEN: usize = 8;
+// The longest name under any settings; the content tokens of a model; the declared elements.
+pub const NAMES_TO: usize = 32;
 
 pub const GRPGTCNT: usize = 96;
 
@@ -33,7 +33,7 @@ pub const NUMBER: usize = 4;
 pub const CONTENTS: usize = ELEMENTS + 1;
 
 // The elements by name: a link for each, and a bucket for each length of a name and each first letter.
-pub const INDEX: usize = CONTENTS + 32 * NAMELEN;
+pub const INDEX: usize = CONTENTS + 32 * NAMES_TO;
 
 // The tables of a type: of each content and position a row of bits with the required place; of each content and place a name
 // and a link; of each content a place for each name, and three facts.

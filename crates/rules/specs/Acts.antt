@@ -7,6 +7,7 @@ use mathlib.Core.Bool.{Bool, true, false}
 use mathlib.Core.Logic.{_↔_}
 use mathlib.Core.List.{List, [], _∷_, _++_}
 use lib.ListN.{length}
+use Rattle.rules.specs.Settings.{Settings}
 use Rattle.rules.specs.Bytes.{TAGLVL}
 use Rattle.rules.specs.Reading.{got}
 use Rattle.rules.specs.Walk.{Group, Complete, Required}
@@ -51,10 +52,10 @@ pub data Acts (s : List ℕ) (es : List Element) (D : Decisions) (P : State → 
 
 -- The states that reading comes to between pieces, and how many are open
 
--- Reading the document d, piece by piece, comes to `at` with the state z.
-pub data Passes (s : List ℕ) (es : List Element) (D : Decisions) (d : List ℕ) : ℕ → State → Type 0 where
-  begins : Passes s es D d 0 nothingOpen
-  goes : {at : ℕ} {z : State} {p : Piece} (r : Reached) → Passes s es D d at z → at < length d → piece d at ≡ got p → settlePiece s es D d p at z ≡ got r → Passes s es D d (r .at) (r .state)
+-- Reading the document d under the settings c, piece by piece, comes to `at` with the state z.
+pub data Passes (c : Settings) (s : List ℕ) (es : List Element) (D : Decisions) (d : List ℕ) : ℕ → State → Type 0 where
+  begins : Passes c s es D d 0 nothingOpen
+  goes : {at : ℕ} {z : State} {p : Piece} (r : Reached) → Passes c s es D d at z → at < length d → piece c d at ≡ got p → settlePiece s es D d p at z ≡ got r → Passes c s es D d (r .at) (r .state)
 
 -- "TAGLVL 24 open elements": at most 24 stand around the current one, which is how many are open, since the outermost of them is the document itself.
 abbrev pub Few : State → Type 0

@@ -115,9 +115,7 @@ unfoldable pub sameText : List ℕ → ℕ → List ℕ → ℕ → ℕ → Bool
 sameText s a t b zero = true
 sameText s a t b (suc n) = elim (eqb (fold (byteAt s a)) (fold (byteAt t b))) [ true ↦ sameText s (a + 1) t (b + 1) n | false ↦ false ]
 
--- The quantities. NAMELEN is the longest name.
-abbrev pub NAMELEN : ℕ
-NAMELEN = 8
+-- The quantities; NAMELEN, the longest name, is in Settings.
 
 -- "GRPCNT 32 tokens in one group, GRPLVL 16 group levels (the outermost is level 1), GRPGTCNT 96 content tokens in a model".
 abbrev pub GRPCNT : ℕ

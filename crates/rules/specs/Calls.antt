@@ -2,6 +2,7 @@
 use Prim.Native.Nat.{ℕ}
 use mathlib.Core.Path.{_≡_}
 use mathlib.Core.List.{List, [], _∷_}
+use Rattle.rules.specs.Settings.{Settings}
 use Rattle.rules.specs.Lent.{bytes}
 use Rattle.rules.specs.Judge.{Answer, Judged}
 use Rattle.rules.specs.Reader.{ReadAs}
@@ -13,11 +14,11 @@ abbrev pub answerNumbers : Answer → List ℕ
 answerNumbers a = a .number ∷ a .input ∷ a .position ∷ a .first ∷ a .second ∷ a .count ∷ []
 
 -- The main program is in C; "both calls are reachable from it through numbers and byte slices". The judge returns the number of an answer to the type
--- file s, gives the answer's six numbers, and leaves in the lent bytes, `before` the call, what goes with that answer.
-abbrev pub JudgedNumbers : (s before : List ℕ) (returned : ℕ) (numbers after : List ℕ) → Type 0
-JudgedNumbers s before returned numbers after = (a : Answer) × (returned ≡ a .number) × (numbers ≡ answerNumbers a) × Judged bytes s before a after
+-- file s under the settings c, gives the answer's six numbers, and leaves in the lent bytes, `before` the call, what goes with that answer.
+abbrev pub JudgedNumbers : Settings → (s before : List ℕ) (returned : ℕ) (numbers after : List ℕ) → Type 0
+JudgedNumbers c s before returned numbers after = (a : Answer) × (returned ≡ a .number) × (numbers ≡ answerNumbers a) × Judged bytes c s before a after
 
--- The reader returns the number of an answer to the type file s and the document d, gives its six numbers, and leaves in the lent bytes what goes
--- with it.
-abbrev pub ReadNumbers : (s d before : List ℕ) (returned : ℕ) (numbers after : List ℕ) → Type 0
-ReadNumbers s d before returned numbers after = (a : Answer) × (returned ≡ a .number) × (numbers ≡ answerNumbers a) × ReadAs bytes s d before a after
+-- The reader returns the number of an answer to the type file s and the document d under the settings c, gives its six numbers, and leaves in
+-- the lent bytes what goes with it.
+abbrev pub ReadNumbers : Settings → (s d before : List ℕ) (returned : ℕ) (numbers after : List ℕ) → Type 0
+ReadNumbers c s d before returned numbers after = (a : Answer) × (returned ≡ a .number) × (numbers ≡ answerNumbers a) × ReadAs bytes c s d before a after

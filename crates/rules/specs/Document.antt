@@ -1,10 +1,11 @@
 -- The document's pieces: tags, comment declarations, what is skipped, and single bytes (paper 01, "The document"), with refusals 3, 4, 5 and 17.
--- What a piece means for the open elements is in Settling.
+-- c has the settings of the call. What a piece means for the open elements is in Settling.
 use Prim.Native.Nat.{ℕ, _+_, _-_}
 use mathlib.Core.Bool.{Bool, true, false, _&&_, _||_}
 use mathlib.Core.List.{List}
 use lib.Dec.{eqb, leb, ltb}
-use Rattle.rules.specs.Bytes.{byteAt, letter, nameEnd, separatorsEnd, NAMELEN, TAB, RS, RE, SPACE, EXCLAMATION, RNI, AND, SOLIDUS, STAGO, MDC, OPT, DSO, DSC}
+use Rattle.rules.specs.Bytes.{byteAt, letter, nameEnd, separatorsEnd, TAB, RS, RE, SPACE, EXCLAMATION, RNI, AND, SOLIDUS, STAGO, MDC, OPT, DSO, DSC}
+use Rattle.rules.specs.Settings.{Settings}
 use Rattle.rules.specs.Reading.{Reading, refused, got, andThen}
 use Rattle.rules.specs.TypeFile.{atDashes, commentDeclaration}
 
@@ -25,11 +26,11 @@ pub data Piece : Type 0 where
   dataByte : Piece
 
 -- "Name, separators, `>`." Within a tag 3 comes before 4. `at` is the name's first byte, a letter.
-unfoldable pub tag : List ℕ → ℕ → Reading Tag
-tag d at =
+unfoldable pub tag : Settings → List ℕ → ℕ → Reading Tag
+tag c d at =
     let e = nameEnd d at in
     let i = separatorsEnd d e in
-    elim (ltb NAMELEN (e - at)) [
+    elim (ltb (c .nameLength) (e - at)) [
       | true ↦ refused 3 at
       | false ↦ elim (eqb (byteAt d i) MDC) [ true ↦ got (record { name = at; size = e - at; after = i + 1 }) | false ↦ refused 4 i ]
     ]
@@ -52,13 +53,13 @@ declarationPiece d i =
     ]
 
 -- `<` at i: "`<` then a letter starts a start tag, `</` then a letter an end tag". "`<?`" is number 5.
-unfoldable pub markupPiece : List ℕ → ℕ → Reading Piece
-markupPiece d i =
+unfoldable pub markupPiece : Settings → List ℕ → ℕ → Reading Piece
+markupPiece c d i =
     let b = byteAt d (i + 1) in
     elim (letter b) [
-      | true ↦ andThen (tag d (i + 1)) λ t. got (startTag t)
+      | true ↦ andThen (tag c d (i + 1)) λ t. got (startTag t)
       | false ↦ elim (eqb b SOLIDUS && letter (byteAt d (i + 2))) [
-        | true ↦ andThen (tag d (i + 2)) λ t. got (endTag t)
+        | true ↦ andThen (tag c d (i + 2)) λ t. got (endTag t)
         | false ↦ elim (eqb b EXCLAMATION) [
           | true ↦ declarationPiece d i
           | false ↦ elim (eqb b OPT) [ true ↦ refused 5 i | false ↦ got dataByte ]
@@ -88,10 +89,10 @@ bytePiece d i =
     ]
 
 -- What stands at i, where the document does not end.
-unfoldable pub piece : List ℕ → ℕ → Reading Piece
-piece d i =
+unfoldable pub piece : Settings → List ℕ → ℕ → Reading Piece
+piece c d i =
     elim (eqb (byteAt d i) STAGO) [
-      | true ↦ markupPiece d i
+      | true ↦ markupPiece c d i
       | false ↦ elim (eqb (byteAt d i) AND && isReference d i) [
         | true ↦ refused 5 i
         | false ↦ elim (isSectionEnd d i) [ true ↦ refused 17 i | false ↦ bytePiece d i ]

@@ -1,9 +1,10 @@
 -- The type judge's answer and what its lent buffer holds after (paper 01, "What the reader takes and gives", "Refusal numbers", order).
 use Prim.Native.Nat.{ℕ, zero, suc, _-_, _*_, _<_, _≤_}
 use mathlib.Core.Path.{_≡_}
-use mathlib.Core.Bool.{Bool}
+use mathlib.Core.Bool.{Bool, true, false}
 use mathlib.Core.List.{List, [], _∷_, _++_}
 use lib.ListN.{length}
+use Rattle.rules.specs.Settings.{Settings, isOffered}
 use Rattle.rules.specs.Bytes.{allowed, span, typeLimit}
 use Rattle.rules.specs.Lent.{Lent, standing, room, filledWith, zeroed}
 use Rattle.rules.specs.Reading.{refused, got}
@@ -67,28 +68,31 @@ unfoldable pub records : List Element → List ℕ
 records [] = []
 records (e ∷ es) = e .at ∷ e .size ∷ e .start ∷ e .end ∷ (contentNumbers (e .content) ++ records es)
 
--- The type is neither too long nor has a byte that is not allowed.
-pub record Legible (s : List ℕ) : Type 0 where
+-- The settings are among those that a call takes, and the type is neither too long nor has a byte that is not allowed.
+pub record Legible (c : Settings) (s : List ℕ) : Type 0 where
+  pub offered : isOffered c ≡ true
   pub short : length s ≤ typeLimit
   pub clean : span allowed s ≡ length s
 
 -- The refusal that the order picks: "1 type, .. 2 type, ..; the type file's 3 to 8 ..; 9; ..; 19 only where nothing else is wrong,
--- and exactly if the numbers don't fit"; `room` is how many numbers the lent buffer holds.
-pub data Refuses (s : List ℕ) (room : ℕ) (a : Answer) : Type 0 where
-  tooLong : typeLimit < length s → a ≡ refusal 1 0 0 0 → Refuses s room a
-  notAllowed : length s ≤ typeLimit → span allowed s < length s → a ≡ refusal 2 (span allowed s) 0 0 → Refuses s room a
-  malformed : Legible s → (n k : ℕ) → typeFile s ≡ refused n k → a ≡ refusal n k 0 0 → Refuses s room a
-  ambiguous : Legible s → (es : List Element) → typeFile s ≡ got es → (k p q : ℕ) → FirstAmbiguous s k p q es → a ≡ refusal 9 k p q → Refuses s room a
-  noRoom : Legible s → (es : List Element) → typeFile s ≡ got es → AllUnambiguous s es → room < 6 * length es → a ≡ refusal 19 0 0 0 → Refuses s room a
+-- and exactly if the numbers don't fit"; before all of it 24, "in the type at 0" (paper 02, request six: "before even 23"). `room` is how many
+-- numbers the lent buffer holds.
+pub data Refuses (c : Settings) (s : List ℕ) (room : ℕ) (a : Answer) : Type 0 where
+  notOffered : isOffered c ≡ false → a ≡ refusal 24 0 0 0 → Refuses c s room a
+  tooLong : isOffered c ≡ true → typeLimit < length s → a ≡ refusal 1 0 0 0 → Refuses c s room a
+  notAllowed : isOffered c ≡ true → length s ≤ typeLimit → span allowed s < length s → a ≡ refusal 2 (span allowed s) 0 0 → Refuses c s room a
+  malformed : Legible c s → (n k : ℕ) → typeFile c s ≡ refused n k → a ≡ refusal n k 0 0 → Refuses c s room a
+  ambiguous : Legible c s → (es : List Element) → typeFile c s ≡ got es → (k p q : ℕ) → FirstAmbiguous s k p q es → a ≡ refusal 9 k p q → Refuses c s room a
+  noRoom : Legible c s → (es : List Element) → typeFile c s ≡ got es → AllUnambiguous s es → room < 6 * length es → a ≡ refusal 19 0 0 0 → Refuses c s room a
 
 -- The type is accepted with these elements.
-pub record Accepts (s : List ℕ) (es : List Element) : Type 0 where
-  pub legible : Legible s
-  pub elements : typeFile s ≡ got es
+pub record Accepts (c : Settings) (s : List ℕ) (es : List Element) : Type 0 where
+  pub legible : Legible c s
+  pub elements : typeFile c s ≡ got es
   pub unambiguous : AllUnambiguous s es
 
--- What the judge answers to a type file and what the lent buffer, `before` the call, holds after it.
+-- What the judge answers to a type file under the settings c and what the lent buffer, `before` the call, holds after it.
 -- "What lies behind the last number written stays as it was; on refusal the whole buffer is zero and the count is 0."
-pub data Judged (l : Lent) (s before : List ℕ) (a : Answer) (after : List ℕ) : Type 0 where
-  refuses : Refuses s (room l before) a → after ≡ zeroed before → Judged l s before a after
-  accepts : (es : List Element) → Accepts s es → 6 * length es ≤ room l before → a ≡ acceptance (length es) → after ≡ filledWith (standing l (records es)) before → Judged l s before a after
+pub data Judged (l : Lent) (c : Settings) (s before : List ℕ) (a : Answer) (after : List ℕ) : Type 0 where
+  refuses : Refuses c s (room l before) a → after ≡ zeroed before → Judged l c s before a after
+  accepts : (es : List Element) → Accepts c s es → 6 * length es ≤ room l before → a ≡ acceptance (length es) → after ≡ filledWith (standing l (records es)) before → Judged l c s before a after

@@ -1,5 +1,6 @@
--- The rules of paper 01, in its order, and what paper 02 adds (Lookup, and the marks in Acts): read these files to know what is promised.
+-- The rules of paper 01, in its order, and what paper 02 adds (Settings, Lookup, and the marks in Acts): read these files to know what is promised.
 pub mod Lent
+pub mod Settings
 pub mod Bytes
 pub mod Reading
 pub mod Walk

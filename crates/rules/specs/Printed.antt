@@ -7,6 +7,7 @@ use mathlib.Core.Bool.{true, false}
 use mathlib.Core.List.{List, [], _∷_, _++_}
 use lib.ListN.{length}
 use lib.Dec.{leb}
+use Rattle.rules.specs.Settings.{settings}
 use Rattle.rules.specs.Bytes.{byteAt, fold}
 use Rattle.rules.specs.Reading.{got}
 use Rattle.rules.specs.TypeFile.{Element}
@@ -78,7 +79,7 @@ inputText k = elim (leb 2 k) [ true ↦ inDocument | false ↦ inType ]
 
 -- The whole text
 
--- The text for the type file s and the document d, read with 16,384 numbers lent.
+-- "The small program gives 8" (paper 02, request six). The text for the type file s and the document d, read so with 16,384 numbers lent.
 pub data Prints (s d text : List ℕ) : Type 0 where
-  events : (es : List Element) (ev : List Event) → Reads s d es (got ev) → 4 * length ev ≤ 16384 → text ≡ eventsText s es ev → Prints s d text
-  refusal : (a : Answer) → RefusesBoth s d 16384 a → text ≡ refusedText (a .number) (inputText (a .input)) (a .position) → Prints s d text
+  events : (es : List Element) (ev : List Event) → Reads (settings 8) s d es (got ev) → 4 * length ev ≤ 16384 → text ≡ eventsText s es ev → Prints s d text
+  refusal : (a : Answer) → RefusesBoth (settings 8) s d 16384 a → text ≡ refusedText (a .number) (inputText (a .input)) (a .position) → Prints s d text

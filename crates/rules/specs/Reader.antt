@@ -5,6 +5,7 @@ use mathlib.Core.Bool.{true, false}
 use mathlib.Core.List.{List, [], _∷_}
 use lib.ListN.{length}
 use lib.Dec.{leb}
+use Rattle.rules.specs.Settings.{Settings, isOffered}
 use Rattle.rules.specs.Bytes.{allowed, span, typeLimit, documentLimit}
 use Rattle.rules.specs.Lent.{Lent, standing, room, filledWith, zeroed}
 use Rattle.rules.specs.Reading.{Reading, refused, got, andThen}
@@ -42,6 +43,8 @@ module _ (s : List ℕ) (es : List Element) (D : Decisions) (d : List ℕ) where
   settlePiece blank at z = goOn (at + 1) (takeBlank s es D at z)
   settlePiece dataByte at z = goOn (at + 1) (takeData s es D at z)
 
+-- The same document under the settings c, which decide how long a name in a tag may be.
+module _ (c : Settings) (s : List ℕ) (es : List Element) (D : Decisions) (d : List ℕ) where
   -- "The document's tokens in turn", from `at` on. Each turn but the last takes a piece, so there are fewer turns than bytes.
   unfoldable pub piecesWithin : ℕ → (at : ℕ) → State → Reading (List Event)
   piecesWithin zero at z = refused 4 (length d)
@@ -49,8 +52,8 @@ module _ (s : List ℕ) (es : List Element) (D : Decisions) (d : List ℕ) where
       elim (leb (length d) at) [
         | true ↦ endDocument s es D (length d) z
         | false ↦
-            andThen (piece d at) λ p.
-            andThen (settlePiece p at z) λ y.
+            andThen (piece c d at) λ p.
+            andThen (settlePiece s es D d p at z) λ y.
             piecesWithin turns (y .at) (y .state)
       ]
 
@@ -68,35 +71,36 @@ eventNumbers (e ∷ ev) = e .kind ∷ e .number ∷ e .offset ∷ e .size ∷ ev
 abbrev pub documentRefusal : (number position : ℕ) → Answer
 documentRefusal n k = record { number = n; input = 2; position = k; first = 0; second = 0; count = 0 }
 
--- Neither input is too long nor has a byte that is not allowed.
-pub record BothLegible (s d : List ℕ) : Type 0 where
-  pub type : Legible s
+-- The settings are among those that a call takes, and neither input is too long nor has a byte that is not allowed.
+pub record BothLegible (c : Settings) (s d : List ℕ) : Type 0 where
+  pub type : Legible c s
   pub short : length d ≤ documentLimit
   pub clean : span allowed d ≡ length d
 
--- The type is accepted with the elements es, and the document, read as the walks of their models decide, gives r.
-pub record Reads (s d : List ℕ) (es : List Element) (r : Reading (List Event)) : Type 0 where
-  pub legible : BothLegible s d
-  pub accepted : Accepts s es
+-- Under the settings c the type is accepted with the elements es, and the document, read as the walks of their models decide, gives r.
+pub record Reads (c : Settings) (s d : List ℕ) (es : List Element) (r : Reading (List Event)) : Type 0 where
+  pub legible : BothLegible c s d
+  pub accepted : Accepts c s es
   pub decisions : Decisions
   pub means : Means s es decisions
-  pub reading : document s es decisions d ≡ r
+  pub reading : document c s es decisions d ≡ r
 
 -- The refusal that the order picks: "1 type, 1 document, 2 type, 2 document; the type file's 3 to 8 ..; 9; then the document's tokens in
--- turn; 19 only where nothing else is wrong, and exactly if the numbers don't fit"; "19 names .. the document in the reader". `room` is
--- how many numbers the lent buffer holds.
-pub data RefusesBoth (s d : List ℕ) (room : ℕ) (a : Answer) : Type 0 where
-  typeTooLong : typeLimit < length s → a ≡ refusal 1 0 0 0 → RefusesBoth s d room a
-  documentTooLong : length s ≤ typeLimit → documentLimit < length d → a ≡ documentRefusal 1 0 → RefusesBoth s d room a
-  typeNotAllowed : length s ≤ typeLimit → length d ≤ documentLimit → span allowed s < length s → a ≡ refusal 2 (span allowed s) 0 0 → RefusesBoth s d room a
-  documentNotAllowed : Legible s → length d ≤ documentLimit → span allowed d < length d → a ≡ documentRefusal 2 (span allowed d) → RefusesBoth s d room a
-  malformed : BothLegible s d → (n k : ℕ) → typeFile s ≡ refused n k → a ≡ refusal n k 0 0 → RefusesBoth s d room a
-  ambiguous : BothLegible s d → (es : List Element) → typeFile s ≡ got es → (k p q : ℕ) → FirstAmbiguous s k p q es → a ≡ refusal 9 k p q → RefusesBoth s d room a
-  unsettled : (es : List Element) (n k : ℕ) → Reads s d es (refused n k) → a ≡ documentRefusal n k → RefusesBoth s d room a
-  noRoom : (es : List Element) (ev : List Event) → Reads s d es (got ev) → room < 4 * length ev → a ≡ documentRefusal 19 0 → RefusesBoth s d room a
+-- turn; 19 only where nothing else is wrong, and exactly if the numbers don't fit"; "19 names .. the document in the reader"; before all
+-- of it 24, "in the type at 0" (paper 02, request six: "before even 23"). `room` is how many numbers the lent buffer holds.
+pub data RefusesBoth (c : Settings) (s d : List ℕ) (room : ℕ) (a : Answer) : Type 0 where
+  notOffered : isOffered c ≡ false → a ≡ refusal 24 0 0 0 → RefusesBoth c s d room a
+  typeTooLong : isOffered c ≡ true → typeLimit < length s → a ≡ refusal 1 0 0 0 → RefusesBoth c s d room a
+  documentTooLong : isOffered c ≡ true → length s ≤ typeLimit → documentLimit < length d → a ≡ documentRefusal 1 0 → RefusesBoth c s d room a
+  typeNotAllowed : isOffered c ≡ true → length s ≤ typeLimit → length d ≤ documentLimit → span allowed s < length s → a ≡ refusal 2 (span allowed s) 0 0 → RefusesBoth c s d room a
+  documentNotAllowed : Legible c s → length d ≤ documentLimit → span allowed d < length d → a ≡ documentRefusal 2 (span allowed d) → RefusesBoth c s d room a
+  malformed : BothLegible c s d → (n k : ℕ) → typeFile c s ≡ refused n k → a ≡ refusal n k 0 0 → RefusesBoth c s d room a
+  ambiguous : BothLegible c s d → (es : List Element) → typeFile c s ≡ got es → (k p q : ℕ) → FirstAmbiguous s k p q es → a ≡ refusal 9 k p q → RefusesBoth c s d room a
+  unsettled : (es : List Element) (n k : ℕ) → Reads c s d es (refused n k) → a ≡ documentRefusal n k → RefusesBoth c s d room a
+  noRoom : (es : List Element) (ev : List Event) → Reads c s d es (got ev) → room < 4 * length ev → a ≡ documentRefusal 19 0 → RefusesBoth c s d room a
 
--- What the reader answers to a type file s and a document d, and what the lent buffer, `before` the call, holds after it.
+-- What the reader answers to a type file s and a document d under the settings c, and what the lent buffer, `before` the call, holds after it.
 -- "What lies behind the last number written stays as it was; on refusal the whole buffer is zero and the count is 0."
-pub data ReadAs (l : Lent) (s d before : List ℕ) (a : Answer) (after : List ℕ) : Type 0 where
-  refuses : RefusesBoth s d (room l before) a → after ≡ zeroed before → ReadAs l s d before a after
-  accepts : (es : List Element) (ev : List Event) → Reads s d es (got ev) → 4 * length ev ≤ room l before → a ≡ acceptance (length ev) → after ≡ filledWith (standing l (eventNumbers ev)) before → ReadAs l s d before a after
+pub data ReadAs (l : Lent) (c : Settings) (s d before : List ℕ) (a : Answer) (after : List ℕ) : Type 0 where
+  refuses : RefusesBoth c s d (room l before) a → after ≡ zeroed before → ReadAs l c s d before a after
+  accepts : (es : List Element) (ev : List Event) → Reads c s d es (got ev) → 4 * length ev ≤ room l before → a ≡ acceptance (length ev) → after ≡ filledWith (standing l (eventNumbers ev)) before → ReadAs l c s d before a after

@@ -1,4 +1,5 @@
 -- The type file: declarations, parameters, comments and model groups (paper 01, "The type file"), with refusals 3 to 8.
+-- Numbers 3 and 5 read "with the given length for 8" (paper 02, request six): c has the settings of the call.
 -- Reading goes from left to right and refuses at the first fault, the lower number first where two stand at one position.
 -- A byte at which no form goes on is the unfit one of number 4; past the end it is 0, so the position is then the length.
 use Prim.Native.Nat.{ℕ, zero, suc, _+_, _-_}
@@ -6,7 +7,8 @@ use mathlib.Core.Bool.{Bool, true, false, _&&_, _||_}
 use mathlib.Core.List.{List, [], _∷_, _++_}
 use lib.ListN.{length, drop}
 use lib.Dec.{eqb, leb, ltb}
-use Rattle.rules.specs.Bytes.{byteAt, letter, nameEnd, separatorsEnd, sameText, NAMELEN, GRPCNT, GRPLVL, GRPGTCNT, elementLimit, EXCLAMATION, RNI, PERO, AND, GRPO, GRPC, REP, PLUS, SEQ, MINUS, STAGO, MDC, OPT, DSO, OR}
+use Rattle.rules.specs.Bytes.{byteAt, letter, nameEnd, separatorsEnd, sameText, GRPCNT, GRPLVL, GRPGTCNT, elementLimit, EXCLAMATION, RNI, PERO, AND, GRPO, GRPC, REP, PLUS, SEQ, MINUS, STAGO, MDC, OPT, DSO, OR}
+use Rattle.rules.specs.Settings.{Settings}
 use Rattle.rules.specs.Reading.{Reading, refused, got, andThen}
 use Rattle.rules.specs.Walk.{Group, place, seq, alt, opt, plus, star}
 
@@ -115,10 +117,10 @@ abbrev pub newPlace : List Place → Group
 newPlace ps = place (suc (length ps))
 
 -- A name as content token. `full` says that the group or the model may have no further token.
-unfoldable pub nameToken : List ℕ → ℕ → Bool → List Place → ℕ → Reading Tokens
-nameToken s at full ps n =
+unfoldable pub nameToken : Settings → List ℕ → ℕ → Bool → List Place → ℕ → Reading Tokens
+nameToken c s at full ps n =
     let e = nameEnd s at in
-    elim (ltb NAMELEN (e - at)) [
+    elim (ltb (c .nameLength) (e - at)) [
       | true ↦ refused 3 at
       | false ↦ elim full [
         | true ↦ refused 6 at
@@ -143,11 +145,11 @@ dataToken s at full ps n =
 
 -- A content token: "a name, a name with an indicator, `#PCDATA`, or a group with or without an indicator".
 -- `inner` reads a group one level further in, at its "(".
-unfoldable pub token : (ℕ → List Place → ℕ → Reading Tokens) → List ℕ → ℕ → Bool → List Place → ℕ → Reading Tokens
-token inner s at full ps n =
+unfoldable pub token : Settings → (ℕ → List Place → ℕ → Reading Tokens) → List ℕ → ℕ → Bool → List Place → ℕ → Reading Tokens
+token c inner s at full ps n =
     let b = byteAt s at in
     elim (letter b) [
-      | true ↦ nameToken s at full ps n
+      | true ↦ nameToken c s at full ps n
       | false ↦ elim (eqb b RNI) [
         | true ↦ dataToken s at full ps n
         | false ↦ elim (eqb b GRPO) [
@@ -166,19 +168,19 @@ pub data Further : Type 0 where
   closed : Tokens → Further
   joined : (connector : ℕ) → Tokens → Further
 
--- What follows when `t` was read of the group: k content tokens joined by the connector c (0: none yet).
+-- What follows when `t` was read of the group: k content tokens joined by the connector (0: none yet).
 -- "&" as connector is number 5.
-unfoldable pub further : (ℕ → List Place → ℕ → Reading Tokens) → List ℕ → (k c : ℕ) → Tokens → Reading Further
-further inner s k c t =
+unfoldable pub further : Settings → (ℕ → List Place → ℕ → Reading Tokens) → List ℕ → (k connector : ℕ) → Tokens → Reading Further
+further c inner s k connector t =
     let i = separatorsEnd s (t .at) in
     let b = byteAt s i in
     elim (eqb b GRPC) [
       | true ↦ got (closed (record { group = t .group; at = i + 1; places = t .places; tokens = t .tokens }))
       | false ↦ elim (eqb b AND || eqb b PERO) [
         | true ↦ refused 5 i
-        | false ↦ elim ((eqb b SEQ || eqb b OR) && (eqb c 0 || eqb c b)) [
+        | false ↦ elim ((eqb b SEQ || eqb b OR) && (eqb connector 0 || eqb connector b)) [
           | true ↦ andThen
-              (token inner s (separatorsEnd s (i + 1)) (leb GRPCNT k || leb GRPGTCNT (t .tokens)) (t .places) (t .tokens))
+              (token c inner s (separatorsEnd s (i + 1)) (leb GRPCNT k || leb GRPGTCNT (t .tokens)) (t .places) (t .tokens))
               (λ u. got (joined b (record { group = join b (t .group) (u .group); at = u .at; places = u .places; tokens = u .tokens })))
           | false ↦ refused 4 i
         ]
@@ -186,17 +188,17 @@ further inner s k c t =
     ]
 
 -- The rest of the group. `left` is how many more content tokens it may have; where it is 0 the token was refused already.
-unfoldable pub members : (ℕ → List Place → ℕ → Reading Tokens) → List ℕ → (left k c : ℕ) → Tokens → Reading Tokens
-members inner s zero k c t = refused 6 (t .at)
-members inner s (suc left) k c t =
-    andThen (further inner s k c t) (elim [ closed u ↦ got u | joined b u ↦ members inner s left (k + 1) b u ])
+unfoldable pub members : Settings → (ℕ → List Place → ℕ → Reading Tokens) → List ℕ → (left k connector : ℕ) → Tokens → Reading Tokens
+members c inner s zero k connector t = refused 6 (t .at)
+members c inner s (suc left) k connector t =
+    andThen (further c inner s k connector t) (elim [ closed u ↦ got u | joined b u ↦ members c inner s left (k + 1) b u ])
 
 -- A group whose "(" stands at `at`, with `levels` group levels left.
-unfoldable pub group : (levels : ℕ) → List ℕ → ℕ → List Place → ℕ → Reading Tokens
-group zero s at ps n = refused 6 at
-group (suc levels) s at ps n =
-    andThen (token (group levels s) s (separatorsEnd s (at + 1)) (leb GRPGTCNT n) ps n)
-    (λ t. members (group levels s) s GRPCNT 1 0 t)
+unfoldable pub group : Settings → (levels : ℕ) → List ℕ → ℕ → List Place → ℕ → Reading Tokens
+group c zero s at ps n = refused 6 at
+group c (suc levels) s at ps n =
+    andThen (token c (group c levels s) s (separatorsEnd s (at + 1)) (leb GRPGTCNT n) ps n)
+    (λ t. members c (group c levels s) s GRPCNT 1 0 t)
 
 -- Element declarations
 
@@ -222,11 +224,11 @@ abbrev pub unfit : {A : Type 0} → List ℕ → ℕ → Reading A
 unfit s i = elim (eqb (byteAt s i) MINUS && leb (length s) (i + 1)) [ true ↦ refused 4 (length s) | false ↦ refused 4 i ]
 
 -- The element's name, and where it ends. "A group as element name" is number 5.
-unfoldable pub elementName : List ℕ → ℕ → List Element → Reading ℕ
-elementName s i es =
+unfoldable pub elementName : Settings → List ℕ → ℕ → List Element → Reading ℕ
+elementName c s i es =
     let e = nameEnd s i in
     elim (letter (byteAt s i)) [
-      | true ↦ elim (ltb NAMELEN (e - i)) [
+      | true ↦ elim (ltb (c .nameLength) (e - i)) [
         | true ↦ refused 3 i
         | false ↦ elim (isDeclared s es i (e - i)) [
           | true ↦ refused 7 i
@@ -242,13 +244,13 @@ pub record Word : Type 0 where
   pub value : ℕ
   pub at : ℕ
 
-unfoldable pub omission : List ℕ → (from : ℕ) → ℕ → Reading Word
-omission s from i =
+unfoldable pub omission : Settings → List ℕ → (from : ℕ) → ℕ → Reading Word
+omission c s from i =
     let e = nameEnd s i in
     elim (eqb (byteAt s i) MINUS && ltb from i) [
       | true ↦ got (record { value = 0; at = i + 1 })
       | false ↦ elim (letter (byteAt s i)) [
-        | true ↦ elim (ltb NAMELEN (e - i)) [
+        | true ↦ elim (ltb (c .nameLength) (e - i)) [
           | true ↦ refused 3 i
           | false ↦ elim (ltb from i && isWord s i e O) [ true ↦ got (record { value = 1; at = e }) | false ↦ refused 4 i ]
         ]
@@ -265,19 +267,19 @@ pub record Head : Type 0 where
   pub at : ℕ
 
 -- The two words after the name from i to e.
-unfoldable pub words : List ℕ → (i e : ℕ) → Reading Head
-words s i e =
+unfoldable pub words : Settings → List ℕ → (i e : ℕ) → Reading Head
+words c s i e =
     andThen (gap s e) λ j.
-    andThen (omission s e j) λ a.
+    andThen (omission c s e j) λ a.
     andThen (gap s (a .at)) λ k.
-    andThen (omission s (a .at) k) λ b.
+    andThen (omission c s (a .at) k) λ b.
     got (record { name = i; size = e - i; start = a .value; end = b .value; at = b .at })
 
-unfoldable pub head : List ℕ → ℕ → List Element → Reading Head
-head s at es =
+unfoldable pub head : Settings → List ℕ → ℕ → List Element → Reading Head
+head c s at es =
     andThen (gap s at) λ i.
-    andThen (elementName s i es) λ e.
-    words s i e
+    andThen (elementName c s i es) λ e.
+    words c s i e
 
 -- What was read of the content and where it ends.
 pub record ContentEnd : Type 0 where
@@ -285,10 +287,10 @@ pub record ContentEnd : Type 0 where
   pub at : ℕ
 
 -- A word as content: EMPTY, or one of those that number 5 names.
-unfoldable pub contentWord : List ℕ → (from : ℕ) → ℕ → Reading ContentEnd
-contentWord s from i =
+unfoldable pub contentWord : Settings → List ℕ → (from : ℕ) → ℕ → Reading ContentEnd
+contentWord c s from i =
     let e = nameEnd s i in
-    elim (ltb NAMELEN (e - i)) [
+    elim (ltb (c .nameLength) (e - i)) [
       | true ↦ refused 3 i
       | false ↦ elim (ltb from i && isWord s i e EMPTY) [
         | true ↦ got (record { content = empty; at = e })
@@ -300,17 +302,17 @@ contentWord s from i =
     ]
 
 -- A model: "a group, which may have an indicator at once after it".
-unfoldable pub contentModel : List ℕ → ℕ → Reading ContentEnd
-contentModel s i =
-    andThen (group GRPLVL s i [] 0) λ t.
+unfoldable pub contentModel : Settings → List ℕ → ℕ → Reading ContentEnd
+contentModel c s i =
+    andThen (group c GRPLVL s i [] 0) λ t.
     let u = occurrence s t in
     got (record { content = model (u .group) (u .places) (u .tokens); at = u .at })
 
-unfoldable pub content : List ℕ → (from : ℕ) → ℕ → Reading ContentEnd
-content s from i =
+unfoldable pub content : Settings → List ℕ → (from : ℕ) → ℕ → Reading ContentEnd
+content c s from i =
     elim (eqb (byteAt s i) GRPO) [
-      | true ↦ contentModel s i
-      | false ↦ elim (letter (byteAt s i)) [ true ↦ contentWord s from i | false ↦ unfit s i ]
+      | true ↦ contentModel c s i
+      | false ↦ elim (letter (byteAt s i)) [ true ↦ contentWord c s from i | false ↦ unfit s i ]
     ]
 
 -- The end of the declaration; "`-(` or `+(` after content" is number 5.
@@ -332,32 +334,32 @@ abbrev pub declare : Head → Content → Element
 declare h c = record { at = h .name; size = h .size; start = h .start; end = h .end; content = c }
 
 -- What follows the head: the content and the end of the declaration.
-unfoldable pub rest : List ℕ → List Element → Head → Reading Declared
-rest s es h =
+unfoldable pub rest : Settings → List ℕ → List Element → Head → Reading Declared
+rest c s es h =
     andThen (gap s (h .at)) λ i.
-    andThen (content s (h .at) i) λ c.
-    andThen (gap s (c .at)) λ j.
+    andThen (content c s (h .at) i) λ x.
+    andThen (gap s (x .at)) λ j.
     andThen (close s j) λ k.
-    got (record { elements = es ++ declare h (c .content) ∷ []; at = k })
+    got (record { elements = es ++ declare h (x .content) ∷ []; at = k })
 
 -- An element declaration whose keyword ends at `at`.
-unfoldable pub element : List ℕ → ℕ → List Element → Reading Declared
-element s at es = andThen (head s at es) (rest s es)
+unfoldable pub element : Settings → List ℕ → ℕ → List Element → Reading Declared
+element c s at es = andThen (head c s at es) (rest c s es)
 
 -- The type file
 
--- `<!` and a letter: "`<!` and a name of 1 to 8 other than ELEMENT" is number 5.
-unfoldable pub keyword : List ℕ → ℕ → List Element → Reading Declared
-keyword s i es =
+-- `<!` and a letter: "`<!` and a name of 1 to 8 other than ELEMENT" is number 5, and that too reads "with the given length for 8".
+unfoldable pub keyword : Settings → List ℕ → ℕ → List Element → Reading Declared
+keyword c s i es =
     let e = nameEnd s (i + 2) in
-    elim (ltb NAMELEN (e - (i + 2))) [
+    elim (ltb (c .nameLength) (e - (i + 2))) [
       | true ↦ refused 3 (i + 2)
-      | false ↦ elim (isWord s (i + 2) e ELEMENT) [ true ↦ element s e es | false ↦ refused 5 i ]
+      | false ↦ elim (isWord s (i + 2) e ELEMENT) [ true ↦ element c s e es | false ↦ refused 5 i ]
     ]
 
 -- `<!` at i: `<!>`, a comment declaration, `<![` (number 5) or a keyword. "No gap stands between `<!` and its keyword."
-unfoldable pub markup : List ℕ → ℕ → List Element → Reading Declared
-markup s i es =
+unfoldable pub markup : Settings → List ℕ → ℕ → List Element → Reading Declared
+markup c s i es =
     let b = byteAt s (i + 2) in
     elim (eqb b MDC) [
       | true ↦ got (record { elements = es; at = i + 3 })
@@ -366,30 +368,30 @@ markup s i es =
           | true ↦ andThen (commentDeclaration s (i + 2)) λ j. got (record { elements = es; at = j })
           | false ↦ refused 4 (i + 3)
         ]
-        | false ↦ elim (eqb b DSO) [ true ↦ refused 5 i | false ↦ elim (letter b) [ true ↦ keyword s i es | false ↦ refused 4 (i + 2) ] ]
+        | false ↦ elim (eqb b DSO) [ true ↦ refused 5 i | false ↦ elim (letter b) [ true ↦ keyword c s i es | false ↦ refused 4 (i + 2) ] ]
       ]
     ]
 
 -- What stands at i, where a declaration may begin and the input does not end.
-unfoldable pub declaration : List ℕ → ℕ → List Element → Reading Declared
-declaration s i es =
+unfoldable pub declaration : Settings → List ℕ → ℕ → List Element → Reading Declared
+declaration c s i es =
     let b = byteAt s i in
-    let c = byteAt s (i + 1) in
+    let second = byteAt s (i + 1) in
     elim (eqb b STAGO) [
-      | true ↦ elim (eqb c EXCLAMATION) [ true ↦ markup s i es | false ↦ elim (eqb c OPT) [ true ↦ refused 5 i | false ↦ refused 4 (i + 1) ] ]
+      | true ↦ elim (eqb second EXCLAMATION) [ true ↦ markup c s i es | false ↦ elim (eqb second OPT) [ true ↦ refused 5 i | false ↦ refused 4 (i + 1) ] ]
       | false ↦ elim (eqb b PERO) [ true ↦ refused 5 i | false ↦ refused 4 i ]
     ]
 
 -- "Separators, comment declarations, `<!>` and element declarations", from `at` on. A type file with no element is number 8 at its length.
 -- Each turn but the last takes a declaration, so there are fewer turns than bytes.
-unfoldable pub declarationsWithin : ℕ → List ℕ → ℕ → List Element → Reading (List Element)
-declarationsWithin zero s at es = refused 4 (length s)
-declarationsWithin (suc turns) s at es =
+unfoldable pub declarationsWithin : Settings → ℕ → List ℕ → ℕ → List Element → Reading (List Element)
+declarationsWithin c zero s at es = refused 4 (length s)
+declarationsWithin c (suc turns) s at es =
     let i = separatorsEnd s at in
     elim (leb (length s) i) [
       | true ↦ elim (eqb (length es) 0) [ true ↦ refused 8 (length s) | false ↦ got es ]
-      | false ↦ andThen (declaration s i es) λ d. declarationsWithin turns s (d .at) (d .elements)
+      | false ↦ andThen (declaration c s i es) λ d. declarationsWithin c turns s (d .at) (d .elements)
     ]
 
-unfoldable pub typeFile : List ℕ → Reading (List Element)
-typeFile s = declarationsWithin (suc (length s)) s 0 []
+unfoldable pub typeFile : Settings → List ℕ → Reading (List Element)
+typeFile c s = declarationsWithin c (suc (length s)) s 0 []

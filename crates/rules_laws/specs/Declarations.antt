@@ -8,7 +8,8 @@ use native.Mathlib.Omega.{arith}
 use lib.ListN.{length, drop}
 use lib.Dec.{eqb, leb, ltb}
 use borrow.Author.Tests.{eqb-false, ltb-true, ltb-false, leb-false}
-use Rattle.rules.specs.Bytes.{byteAt, letter, nameEnd, separatorsEnd, NAMELEN, elementLimit}
+use Rattle.rules.specs.Settings.{Settings}
+use Rattle.rules.specs.Bytes.{byteAt, letter, nameEnd, separatorsEnd, elementLimit}
 use Rattle.rules.specs.Reading.{refused, got}
 use Rattle.rules.specs.TypeFile.{atDashes, beforeDashes, commentDeclaration, gapWithin, gap, isWord, O, ELEMENT, Content, Element, isDeclared, elementName, Word, omission, Head, words, head, content, close, Declared, rest, element, keyword, markup, declaration, declarationsWithin, typeFile, declare}
 use Rattle.text.specs.Laws.{test-in, letter-in, nameEnd-from, nameEnd-le, nameEnd-more, separatorsEnd-from, separatorsEnd-le, dashes-end-in, gap-range}
@@ -22,12 +23,13 @@ Onward s i j = (i ≤ j) × (j ≤ length s)
 
 -- How the declaration of e was read behind the elements es: its keyword ends at `from`, it ends at `after`, and its content was read at
 -- `begun`, where the parameter before had ended at `before`.
-pub record Declares (s : List ℕ) (es : List Element) (e : Element) : Type 0 where
+pub record Declares (c : Settings) (s : List ℕ) (es : List Element) (e : Element) : Type 0 where
   pub from : ℕ
   pub after : ℕ
-  pub read : element s from es ≡ got (record { elements = es ++ e ∷ []; at = after })
+  pub read : element c s from es ≡ got (record { elements = es ++ e ∷ []; at = after })
   pub begins : gap s from ≡ got (e .at)
   pub name : NameIn s (e .at) (e .size)
+  pub short : e .size ≤ c .nameLength
   pub named : letter (byteAt s (e .at)) ≡ true
   pub fresh : isDeclared s es (e .at) (e .size) ≡ false
   pub room : length es < elementLimit
@@ -36,11 +38,12 @@ pub record Declares (s : List ℕ) (es : List Element) (e : Element) : Type 0 wh
   pub before : ℕ
   pub begun : ℕ
   pub ends : ℕ
-  pub contentRead : content s before begun ≡ got (record { content = e .content; at = ends })
+  pub contentRead : content c s before begun ≡ got (record { content = e .content; at = ends })
 
 -- What is known of a name from i to e, of one of the two words, of both, of a head, and of what follows it.
-pub record NameRead (s : List ℕ) (es : List Element) (i e : ℕ) : Type 0 where
+pub record NameRead (c : Settings) (s : List ℕ) (es : List Element) (i e : ℕ) : Type 0 where
   pub name : NameIn s i (e - i)
+  pub short : e - i ≤ c .nameLength
   pub named : letter (byteAt s i) ≡ true
   pub fresh : isDeclared s es i (e - i) ≡ false
   pub room : length es < elementLimit
@@ -59,33 +62,33 @@ pub record WordsRead (s : List ℕ) (i e : ℕ) (h : Head) : Type 0 where
   pub from : e ≤ h .at
   pub inside : h .at ≤ length s
 
-record HeadRead (s : List ℕ) (es : List Element) (at : ℕ) (h : Head) : Type 0 where
+record HeadRead (c : Settings) (s : List ℕ) (es : List Element) (at : ℕ) (h : Head) : Type 0 where
   begins : gap s at ≡ got (h .name)
-  name : NameRead s es (h .name) (h .name + h .size)
+  name : NameRead c s es (h .name) (h .name + h .size)
   start : h .start ≤ 1
   end : h .end ≤ 1
   from : at ≤ h .at
   inside : h .at ≤ length s
 
-record RestRead (s : List ℕ) (es : List Element) (h : Head) (d : Declared) : Type 0 where
+record RestRead (c : Settings) (s : List ℕ) (es : List Element) (h : Head) (d : Declared) : Type 0 where
   before : ℕ
   begun : ℕ
   ends : ℕ
   inner : Content
-  contentRead : content s before begun ≡ got (record { content = inner; at = ends })
+  contentRead : content c s before begun ≡ got (record { content = inner; at = ends })
   elements : d .elements ≡ es ++ declare h inner ∷ []
   from : h .at < d .at
   inside : d .at ≤ length s
 
 -- A declaration adds no element, or one.
-data Grows (s : List ℕ) (es : List Element) : List Element → Type 0 where
-  same : Grows s es es
-  one : (e : Element) → Declares s es e → Grows s es (es ++ e ∷ [])
+data Grows (c : Settings) (s : List ℕ) (es : List Element) : List Element → Type 0 where
+  same : Grows c s es es
+  one : (e : Element) → Declares c s es e → Grows c s es (es ++ e ∷ [])
 
-record DeclaredRead (s : List ℕ) (i : ℕ) (es : List Element) (d : Declared) : Type 0 where
+record DeclaredRead (c : Settings) (s : List ℕ) (i : ℕ) (es : List Element) (d : Declared) : Type 0 where
   from : i < d .at
   inside : d .at ≤ length s
-  grows : Grows s es (d .elements)
+  grows : Grows c s es (d .elements)
 
 module _ (s : List ℕ) where
   -- Comments and gaps
@@ -112,23 +115,33 @@ module _ (s : List ℕ) where
       (λ i r. either (eqb (byteAt s i) 62) (λ x. reads (omega (arith, r, test-in (λ v. eqb v 62) refl s i x)))
       (λ x. either (eqb (byteAt s i) 45) (λ y. stops (omega (arith, test-in (λ v. eqb v 45) refl s i y))) (λ y. stops (omega (arith, r)))))
 
-  -- Element declarations
+  -- The end of a declaration
 
-  pub elementName-read : (i : ℕ) (es : List Element) → i ≤ length s → Holds (InType s) (NameRead s es i) (elementName s i es)
+  pub close-read : (i : ℕ) → Holds (InFrom s i) (Onward s (i + 1)) (close s i)
+  unfolding close
+  close-read i =
+      let b = byteAt s i in
+      either (eqb b 62) (λ x. reads (omega arith, omega (arith, test-in (λ v. eqb v 62) refl s i x)))
+      (λ x. either ((eqb b 45 || eqb b 43) && eqb (byteAt s (i + 1)) 40) (λ y. stops (λ h. omega arith)) (λ y. unfit-holds s i (λ n k r. r)))
+
+-- Element declarations
+
+module _ (c : Settings) (s : List ℕ) where
+  pub elementName-read : (i : ℕ) (es : List Element) → i ≤ length s → Holds (InType s) (NameRead c s es i) (elementName c s i es)
   unfolding elementName
   elementName-read i es h =
       let e = nameEnd s i in
       let l = nameEnd-le s i h in
       let f = nameEnd-from s i in
       either (letter (byteAt s i))
-      (λ x. either (ltb NAMELEN (e - i)) (λ y. stops (omega arith))
+      (λ x. either (ltb (c .nameLength) (e - i)) (λ y. stops (omega arith))
       (λ y. either (isDeclared s es i (e - i)) (λ z. stops (omega arith))
       (λ z. either (leb elementLimit (length es)) (λ u. stops (omega arith))
       (λ u.
-      reads (record { name = record { some = omega (arith, nameEnd-more s i x); short = ltb-false _ _ y; ends = omega arith }; named = x; fresh = z; room = leb-false _ _ u; inside = l })))))
+      reads (record { name = record { some = omega (arith, nameEnd-more s i x); ends = omega arith }; short = ltb-false _ _ y; named = x; fresh = z; room = leb-false _ _ u; inside = l })))))
       (λ x. either (eqb (byteAt s i) 40) (λ y. stops (omega arith)) (λ y. unfit-holds s i (λ n k r. r h)))
 
-  pub omission-read : (from i : ℕ) → Holds (InFrom s i) (WordRead s i) (omission s from i)
+  pub omission-read : (from i : ℕ) → Holds (InFrom s i) (WordRead s i) (omission c s from i)
   unfolding omission
   omission-read from i =
       let e = nameEnd s i in
@@ -138,27 +151,27 @@ module _ (s : List ℕ) where
       (λ x. either (letter b)
       (λ y.
       let l = letter-in s i y in
-      either (ltb NAMELEN (e - i)) (λ z. stops (λ h. omega arith))
+      either (ltb (c .nameLength) (e - i)) (λ z. stops (λ h. omega arith))
       (λ z. either (ltb from i && isWord s i e O) (λ u. reads (record { value = omega arith; from = nameEnd-from s i; inside = nameEnd-le s i (omega arith) })) (λ u. stops (λ h. omega arith))))
       (λ y. stops (λ h. omega arith)))
 
   -- One of the words, at a position in the input.
-  omission-at : (from i : ℕ) → i ≤ length s → Holds (InType s) (WordRead s i) (omission s from i)
+  omission-at : (from i : ℕ) → i ≤ length s → Holds (InType s) (WordRead s i) (omission c s from i)
   omission-at from i h = so (omission-read from i) (λ n k x. x h) (λ w x. x)
 
-  pub words-read : (i e : ℕ) → e ≤ length s → Holds (InType s) (WordsRead s i e) (words s i e)
+  pub words-read : (i e : ℕ) → e ≤ length s → Holds (InType s) (WordsRead s i e) (words c s i e)
   unfolding words
   words-read i e h =
-      on (gap-within e h) λ j p.
+      on (gap-within s e h) λ j p.
       on (omission-at e j (p .1)) λ a q.
-      on (gap-within (a .at) (q .inside)) λ k r.
+      on (gap-within s (a .at) (q .inside)) λ k r.
       on (omission-at (a .at) k (r .1)) λ b t.
       reads (record { name = refl; size = refl; start = q .value; end = t .value; from = omega (arith, p, q .from, r, t .from); inside = t .inside })
 
-  head-read : (at : ℕ) (es : List Element) → at ≤ length s → Holds (InType s) (HeadRead s es at) (head s at es)
+  head-read : (at : ℕ) (es : List Element) → at ≤ length s → Holds (InType s) (HeadRead c s es at) (head c s at es)
   unfolding head
   head-read at es h =
-      on (known (gap-within at h)) λ i p.
+      on (known (gap-within s at h)) λ i p.
       on (elementName-read i es (p .1 .1)) λ e n.
       so (words-read i e (n .inside)) (λ m k x. x) λ x w.
       let size : x .name + x .size ≡ e = omega (arith, w .name, w .size, n .name .some) in
@@ -171,32 +184,25 @@ module _ (s : List ℕ) where
         inside = w .inside;
       }
 
-  pub close-read : (i : ℕ) → Holds (InFrom s i) (Onward s (i + 1)) (close s i)
-  unfolding close
-  close-read i =
-      let b = byteAt s i in
-      either (eqb b 62) (λ x. reads (omega arith, omega (arith, test-in (λ v. eqb v 62) refl s i x)))
-      (λ x. either ((eqb b 45 || eqb b 43) && eqb (byteAt s (i + 1)) 40) (λ y. stops (λ h. omega arith)) (λ y. unfit-holds s i (λ n k r. r)))
-
-  rest-read : (es : List Element) (h : Head) → h .at ≤ length s → Holds (InType s) (RestRead s es h) (rest s es h)
+  rest-read : (es : List Element) (h : Head) → h .at ≤ length s → Holds (InType s) (RestRead c s es h) (rest c s es h)
   unfolding rest
   rest-read es h l =
-      on (gap-within (h .at) l) λ i p.
-      on (so (known (content-read s whatever-builds (h .at) i)) (λ n k x. x (p .1)) (λ c x. x)) λ c q.
-      on (gap-within (c .at) (q .1 .inside)) λ j r.
-      on (so (close-read j) (λ n k x. x (r .1)) (λ k x. x)) λ k t.
-      reads (record { before = h .at; begun = i; ends = c .at; inner = c .content; contentRead = q .0; elements = refl; from = omega (arith, p, q .1 .from, r, t); inside = t .1 })
+      on (gap-within s (h .at) l) λ i p.
+      on (so (known (content-read c s whatever-builds (h .at) i)) (λ n k x. x (p .1)) (λ y x. x)) λ y q.
+      on (gap-within s (y .at) (q .1 .inside)) λ j r.
+      on (so (close-read s j) (λ n k x. x (r .1)) (λ k x. x)) λ k t.
+      reads (record { before = h .at; begun = i; ends = y .at; inner = y .content; contentRead = q .0; elements = refl; from = omega (arith, p, q .1 .from, r, t); inside = t .1 })
 
-  element-parts : (at : ℕ) (es : List Element) → at ≤ length s → Holds (InType s) (λ (d : Declared). (h : Head) × HeadRead s es at h × RestRead s es h d) (element s at es)
+  element-parts : (at : ℕ) (es : List Element) → at ≤ length s → Holds (InType s) (λ (d : Declared). (h : Head) × HeadRead c s es at h × RestRead c s es h d) (element c s at es)
   unfolding element
   element-parts at es l = on (head-read at es l) λ h w. so (rest-read es h (w .inside)) (λ n k x. x) (λ d a. (h, w, a))
 
-  declares : (at : ℕ) (es : List Element) (h : Head) (d : Declared) → element s at es ≡ got d → HeadRead s es at h → RestRead s es h d → Grows s es (d .elements)
+  declares : (at : ℕ) (es : List Element) (h : Head) (d : Declared) → element c s at es ≡ got d → HeadRead c s es at h → RestRead c s es h d → Grows c s es (d .elements)
   declares at es h d r w a =
       let e = declare h (a .inner) in
       let whole : d ≡ record { elements = es ++ e ∷ []; at = d .at } = ap (λ (l : List Element). record { elements = l; at = d .at }) (a .elements) in
       let z : h .name + h .size - h .name ≡ h .size = omega arith in
-      subst (Grows s es) (sym (a .elements))
+      subst (Grows c s es) (sym (a .elements))
       (one e
       (record {
         from = at;
@@ -204,6 +210,7 @@ module _ (s : List ℕ) where
         read = r ∙ ap got whole;
         begins = w .begins;
         name = rw z at (w .name .name);
+        short = rw z at (w .name .short);
         named = w .name .named;
         fresh = rw z at (w .name .fresh);
         room = w .name .room;
@@ -215,7 +222,7 @@ module _ (s : List ℕ) where
         contentRead = a .contentRead;
       }))
 
-  element-read : (i at : ℕ) (es : List Element) → i < at → at ≤ length s → Holds (InType s) (DeclaredRead s i es) (element s at es)
+  element-read : (i at : ℕ) (es : List Element) → i < at → at ≤ length s → Holds (InType s) (DeclaredRead c s i es) (element c s at es)
   element-read i at es h l =
       so (known (element-parts at es l)) (λ n k x. x) λ d x.
       let (r, p) = x in
@@ -224,40 +231,40 @@ module _ (s : List ℕ) where
 
   -- The type file
 
-  keyword-read : (i : ℕ) (es : List Element) → i + 2 ≤ length s → Holds (InType s) (DeclaredRead s i es) (keyword s i es)
+  keyword-read : (i : ℕ) (es : List Element) → i + 2 ≤ length s → Holds (InType s) (DeclaredRead c s i es) (keyword c s i es)
   unfolding keyword
   keyword-read i es h =
       let e = nameEnd s (i + 2) in
-      either (ltb NAMELEN (e - (i + 2))) (λ x. stops (omega arith))
+      either (ltb (c .nameLength) (e - (i + 2))) (λ x. stops (omega arith))
       (λ x. either (isWord s (i + 2) e ELEMENT) (λ y. element-read i e es (omega (arith, nameEnd-from s (i + 2))) (nameEnd-le s (i + 2) h)) (λ y. stops (omega arith)))
 
-  markup-read : (i : ℕ) (es : List Element) → i + 2 ≤ length s → Holds (InType s) (DeclaredRead s i es) (markup s i es)
+  markup-read : (i : ℕ) (es : List Element) → i + 2 ≤ length s → Holds (InType s) (DeclaredRead c s i es) (markup c s i es)
   unfolding markup
   markup-read i es h =
       let b = byteAt s (i + 2) in
       either (eqb b 62) (λ x. reads (record { from = omega arith; inside = omega (arith, test-in (λ v. eqb v 62) refl s (i + 2) x); grows = same }))
       (λ x. either (eqb b 45)
-      (λ y. either (eqb (byteAt s (i + 3)) 45) (λ z. on (comment-within (i + 2) h) (λ j l. reads (record { from = omega (arith, l); inside = l .1; grows = same })))
+      (λ y. either (eqb (byteAt s (i + 3)) 45) (λ z. on (comment-within s (i + 2) h) (λ j l. reads (record { from = omega (arith, l); inside = l .1; grows = same })))
       (λ z. stops (omega (arith, test-in (λ v. eqb v 45) refl s (i + 2) y))))
       (λ y. either (eqb b 91) (λ z. stops (omega arith)) (λ z. either (letter b) (λ u. keyword-read i es h) (λ u. stops (omega arith)))))
 
-  declaration-read : (i : ℕ) (es : List Element) → i < length s → Holds (InType s) (DeclaredRead s i es) (declaration s i es)
+  declaration-read : (i : ℕ) (es : List Element) → i < length s → Holds (InType s) (DeclaredRead c s i es) (declaration c s i es)
   unfolding declaration
   declaration-read i es h =
       let b = byteAt s i in
-      let c = byteAt s (i + 1) in
+      let second = byteAt s (i + 1) in
       either (eqb b 60)
-      (λ x. either (eqb c 33) (λ y. markup-read i es (omega (arith, test-in (λ v. eqb v 33) refl s (i + 1) y)))
-      (λ y. either (eqb c 63) (λ z. stops (omega arith)) (λ z. stops (omega arith))))
+      (λ x. either (eqb second 33) (λ y. markup-read i es (omega (arith, test-in (λ v. eqb v 33) refl s (i + 1) y)))
+      (λ y. either (eqb second 63) (λ z. stops (omega arith)) (λ z. stops (omega arith))))
       (λ x. either (eqb b 37) (λ y. stops (omega arith)) (λ y. stops (omega arith)))
 
   -- What holds where nothing is declared, and with a further element, holds of what is read.
-  module _ (I : List Element → Type 0) (further : (es : List Element) (e : Element) → I es → Declares s es e → I (es ++ e ∷ [])) where
-    grown : {es ds : List Element} → Grows s es ds → I es → I ds
+  module _ (I : List Element → Type 0) (further : (es : List Element) (e : Element) → I es → Declares c s es e → I (es ++ e ∷ [])) where
+    grown : {es ds : List Element} → Grows c s es ds → I es → I ds
     grown same x = x
     grown {es} (one e d) x = further es e x d
 
-    declarations-hold : (turns at : ℕ) (es : List Element) → at ≤ length s → I es → Holds (InType s) (λ (ds : List Element). (1 ≤ length ds) × I ds) (declarationsWithin turns s at es)
+    declarations-hold : (turns at : ℕ) (es : List Element) → at ≤ length s → I es → Holds (InType s) (λ (ds : List Element). (1 ≤ length ds) × I ds) (declarationsWithin c turns s at es)
     unfolding declarationsWithin
     declarations-hold zero at es h x = stops {n = 4} {k = length s} (omega arith)
     declarations-hold (suc turns) at es h x =
@@ -266,12 +273,12 @@ module _ (s : List ℕ) where
         (λ y. either (eqb (length es) 0) (λ z. stops (omega arith)) (λ z. reads (omega (arith, eqb-false (length es) 0 z), x)))
         (λ y. on (declaration-read i es (leb-false _ _ y)) (λ d r. declarations-hold turns (d .at) (d .elements) (r .inside) (grown (r .grows) x)))
 
-    pub typeFile-holds : I [] → Holds (InType s) (λ (es : List Element). (1 ≤ length es) × I es) (typeFile s)
+    pub typeFile-holds : I [] → Holds (InType s) (λ (es : List Element). (1 ≤ length es) × I es) (typeFile c s)
     unfolding typeFile
     typeFile-holds x = declarations-hold (suc (length s)) 0 [] (omega arith) x
 
   -- The bound on the turns is never reached: any two that are enough give the same.
-  pub declarations-enough : (m n at : ℕ) (es : List Element) → at ≤ length s → length s - at < m → length s - at < n → declarationsWithin m s at es ≡ declarationsWithin n s at es
+  pub declarations-enough : (m n at : ℕ) (es : List Element) → at ≤ length s → length s - at < m → length s - at < n → declarationsWithin c m s at es ≡ declarationsWithin c n s at es
   unfolding declarationsWithin
   declarations-enough zero n at es h i j = absurd (omega arith)
   declarations-enough (suc m) zero at es h i j = absurd (omega arith)
@@ -281,8 +288,8 @@ module _ (s : List ℕ) where
       k = separatorsEnd s at
 
       go : (b : Bool) → leb (length s) k ≡ b
-          → ((d : Declared) → DeclaredRead s k es d → length s - d .at < m → length s - d .at < n → declarationsWithin m s (d .at) (d .elements) ≡ declarationsWithin n s (d .at) (d .elements))
-          → declarationsWithin (suc m) s at es ≡ declarationsWithin (suc n) s at es
+          → ((d : Declared) → DeclaredRead c s k es d → length s - d .at < m → length s - d .at < n → declarationsWithin c m s (d .at) (d .elements) ≡ declarationsWithin c n s (d .at) (d .elements))
+          → declarationsWithin c (suc m) s at es ≡ declarationsWithin c (suc n) s at es
       go true e ih = rw (declarationsWithin, e)
       go false e ih =
           rw (declarationsWithin, e)
@@ -291,11 +298,11 @@ module _ (s : List ℕ) where
 
 -- Where a word, the words and the end of a declaration lead.
 
-pub omission-range : (s : List ℕ) (from i : ℕ) (w : Word) → i ≤ length s → omission s from i ≡ got w → (i ≤ w .at) × (w .at ≤ length s)
-omission-range s from i w h e = let r = got-so (omission-read s from i) e in (r .from, r .inside)
+pub omission-range : {c : Settings} (s : List ℕ) (from i : ℕ) (w : Word) → i ≤ length s → omission c s from i ≡ got w → (i ≤ w .at) × (w .at ≤ length s)
+omission-range {c} s from i w h e = let r = got-so (omission-read c s from i) e in (r .from, r .inside)
 
-pub words-range : (s : List ℕ) (i e : ℕ) (h : Head) → e ≤ length s → words s i e ≡ got h → (e ≤ h .at) × (h .at ≤ length s) × (h .name ≡ i) × (h .size ≡ e - i)
-words-range s i e h l q = let r = got-so (words-read s i e l) q in (r .from, r .inside, r .name, r .size)
+pub words-range : {c : Settings} (s : List ℕ) (i e : ℕ) (h : Head) → e ≤ length s → words c s i e ≡ got h → (e ≤ h .at) × (h .at ≤ length s) × (h .name ≡ i) × (h .size ≡ e - i)
+words-range {c} s i e h l q = let r = got-so (words-read c s i e l) q in (r .from, r .inside, r .name, r .size)
 
 pub close-range : (s : List ℕ) (i k : ℕ) → close s i ≡ got k → (i < k) × (k ≤ length s)
 close-range s i k e = omega (arith, got-so (close-read s i) e)

@@ -7,7 +7,8 @@ use native.Mathlib.Omega.{arith}
 use lib.ListN.{length}
 use lib.Dec.{eqb, leb, ltb}
 use borrow.Author.Tests.{ltb-false, leb-false}
-use Rattle.rules.specs.Bytes.{byteAt, letter, nameEnd, separatorsEnd, NAMELEN, GRPCNT, GRPLVL, GRPGTCNT}
+use Rattle.rules.specs.Settings.{Settings}
+use Rattle.rules.specs.Bytes.{byteAt, letter, nameEnd, separatorsEnd, GRPCNT, GRPLVL, GRPGTCNT}
 use Rattle.rules.specs.Reading.{Reading, got, andThen}
 use Rattle.rules.specs.Walk.{Group, seq, alt, opt, plus, star}
 use Rattle.rules.specs.TypeFile.{isWord, isCut, PCDATA, EMPTY, ANY, CDATA, RCDATA, Place, Tokens, occurrence, newPlace, join, nameToken, dataToken, token, Further, closed, joined, further, members, group, Content, empty, model, unfit, ContentEnd, contentWord, contentModel, content}
@@ -61,20 +62,20 @@ module _ {R : (number position : ℕ) → Type 0} (s : List ℕ) where
   pub unfit-holds : {A : Type 0} {P : A → Type 0} (i : ℕ) → ((n k : ℕ) → InFrom s i n k → R n k) → Holds R P (unfit s i)
   unfit-holds i stop = either (eqb (byteAt s i) 45 && leb (length s) (i + 1)) (λ y. stops (stop 4 (length s) (λ h. omega arith))) (λ y. stops (stop 4 i (λ h. omega arith)))
 
-  module _ (inner : ℕ → List Place → ℕ → Reading Tokens) where
+  module _ (c : Settings) (inner : ℕ → List Place → ℕ → Reading Tokens) where
     -- A content token: a name, `#PCDATA`, or a group; none where the group or the model is full.
     pub token-holds : {P : Tokens → Type 0} (at : ℕ) (full : Bool) (ps : List Place) (n : ℕ)
         → ((m k : ℕ) → InFrom s at m k → R m k)
-        → (full ≡ false → letter (byteAt s at) ≡ true → nameEnd s at - at ≤ NAMELEN → P (occurrence s (withPlace (newPlace ps) (nameEnd s at) (namePlace s at) ps n)))
+        → (full ≡ false → letter (byteAt s at) ≡ true → nameEnd s at - at ≤ c .nameLength → P (occurrence s (withPlace (newPlace ps) (nameEnd s at) (namePlace s at) ps n)))
         → (full ≡ false → at < length s → P (withPlace (star (newPlace ps)) (nameEnd s (at + 1)) (dataPlace at) ps n))
         → (full ≡ false → at < length s → Holds R P (andThen (inner at ps (n + 1)) (λ t. got (occurrence s t))))
-        → Holds R P (token inner s at full ps n)
+        → Holds R P (token c inner s at full ps n)
     unfolding token nameToken dataToken
     token-holds at full ps n stop name pcdata nested =
         let b = byteAt s at in
         let e = nameEnd s (at + 1) in
         either (letter b)
-        (λ x. either (ltb NAMELEN (nameEnd s at - at)) (λ y. stops (stop 3 at (λ h. omega arith)))
+        (λ x. either (ltb (c .nameLength) (nameEnd s at - at)) (λ y. stops (stop 3 at (λ h. omega arith)))
         (λ y. either full (λ z. stops (stop 6 at (λ h. omega arith))) (λ z. reads (name z x (ltb-false _ _ y)))))
         (λ x. either (eqb b 35)
         (λ y.
@@ -89,63 +90,64 @@ module _ {R : (number position : ℕ) → Type 0} (s : List ℕ) where
         (λ z. either (eqb b 91 || eqb b 37) (λ u. stops (stop 5 at (λ h. omega arith))) (λ u. stops (stop 4 at (λ h. omega arith))))))
 
     -- What follows: the end of the group, or a connector and a further token.
-    pub further-holds : {P : Further → Type 0} (k c : ℕ) (t : Tokens)
+    pub further-holds : {P : Further → Type 0} (k joint : ℕ) (t : Tokens)
         → ((m k : ℕ) → InFrom s (t .at) m k → R m k)
         → ((i : ℕ) → t .at ≤ i → i < length s → P (closed (grouped (t .group) (i + 1) t)))
         → ((b j : ℕ) → t .at ≤ j → j ≤ length s
-        → Holds R P (andThen (token inner s j (leb GRPCNT k || leb GRPGTCNT (t .tokens)) (t .places) (t .tokens)) (λ u. got (joined b (grouped (join b (t .group) (u .group)) (u .at) u)))))
-        → Holds R P (further inner s k c t)
+        → Holds R P (andThen (token c inner s j (leb GRPCNT k || leb GRPGTCNT (t .tokens)) (t .places) (t .tokens)) (λ u. got (joined b (grouped (join b (t .group) (u .group)) (u .at) u)))))
+        → Holds R P (further c inner s k joint t)
     unfolding further
-    further-holds k c t stop close next =
+    further-holds k joint t stop close next =
         let i = separatorsEnd s (t .at) in
         let from = separatorsEnd-from s (t .at) in
         let b = byteAt s i in
         let inside : t .at ≤ length s → i ≤ length s = separatorsEnd-le s (t .at) in
         either (eqb b 41) (λ x. reads (close i from (test-in (λ v. eqb v 41) refl s i x)))
         (λ x. either (eqb b 38 || eqb b 37) (λ y. stops (stop 5 i (λ h. omega (arith, inside h))))
-        (λ y. either ((eqb b 44 || eqb b 124) && (eqb c 0 || eqb c b))
+        (λ y. either ((eqb b 44 || eqb b 124) && (eqb joint 0 || eqb joint b))
         (λ z.
-        let l = test-in (λ v. (eqb v 44 || eqb v 124) && (eqb c 0 || eqb c v)) refl s i z in
+        let l = test-in (λ v. (eqb v 44 || eqb v 124) && (eqb joint 0 || eqb joint v)) refl s i z in
         next b (separatorsEnd s (i + 1)) (omega (arith, from, separatorsEnd-from s (i + 1))) (separatorsEnd-le s (i + 1) (omega arith)))
         (λ z. stops (stop 4 i (λ h. omega (arith, inside h))))))
 
 -- Room
 
-module _ (inner : ℕ → List Place → ℕ → Reading Tokens) (s : List ℕ) where
+module _ (c : Settings) (inner : ℕ → List Place → ℕ → Reading Tokens) (s : List ℕ) where
   -- A content token that is read had room.
-  pub token-room : (at : ℕ) (full : Bool) (ps : List Place) (n : ℕ) → Gives (λ (t : Tokens). full ≡ false) (token inner s at full ps n)
+  pub token-room : (at : ℕ) (full : Bool) (ps : List Place) (n : ℕ) → Gives (λ (t : Tokens). full ≡ false) (token c inner s at full ps n)
   token-room at full ps n =
-      token-holds s inner at full ps n (λ m k h. tt) (λ x l e. x) (λ x l. x) (λ x l. on (each (inner at ps (n + 1)) (λ m k e. tt) (λ t e. x)) (λ t y. reads y))
+      token-holds s c inner at full ps n (λ m k h. tt) (λ x l e. x) (λ x l. x) (λ x l. on (each (inner at ps (n + 1)) (λ m k e. tt) (λ t e. x)) (λ t y. reads y))
 
   abbrev Roomy : ℕ → Further → Type 0
   Roomy k (closed t) = Unit {0}
   Roomy k (joined b t) = k < GRPCNT
 
-  further-roomy : (k c : ℕ) (t : Tokens) → Gives (Roomy k) (further inner s k c t)
-  further-roomy k c t =
-      further-holds s inner k c t (λ m k h. tt) (λ i l h. tt)
+  further-roomy : (k joint : ℕ) (t : Tokens) → Gives (Roomy k) (further c inner s k joint t)
+  further-roomy k joint t =
+      further-holds s c inner k joint t (λ m k h. tt) (λ i l h. tt)
       (λ b j l h. on (token-room j (leb GRPCNT k || leb GRPGTCNT (t .tokens)) (t .places) (t .tokens)) (λ u x. reads (leb-false GRPCNT k (or-none _ _ x .0))))
 
-  pub further-room : (k c : ℕ) (t : Tokens) (b : ℕ) (u : Tokens) → further inner s k c t ≡ got (joined b u) → k < GRPCNT
-  further-room k c t b u e = got-so (further-roomy k c t) e
+  pub further-room : (k joint : ℕ) (t : Tokens) (b : ℕ) (u : Tokens) → further c inner s k joint t ≡ got (joined b u) → k < GRPCNT
+  further-room k joint t b u e = got-so (further-roomy k joint t) e
 
   -- The bound on the content tokens of a group is never reached: any two that are enough give the same.
-  pub members-enough : (m n k c : ℕ) (t : Tokens) → k ≤ GRPCNT → GRPCNT < m + k → GRPCNT < n + k → members inner s m k c t ≡ members inner s n k c t
+  pub members-enough : (m n k joint : ℕ) (t : Tokens) → k ≤ GRPCNT → GRPCNT < m + k → GRPCNT < n + k → members c inner s m k joint t ≡ members c inner s n k joint t
   unfolding members
-  members-enough zero n k c t h i j = absurd (omega arith)
-  members-enough (suc m) zero k c t h i j = absurd (omega arith)
-  members-enough (suc m) (suc n) k c t h i j = on-same (further-roomy k c t) (by-further (λ b u l. members-enough m n (k + 1) b u (omega arith) (omega arith) (omega arith)))
+  members-enough zero n k joint t h i j = absurd (omega arith)
+  members-enough (suc m) zero k joint t h i j = absurd (omega arith)
+  members-enough (suc m) (suc n) k joint t h i j = on-same (further-roomy k joint t) (by-further (λ b u l. members-enough m n (k + 1) b u (omega arith) (omega arith) (omega arith)))
     where
-      by-further : ((b : ℕ) (u : Tokens) → k < GRPCNT → members inner s m (k + 1) b u ≡ members inner s n (k + 1) b u) → (x : Further) → Roomy k x
-          → _≡_ {A = Reading Tokens} (elim x [ closed u ↦ got u | joined b u ↦ members inner s m (k + 1) b u ]) (elim x [ closed u ↦ got u | joined b u ↦ members inner s n (k + 1) b u ])
+      by-further : ((b : ℕ) (u : Tokens) → k < GRPCNT → members c inner s m (k + 1) b u ≡ members c inner s n (k + 1) b u) → (x : Further) → Roomy k x
+          → _≡_ {A = Reading Tokens} (elim x [ closed u ↦ got u | joined b u ↦ members c inner s m (k + 1) b u ]) (elim x [ closed u ↦ got u | joined b u ↦ members c inner s n (k + 1) b u ])
       by-further ih (closed u) r = refl
       by-further ih (joined b u) r = ih b u r
 
 -- The walk
 
--- What is to hold of a group g that is read behind the places ps, where qs are the places then: of a place, of an indicator, of a connector.
-pub record Builds (T : (ps : List Place) → Group → (qs : List Place) → Type 0) : Type 0 where
-  pub name : (ps : List Place) (x : Place) → 1 ≤ x .size → T ps (newPlace ps) (ps ++ x ∷ [])
+-- What is to hold of a group g that is read behind the places ps, where qs are the places then: of a place, whose name has at most `long`
+-- bytes, of an indicator, of a connector.
+pub record Builds (long : ℕ) (T : (ps : List Place) → Group → (qs : List Place) → Type 0) : Type 0 where
+  pub name : (ps : List Place) (x : Place) → 1 ≤ x .size → x .size ≤ long → T ps (newPlace ps) (ps ++ x ∷ [])
   pub pcdata : (ps : List Place) (x : Place) → x .size ≡ 0 → T ps (star (newPlace ps)) (ps ++ x ∷ [])
   pub optional : {ps qs : List Place} {g : Group} → T ps g qs → T ps (opt g) qs
   pub repeated : {ps qs : List Place} {g : Group} → T ps g qs → T ps (plus g) qs
@@ -164,13 +166,13 @@ abbrev pub Built : (List Place → Group → List Place → Type 0) → Content 
 Built T empty = Unit {0}
 Built T (model g ps n) = T [] g ps
 
-pub record ContentRead (s : List ℕ) (T : List Place → Group → List Place → Type 0) (i : ℕ) (c : ContentEnd) : Type 0 where
-  pub from : i ≤ c .at
-  pub inside : c .at ≤ length s
-  pub content : ContentIn s (c .content)
-  pub built : Built T (c .content)
+pub record ContentRead (s : List ℕ) (T : List Place → Group → List Place → Type 0) (i : ℕ) (x : ContentEnd) : Type 0 where
+  pub from : i ≤ x .at
+  pub inside : x .at ≤ length s
+  pub content : ContentIn s (x .content)
+  pub built : Built T (x .content)
 
-module _ (s : List ℕ) {T : List Place → Group → List Place → Type 0} (build : Builds T) where
+module _ (c : Settings) (s : List ℕ) {T : List Place → Group → List Place → Type 0} (build : Builds (c .nameLength) T) where
   indicated : {g h : Group} {ps qs : List Place} → Indicated g h → T ps g qs → T ps h qs
   indicated optional x = build .optional x
   indicated repeated x = build .repeated x
@@ -192,75 +194,75 @@ module _ (s : List ℕ) {T : List Place → Group → List Place → Type 0} (bu
   FurtherRead at ps (joined b t) = Read s T at ps t
 
   module _ (inner : ℕ → List Place → ℕ → Reading Tokens) (inner-read : InnerRead inner) where
-    token-read : (at : ℕ) (full : Bool) (ps : List Place) (n : ℕ) → at ≤ length s → Fits s ps n → (full ≡ false → n < GRPGTCNT) → Holds (InType s) (Read s T at ps) (token inner s at full ps n)
+    token-read : (at : ℕ) (full : Bool) (ps : List Place) (n : ℕ) → at ≤ length s → Fits s ps n → (full ≡ false → n < GRPGTCNT) → Holds (InType s) (Read s T at ps) (token c inner s at full ps n)
     token-read at full ps n h f room =
-        token-holds s inner at full ps n (λ m k i. i h)
+        token-holds s c inner at full ps n (λ m k i. i h)
         (λ x l e.
         let i = letter-in s at l in
         occurrence-read _
         (record {
           from = nameEnd-from s at;
           inside = nameEnd-le s at h;
-          fits = fits-place f (room x) (record { begins = i; ends = omega (arith, nameEnd-from s at, nameEnd-le s at h); short = e; named = λ _. l });
-          built = build .name ps (namePlace s at) (omega (arith, nameEnd-more s at l));
+          fits = fits-place f (room x) (record { begins = i; ends = omega (arith, nameEnd-from s at, nameEnd-le s at h); named = λ _. l });
+          built = build .name ps (namePlace s at) (omega (arith, nameEnd-more s at l)) e;
         }))
         (λ x l.
         record {
           from = omega (arith, nameEnd-from s (at + 1));
           inside = nameEnd-le s (at + 1) (omega arith);
-          fits = fits-place f (room x) (record { begins = l; ends = omega arith; short = omega arith; named = λ i. absurd (omega arith) });
+          fits = fits-place f (room x) (record { begins = l; ends = omega arith; named = λ i. absurd (omega arith) });
           built = build .pcdata ps (dataPlace at) refl;
         })
         (λ x l. on (inner-read at ps (n + 1) l (fits-group f (room x))) (λ t r. reads (occurrence-read t r)))
 
-    further-read : {at : ℕ} {ps : List Place} (k c : ℕ) (t : Tokens) → Read s T at ps t → Holds (InType s) (FurtherRead at ps) (further inner s k c t)
-    further-read {at} {ps} k c t r =
-        further-holds s inner k c t (λ m k i. i (r .inside))
+    further-read : {at : ℕ} {ps : List Place} (k joint : ℕ) (t : Tokens) → Read s T at ps t → Holds (InType s) (FurtherRead at ps) (further c inner s k joint t)
+    further-read {at} {ps} k joint t r =
+        further-holds s c inner k joint t (λ m k i. i (r .inside))
         (λ i l h. record { from = omega (arith, r .from); inside = omega arith; fits = r .fits; built = r .built })
         (λ b j l h.
         on (token-read j (leb GRPCNT k || leb GRPGTCNT (t .tokens)) (t .places) (t .tokens) h (r .fits) (λ x. leb-false _ _ (or-none (leb GRPCNT k) _ x .1)))
         (λ u v. reads (record { from = omega (arith, r .from, v .from); inside = v .inside; fits = v .fits; built = connected b (r .built) (v .built) })))
 
-    members-read : {at : ℕ} {ps : List Place} (left k c : ℕ) (t : Tokens) → Read s T at ps t → Holds (InType s) (Read s T at ps) (members inner s left k c t)
+    members-read : {at : ℕ} {ps : List Place} (left k joint : ℕ) (t : Tokens) → Read s T at ps t → Holds (InType s) (Read s T at ps) (members c inner s left k joint t)
     unfolding members
-    members-read zero k c t r = stops {n = 6} {k = t .at} (omega (arith, r .inside))
-    members-read {at} {ps} (suc left) k c t r = on (further-read k c t r) (by-further (λ b u v. members-read left (k + 1) b u v))
+    members-read zero k joint t r = stops {n = 6} {k = t .at} (omega (arith, r .inside))
+    members-read {at} {ps} (suc left) k joint t r = on (further-read k joint t r) (by-further (λ b u v. members-read left (k + 1) b u v))
       where
-        by-further : ((b : ℕ) (u : Tokens) → Read s T at ps u → Holds (InType s) (Read s T at ps) (members inner s left (k + 1) b u))
-            → (x : Further) → FurtherRead at ps x → Holds (InType s) (Read s T at ps) (elim x [ closed u ↦ got u | joined b u ↦ members inner s left (k + 1) b u ])
+        by-further : ((b : ℕ) (u : Tokens) → Read s T at ps u → Holds (InType s) (Read s T at ps) (members c inner s left (k + 1) b u))
+            → (x : Further) → FurtherRead at ps x → Holds (InType s) (Read s T at ps) (elim x [ closed u ↦ got u | joined b u ↦ members c inner s left (k + 1) b u ])
         by-further ih (closed u) v = reads v
         by-further ih (joined b u) v = ih b u v
 
   earlier : {at i : ℕ} {ps : List Place} {t : Tokens} → at ≤ i → Read s T i ps t → Read s T at ps t
   earlier h r = record { from = omega (arith, r .from); inside = r .inside; fits = r .fits; built = r .built }
 
-  pub group-read : (levels : ℕ) → InnerRead (group levels s)
+  pub group-read : (levels : ℕ) → InnerRead (group c levels s)
   unfolding group
   group-read zero at ps n h f = stops {n = 6} {k = at} (omega arith)
   group-read (suc levels) at ps n h f =
       let i = separatorsEnd s (at + 1) in
-      on (token-read (group levels s) (group-read levels) i (leb GRPGTCNT n) ps n (separatorsEnd-le s (at + 1) (omega arith)) f (leb-false _ _))
-      (λ t r. members-read (group levels s) (group-read levels) GRPCNT 1 0 t (earlier (omega (arith, separatorsEnd-from s (at + 1))) r))
+      on (token-read (group c levels s) (group-read levels) i (leb GRPGTCNT n) ps n (separatorsEnd-le s (at + 1) (omega arith)) f (leb-false _ _))
+      (λ t r. members-read (group c levels s) (group-read levels) GRPCNT 1 0 t (earlier (omega (arith, separatorsEnd-from s (at + 1))) r))
 
-  contentModel-read : (i : ℕ) → i < length s → Holds (InFrom s i) (ContentRead s T i) (contentModel s i)
+  contentModel-read : (i : ℕ) → i < length s → Holds (InFrom s i) (ContentRead s T i) (contentModel c s i)
   unfolding contentModel
   contentModel-read i h =
       on (so (group-read GRPLVL i [] 0 h (fits-none s)) (λ n k x l. x) (λ t r. r)) λ t r.
       let v = occurrence-read t r in
       reads (record { from = v .from; inside = v .inside; content = v .fits; built = v .built })
 
-  contentWord-read : (from i : ℕ) → letter (byteAt s i) ≡ true → Holds (InFrom s i) (ContentRead s T i) (contentWord s from i)
+  contentWord-read : (from i : ℕ) → letter (byteAt s i) ≡ true → Holds (InFrom s i) (ContentRead s T i) (contentWord c s from i)
   unfolding contentWord
   contentWord-read from i l =
       let e = nameEnd s i in
       let h = letter-in s i l in
-      either (ltb NAMELEN (e - i)) (λ x. stops (λ y. omega arith))
+      either (ltb (c .nameLength) (e - i)) (λ x. stops (λ y. omega arith))
       (λ x. either (ltb from i && isWord s i e EMPTY) (λ y. reads (record { from = nameEnd-from s i; inside = nameEnd-le s i (omega arith); content = tt; built = tt }))
       (λ y. either (isWord s i e ANY || isWord s i e CDATA || isWord s i e RCDATA) (λ z. stops (λ u. omega arith))
       (λ z. either (ltb from i && isCut s i e EMPTY) (λ u. stops (λ v. omega arith)) (λ u. stops (λ v. omega arith)))))
 
   -- The content of a declaration. Only a refusal asks that it begins in the input.
-  pub content-read : (from i : ℕ) → Holds (InFrom s i) (ContentRead s T i) (content s from i)
+  pub content-read : (from i : ℕ) → Holds (InFrom s i) (ContentRead s T i) (content c s from i)
   unfolding content
   content-read from i =
       let b = byteAt s i in
@@ -271,9 +273,9 @@ module _ (s : List ℕ) {T : List Place → Group → List Place → Type 0} (bu
 abbrev pub Whatever : List Place → Group → List Place → Type 0
 Whatever ps g qs = Unit {0}
 
-pub whatever-builds : Builds Whatever
-whatever-builds = record { name = λ ps x l. tt; pcdata = λ ps x e. tt; optional = λ x. tt; repeated = λ x. tt; sequence = λ x y. tt; choice = λ x y. tt }
+pub whatever-builds : {long : ℕ} → Builds long Whatever
+whatever-builds = record { name = λ ps x l m. tt; pcdata = λ ps x e. tt; optional = λ x. tt; repeated = λ x. tt; sequence = λ x y. tt; choice = λ x y. tt }
 
 -- A content ends behind where it begins.
-pub content-from : (s : List ℕ) (from i : ℕ) (c : ContentEnd) → content s from i ≡ got c → i ≤ c .at
-content-from s from i c e = got-so (content-read s whatever-builds from i) e .from
+pub content-from : {c : Settings} (s : List ℕ) (from i : ℕ) (x : ContentEnd) → content c s from i ≡ got x → i ≤ x .at
+content-from {c} s from i x e = got-so (content-read c s whatever-builds from i) e .from

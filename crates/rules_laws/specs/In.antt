@@ -5,7 +5,7 @@ use mathlib.Core.Bool.{true}
 use mathlib.Core.List.{List, [], _∷_, _++_, List·Memᴰ, List·Memᴰ·head, List·Memᴰ·tail}
 use native.Mathlib.Omega.{arith}
 use lib.ListN.{length, length-append}
-use Rattle.rules.specs.Bytes.{byteAt, letter, NAMELEN, GRPGTCNT, elementLimit}
+use Rattle.rules.specs.Bytes.{byteAt, letter, GRPGTCNT, elementLimit}
 use Rattle.rules.specs.TypeFile.{Place, Content, empty, model, Element}
 use Rattle.rules.specs.Judge.{placeAt}
 
@@ -29,7 +29,6 @@ all-mem (more p a) (List·Memᴰ·tail m) = all-mem a m
 pub record PlaceIn (s : List ℕ) (x : Place) : Type 0 where
   pub begins : x .at < length s
   pub ends : x .at + x .size ≤ length s
-  pub short : x .size ≤ NAMELEN
   pub named : 1 ≤ x .size → letter (byteAt s (x .at)) ≡ true
 
 -- Past the last place it is 0.
@@ -59,10 +58,9 @@ abbrev pub ContentIn : List ℕ → Content → Type 0
 ContentIn s empty = Unit {0}
 ContentIn s (model g ps n) = Fits s ps n
 
--- A name of 1 to NAMELEN bytes at i.
+-- A name at i. How long it may be is the settings' (`typeFile-short`).
 pub record NameIn (s : List ℕ) (i size : ℕ) : Type 0 where
   pub some : 1 ≤ size
-  pub short : size ≤ NAMELEN
   pub ends : i + size ≤ length s
 
 pub record ElementIn (s : List ℕ) (e : Element) : Type 0 where

@@ -8,12 +8,13 @@ use native.Mathlib.Omega.{arith}
 use lib.ListN.{length}
 use lib.Dec.{eqb, ltb}
 use borrow.Author.Tests.{ltb-false}
-use Rattle.rules.specs.Bytes.{byteAt, letter, nameEnd, separatorsEnd, NAMELEN}
+use Rattle.rules.specs.Settings.{Settings}
+use Rattle.rules.specs.Bytes.{byteAt, letter, nameEnd, separatorsEnd}
 use Rattle.rules.specs.Reading.{Reading, refused}
 use Rattle.rules.specs.TypeFile.{atDashes, commentDeclaration}
 use Rattle.rules.specs.Document.{Tag, Piece, startTag, endTag, skipped, blank, dataByte, tag, malformed, declarationPiece, markupPiece, isReference, isSectionEnd, bytePiece, piece}
 use Rattle.text.specs.Laws.{test-in, letter-in, nameEnd-from, nameEnd-le, nameEnd-more, separatorsEnd-from, separatorsEnd-le, second, dashes-in}
-use Rattle.rules_laws.specs.Holds.{Holds, stops, reads, on, either}
+use Rattle.rules_laws.specs.Holds.{Holds, stops, reads, Gives, each, on, either}
 use Rattle.rules_laws.specs.Groups.{InType}
 use Rattle.rules_laws.specs.Declarations.{Onward, comment-within}
 
@@ -21,11 +22,10 @@ use Rattle.rules_laws.specs.Declarations.{Onward, comment-within}
 abbrev pub InPiece : List ℕ → (number position : ℕ) → Type 0
 InPiece d n k = (((3 ≤ n) × (n ≤ 5)) ⊎ (n ≡ 17)) × (k ≤ length d)
 
--- A tag behind i: its name begins behind i, with a letter, is at most 8 long, and ends before the tag does.
+-- A tag behind i: its name begins behind i, with a letter, and ends before the tag does. How long it may be: `tag-short`.
 pub record TagRead (d : List ℕ) (i : ℕ) (t : Tag) : Type 0 where
   pub behind : i < t .name
   pub some : 1 ≤ t .size
-  pub short : t .size ≤ NAMELEN
   pub named : letter (byteAt d (t .name)) ≡ true
   pub ends : t .name + t .size < t .after
   pub inside : t .after ≤ length d
@@ -37,7 +37,7 @@ PieceRead d i (skipped e) = Onward d (i + 1) e
 PieceRead d i blank = Unit {0}
 PieceRead d i dataByte = Unit {0}
 
-module _ (d : List ℕ) where
+module _ {c : Settings} (d : List ℕ) where
   -- A comment declaration is refused by 4 alone.
   malformed-in : {P : ℕ → Type 0} {r : Reading ℕ} → Holds (InType d) P r → Holds (InPiece d) P (malformed r)
   malformed-in (stops {n} {k} h) = stops {n = 4} {k = k} (inl (omega arith), omega (arith, h))
@@ -47,9 +47,9 @@ module _ (d : List ℕ) where
   comment-read at h = malformed-in (comment-within d at h)
 
   early : {A : Type 0} {P : A → Type 0} {n k : ℕ} → (3 ≤ n) × (n ≤ 5) × (k ≤ length d) → Holds (InPiece d) P (refused n k)
-  early (a, b, c) = stops (inl (a, b), c)
+  early (a, b, h) = stops (inl (a, b), h)
 
-  tag-read : (i at : ℕ) → i < at → letter (byteAt d at) ≡ true → Holds (InPiece d) (TagRead d i) (tag d at)
+  tag-read : (i at : ℕ) → i < at → letter (byteAt d at) ≡ true → Holds (InPiece d) (TagRead d i) (tag c d at)
   unfolding tag
   tag-read i at h l =
       let e = nameEnd d at in
@@ -58,10 +58,10 @@ module _ (d : List ℕ) where
       let first = nameEnd-from d at in
       let after = separatorsEnd-from d e in
       let end = separatorsEnd-le d e (nameEnd-le d at (omega arith)) in
-      either (ltb NAMELEN (e - at)) (λ x. early (omega arith))
+      either (ltb (c .nameLength) (e - at)) (λ x. early (omega arith))
       (λ x. either (eqb (byteAt d j) 62)
       (λ y.
-      reads (record { behind = h; some = omega (arith, nameEnd-more d at l); short = ltb-false _ _ x; named = l; ends = omega arith; inside = omega (arith, test-in (λ v. eqb v 62) refl d j y) }))
+      reads (record { behind = h; some = omega (arith, nameEnd-more d at l); named = l; ends = omega arith; inside = omega (arith, test-in (λ v. eqb v 62) refl d j y) }))
       (λ y. early (omega arith)))
 
   declaration-read : (i : ℕ) → i < length d → Holds (InPiece d) (PieceRead d i) (declarationPiece d i)
@@ -73,7 +73,7 @@ module _ (d : List ℕ) where
       (λ y. on (comment-read (i + 2) (omega (arith, dashes-in d (i + 2) y))) (λ e r. reads (omega (arith, r), r .1)))
       (λ y. either (letter b || eqb b 91) (λ z. early (omega arith)) (λ z. reads tt)))
 
-  markup-read : (i : ℕ) → i < length d → Holds (InPiece d) (PieceRead d i) (markupPiece d i)
+  markup-read : (i : ℕ) → i < length d → Holds (InPiece d) (PieceRead d i) (markupPiece c d i)
   unfolding markupPiece
   markup-read i h =
       let b = byteAt d (i + 1) in
@@ -87,9 +87,53 @@ module _ (d : List ℕ) where
       let b = byteAt d i in
       either (eqb b 10) (λ x. reads (omega arith, omega arith)) (λ x. either (eqb b 9 || (eqb b 13 || eqb b 32)) (λ y. reads tt) (λ y. reads tt))
 
-  pub piece-read : (i : ℕ) → i < length d → Holds (InPiece d) (PieceRead d i) (piece d i)
+  pub piece-read : (i : ℕ) → i < length d → Holds (InPiece d) (PieceRead d i) (piece c d i)
   unfolding piece
   piece-read i h =
       either (eqb (byteAt d i) 60) (λ x. markup-read i h)
       (λ x. either (eqb (byteAt d i) 38 && isReference d i) (λ y. early (omega arith))
       (λ y. either (isSectionEnd d i) (λ z. stops (inr refl, omega arith)) (λ z. byte-read i h)))
+
+  -- A tag that is read has a name that is no longer than the settings say.
+  tag-short : (at : ℕ) → Gives (λ (t : Tag). t .size ≤ c .nameLength) (tag c d at)
+  unfolding tag
+  tag-short at =
+      let e = nameEnd d at in
+      let j = separatorsEnd d e in
+      either (ltb (c .nameLength) (e - at)) (λ x. stops tt) (λ x. either (eqb (byteAt d j) 62) (λ y. reads (ltb-false _ _ x)) (λ y. stops tt))
+
+  abbrev pub ShortPiece : Piece → Type 0
+  ShortPiece (startTag t) = t .size ≤ c .nameLength
+  ShortPiece (endTag t) = t .size ≤ c .nameLength
+  ShortPiece (skipped e) = Unit {0}
+  ShortPiece blank = Unit {0}
+  ShortPiece dataByte = Unit {0}
+
+  declaration-short : (i : ℕ) → Gives ShortPiece (declarationPiece d i)
+  unfolding declarationPiece
+  declaration-short i =
+      let b = byteAt d (i + 2) in
+      either (eqb b 62) (λ x. reads tt)
+      (λ x. either (atDashes d (i + 2)) (λ y. on (each (malformed (commentDeclaration d (i + 2))) (λ n k e. tt) (λ a e. tt)) (λ e r. reads tt))
+      (λ y. either (letter b || eqb b 91) (λ z. stops tt) (λ z. reads tt)))
+
+  markup-short : (i : ℕ) → Gives ShortPiece (markupPiece c d i)
+  unfolding markupPiece
+  markup-short i =
+      let b = byteAt d (i + 1) in
+      either (letter b) (λ x. on (tag-short (i + 1)) (λ t r. reads r))
+      (λ x. either (eqb b 47 && letter (byteAt d (i + 2))) (λ y. on (tag-short (i + 2)) (λ t r. reads r))
+      (λ y. either (eqb b 33) (λ z. declaration-short i) (λ z. either (eqb b 63) (λ u. stops tt) (λ u. reads tt))))
+
+  byte-short : (i : ℕ) → Gives ShortPiece (bytePiece d i)
+  unfolding bytePiece
+  byte-short i =
+      let b = byteAt d i in
+      either (eqb b 10) (λ x. reads tt) (λ x. either (eqb b 9 || (eqb b 13 || eqb b 32)) (λ y. reads tt) (λ y. reads tt))
+
+  pub piece-short : (i : ℕ) → Gives ShortPiece (piece c d i)
+  unfolding piece
+  piece-short i =
+      either (eqb (byteAt d i) 60) (λ x. markup-short i)
+      (λ x. either (eqb (byteAt d i) 38 && isReference d i) (λ y. stops tt)
+      (λ y. either (isSectionEnd d i) (λ z. stops tt) (λ z. byte-short i)))

@@ -6,8 +6,9 @@ use mathlib.Core.List.{List}
 use native.Mathlib.Omega.{arith}
 use native.Mathlib.Nat.{add-zero, not-suc-le-zero}
 use lib.ListN.{length}
-use Rattle.rules.specs.Reading.{Reading, refused, got}
-use Rattle.rules.specs.Document.{Piece, startTag, endTag, skipped, blank, dataByte, piece}
+use Rattle.rules.specs.Settings.{Settings, settings}
+use Rattle.rules.specs.Reading.{Reading, refused, got, andThen}
+use Rattle.rules.specs.Document.{Tag, Piece, startTag, endTag, skipped, blank, dataByte, piece}
 
 -- Whether a piece goes on a run of data.
 abbrev pub isRun : Reading Piece → Bool
@@ -18,21 +19,25 @@ isRun (got (skipped i)) = false
 isRun (got blank) = true
 isRun (got dataByte) = true
 
+-- What stands at i, under some settings: whether it goes on a run is the same under all of them (`run-any`).
+abbrev pub anyPiece : List ℕ → ℕ → Reading Piece
+anyPiece d i = piece (settings 8) d i
+
 -- How many of the n positions from i on stand in one run of data.
 unfoldable pub runs : ℕ → List ℕ → ℕ → ℕ
 runs zero d i = 0
-runs (suc n) d i = elim (isRun (piece d i)) [ true ↦ suc (runs n d (i + 1)) | false ↦ 0 ]
+runs (suc n) d i = elim (isRun (anyPiece d i)) [ true ↦ suc (runs n d (i + 1)) | false ↦ 0 ]
 
 -- Where the run of data from `at` on ends.
 abbrev pub runEnd : List ℕ → ℕ → ℕ
 runEnd d at = at + runs (length d - at) d at
 
 -- A run goes on, or ends.
-pub runs-more : (n : ℕ) (s : List ℕ) (i : ℕ) → isRun (piece s i) ≡ true → runs (suc n) s i ≡ suc (runs n s (i + 1))
+pub runs-more : (n : ℕ) (s : List ℕ) (i : ℕ) → isRun (anyPiece s i) ≡ true → runs (suc n) s i ≡ suc (runs n s (i + 1))
 unfolding runs
 runs-more n s i e = rw (runs, e)
 
-pub runs-none : (n : ℕ) (s : List ℕ) (i : ℕ) → isRun (piece s i) ≡ false → runs n s i ≡ 0
+pub runs-none : (n : ℕ) (s : List ℕ) (i : ℕ) → isRun (anyPiece s i) ≡ false → runs n s i ≡ 0
 unfolding runs
 runs-none zero s i e = refl
 runs-none (suc n) s i e = rw (runs, e)
@@ -41,23 +46,36 @@ runs-none (suc n) s i e = rw (runs, e)
 pub runs-le : (n : ℕ) (s : List ℕ) (i : ℕ) → runs n s i ≤ n
 unfolding runs
 runs-le zero s i = omega arith
-runs-le (suc n) s i = by-test (isRun (piece s i)) refl (runs-le n s (i + 1))
+runs-le (suc n) s i = by-test (isRun (anyPiece s i)) refl (runs-le n s (i + 1))
   where
-    by-test : (b : Bool) → isRun (piece s i) ≡ b → runs n s (i + 1) ≤ n → runs (suc n) s i ≤ suc n
+    by-test : (b : Bool) → isRun (anyPiece s i) ≡ b → runs n s (i + 1) ≤ n → runs (suc n) s i ≤ suc n
     by-test true e h = omega (arith, runs-more n s i e)
     by-test false e h = omega (arith, runs-none (suc n) s i e)
 
 pub runEnd-in : (s : List ℕ) (at : ℕ) → at ≤ length s → (at ≤ runEnd s at) × (runEnd s at ≤ length s)
 runEnd-in s at h = (omega arith, omega (arith, runs-le (length s - at) s at))
 
-pub runs-each : (n : ℕ) (s : List ℕ) (i k : ℕ) → k < runs n s i → isRun (piece s (i + k)) ≡ true
+pub runs-each : (n : ℕ) (s : List ℕ) (i k : ℕ) → k < runs n s i → isRun (anyPiece s (i + k)) ≡ true
 unfolding runs
 runs-each zero s i k h = absurd (not-suc-le-zero h)
-runs-each (suc n) s i k h = by-test (isRun (piece s i)) refl k h (runs-each n s (i + 1))
+runs-each (suc n) s i k h = by-test (isRun (anyPiece s i)) refl k h (runs-each n s (i + 1))
   where
-    by-test : (b : Bool) → isRun (piece s i) ≡ b → (k : ℕ) → k < runs (suc n) s i → ((j : ℕ) → j < runs n s (i + 1) → isRun (piece s (i + 1 + j)) ≡ true) → isRun (piece s (i + k)) ≡ true
+    by-test : (b : Bool) → isRun (anyPiece s i) ≡ b → (k : ℕ) → k < runs (suc n) s i → ((j : ℕ) → j < runs n s (i + 1) → isRun (anyPiece s (i + 1 + j)) ≡ true) → isRun (anyPiece s (i + k)) ≡ true
     by-test true e zero h ih = rw (add-zero i) e
     by-test true e (suc k) h ih =
         let l : i + suc k ≡ i + 1 + k = omega arith in
         rw l (ih k (omega (arith, runs-more n s i e)))
     by-test false e k h ih = absurd (not-suc-le-zero (rw (runs-none (suc n) s i e) at h))
+
+-- The settings decide how long a name in a tag may be, and no tag goes on a run.
+tag-stops : (r : Reading Tag) → isRun (andThen r (λ t. got (startTag t))) ≡ false
+tag-stops (refused n k) = refl
+tag-stops (got t) = refl
+
+end-stops : (r : Reading Tag) → isRun (andThen r (λ t. got (endTag t))) ≡ false
+end-stops (refused n k) = refl
+end-stops (got t) = refl
+
+-- TO BE PROVED: by `whichever` on the tests of `piece` and `markupPiece`, the two branches with a tag by `tag-stops` and `end-stops`, the others by refl.
+-- pub run-any : (c : Settings) (d : List ℕ) (i : ℕ) → isRun (piece c d i) ≡ isRun (anyPiece d i)
+-- pub run-same : (c : Settings) (d : List ℕ) (i : ℕ) → isRun (anyPiece d i) ≡ true → piece c d i ≡ anyPiece d i

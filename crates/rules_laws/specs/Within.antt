@@ -4,6 +4,7 @@ use mathlib.Core.Path.{_≡_}
 use mathlib.Core.List.{List, [], _∷_, _++_}
 use native.Mathlib.Omega.{arith}
 use lib.ListN.{length, length-append}
+use Rattle.rules.specs.Settings.{Settings}
 use Rattle.rules.specs.Bytes.{elementLimit}
 use Rattle.rules.specs.Reading.{refused, got}
 use Rattle.rules.specs.TypeFile.{Element, typeFile}
@@ -13,24 +14,31 @@ use Rattle.rules_laws.specs.Declarations.{Declares, typeFile-holds}
 use Rattle.rules_laws.specs.In.{all-snoc}
 pub use Rattle.rules_laws.specs.In.{All, none, more, all-mem, PlaceIn, placeAt-in, Fits, ContentIn, NameIn, ElementIn, ElementsIn}
 
-module _ (s : List ℕ) where
+module _ {c : Settings} (s : List ℕ) where
   -- An element that was declared.
-  pub declared-in : {es : List Element} {e : Element} → Declares s es e → ElementIn s e
-  declared-in d = record { name = d .name; start = d .start; end = d .end; content = got-so (content-read s whatever-builds (d .before) (d .begun)) (d .contentRead) .content }
+  pub declared-in : {es : List Element} {e : Element} → Declares c s es e → ElementIn s e
+  declared-in d = record { name = d .name; start = d .start; end = d .end; content = got-so (content-read c s whatever-builds (d .before) (d .begun)) (d .contentRead) .content }
 
-  elements-more : (es : List Element) (e : Element) → ElementsIn s es → Declares s es e → ElementsIn s (es ++ e ∷ [])
+  elements-more : (es : List Element) (e : Element) → ElementsIn s es → Declares c s es e → ElementsIn s (es ++ e ∷ [])
   elements-more es e x d = record { few = omega (arith, length-append es (e ∷ []), d .room); each = all-snoc (x .each) (declared-in d) }
 
-  typeFile-reads : Holds (InType s) (λ (es : List Element). (1 ≤ length es) × ElementsIn s es) (typeFile s)
-  typeFile-reads = typeFile-holds s (ElementsIn s) elements-more (record { few = omega arith; each = none })
+  typeFile-reads : Holds (InType s) (λ (es : List Element). (1 ≤ length es) × ElementsIn s es) (typeFile c s)
+  typeFile-reads = typeFile-holds c s (ElementsIn s) elements-more (record { few = omega arith; each = none })
 
   -- A refusal of the type file is one of 3 to 8 and stands in it.
-  pub typeFile-within : (n k : ℕ) → typeFile s ≡ refused n k → (3 ≤ n) × (n ≤ 8) × (k ≤ length s)
+  pub typeFile-within : (n k : ℕ) → typeFile c s ≡ refused n k → (3 ≤ n) × (n ≤ 8) × (k ≤ length s)
   typeFile-within n k e = refused-so typeFile-reads e
 
   -- What is read of it: 1 to 64 elements, each as `ElementIn` says.
-  pub typeFile-elements : (es : List Element) → typeFile s ≡ got es → (1 ≤ length es) × ElementsIn s es
+  pub typeFile-elements : (es : List Element) → typeFile c s ≡ got es → (1 ≤ length es) × ElementsIn s es
   typeFile-elements es e = got-so typeFile-reads e
 
-  pub typeFile-count : (es : List Element) → typeFile s ≡ got es → (1 ≤ length es) × (length es ≤ elementLimit)
+  pub typeFile-count : (es : List Element) → typeFile c s ≡ got es → (1 ≤ length es) × (length es ≤ elementLimit)
   typeFile-count es e = omega (arith, typeFile-elements es e)
+
+  -- No name of an element is longer than the settings say.
+  short-more : (es : List Element) (e : Element) → All (λ (x : Element). x .size ≤ c .nameLength) es → Declares c s es e → All (λ (x : Element). x .size ≤ c .nameLength) (es ++ e ∷ [])
+  short-more es e a d = all-snoc a (d .short)
+
+  pub typeFile-short : (es : List Element) → typeFile c s ≡ got es → All (λ (x : Element). x .size ≤ c .nameLength) es
+  typeFile-short es e = got-so (typeFile-holds c s (All (λ (x : Element). x .size ≤ c .nameLength)) short-more none) e .1

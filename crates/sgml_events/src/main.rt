@@ -2,13 +2,23 @@
 // events or the one refusal.
 use document_reader::Answer;
 use file_reader::Loaded;
+use inputs::Settings;
 use layout::RECORDS;
 use libc::STDOUT_FILENO;
 ghost use Prim.Native.Nat.{_≤_};
 ghost use lib.ListN.{length, take};
 ghost use Rattle.io.specs.Counts.{Counts};
+ghost use Rattle.rules.specs.Settings.{settings};
 ghost use Rattle.rules.specs.Printed.{Prints};
+ghost use Rattle.inputs.specs.Means.{settingsOf};
 ghost use Rattle.sgml_events.specs.Means.{Accepted, EventsPut, Whole};
+
+// The settings of the program: names of at most 8 bytes.
+fn house() -> Settings
+    ensures { λ r. ⌜ settingsOf r ≡ settings 8 ⌝ }
+{
+    Settings { name_length: 8 }
+}
 
 // The text of n events of a document whose type is accepted; the judge gives where its elements' names stand. What out holds behind the text
 // is decided neither here nor below.
@@ -17,7 +27,7 @@ fn put_events(out: &mut [u8], s: &[u8], numbers: &[u32; 16384], n: usize) -> usi
     ensures { λ r. ⌜ Counts r (now (out .exit)) × EventsPut (now (s .entry)) (now (numbers .entry)) n (take r (now (out .exit))) ⌝ }
 {
     let mut elements = [0u32; RECORDS];
-    type_judge::judge(s, &mut elements);
+    type_judge::judge(house(), s, &mut elements);
     event_lines::put_events(out, s, &elements, numbers, n)
 }
 
@@ -27,7 +37,7 @@ fn printed(s: &[u8], d: &[u8], out: &mut [u8]) -> usize
     ensures { λ r. ⌜ Counts r (now (out .exit)) × Prints (now (s .entry)) (now (d .entry)) (take r (now (out .exit))) ⌝ }
 {
     let mut numbers = [0u32; 16384];
-    let a = document_reader::read(s, d, &mut numbers);
+    let a = document_reader::read(house(), s, d, &mut numbers);
     match a {
         Answer::Accepted(n) => put_events(out, s, &numbers, n),
         Answer::InType(f) => event_lines::put_refusal(out, f.number, b"in type at ", f.at),

@@ -17,6 +17,7 @@ ghost use mathlib.Core.Path.{_≡_};
 ghost use mathlib.Core.List.{List};
 ghost use Prim.Native.Nat.{_+_, _-_, _*_, _≤_, _<_};
 ghost use lib.ListN.{length, replicate, getD};
+ghost use Rattle.rules.specs.Settings.{settings};
 ghost use Rattle.rules.specs.TypeFile.{Element};
 ghost use Rattle.rules.specs.Judge.{Accepts};
 ghost use Rattle.layout.specs.Sizes.{ROWS, PLACES, FACTS};
@@ -74,9 +75,10 @@ fn name(
     names: &[u32; NAMES],
     p: usize,
 ) -> usize
-    requires { ⌜ Indexed (now s) (elementsOf (now s)) (now elements) (now index) ⌝ }
     requires { ⌜ (1 ≤ p) × (p ≤ 96) × IsName (now s) (placeIn (now names) (p - 1)) ⌝ }
-    ensures { λ r. ⌜ r ≡ nameOf (now (s .entry)) (elementsOf (now (s .entry))) (placeIn (now (names .entry)) (p - 1)) ⌝ }
+    ensures { λ r. ⌜ ((es : List Element) → Indexed (now (s .entry)) es (now (elements .entry)) (now (index .entry)) →
+        r ≡ nameOf (now (s .entry)) es (placeIn (now (names .entry)) (p - 1))) ⌝ }
+    ensures { λ r. ⌜ (r ≤ 255) × (slotOf r ≤ 64) ⌝ }
 {
     let size = numbers::widened(names[2 * (p - 1) + 1]);
     if size == 0 {
@@ -98,9 +100,10 @@ fn put_places(
     names: &[u32; NAMES],
     count: usize,
 )
-    requires { ⌜ PlacesDue (now s) (elementsOf (now s)) (now elements) (now index) (now names) (now places) (now facts) e count ⌝ }
-    ensures { λ _. ⌜ PlacesPut (now (s .entry)) (elementsOf (now (s .entry))) (placesOf (now (names .entry)) count) e
-        (now (places .entry)) (now (facts .entry)) (now (places .exit)) (now (facts .exit)) (count + 1) ⌝ }
+    requires { ⌜ PlacesDue (now s) (now names) (now places) (now facts) e count ⌝ }
+    ensures { λ _. ⌜ ((es : List Element) → Indexed (now (s .entry)) es (now (elements .entry)) (now (index .entry)) →
+        PlacesPut (now (s .entry)) es (placesOf (now (names .entry)) count) e
+        (now (places .entry)) (now (facts .entry)) (now (places .exit)) (now (facts .exit)) (count + 1)) ⌝ }
 {
     let mut p = 1;
     while p <= count {
@@ -123,6 +126,7 @@ fn put_facts(facts: &mut [u8; FACTS], elements: &[u32; RECORDS], e: usize)
 
 // The element e: its declaration is read again from its name on, which fills `names` and `table`.
 fn put_element(
+    long: usize,
     s: &[u8],
     elements: &[u32; RECORDS],
     index: &[u8; INDEX],
@@ -133,11 +137,12 @@ fn put_element(
     names: &mut [u32; NAMES],
     table: &mut [u8; MODEL],
 )
-    requires { ⌜ ElementDue (now s) (elementsOf (now s)) (now elements) (now index) (now rows) (now places) (now facts) e ⌝ }
-    ensures { λ _. ⌜ Filled (now (s .entry)) (elementsOf (now (s .entry))) (now (rows .exit)) (now (places .exit)) (now (facts .exit)) (e + 1) ⌝ }
+    requires { ⌜ ElementDue (settings long) (now s) (elementsOf (settings long) (now s)) (now elements) (now index) (now rows) (now places) (now facts) e ⌝ }
+    ensures { λ _. ⌜ Filled (now (s .entry)) (elementsOf (settings long) (now (s .entry))) (now (rows .exit)) (now (places .exit)) (now (facts .exit)) (e + 1) ⌝ }
 {
     put_facts(facts, elements, e);
     let r = element_reader::element_at(
+        long,
         s,
         element_index::offset(elements, e),
         elements,
@@ -160,6 +165,7 @@ fn put_element(
 // Fills the tables, which are all 0, from an accepted type file whose elements are recorded in `elements`. What they then hold for
 // numbers past the type's elements and past a model's places is not decided: the state never stands there.
 pub fn fill(
+    long: usize,
     s: &[u8],
     elements: &[u32; RECORDS],
     count: usize,
@@ -168,10 +174,10 @@ pub fn fill(
     places: &mut [u8; PLACES],
     facts: &mut [u8; FACTS],
 )
-    requires { ⌜ Judged (now s) (now elements) count ⌝ }
-    requires { ⌜ ((es : List Element) × Indexed (now s) es (now elements) (now index)) ⌝ }
+    requires { ⌜ Judged (settings long) (now s) (now elements) count ⌝ }
+    requires { ⌜ ((es : List Element) × Accepts (settings long) (now s) es × Indexed (now s) es (now elements) (now index)) ⌝ }
     requires { ⌜ (now rows ≡ replicate ROWS 0) × (now places ≡ replicate PLACES 0) × (now facts ≡ replicate FACTS 0) ⌝ }
-    ensures { λ _. ⌜ ((es : List Element) → Accepts (now (s .entry)) es → length es ≡ count → Recorded (now (elements .entry)) es →
+    ensures { λ _. ⌜ ((es : List Element) → Accepts (settings long) (now (s .entry)) es → length es ≡ count → Recorded (now (elements .entry)) es →
         Tables (now (s .entry)) es (now (rows .exit)) (now (places .exit)) (now (facts .exit))) ⌝ }
 {
     let mut names = [0u32; NAMES];
@@ -180,6 +186,7 @@ pub fn fill(
     let mut e = 1;
     while e <= count {
         put_element(
+            long,
             s,
             elements,
             index,

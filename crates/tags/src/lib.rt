@@ -1,10 +1,10 @@
 // A tag of a document: name, separators, `>`.
-use layout::NAMELEN;
 use text::Fault;
 ghost use mathlib.Core.Path.{_≡_};
 ghost use Prim.Native.Nat.{_≤_};
 ghost use lib.ListN.{length};
 ghost use Rattle.rules.specs.Bytes.{nameByte, nameEnd};
+ghost use Rattle.rules.specs.Settings.{settings};
 ghost use Rattle.rules.specs.Document.{tag};
 ghost use Rattle.delimiters.specs.Means.{Classes};
 ghost use Rattle.tags.specs.Tags.{tagOf};
@@ -44,12 +44,12 @@ fn name_end(classes: &[u8; 256], s: &[u8], at: usize) -> usize
 }
 
 // Name, separators, `>`, where the name begins at i. A name that is too long is refused before what follows it.
-pub fn tag_at(classes: &[u8; 256], s: &[u8], i: usize) -> TagRead
+pub fn tag_at(long: usize, classes: &[u8; 256], s: &[u8], i: usize) -> TagRead
     requires { ⌜ Classes (now classes) × (i ≤ length (now s)) ⌝ }
-    ensures { λ r. ⌜ tagOf r ≡ tag (now (s .entry)) i ⌝ }
+    ensures { λ r. ⌜ tagOf r ≡ tag (settings long) (now (s .entry)) i ⌝ }
 {
     let e = name_end(classes, s, i);
-    if NAMELEN < e - i {
+    if long < e - i {
         return TagRead::Refused(Fault { number: 3, at: i });
     }
     let j = text::separators_end(s, e);

@@ -3,7 +3,6 @@ use element_records::Clash;
 use element_records::Progress;
 use element_records::Step;
 use layout::MODEL;
-use layout::NAMELEN;
 use layout::NAMES;
 use layout::RECORDS;
 use text::Fault;
@@ -12,6 +11,7 @@ ghost use mathlib.Core.Path.{_≡_};
 ghost use mathlib.Core.List.{List};
 ghost use Prim.Native.Nat.{_+_, _≤_, _<_};
 ghost use lib.ListN.{length};
+ghost use Rattle.rules.specs.Settings.{settings};
 ghost use Rattle.rules.specs.TypeFile.{keyword, markup, declaration, typeFile};
 ghost use Rattle.rules.specs.TypeFile as rules;
 ghost use Rattle.element_records.specs.Progress.{KeepsProgress, InProgress, MeetsStep};
@@ -28,6 +28,7 @@ fn refusal(number: u32, at: usize) -> Step
 
 // `<!` at i and a letter after it.
 fn keyword_at(
+    long: usize,
     s: &[u8],
     i: usize,
     p: Progress,
@@ -38,14 +39,14 @@ fn keyword_at(
     requires { ⌜ (i + 2 ≤ length (now s)) × (length (now s) ≤ 32768) ⌝ }
     requires { ⌜ InProgress (now s) (now elements) p ⌝ }
     ensures { λ r. ⌜ ((es : List rules.Element) → KeepsProgress (now (s .entry)) (now (elements .entry)) p es →
-        MeetsStep (now (s .entry)) (now (elements .exit)) i r (keyword (now (s .entry)) i es)) ⌝ }
+        MeetsStep (now (s .entry)) (now (elements .exit)) i r (keyword (settings long) (now (s .entry)) i es)) ⌝ }
 {
     let e = text::name_end(s, i + 2);
-    if NAMELEN < e - (i + 2) {
+    if long < e - (i + 2) {
         return refusal(3, i + 2);
     }
     if words::is_word(s, i + 2, e, b"ELEMENT") {
-        return element_records::element_at(s, e, p, elements, names, table);
+        return element_records::element_at(long, s, e, p, elements, names, table);
     }
     refusal(5, i)
 }
@@ -64,6 +65,7 @@ fn onward(p: Progress, at: usize) -> Step
 
 // `<!` at i.
 fn markup_at(
+    long: usize,
     s: &[u8],
     i: usize,
     p: Progress,
@@ -74,7 +76,7 @@ fn markup_at(
     requires { ⌜ (i + 2 ≤ length (now s)) × (length (now s) ≤ 32768) ⌝ }
     requires { ⌜ InProgress (now s) (now elements) p ⌝ }
     ensures { λ r. ⌜ ((es : List rules.Element) → KeepsProgress (now (s .entry)) (now (elements .entry)) p es →
-        MeetsStep (now (s .entry)) (now (elements .exit)) i r (markup (now (s .entry)) i es)) ⌝ }
+        MeetsStep (now (s .entry)) (now (elements .exit)) i r (markup (settings long) (now (s .entry)) i es)) ⌝ }
 {
     let b = text::byte(s, i + 2);
     if b == b'>' {
@@ -94,13 +96,14 @@ fn markup_at(
         return refusal(5, i);
     }
     if text::is_letter(b) {
-        return keyword_at(s, i, p, elements, names, table);
+        return keyword_at(long, s, i, p, elements, names, table);
     }
     refusal(4, i + 2)
 }
 
 // What begins at i, where a declaration may begin.
 fn declaration_at(
+    long: usize,
     s: &[u8],
     i: usize,
     p: Progress,
@@ -111,13 +114,13 @@ fn declaration_at(
     requires { ⌜ (i < length (now s)) × (length (now s) ≤ 32768) ⌝ }
     requires { ⌜ InProgress (now s) (now elements) p ⌝ }
     ensures { λ r. ⌜ ((es : List rules.Element) → KeepsProgress (now (s .entry)) (now (elements .entry)) p es →
-        MeetsStep (now (s .entry)) (now (elements .exit)) i r (declaration (now (s .entry)) i es)) ⌝ }
+        MeetsStep (now (s .entry)) (now (elements .exit)) i r (declaration (settings long) (now (s .entry)) i es)) ⌝ }
 {
     let b = text::byte(s, i);
     if b == b'<' {
         let c = text::byte(s, i + 1);
         if c == b'!' {
-            return markup_at(s, i, p, elements, names, table);
+            return markup_at(long, s, i, p, elements, names, table);
         }
         if c == b'?' {
             return refusal(5, i);
@@ -130,10 +133,10 @@ fn declaration_at(
     refusal(4, i)
 }
 
-// The whole type file. What stands in `elements` behind the records of its elements, and in all of it on refusal, is not decided.
-pub fn file_read(s: &[u8], elements: &mut [u32; RECORDS]) -> Step
+// The whole type file, where names are at most `long` bytes long. What stands in `elements` behind the records of its elements, and in all of it on refusal, is not decided.
+pub fn file_read(long: usize, s: &[u8], elements: &mut [u32; RECORDS]) -> Step
     requires { ⌜ length (now s) ≤ 32768 ⌝ }
-    ensures { λ r. ⌜ MeetsFile (now (s .entry)) (now (elements .exit)) r (typeFile (now (s .entry))) ⌝ }
+    ensures { λ r. ⌜ MeetsFile (now (s .entry)) (now (elements .exit)) r (typeFile (settings long) (now (s .entry))) ⌝ }
 {
     let mut names = [0u32; NAMES];
     let mut table = [0u8; MODEL];
@@ -154,7 +157,7 @@ pub fn file_read(s: &[u8], elements: &mut [u32; RECORDS]) -> Step
             }
             return Step::Read(p);
         }
-        let r = declaration_at(s, i, p, elements, &mut names, &mut table);
+        let r = declaration_at(long, s, i, p, elements, &mut names, &mut table);
         let Step::Read(q) = r else {
             return r;
         };

@@ -1,6 +1,7 @@
 // The type judge: a type file and a lent buffer in, element records or one refusal out.
 use element_records::Clash;
 use element_records::Step;
+use inputs::Settings;
 use layout::NUMBER;
 use layout::RECORDS;
 use text::Fault;
@@ -8,6 +9,7 @@ ghost use Prim.Native.Nat.{_≤_};
 ghost use lib.ListN.{length};
 ghost use Rattle.rules.specs.Lent.{numbers, bytes};
 ghost use Rattle.rules.specs.Judge.{Legible, Judged};
+ghost use Rattle.inputs.specs.Means.{settingsOf};
 ghost use Rattle.type_judge.specs.Means.{answerOf, Decides};
 
 // The judge's answer.
@@ -21,11 +23,11 @@ pub enum Verdict {
 // The verdict on a type file whose length and bytes were looked at, where the lent buffer has room for so many numbers: if
 // accepted, the elements are recorded in `elements`; what stands behind their records, and in all of it on refusal, is not
 // decided. Nor is the verdict where a byte is not allowed.
-pub fn decide_legible(s: &[u8], room: usize, elements: &mut [u32; RECORDS]) -> Verdict
+pub fn decide_legible(c: Settings, s: &[u8], room: usize, elements: &mut [u32; RECORDS]) -> Verdict
     requires { ⌜ length (now s) ≤ 32768 ⌝ }
-    ensures { λ r. ⌜ (Legible (now (s .entry)) → Decides (now (s .entry)) room (now (elements .exit)) r) ⌝ }
+    ensures { λ r. ⌜ (Legible (settingsOf c) (now (s .entry)) → Decides (settingsOf c) (now (s .entry)) room (now (elements .exit)) r) ⌝ }
 {
-    let r = type_file::file_read(s, elements);
+    let r = type_file::file_read(c.name_length, s, elements);
     let Step::Read(p) = r else {
         return Verdict::Malformed(element_records::fault_of(r));
     };
@@ -41,11 +43,14 @@ pub fn decide_legible(s: &[u8], room: usize, elements: &mut [u32; RECORDS]) -> V
     Verdict::Accepted(p.count)
 }
 
-// The verdict on any type file: numbers 1 and 2 come first. Behind the records, and on refusal, what `elements`
-// holds is not decided.
-pub fn decide(s: &[u8], room: usize, elements: &mut [u32; RECORDS]) -> Verdict
-    ensures { λ r. ⌜ Decides (now (s .entry)) room (now (elements .exit)) r ⌝ }
+// The verdict on any type file under any settings: number 24 comes first, then 1 and 2. Behind the records, and on refusal,
+// what `elements` holds is not decided.
+pub fn decide(c: Settings, s: &[u8], room: usize, elements: &mut [u32; RECORDS]) -> Verdict
+    ensures { λ r. ⌜ Decides (settingsOf c) (now (s .entry)) room (now (elements .exit)) r ⌝ }
 {
+    if !inputs::is_offered(c) {
+        return Verdict::Malformed(Fault { number: 24, at: 0 });
+    }
     if 32768 < s.len() {
         return Verdict::Malformed(Fault { number: 1, at: 0 });
     }
@@ -53,15 +58,15 @@ pub fn decide(s: &[u8], room: usize, elements: &mut [u32; RECORDS]) -> Verdict
     if a < s.len() {
         return Verdict::Malformed(Fault { number: 2, at: a });
     }
-    decide_legible(s, room, elements)
+    decide_legible(c, s, room, elements)
 }
 
-// Judges a type file. The buffer gets six numbers for each element, or is zeroed.
-pub fn judge(s: &[u8], buffer: &mut [u32]) -> Verdict
-    ensures { λ r. ⌜ Judged numbers (now (s .entry)) (now (buffer .entry)) (answerOf r) (now (buffer .exit)) ⌝ }
+// Judges a type file under the settings c. The buffer gets six numbers for each element, or is zeroed.
+pub fn judge(c: Settings, s: &[u8], buffer: &mut [u32]) -> Verdict
+    ensures { λ r. ⌜ Judged numbers (settingsOf c) (now (s .entry)) (now (buffer .entry)) (answerOf r) (now (buffer .exit)) ⌝ }
 {
     let mut elements = [0u32; RECORDS];
-    let v = decide(s, buffer.len(), &mut elements);
+    let v = decide(c, s, buffer.len(), &mut elements);
     if let Verdict::Accepted(n) = v {
         element_records::whole(elements);
         numbers::put_numbers(buffer, &elements, 6 * n);
@@ -71,12 +76,12 @@ pub fn judge(s: &[u8], buffer: &mut [u32]) -> Verdict
     v
 }
 
-// Judges a type file. The buffer of bytes gets six numbers of four bytes for each element, or is zeroed.
-pub fn judge_to_bytes(s: &[u8], buffer: &mut [u8]) -> Verdict
-    ensures { λ r. ⌜ Judged bytes (now (s .entry)) (now (buffer .entry)) (answerOf r) (now (buffer .exit)) ⌝ }
+// Judges a type file under the settings c. The buffer of bytes gets six numbers of four bytes for each element, or is zeroed.
+pub fn judge_to_bytes(c: Settings, s: &[u8], buffer: &mut [u8]) -> Verdict
+    ensures { λ r. ⌜ Judged bytes (settingsOf c) (now (s .entry)) (now (buffer .entry)) (answerOf r) (now (buffer .exit)) ⌝ }
 {
     let mut elements = [0u32; RECORDS];
-    let v = decide(s, buffer.len() / NUMBER, &mut elements);
+    let v = decide(c, s, buffer.len() / NUMBER, &mut elements);
     if let Verdict::Accepted(n) = v {
         element_records::whole(elements);
         numbers::put_bytes(buffer, &elements, 6 * n);

@@ -7,6 +7,7 @@ use native.Mathlib.Omega.{arith}
 use lib.ListN.{length, take}
 use lib.Dec.{leb}
 use borrow.Author.Tests.{leb-true, ne-eqb}
+use Rattle.rules.specs.Settings.{Settings}
 use Rattle.rules.specs.Bytes.{byteAt, letter, separator, separatorsEnd}
 use Rattle.rules.specs.Reading.{got}
 use Rattle.rules.specs.TypeFile.{atDashes, gap, Element, head, Declared, element, typeFile}
@@ -36,18 +37,18 @@ gap-none s i e =
     sym (gap-start s i) ∙ rw (no-separators s i l) (gapOn-end (length s) s i d (λ z. omega arith))
 
 -- The gap before the name is passed, or there is none.
-element-again : (s : List ℕ) (es : List Element) (from i : ℕ) → gap s from ≡ got i → letter (byteAt s i) ≡ true → element s i es ≡ element s from es
+element-again : {c : Settings} (s : List ℕ) (es : List Element) (from i : ℕ) → gap s from ≡ got i → letter (byteAt s i) ≡ true → element c s i es ≡ element c s from es
 unfolding element head
 element-again s es from i g l = rw (gap-none s i l, g)
 
-module _ (s : List ℕ) (es : List Element) (read : typeFile s ≡ got es) (k : ℕ) (few : k < length es) where
-  pub typeFile-again : (d : Declared) × (element s (elementAt es k .at) (take k es) ≡ got d) × (d .elements ≡ take k es ++ elementAt es k ∷ [])
+module _ {c : Settings} (s : List ℕ) (es : List Element) (read : typeFile c s ≡ got es) (k : ℕ) (few : k < length es) where
+  pub typeFile-again : (d : Declared) × (element c s (elementAt es k .at) (take k es) ≡ got d) × (d .elements ≡ take k es ++ elementAt es k ∷ [])
   typeFile-again =
       let m = typeFile-made s es read k few in
       (_, element-again s (take k es) (m .from) (elementAt es k .at) (m .begins) (m .named) ∙ m .read, refl)
 
   -- What its record may hold.
-  pub typeFile-sizes : (1 ≤ elementAt es k .size) × (elementAt es k .size ≤ 8) × (elementAt es k .at + elementAt es k .size ≤ length s) × (elementAt es k .start ≤ 1) × (elementAt es k .end ≤ 1)
+  pub typeFile-sizes : (1 ≤ elementAt es k .size) × (elementAt es k .size ≤ c .nameLength) × (elementAt es k .at + elementAt es k .size ≤ length s) × (elementAt es k .start ≤ 1) × (elementAt es k .end ≤ 1)
   typeFile-sizes =
       let e = typeFile-element s es read k few in
-      (e .name .some, e .name .short, e .name .ends, e .start, e .end)
+      (e .name .some, typeFile-made s es read k few .short, e .name .ends, e .start, e .end)

@@ -7,12 +7,14 @@ use native.Mathlib.Omega.{arith}
 use lib.ListN.{length}
 use lib.Dec.{eqb}
 use borrow.Author.Tests.{eqb-true}
+use Rattle.rules.specs.Settings.{Settings}
 use Rattle.rules.specs.Walk.{Group, place, seq, alt, opt, plus}
 use Rattle.rules.specs.TypeFile.{Place, Content, empty, model, Element}
 use Rattle.rules.specs.Judge.{placeAt}
 use Rattle.rules_laws.specs.Holds.{got-so}
 use Rattle.rules_laws.specs.Groups.{Builds, Built, content-read}
 use Rattle.rules_laws.specs.Declarations.{Declares}
+use Rattle.rules_laws.specs.In.{All, none, all-snoc}
 use Rattle.rules_laws.specs.Names.{placeAt-append, placeAt-next}
 use Rattle.model_sets.specs.Bits.{or-left, or-right, or-cases, and-both}
 use Rattle.model_sets.specs.Sets.{size, Numbered, has, follow}
@@ -34,10 +36,10 @@ module _ (ps : List Place) (x : Place) where
   placed : (p : ℕ) → eqb (suc (length ps)) p ≡ true → placeAt (ps ++ x ∷ []) (p - 1) ≡ x
   placed p e = placeAt-next ps x [] (p - 1) (omega (arith, eqb-true (suc (length ps)) p e))
 
-  grown-name : 1 ≤ x .size → Grown ps (place (suc (length ps))) (ps ++ x ∷ [])
-  grown-name l =
+  grown-name : {long : ℕ} → 1 ≤ x .size → x .size ≤ long → Grown ps (place (suc (length ps))) (ps ++ x ∷ [])
+  grown-name {long} l m =
       record {
-        counting = counted-builds .name ps x l;
+        counting = counted-builds {long} .name ps x l m;
         kept = λ k h. placeAt-append ps (x ∷ []) k h;
         repeats = λ p h z. absurd (omega (arith, ap (λ (y : Place). y .size) (placed p h)));
       }
@@ -67,7 +69,7 @@ module _ {ps qs rs : List Place} {g h : Group} (c : Grown ps g qs) (d : Grown qs
   alt-repeats : Repeats (alt g h) rs
   alt-repeats p i z = or-cases (has g p) (has h p) (λ x. or-left _ (first-repeats p x z)) (λ y. or-right (follow g p p) (d .repeats p y z)) i
 
-grown-builds : Builds Grown
+grown-builds : {long : ℕ} → Builds long Grown
 grown-builds =
     record {
       name = grown-name;
@@ -93,5 +95,31 @@ built-whole empty x = tt
 built-whole (model g ps n) x = record { numbered = x .counting .numbered; counted = omega (arith, x .counting .counted); repeats = x .repeats }
 
 -- The content of a declaration that is read.
-pub declared-whole : {s : List ℕ} {es : List Element} {e : Element} → Declares s es e → WholeIn (e .content)
-declared-whole {s} {es} {e} d = built-whole (e .content) (got-so (content-read s grown-builds (d .before) (d .begun)) (d .contentRead) .built)
+pub declared-whole : {c : Settings} {s : List ℕ} {es : List Element} {e : Element} → Declares c s es e → WholeIn (e .content)
+declared-whole {c} {s} {es} {e} d = built-whole (e .content) (got-so (content-read c s grown-builds (d .before) (d .begun)) (d .contentRead) .built)
+
+-- The names of a model's places are no longer than the settings say.
+abbrev Short : (long : ℕ) → List Place → Group → List Place → Type 0
+Short long ps g qs = All (λ (x : Place). x .size ≤ long) ps → All (λ (x : Place). x .size ≤ long) qs
+
+short-builds : {long : ℕ} → Builds long (Short long)
+short-builds =
+    record {
+      name = λ ps x l m a. all-snoc a m;
+      pcdata = λ ps x e a. all-snoc a (omega arith);
+      optional = λ f. f;
+      repeated = λ f. f;
+      sequence = λ f g a. g (f a);
+      choice = λ f g a. g (f a);
+    }
+
+abbrev pub ShortIn : (long : ℕ) → Content → Type 0
+ShortIn long empty = Unit {0}
+ShortIn long (model g ps n) = All (λ (x : Place). x .size ≤ long) ps
+
+built-short : (long : ℕ) (c : Content) → Built (Short long) c → ShortIn long c
+built-short long empty x = tt
+built-short long (model g ps n) x = x none
+
+pub declared-short : {c : Settings} {s : List ℕ} {es : List Element} {e : Element} → Declares c s es e → ShortIn (c .nameLength) (e .content)
+declared-short {c} {s} {es} {e} d = built-short (c .nameLength) (e .content) (got-so (content-read c s short-builds (d .before) (d .begun)) (d .contentRead) .built)

@@ -10,6 +10,7 @@ use lib.ListN.{length, take}
 use lib.Seq.{length-take-le}
 use lib.Dec.{eqb, eqb·zero-suc, eqb·suc-zero}
 use borrow.Author.Tests.{eq-eqb, eqb-true, ne-eqb}
+use Rattle.rules.specs.Settings.{Settings}
 use Rattle.rules.specs.Bytes.{sameText}
 use Rattle.rules.specs.Reading.{got}
 use Rattle.rules.specs.TypeFile.{Place, Element, sameName, isDeclared, typeFile}
@@ -98,7 +99,7 @@ fresh-differs s (e ∷ es) at size f (suc k) h =
 
 -- A type file that was read
 
-pub typeFile-element : (s : List ℕ) (es : List Element) → typeFile s ≡ got es → (k : ℕ) → k < length es → ElementIn s (elementAt es k)
+pub typeFile-element : {c : Settings} (s : List ℕ) (es : List Element) → typeFile c s ≡ got es → (k : ℕ) → k < length es → ElementIn s (elementAt es k)
 unfolding elementAt
 typeFile-element s es r k h = at-each es (typeFile-elements s es r .1 .each) k h
   where
@@ -107,7 +108,7 @@ typeFile-element s es r k h = at-each es (typeFile-elements s es r .1 .each) k h
     at-each (e ∷ es) (more p a) zero h = p
     at-each (e ∷ es) (more p a) (suc k) h = at-each es a k (le-of-suc-le-suc h)
 
-module _ (s : List ℕ) (es : List Element) (read : typeFile s ≡ got es) where
+module _ {c : Settings} (s : List ℕ) (es : List Element) (read : typeFile c s ≡ got es) where
   -- An element has not the name of one before it.
   differs : (j k : ℕ) → j < k → k < length es → isNamed s (elementAt es j) s (elementAt es k .at) (elementAt es k .size) ≡ false
   differs j k l h =

@@ -6,6 +6,7 @@ use mathlib.Core.List.{List, [], _∷_, _++_}
 use native.Mathlib.Nat.{not-suc-le-zero}
 use native.Mathlib.Omega.{arith}
 use borrow.Author.Tests.{eqb-true}
+use Rattle.rules.specs.Settings.{Settings}
 use Rattle.rules.specs.Walk.{Group}
 use Rattle.rules.specs.TypeFile.{Place, Content, empty, model, Element}
 use Rattle.rules.specs.Judge.{Accepts}
@@ -25,7 +26,7 @@ next-itself : (g : Group) (p : ℕ) → 1 ≤ p → follow g p p ≡ true → ne
 next-itself g zero l e = absurd (not-suc-le-zero l)
 next-itself g (suc p) l e = e
 
-module _ (s : List ℕ) (es : List Element) (accepted : Accepts s es) (k : ℕ) (g : Group) (ps : List Place) (n : ℕ) (is : contentOf es k ≡ model g ps n) (whole : Whole g ps) where
+module _ {c : Settings} (s : List ℕ) (es : List Element) (accepted : Accepts c s es) (k : ℕ) (g : Group) (ps : List Place) (n : ℕ) (is : contentOf es k ≡ model g ps n) (whole : Whole g ps) where
   -- A data byte that fits as p where some places are taken fits as p where p was the last taken.
   fits-again : (u p : ℕ) → hasName s es ps pcdata p ≡ true → nextIn g u p ≡ true → (taken : List ℕ) → lastOr0 taken ≡ p → fitsIn s es (model g ps n) taken pcdata ≡ p
   fits-again u p named next taken e =
@@ -42,7 +43,7 @@ module _ (s : List ℕ) (es : List Element) (accepted : Accepts s es) (k : ℕ) 
       let x : f p ≡ true = rw e at (search-passes f (size g) (omega arith)) in
       fits-again (lastOr0 taken) p (and-left (hasName s es ps pcdata p) _ x) (and-right (hasName s es ps pcdata p) _ x) (taken ++ p ∷ []) (lastOr0-snoc taken p)
 
-pub pcdata-stays : (s : List ℕ) (es : List Element) → Accepts s es → (k : ℕ) (taken : List ℕ) → 1 ≤ decided s es .fits k taken pcdata → decided s es .fits k (taken ++ decided s es .fits k taken pcdata ∷ []) pcdata ≡ decided s es .fits k taken pcdata
+pub pcdata-stays : {c : Settings} (s : List ℕ) (es : List Element) → Accepts c s es → (k : ℕ) (taken : List ℕ) → 1 ≤ decided s es .fits k taken pcdata → decided s es .fits k (taken ++ decided s es .fits k taken pcdata ∷ []) pcdata ≡ decided s es .fits k taken pcdata
 unfolding fitsIn
 pcdata-stays s es a k taken = go (contentOf es k) refl (typeFile-whole s es (a .elements) k)
   where

@@ -6,6 +6,7 @@ use mathlib.Core.List.{List, [], _∷_}
 use native.Mathlib.Omega.{arith}
 use lib.ListN.{length}
 use borrow.Author.Tests.{eqb-true}
+use Rattle.rules.specs.Settings.{Settings}
 use Rattle.rules.specs.Bytes.{byteAt, letter}
 use Rattle.rules.specs.Reading.{got}
 use Rattle.rules.specs.Walk.{Group, place}
@@ -31,9 +32,9 @@ document-whole x l =
 
 document-fits : (s : List ℕ) (x : Place) → NameIn s (x .at) (x .size) → letter (byteAt s (x .at)) ≡ true → Fits s (x ∷ []) 1
 document-fits s x n l =
-    record { places = more {x = x} (record { begins = omega arith; ends = n .ends; short = n .short; named = λ _. l }) none; counted = omega arith; few = omega arith }
+    record { places = more {x = x} (record { begins = omega arith; ends = n .ends; named = λ _. l }) none; counted = omega arith; few = omega arith }
 
-module _ (s : List ℕ) (es : List Element) (read : typeFile s ≡ got es) where
+module _ {c : Settings} (s : List ℕ) (es : List Element) (read : typeFile c s ≡ got es) where
   first-name : NameIn s (elementAt es 0 .at) (elementAt es 0 .size)
   first-name = typeFile-element s es read 0 (typeFile-count s es read .0) .name
 
