@@ -298,11 +298,11 @@ module _ (c : Settings) (s : List ℕ) where
 
 -- Where a word, the words and the end of a declaration lead.
 
-pub omission-range : {c : Settings} (s : List ℕ) (from i : ℕ) (w : Word) → i ≤ length s → omission c s from i ≡ got w → (i ≤ w .at) × (w .at ≤ length s)
-omission-range {c} s from i w h e = let r = got-so (omission-read c s from i) e in (r .from, r .inside)
+pub omission-range : (c : Settings) (s : List ℕ) (from i : ℕ) (w : Word) → i ≤ length s → omission c s from i ≡ got w → (i ≤ w .at) × (w .at ≤ length s)
+omission-range c s from i w h e = let r = got-so (omission-read c s from i) e in (r .from, r .inside)
 
-pub words-range : {c : Settings} (s : List ℕ) (i e : ℕ) (h : Head) → e ≤ length s → words c s i e ≡ got h → (e ≤ h .at) × (h .at ≤ length s) × (h .name ≡ i) × (h .size ≡ e - i)
-words-range {c} s i e h l q = let r = got-so (words-read c s i e l) q in (r .from, r .inside, r .name, r .size)
+pub words-range : (c : Settings) (s : List ℕ) (i e : ℕ) (h : Head) → e ≤ length s → words c s i e ≡ got h → (e ≤ h .at) × (h .at ≤ length s) × (h .name ≡ i) × (h .size ≡ e - i)
+words-range c s i e h l q = let r = got-so (words-read c s i e l) q in (r .from, r .inside, r .name, r .size)
 
 pub close-range : (s : List ℕ) (i k : ℕ) → close s i ≡ got k → (i < k) × (k ≤ length s)
 close-range s i k e = omega (arith, got-so (close-read s i) e)

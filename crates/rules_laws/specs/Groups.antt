@@ -277,5 +277,5 @@ pub whatever-builds : {long : ℕ} → Builds long Whatever
 whatever-builds = record { name = λ ps x l m. tt; pcdata = λ ps x e. tt; optional = λ x. tt; repeated = λ x. tt; sequence = λ x y. tt; choice = λ x y. tt }
 
 -- A content ends behind where it begins.
-pub content-from : {c : Settings} (s : List ℕ) (from i : ℕ) (x : ContentEnd) → content c s from i ≡ got x → i ≤ x .at
-content-from {c} s from i x e = got-so (content-read c s whatever-builds from i) e .from
+pub content-from : (c : Settings) (s : List ℕ) (from i : ℕ) (x : ContentEnd) → content c s from i ≡ got x → i ≤ x .at
+content-from c s from i x e = got-so (content-read c s whatever-builds from i) e .from

@@ -1,6 +1,7 @@
 -- Laws of the rules: what holds of one reading and of two, and each grammar walked once.
 pub mod Holds
 pub mod Both
+pub mod Offered
 pub mod In
 pub mod Groups
 pub mod Declarations

@@ -37,7 +37,7 @@ PieceRead d i (skipped e) = Onward d (i + 1) e
 PieceRead d i blank = Unit {0}
 PieceRead d i dataByte = Unit {0}
 
-module _ {c : Settings} (d : List ℕ) where
+module _ (d : List ℕ) where
   -- A comment declaration is refused by 4 alone.
   malformed-in : {P : ℕ → Type 0} {r : Reading ℕ} → Holds (InType d) P r → Holds (InPiece d) P (malformed r)
   malformed-in (stops {n} {k} h) = stops {n = 4} {k = k} (inl (omega arith), omega (arith, h))
@@ -49,21 +49,6 @@ module _ {c : Settings} (d : List ℕ) where
   early : {A : Type 0} {P : A → Type 0} {n k : ℕ} → (3 ≤ n) × (n ≤ 5) × (k ≤ length d) → Holds (InPiece d) P (refused n k)
   early (a, b, h) = stops (inl (a, b), h)
 
-  tag-read : (i at : ℕ) → i < at → letter (byteAt d at) ≡ true → Holds (InPiece d) (TagRead d i) (tag c d at)
-  unfolding tag
-  tag-read i at h l =
-      let e = nameEnd d at in
-      let j = separatorsEnd d e in
-      let inside = letter-in d at l in
-      let first = nameEnd-from d at in
-      let after = separatorsEnd-from d e in
-      let end = separatorsEnd-le d e (nameEnd-le d at (omega arith)) in
-      either (ltb (c .nameLength) (e - at)) (λ x. early (omega arith))
-      (λ x. either (eqb (byteAt d j) 62)
-      (λ y.
-      reads (record { behind = h; some = omega (arith, nameEnd-more d at l); named = l; ends = omega arith; inside = omega (arith, test-in (λ v. eqb v 62) refl d j y) }))
-      (λ y. early (omega arith)))
-
   declaration-read : (i : ℕ) → i < length d → Holds (InPiece d) (PieceRead d i) (declarationPiece d i)
   unfolding declarationPiece
   declaration-read i h =
@@ -73,26 +58,65 @@ module _ {c : Settings} (d : List ℕ) where
       (λ y. on (comment-read (i + 2) (omega (arith, dashes-in d (i + 2) y))) (λ e r. reads (omega (arith, r), r .1)))
       (λ y. either (letter b || eqb b 91) (λ z. early (omega arith)) (λ z. reads tt)))
 
-  markup-read : (i : ℕ) → i < length d → Holds (InPiece d) (PieceRead d i) (markupPiece c d i)
-  unfolding markupPiece
-  markup-read i h =
-      let b = byteAt d (i + 1) in
-      either (letter b) (λ x. on (tag-read i (i + 1) (omega arith) x) (λ t r. reads r))
-      (λ x. either (eqb b 47 && letter (byteAt d (i + 2))) (λ y. on (tag-read i (i + 2) (omega arith) (second (eqb b 47) (letter (byteAt d (i + 2))) y)) (λ t r. reads r))
-      (λ y. either (eqb b 33) (λ z. declaration-read i h) (λ z. either (eqb b 63) (λ u. early (omega arith)) (λ u. reads tt))))
-
   byte-read : (i : ℕ) → i < length d → Holds (InPiece d) (PieceRead d i) (bytePiece d i)
   unfolding bytePiece
   byte-read i h =
       let b = byteAt d i in
       either (eqb b 10) (λ x. reads (omega arith, omega arith)) (λ x. either (eqb b 9 || (eqb b 13 || eqb b 32)) (λ y. reads tt) (λ y. reads tt))
 
+-- Its name, where it is a tag, has at most so many bytes.
+abbrev pub ShortPiece : (long : ℕ) → Piece → Type 0
+ShortPiece long (startTag t) = t .size ≤ long
+ShortPiece long (endTag t) = t .size ≤ long
+ShortPiece long (skipped e) = Unit {0}
+ShortPiece long blank = Unit {0}
+ShortPiece long dataByte = Unit {0}
+
+module _ (d : List ℕ) (long : ℕ) where
+  declaration-short : (i : ℕ) → Gives (ShortPiece long) (declarationPiece d i)
+  unfolding declarationPiece
+  declaration-short i =
+      let b = byteAt d (i + 2) in
+      either (eqb b 62) (λ x. reads tt)
+      (λ x. either (atDashes d (i + 2)) (λ y. on (each {P = λ (e : ℕ). Unit {0}} (malformed (commentDeclaration d (i + 2))) (λ n k e. tt) (λ a e. tt)) (λ e r. reads tt))
+      (λ y. either (letter b || eqb b 91) (λ z. stops tt) (λ z. reads tt)))
+
+  byte-short : (i : ℕ) → Gives (ShortPiece long) (bytePiece d i)
+  unfolding bytePiece
+  byte-short i =
+      let b = byteAt d i in
+      either (eqb b 10) (λ x. reads tt) (λ x. either (eqb b 9 || (eqb b 13 || eqb b 32)) (λ y. reads tt) (λ y. reads tt))
+
+module _ (c : Settings) (d : List ℕ) where
+  tag-read : (i at : ℕ) → i < at → letter (byteAt d at) ≡ true → Holds (InPiece d) (TagRead d i) (tag c d at)
+  unfolding tag
+  tag-read i at h l =
+      let e = nameEnd d at in
+      let j = separatorsEnd d e in
+      let inside = letter-in d at l in
+      let first = nameEnd-from d at in
+      let after = separatorsEnd-from d e in
+      let end = separatorsEnd-le d e (nameEnd-le d at (omega arith)) in
+      either (ltb (c .nameLength) (e - at)) (λ x. early d (omega arith))
+      (λ x. either (eqb (byteAt d j) 62)
+      (λ y.
+      reads (record { behind = h; some = omega (arith, nameEnd-more d at l); named = l; ends = omega arith; inside = omega (arith, test-in (λ v. eqb v 62) refl d j y) }))
+      (λ y. early d (omega arith)))
+
+  markup-read : (i : ℕ) → i < length d → Holds (InPiece d) (PieceRead d i) (markupPiece c d i)
+  unfolding markupPiece
+  markup-read i h =
+      let b = byteAt d (i + 1) in
+      either (letter b) (λ x. on (tag-read i (i + 1) (omega arith) x) (λ t r. reads r))
+      (λ x. either (eqb b 47 && letter (byteAt d (i + 2))) (λ y. on (tag-read i (i + 2) (omega arith) (second (eqb b 47) (letter (byteAt d (i + 2))) y)) (λ t r. reads r))
+      (λ y. either (eqb b 33) (λ z. declaration-read d i h) (λ z. either (eqb b 63) (λ u. early d (omega arith)) (λ u. reads tt))))
+
   pub piece-read : (i : ℕ) → i < length d → Holds (InPiece d) (PieceRead d i) (piece c d i)
   unfolding piece
   piece-read i h =
       either (eqb (byteAt d i) 60) (λ x. markup-read i h)
-      (λ x. either (eqb (byteAt d i) 38 && isReference d i) (λ y. early (omega arith))
-      (λ y. either (isSectionEnd d i) (λ z. stops (inr refl, omega arith)) (λ z. byte-read i h)))
+      (λ x. either (eqb (byteAt d i) 38 && isReference d i) (λ y. early d (omega arith))
+      (λ y. either (isSectionEnd d i) (λ z. stops (inr refl, omega arith)) (λ z. byte-read d i h)))
 
   -- A tag that is read has a name that is no longer than the settings say.
   tag-short : (at : ℕ) → Gives (λ (t : Tag). t .size ≤ c .nameLength) (tag c d at)
@@ -102,38 +126,17 @@ module _ {c : Settings} (d : List ℕ) where
       let j = separatorsEnd d e in
       either (ltb (c .nameLength) (e - at)) (λ x. stops tt) (λ x. either (eqb (byteAt d j) 62) (λ y. reads (ltb-false _ _ x)) (λ y. stops tt))
 
-  abbrev pub ShortPiece : Piece → Type 0
-  ShortPiece (startTag t) = t .size ≤ c .nameLength
-  ShortPiece (endTag t) = t .size ≤ c .nameLength
-  ShortPiece (skipped e) = Unit {0}
-  ShortPiece blank = Unit {0}
-  ShortPiece dataByte = Unit {0}
-
-  declaration-short : (i : ℕ) → Gives ShortPiece (declarationPiece d i)
-  unfolding declarationPiece
-  declaration-short i =
-      let b = byteAt d (i + 2) in
-      either (eqb b 62) (λ x. reads tt)
-      (λ x. either (atDashes d (i + 2)) (λ y. on (each (malformed (commentDeclaration d (i + 2))) (λ n k e. tt) (λ a e. tt)) (λ e r. reads tt))
-      (λ y. either (letter b || eqb b 91) (λ z. stops tt) (λ z. reads tt)))
-
-  markup-short : (i : ℕ) → Gives ShortPiece (markupPiece c d i)
+  markup-short : (i : ℕ) → Gives (ShortPiece (c .nameLength)) (markupPiece c d i)
   unfolding markupPiece
   markup-short i =
       let b = byteAt d (i + 1) in
       either (letter b) (λ x. on (tag-short (i + 1)) (λ t r. reads r))
       (λ x. either (eqb b 47 && letter (byteAt d (i + 2))) (λ y. on (tag-short (i + 2)) (λ t r. reads r))
-      (λ y. either (eqb b 33) (λ z. declaration-short i) (λ z. either (eqb b 63) (λ u. stops tt) (λ u. reads tt))))
+      (λ y. either (eqb b 33) (λ z. declaration-short d (c .nameLength) i) (λ z. either (eqb b 63) (λ u. stops tt) (λ u. reads tt))))
 
-  byte-short : (i : ℕ) → Gives ShortPiece (bytePiece d i)
-  unfolding bytePiece
-  byte-short i =
-      let b = byteAt d i in
-      either (eqb b 10) (λ x. reads tt) (λ x. either (eqb b 9 || (eqb b 13 || eqb b 32)) (λ y. reads tt) (λ y. reads tt))
-
-  pub piece-short : (i : ℕ) → Gives ShortPiece (piece c d i)
+  pub piece-short : (i : ℕ) → Gives (ShortPiece (c .nameLength)) (piece c d i)
   unfolding piece
   piece-short i =
       either (eqb (byteAt d i) 60) (λ x. markup-short i)
       (λ x. either (eqb (byteAt d i) 38 && isReference d i) (λ y. stops tt)
-      (λ y. either (isSectionEnd d i) (λ z. stops tt) (λ z. byte-short i)))
+      (λ y. either (isSectionEnd d i) (λ z. stops tt) (λ z. byte-short d (c .nameLength) i)))

@@ -1,14 +1,16 @@
 -- Where a run of data ends, and laws of it.
 use Prim.Native.Nat.{ℕ, zero, suc, _+_, _-_, _≤_, _<_}
-use mathlib.Core.Path.{_≡_, refl}
-use mathlib.Core.Bool.{Bool, true, false}
+use mathlib.Core.Path.{_≡_, refl, sym, _∙_}
+use mathlib.Core.Bool.{Bool, true, false, _&&_, true≢false}
 use mathlib.Core.List.{List}
 use native.Mathlib.Omega.{arith}
 use native.Mathlib.Nat.{add-zero, not-suc-le-zero}
 use lib.ListN.{length}
-use Rattle.rules.specs.Settings.{Settings, settings}
+use lib.Dec.{eqb}
+use Rattle.rules.specs.Settings.{Settings, settings, leastNameLength}
+use Rattle.rules.specs.Bytes.{byteAt, letter, SOLIDUS, STAGO}
 use Rattle.rules.specs.Reading.{Reading, refused, got, andThen}
-use Rattle.rules.specs.Document.{Tag, Piece, startTag, endTag, skipped, blank, dataByte, piece}
+use Rattle.rules.specs.Document.{Tag, Piece, startTag, endTag, skipped, blank, dataByte, tag, markupPiece, piece}
 
 -- Whether a piece goes on a run of data.
 abbrev pub isRun : Reading Piece → Bool
@@ -21,7 +23,7 @@ isRun (got dataByte) = true
 
 -- What stands at i, under some settings: whether it goes on a run is the same under all of them (`run-any`).
 abbrev pub anyPiece : List ℕ → ℕ → Reading Piece
-anyPiece d i = piece (settings 8) d i
+anyPiece d i = piece (settings leastNameLength) d i
 
 -- How many of the n positions from i on stand in one run of data.
 unfoldable pub runs : ℕ → List ℕ → ℕ → ℕ
@@ -67,15 +69,45 @@ runs-each (suc n) s i k h = by-test (isRun (anyPiece s i)) refl k h (runs-each n
         rw l (ih k (omega (arith, runs-more n s i e)))
     by-test false e k h ih = absurd (not-suc-le-zero (rw (runs-none (suc n) s i e) at h))
 
+-- Two pieces go on a run alike, and are the same if they do.
+record Alike (r q : Reading Piece) : Type 0 where
+  pub going : isRun r ≡ isRun q
+  pub same : isRun q ≡ true → r ≡ q
+
+alike-refl : (r : Reading Piece) → Alike r r
+alike-refl r = record { going = refl; same = λ h. refl }
+
+alike-none : {r q : Reading Piece} → isRun r ≡ false → isRun q ≡ false → Alike r q
+alike-none a b = record { going = a ∙ sym b; same = λ h. absurd (true≢false (sym h ∙ b)) }
+
 -- The settings decide how long a name in a tag may be, and no tag goes on a run.
-tag-stops : (r : Reading Tag) → isRun (andThen r (λ t. got (startTag t))) ≡ false
-tag-stops (refused n k) = refl
-tag-stops (got t) = refl
+start-stops : (r : Reading Tag) → isRun (andThen r (λ t. got (startTag t))) ≡ false
+start-stops (refused n k) = refl
+start-stops (got t) = refl
 
 end-stops : (r : Reading Tag) → isRun (andThen r (λ t. got (endTag t))) ≡ false
 end-stops (refused n k) = refl
 end-stops (got t) = refl
 
--- TO BE PROVED: by `whichever` on the tests of `piece` and `markupPiece`, the two branches with a tag by `tag-stops` and `end-stops`, the others by refl.
--- pub run-any : (c : Settings) (d : List ℕ) (i : ℕ) → isRun (piece c d i) ≡ isRun (anyPiece d i)
--- pub run-same : (c : Settings) (d : List ℕ) (i : ℕ) → isRun (anyPiece d i) ≡ true → piece c d i ≡ anyPiece d i
+branch : {x y u v : Reading Piece} (b : Bool) → Alike x u → Alike y v → Alike (elim b [ true ↦ x | false ↦ y ]) (elim b [ true ↦ u | false ↦ v ])
+branch true f g = f
+branch false f g = g
+
+module _ (c e : Settings) (d : List ℕ) (i : ℕ) where
+  markup-alike : Alike (markupPiece c d i) (markupPiece e d i)
+  unfolding markupPiece
+  markup-alike =
+      let b = byteAt d (i + 1) in
+      branch (letter b) (alike-none (start-stops (tag c d (i + 1))) (start-stops (tag e d (i + 1))))
+      (branch (eqb b SOLIDUS && letter (byteAt d (i + 2))) (alike-none (end-stops (tag c d (i + 2))) (end-stops (tag e d (i + 2)))) (alike-refl _))
+
+  piece-alike : Alike (piece c d i) (piece e d i)
+  unfolding piece
+  piece-alike = branch (eqb (byteAt d i) STAGO) markup-alike (alike-refl _)
+
+-- Whether a piece goes on a run does not ask the settings, and neither does a piece that does.
+pub run-any : (c : Settings) (d : List ℕ) (i : ℕ) → isRun (piece c d i) ≡ isRun (anyPiece d i)
+run-any c d i = piece-alike c (settings leastNameLength) d i .going
+
+pub run-same : (c : Settings) (d : List ℕ) (i : ℕ) → isRun (anyPiece d i) ≡ true → piece c d i ≡ anyPiece d i
+run-same c d i = piece-alike c (settings leastNameLength) d i .same

@@ -14,7 +14,7 @@ use Rattle.rules_laws.specs.Declarations.{Declares, typeFile-holds}
 use Rattle.rules_laws.specs.In.{all-snoc}
 pub use Rattle.rules_laws.specs.In.{All, none, more, all-mem, PlaceIn, placeAt-in, Fits, ContentIn, NameIn, ElementIn, ElementsIn}
 
-module _ {c : Settings} (s : List ℕ) where
+module _ (c : Settings) (s : List ℕ) where
   -- An element that was declared.
   pub declared-in : {es : List Element} {e : Element} → Declares c s es e → ElementIn s e
   declared-in d = record { name = d .name; start = d .start; end = d .end; content = got-so (content-read c s whatever-builds (d .before) (d .begun)) (d .contentRead) .content }
