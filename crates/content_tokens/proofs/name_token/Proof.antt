@@ -41,7 +41,7 @@ put-name-requires c κs =
     let e = c .before .before .before in
     let a = e .before .before in
     let x = a .args in
-    omega (arith, a .pre, a .pre .1 .1 (c .before .if2 .left), c .before .before .if1 .left)
+    omega (arith, a .pre, a .pre .1 .1 (c .before .if2 .left), nameEnd-le (x .s .now) (x .at) (a .pre .0 .0), e .name-end .ensures)
 
 add-p : tie.Need-add-p
 add-p c =
