@@ -2,25 +2,27 @@
 -- That a type has one first ambiguous model is a fact of the type's half, taken here as given.
 use Prim.Native.Nat.{ℕ, _*_, _<_, _≤_}
 use mathlib.Core.Path.{_≡_, sym, _∙_, ap, subst}
+use mathlib.Core.Bool.{true, false, true≢false}
 use mathlib.Core.List.{List, []}
 use native.Mathlib.Omega.{arith}
 use lib.ListN.{length}
+use Rattle.rules.specs.Settings.{Settings, isOffered}
 use Rattle.rules.specs.Bytes.{allowed, span, typeLimit, documentLimit}
 use Rattle.rules.specs.Lent.{Lent, standing, room, filledWith, zeroed}
 use Rattle.rules.specs.Reading.{Reading, refused, got}
 use Rattle.rules.specs.TypeFile.{Element, typeFile}
 use Rattle.rules.specs.Judge.{Answer, refusal, acceptance, AllUnambiguous, FirstAmbiguous, Legible, Accepts}
 use Rattle.rules.specs.Events.{Event}
-use Rattle.rules.specs.Reader.{eventNumbers, documentRefusal, BothLegible, Reads, RefusesBoth, typeTooLong, documentTooLong, typeNotAllowed, documentNotAllowed, malformed, ambiguous, unsettled, noRoom, ReadAs, refuses, accepts}
+use Rattle.rules.specs.Reader.{eventNumbers, documentRefusal, BothLegible, Reads, RefusesBoth, notOffered, typeTooLong, documentTooLong, typeNotAllowed, documentNotAllowed, malformed, ambiguous, unsettled, noRoom, ReadAs, refuses, accepts}
 use Rattle.document_laws.specs.Laws.{same-elements, reads-one}
 
 -- What the reader promises of legible inputs.
-data Read (l : Lent) (s d before : List ℕ) (a : Answer) (after : List ℕ) : Type 0 where
-  bad : (n k : ℕ) → typeFile s ≡ refused n k → a ≡ refusal n k 0 0 → after ≡ zeroed before → Read l s d before a after
-  clash : (es : List Element) → typeFile s ≡ got es → (k p q : ℕ) → FirstAmbiguous s k p q es → a ≡ refusal 9 k p q → after ≡ zeroed before → Read l s d before a after
-  stops : (es : List Element) (n k : ℕ) → Reads s d es (refused n k) → a ≡ documentRefusal n k → after ≡ zeroed before → Read l s d before a after
-  tight : (es : List Element) (ev : List Event) → Reads s d es (got ev) → room l before < 4 * length ev → a ≡ documentRefusal 19 0 → after ≡ zeroed before → Read l s d before a after
-  enough : (es : List Element) (ev : List Event) → Reads s d es (got ev) → 4 * length ev ≤ room l before → a ≡ acceptance (length ev) → after ≡ filledWith (standing l (eventNumbers ev)) before → Read l s d before a after
+data Read (l : Lent) (c : Settings) (s d before : List ℕ) (a : Answer) (after : List ℕ) : Type 0 where
+  bad : (n k : ℕ) → typeFile c s ≡ refused n k → a ≡ refusal n k 0 0 → after ≡ zeroed before → Read l c s d before a after
+  clash : (es : List Element) → typeFile c s ≡ got es → (k p q : ℕ) → FirstAmbiguous s k p q es → a ≡ refusal 9 k p q → after ≡ zeroed before → Read l c s d before a after
+  stops : (es : List Element) (n k : ℕ) → Reads c s d es (refused n k) → a ≡ documentRefusal n k → after ≡ zeroed before → Read l c s d before a after
+  tight : (es : List Element) (ev : List Event) → Reads c s d es (got ev) → room l before < 4 * length ev → a ≡ documentRefusal 19 0 → after ≡ zeroed before → Read l c s d before a after
+  enough : (es : List Element) (ev : List Event) → Reads c s d es (got ev) → 4 * length ev ≤ room l before → a ≡ acceptance (length ev) → after ≡ filledWith (standing l (eventNumbers ev)) before → Read l c s d before a after
 
 both : {a b c : Answer} {x y z : List ℕ} → (a ≡ c) × (x ≡ z) → (b ≡ c) × (y ≡ z) → (a ≡ b) × (x ≡ y)
 both (e, f) (g, h) = (e ∙ sym g, f ∙ sym h)
@@ -56,83 +58,100 @@ OneFirst s = (k p q j a b : ℕ) (es : List Element) → FirstAmbiguous s k p q 
 abbrev NoFirst : List ℕ → Type 0
 NoFirst s = (k p q : ℕ) (es : List Element) → FirstAmbiguous s k p q es → AllUnambiguous s es → ⊥
 
-module _ (lent : Lent) (s d before : List ℕ) (one-first : OneFirst s) (no-first : NoFirst s) where
+module _ (lent : Lent) (c : Settings) (s d before : List ℕ) (one-first : OneFirst s) (no-first : NoFirst s) where
   abbrev Is : Answer → List ℕ → Type 0
-  Is a after = ReadAs lent s d before a after
+  Is a after = ReadAs lent c s d before a after
 
   abbrev IsRead : Answer → List ℕ → Type 0
-  IsRead a after = Read lent s d before a after
+  IsRead a after = Read lent c s d before a after
 
   -- At each stage of the order there is one way to go on.
 
-  when-type-long : (a : Answer) (after : List ℕ) → typeLimit < length s → Is a after → (a ≡ refusal 1 0 0 0) × (after ≡ zeroed before)
-  when-type-long a after h (refuses (typeTooLong l e) z) = (e, z)
-  when-type-long a after h (refuses (documentTooLong l m e) z) = absurd (omega (arith, h, l, m))
-  when-type-long a after h (refuses (typeNotAllowed l m c e) z) = absurd (omega (arith, h, l, m, c))
-  when-type-long a after h (refuses (documentNotAllowed l m c e) z) = absurd (omega (arith, h, l .short, l .clean, m, c))
-  when-type-long a after h (refuses (malformed l n k r e) z) = absurd (omega (arith, h, l .type .short, l .type .clean, l .short, l .clean))
-  when-type-long a after h (refuses (ambiguous l es r k p q f e) z) = absurd (omega (arith, h, l .type .short, l .type .clean, l .short, l .clean))
-  when-type-long a after h (refuses (unsettled es n k r e) z) = absurd (omega (arith, h, r .legible .type .short, r .legible .type .clean, r .legible .short, r .legible .clean))
-  when-type-long a after h (refuses (noRoom es ev r f e) z) = absurd (omega (arith, h, r .legible .type .short, r .legible .type .clean, r .legible .short, r .legible .clean))
-  when-type-long a after h (accepts es ev r f e z) = absurd (omega (arith, h, r .legible .type .short, r .legible .type .clean, r .legible .short, r .legible .clean))
+  when-not-offered : (a : Answer) (after : List ℕ) → isOffered c ≡ false → Is a after → (a ≡ refusal 24 0 0 0) × (after ≡ zeroed before)
+  when-not-offered a after h (refuses (notOffered o e) z) = (e, z)
+  when-not-offered a after h (refuses (typeTooLong o l e) z) = absurd (true≢false (sym o ∙ h))
+  when-not-offered a after h (refuses (documentTooLong o l m e) z) = absurd (true≢false (sym o ∙ h))
+  when-not-offered a after h (refuses (typeNotAllowed o l m x e) z) = absurd (true≢false (sym o ∙ h))
+  when-not-offered a after h (refuses (documentNotAllowed l m x e) z) = absurd (true≢false (sym (l .offered) ∙ h))
+  when-not-offered a after h (refuses (malformed l n k r e) z) = absurd (true≢false (sym (l .type .offered) ∙ h))
+  when-not-offered a after h (refuses (ambiguous l es r k p q f e) z) = absurd (true≢false (sym (l .type .offered) ∙ h))
+  when-not-offered a after h (refuses (unsettled es n k r e) z) = absurd (true≢false (sym (r .legible .type .offered) ∙ h))
+  when-not-offered a after h (refuses (noRoom es ev r f e) z) = absurd (true≢false (sym (r .legible .type .offered) ∙ h))
+  when-not-offered a after h (accepts es ev r f e z) = absurd (true≢false (sym (r .legible .type .offered) ∙ h))
 
-  when-document-long : (a : Answer) (after : List ℕ) → length s ≤ typeLimit → documentLimit < length d → Is a after → (a ≡ documentRefusal 1 0) × (after ≡ zeroed before)
-  when-document-long a after h g (refuses (typeTooLong l e) z) = absurd (omega (arith, h, g, l))
-  when-document-long a after h g (refuses (documentTooLong l m e) z) = (e, z)
-  when-document-long a after h g (refuses (typeNotAllowed l m c e) z) = absurd (omega (arith, h, g, l, m, c))
-  when-document-long a after h g (refuses (documentNotAllowed l m c e) z) = absurd (omega (arith, h, g, l .short, l .clean, m, c))
-  when-document-long a after h g (refuses (malformed l n k r e) z) = absurd (omega (arith, h, g, l .type .short, l .type .clean, l .short, l .clean))
-  when-document-long a after h g (refuses (ambiguous l es r k p q f e) z) = absurd (omega (arith, h, g, l .type .short, l .type .clean, l .short, l .clean))
-  when-document-long a after h g (refuses (unsettled es n k r e) z) = absurd (omega (arith, h, g, r .legible .type .short, r .legible .type .clean, r .legible .short, r .legible .clean))
-  when-document-long a after h g (refuses (noRoom es ev r f e) z) = absurd (omega (arith, h, g, r .legible .type .short, r .legible .type .clean, r .legible .short, r .legible .clean))
-  when-document-long a after h g (accepts es ev r f e z) = absurd (omega (arith, h, g, r .legible .type .short, r .legible .type .clean, r .legible .short, r .legible .clean))
+  when-type-long : (a : Answer) (after : List ℕ) → isOffered c ≡ true → typeLimit < length s → Is a after → (a ≡ refusal 1 0 0 0) × (after ≡ zeroed before)
+  when-type-long a after u h (refuses (notOffered o e) z) = absurd (true≢false (sym u ∙ o))
+  when-type-long a after u h (refuses (typeTooLong o l e) z) = (e, z)
+  when-type-long a after u h (refuses (documentTooLong o l m e) z) = absurd (omega (arith, h, l, m))
+  when-type-long a after u h (refuses (typeNotAllowed o l m x e) z) = absurd (omega (arith, h, l, m, x))
+  when-type-long a after u h (refuses (documentNotAllowed l m x e) z) = absurd (omega (arith, h, l .short, l .clean, m, x))
+  when-type-long a after u h (refuses (malformed l n k r e) z) = absurd (omega (arith, h, l .type .short, l .type .clean, l .short, l .clean))
+  when-type-long a after u h (refuses (ambiguous l es r k p q f e) z) = absurd (omega (arith, h, l .type .short, l .type .clean, l .short, l .clean))
+  when-type-long a after u h (refuses (unsettled es n k r e) z) = absurd (omega (arith, h, r .legible .type .short, r .legible .type .clean, r .legible .short, r .legible .clean))
+  when-type-long a after u h (refuses (noRoom es ev r f e) z) = absurd (omega (arith, h, r .legible .type .short, r .legible .type .clean, r .legible .short, r .legible .clean))
+  when-type-long a after u h (accepts es ev r f e z) = absurd (omega (arith, h, r .legible .type .short, r .legible .type .clean, r .legible .short, r .legible .clean))
 
-  when-type-dirty : (a : Answer) (after : List ℕ) → length s ≤ typeLimit → length d ≤ documentLimit → span allowed s < length s → Is a after → (a ≡ refusal 2 (span allowed s) 0 0) × (after ≡ zeroed before)
-  when-type-dirty a after h g i (refuses (typeTooLong l e) z) = absurd (omega (arith, h, g, i, l))
-  when-type-dirty a after h g i (refuses (documentTooLong l m e) z) = absurd (omega (arith, h, g, i, l, m))
-  when-type-dirty a after h g i (refuses (typeNotAllowed l m c e) z) = (e, z)
-  when-type-dirty a after h g i (refuses (documentNotAllowed l m c e) z) = absurd (omega (arith, h, g, i, l .short, l .clean, m, c))
-  when-type-dirty a after h g i (refuses (malformed l n k r e) z) = absurd (omega (arith, h, g, i, l .type .short, l .type .clean, l .short, l .clean))
-  when-type-dirty a after h g i (refuses (ambiguous l es r k p q f e) z) = absurd (omega (arith, h, g, i, l .type .short, l .type .clean, l .short, l .clean))
-  when-type-dirty a after h g i (refuses (unsettled es n k r e) z) = absurd (omega (arith, h, g, i, r .legible .type .short, r .legible .type .clean, r .legible .short, r .legible .clean))
-  when-type-dirty a after h g i (refuses (noRoom es ev r f e) z) = absurd (omega (arith, h, g, i, r .legible .type .short, r .legible .type .clean, r .legible .short, r .legible .clean))
-  when-type-dirty a after h g i (accepts es ev r f e z) = absurd (omega (arith, h, g, i, r .legible .type .short, r .legible .type .clean, r .legible .short, r .legible .clean))
+  when-document-long : (a : Answer) (after : List ℕ) → isOffered c ≡ true → length s ≤ typeLimit → documentLimit < length d → Is a after → (a ≡ documentRefusal 1 0) × (after ≡ zeroed before)
+  when-document-long a after u h g (refuses (notOffered o e) z) = absurd (true≢false (sym u ∙ o))
+  when-document-long a after u h g (refuses (typeTooLong o l e) z) = absurd (omega (arith, h, g, l))
+  when-document-long a after u h g (refuses (documentTooLong o l m e) z) = (e, z)
+  when-document-long a after u h g (refuses (typeNotAllowed o l m x e) z) = absurd (omega (arith, h, g, l, m, x))
+  when-document-long a after u h g (refuses (documentNotAllowed l m x e) z) = absurd (omega (arith, h, g, l .short, l .clean, m, x))
+  when-document-long a after u h g (refuses (malformed l n k r e) z) = absurd (omega (arith, h, g, l .type .short, l .type .clean, l .short, l .clean))
+  when-document-long a after u h g (refuses (ambiguous l es r k p q f e) z) = absurd (omega (arith, h, g, l .type .short, l .type .clean, l .short, l .clean))
+  when-document-long a after u h g (refuses (unsettled es n k r e) z) = absurd (omega (arith, h, g, r .legible .type .short, r .legible .type .clean, r .legible .short, r .legible .clean))
+  when-document-long a after u h g (refuses (noRoom es ev r f e) z) = absurd (omega (arith, h, g, r .legible .type .short, r .legible .type .clean, r .legible .short, r .legible .clean))
+  when-document-long a after u h g (accepts es ev r f e z) = absurd (omega (arith, h, g, r .legible .type .short, r .legible .type .clean, r .legible .short, r .legible .clean))
 
-  when-document-dirty : (a : Answer) (after : List ℕ) → Legible s → length d ≤ documentLimit → span allowed d < length d → Is a after → (a ≡ documentRefusal 2 (span allowed d)) × (after ≡ zeroed before)
-  when-document-dirty a after h g i (refuses (typeTooLong l e) z) = absurd (omega (arith, h .short, h .clean, g, i, l))
-  when-document-dirty a after h g i (refuses (documentTooLong l m e) z) = absurd (omega (arith, h .short, h .clean, g, i, l, m))
-  when-document-dirty a after h g i (refuses (typeNotAllowed l m c e) z) = absurd (omega (arith, h .short, h .clean, g, i, l, m, c))
-  when-document-dirty a after h g i (refuses (documentNotAllowed l m c e) z) = (e, z)
+  when-type-dirty : (a : Answer) (after : List ℕ) → isOffered c ≡ true → length s ≤ typeLimit → length d ≤ documentLimit → span allowed s < length s → Is a after → (a ≡ refusal 2 (span allowed s) 0 0) × (after ≡ zeroed before)
+  when-type-dirty a after u h g i (refuses (notOffered o e) z) = absurd (true≢false (sym u ∙ o))
+  when-type-dirty a after u h g i (refuses (typeTooLong o l e) z) = absurd (omega (arith, h, g, i, l))
+  when-type-dirty a after u h g i (refuses (documentTooLong o l m e) z) = absurd (omega (arith, h, g, i, l, m))
+  when-type-dirty a after u h g i (refuses (typeNotAllowed o l m x e) z) = (e, z)
+  when-type-dirty a after u h g i (refuses (documentNotAllowed l m x e) z) = absurd (omega (arith, h, g, i, l .short, l .clean, m, x))
+  when-type-dirty a after u h g i (refuses (malformed l n k r e) z) = absurd (omega (arith, h, g, i, l .type .short, l .type .clean, l .short, l .clean))
+  when-type-dirty a after u h g i (refuses (ambiguous l es r k p q f e) z) = absurd (omega (arith, h, g, i, l .type .short, l .type .clean, l .short, l .clean))
+  when-type-dirty a after u h g i (refuses (unsettled es n k r e) z) = absurd (omega (arith, h, g, i, r .legible .type .short, r .legible .type .clean, r .legible .short, r .legible .clean))
+  when-type-dirty a after u h g i (refuses (noRoom es ev r f e) z) = absurd (omega (arith, h, g, i, r .legible .type .short, r .legible .type .clean, r .legible .short, r .legible .clean))
+  when-type-dirty a after u h g i (accepts es ev r f e z) = absurd (omega (arith, h, g, i, r .legible .type .short, r .legible .type .clean, r .legible .short, r .legible .clean))
+
+  when-document-dirty : (a : Answer) (after : List ℕ) → Legible c s → length d ≤ documentLimit → span allowed d < length d → Is a after → (a ≡ documentRefusal 2 (span allowed d)) × (after ≡ zeroed before)
+  when-document-dirty a after h g i (refuses (notOffered o e) z) = absurd (true≢false (sym (h .offered) ∙ o))
+  when-document-dirty a after h g i (refuses (typeTooLong o l e) z) = absurd (omega (arith, h .short, h .clean, g, i, l))
+  when-document-dirty a after h g i (refuses (documentTooLong o l m e) z) = absurd (omega (arith, h .short, h .clean, g, i, l, m))
+  when-document-dirty a after h g i (refuses (typeNotAllowed o l m x e) z) = absurd (omega (arith, h .short, h .clean, g, i, l, m, x))
+  when-document-dirty a after h g i (refuses (documentNotAllowed l m x e) z) = (e, z)
   when-document-dirty a after h g i (refuses (malformed l n k r e) z) = absurd (omega (arith, h .short, h .clean, g, i, l .type .short, l .type .clean, l .short, l .clean))
   when-document-dirty a after h g i (refuses (ambiguous l es r k p q f e) z) = absurd (omega (arith, h .short, h .clean, g, i, l .type .short, l .type .clean, l .short, l .clean))
   when-document-dirty a after h g i (refuses (unsettled es n k r e) z) = absurd (omega (arith, h .short, h .clean, g, i, r .legible .type .short, r .legible .type .clean, r .legible .short, r .legible .clean))
   when-document-dirty a after h g i (refuses (noRoom es ev r f e) z) = absurd (omega (arith, h .short, h .clean, g, i, r .legible .type .short, r .legible .type .clean, r .legible .short, r .legible .clean))
   when-document-dirty a after h g i (accepts es ev r f e z) = absurd (omega (arith, h .short, h .clean, g, i, r .legible .type .short, r .legible .type .clean, r .legible .short, r .legible .clean))
 
-  when-legible : (a : Answer) (after : List ℕ) → BothLegible s d → Is a after → IsRead a after
-  when-legible a after h (refuses (typeTooLong l e) z) = absurd (omega (arith, h .type .short, h .type .clean, h .short, h .clean, l))
-  when-legible a after h (refuses (documentTooLong l m e) z) = absurd (omega (arith, h .type .short, h .type .clean, h .short, h .clean, l, m))
-  when-legible a after h (refuses (typeNotAllowed l m c e) z) = absurd (omega (arith, h .type .short, h .type .clean, h .short, h .clean, l, m, c))
-  when-legible a after h (refuses (documentNotAllowed l m c e) z) = absurd (omega (arith, h .type .short, h .type .clean, h .short, h .clean, l .short, l .clean, m, c))
+  when-legible : (a : Answer) (after : List ℕ) → BothLegible c s d → Is a after → IsRead a after
+  when-legible a after h (refuses (notOffered o e) z) = absurd (true≢false (sym (h .type .offered) ∙ o))
+  when-legible a after h (refuses (typeTooLong o l e) z) = absurd (omega (arith, h .type .short, h .type .clean, h .short, h .clean, l))
+  when-legible a after h (refuses (documentTooLong o l m e) z) = absurd (omega (arith, h .type .short, h .type .clean, h .short, h .clean, l, m))
+  when-legible a after h (refuses (typeNotAllowed o l m x e) z) = absurd (omega (arith, h .type .short, h .type .clean, h .short, h .clean, l, m, x))
+  when-legible a after h (refuses (documentNotAllowed l m x e) z) = absurd (omega (arith, h .type .short, h .type .clean, h .short, h .clean, l .short, l .clean, m, x))
   when-legible a after h (refuses (malformed l n k r e) z) = bad n k r e z
   when-legible a after h (refuses (ambiguous l es r k p q f e) z) = clash es r k p q f e z
   when-legible a after h (refuses (unsettled es n k r e) z) = stops es n k r e z
   when-legible a after h (refuses (noRoom es ev r f e) z) = tight es ev r f e z
   when-legible a after h (accepts es ev r f e z) = enough es ev r f e z
 
-  accepted-clash : (es fs : List Element) → typeFile s ≡ got es → (k p q : ℕ) → FirstAmbiguous s k p q es → Accepts s fs → ⊥
-  accepted-clash es fs e k p q f a = no-first k p q fs (subst (FirstAmbiguous s k p q) (same-elements s es fs e (a .elements)) f) (a .unambiguous)
+  accepted-clash : (es fs : List Element) → typeFile c s ≡ got es → (k p q : ℕ) → FirstAmbiguous s k p q es → Accepts c s fs → ⊥
+  accepted-clash es fs e k p q f a = no-first k p q fs (subst (FirstAmbiguous s k p q) (same-elements c s es fs e (a .elements)) f) (a .unambiguous)
 
-  accepted-bad : (n k : ℕ) (fs : List Element) → typeFile s ≡ refused n k → Accepts s fs → ⊥
+  accepted-bad : (n k : ℕ) (fs : List Element) → typeFile c s ≡ refused n k → Accepts c s fs → ⊥
   accepted-bad n k fs e a = not-got (sym e ∙ a .elements)
 
-  same-got : (es fs : List Element) (ev fv : List Event) → Reads s d es (got ev) → Reads s d fs (got fv) → ev ≡ fv
+  same-got : (es fs : List Element) (ev fv : List Event) → Reads c s d es (got ev) → Reads c s d fs (got fv) → ev ≡ fv
   same-got es fs ev fv x y = same-events ev fv (reads-one s d es fs (got ev) (got fv) x y .1)
 
-  not-both : (es fs : List Element) (n k : ℕ) (ev : List Event) → Reads s d es (refused n k) → Reads s d fs (got ev) → ⊥
+  not-both : (es fs : List Element) (n k : ℕ) (ev : List Event) → Reads c s d es (refused n k) → Reads c s d fs (got ev) → ⊥
   not-both es fs n k ev x y = not-got (reads-one s d es fs (refused n k) (got ev) x y .1)
 
-  not-room : (es fs : List Element) (ev fv : List Event) → Reads s d es (got ev) → Reads s d fs (got fv) → room lent before < 4 * length ev → 4 * length fv ≤ room lent before → ⊥
+  not-room : (es fs : List Element) (ev fv : List Event) → Reads c s d es (got ev) → Reads c s d fs (got fv) → room lent before < 4 * length ev → 4 * length fv ≤ room lent before → ⊥
   not-room es fs ev fv x y l m = omega (arith, ap length (same-got es fs ev fv x y))
 
   read-one : (a b : Answer) (after other : List ℕ) → IsRead a after → IsRead b other → (a ≡ b) × (after ≡ other)
@@ -143,7 +162,7 @@ module _ (lent : Lent) (s d before : List ℕ) (one-first : OneFirst s) (no-firs
   read-one a b after other (bad n k r e z) (enough es ev w l f y) = absurd (accepted-bad n k es r (w .accepted))
   read-one a b after other (clash es r k p q x e z) (bad m j i f y) = absurd (not-got (sym i ∙ r))
   read-one a b after other (clash es r k p q x e z) (clash fs i j l m w f y) =
-      let (c, g, h) = one-first k p q j l m es x (subst (FirstAmbiguous s j l m) (same-elements s fs es i r) w) in
+      let (v, g, h) = one-first k p q j l m es x (subst (FirstAmbiguous s j l m) (same-elements c s fs es i r) w) in
       (cc, z ∙ sym y)
   read-one a b after other (clash es r k p q x e z) (stops fs m j w f y) = absurd (accepted-clash es fs r k p q x (w .accepted))
   read-one a b after other (clash es r k p q x e z) (tight fs ev w l f y) = absurd (accepted-clash es fs r k p q x (w .accepted))
@@ -163,15 +182,16 @@ module _ (lent : Lent) (s d before : List ℕ) (one-first : OneFirst s) (no-firs
   read-one a b after other (enough es ev x l e z) (stops fs m j w f y) = absurd (not-both fs es m j ev w x)
   read-one a b after other (enough es ev x l e z) (tight fs fv w m f y) = absurd (not-room fs es fv ev w x m l)
   read-one a b after other (enough es ev x l e z) (enough fs fv w m f y) =
-      let c = same-got es fs ev fv x w in
-      (e ∙ ap (λ v. acceptance (length v)) c ∙ sym f, z ∙ ap (λ v. filledWith (standing lent (eventNumbers v)) before) c ∙ sym y)
+      let v = same-got es fs ev fv x w in
+      (e ∙ ap (λ w. acceptance (length w)) v ∙ sym f, z ∙ ap (λ w. filledWith (standing lent (eventNumbers w)) before) v ∙ sym y)
 
   -- Two answers to the same two inputs are the same.
   pub read-as-one : (a b : Answer) (after other : List ℕ) → Is a after → Is b other → (a ≡ b) × (after ≡ other)
-  read-as-one a b after other (refuses (typeTooLong l e) z) y = both (e, z) (when-type-long b other l y)
-  read-as-one a b after other (refuses (documentTooLong l m e) z) y = both (e, z) (when-document-long b other l m y)
-  read-as-one a b after other (refuses (typeNotAllowed l m c e) z) y = both (e, z) (when-type-dirty b other l m c y)
-  read-as-one a b after other (refuses (documentNotAllowed l m c e) z) y = both (e, z) (when-document-dirty b other l m c y)
+  read-as-one a b after other (refuses (notOffered o e) z) y = both (e, z) (when-not-offered b other o y)
+  read-as-one a b after other (refuses (typeTooLong o l e) z) y = both (e, z) (when-type-long b other o l y)
+  read-as-one a b after other (refuses (documentTooLong o l m e) z) y = both (e, z) (when-document-long b other o l m y)
+  read-as-one a b after other (refuses (typeNotAllowed o l m x e) z) y = both (e, z) (when-type-dirty b other o l m x y)
+  read-as-one a b after other (refuses (documentNotAllowed l m x e) z) y = both (e, z) (when-document-dirty b other l m x y)
   read-as-one a b after other (refuses (malformed l n k r e) z) y = read-one a b after other (bad n k r e z) (when-legible b other l y)
   read-as-one a b after other (refuses (ambiguous l es r k p q f e) z) y = read-one a b after other (clash es r k p q f e z) (when-legible b other l y)
   read-as-one a b after other (refuses (unsettled es n k r e) z) y = read-one a b after other (stops es n k r e z) (when-legible b other (r .legible) y)

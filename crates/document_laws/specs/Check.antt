@@ -6,6 +6,7 @@ use mathlib.Core.List.{List, [], _∷_}
 use lib.ListN.{length}
 use lib.Dec.{eqb, leb}
 use borrow.Author.Tests.{eqb-true, leb-true}
+use Rattle.rules.specs.Settings.{Settings, isOffered}
 use Rattle.rules.specs.Bytes.{allowed, span, typeLimit, documentLimit}
 use Rattle.rules.specs.Reading.{Reading, refused, got}
 use Rattle.rules.specs.Walk.{Group, place, seq, alt, opt, plus}
@@ -113,24 +114,26 @@ same-reading (got xs) (got ys) e = ap got (same-events xs ys e)
 unfoldable pub isLegible : ℕ → List ℕ → Bool
 isLegible limit s = leb (length s) limit && eqb (span allowed s) (length s)
 
-unfoldable pub readsAs : Example → List Element → Bool
-readsAs x es =
-    isLegible typeLimit (x .type) && (isLegible documentLimit (x .text) && (allFair (x .type) es && sameReading (document (x .type) es (decided (x .type) es) (x .text)) (x .gives)))
+unfoldable pub readsAs : Settings → Example → List Element → Bool
+readsAs c x es =
+    isOffered c && (isLegible typeLimit (x .type) && (isLegible documentLimit (x .text) && (allFair (x .type) es && sameReading (document c (x .type) es (decided (x .type) es) (x .text)) (x .gives))))
 
 -- The rules accept the type with these elements and read the document just so.
-abbrev pub ReadSo : Example → List Element → Type 0
-ReadSo x es = Reads (x .type) (x .text) es (x .gives)
+abbrev pub ReadSo : Settings → Example → List Element → Type 0
+ReadSo c x es = Reads c (x .type) (x .text) es (x .gives)
 
-pub reads-so : (x : Example) (es : List Element) → typeFile (x .type) ≡ got es → readsAs x es ≡ true → ReadSo x es
+pub reads-so : (c : Settings) (x : Example) (es : List Element) → typeFile c (x .type) ≡ got es → readsAs c x es ≡ true → ReadSo c x es
 unfolding readsAs isLegible
-reads-so x es read t =
-    let a = and-left (isLegible typeLimit (x .type)) _ t in
-    let t₁ = and-right (isLegible typeLimit (x .type)) _ t in
+reads-so c x es read t =
+    let o = and-left (isOffered c) _ t in
+    let t₀ = and-right (isOffered c) _ t in
+    let a = and-left (isLegible typeLimit (x .type)) _ t₀ in
+    let t₁ = and-right (isLegible typeLimit (x .type)) _ t₀ in
     let b = and-left (isLegible documentLimit (x .text)) _ t₁ in
     let t₂ = and-right (isLegible documentLimit (x .text)) _ t₁ in
     let (n, u) = all-fair (x .type) es (and-left (allFair (x .type) es) _ t₂) in
-    let legible : Legible (x .type) =
-    record { short = leb-true (length (x .type)) typeLimit (and-left (leb (length (x .type)) typeLimit) _ a); clean = eqb-true _ _ (and-right (leb (length (x .type)) typeLimit) _ a) } in
+    let legible : Legible c (x .type) =
+    record { offered = o; short = leb-true (length (x .type)) typeLimit (and-left (leb (length (x .type)) typeLimit) _ a); clean = eqb-true _ _ (and-right (leb (length (x .type)) typeLimit) _ a) } in
     record {
       legible = record { type = legible; short = leb-true (length (x .text)) documentLimit (and-left (leb (length (x .text)) documentLimit) _ b); clean = eqb-true _ _ (and-right (leb (length (x .text)) documentLimit) _ b) };
       accepted = record { legible = legible; elements = read; unambiguous = u };
@@ -141,9 +144,9 @@ reads-so x es read t =
 
 -- Examples of any kind X: the type file of each is read, and of its elements holds what the example says.
 
-pub record Right {X : Type 0} (type : X → List ℕ) (Says : X → List Element → Type 0) (x : X) : Type 0 where
+pub record Right {X : Type 0} (c : Settings) (type : X → List ℕ) (Says : X → List Element → Type 0) (x : X) : Type 0 where
   pub elements : List Element
-  pub reads : typeFile (type x) ≡ got elements
+  pub reads : typeFile c (type x) ≡ got elements
   pub says : Says x elements
 
 -- What is got passes the test.
@@ -151,19 +154,19 @@ unfoldable pub passes : (List Element → Bool) → Reading (List Element) → B
 passes test (refused n k) = false
 passes test (got es) = test es
 
-unfoldable pub allPass : {X : Type 0} (type : X → List ℕ) → (X → List Element → Bool) → List X → Bool
-allPass type test [] = true
-allPass type test (x ∷ xs) = passes (test x) (typeFile (type x)) && allPass type test xs
+unfoldable pub allPass : {X : Type 0} → Settings → (type : X → List ℕ) → (X → List Element → Bool) → List X → Bool
+allPass c type test [] = true
+allPass c type test (x ∷ xs) = passes (test x) (typeFile c (type x)) && allPass c type test xs
 
-module _ {X : Type 0} (type : X → List ℕ) {Says : X → List Element → Type 0} (test : X → List Element → Bool) (means : (x : X) (es : List Element) → typeFile (type x) ≡ got es → test x es ≡ true → Says x es) where
-  right : (x : X) (r : Reading (List Element)) → typeFile (type x) ≡ r → passes (test x) r ≡ true → Right type Says x
+module _ {X : Type 0} (c : Settings) (type : X → List ℕ) {Says : X → List Element → Type 0} (test : X → List Element → Bool) (means : (x : X) (es : List Element) → typeFile c (type x) ≡ got es → test x es ≡ true → Says x es) where
+  right : (x : X) (r : Reading (List Element)) → typeFile c (type x) ≡ r → passes (test x) r ≡ true → Right c type Says x
   unfolding passes
   right x (refused n k) e t = absurd (false≢true t)
   right x (got es) e t = record { elements = es; reads = e; says = means x es e t }
 
-  pub all-right : (xs : List X) → allPass type test xs ≡ true → All (Right type Says) xs
+  pub all-right : (xs : List X) → allPass c type test xs ≡ true → All (Right c type Says) xs
   unfolding allPass
   all-right [] t = none
   all-right (x ∷ xs) t =
-      let b = passes (test x) (typeFile (type x)) in
-      more (right x (typeFile (type x)) refl (and-left b _ t)) (all-right xs (and-right b _ t))
+      let b = passes (test x) (typeFile c (type x)) in
+      more (right x (typeFile c (type x)) refl (and-left b _ t)) (all-right xs (and-right b _ t))

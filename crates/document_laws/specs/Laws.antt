@@ -15,7 +15,7 @@ use Rattle.document_laws.specs.Same.{document-one}
 
 -- Under an accepted type the walks can be decided, by the last place taken in each open element.
 pub accepted-decided : {c : Settings} (s : List ℕ) (es : List Element) → Accepts c s es → Means s es (decided s es)
-accepted-decided s es a = decided-means s es (typeFile-numbered s es (a .elements)) (a .unambiguous)
+accepted-decided {c} s es a = decided-means s es (typeFile-numbered c s es (a .elements)) (a .unambiguous)
 
 -- So the document has a reading.
 pub reads-some : {c : Settings} (s d : List ℕ) (es : List Element) → BothLegible c s d → Accepts c s es → Reads c s d es (document c s es (decided s es) d)
@@ -25,14 +25,14 @@ elements : Reading (List Element) → List Element
 elements (refused n k) = []
 elements (got es) = es
 
-pub same-elements : {c : Settings} (s : List ℕ) (es fs : List Element) → typeFile c s ≡ got es → typeFile c s ≡ got fs → es ≡ fs
+pub same-elements : (c : Settings) (s : List ℕ) (es fs : List Element) → typeFile c s ≡ got es → typeFile c s ≡ got fs → es ≡ fs
 unfolding elements
-same-elements s es fs e f = ap elements (sym e ∙ f)
+same-elements c s es fs e f = ap elements (sym e ∙ f)
 
 -- It has no other: all decisions that mean the walks read it alike.
 pub reads-one : {c : Settings} (s d : List ℕ) (es fs : List Element) (r q : Reading (List Event)) → Reads c s d es r → Reads c s d fs q → (es ≡ fs) × (r ≡ q)
 reads-one {c} s d es fs r q x y =
-    let e = same-elements s es fs (x .accepted .elements) (y .accepted .elements) in
+    let e = same-elements c s es fs (x .accepted .elements) (y .accepted .elements) in
     let z : Reads c s d es q = subst (λ (gs : List Element). Reads c s d gs q) (sym e) y in
     (e, sym (x .reading) ∙ document-one s es (x .decisions) (z .decisions) (x .means) (z .means) c d ∙ z .reading)
 

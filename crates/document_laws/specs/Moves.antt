@@ -336,7 +336,7 @@ module _ {s : List ℕ} {es : List Element} {D E : Decisions} {Q : State → Sta
     settlePiece-both dataByte at {z} q = onward dataByte at (at + 1) z refl (so (takeData-both at q) (λ n k x. x) (λ x w r. (r .0, λ f. r .1)))
 
     -- The rest of the document, where R holds of what pieces and settling refuse.
-    module _ {c : Settings} (R : (number position : ℕ) → Type 0) (bound : R 4 (length d)) (by-piece : (at : ℕ) → at < length d → Refuses R (piece c d at)) (by-settling : (at n k : ℕ) → at ≤ length d → At at n k → R n k) where
+    module _ (c : Settings) (R : (number position : ℕ) → Type 0) (bound : R 4 (length d)) (by-piece : (at : ℕ) → at < length d → Refuses R (piece c d at)) (by-settling : (at n k : ℕ) → at ≤ length d → At at n k → R n k) where
       pub piecesWithin-both : (turns at : ℕ) {z y : State} → Q z y → Both R (λ (x w : List Event). x ≡ w) (piecesWithin c s es D d turns at z) (piecesWithin c s es E d turns at y)
       unfolding piecesWithin
       piecesWithin-both zero at q = stop bound

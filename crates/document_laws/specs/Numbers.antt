@@ -42,11 +42,11 @@ content-numbered : (c : Content) → Built Counted c → NumberedIn c
 content-numbered empty x = tt
 content-numbered (model g ps n) x = x .numbered
 
-module _ {c : Settings} (s : List ℕ) where
-  numbered-more : (es : List Element) (e : Element) → AllNumbered es → NumberedIn (e .content) → AllNumbered (es ++ e ∷ [])
-  numbered-more [] e a n = (n, tt)
-  numbered-more (x ∷ es) e a n = (a .0, numbered-more es e (a .1) n)
+numbered-more : (es : List Element) (e : Element) → AllNumbered es → NumberedIn (e .content) → AllNumbered (es ++ e ∷ [])
+numbered-more [] e a n = (n, tt)
+numbered-more (x ∷ es) e a n = (a .0, numbered-more es e (a .1) n)
 
+module _ (c : Settings) (s : List ℕ) where
   declared-more : (es : List Element) (e : Element) → AllNumbered es → Declares c s es e → AllNumbered (es ++ e ∷ [])
   declared-more es e a d = numbered-more es e a (content-numbered (e .content) (got-so (content-read c s counted-builds (d .before) (d .begun)) (d .contentRead) .built))
 

@@ -83,7 +83,7 @@ module _ (s : List ℕ) (es : List Element) (D E : Decisions) (x : Means s es D)
   -- Two decisions that mean the walks read every document alike.
   pub document-one : (c : Settings) (d : List ℕ) → document c s es D d ≡ document c s es E d
   document-one c d =
-      same (document-both begun-moves begun-datum d Any tt (λ at l. each (piece c d at) (λ n k e. tt) (λ p e. tt)) (λ at n k l h. tt) (refl, nothing-begun es))
+      same (document-both begun-moves begun-datum d c Any tt (λ at l. each (piece c d at) (λ n k e. tt) (λ p e. tt)) (λ at n k l h. tt) (refl, nothing-begun es))
 
 -- The states that reading comes to
 

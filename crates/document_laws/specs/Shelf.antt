@@ -3,6 +3,7 @@ use Prim.Native.Nat.{ℕ}
 use Prim.Native.String.{String}
 use mathlib.Core.Path.{refl}
 use mathlib.Core.List.{List, [], _∷_, _++_}
+use Rattle.rules.specs.Settings.{Settings, settings, isOffered}
 use Rattle.rules.specs.Bytes.{allowed, separator, letter, fold, nameByte, span, nameEnd, separatorsEnd, sameText}
 use Rattle.rules.specs.Reading.{Reading, refused, got}
 use Rattle.rules.specs.TypeFile.{beforeDashes, gapWithin, gap, occurrence, nameToken, dataToken, token, further, members, group}
@@ -18,6 +19,10 @@ use Rattle.rules_laws.specs.In.{All}
 use Rattle.document_laws.specs.Ascii.{ascii}
 use Rattle.document_laws.specs.Decide.{search, fitsIn, isCompleteIn, requiredOf}
 use Rattle.document_laws.specs.Check.{Example, ReadSo, reads-so, Right, all-right, allPass, passes, readsAs, isLegible, allFair, isFair, isNumbered, sameReading, sameEvents, sameEvent}
+
+-- Paper 01's names have at most 8 bytes.
+abbrev pub eight : Settings
+eight = settings 8
 
 -- Type T behind its first word of LIST.
 pub restOfT : List ℕ
@@ -75,6 +80,6 @@ shelf =
     under T- "<ITEM>" (refused 12 0) ∷
     []
 
-pub shelf-right : All (Right (λ (x : Example). x .type) ReadSo) shelf
-unfolding ascii restOfT T T- under whole shelf allPass passes readsAs isLegible allFair isFair isNumbered sameReading sameEvents sameEvent search fitsIn isCompleteIn requiredOf tagged settlePiece piecesWithin document elementAt numberFrom numberOf withData limited isOpen inferable chain inferStarts inward settleFrom settle startElement takeData takeBlank endLeftOut closeFrom endElement endFrom endDocument tag declarationPiece markupPiece bytePiece piece placeAt allowed separator letter fold nameByte span nameEnd separatorsEnd sameText beforeDashes gapWithin gap occurrence nameToken dataToken token further members group isDeclared elementName omission words head contentWord contentModel content close rest element commentDeclaration keyword markup declaration declarationsWithin typeFile
-shelf-right = all-right (λ (x : Example). x .type) readsAs reads-so shelf refl
+pub shelf-right : All (Right eight (λ (x : Example). x .type) (ReadSo eight)) shelf
+unfolding isOffered ascii restOfT T T- under whole shelf allPass passes readsAs isLegible allFair isFair isNumbered sameReading sameEvents sameEvent search fitsIn isCompleteIn requiredOf tagged settlePiece piecesWithin document elementAt numberFrom numberOf withData limited isOpen inferable chain inferStarts inward settleFrom settle startElement takeData takeBlank endLeftOut closeFrom endElement endFrom endDocument tag declarationPiece markupPiece bytePiece piece placeAt allowed separator letter fold nameByte span nameEnd separatorsEnd sameText beforeDashes gapWithin gap occurrence nameToken dataToken token further members group isDeclared elementName omission words head contentWord contentModel content close rest element commentDeclaration keyword markup declaration declarationsWithin typeFile
+shelf-right = all-right eight (λ (x : Example). x .type) (readsAs eight) (reads-so eight) shelf refl

@@ -22,8 +22,8 @@ use Rattle.document_laws.specs.Same.{Passes, begins, goes}
 use Rattle.last_places.specs.Last.{pieces}
 
 -- A piece that is read moves on and stays within the document.
-pub piece-moves : {c : Settings} (d : List ℕ) (at : ℕ) → at < length d → (p : Piece) → piece c d at ≡ got p → (at < pieceEnd p at) × (pieceEnd p at ≤ length d)
-piece-moves d at h p e = by-piece p (got-so (piece-read d at h) e)
+pub piece-moves : (c : Settings) (d : List ℕ) (at : ℕ) → at < length d → (p : Piece) → piece c d at ≡ got p → (at < pieceEnd p at) × (pieceEnd p at ≤ length d)
+piece-moves c d at h p e = by-piece p (got-so (piece-read c d at h) e)
   where
     by-piece : (p : Piece) → PieceRead d at p → (at < pieceEnd p at) × (pieceEnd p at ≤ length d)
     by-piece (startTag t) r = (omega (arith, r .behind, r .ends), r .inside)
@@ -37,7 +37,7 @@ module _ (c : Settings) (s : List ℕ) (es : List Element) (D : Decisions) (d : 
   Onward at y = (at < y .at) × (y .at ≤ length d)
 
   moves-on : (p : Piece) (at : ℕ) (z : State) → at < length d → piece c d at ≡ got p → Holds (At at) (Onward at) (settlePiece s es D d p at z)
-  moves-on p at z h e = first (settlePiece-both (any-moves s es D) any-datum d p at (refl, tt)) (λ x w r. rw (r .first) (piece-moves d at h p e))
+  moves-on p at z h e = first (settlePiece-both (any-moves s es D) any-datum d p at (refl, tt)) (λ x w r. rw (r .first) (piece-moves c d at h p e))
 
   -- More turns than bytes are left are enough.
   pub enough : (n m at : ℕ) (z : State) → length d - at < n → length d - at < m → piecesWithin c s es D d n at z ≡ piecesWithin c s es D d m at z

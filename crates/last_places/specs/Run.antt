@@ -89,9 +89,9 @@ run-cases (got (skipped i)) e f g = absurd (false≢true e)
 run-cases (got blank) e f g = f refl
 run-cases (got dataByte) e f g = g refl
 
-module _ (s : List ℕ) (es : List Element) (D : Decisions) where
+module _ (c : Settings) (s : List ℕ) (es : List Element) (D : Decisions) where
   -- A piece of a run where data may come next is a data byte.
-  module _ {c : Settings} (d : List ℕ) (at : ℕ) (z : State) (run : isRun (piece c d at) ≡ true) (fits : piece c d at ≡ got blank → 1 ≤ fitting s es D (z .current) pcdata) where
+  module _ (d : List ℕ) (at : ℕ) (z : State) (run : isRun (piece c d at) ≡ true) (fits : piece c d at ≡ got blank → 1 ≤ fitting s es D (z .current) pcdata) where
     pub run-settles : (p : Piece) × (piece c d at ≡ got p) × (settlePiece s es D d p at z ≡ goOn (at + 1) (takeData s es D at z))
     run-settles = run-cases (piece c d at) run (λ e. (blank, e, blank-settles s es D d at z (fits e))) (λ e. (dataByte, e, data-settles s es D d at z))
 
@@ -153,7 +153,7 @@ module _ (c : Settings) (s : List ℕ) (es : List Element) (stays : Stays s es) 
   byte-turn n h run =
       let y = state (took (lastOnly (x .current)) (fitting s es D (lastOnly (x .current)) pcdata)) (allLast (x .around)) (withData (at + n) (x .events ++ dataRun at n ∷ [])) in
       let l : at + n + 1 ≡ at + (n + 1) = omega arith in
-      data-turn s es D d (at + n) (within n) run (λ e. fits-again) y h (takeData-got s es D (at + n) (within n) _ (byte-settles n) few-short)
+      data-turn c s es D d (at + n) (within n) run (λ e. fits-again) y h (takeData-got s es D (at + n) (within n) _ (byte-settles n) few-short)
       ∙ pieces-short s es c d (suc (length d - (at + n + 1))) (at + n + 1) y
       ∙ ap₂ (pieces c s es D d) l (byte-leaves n)
 
@@ -173,7 +173,7 @@ module _ (c : Settings) (s : List ℕ) (es : List Element) (stays : Stays s es) 
   byte-follows n h run f =
       let l : at + n + 1 ≡ at + (n + 1) = omega arith in
       let g = f .follows in
-      let (p, q, i) = run-settles s es D d (at + n) (g .state) run (λ e. omega (arith, follows-fits g pcdata, fits-again)) in
+      let (p, q, i) = run-settles c s es D d (at + n) (g .state) run (λ e. omega (arith, follows-fits g pcdata, fits-again)) in
       record {
         follows =
             rw l at (follows-on g h p q (at + n + 1) (takeData s es D (at + n)) i (takeData-short s es (at + n)) (within (n + 1))
@@ -190,13 +190,13 @@ module _ (c : Settings) (s : List ℕ) (es : List Element) (stays : Stays s es) 
     first-byte : pieces c s es D d at z ≡ pieces c s es D d (at + 1) (within 1)
     first-byte =
         let y = state (x .current) (x .around) (withData at (x .events)) in
-        data-turn s es D d at z run fits y inside (takeData-got s es D at z x settles few)
+        data-turn c s es D d at z run fits y inside (takeData-got s es D at z x settles few)
         ∙ ap (λ ev. pieces c s es D d (at + 1) (state (x .current) (x .around) ev)) (withData-new at (x .events) (after .parted at parted))
         ∙ pieces-short s es c d (suc (length d - (at + 1))) (at + 1) (state (x .current) (x .around) (x .events ++ dataRun at 1 ∷ []))
 
     first-follows : Follows c s es d at z → Read 1
     first-follows f =
-        let (p, q, i) = run-settles s es D d at (f .state) run (λ e. omega (arith, follows-fits f pcdata, fits e)) in
+        let (p, q, i) = run-settles c s es D d at (f .state) run (λ e. omega (arith, follows-fits f pcdata, fits e)) in
         record {
           follows =
               follows-on f inside p q (at + 1) (takeData s es D at) i (takeData-short s es at) (within 1)

@@ -130,7 +130,7 @@ module _ (s : List ℕ) (es : List Element) where
   endElement-short k at after z = shortly-both (endElement-both (last-moves .ends) k at after (shortened z)) (λ x w r. r .0)
 
   pub pieces-short : (c : Settings) (d : List ℕ) (n at : ℕ) (z : State) → piecesWithin c s es D d n at z ≡ piecesWithin c s es D d n at (short z)
-  pieces-short c d n at z = same (piecesWithin-both last-moves last-datum d Any tt (λ i l. each (piece c d i) (λ m k e. tt) (λ p e. tt)) (λ i m k l h. tt) n at (shortened z))
+  pieces-short c d n at z = same (piecesWithin-both last-moves last-datum d c Any tt (λ i l. each (piece c d i) (λ m k e. tt) (λ p e. tt)) (λ i m k l h. tt) n at (shortened z))
 
   -- An end tag takes no place: of a short state it leaves a short one.
   exact-ends : Ends s es D D (Itself (λ (z : State). short z ≡ z))

@@ -85,7 +85,7 @@ module _ {c : Settings} {s : List ℕ} {es : List Element} {d : List ℕ} {at : 
       module _ (k : ℕ) (i : numberOf s es d (t .name) (t .size) ≡ k) (l : 1 ≤ k) where
         pub reaches-start-tag : {y : State} → shortly (startElement s es D k at (t .after) z) ≡ got y → Reaches c s es d (t .after) y
         reaches-start-tag {y} v =
-            settles-on (startTag t) (t .after) (startElement s es D k at (t .after)) y e (λ x. start-settles s es D d at t x k i l) (startElement-short s es k at (t .after)) (piece-moves d at h (startTag t) e .1) (startElement-parted s es D k at (t .after) z) v
+            settles-on (startTag t) (t .after) (startElement s es D k at (t .after)) y e (λ x. start-settles s es D d at t x k i l) (startElement-short s es k at (t .after)) (piece-moves c d at h (startTag t) e .1) (startElement-parted s es D k at (t .after) z) v
 
         pub refused-start-tag : {n j : ℕ} → shortly (startElement s es D k at (t .after) z) ≡ refused n j → document c s es D d ≡ refused n j
         refused-start-tag {n} {j} v =
@@ -98,7 +98,7 @@ module _ {c : Settings} {s : List ℕ} {es : List Element} {d : List ℕ} {at : 
       module _ (k : ℕ) (i : numberOf s es d (t .name) (t .size) ≡ k) (l : 1 ≤ k) where
         pub reaches-end-tag : {y : State} → shortly (endElement s es D k at (t .after) z) ≡ got y → Reaches c s es d (t .after) y
         reaches-end-tag {y} v =
-            settles-on (endTag t) (t .after) (endElement s es D k at (t .after)) y e (λ x. end-settles s es D d at t x k i l) (endElement-short s es k at (t .after)) (piece-moves d at h (endTag t) e .1) (endElement-parted s es D k at (t .after) z) v
+            settles-on (endTag t) (t .after) (endElement s es D k at (t .after)) y e (λ x. end-settles s es D d at t x k i l) (endElement-short s es k at (t .after)) (piece-moves c d at h (endTag t) e .1) (endElement-parted s es D k at (t .after) z) v
 
         pub refused-end-tag : {n j : ℕ} → shortly (endElement s es D k at (t .after) z) ≡ refused n j → document c s es D d ≡ refused n j
         refused-end-tag {n} {j} v =
@@ -118,7 +118,7 @@ module _ {c : Settings} {s : List ℕ} {es : List Element} {d : List ℕ} {at : 
         }
 
     pub reaches-skipped : {e : ℕ} → piece c d at ≡ got (skipped e) → Reaches c s es d e z
-    reaches-skipped {e} q = let (i, j) = piece-moves d at h (skipped e) q in passes-by (skipped e) e q (λ x l. skipped-settles s es D d at x e) i j
+    reaches-skipped {e} q = let (i, j) = piece-moves c d at h (skipped e) q in passes-by (skipped e) e q (λ x l. skipped-settles s es D d at x e) i j
 
     pub reaches-blank : piece c d at ≡ got blank → D .fits (z .current .number) (z .current .taken) pcdata ≡ 0 → Reaches c s es d (at + 1) z
     reaches-blank q e =
@@ -140,4 +140,4 @@ module _ {c : Settings} {s : List ℕ} {es : List Element} {d : List ℕ} {at : 
           }
 
       pub refused-run : {n k : ℕ} → shortly (takeRun s es D at (runEnd d (at + 1) - at) z) ≡ refused n k → document c s es D d ≡ refused n k
-      refused-run {n} {k} v = sym (r .rest) ∙ data-stop s es D d at z run fits n k h (run-refused s es D at (runEnd d (at + 1) - at) z n k v)
+      refused-run {n} {k} v = sym (r .rest) ∙ data-stop c s es D d at z run fits n k h (run-refused s es D at (runEnd d (at + 1) - at) z n k v)

@@ -25,12 +25,12 @@ abbrev In : List ℕ → (number position : ℕ) → Type 0
 In d n k = DocumentNumber n × (k ≤ length d)
 
 by-piece : (c : Settings) (d : List ℕ) (i : ℕ) → i < length d → Refuses (In d) (piece c d i)
-by-piece c d i h = so (piece-read d i h) (λ n k r. (⊎-elim inl (λ e. inr (omega arith)) (r .0), r .1)) (λ p r. tt)
+by-piece c d i h = so (piece-read c d i h) (λ n k r. (⊎-elim inl (λ e. inr (omega arith)) (r .0), r .1)) (λ p r. tt)
 
 by-settling : (d : List ℕ) (at n k : ℕ) → at ≤ length d → At at n k → In d n k
 by-settling d at n k h r = (inr (r .0), omega (arith, r .1))
 
-module _ {c : Settings} (s : List ℕ) (es : List Element) (D : Decisions) (d : List ℕ) where
+module _ (c : Settings) (s : List ℕ) (es : List Element) (D : Decisions) (d : List ℕ) where
   pub document-within : (n k : ℕ) → document c s es D d ≡ refused n k → DocumentNumber n × (k ≤ length d)
   document-within n k e =
-      refused-so (refusals (document-both (any-moves s es D) any-datum d (In d) (inl (omega arith), omega arith) (by-piece c d) (by-settling d) (refl, tt))) e
+      refused-so (refusals (document-both (any-moves s es D) any-datum d c (In d) (inl (omega arith), omega arith) (by-piece c d) (by-settling d) (refl, tt))) e

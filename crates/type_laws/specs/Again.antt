@@ -37,18 +37,18 @@ gap-none s i e =
     sym (gap-start s i) ∙ rw (no-separators s i l) (gapOn-end (length s) s i d (λ z. omega arith))
 
 -- The gap before the name is passed, or there is none.
-element-again : {c : Settings} (s : List ℕ) (es : List Element) (from i : ℕ) → gap s from ≡ got i → letter (byteAt s i) ≡ true → element c s i es ≡ element c s from es
+element-again : (c : Settings) (s : List ℕ) (es : List Element) (from i : ℕ) → gap s from ≡ got i → letter (byteAt s i) ≡ true → element c s i es ≡ element c s from es
 unfolding element head
-element-again s es from i g l = rw (gap-none s i l, g)
+element-again c s es from i g l = rw (gap-none s i l, g)
 
-module _ {c : Settings} (s : List ℕ) (es : List Element) (read : typeFile c s ≡ got es) (k : ℕ) (few : k < length es) where
+module _ (c : Settings) (s : List ℕ) (es : List Element) (read : typeFile c s ≡ got es) (k : ℕ) (few : k < length es) where
   pub typeFile-again : (d : Declared) × (element c s (elementAt es k .at) (take k es) ≡ got d) × (d .elements ≡ take k es ++ elementAt es k ∷ [])
   typeFile-again =
-      let m = typeFile-made s es read k few in
-      (_, element-again s (take k es) (m .from) (elementAt es k .at) (m .begins) (m .named) ∙ m .read, refl)
+      let m = typeFile-made c s es read k few in
+      (_, element-again c s (take k es) (m .from) (elementAt es k .at) (m .begins) (m .named) ∙ m .read, refl)
 
   -- What its record may hold.
   pub typeFile-sizes : (1 ≤ elementAt es k .size) × (elementAt es k .size ≤ c .nameLength) × (elementAt es k .at + elementAt es k .size ≤ length s) × (elementAt es k .start ≤ 1) × (elementAt es k .end ≤ 1)
   typeFile-sizes =
-      let e = typeFile-element s es read k few in
-      (e .name .some, typeFile-made s es read k few .short, e .name .ends, e .start, e .end)
+      let e = typeFile-element c s es read k few in
+      (e .name .some, typeFile-made c s es read k few .short, e .name .ends, e .start, e .end)

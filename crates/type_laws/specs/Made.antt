@@ -41,7 +41,7 @@ each-content P p [] f k = p
 each-content P p (e ∷ es) f zero = f 0 (omega arith)
 each-content P p (e ∷ es) f (suc k) = each-content P p es (λ j h. f (suc j) (omega arith)) k
 
-module _ {c : Settings} (s : List ℕ) where
+module _ (c : Settings) (s : List ℕ) where
   -- Every element of the list was declared behind those before it.
   abbrev pub Made : List Element → Type 0
   Made es = (k : ℕ) → k < length es → Declares c s (take k es) (elementAt es k)

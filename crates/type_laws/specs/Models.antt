@@ -32,14 +32,14 @@ record Grown (ps : List Place) (g : Group) (qs : List Place) : Type 0 where
   repeats : Repeats g qs
 
 -- One more place.
-module _ (ps : List Place) (x : Place) where
+module _ (long : ℕ) (ps : List Place) (x : Place) where
   placed : (p : ℕ) → eqb (suc (length ps)) p ≡ true → placeAt (ps ++ x ∷ []) (p - 1) ≡ x
   placed p e = placeAt-next ps x [] (p - 1) (omega (arith, eqb-true (suc (length ps)) p e))
 
-  grown-name : {long : ℕ} → 1 ≤ x .size → x .size ≤ long → Grown ps (place (suc (length ps))) (ps ++ x ∷ [])
-  grown-name {long} l m =
+  grown-name : 1 ≤ x .size → x .size ≤ long → Grown ps (place (suc (length ps))) (ps ++ x ∷ [])
+  grown-name l m =
       record {
-        counting = counted-builds {long} .name ps x l m;
+        counting = counted-builds {long = long} .name ps x l m;
         kept = λ k h. placeAt-append ps (x ∷ []) k h;
         repeats = λ p h z. absurd (omega (arith, ap (λ (y : Place). y .size) (placed p h)));
       }
@@ -47,7 +47,7 @@ module _ (ps : List Place) (x : Place) where
   grown-data : x .size ≡ 0 → Grown ps (opt (plus (place (suc (length ps))))) (ps ++ x ∷ [])
   grown-data e =
       record {
-        counting = counted-builds .pcdata ps x e;
+        counting = counted-builds {long = long} .pcdata ps x e;
         kept = λ k h. placeAt-append ps (x ∷ []) k h;
         repeats = λ p h z. and-both h h;
       }
@@ -70,14 +70,14 @@ module _ {ps qs rs : List Place} {g h : Group} (c : Grown ps g qs) (d : Grown qs
   alt-repeats p i z = or-cases (has g p) (has h p) (λ x. or-left _ (first-repeats p x z)) (λ y. or-right (follow g p p) (d .repeats p y z)) i
 
 grown-builds : {long : ℕ} → Builds long Grown
-grown-builds =
+grown-builds {long} =
     record {
-      name = grown-name;
-      pcdata = grown-data;
-      optional = λ c. record { counting = counted-builds .optional (c .counting); kept = c .kept; repeats = c .repeats };
-      repeated = λ c. record { counting = counted-builds .repeated (c .counting); kept = c .kept; repeats = λ p h z. or-left _ (c .repeats p h z) };
-      sequence = λ c d. record { counting = counted-builds .sequence (c .counting) (d .counting); kept = both-kept c d; repeats = seq-repeats c d };
-      choice = λ c d. record { counting = counted-builds .choice (c .counting) (d .counting); kept = both-kept c d; repeats = alt-repeats c d };
+      name = grown-name long;
+      pcdata = grown-data long;
+      optional = λ c. record { counting = counted-builds {long = long} .optional (c .counting); kept = c .kept; repeats = c .repeats };
+      repeated = λ c. record { counting = counted-builds {long = long} .repeated (c .counting); kept = c .kept; repeats = λ p h z. or-left _ (c .repeats p h z) };
+      sequence = λ c d. record { counting = counted-builds {long = long} .sequence (c .counting) (d .counting); kept = both-kept c d; repeats = seq-repeats c d };
+      choice = λ c d. record { counting = counted-builds {long = long} .choice (c .counting) (d .counting); kept = both-kept c d; repeats = alt-repeats c d };
     }
 
 -- A whole model.

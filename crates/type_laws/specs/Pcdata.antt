@@ -45,8 +45,8 @@ module _ {c : Settings} (s : List ℕ) (es : List Element) (accepted : Accepts c
 
 pub pcdata-stays : {c : Settings} (s : List ℕ) (es : List Element) → Accepts c s es → (k : ℕ) (taken : List ℕ) → 1 ≤ decided s es .fits k taken pcdata → decided s es .fits k (taken ++ decided s es .fits k taken pcdata ∷ []) pcdata ≡ decided s es .fits k taken pcdata
 unfolding fitsIn
-pcdata-stays s es a k taken = go (contentOf es k) refl (typeFile-whole s es (a .elements) k)
+pcdata-stays {c} s es a k taken = go (contentOf es k) refl (typeFile-whole c s es (a .elements) k)
   where
-    go : (c : Content) → contentOf es k ≡ c → WholeIn c → 1 ≤ fitsIn s es c taken pcdata → fitsIn s es c (taken ++ fitsIn s es c taken pcdata ∷ []) pcdata ≡ fitsIn s es c taken pcdata
+    go : (x : Content) → contentOf es k ≡ x → WholeIn x → 1 ≤ fitsIn s es x taken pcdata → fitsIn s es x (taken ++ fitsIn s es x taken pcdata ∷ []) pcdata ≡ fitsIn s es x taken pcdata
     go empty e w h = absurd (not-suc-le-zero h)
     go (model g ps n) e w h = stays s es a k g ps n e w taken (fitsIn s es (model g ps n) taken pcdata) refl h

@@ -26,6 +26,7 @@ ghost use mathlib.Core.Path.{_≡_};
 ghost use mathlib.Core.List.{List};
 ghost use Prim.Native.Nat.{ℕ, _+_, _*_, _/_, _%_, _≤_, _<_};
 ghost use lib.ListN.{getD};
+ghost use Rattle.rules.specs.Settings.{Settings};
 ghost use Rattle.rules.specs.TypeFile.{Element};
 ghost use Rattle.rules.specs.Judge.{Accepts};
 ghost use Rattle.rules.specs.Elements.{contentOf, hasModel, startO, endO};
@@ -68,7 +69,7 @@ pub fn complete(rows: &[u8; ROWS], e: usize, u: usize) -> bool
 pub fn required(rows: &[u8; ROWS], e: usize, u: usize) -> usize
     requires { ⌜ (e ≤ 64) × (u ≤ 96) ⌝ }
     ensures { λ r. ⌜ r ≡ requiredAt (now (rows .entry)) e u ⌝ }
-    ensures { λ r. ⌜ ((s : List ℕ) (es : List Element) → Accepts s es → Rows es (now (rows .entry)) → InRange es (standing e u) →
+    ensures { λ r. ⌜ ((c : Settings) (s : List ℕ) (es : List Element) → Accepts c s es → Rows es (now (rows .entry)) → InRange es (standing e u) →
         r ≡ decided s es .required e (placed u)) ⌝ }
 {
     let p = numbers::wide(rows[row(e, u) + 13]);
