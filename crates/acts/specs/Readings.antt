@@ -233,17 +233,17 @@ module _ (s : List ℕ) (es : List Element) (D : Decisions) where
         let a = passes-acts h in
         acts-then a (got-so (settlePiece-acts p at z (acts-last a)) f)
 
-    piecesWithin-acts : {c : Settings} (turns at : ℕ) (z : State) → Few z → Gives (Over z) (piecesWithin c s es D d turns at z)
+    piecesWithin-acts : (c : Settings) (turns at : ℕ) (z : State) → Few z → Gives (Over z) (piecesWithin c s es D d turns at z)
     unfolding piecesWithin
-    piecesWithin-acts zero at z f = stops tt
-    piecesWithin-acts {c} (suc turns) at z f =
+    piecesWithin-acts c zero at z f = stops tt
+    piecesWithin-acts c (suc turns) at z f =
         either (leb (length d) at) (λ e. endDocument-acts (length d) z f)
         (λ e. on (each (piece c d at) (λ n k i. tt) (λ p i. i)) λ p i.
         on (settlePiece-acts p at z f) λ y a.
-        so (piecesWithin-acts turns (y .at) (y .state) (acts-last a)) (λ n k x. x)
+        so (piecesWithin-acts c turns (y .at) (y .state) (acts-last a)) (λ n k x. x)
         (λ ev o. record { last = o .last; acts = acts-then a (o .acts); nothing = o .nothing; complete = o .complete; events = o .events }))
 
     -- Every document that is read is a sequence of acts, from nothing open to nothing open, with at most 24 open in each state passed.
-    pub document-acts : {c : Settings} (ev : List Event) → document c s es D d ≡ got ev → Over nothingOpen ev
+    pub document-acts : (c : Settings) (ev : List Event) → document c s es D d ≡ got ev → Over nothingOpen ev
     unfolding document
-    document-acts ev e = got-so (piecesWithin-acts (suc (length d)) 0 nothingOpen (omega arith)) e
+    document-acts c ev e = got-so (piecesWithin-acts c (suc (length d)) 0 nothingOpen (omega arith)) e

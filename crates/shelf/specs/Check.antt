@@ -7,6 +7,7 @@ use lib.Dec.{eqb}
 use borrow.Author.Tests.{eqb-true}
 use native.Mathlib.Omega.{arith}
 use Rattle.rules.specs.Reading.{got}
+use Rattle.rules.specs.Settings.{Settings}
 use Rattle.rules.specs.TypeFile.{Content, empty, model, Element, typeFile}
 use Rattle.rules.specs.Judge.{samePlace, placeAt, Unambiguous, AllUnambiguous, PairStandsAt, FirstAmbiguous, here}
 use Rattle.model_sets.specs.Bits.{and-left, and-right}
@@ -59,8 +60,8 @@ module _ (s : List ℕ) (e : Element) where
 abbrev pub NamedSo : Example → List Element → Type 0
 NamedSo x es = Named (x .text) (x .first) (x .second) es
 
-pub named-so : (x : Example) (es : List Element) → typeFile (x .text) ≡ got es → readsAs x es ≡ true → NamedSo x es
+pub named-so : (c : Settings) (x : Example) (es : List Element) → typeFile c (x .text) ≡ got es → readsAs x es ≡ true → NamedSo x es
 unfolding readsAs
-named-so x [] is u = absurd (false≢true u)
-named-so x (e ∷ []) is u = named-in (x .text) e (x .first) (x .second) (e .content) refl u
-named-so x (e ∷ (f ∷ es)) is u = absurd (false≢true u)
+named-so c x [] is u = absurd (false≢true u)
+named-so c x (e ∷ []) is u = named-in (x .text) e (x .first) (x .second) (e .content) refl u
+named-so c x (e ∷ (f ∷ es)) is u = absurd (false≢true u)

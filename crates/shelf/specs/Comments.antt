@@ -4,6 +4,7 @@ use Prim.Native.Nat.{ℕ}
 use Prim.Native.String.{String}
 use mathlib.Core.Path.{_≡_, refl}
 use mathlib.Core.List.{List, [], _∷_}
+use Rattle.rules.specs.Settings.{Settings}
 use Rattle.rules.specs.Bytes.{separator, letter, span, separatorsEnd}
 use Rattle.rules.specs.Reading.{Reading, refused, got, andThen}
 use Rattle.rules.specs.TypeFile.{beforeDashes, gapWithin, gap, commentDeclaration, markup}
@@ -18,9 +19,9 @@ pub record Example : Type 0 where
   pub inDocument : Reading ℕ
 
 -- The rules read it so.
-abbrev pub EndsSo : Example → Type 0
-EndsSo x =
-    (markup (x .text) 0 [] ≡ andThen (x .inType) (λ j. got (record { elements = []; at = j }))) × (piece (x .text) 0 ≡ andThen (x .inDocument) (λ e. got (skipped e)))
+abbrev pub EndsSo : Settings → Example → Type 0
+EndsSo c x =
+    (markup c (x .text) 0 [] ≡ andThen (x .inType) (λ j. got (record { elements = []; at = j }))) × (piece c (x .text) 0 ≡ andThen (x .inDocument) (λ e. got (skipped e)))
 
 pub both : String → Reading ℕ → Example
 both t r = record { text = ascii t; inType = r; inDocument = r }
@@ -46,9 +47,10 @@ comments =
     record { text = ascii "<!-- a -- % -->"; inType = refused 5 10; inDocument = refused 4 10 } ∷
     []
 
-pub comments-right : All EndsSo comments
+-- They ask nothing of the settings.
+pub comments-right : (c : Settings) → All (EndsSo c) comments
 unfolding ascii both comments separator letter span separatorsEnd beforeDashes gapWithin gap commentDeclaration markup declarationPiece markupPiece piece
-comments-right =
+comments-right c =
     more (refl, refl)
     (more (refl, refl)
     (more (refl, refl)

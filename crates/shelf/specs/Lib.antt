@@ -1,5 +1,6 @@
--- The shelf of examples of paper 01, as far as it speaks of types, names looked up under its type T, and comment declarations.
+-- The shelf of examples of paper 01, as far as it speaks of types, names looked up under its type T, comment declarations, and names of other lengths.
 pub mod Check
 pub mod Models
 pub mod Lookups
+pub mod Lengths
 pub mod Comments

@@ -8,6 +8,7 @@ use mathlib.Core.List.{List, [], _∷_}
 use lib.ListN.{length}
 use lib.Dec.{eqb}
 use borrow.Author.Tests.{eqb-true}
+use Rattle.rules.specs.Settings.{Settings}
 use Rattle.rules.specs.Bytes.{separator, letter, fold, nameByte, span, nameEnd, separatorsEnd, sameText}
 use Rattle.rules.specs.Reading.{got}
 use Rattle.rules.specs.TypeFile.{beforeDashes, gapWithin, gap, occurrence, nameToken, dataToken, token, further, members, group}
@@ -18,6 +19,7 @@ use Rattle.rules.specs.Elements.{numberFrom, numberOf}
 use Rattle.rules.specs.Lookup.{compared}
 use Rattle.model_sets.specs.Bits.{and-left, and-right}
 use Rattle.document_laws.specs.Ascii.{ascii}
+use Rattle.document_laws.specs.Shelf.{eight}
 use Rattle.document_laws.specs.Check.{Right, passes, allPass, all-right}
 use Rattle.rules_laws.specs.In.{All}
 
@@ -37,9 +39,9 @@ unfoldable pub readsAs : Example → List Element → Bool
 readsAs x es =
     eqb (numberOf (x .type) es (x .name) 0 (length (x .name))) (x .number) && eqb (compared (x .type) es (x .name) 0 (length (x .name))) (x .count)
 
-pub looks-up : (x : Example) (es : List Element) → typeFile (x .type) ≡ got es → readsAs x es ≡ true → LooksUp x es
+pub looks-up : (c : Settings) (x : Example) (es : List Element) → typeFile c (x .type) ≡ got es → readsAs x es ≡ true → LooksUp x es
 unfolding readsAs
-looks-up x es is u =
+looks-up c x es is u =
     record { numbered = eqb-true _ _ (and-left _ _ u); counted = eqb-true _ _ (and-right (eqb (numberOf (x .type) es (x .name) 0 (length (x .name))) (x .number)) _ u) }
 
 -- Type T with NOTE, which is as long as NAME and begins with the same letter: LIST, ITEM, NAME, QTY, NOTE.
@@ -65,6 +67,6 @@ lookups =
     named "LAMP" 0 1 ∷
     []
 
-pub lookups-right : All (Right (λ (x : Example). x .type) LooksUp) lookups
+pub lookups-right : All (Right eight (λ (x : Example). x .type) LooksUp) lookups
 unfolding ascii T+ named lookups allPass passes readsAs numberFrom numberOf compared placeAt separator letter fold nameByte span nameEnd separatorsEnd sameText beforeDashes gapWithin gap occurrence nameToken dataToken token further members group isDeclared elementName omission words head contentWord contentModel content close rest element commentDeclaration keyword markup declaration declarationsWithin typeFile
-lookups-right = all-right (λ (x : Example). x .type) readsAs looks-up lookups refl
+lookups-right = all-right eight (λ (x : Example). x .type) readsAs (looks-up eight) lookups refl

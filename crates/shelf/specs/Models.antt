@@ -9,6 +9,7 @@ use Rattle.rules.specs.TypeFile.{commentDeclaration, keyword, markup, declarati
 use Rattle.rules.specs.Judge.{placeAt}
 use Rattle.rules_laws.specs.In.{All}
 use Rattle.shelf.specs.Check.{Example, NamedSo, named-so, readsAs, ofContent, isPair}
+use Rattle.document_laws.specs.Shelf.{eight}
 use Rattle.document_laws.specs.Check.{isNumbered, Right, passes, allPass, all-right}
 
 -- `<!ELEMENT X O O ` and `>` around a model
@@ -33,6 +34,6 @@ shelf =
     record { text = declared (40 ∷ 35 ∷ 80 ∷ 67 ∷ 68 ∷ 65 ∷ 84 ∷ 65 ∷ 44 ∷ 40 ∷ 35 ∷ 80 ∷ 67 ∷ 68 ∷ 65 ∷ 84 ∷ 65 ∷ 124 ∷ 65 ∷ 41 ∷ 42 ∷ 41 ∷ []); first = 1; second = 2 } ∷
     []
 
-pub shelf-right : All (Right (λ (x : Example). x .text) NamedSo) shelf
+pub shelf-right : All (Right eight (λ (x : Example). x .text) NamedSo) shelf
 unfolding shelf declared allPass passes readsAs ofContent isPair isNumbered placeAt separator letter fold nameByte span nameEnd separatorsEnd sameText beforeDashes gapWithin gap occurrence nameToken dataToken token further members group isDeclared elementName omission words head contentWord contentModel content close rest element commentDeclaration keyword markup declaration declarationsWithin typeFile
-shelf-right = all-right (λ (x : Example). x .text) readsAs named-so shelf refl
+shelf-right = all-right eight (λ (x : Example). x .text) readsAs (named-so eight) shelf refl
