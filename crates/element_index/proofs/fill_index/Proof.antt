@@ -26,7 +26,8 @@ loop-holds : tie.Need-loop-holds Inv-loop μ-loop
 loop-holds c =
     let a = c .before .args in
     let none = c .before .pre .1 in
-    let (e, es, accepted, n, recorded) = c .before .pre .0 in
+    let (e, judged) = c .before .pre .0 in
+    let (es, accepted, n, recorded) = judged in
     let few = typeFile-count e (a .s .now) es (accepted .elements) in
     (omega arith, omega arith, λ e es accepted n recorded. filled-none (a .s .now) es (a .index .now) (a .count) n none)
 
@@ -35,7 +36,8 @@ put-index-requires c κs =
     let turn = c .before .before in
     let begun = turn .before .before in
     let a = begun .args in
-    let (e, es, accepted, n, recorded) = begun .pre .0 in
+    let (e, judged) = begun .pre .0 in
+    let (es, accepted, n, recorded) = judged in
     let (some, short) = size-in (a .s .now) es (a .elements .now) (turn .loop .k) accepted recorded (omega arith) (omega arith) in
     (omega arith, omega arith, some, short)
 
