@@ -18,7 +18,8 @@
  * Names.  Both calls take last how long a name may be: SGML_NAMELEN, which is 8, where nothing else is agreed, and up to
  *     SGML_MOST_NAMELEN, which is 32, for suppliers who declare a longer NAMELEN. Another number is SGML_ERR_SETTINGS, before anything
  *     else is looked at. Before 0.4.0 the calls did not take it, and 8 was what they went by: so a program that was written for 0.3.0
- *     passes SGML_NAMELEN as the last argument of both calls, and nothing else changes for it.
+ *     passes SGML_NAMELEN as the last argument of both calls, and nothing else changes for it. What was compiled for 0.3.0 is
+ *     compiled anew: it passes no length, and what a call takes for one is then not decided.
  * Memory.  Nothing here allocates, keeps state or touches memory other than what the caller lends. The inputs are the caller's
  *     and only read; buffer and answer are lent for the call. A pointer may be null where its length is 0. The two inputs may
  *     overlap each other. Buffer and answer overlap nothing, neither each other nor an input: where they do, no call promises
