@@ -190,7 +190,15 @@ module _ {c : Settings} {s : List ℕ} {room : ℕ} {a : Answer} where
       let z : n ≡ 0 = rw e at h in
       ⊎-elim (λ x. omega arith) (λ x. ⊎-elim (λ y. omega arith) (λ y. omega arith) x) b
 
-  -- Number 9, and number 19.
+  -- Number 24, number 9, and number 19.
+  refuses-twenty-four : Refuses c s room a → a .number ≡ 24 → isOffered c ≡ false
+  refuses-twenty-four (notOffered o e) h = o
+  refuses-twenty-four (tooLong o l e) h = absurd (omega (arith, rw e at h))
+  refuses-twenty-four (notAllowed o l d e) h = absurd (omega (arith, rw e at h))
+  refuses-twenty-four (malformed l n k r e) h = absurd (omega (arith, rw e at h, typeFile-within c s n k r))
+  refuses-twenty-four (ambiguous l es r k p q f e) h = absurd (omega (arith, rw e at h))
+  refuses-twenty-four (noRoom l es r u f e) h = absurd (omega (arith, rw e at h))
+
   refuses-nine : Refuses c s room a → a .number ≡ 9 → Legible c s × (es : List Element) × (typeFile c s ≡ got es) × FirstAmbiguous s (a .position) (a .first) (a .second) es
   refuses-nine (notOffered o e) h = absurd (omega (arith, rw e at h))
   refuses-nine (tooLong o l e) h = absurd (omega (arith, rw e at h))
@@ -217,6 +225,9 @@ module _ {l : Lent} {c : Settings} {s before : List ℕ} {a : Answer} {after : L
   pub settled-accepts : Judged l c s before a after → a .number ≡ 0 → (es : List Element) × Accepts c s es × (6 * length es ≤ room l before) × (a ≡ acceptance (length es)) × (after ≡ filledWith (standing l (records es)) before)
   settled-accepts (refuses r z) h = absurd (refuses-some r h)
   settled-accepts (accepts es w f e z) h = (es, w, f, e, z)
+
+  pub settled-twenty-four : Judged l c s before a after → a .number ≡ 24 → isOffered c ≡ false
+  settled-twenty-four x h = refuses-twenty-four (settled-refuses x (λ z. omega arith) .0) h
 
   pub settled-nine : Judged l c s before a after → a .number ≡ 9 → Legible c s × (es : List Element) × (typeFile c s ≡ got es) × FirstAmbiguous s (a .position) (a .first) (a .second) es
   settled-nine x h = refuses-nine (settled-refuses x (λ z. omega arith) .0) h

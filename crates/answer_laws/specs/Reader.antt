@@ -6,7 +6,7 @@ use mathlib.Core.Logic.{_⊎_, inl, inr, ⊎-elim}
 use mathlib.Core.List.{List}
 use native.Mathlib.Omega.{arith}
 use lib.ListN.{length, length-replicate}
-use Rattle.rules.specs.Settings.{Settings}
+use Rattle.rules.specs.Settings.{Settings, isOffered}
 use Rattle.rules.specs.Bytes.{allowed, span}
 use Rattle.rules.specs.Lent.{Lent, standing, room, filledWith, zeroed}
 use Rattle.rules.specs.Reading.{Reading, refused, got}
@@ -70,7 +70,19 @@ module _ {c : Settings} {s d : List ℕ} {room : ℕ} {a : Answer} where
   pub both-some : RefusesBoth c s d room a → a .number ≡ 0 → ⊥
   both-some r h = ⊎-elim (λ i. ⊎-elim (λ j. omega arith) (λ j. omega arith) (i .2)) (λ i. ⊎-elim (λ j. omega arith) (λ j. omega arith) (i .2)) (both-says r .0)
 
-  -- Number 9, and number 19.
+  -- Number 24, number 9, and number 19.
+  both-twenty-four : RefusesBoth c s d room a → a .number ≡ 24 → isOffered c ≡ false
+  both-twenty-four (notOffered o e) h = o
+  both-twenty-four (typeTooLong o l e) h = absurd (omega (arith, rw e at h))
+  both-twenty-four (documentTooLong o l m e) h = absurd (omega (arith, rw e at h))
+  both-twenty-four (typeNotAllowed o l m x e) h = absurd (omega (arith, rw e at h))
+  both-twenty-four (documentNotAllowed l m x e) h = absurd (omega (arith, rw e at h))
+  both-twenty-four (malformed l n k r e) h = absurd (omega (arith, rw e at h, typeFile-within c s n k r))
+  both-twenty-four (ambiguous l es r k p q f e) h = absurd (omega (arith, rw e at h))
+  both-twenty-four (unsettled es n k r e) h =
+      absurd (⊎-elim (λ j. omega (arith, rw e at h)) (λ j. omega (arith, rw e at h)) (document-within c s es (r .decisions) d n k (r .reading) .0))
+  both-twenty-four (noRoom es ev r f e) h = absurd (omega (arith, rw e at h))
+
   both-nine : RefusesBoth c s d room a → a .number ≡ 9 → BothLegible c s d × (es : List Element) × (typeFile c s ≡ got es) × FirstAmbiguous s (a .position) (a .first) (a .second) es
   both-nine (notOffered o e) h = absurd (omega (arith, rw e at h))
   both-nine (typeTooLong o l e) h = absurd (omega (arith, rw e at h))
@@ -129,6 +141,9 @@ module _ {l : Lent} {c : Settings} {s d before : List ℕ} {a : Answer} {after :
   pub given-accepts : ReadAs l c s d before a after → a .number ≡ 0 → (es : List Element) × (ev : List Event) × Reads c s d es (got ev) × (4 * length ev ≤ room l before) × (a ≡ acceptance (length ev)) × (after ≡ filledWith (standing l (eventNumbers ev)) before)
   given-accepts (refuses r z) h = absurd (both-some r h)
   given-accepts (accepts es ev r f e z) h = (es, ev, r, f, e, z)
+
+  pub given-twenty-four : ReadAs l c s d before a after → a .number ≡ 24 → isOffered c ≡ false
+  given-twenty-four x h = both-twenty-four (given-refuses x (λ z. omega arith) .0) h
 
   pub given-nine : ReadAs l c s d before a after → a .number ≡ 9 → BothLegible c s d × (es : List Element) × (typeFile c s ≡ got es) × FirstAmbiguous s (a .position) (a .first) (a .second) es
   given-nine x h = both-nine (given-refuses x (λ z. omega arith) .0) h

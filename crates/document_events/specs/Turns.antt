@@ -73,7 +73,7 @@ module _ (c : Settings) (s : List ℕ) (es : List Element) (d : List ℕ) (at : 
       }
 
   -- A start tag or a run of data, for 0.
-  turned-token : {k : Settings} → Accepts k s es → ToSettle c s es d (o .element) (o .place) at x after
+  turned-token : {e : Settings} → Accepts e s es → ToSettle c s es d (o .element) (o .place) at x after
       → outcomeOf at (r .number) (stateOf (r .open) (before ++ events)) ≡ shortly (takes s es x at after (stateOf o before)) → Turned c s es d at after before events r
   turned-token accepted (starts i n) v =
       let e = v ∙ ap shortly (takes-start s es at after (stateOf o before) x i) in
@@ -141,14 +141,14 @@ module _ {c : Settings} {s elements index rows places facts d numbers numbersNow
           numbers-same = b .puts .numbers-kept ∙ g .numbers-same;
           bytes-same = b .puts .bytes-kept ∙ g .bytes-same;
           any = λ es i t.
-              let comes = g .any es i t in
+              let came = g .any es i t in
               let u = turned es i t in
               record {
-                events = comes .events ++ b .events;
+                events = came .events ++ b .events;
                 reaches = u .reaches z;
                 stands = u .stands z;
-                counted = omega (arith, length-append (comes .events) (b .events), comes .counted, b .counted);
-                holds = b .puts .behind numbers bytes (comes .events) (comes .counted) (comes .holds);
+                counted = omega (arith, length-append (came .events) (b .events), came .counted, b .counted);
+                holds = b .puts .behind numbers bytes (came .events) (came .counted) (came .holds);
               };
         }
 
@@ -161,8 +161,8 @@ module _ {c : Settings} {s elements index rows places facts d numbers numbersNow
 
     pub piece-refuses : {f : Fault} → p ≡ found.Refused f → (es : List Element) → Indexed s es elements index → Tables s es rows places facts → document c s es (decided s es) d ≡ refused (f .number) (f .at)
     piece-refuses {f} q es i t =
-        let comes = g .any es i t in
-        refused-unread c s es d at o (comes .events) h (comes .reaches) f (rw q at (finds es i t))
+        let came = g .any es i t in
+        refused-unread c s es d at o (came .events) h (came .reaches) f (rw q at (finds es i t))
 
     module _ (onward : Onward (length d) at p) where
       -- Each moves on within the document.
@@ -186,8 +186,8 @@ module _ {c : Settings} {s elements index rows places facts d numbers numbersNow
             numbers-same = g .numbers-same;
             bytes-same = g .bytes-same;
             any = λ es i t.
-                let comes = g .any es i t in
-                record { events = comes .events; reaches = by-kind es (comes .events) (comes .reaches) (rw q at (finds es i t)); stands = comes .stands; counted = comes .counted; holds = comes .holds };
+                let came = g .any es i t in
+                record { events = came .events; reaches = by-kind es (came .events) (came .reaches) (rw q at (finds es i t)); stands = came .stands; counted = came .counted; holds = came .holds };
           }
         where
           by-kind : (es : List Element) (before : List Event) → Reaches c s es d at (stateOf o before) → Finds c s es d (o .element) (o .place) at (found.Passed after) → Reaches c s es d after (stateOf o before)
@@ -212,10 +212,10 @@ module _ {c : Settings} {s elements index rows places facts d numbers numbersNow
 
           settled : (es : List Element) (i : Indexed s es elements index) (u : Tables s es rows places facts) → Turned c s es d at after (g .any es i u .events) (t .events) r
           settled es i u =
-              let comes = g .any es i u in
+              let came = g .any es i u in
               let f : ToSettle c s es d (o .element) (o .place) at x after = rw q at (finds es i u) in
-              let w = t .settles s es u (comes .stands) (settles-declared c s es d (o .element) (o .place) at x after f) in
-              turned-token c s es d at o (comes .events) h (comes .reaches) (t .events) r (w .stands) x after (u .accepted) f (w .comes (comes .events))
+              let w = t .settles s es u (came .stands) (settles-declared c s es d (o .element) (o .place) at x after f) in
+              turned-token c s es d at o (came .events) h (came .reaches) (t .events) r (w .stands) x after (u .accepted) f (w .comes (came .events))
 
           pub going-token : r .number ≡ 0 → Going c s elements index rows places facts d numbers numbers′ bytes bytes′ (r .events) after (r .open)
           going-token = going-on (token-range q) brought (t .few) settled
@@ -227,8 +227,8 @@ module _ {c : Settings} {s elements index rows places facts d numbers numbersNow
         module _ (q : p ≡ found.End x after) (t : Tagged facts x at after n o numbersNow bytesNow r numbers′ bytes′) where
           ended : (es : List Element) (i : Indexed s es elements index) (u : Tables s es rows places facts) → Turned c s es d at after (g .any es i u .events) (t .brings .events) r
           ended es i u =
-              let comes = g .any es i u in
-              turned-end c s es d at o (comes .events) h (comes .reaches) (t .brings .events) r (t .stands s es (u .facts-say) (comes .stands)) x after (rw q at (finds es i u)) (t .closes s es (u .facts-say) (comes .stands) (comes .events))
+              let came = g .any es i u in
+              turned-end c s es d at o (came .events) h (came .reaches) (t .brings .events) r (t .stands s es (u .facts-say) (came .stands)) x after (rw q at (finds es i u)) (t .closes s es (u .facts-say) (came .stands) (came .events))
 
           pub going-end : r .number ≡ 0 → Going c s elements index rows places facts d numbers numbers′ bytes bytes′ (r .events) after (r .open)
           going-end = going-on (end-range q) (t .brings) (t .few) ended
@@ -247,20 +247,20 @@ module _ {c : Settings} {s elements index rows places facts d numbers numbersNow
 
       ends : {x : Reading (List Event)} (es : List Element) (i : Indexed s es elements index) (u : Tables s es rows places facts) → closedOf at (r .number) (g .any es i u .events ++ t .brings .events) ≡ x → document c s es (decided s es) d ≡ x
       ends es i u e =
-          let comes = g .any es i u in
-          reaches-end (comes .reaches) whole (ap (λ (n : ℕ). endDocument s es (decided s es) n (stateOf o (comes .events))) (sym whole) ∙ sym (t .ends s es (u .facts-say) (comes .stands) (comes .events)) ∙ e)
+          let came = g .any es i u in
+          reaches-end (came .reaches) whole (ap (λ (n : ℕ). endDocument s es (decided s es) n (stateOf o (came .events))) (sym whole) ∙ sym (t .ends s es (u .facts-say) (came .stands) (came .events)) ∙ e)
 
       pub end-refuses : (r .number ≡ 0 → ⊥) → {answer : Counted} → answer ≡ counted.Refused (record { number = r .number; at = at }) → (es : List Element) → Indexed s es elements index → Tables s es rows places facts → EventsOf c s es d numbers numbers′ bytes bytes′ answer
       end-refuses z q es i u = rw q (ends es i u (closedOf-refused at (r .number) (g .any es i u .events ++ t .brings .events) (omega arith)))
 
       pub end-counts : length d ≤ 65535 → r .number ≡ 0 → (es : List Element) → Indexed s es elements index → Tables s es rows places facts → EventsOf c s es d numbers numbers′ bytes bytes′ (counted.Events (r .events))
       end-counts small z es i u =
-          let comes = g .any es i u in
+          let came = g .any es i u in
           let b = t .brings in
-          let held = b .puts .behind numbers bytes (comes .events) (comes .counted) (comes .holds) in (
-            comes .events ++ b .events,
-            ends es i u (ap (λ (n : ℕ). closedOf at n (comes .events ++ b .events)) z),
-            omega (arith, length-append (comes .events) (b .events), comes .counted, b .counted),
+          let held = b .puts .behind numbers bytes (came .events) (came .counted) (came .holds) in (
+            came .events ++ b .events,
+            ends es i u (ap (λ (n : ℕ). closedOf at n (came .events ++ b .events)) z),
+            omega (arith, length-append (came .events) (b .events), came .counted, b .counted),
             held .numbers-hold,
             held .bytes-hold,
             omega (arith, b .counted, t .few, g .few, g .inside),

@@ -2,7 +2,7 @@
 use mathlib.Core.Path.{subst}
 use native.Mathlib.Omega.{arith}
 use Rattle.rules.specs.Reader.{BothLegible}
-use Rattle.inputs.specs.Means.{Checks}
+use Rattle.inputs.specs.Means.{settingsOf, Checks}
 use Rattle.document_reader.specs.Laws.{judges-accepted, judges-malformed, judges-ambiguous}
 use borrow.Author.Needs.{needs}
 use Rattle.document_reader.proofs.judged.Statement.{statement}
@@ -11,29 +11,29 @@ use Rattle.document_reader.proofs.judged.Tie as tie
 -- Neither input is too long, and every byte is allowed.
 legible : (c : tie.After-enum-told) →
     let a = c .before .before .before .before .before .args in
-    BothLegible (a .s .now) (a .d .now)
+    BothLegible (settingsOf (a .c)) (a .s .now) (a .d .now)
 legible c =
     let a = c .before .before .before .before .before .args in
-    subst (Checks (a .s .now) (a .d .now)) (c .enum-told .given .1) (c .before .before .check .ensures)
+    subst (Checks (settingsOf (a .c)) (a .s .now) (a .d .now)) (c .enum-told .given .1) (c .before .before .check .ensures)
 
 check-requires : tie.Need-check-requires
 check-requires c κs = search needs
 
-enum-known-c : tie.Need-enum-known-c
-enum-known-c c = search needs
+enum-known-g : tie.Need-enum-known-g
+enum-known-g c = search needs
 
 returns : tie.Need-returns
 returns c =
     let a = c .before .before .before .before .before .before .args in
-    subst (Checks (a .s .now) (a .d .now)) (c .before .c .given .1) (c .before .before .before .check .ensures) .1
+    subst (Checks (settingsOf (a .c)) (a .s .now) (a .d .now)) (c .before .g .given .1) (c .before .before .before .check .ensures) .1
 
-enum-known-c-2 : tie.Need-enum-known-c-2
-enum-known-c-2 c = search needs
+enum-known-g-2 : tie.Need-enum-known-g-2
+enum-known-g-2 c = search needs
 
 returns-2 : tie.Need-returns-2
 returns-2 c =
     let a = c .before .before .before .before .before .before .args in
-    subst (Checks (a .s .now) (a .d .now)) (c .before .c2 .given .1) (c .before .before .before .check .ensures) .1
+    subst (Checks (settingsOf (a .c)) (a .s .now) (a .d .now)) (c .before .g2 .given .1) (c .before .before .before .check .ensures) .1
 
 enum-told : tie.Need-enum-told
 enum-told c = search needs
@@ -70,9 +70,9 @@ judged-spec =
     tie.close
     (tie.spec
     check-requires
-    enum-known-c
+    enum-known-g
     returns
-    enum-known-c-2
+    enum-known-g-2
     returns-2
     enum-told
     decide-legible-requires
