@@ -199,10 +199,10 @@ module _ {c : Settings} {s elements index rows places facts d numbers numbersNow
         asked (f, k, m) = (f, omega arith, omega arith, omega (arith, g .few))
 
         pub token-asked : p ≡ found.Token x after → Ranged o × (x ≤ 64) × (at ≤ after) × (after < 4294967296) × (n + 50 < 4294967296)
-        token-asked q = let (a, b, k, e) = asked (rw q at onward) in (g .ranged, a, b, k, e)
+        token-asked q = let (a, b, c, e) = asked (rw q at onward) in (g .ranged, a, b, c, e)
 
         pub end-asked : p ≡ found.End x after → Ranged o × (at ≤ after) × (after < 4294967296) × (x ≤ 64) × (n + 50 < 4294967296)
-        end-asked q = let (a, b, k, e) = asked (rw q at onward) in (g .ranged, b, k, a, e)
+        end-asked q = let (a, b, c, e) = asked (rw q at onward) in (g .ranged, b, c, a, e)
 
       module _ {x after : ℕ} {r : Outcome} {numbers′ bytes′ : List ℕ} where
         -- A start tag or a run of data.
