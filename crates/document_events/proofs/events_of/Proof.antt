@@ -29,7 +29,7 @@ piece-at-requires : tie.Need-piece-at-requires Inv-loop μ-loop
 piece-at-requires c κs =
     let g = c .before .loop .inv in
     let p = c .before .before .before .before .before .before .before .pre in
-    (p .0, g .ranged .element, g .ranged .place, omega (arith, c .loop-test .taken), p .1, p .2)
+    (p .0, p .1, g .ranged .element, g .ranged .place, omega (arith, c .loop-test .taken), p .2)
 
 enum-known-p : tie.Need-enum-known-p Inv-loop μ-loop
 enum-known-p c = search needs
