@@ -61,7 +61,7 @@ module _ {c : Settings} (s d : List ℕ) (b : BothLegible c s d) where
 
 -- The document
 
-module _ {c : Settings} (s d numbers numbersAfter bytes bytesAfter : List ℕ) where
+module _ (c : Settings) (s d numbers numbersAfter bytes bytesAfter : List ℕ) where
   -- Where the type is refused nothing is read.
   pub answers-refused : (elements : List ℕ) (v : Answer) → Judges c s d elements v → ((n : ℕ) → v ≡ answer.Accepted n → ⊥) → Answers c s d numbers numbersAfter bytes bytesAfter v
   answers-refused elements (answer.Accepted n) h other = absurd (other n refl)
@@ -69,7 +69,7 @@ module _ {c : Settings} (s d numbers numbersAfter bytes bytesAfter : List ℕ) w
   answers-refused elements (answer.Ambiguous x) h other = h
   answers-refused elements (answer.InDocument f) h other = h
 
-  module _ (es : List Element) (b : BothLegible c s d) (a : Accepts c s es) (r : Counted) (h : EventsOf c s es d numbers numbersAfter bytes bytesAfter c) where
+  module _ (es : List Element) (b : BothLegible c s d) (a : Accepts c s es) (r : Counted) (h : EventsOf c s es d numbers numbersAfter bytes bytesAfter r) where
     pub answers-events : (n : ℕ) → r ≡ counted.Events n → Answers c s d numbers numbersAfter bytes bytesAfter (answer.Accepted n)
     answers-events n e =
         let (ev, i, k, x, y, f) = rw e at h in
@@ -166,7 +166,7 @@ room-same Lent.numbers x y e = e
 room-same Lent.bytes x y e = ap (λ (n : ℕ). n / 4) e
 
 -- What is lent holds the events that were counted, if they fit.
-module _ (l : Lent) {c : Settings} (s d numbers numbersAfter bytes bytesAfter : List ℕ) (v a : Answer) (h : Answers c s d numbers numbersAfter bytes bytesAfter v) where
+module _ (l : Lent) (c : Settings) (s d numbers numbersAfter bytes bytesAfter : List ℕ) (v a : Answer) (h : Answers c s d numbers numbersAfter bytes bytesAfter v) where
   abbrev before : List ℕ
   before = lentOf l numbers bytes
 

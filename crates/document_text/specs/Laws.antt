@@ -1,22 +1,17 @@
--- Laws of the rules' pieces: each way that reading goes, and where it ends.
-use Prim.Native.Nat.{ℕ, zero, suc, _+_, _-_, _≤_, _<_}
-use mathlib.Core.Path.{_≡_, refl, sym, ap, _∙_}
-use mathlib.Core.Bool.{Bool, true, false, not, _&&_, _||_, true≢false}
+-- Laws of the rules' pieces: each way that reading goes.
+use Prim.Native.Nat.{ℕ, _+_}
+use mathlib.Core.Path.{_≡_, sym, ap, _∙_}
+use mathlib.Core.Bool.{true, false, _&&_, _||_}
 use mathlib.Core.List.{List}
-use native.Mathlib.Omega.{arith}
-use native.Mathlib.Nat.{add-zero, not-suc-le-zero}
-use lib.ListN.{length}
 use lib.Dec.{eqb}
-use borrow.Author.Tests.{eq-eqb, ne-eqb, lt-ltb, le-ltb}
+use borrow.Author.Tests.{eq-eqb, ne-eqb}
 use Rattle.rules.specs.Settings.{Settings}
-use Rattle.rules.specs.Bytes.{byteAt, letter, nameEnd, separatorsEnd}
-use Rattle.rules.specs.Reading.{Reading, refused, got, andThen}
+use Rattle.rules.specs.Bytes.{byteAt, letter}
+use Rattle.rules.specs.Reading.{Reading, refused, got}
 use Rattle.rules.specs.TypeFile.{atDashes, commentDeclaration}
 use Rattle.rules.specs.Document.{Tag, Piece, startTag, endTag, skipped, blank, dataByte, tag, malformed, declarationPiece, markupPiece, isReference, isSectionEnd, bytePiece, piece}
 use Rattle.text.specs.Means.{refusalOf}
 use Rattle.text.specs.declared.Fault.{Fault}
-use Rattle.rules_laws.specs.Holds.{got-so}
-use Rattle.rules_laws.specs.Pieces.{TagRead, piece-read}
 use Rattle.tags.specs.Tags.{tagIn}
 use Rattle.tags.specs.declared.Tag as here
 use Rattle.document_text.specs.Means.{pieceOf, asStartTag, asEndTag, asSkipped}
@@ -100,34 +95,6 @@ module _ (c : Settings) (s : List ℕ) (i : ℕ) where
       pub piece-byte : isSectionEnd s i ≡ false → bytePiece s i ≡ piece c s i
       unfolding piece
       piece-byte e = rw (piece, ne-eqb _ _ h, r, e)
-
--- A tag behind i: its name begins behind i, and ends before the tag does.
-abbrev pub TagIn : (len i : ℕ) → Tag → Type 0
-TagIn len i t = (i < t .name) × (t .name + t .size < t .after) × (t .after ≤ len)
-
--- A piece moves on and stays within the document.
-module _ (c : Settings) (s : List ℕ) (i : ℕ) (h : i < length s) where
-  tag-in : {t : Tag} → TagRead s i t → TagIn (length s) i t
-  tag-in r = (r .behind, r .ends, r .inside)
-
-  pub start-tag-in : (t : Tag) → piece c s i ≡ got (startTag t) → TagIn (length s) i t
-  start-tag-in t q = tag-in (got-so (piece-read c s i h) q)
-
-  pub end-tag-in : (t : Tag) → piece c s i ≡ got (endTag t) → TagIn (length s) i t
-  end-tag-in t q = tag-in (got-so (piece-read c s i h) q)
-
-  pub start-tag-range : (t : Tag) → piece c s i ≡ got (startTag t) → (i < t .after) × (t .after ≤ length s)
-  start-tag-range t q =
-      let r = start-tag-in t q in
-      (omega (arith, r), r .2)
-
-  pub end-tag-range : (t : Tag) → piece c s i ≡ got (endTag t) → (i < t .after) × (t .after ≤ length s)
-  end-tag-range t q =
-      let r = end-tag-in t q in
-      (omega (arith, r), r .2)
-
-  pub skipped-range : (e : ℕ) → piece c s i ≡ got (skipped e) → (i < e) × (e ≤ length s)
-  skipped-range e q = omega (arith, got-so (piece-read c s i h) q)
 
 -- A token by cases: what the rules read, where the code's answer is known.
 module _ {x : Reading Piece} {r : Token} (e : pieceOf r ≡ x) where

@@ -112,17 +112,17 @@ module _ {c : Settings} (s : List ℕ) (es : List Element) (accepted : Accepts c
         around = all-say (o .around) (o .count) (z .around) (λ k l. h .kept k (omega arith)) (ap (λ (y : State). y .around) e) (b .around);
       }
 
-  -- "At every moment both must equal what 01's definition says of the places taken": reading the document d has come to `at`, and the rules,
-  -- by whatever decisions mean the walks, come there with the state z, of which the marks say what the walks say.
-  pub record AtMoment (d : List ℕ) (at : ℕ) (o : Open) : Type 0 where
+  -- "At every moment both must equal what 01's definition says of the places taken": reading the document d, under any settings, has come to `at`,
+  -- and the rules, by whatever decisions mean the walks, come there with the state z, of which the marks say what the walks say.
+  pub record AtMoment (given : Settings) (d : List ℕ) (at : ℕ) (o : Open) : Type 0 where
     pub state : State
-    pub passes : (D : Decisions) → Means s es D → Passes c s es D d at state
+    pub passes : (D : Decisions) → Means s es D → Passes given s es D d at state
     pub marks : MarksSay es o state
 
   -- `Reaches` and `Stands` hold before the first token (`reaches-start`, `stands-fresh`), and by the contracts of `settling::token` and
   -- `closing::end_tag` after each that is not refused: `Going` and `Turned` of document_events have both.
-  pub at-every-moment : (d : List ℕ) (at : ℕ) (o : Open) (ev : List Event) → Stands es o → Reaches c s es d at (stateOf o ev) → AtMoment d at o
-  at-every-moment d at o ev h r =
+  pub at-every-moment : (given : Settings) (d : List ℕ) (at : ℕ) (o : Open) (ev : List Event) → Stands es o → Reaches given s es d at (stateOf o ev) → AtMoment given d at o
+  at-every-moment given d at o ev h r =
       let means = accepted-decided s es accepted in
       let f = r .follows in
       record {

@@ -12,11 +12,11 @@ use Rattle.document_reader.proofs.answered.Tie as tie
 accepted : (c : tie.After-known-told) →
     let j = c .before .before .before in
     let a = j .before .before .before .before .before .before .args in
-    Judges (settingsOf (a .c)) (a .s .now) (a .d .now) (j .judged .last .1 .1 .0) (Accepted (c .before .v .given .0 .0))
+    Judges (settingsOf (a .c)) (a .s .now) (a .d .now) (j .judged .last .1 .1 .1 .0) (Accepted (c .before .v .given .0 .0))
 accepted c =
     let j = c .before .before .before in
     let a = j .before .before .before .before .before .before .args in
-    subst (Judges (settingsOf (a .c)) (a .s .now) (a .d .now) (j .judged .last .1 .1 .0)) (c .before .v .given .1) (j .judged .ensures)
+    subst (Judges (settingsOf (a .c)) (a .s .now) (a .d .now) (j .judged .last .1 .1 .1 .0)) (c .before .v .given .1) (j .judged .ensures)
 
 judged-requires : tie.Need-judged-requires
 judged-requires c κs = search needs
@@ -27,7 +27,7 @@ enum-known-v c = search needs
 returns : tie.Need-returns
 returns c =
     let j = c .before in
-    answers-refused _ _ _ _ _ _ (j .judged .last .1 .1 .0) (j .judged .result) (j .judged .ensures)
+    answers-refused _ _ _ _ _ _ _ (j .judged .last .1 .1 .1 .0) (j .judged .result) (j .judged .ensures)
     (λ n e. not-first (rw e at (c .match .keys2)))
 
 read-under-requires : tie.Need-read-under-requires
@@ -51,7 +51,7 @@ returns-2 : tie.Need-returns-2
 returns-2 c =
     let e = c .before .before .before .before .before .before .before in
     let (es, b, a, k, w) = accepted (e .before .before .before .before) in
-    answers-events _ _ _ _ _ _ es b a (e .read-under .result) (e .read-under .ensures es a (sym k) w) _ (c .before .r .given .1)
+    answers-events _ _ _ _ _ _ _ es b a (e .read-under .result) (e .read-under .ensures es a (sym k) w) _ (c .before .r .given .1)
 
 same-length-3 : tie.Need-same-length-3
 same-length-3 c = search needs
@@ -63,7 +63,7 @@ returns-3 : tie.Need-returns-3
 returns-3 c =
     let e = c .before .before .before .before .before .before .before in
     let (es, b, a, k, w) = accepted (e .before .before .before .before) in
-    answers-unsettled _ _ _ _ _ _ es b a (e .read-under .result) (e .read-under .ensures es a (sym k) w) _ (c .before .r2 .given .1)
+    answers-unsettled _ _ _ _ _ _ _ es b a (e .read-under .result) (e .read-under .ensures es a (sym k) w) _ (c .before .r2 .given .1)
 
 pub answered-spec : {M : Type 1} → statement M
 answered-spec =
