@@ -9,7 +9,7 @@ ghost use mathlib.Core.List.{List};
 ghost use Prim.Native.Nat.{_+_, _-_, _*_, _≤_, _<_};
 ghost use lib.ListN.{length, getD, replicate};
 ghost use Rattle.rules.specs.Bytes.{byteAt, sameText};
-ghost use Rattle.rules.specs.Settings.{Settings};
+ghost use Rattle.rules.specs.Settings.{Settings, mostNameLength};
 ghost use Rattle.rules.specs.TypeFile.{Element};
 ghost use Rattle.rules.specs.Judge.{Accepts};
 ghost use Rattle.rules.specs.Elements.{numberOf};
@@ -20,7 +20,7 @@ ghost use Rattle.element_index.specs.Means.{Judged, bucketOf, follows, I
 
 // The bucket of a name by its first byte and its length, 1 to 32. Letters that fold to one another are in the same.
 fn bucket(first: u8, size: usize) -> usize
-    requires { ⌜ (1 ≤ size) × (size ≤ 32) ⌝ }
+    requires { ⌜ (1 ≤ size) × (size ≤ mostNameLength) ⌝ }
     ensures { λ r. ⌜ (r ≡ 65 + bucketOf first size) × (r < INDEX) ⌝ }
 {
     65 + (size - 1) * 32 + numbers::wide(first % 32)
@@ -63,7 +63,7 @@ pub struct Found {
 // Whether the element k comes behind the one before it, and a name of this size stands in s where its record says. In the index of a type
 // it does. Where the tables hold anything else, a search still ends and stays within them.
 fn comes_next(s: &[u8], elements: &[u32; RECORDS], before: usize, k: usize, size: usize) -> bool
-    requires { ⌜ size ≤ 32 ⌝ }
+    requires { ⌜ size ≤ mostNameLength ⌝ }
     ensures { λ r. ⌜ r ≡ follows (now (s .entry)) (now (elements .entry)) before k size ⌝ }
 {
     if k <= before {
@@ -86,7 +86,7 @@ pub fn find(
     at: usize,
     size: usize,
 ) -> Found
-    requires { ⌜ (1 ≤ size) × (size ≤ 32) × (at + size ≤ length (now t)) ⌝ }
+    requires { ⌜ (1 ≤ size) × (size ≤ mostNameLength) × (at + size ≤ length (now t)) ⌝ }
     ensures { λ r. ⌜ ((es : List Element) → Indexed (now (s .entry)) es (now (elements .entry)) (now (index .entry)) →
         (r .element ≡ numberOf (now (s .entry)) es (now (t .entry)) at size) × (r .compared ≡ compared (now (s .entry)) es (now (t .entry)) at size)) ⌝ }
     ensures { λ r. ⌜ (r .element ≤ 64) × (r .compared ≤ 64) ⌝ }
@@ -120,7 +120,7 @@ pub fn find(
 
 // The element k comes before those of its bucket that are there.
 fn put_index(s: &[u8], elements: &[u32; RECORDS], index: &mut [u8; INDEX], k: usize)
-    requires { ⌜ (1 ≤ k) × (k ≤ 64) × (1 ≤ getD (now elements) (6 * (k - 1) + 1) 0) × (getD (now elements) (6 * (k - 1) + 1) 0 ≤ 32) ⌝ }
+    requires { ⌜ (1 ≤ k) × (k ≤ 64) × (1 ≤ getD (now elements) (6 * (k - 1) + 1) 0) × (getD (now elements) (6 * (k - 1) + 1) 0 ≤ mostNameLength) ⌝ }
     ensures { λ _. ⌜ now (index .exit) ≡ putIn (now (index .entry))
         (bucketOf (byteAt (now (s .entry)) (getD (now (elements .entry)) (6 * (k - 1)) 0)) (getD (now (elements .entry)) (6 * (k - 1) + 1) 0)) k ⌝ }
 {
