@@ -1,5 +1,5 @@
 // How large the tables are that are lent from crate to crate. A quantity of the paper that changes is changed here and in
-// `rules/specs/Bytes.antt`; `specs/Sizes.antt` has the same names for the laws.
+// `rules/specs/Bytes.antt`, the longest name in `rules/specs/Settings.antt`; `specs/Sizes.antt` has the sizes for the laws.
 
 // The longest name under any settings; the content tokens of a model; the declared elements.
 pub const NAMES_TO: usize = 32;
