@@ -2,7 +2,7 @@
 // `rules/specs/Bytes.antt`, the longest name in `rules/specs/Settings.antt`; `specs/Sizes.antt` has the sizes for the laws.
 
 // The longest name under any settings; the content tokens of a model; the declared elements.
-pub const NAMES_TO: usize = 32;
+pub const MOST_NAME_LENGTH: usize = 32;
 
 pub const GRPGTCNT: usize = 96;
 
@@ -33,7 +33,7 @@ pub const NUMBER: usize = 4;
 pub const CONTENTS: usize = ELEMENTS + 1;
 
 // The elements by name: a link for each, and a bucket for each length of a name and each first letter.
-pub const INDEX: usize = CONTENTS + 32 * NAMES_TO;
+pub const INDEX: usize = CONTENTS + 32 * MOST_NAME_LENGTH;
 
 // The tables of a type: of each content and position a row of bits with the required place; of each content and place a name
 // and a link; of each content a place for each name, and three facts.
