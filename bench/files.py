@@ -39,6 +39,19 @@ write("largest-sequence", elements(64, model(96, ",", ",")))
 write("largest-choice", elements(64, model(96, ",", "|")))
 write("largest-optional", elements(64, model(96, ",", ",", "?")))
 write("largest-repeated", elements(64, model(96, "|", "|") + "+"))
+
+
+def three_groups(connector, suffix=""):
+    """A content model of three groups of 32, two of them in the third, all joined by the connector."""
+    inner = ["(" + tokens(32 * g, 32, connector, suffix) + ")" for g in range(2)]
+    return "(" + connector.join(inner + [tokens(64, 30, connector, suffix)]) + ")"
+
+
+write("three-of-32-sequence", elements(64, three_groups(",")))
+write("three-of-32-and", elements(64, three_groups("&")))
+# Names that stand in each of 32 groups: the rows leave pairs of them open, and the judge looks at each.
+write("shared-and", elements(64, "(" + ",".join("(A&N%d)" % k for k in range(32)) + ")"))
+write("shared-sequence", elements(64, "(" + ",".join("(A,N%d)" % k for k in range(32)) + ")"))
 for n in (8, 16, 32, 64, 96):
     write("tokens-%02d" % n, elements(64, model(n, ",", "|")))
 
@@ -70,3 +83,33 @@ document("tiny", [("clamp", "40"), ("tape", "")])
 document("plain", [(("gauze swab 10x10 and adhesive tape; " * 2000)[:65000], "")])
 for n in (1, 2, 4, 8, 16, 32, 65):
     document("growth-%02d" % n, catalogue(n * 1000))
+
+
+# The same documents under "," groups and under "&" groups: small groups, groups of 32, and groups in groups.
+def supply(name, model_of, item, children):
+    """Types with the model joined by "," and by "&", and a document of items that both accept."""
+    for connector, kind in ((",", "sequence"), ("&", "and")):
+        head = "<!ELEMENT LIST O O (ITEM+)>\n<!ELEMENT ITEM - O %s>\n" % model_of(connector)
+        write("supply-%s-%s" % (name, kind), head + children, ".dtd")
+    write("supply-" + name, item * (36000 // len(item)), ".sgm")
+
+
+def empty(n):
+    return "".join("<!ELEMENT N%d - O EMPTY>\n" % k for k in range(n))
+
+
+TEXTS = "".join("<!ELEMENT %s - O (#PCDATA)>\n" % n for n in ("NAME", "QTY", "UNIT"))
+supply("small", lambda c: "(" + c.join(("NAME", "QTY", "UNIT?")) + ")", "<ITEM><NAME>tape</NAME><QTY>40</QTY><UNIT>m</UNIT></ITEM>", TEXTS)
+supply("wide", lambda c: "(" + tokens(0, 32, c) + ")", "<ITEM>" + "".join("<N%d>" % k for k in range(32)), empty(32))
+supply("optional", lambda c: "(" + tokens(0, 32, c, "?") + ")", "<ITEM><N3><N17><N30>", empty(32))
+supply("nested", lambda c: "(" + c.join("(" + tokens(10 * g, 10, c) + ")" for g in range(3)) + ")", "<ITEM>" + "".join("<N%d>" % k for k in range(30)), empty(30))
+
+
+def deep(c):
+    group = "N0"
+    for k in range(1, 16):
+        group = "(%s%sN%d)" % (group, c, k)
+    return group
+
+
+supply("deep", deep, "<ITEM>" + "".join("<N%d>" % k for k in range(16)), empty(16))

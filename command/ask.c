@@ -62,11 +62,11 @@ void begin_question(struct question *q, const struct input *type, const struct i
     q->elements = sgml_judge(type->bytes, type->length, q->records, sizeof q->records, answer, name_limit) ? 0 : answer[SGML_ANSWER_COUNT];
 }
 
-/* 3 to 8 come by position, and before 9 and 19: so a word is unfit exactly if one of them stands at it or before it. */
+/* 3 to 8 come by position, and before 25, 9 and 19: so a word is unfit exactly if one of them stands at it or before it. */
 int may_stand(const struct input *type, size_t cut, const char *tail, size_t before)
 {
     struct reply r = ask_type(type, cut, tail);
-    return r.number == SGML_ERR_NO_ROOM || r.number == SGML_ERR_AMBIGUOUS ||
+    return r.number == SGML_ERR_NO_ROOM || r.number == SGML_ERR_AMBIGUOUS || r.number == SGML_ERR_REPEATED ||
            (r.number >= SGML_ERR_NAME_TOO_LONG && r.position > cut + before);
 }
 

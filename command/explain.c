@@ -120,8 +120,6 @@ static void left_out(const struct fault *f)
     else if (byte == '&' && input == f->document)
         fprintf(f->to, "&%s is a reference to an entity, which is not supported; %s& %s", name_at(input, f->at + 1),
                 "for the character itself write a space behind it: ", name_at(input, f->at + 1));
-    else if (byte == '&')
-        fprintf(f->to, "the connector \"&\" is not supported; \",\" and \"|\" are");
     else if (byte == '(')
         fprintf(f->to, "a declaration of several elements at once is not supported; declare each by itself");
     else if (byte == '[')
@@ -154,6 +152,8 @@ void explain(FILE *to, const struct input *type, const struct input *document, c
     uint32_t number = answer[SGML_ANSWER_NUMBER];
     if (number == SGML_ERR_SETTINGS)
         not_offered(&f);
+    else if (number == SGML_ERR_REPEATED)
+        fprintf(to, "this \"&\" stands in what \"+\" or \"*\" repeats; the members of an \"&\" group stand once each");
     else if (number && number < sizeof texts / sizeof *texts)
         texts[number](&f);
     else

@@ -18,7 +18,7 @@ static int fits(const struct fault *f, const char *word)
 static void put_fitting(const struct fault *f)
 {
     static const char *const words[] = {
-        "-", "O", "EMPTY", "(", "#PCDATA", ",", "|", ")", ">", "<!ELEMENT", "!ELEMENT", "ELEMENT", "<!-- -->",
+        "-", "O", "EMPTY", "(", "#PCDATA", ",", "|", "&", ")", ">", "<!ELEMENT", "!ELEMENT", "ELEMENT", "<!-- -->",
     };
     struct list list = { "", 0, 0 };
     int is_name = fits(f, "A");

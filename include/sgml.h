@@ -69,7 +69,7 @@ enum {
     SGML_GRPLVL = 16,            /* levels of model groups */
     SGML_GRPGTCNT = 96,          /* content tokens in a content model */
     SGML_TAGLVL = 24,            /* open elements */
-    SGML_STACK_BYTES = 160 * 1024 /* of stack that a call takes at most; measured, not proved */
+    SGML_STACK_BYTES = 176 * 1024 /* of stack that a call takes at most; measured, not proved */
 };
 
 /* How large things are: in 32-bit numbers, and as bytes of a lent buffer, four to a number. */
@@ -111,7 +111,7 @@ enum sgml_answer {
 /* The inputs of a call, as answer[SGML_ANSWER_INPUT] names them. */
 enum sgml_input { SGML_IN_NEITHER = 0, SGML_IN_TYPE = 1, SGML_IN_DOCUMENT = 2 };
 
-/* The refusals. 1 to 5 are of a type file or a document, 6 to 9 of a type file, 10 to 18 of a document; 24 is of neither, and
+/* The refusals. 1 to 5 are of a type file or a document, 6 to 9 and 25 of a type file, 10 to 18 of a document; 24 is of neither, and
  * answered as position 0 of the type file. */
 enum sgml_refusal {
     SGML_ACCEPTED = 0,
@@ -134,7 +134,8 @@ enum sgml_refusal {
     SGML_ERR_SECTION_END = 17,      /* "]]>" outside tags and comments: its first byte */
     SGML_ERR_NO_DOCUMENT = 18,      /* no document element: the document's length */
     SGML_ERR_NO_ROOM = 19,          /* the lent buffer is too small; position 0 */
-    SGML_ERR_SETTINGS = 24          /* name_length is not one of SGML_NAMELEN to SGML_MOST_NAMELEN: position 0 of the type file */
+    SGML_ERR_SETTINGS = 24,         /* name_length is not one of SGML_NAMELEN to SGML_MOST_NAMELEN: position 0 of the type file */
+    SGML_ERR_REPEATED = 25          /* an "&" group in something that carries "+" or "*", or that carries one: the first such "&" */
 };
 
 /* A refusal's number in words. */
@@ -162,6 +163,7 @@ static inline const char *sgml_refusal_text(uint32_t number)
     case SGML_ERR_NO_DOCUMENT: return "there is no document element";
     case SGML_ERR_NO_ROOM: return "the lent buffer is too small";
     case SGML_ERR_SETTINGS: return "a length of names that is not offered";
+    case SGML_ERR_REPEATED: return "an \"&\" group that is repeated";
     default: return "no refusal has this number";
     }
 }

@@ -87,6 +87,7 @@ static void check_texts(void)
         "no refusal has this number",
         "no refusal has this number",
         "a length of names that is not offered",
+        "an \"&\" group that is repeated",
         "no refusal has this number",
     };
     uint32_t number;

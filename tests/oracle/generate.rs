@@ -277,17 +277,25 @@ fn group(members: Vec<Token>, connector: char, indicator: &'static str) -> Token
 }
 
 fn sound_group(random: &mut Random, bag: &mut Bag, level: usize) -> Token {
-    let connector = if random.percent(60) { ',' } else { '|' };
+    let connector = random.pick(&[",", ",", "&", "|"]).chars().next();
     let count = *random.pick(&[&1, &2, &2, &3, &4]);
     let mut members = vec![sound_token(random, bag, level)];
     while members.len() < count && !bag.names.is_empty() {
         members.push(sound_token(random, bag, level));
     }
-    group(
-        members,
-        connector,
-        random.pick(&["", "", "", "?", "*", "+"]),
-    )
+    let mut group = group(members, connector.unwrap_or(','), "");
+    // Where it would be number 25 it is now and then written all the same.
+    group.indicator = if has_and(&group) && random.percent(95) {
+        random.pick(&["", "", "?"])
+    } else {
+        random.pick(&["", "", "", "?", "*", "+"])
+    };
+    group
+}
+
+/// There is an "&" in the token.
+fn has_and(token: &Token) -> bool {
+    token.connector == '&' && token.members.len() > 1 || token.members.iter().any(has_and)
 }
 
 fn sound_token(random: &mut Random, bag: &mut Bag, level: usize) -> Token {
@@ -315,7 +323,11 @@ fn limit_type(random: &mut Random) -> Type {
         SOME_DATA,
     )];
     match random.below(7) {
-        0 => elements[0].model = Some(wide_group(random.between(31, 33), "N")),
+        0 => {
+            let mut wide = wide_group(random.between(31, 33), "N");
+            wide.connector = *random.pick(&[&'|', &'&']);
+            elements[0].model = Some(wide)
+        }
         1 => elements[0].model = Some(deep_group(random, 15)),
         2 => elements[0].model = Some(many_tokens(random)),
         3 => {
@@ -793,8 +805,13 @@ impl TreeWriter<'_> {
             let member = random.below(token.members.len());
             return self.token(random, &token.members[member], depth);
         }
-        for member in &token.members {
-            self.token(random, member, depth);
+        let mut members: Vec<&Token> = token.members.iter().collect();
+        while !members.is_empty() {
+            let next = match token.connector {
+                '&' => random.below(members.len()),
+                _ => 0,
+            };
+            self.token(random, members.remove(next), depth);
         }
     }
 

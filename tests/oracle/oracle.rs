@@ -160,7 +160,7 @@ fn check_bytes(bytes: &[u8], input: u32) -> Result<(), Refusal> {
     }
 }
 
-/// Numbers 3 to 8 over the whole type file, then 9 over its models in turn.
+/// Numbers 3 to 8 over the whole type file, then 25, then 9 over its models in turn.
 fn judged(name_length: u32, type_file: &[u8]) -> Result<Vec<Element>, Refusal> {
     let elements = TypeReader {
         longest: name_length as usize,
@@ -170,7 +170,11 @@ fn judged(name_length: u32, type_file: &[u8]) -> Result<Vec<Element>, Refusal> {
     }
     .elements()
     .map_err(|(position, number)| Refusal::new(number, IN_TYPE, position))?;
-    for model in elements.iter().filter_map(|element| element.model.as_ref()) {
+    let models = || elements.iter().filter_map(|element| element.model.as_ref());
+    if let Some(position) = models().filter_map(|model| model.repeated).min() {
+        return Err(Refusal::new(25, IN_TYPE, position));
+    }
+    for model in models() {
         if let Some((first, second)) = model.pair_at_fault() {
             let position = model.places[second].position;
             let pair = (first + 1, second + 1);
@@ -262,14 +266,17 @@ enum Occurrence {
 enum Connector {
     Sequence,
     Choice,
+    AnyOrder,
 }
 
 /// A content token, or the outermost group, without its occurrence indicator.
+#[derive(Clone)]
 enum Form {
     Place(usize),
     Group(Connector, Vec<usize>),
 }
 
+#[derive(Clone)]
 struct ContentToken {
     form: Form,
     occurrence: Occurrence,
@@ -285,6 +292,10 @@ struct Place {
 struct Model {
     tokens: Vec<ContentToken>,
     places: Vec<Place>,
+    /// Where each "&" stands.
+    ands: Vec<usize>,
+    /// The first of them in something that carries "+" or "*".
+    repeated: Option<usize>,
 }
 
 /// One thing still to be walked.
@@ -296,6 +307,8 @@ enum Due {
     Again(usize),
     /// The members of a sequence group from a given one on.
     Members(usize, usize),
+    /// The members of an "&" group that are left, as bits, in any order.
+    Left(usize, u32),
 }
 
 /// All that is still to be walked, in turn, the next thing last.
@@ -352,8 +365,30 @@ impl Model {
                     }
                 }
             }
+            Due::Left(group, left) => {
+                for (index, member) in self.those_left(group, left) {
+                    let others = left & !(1 << index);
+                    if others != 0 {
+                        below.push(Due::Left(group, others));
+                    }
+                    self.enter(Due::Token(member), below, next);
+                    below.truncate(depth);
+                }
+            }
         }
         below.truncate(depth);
+    }
+
+    /// The members of an "&" group that are left, with their indexes.
+    fn those_left(&self, group: usize, left: u32) -> Vec<(usize, usize)> {
+        let members = self.members(group).iter().copied().enumerate();
+        members.filter(|(index, _)| left >> index & 1 == 1).collect()
+    }
+
+    /// All members of an "&" group are left.
+    fn all_left(&self, group: usize) -> Due {
+        let left = (1u64 << self.members(group).len()) - 1;
+        Due::Left(group, left as u32)
     }
 
     fn enter_form(&self, token: usize, below: &mut Stack, next: &mut BTreeMap<usize, Remainder>) {
@@ -367,6 +402,7 @@ impl Model {
                     self.enter(Due::Token(member), below, next);
                 }
             }
+            Form::Group(Connector::AnyOrder, _) => self.enter(self.all_left(token), below, next),
         }
     }
 
@@ -395,6 +431,10 @@ impl Model {
             Due::Members(group, from) => self.members(group)[from..]
                 .iter()
                 .all(|&member| self.can_avoid(Due::Token(member), avoided)),
+            Due::Left(group, left) => self
+                .those_left(group, left)
+                .iter()
+                .all(|&(_, member)| self.can_avoid(Due::Token(member), avoided)),
             Due::Token(token) => match (self.tokens[token].occurrence, &self.tokens[token].form) {
                 (Occurrence::Optional | Occurrence::AnyNumber, _) => true,
                 (_, Form::Place(place)) => !avoided(*place),
@@ -404,6 +444,9 @@ impl Model {
                 (_, Form::Group(Connector::Choice, members)) => members
                     .iter()
                     .any(|&member| self.can_avoid(Due::Token(member), avoided)),
+                (_, Form::Group(Connector::AnyOrder, _)) => {
+                    self.can_avoid(self.all_left(token), avoided)
+                }
             },
         }
     }
@@ -426,16 +469,107 @@ impl Model {
 
     /// The place that may come next and that no walk from here on can do without. There is at
     /// most one: of two, the walk that takes the one first would have to come round again for
-    /// the other, and "+" and "*" never force a second round.
-    fn required(&self, remainder: &Remainder) -> Option<usize> {
-        let next = self.next(remainder);
-        next.into_keys()
-            .find(|&place| !self.can_end_avoiding(remainder, |other| other == place))
+    /// the other, and "+" and "*" never force a second round. In an "&" group none is while
+    /// another member may still begin (open point 16).
+    fn required(&self, remainder: &Remainder, taken: &BTreeSet<usize>) -> Option<usize> {
+        let next: Vec<usize> = self.next(remainder).into_keys().collect();
+        let may_begin = |places: &Vec<usize>| {
+            !places.iter().any(|place| taken.contains(place))
+                && places.iter().any(|place| next.contains(place))
+        };
+        let alone = |place: usize| {
+            self.others(place)
+                .iter()
+                .all(|places| !may_begin(places))
+        };
+        let without = |place: usize| self.can_end_avoiding(remainder, |other| other == place);
+        next.iter()
+            .copied()
+            .find(|&place| !without(place) && alone(place))
+    }
+
+    /// The places of a token.
+    fn places_of(&self, token: usize) -> Vec<usize> {
+        match &self.tokens[token].form {
+            Form::Place(place) => vec![*place],
+            Form::Group(_, members) => members
+                .iter()
+                .flat_map(|&member| self.places_of(member))
+                .collect(),
+        }
+    }
+
+    /// The other members of each "&" group around a place, by their places.
+    fn others(&self, place: usize) -> Vec<Vec<usize>> {
+        let mut others = Vec::new();
+        for token in &self.tokens {
+            if let Form::Group(Connector::AnyOrder, members) = &token.form {
+                let all: Vec<Vec<usize>> =
+                    members.iter().map(|&member| self.places_of(member)).collect();
+                if all.iter().any(|places| places.contains(&place)) {
+                    others.extend(all.into_iter().filter(|places| !places.contains(&place)));
+                }
+            }
+        }
+        others
     }
 
     /// The first pair of different places with one name that may both come next after some
-    /// sequence of places: looked for in every remainder that any sequence leaves.
+    /// sequence of places. In a model with "&" each pair is looked for by itself, in a smaller model.
     fn pair_at_fault(&self) -> Option<(usize, usize)> {
+        if self.ands.is_empty() {
+            return self.pairs_found().into_iter().next();
+        }
+        self.pairs_of_one_name((0..self.places.len()).collect())
+            .into_iter()
+            .find(|pair| self.only_for(*pair).pairs_found().contains(pair))
+    }
+
+    /// The model for a pair of places: in each "&" group the members that have neither are one
+    /// place, which can be left out if all of them can. They could have come before or could be
+    /// left for later, whatever is in them.
+    fn only_for(&self, pair: (usize, usize)) -> Model {
+        let name_of = |place: &Place| Place {
+            name: place.name.clone(),
+            position: place.position,
+        };
+        let mut model = Model {
+            tokens: self.tokens.clone(),
+            places: self.places.iter().map(name_of).collect(),
+            ands: Vec::new(),
+            repeated: None,
+        };
+        for token in 0..self.tokens.len() {
+            let Form::Group(Connector::AnyOrder, members) = &self.tokens[token].form else {
+                continue;
+            };
+            let (mut kept, rest): (Vec<usize>, Vec<usize>) = members.iter().partition(|&&member| {
+                let places = self.places_of(member);
+                places.contains(&pair.0) || places.contains(&pair.1)
+            });
+            if !rest.is_empty() {
+                let can_go = |&member: &usize| self.can_be_empty(Due::Token(member));
+                model.places.push(Place {
+                    name: format!("{token}"),
+                    position: 0,
+                });
+                // Any token of the group's is as good: a member that is dropped holds the place.
+                model.tokens[rest[0]] = ContentToken {
+                    form: Form::Place(model.places.len() - 1),
+                    occurrence: match rest.iter().all(can_go) {
+                        true => Occurrence::Optional,
+                        false => Occurrence::One,
+                    },
+                };
+                kept.push(rest[0]);
+            }
+            model.tokens[token].form = Form::Group(Connector::AnyOrder, kept);
+        }
+        model
+    }
+
+    /// All pairs at fault: looked for in every remainder that any sequence leaves.
+    fn pairs_found(&self) -> BTreeSet<(usize, usize)> {
         let mut pairs = BTreeSet::new();
         let mut seen = BTreeSet::new();
         let mut waiting = vec![self.start()];
@@ -447,7 +581,7 @@ impl Model {
                 seen.insert(remainder);
             }
         }
-        pairs.into_iter().next()
+        pairs
     }
 
     /// Pairs of one name among places in rising order.
@@ -679,6 +813,8 @@ impl TypeReader<'_> {
                 let mut model = Model {
                     tokens: Vec::new(),
                     places: Vec::new(),
+                    ands: Vec::new(),
+                    repeated: None,
                 };
                 let outermost = self.group(&mut model, 1, &mut 0)?;
                 model.tokens.push(outermost);
@@ -720,6 +856,7 @@ impl TypeReader<'_> {
         if level > GRPLVL {
             return Err((self.at, 6));
         }
+        let opened = self.at;
         self.at += 1;
         let mut members = Vec::new();
         let mut connector = None;
@@ -727,16 +864,18 @@ impl TypeReader<'_> {
             let token = self.content_token(model, level, members.len(), counted)?;
             model.tokens.push(token);
             members.push(model.tokens.len() - 1);
-            match self.after_token(connector)? {
+            match self.after_token(connector, model)? {
                 None => break,
                 joined => connector = joined,
             }
         }
         let form = Form::Group(connector.unwrap_or(Connector::Sequence), members);
-        Ok(ContentToken {
-            form,
-            occurrence: self.indicator(),
-        })
+        let occurrence = self.indicator();
+        if let Occurrence::OneOrMore | Occurrence::AnyNumber = occurrence {
+            let inside = model.ands.iter().copied().filter(|&and| and > opened);
+            model.repeated = model.repeated.into_iter().chain(inside).min();
+        }
+        Ok(ContentToken { form, occurrence })
     }
 
     /// A content token of a group that has `before` tokens already.
@@ -793,20 +932,27 @@ impl TypeReader<'_> {
     }
 
     /// The connector after a token, or None for ")". One kind of connector in a group.
-    fn after_token(&mut self, so_far: Option<Connector>) -> Result<Option<Connector>, Fault> {
+    fn after_token(
+        &mut self,
+        so_far: Option<Connector>,
+        model: &mut Model,
+    ) -> Result<Option<Connector>, Fault> {
         self.skip_separators();
         let position = self.at;
         let found = match self.byte()? {
             b')' => None,
             b',' => Some(Connector::Sequence),
             b'|' => Some(Connector::Choice),
-            // Even where the group has another connector: what 5 names isn't 4 as well.
-            b'&' | b'%' => return Err((position, 5)),
+            b'&' => Some(Connector::AnyOrder),
+            b'%' => return Err((position, 5)),
             // A name has no place here, so one over 8 isn't number 3 either (open point 8).
             _ => return Err((position, 4)),
         };
         if found.is_some() && so_far.is_some() && found != so_far {
             return Err((position, 4));
+        }
+        if found == Some(Connector::AnyOrder) {
+            model.ands.push(position);
         }
         self.at += 1;
         Ok(found)
@@ -847,6 +993,7 @@ struct Open<'a> {
     element: usize,
     model: &'a Model,
     remainder: Remainder,
+    taken: BTreeSet<usize>,
 }
 
 struct DocumentReader<'a> {
@@ -878,11 +1025,14 @@ fn read_document(
     let model = Model {
         tokens: vec![token],
         places: vec![place],
+        ands: Vec::new(),
+        repeated: None,
     };
     let document = Open {
         element: usize::MAX,
         model: &model,
         remainder: model.start(),
+        taken: BTreeSet::new(),
     };
     let mut reader = DocumentReader {
         longest: name_length as usize,
@@ -1103,27 +1253,32 @@ impl<'a> DocumentReader<'a> {
     }
 
     /// What remains of the current element's model if the token is taken as the next place.
-    fn fitting(&self, token: Token) -> Option<Remainder> {
+    fn fitting(&self, token: Token) -> Option<(usize, Remainder)> {
         let current = self.current();
         self.fitting_in(token, current.model, &current.remainder)
     }
 
-    fn fitting_in(&self, token: Token, model: &Model, taken: &Remainder) -> Option<Remainder> {
+    fn fitting_in(
+        &self,
+        token: Token,
+        model: &Model,
+        taken: &Remainder,
+    ) -> Option<(usize, Remainder)> {
         let name = self.token_name(token);
-        let next = model.next(taken).into_iter();
-        next.filter(|(place, _)| model.places[*place].name == name)
-            .map(|(_, rest)| rest)
-            .next()
+        let mut next = model.next(taken).into_iter();
+        next.find(|(place, _)| model.places[*place].name == name)
     }
 
     fn take(&mut self, token: Token) {
-        let remainder = self
+        let (place, remainder) = self
             .fitting(token)
             .expect("only a token that fits is taken");
-        self.open
+        let current = self
+            .open
             .last_mut()
-            .expect("the document itself is never popped")
-            .remainder = remainder;
+            .expect("the document itself is never popped");
+        current.remainder = remainder;
+        current.taken.insert(place);
     }
 
     /// Step 2: the elements to infer, outermost first, with their models. The way is forced, for
@@ -1133,8 +1288,9 @@ impl<'a> DocumentReader<'a> {
         let mut chain: Vec<(usize, &'a Model)> = Vec::new();
         let mut model = self.current().model;
         let mut remainder = self.current().remainder.clone();
+        let mut taken = self.current().taken.clone();
         loop {
-            let place = model.required(&remainder)?;
+            let place = model.required(&remainder, &taken)?;
             let element = self.declared(&model.places[place].name)?;
             // Round in a circle: the token fits at none of these starts.
             let seen = chain.iter().any(|&(earlier, _)| earlier == element);
@@ -1143,6 +1299,7 @@ impl<'a> DocumentReader<'a> {
             }
             model = elements[element].model.as_ref()?;
             remainder = model.start();
+            taken = BTreeSet::new();
             chain.push((element, model));
             if self.fitting_in(token, model, &remainder).is_some() {
                 return Some(chain);
@@ -1163,6 +1320,7 @@ impl<'a> DocumentReader<'a> {
             element,
             model,
             remainder: model.start(),
+            taken: BTreeSet::new(),
         });
     }
 

@@ -36,6 +36,8 @@ struct Model {
     positions: Vec<usize>,
     walks: BTreeSet<Walk>,
     beginnings: BTreeSet<Walk>,
+    /// Of each "&" group the places of its members.
+    ands: Vec<Vec<Vec<usize>>>,
 }
 
 fn main() {
@@ -75,8 +77,14 @@ fn main() {
 fn random_model(random: &mut Random) -> Option<Model> {
     let mut names = Vec::new();
     let outermost = random_group(random, 1, &mut names);
+    let mut ands = Vec::new();
+    // Number 25: other tests have it.
+    if places_of(&outermost, false, &mut ands).is_none() {
+        return None;
+    }
     let walks = walks(&outermost, &names)?;
     let mut model = Model {
+        ands,
         text: "<!ELEMENT X O O ".to_string(),
         positions: Vec::new(),
         walks,
@@ -111,10 +119,31 @@ fn random_group(random: &mut Random, level: usize, names: &mut Vec<&'static str>
         }
     }
     Token::Group(
-        if random.percent(50) { ',' } else { '|' },
+        [',', '|', '&'][random.below(3)],
         members,
         indicator(random),
     )
+}
+
+/// The places of a token, and the "&" groups in it; None if one of these is repeated.
+fn places_of(token: &Token, repeated: bool, ands: &mut Vec<Vec<Vec<usize>>>) -> Option<Vec<usize>> {
+    match token {
+        Token::Place(place, _) => Some(vec![*place]),
+        Token::Group(connector, members, indicator) => {
+            let repeated = repeated || *indicator == '+' || *indicator == '*';
+            let mut each = Vec::new();
+            for member in members {
+                each.push(places_of(member, repeated, ands)?);
+            }
+            if *connector == '&' && each.len() > 1 {
+                if repeated {
+                    return None;
+                }
+                ands.push(each.clone());
+            }
+            Some(each.concat())
+        }
+    }
 }
 
 fn indicator(random: &mut Random) -> char {
@@ -152,17 +181,47 @@ fn walks(token: &Token, names: &[&str]) -> Option<BTreeSet<Walk>> {
         Token::Place(place, _) if names[*place] == "#PCDATA" => marked(single(*place), '*'),
         Token::Place(place, indicator) => marked(single(*place), *indicator),
         Token::Group(connector, members, indicator) => {
-            let mut group = BTreeSet::new();
-            for (index, member) in members.iter().enumerate() {
-                let next = walks(member, names)?;
-                match connector {
-                    ',' if index > 0 => group = joined(&group, &next),
-                    _ => group.extend(next),
-                }
+            let mut each = Vec::new();
+            for member in members {
+                each.push(walks(member, names)?);
             }
+            let group = match connector {
+                ',' => in_turn(&each),
+                '|' => each.into_iter().flatten().collect(),
+                // 02, twelve: all of them once, in any order
+                _ => orders(each.len())
+                    .iter()
+                    .flat_map(|order| {
+                        let ordered: Vec<_> = order.iter().map(|&k| each[k].clone()).collect();
+                        in_turn(&ordered)
+                    })
+                    .collect(),
+            };
             marked(group, *indicator)
         }
     }
+}
+
+fn in_turn(each: &[BTreeSet<Walk>]) -> BTreeSet<Walk> {
+    let nothing = BTreeSet::from([vec![]]);
+    each.iter()
+        .fold(nothing, |before, next| joined(&before, next))
+}
+
+/// All orders of so many things.
+fn orders(count: usize) -> Vec<Vec<usize>> {
+    if count == 0 {
+        return vec![vec![]];
+    }
+    let mut all = Vec::new();
+    for before in orders(count - 1) {
+        for at in 0..count {
+            let mut order = before.clone();
+            order.insert(at, count - 1);
+            all.push(order);
+        }
+    }
+    all
 }
 
 fn single(place: usize) -> BTreeSet<Walk> {
@@ -226,8 +285,22 @@ fn required(model: &Model, taken: &[usize]) -> Option<usize> {
         let mut continuing = model.walks.iter().filter(|walk| walk.starts_with(taken));
         continuing.all(|walk| walk[taken.len()..].contains(&place))
     };
-    let mut found =
-        (0..model.names.len()).filter(|&place| begins(model, taken, place) && passed_by_all(place));
+    // 02, twelve: none in a member of an "&" group while another member may still begin
+    let may_begin = |member: &Vec<usize>| {
+        !member.iter().any(|place| taken.contains(place))
+            && member.iter().any(|&place| begins(model, taken, place))
+    };
+    let alone = |place: usize| {
+        let around = model
+            .ands
+            .iter()
+            .filter(|and| and.iter().any(|member| member.contains(&place)));
+        around
+            .flatten()
+            .all(|member| member.contains(&place) || !may_begin(member))
+    };
+    let mut found = (0..model.names.len())
+        .filter(|&place| begins(model, taken, place) && passed_by_all(place) && alone(place));
     let place = found.next();
     assert!(
         found.next().is_none(),

@@ -7,16 +7,19 @@ ghost use mathlib.Core.List.{List};
 ghost use lib.Dec.{eqb};
 ghost use Prim.Native.Nat.{ℕ, _≤_};
 ghost use lib.ListN.{length};
-ghost use Rattle.rules.specs.TypeFile.{Tokens, occurrence};
+ghost use Rattle.rules.specs.TypeFile.{Tokens, occurrence, isConnector, earlier};
 ghost use Rattle.connectors.specs.Kept.{Keeps, joinModel, joinTable};
 
-// What is kept of a model while it is read: where it ends so far, how many places and content tokens it has, and what
-// its table goes on with.
+// What is kept of a model while it is read: where it ends so far, how many places and content tokens it has, what
+// its table goes on with, how many numbers its code has, and where the first "&" of the group stands and the first that is refused, or 0.
 pub struct Model {
     pub at: usize,
     pub places: usize,
     pub tokens: usize,
     pub part: Part,
+    pub code: u16,
+    pub and: u16,
+    pub repeated: u16,
 }
 
 // The occurrence indicator at once after a name or a group whose first place is `lo`. What it gives where m and the table stand for no
@@ -31,6 +34,8 @@ pub fn with_occurrence(s: &[u8], table: &mut [u8; MODEL], lo: usize, m: Model) -
     let places = m.places;
     let tokens = m.tokens;
     let part = m.part;
+    let code = m.code;
+    let and = m.and;
     let b = text::byte(s, at);
     if b == b'?' {
         return Model {
@@ -38,6 +43,9 @@ pub fn with_occurrence(s: &[u8], table: &mut [u8; MODEL], lo: usize, m: Model) -
             places: places,
             tokens: tokens,
             part: model_table::optional(part),
+            code: model_code::put(table, code, model_code::OPT),
+            and: and,
+            repeated: m.repeated,
         };
     }
     if b == b'+' {
@@ -47,33 +55,47 @@ pub fn with_occurrence(s: &[u8], table: &mut [u8; MODEL], lo: usize, m: Model) -
             places: places,
             tokens: tokens,
             part: part,
+            code: model_code::put(table, code, model_code::PLUS),
+            and: and,
+            repeated: and,
         };
     }
     if b == b'*' {
         model_table::repeat(table, lo, places + 1);
+        let once = model_code::put(table, code, model_code::PLUS);
         return Model {
             at: at + 1,
             places: places,
             tokens: tokens,
             part: model_table::optional(part),
+            code: model_code::put(table, once, model_code::OPT),
+            and: and,
+            repeated: and,
         };
     }
     m
 }
 
-// Whether a connector may stand after others: "," or "|", one kind in a group. `c` is the group's, 0 if there was none yet.
+// Whether a connector may stand after others: ",", "|" or "&", one kind in a group. `c` is the group's, 0 if there was none yet.
 pub fn is_connector(b: u8, c: u8) -> bool
-    ensures { λ r. ⌜ r ≡ (eqb b 44 || eqb b 124) && (eqb c 0 || eqb c b) ⌝ }
+    ensures { λ r. ⌜ r ≡ isConnector b && (eqb c 0 || eqb c b) ⌝ }
 {
-    if b == b',' || b == b'|' {
+    if b == b',' || b == b'|' || b == b'&' {
         c == 0 || c == b
     } else {
         false
     }
 }
 
-// The group m, whose first place is `lo`, and the token u after it, joined by the connector b; any byte but "," joins as "|" does.
-pub fn joined_by(table: &mut [u8; MODEL], b: u8, lo: usize, m: Model, u: Model) -> Model
+// The first of two positions of which the first is the earlier; 0 is none.
+fn earlier(i: u16, j: u16) -> u16
+    ensures { λ r. ⌜ r ≡ earlier i j ⌝ }
+{
+    if i == 0 { j } else { i }
+}
+
+// The group m, whose first place is `lo`, and the token u after it, joined by the connector b at i; any byte but "," and "&" joins as "|" does.
+pub fn joined_by(table: &mut [u8; MODEL], b: u8, i: usize, lo: usize, m: Model, u: Model) -> Model
     requires { ⌜ (m .places ≤ 96) × (u .places ≤ 96) ⌝ }
     ensures { λ r. ⌜ r ≡ joinModel b m u ⌝ }
     ensures { λ _. ⌜ now (table .exit) ≡ joinTable b lo m u (now (table .entry)) ⌝ }
@@ -81,20 +103,40 @@ pub fn joined_by(table: &mut [u8; MODEL], b: u8, lo: usize, m: Model, u: Model) 
     let at = u.at;
     let places = u.places;
     let tokens = u.tokens;
+    let code = u.code;
+    let and = earlier(m.and, u.and);
+    let repeated = earlier(m.repeated, u.repeated);
     if b == b',' {
         let part = model_table::join_seq(table, lo, m.places + 1, places + 1, m.part, u.part);
-        Model {
+        return Model {
             at: at,
             places: places,
             tokens: tokens,
             part: part,
-        }
-    } else {
-        Model {
+            code: model_code::put(table, code, model_code::SEQ),
+            and: and,
+            repeated: repeated,
+        };
+    }
+    if b == b'&' {
+        let part = model_table::join_and(table, lo, m.places + 1, places + 1, m.part, u.part);
+        return Model {
             at: at,
             places: places,
             tokens: tokens,
-            part: model_table::join_alt(m.part, u.part),
-        }
+            part: part,
+            code: model_code::put(table, code, model_code::ALSO),
+            and: earlier(m.and, i as u16),
+            repeated: repeated,
+        };
+    }
+    Model {
+        at: at,
+        places: places,
+        tokens: tokens,
+        part: model_table::join_alt(m.part, u.part),
+        code: model_code::put(table, code, model_code::ALT),
+        and: and,
+        repeated: repeated,
     }
 }

@@ -46,6 +46,7 @@ pub fn name_token(
     full: bool,
     places: usize,
     tokens: usize,
+    code: u16,
     names: &mut [u32; NAMES],
     table: &mut [u8; MODEL],
 ) -> ModelRead
@@ -71,6 +72,9 @@ pub fn name_token(
         places: p,
         tokens: count,
         part: part,
+        code: model_code::put(table, code, p as u8),
+        and: 0,
+        repeated: 0,
     };
     ModelRead::Read(connectors::with_occurrence(s, table, p, m))
 }
@@ -93,6 +97,7 @@ pub fn data_token(
     full: bool,
     places: usize,
     tokens: usize,
+    code: u16,
     names: &mut [u32; NAMES],
     table: &mut [u8; MODEL],
 ) -> ModelRead
@@ -114,11 +119,16 @@ pub fn data_token(
         let p = places + 1;
         let part = model_table::put_place(table, p);
         model_table::repeat(table, p, p + 1);
+        let one = model_code::put(table, code, p as u8);
+        let many = model_code::put(table, one, model_code::PLUS);
         return ModelRead::Read(Model {
             at: e,
             places: p,
             tokens: tokens + 1,
             part: model_table::optional(part),
+            code: model_code::put(table, many, model_code::OPT),
+            and: 0,
+            repeated: 0,
         });
     }
     refusal(4, at + 1)

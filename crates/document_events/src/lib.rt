@@ -2,6 +2,7 @@
 //
 // `elements` and `index` are those of the crate element_index, `rows`, `places` and `facts` those of type_tables, `classes` that of
 // delimiters. Where the tables are no type's, neither the answer nor what the buffers hold is decided; the loop ends all the same.
+use layout::BEGUN;
 use layout::FACTS;
 use layout::INDEX;
 use layout::PLACES;
@@ -46,6 +47,7 @@ pub fn events_of(
     rows: &[u8; ROWS],
     places: &[u8; PLACES],
     facts: &[u8; FACTS],
+    members: &[u8],
     classes: &[u8; 256],
     d: &[u8],
     numbers: &mut [u32],
@@ -58,6 +60,7 @@ pub fn events_of(
     let mut at = 0;
     let mut n = 0;
     let mut o = Open::new();
+    let mut begun = [0u32; BEGUN];
     while at < d.len() {
         let e = o.element;
         let u = o.place;
@@ -69,15 +72,31 @@ pub fn events_of(
             rows,
             places,
             facts,
+            members,
+            &begun,
             classes,
             d,
+            o.count,
             e,
             u,
             at,
         );
         match p {
             Piece::Token(x, after) => {
-                let r = settling::token(rows, places, facts, o, x, at, after, n, numbers, bytes);
+                let r = settling::token(
+                    rows,
+                    places,
+                    facts,
+                    members,
+                    &mut begun,
+                    o,
+                    x,
+                    at,
+                    after,
+                    n,
+                    numbers,
+                    bytes,
+                );
                 if r.number != 0 {
                     return refusal(r.number, at);
                 }

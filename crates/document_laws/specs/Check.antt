@@ -9,16 +9,18 @@ use borrow.Author.Tests.{eqb-true, leb-true}
 use Rattle.rules.specs.Settings.{Settings, isOffered}
 use Rattle.rules.specs.Bytes.{allowed, span, typeLimit, documentLimit}
 use Rattle.rules.specs.Reading.{Reading, refused, got}
-use Rattle.rules.specs.Walk.{Group, place, seq, alt, opt, plus}
+use Rattle.rules.specs.Walk.{Group, place, seq, alt, opt, plus, and, Members, one, also}
 use Rattle.rules.specs.TypeFile.{Content, empty, model, Element, typeFile}
-use Rattle.rules.specs.Judge.{samePlace, Unambiguous, AllUnambiguous, Legible}
+use Rattle.rules.specs.Judge.{samePlace, firstRepeated, Unambiguous, AllUnambiguous, Legible}
 use Rattle.rules.specs.Events.{Event}
 use Rattle.rules.specs.Reader.{document, Reads}
 use Rattle.rules_laws.specs.In.{All, none, more}
 use Rattle.model_sets.specs.Bits.{and-left, and-right}
-use Rattle.model_sets.specs.Sets.{size, Numbered}
-use Rattle.model_sets.specs.Pairs.{firstPairOf, firstPairOf-none}
-use Rattle.document_laws.specs.Decide.{decided, NumberedIn, AllNumbered, decided-means}
+use Rattle.model_sets.specs.Sets.{size, sizeM, Numbered, NumberedM}
+use Rattle.and_laws.specs.First.{firstPairOf, firstPairOf-none}
+use Rattle.rules_laws.specs.Groups.{GuardedIn}
+use Rattle.document_laws.specs.Decide.{decided, NumberedIn, AllNumbered, AllGuarded, decided-means}
+use Rattle.document_laws.specs.Numbers.{typeFile-guarded}
 
 -- A type file, a document, and what reading it must give.
 pub record Example : Type 0 where
@@ -28,43 +30,56 @@ pub record Example : Type 0 where
 
 -- The type's models
 
-unfoldable pub isNumbered : Group → ℕ → Bool
-isNumbered (place n) lo = eqb n lo
-isNumbered (seq g h) lo = isNumbered g lo && isNumbered h (lo + size g)
-isNumbered (alt g h) lo = isNumbered g lo && isNumbered h (lo + size g)
-isNumbered (opt g) lo = isNumbered g lo
-isNumbered (plus g) lo = isNumbered g lo
+unfoldable mutual
+  pub isNumbered : Group → ℕ → Bool
+  isNumbered (place n) lo = eqb n lo
+  isNumbered (seq g h) lo = isNumbered g lo && isNumbered h (lo + size g)
+  isNumbered (alt g h) lo = isNumbered g lo && isNumbered h (lo + size g)
+  isNumbered (opt g) lo = isNumbered g lo
+  isNumbered (plus g) lo = isNumbered g lo
+  isNumbered (and m) lo = areNumbered m lo
 
-pub numbered : (g : Group) (lo : ℕ) → isNumbered g lo ≡ true → Numbered g lo
-unfolding isNumbered
-numbered (place n) lo e = eqb-true n lo e
-numbered (seq g h) lo e = (numbered g lo (and-left (isNumbered g lo) _ e), numbered h (lo + size g) (and-right (isNumbered g lo) _ e))
-numbered (alt g h) lo e = (numbered g lo (and-left (isNumbered g lo) _ e), numbered h (lo + size g) (and-right (isNumbered g lo) _ e))
-numbered (opt g) lo e = numbered g lo e
-numbered (plus g) lo e = numbered g lo e
+  pub areNumbered : Members → ℕ → Bool
+  areNumbered (one g) lo = isNumbered g lo
+  areNumbered (also m g) lo = areNumbered m lo && isNumbered g (lo + sizeM m)
+
+mutual
+  unfolding isNumbered areNumbered
+
+  pub numbered : (g : Group) (lo : ℕ) → isNumbered g lo ≡ true → Numbered g lo
+  numbered (place n) lo e = eqb-true n lo e
+  numbered (seq g h) lo e = (numbered g lo (and-left (isNumbered g lo) _ e), numbered h (lo + size g) (and-right (isNumbered g lo) _ e))
+  numbered (alt g h) lo e = (numbered g lo (and-left (isNumbered g lo) _ e), numbered h (lo + size g) (and-right (isNumbered g lo) _ e))
+  numbered (opt g) lo e = numbered g lo e
+  numbered (plus g) lo e = numbered g lo e
+  numbered (and m) lo e = all-numbered m lo e
+
+  all-numbered : (m : Members) (lo : ℕ) → areNumbered m lo ≡ true → NumberedM m lo
+  all-numbered (one g) lo e = numbered g lo e
+  all-numbered (also m g) lo e = (all-numbered m lo (and-left (areNumbered m lo) _ e), numbered g (lo + sizeM m) (and-right (areNumbered m lo) _ e))
 
 -- the content is EMPTY, or a model numbered from 1 without a pair at fault
 unfoldable pub isFair : List ℕ → Content → Bool
 isFair s empty = true
 isFair s (model g ps n) = isNumbered g 1 && eqb (firstPairOf (samePlace s ps) g .0) 0
 
-fair : (s : List ℕ) (c : Content) → isFair s c ≡ true → NumberedIn c × Unambiguous s c
+fair : (s : List ℕ) (c : Content) → GuardedIn c → isFair s c ≡ true → NumberedIn c × Unambiguous s c
 unfolding isFair
-fair s empty e = (tt, tt)
-fair s (model g ps n) e =
+fair s empty d e = (tt, tt)
+fair s (model g ps n) d e =
     let i = numbered g 1 (and-left (isNumbered g 1) _ e) in
-    (i, firstPairOf-none (samePlace s ps) g i (eqb-true _ 0 (and-right (isNumbered g 1) _ e)))
+    (i, firstPairOf-none (samePlace s ps) g i d (eqb-true _ 0 (and-right (isNumbered g 1) _ e)))
 
 unfoldable pub allFair : List ℕ → List Element → Bool
 allFair s [] = true
 allFair s (e ∷ es) = isFair s (e .content) && allFair s es
 
-all-fair : (s : List ℕ) (es : List Element) → allFair s es ≡ true → AllNumbered es × AllUnambiguous s es
+all-fair : (s : List ℕ) (es : List Element) → AllGuarded es → allFair s es ≡ true → AllNumbered es × AllUnambiguous s es
 unfolding allFair
-all-fair s [] e = (tt, tt)
-all-fair s (x ∷ es) e =
-    let (a, b) = fair s (x .content) (and-left (isFair s (x .content)) _ e) in
-    let (c, d) = all-fair s es (and-right (isFair s (x .content)) _ e) in
+all-fair s [] d e = (tt, tt)
+all-fair s (x ∷ es) k e =
+    let (a, b) = fair s (x .content) (k .0) (and-left (isFair s (x .content)) _ e) in
+    let (c, d) = all-fair s es (k .1) (and-right (isFair s (x .content)) _ e) in
     ((a, c), (b, d))
 
 -- Two readings
@@ -116,7 +131,7 @@ isLegible limit s = leb (length s) limit && eqb (span allowed s) (length s)
 
 unfoldable pub readsAs : Settings → Example → List Element → Bool
 readsAs c x es =
-    isOffered c && (isLegible typeLimit (x .type) && (isLegible documentLimit (x .text) && (allFair (x .type) es && sameReading (document c (x .type) es (decided (x .type) es) (x .text)) (x .gives))))
+    isOffered c && (isLegible typeLimit (x .type) && (isLegible documentLimit (x .text) && (eqb (firstRepeated es) 0 && (allFair (x .type) es && sameReading (document c (x .type) es (decided (x .type) es) (x .text)) (x .gives)))))
 
 -- The rules accept the type with these elements and read the document just so.
 abbrev pub ReadSo : Settings → Example → List Element → Type 0
@@ -131,15 +146,18 @@ reads-so c x es read t =
     let t₁ = and-right (isLegible typeLimit (x .type)) _ t₀ in
     let b = and-left (isLegible documentLimit (x .text)) _ t₁ in
     let t₂ = and-right (isLegible documentLimit (x .text)) _ t₁ in
-    let (n, u) = all-fair (x .type) es (and-left (allFair (x .type) es) _ t₂) in
+    let r = eqb-true (firstRepeated es) 0 (and-left (eqb (firstRepeated es) 0) _ t₂) in
+    let t₃ = and-right (eqb (firstRepeated es) 0) _ t₂ in
+    let d = typeFile-guarded c (x .type) es read r in
+    let (n, u) = all-fair (x .type) es d (and-left (allFair (x .type) es) _ t₃) in
     let legible : Legible c (x .type) =
     record { offered = o; short = leb-true (length (x .type)) typeLimit (and-left (leb (length (x .type)) typeLimit) _ a); clean = eqb-true _ _ (and-right (leb (length (x .type)) typeLimit) _ a) } in
     record {
       legible = record { type = legible; short = leb-true (length (x .text)) documentLimit (and-left (leb (length (x .text)) documentLimit) _ b); clean = eqb-true _ _ (and-right (leb (length (x .text)) documentLimit) _ b) };
-      accepted = record { legible = legible; elements = read; unambiguous = u };
+      accepted = record { legible = legible; elements = read; unrepeated = r; unambiguous = u };
       decisions = decided (x .type) es;
-      means = decided-means (x .type) es n u;
-      reading = same-reading _ (x .gives) (and-right (allFair (x .type) es) _ t₂);
+      means = decided-means (x .type) es n d u;
+      reading = same-reading _ (x .gives) (and-right (allFair (x .type) es) _ t₃);
     }
 
 -- Examples of any kind X: the type file of each is read, and of its elements holds what the example says.

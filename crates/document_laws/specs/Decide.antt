@@ -1,4 +1,5 @@
--- Under a type whose models are numbered from 1 and have no pair at fault, the walks can be decided: the last place taken decides.
+-- Under a type whose models are numbered from 1, have no "&" under "+" and no pair at fault, the walks can be decided: by the last place taken and by the set of
+-- places taken.
 use Prim.Native.Nat.{ℕ, zero, suc, _+_, _-_, _≤_, _<_}
 use mathlib.Core.Path.{_≡_, refl, sym, _∙_, ap, subst}
 use mathlib.Core.Bool.{Bool, true, false, _&&_}
@@ -14,10 +15,10 @@ use Rattle.rules.specs.Judge.{placeAt, samePlace, Unambiguous, AllUnambiguous}
 use Rattle.rules.specs.Elements.{elementAt, contentOf}
 use Rattle.rules.specs.Decisions.{Token, tokenName, hasName, Fits, IsThe, Decisions, MeansAt, Means}
 use Rattle.model_sets.specs.Bits.{and-left, and-right, and-both, not-both, bool-cases}
-use Rattle.model_sets.specs.Sets.{size, Numbered, nextIn, completeIn, requiredIn}
-use Rattle.model_sets.specs.Reach.{lastOr0, next-sound, next-complete, complete-sound, complete-complete}
-use Rattle.model_sets.specs.Must.{required-sound, required-complete}
-use Rattle.model_sets.specs.Pairs.{next-range, pair-row}
+use Rattle.model_sets.specs.Sets.{size, Numbered}
+use Rattle.and_laws.specs.Numbers.{Guarded}
+use Rattle.and_laws.specs.Begun.{nextOf, completeOf, requiredOf, next-of, complete-of, required-of, next-range, required-one}
+use Rattle.rules_laws.specs.Groups.{GuardedIn}
 use Rattle.rules_laws.specs.Names.{sameName-split, sameName-join}
 use Rattle.text.specs.Laws.{sameText-sym, sameText-split, sameText-more}
 
@@ -30,40 +31,23 @@ search f (suc n) = elim (f (suc n)) [ true ↦ suc n | false ↦ search f n ]
 
 unfoldable pub fitsIn : List ℕ → List Element → Content → List ℕ → Token → ℕ
 fitsIn s es empty taken t = 0
-fitsIn s es (model g ps n) taken t = search (λ p. hasName s es ps t p && nextIn g (lastOr0 taken) p) (size g)
+fitsIn s es (model g ps n) taken t = search (λ p. hasName s es ps t p && nextOf g taken p) (size g)
 
 unfoldable pub isCompleteIn : Content → List ℕ → Bool
 isCompleteIn empty taken = true
-isCompleteIn (model g ps n) taken = completeIn g (lastOr0 taken)
+isCompleteIn (model g ps n) taken = completeOf g taken
 
-unfoldable pub requiredOf : Content → List ℕ → ℕ
-requiredOf empty taken = 0
-requiredOf (model g ps n) taken = requiredIn g (lastOr0 taken)
+unfoldable pub requiredFor : Content → List ℕ → ℕ
+requiredFor empty taken = 0
+requiredFor (model g ps n) taken = requiredOf g taken
 
 abbrev pub decided : List ℕ → List Element → Decisions
 decided s es =
     record {
       fits = λ k taken t. fitsIn s es (contentOf es k) taken t;
       complete = λ k taken. isCompleteIn (contentOf es k) taken;
-      required = λ k taken. requiredOf (contentOf es k) taken;
+      required = λ k taken. requiredFor (contentOf es k) taken;
     }
-
--- The last place taken decides.
-
-pub fitsIn-last : (s : List ℕ) (es : List Element) (c : Content) (a b : List ℕ) (t : Token) → lastOr0 a ≡ lastOr0 b → fitsIn s es c a t ≡ fitsIn s es c b t
-unfolding fitsIn
-fitsIn-last s es empty a b t e = refl
-fitsIn-last s es (model g ps n) a b t e = ap (λ (u : ℕ). search (λ p. hasName s es ps t p && nextIn g u p) (size g)) e
-
-pub isCompleteIn-last : (c : Content) (a b : List ℕ) → lastOr0 a ≡ lastOr0 b → isCompleteIn c a ≡ isCompleteIn c b
-unfolding isCompleteIn
-isCompleteIn-last empty a b e = refl
-isCompleteIn-last (model g ps n) a b e = ap (completeIn g) e
-
-pub requiredOf-last : (c : Content) (a b : List ℕ) → lastOr0 a ≡ lastOr0 b → requiredOf c a ≡ requiredOf c b
-unfolding requiredOf
-requiredOf-last empty a b e = refl
-requiredOf-last (model g ps n) a b e = ap (requiredIn g) e
 
 -- The search
 
@@ -105,7 +89,7 @@ names-same s es ps t p q x y =
 
 -- One model
 
-module _ (s : List ℕ) (es : List Element) (g : Group) (ps : List Place) (numbered : Numbered g 1) (fair : (p q : ℕ) → PairAtFault (samePlace s ps) g p q → ⊥) (taken : List ℕ) (begun : Begins g taken) where
+module _ (s : List ℕ) (es : List Element) (g : Group) (ps : List Place) (numbered : Numbered g 1) (guarded : Guarded g) (fair : (p q : ℕ) → PairAtFault (samePlace s ps) g p q → ⊥) (taken : List ℕ) (begun : Begins g taken) where
   -- a token fits as one place only
   fits-once : (t : Token) (p q : ℕ) → Fits s es g ps taken t p → Fits s es g ps taken t q → p ≡ q
   fits-once t p q x y = go (decLt p q) (decLt q p)
@@ -120,31 +104,31 @@ module _ (s : List ℕ) (es : List Element) (g : Group) (ps : List Place) (numbe
   fits-means n t = record { some = found; only = λ p x. fits-once t (search f (size g)) p (found (reached p x)) x }
     where
       f : ℕ → Bool
-      f p = hasName s es ps t p && nextIn g (lastOr0 taken) p
+      f p = hasName s es ps t p && nextOf g taken p
 
       found : 1 ≤ search f (size g) → Fits s es g ps taken t (search f (size g))
       found l =
           let e = search-passes f (size g) l in
           let p = search f (size g) in
-          record { name = and-left (hasName s es ps t p) _ e; next = next-complete g 1 numbered (omega arith) taken p begun (and-right (hasName s es ps t p) _ e) }
+          record { name = and-left (hasName s es ps t p) _ e; next = next-of g numbered guarded taken begun p .0 (and-right (hasName s es ps t p) _ e) }
 
       reached : (p : ℕ) → Fits s es g ps taken t p → 1 ≤ search f (size g)
       reached p x =
-          let e = next-sound g 1 numbered (omega arith) taken p (x .next) in
-          let (l, h) = next-range g numbered (lastOr0 taken) p e in
+          let e = next-of g numbered guarded taken begun p .1 (x .next) in
+          let (l, h) = next-range g numbered guarded taken p (x .next) in
           search-finds f (size g) p l h (and-both (x .name) e)
 
-  pub required-means : (n : ℕ) → IsThe (Required g taken) (requiredOf (model g ps n) taken)
-  unfolding requiredOf
+  pub required-means : (n : ℕ) → IsThe (Required g taken) (requiredFor (model g ps n) taken)
+  unfolding requiredFor
   required-means n =
       record {
-        some = λ l. required-sound g 1 numbered (omega arith) taken begun (requiredIn g (lastOr0 taken)) refl l;
-        only = λ p r. required-complete g 1 numbered (omega arith) taken p r .0;
+        some = λ l. required-of g numbered guarded taken begun (requiredOf g taken) l .0 refl;
+        only = λ p r. required-one g numbered guarded taken p r;
       }
 
   pub complete-means : (n : ℕ) → (isCompleteIn (model g ps n) taken ≡ true) ↔ Complete g taken
   unfolding isCompleteIn
-  complete-means n = (complete-complete g 1 numbered (omega arith) taken begun, complete-sound g 1 numbered (omega arith) taken)
+  complete-means n = complete-of g numbered guarded taken begun
 
 -- Every model
 
@@ -157,40 +141,53 @@ abbrev pub AllNumbered : List Element → Type 0
 AllNumbered [] = Unit {0}
 AllNumbered (e ∷ es) = NumberedIn (e .content) × AllNumbered es
 
+-- No "&" group of a model stands in what carries "+" or "*", in any of them.
+abbrev pub AllGuarded : List Element → Type 0
+AllGuarded [] = Unit {0}
+AllGuarded (e ∷ es) = GuardedIn (e .content) × AllGuarded es
+
+element-guarded : (es : List Element) → AllGuarded es → (k : ℕ) → GuardedIn (elementAt es k .content)
+unfolding elementAt
+element-guarded [] d k = tt
+element-guarded (e ∷ es) d zero = d .0
+element-guarded (e ∷ es) d (suc k) = element-guarded es (d .1) k
+
+pub content-guarded : (es : List Element) → AllGuarded es → (k : ℕ) → GuardedIn (contentOf es k)
+content-guarded es d zero = refl
+content-guarded es d (suc k) = element-guarded es d k
+
 -- What the decisions need of an element's content.
 abbrev pub Fair : List ℕ → Content → Type 0
-Fair s c = NumberedIn c × Unambiguous s c
+Fair s c = NumberedIn c × GuardedIn c × Unambiguous s c
 
-element-fair : (s : List ℕ) (es : List Element) → AllNumbered es → AllUnambiguous s es → (k : ℕ) → Fair s (elementAt es k .content)
+element-fair : (s : List ℕ) (es : List Element) → AllNumbered es → AllGuarded es → AllUnambiguous s es → (k : ℕ) → Fair s (elementAt es k .content)
 unfolding elementAt
-element-fair s [] a u k = (tt, tt)
-element-fair s (e ∷ es) a u zero = (a .0, u .0)
-element-fair s (e ∷ es) a u (suc k) = element-fair s es (a .1) (u .1) k
+element-fair s [] a d u k = (tt, tt, tt)
+element-fair s (e ∷ es) a d u zero = (a .0, d .0, u .0)
+element-fair s (e ∷ es) a d u (suc k) = element-fair s es (a .1) (d .1) (u .1) k
 
 -- the document itself has one place
 document-fair : (same : ℕ → ℕ → Bool) (p q : ℕ) → PairAtFault same (place 1) p q → ⊥
-document-fair same p q f =
-    let (u, l, a, b) = pair-row same (place 1) refl p q f in
-    let x = next-range (place 1) refl u p a in
-    let y = next-range (place 1) refl u q b in
-    let z = f .0 in
+document-fair same p q (l, e, t, a, b) =
+    let x = next-range (place 1) refl refl t p a in
+    let y = next-range (place 1) refl refl t q b in
     omega arith
 
-content-fair : (s : List ℕ) (es : List Element) → AllNumbered es → AllUnambiguous s es → (k : ℕ) → Fair s (contentOf es k)
-content-fair s es a u zero = (refl, document-fair _)
-content-fair s es a u (suc k) = element-fair s es a u k
+content-fair : (s : List ℕ) (es : List Element) → AllNumbered es → AllGuarded es → AllUnambiguous s es → (k : ℕ) → Fair s (contentOf es k)
+content-fair s es a d u zero = (refl, refl, document-fair _)
+content-fair s es a d u (suc k) = element-fair s es a d u k
 
-module _ (s : List ℕ) (es : List Element) (numbered : AllNumbered es) (unambiguous : AllUnambiguous s es) where
+module _ (s : List ℕ) (es : List Element) (numbered : AllNumbered es) (guarded : AllGuarded es) (unambiguous : AllUnambiguous s es) where
   fair : (k : ℕ) {g : Group} {ps : List Place} {n : ℕ} → contentOf es k ≡ model g ps n → Fair s (model g ps n)
-  fair k c = subst (Fair s) c (content-fair s es numbered unambiguous k)
+  fair k c = subst (Fair s) c (content-fair s es numbered guarded unambiguous k)
 
   decided-walks : (k : ℕ) {g : Group} {ps : List Place} {n : ℕ} → contentOf es k ≡ model g ps n → (taken : List ℕ) → Begins g taken → MeansAt s es (decided s es) k g ps taken
   decided-walks k {g} {ps} {n} c taken b =
-      let (i, u) = fair k c in
+      let (i, d, u) = fair k c in
       record {
-        fits = λ t. subst (λ (x : Content). IsThe (Fits s es g ps taken t) (fitsIn s es x taken t)) (sym c) (fits-means s es g ps i u taken b n t);
-        complete = subst (λ (x : Content). (isCompleteIn x taken ≡ true) ↔ Complete g taken) (sym c) (complete-means s es g ps i u taken b n);
-        required = subst (λ (x : Content). IsThe (Required g taken) (requiredOf x taken)) (sym c) (required-means s es g ps i u taken b n);
+        fits = λ t. subst (λ (x : Content). IsThe (Fits s es g ps taken t) (fitsIn s es x taken t)) (sym c) (fits-means s es g ps i d u taken b n t);
+        complete = subst (λ (x : Content). (isCompleteIn x taken ≡ true) ↔ Complete g taken) (sym c) (complete-means s es g ps i d u taken b n);
+        required = subst (λ (x : Content). IsThe (Required g taken) (requiredFor x taken)) (sym c) (required-means s es g ps i d u taken b n);
       }
 
   -- The decisions exist.

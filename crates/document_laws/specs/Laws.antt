@@ -10,12 +10,12 @@ use Rattle.rules.specs.Decisions.{Decisions, Means}
 use Rattle.rules.specs.Events.{Event}
 use Rattle.rules.specs.Reader.{document, BothLegible, Reads}
 use Rattle.document_laws.specs.Decide.{decided, decided-means}
-use Rattle.document_laws.specs.Numbers.{typeFile-numbered}
+use Rattle.document_laws.specs.Numbers.{typeFile-numbered, typeFile-guarded}
 use Rattle.document_laws.specs.Same.{document-one}
 
 -- Under an accepted type the walks can be decided, by the last place taken in each open element.
 pub accepted-decided : {c : Settings} (s : List ℕ) (es : List Element) → Accepts c s es → Means s es (decided s es)
-accepted-decided {c} s es a = decided-means s es (typeFile-numbered c s es (a .elements)) (a .unambiguous)
+accepted-decided {c} s es a = decided-means s es (typeFile-numbered c s es (a .elements)) (typeFile-guarded c s es (a .elements) (a .unrepeated)) (a .unambiguous)
 
 -- So the document has a reading.
 pub reads-some : {c : Settings} (s d : List ℕ) (es : List Element) → BothLegible c s d → Accepts c s es → Reads c s d es (document c s es (decided s es) d)

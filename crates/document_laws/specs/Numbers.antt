@@ -1,18 +1,22 @@
--- The places of every model that is read are numbered from 1, left to right.
+-- The places of every model that is read are numbered from 1, left to right; and where no "&" is refused, none stands under "+".
 use Prim.Native.Nat.{ℕ, suc, _+_}
 use mathlib.Core.Path.{_≡_, refl, subst}
 use mathlib.Core.List.{List, [], _∷_, _++_}
 use native.Mathlib.Omega.{arith}
 use lib.ListN.{length, length-append}
+use lib.Dec.{eqb}
+use borrow.Author.Tests.{eqb-true, eq-eqb}
 use Rattle.rules.specs.Settings.{Settings}
 use Rattle.rules.specs.Reading.{got}
 use Rattle.rules.specs.Walk.{Group}
 use Rattle.rules.specs.TypeFile.{Place, Content, empty, model, Element, typeFile}
 use Rattle.rules_laws.specs.Holds.{got-so}
-use Rattle.rules_laws.specs.Groups.{Builds, Built, content-read}
+use Rattle.rules_laws.specs.Groups.{Builds, Built, GuardedIn, whatever-builds, content-read}
 use Rattle.rules_laws.specs.Declarations.{Declares, typeFile-holds}
 use Rattle.model_sets.specs.Sets.{size, Numbered}
-use Rattle.document_laws.specs.Decide.{NumberedIn, AllNumbered}
+use Rattle.rules.specs.Judge.{firstRepeated}
+use Rattle.model_sets.specs.Bits.{bool-cases, not-both}
+use Rattle.document_laws.specs.Decide.{NumberedIn, AllNumbered, AllGuarded}
 
 -- The group g has the places behind ps, and qs are the places with them.
 pub record Counted (ps : List Place) (g : Group) (qs : List Place) : Type 0 where
@@ -36,6 +40,8 @@ counted-builds =
       repeated = λ c. record { numbered = c .numbered; counted = c .counted };
       sequence = λ c d. record { numbered = (c .numbered, behind c d); counted = total c d };
       choice = λ c d. record { numbered = (c .numbered, behind c d); counted = total c d };
+      anyOrder = λ c d. record { numbered = (c .numbered, behind c d); counted = total c d };
+      another = λ c d. record { numbered = (c .numbered, behind c d); counted = total c d };
     }
 
 content-numbered : (c : Content) → Built Counted c → NumberedIn c
@@ -52,3 +58,29 @@ module _ (c : Settings) (s : List ℕ) where
 
   pub typeFile-numbered : (es : List Element) → typeFile c s ≡ got es → AllNumbered es
   typeFile-numbered es e = got-so (typeFile-holds c s AllNumbered declared-more tt) e .1
+
+-- No "&" is refused among these and one more exactly if none is in either.
+repeated-more : (es : List Element) (e : Element) → firstRepeated (es ++ e ∷ []) ≡ 0 → (firstRepeated es ≡ 0) × (e .repeated ≡ 0)
+unfolding firstRepeated
+repeated-more [] e x = (refl, bool-cases (eqb (e .repeated) 0) (λ y. eqb-true (e .repeated) 0 y) (λ y. rw (y, firstRepeated) at x))
+repeated-more (k ∷ es) e x =
+    bool-cases
+    (eqb (k .repeated) 0)
+    (λ y. let (a, b) = repeated-more es e (rw (y, firstRepeated) at x) in (rw (y, firstRepeated) a, b))
+    (λ y. absurd (not-both y (eq-eqb (k .repeated) 0 (rw (y, firstRepeated) at x))))
+
+guarded-more : (es : List Element) (e : Element) → AllGuarded es → GuardedIn (e .content) → AllGuarded (es ++ e ∷ [])
+guarded-more [] e a g = (g, tt)
+guarded-more (x ∷ es) e a g = (a .0, guarded-more es e (a .1) g)
+
+abbrev Unrefused : List Element → Type 0
+Unrefused es = firstRepeated es ≡ 0 → AllGuarded es
+
+module _ (c : Settings) (s : List ℕ) where
+  unrefused-more : (es : List Element) (e : Element) → Unrefused es → Declares c s es e → Unrefused (es ++ e ∷ [])
+  unrefused-more es e a d x =
+      let (y, z) = repeated-more es e x in
+      guarded-more es e (a y) (got-so (content-read c s whatever-builds (d .before) (d .begun)) (d .contentRead) .guarded z)
+
+  pub typeFile-guarded : (es : List Element) → typeFile c s ≡ got es → firstRepeated es ≡ 0 → AllGuarded es
+  typeFile-guarded es e = got-so (typeFile-holds c s Unrefused unrefused-more (λ x. tt)) e .1

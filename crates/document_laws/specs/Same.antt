@@ -14,7 +14,7 @@ use Rattle.rules.specs.Reader.{settlePiece, document}
 use Rattle.rules_laws.specs.Holds.{Any, got-so, each}
 use Rattle.rules_laws.specs.Both.{so, first, same}
 use Rattle.rules_laws.specs.In.{All, none, more}
-use Rattle.model_sets.specs.Reach.{begins-none}
+use Rattle.and_laws.specs.Begun.{begins-none}
 use Rattle.document_laws.specs.Agree.{agree}
 use Rattle.document_laws.specs.Moves.{fresh, parent, parent-is, Answers, Chosen, fits, required, Moves, Itself, keeps-ends, withDatum, settlePiece-both, document-both}
 unfoldable pub use Rattle.document_laws.specs.Chain.{link}
@@ -61,7 +61,7 @@ module _ (s : List ℕ) (es : List Element) (D E : Decisions) (x : Means s es D)
   took-begun o p b (fits t l) =
       record { group = b .group; places = b .places; tokens = b .tokens; has = b .has; begins = x .walks (o .number) (b .has) (o .taken) (b .begins) .fits t .some l .next }
   took-begun o p b (required l) =
-      record { group = b .group; places = b .places; tokens = b .tokens; has = b .has; begins = x .walks (o .number) (b .has) (o .taken) (b .begins) .required .some l .0 }
+      record { group = b .group; places = b .places; tokens = b .tokens; has = b .has; begins = x .walks (o .number) (b .has) (o .taken) (b .begins) .required .some l .next }
 
   pub begun-moves : Moves s es D E (Itself (AllBegun es))
   begun-moves =

@@ -6,6 +6,7 @@ use inputs::Settings;
 use layout::EVENT;
 use layout::FACTS;
 use layout::INDEX;
+use layout::MEMBERS;
 use layout::NUMBER;
 use layout::PLACES;
 use layout::RECORDS;
@@ -55,7 +56,59 @@ fn judged(c: Settings, s: &[u8], d: &[u8], elements: &mut [u32; RECORDS]) -> Ans
     }
 }
 
-// Reads the document under an accepted type, whose n elements are recorded.
+// Whether an "&" stands anywhere in the text. The loop has no way out, so that it goes by several bytes at a time.
+fn holds_and(s: &[u8]) -> bool {
+    let mut some = false;
+    let mut i = 0;
+    while i < s.len() {
+        if s[i] == b'&' {
+            some = true;
+        }
+        i += 1;
+    }
+    some
+}
+
+// The events of the document under a type whose tables are filled.
+fn follow(
+    long: usize,
+    s: &[u8],
+    d: &[u8],
+    elements: &[u32; RECORDS],
+    index: &[u8; INDEX],
+    rows: &[u8; ROWS],
+    places: &[u8; PLACES],
+    facts: &[u8; FACTS],
+    members: &[u8],
+    numbers: &mut [u32],
+    bytes: &mut [u8],
+) -> Counted {
+    // The class of each byte, 32 a row, is 1 for one that may begin something else than data, 2 for one that may go on a name
+    let classes = b"\0\0\0\0\0\0\0\0\0\0\x01\0\0\0\0\0\0\0\0\0\0\0\0\0\0\0\0\0\0\0\0\0\
+        \0\0\0\0\0\0\x01\0\0\0\0\0\0\x02\x02\0\x02\x02\x02\x02\x02\x02\x02\x02\x02\x02\0\0\x01\0\0\0\
+        \0\x02\x02\x02\x02\x02\x02\x02\x02\x02\x02\x02\x02\x02\x02\x02\x02\x02\x02\x02\x02\x02\x02\x02\x02\x02\x02\0\0\x01\0\0\
+        \0\x02\x02\x02\x02\x02\x02\x02\x02\x02\x02\x02\x02\x02\x02\x02\x02\x02\x02\x02\x02\x02\x02\x02\x02\x02\x02\0\0\0\0\0\
+        \0\0\0\0\0\0\0\0\0\0\0\0\0\0\0\0\0\0\0\0\0\0\0\0\0\0\0\0\0\0\0\0\
+        \0\0\0\0\0\0\0\0\0\0\0\0\0\0\0\0\0\0\0\0\0\0\0\0\0\0\0\0\0\0\0\0\
+        \0\0\0\0\0\0\0\0\0\0\0\0\0\0\0\0\0\0\0\0\0\0\0\0\0\0\0\0\0\0\0\0\
+        \0\0\0\0\0\0\0\0\0\0\0\0\0\0\0\0\0\0\0\0\0\0\0\0\0\0\0\0\0\0\0\0";
+    document_events::events_of(
+        long,
+        s,
+        elements,
+        index,
+        rows,
+        places,
+        facts,
+        members,
+        classes,
+        d,
+        numbers,
+        bytes,
+    )
+}
+
+// Reads the document under an accepted type, whose n elements are recorded. A type without "&" needs no table of members.
 fn read_under(
     long: usize,
     s: &[u8],
@@ -74,6 +127,34 @@ fn read_under(
     let mut places = [0u8; PLACES];
     let mut facts = [0u8; FACTS];
     element_index::fill_index(s, elements, n, &mut index);
+    if holds_and(s) {
+        let mut members = [0u8; MEMBERS];
+        table_fill::fill(
+            long,
+            s,
+            elements,
+            n,
+            &index,
+            &mut rows,
+            &mut places,
+            &mut facts,
+            &mut members,
+        );
+        return follow(
+            long,
+            s,
+            d,
+            elements,
+            &index,
+            &rows,
+            &places,
+            &facts,
+            &members,
+            numbers,
+            bytes,
+        );
+    }
+    let mut none = [0u8; 0];
     table_fill::fill(
         long,
         s,
@@ -83,26 +164,18 @@ fn read_under(
         &mut rows,
         &mut places,
         &mut facts,
+        &mut none,
     );
-    // The class of each byte, 32 a row, is 1 for one that may begin something else than data, 2 for one that may go on a name
-    let classes = b"\0\0\0\0\0\0\0\0\0\0\x01\0\0\0\0\0\0\0\0\0\0\0\0\0\0\0\0\0\0\0\0\0\
-        \0\0\0\0\0\0\x01\0\0\0\0\0\0\x02\x02\0\x02\x02\x02\x02\x02\x02\x02\x02\x02\x02\0\0\x01\0\0\0\
-        \0\x02\x02\x02\x02\x02\x02\x02\x02\x02\x02\x02\x02\x02\x02\x02\x02\x02\x02\x02\x02\x02\x02\x02\x02\x02\x02\0\0\x01\0\0\
-        \0\x02\x02\x02\x02\x02\x02\x02\x02\x02\x02\x02\x02\x02\x02\x02\x02\x02\x02\x02\x02\x02\x02\x02\x02\x02\x02\0\0\0\0\0\
-        \0\0\0\0\0\0\0\0\0\0\0\0\0\0\0\0\0\0\0\0\0\0\0\0\0\0\0\0\0\0\0\0\
-        \0\0\0\0\0\0\0\0\0\0\0\0\0\0\0\0\0\0\0\0\0\0\0\0\0\0\0\0\0\0\0\0\
-        \0\0\0\0\0\0\0\0\0\0\0\0\0\0\0\0\0\0\0\0\0\0\0\0\0\0\0\0\0\0\0\0\
-        \0\0\0\0\0\0\0\0\0\0\0\0\0\0\0\0\0\0\0\0\0\0\0\0\0\0\0\0\0\0\0\0";
-    document_events::events_of(
+    follow(
         long,
         s,
+        d,
         elements,
         &index,
         &rows,
         &places,
         &facts,
-        classes,
-        d,
+        &none,
         numbers,
         bytes,
     )

@@ -10,12 +10,16 @@ ghost use Rattle.rules.specs.Settings.{settings};
 ghost use Rattle.rules.specs.TypeFile.{contentWord, contentModel, content};
 ghost use Rattle.element_content.specs.Kept.{wrongWord, MeetsBody, bodyFault};
 
-// The content: EMPTY (0) or a model (1), its content tokens and places.
+// The content: EMPTY (0) or a model (1), its content tokens and places, how many numbers its code has, where its first "&" stands, and the
+// first that is refused, or 0.
 pub struct Body {
     pub kind: u32,
     pub tokens: usize,
     pub places: usize,
     pub at: usize,
+    pub code: usize,
+    pub and: usize,
+    pub repeated: usize,
 }
 
 pub enum BodyRead {
@@ -72,6 +76,9 @@ fn body_word(
             tokens: 0,
             places: 0,
             at: e,
+            code: 0,
+            and: 0,
+            repeated: 0,
         });
     }
     if words::is_word(s, i, e, b"ANY")
@@ -95,7 +102,7 @@ fn body_model(
     ensures { λ r. ⌜ MeetsBody (length (now (s .entry))) (now (names .exit)) (now (table .exit)) r (contentModel (settings long) (now (s .entry)) i) ⌝ }
 {
     model_table::clear(table);
-    let r = group_reader::group_at(long, s, i, 16, 0, 0, names, table);
+    let r = group_reader::group_at(long, s, i, 16, 0, 0, 0, names, table);
     let ModelRead::Read(g) = r else {
         return BodyRead::Refused(content_tokens::fault_of(r));
     };
@@ -107,6 +114,9 @@ fn body_model(
         tokens: m.tokens,
         places: m.places,
         at: m.at,
+        code: model_code::wide(m.code),
+        and: model_code::wide(m.and),
+        repeated: model_code::wide(m.repeated),
     })
 }
 

@@ -29,6 +29,9 @@ pub struct Element {
     pub tokens: usize,
     pub places: usize,
     pub at: usize,
+    pub code: usize,
+    pub and: usize,
+    pub repeated: usize,
 }
 
 pub enum ElementRead {
@@ -101,6 +104,9 @@ fn rest_at(
         tokens: b.tokens,
         places: b.places,
         at: k,
+        code: b.code,
+        and: b.and,
+        repeated: b.repeated,
     })
 }
 

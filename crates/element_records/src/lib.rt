@@ -21,11 +21,12 @@ pub struct Clash {
     pub second: u32,
 }
 
-// How far the type file was read, how many elements it has so far, and the first pair at fault.
+// How far the type file was read, how many elements it has so far, the first pair at fault, and where the first "&" stands that is refused, or 0.
 pub struct Progress {
     pub at: usize,
     pub count: usize,
     pub clash: Clash,
+    pub repeated: usize,
 }
 
 pub enum Step {
@@ -74,7 +75,10 @@ fn clash_with(s: &[u8], c: Clash, e: Element, names: &[u32; NAMES], table: &[u8;
     if e.kind == 0 {
         return c;
     }
-    let pair = model_pairs::first_pair(s, names, table, e.places);
+    if e.repeated != 0 {
+        return c;
+    }
+    let pair = model_pairs::first_pair(s, names, table, e.places, e.code, e.and != 0);
     let q = pair.second;
     if q == 0 {
         return c;
@@ -111,9 +115,14 @@ pub fn element_at(
     };
     put_record(elements, count, e);
     let c = p.clash;
+    let mut first = p.repeated;
+    if first == 0 {
+        first = e.repeated;
+    }
     Step::Read(Progress {
         at: e.at,
         count: count + 1,
         clash: clash_with(s, c, e, names, table),
+        repeated: first,
     })
 }

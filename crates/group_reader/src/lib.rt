@@ -23,6 +23,17 @@ pub enum Next {
     Unfit(Fault),
 }
 
+// The code where a group of k content tokens joined by c ends: that of an "&" group gets how many there are.
+fn closed_code(table: &mut [u8; MODEL], code: u16, k: usize, c: u8) -> u16 {
+    if c != b'&' {
+        return code;
+    }
+    if 32 < k {
+        return code;
+    }
+    model_code::put(table, code, model_code::AND + k as u8)
+}
+
 // A content token that begins at `at`.
 fn token_at(
     long: usize,
@@ -32,6 +43,7 @@ fn token_at(
     full: bool,
     places: usize,
     tokens: usize,
+    code: u16,
     names: &mut [u32; NAMES],
     table: &mut [u8; MODEL],
 ) -> ModelRead
@@ -42,16 +54,16 @@ fn token_at(
 {
     let b = text::byte(s, at);
     if text::is_letter(b) {
-        return content_tokens::name_token(long, s, at, full, places, tokens, names, table);
+        return content_tokens::name_token(long, s, at, full, places, tokens, code, names, table);
     }
     if b == b'#' {
-        return content_tokens::data_token(s, at, full, places, tokens, names, table);
+        return content_tokens::data_token(s, at, full, places, tokens, code, names, table);
     }
     if b == b'(' {
         if full {
             return content_tokens::refusal(6, at);
         }
-        let r = group_at(long, s, at, levels, places, tokens + 1, names, table);
+        let r = group_at(long, s, at, levels, places, tokens + 1, code, names, table);
         let ModelRead::Read(m) = r else {
             return r;
         };
@@ -85,6 +97,7 @@ fn next_at(
     let b = text::byte(s, i);
     let places = m.places;
     let tokens = m.tokens;
+    let code = m.code;
     if b == b')' {
         let part = m.part;
         return Next::Closed(Model {
@@ -92,9 +105,12 @@ fn next_at(
             places: places,
             tokens: tokens,
             part: part,
+            code: closed_code(table, code, k, c),
+            and: m.and,
+            repeated: m.repeated,
         });
     }
-    if b == b'&' || b == b'%' {
+    if b == b'%' {
         return Next::Unfit(Fault { number: 5, at: i });
     }
     if !connectors::is_connector(b, c) {
@@ -102,11 +118,11 @@ fn next_at(
     }
     let j = text::separators_end(s, i + 1);
     let full = 32 <= k || 96 <= tokens;
-    let r = token_at(long, s, j, levels, full, places, tokens, names, table);
+    let r = token_at(long, s, j, levels, full, places, tokens, code, names, table);
     let ModelRead::Read(u) = r else {
         return Next::Unfit(content_tokens::fault_of(r));
     };
-    Next::Joined(b, connectors::joined_by(table, b, lo, m, u))
+    Next::Joined(b, connectors::joined_by(table, b, i, lo, m, u))
 }
 
 // A group whose "(" stands at `at`; `levels` is how many group levels are left. What `names` holds behind the places read so far, and where
@@ -118,6 +134,7 @@ pub fn group_at(
     levels: usize,
     places: usize,
     tokens: usize,
+    code: u16,
     names: &mut [u32; NAMES],
     table: &mut [u8; MODEL],
 ) -> ModelRead
@@ -138,6 +155,7 @@ pub fn group_at(
         96 <= tokens,
         places,
         tokens,
+        code,
         names,
         table,
     );

@@ -4,6 +4,7 @@
 // many events there are so far; they are put to `numbers` and `bytes` (crate event_buffer).
 // Where the tables are no type's, or the state stands in none, which ends and starts are inferred is not decided, but that the state's numbers are
 // in range and that so many events were put as are counted.
+use layout::BEGUN;
 use layout::FACTS;
 use layout::PLACES;
 use layout::ROWS;
@@ -26,6 +27,8 @@ pub fn ends(
     rows: &[u8; ROWS],
     places: &[u8; PLACES],
     facts: &[u8; FACTS],
+    members: &[u8],
+    begun: &[u32; BEGUN],
     state: Open,
     x: usize,
     at: usize,
@@ -39,7 +42,18 @@ pub fn ends(
     let mut o = state;
     let mut m = n;
     let found = loop {
-        let w = ways::way_at(rows, places, facts, o.element, o.place, o.required, x);
+        let w = ways::way_at(
+            rows,
+            places,
+            facts,
+            members,
+            begun,
+            o.count,
+            o.element,
+            o.place,
+            o.required,
+            x,
+        );
         let Way::Stuck = w else {
             break w;
         };
@@ -61,6 +75,8 @@ pub fn infer_start(
     rows: &[u8; ROWS],
     places: &[u8; PLACES],
     facts: &[u8; FACTS],
+    members: &[u8],
+    begun: &mut [u32; BEGUN],
     state: Open,
     at: usize,
     n: usize,
@@ -72,5 +88,5 @@ pub fn infer_start(
 {
     let k = type_tables::startable(places, facts, state.element, state.required);
     event_buffer::put_event(numbers, bytes, n, 2, k, at, 0);
-    state.take(rows, state.required).start(rows, k)
+    state.start_required(rows, members, begun, k)
 }

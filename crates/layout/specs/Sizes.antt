@@ -7,12 +7,19 @@ use Rattle.rules.specs.Bytes.{GRPGTCNT, elementLimit}
 abbrev pub POSITIONS : ℕ
 POSITIONS = GRPGTCNT + 1
 
--- The table of a model: a row for each position, with a cell for each position and one for the required place.
+-- The table of a model: a row for each position, with a cell for each position and one for the required place; behind the rows the
+-- model as postfix code.
 abbrev pub MODEL-ROW : ℕ
 MODEL-ROW = POSITIONS + 1
 
+abbrev pub MODEL-ROWS : ℕ
+MODEL-ROWS = POSITIONS * MODEL-ROW
+
+abbrev pub CODE : ℕ
+CODE = 4 * GRPGTCNT + 3
+
 abbrev pub MODEL : ℕ
-MODEL = POSITIONS * MODEL-ROW
+MODEL = MODEL-ROWS + CODE
 
 -- The records of a type: six numbers for each element.
 abbrev pub RECORDS : ℕ

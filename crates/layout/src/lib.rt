@@ -14,10 +14,15 @@ pub const POSITIONS: usize = GRPGTCNT + 1;
 // The names of a model: of each place where it stands and how long it is.
 pub const NAMES: usize = 2 * GRPGTCNT;
 
-// The table of a model: a row for each position, with a cell for each position and one for the required place.
+// The table of a model: a row for each position, with a cell for each position and one for the required place; behind the rows the
+// model as postfix code, at most four numbers for each content token and three for the outermost group.
 pub const MODEL_ROW: usize = POSITIONS + 1;
 
-pub const MODEL: usize = POSITIONS * MODEL_ROW;
+pub const MODEL_ROWS: usize = POSITIONS * MODEL_ROW;
+
+pub const CODE: usize = 4 * GRPGTCNT + 3;
+
+pub const MODEL: usize = MODEL_ROWS + CODE;
 
 // The records of a type: six numbers for each element.
 pub const RECORD: usize = 6;
@@ -48,3 +53,18 @@ pub const PLACES: usize = CONTENTS * POSITIONS * LINK;
 pub const FACT: usize = CONTENTS + 3;
 
 pub const FACTS: usize = CONTENTS * FACT;
+
+// The members of "&" groups: of each content a number for each position and two for each member, and four for each group; members and groups count
+// from 1.
+pub const GROUP: usize = 4;
+
+pub const AND_GROUPS: usize = GRPGTCNT / 2;
+
+pub const MEMBER: usize = 3 * POSITIONS + GROUP * (AND_GROUPS + 1);
+
+pub const MEMBERS: usize = CONTENTS * MEMBER;
+
+// Which members have begun: of the document and of each of the 24 open elements 96 bits, three numbers; and one number more.
+pub const BEGUN_WORDS: usize = 3;
+
+pub const BEGUN: usize = 25 * BEGUN_WORDS + 1;

@@ -1,7 +1,7 @@
 -- Laws of the loops that search for a pair at fault: what each has done, a turn of it, and its end.
 use Prim.Native.Nat.{ℕ, zero, suc, _+_, _-_, _*_, _≤_, _<_}
 use mathlib.Core.Path.{_≡_, refl, sym, ap, _∙_}
-use mathlib.Core.Bool.{Bool, true, false, _&&_, _||_, or-true, or-false, and-false}
+use mathlib.Core.Bool.{Bool, true, false, _&&_, _||_, or-true, or-false, and-false, false≢true}
 use mathlib.Core.List.{List}
 use native.Mathlib.Nat.{add-zero}
 use native.Mathlib.Numerals.{add-one}
@@ -13,9 +13,9 @@ use Rattle.rules.specs.Judge.{samePlace}
 use Rattle.layout.specs.Sizes.{MODEL-ROW}
 use Rattle.model_sets.specs.Bits.{not-true, and-left}
 use Rattle.model_sets.specs.Search.{findFrom, pairOr, pairFrom, searchPair}
-use Rattle.model_sets.specs.Pairs.{clashIn}
+use Rattle.model_code.specs.Means.{Told}
 use Rattle.model_names.specs.Places.{placesOf}
-use Rattle.model_pairs.specs.Rows.{isNext, rowIn, faultIn}
+use Rattle.model_pairs.specs.Rows.{isNext, rowIn, clashIn, Tells, faultIn}
 
 -- A set of 97 to which the numbers below i that pass a test are added.
 pub record Added (f : ℕ → Bool) (start set : List Bool) (i : ℕ) : Type 0 where
@@ -130,92 +130,107 @@ module _ (f : ℕ → Bool) (end : ℕ) where
       rw m (left-past (r - q) q (omega arith) (λ x c d. fails x c (omega arith)))
 
 -- The search for the first place after p that is at fault with it has come to q.
-pub record Seeks (s names table : List ℕ) (n p q : ℕ) : Type 0 where
+pub record Seeks (s names : List ℕ) (F : ℕ → ℕ → Bool) (n p q : ℕ) : Type 0 where
   pub after : p < q
   pub within : q ≤ n + 1
-  pub still : findFrom (faultIn s names table n p) (n + 1 - q) q ≡ findFrom (faultIn s names table n p) (n - p) (suc p)
+  pub still : findFrom (faultIn s names F n p) (n + 1 - q) q ≡ findFrom (faultIn s names F n p) (n - p) (suc p)
 
-module _ (s names table : List ℕ) (n p : ℕ) where
-  pub seeks-start : p ≤ n → Seeks s names table n p (p + 1)
+module _ (s names : List ℕ) (F : ℕ → ℕ → Bool) (n p : ℕ) where
+  pub seeks-start : p ≤ n → Seeks s names F n p (p + 1)
   seeks-start h =
       let l : n + 1 - suc p ≡ n - p = omega arith in
       record { after = omega arith; within = omega arith; still = rw (add-one p, l) }
 
-  module _ (q : ℕ) (k : Seeks s names table n p q) where
-    pub seeks-past : q ≤ n → faultIn s names table n p q ≡ false → Seeks s names table n p (q + 1)
+  module _ (q : ℕ) (k : Seeks s names F n p q) where
+    pub seeks-past : q ≤ n → faultIn s names F n p q ≡ false → Seeks s names F n p (q + 1)
     seeks-past h e =
         let a = k .after in
         record {
           after = omega arith;
           within = omega arith;
-          still = sym (left-more (faultIn s names table n p) (n + 1) q (omega arith) e) ∙ k .still;
+          still = sym (left-more (faultIn s names F n p) (n + 1) q (omega arith) e) ∙ k .still;
         }
 
-    pub seeks-found : q ≤ n → faultIn s names table n p q ≡ true → q ≡ findFrom (faultIn s names table n p) (n - p) (suc p)
-    seeks-found h e = sym (left-found (faultIn s names table n p) (n + 1) q (omega arith) e) ∙ k .still
+    pub seeks-found : q ≤ n → faultIn s names F n p q ≡ true → q ≡ findFrom (faultIn s names F n p) (n - p) (suc p)
+    seeks-found h e = sym (left-found (faultIn s names F n p) (n + 1) q (omega arith) e) ∙ k .still
 
-    pub seeks-none : n < q → 0 ≡ findFrom (faultIn s names table n p) (n - p) (suc p)
-    seeks-none h = sym (left-none (faultIn s names table n p) (n + 1) q (omega arith)) ∙ k .still
+    pub seeks-none : n < q → 0 ≡ findFrom (faultIn s names F n p) (n - p) (suc p)
+    seeks-none h = sym (left-none (faultIn s names F n p) (n + 1) q (omega arith)) ∙ k .still
 
   -- A place with another name is not at fault with p.
-  other-name : (x : ℕ) → (samePlace s (placesOf names n) p x ≡ true → ⊥) → faultIn s names table n p x ≡ true → ⊥
+  other-name : (x : ℕ) → (samePlace s (placesOf names n) p x ≡ true → ⊥) → faultIn s names F n p x ≡ true → ⊥
   unfolding faultIn
   other-name x ne e = ne (and-left (samePlace s (placesOf names n) p x) _ e)
 
-  pub seeks-on : (q r : ℕ) → Seeks s names table n p q → q ≤ r → r ≤ n + 1 → ((x : ℕ) → q ≤ x → x < r → samePlace s (placesOf names n) p x ≡ true → ⊥) → Seeks s names table n p r
+  pub seeks-on : (q r : ℕ) → Seeks s names F n p q → q ≤ r → r ≤ n + 1 → ((x : ℕ) → q ≤ x → x < r → samePlace s (placesOf names n) p x ≡ true → ⊥) → Seeks s names F n p r
   seeks-on q r k a b unlike =
       let l = k .after in
       record {
         after = omega arith;
         within = b;
-        still = sym (left-on (faultIn s names table n p) (n + 1) q r a b (λ x c d. other-name x (unlike x c d))) ∙ k .still;
+        still = sym (left-on (faultIn s names F n p) (n + 1) q r a b (λ x c d. other-name x (unlike x c d))) ∙ k .still;
       }
 
 -- What the test of a place comes to.
-module _ (s names table : List ℕ) (n p q : ℕ) (near : Bool) (nearby : near ≡ clashIn (rowIn table) n p q) where
-  pub apart : near ≡ false → faultIn s names table n p q ≡ false
+module _ (s names table : List ℕ) (n code : ℕ) (and : Bool) (F : ℕ → ℕ → Bool) (tells : Tells table n code and F) (p q : ℕ) (from : 1 ≤ p) (less : p < q) (to : q ≤ n)
+    (near : Bool) (nearby : near ≡ clashIn (rowIn table) n p q) where
+  pub apart : near ≡ false → faultIn s names F n p q ≡ false
   unfolding faultIn
-  apart e = rw (faultIn, ← nearby, e, and-false)
+  apart e =
+      let none : F p q ≡ false = not-true (F p q) (λ (x : F p q ≡ true). false≢true (sym e ∙ nearby ∙ tells .near p q from less to x)) in
+      rw (none, and-false)
 
-  pub at-fault : samePlace s (placesOf names n) p q ≡ true → near ≡ true → faultIn s names table n p q ≡ true
-  unfolding faultIn
-  at-fault same e = rw (faultIn, same, ← nearby, e)
+  -- what the code or the rows tell where some row has both
+  told-so : (b r : Bool) → and ≡ b → near ≡ true → (and ≡ false → r ≡ true) → (and ≡ true → Told table p q code r) → r ≡ F p q
+  told-so false r is e plain told = plain is ∙ sym (tells .plain is p q from less to (sym nearby ∙ e))
+  told-so true r is e plain told = tells .exact is p q from less to r (told is)
+
+  module _ (e : near ≡ true) (r : Bool) (plain : and ≡ false → r ≡ true) (told : and ≡ true → Told table p q code r) where
+    pub at-fault : samePlace s (placesOf names n) p q ≡ true → r ≡ true → faultIn s names F n p q ≡ true
+    unfolding faultIn
+    at-fault same is = rw (same) (sym (told-so and r refl e plain told) ∙ is)
+
+    pub not-fault : r ≡ false → faultIn s names F n p q ≡ false
+    unfolding faultIn
+    not-fault is =
+        let none : F p q ≡ false = sym (told-so and r refl e plain told) ∙ is in
+        rw (none, and-false)
 
 -- The search for the first pair at fault has come to p.
-pub record SeeksPair (s names table : List ℕ) (n p : ℕ) : Type 0 where
+pub record SeeksPair (s names : List ℕ) (F : ℕ → ℕ → Bool) (n p : ℕ) : Type 0 where
   pub from : 1 ≤ p
   pub within : p ≤ n + 1
-  pub still : pairFrom (faultIn s names table n) (n + 1 - p) p ≡ searchPair (faultIn s names table n) n
+  pub still : pairFrom (faultIn s names F n) (n + 1 - p) p ≡ searchPair (faultIn s names F n) n
 
 other-than-0 : (p q : ℕ) (r : ℕ × ℕ) → (q ≡ 0 → ⊥) → pairOr p q r ≡ (p, q)
 other-than-0 p zero r ne = absurd (ne refl)
 other-than-0 p (suc q) r ne = refl
 
-module _ (s names table : List ℕ) (n : ℕ) where
-  pub pairs-start : SeeksPair s names table n 1
+module _ (s names : List ℕ) (F : ℕ → ℕ → Bool) (n : ℕ) where
+  pub pairs-start : SeeksPair s names F n 1
   pairs-start =
       let l : n + 1 - 1 ≡ n = omega arith in
       record { from = omega arith; within = omega arith; still = rw l }
 
-  module _ (p : ℕ) (k : SeeksPair s names table n p) where
-    pair-more : p ≤ n → pairFrom (faultIn s names table n) (n + 1 - p) p
-        ≡ pairOr p (findFrom (faultIn s names table n p) (n - p) (suc p)) (pairFrom (faultIn s names table n) (n - p) (suc p))
+  module _ (p : ℕ) (k : SeeksPair s names F n p) where
+    pair-more : p ≤ n → pairFrom (faultIn s names F n) (n + 1 - p) p
+        ≡ pairOr p (findFrom (faultIn s names F n p) (n - p) (suc p)) (pairFrom (faultIn s names F n) (n - p) (suc p))
     pair-more h =
         let l : n + 1 - p ≡ suc (n - p) = omega arith in
         rw l
 
-    pub pairs-past : (q : ℕ) → p ≤ n → q ≡ findFrom (faultIn s names table n p) (n - p) (suc p) → q ≡ 0 → SeeksPair s names table n (p + 1)
+    pub pairs-past : (q : ℕ) → p ≤ n → q ≡ findFrom (faultIn s names F n p) (n - p) (suc p) → q ≡ 0 → SeeksPair s names F n (p + 1)
     pairs-past q h e z =
         let l : n + 1 - suc p ≡ n - p = omega arith in
-        let f : findFrom (faultIn s names table n p) (n - p) (suc p) ≡ 0 = sym e ∙ z in
+        let f : findFrom (faultIn s names F n p) (n - p) (suc p) ≡ 0 = sym e ∙ z in
         record { from = omega arith; within = omega arith; still = rw (add-one p, l) (rw f at (sym (pair-more h) ∙ k .still)) }
 
-    pub pairs-found : (q : ℕ) → p ≤ n → q ≡ findFrom (faultIn s names table n p) (n - p) (suc p) → (q ≡ 0 → ⊥) → (p, q) ≡ searchPair (faultIn s names table n) n
+    pub pairs-found : (q : ℕ) → p ≤ n → q ≡ findFrom (faultIn s names F n p) (n - p) (suc p) → (q ≡ 0 → ⊥) → (p, q) ≡ searchPair (faultIn s names F n) n
     pairs-found q h e ne =
-        let rest : ℕ × ℕ = pairFrom (faultIn s names table n) (n - p) (suc p) in
+        let rest : ℕ × ℕ = pairFrom (faultIn s names F n) (n - p) (suc p) in
         sym (other-than-0 p q rest ne) ∙ ap (λ (x : ℕ). pairOr p x rest) e ∙ sym (pair-more h) ∙ k .still
 
-    pub pairs-none : n < p → (0, 0) ≡ searchPair (faultIn s names table n) n
+    pub pairs-none : n < p → (0, 0) ≡ searchPair (faultIn s names F n) n
     pairs-none h =
         let l : n + 1 - p ≡ 0 = omega arith in
         rw l at (k .still)

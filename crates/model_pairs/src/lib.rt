@@ -4,14 +4,14 @@ use layout::MODEL_ROW;
 use layout::NAMES;
 use layout::POSITIONS;
 ghost use mathlib.Core.Path.{_≡_};
-ghost use mathlib.Core.Bool.{false, _||_};
+ghost use mathlib.Core.Bool.{Bool, true, false, _||_};
 ghost use Prim.Native.Nat.{ℕ, suc, _+_, _-_, _*_, _≤_, _<_};
 ghost use lib.ListN.{getD};
 ghost use Rattle.layout.specs.Sizes.{MODEL-ROW};
 ghost use Rattle.model_sets.specs.Search.{findFrom, searchPair};
-ghost use Rattle.model_sets.specs.Pairs.{clashIn};
+ghost use Rattle.model_code.specs.Means.{Told};
 ghost use Rattle.model_names.specs.Places.{placeIn, keyOf};
-ghost use Rattle.model_pairs.specs.Rows.{isNext, rowIn, faultIn};
+ghost use Rattle.model_pairs.specs.Rows.{isNext, rowIn, clashIn, Tells, faultIn};
 
 // Two places, the smaller number first; both 0 if there is no pair.
 pub struct Pair {
@@ -66,6 +66,16 @@ fn beside(table: &[u8; MODEL], n: usize, p: usize) -> [bool; POSITIONS]
     set
 }
 
+// Whether p and q, which some row has both, can both come next after one beginning. Without "&" the last place decides, so they can.
+fn is_fault(table: &[u8; MODEL], code: usize, and: bool, p: usize, q: usize) -> bool
+    ensures { λ r. ⌜ (and ≡ false → r ≡ true) × (and ≡ true → Told (now (table .entry)) p q code r) ⌝ }
+{
+    if !and {
+        return true;
+    }
+    model_code::clash(table, code, p, q)
+}
+
 // The first place after p that is at fault with it, 0 if there is none.
 fn partner(
     s: &[u8],
@@ -73,11 +83,13 @@ fn partner(
     table: &[u8; MODEL],
     keys: &[u32; POSITIONS],
     n: usize,
+    code: usize,
+    and: bool,
     p: usize,
 ) -> usize
     requires { ⌜ (n ≤ 96) × (1 ≤ p) × (p ≤ n) ⌝ }
     requires { ⌜ ((x : ℕ) → 1 ≤ x → x ≤ n → getD (now keys) x 0 ≡ keyOf (now s) (placeIn (now names) (x - 1))) ⌝ }
-    ensures { λ r. ⌜ r ≡ findFrom (faultIn (now (s .entry)) (now (names .entry)) (now (table .entry)) n p) (n - p) (suc p) ⌝ }
+    ensures { λ r. ⌜ ((F : ℕ → ℕ → Bool) → Tells (now (table .entry)) n code and F → r ≡ findFrom (faultIn (now (s .entry)) (now (names .entry)) F n p) (n - p) (suc p)) ⌝ }
 {
     if !same_names::shares_key(keys, n, p) {
         return 0;
@@ -89,22 +101,32 @@ fn partner(
     let near = beside(table, n, p);
     while q <= n {
         if near[q] {
-            return q;
+            if is_fault(table, code, and, p, q) {
+                return q;
+            }
         }
         q = same_names::same_name(s, names, keys, n, p, q + 1);
     }
     0
 }
 
-// The model's first pair at fault: s is the type file, `names` and `table` are those of the model, n is how many places it has.
-pub fn first_pair(s: &[u8], names: &[u32; NAMES], table: &[u8; MODEL], n: usize) -> Pair
+// The model's first pair at fault: s is the type file, `names` and `table` are those of the model, n is how many places it has,
+// `code` how many numbers of code, `and` whether it has an "&".
+pub fn first_pair(
+    s: &[u8],
+    names: &[u32; NAMES],
+    table: &[u8; MODEL],
+    n: usize,
+    code: usize,
+    and: bool,
+) -> Pair
     requires { ⌜ n ≤ 96 ⌝ }
-    ensures { λ r. ⌜ (r .first, r .second) ≡ searchPair (faultIn (now (s .entry)) (now (names .entry)) (now (table .entry)) n) n ⌝ }
+    ensures { λ r. ⌜ ((F : ℕ → ℕ → Bool) → Tells (now (table .entry)) n code and F → (r .first, r .second) ≡ searchPair (faultIn (now (s .entry)) (now (names .entry)) F n) n) ⌝ }
 {
     let keys = same_names::keys_of(s, names, n);
     let mut p = 1;
     while p <= n {
-        let q = partner(s, names, table, &keys, n, p);
+        let q = partner(s, names, table, &keys, n, code, and, p);
         if q != 0 {
             return Pair {
                 first: p,

@@ -36,7 +36,7 @@ fn packed(table: &[u8; MODEL], i: usize) -> u8
 }
 
 // The row of the element e after the place u.
-fn put_row(rows: &mut [u8; ROWS], e: usize, table: &[u8; MODEL], u: usize)
+fn put_row(rows: &mut [u8; ROWS], e: usize, table: &[u8; MODEL], u: usize, raise: u8)
     requires { ⌜ (e ≤ 64) × (u ≤ 96) × (length (now rows) ≡ ROWS) ⌝ }
     ensures { λ _. ⌜ RowPut (now (table .entry)) e u (now (rows .entry)) (now (rows .exit)) ⌝ }
 {
@@ -48,17 +48,18 @@ fn put_row(rows: &mut [u8; ROWS], e: usize, table: &[u8; MODEL], u: usize)
     }
     rows[r + 12] = cell(table, u * MODEL_ROW + 96);
     let required = table[u * MODEL_ROW + POSITIONS];
-    rows[r + 13] = required;
+    rows[r + 13] = required + raise;
 }
 
 // The rows of the element e, whose model has `count` places.
-pub fn put_rows(rows: &mut [u8; ROWS], e: usize, table: &[u8; MODEL], count: usize)
+pub fn put_rows(rows: &mut [u8; ROWS], e: usize, table: &[u8; MODEL], count: usize, raise: u8)
     requires { ⌜ (e ≤ 64) × (count ≤ 96) × (length (now rows) ≡ ROWS) ⌝ }
     ensures { λ _. ⌜ RowsPut (now (table .entry)) e (now (rows .entry)) (now (rows .exit)) (count + 1) ⌝ }
 {
-    let mut u = 0;
+    put_row(rows, e, table, 0, 0);
+    let mut u = 1;
     while u <= count {
-        put_row(rows, e, table, u);
+        put_row(rows, e, table, u, raise);
         u += 1;
     }
 }

@@ -1,9 +1,4 @@
--- What can be computed of a content model by recursion on its groups, proved against walks.
+-- What can be computed of a content model by recursion on its groups, and how a first pair is searched.
 pub mod Sets
 pub mod Bits
-pub mod Path
-pub mod Reach
 pub mod Search
-pub mod Ambiguous
-pub mod Pairs
-pub mod Must

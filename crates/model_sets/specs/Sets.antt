@@ -1,80 +1,135 @@
--- Which places can begin a group, end it, follow one another or are required, by recursion on the group.
+-- Which places can begin a group, end it, follow one another or are required, by recursion on the group. Of an "&" group this is what can be for some beginning that
+-- ends in a place: what has begun of it takes more away (and_laws).
 use Prim.Native.Nat.{ℕ, zero, suc, _+_}
 use mathlib.Core.Path.{_≡_}
 use mathlib.Core.Bool.{Bool, true, false, _&&_, _||_, not, cond}
 use lib.Dec.{eqb}
-use Rattle.rules.specs.Walk.{Group, place, seq, alt, opt, plus}
+use Rattle.rules.specs.Walk.{Group, place, seq, alt, opt, plus, and, Members, one, also}
 
 -- how many places a group has
-abbrev pub size : Group → ℕ
-size (place n) = 1
-size (seq g h) = size g + size h
-size (alt g h) = size g + size h
-size (opt g) = size g
-size (plus g) = size g
+abbrev mutual
+  pub size : Group → ℕ
+  size (place n) = 1
+  size (seq g h) = size g + size h
+  size (alt g h) = size g + size h
+  size (opt g) = size g
+  size (plus g) = size g
+  size (and m) = sizeM m
+
+  pub sizeM : Members → ℕ
+  sizeM (one g) = size g
+  sizeM (also m g) = sizeM m + size g
 
 -- the places of a group are numbered from `lo`, left to right
-abbrev pub Numbered : Group → ℕ → Type 0
-Numbered (place n) lo = n ≡ lo
-Numbered (seq g h) lo = Numbered g lo × Numbered h (lo + size g)
-Numbered (alt g h) lo = Numbered g lo × Numbered h (lo + size g)
-Numbered (opt g) lo = Numbered g lo
-Numbered (plus g) lo = Numbered g lo
+abbrev mutual
+  pub Numbered : Group → ℕ → Type 0
+  Numbered (place n) lo = n ≡ lo
+  Numbered (seq g h) lo = Numbered g lo × Numbered h (lo + size g)
+  Numbered (alt g h) lo = Numbered g lo × Numbered h (lo + size g)
+  Numbered (opt g) lo = Numbered g lo
+  Numbered (plus g) lo = Numbered g lo
+  Numbered (and m) lo = NumberedM m lo
 
-abbrev pub has : Group → ℕ → Bool
-has (place n) p = eqb n p
-has (seq g h) p = has g p || has h p
-has (alt g h) p = has g p || has h p
-has (opt g) p = has g p
-has (plus g) p = has g p
+  pub NumberedM : Members → ℕ → Type 0
+  NumberedM (one g) lo = Numbered g lo
+  NumberedM (also m g) lo = NumberedM m lo × Numbered g (lo + sizeM m)
+
+abbrev mutual
+  pub has : Group → ℕ → Bool
+  has (place n) p = eqb n p
+  has (seq g h) p = has g p || has h p
+  has (alt g h) p = has g p || has h p
+  has (opt g) p = has g p
+  has (plus g) p = has g p
+  has (and m) p = hasM m p
+
+  pub hasM : Members → ℕ → Bool
+  hasM (one g) p = has g p
+  hasM (also m g) p = hasM m p || has g p
 
 -- a walk of no place
-abbrev pub nullable : Group → Bool
-nullable (place n) = false
-nullable (seq g h) = nullable g && nullable h
-nullable (alt g h) = nullable g || nullable h
-nullable (opt g) = true
-nullable (plus g) = nullable g
+abbrev mutual
+  pub nullable : Group → Bool
+  nullable (place n) = false
+  nullable (seq g h) = nullable g && nullable h
+  nullable (alt g h) = nullable g || nullable h
+  nullable (opt g) = true
+  nullable (plus g) = nullable g
+  nullable (and m) = nullableM m
+
+  pub nullableM : Members → Bool
+  nullableM (one g) = nullable g
+  nullableM (also m g) = nullableM m && nullable g
 
 -- the place can begin a walk
-abbrev pub first : Group → ℕ → Bool
-first (place n) p = eqb n p
-first (seq g h) p = first g p || (nullable g && first h p)
-first (alt g h) p = first g p || first h p
-first (opt g) p = first g p
-first (plus g) p = first g p
+abbrev mutual
+  pub first : Group → ℕ → Bool
+  first (place n) p = eqb n p
+  first (seq g h) p = first g p || (nullable g && first h p)
+  first (alt g h) p = first g p || first h p
+  first (opt g) p = first g p
+  first (plus g) p = first g p
+  first (and m) p = firstM m p
+
+  pub firstM : Members → ℕ → Bool
+  firstM (one g) p = first g p
+  firstM (also m g) p = firstM m p || first g p
 
 -- the place can end a walk
-abbrev pub last : Group → ℕ → Bool
-last (place n) p = eqb n p
-last (seq g h) p = last h p || (nullable h && last g p)
-last (alt g h) p = last g p || last h p
-last (opt g) p = last g p
-last (plus g) p = last g p
+abbrev mutual
+  pub last : Group → ℕ → Bool
+  last (place n) p = eqb n p
+  last (seq g h) p = last h p || (nullable h && last g p)
+  last (alt g h) p = last g p || last h p
+  last (opt g) p = last g p
+  last (plus g) p = last g p
+  last (and m) p = lastM m p
+
+  pub lastM : Members → ℕ → Bool
+  lastM (one g) p = last g p
+  lastM (also m g) p = lastM m p || last g p
 
 -- p can stand directly after u in a walk
-abbrev pub follow : Group → ℕ → ℕ → Bool
-follow (place n) u p = false
-follow (seq g h) u p = follow g u p || (follow h u p || (last g u && first h p))
-follow (alt g h) u p = follow g u p || follow h u p
-follow (opt g) u p = follow g u p
-follow (plus g) u p = follow g u p || (last g u && first g p)
+abbrev mutual
+  pub follow : Group → ℕ → ℕ → Bool
+  follow (place n) u p = false
+  follow (seq g h) u p = follow g u p || (follow h u p || (last g u && first h p))
+  follow (alt g h) u p = follow g u p || follow h u p
+  follow (opt g) u p = follow g u p
+  follow (plus g) u p = follow g u p || (last g u && first g p)
+  follow (and m) u p = followM m u p
+
+  pub followM : Members → ℕ → ℕ → Bool
+  followM (one g) u p = follow g u p
+  followM (also m g) u p = (followM m u p || follow g u p) || ((lastM m u && first g p) || (last g u && firstM m p))
 
 -- the place required at the start, 0 if there is none
-abbrev pub must : Group → ℕ
-must (place n) = n
-must (seq g h) = cond (nullable g) (must h) (must g)
-must (alt g h) = 0
-must (opt g) = 0
-must (plus g) = must g
+abbrev mutual
+  pub must : Group → ℕ
+  must (place n) = n
+  must (seq g h) = cond (nullable g) (must h) (must g)
+  must (alt g h) = 0
+  must (opt g) = 0
+  must (plus g) = must g
+  must (and m) = mustM m
 
--- the place required once u was the last taken, 0 if there is none
-abbrev pub mustAfter : Group → ℕ → ℕ
-mustAfter (place n) u = 0
-mustAfter (seq g h) u = cond (has h u) (mustAfter h u) (cond (last g u && not (nullable h)) (must h) (mustAfter g u))
-mustAfter (alt g h) u = cond (has h u) (mustAfter h u) (mustAfter g u)
-mustAfter (opt g) u = mustAfter g u
-mustAfter (plus g) u = mustAfter g u
+  pub mustM : Members → ℕ
+  mustM (one g) = must g
+  mustM (also m g) = 0
+
+-- the place required once u was the last taken, 0 if there is none; were every "&" group around u whole
+abbrev mutual
+  pub mustAfter : Group → ℕ → ℕ
+  mustAfter (place n) u = 0
+  mustAfter (seq g h) u = cond (has h u) (mustAfter h u) (cond (last g u && not (nullable h)) (must h) (mustAfter g u))
+  mustAfter (alt g h) u = cond (has h u) (mustAfter h u) (mustAfter g u)
+  mustAfter (opt g) u = mustAfter g u
+  mustAfter (plus g) u = mustAfter g u
+  mustAfter (and m) u = mustAfterM m u
+
+  pub mustAfterM : Members → ℕ → ℕ
+  mustAfterM (one g) u = mustAfter g u
+  mustAfterM (also m g) u = cond (has g u) (mustAfter g u) (mustAfterM m u)
 
 -- The three as rows: row 0 is the start, row u > 0 is after the place u.
 abbrev pub nextIn : Group → ℕ → ℕ → Bool

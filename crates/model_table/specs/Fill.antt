@@ -6,9 +6,9 @@ use Prim.Native.Nat.{ℕ, _+_, _*_}
 use mathlib.Core.Bool.{Bool, _&&_, _||_, cond}
 use mathlib.Core.List.{List}
 use lib.ListN.{set, replicate}
-use Rattle.rules.specs.Walk.{Group, place, seq, alt, opt, plus}
+use Rattle.rules.specs.Walk.{Group, place, seq, alt, opt, plus, and, Members, one, also}
 use Rattle.layout.specs.Sizes.{MODEL-ROW, MODEL}
-use Rattle.model_sets.specs.Sets.{size, nullable, must}
+use Rattle.model_sets.specs.Sets.{size, sizeM, nullable, must}
 use Rattle.model_links.specs.Links.{link, settle, unbegin}
 use Rattle.model_table.specs.declared.Part.{Part}
 
@@ -28,6 +28,10 @@ partSeq g h = part (g .nullable && h .nullable) (cond (g .nullable) (h .required
 abbrev pub partAlt : Part → Part → Part
 partAlt g h = part (g .nullable || h .nullable) 0
 
+-- two groups in any order: the whole requires no place
+abbrev pub partAnd : Part → Part → Part
+partAnd g h = part (g .nullable && h .nullable) 0
+
 -- the ends of a first group stay ends if the second can be empty
 unfoldable pub closeEnds : List ℕ → ℕ → ℕ → Part → List ℕ
 closeEnds T lo mid h = cond (h .nullable) T (settle T lo mid (h .required))
@@ -39,6 +43,10 @@ closeStarts T mid hi g = cond (g .nullable) T (unbegin T mid hi)
 -- [lo, mid) is filled with a first group, [mid, hi) with a second: the two in sequence
 abbrev pub joinSeq : List ℕ → ℕ → ℕ → ℕ → Part → Part → List ℕ
 joinSeq T lo mid hi g h = closeStarts (closeEnds (link T lo mid mid hi) lo mid h) mid hi g
+
+-- [lo, mid) is filled with a first group, [mid, hi) with a second: the two in any order
+abbrev pub joinAnd : List ℕ → ℕ → ℕ → ℕ → List ℕ
+joinAnd T lo mid hi = link (link T lo mid mid hi) mid hi lo mid
 
 -- any of [lo, hi) that can end may be followed by any that can begin
 abbrev pub repeated : List ℕ → ℕ → ℕ → List ℕ
@@ -53,13 +61,18 @@ abbrev pub partOf : Group → Part
 partOf g = part (nullable g) (must g)
 
 -- what a group g whose places are numbered from lo does to the table
-abbrev pub fill : Group → ℕ → List ℕ → List ℕ
-fill (place n) lo T = putPlace T n
-fill (seq g h) lo T =
-    joinSeq (fill h (lo + size g) (fill g lo T)) lo (lo + size g) (lo + size g + size h) (partOf g) (partOf h)
-fill (alt g h) lo T = fill h (lo + size g) (fill g lo T)
-fill (opt g) lo T = fill g lo T
-fill (plus g) lo T = repeated (fill g lo T) lo (lo + size g)
+abbrev mutual
+  pub fill : Group → ℕ → List ℕ → List ℕ
+  fill (place n) lo T = putPlace T n
+  fill (seq g h) lo T = joinSeq (fill h (lo + size g) (fill g lo T)) lo (lo + size g) (lo + size g + size h) (partOf g) (partOf h)
+  fill (alt g h) lo T = fill h (lo + size g) (fill g lo T)
+  fill (opt g) lo T = fill g lo T
+  fill (plus g) lo T = repeated (fill g lo T) lo (lo + size g)
+  fill (and m) lo T = fillM m lo T
+
+  pub fillM : Members → ℕ → List ℕ → List ℕ
+  fillM (one g) lo T = fill g lo T
+  fillM (also m g) lo T = joinAnd (fill g (lo + sizeM m) (fillM m lo T)) lo (lo + sizeM m) (lo + sizeM m + size g)
 
 -- the empty table
 abbrev pub blank : List ℕ

@@ -8,20 +8,20 @@ use native.Mathlib.Omega.{arith}
 use lib.ListN.{length, getD, set, replicate, length-set, length-replicate}
 use lib.Seq.{getD-set-same, getD-set-other}
 use borrow.Author.Tests.{eq-eqb}
-use Rattle.rules.specs.Walk.{Group, place, seq, alt, opt, plus}
-use Rattle.layout.specs.Sizes.{MODEL-ROW, MODEL}
-use Rattle.model_sets.specs.Sets.{size, Numbered, has, nullable, first, last, follow, must, mustAfter, nextIn, completeIn, requiredIn}
+use Rattle.rules.specs.Walk.{Group, place, seq, alt, opt, plus, and, Members, one, also}
+use Rattle.layout.specs.Sizes.{MODEL-ROW, MODEL-ROWS, MODEL}
+use Rattle.model_sets.specs.Sets.{size, sizeM, Numbered, NumberedM, has, nullable, first, last, follow, must, mustAfter, nextIn, completeIn, requiredIn}
 use Rattle.model_links.specs.Links.{link, settle, unbegin}
-use Rattle.model_table.specs.Fill.{putPlace, closeEnds, closeStarts, joinSeq, partOf, finished, fill, blank, tableOf}
+use Rattle.model_table.specs.Fill.{putPlace, closeEnds, closeStarts, joinSeq, joinAnd, partOf, finished, fill, fillM, blank, tableOf}
 use Rattle.model_links.specs.Cells.{bit, below-or-from, Linked, linked, linked-same, linked-end, cond-and-false, Settled, settled, Unbegun, unbegun}
 use Rattle.model_table.specs.Places.{none-first, none-last, none-follow, has-under, has-over, has-inside}
 
--- S differs from T only in what it says of the places [lo, hi): row 0 says F, column 0 L, the columns between N and the last column M.
+-- The rows of S differ from those of T only in what they say of the places [lo, hi): row 0 says F, column 0 L, the columns between N and the last column M.
 pub record Shows (lo hi : ℕ) (T S : List ℕ) (F L : ℕ → Bool) (N : ℕ → ℕ → Bool) (M : ℕ → ℕ) : Type 0 where
   pub len : length S ≡ MODEL
   pub under : (k : ℕ) → k < lo → getD S k 0 ≡ getD T k 0
   pub between : (k : ℕ) → hi ≤ k → k < lo * MODEL-ROW → getD S k 0 ≡ getD T k 0
-  pub over : (k : ℕ) → hi * MODEL-ROW ≤ k → getD S k 0 ≡ getD T k 0
+  pub over : (k : ℕ) → hi * MODEL-ROW ≤ k → k < MODEL-ROWS → getD S k 0 ≡ getD T k 0
   pub begins : (p : ℕ) → lo ≤ p → p < hi → getD S p 0 ≡ bit (F p)
   pub ends : (u : ℕ) → lo ≤ u → u < hi → getD S (u * MODEL-ROW) 0 ≡ bit (L u)
   pub follows : (u p : ℕ) → lo ≤ u → u < hi → 1 ≤ p → p < 97 → getD S (u * MODEL-ROW + p) 0 ≡ bit (N u p)
@@ -35,14 +35,14 @@ Filled g lo T S = Shows lo (lo + size g) T S (first g) (last g) (follow g) (must
 pub record Fresh (lo : ℕ) (T : List ℕ) : Type 0 where
   pub len : length T ≡ MODEL
   pub row-0 : (k : ℕ) → lo ≤ k → k < 97 → getD T k 0 ≡ 0
-  pub rows : (k : ℕ) → lo * MODEL-ROW ≤ k → getD T k 0 ≡ 0
+  pub rows : (k : ℕ) → lo * MODEL-ROW ≤ k → k < MODEL-ROWS → getD T k 0 ≡ 0
 
 fresh-after : (g : Group) (lo : ℕ) (T S : List ℕ) → 1 ≤ lo → Fresh lo T → Filled g lo T S → Fresh (lo + size g) S
 fresh-after g lo T S from t s =
     record {
       len = s .len;
       row-0 = λ k ge lt. s .between k ge (omega arith) ∙ t .row-0 k (omega arith) lt;
-      rows = λ k ge. s .over k ge ∙ t .rows k (omega arith);
+      rows = λ k ge lt. s .over k ge lt ∙ t .rows k (omega arith) lt;
     }
 
 -- a place alone
@@ -57,7 +57,7 @@ placed n lo T from to e t =
       len = length-set S (n * MODEL-ROW) 1 ∙ m;
       under = λ k lt. else k (omega arith) (omega arith);
       between = λ k le lt. else k (omega arith) (omega arith);
-      over = λ k le. else k (omega arith) (omega arith);
+      over = λ k le lt. else k (omega arith) (omega arith);
       begins =
           λ p ge lt.
           let q : p ≡ n = omega arith in
@@ -66,8 +66,8 @@ placed n lo T from to e t =
           λ u ge lt.
           let q : u ≡ n = omega arith in
           rw (q, eq-eqb n n refl) (getD-set-same S (n * MODEL-ROW) 1 0 (omega arith));
-      follows = λ u p ge lt p-from p-to. else (u * MODEL-ROW + p) (omega arith) (omega arith) ∙ t .rows (u * MODEL-ROW + p) (omega arith);
-      requires = λ u ge lt. else (u * MODEL-ROW + 97) (omega arith) (omega arith) ∙ t .rows (u * MODEL-ROW + 97) (omega arith);
+      follows = λ u p ge lt p-from p-to. else (u * MODEL-ROW + p) (omega arith) (omega arith) ∙ t .rows (u * MODEL-ROW + p) (omega arith) (omega arith);
+      requires = λ u ge lt. else (u * MODEL-ROW + 97) (omega arith) (omega arith) ∙ t .rows (u * MODEL-ROW + 97) (omega arith) (omega arith);
     }
 
 only-left : (a b : Bool) → b ≡ false → a ≡ (a || b)
@@ -114,7 +114,7 @@ module _ (g h : Group) (lo : ℕ) (from : 1 ≤ lo) (to : lo + size g + size h �
         len = fh .len;
         under = λ k lt. fh .under k (omega arith) ∙ fg .under k lt;
         between = λ k le lt. fh .between k (omega arith) (omega arith) ∙ fg .between k (omega arith) lt;
-        over = λ k le. fh .over k (omega arith) ∙ fg .over k (omega arith);
+        over = λ k le lt. fh .over k (omega arith) lt ∙ fg .over k (omega arith) lt;
         begins =
             on-both (λ (p : ℕ). getD S p 0 ≡ bit (first g p || first h p))
             (λ p ge lt. fh .under p lt ∙ fg .begins p ge lt ∙ ap bit (only-left (first g p) (first h p) (none-first h p (no-h p lt))))
@@ -172,7 +172,7 @@ module _ (g h : Group) (lo : ℕ) (from : 1 ≤ lo) (to : lo + size g + size h �
           len = r .len;
           under = λ k lt. r .rows-before k (omega arith) ∙ s .under k lt;
           between = λ k le lt. r .rows-before k lt ∙ s .between k le lt;
-          over = λ k le. r .rows-after k (omega arith) ∙ s .over k le;
+          over = λ k le lt. r .rows-after k (omega arith) ∙ s .over k le lt;
           begins = λ p ge lt. r .rows-before p (omega arith) ∙ s .begins p ge lt;
           ends =
               λ u ge lt.
@@ -196,6 +196,84 @@ module _ (g h : Group) (lo : ℕ) (from : 1 ≤ lo) (to : lo + size g + size h �
               λ u ge lt.
               ⊎-elim (λ (x : u < lo + size g). linked-same (first h) (last g) S lo R (lo + size g) r u 97 ge x (omega arith) first-h-97 ∙ s .requires u ge lt)
               (λ (x : lo + size g ≤ u). r .rows-after (u * MODEL-ROW + 97) (omega arith) ∙ s .requires u ge lt)
+              (below-or-from u (lo + size g));
+        }
+
+  -- and where h can end and g can begin, g follows h
+  module _ (T R : List ℕ)
+      (s : Shows lo (lo + (size g + size h)) T R (first (alt g h)) (last (alt g h)) (follow (seq g h)) (mustAfter (alt g h))) where
+    back-row-0 : (p : ℕ) → lo ≤ p → p < lo + size g → getD R p 0 ≡ bit (first g p)
+    back-row-0 p ge lt = s .begins p ge (omega arith) ∙ ap bit (sym (only-left (first g p) (first h p) (none-first h p (no-h p lt))))
+
+    back-column-0 : (u : ℕ) → lo + size g ≤ u → u < lo + size g + size h → getD R (u * MODEL-ROW) 0 ≡ bit (last h u)
+    back-column-0 u ge lt = s .ends u (omega arith) (omega arith) ∙ ap bit (sym (only-right (last g u) (last h u) (none-last g u (no-g u ge))))
+
+    Q : List ℕ
+    Q = link R (lo + size g) (lo + size g + size h) lo (lo + size g)
+
+    q : Linked (first g) (last h) R (lo + size g) Q (lo + size g + size h)
+    unfolding Q
+    q =
+        linked (first g) lo (lo + size g) (omega arith) (omega arith)
+        (λ p lt. none-first g p (has-under g lo p gn lt))
+        (λ p ge. none-first g p (no-g p ge))
+        (last h) R (lo + size g) (lo + size g + size h) (s .len) (omega arith) (omega arith) to back-row-0 back-column-0
+
+    first-g-0 : first g 0 ≡ false
+    first-g-0 = none-first g 0 (has-under g lo 0 gn from)
+
+    first-g-97 : first g 97 ≡ false
+    first-g-97 = none-first g 97 (no-g 97 (omega arith))
+
+    -- the four ways in which p can follow u, of which those that ask for the other's end are not
+    from-g : (a b x y z : Bool) → z ≡ false → (a || (b || x)) ≡ ((a || b) || (x || (z && y)))
+    from-g a b x y z e = rw e (spread a b x)
+      where
+        spread : (a b x : Bool) → (a || (b || x)) ≡ ((a || b) || (x || false))
+        spread true b x = refl
+        spread false true x = refl
+        spread false false true = refl
+        spread false false false = refl
+
+    from-h : (a b x y z : Bool) → z ≡ false → ((a || (b || (z && x))) || y) ≡ ((a || b) || ((z && x) || y))
+    from-h a b x y z e = rw e (spread a b y)
+      where
+        spread : (a b y : Bool) → ((a || (b || false)) || y) ≡ ((a || b) || y)
+        spread true b y = refl
+        spread false true y = refl
+        spread false false y = refl
+
+    in-any-order : Shows lo (lo + (size g + size h)) T Q (first (alt g h)) (last (alt g h))
+        (λ u p. (follow g u p || follow h u p) || ((last g u && first h p) || (last h u && first g p))) (mustAfter (alt g h))
+    in-any-order =
+        record {
+          len = q .len;
+          under = λ k lt. q .rows-before k (omega arith) ∙ s .under k lt;
+          between = λ k le lt. q .rows-before k (omega arith) ∙ s .between k le lt;
+          over = λ k le lt. q .rows-after k (omega arith) ∙ s .over k le lt;
+          begins = λ p ge lt. q .rows-before p (omega arith) ∙ s .begins p ge lt;
+          ends =
+              λ u ge lt.
+              ⊎-elim (λ (x : u < lo + size g). q .rows-before (u * MODEL-ROW) (omega arith) ∙ s .ends u ge lt)
+              (λ (x : lo + size g ≤ u). linked-end (first g) (last h) R (lo + size g) Q (lo + size g + size h) q u x (omega arith) first-g-0 ∙ s .ends u ge lt)
+              (below-or-from u (lo + size g));
+          follows =
+              λ u p ge lt p-from p-to.
+              ⊎-elim
+              (λ (x : u < lo + size g).
+              q .rows-before (u * MODEL-ROW + p) (omega arith)
+              ∙ s .follows u p ge lt p-from p-to
+              ∙ ap bit (from-g (follow g u p) (follow h u p) (last g u && first h p) (first g p) (last h u) (none-last h u (no-h u x))))
+              (λ (x : lo + size g ≤ u).
+              q .row u p x (omega arith) (omega arith)
+              ∙ ap (λ (y : ℕ). cond (last h u && first g p) 1 y) (s .follows u p ge lt p-from p-to)
+              ∙ cond-or (last h u && first g p) (follow g u p || (follow h u p || (last g u && first h p)))
+              ∙ ap bit (from-h (follow g u p) (follow h u p) (first h p) (last h u && first g p) (last g u) (none-last g u (no-g u x))))
+              (below-or-from u (lo + size g));
+          requires =
+              λ u ge lt.
+              ⊎-elim (λ (x : u < lo + size g). q .rows-before (u * MODEL-ROW + 97) (omega arith) ∙ s .requires u ge lt)
+              (λ (x : lo + size g ≤ u). linked-same (first g) (last h) R (lo + size g) Q (lo + size g + size h) q u 97 x (omega arith) (omega arith) first-g-97 ∙ s .requires u ge lt)
               (below-or-from u (lo + size g));
         }
 
@@ -230,7 +308,7 @@ module _ (g h : Group) (lo : ℕ) (from : 1 ≤ lo) (to : lo + size g + size h �
           len = r .len;
           under = λ k lt. r .rows-before k (omega arith) ∙ s .under k lt;
           between = λ k le lt. r .rows-before k lt ∙ s .between k le lt;
-          over = λ k le. r .rows-after k (omega arith) ∙ s .over k le;
+          over = λ k le lt. r .rows-after k (omega arith) ∙ s .over k le lt;
           begins = λ p ge lt. r .rows-before p (omega arith) ∙ s .begins p ge lt;
           ends =
               λ u ge lt.
@@ -279,7 +357,7 @@ module _ (g h : Group) (lo : ℕ) (from : 1 ≤ lo) (to : lo + size g + size h �
         len = r .len;
         under = λ k lt. r .under k (omega arith) ∙ s .under k lt;
         between = λ k le lt. r .over k (omega arith) ∙ s .between k le lt;
-        over = λ k le. r .over k (omega arith) ∙ s .over k le;
+        over = λ k le lt. r .over k (omega arith) ∙ s .over k le lt;
         begins =
             λ p ge lt.
             ⊎-elim
@@ -301,6 +379,13 @@ module _ (g h : Group) (lo : ℕ) (from : 1 ≤ lo) (to : lo + size g + size h �
       (last (seq g h)) (follow (seq g h)) (mustAfter (seq g h)) (nullable g)
       (ends-closed T linked-up (in-sequence T S s) (nullable h))
 
+  -- the two in any order
+  any-order : (T S : List ℕ) → Filled (alt g h) lo T S
+      → Shows lo (lo + (size g + size h)) T (joinAnd S lo (lo + size g) (lo + size g + size h)) (first (alt g h)) (last (alt g h))
+      (λ u p. (follow g u p || follow h u p) || ((last g u && first h p) || (last h u && first g p))) (mustAfter (alt g h))
+  unfolding R Q
+  any-order T S s = in-any-order T (R T S s) (in-sequence T S s)
+
 -- one group once or more: where it can end, it can begin again
 module _ (g : Group) (lo : ℕ) (from : 1 ≤ lo) (to : lo + size g ≤ 97) (gn : Numbered g lo) (T S : List ℕ) (s : Filled g lo T S) where
   again : Linked (first g) (last g) S lo (link S lo (lo + size g) lo (lo + size g)) (lo + size g)
@@ -318,7 +403,7 @@ module _ (g : Group) (lo : ℕ) (from : 1 ≤ lo) (to : lo + size g ≤ 97) (gn 
         len = r .len;
         under = λ k lt. r .rows-before k (omega arith) ∙ s .under k lt;
         between = λ k le lt. r .rows-before k lt ∙ s .between k le lt;
-        over = λ k le. r .rows-after k le ∙ s .over k le;
+        over = λ k le lt. r .rows-after k le ∙ s .over k le lt;
         begins = λ p ge lt. r .rows-before p (omega arith) ∙ s .begins p ge lt;
         ends =
             λ u ge lt. linked-end (first g) (last g) S lo R (lo + size g) r u ge lt (none-first g 0 (has-under g lo 0 gn from)) ∙ s .ends u ge lt;
@@ -333,22 +418,33 @@ module _ (g : Group) (lo : ℕ) (from : 1 ≤ lo) (to : lo + size g ≤ 97) (gn 
             ∙ s .requires u ge lt;
       }
 
--- A fresh table filled with a numbered group says of its places what is computed of the group.
-pub fills : (g : Group) (lo : ℕ) (T : List ℕ) → 1 ≤ lo → lo + size g ≤ 97 → Numbered g lo → Fresh lo T → Filled g lo T (fill g lo T)
-fills (place n) lo T from to e t = placed n lo T from to e t
-fills (seq g h) lo T from to e t =
-    let fg : Filled g lo T (fill g lo T) = fills g lo T from (omega arith) (e .0) t in
-    let fh : Filled h (lo + size g) (fill g lo T) (fill h (lo + size g) (fill g lo T)) =
-    fills h (lo + size g) (fill g lo T) (omega arith) (omega arith) (e .1) (fresh-after g lo T (fill g lo T) from t fg) in
-    sequence g h lo from (omega arith) (e .0) (e .1) T (fill h (lo + size g) (fill g lo T))
-    (both g h lo from (omega arith) (e .0) (e .1) T (fill g lo T) (fill h (lo + size g) (fill g lo T)) fg fh)
-fills (alt g h) lo T from to e t =
-    let fg : Filled g lo T (fill g lo T) = fills g lo T from (omega arith) (e .0) t in
-    let fh : Filled h (lo + size g) (fill g lo T) (fill h (lo + size g) (fill g lo T)) =
-    fills h (lo + size g) (fill g lo T) (omega arith) (omega arith) (e .1) (fresh-after g lo T (fill g lo T) from t fg) in
-    both g h lo from (omega arith) (e .0) (e .1) T (fill g lo T) (fill h (lo + size g) (fill g lo T)) fg fh
-fills (opt g) lo T from to e t = fills g lo T from to e t
-fills (plus g) lo T from to e t = repeats g lo from to e T (fill g lo T) (fills g lo T from to e t)
+mutual
+  -- A fresh table filled with a numbered group says of its places what is computed of the group.
+  pub fills : (g : Group) (lo : ℕ) (T : List ℕ) → 1 ≤ lo → lo + size g ≤ 97 → Numbered g lo → Fresh lo T → Filled g lo T (fill g lo T)
+  fills (place n) lo T from to e t = placed n lo T from to e t
+  fills (seq g h) lo T from to e t =
+      let fg : Filled g lo T (fill g lo T) = fills g lo T from (omega arith) (e .0) t in
+      let fh : Filled h (lo + size g) (fill g lo T) (fill h (lo + size g) (fill g lo T)) =
+      fills h (lo + size g) (fill g lo T) (omega arith) (omega arith) (e .1) (fresh-after g lo T (fill g lo T) from t fg) in
+      sequence g h lo from (omega arith) (e .0) (e .1) T (fill h (lo + size g) (fill g lo T))
+      (both g h lo from (omega arith) (e .0) (e .1) T (fill g lo T) (fill h (lo + size g) (fill g lo T)) fg fh)
+  fills (alt g h) lo T from to e t =
+      let fg : Filled g lo T (fill g lo T) = fills g lo T from (omega arith) (e .0) t in
+      let fh : Filled h (lo + size g) (fill g lo T) (fill h (lo + size g) (fill g lo T)) =
+      fills h (lo + size g) (fill g lo T) (omega arith) (omega arith) (e .1) (fresh-after g lo T (fill g lo T) from t fg) in
+      both g h lo from (omega arith) (e .0) (e .1) T (fill g lo T) (fill h (lo + size g) (fill g lo T)) fg fh
+  fills (opt g) lo T from to e t = fills g lo T from to e t
+  fills (plus g) lo T from to e t = repeats g lo from to e T (fill g lo T) (fills g lo T from to e t)
+  fills (and m) lo T from to e t = fillsM m lo T from to e t
+
+  fillsM : (m : Members) (lo : ℕ) (T : List ℕ) → 1 ≤ lo → lo + sizeM m ≤ 97 → NumberedM m lo → Fresh lo T → Filled (and m) lo T (fillM m lo T)
+  fillsM (one g) lo T from to e t = fills g lo T from to e t
+  fillsM (also m g) lo T from to e t =
+      let fm : Filled (and m) lo T (fillM m lo T) = fillsM m lo T from (omega arith) (e .0) t in
+      let fg : Filled g (lo + sizeM m) (fillM m lo T) (fill g (lo + sizeM m) (fillM m lo T)) =
+      fills g (lo + sizeM m) (fillM m lo T) (omega arith) (omega arith) (e .1) (fresh-after (and m) lo T (fillM m lo T) from t fm) in
+      any-order (and m) g lo from (omega arith) (e .0) (e .1) T (fill g (lo + sizeM m) (fillM m lo T))
+      (both (and m) g lo from (omega arith) (e .0) (e .1) T (fillM m lo T) (fill g (lo + sizeM m) (fillM m lo T)) fm fg)
 
 zeros : (n k : ℕ) → _≡_ {A = ℕ} (getD (replicate n 0) k 0) 0
 zeros zero k = refl
@@ -356,7 +452,7 @@ zeros (suc n) zero = refl
 zeros (suc n) (suc k) = zeros n k
 
 pub fresh-blank : (lo : ℕ) → Fresh lo blank
-fresh-blank lo = record { len = length-replicate {A = ℕ} MODEL 0; row-0 = λ k ge lt. zeros MODEL k; rows = λ k ge. zeros MODEL k }
+fresh-blank lo = record { len = length-replicate {A = ℕ} MODEL 0; row-0 = λ k ge lt. zeros MODEL k; rows = λ k ge lt. zeros MODEL k }
 
 -- What is read in a table of the model g: in row u what may come next, whether the content is complete and what is required, once u was
 -- the last place taken, or at the start where u is 0.

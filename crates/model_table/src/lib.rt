@@ -10,7 +10,7 @@ use layout::POSITIONS;
 ghost use mathlib.Core.Path.{_≡_};
 ghost use Prim.Native.Nat.{_≤_, _<_};
 ghost use mathlib.Core.Bool.{true, false};
-ghost use Rattle.model_table.specs.Fill.{putPlace, part, partSeq, partAlt, closeEnds, closeStarts, joinSeq, repeated, finished, blank};
+ghost use Rattle.model_table.specs.Fill.{putPlace, part, partSeq, partAlt, closeEnds, closeStarts, joinSeq, joinAnd, partAnd, repeated, finished, blank};
 
 // What is kept of a group beside the table: whether it can be empty, and which place it requires, or 0.
 pub struct Part {
@@ -102,6 +102,35 @@ pub fn join_alt(g: Part, h: Part) -> Part
             required: 0,
         }
     }
+}
+
+// What is kept of two groups in any order.
+fn part_and(g: Part, h: Part) -> Part
+    ensures { λ r. ⌜ r ≡ partAnd g h ⌝ }
+{
+    if g.nullable {
+        Part {
+            nullable: h.nullable,
+            required: 0,
+        }
+    } else {
+        Part {
+            nullable: false,
+            required: 0,
+        }
+    }
+}
+
+// The group g of [lo, mid) and the group h of [mid, hi), in any order. What either can begin or end with, both can; which of their
+// members must still come is not in the table.
+pub fn join_and(table: &mut [u8; MODEL], lo: usize, mid: usize, hi: usize, g: Part, h: Part) -> Part
+    requires { ⌜ mid ≤ 97 ⌝ }
+    requires { ⌜ hi ≤ 97 ⌝ }
+    ensures { λ r. ⌜ (now (table .exit) ≡ joinAnd (now (table .entry)) lo mid hi) × (r ≡ partAnd g h) ⌝ }
+{
+    model_links::link(table, lo, mid, mid, hi);
+    model_links::link(table, mid, hi, lo, mid);
+    part_and(g, h)
 }
 
 // The group g or nothing.

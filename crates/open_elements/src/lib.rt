@@ -1,4 +1,5 @@
 // The open elements from token to token: what is taken, opened and ended in them.
+use layout::BEGUN;
 use layout::ROWS;
 ghost use mathlib.Core.Path.{_≡_};
 ghost use mathlib.Core.Bool.{true};
@@ -58,14 +59,31 @@ impl Open {
     }
 
     // The place is taken in the current element: its marks are those after this place.
-    pub fn take(mut self, rows: &[u8; ROWS], place: usize) -> Self
+    pub fn take(
+        mut self,
+        rows: &[u8; ROWS],
+        members: &[u8],
+        begun: &mut [u32; BEGUN],
+        place: usize,
+    ) -> Self
         requires { ⌜ Ranged self × (place ≤ 96) ⌝ }
         ensures { λ r. ⌜ r ≡ took (now (rows .entry)) place self ⌝ }
     {
         let e = self.element;
+        let mut required = type_tables::kept(rows, e, place);
+        let mut complete = type_tables::complete(rows, e, place);
+        if 96 < required {
+            let m = and_groups::take(members, begun, self.count, e, self.place, place);
+            if m == 255 {
+                required -= 128;
+            } else {
+                required = m;
+                complete = false;
+            }
+        }
         self.place = place;
-        self.complete = type_tables::complete(rows, e, place);
-        self.required = type_tables::required(rows, e, place);
+        self.complete = complete;
+        self.required = required;
         self
     }
 
@@ -89,6 +107,33 @@ impl Open {
         self.complete = type_tables::complete(rows, element, 0);
         self.required = type_tables::required(rows, element, 0);
         self
+    }
+
+    // The required place is taken in the current element, which is kept, and its element opened in it.
+    pub fn start_required(
+        mut self,
+        rows: &[u8; ROWS],
+        members: &[u8],
+        begun: &mut [u32; BEGUN],
+        element: usize,
+    ) -> Self {
+        let e = self.element;
+        let place = self.required;
+        let mut required = type_tables::kept(rows, e, place);
+        let mut complete = type_tables::complete(rows, e, place);
+        if 96 < required {
+            let m = and_groups::take(members, begun, self.count, e, self.place, place);
+            if m == 255 {
+                required -= 128;
+            } else {
+                required = m;
+                complete = false;
+            }
+        }
+        self.place = place;
+        self.complete = complete;
+        self.required = required;
+        self.start(rows, element)
     }
 
     // The current element has ended: its parent is the current one again, as it was kept.

@@ -4,6 +4,7 @@
 // delimiters. Where the tables are no type's, what is found is not decided, but that its element is at most 64 and that it ends
 // further on, within the document, unless it is refused.
 use document_text::Token;
+use layout::BEGUN;
 use layout::FACTS;
 use layout::INDEX;
 use layout::PLACES;
@@ -60,8 +61,11 @@ pub fn piece_at(
     rows: &[u8; ROWS],
     places: &[u8; PLACES],
     facts: &[u8; FACTS],
+    members: &[u8],
+    begun: &[u32; BEGUN],
     classes: &[u8; 256],
     d: &[u8],
+    level: usize,
     e: usize,
     u: usize,
     at: usize,
@@ -89,7 +93,7 @@ pub fn piece_at(
         }
         Token::Skipped(j) => Piece::Passed(j),
         Token::Blank => {
-            if type_tables::fitting(rows, places, facts, e, u, 0) == 0 {
+            if !type_tables::takes_data(rows, places, facts, members, begun, level, e, u) {
                 return Piece::Passed(at + 1);
             }
             Piece::Token(0, data_runs::run_end(classes, d, at + 1))

@@ -4,6 +4,7 @@
 // many events there are so far; they are put to `numbers` and `bytes` (crate event_buffer).
 // Where the tables are no type's, or the state stands in none, what a token brings is not decided, but that the state's numbers are in range,
 // that the refusal number is below 20, and that so many events were put as are counted.
+use layout::BEGUN;
 use layout::FACTS;
 use layout::PLACES;
 use layout::ROWS;
@@ -44,6 +45,8 @@ pub fn placed(
     rows: &[u8; ROWS],
     places: &[u8; PLACES],
     facts: &[u8; FACTS],
+    members: &[u8],
+    begun: &mut [u32; BEGUN],
     state: Open,
     found: Way,
     x: usize,
@@ -71,7 +74,7 @@ pub fn placed(
             number: 15,
         };
     }
-    let last = state.take(rows, p);
+    let last = state.take(rows, members, begun, p);
     if !ways::opens(facts, x) {
         let m = put_written(x, at, after, n, numbers, bytes);
         return Outcome {

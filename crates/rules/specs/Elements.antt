@@ -9,7 +9,7 @@ use Rattle.rules.specs.TypeFile.{Place, Content, empty, model, Element}
 
 -- The k-th element of the type, from 0.
 unfoldable pub elementAt : List Element → ℕ → Element
-elementAt [] k = record { at = 0; size = 0; start = 0; end = 0; content = empty }
+elementAt [] k = record { at = 0; size = 0; start = 0; end = 0; content = empty; repeated = 0 }
 elementAt (e ∷ es) zero = e
 elementAt (e ∷ es) (suc k) = elementAt es k
 

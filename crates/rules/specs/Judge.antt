@@ -4,6 +4,7 @@ use mathlib.Core.Path.{_≡_}
 use mathlib.Core.Bool.{Bool, true, false}
 use mathlib.Core.List.{List, [], _∷_, _++_}
 use lib.ListN.{length}
+use lib.Dec.{eqb}
 use Rattle.rules.specs.Settings.{Settings, isOffered}
 use Rattle.rules.specs.Bytes.{allowed, span, typeLimit}
 use Rattle.rules.specs.Lent.{Lent, standing, room, filledWith, zeroed}
@@ -58,6 +59,11 @@ pub data FirstAmbiguous (s : List ℕ) (k p q : ℕ) : List Element → Type 0 w
   here : {e : Element} {es : List Element} → PairStandsAt s (e .content) k p q → FirstAmbiguous s k p q (e ∷ es)
   later : {e : Element} {es : List Element} → Unambiguous s (e .content) → FirstAmbiguous s k p q es → FirstAmbiguous s k p q (e ∷ es)
 
+-- "Number 25 at the first such "&"" (paper 02, request twelve), which is in the first model that has one. There is none where it is 0.
+unfoldable pub firstRepeated : List Element → ℕ
+firstRepeated [] = 0
+firstRepeated (e ∷ es) = elim (eqb (e .repeated) 0) [ true ↦ firstRepeated es | false ↦ e .repeated ]
+
 -- "Six numbers per element, in declaration order: offset of its name, length of it, start tag (0 for "-", 1 for "O"),
 -- end tag likewise, content (0 EMPTY, 1 model), number of content tokens (0 for EMPTY)."
 abbrev pub contentNumbers : Content → List ℕ
@@ -75,20 +81,22 @@ pub record Legible (c : Settings) (s : List ℕ) : Type 0 where
   pub clean : span allowed s ≡ length s
 
 -- The refusal that the order picks: "1 type, .. 2 type, ..; the type file's 3 to 8 ..; 9; ..; 19 only where nothing else is wrong,
--- and exactly if the numbers don't fit"; before all of it 24, "in the type at 0" (paper 02, request six: "before even 23"). `room` is how many
+-- and exactly if the numbers don't fit"; 25 is "looked for after 3 to 8 and before 9" (paper 02, request twelve); before all of it 24, "in the type at 0" (paper 02, request six: "before even 23"). `room` is how many
 -- numbers the lent buffer holds.
 pub data Refuses (c : Settings) (s : List ℕ) (room : ℕ) (a : Answer) : Type 0 where
   notOffered : isOffered c ≡ false → a ≡ refusal 24 0 0 0 → Refuses c s room a
   tooLong : isOffered c ≡ true → typeLimit < length s → a ≡ refusal 1 0 0 0 → Refuses c s room a
   notAllowed : isOffered c ≡ true → length s ≤ typeLimit → span allowed s < length s → a ≡ refusal 2 (span allowed s) 0 0 → Refuses c s room a
   malformed : Legible c s → (n k : ℕ) → typeFile c s ≡ refused n k → a ≡ refusal n k 0 0 → Refuses c s room a
-  ambiguous : Legible c s → (es : List Element) → typeFile c s ≡ got es → (k p q : ℕ) → FirstAmbiguous s k p q es → a ≡ refusal 9 k p q → Refuses c s room a
-  noRoom : Legible c s → (es : List Element) → typeFile c s ≡ got es → AllUnambiguous s es → room < 6 * length es → a ≡ refusal 19 0 0 0 → Refuses c s room a
+  repeated : Legible c s → (es : List Element) → typeFile c s ≡ got es → 1 ≤ firstRepeated es → a ≡ refusal 25 (firstRepeated es) 0 0 → Refuses c s room a
+  ambiguous : Legible c s → (es : List Element) → typeFile c s ≡ got es → firstRepeated es ≡ 0 → (k p q : ℕ) → FirstAmbiguous s k p q es → a ≡ refusal 9 k p q → Refuses c s room a
+  noRoom : Legible c s → (es : List Element) → typeFile c s ≡ got es → firstRepeated es ≡ 0 → AllUnambiguous s es → room < 6 * length es → a ≡ refusal 19 0 0 0 → Refuses c s room a
 
 -- The type is accepted with these elements.
 pub record Accepts (c : Settings) (s : List ℕ) (es : List Element) : Type 0 where
   pub legible : Legible c s
   pub elements : typeFile c s ≡ got es
+  pub unrepeated : firstRepeated es ≡ 0
   pub unambiguous : AllUnambiguous s es
 
 -- What the judge answers to a type file under the settings c and what the lent buffer, `before` the call, holds after it.

@@ -10,7 +10,7 @@ use Rattle.rules.specs.Bytes.{allowed, span, typeLimit, documentLimit}
 use Rattle.rules.specs.Lent.{Lent, standing, room, filledWith, zeroed}
 use Rattle.rules.specs.Reading.{Reading, refused, got, andThen}
 use Rattle.rules.specs.TypeFile.{Element, typeFile}
-use Rattle.rules.specs.Judge.{Answer, refusal, acceptance, FirstAmbiguous, Legible, Accepts}
+use Rattle.rules.specs.Judge.{Answer, refusal, acceptance, FirstAmbiguous, firstRepeated, Legible, Accepts}
 use Rattle.rules.specs.Document.{Tag, Piece, startTag, endTag, skipped, blank, dataByte, piece}
 use Rattle.rules.specs.Elements.{numberOf}
 use Rattle.rules.specs.Decisions.{Decisions, Means}
@@ -86,7 +86,8 @@ pub record Reads (c : Settings) (s d : List ℕ) (es : List Element) (r : Readin
   pub reading : document c s es decisions d ≡ r
 
 -- The refusal that the order picks: "1 type, 1 document, 2 type, 2 document; the type file's 3 to 8 ..; 9; then the document's tokens in
--- turn; 19 only where nothing else is wrong, and exactly if the numbers don't fit"; "19 names .. the document in the reader"; before all
+-- turn; 19 only where nothing else is wrong, and exactly if the numbers don't fit"; 25 is "looked for after 3 to 8 and before 9"
+-- (paper 02, request twelve); "19 names .. the document in the reader"; before all
 -- of it 24, "in the type at 0" (paper 02, request six: "before even 23"). `room` is how many numbers the lent buffer holds.
 pub data RefusesBoth (c : Settings) (s d : List ℕ) (room : ℕ) (a : Answer) : Type 0 where
   notOffered : isOffered c ≡ false → a ≡ refusal 24 0 0 0 → RefusesBoth c s d room a
@@ -95,7 +96,8 @@ pub data RefusesBoth (c : Settings) (s d : List ℕ) (room : ℕ) (a : Answer) :
   typeNotAllowed : isOffered c ≡ true → length s ≤ typeLimit → length d ≤ documentLimit → span allowed s < length s → a ≡ refusal 2 (span allowed s) 0 0 → RefusesBoth c s d room a
   documentNotAllowed : Legible c s → length d ≤ documentLimit → span allowed d < length d → a ≡ documentRefusal 2 (span allowed d) → RefusesBoth c s d room a
   malformed : BothLegible c s d → (n k : ℕ) → typeFile c s ≡ refused n k → a ≡ refusal n k 0 0 → RefusesBoth c s d room a
-  ambiguous : BothLegible c s d → (es : List Element) → typeFile c s ≡ got es → (k p q : ℕ) → FirstAmbiguous s k p q es → a ≡ refusal 9 k p q → RefusesBoth c s d room a
+  repeated : BothLegible c s d → (es : List Element) → typeFile c s ≡ got es → 1 ≤ firstRepeated es → a ≡ refusal 25 (firstRepeated es) 0 0 → RefusesBoth c s d room a
+  ambiguous : BothLegible c s d → (es : List Element) → typeFile c s ≡ got es → firstRepeated es ≡ 0 → (k p q : ℕ) → FirstAmbiguous s k p q es → a ≡ refusal 9 k p q → RefusesBoth c s d room a
   unsettled : (es : List Element) (n k : ℕ) → Reads c s d es (refused n k) → a ≡ documentRefusal n k → RefusesBoth c s d room a
   noRoom : (es : List Element) (ev : List Event) → Reads c s d es (got ev) → room < 4 * length ev → a ≡ documentRefusal 19 0 → RefusesBoth c s d room a
 

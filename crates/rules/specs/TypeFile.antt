@@ -1,4 +1,5 @@
--- The type file: declarations, parameters, comments and model groups (paper 01, "The type file"), with refusals 3 to 8.
+-- The type file: declarations, parameters, comments and model groups (paper 01, "The type file"), with refusals 3 to 8, and where the "&" of
+-- number 25 stands (paper 02, request twelve).
 -- Numbers 3 and 5 read "with the given length for 8" (paper 02, request six): c has the settings of the call.
 -- Reading goes from left to right and refuses at the first fault, the lower number first where two stand at one position.
 -- A byte at which no form goes on is the unfit one of number 4; past the end it is 0, so the position is then the length.
@@ -10,7 +11,7 @@ use lib.Dec.{eqb, leb, ltb}
 use Rattle.rules.specs.Bytes.{byteAt, letter, nameEnd, separatorsEnd, sameText, GRPCNT, GRPLVL, GRPGTCNT, elementLimit, EXCLAMATION, RNI, PERO, AND, GRPO, GRPC, REP, PLUS, SEQ, MINUS, STAGO, MDC, OPT, DSO, OR}
 use Rattle.rules.specs.Settings.{Settings}
 use Rattle.rules.specs.Reading.{Reading, refused, got, andThen}
-use Rattle.rules.specs.Walk.{Group, place, seq, alt, opt, plus, star}
+use Rattle.rules.specs.Walk.{Group, place, seq, alt, opt, plus, and, Members, one, also, star}
 
 -- Comments
 
@@ -95,21 +96,29 @@ pub record Place : Type 0 where
   pub at : ℕ
   pub size : ℕ
 
--- What was read of a model: the group, where it ends, and the places and content tokens of the model up to there.
+-- What was read of a model: the group, where it ends, and the places and content tokens of the model up to there. `and` is where the first "&" of
+-- the group stands, at any depth, and `repeated` where the first of those stands that number 25 is given for; 0 if there is none, since a type file
+-- does not begin with "&".
 pub record Tokens : Type 0 where
   pub group : Group
   pub at : ℕ
   pub places : List Place
   pub tokens : ℕ
+  pub and : ℕ
+  pub repeated : ℕ
 
--- "The indicator ("?", "+", "*") follows at once."
+-- "The indicator ("?", "+", "*") follows at once." "An "&" group may not stand, at any depth, in a token or group that carries "+" or "*",
+-- nor carry one; that is number 25 at the first such "&"": here all of the group's are such, so it is its first.
 unfoldable pub occurrence : List ℕ → Tokens → Tokens
 occurrence s t =
     let b = byteAt s (t .at) in
-    let with : Group → Tokens = λ g. record { group = g; at = t .at + 1; places = t .places; tokens = t .tokens } in
+    let with : Group → ℕ → Tokens = λ g n. record { group = g; at = t .at + 1; places = t .places; tokens = t .tokens; and = t .and; repeated = n } in
     elim (eqb b OPT) [
-      | true ↦ with (opt (t .group))
-      | false ↦ elim (eqb b PLUS) [ true ↦ with (plus (t .group)) | false ↦ elim (eqb b REP) [ true ↦ with (star (t .group)) | false ↦ t ] ]
+      | true ↦ with (opt (t .group)) (t .repeated)
+      | false ↦ elim (eqb b PLUS) [
+        | true ↦ with (plus (t .group)) (t .and)
+        | false ↦ elim (eqb b REP) [ true ↦ with (star (t .group)) (t .and) | false ↦ t ]
+      ]
     ]
 
 -- "The names and `#PCDATA`s of a model are its places, numbered from 1, left to right": the next one.
@@ -124,7 +133,7 @@ nameToken c s at full ps n =
       | true ↦ refused 3 at
       | false ↦ elim full [
         | true ↦ refused 6 at
-        | false ↦ got (occurrence s (record { group = newPlace ps; at = e; places = ps ++ record { at = at; size = e - at } ∷ []; tokens = n + 1 }))
+        | false ↦ got (occurrence s (record { group = newPlace ps; at = e; places = ps ++ record { at = at; size = e - at } ∷ []; tokens = n + 1; and = 0; repeated = 0 }))
       ]
     ]
 
@@ -136,7 +145,7 @@ dataToken s at full ps n =
       | true ↦ elim (isWord s (at + 1) e PCDATA) [
         | true ↦ elim full [
           | true ↦ refused 6 at
-          | false ↦ got (record { group = star (newPlace ps); at = e; places = ps ++ record { at = at; size = 0 } ∷ []; tokens = n + 1 })
+          | false ↦ got (record { group = star (newPlace ps); at = e; places = ps ++ record { at = at; size = 0 } ∷ []; tokens = n + 1; and = 0; repeated = 0 })
         ]
         | false ↦ elim (isCut s (at + 1) e PCDATA) [ true ↦ refused 4 (length s) | false ↦ refused 4 at ]
       ]
@@ -159,9 +168,42 @@ token c inner s at full ps n =
       ]
     ]
 
--- "A group holds content tokens joined by one kind of connector, "," or "|"".
-abbrev pub join : ℕ → Group → Group → Group
-join b g h = elim (eqb b SEQ) [ true ↦ seq g h | false ↦ alt g h ]
+-- The connectors: ",", "|" and, since request twelve of paper 02, "&".
+abbrev pub isConnector : ℕ → Bool
+isConnector b = eqb b SEQ || eqb b OR || eqb b AND
+
+-- The members of an "&" group; another group is the only one.
+abbrev pub membersOf : Group → Members
+membersOf (place n) = one (place n)
+membersOf (seq g h) = one (seq g h)
+membersOf (alt g h) = one (alt g h)
+membersOf (opt g) = one (opt g)
+membersOf (plus g) = one (plus g)
+membersOf (and m) = m
+
+-- One member more in an "&" group of which k were read: g is the first of them, be it an "&" group itself, or the group of all of them.
+abbrev pub oneMore : (k : ℕ) → Group → Group → Group
+oneMore k g h = and (also (elim (leb k 1) [ true ↦ one g | false ↦ membersOf g ]) h)
+
+-- "A group holds content tokens joined by one kind of connector": k of them, and one more.
+abbrev pub join : (k b : ℕ) → Group → Group → Group
+join k b g h = elim (eqb b SEQ) [ true ↦ seq g h | false ↦ elim (eqb b OR) [ true ↦ alt g h | false ↦ oneMore k g h ] ]
+
+-- The first of two positions, of which the first is earlier; 0 is none.
+abbrev pub earlier : ℕ → ℕ → ℕ
+earlier i j = elim (eqb i 0) [ true ↦ j | false ↦ i ]
+
+-- Two tokens of a group, of which k were read, are joined by the connector b at i.
+abbrev pub joinTokens : (k b i : ℕ) → Tokens → Tokens → Tokens
+joinTokens k b i t u =
+    record {
+      group = join k b (t .group) (u .group);
+      at = u .at;
+      places = u .places;
+      tokens = u .tokens;
+      and = earlier (t .and) (elim (eqb b AND) [ true ↦ i | false ↦ u .and ]);
+      repeated = earlier (t .repeated) (u .repeated);
+    }
 
 -- What follows a content token of a group: the group's ")", or a connector and a further content token.
 pub data Further : Type 0 where
@@ -169,19 +211,18 @@ pub data Further : Type 0 where
   joined : (connector : ℕ) → Tokens → Further
 
 -- What follows when `t` was read of the group: k content tokens joined by the connector (0: none yet).
--- "&" as connector is number 5.
 unfoldable pub further : Settings → (ℕ → List Place → ℕ → Reading Tokens) → List ℕ → (k connector : ℕ) → Tokens → Reading Further
 further c inner s k connector t =
     let i = separatorsEnd s (t .at) in
     let b = byteAt s i in
     elim (eqb b GRPC) [
-      | true ↦ got (closed (record { group = t .group; at = i + 1; places = t .places; tokens = t .tokens }))
-      | false ↦ elim (eqb b AND || eqb b PERO) [
+      | true ↦ got (closed (record { group = t .group; at = i + 1; places = t .places; tokens = t .tokens; and = t .and; repeated = t .repeated }))
+      | false ↦ elim (eqb b PERO) [
         | true ↦ refused 5 i
-        | false ↦ elim ((eqb b SEQ || eqb b OR) && (eqb connector 0 || eqb connector b)) [
+        | false ↦ elim (isConnector b && (eqb connector 0 || eqb connector b)) [
           | true ↦ andThen
               (token c inner s (separatorsEnd s (i + 1)) (leb GRPCNT k || leb GRPGTCNT (t .tokens)) (t .places) (t .tokens))
-              (λ u. got (joined b (record { group = join b (t .group) (u .group); at = u .at; places = u .places; tokens = u .tokens })))
+              (λ u. got (joined b (joinTokens k b i t u)))
           | false ↦ refused 4 i
         ]
       ]
@@ -207,12 +248,14 @@ pub data Content : Type 0 where
   empty : Content
   model : Group → List Place → (tokens : ℕ) → Content
 
+-- `repeated` is where the first "&" of the model stands that number 25 is given for, 0 if there is none.
 pub record Element : Type 0 where
   pub at : ℕ
   pub size : ℕ
   pub start : ℕ
   pub end : ℕ
   pub content : Content
+  pub repeated : ℕ
 
 -- An element declared before has the name of this size at `at`.
 unfoldable pub isDeclared : List ℕ → List Element → ℕ → ℕ → Bool
@@ -285,6 +328,7 @@ head c s at es =
 pub record ContentEnd : Type 0 where
   pub content : Content
   pub at : ℕ
+  pub repeated : ℕ
 
 -- A word as content: EMPTY, or one of those that number 5 names.
 unfoldable pub contentWord : Settings → List ℕ → (from : ℕ) → ℕ → Reading ContentEnd
@@ -293,7 +337,7 @@ contentWord c s from i =
     elim (ltb (c .nameLength) (e - i)) [
       | true ↦ refused 3 i
       | false ↦ elim (ltb from i && isWord s i e EMPTY) [
-        | true ↦ got (record { content = empty; at = e })
+        | true ↦ got (record { content = empty; at = e; repeated = 0 })
         | false ↦ elim (isWord s i e ANY || isWord s i e CDATA || isWord s i e RCDATA) [
           | true ↦ refused 5 i
           | false ↦ elim (ltb from i && isCut s i e EMPTY) [ true ↦ refused 4 (length s) | false ↦ refused 4 i ]
@@ -306,7 +350,7 @@ unfoldable pub contentModel : Settings → List ℕ → ℕ → Reading ContentE
 contentModel c s i =
     andThen (group c GRPLVL s i [] 0) λ t.
     let u = occurrence s t in
-    got (record { content = model (u .group) (u .places) (u .tokens); at = u .at })
+    got (record { content = model (u .group) (u .places) (u .tokens); at = u .at; repeated = u .repeated })
 
 unfoldable pub content : Settings → List ℕ → (from : ℕ) → ℕ → Reading ContentEnd
 content c s from i =
@@ -330,8 +374,8 @@ pub record Declared : Type 0 where
   pub at : ℕ
 
 -- The element that is declared with this head and this content.
-abbrev pub declare : Head → Content → Element
-declare h c = record { at = h .name; size = h .size; start = h .start; end = h .end; content = c }
+abbrev pub declare : Head → ContentEnd → Element
+declare h x = record { at = h .name; size = h .size; start = h .start; end = h .end; content = x .content; repeated = x .repeated }
 
 -- What follows the head: the content and the end of the declaration.
 unfoldable pub rest : Settings → List ℕ → List Element → Head → Reading Declared
@@ -340,7 +384,7 @@ rest c s es h =
     andThen (content c s (h .at) i) λ x.
     andThen (gap s (x .at)) λ j.
     andThen (close s j) λ k.
-    got (record { elements = es ++ declare h (x .content) ∷ []; at = k })
+    got (record { elements = es ++ declare h x ∷ []; at = k })
 
 -- An element declaration whose keyword ends at `at`.
 unfoldable pub element : Settings → List ℕ → ℕ → List Element → Reading Declared

@@ -11,7 +11,7 @@ use borrow.Author.Tests.{eqb-false, ltb-true, ltb-false, leb-false}
 use Rattle.rules.specs.Settings.{Settings}
 use Rattle.rules.specs.Bytes.{byteAt, letter, nameEnd, separatorsEnd, elementLimit}
 use Rattle.rules.specs.Reading.{refused, got}
-use Rattle.rules.specs.TypeFile.{atDashes, beforeDashes, commentDeclaration, gapWithin, gap, isWord, O, ELEMENT, Content, Element, isDeclared, elementName, Word, omission, Head, words, head, content, close, Declared, rest, element, keyword, markup, declaration, declarationsWithin, typeFile, declare}
+use Rattle.rules.specs.TypeFile.{atDashes, beforeDashes, commentDeclaration, gapWithin, gap, isWord, O, ELEMENT, Content, ContentEnd, Element, isDeclared, elementName, Word, omission, Head, words, head, content, close, Declared, rest, element, keyword, markup, declaration, declarationsWithin, typeFile, declare}
 use Rattle.text.specs.Laws.{test-in, letter-in, nameEnd-from, nameEnd-le, nameEnd-more, separatorsEnd-from, separatorsEnd-le, dashes-end-in, gap-range}
 use Rattle.rules_laws.specs.Holds.{Holds, stops, reads, got-so, known, so, on, on-same, either}
 use Rattle.rules_laws.specs.In.{In, NameIn}
@@ -38,7 +38,7 @@ pub record Declares (c : Settings) (s : List ℕ) (es : List Element) (e : Eleme
   pub before : ℕ
   pub begun : ℕ
   pub ends : ℕ
-  pub contentRead : content c s before begun ≡ got (record { content = e .content; at = ends })
+  pub contentRead : content c s before begun ≡ got (record { content = e .content; at = ends; repeated = e .repeated })
 
 -- What is known of a name from i to e, of one of the two words, of both, of a head, and of what follows it.
 pub record NameRead (c : Settings) (s : List ℕ) (es : List Element) (i e : ℕ) : Type 0 where
@@ -73,9 +73,8 @@ record HeadRead (c : Settings) (s : List ℕ) (es : List Element) (at : ℕ) (h 
 record RestRead (c : Settings) (s : List ℕ) (es : List Element) (h : Head) (d : Declared) : Type 0 where
   before : ℕ
   begun : ℕ
-  ends : ℕ
-  inner : Content
-  contentRead : content c s before begun ≡ got (record { content = inner; at = ends })
+  inner : ContentEnd
+  contentRead : content c s before begun ≡ got inner
   elements : d .elements ≡ es ++ declare h inner ∷ []
   from : h .at < d .at
   inside : d .at ≤ length s
@@ -191,7 +190,7 @@ module _ (c : Settings) (s : List ℕ) where
       on (so (known (content-read c s whatever-builds (h .at) i)) (λ n k x. x (p .1)) (λ y x. x)) λ y q.
       on (gap-within s (y .at) (q .1 .inside)) λ j r.
       on (so (close-read s j) (λ n k x. x (r .1)) (λ k x. x)) λ k t.
-      reads (record { before = h .at; begun = i; ends = y .at; inner = y .content; contentRead = q .0; elements = refl; from = omega (arith, p, q .1 .from, r, t); inside = t .1 })
+      reads (record { before = h .at; begun = i; inner = y; contentRead = q .0; elements = refl; from = omega (arith, p, q .1 .from, r, t); inside = t .1 })
 
   element-parts : (at : ℕ) (es : List Element) → at ≤ length s → Holds (InType s) (λ (d : Declared). (h : Head) × HeadRead c s es at h × RestRead c s es h d) (element c s at es)
   unfolding element
@@ -218,7 +217,7 @@ module _ (c : Settings) (s : List ℕ) where
         end = w .end;
         before = a .before;
         begun = a .begun;
-        ends = a .ends;
+        ends = a .inner .at;
         contentRead = a .contentRead;
       }))
 

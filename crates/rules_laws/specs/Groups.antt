@@ -1,17 +1,20 @@
 -- Model groups and content, walked once: each law of a model that is read is an instance of `Builds`, and cites the walk.
 use Prim.Native.Nat.{ℕ, zero, suc, _+_, _-_, _≤_, _<_}
-use mathlib.Core.Path.{_≡_, refl}
+use mathlib.Core.Path.{_≡_, refl, subst}
 use mathlib.Core.Bool.{Bool, true, false, _&&_, _||_, true≢false}
 use mathlib.Core.List.{List, [], _∷_, _++_}
 use native.Mathlib.Omega.{arith}
 use lib.ListN.{length}
 use lib.Dec.{eqb, leb, ltb}
-use borrow.Author.Tests.{ltb-false, leb-false}
+use borrow.Author.Tests.{eqb-true, eq-eqb, ltb-false, leb-false}
 use Rattle.rules.specs.Settings.{Settings}
 use Rattle.rules.specs.Bytes.{byteAt, letter, nameEnd, separatorsEnd, GRPCNT, GRPLVL, GRPGTCNT}
 use Rattle.rules.specs.Reading.{Reading, got, andThen}
-use Rattle.rules.specs.Walk.{Group, seq, alt, opt, plus, star}
-use Rattle.rules.specs.TypeFile.{isWord, isCut, PCDATA, EMPTY, ANY, CDATA, RCDATA, Place, Tokens, occurrence, newPlace, join, nameToken, dataToken, token, Further, closed, joined, further, members, group, Content, empty, model, unfit, ContentEnd, contentWord, contentModel, content}
+use Rattle.rules.specs.Walk.{Group, place, seq, alt, opt, plus, and, Members, one, also, star}
+use Rattle.rules.specs.TypeFile.{isWord, isCut, PCDATA, EMPTY, ANY, CDATA, RCDATA, Place, Tokens, occurrence, newPlace, isConnector, membersOf, oneMore, join, earlier, joinTokens, nameToken, dataToken, token, Further, closed, joined, further, members, group, Content, empty, model, unfit, ContentEnd, contentWord, contentModel, content}
+use Rattle.model_sets.specs.Bits.{and-left, not-both, bool-cases}
+use Rattle.and_laws.specs.Sets.{Plain}
+use Rattle.and_laws.specs.Numbers.{Guarded}
 use Rattle.text.specs.Laws.{test-in, letter-in, nameEnd-from, nameEnd-le, nameEnd-more, separatorsEnd-from, separatorsEnd-le}
 use Rattle.rules_laws.specs.Holds.{Holds, stops, reads, Gives, got-so, each, so, on, on-same, either, whichever}
 use Rattle.rules_laws.specs.In.{Fits, fits-none, fits-group, fits-place, ContentIn}
@@ -28,9 +31,9 @@ or-none : (a b : Bool) → a || b ≡ false → (a ≡ false) × (b ≡ false)
 or-none true b e = absurd (true≢false e)
 or-none false b e = (refl, e)
 
--- The tokens t, with another group and up to i.
-abbrev pub grouped : Group → ℕ → Tokens → Tokens
-grouped g i t = record { group = g; at = i; places = t .places; tokens = t .tokens }
+-- The tokens t, with another group and up to i, where the first "&" that is refused stands at n.
+abbrev pub grouped : Group → (i n : ℕ) → Tokens → Tokens
+grouped g i n t = record { group = g; at = i; places = t .places; tokens = t .tokens; and = t .and; repeated = n }
 
 -- A name and a `#PCDATA` as content token.
 abbrev pub namePlace : List ℕ → ℕ → Place
@@ -40,23 +43,23 @@ abbrev pub dataPlace : ℕ → Place
 dataPlace at = record { at = at; size = 0 }
 
 abbrev pub withPlace : Group → ℕ → Place → List Place → ℕ → Tokens
-withPlace g i x ps n = record { group = g; at = i; places = ps ++ x ∷ []; tokens = n + 1 }
+withPlace g i x ps n = record { group = g; at = i; places = ps ++ x ∷ []; tokens = n + 1; and = 0; repeated = 0 }
 
 -- Each rule by its ways
 
--- What an indicator makes of a group.
-pub data Indicated : Group → Group → Type 0 where
-  optional : {g : Group} → Indicated g (opt g)
-  repeated : {g : Group} → Indicated g (plus g)
-  any : {g : Group} → Indicated g (star g)
+-- What an indicator makes of a group, and where the first "&" that is refused then stands.
+pub data Indicated (t : Tokens) : Group → ℕ → Type 0 where
+  optional : Indicated t (opt (t .group)) (t .repeated)
+  repeated : Indicated t (plus (t .group)) (t .and)
+  any : Indicated t (star (t .group)) (t .and)
 
-pub occurrence-holds : (P : Tokens → Type 0) (s : List ℕ) (t : Tokens) → P t → ((g : Group) → Indicated (t .group) g → t .at < length s → P (grouped g (t .at + 1) t)) → P (occurrence s t)
+pub occurrence-holds : (P : Tokens → Type 0) (s : List ℕ) (t : Tokens) → P t → ((g : Group) (n : ℕ) → Indicated t g n → t .at < length s → P (grouped g (t .at + 1) n t)) → P (occurrence s t)
 unfolding occurrence
 occurrence-holds P s t p f =
     let b = byteAt s (t .at) in
-    whichever P (eqb b 63) (λ x. f _ optional (test-in (λ v. eqb v 63) refl s (t .at) x))
-    (λ x. whichever P (eqb b 43) (λ y. f _ repeated (test-in (λ v. eqb v 43) refl s (t .at) y))
-    (λ y. whichever P (eqb b 42) (λ z. f _ any (test-in (λ v. eqb v 42) refl s (t .at) z)) (λ z. p)))
+    whichever P (eqb b 63) (λ x. f _ _ optional (test-in (λ v. eqb v 63) refl s (t .at) x))
+    (λ x. whichever P (eqb b 43) (λ y. f _ _ repeated (test-in (λ v. eqb v 43) refl s (t .at) y))
+    (λ y. whichever P (eqb b 42) (λ z. f _ _ any (test-in (λ v. eqb v 42) refl s (t .at) z)) (λ z. p)))
 
 module _ {R : (number position : ℕ) → Type 0} (s : List ℕ) where
   pub unfit-holds : {A : Type 0} {P : A → Type 0} (i : ℕ) → ((n k : ℕ) → InFrom s i n k → R n k) → Holds R P (unfit s i)
@@ -92,9 +95,9 @@ module _ {R : (number position : ℕ) → Type 0} (s : List ℕ) where
     -- What follows: the end of the group, or a connector and a further token.
     pub further-holds : {P : Further → Type 0} (k joint : ℕ) (t : Tokens)
         → ((m k : ℕ) → InFrom s (t .at) m k → R m k)
-        → ((i : ℕ) → t .at ≤ i → i < length s → P (closed (grouped (t .group) (i + 1) t)))
-        → ((b j : ℕ) → t .at ≤ j → j ≤ length s
-        → Holds R P (andThen (token c inner s j (leb GRPCNT k || leb GRPGTCNT (t .tokens)) (t .places) (t .tokens)) (λ u. got (joined b (grouped (join b (t .group) (u .group)) (u .at) u)))))
+        → ((i : ℕ) → t .at ≤ i → i < length s → P (closed (grouped (t .group) (i + 1) (t .repeated) t)))
+        → ((b i j : ℕ) → isConnector b ≡ true → t .at ≤ i → i < length s → t .at ≤ j → j ≤ length s
+        → Holds R P (andThen (token c inner s j (leb GRPCNT k || leb GRPGTCNT (t .tokens)) (t .places) (t .tokens)) (λ u. got (joined b (joinTokens k b i t u)))))
         → Holds R P (further c inner s k joint t)
     unfolding further
     further-holds k joint t stop close next =
@@ -103,11 +106,11 @@ module _ {R : (number position : ℕ) → Type 0} (s : List ℕ) where
         let b = byteAt s i in
         let inside : t .at ≤ length s → i ≤ length s = separatorsEnd-le s (t .at) in
         either (eqb b 41) (λ x. reads (close i from (test-in (λ v. eqb v 41) refl s i x)))
-        (λ x. either (eqb b 38 || eqb b 37) (λ y. stops (stop 5 i (λ h. omega (arith, inside h))))
-        (λ y. either ((eqb b 44 || eqb b 124) && (eqb joint 0 || eqb joint b))
+        (λ x. either (eqb b 37) (λ y. stops (stop 5 i (λ h. omega (arith, inside h))))
+        (λ y. either (isConnector b && (eqb joint 0 || eqb joint b))
         (λ z.
-        let l = test-in (λ v. (eqb v 44 || eqb v 124) && (eqb joint 0 || eqb joint v)) refl s i z in
-        next b (separatorsEnd s (i + 1)) (omega (arith, from, separatorsEnd-from s (i + 1))) (separatorsEnd-le s (i + 1) (omega arith)))
+        let l = test-in (λ v. isConnector v && (eqb joint 0 || eqb joint v)) refl s i z in
+        next b i (separatorsEnd s (i + 1)) (and-left (isConnector b) _ z) from l (omega (arith, from, separatorsEnd-from s (i + 1))) (separatorsEnd-le s (i + 1) (omega arith)))
         (λ z. stops (stop 4 i (λ h. omega (arith, inside h))))))
 
 -- Room
@@ -125,7 +128,7 @@ module _ (c : Settings) (inner : ℕ → List Place → ℕ → Reading Tokens) 
   further-roomy : (k joint : ℕ) (t : Tokens) → Gives (Roomy k) (further c inner s k joint t)
   further-roomy k joint t =
       further-holds s c inner k joint t (λ m k h. tt) (λ i l h. tt)
-      (λ b j l h. on (token-room j (leb GRPCNT k || leb GRPGTCNT (t .tokens)) (t .places) (t .tokens)) (λ u x. reads (leb-false GRPCNT k (or-none _ _ x .0))))
+      (λ b i j q f m l h. on (token-room j (leb GRPCNT k || leb GRPGTCNT (t .tokens)) (t .places) (t .tokens)) (λ u x. reads (leb-false GRPCNT k (or-none _ _ x .0))))
 
   pub further-room : (k joint : ℕ) (t : Tokens) (b : ℕ) (u : Tokens) → further c inner s k joint t ≡ got (joined b u) → k < GRPCNT
   further-room k joint t b u e = got-so (further-roomy k joint t) e
@@ -153,6 +156,8 @@ pub record Builds (long : ℕ) (T : (ps : List Place) → Group → (qs : List P
   pub repeated : {ps qs : List Place} {g : Group} → T ps g qs → T ps (plus g) qs
   pub sequence : {ps qs rs : List Place} {g h : Group} → T ps g qs → T qs h rs → T ps (seq g h) rs
   pub choice : {ps qs rs : List Place} {g h : Group} → T ps g qs → T qs h rs → T ps (alt g h) rs
+  pub anyOrder : {ps qs rs : List Place} {g h : Group} → T ps g qs → T qs h rs → T ps (and (also (one g) h)) rs
+  pub another : {ps qs rs : List Place} {m : Members} {h : Group} → T ps (and m) qs → T qs h rs → T ps (and (also m h)) rs
 
 -- What was read from `at` on, behind the places ps.
 pub record Read (s : List ℕ) (T : List Place → Group → List Place → Type 0) (at : ℕ) (ps : List Place) (t : Tokens) : Type 0 where
@@ -160,30 +165,101 @@ pub record Read (s : List ℕ) (T : List Place → Group → List Place → Type
   pub inside : t .at ≤ length s
   pub fits : Fits s (t .places) (t .tokens)
   pub built : T ps (t .group) (t .places)
+  -- something was read; where no "&" is told, there is none, and where none is refused, none stands under "+"
+  pub some : 1 ≤ t .at
+  pub plain : t .and ≡ 0 → Plain (t .group)
+  pub guarded : t .repeated ≡ 0 → Guarded (t .group)
 
 -- The same of a content, read from i on.
 abbrev pub Built : (List Place → Group → List Place → Type 0) → Content → Type 0
 Built T empty = Unit {0}
 Built T (model g ps n) = T [] g ps
 
+-- No "&" group of a model stands in what carries "+" or "*".
+abbrev pub GuardedIn : Content → Type 0
+GuardedIn empty = Unit {0}
+GuardedIn (model g ps n) = Guarded g
+
 pub record ContentRead (s : List ℕ) (T : List Place → Group → List Place → Type 0) (i : ℕ) (x : ContentEnd) : Type 0 where
   pub from : i ≤ x .at
   pub inside : x .at ≤ length s
   pub content : ContentIn s (x .content)
   pub built : Built T (x .content)
+  pub guarded : x .repeated ≡ 0 → GuardedIn (x .content)
+
+-- Where an indicator leaves no "&" refused.
+indicated-guarded : (t : Tokens) {h : Group} {n : ℕ} → Indicated t h n → (t .and ≡ 0 → Plain (t .group)) → (t .repeated ≡ 0 → Guarded (t .group)) → n ≡ 0 → Guarded h
+indicated-guarded t optional x y e = y e
+indicated-guarded t repeated x y e = x e
+indicated-guarded t any x y e = x e
+
+indicated-plain : (t : Tokens) {h : Group} {n : ℕ} → Indicated t h n → Plain (t .group) → Plain h
+indicated-plain t optional x = x
+indicated-plain t repeated x = x
+indicated-plain t any x = x
+
+-- Of two positions the first is 0 where both are.
+earlier-none : (i j : ℕ) → earlier i j ≡ 0 → (i ≡ 0) × (j ≡ 0)
+earlier-none i j e = bool-cases (eqb i 0) (λ x. (eqb-true i 0 x, rw (x, earlier) at e)) (λ x. absurd (not-both x (eq-eqb i 0 (rw (x, earlier) at e))))
+
+member-guarded : (g h : Group) → Guarded g → Guarded h → Guarded (and (also (membersOf g) h))
+member-guarded (place n) h x y = (x, y)
+member-guarded (seq a b) h x y = (x, y)
+member-guarded (alt a b) h x y = (x, y)
+member-guarded (opt a) h x y = (x, y)
+member-guarded (plus a) h x y = (x, y)
+member-guarded (and m) h x y = (x, y)
+
+join-guarded : (k b : ℕ) (g h : Group) → Guarded g → Guarded h → Guarded (join k b g h)
+join-guarded k b g h x y =
+    whichever Guarded (eqb b 44) (λ e. (x, y))
+    (λ e. whichever Guarded (eqb b 124) (λ f. (x, y)) (λ f. whichever (λ (z : Members). Guarded (and (also z h))) (leb k 1) (λ i. (x, y)) (λ i. member-guarded g h x y)))
+
+-- Where the first "&" stands that a connector at i and what follows it bring.
+abbrev andAt : (b i j : ℕ) → ℕ
+andAt b i j = elim (eqb b 38) [ true ↦ i | false ↦ j ]
+
+-- "&" joins to a group that has one, and tells where.
+join-plain : (k b i j : ℕ) (g h : Group) → isConnector b ≡ true → 1 ≤ i → andAt b i j ≡ 0 → Plain g → (j ≡ 0 → Plain h) → Plain (join k b g h)
+join-plain k b i j g h c l e x y =
+    whichever Plain (eqb b 44) (λ u. (x, y (other u)))
+    (λ u. whichever Plain (eqb b 124) (λ v. (x, y (choice v))) (λ v. absurd (and-only u v)))
+  where
+    other : eqb b 44 ≡ true → j ≡ 0
+    other u = subst (λ (v : ℕ). andAt v i j ≡ 0) (eqb-true b 44 u) e
+
+    choice : eqb b 124 ≡ true → j ≡ 0
+    choice v = subst (λ (w : ℕ). andAt w i j ≡ 0) (eqb-true b 124 v) e
+
+    told : eqb b 38 ≡ true → i ≡ 0
+    told d = subst (λ (v : ℕ). andAt v i j ≡ 0) (eqb-true b 38 d) e
+
+    and-only : eqb b 44 ≡ false → eqb b 124 ≡ false → ⊥
+    and-only u v = let d : eqb b 38 ≡ true = rw (u, v) at c in omega (arith, told d)
 
 module _ (c : Settings) (s : List ℕ) {T : List Place → Group → List Place → Type 0} (build : Builds (c .nameLength) T) where
-  indicated : {g h : Group} {ps qs : List Place} → Indicated g h → T ps g qs → T ps h qs
+  indicated : {t : Tokens} {h : Group} {n : ℕ} {ps qs : List Place} → Indicated t h n → T ps (t .group) qs → T ps h qs
   indicated optional x = build .optional x
   indicated repeated x = build .repeated x
   indicated any x = build .optional (build .repeated x)
 
-  connected : (b : ℕ) {g h : Group} {ps qs rs : List Place} → T ps g qs → T qs h rs → T ps (join b g h) rs
-  connected b {g} {h} {ps} {qs} {rs} x y = whichever (λ (k : Group). T ps k rs) (eqb b 44) (λ e. build .sequence x y) (λ e. build .choice x y)
+  member-more : (g : Group) {h : Group} {ps qs rs : List Place} → T ps g qs → T qs h rs → T ps (and (also (membersOf g) h)) rs
+  member-more (place n) x y = build .anyOrder x y
+  member-more (seq a b) x y = build .anyOrder x y
+  member-more (alt a b) x y = build .anyOrder x y
+  member-more (opt a) x y = build .anyOrder x y
+  member-more (plus a) x y = build .anyOrder x y
+  member-more (and m) x y = build .another x y
+
+  connected : (k b : ℕ) {g h : Group} {ps qs rs : List Place} → T ps g qs → T qs h rs → T ps (join k b g h) rs
+  connected k b {g} {h} {ps} {qs} {rs} x y =
+      whichever (λ (z : Group). T ps z rs) (eqb b 44) (λ e. build .sequence x y)
+      (λ e. whichever (λ (z : Group). T ps z rs) (eqb b 124) (λ f. build .choice x y)
+      (λ f. whichever (λ (z : Members). T ps (and (also z h)) rs) (leb k 1) (λ i. build .anyOrder x y) (λ i. member-more g x y)))
 
   occurrence-read : {at : ℕ} {ps : List Place} (t : Tokens) → Read s T at ps t → Read s T at ps (occurrence s t)
   occurrence-read {at} {ps} t r =
-      occurrence-holds (Read s T at ps) s t r (λ g i l. record { from = omega (arith, r .from); inside = omega arith; fits = r .fits; built = indicated i (r .built) })
+      occurrence-holds (Read s T at ps) s t r (λ g n i l. record { from = omega (arith, r .from); inside = omega arith; fits = r .fits; built = indicated i (r .built); some = omega arith; plain = λ e. indicated-plain t i (r .plain e); guarded = indicated-guarded t i (r .plain) (r .guarded) })
 
   abbrev InnerRead : (ℕ → List Place → ℕ → Reading Tokens) → Type 0
   InnerRead inner = (at : ℕ) (ps : List Place) (n : ℕ) → at < length s → Fits s ps n → Holds (InType s) (Read s T at ps) (inner at ps n)
@@ -205,6 +281,9 @@ module _ (c : Settings) (s : List ℕ) {T : List Place → Group → List Place 
           inside = nameEnd-le s at h;
           fits = fits-place f (room x) (record { begins = i; ends = omega (arith, nameEnd-from s at, nameEnd-le s at h); named = λ _. l });
           built = build .name ps (namePlace s at) (omega (arith, nameEnd-more s at l)) e;
+          some = omega (arith, nameEnd-more s at l);
+          plain = λ _. refl;
+          guarded = λ _. refl;
         }))
         (λ x l.
         record {
@@ -212,16 +291,27 @@ module _ (c : Settings) (s : List ℕ) {T : List Place → Group → List Place 
           inside = nameEnd-le s (at + 1) (omega arith);
           fits = fits-place f (room x) (record { begins = l; ends = omega arith; named = λ i. absurd (omega arith) });
           built = build .pcdata ps (dataPlace at) refl;
+          some = omega (arith, nameEnd-from s (at + 1));
+          plain = λ _. refl;
+          guarded = λ _. refl;
         })
         (λ x l. on (inner-read at ps (n + 1) l (fits-group f (room x))) (λ t r. reads (occurrence-read t r)))
 
     further-read : {at : ℕ} {ps : List Place} (k joint : ℕ) (t : Tokens) → Read s T at ps t → Holds (InType s) (FurtherRead at ps) (further c inner s k joint t)
     further-read {at} {ps} k joint t r =
         further-holds s c inner k joint t (λ m k i. i (r .inside))
-        (λ i l h. record { from = omega (arith, r .from); inside = omega arith; fits = r .fits; built = r .built })
-        (λ b j l h.
+        (λ i l h. record { from = omega (arith, r .from); inside = omega arith; fits = r .fits; built = r .built; some = omega arith; plain = r .plain; guarded = r .guarded })
+        (λ b i j q f m l h.
         on (token-read j (leb GRPCNT k || leb GRPGTCNT (t .tokens)) (t .places) (t .tokens) h (r .fits) (λ x. leb-false _ _ (or-none (leb GRPCNT k) _ x .1)))
-        (λ u v. reads (record { from = omega (arith, r .from, v .from); inside = v .inside; fits = v .fits; built = connected b (r .built) (v .built) })))
+        (λ u v. reads (record {
+          from = omega (arith, r .from, v .from);
+          inside = v .inside;
+          fits = v .fits;
+          built = connected k b (r .built) (v .built);
+          some = v .some;
+          plain = λ e. let (x, y) = earlier-none (t .and) _ e in join-plain k b i (u .and) (t .group) (u .group) q (omega (arith, f, r .some)) y (r .plain x) (v .plain);
+          guarded = λ e. let (x, y) = earlier-none (t .repeated) (u .repeated) e in join-guarded k b (t .group) (u .group) (r .guarded x) (v .guarded y);
+        })))
 
     members-read : {at : ℕ} {ps : List Place} (left k joint : ℕ) (t : Tokens) → Read s T at ps t → Holds (InType s) (Read s T at ps) (members c inner s left k joint t)
     unfolding members
@@ -233,8 +323,8 @@ module _ (c : Settings) (s : List ℕ) {T : List Place → Group → List Place 
         by-further ih (closed u) v = reads v
         by-further ih (joined b u) v = ih b u v
 
-  earlier : {at i : ℕ} {ps : List Place} {t : Tokens} → at ≤ i → Read s T i ps t → Read s T at ps t
-  earlier h r = record { from = omega (arith, r .from); inside = r .inside; fits = r .fits; built = r .built }
+  from-before : {at i : ℕ} {ps : List Place} {t : Tokens} → at ≤ i → Read s T i ps t → Read s T at ps t
+  from-before h r = record { from = omega (arith, r .from); inside = r .inside; fits = r .fits; built = r .built; some = r .some; plain = r .plain; guarded = r .guarded }
 
   pub group-read : (levels : ℕ) → InnerRead (group c levels s)
   unfolding group
@@ -242,14 +332,14 @@ module _ (c : Settings) (s : List ℕ) {T : List Place → Group → List Place 
   group-read (suc levels) at ps n h f =
       let i = separatorsEnd s (at + 1) in
       on (token-read (group c levels s) (group-read levels) i (leb GRPGTCNT n) ps n (separatorsEnd-le s (at + 1) (omega arith)) f (leb-false _ _))
-      (λ t r. members-read (group c levels s) (group-read levels) GRPCNT 1 0 t (earlier (omega (arith, separatorsEnd-from s (at + 1))) r))
+      (λ t r. members-read (group c levels s) (group-read levels) GRPCNT 1 0 t (from-before (omega (arith, separatorsEnd-from s (at + 1))) r))
 
   contentModel-read : (i : ℕ) → i < length s → Holds (InFrom s i) (ContentRead s T i) (contentModel c s i)
   unfolding contentModel
   contentModel-read i h =
       on (so (group-read GRPLVL i [] 0 h (fits-none s)) (λ n k x l. x) (λ t r. r)) λ t r.
       let v = occurrence-read t r in
-      reads (record { from = v .from; inside = v .inside; content = v .fits; built = v .built })
+      reads (record { from = v .from; inside = v .inside; content = v .fits; built = v .built; guarded = v .guarded })
 
   contentWord-read : (from i : ℕ) → letter (byteAt s i) ≡ true → Holds (InFrom s i) (ContentRead s T i) (contentWord c s from i)
   unfolding contentWord
@@ -257,7 +347,7 @@ module _ (c : Settings) (s : List ℕ) {T : List Place → Group → List Place 
       let e = nameEnd s i in
       let h = letter-in s i l in
       either (ltb (c .nameLength) (e - i)) (λ x. stops (λ y. omega arith))
-      (λ x. either (ltb from i && isWord s i e EMPTY) (λ y. reads (record { from = nameEnd-from s i; inside = nameEnd-le s i (omega arith); content = tt; built = tt }))
+      (λ x. either (ltb from i && isWord s i e EMPTY) (λ y. reads (record { from = nameEnd-from s i; inside = nameEnd-le s i (omega arith); content = tt; built = tt; guarded = λ _. tt }))
       (λ y. either (isWord s i e ANY || isWord s i e CDATA || isWord s i e RCDATA) (λ z. stops (λ u. omega arith))
       (λ z. either (ltb from i && isCut s i e EMPTY) (λ u. stops (λ v. omega arith)) (λ u. stops (λ v. omega arith)))))
 
@@ -274,7 +364,7 @@ abbrev pub Whatever : List Place → Group → List Place → Type 0
 Whatever ps g qs = Unit {0}
 
 pub whatever-builds : {long : ℕ} → Builds long Whatever
-whatever-builds = record { name = λ ps x l m. tt; pcdata = λ ps x e. tt; optional = λ x. tt; repeated = λ x. tt; sequence = λ x y. tt; choice = λ x y. tt }
+whatever-builds = record { name = λ ps x l m. tt; pcdata = λ ps x e. tt; optional = λ x. tt; repeated = λ x. tt; sequence = λ x y. tt; choice = λ x y. tt; anyOrder = λ x y. tt; another = λ x y. tt }
 
 -- A content ends behind where it begins.
 pub content-from : (c : Settings) (s : List ℕ) (from i : ℕ) (x : ContentEnd) → content c s from i ≡ got x → i ≤ x .at

@@ -4,6 +4,7 @@
 // many events there are so far; they are put to `numbers` and `bytes` (crate event_buffer).
 // Where the tables are no type's, or the state stands in none, what a token brings is not decided, but that the state's numbers are in range,
 // that the refusal number is below 20, and that so many events were put as are counted.
+use layout::BEGUN;
 use layout::FACTS;
 use layout::PLACES;
 use layout::ROWS;
@@ -19,6 +20,8 @@ pub fn token(
     rows: &[u8; ROWS],
     places: &[u8; PLACES],
     facts: &[u8; FACTS],
+    members: &[u8],
+    begun: &mut [u32; BEGUN],
     state: Open,
     x: usize,
     at: usize,
@@ -37,7 +40,19 @@ pub fn token(
             number: 16,
         };
     }
-    let f = inferring::ends(rows, places, facts, state, x, at, n, numbers, bytes);
+    let f = inferring::ends(
+        rows,
+        places,
+        facts,
+        members,
+        begun,
+        state,
+        x,
+        at,
+        n,
+        numbers,
+        bytes,
+    );
     let found = f.found;
     let starts = ways::starts_of(found);
     let m = f.events;
@@ -51,13 +66,26 @@ pub fn token(
     }
     let mut k = 0;
     while k < starts {
-        o = inferring::infer_start(rows, places, facts, o, at, m + k, numbers, bytes);
+        o = inferring::infer_start(
+            rows,
+            places,
+            facts,
+            members,
+            begun,
+            o,
+            at,
+            m + k,
+            numbers,
+            bytes,
+        );
         k += 1;
     }
     placing::placed(
         rows,
         places,
         facts,
+        members,
+        begun,
         o,
         found,
         x,

@@ -133,6 +133,7 @@ fn put_element(
     rows: &mut [u8; ROWS],
     places: &mut [u8; PLACES],
     facts: &mut [u8; FACTS],
+    members: &mut [u8],
     e: usize,
     names: &mut [u32; NAMES],
     table: &mut [u8; MODEL],
@@ -158,8 +159,27 @@ fn put_element(
         return;
     }
     let n = d.places;
-    model_rows::put_rows(rows, e, table, n);
+    let mut raise: u8 = 0;
+    if d.and != 0 {
+        raise = 128;
+    }
+    model_rows::put_rows(rows, e, table, n, raise);
     put_places(s, elements, index, places, facts, e, names, n);
+    if d.and != 0 {
+        raise_facts(facts, e);
+        member_table::fill(members, e, table, d.code);
+    }
+}
+
+// The largest places of the element e are kept 128 higher: its model has an "&".
+fn raise_facts(facts: &mut [u8; FACTS], e: usize) {
+    let mut x = 0;
+    while x < 65 {
+        if facts[e * FACT + x] != 0 {
+            facts[e * FACT + x] += 128;
+        }
+        x += 1;
+    }
 }
 
 // Fills the tables, which are all 0, from an accepted type file whose elements are recorded in `elements`. What they then hold for
@@ -173,6 +193,7 @@ pub fn fill(
     rows: &mut [u8; ROWS],
     places: &mut [u8; PLACES],
     facts: &mut [u8; FACTS],
+    members: &mut [u8],
 )
     requires { ⌜ Judged (settings long) (now s) (now elements) count ⌝ }
     requires { ⌜ ((es : List Element) × Accepts (settings long) (now s) es × Indexed (now s) es (now elements) (now index)) ⌝ }
@@ -193,6 +214,7 @@ pub fn fill(
             rows,
             places,
             facts,
+            members,
             e,
             &mut names,
             &mut table,

@@ -60,6 +60,7 @@ fn onward(p: Progress, at: usize) -> Step
         at: at,
         count: p.count,
         clash: c,
+        repeated: p.repeated,
     })
 }
 
@@ -149,6 +150,7 @@ pub fn file_read(long: usize, s: &[u8], elements: &mut [u32; RECORDS]) -> Step
             first: 0,
             second: 0,
         },
+        repeated: 0,
     };
     loop {
         let i = text::separators_end(s, p.at);

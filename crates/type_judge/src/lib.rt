@@ -34,6 +34,12 @@ pub fn decide_legible(c: Settings, s: &[u8], room: usize, elements: &mut [u32; R
     let clash = p.clash;
     let second = clash.second;
     let numbers = 6 * p.count;
+    if p.repeated != 0 {
+        return Verdict::Malformed(Fault {
+            number: 25,
+            at: p.repeated,
+        });
+    }
     if second != 0 {
         return Verdict::Ambiguous(clash);
     }

@@ -8,7 +8,7 @@ use lib.ListN.{length}
 use lib.Dec.{eqb}
 use borrow.Author.Tests.{eqb-true}
 use Rattle.rules.specs.Settings.{Settings}
-use Rattle.rules.specs.Walk.{Group, place, seq, alt, opt, plus}
+use Rattle.rules.specs.Walk.{Group, place, seq, alt, opt, plus, and, one, also}
 use Rattle.rules.specs.TypeFile.{Place, Content, empty, model, Element}
 use Rattle.rules.specs.Judge.{placeAt}
 use Rattle.rules_laws.specs.Holds.{got-so}
@@ -18,7 +18,7 @@ use Rattle.rules_laws.specs.In.{All, none, all-snoc}
 use Rattle.rules_laws.specs.Names.{placeAt-append, placeAt-next}
 use Rattle.model_sets.specs.Bits.{or-left, or-right, or-cases, and-both}
 use Rattle.model_sets.specs.Sets.{size, Numbered, has, follow}
-use Rattle.model_sets.specs.Path.{has-range}
+use Rattle.and_laws.specs.Numbers.{has-range}
 use Rattle.document_laws.specs.Numbers.{Counted, counted-builds}
 
 -- A place of no size, which is `#PCDATA`, may stand directly after itself.
@@ -69,6 +69,9 @@ module _ {ps qs rs : List Place} {g h : Group} (c : Grown ps g qs) (d : Grown qs
   alt-repeats : Repeats (alt g h) rs
   alt-repeats p i z = or-cases (has g p) (has h p) (λ x. or-left _ (first-repeats p x z)) (λ y. or-right (follow g p p) (d .repeats p y z)) i
 
+  any-repeats : Repeats (and (also (one g) h)) rs
+  any-repeats p i z = or-cases (has g p) (has h p) (λ x. or-left _ (or-left _ (first-repeats p x z))) (λ y. or-left _ (or-right (follow g p p) (d .repeats p y z))) i
+
 grown-builds : {long : ℕ} → Builds long Grown
 grown-builds {long} =
     record {
@@ -78,6 +81,8 @@ grown-builds {long} =
       repeated = λ c. record { counting = counted-builds {long = long} .repeated (c .counting); kept = c .kept; repeats = λ p h z. or-left _ (c .repeats p h z) };
       sequence = λ c d. record { counting = counted-builds {long = long} .sequence (c .counting) (d .counting); kept = both-kept c d; repeats = seq-repeats c d };
       choice = λ c d. record { counting = counted-builds {long = long} .choice (c .counting) (d .counting); kept = both-kept c d; repeats = alt-repeats c d };
+      anyOrder = λ c d. record { counting = counted-builds {long = long} .anyOrder (c .counting) (d .counting); kept = both-kept c d; repeats = any-repeats c d };
+      another = λ c d. record { counting = counted-builds {long = long} .another (c .counting) (d .counting); kept = both-kept c d; repeats = any-repeats c d };
     }
 
 -- A whole model.
@@ -111,6 +116,8 @@ short-builds =
       repeated = λ f. f;
       sequence = λ f g a. g (f a);
       choice = λ f g a. g (f a);
+      anyOrder = λ f g a. g (f a);
+      another = λ f g a. g (f a);
     }
 
 abbrev pub ShortIn : (long : ℕ) → Content → Type 0

@@ -15,6 +15,7 @@
 //
 // Whatever the tables hold, each function ends and stays within them. Where they are no type's, what `fitting`, `startable` and `inferable`
 // answer is not decided, but that a place is at most 96 and an element at most 64.
+use layout::BEGUN;
 use layout::FACT;
 use layout::FACTS;
 use layout::LINK;
@@ -65,6 +66,11 @@ pub fn complete(rows: &[u8; ROWS], e: usize, u: usize) -> bool
     rows[row(e, u)] % 2 == 1
 }
 
+// The required place, or 0; 128 more where the model has an "&".
+pub fn kept(rows: &[u8; ROWS], e: usize, u: usize) -> usize {
+    numbers::wide(rows[row(e, u) + 13])
+}
+
 // The required place, or 0.
 pub fn required(rows: &[u8; ROWS], e: usize, u: usize) -> usize
     requires { ⌜ (e ≤ 64) × (u ≤ 96) ⌝ }
@@ -113,11 +119,64 @@ pub fn has_model(facts: &[u8; FACTS], e: usize) -> bool
     facts[e * FACT + 67] == 1
 }
 
-// The place of the name x that may come next in the element e after the place u, or 0. The places of a name are linked downwards.
+// The largest of the place p and the smaller ones of its name that some row has after the place u in the element e, or 0. They are linked downwards.
+fn largest(rows: &[u8; ROWS], places: &[u8; PLACES], e: usize, u: usize, p: usize) -> usize {
+    let mut q = p;
+    while q != 0 {
+        if bit(rows, e, u, q) {
+            return q;
+        }
+        let r = smaller(places, e, q);
+        if q <= r {
+            return 0;
+        }
+        q = r;
+    }
+    0
+}
+
+// The largest of the place p and the smaller ones of its name that may come next in the element e, whose model has an "&", after the place u at the
+// level, or 0.
+fn largest_among(
+    rows: &[u8; ROWS],
+    places: &[u8; PLACES],
+    members: &[u8],
+    begun: &[u32; BEGUN],
+    level: usize,
+    e: usize,
+    u: usize,
+    p: usize,
+) -> usize {
+    if p < 128 {
+        return 0;
+    }
+    let mut q = p - 128;
+    if 96 < q {
+        return 0;
+    }
+    while q != 0 {
+        if bit(rows, e, u, q) {
+            if and_groups::may_follow(members, begun, level, e, u, q) {
+                return q;
+            }
+        }
+        let r = smaller(places, e, q);
+        if q <= r {
+            return 0;
+        }
+        q = r;
+    }
+    0
+}
+
+// The place of the name x that may come next in the element e after the place u at the level, or 0.
 pub fn fitting(
     rows: &[u8; ROWS],
     places: &[u8; PLACES],
     facts: &[u8; FACTS],
+    members: &[u8],
+    begun: &[u32; BEGUN],
+    level: usize,
     e: usize,
     u: usize,
     x: usize,
@@ -127,21 +186,50 @@ pub fn fitting(
         (t : Token) → nameNumber t ≡ x → Declares es t → r ≡ decided s es .fits e (placed u) t) ⌝ }
     ensures { λ r. ⌜ r ≤ 96 ⌝ }
 {
+    let p = numbers::wide(facts[e * FACT + x]);
+    if 96 < p {
+        return largest_among(rows, places, members, begun, level, e, u, p);
+    }
+    largest(rows, places, e, u, p)
+}
+
+// Whether data may come next in the element e after the place u at the level.
+pub fn takes_data(
+    rows: &[u8; ROWS],
+    places: &[u8; PLACES],
+    facts: &[u8; FACTS],
+    members: &[u8],
+    begun: &[u32; BEGUN],
+    level: usize,
+    e: usize,
+    u: usize,
+) -> bool {
+    let p = numbers::wide(facts[e * FACT]);
+    if 96 < p {
+        return largest_among(rows, places, members, begun, level, e, u, p) != 0;
+    }
+    largest(rows, places, e, u, p) != 0
+}
+
+// The place of the name x that may come next at the start of the element e, or 0. Nothing has begun there, so the row decides.
+pub fn fitting_first(
+    rows: &[u8; ROWS],
+    places: &[u8; PLACES],
+    facts: &[u8; FACTS],
+    e: usize,
+    x: usize,
+) -> usize {
     let mut p = numbers::wide(facts[e * FACT + x]);
     if 96 < p {
-        return 0;
-    }
-    while p != 0 {
-        if bit(rows, e, u, p) {
-            return p;
-        }
-        let q = smaller(places, e, p);
-        if p <= q {
+        if p < 128 {
             return 0;
         }
-        p = q;
+        p -= 128;
+        if 96 < p {
+            return 0;
+        }
     }
-    0
+    largest(rows, places, e, 0, p)
 }
 
 // The element whose start is to be inferred in the element e where the place p is required, or 0.
@@ -174,18 +262,12 @@ pub fn startable(places: &[u8; PLACES], facts: &[u8; FACTS], e: usize, p: usize)
     k
 }
 
-// The element whose start is to be inferred in the element e after the place u, or 0.
-pub fn inferable(
-    rows: &[u8; ROWS],
-    places: &[u8; PLACES],
-    facts: &[u8; FACTS],
-    e: usize,
-    u: usize,
-) -> usize
-    requires { ⌜ (e ≤ 64) × (u ≤ 96) ⌝ }
-    ensures { λ r. ⌜ ((s : List ℕ) (es : List Element) → Tables s es (now (rows .entry)) (now (places .entry)) (now (facts .entry)) → InRange es (standing e u) →
+// The element whose start is to be inferred at the start of the element e, or 0.
+pub fn inferable(rows: &[u8; ROWS], places: &[u8; PLACES], facts: &[u8; FACTS], e: usize) -> usize
+    requires { ⌜ e ≤ 64 ⌝ }
+    ensures { λ r. ⌜ ((s : List ℕ) (es : List Element) → Tables s es (now (rows .entry)) (now (places .entry)) (now (facts .entry)) → InRange es (standing e 0) →
         r ≡ rules.inferable s es (decided s es) (standing e u)) ⌝ }
     ensures { λ r. ⌜ r ≤ 64 ⌝ }
 {
-    startable(places, facts, e, required(rows, e, u))
+    startable(places, facts, e, required(rows, e, 0))
 }

@@ -3,6 +3,7 @@
 //
 // `rows`, `places` and `facts` are the tables of the type (crate type_tables). x is the element that starts, or 0 for data.
 // Where the tables are no type's, an answer is not decided, but for the range that its contract has.
+use layout::BEGUN;
 use layout::FACTS;
 use layout::PLACES;
 use layout::ROWS;
@@ -48,10 +49,10 @@ fn chain(
     let mut c = type_tables::startable(places, facts, e, q);
     let mut n = 1;
     while n <= 64 && c != 0 {
-        if type_tables::fitting(rows, places, facts, c, 0, x) != 0 {
+        if type_tables::fitting_first(rows, places, facts, c, x) != 0 {
             return n;
         }
-        c = type_tables::inferable(rows, places, facts, c, 0);
+        c = type_tables::inferable(rows, places, facts, c);
         n += 1;
     }
     0
@@ -62,6 +63,9 @@ pub fn way_at(
     rows: &[u8; ROWS],
     places: &[u8; PLACES],
     facts: &[u8; FACTS],
+    members: &[u8],
+    begun: &[u32; BEGUN],
+    level: usize,
     e: usize,
     u: usize,
     q: usize,
@@ -72,7 +76,7 @@ pub fn way_at(
         (t : Token) → nameNumber t ≡ x → Declares es t → r ≡ wayOf (decided s es .fits e (placed u) t) (chained s es (decided s es) t (standing e u))) ⌝ }
     ensures { λ r. ⌜ (fitOf r ≤ 96) × (startsOf r ≤ 64) ⌝ }
 {
-    let p = type_tables::fitting(rows, places, facts, e, u, x);
+    let p = type_tables::fitting(rows, places, facts, members, begun, level, e, u, x);
     if p != 0 {
         return Way::Taken(p);
     }
@@ -128,7 +132,7 @@ pub fn place_of(
 {
     match found {
         Way::Taken(p) => p,
-        Way::Inferred(_) => type_tables::fitting(rows, places, facts, e, u, x),
+        Way::Inferred(_) => type_tables::fitting_first(rows, places, facts, e, x),
         Way::Stuck => 0,
     }
 }

@@ -1,29 +1,31 @@
 -- `first_pair` meets its contract. The invariant: no place before `p` is in a pair at fault, so what is still to be searched gives the answer.
-use Prim.Native.Nat.{_+_, _-_}
+use Prim.Native.Nat.{ℕ, _+_, _-_, _≤_}
+use mathlib.Core.Bool.{Bool}
 use native.Mathlib.Omega.{arith}
+use Rattle.model_pairs.specs.Rows.{Tells}
 use Rattle.model_pairs.specs.Laws.{SeeksPair, pairs-start, pairs-past, pairs-found, pairs-none}
 use Rattle.model_pairs.proofs.first_pair.Statement.{statement}
 use Rattle.model_pairs.proofs.first_pair.Tie as tie
 
 abbrev Inv-loop : tie.InvT-loop
-Inv-loop s names table n keys p₀ p = SeeksPair s names table n p
+Inv-loop s names table n code and keys p₀ p = (1 ≤ p) × (p ≤ n + 1) × ((F : ℕ → ℕ → Bool) → Tells table n code and F → SeeksPair s names F n p)
 
 abbrev μ-loop : tie.MeasureT-loop
-μ-loop s names table n keys p₀ p = n + 1 - p
+μ-loop s names table n code and keys p₀ p = n + 1 - p
 
 keys-of-requires : tie.Need-keys-of-requires Inv-loop μ-loop
 keys-of-requires c κs = omega arith
 
 loop-holds : tie.Need-loop-holds Inv-loop μ-loop
-loop-holds c = pairs-start _ _ _ _
+loop-holds c = (omega arith, omega arith, λ F t. pairs-start _ _ _ _)
 
 partner-requires : tie.Need-partner-requires Inv-loop μ-loop
 partner-requires c κs = (omega arith, c .before .before .before .keys-of .ensures)
 
 returns : tie.Need-returns Inv-loop μ-loop
-returns c =
+returns c F t =
     let turn = c .before .before .before in
-    pairs-found _ _ _ _ _ (turn .before .loop .inv) _ (omega arith) (c .before .partner .ensures) (omega arith)
+    pairs-found _ _ _ _ _ (turn .before .loop .inv .2 F t) _ (omega arith) (c .before .partner .ensures F t) (omega arith)
 
 add-p : tie.Need-add-p Inv-loop μ-loop
 add-p c = omega arith
@@ -34,10 +36,10 @@ loop-less c = omega arith
 loop-again : tie.Need-loop-again Inv-loop μ-loop
 loop-again c =
     let turn = c .before .before .before in
-    pairs-past _ _ _ _ _ (turn .before .loop .inv) _ (omega arith) (c .before .partner .ensures) (omega arith)
+    (omega arith, omega arith, λ F t. pairs-past _ _ _ _ _ (turn .before .loop .inv .2 F t) _ (omega arith) (c .before .partner .ensures F t) (omega arith))
 
 returns-2 : tie.Need-returns-2 Inv-loop μ-loop
-returns-2 c = pairs-none _ _ _ _ _ (c .before .loop .inv) (omega arith)
+returns-2 c F t = pairs-none _ _ _ _ _ (c .before .loop .inv .2 F t) (omega arith)
 
 pub first-pair-spec : {M : Type 1} → statement M
 first-pair-spec =

@@ -1,0 +1,129 @@
+-- What a reader asks, from the places taken: the last of them and the set of them decide. Of a numbered model without "&" under "+" this is what the walks say.
+use Prim.Native.Nat.{ℕ, zero, suc, _+_, _≤_, _<_}
+use mathlib.Core.Path.{_≡_, refl, sym, _∙_, ap, subst}
+use mathlib.Core.Bool.{Bool, true, _&&_}
+use mathlib.Core.Logic.{_⊎_, inl, inr, _↔_}
+use mathlib.Core.List.{List, [], _∷_, _++_}
+use native.Mathlib.Omega.{arith}
+use Rattle.model_sets.specs.Bits.{bool-cases}
+use Rattle.model_sets.specs.Sets.{size, Numbered, has, follow, nextIn, completeIn, requiredIn}
+use Rattle.rules.specs.Walk.{Group, Begins, MayComeNext, Complete, Required}
+use Rattle.and_laws.specs.Base.{mem, mem-left, mem-right, Ends, ends-mem}
+use Rattle.and_laws.specs.Sets.{held, Plain, Good, walk-in}
+use Rattle.and_laws.specs.Left.{Agrees}
+use Rattle.and_laws.specs.Fold.{some-walk, begins-less}
+use Rattle.and_laws.specs.Numbers.{Guarded, has-range, numbered-good}
+use Rattle.and_laws.specs.Rows.{may, fit-row}
+use Rattle.and_laws.specs.Levels.{around, may-in, itself, around-has}
+use Rattle.and_laws.specs.Taken.{nextFrom, completeFrom, requiredFrom, IsLast, IsTaken, next-from, complete-from, required-from, plain-next, plain-complete, plain-required}
+
+-- Beginnings
+
+pub begins-none : (g : Group) → Begins g []
+begins-none g = some-walk g
+
+-- a beginning of a beginning is a beginning
+pub begins-shorter : (g : Group) (s t : List ℕ) → Begins g (s ++ t) → Begins g s
+begins-shorter g s t b = begins-less g s t b
+
+-- The last place taken
+
+-- the last of the places after u, u if there is none
+abbrev pub lastFrom : ℕ → List ℕ → ℕ
+lastFrom u [] = u
+lastFrom u (p ∷ s) = lastFrom p s
+
+-- the last place, 0 if there is none
+abbrev pub lastOr0 : List ℕ → ℕ
+lastOr0 s = lastFrom 0 s
+
+pub lastFrom-snoc : (u : ℕ) (s : List ℕ) (p : ℕ) → lastFrom u (s ++ p ∷ []) ≡ p
+lastFrom-snoc u [] p = refl
+lastFrom-snoc u (q ∷ s) p = lastFrom-snoc q s p
+
+pub lastOr0-snoc : (s : List ℕ) (p : ℕ) → lastOr0 (s ++ p ∷ []) ≡ p
+lastOr0-snoc s p = lastFrom-snoc 0 s p
+
+ends-last : (p : ℕ) (s : List ℕ) → Ends (p ∷ s) (lastFrom p s)
+ends-last p [] = inl (refl, refl)
+ends-last p (q ∷ s) = inr (ends-last q s)
+
+-- What the places taken decide
+
+abbrev pub nextOf : Group → List ℕ → ℕ → Bool
+nextOf g s p = nextFrom g (lastOr0 s) (mem s) p
+
+abbrev pub completeOf : Group → List ℕ → Bool
+completeOf g s = completeFrom g (lastOr0 s) (mem s)
+
+abbrev pub requiredOf : Group → List ℕ → ℕ
+requiredOf g s = requiredFrom g (lastOr0 s) (mem s)
+
+module _ (g : Group) (numbered : Numbered g 1) (guarded : Guarded g) where
+  good : Good g
+  good = numbered-good g 1 numbered guarded
+
+  -- the last place of a beginning is in the group, and was taken
+  begins-last : (p : ℕ) (s : List ℕ) → Begins g (p ∷ s) → (has g (lastFrom p s) ≡ true) × (mem (p ∷ s) (lastFrom p s) ≡ true)
+  begins-last p s (t, w) =
+      let m = ends-mem (p ∷ s) (lastFrom p s) (ends-last p s) in
+      (walk-in g ((p ∷ s) ++ t) w (lastFrom p s) (mem-left (p ∷ s) t (lastFrom p s) m), m)
+
+  is-last : (s : List ℕ) → Begins g s → IsLast s (lastOr0 s)
+  is-last [] b = refl
+  is-last (p ∷ s) b = go (lastFrom p s) (ends-last p s) (has-range g 1 numbered (lastFrom p s) (begins-last p s b .0) .0)
+    where
+      go : (u : ℕ) → Ends (p ∷ s) u → 1 ≤ u → IsLast (p ∷ s) u
+      go zero e l = absurd (omega arith)
+      go (suc u) e l = e
+
+  is-taken : (s : List ℕ) → Begins g s → IsTaken g (lastOr0 s) (mem s)
+  is-taken [] b = refl
+  is-taken (p ∷ s) b = go (lastFrom p s) (begins-last p s b)
+    where
+      go : (u : ℕ) → (has g u ≡ true) × (mem (p ∷ s) u ≡ true) → IsTaken g u (mem (p ∷ s))
+      go zero x = refl
+      go (suc u) x = x
+
+  agrees : (s : List ℕ) → Agrees (held g) s (mem s)
+  agrees s p i = (λ x. x, λ x. x)
+
+  -- They decide what the walks say.
+  pub next-of : (s : List ℕ) → Begins g s → (p : ℕ) → (nextOf g s p ≡ true) ↔ MayComeNext g s p
+  next-of s b p = next-from g good (mem s) (lastOr0 s) s (is-last s b) (agrees s) b p
+
+  pub complete-of : (s : List ℕ) → Begins g s → (completeOf g s ≡ true) ↔ Complete g s
+  complete-of s b = complete-from g good (mem s) (lastOr0 s) s (is-last s b) (agrees s) b
+
+  pub required-of : (s : List ℕ) → Begins g s → (p : ℕ) → 1 ≤ p → (requiredOf g s ≡ p) ↔ Required g s p
+  required-of s b p l = required-from g good (mem s) (lastOr0 s) s (is-last s b) (agrees s) b p (λ e. omega arith)
+
+  -- What may come next is a place of the model.
+  pub next-range : (s : List ℕ) (p : ℕ) → MayComeNext g s p → (1 ≤ p) × (p ≤ size g)
+  next-range s p (t, w) =
+      let m = mem-left (s ++ p ∷ []) t p (mem-right s (p ∷ []) p (ends-mem (p ∷ []) p (inl (refl, refl)))) in
+      omega (arith, has-range g 1 numbered p (walk-in g ((s ++ p ∷ []) ++ t) w p m))
+
+  pub required-one : (s : List ℕ) (p : ℕ) → Required g s p → requiredOf g s ≡ p
+  required-one s p r = required-of s (begins-shorter g s (p ∷ []) (r .next)) p (next-range s p (r .next) .0) .1 r
+
+  -- Without "&" the last place decides, by the rows alone.
+  pub next-last : Plain g → (s : List ℕ) → Begins g s → (p : ℕ) → nextOf g s p ≡ nextIn g (lastOr0 s) p
+  next-last n s b p = plain-next g good (mem s) n (lastOr0 s) (is-taken s b) p
+
+  pub complete-last : Plain g → (s : List ℕ) → Begins g s → completeOf g s ≡ completeIn g (lastOr0 s)
+  complete-last n s b = plain-complete g good (mem s) n (lastOr0 s) (is-taken s b)
+
+  pub required-last : Plain g → (s : List ℕ) → Begins g s → requiredOf g s ≡ requiredIn g (lastOr0 s)
+  required-last n s b = plain-required g good (mem s) n (lastOr0 s) (is-taken s b)
+
+  -- A place that the row has after itself may come next after itself, whatever has begun: the group around it has it in one member.
+  pub next-itself : (s : List ℕ) (p : ℕ) → MayComeNext g s p → follow g p p ≡ true → MayComeNext g (s ++ p ∷ []) p
+  next-itself s p b f = next-of (s ++ p ∷ []) b p .0 (subst (λ (u : ℕ). nextFrom g u (mem (s ++ p ∷ [])) p ≡ true) (sym (lastOr0-snoc s p)) (from-itself p (next-range s p b .0) (has-next s p b) f (mem-right s (p ∷ []) p (ends-mem (p ∷ []) p (inl (refl, refl))))))
+    where
+      has-next : (s : List ℕ) (p : ℕ) → MayComeNext g s p → has g p ≡ true
+      has-next s p (t, w) = walk-in g ((s ++ p ∷ []) ++ t) w p (mem-left (s ++ p ∷ []) t p (mem-right s (p ∷ []) p (ends-mem (p ∷ []) p (inl (refl, refl)))))
+
+      from-itself : (u : ℕ) → 1 ≤ u → has g u ≡ true → follow g u u ≡ true → mem (s ++ p ∷ []) u ≡ true → nextFrom g u (mem (s ++ p ∷ [])) u ≡ true
+      from-itself zero l i f m = absurd (omega arith)
+      from-itself (suc u) l i f m = fit-row (suc u) (mem (s ++ p ∷ [])) m (suc u) g good i ∙ ap (λ (z : Bool). z && may g (suc u) (mem (s ++ p ∷ [])) (suc u)) f ∙ may-in (suc u) (mem (s ++ p ∷ [])) (suc u) g good i f ∙ itself (around g (suc u)) (suc u) (mem (s ++ p ∷ [])) (around-has g (suc u) i)

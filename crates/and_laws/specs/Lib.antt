@@ -1,0 +1,32 @@
+-- What holds of the walks of content models with "&" groups (paper 02, request twelve): what may remain after a beginning, which pairs of places are at
+-- fault, what may come next, is complete, is required; each as a computed test that says of the walks what the rules mean.
+pub mod Words
+pub mod Base
+pub mod Sets
+pub mod Numbers
+pub mod Blocks
+pub mod Later
+pub mod Left
+pub mod Back
+pub mod Fold
+pub mod Only
+pub mod Exact
+pub mod Pairs
+pub mod Ambiguous
+pub mod Rest
+pub mod Decide
+pub mod Required
+pub mod Meant
+pub mod Unique
+pub mod Req
+pub mod Number
+pub mod Rows
+pub mod Lacking
+pub mod Levels
+pub mod Filed
+pub mod Ranked
+pub mod Taken
+pub mod First
+pub mod Begun
+pub mod Code
+pub mod Examples

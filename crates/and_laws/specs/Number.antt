@@ -1,0 +1,69 @@
+-- The required place is the fold's number; how the set of places taken grows; without "&" the set does not count.
+use Prim.Native.Nat.{ℕ}
+use mathlib.Core.Path.{_≡_, refl, sym, _∙_, ap, subst}
+use mathlib.Core.Bool.{Bool, true, false, _&&_, _||_, false≢true}
+use mathlib.Core.Logic.{_⊎_, inl, inr, _↔_}
+use mathlib.Core.List.{List, [], _∷_, _++_}
+use lib.Dec.{eqb}
+use borrow.Author.Tests.{eqb-true, eq-eqb}
+use Rattle.model_sets.specs.Bits.{or-left, or-right, or-cases, and-left, and-right, and-both}
+use Rattle.model_sets.specs.Sets.{has, first, must}
+use Rattle.rules.specs.Walk.{Group, Walk, Begins, MayComeNext}
+use Rattle.and_laws.specs.Base.{mem, mem-left, mem-right, mem-cases, Ends, ends-mem}
+use Rattle.and_laws.specs.Sets.{held, meets, Plain, Good, plain-held, walk-in}
+use Rattle.and_laws.specs.Left.{Agrees}
+use Rattle.and_laws.specs.Decide.{passes, fit, passesAfter, next-fold, next-start}
+use Rattle.and_laws.specs.Required.{Other, RequiredBy, same-begun, forced-fold, forced-start, none-begun}
+use Rattle.and_laws.specs.Unique.{first-has, State, After}
+use Rattle.and_laws.specs.Req.{reqAfter, sound0, complete0, sound, complete, some-first, first-other}
+
+-- The set of places taken: nothing at the start, one place more at each step; without "&" any set will do.
+
+pub agrees-none : (f : ℕ → Bool) → Agrees f [] (λ (p : ℕ). false)
+agrees-none f p i = (λ j. j, λ j. j)
+
+pub agrees-take : (f : ℕ → Bool) (s : List ℕ) (S : ℕ → Bool) (p : ℕ) → Agrees f s S → Agrees f (s ++ p ∷ []) (λ (q : ℕ). S q || eqb p q)
+agrees-take f s S p a q i = (
+  λ j. or-cases (S q) _ (λ k. mem-left s (p ∷ []) q (a q i .0 k)) (λ k. mem-right s (p ∷ []) q (or-left _ k)) j,
+  λ j. mem-cases s (p ∷ []) q (λ k. or-left _ (a q i .1 k)) (λ k. or-right (S q) (or-cases (eqb p q) false (λ l. l) (λ l. absurd (false≢true l)) k)) j,
+)
+
+pub plain-agrees : (g : Group) → Plain g → (s : List ℕ) (S : ℕ → Bool) → Agrees (held g) s S
+plain-agrees g n s S p i = absurd (plain-held g n p i)
+
+-- The required place, for p that is not 0.
+module _ (g : Group) (good : Good g) (u : ℕ) (S : ℕ → Bool) (s : List ℕ) (e : Ends s u) (agree : Agrees (held g) s S) (begun : Begins g s) (p : ℕ) (pos : p ≡ 0 → ⊥) where
+  in-g : has g u ≡ true
+  in-g = walk-in g (s ++ begun .0) (begun .1) u (mem-left s (begun .0) u (ends-mem s u e))
+
+  state : State g u S
+  state = (s, begun .0, e, agree, begun .1)
+
+  pub number-required : (reqAfter g u S ≡ p) ↔ RequiredBy g s p
+  number-required = (there, back)
+    where
+      there : reqAfter g u S ≡ p → RequiredBy g s p
+      there f =
+          let (x, c) = sound p pos S g good u in-g f in
+          (forced-fold g good u S s e agree begun p .0 (and-both (x .0) (x .1)), λ h o n q i y. c h o (same-begun g good u S s e agree begun p h o ∙ n) q i (next-fold g good u S s e agree begun q .1 y))
+
+      back : RequiredBy g s p → reqAfter g u S ≡ p
+      back (f, k) =
+          let x = forced-fold g good u S s e agree begun p .1 f in
+          complete p pos S g good u in-g state (and-left (fit g u S p) _ x, and-right (fit g u S p) _ x) (λ h o n q i y. (k h o (sym (same-begun g good u S s e agree begun p h o) ∙ n) q i (next-fold g good u S s e agree begun q .0 y)))
+
+module _ (g : Group) (good : Good g) (p : ℕ) (pos : p ≡ 0 → ⊥) where
+  pub number-required-start : (must g ≡ p) ↔ RequiredBy g [] p
+  number-required-start = (there, back)
+    where
+      there : must g ≡ p → RequiredBy g [] p
+      there f =
+          let (x, c) = sound0 p pos g good f in
+          (forced-start g p .0 (and-both (x .0) (x .1)), λ h o n q i y. c h o)
+
+      back : RequiredBy g [] p → must g ≡ p
+      back (f, k) =
+          let x = forced-start g p .1 f in
+          complete0 p pos g good (and-left (first g p) _ x, and-right (first g p) _ x) (λ h o.
+          let (q, y) = some-first h in
+          k h o (none-begun g p h) q (first-has h q y) (next-start g q .0 (first-other p g good h q o (and-left (first g p) _ x) y)))

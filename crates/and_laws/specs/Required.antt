@@ -1,0 +1,230 @@
+-- RequiredBy, with the clause of request twelve, as a fold, exact over walks.
+use Prim.Native.Nat.{ℕ}
+use mathlib.Core.Path.{_≡_, refl, sym, _∙_, ap, subst}
+use mathlib.Core.Bool.{Bool, true, false, _&&_, _||_, not, false≢true}
+use mathlib.Core.Logic.{_⊎_, inl, inr, _↔_}
+use mathlib.Core.List.{List, [], _∷_, _++_, List·Memᴰ, List·Memᴰ·head, List·Memᴰ·tail, List·Memᴰ·cases-cons, List·Memᴰ·not-nil}
+use lib.Dec.{eqb}
+use borrow.Author.Tests.{eqb-true, eq-eqb}
+use Rattle.model_sets.specs.Bits.{or-left, or-right, or-cases, and-left, and-right, and-both, not-true, not-both, bool-cases}
+use Rattle.model_sets.specs.Sets.{has, hasM, first}
+use Rattle.rules.specs.Walk.{Group, place, seq, alt, opt, plus, and, Members, one, also, Walk, Begins, MayComeNext, IsMember}
+use Rattle.and_laws.specs.Base.{mem, Ends}
+use Rattle.and_laws.specs.Sets.{held, meets, Good, Common, meets-common, common-meets, held-has}
+use Rattle.and_laws.specs.Left.{Agrees}
+use Rattle.and_laws.specs.Rest.{anyM}
+use Rattle.and_laws.specs.Decide.{passes, fit, passesAfter, next-fold, must-fold, next-start, must-start}
+
+-- "A place is required if it may come next and every walk that continues the places taken passes it from here on."
+abbrev pub Forced : Group → List ℕ → ℕ → Type 0
+Forced g s p = MayComeNext g s p × ((t : List ℕ) → Walk g (s ++ t) → List·Memᴰ p t)
+
+-- h is another member of an "&" group in which a member has p
+abbrev mutual
+  pub Other : Group → ℕ → Group → Type 0
+  Other (place n) p h = ⊥
+  Other (seq g k) p h = Other g p h ⊎ Other k p h
+  Other (alt g k) p h = Other g p h ⊎ Other k p h
+  Other (opt g) p h = Other g p h
+  Other (plus g) p h = Other g p h
+  Other (and m) p h = OtherM m p h
+
+  pub OtherM : Members → ℕ → Group → Type 0
+  OtherM (one g) p h = Other g p h
+  OtherM (also m g) p h = (OtherM m p h ⊎ Other g p h) ⊎ (((has g p ≡ true) × IsMember m h) ⊎ ((hasM m p ≡ true) × (h ≡ g)))
+
+-- the member has not begun: no place of it is taken
+abbrev pub Unbegun : Group → List ℕ → Type 0
+Unbegun h s = meets h (mem s) ≡ false
+
+-- "No place in a member of an "&" group is required while another member may still begin": none of its places was taken, and one may come next.
+abbrev pub RequiredBy : Group → List ℕ → ℕ → Type 0
+RequiredBy g s p = Forced g s p × ((h : Group) → Other g p h → Unbegun h s → (q : ℕ) → has h q ≡ true → MayComeNext g s q → ⊥)
+
+-- some other member passes the test
+abbrev mutual
+  pub hinders : (Group → Bool) → Group → ℕ → Bool
+  hinders t (place n) p = false
+  hinders t (seq g k) p = hinders t g p || hinders t k p
+  hinders t (alt g k) p = hinders t g p || hinders t k p
+  hinders t (opt g) p = hinders t g p
+  hinders t (plus g) p = hinders t g p
+  hinders t (and m) p = hindersM t m p
+
+  pub hindersM : (Group → Bool) → Members → ℕ → Bool
+  hindersM t (one g) p = hinders t g p
+  hindersM t (also m g) p = (hindersM t m p || hinders t g p) || ((has g p && anyM t m) || (hasM m p && t g))
+
+member-any : (t : Group → Bool) (m : Members) (h : Group) → IsMember m h → t h ≡ true → anyM t m ≡ true
+member-any t (one g) h i e = subst (λ (k : Group). t k ≡ true) i e
+member-any t (also m g) h (inl i) e = or-left _ (member-any t m h i e)
+member-any t (also m g) h (inr i) e = or-right (anyM t m) (subst (λ (k : Group). t k ≡ true) i e)
+
+pub any-member : (t : Group → Bool) (m : Members) → anyM t m ≡ true → (h : Group) × IsMember m h × (t h ≡ true)
+any-member t (one g) e = (g, refl, e)
+any-member t (also m g) e = or-cases (anyM t m) _ (λ i. let (h, x, y) = any-member t m i in (h, inl x, y)) (λ i. (g, inr refl, i)) e
+
+module _ (t : Group → Bool) (p : ℕ) where
+  mutual
+    pub other-hinders : (g : Group) (h : Group) → Other g p h → t h ≡ true → hinders t g p ≡ true
+    other-hinders (place n) h o e = absurd o
+    other-hinders (seq g k) h (inl o) e = or-left _ (other-hinders g h o e)
+    other-hinders (seq g k) h (inr o) e = or-right (hinders t g p) (other-hinders k h o e)
+    other-hinders (alt g k) h (inl o) e = or-left _ (other-hinders g h o e)
+    other-hinders (alt g k) h (inr o) e = or-right (hinders t g p) (other-hinders k h o e)
+    other-hinders (opt g) h o e = other-hinders g h o e
+    other-hinders (plus g) h o e = other-hinders g h o e
+    other-hinders (and m) h o e = otherM-hinders m h o e
+
+    otherM-hinders : (m : Members) (h : Group) → OtherM m p h → t h ≡ true → hindersM t m p ≡ true
+    otherM-hinders (one g) h o e = other-hinders g h o e
+    otherM-hinders (also m g) h (inl (inl o)) e = or-left _ (or-left _ (otherM-hinders m h o e))
+    otherM-hinders (also m g) h (inl (inr o)) e = or-left _ (or-right (hindersM t m p) (other-hinders g h o e))
+    otherM-hinders (also m g) h (inr (inl (i, o))) e = or-right (hindersM t m p || hinders t g p) (or-left _ (and-both i (member-any t m h o e)))
+    otherM-hinders (also m g) h (inr (inr (i, o))) e = or-right (hindersM t m p || hinders t g p) (or-right (has g p && anyM t m) (and-both i (subst (λ (k : Group). t k ≡ true) o e)))
+
+  abbrev Hindered : Group → Type 0
+  Hindered g = (h : Group) × Other g p h × (t h ≡ true)
+
+  abbrev HinderedM : Members → Type 0
+  HinderedM m = (h : Group) × OtherM m p h × (t h ≡ true)
+
+  mutual
+    pub hinders-other : (g : Group) → hinders t g p ≡ true → Hindered g
+    hinders-other (place n) e = absurd (false≢true e)
+    hinders-other (seq g k) e = or-cases (hinders t g p) _ (λ i. let (h, x, y) = hinders-other g i in (h, inl x, y)) (λ i. let (h, x, y) = hinders-other k i in (h, inr x, y)) e
+    hinders-other (alt g k) e = or-cases (hinders t g p) _ (λ i. let (h, x, y) = hinders-other g i in (h, inl x, y)) (λ i. let (h, x, y) = hinders-other k i in (h, inr x, y)) e
+    hinders-other (opt g) e = hinders-other g e
+    hinders-other (plus g) e = hinders-other g e
+    hinders-other (and m) e = hindersM-other m e
+
+    hindersM-other : (m : Members) → hindersM t m p ≡ true → HinderedM m
+    hindersM-other (one g) e = hinders-other g e
+    hindersM-other (also m g) e =
+        or-cases
+        (hindersM t m p || hinders t g p)
+        _
+        (or-cases (hindersM t m p) _ (λ i. let (h, x, y) = hindersM-other m i in (h, inl (inl x), y)) (λ i. let (h, x, y) = hinders-other g i in (h, inl (inr x), y)))
+        (or-cases
+        (has g p && anyM t m)
+        _
+        (λ i. let (h, x, y) = any-member t m (and-right (has g p) _ i) in (h, inr (inl (and-left (has g p) _ i, x)), y))
+        (λ i. (g, inr (inr (and-left (hasM m p) _ i, refl)), and-right (hasM m p) _ i)))
+        e
+
+-- another member stands in an "&" group
+member-has : (m : Members) (h : Group) (q : ℕ) → IsMember m h → has h q ≡ true → hasM m q ≡ true
+member-has (one g) h q i e = subst (λ (k : Group). has k q ≡ true) i e
+member-has (also m g) h q (inl i) e = or-left _ (member-has m h q i e)
+member-has (also m g) h q (inr i) e = or-right (hasM m q) (subst (λ (k : Group). has k q ≡ true) i e)
+
+mutual
+  pub other-held : (g : Group) (p : ℕ) (h : Group) (q : ℕ) → Other g p h → has h q ≡ true → held g q ≡ true
+  other-held (place n) p h q o e = absurd o
+  other-held (seq g k) p h q (inl o) e = or-left _ (other-held g p h q o e)
+  other-held (seq g k) p h q (inr o) e = or-right (held g q) (other-held k p h q o e)
+  other-held (alt g k) p h q (inl o) e = or-left _ (other-held g p h q o e)
+  other-held (alt g k) p h q (inr o) e = or-right (held g q) (other-held k p h q o e)
+  other-held (opt g) p h q o e = other-held g p h q o e
+  other-held (plus g) p h q o e = other-held g p h q o e
+  other-held (and m) p h q o e = otherM-has m p h q o e
+
+  pub otherM-has : (m : Members) (p : ℕ) (h : Group) (q : ℕ) → OtherM m p h → has h q ≡ true → hasM m q ≡ true
+  otherM-has (one g) p h q o e = held-has g q (other-held g p h q o e)
+  otherM-has (also m g) p h q (inl (inl o)) e = or-left _ (otherM-has m p h q o e)
+  otherM-has (also m g) p h q (inl (inr o)) e = or-right (hasM m q) (held-has g q (other-held g p h q o e))
+  otherM-has (also m g) p h q (inr (inl (i, o))) e = or-left _ (member-has m h q o e)
+  otherM-has (also m g) p h q (inr (inr (i, o))) e = or-right (hasM m q) (subst (λ (k : Group). has k q ≡ true) o e)
+
+-- The fold.
+
+abbrev pub ready : (ℕ → Bool) → (ℕ → Bool) → Group → Bool
+ready S N h = not (meets h S) && meets h N
+
+abbrev pub required : Group → ℕ → (ℕ → Bool) → ℕ → Bool
+required g u S p = (fit g u S p && passesAfter g u S p) && not (hinders (ready S (fit g u S)) g p)
+
+not-true-false : (a : Bool) → not a ≡ true → a ≡ false
+not-true-false true e = absurd (false≢true e)
+not-true-false false e = refl
+
+false-not-true : (a : Bool) → a ≡ false → not a ≡ true
+false-not-true a e = rw e
+
+pub mem-memᴰ : (t : List ℕ) (p : ℕ) → mem t p ≡ true → List·Memᴰ p t
+mem-memᴰ [] p e = absurd (false≢true e)
+mem-memᴰ (q ∷ t) p e = or-cases (eqb q p) _ (λ i. List·Memᴰ·head (sym (eqb-true q p i))) (λ i. List·Memᴰ·tail (mem-memᴰ t p i)) e
+
+pub memᴰ-mem : (t : List ℕ) (p : ℕ) → List·Memᴰ p t → mem t p ≡ true
+memᴰ-mem [] p m = absurd (List·Memᴰ·not-nil m)
+memᴰ-mem (q ∷ t) p m = go (List·Memᴰ·cases-cons m) (memᴰ-mem t p)
+  where
+    go : (p ≡ q) ⊎ List·Memᴰ p t → (List·Memᴰ p t → mem t p ≡ true) → mem (q ∷ t) p ≡ true
+    go (inl e) f = or-left _ (eq-eqb q p (sym e))
+    go (inr m) f = or-right (eqb q p) (f m)
+
+module _ (g : Group) (good : Good g) (u : ℕ) (S : ℕ → Bool) (s : List ℕ) (e : Ends s u) (agree : Agrees (held g) s S) (begun : Begins g s) (p : ℕ) where
+  -- another member has begun by S exactly if by s
+  pub same-begun : (h : Group) → Other g p h → meets h S ≡ meets h (mem s)
+  same-begun h o =
+      bool-cases
+      (meets h S)
+      (λ i. let (q, x, y) = meets-common h S i in i ∙ sym (common-meets h (mem s) q x (agree q (other-held g p h q o x) .0 y)))
+      (λ i. i ∙ sym (not-true (meets h (mem s)) (λ j. let (q, x, y) = meets-common h (mem s) j in not-both i (common-meets h S q x (agree q (other-held g p h q o x) .1 y)))))
+
+  pub forced-fold : (fit g u S p && passesAfter g u S p ≡ true) ↔ Forced g s p
+  forced-fold = (
+    λ i. (next-fold g good u S s e agree begun p .0 (and-left (fit g u S p) _ i), λ t w. mem-memᴰ t p (must-fold g good u S s e agree begun p .0 (and-right (fit g u S p) _ i) t w)),
+    λ (x, f). and-both (next-fold g good u S s e agree begun p .1 x) (must-fold g good u S s e agree begun p .1 (λ t w. memᴰ-mem t p (f t w))),
+  )
+
+  pub now-fold : (required g u S p ≡ true) ↔ RequiredBy g s p
+  now-fold = (there, back)
+    where
+      there : required g u S p ≡ true → RequiredBy g s p
+      there i =
+          let x = forced-fold .0 (and-left (fit g u S p && passesAfter g u S p) _ i) in
+          let n = not-true-false (hinders (ready S (fit g u S)) g p) (and-right (fit g u S p && passesAfter g u S p) _ i) in
+          (x, λ h o b q l y. not-both n (other-hinders (ready S (fit g u S)) p g h o (and-both (false-not-true (meets h S) (same-begun h o ∙ b)) (common-meets h (fit g u S) q l (next-fold g good u S s e agree begun q .1 y)))))
+
+      back : RequiredBy g s p → required g u S p ≡ true
+      back (x, k) =
+          and-both (forced-fold .1 x) (false-not-true (hinders (ready S (fit g u S)) g p) (not-true (hinders (ready S (fit g u S)) g p) no))
+        where
+          no : hinders (ready S (fit g u S)) g p ≡ true → ⊥
+          no i =
+              let (h, o, j) = hinders-other (ready S (fit g u S)) p g i in
+              let (q, l, y) = meets-common h (fit g u S) (and-right (not (meets h S)) _ j) in
+              k h o (sym (same-begun h o) ∙ not-true-false (meets h S) (and-left (not (meets h S)) _ j)) q l (next-fold g good u S s e agree begun q .0 y)
+
+-- At the start no member has begun.
+abbrev pub required0 : Group → ℕ → Bool
+required0 g p = (first g p && passes g p) && not (hinders (λ (h : Group). meets h (first g)) g p)
+
+module _ (g : Group) (p : ℕ) where
+  pub none-begun : (h : Group) → Unbegun h []
+  none-begun h = not-true (meets h (mem [])) (λ i. let (q, x, y) = meets-common h (mem []) i in false≢true y)
+
+  pub forced-start : (first g p && passes g p ≡ true) ↔ Forced g [] p
+  forced-start = (
+    λ i. (next-start g p .0 (and-left (first g p) _ i), λ t w. mem-memᴰ t p (must-start g p .0 (and-right (first g p) _ i) t w)),
+    λ (x, f). and-both (next-start g p .1 x) (must-start g p .1 (λ t w. memᴰ-mem t p (f t w))),
+  )
+
+  pub now-start : (required0 g p ≡ true) ↔ RequiredBy g [] p
+  now-start = (there, back)
+    where
+      there : required0 g p ≡ true → RequiredBy g [] p
+      there i =
+          let x = forced-start .0 (and-left (first g p && passes g p) _ i) in
+          let n = not-true-false (hinders (λ (h : Group). meets h (first g)) g p) (and-right (first g p && passes g p) _ i) in
+          (x, λ h o b q l y. not-both n (other-hinders (λ (h : Group). meets h (first g)) p g h o (common-meets h (first g) q l (next-start g q .1 y))))
+
+      back : RequiredBy g [] p → required0 g p ≡ true
+      back (x, k) = and-both (forced-start .1 x) (false-not-true (hinders (λ (h : Group). meets h (first g)) g p) (not-true (hinders (λ (h : Group). meets h (first g)) g p) no))
+        where
+          no : hinders (λ (h : Group). meets h (first g)) g p ≡ true → ⊥
+          no i =
+              let (h, o, j) = hinders-other (λ (h : Group). meets h (first g)) p g i in
+              let (q, l, y) = meets-common h (first g) j in
+              k h o (none-begun h) q l (next-start g q .0 y)

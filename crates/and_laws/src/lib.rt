@@ -1,0 +1,1 @@
+// What holds of the walks of content models with "&" groups. No code.

@@ -1,0 +1,53 @@
+-- `in_any_order` meets its contract: its calls' contracts, one after the other.
+use borrow.Author.Needs.{needs}
+use Rattle.model_code.proofs.in_any_order.Statement.{statement}
+use Rattle.model_code.proofs.in_any_order.Tie as tie
+
+both-requires : tie.Need-both-requires
+both-requires c κs = search needs
+
+one-of-requires : tie.Need-one-of-requires
+one-of-requires c κs = search needs
+
+one-of-requires-2 : tie.Need-one-of-requires-2
+one-of-requires-2 c κs = search needs
+
+one-of-requires-3 : tie.Need-one-of-requires-3
+one-of-requires-3 c κs = search needs
+
+one-of-requires-4 : tie.Need-one-of-requires-4
+one-of-requires-4 c κs = search needs
+
+one-of-requires-5 : tie.Need-one-of-requires-5
+one-of-requires-5 c κs = search needs
+
+crossing-requires : tie.Need-crossing-requires
+crossing-requires c κs = search needs
+
+crossing-requires-2 : tie.Need-crossing-requires-2
+crossing-requires-2 c κs = search needs
+
+one-of-requires-6 : tie.Need-one-of-requires-6
+one-of-requires-6 c κs = search needs
+
+one-of-requires-7 : tie.Need-one-of-requires-7
+one-of-requires-7 c κs = search needs
+
+returns : tie.Need-returns
+returns c = cc (c .one-of7 .ensures, c .before .one-of6 .ensures, c .before .before .crossing2 .ensures, c .before .before .before .crossing .ensures, c .before .before .before .before .one-of5 .ensures, c .before .before .before .before .before .one-of4 .ensures, c .before .before .before .before .before .before .one-of3 .ensures, c .before .before .before .before .before .before .before .one-of2 .ensures, c .before .before .before .before .before .before .before .before .one-of .ensures, c .before .before .before .before .before .before .before .before .before .both .ensures)
+
+pub in-any-order-spec : {M : Type 1} → statement M
+in-any-order-spec =
+    tie.close
+    (tie.spec
+    both-requires
+    one-of-requires
+    one-of-requires-2
+    one-of-requires-3
+    one-of-requires-4
+    one-of-requires-5
+    crossing-requires
+    crossing-requires-2
+    one-of-requires-6
+    one-of-requires-7
+    returns)

@@ -1,0 +1,53 @@
+-- `joined` meets its contract: one case for each connector.
+use Prim.Native.Nat.{ℕ}
+use mathlib.Core.Path.{_≡_, ap, _∙_, sym}
+use borrow.Author.Tests.{eq-eqb, ne-eqb}
+use borrow.Author.Needs.{needs}
+use Rattle.and_laws.specs.Code.{Six}
+use Rattle.model_code.specs.Means.{six, thenSix, eitherSix, addedSix, joinedSix}
+use Rattle.model_code.proofs.joined.Statement.{statement}
+use Rattle.model_code.proofs.joined.Tie as tie
+
+by-seq : (op : ℕ) (a b r : Six) → op ≡ 97 → r ≡ thenSix a b → r ≡ joinedSix op a b
+by-seq op a b r e is = rw (eq-eqb op 97 e) is
+
+by-alt : (op : ℕ) (a b r : Six) → (op ≡ 97 → ⊥) → op ≡ 98 → r ≡ eitherSix a b → r ≡ joinedSix op a b
+by-alt op a b r d e is = rw (ne-eqb op 97 d, eq-eqb op 98 e) is
+
+by-also : (op : ℕ) (a b r : Six) → (op ≡ 97 → ⊥) → (op ≡ 98 → ⊥) → r ≡ addedSix a b → r ≡ joinedSix op a b
+by-also op a b r d e is = rw (ne-eqb op 97 d, ne-eqb op 98 e) is
+
+in-sequence-requires : tie.Need-in-sequence-requires
+in-sequence-requires c κs = search needs
+
+returns : tie.Need-returns
+returns c =
+    let x = c .before .before .args in
+    by-seq (x .op) (six (x .a)) (six (x .b)) _ (c .before .if1 .taken) (c .in-sequence .ensures)
+
+in-choice-requires : tie.Need-in-choice-requires
+in-choice-requires c κs = search needs
+
+returns-2 : tie.Need-returns-2
+returns-2 c =
+    let x = c .before .before .before .args in
+    by-alt (x .op) (six (x .a)) (six (x .b)) _ (c .before .before .if1 .left) (c .before .if2 .taken) (c .in-choice .ensures)
+
+in-any-order-requires : tie.Need-in-any-order-requires
+in-any-order-requires c κs = search needs
+
+returns-3 : tie.Need-returns-3
+returns-3 c =
+    let x = c .before .before .before .args in
+    by-also (x .op) (six (x .a)) (six (x .b)) _ (c .before .before .if1 .left) (c .before .if2 .left) (c .in-any-order .ensures)
+
+pub joined-spec : {M : Type 1} → statement M
+joined-spec =
+    tie.close
+    (tie.spec
+    in-sequence-requires
+    returns
+    in-choice-requires
+    returns-2
+    in-any-order-requires
+    returns-3)

@@ -1,0 +1,108 @@
+-- The code of a group, and that a pass over a table in which it is spelled tells whether two places can both come next.
+use Prim.Native.Nat.{ℕ, zero, suc, _+_, _≤_, _<_}
+use mathlib.Core.Path.{_≡_, refl, sym, ap, _∙_}
+use mathlib.Core.Bool.{Bool}
+use mathlib.Core.List.{List, [], _∷_, _++_}
+use native.Mathlib.Omega.{arith}
+use lib.ListN.{length, getD}
+use borrow.Author.Tests.{ne-eqb, lt-ltb, le-ltb}
+use Rattle.layout.specs.Sizes.{MODEL-ROWS, CODE}
+use Rattle.rules.specs.Walk.{Group, place, seq, alt, opt, plus, and, Members, one, also}
+use Rattle.model_sets.specs.Sets.{size, sizeM, Numbered, NumberedM}
+use Rattle.and_laws.specs.Fold.{clash}
+use Rattle.and_laws.specs.Code.{Six, sixes, eval, evalM, six-eval}
+use Rattle.model_code.specs.Means.{stepCode, runCode, Told}
+
+abbrev count : Members → ℕ
+count (one g) = 1
+count (also m g) = count m + 1
+
+abbrev mutual
+  pub codes : Group → List ℕ
+  codes (place n) = n ∷ []
+  codes (seq g h) = codes g ++ (codes h ++ 97 ∷ [])
+  codes (alt g h) = codes g ++ (codes h ++ 98 ∷ [])
+  codes (opt g) = codes g ++ 99 ∷ []
+  codes (plus g) = codes g ++ 100 ∷ []
+  codes (and m) = codesM m ++ (128 + count m) ∷ []
+
+  pub codesM : Members → List ℕ
+  codesM (one g) = codes g
+  codesM (also m g) = codesM m ++ (codes g ++ 101 ∷ [])
+
+-- The first n numbers of the code in a table.
+abbrev pub codeIn : List ℕ → ℕ → List ℕ
+codeIn T zero = []
+codeIn T (suc n) = codeIn T n ++ getD T (MODEL-ROWS + n) 0 ∷ []
+
+-- Numbers one after the other.
+abbrev runNumbers : (p q : ℕ) → List ℕ → List Six → List Six
+runNumbers p q [] st = st
+runNumbers p q (o ∷ os) st = runNumbers p q os (stepCode p q o st)
+
+mutual
+  size-one : (g : Group) → 1 ≤ size g
+  size-one (place n) = omega arith
+  size-one (seq g h) = omega (arith, size-one g)
+  size-one (alt g h) = omega (arith, size-one g)
+  size-one (opt g) = size-one g
+  size-one (plus g) = size-one g
+  size-one (and m) = size-oneM m
+
+  size-oneM : (m : Members) → 1 ≤ sizeM m
+  size-oneM (one g) = size-one g
+  size-oneM (also m g) = omega (arith, size-one g)
+
+module _ (p q : ℕ) where
+  run-append : (a b : List ℕ) (st : List Six) → runNumbers p q (a ++ b) st ≡ runNumbers p q b (runNumbers p q a st)
+  run-append [] b st = refl
+  run-append (o ∷ a) b st = run-append a b (stepCode p q o st)
+
+  run-in : (T : List ℕ) (n : ℕ) → n ≤ CODE → runCode T p q n ≡ runNumbers p q (codeIn T n) []
+  run-in T zero l = refl
+  run-in T (suc n) l =
+      rw (lt-ltb n CODE (omega arith), run-in T n (omega arith)) (sym (run-append (codeIn T n) (getD T (MODEL-ROWS + n) 0 ∷ []) []))
+
+  at-number : (n : ℕ) (st : List Six) → n < 97 → length st < 97 → stepCode p q n st ≡ sixes p q .at n ∷ st
+  at-number n st small room = rw (lt-ltb n 97 small, lt-ltb (length st) 97 room)
+
+  at-close : (k : ℕ) (st : List Six) → stepCode p q (128 + k) st ≡ st
+  at-close k st =
+      rw (le-ltb (128 + k) 97 (omega arith), ne-eqb (128 + k) 99 (λ (e : 128 + k ≡ 99). omega arith), ne-eqb (128 + k) 100 (λ (e : 128 + k ≡ 100). omega arith), le-ltb (128 + k) 128 (omega arith))
+
+  -- two groups, and what joins them
+  two : (a b : List ℕ) (o : ℕ) (v w : Six) (st : List Six) → runNumbers p q a st ≡ v ∷ st → runNumbers p q b (v ∷ st) ≡ w ∷ (v ∷ st) → runNumbers p q (a ++ (b ++ o ∷ [])) st ≡ stepCode p q o (w ∷ (v ∷ st))
+  two a b o v w st e f = run-append a (b ++ o ∷ []) st ∙ ap (runNumbers p q (b ++ o ∷ [])) e ∙ run-append b (o ∷ []) (v ∷ st) ∙ ap (stepCode p q o) f
+
+  after : (a : List ℕ) (o : ℕ) (v : Six) (st : List Six) → runNumbers p q a st ≡ v ∷ st → runNumbers p q (a ++ o ∷ []) st ≡ stepCode p q o (v ∷ st)
+  after a o v st e = run-append a (o ∷ []) st ∙ ap (stepCode p q o) e
+
+  abbrev value : Group → Six
+  value g = eval (sixes p q) g
+
+  abbrev valueM : Members → Six
+  valueM m = evalM (sixes p q) m
+
+  mutual
+    spelled : (g : Group) (lo : ℕ) → Numbered g lo → lo + size g ≤ 97 → (st : List Six) → length st + size g ≤ 97 → runNumbers p q (codes g) st ≡ value g ∷ st
+    spelled (place n) lo d l st h = at-number n st (omega (arith, d)) (omega arith)
+    spelled (seq g h) lo d l st r =
+        two (codes g) (codes h) 97 (value g) (value h) st (spelled g lo (d .0) (omega arith) st (omega arith))
+        (spelled h (lo + size g) (d .1) (omega arith) (value g ∷ st) (omega (arith, size-one g)))
+    spelled (alt g h) lo d l st r =
+        two (codes g) (codes h) 98 (value g) (value h) st (spelled g lo (d .0) (omega arith) st (omega arith))
+        (spelled h (lo + size g) (d .1) (omega arith) (value g ∷ st) (omega (arith, size-one g)))
+    spelled (opt g) lo d l st r = after (codes g) 99 (value g) st (spelled g lo d l st r)
+    spelled (plus g) lo d l st r = after (codes g) 100 (value g) st (spelled g lo d l st r)
+    spelled (and m) lo d l st r = after (codesM m) (128 + count m) (valueM m) st (spelledM m lo d l st r) ∙ at-close (count m) (valueM m ∷ st)
+
+    spelledM : (m : Members) (lo : ℕ) → NumberedM m lo → lo + sizeM m ≤ 97 → (st : List Six) → length st + sizeM m ≤ 97 → runNumbers p q (codesM m) st ≡ valueM m ∷ st
+    spelledM (one g) lo d l st r = spelled g lo d l st r
+    spelledM (also m g) lo d l st r =
+        two (codesM m) (codes g) 101 (valueM m) (value g) st (spelledM m lo (d .0) (omega arith) st (omega arith))
+        (spelled g (lo + sizeM m) (d .1) (omega arith) (valueM m ∷ st) (omega (arith, size-oneM m)))
+
+  -- What the pass tells of a table in which the code of g is spelled.
+  pub told-clash : (T : List ℕ) (n : ℕ) (g : Group) → n ≤ CODE → codeIn T n ≡ codes g → Numbered g 1 → size g ≤ 96 → (r : Bool) → Told T p q n r → r ≡ clash g p q
+  told-clash T n g l is d small r told =
+      told (value g) (run-in T n l ∙ ap (λ (os : List ℕ). runNumbers p q os []) is ∙ spelled g 1 d (omega arith) [] (omega arith)) ∙ ap (λ (v : Six). v .pq) (six-eval p q g)
