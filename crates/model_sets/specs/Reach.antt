@@ -10,6 +10,7 @@ use Rattle.rules.specs.Walk.{Group, place, seq, alt, opt, plus, once, Walk, Beg
 use Rattle.model_sets.specs.Bits.{or-cases}
 use Rattle.model_sets.specs.Sets.{Numbered, has, nextIn, completeIn}
 use Rattle.model_sets.specs.Path.{Onward, IsPath, walk-path, path-walk, has-range, first-has, follow-has}
+pub use Rattle.rules.specs.Walk.{lastFrom, lastOr0}
 
 -- Every group has a walk, and every place of it is passed by one.
 
@@ -59,15 +60,6 @@ pub begins-shorter : (g : Group) (s t : List ℕ) → Begins g (s ++ t) → Begi
 begins-shorter g s t (v, w) = (t ++ v, rw (← append-assoc) w)
 
 -- The last place taken.
-
--- the last of the places after u, u if there is none
-abbrev pub lastFrom : ℕ → List ℕ → ℕ
-lastFrom u [] = u
-lastFrom u (p ∷ s) = lastFrom p s
-
--- the last place, 0 if there is none
-abbrev pub lastOr0 : List ℕ → ℕ
-lastOr0 s = lastFrom 0 s
 
 pub lastFrom-snoc : (u : ℕ) (s : List ℕ) (p : ℕ) → lastFrom u (s ++ p ∷ []) ≡ p
 lastFrom-snoc u [] p = refl

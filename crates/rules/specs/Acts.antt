@@ -16,7 +16,7 @@ use Rattle.rules.specs.Document.{Piece, piece}
 use Rattle.rules.specs.Elements.{contentOf, hasModel, endO}
 use Rattle.rules.specs.Decisions.{start, pcdata, Decisions}
 use Rattle.rules.specs.Events.{startWritten, startInferred, endWritten, endInferred, endOfEmpty, withData}
-use Rattle.rules.specs.Settling.{Open, State, nothingOpen, takePlace, enter, note, fitting, isComplete, requiredPlace, inferable, takeToken}
+use Rattle.rules.specs.Settling.{Open, State, nothingOpen, takePlace, placeTaken, enter, note, fitting, isComplete, requiredPlace, inferable, takeToken}
 use Rattle.rules.specs.Reader.{Reached, settlePiece}
 
 -- Acts
@@ -29,12 +29,13 @@ Declared es k = (1 ≤ k) × (k ≤ length es)
 pub data Act (s : List ℕ) (es : List Element) (D : Decisions) (z : State) : State → Type 0 where
   -- A start tag "fits as the next place", which it takes, and its element, which has a model, is opened.
   starts : (k at after : ℕ) → Declared es k → 1 ≤ fitting s es D (z .current) (start k) → hasModel (contentOf es k) ≡ true
-      → Act s es D z (note (startWritten k at after) (enter k (takeToken s es D (start k) z)))
+      → Act s es D z (note (startWritten k at after (placeTaken (takeToken s es D (start k) z .current))) (enter k (takeToken s es D (start k) z)))
   -- "An EMPTY element is open for an instant and counts toward 24": it has taken its place, and what is open stays.
   empties : (k at after : ℕ) → Declared es k → 1 ≤ fitting s es D (z .current) (start k) → hasModel (contentOf es k) ≡ false → length (z .around) < TAGLVL
-      → Act s es D z (note (endOfEmpty k after) (note (startWritten k at after) (takeToken s es D (start k) z)))
+      → Act s es D z (note (endOfEmpty k after) (note (startWritten k at after (placeTaken (takeToken s es D (start k) z .current))) (takeToken s es D (start k) z)))
   -- A start is inferred: the required place is taken, and its element opened.
-  infers : (k at : ℕ) → inferable s es D (z .current) ≡ k → 1 ≤ k → Act s es D z (note (startInferred k at) (enter k (takePlace (requiredPlace s es D (z .current)) z)))
+  infers : (k at : ℕ) → inferable s es D (z .current) ≡ k → 1 ≤ k
+      → Act s es D z (note (startInferred k at (placeTaken (takePlace (requiredPlace s es D (z .current)) z .current))) (enter k (takePlace (requiredPlace s es D (z .current)) z)))
   -- A data byte takes the place as which it fits.
   data-byte : (at : ℕ) → 1 ≤ fitting s es D (z .current) pcdata
       → Act s es D z (record { current = takeToken s es D pcdata z .current; around = z .around; events = withData at (z .events) })
