@@ -75,7 +75,7 @@ enum {
 enum {
     SGML_ANSWER_SIZE = 6, /* numbers in an answer */
     SGML_RECORD_SIZE = 6, /* numbers in an element's record */
-    SGML_EVENT_SIZE = 4,  /* numbers in an event */
+    SGML_EVENT_SIZE = 5,  /* numbers in an event */
     SGML_RECORD_BYTES = 4 * SGML_RECORD_SIZE,
     SGML_EVENT_BYTES = 4 * SGML_EVENT_SIZE,
     SGML_MOST_RECORD_BYTES = SGML_RECORD_BYTES * SGML_ELEMENT_LIMIT /* the records of any type file fit in */
