@@ -118,7 +118,8 @@ pub fn find(
         }
         n += 1;
         before = k;
-        k = ElementNo(numbers::wide(index[k.0]));
+        let i = k.0;
+        k = ElementNo(numbers::wide(index[i]));
     }
     Found {
         element: none,
@@ -132,10 +133,11 @@ fn put_index(s: &[u8], elements: &[u32; RECORDS], index: &mut [u8; INDEX], k: El
     ensures { λ _. ⌜ now (index .exit) ≡ putIn (now (index .entry))
         (bucketOf (byteAt (now (s .entry)) (getD (now (elements .entry)) (6 * (k .0 - 1)) 0)) (getD (now (elements .entry)) (6 * (k .0 - 1) + 1) 0)) (k .0) ⌝ }
 {
-    let size = numbers::widened(elements[6 * (k.0 - 1) + 1]);
+    let i = k.0;
+    let size = numbers::widened(elements[6 * (i - 1) + 1]);
     let b = bucket(text::byte(s, offset(elements, k)), size);
-    index[k.0] = index[b];
-    index[b] = k.0 as u8;
+    index[i] = index[b];
+    index[b] = i as u8;
 }
 
 // Fills the index, which is all 0, with the elements of an accepted type.
