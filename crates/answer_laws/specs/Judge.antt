@@ -1,17 +1,19 @@
 -- The rules settle one answer of the judge, and what each such answer is.
 use Prim.Native.Nat.{ℕ, _-_, _*_, _<_, _≤_}
 use mathlib.Core.Path.{_≡_, refl, sym, ap, _∙_}
+use mathlib.Core.Bool.{true, false, true≢false}
 use mathlib.Core.Logic.{_⊎_, inl, inr, ⊎-elim, _↔_}
 use mathlib.Core.List.{List, List·Memᴰ, List·Memᴰ·head, List·Memᴰ·tail}
 use native.Mathlib.Omega.{arith}
 use lib.ListN.{length, length-replicate}
+use Rattle.rules.specs.Settings.{Settings, isOffered}
 use Rattle.rules.specs.Bytes.{allowed, span, typeLimit}
 use Rattle.rules.specs.Lent.{Lent, standing, room, filledWith, zeroed}
 use Rattle.rules.specs.Reading.{Reading, refused, got}
 use Rattle.rules.specs.Walk.{Group, Begins}
 use Rattle.rules.specs.Ambiguity.{SpellSame, Ambiguous, PairAtFault, FirstPair}
 use Rattle.rules.specs.TypeFile.{Place, Content, empty, model, Element, typeFile}
-use Rattle.rules.specs.Judge.{placeAt, samePlace, Answer, refusal, acceptance, Unambiguous, AllUnambiguous, PairStandsAt, FirstAmbiguous, here, later, records, Legible, Refuses, tooLong, notAllowed, malformed, ambiguous, noRoom, Accepts, Judged, refuses, accepts}
+use Rattle.rules.specs.Judge.{placeAt, samePlace, Answer, refusal, acceptance, Unambiguous, AllUnambiguous, PairStandsAt, FirstAmbiguous, here, later, records, Legible, Refuses, notOffered, tooLong, notAllowed, malformed, ambiguous, noRoom, Accepts, Judged, refuses, accepts}
 use Rattle.numbers.specs.Laws.{records-length, lent-length}
 use Rattle.rules_laws.specs.Within.{ContentIn, all-mem, placeAt-in, typeFile-within, typeFile-elements}
 use Rattle.model_sets.specs.Ambiguous.{ambiguous-pair, pair-ambiguous, unambiguous-equal, first-pair-unique}
@@ -55,10 +57,10 @@ module _ (s : List ℕ) where
       let (e, m, w) = first-stands f in
       (e, List·Memᴰ·tail m, w)
 
-  pub first-in : {k p q : ℕ} {es : List Element} → FirstAmbiguous s k p q es → typeFile s ≡ got es → k ≤ length s
-  first-in {k} {p} {q} {es} f r =
+  pub first-in : (c : Settings) {k p q : ℕ} {es : List Element} → FirstAmbiguous s k p q es → typeFile c s ≡ got es → k ≤ length s
+  first-in c {k} {p} {q} {es} f r =
       let (e, m, w) = first-stands f in
-      stands-in (e .content) k p q (all-mem (typeFile-elements s es r .1 .each) m .content) w
+      stands-in (e .content) k p q (all-mem (typeFile-elements c s es r .1 .each) m .content) w
 
   all-content : {es : List Element} {e : Element} → AllUnambiguous s es → List·Memᴰ e es → Unambiguous s (e .content)
   all-content u (List·Memᴰ·head e) = rw e (u .0)
@@ -102,36 +104,10 @@ both : {a b c : Answer} {x y z : List ℕ} → (a ≡ c) × (x ≡ z) → (b ≡
 both (e, f) (g, h) = (e ∙ sym g, f ∙ sym h)
 
 module _ {l : Lent} {s before : List ℕ} where
-  -- At each stage of the order there is one way to go on.
-
-  when-long : {a : Answer} {after : List ℕ} → typeLimit < length s → Judged l s before a after → (a ≡ refusal 1 0 0 0) × (after ≡ zeroed before)
-  when-long h (refuses (tooLong l e) z) = (e, z)
-  when-long h (refuses (notAllowed l d e) z) = absurd (omega arith)
-  when-long h (refuses (malformed l n k r e) z) = absurd (omega arith)
-  when-long h (refuses (ambiguous l es r k p q f e) z) = absurd (omega arith)
-  when-long h (refuses (noRoom l es r u f e) z) = absurd (omega arith)
-  when-long h (accepts es w f e z) = absurd (omega arith)
-
-  when-dirty : {a : Answer} {after : List ℕ} → length s ≤ typeLimit → span allowed s < length s → Judged l s before a after → (a ≡ refusal 2 (span allowed s) 0 0) × (after ≡ zeroed before)
-  when-dirty h d (refuses (tooLong l e) z) = absurd (omega arith)
-  when-dirty h d (refuses (notAllowed l c e) z) = (e, z)
-  when-dirty h d (refuses (malformed l n k r e) z) = absurd (omega arith)
-  when-dirty h d (refuses (ambiguous l es r k p q f e) z) = absurd (omega arith)
-  when-dirty h d (refuses (noRoom l es r u f e) z) = absurd (omega arith)
-  when-dirty h d (accepts es w f e z) = absurd (omega arith)
-
-  when-legible : {a : Answer} {after : List ℕ} → Legible s → Judged l s before a after → Read l s before a after (typeFile s)
-  when-legible h (refuses (tooLong l e) z) = absurd (omega arith)
-  when-legible h (refuses (notAllowed l d e) z) = absurd (omega arith)
-  when-legible h (refuses (malformed l n k r e) z) = rw r (bad e z)
-  when-legible h (refuses (ambiguous l es r k p q f e) z) = rw r (clash k p q f e z)
-  when-legible h (refuses (noRoom l es r u f e) z) = rw r (tight u f e z)
-  when-legible h (accepts es w f e z) = rw (w .elements) (enough (w .unambiguous) f e z)
-
   read-one : {a b : Answer} {after other : List ℕ} {r : Reading (List Element)} → Read l s before a after r → Read l s before b other r → (a ≡ b) × (after ≡ other)
   read-one (bad e z) (bad f y) = (e ∙ sym f, z ∙ sym y)
   read-one (clash k p q x e z) (clash j i l w f y) =
-      let (c, d, g) = first-one s x w in
+      let (v, d, g) = first-one s x w in
       (cc, z ∙ sym y)
   read-one (clash k p q x e z) (tight u h f y) = absurd (first-all s x u)
   read-one (clash k p q x e z) (enough u h f y) = absurd (first-all s x u)
@@ -142,71 +118,125 @@ module _ {l : Lent} {s before : List ℕ} where
   read-one (enough u h e z) (tight v l f y) = absurd (omega arith)
   read-one (enough u h e z) (enough v l f y) = (e ∙ sym f, z ∙ sym y)
 
+module _ {l : Lent} {c : Settings} {s before : List ℕ} where
+  -- At each stage of the order there is one way to go on.
+
+  when-not-offered : {a : Answer} {after : List ℕ} → isOffered c ≡ false → Judged l c s before a after → (a ≡ refusal 24 0 0 0) × (after ≡ zeroed before)
+  when-not-offered h (refuses (notOffered o e) z) = (e, z)
+  when-not-offered h (refuses (tooLong o l e) z) = absurd (true≢false (sym o ∙ h))
+  when-not-offered h (refuses (notAllowed o l d e) z) = absurd (true≢false (sym o ∙ h))
+  when-not-offered h (refuses (malformed l n k r e) z) = absurd (true≢false (sym (l .offered) ∙ h))
+  when-not-offered h (refuses (ambiguous l es r k p q f e) z) = absurd (true≢false (sym (l .offered) ∙ h))
+  when-not-offered h (refuses (noRoom l es r u f e) z) = absurd (true≢false (sym (l .offered) ∙ h))
+  when-not-offered h (accepts es w f e z) = absurd (true≢false (sym (w .legible .offered) ∙ h))
+
+  when-long : {a : Answer} {after : List ℕ} → isOffered c ≡ true → typeLimit < length s → Judged l c s before a after → (a ≡ refusal 1 0 0 0) × (after ≡ zeroed before)
+  when-long u h (refuses (notOffered o e) z) = absurd (true≢false (sym u ∙ o))
+  when-long u h (refuses (tooLong o l e) z) = (e, z)
+  when-long u h (refuses (notAllowed o l d e) z) = absurd (omega arith)
+  when-long u h (refuses (malformed l n k r e) z) = absurd (omega arith)
+  when-long u h (refuses (ambiguous l es r k p q f e) z) = absurd (omega arith)
+  when-long u h (refuses (noRoom l es r w f e) z) = absurd (omega arith)
+  when-long u h (accepts es w f e z) = absurd (omega arith)
+
+  when-dirty : {a : Answer} {after : List ℕ} → isOffered c ≡ true → length s ≤ typeLimit → span allowed s < length s → Judged l c s before a after → (a ≡ refusal 2 (span allowed s) 0 0) × (after ≡ zeroed before)
+  when-dirty u h d (refuses (notOffered o e) z) = absurd (true≢false (sym u ∙ o))
+  when-dirty u h d (refuses (tooLong o l e) z) = absurd (omega arith)
+  when-dirty u h d (refuses (notAllowed o l x e) z) = (e, z)
+  when-dirty u h d (refuses (malformed l n k r e) z) = absurd (omega arith)
+  when-dirty u h d (refuses (ambiguous l es r k p q f e) z) = absurd (omega arith)
+  when-dirty u h d (refuses (noRoom l es r w f e) z) = absurd (omega arith)
+  when-dirty u h d (accepts es w f e z) = absurd (omega arith)
+
+  when-legible : {a : Answer} {after : List ℕ} → Legible c s → Judged l c s before a after → Read l s before a after (typeFile c s)
+  when-legible h (refuses (notOffered o e) z) = absurd (true≢false (sym (h .offered) ∙ o))
+  when-legible h (refuses (tooLong o l e) z) = absurd (omega arith)
+  when-legible h (refuses (notAllowed o l d e) z) = absurd (omega arith)
+  when-legible h (refuses (malformed l n k r e) z) = rw r (bad e z)
+  when-legible h (refuses (ambiguous l es r k p q f e) z) = rw r (clash k p q f e z)
+  when-legible h (refuses (noRoom l es r u f e) z) = rw r (tight u f e z)
+  when-legible h (accepts es w f e z) = rw (w .elements) (enough (w .unambiguous) f e z)
+
   -- Two answers to one type are the same.
-  pub settled-one : {a b : Answer} {after other : List ℕ} → Judged l s before a after → Judged l s before b other → (a ≡ b) × (after ≡ other)
-  settled-one (refuses (tooLong l e) z) y = both (e, z) (when-long l y)
-  settled-one (refuses (notAllowed l d e) z) y = both (e, z) (when-dirty l d y)
+  pub settled-one : {a b : Answer} {after other : List ℕ} → Judged l c s before a after → Judged l c s before b other → (a ≡ b) × (after ≡ other)
+  settled-one (refuses (notOffered o e) z) y = both (e, z) (when-not-offered o y)
+  settled-one (refuses (tooLong o l e) z) y = both (e, z) (when-long o l y)
+  settled-one (refuses (notAllowed o l d e) z) y = both (e, z) (when-dirty o l d y)
   settled-one (refuses (malformed l n k r e) z) y = read-one (rw r (bad e z)) (when-legible l y)
   settled-one (refuses (ambiguous l es r k p q f e) z) y = read-one (rw r (clash k p q f e z)) (when-legible l y)
   settled-one (refuses (noRoom l es r u f e) z) y = read-one (rw r (tight u f e z)) (when-legible l y)
   settled-one (accepts es w f e z) y = read-one (rw (w .elements) (enough (w .unambiguous) f e z)) (when-legible (w .legible) y)
 
-  pub settled-refuses : {a : Answer} {after : List ℕ} → Judged l s before a after → (a .number ≡ 0 → ⊥) → Refuses s (room l before) a × (after ≡ zeroed before)
+  pub settled-refuses : {a : Answer} {after : List ℕ} → Judged l c s before a after → (a .number ≡ 0 → ⊥) → Refuses c s (room l before) a × (after ≡ zeroed before)
   settled-refuses (refuses r z) h = (r, z)
   settled-refuses (accepts es w f e z) h = absurd (h (rw e))
 
 -- What a refusal says.
-module _ {s : List ℕ} {room : ℕ} {a : Answer} where
-  pub refuses-named : Refuses s room a
-      → (n : ℕ) × (k : ℕ) × (p : ℕ) × (q : ℕ) × (a ≡ refusal n k p q) × (((1 ≤ n) × (n ≤ 9)) ⊎ (n ≡ 19)) × (k ≤ length s) × ((n ≡ 9 → ⊥) → (p ≡ 0) × (q ≡ 0))
-  refuses-named (tooLong l e) = (1, 0, 0, 0, e, inl (omega arith), omega arith, λ h. omega arith)
-  refuses-named (notAllowed l d e) = (2, span allowed s, 0, 0, e, inl (omega arith), omega arith, λ h. omega arith)
+module _ {c : Settings} {s : List ℕ} {room : ℕ} {a : Answer} where
+  pub refuses-named : Refuses c s room a
+      → (n : ℕ) × (k : ℕ) × (p : ℕ) × (q : ℕ) × (a ≡ refusal n k p q) × (((1 ≤ n) × (n ≤ 9)) ⊎ ((n ≡ 19) ⊎ (n ≡ 24))) × (k ≤ length s) × ((n ≡ 9 → ⊥) → (p ≡ 0) × (q ≡ 0))
+  refuses-named (notOffered o e) = (24, 0, 0, 0, e, inr (inr refl), omega arith, λ h. omega arith)
+  refuses-named (tooLong o l e) = (1, 0, 0, 0, e, inl (omega arith), omega arith, λ h. omega arith)
+  refuses-named (notAllowed o l d e) = (2, span allowed s, 0, 0, e, inl (omega arith), omega arith, λ h. omega arith)
   refuses-named (malformed l n k r e) =
-      let (i, j, b) = typeFile-within s n k r in
+      let (i, j, b) = typeFile-within c s n k r in
       (n, k, 0, 0, e, inl (omega arith), b, λ h. omega arith)
-  refuses-named (ambiguous l es r k p q f e) = (9, k, p, q, e, inl (omega arith), first-in s f r, λ h. absurd (h refl))
-  refuses-named (noRoom l es r u f e) = (19, 0, 0, 0, e, inr refl, omega arith, λ h. omega arith)
+  refuses-named (ambiguous l es r k p q f e) = (9, k, p, q, e, inl (omega arith), first-in s c f r, λ h. absurd (h refl))
+  refuses-named (noRoom l es r u f e) = (19, 0, 0, 0, e, inr (inl refl), omega arith, λ h. omega arith)
 
-  pub refuses-some : Refuses s room a → a .number ≡ 0 → ⊥
+  pub refuses-some : Refuses c s room a → a .number ≡ 0 → ⊥
   refuses-some r h =
       let (n, k, p, q, e, b, i, o) = refuses-named r in
       let z : n ≡ 0 = rw e at h in
-      ⊎-elim (λ x. omega arith) (λ x. omega arith) b
+      ⊎-elim (λ x. omega arith) (λ x. ⊎-elim (λ y. omega arith) (λ y. omega arith) x) b
 
-  -- Number 9, and number 19.
-  refuses-nine : Refuses s room a → a .number ≡ 9 → Legible s × (es : List Element) × (typeFile s ≡ got es) × FirstAmbiguous s (a .position) (a .first) (a .second) es
-  refuses-nine (tooLong l e) h = absurd (omega (arith, rw e at h))
-  refuses-nine (notAllowed l d e) h = absurd (omega (arith, rw e at h))
-  refuses-nine (malformed l n k r e) h = absurd (omega (arith, rw e at h, typeFile-within s n k r))
+  -- Number 24, number 9, and number 19.
+  refuses-twenty-four : Refuses c s room a → a .number ≡ 24 → isOffered c ≡ false
+  refuses-twenty-four (notOffered o e) h = o
+  refuses-twenty-four (tooLong o l e) h = absurd (omega (arith, rw e at h))
+  refuses-twenty-four (notAllowed o l d e) h = absurd (omega (arith, rw e at h))
+  refuses-twenty-four (malformed l n k r e) h = absurd (omega (arith, rw e at h, typeFile-within c s n k r))
+  refuses-twenty-four (ambiguous l es r k p q f e) h = absurd (omega (arith, rw e at h))
+  refuses-twenty-four (noRoom l es r u f e) h = absurd (omega (arith, rw e at h))
+
+  refuses-nine : Refuses c s room a → a .number ≡ 9 → Legible c s × (es : List Element) × (typeFile c s ≡ got es) × FirstAmbiguous s (a .position) (a .first) (a .second) es
+  refuses-nine (notOffered o e) h = absurd (omega (arith, rw e at h))
+  refuses-nine (tooLong o l e) h = absurd (omega (arith, rw e at h))
+  refuses-nine (notAllowed o l d e) h = absurd (omega (arith, rw e at h))
+  refuses-nine (malformed l n k r e) h = absurd (omega (arith, rw e at h, typeFile-within c s n k r))
   refuses-nine (ambiguous l es r k p q f e) h = rw e (l, es, r, f)
   refuses-nine (noRoom l es r u f e) h = absurd (omega (arith, rw e at h))
 
-  refuses-nineteen : Refuses s room a → a .number ≡ 19 → (es : List Element) × Accepts s es × (room < 6 * length es)
-  refuses-nineteen (tooLong l e) h = absurd (omega (arith, rw e at h))
-  refuses-nineteen (notAllowed l d e) h = absurd (omega (arith, rw e at h))
-  refuses-nineteen (malformed l n k r e) h = absurd (omega (arith, rw e at h, typeFile-within s n k r))
+  refuses-nineteen : Refuses c s room a → a .number ≡ 19 → (es : List Element) × Accepts c s es × (room < 6 * length es)
+  refuses-nineteen (notOffered o e) h = absurd (omega (arith, rw e at h))
+  refuses-nineteen (tooLong o l e) h = absurd (omega (arith, rw e at h))
+  refuses-nineteen (notAllowed o l d e) h = absurd (omega (arith, rw e at h))
+  refuses-nineteen (malformed l n k r e) h = absurd (omega (arith, rw e at h, typeFile-within c s n k r))
   refuses-nineteen (ambiguous l es r k p q f e) h = absurd (omega (arith, rw e at h))
   refuses-nineteen (noRoom l es r u f e) h = (es, record { legible = l; elements = r; unambiguous = u }, f)
 
-pub read-fair : {s : List ℕ} {ds es : List Element} → Accepts s ds → typeFile s ≡ got es → AllUnambiguous s es
-read-fair {s} {ds} {es} w r =
+pub read-fair : {c : Settings} {s : List ℕ} {ds es : List Element} → Accepts c s ds → typeFile c s ≡ got es → AllUnambiguous s es
+read-fair {c} {s} {ds} {es} w r =
     let q = w .elements in
     let e : ds ≡ es = cc in
     rw e at (w .unambiguous)
 
-module _ {l : Lent} {s before : List ℕ} {a : Answer} {after : List ℕ} where
-  pub settled-accepts : Judged l s before a after → a .number ≡ 0 → (es : List Element) × Accepts s es × (6 * length es ≤ room l before) × (a ≡ acceptance (length es)) × (after ≡ filledWith (standing l (records es)) before)
+module _ {l : Lent} {c : Settings} {s before : List ℕ} {a : Answer} {after : List ℕ} where
+  pub settled-accepts : Judged l c s before a after → a .number ≡ 0 → (es : List Element) × Accepts c s es × (6 * length es ≤ room l before) × (a ≡ acceptance (length es)) × (after ≡ filledWith (standing l (records es)) before)
   settled-accepts (refuses r z) h = absurd (refuses-some r h)
   settled-accepts (accepts es w f e z) h = (es, w, f, e, z)
 
-  pub settled-nine : Judged l s before a after → a .number ≡ 9 → Legible s × (es : List Element) × (typeFile s ≡ got es) × FirstAmbiguous s (a .position) (a .first) (a .second) es
+  pub settled-twenty-four : Judged l c s before a after → a .number ≡ 24 → isOffered c ≡ false
+  settled-twenty-four x h = refuses-twenty-four (settled-refuses x (λ z. omega arith) .0) h
+
+  pub settled-nine : Judged l c s before a after → a .number ≡ 9 → Legible c s × (es : List Element) × (typeFile c s ≡ got es) × FirstAmbiguous s (a .position) (a .first) (a .second) es
   settled-nine x h = refuses-nine (settled-refuses x (λ z. omega arith) .0) h
 
-  pub settled-nineteen : Judged l s before a after → a .number ≡ 19 → (es : List Element) × Accepts s es × (room l before < 6 * length es)
+  pub settled-nineteen : Judged l c s before a after → a .number ≡ 19 → (es : List Element) × Accepts c s es × (room l before < 6 * length es)
   settled-nineteen x h = refuses-nineteen (settled-refuses x (λ z. omega arith) .0) h
 
   -- Under 9 some model has a pair at fault; else none that was read has.
-  pub settled-fair : Judged l s before a after → Legible s → (es : List Element) → typeFile s ≡ got es → (a .number ≡ 9 → ⊥) → AllUnambiguous s es
+  pub settled-fair : Judged l c s before a after → Legible c s → (es : List Element) → typeFile c s ≡ got es → (a .number ≡ 9 → ⊥) → AllUnambiguous s es
   settled-fair x i es r n = go (rw r at (when-legible i x))
     where
       go : Read l s before a after (got es) → AllUnambiguous s es
@@ -214,7 +244,7 @@ module _ {l : Lent} {s before : List ℕ} {a : Answer} {after : List ℕ} where
       go (tight u f e z) = u
       go (enough u f e z) = u
 
-  pub settled-faulty : Judged l s before a after → Legible s → (es : List Element) → typeFile s ≡ got es → (AllUnambiguous s es → ⊥) → a .number ≡ 9
+  pub settled-faulty : Judged l c s before a after → Legible c s → (es : List Element) → typeFile c s ≡ got es → (AllUnambiguous s es → ⊥) → a .number ≡ 9
   settled-faulty x i es r n = go (rw r at (when-legible i x))
     where
       go : Read l s before a after (got es) → a .number ≡ 9
@@ -223,6 +253,6 @@ module _ {l : Lent} {s before : List ℕ} {a : Answer} {after : List ℕ} where
       go (enough u f e z) = absurd (n u)
 
 -- The buffer keeps its length.
-pub settled-length : {l : Lent} {s before : List ℕ} {a : Answer} {after : List ℕ} → Judged l s before a after → length after ≡ length before
-settled-length {l} {s} {before} (refuses r z) = rw z (length-replicate (length before) 0)
-settled-length {l} {s} {before} (accepts es w f e z) = rw z (lent-length l (records es) before (omega (arith, records-length es)))
+pub settled-length : {l : Lent} {c : Settings} {s before : List ℕ} {a : Answer} {after : List ℕ} → Judged l c s before a after → length after ≡ length before
+settled-length {l} {c} {s} {before} (refuses r z) = rw z (length-replicate (length before) 0)
+settled-length {l} {c} {s} {before} (accepts es w f e z) = rw z (lent-length l (records es) before (omega (arith, records-length es)))

@@ -6,6 +6,7 @@ use mathlib.Core.List.{List, [], _∷_, _++_}
 use native.Mathlib.Omega.{arith}
 use lib.ListN.{length}
 use borrow.Author.Tests.{lt-ltb, le-ltb}
+use Rattle.rules.specs.Settings.{Settings}
 use Rattle.rules.specs.Bytes.{byteAt, letter, nameEnd}
 use Rattle.rules.specs.Reading.{refused, got}
 use Rattle.rules.specs.Walk.{Group, star}
@@ -51,16 +52,16 @@ module _ (end at at' size places tokens : ℕ) (T names₀ names table : List �
 
 -- A name.
 
-module _ (s : List ℕ) (at e : ℕ) (full : Bool) (ps : List Place) (n : ℕ) (E : e ≡ nameEnd s at) where
-  pub name-long : 8 < e - at → nameToken s at full ps n ≡ refused 3 at
+module _ (c : Settings) (s : List ℕ) (at e : ℕ) (full : Bool) (ps : List Place) (n : ℕ) (E : e ≡ nameEnd s at) where
+  pub name-long : c .nameLength < e - at → nameToken c s at full ps n ≡ refused 3 at
   unfolding nameToken
   name-long h = rw (lt-ltb _ _ (rw E at h), nameToken)
 
-  pub name-full : e - at ≤ 8 → full ≡ true → nameToken s at full ps n ≡ refused 6 at
+  pub name-full : e - at ≤ c .nameLength → full ≡ true → nameToken c s at full ps n ≡ refused 6 at
   unfolding nameToken
   name-full h f = rw (le-ltb _ _ (rw E at h), f, nameToken)
 
-  pub name-got : e - at ≤ 8 → full ≡ false → nameToken s at full ps n ≡ got (occurrence s (record { group = newPlace ps; at = e; places = ps ++ record { at = at; size = e - at } ∷ []; tokens = n + 1 }))
+  pub name-got : e - at ≤ c .nameLength → full ≡ false → nameToken c s at full ps n ≡ got (occurrence s (record { group = newPlace ps; at = e; places = ps ++ record { at = at; size = e - at } ∷ []; tokens = n + 1 }))
   unfolding nameToken
   name-got h f = rw (le-ltb _ _ (rw E at h), f, nameToken, E)
 

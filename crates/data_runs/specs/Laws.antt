@@ -7,28 +7,21 @@ use native.Mathlib.Omega.{arith}
 use lib.ListN.{length}
 use lib.Dec.{eqb}
 use borrow.Author.Tests.{eqb-true, eqb-false}
+use Rattle.rules.specs.Settings.{Settings}
 use Rattle.rules.specs.Bytes.{byteAt, letter}
 use Rattle.rules.specs.Reading.{Reading, refused, got}
 use Rattle.rules.specs.TypeFile.{atDashes}
-use Rattle.rules.specs.Document.{Tag, blank, dataByte, declarationPiece, markupPiece, bytePiece, piece}
+use Rattle.rules.specs.Document.{blank, dataByte, declarationPiece, markupPiece, bytePiece, piece}
 use Rattle.delimiters.specs.Means.{special}
-use Rattle.rules_laws.specs.Runs.{isRun, runs, runEnd, runs-more, runs-none}
-use Rattle.document_text.specs.Means.{asStartTag, asEndTag, asSkipped}
+use Rattle.rules_laws.specs.Runs.{anyPiece, isRun, runs, runEnd, runs-more, runs-none}
+use Rattle.document_text.specs.Means.{asSkipped}
 use Rattle.document_text.specs.Laws.{declaration-out, declaration-data, markup-out, markup-data, byte-skipped, byte-blank, byte-data}
 
 neither : (a b : Bool) → (a || b) ≡ false → (a ≡ false) × (b ≡ false)
 neither true b e = absurd (true≢false e)
 neither false b e = (refl, e)
 
--- What was read as a tag or a comment ends a run, refused or not.
-pub start-stops : (r : Reading Tag) → isRun (asStartTag r) ≡ false
-start-stops (refused n k) = refl
-start-stops (got t) = refl
-
-pub end-stops : (r : Reading Tag) → isRun (asEndTag r) ≡ false
-end-stops (refused n k) = refl
-end-stops (got t) = refl
-
+-- What was read as a comment ends a run, refused or not.
 pub skipped-stops : (r : Reading ℕ) → isRun (asSkipped r) ≡ false
 skipped-stops (refused n k) = refl
 skipped-stops (got e) = refl
@@ -38,12 +31,12 @@ pub declaration-runs : (s : List ℕ) (i b : ℕ) → b ≡ byteAt s (i + 2) →
 declaration-runs s i b q h d true e = ap isRun (declaration-out s i b q h d (sym e))
 declaration-runs s i b q h d false e = ap isRun (declaration-data s i b q h d (sym e))
 
-pub markup-runs : (s : List ℕ) (i b : ℕ) → b ≡ byteAt s (i + 1) → letter b ≡ false → (eqb (byteAt s (i + 1)) 47 && letter (byteAt s (i + 2))) ≡ false → (b ≡ 33 → ⊥) → not (eqb b 63) ≡ isRun (markupPiece s i)
-markup-runs s i b q l t n = by-test (eqb b 63) refl
+pub markup-runs : (c : Settings) (s : List ℕ) (i b : ℕ) → b ≡ byteAt s (i + 1) → letter b ≡ false → (eqb (byteAt s (i + 1)) 47 && letter (byteAt s (i + 2))) ≡ false → (b ≡ 33 → ⊥) → not (eqb b 63) ≡ isRun (markupPiece c s i)
+markup-runs c s i b q l t n = by-test (eqb b 63) refl
   where
-    by-test : (w : Bool) → eqb b 63 ≡ w → not w ≡ isRun (markupPiece s i)
-    by-test true e = ap isRun (markup-out s i b q l t n (eqb-true b 63 e))
-    by-test false e = ap isRun (markup-data s i b q l t n (eqb-false b 63 e))
+    by-test : (w : Bool) → eqb b 63 ≡ w → not w ≡ isRun (markupPiece c s i)
+    by-test true e = ap isRun (markup-out c s i b q l t n (eqb-true b 63 e))
+    by-test false e = ap isRun (markup-data c s i b q l t n (eqb-false b 63 e))
 
 -- A byte by itself goes on a run, unless it is byte 10.
 pub byte-runs : (s : List ℕ) (i b : ℕ) → b ≡ byteAt s i → not (eqb b 10) ≡ isRun (bytePiece s i)
@@ -58,7 +51,7 @@ byte-runs s i b q = by-test (eqb b 10) refl
     by-test false e = by-blank (eqb-false b 10 e) (eqb b 9 || (eqb b 13 || eqb b 32)) refl
 
 -- A byte that is not special goes on a run.
-pub plain-runs : (s : List ℕ) (i b : ℕ) → b ≡ byteAt s i → special b ≡ false → isRun (piece s i) ≡ true
+pub plain-runs : (s : List ℕ) (i b : ℕ) → b ≡ byteAt s i → special b ≡ false → isRun (anyPiece s i) ≡ true
 unfolding piece bytePiece
 plain-runs s i b q e = rw (piece, bytePiece, less .0, and .0, section .0, section .1) (by-blank (eqb (byteAt s i) 9 || (eqb (byteAt s i) 13 || eqb (byteAt s i) 32)))
   where
@@ -76,13 +69,13 @@ plain-runs s i b q e = rw (piece, bytePiece, less .0, and .0, section .0, sectio
     by-blank false = refl
 
 -- The loop that passes a run: a turn of it, and its two ends.
-pub run-turn : (s : List ℕ) (i e : ℕ) → i < length s → isRun (piece s i) ≡ true → runEnd s i ≡ e → runEnd s (i + 1) ≡ e
+pub run-turn : (s : List ℕ) (i e : ℕ) → i < length s → isRun (anyPiece s i) ≡ true → runEnd s i ≡ e → runEnd s (i + 1) ≡ e
 run-turn s i e h q r =
     let l : length s - i ≡ suc (length s - (i + 1)) = omega arith in
     let m : runs (length s - i) s i ≡ suc (runs (length s - (i + 1)) s (i + 1)) = rw l (runs-more (length s - (i + 1)) s i q) in
     omega (arith, m)
 
-pub run-stop : (s : List ℕ) (i e : ℕ) → isRun (piece s i) ≡ false → runEnd s i ≡ e → i ≡ e
+pub run-stop : (s : List ℕ) (i e : ℕ) → isRun (anyPiece s i) ≡ false → runEnd s i ≡ e → i ≡ e
 run-stop s i e q r = omega (arith, runs-none (length s - i) s i q)
 
 pub run-all : (s : List ℕ) (i e : ℕ) → length s ≤ i → runEnd s i ≡ e → i ≡ e

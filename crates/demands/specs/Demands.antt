@@ -4,6 +4,7 @@
 -- contract. Meets says the same of the routines of both calls for C.
 use Prim.Native.Nat.{ℕ, _*_, _<_, _≤_}
 use mathlib.Core.Path.{_≡_}
+use mathlib.Core.Bool.{false}
 use mathlib.Core.Logic.{_↔_}
 use mathlib.Core.List.{List, []}
 use lib.ListN.{length}
@@ -11,12 +12,13 @@ use contract.Lifetimes.{Lfts}
 use denote.Ref.{now}
 use denote.Triple.Clauses.{AtExit}
 use borrow.Fn.World.{ArgsD}
+use Rattle.rules.specs.Settings.{Settings, settings, isOffered}
 use Rattle.rules.specs.Lent.{Lent, room}
 use Rattle.rules.specs.Reading.{Reading, got}
 use Rattle.rules.specs.Walk.{Group}
 use Rattle.rules.specs.Ambiguity.{Ambiguous, PairAtFault}
 use Rattle.rules.specs.TypeFile.{Place, Element, typeFile}
-use Rattle.rules.specs.Judge.{samePlace, Answer, Legible, Refuses, Accepts, Judged}
+use Rattle.rules.specs.Judge.{samePlace, Answer, refusal, Legible, Refuses, Accepts, Judged}
 use Rattle.rules.specs.Events.{Event}
 use Rattle.rules.specs.Settling.{State, nothingOpen}
 use Rattle.rules.specs.Acts.{Acts, Passes, Few}
@@ -27,6 +29,7 @@ use Rattle.demands.specs.Words.{Refusal, Acceptance, ModelOf, SomeAmbigu
 use Rattle.answer_laws.specs.Reader.{given-one, reading-one}
 use Rattle.demands.specs.Exists.{judged-some, read-some}
 use Rattle.demands.specs.Kept as kept
+use Rattle.inputs.specs.Means.{settingsOf}
 use Rattle.type_judge.specs.declared.Verdict.{Verdict}
 use Rattle.type_judge.specs.Means as verdict
 use Rattle.type_judge.proofs.judge as judge-call
@@ -44,70 +47,80 @@ use Rattle.sgml.proofs.sgml_judge.Reads as c-judge-reads
 use Rattle.sgml.proofs.sgml_read as c-read
 use Rattle.sgml.proofs.sgml_read.Reads as c-read-reads
 
--- The judge, lent `before`, answers a to the type file s and leaves `after`.
-pub record JudgeKeeps (l : Lent) (s before : List ℕ) (a : Answer) (after : List ℕ) : Type 0 where
+-- The judge, lent `before`, answers a to the type file s under the settings c and leaves `after`.
+pub record JudgeKeeps (l : Lent) (c : Settings) (s before : List ℕ) (a : Answer) (after : List ℕ) : Type 0 where
   -- Demand 1: a refusal gives a number, which input and a byte position, the count 0, and a lent buffer that is zero.
   pub refusal-whole : (a .number ≡ 0 → ⊥) → Refusal s before a after
   pub same-length : length after ≡ length before
   -- Demand 2: accepted exactly when the rules accept it, with exactly their records; every refusal is the one that the stated order picks;
   -- "19 only where nothing else is wrong, and exactly if the numbers don't fit".
-  pub accepted-exactly : (a .number ≡ 0) ↔ ((es : List Element) × Accepts s es × (6 * length es ≤ room l before))
-  pub acceptance-whole : a .number ≡ 0 → Acceptance l s before a after
-  pub refused-exactly : (a .number ≡ 0 → ⊥) ↔ Refuses s (room l before) a
-  pub order-picks : (b : Answer) → Refuses s (room l before) b → a ≡ b
-  pub too-small-exactly : (a .number ≡ 19) ↔ ((es : List Element) × Accepts s es × (room l before < 6 * length es))
+  pub accepted-exactly : (a .number ≡ 0) ↔ ((es : List Element) × Accepts c s es × (6 * length es ≤ room l before))
+  pub acceptance-whole : a .number ≡ 0 → Acceptance l c s before a after
+  pub refused-exactly : (a .number ≡ 0 → ⊥) ↔ Refuses c s (room l before) a
+  pub order-picks : (b : Answer) → Refuses c s (room l before) b → a ≡ b
+  pub too-small-exactly : (a .number ≡ 19) ↔ ((es : List Element) × Accepts c s es × (room l before < 6 * length es))
+  -- Paper 02, request six: "another is 24, in the type at 0", before anything else, and only that is.
+  pub not-offered : isOffered c ≡ false → a ≡ refusal 24 0 0 0
+  pub not-offered-exactly : (a .number ≡ 24) ↔ (isOffered c ≡ false)
   -- Demand 3, of a type file "where nothing is wrong that the stated order puts before ambiguity": it is legible and was read. It is refused
   -- as ambiguous "exactly when some content model in it has two different sequences of places, of whatever length, each the beginning of some
   -- walk, that spell the same names. The refusal names the first such model, and in it the first pair"; "where there is no such refusal, the
   -- names alone decide the places in every model".
-  pub ambiguous-exactly : (a .number ≡ 9) ↔ (Legible s × (es : List Element) × (typeFile s ≡ got es) × SomeAmbiguous s es)
-  pub ambiguous-named : a .number ≡ 9 → NamesFirst s a
-  pub names-decide : Legible s → (a .number ≡ 9 → ⊥) → (es : List Element) → typeFile s ≡ got es → NamesDecide s es
+  pub ambiguous-exactly : (a .number ≡ 9) ↔ (Legible c s × (es : List Element) × (typeFile c s ≡ got es) × SomeAmbiguous s es)
+  pub ambiguous-named : a .number ≡ 9 → NamesFirst c s a
+  pub names-decide : Legible c s → (a .number ≡ 9 → ⊥) → (es : List Element) → typeFile c s ≡ got es → NamesDecide s es
 
--- The reader, lent `before`, answers a to the type file s and the document d and leaves `after`.
-pub record ReaderKeeps (l : Lent) (s d before : List ℕ) (a : Answer) (after : List ℕ) : Type 0 where
+-- The reader, lent `before`, answers a to the type file s and the document d under the settings c and leaves `after`.
+pub record ReaderKeeps (l : Lent) (c : Settings) (s d before : List ℕ) (a : Answer) (after : List ℕ) : Type 0 where
   -- Demand 1.
   pub refusal-whole : (a .number ≡ 0 → ⊥) → ReaderRefusal s d before a after
   pub same-length : length after ≡ length before
   -- Demand 2: a document is accepted exactly when paper 01's rules accept it, with exactly their events.
-  pub accepted-exactly : (a .number ≡ 0) ↔ ((es : List Element) × (ev : List Event) × Reads s d es (got ev) × (4 * length ev ≤ room l before))
-  pub acceptance-whole : a .number ≡ 0 → ReaderAcceptance l s d before a after
-  pub refused-exactly : (a .number ≡ 0 → ⊥) ↔ RefusesBoth s d (room l before) a
-  pub order-picks : (b : Answer) → RefusesBoth s d (room l before) b → a ≡ b
-  pub too-small-exactly : (a .number ≡ 19) ↔ ((es : List Element) × (ev : List Event) × Reads s d es (got ev) × (room l before < 4 * length ev))
+  pub accepted-exactly : (a .number ≡ 0) ↔ ((es : List Element) × (ev : List Event) × Reads c s d es (got ev) × (4 * length ev ≤ room l before))
+  pub acceptance-whole : a .number ≡ 0 → ReaderAcceptance l c s d before a after
+  pub refused-exactly : (a .number ≡ 0 → ⊥) ↔ RefusesBoth c s d (room l before) a
+  pub order-picks : (b : Answer) → RefusesBoth c s d (room l before) b → a ≡ b
+  pub too-small-exactly : (a .number ≡ 19) ↔ ((es : List Element) × (ev : List Event) × Reads c s d es (got ev) × (room l before < 4 * length ev))
+  -- Paper 02, request six, as for the judge.
+  pub not-offered : isOffered c ≡ false → a ≡ refusal 24 0 0 0
+  pub not-offered-exactly : (a .number ≡ 24) ↔ (isOffered c ≡ false)
   -- Demand 3, "whatever document and lent buffer come with it".
-  pub ambiguous-exactly : (a .number ≡ 9) ↔ (BothLegible s d × (es : List Element) × (typeFile s ≡ got es) × SomeAmbiguous s es)
-  pub ambiguous-named : a .number ≡ 9 → NamesFirst s a
-  pub names-decide : BothLegible s d → (a .number ≡ 9 → ⊥) → (es : List Element) → typeFile s ≡ got es → NamesDecide s es
+  pub ambiguous-exactly : (a .number ≡ 9) ↔ (BothLegible c s d × (es : List Element) × (typeFile c s ≡ got es) × SomeAmbiguous s es)
+  pub ambiguous-named : a .number ≡ 9 → NamesFirst c s a
+  pub names-decide : BothLegible c s d → (a .number ≡ 9 → ⊥) → (es : List Element) → typeFile c s ≡ got es → NamesDecide s es
 
-pub judge-keeps : (l : Lent) (s before : List ℕ) (a : Answer) (after : List ℕ) → Judged l s before a after → JudgeKeeps l s before a after
-judge-keeps l s before a after p =
+pub judge-keeps : (l : Lent) (c : Settings) (s before : List ℕ) (a : Answer) (after : List ℕ) → Judged l c s before a after → JudgeKeeps l c s before a after
+judge-keeps l c s before a after p =
     record {
-      refusal-whole = kept.refusal-whole l s before a after p;
-      same-length = kept.same-length l s before a after p;
-      accepted-exactly = kept.accepted-exactly l s before a after p;
-      acceptance-whole = kept.acceptance-whole l s before a after p;
-      refused-exactly = kept.refused-exactly l s before a after p;
-      order-picks = kept.order-picks l s before a after p;
-      too-small-exactly = kept.too-small-exactly l s before a after p;
-      ambiguous-exactly = kept.ambiguous-exactly l s before a after p;
-      ambiguous-named = kept.ambiguous-named l s before a after p;
-      names-decide = kept.names-decide l s before a after p;
+      refusal-whole = kept.refusal-whole l c s before a after p;
+      same-length = kept.same-length l c s before a after p;
+      accepted-exactly = kept.accepted-exactly l c s before a after p;
+      acceptance-whole = kept.acceptance-whole l c s before a after p;
+      refused-exactly = kept.refused-exactly l c s before a after p;
+      order-picks = kept.order-picks l c s before a after p;
+      too-small-exactly = kept.too-small-exactly l c s before a after p;
+      not-offered = kept.not-offered l c s before a after p;
+      not-offered-exactly = kept.not-offered-exactly l c s before a after p;
+      ambiguous-exactly = kept.ambiguous-exactly l c s before a after p;
+      ambiguous-named = kept.ambiguous-named l c s before a after p;
+      names-decide = kept.names-decide l c s before a after p;
     }
 
-pub reader-keeps : (l : Lent) (s d before : List ℕ) (a : Answer) (after : List ℕ) → ReadAs l s d before a after → ReaderKeeps l s d before a after
-reader-keeps l s d before a after p =
+pub reader-keeps : (l : Lent) (c : Settings) (s d before : List ℕ) (a : Answer) (after : List ℕ) → ReadAs l c s d before a after → ReaderKeeps l c s d before a after
+reader-keeps l c s d before a after p =
     record {
-      refusal-whole = kept.reader-refusal-whole l s d before a after p;
-      same-length = kept.reader-same-length l s d before a after p;
-      accepted-exactly = kept.reader-accepted-exactly l s d before a after p;
-      acceptance-whole = kept.reader-acceptance-whole l s d before a after p;
-      refused-exactly = kept.reader-refused-exactly l s d before a after p;
-      order-picks = kept.reader-order-picks l s d before a after p;
-      too-small-exactly = kept.reader-too-small-exactly l s d before a after p;
-      ambiguous-exactly = kept.reader-ambiguous-exactly l s d before a after p;
-      ambiguous-named = kept.reader-ambiguous-named l s d before a after p;
-      names-decide = kept.reader-names-decide l s d before a after p;
+      refusal-whole = kept.reader-refusal-whole l c s d before a after p;
+      same-length = kept.reader-same-length l c s d before a after p;
+      accepted-exactly = kept.reader-accepted-exactly l c s d before a after p;
+      acceptance-whole = kept.reader-acceptance-whole l c s d before a after p;
+      refused-exactly = kept.reader-refused-exactly l c s d before a after p;
+      order-picks = kept.reader-order-picks l c s d before a after p;
+      too-small-exactly = kept.reader-too-small-exactly l c s d before a after p;
+      not-offered = kept.reader-not-offered l c s d before a after p;
+      not-offered-exactly = kept.reader-not-offered-exactly l c s d before a after p;
+      ambiguous-exactly = kept.reader-ambiguous-exactly l c s d before a after p;
+      ambiguous-named = kept.reader-ambiguous-named l c s d before a after p;
+      names-decide = kept.reader-names-decide l c s d before a after p;
     }
 
 -- The calls
@@ -128,90 +141,90 @@ asks-nothing = (λ κs a. tt, λ κs a. tt, λ κs a. tt, λ κs a. tt, λ κs a
 
 -- What C gets of `sgml_judge`: the number that is returned and the six numbers are those of one answer, and with what the lent bytes hold then it
 -- keeps the demands.
-pub record JudgeCall (s before : List ℕ) (returned : ℕ) (numbers after : List ℕ) : Type 0 where
+pub record JudgeCall (c : Settings) (s before : List ℕ) (returned : ℕ) (numbers after : List ℕ) : Type 0 where
   pub answer : Answer
   pub returned-is : returned ≡ answer .number
   pub numbers-are : numbers ≡ answerNumbers answer
-  pub keeps : JudgeKeeps Lent.bytes s before answer after
+  pub keeps : JudgeKeeps Lent.bytes c s before answer after
 
--- Passed are the type file, the lent bytes and the array for the answer, in this order.
+-- Passed are the type file, the lent bytes, the array for the answer and how long a name may be, in this order.
 abbrev pub JudgeGives : (κs : Lfts 3) → ArgsD c-judge.signature κs → ℕ → AtExit c-judge.ended κs → Type 0
-JudgeGives κs a r e = JudgeCall (now (a .0)) (now (a .1 .0)) r (now (e .1 .1 .0)) (now (e .1 .0))
+JudgeGives κs a r e = JudgeCall (settings (a .1 .1 .1 .0)) (now (a .0)) (now (a .1 .0)) r (now (e .1 .1 .0)) (now (e .1 .0))
 
 pub sgml-judge : (κs : Lfts 3) (a : ArgsD c-judge.signature κs) (r : ℕ) (e : AtExit c-judge.ended κs) → c-judge-reads.Learnt κs a r e → JudgeGives κs a r e
-sgml-judge κs a r e (answer, returned, numbers, judged) = record { answer = answer; returned-is = returned; numbers-are = numbers; keeps = judge-keeps Lent.bytes _ _ answer _ judged }
+sgml-judge κs a r e (answer, returned, numbers, judged) = record { answer = answer; returned-is = returned; numbers-are = numbers; keeps = judge-keeps Lent.bytes _ _ _ answer _ judged }
 
 -- What C gets of `sgml_read`.
-pub record ReadCall (s d before : List ℕ) (returned : ℕ) (numbers after : List ℕ) : Type 0 where
+pub record ReadCall (c : Settings) (s d before : List ℕ) (returned : ℕ) (numbers after : List ℕ) : Type 0 where
   pub answer : Answer
   pub returned-is : returned ≡ answer .number
   pub numbers-are : numbers ≡ answerNumbers answer
-  pub keeps : ReaderKeeps Lent.bytes s d before answer after
+  pub keeps : ReaderKeeps Lent.bytes c s d before answer after
 
--- Passed are the type file, the document, the lent bytes and the array for the answer.
+-- Passed are the type file, the document, the lent bytes, the array for the answer and how long a name may be.
 abbrev pub ReadGives : (κs : Lfts 4) → ArgsD c-read.signature κs → ℕ → AtExit c-read.ended κs → Type 0
-ReadGives κs a r e = ReadCall (now (a .0)) (now (a .1 .0)) (now (a .1 .1 .0)) r (now (e .1 .1 .1 .0)) (now (e .1 .1 .0))
+ReadGives κs a r e = ReadCall (settings (a .1 .1 .1 .1 .0)) (now (a .0)) (now (a .1 .0)) (now (a .1 .1 .0)) r (now (e .1 .1 .1 .0)) (now (e .1 .1 .0))
 
 pub sgml-read : (κs : Lfts 4) (a : ArgsD c-read.signature κs) (r : ℕ) (e : AtExit c-read.ended κs) → c-read-reads.Learnt κs a r e → ReadGives κs a r e
-sgml-read κs a r e (answer, returned, numbers, as-read) = record { answer = answer; returned-is = returned; numbers-are = numbers; keeps = reader-keeps Lent.bytes _ _ _ answer _ as-read }
+sgml-read κs a r e (answer, returned, numbers, as-read) = record { answer = answer; returned-is = returned; numbers-are = numbers; keeps = reader-keeps Lent.bytes _ _ _ _ answer _ as-read }
 
 -- What Rattle callers get: `judge` with a lent buffer of numbers, `judge_to_bytes` with one of bytes, and the reader likewise. `answerOf`, beside the
 -- code of each, has the paper's numbers for each case of what it returns.
 pub judge : (κs : Lfts 2) (a : ArgsD judge-call.signature κs) (r : Verdict) (e : AtExit judge-call.ended κs) → judge-reads.Learnt κs a r e
-    → JudgeKeeps Lent.numbers (now (a .0)) (now (a .1 .0)) (verdict.answerOf r) (now (e .1 .0))
-judge κs a r e judged = judge-keeps Lent.numbers _ _ _ _ judged
+    → JudgeKeeps Lent.numbers (settingsOf (a .0)) (now (a .1 .0)) (now (a .1 .1 .0)) (verdict.answerOf r) (now (e .1 .1 .0))
+judge κs a r e judged = judge-keeps Lent.numbers _ _ _ _ _ judged
 
 pub judge-to-bytes : (κs : Lfts 2) (a : ArgsD judge-bytes.signature κs) (r : Verdict) (e : AtExit judge-bytes.ended κs) → judge-bytes-reads.Learnt κs a r e
-    → JudgeKeeps Lent.bytes (now (a .0)) (now (a .1 .0)) (verdict.answerOf r) (now (e .1 .0))
-judge-to-bytes κs a r e judged = judge-keeps Lent.bytes _ _ _ _ judged
+    → JudgeKeeps Lent.bytes (settingsOf (a .0)) (now (a .1 .0)) (now (a .1 .1 .0)) (verdict.answerOf r) (now (e .1 .1 .0))
+judge-to-bytes κs a r e judged = judge-keeps Lent.bytes _ _ _ _ _ judged
 
 pub read : (κs : Lfts 3) (a : ArgsD read-call.signature κs) (r : reader.Answer) (e : AtExit read-call.ended κs) → read-reads.Learnt κs a r e
-    → ReaderKeeps Lent.numbers (now (a .0)) (now (a .1 .0)) (now (a .1 .1 .0)) (means.answerOf r) (now (e .1 .1 .0))
-read κs a r e (as-read, fits) = reader-keeps Lent.numbers _ _ _ _ _ as-read
+    → ReaderKeeps Lent.numbers (settingsOf (a .0)) (now (a .1 .0)) (now (a .1 .1 .0)) (now (a .1 .1 .1 .0)) (means.answerOf r) (now (e .1 .1 .1 .0))
+read κs a r e (as-read, fits) = reader-keeps Lent.numbers _ _ _ _ _ _ as-read
 
 pub read-to-bytes : (κs : Lfts 3) (a : ArgsD read-bytes.signature κs) (r : reader.Answer) (e : AtExit read-bytes.ended κs) → read-bytes-reads.Learnt κs a r e
-    → ReaderKeeps Lent.bytes (now (a .0)) (now (a .1 .0)) (now (a .1 .1 .0)) (means.answerOf r) (now (e .1 .1 .0))
-read-to-bytes κs a r e (as-read, fits) = reader-keeps Lent.bytes _ _ _ _ _ as-read
+    → ReaderKeeps Lent.bytes (settingsOf (a .0)) (now (a .1 .0)) (now (a .1 .1 .0)) (now (a .1 .1 .1 .0)) (means.answerOf r) (now (e .1 .1 .1 .0))
+read-to-bytes κs a r e (as-read, fits) = reader-keeps Lent.bytes _ _ _ _ _ _ as-read
 
 -- The rules have an answer to every call, and only one, with what the buffer holds after: so they are total, whatever the code does.
-pub judged-exists : (l : Lent) (s before : List ℕ) → (a : Answer) × (after : List ℕ) × Judged l s before a after
+pub judged-exists : (l : Lent) (c : Settings) (s before : List ℕ) → (a : Answer) × (after : List ℕ) × Judged l c s before a after
 judged-exists = judged-some
 
-pub judged-one : (l : Lent) (s before : List ℕ) (a b : Answer) (after other : List ℕ) → Judged l s before a after → Judged l s before b other → (a ≡ b) × (after ≡ other)
+pub judged-one : (l : Lent) (c : Settings) (s before : List ℕ) (a b : Answer) (after other : List ℕ) → Judged l c s before a after → Judged l c s before b other → (a ≡ b) × (after ≡ other)
 judged-one = kept.judged-one
 
-pub read-exists : (l : Lent) (s d before : List ℕ) → (a : Answer) × (after : List ℕ) × ReadAs l s d before a after
+pub read-exists : (l : Lent) (c : Settings) (s d before : List ℕ) → (a : Answer) × (after : List ℕ) × ReadAs l c s d before a after
 read-exists = read-some
 
-pub read-one : (l : Lent) (s d before : List ℕ) (a b : Answer) (after other : List ℕ) → ReadAs l s d before a after → ReadAs l s d before b other → (a ≡ b) × (after ≡ other)
+pub read-one : (l : Lent) (c : Settings) (s d before : List ℕ) (a b : Answer) (after other : List ℕ) → ReadAs l c s d before a after → ReadAs l c s d before b other → (a ≡ b) × (after ≡ other)
 read-one = given-one
 
 -- Demand 2: under an accepted type every document has a reading, and only one.
-pub reading-exists : (s d : List ℕ) (es : List Element) → BothLegible s d → Accepts s es
-    → (r : Reading (List Event)) × Reads s d es r × ((fs : List Element) (q : Reading (List Event)) → Reads s d fs q → (es ≡ fs) × (r ≡ q))
+pub reading-exists : (c : Settings) (s d : List ℕ) (es : List Element) → BothLegible c s d → Accepts c s es
+    → (r : Reading (List Event)) × Reads c s d es r × ((fs : List Element) (q : Reading (List Event)) → Reads c s d fs q → (es ≡ fs) × (r ≡ q))
 reading-exists = reading-one
 
 -- Demand 1: 0 to 24 elements are open. `Few` says that at most 24 stand around the current one, which is how many are open, since the outermost of them is
 -- the document itself. So it is in every state that acts pass (after each start and end, written or inferred, and each data byte) from nothing
 -- open to any position that reading a document comes to between pieces, be it refused later or not. OpenElements says it of the program.
-pub few-open : (s d : List ℕ) (es : List Element) (r : Reading (List Event)) (x : Reads s d es r) (at : ℕ) (z : State) → Passes s es (x .decisions) d at z → Acts s es (x .decisions) Few nothingOpen z
-few-open s d es r x at z = passes-acts s es (x .decisions) d
+pub few-open : (c : Settings) (s d : List ℕ) (es : List Element) (r : Reading (List Event)) (x : Reads c s d es r) (at : ℕ) (z : State) → Passes c s es (x .decisions) d at z → Acts s es (x .decisions) Few nothingOpen z
+few-open c s d es r x at z = passes-acts s es (x .decisions) d
 
 -- So it is in every state that acts pass up to the last one of a document that is read to its end, the ends that are inferred at the document's end among
 -- them: there nothing is open any more.
-pub few-open-read : (s d : List ℕ) (es : List Element) (ev : List Event) (x : Reads s d es (got ev)) → (z : State) × Acts s es (x .decisions) Few nothingOpen z × (z .around ≡ []) × (z .events ≡ ev)
-few-open-read s d es ev x =
-    let over = document-acts s es (x .decisions) d ev (x .reading) in
+pub few-open-read : (c : Settings) (s d : List ℕ) (es : List Element) (ev : List Event) (x : Reads c s d es (got ev)) → (z : State) × Acts s es (x .decisions) Few nothingOpen z × (z .around ≡ []) × (z .events ≡ ev)
+few-open-read c s d es ev x =
+    let over = document-acts s es (x .decisions) d c ev (x .reading) in
     (over .last, over .acts, over .nothing, over .events)
 
 -- Demand 3 by pairs at fault: a model is ambiguous exactly if it has one; of a model that was read, both its places are places of the model.
 pub pair-exactly : (s : List ℕ) (g : Group) (ps : List Place) → Ambiguous (samePlace s ps) g ↔ ((p : ℕ) × (q : ℕ) × PairAtFault (samePlace s ps) g p q)
 pair-exactly = kept.pair-exactly
 
-pub pair-places : (s : List ℕ) (es : List Element) → typeFile s ≡ got es → (g : Group) (ps : List Place) → ModelOf es g ps
+pub pair-places : (c : Settings) (s : List ℕ) (es : List Element) → typeFile c s ≡ got es → (g : Group) (ps : List Place) → ModelOf es g ps
     → (p q : ℕ) → PairAtFault (samePlace s ps) g p q → (1 ≤ p) × (q ≤ length ps)
 pair-places = kept.pair-places
 
 -- Demand 3: "the type judge and the reader alike", and in all else about the type.
-pub same-verdict : (l m : Lent) (s d before other : List ℕ) (a b : Answer) (after left : List ℕ) → Judged l s before a after → ReadAs m s d other b left → BothLegible s d → SameVerdict a b
+pub same-verdict : (l m : Lent) (c : Settings) (s d before other : List ℕ) (a b : Answer) (after left : List ℕ) → Judged l c s before a after → ReadAs m c s d other b left → BothLegible c s d → SameVerdict a b
 same-verdict = kept.same-verdict

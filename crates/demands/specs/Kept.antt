@@ -1,26 +1,28 @@
 -- The demands proved, one theorem each: Demands has them together, to be read first.
 use Prim.Native.Nat.{ℕ, _*_, _<_, _≤_}
 use mathlib.Core.Path.{_≡_, refl, sym}
+use mathlib.Core.Bool.{false}
 use mathlib.Core.Logic.{_↔_}
 use mathlib.Core.List.{List}
 use native.Mathlib.Omega.{arith}
 use lib.ListN.{length}
+use Rattle.rules.specs.Settings.{Settings, isOffered}
 use Rattle.rules.specs.Lent.{Lent, room}
 use Rattle.rules.specs.Reading.{got}
 use Rattle.rules.specs.Walk.{Group}
 use Rattle.rules.specs.Ambiguity.{Ambiguous, PairAtFault}
 use Rattle.rules.specs.TypeFile.{Place, Element, typeFile}
-use Rattle.rules.specs.Judge.{samePlace, Answer, Legible, Refuses, noRoom, Accepts, Judged, refuses, accepts}
+use Rattle.rules.specs.Judge.{samePlace, Answer, refusal, Legible, Refuses, noRoom, Accepts, Judged, refuses, accepts}
 use Rattle.rules.specs.Events.{Event}
 use Rattle.rules.specs.Reader.{BothLegible, Reads, RefusesBoth, ReadAs}
 use Rattle.demands.specs.Words.{Refusal, Acceptance, ModelOf, SomeAmbiguous, NamesFirst, NamesDecide, ReaderRefusal, ReaderAcceptance, SameVerdict}
-use Rattle.answer_laws.specs.Judge.{settled-one, settled-refuses, settled-accepts, settled-fair, settled-faulty, refuses-named, refuses-some, settled-nine, settled-nineteen, first-model, model-exactly, not-ambiguous, names-alone, settled-length}
+use Rattle.answer_laws.specs.Judge.{settled-one, settled-refuses, settled-accepts, settled-fair, settled-faulty, refuses-named, refuses-some, settled-twenty-four, settled-nine, settled-nineteen, first-model, model-exactly, not-ambiguous, names-alone, settled-length}
 use Rattle.demands.specs.Models.{pair-in, names-first}
-use Rattle.answer_laws.specs.Reader.{given-one, both-says, both-some, given-nine, given-nineteen, type-refused, given-refuses, given-accepts, given-faulty, given-fair, given-length}
+use Rattle.answer_laws.specs.Reader.{given-one, both-says, both-some, given-twenty-four, given-nine, given-nineteen, type-refused, given-refuses, given-accepts, given-faulty, given-fair, given-length}
 
 -- The type judge
 
-module _ (l : Lent) (s before : List ℕ) (a : Answer) (after : List ℕ) (promised : Judged l s before a after) where
+module _ (l : Lent) (c : Settings) (s before : List ℕ) (a : Answer) (after : List ℕ) (promised : Judged l c s before a after) where
   -- Demand 1.
 
   pub refusal-whole : (a .number ≡ 0 → ⊥) → Refusal s before a after
@@ -34,127 +36,140 @@ module _ (l : Lent) (s before : List ℕ) (a : Answer) (after : List ℕ) (promi
 
   -- Demand 2: the type is accepted exactly when the rules accept it and the numbers fit, and then with exactly their records.
 
-  pub accepted-exactly : (a .number ≡ 0) ↔ ((es : List Element) × Accepts s es × (6 * length es ≤ room l before))
+  pub accepted-exactly : (a .number ≡ 0) ↔ ((es : List Element) × Accepts c s es × (6 * length es ≤ room l before))
   accepted-exactly = (
     λ h. let (es, w, f, e, z) = settled-accepts promised h in (es, w, f),
     λ (es, w, f). rw (settled-one promised (accepts es w f refl refl) .0),
   )
 
-  pub acceptance-whole : a .number ≡ 0 → Acceptance l s before a after
+  pub acceptance-whole : a .number ≡ 0 → Acceptance l c s before a after
   acceptance-whole h =
       let (es, w, f, e, z) = settled-accepts promised h in
       record { elements = es; accepted = w; fits = f; answer = e; written = z }
 
   -- Every refusal is the one that the order picks: "1 type, .. 2 type, ..; the type file's 3 to 8 ..; 9; ..; 19".
-  pub refused-exactly : (a .number ≡ 0 → ⊥) ↔ Refuses s (room l before) a
+  pub refused-exactly : (a .number ≡ 0 → ⊥) ↔ Refuses c s (room l before) a
   refused-exactly = (λ h. settled-refuses promised h .0, refuses-some)
 
-  pub order-picks : (b : Answer) → Refuses s (room l before) b → a ≡ b
+  pub order-picks : (b : Answer) → Refuses c s (room l before) b → a ≡ b
   order-picks b r = settled-one promised (refuses r refl) .0
 
   -- "19 only where nothing else is wrong, and exactly if the numbers don't fit."
-  pub too-small-exactly : (a .number ≡ 19) ↔ ((es : List Element) × Accepts s es × (room l before < 6 * length es))
+  pub too-small-exactly : (a .number ≡ 19) ↔ ((es : List Element) × Accepts c s es × (room l before < 6 * length es))
   too-small-exactly = (
     settled-nineteen promised,
     λ (es, w, f). rw (order-picks _ (noRoom (w .legible) es (w .elements) (w .unambiguous) f refl)),
   )
 
+  -- Number 24: the caller's settings are not offered.
+  pub not-offered : isOffered c ≡ false → a ≡ refusal 24 0 0 0
+  not-offered o = order-picks _ (Refuses.notOffered o refl)
+
+  pub not-offered-exactly : (a .number ≡ 24) ↔ (isOffered c ≡ false)
+  not-offered-exactly = (settled-twenty-four promised, λ o. rw (not-offered o))
+
   -- Demand 3: a type is refused as ambiguous exactly when some content model is.
 
-  pub ambiguous-exactly : (a .number ≡ 9) ↔ (Legible s × (es : List Element) × (typeFile s ≡ got es) × SomeAmbiguous s es)
+  pub ambiguous-exactly : (a .number ≡ 9) ↔ (Legible c s × (es : List Element) × (typeFile c s ≡ got es) × SomeAmbiguous s es)
   ambiguous-exactly = (
     λ h. let (i, es, r, f) = settled-nine promised h in (i, es, r, first-model f),
-    λ (i, es, r, (g, ps, (e, n, m, c), x)). settled-faulty promised i es r (λ u. not-ambiguous s g ps u m c x),
+    λ (i, es, r, (g, ps, (e, n, m, b), x)). settled-faulty promised i es r (λ u. not-ambiguous s g ps u m b x),
   )
 
-  pub ambiguous-named : a .number ≡ 9 → NamesFirst s a
-  ambiguous-named h = let (i, es, r, f) = settled-nine promised h in names-first s a es r f
+  pub ambiguous-named : a .number ≡ 9 → NamesFirst c s a
+  ambiguous-named h = let (i, es, r, f) = settled-nine promised h in names-first c s a es r f
 
   -- Else names alone decide places, also where the buffer is too small.
-  pub names-decide : Legible s → (a .number ≡ 9 → ⊥) → (es : List Element) → typeFile s ≡ got es → NamesDecide s es
-  names-decide i h es r g ps (e, n, m, c) = names-alone s g ps (settled-fair promised i es r h) m c
+  pub names-decide : Legible c s → (a .number ≡ 9 → ⊥) → (es : List Element) → typeFile c s ≡ got es → NamesDecide s es
+  names-decide i h es r g ps (e, n, m, b) = names-alone s g ps (settled-fair promised i es r h) m b
 
 -- A model is ambiguous by demand 3 exactly if it has a pair at fault.
 pub pair-exactly : (s : List ℕ) (g : Group) (ps : List Place) → Ambiguous (samePlace s ps) g ↔ ((p : ℕ) × (q : ℕ) × PairAtFault (samePlace s ps) g p q)
 pair-exactly = model-exactly
 
 -- Of a model that was read both places are places of the model.
-pub pair-places : (s : List ℕ) (es : List Element) → typeFile s ≡ got es → (g : Group) (ps : List Place) → ModelOf es g ps
+pub pair-places : (c : Settings) (s : List ℕ) (es : List Element) → typeFile c s ≡ got es → (g : Group) (ps : List Place) → ModelOf es g ps
     → (p q : ℕ) → PairAtFault (samePlace s ps) g p q → (1 ≤ p) × (q ≤ length ps)
 pair-places = pair-in
 
 -- The rules have only one answer of the judge, with what the buffer holds after.
-pub judged-one : (l : Lent) (s before : List ℕ) (a b : Answer) (after other : List ℕ) → Judged l s before a after → Judged l s before b other → (a ≡ b) × (after ≡ other)
-judged-one l s before a b after other = settled-one
+pub judged-one : (l : Lent) (c : Settings) (s before : List ℕ) (a b : Answer) (after other : List ℕ) → Judged l c s before a after → Judged l c s before b other → (a ≡ b) × (after ≡ other)
+judged-one l c s before a b after other = settled-one
 
 -- The document reader
 
-module _ (l : Lent) (s d before : List ℕ) (a : Answer) (after : List ℕ) (called : ReadAs l s d before a after) where
-  one : (b : Answer) (other : List ℕ) → ReadAs l s d before b other → a ≡ b
-  one b other x = given-one l s d before a b after other called x .0
+module _ (l : Lent) (c : Settings) (s d before : List ℕ) (a : Answer) (after : List ℕ) (called : ReadAs l c s d before a after) where
+  one : (b : Answer) (other : List ℕ) → ReadAs l c s d before b other → a ≡ b
+  one b other x = given-one l c s d before a b after other called x .0
 
   -- Demand 1.
 
   pub reader-refusal-whole : (a .number ≡ 0 → ⊥) → ReaderRefusal s d before a after
   reader-refusal-whole h =
       let (r, z) = given-refuses called h in
-      let (w, p, c) = both-says r in
-      record { stands = w; places = p; count = c; zeroed = z }
+      let (w, p, n) = both-says r in
+      record { stands = w; places = p; count = n; zeroed = z }
 
   pub reader-same-length : length after ≡ length before
   reader-same-length = given-length called
 
   -- Demand 2: the document is accepted exactly when the rules accept it and the numbers fit, and then with exactly their events.
 
-  pub reader-accepted-exactly : (a .number ≡ 0) ↔ ((es : List Element) × (ev : List Event) × Reads s d es (got ev) × (4 * length ev ≤ room l before))
+  pub reader-accepted-exactly : (a .number ≡ 0) ↔ ((es : List Element) × (ev : List Event) × Reads c s d es (got ev) × (4 * length ev ≤ room l before))
   reader-accepted-exactly = (
     λ h. let (es, ev, r, f, e, z) = given-accepts called h in (es, ev, r, f),
     λ (es, ev, r, f). rw (one _ _ (ReadAs.accepts es ev r f refl refl)),
   )
 
-  pub reader-acceptance-whole : a .number ≡ 0 → ReaderAcceptance l s d before a after
+  pub reader-acceptance-whole : a .number ≡ 0 → ReaderAcceptance l c s d before a after
   reader-acceptance-whole h =
       let (es, ev, r, f, e, z) = given-accepts called h in
       record { elements = es; events = ev; read = r; fits = f; answer = e; written = z }
 
   -- Every refusal is the one that the order picks: "1 type, 1 document, 2 type, 2 document; the type file's 3 to 8 ..; 9; then the
   -- document's tokens in turn; 19".
-  pub reader-refused-exactly : (a .number ≡ 0 → ⊥) ↔ RefusesBoth s d (room l before) a
+  pub reader-refused-exactly : (a .number ≡ 0 → ⊥) ↔ RefusesBoth c s d (room l before) a
   reader-refused-exactly = (λ h. given-refuses called h .0, both-some)
 
-  pub reader-order-picks : (b : Answer) → RefusesBoth s d (room l before) b → a ≡ b
+  pub reader-order-picks : (b : Answer) → RefusesBoth c s d (room l before) b → a ≡ b
   reader-order-picks b r = one b _ (ReadAs.refuses r refl)
 
-  pub reader-too-small-exactly : (a .number ≡ 19) ↔ ((es : List Element) × (ev : List Event) × Reads s d es (got ev) × (room l before < 4 * length ev))
+  pub reader-too-small-exactly : (a .number ≡ 19) ↔ ((es : List Element) × (ev : List Event) × Reads c s d es (got ev) × (room l before < 4 * length ev))
   reader-too-small-exactly = (
     given-nineteen called,
     λ (es, ev, r, f). rw (reader-order-picks _ (RefusesBoth.noRoom es ev r f refl)),
   )
 
+  pub reader-not-offered : isOffered c ≡ false → a ≡ refusal 24 0 0 0
+  reader-not-offered o = reader-order-picks _ (RefusesBoth.notOffered o refl)
+
+  pub reader-not-offered-exactly : (a .number ≡ 24) ↔ (isOffered c ≡ false)
+  reader-not-offered-exactly = (given-twenty-four called, λ o. rw (reader-not-offered o))
+
   -- Demand 3, whatever document and buffer come with the type: it is refused as ambiguous exactly when some content model is.
 
-  pub reader-ambiguous-exactly : (a .number ≡ 9) ↔ (BothLegible s d × (es : List Element) × (typeFile s ≡ got es) × SomeAmbiguous s es)
+  pub reader-ambiguous-exactly : (a .number ≡ 9) ↔ (BothLegible c s d × (es : List Element) × (typeFile c s ≡ got es) × SomeAmbiguous s es)
   reader-ambiguous-exactly = (
     λ h. let (i, es, r, f) = given-nine called h in (i, es, r, first-model f),
-    λ (i, es, r, (g, ps, (e, n, m, c), x)). given-faulty called i r (λ u. not-ambiguous s g ps u m c x),
+    λ (i, es, r, (g, ps, (e, n, m, b), x)). given-faulty called i r (λ u. not-ambiguous s g ps u m b x),
   )
 
-  pub reader-ambiguous-named : a .number ≡ 9 → NamesFirst s a
-  reader-ambiguous-named h = let (i, es, r, f) = given-nine called h in names-first s a es r f
+  pub reader-ambiguous-named : a .number ≡ 9 → NamesFirst c s a
+  reader-ambiguous-named h = let (i, es, r, f) = given-nine called h in names-first c s a es r f
 
   -- Else names alone decide places, also where the document is refused.
-  pub reader-names-decide : BothLegible s d → (a .number ≡ 9 → ⊥) → (es : List Element) → typeFile s ≡ got es → NamesDecide s es
-  reader-names-decide i h es r g ps (e, n, m, c) = names-alone s g ps (given-fair called i r h) m c
+  pub reader-names-decide : BothLegible c s d → (a .number ≡ 9 → ⊥) → (es : List Element) → typeFile c s ≡ got es → NamesDecide s es
+  reader-names-decide i h es r g ps (e, n, m, b) = names-alone s g ps (given-fair called i r h) m b
 
 -- Demand 3, across the calls: the judge, lent `before`, and the reader, lent `other`, are of one mind on the type.
-module _ (l m : Lent) (s d before other : List ℕ) (a b : Answer) (after left : List ℕ) (judged : Judged l s before a after) (kept : ReadAs m s d other b left) where
-  same-answer : BothLegible s d → 1 ≤ a .number → a .number ≤ 9 → a ≡ b
-  same-answer i h k = sym (reader-order-picks m s d other b left kept a (type-refused i (refused-exactly l s before a after judged .0 (λ z. omega arith)) k))
+module _ (l m : Lent) (c : Settings) (s d before other : List ℕ) (a b : Answer) (after left : List ℕ) (judged : Judged l c s before a after) (kept : ReadAs m c s d other b left) where
+  same-answer : BothLegible c s d → 1 ≤ a .number → a .number ≤ 9 → a ≡ b
+  same-answer i h k = sym (reader-order-picks m c s d other b left kept a (type-refused i (refused-exactly l c s before a after judged .0 (λ z. omega arith)) k))
 
-  same-nine : BothLegible s d → b .number ≡ 9 → a .number ≡ 9
+  same-nine : BothLegible c s d → b .number ≡ 9 → a .number ≡ 9
   same-nine i h =
-      let (j, es, r, x) = reader-ambiguous-exactly m s d other b left kept .0 h in
-      ambiguous-exactly l s before a after judged .1 (i .type, es, r, x)
+      let (j, es, r, x) = reader-ambiguous-exactly m c s d other b left kept .0 h in
+      ambiguous-exactly l c s before a after judged .1 (i .type, es, r, x)
 
-  pub same-verdict : BothLegible s d → SameVerdict a b
+  pub same-verdict : BothLegible c s d → SameVerdict a b
   same-verdict i = record { ambiguous = (λ h. rw (same-answer i (omega arith) (omega arith)) at h, same-nine i); same = same-answer i }

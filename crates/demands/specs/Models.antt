@@ -5,6 +5,7 @@ use mathlib.Core.Logic.{_⊎_, inl, inr}
 use mathlib.Core.List.{List, [], _∷_, _++_, List·Memᴰ, List·Memᴰ·head, List·Memᴰ·tail}
 use native.Mathlib.Omega.{arith}
 use lib.ListN.{length}
+use Rattle.rules.specs.Settings.{Settings}
 use Rattle.rules.specs.Reading.{got}
 use Rattle.rules.specs.Walk.{Group}
 use Rattle.rules.specs.Ambiguity.{PairAtFault}
@@ -24,23 +25,23 @@ use Rattle.answer_laws.specs.Judge.{stands-model, model-exactly, not-ambiguous}
 abbrev pub PlacesCounted : Element → Type 0
 PlacesCounted e = Built Counted (e .content)
 
-module _ (s : List ℕ) where
-  counted-more : (es : List Element) (e : Element) → All PlacesCounted es → Declares s es e → All PlacesCounted (es ++ e ∷ [])
-  counted-more es e a d = all-snoc a (got-so (content-read s counted-builds (d .before) (d .begun)) (d .contentRead) .built)
+module _ (c : Settings) (s : List ℕ) where
+  counted-more : (es : List Element) (e : Element) → All PlacesCounted es → Declares c s es e → All PlacesCounted (es ++ e ∷ [])
+  counted-more es e a d = all-snoc a (got-so (content-read c s counted-builds (d .before) (d .begun)) (d .contentRead) .built)
 
-  pub typeFile-counted : (es : List Element) → typeFile s ≡ got es → All PlacesCounted es
-  typeFile-counted es e = got-so (typeFile-holds s (All PlacesCounted) counted-more none) e .1
+  pub typeFile-counted : (es : List Element) → typeFile c s ≡ got es → All PlacesCounted es
+  typeFile-counted es e = got-so (typeFile-holds c s (All PlacesCounted) counted-more none) e .1
 
-  model-counted : (es : List Element) → typeFile s ≡ got es → (g : Group) (ps : List Place) → ModelOf es g ps → Counted [] g ps
-  model-counted es r g ps (e, n, m, c) = subst (Built Counted) c (all-mem (typeFile-counted es r) m)
+  model-counted : (es : List Element) → typeFile c s ≡ got es → (g : Group) (ps : List Place) → ModelOf es g ps → Counted [] g ps
+  model-counted es r g ps (e, n, m, b) = subst (Built Counted) b (all-mem (typeFile-counted es r) m)
 
   -- So are those of a pair at fault.
-  pub pair-in : (es : List Element) → typeFile s ≡ got es → (g : Group) (ps : List Place) → ModelOf es g ps
+  pub pair-in : (es : List Element) → typeFile c s ≡ got es → (g : Group) (ps : List Place) → ModelOf es g ps
       → (p q : ℕ) → PairAtFault (samePlace s ps) g p q → (1 ≤ p) × (q ≤ length ps)
   pair-in es r g ps m p q f =
-      let c = model-counted es r g ps m in
-      let (i, j, x) = pair-clash (samePlace s ps) g (c .numbered) p q f in
-      omega (arith, c .counted)
+      let x = model-counted es r g ps m in
+      let (i, j, y) = pair-clash (samePlace s ps) g (x .numbered) p q f in
+      omega (arith, x .counted)
 
 -- The first ambiguous model, and what stands before and behind it.
 
@@ -55,12 +56,12 @@ parted (later {e} u f) =
     let (front, x, rest, z, v, w) = parted f in
     (e ∷ front, x, rest, ap (λ (l : List Element). e ∷ l) z, (u, v), w)
 
-pub names-first : (s : List ℕ) (a : Answer) (es : List Element) → typeFile s ≡ got es → FirstAmbiguous s (a .position) (a .first) (a .second) es → NamesFirst s a
-names-first s a es r f =
+pub names-first : (c : Settings) (s : List ℕ) (a : Answer) (es : List Element) → typeFile c s ≡ got es → FirstAmbiguous s (a .position) (a .first) (a .second) es → NamesFirst c s a
+names-first c s a es r f =
     let (front, e, rest, z, u, w) = parted f in
-    let (g, ps, n, c, x, at) = stands-model s (e .content) (a .position) (a .first) (a .second) w in
-    let whole : typeFile s ≡ got (front ++ e ∷ rest) = r ∙ ap got z in
-    let (i, j) = pair-in s (front ++ e ∷ rest) whole g ps (e, n, member front e rest, c) (a .first) (a .second) (x .0) in
+    let (g, ps, n, is, x, at) = stands-model s (e .content) (a .position) (a .first) (a .second) w in
+    let whole : typeFile c s ≡ got (front ++ e ∷ rest) = r ∙ ap got z in
+    let (i, j) = pair-in c s (front ++ e ∷ rest) whole g ps (e, n, member front e rest, is) (a .first) (a .second) (x .0) in
     record {
       earlier = front;
       element = e;
@@ -70,7 +71,7 @@ names-first s a es r f =
       group = g;
       places = ps;
       tokens = n;
-      content = c;
+      content = is;
       ambiguous = model-exactly s g ps .1 (a .first, a .second, x .0);
       pair = x;
       from-one = i;

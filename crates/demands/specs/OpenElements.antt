@@ -11,6 +11,7 @@ use contract.Lifetimes.{Lfts}
 use denote.Ref.{now}
 use denote.Triple.Clauses.{AtExit}
 use borrow.Fn.World.{ArgsD}
+use Rattle.rules.specs.Settings.{Settings}
 use Rattle.rules.specs.Reading.{Reading, got}
 use Rattle.rules.specs.Walk.{Group}
 use Rattle.rules.specs.TypeFile.{Place, model, Element}
@@ -118,10 +119,10 @@ moment-marks es z o m = (m .marks .current .element, λ g ps n e. m .marks .curr
 pub moment-marks-around : (es : List Element) (z : State) (o : Open) → Moment es z o → AllSay es (o .around) (o .count) (z .around)
 moment-marks-around es z o m = m .marks .around
 
-pub first-moment : (s : List ℕ) (es : List Element) → Accepts s es → Moment es nothingOpen fresh
-first-moment = moment-first
+pub first-moment : (c : Settings) (s : List ℕ) (es : List Element) → Accepts c s es → Moment es nothingOpen fresh
+first-moment c = moment-first
 
-module _ (s : List ℕ) (es : List Element) (accepted : Accepts s es) (D : Decisions) (means : Means s es D) (rows : List ℕ) (said : Rows es rows) where
+module _ (c : Settings) (s : List ℕ) (es : List Element) (accepted : Accepts c s es) (D : Decisions) (means : Means s es D) (rows : List ℕ) (said : Rows es rows) where
   pub each-act : (z y : State) (o : Open) → Moment es z o → (a : Act s es D z y) → Few y → Moment es y (done s es D rows a o)
   each-act z y o m a few = moment-act s es accepted D means rows said m a few
 
@@ -132,79 +133,79 @@ module _ (s : List ℕ) (es : List Element) (accepted : Accepts s es) (D : Decis
 
 -- `new`: nothing is open yet.
 pub new-moment : (κs : Lfts 0) (a : ArgsD new.signature κs) (r : Open) (e : AtExit new.ended κs) → new-reads.Learnt κs a r e
-    → (s : List ℕ) (es : List Element) → Accepts s es → Moment es nothingOpen r
-new-moment κs a r e made s es accepted = subst (Moment es nothingOpen) (sym made) (moment-first s es accepted)
+    → (c : Settings) (s : List ℕ) (es : List Element) → Accepts c s es → Moment es nothingOpen r
+new-moment κs a r e made c s es accepted = subst (Moment es nothingOpen) (sym made) (moment-first s es accepted)
 
 -- `take`, by the rows of the type, of the place as which a start tag or a data byte fits: that place is taken in the rules' state.
 pub take-fitting : (κs : Lfts 1) (a : ArgsD take.signature κs) (r : Open) (e : AtExit take.ended κs) → take-reads.Learnt κs a r e
-    → (s : List ℕ) (es : List Element) → Accepts s es → (D : Decisions) → Means s es D → Rows es (now (a .1 .0))
+    → (c : Settings) (s : List ℕ) (es : List Element) → Accepts c s es → (D : Decisions) → Means s es D → Rows es (now (a .1 .0))
     → let o = a .0 in
     let place = a .1 .1 .0 in
     (z : State) → Moment es z o → (t : Token) → place ≡ fitting s es D (z .current) t → 1 ≤ place → Moment es (takeToken s es D t z) r
-take-fitting κs a r e made s es accepted D means said z m t same some =
+take-fitting κs a r e made c s es accepted D means said z m t same some =
     subst (Moment es _) (sym (made ∙ ap (λ (p : ℕ). took (now (a .1 .0)) p (a .0)) same))
     (moment-took s es accepted D means (now (a .1 .0)) said z (a .0) m (fits t (omega (arith, same))))
 
 -- `take` of the required place, which is kept with the current element: it is the place that the rules require, and is taken in their state.
 pub take-required : (κs : Lfts 1) (a : ArgsD take.signature κs) (r : Open) (e : AtExit take.ended κs) → take-reads.Learnt κs a r e
-    → (s : List ℕ) (es : List Element) → Accepts s es → (D : Decisions) → Means s es D → Rows es (now (a .1 .0))
+    → (c : Settings) (s : List ℕ) (es : List Element) → Accepts c s es → (D : Decisions) → Means s es D → Rows es (now (a .1 .0))
     → let o = a .0 in
     let place = a .1 .1 .0 in
     (z : State) → Moment es z o → place ≡ o .required → 1 ≤ place → Moment es (takePlace (requiredPlace s es D (z .current)) z) r
-take-required κs a r e made s es accepted D means said z m same some =
+take-required κs a r e made c s es accepted D means said z m same some =
     let kept = same ∙ sym (required-kept s es accepted D means z (a .0) m) in
     subst (Moment es _) (sym (made ∙ ap (λ (p : ℕ). took (now (a .1 .0)) p (a .0)) kept))
     (moment-took s es accepted D means (now (a .1 .0)) said z (a .0) m (required (omega (arith, kept))))
 
 -- `start` of an element that has a model: it is entered in the rules' state.
 pub start-moment : (κs : Lfts 1) (a : ArgsD start.signature κs) (r : Open) (e : AtExit start.ended κs) → start-reads.Asked κs a → start-reads.Learnt κs a r e
-    → (s : List ℕ) (es : List Element) → Accepts s es → Rows es (now (a .1 .0))
+    → (c : Settings) (s : List ℕ) (es : List Element) → Accepts c s es → Rows es (now (a .1 .0))
     → let o = a .0 in
     let k = a .1 .1 .0 in
     (z : State) → Moment es z o → Declared es k → hasModel (contentOf es k) ≡ true → Moment es (enter k z) r
-start-moment κs a r e asked made s es accepted said z m declared has =
+start-moment κs a r e asked made c s es accepted said z m declared has =
     subst (Moment es _) (sym made) (moment-entered s es accepted (now (a .1 .0)) said z (a .0) m (a .1 .1 .0) declared has (asked .1))
 
 -- `infer_end`: the method asks for the mark, so that the content is complete in the rules too. The parent u of the current element is the current one again,
 -- with us around it, and the end is noted. So it is of each end that a start tag, data, an end tag or the document's end infers.
 pub infer-end-moment : (κs : Lfts 0) (a : ArgsD infer-end.signature κs) (r : Open) (e : AtExit infer-end.ended κs) → infer-end-reads.Asked κs a → infer-end-reads.Learnt κs a r e
-    → (s : List ℕ) (es : List Element) → Accepts s es → (D : Decisions) → Means s es D → (z : State) → Moment es z (a .0) → (at : ℕ)
+    → (c : Settings) (s : List ℕ) (es : List Element) → Accepts c s es → (D : Decisions) → Means s es D → (z : State) → Moment es z (a .0) → (at : ℕ)
     → (isComplete s es D (z .current) ≡ true)
     × (u : rules.Open) × (us : List rules.Open) × (z .around ≡ u ∷ us)
     × Moment es (record { current = u; around = us; events = z .events ++ endInferred (z .current .number) at ∷ [] }) r
-infer-end-moment κs a r e asked made s es accepted D means z m at =
+infer-end-moment κs a r e asked made c s es accepted D means z m at =
     let (u, us, parent) = moment-parent s es accepted z (a .0) m (asked .1) in
     (complete-kept s es accepted D means z (a .0) m ∙ asked .2, u, us, parent, subst (Moment es _) (sym made) (moment-ended s es accepted z (a .0) m u us _ parent))
 
 -- `end`, of an end tag, likewise.
 pub end-moment : (κs : Lfts 0) (a : ArgsD end.signature κs) (r : Open) (e : AtExit end.ended κs) → end-reads.Asked κs a → end-reads.Learnt κs a r e
-    → (s : List ℕ) (es : List Element) → Accepts s es → (z : State) → Moment es z (a .0) → (at after : ℕ)
+    → (c : Settings) (s : List ℕ) (es : List Element) → Accepts c s es → (z : State) → Moment es z (a .0) → (at after : ℕ)
     → (u : rules.Open) × (us : List rules.Open) × (z .around ≡ u ∷ us)
     × Moment es (record { current = u; around = us; events = z .events ++ endWritten (z .current .number) at after ∷ [] }) r
-end-moment κs a r e asked made s es accepted z m at after =
+end-moment κs a r e asked made c s es accepted z m at after =
     let (u, us, parent) = moment-parent s es accepted z (a .0) m (asked .1) in
     (u, us, parent, subst (Moment es _) (sym made) (moment-ended s es accepted z (a .0) m u us _ parent))
 
 -- To note events, which no method does, leaves a moment a moment.
-pub noted-moment : (s : List ℕ) (es : List Element) → Accepts s es → (z : State) (o : Open) → Moment es z o → (ev : List Event)
+pub noted-moment : (c : Settings) (s : List ℕ) (es : List Element) → Accepts c s es → (z : State) (o : Open) → Moment es z o → (ev : List Event)
     → Moment es (record { current = z .current; around = z .around; events = ev }) o
-noted-moment s es accepted z o m ev = moment-noted s es accepted z o m ev
+noted-moment c s es accepted z o m ev = moment-noted s es accepted z o m ev
 
 -- `Beside` leads from one moment to another, act by act.
-module _ (s d : List ℕ) (es : List Element) (rows : List ℕ) (said : Rows es rows) where
+module _ (c : Settings) (s d : List ℕ) (es : List Element) (rows : List ℕ) (said : Rows es rows) where
   -- All moments before any position that reading comes to between tokens, those within each token too.
-  pub every-moment : (r : Reading (List Event)) (x : Reads s d es r) (at : ℕ) (z : State) → Passes s es (x .decisions) d at z → (o : Open) × Beside s es (x .decisions) rows nothingOpen fresh z o
+  pub every-moment : (r : Reading (List Event)) (x : Reads c s d es r) (at : ℕ) (z : State) → Passes c s es (x .decisions) d at z → (o : Open) × Beside s es (x .decisions) rows nothingOpen fresh z o
   every-moment r x at z p = passes-beside s es (x .accepted) (x .decisions) (x .means) rows said d at z p
 
   -- All moments of a document that is read to its end, where nothing is open any more.
-  pub every-moment-read : (ev : List Event) (x : Reads s d es (got ev))
+  pub every-moment-read : (ev : List Event) (x : Reads c s d es (got ev))
       → (z : State) × (o : Open) × Beside s es (x .decisions) rows nothingOpen fresh z o × (o .count ≡ 0) × (isComplete s es (x .decisions) (z .current) ≡ true) × (z .events ≡ ev)
   every-moment-read ev x = document-beside s es (x .accepted) (x .decisions) (x .means) rows said d ev (x .reading)
 
   -- What the program has between tokens is what the acts lead to: `Ranged`, `Stands` and `Reaches` are what its loop keeps (`Going` of document_events).
   -- The state that is handed from token to token is at a moment itself (`there` of `Leads`).
-  pub between-tokens : Accepts s es → (at : ℕ) (o : Open) (ev : List Event) → Ranged o → Stands es o → Reaches s es d at (stateOf o ev)
-      → (z : State) × Passes s es (decided s es) d at z × Leads s es (decided s es) rows nothingOpen fresh z o
+  pub between-tokens : Accepts c s es → (at : ℕ) (o : Open) (ev : List Event) → Ranged o → Stands es o → Reaches c s es d at (stateOf o ev)
+      → (z : State) × Passes c s es (decided s es) d at z × Leads s es (decided s es) rows nothingOpen fresh z o
   between-tokens accepted at o ev g h r = reaches-leads s es accepted rows said d at o ev g h r
 
 -- Within a start tag that is not refused: the ends that it infers, the starts that it infers, then itself, with a moment before and after each. x is the
@@ -232,23 +233,23 @@ within-data κs a r e settles s es tables nothing done z m = data-leads s es (ta
 
 -- Within an end tag that is not refused: the ends that it infers, then itself. The rows are those of the type, which an end tag does not ask.
 pub within-end-tag : (κs : Lfts 3) (a : ArgsD end-tag.signature κs) (r : Outcome) (e : AtExit end-tag.ended κs) → end-tag-reads.Learnt κs a r e
-    → (s : List ℕ) (es : List Element) (rows : List ℕ) → Accepts s es → Rows es rows → Facts s es (now (a .0))
+    → (c : Settings) (s : List ℕ) (es : List Element) (rows : List ℕ) → Accepts c s es → Rows es rows → Facts s es (now (a .0))
     → let o = a .1 .0 in
     let x = a .1 .1 .0 in
     let at = a .1 .1 .1 .0 in
     let after = a .1 .1 .1 .1 .0 in
     r .number ≡ 0 → (z : State) → Moment es z o
     → (y : State) × (endElement s es (decided s es) x at after z ≡ got y) × Leads s es (decided s es) rows z o y (r .open)
-within-end-tag κs a r e tagged s es rows accepted said facts-say done z m = tagged-leads s es accepted rows said facts-say tagged done z m
+within-end-tag κs a r e tagged c s es rows accepted said facts-say done z m = tagged-leads s es accepted rows said facts-say tagged done z m
 
 -- Within the document's end that is not refused: the ends that it infers, until nothing is open and the document itself is complete, with the events that
 -- it brings.
 pub within-end : (κs : Lfts 3) (a : ArgsD finish.signature κs) (r : Outcome) (e : AtExit finish.ended κs) (h : finish-reads.Learnt κs a r e)
-    → (s : List ℕ) (es : List Element) (rows : List ℕ) → Accepts s es → Rows es rows → Facts s es (now (a .0))
+    → (c : Settings) (s : List ℕ) (es : List Element) (rows : List ℕ) → Accepts c s es → Rows es rows → Facts s es (now (a .0))
     → let o = a .1 .0 in
     r .number ≡ 0 → (z : State) → Moment es z o
     → (y : State) × (q : Open) × Beside s es (decided s es) rows z o y q × (q .count ≡ 0) × (isComplete s es (decided s es) (y .current) ≡ true) × (y .events ≡ z .events ++ h .brings .events)
-within-end κs a r e finished s es rows accepted said facts-say none z m = finished-beside s es accepted rows said facts-say finished none z m
+within-end κs a r e finished c s es rows accepted said facts-say none z m = finished-beside s es accepted rows said facts-say finished none z m
 
 -- The steps within a token, "At every moment both must equal what 01's definition says of the places taken": each by the contract of the function that takes
 -- it, from the moment before it to the moment after it, though the token may still be refused later.
@@ -309,10 +310,10 @@ within-data-place κs a r e places s es tables nothing done z m right = places-d
 -- Within an end tag of x, or the document's end, the ends that are inferred until the current element is x or nothing is around it (`end_until` of
 -- left_out_ends), where none of them is refused. `infer-end-moment` has the moment after each.
 pub within-left-out-ends : (κs : Lfts 3) (a : ArgsD end-until.signature κs) (r : Outcome) (e : AtExit end-until.ended κs) → end-until-reads.Learnt κs a r e
-    → (s : List ℕ) (es : List Element) (rows : List ℕ) → Accepts s es → Rows es rows → Facts s es (now (a .0))
+    → (c : Settings) (s : List ℕ) (es : List Element) (rows : List ℕ) → Accepts c s es → Rows es rows → Facts s es (now (a .0))
     → let o = a .1 .0 in
     let x = a .1 .1 .0 in
     let at = a .1 .1 .1 .0 in
     r .number ≡ 0 → (z : State) → Moment es z o
     → (y : State) × (inferEnds s es (decided s es) x at (z .around) (z .current) (z .events) ≡ got y) × Leads s es (decided s es) rows z o y (r .open)
-within-left-out-ends κs a r e until s es rows accepted said facts-say done z m = until-leads s es accepted rows said facts-say until done z m
+within-left-out-ends κs a r e until c s es rows accepted said facts-say done z m = until-leads s es accepted rows said facts-say until done z m

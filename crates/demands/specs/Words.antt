@@ -4,6 +4,7 @@ use mathlib.Core.Path.{_≡_}
 use mathlib.Core.Logic.{_⊎_, _↔_}
 use mathlib.Core.List.{List, _∷_, _++_, List·Memᴰ}
 use lib.ListN.{length}
+use Rattle.rules.specs.Settings.{Settings}
 use Rattle.rules.specs.Lent.{Lent, standing, room, filledWith, zeroed}
 use Rattle.rules.specs.Reading.{got}
 use Rattle.rules.specs.Walk.{Group, Begins}
@@ -15,10 +16,10 @@ use Rattle.rules.specs.Reader.{eventNumbers, Reads}
 
 -- The type judge
 
--- Demand 1: a refusal gives a number, which input and a byte position. "Input 1 is the type"; "the two places are 0 except under 9";
+-- Demand 1: a refusal gives a number, which input and a byte position; 24 is paper 02's, request six. "Input 1 is the type"; "the two places are 0 except under 9";
 -- "on refusal the whole buffer is zero and the count is 0".
 pub record Refusal (s before : List ℕ) (a : Answer) (after : List ℕ) : Type 0 where
-  pub number : ((1 ≤ a .number) × (a .number ≤ 9)) ⊎ (a .number ≡ 19)
+  pub number : ((1 ≤ a .number) × (a .number ≤ 9)) ⊎ ((a .number ≡ 19) ⊎ (a .number ≡ 24))
   pub input : a .input ≡ 1
   pub position : a .position ≤ length s
   pub places : (a .number ≡ 9 → ⊥) → (a .first ≡ 0) × (a .second ≡ 0)
@@ -26,9 +27,9 @@ pub record Refusal (s before : List ℕ) (a : Answer) (after : List ℕ) : Type 
   pub zeroed : after ≡ zeroed before
 
 -- "An accepted call gives 0 for number, input and position, and how many records it wrote": those of the elements that the rules accept.
-pub record Acceptance (l : Lent) (s before : List ℕ) (a : Answer) (after : List ℕ) : Type 0 where
+pub record Acceptance (l : Lent) (c : Settings) (s before : List ℕ) (a : Answer) (after : List ℕ) : Type 0 where
   pub elements : List Element
-  pub accepted : Accepts s elements
+  pub accepted : Accepts c s elements
   pub fits : 6 * length elements ≤ room l before
   pub answer : a ≡ acceptance (length elements)
   pub written : after ≡ filledWith (standing l (records elements)) before
@@ -46,11 +47,11 @@ SomeAmbiguous s es = (g : Group) × (ps : List Place) × ModelOf es g ps × Ambi
 -- every other such pair there has a larger first place, or the same first place and a larger second." The elements before that of the model
 -- have no such model. Both places are places of the model, which are numbered from 1 (`samePlace` reads place 0 as place 1), and the refusal
 -- stands where the second does.
-pub record NamesFirst (s : List ℕ) (a : Answer) : Type 0 where
+pub record NamesFirst (c : Settings) (s : List ℕ) (a : Answer) : Type 0 where
   pub earlier : List Element
   pub element : Element
   pub later : List Element
-  pub read : typeFile s ≡ got (earlier ++ element ∷ later)
+  pub read : typeFile c s ≡ got (earlier ++ element ∷ later)
   pub unambiguous : SomeAmbiguous s earlier → ⊥
   pub group : Group
   pub places : List Place
@@ -71,7 +72,7 @@ NamesDecide s es = (g : Group) (ps : List Place) → ModelOf es g ps → (u v : 
 
 -- "Input 1 is the type, 2 the document": each has its numbers, and the position stands in it.
 abbrev pub InType : (s : List ℕ) → Answer → Type 0
-InType s a = (a .input ≡ 1) × (a .position ≤ length s) × (1 ≤ a .number) × (a .number ≤ 9)
+InType s a = (a .input ≡ 1) × (a .position ≤ length s) × (((1 ≤ a .number) × (a .number ≤ 9)) ⊎ (a .number ≡ 24))
 
 abbrev pub InDocument : (d : List ℕ) → Answer → Type 0
 InDocument d a = (a .input ≡ 2) × (a .position ≤ length d) × (((1 ≤ a .number) × (a .number ≤ 5)) ⊎ ((10 ≤ a .number) × (a .number ≤ 19)))
@@ -84,10 +85,10 @@ pub record ReaderRefusal (s d before : List ℕ) (a : Answer) (after : List ℕ)
   pub zeroed : after ≡ zeroed before
 
 -- An accepted call gives the events of the one reading that the rules have of the document, and how many.
-pub record ReaderAcceptance (l : Lent) (s d before : List ℕ) (a : Answer) (after : List ℕ) : Type 0 where
+pub record ReaderAcceptance (l : Lent) (c : Settings) (s d before : List ℕ) (a : Answer) (after : List ℕ) : Type 0 where
   pub elements : List Element
   pub events : List Event
-  pub read : Reads s d elements (got events)
+  pub read : Reads c s d elements (got events)
   pub fits : 4 * length events ≤ room l before
   pub answer : a ≡ acceptance (length events)
   pub written : after ≡ filledWith (standing l (eventNumbers events)) before

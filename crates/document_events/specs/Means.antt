@@ -3,6 +3,7 @@ use Prim.Native.Nat.{ℕ, _*_, _≤_, _<_}
 use mathlib.Core.Path.{_≡_}
 use mathlib.Core.List.{List, _++_}
 use lib.ListN.{length}
+use Rattle.rules.specs.Settings.{Settings}
 use Rattle.rules.specs.Reading.{refused, got}
 use Rattle.rules.specs.TypeFile.{Element}
 use Rattle.rules.specs.Lent.{bytesOf}
@@ -20,34 +21,34 @@ use Rattle.open_elements.specs.Means.{stateOf, Ranged, Stands}
 use Rattle.document_events.specs.declared.Counted.{Counted}
 use Rattle.document_events.specs.declared.Counted.the-variants as counted
 
--- The document d under the elements es is refused, or gives so many events, which both buffers have got as far as they fit.
-abbrev pub EventsOf : (s : List ℕ) (es : List Element) (d numbers numbersAfter bytes bytesAfter : List ℕ) → Counted → Type 0
-EventsOf s es d numbers numbersAfter bytes bytesAfter (counted.Events n) =
-    (ev : List Event) × (document s es (decided s es) d ≡ got ev) × (n ≡ length ev) × Written numbers numbersAfter (eventNumbers ev) ×
+-- The document d under the settings c and the elements es is refused, or gives so many events, which both buffers have got as far as they fit.
+abbrev pub EventsOf : Settings → (s : List ℕ) (es : List Element) (d numbers numbersAfter bytes bytesAfter : List ℕ) → Counted → Type 0
+EventsOf c s es d numbers numbersAfter bytes bytesAfter (counted.Events n) =
+    (ev : List Event) × (document c s es (decided s es) d ≡ got ev) × (n ≡ length ev) × Written numbers numbersAfter (eventNumbers ev) ×
     Written bytes bytesAfter (bytesOf (eventNumbers ev)) × (n < 4294967296)
-EventsOf s es d numbers numbersAfter bytes bytesAfter (counted.Refused f) = document s es (decided s es) d ≡ refused (f .number) (f .at)
+EventsOf c s es d numbers numbersAfter bytes bytesAfter (counted.Refused f) = document c s es (decided s es) d ≡ refused (f .number) (f .at)
 
 -- What a token that stands at `at`, up to `after`, has come to, with these events of its own behind those before: reading goes on behind it,
 -- or the document is refused there.
-pub record Turned (s : List ℕ) (es : List Element) (d : List ℕ) (at after : ℕ) (before events : List Event) (r : Outcome) : Type 0 where
-  pub reaches : r .number ≡ 0 → Reaches s es d after (stateOf (r .open) (before ++ events))
+pub record Turned (c : Settings) (s : List ℕ) (es : List Element) (d : List ℕ) (at after : ℕ) (before events : List Event) (r : Outcome) : Type 0 where
+  pub reaches : r .number ≡ 0 → Reaches c s es d after (stateOf (r .open) (before ++ events))
   pub stands : r .number ≡ 0 → Stands es (r .open)
-  pub refuses : 1 ≤ r .number → document s es (decided s es) d ≡ refused (r .number) at
+  pub refuses : 1 ≤ r .number → document c s es (decided s es) d ≡ refused (r .number) at
 
 -- Reading has come to `at` with these elements open, and the events so far are in the buffers as far as they fit.
-pub record Comes (s : List ℕ) (es : List Element) (d numbers numbersNow bytes bytesNow : List ℕ) (n at : ℕ) (o : Open) : Type 0 where
+pub record Comes (c : Settings) (s : List ℕ) (es : List Element) (d numbers numbersNow bytes bytesNow : List ℕ) (n at : ℕ) (o : Open) : Type 0 where
   pub events : List Event
-  pub reaches : Reaches s es d at (stateOf o events)
+  pub reaches : Reaches c s es d at (stateOf o events)
   pub stands : Stands es o
   pub counted : n ≡ length events
   pub holds : Holds numbers bytes numbersNow bytesNow events
 
 -- The same for any elements of which the index and the tables are. Whatever these hold, the numbers are in range: a token takes at least a
 -- byte and brings at most 50 events.
-pub record Going (s elements index rows places facts d numbers numbersNow bytes bytesNow : List ℕ) (n at : ℕ) (o : Open) : Type 0 where
+pub record Going (c : Settings) (s elements index rows places facts d numbers numbersNow bytes bytesNow : List ℕ) (n at : ℕ) (o : Open) : Type 0 where
   pub inside : at ≤ length d
   pub few : n ≤ 50 * at
   pub ranged : Ranged o
   pub numbers-same : length numbersNow ≡ length numbers
   pub bytes-same : length bytesNow ≡ length bytes
-  pub any : (es : List Element) → Indexed s es elements index → Tables s es rows places facts → Comes s es d numbers numbersNow bytes bytesNow n at o
+  pub any : (es : List Element) → Indexed s es elements index → Tables s es rows places facts → Comes c s es d numbers numbersNow bytes bytesNow n at o

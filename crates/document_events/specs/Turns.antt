@@ -4,6 +4,7 @@ use mathlib.Core.Path.{_≡_, refl, sym, _∙_, ap}
 use mathlib.Core.List.{List, [], _++_}
 use native.Mathlib.Omega.{arith}
 use lib.ListN.{length, length-append}
+use Rattle.rules.specs.Settings.{Settings}
 use Rattle.rules.specs.Reading.{Reading, refused, got}
 use Rattle.rules.specs.TypeFile.{Element}
 use Rattle.rules.specs.Lent.{bytesOf}
@@ -60,10 +61,10 @@ module _ (at : ℕ) (r : Outcome) (ev : List Event) {x : Reading State} (e : out
   outcome-refused : 1 ≤ r .number → x ≡ refused (r .number) at
   outcome-refused i = sym e ∙ outcomeOf-refused at (r .number) (stateOf (r .open) ev) i
 
-module _ (s : List ℕ) (es : List Element) (d : List ℕ) (at : ℕ) (o : Open) (before : List Event) (h : at < length d) (reach : Reaches s es d at (stateOf o before)) (events : List Event) (r : Outcome) (stands : r .number ≡ 0 → Stands es (r .open)) (x after : ℕ) where
+module _ (c : Settings) (s : List ℕ) (es : List Element) (d : List ℕ) (at : ℕ) (o : Open) (before : List Event) (h : at < length d) (reach : Reaches c s es d at (stateOf o before)) (events : List Event) (r : Outcome) (stands : r .number ≡ 0 → Stands es (r .open)) (x after : ℕ) where
   -- An end tag.
-  turned-end : Finds s es d (o .element) (o .place) at (found.End x after)
-      → outcomeOf at (r .number) (stateOf (r .open) (before ++ events)) ≡ shortly (endElement s es (decided s es) x at after (stateOf o before)) → Turned s es d at after before events r
+  turned-end : Finds c s es d (o .element) (o .place) at (found.End x after)
+      → outcomeOf at (r .number) (stateOf (r .open) (before ++ events)) ≡ shortly (endElement s es (decided s es) x at after (stateOf o before)) → Turned c s es d at after before events r
   turned-end (n, i) e =
       record {
         reaches = λ z. reaches-end-tag reach h (n .there) x (n .number) i (outcome-got at r (before ++ events) e z);
@@ -72,8 +73,8 @@ module _ (s : List ℕ) (es : List Element) (d : List ℕ) (at : ℕ) (o : Open)
       }
 
   -- A start tag or a run of data, for 0.
-  turned-token : Accepts s es → ToSettle s es d (o .element) (o .place) at x after
-      → outcomeOf at (r .number) (stateOf (r .open) (before ++ events)) ≡ shortly (takes s es x at after (stateOf o before)) → Turned s es d at after before events r
+  turned-token : {e : Settings} → Accepts e s es → ToSettle c s es d (o .element) (o .place) at x after
+      → outcomeOf at (r .number) (stateOf (r .open) (before ++ events)) ≡ shortly (takes s es x at after (stateOf o before)) → Turned c s es d at after before events r
   turned-token accepted (starts i n) v =
       let e = v ∙ ap shortly (takes-start s es at after (stateOf o before) x i) in
       record {
@@ -91,21 +92,21 @@ module _ (s : List ℕ) (es : List Element) (d : List ℕ) (at : ℕ) (o : Open)
       })
 
 -- The element of a start tag is declared.
-settles-declared : (s : List ℕ) (es : List Element) (d : List ℕ) (e u at x after : ℕ) → ToSettle s es d e u at x after → x ≤ length es
-settles-declared s es d e u at x after (runs z f) = omega arith
-settles-declared s es d e u at x after (starts l n) = omega (arith, n .number, numberOf-range s es d (n .name) (n .size))
+settles-declared : (c : Settings) (s : List ℕ) (es : List Element) (d : List ℕ) (e u at x after : ℕ) → ToSettle c s es d e u at x after → x ≤ length es
+settles-declared c s es d e u at x after (runs z f) = omega arith
+settles-declared c s es d e u at x after (starts l n) = omega (arith, n .number, numberOf-range s es d (n .name) (n .size))
 
 -- What is refused whatever is open.
-refused-unread : (s : List ℕ) (es : List Element) (d : List ℕ) (at : ℕ) (o : Open) (before : List Event) → at < length d → Reaches s es d at (stateOf o before) → (f : Fault) → Finds s es d (o .element) (o .place) at (found.Refused f) → document s es (decided s es) d ≡ refused (f .number) (f .at)
-refused-unread s es d at o before h reach f (malformed e) = refused-piece reach h e
-refused-unread s es d at o before h reach f (undeclaredStart n e k) = rw (e, k) (refused-undeclared-start reach h (n .there) (n .number))
-refused-unread s es d at o before h reach f (undeclaredEnd n e k) = rw (e, k) (refused-undeclared-end reach h (n .there) (n .number))
+refused-unread : (c : Settings) (s : List ℕ) (es : List Element) (d : List ℕ) (at : ℕ) (o : Open) (before : List Event) → at < length d → Reaches c s es d at (stateOf o before) → (f : Fault) → Finds c s es d (o .element) (o .place) at (found.Refused f) → document c s es (decided s es) d ≡ refused (f .number) (f .at)
+refused-unread c s es d at o before h reach f (malformed e) = refused-piece reach h e
+refused-unread c s es d at o before h reach f (undeclaredStart n e k) = rw (e, k) (refused-undeclared-start reach h (n .there) (n .number))
+refused-unread c s es d at o before h reach f (undeclaredEnd n e k) = rw (e, k) (refused-undeclared-end reach h (n .there) (n .number))
 
 -- The loop
 
-pub going-start : (s elements index rows places facts d numbers bytes : List ℕ) {o : Open} → o ≡ fresh → Going s elements index rows places facts d numbers numbers bytes bytes 0 0 o
+pub going-start : (c : Settings) (s elements index rows places facts d numbers bytes : List ℕ) {o : Open} → o ≡ fresh → Going c s elements index rows places facts d numbers numbers bytes bytes 0 0 o
 unfolding eventNumbers bytesOf
-going-start s elements index rows places facts d numbers bytes q =
+going-start c s elements index rows places facts d numbers bytes q =
     rw q (record {
       inside = omega arith;
       few = omega arith;
@@ -115,7 +116,7 @@ going-start s elements index rows places facts d numbers bytes q =
       any = λ es i t.
           record {
             events = [];
-            reaches = reaches-start s es d;
+            reaches = reaches-start c s es d;
             stands = stands-fresh es;
             counted = refl;
             holds = record { numbers-kept = refl; bytes-kept = refl; numbers-hold = written-none numbers; bytes-hold = written-none bytes };
@@ -123,15 +124,15 @@ going-start s elements index rows places facts d numbers bytes q =
     })
 
 -- What piece_at ensures of what stands at `at`.
-abbrev pub PieceSaid : (s elements index rows places facts d : List ℕ) (at : ℕ) → Open → Piece → Type 0
-PieceSaid s elements index rows places facts d at o p =
-    (es : List Element) → Indexed s es elements index → Tables s es rows places facts → InRange es (standing (o .element) (o .place)) → Finds s es d (o .element) (o .place) at p
+abbrev pub PieceSaid : Settings → (s elements index rows places facts d : List ℕ) (at : ℕ) → Open → Piece → Type 0
+PieceSaid c s elements index rows places facts d at o p =
+    (es : List Element) → Indexed s es elements index → Tables s es rows places facts → InRange es (standing (o .element) (o .place)) → Finds c s es d (o .element) (o .place) at p
 
-module _ {s elements index rows places facts d numbers numbersNow bytes bytesNow : List ℕ} {n at : ℕ} {o : Open} (g : Going s elements index rows places facts d numbers numbersNow bytes bytesNow n at o) where
+module _ {c : Settings} {s elements index rows places facts d numbers numbersNow bytes bytesNow : List ℕ} {n at : ℕ} {o : Open} (g : Going c s elements index rows places facts d numbers numbersNow bytes bytesNow n at o) where
   -- A token up to `after` was settled and brought these events, or was refused.
   module _ {after : ℕ} (on : (at < after) × (after ≤ length d)) {r : Outcome} {numbers′ bytes′ : List ℕ} (b : Brings n numbersNow bytesNow r numbers′ bytes′) (few : length (b .events) ≤ 50)
-      (turned : (es : List Element) (i : Indexed s es elements index) (t : Tables s es rows places facts) → Turned s es d at after (g .any es i t .events) (b .events) r) where
-    going-on : r .number ≡ 0 → Going s elements index rows places facts d numbers numbers′ bytes bytes′ (r .events) after (r .open)
+      (turned : (es : List Element) (i : Indexed s es elements index) (t : Tables s es rows places facts) → Turned c s es d at after (g .any es i t .events) (b .events) r) where
+    going-on : r .number ≡ 0 → Going c s elements index rows places facts d numbers numbers′ bytes bytes′ (r .events) after (r .open)
     going-on z =
         record {
           inside = on .1;
@@ -140,28 +141,28 @@ module _ {s elements index rows places facts d numbers numbersNow bytes bytesNow
           numbers-same = b .puts .numbers-kept ∙ g .numbers-same;
           bytes-same = b .puts .bytes-kept ∙ g .bytes-same;
           any = λ es i t.
-              let c = g .any es i t in
+              let came = g .any es i t in
               let u = turned es i t in
               record {
-                events = c .events ++ b .events;
+                events = came .events ++ b .events;
                 reaches = u .reaches z;
                 stands = u .stands z;
-                counted = omega (arith, length-append (c .events) (b .events), c .counted, b .counted);
-                holds = b .puts .behind numbers bytes (c .events) (c .counted) (c .holds);
+                counted = omega (arith, length-append (came .events) (b .events), came .counted, b .counted);
+                holds = b .puts .behind numbers bytes (came .events) (came .counted) (came .holds);
               };
         }
 
-    refuses-there : (r .number ≡ 0 → ⊥) → {answer : Counted} → answer ≡ counted.Refused (record { number = r .number; at = at }) → (es : List Element) → Indexed s es elements index → Tables s es rows places facts → EventsOf s es d numbers numbers′ bytes bytes′ answer
+    refuses-there : (r .number ≡ 0 → ⊥) → {answer : Counted} → answer ≡ counted.Refused (record { number = r .number; at = at }) → (es : List Element) → Indexed s es elements index → Tables s es rows places facts → EventsOf c s es d numbers numbers′ bytes bytes′ answer
     refuses-there z q es i t = rw q (turned es i t .refuses (omega arith))
 
-  module _ (h : at < length d) (p : Piece) (said : PieceSaid s elements index rows places facts d at o p) where
-    finds : (es : List Element) → Indexed s es elements index → Tables s es rows places facts → Finds s es d (o .element) (o .place) at p
+  module _ (h : at < length d) (p : Piece) (said : PieceSaid c s elements index rows places facts d at o p) where
+    finds : (es : List Element) → Indexed s es elements index → Tables s es rows places facts → Finds c s es d (o .element) (o .place) at p
     finds es i t = said es i t (stands-range (g .any es i t .stands))
 
-    pub piece-refuses : {f : Fault} → p ≡ found.Refused f → (es : List Element) → Indexed s es elements index → Tables s es rows places facts → document s es (decided s es) d ≡ refused (f .number) (f .at)
+    pub piece-refuses : {f : Fault} → p ≡ found.Refused f → (es : List Element) → Indexed s es elements index → Tables s es rows places facts → document c s es (decided s es) d ≡ refused (f .number) (f .at)
     piece-refuses {f} q es i t =
-        let c = g .any es i t in
-        refused-unread s es d at o (c .events) h (c .reaches) f (rw q at (finds es i t))
+        let came = g .any es i t in
+        refused-unread c s es d at o (came .events) h (came .reaches) f (rw q at (finds es i t))
 
     module _ (onward : Onward (length d) at p) where
       -- Each moves on within the document.
@@ -175,7 +176,7 @@ module _ {s elements index rows places facts d numbers numbersNow bytes bytesNow
       passed-range q = rw q at onward
 
       -- What is ignored leaves the open elements as they were.
-      pub going-passed : {after : ℕ} → p ≡ found.Passed after → Going s elements index rows places facts d numbers numbersNow bytes bytesNow n after o
+      pub going-passed : {after : ℕ} → p ≡ found.Passed after → Going c s elements index rows places facts d numbers numbersNow bytes bytesNow n after o
       going-passed {after} q =
           let (k, m) = passed-range q in
           record {
@@ -185,11 +186,11 @@ module _ {s elements index rows places facts d numbers numbersNow bytes bytesNow
             numbers-same = g .numbers-same;
             bytes-same = g .bytes-same;
             any = λ es i t.
-                let c = g .any es i t in
-                record { events = c .events; reaches = by-kind es (c .events) (c .reaches) (rw q at (finds es i t)); stands = c .stands; counted = c .counted; holds = c .holds };
+                let came = g .any es i t in
+                record { events = came .events; reaches = by-kind es (came .events) (came .reaches) (rw q at (finds es i t)); stands = came .stands; counted = came .counted; holds = came .holds };
           }
         where
-          by-kind : (es : List Element) (before : List Event) → Reaches s es d at (stateOf o before) → Finds s es d (o .element) (o .place) at (found.Passed after) → Reaches s es d after (stateOf o before)
+          by-kind : (es : List Element) (before : List Event) → Reaches c s es d at (stateOf o before) → Finds c s es d (o .element) (o .place) at (found.Passed after) → Reaches c s es d after (stateOf o before)
           by-kind es before reach (skips e) = reaches-skipped reach h e
           by-kind es before reach (separates e z a) = rw a (reaches-blank reach h e z)
 
@@ -209,30 +210,30 @@ module _ {s elements index rows places facts d numbers numbersNow bytes bytesNow
           abbrev brought : Brings n numbersNow bytesNow r numbers′ bytes′
           brought = record { ranged = t .ranged; small = t .small; events = t .events; puts = t .puts; counted = t .counted }
 
-          settled : (es : List Element) (i : Indexed s es elements index) (u : Tables s es rows places facts) → Turned s es d at after (g .any es i u .events) (t .events) r
+          settled : (es : List Element) (i : Indexed s es elements index) (u : Tables s es rows places facts) → Turned c s es d at after (g .any es i u .events) (t .events) r
           settled es i u =
-              let c = g .any es i u in
-              let f : ToSettle s es d (o .element) (o .place) at x after = rw q at (finds es i u) in
-              let w = t .settles s es u (c .stands) (settles-declared s es d (o .element) (o .place) at x after f) in
-              turned-token s es d at o (c .events) h (c .reaches) (t .events) r (w .stands) x after (u .accepted) f (w .comes (c .events))
+              let came = g .any es i u in
+              let f : ToSettle c s es d (o .element) (o .place) at x after = rw q at (finds es i u) in
+              let w = t .settles s es u (came .stands) (settles-declared c s es d (o .element) (o .place) at x after f) in
+              turned-token c s es d at o (came .events) h (came .reaches) (t .events) r (w .stands) x after (u .accepted) f (w .comes (came .events))
 
-          pub going-token : r .number ≡ 0 → Going s elements index rows places facts d numbers numbers′ bytes bytes′ (r .events) after (r .open)
+          pub going-token : r .number ≡ 0 → Going c s elements index rows places facts d numbers numbers′ bytes bytes′ (r .events) after (r .open)
           going-token = going-on (token-range q) brought (t .few) settled
 
-          pub token-refuses : (r .number ≡ 0 → ⊥) → {answer : Counted} → answer ≡ counted.Refused (record { number = r .number; at = at }) → (es : List Element) → Indexed s es elements index → Tables s es rows places facts → EventsOf s es d numbers numbers′ bytes bytes′ answer
+          pub token-refuses : (r .number ≡ 0 → ⊥) → {answer : Counted} → answer ≡ counted.Refused (record { number = r .number; at = at }) → (es : List Element) → Indexed s es elements index → Tables s es rows places facts → EventsOf c s es d numbers numbers′ bytes bytes′ answer
           token-refuses = refuses-there (token-range q) brought (t .few) settled
 
         -- An end tag.
         module _ (q : p ≡ found.End x after) (t : Tagged facts x at after n o numbersNow bytesNow r numbers′ bytes′) where
-          ended : (es : List Element) (i : Indexed s es elements index) (u : Tables s es rows places facts) → Turned s es d at after (g .any es i u .events) (t .brings .events) r
+          ended : (es : List Element) (i : Indexed s es elements index) (u : Tables s es rows places facts) → Turned c s es d at after (g .any es i u .events) (t .brings .events) r
           ended es i u =
-              let c = g .any es i u in
-              turned-end s es d at o (c .events) h (c .reaches) (t .brings .events) r (t .stands s es (u .facts-say) (c .stands)) x after (rw q at (finds es i u)) (t .closes s es (u .facts-say) (c .stands) (c .events))
+              let came = g .any es i u in
+              turned-end c s es d at o (came .events) h (came .reaches) (t .brings .events) r (t .stands s es (u .facts-say) (came .stands)) x after (rw q at (finds es i u)) (t .closes s es (u .facts-say) (came .stands) (came .events))
 
-          pub going-end : r .number ≡ 0 → Going s elements index rows places facts d numbers numbers′ bytes bytes′ (r .events) after (r .open)
+          pub going-end : r .number ≡ 0 → Going c s elements index rows places facts d numbers numbers′ bytes bytes′ (r .events) after (r .open)
           going-end = going-on (end-range q) (t .brings) (t .few) ended
 
-          pub end-tag-refuses : (r .number ≡ 0 → ⊥) → {answer : Counted} → answer ≡ counted.Refused (record { number = r .number; at = at }) → (es : List Element) → Indexed s es elements index → Tables s es rows places facts → EventsOf s es d numbers numbers′ bytes bytes′ answer
+          pub end-tag-refuses : (r .number ≡ 0 → ⊥) → {answer : Counted} → answer ≡ counted.Refused (record { number = r .number; at = at }) → (es : List Element) → Indexed s es elements index → Tables s es rows places facts → EventsOf c s es d numbers numbers′ bytes bytes′ answer
           end-tag-refuses = refuses-there (end-range q) (t .brings) (t .few) ended
 
   -- All is read.
@@ -244,22 +245,22 @@ module _ {s elements index rows places facts d numbers numbersNow bytes bytesNow
       whole : at ≡ length d
       whole = omega (arith, g .inside)
 
-      ends : {x : Reading (List Event)} (es : List Element) (i : Indexed s es elements index) (u : Tables s es rows places facts) → closedOf at (r .number) (g .any es i u .events ++ t .brings .events) ≡ x → document s es (decided s es) d ≡ x
+      ends : {x : Reading (List Event)} (es : List Element) (i : Indexed s es elements index) (u : Tables s es rows places facts) → closedOf at (r .number) (g .any es i u .events ++ t .brings .events) ≡ x → document c s es (decided s es) d ≡ x
       ends es i u e =
-          let c = g .any es i u in
-          reaches-end (c .reaches) whole (ap (λ (n : ℕ). endDocument s es (decided s es) n (stateOf o (c .events))) (sym whole) ∙ sym (t .ends s es (u .facts-say) (c .stands) (c .events)) ∙ e)
+          let came = g .any es i u in
+          reaches-end (came .reaches) whole (ap (λ (n : ℕ). endDocument s es (decided s es) n (stateOf o (came .events))) (sym whole) ∙ sym (t .ends s es (u .facts-say) (came .stands) (came .events)) ∙ e)
 
-      pub end-refuses : (r .number ≡ 0 → ⊥) → {answer : Counted} → answer ≡ counted.Refused (record { number = r .number; at = at }) → (es : List Element) → Indexed s es elements index → Tables s es rows places facts → EventsOf s es d numbers numbers′ bytes bytes′ answer
+      pub end-refuses : (r .number ≡ 0 → ⊥) → {answer : Counted} → answer ≡ counted.Refused (record { number = r .number; at = at }) → (es : List Element) → Indexed s es elements index → Tables s es rows places facts → EventsOf c s es d numbers numbers′ bytes bytes′ answer
       end-refuses z q es i u = rw q (ends es i u (closedOf-refused at (r .number) (g .any es i u .events ++ t .brings .events) (omega arith)))
 
-      pub end-counts : length d ≤ 65535 → r .number ≡ 0 → (es : List Element) → Indexed s es elements index → Tables s es rows places facts → EventsOf s es d numbers numbers′ bytes bytes′ (counted.Events (r .events))
+      pub end-counts : length d ≤ 65535 → r .number ≡ 0 → (es : List Element) → Indexed s es elements index → Tables s es rows places facts → EventsOf c s es d numbers numbers′ bytes bytes′ (counted.Events (r .events))
       end-counts small z es i u =
-          let c = g .any es i u in
+          let came = g .any es i u in
           let b = t .brings in
-          let held = b .puts .behind numbers bytes (c .events) (c .counted) (c .holds) in (
-            c .events ++ b .events,
-            ends es i u (ap (λ (n : ℕ). closedOf at n (c .events ++ b .events)) z),
-            omega (arith, length-append (c .events) (b .events), c .counted, b .counted),
+          let held = b .puts .behind numbers bytes (came .events) (came .counted) (came .holds) in (
+            came .events ++ b .events,
+            ends es i u (ap (λ (n : ℕ). closedOf at n (came .events ++ b .events)) z),
+            omega (arith, length-append (came .events) (b .events), came .counted, b .counted),
             held .numbers-hold,
             held .bytes-hold,
             omega (arith, b .counted, t .few, g .few, g .inside),

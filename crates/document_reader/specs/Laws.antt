@@ -8,6 +8,7 @@ use native.Mathlib.Omega.{arith}
 use lib.ListN.{length}
 use lib.Dec.{ltb}
 use borrow.Author.Tests.{ltb-true, ltb-false, lt-ltb, le-ltb}
+use Rattle.rules.specs.Settings.{Settings}
 use Rattle.rules.specs.Lent.{Lent, bytesOf, standing, room, zeroed}
 use Rattle.rules.specs.TypeFile.{Element}
 use Rattle.rules.specs.Judge.{acceptance, Legible, Accepts, Refuses}
@@ -33,48 +34,49 @@ use Rattle.document_reader.specs.declared.Answer.the-variants as answer
 
 -- The type
 
-module _ (s d : List ℕ) (b : BothLegible s d) where
+module _ {c : Settings} (s d : List ℕ) (b : BothLegible c s d) where
   -- A refusal of the type is one of both. At most 64 elements have at most 384 numbers.
-  pub type-refused : (a : rules.Answer) → Refuses s 384 a → (room : ℕ) → RefusesBoth s d room a
-  type-refused a (Refuses.tooLong l e) room = absurd (omega (arith, b .type .short))
-  type-refused a (Refuses.notAllowed l m e) room = absurd (omega (arith, b .type .clean))
+  pub type-refused : (a : rules.Answer) → Refuses c s 384 a → (room : ℕ) → RefusesBoth c s d room a
+  type-refused a (Refuses.notOffered o e) room = absurd (true≢false (sym (b .type .offered) ∙ o))
+  type-refused a (Refuses.tooLong o l e) room = absurd (omega (arith, b .type .short))
+  type-refused a (Refuses.notAllowed o l m e) room = absurd (omega (arith, b .type .clean))
   type-refused a (Refuses.malformed l n k r e) room = RefusesBoth.malformed b n k r e
   type-refused a (Refuses.ambiguous l es r k p q f e) room = RefusesBoth.ambiguous b es r k p q f e
-  type-refused a (Refuses.noRoom l es r u m e) room = absurd (omega (arith, typeFile-count s es r))
+  type-refused a (Refuses.noRoom l es r u m e) room = absurd (omega (arith, typeFile-count c s es r))
 
-  module _ (elements : List ℕ) (v : Verdict) (verdict-is : Legible s → Decides s 384 elements v) where
-    h : Decides s 384 elements v
+  module _ (elements : List ℕ) (v : Verdict) (verdict-is : Legible c s → Decides c s 384 elements v) where
+    h : Decides c s 384 elements v
     h = verdict-is (b .type)
 
-    pub judges-accepted : (n : ℕ) → v ≡ verdict.Accepted n → Judges s d elements (answer.Accepted n)
+    pub judges-accepted : (n : ℕ) → v ≡ verdict.Accepted n → Judges c s d elements (answer.Accepted n)
     judges-accepted n e =
-        let (es, a, c, room, few, w) = rw e at h in
-        (es, b, a, c, w)
+        let (es, a, k, room, few, w) = rw e at h in
+        (es, b, a, k, w)
 
-    pub judges-malformed : (f : Fault) → v ≡ verdict.Malformed f → Judges s d elements (answer.InType f)
+    pub judges-malformed : (f : Fault) → v ≡ verdict.Malformed f → Judges c s d elements (answer.InType f)
     judges-malformed f e = type-refused _ (rw e at h)
 
-    pub judges-ambiguous : (c : Clash) → v ≡ verdict.Ambiguous c → Judges s d elements (answer.Ambiguous c)
-    judges-ambiguous c e = type-refused _ (rw e at h)
+    pub judges-ambiguous : (x : Clash) → v ≡ verdict.Ambiguous x → Judges c s d elements (answer.Ambiguous x)
+    judges-ambiguous x e = type-refused _ (rw e at h)
 
 -- The document
 
-module _ (s d numbers numbersAfter bytes bytesAfter : List ℕ) where
+module _ (c : Settings) (s d numbers numbersAfter bytes bytesAfter : List ℕ) where
   -- Where the type is refused nothing is read.
-  pub answers-refused : (elements : List ℕ) (v : Answer) → Judges s d elements v → ((n : ℕ) → v ≡ answer.Accepted n → ⊥) → Answers s d numbers numbersAfter bytes bytesAfter v
+  pub answers-refused : (elements : List ℕ) (v : Answer) → Judges c s d elements v → ((n : ℕ) → v ≡ answer.Accepted n → ⊥) → Answers c s d numbers numbersAfter bytes bytesAfter v
   answers-refused elements (answer.Accepted n) h other = absurd (other n refl)
   answers-refused elements (answer.InType f) h other = h
-  answers-refused elements (answer.Ambiguous c) h other = h
+  answers-refused elements (answer.Ambiguous x) h other = h
   answers-refused elements (answer.InDocument f) h other = h
 
-  module _ (es : List Element) (b : BothLegible s d) (a : Accepts s es) (c : Counted) (h : EventsOf s es d numbers numbersAfter bytes bytesAfter c) where
-    pub answers-events : (n : ℕ) → c ≡ counted.Events n → Answers s d numbers numbersAfter bytes bytesAfter (answer.Accepted n)
+  module _ (es : List Element) (b : BothLegible c s d) (a : Accepts c s es) (r : Counted) (h : EventsOf c s es d numbers numbersAfter bytes bytesAfter r) where
+    pub answers-events : (n : ℕ) → r ≡ counted.Events n → Answers c s d numbers numbersAfter bytes bytesAfter (answer.Accepted n)
     answers-events n e =
-        let (ev, r, k, x, y, f) = rw e at h in
+        let (ev, i, k, x, y, f) = rw e at h in
         record {
           elements = es;
           events = ev;
-          reads = record { legible = b; accepted = a; decisions = decided s es; means = accepted-decided s es a; reading = r };
+          reads = record { legible = b; accepted = a; decisions = decided s es; means = accepted-decided s es a; reading = i };
           counted = k;
           written = in-both ev x y;
           few = f;
@@ -85,10 +87,10 @@ module _ (s d numbers numbersAfter bytes bytesAfter : List ℕ) where
         in-both ev x y Lent.numbers = x
         in-both ev x y Lent.bytes = y
 
-    pub answers-unsettled : (f : Fault) → c ≡ counted.Refused f → Answers s d numbers numbersAfter bytes bytesAfter (answer.InDocument f)
+    pub answers-unsettled : (f : Fault) → r ≡ counted.Refused f → Answers c s d numbers numbersAfter bytes bytesAfter (answer.InDocument f)
     answers-unsettled f e room =
-        let r = rw e at h in
-        RefusesBoth.unsettled es (f .number) (f .at) (record { legible = b; accepted = a; decisions = decided s es; means = accepted-decided s es a; reading = r }) refl
+        let i = rw e at h in
+        RefusesBoth.unsettled es (f .number) (f .at) (record { legible = b; accepted = a; decisions = decided s es; means = accepted-decided s es a; reading = i }) refl
 
 -- The room
 
@@ -101,7 +103,7 @@ not-first (inr (inr e)) = omega arith
 pub accepted-is : (a : Answer) → isRefusal a ≡ false → (n : ℕ) × (a ≡ answer.Accepted n)
 accepted-is (answer.Accepted n) e = (n, refl)
 accepted-is (answer.InType f) e = absurd (true≢false e)
-accepted-is (answer.Ambiguous c) e = absurd (true≢false e)
+accepted-is (answer.Ambiguous x) e = absurd (true≢false e)
 accepted-is (answer.InDocument f) e = absurd (true≢false e)
 
 pub refusal-is : (a : Answer) → isRefusal a ≡ true → (n : ℕ) → a ≡ answer.Accepted n → ⊥
@@ -117,16 +119,16 @@ fitted-all a room n e h = rw e (sym (ap (λ t. unlessFull t n) (le-ltb room n h)
 pub fitted-other : (a : Answer) (room : ℕ) → ((n : ℕ) → a ≡ answer.Accepted n → ⊥) → a ≡ fittedTo room a
 fitted-other (answer.Accepted n) room other = absurd (other n refl)
 fitted-other (answer.InType f) room other = refl
-fitted-other (answer.Ambiguous c) room other = refl
+fitted-other (answer.Ambiguous x) room other = refl
 fitted-other (answer.InDocument f) room other = refl
 
-module _ (s d numbers numbersAfter bytes bytesAfter : List ℕ) (room : ℕ) where
+module _ (c : Settings) (s d numbers numbersAfter bytes bytesAfter : List ℕ) (room : ℕ) where
   -- n events are counted, and fit.
   abbrev Fitting : ℕ → Type 0
-  Fitting n = Counts s d numbers numbersAfter bytes bytesAfter n × (n ≤ room)
+  Fitting n = Counts c s d numbers numbersAfter bytes bytesAfter n × (n ≤ room)
 
   -- Where the fitted answer is accepted, the document was read and its events fit.
-  pub fitted-accepted : (v a : Answer) → Answers s d numbers numbersAfter bytes bytesAfter v → a ≡ fittedTo room v → (n : ℕ) → a ≡ answer.Accepted n → Fitting n
+  pub fitted-accepted : (v a : Answer) → Answers c s d numbers numbersAfter bytes bytesAfter v → a ≡ fittedTo room v → (n : ℕ) → a ≡ answer.Accepted n → Fitting n
   fitted-accepted (answer.Accepted m) a h e n q = by-room (ltb room m) refl e
     where
       by-room : (t : Bool) → ltb room m ≡ t → a ≡ unlessFull t m → Fitting n
@@ -139,7 +141,7 @@ module _ (s d numbers numbersAfter bytes bytesAfter : List ℕ) (room : ℕ) whe
   fitted-accepted (answer.InType f) a h e n q =
       let never : _≡_ {A = ℕ} 0 1 = cc in
       absurd (omega arith)
-  fitted-accepted (answer.Ambiguous c) a h e n q =
+  fitted-accepted (answer.Ambiguous x) a h e n q =
       let never : _≡_ {A = ℕ} 0 1 = cc in
       absurd (omega arith)
   fitted-accepted (answer.InDocument f) a h e n q =
@@ -147,14 +149,14 @@ module _ (s d numbers numbersAfter bytes bytesAfter : List ℕ) (room : ℕ) whe
       absurd (omega arith)
 
   -- Any other is the refusal that the order picks for that room, in numbers.
-  pub fitted-refused : (v a : Answer) → Answers s d numbers numbersAfter bytes bytesAfter v → a ≡ fittedTo room v → ((n : ℕ) → a ≡ answer.Accepted n → ⊥) → (most : ℕ) → room ≡ most / 4 → RefusesBoth s d most (answerOf a)
+  pub fitted-refused : (v a : Answer) → Answers c s d numbers numbersAfter bytes bytesAfter v → a ≡ fittedTo room v → ((n : ℕ) → a ≡ answer.Accepted n → ⊥) → (most : ℕ) → room ≡ most / 4 → RefusesBoth c s d most (answerOf a)
   fitted-refused (answer.Accepted m) a h e other most k = by-room (ltb room m) refl e
     where
-      by-room : (t : Bool) → ltb room m ≡ t → a ≡ unlessFull t m → RefusesBoth s d most (answerOf a)
+      by-room : (t : Bool) → ltb room m ≡ t → a ≡ unlessFull t m → RefusesBoth c s d most (answerOf a)
       by-room true z w = rw w (RefusesBoth.noRoom (h .elements) (h .events) (h .reads) (omega (arith, ltb-true room m z, h .counted)) refl)
       by-room false z w = absurd (other m w)
   fitted-refused (answer.InType f) a h e other most k = rw e (h most)
-  fitted-refused (answer.Ambiguous c) a h e other most k = rw e (h most)
+  fitted-refused (answer.Ambiguous x) a h e other most k = rw e (h most)
   fitted-refused (answer.InDocument f) a h e other most k = rw e (h most)
 
 -- The two calls
@@ -164,7 +166,7 @@ room-same Lent.numbers x y e = e
 room-same Lent.bytes x y e = ap (λ (n : ℕ). n / 4) e
 
 -- What is lent holds the events that were counted, if they fit.
-module _ (l : Lent) (s d numbers numbersAfter bytes bytesAfter : List ℕ) (v a : Answer) (h : Answers s d numbers numbersAfter bytes bytesAfter v) where
+module _ (l : Lent) (c : Settings) (s d numbers numbersAfter bytes bytesAfter : List ℕ) (v a : Answer) (h : Answers c s d numbers numbersAfter bytes bytesAfter v) where
   abbrev before : List ℕ
   before = lentOf l numbers bytes
 
@@ -172,18 +174,18 @@ module _ (l : Lent) (s d numbers numbersAfter bytes bytesAfter : List ℕ) (v a 
   after = lentOf l numbersAfter bytesAfter
 
   module _ (same : length after ≡ length before) (e : a ≡ fittedTo (room l after / 4) v) where
-    pub read-accepted : isRefusal a ≡ false → ReadAs l s d before (answerOf a) after
+    pub read-accepted : isRefusal a ≡ false → ReadAs l c s d before (answerOf a) after
     read-accepted g =
         let (n, q) = accepted-is a g in
-        let (c, fits) = fitted-accepted s d numbers numbersAfter bytes bytesAfter (room l after / 4) v a h e n q in
-        let enough : 4 * length (c .events) ≤ room l before = omega (arith, c .counted, room-same l after before same) in
-        let held = standing-fits l (eventNumbers (c .events)) before (omega (arith, eventNumbers-length (c .events))) in
-        ReadAs.accepts (c .elements) (c .events) (c .reads) enough (ap answerOf q ∙ ap acceptance (c .counted)) (c .written l held)
+        let (x, fits) = fitted-accepted c s d numbers numbersAfter bytes bytesAfter (room l after / 4) v a h e n q in
+        let enough : 4 * length (x .events) ≤ room l before = omega (arith, x .counted, room-same l after before same) in
+        let held = standing-fits l (eventNumbers (x .events)) before (omega (arith, eventNumbers-length (x .events))) in
+        ReadAs.accepts (x .elements) (x .events) (x .reads) enough (ap answerOf q ∙ ap acceptance (x .counted)) (x .written l held)
 
-    pub read-refused : (cleared : List ℕ) → isRefusal a ≡ true → cleared ≡ zeroed after → ReadAs l s d before (answerOf a) cleared
+    pub read-refused : (cleared : List ℕ) → isRefusal a ≡ true → cleared ≡ zeroed after → ReadAs l c s d before (answerOf a) cleared
     read-refused cleared g z =
         ReadAs.refuses
-        (fitted-refused s d numbers numbersAfter bytes bytesAfter (room l after / 4) v a h e (refusal-is a g) (room l before) (ap (λ (n : ℕ). n / 4) (room-same l after before same)))
+        (fitted-refused c s d numbers numbersAfter bytes bytesAfter (room l after / 4) v a h e (refusal-is a g) (room l before) (ap (λ (n : ℕ). n / 4) (room-same l after before same)))
         (rw same at z)
 
 -- The count is a 32-bit number.
@@ -191,8 +193,8 @@ count-unless : (b : Bool) (n : ℕ) → n < 4294967296 → CountFits (unlessFull
 count-unless true n h = tt
 count-unless false n h = h
 
-pub count-fits : (s d numbers numbersAfter bytes bytesAfter : List ℕ) (room : ℕ) (v : Answer) {r : Answer} → Answers s d numbers numbersAfter bytes bytesAfter v → r ≡ fittedTo room v → CountFits r
-count-fits s d numbers numbersAfter bytes bytesAfter room (answer.Accepted n) a e = rw e (count-unless (ltb room n) n (a .few))
-count-fits s d numbers numbersAfter bytes bytesAfter room (answer.InType f) a e = rw e tt
-count-fits s d numbers numbersAfter bytes bytesAfter room (answer.Ambiguous c) a e = rw e tt
-count-fits s d numbers numbersAfter bytes bytesAfter room (answer.InDocument f) a e = rw e tt
+pub count-fits : (c : Settings) (s d numbers numbersAfter bytes bytesAfter : List ℕ) (room : ℕ) (v : Answer) {r : Answer} → Answers c s d numbers numbersAfter bytes bytesAfter v → r ≡ fittedTo room v → CountFits r
+count-fits c s d numbers numbersAfter bytes bytesAfter room (answer.Accepted n) a e = rw e (count-unless (ltb room n) n (a .few))
+count-fits c s d numbers numbersAfter bytes bytesAfter room (answer.InType f) a e = rw e tt
+count-fits c s d numbers numbersAfter bytes bytesAfter room (answer.Ambiguous x) a e = rw e tt
+count-fits c s d numbers numbersAfter bytes bytesAfter room (answer.InDocument f) a e = rw e tt

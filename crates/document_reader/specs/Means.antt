@@ -5,6 +5,7 @@ use mathlib.Core.Bool.{Bool, true, false}
 use mathlib.Core.List.{List}
 use lib.ListN.{length}
 use lib.Dec.{ltb}
+use Rattle.rules.specs.Settings.{Settings}
 use Rattle.rules.specs.Lent.{Lent, standing}
 use Rattle.rules.specs.Reading.{got}
 use Rattle.rules.specs.TypeFile.{Element}
@@ -22,23 +23,23 @@ use Rattle.document_reader.specs.declared.Answer.the-variants as answer
 abbrev pub answerOf : Answer → rules.Answer
 answerOf (answer.Accepted n) = acceptance n
 answerOf (answer.InType f) = refusal (f .number) (f .at) 0 0
-answerOf (answer.Ambiguous c) = refusal 9 (c .at) (c .first) (c .second)
+answerOf (answer.Ambiguous x) = refusal 9 (x .at) (x .first) (x .second)
 answerOf (answer.InDocument f) = documentRefusal (f .number) (f .at)
 
 -- The count is a 32-bit number.
 abbrev pub CountFits : Answer → Type 0
 CountFits (answer.Accepted n) = n < 4294967296
 CountFits (answer.InType f) = Unit {0}
-CountFits (answer.Ambiguous c) = Unit {0}
+CountFits (answer.Ambiguous x) = Unit {0}
 CountFits (answer.InDocument f) = Unit {0}
 
--- Numbers 1 and 2 of both inputs, and the type: accepted with elements that are recorded, or refused.
-abbrev pub Judges : (s d elements : List ℕ) → Answer → Type 0
-Judges s d elements (answer.Accepted n) =
-    (es : List Element) × BothLegible s d × Accepts s es × (n ≡ length es) × Recorded elements es
-Judges s d elements (answer.InType f) = RefusesAlways s d (answerOf (answer.InType f))
-Judges s d elements (answer.Ambiguous c) = RefusesAlways s d (answerOf (answer.Ambiguous c))
-Judges s d elements (answer.InDocument f) = RefusesAlways s d (answerOf (answer.InDocument f))
+-- Number 24 of the settings, numbers 1 and 2 of both inputs, and the type: accepted with elements that are recorded, or refused.
+abbrev pub Judges : Settings → (s d elements : List ℕ) → Answer → Type 0
+Judges c s d elements (answer.Accepted n) =
+    (es : List Element) × BothLegible c s d × Accepts c s es × (n ≡ length es) × Recorded elements es
+Judges c s d elements (answer.InType f) = RefusesAlways c s d (answerOf (answer.InType f))
+Judges c s d elements (answer.Ambiguous x) = RefusesAlways c s d (answerOf (answer.Ambiguous x))
+Judges c s d elements (answer.InDocument f) = RefusesAlways c s d (answerOf (answer.InDocument f))
 
 -- One of a list of numbers and a list of bytes: the one that is lent.
 abbrev pub lentOf : Lent → (numbers bytes : List ℕ) → List ℕ
@@ -46,20 +47,20 @@ lentOf Lent.numbers numbers bytes = numbers
 lentOf Lent.bytes numbers bytes = bytes
 
 -- The document is read: its events are counted, and each of the two buffers has got them if they fit.
-pub record Counts (s d numbers numbersAfter bytes bytesAfter : List ℕ) (n : ℕ) : Type 0 where
+pub record Counts (c : Settings) (s d numbers numbersAfter bytes bytesAfter : List ℕ) (n : ℕ) : Type 0 where
   pub elements : List Element
   pub events : List Event
-  pub reads : Reads s d elements (got events)
+  pub reads : Reads c s d elements (got events)
   pub counted : n ≡ length events
   pub written : (l : Lent) → Written (lentOf l numbers bytes) (lentOf l numbersAfter bytesAfter) (standing l (eventNumbers events))
   pub few : n < 4294967296
 
 -- It is read, or one of the inputs is refused.
-abbrev pub Answers : (s d numbers numbersAfter bytes bytesAfter : List ℕ) → Answer → Type 0
-Answers s d numbers numbersAfter bytes bytesAfter (answer.Accepted n) = Counts s d numbers numbersAfter bytes bytesAfter n
-Answers s d numbers numbersAfter bytes bytesAfter (answer.InType f) = RefusesAlways s d (answerOf (answer.InType f))
-Answers s d numbers numbersAfter bytes bytesAfter (answer.Ambiguous c) = RefusesAlways s d (answerOf (answer.Ambiguous c))
-Answers s d numbers numbersAfter bytes bytesAfter (answer.InDocument f) = RefusesAlways s d (answerOf (answer.InDocument f))
+abbrev pub Answers : Settings → (s d numbers numbersAfter bytes bytesAfter : List ℕ) → Answer → Type 0
+Answers c s d numbers numbersAfter bytes bytesAfter (answer.Accepted n) = Counts c s d numbers numbersAfter bytes bytesAfter n
+Answers c s d numbers numbersAfter bytes bytesAfter (answer.InType f) = RefusesAlways c s d (answerOf (answer.InType f))
+Answers c s d numbers numbersAfter bytes bytesAfter (answer.Ambiguous x) = RefusesAlways c s d (answerOf (answer.Ambiguous x))
+Answers c s d numbers numbersAfter bytes bytesAfter (answer.InDocument f) = RefusesAlways c s d (answerOf (answer.InDocument f))
 
 -- n events, or number 19 where they do not fit: "19 only where nothing else is wrong".
 abbrev pub unlessFull : (full : Bool) (n : ℕ) → Answer
@@ -70,11 +71,11 @@ unlessFull false n = answer.Accepted n
 abbrev pub fittedTo : (room : ℕ) → Answer → Answer
 fittedTo room (answer.Accepted n) = unlessFull (ltb room n) n
 fittedTo room (answer.InType f) = answer.InType f
-fittedTo room (answer.Ambiguous c) = answer.Ambiguous c
+fittedTo room (answer.Ambiguous x) = answer.Ambiguous x
 fittedTo room (answer.InDocument f) = answer.InDocument f
 
 abbrev pub isRefusal : Answer → Bool
 isRefusal (answer.Accepted n) = false
 isRefusal (answer.InType f) = true
-isRefusal (answer.Ambiguous c) = true
+isRefusal (answer.Ambiguous x) = true
 isRefusal (answer.InDocument f) = true

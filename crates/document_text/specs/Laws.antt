@@ -1,21 +1,17 @@
--- Laws of the rules' pieces: each way that reading goes, and where it ends.
-use Prim.Native.Nat.{ℕ, zero, suc, _+_, _-_, _≤_, _<_}
-use mathlib.Core.Path.{_≡_, refl, sym, ap, _∙_}
-use mathlib.Core.Bool.{Bool, true, false, not, _&&_, _||_, true≢false}
+-- Laws of the rules' pieces: each way that reading goes.
+use Prim.Native.Nat.{ℕ, _+_}
+use mathlib.Core.Path.{_≡_, sym, ap, _∙_}
+use mathlib.Core.Bool.{true, false, _&&_, _||_}
 use mathlib.Core.List.{List}
-use native.Mathlib.Omega.{arith}
-use native.Mathlib.Nat.{add-zero, not-suc-le-zero}
-use lib.ListN.{length}
 use lib.Dec.{eqb}
-use borrow.Author.Tests.{eq-eqb, ne-eqb, lt-ltb, le-ltb}
-use Rattle.rules.specs.Bytes.{byteAt, letter, nameEnd, separatorsEnd}
-use Rattle.rules.specs.Reading.{Reading, refused, got, andThen}
+use borrow.Author.Tests.{eq-eqb, ne-eqb}
+use Rattle.rules.specs.Settings.{Settings}
+use Rattle.rules.specs.Bytes.{byteAt, letter}
+use Rattle.rules.specs.Reading.{Reading, refused, got}
 use Rattle.rules.specs.TypeFile.{atDashes, commentDeclaration}
 use Rattle.rules.specs.Document.{Tag, Piece, startTag, endTag, skipped, blank, dataByte, tag, malformed, declarationPiece, markupPiece, isReference, isSectionEnd, bytePiece, piece}
 use Rattle.text.specs.Means.{refusalOf}
 use Rattle.text.specs.declared.Fault.{Fault}
-use Rattle.rules_laws.specs.Holds.{got-so}
-use Rattle.rules_laws.specs.Pieces.{TagRead, piece-read}
 use Rattle.tags.specs.Tags.{tagIn}
 use Rattle.tags.specs.declared.Tag as here
 use Rattle.document_text.specs.Means.{pieceOf, asStartTag, asEndTag, asSkipped}
@@ -41,27 +37,27 @@ module _ (s : List ℕ) (i b : ℕ) (q : b ≡ byteAt s (i + 2)) where
     unfolding declarationPiece
     declaration-data d l = rw (declarationPiece, ne-eqb _ _ (λ x. h (q ∙ x)), d, rw q at l)
 
--- `<` at i, before the byte b.
-module _ (s : List ℕ) (i b : ℕ) (q : b ≡ byteAt s (i + 1)) where
-  pub markup-start : letter b ≡ true → (r : Reading Tag) → r ≡ tag s (i + 1) → asStartTag r ≡ markupPiece s i
+-- `<` at i under the settings c, before the byte b.
+module _ (c : Settings) (s : List ℕ) (i b : ℕ) (q : b ≡ byteAt s (i + 1)) where
+  pub markup-start : letter b ≡ true → (r : Reading Tag) → r ≡ tag c s (i + 1) → asStartTag r ≡ markupPiece c s i
   unfolding markupPiece
   markup-start l r e = rw (e, markupPiece, rw q at l)
 
   module _ (l : letter b ≡ false) where
-    pub markup-end : (eqb (byteAt s (i + 1)) 47 && letter (byteAt s (i + 2))) ≡ true → (r : Reading Tag) → r ≡ tag s (i + 2) → asEndTag r ≡ markupPiece s i
+    pub markup-end : (eqb (byteAt s (i + 1)) 47 && letter (byteAt s (i + 2))) ≡ true → (r : Reading Tag) → r ≡ tag c s (i + 2) → asEndTag r ≡ markupPiece c s i
     unfolding markupPiece
     markup-end t r e = rw (e, markupPiece, rw q at l, t)
 
     module _ (t : (eqb (byteAt s (i + 1)) 47 && letter (byteAt s (i + 2))) ≡ false) where
-      pub markup-declaration : b ≡ 33 → declarationPiece s i ≡ markupPiece s i
+      pub markup-declaration : b ≡ 33 → declarationPiece s i ≡ markupPiece c s i
       unfolding markupPiece
       markup-declaration h = rw (markupPiece, rw q at l, t, eq-eqb _ _ (sym q ∙ h))
 
-      pub markup-out : (b ≡ 33 → ⊥) → b ≡ 63 → refused 5 i ≡ markupPiece s i
+      pub markup-out : (b ≡ 33 → ⊥) → b ≡ 63 → refused 5 i ≡ markupPiece c s i
       unfolding markupPiece
       markup-out n h = rw (markupPiece, rw q at l, t, ne-eqb _ _ (λ x. n (q ∙ x)), eq-eqb _ _ (sym q ∙ h))
 
-      pub markup-data : (b ≡ 33 → ⊥) → (b ≡ 63 → ⊥) → got dataByte ≡ markupPiece s i
+      pub markup-data : (b ≡ 33 → ⊥) → (b ≡ 63 → ⊥) → got dataByte ≡ markupPiece c s i
       unfolding markupPiece
       markup-data n h = rw (markupPiece, rw q at l, t, ne-eqb _ _ (λ x. n (q ∙ x)), ne-eqb _ _ (λ x. h (q ∙ x)))
 
@@ -80,53 +76,25 @@ module _ (s : List ℕ) (i b : ℕ) (q : b ≡ byteAt s i) where
     unfolding bytePiece
     byte-data l = rw (bytePiece, ne-eqb _ _ (λ x. h (q ∙ x)), rw q at l)
 
--- What stands at i.
-module _ (s : List ℕ) (i : ℕ) where
-  pub piece-markup : byteAt s i ≡ 60 → markupPiece s i ≡ piece s i
+-- What stands at i under the settings c.
+module _ (c : Settings) (s : List ℕ) (i : ℕ) where
+  pub piece-markup : byteAt s i ≡ 60 → markupPiece c s i ≡ piece c s i
   unfolding piece
   piece-markup h = rw (piece, eq-eqb _ _ h)
 
   module _ (h : byteAt s i ≡ 60 → ⊥) where
-    pub piece-reference : (eqb (byteAt s i) 38 && isReference s i) ≡ true → refused 5 i ≡ piece s i
+    pub piece-reference : (eqb (byteAt s i) 38 && isReference s i) ≡ true → refused 5 i ≡ piece c s i
     unfolding piece
     piece-reference r = rw (piece, ne-eqb _ _ h, r)
 
     module _ (r : (eqb (byteAt s i) 38 && isReference s i) ≡ false) where
-      pub piece-section : isSectionEnd s i ≡ true → refused 17 i ≡ piece s i
+      pub piece-section : isSectionEnd s i ≡ true → refused 17 i ≡ piece c s i
       unfolding piece
       piece-section e = rw (piece, ne-eqb _ _ h, r, e)
 
-      pub piece-byte : isSectionEnd s i ≡ false → bytePiece s i ≡ piece s i
+      pub piece-byte : isSectionEnd s i ≡ false → bytePiece s i ≡ piece c s i
       unfolding piece
       piece-byte e = rw (piece, ne-eqb _ _ h, r, e)
-
--- A tag behind i: its name begins behind i, is at most 8 long, and ends before the tag does.
-abbrev pub TagIn : (len i : ℕ) → Tag → Type 0
-TagIn len i t = (i < t .name) × (t .name + t .size < t .after) × (t .after ≤ len) × (t .size ≤ 8)
-
--- A piece moves on and stays within the document.
-module _ (s : List ℕ) (i : ℕ) (h : i < length s) where
-  tag-in : {t : Tag} → TagRead s i t → TagIn (length s) i t
-  tag-in r = (r .behind, r .ends, r .inside, r .short)
-
-  pub start-tag-in : (t : Tag) → piece s i ≡ got (startTag t) → TagIn (length s) i t
-  start-tag-in t q = tag-in (got-so (piece-read s i h) q)
-
-  pub end-tag-in : (t : Tag) → piece s i ≡ got (endTag t) → TagIn (length s) i t
-  end-tag-in t q = tag-in (got-so (piece-read s i h) q)
-
-  pub start-tag-range : (t : Tag) → piece s i ≡ got (startTag t) → (i < t .after) × (t .after ≤ length s)
-  start-tag-range t q =
-      let r = start-tag-in t q in
-      (omega (arith, r), r .2)
-
-  pub end-tag-range : (t : Tag) → piece s i ≡ got (endTag t) → (i < t .after) × (t .after ≤ length s)
-  end-tag-range t q =
-      let r = end-tag-in t q in
-      (omega (arith, r), r .2)
-
-  pub skipped-range : (e : ℕ) → piece s i ≡ got (skipped e) → (i < e) × (e ≤ length s)
-  skipped-range e q = omega (arith, got-so (piece-read s i h) q)
 
 -- A token by cases: what the rules read, where the code's answer is known.
 module _ {x : Reading Piece} {r : Token} (e : pieceOf r ≡ x) where

@@ -7,6 +7,7 @@ use native.Mathlib.Omega.{arith}
 use lib.ListN.{length}
 use lib.Dec.{ltb}
 use borrow.Author.Tests.{eq-eqb, ne-eqb, lt-ltb, le-ltb}
+use Rattle.rules.specs.Settings.{Settings}
 use Rattle.rules.specs.Bytes.{byteAt, letter, nameEnd, GRPLVL}
 use Rattle.rules.specs.Reading.{Reading, refused, got}
 use Rattle.rules.specs.TypeFile.{empty, model, ContentEnd, isWord, isCut, EMPTY, ANY, CDATA, RCDATA, unfit, contentWord, contentModel, content, Tokens, group, occurrence}
@@ -26,33 +27,33 @@ use Rattle.element_content.specs.declared.BodyRead.the-variants as bodyR
 use Rattle.element_content.specs.Kept.{wrongWord, KeepsBody, MeetsBody, bodyFault}
 
 -- A word as content.
-module _ (s : List ℕ) (from i : ℕ) where
-  pub word-long : 8 < nameEnd s i - i → contentWord s from i ≡ refused 3 i
+module _ (c : Settings) (s : List ℕ) (from i : ℕ) where
+  pub word-long : c .nameLength < nameEnd s i - i → contentWord c s from i ≡ refused 3 i
   unfolding contentWord
   word-long h = rw (lt-ltb _ _ h, contentWord)
 
-  module _ (h : nameEnd s i - i ≤ 8) where
-    pub word-empty : (ltb from i && isWord s i (nameEnd s i) EMPTY) ≡ true → contentWord s from i ≡ got (record { content = empty; at = nameEnd s i })
+  module _ (h : nameEnd s i - i ≤ c .nameLength) where
+    pub word-empty : (ltb from i && isWord s i (nameEnd s i) EMPTY) ≡ true → contentWord c s from i ≡ got (record { content = empty; at = nameEnd s i })
     unfolding contentWord
     word-empty w = rw (le-ltb _ _ h, w, contentWord)
 
     module _ (w : (ltb from i && isWord s i (nameEnd s i) EMPTY) ≡ false) where
-      pub word-named : (isWord s i (nameEnd s i) ANY || isWord s i (nameEnd s i) CDATA || isWord s i (nameEnd s i) RCDATA) ≡ true → contentWord s from i ≡ refused 5 i
+      pub word-named : (isWord s i (nameEnd s i) ANY || isWord s i (nameEnd s i) CDATA || isWord s i (nameEnd s i) RCDATA) ≡ true → contentWord c s from i ≡ refused 5 i
       unfolding contentWord
       word-named n = rw (le-ltb _ _ h, w, n, contentWord)
 
-      pub word-other : (isWord s i (nameEnd s i) ANY || isWord s i (nameEnd s i) CDATA || isWord s i (nameEnd s i) RCDATA) ≡ false → contentWord s from i ≡ refused 4 (wrongWord s from i (nameEnd s i))
+      pub word-other : (isWord s i (nameEnd s i) ANY || isWord s i (nameEnd s i) CDATA || isWord s i (nameEnd s i) RCDATA) ≡ false → contentWord c s from i ≡ refused 4 (wrongWord s from i (nameEnd s i))
       unfolding contentWord
       word-other n = rw (le-ltb _ _ h, w, n, contentWord) (sym (cut-or (ltb from i && isCut s i (nameEnd s i) EMPTY) (length s) i))
 
 -- A model as content.
-module _ (s : List ℕ) (i : ℕ) where
-  pub model-refused : {f : Fault} → group GRPLVL s i [] 0 ≡ refusalOf f → contentModel s i ≡ refusalOf f
+module _ (c : Settings) (s : List ℕ) (i : ℕ) where
+  pub model-refused : {f : Fault} → group c GRPLVL s i [] 0 ≡ refusalOf f → contentModel c s i ≡ refusalOf f
   unfolding contentModel
   model-refused q = rw (q, contentModel)
 
-  pub model-got : {t : Tokens} → group GRPLVL s i [] 0 ≡ got t
-      → contentModel s i ≡ got (record { content = model (occurrence s t .group) (occurrence s t .places) (occurrence s t .tokens); at = occurrence s t .at })
+  pub model-got : {t : Tokens} → group c GRPLVL s i [] 0 ≡ got t
+      → contentModel c s i ≡ got (record { content = model (occurrence s t .group) (occurrence s t .places) (occurrence s t .tokens); at = occurrence s t .at })
   unfolding contentModel
   model-got q = rw (q, contentModel)
 
@@ -84,16 +85,16 @@ module _ {end : ℕ} {names T table : List ℕ} {m : Model} {t : Tokens} (k : Ke
       }
 
 -- The content.
-module _ (s : List ℕ) (from i : ℕ) where
-  pub content-model : byteAt s i ≡ 40 → content s from i ≡ contentModel s i
+module _ (c : Settings) (s : List ℕ) (from i : ℕ) where
+  pub content-model : byteAt s i ≡ 40 → content c s from i ≡ contentModel c s i
   unfolding content
   content-model b = rw (eq-eqb _ _ b, content)
 
-  pub content-word : (byteAt s i ≡ 40 → ⊥) → letter (byteAt s i) ≡ true → content s from i ≡ contentWord s from i
+  pub content-word : (byteAt s i ≡ 40 → ⊥) → letter (byteAt s i) ≡ true → content c s from i ≡ contentWord c s from i
   unfolding content
   content-word b l = rw (ne-eqb _ _ b, l, content)
 
-  pub content-unfit : (byteAt s i ≡ 40 → ⊥) → letter (byteAt s i) ≡ false → content s from i ≡ unfit s i
+  pub content-unfit : (byteAt s i ≡ 40 → ⊥) → letter (byteAt s i) ≡ false → content c s from i ≡ unfit s i
   unfolding content
   content-unfit b l = rw (ne-eqb _ _ b, l, content)
 

@@ -1,9 +1,10 @@
 -- A name and a head that were read lie in the input, behind where they began.
-use Prim.Native.Nat.{ℕ, _+_, _≤_, _<_}
+use Prim.Native.Nat.{ℕ, _≤_, _<_}
 use mathlib.Core.Path.{_≡_, sym}
 use mathlib.Core.List.{List}
 use native.Mathlib.Omega.{arith}
 use lib.ListN.{length}
+use Rattle.rules.specs.Settings.{Settings}
 use Rattle.rules.specs.TypeFile.{words}
 use Rattle.text.specs.declared.Reached.{Reached}
 use Rattle.text.specs.declared.Reached.the-variants as reached
@@ -15,17 +16,17 @@ use Rattle.element_head.specs.declared.HeadRead.the-variants as headRead
 use Rattle.element_head.specs.Heads.{headIn, headOf, HeadIn}
 
 -- A name that was read.
-pub name-in : {end i count e : ℕ} {r : Reached} → NameIn end i count r → r ≡ reached.At e → (i ≤ e) × (e ≤ end) × (e ≤ i + 8) × (count < 64)
+pub name-in : {end i count e : ℕ} {r : Reached} → NameIn end i count r → r ≡ reached.At e → (i ≤ e) × (e ≤ end) × (count < 64)
 name-in h q = rw q at h
 
 -- A head that was read, where the gap before its name began at `from`.
-pub head-in : (s : List ℕ) (i e from count : ℕ) (r : HeadRead) → headOf r ≡ words s i e → from ≤ i → i ≤ e → e ≤ length s → e ≤ i + 8 → count < 64
+pub head-in : (c : Settings) (s : List ℕ) (i e from count : ℕ) (r : HeadRead) → headOf r ≡ words c s i e → from ≤ i → i ≤ e → e ≤ length s → count < 64
     → HeadIn (length s) from count r
-head-in s i e from count (headRead.Read h) q a b c d f =
-    let range = words-range s i e (headIn h) c (sym q) in
+head-in c s i e from count (headRead.Read h) q a b d f =
+    let range = words-range c s i e (headIn h) d (sym q) in
     omega arith
-head-in s i e from count (headRead.Refused f) q a b c d g = tt
+head-in c s i e from count (headRead.Refused f) q a b d g = tt
 
 pub head-within : {end from count : ℕ} {r : HeadRead} {h : here.Head} → HeadIn end from count r → r ≡ headRead.Read h
-    → (from ≤ h .at) × (h .at ≤ end) × (h .offset ≤ end) × (h .size ≤ 8) × (count < 64)
+    → (from ≤ h .at) × (h .at ≤ end) × (h .offset ≤ end) × (h .size ≤ end) × (count < 64)
 head-within h q = rw q at h

@@ -11,6 +11,7 @@ use lib.ListN.{length, getD, set, drop, replicate, length-set, length-replicate,
 use lib.Seq.{drop-length, getD-set-same, getD-set-other}
 use lib.Dec.{eqb, leb, ltb}
 use borrow.Author.Tests.{eq-eqb, eqb-true, ne-eqb, leb-true, ltb-true, lt-ltb, le-ltb, le-leb, lt-leb}
+use Rattle.rules.specs.Settings.{Settings, mostNameLength}
 use Rattle.rules.specs.Bytes.{byteAt, letter, fold, sameText}
 use Rattle.rules.specs.TypeFile.{Element}
 use Rattle.rules.specs.Judge.{Accepts}
@@ -18,13 +19,14 @@ use Rattle.rules.specs.Elements.{elementAt, isNamed, numberFrom, numberOf}
 use Rattle.rules.specs.Lookup.{isAlike, compared}
 use Rattle.layout.specs.Sizes.{INDEX}
 use Rattle.model_sets.specs.Bits.{or-left, or-right, or-cases, and-left, and-right, and-both, not-true, not-both, bool-cases}
+use Rattle.rules_laws.specs.Offered.{offered-range}
 use Rattle.rules_laws.specs.Within.{typeFile-count}
 use Rattle.element_names.specs.Records.{unlike-other}
 use Rattle.element_reader.specs.Means.{Recorded}
 use Rattle.element_reader.specs.Laws.{recorded-at}
 use Rattle.type_laws.specs.Made.{typeFile-made}
 use Rattle.type_laws.specs.Again.{typeFile-sizes}
-use Rattle.element_index.specs.Means.{bucketOf, isIn, nextFrom, follows, Indexed, putIn}
+use Rattle.element_index.specs.Means.{bucketOf, BUCKETS, isIn, nextFrom, follows, Indexed, putIn}
 
 -- The next number that passes
 
@@ -46,7 +48,7 @@ module _ (f : ℕ → Bool) (n k : ℕ) (from : 1 ≤ k) (to : k ≤ n) where
 
 -- The bucket of a name
 
-bucket-range : (first size : ℕ) → 1 ≤ size → size ≤ 8 → bucketOf first size < 256
+bucket-range : (first size : ℕ) → 1 ≤ size → size ≤ mostNameLength → bucketOf first size < BUCKETS
 bucket-range first size l h = omega arith
 
 -- A letter of either case by its number in the alphabet.
@@ -240,10 +242,10 @@ module _ {s : List ℕ} {es : List Element} {elements index : List ℕ} (t : Lis
     (named : letter (byteAt t at) ≡ true) where
   module _ (j : ℕ) (h : j < length es) where
     letter-is : letter (byteAt s (elementAt es j .at)) ≡ true
-    letter-is = typeFile-made s es (x .accepted .elements) j h .named
+    letter-is = typeFile-made (x .settings) s es (x .accepted .elements) j h .named
 
     size-some : 1 ≤ elementAt es j .size
-    size-some = typeFile-sizes s es (x .accepted .elements) j h .0
+    size-some = typeFile-sizes (x .settings) s es (x .accepted .elements) j h .0
 
     in-alike : eqb (bucketOf (byteAt s (elementAt es j .at)) (elementAt es j .size)) (bucketAt t at size) ≡ true → isAlike s (elementAt es j) t at size ≡ true
     in-alike y = bucket-alike s (elementAt es j) t at size letter-is named size-some some (eqb-true _ _ y)
@@ -290,7 +292,7 @@ module _ {s : List ℕ} {es : List Element} {elements index : List ℕ} (t : Lis
       let w = leads (length es - j) j (omega arith) in
       rw e (record { within = w .within; rises = w .rises; inside = w .inside; answer = w .answer ∙ a; count = ap (λ (m : ℕ). n + m) (w .count) ∙ c })
 
-  pub seeks-start : size ≤ 8 → {k : ℕ} → k ≡ getD index (65 + bucketAt t at size) 0 → Seeks s es t at size 0 k 0
+  pub seeks-start : size ≤ mostNameLength → {k : ℕ} → k ≡ getD index (65 + bucketAt t at size) 0 → Seeks s es t at size 0 k 0
   unfolding numberOf
   seeks-start short e =
       let z : length es - 0 ≡ length es = omega arith in
@@ -321,7 +323,7 @@ module _ {s : List ℕ} {es : List Element} {elements index : List ℕ} (t : Lis
       pub seeks-within : {o : ℕ} → o ≡ getD elements (6 * (k - 1)) 0 → o + size ≤ length s
       seeks-within f =
           let z = eqb-true (elementAt es (k - 1) .size) size (and-left _ _ alike) in
-          omega (arith, offset-is, typeFile-sizes s es (x .accepted .elements) (k - 1) stands .2)
+          omega (arith, offset-is, typeFile-sizes (x .settings) s es (x .accepted .elements) (k - 1) stands .2)
 
       module _ {o : ℕ} {r : Bool} (f : o ≡ getD elements (6 * (k - 1)) 0) (g : r ≡ sameText s o t at size) where
         pub seeks-found : r ≡ true → (k ≡ numberOf s es t at size) × (n + 1 ≡ compared s es t at size)
@@ -365,7 +367,7 @@ module _ {s : List ℕ} {es : List Element} {elements index : List ℕ} (t : Lis
   none-from (suc left) j e =
       let h : j < length es = omega arith in
       let (a, n) = none-from left (j + 1) (omega arith) in
-      let y = apart-alike s (elementAt es j) t at size (typeFile-made s es (x .accepted .elements) j h .named) other in
+      let y = apart-alike s (elementAt es j) t at size (typeFile-made (x .settings) s es (x .accepted .elements) j h .named) other in
       let z = unlike-other s (elementAt es j) t at size some y in
       (other-answer s es t at size j h z ∙ a, passed-count s es t at size j h y ∙ n)
 
@@ -378,7 +380,7 @@ module _ {s : List ℕ} {es : List Element} {elements index : List ℕ} (t : Lis
 -- The elements above k are indexed.
 pub record Filled (s : List ℕ) (es : List Element) (index : List ℕ) (k : ℕ) : Type 0 where
   pub len : length index ≡ INDEX
-  pub smallest : (b : ℕ) → b < 256 → getD index (65 + b) 0 ≡ nextFrom (isIn s es b) (length es - k) k
+  pub smallest : (b : ℕ) → b < BUCKETS → getD index (65 + b) 0 ≡ nextFrom (isIn s es b) (length es - k) k
   pub larger : (b j : ℕ) → k < j → j ≤ length es → isIn s es b j ≡ true → getD index j 0 ≡ nextFrom (isIn s es b) (length es - j) j
   pub spare : (j : ℕ) → j ≤ k → j ≤ 64 → getD index j 0 ≡ 0
   pub behind : (j : ℕ) → length es < j → j ≤ 64 → getD index j 0 ≡ 0
@@ -404,7 +406,7 @@ pub put-read : (index s : List ℕ) (k to first size at A Z : ℕ) → to ≡ 65
 put-read index s k to first size at A Z b f a z = rw (b, f, a, z)
 
 -- The index after an element is put into it: at the bucket, at the element, and elsewhere.
-module _ (index : List ℕ) (len : length index ≡ INDEX) (b k : ℕ) (in-range : b < 256) (few : k ≤ 64) where
+module _ (index : List ℕ) (len : length index ≡ INDEX) (b k : ℕ) (in-range : b < BUCKETS) (few : k ≤ 64) where
   put-bucket : getD (putIn index b k) (65 + b) 0 ≡ k
   put-bucket =
       let l = length-set index k (getD index (65 + b) 0) in
@@ -423,14 +425,14 @@ module _ (index : List ℕ) (len : length index ≡ INDEX) (b k : ℕ) (in-range
 abbrev bucketIn : List ℕ → List Element → ℕ → ℕ
 bucketIn s es k = bucketOf (byteAt s (elementAt es (k - 1) .at)) (elementAt es (k - 1) .size)
 
-module _ (s : List ℕ) (es : List Element) (index : List ℕ) (k : ℕ) (in-range : bucketIn s es k < 256) (from : 1 ≤ k) (to : k ≤ length es) (few : length es ≤ 64)
+module _ (s : List ℕ) (es : List Element) (index : List ℕ) (k : ℕ) (in-range : bucketIn s es k < BUCKETS) (from : 1 ≤ k) (to : k ≤ length es) (few : length es ≤ 64)
     (done : Filled s es index k) where
   abbrev put : List ℕ
   put = putIn index (bucketIn s es k) k
 
-  smallest-after : (b : ℕ) → b < 256 → Dec (bucketIn s es k ≡ b) → getD put (65 + b) 0 ≡ nextFrom (isIn s es b) (length es - (k - 1)) (k - 1)
+  smallest-after : (b : ℕ) → b < BUCKETS → Dec (bucketIn s es k ≡ b) → getD put (65 + b) 0 ≡ nextFrom (isIn s es b) (length es - (k - 1)) (k - 1)
   smallest-after b h (yes e) =
-      put-at (65 + b) (ap (λ (c : ℕ). 65 + c) (sym e)) ∙ sym (next-here (isIn s es b) (length es) k from to (eq-eqb (bucketIn s es k) b e))
+      put-at (65 + b) (ap (λ (i : ℕ). 65 + i) (sym e)) ∙ sym (next-here (isIn s es b) (length es) k from to (eq-eqb (bucketIn s es k) b e))
     where
       put-at : (i : ℕ) → i ≡ 65 + bucketIn s es k → getD put i 0 ≡ k
       put-at i z = rw z (put-bucket index (done .len) (bucketIn s es k) k in-range (omega arith))
@@ -457,32 +459,34 @@ module _ (s : List ℕ) (es : List Element) (index : List ℕ) (k : ℕ) (in-ran
       }
 
 -- The element k is put into the bucket of the name that its record says.
-module _ (s : List ℕ) (es : List Element) (elements : List ℕ) (k : ℕ) (accepted : Accepts s es) (recorded : Recorded elements es) (from : 1 ≤ k) (to : k ≤ length es) where
+module _ {c : Settings} (s : List ℕ) (es : List Element) (elements : List ℕ) (k : ℕ) (accepted : Accepts c s es) (recorded : Recorded elements es) (from : 1 ≤ k) (to : k ≤ length es) where
   few : length es ≤ 64
-  few = typeFile-count s es (accepted .elements) .1
+  few = typeFile-count c s es (accepted .elements) .1
 
-  pub size-in : (1 ≤ getD elements (6 * (k - 1) + 1) 0) × (getD elements (6 * (k - 1) + 1) 0 ≤ 8)
+  pub size-in : (1 ≤ getD elements (6 * (k - 1) + 1) 0) × (getD elements (6 * (k - 1) + 1) 0 ≤ mostNameLength)
   size-in =
-      let z = typeFile-sizes s es (accepted .elements) (k - 1) (omega arith) in
+      let z = typeFile-sizes c s es (accepted .elements) (k - 1) (omega arith) in
+      let most = offered-range c (accepted .legible .offered) .1 in
       let e = recorded-size elements es recorded (k - 1) (omega arith) in
       (omega arith, omega arith)
 
   bucket-is : bucketOf (byteAt s (getD elements (6 * (k - 1)) 0)) (getD elements (6 * (k - 1) + 1) 0) ≡ bucketIn s es k
   bucket-is = rw (recorded-offset elements es recorded (k - 1) (omega arith), recorded-size elements es recorded (k - 1) (omega arith))
 
-  bucket-in : bucketIn s es k < 256
+  bucket-in : bucketIn s es k < BUCKETS
   bucket-in = omega (arith, bucket-is, bucket-range (byteAt s (getD elements (6 * (k - 1)) 0)) (getD elements (6 * (k - 1) + 1) 0) (size-in .0) (size-in .1))
 
   pub filled-more : (index : List ℕ) → Filled s es index k → {after : List ℕ}
       → after ≡ putIn index (bucketOf (byteAt s (getD elements (6 * (k - 1)) 0)) (getD elements (6 * (k - 1) + 1) 0)) k → Filled s es after (k - 1)
   filled-more index done e = rw (e, bucket-is) (filled-put s es index k bucket-in from to few done)
 
-pub filled-all : (s : List ℕ) (es : List Element) (elements index : List ℕ) (k : ℕ) → Accepts s es → Recorded elements es → k ≡ 0 → Filled s es index k → Indexed s es elements index
-filled-all s es elements index k accepted recorded e done =
+pub filled-all : {c : Settings} (s : List ℕ) (es : List Element) (elements index : List ℕ) (k : ℕ) → Accepts c s es → Recorded elements es → k ≡ 0 → Filled s es index k → Indexed s es elements index
+filled-all {c} s es elements index k accepted recorded e done =
     let z : length es - 0 ≡ length es = omega arith in
     record {
+      settings = c;
       accepted = accepted;
-      few = typeFile-count s es (accepted .elements) .1;
+      few = typeFile-count c s es (accepted .elements) .1;
       recorded = recorded;
       smallest = λ b h. rw (e, z) at (done .smallest b h);
       larger = λ b j l h x. done .larger b j (omega arith) h x;

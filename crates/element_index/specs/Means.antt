@@ -5,19 +5,23 @@ use mathlib.Core.Bool.{Bool, true, false, _&&_}
 use mathlib.Core.List.{List}
 use lib.ListN.{length, getD, set}
 use lib.Dec.{eqb, leb, ltb}
+use Rattle.rules.specs.Settings.{Settings, mostNameLength}
 use Rattle.rules.specs.Bytes.{byteAt}
 use Rattle.rules.specs.TypeFile.{Element}
 use Rattle.rules.specs.Judge.{Accepts}
 use Rattle.rules.specs.Elements.{elementAt}
 use Rattle.element_reader.specs.Means.{Recorded}
 
--- An accepted type whose elements are recorded.
-abbrev pub Judged : (s elements : List ℕ) (count : ℕ) → Type 0
-Judged s elements count = (es : List Element) × Accepts s es × (length es ≡ count) × Recorded elements es
+-- A type that is accepted under the settings c, whose elements are recorded.
+abbrev pub Judged : Settings → (s elements : List ℕ) (count : ℕ) → Type 0
+Judged c s elements count = (es : List Element) × Accepts c s es × (length es ≡ count) × Recorded elements es
 
--- The bucket of a name by its first byte and its size.
+-- The bucket of a name by its first byte and its size, and how many buckets there are.
 abbrev pub bucketOf : (first size : ℕ) → ℕ
 bucketOf first size = (size - 1) * 32 + first % 32
+
+abbrev pub BUCKETS : ℕ
+BUCKETS = mostNameLength * 32
 
 -- The element number k is in the bucket b.
 abbrev pub isIn : List ℕ → List Element → (b k : ℕ) → Bool
@@ -28,12 +32,14 @@ unfoldable pub nextFrom : (ℕ → Bool) → (left k : ℕ) → ℕ
 nextFrom f zero k = 0
 nextFrom f (suc left) k = elim (f (k + 1)) [ true ↦ k + 1 | false ↦ nextFrom f left (k + 1) ]
 
--- Each bucket leads through its elements, from the smallest number up. What belongs to no element is 0.
+-- The index of a type that is accepted under some settings. Each bucket leads through its elements, from the smallest number up. What belongs to
+-- no element is 0.
 pub record Indexed (s : List ℕ) (es : List Element) (elements index : List ℕ) : Type 0 where
-  pub accepted : Accepts s es
+  pub settings : Settings
+  pub accepted : Accepts settings s es
   pub few : length es ≤ 64
   pub recorded : Recorded elements es
-  pub smallest : (b : ℕ) → b < 256 → getD index (65 + b) 0 ≡ nextFrom (isIn s es b) (length es) 0
+  pub smallest : (b : ℕ) → b < BUCKETS → getD index (65 + b) 0 ≡ nextFrom (isIn s es b) (length es) 0
   pub larger : (b k : ℕ) → 1 ≤ k → k ≤ length es → isIn s es b k ≡ true → getD index k 0 ≡ nextFrom (isIn s es b) (length es - k) k
   pub none : getD index 0 0 ≡ 0
   pub behind : (k : ℕ) → length es < k → k ≤ 64 → getD index k 0 ≡ 0

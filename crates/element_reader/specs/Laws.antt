@@ -6,6 +6,7 @@ use mathlib.Core.List.{List, [], _∷_, _++_}
 use native.Mathlib.Omega.{arith}
 use lib.Dec.{eqb}
 use borrow.Author.Tests.{eq-eqb, ne-eqb}
+use Rattle.rules.specs.Settings.{Settings}
 use Rattle.rules.specs.Bytes.{byteAt}
 use Rattle.rules.specs.Reading.{Reading, refused, got}
 use Rattle.rules.specs.TypeFile.{Head, Declared, ContentEnd, gap, unfit, head, close, content, rest, element, declare}
@@ -33,38 +34,38 @@ module _ (s : List ℕ) (i : ℕ) where
   close-unfit b q = rw (ne-eqb _ _ b, q, close)
 
 -- What follows the head.
-module _ (s : List ℕ) (es : List rules.Element) (h : Head) where
-  pub rest-gap : {f : Fault} → gap s (h .at) ≡ refusalOf f → rest s es h ≡ refusalOf f
+module _ (c : Settings) (s : List ℕ) (es : List rules.Element) (h : Head) where
+  pub rest-gap : {f : Fault} → gap s (h .at) ≡ refusalOf f → rest c s es h ≡ refusalOf f
   unfolding rest
   rest-gap q = rw (q, rest)
 
   module _ {i : ℕ} (g : gap s (h .at) ≡ got i) where
-    pub rest-content : {f : Fault} → content s (h .at) i ≡ refusalOf f → rest s es h ≡ refusalOf f
+    pub rest-content : {f : Fault} → content c s (h .at) i ≡ refusalOf f → rest c s es h ≡ refusalOf f
     unfolding rest
     rest-content q = rw (g, rest, q)
 
-    module _ {c : ContentEnd} (b : content s (h .at) i ≡ got c) where
-      pub rest-between : {f : Fault} → gap s (c .at) ≡ refusalOf f → rest s es h ≡ refusalOf f
+    module _ {x : ContentEnd} (b : content c s (h .at) i ≡ got x) where
+      pub rest-between : {f : Fault} → gap s (x .at) ≡ refusalOf f → rest c s es h ≡ refusalOf f
       unfolding rest
       rest-between q = rw (g, rest, b, q)
 
-      module _ {j : ℕ} (l : gap s (c .at) ≡ got j) where
-        pub rest-close : {f : Fault} → close s j ≡ refusalOf f → rest s es h ≡ refusalOf f
+      module _ {j : ℕ} (l : gap s (x .at) ≡ got j) where
+        pub rest-close : {f : Fault} → close s j ≡ refusalOf f → rest c s es h ≡ refusalOf f
         unfolding rest
         rest-close q = rw (g, rest, b, l, q)
 
         pub rest-got : {k : ℕ} → close s j ≡ got k
-            → rest s es h ≡ got (record { elements = es ++ declare h (c .content) ∷ []; at = k })
+            → rest c s es h ≡ got (record { elements = es ++ declare h (x .content) ∷ []; at = k })
         unfolding rest
         rest-got q = rw (g, rest, b, l, q)
 
 -- A declaration.
-module _ (s : List ℕ) (at : ℕ) (es : List rules.Element) where
-  pub element-head : {f : Fault} → head s at es ≡ refusalOf f → element s at es ≡ refusalOf f
+module _ (c : Settings) (s : List ℕ) (at : ℕ) (es : List rules.Element) where
+  pub element-head : {f : Fault} → head c s at es ≡ refusalOf f → element c s at es ≡ refusalOf f
   unfolding element
   element-head q = rw (q, element)
 
-  pub element-rest : {h : Head} → head s at es ≡ got h → element s at es ≡ rest s es h
+  pub element-rest : {h : Head} → head c s at es ≡ got h → element c s at es ≡ rest c s es h
   unfolding element
   element-rest q = rw (q, element)
 

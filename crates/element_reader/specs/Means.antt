@@ -23,7 +23,7 @@ pub record KeepsElement (end from : ℕ) (names table : List ℕ) (es : List rul
   pub name : e .offset ≡ element .at
   pub name-in : element .at ≤ end
   pub size : e .size ≡ element .size
-  pub size-in : element .size ≤ 8
+  pub size-in : element .size ≤ end
   pub start : e .start ≡ element .start
   pub end-tag : e .end ≡ element .end
   pub content : KeepsContent names table (e .kind) (e .tokens) (e .places) (element .content)

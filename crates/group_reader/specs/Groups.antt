@@ -7,6 +7,7 @@ use native.Mathlib.Omega.{arith}
 use lib.ListN.{length}
 use lib.Dec.{eqb, leb}
 use borrow.Author.Tests.{eq-eqb, ne-eqb, leb-false}
+use Rattle.rules.specs.Settings.{Settings}
 use Rattle.rules.specs.Bytes.{byteAt, letter, separatorsEnd, GRPCNT, GRPGTCNT}
 use Rattle.rules.specs.Reading.{Reading, refused, got, andThen}
 use Rattle.rules.specs.Walk.{seq, alt}
@@ -41,9 +42,9 @@ or-other true n r e q = absurd (true≢false (sym e ∙ q))
 or-other false n r e q = leb-false 96 n (sym e ∙ q)
 
 -- A connector is a byte of the input.
-pub connector-in : (s : List ℕ) (i b c : ℕ) (y : Bool) → b ≡ byteAt s i → y ≡ ((eqb b 44 || eqb b 124) && (eqb c 0 || eqb c b)) → y ≡ true → i < length s
-connector-in s i zero c y B Y e = absurd (true≢false (sym e ∙ Y))
-connector-in s i (suc b) c y B Y e = byte-is-in s i (suc b) (sym B) (omega arith)
+pub connector-in : (s : List ℕ) (i b joint : ℕ) (y : Bool) → b ≡ byteAt s i → y ≡ ((eqb b 44 || eqb b 124) && (eqb joint 0 || eqb joint b)) → y ≡ true → i < length s
+connector-in s i zero joint y B Y e = absurd (true≢false (sym e ∙ Y))
+connector-in s i (suc b) joint y B Y e = byte-is-in s i (suc b) (sym B) (omega arith)
 
 -- An answer on what follows and the reading that it stands for.
 
@@ -53,10 +54,10 @@ module _ (end lo : ℕ) (T names table : List ℕ) where
   closed-got m (got (closed t)) h = (t, refl, h)
   closed-got m (got (joined b t)) h = absurd h
 
-  pub joined-got : (c : ℕ) (m : Model) (x : Reading Further) → MeetsFurther end lo T names table (Joined c m) x → (t : Tokens) × (x ≡ got (joined c t)) × Keeps end lo T names table m t
-  joined-got c m (refused n k) h = absurd h
-  joined-got c m (got (closed t)) h = absurd h
-  joined-got c m (got (joined b t)) h = (t, ap (λ (d : ℕ). got (joined d t)) (sym (h .0)), h .1)
+  pub joined-got : (joint : ℕ) (m : Model) (x : Reading Further) → MeetsFurther end lo T names table (Joined joint m) x → (t : Tokens) × (x ≡ got (joined joint t)) × Keeps end lo T names table m t
+  joined-got joint m (refused n k) h = absurd h
+  joined-got joint m (got (closed t)) h = absurd h
+  joined-got joint m (got (joined b t)) h = (t, ap (λ (d : ℕ). got (joined d t)) (sym (h .0)), h .1)
 
   pub unfit-is : (f : Fault) (x : Reading Further) → MeetsFurther end lo T names table (Unfit f) x → x ≡ refused (f .number) (f .at)
   unfit-is f (refused n k) h = cc (h .0, h .1)
@@ -73,29 +74,29 @@ module _ (end lo : ℕ) (T names table : List ℕ) where
 
 -- A content token.
 
-module _ (inner : ℕ → List Place → ℕ → Reading Tokens) (s : List ℕ) (at b : ℕ) (full l : Bool) (ps : List Place) (n : ℕ) (B : b ≡ byteAt s at) (L : l ≡ letter b) where
-  pub token-name : l ≡ true → token inner s at full ps n ≡ nameToken s at full ps n
+module _ (c : Settings) (inner : ℕ → List Place → ℕ → Reading Tokens) (s : List ℕ) (at b : ℕ) (full l : Bool) (ps : List Place) (n : ℕ) (B : b ≡ byteAt s at) (L : l ≡ letter b) where
+  pub token-name : l ≡ true → token c inner s at full ps n ≡ nameToken c s at full ps n
   unfolding token
   token-name p = rw (← B, ← L, p, token)
 
-  pub token-data : l ≡ false → b ≡ 35 → token inner s at full ps n ≡ dataToken s at full ps n
+  pub token-data : l ≡ false → b ≡ 35 → token c inner s at full ps n ≡ dataToken s at full ps n
   unfolding token
   token-data p q = rw (← B, ← L, p, ← B, eq-eqb _ _ q, token)
 
   module _ (p : l ≡ false) (q : b ≡ 35 → ⊥) where
-    pub token-full : b ≡ 40 → full ≡ true → token inner s at full ps n ≡ refused 6 at
+    pub token-full : b ≡ 40 → full ≡ true → token c inner s at full ps n ≡ refused 6 at
     unfolding token
     token-full r f = rw (← B, ← L, p, ← B, ne-eqb _ _ q, ← B, eq-eqb _ _ r, f, token)
 
-    pub token-group : b ≡ 40 → full ≡ false → token inner s at full ps n ≡ andThen (inner at ps (n + 1)) (λ t. got (occurrence s t))
+    pub token-group : b ≡ 40 → full ≡ false → token c inner s at full ps n ≡ andThen (inner at ps (n + 1)) (λ t. got (occurrence s t))
     unfolding token
     token-group r f = rw (← B, ← L, p, ← B, ne-eqb _ _ q, ← B, eq-eqb _ _ r, f, token)
 
-    pub token-unfit : (b ≡ 40 → ⊥) → (eqb b 91 || eqb b 37) ≡ true → token inner s at full ps n ≡ refused 5 at
+    pub token-unfit : (b ≡ 40 → ⊥) → (eqb b 91 || eqb b 37) ≡ true → token c inner s at full ps n ≡ refused 5 at
     unfolding token
     token-unfit r f = rw (← B, ← L, p, ← B, ne-eqb _ _ q, ← B, ne-eqb _ _ r, ← B, f, token)
 
-    pub token-other : (b ≡ 40 → ⊥) → (eqb b 91 || eqb b 37) ≡ false → token inner s at full ps n ≡ refused 4 at
+    pub token-other : (b ≡ 40 → ⊥) → (eqb b 91 || eqb b 37) ≡ false → token c inner s at full ps n ≡ refused 4 at
     unfolding token
     token-other r f = rw (← B, ← L, p, ← B, ne-eqb _ _ q, ← B, ne-eqb _ _ r, ← B, f, token)
 
@@ -108,65 +109,65 @@ withNext b t u = record { group = join b (t .group) (u .group); at = u .at; plac
 abbrev joins : ℕ → Tokens → Tokens → Reading Further
 joins b t u = got (joined b (withNext b t u))
 
-module _ (inner : ℕ → List Place → ℕ → Reading Tokens) (s : List ℕ) (k c : ℕ) (t : Tokens) (i b : ℕ) (I : i ≡ separatorsEnd s (t .at)) (B : b ≡ byteAt s i) where
-  pub further-closed : b ≡ 41 → further inner s k c t ≡ got (closed (grouped (t .group) (i + 1) t))
+module _ (c : Settings) (inner : ℕ → List Place → ℕ → Reading Tokens) (s : List ℕ) (k joint : ℕ) (t : Tokens) (i b : ℕ) (I : i ≡ separatorsEnd s (t .at)) (B : b ≡ byteAt s i) where
+  pub further-closed : b ≡ 41 → further c inner s k joint t ≡ got (closed (grouped (t .group) (i + 1) t))
   unfolding further
   further-closed p = rw (← I, ← B, eq-eqb _ _ p, further, I)
 
   module _ (p : b ≡ 41 → ⊥) where
-    pub further-unfit : (eqb b 38 || eqb b 37) ≡ true → further inner s k c t ≡ refused 5 i
+    pub further-unfit : (eqb b 38 || eqb b 37) ≡ true → further c inner s k joint t ≡ refused 5 i
     unfolding further
     further-unfit q = rw (← I, ← B, ne-eqb _ _ p, ← I, ← B, q, further, I)
 
-    pub further-other : (eqb b 38 || eqb b 37) ≡ false → ((eqb b 44 || eqb b 124) && (eqb c 0 || eqb c b)) ≡ false → further inner s k c t ≡ refused 4 i
+    pub further-other : (eqb b 38 || eqb b 37) ≡ false → ((eqb b 44 || eqb b 124) && (eqb joint 0 || eqb joint b)) ≡ false → further c inner s k joint t ≡ refused 4 i
     unfolding further
     further-other q r = rw (← I, ← B, ne-eqb _ _ p, ← I, ← B, q, ← I, ← B, r, further, I)
 
-    pub further-on : (eqb b 38 || eqb b 37) ≡ false → ((eqb b 44 || eqb b 124) && (eqb c 0 || eqb c b)) ≡ true
-        → further inner s k c t ≡ andThen (token inner s (separatorsEnd s (i + 1)) (leb GRPCNT k || leb GRPGTCNT (t .tokens)) (t .places) (t .tokens)) (joins b t)
+    pub further-on : (eqb b 38 || eqb b 37) ≡ false → ((eqb b 44 || eqb b 124) && (eqb joint 0 || eqb joint b)) ≡ true
+        → further c inner s k joint t ≡ andThen (token c inner s (separatorsEnd s (i + 1)) (leb GRPCNT k || leb GRPGTCNT (t .tokens)) (t .places) (t .tokens)) (joins b t)
     unfolding further
     further-on q r = rw (← I, ← B, ne-eqb _ _ p, ← I, ← B, q, ← I, ← B, r, further, B, I)
 
 -- The members of a group, from the one after the k-th on; there are 33 - k at most.
 
-module _ (inner : ℕ → List Place → ℕ → Reading Tokens) (s : List ℕ) (k c : ℕ) (t : Tokens) (h : k ≤ 32) where
+module _ (c : Settings) (inner : ℕ → List Place → ℕ → Reading Tokens) (s : List ℕ) (k joint : ℕ) (t : Tokens) (h : k ≤ 32) where
   left : 33 - k ≡ suc (33 - (k + 1))
   left = omega arith
 
-  pub members-closed : (u : Tokens) → further inner s k c t ≡ got (closed u) → members inner s (33 - k) k c t ≡ got u
+  pub members-closed : (u : Tokens) → further c inner s k joint t ≡ got (closed u) → members c inner s (33 - k) k joint t ≡ got u
   unfolding members
   members-closed u e = rw (left, members, e)
 
-  pub members-joined : (b : ℕ) (u : Tokens) → further inner s k c t ≡ got (joined b u) → members inner s (33 - k) k c t ≡ members inner s (33 - (k + 1)) (k + 1) b u
+  pub members-joined : (b : ℕ) (u : Tokens) → further c inner s k joint t ≡ got (joined b u) → members c inner s (33 - k) k joint t ≡ members c inner s (33 - (k + 1)) (k + 1) b u
   unfolding members
   members-joined b u e = rw (left, e)
 
-  pub members-refused : (n p : ℕ) → further inner s k c t ≡ refused n p → members inner s (33 - k) k c t ≡ refused n p
+  pub members-refused : (n p : ℕ) → further c inner s k joint t ≡ refused n p → members c inner s (33 - k) k joint t ≡ refused n p
   unfolding members
   members-refused n p e = rw (left, members, e)
 
 -- A group.
 
-pub group-none : (levels : ℕ) (s : List ℕ) (at : ℕ) (ps : List Place) (n : ℕ) → levels ≡ 0 → group levels s at ps n ≡ refused 6 at
+pub group-none : (c : Settings) (levels : ℕ) (s : List ℕ) (at : ℕ) (ps : List Place) (n : ℕ) → levels ≡ 0 → group c levels s at ps n ≡ refused 6 at
 unfolding group
-group-none levels s at ps n e = rw e
+group-none c levels s at ps n e = rw e
 
-pub group-some : (levels : ℕ) (s : List ℕ) (at i : ℕ) (ps : List Place) (n : ℕ) → (levels ≡ 0 → ⊥) → i ≡ separatorsEnd s (at + 1)
-    → group levels s at ps n ≡ andThen (token (group (levels - 1) s) s i (leb 96 n) ps n) (members (group (levels - 1) s) s 32 1 0)
+pub group-some : (c : Settings) (levels : ℕ) (s : List ℕ) (at i : ℕ) (ps : List Place) (n : ℕ) → (levels ≡ 0 → ⊥) → i ≡ separatorsEnd s (at + 1)
+    → group c levels s at ps n ≡ andThen (token c (group c (levels - 1) s) s i (leb 96 n) ps n) (members c (group c (levels - 1) s) s 32 1 0)
 unfolding group
-group-some zero s at i ps n h I = absurd (h refl)
-group-some (suc levels) s at i ps n h I =
+group-some c zero s at i ps n h I = absurd (h refl)
+group-some c (suc levels) s at i ps n h I =
     let e : suc levels - 1 ≡ levels = omega arith in
     rw (e, I)
 
 -- A group whose first token was read.
-pub group-begun : (levels : ℕ) (s : List ℕ) (at i : ℕ) (ps : List Place) (n lo : ℕ) (T names table : List ℕ) (r : ModelRead) (m : Model)
-    → Meets (length s) lo T names table r (token (group (levels - 1) s) s i (leb 96 n) ps n) → r ≡ Read m → (levels ≡ 0 → ⊥) → i ≡ separatorsEnd s (at + 1)
-    → (t : Tokens) × Keeps (length s) lo T names table m t × (group levels s at ps n ≡ members (group (levels - 1) s) s 32 1 0 t)
-group-begun levels s at i ps n lo T names table r m M e h I =
-    let x : Reading Tokens = token (group (levels - 1) s) s i (leb 96 n) ps n in
+pub group-begun : (c : Settings) (levels : ℕ) (s : List ℕ) (at i : ℕ) (ps : List Place) (n lo : ℕ) (T names table : List ℕ) (r : ModelRead) (m : Model)
+    → Meets (length s) lo T names table r (token c (group c (levels - 1) s) s i (leb 96 n) ps n) → r ≡ Read m → (levels ≡ 0 → ⊥) → i ≡ separatorsEnd s (at + 1)
+    → (t : Tokens) × Keeps (length s) lo T names table m t × (group c levels s at ps n ≡ members c (group c (levels - 1) s) s 32 1 0 t)
+group-begun c levels s at i ps n lo T names table r m M e h I =
+    let x : Reading Tokens = token c (group c (levels - 1) s) s i (leb 96 n) ps n in
     let w = read-got (length s) lo T names table m x (rw e at M) in
-    (w .0, w .2, group-some levels s at i ps n h I ∙ ap (λ (x : Reading Tokens). andThen x (members (group (levels - 1) s) s 32 1 0)) (w .1))
+    (w .0, w .2, group-some c levels s at i ps n h I ∙ ap (λ (x : Reading Tokens). andThen x (members c (group c (levels - 1) s) s 32 1 0)) (w .1))
 
 -- Two groups joined by a connector.
 
@@ -224,79 +225,79 @@ module _ (end lo : ℕ) (T names table names' table' : List ℕ) (m u : Model) (
 
 -- What follows, when m is kept of t and the byte b stands at i.
 
-module _ (inner : ℕ → List Place → ℕ → Reading Tokens) (s : List ℕ) (lo k c : ℕ) (T names table : List ℕ) (m : Model) (t : Tokens) (K : Keeps (length s) lo T names table m t) (i b : ℕ) (I : i ≡ separatorsEnd s (m .at)) (B : b ≡ byteAt s i) where
+module _ (c : Settings) (inner : ℕ → List Place → ℕ → Reading Tokens) (s : List ℕ) (lo k joint : ℕ) (T names table : List ℕ) (m : Model) (t : Tokens) (K : Keeps (length s) lo T names table m t) (i b : ℕ) (I : i ≡ separatorsEnd s (m .at)) (B : b ≡ byteAt s i) where
   here : i ≡ separatorsEnd s (t .at)
   here = I ∙ ap (separatorsEnd s) (K .at)
 
-  pub next-closed : b ≡ 41 → MeetsFurther (length s) lo T names table (Closed (record { at = i + 1; places = m .places; tokens = m .tokens; part = m .part })) (further inner s k c t)
+  pub next-closed : b ≡ 41 → MeetsFurther (length s) lo T names table (Closed (record { at = i + 1; places = m .places; tokens = m .tokens; part = m .part })) (further c inner s k joint t)
   next-closed p =
-      closed-meets _ lo T names table _ _ _ _ refl (further-closed inner s k c t i b here B p)
+      closed-meets _ lo T names table _ _ _ _ refl (further-closed c inner s k joint t i b here B p)
       (keeps-on _ lo T names table table m t K (t .group) (i + 1) (i + 1) (m .part) refl (omega (arith, byte-is-in s i 41 (sym B ∙ p) (omega arith))) (K .part) (K .table-filled) (K .numbered) refl)
 
   module _ (p : b ≡ 41 → ⊥) where
-    pub next-unfit : (eqb b 38 || eqb b 37) ≡ true → MeetsFurther (length s) lo T names table (Unfit (record { number = 5; at = i })) (further inner s k c t)
-    next-unfit q = unfit-meets _ lo T names table _ _ _ refl (further-unfit inner s k c t i b here B p q)
+    pub next-unfit : (eqb b 38 || eqb b 37) ≡ true → MeetsFurther (length s) lo T names table (Unfit (record { number = 5; at = i })) (further c inner s k joint t)
+    next-unfit q = unfit-meets _ lo T names table _ _ _ refl (further-unfit c inner s k joint t i b here B p q)
 
-    module _ (q : (eqb b 38 || eqb b 37) ≡ false) (y : Bool) (Y : y ≡ ((eqb b 44 || eqb b 124) && (eqb c 0 || eqb c b))) where
-      pub next-other : y ≡ false → MeetsFurther (length s) lo T names table (Unfit (record { number = 4; at = i })) (further inner s k c t)
-      next-other r = unfit-meets _ lo T names table _ _ _ refl (further-other inner s k c t i b here B p q (sym Y ∙ r))
+    module _ (q : (eqb b 38 || eqb b 37) ≡ false) (y : Bool) (Y : y ≡ ((eqb b 44 || eqb b 124) && (eqb joint 0 || eqb joint b))) where
+      pub next-other : y ≡ false → MeetsFurther (length s) lo T names table (Unfit (record { number = 4; at = i })) (further c inner s k joint t)
+      next-other r = unfit-meets _ lo T names table _ _ _ refl (further-other c inner s k joint t i b here B p q (sym Y ∙ r))
 
       module _ (r : y ≡ true) (j : ℕ) (full : Bool) (J : j ≡ separatorsEnd s (i + 1)) (F : full ≡ (leb 32 k || leb 96 (m .tokens))) (names' table' : List ℕ) where
-        on : further inner s k c t ≡ andThen (token inner s j full (placesOf names (m .places)) (m .tokens)) (joins b t)
-        on = rw (J, F, K .names-hold, K .tokens) (further-on inner s k c t i b here B p q (sym Y ∙ r))
+        on : further c inner s k joint t ≡ andThen (token c inner s j full (placesOf names (m .places)) (m .tokens)) (joins b t)
+        on = rw (J, F, K .names-hold, K .tokens) (further-on c inner s k joint t i b here B p q (sym Y ∙ r))
 
-        module _ (a : ModelRead) (M : Meets (length s) (m .places + 1) table names' table' a (token inner s j full (placesOf names (m .places)) (m .tokens))) where
-          pub next-refused : (f g : Fault) → a ≡ Refused f → g ≡ modelFault a → MeetsFurther (length s) lo T names' table' (Unfit g) (further inner s k c t)
+        module _ (a : ModelRead) (M : Meets (length s) (m .places + 1) table names' table' a (token c inner s j full (placesOf names (m .places)) (m .tokens))) where
+          pub next-refused : (f g : Fault) → a ≡ Refused f → g ≡ modelFault a → MeetsFurther (length s) lo T names' table' (Unfit g) (further c inner s k joint t)
           next-refused f g e d =
-              let x : Reading Tokens = token inner s j full (placesOf names (m .places)) (m .tokens) in
+              let x : Reading Tokens = token c inner s j full (placesOf names (m .places)) (m .tokens) in
               let w = refused-is (length s) (m .places + 1) table names' table' f x (rw e at M) in
               rw (d, e) (unfit-meets _ lo T names' table' _ f _ refl (on ∙ ap (λ (x : Reading Tokens). andThen x (joins b t)) w))
 
-          pub next-joined : (u v : Model) (table″ : List ℕ) → a ≡ Read u → v ≡ joinModel b m u → table″ ≡ joinTable b lo m u table' → MeetsFurther (length s) lo T names' table″ (Joined b v) (further inner s k c t)
+          pub next-joined : (u v : Model) (table″ : List ℕ) → a ≡ Read u → v ≡ joinModel b m u → table″ ≡ joinTable b lo m u table' → MeetsFurther (length s) lo T names' table″ (Joined b v) (further c inner s k joint t)
           next-joined u v table″ e f h =
-              let x : Reading Tokens = token inner s j full (placesOf names (m .places)) (m .tokens) in
+              let x : Reading Tokens = token c inner s j full (placesOf names (m .places)) (m .tokens) in
               let w = read-got (length s) (m .places + 1) table names' table' u x (rw e at M) in
-              joined-meets _ lo T names' table″ _ b v (further inner s k c t) (withNext b t (w .0)) refl (on ∙ ap (λ (x : Reading Tokens). andThen x (joins b t)) (w .1))
+              joined-meets _ lo T names' table″ _ b v (further c inner s k joint t) (withNext b t (w .0)) refl (on ∙ ap (λ (x : Reading Tokens). andThen x (joins b t)) (w .1))
               (rw (f, h) (join-kept _ lo T names table names' table' m u t (w .0) K (w .2) b))
 
 -- The members of a group so far, from the first one on.
 
-pub record So (inner : ℕ → List Place → ℕ → Reading Tokens) (s : List ℕ) (lo : ℕ) (names₀ table₀ : List ℕ) (m₀ : Model) (names table : List ℕ) (m : Model) (k c : ℕ) : Type 0 where
+pub record So (c : Settings) (inner : ℕ → List Place → ℕ → Reading Tokens) (s : List ℕ) (lo : ℕ) (names₀ table₀ : List ℕ) (m₀ : Model) (names table : List ℕ) (m : Model) (k joint : ℕ) : Type 0 where
   pub few : k ≤ 32
-  pub read : (T : List ℕ) (t₀ : Tokens) → Keeps (length s) lo T names₀ table₀ m₀ t₀ → (t : Tokens) × Keeps (length s) lo T names table m t × (members inner s 32 1 0 t₀ ≡ members inner s (33 - k) k c t)
+  pub read : (T : List ℕ) (t₀ : Tokens) → Keeps (length s) lo T names₀ table₀ m₀ t₀ → (t : Tokens) × Keeps (length s) lo T names table m t × (members c inner s 32 1 0 t₀ ≡ members c inner s (33 - k) k joint t)
 
-module _ (inner : ℕ → List Place → ℕ → Reading Tokens) (s : List ℕ) (lo : ℕ) (names₀ table₀ : List ℕ) (m₀ : Model) where
-  pub so-first : So inner s lo names₀ table₀ m₀ names₀ table₀ m₀ 1 0
+module _ (c : Settings) (inner : ℕ → List Place → ℕ → Reading Tokens) (s : List ℕ) (lo : ℕ) (names₀ table₀ : List ℕ) (m₀ : Model) where
+  pub so-first : So c inner s lo names₀ table₀ m₀ names₀ table₀ m₀ 1 0
   so-first = record { few = omega arith; read = λ T t K. (t, K, refl) }
 
   -- what is kept of them lies within its bounds
-  pub so-in : (names table : List ℕ) (m : Model) (k c : ℕ) → So inner s lo names₀ table₀ m₀ names table m k c
+  pub so-in : (names table : List ℕ) (m : Model) (k joint : ℕ) → So c inner s lo names₀ table₀ m₀ names table m k joint
       → (T : List ℕ) (t₀ : Tokens) → Keeps (length s) lo T names₀ table₀ m₀ t₀ → (m .at ≤ length s) × (m .places ≤ m .tokens) × (m .tokens ≤ 96)
-  so-in names table m k c S T t₀ K₀ = omega (arith, S .read T t₀ K₀ .1)
+  so-in names table m k joint S T t₀ K₀ = omega (arith, S .read T t₀ K₀ .1)
 
-  module _ (names table : List ℕ) (m : Model) (k c : ℕ) (S : So inner s lo names₀ table₀ m₀ names table m k c) (names' table' : List ℕ) (r : Next)
-      (N : (T : List ℕ) (t : Tokens) → Keeps (length s) lo T names table m t → MeetsFurther (length s) lo T names' table' r (further inner s k c t))
+  module _ (names table : List ℕ) (m : Model) (k joint : ℕ) (S : So c inner s lo names₀ table₀ m₀ names table m k joint) (names' table' : List ℕ) (r : Next)
+      (N : (T : List ℕ) (t : Tokens) → Keeps (length s) lo T names table m t → MeetsFurther (length s) lo T names' table' r (further c inner s k joint t))
       (T : List ℕ) (t₀ : Tokens) (K₀ : Keeps (length s) lo T names₀ table₀ m₀ t₀) where
-    pub so-closed : (y : Reading Tokens) (u : Model) → y ≡ members inner s 32 1 0 t₀ → r ≡ Closed u → Meets (length s) lo T names' table' (Read u) y
+    pub so-closed : (y : Reading Tokens) (u : Model) → y ≡ members c inner s 32 1 0 t₀ → r ≡ Closed u → Meets (length s) lo T names' table' (Read u) y
     so-closed y u q e =
         let w = S .read T t₀ K₀ in
         let x = closed-got _ lo T names' table' u _ (rw e at (N T (w .0) (w .1))) in
-        got-meets _ lo T names' table' _ u _ _ refl (q ∙ w .2 ∙ members-closed inner s k c (w .0) (S .few) (x .0) (x .1)) (x .2)
+        got-meets _ lo T names' table' _ u _ _ refl (q ∙ w .2 ∙ members-closed c inner s k joint (w .0) (S .few) (x .0) (x .1)) (x .2)
 
-    pub so-unfit : (y : Reading Tokens) (f : Fault) → y ≡ members inner s 32 1 0 t₀ → r ≡ Unfit f → Meets (length s) lo T names' table' (Refused f) y
+    pub so-unfit : (y : Reading Tokens) (f : Fault) → y ≡ members c inner s 32 1 0 t₀ → r ≡ Unfit f → Meets (length s) lo T names' table' (Refused f) y
     so-unfit y f q e =
         let w = S .read T t₀ K₀ in
-        refused-meets _ lo T names' table' _ (f .number) (f .at) _ refl (q ∙ w .2 ∙ members-refused inner s k c (w .0) (S .few) _ _ (unfit-is _ lo T names' table' f _ (rw e at (N T (w .0) (w .1)))))
+        refused-meets _ lo T names' table' _ (f .number) (f .at) _ refl (q ∙ w .2 ∙ members-refused c inner s k joint (w .0) (S .few) _ _ (unfit-is _ lo T names' table' f _ (rw e at (N T (w .0) (w .1)))))
 
-    pub so-joined : (b : ℕ) (u : Model) → r ≡ Joined b u → (k < 32) × So inner s lo names₀ table₀ m₀ names' table' u (k + 1) b
+    pub so-joined : (b : ℕ) (u : Model) → r ≡ Joined b u → (k < 32) × So c inner s lo names₀ table₀ m₀ names' table' u (k + 1) b
     so-joined b u e =
         let w = S .read T t₀ K₀ in
         let x = joined-got _ lo T names' table' b u _ (rw e at (N T (w .0) (w .1))) in
-        let h : k < 32 = further-room inner s k c (w .0) b (x .0) (x .1) in
+        let h : k < 32 = further-room c inner s k joint (w .0) b (x .0) (x .1) in
         (h, record { few = omega arith; read = next })
       where
-        next : (T : List ℕ) (t₀ : Tokens) → Keeps (length s) lo T names₀ table₀ m₀ t₀ → (t : Tokens) × Keeps (length s) lo T names' table' u t × (members inner s 32 1 0 t₀ ≡ members inner s (33 - (k + 1)) (k + 1) b t)
+        next : (T : List ℕ) (t₀ : Tokens) → Keeps (length s) lo T names₀ table₀ m₀ t₀ → (t : Tokens) × Keeps (length s) lo T names' table' u t × (members c inner s 32 1 0 t₀ ≡ members c inner s (33 - (k + 1)) (k + 1) b t)
         next T t₀ K₀ =
             let w = S .read T t₀ K₀ in
             let x = joined-got _ lo T names' table' b u _ (rw e at (N T (w .0) (w .1))) in
-            (x .0, x .2, w .2 ∙ members-joined inner s k c (w .0) (S .few) b (x .0) (x .1))
+            (x .0, x .2, w .2 ∙ members-joined c inner s k joint (w .0) (S .few) b (x .0) (x .1))

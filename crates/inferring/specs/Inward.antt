@@ -7,6 +7,7 @@ use native.Mathlib.Omega.{arith}
 use lib.ListN.{length}
 use lib.Dec.{leb}
 use borrow.Author.Tests.{le-leb, le-ltb, lt-ltb}
+use Rattle.rules.specs.Settings.{Settings}
 use Rattle.rules.specs.Reading.{refused, got}
 use Rattle.rules.specs.TypeFile.{Content, empty, model, Element}
 use Rattle.rules.specs.Judge.{Accepts}
@@ -32,13 +33,13 @@ use Rattle.inferring.specs.Inferring.{inferMany, Infers}
 use Rattle.inferring.specs.Starts.{chain-infers, chain-starts}
 
 -- The place as which a token fits is one of the model's.
-pub fits-most : (s : List ℕ) (es : List Element) → Accepts s es → (k : ℕ) (taken : List ℕ) (t : Token) → decided s es .fits k taken t ≤ width es k
+pub fits-most : {c : Settings} (s : List ℕ) (es : List Element) → Accepts c s es → (k : ℕ) (taken : List ℕ) (t : Token) → decided s es .fits k taken t ≤ width es k
 unfolding fitsIn
-fits-most s es accepted k taken t = go (contentOf es k) refl
+fits-most {c} s es accepted k taken t = go (contentOf es k) refl
   where
-    go : (c : Content) → contentOf es k ≡ c → fitsIn s es c taken t ≤ length (placesIn c)
+    go : (x : Content) → contentOf es k ≡ x → fitsIn s es x taken t ≤ length (placesIn x)
     go empty e = omega arith
-    go (model g ps n) e = rw (← typeFile-width s es (accepted .elements) k e .0) (search-most _ _)
+    go (model g ps n) e = rw (← typeFile-width c s es (accepted .elements) k e .0) (search-most _ _)
 
 -- Steps 1 and 2, by whatever decisions
 

@@ -14,7 +14,7 @@ use Rattle.inputs.specs.declared.Checked.the-variants as checked
 
 -- The settings in the rules' terms.
 abbrev pub settingsOf : Settings → rules.Settings
-settingsOf c = rules.settings (c .name_length)
+settingsOf c = rules.settings (c .«name_length»)
 
 -- All bytes are allowed.
 abbrev pub isClean : List ℕ → Bool

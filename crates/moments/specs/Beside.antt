@@ -6,6 +6,7 @@ use mathlib.Core.List.{List, [], _∷_}
 use native.Mathlib.Omega.{arith}
 use lib.ListN.{length}
 use borrow.Author.Tests.{le-leb}
+use Rattle.rules.specs.Settings.{Settings}
 use Rattle.rules.specs.TypeFile.{Element}
 use Rattle.rules.specs.Judge.{Accepts}
 use Rattle.rules.specs.Elements.{contentOf, hasModel}
@@ -35,7 +36,7 @@ use Rattle.placing.specs.Limits.{same-deep, same-took}
 use Rattle.acts.specs.Laws.{acts-first, ended-begun}
 use Rattle.moments.specs.Means.{done, Moment, Beside, still, next}
 
-module _ (s : List ℕ) (es : List Element) (accepted : Accepts s es) where
+module _ {c : Settings} (s : List ℕ) (es : List Element) (accepted : Accepts c s es) where
   -- What has been shown of the two states makes a moment.
   pub moment : (z : State) (o : Open) → Ranged o → Stands es o → AllBegun es z → short z ≡ stateOf o (z .events) → Moment es z o
   moment z o r h b e =
@@ -74,12 +75,12 @@ module _ (s : List ℕ) (es : List Element) (accepted : Accepts s es) where
     pub moment-entered : (k : ℕ) → Declared es k → hasModel (contentOf es k) ≡ true → o .count < 24 → Moment es (enter k z) (opening rows k o)
     moment-entered k d h less =
         let means = accepted-decided s es accepted in
-        moment (enter k z) (opening rows k o) (ranged-opening rows k (m .ranged) less (omega (arith, d .1, typeFile-count s es (accepted .elements))))
+        moment (enter k z) (opening rows k o) (ranged-opening rows k (m .ranged) less (omega (arith, d .1, typeFile-count c s es (accepted .elements))))
         (stands-opening accepted said k (m .stands) less (d .0) (d .1)) (begun-moves s es (decided s es) (decided s es) means means .enter (refl, m .begun) k h .1)
         (ap (λ (y : State). state (standing k 0) (y .current ∷ y .around) (z .events)) (m .same)
         ∙ sym (ap (λ (us : List rules.Open). state (standing k 0) us (z .events)) (around-opening rows k o (m .ranged .whole) less)))
 
-module _ (s : List ℕ) (es : List Element) (accepted : Accepts s es) (D : Decisions) (means : Means s es D) where
+module _ {c : Settings} (s : List ℕ) (es : List Element) (accepted : Accepts c s es) (D : Decisions) (means : Means s es D) where
   module _ (z : State) (o : Open) (m : Moment es z o) where
     pub number-same : z .current .number ≡ o .element
     number-same = ap (λ (y : State). y .current .number) (m .same)
@@ -116,7 +117,7 @@ module _ (s : List ℕ) (es : List Element) (accepted : Accepts s es) (D : Decis
     chosen-in (fits t l) = fits-in t
     chosen-in (required l) = required-in
 
-module _ (s : List ℕ) (es : List Element) (accepted : Accepts s es) (D : Decisions) (means : Means s es D) (rows : List ℕ) (said : Rows es rows) where
+module _ {c : Settings} (s : List ℕ) (es : List Element) (accepted : Accepts c s es) (D : Decisions) (means : Means s es D) (rows : List ℕ) (said : Rows es rows) where
   module _ (z : State) (o : Open) (m : Moment es z o) where
     module _ (p : ℕ) (l : p ≤ width es (o .element)) where
       small : p ≤ 96

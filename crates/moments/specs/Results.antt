@@ -5,6 +5,7 @@ use mathlib.Core.Bool.{true}
 use mathlib.Core.List.{List, _++_}
 use native.Mathlib.Omega.{arith}
 use lib.ListN.{length}
+use Rattle.rules.specs.Settings.{Settings}
 use Rattle.rules.specs.Reading.{Reading, got}
 use Rattle.rules.specs.TypeFile.{Element}
 use Rattle.rules.specs.Judge.{Accepts}
@@ -35,19 +36,19 @@ use Rattle.moments.specs.Beside.{moment, moment-first, acts-beside, besi
 use Rattle.moments.specs.Alike.{stands-alike}
 
 -- By whatever decisions mean the walks
-module _ (s : List ℕ) (es : List Element) (accepted : Accepts s es) (D : Decisions) (means : Means s es D) (rows : List ℕ) (said : Rows es rows) (d : List ℕ) where
+module _ {c : Settings} (s : List ℕ) (es : List Element) (accepted : Accepts c s es) (D : Decisions) (means : Means s es D) (rows : List ℕ) (said : Rows es rows) (d : List ℕ) where
   -- Wherever reading comes, acts lead to, from nothing open on, and the program's open elements stand beside at every moment.
-  pub passes-beside : (at : ℕ) (z : State) → Passes s es D d at z → (o : Open) × Beside s es D rows nothingOpen fresh z o
+  pub passes-beside : (at : ℕ) (z : State) → Passes c s es D d at z → (o : Open) × Beside s es D rows nothingOpen fresh z o
   passes-beside at z p = acts-beside s es accepted D means rows said (moment-first s es accepted) (passes-acts s es D d p)
 
   -- A document that is read to its end: at last nothing is open.
-  pub document-beside : (ev : List Event) → document s es D d ≡ got ev → (z : State) × (o : Open) × Beside s es D rows nothingOpen fresh z o × (o .count ≡ 0) × (isComplete s es D (z .current) ≡ true) × (z .events ≡ ev)
+  pub document-beside : (ev : List Event) → document c s es D d ≡ got ev → (z : State) × (o : Open) × Beside s es D rows nothingOpen fresh z o × (o .count ≡ 0) × (isComplete s es D (z .current) ≡ true) × (z .events ≡ ev)
   document-beside ev e =
-      let r = document-acts s es D d ev e in
+      let r = document-acts s es D d c ev e in
       let (o, b) = acts-beside s es accepted D means rows said (moment-first s es accepted) (r .acts) in
       (r .last, o, b, beside-last b .many ∙ ap length (r .nothing), r .complete, r .events)
 
-module _ (s : List ℕ) (es : List Element) (accepted : Accepts s es) (rows : List ℕ) (said : Rows es rows) where
+module _ {c : Settings} (s : List ℕ) (es : List Element) (accepted : Accepts c s es) (rows : List ℕ) (said : Rows es rows) where
   abbrev D : Decisions
   D = decided s es
 
@@ -68,8 +69,8 @@ module _ (s : List ℕ) (es : List Element) (accepted : Accepts s es) (rows : Li
 
   -- Between tokens: reading has come to `at` (`Reaches`, `Stands` and `Ranged`: what the loop over a document's tokens keeps). All moments before were
   -- passed by acts, from nothing open on.
-  pub reaches-leads : (d : List ℕ) (at : ℕ) (o : Open) (ev : List Event) → Ranged o → Stands es o → Reaches s es d at (stateOf o ev)
-      → (z : State) × Passes s es D d at z × Leads s es D rows nothingOpen fresh z o
+  pub reaches-leads : (d : List ℕ) (at : ℕ) (o : Open) (ev : List Event) → Ranged o → Stands es o → Reaches c s es d at (stateOf o ev)
+      → (z : State) × Passes c s es D d at z × Leads s es D rows nothingOpen fresh z o
   reaches-leads d at o ev g h r =
       let f = r .follows in
       (f .state, f .passes, leads (moment-first s es accepted) (passes-acts s es D d (f .passes)) o g h ev (f .same))

@@ -7,6 +7,7 @@ use mathlib.Core.List.{List, [], _∷_, _++_}
 use native.Mathlib.Omega.{arith}
 use lib.ListN.{length}
 use lib.Dec.{eqb}
+use Rattle.rules.specs.Settings.{Settings}
 use Rattle.rules.specs.Bytes.{TAGLVL}
 use Rattle.rules.specs.Reading.{Reading, refused, got, andThen}
 use Rattle.rules.specs.TypeFile.{Element}
@@ -138,7 +139,7 @@ not-none (suc n) h = omega arith
 
 -- The functions
 
-module _ (s : List ℕ) (es : List Element) (accepted : Accepts s es) (rows : List ℕ) (said : Rows es rows) where
+module _ {c : Settings} (s : List ℕ) (es : List Element) (accepted : Accepts c s es) (rows : List ℕ) (said : Rows es rows) where
   means : Means s es (D s es)
   means = accepted-decided s es accepted
 

@@ -9,6 +9,7 @@ use native.Mathlib.Omega.{arith}
 use borrow.Author.Tests.{eq-eqb, ne-eqb}
 use lib.ListN.{length, getD, set, length-set, length-replicate}
 use lib.Seq.{getD-set-same, getD-set-other}
+use Rattle.rules.specs.Settings.{Settings}
 use Rattle.rules.specs.TypeFile.{Element}
 use Rattle.rules.specs.Judge.{Accepts}
 use Rattle.rules.specs.Events.{Event}
@@ -159,13 +160,13 @@ stands-fresh es =
     }
 
 -- What the rows have after a place are the marks of the element there.
-rows-mark : {s : List ℕ} {es : List Element} → Accepts s es → {rows : List ℕ} → Rows es rows → {x : Entry} → x .element ≤ length es → x .place ≤ width es (x .element)
+rows-mark : {c : Settings} {s : List ℕ} {es : List Element} → Accepts c s es → {rows : List ℕ} → Rows es rows → {x : Entry} → x .element ≤ length es → x .place ≤ width es (x .element)
     → x .complete ≡ completeAt rows (x .element) (x .place) → x .required ≡ requiredAt rows (x .element) (x .place) → Marked es x
-rows-mark {s} {es} accepted {rows} said {x} d w c r =
-    record { complete = c ∙ said .complete (x .element) (x .place) d w; required = r ∙ required-kept s es accepted rows said (x .element) (x .place) d w }
+rows-mark {c} {s} {es} accepted {rows} said {x} d w m r =
+    record { complete = m ∙ said .complete (x .element) (x .place) d w; required = r ∙ required-kept s es accepted rows said (x .element) (x .place) d w }
 
-pub stands-took : {s : List ℕ} {es : List Element} → Accepts s es → {rows : List ℕ} → Rows es rows → {o : Open} (p : ℕ) → Stands es o → p ≤ width es (o .element) → Stands es (took rows p o)
-stands-took {s} {es} accepted said {o} p h w =
+pub stands-took : {c : Settings} {s : List ℕ} {es : List Element} → Accepts c s es → {rows : List ℕ} → Rows es rows → {o : Open} (p : ℕ) → Stands es o → p ≤ width es (o .element) → Stands es (took rows p o)
+stands-took {c} {s} {es} accepted said {o} p h w =
     record {
       whole = h .whole;
       few = h .few;
@@ -189,8 +190,8 @@ outermost-set : (a : List Entry) (n : ℕ) (x : Entry) → n < length a → (n �
 outermost-set a zero x l d h = rw (getD-set-same a 0 x none l) (d refl)
 outermost-set a (suc n) x l d h = rw (getD-set-other a (suc n) 0 x none (λ e. omega arith)) (h (omega arith))
 
-pub stands-opening : {s : List ℕ} {es : List Element} → Accepts s es → {rows : List ℕ} → Rows es rows → {o : Open} (k : ℕ) → Stands es o → o .count < 24 → 1 ≤ k → k ≤ length es → Stands es (opening rows k o)
-stands-opening {s} {es} accepted {rows} said {o} k h l some there =
+pub stands-opening : {c : Settings} {s : List ℕ} {es : List Element} → Accepts c s es → {rows : List ℕ} → Rows es rows → {o : Open} (k : ℕ) → Stands es o → o .count < 24 → 1 ≤ k → k ≤ length es → Stands es (opening rows k o)
+stands-opening {c} {s} {es} accepted {rows} said {o} k h l some there =
     record {
       whole = simp length-set (h .whole);
       few = omega arith;

@@ -5,6 +5,7 @@ use mathlib.Core.Path.{_≡_, refl, sym, _∙_, ap}
 use mathlib.Core.List.{List, [], _∷_}
 use native.Mathlib.Omega.{arith}
 use lib.ListN.{getD}
+use Rattle.rules.specs.Settings.{Settings}
 use Rattle.rules.specs.Walk.{Group}
 use Rattle.rules.specs.TypeFile.{Place, Content, empty, model, Element}
 use Rattle.rules.specs.Judge.{Accepts}
@@ -58,7 +59,7 @@ unfolding requiredOf
 required-last empty taken = refl
 required-last (model g ps n) taken = rw (last-placed (lastOr0 taken))
 
-module _ (s : List ℕ) (es : List Element) (accepted : Accepts s es) where
+module _ {c : Settings} (s : List ℕ) (es : List Element) (accepted : Accepts c s es) where
   module _ (x : Entry) (o : rules.Open) (marked : Marked es x) (same : lastOnly o ≡ opened x) where
     is-complete : x .complete ≡ isCompleteIn (contentOf es (o .number)) (o .taken)
     is-complete =
@@ -75,7 +76,7 @@ module _ (s : List ℕ) (es : List Element) (accepted : Accepts s es) where
         by-model {g} {ps} {n} e =
             let i : b .group ≡ g = cc in
             let means = accepted-decided s es accepted .walks (o .number) e (o .taken) (rw i at (b .begins)) in
-            let numbered = typeFile-width s es (accepted .elements) (o .number) e .2 in
+            let numbered = typeFile-width c s es (accepted .elements) (o .number) e .2 in
             record {
               complete = (λ t. means .complete .0 (sym is-complete ∙ t), λ w. is-complete ∙ means .complete .1 w);
               required = λ p l. (
@@ -111,17 +112,17 @@ module _ (s : List ℕ) (es : List Element) (accepted : Accepts s es) where
         around = all-say (o .around) (o .count) (z .around) (λ k l. h .kept k (omega arith)) (ap (λ (y : State). y .around) e) (b .around);
       }
 
-  -- "At every moment both must equal what 01's definition says of the places taken": reading the document d has come to `at`, and the rules,
-  -- by whatever decisions mean the walks, come there with the state z, of which the marks say what the walks say.
-  pub record AtMoment (d : List ℕ) (at : ℕ) (o : Open) : Type 0 where
+  -- "At every moment both must equal what 01's definition says of the places taken": reading the document d, under any settings, has come to `at`,
+  -- and the rules, by whatever decisions mean the walks, come there with the state z, of which the marks say what the walks say.
+  pub record AtMoment (given : Settings) (d : List ℕ) (at : ℕ) (o : Open) : Type 0 where
     pub state : State
-    pub passes : (D : Decisions) → Means s es D → Passes s es D d at state
+    pub passes : (D : Decisions) → Means s es D → Passes given s es D d at state
     pub marks : MarksSay es o state
 
   -- `Reaches` and `Stands` hold before the first token (`reaches-start`, `stands-fresh`), and by the contracts of `settling::token` and
   -- `closing::end_tag` after each that is not refused: `Going` and `Turned` of document_events have both.
-  pub at-every-moment : (d : List ℕ) (at : ℕ) (o : Open) (ev : List Event) → Stands es o → Reaches s es d at (stateOf o ev) → AtMoment d at o
-  at-every-moment d at o ev h r =
+  pub at-every-moment : (given : Settings) (d : List ℕ) (at : ℕ) (o : Open) (ev : List Event) → Stands es o → Reaches given s es d at (stateOf o ev) → AtMoment given d at o
+  at-every-moment given d at o ev h r =
       let means = accepted-decided s es accepted in
       let f = r .follows in
       record {

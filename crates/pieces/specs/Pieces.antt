@@ -4,6 +4,7 @@ use mathlib.Core.Path.{_≡_, refl, sym, _∙_, ap}
 use mathlib.Core.List.{List}
 use native.Mathlib.Omega.{arith}
 use lib.ListN.{length}
+use Rattle.rules.specs.Settings.{Settings, mostNameLength}
 use Rattle.rules.specs.Reading.{got}
 use Rattle.rules.specs.TypeFile.{Element}
 use Rattle.rules.specs.Document.{Tag, startTag, endTag, skipped, blank, dataByte, piece}
@@ -13,58 +14,57 @@ use Rattle.rules.specs.Decisions.{pcdata}
 use Rattle.document_laws.specs.Decide.{decided}
 use Rattle.text.specs.declared.Fault.{Fault}
 use Rattle.tags.specs.Tags.{tagIn}
+use Rattle.rules_laws.specs.Holds.{got-so}
+use Rattle.rules_laws.specs.Pieces.{TagRead, piece-read, piece-short}
 use Rattle.rules_laws.specs.Runs.{isRun, runEnd, runEnd-in}
-use Rattle.document_text.specs.Laws.{start-tag-in, end-tag-in, start-tag-range, end-tag-range, skipped-range}
 use Rattle.tags.specs.declared.Tag as text
 use Rattle.last_places.specs.Last.{placed}
 use Rattle.pieces.specs.declared.Piece.{Piece}
 use Rattle.pieces.specs.declared.Piece.the-variants as found
 use Rattle.pieces.specs.Means.{Names, Ignored, separates, undeclaredStart, undeclaredEnd, Runs, ToSettle, starts, Finds, Onward}
-use Rattle.pieces.specs.Named.{start-tag-named, end-tag-named}
 
 -- From the token
 
 -- What the index asks of a tag's name.
 abbrev pub NameAsked : List ℕ → Tag → Type 0
-NameAsked d t = (1 ≤ t .size) × (t .size ≤ 8) × (t .name + t .size ≤ length d)
+NameAsked d t = (1 ≤ t .size) × (t .size ≤ mostNameLength) × (t .name + t .size ≤ length d)
 
-module _ (d : List ℕ) (at : ℕ) (h : at < length d) (t : Tag) where
-  pub start-tag-asked : piece d at ≡ got (startTag t) → NameAsked d t
-  start-tag-asked e =
-      let (i, j, k, l) = start-tag-in d at h t e in
-      (start-tag-named d at t e, l, omega arith)
+module _ (c : Settings) (most : c .nameLength ≤ mostNameLength) (d : List ℕ) (at : ℕ) (h : at < length d) (t : Tag) where
+  asked : TagRead d at t → t .size ≤ c .nameLength → NameAsked d t
+  asked r l = (r .some, omega arith, omega (arith, r .ends, r .inside))
 
-  pub end-tag-asked : piece d at ≡ got (endTag t) → NameAsked d t
-  end-tag-asked e =
-      let (i, j, k, l) = end-tag-in d at h t e in
-      (end-tag-named d at t e, l, omega arith)
+  pub start-tag-asked : piece c d at ≡ got (startTag t) → NameAsked d t
+  start-tag-asked e = asked (got-so (piece-read c d at h) e) (got-so (piece-short c d at) e)
 
-module _ (s : List ℕ) (es : List Element) (d : List ℕ) (at : ℕ) {t : text.Tag} {x : ℕ} (q : x ≡ numberOf s es d (t .name) (t .size)) where
-  named : (kind : Tag → rules.Piece) → piece d at ≡ got (kind (tagIn t)) → Names s es d kind at x (t .after)
+  pub end-tag-asked : piece c d at ≡ got (endTag t) → NameAsked d t
+  end-tag-asked e = asked (got-so (piece-read c d at h) e) (got-so (piece-short c d at) e)
+
+module _ (c : Settings) (s : List ℕ) (es : List Element) (d : List ℕ) (at : ℕ) {t : text.Tag} {x : ℕ} (q : x ≡ numberOf s es d (t .name) (t .size)) where
+  named : (kind : Tag → rules.Piece) → piece c d at ≡ got (kind (tagIn t)) → Names c s es d kind at x (t .after)
   named kind p = record { name = t .name; size = t .size; there = p; number = sym q }
 
-  pub finds-start : (e u : ℕ) → piece d at ≡ got (startTag (tagIn t)) → (x ≡ 0 → ⊥) → ToSettle s es d e u at x (t .after)
+  pub finds-start : (e u : ℕ) → piece c d at ≡ got (startTag (tagIn t)) → (x ≡ 0 → ⊥) → ToSettle c s es d e u at x (t .after)
   finds-start e u p l = starts (omega arith) (named startTag p)
 
-  pub finds-end : piece d at ≡ got (endTag (tagIn t)) → (x ≡ 0 → ⊥) → Names s es d endTag at x (t .after) × (1 ≤ x)
+  pub finds-end : piece c d at ≡ got (endTag (tagIn t)) → (x ≡ 0 → ⊥) → Names c s es d endTag at x (t .after) × (1 ≤ x)
   finds-end p l = (named endTag p, omega arith)
 
   module _ (e u : ℕ) (z : x ≡ 0) (r : Piece) (w : r ≡ found.Refused (record { number = 10; at = at })) where
-    pub finds-undeclared-start : piece d at ≡ got (startTag (tagIn t)) → Finds s es d e u at r
+    pub finds-undeclared-start : piece c d at ≡ got (startTag (tagIn t)) → Finds c s es d e u at r
     finds-undeclared-start p = rw w (undeclaredStart (rw z at (named startTag p)) refl refl)
 
-    pub finds-undeclared-end : piece d at ≡ got (endTag (tagIn t)) → Finds s es d e u at r
+    pub finds-undeclared-end : piece c d at ≡ got (endTag (tagIn t)) → Finds c s es d e u at r
     finds-undeclared-end p = rw w (undeclaredEnd (rw z at (named endTag p)) refl refl)
 
 -- A blank is ignored where data does not fit, and begins a run where it does.
-module _ {s : List ℕ} {es : List Element} {d : List ℕ} {e u at p : ℕ} (q : p ≡ decided s es .fits e (placed u) pcdata) (b : piece d at ≡ got blank) where
-  pub finds-separator : p ≡ 0 → Ignored s es d e u at (at + 1)
+module _ {c : Settings} {s : List ℕ} {es : List Element} {d : List ℕ} {e u at p : ℕ} (q : p ≡ decided s es .fits e (placed u) pcdata) (b : piece c d at ≡ got blank) where
+  pub finds-separator : p ≡ 0 → Ignored c s es d e u at (at + 1)
   finds-separator z = separates b (sym q ∙ z) refl
 
-  pub finds-blank-run : (p ≡ 0 → ⊥) → {after : ℕ} → after ≡ runEnd d (at + 1) → Runs s es d e u at after
+  pub finds-blank-run : (p ≡ 0 → ⊥) → {after : ℕ} → after ≡ runEnd d (at + 1) → Runs c s es d e u at after
   finds-blank-run l a = record { run = ap isRun b; fits = λ _. omega arith; ends = a }
 
-pub finds-data-run : {s : List ℕ} {es : List Element} {d : List ℕ} {e u at after : ℕ} → piece d at ≡ got dataByte → after ≡ runEnd d (at + 1) → Runs s es d e u at after
+pub finds-data-run : {c : Settings} {s : List ℕ} {es : List Element} {d : List ℕ} {e u at after : ℕ} → piece c d at ≡ got dataByte → after ≡ runEnd d (at + 1) → Runs c s es d e u at after
 finds-data-run b a = record { run = ap isRun b; fits = λ w. let no : _≡_ {A = ℕ} 0 1 = cc in absurd (omega arith); ends = a }
 
 -- Where reading goes on
@@ -74,15 +74,18 @@ module _ (d : List ℕ) (at : ℕ) (h : at < length d) where
   pub onward-run : {after : ℕ} → after ≡ runEnd d (at + 1) → Onward (length d) at (found.Token 0 after)
   onward-run e = let (i, j) = runEnd-in d (at + 1) (omega arith) in (omega arith, omega arith, omega arith)
 
-  module _ {t : text.Tag} {x : ℕ} (few : x ≤ 64) where
-    pub onward-start : piece d at ≡ got (startTag (tagIn t)) → Onward (length d) at (found.Token x (t .after))
-    onward-start e = let (i, j) = start-tag-range d at h (tagIn t) e in (few, i, j)
-
-    pub onward-end : piece d at ≡ got (endTag (tagIn t)) → Onward (length d) at (found.End x (t .after))
-    onward-end e = let (i, j) = end-tag-range d at h (tagIn t) e in (few, i, j)
-
-  pub onward-skipped : {after : ℕ} → piece d at ≡ got (skipped after) → Onward (length d) at (found.Passed after)
-  onward-skipped {after} e = skipped-range d at h after e
-
   pub onward-refused : {p : Piece} {f : Fault} → p ≡ found.Refused f → Onward (length d) at p
   onward-refused e = rw e tt
+
+  module _ {t : text.Tag} {x : ℕ} (few : x ≤ 64) where
+    onward-tag : TagRead d at (tagIn t) → (x ≤ 64) × (at < t .after) × (t .after ≤ length d)
+    onward-tag r = (few, omega (arith, r .behind, r .ends), r .inside)
+
+    pub onward-start : (c : Settings) → piece c d at ≡ got (startTag (tagIn t)) → Onward (length d) at (found.Token x (t .after))
+    onward-start c e = onward-tag (got-so (piece-read c d at h) e)
+
+    pub onward-end : (c : Settings) → piece c d at ≡ got (endTag (tagIn t)) → Onward (length d) at (found.End x (t .after))
+    onward-end c e = onward-tag (got-so (piece-read c d at h) e)
+
+  pub onward-skipped : (c : Settings) {after : ℕ} → piece c d at ≡ got (skipped after) → Onward (length d) at (found.Passed after)
+  onward-skipped c e = omega (arith, got-so (piece-read c d at h) e)

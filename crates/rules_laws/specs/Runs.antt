@@ -21,9 +21,12 @@ isRun (got (skipped i)) = false
 isRun (got blank) = true
 isRun (got dataByte) = true
 
--- What stands at i, under some settings: whether it goes on a run is the same under all of them (`run-any`).
+-- Some settings. What stands at i under them: whether it goes on a run is the same under all settings (`run-any`).
+abbrev pub anySettings : Settings
+anySettings = settings leastNameLength
+
 abbrev pub anyPiece : List ℕ → ℕ → Reading Piece
-anyPiece d i = piece (settings leastNameLength) d i
+anyPiece d i = piece anySettings d i
 
 -- How many of the n positions from i on stand in one run of data.
 unfoldable pub runs : ℕ → List ℕ → ℕ → ℕ
@@ -81,11 +84,11 @@ alike-none : {r q : Reading Piece} → isRun r ≡ false → isRun q ≡ false �
 alike-none a b = record { going = a ∙ sym b; same = λ h. absurd (true≢false (sym h ∙ b)) }
 
 -- The settings decide how long a name in a tag may be, and no tag goes on a run.
-start-stops : (r : Reading Tag) → isRun (andThen r (λ t. got (startTag t))) ≡ false
+pub start-stops : (r : Reading Tag) → isRun (andThen r (λ t. got (startTag t))) ≡ false
 start-stops (refused n k) = refl
 start-stops (got t) = refl
 
-end-stops : (r : Reading Tag) → isRun (andThen r (λ t. got (endTag t))) ≡ false
+pub end-stops : (r : Reading Tag) → isRun (andThen r (λ t. got (endTag t))) ≡ false
 end-stops (refused n k) = refl
 end-stops (got t) = refl
 
@@ -107,7 +110,7 @@ module _ (c e : Settings) (d : List ℕ) (i : ℕ) where
 
 -- Whether a piece goes on a run does not ask the settings, and neither does a piece that does.
 pub run-any : (c : Settings) (d : List ℕ) (i : ℕ) → isRun (piece c d i) ≡ isRun (anyPiece d i)
-run-any c d i = piece-alike c (settings leastNameLength) d i .going
+run-any c d i = piece-alike c anySettings d i .going
 
 pub run-same : (c : Settings) (d : List ℕ) (i : ℕ) → isRun (anyPiece d i) ≡ true → piece c d i ≡ anyPiece d i
-run-same c d i = piece-alike c (settings leastNameLength) d i .same
+run-same c d i = piece-alike c anySettings d i .same

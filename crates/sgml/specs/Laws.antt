@@ -3,9 +3,10 @@ use Prim.Native.Nat.{ℕ, _≤_, _<_}
 use mathlib.Core.Path.{_≡_, ap}
 use mathlib.Core.List.{List}
 use native.Mathlib.Omega.{arith}
+use Rattle.rules.specs.Settings.{Settings}
 use Rattle.rules.specs.Lent.{Lent}
 use Rattle.rules.specs.TypeFile.{Content, empty, model, Element}
-use Rattle.rules.specs.Judge.{Answer, refusal, acceptance, PairStandsAt, FirstAmbiguous, here, later, Refuses, tooLong, notAllowed, malformed, ambiguous, noRoom, Judged}
+use Rattle.rules.specs.Judge.{Answer, refusal, acceptance, PairStandsAt, FirstAmbiguous, here, later, Refuses, notOffered, tooLong, notAllowed, malformed, ambiguous, noRoom, Judged}
 use Rattle.rules.specs.Reader.{RefusesBoth, ReadAs}
 use Rattle.rules_laws.specs.Within.{typeFile-within, typeFile-count}
 use Rattle.last_places.specs.Within.{document-within}
@@ -26,54 +27,57 @@ ambiguous-ordered : {s : List ℕ} {k p q : ℕ} {es : List Element} → FirstAm
 ambiguous-ordered {s} {k} {p} {q} (here {e} h) = pair-ordered s k p q (e .content) h
 ambiguous-ordered (later u h) = ambiguous-ordered h
 
-malformed-in : (s : List ℕ) (room n k : ℕ) → Refuses s room (refusal n k 0 0) → k ≤ 32768
-malformed-in s room n k (tooLong l e) = omega (arith, ap (λ (a : Answer). a .position) e)
-malformed-in s room n k (notAllowed l m e) = omega (arith, ap (λ (a : Answer). a .position) e)
-malformed-in s room n k (malformed l m j r e) = omega (arith, l .short, typeFile-within s m j r, ap (λ (a : Answer). a .position) e)
-malformed-in s room n k (ambiguous l es r j p q f e) = absurd (omega (arith, ambiguous-ordered f, ap (λ (a : Answer). a .second) e))
-malformed-in s room n k (noRoom l es r u m e) = omega (arith, ap (λ (a : Answer). a .position) e)
+malformed-in : (c : Settings) (s : List ℕ) (room n k : ℕ) → Refuses c s room (refusal n k 0 0) → k ≤ 32768
+malformed-in c s room n k (notOffered o e) = omega (arith, ap (λ (a : Answer). a .position) e)
+malformed-in c s room n k (tooLong o l e) = omega (arith, ap (λ (a : Answer). a .position) e)
+malformed-in c s room n k (notAllowed o l m e) = omega (arith, ap (λ (a : Answer). a .position) e)
+malformed-in c s room n k (malformed l m j r e) = omega (arith, l .short, typeFile-within c s m j r, ap (λ (a : Answer). a .position) e)
+malformed-in c s room n k (ambiguous l es r j p q f e) = absurd (omega (arith, ambiguous-ordered f, ap (λ (a : Answer). a .second) e))
+malformed-in c s room n k (noRoom l es r u m e) = omega (arith, ap (λ (a : Answer). a .position) e)
 
 -- A refusal names its input.
-refuses-input : {s : List ℕ} {room : ℕ} {a : Answer} → Refuses s room a → a .input ≡ 1
-refuses-input (tooLong l e) = rw e
-refuses-input (notAllowed l m e) = rw e
+refuses-input : {c : Settings} {s : List ℕ} {room : ℕ} {a : Answer} → Refuses c s room a → a .input ≡ 1
+refuses-input (notOffered o e) = rw e
+refuses-input (tooLong o l e) = rw e
+refuses-input (notAllowed o l m e) = rw e
 refuses-input (malformed l n k r e) = rw e
 refuses-input (ambiguous l es r k p q f e) = rw e
 refuses-input (noRoom l es r u m e) = rw e
 
-judged-count : {l : Lent} {s before after : List ℕ} {n : ℕ} → Judged l s before (acceptance n) after → n ≤ 64
+judged-count : {l : Lent} {c : Settings} {s before after : List ℕ} {n : ℕ} → Judged l c s before (acceptance n) after → n ≤ 64
 judged-count (Judged.refuses r z) = absurd (omega (arith, refuses-input r))
-judged-count {l} {s} (Judged.accepts es w f e z) = omega (arith, typeFile-count s es (w .elements), ap (λ (a : Answer). a .count) e)
+judged-count {l} {c} {s} (Judged.accepts es w f e z) = omega (arith, typeFile-count c s es (w .elements), ap (λ (a : Answer). a .count) e)
 
-judged-in : {l : Lent} {s before after : List ℕ} {n k : ℕ} → Judged l s before (refusal n k 0 0) after → k ≤ 32768
-judged-in {l} {s} {n = n} {k} (Judged.refuses r z) = malformed-in s _ n k r
+judged-in : {l : Lent} {c : Settings} {s before after : List ℕ} {n k : ℕ} → Judged l c s before (refusal n k 0 0) after → k ≤ 32768
+judged-in {l} {c} {s} {n = n} {k} (Judged.refuses r z) = malformed-in c s _ n k r
 judged-in (Judged.accepts es w f e z) = absurd (omega (arith, ap (λ (a : Answer). a .input) e))
 
-pub verdict-fits : (l : Lent) (s before after : List ℕ) (v : Verdict) → Judged l s before (answerOf v) after → VerdictFits v
-verdict-fits l s before after (Accepted n) h = let few = judged-count h in omega arith
-verdict-fits l s before after (Malformed f) h = let i = judged-in h in omega arith
-verdict-fits l s before after (Ambiguous c) h = tt
+pub verdict-fits : (l : Lent) (c : Settings) (s before after : List ℕ) (v : Verdict) → Judged l c s before (answerOf v) after → VerdictFits v
+verdict-fits l c s before after (Accepted n) h = let few = judged-count h in omega arith
+verdict-fits l c s before after (Malformed f) h = let i = judged-in h in omega arith
+verdict-fits l c s before after (Ambiguous x) h = tt
 
 -- The same for the reader: a refusal's position lies in its input, which is no longer than its limit, or is 0.
 position : {a b : Answer} → a ≡ b → a .position ≡ b .position
 position e = ap (λ (x : Answer). x .position) e
 
-refused-in : {s d : List ℕ} {room n i k : ℕ} → RefusesBoth s d room (record { number = n; input = i; position = k; first = 0; second = 0; count = 0 }) → k ≤ 65535
-refused-in (RefusesBoth.typeTooLong l e) = omega (arith, position e)
-refused-in (RefusesBoth.documentTooLong l m e) = omega (arith, position e)
-refused-in (RefusesBoth.typeNotAllowed l m h e) = omega (arith, position e)
+refused-in : {c : Settings} {s d : List ℕ} {room n i k : ℕ} → RefusesBoth c s d room (record { number = n; input = i; position = k; first = 0; second = 0; count = 0 }) → k ≤ 65535
+refused-in (RefusesBoth.notOffered o e) = omega (arith, position e)
+refused-in (RefusesBoth.typeTooLong o l e) = omega (arith, position e)
+refused-in (RefusesBoth.documentTooLong o l m e) = omega (arith, position e)
+refused-in (RefusesBoth.typeNotAllowed o l m h e) = omega (arith, position e)
 refused-in (RefusesBoth.documentNotAllowed l m h e) = omega (arith, position e)
-refused-in {s} (RefusesBoth.malformed l m j r e) = omega (arith, l .type .short, typeFile-within s m j r, position e)
+refused-in {c} {s} (RefusesBoth.malformed l m j r e) = omega (arith, l .type .short, typeFile-within c s m j r, position e)
 refused-in (RefusesBoth.ambiguous l es r j p q f e) = absurd (omega (arith, ambiguous-ordered f, ap (λ (a : Answer). a .second) e))
-refused-in {s} {d} (RefusesBoth.unsettled es m j x e) = omega (arith, x .legible .short, document-within s es (x .decisions) d m j (x .reading) .1, position e)
+refused-in {c} {s} {d} (RefusesBoth.unsettled es m j x e) = omega (arith, x .legible .short, document-within c s es (x .decisions) d m j (x .reading) .1, position e)
 refused-in (RefusesBoth.noRoom es ev x l e) = omega (arith, position e)
 
-read-in : {l : Lent} {s d before after : List ℕ} {n i k : ℕ} → 1 ≤ i → ReadAs l s d before (record { number = n; input = i; position = k; first = 0; second = 0; count = 0 }) after → k ≤ 65535
+read-in : {l : Lent} {c : Settings} {s d before after : List ℕ} {n i k : ℕ} → 1 ≤ i → ReadAs l c s d before (record { number = n; input = i; position = k; first = 0; second = 0; count = 0 }) after → k ≤ 65535
 read-in h (ReadAs.refuses r z) = refused-in r
 read-in h (ReadAs.accepts es ev x f e z) = absurd (omega (arith, ap (λ (a : Answer). a .input) e))
 
-pub answer-fits : (l : Lent) (s d before after : List ℕ) (a : reader.Answer) → ReadAs l s d before (means.answerOf a) after → means.CountFits a → AnswerFits a
-answer-fits l s d before after (answer.Accepted n) r c = c
-answer-fits l s d before after (answer.InType f) r c = let i = read-in (omega arith) r in omega arith
-answer-fits l s d before after (answer.Ambiguous k) r c = tt
-answer-fits l s d before after (answer.InDocument f) r c = let i = read-in (omega arith) r in omega arith
+pub answer-fits : (l : Lent) (c : Settings) (s d before after : List ℕ) (a : reader.Answer) → ReadAs l c s d before (means.answerOf a) after → means.CountFits a → AnswerFits a
+answer-fits l c s d before after (answer.Accepted n) r x = x
+answer-fits l c s d before after (answer.InType f) r x = let i = read-in (omega arith) r in omega arith
+answer-fits l c s d before after (answer.Ambiguous k) r x = tt
+answer-fits l c s d before after (answer.InDocument f) r x = let i = read-in (omega arith) r in omega arith

@@ -6,6 +6,7 @@ use native.Mathlib.Omega.{arith}
 use native.Mathlib.Decide.{decLt}
 use lib.ListN.{length, take, drop, getD, replicate, length-replicate, getD-replicate, List·getD-eq-default}
 use lib.Seq.{take-at, getD-append-add, getD-drop, drop-drop}
+use Rattle.rules.specs.Settings.{settings}
 use Rattle.rules.specs.Lent.{numbers, filledWith}
 use Rattle.rules.specs.TypeFile.{Element}
 use Rattle.rules.specs.Judge.{Answer, records, Accepts, Judged, accepts}
@@ -35,9 +36,9 @@ element-past [] k h = (refl, refl)
 element-past (e ∷ es) zero h = absurd (omega arith)
 element-past (e ∷ es) (suc k) h = element-past es k (omega arith)
 
-module _ (s : List ℕ) (es : List Element) (accepted : Accepts s es) (a : Answer) (before elements : List ℕ) (lent : before ≡ replicate 384 0) (judged : Judged numbers s before a elements) where
+module _ (s : List ℕ) (es : List Element) (accepted : Accepts (settings 8) s es) (a : Answer) (before elements : List ℕ) (lent : before ≡ replicate 384 0) (judged : Judged numbers (settings 8) s before a elements) where
   few : 6 * length es ≤ 384
-  few = omega (arith, typeFile-count s es (accepted .elements))
+  few = omega (arith, typeFile-count (settings 8) s es (accepted .elements))
 
   elements-are : elements ≡ filledWith (records es) before
   elements-are = settled-one judged (accepts es accepted (omega (arith, few, ap length lent, length-replicate {A = ℕ} 384 0)) refl refl) .1
@@ -69,7 +70,7 @@ module _ (s : List ℕ) (es : List Element) (accepted : Accepts s es) (a : Answe
   name-fits k = by-place (decLt k (length es))
     where
       by-place : Dec (k < length es) → (elementAt es k .size ≤ 8) × (elementAt es k .at + elementAt es k .size ≤ length s)
-      by-place (yes h) = let z = typeFile-sizes s es (accepted .elements) k h in (z .1, z .2)
+      by-place (yes h) = let z = typeFile-sizes (settings 8) s es (accepted .elements) k h in (z .1, z .2)
       by-place (no h) = let z = element-past es k (omega arith) in (omega arith, omega arith)
 
   pub table-fits : Fits s elements

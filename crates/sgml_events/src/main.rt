@@ -14,8 +14,8 @@ ghost use Rattle.rules.specs.Printed.{Prints};
 ghost use Rattle.inputs.specs.Means.{settingsOf};
 ghost use Rattle.sgml_events.specs.Means.{Accepted, EventsPut, Whole};
 
-// The settings of the program: names of at most 8 bytes.
-fn house() -> Settings
+// What the program gives: names of at most 8 bytes.
+fn given() -> Settings
     ensures { λ r. ⌜ settingsOf r ≡ settings 8 ⌝ }
 {
     Settings { name_length: 8 }
@@ -28,7 +28,7 @@ fn put_events(out: &mut [u8], s: &[u8], numbers: &[u32; PROGRAM_ROOM], n: usize)
     ensures { λ r. ⌜ Counts r (now (out .exit)) × EventsPut (now (s .entry)) (now (numbers .entry)) n (take r (now (out .exit))) ⌝ }
 {
     let mut elements = [0u32; RECORDS];
-    type_judge::judge(house(), s, &mut elements);
+    type_judge::judge(given(), s, &mut elements);
     event_lines::put_events(out, s, &elements, numbers, n)
 }
 
@@ -38,7 +38,7 @@ fn printed(s: &[u8], d: &[u8], out: &mut [u8]) -> usize
     ensures { λ r. ⌜ Counts r (now (out .exit)) × Prints (now (s .entry)) (now (d .entry)) (take r (now (out .exit))) ⌝ }
 {
     let mut numbers = [0u32; PROGRAM_ROOM];
-    let a = document_reader::read(house(), s, d, &mut numbers);
+    let a = document_reader::read(given(), s, d, &mut numbers);
     match a {
         Answer::Accepted(n) => put_events(out, s, &numbers, n),
         Answer::InType(f) => event_lines::put_refusal(out, f.number, b"in type at ", f.at),

@@ -7,6 +7,7 @@ use native.Mathlib.Nat.{not-suc-le-zero, le-of-suc-le-suc}
 use native.Mathlib.Omega.{arith}
 use lib.ListN.{length, getD, take, List·getD-append}
 use lib.Seq.{length-take-le, take-take, take-append-add, getD-append-add, getD-take}
+use Rattle.rules.specs.Settings.{Settings}
 use Rattle.rules.specs.Reading.{got}
 use Rattle.rules.specs.TypeFile.{Content, empty, model, Element, Declared, element, typeFile}
 use Rattle.rules.specs.Judge.{contentNumbers, records}
@@ -93,7 +94,7 @@ abbrev pub ReadsAs : (names table : List ℕ) → Content → ElementRead → Ty
 ReadsAs names table c (elementRead.Read d) = KeepsContent names table (d .kind) (d .tokens) (d .places) c
 ReadsAs names table c (elementRead.Refused f) = ⊥
 
-module _ (s elements : List ℕ) (es : List Element) (read : typeFile s ≡ got es) (r : Recorded elements es) (e : ℕ) (from : 1 ≤ e) (to : e ≤ length es) (names table : List ℕ) where
+module _ (c : Settings) (s elements : List ℕ) (es : List Element) (read : typeFile c s ≡ got es) (r : Recorded elements es) (e : ℕ) (from : 1 ≤ e) (to : e ≤ length es) (names table : List ℕ) where
   reads-declared : (at : ℕ) (fs : List Element) (d : Declared) → d .elements ≡ fs ++ elementAt es (e - 1) ∷ [] → (x : ElementRead) → MeetsElement (length s) at names table fs x (got d)
       → ReadsAs names table (contentOf es e) x
   reads-declared at fs d q (elementRead.Read y) m =
@@ -102,10 +103,10 @@ module _ (s elements : List ℕ) (es : List Element) (read : typeFile s ≡ got 
   reads-declared at fs d q (elementRead.Refused f) m = m
 
   pub reads-again : (at : ℕ) (x : ElementRead) → at ≡ getD elements (6 * (e - 1)) 0
-      → ((fs : List Element) → length fs ≡ e - 1 → Recorded elements fs → MeetsElement (length s) at names table fs x (element s at fs)) → ReadsAs names table (contentOf es e) x
+      → ((fs : List Element) → length fs ≡ e - 1 → Recorded elements fs → MeetsElement (length s) at names table fs x (element c s at fs)) → ReadsAs names table (contentOf es e) x
   reads-again at x q m =
       let k : ℕ = e - 1 in
-      let (d, g, w) = typeFile-again s es read k (omega arith) in
+      let (d, g, w) = typeFile-again c s es read k (omega arith) in
       let stands : at ≡ elementAt es k .at = q ∙ recorded-name elements es r k (omega arith) in
       reads-declared at (take k es) d w x
       (subst (MeetsElement (length s) at names table (take k es) x) (rw stands g) (m (take k es) (length-take-le k es (omega arith)) (recorded-take elements es r k (omega arith))))

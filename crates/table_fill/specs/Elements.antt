@@ -6,9 +6,10 @@ use native.Mathlib.Nat.{not-suc-le-zero, le-of-suc-le-suc}
 use native.Mathlib.Omega.{arith}
 use lib.ListN.{length, getD, set, length-set}
 use lib.Seq.{getD-set-same, getD-set-other}
+use Rattle.rules.specs.Settings.{Settings, mostNameLength}
 use Rattle.rules.specs.Walk.{Group}
 use Rattle.rules.specs.TypeFile.{Place, Content, empty, model, Element, element}
-use Rattle.rules.specs.Judge.{placeAt}
+use Rattle.rules.specs.Judge.{Accepts, placeAt}
 use Rattle.rules.specs.Elements.{elementAt, contentOf, placesIn, hasModel}
 use Rattle.layout.specs.Sizes.{FACT, FACTS}
 use Rattle.model_names.specs.Places.{placesOf}
@@ -18,9 +19,11 @@ use Rattle.element_reader.specs.Means.{Recorded, KeepsModel, KeepsContent, Meet
 use Rattle.element_reader.specs.declared as declared
 use Rattle.element_reader.specs.declared.ElementRead.{ElementRead}
 use Rattle.element_reader.specs.declared.ElementRead.the-variants as elementRead
+use Rattle.rules_laws.specs.Offered.{offered-range}
 use Rattle.rules_laws.specs.Within.{All, more, PlaceIn, ContentIn}
+use Rattle.type_laws.specs.Models.{ShortIn}
 use Rattle.type_laws.specs.Again.{typeFile-sizes}
-use Rattle.type_laws.specs.Width.{typeFile-content}
+use Rattle.type_laws.specs.Width.{typeFile-content, typeFile-places-short}
 use Rattle.element_index.specs.Means.{Indexed}
 use Rattle.type_tables.specs.Means.{rowAt}
 use Rattle.model_rows.specs.Bits.{flag-most}
@@ -42,20 +45,22 @@ pub record Flags (elements : List ℕ) (e : ℕ) : Type 0 where
   pub end : getD elements (6 * (e - 1) + 3) 0 ≤ 1
   pub kind : getD elements (6 * (e - 1) + 4) 0 ≤ 1
 
--- What is asked for the element e to be put: the type is indexed, and the tables are filled up to e.
-pub record ElementDue (s : List ℕ) (es : List Element) (elements index rows places facts : List ℕ) (e : ℕ) : Type 0 where
+-- What is asked for the element e to be put: the type is accepted under the settings c, by which its declaration is read again, and indexed, and the
+-- tables are filled up to e.
+pub record ElementDue (c : Settings) (s : List ℕ) (es : List Element) (elements index rows places facts : List ℕ) (e : ℕ) : Type 0 where
+  pub accepted : Accepts c s es
   pub indexed : Indexed s es elements index
   pub from : 1 ≤ e
   pub to : e ≤ length es
   pub filled : Filled s es rows places facts e
 
-name-at : (s : List ℕ) (ps : List Place) → All (PlaceIn s) ps → (k : ℕ) → k < length ps → IsName s (placeAt ps k)
+name-at : (s : List ℕ) (long : ℕ) → long ≤ mostNameLength → (ps : List Place) → All (PlaceIn s) ps → All (λ (x : Place). x .size ≤ long) ps → (k : ℕ) → k < length ps → IsName s (placeAt ps k)
 unfolding placeAt
-name-at s [] w k h = absurd (not-suc-le-zero h)
-name-at s (x ∷ ps) (more p w) zero h = (p .short, p .ends)
-name-at s (x ∷ ps) (more p w) (suc k) h = name-at s ps w k (le-of-suc-le-suc h)
+name-at s long most [] w u k h = absurd (not-suc-le-zero h)
+name-at s long most (x ∷ ps) (more p w) (more l u) zero h = (omega arith, p .ends)
+name-at s long most (x ∷ ps) (more p w) (more l u) (suc k) h = name-at s long most ps w u k (le-of-suc-le-suc h)
 
-module _ (s : List ℕ) (es : List Element) (elements index R P F : List ℕ) (e : ℕ) (due : ElementDue s es elements index R P F e) where
+module _ (c : Settings) (s : List ℕ) (es : List Element) (elements index R P F : List ℕ) (e : ℕ) (due : ElementDue c s es elements index R P F e) where
   abbrev k : ℕ
   k = e - 1
 
@@ -69,7 +74,7 @@ module _ (s : List ℕ) (es : List Element) (elements index R P F : List ℕ) (e
 
   pub flags : Flags elements e
   flags =
-      let (a, b, c, d, f) = typeFile-sizes s es (due .indexed .accepted .elements) k k-in in
+      let (a, b, g, d, f) = typeFile-sizes c s es (due .accepted .elements) k k-in in
       record {
         start = omega (arith, recorded-start elements es (due .indexed .recorded) k k-in);
         end = omega (arith, recorded-end elements es (due .indexed .recorded) k k-in);
@@ -79,8 +84,8 @@ module _ (s : List ℕ) (es : List Element) (elements index R P F : List ℕ) (e
   -- Where the name stands, and how long the type file is.
   pub name-in : (at : ℕ) → at ≡ getD elements (6 * (e - 1)) 0 → (at ≤ length s) × (length s ≤ 32768) × (e - 1 ≤ 64)
   name-in at q =
-      let (a, b, c, d, f) = typeFile-sizes s es (due .indexed .accepted .elements) k k-in in
-      (omega (arith, recorded-name elements es (due .indexed .recorded) k k-in), due .indexed .accepted .legible .short, omega (arith, few))
+      let (a, b, g, d, f) = typeFile-sizes c s es (due .accepted .elements) k k-in in
+      (omega (arith, recorded-name elements es (due .indexed .recorded) k k-in), due .accepted .legible .short, omega (arith, few))
 
   tags-put : TagsPut (elementAt es k) (contentOf es e) e F (factsPut F elements e)
   tags-put =
@@ -91,31 +96,31 @@ module _ (s : List ℕ) (es : List Element) (elements index R P F : List ℕ) (e
       let z : ℕ = e * FACT + 67 in
       let a : ℕ = getD elements (6 * (e - 1) + 2) 0 in
       let b : ℕ = getD elements (6 * (e - 1) + 3) 0 in
-      let c : ℕ = getD elements (6 * (e - 1) + 4) 0 in
+      let d : ℕ = getD elements (6 * (e - 1) + 4) 0 in
       let F₁ : List ℕ = set F x a in
       let F₂ : List ℕ = set F₁ y b in
       let l : length F ≡ FACTS = due .filled .facts-len in
       let l₁ : length F₁ ≡ FACTS = length-set F x a ∙ l in
       let l₂ : length F₂ ≡ FACTS = length-set F₁ y b ∙ l₁ in
-      let else : (j : ℕ) → (j ≡ x → ⊥) → (j ≡ y → ⊥) → (j ≡ z → ⊥) → getD (set F₂ z c) j 0 ≡ getD F j 0 =
-      λ j p q r. getD-set-other F₂ z j c 0 r ∙ getD-set-other F₁ y j b 0 q ∙ getD-set-other F x j a 0 p in
+      let else : (j : ℕ) → (j ≡ x → ⊥) → (j ≡ y → ⊥) → (j ≡ z → ⊥) → getD (set F₂ z d) j 0 ≡ getD F j 0 =
+      λ j p q r. getD-set-other F₂ z j d 0 r ∙ getD-set-other F₁ y j b 0 q ∙ getD-set-other F x j a 0 p in
       record {
-        len = length-set F₂ z c ∙ l₂;
+        len = length-set F₂ z d ∙ l₂;
         under = λ j h. else j (omega arith) (omega arith) (omega arith);
         over = λ j h. else j (omega arith) (omega arith) (omega arith);
         tags = λ h. record {
-          start = getD-set-other F₂ z x c 0 (omega arith) ∙ getD-set-other F₁ y x b 0 (omega arith) ∙ getD-set-same F x a 0 (omega arith) ∙ recorded-start elements es r k k-in;
-          end = getD-set-other F₂ z y c 0 (omega arith) ∙ getD-set-same F₁ y b 0 (omega arith) ∙ recorded-end elements es r k k-in;
-          has = rw (content-at es e (due .from)) (getD-set-same F₂ z c 0 (omega arith) ∙ recorded-kind elements es r k k-in);
+          start = getD-set-other F₂ z x d 0 (omega arith) ∙ getD-set-other F₁ y x b 0 (omega arith) ∙ getD-set-same F x a 0 (omega arith) ∙ recorded-start elements es r k k-in;
+          end = getD-set-other F₂ z y d 0 (omega arith) ∙ getD-set-same F₁ y b 0 (omega arith) ∙ recorded-end elements es r k k-in;
+          has = rw (content-at es e (due .from)) (getD-set-same F₂ z d 0 (omega arith) ∙ recorded-kind elements es r k k-in);
         };
       }
 
   -- The declaration, read again
 
   module _ (names table : List ℕ) (at : ℕ) (x : ElementRead) (stands : at ≡ getD elements (6 * (e - 1)) 0)
-      (met : (fs : List Element) → length fs ≡ e - 1 → Recorded elements fs → MeetsElement (length s) at names table fs x (element s at fs)) where
+      (met : (fs : List Element) → length fs ≡ e - 1 → Recorded elements fs → MeetsElement (length s) at names table fs x (element c s at fs)) where
     again : ReadsAs names table (contentOf es e) x
-    again = reads-again s elements es (due .indexed .accepted .elements) (due .indexed .recorded) e (due .from) (due .to) names table at x stands met
+    again = reads-again c s elements es (due .accepted .elements) (due .indexed .recorded) e (due .from) (due .to) names table at x stands met
 
     pub not-refused : (f : Fault) → x ≡ elementRead.Refused f → ⊥
     not-refused f q = rw q at again
@@ -127,29 +132,28 @@ module _ (s : List ℕ) (es : List Element) (elements index R P F : List ℕ) (e
       pub places-few : (d .kind ≡ 0 → ⊥) → d .places ≤ 96
       places-few z = by-content (contentOf es e) keeps
         where
-          by-content : (c : Content) → KeepsContent names table (d .kind) (d .tokens) (d .places) c → d .places ≤ 96
+          by-content : (y : Content) → KeepsContent names table (d .kind) (d .tokens) (d .places) y → d .places ≤ 96
           by-content empty w = absurd (z (w .0))
           by-content (model g ps n) w = w .3 .places-in
 
       names-fit : (d .kind ≡ 0 → ⊥) → NamesFit s names (d .places)
-      names-fit z = by-content (contentOf es e) keeps (typeFile-content s es (due .indexed .accepted .elements) e)
+      names-fit z = by-content (contentOf es e) keeps (typeFile-content c s es (due .accepted .elements) e) (typeFile-places-short c s es (due .accepted .elements) e)
         where
-          by-content : (c : Content) → KeepsContent names table (d .kind) (d .tokens) (d .places) c → ContentIn s c → NamesFit s names (d .places)
-          by-content empty w y p a b = absurd (z (w .0))
-          by-content (model g ps n) w y p a b =
+          by-content : (y : Content) → KeepsContent names table (d .kind) (d .tokens) (d .places) y → ContentIn s y → ShortIn (c .nameLength) y → NamesFit s names (d .places)
+          by-content empty w y u p a b = absurd (z (w .0))
+          by-content (model g ps n) w y u p a b =
               let m = w .3 in
               subst (IsName s) (placeAt-placesOf names (d .places) (p - 1) (omega arith))
-              (rw (m .names-hold) (name-at s ps (y .places) (p - 1) (omega (arith, m .counted))))
+              (rw (m .names-hold) (name-at s (c .nameLength) (offered-range c (due .accepted .legible .offered) .1) ps (y .places) u (p - 1) (omega (arith, m .counted))))
 
       -- With the facts of the record put.
       module _ (G : List ℕ) (put : G ≡ factsPut F elements e) where
         tags : TagsPut (elementAt es k) (contentOf es e) e F G
         tags = rw put tags-put
 
-        pub places-due : (d .kind ≡ 0 → ⊥) → PlacesDue s es elements index names P G e (d .places)
+        pub places-due : (d .kind ≡ 0 → ⊥) → PlacesDue s names P G e (d .places)
         places-due z =
             record {
-              indexed = due .indexed;
               element = few;
               few = places-few z;
               fit = names-fit z;
@@ -159,7 +163,7 @@ module _ (s : List ℕ) (es : List Element) (elements index R P F : List ℕ) (e
             }
 
         -- It is EMPTY.
-        is-empty : (c : Content) → KeepsContent names table (d .kind) (d .tokens) (d .places) c → d .kind ≡ 0 → empty ≡ c
+        is-empty : (y : Content) → KeepsContent names table (d .kind) (d .tokens) (d .places) y → d .kind ≡ 0 → empty ≡ y
         is-empty empty w z = refl
         is-empty (model g ps n) w z = absurd (omega (arith, w .0))
 
@@ -167,15 +171,15 @@ module _ (s : List ℕ) (es : List Element) (elements index R P F : List ℕ) (e
         element-empty z i at =
             let h = due .filled in
             let q = is-empty (contentOf es e) keeps z in
-            rw at (filled-more s es (due .indexed .accepted .elements) e R P F h (set R (rowAt e 0) 1) G P G
-            (subst (λ (c : Content). RowsFor c e R (set R (rowAt e 0) 1)) q (rows-empty e R few (h .rows-len) (h .rows-rest)))
+            rw at (filled-more c s es (due .accepted .elements) e R P F h (set R (rowAt e 0) 1) G P G
+            (subst (λ (y : Content). RowsFor y e R (set R (rowAt e 0) 1)) q (rows-empty e R few (h .rows-len) (h .rows-rest)))
             tags
-            (subst (λ (c : Content). PlacesPut s es (placesIn c) e P G P G (length (placesIn c) + 1)) q
-            (places-none s es (due .indexed .accepted .elements) [] e P G (h .places-len) (tags .len) (λ j a b. tags .under j b ∙ h .facts-rest j a))))
+            (subst (λ (y : Content). PlacesPut s es (placesIn y) e P G P G (length (placesIn y) + 1)) q
+            (places-none c s es (due .accepted .elements) [] e P G (h .places-len) (tags .len) (λ j a b. tags .under j b ∙ h .facts-rest j a))))
 
         -- It is a model.
-        is-model : (c : Content) → KeepsContent names table (d .kind) (d .tokens) (d .places) c → (d .kind ≡ 0 → ⊥)
-            → (g : Group) × (ps : List Place) × (n : ℕ) × (model g ps n ≡ c) × KeepsModel names table (d .places) g ps
+        is-model : (y : Content) → KeepsContent names table (d .kind) (d .tokens) (d .places) y → (d .kind ≡ 0 → ⊥)
+            → (g : Group) × (ps : List Place) × (n : ℕ) × (model g ps n ≡ y) × KeepsModel names table (d .places) g ps
         is-model empty w z = absurd (z (w .0))
         is-model (model g ps n) w z = (g, ps, n, refl, w .3)
 
@@ -183,7 +187,7 @@ module _ (s : List ℕ) (es : List Element) (elements index R P F : List ℕ) (e
             → Filled s es R′ P′ F′ (e + 1)
         element-model z R′ P′ F′ r w =
             let (g, ps, n, q, m) = is-model (contentOf es e) keeps z in
-            filled-more s es (due .indexed .accepted .elements) e R P F (due .filled) R′ G P′ F′
-            (subst (λ (c : Content). RowsFor c e R R′) q (rows-model g ps n e R R′ (m .numbered) (m .sized ∙ m .counted) (omega arith) (rw (← m .table-filled, ← m .counted) r)))
+            filled-more c s es (due .accepted .elements) e R P F (due .filled) R′ G P′ F′
+            (subst (λ (y : Content). RowsFor y e R R′) q (rows-model g ps n e R R′ (m .numbered) (m .sized ∙ m .counted) (omega arith) (rw (← m .table-filled, ← m .counted) r)))
             tags
-            (subst (λ (c : Content). PlacesPut s es (placesIn c) e P G P′ F′ (length (placesIn c) + 1)) q (rw (← m .counted, ← m .names-hold) w))
+            (subst (λ (y : Content). PlacesPut s es (placesIn y) e P G P′ F′ (length (placesIn y) + 1)) q (rw (← m .counted, ← m .names-hold) w))

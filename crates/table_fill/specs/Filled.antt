@@ -6,6 +6,7 @@ use mathlib.Core.List.{List}
 use native.Mathlib.Omega.{arith}
 use lib.ListN.{length, getD}
 use borrow.Author.Count.{below-more}
+use Rattle.rules.specs.Settings.{Settings}
 use Rattle.rules.specs.Reading.{got}
 use Rattle.rules.specs.TypeFile.{Content, empty, model, Element, typeFile}
 use Rattle.rules.specs.Judge.{Accepts}
@@ -59,24 +60,24 @@ pub record TagsPut (x : Element) (c : Content) (e : ℕ) (F G : List ℕ) : Type
   pub over : (k : ℕ) → e * FACT + 68 ≤ k → getD G k 0 ≡ getD F k 0
   pub tags : 1 ≤ e → TagsSay x c e G
 
-width-few : (s : List ℕ) (es : List Element) → typeFile s ≡ got es → (e : ℕ) → width es e ≤ 96
-width-few s es read e = by-content (contentOf es e) refl
+width-few : (c : Settings) (s : List ℕ) (es : List Element) → typeFile c s ≡ got es → (e : ℕ) → width es e ≤ 96
+width-few c s es read e = by-content (contentOf es e) refl
   where
-    by-content : (c : Content) → contentOf es e ≡ c → length (placesIn c) ≤ 96
+    by-content : (x : Content) → contentOf es e ≡ x → length (placesIn x) ≤ 96
     by-content empty q = omega arith
-    by-content (model g ps n) q = omega (arith, typeFile-width s es read e q)
+    by-content (model g ps n) q = omega (arith, typeFile-width c s es read e q)
 
-module _ (s : List ℕ) (es : List Element) (read : typeFile s ≡ got es) where
+module _ (c : Settings) (s : List ℕ) (es : List Element) (read : typeFile c s ≡ got es) where
   -- What is said of an element stays so where its numbers stay.
   still : (e : ℕ) (R P F R′ P′ F′ : List ℕ) → ((k : ℕ) → k < rowAt (e + 1) 0 → getD R′ k 0 ≡ getD R k 0) → ((k : ℕ) → k < (e + 1) * POSITIONS * 2 → getD P′ k 0 ≡ getD P k 0)
       → ((k : ℕ) → k < (e + 1) * FACT → getD F′ k 0 ≡ getD F k 0) → ElementSays s es e R P F → ElementSays s es e R′ P′ F′
   still e R P F R′ P′ F′ rows places facts h =
-      let w = width-few s es read e in
+      let w = width-few c s es read e in
       record {
         rows-say = λ u l. row-says-still (contentOf es e) e u R R′ (λ k a b. rows k (omega arith)) (h .rows-say u l);
         named = λ p a b. places ((e * POSITIONS + p) * 2) (omega arith) ∙ h .named p a b;
         smaller = λ p t a b d y. places ((e * POSITIONS + p) * 2 + 1) (omega arith) ∙ h .smaller p t a b d y;
-        largest = λ t d. facts (e * FACT + nameNumber t) (omega (arith, number-few es t (typeFile-count s es read .1) d)) ∙ h .largest t d;
+        largest = λ t d. facts (e * FACT + nameNumber t) (omega (arith, number-few es t (typeFile-count c s es read .1) d)) ∙ h .largest t d;
         tags = λ l.
             let t = h .tags l in
             record {
@@ -123,11 +124,12 @@ module _ (s : List ℕ) (es : List Element) (read : typeFile s ≡ got es) where
         }
 
   -- All are put.
-  pub filled-all : (R P F : List ℕ) → Accepts s es → Filled s es R P F (length es + 1) → Tables s es R P F
+  pub filled-all : (R P F : List ℕ) → Accepts c s es → Filled s es R P F (length es + 1) → Tables s es R P F
   filled-all R P F a h =
       record {
+        settings = c;
         accepted = a;
-        few = typeFile-count s es read .1;
+        few = typeFile-count c s es read .1;
         rows-say = record {
           next = λ e u p d l. h .says e (omega arith) .rows-say u l .next p;
           complete = λ e u d l. h .says e (omega arith) .rows-say u l .complete;

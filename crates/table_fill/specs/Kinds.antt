@@ -12,6 +12,7 @@ use lib.ListN.{length, getD, set, replicate, length-set, length-replicate}
 use lib.Seq.{getD-set-same, getD-set-other}
 use lib.Dec.{eqb}
 use borrow.Author.Tests.{ne-eqb}
+use Rattle.rules.specs.Settings.{Settings}
 use Rattle.rules.specs.Reading.{got}
 use Rattle.rules.specs.Walk.{Group, place}
 use Rattle.rules.specs.TypeFile.{Place, empty, model, Element, typeFile}
@@ -170,16 +171,16 @@ zeros-in zero k = refl
 zeros-in (suc n) zero = refl
 zeros-in (suc n) (suc k) = zeros-in n k
 
-module _ (s : List ℕ) (es : List Element) (read : typeFile s ≡ got es) where
+module _ (c : Settings) (s : List ℕ) (es : List Element) (read : typeFile c s ≡ got es) where
   -- The document's one place names the first element.
   document-names : 1 ≡ namedBy s es (placesIn (contentOf es 0)) 1
   unfolding placeAt
   document-names =
       let x = elementAt es 0 in
-      let h = typeFile-count s es read .0 in
-      let n = typeFile-element s es read 0 h .name in
+      let h = typeFile-count c s es read .0 in
+      let n = typeFile-element c s es read 0 h .name in
       let i = isNamed-join s x s (x .at) (x .size) refl (sameText-refl s (x .at) (x .size)) in
-      rw (ne-eqb (x .size) 0 (λ z. omega (arith, n .some))) (sym (typeFile-distinct s es read 0 h s (x .at) (x .size) i))
+      rw (ne-eqb (x .size) 0 (λ z. omega (arith, n .some))) (sym (typeFile-distinct c s es read 0 h s (x .at) (x .size) i))
 
   filled-none : Filled s es noRows noPlaces noFacts 0
   filled-none =
@@ -196,8 +197,8 @@ module _ (s : List ℕ) (es : List Element) (read : typeFile s ≡ got es) where
   filled-document P F w =
       let h = filled-none in
       let ps = placesIn (contentOf es 0) in
-      filled-more s es read 0 noRows noPlaces noFacts h (documentRows noRows) noFacts P F
+      filled-more c s es read 0 noRows noPlaces noFacts h (documentRows noRows) noFacts P F
       (rows-document noRows (h .rows-len) (λ k. zeros-in ROWS k) ps refl)
       (record { len = h .facts-len; under = λ k l. refl; over = λ k l. refl; tags = λ l. absurd (omega arith) })
-      (places-more s es read ps 0 noPlaces noFacts noPlaces noFacts 1 (omega arith) (omega arith)
-      (places-none s es read ps 0 noPlaces noFacts (h .places-len) (h .facts-len) (λ k a b. zeros-in FACTS k)) 1 document-names P F w)
+      (places-more c s es read ps 0 noPlaces noFacts noPlaces noFacts 1 (omega arith) (omega arith)
+      (places-none c s es read ps 0 noPlaces noFacts (h .places-len) (h .facts-len) (λ k a b. zeros-in FACTS k)) 1 document-names P F w)

@@ -7,6 +7,7 @@ use native.Mathlib.Omega.{arith}
 use lib.ListN.{length, getD}
 use lib.Dec.{eqb}
 use borrow.Author.Tests.{ne-eqb}
+use Rattle.rules.specs.Settings.{mostNameLength}
 use Rattle.rules.specs.TypeFile.{Place, Element}
 use Rattle.rules.specs.Elements.{numberOf}
 use Rattle.layout.specs.Sizes.{PLACES, FACT, FACTS}
@@ -14,7 +15,7 @@ use Rattle.model_names.specs.Places.{placeIn, placesOf}
 use Rattle.model_names.specs.Laws.{placeAt-placesOf}
 use Rattle.element_index.specs.Means.{Indexed}
 use Rattle.type_tables.specs.Means.{namedBy}
-use Rattle.table_fill.specs.Places.{slotOf, PlacePut, PlacesPut, named-fits, places-more}
+use Rattle.table_fill.specs.Places.{slotOf, PlacePut, PlacesPut, places-more}
 
 -- What a place names: an element, 255 for `#PCDATA`, 0 if that is not declared.
 abbrev pub nameOf : List ℕ → List Element → Place → ℕ
@@ -23,17 +24,20 @@ nameOf s es x = cond (eqb (x .size) 0) 255 (numberOf s es s (x .at) (x .size))
 pub name-some : (s : List ℕ) (es : List Element) (x : Place) (size at v : ℕ) → size ≡ x .size → at ≡ x .at → (size ≡ 0 → ⊥) → v ≡ numberOf s es s at size → v ≡ nameOf s es x
 name-some s es x size at v p q z n = rw (← p, ← q, ne-eqb size 0 z) n
 
--- A name of at most 8 bytes, within the type file; `#PCDATA` has the size 0.
+-- The number of an element, or 0, fits, and so does the number by which it is filed.
+pub name-fits : (v : ℕ) → v ≤ 64 → (v ≤ 255) × (slotOf v ≤ 64)
+name-fits v l = (omega arith, rw (ne-eqb v 255 (λ e. omega arith)) l)
+
+-- A name of as many bytes as any settings allow at most, within the type file; `#PCDATA` has the size 0.
 abbrev pub IsName : List ℕ → Place → Type 0
-IsName s x = (x .size ≤ 8) × (x .at + x .size ≤ length s)
+IsName s x = (x .size ≤ mostNameLength) × (x .at + x .size ≤ length s)
 
 -- So are those of the first n places.
 abbrev pub NamesFit : (s names : List ℕ) → ℕ → Type 0
 NamesFit s names n = (p : ℕ) → 1 ≤ p → p ≤ n → IsName s (placeIn names (p - 1))
 
 -- What is asked for the n places of the element e to be filed: their names are such, and no place of e is filed yet.
-pub record PlacesDue (s : List ℕ) (es : List Element) (elements index names places facts : List ℕ) (e n : ℕ) : Type 0 where
-  pub indexed : Indexed s es elements index
+pub record PlacesDue (s names places facts : List ℕ) (e n : ℕ) : Type 0 where
   pub element : e ≤ 64
   pub few : n ≤ 96
   pub fit : NamesFit s names n
@@ -41,16 +45,13 @@ pub record PlacesDue (s : List ℕ) (es : List Element) (elements index names pl
   pub facts-len : length facts ≡ FACTS
   pub blank : (k : ℕ) → e * FACT ≤ k → k < e * FACT + 65 → getD facts k 0 ≡ 0
 
--- A turn of the loop that files them.
-module _ (s : List ℕ) (es : List Element) (elements index names P F : List ℕ) (e n : ℕ) (due : PlacesDue s es elements index names P F e n)
+-- A turn of the loop that files them, in an indexed type.
+module _ (s : List ℕ) (es : List Element) (elements index names P F : List ℕ) (indexed : Indexed s es elements index) (e n : ℕ) (due : PlacesDue s names P F e n)
     (p v : ℕ) (from : 1 ≤ p) (to : p ≤ n) (is : v ≡ nameOf s es (placeIn names (p - 1))) where
   names-it : v ≡ namedBy s es (placesOf names n) p
   names-it = rw (placeAt-placesOf names n (p - 1) (omega arith)) is
 
-  pub place-fits : (v ≤ 255) × (slotOf v ≤ 64)
-  place-fits = named-fits s es (due .indexed .accepted .elements) (placesOf names n) p v names-it
-
   pub place-filed : (Q G R H : List ℕ) → PlacesPut s es (placesOf names n) e P F Q G p → PlacePut e p v Q G R H → PlacesPut s es (placesOf names n) e P F R H (p + 1)
   place-filed Q G R H h w =
       let few = due .few in
-      places-more s es (due .indexed .accepted .elements) (placesOf names n) e P F Q G p from (omega arith) h v names-it R H w
+      places-more (indexed .settings) s es (indexed .accepted .elements) (placesOf names n) e P F Q G p from (omega arith) h v names-it R H w

@@ -3,6 +3,7 @@ use Prim.Native.Nat.{ℕ, _+_}
 use mathlib.Core.Path.{_≡_, subst}
 use mathlib.Core.List.{List, []}
 use lib.ListN.{length, length-replicate}
+use Rattle.rules.specs.Settings.{Settings}
 use Rattle.rules.specs.Reading.{refused, got}
 use Rattle.rules.specs.TypeFile.{Element, typeFile}
 use Rattle.rules.specs.Judge.{Accepts}
@@ -13,22 +14,29 @@ use Rattle.table_fill.specs.Places.{PlacePut}
 use Rattle.table_fill.specs.Filled.{Filled, filled-all}
 use Rattle.table_fill.specs.Kinds.{documentRows, noRows, noPlaces, noFacts, filled-document}
 
--- The elements of a type file, none where it is refused.
-unfoldable pub elementsOf : List ℕ → List Element
-elementsOf s = elim (typeFile s) [ refused n k ↦ [] | got es ↦ es ]
+-- The elements of a type file under the settings c, none where it is refused.
+unfoldable pub elementsOf : Settings → List ℕ → List Element
+elementsOf c s = elim (typeFile c s) [ refused n k ↦ [] | got es ↦ es ]
 
-own : (s : List ℕ) (es : List Element) → typeFile s ≡ got es → es ≡ elementsOf s
+own : (c : Settings) (s : List ℕ) (es : List Element) → typeFile c s ≡ got es → es ≡ elementsOf c s
 unfolding elementsOf
-own s es read = rw (read, elementsOf)
+own c s es read = rw (read, elementsOf)
 
-pub indexed-own : (s elements index : List ℕ) → (es : List Element) × Indexed s es elements index → Indexed s (elementsOf s) elements index
-indexed-own s elements index (es, i) = subst (λ (l : List Element). Indexed s l elements index) (own s es (i .accepted .elements)) i
+-- The index of a type that is accepted under the settings c, though it may have been made under others.
+abbrev pub IndexedIn : Settings → (s elements index : List ℕ) → Type 0
+IndexedIn c s elements index = (es : List Element) × Accepts c s es × Indexed s es elements index
 
-pub counted-own : (s elements : List ℕ) (count : ℕ) → Judged s elements count → length (elementsOf s) ≡ count
-counted-own s elements count (es, a, c, r) = rw (← own s es (a .elements)) c
+pub accepted-own : (c : Settings) (s elements index : List ℕ) → IndexedIn c s elements index → Accepts c s (elementsOf c s)
+accepted-own c s elements index (es, a, i) = subst (Accepts c s) (own c s es (a .elements)) a
 
-pub tables-own : (s R P F : List ℕ) (n : ℕ) → Filled s (elementsOf s) R P F n → n ≡ length (elementsOf s) + 1 → (es : List Element) → Accepts s es → Tables s es R P F
-tables-own s R P F n h q es a = filled-all s es (a .elements) R P F a (rw (own s es (a .elements), ← q) h)
+pub indexed-own : (c : Settings) (s elements index : List ℕ) → IndexedIn c s elements index → Indexed s (elementsOf c s) elements index
+indexed-own c s elements index (es, a, i) = subst (λ (l : List Element). Indexed s l elements index) (own c s es (a .elements)) i
+
+pub counted-own : (c : Settings) (s elements : List ℕ) (count : ℕ) → Judged c s elements count → length (elementsOf c s) ≡ count
+counted-own c s elements count (es, a, n, r) = rw (← own c s es (a .elements)) n
+
+pub tables-own : (c : Settings) (s R P F : List ℕ) (n : ℕ) → Filled s (elementsOf c s) R P F n → n ≡ length (elementsOf c s) + 1 → (es : List Element) → Accepts c s es → Tables s es R P F
+tables-own c s R P F n h q es a = filled-all c s es (a .elements) R P F a (rw (own c s es (a .elements), ← q) h)
 
 -- The tables at the start
 
@@ -38,7 +46,6 @@ Blank R P F = (R ≡ noRows) × (P ≡ noPlaces) × (F ≡ noFacts)
 pub blank-lengths : {R P F : List ℕ} → Blank R P F → (length P ≡ PLACES) × (length F ≡ FACTS)
 blank-lengths (a, b, c) = (rw b (length-replicate {A = ℕ} PLACES 0), rw c (length-replicate {A = ℕ} FACTS 0))
 
-pub filled-own : (s elements index R P F R′ P′ F′ : List ℕ) → (es : List Element) × Indexed s es elements index → Blank R P F → R′ ≡ documentRows R → PlacePut 0 1 1 P F P′ F′ → Filled s (elementsOf s) R′ P′ F′ 1
-filled-own s elements index R P F R′ P′ F′ i (a, b, c) q w =
-    let own = indexed-own s elements index i in
-    rw (q, a) (filled-document s (elementsOf s) (own .accepted .elements) P′ F′ (rw (b, c) at w))
+pub filled-own : (c : Settings) (s elements index R P F R′ P′ F′ : List ℕ) → IndexedIn c s elements index → Blank R P F → R′ ≡ documentRows R → PlacePut 0 1 1 P F P′ F′ → Filled s (elementsOf c s) R′ P′ F′ 1
+filled-own c s elements index R P F R′ P′ F′ i (a, b, d) q w =
+    rw (q, a) (filled-document c s (elementsOf c s) (accepted-own c s elements index i .elements) P′ F′ (rw (b, d) at w))

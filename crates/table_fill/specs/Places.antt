@@ -9,6 +9,7 @@ use lib.Seq.{getD-set-same, getD-set-other}
 use lib.Dec.{eqb}
 use borrow.Author.Count.{below-more}
 use borrow.Author.Tests.{eq-eqb, eqb-true, eqb-false, ne-eqb}
+use Rattle.rules.specs.Settings.{Settings}
 use Rattle.rules.specs.Reading.{got}
 use Rattle.rules.specs.TypeFile.{Place, Element, typeFile}
 use Rattle.rules.specs.Judge.{placeAt}
@@ -27,7 +28,7 @@ slotOf v = cond (eqb v 255) 0 v
 
 -- Names
 
-module _ (s : List ℕ) (es : List Element) (read : typeFile s ≡ got es) (ps : List Place) (p v : ℕ) (is : v ≡ namedBy s es ps p) where
+module _ (c : Settings) (s : List ℕ) (es : List Element) (read : typeFile c s ≡ got es) (ps : List Place) (p v : ℕ) (is : v ≡ namedBy s es ps p) where
   abbrev at : ℕ
   at = placeAt ps (p - 1) .at
 
@@ -35,7 +36,7 @@ module _ (s : List ℕ) (es : List Element) (read : typeFile s ≡ got es) (ps :
   size = placeAt ps (p - 1) .size
 
   few : length es ≤ 64
-  few = typeFile-count s es read .1
+  few = typeFile-count c s es read .1
 
   -- What the place names is an element or nothing, or `#PCDATA`.
   element-or-none : (size ≡ 0 → ⊥) → (v ≡ numberOf s es s at size) × (v ≤ 64) × (slotOf v ≡ v)
@@ -48,30 +49,30 @@ module _ (s : List ℕ) (es : List Element) (read : typeFile s ≡ got es) (ps :
   pcdata-there z = is ∙ rw (eq-eqb size 0 z)
 
   no-element : (k : ℕ) → 1 ≤ k → size ≡ 0 → numberOf s es s at size ≡ k → ⊥
-  no-element k l z q = let n : numberOf s es s at 0 ≡ k = rw z at q in omega (arith, numberOf-pcdata s es read s at)
+  no-element k l z q = let n : numberOf s es s at 0 ≡ k = rw z at q in omega (arith, numberOf-pcdata c s es read s at)
 
   -- What the place names fits, and so does the number by which it is filed.
-  pub named-fits : (v ≤ 255) × (slotOf v ≤ 64)
+  named-fits : (v ≤ 255) × (slotOf v ≤ 64)
   named-fits =
       bool-cases (eqb size 0)
       (λ z. let q = pcdata-there (eqb-true size 0 z) in rw q (omega arith))
       (λ z. let (q, l, r) = element-or-none (eqb-false size 0 z) in (omega arith, omega arith))
 
   -- A token has the name of a place exactly if the place is filed by its number.
-  pub filed : (t : Token) → Declares es t → hasName s es ps t p ≡ true → (1 ≤ v) × (slotOf v ≡ nameNumber t)
+  filed : (t : Token) → Declares es t → hasName s es ps t p ≡ true → (1 ≤ v) × (slotOf v ≡ nameNumber t)
   filed (start k) (a, b) h =
-      let n = named-number s es read ps k p a b .0 h in
+      let n = named-number c s es read ps k p a b .0 h in
       let (q, l, r) = element-or-none (λ z. no-element k a z n) in
       (omega arith, omega arith)
   filed pcdata d h =
       let q = pcdata-there (eqb-true size 0 (sym (pcdata-name s es ps p) ∙ h)) in
       rw q (omega arith)
 
-  pub filed-only : (t : Token) → Declares es t → 1 ≤ v → slotOf v ≡ nameNumber t → hasName s es ps t p ≡ true
+  filed-only : (t : Token) → Declares es t → 1 ≤ v → slotOf v ≡ nameNumber t → hasName s es ps t p ≡ true
   filed-only (start k) (a, b) l e =
       bool-cases (eqb size 0)
       (λ z. let q = pcdata-there (eqb-true size 0 z) in let y : 0 ≡ k = rw q at e in absurd (omega arith))
-      (λ z. let (q, m, r) = element-or-none (eqb-false size 0 z) in named-number s es read ps k p a b .1 (omega arith))
+      (λ z. let (q, m, r) = element-or-none (eqb-false size 0 z) in named-number c s es read ps k p a b .1 (omega arith))
   filed-only pcdata d l e =
       bool-cases (eqb size 0)
       (λ z. pcdata-name s es ps p ∙ z)
@@ -146,7 +147,7 @@ unfolding search
 search-miss f zero l h = absurd (omega arith)
 search-miss f (suc p) l h = let z : suc p - 1 ≡ p = omega arith in rw (z, h, search)
 
-module _ (s : List ℕ) (es : List Element) (read : typeFile s ≡ got es) (ps : List Place) (e : ℕ) (P F : List ℕ) where
+module _ (c : Settings) (s : List ℕ) (es : List Element) (read : typeFile c s ≡ got es) (ps : List Place) (e : ℕ) (P F : List ℕ) where
   pub places-none : length P ≡ PLACES → length F ≡ FACTS → ((k : ℕ) → e * FACT ≤ k → k < e * FACT + 65 → getD F k 0 ≡ 0) → PlacesPut s es ps e P F P F 1
   unfolding search
   places-none l m blank =
@@ -158,24 +159,24 @@ module _ (s : List ℕ) (es : List Element) (read : typeFile s ≡ got es) (ps :
         facts-over = λ k h. refl;
         named = λ q a b. absurd (omega arith);
         smaller = λ q a b t d h. absurd (omega arith);
-        largest = λ t d. blank (e * FACT + nameNumber t) (omega arith) (omega (arith, number-few es t (typeFile-count s es read .1) d));
+        largest = λ t d. blank (e * FACT + nameNumber t) (omega arith) (omega (arith, number-few es t (typeFile-count c s es read .1) d));
       }
 
   module _ (Q G : List ℕ) (p : ℕ) (from : 1 ≤ p) (to : p ≤ 96) (h : PlacesPut s es ps e P F Q G p) (v : ℕ) (is : v ≡ namedBy s es ps p) (R H : List ℕ) (w : PlacePut e p v Q G R H) where
     slot-in : slotOf v ≤ 64
-    slot-in = named-fits s es read ps p v is .1
+    slot-in = named-fits c s es read ps p v is .1
 
     largest-more : (t : Token) → Declares es t → getD H (e * FACT + nameNumber t) 0 ≡ search (hasName s es ps t) p
     largest-more t d =
         bool-cases (hasName s es ps t p)
-        (λ y. let (l, q) = filed s es read ps p v is t d y in (rw q at (w .largest l)) ∙ sym (search-hit _ p from y))
+        (λ y. let (l, q) = filed c s es read ps p v is t d y in (rw q at (w .largest l)) ∙ sym (search-hit _ p from y))
         (λ y.
-        w .others (e * FACT + nameNumber t) (λ l q. not-both y (filed-only s es read ps p v is t d l (omega arith)))
+        w .others (e * FACT + nameNumber t) (λ l q. not-both y (filed-only c s es read ps p v is t d l (omega arith)))
         ∙ h .largest t d
         ∙ sym (search-miss _ p from y))
 
     smaller-more : 1 ≤ p → (t : Token) → Declares es t → hasName s es ps t p ≡ true → getD R ((e * POSITIONS + p) * 2 + 1) 0 ≡ search (hasName s es ps t) (p - 1)
-    smaller-more l t d y = let (a, q) = filed s es read ps p v is t d y in w .smaller a ∙ rw q (h .largest t d)
+    smaller-more l t d y = let (a, q) = filed c s es read ps p v is t d y in w .smaller a ∙ rw q (h .largest t d)
 
     pub places-more : PlacesPut s es ps e P F R H (p + 1)
     places-more =

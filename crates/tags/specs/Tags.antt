@@ -4,6 +4,7 @@ use mathlib.Core.Path.{_≡_}
 use mathlib.Core.List.{List}
 use borrow.Author.Tests.{eq-eqb, ne-eqb, lt-ltb, le-ltb}
 use Rattle.rules.specs.Bytes.{byteAt, nameEnd, separatorsEnd}
+use Rattle.rules.specs.Settings.{Settings}
 use Rattle.rules.specs.Reading.{Reading, refused, got}
 use Rattle.rules.specs.Document.{tag}
 use Rattle.rules.specs.Document as rules
@@ -19,17 +20,17 @@ abbrev pub tagOf : TagRead → Reading rules.Tag
 tagOf (tagRead.Read t) = got (tagIn t)
 tagOf (tagRead.Refused f) = refusalOf f
 
--- A tag, whose name ends at e and whose separators end at j.
-module _ (s : List ℕ) (at e : ℕ) (q : e ≡ nameEnd s at) where
-  pub tag-long : 8 < e - at → refused 3 at ≡ tag s at
+-- A tag under the settings c, whose name ends at e and whose separators end at j.
+module _ (c : Settings) (s : List ℕ) (at e : ℕ) (q : e ≡ nameEnd s at) where
+  pub tag-long : c .nameLength < e - at → refused 3 at ≡ tag c s at
   unfolding tag
   tag-long h = rw (tag, lt-ltb _ _ (rw q at h))
 
-  module _ (j : ℕ) (p : j ≡ separatorsEnd s e) (h : e - at ≤ 8) where
-    pub tag-read : byteAt s j ≡ 62 → got (record { name = at; size = e - at; after = j + 1 }) ≡ tag s at
+  module _ (j : ℕ) (p : j ≡ separatorsEnd s e) (h : e - at ≤ c .nameLength) where
+    pub tag-read : byteAt s j ≡ 62 → got (record { name = at; size = e - at; after = j + 1 }) ≡ tag c s at
     unfolding tag
     tag-read g = rw (p, q, tag, le-ltb _ _ (rw q at h), eq-eqb _ _ (rw (p, q) at g))
 
-    pub tag-open : (byteAt s j ≡ 62 → ⊥) → refused 4 j ≡ tag s at
+    pub tag-open : (byteAt s j ≡ 62 → ⊥) → refused 4 j ≡ tag c s at
     unfolding tag
     tag-open g = rw (p, q, tag, le-ltb _ _ (rw q at h), ne-eqb _ _ (rw (p, q) at g))

@@ -6,6 +6,7 @@ use mathlib.Core.List.{List}
 use native.Mathlib.Omega.{arith}
 use lib.ListN.{length}
 use borrow.Author.Tests.{ne-eqb, lt-ltb, le-ltb}
+use Rattle.rules.specs.Settings.{Settings}
 use Rattle.rules.specs.Bytes.{byteAt, letter, nameEnd}
 use Rattle.rules.specs.Reading.{Reading, refused, got, andThen}
 use Rattle.rules.specs.TypeFile.{Element, Declared, atDashes, isWord, ELEMENT, commentDeclaration, element, keyword, markup, declaration}
@@ -36,51 +37,51 @@ module _ (s elements : List ℕ) where
   step-back from to l (Refused f) (refused n k) m = m
 
 -- Keywords, the one at i ending at e.
-module _ (s : List ℕ) (i e : ℕ) (es : List Element) (ends : e ≡ nameEnd s (i + 2)) where
-  pub keyword-long : 8 < e - (i + 2) → keyword s i es ≡ refused 3 (i + 2)
+module _ (c : Settings) (s : List ℕ) (i e : ℕ) (es : List Element) (ends : e ≡ nameEnd s (i + 2)) where
+  pub keyword-long : c .nameLength < e - (i + 2) → keyword c s i es ≡ refused 3 (i + 2)
   unfolding keyword
   keyword-long h = rw (lt-ltb _ _ (rw ends at h), keyword)
 
-  module _ (h : e - (i + 2) ≤ 8) where
-    pub keyword-element : isWord s (i + 2) e ELEMENT ≡ true → keyword s i es ≡ element s e es
+  module _ (h : e - (i + 2) ≤ c .nameLength) where
+    pub keyword-element : isWord s (i + 2) e ELEMENT ≡ true → keyword c s i es ≡ element c s e es
     unfolding keyword
     keyword-element w = rw (ends, le-ltb _ _ (rw ends at h), rw ends at w, keyword)
 
-    pub keyword-other : isWord s (i + 2) e ELEMENT ≡ false → keyword s i es ≡ refused 5 i
+    pub keyword-other : isWord s (i + 2) e ELEMENT ≡ false → keyword c s i es ≡ refused 5 i
     unfolding keyword
     keyword-other w = rw (le-ltb _ _ (rw ends at h), rw ends at w, keyword)
 
 -- What stands behind `<!`, where the byte b follows.
-module _ (s : List ℕ) (i b : ℕ) (es : List Element) (read : b ≡ byteAt s (i + 2)) where
-  pub markup-none : b ≡ 62 → markup s i es ≡ got (record { elements = es; at = i + 3 })
+module _ (c : Settings) (s : List ℕ) (i b : ℕ) (es : List Element) (read : b ≡ byteAt s (i + 2)) where
+  pub markup-none : b ≡ 62 → markup c s i es ≡ got (record { elements = es; at = i + 3 })
   unfolding markup
   markup-none q = rw (rw read at q, markup)
 
   module _ (d : ℕ) (then : d ≡ byteAt s (i + 3)) (q : b ≡ 45) where
-    pub markup-dash : (d ≡ 45 → ⊥) → markup s i es ≡ refused 4 (i + 3)
+    pub markup-dash : (d ≡ 45 → ⊥) → markup c s i es ≡ refused 4 (i + 3)
     unfolding markup
     markup-dash o =
         let m = rw read at q in
         rw (m, m, ne-eqb _ _ (rw then at o), markup)
 
-    pub markup-comment : (x : Reading ℕ) → d ≡ 45 → x ≡ commentDeclaration s (i + 2) → markup s i es ≡ andThen x (λ j. got (record { elements = es; at = j }))
+    pub markup-comment : (x : Reading ℕ) → d ≡ 45 → x ≡ commentDeclaration s (i + 2) → markup c s i es ≡ andThen x (λ j. got (record { elements = es; at = j }))
     unfolding markup
-    markup-comment x o c =
+    markup-comment x o w =
         let m = rw read at q in
-        rw (m, m, rw then at o, ← c, markup)
+        rw (m, m, rw then at o, ← w, markup)
 
-  pub markup-section : b ≡ 91 → markup s i es ≡ refused 5 i
+  pub markup-section : b ≡ 91 → markup c s i es ≡ refused 5 i
   unfolding markup
   markup-section q =
       let m = rw read at q in
       rw (m, m, m, markup)
 
   module _ (none : b ≡ 62 → ⊥) (dash : b ≡ 45 → ⊥) (section : b ≡ 91 → ⊥) where
-    pub markup-keyword : letter b ≡ true → markup s i es ≡ keyword s i es
+    pub markup-keyword : letter b ≡ true → markup c s i es ≡ keyword c s i es
     unfolding markup
     markup-keyword l = rw (ne-eqb _ _ (rw read at none), ne-eqb _ _ (rw read at dash), ne-eqb _ _ (rw read at section), rw read at l, markup)
 
-    pub markup-other : letter b ≡ false → markup s i es ≡ refused 4 (i + 2)
+    pub markup-other : letter b ≡ false → markup c s i es ≡ refused 4 (i + 2)
     unfolding markup
     markup-other l = rw (ne-eqb _ _ (rw read at none), ne-eqb _ _ (rw read at dash), ne-eqb _ _ (rw read at section), rw read at l, markup)
 
@@ -102,28 +103,28 @@ module _ (s elements : List ℕ) (i : ℕ) (p : Progress) (es : List Element) (r
       step-onward s elements i j p es x z k (read ∙ rw e) w (omega arith) (l .1)
 
 -- What stands at i, where a declaration may begin: the byte b.
-module _ (s : List ℕ) (i b : ℕ) (es : List Element) (read : b ≡ byteAt s i) where
+module _ (c : Settings) (s : List ℕ) (i b : ℕ) (es : List Element) (read : b ≡ byteAt s i) where
   module _ (d : ℕ) (then : d ≡ byteAt s (i + 1)) (q : b ≡ 60) where
-    pub declaration-markup : d ≡ 33 → declaration s i es ≡ markup s i es
+    pub declaration-markup : d ≡ 33 → declaration c s i es ≡ markup c s i es
     unfolding declaration
     declaration-markup o = rw (rw read at q, rw then at o, declaration)
 
-    pub declaration-instruction : d ≡ 63 → declaration s i es ≡ refused 5 i
+    pub declaration-instruction : d ≡ 63 → declaration c s i es ≡ refused 5 i
     unfolding declaration
     declaration-instruction o =
         let m = rw then at o in
         rw (rw read at q, m, m, declaration)
 
-    pub declaration-tag : (d ≡ 33 → ⊥) → (d ≡ 63 → ⊥) → declaration s i es ≡ refused 4 (i + 1)
+    pub declaration-tag : (d ≡ 33 → ⊥) → (d ≡ 63 → ⊥) → declaration c s i es ≡ refused 4 (i + 1)
     unfolding declaration
     declaration-tag m o = rw (rw read at q, ne-eqb _ _ (rw then at m), ne-eqb _ _ (rw then at o), declaration)
 
-  pub declaration-reference : b ≡ 37 → declaration s i es ≡ refused 5 i
+  pub declaration-reference : b ≡ 37 → declaration c s i es ≡ refused 5 i
   unfolding declaration
   declaration-reference q =
       let m = rw read at q in
       rw (m, m, declaration)
 
-  pub declaration-other : (b ≡ 60 → ⊥) → (b ≡ 37 → ⊥) → declaration s i es ≡ refused 4 i
+  pub declaration-other : (b ≡ 60 → ⊥) → (b ≡ 37 → ⊥) → declaration c s i es ≡ refused 4 i
   unfolding declaration
   declaration-other m o = rw (ne-eqb _ _ (rw read at m), ne-eqb _ _ (rw read at o), declaration)

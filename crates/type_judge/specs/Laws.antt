@@ -5,6 +5,7 @@ use mathlib.Core.Logic.{inl, inr}
 use mathlib.Core.List.{List}
 use native.Mathlib.Omega.{arith}
 use lib.ListN.{length, take, drop, length-append, take-append-drop}
+use Rattle.rules.specs.Settings.{Settings}
 use Rattle.rules.specs.Lent.{Lent, standing, room, filledWith, zeroed}
 use Rattle.rules.specs.Reading.{Reading, refused, got}
 use Rattle.rules.specs.TypeFile.{Element, typeFile}
@@ -23,46 +24,46 @@ use Rattle.type_file.specs.File.{MeetsFile}
 use Rattle.type_judge.specs.Means.{answerOf, Decides}
 
 -- The verdict on a type file that was refused, or read.
-module _ (s : List ℕ) (room : ℕ) (legible : Legible s) where
-  pub decides-malformed : (elements : List ℕ) (r : Step) → MeetsFile s elements r (typeFile s) → (f g : Fault) → r ≡ Refused f → g ≡ stepFault r → Refuses s room (refusal (g .number) (g .at) 0 0)
-  decides-malformed elements r m f g e q = rw (q, e) (by-reading (typeFile s) refl (rw e at m))
+module _ (c : Settings) (s : List ℕ) (room : ℕ) (legible : Legible c s) where
+  pub decides-malformed : (elements : List ℕ) (r : Step) → MeetsFile s elements r (typeFile c s) → (f g : Fault) → r ≡ Refused f → g ≡ stepFault r → Refuses c s room (refusal (g .number) (g .at) 0 0)
+  decides-malformed elements r m f g e q = rw (q, e) (by-reading (typeFile c s) refl (rw e at m))
     where
-      by-reading : (x : Reading (List Element)) → typeFile s ≡ x → MeetsFile s elements (Refused f) x → Refuses s room (refusal (f .number) (f .at) 0 0)
+      by-reading : (x : Reading (List Element)) → typeFile c s ≡ x → MeetsFile s elements (Refused f) x → Refuses c s room (refusal (f .number) (f .at) 0 0)
       by-reading (refused n k) y h = malformed legible n k y (rw (h .0, h .1))
       by-reading (got es) y h = absurd h
 
-  module _ (es : List Element) (y : typeFile s ≡ got es) (c : Clash) where
-    pub decides-ambiguous : Pending s c es → (c .second ≡ 0 → ⊥) → Refuses s room (refusal 9 (c .at) (c .first) (c .second))
+  module _ (es : List Element) (y : typeFile c s ≡ got es) (x : Clash) where
+    pub decides-ambiguous : Pending s x es → (x .second ≡ 0 → ⊥) → Refuses c s room (refusal 9 (x .at) (x .first) (x .second))
     decides-ambiguous (inl h) z = absurd (z (h .0))
-    decides-ambiguous (inr h) z = ambiguous legible es y (c .at) (c .first) (c .second) (h .1) refl
+    decides-ambiguous (inr h) z = ambiguous legible es y (x .at) (x .first) (x .second) (h .1) refl
 
-    module _ (h : Pending s c es) (z : c .second ≡ 0) where
-      pub decides-full : (n : ℕ) → n ≡ length es → room < 6 * n → Refuses s room (refusal 19 0 0 0)
-      decides-full n e l = noRoom legible es y (none-so-far s c es z h) (rw e at l) refl
+    module _ (h : Pending s x es) (z : x .second ≡ 0) where
+      pub decides-full : (n : ℕ) → n ≡ length es → room < 6 * n → Refuses c s room (refusal 19 0 0 0)
+      decides-full n e l = noRoom legible es y (none-so-far s x es z h) (rw e at l) refl
 
-      pub decides-accepted : (elements : List ℕ) (p : Progress) → KeepsProgress s elements p es → 6 * p .count ≤ room → Decides s room elements (Accepted (p .count))
+      pub decides-accepted : (elements : List ℕ) (p : Progress) → KeepsProgress s elements p es → 6 * p .count ≤ room → Decides c s room elements (Accepted (p .count))
       decides-accepted elements p k l =
-          let all : Accepts s es = record { legible = legible; elements = y; unambiguous = none-so-far s c es z h } in
+          let all : Accepts c s es = record { legible = legible; elements = y; unambiguous = none-so-far s x es z h } in
           (es, all, k .counted, rw (k .counted) at l, k .room, k .recorded)
 
 -- What the lent buffer holds after the verdict.
-module _ (l : Lent) (s before elements : List ℕ) (v : Verdict) (d : Decides s (room l before) elements v) where
+module _ (l : Lent) (c : Settings) (s before elements : List ℕ) (v : Verdict) (d : Decides c s (room l before) elements v) where
   -- The records stand in the table, and fit the buffer.
   pub accepted-fits : (n : ℕ) → v ≡ Accepted n → (n ≤ 64) × (6 * n ≤ room l before) × (6 * n ≤ length elements)
   accepted-fits n e =
-      let (es, a, c, fits, few, w) = rw e at d in
+      let (es, a, count, fits, few, w) = rw e at d in
       let whole = ap length (take-append-drop (6 * length es) elements) in
       (omega arith, omega arith, omega (arith, length-append (take (6 * length es) elements) (drop (6 * length es) elements), ap length w, records-length es))
 
-  pub judged-accepts : (n : ℕ) (after : List ℕ) → v ≡ Accepted n → after ≡ filledWith (standing l (take (6 * n) elements)) before → Judged l s before (answerOf (Accepted n)) after
+  pub judged-accepts : (n : ℕ) (after : List ℕ) → v ≡ Accepted n → after ≡ filledWith (standing l (take (6 * n) elements)) before → Judged l c s before (answerOf (Accepted n)) after
   judged-accepts n after e q =
-      let (es, a, c, fits, few, w) = rw e at d in
-      accepts es a fits (ap acceptance c) (rw (q, c, w))
+      let (es, a, count, fits, few, w) = rw e at d in
+      accepts es a fits (ap acceptance count) (rw (q, count, w))
 
-  pub judged-refuses : (after : List ℕ) → ((n : ℕ) → v ≡ Accepted n → ⊥) → after ≡ zeroed before → Judged l s before (answerOf v) after
+  pub judged-refuses : (after : List ℕ) → ((n : ℕ) → v ≡ Accepted n → ⊥) → after ≡ zeroed before → Judged l c s before (answerOf v) after
   judged-refuses after other q = by-verdict v refl d
     where
-      by-verdict : (u : Verdict) → v ≡ u → Decides s (room l before) elements u → Judged l s before (answerOf v) after
+      by-verdict : (u : Verdict) → v ≡ u → Decides c s (room l before) elements u → Judged l c s before (answerOf v) after
       by-verdict (Accepted n) e h = absurd (other n e)
       by-verdict (Malformed f) e h = rw e (refuses h q)
-      by-verdict (Ambiguous c) e h = rw e (refuses h q)
+      by-verdict (Ambiguous x) e h = rw e (refuses h q)

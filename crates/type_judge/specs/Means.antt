@@ -3,6 +3,7 @@ use Prim.Native.Nat.{ℕ, _*_, _≤_}
 use mathlib.Core.Path.{_≡_}
 use mathlib.Core.List.{List}
 use lib.ListN.{length}
+use Rattle.rules.specs.Settings.{Settings}
 use Rattle.rules.specs.TypeFile.{Element}
 use Rattle.rules.specs.Judge.{Answer, refusal, acceptance, Refuses, Accepts}
 use Rattle.element_names.specs.Names.{Recorded}
@@ -15,9 +16,9 @@ answerOf (Accepted n) = acceptance n
 answerOf (Malformed f) = refusal (f .number) (f .at) 0 0
 answerOf (Ambiguous c) = refusal 9 (c .at) (c .first) (c .second)
 
--- The verdict on a type file, where the lent buffer has room for so many numbers: accepted with the elements that are recorded, or refused.
-abbrev pub Decides : (s : List ℕ) (room : ℕ) (elements : List ℕ) → Verdict → Type 0
-Decides s room elements (Accepted n) =
-    (es : List Element) × Accepts s es × (n ≡ length es) × (6 * length es ≤ room) × (length es ≤ 64) × Recorded elements es
-Decides s room elements (Malformed f) = Refuses s room (answerOf (Malformed f))
-Decides s room elements (Ambiguous c) = Refuses s room (answerOf (Ambiguous c))
+-- The verdict on a type file under the settings c, where the lent buffer has room for so many numbers: accepted with the elements that are recorded, or refused.
+abbrev pub Decides : Settings → (s : List ℕ) (room : ℕ) (elements : List ℕ) → Verdict → Type 0
+Decides c s room elements (Accepted n) =
+    (es : List Element) × Accepts c s es × (n ≡ length es) × (6 * length es ≤ room) × (length es ≤ 64) × Recorded elements es
+Decides c s room elements (Malformed f) = Refuses c s room (answerOf (Malformed f))
+Decides c s room elements (Ambiguous x) = Refuses c s room (answerOf (Ambiguous x))

@@ -15,7 +15,7 @@ use Rattle.rules.specs.Judge.{placeAt}
 use Rattle.rules.specs.Elements.{elementAt, contentOf}
 use Rattle.model_sets.specs.Sets.{size, Numbered}
 use Rattle.rules_laws.specs.Within.{none, more, NameIn, Fits, ContentIn, typeFile-count}
-use Rattle.type_laws.specs.Models.{Whole, WholeIn, declared-whole}
+use Rattle.type_laws.specs.Models.{Whole, WholeIn, ShortIn, declared-whole, declared-short}
 use Rattle.type_laws.specs.Made.{each-content, typeFile-made}
 use Rattle.type_laws.specs.Names.{typeFile-element}
 
@@ -46,6 +46,11 @@ module _ (c : Settings) (s : List ℕ) (es : List Element) (read : typeFile c s 
   pub typeFile-content : (k : ℕ) → ContentIn s (contentOf es k)
   typeFile-content zero = document-fits s _ first-name (typeFile-made c s es read 0 (typeFile-count c s es read .0) .named)
   typeFile-content (suc k) = each-content (ContentIn s) tt es (λ j h. typeFile-element c s es read j h .content) k
+
+  -- No place of a content has a longer name than the settings say.
+  pub typeFile-places-short : (k : ℕ) → ShortIn (c .nameLength) (contentOf es k)
+  typeFile-places-short zero = more (typeFile-made c s es read 0 (typeFile-count c s es read .0) .short) none
+  typeFile-places-short (suc k) = each-content (ShortIn (c .nameLength)) tt es (λ j h. declared-short (typeFile-made c s es read j h)) k
 
   pub typeFile-width : (k : ℕ) {g : Group} {ps : List Place} {n : ℕ} → contentOf es k ≡ model g ps n → (size g ≡ length ps) × (size g ≤ 96) × Numbered g 1
   typeFile-width k {g} {ps} {n} e =

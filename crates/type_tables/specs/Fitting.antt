@@ -41,7 +41,7 @@ module _ (s : List ℕ) (es : List Element) (rows places facts : List ℕ) (tabl
     where
       go : (c : Content) → contentOf es e ≡ c → fitsIn s es c (placed u) t ≡ search (λ p. hasName s es (placesIn c) t p && nextOf c u p) (length (placesIn c))
       go empty z = sym (search-none _)
-      go (model g ps n) z = rw (last-placed, typeFile-width s es (tables .accepted .elements) e z .0)
+      go (model g ps n) z = rw (last-placed, typeFile-width (tables .settings) s es (tables .accepted .elements) e z .0)
 
   -- What is still to be looked at below n begins at the last place of the name.
   left-last : (n : ℕ) → n ≤ width es e → fitsIn s es (contentOf es e) (placed u) t ≡ search (λ p. has p && next p) n → Left s es e u t (search has n)

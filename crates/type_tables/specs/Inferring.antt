@@ -69,7 +69,7 @@ module _ (rows places facts : List ℕ) (e u p : ℕ) (s : List ℕ) (es : List 
     data-required z = none-named (bool-cases (eqb (stands .size) 0) nameless other)
       where
         nameless : eqb (stands .size) 0 ≡ true → named ≡ 0
-        nameless x = rw (eqb-true (stands .size) 0 x) (numberOf-pcdata s es (tables .accepted .elements) s (stands .at))
+        nameless x = rw (eqb-true (stands .size) 0 x) (numberOf-pcdata (tables .settings) s es (tables .accepted .elements) s (stands .at))
 
         other : eqb (stands .size) 0 ≡ false → named ≡ 0
         other x = let y : k ≡ named = rw x at said in absurd (omega (arith, named-range, tables .few))

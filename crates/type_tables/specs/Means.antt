@@ -5,6 +5,7 @@ use mathlib.Core.Bool.{Bool, true, false, cond}
 use mathlib.Core.List.{List}
 use lib.ListN.{length, getD}
 use lib.Dec.{eqb, leb}
+use Rattle.rules.specs.Settings.{Settings}
 use Rattle.rules.specs.TypeFile.{Place, Content, empty, model, Element}
 use Rattle.rules.specs.Judge.{Accepts, placeAt}
 use Rattle.rules.specs.Elements.{elementAt, numberOf, contentOf, placesIn, hasModel}
@@ -78,8 +79,10 @@ pub record Facts (s : List ℕ) (es : List Element) (facts : List ℕ) : Type 0 
   pub end : (e : ℕ) → 1 ≤ e → e ≤ length es → getD facts (e * FACT + 66) 0 ≡ elementAt es (e - 1) .end
   pub has : (e : ℕ) → 1 ≤ e → e ≤ length es → getD facts (e * FACT + 67) 0 ≡ cond (hasModel (contentOf es e)) 1 0
 
+-- The tables are those of a type that is accepted under some settings: what is asked of them does not depend on which.
 pub record Tables (s : List ℕ) (es : List Element) (rows places facts : List ℕ) : Type 0 where
-  pub accepted : Accepts s es
+  pub settings : Settings
+  pub accepted : Accepts settings s es
   pub few : length es ≤ 64
   pub rows-say : Rows es rows
   pub places-say : Places s es places

@@ -7,6 +7,7 @@ use native.Mathlib.Omega.{arith}
 use lib.ListN.{length, getD}
 use lib.Dec.{eqb, leb}
 use borrow.Author.Tests.{le-leb, lt-leb, leb-true}
+use Rattle.rules.specs.Settings.{Settings}
 use Rattle.rules.specs.Walk.{Group}
 use Rattle.rules.specs.TypeFile.{Content, empty, model, Element}
 use Rattle.rules.specs.Judge.{Accepts}
@@ -41,22 +42,22 @@ required-range g numbered u l = go (requiredIn g u) refl
         let (next, passed) = required-sound g 1 numbered (omega arith) s b (suc p) (ap (requiredIn g) z ∙ e) (omega arith) in
         next-range g numbered (lastOr0 s) (suc p) (next-sound g 1 numbered (omega arith) s (suc p) next) .1
 
-module _ (s : List ℕ) (es : List Element) (accepted : Accepts s es) (k : ℕ) where
+module _ {c : Settings} (s : List ℕ) (es : List Element) (accepted : Accepts c s es) (k : ℕ) where
   pub width-most : width es k ≤ 96
   width-most = go (contentOf es k) refl
     where
-      go : (c : Content) → contentOf es k ≡ c → length (placesIn c) ≤ 96
+      go : (x : Content) → contentOf es k ≡ x → length (placesIn x) ≤ 96
       go empty e = omega arith
-      go (model g ps n) e = omega (arith, typeFile-width s es (accepted .elements) k e)
+      go (model g ps n) e = omega (arith, typeFile-width c s es (accepted .elements) k e)
 
   pub required-most : (u : ℕ) → u ≤ width es k → requiredOf (contentOf es k) (placed u) ≤ width es k
   unfolding requiredOf
   required-most u = go (contentOf es k) refl
     where
-      go : (c : Content) → contentOf es k ≡ c → u ≤ length (placesIn c) → requiredOf c (placed u) ≤ length (placesIn c)
+      go : (x : Content) → contentOf es k ≡ x → u ≤ length (placesIn x) → requiredOf x (placed u) ≤ length (placesIn x)
       go empty e l = omega arith
       go (model g ps n) e l =
-          let (counted, few, numbered) = typeFile-width s es (accepted .elements) k e in
+          let (counted, few, numbered) = typeFile-width c s es (accepted .elements) k e in
           rw last-placed (omega (arith, required-range g numbered u (omega arith)))
 
 -- The number that is kept as a place
@@ -79,7 +80,7 @@ pub required-small : (rows : List ℕ) (e u : ℕ) → requiredAt rows e u ≤ 9
 required-small rows e u = place-most (getD rows (rowAt e u + 13) 0)
 
 -- In the rows of a type the required place is one of the model's.
-pub required-kept : (s : List ℕ) (es : List Element) → Accepts s es → (rows : List ℕ) → Rows es rows → (e u : ℕ) → e ≤ length es → u ≤ width es e → requiredAt rows e u ≡ requiredOf (contentOf es e) (placed u)
+pub required-kept : {c : Settings} (s : List ℕ) (es : List Element) → Accepts c s es → (rows : List ℕ) → Rows es rows → (e u : ℕ) → e ≤ length es → u ≤ width es e → requiredAt rows e u ≡ requiredOf (contentOf es e) (placed u)
 required-kept s es accepted rows said e u d l =
     let said-so = said .required e u d l in
     kept-place (getD rows (rowAt e u + 13) 0) (omega (arith, said-so, required-most s es accepted e u l, width-most s es accepted e)) ∙ said-so
@@ -87,10 +88,10 @@ required-kept s es accepted rows said e u d l =
 -- What is read of the rows, at b, is the required place, also by the rules.
 module _ (rows : List ℕ) (e u r b : ℕ) (there : b ≡ rowAt e u) (read : r ≡ getD rows (b + 13) 0) where
   abbrev RequiresAt : ℕ → Type 0
-  RequiresAt q = (q ≡ requiredAt rows e u) × ((s : List ℕ) (es : List Element) → Accepts s es → Rows es rows → InRange es (standing e u) → q ≡ requiredOf (contentOf es e) (placed u))
+  RequiresAt q = (q ≡ requiredAt rows e u) × ((c : Settings) (s : List ℕ) (es : List Element) → Accepts c s es → Rows es rows → InRange es (standing e u) → q ≡ requiredOf (contentOf es e) (placed u))
 
   by-rows : (q : ℕ) → q ≡ requiredAt rows e u → RequiresAt q
-  by-rows q z = (z, λ s es accepted said range. z ∙ required-kept s es accepted rows said e u (range .declared) (place-range es e u range))
+  by-rows q z = (z, λ c s es accepted said range. z ∙ required-kept s es accepted rows said e u (range .declared) (place-range es e u range))
 
   read-there : getD rows (rowAt e u + 13) 0 ≡ r
   read-there = rw (← there) (sym read)

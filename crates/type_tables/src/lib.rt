@@ -28,6 +28,7 @@ ghost use mathlib.Core.Path.{_≡_};
 ghost use mathlib.Core.List.{List};
 ghost use Prim.Native.Nat.{ℕ, _+_, _*_, _/_, _%_, _≤_, _<_};
 ghost use lib.ListN.{getD};
+ghost use Rattle.rules.specs.Settings.{Settings};
 ghost use Rattle.rules.specs.TypeFile.{Element};
 ghost use Rattle.rules.specs.Judge.{Accepts};
 ghost use Rattle.rules.specs.Elements.{contentOf, hasModel, startO, endO};
@@ -70,7 +71,7 @@ pub fn complete(rows: &[u8; ROWS], e: ElementNo, u: Place) -> bool
 pub fn required(rows: &[u8; ROWS], e: ElementNo, u: Place) -> Place
     requires { ⌜ (e .0 ≤ 64) × (u .0 ≤ 96) ⌝ }
     ensures { λ r. ⌜ r .0 ≡ requiredAt (now (rows .entry)) (e .0) (u .0) ⌝ }
-    ensures { λ r. ⌜ ((s : List ℕ) (es : List Element) → Accepts s es → Rows es (now (rows .entry)) → InRange es (standing (e .0) (u .0)) →
+    ensures { λ r. ⌜ ((c : Settings) (s : List ℕ) (es : List Element) → Accepts c s es → Rows es (now (rows .entry)) → InRange es (standing (e .0) (u .0)) →
         r .0 ≡ decided s es .required (e .0) (placed (u .0))) ⌝ }
 {
     let p = numbers::wide(rows[row(e, u) + 13]);

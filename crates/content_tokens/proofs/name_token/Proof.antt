@@ -2,6 +2,7 @@
 use mathlib.Core.Path.{refl}
 use native.Mathlib.Omega.{arith}
 use borrow.Author.Needs.{needs}
+use Rattle.rules.specs.Settings.{settings}
 use Rattle.text.specs.Laws.{nameEnd-from, nameEnd-le}
 use Rattle.content_tokens.specs.Readings.{got-meets, refused-meets}
 use Rattle.content_tokens.specs.Tokens.{name-long, name-full, name-got, new-place}
@@ -23,7 +24,7 @@ returns : tie.Need-returns
 returns c =
     let e = c .before .before in
     let x = e .before .before .args in
-    refused-meets _ _ _ _ _ _ 3 (x .at) _ (c .refusal .ensures) (name-long (x .s .now) (x .at) (e .name-end .result) (x .full) _ (x .tokens) (e .name-end .ensures) (c .before .if1 .taken))
+    refused-meets _ _ _ _ _ _ 3 (x .at) _ (c .refusal .ensures) (name-long (settings (x .long)) (x .s .now) (x .at) (e .name-end .result) (x .full) _ (x .tokens) (e .name-end .ensures) (c .before .if1 .taken))
 
 refusal-requires-2 : tie.Need-refusal-requires-2
 refusal-requires-2 c κs = search needs
@@ -33,14 +34,14 @@ returns-2 c =
     let d = c .before .before in
     let e = d .before in
     let x = e .before .before .args in
-    refused-meets _ _ _ _ _ _ 6 (x .at) _ (c .refusal2 .ensures) (name-full (x .s .now) (x .at) (e .name-end .result) (x .full) _ (x .tokens) (e .name-end .ensures) (d .if1 .left) (c .before .if2 .taken))
+    refused-meets _ _ _ _ _ _ 6 (x .at) _ (c .refusal2 .ensures) (name-full (settings (x .long)) (x .s .now) (x .at) (e .name-end .result) (x .full) _ (x .tokens) (e .name-end .ensures) (d .if1 .left) (c .before .if2 .taken))
 
 put-name-requires : tie.Need-put-name-requires
 put-name-requires c κs =
     let e = c .before .before .before in
     let a = e .before .before in
     let x = a .args in
-    omega (arith, a .pre, a .pre .1 .1 (c .before .if2 .left), c .before .before .if1 .left)
+    omega (arith, a .pre, a .pre .1 .1 (c .before .if2 .left), nameEnd-le (x .s .now) (x .at) (a .pre .0 .0), e .name-end .ensures)
 
 add-p : tie.Need-add-p
 add-p c =
@@ -73,7 +74,7 @@ returns-3 c =
     let a = e .before .before in
     let x = a .args in
     got-meets _ _ _ _ _ _ _ _ _ refl
-    (name-got (x .s .now) (x .at) (e .name-end .result) (x .full) _ (x .tokens) (e .name-end .ensures) (d .before .if1 .left) (d .if2 .left))
+    (name-got (settings (x .long)) (x .s .now) (x .at) (e .name-end .result) (x .full) _ (x .tokens) (e .name-end .ensures) (d .before .if1 .left) (d .if2 .left))
     (c .with-occurrence .ensures _ _ _
     (new-place _ (x .at) (e .name-end .result) _ (x .places) (x .tokens) (x .table .now) (x .names .now) _ _ (p .put-place .result)
     (omega (arith, nameEnd-le (x .s .now) (x .at) (a .pre .0 .0), e .name-end .ensures)) (a .pre .1 .0) (a .pre .1 .1 (d .if2 .left)) (n .put-name .ensures .0) (p .put-place .ensures .0) (p .put-place .ensures .1)))

@@ -5,30 +5,31 @@ use mathlib.Core.Path.{_∙_}
 use native.Mathlib.Omega.{arith}
 use borrow.Author.Needs.{needs}
 use lib.ListN.{length}
+use Rattle.rules.specs.Settings.{settings}
 use Rattle.document_events.specs.Means.{Going}
 use Rattle.document_events.specs.Turns.{going-start, piece-refuses, token-asked, token-range, token-refuses, going-token, end-asked, end-range, end-tag-refuses, going-end, passed-range, going-passed, finish-asked, end-refuses, end-counts}
 use Rattle.document_events.proofs.events_of.Statement.{statement}
 use Rattle.document_events.proofs.events_of.Tie as tie
 
 abbrev Inv-loop : tie.InvT-loop
-Inv-loop s elements index rows places facts classes d numbers₀ bytes₀ at₀ n₀ o₀ numbers bytes at n o =
-    Going s elements index rows places facts d numbers₀ numbers bytes₀ bytes n at o
+Inv-loop long s elements index rows places facts classes d numbers₀ bytes₀ at₀ n₀ o₀ numbers bytes at n o =
+    Going (settings long) s elements index rows places facts d numbers₀ numbers bytes₀ bytes n at o
 
 abbrev μ-loop : tie.MeasureT-loop
-μ-loop s elements index rows places facts classes d numbers₀ bytes₀ at₀ n₀ o₀ numbers bytes at n o =
+μ-loop long s elements index rows places facts classes d numbers₀ bytes₀ at₀ n₀ o₀ numbers bytes at n o =
     length d - at
 
 new-requires : tie.Need-new-requires Inv-loop μ-loop
 new-requires c κs = search needs
 
 loop-holds : tie.Need-loop-holds Inv-loop μ-loop
-loop-holds c = going-start _ _ _ _ _ _ _ _ _ (c .new .ensures)
+loop-holds c = going-start _ _ _ _ _ _ _ _ _ _ (c .new .ensures)
 
 piece-at-requires : tie.Need-piece-at-requires Inv-loop μ-loop
 piece-at-requires c κs =
     let g = c .before .loop .inv in
     let p = c .before .before .before .before .before .before .before .pre in
-    (p .0, g .ranged .element, g .ranged .place, omega (arith, c .loop-test .taken), p .1)
+    (p .0, p .1, g .ranged .element, g .ranged .place, omega (arith, c .loop-test .taken), p .2)
 
 enum-known-p : tie.Need-enum-known-p Inv-loop μ-loop
 enum-known-p c = search needs
@@ -38,7 +39,7 @@ token-requires c κs =
     let m = c .before .before .before .before .before in
     let g = c .before .before .before .before .before .before .before .loop .inv in
     let h = c .before .before .before .before .before .before .loop-test .taken in
-    token-asked g (omega (arith, h)) (m .piece-at .result) (m .piece-at .ensures .1) (m .piece-at .ensures .0) (c .before .before .before .before .before .before .before .before .before .before .before .before .before .pre .1) (c .before .before .before .p .given .1)
+    token-asked g (omega (arith, h)) (m .piece-at .result) (m .piece-at .ensures .1) (m .piece-at .ensures .0) (c .before .before .before .before .before .before .before .before .before .before .before .before .before .pre .2) (c .before .before .before .p .given .1)
 
 refusal-requires : tie.Need-refusal-requires Inv-loop μ-loop
 refusal-requires c κs = search needs
@@ -79,7 +80,7 @@ end-tag-requires c κs =
     let m = c .before .before .before .before .before in
     let g = c .before .before .before .before .before .before .before .loop .inv in
     let h = c .before .before .before .before .before .before .loop-test .taken in
-    end-asked g (omega (arith, h)) (m .piece-at .result) (m .piece-at .ensures .1) (m .piece-at .ensures .0) (c .before .before .before .before .before .before .before .before .before .before .before .before .before .pre .1) (c .before .before .before .p2 .given .1)
+    end-asked g (omega (arith, h)) (m .piece-at .result) (m .piece-at .ensures .1) (m .piece-at .ensures .0) (c .before .before .before .before .before .before .before .before .before .before .before .before .before .pre .2) (c .before .before .before .p2 .given .1)
 
 refusal-requires-2 : tie.Need-refusal-requires-2 Inv-loop μ-loop
 refusal-requires-2 c κs = search needs
@@ -147,7 +148,7 @@ returns-3 c =
     piece-refuses g (omega (arith, h)) (m .piece-at .result) (m .piece-at .ensures .1) (c .before .p4 .given .1)
 
 finish-requires : tie.Need-finish-requires Inv-loop μ-loop
-finish-requires c κs = finish-asked (c .before .before .before .loop .inv) (omega (arith, c .before .before .loop-test .left)) (c .before .before .before .before .before .before .before .before .before .pre .1)
+finish-requires c κs = finish-asked (c .before .before .before .loop .inv) (omega (arith, c .before .before .loop-test .left)) (c .before .before .before .before .before .before .before .before .before .pre .2)
 
 refusal-requires-3 : tie.Need-refusal-requires-3 Inv-loop μ-loop
 refusal-requires-3 c κs = search needs
@@ -168,7 +169,7 @@ same-length-10 : tie.Need-same-length-10 Inv-loop μ-loop
 same-length-10 c = c .before .before .before .before .before .before .finish .ensures .brings .puts .bytes-kept ∙ c .before .before .before .before .before .before .before .before .before .before .loop .inv .bytes-same
 
 returns-5 : tie.Need-returns-5 Inv-loop μ-loop
-returns-5 c = end-counts (c .before .before .before .before .before .before .before .before .before .before .loop .inv) (omega (arith, c .before .before .before .before .before .before .before .before .before .loop-test .left)) (c .before .before .before .before .before .before .finish .ensures) (c .before .before .before .before .before .before .before .before .before .before .before .before .before .before .before .before .pre .1) (c .if3 .left)
+returns-5 c = end-counts (c .before .before .before .before .before .before .before .before .before .before .loop .inv) (omega (arith, c .before .before .before .before .before .before .before .before .before .loop-test .left)) (c .before .before .before .before .before .before .finish .ensures) (c .before .before .before .before .before .before .before .before .before .before .before .before .before .before .before .before .pre .2) (c .if3 .left)
 
 pub events-of-spec : {M : Type 1} → statement M
 events-of-spec =

@@ -1,5 +1,6 @@
 -- `answered` meets its contract: the document is read under the elements that were judged.
 use mathlib.Core.Path.{sym, subst}
+use Rattle.inputs.specs.Means.{settingsOf}
 use Rattle.document_reader.specs.Means.{Judges}
 use Rattle.document_reader.specs.Laws.{not-first, answers-refused, answers-events, answers-unsettled}
 use Rattle.document_reader.specs.declared.Answer.the-variants.{Accepted}
@@ -11,11 +12,11 @@ use Rattle.document_reader.proofs.answered.Tie as tie
 accepted : (c : tie.After-known-told) →
     let j = c .before .before .before in
     let a = j .before .before .before .before .before .before .args in
-    Judges (a .s .now) (a .d .now) (j .judged .last .1 .1 .0) (Accepted (c .before .v .given .0 .0))
+    Judges (settingsOf (a .c)) (a .s .now) (a .d .now) (j .judged .last .1 .1 .1 .0) (Accepted (c .before .v .given .0 .0))
 accepted c =
     let j = c .before .before .before in
     let a = j .before .before .before .before .before .before .args in
-    subst (Judges (a .s .now) (a .d .now) (j .judged .last .1 .1 .0)) (c .before .v .given .1) (j .judged .ensures)
+    subst (Judges (settingsOf (a .c)) (a .s .now) (a .d .now) (j .judged .last .1 .1 .1 .0)) (c .before .v .given .1) (j .judged .ensures)
 
 judged-requires : tie.Need-judged-requires
 judged-requires c κs = search needs
@@ -26,7 +27,7 @@ enum-known-v c = search needs
 returns : tie.Need-returns
 returns c =
     let j = c .before in
-    answers-refused _ _ _ _ _ _ (j .judged .last .1 .1 .0) (j .judged .result) (j .judged .ensures)
+    answers-refused _ _ _ _ _ _ _ (j .judged .last .1 .1 .1 .0) (j .judged .result) (j .judged .ensures)
     (λ n e. not-first (rw e at (c .match .keys2)))
 
 read-under-requires : tie.Need-read-under-requires
@@ -34,11 +35,11 @@ read-under-requires c κs =
     let (es, b, a, k, w) = accepted (c .before .before .before) in
     ((es, a, sym k, w), b .short)
 
-enum-known-c : tie.Need-enum-known-c
-enum-known-c c = search needs
+enum-known-r : tie.Need-enum-known-r
+enum-known-r c = search needs
 
-enum-known-c-2 : tie.Need-enum-known-c-2
-enum-known-c-2 c = search needs
+enum-known-r-2 : tie.Need-enum-known-r-2
+enum-known-r-2 c = search needs
 
 same-length : tie.Need-same-length
 same-length c = search needs
@@ -50,7 +51,7 @@ returns-2 : tie.Need-returns-2
 returns-2 c =
     let e = c .before .before .before .before .before .before .before in
     let (es, b, a, k, w) = accepted (e .before .before .before .before) in
-    answers-events _ _ _ _ _ _ es b a (e .read-under .result) (e .read-under .ensures es a (sym k) w) _ (c .before .c .given .1)
+    answers-events _ _ _ _ _ _ _ es b a (e .read-under .result) (e .read-under .ensures es a (sym k) w) _ (c .before .r .given .1)
 
 same-length-3 : tie.Need-same-length-3
 same-length-3 c = search needs
@@ -62,7 +63,7 @@ returns-3 : tie.Need-returns-3
 returns-3 c =
     let e = c .before .before .before .before .before .before .before in
     let (es, b, a, k, w) = accepted (e .before .before .before .before) in
-    answers-unsettled _ _ _ _ _ _ es b a (e .read-under .result) (e .read-under .ensures es a (sym k) w) _ (c .before .c2 .given .1)
+    answers-unsettled _ _ _ _ _ _ _ es b a (e .read-under .result) (e .read-under .ensures es a (sym k) w) _ (c .before .r2 .given .1)
 
 pub answered-spec : {M : Type 1} → statement M
 answered-spec =
@@ -72,8 +73,8 @@ answered-spec =
     enum-known-v
     returns
     read-under-requires
-    enum-known-c
-    enum-known-c-2
+    enum-known-r
+    enum-known-r-2
     same-length
     same-length-2
     returns-2

@@ -30,7 +30,7 @@ returns c =
     let f = t .before .before in
     let w = f .before .before .before .before .answered in
     let g = sym (t .before .refuses .ensures) ∙ t .if1 .taken in
-    (read-refused Lent.numbers _ _ _ _ _ _ (w .result) (f .fitted .result) (w .ensures) (w .kept .1 .1 .0) (f .fitted .ensures) _ g (c .before .before .clear-numbers .ensures), count-fits _ _ _ _ _ _ _ (w .result) (w .ensures) (f .fitted .ensures))
+    (read-refused Lent.numbers _ _ _ _ _ _ _ (w .result) (f .fitted .result) (w .ensures) (w .kept .1 .1 .1 .0) (f .fitted .ensures) _ g (c .before .before .clear-numbers .ensures), count-fits _ _ _ _ _ _ _ _ (w .result) (w .ensures) (f .fitted .ensures))
 
 same-length-2 : tie.Need-same-length-2
 same-length-2 c = search needs
@@ -40,7 +40,7 @@ returns-2 c =
     let f = c .before .before in
     let w = f .before .before .before .before .answered in
     let g = sym (c .before .refuses .ensures) ∙ c .if1 .left in
-    (read-accepted Lent.numbers _ _ _ _ _ _ (w .result) (f .fitted .result) (w .ensures) (w .kept .1 .1 .0) (f .fitted .ensures) g, count-fits _ _ _ _ _ _ _ (w .result) (w .ensures) (f .fitted .ensures))
+    (read-accepted Lent.numbers _ _ _ _ _ _ _ (w .result) (f .fitted .result) (w .ensures) (w .kept .1 .1 .1 .0) (f .fitted .ensures) g, count-fits _ _ _ _ _ _ _ _ (w .result) (w .ensures) (f .fitted .ensures))
 
 pub read-spec : {M : Type 1} → statement M
 read-spec =

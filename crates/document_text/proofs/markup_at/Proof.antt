@@ -6,6 +6,7 @@ use lib.Dec.{eqb}
 use borrow.Author.Needs.{needs}
 use Rattle.rules.specs.Bytes.{byteAt}
 use Rattle.text.specs.Laws.{letter-in, second}
+use Rattle.rules.specs.Settings.{settings}
 use Rattle.document_text.specs.Laws.{markup-start, markup-end, markup-declaration, markup-out, markup-data}
 use Rattle.document_text.proofs.markup_at.Statement.{statement}
 use Rattle.document_text.proofs.markup_at.Tie as tie
@@ -31,7 +32,7 @@ start-tag-requires c κs = search needs
 returns : tie.Need-returns
 returns c =
     let a = c .before .before .before .before .before .before .args in
-    c .start-tag .ensures ∙ markup-start (a .s .now) (a .i) _ (c .before .before .before .before .byte .ensures) (sym (c .before .before .before .is-letter .ensures) ∙ c .before .before .if1 .taken) _ (c .before .tag-at .ensures)
+    c .start-tag .ensures ∙ markup-start (settings (a .long)) (a .s .now) (a .i) _ (c .before .before .before .before .byte .ensures) (sym (c .before .before .before .is-letter .ensures) ∙ c .before .before .if1 .taken) _ (c .before .tag-at .ensures)
 
 is-end-tag-requires : tie.Need-is-end-tag-requires
 is-end-tag-requires c κs = search needs
@@ -51,7 +52,7 @@ end-tag-requires c κs = search needs
 returns-2 : tie.Need-returns-2
 returns-2 c =
     let a = c .before .before .before .before .before .before .before .before .args in
-    c .end-tag .ensures ∙ markup-end (a .s .now) (a .i) _ (c .before .before .before .before .before .before .byte .ensures) (sym (c .before .before .before .before .before .is-letter .ensures) ∙ c .before .before .before .before .if1 .left) (sym (c .before .before .before .is-end-tag .ensures) ∙ c .before .before .if2 .taken) _ (c .before .tag-at2 .ensures)
+    c .end-tag .ensures ∙ markup-end (settings (a .long)) (a .s .now) (a .i) _ (c .before .before .before .before .before .before .byte .ensures) (sym (c .before .before .before .before .before .is-letter .ensures) ∙ c .before .before .before .before .if1 .left) (sym (c .before .before .before .is-end-tag .ensures) ∙ c .before .before .if2 .taken) _ (c .before .tag-at2 .ensures)
 
 declaration-at-requires : tie.Need-declaration-at-requires
 declaration-at-requires c κs = search needs
@@ -59,17 +60,17 @@ declaration-at-requires c κs = search needs
 returns-3 : tie.Need-returns-3
 returns-3 c =
     let a = c .before .before .before .before .before .before .before .before .args in
-    c .declaration-at .ensures ∙ markup-declaration (a .s .now) (a .i) _ (c .before .before .before .before .before .before .byte .ensures) (sym (c .before .before .before .before .before .is-letter .ensures) ∙ c .before .before .before .before .if1 .left) (sym (c .before .before .before .is-end-tag .ensures) ∙ c .before .before .if2 .left) (c .before .if3 .taken)
+    c .declaration-at .ensures ∙ markup-declaration (settings (a .long)) (a .s .now) (a .i) _ (c .before .before .before .before .before .before .byte .ensures) (sym (c .before .before .before .before .before .is-letter .ensures) ∙ c .before .before .before .before .if1 .left) (sym (c .before .before .before .is-end-tag .ensures) ∙ c .before .before .if2 .left) (c .before .if3 .taken)
 
 returns-4 : tie.Need-returns-4
 returns-4 c =
     let a = c .before .before .before .before .before .before .before .before .args in
-    markup-out (a .s .now) (a .i) _ (c .before .before .before .before .before .before .byte .ensures) (sym (c .before .before .before .before .before .is-letter .ensures) ∙ c .before .before .before .before .if1 .left) (sym (c .before .before .before .is-end-tag .ensures) ∙ c .before .before .if2 .left) (c .before .if3 .left) (c .if4 .taken)
+    markup-out (settings (a .long)) (a .s .now) (a .i) _ (c .before .before .before .before .before .before .byte .ensures) (sym (c .before .before .before .before .before .is-letter .ensures) ∙ c .before .before .before .before .if1 .left) (sym (c .before .before .before .is-end-tag .ensures) ∙ c .before .before .if2 .left) (c .before .if3 .left) (c .if4 .taken)
 
 returns-5 : tie.Need-returns-5
 returns-5 c =
     let a = c .before .before .before .before .before .before .before .before .args in
-    markup-data (a .s .now) (a .i) _ (c .before .before .before .before .before .before .byte .ensures) (sym (c .before .before .before .before .before .is-letter .ensures) ∙ c .before .before .before .before .if1 .left) (sym (c .before .before .before .is-end-tag .ensures) ∙ c .before .before .if2 .left) (c .before .if3 .left) (c .if4 .left)
+    markup-data (settings (a .long)) (a .s .now) (a .i) _ (c .before .before .before .before .before .before .byte .ensures) (sym (c .before .before .before .before .before .is-letter .ensures) ∙ c .before .before .before .before .if1 .left) (sym (c .before .before .before .is-end-tag .ensures) ∙ c .before .before .if2 .left) (c .before .if3 .left) (c .if4 .left)
 
 pub markup-at-spec : {M : Type 1} → statement M
 markup-at-spec =

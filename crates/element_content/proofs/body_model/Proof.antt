@@ -4,6 +4,7 @@ use mathlib.Core.List.{[]}
 use native.Mathlib.Omega.{arith}
 use lib.ListN.{length}
 use borrow.Author.Needs.{needs}
+use Rattle.rules.specs.Settings.{settings}
 use Rattle.rules.specs.Bytes.{GRPLVL}
 use Rattle.rules.specs.Reading.{got}
 use Rattle.rules.specs.TypeFile.{Tokens, group}
@@ -34,29 +35,29 @@ unfolding placesOf
 returns c =
     let read = c .before .before .before in
     let a = read .before .before .before .before .before .before .args in
-    let last = read .group-at .last .1 .1 .1 .1 .1 in
+    let last = read .group-at .last .1 .1 .1 .1 .1 .1 in
     let T = read .before .before .before .clear .last .0 in
     body-refused (length (a .s .now)) (last .0) (last .1 .0) _ _
-    (model-refused (a .s .now) (a .i)
+    (model-refused (settings (a .long)) (a .s .now) (a .i)
     (model-fault (length (a .s .now)) 1 T (last .0) (last .1 .0) (read .group-at .result) _ (read .group-at .ensures) (c .before .enum-told .given .1) (c .fault-of .ensures)))
 
 -- The group was read.
 group-read : (c : tie.After-known-told)
     → (t : Tokens)
-    × (group GRPLVL (c .before .before .before .before .before .before .before .before .before .args .s .now) (c .before .before .before .before .before .before .before .before .before .args .i) [] 0 ≡ got t)
+    × (group (settings (c .before .before .before .before .before .before .before .before .before .args .long)) GRPLVL (c .before .before .before .before .before .before .before .before .before .args .s .now) (c .before .before .before .before .before .before .before .before .before .args .i) [] 0 ≡ got t)
     × Keeps
     (length (c .before .before .before .before .before .before .before .before .before .args .s .now))
     1
     (c .before .before .before .before .before .before .clear .last .0)
-    (c .before .before .before .group-at .last .1 .1 .1 .1 .1 .0)
     (c .before .before .before .group-at .last .1 .1 .1 .1 .1 .1 .0)
+    (c .before .before .before .group-at .last .1 .1 .1 .1 .1 .1 .1 .0)
     (c .before .r .given .0 .0)
     t
 unfolding placesOf
 group-read c =
     let read = c .before .before .before in
     let a = read .before .before .before .before .before .before .args in
-    let last = read .group-at .last .1 .1 .1 .1 .1 in
+    let last = read .group-at .last .1 .1 .1 .1 .1 .1 in
     read-got (length (a .s .now)) 1 (read .before .before .before .clear .last .0) (last .0) (last .1 .0) (c .before .r .given .0 .0) _ (rw (c .before .r .given .1) at (read .group-at .ensures))
 
 with-occurrence-requires : tie.Need-with-occurrence-requires
@@ -72,10 +73,10 @@ returns-2 c =
     let with = c .before .before .before in
     let read = with .before .before in
     let a = read .before .before .before .before .before .before .before .before .before .args in
-    let names = read .before .before .before .group-at .last .1 .1 .1 .1 .1 .0 in
+    let names = read .before .before .before .group-at .last .1 .1 .1 .1 .1 .1 .0 in
     let model = group-read read in
     let kept = with .with-occurrence .ensures _ names (model .0) (model .2) in
-    body-meets (length (a .s .now)) names (c .finish .last .0) _ _ _ (model-got (a .s .now) (a .i) (model .1))
+    body-meets (length (a .s .now)) names (c .finish .last .0) _ _ _ (model-got (settings (a .long)) (a .s .now) (a .i) (model .1))
     (model-kept kept (read .before .before .before .before .before .before .clear .ensures) (c .finish .ensures))
 
 pub body-model-spec : {M : Type 1} → statement M

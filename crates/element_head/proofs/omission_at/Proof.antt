@@ -6,6 +6,7 @@ use native.Mathlib.Omega.{arith}
 use lib.Dec.{eqb, ltb}
 use borrow.Author.Needs.{needs}
 use borrow.Author.Tests.{ne-eqb, ltb-true, lt-ltb, le-ltb}
+use Rattle.rules.specs.Settings.{settings}
 use Rattle.rules.specs.Bytes.{byteAt, letter, nameEnd}
 use Rattle.rules.specs.TypeFile.{isWord, O}
 use Rattle.text.specs.Laws.{tested, nameEnd-from, nameEnd-le}
@@ -16,13 +17,13 @@ use Rattle.element_head.proofs.omission_at.Tie as tie
 byte-requires : tie.Need-byte-requires
 byte-requires c κs = search needs
 
-add-t9 : tie.Need-add-t9
-add-t9 c = search needs
+add-t10 : tie.Need-add-t10
+add-t10 c = search needs
 
 returns : tie.Need-returns
 returns c =
     let a = c .before .before .before .before .args in
-    sym (omission-dash (a .s .now) (a .from) (a .i) (sym (c .before .before .byte .ensures) ∙ c .before .if1 .taken) (ltb-true _ _ (c .if2 .taken)))
+    sym (omission-dash (settings (a .long)) (a .s .now) (a .from) (a .i) (sym (c .before .before .byte .ensures) ∙ c .before .if1 .taken) (ltb-true _ _ (c .if2 .taken)))
 
 -- No "-" that is parted from the parameter before stands there.
 no-dash : (c : tie.Joined1)
@@ -47,7 +48,7 @@ sub-if4 c =
 returns-2 : tie.Need-returns-2
 returns-2 c =
     let a = c .before .before .before .before .before .before .before .args in
-    sym (omission-long (a .s .now) (a .from) (a .i) (no-dash (c .before .before .before .before)) (a-letter (c .before .before)) (omega arith))
+    sym (omission-long (settings (a .long)) (a .s .now) (a .from) (a .i) (no-dash (c .before .before .before .before)) (a-letter (c .before .before)) (omega arith))
 
 slice-aggregate-is-word : tie.Need-slice-aggregate-is-word
 slice-aggregate-is-word c = search needs
@@ -70,7 +71,7 @@ returns-3 c =
     let passed : (ltb (a .from) (a .i) && isWord (a .s .now) (a .i) (nameEnd (a .s .now) (a .i)) O) ≡ true =
     rw (lt-ltb _ _ (c .before .before .before .if5 .taken)) (sym (word (c .before)) ∙ c .if6 .taken)
     in
-    let got : _ = omission-o (a .s .now) (a .from) (a .i) (no-dash (name .before .before .before)) (a-letter (name .before)) (omega arith) passed in
+    let got : _ = omission-o (settings (a .long)) (a .s .now) (a .from) (a .i) (no-dash (name .before .before .before)) (a-letter (name .before)) (omega arith) passed in
     rw (name .name-end .ensures) (sym got)
 
 -- The word is not parted from the parameter before, or another.
@@ -83,13 +84,13 @@ returns-4 : tie.Need-returns-4
 returns-4 c =
     let a = c .before .before .before .before .before .before .before .before .args in
     let name = c .before .before in
-    sym (omission-word (a .s .now) (a .from) (a .i) (no-dash (name .before .before .before)) (a-letter (name .before)) (omega arith) (no-word c))
+    sym (omission-word (settings (a .long)) (a .s .now) (a .from) (a .i) (no-dash (name .before .before .before)) (a-letter (name .before)) (omega arith) (no-word c))
 
 returns-5 : tie.Need-returns-5
 returns-5 c =
     let a = c .before .before .before .before .before .args in
     sym
-    (omission-other (a .s .now) (a .from) (a .i) (no-dash (c .before .before))
+    (omission-other (settings (a .long)) (a .s .now) (a .from) (a .i) (no-dash (c .before .before))
     (tested letter (c .before .before .before .byte .ensures) (c .before .is-letter .ensures) (c .if3 .left)))
 
 pub omission-at-spec : {M : Type 1} → statement M
@@ -97,7 +98,7 @@ omission-at-spec =
     tie.close
     (tie.spec
     byte-requires
-    add-t9
+    add-t10
     returns
     is-letter-requires
     name-end-requires

@@ -4,6 +4,7 @@ use mathlib.Core.Path.{_≡_}
 use mathlib.Core.List.{List}
 use native.Mathlib.Omega.{arith}
 use lib.ListN.{length}
+use Rattle.rules.specs.Settings.{Settings}
 use Rattle.rules.specs.TypeFile.{Element}
 use Rattle.rules.specs.Judge.{Accepts}
 use Rattle.rules_laws.specs.Within.{typeFile-count}
@@ -16,7 +17,7 @@ abbrev Inv-loop : tie.InvT-loop
 Inv-loop s elements count index₀ k₀ index k =
     (k ≤ count)
     × (count ≤ 64)
-    × ((es : List Element) → Accepts s es → length es ≡ count → Recorded elements es → Filled s es index k)
+    × ((e : Settings) (es : List Element) → Accepts e s es → length es ≡ count → Recorded elements es → Filled s es index k)
 
 abbrev μ-loop : tie.MeasureT-loop
 μ-loop s elements count index₀ k₀ index k = k
@@ -24,17 +25,19 @@ abbrev μ-loop : tie.MeasureT-loop
 loop-holds : tie.Need-loop-holds Inv-loop μ-loop
 loop-holds c =
     let a = c .before .args in
-    let e = c .before .pre .1 in
-    let (es, accepted, n, recorded) = c .before .pre .0 in
-    let few = typeFile-count (a .s .now) es (accepted .elements) in
-    (omega arith, omega arith, λ es accepted n recorded. filled-none (a .s .now) es (a .index .now) (a .count) n e)
+    let none = c .before .pre .1 in
+    let (e, judged) = c .before .pre .0 in
+    let (es, accepted, n, recorded) = judged in
+    let few = typeFile-count e (a .s .now) es (accepted .elements) in
+    (omega arith, omega arith, λ e es accepted n recorded. filled-none (a .s .now) es (a .index .now) (a .count) n none)
 
 put-index-requires : tie.Need-put-index-requires Inv-loop μ-loop
 put-index-requires c κs =
     let turn = c .before .before in
     let begun = turn .before .before in
     let a = begun .args in
-    let (es, accepted, n, recorded) = begun .pre .0 in
+    let (e, judged) = begun .pre .0 in
+    let (es, accepted, n, recorded) = judged in
     let (some, short) = size-in (a .s .now) es (a .elements .now) (turn .loop .k) accepted recorded (omega arith) (omega arith) in
     (omega arith, omega arith, some, short)
 
@@ -50,13 +53,13 @@ loop-again c =
     let a = turn .before .before .args in
     let index = turn .loop .index in
     let (to, few, filled) = turn .loop .inv in
-    (omega arith, few, λ es accepted n recorded. filled-more (a .s .now) es (a .elements .now) (turn .loop .k) accepted recorded (omega arith) (omega arith) index (filled es accepted n recorded) (c .put-index .ensures))
+    (omega arith, few, λ e es accepted n recorded. filled-more (a .s .now) es (a .elements .now) (turn .loop .k) accepted recorded (omega arith) (omega arith) index (filled e es accepted n recorded) (c .put-index .ensures))
 
 returns : tie.Need-returns Inv-loop μ-loop
 returns c =
     let a = c .before .before .before .args in
     let (to, few, filled) = c .before .loop .inv in
-    λ es accepted n recorded. filled-all (a .s .now) es (a .elements .now) (c .before .loop .index) (c .before .loop .k) accepted recorded (omega arith) (filled es accepted n recorded)
+    λ e es accepted n recorded. filled-all (a .s .now) es (a .elements .now) (c .before .loop .index) (c .before .loop .k) accepted recorded (omega arith) (filled e es accepted n recorded)
 
 pub fill-index-spec : {M : Type 1} → statement M
 fill-index-spec =

@@ -3,6 +3,7 @@ use mathlib.Core.Path.{_≡_, sym, ap, _∙_}
 use mathlib.Core.Bool.{true, false}
 use native.Mathlib.Omega.{arith}
 use borrow.Author.Needs.{needs}
+use Rattle.rules.specs.Settings.{settings}
 use Rattle.rules.specs.Bytes.{byteAt, letter}
 use Rattle.text.specs.Means.{refusalOf}
 use Rattle.text.specs.Laws.{tested, nameEnd-from, nameEnd-le, nameEnd-more}
@@ -34,7 +35,7 @@ sub-if2 c =
 returns : tie.Need-returns
 returns c =
     let a = c .before .before .before .before .before .before .args in
-    (λ es n r. sym (name-long (a .s .now) (a .i) es (a-letter (c .before .before)) (omega arith)), tt)
+    (λ es n r. sym (name-long (settings (a .long)) (a .s .now) (a .i) es (a-letter (c .before .before)) (omega arith)), tt)
 
 sub-declared : tie.Need-sub-declared
 sub-declared c =
@@ -43,14 +44,19 @@ sub-declared c =
 
 declared-requires : tie.Need-declared-requires
 declared-requires c κs =
-    let a = c .before .before .before .before .before .before .args in
-    (omega arith, omega arith, omega (arith, nameEnd-more (a .s .now) (a .i) (a-letter (c .before .before))), omega arith)
+    let start = c .before .before .before .before .before .before in
+    let a = start .args in (
+      omega arith,
+      omega arith,
+      omega (arith, nameEnd-more (a .s .now) (a .i) (a-letter (c .before .before))),
+      omega (arith, start .pre, nameEnd-le (a .s .now) (a .i) (start .pre .0)),
+    )
 
 returns-2 : tie.Need-returns-2
 returns-2 c =
     let a = c .before .before .before .before .before .before .before .before .args in
     let name = c .before .before .before in (
-      λ es n r. sym (name-again (a .s .now) (a .i) es (a-letter (name .before)) (omega arith) (rw (← name .name-end .ensures) (sym (c .before .declared .ensures .0 es n r .0) ∙ c .if3 .taken))),
+      λ es n r. sym (name-again (settings (a .long)) (a .s .now) (a .i) es (a-letter (name .before)) (omega arith) (rw (← name .name-end .ensures) (sym (c .before .declared .ensures .0 es n r .0) ∙ c .if3 .taken))),
       tt,
     )
 
@@ -58,7 +64,7 @@ returns-3 : tie.Need-returns-3
 returns-3 c =
     let a = c .before .before .before .before .before .before .before .before .before .args in
     let name = c .before .before .before .before in (
-      λ es n r. sym (name-many (a .s .now) (a .i) es (a-letter (name .before)) (omega arith) (rw (← name .name-end .ensures) (sym (c .before .before .declared .ensures .0 es n r .0) ∙ c .before .if3 .left)) (omega arith)),
+      λ es n r. sym (name-many (settings (a .long)) (a .s .now) (a .i) es (a-letter (name .before)) (omega arith) (rw (← name .name-end .ensures) (sym (c .before .before .declared .ensures .0 es n r .0) ∙ c .before .if3 .left)) (omega arith)),
       tt,
     )
 
@@ -69,14 +75,14 @@ returns-4 c =
     let name = c .before .before .before .before in (
       λ es n r.
           rw (name .name-end .ensures)
-          (sym (name-got (a .s .now) (a .i) es (a-letter (name .before)) (omega arith) (rw (← name .name-end .ensures) (sym (c .before .before .declared .ensures .0 es n r .0) ∙ c .before .if3 .left)) (omega arith))),
+          (sym (name-got (settings (a .long)) (a .s .now) (a .i) es (a-letter (name .before)) (omega arith) (rw (← name .name-end .ensures) (sym (c .before .before .declared .ensures .0 es n r .0) ∙ c .before .if3 .left)) (omega arith))),
       omega (arith, start .pre, nameEnd-from (a .s .now) (a .i), nameEnd-le (a .s .now) (a .i) (start .pre .0)),
     )
 
 returns-5 : tie.Need-returns-5
 returns-5 c =
     let a = c .before .before .before .before .before .args in
-    (λ es n r. sym (name-group (a .s .now) (a .i) es (no-letter (c .before)) (sym (c .before .before .before .byte .ensures) ∙ c .if5 .taken)), tt)
+    (λ es n r. sym (name-group (settings (a .long)) (a .s .now) (a .i) es (no-letter (c .before)) (sym (c .before .before .before .byte .ensures) ∙ c .if5 .taken)), tt)
 
 unfit-at-requires : tie.Need-unfit-at-requires
 unfit-at-requires c κs = search needs
@@ -87,7 +93,7 @@ returns-6 c =
       λ es n r.
           ap refusalOf (c .unfit-at .ensures)
           ∙ unfit-is (a .s .now) (a .i)
-          ∙ sym (name-unfit (a .s .now) (a .i) es (no-letter (c .before .before)) (λ e. c .before .if5 .left (c .before .before .before .before .byte .ensures ∙ e))),
+          ∙ sym (name-unfit (settings (a .long)) (a .s .now) (a .i) es (no-letter (c .before .before)) (λ e. c .before .if5 .left (c .before .before .before .before .byte .ensures ∙ e))),
       tt,
     )
 

@@ -2,6 +2,7 @@
 use Prim.Native.Nat.{_≤_, _<_}
 use lib.ListN.{length}
 use borrow.Author.Needs.{needs}
+use Rattle.rules.specs.Settings.{settings}
 use Rattle.element_head.specs.Words.{head-got, head-refused}
 use Rattle.element_reader.specs.Laws.{element-head, element-rest, element-refused, element-from, element-room}
 use Rattle.element_head.specs.Ends.{head-within}
@@ -25,7 +26,7 @@ returns c =
     let a = c .before .before .before .before .before .args in (
       λ es n r.
           element-refused (length (a .s .now)) (a .at) (a .names .now) (a .table .now) es _ _
-          (element-head (a .s .now) (a .at) es
+          (element-head (settings (a .long)) (a .s .now) (a .at) es
           (head-refused (c .before .before .before .head-at .ensures .0 es n r) (c .before .enum-told .given .1) (c .fault-of-head .ensures))),
       tt,
     )
@@ -39,7 +40,7 @@ head-read : (c : tie.After-known-told)
     → (start c .args .at ≤ c .before .r .given .0 .0 .at)
     × (c .before .r .given .0 .0 .at ≤ length (start c .args .s .now))
     × (c .before .r .given .0 .0 .offset ≤ length (start c .args .s .now))
-    × (c .before .r .given .0 .0 .size ≤ 8)
+    × (c .before .r .given .0 .0 .size ≤ length (start c .args .s .now))
     × (start c .args .count < 64)
 head-read c = head-within (c .before .before .before .head-at .ensures .1) (c .before .r .given .1)
 
@@ -52,9 +53,9 @@ returns-2 : tie.Need-returns-2
 returns-2 c =
     let read = c .before .before .before in
     let a = start read .args in
-    let last = c .rest-at .last .1 .1 in (
+    let last = c .rest-at .last .1 .1 .1 in (
       λ es n r.
-          rw (element-rest (a .s .now) (a .at) es (head-got (read .before .before .before .head-at .ensures .0 es n r) (read .before .r .given .1)))
+          rw (element-rest (settings (a .long)) (a .s .now) (a .at) es (head-got (read .before .before .before .head-at .ensures .0 es n r) (read .before .r .given .1)))
           (element-from (length (a .s .now)) (last .0) (last .1 .0) es (c .rest-at .result) _ (head-read read .0) (c .rest-at .ensures es)),
       element-room (a .count) (c .rest-at .result) (head-read read .4),
     )

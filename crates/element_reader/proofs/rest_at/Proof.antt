@@ -4,6 +4,7 @@ use mathlib.Core.Path.{_≡_, refl}
 use native.Mathlib.Omega.{arith}
 use lib.ListN.{length}
 use borrow.Author.Needs.{needs}
+use Rattle.rules.specs.Settings.{settings}
 use Rattle.rules.specs.Reading.{got}
 use Rattle.rules.specs.TypeFile.{ContentEnd, gap, content}
 use Rattle.text.specs.Laws.{gap-range, reached-got, reached-refused}
@@ -32,7 +33,7 @@ returns : tie.Need-returns
 returns c es =
     let a = c .before .before .before .before .before .args in
     element-refused (length (a .s .now)) (a .h .at) (a .names .now) (a .table .now) es _ _
-    (rest-gap (a .s .now) es (headIn (a .h))
+    (rest-gap (settings (a .long)) (a .s .now) es (headIn (a .h))
     (reached-refused (c .before .before .before .gap-end .ensures) (c .before .enum-told .given .1) (c .fault-of .ensures)))
 
 -- The gap before the content was read.
@@ -63,9 +64,9 @@ returns-2 c es =
     let body = c .before .before .before in
     let read = body .before .before .before in
     let a = start read .args in
-    let last = body .body-at .last .1 .1 .1 in
+    let last = body .body-at .last .1 .1 .1 .1 in
     element-refused (length (a .s .now)) (a .h .at) (last .0) (last .1 .0) es _ _
-    (rest-content (a .s .now) es (headIn (a .h)) (gap-read read)
+    (rest-content (settings (a .long)) (a .s .now) es (headIn (a .h)) (gap-read read)
     (body-fault (length (a .s .now)) (last .0) (last .1 .0) (body .body-at .result) _ (body .body-at .ensures) (c .before .enum-told2 .given .1) (c .fault-of-body .ensures)))
 
 -- The content was read.
@@ -75,11 +76,11 @@ gap-before c = c .before .before .before .before .before .before
 
 body-kept : (c : tie.After-known-told2)
     → (d : ContentEnd)
-    × (content (start (gap-before c) .args .s .now) (start (gap-before c) .args .h .at) (gap-before c .before .g .given .0 .0) ≡ got d)
-    × KeepsBody (length (start (gap-before c) .args .s .now)) (c .before .before .before .body-at .last .1 .1 .1 .0) (c .before .before .before .body-at .last .1 .1 .1 .1 .0) (c .before .c .given .0 .0) d
+    × (content (settings (start (gap-before c) .args .long)) (start (gap-before c) .args .s .now) (start (gap-before c) .args .h .at) (gap-before c .before .g .given .0 .0) ≡ got d)
+    × KeepsBody (length (start (gap-before c) .args .s .now)) (c .before .before .before .body-at .last .1 .1 .1 .1 .0) (c .before .before .before .body-at .last .1 .1 .1 .1 .1 .0) (c .before .c .given .0 .0) d
 body-kept c =
     let body = c .before .before .before in
-    let last = body .body-at .last .1 .1 .1 in
+    let last = body .body-at .last .1 .1 .1 .1 in
     body-read (length (start (gap-before c) .args .s .now)) (last .0) (last .1 .0) (c .before .c .given .0 .0) _ (rw (c .before .c .given .1) at (body .body-at .ensures))
 
 gap-end-requires-2 : tie.Need-gap-end-requires-2
@@ -101,9 +102,9 @@ returns-3 c es =
     let body = c .before .before .before .before in
     let kept = body-kept body in
     let a = start (gap-before body) .args in
-    let last = body .before .before .before .body-at .last .1 .1 .1 in
+    let last = body .before .before .before .body-at .last .1 .1 .1 .1 in
     element-refused (length (a .s .now)) (a .h .at) (last .0) (last .1 .0) es _ _
-    (rest-between (a .s .now) es (headIn (a .h)) (gap-read (gap-before body)) (kept .1)
+    (rest-between (settings (a .long)) (a .s .now) es (headIn (a .h)) (gap-read (gap-before body)) (kept .1)
     (rw (kept .2 .at) at (reached-refused (c .before .before .before .gap-end2 .ensures) (c .before .enum-told3 .given .1) (c .fault-of2 .ensures))))
 
 -- The gap before the end was read.
@@ -135,9 +136,9 @@ returns-4 c es =
     let between = c .before .before .before .before in
     let body = body-before between in
     let a = start (gap-before body) .args in
-    let last = body .before .before .before .body-at .last .1 .1 .1 in
+    let last = body .before .before .before .body-at .last .1 .1 .1 .1 in
     element-refused (length (a .s .now)) (a .h .at) (last .0) (last .1 .0) es _ _
-    (rest-close (a .s .now) es (headIn (a .h)) (gap-read (gap-before body)) (body-kept body .1) (between-read between)
+    (rest-close (settings (a .long)) (a .s .now) es (headIn (a .h)) (gap-read (gap-before body)) (body-kept body .1) (between-read between)
     (reached-refused (c .before .before .before .close-at .ensures) (c .before .enum-told4 .given .1) (c .fault-of3 .ensures)))
 
 returns-5 : tie.Need-returns-5
@@ -147,13 +148,13 @@ returns-5 c es =
     let gap-in = gap-in (gap-before body) in
     let between-in = between-in between in
     let a = start (gap-before body) .args in
-    let last = body .before .before .before .body-at .last .1 .1 .1 in
+    let last = body .before .before .before .body-at .last .1 .1 .1 .1 in
     let kept = body-kept body in
     let closed = reached-got (c .before .before .before .close-at .ensures) (c .before .z .given .1) in
     let closed-in = close-range (a .s .now) _ _ closed in
-    let from = content-from (a .s .now) (a .h .at) _ (kept .0) (kept .1) in
+    let from = content-from (settings (a .long)) (a .s .now) (a .h .at) _ (kept .0) (kept .1) in
     element-meets (length (a .s .now)) (a .h .at) (last .0) (last .1 .0) es _ _ _
-    (rest-got (a .s .now) es (headIn (a .h)) (gap-read (gap-before body)) (kept .1) (between-read between) closed)
+    (rest-got (settings (a .long)) (a .s .now) es (headIn (a .h)) (gap-read (gap-before body)) (kept .1) (between-read between) closed)
     (record {
       element = _;
       grows = refl;

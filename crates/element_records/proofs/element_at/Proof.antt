@@ -5,6 +5,7 @@ use mathlib.Core.List.{List}
 use native.Mathlib.Omega.{arith}
 use lib.ListN.{length}
 use borrow.Author.Needs.{needs}
+use Rattle.rules.specs.Settings.{settings}
 use Rattle.rules.specs.Reading.{got}
 use Rattle.rules.specs.TypeFile.{Element, Declared, element}
 use Rattle.element_reader.specs.Means.{KeepsElement, MeetsElement}
@@ -16,21 +17,21 @@ use Rattle.element_records.proofs.element_at.Tie as tie
 -- What the element reader says of the elements before.
 read : (c : tie.After-element-at) →
     let a = c .before .before .before .before .before .args in
-    let l = c .element-at .last .1 .1 .1 .1 in
+    let l = c .element-at .last .1 .1 .1 .1 .1 in
     (es : List Element) → KeepsProgress (a .s .now) (a .elements .now) (a .p) es
-    → MeetsElement (length (a .s .now)) (a .at) (l .0) (l .1 .0) es (c .element-at .result) (element (a .s .now) (a .at) es)
+    → MeetsElement (length (a .s .now)) (a .at) (l .0) (l .1 .0) es (c .element-at .result) (element (settings (a .long)) (a .s .now) (a .at) es)
 read c es k = c .element-at .ensures .0 es (sym (k .counted)) (k .recorded)
 
 -- What it keeps of the declaration that it read.
 kept : (c : tie.After-r) →
     let a = c .before .before .before .before .before .before .before .args in
-    let l = c .before .before .element-at .last .1 .1 .1 .1 in
+    let l = c .before .before .element-at .last .1 .1 .1 .1 .1 in
     (es : List Element) → KeepsProgress (a .s .now) (a .elements .now) (a .p) es
-    → (d : Declared) × (element (a .s .now) (a .at) es ≡ got d) × KeepsElement (length (a .s .now)) (a .at) (l .0) (l .1 .0) es (c .r .given .0 .0) d
+    → (d : Declared) × (element (settings (a .long)) (a .s .now) (a .at) es ≡ got d) × KeepsElement (length (a .s .now)) (a .at) (l .0) (l .1 .0) es (c .r .given .0 .0) d
 kept c es k =
     let a = c .before .before .before .before .before .before .before .args in
-    let l = c .before .before .element-at .last .1 .1 .1 .1 in
-    element-kept (a .s .now) (a .at) (l .0) (l .1 .0) es (c .before .before .element-at .result) (element (a .s .now) (a .at) es) (c .r .given .0 .0) (c .r .given .1) (read (c .before .before) es k)
+    let l = c .before .before .element-at .last .1 .1 .1 .1 .1 in
+    element-kept (a .s .now) (a .at) (l .0) (l .1 .0) es (c .before .before .element-at .result) (element (settings (a .long)) (a .s .now) (a .at) es) (c .r .given .0 .0) (c .r .given .1) (read (c .before .before) es k)
 
 few : (c : tie.After-r) → c .before .before .before .before .before .before .before .args .p .count < 64
 few c = rw (c .r .given .1) at (c .before .before .element-at .ensures .1)
@@ -52,26 +53,26 @@ fault-of-requires c κs = tt
 returns : tie.Need-returns
 returns c es k =
     let a = c .before .before .before .before .before .before .before .before .args in
-    let l = c .before .before .before .element-at .last .1 .1 .1 .1 in
-    element-refused (a .s .now) (a .at) (l .0) (l .1 .0) es (a .elements .now) (c .before .before .before .element-at .result) (element (a .s .now) (a .at) es) _ _ (c .before .enum-told .given .1) (c .fault-of .ensures)
+    let l = c .before .before .before .element-at .last .1 .1 .1 .1 .1 in
+    element-refused (a .s .now) (a .at) (l .0) (l .1 .0) es (a .elements .now) (c .before .before .before .element-at .result) (element (settings (a .long)) (a .s .now) (a .at) es) _ _ (c .before .enum-told .given .1) (c .fault-of .ensures)
     (read (c .before .before .before) es k)
 
 put-record-requires : tie.Need-put-record-requires
 put-record-requires c κs =
     let a = c .before .before .before .before .before .before .before .before .before .args in
-    let l = c .before .before .before .before .element-at .last .1 .1 .1 .1 in
+    let l = c .before .before .before .before .element-at .last .1 .1 .1 .1 .1 in
     let ((at, short), (es, k)) = c .before .before .before .before .before .before .before .before .before .pre in
     let (d, q, m) = kept (c .before .before) es k in
     let (offset, size, tokens) = element-fits (a .s .now) (a .at) (l .0) (l .1 .0) es _ d m short in
     (few (c .before .before), offset, size, tokens)
 
-add-t17 : tie.Need-add-t17
-add-t17 c = omega (arith, few (c .before .before .before .before))
+add-t18 : tie.Need-add-t18
+add-t18 c = omega (arith, few (c .before .before .before .before))
 
 clash-with-requires : tie.Need-clash-with-requires
 clash-with-requires c κs =
     let a = c .before .before .before .before .before .before .before .before .before .before .before .before .before .args in
-    let l = c .before .before .before .before .before .before .before .before .element-at .last .1 .1 .1 .1 in
+    let l = c .before .before .before .before .before .before .before .before .element-at .last .1 .1 .1 .1 .1 in
     let (at, (es, k)) = c .before .before .before .before .before .before .before .before .before .before .before .before .before .pre in
     let (d, q, m) = kept (c .before .before .before .before .before .before) es k in
     element-places (a .s .now) (a .at) (l .0) (l .1 .0) es _ d m
@@ -79,11 +80,11 @@ clash-with-requires c κs =
 returns-2 : tie.Need-returns-2
 returns-2 c es k =
     let a = c .before .before .before .before .before .before .before .before .before .before .before .before .before .before .args in
-    let l = c .before .before .before .before .before .before .before .before .before .element-at .last .1 .1 .1 .1 in
+    let l = c .before .before .before .before .before .before .before .before .before .element-at .last .1 .1 .1 .1 .1 in
     let w = c .before .before .before .before .put-record in
     let r = c .before .before .before .before .before .before .before in
     let (d, q, m) = kept r es k in
-    element-step (a .s .now) (a .at) (l .0) (l .1 .0) es _ d m (a .elements .now) (w .last .0) (a .p) (c .clash-with .result) (element (a .s .now) (a .at) es) q k (few r) (w .ensures)
+    element-step (a .s .now) (a .at) (l .0) (l .1 .0) es _ d m (a .elements .now) (w .last .0) (a .p) (c .clash-with .result) (element (settings (a .long)) (a .s .now) (a .at) es) q k (few r) (w .ensures)
     (c .clash-with .ensures es (m .element .content) (k .pending) (m .content))
 
 pub element-at-spec : {M : Type 1} → statement M
@@ -96,6 +97,6 @@ element-at-spec =
     fault-of-requires
     returns
     put-record-requires
-    add-t17
+    add-t18
     clash-with-requires
     returns-2)

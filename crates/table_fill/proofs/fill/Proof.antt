@@ -1,17 +1,18 @@
 -- `fill` meets its contract. The invariant: the tables are filled up to the element `e`.
 use Prim.Native.Nat.{_+_, _-_, _≤_}
 use native.Mathlib.Omega.{arith}
+use Rattle.rules.specs.Settings.{settings}
 use Rattle.table_fill.specs.Filled.{Filled}
-use Rattle.table_fill.specs.Own.{elementsOf, indexed-own, counted-own, tables-own, blank-lengths, filled-own}
+use Rattle.table_fill.specs.Own.{elementsOf, accepted-own, indexed-own, counted-own, tables-own, blank-lengths, filled-own}
 use Rattle.table_fill.proofs.fill.Statement.{statement}
 use Rattle.table_fill.proofs.fill.Tie as tie
 
 abbrev Inv-loop : tie.InvT-loop
-Inv-loop s elements count index rows₀ places₀ facts₀ names₀ table₀ e₀ rows places facts names table e =
-    (1 ≤ e) × (e ≤ count + 1) × Filled s (elementsOf s) rows places facts e
+Inv-loop long s elements count index rows₀ places₀ facts₀ names₀ table₀ e₀ rows places facts names table e =
+    (1 ≤ e) × (e ≤ count + 1) × Filled s (elementsOf (settings long) s) rows places facts e
 
 abbrev μ-loop : tie.MeasureT-loop
-μ-loop s elements count index rows₀ places₀ facts₀ names₀ table₀ e₀ rows places facts names table e =
+μ-loop long s elements count index rows₀ places₀ facts₀ names₀ table₀ e₀ rows places facts names table e =
     count + 1 - e
 
 put-document-requires : tie.Need-put-document-requires Inv-loop μ-loop
@@ -20,19 +21,19 @@ put-document-requires c κs = blank-lengths (c .before .before .before .before .
 loop-holds : tie.Need-loop-holds Inv-loop μ-loop
 loop-holds c =
     let pre = c .before .before .before .before .before .pre in
-    (omega arith, omega arith, filled-own _ _ _ _ _ _ _ _ _ (pre .1 .0) (pre .1 .1) (c .put-document .ensures .0) (c .put-document .ensures .1))
+    (omega arith, omega arith, filled-own _ _ _ _ _ _ _ _ _ _ (pre .1 .0) (pre .1 .1) (c .put-document .ensures .0) (c .put-document .ensures .1))
 
 put-element-requires : tie.Need-put-element-requires Inv-loop μ-loop
 put-element-requires c κs =
     let turn = c .before .before .before .before .before .before in
     let pre = turn .before .before .before .before .before .before .pre in
-    record { indexed = indexed-own _ _ _ (pre .1 .0); from = turn .loop .inv .0; to = omega (arith, counted-own _ _ _ (pre .0)); filled = turn .loop .inv .2 }
+    record { accepted = accepted-own _ _ _ _ (pre .1 .0); indexed = indexed-own _ _ _ _ (pre .1 .0); from = turn .loop .inv .0; to = omega (arith, counted-own _ _ _ _ (pre .0)); filled = turn .loop .inv .2 }
 
 add-e : tie.Need-add-e Inv-loop μ-loop
 add-e c =
     let pre = c .before .before .before .before .before .before .before .before .before .before .before .before .before .pre in
-    let few = indexed-own _ _ _ (pre .1 .0) .few in
-    let counted = counted-own _ _ _ (pre .0) in
+    let few = indexed-own _ _ _ _ (pre .1 .0) .few in
+    let counted = counted-own _ _ _ _ (pre .0) in
     omega arith
 
 loop-less : tie.Need-loop-less Inv-loop μ-loop
@@ -44,8 +45,8 @@ loop-again c = (omega arith, omega arith, c .put-element .ensures)
 returns : tie.Need-returns Inv-loop μ-loop
 returns c es a n r =
     let pre = c .before .before .before .before .before .before .before .pre in
-    let counted = counted-own _ _ _ (pre .0) in
-    tables-own _ _ _ _ _ (c .before .loop .inv .2) (omega arith) es a
+    let counted = counted-own _ _ _ _ (pre .0) in
+    tables-own _ _ _ _ _ _ (c .before .loop .inv .2) (omega arith) es a
 
 pub fill-spec : {M : Type 1} → statement M
 fill-spec =

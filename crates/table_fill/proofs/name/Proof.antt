@@ -3,7 +3,7 @@ use mathlib.Core.Path.{sym, _∙_}
 use native.Mathlib.Omega.{arith}
 use borrow.Author.Tests.{eq-eqb}
 use borrow.Author.Needs.{needs}
-use Rattle.table_fill.specs.Names.{name-some}
+use Rattle.table_fill.specs.Names.{name-some, name-fits}
 use Rattle.table_fill.proofs.name.Statement.{statement}
 use Rattle.table_fill.proofs.name.Tie as tie
 
@@ -26,7 +26,7 @@ widened-requires : tie.Need-widened-requires
 widened-requires c κs = search needs
 
 returns : tie.Need-returns
-returns c = simp (eq-eqb _ _ (sym (c .before .widened .ensures .0) ∙ c .if1 .taken))
+returns c = (λ es indexed. simp (eq-eqb _ _ (sym (c .before .widened .ensures .0) ∙ c .if1 .taken)), (omega arith, omega arith))
 
 place-at-requires : tie.Need-place-at-requires
 place-at-requires c κs = search needs
@@ -36,9 +36,10 @@ find-requires c κs = (omega arith, omega arith, omega arith)
 
 returns-2 : tie.Need-returns-2
 returns-2 c =
-    let tested = c .before .before in
-    let start = tested .before .before .before .before in
-    name-some _ _ _ _ _ _ (tested .before .widened .ensures .0) (c .before .place-at .ensures .0) (tested .if1 .left) (c .find .ensures .0 _ (start .pre .0) .0)
+    let tested = c .before .before in (
+      λ es indexed. name-some _ es _ _ _ _ (tested .before .widened .ensures .0) (c .before .place-at .ensures .0) (tested .if1 .left) (c .find .ensures .0 es indexed .0),
+      name-fits _ (c .find .ensures .1 .0),
+    )
 
 pub name-spec : {M : Type 1} → statement M
 name-spec =

@@ -8,19 +8,19 @@ use Rattle.table_fill.proofs.put_element.Tie as tie
 put-facts-requires : tie.Need-put-facts-requires
 put-facts-requires c κs =
     let due = c .before .before .pre in
-    (due .from, few _ _ _ _ _ _ _ _ due, flags _ _ _ _ _ _ _ _ due)
+    (due .from, few _ _ _ _ _ _ _ _ _ due, flags _ _ _ _ _ _ _ _ _ due)
 
 offset-requires : tie.Need-offset-requires
 offset-requires c κs =
     let due = c .before .before .before .pre in
-    (due .from, few _ _ _ _ _ _ _ _ due)
+    (due .from, few _ _ _ _ _ _ _ _ _ due)
 
 sub-element-at : tie.Need-sub-element-at
 sub-element-at c = search needs
 
 element-at-requires : tie.Need-element-at-requires
 element-at-requires c κs =
-    name-in _ _ _ _ _ _ _ _ (c .before .before .before .before .before .before .pre) _ (c .before .before .offset .ensures .0)
+    name-in _ _ _ _ _ _ _ _ _ (c .before .before .before .before .before .before .pre) _ (c .before .before .offset .ensures .0)
 
 enum-known-r : tie.Need-enum-known-r
 enum-known-r c = search needs
@@ -34,13 +34,13 @@ returns c =
     let start = reading .before .before .before .before .before .before .before in
     let offset = reading .before .before .before .offset .ensures .0 in
     let met = reading .element-at .ensures .0 in
-    absurd (not-refused _ _ _ _ _ _ _ _ (start .pre) _ _ _ _ offset met _ (c .enum-told .given .1))
+    absurd (not-refused _ _ _ _ _ _ _ _ _ (start .pre) _ _ _ _ offset met _ (c .enum-told .given .1))
 
 row-requires : tie.Need-row-requires
-row-requires c κs = (few _ _ _ _ _ _ _ _ (c .before .before .before .before .before .before .before .before .before .before .before .before .pre), omega arith)
+row-requires c κs = (few _ _ _ _ _ _ _ _ _ (c .before .before .before .before .before .before .before .before .before .before .before .before .pre), omega arith)
 
 element-write-rows : tie.Need-element-write-rows
-element-write-rows c = omega (arith, few _ _ _ _ _ _ _ _ (c .before .before .before .before .before .before .before .before .before .before .before .before .before .pre))
+element-write-rows c = omega (arith, few _ _ _ _ _ _ _ _ _ (c .before .before .before .before .before .before .before .before .before .before .before .before .before .pre))
 
 returns-2 : tie.Need-returns-2
 returns-2 c =
@@ -49,7 +49,7 @@ returns-2 c =
     let offset = reading .before .before .before .offset .ensures .0 in
     let met = reading .element-at .ensures .0 in
     let is = c .before .before .before .before .r .given .1 in
-    element-empty _ _ _ _ _ _ _ _ (start .pre) _ _ _ _ offset met _ is _ (reading .before .before .before .before .put-facts .ensures) (c .before .if1 .taken) _ (c .row .ensures)
+    element-empty _ _ _ _ _ _ _ _ _ (start .pre) _ _ _ _ offset met _ is _ (reading .before .before .before .before .put-facts .ensures) (c .before .if1 .taken) _ (c .row .ensures)
 
 put-rows-requires : tie.Need-put-rows-requires
 put-rows-requires c κs =
@@ -58,7 +58,7 @@ put-rows-requires c κs =
     let offset = reading .before .before .before .offset .ensures .0 in
     let met = reading .element-at .ensures .0 in
     let is = c .before .before .before .before .before .r .given .1 in
-    (few _ _ _ _ _ _ _ _ (start .pre), places-few _ _ _ _ _ _ _ _ (start .pre) _ _ _ _ offset met _ is (c .before .before .if1 .left), start .pre .filled .rows-len)
+    (few _ _ _ _ _ _ _ _ _ (start .pre), places-few _ _ _ _ _ _ _ _ _ (start .pre) _ _ _ _ offset met _ is (c .before .before .if1 .left), start .pre .filled .rows-len)
 
 put-places-requires : tie.Need-put-places-requires
 put-places-requires c κs =
@@ -67,7 +67,7 @@ put-places-requires c κs =
     let offset = reading .before .before .before .offset .ensures .0 in
     let met = reading .element-at .ensures .0 in
     let is = c .before .before .before .before .before .before .before .before .before .r .given .1 in
-    places-due _ _ _ _ _ _ _ _ (start .pre) _ _ _ _ offset met _ is _ (reading .before .before .before .before .put-facts .ensures) (c .before .before .before .before .before .before .if1 .left)
+    places-due _ _ _ _ _ _ _ _ _ (start .pre) _ _ _ _ offset met _ is _ (reading .before .before .before .before .put-facts .ensures) (c .before .before .before .before .before .before .if1 .left)
 
 returns-3 : tie.Need-returns-3
 returns-3 c =
@@ -76,7 +76,7 @@ returns-3 c =
     let offset = reading .before .before .before .offset .ensures .0 in
     let met = reading .element-at .ensures .0 in
     let is = c .before .before .before .before .before .before .before .before .before .before .r .given .1 in
-    element-model _ _ _ _ _ _ _ _ (start .pre) _ _ _ _ offset met _ is _ (reading .before .before .before .before .put-facts .ensures) (c .before .before .before .before .before .before .before .if1 .left) _ _ _ (c .before .before .before .before .put-rows .ensures) (c .put-places .ensures)
+    element-model _ _ _ _ _ _ _ _ _ (start .pre) _ _ _ _ offset met _ is _ (reading .before .before .before .before .put-facts .ensures) (c .before .before .before .before .before .before .before .if1 .left) _ _ _ (c .before .before .before .before .put-rows .ensures) (c .put-places .ensures _ (start .pre .indexed))
 
 pub put-element-spec : {M : Type 1} → statement M
 put-element-spec =

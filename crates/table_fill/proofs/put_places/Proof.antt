@@ -1,16 +1,25 @@
--- `put_places` meets its contract. The invariant: the places below `p` are filed.
+-- `put_places` meets its contract. The invariant: whatever type is indexed, the places below `p` are filed.
 use mathlib.Core.Path.{_≡_}
 use Prim.Native.Nat.{_+_, _-_, _≤_}
+use mathlib.Core.List.{List}
 use native.Mathlib.Omega.{arith}
+use lib.ListN.{length}
+use Rattle.rules.specs.TypeFile.{Element}
+use Rattle.layout.specs.Sizes.{PLACES, FACTS}
 use Rattle.model_names.specs.Places.{placesOf}
 use Rattle.table_fill.specs.Places.{PlacesPut, places-none}
-use Rattle.table_fill.specs.Own.{elementsOf}
-use Rattle.table_fill.specs.Names.{place-fits, place-filed}
+use Rattle.element_index.specs.Means.{Indexed}
+use Rattle.table_fill.specs.Names.{place-filed}
 use Rattle.table_fill.proofs.put_places.Statement.{statement}
 use Rattle.table_fill.proofs.put_places.Tie as tie
 
 abbrev Inv-loop : tie.InvT-loop
-Inv-loop s elements index places₀ facts₀ e names count p₀ places facts p = (1 ≤ p) × (p ≤ count + 1) × PlacesPut s (elementsOf s) (placesOf names count) e places₀ facts₀ places facts p
+Inv-loop s elements index places₀ facts₀ e names count p₀ places facts p =
+    (1 ≤ p)
+    × (p ≤ count + 1)
+    × (length places ≡ PLACES)
+    × (length facts ≡ FACTS)
+    × ((es : List Element) → Indexed s es elements index → PlacesPut s es (placesOf names count) e places₀ facts₀ places facts p)
 
 abbrev μ-loop : tie.MeasureT-loop
 μ-loop s elements index places₀ facts₀ e names count p₀ places facts p = count + 1 - p
@@ -18,19 +27,19 @@ abbrev μ-loop : tie.MeasureT-loop
 loop-holds : tie.Need-loop-holds Inv-loop μ-loop
 loop-holds c =
     let pre = c .before .pre in
-    (omega arith, omega arith, places-none _ _ (pre .indexed .accepted .elements) _ _ _ _ (pre .places-len) (pre .facts-len) (pre .blank))
+    (omega arith, omega arith, pre .places-len, pre .facts-len, λ es indexed. places-none (indexed .settings) _ es (indexed .accepted .elements) _ _ _ _ (pre .places-len) (pre .facts-len) (pre .blank))
 
 name-requires : tie.Need-name-requires Inv-loop μ-loop
 name-requires c κs =
     let pre = c .before .before .before .pre in
-    (pre .indexed, (omega arith, omega arith, pre .fit (c .before .loop .p) (omega arith) (omega arith)))
+    (omega arith, omega arith, pre .fit (c .before .loop .p) (omega arith) (omega arith))
 
 put-place-requires : tie.Need-put-place-requires Inv-loop μ-loop
 put-place-requires c κs =
     let turn = c .before .before .before .before in
     let start = turn .before .before in
-    let fits = place-fits _ _ _ _ _ _ _ _ _ (start .pre) _ _ (omega arith) (omega arith) (c .before .before .name .ensures) in
-    (omega arith, omega arith, fits .0, fits .1, turn .loop .inv .2 .places-len, turn .loop .inv .2 .facts-len)
+    let fits = c .before .before .name .ensures .1 in
+    (omega arith, omega arith, fits .0, fits .1, turn .loop .inv .2, turn .loop .inv .3)
 
 add-p : tie.Need-add-p Inv-loop μ-loop
 add-p c = omega arith
@@ -44,13 +53,15 @@ loop-again c =
     let start = turn .before .before in (
       omega arith,
       omega arith,
-      place-filed _ _ _ _ _ _ _ _ _ (start .pre) _ _ (turn .loop .inv .0) (omega arith) (c .before .before .before .name .ensures) _ _ _ _ (turn .loop .inv .2) (c .put-place .ensures),
+      c .put-place .ensures .places-len,
+      c .put-place .ensures .facts-len,
+      λ es indexed. place-filed _ es _ _ _ _ _ indexed _ _ (start .pre) _ _ (turn .loop .inv .0) (omega arith) (c .before .before .before .name .ensures .0 es indexed) _ _ _ _ (turn .loop .inv .4 es indexed) (c .put-place .ensures),
     )
 
 returns : tie.Need-returns Inv-loop μ-loop
 returns c =
     let full : c .before .loop .p ≡ c .before .before .before .args .count + 1 = omega arith in
-    rw full at (c .before .loop .inv .2)
+    rw full at (c .before .loop .inv .4)
 
 pub put-places-spec : {M : Type 1} → statement M
 put-places-spec =

@@ -2,6 +2,7 @@
 use mathlib.Core.Path.{sym, _∙_}
 use native.Mathlib.Omega.{arith}
 use borrow.Author.Needs.{needs}
+use Rattle.rules.specs.Settings.{settings}
 use Rattle.text.specs.Laws.{byte-is-in, nameEnd-from, nameEnd-le}
 use Rattle.tags.specs.Tags.{tag-long, tag-read, tag-open}
 use Rattle.tags.proofs.tag_at.Statement.{statement}
@@ -18,7 +19,7 @@ sub-if1 c =
 returns : tie.Need-returns
 returns c =
     let a = c .before .before .before .args in
-    tag-long (a .s .now) (a .i) _ (c .before .name-end .ensures) (omega arith)
+    tag-long (settings (a .long)) (a .s .now) (a .i) _ (c .before .name-end .ensures) (omega arith)
 
 separators-end-requires : tie.Need-separators-end-requires
 separators-end-requires c κs =
@@ -28,25 +29,25 @@ separators-end-requires c κs =
 byte-requires : tie.Need-byte-requires
 byte-requires c κs = search needs
 
-sub-t10 : tie.Need-sub-t10
-sub-t10 c =
+sub-t11 : tie.Need-sub-t11
+sub-t11 c =
     let a = c .before .before .before .before .before .before .args in
     omega (arith, nameEnd-from (a .s .now) (a .i))
 
-add-t11 : tie.Need-add-t11
-add-t11 c =
+add-t12 : tie.Need-add-t12
+add-t12 c =
     let a = c .before .before .before .before .before .before .args in
     omega (arith, byte-is-in (a .s .now) (c .before .before .separators-end .result) 62 (sym (c .before .byte .ensures) ∙ c .if2 .taken) (omega arith))
 
 returns-2 : tie.Need-returns-2
 returns-2 c =
     let a = c .before .before .before .before .before .before .args in
-    tag-read (a .s .now) (a .i) _ (c .before .before .before .before .name-end .ensures) _ (c .before .before .separators-end .ensures) (omega arith) (sym (c .before .byte .ensures) ∙ c .if2 .taken)
+    tag-read (settings (a .long)) (a .s .now) (a .i) _ (c .before .before .before .before .name-end .ensures) _ (c .before .before .separators-end .ensures) (omega arith) (sym (c .before .byte .ensures) ∙ c .if2 .taken)
 
 returns-3 : tie.Need-returns-3
 returns-3 c =
     let a = c .before .before .before .before .before .before .args in
-    tag-open (a .s .now) (a .i) _ (c .before .before .before .before .name-end .ensures) _ (c .before .before .separators-end .ensures) (omega arith) (λ e. c .if2 .left (c .before .byte .ensures ∙ e))
+    tag-open (settings (a .long)) (a .s .now) (a .i) _ (c .before .before .before .before .name-end .ensures) _ (c .before .before .separators-end .ensures) (omega arith) (λ e. c .if2 .left (c .before .byte .ensures ∙ e))
 
 pub tag-at-spec : {M : Type 1} → statement M
 tag-at-spec =
@@ -57,7 +58,7 @@ tag-at-spec =
     returns
     separators-end-requires
     byte-requires
-    sub-t10
-    add-t11
+    sub-t11
+    add-t12
     returns-2
     returns-3)

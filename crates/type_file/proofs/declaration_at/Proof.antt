@@ -2,6 +2,7 @@
 use Prim.Native.Nat.{_+_}
 use mathlib.Core.Path.{sym, _∙_}
 use native.Mathlib.Omega.{arith}
+use Rattle.rules.specs.Settings.{settings}
 use Rattle.text.specs.Laws.{byte-is-in}
 use Rattle.type_file.specs.Declarations.{step-refused, declaration-markup, declaration-instruction, declaration-tag, declaration-reference, declaration-other}
 use Rattle.type_file.proofs.declaration_at.Statement.{statement}
@@ -27,7 +28,7 @@ returns c es k =
     let a = c .before .before .before .before .before .before .before .before .before .args in
     let b = c .before .before .before .before .before .before .before .byte .ensures in
     let d = c .before .before .before .before .before .byte2 .ensures in
-    rw (declaration-markup (a .s .now) (a .i) _ es b _ d (c .before .before .before .before .before .before .if1 .taken) (c .before .before .before .before .if2 .taken)) (c .markup-at .ensures es k)
+    rw (declaration-markup (settings (a .long)) (a .s .now) (a .i) _ es b _ d (c .before .before .before .before .before .before .if1 .taken) (c .before .before .before .before .if2 .taken)) (c .markup-at .ensures es k)
 
 refusal-requires : tie.Need-refusal-requires
 refusal-requires c κs = tt
@@ -38,7 +39,7 @@ returns-2 c es k =
     let b = c .before .before .before .before .before .byte .ensures in
     let d = c .before .before .before .byte2 .ensures in
     step-refused (a .s .now) (a .elements .now) (a .i) 5 (a .i) _ _
-    (declaration-instruction (a .s .now) (a .i) _ es b _ d (c .before .before .before .before .if1 .taken) (c .before .if3 .taken)) (c .refusal .ensures)
+    (declaration-instruction (settings (a .long)) (a .s .now) (a .i) _ es b _ d (c .before .before .before .before .if1 .taken) (c .before .if3 .taken)) (c .refusal .ensures)
 
 add-refusal : tie.Need-add-refusal
 add-refusal c = omega arith
@@ -52,7 +53,7 @@ returns-3 c es k =
     let b = c .before .before .before .before .before .byte .ensures in
     let d = c .before .before .before .byte2 .ensures in
     step-refused (a .s .now) (a .elements .now) (a .i) 4 (a .i + 1) _ _
-    (declaration-tag (a .s .now) (a .i) _ es b _ d (c .before .before .before .before .if1 .taken) (c .before .before .if2 .left) (c .before .if3 .left)) (c .refusal2 .ensures)
+    (declaration-tag (settings (a .long)) (a .s .now) (a .i) _ es b _ d (c .before .before .before .before .if1 .taken) (c .before .before .if2 .left) (c .before .if3 .left)) (c .refusal2 .ensures)
 
 refusal-requires-3 : tie.Need-refusal-requires-3
 refusal-requires-3 c κs = tt
@@ -62,7 +63,7 @@ returns-4 c es k =
     let a = c .before .before .before .before .before .args in
     let b = c .before .before .before .byte .ensures in
     step-refused (a .s .now) (a .elements .now) (a .i) 5 (a .i) _ _
-    (declaration-reference (a .s .now) (a .i) _ es b (c .before .if4 .taken)) (c .refusal3 .ensures)
+    (declaration-reference (settings (a .long)) (a .s .now) (a .i) _ es b (c .before .if4 .taken)) (c .refusal3 .ensures)
 
 refusal-requires-4 : tie.Need-refusal-requires-4
 refusal-requires-4 c κs = tt
@@ -72,7 +73,7 @@ returns-5 c es k =
     let a = c .before .before .before .before .before .args in
     let b = c .before .before .before .byte .ensures in
     step-refused (a .s .now) (a .elements .now) (a .i) 4 (a .i) _ _
-    (declaration-other (a .s .now) (a .i) _ es b (c .before .before .if1 .left) (c .before .if4 .left)) (c .refusal4 .ensures)
+    (declaration-other (settings (a .long)) (a .s .now) (a .i) _ es b (c .before .before .if1 .left) (c .before .if4 .left)) (c .refusal4 .ensures)
 
 pub declaration-at-spec : {M : Type 1} → statement M
 declaration-at-spec =

@@ -3,6 +3,7 @@ use Prim.Native.Nat.{_+_}
 use mathlib.Core.Path.{sym, _∙_}
 use native.Mathlib.Omega.{arith}
 use borrow.Author.Needs.{needs}
+use Rattle.rules.specs.Settings.{settings}
 use Rattle.rules.specs.TypeFile.{element}
 use Rattle.text.specs.Laws.{nameEnd-from, nameEnd-le}
 use Rattle.type_file.specs.Declarations.{step-refused, step-back, keyword-long, keyword-element, keyword-other}
@@ -31,7 +32,7 @@ returns : tie.Need-returns
 returns c es k =
     let a = c .before .before .before .before .args in
     step-refused (a .s .now) (a .elements .now) (a .i) 3 (a .i + 2) _ _
-    (keyword-long (a .s .now) (a .i) _ es (c .before .before .name-end .ensures) (c .before .if1 .taken)) (c .refusal .ensures)
+    (keyword-long (settings (a .long)) (a .s .now) (a .i) _ es (c .before .before .name-end .ensures) (c .before .if1 .taken)) (c .refusal .ensures)
 
 add-is-word : tie.Need-add-is-word
 add-is-word c = omega arith
@@ -60,8 +61,8 @@ returns-2 c es k =
     let r = c .element-at in
     let w = sym (c .before .before .before .before .before .is-word .ensures) ∙ c .before .before .before .before .if2 .taken in
     let from = nameEnd-from (a .s .now) (a .i + 2) in
-    rw (keyword-element (a .s .now) (a .i) _ es (e .ensures) (c .before .before .before .before .before .before .before .if1 .left) w)
-    (step-back (a .s .now) (r .last .1 .1 .1 .0) (a .i) (e .result) (omega (arith, e .ensures)) (r .result) (element (a .s .now) (e .result) es) (r .ensures es k))
+    rw (keyword-element (settings (a .long)) (a .s .now) (a .i) _ es (e .ensures) (c .before .before .before .before .before .before .before .if1 .left) w)
+    (step-back (a .s .now) (r .last .1 .1 .1 .1 .0) (a .i) (e .result) (omega (arith, e .ensures)) (r .result) (element (settings (a .long)) (a .s .now) (e .result) es) (r .ensures es k))
 
 refusal-requires-2 : tie.Need-refusal-requires-2
 refusal-requires-2 c κs = tt
@@ -71,7 +72,7 @@ returns-3 c es k =
     let a = c .before .before .before .before .before .before .before .args in
     let w = sym (c .before .before .is-word .ensures) ∙ c .before .if2 .left in
     step-refused (a .s .now) (a .elements .now) (a .i) 5 (a .i) _ _
-    (keyword-other (a .s .now) (a .i) _ es (c .before .before .before .before .before .name-end .ensures) (c .before .before .before .before .if1 .left) w) (c .refusal2 .ensures)
+    (keyword-other (settings (a .long)) (a .s .now) (a .i) _ es (c .before .before .before .before .before .name-end .ensures) (c .before .before .before .before .if1 .left) w) (c .refusal2 .ensures)
 
 pub keyword-at-spec : {M : Type 1} → statement M
 keyword-at-spec =

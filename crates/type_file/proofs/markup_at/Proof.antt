@@ -4,6 +4,7 @@ use mathlib.Core.Path.{_≡_, sym, _∙_}
 use mathlib.Core.Bool.{true}
 use native.Mathlib.Omega.{arith}
 use borrow.Author.Needs.{needs}
+use Rattle.rules.specs.Settings.{settings}
 use Rattle.rules.specs.TypeFile.{atDashes}
 use Rattle.text.specs.Laws.{byte-is-in}
 use Rattle.type_file.specs.Declarations.{step-refused, step-onward, markup-none, markup-dash, markup-comment, markup-section, markup-keyword, markup-other, comment-opens, comment-refused, comment-onward}
@@ -28,7 +29,7 @@ returns c es k =
     let b = c .before .before .byte .ensures in
     let q = c .before .if1 .taken in
     let h = byte-is-in (a .s .now) (a .i + 2) 62 (sym b ∙ q) (omega arith) in
-    step-onward (a .s .now) (a .elements .now) (a .i) (a .i + 3) (a .p) es _ _ k (markup-none (a .s .now) (a .i) _ es b q) (c .onward .ensures) (omega arith) (omega arith)
+    step-onward (a .s .now) (a .elements .now) (a .i) (a .i + 3) (a .p) es _ _ k (markup-none (settings (a .long)) (a .s .now) (a .i) _ es b q) (c .onward .ensures) (omega arith) (omega arith)
 
 add-byte-2 : tie.Need-add-byte-2
 add-byte-2 c = omega arith
@@ -48,7 +49,7 @@ returns-2 c es k =
     let b = c .before .before .before .before .before .byte .ensures in
     let d = c .before .before .byte2 .ensures in
     step-refused (a .s .now) (a .elements .now) (a .i) 4 (a .i + 3) _ _
-    (markup-dash (a .s .now) (a .i) _ es b _ d (c .before .before .before .if2 .taken) (c .before .if3 .taken)) (c .refusal .ensures)
+    (markup-dash (settings (a .long)) (a .s .now) (a .i) _ es b _ d (c .before .before .before .if2 .taken) (c .before .if3 .taken)) (c .refusal .ensures)
 
 add-comment-end : tie.Need-add-comment-end
 add-comment-end c = omega arith
@@ -76,7 +77,7 @@ returns-3 c es k =
     let b = c .before .before .before .before .before .before .before .before .byte .ensures in
     let d = c .before .before .before .before .before .byte2 .ensures in
     comment-refused (a .s .now) (a .elements .now) (a .i) (a .p) es _ _
-    (markup-comment (a .s .now) (a .i) _ es b _ d (c .before .before .before .before .before .before .if2 .taken) _ (c .before .before .before .before .if3 .left) (c .before .before .before .comment-end .ensures)) _ _
+    (markup-comment (settings (a .long)) (a .s .now) (a .i) _ es b _ d (c .before .before .before .before .before .before .if2 .taken) _ (c .before .before .before .before .if3 .left) (c .before .before .before .comment-end .ensures)) _ _
     (c .before .enum-told .given .1) (c .fault-of .ensures)
 
 onward-requires-2 : tie.Need-onward-requires-2
@@ -89,7 +90,7 @@ returns-4 c es k =
     let d = c .before .before .before .before .before .before .byte2 .ensures in
     let e = c .before .before .before .before .comment-end .ensures in
     comment-onward (a .s .now) (a .elements .now) (a .i) (a .p) es _ _
-    (markup-comment (a .s .now) (a .i) _ es b _ d (c .before .before .before .before .before .before .before .if2 .taken) _ (c .before .before .before .before .before .if3 .left) e) _ _ (opened (c .before .before .before .before .before)) (c .before .before .r .given .1) e k (c .onward2 .ensures)
+    (markup-comment (settings (a .long)) (a .s .now) (a .i) _ es b _ d (c .before .before .before .before .before .before .before .if2 .taken) _ (c .before .before .before .before .before .if3 .left) e) _ _ (opened (c .before .before .before .before .before)) (c .before .before .r .given .1) e k (c .onward2 .ensures)
 
 refusal-requires-2 : tie.Need-refusal-requires-2
 refusal-requires-2 c κs = tt
@@ -98,7 +99,7 @@ returns-5 : tie.Need-returns-5
 returns-5 c es k =
     let a = c .before .before .before .before .before .before .args in
     let b = c .before .before .before .before .byte .ensures in
-    step-refused (a .s .now) (a .elements .now) (a .i) 5 (a .i) _ _ (markup-section (a .s .now) (a .i) _ es b (c .before .if4 .taken)) (c .refusal2 .ensures)
+    step-refused (a .s .now) (a .elements .now) (a .i) 5 (a .i) _ _ (markup-section (settings (a .long)) (a .s .now) (a .i) _ es b (c .before .if4 .taken)) (c .refusal2 .ensures)
 
 is-letter-requires : tie.Need-is-letter-requires
 is-letter-requires c κs = tt
@@ -111,7 +112,7 @@ returns-6 c es k =
     let a = c .before .before .before .before .before .before .before .before .before .before .before .args in
     let b = c .before .before .before .before .before .before .before .before .before .byte .ensures in
     let l = sym (c .before .before .before .before .before .is-letter .ensures) ∙ c .before .before .before .before .if5 .taken in
-    rw (markup-keyword (a .s .now) (a .i) _ es b (c .before .before .before .before .before .before .before .before .if1 .left) (c .before .before .before .before .before .before .before .if2 .left) (c .before .before .before .before .before .before .if4 .left) l)
+    rw (markup-keyword (settings (a .long)) (a .s .now) (a .i) _ es b (c .before .before .before .before .before .before .before .before .if1 .left) (c .before .before .before .before .before .before .before .if2 .left) (c .before .before .before .before .before .before .if4 .left) l)
     (c .keyword-at .ensures es k)
 
 add-refusal-2 : tie.Need-add-refusal-2
@@ -126,7 +127,7 @@ returns-7 c es k =
     let b = c .before .before .before .before .before .before .byte .ensures in
     let l = sym (c .before .before .is-letter .ensures) ∙ c .before .if5 .left in
     step-refused (a .s .now) (a .elements .now) (a .i) 4 (a .i + 2) _ _
-    (markup-other (a .s .now) (a .i) _ es b (c .before .before .before .before .before .if1 .left) (c .before .before .before .before .if2 .left) (c .before .before .before .if4 .left) l) (c .refusal3 .ensures)
+    (markup-other (settings (a .long)) (a .s .now) (a .i) _ es b (c .before .before .before .before .before .if1 .left) (c .before .before .before .before .if2 .left) (c .before .before .before .if4 .left) l) (c .refusal3 .ensures)
 
 pub markup-at-spec : {M : Type 1} → statement M
 markup-at-spec =

@@ -1,32 +1,50 @@
 -- `decide` meets its contract: each way by the tests that led there.
-use mathlib.Core.Path.{refl}
+use mathlib.Core.Path.{_≡_, refl, sym, _∙_}
+use mathlib.Core.Bool.{true}
 use native.Mathlib.Omega.{arith}
-use Rattle.rules.specs.Judge.{Legible, tooLong, notAllowed}
+use borrow.Author.Tests.{not-true, not-false}
+use Rattle.rules.specs.Settings.{isOffered}
+use Rattle.rules.specs.Judge.{Legible, notOffered, tooLong, notAllowed}
+use Rattle.inputs.specs.Means.{settingsOf}
 use Rattle.inputs.specs.Laws.{legible-type}
 use borrow.Author.Needs.{needs}
 use Rattle.type_judge.proofs.decide.Statement.{statement}
 use Rattle.type_judge.proofs.decide.Tie as tie
 
--- Nothing but the type file's own faults is left.
-legible : (c : tie.After-decide-legible) → Legible (c .before .before .before .before .before .before .args .s .now)
-legible c = legible-type (c .before .before .before .before .before .before .args .s .now) _ (c .before .before .before .before .if1 .left) (c .before .before .before .allowed-end .ensures) (c .before .before .if2 .left)
+is-offered-requires : tie.Need-is-offered-requires
+is-offered-requires c κs = search needs
 
 returns : tie.Need-returns
-returns c = tooLong (c .if1 .taken) refl
+returns c = notOffered (sym (c .before .is-offered .ensures) ∙ not-true _ (c .if1 .taken)) refl
+
+-- The settings are offered.
+offered : (c : tie.Else1) → isOffered (settingsOf (c .before .before .before .args .c)) ≡ true
+offered c = sym (c .before .is-offered .ensures) ∙ not-false _ (c .if1 .left)
+
+returns-2 : tie.Need-returns-2
+returns-2 c = tooLong (offered (c .before)) (c .if2 .taken) refl
 
 allowed-end-requires : tie.Need-allowed-end-requires
 allowed-end-requires c κs = search needs
 
-returns-2 : tie.Need-returns-2
-returns-2 c =
+returns-3 : tie.Need-returns-3
+returns-3 c =
     let e = c .before .allowed-end .ensures in
-    notAllowed (c .before .before .if1 .left) (rw e at (c .if2 .taken)) (rw e)
+    notAllowed (offered (c .before .before .before)) (c .before .before .if2 .left) (rw e at (c .if3 .taken)) (rw e)
+
+-- Nothing but the type file's own faults is left.
+legible : (c : tie.After-decide-legible) → let a = c .before .before .before .before .before .before .before .before .args in Legible (settingsOf (a .c)) (a .s .now)
+legible c =
+    let a = c .before .before .before .before .before .before .before .before .args in
+    legible-type (settingsOf (a .c)) (a .s .now) _ (offered (c .before .before .before .before .before)) (c .before .before .before .before .if2 .left) (c .before .before .before .allowed-end .ensures) (c .before .before .if3 .left)
 
 decide-legible-requires : tie.Need-decide-legible-requires
 decide-legible-requires c κs = omega arith
 
-returns-3 : tie.Need-returns-3
-returns-3 c = c .decide-legible .ensures (legible c)
+returns-4 : tie.Need-returns-4
+returns-4 c = c .decide-legible .ensures (legible c)
 
 pub decide-spec : {M : Type 1} → statement M
-decide-spec = tie.close (tie.spec returns allowed-end-requires returns-2 decide-legible-requires returns-3)
+decide-spec =
+    tie.close
+    (tie.spec is-offered-requires returns returns-2 allowed-end-requires returns-3 decide-legible-requires returns-4)

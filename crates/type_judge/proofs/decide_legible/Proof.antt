@@ -4,6 +4,7 @@ use mathlib.Core.List.{List}
 use native.Mathlib.Omega.{arith}
 use Rattle.rules.specs.Reading.{got}
 use Rattle.rules.specs.TypeFile.{Element, typeFile}
+use Rattle.inputs.specs.Means.{settingsOf}
 use Rattle.element_records.specs.Progress.{KeepsProgress}
 use Rattle.type_file.specs.Turns.{file-kept}
 use Rattle.type_judge.specs.Laws.{decides-malformed, decides-ambiguous, decides-full, decides-accepted}
@@ -14,12 +15,12 @@ use Rattle.type_judge.proofs.decide_legible.Tie as tie
 -- The elements that are kept where the type file was read.
 kept : (c : tie.After-r) →
     let f = c .before .before in
-    let s = f .before .before .before .args .s .now in
-    (es : List Element) × (typeFile s ≡ got es) × KeepsProgress s (f .file-read .last .1 .0) (c .r .given .0 .0) es
+    let a = f .before .before .before .args in
+    (es : List Element) × (typeFile (settingsOf (a .c)) (a .s .now) ≡ got es) × KeepsProgress (a .s .now) (f .file-read .last .1 .1 .0) (c .r .given .0 .0) es
 kept c =
     let f = c .before .before in
-    let s = f .before .before .before .args .s .now in
-    file-kept s (f .file-read .last .1 .0) (f .file-read .result) (f .file-read .ensures) (c .r .given .0 .0) (c .r .given .1)
+    let a = f .before .before .before .args in
+    file-kept (settingsOf (a .c)) (a .s .now) (f .file-read .last .1 .1 .0) (f .file-read .result) (f .file-read .ensures) (c .r .given .0 .0) (c .r .given .1)
 
 file-read-requires : tie.Need-file-read-requires
 file-read-requires c κs = search needs
@@ -37,7 +38,7 @@ returns : tie.Need-returns
 returns c legible =
     let a = c .before .before .before .before .before .before .args in
     let f = c .before .before .before in
-    decides-malformed (a .s .now) (a .room) legible (f .file-read .last .1 .0) (f .file-read .result) (f .file-read .ensures) _ _ (c .before .enum-told .given .1) (c .fault-of .ensures)
+    decides-malformed (settingsOf (a .c)) (a .s .now) (a .room) legible (f .file-read .last .1 .1 .0) (f .file-read .result) (f .file-read .ensures) _ _ (c .before .enum-told .given .1) (c .fault-of .ensures)
 
 mul-numbers : tie.Need-mul-numbers
 mul-numbers c =
@@ -48,20 +49,20 @@ returns-2 : tie.Need-returns-2
 returns-2 c legible =
     let a = c .before .before .before .before .before .before .before .before .before .args in
     let (es, y, k) = kept (c .before .before .before .before) in
-    decides-ambiguous (a .s .now) (a .room) legible es y _ (k .pending) (c .if1 .taken)
+    decides-ambiguous (settingsOf (a .c)) (a .s .now) (a .room) legible es y _ (k .pending) (c .if1 .taken)
 
 returns-3 : tie.Need-returns-3
 returns-3 c legible =
     let a = c .before .before .before .before .before .before .before .before .before .before .args in
     let (es, y, k) = kept (c .before .before .before .before .before) in
-    decides-full (a .s .now) (a .room) legible es y _ (k .pending) (c .before .if1 .left) _ (k .counted) (c .if2 .taken)
+    decides-full (settingsOf (a .c)) (a .s .now) (a .room) legible es y _ (k .pending) (c .before .if1 .left) _ (k .counted) (c .if2 .taken)
 
 returns-4 : tie.Need-returns-4
 returns-4 c legible =
     let a = c .before .before .before .before .before .before .before .before .before .before .args in
     let f = c .before .before .before .before .before .before .before in
     let (es, y, k) = kept (c .before .before .before .before .before) in
-    decides-accepted (a .s .now) (a .room) legible es y _ (k .pending) (c .before .if1 .left) (f .file-read .last .1 .0) (c .before .before .before .before .before .r .given .0 .0) k (c .if2 .left)
+    decides-accepted (settingsOf (a .c)) (a .s .now) (a .room) legible es y _ (k .pending) (c .before .if1 .left) (f .file-read .last .1 .1 .0) (c .before .before .before .before .before .r .given .0 .0) k (c .if2 .left)
 
 pub decide-legible-spec : {M : Type 1} → statement M
 decide-legible-spec = tie.close (tie.spec file-read-requires enum-known-r enum-told fault-of-requires returns mul-numbers returns-2 returns-3 returns-4)

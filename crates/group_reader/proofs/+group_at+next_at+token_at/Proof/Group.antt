@@ -7,6 +7,7 @@ use lib.ListN.{length}
 use lib.Dec.{leb}
 use borrow.Author.Needs.{needs}
 use borrow.Author.Tests.{leb-false}
+use Rattle.rules.specs.Settings.{settings}
 use Rattle.rules.specs.TypeFile.{Tokens, group, token, members}
 use Rattle.model_names.specs.Places.{placesOf}
 use Rattle.text.specs.Laws.{separatorsEnd-le}
@@ -18,10 +19,10 @@ use Rattle.group_reader.proofs.+group_at+next_at+token_at.Lts-group_at 
 use Rattle.group_reader.proofs.+group_at+next_at+token_at.Proof.Measures.{group-at-at, group-at-calls}
 
 abbrev pub Inv-loop : lts.InvT-loop
-Inv-loop s at levels places tokens names₀ table₀ i m₀ k₀ c₀ names table m k c = So (group (levels - 1) s) s (places + 1) names₀ table₀ m₀ names table m k c
+Inv-loop long s at levels places tokens names₀ table₀ i m₀ k₀ c₀ names table m k c = So (settings long) (group (settings long) (levels - 1) s) s (places + 1) names₀ table₀ m₀ names table m k c
 
 abbrev pub μ-loop : lts.MeasureT-loop
-μ-loop s at levels places tokens names₀ table₀ i m₀ k₀ c₀ names table m k c = 33 - k
+μ-loop long s at levels places tokens names₀ table₀ i m₀ k₀ c₀ names table m k c = 33 - k
 
 module _ (t : ℕ) where
   pub refusal-requires : lts.Need-refusal-requires (group-at-calls t) (group-at-at t) group-at.Post Inv-loop μ-loop
@@ -30,7 +31,7 @@ module _ (t : ℕ) where
   pub returns : lts.Need-returns (group-at-calls t) (group-at-at t) group-at.Post Inv-loop μ-loop
   returns c =
       let x = c .before .before .before .args in
-      refused-meets _ _ _ _ _ _ 6 (x .at) _ (c .refusal .ensures) (group-none (x .levels) (x .s .now) (x .at) _ (x .tokens) (c .before .if1 .taken))
+      refused-meets _ _ _ _ _ _ 6 (x .at) _ (c .refusal .ensures) (group-none (settings (x .long)) (x .levels) (x .s .now) (x .at) _ (x .tokens) (c .before .if1 .taken))
 
   pub add-separators-end : lts.Need-add-separators-end (group-at-calls t) (group-at-at t) group-at.Post Inv-loop μ-loop
   add-separators-end c = omega (arith, c .before .before .pre .1)
@@ -64,11 +65,11 @@ module _ (t : ℕ) where
       let r = c .before .before in
       let i = r .before .before .before in
       let x = i .before .before .before .args in
-      refused-then _ _ _ _ _ (r .token-at .result) (token (group (x .levels - 1) (x .s .now)) (x .s .now) (i .separators-end .result) (leb 96 (x .tokens)) (placesOf (x .names .now) (x .places)) (x .tokens)) (r .token-at .ensures) _ _ _ (c .enum-told .given .1)
-      (group-some (x .levels) (x .s .now) (x .at) (i .separators-end .result) _ (x .tokens) (i .before .if1 .left) (i .separators-end .ensures))
+      refused-then _ _ _ _ _ (r .token-at .result) (token (settings (x .long)) (group (settings (x .long)) (x .levels - 1) (x .s .now)) (x .s .now) (i .separators-end .result) (leb 96 (x .tokens)) (placesOf (x .names .now) (x .places)) (x .tokens)) (r .token-at .ensures) _ _ _ (c .enum-told .given .1)
+      (group-some (settings (x .long)) (x .levels) (x .s .now) (x .at) (i .separators-end .result) _ (x .tokens) (i .before .if1 .left) (i .separators-end .ensures))
 
   pub loop-holds : lts.Need-loop-holds (group-at-calls t) (group-at-at t) group-at.Post Inv-loop μ-loop
-  loop-holds c = so-first _ _ _ _ _ _
+  loop-holds c = so-first _ _ _ _ _ _ _
 
   -- where the function began, at the loop
   abbrev start : lts.At-loop (group-at-calls t) (group-at-at t) group-at.Post Inv-loop μ-loop → lts.Start (group-at-calls t) (group-at-at t) group-at.Post Inv-loop μ-loop
@@ -76,13 +77,13 @@ module _ (t : ℕ) where
 
   -- the first token, as it was read
   begun : (c : lts.At-loop (group-at-calls t) (group-at-at t) group-at.Post Inv-loop μ-loop)
-      → (u : Tokens) × Keeps (length (start c .args .s .now)) (start c .args .places + 1) (start c .args .table .now) (c .before .before .before .before .token-at .last .1 .1 .1 .1 .1 .1 .0) (c .before .before .before .before .token-at .last .1 .1 .1 .1 .1 .1 .1 .0) (c .before .before .r .given .0 .0) u
-      × (group (start c .args .levels) (start c .args .s .now) (start c .args .at) (placesOf (start c .args .names .now) (start c .args .places)) (start c .args .tokens) ≡ members (group (start c .args .levels - 1) (start c .args .s .now)) (start c .args .s .now) 32 1 0 u)
+      → (u : Tokens) × Keeps (length (start c .args .s .now)) (start c .args .places + 1) (start c .args .table .now) (c .before .before .before .before .token-at .last .1 .1 .1 .1 .1 .1 .1 .0) (c .before .before .before .before .token-at .last .1 .1 .1 .1 .1 .1 .1 .1 .0) (c .before .before .r .given .0 .0) u
+      × (group (settings (start c .args .long)) (start c .args .levels) (start c .args .s .now) (start c .args .at) (placesOf (start c .args .names .now) (start c .args .places)) (start c .args .tokens) ≡ members (settings (start c .args .long)) (group (settings (start c .args .long)) (start c .args .levels - 1) (start c .args .s .now)) (start c .args .s .now) 32 1 0 u)
   begun c =
       let r = c .before .before .before .before in
       let i = r .before .before .before in
       let x = start c .args in
-      group-begun (x .levels) (x .s .now) (x .at) (i .separators-end .result) (placesOf (x .names .now) (x .places)) (x .tokens) (x .places + 1) (x .table .now) _ _ (r .token-at .result) (c .before .before .r .given .0 .0)
+      group-begun (settings (x .long)) (x .levels) (x .s .now) (x .at) (i .separators-end .result) (placesOf (x .names .now) (x .places)) (x .tokens) (x .places + 1) (x .table .now) _ _ (r .token-at .result) (c .before .before .r .given .0 .0)
       (r .token-at .ensures) (c .before .before .r .given .1) (i .before .if1 .left) (i .separators-end .ensures)
 
   pub sub-next-at : lts.Need-sub-next-at (group-at-calls t) (group-at-at t) group-at.Post Inv-loop μ-loop
@@ -96,7 +97,7 @@ module _ (t : ℕ) where
       let l = c .before .before in
       let a = start l in
       let b = begun l in
-      omega (arith, a .pre, l .before .before .before .before .before .before .before .before .if1 .left, so-in _ _ _ _ _ _ _ _ _ _ _ (l .loop .inv) _ (b .0) (b .1))
+      omega (arith, a .pre, l .before .before .before .before .before .before .before .before .if1 .left, so-in _ _ _ _ _ _ _ _ _ _ _ _ (l .loop .inv) _ (b .0) (b .1))
 
   pub enum-known-n : lts.Need-enum-known-n (group-at-calls t) (group-at-at t) group-at.Post Inv-loop μ-loop
   enum-known-n c = search needs
@@ -106,7 +107,7 @@ module _ (t : ℕ) where
       let n = c .before .before .before in
       let l = n .before .before .before in
       let b = begun l in
-      so-closed _ _ _ _ _ _ _ _ _ _ _ (l .loop .inv) _ _ (n .next-at .result) (n .next-at .ensures) _ (b .0) (b .1) _ _ (b .2) (c .before .n .given .1)
+      so-closed _ _ _ _ _ _ _ _ _ _ _ _ (l .loop .inv) _ _ (n .next-at .result) (n .next-at .ensures) _ (b .0) (b .1) _ _ (b .2) (c .before .n .given .1)
 
   pub enum-known-n-2 : lts.Need-enum-known-n-2 (group-at-calls t) (group-at-at t) group-at.Post Inv-loop μ-loop
   enum-known-n-2 c = search needs
@@ -116,7 +117,7 @@ module _ (t : ℕ) where
       let n = c .before .before .before in
       let l = n .before .before .before in
       let b = begun l in
-      so-unfit _ _ _ _ _ _ _ _ _ _ _ (l .loop .inv) _ _ (n .next-at .result) (n .next-at .ensures) _ (b .0) (b .1) _ _ (b .2) (c .before .n2 .given .1)
+      so-unfit _ _ _ _ _ _ _ _ _ _ _ _ (l .loop .inv) _ _ (n .next-at .result) (n .next-at .ensures) _ (b .0) (b .1) _ _ (b .2) (c .before .n2 .given .1)
 
   pub enum-known-n-3 : lts.Need-enum-known-n-3 (group-at-calls t) (group-at-at t) group-at.Post Inv-loop μ-loop
   enum-known-n-3 c = search needs
@@ -132,4 +133,4 @@ module _ (t : ℕ) where
       let n = c .before .before .before in
       let l = n .before .before .before in
       let b = begun l in
-      so-joined _ _ _ _ _ _ _ _ _ _ _ (l .loop .inv) _ _ (n .next-at .result) (n .next-at .ensures) _ (b .0) (b .1) _ _ (c .before .n3 .given .1) .1
+      so-joined _ _ _ _ _ _ _ _ _ _ _ _ (l .loop .inv) _ _ (n .next-at .result) (n .next-at .ensures) _ (b .0) (b .1) _ _ (c .before .n3 .given .1) .1

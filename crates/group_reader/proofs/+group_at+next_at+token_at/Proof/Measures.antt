@@ -24,13 +24,13 @@ use Rattle.text.proofs.is_letter.Reads as is-letter-reads
 use Rattle.text.proofs.separators_end.Reads as separators-end-reads
 
 abbrev pub μ-group-at : Measures 3 group-at-kinds.ps ℕ
-μ-group-at κs a = 3 * a .1 .1 .0
+μ-group-at κs a = 3 * a .1 .1 .1 .0
 
 abbrev pub μ-next-at : Measures 3 next-at-kinds.ps ℕ
-μ-next-at κs a = 3 * a .1 .0 + 2
+μ-next-at κs a = 3 * a .1 .1 .0 + 2
 
 abbrev pub μ-token-at : Measures 3 token-at-kinds.ps ℕ
-μ-token-at κs a = 3 * a .1 .1 .0 + 1
+μ-token-at κs a = 3 * a .1 .1 .1 .0 + 1
 
 abbrev pub group-at-at : ℕ → In 3 group-at-kinds.ps
 group-at-at t = and 3 group-at-kinds.ps (is 3 group-at-kinds.ps μ-group-at t) group-at.Pre

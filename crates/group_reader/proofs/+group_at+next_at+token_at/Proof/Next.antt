@@ -8,6 +8,7 @@ use lib.ListN.{length}
 use lib.Dec.{leb}
 use borrow.Author.Needs.{needs}
 use borrow.Author.Tests.{eq-eqb, ne-eqb, le-leb, lt-leb, not-true, not-false}
+use Rattle.rules.specs.Settings.{settings}
 use Rattle.rules.specs.TypeFile.{group, token}
 use Rattle.model_names.specs.Places.{placesOf}
 use Rattle.text.specs.Laws.{separatorsEnd-le, or-taken, or-left}
@@ -45,20 +46,20 @@ module _ (t : ℕ) where
   pub byte-requires : lts.Need-byte-requires (next-at-calls t) (next-at-at t) next-at.Post
   byte-requires c κs = search needs
 
-  pub add-t19 : lts.Need-add-t19 (next-at-calls t) (next-at-at t) next-at.Post
-  add-t19 c = omega (arith, here (c .before .before .before))
+  pub add-t20 : lts.Need-add-t20 (next-at-calls t) (next-at-at t) next-at.Post
+  add-t20 c = omega (arith, here (c .before .before .before))
 
   pub returns : lts.Need-returns (next-at-calls t) (next-at-at t) next-at.Post
   returns c T u K =
       let b = c .before .before in
       let x = b .before .before .before .args in
-      next-closed (group (x .levels) (x .s .now)) (x .s .now) (x .lo) (x .k) (x .c) T _ _ (x .m) u K (b .before .separators-end .result) (b .byte .result) (b .before .separators-end .ensures) (b .byte .ensures) (c .before .if1 .taken)
+      next-closed (settings (x .long)) (group (settings (x .long)) (x .levels) (x .s .now)) (x .s .now) (x .lo) (x .k) (x .c) T _ _ (x .m) u K (b .before .separators-end .result) (b .byte .result) (b .before .separators-end .ensures) (b .byte .ensures) (c .before .if1 .taken)
 
   pub returns-2 : lts.Need-returns-2 (next-at-calls t) (next-at-at t) next-at.Post
   returns-2 c T u K =
       let b = c .before .before in
       let x = b .before .before .before .args in
-      next-unfit (group (x .levels) (x .s .now)) (x .s .now) (x .lo) (x .k) (x .c) T _ _ (x .m) u K (b .before .separators-end .result) (b .byte .result) (b .before .separators-end .ensures) (b .byte .ensures) (c .before .if1 .left)
+      next-unfit (settings (x .long)) (group (settings (x .long)) (x .levels) (x .s .now)) (x .s .now) (x .lo) (x .k) (x .c) T _ _ (x .m) u K (b .before .separators-end .result) (b .byte .result) (b .before .separators-end .ensures) (b .byte .ensures) (c .before .if1 .left)
       (⊎-elim (λ w. or-first _ _ (eq-eqb _ _ (w .taken))) (λ w. or-second _ _ _ (ne-eqb _ _ (w .0 .left)) (w .1 .taken)) (c .if2 .came))
 
   pub is-connector-requires : lts.Need-is-connector-requires (next-at-calls t) (next-at-at t) next-at.Post
@@ -71,7 +72,7 @@ module _ (t : ℕ) where
       let d = e .before in
       let b = d .before .before in
       let x = b .before .before .before .args in
-      next-other (group (x .levels) (x .s .now)) (x .s .now) (x .lo) (x .k) (x .c) T _ _ (x .m) u K (b .before .separators-end .result) (b .byte .result) (b .before .separators-end .ensures) (b .byte .ensures) (d .before .if1 .left)
+      next-other (settings (x .long)) (group (settings (x .long)) (x .levels) (x .s .now)) (x .s .now) (x .lo) (x .k) (x .c) T _ _ (x .m) u K (b .before .separators-end .result) (b .byte .result) (b .before .separators-end .ensures) (b .byte .ensures) (d .before .if1 .left)
       (or-second _ _ _ (ne-eqb _ _ (d .if2 .left)) (e .if3 .left)) (y .is-connector .result) (y .is-connector .ensures) (not-true _ (c .if4 .taken))
 
   pub add-separators-end : lts.Need-add-separators-end (next-at-calls t) (next-at-at t) next-at.Post
@@ -114,7 +115,7 @@ module _ (t : ℕ) where
       let d = e .before in
       let b = d .before .before in
       let x = b .before .before .before .args in
-      next-refused (group (x .levels) (x .s .now)) (x .s .now) (x .lo) (x .k) (x .c) T _ _ (x .m) u K (b .before .separators-end .result) (b .byte .result) (b .before .separators-end .ensures) (b .byte .ensures) (d .before .if1 .left)
+      next-refused (settings (x .long)) (group (settings (x .long)) (x .levels) (x .s .now)) (x .s .now) (x .lo) (x .k) (x .c) T _ _ (x .m) u K (b .before .separators-end .result) (b .byte .result) (b .before .separators-end .ensures) (b .byte .ensures) (d .before .if1 .left)
       (or-second _ _ _ (ne-eqb _ _ (d .if2 .left)) (e .if3 .left)) (y .is-connector .result) (y .is-connector .ensures) (not-false _ (i .if4 .left))
       (j .separators-end2 .result) (f .if5 .full) (j .separators-end2 .ensures) (room f) _ _ (r .token-at .result) (r .token-at .ensures) _ _ (c .before .enum-told .given .1) (c .fault-of .ensures)
 
@@ -126,7 +127,7 @@ module _ (t : ℕ) where
       let j = f .before in
       let a = j .before .before .before .before .before .before .before .before .before in
       let x = a .args in
-      omega (arith, a .pre .1 .1, read-in _ _ _ _ _ (r .token-at .result) (token (group (x .levels) (x .s .now)) (x .s .now) (j .separators-end2 .result) (f .if5 .full) (placesOf (x .names .now) (x .m .places)) (x .m .tokens)) (r .token-at .ensures) (k .r .given .0 .0) (k .r .given .1))
+      omega (arith, a .pre .1 .1, read-in _ _ _ _ _ (r .token-at .result) (token (settings (x .long)) (group (settings (x .long)) (x .levels) (x .s .now)) (x .s .now) (j .separators-end2 .result) (f .if5 .full) (placesOf (x .names .now) (x .m .places)) (x .m .tokens)) (r .token-at .ensures) (k .r .given .0 .0) (k .r .given .1))
 
   pub returns-5 : lts.Need-returns-5 (next-at-calls t) (next-at-at t) next-at.Post
   returns-5 c T u K =
@@ -140,6 +141,6 @@ module _ (t : ℕ) where
       let d = e .before in
       let b = d .before .before in
       let x = b .before .before .before .args in
-      next-joined (group (x .levels) (x .s .now)) (x .s .now) (x .lo) (x .k) (x .c) T _ _ (x .m) u K (b .before .separators-end .result) (b .byte .result) (b .before .separators-end .ensures) (b .byte .ensures) (d .before .if1 .left)
+      next-joined (settings (x .long)) (group (settings (x .long)) (x .levels) (x .s .now)) (x .s .now) (x .lo) (x .k) (x .c) T _ _ (x .m) u K (b .before .separators-end .result) (b .byte .result) (b .before .separators-end .ensures) (b .byte .ensures) (d .before .if1 .left)
       (or-second _ _ _ (ne-eqb _ _ (d .if2 .left)) (e .if3 .left)) (y .is-connector .result) (y .is-connector .ensures) (not-false _ (i .if4 .left))
       (j .separators-end2 .result) (f .if5 .full) (j .separators-end2 .ensures) (room f) _ _ (r .token-at .result) (r .token-at .ensures) (k .r .given .0 .0) (c .joined-by .result) _ (k .r .given .1) (c .joined-by .ensures .0) (c .joined-by .ensures .1)
