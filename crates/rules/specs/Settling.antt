@@ -34,11 +34,14 @@ nothingOpen = record { current = record { number = 0; taken = [] }; around = [];
 abbrev pub takePlace : ℕ → State → State
 takePlace p z = record { current = record { number = z .current .number; taken = z .current .taken ++ p ∷ [] }; around = z .around; events = z .events }
 
--- "The place they took in their parent's model, 0 for the document element" (paper 02, request seven): of an element that has just taken its
--- place in o, that is the last place taken there. The parent of the document element is the document itself, number 0, whose one place
--- stands in no model of the type file.
+-- "The place they took in their parent's model, 0 for the document element" (paper 02, request seven): the parent of the document element is
+-- the document itself, number 0, whose one place stands in no model of the type file.
+abbrev pub shown : (parent place : ℕ) → ℕ
+shown k p = elim (eqb k 0) [ true ↦ 0 | false ↦ p ]
+
+-- The place of what has just taken one in o: the last that was taken there.
 abbrev pub placeTaken : Open → ℕ
-placeTaken o = elim (eqb (o .number) 0) [ true ↦ 0 | false ↦ lastOr0 (o .taken) ]
+placeTaken o = shown (o .number) (lastOr0 (o .taken))
 
 -- The element number k is opened in the current one.
 abbrev pub enter : ℕ → State → State
