@@ -1,6 +1,6 @@
 -- What is printed for each answer of the reader.
 use Prim.Native.Nat.{ℕ, _*_, _≤_}
-use mathlib.Core.Path.{_≡_, sym, ap, _∙_}
+use mathlib.Core.Path.{_≡_, sym, ap, subst, _∙_}
 use mathlib.Core.List.{List, _++_}
 use native.Mathlib.Omega.{arith}
 use lib.ListN.{length, drop, replicate, length-replicate}
@@ -12,6 +12,10 @@ use Rattle.rules.specs.Judge.{Answer, acceptance}
 use Rattle.rules.specs.Events.{Event}
 use Rattle.rules.specs.Reader.{eventNumbers, Reads, RefusesBoth, notOffered, typeTooLong, documentTooLong, typeNotAllowed, documentNotAllowed, malformed, ambiguous, unsettled, noRoom, ReadAs, refuses, accepts}
 use Rattle.rules.specs.Printed.{inputText, refusedText, Prints, refusal}
+
+-- What was read under the settings that the program gives.
+pub read-given : {c : Settings} {s d before : List ℕ} {a : Answer} {after : List ℕ} → c ≡ settings 8 → ReadAs numbers c s d before a after → ReadAs numbers (settings 8) s d before a after
+read-given {s = s} {d} {before} {a} {after} e x = subst (λ (given : Settings). ReadAs numbers given s d before a after) e x
 
 -- A refusal names its input, 1 or 2.
 refuses-input : {c : Settings} {s d : List ℕ} {room : ℕ} {a : Answer} → RefusesBoth c s d room a → 1 ≤ a .input

@@ -1,12 +1,12 @@
 -- The table of elements that the judge leaves, and the lines by the numbers of the buffers, as what the rules read.
 use Prim.Native.Nat.{ℕ, zero, suc, _+_, _-_, _*_, _≤_, _<_}
-use mathlib.Core.Path.{_≡_, refl, sym, ap, _∙_}
+use mathlib.Core.Path.{_≡_, refl, sym, ap, _∙_, subst}
 use mathlib.Core.List.{List, [], _∷_, _++_}
 use native.Mathlib.Omega.{arith}
 use native.Mathlib.Decide.{decLt}
 use lib.ListN.{length, take, drop, getD, replicate, length-replicate, getD-replicate, List·getD-eq-default}
 use lib.Seq.{take-at, getD-append-add, getD-drop, drop-drop}
-use Rattle.rules.specs.Settings.{settings}
+use Rattle.rules.specs.Settings.{Settings, settings}
 use Rattle.rules.specs.Lent.{numbers, filledWith}
 use Rattle.rules.specs.TypeFile.{Element}
 use Rattle.rules.specs.Judge.{Answer, records, Accepts, Judged, accepts}
@@ -28,6 +28,10 @@ zero-at n i = by-place (decLt i n)
     by-place : Dec (i < n) → _≡_ {A = ℕ} (getD (replicate n 0) i 0) 0
     by-place (yes h) = getD-replicate n i 0 0 h
     by-place (no h) = List·getD-eq-default (replicate n 0) 0 {n = i} (omega (arith, length-replicate {A = ℕ} n 0))
+
+-- What was judged under the settings that the program gives.
+pub judged-given : {c : Settings} {s before : List ℕ} {a : Answer} {after : List ℕ} → c ≡ settings 8 → Judged numbers c s before a after → Judged numbers (settings 8) s before a after
+judged-given {s = s} {before} {a} {after} e x = subst (λ (d : Settings). Judged numbers d s before a after) e x
 
 -- Past the last element there is none: its name is empty.
 element-past : (es : List Element) (k : ℕ) → length es ≤ k → (elementAt es k .at ≡ 0) × (elementAt es k .size ≡ 0)

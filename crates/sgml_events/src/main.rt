@@ -6,6 +6,7 @@ use inputs::Settings;
 use layout::PROGRAM_ROOM;
 use layout::RECORDS;
 use libc::STDOUT_FILENO;
+ghost use mathlib.Core.Path.{_≡_};
 ghost use Prim.Native.Nat.{_≤_};
 ghost use lib.ListN.{length, take};
 ghost use Rattle.io.specs.Counts.{Counts};

@@ -1,35 +1,42 @@
 -- `sgml_judge` meets its contract: the judge's answer, as six numbers.
 use Prim.Native.Nat.{ℕ}
-use mathlib.Core.Path.{ap}
+use mathlib.Core.Path.{ap, subst}
 use mathlib.Core.List.{List}
 use native.Mathlib.Omega.{arith}
 use lib.ListN.{length, getD}
 use borrow.Author.Needs.{needs}
+use Rattle.rules.specs.Settings.{Settings}
 use Rattle.rules.specs.Lent.{bytes}
+use Rattle.rules.specs.Judge.{Judged}
 use Rattle.type_judge.specs.Means.{answerOf}
 use Rattle.sgml.specs.Laws.{verdict-fits}
 use Rattle.sgml.proofs.sgml_judge.Statement.{statement}
 use Rattle.sgml.proofs.sgml_judge.Tie as tie
+
+chosen-requires : tie.Need-chosen-requires
+chosen-requires c κs = search needs
 
 judge-to-bytes-requires : tie.Need-judge-to-bytes-requires
 judge-to-bytes-requires c κs = search needs
 
 numbers-of-requires : tie.Need-numbers-of-requires
 numbers-of-requires c κs =
-    let a = c .before .before .before .before .before .before .args in
+    let a = c .before .before .before .before .before .before .before .args in
     let r = c .before .before .judge-to-bytes in
-    verdict-fits bytes (a .type-file .now) (a .buffer .now) (r .last .1 .0) (r .result) (r .ensures)
+    verdict-fits bytes _ (a .type-file .now) (a .buffer .now) (r .last .1 .1 .0) (r .result) (r .ensures)
 
 array-read-result : tie.Need-array-read-result
 array-read-result c = omega (arith, ap length (c .numbers-of .ensures))
 
 same-length : tie.Need-same-length
-same-length c = c .before .before .before .judge-to-bytes .kept .1 .0
+same-length c = c .before .before .before .judge-to-bytes .kept .1 .1 .0
 
 returns : tie.Need-returns
 returns c =
+    let a = c .before .before .before .before .before .before .before .before .args in
     let r = c .before .before .before .judge-to-bytes in
-    (answerOf (r .result), ap (λ (six : List ℕ). getD six 0 0) (c .numbers-of .ensures), c .numbers-of .ensures, r .ensures)
+    let so = subst (λ (given : Settings). Judged bytes given (a .type-file .now) (a .buffer .now) (answerOf (r .result)) (r .last .1 .1 .0)) (c .before .before .before .before .before .chosen .ensures) (r .ensures) in
+    (answerOf (r .result), ap (λ (six : List ℕ). getD six 0 0) (c .numbers-of .ensures), c .numbers-of .ensures, so)
 
 pub sgml-judge-spec : {M : Type 1} → statement M
-sgml-judge-spec = tie.close (tie.spec judge-to-bytes-requires numbers-of-requires array-read-result same-length returns)
+sgml-judge-spec = tie.close (tie.spec chosen-requires judge-to-bytes-requires numbers-of-requires array-read-result same-length returns)

@@ -5,12 +5,15 @@ use borrow.Author.Needs.{needs}
 use Rattle.document_reader.specs.Means.{answerOf}
 use Rattle.rules.specs.Printed.{events}
 use Rattle.file_reader.specs.Laws.{counts-of}
-use Rattle.sgml_events.specs.Answers.{accepted-read, prints-refusal}
+use Rattle.sgml_events.specs.Answers.{read-given, accepted-read, prints-refusal}
 use Rattle.sgml_events.proofs.printed.Statement.{statement}
 use Rattle.sgml_events.proofs.printed.Tie as tie
 
 slice-aggregate-read : tie.Need-slice-aggregate-read
 slice-aggregate-read c = search needs
+
+given-requires : tie.Need-given-requires
+given-requires c κs = search needs
 
 read-requires : tie.Need-read-requires
 read-requires c κs = tt
@@ -20,7 +23,7 @@ enum-known-a c = search needs
 
 put-events-requires : tie.Need-put-events-requires
 put-events-requires c κs =
-    let read = accepted-read _ _ _ _ _ refl (c .before .before .before .before .before .before .read .ensures .0) _ (ap answerOf (c .before .before .before .a .given .1)) in
+    let read = accepted-read _ _ _ _ _ _ refl (read-given (c .before .before .before .before .before .before .before .before .given .ensures) (c .before .before .before .before .before .before .read .ensures .0)) _ (ap answerOf (c .before .before .before .a .given .1)) in
     (omega arith, (read .elements, read .reads .accepted), omega (arith, read .count, read .fits))
 
 enum-known-a-2 : tie.Need-enum-known-a-2
@@ -58,7 +61,7 @@ same-length c = search needs
 
 returns : tie.Need-returns
 returns c =
-    let read = accepted-read _ _ _ _ _ refl (c .before .before .before .before .before .before .before .before .before .read .ensures .0) _ (ap answerOf (c .before .before .before .before .before .before .a .given .1)) in
+    let read = accepted-read _ _ _ _ _ _ refl (read-given (c .before .before .before .before .before .before .before .before .before .before .before .given .ensures) (c .before .before .before .before .before .before .before .before .before .read .ensures .0)) _ (ap answerOf (c .before .before .before .before .before .before .a .given .1)) in
     let said = c .before .before .put-events .ensures in
     (said .0, events (read .elements) (read .evs) (read .reads) (read .fits) (said .1 (read .elements) (read .evs) (read .rest) (read .reads .accepted) (read .written) (read .count)))
 
@@ -68,7 +71,7 @@ same-length-2 c = search needs
 returns-2 : tie.Need-returns-2
 returns-2 c =
     let said = c .before .before .put-refusal .ensures in
-    (counts-of _ _ (said .0), prints-refusal _ _ _ _ _ refl (c .before .before .before .before .before .before .before .before .before .read .ensures .0) (ap answerOf (c .before .before .before .before .before .before .a2 .given .1)) (omega arith) (said .1))
+    (counts-of _ _ (said .0), prints-refusal _ _ _ _ _ refl (read-given (c .before .before .before .before .before .before .before .before .before .before .before .given .ensures) (c .before .before .before .before .before .before .before .before .before .read .ensures .0)) (ap answerOf (c .before .before .before .before .before .before .a2 .given .1)) (omega arith) (said .1))
 
 same-length-3 : tie.Need-same-length-3
 same-length-3 c = search needs
@@ -76,7 +79,7 @@ same-length-3 c = search needs
 returns-3 : tie.Need-returns-3
 returns-3 c =
     let said = c .before .before .put-refusal2 .ensures in
-    (counts-of _ _ (said .0), prints-refusal _ _ _ _ _ refl (c .before .before .before .before .before .before .before .before .before .before .read .ensures .0) (ap answerOf (c .before .before .before .before .before .before .before .a3 .given .1)) (omega arith) (said .1))
+    (counts-of _ _ (said .0), prints-refusal _ _ _ _ _ refl (read-given (c .before .before .before .before .before .before .before .before .before .before .before .before .given .ensures) (c .before .before .before .before .before .before .before .before .before .before .read .ensures .0)) (ap answerOf (c .before .before .before .before .before .before .before .a3 .given .1)) (omega arith) (said .1))
 
 same-length-4 : tie.Need-same-length-4
 same-length-4 c = search needs
@@ -84,12 +87,13 @@ same-length-4 c = search needs
 returns-4 : tie.Need-returns-4
 returns-4 c =
     let said = c .before .before .put-refusal3 .ensures in
-    (counts-of _ _ (said .0), prints-refusal _ _ _ _ _ refl (c .before .before .before .before .before .before .before .before .before .read .ensures .0) (ap answerOf (c .before .before .before .before .before .before .a4 .given .1)) (omega arith) (said .1))
+    (counts-of _ _ (said .0), prints-refusal _ _ _ _ _ refl (read-given (c .before .before .before .before .before .before .before .before .before .before .before .given .ensures) (c .before .before .before .before .before .before .before .before .before .read .ensures .0)) (ap answerOf (c .before .before .before .before .before .before .a4 .given .1)) (omega arith) (said .1))
 
 pub printed-spec : {M : Type 1} → statement M
 printed-spec =
     tie.close
     (tie.spec
+    given-requires
     slice-aggregate-read
     read-requires
     enum-known-a

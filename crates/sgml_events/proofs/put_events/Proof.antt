@@ -2,7 +2,7 @@
 use mathlib.Core.Path.{refl}
 use native.Mathlib.Omega.{arith}
 use borrow.Author.Needs.{needs}
-use Rattle.sgml_events.specs.Table.{table-fits, names-are, text-is}
+use Rattle.sgml_events.specs.Table.{judged-given, table-fits, names-are, text-is}
 use Rattle.file_reader.specs.Laws.{counts-of}
 use Rattle.sgml_events.proofs.put_events.Statement.{statement}
 use Rattle.sgml_events.proofs.put_events.Tie as tie
@@ -10,13 +10,16 @@ use Rattle.sgml_events.proofs.put_events.Tie as tie
 slice-aggregate-judge : tie.Need-slice-aggregate-judge
 slice-aggregate-judge c = search needs
 
+given-requires : tie.Need-given-requires
+given-requires c κs = search needs
+
 judge-requires : tie.Need-judge-requires
 judge-requires c κs = search needs
 
 put-events-requires : tie.Need-put-events-requires
 put-events-requires c κs =
-    let (es, accepted) = c .before .before .before .before .before .before .before .pre .1 in
-    (omega arith, table-fits _ es accepted _ _ _ refl (c .before .before .before .judge .ensures), omega arith)
+    let (es, accepted) = c .before .before .before .before .before .before .before .before .pre .1 in
+    (omega arith, table-fits _ es accepted _ _ _ refl (judged-given (c .before .before .before .before .before .given .ensures) (c .before .before .before .judge .ensures)), omega arith)
 
 same-length : tie.Need-same-length
 same-length c = search needs
@@ -24,8 +27,9 @@ same-length c = search needs
 returns : tie.Need-returns
 returns c =
     let said = c .before .before .put-events .ensures in
-    let judged = c .before .before .before .before .before .before .judge .ensures in
+    let j = c .before .before .before .before .before .before in
+    let judged = judged-given (j .before .before .given .ensures) (j .judge .ensures) in
     (counts-of _ _ (said .0), λ es ev rest accepted q count. text-is _ _ _ _ (said .1) es ev rest (names-are _ es accepted _ _ _ refl judged) q count)
 
 pub put-events-spec : {M : Type 1} → statement M
-put-events-spec = tie.close (tie.spec slice-aggregate-judge judge-requires put-events-requires same-length returns)
+put-events-spec = tie.close (tie.spec given-requires slice-aggregate-judge judge-requires put-events-requires same-length returns)
