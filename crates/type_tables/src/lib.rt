@@ -129,7 +129,8 @@ pub fn fitting(
         (t : Token) → nameNumber t ≡ x .0 → Declares es t → r .0 ≡ decided s es .fits (e .0) (placed (u .0)) t) ⌝ }
     ensures { λ r. ⌜ r .0 ≤ 96 ⌝ }
 {
-    let mut p = Place(numbers::wide(facts[e.0 * FACT + x.0]));
+    let name = x.0;
+    let mut p = Place(numbers::wide(facts[e.0 * FACT + name]));
     if 96 < p.0 {
         return Place(0);
     }
