@@ -1,7 +1,7 @@
 -- What each event does to the open elements (paper 01, "The document"): the acts of which a reading consists, one after another, with the
 -- states between, and what the marks of an open element say of the places taken in it (paper 02, request four). What holds of every state that
 -- the acts of a reading pass holds at every moment of it.
-use Prim.Native.Nat.{ℕ, _≤_, _<_}
+use Prim.Native.Nat.{ℕ, zero, suc, _≤_, _<_}
 use mathlib.Core.Path.{_≡_}
 use mathlib.Core.Bool.{Bool, true, false}
 use mathlib.Core.Logic.{_↔_}
@@ -15,7 +15,7 @@ use Rattle.rules.specs.TypeFile.{Element}
 use Rattle.rules.specs.Document.{Piece, piece}
 use Rattle.rules.specs.Elements.{contentOf, hasModel, endO}
 use Rattle.rules.specs.Decisions.{start, pcdata, Decisions}
-use Rattle.rules.specs.Events.{startWritten, startInferred, endWritten, endInferred, endOfEmpty, withData}
+use Rattle.rules.specs.Events.{Event, startWritten, startInferred, endWritten, endInferred, dataRun, endOfEmpty, withData}
 use Rattle.rules.specs.Settling.{Open, State, nothingOpen, takePlace, placeTaken, enter, note, fitting, isComplete, requiredPlace, inferable, takeToken}
 use Rattle.rules.specs.Reader.{Reached, settlePiece}
 
@@ -50,6 +50,40 @@ pub data Act (s : List ℕ) (es : List Element) (D : Decisions) (z : State) : St
 pub data Acts (s : List ℕ) (es : List Element) (D : Decisions) (P : State → Type 0) : State → State → Type 0 where
   still : {z : State} → P z → Acts s es D P z z
   next : {z y x : State} → P z → Act s es D z y → Acts s es D P y x → Acts s es D P z x
+
+-- What each event did
+
+-- n data bytes one after another, each of which takes the place as which it fits.
+abbrev pub dataTaken : List ℕ → List Element → Decisions → (n : ℕ) → State → State
+dataTaken s es D zero z = z
+dataTaken s es D (suc n) z = takeToken s es D pcdata (dataTaken s es D n z)
+
+-- What one event did to the open elements, from the state z to another, which has that event last.
+pub data Deed (s : List ℕ) (es : List Element) (D : Decisions) (z : State) : State → Type 0 where
+  -- A start tag took the place as which it fits, and opened its element.
+  opened : (k at after : ℕ) → Declared es k → 1 ≤ fitting s es D (z .current) (start k) → hasModel (contentOf es k) ≡ true
+      → Deed s es D z (note (startWritten k at after (placeTaken (takeToken s es D (start k) z .current))) (enter k (takeToken s es D (start k) z)))
+  -- The start tag of an EMPTY element took the place as which it fits, and opened nothing.
+  passed : (k at after : ℕ) → Declared es k → 1 ≤ fitting s es D (z .current) (start k) → hasModel (contentOf es k) ≡ false → length (z .around) < TAGLVL
+      → Deed s es D z (note (startWritten k at after (placeTaken (takeToken s es D (start k) z .current))) (takeToken s es D (start k) z))
+  -- The end of an EMPTY element comes right behind its start tag, and closed nothing.
+  past : (k at after place : ℕ) (ev : List Event) → z .events ≡ ev ++ startWritten k at after place ∷ [] → Deed s es D z (note (endOfEmpty k after) z)
+  -- A start that is inferred took the required place, and opened the element that is named there.
+  inferred : (k at : ℕ) → inferable s es D (z .current) ≡ k → 1 ≤ k
+      → Deed s es D z (note (startInferred k at (placeTaken (takePlace (requiredPlace s es D (z .current)) z .current))) (enter k (takePlace (requiredPlace s es D (z .current)) z)))
+  -- Each byte of a run of data fitted, and took its place.
+  fitted : (at size : ℕ) → 1 ≤ size → ((k : ℕ) → k < size → 1 ≤ fitting s es D (dataTaken s es D k z .current) pcdata) → Deed s es D z (note (dataRun at size) (dataTaken s es D size z))
+  -- An end that is inferred closed an element that was complete and whose end is "O".
+  inferred-end : (u : Open) (us : List Open) (at : ℕ) → z .around ≡ u ∷ us → isComplete s es D (z .current) ≡ true → endO es (z .current .number) ≡ true
+      → Deed s es D z (record { current = u; around = us; events = z .events ++ endInferred (z .current .number) at ∷ [] })
+  -- An end tag closed an element that was complete.
+  closed : (u : Open) (us : List Open) (at after : ℕ) → z .around ≡ u ∷ us → isComplete s es D (z .current) ≡ true
+      → Deed s es D z (record { current = u; around = us; events = z .events ++ endWritten (z .current .number) at after ∷ [] })
+
+-- The state z is what its events did, one after another, from nothing open on.
+pub data Deeds (s : List ℕ) (es : List Element) (D : Decisions) : State → Type 0 where
+  nothing : Deeds s es D nothingOpen
+  then : {z y : State} → Deeds s es D z → Deed s es D z y → Deeds s es D y
 
 -- The states that reading comes to between pieces, and how many are open
 
