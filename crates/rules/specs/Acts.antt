@@ -4,17 +4,17 @@
 use Prim.Native.Nat.{ℕ, zero, suc, _≤_, _<_}
 use mathlib.Core.Path.{_≡_}
 use mathlib.Core.Bool.{Bool, true, false}
-use mathlib.Core.Logic.{_↔_}
+use mathlib.Core.Logic.{_⊎_, _↔_}
 use mathlib.Core.List.{List, [], _∷_, _++_}
 use lib.ListN.{length}
 use Rattle.rules.specs.Settings.{Settings}
 use Rattle.rules.specs.Bytes.{TAGLVL}
 use Rattle.rules.specs.Reading.{got}
-use Rattle.rules.specs.Walk.{Group, Complete, Required}
-use Rattle.rules.specs.TypeFile.{Element}
+use Rattle.rules.specs.Walk.{Group, Begins, Complete, Required}
+use Rattle.rules.specs.TypeFile.{Place, model, Element}
 use Rattle.rules.specs.Document.{Piece, piece}
 use Rattle.rules.specs.Elements.{contentOf, hasModel, endO}
-use Rattle.rules.specs.Decisions.{start, pcdata, Decisions}
+use Rattle.rules.specs.Decisions.{start, pcdata, Fits, Decisions}
 use Rattle.rules.specs.Events.{Event, startWritten, startInferred, endWritten, endInferred, dataRun, endOfEmpty, withData}
 use Rattle.rules.specs.Settling.{Open, State, nothingOpen, takePlace, placeTaken, enter, note, fitting, isComplete, requiredPlace, inferable, takeToken}
 use Rattle.rules.specs.Reader.{Reached, settlePiece}
@@ -84,6 +84,21 @@ pub data Deed (s : List ℕ) (es : List Element) (D : Decisions) (z : State) : S
 pub data Deeds (s : List ℕ) (es : List Element) (D : Decisions) : State → Type 0 where
   nothing : Deeds s es D nothingOpen
   then : {z y : State} → Deeds s es D z → Deed s es D z y → Deeds s es D y
+
+-- Places taken
+
+-- Kind 1, "start tag written", or 2, "start tag inferred".
+abbrev pub IsStart : Event → Type 0
+IsStart e = (e .kind ≡ 1) ⊎ (e .kind ≡ 2)
+
+-- "Start events get a fifth number: the place they took in their parent's model, 0 for the document element." The parent, where places were taken before,
+-- is the document itself, and the element is the first that is declared; or it is an element whose model has that place: it has the name of the start's
+-- element, it could come next after the places taken, and every place of that name that could come next is this one.
+pub data Took (s : List ℕ) (es : List Element) (parent : Open) (e : Event) : Type 0 where
+  document-element : parent .number ≡ 0 → e .number ≡ 1 → e .place ≡ 0 → Took s es parent e
+  in-model : (g : Group) (ps : List Place) (n : ℕ) → 1 ≤ parent .number → contentOf es (parent .number) ≡ model g ps n → Begins g (parent .taken)
+      → (1 ≤ e .place) × (e .place ≤ length ps) → Fits s es g ps (parent .taken) (start (e .number)) (e .place)
+      → ((q : ℕ) → Fits s es g ps (parent .taken) (start (e .number)) q → q ≡ e .place) → Took s es parent e
 
 -- The states that reading comes to between pieces, and how many are open
 

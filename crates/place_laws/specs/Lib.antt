@@ -1,0 +1,2 @@
+-- The place that each start took, by walks (paper 02, request seven).
+pub mod Taken
