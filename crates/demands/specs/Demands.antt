@@ -3,10 +3,10 @@
 -- after; the theorems on the calls, further below, say that each call of the source gives just that. That it ends and stays in its buffers is checked with its
 -- contract. Meets says the same of the routines of both calls for C.
 use Prim.Native.Nat.{ℕ, _*_, _<_, _≤_}
-use mathlib.Core.Path.{_≡_}
+use mathlib.Core.Path.{_≡_, _∙_}
 use mathlib.Core.Bool.{false}
 use mathlib.Core.Logic.{_↔_}
-use mathlib.Core.List.{List, []}
+use mathlib.Core.List.{List, [], _∷_, _++_}
 use lib.ListN.{length}
 use contract.Lifetimes.{Lfts}
 use denote.Ref.{now}
@@ -21,10 +21,12 @@ use Rattle.rules.specs.TypeFile.{Place, Element, typeFile}
 use Rattle.rules.specs.Judge.{samePlace, Answer, refusal, Legible, Refuses, Accepts, Judged}
 use Rattle.rules.specs.Events.{Event}
 use Rattle.rules.specs.Settling.{State, nothingOpen}
-use Rattle.rules.specs.Acts.{Acts, Passes, Few}
+use Rattle.rules.specs.Acts.{Acts, Deeds, IsStart, Took, Passes, Few}
 use Rattle.rules.specs.Reader.{BothLegible, Reads, RefusesBoth, ReadAs}
 use Rattle.rules.specs.Calls.{answerNumbers}
 use Rattle.acts.specs.Readings.{passes-acts, document-acts}
+use Rattle.acts.specs.Deeds.{acts-deeds}
+use Rattle.place_laws.specs.Taken.{deeds-took}
 use Rattle.demands.specs.Words.{Refusal, Acceptance, ModelOf, SomeAmbiguous, NamesFirst, NamesDecide, ReaderRefusal, ReaderAcceptance, SameVerdict}
 use Rattle.answer_laws.specs.Reader.{given-one, reading-one}
 use Rattle.demands.specs.Exists.{judged-some, read-some}
@@ -216,6 +218,27 @@ pub few-open-read : (c : Settings) (s d : List ℕ) (es : List Element) (ev : Li
 few-open-read c s d es ev x =
     let over = document-acts s es (x .decisions) d c ev (x .reading) in
     (over .last, over .acts, over .nothing, over .events)
+
+-- Paper 02, request seven: "Start events get a fifth number: the place they took in their parent's model, 0 for the document element; all other events
+-- carry 0 there", "under an accepted type no other place was possible for its name". Of each event e of a document that is read, with the events `before` it:
+-- these lead, by what each did (`Deeds` of the rules), to the state z, in whose current element, the parent, a start took its place (`Took`).
+pub places-taken : (c : Settings) (s d : List ℕ) (es : List Element) (ev : List Event) (x : Reads c s d es (got ev)) (before : List Event) (e : Event) (after : List Event) → ev ≡ before ++ e ∷ after
+    → (z : State) × Deeds s es (x .decisions) z × (z .events ≡ before) × (IsStart e → Took s es (z .current) e) × ((IsStart e → ⊥) → e .place ≡ 0)
+places-taken c s d es ev x before e after parts =
+    let over = document-acts s es (x .decisions) d c ev (x .reading) in
+    deeds-took s es (x .accepted) (x .decisions) (x .means) (acts-deeds s es (x .decisions) Deeds.nothing (over .acts)) before e after (over .events ∙ parts)
+
+-- So it is of the events that a call writes: those of `ReaderAcceptance`, which every accepted call gives.
+pub places-written : (l : Lent) (c : Settings) (s d lent : List ℕ) (a : Answer) (left : List ℕ) (w : ReaderAcceptance l c s d lent a left) (before : List Event) (e : Event) (after : List Event)
+    → w .events ≡ before ++ e ∷ after
+    → (z : State) × Deeds s (w .elements) (w .read .decisions) z × (z .events ≡ before) × (IsStart e → Took s (w .elements) (z .current) e) × ((IsStart e → ⊥) → e .place ≡ 0)
+places-written l c s d lent a left w = places-taken c s d (w .elements) (w .events) (w .read)
+
+-- All that a document does to the open elements, event by event: a start took a place and opened its element, an end closed a complete one, data fitted.
+pub events-did : (c : Settings) (s d : List ℕ) (es : List Element) (ev : List Event) (x : Reads c s d es (got ev)) → (z : State) × Deeds s es (x .decisions) z × (z .around ≡ []) × (z .events ≡ ev)
+events-did c s d es ev x =
+    let over = document-acts s es (x .decisions) d c ev (x .reading) in
+    (over .last, acts-deeds s es (x .decisions) Deeds.nothing (over .acts), over .nothing, over .events)
 
 -- Demand 3 by pairs at fault: a model is ambiguous exactly if it has one; of a model that was read, both its places are places of the model.
 pub pair-exactly : (s : List ℕ) (g : Group) (ps : List Place) → Ambiguous (samePlace s ps) g ↔ ((p : ℕ) × (q : ℕ) × PairAtFault (samePlace s ps) g p q)
