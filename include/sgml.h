@@ -18,7 +18,8 @@
  * Names.  Both calls take last how long a name may be: SGML_NAMELEN, which is 8, where nothing else is agreed, and up to
  *     SGML_MOST_NAMELEN, which is 32, for suppliers who declare a longer NAMELEN. Another number is SGML_ERR_SETTINGS, before anything
  *     else is looked at. Before 0.4.0 the calls did not take it, and 8 was what they went by: so a program that was written for 0.3.0
- *     passes SGML_NAMELEN as the last argument of both calls, and nothing else changes for it.
+ *     passes SGML_NAMELEN as the last argument of both calls, and nothing else changes for it. What was compiled for 0.3.0 is
+ *     compiled anew: it passes no length, and what a call takes for one is then not decided.
  * Events.  An event grew with 0.5.0: it has SGML_EVENT_SIZE numbers, which are five and were four before, so that SGML_EVENT_BYTES is 20
  *     and no more 16. The fifth is the place that a start took in the content model of its parent; the four before it are what they were. A
  *     program that goes by the names below is compiled again with this header, and nothing else changes for it; one that has 4 or 16 written

@@ -15,6 +15,7 @@ static uint32_t judged_with(uint32_t name_length, const char *text, size_t room,
     if (number) {
         check(all(buffer.bytes, room, 0), "a refusal zeroes the whole buffer, odd bytes too");
         check(answer[SGML_ANSWER_COUNT] == 0 && answer[SGML_ANSWER_INPUT] == SGML_IN_TYPE, "count and input of a refusal");
+        check(number != SGML_ERR_SETTINGS || answer[SGML_ANSWER_POSITION] == 0, "24 stands at 0");
     } else {
         used = answer[SGML_ANSWER_COUNT] * SGML_RECORD_SIZE * 4;
         check(answer[SGML_ANSWER_COUNT] == count, "count");
@@ -32,14 +33,16 @@ static uint32_t judged(const char *text, size_t room, size_t count)
     return judged_with(SGML_NAMELEN, text, room, count);
 }
 
-/* Names of 1 to 40 bytes where a name may have 0 to 40, and 4,294,967,295. */
+/* Names of 1 to 40 bytes under each length. */
 static void check_lengths(void)
 {
     static const char letters[] = "ABCDEFGHIJKLMNOPQRSTUVWXYZabcdefghijklmn";
+    static char too_long[SGML_TYPE_LIMIT + 2];
     char text[80];
     uint32_t k, n;
-    for (k = 0; k <= 41; k++) {
-        uint32_t length = k <= 40 ? k : UINT32_MAX;
+    memset(too_long, ' ', SGML_TYPE_LIMIT + 1);
+    for (k = 0; k < LENGTHS; k++) {
+        uint32_t length = length_at(k);
         int is_offered = length >= SGML_NAMELEN && length <= SGML_MOST_NAMELEN;
         for (n = 1; n <= 40; n++) {
             snprintf(text, sizeof text, "<!ELEMENT %.*s - O EMPTY>", (int)n, letters);
@@ -47,6 +50,7 @@ static void check_lengths(void)
                       (is_offered ? n <= length ? SGML_ACCEPTED : SGML_ERR_NAME_TOO_LONG : SGML_ERR_SETTINGS),
                   "a name of every length");
         }
+        check(judged_with(length, too_long, 3, 0) == (is_offered ? SGML_ERR_TOO_LONG : SGML_ERR_SETTINGS), "24 comes before 1");
         check(judged_with(length, "\001", 3, 0) == (is_offered ? SGML_ERR_BYTE : SGML_ERR_SETTINGS), "24 comes before 2");
         check(judged_with(length, "<!ELEMENTAL>", 3, 0) ==
                   (!is_offered ? SGML_ERR_SETTINGS : length < 9 ? SGML_ERR_NAME_TOO_LONG : SGML_ERR_LEFT_OUT),

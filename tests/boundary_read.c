@@ -48,6 +48,8 @@ static void check_answer(const uint32_t *answer, struct slice buffer)
     if (answer[SGML_ANSWER_NUMBER]) {
         check(all(buffer.bytes, buffer.length, 0), "a refusal zeroes the whole buffer, odd bytes too");
         check(answer[SGML_ANSWER_COUNT] == 0, "no events with a refusal");
+        check(answer[SGML_ANSWER_NUMBER] != SGML_ERR_SETTINGS || (answer[SGML_ANSWER_INPUT] == SGML_IN_TYPE && answer[SGML_ANSWER_POSITION] == 0),
+              "24 stands in the type at 0");
         check(answer[SGML_ANSWER_INPUT] == SGML_IN_TYPE || answer[SGML_ANSWER_INPUT] == SGML_IN_DOCUMENT, "a refusal names an input");
     } else {
         check(answer[SGML_ANSWER_INPUT] == SGML_IN_NEITHER && answer[SGML_ANSWER_POSITION] == 0, "input and position of an acceptance");
@@ -82,15 +84,17 @@ static uint32_t number_of(const char *type_text, const char *text, size_t room, 
     return number_with(SGML_NAMELEN, type_text, text, room, skew);
 }
 
-/* Tags with names of 1 to 40 bytes where a name may have 0 to 40, and 4,294,967,295. The element has the longest name that is allowed, so
- * a shorter one is not declared. */
+/* Tags with names of 1 to 40 bytes under each length. The element has the longest name that is allowed, so a shorter one is not
+ * declared. */
 static void check_lengths(void)
 {
     static const char letters[] = "ABCDEFGHIJKLMNOPQRSTUVWXYZabcdefghijklmn";
+    static char too_long[SGML_TYPE_LIMIT + 2];
     char type[80], document[64];
     uint32_t k, n;
-    for (k = 0; k <= 41; k++) {
-        uint32_t length = k <= 40 ? k : UINT32_MAX;
+    memset(too_long, ' ', SGML_TYPE_LIMIT + 1);
+    for (k = 0; k < LENGTHS; k++) {
+        uint32_t length = length_at(k);
         int is_offered = length >= SGML_NAMELEN && length <= SGML_MOST_NAMELEN;
         uint32_t above = is_offered ? SGML_ERR_NAME_TOO_LONG : SGML_ERR_SETTINGS, below = is_offered ? SGML_ERR_UNDECLARED : SGML_ERR_SETTINGS;
         snprintf(type, sizeof type, "<!ELEMENT %.*s - O EMPTY>", is_offered ? (int)length : 8, letters);
@@ -100,6 +104,7 @@ static void check_lengths(void)
                       (is_offered && n == length ? SGML_ACCEPTED : n < length ? below : above),
                   "a tag of every length");
         }
+        check(number_with(length, too_long, "", 5, 0) == (is_offered ? SGML_ERR_TOO_LONG : SGML_ERR_SETTINGS), "24 comes before 1");
         check(number_with(length, "", "\001", 5, 0) == (is_offered ? SGML_ERR_BYTE : SGML_ERR_SETTINGS), "24 comes before 2");
     }
 }

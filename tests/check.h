@@ -32,6 +32,15 @@ static inline int all(const uint8_t *b, size_t n, uint8_t x)
     return 1;
 }
 
+/* Lengths of names: 0 to 40, and larger ones, some of which are 8 in their lowest bits. */
+enum { LENGTHS = 45 };
+
+static inline uint32_t length_at(uint32_t k)
+{
+    static const uint32_t larger[] = { 0x108, 0x10008, 0x80000008, UINT32_MAX };
+    return k <= 40 ? k : larger[k - 41];
+}
+
 /* A slice in memory of its own. */
 struct slice {
     uint8_t *memory, *bytes;

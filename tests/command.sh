@@ -171,9 +171,9 @@ if needs onsgmls opensp "onsgmls on the same documents"; then
         check "onsgmls on $c" agree examples/cabinet.type "examples/catalogues/$c.cat"
     done
     for v in tests/vectors/*/*; do
-        # onsgmls has short tags, and ignores a record end at the start and end of an element
+        # onsgmls has short tags, and ignores a record end at the start and end of an element.
         case $v in */bare-marks | */mixed/165 | */return-is-data) continue ;; esac
-        # nor is it given a declaration with another NAMELEN here
+        # It is given no declaration with another NAMELEN here.
         [ ! -e "$v/args" ] || continue
         [ "$(head -c 6 "$v/expected")" != events ] || check "onsgmls on $v" agree "$v/type.sgm" "$v/doc.sgm"
     done

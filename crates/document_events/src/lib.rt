@@ -14,7 +14,7 @@ ghost use mathlib.Core.Path.{_≡_};
 ghost use mathlib.Core.List.{List};
 ghost use Prim.Native.Nat.{_≤_};
 ghost use lib.ListN.{length};
-ghost use Rattle.rules.specs.Settings.{settings};
+ghost use Rattle.rules.specs.Settings.{settings, mostNameLength};
 ghost use Rattle.rules.specs.TypeFile.{Element};
 ghost use Rattle.delimiters.specs.Means.{Classes};
 ghost use Rattle.element_index.specs.Means.{Indexed};
@@ -51,7 +51,7 @@ pub fn events_of(
     numbers: &mut [u32],
     bytes: &mut [u8],
 ) -> Counted
-    requires { ⌜ Classes (now classes) × (long ≤ 32) × (length (now d) ≤ 65535) ⌝ }
+    requires { ⌜ Classes (now classes) × (long ≤ mostNameLength) × (length (now d) ≤ 65535) ⌝ }
     ensures { λ r. ⌜ ((es : List Element) → Indexed (now (s .entry)) es (now (elements .entry)) (now (index .entry)) → Tables (now (s .entry)) es (now (rows .entry)) (now (places .entry)) (now (facts .entry)) →
         EventsOf (settings long) (now (s .entry)) es (now (d .entry)) (now (numbers .entry)) (now (numbers .exit)) (now (bytes .entry)) (now (bytes .exit)) r) ⌝ }
 {

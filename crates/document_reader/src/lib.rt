@@ -36,8 +36,8 @@ pub enum Answer {
     InDocument(Fault),
 }
 
-// Number 24 of the settings, numbers 1 and 2 of both inputs, then the type: accepted with so many elements in `elements`, or refused. On refusal what `elements`
-// holds is not decided.
+// Number 24 of the settings, numbers 1 and 2 of both inputs, then the type: accepted with so many elements in `elements`, or refused. On
+// refusal what `elements` holds is not decided.
 fn judged(c: Settings, s: &[u8], d: &[u8], elements: &mut [u32; RECORDS]) -> Answer
     ensures { λ r. ⌜ Judges (settingsOf c) (now (s .entry)) (now (d .entry)) (now (elements .exit)) r ⌝ }
 {

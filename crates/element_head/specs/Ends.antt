@@ -1,5 +1,5 @@
 -- A name and a head that were read lie in the input, behind where they began.
-use Prim.Native.Nat.{ℕ, _≤_, _<_}
+use Prim.Native.Nat.{ℕ, _+_, _≤_, _<_}
 use mathlib.Core.Path.{_≡_, sym}
 use mathlib.Core.List.{List}
 use native.Mathlib.Omega.{arith}
@@ -16,17 +16,17 @@ use Rattle.element_head.specs.declared.HeadRead.the-variants as headRead
 use Rattle.element_head.specs.Heads.{headIn, headOf, HeadIn}
 
 -- A name that was read.
-pub name-in : {end i count e : ℕ} {r : Reached} → NameIn end i count r → r ≡ reached.At e → (i ≤ e) × (e ≤ end) × (count < 64)
-name-in h q = rw q at h
+pub name-in : (long : ℕ) {end i count e : ℕ} {r : Reached} → NameIn long end i count r → r ≡ reached.At e → (i ≤ e) × (e ≤ end) × (count < 64) × (e ≤ i + long)
+name-in long h q = rw q at h
 
 -- A head that was read, where the gap before its name began at `from`.
-pub head-in : (c : Settings) (s : List ℕ) (i e from count : ℕ) (r : HeadRead) → headOf r ≡ words c s i e → from ≤ i → i ≤ e → e ≤ length s → count < 64
-    → HeadIn (length s) from count r
-head-in c s i e from count (headRead.Read h) q a b d f =
+pub head-in : (c : Settings) (s : List ℕ) (i e from count : ℕ) (r : HeadRead) → headOf r ≡ words c s i e → from ≤ i → i ≤ e → e ≤ length s → count < 64 → e ≤ i + c .nameLength
+    → HeadIn (c .nameLength) (length s) from count r
+head-in c s i e from count (headRead.Read h) q a b d f l =
     let range = words-range c s i e (headIn h) d (sym q) in
     omega arith
-head-in c s i e from count (headRead.Refused f) q a b d g = tt
+head-in c s i e from count (headRead.Refused f) q a b d g l = tt
 
-pub head-within : {end from count : ℕ} {r : HeadRead} {h : here.Head} → HeadIn end from count r → r ≡ headRead.Read h
-    → (from ≤ h .at) × (h .at ≤ end) × (h .offset ≤ end) × (h .size ≤ end) × (count < 64)
-head-within h q = rw q at h
+pub head-within : (long : ℕ) {end from count : ℕ} {r : HeadRead} {h : here.Head} → HeadIn long end from count r → r ≡ headRead.Read h
+    → (from ≤ h .at) × (h .at ≤ end) × (h .offset ≤ end) × (h .size ≤ end) × (count < 64) × (h .size ≤ long)
+head-within long h q = rw q at h

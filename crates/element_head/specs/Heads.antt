@@ -29,6 +29,6 @@ abbrev pub headFault : HeadRead → Fault
 headFault (headRead.Read h) = record { number = 0; at = 0 }
 headFault (headRead.Refused f) = f
 
-abbrev pub HeadIn : (end from count : ℕ) → HeadRead → Type 0
-HeadIn end from count (headRead.Read h) = (from ≤ h .at) × (h .at ≤ end) × (h .offset ≤ end) × (h .size ≤ end) × (count < 64)
-HeadIn end from count (headRead.Refused f) = Unit {0}
+abbrev pub HeadIn : (long end from count : ℕ) → HeadRead → Type 0
+HeadIn long end from count (headRead.Read h) = (from ≤ h .at) × (h .at ≤ end) × (h .offset ≤ end) × (h .size ≤ end) × (count < 64) × (h .size ≤ long)
+HeadIn long end from count (headRead.Refused f) = Unit {0}

@@ -83,7 +83,7 @@ pub fn head_at(
     requires { ⌜ (at ≤ length (now s)) × (length (now s) ≤ 32768) × (count ≤ 64) ⌝ }
     ensures { λ r. ⌜ ((es : List rules.Element) → length es ≡ count → Recorded (now (elements .entry)) es →
         headOf r ≡ head (settings long) (now (s .entry)) at es) ⌝ }
-    ensures { λ r. ⌜ HeadIn (length (now (s .entry))) at count r ⌝ }
+    ensures { λ r. ⌜ HeadIn long (length (now (s .entry))) at count r ⌝ }
 {
     let g = gaps::gap_end(s, at);
     let Reached::At(i) = g else {

@@ -10,7 +10,7 @@ ghost use mathlib.Core.List.{List};
 ghost use Prim.Native.Nat.{_+_, _-_, _*_, _≤_, _<_};
 ghost use lib.ListN.{length, getD, replicate};
 ghost use Rattle.rules.specs.Bytes.{byteAt, sameText};
-ghost use Rattle.rules.specs.Settings.{Settings};
+ghost use Rattle.rules.specs.Settings.{Settings, mostNameLength};
 ghost use Rattle.rules.specs.TypeFile.{Element};
 ghost use Rattle.rules.specs.Judge.{Accepts};
 ghost use Rattle.rules.specs.Elements.{numberOf};
@@ -21,7 +21,7 @@ ghost use Rattle.element_index.specs.Means.{Judged, bucketOf, follows, I
 
 // The bucket of a name by its first byte and its length, 1 to 32. Letters that fold to one another are in the same.
 fn bucket(first: u8, size: usize) -> usize
-    requires { ⌜ (1 ≤ size) × (size ≤ 32) ⌝ }
+    requires { ⌜ (1 ≤ size) × (size ≤ mostNameLength) ⌝ }
     ensures { λ r. ⌜ (r ≡ 65 + bucketOf first size) × (r < INDEX) ⌝ }
 {
     65 + (size - 1) * 32 + numbers::wide(first % 32)
@@ -70,7 +70,7 @@ fn comes_next(
     k: ElementNo,
     size: usize,
 ) -> bool
-    requires { ⌜ size ≤ 32 ⌝ }
+    requires { ⌜ size ≤ mostNameLength ⌝ }
     ensures { λ r. ⌜ r ≡ follows (now (s .entry)) (now (elements .entry)) (before .0) (k .0) size ⌝ }
 {
     if k.0 <= before.0 {
@@ -93,7 +93,7 @@ pub fn find(
     at: usize,
     size: usize,
 ) -> Found
-    requires { ⌜ (1 ≤ size) × (size ≤ 32) × (at + size ≤ length (now t)) ⌝ }
+    requires { ⌜ (1 ≤ size) × (size ≤ mostNameLength) × (at + size ≤ length (now t)) ⌝ }
     ensures { λ r. ⌜ ((es : List Element) → Indexed (now (s .entry)) es (now (elements .entry)) (now (index .entry)) →
         (r .element .0 ≡ numberOf (now (s .entry)) es (now (t .entry)) at size) × (r .compared ≡ compared (now (s .entry)) es (now (t .entry)) at size)) ⌝ }
     ensures { λ r. ⌜ (r .element .0 ≤ 64) × (r .compared ≤ 64) ⌝ }
@@ -129,7 +129,7 @@ pub fn find(
 
 // The element k comes before those of its bucket that are there.
 fn put_index(s: &[u8], elements: &[u32; RECORDS], index: &mut [u8; INDEX], k: ElementNo)
-    requires { ⌜ (1 ≤ k .0) × (k .0 ≤ 64) × (1 ≤ getD (now elements) (6 * (k .0 - 1) + 1) 0) × (getD (now elements) (6 * (k .0 - 1) + 1) 0 ≤ 32) ⌝ }
+    requires { ⌜ (1 ≤ k .0) × (k .0 ≤ 64) × (1 ≤ getD (now elements) (6 * (k .0 - 1) + 1) 0) × (getD (now elements) (6 * (k .0 - 1) + 1) 0 ≤ mostNameLength) ⌝ }
     ensures { λ _. ⌜ now (index .exit) ≡ putIn (now (index .entry))
         (bucketOf (byteAt (now (s .entry)) (getD (now (elements .entry)) (6 * (k .0 - 1)) 0)) (getD (now (elements .entry)) (6 * (k .0 - 1) + 1) 0)) (k .0) ⌝ }
 {

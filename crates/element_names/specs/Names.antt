@@ -17,7 +17,7 @@ Recorded elements es = take (6 * length es) elements ≡ records es
 abbrev pub nameAt : List ℕ → ℕ → rules.Element
 nameAt elements k = record { at = getD elements (6 * k) 0; size = getD elements (6 * k + 1) 0; start = 0; end = 0; content = empty }
 
--- Whatever was declared before: a name that is read lies in the input, and one more element has room.
-abbrev pub NameIn : (end i count : ℕ) → Reached → Type 0
-NameIn end i count (reached.At e) = (i ≤ e) × (e ≤ end) × (count < 64)
-NameIn end i count (reached.Refused f) = Unit {0}
+-- Whatever was declared before: a name that is read lies in the input, one more element has room, and the name is no longer than a name may be.
+abbrev pub NameIn : (long end i count : ℕ) → Reached → Type 0
+NameIn long end i count (reached.At e) = (i ≤ e) × (e ≤ end) × (count < 64) × (e ≤ i + long)
+NameIn long end i count (reached.Refused f) = Unit {0}

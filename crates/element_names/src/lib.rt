@@ -69,7 +69,7 @@ pub fn declared(s: &[u8], elements: &[u32; RECORDS], count: usize, at: usize, si
 }
 
 // The name of the element, declared for the first time, at most the 64th. Where the table holds no records of elements the answer is
-// not decided, but that a name that is got lies in the input and is at most the 64th.
+// not decided, but that a name that is got lies in the input, has at most `long` bytes, and is at most the 64th.
 pub fn element_name(
     long: usize,
     s: &[u8],
@@ -80,7 +80,7 @@ pub fn element_name(
     requires { ⌜ (i ≤ length (now s)) × (length (now s) ≤ 32768) × (count ≤ 64) ⌝ }
     ensures { λ r. ⌜ ((es : List rules.Element) → length es ≡ count → Recorded (now (elements .entry)) es →
         reached r ≡ elementName (settings long) (now (s .entry)) i es) ⌝ }
-    ensures { λ r. ⌜ NameIn (length (now (s .entry))) i count r ⌝ }
+    ensures { λ r. ⌜ NameIn long (length (now (s .entry))) i count r ⌝ }
 {
     let b = text::byte(s, i);
     if text::is_letter(b) {

@@ -1,6 +1,8 @@
 -- What is known of the settings and of both inputs before they are read.
 use Prim.Native.Nat.{ℕ, _≤_}
+use mathlib.Core.Path.{_≡_}
 use mathlib.Core.Bool.{Bool, true, false}
+use mathlib.Core.Logic.{_⊎_}
 use mathlib.Core.List.{List}
 use lib.ListN.{length}
 use lib.Dec.{eqb}
@@ -32,5 +34,5 @@ RefusesAlways c s d a = (room : ℕ) → RefusesBoth c s d room a
 -- The settings are offered and both inputs legible, or a call is refused by 24, 1 or 2, as the order picks.
 abbrev pub Checks : rules.Settings → (s d : List ℕ) → Checked → Type 0
 Checks c s d checked.Legible = BothLegible c s d
-Checks c s d (checked.InType f) = (f .number ≤ 24) × RefusesAlways c s d (refusal (f .number) (f .at) 0 0)
+Checks c s d (checked.InType f) = ((f .number ≤ 2) ⊎ (f .number ≡ 24)) × RefusesAlways c s d (refusal (f .number) (f .at) 0 0)
 Checks c s d (checked.InDocument f) = (f .number ≤ 2) × RefusesAlways c s d (documentRefusal (f .number) (f .at))

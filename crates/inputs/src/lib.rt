@@ -11,7 +11,7 @@ pub struct Settings {
     pub name_length: usize,
 }
 
-// Whether a call takes these settings: names of at most 8 bytes, or more, to 32.
+// Whether a call takes these settings: the length that names may have is one from 8 to 32.
 pub fn is_offered(c: Settings) -> bool
     ensures { λ r. ⌜ r ≡ isOffered (settingsOf c) ⌝ }
 {

@@ -1,9 +1,9 @@
 // How large the tables are that are lent from crate to crate. A quantity of the paper that changes is changed here and in
-// `rules/specs/Bytes.antt`; `specs/Sizes.antt` has the same names for the laws. Places and elements' numbers, which stand in these tables, have a type
-// each, so that they cannot be mixed.
+// `rules/specs/Bytes.antt`, the longest name in `rules/specs/Settings.antt`; `specs/Sizes.antt` has the sizes for the laws. Places and elements'
+// numbers, which stand in these tables, have a type each, so that they cannot be mixed.
 
 // The longest name under any settings; the content tokens of a model; the declared elements.
-pub const NAMES_TO: usize = 32;
+pub const MOST_NAME_LENGTH: usize = 32;
 
 pub const GRPGTCNT: usize = 96;
 
@@ -37,7 +37,7 @@ pub const PROGRAM_ROOM: usize = 20480;
 pub const CONTENTS: usize = ELEMENTS + 1;
 
 // The elements by name: a link for each, and a bucket for each length of a name and each first letter.
-pub const INDEX: usize = CONTENTS + 32 * NAMES_TO;
+pub const INDEX: usize = CONTENTS + 32 * MOST_NAME_LENGTH;
 
 // The tables of a type: of each content and position a row of bits with the required place; of each content and place a name
 // and a link; of each content a place for each name, and three facts.

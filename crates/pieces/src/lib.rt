@@ -17,7 +17,7 @@ ghost use mathlib.Core.Path.{_≡_};
 ghost use mathlib.Core.List.{List};
 ghost use Prim.Native.Nat.{_+_, _≤_, _<_};
 ghost use lib.ListN.{length};
-ghost use Rattle.rules.specs.Settings.{settings};
+ghost use Rattle.rules.specs.Settings.{settings, mostNameLength};
 ghost use Rattle.rules.specs.TypeFile.{Element};
 ghost use Rattle.rules.specs.Elements.{numberOf};
 ghost use Rattle.last_places.specs.Last.{InRange};
@@ -45,7 +45,7 @@ fn undeclared(at: usize) -> Piece
 
 // The element that a tag names, or 0.
 fn tagged(s: &[u8], elements: &[u32; RECORDS], index: &[u8; INDEX], d: &[u8], t: Tag) -> ElementNo
-    requires { ⌜ (1 ≤ t .size) × (t .size ≤ 32) × (t .name + t .size ≤ length (now d)) ⌝ }
+    requires { ⌜ (1 ≤ t .size) × (t .size ≤ mostNameLength) × (t .name + t .size ≤ length (now d)) ⌝ }
     ensures { λ r. ⌜ ((es : List Element) → Indexed (now (s .entry)) es (now (elements .entry)) (now (index .entry)) →
         r .0 ≡ numberOf (now (s .entry)) es (now (d .entry)) (t .name) (t .size)) × (r .0 ≤ 64) ⌝ }
 {
@@ -68,7 +68,7 @@ pub fn piece_at(
     u: Place,
     at: usize,
 ) -> Piece
-    requires { ⌜ Classes (now classes) × (long ≤ 32) × (e .0 ≤ 64) × (u .0 ≤ 96) × (at < length (now d)) × (length (now d) ≤ 65535) ⌝ }
+    requires { ⌜ Classes (now classes) × (long ≤ mostNameLength) × (e .0 ≤ 64) × (u .0 ≤ 96) × (at < length (now d)) × (length (now d) ≤ 65535) ⌝ }
     ensures { λ r. ⌜ Onward (length (now (d .entry))) at r ⌝ }
     ensures { λ r. ⌜ ((es : List Element) → Indexed (now (s .entry)) es (now (elements .entry)) (now (index .entry)) → Tables (now (s .entry)) es (now (rows .entry)) (now (places .entry)) (now (facts .entry)) →
         InRange es (standing (e .0) (u .0)) → Finds (settings long) (now (s .entry)) es (now (d .entry)) (e .0) (u .0) at r) ⌝ }

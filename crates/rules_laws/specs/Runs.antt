@@ -1,7 +1,7 @@
 -- Where a run of data ends, and laws of it.
 use Prim.Native.Nat.{ℕ, zero, suc, _+_, _-_, _≤_, _<_}
 use mathlib.Core.Path.{_≡_, refl, sym, _∙_}
-use mathlib.Core.Bool.{Bool, true, false, _&&_, true≢false}
+use mathlib.Core.Bool.{Bool, true, false, _&&_}
 use mathlib.Core.List.{List}
 use native.Mathlib.Omega.{arith}
 use native.Mathlib.Nat.{add-zero, not-suc-le-zero}
@@ -72,17 +72,6 @@ runs-each (suc n) s i k h = by-test (isRun (anyPiece s i)) refl k h (runs-each n
         rw l (ih k (omega (arith, runs-more n s i e)))
     by-test false e k h ih = absurd (not-suc-le-zero (rw (runs-none (suc n) s i e) at h))
 
--- Two pieces go on a run alike, and are the same if they do.
-record Alike (r q : Reading Piece) : Type 0 where
-  pub going : isRun r ≡ isRun q
-  pub same : isRun q ≡ true → r ≡ q
-
-alike-refl : (r : Reading Piece) → Alike r r
-alike-refl r = record { going = refl; same = λ h. refl }
-
-alike-none : {r q : Reading Piece} → isRun r ≡ false → isRun q ≡ false → Alike r q
-alike-none a b = record { going = a ∙ sym b; same = λ h. absurd (true≢false (sym h ∙ b)) }
-
 -- The settings decide how long a name in a tag may be, and no tag goes on a run.
 pub start-stops : (r : Reading Tag) → isRun (andThen r (λ t. got (startTag t))) ≡ false
 start-stops (refused n k) = refl
@@ -91,6 +80,10 @@ start-stops (got t) = refl
 pub end-stops : (r : Reading Tag) → isRun (andThen r (λ t. got (endTag t))) ≡ false
 end-stops (refused n k) = refl
 end-stops (got t) = refl
+
+-- Two pieces go on a run alike.
+record Alike (r q : Reading Piece) : Type 0 where
+  pub going : isRun r ≡ isRun q
 
 branch : {x y u v : Reading Piece} (b : Bool) → Alike x u → Alike y v → Alike (elim b [ true ↦ x | false ↦ y ]) (elim b [ true ↦ u | false ↦ v ])
 branch true f g = f
@@ -101,16 +94,13 @@ module _ (c e : Settings) (d : List ℕ) (i : ℕ) where
   unfolding markupPiece
   markup-alike =
       let b = byteAt d (i + 1) in
-      branch (letter b) (alike-none (start-stops (tag c d (i + 1))) (start-stops (tag e d (i + 1))))
-      (branch (eqb b SOLIDUS && letter (byteAt d (i + 2))) (alike-none (end-stops (tag c d (i + 2))) (end-stops (tag e d (i + 2)))) (alike-refl _))
+      branch (letter b) (record { going = start-stops (tag c d (i + 1)) ∙ sym (start-stops (tag e d (i + 1))) })
+      (branch (eqb b SOLIDUS && letter (byteAt d (i + 2))) (record { going = end-stops (tag c d (i + 2)) ∙ sym (end-stops (tag e d (i + 2))) }) (record { going = refl }))
 
   piece-alike : Alike (piece c d i) (piece e d i)
   unfolding piece
-  piece-alike = branch (eqb (byteAt d i) STAGO) markup-alike (alike-refl _)
+  piece-alike = branch (eqb (byteAt d i) STAGO) markup-alike (record { going = refl })
 
--- Whether a piece goes on a run does not ask the settings, and neither does a piece that does.
+-- Whether a piece goes on a run does not ask the settings.
 pub run-any : (c : Settings) (d : List ℕ) (i : ℕ) → isRun (piece c d i) ≡ isRun (anyPiece d i)
 run-any c d i = piece-alike c anySettings d i .going
-
-pub run-same : (c : Settings) (d : List ℕ) (i : ℕ) → isRun (anyPiece d i) ≡ true → piece c d i ≡ anyPiece d i
-run-same c d i = piece-alike c anySettings d i .same

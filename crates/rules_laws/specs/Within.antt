@@ -35,10 +35,3 @@ module _ (c : Settings) (s : List ℕ) where
 
   pub typeFile-count : (es : List Element) → typeFile c s ≡ got es → (1 ≤ length es) × (length es ≤ elementLimit)
   typeFile-count es e = omega (arith, typeFile-elements es e)
-
-  -- No name of an element is longer than the settings say.
-  short-more : (es : List Element) (e : Element) → All (λ (x : Element). x .size ≤ c .nameLength) es → Declares c s es e → All (λ (x : Element). x .size ≤ c .nameLength) (es ++ e ∷ [])
-  short-more es e a d = all-snoc a (d .short)
-
-  pub typeFile-short : (es : List Element) → typeFile c s ≡ got es → All (λ (x : Element). x .size ≤ c .nameLength) es
-  typeFile-short es e = got-so (typeFile-holds c s (All (λ (x : Element). x .size ≤ c .nameLength)) short-more none) e .1

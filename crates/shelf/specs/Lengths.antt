@@ -1,4 +1,4 @@
--- Names as long as the caller says (paper 02, request six): type files and tags with names at the given length and one longer, in one statement.
+-- Names as long as the caller says (paper 02, request six): type files, and tags, with names at the given length and one longer, each as one statement over a list.
 use Prim.Native.Nat.{ℕ, _+_}
 use Prim.Native.String.{String}
 use mathlib.Core.Path.{_≡_, refl}

@@ -133,7 +133,8 @@ fn declaration_at(
     refusal(4, i)
 }
 
-// The whole type file, where names are at most `long` bytes long. What stands in `elements` behind the records of its elements, and in all of it on refusal, is not decided.
+// The whole type file, where a name may have at most `long` bytes. What stands in `elements` behind the records of its elements, and in
+// all of it on refusal, is not decided.
 pub fn file_read(long: usize, s: &[u8], elements: &mut [u32; RECORDS]) -> Step
     requires { ⌜ length (now s) ≤ 32768 ⌝ }
     ensures { λ r. ⌜ MeetsFile (now (s .entry)) (now (elements .exit)) r (typeFile (settings long) (now (s .entry))) ⌝ }

@@ -22,7 +22,7 @@ pub enum Verdict {
 
 // The verdict on a type file whose length and bytes were looked at, where the lent buffer has room for so many numbers: if
 // accepted, the elements are recorded in `elements`; what stands behind their records, and in all of it on refusal, is not
-// decided. Nor is the verdict where a byte is not allowed.
+// decided. Nor is the verdict where a byte is not allowed or the settings are not offered.
 pub fn decide_legible(c: Settings, s: &[u8], room: usize, elements: &mut [u32; RECORDS]) -> Verdict
     requires { ⌜ length (now s) ≤ 32768 ⌝ }
     ensures { λ r. ⌜ (Legible (settingsOf c) (now (s .entry)) → Decides (settingsOf c) (now (s .entry)) room (now (elements .exit)) r) ⌝ }

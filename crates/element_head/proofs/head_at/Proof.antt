@@ -1,5 +1,5 @@
 -- `head_at` meets its contract, whatever is recorded: what was read so far, and what each refusal passes on.
-use Prim.Native.Nat.{_≤_, _<_}
+use Prim.Native.Nat.{_+_, _≤_, _<_}
 use mathlib.Core.Path.{_≡_, sym, _∙_}
 use lib.ListN.{length}
 use borrow.Author.Needs.{needs}
@@ -70,7 +70,8 @@ name-read : (c : tie.After-known-told2)
     → (c .before .before .before .before .before .g .given .0 .0 ≤ c .before .n .given .0 .0)
     × (c .before .n .given .0 .0 ≤ length (c .before .before .before .before .before .before .before .before .before .args .s .now))
     × (c .before .before .before .before .before .before .before .before .before .args .count < 64)
-name-read c = name-in (c .before .before .before .element-name .ensures .1) (c .before .n .given .1)
+    × (c .before .n .given .0 .0 ≤ c .before .before .before .before .before .g .given .0 .0 + c .before .before .before .before .before .before .before .before .before .args .long)
+name-read c = name-in _ (c .before .before .before .element-name .ensures .1) (c .before .n .given .1)
 
 words-at-requires : tie.Need-words-at-requires
 words-at-requires c κs =
@@ -86,7 +87,7 @@ returns-3 c =
       λ es n r.
           c .words-at .ensures
           ∙ sym (head-words (settings (a .long)) (a .s .now) (a .at) es (gap-read read) (reached-got (name .before .before .before .element-name .ensures .0 es n r) (name .before .n .given .1))),
-      head-in (settings (a .long)) (a .s .now) _ _ (a .at) (a .count) (c .words-at .result) (c .words-at .ensures) (gap-in read .0) (size .0) (size .1) (size .2),
+      head-in (settings (a .long)) (a .s .now) _ _ (a .at) (a .count) (c .words-at .result) (c .words-at .ensures) (gap-in read .0) (size .0) (size .1) (size .2) (size .3),
     )
 
 pub head-at-spec : {M : Type 1} → statement M

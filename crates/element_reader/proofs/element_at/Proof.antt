@@ -42,7 +42,8 @@ head-read : (c : tie.After-known-told)
     × (c .before .r .given .0 .0 .offset ≤ length (start c .args .s .now))
     × (c .before .r .given .0 .0 .size ≤ length (start c .args .s .now))
     × (start c .args .count < 64)
-head-read c = head-within (c .before .before .before .head-at .ensures .1) (c .before .r .given .1)
+    × (c .before .r .given .0 .0 .size ≤ start c .args .long)
+head-read c = head-within _ (c .before .before .before .head-at .ensures .1) (c .before .r .given .1)
 
 rest-at-requires : tie.Need-rest-at-requires
 rest-at-requires c κs =

@@ -1,6 +1,7 @@
 -- `check` meets its contract: each way by the tests that led there.
 use mathlib.Core.Path.{_≡_, refl, sym, _∙_}
 use mathlib.Core.Bool.{true}
+use mathlib.Core.Logic.{inl, inr}
 use native.Mathlib.Omega.{arith}
 use borrow.Author.Tests.{not-true, not-false}
 use Rattle.rules.specs.Settings.{isOffered}
@@ -16,14 +17,14 @@ is-offered-requires : tie.Need-is-offered-requires
 is-offered-requires c κs = search needs
 
 returns : tie.Need-returns
-returns c = (omega arith, λ room. RefusesBoth.notOffered (sym (c .before .is-offered .ensures) ∙ not-true _ (c .if1 .taken)) refl)
+returns c = (inr refl, λ room. RefusesBoth.notOffered (sym (c .before .is-offered .ensures) ∙ not-true _ (c .if1 .taken)) refl)
 
 -- The settings are offered.
 offered : (c : tie.Else1) → isOffered (settingsOf (c .before .before .before .before .args .c)) ≡ true
 offered c = sym (c .before .is-offered .ensures) ∙ not-false _ (c .if1 .left)
 
 returns-2 : tie.Need-returns-2
-returns-2 c = (omega arith, λ room. RefusesBoth.typeTooLong (offered (c .before)) (omega arith) refl)
+returns-2 c = (inl (omega arith), λ room. RefusesBoth.typeTooLong (offered (c .before)) (omega arith) refl)
 
 returns-3 : tie.Need-returns-3
 returns-3 c = (omega arith, λ room. RefusesBoth.documentTooLong (offered (c .before .before)) (omega arith) (omega arith) refl)
@@ -34,7 +35,7 @@ allowed-end-requires c κs = search needs
 returns-4 : tie.Need-returns-4
 returns-4 c =
     let e = c .before .allowed-end .ensures in
-    (omega arith, λ room. RefusesBoth.typeNotAllowed (offered (c .before .before .before .before)) (omega arith) (omega arith) (omega arith) (rw e))
+    (inl (omega arith), λ room. RefusesBoth.typeNotAllowed (offered (c .before .before .before .before)) (omega arith) (omega arith) (omega arith) (rw e))
 
 -- The settings are offered, neither input is too long, and the type's bytes are allowed.
 legible : (c : tie.Else4) → let a = c .before .before .before .before .before .before .before .before .args in Legible (settingsOf (a .c)) (a .s .now)
