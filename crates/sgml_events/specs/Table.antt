@@ -11,7 +11,7 @@ use Rattle.rules.specs.Lent.{numbers, filledWith}
 use Rattle.rules.specs.TypeFile.{Element}
 use Rattle.rules.specs.Judge.{Answer, records, Accepts, Judged, accepts}
 use Rattle.rules.specs.Elements.{elementAt}
-use Rattle.rules.specs.Events.{Event}
+use Rattle.rules.specs.Events.{Event, eventWidth}
 use Rattle.rules.specs.Reader.{eventNumbers}
 use Rattle.numbers.specs.Laws.{records-length, lent-length}
 use Rattle.rules_laws.specs.Within.{typeFile-count}
@@ -91,20 +91,20 @@ module _ (s : List ℕ) (es : List Element) (accepted : Accepts (settings 8) s e
 
 -- The lines by the numbers of the lent buffer are the lines of the events.
 module _ (s : List ℕ) (es : List Element) (elements : List ℕ) (names : (k : ℕ) → nameIn s elements k ≡ nameText s es k) (buffer rest : List ℕ) where
-  line-is : (e : Event) (ev : List Event) (i : ℕ) → drop (4 * i) buffer ≡ eventNumbers (e ∷ ev) ++ rest
-      → lineAt s elements buffer (4 * i) ≡ line (e .kind) (nameText s es (e .number)) (e .offset) (e .size)
+  line-is : (e : Event) (ev : List Event) (i : ℕ) → drop (eventWidth * i) buffer ≡ eventNumbers (e ∷ ev) ++ rest
+      → lineAt s elements buffer (eventWidth * i) ≡ line (e .kind) (nameText s es (e .number)) (e .offset) (e .size)
   unfolding eventNumbers lineAt
   line-is e ev i q =
-      let number : (j : ℕ) → getD buffer (4 * i + j) 0 ≡ getD (eventNumbers (e ∷ ev) ++ rest) j 0 = λ j. sym (getD-drop (4 * i) buffer j 0) ∙ ap (λ (l : List ℕ). getD l j 0) q in
-      let first : 4 * i + 0 ≡ 4 * i = omega arith in
+      let number : (j : ℕ) → getD buffer (eventWidth * i + j) 0 ≡ getD (eventNumbers (e ∷ ev) ++ rest) j 0 = λ j. sym (getD-drop (eventWidth * i) buffer j 0) ∙ ap (λ (l : List ℕ). getD l j 0) q in
+      let first : eventWidth * i + 0 ≡ eventWidth * i = omega arith in
       rw (rw first at (number 0), number 1, number 2, number 3, names (e .number))
 
-  lines-from : (ev : List Event) (i : ℕ) → drop (4 * i) buffer ≡ eventNumbers ev ++ rest → linesFrom s elements buffer (length ev) i ≡ eventLines s es ev
+  lines-from : (ev : List Event) (i : ℕ) → drop (eventWidth * i) buffer ≡ eventNumbers ev ++ rest → linesFrom s elements buffer (length ev) i ≡ eventLines s es ev
   unfolding eventNumbers linesFrom eventLines
   lines-from [] i q = refl
   lines-from (e ∷ ev) i q =
-      let next : 4 * (i + 1) ≡ 4 * i + 4 = omega arith in
-      let more : drop (4 * (i + 1)) buffer ≡ eventNumbers ev ++ rest = rw (next, ← drop-drop 4 (4 * i) buffer, q) in
+      let next : eventWidth * (i + 1) ≡ eventWidth * i + eventWidth = omega arith in
+      let more : drop (eventWidth * (i + 1)) buffer ≡ eventNumbers ev ++ rest = rw (next, ← drop-drop eventWidth (eventWidth * i) buffer, q) in
       rw (line-is e ev i q, lines-from ev (i + 1) more)
 
   pub lines-are : (ev : List Event) → buffer ≡ eventNumbers ev ++ rest → linesFrom s elements buffer (length ev) 0 ≡ eventLines s es ev
