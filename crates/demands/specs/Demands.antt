@@ -19,7 +19,7 @@ use Rattle.rules.specs.Walk.{Group}
 use Rattle.rules.specs.Ambiguity.{Ambiguous, PairAtFault}
 use Rattle.rules.specs.TypeFile.{Place, Element, typeFile}
 use Rattle.rules.specs.Judge.{samePlace, Answer, refusal, Legible, Refuses, Accepts, Judged}
-use Rattle.rules.specs.Events.{Event}
+use Rattle.rules.specs.Events.{Event, eventWidth}
 use Rattle.rules.specs.Settling.{State, nothingOpen}
 use Rattle.rules.specs.Acts.{Acts, Deeds, IsStart, Took, Passes, Few}
 use Rattle.rules.specs.Reader.{BothLegible, Reads, RefusesBoth, ReadAs}
@@ -78,11 +78,11 @@ pub record ReaderKeeps (l : Lent) (c : Settings) (s d before : List ℕ) (a : An
   pub refusal-whole : (a .number ≡ 0 → ⊥) → ReaderRefusal s d before a after
   pub same-length : length after ≡ length before
   -- Demand 2: a document is accepted exactly when paper 01's rules accept it, with exactly their events.
-  pub accepted-exactly : (a .number ≡ 0) ↔ ((es : List Element) × (ev : List Event) × Reads c s d es (got ev) × (4 * length ev ≤ room l before))
+  pub accepted-exactly : (a .number ≡ 0) ↔ ((es : List Element) × (ev : List Event) × Reads c s d es (got ev) × (eventWidth * length ev ≤ room l before))
   pub acceptance-whole : a .number ≡ 0 → ReaderAcceptance l c s d before a after
   pub refused-exactly : (a .number ≡ 0 → ⊥) ↔ RefusesBoth c s d (room l before) a
   pub order-picks : (b : Answer) → RefusesBoth c s d (room l before) b → a ≡ b
-  pub too-small-exactly : (a .number ≡ 19) ↔ ((es : List Element) × (ev : List Event) × Reads c s d es (got ev) × (room l before < 4 * length ev))
+  pub too-small-exactly : (a .number ≡ 19) ↔ ((es : List Element) × (ev : List Event) × Reads c s d es (got ev) × (room l before < eventWidth * length ev))
   -- Paper 02, request six, as for the judge.
   pub not-offered : isOffered c ≡ false → a ≡ refusal 24 0 0 0
   pub not-offered-exactly : (a .number ≡ 24) ↔ (isOffered c ≡ false)
