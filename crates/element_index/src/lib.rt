@@ -110,6 +110,7 @@ pub fn find(
     let mut k = ElementNo(numbers::wide(index[bucket(first, size)]));
     let mut n = 0;
     while comes_next(s, elements, before, k, size) {
+        let i = k.0;
         if same_name(s, offset(elements, k), t, at, size) {
             return Found {
                 element: k,
@@ -118,7 +119,6 @@ pub fn find(
         }
         n += 1;
         before = k;
-        let i = k.0;
         k = ElementNo(numbers::wide(index[i]));
     }
     Found {

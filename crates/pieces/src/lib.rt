@@ -74,6 +74,7 @@ pub fn piece_at(
         InRange es (standing (e .0) (u .0)) → Finds (settings long) (now (s .entry)) es (now (d .entry)) (e .0) (u .0) at r) ⌝ }
 {
     let t = document_text::token_at(long, classes, d, at);
+    let data = ElementNo(0);
     match t {
         Token::StartTag(g) => {
             let x = tagged(s, elements, index, d, g);
@@ -91,17 +92,13 @@ pub fn piece_at(
         }
         Token::Skipped(j) => Piece::Passed(j),
         Token::Blank => {
-            let data = ElementNo(0);
             let p = type_tables::fitting(rows, places, facts, e, u, data);
             if p.0 == 0 {
                 return Piece::Passed(at + 1);
             }
             Piece::Token(data, data_runs::run_end(classes, d, at + 1))
         }
-        Token::Data => {
-            let data = ElementNo(0);
-            Piece::Token(data, data_runs::run_end(classes, d, at + 1))
-        }
+        Token::Data => Piece::Token(data, data_runs::run_end(classes, d, at + 1)),
         Token::Refused(f) => Piece::Refused(f),
     }
 }

@@ -73,8 +73,8 @@ enum-told c = search needs
 fitting-requires : tie.Need-fitting-requires
 fitting-requires c κs = (c .before .before .before .before .before .pre .2, c .before .before .before .before .before .pre .3, omega arith)
 
-add-t27 : tie.Need-add-t27
-add-t27 c = omega (arith, c .before .before .before .before .before .before .before .before .pre .4, c .before .before .before .before .before .before .before .before .pre .5)
+add-t26 : tie.Need-add-t26
+add-t26 c = omega (arith, c .before .before .before .before .before .before .before .before .pre .4, c .before .before .before .before .before .before .before .before .pre .5)
 
 returns-3 : tie.Need-returns-3
 returns-3 c = (
@@ -151,7 +151,7 @@ piece-at-spec =
     enum-known-t-3
     enum-told
     fitting-requires
-    add-t27
+    add-t26
     returns-3
     add-run-end
     run-end-requires
