@@ -50,7 +50,7 @@ module _ (s : List ℕ) (es : List Element) (D : Decisions) where
   deed-left : {z y : State} → Deed s es D z y → (e : Event) × (y .events ≡ z .events ++ e ∷ []) × (y ≡ left e z)
   deed-left {z} (opened k at after d f m) = (startWritten k at after (placeTaken (takeToken s es D (start k) z .current)), refl, rw m)
   deed-left {z} (passed k at after d f m l) = (startWritten k at after (placeTaken (takeToken s es D (start k) z .current)), refl, rw m)
-  deed-left (past k at after p ev e) = (endOfEmpty k after, refl, refl)
+  deed-left (past k at after p ev m e) = (endOfEmpty k after, refl, refl)
   deed-left {z} (inferred k at e l) = (startInferred k at (placeTaken (takePlace (requiredPlace s es D (z .current)) z .current)), refl, refl)
   deed-left {z} (fitted at size l f) = (dataRun at size, ap (λ (ev : List Event). ev ++ dataRun at size ∷ []) (data-keeps size z), refl)
   deed-left {z} (inferred-end u us at e c o) = (endInferred (z .current .number) at, refl, rw e)

@@ -119,7 +119,7 @@ module _ {c : Settings} (s : List ℕ) (es : List Element) (accepted : Accepts c
     deed-begun {z} b (passed k at after d f m l) =
         let r = begun-moves s es D D means means .taking (refl, b) _ (fits (start k) f) .1 in
         record { current = r .current; around = r .around }
-    deed-begun b (past k at after p ev e) = record { current = b .current; around = b .around }
+    deed-begun b (past k at after p ev m e) = record { current = b .current; around = b .around }
     deed-begun {z} b (inferred k at e l) =
         let may = inferable-may s es D (z .current) (rw e (le-leb 1 k l)) in
         let r = begun-moves s es D D means means .enter (begun-moves s es D D means means .taking (refl, b) _ (required (may .place))) k (rw e at (may .model)) .1 in
@@ -169,7 +169,7 @@ module _ {c : Settings} (s : List ℕ) (es : List Element) (accepted : Accepts c
     deed-adds : {z y : State} → AllBegun es z → Deed s es D z y → Adds z y
     deed-adds {z} b (opened k at after d f m) = record { event = _; behind = refl; took = λ i. fits-took z b k d f _ refl refl; other = λ n. absurd (n (inl refl)) }
     deed-adds {z} b (passed k at after d f m l) = record { event = _; behind = refl; took = λ i. fits-took z b k d f _ refl refl; other = λ n. absurd (n (inl refl)) }
-    deed-adds b (past k at after p ev e) = record { event = _; behind = refl; took = no-start 6 (omega arith); other = λ n. refl }
+    deed-adds b (past k at after p ev m e) = record { event = _; behind = refl; took = no-start 6 (omega arith); other = λ n. refl }
     deed-adds {z} b (inferred k at e l) = record { event = _; behind = refl; took = λ i. required-took z b k e l _ refl refl; other = λ n. absurd (n (inr refl)) }
     deed-adds {z} b (fitted at size l f) = record { event = dataRun at size; behind = ap (λ (ev : List Event). ev ++ dataRun at size ∷ []) (data-same size z); took = no-start 5 (omega arith); other = λ n. refl }
     deed-adds b (inferred-end u us at e c o) = record { event = _; behind = refl; took = no-start 4 (omega arith); other = λ n. refl }

@@ -67,7 +67,7 @@ pub data Deed (s : List ℕ) (es : List Element) (D : Decisions) (z : State) : S
   passed : (k at after : ℕ) → Declared es k → 1 ≤ fitting s es D (z .current) (start k) → hasModel (contentOf es k) ≡ false → length (z .around) < TAGLVL
       → Deed s es D z (note (startWritten k at after (placeTaken (takeToken s es D (start k) z .current))) (takeToken s es D (start k) z))
   -- The end of an EMPTY element comes right behind its start tag, and closed nothing.
-  past : (k at after place : ℕ) (ev : List Event) → z .events ≡ ev ++ startWritten k at after place ∷ [] → Deed s es D z (note (endOfEmpty k after) z)
+  past : (k at after place : ℕ) (ev : List Event) → hasModel (contentOf es k) ≡ false → z .events ≡ ev ++ startWritten k at after place ∷ [] → Deed s es D z (note (endOfEmpty k after) z)
   -- A start that is inferred took the required place, and opened the element that is named there.
   inferred : (k at : ℕ) → inferable s es D (z .current) ≡ k → 1 ≤ k
       → Deed s es D z (note (startInferred k at (placeTaken (takePlace (requiredPlace s es D (z .current)) z .current))) (enter k (takePlace (requiredPlace s es D (z .current)) z)))
