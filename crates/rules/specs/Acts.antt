@@ -91,7 +91,7 @@ pub data Deeds (s : List ℕ) (es : List Element) (D : Decisions) : State → Ty
 abbrev pub IsStart : Event → Type 0
 IsStart e = (e .kind ≡ 1) ⊎ (e .kind ≡ 2)
 
--- "Start events get a fifth number: the place they took in their parent's model, 0 for the document element." The parent, where places were taken before,
+-- "Start events get a fifth number: the place they took in their parent's model, 0 for the document element". The parent, where places were taken before,
 -- is the document itself, and the element is the first that is declared; or it is an element whose model has that place: it has the name of the start's
 -- element, it could come next after the places taken, and every place of that name that could come next is this one.
 pub data Took (s : List ℕ) (es : List Element) (parent : Open) (e : Event) : Type 0 where
