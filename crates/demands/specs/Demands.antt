@@ -223,9 +223,9 @@ few-open-read c s d es ev x =
 
 -- Paper 02, request seven: "Start events get a fifth number: the place they took in their parent's model, 0 for the document element; all other events
 -- carry 0 there", "under an accepted type no other place was possible for its name". Of each event e of a document that is read, with the events `before` it:
--- these lead, by what each did (`Deeds` of the rules), to the state z, in whose current element, the parent, a start took its place (`Took`).
+-- where it is a start, these lead, by what each did (`Deeds` of the rules), to the state z, in whose current element, the parent, it took its place (`Took`).
 pub places-taken : (c : Settings) (s d : List ℕ) (es : List Element) (ev : List Event) (x : Reads c s d es (got ev)) (before : List Event) (e : Event) (after : List Event) → ev ≡ before ++ e ∷ after
-    → (z : State) × Deeds s es (x .decisions) z × (z .events ≡ before) × (IsStart e → Took s es (z .current) e) × ((IsStart e → ⊥) → e .place ≡ 0)
+    → (IsStart e → (z : State) × Deeds s es (x .decisions) z × (z .events ≡ before) × Took s es (z .current) e) × ((IsStart e → ⊥) → e .place ≡ 0)
 places-taken c s d es ev x before e after parts =
     let over = document-acts s es (x .decisions) d c ev (x .reading) in
     deeds-took s es (x .accepted) (x .decisions) (x .means) (acts-deeds s es (x .decisions) Deeds.nothing (over .acts)) before e after (over .events ∙ parts)
@@ -233,7 +233,7 @@ places-taken c s d es ev x before e after parts =
 -- So it is of the events that a call writes: those of `ReaderAcceptance`, which every accepted call gives.
 pub places-written : (l : Lent) (c : Settings) (s d lent : List ℕ) (a : Answer) (left : List ℕ) (w : ReaderAcceptance l c s d lent a left) (before : List Event) (e : Event) (after : List Event)
     → w .events ≡ before ++ e ∷ after
-    → (z : State) × Deeds s (w .elements) (w .read .decisions) z × (z .events ≡ before) × (IsStart e → Took s (w .elements) (z .current) e) × ((IsStart e → ⊥) → e .place ≡ 0)
+    → (IsStart e → (z : State) × Deeds s (w .elements) (w .read .decisions) z × (z .events ≡ before) × Took s (w .elements) (z .current) e) × ((IsStart e → ⊥) → e .place ≡ 0)
 places-written l c s d lent a left w = places-taken c s d (w .elements) (w .events) (w .read)
 
 -- There is no other such state: what the same events did is one state.
