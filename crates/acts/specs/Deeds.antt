@@ -11,7 +11,7 @@ use Rattle.rules.specs.TypeFile.{Element}
 use Rattle.rules.specs.Decisions.{pcdata, Decisions}
 use Rattle.rules.specs.Events.{Event, dataRun, withData}
 use Rattle.rules.specs.Settling.{State, nothingOpen, note, fitting, takeToken}
-use Rattle.rules.specs.Acts.{Act, starts, empties, infers, data-byte, infers-end, ends, Acts, still, next, dataTaken, Deed, opened, passed, past, inferred, fitted, inferred-end, closed, Deeds, nothing, then}
+use Rattle.rules.specs.Acts.{Act, starts, empties, infers, data-byte, infers-end, ends, Acts, still, next, dataTaken, Deed, opened, passed, inferred, fitted, inferred-end, closed, Deeds, nothing, then}
 
 -- A data byte behind an event: the run that ends where it stands goes on, or it begins a new one.
 withData-behind : (at : ℕ) (ev : List Event) (e : Event) → withData at (ev ++ e ∷ []) ≡ elim (eqb (e .kind) 5 && eqb (e .offset + e .size) at) [ true ↦ ev ++ dataRun (e .offset) (e .size + 1) ∷ [] | false ↦ (ev ++ e ∷ []) ++ dataRun at 1 ∷ [] ]
@@ -63,8 +63,7 @@ module _ (s : List ℕ) (es : List Element) (D : Decisions) where
   unfolding withData
   datum-deeds at nothing f = run-begins at nothingOpen nothing f refl
   datum-deeds at {y} (then {z} d (opened k i j x g m)) f = run-begins at y (then d (opened k i j x g m)) f (withData-behind at (z .events) _)
-  datum-deeds at {y} (then {z} d (passed k i j x g m l)) f = run-begins at y (then d (passed k i j x g m l)) f (withData-behind at (z .events) _)
-  datum-deeds at {y} (then {z} d (past k i j p ev e)) f = run-begins at y (then d (past k i j p ev e)) f (withData-behind at (z .events) _)
+  datum-deeds at {y} (then {z} d (passed k i j x g m l)) f = run-begins at y (then d (passed k i j x g m l)) f (withData-behind at (z .events ++ _ ∷ []) _)
   datum-deeds at {y} (then {z} d (inferred k i e l)) f = run-begins at y (then d (inferred k i e l)) f (withData-behind at (z .events) _)
   datum-deeds at {y} (then {z} d (inferred-end u us i e c o)) f = run-begins at y (then d (inferred-end u us i e c o)) f (withData-behind at (z .events) _)
   datum-deeds at {y} (then {z} d (closed u us i j e c)) f = run-begins at y (then d (closed u us i j e c)) f (withData-behind at (z .events) _)
@@ -82,7 +81,7 @@ module _ (s : List ℕ) (es : List Element) (D : Decisions) where
   -- What an act did, event by event.
   act-deeds : {z y : State} → Deeds s es D z → Act s es D z y → Deeds s es D y
   act-deeds d (starts k at after x f m) = then d (opened k at after x f m)
-  act-deeds {z} d (empties k at after x f m l) = then (then d (passed k at after x f m l)) (past k at after _ (z .events) refl)
+  act-deeds d (empties k at after x f m l) = then d (passed k at after x f m l)
   act-deeds d (infers k at e l) = then d (inferred k at e l)
   act-deeds d (data-byte at f) = datum-deeds at d f
   act-deeds d (infers-end u us at e c o) = then d (inferred-end u us at e c o)

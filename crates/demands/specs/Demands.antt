@@ -4,7 +4,7 @@
 -- contract. Meets says the same of the routines of both calls for C.
 use Prim.Native.Nat.{ℕ, _*_, _<_, _≤_}
 use mathlib.Core.Path.{_≡_, _∙_}
-use mathlib.Core.Bool.{false}
+use mathlib.Core.Bool.{true, false}
 use mathlib.Core.Logic.{_↔_}
 use mathlib.Core.List.{List, [], _∷_, _++_}
 use lib.ListN.{length}
@@ -20,13 +20,15 @@ use Rattle.rules.specs.Ambiguity.{Ambiguous, PairAtFault}
 use Rattle.rules.specs.TypeFile.{Place, Element, typeFile}
 use Rattle.rules.specs.Judge.{samePlace, Answer, refusal, Legible, Refuses, Accepts, Judged}
 use Rattle.rules.specs.Events.{Event, eventWidth}
-use Rattle.rules.specs.Settling.{State, nothingOpen}
+use Rattle.rules.specs.Decisions.{Decisions}
+use Rattle.rules.specs.Settling.{State, nothingOpen, isComplete}
 use Rattle.rules.specs.Acts.{Acts, Deeds, IsStart, Took, Passes, Few}
 use Rattle.rules.specs.Reader.{BothLegible, Reads, RefusesBoth, ReadAs}
 use Rattle.rules.specs.Calls.{answerNumbers}
 use Rattle.acts.specs.Readings.{passes-acts, document-acts}
 use Rattle.acts.specs.Deeds.{acts-deeds}
 use Rattle.place_laws.specs.Taken.{deeds-took}
+use Rattle.place_laws.specs.Pinned.{deeds-one}
 use Rattle.demands.specs.Words.{Refusal, Acceptance, ModelOf, SomeAmbiguous, NamesFirst, NamesDecide, ReaderRefusal, ReaderAcceptance, SameVerdict}
 use Rattle.answer_laws.specs.Reader.{given-one, reading-one}
 use Rattle.demands.specs.Exists.{judged-some, read-some}
@@ -221,9 +223,9 @@ few-open-read c s d es ev x =
 
 -- Paper 02, request seven: "Start events get a fifth number: the place they took in their parent's model, 0 for the document element; all other events
 -- carry 0 there", "under an accepted type no other place was possible for its name". Of each event e of a document that is read, with the events `before` it:
--- these lead, by what each did (`Deeds` of the rules), to the state z, in whose current element, the parent, a start took its place (`Took`).
+-- where it is a start, these lead, by what each did (`Deeds` of the rules), to the state z, in whose current element, the parent, it took its place (`Took`).
 pub places-taken : (c : Settings) (s d : List ℕ) (es : List Element) (ev : List Event) (x : Reads c s d es (got ev)) (before : List Event) (e : Event) (after : List Event) → ev ≡ before ++ e ∷ after
-    → (z : State) × Deeds s es (x .decisions) z × (z .events ≡ before) × (IsStart e → Took s es (z .current) e) × ((IsStart e → ⊥) → e .place ≡ 0)
+    → (IsStart e → (z : State) × Deeds s es (x .decisions) z × (z .events ≡ before) × Took s es (z .current) e) × ((IsStart e → ⊥) → e .place ≡ 0)
 places-taken c s d es ev x before e after parts =
     let over = document-acts s es (x .decisions) d c ev (x .reading) in
     deeds-took s es (x .accepted) (x .decisions) (x .means) (acts-deeds s es (x .decisions) Deeds.nothing (over .acts)) before e after (over .events ∙ parts)
@@ -231,14 +233,19 @@ places-taken c s d es ev x before e after parts =
 -- So it is of the events that a call writes: those of `ReaderAcceptance`, which every accepted call gives.
 pub places-written : (l : Lent) (c : Settings) (s d lent : List ℕ) (a : Answer) (left : List ℕ) (w : ReaderAcceptance l c s d lent a left) (before : List Event) (e : Event) (after : List Event)
     → w .events ≡ before ++ e ∷ after
-    → (z : State) × Deeds s (w .elements) (w .read .decisions) z × (z .events ≡ before) × (IsStart e → Took s (w .elements) (z .current) e) × ((IsStart e → ⊥) → e .place ≡ 0)
+    → (IsStart e → (z : State) × Deeds s (w .elements) (w .read .decisions) z × (z .events ≡ before) × Took s (w .elements) (z .current) e) × ((IsStart e → ⊥) → e .place ≡ 0)
 places-written l c s d lent a left w = places-taken c s d (w .elements) (w .events) (w .read)
 
--- All that a document does to the open elements, event by event: a start took a place and opened its element, an end closed a complete one, data fitted.
-pub events-did : (c : Settings) (s d : List ℕ) (es : List Element) (ev : List Event) (x : Reads c s d es (got ev)) → (z : State) × Deeds s es (x .decisions) z × (z .around ≡ []) × (z .events ≡ ev)
+-- There is no other such state: what the same events did is one state.
+pub state-before : (s : List ℕ) (es : List Element) (D : Decisions) (z y : State) → Deeds s es D z → Deeds s es D y → z .events ≡ y .events → z ≡ y
+state-before s es D z y = deeds-one s es D
+
+-- All that a document does to the open elements, event by event: a start took a place and opened its element, an end closed a complete one, data fitted. At
+-- the end nothing is open, and the document element was there.
+pub events-did : (c : Settings) (s d : List ℕ) (es : List Element) (ev : List Event) (x : Reads c s d es (got ev)) → (z : State) × Deeds s es (x .decisions) z × (z .around ≡ []) × (isComplete s es (x .decisions) (z .current) ≡ true) × (z .events ≡ ev)
 events-did c s d es ev x =
     let over = document-acts s es (x .decisions) d c ev (x .reading) in
-    (over .last, acts-deeds s es (x .decisions) Deeds.nothing (over .acts), over .nothing, over .events)
+    (over .last, acts-deeds s es (x .decisions) Deeds.nothing (over .acts), over .nothing, over .complete, over .events)
 
 -- Demand 3 by pairs at fault: a model is ambiguous exactly if it has one; of a model that was read, both its places are places of the model.
 pub pair-exactly : (s : List ℕ) (g : Group) (ps : List Place) → Ambiguous (samePlace s ps) g ↔ ((p : ℕ) × (q : ℕ) × PairAtFault (samePlace s ps) g p q)

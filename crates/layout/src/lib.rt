@@ -57,5 +57,5 @@ pub const FACTS: usize = CONTENTS * FACT;
 pub struct Place(pub usize);
 
 // An element's number, from 1 in declaration order. 0 is the document itself where an element is open, data where a token is named, and
-// none where one is looked for.
+// none where one is looked for; 255 is `#PCDATA` where a place names it.
 pub struct ElementNo(pub usize);

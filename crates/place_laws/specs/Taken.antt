@@ -17,7 +17,7 @@ use Rattle.rules.specs.Elements.{elementAt, isNamed, numberOf, contentOf, place
 use Rattle.rules.specs.Decisions.{Token, start, pcdata, Fits, Decisions, Means}
 use Rattle.rules.specs.Events.{Event, dataRun}
 use Rattle.rules.specs.Settling.{Open, State, nothingOpen, takePlace, shown, placeTaken, enter, note, elementOf, fitting, requiredPlace, inferable, takeToken}
-use Rattle.rules.specs.Acts.{Declared, dataTaken, Deed, opened, passed, past, inferred, fitted, inferred-end, closed, Deeds, nothing, then, IsStart, Took, document-element, in-model}
+use Rattle.rules.specs.Acts.{Declared, dataTaken, Deed, opened, passed, inferred, fitted, inferred-end, closed, Deeds, nothing, then, IsStart, Took, document-element, in-model}
 use Rattle.text.specs.Laws.{sameText-refl}
 use Rattle.rules_laws.specs.Names.{samePlace-refl}
 use Rattle.model_sets.specs.Bits.{and-left, and-right}
@@ -119,7 +119,6 @@ module _ {c : Settings} (s : List ℕ) (es : List Element) (accepted : Accepts c
     deed-begun {z} b (passed k at after d f m l) =
         let r = begun-moves s es D D means means .taking (refl, b) _ (fits (start k) f) .1 in
         record { current = r .current; around = r .around }
-    deed-begun b (past k at after p ev e) = record { current = b .current; around = b .around }
     deed-begun {z} b (inferred k at e l) =
         let may = inferable-may s es D (z .current) (rw e (le-leb 1 k l)) in
         let r = begun-moves s es D D means means .enter (begun-moves s es D D means means .taking (refl, b) _ (required (may .place))) k (rw e at (may .model)) .1 in
@@ -134,12 +133,10 @@ module _ {c : Settings} (s : List ℕ) (es : List Element) (accepted : Accepts c
     deeds-begun nothing = nothing-begun es
     deeds-begun (then d x) = deed-begun (deeds-begun d) x
 
-    -- The event that a deed adds, and the place if it is a start.
-    record Adds (z y : State) : Type 0 where
-      event : Event
-      behind : y .events ≡ z .events ++ event ∷ []
-      took : IsStart event → Took s es (z .current) event
-      other : (IsStart event → ⊥) → event .place ≡ 0
+    -- The event that a deed adds, and the place if it is a start; or the two events of an EMPTY element.
+    data Adds (z y : State) : Type 0 where
+      one : (x : Event) → y .events ≡ z .events ++ x ∷ [] → (IsStart x → Took s es (z .current) x) → ((IsStart x → ⊥) → x .place ≡ 0) → Adds z y
+      both : (x w : Event) → y .events ≡ (z .events ++ x ∷ []) ++ w ∷ [] → x .kind ≡ 1 → Took s es (z .current) x → 3 ≤ w .kind → w .place ≡ 0 → Adds z y
 
     -- Another kind is no start's.
     no-start : {A : Type 0} (kind : ℕ) → 3 ≤ kind → (kind ≡ 1) ⊎ (kind ≡ 2) → A
@@ -167,13 +164,12 @@ module _ {c : Settings} (s : List ℕ) (es : List Element) (accepted : Accepts c
         (record { name = named-number c s es (accepted .elements) (x .places) k p l declared .1 named; next = r .0 })
 
     deed-adds : {z y : State} → AllBegun es z → Deed s es D z y → Adds z y
-    deed-adds {z} b (opened k at after d f m) = record { event = _; behind = refl; took = λ i. fits-took z b k d f _ refl refl; other = λ n. absurd (n (inl refl)) }
-    deed-adds {z} b (passed k at after d f m l) = record { event = _; behind = refl; took = λ i. fits-took z b k d f _ refl refl; other = λ n. absurd (n (inl refl)) }
-    deed-adds b (past k at after p ev e) = record { event = _; behind = refl; took = no-start 6 (omega arith); other = λ n. refl }
-    deed-adds {z} b (inferred k at e l) = record { event = _; behind = refl; took = λ i. required-took z b k e l _ refl refl; other = λ n. absurd (n (inr refl)) }
-    deed-adds {z} b (fitted at size l f) = record { event = dataRun at size; behind = ap (λ (ev : List Event). ev ++ dataRun at size ∷ []) (data-same size z); took = no-start 5 (omega arith); other = λ n. refl }
-    deed-adds b (inferred-end u us at e c o) = record { event = _; behind = refl; took = no-start 4 (omega arith); other = λ n. refl }
-    deed-adds b (closed u us at after e c) = record { event = _; behind = refl; took = no-start 3 (omega arith); other = λ n. refl }
+    deed-adds {z} b (opened k at after d f m) = one _ refl (λ i. fits-took z b k d f _ refl refl) (λ n. absurd (n (inl refl)))
+    deed-adds {z} b (passed k at after d f m l) = both _ _ refl refl (fits-took z b k d f _ refl refl) (omega arith) refl
+    deed-adds {z} b (inferred k at e l) = one _ refl (λ i. required-took z b k e l _ refl refl) (λ n. absurd (n (inr refl)))
+    deed-adds {z} b (fitted at size l f) = one (dataRun at size) (ap (λ (ev : List Event). ev ++ dataRun at size ∷ []) (data-same size z)) (no-start 5 (omega arith)) (λ n. refl)
+    deed-adds b (inferred-end u us at e c o) = one _ refl (no-start 4 (omega arith)) (λ n. refl)
+    deed-adds b (closed u us at after e c) = one _ refl (no-start 3 (omega arith)) (λ n. refl)
 
 -- An event of a list to which one is added is that one, or one of the list.
 parted : (ev : List Event) (x : Event) (before : List Event) (e : Event) (after : List Event) → ev ++ x ∷ [] ≡ before ++ e ∷ after → ((ev ≡ before) × (x ≡ e)) ⊎ ((rest : List Event) × (ev ≡ before ++ e ∷ rest))
@@ -189,14 +185,26 @@ parted (y ∷ ev) x (b ∷ before) e after i =
     longer i j = ap₂ _∷_ i j
 
 module _ {c : Settings} (s : List ℕ) (es : List Element) (accepted : Accepts c s es) (D : Decisions) (means : Means s es D) where
-  -- Of every event of a state: it was added in a state that has the events before it, where a start took its place, and another carries 0.
-  pub deeds-took : {y : State} → Deeds s es D y → (before : List Event) (e : Event) (after : List Event) → y .events ≡ before ++ e ∷ after
-      → (z : State) × Deeds s es D z × (z .events ≡ before) × (IsStart e → Took s es (z .current) e) × ((IsStart e → ⊥) → e .place ≡ 0)
+  -- Where the event e comes behind those before it, a start took its place in the state that they lead to, and another carries 0.
+  abbrev Told : List Event → Event → Type 0
+  Told before e = (IsStart e → (z : State) × Deeds s es D z × (z .events ≡ before) × Took s es (z .current) e) × ((IsStart e → ⊥) → e .place ≡ 0)
+
+  told-here : (z : State) → Deeds s es D z → (x : Event) → (IsStart x → Took s es (z .current) x) → ((IsStart x → ⊥) → x .place ≡ 0) → (before : List Event) (e : Event) → z .events ≡ before → x ≡ e → Told before e
+  told-here z d x took other before e i j = subst (Told before) j ((λ k. (z, d, i, took k)), other)
+
+  told-none : (w : Event) → 3 ≤ w .kind → w .place ≡ 0 → (before : List Event) (e : Event) → w ≡ e → Told before e
+  told-none w l p before e j = subst (Told before) j (no-start s es accepted D means (w .kind) l, λ k. p)
+
+  -- So it is of what a deed adds, and of the events before.
+  added : {z y : State} → Deeds s es D z → (before : List Event) (e : Event) → ((rest : List Event) → z .events ≡ before ++ e ∷ rest → Told before e) → (after : List Event) → y .events ≡ before ++ e ∷ after
+      → Adds s es accepted D means z y → Told before e
+  added {z} d before e earlier after i (one x b took other) = ⊎-elim (λ p. told-here z d x took other before e (p .0) (p .1)) (λ p. earlier (p .0) (p .1)) (parted (z .events) x before e after (sym b ∙ i))
+  added {z} d before e earlier after i (both x w b k took l n) =
+      ⊎-elim (λ p. told-none w l n before e (p .1))
+      (λ p. ⊎-elim (λ q. told-here z d x (λ j. took) (λ j. absurd (j (inl k))) before e (q .0) (q .1)) (λ q. earlier (q .0) (q .1)) (parted (z .events) x before e (p .0) (p .1)))
+      (parted (z .events ++ x ∷ []) w before e after (sym b ∙ i))
+
+  -- So it is of every event of a state that is what its events did.
+  pub deeds-took : {y : State} → Deeds s es D y → (before : List Event) (e : Event) (after : List Event) → y .events ≡ before ++ e ∷ after → Told before e
   deeds-took nothing before e after i = absurd (omega (arith, ap length i, length-append before (e ∷ after)))
-  deeds-took (then {z} d x) before e after i =
-      let a = deed-adds s es accepted D means (deeds-begun s es accepted D means d) x in
-      ⊎-elim (λ p. let told = subst Told (p .1) (a .took, a .other) in (z, d, p .0, told .0, told .1))
-      (λ p. deeds-took d before e (p .0) (p .1)) (parted (z .events) (a .event) before e after (sym (a .behind) ∙ i))
-    where
-      Told : Event → Type 0
-      Told e = (IsStart e → Took s es (z .current) e) × ((IsStart e → ⊥) → e .place ≡ 0)
+  deeds-took {y} (then {z} d x) before e after i = added d before e (λ rest j. deeds-took d before e rest j) after i (deed-adds s es accepted D means (deeds-begun s es accepted D means d) x)

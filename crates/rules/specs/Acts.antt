@@ -58,16 +58,14 @@ abbrev pub dataTaken : List ℕ → List Element → Decisions → (n : ℕ) →
 dataTaken s es D zero z = z
 dataTaken s es D (suc n) z = takeToken s es D pcdata (dataTaken s es D n z)
 
--- What one event did to the open elements, from the state z to another, which has that event last.
+-- What one event did to the open elements, from the state z to another, which has that event last; both events of an EMPTY element are one deed.
 pub data Deed (s : List ℕ) (es : List Element) (D : Decisions) (z : State) : State → Type 0 where
   -- A start tag took the place as which it fits, and opened its element.
   opened : (k at after : ℕ) → Declared es k → 1 ≤ fitting s es D (z .current) (start k) → hasModel (contentOf es k) ≡ true
       → Deed s es D z (note (startWritten k at after (placeTaken (takeToken s es D (start k) z .current))) (enter k (takeToken s es D (start k) z)))
-  -- The start tag of an EMPTY element took the place as which it fits, and opened nothing.
+  -- The start tag of an EMPTY element took the place as which it fits, and its end comes right behind it: what is open stays.
   passed : (k at after : ℕ) → Declared es k → 1 ≤ fitting s es D (z .current) (start k) → hasModel (contentOf es k) ≡ false → length (z .around) < TAGLVL
-      → Deed s es D z (note (startWritten k at after (placeTaken (takeToken s es D (start k) z .current))) (takeToken s es D (start k) z))
-  -- The end of an EMPTY element comes right behind its start tag, and closed nothing.
-  past : (k at after place : ℕ) (ev : List Event) → z .events ≡ ev ++ startWritten k at after place ∷ [] → Deed s es D z (note (endOfEmpty k after) z)
+      → Deed s es D z (note (endOfEmpty k after) (note (startWritten k at after (placeTaken (takeToken s es D (start k) z .current))) (takeToken s es D (start k) z)))
   -- A start that is inferred took the required place, and opened the element that is named there.
   inferred : (k at : ℕ) → inferable s es D (z .current) ≡ k → 1 ≤ k
       → Deed s es D z (note (startInferred k at (placeTaken (takePlace (requiredPlace s es D (z .current)) z .current))) (enter k (takePlace (requiredPlace s es D (z .current)) z)))
@@ -91,7 +89,7 @@ pub data Deeds (s : List ℕ) (es : List Element) (D : Decisions) : State → Ty
 abbrev pub IsStart : Event → Type 0
 IsStart e = (e .kind ≡ 1) ⊎ (e .kind ≡ 2)
 
--- "Start events get a fifth number: the place they took in their parent's model, 0 for the document element." The parent, where places were taken before,
+-- "Start events get a fifth number: the place they took in their parent's model, 0 for the document element". The parent, where places were taken before,
 -- is the document itself, and the element is the first that is declared; or it is an element whose model has that place: it has the name of the start's
 -- element, it could come next after the places taken, and every place of that name that could come next is this one.
 pub data Took (s : List ℕ) (es : List Element) (parent : Open) (e : Event) : Type 0 where

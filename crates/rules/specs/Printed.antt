@@ -1,6 +1,6 @@
 -- What the small program prints (paper 01, "What the reader takes and gives"): "A small program reads `type.sgm` and `doc.sgm`, lends 16,384
--- numbers" (from request seven of paper 02 on "20,480, so printed lines stay") "and prints `events N`, then a line per event: kind, element name in upper case or `-`, offset, length, one space between. On refusal
--- it prints only `refused N in type at P` or `refused N in document at P`."
+-- numbers" (from request seven of paper 02 on "20,480, so printed lines stay") "and prints `events N`, then a line per event: kind, element
+-- name in upper case or `-`, offset, length, one space between. On refusal it prints only `refused N in type at P` or `refused N in document at P`."
 use Prim.Native.Nat.{ℕ, zero, suc, _+_, _*_, _/_, _%_, _≤_}
 use mathlib.Core.Path.{_≡_}
 use mathlib.Core.Bool.{true, false}
