@@ -7,7 +7,7 @@ use mathlib.Core.Bool.{true, false}
 use mathlib.Core.List.{List, [], _∷_, _++_}
 use lib.ListN.{length}
 use lib.Dec.{leb}
-use Rattle.rules.specs.Settings.{settings}
+use Rattle.rules.specs.Settings.{Settings, settings}
 use Rattle.rules.specs.Bytes.{byteAt, fold}
 use Rattle.rules.specs.Reading.{got}
 use Rattle.rules.specs.TypeFile.{Element}
@@ -83,7 +83,11 @@ inputText k = elim (leb 2 k) [ true ↦ inDocument | false ↦ inType ]
 abbrev pub programRoom : ℕ
 programRoom = 20480
 
--- "The small program gives 8" (paper 02, request six). The text for the type file s and the document d, read so with that many numbers lent.
+-- "The small program gives 8" (paper 02, request six).
+abbrev pub programSettings : Settings
+programSettings = settings 8
+
+-- The text for the type file s and the document d, read under these settings with that many numbers lent.
 pub data Prints (s d text : List ℕ) : Type 0 where
-  events : (es : List Element) (ev : List Event) → Reads (settings 8) s d es (got ev) → eventWidth * length ev ≤ programRoom → text ≡ eventsText s es ev → Prints s d text
-  refusal : (a : Answer) → RefusesBoth (settings 8) s d programRoom a → text ≡ refusedText (a .number) (inputText (a .input)) (a .position) → Prints s d text
+  events : (es : List Element) (ev : List Event) → Reads programSettings s d es (got ev) → eventWidth * length ev ≤ programRoom → text ≡ eventsText s es ev → Prints s d text
+  refusal : (a : Answer) → RefusesBoth programSettings s d programRoom a → text ≡ refusedText (a .number) (inputText (a .input)) (a .position) → Prints s d text

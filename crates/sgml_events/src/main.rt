@@ -10,14 +10,13 @@ ghost use mathlib.Core.Path.{_≡_};
 ghost use Prim.Native.Nat.{_≤_};
 ghost use lib.ListN.{length, take};
 ghost use Rattle.io.specs.Counts.{Counts};
-ghost use Rattle.rules.specs.Settings.{settings};
-ghost use Rattle.rules.specs.Printed.{Prints};
+ghost use Rattle.rules.specs.Printed.{programSettings, Prints};
 ghost use Rattle.inputs.specs.Means.{settingsOf};
 ghost use Rattle.sgml_events.specs.Means.{Accepted, EventsPut, Whole};
 
 // What the program gives: names of at most 8 bytes.
 fn given() -> Settings
-    ensures { λ r. ⌜ settingsOf r ≡ settings 8 ⌝ }
+    ensures { λ r. ⌜ settingsOf r ≡ programSettings ⌝ }
 {
     Settings { name_length: 8 }
 }
