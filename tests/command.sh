@@ -172,7 +172,10 @@ if needs onsgmls opensp "onsgmls on the same documents"; then
     done
     for v in tests/vectors/*/*; do
         # onsgmls has short tags, and ignores a record end at the start and end of an element.
-        case $v in */bare-marks | */mixed/165 | */return-is-data) continue ;; esac
+        case $v in
+        */bare-marks | */02-7-places/g34) continue ;;
+        */mixed/165 | */return-is-data | */02-7-places/g19 | */02-7-places/g22 | */02-7-places/g31 | */02-7-places/g35 | */02-7-places/g38) continue ;;
+        esac
         # It is given no declaration with another NAMELEN here.
         [ ! -e "$v/args" ] || continue
         [ "$(head -c 6 "$v/expected")" != events ] || check "onsgmls on $v" agree "$v/type.sgm" "$v/doc.sgm"
