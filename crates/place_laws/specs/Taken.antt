@@ -25,7 +25,7 @@ use Rattle.model_sets.specs.Reach.{lastOr0-snoc, next-sound}
 use Rattle.model_sets.specs.Pairs.{next-range}
 use Rattle.document_laws.specs.Decide.{names-same}
 use Rattle.document_laws.specs.Chain.{inferable-may}
-use Rattle.document_laws.specs.Moves.{fits, required}
+use Rattle.document_laws.specs.Moves.{placeTaken-took, fits, required}
 use Rattle.document_laws.specs.Same.{Begun, AllBegun, nothing-begun, begun-moves}
 use Rattle.type_laws.specs.Names.{typeFile-distinct, named-number}
 use Rattle.type_laws.specs.Width.{typeFile-width}
@@ -149,7 +149,7 @@ module _ {c : Settings} (s : List ℕ) (es : List Element) (accepted : Accepts c
         let o = z .current in
         let x = b .current in
         let p = fitting s es D o (start k) in
-        took-place o x k p e (d .0) (d .1) number (place ∙ ap (shown (o .number)) (lastOr0-snoc (o .taken) p)) (means .walks (o .number) (x .has) (o .taken) (x .begins) .fits (start k) .some f)
+        took-place o x k p e (d .0) (d .1) number (place ∙ placeTaken-took o p) (means .walks (o .number) (x .has) (o .taken) (x .begins) .fits (start k) .some f)
 
     required-took : (z : State) (b : AllBegun es z) (k : ℕ) → inferable s es D (z .current) ≡ k → 1 ≤ k → (e : Event) → e .number ≡ k → e .place ≡ placeTaken (takePlace (requiredPlace s es D (z .current)) z .current) → Took s es (z .current) e
     required-took z b k i l e number place =
@@ -160,7 +160,7 @@ module _ {c : Settings} (s : List ℕ) (es : List Element) (accepted : Accepts c
         let declared : k ≤ length es = rw i at (may .declared) in
         let named : numberOf s es s (placeAt (x .places) (p - 1) .at) (placeAt (x .places) (p - 1) .size) ≡ k = rw (x .has) at (inferable-named s es D o k i l) in
         let r = means .walks (o .number) (x .has) (o .taken) (x .begins) .required .some (may .place) in
-        took-place o x k p e l declared number (place ∙ ap (shown (o .number)) (lastOr0-snoc (o .taken) p))
+        took-place o x k p e l declared number (place ∙ placeTaken-took o p)
         (record { name = named-number c s es (accepted .elements) (x .places) k p l declared .1 named; next = r .0 })
 
     deed-adds : {z y : State} → AllBegun es z → Deed s es D z y → Adds z y
