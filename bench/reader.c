@@ -6,7 +6,7 @@
 #include <string.h>
 #include <time.h>
 
-static uint8_t type[SGML_TYPE_LIMIT + 1], document[65536], buffer[65536 * 5];
+static uint8_t type[SGML_TYPE_LIMIT + 1], document[65536], buffer[SGML_EVENT_BYTES * 20480];
 
 static double now(void)
 {

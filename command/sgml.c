@@ -17,6 +17,7 @@ enum form { EVENTS, ESIS, CHECK, ANSWER };
 struct job {
     enum form form;
     int is_short;      /* a refusal is one line */
+    int has_places;    /* an event's line has its place too */
     const char *type;  /* files; the documents stand where the words do */
     char **documents;
     int count;
@@ -26,7 +27,8 @@ struct job {
 static uint8_t type_bytes[SGML_TYPE_LIMIT + 1], document_bytes[SGML_DOCUMENT_LIMIT + 1];
 static uint8_t records[SGML_MOST_RECORD_BYTES];
 
-static const char usage[] = "usage: " NAME " [-q] [--name-length N] [--esis | --check | --answer] [--] TYPE DOCUMENT...\n"
+static const char usage[] = "usage: " NAME " [-q] [--name-length N] [--places] [--answer] [--] TYPE DOCUMENT...\n"
+                            "       " NAME " [-q] [--name-length N] (--esis | --check) [--] TYPE DOCUMENT...\n"
                             "       " NAME " [-q] [--name-length N] --check [--] TYPE\n"
                             "       " NAME " -h | --help | --version\n";
 
@@ -41,6 +43,8 @@ static const char help[] =
     "              here byte 10 is ignored, so words on two lines join, and byte 13 is data\n"
     "  --answer    print on standard output what the small program of the scope paper prints:\n"
     "              a refusal as \"refused N in type at P\" too, and at most 4,096 events\n"
+    "  --places    print of each event, as the last number of its line, the place that a start took\n"
+    "              in its parent's content model; 0 for the document element and all other events\n"
     "  --name-length N\n"
     "              names have at most N bytes, 8 to 32; 8 where it is not given\n"
     "  -q          a refusal is one line, without the line of the file\n"
@@ -110,7 +114,7 @@ static enum status refused(const struct job *job, const struct input *type, cons
     return REFUSED;
 }
 
-static void print_events(const struct input *type, const uint8_t *events, uint32_t count)
+static void print_events(const struct job *job, const struct input *type, const uint8_t *events, uint32_t count)
 {
     char name[SGML_MOST_NAMELEN + 1];
     uint32_t k;
@@ -121,7 +125,10 @@ static void print_events(const struct input *type, const uint8_t *events, uint32
             strcpy(name, "-");
         else
             sgml_copy_name(type->bytes, records, e.element, name, sizeof name);
-        printf("%u %s %u %u\n", (unsigned)e.kind, name, (unsigned)e.offset, (unsigned)e.length);
+        printf("%u %s %u %u", (unsigned)e.kind, name, (unsigned)e.offset, (unsigned)e.length);
+        if (job->has_places)
+            printf(" %u", (unsigned)e.place);
+        putchar('\n');
     }
 }
 
@@ -161,17 +168,17 @@ static void print_esis(const struct input *type, const struct input *document, c
     fputs("C\n", stdout);
 }
 
-/* What the small program prints: its buffer has 16,384 numbers, and a refusal goes to standard output. */
-static enum status answered(const struct input *type, const struct input *document)
+/* What the small program prints: its buffer has 20,480 numbers, and a refusal goes to standard output. */
+static enum status answered(const struct job *job, const struct input *type, const struct input *document)
 {
-    static uint8_t events[4 * 16384];
+    static uint8_t events[4 * 20480];
     uint32_t answer[SGML_ANSWER_SIZE];
     uint32_t number = sgml_read(type->bytes, type->length, document->bytes, document->length, events, sizeof events, answer, name_limit);
     if (number)
         printf("refused %u in %s at %u\n", (unsigned)number,
                answer[SGML_ANSWER_INPUT] == SGML_IN_TYPE ? "type" : "document", (unsigned)answer[SGML_ANSWER_POSITION]);
     else
-        print_events(type, events, answer[SGML_ANSWER_COUNT]);
+        print_events(job, type, events, answer[SGML_ANSWER_COUNT]);
     return written(number ? REFUSED : ACCEPTED);
 }
 
@@ -184,7 +191,7 @@ static enum status read_document(const struct job *job, const struct input *type
     if (job->count > 1 && job->form != CHECK)
         printf("%s:\n", document->name);
     if (job->form == ANSWER)
-        return answered(type, document);
+        return answered(job, type, document);
     events = events_of(type, document, answer);
     if (!events)
         return failed(document->name, strerror(ENOMEM));
@@ -193,7 +200,7 @@ static enum status read_document(const struct job *job, const struct input *type
     else if (job->form == ESIS)
         print_esis(type, document, events, answer[SGML_ANSWER_COUNT]);
     else if (job->form == EVENTS)
-        print_events(type, events, answer[SGML_ANSWER_COUNT]);
+        print_events(job, type, events, answer[SGML_ANSWER_COUNT]);
     free(events);
     return job->form == CHECK ? status : written(status);
 }
@@ -257,6 +264,10 @@ static int is_option(struct job *job, const char *word, int *forms)
         job->is_short = 1;
         return 1;
     }
+    if (!strcmp(word, "--places")) {
+        job->has_places = 1;
+        return 1;
+    }
     if (wanted == EVENTS)
         return 0;
     *forms += job->form != wanted;
@@ -266,7 +277,7 @@ static int is_option(struct job *job, const char *word, int *forms)
 
 int main(int argc, char **argv)
 {
-    struct job job = { EVENTS, 0, NULL, argv, 0 };
+    struct job job = { EVENTS, 0, 0, NULL, argv, 0 };
     int i, forms = 0, standard = 0, is_over = 0; /* is_over: the options have ended */
     for (i = 1; i < argc; i++) {
         char *word = argv[i];
@@ -293,6 +304,8 @@ int main(int argc, char **argv)
         return misused("a type file and a document are due", "");
     if (forms > 1)
         return misused("--esis, --check and --answer exclude each other", "");
+    if (job.has_places && (job.form == ESIS || job.form == CHECK))
+        return misused("--places is a part of an event's line: neither --esis nor --check prints one", "");
     if (standard > 1)
         return misused("only one file can be standard input", "");
     return run(&job);

@@ -1,5 +1,6 @@
 /* controller.c - what a cabinet's controller does with the library: reads a catalogue under its type and shows how many items and
- * pieces lie in each drawer, or where and why the catalogue is refused. */
+ * pieces lie in each drawer, or where and why the catalogue is refused. A drawer is told by its NUMBER; in a type without one, by the
+ * place that an ITEM took in the content model around it. */
 #include "position.h"
 #include "sgml.h"
 #include <ctype.h>
@@ -150,6 +151,17 @@ static void fault(struct reading *r, const char *text)
     r->faults++;
 }
 
+/* What comes next lies in the drawer of this number. */
+static void take_drawer(struct reading *r, uint32_t number)
+{
+    if (number < 1 || number > DRAWERS) {
+        fault(r, "this cabinet has no such drawer");
+    } else {
+        r->drawer = drawers + number;
+        r->drawer->is_named = 1;
+    }
+}
+
 static void take_start(struct reading *r, struct sgml_event e)
 {
     if (r->is_in_number) { /* an element within cuts a number as a comment does */
@@ -161,8 +173,10 @@ static void take_start(struct reading *r, struct sgml_event e)
     r->at = e.offset + e.length;
     r->is_in_number = e.element == roles[NUMBER] || e.element == roles[QTY];
     if (e.element == roles[ITEM]) {
-        r->drawer->items++;
         r->item.length = 0;
+        if (!roles[NUMBER])
+            take_drawer(r, e.place);
+        r->drawer->items++;
     }
 }
 
@@ -189,12 +203,10 @@ static void take_end(struct reading *r, struct sgml_event e)
         r->item = r->data;
     } else if (e.element == roles[NUMBER]) {
         r->item.length = 0;
-        if (!is_right || value < 1 || value > DRAWERS) {
-            fault(r, r->runs > 1 ? "this drawer's number is cut in two" : "this cabinet has no such drawer");
-        } else {
-            r->drawer = drawers + value;
-            r->drawer->is_named = 1;
-        }
+        if (r->runs > 1)
+            fault(r, "this drawer's number is cut in two");
+        else
+            take_drawer(r, is_right ? value : 0);
     } else if (e.element == roles[QTY]) {
         if (!is_right) {
             fault(r, r->runs > 1 ? "this quantity is cut in two" : "this quantity is not a number of one to nine digits");

@@ -12,7 +12,7 @@
  *     }
  *     for (k = 0; k < answer[SGML_ANSWER_COUNT]; k++) {
  *         struct sgml_event e = sgml_event_at(buffer, k);
- *         printf("%u %u %u %u\n", (unsigned)e.kind, (unsigned)e.element, (unsigned)e.offset, (unsigned)e.length);
+ *         printf("%u %u %u %u %u\n", (unsigned)e.kind, (unsigned)e.element, (unsigned)e.offset, (unsigned)e.length, (unsigned)e.place);
  *     }
  *
  * Names.  Both calls take last how long a name may be: SGML_NAMELEN, which is 8, where nothing else is agreed, and up to
@@ -20,6 +20,10 @@
  *     else is looked at. Before 0.4.0 the calls did not take it, and 8 was what they went by: so a program that was written for 0.3.0
  *     passes SGML_NAMELEN as the last argument of both calls, and nothing else changes for it. What was compiled for 0.3.0 is
  *     compiled anew: it passes no length, and what a call takes for one is then not decided.
+ * Events.  An event grew with 0.5.0: it has SGML_EVENT_SIZE numbers, which are five and were four before, so that SGML_EVENT_BYTES is 20
+ *     and no more 16. The fifth is the place that a start took in the content model of its parent; the four before it are what they were. A
+ *     program that goes by the names below is compiled again with this header, and nothing else changes for it; one that has 4 or 16 written
+ *     in it must be changed, and room that was enough for its events holds four fifths of them.
  * Memory.  Nothing here allocates, keeps state or touches memory other than what the caller lends. The inputs are the caller's
  *     and only read; buffer and answer are lent for the call. A pointer may be null where its length is 0. The two inputs may
  *     overlap each other. Buffer and answer overlap nothing, neither each other nor an input: where they do, no call promises
@@ -44,8 +48,8 @@
 #include <stddef.h>
 #include <stdint.h>
 
-#define SGML_VERSION "0.4.0"
-#define SGML_VERSION_NUMBER 400 /* 10000 times the major version, 100 times the minor one and the patch */
+#define SGML_VERSION "0.5.0"
+#define SGML_VERSION_NUMBER 500 /* 10000 times the major version, 100 times the minor one and the patch */
 
 #ifdef __cplusplus
 extern "C" {
@@ -76,14 +80,14 @@ enum {
 enum {
     SGML_ANSWER_SIZE = 6, /* numbers in an answer */
     SGML_RECORD_SIZE = 6, /* numbers in an element's record */
-    SGML_EVENT_SIZE = 4,  /* numbers in an event */
+    SGML_EVENT_SIZE = 5,  /* numbers in an event */
     SGML_RECORD_BYTES = 4 * SGML_RECORD_SIZE,
     SGML_EVENT_BYTES = 4 * SGML_EVENT_SIZE,
     SGML_MOST_RECORD_BYTES = SGML_RECORD_BYTES * SGML_ELEMENT_LIMIT /* the records of any type file fit in */
 };
 
 /* The most events that a document of n bytes can bring. SGML_EVENT_BYTES times as many bytes are enough for every document of that
- * length; for SGML_DOCUMENT_LIMIT bytes that is some 24 million bytes. Documents that people write bring far fewer, some three
+ * length; for SGML_DOCUMENT_LIMIT bytes that is some 30 million bytes. Documents that people write bring far fewer, some three
  * events to ten bytes. So where memory is short, lend what there is. The answer SGML_ERR_NO_ROOM then says that nothing is wrong
  * but the room: lend more and call again (twice as much each time, until the call has what this macro says), or tell that the
  * document is too large for this device. It never says that the document is at fault.
@@ -197,12 +201,15 @@ enum sgml_kind {
 };
 
 /* An event: its numbers. A line break (byte 10) or a comment ends a run of data: "4", line break, "0" is two events, and joining
- * them would make 40 of it. */
+ * them would make 40 of it. The names and #PCDATAs of a content model are its places, counted from 1, left to right: in
+ * (ITEM*,NEXT,ITEM*) an ITEM with place 1 stands before NEXT, one with place 3 behind it. No other place was possible for its name. */
 struct sgml_event {
     uint32_t kind;    /* an enum sgml_kind */
     uint32_t element; /* the element's number from 1, in the order of declaration; 0 for data */
     uint32_t offset;
     uint32_t length;
+    uint32_t place; /* of a start, written or inferred: the place it took in its parent's content model; 0 for the document element and for
+                       every other event */
 };
 
 /* Judges a type file.
@@ -255,6 +262,7 @@ static inline struct sgml_event sgml_event_at(const uint8_t *buffer, size_t k)
     e.element = sgml_number(b, 1);
     e.offset = sgml_number(b, 2);
     e.length = sgml_number(b, 3);
+    e.place = sgml_number(b, 4);
     return e;
 }
 

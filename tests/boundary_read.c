@@ -1,16 +1,18 @@
-/* boundary_read.c - the reader's C boundary: null and empty slices, buffers of every length modulo 4, exactly enough room and one
- * number short, guard bytes around every slice, both inputs as they were, and the odd bytes at the end; lengths of names. With an argument
+/* boundary_read.c - the reader's C boundary: null and empty slices, buffers of every length modulo 20, which an event has, exactly enough
+ * room and one number or byte short, guard bytes around every slice, both inputs as they were, and the odd bytes at the end; lengths of names. With an argument
  * there are no guards. */
 #include "check.h"
 
 static const char stock[] = "<!ELEMENT LIST O O (ITEM+)><!ELEMENT ITEM O O (NAME,QTY?)>"
                             "<!ELEMENT NAME O O (#PCDATA)><!ELEMENT QTY - O (#PCDATA)>";
 static const char clamp[] = "clamp<QTY>40<ITEM>tape";
-/* the events of clamp under stock, from the paper's shelf */
+/* the events of clamp under stock, from the paper's shelf, with the places that their starts took */
 static const uint32_t clamp_events[] = {
-    2, 1, 0,  0, 2, 2, 0,  0, 2, 3, 0,  0, 5, 0, 0,  5, 4, 3, 5,  0, 1, 4, 5,  5, 5, 0, 10, 2, 4, 4, 12, 0,
-    4, 2, 12, 0, 1, 2, 12, 6, 2, 3, 18, 0, 5, 0, 18, 4, 4, 3, 22, 0, 4, 2, 22, 0, 4, 1, 22, 0,
+    2, 1, 0,  0, 0, 2, 2, 0,  0, 1, 2, 3, 0,  0, 1, 5, 0, 0,  5, 0, 4, 3, 5,  0, 0, 1, 4, 5,  5, 2, 5, 0, 10, 2, 0, 4, 4, 12, 0, 0,
+    4, 2, 12, 0, 0, 1, 2, 12, 6, 1, 2, 3, 18, 0, 1, 5, 0, 18, 4, 0, 4, 3, 22, 0, 0, 4, 2, 22, 0, 0, 4, 1, 22, 0, 0,
 };
+/* one element after the other in the order of a model's names, and each at its place */
+static const char row[] = "<!ELEMENT R - O (A?,(B|C),A?,E*)><!ELEMENT A - O EMPTY><!ELEMENT B - O EMPTY><!ELEMENT C - O EMPTY><!ELEMENT E - O EMPTY>";
 
 static int are_clamp_events(const uint8_t *buffer)
 {
@@ -19,6 +21,24 @@ static int are_clamp_events(const uint8_t *buffer)
         if (sgml_number(buffer, k) != clamp_events[k])
             return 0;
     return 1;
+}
+
+/* The places of the starts that a document has under row, as digits. */
+static void check_places(const char *text, const char *places)
+{
+    uint32_t answer[SGML_ANSWER_SIZE];
+    uint8_t buffer[40 * SGML_EVENT_BYTES];
+    char found[48] = "";
+    size_t k, n = 0;
+    check(sgml_read((const uint8_t *)row, strlen(row), (const uint8_t *)text, strlen(text), buffer, sizeof buffer, answer, SGML_NAMELEN) == SGML_ACCEPTED, text);
+    for (k = 0; k < answer[SGML_ANSWER_COUNT] && k < 40; k++) {
+        struct sgml_event e = sgml_event_at(buffer, k);
+        if (e.kind == SGML_KIND_START || e.kind == SGML_KIND_START_INFERRED)
+            found[n++] = (char)('0' + e.place);
+        else
+            check(e.place == 0, "no place but of a start");
+    }
+    check(!strcmp(found, places), places);
 }
 
 /* What the buffer holds after an answer, and what the answer says beside its number. */
@@ -94,9 +114,9 @@ static void check_rooms(void)
     const size_t enough = sizeof clamp_events;
     size_t room, skew;
     for (skew = 0; skew < 4; skew++) {
-        for (room = 0; room < enough + 20; room++)
+        for (room = 0; room < enough + 2 * SGML_EVENT_BYTES; room++)
             check(number_of(stock, clamp, room, skew) == (room / 4 < enough / 4 ? SGML_ERR_NO_ROOM : 0), "19 exactly if it does not fit");
-        for (room = 0; room < 8; room++) {
+        for (room = 0; room < SGML_EVENT_BYTES; room++) {
             check(number_of(stock, "<LIST></LIST>", room, skew) == SGML_ERR_INCOMPLETE, "13 comes before 19");
             check(number_of(stock, "a\001", room, skew) == SGML_ERR_BYTE, "2 comes before 19");
             check(number_of(stock, "", room, skew) == SGML_ERR_NO_DOCUMENT, "18 comes before 19");
@@ -124,6 +144,11 @@ int main(int argc, char **argv)
     if (argc > 1)
         guard = 0;
     check_rooms();
+    check_places("<R><B>", "02");
+    check_places("<R><A><B>", "012");
+    check_places("<R><B><A>", "024");
+    check_places("<R><A><C><A><E><E>", "013455");
+    check_places("<R><C></R>", "03");
     check_lengths();
     check_slices(NULL, 0, NULL, 0, SGML_ERR_ELEMENTS, SGML_IN_TYPE, 0, "all null");
     check_slices(stock, 0, clamp, 0, SGML_ERR_ELEMENTS, SGML_IN_TYPE, 0, "all empty");

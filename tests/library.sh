@@ -42,6 +42,10 @@ echo "the library on the vectors"
 cc -std=c99 -Wall -Wextra -pedantic -Werror -O2 -Iinclude tests/judged.c target/staticlib/libsgml.a -o "$out/judged"
 "$out/judged" tests/vectors/*/*/
 
+echo "the numbers of events, on the vectors that have them"
+cc -std=c99 -Wall -Wextra -pedantic -Werror -O2 -Iinclude tests/numbers.c target/staticlib/libsgml.a -o "$out/numbers"
+"$out/numbers" tests/vectors/*/*/
+
 echo "the standard's own content models"
 cc -std=c99 -Wall -Wextra -pedantic -Werror -O2 -Iinclude tests/listed.c target/staticlib/libsgml.a -o "$out/listed"
 "$out/listed" tests/standard.cases

@@ -5,7 +5,7 @@
 #include <string.h>
 
 #define TEXT 8192
-#define LENT (4 * 16384)
+#define LENT (4 * 20480)
 
 static char type[TEXT], document[TEXT], expected[TEXT], printed[TEXT];
 

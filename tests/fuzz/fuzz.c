@@ -165,18 +165,34 @@ static void check_order(struct sgml_event before, struct sgml_event e)
         must(e.offset > before.offset + before.length, "a run is longest");
 }
 
+/* A start has a place of its parent's model, but for the document element; a place has one name. No other event has a place. */
+static void check_place(struct sgml_event e, uint32_t parent, const uint8_t *records, uint32_t names[SGML_ELEMENT_LIMIT + 1][SGML_GRPGTCNT + 1])
+{
+    if ((e.kind != SGML_KIND_START && e.kind != SGML_KIND_START_INFERRED) || !parent) {
+        must(e.place == 0, "no place but of a start in an element");
+        return;
+    }
+    must(e.place >= 1 && e.place <= sgml_record_at(records, parent - 1).tokens, "a place of the parent's model");
+    must(!names[parent][e.place] || names[parent][e.place] == e.element, "a place has one name");
+    names[parent][e.place] = e.element;
+    see(9, e.place);
+}
+
 /* Starts and ends nest: never more than 24 open, none before the document element and after it. */
 static void check_events(const uint8_t *events, uint32_t count, struct slice document, struct slice type, const uint8_t *records,
                          uint32_t elements)
 {
     uint32_t open[SGML_TAGLVL], depth = 0, k;
-    struct sgml_event before = { 0, 0, 0, 0 };
+    uint32_t names[SGML_ELEMENT_LIMIT + 1][SGML_GRPGTCNT + 1];
+    struct sgml_event before = { 0, 0, 0, 0, 0 };
+    memset(names, 0, sizeof names);
     must(count >= 2, "a document has an element");
     must(count <= SGML_MOST_EVENTS(document.length), "no more events than the header says");
     for (k = 0; k < count; k++) {
         struct sgml_event e = sgml_event_at(events, k);
         check_event(e, document, type, records, elements);
         check_order(before, e);
+        check_place(e, depth ? open[depth - 1] : 0, records, names);
         must(depth > 0 || k == 0, "nothing stands outside the document element");
         if (e.kind == SGML_KIND_START || e.kind == SGML_KIND_START_INFERRED) {
             must(depth < SGML_TAGLVL && (k > 0 || e.element == 1), "at most 24 open, the document element first");
@@ -197,11 +213,13 @@ static void check_events(const uint8_t *events, uint32_t count, struct slice doc
 static void check_room(struct slice type, struct slice document, uint32_t count, size_t odd)
 {
     struct answer a;
-    read_events(type, document, (size_t)count * SGML_EVENT_BYTES + odd % 4, &a);
+    read_events(type, document, (size_t)count * SGML_EVENT_BYTES + odd % SGML_EVENT_BYTES, &a);
     must(a.numbers[SGML_ANSWER_NUMBER] == 0 && a.numbers[SGML_ANSWER_COUNT] == count, "exactly enough room is enough");
     read_events(type, document, (size_t)count * SGML_EVENT_BYTES - 4 + odd % 4, &a);
     must(a.numbers[SGML_ANSWER_NUMBER] == SGML_ERR_NO_ROOM && a.numbers[SGML_ANSWER_INPUT] == SGML_IN_DOCUMENT && a.numbers[SGML_ANSWER_POSITION] == 0,
          "one number short is 19");
+    read_events(type, document, (size_t)count * SGML_EVENT_BYTES - 1 - odd % SGML_EVENT_BYTES, &a);
+    must(a.numbers[SGML_ANSWER_NUMBER] == SGML_ERR_NO_ROOM, "a byte or more short is 19");
 }
 
 /* What is accepted is accepted where names may be longer, with the same events: it has no name that was too long. */

@@ -129,7 +129,7 @@ fn compare_inputs(case: u64, random: &mut Random, inputs: &Inputs, tally: &mut T
 /// Bytes per record of the call.
 fn record_bytes(inputs: &Inputs) -> usize {
     if inputs.document.is_some() {
-        4 * 4
+        4 * oracle::NUMBERS_PER_EVENT
     } else {
         6 * 4
     }
@@ -142,7 +142,7 @@ fn answer_with_room(inputs: &Inputs) -> Answer {
         // No document brings more events than this: under 50 for each token, see the paper's
         // limit of 24 open elements, and a token has at least one byte.
         Some(document) => {
-            let room = 4 * 50 * (document.len().min(65_535) + 1);
+            let room = oracle::NUMBERS_PER_EVENT * 50 * (document.len().min(65_535) + 1);
             oracle::read(
                 inputs.name_length,
                 &inputs.type_file,

@@ -21,6 +21,8 @@ use onsgmls::{add_data, clashes, Event, Onsgmls};
 use std::collections::BTreeMap;
 use std::{env, io, process};
 
+/// Five numbers of four bytes.
+const EVENT_BYTES: usize = 4 * oracle::NUMBERS_PER_EVENT;
 const SHOWN_DIFFERENCES: usize = 3;
 
 /// Of each kind of departure but `House` inputs that show it: type file and document, or a type file.
@@ -236,7 +238,7 @@ fn reading(name_length: u32, type_file: &[u8], document: &[u8]) -> Result<Vec<Ev
     let (mut answer, mut records) = ([0; 6], [0; 6 * 4 * 64]);
     library::judge(name_length, type_file, &mut records, &mut answer);
     // No token brings more than 50 events, and a token has at least one byte.
-    let mut buffer = vec![0; 16 * 50 * (document.len() + 1)];
+    let mut buffer = vec![0; EVENT_BYTES * 50 * (document.len() + 1)];
     library::read(name_length, type_file, document, &mut buffer, &mut answer);
     if answer[0] != 0 {
         return Err(answer[0]);
@@ -246,7 +248,7 @@ fn reading(name_length: u32, type_file: &[u8], document: &[u8]) -> Result<Vec<Ev
         u32::from_le_bytes(four) as usize
     };
     let mut events = Vec::new();
-    for event in buffer.chunks_exact(16).take(answer[5] as usize) {
+    for event in buffer.chunks_exact(EVENT_BYTES).take(answer[5] as usize) {
         let [kind, element, offset, length] = [0, 1, 2, 3].map(|index| number(event, index));
         if kind == 5 {
             add_data(&mut events, document[offset..offset + length].to_vec());

@@ -17,7 +17,7 @@ const IN_TYPE: u32 = 1;
 const IN_DOCUMENT: u32 = 2;
 
 const NUMBERS_PER_ELEMENT: usize = 6;
-const NUMBERS_PER_EVENT: usize = 4;
+pub const NUMBERS_PER_EVENT: usize = 5;
 
 /// The full answer of either call; number 0 is acceptance.
 #[derive(Clone, Copy, Debug, Default, PartialEq, Eq)]
@@ -43,7 +43,7 @@ pub fn judge(name_length: u32, type_file: &[u8], buffer: &mut [u32]) -> Answer {
     hand_over(numbers, NUMBERS_PER_ELEMENT, IN_TYPE, buffer)
 }
 
-/// Reads the document under the type file; an accepted one leaves four numbers per event.
+/// Reads the document under the type file; an accepted one leaves five numbers per event.
 pub fn read(name_length: u32, type_file: &[u8], document: &[u8], buffer: &mut [u32]) -> Answer {
     let numbers = events(name_length, type_file, document).map(|events| events.concat());
     hand_over(numbers, NUMBERS_PER_EVENT, IN_DOCUMENT, buffer)
@@ -1097,10 +1097,10 @@ impl<'a> DocumentReader<'a> {
             self.settle(Token::Data, at)?;
             match self.events.last_mut() {
                 // The longest run: the byte directly before was data too.
-                Some([DATA, _, offset, length]) if (*offset + *length) as usize == at => {
+                Some([DATA, _, offset, length, _]) if (*offset + *length) as usize == at => {
                     *length += 1
                 }
-                _ => self.event(DATA, None, at, 1),
+                _ => self.event(DATA, None, at, 1, None),
             }
         } else if self
             .current()
@@ -1139,16 +1139,16 @@ impl<'a> DocumentReader<'a> {
 
     fn start_tag(&mut self, at: usize) -> Result<usize, Fault> {
         let (element, after) = self.tag(at, at + 1)?;
-        self.settle(Token::Start(element), at)?;
+        let place = self.settle(Token::Start(element), at)?;
         // This element counts too, an EMPTY one as well: it is open for an instant.
         if self.open_elements() + 1 > TAGLVL {
             return Err((at, 15));
         }
-        self.event(START_WRITTEN, Some(element), at, after - at);
+        self.event(START_WRITTEN, Some(element), at, after - at, place);
         let elements = self.elements;
         match &elements[element].model {
             Some(model) => self.push(element, model),
-            None => self.event(END_OF_EMPTY, Some(element), after, 0),
+            None => self.event(END_OF_EMPTY, Some(element), after, 0, None),
         }
         Ok(after)
     }
@@ -1165,7 +1165,7 @@ impl<'a> DocumentReader<'a> {
             return Err((at, 13));
         }
         self.open.pop();
-        self.event(END_WRITTEN, Some(element), at, after - at);
+        self.event(END_WRITTEN, Some(element), at, after - at, None);
         Ok(after)
     }
 
@@ -1195,7 +1195,7 @@ impl<'a> DocumentReader<'a> {
     fn infer_end(&mut self, at: usize) {
         let element = self.current().element;
         self.open.pop();
-        self.event(END_INFERRED, Some(element), at, 0);
+        self.event(END_INFERRED, Some(element), at, 0, None);
     }
 
     fn current(&self) -> &Open<'a> {
@@ -1217,8 +1217,9 @@ impl<'a> DocumentReader<'a> {
         self.current().model.complete(&self.current().remainder)
     }
 
-    /// Steps 1 to 4. Afterwards the token's place is taken; its element isn't pushed yet.
-    fn settle(&mut self, token: Token, at: usize) -> Result<(), Fault> {
+    /// Steps 1 to 4. Afterwards the token's place is taken; its element isn't pushed yet. Gives the
+    /// place, if it is one of an element's model.
+    fn settle(&mut self, token: Token, at: usize) -> Result<Option<usize>, Fault> {
         // The document element was there and has ended.
         if self.open_elements() == 0 && self.current_complete() {
             return Err((at, 16));
@@ -1237,11 +1238,11 @@ impl<'a> DocumentReader<'a> {
             }
             self.infer_end(at);
         }
-        self.take(token);
+        let place = self.take(token);
         // Inferred starts alone can pass the limit.
         match self.open_elements() > TAGLVL {
             true => Err((at, 15)),
-            false => Ok(()),
+            false => Ok(place),
         }
     }
 
@@ -1252,7 +1253,8 @@ impl<'a> DocumentReader<'a> {
         }
     }
 
-    /// What remains of the current element's model if the token is taken as the next place.
+    /// The place as which the token may be taken next in the current element, and what remains of the
+    /// model then.
     fn fitting(&self, token: Token) -> Option<(usize, Remainder)> {
         let current = self.current();
         self.fitting_in(token, current.model, &current.remainder)
@@ -1269,7 +1271,8 @@ impl<'a> DocumentReader<'a> {
         next.find(|(place, _)| model.places[*place].name == name)
     }
 
-    fn take(&mut self, token: Token) {
+    /// Gives the place taken, unless it is that of the document element, which stands in no model.
+    fn take(&mut self, token: Token) -> Option<usize> {
         let (place, remainder) = self
             .fitting(token)
             .expect("only a token that fits is taken");
@@ -1279,6 +1282,7 @@ impl<'a> DocumentReader<'a> {
             .expect("the document itself is never popped");
         current.remainder = remainder;
         current.taken.insert(place);
+        (self.open_elements() > 0).then_some(place)
     }
 
     /// Step 2: the elements to infer, outermost first, with their models. The way is forced, for
@@ -1309,8 +1313,8 @@ impl<'a> DocumentReader<'a> {
 
     fn infer_starts(&mut self, chain: &[(usize, &'a Model)], at: usize) {
         for &(element, model) in chain {
-            self.take(Token::Start(element));
-            self.event(START_INFERRED, Some(element), at, 0);
+            let place = self.take(Token::Start(element));
+            self.event(START_INFERRED, Some(element), at, 0, place);
             self.push(element, model);
         }
     }
@@ -1324,9 +1328,22 @@ impl<'a> DocumentReader<'a> {
         });
     }
 
-    fn event(&mut self, kind: u32, element: Option<usize>, offset: usize, length: usize) {
-        let number = element.map_or(0, |element| element as u32 + 1);
-        self.events
-            .push([kind, number, offset as u32, length as u32]);
+    /// Elements and places count from 0 here and from 1 in events, where 0 is none.
+    fn event(
+        &mut self,
+        kind: u32,
+        element: Option<usize>,
+        offset: usize,
+        length: usize,
+        place: Option<usize>,
+    ) {
+        let number = |index: Option<usize>| index.map_or(0, |index| index as u32 + 1);
+        self.events.push([
+            kind,
+            number(element),
+            offset as u32,
+            length as u32,
+            number(place),
+        ]);
     }
 }

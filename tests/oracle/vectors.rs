@@ -1,6 +1,7 @@
 //! Runs the oracle over a folder of vectors, each a folder GROUP/CASE with type.sgm, doc.sgm and
 //! expected, and checks that the small program would print exactly what is expected; where a file `args`
-//! gives another length of names than 8, that a program would which gives that one.
+//! gives another length of names than 8, that a program would which gives that one. A file `numbers` has
+//! the five numbers of each event.
 //!
 //! rustc -O --edition 2021 vectors.rs && ./vectors FOLDER
 
@@ -13,7 +14,7 @@ use std::path::Path;
 use std::{env, fs, io, process};
 
 /// What the small program lends.
-const LENT: usize = 16_384;
+const LENT: usize = 20_480;
 
 fn main() -> io::Result<()> {
     let Some(folder) = env::args().nth(1) else {
@@ -22,13 +23,14 @@ fn main() -> io::Result<()> {
     };
     let (mut passed, mut failed) = (0, 0);
     for case in cases_in(Path::new(&folder))? {
-        let printed = small_program(
+        let (printed, numbers) = small_program(
             name_length(&case),
             &fs::read(case.join("type.sgm"))?,
             &fs::read(case.join("doc.sgm"))?,
         );
         let expected = fs::read_to_string(case.join("expected"))?;
-        if printed == expected {
+        let has_numbers = fs::read_to_string(case.join("numbers"));
+        if printed == expected && has_numbers.map_or(true, |expected| numbers == expected) {
             passed += 1;
         } else {
             failed += 1;
@@ -43,7 +45,8 @@ fn main() -> io::Result<()> {
     process::exit((failed > 0 || passed == 0) as i32);
 }
 
-fn small_program(name_length: u32, type_file: &[u8], document: &[u8]) -> String {
+/// What it would print, and the numbers of the events, a line each.
+fn small_program(name_length: u32, type_file: &[u8], document: &[u8]) -> (String, String) {
     let mut buffer = [0; LENT];
     let answer = oracle::read(name_length, type_file, document, &mut buffer);
     if answer.number != 0 {
@@ -52,22 +55,29 @@ fn small_program(name_length: u32, type_file: &[u8], document: &[u8]) -> String 
         } else {
             "document"
         };
-        return format!(
+        let refused = format!(
             "refused {} in {input} at {}\n",
             answer.number, answer.position
         );
+        return (refused, String::new());
     }
     let names = element_names(name_length, type_file);
     let mut printed = format!("events {}\n", answer.count);
-    for event in buffer.chunks(4).take(answer.count as usize) {
+    let mut numbers = String::new();
+    for event in buffer
+        .chunks(oracle::NUMBERS_PER_EVENT)
+        .take(answer.count as usize)
+    {
         let name = if event[1] == 0 {
             "-"
         } else {
             &names[event[1] as usize - 1]
         };
         let _ = writeln!(printed, "{} {name} {} {}", event[0], event[2], event[3]);
+        let line: Vec<String> = event.iter().map(u32::to_string).collect();
+        let _ = writeln!(numbers, "{}", line.join(" "));
     }
-    printed
+    (printed, numbers)
 }
 
 /// Upper case names of the declared elements, from the judge's records.

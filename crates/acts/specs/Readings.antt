@@ -15,7 +15,7 @@ use Rattle.rules.specs.Document.{Tag, Piece, startTag, endTag, skipped, blank, 
 use Rattle.rules.specs.Elements.{numberOf, contentOf, hasModel, endO}
 use Rattle.rules.specs.Decisions.{Token, start, pcdata, Decisions}
 use Rattle.rules.specs.Events.{Event, startWritten, startInferred, endWritten, endInferred, endOfEmpty}
-use Rattle.rules.specs.Settling.{Open, State, nothingOpen, takePlace, enter, note, limited, isOpen, Inward, settled, stuck, fitting, isComplete, requiredPlace, chain, inferStarts, takeToken, inward, settleFrom, isOver, settle, startElement, takeData, takeBlank, endLeftOut, closeFrom, endElement, endFrom, endDocument}
+use Rattle.rules.specs.Settling.{Open, State, nothingOpen, takePlace, placeTaken, enter, note, limited, isOpen, Inward, settled, stuck, fitting, isComplete, requiredPlace, chain, inferStarts, takeToken, inward, settleFrom, isOver, settle, startElement, takeData, takeBlank, endLeftOut, closeFrom, endElement, endFrom, endDocument}
 use Rattle.rules.specs.Reader.{Reached, tagged, settlePiece, piecesWithin, document}
 use Rattle.rules.specs.Acts.{Declared, starts, empties, infers, data-byte, infers-end, ends, Acts, still, next, Passes, begins, goes, Few}
 use Rattle.rules_laws.specs.Holds.{stops, reads, Gives, each, so, on, either, got-so}
@@ -31,21 +31,27 @@ Within n z = length (z .around) ≤ n
 module _ (s : List ℕ) (es : List Element) (D : Decisions) where
   -- Starts that are inferred
 
+  -- The start of k is inferred in the current element, where it takes the required place.
+  abbrev startIn : (k at : ℕ) → State → State
+  startIn k at z =
+      let y = takePlace (requiredPlace s es D (z .current)) z in
+      note (startInferred k at (placeTaken (y .current))) (enter k y)
+
   starts-deep : (at : ℕ) (ks : List ℕ) (z : State) → length (inferStarts s es D at ks z .around) ≡ length (z .around) + length ks
   unfolding inferStarts
   starts-deep at [] z = omega arith
-  starts-deep at (k ∷ ks) z = starts-deep at ks (note (startInferred k at) (enter k (takePlace (requiredPlace s es D (z .current)) z))) ∙ omega arith
+  starts-deep at (k ∷ ks) z = starts-deep at ks (startIn k at z) ∙ omega arith
 
   starts-acts : (t : Token) (at : ℕ) (ks : List ℕ) (z : State) → Leads s es D t (z .current) ks → (n : ℕ) → length (z .around) + length ks ≤ n → Acts s es D (Within n) z (inferStarts s es D at ks z)
   unfolding inferStarts
   starts-acts t at [] z l n h = still {z = z} (omega arith)
   starts-acts t at (k ∷ ks) z (e, i, l) n h =
-      next {z = z} (omega arith) (infers k at e (leb-true 1 k i)) (starts-acts t at ks (note (startInferred k at) (enter k (takePlace (requiredPlace s es D (z .current)) z))) l n (omega arith))
+      next {z = z} (omega arith) (infers k at e (leb-true 1 k i)) (starts-acts t at ks (startIn k at z) l n (omega arith))
 
   starts-fit : (t : Token) (at : ℕ) (ks : List ℕ) (z : State) → Leads s es D t (z .current) ks → 1 ≤ fitting s es D (inferStarts s es D at ks z .current) t
   unfolding inferStarts
   starts-fit t at [] z l = leb-true 1 _ l
-  starts-fit t at (k ∷ ks) z (e, i, l) = starts-fit t at ks (note (startInferred k at) (enter k (takePlace (requiredPlace s es D (z .current)) z))) l
+  starts-fit t at (k ∷ ks) z (e, i, l) = starts-fit t at ks (startIn k at z) l
 
   -- Settling
 
@@ -121,22 +127,22 @@ module _ (s : List ℕ) (es : List Element) (D : Decisions) where
     here-acts : Few z → Few y → Acts s es D Few z (c .here)
     here-acts f l = c .acts TAGLVL f l
 
-  started : (k at after : ℕ) {z y : State} → Few z → Declared es k → Comes (start k) z y → Few (enter k y) → hasModel (contentOf es k) ≡ true → Acts s es D Few z (note (startWritten k at after) (enter k y))
+  started : (k at after : ℕ) {z y : State} → Few z → Declared es k → Comes (start k) z y → Few (enter k y) → hasModel (contentOf es k) ≡ true → Acts s es D Few z (note (startWritten k at after (placeTaken (y .current))) (enter k y))
   started k at after {z} f d c l m =
       acts-then (here-acts c f (omega arith))
-      (subst (λ (w : State). Acts s es D Few (c .here) (note (startWritten k at after) (enter k w))) (sym (c .taken))
-      (next {z = c .here} (omega (arith, here-deep c)) (starts k at after d (c .fits) m) (still {z = note (startWritten k at after) (enter k (takeToken s es D (start k) (c .here)))} (omega (arith, here-deep c)))))
+      (subst (λ (w : State). Acts s es D Few (c .here) (note (startWritten k at after (placeTaken (w .current))) (enter k w))) (sym (c .taken))
+      (next {z = c .here} (omega (arith, here-deep c)) (starts k at after d (c .fits) m) (still {z = note (startWritten k at after (placeTaken (takeToken s es D (start k) (c .here) .current))) (enter k (takeToken s es D (start k) (c .here)))} (omega (arith, here-deep c)))))
 
-  emptied : (k at after : ℕ) {z y : State} → Few z → Declared es k → Comes (start k) z y → Few (enter k y) → hasModel (contentOf es k) ≡ false → Acts s es D Few z (note (endOfEmpty k after) (note (startWritten k at after) y))
+  emptied : (k at after : ℕ) {z y : State} → Few z → Declared es k → Comes (start k) z y → Few (enter k y) → hasModel (contentOf es k) ≡ false → Acts s es D Few z (note (endOfEmpty k after) (note (startWritten k at after (placeTaken (y .current))) y))
   emptied k at after {z} f d c l m =
       acts-then (here-acts c f (omega arith))
-      (subst (λ (w : State). Acts s es D Few (c .here) (note (endOfEmpty k after) (note (startWritten k at after) w))) (sym (c .taken))
+      (subst (λ (w : State). Acts s es D Few (c .here) (note (endOfEmpty k after) (note (startWritten k at after (placeTaken (w .current))) w))) (sym (c .taken))
       (next {z = c .here} (omega (arith, here-deep c)) (empties k at after d (c .fits) m (omega (arith, here-deep c)))
-      (still {z = note (endOfEmpty k after) (note (startWritten k at after) (takeToken s es D (start k) (c .here)))} (omega (arith, here-deep c)))))
+      (still {z = note (endOfEmpty k after) (note (startWritten k at after (placeTaken (takeToken s es D (start k) (c .here) .current))) (takeToken s es D (start k) (c .here)))} (omega (arith, here-deep c)))))
 
   -- A start tag that has its place in y is noted, and its element opened, or over at once.
   pub noted-acts : (k at after : ℕ) (z y : State) → Declared es k → Few z → Comes (start k) z y
-      → Gives (Acts s es D Few z) (andThen (limited at (enter k y)) λ x. elim (hasModel (contentOf es k)) [ true ↦ got (note (startWritten k at after) x) | false ↦ got (note (endOfEmpty k after) (note (startWritten k at after) y)) ])
+      → Gives (Acts s es D Few z) (andThen (limited at (enter k y)) λ x. elim (hasModel (contentOf es k)) [ true ↦ got (note (startWritten k at after (placeTaken (y .current))) x) | false ↦ got (note (endOfEmpty k after) (note (startWritten k at after (placeTaken (y .current))) y)) ])
   noted-acts k at after z y d f c =
       on (limited-few at (enter k y)) λ x l.
       either (hasModel (contentOf es k)) (λ m. reads (rw (l .0) (started k at after f d c (l .1) m))) (λ m. reads (emptied k at after f d c (l .1) m))

@@ -5,9 +5,11 @@
 // each member, from the first.
 use layout::BEGUN;
 use layout::BEGUN_WORDS;
+use layout::ElementNo;
 use layout::GROUP;
 use layout::MEMBER;
 use layout::POSITIONS;
+use layout::Place;
 
 fn wide(x: u32) -> u64 {
     x as u64
@@ -23,42 +25,42 @@ fn number(members: &[u8], i: usize) -> usize {
 }
 
 // The innermost member that holds the place p of the element e, and 128 more where p can end it; or 0.
-fn holder(members: &[u8], e: usize, p: usize) -> usize {
-    number(members, e * MEMBER + p)
+fn holder(members: &[u8], e: ElementNo, p: Place) -> usize {
+    number(members, e.0 * MEMBER + p.0)
 }
 
 // The group of the member h.
-fn group_of(members: &[u8], e: usize, h: usize) -> usize {
-    number(members, e * MEMBER + POSITIONS + h)
+fn group_of(members: &[u8], e: ElementNo, h: usize) -> usize {
+    number(members, e.0 * MEMBER + POSITIONS + h)
 }
 
 // The place that the member h requires at its start, or 0.
-fn required_of(members: &[u8], e: usize, h: usize) -> usize {
-    number(members, e * MEMBER + 2 * POSITIONS + h)
+fn required_of(members: &[u8], e: ElementNo, h: usize) -> usize {
+    number(members, e.0 * MEMBER + 2 * POSITIONS + h)
 }
 
 // Where what is kept of the group g begins.
-fn record(e: usize, g: usize) -> usize {
-    e * MEMBER + 3 * POSITIONS + g * GROUP
+fn record(e: ElementNo, g: usize) -> usize {
+    e.0 * MEMBER + 3 * POSITIONS + g * GROUP
 }
 
 // The number of the group's first member.
-fn first_of(members: &[u8], e: usize, g: usize) -> usize {
+fn first_of(members: &[u8], e: ElementNo, g: usize) -> usize {
     number(members, record(e, g))
 }
 
 // How many members of the group cannot be nothing: these are numbered first.
-fn needed_in(members: &[u8], e: usize, g: usize) -> usize {
+fn needed_in(members: &[u8], e: ElementNo, g: usize) -> usize {
     number(members, record(e, g) + 1)
 }
 
 // How many members the group has.
-fn size_of(members: &[u8], e: usize, g: usize) -> usize {
+fn size_of(members: &[u8], e: ElementNo, g: usize) -> usize {
     number(members, record(e, g) + 2)
 }
 
 // The innermost member that holds the group, and 128 more where it can end with the group; or 0.
-fn holder_of(members: &[u8], e: usize, g: usize) -> usize {
+fn holder_of(members: &[u8], e: ElementNo, g: usize) -> usize {
     number(members, record(e, g) + 3)
 }
 
@@ -89,13 +91,13 @@ fn begun_of(begun: &[u32; BEGUN], level: usize, first: usize, k: usize) -> u64 {
 }
 
 // Whether a member of the group that cannot be nothing has not begun.
-fn lacks(members: &[u8], begun: &[u32; BEGUN], level: usize, e: usize, g: usize) -> bool {
+fn lacks(members: &[u8], begun: &[u32; BEGUN], level: usize, e: ElementNo, g: usize) -> bool {
     let k = needed_in(members, e, g);
     begun_of(begun, level, first_of(members, e, g), k) + 1 != 1 << k
 }
 
 // The member h and those that hold its group begin, from the inner to the outer ones: where one had begun, so had those around it.
-fn enter(members: &[u8], begun: &mut [u32; BEGUN], level: usize, e: usize, inner: usize) {
+fn enter(members: &[u8], begun: &mut [u32; BEGUN], level: usize, e: ElementNo, inner: usize) {
     let mut h = inner;
     while h != 0 {
         if has_begun(begun, level, h) {
@@ -107,7 +109,13 @@ fn enter(members: &[u8], begun: &mut [u32; BEGUN], level: usize, e: usize, inner
 }
 
 // The first group from the member `inner` outwards that lacks a member, where the member at hand can end, and so can those between; or 0.
-fn blocking(members: &[u8], begun: &[u32; BEGUN], level: usize, e: usize, inner: usize) -> usize {
+fn blocking(
+    members: &[u8],
+    begun: &[u32; BEGUN],
+    level: usize,
+    e: ElementNo,
+    inner: usize,
+) -> usize {
     let mut h = inner;
     while 128 < h {
         let g = group_of(members, e, h - 128);
@@ -120,7 +128,13 @@ fn blocking(members: &[u8], begun: &[u32; BEGUN], level: usize, e: usize, inner:
 }
 
 // The place that is required where the group g lacks a member: that of the only member that has not begun, or 0.
-fn required_in(members: &[u8], begun: &[u32; BEGUN], level: usize, e: usize, g: usize) -> usize {
+fn required_in(
+    members: &[u8],
+    begun: &[u32; BEGUN],
+    level: usize,
+    e: ElementNo,
+    g: usize,
+) -> usize {
     let first = first_of(members, e, g);
     let k = size_of(members, e, g);
     let idle = (1 << k) - 1 - begun_of(begun, level, first, k);
@@ -146,11 +160,11 @@ pub fn take(
     members: &[u8],
     begun: &mut [u32; BEGUN],
     level: usize,
-    e: usize,
-    u: usize,
-    p: usize,
+    e: ElementNo,
+    u: Place,
+    p: Place,
 ) -> usize {
-    if u == 0 {
+    if u.0 == 0 {
         clear(begun, level);
     }
     let h = holder(members, e, p);
@@ -167,9 +181,9 @@ pub fn may_follow(
     members: &[u8],
     begun: &[u32; BEGUN],
     level: usize,
-    e: usize,
-    u: usize,
-    p: usize,
+    e: ElementNo,
+    u: Place,
+    p: Place,
 ) -> bool {
     let mut h = holder(members, e, u) % 128;
     let mut i = holder(members, e, p) % 128;

@@ -12,7 +12,7 @@ use Rattle.rules.specs.Lent.{Lent, standing, room, filledWith, zeroed}
 use Rattle.rules.specs.Reading.{Reading, refused, got}
 use Rattle.rules.specs.TypeFile.{Element, typeFile}
 use Rattle.rules.specs.Judge.{Answer, refusal, acceptance, AllUnambiguous, FirstAmbiguous, Refuses, Accepts}
-use Rattle.rules.specs.Events.{Event}
+use Rattle.rules.specs.Events.{Event, eventWidth}
 use Rattle.rules.specs.Reader.{eventNumbers, documentRefusal, BothLegible, Reads, RefusesBoth, notOffered, typeTooLong, documentTooLong, typeNotAllowed, documentNotAllowed, malformed, ambiguous, unsettled, noRoom, ReadAs, refuses, accepts}
 use Rattle.numbers.specs.Laws.{eventNumbers-length, lent-length}
 use Rattle.rules_laws.specs.Within.{typeFile-within}
@@ -95,7 +95,7 @@ module _ {c : Settings} {s d : List ℕ} {room : ℕ} {a : Answer} where
       absurd (⊎-elim (λ j. omega (arith, rw e at h)) (λ j. omega (arith, rw e at h)) (document-within c s es (r .decisions) d n k (r .reading) .0))
   both-nine (noRoom es ev r f e) h = absurd (omega (arith, rw e at h))
 
-  both-nineteen : RefusesBoth c s d room a → a .number ≡ 19 → (es : List Element) × (ev : List Event) × Reads c s d es (got ev) × (room < 4 * length ev)
+  both-nineteen : RefusesBoth c s d room a → a .number ≡ 19 → (es : List Element) × (ev : List Event) × Reads c s d es (got ev) × (room < eventWidth * length ev)
   both-nineteen (notOffered o e) h = absurd (omega (arith, rw e at h))
   both-nineteen (typeTooLong o l e) h = absurd (omega (arith, rw e at h))
   both-nineteen (documentTooLong o l m e) h = absurd (omega (arith, rw e at h))
@@ -138,7 +138,7 @@ module _ {l : Lent} {c : Settings} {s d before : List ℕ} {a : Answer} {after :
   given-refuses (refuses r z) h = (r, z)
   given-refuses (accepts es ev r f e z) h = absurd (h (rw e))
 
-  pub given-accepts : ReadAs l c s d before a after → a .number ≡ 0 → (es : List Element) × (ev : List Event) × Reads c s d es (got ev) × (4 * length ev ≤ room l before) × (a ≡ acceptance (length ev)) × (after ≡ filledWith (standing l (eventNumbers ev)) before)
+  pub given-accepts : ReadAs l c s d before a after → a .number ≡ 0 → (es : List Element) × (ev : List Event) × Reads c s d es (got ev) × (eventWidth * length ev ≤ room l before) × (a ≡ acceptance (length ev)) × (after ≡ filledWith (standing l (eventNumbers ev)) before)
   given-accepts (refuses r z) h = absurd (both-some r h)
   given-accepts (accepts es ev r f e z) h = (es, ev, r, f, e, z)
 
@@ -148,7 +148,7 @@ module _ {l : Lent} {c : Settings} {s d before : List ℕ} {a : Answer} {after :
   pub given-nine : ReadAs l c s d before a after → a .number ≡ 9 → BothLegible c s d × (es : List Element) × (typeFile c s ≡ got es) × FirstAmbiguous s (a .position) (a .first) (a .second) es
   given-nine x h = both-nine (given-refuses x (λ z. omega arith) .0) h
 
-  pub given-nineteen : ReadAs l c s d before a after → a .number ≡ 19 → (es : List Element) × (ev : List Event) × Reads c s d es (got ev) × (room l before < 4 * length ev)
+  pub given-nineteen : ReadAs l c s d before a after → a .number ≡ 19 → (es : List Element) × (ev : List Event) × Reads c s d es (got ev) × (room l before < eventWidth * length ev)
   given-nineteen x h = both-nineteen (given-refuses x (λ z. omega arith) .0) h
 
   given-type : BothLegible c s d → ReadAs l c s d before a after → OfType c s a

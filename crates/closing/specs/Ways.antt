@@ -117,7 +117,7 @@ module _ {facts : List ℕ} {x at : ℕ} (after : ℕ) {n : ℕ} {o : Open} {num
             stands = λ s es f h y. absurd (omega arith);
           }
 
-      pub tag-closed : r .open .complete ≡ true → {next : Open} {m : ℕ} {numbers″ bytes″ : List ℕ} → next ≡ ended (r .open) → m ≡ r .events + 1 → Puts numbers′ bytes′ (r .events) (noted 3 x at (after - at) ∷ []) numbers″ bytes″
+      pub tag-closed : r .open .complete ≡ true → {next : Open} {m : ℕ} {numbers″ bytes″ : List ℕ} → next ≡ ended (r .open) → m ≡ r .events + 1 → Puts numbers′ bytes′ (r .events) (noted 3 x at (after - at) 0 ∷ []) numbers″ bytes″
           → Tagged facts x at after n o numbers bytes (left next m 0) numbers″ bytes″
       tag-closed t e c p =
           let sizes = length-append events (endWritten x at after ∷ []) in

@@ -4,7 +4,9 @@
 // buffers before.
 // Where the table is no type's, or the state stands in none, what is brought is not decided, but that the state's numbers are in range, that the
 // refusal number is below 20, and that so many events were put as are counted.
+use layout::ElementNo;
 use layout::FACTS;
+use layout::Place;
 use open_elements::Open;
 use open_elements::Outcome;
 ghost use Prim.Native.Nat.{_+_, _≤_, _<_};
@@ -16,15 +18,15 @@ ghost use Rattle.closing.specs.Closed.{Tagged, Finished};
 pub fn end_tag(
     facts: &[u8; FACTS],
     state: Open,
-    x: usize,
+    x: ElementNo,
     at: usize,
     after: usize,
     n: usize,
     numbers: &mut [u32],
     bytes: &mut [u8],
 ) -> Outcome
-    requires { ⌜ Ranged state × (at ≤ after) × (after < 4294967296) × (x ≤ 64) × (n + 50 < 4294967296) ⌝ }
-    ensures { λ r. ⌜ Tagged (now (facts .entry)) x at after n state (now (numbers .entry)) (now (bytes .entry)) r (now (numbers .exit)) (now (bytes .exit)) ⌝ }
+    requires { ⌜ Ranged state × (at ≤ after) × (after < 4294967296) × (x .0 ≤ 64) × (n + 50 < 4294967296) ⌝ }
+    ensures { λ r. ⌜ Tagged (now (facts .entry)) (x .0) at after n state (now (numbers .entry)) (now (bytes .entry)) r (now (numbers .exit)) (now (bytes .exit)) ⌝ }
 {
     if !state.is_open(x) {
         return Outcome {
@@ -52,7 +54,8 @@ pub fn end_tag(
             number: 13,
         };
     }
-    let k = event_buffer::put_event(numbers, bytes, l.events, 3, x, at, after - at);
+    let none = Place(0);
+    let k = event_buffer::put_event(numbers, bytes, l.events, 3, x, at, after - at, none);
     Outcome {
         open: o.end(),
         events: k,
@@ -73,7 +76,8 @@ pub fn finish(
     requires { ⌜ Ranged state × (at < 4294967296) × (n + 50 < 4294967296) ⌝ }
     ensures { λ r. ⌜ Finished (now (facts .entry)) at n state (now (numbers .entry)) (now (bytes .entry)) r (now (numbers .exit)) (now (bytes .exit)) ⌝ }
 {
-    let l = left_out_ends::end_until(facts, state, 0, at, n, numbers, bytes);
+    let document = ElementNo(0);
+    let l = left_out_ends::end_until(facts, state, document, at, n, numbers, bytes);
     if l.number != 0 {
         return l;
     }

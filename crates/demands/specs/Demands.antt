@@ -3,10 +3,10 @@
 -- after; the theorems on the calls, further below, say that each call of the source gives just that. That it ends and stays in its buffers is checked with its
 -- contract. Meets says the same of the routines of both calls for C.
 use Prim.Native.Nat.{ℕ, _*_, _<_, _≤_}
-use mathlib.Core.Path.{_≡_}
-use mathlib.Core.Bool.{false}
+use mathlib.Core.Path.{_≡_, _∙_}
+use mathlib.Core.Bool.{true, false}
 use mathlib.Core.Logic.{_↔_}
-use mathlib.Core.List.{List, []}
+use mathlib.Core.List.{List, [], _∷_, _++_}
 use lib.ListN.{length}
 use contract.Lifetimes.{Lfts}
 use denote.Ref.{now}
@@ -19,12 +19,16 @@ use Rattle.rules.specs.Walk.{Group}
 use Rattle.rules.specs.Ambiguity.{Ambiguous, PairAtFault}
 use Rattle.rules.specs.TypeFile.{Place, Element, typeFile}
 use Rattle.rules.specs.Judge.{samePlace, Answer, refusal, Legible, Refuses, Accepts, Judged}
-use Rattle.rules.specs.Events.{Event}
-use Rattle.rules.specs.Settling.{State, nothingOpen}
-use Rattle.rules.specs.Acts.{Acts, Passes, Few}
+use Rattle.rules.specs.Events.{Event, eventWidth}
+use Rattle.rules.specs.Decisions.{Decisions}
+use Rattle.rules.specs.Settling.{State, nothingOpen, isComplete}
+use Rattle.rules.specs.Acts.{Acts, Deeds, IsStart, Took, Passes, Few}
 use Rattle.rules.specs.Reader.{BothLegible, Reads, RefusesBoth, ReadAs}
 use Rattle.rules.specs.Calls.{answerNumbers}
 use Rattle.acts.specs.Readings.{passes-acts, document-acts}
+use Rattle.acts.specs.Deeds.{acts-deeds}
+use Rattle.place_laws.specs.Taken.{deeds-took}
+use Rattle.place_laws.specs.Pinned.{deeds-one}
 use Rattle.demands.specs.Words.{Refusal, Acceptance, ModelOf, SomeAmbiguous, NamesFirst, NamesDecide, ReaderRefusal, ReaderAcceptance, SameVerdict}
 use Rattle.answer_laws.specs.Reader.{given-one, reading-one}
 use Rattle.demands.specs.Exists.{judged-some, read-some}
@@ -76,11 +80,11 @@ pub record ReaderKeeps (l : Lent) (c : Settings) (s d before : List ℕ) (a : An
   pub refusal-whole : (a .number ≡ 0 → ⊥) → ReaderRefusal s d before a after
   pub same-length : length after ≡ length before
   -- Demand 2: a document is accepted exactly when paper 01's rules accept it, with exactly their events.
-  pub accepted-exactly : (a .number ≡ 0) ↔ ((es : List Element) × (ev : List Event) × Reads c s d es (got ev) × (4 * length ev ≤ room l before))
+  pub accepted-exactly : (a .number ≡ 0) ↔ ((es : List Element) × (ev : List Event) × Reads c s d es (got ev) × (eventWidth * length ev ≤ room l before))
   pub acceptance-whole : a .number ≡ 0 → ReaderAcceptance l c s d before a after
   pub refused-exactly : (a .number ≡ 0 → ⊥) ↔ RefusesBoth c s d (room l before) a
   pub order-picks : (b : Answer) → RefusesBoth c s d (room l before) b → a ≡ b
-  pub too-small-exactly : (a .number ≡ 19) ↔ ((es : List Element) × (ev : List Event) × Reads c s d es (got ev) × (room l before < 4 * length ev))
+  pub too-small-exactly : (a .number ≡ 19) ↔ ((es : List Element) × (ev : List Event) × Reads c s d es (got ev) × (room l before < eventWidth * length ev))
   -- Paper 02, request six, as for the judge.
   pub not-offered : isOffered c ≡ false → a ≡ refusal 24 0 0 0
   pub not-offered-exactly : (a .number ≡ 24) ↔ (isOffered c ≡ false)
@@ -216,6 +220,32 @@ pub few-open-read : (c : Settings) (s d : List ℕ) (es : List Element) (ev : Li
 few-open-read c s d es ev x =
     let over = document-acts s es (x .decisions) d c ev (x .reading) in
     (over .last, over .acts, over .nothing, over .events)
+
+-- Paper 02, request seven: "Start events get a fifth number: the place they took in their parent's model, 0 for the document element; all other events
+-- carry 0 there", "under an accepted type no other place was possible for its name". Of each event e of a document that is read, with the events `before` it:
+-- where it is a start, these lead, by what each did (`Deeds` of the rules), to the state z, in whose current element, the parent, it took its place (`Took`).
+pub places-taken : (c : Settings) (s d : List ℕ) (es : List Element) (ev : List Event) (x : Reads c s d es (got ev)) (before : List Event) (e : Event) (after : List Event) → ev ≡ before ++ e ∷ after
+    → (IsStart e → (z : State) × Deeds s es (x .decisions) z × (z .events ≡ before) × Took s es (z .current) e) × ((IsStart e → ⊥) → e .place ≡ 0)
+places-taken c s d es ev x before e after parts =
+    let over = document-acts s es (x .decisions) d c ev (x .reading) in
+    deeds-took s es (x .accepted) (x .decisions) (x .means) (acts-deeds s es (x .decisions) Deeds.nothing (over .acts)) before e after (over .events ∙ parts)
+
+-- So it is of the events that a call writes: those of `ReaderAcceptance`, which every accepted call gives.
+pub places-written : (l : Lent) (c : Settings) (s d lent : List ℕ) (a : Answer) (left : List ℕ) (w : ReaderAcceptance l c s d lent a left) (before : List Event) (e : Event) (after : List Event)
+    → w .events ≡ before ++ e ∷ after
+    → (IsStart e → (z : State) × Deeds s (w .elements) (w .read .decisions) z × (z .events ≡ before) × Took s (w .elements) (z .current) e) × ((IsStart e → ⊥) → e .place ≡ 0)
+places-written l c s d lent a left w = places-taken c s d (w .elements) (w .events) (w .read)
+
+-- There is no other such state: what the same events did is one state.
+pub state-before : (s : List ℕ) (es : List Element) (D : Decisions) (z y : State) → Deeds s es D z → Deeds s es D y → z .events ≡ y .events → z ≡ y
+state-before s es D z y = deeds-one s es D
+
+-- All that a document does to the open elements, event by event: a start took a place and opened its element, an end closed a complete one, data fitted. At
+-- the end nothing is open, and the document element was there.
+pub events-did : (c : Settings) (s d : List ℕ) (es : List Element) (ev : List Event) (x : Reads c s d es (got ev)) → (z : State) × Deeds s es (x .decisions) z × (z .around ≡ []) × (isComplete s es (x .decisions) (z .current) ≡ true) × (z .events ≡ ev)
+events-did c s d es ev x =
+    let over = document-acts s es (x .decisions) d c ev (x .reading) in
+    (over .last, acts-deeds s es (x .decisions) Deeds.nothing (over .acts), over .nothing, over .complete, over .events)
 
 -- Demand 3 by pairs at fault: a model is ambiguous exactly if it has one; of a model that was read, both its places are places of the model.
 pub pair-exactly : (s : List ℕ) (g : Group) (ps : List Place) → Ambiguous (samePlace s ps) g ↔ ((p : ℕ) × (q : ℕ) × PairAtFault (samePlace s ps) g p q)

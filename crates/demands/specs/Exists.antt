@@ -13,7 +13,7 @@ use Rattle.rules.specs.Lent.{Lent, standing, room, filledWith, zeroed}
 use Rattle.rules.specs.Reading.{Reading, refused, got}
 use Rattle.rules.specs.TypeFile.{Element, typeFile}
 use Rattle.rules.specs.Judge.{Answer, refusal, acceptance, AllUnambiguous, records, Legible, Refuses, Accepts, Judged}
-use Rattle.rules.specs.Events.{Event}
+use Rattle.rules.specs.Events.{Event, eventWidth}
 use Rattle.rules.specs.Reader.{eventNumbers, documentRefusal, BothLegible, Reads, RefusesBoth, ReadAs}
 use Rattle.model_sets.specs.Bits.{bool-cases}
 use Rattle.text.specs.Laws.{span-in}
@@ -78,9 +78,9 @@ module _ (l : Lent) (c : Settings) (s d before : List ℕ) where
   reader-refuses a r = (a, zeroed before, ReadAs.refuses r refl)
 
   reader-accepted : (es : List Element) (ev : List Event) → Reads c s d es (got ev) → SomeRead
-  reader-accepted es ev x = go (decLt (room l before) (4 * length ev))
+  reader-accepted es ev x = go (decLt (room l before) (eventWidth * length ev))
     where
-      go : Dec (room l before < 4 * length ev) → SomeRead
+      go : Dec (room l before < eventWidth * length ev) → SomeRead
       go (yes h) = reader-refuses (documentRefusal 19 0) (RefusesBoth.noRoom es ev x h refl)
       go (no h) = (acceptance (length ev), filledWith (standing l (eventNumbers ev)) before, ReadAs.accepts es ev x (omega arith) refl refl)
 

@@ -13,7 +13,7 @@ use Rattle.rules.specs.Walk.{Group}
 use Rattle.rules.specs.Ambiguity.{Ambiguous, PairAtFault}
 use Rattle.rules.specs.TypeFile.{Place, Element, typeFile}
 use Rattle.rules.specs.Judge.{samePlace, Answer, refusal, Legible, Refuses, noRoom, Accepts, Judged, refuses, accepts}
-use Rattle.rules.specs.Events.{Event}
+use Rattle.rules.specs.Events.{Event, eventWidth}
 use Rattle.rules.specs.Reader.{BothLegible, Reads, RefusesBoth, ReadAs}
 use Rattle.demands.specs.Words.{Refusal, Acceptance, ModelOf, SomeAmbiguous, NamesFirst, NamesDecide, ReaderRefusal, ReaderAcceptance, SameVerdict}
 use Rattle.answer_laws.specs.Judge.{settled-one, settled-refuses, settled-accepts, settled-fair, settled-faulty, refuses-named, refuses-some, settled-twenty-four, settled-nine, settled-nineteen, first-model, model-exactly, not-ambiguous, names-alone, settled-length}
@@ -115,7 +115,7 @@ module _ (l : Lent) (c : Settings) (s d before : List ℕ) (a : Answer) (after :
 
   -- Demand 2: the document is accepted exactly when the rules accept it and the numbers fit, and then with exactly their events.
 
-  pub reader-accepted-exactly : (a .number ≡ 0) ↔ ((es : List Element) × (ev : List Event) × Reads c s d es (got ev) × (4 * length ev ≤ room l before))
+  pub reader-accepted-exactly : (a .number ≡ 0) ↔ ((es : List Element) × (ev : List Event) × Reads c s d es (got ev) × (eventWidth * length ev ≤ room l before))
   reader-accepted-exactly = (
     λ h. let (es, ev, r, f, e, z) = given-accepts called h in (es, ev, r, f),
     λ (es, ev, r, f). rw (one _ _ (ReadAs.accepts es ev r f refl refl)),
@@ -134,7 +134,7 @@ module _ (l : Lent) (c : Settings) (s d before : List ℕ) (a : Answer) (after :
   pub reader-order-picks : (b : Answer) → RefusesBoth c s d (room l before) b → a ≡ b
   reader-order-picks b r = one b _ (ReadAs.refuses r refl)
 
-  pub reader-too-small-exactly : (a .number ≡ 19) ↔ ((es : List Element) × (ev : List Event) × Reads c s d es (got ev) × (room l before < 4 * length ev))
+  pub reader-too-small-exactly : (a .number ≡ 19) ↔ ((es : List Element) × (ev : List Event) × Reads c s d es (got ev) × (room l before < eventWidth * length ev))
   reader-too-small-exactly = (
     given-nineteen called,
     λ (es, ev, r, f). rw (reader-order-picks _ (RefusesBoth.noRoom es ev r f refl)),

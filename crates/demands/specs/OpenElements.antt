@@ -27,6 +27,7 @@ use Rattle.document_laws.specs.Decide.{decided}
 use Rattle.document_laws.specs.Moves.{fits, required}
 use Rattle.last_places.specs.Turns.{Reaches}
 use Rattle.type_tables.specs.Means.{Rows, Facts, Tables}
+use Rattle.layout.specs.declared.Place as typed
 use Rattle.open_elements.specs.declared.Open.{Open}
 use Rattle.open_elements.specs.declared.Outcome.{Outcome}
 use Rattle.open_elements.specs.Means.{stateOf, fresh, took, Ranged, Stands}
@@ -80,10 +81,10 @@ pub new-few : (κs : Lfts 0) (a : ArgsD new.signature κs) (r : Open) (e : AtExi
 new-few κs a r e made = keeps-few (subst Ranged (sym made) ranged-fresh)
 
 pub take-few : (κs : Lfts 1) (a : ArgsD take.signature κs) (r : Open) (e : AtExit take.ended κs) → take-reads.Asked κs a → take-reads.Learnt κs a r e → KeepsFew (a .0) × KeepsFew r
-take-few κs a r e asked made = (keeps-few (asked .0), keeps-few (subst Ranged (sym made) (ranged-took (now (a .1 .0)) (a .1 .1 .0) (asked .0) (asked .1))))
+take-few κs a r e asked made = (keeps-few (asked .0), keeps-few (subst Ranged (sym made) (ranged-took (now (a .1 .0)) (a .1 .1 .0 .0) (asked .0) (asked .1))))
 
 pub start-few : (κs : Lfts 1) (a : ArgsD start.signature κs) (r : Open) (e : AtExit start.ended κs) → start-reads.Asked κs a → start-reads.Learnt κs a r e → KeepsFew (a .0) × KeepsFew r
-start-few κs a r e asked made = (keeps-few (asked .0), keeps-few (subst Ranged (sym made) (ranged-opening (now (a .1 .0)) (a .1 .1 .0) (asked .0) (asked .1) (asked .2))))
+start-few κs a r e asked made = (keeps-few (asked .0), keeps-few (subst Ranged (sym made) (ranged-opening (now (a .1 .0)) (a .1 .1 .0 .0) (asked .0) (asked .1) (asked .2))))
 
 pub infer-end-few : (κs : Lfts 0) (a : ArgsD infer-end.signature κs) (r : Open) (e : AtExit infer-end.ended κs) → infer-end-reads.Asked κs a → infer-end-reads.Learnt κs a r e → KeepsFew (a .0) × KeepsFew r
 infer-end-few κs a r e asked made = (keeps-few (asked .0), keeps-few (subst Ranged (sym made) (ranged-ended (asked .0) (asked .1))))
@@ -111,7 +112,7 @@ pub moment-few : (es : List Element) (z : State) (o : Open) → Moment es z o �
 moment-few es z o m = (m .many, keeps-few (m .ranged))
 
 pub moment-marks : (es : List Element) (z : State) (o : Open) → Moment es z o
-    → (o .element ≡ z .current .number) × ((g : Group) (ps : List Place) (n : ℕ) → contentOf es (z .current .number) ≡ model g ps n → MarksMean (o .complete) (o .required) g (z .current .taken))
+    → (o .element .0 ≡ z .current .number) × ((g : Group) (ps : List Place) (n : ℕ) → contentOf es (z .current .number) ≡ model g ps n → MarksMean (o .complete) (o .required .0) g (z .current .taken))
 moment-marks es z o m = (m .marks .current .element, λ g ps n e. m .marks .current .marks e)
 
 -- So it is of each element around the current one: the entries of the array say it of the elements of the rules' state, the innermost first (`AllSay` of
@@ -140,7 +141,7 @@ new-moment κs a r e made c s es accepted = subst (Moment es nothingOpen) (sym m
 pub take-fitting : (κs : Lfts 1) (a : ArgsD take.signature κs) (r : Open) (e : AtExit take.ended κs) → take-reads.Learnt κs a r e
     → (c : Settings) (s : List ℕ) (es : List Element) → Accepts c s es → (D : Decisions) → Means s es D → Rows es (now (a .1 .0))
     → let o = a .0 in
-    let place = a .1 .1 .0 in
+    let place = a .1 .1 .0 .0 in
     (z : State) → Moment es z o → (t : Token) → place ≡ fitting s es D (z .current) t → 1 ≤ place → Moment es (takeToken s es D t z) r
 take-fitting κs a r e made c s es accepted D means said z m t same some =
     subst (Moment es _) (sym (made ∙ ap (λ (p : ℕ). took (now (a .1 .0)) p (a .0)) same))
@@ -150,8 +151,8 @@ take-fitting κs a r e made c s es accepted D means said z m t same some =
 pub take-required : (κs : Lfts 1) (a : ArgsD take.signature κs) (r : Open) (e : AtExit take.ended κs) → take-reads.Learnt κs a r e
     → (c : Settings) (s : List ℕ) (es : List Element) → Accepts c s es → (D : Decisions) → Means s es D → Rows es (now (a .1 .0))
     → let o = a .0 in
-    let place = a .1 .1 .0 in
-    (z : State) → Moment es z o → place ≡ o .required → 1 ≤ place → Moment es (takePlace (requiredPlace s es D (z .current)) z) r
+    let place = a .1 .1 .0 .0 in
+    (z : State) → Moment es z o → place ≡ o .required .0 → 1 ≤ place → Moment es (takePlace (requiredPlace s es D (z .current)) z) r
 take-required κs a r e made c s es accepted D means said z m same some =
     let kept = same ∙ sym (required-kept s es accepted D means z (a .0) m) in
     subst (Moment es _) (sym (made ∙ ap (λ (p : ℕ). took (now (a .1 .0)) p (a .0)) kept))
@@ -161,10 +162,10 @@ take-required κs a r e made c s es accepted D means said z m same some =
 pub start-moment : (κs : Lfts 1) (a : ArgsD start.signature κs) (r : Open) (e : AtExit start.ended κs) → start-reads.Asked κs a → start-reads.Learnt κs a r e
     → (c : Settings) (s : List ℕ) (es : List Element) → Accepts c s es → Rows es (now (a .1 .0))
     → let o = a .0 in
-    let k = a .1 .1 .0 in
+    let k = a .1 .1 .0 .0 in
     (z : State) → Moment es z o → Declared es k → hasModel (contentOf es k) ≡ true → Moment es (enter k z) r
 start-moment κs a r e asked made c s es accepted said z m declared has =
-    subst (Moment es _) (sym made) (moment-entered s es accepted (now (a .1 .0)) said z (a .0) m (a .1 .1 .0) declared has (asked .1))
+    subst (Moment es _) (sym made) (moment-entered s es accepted (now (a .1 .0)) said z (a .0) m (a .1 .1 .0 .0) declared has (asked .1))
 
 -- `infer_end`: the method asks for the mark, so that the content is complete in the rules too. The parent u of the current element is the current one again,
 -- with us around it, and the end is noted. So it is of each end that a start tag, data, an end tag or the document's end infers.
@@ -213,7 +214,7 @@ module _ (c : Settings) (s d : List ℕ) (es : List Element) (rows : List ℕ) (
 pub within-start-tag : (κs : Lfts 5) (a : ArgsD token.signature κs) (r : Outcome) (e : AtExit token.ended κs) → token-reads.Learnt κs a r e
     → (s : List ℕ) (es : List Element) → Tables s es (now (a .0)) (now (a .1 .0)) (now (a .1 .1 .0))
     → let o = a .1 .1 .1 .0 in
-    let x = a .1 .1 .1 .1 .0 in
+    let x = a .1 .1 .1 .1 .0 .0 in
     let at = a .1 .1 .1 .1 .1 .0 in
     let after = a .1 .1 .1 .1 .1 .1 .0 in
     1 ≤ x → x ≤ length es → r .number ≡ 0 → (z : State) → Moment es z o
@@ -225,7 +226,7 @@ within-start-tag κs a r e settles s es tables some most done z m = settles-lead
 pub within-data : (κs : Lfts 5) (a : ArgsD token.signature κs) (r : Outcome) (e : AtExit token.ended κs) → token-reads.Learnt κs a r e
     → (s : List ℕ) (es : List Element) → Tables s es (now (a .0)) (now (a .1 .0)) (now (a .1 .1 .0))
     → let o = a .1 .1 .1 .0 in
-    let x = a .1 .1 .1 .1 .0 in
+    let x = a .1 .1 .1 .1 .0 .0 in
     let at = a .1 .1 .1 .1 .1 .0 in
     x ≡ 0 → r .number ≡ 0 → (z : State) → Moment es z o
     → (y : State) × (takeData s es (decided s es) at z ≡ got y) × Leads s es (decided s es) (now (a .0)) z o y (r .open)
@@ -235,7 +236,7 @@ within-data κs a r e settles s es tables nothing done z m = data-leads s es (ta
 pub within-end-tag : (κs : Lfts 3) (a : ArgsD end-tag.signature κs) (r : Outcome) (e : AtExit end-tag.ended κs) → end-tag-reads.Learnt κs a r e
     → (c : Settings) (s : List ℕ) (es : List Element) (rows : List ℕ) → Accepts c s es → Rows es rows → Facts s es (now (a .0))
     → let o = a .1 .0 in
-    let x = a .1 .1 .0 in
+    let x = a .1 .1 .0 .0 in
     let at = a .1 .1 .1 .0 in
     let after = a .1 .1 .1 .1 .0 in
     r .number ≡ 0 → (z : State) → Moment es z o
@@ -260,11 +261,11 @@ within-end κs a r e finished c s es rows accepted said facts-say none z m = fin
 pub within-ends : (κs : Lfts 5) (a : ArgsD step-ends.signature κs) (r : Stop) (e : AtExit step-ends.ended κs) → step-ends-reads.Learnt κs a r e
     → (s : List ℕ) (es : List Element) → Tables s es (now (a .0)) (now (a .1 .0)) (now (a .1 .1 .0))
     → let o = a .1 .1 .1 .0 in
-    let x = a .1 .1 .1 .1 .0 in
+    let x = a .1 .1 .1 .1 .0 .0 in
     x ≤ length es → (z : State) → Moment es z o
     → (y : State) × Beside s es (decided s es) (now (a .0)) z o y (r .open)
     × ((r .found ≡ Stuck → ⊥) → Infers s es (decided s es) (tokenOf x) (startsOf (r .found)) (y .current))
-    × ((p : ℕ) → r .found ≡ Taken p → p ≡ fitting s es (decided s es) (y .current) (tokenOf x))
+    × ((p : typed.Place) → r .found ≡ Taken p → p .0 ≡ fitting s es (decided s es) (y .current) (tokenOf x))
 within-ends κs a r e stops s es tables most z m = stops-lead s es (tables .accepted) (now (a .0)) (tables .rows-say) tables stops most z m
 
 -- Each start that is inferred before it (`infer_start` of inferring), where one or more are left to infer: it is one act, after which there is a moment with
@@ -286,11 +287,11 @@ pub within-place : (κs : Lfts 5) (a : ArgsD place.signature κs) (r : Outcome) 
     → (s : List ℕ) (es : List Element) → Tables s es (now (a .0)) (now (a .1 .0)) (now (a .1 .1 .0))
     → let o = a .1 .1 .1 .0 in
     let found = a .1 .1 .1 .1 .0 in
-    let x = a .1 .1 .1 .1 .1 .0 in
+    let x = a .1 .1 .1 .1 .1 .0 .0 in
     let at = a .1 .1 .1 .1 .1 .1 .0 in
     let after = a .1 .1 .1 .1 .1 .1 .1 .0 in
     1 ≤ x → x ≤ length es → r .number ≡ 0 → (z : State) → Moment es z o
-    → ((p : ℕ) → found ≡ Taken p → p ≡ fitting s es (decided s es) (z .current) (tokenOf x))
+    → ((p : typed.Place) → found ≡ Taken p → p .0 ≡ fitting s es (decided s es) (z .current) (tokenOf x))
     → (y : State) × (noting es x at after (takeToken s es (decided s es) (tokenOf x) z) ≡ got y) × Leads s es (decided s es) (now (a .0)) z o y (r .open)
 within-place κs a r e places s es tables some most done z m right = places-leads s es (tables .accepted) (now (a .0)) (tables .rows-say) tables _ places some most done z m right
 
@@ -299,10 +300,10 @@ pub within-data-place : (κs : Lfts 5) (a : ArgsD place.signature κs) (r : Outc
     → (s : List ℕ) (es : List Element) → Tables s es (now (a .0)) (now (a .1 .0)) (now (a .1 .1 .0))
     → let o = a .1 .1 .1 .0 in
     let found = a .1 .1 .1 .1 .0 in
-    let x = a .1 .1 .1 .1 .1 .0 in
+    let x = a .1 .1 .1 .1 .1 .0 .0 in
     let at = a .1 .1 .1 .1 .1 .1 .0 in
     x ≡ 0 → r .number ≡ 0 → (z : State) → Moment es z o
-    → ((p : ℕ) → found ≡ Taken p → p ≡ fitting s es (decided s es) (z .current) (tokenOf x))
+    → ((p : typed.Place) → found ≡ Taken p → p .0 ≡ fitting s es (decided s es) (z .current) (tokenOf x))
     → let y = takeToken s es (decided s es) pcdata z in
     Leads s es (decided s es) (now (a .0)) z o (record { current = y .current; around = y .around; events = withData at (y .events) }) (r .open)
 within-data-place κs a r e places s es tables nothing done z m right = places-data s es (tables .accepted) (now (a .0)) (tables .rows-say) tables _ places nothing done z m right
@@ -312,7 +313,7 @@ within-data-place κs a r e places s es tables nothing done z m right = places-d
 pub within-left-out-ends : (κs : Lfts 3) (a : ArgsD end-until.signature κs) (r : Outcome) (e : AtExit end-until.ended κs) → end-until-reads.Learnt κs a r e
     → (c : Settings) (s : List ℕ) (es : List Element) (rows : List ℕ) → Accepts c s es → Rows es rows → Facts s es (now (a .0))
     → let o = a .1 .0 in
-    let x = a .1 .1 .0 in
+    let x = a .1 .1 .0 .0 in
     let at = a .1 .1 .1 .0 in
     r .number ≡ 0 → (z : State) → Moment es z o
     → (y : State) × (inferEnds s es (decided s es) x at (z .around) (z .current) (z .events) ≡ got y) × Leads s es (decided s es) rows z o y (r .open)

@@ -11,7 +11,7 @@ use Rattle.rules.specs.Walk.{Group, Begins}
 use Rattle.rules.specs.Ambiguity.{SpellSame, Ambiguous, FirstPair}
 use Rattle.rules.specs.TypeFile.{Place, model, Element, typeFile}
 use Rattle.rules.specs.Judge.{placeAt, samePlace, Answer, acceptance, records, Accepts}
-use Rattle.rules.specs.Events.{Event}
+use Rattle.rules.specs.Events.{Event, eventWidth}
 use Rattle.rules.specs.Reader.{eventNumbers, Reads}
 
 -- The type judge
@@ -89,7 +89,7 @@ pub record ReaderAcceptance (l : Lent) (c : Settings) (s d before : List ℕ) (a
   pub elements : List Element
   pub events : List Event
   pub read : Reads c s d elements (got events)
-  pub fits : 4 * length events ≤ room l before
+  pub fits : eventWidth * length events ≤ room l before
   pub answer : a ≡ acceptance (length events)
   pub written : after ≡ filledWith (standing l (eventNumbers events)) before
 

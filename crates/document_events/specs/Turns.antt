@@ -14,6 +14,8 @@ use Rattle.rules.specs.Settling.{State, startElement, endElement, endDocument}
 use Rattle.rules.specs.Reader.{document, eventNumbers}
 use Rattle.numbers.specs.Laws.{written-none}
 use Rattle.text.specs.declared.Fault.{Fault}
+use Rattle.layout.specs.declared.ElementNo.{ElementNo}
+use Rattle.layout.specs.Typed.{elementNo}
 use Rattle.document_laws.specs.Decide.{decided}
 use Rattle.type_laws.specs.Names.{numberOf-range}
 use Rattle.type_laws.specs.Pcdata.{pcdata-stays}
@@ -63,7 +65,7 @@ module _ (at : ℕ) (r : Outcome) (ev : List Event) {x : Reading State} (e : out
 
 module _ (c : Settings) (s : List ℕ) (es : List Element) (d : List ℕ) (at : ℕ) (o : Open) (before : List Event) (h : at < length d) (reach : Reaches c s es d at (stateOf o before)) (events : List Event) (r : Outcome) (stands : r .number ≡ 0 → Stands es (r .open)) (x after : ℕ) where
   -- An end tag.
-  turned-end : Finds c s es d (o .element) (o .place) at (found.End x after)
+  turned-end : Finds c s es d (o .element .0) (o .place .0) at (found.End (elementNo x) after)
       → outcomeOf at (r .number) (stateOf (r .open) (before ++ events)) ≡ shortly (endElement s es (decided s es) x at after (stateOf o before)) → Turned c s es d at after before events r
   turned-end (n, i) e =
       record {
@@ -73,7 +75,7 @@ module _ (c : Settings) (s : List ℕ) (es : List Element) (d : List ℕ) (at : 
       }
 
   -- A start tag or a run of data, for 0.
-  turned-token : {e : Settings} → Accepts e s es → ToSettle c s es d (o .element) (o .place) at x after
+  turned-token : {e : Settings} → Accepts e s es → ToSettle c s es d (o .element .0) (o .place .0) at x after
       → outcomeOf at (r .number) (stateOf (r .open) (before ++ events)) ≡ shortly (takes s es x at after (stateOf o before)) → Turned c s es d at after before events r
   turned-token accepted (starts i n) v =
       let e = v ∙ ap shortly (takes-start s es at after (stateOf o before) x i) in
@@ -97,7 +99,7 @@ settles-declared c s es d e u at x after (runs z f) = omega arith
 settles-declared c s es d e u at x after (starts l n) = omega (arith, n .number, numberOf-range s es d (n .name) (n .size))
 
 -- What is refused whatever is open.
-refused-unread : (c : Settings) (s : List ℕ) (es : List Element) (d : List ℕ) (at : ℕ) (o : Open) (before : List Event) → at < length d → Reaches c s es d at (stateOf o before) → (f : Fault) → Finds c s es d (o .element) (o .place) at (found.Refused f) → document c s es (decided s es) d ≡ refused (f .number) (f .at)
+refused-unread : (c : Settings) (s : List ℕ) (es : List Element) (d : List ℕ) (at : ℕ) (o : Open) (before : List Event) → at < length d → Reaches c s es d at (stateOf o before) → (f : Fault) → Finds c s es d (o .element .0) (o .place .0) at (found.Refused f) → document c s es (decided s es) d ≡ refused (f .number) (f .at)
 refused-unread c s es d at o before h reach f (malformed e) = refused-piece reach h e
 refused-unread c s es d at o before h reach f (undeclaredStart n e k) = rw (e, k) (refused-undeclared-start reach h (n .there) (n .number))
 refused-unread c s es d at o before h reach f (undeclaredEnd n e k) = rw (e, k) (refused-undeclared-end reach h (n .there) (n .number))
@@ -126,7 +128,7 @@ going-start c s elements index rows places facts d numbers bytes q =
 -- What piece_at ensures of what stands at `at`.
 abbrev pub PieceSaid : Settings → (s elements index rows places facts d : List ℕ) (at : ℕ) → Open → Piece → Type 0
 PieceSaid c s elements index rows places facts d at o p =
-    (es : List Element) → Indexed s es elements index → Tables s es rows places facts → InRange es (standing (o .element) (o .place)) → Finds c s es d (o .element) (o .place) at p
+    (es : List Element) → Indexed s es elements index → Tables s es rows places facts → InRange es (standing (o .element .0) (o .place .0)) → Finds c s es d (o .element .0) (o .place .0) at p
 
 module _ {c : Settings} {s elements index rows places facts d numbers numbersNow bytes bytesNow : List ℕ} {n at : ℕ} {o : Open} (g : Going c s elements index rows places facts d numbers numbersNow bytes bytesNow n at o) where
   -- A token up to `after` was settled and brought these events, or was refused.
@@ -156,7 +158,7 @@ module _ {c : Settings} {s elements index rows places facts d numbers numbersNow
     refuses-there z q es i t = rw q (turned es i t .refuses (omega arith))
 
   module _ (h : at < length d) (p : Piece) (said : PieceSaid c s elements index rows places facts d at o p) where
-    finds : (es : List Element) → Indexed s es elements index → Tables s es rows places facts → Finds c s es d (o .element) (o .place) at p
+    finds : (es : List Element) → Indexed s es elements index → Tables s es rows places facts → Finds c s es d (o .element .0) (o .place .0) at p
     finds es i t = said es i t (stands-range (g .any es i t .stands))
 
     pub piece-refuses : {f : Fault} → p ≡ found.Refused f → (es : List Element) → Indexed s es elements index → Tables s es rows places facts → document c s es (decided s es) d ≡ refused (f .number) (f .at)
@@ -166,11 +168,11 @@ module _ {c : Settings} {s elements index rows places facts d numbers numbersNow
 
     module _ (onward : Onward (length d) at p) where
       -- Each moves on within the document.
-      pub token-range : {x after : ℕ} → p ≡ found.Token x after → (at < after) × (after ≤ length d)
-      token-range {x} {after} q = let (f, k, m) : (x ≤ 64) × (at < after) × (after ≤ length d) = rw q at onward in (k, m)
+      pub token-range : {x : ElementNo} {after : ℕ} → p ≡ found.Token x after → (at < after) × (after ≤ length d)
+      token-range {x} {after} q = let (f, k, m) : (x .0 ≤ 64) × (at < after) × (after ≤ length d) = rw q at onward in (k, m)
 
-      pub end-range : {x after : ℕ} → p ≡ found.End x after → (at < after) × (after ≤ length d)
-      end-range {x} {after} q = let (f, k, m) : (x ≤ 64) × (at < after) × (after ≤ length d) = rw q at onward in (k, m)
+      pub end-range : {x : ElementNo} {after : ℕ} → p ≡ found.End x after → (at < after) × (after ≤ length d)
+      end-range {x} {after} q = let (f, k, m) : (x .0 ≤ 64) × (at < after) × (after ≤ length d) = rw q at onward in (k, m)
 
       pub passed-range : {after : ℕ} → p ≡ found.Passed after → (at < after) × (after ≤ length d)
       passed-range q = rw q at onward
@@ -190,32 +192,32 @@ module _ {c : Settings} {s elements index rows places facts d numbers numbersNow
                 record { events = came .events; reaches = by-kind es (came .events) (came .reaches) (rw q at (finds es i t)); stands = came .stands; counted = came .counted; holds = came .holds };
           }
         where
-          by-kind : (es : List Element) (before : List Event) → Reaches c s es d at (stateOf o before) → Finds c s es d (o .element) (o .place) at (found.Passed after) → Reaches c s es d after (stateOf o before)
+          by-kind : (es : List Element) (before : List Event) → Reaches c s es d at (stateOf o before) → Finds c s es d (o .element .0) (o .place .0) at (found.Passed after) → Reaches c s es d after (stateOf o before)
           by-kind es before reach (skips e) = reaches-skipped reach h e
           by-kind es before reach (separates e z a) = rw a (reaches-blank reach h e z)
 
-      module _ (small : length d ≤ 65535) {x after : ℕ} where
-        asked : (x ≤ 64) × (at < after) × (after ≤ length d) → (x ≤ 64) × (at ≤ after) × (after < 4294967296) × (n + 50 < 4294967296)
+      module _ (small : length d ≤ 65535) {x : ElementNo} {after : ℕ} where
+        asked : (x .0 ≤ 64) × (at < after) × (after ≤ length d) → (x .0 ≤ 64) × (at ≤ after) × (after < 4294967296) × (n + 50 < 4294967296)
         asked (f, k, m) = (f, omega arith, omega arith, omega (arith, g .few))
 
-        pub token-asked : p ≡ found.Token x after → Ranged o × (x ≤ 64) × (at ≤ after) × (after < 4294967296) × (n + 50 < 4294967296)
+        pub token-asked : p ≡ found.Token x after → Ranged o × (x .0 ≤ 64) × (at ≤ after) × (after < 4294967296) × (n + 50 < 4294967296)
         token-asked q = let (a, b, c, e) = asked (rw q at onward) in (g .ranged, a, b, c, e)
 
-        pub end-asked : p ≡ found.End x after → Ranged o × (at ≤ after) × (after < 4294967296) × (x ≤ 64) × (n + 50 < 4294967296)
+        pub end-asked : p ≡ found.End x after → Ranged o × (at ≤ after) × (after < 4294967296) × (x .0 ≤ 64) × (n + 50 < 4294967296)
         end-asked q = let (a, b, c, e) = asked (rw q at onward) in (g .ranged, b, c, a, e)
 
-      module _ {x after : ℕ} {r : Outcome} {numbers′ bytes′ : List ℕ} where
+      module _ {x : ElementNo} {after : ℕ} {r : Outcome} {numbers′ bytes′ : List ℕ} where
         -- A start tag or a run of data.
-        module _ (q : p ≡ found.Token x after) (t : Settles rows places facts x at after n o numbersNow bytesNow r numbers′ bytes′) where
+        module _ (q : p ≡ found.Token x after) (t : Settles rows places facts (x .0) at after n o numbersNow bytesNow r numbers′ bytes′) where
           abbrev brought : Brings n numbersNow bytesNow r numbers′ bytes′
           brought = record { ranged = t .ranged; small = t .small; events = t .events; puts = t .puts; counted = t .counted }
 
           settled : (es : List Element) (i : Indexed s es elements index) (u : Tables s es rows places facts) → Turned c s es d at after (g .any es i u .events) (t .events) r
           settled es i u =
               let came = g .any es i u in
-              let f : ToSettle c s es d (o .element) (o .place) at x after = rw q at (finds es i u) in
-              let w = t .settles s es u (came .stands) (settles-declared c s es d (o .element) (o .place) at x after f) in
-              turned-token c s es d at o (came .events) h (came .reaches) (t .events) r (w .stands) x after (u .accepted) f (w .comes (came .events))
+              let f : ToSettle c s es d (o .element .0) (o .place .0) at (x .0) after = rw q at (finds es i u) in
+              let w = t .settles s es u (came .stands) (settles-declared c s es d (o .element .0) (o .place .0) at (x .0) after f) in
+              turned-token c s es d at o (came .events) h (came .reaches) (t .events) r (w .stands) (x .0) after (u .accepted) f (w .comes (came .events))
 
           pub going-token : r .number ≡ 0 → Going c s elements index rows places facts d numbers numbers′ bytes bytes′ (r .events) after (r .open)
           going-token = going-on (token-range q) brought (t .few) settled
@@ -224,11 +226,11 @@ module _ {c : Settings} {s elements index rows places facts d numbers numbersNow
           token-refuses = refuses-there (token-range q) brought (t .few) settled
 
         -- An end tag.
-        module _ (q : p ≡ found.End x after) (t : Tagged facts x at after n o numbersNow bytesNow r numbers′ bytes′) where
+        module _ (q : p ≡ found.End x after) (t : Tagged facts (x .0) at after n o numbersNow bytesNow r numbers′ bytes′) where
           ended : (es : List Element) (i : Indexed s es elements index) (u : Tables s es rows places facts) → Turned c s es d at after (g .any es i u .events) (t .brings .events) r
           ended es i u =
               let came = g .any es i u in
-              turned-end c s es d at o (came .events) h (came .reaches) (t .brings .events) r (t .stands s es (u .facts-say) (came .stands)) x after (rw q at (finds es i u)) (t .closes s es (u .facts-say) (came .stands) (came .events))
+              turned-end c s es d at o (came .events) h (came .reaches) (t .brings .events) r (t .stands s es (u .facts-say) (came .stands)) (x .0) after (rw q at (finds es i u)) (t .closes s es (u .facts-say) (came .stands) (came .events))
 
           pub going-end : r .number ≡ 0 → Going c s elements index rows places facts d numbers numbers′ bytes bytes′ (r .events) after (r .open)
           going-end = going-on (end-range q) (t .brings) (t .few) ended

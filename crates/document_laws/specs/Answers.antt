@@ -12,7 +12,7 @@ use Rattle.rules.specs.Lent.{Lent, standing, room, filledWith, zeroed}
 use Rattle.rules.specs.Reading.{Reading, refused, got}
 use Rattle.rules.specs.TypeFile.{Element, typeFile}
 use Rattle.rules.specs.Judge.{Answer, refusal, acceptance, AllUnambiguous, FirstAmbiguous, firstRepeated, Legible, Accepts}
-use Rattle.rules.specs.Events.{Event}
+use Rattle.rules.specs.Events.{Event, eventWidth}
 use Rattle.rules.specs.Reader.{eventNumbers, documentRefusal, BothLegible, Reads, RefusesBoth, notOffered, typeTooLong, documentTooLong, typeNotAllowed, documentNotAllowed, malformed, repeated, ambiguous, unsettled, noRoom, ReadAs, refuses, accepts}
 use Rattle.document_laws.specs.Laws.{same-elements, reads-one}
 
@@ -22,8 +22,8 @@ data Read (l : Lent) (c : Settings) (s d before : List ℕ) (a : Answer) (after 
   again : (es : List Element) → typeFile c s ≡ got es → 1 ≤ firstRepeated es → a ≡ refusal 25 (firstRepeated es) 0 0 → after ≡ zeroed before → Read l c s d before a after
   clash : (es : List Element) → typeFile c s ≡ got es → firstRepeated es ≡ 0 → (k p q : ℕ) → FirstAmbiguous s k p q es → a ≡ refusal 9 k p q → after ≡ zeroed before → Read l c s d before a after
   stops : (es : List Element) (n k : ℕ) → Reads c s d es (refused n k) → a ≡ documentRefusal n k → after ≡ zeroed before → Read l c s d before a after
-  tight : (es : List Element) (ev : List Event) → Reads c s d es (got ev) → room l before < 4 * length ev → a ≡ documentRefusal 19 0 → after ≡ zeroed before → Read l c s d before a after
-  enough : (es : List Element) (ev : List Event) → Reads c s d es (got ev) → 4 * length ev ≤ room l before → a ≡ acceptance (length ev) → after ≡ filledWith (standing l (eventNumbers ev)) before → Read l c s d before a after
+  tight : (es : List Element) (ev : List Event) → Reads c s d es (got ev) → room l before < eventWidth * length ev → a ≡ documentRefusal 19 0 → after ≡ zeroed before → Read l c s d before a after
+  enough : (es : List Element) (ev : List Event) → Reads c s d es (got ev) → eventWidth * length ev ≤ room l before → a ≡ acceptance (length ev) → after ≡ filledWith (standing l (eventNumbers ev)) before → Read l c s d before a after
 
 both : {a b c : Answer} {x y z : List ℕ} → (a ≡ c) × (x ≡ z) → (b ≡ c) × (y ≡ z) → (a ≡ b) × (x ≡ y)
 both (e, f) (g, h) = (e ∙ sym g, f ∙ sym h)
@@ -161,7 +161,7 @@ module _ (lent : Lent) (c : Settings) (s d before : List ℕ) (one-first : OneFi
   not-both : (es fs : List Element) (n k : ℕ) (ev : List Event) → Reads c s d es (refused n k) → Reads c s d fs (got ev) → ⊥
   not-both es fs n k ev x y = not-got (reads-one s d es fs (refused n k) (got ev) x y .1)
 
-  not-room : (es fs : List Element) (ev fv : List Event) → Reads c s d es (got ev) → Reads c s d fs (got fv) → room lent before < 4 * length ev → 4 * length fv ≤ room lent before → ⊥
+  not-room : (es fs : List Element) (ev fv : List Event) → Reads c s d es (got ev) → Reads c s d fs (got fv) → room lent before < eventWidth * length ev → eventWidth * length fv ≤ room lent before → ⊥
   not-room es fs ev fv x y l m = omega (arith, ap length (same-got es fs ev fv x y))
 
   read-one : (a b : Answer) (after other : List ℕ) → IsRead a after → IsRead b other → (a ≡ b) × (after ≡ other)

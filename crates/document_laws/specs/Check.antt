@@ -85,7 +85,7 @@ all-fair s (x ∷ es) k e =
 -- Two readings
 
 unfoldable pub sameEvent : Event → Event → Bool
-sameEvent a b = eqb (a .kind) (b .kind) && (eqb (a .number) (b .number) && (eqb (a .offset) (b .offset) && eqb (a .size) (b .size)))
+sameEvent a b = eqb (a .kind) (b .kind) && (eqb (a .number) (b .number) && (eqb (a .offset) (b .offset) && (eqb (a .size) (b .size) && eqb (a .place) (b .place))))
 
 same-event : (a b : Event) → sameEvent a b ≡ true → a ≡ b
 unfolding sameEvent
@@ -95,8 +95,10 @@ same-event a b e =
     let n = eqb-true (a .number) (b .number) (and-left (eqb (a .number) (b .number)) _ e₁) in
     let e₂ = and-right (eqb (a .number) (b .number)) _ e₁ in
     let o = eqb-true (a .offset) (b .offset) (and-left (eqb (a .offset) (b .offset)) _ e₂) in
-    let z = eqb-true (a .size) (b .size) (and-right (eqb (a .offset) (b .offset)) _ e₂) in
-    λ i. record { kind = k i; number = n i; offset = o i; size = z i }
+    let e₃ = and-right (eqb (a .offset) (b .offset)) _ e₂ in
+    let z = eqb-true (a .size) (b .size) (and-left (eqb (a .size) (b .size)) _ e₃) in
+    let p = eqb-true (a .place) (b .place) (and-right (eqb (a .size) (b .size)) _ e₃) in
+    λ i. record { kind = k i; number = n i; offset = o i; size = z i; place = p i }
 
 unfoldable pub sameEvents : List Event → List Event → Bool
 sameEvents [] [] = true

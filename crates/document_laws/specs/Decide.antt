@@ -76,7 +76,7 @@ sameText-trans s a t b u c (suc n) x y =
     sameText-more s a u c n (e ∙ f) ∙ sameText-trans s (a + 1) t (b + 1) u (c + 1) n v w
 
 -- Two places that have one token's name have the same name.
-names-same : (s : List ℕ) (es : List Element) (ps : List Place) (t : Token) (p q : ℕ) → hasName s es ps t p ≡ true → hasName s es ps t q ≡ true → samePlace s ps p q ≡ true
+pub names-same : (s : List ℕ) (es : List Element) (ps : List Place) (t : Token) (p q : ℕ) → hasName s es ps t p ≡ true → hasName s es ps t q ≡ true → samePlace s ps p q ≡ true
 names-same s es ps t p q x y =
     let o = tokenName es t in
     let u = placeAt ps (p - 1) in

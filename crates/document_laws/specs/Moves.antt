@@ -17,8 +17,9 @@ use Rattle.rules.specs.Document.{Tag, Piece, startTag, endTag, skipped, blank, 
 use Rattle.rules.specs.Elements.{contentOf, hasModel, endO, numberOf}
 use Rattle.rules.specs.Decisions.{Token, start, pcdata, Decisions}
 use Rattle.rules.specs.Events.{Event, startWritten, startInferred, endWritten, endInferred, endOfEmpty, withData}
-use Rattle.rules.specs.Settling.{Open, State, nothingOpen, takePlace, enter, note, limited, isOpen, Inward, settled, stuck, fitting, isComplete, requiredPlace, inferable, chain, inferStarts, takeToken, inward, settleFrom, isOver, settle, startElement, takeData, takeBlank, endLeftOut, closeFrom, endElement, endFrom, endDocument}
+use Rattle.rules.specs.Settling.{Open, State, nothingOpen, takePlace, shown, placeTaken, enter, note, limited, isOpen, Inward, settled, stuck, fitting, isComplete, requiredPlace, inferable, chain, inferStarts, takeToken, inward, settleFrom, isOver, settle, startElement, takeData, takeBlank, endLeftOut, closeFrom, endElement, endFrom, endDocument}
 use Rattle.rules.specs.Reader.{Reached, goOn, tagged, settlePiece, piecesWithin, document}
+use Rattle.model_sets.specs.Reach.{lastOr0-snoc}
 use Rattle.rules_laws.specs.Holds.{stops, reads, Refuses}
 use Rattle.rules_laws.specs.Holds as holds
 use Rattle.rules_laws.specs.Both.{Both, stop, read, on, either, so, itself}
@@ -30,6 +31,10 @@ state o around ev = record { current = o; around = around; events = ev }
 
 abbrev pub fresh : ℕ → Open
 fresh k = record { number = k; taken = [] }
+
+-- The place that an element shows which took p in o.
+pub placeTaken-took : (o : Open) (p : ℕ) → placeTaken (record { number = o .number; taken = o .taken ++ p ∷ [] }) ≡ shown (o .number) p
+placeTaken-took o p = ap (shown (o .number)) (lastOr0-snoc (o .taken) p)
 
 -- The state of the parent, where there is one.
 abbrev pub parent : State → State
@@ -52,6 +57,10 @@ pub record Answers (s : List ℕ) (es : List Element) (D E : Decisions) (o v : O
   pub fits : (t : Token) → fitting s es D o t ≡ fitting s es E v t
   pub complete : isComplete s es D o ≡ isComplete s es E v
   pub required : requiredPlace s es D o ≡ requiredPlace s es E v
+
+-- They show the same place, where both took the same.
+places-same : {s : List ℕ} {es : List Element} {D E : Decisions} (z y : State) → Answers s es D E (z .current) (y .current) → (p q : ℕ) → p ≡ q → placeTaken (takePlace p z .current) ≡ placeTaken (takePlace q y .current)
+places-same z y a p q e = placeTaken-took (z .current) p ∙ ap₂ shown (a .number) e ∙ sym (placeTaken-took (y .current) q)
 
 -- A place that D has o take: as it fits a token, or as the required one.
 pub data Chosen (s : List ℕ) (es : List Element) (D : Decisions) (o : Open) : ℕ → Type 0 where
@@ -189,14 +198,19 @@ module _ {s : List ℕ} {es : List Element} {D E : Decisions} {Q : State → Sta
 
   -- The start of k is inferred, at the required place.
   abbrev opened : Decisions → (at k : ℕ) → State → State
-  opened F at k z = note (startInferred k at) (enter k (takePlace (requiredPlace s es F (z .current)) z))
+  opened F at k z =
+      let y = takePlace (requiredPlace s es F (z .current)) z in
+      note (startInferred k at (placeTaken (y .current))) (enter k y)
 
   opened-both : (at k : ℕ) {z y : State} → Q z y → inferable s es D (z .current) ≡ k → leb 1 k ≡ true → Q (opened D at k z) (opened E at k y)
   opened-both at k {z} {y} q e l =
       let m = inferable-may s es D (z .current) (rw e l) in
       let p = requiredPlace s es D (z .current) in
-      subst (λ (r : ℕ). Q (opened D at k z) (note (startInferred k at) (enter k (takePlace r y)))) (alike q .required)
-      (moves .ends .note (moves .enter (moves .taking q p (required (m .place))) k (rw e at (m .model))) (startInferred k at) refl)
+      let shows = startInferred k at (placeTaken (takePlace p z .current)) in
+      let same = places-same z y (alike q) p p refl in
+      subst (λ (r : ℕ). Q (opened D at k z) (note (startInferred k at (placeTaken (takePlace r y .current))) (enter k (takePlace r y)))) (alike q .required)
+      (subst (λ (n : ℕ). Q (opened D at k z) (note (startInferred k at n) (enter k (takePlace p y)))) same
+      (moves .ends .note (moves .enter (moves .taking q p (required (m .place))) k (rw e at (m .model))) shows refl))
 
   chain-same : (left : ℕ) (t : Token) {z y : State} → Q z y → chain s es D left t (z .current) ≡ chain s es E left t (y .current)
   unfolding chain
@@ -228,6 +242,13 @@ module _ {s : List ℕ} {es : List Element} {D E : Decisions} {Q : State → Sta
       let q = moves .taking (a .keeps) p (fits t (a .fits)) in
       let e = alike (a .keeps) .fits t in
       rw (a .first, a .second, ← e) q
+
+  taken-place : {t : Token} {x w : State} → Taken t x w → placeTaken (x .current) ≡ placeTaken (w .current)
+  taken-place {t} a =
+      let f = alike (a .keeps) in
+      ap (λ (z : State). placeTaken (z .current)) (a .first)
+      ∙ places-same (a .here) (a .there) f (fitting s es D (a .here .current) t) (fitting s es E (a .there .current) t) (f .fits t)
+      ∙ sym (ap (λ (z : State). placeTaken (z .current)) (a .second))
 
   inward-both : (t : Token) (at : ℕ) {z y : State} → Q z y → BothInward (Taken t) (inward s es D t at z) (inward s es E t at y)
   unfolding inward picked inferStarts
@@ -270,14 +291,16 @@ module _ {s : List ℕ} {es : List Element} {D E : Decisions} {Q : State → Sta
   startElement-both k at after q =
       on (settle-both (start k) at q) λ x w a.
       let r = taken-keeps a in
+      let e = startWritten k at after (placeTaken (x .current)) in
       on (limited-both at (enter k x) (enter k w) (ap suc (moves .ends .depth r))) λ u v l.
       either (hasModel (contentOf es k)) (hasModel (contentOf es k)) refl
       (λ m.
-      let n = moves .ends .note (moves .enter r k m) (startWritten k at after) refl in
-      read (rw (l .0, l .1) (n, l .2, record { before = x .events; event = startWritten k at after; other = refl; last = refl })))
+      let n = subst (λ (p : ℕ). Q (note e (enter k x)) (note (startWritten k at after p) (enter k w))) (taken-place a) (moves .ends .note (moves .enter r k m) e refl) in
+      read (rw (l .0, l .1) (n, l .2, record { before = x .events; event = e; other = refl; last = refl })))
       (λ m.
-      let n = moves .ends .note (moves .ends .note r (startWritten k at after) refl) (endOfEmpty k after) refl in
-      read (n, omega (arith, l .2), record { before = x .events ++ startWritten k at after ∷ []; event = endOfEmpty k after; other = refl; last = refl }))
+      let started = subst (λ (p : ℕ). Q (note e x) (note (startWritten k at after p) w)) (taken-place a) (moves .ends .note r e refl) in
+      let n = moves .ends .note started (endOfEmpty k after) refl in
+      read (n, omega (arith, l .2), record { before = x .events ++ e ∷ []; event = endOfEmpty k after; other = refl; last = refl }))
 
 -- Pieces
 

@@ -50,20 +50,20 @@ NAME = 3
 abbrev QTY : ℕ
 QTY = 4
 
--- "Document `clamp<QTY>40<ITEM>tape` (p) prints, whole"
+-- "Document `clamp<QTY>40<ITEM>tape` (p) prints, whole", with the place that each start took.
 pub whole : List Event
 whole =
-    startInferred LIST 0 ∷
-    startInferred ITEM 0 ∷
-    startInferred NAME 0 ∷
+    startInferred LIST 0 0 ∷
+    startInferred ITEM 0 1 ∷
+    startInferred NAME 0 1 ∷
     dataRun 0 5 ∷
     endInferred NAME 5 ∷
-    startWritten QTY 5 10 ∷
+    startWritten QTY 5 10 2 ∷
     dataRun 10 2 ∷
     endInferred QTY 12 ∷
     endInferred ITEM 12 ∷
-    startWritten ITEM 12 18 ∷
-    startInferred NAME 18 ∷
+    startWritten ITEM 12 18 1 ∷
+    startInferred NAME 18 1 ∷
     dataRun 18 4 ∷
     endInferred NAME 22 ∷
     endInferred ITEM 22 ∷

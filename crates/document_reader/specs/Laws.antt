@@ -13,7 +13,7 @@ use Rattle.rules.specs.Lent.{Lent, bytesOf, standing, room, zeroed}
 use Rattle.rules.specs.TypeFile.{Element}
 use Rattle.rules.specs.Judge.{acceptance, Legible, Accepts, Refuses}
 use Rattle.rules.specs.Judge as rules
-use Rattle.rules.specs.Events.{Event}
+use Rattle.rules.specs.Events.{Event, eventWidth}
 use Rattle.rules.specs.Reader.{eventNumbers, BothLegible, RefusesBoth, ReadAs}
 use Rattle.numbers.specs.Means.{Written}
 use Rattle.numbers.specs.Laws.{eventNumbers-length, standing-fits}
@@ -149,7 +149,7 @@ module _ (c : Settings) (s d numbers numbersAfter bytes bytesAfter : List ℕ) (
       absurd (omega arith)
 
   -- Any other is the refusal that the order picks for that room, in numbers.
-  pub fitted-refused : (v a : Answer) → Answers c s d numbers numbersAfter bytes bytesAfter v → a ≡ fittedTo room v → ((n : ℕ) → a ≡ answer.Accepted n → ⊥) → (most : ℕ) → room ≡ most / 4 → RefusesBoth c s d most (answerOf a)
+  pub fitted-refused : (v a : Answer) → Answers c s d numbers numbersAfter bytes bytesAfter v → a ≡ fittedTo room v → ((n : ℕ) → a ≡ answer.Accepted n → ⊥) → (most : ℕ) → room ≡ most / eventWidth → RefusesBoth c s d most (answerOf a)
   fitted-refused (answer.Accepted m) a h e other most k = by-room (ltb room m) refl e
     where
       by-room : (t : Bool) → ltb room m ≡ t → a ≡ unlessFull t m → RefusesBoth c s d most (answerOf a)
@@ -173,19 +173,19 @@ module _ (l : Lent) (c : Settings) (s d numbers numbersAfter bytes bytesAfter : 
   abbrev after : List ℕ
   after = lentOf l numbersAfter bytesAfter
 
-  module _ (same : length after ≡ length before) (e : a ≡ fittedTo (room l after / 4) v) where
+  module _ (same : length after ≡ length before) (e : a ≡ fittedTo (room l after / eventWidth) v) where
     pub read-accepted : isRefusal a ≡ false → ReadAs l c s d before (answerOf a) after
     read-accepted g =
         let (n, q) = accepted-is a g in
-        let (x, fits) = fitted-accepted c s d numbers numbersAfter bytes bytesAfter (room l after / 4) v a h e n q in
-        let enough : 4 * length (x .events) ≤ room l before = omega (arith, x .counted, room-same l after before same) in
+        let (x, fits) = fitted-accepted c s d numbers numbersAfter bytes bytesAfter (room l after / eventWidth) v a h e n q in
+        let enough : eventWidth * length (x .events) ≤ room l before = omega (arith, x .counted, room-same l after before same) in
         let held = standing-fits l (eventNumbers (x .events)) before (omega (arith, eventNumbers-length (x .events))) in
         ReadAs.accepts (x .elements) (x .events) (x .reads) enough (ap answerOf q ∙ ap acceptance (x .counted)) (x .written l held)
 
     pub read-refused : (cleared : List ℕ) → isRefusal a ≡ true → cleared ≡ zeroed after → ReadAs l c s d before (answerOf a) cleared
     read-refused cleared g z =
         ReadAs.refuses
-        (fitted-refused c s d numbers numbersAfter bytes bytesAfter (room l after / 4) v a h e (refusal-is a g) (room l before) (ap (λ (n : ℕ). n / 4) (room-same l after before same)))
+        (fitted-refused c s d numbers numbersAfter bytes bytesAfter (room l after / eventWidth) v a h e (refusal-is a g) (room l before) (ap (λ (n : ℕ). n / eventWidth) (room-same l after before same)))
         (rw same at z)
 
 -- The count is a 32-bit number.

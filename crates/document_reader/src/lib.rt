@@ -223,7 +223,7 @@ fn refuses(a: Answer) -> bool
     }
 }
 
-// Reads a document under a type file and the settings c. The buffer gets four numbers for each event, or is zeroed.
+// Reads a document under a type file and the settings c. The buffer gets five numbers for each event, or is zeroed.
 pub fn read(c: Settings, s: &[u8], d: &[u8], buffer: &mut [u32]) -> Answer
     ensures { λ r. ⌜ ReadAs Lent.numbers (settingsOf c) (now (s .entry)) (now (d .entry)) (now (buffer .entry)) (answerOf r) (now (buffer .exit)) ⌝ }
     ensures { λ r. ⌜ CountFits r ⌝ }
@@ -238,7 +238,7 @@ pub fn read(c: Settings, s: &[u8], d: &[u8], buffer: &mut [u32]) -> Answer
     a
 }
 
-// Reads a document under a type file and the settings c. The buffer of bytes gets four numbers of four bytes for each event, or is zeroed.
+// Reads a document under a type file and the settings c. The buffer of bytes gets five numbers of four bytes for each event, or is zeroed.
 pub fn read_to_bytes(c: Settings, s: &[u8], d: &[u8], buffer: &mut [u8]) -> Answer
     ensures { λ r. ⌜ ReadAs Lent.bytes (settingsOf c) (now (s .entry)) (now (d .entry)) (now (buffer .entry)) (answerOf r) (now (buffer .exit)) ⌝ }
     ensures { λ r. ⌜ CountFits r ⌝ }

@@ -2,6 +2,7 @@
 //
 // `index`: number k is the next larger element whose name has the same length and first letter as that of k, or 0.
 // Number 65 + b is the smallest element of the bucket b. `elements` are the records of the type's elements.
+use layout::ElementNo;
 use layout::INDEX;
 use layout::RECORDS;
 ghost use mathlib.Core.Path.{_≡_};
@@ -27,11 +28,11 @@ fn bucket(first: u8, size: usize) -> usize
 }
 
 // Where the name of the element k stands in the type file.
-pub fn offset(elements: &[u32; RECORDS], k: usize) -> usize
-    requires { ⌜ (1 ≤ k) × (k ≤ 64) ⌝ }
-    ensures { λ r. ⌜ (r ≡ getD (now (elements .entry)) (6 * (k - 1)) 0) × (r < 4294967296) ⌝ }
+pub fn offset(elements: &[u32; RECORDS], k: ElementNo) -> usize
+    requires { ⌜ (1 ≤ k .0) × (k .0 ≤ 64) ⌝ }
+    ensures { λ r. ⌜ (r ≡ getD (now (elements .entry)) (6 * (k .0 - 1)) 0) × (r < 4294967296) ⌝ }
 {
-    numbers::widened(elements[6 * (k - 1)])
+    numbers::widened(elements[6 * (k.0 - 1)])
 }
 
 // Whether n bytes of s from a and n bytes of t from b are equal, folded. All of them are there, so that none is asked whether it still is
@@ -56,20 +57,26 @@ fn same_name(s: &[u8], a: usize, t: &[u8], b: usize, n: usize) -> bool
 
 // An element by its name, 0 if none has it, and with how many names that name was compared.
 pub struct Found {
-    pub element: usize,
+    pub element: ElementNo,
     pub compared: usize,
 }
 
 // Whether the element k comes behind the one before it, and a name of this size stands in s where its record says. In the index of a type
 // it does. Where the tables hold anything else, a search still ends and stays within them.
-fn comes_next(s: &[u8], elements: &[u32; RECORDS], before: usize, k: usize, size: usize) -> bool
+fn comes_next(
+    s: &[u8],
+    elements: &[u32; RECORDS],
+    before: ElementNo,
+    k: ElementNo,
+    size: usize,
+) -> bool
     requires { ⌜ size ≤ mostNameLength ⌝ }
-    ensures { λ r. ⌜ r ≡ follows (now (s .entry)) (now (elements .entry)) before k size ⌝ }
+    ensures { λ r. ⌜ r ≡ follows (now (s .entry)) (now (elements .entry)) (before .0) (k .0) size ⌝ }
 {
-    if k <= before {
+    if k.0 <= before.0 {
         return false;
     }
-    if 64 < k {
+    if 64 < k.0 {
         return false;
     }
     offset(elements, k) + size <= s.len()
@@ -88,20 +95,22 @@ pub fn find(
 ) -> Found
     requires { ⌜ (1 ≤ size) × (size ≤ mostNameLength) × (at + size ≤ length (now t)) ⌝ }
     ensures { λ r. ⌜ ((es : List Element) → Indexed (now (s .entry)) es (now (elements .entry)) (now (index .entry)) →
-        (r .element ≡ numberOf (now (s .entry)) es (now (t .entry)) at size) × (r .compared ≡ compared (now (s .entry)) es (now (t .entry)) at size)) ⌝ }
-    ensures { λ r. ⌜ (r .element ≤ 64) × (r .compared ≤ 64) ⌝ }
+        (r .element .0 ≡ numberOf (now (s .entry)) es (now (t .entry)) at size) × (r .compared ≡ compared (now (s .entry)) es (now (t .entry)) at size)) ⌝ }
+    ensures { λ r. ⌜ (r .element .0 ≤ 64) × (r .compared ≤ 64) ⌝ }
 {
     let first = text::byte(t, at);
+    let none = ElementNo(0);
     if !text::is_letter(first) {
         return Found {
-            element: 0,
+            element: none,
             compared: 0,
         };
     }
-    let mut before = 0;
-    let mut k = numbers::wide(index[bucket(first, size)]);
+    let mut before = none;
+    let mut k = ElementNo(numbers::wide(index[bucket(first, size)]));
     let mut n = 0;
     while comes_next(s, elements, before, k, size) {
+        let i = k.0;
         if same_name(s, offset(elements, k), t, at, size) {
             return Found {
                 element: k,
@@ -110,24 +119,25 @@ pub fn find(
         }
         n += 1;
         before = k;
-        k = numbers::wide(index[k]);
+        k = ElementNo(numbers::wide(index[i]));
     }
     Found {
-        element: 0,
+        element: none,
         compared: n,
     }
 }
 
 // The element k comes before those of its bucket that are there.
-fn put_index(s: &[u8], elements: &[u32; RECORDS], index: &mut [u8; INDEX], k: usize)
-    requires { ⌜ (1 ≤ k) × (k ≤ 64) × (1 ≤ getD (now elements) (6 * (k - 1) + 1) 0) × (getD (now elements) (6 * (k - 1) + 1) 0 ≤ mostNameLength) ⌝ }
+fn put_index(s: &[u8], elements: &[u32; RECORDS], index: &mut [u8; INDEX], k: ElementNo)
+    requires { ⌜ (1 ≤ k .0) × (k .0 ≤ 64) × (1 ≤ getD (now elements) (6 * (k .0 - 1) + 1) 0) × (getD (now elements) (6 * (k .0 - 1) + 1) 0 ≤ mostNameLength) ⌝ }
     ensures { λ _. ⌜ now (index .exit) ≡ putIn (now (index .entry))
-        (bucketOf (byteAt (now (s .entry)) (getD (now (elements .entry)) (6 * (k - 1)) 0)) (getD (now (elements .entry)) (6 * (k - 1) + 1) 0)) k ⌝ }
+        (bucketOf (byteAt (now (s .entry)) (getD (now (elements .entry)) (6 * (k .0 - 1)) 0)) (getD (now (elements .entry)) (6 * (k .0 - 1) + 1) 0)) (k .0) ⌝ }
 {
-    let size = numbers::widened(elements[6 * (k - 1) + 1]);
+    let i = k.0;
+    let size = numbers::widened(elements[6 * (i - 1) + 1]);
     let b = bucket(text::byte(s, offset(elements, k)), size);
-    index[k] = index[b];
-    index[b] = k as u8;
+    index[i] = index[b];
+    index[b] = i as u8;
 }
 
 // Fills the index, which is all 0, with the elements of an accepted type.
@@ -139,7 +149,7 @@ pub fn fill_index(s: &[u8], elements: &[u32; RECORDS], count: usize, index: &mut
 {
     let mut k = count;
     while 0 < k {
-        put_index(s, elements, index, k);
+        put_index(s, elements, index, ElementNo(k));
         k -= 1;
     }
 }

@@ -5,7 +5,7 @@ use mathlib.Core.List.{List, [], _∷_, _++_, append-assoc, append-nil}
 use native.Mathlib.Omega.{arith}
 use lib.ListN.{length, length-append}
 use Rattle.rules.specs.Lent.{bytesOf}
-use Rattle.rules.specs.Events.{Event}
+use Rattle.rules.specs.Events.{Event, eventWidth}
 use Rattle.rules.specs.Reader.{eventNumbers}
 use Rattle.numbers.specs.Means.{written, Written}
 use Rattle.numbers.specs.Laws.{bytesOf-append, bytesOf-length, eventNumbers-length, splice-turn, written-fits, written-keeps, written-more}
@@ -19,14 +19,14 @@ eventNumbers-append (e ∷ ev) fv = rw (eventNumbers-append ev fv)
 
 -- The events of a token behind those before, as numbers and as bytes.
 module _ (before l : List ℕ) (ev fv : List Event) (count : ℕ) (c : count ≡ length ev) where
-  pub events-more : Written before l (eventNumbers ev) → Written before (written l (4 * count) (eventNumbers fv)) (eventNumbers (ev ++ fv))
+  pub events-more : Written before l (eventNumbers ev) → Written before (written l (eventWidth * count) (eventNumbers fv)) (eventNumbers (ev ++ fv))
   events-more w =
-      let e : 4 * count ≡ length (eventNumbers ev) = omega (arith, eventNumbers-length ev) in
+      let e : eventWidth * count ≡ length (eventNumbers ev) = omega (arith, eventNumbers-length ev) in
       rw (e, eventNumbers-append ev fv) (written-more before l (eventNumbers ev) (eventNumbers fv) w)
 
-  pub event-bytes-more : Written before l (bytesOf (eventNumbers ev)) → Written before (written l (16 * count) (bytesOf (eventNumbers fv))) (bytesOf (eventNumbers (ev ++ fv)))
+  pub event-bytes-more : Written before l (bytesOf (eventNumbers ev)) → Written before (written l (4 * eventWidth * count) (bytesOf (eventNumbers fv))) (bytesOf (eventNumbers (ev ++ fv)))
   event-bytes-more w =
-      let e : 16 * count ≡ length (bytesOf (eventNumbers ev)) = omega (arith, eventNumbers-length ev, bytesOf-length (eventNumbers ev)) in
+      let e : 4 * eventWidth * count ≡ length (bytesOf (eventNumbers ev)) = omega (arith, eventNumbers-length ev, bytesOf-length (eventNumbers ev)) in
       rw (e, eventNumbers-append ev fv, bytesOf-append (eventNumbers ev) (eventNumbers fv)) (written-more before l (bytesOf (eventNumbers ev)) (bytesOf (eventNumbers fv)) w)
 
 -- What is written right behind what was written makes one with it.
@@ -37,18 +37,20 @@ written-behind l now xs ys b at e a h w =
     let so-far = e ∙ written-fits l b xs (omega arith) in
     w ∙ written-fits now at ys (omega arith) ∙ splice-turn l now xs ys b at so-far (omega arith) a ∙ sym (written-fits l b (xs ++ ys) (omega arith))
 
--- Four numbers, each stored as four bytes.
-pub four-numbers-stored : (l : List ℕ) (i x y z w : ℕ) → i + 16 ≤ length l → {one two three four : List ℕ}
+-- Five numbers, each stored as four bytes.
+pub five-numbers-stored : (l : List ℕ) (i x y z w v : ℕ) → i + 20 ≤ length l → {one two three four five : List ℕ}
     → one ≡ written l i (bytesOf (x ∷ []))
     → two ≡ written one (i + 4) (bytesOf (y ∷ []))
     → three ≡ written two (i + 8) (bytesOf (z ∷ []))
     → four ≡ written three (i + 12) (bytesOf (w ∷ []))
-    → four ≡ written l i (bytesOf (x ∷ y ∷ z ∷ w ∷ []))
+    → five ≡ written four (i + 16) (bytesOf (v ∷ []))
+    → five ≡ written l i (bytesOf (x ∷ y ∷ z ∷ w ∷ v ∷ []))
 unfolding bytesOf
-four-numbers-stored l i x y z w h {one} {two} {three} a b c d =
+five-numbers-stored l i x y z w v h {one} {two} {three} {four} a b c d e =
     let after-two = written-behind l one (bytesOf (x ∷ [])) (bytesOf (y ∷ [])) i (i + 4) a (omega arith) (omega arith) b in
     let after-three = written-behind l two (bytesOf (x ∷ y ∷ [])) (bytesOf (z ∷ [])) i (i + 8) after-two (omega arith) (omega arith) c in
-    written-behind l three (bytesOf (x ∷ y ∷ z ∷ [])) (bytesOf (w ∷ [])) i (i + 12) after-three (omega arith) (omega arith) d
+    let after-four = written-behind l three (bytesOf (x ∷ y ∷ z ∷ [])) (bytesOf (w ∷ [])) i (i + 12) after-three (omega arith) (omega arith) d in
+    written-behind l four (bytesOf (x ∷ y ∷ z ∷ w ∷ [])) (bytesOf (v ∷ [])) i (i + 16) after-four (omega arith) (omega arith) e
 
 -- Nothing is put, an event is put, and what is put behind what was put makes one with it.
 pub puts-none : (numbers bytes : List ℕ) (n : ℕ) → Puts numbers bytes n [] numbers bytes
@@ -59,13 +61,13 @@ puts-none numbers bytes n =
       behind = λ l m before c w. rw (append-nil before) w;
     }
 
-module _ (numbers bytes : List ℕ) (n kind number offset size : ℕ) where
-  pub puts-noted : {numbers′ bytes′ : List ℕ} → numbers′ ≡ written numbers (4 * n) (kind ∷ number ∷ offset ∷ size ∷ []) → bytes′ ≡ written bytes (16 * n) (bytesOf (kind ∷ number ∷ offset ∷ size ∷ []))
-      → Puts numbers bytes n (noted kind number offset size ∷ []) numbers′ bytes′
+module _ (numbers bytes : List ℕ) (n kind number offset size place : ℕ) where
+  pub puts-noted : {numbers′ bytes′ : List ℕ} → numbers′ ≡ written numbers (eventWidth * n) (kind ∷ number ∷ offset ∷ size ∷ place ∷ []) → bytes′ ≡ written bytes (4 * eventWidth * n) (bytesOf (kind ∷ number ∷ offset ∷ size ∷ place ∷ []))
+      → Puts numbers bytes n (noted kind number offset size place ∷ []) numbers′ bytes′
   unfolding eventNumbers
   puts-noted {numbers′} {bytes′} e f =
-      let same = written-keeps numbers (4 * n) (kind ∷ number ∷ offset ∷ size ∷ []) e in
-      let same-bytes = written-keeps bytes (16 * n) (bytesOf (kind ∷ number ∷ offset ∷ size ∷ [])) f in
+      let same = written-keeps numbers (eventWidth * n) (kind ∷ number ∷ offset ∷ size ∷ place ∷ []) e in
+      let same-bytes = written-keeps bytes (4 * eventWidth * n) (bytesOf (kind ∷ number ∷ offset ∷ size ∷ place ∷ [])) f in
       record {
         numbers-kept = same;
         bytes-kept = same-bytes;
@@ -73,8 +75,8 @@ module _ (numbers bytes : List ℕ) (n kind number offset size : ℕ) where
             record {
               numbers-kept = same ∙ w .numbers-kept;
               bytes-kept = same-bytes ∙ w .bytes-kept;
-              numbers-hold = rw e (events-more l numbers before (noted kind number offset size ∷ []) n c (w .numbers-hold));
-              bytes-hold = rw f (event-bytes-more m bytes before (noted kind number offset size ∷ []) n c (w .bytes-hold));
+              numbers-hold = rw e (events-more l numbers before (noted kind number offset size place ∷ []) n c (w .numbers-hold));
+              bytes-hold = rw f (event-bytes-more m bytes before (noted kind number offset size place ∷ []) n c (w .bytes-hold));
             };
       }
 

@@ -8,8 +8,8 @@ use Rattle.rules.specs.Events.{Event}
 use Rattle.rules.specs.Reader.{eventNumbers}
 use Rattle.numbers.specs.Means.{Written}
 
-abbrev pub noted : (kind number offset size : ℕ) → Event
-noted kind number offset size = record { kind = kind; number = number; offset = offset; size = size }
+abbrev pub noted : (kind number offset size place : ℕ) → Event
+noted kind number offset size place = record { kind = kind; number = number; offset = offset; size = size; place = place }
 
 -- The buffers, which were these at first, have got all of the events, each if they fit there.
 pub record Holds (numbers₀ bytes₀ numbers bytes : List ℕ) (ev : List Event) : Type 0 where

@@ -1,17 +1,28 @@
 // The lent buffers: an event is written behind those before.
 use layout::EVENT;
+use layout::ElementNo;
 use layout::NUMBER;
+use layout::Place;
 ghost use mathlib.Core.Path.{_≡_};
 ghost use mathlib.Core.List.{_∷_, []};
 ghost use Prim.Native.Nat.{_+_, _*_, _<_};
 ghost use Rattle.rules.specs.Lent.{bytesOf};
+ghost use Rattle.rules.specs.Events.{eventWidth};
 ghost use Rattle.numbers.specs.Means.{written};
 ghost use Rattle.event_buffer.specs.Means.{noted, Puts};
 
-// The four numbers of an event, after n events, if they fit.
-fn note_numbers(buffer: &mut [u32], n: usize, kind: u32, element: u32, at: u32, size: u32)
+// The numbers of an event, after n events, if they fit.
+fn note_numbers(
+    buffer: &mut [u32],
+    n: usize,
+    kind: u32,
+    element: u32,
+    at: u32,
+    size: u32,
+    place: u32,
+)
     requires { ⌜ n < 4294967296 ⌝ }
-    ensures { λ _. ⌜ now (buffer .exit) ≡ written (now (buffer .entry)) (4 * n) (kind ∷ element ∷ at ∷ size ∷ []) ⌝ }
+    ensures { λ _. ⌜ now (buffer .exit) ≡ written (now (buffer .entry)) (eventWidth * n) (kind ∷ element ∷ at ∷ size ∷ place ∷ []) ⌝ }
 {
     let i = EVENT * n;
     if i + EVENT <= buffer.len() {
@@ -19,13 +30,14 @@ fn note_numbers(buffer: &mut [u32], n: usize, kind: u32, element: u32, at: u32, 
         buffer[i + 1] = element;
         buffer[i + 2] = at;
         buffer[i + 3] = size;
+        buffer[i + 4] = place;
     }
 }
 
-// The four numbers of an event as four bytes each, low byte first, after n events, if they fit.
-fn note_bytes(buffer: &mut [u8], n: usize, kind: u32, element: u32, at: u32, size: u32)
+// The numbers of an event as four bytes each, low byte first, after n events, if they fit.
+fn note_bytes(buffer: &mut [u8], n: usize, kind: u32, element: u32, at: u32, size: u32, place: u32)
     requires { ⌜ n < 4294967296 ⌝ }
-    ensures { λ _. ⌜ now (buffer .exit) ≡ written (now (buffer .entry)) (16 * n) (bytesOf (kind ∷ element ∷ at ∷ size ∷ [])) ⌝ }
+    ensures { λ _. ⌜ now (buffer .exit) ≡ written (now (buffer .entry)) (4 * eventWidth * n) (bytesOf (kind ∷ element ∷ at ∷ size ∷ place ∷ [])) ⌝ }
 {
     let i = NUMBER * EVENT * n;
     if i + NUMBER * EVENT <= buffer.len() {
@@ -33,6 +45,7 @@ fn note_bytes(buffer: &mut [u8], n: usize, kind: u32, element: u32, at: u32, siz
         numbers::put_number(buffer, i + 4, element);
         numbers::put_number(buffer, i + 8, at);
         numbers::put_number(buffer, i + 12, size);
+        numbers::put_number(buffer, i + 16, place);
     }
 }
 
@@ -43,17 +56,19 @@ pub fn put_event(
     bytes: &mut [u8],
     n: usize,
     kind: u32,
-    element: usize,
+    element: ElementNo,
     at: usize,
     size: usize,
+    place: Place,
 ) -> usize
-    requires { ⌜ (n < 4294967296) × (element < 4294967296) × (at < 4294967296) × (size < 4294967296) ⌝ }
-    ensures { λ r. ⌜ (r ≡ n + 1) × Puts (now (numbers .entry)) (now (bytes .entry)) n (noted kind element at size ∷ []) (now (numbers .exit)) (now (bytes .exit)) ⌝ }
+    requires { ⌜ (n < 4294967296) × (element .0 < 4294967296) × (at < 4294967296) × (size < 4294967296) × (place .0 < 4294967296) ⌝ }
+    ensures { λ r. ⌜ (r ≡ n + 1) × Puts (now (numbers .entry)) (now (bytes .entry)) n (noted kind (element .0) at size (place .0) ∷ []) (now (numbers .exit)) (now (bytes .exit)) ⌝ }
 {
-    let e = element as u32;
+    let e = element.0 as u32;
     let i = at as u32;
     let k = size as u32;
-    note_numbers(numbers, n, kind, e, i, k);
-    note_bytes(bytes, n, kind, e, i, k);
+    let p = place.0 as u32;
+    note_numbers(numbers, n, kind, e, i, k, p);
+    note_bytes(bytes, n, kind, e, i, k, p);
     n + 1
 }

@@ -20,10 +20,10 @@ abbrev declared : Element
 declared = record { at = 0; size = 3; start = 1; end = 1; content = empty }
 
 abbrev written : Event
-written = record { kind = 1; number = 1; offset = 0; size = 5 }
+written = record { kind = 1; number = 1; offset = 0; size = 5; place = 0 }
 
 abbrev ended : Event
-ended = record { kind = 6; number = 1; offset = 5; size = 0 }
+ended = record { kind = 6; number = 1; offset = 5; size = 0; place = 0 }
 
 -- `events 2`, `1 QTY 0 5`, `6 QTY 5 0`.
 lines : eventsText typeText (declared ∷ []) (written ∷ ended ∷ [])

@@ -4,6 +4,7 @@ use mathlib.Core.Path.{_≡_, refl, sym, ap, _∙_}
 use mathlib.Core.List.{List, [], _∷_, _++_, append-assoc, append-nil}
 use native.Mathlib.Omega.{arith}
 use lib.ListN.{length, take, getD, length-append, List·getD-eq-default}
+use Rattle.rules.specs.Events.{eventWidth}
 use Rattle.rules.specs.Printed.{decimal, word, upper, line, eventsWord, refusedWord, refusedText}
 use Rattle.line_text.specs.Means.{Adds}
 use Rattle.line_text.specs.Laws.{puts-both}
@@ -62,21 +63,21 @@ module _ (s elements numbers : List ℕ) (n : ℕ) where
       let z : n - 0 ≡ n = omega arith in
       record { same = refl; ends = rw z; within = h; text-is = rw z }
 
-  lines-next : (i : ℕ) → i < n → linesLeft i ≡ lineAt s elements numbers (4 * i) ++ linesLeft (i + 1)
+  lines-next : (i : ℕ) → i < n → linesLeft i ≡ lineAt s elements numbers (eventWidth * i) ++ linesLeft (i + 1)
   unfolding linesFrom
   lines-next i h =
       let z : n - i ≡ suc (n - (i + 1)) = omega arith in
       rw (z, linesFrom)
 
   module _ {before after : List ℕ} {at r i : ℕ} (l : Lines before at after r (linesLeft i) allLines) where
-    pub lines-turn : {next : List ℕ} {q : ℕ} → i < n → Adds after r next q (lineAt s elements numbers (4 * i)) → Lines before at next q (linesLeft (i + 1)) allLines
+    pub lines-turn : {next : List ℕ} {q : ℕ} → i < n → Adds after r next q (lineAt s elements numbers (eventWidth * i)) → Lines before at next q (linesLeft (i + 1)) allLines
     lines-turn {next} {q} h a =
         let split = lines-next i h in
         let counted = l .ends in
         let put = a .ends in
         record {
           same = a .same ∙ l .same;
-          ends = omega (arith, ap length split, length-append (lineAt s elements numbers (4 * i)) (linesLeft (i + 1)));
+          ends = omega (arith, ap length split, length-append (lineAt s elements numbers (eventWidth * i)) (linesLeft (i + 1)));
           within = omega (arith, a .within, l .same);
           text-is = rw (a .text-is, append-assoc, ← split) (l .text-is);
         }

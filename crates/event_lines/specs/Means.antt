@@ -3,6 +3,7 @@ use Prim.Native.Nat.{ℕ, zero, suc, _+_, _*_, _≤_}
 use mathlib.Core.Path.{_≡_}
 use mathlib.Core.List.{List, [], _∷_, _++_}
 use lib.ListN.{length, getD}
+use Rattle.rules.specs.Events.{eventWidth}
 use Rattle.rules.specs.Printed.{decimal, word, upper, line, eventsWord}
 
 -- The table has the numbers of 64 elements, whose names stand in s and are short.
@@ -23,7 +24,7 @@ lineAt s elements numbers i = line (getD numbers i 0) (nameIn s elements (getD n
 -- The lines of n events, from the one with so many before it on.
 unfoldable pub linesFrom : (s elements numbers : List ℕ) → (n i : ℕ) → List ℕ
 linesFrom s elements numbers zero i = []
-linesFrom s elements numbers (suc n) i = lineAt s elements numbers (4 * i) ++ linesFrom s elements numbers n (i + 1)
+linesFrom s elements numbers (suc n) i = lineAt s elements numbers (eventWidth * i) ++ linesFrom s elements numbers n (i + 1)
 
 -- `events N`, and the lines of n events.
 unfoldable pub textOf : (s elements numbers : List ℕ) → ℕ → List ℕ

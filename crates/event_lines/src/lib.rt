@@ -1,10 +1,12 @@
 // The text of events and of a refusal, put into a buffer word by word. What the buffer holds behind the text is not decided.
 use layout::EVENT;
+use layout::PROGRAM_ROOM;
 use layout::RECORDS;
 ghost use mathlib.Core.Path.{_≡_};
 ghost use Prim.Native.Nat.{_+_, _*_, _≤_, _<_};
 ghost use lib.ListN.{length, take};
-ghost use Rattle.rules.specs.Printed.{word, refusedText};
+ghost use Rattle.rules.specs.Events.{eventWidth};
+ghost use Rattle.rules.specs.Printed.{programRoom, word, refusedText};
 ghost use Rattle.line_text.specs.Means.{Adds};
 ghost use Rattle.event_lines.specs.Means.{Fits, nameIn, lineAt, linesFrom, textOf};
 
@@ -34,10 +36,10 @@ fn put_event(
     at: usize,
     s: &[u8],
     elements: &[u32; RECORDS],
-    numbers: &[u32; 16384],
+    numbers: &[u32; PROGRAM_ROOM],
     i: usize,
 ) -> usize
-    requires { ⌜ (at + 72 ≤ length (now out)) × Fits (now s) (now elements) × (i + 4 ≤ 16384) ⌝ }
+    requires { ⌜ (at + 72 ≤ length (now out)) × Fits (now s) (now elements) × (i + eventWidth ≤ programRoom) ⌝ }
     ensures { λ r. ⌜ Adds (now (out .entry)) at (now (out .exit)) r (lineAt (now (s .entry)) (now (elements .entry)) (now (numbers .entry)) i) × (r ≤ at + 72) ⌝ }
 {
     let a = line_text::put_short(out, at, numbers[i], b' ');
@@ -52,7 +54,7 @@ fn put_lines(
     at: usize,
     s: &[u8],
     elements: &[u32; RECORDS],
-    numbers: &[u32; 16384],
+    numbers: &[u32; PROGRAM_ROOM],
     n: usize,
 ) -> usize
     requires { ⌜ (at + 72 * n ≤ length (now out)) × Fits (now s) (now elements) × (n ≤ 4096) ⌝ }
@@ -72,7 +74,7 @@ pub fn put_events(
     out: &mut [u8],
     s: &[u8],
     elements: &[u32; RECORDS],
-    numbers: &[u32; 16384],
+    numbers: &[u32; PROGRAM_ROOM],
     n: usize,
 ) -> usize
     requires { ⌜ (294984 ≤ length (now out)) × Fits (now s) (now elements) × (n ≤ 4096) ⌝ }

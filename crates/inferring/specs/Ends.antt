@@ -58,20 +58,20 @@ module _ (s : List ℕ) (es : List Element) (D : Decisions) (t : Token) (at : �
     found-refused e h = settle-stuck (around o) (current o) ev (found-inward ∙ ap (λ x. inwardAs s es D t at x (stateOf o ev)) e) h
 
     found-ends : w ≡ Stuck → mayEnd s es D (current o) (around o) ≡ true → 1 ≤ o .count
-        → settleFrom s es D t at (around (ended o)) (current (ended o)) (ev ++ endInferred (o .element) at ∷ []) ≡ settleFrom s es D t at (around o) (current o) ev
+        → settleFrom s es D t at (around (ended o)) (current (ended o)) (ev ++ endInferred (o .element .0) at ∷ []) ≡ settleFrom s es D t at (around o) (current o) ev
     found-ends e h some =
         sym (settle-end (current (ended o)) (around (ended o)) (around o) (around-ended o some) (current o) ev (found-inward ∙ ap (λ x. inwardAs s es D t at x (stateOf o ev)) e) h)
 
 -- An end is inferred.
 comes-end : {s : List ℕ} {es : List Element} {t : Token} {at : ℕ} {o : Open} {events : List Event} {o₀ : Open} → Comes s es t at o events o₀
     → (w : Way) → w ≡ wayOf (fitting s es (decided s es) (current o) t) (chained s es (decided s es) t (current o)) → w ≡ Stuck → mayEnd s es (decided s es) (current o) (around o) ≡ true → 1 ≤ o .count
-    → Comes s es t at (ended o) (events ++ endInferred (o .element) at ∷ []) o₀
+    → Comes s es t at (ended o) (events ++ endInferred (o .element .0) at ∷ []) o₀
 comes-end {s} {es} {t} {at} {o} {events} h w finds e ends some =
     record {
       stands = stands-ended (h .stands) some;
       ends = more (h .ends) some ends;
       same = λ before.
-          ap (settleFrom s es (decided s es) t at (around (ended o)) (current (ended o))) (sym (append-assoc before events (endInferred (o .element) at ∷ [])))
+          ap (settleFrom s es (decided s es) t at (around (ended o)) (current (ended o))) (sym (append-assoc before events (endInferred (o .element .0) at ∷ [])))
           ∙ found-ends s es (decided s es) t at o w finds (before ++ events) e ends some
           ∙ h .same before;
     }
@@ -93,12 +93,12 @@ module _ (rows places facts : List ℕ) (x at n : ℕ) where
   -- A turn: the end of the current element is inferred, and noted.
   pub turns-end : {o₀ : Open} {numbers₀ bytes₀ : List ℕ} {o : Open} {m : ℕ} {numbers bytes : List ℕ} → Turns rows places facts x at n o₀ numbers₀ bytes₀ o m numbers bytes
       → (w : Way) → Finds rows places facts x o w → w ≡ Stuck → (b : Bool) → MayEnd facts o b → b ≡ true → 1 ≤ o .count
-      → {numbers′ bytes′ : List ℕ} → Puts numbers bytes m (endInferred (o .element) at ∷ []) numbers′ bytes′ → {r : Open} → r ≡ ended o → {q : ℕ} → q ≡ m + 1
+      → {numbers′ bytes′ : List ℕ} → Puts numbers bytes m (endInferred (o .element .0) at ∷ []) numbers′ bytes′ → {r : Open} → r ≡ ended o → {q : ℕ} → q ≡ m + 1
       → Turns rows places facts x at n o₀ numbers₀ bytes₀ r q numbers′ bytes′
   turns-end {o₀} {numbers₀} {bytes₀} {o} {m} h w finds e b ends may some {numbers′} {bytes′} puts i {q} z =
       subst (λ (u : Open). Turns rows places facts x at n o₀ numbers₀ bytes₀ u q numbers′ bytes′) (sym i)
       record {
-        events = h .events ++ endInferred (o .element) at ∷ [];
+        events = h .events ++ endInferred (o .element .0) at ∷ [];
         puts = puts-then (h .puts) (h .counted) puts;
         counted = simp length-append (omega (arith, h .counted));
         deep = simp length-append (omega (arith, h .deep));

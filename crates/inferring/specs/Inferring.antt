@@ -7,7 +7,7 @@ use lib.ListN.{length}
 use Rattle.rules.specs.TypeFile.{Element}
 use Rattle.rules.specs.Decisions.{Token, Decisions}
 use Rattle.rules.specs.Events.{startInferred, endInferred, Event}
-use Rattle.rules.specs.Settling.{State, takePlace, enter, note, fitting, requiredPlace, inferable, settleFrom}
+use Rattle.rules.specs.Settling.{State, takePlace, shown, placeTaken, enter, note, fitting, requiredPlace, inferable, settleFrom}
 use Rattle.rules.specs.Settling as rules
 use Rattle.document_laws.specs.Decide.{decided}
 use Rattle.last_places.specs.Last.{short}
@@ -25,7 +25,7 @@ use Rattle.inferring.specs.declared.Stop.{Stop}
 -- From o₀ ends are inferred one after another, with these events, each where step 3 allows it.
 pub data EndsTo (s : List ℕ) (es : List Element) (at : ℕ) (o₀ : Open) : List Event → Open → Type 0 where
   none : EndsTo s es at o₀ [] o₀
-  more : {events : List Event} {o : Open} → EndsTo s es at o₀ events o → 1 ≤ o .count → mayEnd s es (decided s es) (current o) (around o) ≡ true → EndsTo s es at o₀ (events ++ endInferred (o .element) at ∷ []) (ended o)
+  more : {events : List Event} {o : Open} → EndsTo s es at o₀ events o → 1 ≤ o .count → mayEnd s es (decided s es) (current o) (around o) ≡ true → EndsTo s es at o₀ (events ++ endInferred (o .element .0) at ∷ []) (ended o)
 
 -- What is settled from o on, after these events, is what is settled from o₀ on, and ends alone were inferred between.
 pub record Comes (s : List ℕ) (es : List Element) (t : Token) (at : ℕ) (o : Open) (events : List Event) (o₀ : Open) : Type 0 where
@@ -45,7 +45,7 @@ pub record Turns (rows places facts : List ℕ) (x at n : ℕ) (o₀ : Open) (nu
 -- What is found of the current element.
 abbrev pub Finds : (rows places facts : List ℕ) (x : ℕ) → Open → Way → Type 0
 Finds rows places facts x o w =
-    (s : List ℕ) (es : List Element) → Tables s es rows places facts → Requires es (o .element) (o .required) (o .place) → (t : Token) → nameNumber t ≡ x → Declares es t → w ≡ wayOf (fitting s es (decided s es) (current o) t) (chained s es (decided s es) t (current o))
+    (s : List ℕ) (es : List Element) → Tables s es rows places facts → Requires es (o .element .0) (o .required .0) (o .place .0) → (t : Token) → nameNumber t ≡ x → Declares es t → w ≡ wayOf (fitting s es (decided s es) (current o) t) (chained s es (decided s es) t (current o))
 
 -- No more ends are inferred.
 pub record Stops (rows places facts : List ℕ) (x at n : ℕ) (o₀ : Open) (numbers₀ bytes₀ : List ℕ) (r : Stop) (numbers bytes : List ℕ) : Type 0 where
@@ -62,7 +62,8 @@ module _ (s : List ℕ) (es : List Element) (D : Decisions) where
   abbrev pub inferOne : (at : ℕ) → State → State
   inferOne at z =
       let k = inferable s es D (z .current) in
-      note (startInferred k at) (enter k (takePlace (requiredPlace s es D (z .current)) z))
+      let y = takePlace (requiredPlace s es D (z .current)) z in
+      note (startInferred k at (placeTaken (y .current))) (enter k y)
 
   -- So many starts are inferred, one in the other.
   abbrev pub inferMany : (at starts : ℕ) → State → State
@@ -85,6 +86,6 @@ pub record InfersOn (s : List ℕ) (es : List Element) (t : Token) (at left : �
 pub record InfersStart (rows places facts : List ℕ) (at n : ℕ) (o : Open) (numbers bytes : List ℕ) (r : Open) (numbers′ bytes′ : List ℕ) : Type 0 where
   pub k : ℕ
   pub few : k ≤ 64
-  pub opens : r ≡ opening rows k (took rows (o .required) o)
-  pub puts : Puts numbers bytes n (startInferred k at ∷ []) numbers′ bytes′
+  pub opens : r ≡ opening rows k (took rows (o .required .0) o)
+  pub puts : Puts numbers bytes n (startInferred k at (shown (o .element .0) (o .required .0)) ∷ []) numbers′ bytes′
   pub chosen : (s : List ℕ) (es : List Element) → Tables s es rows places facts → Stands es o → k ≡ inferable s es (decided s es) (current o)

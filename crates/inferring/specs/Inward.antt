@@ -16,6 +16,8 @@ use Rattle.rules.specs.Decisions.{Token, Decisions}
 use Rattle.rules.specs.Events.{Event}
 use Rattle.rules.specs.Settling.{State, Inward, settled, stuck, takePlace, limited, fitting, chain, inferStarts, takeToken, inward}
 use Rattle.rules.specs.Settling as rules
+use Rattle.layout.specs.declared.Place.{Place}
+use Rattle.layout.specs.Typed.{placeNo}
 use Rattle.document_laws.specs.Decide.{fitsIn, decided}
 use Rattle.document_laws.specs.Chain.{chain-leads}
 use Rattle.type_laws.specs.Width.{typeFile-width}
@@ -46,7 +48,7 @@ fits-most {c} s es accepted k taken t = go (contentOf es k) refl
 module _ (s : List ℕ) (es : List Element) (D : Decisions) (t : Token) where
   -- What becomes of the token, by what is found.
   abbrev pub inwardAs : (at : ℕ) → Way → State → Inward
-  inwardAs at (Taken p) z = settled (takePlace p z)
+  inwardAs at (Taken p) z = settled (takePlace (p .0) z)
   inwardAs at (Inferred n) z = settled (takeToken s es D t (inferMany s es D at n z))
   inwardAs at Stuck z = stuck
 
@@ -73,7 +75,10 @@ module _ (s : List ℕ) (es : List Element) (D : Decisions) (t : Token) where
       by-fit (suc f) c e w = absurd (let z : _≡_ {A = ℕ} 0 1 = cc in omega arith)
 
 -- The token fits as a place, which is the one that is found.
-pub way-fits : (p f n : ℕ) → Taken p ≡ wayOf f n → (p ≡ f) × (p ≡ 0 → ⊥)
+pub way-fits : (p : Place) (f n : ℕ) → Taken p ≡ wayOf f n → (p .0 ≡ f) × (p .0 ≡ 0 → ⊥)
 way-fits p zero zero e = absurd (let z : _≡_ {A = ℕ} 0 1 = cc in omega arith)
 way-fits p zero (suc n) e = absurd (let z : _≡_ {A = ℕ} 0 1 = cc in omega arith)
-way-fits p (suc f) n e = let i : p ≡ suc f = cc in (i, λ z. omega arith)
+way-fits p (suc f) n e =
+    let i : p ≡ placeNo (suc f) = cc in
+    let j : p .0 ≡ suc f = ap (λ (q : Place). q .0) i in
+    (j, λ z. omega arith)

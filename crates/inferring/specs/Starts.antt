@@ -8,10 +8,11 @@ use borrow.Author.Tests.{leb-true}
 use Rattle.rules.specs.TypeFile.{Element}
 use Rattle.rules.specs.Decisions.{Token, Decisions}
 use Rattle.rules.specs.Events.{Event, startInferred}
-use Rattle.rules.specs.Settling.{State, takePlace, enter, note, fitting, requiredPlace, inferable, inferStarts}
+use Rattle.rules.specs.Settling.{State, takePlace, shown, placeTaken, enter, note, fitting, requiredPlace, inferable, inferStarts}
 use Rattle.rules.specs.Settling as rules
 use Rattle.document_laws.specs.Decide.{decided}
 use Rattle.document_laws.specs.Chain.{Leads}
+use Rattle.document_laws.specs.Moves.{placeTaken-took}
 use Rattle.last_places.specs.Last.{lastOnly, allLast, short}
 use Rattle.last_places.specs.Short.{state, lastOnly-took}
 use Rattle.last_places.specs.Short as shorts
@@ -29,7 +30,9 @@ use Rattle.inferring.specs.Inferring.{inferOne, inferMany, Infers, Infer
 module _ (s : List ℕ) (es : List Element) (D : Decisions) where
   -- The start of k is inferred at the required place.
   abbrev starting : (at k : ℕ) → State → State
-  starting at k z = note (startInferred k at) (enter k (takePlace (requiredPlace s es D (z .current)) z))
+  starting at k z =
+      let y = takePlace (requiredPlace s es D (z .current)) z in
+      note (startInferred k at (placeTaken (y .current))) (enter k y)
 
   -- The starts of a chain are those that are inferred one in the other.
   pub chain-infers : (t : Token) (ks : List ℕ) (o : rules.Open) → Leads s es D t o ks → Infers s es D t (length ks) o
@@ -47,43 +50,49 @@ module _ (s : List ℕ) (es : List Element) (D : Decisions) where
   infer-around at (suc n) o a b ev e =
       let k = inferable s es D o in
       let u = shorts.took o (requiredPlace s es D o) in
-      infer-around at n (standing k 0) (u ∷ a) (u ∷ b) (ev ++ startInferred k at ∷ []) (ap (λ us. lastOnly u ∷ us) e)
+      infer-around at n (standing k 0) (u ∷ a) (u ∷ b) (ev ++ startInferred k at (placeTaken u) ∷ []) (ap (λ us. lastOnly u ∷ us) e)
 
   pub infer-deeper : (at n : ℕ) (z : State) → length (inferMany s es D at n z .around) ≡ length (z .around) + n
   infer-deeper at zero z = omega arith
   infer-deeper at (suc n) z = infer-deeper at n (inferOne s es D at z) ∙ omega arith
 
 -- The required place is one of the model's.
-required-in : {s : List ℕ} {es : List Element} {rows places facts : List ℕ} → Tables s es rows places facts → {o : Open} → Stands es o → o .required ≤ width es (o .element)
+required-in : {s : List ℕ} {es : List Element} {rows places facts : List ℕ} → Tables s es rows places facts → {o : Open} → Stands es o → o .required .0 ≤ width es (o .element .0)
 required-in {s} {es} tables {o} stands =
-    omega (arith, stands .marked .required, required-most s es (tables .accepted) (o .element) (o .place) (stands-place stands))
+    omega (arith, stands .marked .required, required-most s es (tables .accepted) (o .element .0) (o .place .0) (stands-place stands))
 
 -- One start is inferred, the first of those to be inferred.
 module _ (s : List ℕ) (es : List Element) {rows places facts : List ℕ} (tables : Tables s es rows places facts) {o : Open} (stands : Stands es o) (less : o .count < 24) (k : ℕ)
     (chosen : k ≡ inferable s es (decided s es) (current o)) where
   -- the required place is taken, and the element opened there
   abbrev inferring : Open
-  inferring = opening rows k (took rows (o .required) o)
+  inferring = opening rows k (took rows (o .required .0) o)
 
   infer-stands : 1 ≤ inferable s es (decided s es) (current o) → Stands es inferring
   infer-stands some =
-      stands-opening (tables .accepted) (tables .rows-say) k (stands-took (tables .accepted) (tables .rows-say) (o .required) stands (required-in tables stands)) less (rw chosen some) (rw chosen (inferable-most s es (decided s es) (current o)))
+      stands-opening (tables .accepted) (tables .rows-say) k (stands-took (tables .accepted) (tables .rows-say) (o .required .0) stands (required-in tables stands)) less (rw chosen some) (rw chosen (inferable-most s es (decided s es) (current o)))
 
   module _ (t : Token) (at left : ℕ) where
+    -- its event, with the place that it took
+    abbrev starts : Event
+    starts = startInferred k at (shown (o .element .0) (o .required .0))
+
     infer-same : (before : List Event)
-        → short (inferMany s es (decided s es) at left (stateOf inferring (before ++ startInferred k at ∷ []))) ≡ short (inferMany s es (decided s es) at (suc left) (stateOf o before))
+        → short (inferMany s es (decided s es) at left (stateOf inferring (before ++ starts ∷ []))) ≡ short (inferMany s es (decided s es) at (suc left) (stateOf o before))
     infer-same before =
-        let p = o .required in
-        let ev = before ++ startInferred k at ∷ [] in
-        let opened : stateOf inferring ev ≡ state (standing k 0) (standing (o .element) p ∷ around o) ev =
+        let p = o .required .0 in
+        let ev = before ++ starts ∷ [] in
+        let opened : stateOf inferring ev ≡ state (standing k 0) (standing (o .element .0) p ∷ around o) ev =
         ap (λ us. state (standing k 0) us ev) (around-opening rows k (took rows p o) (stands .whole) less) in
         ap (λ z. short (inferMany s es (decided s es) at left z)) opened
-        ∙ infer-around s es (decided s es) at left (standing k 0) _ _ ev (ap (λ u. u ∷ allLast (around o)) (standing-last (o .element) p ∙ sym (lastOnly-took (current o) p)))
-        ∙ ap₂ (λ j q. short (inferMany s es (decided s es) at left (state (standing j 0) (shorts.took (current o) q ∷ around o) (before ++ startInferred j at ∷ [])))) chosen (stands .marked .required)
+        ∙ infer-around s es (decided s es) at left (standing k 0) _ _ ev (ap (λ u. u ∷ allLast (around o)) (standing-last (o .element .0) p ∙ sym (lastOnly-took (current o) p)))
+        ∙ ap₂ (λ j q. short (inferMany s es (decided s es) at left (state (standing j 0) (shorts.took (current o) q ∷ around o) (before ++ startInferred j at (shown (o .element .0) q) ∷ [])))) chosen (stands .marked .required)
+        ∙ ap (λ m. short (inferMany s es (decided s es) at left (state (standing (inferable s es (decided s es) (current o)) 0) (shorts.took (current o) (requiredPlace s es (decided s es) (current o)) ∷ around o) (before ++ startInferred (inferable s es (decided s es) (current o)) at m ∷ []))))
+        (sym (placeTaken-took (current o) (requiredPlace s es (decided s es) (current o))))
 
-    pub infers-one : Infers s es (decided s es) t (suc left) (current o) → {r : Open} → r ≡ inferring → InfersOn s es t at left r (startInferred k at ∷ []) (suc left) o
+    pub infers-one : Infers s es (decided s es) t (suc left) (current o) → {r : Open} → r ≡ inferring → InfersOn s es t at left r (starts ∷ []) (suc left) o
     infers-one (some, infers) e =
-        subst (λ (x : Open). InfersOn s es t at left x (startInferred k at ∷ []) (suc left) o) (sym e)
+        subst (λ (x : Open). InfersOn s es t at left x (starts ∷ []) (suc left) o) (sym e)
         record { stands = infer-stands some; infers = rw chosen infers; same = infer-same }
 
 -- Many starts
@@ -129,11 +138,11 @@ module _ (rows places facts : List ℕ) (at m starts : ℕ) where
         let z : starts - k ≡ suc (starts - (k + 1)) = omega arith in
         record {
           most = omega arith;
-          events = h .events ++ startInferred (i .k) at ∷ [];
+          events = h .events ++ startInferred (i .k) at (shown (o .element .0) (o .required .0)) ∷ [];
           puts = puts-then (h .puts) (omega (arith, h .counted)) (i .puts);
           counted = simp length-append (omega (arith, h .counted));
           deep = omega (arith, h .deep, ap (λ (u : Open). u .count) (i .opens));
-          ranged = rw (i .opens) (ranged-opening rows (i .k) (ranged-took rows (o .required) (h .ranged) (h .ranged .required)) less (i .few));
+          ranged = rw (i .opens) (ranged-opening rows (i .k) (ranged-took rows (o .required .0) (h .ranged) (h .ranged .required)) less (i .few));
           still = λ z. absurd (omega arith);
           along = λ s es tables stands t infers.
               let b = rw z at (h .along s es tables stands t infers) in

@@ -5,8 +5,10 @@
 // Where the tables are no type's, or the state stands in none, which ends and starts are inferred is not decided, but that the state's numbers are
 // in range and that so many events were put as are counted.
 use layout::BEGUN;
+use layout::ElementNo;
 use layout::FACTS;
 use layout::PLACES;
+use layout::Place;
 use layout::ROWS;
 use open_elements::Open;
 use ways::Way;
@@ -30,37 +32,31 @@ pub fn ends(
     members: &[u8],
     begun: &[u32; BEGUN],
     state: Open,
-    x: usize,
+    x: ElementNo,
     at: usize,
     n: usize,
     numbers: &mut [u32],
     bytes: &mut [u8],
 ) -> Stop
-    requires { ⌜ Ranged state × (x ≤ 64) × (at < 4294967296) × (n + 50 < 4294967296) ⌝ }
-    ensures { λ r. ⌜ Stops (now (rows .entry)) (now (places .entry)) (now (facts .entry)) x at n state (now (numbers .entry)) (now (bytes .entry)) r (now (numbers .exit)) (now (bytes .exit)) ⌝ }
+    requires { ⌜ Ranged state × (x .0 ≤ 64) × (at < 4294967296) × (n + 50 < 4294967296) ⌝ }
+    ensures { λ r. ⌜ Stops (now (rows .entry)) (now (places .entry)) (now (facts .entry)) (x .0) at n state (now (numbers .entry)) (now (bytes .entry)) r (now (numbers .exit)) (now (bytes .exit)) ⌝ }
 {
     let mut o = state;
     let mut m = n;
     let found = loop {
-        let w = ways::way_at(
-            rows,
-            places,
-            facts,
-            members,
-            begun,
-            o.count,
-            o.element,
-            o.place,
-            o.required,
-            x,
-        );
+        let k = o.count;
+        let e = o.element;
+        let u = o.place;
+        let q = o.required;
+        let w = ways::way_at(rows, places, facts, members, begun, k, e, u, q, x);
         let Way::Stuck = w else {
             break w;
         };
         if !ways::may_end(facts, o) {
             break w;
         }
-        m = event_buffer::put_event(numbers, bytes, m, 4, o.element, at, 0);
+        let none = Place(0);
+        m = event_buffer::put_event(numbers, bytes, m, 4, e, at, 0, none);
         o = o.infer_end();
     };
     Stop {
@@ -86,7 +82,10 @@ pub fn infer_start(
     requires { ⌜ Ranged state × (state .count < 24) × (at < 4294967296) × (n < 4294967296) ⌝ }
     ensures { λ r. ⌜ InfersStart (now (rows .entry)) (now (places .entry)) (now (facts .entry)) at n state (now (numbers .entry)) (now (bytes .entry)) r (now (numbers .exit)) (now (bytes .exit)) ⌝ }
 {
-    let k = type_tables::startable(places, facts, state.element, state.required);
-    event_buffer::put_event(numbers, bytes, n, 2, k, at, 0);
+    let e = state.element;
+    let q = state.required;
+    let k = type_tables::startable(places, facts, e, q);
+    let shown = open_elements::place_shown(e, q);
+    event_buffer::put_event(numbers, bytes, n, 2, k, at, 0, shown);
     state.start_required(rows, members, begun, k)
 }

@@ -2,6 +2,8 @@
 use Prim.Native.Nat.{ℕ, _+_, _*_}
 use Rattle.rules.specs.Settings.{mostNameLength}
 use Rattle.rules.specs.Bytes.{GRPGTCNT, elementLimit}
+use Rattle.rules.specs.Events.{eventWidth}
+use Rattle.rules.specs.Printed.{programRoom}
 
 -- Where one can stand in a content model: at its start, or after one of its places.
 abbrev pub POSITIONS : ℕ
@@ -24,6 +26,14 @@ MODEL = MODEL-ROWS + CODE
 -- The records of a type: six numbers for each element.
 abbrev pub RECORDS : ℕ
 RECORDS = 6 * elementLimit
+
+-- The events.
+abbrev pub EVENT : ℕ
+EVENT = eventWidth
+
+-- The numbers that the small program lends.
+abbrev pub PROGRAM-ROOM : ℕ
+PROGRAM-ROOM = programRoom
 
 -- What has content: the document itself (0), and the elements.
 abbrev pub CONTENTS : ℕ

@@ -1,5 +1,6 @@
 // How large the tables are that are lent from crate to crate. A quantity of the paper that changes is changed here and in
-// `rules/specs/Bytes.antt`, the longest name in `rules/specs/Settings.antt`; `specs/Sizes.antt` has the sizes for the laws.
+// `rules/specs/Bytes.antt`, the longest name in `rules/specs/Settings.antt`; `specs/Sizes.antt` has the sizes for the laws. Places and elements'
+// numbers, which stand in these tables, have a type each, so that they cannot be mixed.
 
 // The longest name under any settings; the content tokens of a model; the declared elements.
 pub const MOST_NAME_LENGTH: usize = 32;
@@ -29,10 +30,13 @@ pub const RECORD: usize = 6;
 
 pub const RECORDS: usize = RECORD * ELEMENTS;
 
-// The events: four numbers each. A number stands as four bytes where bytes are lent.
-pub const EVENT: usize = 4;
+// The events: five numbers each. A number stands as four bytes where bytes are lent.
+pub const EVENT: usize = 5;
 
 pub const NUMBER: usize = 4;
+
+// The numbers that the small program lends.
+pub const PROGRAM_ROOM: usize = 20480;
 
 // What has content: the document itself (0), and the elements.
 pub const CONTENTS: usize = ELEMENTS + 1;
@@ -68,3 +72,9 @@ pub const MEMBERS: usize = CONTENTS * MEMBER;
 pub const BEGUN_WORDS: usize = 3;
 
 pub const BEGUN: usize = 25 * BEGUN_WORDS + 1;
+// A place of a content model, from 1, or 0 for none: at the start of the content none is taken yet.
+pub struct Place(pub usize);
+
+// An element's number, from 1 in declaration order. 0 is the document itself where an element is open, data where a token is named, and
+// none where one is looked for; 255 is `#PCDATA` where a place names it.
+pub struct ElementNo(pub usize);

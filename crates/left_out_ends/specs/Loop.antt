@@ -29,7 +29,7 @@ abbrev pub SaysOmitted : (facts : List ℕ) (e : ℕ) → Bool → Type 0
 SaysOmitted facts e b = (s : List ℕ) (es : List Element) → Facts s es facts → Declares es (start e) → b ≡ endO es e
 
 -- The current element is declared, where something is around it.
-declared : {es : List Element} {o : Open} → Stands es o → 1 ≤ o .count → Declares es (start (o .element))
+declared : {es : List Element} {o : Open} → Stands es o → 1 ≤ o .count → Declares es (start (o .element .0))
 declared h l = (stands-element h l, stands-range h .declared)
 
 module _ (facts : List ℕ) (o : Open) where
@@ -41,7 +41,7 @@ module _ (facts : List ℕ) (o : Open) where
         due = λ s es f h l at. left-incomplete s es (decided s es) at (current o) (sym (h .marked .complete) ∙ e);
       }
 
-  module _ {d : Bool} (e : o .complete ≡ true) (m : SaysOmitted facts (o .element) d) where
+  module _ {d : Bool} (e : o .complete ≡ true) (m : SaysOmitted facts (o .element .0) d) where
     pub judges-required : d ≡ false → Judges facts o 14
     judges-required g =
         record {
@@ -85,7 +85,7 @@ module _ (s : List ℕ) (es : List Element) (x at : ℕ) (o : Open) (ev : List E
       (ends-none s es (decided s es) x at (current o) ev)
 
   -- One turn: what is around the current element is taken apart, and its end is due.
-  inferred-past : 1 ≤ o .count → (o .element ≡ x → ⊥) → inferred s es x at o ev ≡ andThen (endLeftOut s es (decided s es) at (current o)) λ e. inferred s es x at (ended o) (ev ++ e ∷ [])
+  inferred-past : 1 ≤ o .count → (o .element .0 ≡ x → ⊥) → inferred s es x at o ev ≡ andThen (endLeftOut s es (decided s es) at (current o)) λ e. inferred s es x at (ended o) (ev ++ e ∷ [])
   inferred-past l n =
       ap (λ os. inferEnds s es (decided s es) x at os (current o) ev) (around-ended o l)
       ∙ ends-past s es (decided s es) x at (current (ended o)) (around (ended o)) (current o) ev n
@@ -110,7 +110,7 @@ module _ {facts : List ℕ} {x at n : ℕ} {o : Open} {numbers bytes : List ℕ}
     abbrev brings : (number : ℕ) → number < 20 → Brings n numbers bytes (left q k number) numbers′ bytes′
     brings number h = record { ranged = g .ranged; small = h; events = g .events; puts = g .puts; counted = g .counted }
 
-    pub until-here : q .element ≡ x → Until facts x at n o numbers bytes (left q k 0) numbers′ bytes′
+    pub until-here : q .element .0 ≡ x → Until facts x at n o numbers bytes (left q k 0) numbers′ bytes′
     until-here e =
         record {
           brings = brings 0 (omega arith);
@@ -130,12 +130,12 @@ module _ {facts : List ℕ} {x at n : ℕ} {o : Open} {numbers bytes : List ℕ}
           same = λ s es f h before. sym (inferred-none s es x at q (before ++ g .events) e) ∙ g .same s es f h before;
         }
 
-    module _ (l : 1 ≤ q .count) (m : q .element ≡ x → ⊥) {number : ℕ} (j : Judges facts q number) where
+    module _ (l : 1 ≤ q .count) (m : q .element .0 ≡ x → ⊥) {number : ℕ} (j : Judges facts q number) where
       past : {due : ℕ} → number ≡ due → (s : List ℕ) (es : List Element) → Facts s es facts → Stands es o → (before : List Event)
-          → (andThen (dueOf at due (endInferred (q .element) at)) λ e. inferred s es x at (ended q) ((before ++ g .events) ++ e ∷ [])) ≡ inferred s es x at o before
+          → (andThen (dueOf at due (endInferred (q .element .0) at)) λ e. inferred s es x at (ended q) ((before ++ g .events) ++ e ∷ [])) ≡ inferred s es x at o before
       past e s es f h before =
           sym (inferred-past s es x at q (before ++ g .events) l m
-          ∙ ap (λ d. andThen d λ t. inferred s es x at (ended q) ((before ++ g .events) ++ t ∷ [])) (j .due s es f (g .stands es h) l at ∙ ap (λ k. dueOf at k (endInferred (q .element) at)) e))
+          ∙ ap (λ d. andThen d λ t. inferred s es x at (ended q) ((before ++ g .events) ++ t ∷ [])) (j .due s es f (g .stands es h) l at ∙ ap (λ k. dueOf at k (endInferred (q .element .0) at)) e))
           ∙ g .same s es f h before
 
       pub until-refused : (number ≡ 0 → ⊥) → Until facts x at n o numbers bytes (left q k number) numbers′ bytes′
@@ -147,20 +147,20 @@ module _ {facts : List ℕ} {x at n : ℕ} {o : Open} {numbers bytes : List ℕ}
             reached = λ y k. absurd (z y);
             same = λ s es f h before.
                 outcome-refused at number (stateOf q (before ++ g .events)) z
-                ∙ sym (ap (λ d. andThen d λ t. inferred s es x at (ended q) ((before ++ g .events) ++ t ∷ [])) (due-refused at number (endInferred (q .element) at) z))
+                ∙ sym (ap (λ d. andThen d λ t. inferred s es x at (ended q) ((before ++ g .events) ++ t ∷ [])) (due-refused at number (endInferred (q .element .0) at) z))
                 ∙ past refl s es f h before;
           }
 
-      pub goes-turn : number ≡ 0 → {next : Open} {m : ℕ} {numbers″ bytes″ : List ℕ} → next ≡ ended q → m ≡ k + 1 → Puts numbers′ bytes′ k (noted 4 (q .element) at 0 ∷ []) numbers″ bytes″
+      pub goes-turn : number ≡ 0 → {next : Open} {m : ℕ} {numbers″ bytes″ : List ℕ} → next ≡ ended q → m ≡ k + 1 → Puts numbers′ bytes′ k (noted 4 (q .element .0) at 0 0 ∷ []) numbers″ bytes″
           → Goes facts x at n o numbers bytes next m numbers″ bytes″
       goes-turn z {numbers″ = numbers″} {bytes″} e c p =
-          let sizes = length-append (g .events) (endInferred (q .element) at ∷ []) in
+          let sizes = length-append (g .events) (endInferred (q .element .0) at ∷ []) in
           rw e (record {
             ranged = ranged-ended (g .ranged) l;
-            events = g .events ++ endInferred (q .element) at ∷ [];
+            events = g .events ++ endInferred (q .element .0) at ∷ [];
             puts = puts-then (g .puts) (g .counted) p;
             counted = omega (arith, g .counted);
             few = omega (arith, g .few);
             stands = λ es h. stands-ended (g .stands es h) l;
-            same = λ s es f h before. ap (λ ev. inferred s es x at (ended q) ev) (sym (append-assoc before (g .events) (endInferred (q .element) at ∷ []))) ∙ past z s es f h before;
+            same = λ s es f h before. ap (λ ev. inferred s es x at (ended q) ev) (sym (append-assoc before (g .events) (endInferred (q .element .0) at ∷ []))) ∙ past z s es f h before;
           })

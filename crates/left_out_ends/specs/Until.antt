@@ -40,7 +40,7 @@ dueOf at (suc n) e = refused (suc n) at
 pub record Judges (facts : List ℕ) (o : Open) (number : ℕ) : Type 0 where
   pub small : number < 20
   pub sure : number ≡ 0 → o .complete ≡ true
-  pub due : (s : List ℕ) (es : List Element) → Facts s es facts → Stands es o → 1 ≤ o .count → (at : ℕ) → endLeftOut s es (decided s es) at (current o) ≡ dueOf at number (endInferred (o .element) at)
+  pub due : (s : List ℕ) (es : List Element) → Facts s es facts → Stands es o → 1 ≤ o .count → (at : ℕ) → endLeftOut s es (decided s es) at (current o) ≡ dueOf at number (endInferred (o .element .0) at)
 
 -- What is handed back, whatever the tables hold: the numbers of the state are in range, and these events were put behind n others.
 pub record Brings (n : ℕ) (numbers bytes : List ℕ) (r : Outcome) (numbers′ bytes′ : List ℕ) : Type 0 where
@@ -55,6 +55,6 @@ pub record Until (facts : List ℕ) (x at n : ℕ) (o : Open) (numbers bytes : L
   pub brings : Brings n numbers bytes r numbers′ bytes′
   pub few : length (brings .events) + r .open .count ≤ o .count
   pub stands : (es : List Element) → Stands es o → Stands es (r .open)
-  pub reached : r .number ≡ 0 → 1 ≤ r .open .count → r .open .element ≡ x
+  pub reached : r .number ≡ 0 → 1 ≤ r .open .count → r .open .element .0 ≡ x
   pub same : (s : List ℕ) (es : List Element) → Facts s es facts → Stands es o → (before : List Event)
       → outcomeOf at (r .number) (stateOf (r .open) (before ++ brings .events)) ≡ inferred s es x at o before

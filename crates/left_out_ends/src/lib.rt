@@ -4,7 +4,9 @@
 // buffers before.
 // Where the table is no type's, or the state stands in none, what is brought is not decided, but that the state's numbers are in range, that the
 // refusal number is below 20, and that so many events were put as are counted.
+use layout::ElementNo;
 use layout::FACTS;
+use layout::Place;
 use open_elements::Open;
 use open_elements::Outcome;
 ghost use Prim.Native.Nat.{_+_, _<_};
@@ -17,7 +19,8 @@ fn end_fault(facts: &[u8; FACTS], o: Open) -> u32
     ensures { λ r. ⌜ Judges (now (facts .entry)) o r ⌝ }
 {
     let complete = o.complete;
-    let omitted = type_tables::end_omitted(facts, o.element);
+    let e = o.element;
+    let omitted = type_tables::end_omitted(facts, e);
     if !complete {
         return 13;
     }
@@ -32,19 +35,20 @@ fn end_fault(facts: &[u8; FACTS], o: Open) -> u32
 pub fn end_until(
     facts: &[u8; FACTS],
     state: Open,
-    x: usize,
+    x: ElementNo,
     at: usize,
     n: usize,
     numbers: &mut [u32],
     bytes: &mut [u8],
 ) -> Outcome
     requires { ⌜ Ranged state × (at < 4294967296) × (n + 50 < 4294967296) ⌝ }
-    ensures { λ r. ⌜ Until (now (facts .entry)) x at n state (now (numbers .entry)) (now (bytes .entry)) r (now (numbers .exit)) (now (bytes .exit)) ⌝ }
+    ensures { λ r. ⌜ Until (now (facts .entry)) (x .0) at n state (now (numbers .entry)) (now (bytes .entry)) r (now (numbers .exit)) (now (bytes .exit)) ⌝ }
 {
     let mut o = state;
     let mut k = n;
     while 0 < o.count {
-        if o.element == x {
+        let e = o.element;
+        if e.0 == x.0 {
             return Outcome {
                 open: o,
                 events: k,
@@ -59,7 +63,8 @@ pub fn end_until(
                 number: f,
             };
         }
-        k = event_buffer::put_event(numbers, bytes, k, 4, o.element, at, 0);
+        let none = Place(0);
+        k = event_buffer::put_event(numbers, bytes, k, 4, e, at, 0, none);
         o = o.infer_end();
     }
     Outcome {

@@ -5,6 +5,7 @@
 // there are, and the innermost member that holds it, or 0, and 128 more where that member can end with this group. Groups count from 1 in the order
 // of their ")", so that an inner one comes before those around it; members count from 1, group after group, in each those that cannot be nothing first.
 use layout::CODE;
+use layout::ElementNo;
 use layout::GROUP;
 use layout::MEMBER;
 use layout::MODEL;
@@ -187,8 +188,8 @@ fn joined(op: u8, a: Piece, b: Piece) -> Piece {
 }
 
 // The members of the element e, whose model has its table in `table` with n numbers of code. They are all 0 before.
-pub fn fill(members: &mut [u8], e: usize, table: &[u8; MODEL], n: usize) {
-    let base = e * MEMBER;
+pub fn fill(members: &mut [u8], e: ElementNo, table: &[u8; MODEL], n: usize) {
+    let base = e.0 * MEMBER;
     let mut stack = [Piece {
         lo: 0,
         hi: 0,

@@ -101,7 +101,7 @@ module _ (T : List ℕ) (p q i : ℕ) (a : List Pairing) where
       let e : suc (suc k) - 2 ≡ k = omega arith in
       let f : suc (suc k) - 1 ≡ suc k = omega arith in
       let tests' : six x ≡ joinedSix op (six (getD a k nonePairing)) (six (getD a (suc k) nonePairing)) =
-            tests ∙ ap (λ (m : ℕ). joinedSix op (six (getD a m nonePairing)) (six (getD a (suc (suc k) - 1) nonePairing))) e ∙ ap (λ (m : ℕ). joinedSix op (six (getD a k nonePairing)) (six (getD a m nonePairing))) f in
+      tests ∙ ap (λ (m : ℕ). joinedSix op (six (getD a m nonePairing)) (six (getD a (suc (suc k) - 1) nonePairing))) e ∙ ap (λ (m : ℕ). joinedSix op (six (getD a k nonePairing)) (six (getD a m nonePairing))) f in
       let front = ap six (getD-set-same a k x nonePairing (omega (arith, so .len, so .low))) ∙ tests' in
       passed T p q i a (suc (suc k)) so w op read (set a (suc (suc k) - 2) x) (suc (suc k) - 1) (length-set a (suc (suc k) - 2) x ∙ so .len) (omega (arith, so .low))
       (rw (e, f, le-ltb op 97 n₁, ne-eqb op 99 n₂, ne-eqb op 100 n₃, lt-ltb op 128 n₄, stacked-set a k x k (omega arith)) (ap (λ (v : Six). v ∷ stacked a k) front))

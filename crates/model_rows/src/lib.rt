@@ -1,9 +1,11 @@
 // The rows of a model's table, put into the rows of a type as bits.
 //
 // The layout is that of the crate type_tables.
+use layout::ElementNo;
 use layout::MODEL;
 use layout::MODEL_ROW;
 use layout::POSITIONS;
+use layout::Place;
 use layout::ROWS;
 ghost use mathlib.Core.Path.{_≡_};
 ghost use Prim.Native.Nat.{_+_, _*_, _≤_, _<_};
@@ -36,30 +38,31 @@ fn packed(table: &[u8; MODEL], i: usize) -> u8
 }
 
 // The row of the element e after the place u.
-fn put_row(rows: &mut [u8; ROWS], e: usize, table: &[u8; MODEL], u: usize, raise: u8)
-    requires { ⌜ (e ≤ 64) × (u ≤ 96) × (length (now rows) ≡ ROWS) ⌝ }
-    ensures { λ _. ⌜ RowPut (now (table .entry)) e u (now (rows .entry)) (now (rows .exit)) ⌝ }
+fn put_row(rows: &mut [u8; ROWS], e: ElementNo, table: &[u8; MODEL], u: Place, raise: u8)
+    requires { ⌜ (e .0 ≤ 64) × (u .0 ≤ 96) × (length (now rows) ≡ ROWS) ⌝ }
+    ensures { λ _. ⌜ RowPut (now (table .entry)) (e .0) (u .0) (now (rows .entry)) (now (rows .exit)) ⌝ }
 {
     let r = type_tables::row(e, u);
     let mut j = 0;
     while j < 12 {
-        rows[r + j] = packed(table, u * MODEL_ROW + 8 * j);
+        rows[r + j] = packed(table, u.0 * MODEL_ROW + 8 * j);
         j += 1;
     }
-    rows[r + 12] = cell(table, u * MODEL_ROW + 96);
-    let required = table[u * MODEL_ROW + POSITIONS];
+    rows[r + 12] = cell(table, u.0 * MODEL_ROW + 96);
+    let required = table[u.0 * MODEL_ROW + POSITIONS];
     rows[r + 13] = required + raise;
 }
 
 // The rows of the element e, whose model has `count` places.
-pub fn put_rows(rows: &mut [u8; ROWS], e: usize, table: &[u8; MODEL], count: usize, raise: u8)
-    requires { ⌜ (e ≤ 64) × (count ≤ 96) × (length (now rows) ≡ ROWS) ⌝ }
-    ensures { λ _. ⌜ RowsPut (now (table .entry)) e (now (rows .entry)) (now (rows .exit)) (count + 1) ⌝ }
+pub fn put_rows(rows: &mut [u8; ROWS], e: ElementNo, table: &[u8; MODEL], count: usize, raise: u8)
+    requires { ⌜ (e .0 ≤ 64) × (count ≤ 96) × (length (now rows) ≡ ROWS) ⌝ }
+    ensures { λ _. ⌜ RowsPut (now (table .entry)) (e .0) (now (rows .entry)) (now (rows .exit)) (count + 1) ⌝ }
 {
-    put_row(rows, e, table, 0, 0);
+    let start = Place(0);
+    put_row(rows, e, table, start, 0);
     let mut u = 1;
     while u <= count {
-        put_row(rows, e, table, u, raise);
+        put_row(rows, e, table, Place(u), raise);
         u += 1;
     }
 }

@@ -82,46 +82,46 @@ module _ {c : Settings} (s : List ℕ) (es : List Element) (accepted : Accepts c
 
 module _ {c : Settings} (s : List ℕ) (es : List Element) (accepted : Accepts c s es) (D : Decisions) (means : Means s es D) where
   module _ (z : State) (o : Open) (m : Moment es z o) where
-    pub number-same : z .current .number ≡ o .element
+    pub number-same : z .current .number ≡ o .element .0
     number-same = ap (λ (y : State). y .current .number) (m .same)
 
     answers : Answers s es D (decided s es) (z .current) (z .current)
     answers = begun-moves s es D (decided s es) means (accepted-decided s es accepted) .ends .alike (refl, m .begun)
 
     -- The place as which a token fits is one of the model's, and so is the required one.
-    pub fits-in : (t : Token) → fitting s es D (z .current) t ≤ width es (o .element)
+    pub fits-in : (t : Token) → fitting s es D (z .current) t ≤ width es (o .element .0)
     fits-in t = rw (← number-same) (rw (answers .fits t) (fits-most s es accepted (z .current .number) (z .current .taken) t))
 
-    last-same : lastOr0 (z .current .taken) ≡ o .place
-    last-same = sym (last-placed (lastOr0 (z .current .taken))) ∙ ap (λ (y : State). lastOr0 (y .current .taken)) (m .same) ∙ last-placed (o .place)
+    last-same : lastOr0 (z .current .taken) ≡ o .place .0
+    last-same = sym (last-placed (lastOr0 (z .current .taken))) ∙ ap (λ (y : State). lastOr0 (y .current .taken)) (m .same) ∙ last-placed (o .place .0)
 
     -- Whether the content is complete, and the required place, are what is kept.
     pub complete-kept : isComplete s es D (z .current) ≡ o .complete
     complete-kept =
         answers .complete
-        ∙ isCompleteIn-last (contentOf es (z .current .number)) (z .current .taken) (placed (o .place)) (last-same ∙ sym (last-placed (o .place)))
-        ∙ ap (λ (k : ℕ). isCompleteIn (contentOf es k) (placed (o .place))) number-same
+        ∙ isCompleteIn-last (contentOf es (z .current .number)) (z .current .taken) (placed (o .place .0)) (last-same ∙ sym (last-placed (o .place .0)))
+        ∙ ap (λ (k : ℕ). isCompleteIn (contentOf es k) (placed (o .place .0))) number-same
         ∙ sym (m .stands .marked .complete)
 
-    pub required-kept : requiredPlace s es D (z .current) ≡ o .required
+    pub required-kept : requiredPlace s es D (z .current) ≡ o .required .0
     required-kept =
         answers .required
-        ∙ requiredOf-last (contentOf es (z .current .number)) (z .current .taken) (placed (o .place)) (last-same ∙ sym (last-placed (o .place)))
-        ∙ ap (λ (k : ℕ). requiredOf (contentOf es k) (placed (o .place))) number-same
+        ∙ requiredOf-last (contentOf es (z .current .number)) (z .current .taken) (placed (o .place .0)) (last-same ∙ sym (last-placed (o .place .0)))
+        ∙ ap (λ (k : ℕ). requiredOf (contentOf es k) (placed (o .place .0))) number-same
         ∙ sym (m .stands .marked .required)
 
-    required-in : requiredPlace s es D (z .current) ≤ width es (o .element)
-    required-in = omega (arith, required-kept, m .stands .marked .required, required-most s es accepted (o .element) (o .place) (stands-place (m .stands)))
+    required-in : requiredPlace s es D (z .current) ≤ width es (o .element .0)
+    required-in = omega (arith, required-kept, m .stands .marked .required, required-most s es accepted (o .element .0) (o .place .0) (stands-place (m .stands)))
 
-    chosen-in : {p : ℕ} → Chosen s es D (z .current) p → p ≤ width es (o .element)
+    chosen-in : {p : ℕ} → Chosen s es D (z .current) p → p ≤ width es (o .element .0)
     chosen-in (fits t l) = fits-in t
     chosen-in (required l) = required-in
 
 module _ {c : Settings} (s : List ℕ) (es : List Element) (accepted : Accepts c s es) (D : Decisions) (means : Means s es D) (rows : List ℕ) (said : Rows es rows) where
   module _ (z : State) (o : Open) (m : Moment es z o) where
-    module _ (p : ℕ) (l : p ≤ width es (o .element)) where
+    module _ (p : ℕ) (l : p ≤ width es (o .element .0)) where
       small : p ≤ 96
-      small = omega (arith, width-most s es accepted (o .element))
+      small = omega (arith, width-most s es accepted (o .element .0))
 
       pub took-stands : Stands es (took rows p o)
       took-stands = stands-took accepted said p (m .stands) l

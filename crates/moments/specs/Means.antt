@@ -44,10 +44,10 @@ pub data Beside (s : List ℕ) (es : List Element) (D : Decisions) (rows : List 
 -- The open elements of the program are the same in all that is ever read of them: entries of the array that are not open are not.
 pub record Alike (o q : Open) : Type 0 where
   pub count : o .count ≡ q .count
-  pub element : o .element ≡ q .element
-  pub place : o .place ≡ q .place
+  pub element : o .element .0 ≡ q .element .0
+  pub place : o .place .0 ≡ q .place .0
   pub complete : o .complete ≡ q .complete
-  pub required : o .required ≡ q .required
+  pub required : o .required .0 ≡ q .required .0
   pub around : (k : ℕ) → k < o .count → getD (o .around) k none ≡ getD (q .around) k none
 
 -- From the moment at which the rules have z and the program o, acts lead to the rules' state y, and beside it to open elements alike to r. There is a

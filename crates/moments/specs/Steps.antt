@@ -19,6 +19,8 @@ use Rattle.rules.specs.Settling.{State, takePlace, fitting, isComplete, inferab
 use Rattle.rules.specs.Settling as rules
 use Rattle.rules.specs.Acts.{Act, infers, data-byte, infers-end, Acts, Few}
 use Rattle.rules.specs.Acts as act
+use Rattle.layout.specs.declared.Place.{Place}
+use Rattle.layout.specs.Typed.{placeNo}
 use Rattle.rules_laws.specs.Holds.{Gives, reads, so, on, either, got-so}
 use Rattle.model_sets.specs.Bits.{and-left, and-right}
 use Rattle.model_sets.specs.Reach.{lastOr0}
@@ -122,13 +124,13 @@ module _ (s : List ℕ) (es : List Element) (t : Token) where
   way-infers o (k ∷ ks) e zero i n = chain-infers s es (D s es) t (k ∷ ks) o (chain-leads s es (D s es) t (length es) o k ks e)
   way-infers o ks e (suc f) i n = omega (arith, i)
 
-way-taken : (f n p : ℕ) → wayOf f n ≡ Taken p → p ≡ f
+way-taken : (f n : ℕ) (p : Place) → wayOf f n ≡ Taken p → p .0 ≡ f
 way-taken zero zero p e = absurd (let z : _≡_ {A = ℕ} 0 1 = cc in omega arith)
 way-taken zero (suc n) p e = absurd (let z : _≡_ {A = ℕ} 0 1 = cc in omega arith)
-way-taken (suc f) n p e = let i : suc f ≡ p = cc in sym i
+way-taken (suc f) n p e = let i : placeNo (suc f) ≡ p = cc in sym (ap (λ (q : Place). q .0) i)
 
 -- The place that is taken by what was found is the one as which the token fits, where no other was found.
-place-found : (f : ℕ) (w : Way) (p : ℕ) → p ≡ placeOf f w → (p ≡ 0 → ⊥) → ((q : ℕ) → w ≡ Taken q → q ≡ f) → p ≡ f
+place-found : (f : ℕ) (w : Way) (p : ℕ) → p ≡ placeOf f w → (p ≡ 0 → ⊥) → ((q : Place) → w ≡ Taken q → q .0 ≡ f) → p ≡ f
 place-found f (Taken q) p e n h = e ∙ h q refl
 place-found f (Inferred k) p e n h = e
 place-found f Stuck p e n h = absurd (n e)
@@ -180,7 +182,7 @@ module _ {c : Settings} (s : List ℕ) (es : List Element) (accepted : Accepts c
       → Stops rows places facts x at n o numbers bytes r numbers′ bytes′ → x ≤ length es → (z : State) → Moment es z o
       → (y : State) × Beside s es (D s es) rows z o y (r .open)
       × ((r .found ≡ Stuck → ⊥) → Infers s es (D s es) (tokenOf x) (startsOf (r .found)) (y .current))
-      × ((p : ℕ) → r .found ≡ Taken p → p ≡ fitting s es (D s es) (y .current) (tokenOf x))
+      × ((p : Place) → r .found ≡ Taken p → p .0 ≡ fitting s es (D s es) (y .current) (tokenOf x))
   stops-lead tables {x} {r = r} h most z m =
       let (y, b) = turns-lead tables (h .turns) most z m in
       let n = beside-last b in
@@ -211,7 +213,7 @@ module _ {c : Settings} (s : List ℕ) (es : List Element) (accepted : Accepts c
   -- The place of a token (`placed` of placing) that is not refused there, where what was found is not another place than the one as which the token fits.
   module _ {places facts : List ℕ} (tables : Tables s es rows places facts) (x : ℕ) {found : Way} {at after n : ℕ} {o : Open} {numbers bytes : List ℕ} {r : Outcome} {numbers′ bytes′ : List ℕ}
       (h : Places rows places facts found x at after n o numbers bytes r numbers′ bytes′) (most : x ≤ length es) (fine : r .number ≡ 0) (z : State) (m : Moment es z o)
-      (right : (p : ℕ) → found ≡ Taken p → p ≡ fitting s es (D s es) (z .current) (tokenOf x)) where
+      (right : (p : Place) → found ≡ Taken p → p .0 ≡ fitting s es (D s es) (z .current) (tokenOf x)) where
     some-place : h .p ≡ 0 → ⊥
     some-place e = omega (arith, h .stuck e)
 
@@ -219,7 +221,7 @@ module _ {c : Settings} (s : List ℕ) (es : List Element) (accepted : Accepts c
     place-fits =
         sym (place-found _ found (h .p) (h .place s es tables (m .stands) most ∙ ap (λ (f : ℕ). placeOf f found) (sym (same-fits o (z .events) z (m .same) s es (tokenOf x)))) some-place right)
 
-    inside : h .p ≤ width es (o .element)
+    inside : h .p ≤ width es (o .element .0)
     inside = rw place-fits at (fits-in s es accepted (D s es) means z o m (tokenOf x))
 
     notes : Notes es rows x at after (h .p) o (h .events) r
@@ -238,7 +240,7 @@ module _ {c : Settings} (s : List ℕ) (es : List Element) (accepted : Accepts c
   -- That of a start tag: one act, which opens its element or, of an EMPTY one, leaves what is open.
   pub places-leads : {places facts : List ℕ} → Tables s es rows places facts → (x : ℕ) {found : Way} {at after n : ℕ} {o : Open} {numbers bytes : List ℕ} {r : Outcome} {numbers′ bytes′ : List ℕ}
       → Places rows places facts found x at after n o numbers bytes r numbers′ bytes′ → 1 ≤ x → x ≤ length es → r .number ≡ 0 → (z : State) → Moment es z o
-      → ((p : ℕ) → found ≡ Taken p → p ≡ fitting s es (D s es) (z .current) (tokenOf x))
+      → ((p : Place) → found ≡ Taken p → p .0 ≡ fitting s es (D s es) (z .current) (tokenOf x))
       → (y : State) × (noting es x at after (takeToken s es (D s es) (tokenOf x) z) ≡ got y) × Leads s es (D s es) rows z o y (r .open)
   places-leads tables zero h some most fine z m right = absurd (omega arith)
   places-leads tables (suc k) {at = at} {after} {o = o} {r = r} h some most fine z m right =
@@ -255,7 +257,7 @@ module _ {c : Settings} (s : List ℕ) (es : List Element) (accepted : Accepts c
   -- That of a run of data: one act, of its first byte. Each further byte takes the same place again, which leaves the program's open elements as they are.
   pub places-data : {places facts : List ℕ} → Tables s es rows places facts → (x : ℕ) {found : Way} {at after n : ℕ} {o : Open} {numbers bytes : List ℕ} {r : Outcome} {numbers′ bytes′ : List ℕ}
       → Places rows places facts found x at after n o numbers bytes r numbers′ bytes′ → x ≡ 0 → r .number ≡ 0 → (z : State) → Moment es z o
-      → ((p : ℕ) → found ≡ Taken p → p ≡ fitting s es (D s es) (z .current) (tokenOf x))
+      → ((p : Place) → found ≡ Taken p → p .0 ≡ fitting s es (D s es) (z .current) (tokenOf x))
       → Leads s es (D s es) rows z o (withDatum at (takeToken s es (D s es) pcdata z)) (r .open)
   places-data tables (suc k) h nothing fine z m right = absurd (omega arith)
   places-data tables zero {at = at} {after} {o = o} {r = r} h nothing fine z m right =

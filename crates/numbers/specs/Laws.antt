@@ -12,7 +12,7 @@ use borrow.Author.Tests.{le-leb, lt-leb, leb-true, leb-false}
 use Rattle.rules.specs.Lent.{Lent, numbers, bytes, bytesOf, standing, room, filledWith}
 use Rattle.rules.specs.TypeFile.{Content, empty, model, Element}
 use Rattle.rules.specs.Judge.{contentNumbers, records}
-use Rattle.rules.specs.Events.{Event}
+use Rattle.rules.specs.Events.{Event, eventWidth}
 use Rattle.rules.specs.Reader.{eventNumbers}
 use Rattle.numbers.specs.Means.{written, Written}
 
@@ -26,7 +26,7 @@ unfolding records
 records-length [] = refl
 records-length (e ∷ es) = omega (arith, length-append (contentNumbers (e .content)) (records es), content-length (e .content), records-length es)
 
-pub eventNumbers-length : (ev : List Event) → length (eventNumbers ev) ≡ 4 * length ev
+pub eventNumbers-length : (ev : List Event) → length (eventNumbers ev) ≡ eventWidth * length ev
 unfolding eventNumbers
 eventNumbers-length [] = refl
 eventNumbers-length (e ∷ ev) = omega (arith, eventNumbers-length ev)
@@ -134,7 +134,7 @@ written-more before l xs ys w h =
     ∙ splice-turn before l xs ys 0 (length xs) so-far (omega arith) (omega arith)
     ∙ splice-first before (xs ++ ys)
 
--- One store, and four in a row.
+-- One store, and four or five in a row.
 pub one-stored : (l : List ℕ) (i x : ℕ) → i < length l → set l i x ≡ spliced l i (x ∷ [])
 one-stored l i x h = sets-eq (x ∷ []) l i (omega arith) ∙ append-assoc (take i l) (x ∷ []) (drop (i + 1) l)
 
@@ -144,6 +144,14 @@ four-stored l i x y z w h =
     let two : i + 2 ≡ suc (suc i) = omega arith in
     let three : i + 3 ≡ suc (suc (suc i)) = omega arith in
     rw (one, two, three) (sets-eq (x ∷ y ∷ z ∷ w ∷ []) l i h ∙ append-assoc (take i l) (x ∷ y ∷ z ∷ w ∷ []) (drop (i + 4) l))
+
+pub five-stored : (l : List ℕ) (i x y z w v : ℕ) → i + 5 ≤ length l → set (set (set (set (set l i x) (i + 1) y) (i + 2) z) (i + 3) w) (i + 4) v ≡ spliced l i (x ∷ y ∷ z ∷ w ∷ v ∷ [])
+five-stored l i x y z w v h =
+    let one : i + 1 ≡ suc i = omega arith in
+    let two : i + 2 ≡ suc (suc i) = omega arith in
+    let three : i + 3 ≡ suc (suc (suc i)) = omega arith in
+    let four : i + 4 ≡ suc (suc (suc (suc i))) = omega arith in
+    rw (one, two, three, four) (sets-eq (x ∷ y ∷ z ∷ w ∷ v ∷ []) l i h ∙ append-assoc (take i l) (x ∷ y ∷ z ∷ w ∷ v ∷ []) (drop (i + 5) l))
 
 -- A number stored as four bytes, low byte first.
 pub number-stored : (l : List ℕ) (i x : ℕ) → i + 4 ≤ length l → set (set (set (set l i (x % 256)) (i + 1) (x / 256 % 256)) (i + 2) (x / 65536 % 256)) (i + 3) (x / 16777216 % 256) ≡ written l i (bytesOf (x ∷ []))

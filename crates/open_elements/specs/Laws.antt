@@ -13,8 +13,11 @@ use Rattle.rules.specs.Settings.{Settings}
 use Rattle.rules.specs.TypeFile.{Element}
 use Rattle.rules.specs.Judge.{Accepts}
 use Rattle.rules.specs.Events.{Event}
-use Rattle.rules.specs.Settling.{isOpen}
+use Rattle.rules.specs.Settling.{shown, isOpen}
 use Rattle.rules.specs.Settling as rules
+use Rattle.layout.specs.declared.Place.{Place}
+use Rattle.layout.specs.declared.ElementNo.{ElementNo}
+use Rattle.layout.specs.Typed.{placeNo, elementNo}
 use Rattle.document_laws.specs.Decide.{isCompleteIn, requiredOf}
 use Rattle.last_places.specs.Last.{lastOnly, allLast, short, InRange, Sound}
 use Rattle.last_places.specs.Short.{last-placed}
@@ -55,18 +58,20 @@ pub around-ended : (o : Open) → 1 ≤ o .count → around o ≡ current (ended
 around-ended o l = aroundOf-less (o .around) (o .count) l
 
 -- What was read of the rows makes the state that `took` and `opening` give.
-pub took-by : (rows : List ℕ) (p : ℕ) (o : Open) {c : Bool} {q : ℕ} → c ≡ completeAt rows (o .element) p → q ≡ requiredAt rows (o .element) p
-    → record { around = o .around; count = o .count; element = o .element; place = p; complete = c; required = q } ≡ took rows p o
-took-by rows p o h k = rw (h, k)
+pub took-by : (rows : List ℕ) (p : Place) (o : Open) {c : Bool} {q : Place} → c ≡ completeAt rows (o .element .0) (p .0) → q .0 ≡ requiredAt rows (o .element .0) (p .0)
+    → record { around = o .around; count = o .count; element = o .element; place = p; complete = c; required = q } ≡ took rows (p .0) o
+took-by rows p o h k = λ i. record { around = o .around; count = o .count; element = o .element; place = p; complete = h i; required = placeNo (k i) }
 
-pub opening-by : (rows : List ℕ) (k : ℕ) (o : Open) {c : Bool} {q : ℕ} → c ≡ completeAt rows k 0 → q ≡ requiredAt rows k 0
-    → record { around = set (o .around) (o .count) (covered o); count = o .count + 1; element = k; place = 0; complete = c; required = q } ≡ opening rows k o
-opening-by rows k o h l = rw (h, l)
+pub opening-by : (rows : List ℕ) (k : ElementNo) (o : Open) {x : Entry} {c : Bool} {q : Place} → x ≡ covered o → c ≡ completeAt rows (k .0) 0 → q .0 ≡ requiredAt rows (k .0) 0
+    → record { around = set (o .around) (o .count) x; count = o .count + 1; element = k; place = placeNo 0; complete = c; required = q } ≡ opening rows (k .0) o
+opening-by rows k o e h l =
+    λ i. record { around = set (o .around) (o .count) (e i); count = o .count + 1; element = k; place = placeNo 0; complete = h i; required = placeNo (l i) }
 
 -- The parent's element, place and required place, as they were read, make the state that `ended` gives.
-pub ended-by : (o : Open) {e p q : ℕ} → e ≡ parentOf o .element → p ≡ parentOf o .place → q ≡ parentOf o .required
+pub ended-by : (o : Open) {e : ElementNo} {p q : Place} → e .0 ≡ parentOf o .element → p .0 ≡ parentOf o .place → q .0 ≡ parentOf o .required
     → record { around = o .around; count = o .count - 1; element = e; place = p; complete = parentOf o .complete; required = q } ≡ ended o
-ended-by o h k l = rw (h, k, l)
+ended-by o h k l =
+    λ i. record { around = o .around; count = o .count - 1; element = elementNo (h i); place = placeNo (k i); complete = parentOf o .complete; required = placeNo (l i) }
 
 -- Where nothing is open, nothing is around the current element.
 pub around-none : (o : Open) → o .count ≡ 0 → around o ≡ []
@@ -84,7 +89,15 @@ pub around-last : (o : Open) → allLast (around o) ≡ around o
 around-last o = aroundOf-last (o .around) (o .count)
 
 pub stateOf-short : (o : Open) (ev : List Event) → short (stateOf o ev) ≡ stateOf o ev
-stateOf-short o ev = rw (standing-last (o .element) (o .place), aroundOf-last (o .around) (o .count))
+stateOf-short o ev = rw (standing-last (o .element .0) (o .place .0), aroundOf-last (o .around) (o .count))
+
+-- The place that a start shows
+
+pub shown-document : (k p : ℕ) → k ≡ 0 → shown k p ≡ 0
+shown-document k p e = rw (eq-eqb k 0 e, shown)
+
+pub shown-other : (k p : ℕ) → (k ≡ 0 → ⊥) → shown k p ≡ p
+shown-other k p n = rw (ne-eqb k 0 n, shown)
 
 -- Whether an element is open
 
@@ -124,25 +137,25 @@ sound-first es o (x ∷ os) h = h .1
 pub stands-range : {es : List Element} {o : Open} → Stands es o → InRange es (current o)
 stands-range {es} {o} h = sound-first es (current o) (around o) (h .sound)
 
-pub stands-place : {es : List Element} {o : Open} → Stands es o → o .place ≤ width es (o .element)
-stands-place {es} {o} h = rw (last-placed (o .place)) at (stands-range h .place)
+pub stands-place : {es : List Element} {o : Open} → Stands es o → o .place .0 ≤ width es (o .element .0)
+stands-place {es} {o} h = rw (last-placed (o .place .0)) at (stands-range h .place)
 
 -- Around the current element there is an open one or the document: it is an element, and so may end.
 around-parts : {es : List Element} {o : Open} → Stands es o → 1 ≤ o .count → Sound es (current o) (current (ended o) ∷ around (ended o))
 around-parts {es} {o} h l = subst (λ (os : List rules.Open). Sound es (current o) os) (around-ended o l) (h .sound)
 
-pub stands-element : {es : List Element} {o : Open} → Stands es o → 1 ≤ o .count → 1 ≤ o .element
+pub stands-element : {es : List Element} {o : Open} → Stands es o → 1 ≤ o .count → 1 ≤ o .element .0
 stands-element h l = around-parts h l .0
 
 -- Of the elements around the current one, the outermost alone is the document itself.
-pub parent-element : {es : List Element} {o : Open} → Stands es o → 1 < o .count → 1 ≤ ended o .element
+pub parent-element : {es : List Element} {o : Open} → Stands es o → 1 < o .count → 1 ≤ ended o .element .0
 parent-element {es} {o} h l = subst (λ (os : List rules.Open). Sound es (current (ended o)) os) (around-ended (ended o) (omega arith)) (around-parts h (omega arith) .2) .0
 
-pub parent-document : {es : List Element} {o : Open} → Stands es o → o .count ≡ 1 → ended o .element ≡ 0
+pub parent-document : {es : List Element} {o : Open} → Stands es o → o .count ≡ 1 → ended o .element .0 ≡ 0
 parent-document {es} {o} h e = let z : o .count - 1 ≡ 0 = omega arith in rw z (h .outermost (omega arith))
 
 -- The place that is kept as required is required after the place taken last.
-pub stands-requires : {es : List Element} {o : Open} → Stands es o → Requires es (o .element) (o .required) (o .place)
+pub stands-requires : {es : List Element} {o : Open} → Stands es o → Requires es (o .element .0) (o .required .0) (o .place .0)
 stands-requires h = record { range = stands-range h; required = h .marked .required }
 
 -- Nothing is open: the document itself is not complete, and requires its one place.
@@ -165,12 +178,12 @@ rows-mark : {c : Settings} {s : List ℕ} {es : List Element} → Accepts c s es
 rows-mark {c} {s} {es} accepted {rows} said {x} d w m r =
     record { complete = m ∙ said .complete (x .element) (x .place) d w; required = r ∙ required-kept s es accepted rows said (x .element) (x .place) d w }
 
-pub stands-took : {c : Settings} {s : List ℕ} {es : List Element} → Accepts c s es → {rows : List ℕ} → Rows es rows → {o : Open} (p : ℕ) → Stands es o → p ≤ width es (o .element) → Stands es (took rows p o)
+pub stands-took : {c : Settings} {s : List ℕ} {es : List Element} → Accepts c s es → {rows : List ℕ} → Rows es rows → {o : Open} (p : ℕ) → Stands es o → p ≤ width es (o .element .0) → Stands es (took rows p o)
 stands-took {c} {s} {es} accepted said {o} p h w =
     record {
       whole = h .whole;
       few = h .few;
-      sound = sound-place es (o .element) (o .place) p (around o) w (h .sound);
+      sound = sound-place es (o .element .0) (o .place .0) p (around o) w (h .sound);
       marked = rows-mark accepted said (stands-range h .declared) w refl refl;
       kept = h .kept;
       document = h .document;
@@ -230,7 +243,7 @@ ranged-fresh =
     }
 
 pub ranged-took : (rows : List ℕ) (p : ℕ) {o : Open} → Ranged o → p ≤ 96 → Ranged (took rows p o)
-ranged-took rows p {o} h l = record { whole = h .whole; few = h .few; element = h .element; place = l; required = required-small rows (o .element) p; kept = h .kept }
+ranged-took rows p {o} h l = record { whole = h .whole; few = h .few; element = h .element; place = l; required = required-small rows (o .element .0) p; kept = h .kept }
 
 -- What is kept of the current element is in range, and what was kept before stays.
 within-set : (a : List Entry) (n : ℕ) (x : Entry) → n < length a → Within x → ((k : ℕ) → k < n → Within (getD a k none)) → (k : ℕ) → k < n + 1 → Within (getD (set a n x) k none)

@@ -1,7 +1,7 @@
 -- What the open elements of the code stand for, in the rules' terms.
 use Prim.Native.Nat.{ℕ, zero, suc, _+_, _-_, _≤_, _<_}
 use mathlib.Core.Path.{_≡_}
-use mathlib.Core.Bool.{false}
+use mathlib.Core.Bool.{Bool, false}
 use mathlib.Core.List.{List, [], _∷_}
 use lib.ListN.{length, getD, set, replicate}
 use Rattle.rules.specs.Reading.{Reading, refused, got}
@@ -10,6 +10,7 @@ use Rattle.rules.specs.Elements.{contentOf}
 use Rattle.rules.specs.Events.{Event}
 use Rattle.rules.specs.Settling.{State}
 use Rattle.rules.specs.Settling as rules
+use Rattle.layout.specs.Typed.{placeNo, elementNo}
 use Rattle.document_laws.specs.Decide.{isCompleteIn, requiredOf}
 use Rattle.last_places.specs.Last.{placed, Sound}
 use Rattle.type_tables.specs.Means.{standing, completeAt, requiredAt}
@@ -18,8 +19,12 @@ use Rattle.open_elements.specs.declared.Open.{Open}
 
 -- The state
 
+-- What is kept of an open element.
+abbrev pub entry : (element place : ℕ) (complete : Bool) (required : ℕ) → Entry
+entry e p c q = record { element = e; place = p; complete = c; required = q }
+
 abbrev pub none : Entry
-none = record { element = 0; place = 0; complete = false; required = 0 }
+none = entry 0 0 false 0
 
 abbrev pub opened : Entry → rules.Open
 opened x = standing (x .element) (x .place)
@@ -30,7 +35,7 @@ aroundOf a zero = []
 aroundOf a (suc n) = opened (getD a n none) ∷ aroundOf a n
 
 abbrev pub current : Open → rules.Open
-current o = standing (o .element) (o .place)
+current o = standing (o .element .0) (o .place .0)
 
 abbrev pub around : Open → List rules.Open
 around o = aroundOf (o .around) (o .count)
@@ -42,7 +47,7 @@ stateOf o ev = record { current = current o; around = around o; events = ev }
 -- What the methods do
 
 abbrev pub fresh : Open
-fresh = record { around = replicate 24 none; count = 0; element = 0; place = 0; complete = false; required = 1 }
+fresh = record { around = replicate 24 none; count = 0; element = elementNo 0; place = placeNo 0; complete = false; required = placeNo 1 }
 
 -- The marks are those that the rows have after the place.
 abbrev pub took : (rows : List ℕ) → ℕ → Open → Open
@@ -51,24 +56,24 @@ took rows p o =
       around = o .around;
       count = o .count;
       element = o .element;
-      place = p;
-      complete = completeAt rows (o .element) p;
-      required = requiredAt rows (o .element) p;
+      place = placeNo p;
+      complete = completeAt rows (o .element .0) p;
+      required = placeNo (requiredAt rows (o .element .0) p);
     }
 
 -- What is kept of the current element where another is opened in it.
 abbrev pub covered : Open → Entry
-covered o = record { element = o .element; place = o .place; complete = o .complete; required = o .required }
+covered o = entry (o .element .0) (o .place .0) (o .complete) (o .required .0)
 
 abbrev pub opening : (rows : List ℕ) → ℕ → Open → Open
 opening rows k o =
     record {
       around = set (o .around) (o .count) (covered o);
       count = o .count + 1;
-      element = k;
-      place = 0;
+      element = elementNo k;
+      place = placeNo 0;
       complete = completeAt rows k 0;
-      required = requiredAt rows k 0;
+      required = placeNo (requiredAt rows k 0);
     }
 
 -- The innermost of those around the current element.
@@ -81,10 +86,10 @@ ended o =
     record {
       around = o .around;
       count = o .count - 1;
-      element = parentOf o .element;
-      place = parentOf o .place;
+      element = elementNo (parentOf o .element);
+      place = placeNo (parentOf o .place);
       complete = parentOf o .complete;
-      required = parentOf o .required;
+      required = placeNo (parentOf o .required);
     }
 
 -- What has become of a token at `at`: it is refused by this number, or 0 and the state is z.
@@ -109,9 +114,9 @@ pub record Within (x : Entry) : Type 0 where
 pub record Ranged (o : Open) : Type 0 where
   pub whole : length (o .around) ≡ 24
   pub few : o .count ≤ 24
-  pub element : o .element ≤ 64
-  pub place : o .place ≤ 96
-  pub required : o .required ≤ 96
+  pub element : o .element .0 ≤ 64
+  pub place : o .place .0 ≤ 96
+  pub required : o .required .0 ≤ 96
   pub kept : (k : ℕ) → k < o .count → Within (getD (o .around) k none)
 
 -- What holds from token to token, by the tables of a type
@@ -129,5 +134,5 @@ pub record Stands (es : List Element) (o : Open) : Type 0 where
   pub sound : Sound es (current o) (around o)
   pub marked : Marked es (covered o)
   pub kept : (k : ℕ) → k < o .count → Marked es (getD (o .around) k none)
-  pub document : o .count ≡ 0 → o .element ≡ 0
+  pub document : o .count ≡ 0 → o .element .0 ≡ 0
   pub outermost : 1 ≤ o .count → getD (o .around) 0 none .element ≡ 0

@@ -1,15 +1,17 @@
 // The open elements from token to token: what is taken, opened and ended in them.
 use layout::BEGUN;
+use layout::ElementNo;
+use layout::Place;
 use layout::ROWS;
 ghost use mathlib.Core.Path.{_≡_};
 ghost use mathlib.Core.Bool.{true};
 ghost use mathlib.Core.List.{_∷_};
 ghost use Prim.Native.Nat.{_≤_, _<_};
-ghost use Rattle.rules.specs.Settling.{isOpen};
-ghost use Rattle.open_elements.specs.Means.{fresh, took, opening, ended, current, around, Ranged};
+ghost use Rattle.rules.specs.Settling.{shown, isOpen};
+ghost use Rattle.open_elements.specs.Means.{entry, fresh, took, opening, ended, current, around, Ranged};
 
 // An open element, the place that was taken last in it, or 0, and its marks: whether its content is complete there, and
-// the place that is required, or 0.
+// the place that is required, or 0. Each number is kept in a byte: `of` alone puts them there, and the methods alone read them.
 pub struct Entry {
     pub element: u8,
     pub place: u8,
@@ -25,10 +27,10 @@ pub struct Entry {
 pub struct Open {
     pub around: [Entry; 24],
     pub count: usize,
-    pub element: usize,
-    pub place: usize,
+    pub element: ElementNo,
+    pub place: Place,
     pub complete: bool,
-    pub required: usize,
+    pub required: Place,
 }
 
 // What a token brought, beside the state: how many events there are now in all, and the refusal number or 0.
@@ -38,11 +40,62 @@ pub struct Outcome {
     pub number: u32,
 }
 
+// The place as the event of a start has it, which took it in this parent: the document itself stands in no model, so that the document element
+// has 0.
+pub fn place_shown(parent: ElementNo, place: Place) -> Place
+    requires { ⌜ place .0 ≤ 96 ⌝ }
+    ensures { λ r. ⌜ (r .0 ≡ shown (parent .0) (place .0)) × (r .0 ≤ 96) ⌝ }
+{
+    if parent.0 == 0 {
+        return Place(0);
+    }
+    place
+}
+
+impl Entry {
+    // What is kept of an open element.
+    fn of(element: ElementNo, place: Place, complete: bool, required: Place) -> Self
+        requires { ⌜ (element .0 ≤ 64) × (place .0 ≤ 96) × (required .0 ≤ 96) ⌝ }
+        ensures { λ r. ⌜ r ≡ entry (element .0) (place .0) complete (required .0) ⌝ }
+    {
+        Entry {
+            element: element.0 as u8,
+            place: place.0 as u8,
+            complete: complete,
+            required: required.0 as u8,
+        }
+    }
+
+    // The element.
+    fn number(self) -> ElementNo
+        ensures { λ r. ⌜ r .0 ≡ self .element ⌝ }
+    {
+        ElementNo(numbers::wide(self.element))
+    }
+
+    // The place that was taken last in it.
+    fn last(self) -> Place
+        ensures { λ r. ⌜ r .0 ≡ self .place ⌝ }
+    {
+        Place(numbers::wide(self.place))
+    }
+
+    // The place that is required in it.
+    fn due(self) -> Place
+        ensures { λ r. ⌜ r .0 ≡ self .required ⌝ }
+    {
+        Place(numbers::wide(self.required))
+    }
+}
+
 impl Open {
     // Nothing is open yet: the document element is required.
     pub fn new() -> Self
         ensures { λ r. ⌜ r ≡ fresh ⌝ }
     {
+        let document = ElementNo(0);
+        let none = Place(0);
+        let first = Place(1);
         Open {
             around: [Entry {
                 element: 0,
@@ -51,10 +104,10 @@ impl Open {
                 required: 0,
             }; 24],
             count: 0,
-            element: 0,
-            place: 0,
+            element: document,
+            place: none,
             complete: false,
-            required: 1,
+            required: first,
         }
     }
 
@@ -64,10 +117,10 @@ impl Open {
         rows: &[u8; ROWS],
         members: &[u8],
         begun: &mut [u32; BEGUN],
-        place: usize,
+        place: Place,
     ) -> Self
-        requires { ⌜ Ranged self × (place ≤ 96) ⌝ }
-        ensures { λ r. ⌜ r ≡ took (now (rows .entry)) place self ⌝ }
+        requires { ⌜ Ranged self × (place .0 ≤ 96) ⌝ }
+        ensures { λ r. ⌜ r ≡ took (now (rows .entry)) (place .0) self ⌝ }
     {
         let e = self.element;
         let mut required = type_tables::kept(rows, e, place);
@@ -83,29 +136,29 @@ impl Open {
         }
         self.place = place;
         self.complete = complete;
-        self.required = required;
+        self.required = Place(required);
         self
     }
 
     // The element is opened in the current one, which is kept; its marks are those of its start.
-    pub fn start(mut self, rows: &[u8; ROWS], element: usize) -> Self
-        requires { ⌜ Ranged self × (self .count < 24) × (element ≤ 64) ⌝ }
-        ensures { λ r. ⌜ r ≡ opening (now (rows .entry)) element self ⌝ }
+    pub fn start(mut self, rows: &[u8; ROWS], element: ElementNo) -> Self
+        requires { ⌜ Ranged self × (self .count < 24) × (element .0 ≤ 64) ⌝ }
+        ensures { λ r. ⌜ r ≡ opening (now (rows .entry)) (element .0) self ⌝ }
     {
         let n = self.count;
+        let e = self.element;
+        let u = self.place;
+        let q = self.required;
+        let none = Place(0);
+        let kept = Entry::of(e, u, self.complete, q);
         let mut around = self.around;
-        around[n] = Entry {
-            element: self.element as u8,
-            place: self.place as u8,
-            complete: self.complete,
-            required: self.required as u8,
-        };
+        around[n] = kept;
         self.around = around;
         self.count = n + 1;
         self.element = element;
-        self.place = 0;
-        self.complete = type_tables::complete(rows, element, 0);
-        self.required = type_tables::required(rows, element, 0);
+        self.place = none;
+        self.complete = type_tables::complete(rows, element, none);
+        self.required = type_tables::required(rows, element, none);
         self
     }
 
@@ -115,7 +168,7 @@ impl Open {
         rows: &[u8; ROWS],
         members: &[u8],
         begun: &mut [u32; BEGUN],
-        element: usize,
+        element: ElementNo,
     ) -> Self {
         let e = self.element;
         let place = self.required;
@@ -132,7 +185,7 @@ impl Open {
         }
         self.place = place;
         self.complete = complete;
-        self.required = required;
+        self.required = Place(required);
         self.start(rows, element)
     }
 
@@ -145,10 +198,10 @@ impl Open {
         let around = self.around;
         let parent = around[n];
         self.count = n;
-        self.element = numbers::wide(parent.element);
-        self.place = numbers::wide(parent.place);
+        self.element = parent.number();
+        self.place = parent.last();
         self.complete = parent.complete;
-        self.required = numbers::wide(parent.required);
+        self.required = parent.due();
         self
     }
 
@@ -161,11 +214,12 @@ impl Open {
     }
 
     // Whether the element x is open.
-    pub fn is_open(self, x: usize) -> bool
+    pub fn is_open(self, x: ElementNo) -> bool
         requires { ⌜ Ranged self ⌝ }
-        ensures { λ r. ⌜ r ≡ isOpen x (current self ∷ around self) ⌝ }
+        ensures { λ r. ⌜ r ≡ isOpen (x .0) (current self ∷ around self) ⌝ }
     {
-        if self.element == x {
+        let e = self.element;
+        if e.0 == x.0 {
             return true;
         }
         let around = self.around;
@@ -173,7 +227,8 @@ impl Open {
         while 0 < i {
             i -= 1;
             let c = around[i];
-            if numbers::wide(c.element) == x {
+            let k = c.number();
+            if k.0 == x.0 {
                 return true;
             }
         }

@@ -47,15 +47,15 @@ pub data ToSettle (c : Settings) (s : List ℕ) (es : List Element) (d : List �
 
 -- What the code finds at `at` of d, where the current element is e after the place u.
 abbrev pub Finds : Settings → (s : List ℕ) (es : List Element) (d : List ℕ) (e u at : ℕ) → Piece → Type 0
-Finds c s es d e u at (found.Token x after) = ToSettle c s es d e u at x after
-Finds c s es d e u at (found.End x after) = Names c s es d endTag at x after × (1 ≤ x)
+Finds c s es d e u at (found.Token x after) = ToSettle c s es d e u at (x .0) after
+Finds c s es d e u at (found.End x after) = Names c s es d endTag at (x .0) after × (1 ≤ x .0)
 Finds c s es d e u at (found.Passed after) = Ignored c s es d e u at after
 Finds c s es d e u at (found.Refused f) = Unread c s es d at (f .number) (f .at)
 
 -- What is found moves on and stays within the document, which is `len` bytes long, and names an element that the tables have room for,
 -- whatever they hold.
 abbrev pub Onward : (len at : ℕ) → Piece → Type 0
-Onward len at (found.Token x after) = (x ≤ 64) × (at < after) × (after ≤ len)
-Onward len at (found.End x after) = (x ≤ 64) × (at < after) × (after ≤ len)
+Onward len at (found.Token x after) = (x .0 ≤ 64) × (at < after) × (after ≤ len)
+Onward len at (found.End x after) = (x .0 ≤ 64) × (at < after) × (after ≤ len)
 Onward len at (found.Passed after) = (at < after) × (after ≤ len)
 Onward len at (found.Refused f) = Unit {0}

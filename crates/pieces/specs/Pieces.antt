@@ -11,6 +11,8 @@ use Rattle.rules.specs.Document.{Tag, startTag, endTag, skipped, blank, dataByt
 use Rattle.rules.specs.Document as rules
 use Rattle.rules.specs.Elements.{numberOf}
 use Rattle.rules.specs.Decisions.{pcdata}
+use Rattle.layout.specs.declared.ElementNo.{ElementNo}
+use Rattle.layout.specs.Typed.{elementNo}
 use Rattle.document_laws.specs.Decide.{decided}
 use Rattle.text.specs.declared.Fault.{Fault}
 use Rattle.tags.specs.Tags.{tagIn}
@@ -71,14 +73,14 @@ finds-data-run b a = record { run = ap isRun b; fits = λ w. let no : _≡_ {A =
 
 module _ (d : List ℕ) (at : ℕ) (h : at < length d) where
   -- A run of data from the next position on.
-  pub onward-run : {after : ℕ} → after ≡ runEnd d (at + 1) → Onward (length d) at (found.Token 0 after)
+  pub onward-run : {after : ℕ} → after ≡ runEnd d (at + 1) → Onward (length d) at (found.Token (elementNo 0) after)
   onward-run e = let (i, j) = runEnd-in d (at + 1) (omega arith) in (omega arith, omega arith, omega arith)
 
   pub onward-refused : {p : Piece} {f : Fault} → p ≡ found.Refused f → Onward (length d) at p
   onward-refused e = rw e tt
 
-  module _ {t : text.Tag} {x : ℕ} (few : x ≤ 64) where
-    onward-tag : TagRead d at (tagIn t) → (x ≤ 64) × (at < t .after) × (t .after ≤ length d)
+  module _ {t : text.Tag} {x : ElementNo} (few : x .0 ≤ 64) where
+    onward-tag : TagRead d at (tagIn t) → (x .0 ≤ 64) × (at < t .after) × (t .after ≤ length d)
     onward-tag r = (few, omega (arith, r .behind, r .ends), r .inside)
 
     pub onward-start : (c : Settings) → piece c d at ≡ got (startTag (tagIn t)) → Onward (length d) at (found.Token x (t .after))

@@ -5,9 +5,11 @@
 // further on, within the document, unless it is refused.
 use document_text::Token;
 use layout::BEGUN;
+use layout::ElementNo;
 use layout::FACTS;
 use layout::INDEX;
 use layout::PLACES;
+use layout::Place;
 use layout::RECORDS;
 use layout::ROWS;
 use tags::Tag;
@@ -28,9 +30,9 @@ ghost use Rattle.pieces.specs.Means.{Finds, Onward};
 // What stands at a position of the document, names looked up.
 pub enum Piece {
     // It is the start tag of an element, or a run of data for 0, up to here.
-    Token(usize, usize),
+    Token(ElementNo, usize),
     // It is the end tag of an element, up to here.
-    End(usize, usize),
+    End(ElementNo, usize),
     // It is ignored, up to here.
     Passed(usize),
     Refused(Fault),
@@ -43,10 +45,10 @@ fn undeclared(at: usize) -> Piece
 }
 
 // The element that a tag names, or 0.
-fn tagged(s: &[u8], elements: &[u32; RECORDS], index: &[u8; INDEX], d: &[u8], t: Tag) -> usize
+fn tagged(s: &[u8], elements: &[u32; RECORDS], index: &[u8; INDEX], d: &[u8], t: Tag) -> ElementNo
     requires { ⌜ (1 ≤ t .size) × (t .size ≤ mostNameLength) × (t .name + t .size ≤ length (now d)) ⌝ }
     ensures { λ r. ⌜ ((es : List Element) → Indexed (now (s .entry)) es (now (elements .entry)) (now (index .entry)) →
-        r ≡ numberOf (now (s .entry)) es (now (d .entry)) (t .name) (t .size)) × (r ≤ 64) ⌝ }
+        r .0 ≡ numberOf (now (s .entry)) es (now (d .entry)) (t .name) (t .size)) × (r .0 ≤ 64) ⌝ }
 {
     let f = element_index::find(s, elements, index, d, t.name, t.size);
     f.element
@@ -66,27 +68,28 @@ pub fn piece_at(
     classes: &[u8; 256],
     d: &[u8],
     level: usize,
-    e: usize,
-    u: usize,
+    e: ElementNo,
+    u: Place,
     at: usize,
 ) -> Piece
-    requires { ⌜ Classes (now classes) × (long ≤ mostNameLength) × (e ≤ 64) × (u ≤ 96) × (at < length (now d)) × (length (now d) ≤ 65535) ⌝ }
+    requires { ⌜ Classes (now classes) × (long ≤ mostNameLength) × (e .0 ≤ 64) × (u .0 ≤ 96) × (at < length (now d)) × (length (now d) ≤ 65535) ⌝ }
     ensures { λ r. ⌜ Onward (length (now (d .entry))) at r ⌝ }
     ensures { λ r. ⌜ ((es : List Element) → Indexed (now (s .entry)) es (now (elements .entry)) (now (index .entry)) → Tables (now (s .entry)) es (now (rows .entry)) (now (places .entry)) (now (facts .entry)) →
-        InRange es (standing e u) → Finds (settings long) (now (s .entry)) es (now (d .entry)) e u at r) ⌝ }
+        InRange es (standing (e .0) (u .0)) → Finds (settings long) (now (s .entry)) es (now (d .entry)) (e .0) (u .0) at r) ⌝ }
 {
     let t = document_text::token_at(long, classes, d, at);
+    let data = ElementNo(0);
     match t {
         Token::StartTag(g) => {
             let x = tagged(s, elements, index, d, g);
-            if x == 0 {
+            if x.0 == 0 {
                 return undeclared(at);
             }
             Piece::Token(x, g.after)
         }
         Token::EndTag(g) => {
             let x = tagged(s, elements, index, d, g);
-            if x == 0 {
+            if x.0 == 0 {
                 return undeclared(at);
             }
             Piece::End(x, g.after)
@@ -96,9 +99,9 @@ pub fn piece_at(
             if !type_tables::takes_data(rows, places, facts, members, begun, level, e, u) {
                 return Piece::Passed(at + 1);
             }
-            Piece::Token(0, data_runs::run_end(classes, d, at + 1))
+            Piece::Token(data, data_runs::run_end(classes, d, at + 1))
         }
-        Token::Data => Piece::Token(0, data_runs::run_end(classes, d, at + 1)),
+        Token::Data => Piece::Token(data, data_runs::run_end(classes, d, at + 1)),
         Token::Refused(f) => Piece::Refused(f),
     }
 }

@@ -8,10 +8,11 @@ use Rattle.rules.specs.Reading.{refused, got}
 use Rattle.rules.specs.TypeFile.{Element}
 use Rattle.rules.specs.Decisions.{Token}
 use Rattle.rules.specs.Events.{Event}
-use Rattle.rules.specs.Settling.{State, takePlace, limited, fitting}
+use Rattle.rules.specs.Settling.{State, takePlace, shown, placeTaken, limited, fitting}
+use Rattle.rules.specs.Walk.{lastOr0}
 use Rattle.document_laws.specs.Decide.{decided}
 use Rattle.last_places.specs.Last.{short}
-use Rattle.last_places.specs.Short.{state, allLast-length, lastOnly-took, takePlace-short, fitting-short}
+use Rattle.last_places.specs.Short.{state, last-placed, allLast-length, lastOnly-took, takePlace-short, fitting-short}
 use Rattle.open_elements.specs.declared.Open.{Open}
 use Rattle.open_elements.specs.Means.{current, around, stateOf, took}
 use Rattle.open_elements.specs.Laws.{around-length, around-last}
@@ -31,6 +32,12 @@ module _ (o : Open) (ev : List Event) (z : State) (same : short z ≡ stateOf o 
 
   pub same-fits : (s : List ℕ) (es : List Element) (t : Token) → fitting s es (decided s es) (z .current) t ≡ fitting s es (decided s es) (current o) t
   same-fits s es t = fitting-short s es (z .current) t ∙ ap (λ (y : State). fitting s es (decided s es) (y .current) t) same
+
+  -- The place that shows what has just taken one.
+  pub same-place : placeTaken (z .current) ≡ shown (o .element .0) (o .place .0)
+  same-place =
+      ap₂ shown (ap (λ (y : State). y .current .number) same)
+      (sym (last-placed (lastOr0 (z .current .taken))) ∙ ap (λ (y : State). lastOr0 (y .current .taken)) same ∙ last-placed (o .place .0))
 
   -- A place is taken.
   pub same-took : (rows : List ℕ) (p : ℕ) → short (takePlace p z) ≡ stateOf (took rows p o) ev

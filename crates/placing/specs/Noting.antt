@@ -8,7 +8,7 @@ use Rattle.rules.specs.Reading.{Reading, got, andThen}
 use Rattle.rules.specs.TypeFile.{Element}
 use Rattle.rules.specs.Elements.{contentOf, hasModel}
 use Rattle.rules.specs.Events.{startWritten, endOfEmpty, dataRun, Event}
-use Rattle.rules.specs.Settling.{State, enter, note, limited, fitting}
+use Rattle.rules.specs.Settling.{State, placeTaken, enter, note, limited, fitting}
 use Rattle.document_laws.specs.Decide.{decided}
 use Rattle.last_places.specs.Last.{short, shortly}
 use Rattle.type_tables.specs.Means.{Tables}
@@ -27,14 +27,14 @@ noting es zero at after y =
 noting es (suc k) at after y =
     andThen (limited at (enter (suc k) y)) λ x.
     elim (hasModel (contentOf es (suc k))) [
-      | true ↦ got (note (startWritten (suc k) at after) x)
-      | false ↦ got (note (endOfEmpty (suc k) after) (note (startWritten (suc k) at after) y))
+      | true ↦ got (note (startWritten (suc k) at after (placeTaken (y .current))) x)
+      | false ↦ got (note (endOfEmpty (suc k) after) (note (startWritten (suc k) at after (placeTaken (y .current))) y))
     ]
 
--- The event of a run of data, or those of an EMPTY element x.
-abbrev pub writtenOf : (x at after : ℕ) → List Event
-writtenOf zero at after = dataRun at (after - at) ∷ []
-writtenOf (suc k) at after = startWritten (suc k) at after ∷ endOfEmpty (suc k) after ∷ []
+-- The event of a run of data, or those of an EMPTY element x, which shows this place.
+abbrev pub writtenOf : (x place at after : ℕ) → List Event
+writtenOf zero p at after = dataRun at (after - at) ∷ []
+writtenOf (suc k) p at after = startWritten (suc k) at after p ∷ endOfEmpty (suc k) after ∷ []
 
 -- The place
 

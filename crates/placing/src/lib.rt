@@ -5,8 +5,10 @@
 // Where the tables are no type's, or the state stands in none, what a token brings is not decided, but that the state's numbers are in range,
 // that the refusal number is below 20, and that so many events were put as are counted.
 use layout::BEGUN;
+use layout::ElementNo;
 use layout::FACTS;
 use layout::PLACES;
+use layout::Place;
 use layout::ROWS;
 use open_elements::Open;
 use open_elements::Outcome;
@@ -19,24 +21,26 @@ ghost use Rattle.event_buffer.specs.Means.{Puts};
 ghost use Rattle.ways.specs.Means.{fitOf};
 ghost use Rattle.placing.specs.Noting.{writtenOf, Places};
 
-// The events of a run of data, or of an EMPTY element x.
+// The events of a run of data, or of an EMPTY element x, which took this place.
 fn put_written(
-    x: usize,
+    x: ElementNo,
+    shown: Place,
     at: usize,
     after: usize,
     n: usize,
     numbers: &mut [u32],
     bytes: &mut [u8],
 ) -> usize
-    requires { ⌜ (x ≤ 64) × (at ≤ after) × (after < 4294967296) × (n + 2 < 4294967296) ⌝ }
-    ensures { λ r. ⌜ (r ≡ n + length (writtenOf x at after)) ×
-        Puts (now (numbers .entry)) (now (bytes .entry)) n (writtenOf x at after) (now (numbers .exit)) (now (bytes .exit)) ⌝ }
+    requires { ⌜ (x .0 ≤ 64) × (shown .0 ≤ 96) × (at ≤ after) × (after < 4294967296) × (n + 2 < 4294967296) ⌝ }
+    ensures { λ r. ⌜ (r ≡ n + length (writtenOf (x .0) (shown .0) at after)) ×
+        Puts (now (numbers .entry)) (now (bytes .entry)) n (writtenOf (x .0) (shown .0) at after) (now (numbers .exit)) (now (bytes .exit)) ⌝ }
 {
-    if x == 0 {
-        return event_buffer::put_event(numbers, bytes, n, 5, 0, at, after - at);
+    let none = Place(0);
+    if x.0 == 0 {
+        return event_buffer::put_event(numbers, bytes, n, 5, x, at, after - at, none);
     }
-    let m = event_buffer::put_event(numbers, bytes, n, 1, x, at, after - at);
-    event_buffer::put_event(numbers, bytes, m, 6, x, after, 0)
+    let m = event_buffer::put_event(numbers, bytes, n, 1, x, at, after - at, shown);
+    event_buffer::put_event(numbers, bytes, m, 6, x, after, 0, none)
 }
 
 // The token takes its place by what was found, and is noted; an element with a model is opened. Where it is refused neither the state, but for
@@ -49,18 +53,20 @@ pub fn placed(
     begun: &mut [u32; BEGUN],
     state: Open,
     found: Way,
-    x: usize,
+    x: ElementNo,
     at: usize,
     after: usize,
     n: usize,
     numbers: &mut [u32],
     bytes: &mut [u8],
 ) -> Outcome
-    requires { ⌜ Ranged state × (fitOf found ≤ 96) × (x ≤ 64) × (at ≤ after) × (after < 4294967296) × (n + 2 < 4294967296) ⌝ }
-    ensures { λ r. ⌜ Places (now (rows .entry)) (now (places .entry)) (now (facts .entry)) found x at after n state (now (numbers .entry)) (now (bytes .entry)) r (now (numbers .exit)) (now (bytes .exit)) ⌝ }
+    requires { ⌜ Ranged state × (fitOf found ≤ 96) × (x .0 ≤ 64) × (at ≤ after) × (after < 4294967296) × (n + 2 < 4294967296) ⌝ }
+    ensures { λ r. ⌜ Places (now (rows .entry)) (now (places .entry)) (now (facts .entry)) found (x .0) at after n state (now (numbers .entry)) (now (bytes .entry)) r (now (numbers .exit)) (now (bytes .exit)) ⌝ }
 {
-    let p = ways::place_of(rows, places, facts, state.element, state.place, found, x);
-    if p == 0 {
+    let e = state.element;
+    let u = state.place;
+    let p = ways::place_of(rows, places, facts, e, u, found, x);
+    if p.0 == 0 {
         return Outcome {
             open: state,
             events: n,
@@ -74,9 +80,10 @@ pub fn placed(
             number: 15,
         };
     }
+    let shown = open_elements::place_shown(e, p);
     let last = state.take(rows, members, begun, p);
     if !ways::opens(facts, x) {
-        let m = put_written(x, at, after, n, numbers, bytes);
+        let m = put_written(x, shown, at, after, n, numbers, bytes);
         return Outcome {
             open: last,
             events: m,
@@ -84,7 +91,7 @@ pub fn placed(
         };
     }
     let inner = last.start(rows, x);
-    let m = event_buffer::put_event(numbers, bytes, n, 1, x, at, after - at);
+    let m = event_buffer::put_event(numbers, bytes, n, 1, x, at, after - at, shown);
     Outcome {
         open: inner,
         events: m,

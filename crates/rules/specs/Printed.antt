@@ -1,19 +1,19 @@
 -- What the small program prints (paper 01, "What the reader takes and gives"): "A small program reads `type.sgm` and `doc.sgm`, lends 16,384
--- numbers and prints `events N`, then a line per event: kind, element name in upper case or `-`, offset, length, one space between. On refusal
--- it prints only `refused N in type at P` or `refused N in document at P`."
+-- numbers" (from request seven of paper 02 on "20,480, so printed lines stay") "and prints `events N`, then a line per event: kind, element
+-- name in upper case or `-`, offset, length, one space between. On refusal it prints only `refused N in type at P` or `refused N in document at P`."
 use Prim.Native.Nat.{ℕ, zero, suc, _+_, _*_, _/_, _%_, _≤_}
 use mathlib.Core.Path.{_≡_}
 use mathlib.Core.Bool.{true, false}
 use mathlib.Core.List.{List, [], _∷_, _++_}
 use lib.ListN.{length}
 use lib.Dec.{leb}
-use Rattle.rules.specs.Settings.{settings}
+use Rattle.rules.specs.Settings.{Settings, settings}
 use Rattle.rules.specs.Bytes.{byteAt, fold}
 use Rattle.rules.specs.Reading.{got}
 use Rattle.rules.specs.TypeFile.{Element}
 use Rattle.rules.specs.Judge.{Answer}
 use Rattle.rules.specs.Elements.{elementAt}
-use Rattle.rules.specs.Events.{Event}
+use Rattle.rules.specs.Events.{Event, eventWidth}
 use Rattle.rules.specs.Reader.{Reads, RefusesBoth}
 
 -- Words
@@ -79,7 +79,15 @@ inputText k = elim (leb 2 k) [ true ↦ inDocument | false ↦ inType ]
 
 -- The whole text
 
--- "The small program gives 8" (paper 02, request six). The text for the type file s and the document d, read so with 16,384 numbers lent.
+-- "The small program lends 20,480" (paper 02, request seven).
+abbrev pub programRoom : ℕ
+programRoom = 20480
+
+-- "The small program gives 8" (paper 02, request six).
+abbrev pub programSettings : Settings
+programSettings = settings 8
+
+-- The text for the type file s and the document d, read under these settings with that many numbers lent.
 pub data Prints (s d text : List ℕ) : Type 0 where
-  events : (es : List Element) (ev : List Event) → Reads (settings 8) s d es (got ev) → 4 * length ev ≤ 16384 → text ≡ eventsText s es ev → Prints s d text
-  refusal : (a : Answer) → RefusesBoth (settings 8) s d 16384 a → text ≡ refusedText (a .number) (inputText (a .input)) (a .position) → Prints s d text
+  events : (es : List Element) (ev : List Event) → Reads programSettings s d es (got ev) → eventWidth * length ev ≤ programRoom → text ≡ eventsText s es ev → Prints s d text
+  refusal : (a : Answer) → RefusesBoth programSettings s d programRoom a → text ≡ refusedText (a .number) (inputText (a .input)) (a .position) → Prints s d text

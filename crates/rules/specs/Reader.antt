@@ -14,7 +14,7 @@ use Rattle.rules.specs.Judge.{Answer, refusal, acceptance, FirstAmbiguou
 use Rattle.rules.specs.Document.{Tag, Piece, startTag, endTag, skipped, blank, dataByte, piece}
 use Rattle.rules.specs.Elements.{numberOf}
 use Rattle.rules.specs.Decisions.{Decisions, Means}
-use Rattle.rules.specs.Events.{Event}
+use Rattle.rules.specs.Events.{Event, eventWidth}
 use Rattle.rules.specs.Settling.{State, nothingOpen, startElement, takeData, takeBlank, endElement, endDocument}
 
 -- Reading a document
@@ -62,10 +62,11 @@ module _ (c : Settings) (s : List ℕ) (es : List Element) (D : Decisions) (d : 
 
 -- The answer
 
--- "The reader gives four numbers per event: kind, element number from 1 (0 for data), offset, length."
+-- "The reader gives four numbers per event: kind, element number from 1 (0 for data), offset, length", and from request seven of paper 02 on a
+-- fifth, the place.
 unfoldable pub eventNumbers : List Event → List ℕ
 eventNumbers [] = []
-eventNumbers (e ∷ ev) = e .kind ∷ e .number ∷ e .offset ∷ e .size ∷ eventNumbers ev
+eventNumbers (e ∷ ev) = e .kind ∷ e .number ∷ e .offset ∷ e .size ∷ e .place ∷ eventNumbers ev
 
 -- "Input 1 is the type, 2 the document. The two places are 0 except under 9."
 abbrev pub documentRefusal : (number position : ℕ) → Answer
@@ -99,10 +100,10 @@ pub data RefusesBoth (c : Settings) (s d : List ℕ) (room : ℕ) (a : Answer) :
   repeated : BothLegible c s d → (es : List Element) → typeFile c s ≡ got es → 1 ≤ firstRepeated es → a ≡ refusal 25 (firstRepeated es) 0 0 → RefusesBoth c s d room a
   ambiguous : BothLegible c s d → (es : List Element) → typeFile c s ≡ got es → firstRepeated es ≡ 0 → (k p q : ℕ) → FirstAmbiguous s k p q es → a ≡ refusal 9 k p q → RefusesBoth c s d room a
   unsettled : (es : List Element) (n k : ℕ) → Reads c s d es (refused n k) → a ≡ documentRefusal n k → RefusesBoth c s d room a
-  noRoom : (es : List Element) (ev : List Event) → Reads c s d es (got ev) → room < 4 * length ev → a ≡ documentRefusal 19 0 → RefusesBoth c s d room a
+  noRoom : (es : List Element) (ev : List Event) → Reads c s d es (got ev) → room < eventWidth * length ev → a ≡ documentRefusal 19 0 → RefusesBoth c s d room a
 
 -- What the reader answers to a type file s and a document d under the settings c, and what the lent buffer, `before` the call, holds after it.
 -- "What lies behind the last number written stays as it was; on refusal the whole buffer is zero and the count is 0."
 pub data ReadAs (l : Lent) (c : Settings) (s d before : List ℕ) (a : Answer) (after : List ℕ) : Type 0 where
   refuses : RefusesBoth c s d (room l before) a → after ≡ zeroed before → ReadAs l c s d before a after
-  accepts : (es : List Element) (ev : List Event) → Reads c s d es (got ev) → 4 * length ev ≤ room l before → a ≡ acceptance (length ev) → after ≡ filledWith (standing l (eventNumbers ev)) before → ReadAs l c s d before a after
+  accepts : (es : List Element) (ev : List Event) → Reads c s d es (got ev) → eventWidth * length ev ≤ room l before → a ≡ acceptance (length ev) → after ≡ filledWith (standing l (eventNumbers ev)) before → ReadAs l c s d before a after

@@ -6,6 +6,7 @@ use lib.ListN.{length}
 use lib.Dec.{eqb, leb, ltb}
 use Rattle.rules.specs.Bytes.{TAGLVL}
 use Rattle.rules.specs.Reading.{Reading, refused, got, andThen}
+use Rattle.rules.specs.Walk.{lastOr0}
 use Rattle.rules.specs.TypeFile.{Element}
 use Rattle.rules.specs.Judge.{placeAt}
 use Rattle.rules.specs.Elements.{numberOf, contentOf, placesIn, hasModel, startO, endO}
@@ -32,6 +33,15 @@ nothingOpen = record { current = record { number = 0; taken = [] }; around = [];
 -- The current element takes the place p.
 abbrev pub takePlace : ℕ → State → State
 takePlace p z = record { current = record { number = z .current .number; taken = z .current .taken ++ p ∷ [] }; around = z .around; events = z .events }
+
+-- "The place they took in their parent's model, 0 for the document element" (paper 02, request seven): the parent of the document element is
+-- the document itself, number 0, whose one place stands in no model of the type file.
+abbrev pub shown : (parent place : ℕ) → ℕ
+shown k p = elim (eqb k 0) [ true ↦ 0 | false ↦ p ]
+
+-- The place of what has just taken one in o: the last that was taken there.
+abbrev pub placeTaken : Open → ℕ
+placeTaken o = shown (o .number) (lastOr0 (o .taken))
 
 -- The element number k is opened in the current one.
 abbrev pub enter : ℕ → State → State
@@ -94,7 +104,9 @@ module _ (s : List ℕ) (es : List Element) (D : Decisions) where
   -- Those starts are inferred, one in the other.
   unfoldable pub inferStarts : (at : ℕ) → List ℕ → State → State
   inferStarts at [] z = z
-  inferStarts at (k ∷ ks) z = inferStarts at ks (note (startInferred k at) (enter k (takePlace (requiredPlace (z .current)) z)))
+  inferStarts at (k ∷ ks) z =
+      let y = takePlace (requiredPlace (z .current)) z in
+      inferStarts at ks (note (startInferred k at (placeTaken (y .current))) (enter k y))
 
   -- The current element takes the place as which the token fits.
   abbrev pub takeToken : Token → State → State
@@ -135,8 +147,8 @@ module _ (s : List ℕ) (es : List Element) (D : Decisions) where
       andThen (settle (start k) at z) λ y.
       andThen (limited at (enter k y)) λ x.
       elim (hasModel (contentOf es k)) [
-        | true ↦ got (note (startWritten k at after) x)
-        | false ↦ got (note (endOfEmpty k after) (note (startWritten k at after) y))
+        | true ↦ got (note (startWritten k at after (placeTaken (y .current))) x)
+        | false ↦ got (note (endOfEmpty k after) (note (startWritten k at after (placeTaken (y .current))) y))
       ]
 
   -- The data byte at `at`.

@@ -55,6 +55,14 @@ abbrev mutual
 abbrev pub Begins : Group → List ℕ → Type 0
 Begins g s = (t : List ℕ) × Walk g (s ++ t)
 
+-- The last of the places after u, u if there is none; the last of a sequence of places, 0 if it has none.
+abbrev pub lastFrom : ℕ → List ℕ → ℕ
+lastFrom u [] = u
+lastFrom u (p ∷ s) = lastFrom p s
+
+abbrev pub lastOr0 : List ℕ → ℕ
+lastOr0 s = lastFrom 0 s
+
 -- "A place may come next if the places taken, with it, begin a walk."
 abbrev pub MayComeNext : Group → List ℕ → ℕ → Type 0
 MayComeNext g s p = Begins g (s ++ p ∷ [])

@@ -129,7 +129,7 @@ module _ {rows places facts : List ℕ} {x at n : ℕ} {o₀ : Open} {numbers₀
 
     module _ (s : List ℕ) (es : List Element) (tables : Tables s es rows places facts) (stands : Stands es o₀) (most : x ≤ length es) where
       -- The token has the place p after the starts, in the state whose short form is that of the code.
-      as-placed : Stands es o → placed .p ≤ width es (o .element) → (placed .p ≡ 0 → ⊥)
+      as-placed : Stands es o → placed .p ≤ width es (o .element .0) → (placed .p ≡ 0 → ⊥)
           → ((before : List Event) → (z : State) × (short z ≡ stateOf o ((before ++ h .turns .events) ++ a .events)) × (settleFrom s es (decided s es) (tokenOf x) at (around (f .open)) (current (f .open)) (before ++ h .turns .events) ≡ got (takePlace (placed .p) z)))
           → SettledAs s es x at after o₀ events r
       as-placed there wide some goes =
@@ -151,8 +151,8 @@ module _ {rows places facts : List ℕ} {x at n : ℕ} {o₀ : Open} {numbers₀
           let none : starts ≡ 0 = counted ∙ ap startsOf e in
           let (same, same-events) = a .still (omega (arith, a .most)) in
           let there : Stands es o = rw same (come s es tables stands most .stands) in
-          let here : placed .p ≡ p = placed .place s es tables there most ∙ ap (placeOf (fitting s es (decided s es) (current o) t)) e in
-          as-placed there (rw (here, fits, same) (fits-most s es (tables .accepted) (o₁ .element) (current o₁ .taken) t)) (λ z. some (sym here ∙ z)) λ before.
+          let here : placed .p ≡ p .0 = placed .place s es tables there most ∙ ap (placeOf (fitting s es (decided s es) (current o) t)) e in
+          as-placed there (rw (here, fits, same) (fits-most s es (tables .accepted) (o₁ .element .0) (current o₁ .taken) t)) (λ z. some (sym here ∙ z)) λ before.
           let ev = before ++ h .turns .events in (
             stateOf o₁ ev,
             stateOf-short o₁ ev ∙ ap₂ stateOf (sym same) (sym (rw (same-events, append-nil))),
@@ -165,7 +165,7 @@ module _ {rows places facts : List ℕ} {x at n : ℕ} {o₀ : Open} {numbers₀
           let n-starts : starts ≡ m = counted ∙ ap startsOf e in
           let i = rw n-starts at (along-all rows places facts at (f .events) starts a all s es tables (come s es tables stands most .stands) t (rw n-starts (way-infers s es (decided s es) t m (current o₁) inferred))) in
           let here : placed .p ≡ fitting s es (decided s es) (current o) t = placed .place s es tables (i .stands) most ∙ ap (placeOf (fitting s es (decided s es) (current o) t)) e in
-          as-placed (i .stands) (rw here (fits-most s es (tables .accepted) (o .element) (current o .taken) t)) (λ z. omega (arith, i .infers, here)) λ before.
+          as-placed (i .stands) (rw here (fits-most s es (tables .accepted) (o .element .0) (current o .taken) t)) (λ z. omega (arith, i .infers, here)) λ before.
           let ev = before ++ h .turns .events in
           let z = inferMany s es (decided s es) at m (stateOf o₁ ev) in
           let same : short z ≡ stateOf o (ev ++ a .events) = sym (i .same ev) ∙ stateOf-short o (ev ++ a .events) in (

@@ -5,6 +5,7 @@
 // Where the tables are no type's, or the state stands in none, what a token brings is not decided, but that the state's numbers are in range,
 // that the refusal number is below 20, and that so many events were put as are counted.
 use layout::BEGUN;
+use layout::ElementNo;
 use layout::FACTS;
 use layout::PLACES;
 use layout::ROWS;
@@ -23,15 +24,15 @@ pub fn token(
     members: &[u8],
     begun: &mut [u32; BEGUN],
     state: Open,
-    x: usize,
+    x: ElementNo,
     at: usize,
     after: usize,
     n: usize,
     numbers: &mut [u32],
     bytes: &mut [u8],
 ) -> Outcome
-    requires { ⌜ Ranged state × (x ≤ 64) × (at ≤ after) × (after < 4294967296) × (n + 50 < 4294967296) ⌝ }
-    ensures { λ r. ⌜ Settles (now (rows .entry)) (now (places .entry)) (now (facts .entry)) x at after n state (now (numbers .entry)) (now (bytes .entry)) r (now (numbers .exit)) (now (bytes .exit)) ⌝ }
+    requires { ⌜ Ranged state × (x .0 ≤ 64) × (at ≤ after) × (after < 4294967296) × (n + 50 < 4294967296) ⌝ }
+    ensures { λ r. ⌜ Settles (now (rows .entry)) (now (places .entry)) (now (facts .entry)) (x .0) at after n state (now (numbers .entry)) (now (bytes .entry)) r (now (numbers .exit)) (now (bytes .exit)) ⌝ }
 {
     if ways::is_over(state) {
         return Outcome {

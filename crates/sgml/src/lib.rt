@@ -62,7 +62,7 @@ fn numbers_read(a: Answer) -> [u32; 6]
     }
 }
 
-// The document reader for C. `name_length` is how long a name may be; `buffer` gets four numbers of four bytes for each event, or is
+// The document reader for C. `name_length` is how long a name may be; `buffer` gets five numbers of four bytes for each event, or is
 // zeroed; `answer` gets the refusal number, input, position, the two places and the count. The refusal number is returned as well.
 #[no_mangle]
 pub extern "C" fn sgml_read(

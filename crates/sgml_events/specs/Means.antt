@@ -4,20 +4,19 @@ use mathlib.Core.Path.{_≡_}
 use mathlib.Core.List.{List, _++_}
 use mathlib.Core.Logic.{_⊎_}
 use lib.ListN.{length}
-use Rattle.rules.specs.Settings.{settings}
 use Rattle.rules.specs.TypeFile.{Element}
 use Rattle.rules.specs.Judge.{Accepts}
 use Rattle.rules.specs.Events.{Event}
 use Rattle.rules.specs.Reader.{eventNumbers}
-use Rattle.rules.specs.Printed.{eventsText}
+use Rattle.rules.specs.Printed.{programSettings, eventsText}
 
 -- The type is accepted, with names of at most 8 bytes.
 abbrev pub Accepted : List ℕ → Type 0
-Accepted s = (es : List Element) × Accepts (settings 8) s es
+Accepted s = (es : List Element) × Accepts programSettings s es
 
 -- The text is that of the n events whose numbers stand at the start of the buffer.
 abbrev pub EventsPut : (s numbers : List ℕ) (n : ℕ) (text : List ℕ) → Type 0
-EventsPut s numbers n text = (es : List Element) (ev : List Event) (rest : List ℕ) → Accepts (settings 8) s es → numbers ≡ eventNumbers ev ++ rest → n ≡ length ev → text ≡ eventsText s es ev
+EventsPut s numbers n text = (es : List Element) (ev : List Event) (rest : List ℕ) → Accepts programSettings s es → numbers ≡ eventNumbers ev ++ rest → n ≡ length ev → text ≡ eventsText s es ev
 
 -- The input is all of a file, since the last read gave nothing, or longer than its limit.
 abbrev pub Whole : (limit : ℕ) → List ℕ → (last : ℕ) → Type 0

@@ -6,12 +6,12 @@ use native.Mathlib.Omega.{arith}
 use native.Mathlib.Decide.{decLt}
 use lib.ListN.{length, take, drop, getD, replicate, length-replicate, getD-replicate, List·getD-eq-default}
 use lib.Seq.{take-at, getD-append-add, getD-drop, drop-drop}
-use Rattle.rules.specs.Settings.{Settings, settings}
+use Rattle.rules.specs.Settings.{Settings}
 use Rattle.rules.specs.Lent.{numbers, filledWith}
 use Rattle.rules.specs.TypeFile.{Element}
 use Rattle.rules.specs.Judge.{Answer, records, Accepts, Judged, accepts}
 use Rattle.rules.specs.Elements.{elementAt}
-use Rattle.rules.specs.Events.{Event}
+use Rattle.rules.specs.Events.{Event, eventWidth}
 use Rattle.rules.specs.Reader.{eventNumbers}
 use Rattle.numbers.specs.Laws.{records-length, lent-length}
 use Rattle.rules_laws.specs.Within.{typeFile-count}
@@ -19,7 +19,7 @@ use Rattle.element_reader.specs.Means.{Recorded}
 use Rattle.element_index.specs.Laws.{recorded-offset, recorded-size}
 use Rattle.type_laws.specs.Again.{typeFile-sizes}
 use Rattle.answer_laws.specs.Judge.{settled-one}
-use Rattle.rules.specs.Printed.{nameText, line, eventLines, eventsText}
+use Rattle.rules.specs.Printed.{programSettings, nameText, line, eventLines, eventsText}
 use Rattle.event_lines.specs.Means.{Fits, nameIn, lineAt, linesFrom, textOf}
 
 zero-at : (n i : ℕ) → _≡_ {A = ℕ} (getD (replicate n 0) i 0) 0
@@ -30,7 +30,7 @@ zero-at n i = by-place (decLt i n)
     by-place (no h) = List·getD-eq-default (replicate n 0) 0 {n = i} (omega (arith, length-replicate {A = ℕ} n 0))
 
 -- What was judged under the settings that the program gives.
-pub judged-given : {c : Settings} {s before : List ℕ} {a : Answer} {after : List ℕ} → c ≡ settings 8 → Judged numbers c s before a after → Judged numbers (settings 8) s before a after
+pub judged-given : {c : Settings} {s before : List ℕ} {a : Answer} {after : List ℕ} → c ≡ programSettings → Judged numbers c s before a after → Judged numbers programSettings s before a after
 judged-given {s = s} {before} {a} {after} e x = subst (λ (d : Settings). Judged numbers d s before a after) e x
 
 -- Past the last element there is none: its name is empty.
@@ -40,9 +40,9 @@ element-past [] k h = (refl, refl)
 element-past (e ∷ es) zero h = absurd (omega arith)
 element-past (e ∷ es) (suc k) h = element-past es k (omega arith)
 
-module _ (s : List ℕ) (es : List Element) (accepted : Accepts (settings 8) s es) (a : Answer) (before elements : List ℕ) (lent : before ≡ replicate 384 0) (judged : Judged numbers (settings 8) s before a elements) where
+module _ (s : List ℕ) (es : List Element) (accepted : Accepts programSettings s es) (a : Answer) (before elements : List ℕ) (lent : before ≡ replicate 384 0) (judged : Judged numbers programSettings s before a elements) where
   few : 6 * length es ≤ 384
-  few = omega (arith, typeFile-count (settings 8) s es (accepted .elements))
+  few = omega (arith, typeFile-count programSettings s es (accepted .elements))
 
   elements-are : elements ≡ filledWith (records es) before
   elements-are = settled-one judged (accepts es accepted (omega (arith, few, ap length lent, length-replicate {A = ℕ} 384 0)) refl refl) .1
@@ -74,7 +74,7 @@ module _ (s : List ℕ) (es : List Element) (accepted : Accepts (settings 8) s e
   name-fits k = by-place (decLt k (length es))
     where
       by-place : Dec (k < length es) → (elementAt es k .size ≤ 8) × (elementAt es k .at + elementAt es k .size ≤ length s)
-      by-place (yes h) = let z = typeFile-sizes (settings 8) s es (accepted .elements) k h in (z .1, z .2)
+      by-place (yes h) = let z = typeFile-sizes programSettings s es (accepted .elements) k h in (z .1, z .2)
       by-place (no h) = let z = element-past es k (omega arith) in (omega arith, omega arith)
 
   pub table-fits : Fits s elements
@@ -91,20 +91,20 @@ module _ (s : List ℕ) (es : List Element) (accepted : Accepts (settings 8) s e
 
 -- The lines by the numbers of the lent buffer are the lines of the events.
 module _ (s : List ℕ) (es : List Element) (elements : List ℕ) (names : (k : ℕ) → nameIn s elements k ≡ nameText s es k) (buffer rest : List ℕ) where
-  line-is : (e : Event) (ev : List Event) (i : ℕ) → drop (4 * i) buffer ≡ eventNumbers (e ∷ ev) ++ rest
-      → lineAt s elements buffer (4 * i) ≡ line (e .kind) (nameText s es (e .number)) (e .offset) (e .size)
+  line-is : (e : Event) (ev : List Event) (i : ℕ) → drop (eventWidth * i) buffer ≡ eventNumbers (e ∷ ev) ++ rest
+      → lineAt s elements buffer (eventWidth * i) ≡ line (e .kind) (nameText s es (e .number)) (e .offset) (e .size)
   unfolding eventNumbers lineAt
   line-is e ev i q =
-      let number : (j : ℕ) → getD buffer (4 * i + j) 0 ≡ getD (eventNumbers (e ∷ ev) ++ rest) j 0 = λ j. sym (getD-drop (4 * i) buffer j 0) ∙ ap (λ (l : List ℕ). getD l j 0) q in
-      let first : 4 * i + 0 ≡ 4 * i = omega arith in
+      let number : (j : ℕ) → getD buffer (eventWidth * i + j) 0 ≡ getD (eventNumbers (e ∷ ev) ++ rest) j 0 = λ j. sym (getD-drop (eventWidth * i) buffer j 0) ∙ ap (λ (l : List ℕ). getD l j 0) q in
+      let first : eventWidth * i + 0 ≡ eventWidth * i = omega arith in
       rw (rw first at (number 0), number 1, number 2, number 3, names (e .number))
 
-  lines-from : (ev : List Event) (i : ℕ) → drop (4 * i) buffer ≡ eventNumbers ev ++ rest → linesFrom s elements buffer (length ev) i ≡ eventLines s es ev
+  lines-from : (ev : List Event) (i : ℕ) → drop (eventWidth * i) buffer ≡ eventNumbers ev ++ rest → linesFrom s elements buffer (length ev) i ≡ eventLines s es ev
   unfolding eventNumbers linesFrom eventLines
   lines-from [] i q = refl
   lines-from (e ∷ ev) i q =
-      let next : 4 * (i + 1) ≡ 4 * i + 4 = omega arith in
-      let more : drop (4 * (i + 1)) buffer ≡ eventNumbers ev ++ rest = rw (next, ← drop-drop 4 (4 * i) buffer, q) in
+      let next : eventWidth * (i + 1) ≡ eventWidth * i + eventWidth = omega arith in
+      let more : drop (eventWidth * (i + 1)) buffer ≡ eventNumbers ev ++ rest = rw (next, ← drop-drop eventWidth (eventWidth * i) buffer, q) in
       rw (line-is e ev i q, lines-from ev (i + 1) more)
 
   pub lines-are : (ev : List Event) → buffer ≡ eventNumbers ev ++ rest → linesFrom s elements buffer (length ev) 0 ≡ eventLines s es ev

@@ -3,27 +3,27 @@
 use document_reader::Answer;
 use file_reader::Loaded;
 use inputs::Settings;
+use layout::PROGRAM_ROOM;
 use layout::RECORDS;
 use libc::STDOUT_FILENO;
 ghost use mathlib.Core.Path.{_≡_};
 ghost use Prim.Native.Nat.{_≤_};
 ghost use lib.ListN.{length, take};
 ghost use Rattle.io.specs.Counts.{Counts};
-ghost use Rattle.rules.specs.Settings.{settings};
-ghost use Rattle.rules.specs.Printed.{Prints};
+ghost use Rattle.rules.specs.Printed.{programSettings, Prints};
 ghost use Rattle.inputs.specs.Means.{settingsOf};
 ghost use Rattle.sgml_events.specs.Means.{Accepted, EventsPut, Whole};
 
 // What the program gives: names of at most 8 bytes.
 fn given() -> Settings
-    ensures { λ r. ⌜ settingsOf r ≡ settings 8 ⌝ }
+    ensures { λ r. ⌜ settingsOf r ≡ programSettings ⌝ }
 {
     Settings { name_length: 8 }
 }
 
 // The text of n events of a document whose type is accepted; the judge gives where its elements' names stand. What out holds behind the text
 // is decided neither here nor below.
-fn put_events(out: &mut [u8], s: &[u8], numbers: &[u32; 16384], n: usize) -> usize
+fn put_events(out: &mut [u8], s: &[u8], numbers: &[u32; PROGRAM_ROOM], n: usize) -> usize
     requires { ⌜ (294984 ≤ length (now out)) × Accepted (now s) × (n ≤ 4096) ⌝ }
     ensures { λ r. ⌜ Counts r (now (out .exit)) × EventsPut (now (s .entry)) (now (numbers .entry)) n (take r (now (out .exit))) ⌝ }
 {
@@ -37,7 +37,7 @@ fn printed(s: &[u8], d: &[u8], out: &mut [u8]) -> usize
     requires { ⌜ 294984 ≤ length (now out) ⌝ }
     ensures { λ r. ⌜ Counts r (now (out .exit)) × Prints (now (s .entry)) (now (d .entry)) (take r (now (out .exit))) ⌝ }
 {
-    let mut numbers = [0u32; 16384];
+    let mut numbers = [0u32; PROGRAM_ROOM];
     let a = document_reader::read(given(), s, d, &mut numbers);
     match a {
         Answer::Accepted(n) => put_events(out, s, &numbers, n),

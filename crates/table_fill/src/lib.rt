@@ -2,6 +2,7 @@
 //
 // The layout is that of the crate type_tables.
 use element_reader::ElementRead;
+use layout::ElementNo;
 use layout::FACT;
 use layout::FACTS;
 use layout::INDEX;
@@ -10,6 +11,7 @@ use layout::MODEL;
 use layout::NAMES;
 use layout::PLACES;
 use layout::POSITIONS;
+use layout::Place;
 use layout::RECORDS;
 use layout::ROW;
 use layout::ROWS;
@@ -33,26 +35,32 @@ ghost use Rattle.table_fill.specs.Own.{elementsOf};
 ghost use Rattle.table_fill.specs.Elements.{factsPut, Flags, ElementDue};
 
 // By which number a place that names v is filed: that of the element, 0 for `#PCDATA`.
-fn slot(v: usize) -> usize
-    ensures { λ r. ⌜ r ≡ slotOf v ⌝ }
+fn slot(v: ElementNo) -> usize
+    ensures { λ r. ⌜ r ≡ slotOf (v .0) ⌝ }
 {
-    if v == 255 { 0 } else { v }
+    if v.0 == 255 { 0 } else { v.0 }
 }
 
 // The place p of the element e names v: it comes before those of that name that are there.
-fn put_place(places: &mut [u8; PLACES], facts: &mut [u8; FACTS], e: usize, p: usize, v: usize)
-    requires { ⌜ (e ≤ 64) × (p ≤ 96) × (v ≤ 255) × (slotOf v ≤ 64) × (length (now places) ≡ PLACES) × (length (now facts) ≡ FACTS) ⌝ }
-    ensures { λ _. ⌜ PlacePut e p v (now (places .entry)) (now (facts .entry)) (now (places .exit)) (now (facts .exit)) ⌝ }
+fn put_place(
+    places: &mut [u8; PLACES],
+    facts: &mut [u8; FACTS],
+    e: ElementNo,
+    p: Place,
+    v: ElementNo,
+)
+    requires { ⌜ (e .0 ≤ 64) × (p .0 ≤ 96) × (v .0 ≤ 255) × (slotOf (v .0) ≤ 64) × (length (now places) ≡ PLACES) × (length (now facts) ≡ FACTS) ⌝ }
+    ensures { λ _. ⌜ PlacePut (e .0) (p .0) (v .0) (now (places .entry)) (now (facts .entry)) (now (places .exit)) (now (facts .exit)) ⌝ }
 {
-    let q = (e * POSITIONS + p) * LINK;
-    places[q] = v as u8;
-    if v == 0 {
+    let q = (e.0 * POSITIONS + p.0) * LINK;
+    places[q] = v.0 as u8;
+    if v.0 == 0 {
         return;
     }
-    let f = e * FACT + slot(v);
+    let f = e.0 * FACT + slot(v);
     let earlier = facts[f];
     places[q + 1] = earlier;
-    facts[f] = p as u8;
+    facts[f] = p.0 as u8;
 }
 
 // The document: its one place is the document element, required at the start.
@@ -64,7 +72,10 @@ fn put_document(rows: &mut [u8; ROWS], places: &mut [u8; PLACES], facts: &mut [u
     rows[0] = 2;
     rows[13] = 1;
     rows[ROW] = 1;
-    put_place(places, facts, 0, 1, 1);
+    let document = ElementNo(0);
+    let first = Place(1);
+    let element = ElementNo(1);
+    put_place(places, facts, document, first, element);
 }
 
 // What the place p of the model whose names are in `names` names: an element, 255 for `#PCDATA`, 0 if that is not declared.
@@ -73,20 +84,21 @@ fn name(
     elements: &[u32; RECORDS],
     index: &[u8; INDEX],
     names: &[u32; NAMES],
-    p: usize,
-) -> usize
-    requires { ⌜ (1 ≤ p) × (p ≤ 96) × IsName (now s) (placeIn (now names) (p - 1)) ⌝ }
+    p: Place,
+) -> ElementNo
+    requires { ⌜ (1 ≤ p .0) × (p .0 ≤ 96) × IsName (now s) (placeIn (now names) (p .0 - 1)) ⌝ }
     ensures { λ r. ⌜ ((es : List Element) → Indexed (now (s .entry)) es (now (elements .entry)) (now (index .entry)) →
-        r ≡ nameOf (now (s .entry)) es (placeIn (now (names .entry)) (p - 1))) ⌝ }
-    ensures { λ r. ⌜ (r ≤ 255) × (slotOf r ≤ 64) ⌝ }
+        r .0 ≡ nameOf (now (s .entry)) es (placeIn (now (names .entry)) (p .0 - 1))) ⌝ }
+    ensures { λ r. ⌜ (r .0 ≤ 255) × (slotOf (r .0) ≤ 64) ⌝ }
 {
-    let size = numbers::widened(names[2 * (p - 1) + 1]);
+    let size = numbers::widened(names[2 * (p.0 - 1) + 1]);
     if size == 0 {
-        return 255;
+        return ElementNo(255);
     }
-    let at = model_names::place_at(names, p);
+    let at = model_names::place_at(names, p.0);
     let f = element_index::find(s, elements, index, s, at, size);
-    f.element
+    let e = f.element;
+    e
 }
 
 // The places of the element e, whose model has `count` places with their names in `names`.
@@ -96,32 +108,33 @@ fn put_places(
     index: &[u8; INDEX],
     places: &mut [u8; PLACES],
     facts: &mut [u8; FACTS],
-    e: usize,
+    e: ElementNo,
     names: &[u32; NAMES],
     count: usize,
 )
-    requires { ⌜ PlacesDue (now s) (now names) (now places) (now facts) e count ⌝ }
+    requires { ⌜ PlacesDue (now s) (now names) (now places) (now facts) (e .0) count ⌝ }
     ensures { λ _. ⌜ ((es : List Element) → Indexed (now (s .entry)) es (now (elements .entry)) (now (index .entry)) →
-        PlacesPut (now (s .entry)) es (placesOf (now (names .entry)) count) e
+        PlacesPut (now (s .entry)) es (placesOf (now (names .entry)) count) (e .0)
         (now (places .entry)) (now (facts .entry)) (now (places .exit)) (now (facts .exit)) (count + 1)) ⌝ }
 {
-    let mut p = 1;
-    while p <= count {
+    let mut i = 1;
+    while i <= count {
+        let p = Place(i);
         let v = name(s, elements, index, names, p);
         put_place(places, facts, e, p, v);
-        p += 1;
+        i += 1;
     }
 }
 
 // Both omissions and the content of the element e.
-fn put_facts(facts: &mut [u8; FACTS], elements: &[u32; RECORDS], e: usize)
-    requires { ⌜ (1 ≤ e) × (e ≤ 64) × Flags (now elements) e ⌝ }
-    ensures { λ _. ⌜ now (facts .exit) ≡ factsPut (now (facts .entry)) (now (elements .entry)) e ⌝ }
+fn put_facts(facts: &mut [u8; FACTS], elements: &[u32; RECORDS], e: ElementNo)
+    requires { ⌜ (1 ≤ e .0) × (e .0 ≤ 64) × Flags (now elements) (e .0) ⌝ }
+    ensures { λ _. ⌜ now (facts .exit) ≡ factsPut (now (facts .entry)) (now (elements .entry)) (e .0) ⌝ }
 {
-    let k = 6 * (e - 1);
-    facts[e * FACT + 65] = elements[k + 2] as u8;
-    facts[e * FACT + 66] = elements[k + 3] as u8;
-    facts[e * FACT + 67] = elements[k + 4] as u8;
+    let k = 6 * (e.0 - 1);
+    facts[e.0 * FACT + 65] = elements[k + 2] as u8;
+    facts[e.0 * FACT + 66] = elements[k + 3] as u8;
+    facts[e.0 * FACT + 67] = elements[k + 4] as u8;
 }
 
 // The element e: its declaration is read again from its name on, which fills `names` and `table`.
@@ -134,12 +147,12 @@ fn put_element(
     places: &mut [u8; PLACES],
     facts: &mut [u8; FACTS],
     members: &mut [u8],
-    e: usize,
+    e: ElementNo,
     names: &mut [u32; NAMES],
     table: &mut [u8; MODEL],
 )
-    requires { ⌜ ElementDue (settings long) (now s) (elementsOf (settings long) (now s)) (now elements) (now index) (now rows) (now places) (now facts) e ⌝ }
-    ensures { λ _. ⌜ Filled (now (s .entry)) (elementsOf (settings long) (now (s .entry))) (now (rows .exit)) (now (places .exit)) (now (facts .exit)) (e + 1) ⌝ }
+    requires { ⌜ ElementDue (settings long) (now s) (elementsOf (settings long) (now s)) (now elements) (now index) (now rows) (now places) (now facts) (e .0) ⌝ }
+    ensures { λ _. ⌜ Filled (now (s .entry)) (elementsOf (settings long) (now (s .entry))) (now (rows .exit)) (now (places .exit)) (now (facts .exit)) (e .0 + 1) ⌝ }
 {
     put_facts(facts, elements, e);
     let r = element_reader::element_at(
@@ -147,7 +160,7 @@ fn put_element(
         s,
         element_index::offset(elements, e),
         elements,
-        e - 1,
+        e.0 - 1,
         names,
         table,
     );
@@ -155,7 +168,8 @@ fn put_element(
         return;
     };
     if d.kind == 0 {
-        rows[type_tables::row(e, 0)] = 1;
+        let none = Place(0);
+        rows[type_tables::row(e, none)] = 1;
         return;
     }
     let n = d.places;
@@ -172,11 +186,11 @@ fn put_element(
 }
 
 // The largest places of the element e are kept 128 higher: its model has an "&".
-fn raise_facts(facts: &mut [u8; FACTS], e: usize) {
+fn raise_facts(facts: &mut [u8; FACTS], e: ElementNo) {
     let mut x = 0;
     while x < 65 {
-        if facts[e * FACT + x] != 0 {
-            facts[e * FACT + x] += 128;
+        if facts[e.0 * FACT + x] != 0 {
+            facts[e.0 * FACT + x] += 128;
         }
         x += 1;
     }
@@ -204,8 +218,8 @@ pub fn fill(
     let mut names = [0u32; NAMES];
     let mut table = [0u8; MODEL];
     put_document(rows, places, facts);
-    let mut e = 1;
-    while e <= count {
+    let mut k = 1;
+    while k <= count {
         put_element(
             long,
             s,
@@ -215,10 +229,10 @@ pub fn fill(
             places,
             facts,
             members,
-            e,
+            ElementNo(k),
             &mut names,
             &mut table,
         );
-        e += 1;
+        k += 1;
     }
 }

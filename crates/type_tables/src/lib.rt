@@ -16,11 +16,13 @@
 // Whatever the tables hold, each function ends and stays within them. Where they are no type's, what `fitting`, `startable` and `inferable`
 // answer is not decided, but that a place is at most 96 and an element at most 64.
 use layout::BEGUN;
+use layout::ElementNo;
 use layout::FACT;
 use layout::FACTS;
 use layout::LINK;
 use layout::PLACES;
 use layout::POSITIONS;
+use layout::Place;
 use layout::ROW;
 use layout::ROWS;
 ghost use mathlib.Core.Path.{_≡_};
@@ -40,99 +42,99 @@ ghost use Rattle.last_places.specs.Last.{placed, InRange};
 ghost use Rattle.type_tables.specs.Means.{standing, nameNumber, rowAt, bitOf, completeAt, requiredAt, Declares, Rows, Facts, Tables, Requires};
 
 // Where the row of the element e after the place u begins.
-pub fn row(e: usize, u: usize) -> usize
-    requires { ⌜ (e ≤ 64) × (u ≤ 96) ⌝ }
-    ensures { λ r. ⌜ r ≡ rowAt e u ⌝ }
+pub fn row(e: ElementNo, u: Place) -> usize
+    requires { ⌜ (e .0 ≤ 64) × (u .0 ≤ 96) ⌝ }
+    ensures { λ r. ⌜ r ≡ rowAt (e .0) (u .0) ⌝ }
 {
-    (e * POSITIONS + u) * ROW
+    (e.0 * POSITIONS + u.0) * ROW
 }
 
 // Whether the place p may come next in the element e after the place u; for 0, whether the content is complete.
-fn bit(rows: &[u8; ROWS], e: usize, u: usize, p: usize) -> bool
-    requires { ⌜ (e ≤ 64) × (u ≤ 96) × (p ≤ 96) ⌝ }
-    ensures { λ r. ⌜ r ≡ bitOf (getD (now (rows .entry)) (rowAt e u + p / 8) 0) (p % 8) ⌝ }
+fn bit(rows: &[u8; ROWS], e: ElementNo, u: Place, p: Place) -> bool
+    requires { ⌜ (e .0 ≤ 64) × (u .0 ≤ 96) × (p .0 ≤ 96) ⌝ }
+    ensures { λ r. ⌜ r ≡ bitOf (getD (now (rows .entry)) (rowAt (e .0) (u .0) + p .0 / 8) 0) (p .0 % 8) ⌝ }
 {
-    let b = numbers::wide(rows[row(e, u) + p / 8]);
-    (b >> (p % 8)) % 2 == 1
+    let b = numbers::wide(rows[row(e, u) + p.0 / 8]);
+    (b >> (p.0 % 8)) % 2 == 1
 }
 
 // Whether the content of the element e is complete after the place u.
-pub fn complete(rows: &[u8; ROWS], e: usize, u: usize) -> bool
-    requires { ⌜ (e ≤ 64) × (u ≤ 96) ⌝ }
-    ensures { λ r. ⌜ r ≡ completeAt (now (rows .entry)) e u ⌝ }
-    ensures { λ r. ⌜ ((s : List ℕ) (es : List Element) → Rows es (now (rows .entry)) → InRange es (standing e u) →
-        r ≡ decided s es .complete e (placed u)) ⌝ }
+pub fn complete(rows: &[u8; ROWS], e: ElementNo, u: Place) -> bool
+    requires { ⌜ (e .0 ≤ 64) × (u .0 ≤ 96) ⌝ }
+    ensures { λ r. ⌜ r ≡ completeAt (now (rows .entry)) (e .0) (u .0) ⌝ }
+    ensures { λ r. ⌜ ((s : List ℕ) (es : List Element) → Rows es (now (rows .entry)) → InRange es (standing (e .0) (u .0)) →
+        r ≡ decided s es .complete (e .0) (placed (u .0))) ⌝ }
 {
     rows[row(e, u)] % 2 == 1
 }
 
 // The required place, or 0; 128 more where the model has an "&".
-pub fn kept(rows: &[u8; ROWS], e: usize, u: usize) -> usize {
+pub fn kept(rows: &[u8; ROWS], e: ElementNo, u: Place) -> usize {
     numbers::wide(rows[row(e, u) + 13])
 }
 
 // The required place, or 0.
-pub fn required(rows: &[u8; ROWS], e: usize, u: usize) -> usize
-    requires { ⌜ (e ≤ 64) × (u ≤ 96) ⌝ }
-    ensures { λ r. ⌜ r ≡ requiredAt (now (rows .entry)) e u ⌝ }
-    ensures { λ r. ⌜ ((c : Settings) (s : List ℕ) (es : List Element) → Accepts c s es → Rows es (now (rows .entry)) → InRange es (standing e u) →
-        r ≡ decided s es .required e (placed u)) ⌝ }
+pub fn required(rows: &[u8; ROWS], e: ElementNo, u: Place) -> Place
+    requires { ⌜ (e .0 ≤ 64) × (u .0 ≤ 96) ⌝ }
+    ensures { λ r. ⌜ r .0 ≡ requiredAt (now (rows .entry)) (e .0) (u .0) ⌝ }
+    ensures { λ r. ⌜ ((c : Settings) (s : List ℕ) (es : List Element) → Accepts c s es → Rows es (now (rows .entry)) → InRange es (standing (e .0) (u .0)) →
+        r .0 ≡ decided s es .required (e .0) (placed (u .0))) ⌝ }
 {
     let p = numbers::wide(rows[row(e, u) + 13]);
     if 96 < p {
-        return 0;
+        return Place(0);
     }
-    p
+    Place(p)
 }
 
 // The next smaller place of the same name.
-fn smaller(places: &[u8; PLACES], e: usize, p: usize) -> usize
-    requires { ⌜ (e ≤ 64) × (p ≤ 96) ⌝ }
-    ensures { λ r. ⌜ r ≡ getD (now (places .entry)) ((e * POSITIONS + p) * 2 + 1) 0 ⌝ }
+fn smaller(places: &[u8; PLACES], e: ElementNo, p: Place) -> Place
+    requires { ⌜ (e .0 ≤ 64) × (p .0 ≤ 96) ⌝ }
+    ensures { λ r. ⌜ r .0 ≡ getD (now (places .entry)) ((e .0 * POSITIONS + p .0) * 2 + 1) 0 ⌝ }
 {
-    numbers::wide(places[(e * POSITIONS + p) * LINK + 1])
+    Place(numbers::wide(places[(e.0 * POSITIONS + p.0) * LINK + 1]))
 }
 
 // Whether the start tag of the element e may be omitted. Of an element that is not declared, or where the tables are no type's, it is not
 // decided.
-fn start_omitted(facts: &[u8; FACTS], e: usize) -> bool
-    requires { ⌜ e ≤ 64 ⌝ }
-    ensures { λ r. ⌜ ((s : List ℕ) (es : List Element) → Facts s es (now (facts .entry)) → Declares es (decisions.start e) → r ≡ startO es e) ⌝ }
+fn start_omitted(facts: &[u8; FACTS], e: ElementNo) -> bool
+    requires { ⌜ e .0 ≤ 64 ⌝ }
+    ensures { λ r. ⌜ ((s : List ℕ) (es : List Element) → Facts s es (now (facts .entry)) → Declares es (decisions.start (e .0)) → r ≡ startO es (e .0)) ⌝ }
 {
-    facts[e * FACT + 65] == 1
+    facts[e.0 * FACT + 65] == 1
 }
 
 // Whether the end tag of the element e may be omitted. Of an element that is not declared, or where the tables are no type's, it is not decided.
-pub fn end_omitted(facts: &[u8; FACTS], e: usize) -> bool
-    requires { ⌜ e ≤ 64 ⌝ }
-    ensures { λ r. ⌜ ((s : List ℕ) (es : List Element) → Facts s es (now (facts .entry)) → Declares es (decisions.start e) → r ≡ endO es e) ⌝ }
+pub fn end_omitted(facts: &[u8; FACTS], e: ElementNo) -> bool
+    requires { ⌜ e .0 ≤ 64 ⌝ }
+    ensures { λ r. ⌜ ((s : List ℕ) (es : List Element) → Facts s es (now (facts .entry)) → Declares es (decisions.start (e .0)) → r ≡ endO es (e .0)) ⌝ }
 {
-    facts[e * FACT + 66] == 1
+    facts[e.0 * FACT + 66] == 1
 }
 
 // Whether the content of the element e is a model. Of an element that is not declared, or where the tables are no type's, it is not decided.
-pub fn has_model(facts: &[u8; FACTS], e: usize) -> bool
-    requires { ⌜ e ≤ 64 ⌝ }
-    ensures { λ r. ⌜ ((s : List ℕ) (es : List Element) → Facts s es (now (facts .entry)) → Declares es (decisions.start e) →
-        r ≡ hasModel (contentOf es e)) ⌝ }
+pub fn has_model(facts: &[u8; FACTS], e: ElementNo) -> bool
+    requires { ⌜ e .0 ≤ 64 ⌝ }
+    ensures { λ r. ⌜ ((s : List ℕ) (es : List Element) → Facts s es (now (facts .entry)) → Declares es (decisions.start (e .0)) →
+        r ≡ hasModel (contentOf es (e .0))) ⌝ }
 {
-    facts[e * FACT + 67] == 1
+    facts[e.0 * FACT + 67] == 1
 }
 
 // The largest of the place p and the smaller ones of its name that some row has after the place u in the element e, or 0. They are linked downwards.
-fn largest(rows: &[u8; ROWS], places: &[u8; PLACES], e: usize, u: usize, p: usize) -> usize {
+fn largest(rows: &[u8; ROWS], places: &[u8; PLACES], e: ElementNo, u: Place, p: Place) -> Place {
     let mut q = p;
-    while q != 0 {
+    while q.0 != 0 {
         if bit(rows, e, u, q) {
             return q;
         }
         let r = smaller(places, e, q);
-        if q <= r {
-            return 0;
+        if q.0 <= r.0 {
+            return Place(0);
         }
         q = r;
     }
-    0
+    Place(0)
 }
 
 // The largest of the place p and the smaller ones of its name that may come next in the element e, whose model has an "&", after the place u at the
@@ -143,30 +145,30 @@ fn largest_among(
     members: &[u8],
     begun: &[u32; BEGUN],
     level: usize,
-    e: usize,
-    u: usize,
+    e: ElementNo,
+    u: Place,
     p: usize,
-) -> usize {
+) -> Place {
     if p < 128 {
-        return 0;
+        return Place(0);
     }
-    let mut q = p - 128;
-    if 96 < q {
-        return 0;
+    let mut q = Place(p - 128);
+    if 96 < q.0 {
+        return Place(0);
     }
-    while q != 0 {
+    while q.0 != 0 {
         if bit(rows, e, u, q) {
             if and_groups::may_follow(members, begun, level, e, u, q) {
                 return q;
             }
         }
         let r = smaller(places, e, q);
-        if q <= r {
-            return 0;
+        if q.0 <= r.0 {
+            return Place(0);
         }
         q = r;
     }
-    0
+    Place(0)
 }
 
 // The place of the name x that may come next in the element e after the place u at the level, or 0.
@@ -177,20 +179,21 @@ pub fn fitting(
     members: &[u8],
     begun: &[u32; BEGUN],
     level: usize,
-    e: usize,
-    u: usize,
-    x: usize,
-) -> usize
-    requires { ⌜ (e ≤ 64) × (u ≤ 96) × (x ≤ 64) ⌝ }
-    ensures { λ r. ⌜ ((s : List ℕ) (es : List Element) → Tables s es (now (rows .entry)) (now (places .entry)) (now (facts .entry)) → InRange es (standing e u) →
-        (t : Token) → nameNumber t ≡ x → Declares es t → r ≡ decided s es .fits e (placed u) t) ⌝ }
-    ensures { λ r. ⌜ r ≤ 96 ⌝ }
+    e: ElementNo,
+    u: Place,
+    x: ElementNo,
+) -> Place
+    requires { ⌜ (e .0 ≤ 64) × (u .0 ≤ 96) × (x .0 ≤ 64) ⌝ }
+    ensures { λ r. ⌜ ((s : List ℕ) (es : List Element) → Tables s es (now (rows .entry)) (now (places .entry)) (now (facts .entry)) → InRange es (standing (e .0) (u .0)) →
+        (t : Token) → nameNumber t ≡ x .0 → Declares es t → r .0 ≡ decided s es .fits (e .0) (placed (u .0)) t) ⌝ }
+    ensures { λ r. ⌜ r .0 ≤ 96 ⌝ }
 {
-    let p = numbers::wide(facts[e * FACT + x]);
+    let name = x.0;
+    let p = numbers::wide(facts[e.0 * FACT + name]);
     if 96 < p {
         return largest_among(rows, places, members, begun, level, e, u, p);
     }
-    largest(rows, places, e, u, p)
+    largest(rows, places, e, u, Place(p))
 }
 
 // Whether data may come next in the element e after the place u at the level.
@@ -201,14 +204,16 @@ pub fn takes_data(
     members: &[u8],
     begun: &[u32; BEGUN],
     level: usize,
-    e: usize,
-    u: usize,
+    e: ElementNo,
+    u: Place,
 ) -> bool {
-    let p = numbers::wide(facts[e * FACT]);
+    let p = numbers::wide(facts[e.0 * FACT]);
     if 96 < p {
-        return largest_among(rows, places, members, begun, level, e, u, p) != 0;
+        let q = largest_among(rows, places, members, begun, level, e, u, p);
+        return q.0 != 0;
     }
-    largest(rows, places, e, u, p) != 0
+    let q = largest(rows, places, e, u, Place(p));
+    q.0 != 0
 }
 
 // The place of the name x that may come next at the start of the element e, or 0. Nothing has begun there, so the row decides.
@@ -216,58 +221,68 @@ pub fn fitting_first(
     rows: &[u8; ROWS],
     places: &[u8; PLACES],
     facts: &[u8; FACTS],
-    e: usize,
-    x: usize,
-) -> usize {
-    let mut p = numbers::wide(facts[e * FACT + x]);
+    e: ElementNo,
+    x: ElementNo,
+) -> Place {
+    let name = x.0;
+    let mut p = numbers::wide(facts[e.0 * FACT + name]);
     if 96 < p {
         if p < 128 {
-            return 0;
+            return Place(0);
         }
         p -= 128;
         if 96 < p {
-            return 0;
+            return Place(0);
         }
     }
-    largest(rows, places, e, 0, p)
+    let none = Place(0);
+    largest(rows, places, e, none, Place(p))
 }
 
 // The element whose start is to be inferred in the element e where the place p is required, or 0.
-pub fn startable(places: &[u8; PLACES], facts: &[u8; FACTS], e: usize, p: usize) -> usize
-    requires { ⌜ e ≤ 64 ⌝ }
-    ensures { λ r. ⌜ ((s : List ℕ) (es : List Element) (rows : List ℕ) → Tables s es rows (now (places .entry)) (now (facts .entry)) → (u : ℕ) → Requires es e p u →
-        r ≡ rules.inferable s es (decided s es) (standing e u)) ⌝ }
-    ensures { λ r. ⌜ r ≤ 64 ⌝ }
+pub fn startable(places: &[u8; PLACES], facts: &[u8; FACTS], e: ElementNo, p: Place) -> ElementNo
+    requires { ⌜ e .0 ≤ 64 ⌝ }
+    ensures { λ r. ⌜ ((s : List ℕ) (es : List Element) (rows : List ℕ) → Tables s es rows (now (places .entry)) (now (facts .entry)) → (u : ℕ) → Requires es (e .0) (p .0) u →
+        r .0 ≡ rules.inferable s es (decided s es) (standing (e .0) u)) ⌝ }
+    ensures { λ r. ⌜ r .0 ≤ 64 ⌝ }
 {
-    if p == 0 {
-        return 0;
+    let none = ElementNo(0);
+    if p.0 == 0 {
+        return none;
     }
-    if 96 < p {
-        return 0;
+    if 96 < p.0 {
+        return none;
     }
     // What the place names is an element, 255 for `#PCDATA`, or 0 if that is not declared.
-    let k = numbers::wide(places[(e * POSITIONS + p) * LINK]);
-    if k == 0 {
-        return 0;
+    let k = ElementNo(numbers::wide(places[(e.0 * POSITIONS + p.0) * LINK]));
+    if k.0 == 0 {
+        return none;
     }
-    if 64 < k {
-        return 0;
+    if 64 < k.0 {
+        return none;
     }
     if !start_omitted(facts, k) {
-        return 0;
+        return none;
     }
     if !has_model(facts, k) {
-        return 0;
+        return none;
     }
     k
 }
 
 // The element whose start is to be inferred at the start of the element e, or 0.
-pub fn inferable(rows: &[u8; ROWS], places: &[u8; PLACES], facts: &[u8; FACTS], e: usize) -> usize
-    requires { ⌜ e ≤ 64 ⌝ }
-    ensures { λ r. ⌜ ((s : List ℕ) (es : List Element) → Tables s es (now (rows .entry)) (now (places .entry)) (now (facts .entry)) → InRange es (standing e 0) →
-        r ≡ rules.inferable s es (decided s es) (standing e u)) ⌝ }
-    ensures { λ r. ⌜ r ≤ 64 ⌝ }
+pub fn inferable(
+    rows: &[u8; ROWS],
+    places: &[u8; PLACES],
+    facts: &[u8; FACTS],
+    e: ElementNo,
+) -> ElementNo
+    requires { ⌜ e .0 ≤ 64 ⌝ }
+    ensures { λ r. ⌜ ((s : List ℕ) (es : List Element) → Tables s es (now (rows .entry)) (now (places .entry)) (now (facts .entry)) → InRange es (standing (e .0) 0) →
+        r .0 ≡ rules.inferable s es (decided s es) (standing (e .0) 0)) ⌝ }
+    ensures { λ r. ⌜ r .0 ≤ 64 ⌝ }
 {
-    startable(places, facts, e, required(rows, e, 0))
+    let none = Place(0);
+    let q = required(rows, e, none);
+    startable(places, facts, e, q)
 }

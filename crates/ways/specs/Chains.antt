@@ -11,6 +11,8 @@ use Rattle.rules.specs.TypeFile.{Element}
 use Rattle.rules.specs.Elements.{contentOf, hasModel, startO}
 use Rattle.rules.specs.Decisions.{Token, Decisions}
 use Rattle.rules.specs.Settling.{Open, elementOf, fitting, requiredPlace, inferable, chain}
+use Rattle.layout.specs.declared.Place.{Place}
+use Rattle.layout.specs.Typed.{placeNo}
 use Rattle.document_laws.specs.Decide.{decided}
 use Rattle.document_laws.specs.Same.{link}
 use Rattle.document_laws.specs.Chain.{chain-leads, chain-shortest}
@@ -171,6 +173,10 @@ module _ (s : List ℕ) (es : List Element) (D : Decisions) (t : Token) (o : Ope
 pub record Looks (rows places facts : List ℕ) (e q x c n : ℕ) : Type 0 where
   pub left : (s : List ℕ) (es : List Element) → Tables s es rows places facts → (u : ℕ) → Requires es e q u → (t : Token) → nameNumber t ≡ x → Declares es t → Ahead s es (decided s es) t (standing e u) c n
 
+-- Where that is so of the first element of a chain, whatever requires it, it is so of the element c after n - 1 others.
+pub record Carries (rows places facts : List ℕ) (x first c n : ℕ) : Type 0 where
+  pub on : (e q : ℕ) → Looks rows places facts e q x first 1 → Looks rows places facts e q x c n
+
 -- The chain has so many starts, for the token whose name is x.
 abbrev Counts : (rows places facts : List ℕ) (e q x n : ℕ) → Type 0
 Counts rows places facts e q x n =
@@ -215,9 +221,12 @@ module _ (rows places facts : List ℕ) (e q x : ℕ) where
 
 -- What is answered of an element
 
-pub way-taken : (p f n : ℕ) → p ≡ f → (p ≡ 0 → ⊥) → Taken p ≡ wayOf f n
-way-taken zero f n e z = absurd (z refl)
-way-taken (suc p) f n e z = rw (← e)
+pub way-taken : (p : Place) (f n : ℕ) → p .0 ≡ f → (p .0 ≡ 0 → ⊥) → Taken p ≡ wayOf f n
+way-taken p f n = by-number (p .0)
+  where
+    by-number : (k : ℕ) → k ≡ f → (k ≡ 0 → ⊥) → Taken (placeNo k) ≡ wayOf f n
+    by-number zero e z = absurd (z refl)
+    by-number (suc k) e z = rw (← e)
 
 pub way-inferred : (k f n : ℕ) → f ≡ 0 → k ≡ n → (k ≡ 0 → ⊥) → Inferred k ≡ wayOf f n
 way-inferred zero f n e i z = absurd (z refl)

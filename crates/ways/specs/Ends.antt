@@ -20,8 +20,8 @@ use Rattle.ways.specs.Means.{mayEnd}
 
 module _ (s : List ℕ) {es : List Element} {o : Open} (stands : Stands es o) where
   -- The document is over where nothing is open and its content is complete.
-  pub over-says : (before : List Event) → (eqb (o .element) 0 && o .complete) ≡ isOver s es (decided s es) (stateOf o before)
-  over-says before = ap (λ b. eqb (o .element) 0 && b) (stands .marked .complete)
+  pub over-says : (before : List Event) → (eqb (o .element .0) 0 && o .complete) ≡ isOver s es (decided s es) (stateOf o before)
+  over-says before = ap (λ b. eqb (o .element .0) 0 && b) (stands .marked .complete)
 
   -- Nothing is open: no end is inferred.
   pub none-ends : o .count ≡ 0 → false ≡ mayEnd s es (decided s es) (current o) (around o)
@@ -29,10 +29,10 @@ module _ (s : List ℕ) {es : List Element} {o : Open} (stands : Stands es o) wh
 
   module _ (some : 1 ≤ o .count) where
     -- What is open is an element of the type.
-    pub stands-declared : Declares es (start (o .element))
+    pub stands-declared : Declares es (start (o .element .0))
     stands-declared = (stands-element stands some, stands-range stands .declared)
 
-    may-end : mayEnd s es (decided s es) (current o) (around o) ≡ o .complete && (endO es (o .element) && leb 1 (ended o .element))
+    may-end : mayEnd s es (decided s es) (current o) (around o) ≡ o .complete && (endO es (o .element .0) && leb 1 (ended o .element .0))
     may-end = rw (around-ended o some, stands .marked .complete)
 
     pub incomplete-stays : o .complete ≡ false → false ≡ mayEnd s es (decided s es) (current o) (around o)
@@ -51,11 +51,11 @@ module _ (s : List ℕ) {es : List Element} {o : Open} (stands : Stands es o) wh
       by-count zero z = none-ends z
       by-count (suc n) z =
           let one : o .count ≡ 1 = omega arith in
-          sym (may-end (omega arith) ∙ rw (parent-document stands one) (none (o .complete) (endO es (o .element))))
+          sym (may-end (omega arith) ∙ rw (parent-document stands one) (none (o .complete) (endO es (o .element .0))))
 
   -- Any other element's parent is an element.
-  pub ends-in-parent : 1 < o .count → o .complete ≡ true → endO es (o .element) ≡ mayEnd s es (decided s es) (current o) (around o)
-  ends-in-parent l e = sym (may-end (omega arith) ∙ rw (e, le-leb 1 (ended o .element) (parent-element stands l)) (all (endO es (o .element))))
+  pub ends-in-parent : 1 < o .count → o .complete ≡ true → endO es (o .element .0) ≡ mayEnd s es (decided s es) (current o) (around o)
+  ends-in-parent l e = sym (may-end (omega arith) ∙ rw (e, le-leb 1 (ended o .element .0) (parent-element stands l)) (all (endO es (o .element .0))))
     where
       all : (b : Bool) → b && true ≡ b
       all true = refl

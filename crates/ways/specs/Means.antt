@@ -11,6 +11,7 @@ use Rattle.rules.specs.Elements.{endO}
 use Rattle.rules.specs.Decisions.{Token, start, pcdata, Decisions}
 use Rattle.rules.specs.Settling.{isComplete}
 use Rattle.rules.specs.Settling as rules
+use Rattle.layout.specs.Typed.{placeNo}
 use Rattle.document_laws.specs.Decide.{decided}
 use Rattle.type_tables.specs.Means.{nameNumber, Declares, Facts}
 use Rattle.open_elements.specs.declared.Open.{Open}
@@ -35,7 +36,7 @@ tokenOf-declared es (suc k) l = (omega arith, l)
 abbrev pub wayOf : (f starts : ℕ) → Way
 wayOf zero zero = Stuck
 wayOf zero (suc n) = Inferred (suc n)
-wayOf (suc f) n = Taken (suc f)
+wayOf (suc f) n = Taken (placeNo (suc f))
 
 module _ (s : List ℕ) (es : List Element) (D : Decisions) where
   -- How many starts the chain has, 0 if there is none.
@@ -59,11 +60,11 @@ startsOf (Inferred n) = n
 startsOf Stuck = 0
 
 abbrev pub fitOf : Way → ℕ
-fitOf (Taken p) = p
+fitOf (Taken p) = p .0
 fitOf (Inferred n) = 0
 fitOf Stuck = 0
 
 abbrev pub placeOf : (f : ℕ) → Way → ℕ
-placeOf f (Taken p) = p
+placeOf f (Taken p) = p .0
 placeOf f (Inferred n) = f
 placeOf f Stuck = 0

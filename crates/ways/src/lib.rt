@@ -4,8 +4,10 @@
 // `rows`, `places` and `facts` are the tables of the type (crate type_tables). x is the element that starts, or 0 for data.
 // Where the tables are no type's, an answer is not decided, but for the range that its contract has.
 use layout::BEGUN;
+use layout::ElementNo;
 use layout::FACTS;
 use layout::PLACES;
+use layout::Place;
 use layout::ROWS;
 use open_elements::Open;
 ghost use mathlib.Core.Path.{_≡_};
@@ -25,7 +27,7 @@ ghost use Rattle.ways.specs.Means.{wayOf, chained, startsOf, fitOf, plac
 // What the current element has to say to a start tag or a data byte.
 pub enum Way {
     // It fits at this place.
-    Taken(usize),
+    Taken(Place),
     // So many starts are inferred before it.
     Inferred(usize),
     Stuck,
@@ -37,19 +39,20 @@ fn chain(
     rows: &[u8; ROWS],
     places: &[u8; PLACES],
     facts: &[u8; FACTS],
-    e: usize,
-    q: usize,
-    x: usize,
+    e: ElementNo,
+    q: Place,
+    x: ElementNo,
 ) -> usize
-    requires { ⌜ (e ≤ 64) × (x ≤ 64) ⌝ }
-    ensures { λ r. ⌜ ((s : List ℕ) (es : List Element) → Tables s es (now (rows .entry)) (now (places .entry)) (now (facts .entry)) → (u : ℕ) → Requires es e q u →
-        (t : Token) → nameNumber t ≡ x → Declares es t → r ≡ chained s es (decided s es) t (standing e u)) ⌝ }
+    requires { ⌜ (e .0 ≤ 64) × (x .0 ≤ 64) ⌝ }
+    ensures { λ r. ⌜ ((s : List ℕ) (es : List Element) → Tables s es (now (rows .entry)) (now (places .entry)) (now (facts .entry)) → (u : ℕ) → Requires es (e .0) (q .0) u →
+        (t : Token) → nameNumber t ≡ x .0 → Declares es t → r ≡ chained s es (decided s es) t (standing (e .0) u)) ⌝ }
     ensures { λ r. ⌜ r ≤ 64 ⌝ }
 {
     let mut c = type_tables::startable(places, facts, e, q);
     let mut n = 1;
-    while n <= 64 && c != 0 {
-        if type_tables::fitting_first(rows, places, facts, c, x) != 0 {
+    while n <= 64 && c.0 != 0 {
+        let p = type_tables::fitting_first(rows, places, facts, c, x);
+        if p.0 != 0 {
             return n;
         }
         c = type_tables::inferable(rows, places, facts, c);
@@ -66,18 +69,18 @@ pub fn way_at(
     members: &[u8],
     begun: &[u32; BEGUN],
     level: usize,
-    e: usize,
-    u: usize,
-    q: usize,
-    x: usize,
+    e: ElementNo,
+    u: Place,
+    q: Place,
+    x: ElementNo,
 ) -> Way
-    requires { ⌜ (e ≤ 64) × (u ≤ 96) × (x ≤ 64) ⌝ }
-    ensures { λ r. ⌜ ((s : List ℕ) (es : List Element) → Tables s es (now (rows .entry)) (now (places .entry)) (now (facts .entry)) → Requires es e q u →
-        (t : Token) → nameNumber t ≡ x → Declares es t → r ≡ wayOf (decided s es .fits e (placed u) t) (chained s es (decided s es) t (standing e u))) ⌝ }
+    requires { ⌜ (e .0 ≤ 64) × (u .0 ≤ 96) × (x .0 ≤ 64) ⌝ }
+    ensures { λ r. ⌜ ((s : List ℕ) (es : List Element) → Tables s es (now (rows .entry)) (now (places .entry)) (now (facts .entry)) → Requires es (e .0) (q .0) (u .0) →
+        (t : Token) → nameNumber t ≡ x .0 → Declares es t → r ≡ wayOf (decided s es .fits (e .0) (placed (u .0)) t) (chained s es (decided s es) t (standing (e .0) (u .0)))) ⌝ }
     ensures { λ r. ⌜ (fitOf r ≤ 96) × (startsOf r ≤ 64) ⌝ }
 {
     let p = type_tables::fitting(rows, places, facts, members, begun, level, e, u, x);
-    if p != 0 {
+    if p.0 != 0 {
         return Way::Taken(p);
     }
     let n = chain(rows, places, facts, e, q, x);
@@ -90,7 +93,7 @@ pub fn way_at(
 // Whether step 3 infers the current element's end: its content is complete, its end is "O" and it is not the document
 // element. The document alone lies around the document element.
 pub fn may_end(facts: &[u8; FACTS], o: Open) -> bool
-    requires { ⌜ o .element ≤ 64 ⌝ }
+    requires { ⌜ o .element .0 ≤ 64 ⌝ }
     ensures { λ r. ⌜ MayEnd (now (facts .entry)) o r ⌝ }
     ensures { λ r. ⌜ (r ≡ true → (1 < o .count) × (o .complete ≡ true)) ⌝ }
 {
@@ -100,7 +103,8 @@ pub fn may_end(facts: &[u8; FACTS], o: Open) -> bool
     if !o.complete {
         return false;
     }
-    type_tables::end_omitted(facts, o.element)
+    let e = o.element;
+    type_tables::end_omitted(facts, e)
 }
 
 // How many starts are inferred.
@@ -120,39 +124,39 @@ pub fn place_of(
     rows: &[u8; ROWS],
     places: &[u8; PLACES],
     facts: &[u8; FACTS],
-    e: usize,
-    u: usize,
+    e: ElementNo,
+    u: Place,
     found: Way,
-    x: usize,
-) -> usize
-    requires { ⌜ (e ≤ 64) × (u ≤ 96) × (x ≤ 64) × (fitOf found ≤ 96) ⌝ }
-    ensures { λ r. ⌜ ((s : List ℕ) (es : List Element) → Tables s es (now (rows .entry)) (now (places .entry)) (now (facts .entry)) → InRange es (standing e u) →
-        (t : Token) → nameNumber t ≡ x → Declares es t → r ≡ placeOf (decided s es .fits e (placed u) t) found) ⌝ }
-    ensures { λ r. ⌜ r ≤ 96 ⌝ }
+    x: ElementNo,
+) -> Place
+    requires { ⌜ (e .0 ≤ 64) × (u .0 ≤ 96) × (x .0 ≤ 64) × (fitOf found ≤ 96) ⌝ }
+    ensures { λ r. ⌜ ((s : List ℕ) (es : List Element) → Tables s es (now (rows .entry)) (now (places .entry)) (now (facts .entry)) → InRange es (standing (e .0) (u .0)) →
+        (t : Token) → nameNumber t ≡ x .0 → Declares es t → r .0 ≡ placeOf (decided s es .fits (e .0) (placed (u .0)) t) found) ⌝ }
+    ensures { λ r. ⌜ r .0 ≤ 96 ⌝ }
 {
     match found {
         Way::Taken(p) => p,
         Way::Inferred(_) => type_tables::fitting_first(rows, places, facts, e, x),
-        Way::Stuck => 0,
+        Way::Stuck => Place(0),
     }
 }
 
 // Whether x is an element for which there is no room among so many.
-pub fn is_full(count: usize, x: usize) -> bool
-    ensures { λ r. ⌜ (x ≡ 0 → r ≡ false) × ((x ≡ 0 → ⊥) → r ≡ leb 24 count) ⌝ }
+pub fn is_full(count: usize, x: ElementNo) -> bool
+    ensures { λ r. ⌜ (x .0 ≡ 0 → r ≡ false) × ((x .0 ≡ 0 → ⊥) → r ≡ leb 24 count) ⌝ }
 {
-    if x == 0 {
+    if x.0 == 0 {
         return false;
     }
     24 <= count
 }
 
 // Whether x is an element with a model: it is open once it has started.
-pub fn opens(facts: &[u8; FACTS], x: usize) -> bool
-    requires { ⌜ x ≤ 64 ⌝ }
-    ensures { λ r. ⌜ (x ≡ 0 → r ≡ false) × ((s : List ℕ) (es : List Element) → Facts s es (now (facts .entry)) → Declares es (decisions.start x) → r ≡ hasModel (contentOf es x)) ⌝ }
+pub fn opens(facts: &[u8; FACTS], x: ElementNo) -> bool
+    requires { ⌜ x .0 ≤ 64 ⌝ }
+    ensures { λ r. ⌜ (x .0 ≡ 0 → r ≡ false) × ((s : List ℕ) (es : List Element) → Facts s es (now (facts .entry)) → Declares es (decisions.start (x .0)) → r ≡ hasModel (contentOf es (x .0))) ⌝ }
 {
-    if x == 0 {
+    if x.0 == 0 {
         return false;
     }
     type_tables::has_model(facts, x)
@@ -160,9 +164,10 @@ pub fn opens(facts: &[u8; FACTS], x: usize) -> bool
 
 // Whether the document element was there and has ended: the document itself is the current element, and it is complete.
 pub fn is_over(o: Open) -> bool
-    ensures { λ r. ⌜ r ≡ (eqb (o .element) 0 && o .complete) ⌝ }
+    ensures { λ r. ⌜ r ≡ (eqb (o .element .0) 0 && o .complete) ⌝ }
 {
-    if o.element != 0 {
+    let e = o.element;
+    if e.0 != 0 {
         return false;
     }
     o.complete

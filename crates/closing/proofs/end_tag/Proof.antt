@@ -13,7 +13,7 @@ is-open-requires c κs = search needs
 returns : tie.Need-returns
 returns c =
     let a = c .before .before .before .before .args in
-    tag-unopened (a .facts .now) (a .x) (a .at) (a .after) (a .n) (a .state) (a .numbers .now) (a .bytes .now) (c .before .before .before .before .pre .0) (sym (c .before .is-open .ensures) ∙ not-true _ (c .if1 .taken))
+    tag-unopened (a .facts .now) (a .x .0) (a .at) (a .after) (a .n) (a .state) (a .numbers .now) (a .bytes .now) (c .before .before .before .before .pre .0) (sym (c .before .is-open .ensures) ∙ not-true _ (c .if1 .taken))
 
 end-until-requires : tie.Need-end-until-requires
 end-until-requires c κs = search needs
@@ -55,13 +55,13 @@ returns-4 c =
     tag-incomplete (p .args .after) k (c .before .before .before .before .before .if2 .left) (omega (arith, c .before .before .if3 .left)) (not-true _ (c .if4 .taken))
 
 sub-put-event : tie.Need-sub-put-event
-sub-put-event c = search needs
+sub-put-event c = c .before .before .before .before .before .before .before .before .before .before .before .before .before .before .before .before .before .before .before .before .pre .1
 
 put-event-requires : tie.Need-put-event-requires
 put-event-requires c κs =
     let u = c .before .before .before .before .before .before .before .before .before .before .before .before .before .end-until .ensures in
     let p = c .before .before .before .before .before .before .before .before .before .before .before .before .before .before .before .before .before .before .before .before .pre in
-    (omega (arith, u .brings .counted, u .few, p .0 .few, p .4), omega arith, omega arith, omega arith)
+    (omega (arith, u .brings .counted, u .few, p .0 .few, p .4), omega arith, omega arith, omega arith, omega arith)
 
 end-requires : tie.Need-end-requires
 end-requires c κs = search needs

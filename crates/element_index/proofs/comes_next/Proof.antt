@@ -7,13 +7,13 @@ use Rattle.element_index.proofs.comes_next.Tie as tie
 
 returns : tie.Need-returns
 returns c =
-    let a = c .before .before .args in
-    follows-falls (a .s .now) (a .elements .now) (a .before) (a .k) (a .size) (omega arith)
+    let a = c .before .before .before .before .args in
+    follows-falls (a .s .now) (a .elements .now) (a .before .0) (a .k .0) (a .size) (omega arith)
 
 returns-2 : tie.Need-returns-2
 returns-2 c =
-    let a = c .before .before .before .args in
-    follows-over (a .s .now) (a .elements .now) (a .before) (a .k) (a .size) (omega arith) (omega arith)
+    let a = c .before .before .before .before .before .before .args in
+    follows-over (a .s .now) (a .elements .now) (a .before .0) (a .k .0) (a .size) (omega arith) (omega arith)
 
 offset-requires : tie.Need-offset-requires
 offset-requires c κs = search needs
@@ -23,8 +23,8 @@ add-result c = search needs
 
 returns-3 : tie.Need-returns-3
 returns-3 c =
-    let a = c .before .before .before .before .args in
-    follows-by (a .s .now) (a .elements .now) (a .before) (a .k) (a .size) (omega arith) (omega arith) (c .offset .ensures .0)
+    let a = c .before .before .before .before .before .before .before .args in
+    follows-by (a .s .now) (a .elements .now) (a .before .0) (a .k .0) (a .size) (omega arith) (omega arith) (c .offset .ensures .0)
 
 pub comes-next-spec : {M : Type 1} → statement M
 comes-next-spec = tie.close (tie.spec returns returns-2 offset-requires add-result returns-3)

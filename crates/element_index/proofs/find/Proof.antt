@@ -16,14 +16,14 @@ use Rattle.element_index.proofs.find.Statement.{statement}
 use Rattle.element_index.proofs.find.Tie as tie
 
 abbrev Inv-loop : tie.InvT-loop
-Inv-loop s elements index t at size first before₀ k₀ n₀ before k n =
-    (n ≤ before)
-    × (before ≤ 64)
+Inv-loop s elements index t at size first none before₀ k₀ n₀ before k n =
+    (n ≤ before .0)
+    × (before .0 ≤ 64)
     × (letter (byteAt t at) ≡ true)
-    × ((es : List Element) → Indexed s es elements index → Seeks s es t at size before k n)
+    × ((es : List Element) → Indexed s es elements index → Seeks s es t at size (before .0) (k .0) n)
 
 abbrev μ-loop : tie.MeasureT-loop
-μ-loop s elements index t at size first before₀ k₀ n₀ before k n = 64 - before
+μ-loop s elements index t at size first none before₀ k₀ n₀ before k n = 64 - before .0
 
 byte-requires : tie.Need-byte-requires Inv-loop μ-loop
 byte-requires c κs = search needs
@@ -70,10 +70,10 @@ module _ (c : tie.Then2 Inv-loop μ-loop) where
   abbrev begun : tie.Start Inv-loop μ-loop
   begun = turn .before .before .before .before .before .before .before .before .before
 
-  standing : (turn .loop .before < turn .loop .k) × (turn .loop .k ≤ 64) × (getD (begun .args .elements .now) (6 * (turn .loop .k - 1)) 0 + begun .args .size ≤ length (begun .args .s .now))
+  standing : (turn .loop .before .0 < turn .loop .k .0) × (turn .loop .k .0 ≤ 64) × (getD (begun .args .elements .now) (6 * (turn .loop .k .0 - 1)) 0 + begun .args .size ≤ length (begun .args .s .now))
   standing =
       let a = begun .args in
-      follows-true (a .s .now) (a .elements .now) (turn .loop .before) (turn .loop .k) (a .size) (c .before .comes-next .ensures) (c .if2 .taken)
+      follows-true (a .s .now) (a .elements .now) (turn .loop .before .0) (turn .loop .k .0) (a .size) (c .before .comes-next .ensures) (c .if2 .taken)
 
 offset-requires : tie.Need-offset-requires Inv-loop μ-loop
 offset-requires c κs = let (risen, few, inside) = standing c in (omega arith, omega arith)
@@ -81,8 +81,8 @@ offset-requires c κs = let (risen, few, inside) = standing c in (omega arith, o
 same-name-requires : tie.Need-same-name-requires Inv-loop μ-loop
 same-name-requires c κs = let (risen, few, inside) = standing (c .before) in (omega arith, omega arith)
 
-add-t20 : tie.Need-add-t20 Inv-loop μ-loop
-add-t20 c = let (risen, few, inside) = standing (c .before .before .before) in omega arith
+add-t23 : tie.Need-add-t23 Inv-loop μ-loop
+add-t23 c = let (risen, few, inside) = standing (c .before .before .before) in omega arith
 
 -- The pair that a law gives, with the count as the code has it.
 counted : {A : Type 0} {n m r : ℕ} → A × (n ≡ r) → m ≡ n → A × (m ≡ r)
@@ -149,7 +149,7 @@ find-spec =
     comes-next-requires
     offset-requires
     same-name-requires
-    add-t20
+    add-t23
     returns-2
     add-n
     element-copy-out-wide-2

@@ -49,7 +49,7 @@ returns c =
     let read = named .before in
     let place = read .before in
     let a = place .before .before .before .before .args in
-    put-read (a .index .now) (a .s .now) (a .k) _ _ _ _ _ _ (named .bucket .ensures .0) (read .byte .ensures) (place .offset .ensures .0) (place .before .widened .ensures .0)
+    put-read (a .index .now) (a .s .now) (a .k .0) _ _ _ _ _ _ (named .bucket .ensures .0) (read .byte .ensures) (place .offset .ensures .0) (place .before .widened .ensures .0)
 
 pub put-index-spec : {M : Type 1} → statement M
 put-index-spec =

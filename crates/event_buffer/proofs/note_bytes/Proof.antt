@@ -1,11 +1,12 @@
--- `note_bytes` meets its contract: the four calls store the bytes of the event's numbers.
+-- `note_bytes` meets its contract: the five calls store the bytes of the event's numbers.
 use Prim.Native.Nat.{_*_}
 use mathlib.Core.Path.{sym}
 use mathlib.Core.List.{_∷_, []}
 use native.Mathlib.Omega.{arith}
 use Rattle.rules.specs.Lent.{bytesOf}
+use Rattle.rules.specs.Events.{eventWidth}
 use Rattle.numbers.specs.Laws.{written-not}
-use Rattle.event_buffer.specs.Laws.{four-numbers-stored}
+use Rattle.event_buffer.specs.Laws.{five-numbers-stored}
 use borrow.Author.Needs.{needs}
 use Rattle.event_buffer.proofs.note_bytes.Statement.{statement}
 use Rattle.event_buffer.proofs.note_bytes.Tie as tie
@@ -43,20 +44,26 @@ add-put-number-3 c = search needs
 put-number-requires-4 : tie.Need-put-number-requires-4
 put-number-requires-4 c κs = search needs
 
+add-put-number-4 : tie.Need-add-put-number-4
+add-put-number-4 c = search needs
+
+put-number-requires-5 : tie.Need-put-number-requires-5
+put-number-requires-5 c κs = search needs
+
 same-length : tie.Need-same-length
 same-length c = search needs
 
 returns : tie.Need-returns
 returns c =
-    let a = c .before .before .before .before .before .before .before .before .before .before .before .before .before .before .before .before .before .before .args in
-    four-numbers-stored (a .buffer .now) (16 * a .n) (a .kind) (a .element) (a .at) (a .size) (omega arith)
-    (c .before .before .before .before .before .before .before .before .before .before .before .before .before .before .put-number .ensures) (c .before .before .before .before .before .before .before .before .before .before .put-number2 .ensures) (c .before .before .before .before .before .before .put-number3 .ensures) (c .before .before .put-number4 .ensures)
+    let a = c .before .before .before .before .before .before .before .before .before .before .before .before .before .before .before .before .before .before .before .before .before .before .args in
+    five-numbers-stored (a .buffer .now) (4 * eventWidth * a .n) (a .kind) (a .element) (a .at) (a .size) (a .place) (omega arith)
+    (c .before .before .before .before .before .before .before .before .before .before .before .before .before .before .before .before .before .before .put-number .ensures) (c .before .before .before .before .before .before .before .before .before .before .before .before .before .before .put-number2 .ensures) (c .before .before .before .before .before .before .before .before .before .before .put-number3 .ensures) (c .before .before .before .before .before .before .put-number4 .ensures) (c .before .before .put-number5 .ensures)
 
 returns-2 : tie.Need-returns-2
 unfolding bytesOf
 returns-2 c =
     let a = c .before .before .args in
-    sym (written-not (a .buffer .now) (16 * a .n) (bytesOf (a .kind ∷ a .element ∷ a .at ∷ a .size ∷ [])) (omega arith))
+    sym (written-not (a .buffer .now) (4 * eventWidth * a .n) (bytesOf (a .kind ∷ a .element ∷ a .at ∷ a .size ∷ a .place ∷ [])) (omega arith))
 
 pub note-bytes-spec : {M : Type 1} → statement M
 note-bytes-spec =
@@ -73,6 +80,8 @@ note-bytes-spec =
     put-number-requires-3
     add-put-number-3
     put-number-requires-4
+    add-put-number-4
+    put-number-requires-5
     same-length
     returns
     returns-2)

@@ -14,6 +14,9 @@ cast-i c = search needs
 cast-k : tie.Need-cast-k
 cast-k c = search needs
 
+cast-p : tie.Need-cast-p
+cast-p c = search needs
+
 note-numbers-requires : tie.Need-note-numbers-requires
 note-numbers-requires c κs = search needs
 
@@ -31,8 +34,8 @@ same-length-2 c = search needs
 
 returns : tie.Need-returns
 returns c =
-    let a = c .before .before .before .before .before .before .before .before .before .before .args in
-    (refl, puts-noted (a .numbers .now) (a .bytes .now) (a .n) (a .kind) (a .element) (a .at) (a .size) (c .before .before .before .before .before .before .note-numbers .ensures) (c .before .before .note-bytes .ensures))
+    let a = c .before .before .before .before .before .before .before .before .before .before .before .before .args in
+    (refl, puts-noted (a .numbers .now) (a .bytes .now) (a .n) (a .kind) (a .element .0) (a .at) (a .size) (a .place .0) (c .before .before .before .before .before .before .note-numbers .ensures) (c .before .before .note-bytes .ensures))
 
 pub put-event-spec : {M : Type 1} → statement M
 put-event-spec =
@@ -41,6 +44,7 @@ put-event-spec =
     cast-e
     cast-i
     cast-k
+    cast-p
     note-numbers-requires
     note-bytes-requires
     add-result

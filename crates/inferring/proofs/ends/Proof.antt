@@ -13,7 +13,7 @@ use Rattle.inferring.proofs.ends.Statement.{statement}
 use Rattle.inferring.proofs.ends.Tie as tie
 
 abbrev Inv-loop : tie.InvT-loop
-Inv-loop rows places facts x at n numbers₀ bytes₀ o₀ m₀ numbers bytes o m = Turns rows places facts x at n o₀ numbers₀ bytes₀ o m numbers bytes
+Inv-loop rows places facts x at n numbers₀ bytes₀ o₀ m₀ numbers bytes o m = Turns rows places facts (x .0) at n o₀ numbers₀ bytes₀ o m numbers bytes
 
 abbrev μ-loop : tie.MeasureT-loop
 μ-loop rows places facts x at n numbers₀ bytes₀ o₀ m₀ numbers bytes o m = o .count
@@ -35,20 +35,20 @@ first c = c .before .before .before
 
 -- an end is inferred: something is open, and its content complete
 goes-on : (c : tie.Else1 Inv-loop μ-loop) →
-    let o = c .before .before .before .before .before .loop .o in
+    let o = c .before .before .before .before .before .before .before .before .loop .o in
     (1 < o .count) × (o .complete ≡ true)
 goes-on c = c .before .may-end .ensures .1 (not-false _ (c .if1 .left))
 
 put-event-requires : tie.Need-put-event-requires Inv-loop μ-loop
 put-event-requires c κs =
     let ends = c .before .before in
-    let looped = ends .before .before .before .before .before in
-    (omega (arith, looped .loop .inv .counted, looped .loop .inv .deep, first looped .pre .3, first looped .pre .0 .few), omega (arith, looped .loop .inv .ranged .element), omega (arith, first looped .pre .2), omega arith)
+    let looped = ends .before .before .before .before .before .before .before .before in
+    (omega (arith, looped .loop .inv .counted, looped .loop .inv .deep, first looped .pre .3, first looped .pre .0 .few), omega (arith, looped .loop .inv .ranged .element), omega (arith, first looped .pre .2), omega arith, omega arith)
 
 infer-end-requires : tie.Need-infer-end-requires Inv-loop μ-loop
 infer-end-requires c κs =
     let ends = c .before .before .before .before .before .before .before in
-    (ends .before .before .before .before .before .loop .inv .ranged, omega (arith, goes-on ends .0), goes-on ends .1)
+    (ends .before .before .before .before .before .before .before .before .loop .inv .ranged, omega (arith, goes-on ends .0), goes-on ends .1)
 
 loop-less : tie.Need-loop-less Inv-loop μ-loop
 loop-less c =
@@ -61,20 +61,20 @@ loop-again c =
     let ends = put .before .before .before in
     let told = ends .before .before in
     let way = told .before .before in
-    turns-end _ _ _ _ _ _ (way .before .loop .inv) _ (way .way-at .ensures .0) (told .enum-told .given .1) _ (ends .before .may-end .ensures .0) (not-false _ (ends .if1 .left)) (omega (arith, goes-on ends .0))
+    turns-end _ _ _ _ _ _ (way .before .before .before .before .loop .inv) _ (way .way-at .ensures .0) (told .enum-told .given .1) _ (ends .before .may-end .ensures .0) (not-false _ (ends .if1 .left)) (omega (arith, goes-on ends .0))
     (put .put-event .ensures .1) (c .infer-end .ensures) (put .put-event .ensures .0)
 
 same-length : tie.Need-same-length Inv-loop μ-loop
-same-length c = c .before .before .loop .inv .puts .numbers-kept
+same-length c = c .before .before .before .before .before .loop .inv .puts .numbers-kept
 
 same-length-2 : tie.Need-same-length-2 Inv-loop μ-loop
-same-length-2 c = c .before .before .loop .inv .puts .bytes-kept
+same-length-2 c = c .before .before .before .before .before .loop .inv .puts .bytes-kept
 
 returns : tie.Need-returns Inv-loop μ-loop
 returns c =
     let way = c .before in
     record {
-      turns = way .before .loop .inv;
+      turns = way .before .before .before .before .loop .inv;
       fits = way .way-at .ensures .1 .0;
       starts = way .way-at .ensures .1 .1;
       finds = way .way-at .ensures .0;
@@ -82,17 +82,17 @@ returns c =
     }
 
 same-length-3 : tie.Need-same-length-3 Inv-loop μ-loop
-same-length-3 c = c .before .before .before .before .before .loop .inv .puts .numbers-kept
+same-length-3 c = c .before .before .before .before .before .before .before .before .loop .inv .puts .numbers-kept
 
 same-length-4 : tie.Need-same-length-4 Inv-loop μ-loop
-same-length-4 c = c .before .before .before .before .before .loop .inv .puts .bytes-kept
+same-length-4 c = c .before .before .before .before .before .before .before .before .loop .inv .puts .bytes-kept
 
 returns-2 : tie.Need-returns-2 Inv-loop μ-loop
 returns-2 c =
     let ends = c .before in
     let way = ends .before .before .before in
     record {
-      turns = way .before .loop .inv;
+      turns = way .before .before .before .before .loop .inv;
       fits = way .way-at .ensures .1 .0;
       starts = way .way-at .ensures .1 .1;
       finds = way .way-at .ensures .0;

@@ -110,28 +110,27 @@ loop-again : tie.Need-loop-again Inv-loop μ-loop
 loop-again c =
     let turn = c .before .before in
     let inv = turn .before .before .loop .inv in
-    let room = inside turn in
-    (
+    let room = inside turn in (
       omega arith,
       omega (arith, room),
       ⊎-elim
-      (λ w. rw (w .3, w .4) (passed-place _ _ _ _ _ _ (inv .2) room _ refl (w .0 .taken) (w .1 .taken) _ (w .2 .ensures)))
-      (⊎-elim
-      (λ w. rw (w .2, w .3) (passed-full _ _ _ _ _ _ (inv .2) room _ refl (w .0 .taken) (w .1 .left)))
-      (⊎-elim
-      (λ w. rw (w .5, w .6) (passed-opt _ _ _ _ _ _ (inv .2) room _ refl (w .1 .taken) (w .2 .taken) _ (w .4 .ensures)))
-      (⊎-elim
-      (λ w. rw (w .3, w .4) (passed-opt-none _ _ _ _ _ _ (inv .2) room _ refl (w .1 .taken) (w .2 .left)))
-      (⊎-elim
-      (λ w. rw (w .6, w .7) (passed-plus _ _ _ _ _ _ (inv .2) room _ refl (w .2 .taken) (w .3 .taken) _ (w .5 .ensures)))
-      (⊎-elim
-      (λ w. rw (w .4, w .5) (passed-plus-none _ _ _ _ _ _ (inv .2) room _ refl (w .2 .taken) (w .3 .left)))
-      (⊎-elim
-      (λ w. rw (w .8, w .9) (passed-join _ _ _ _ _ _ (inv .2) room _ refl (w .0 .left) (w .1 .left) (w .2 .left) (w .3 .taken) (w .4 .taken) _ (w .7 .ensures)))
-      (⊎-elim
-      (λ w. rw (w .5, w .6) (passed-join-none _ _ _ _ _ _ (inv .2) room _ refl (w .0 .left) (w .1 .left) (w .2 .left) (w .3 .taken) (w .4 .left)))
-      (λ w. rw (w .4, w .5) (passed-other _ _ _ _ _ _ (inv .2) room _ refl (w .3 .left))))))))))
-      (c .if2 .came),
+          (λ w. rw (w .3, w .4) (passed-place _ _ _ _ _ _ (inv .2) room _ refl (w .0 .taken) (w .1 .taken) _ (w .2 .ensures)))
+          (⊎-elim
+          (λ w. rw (w .2, w .3) (passed-full _ _ _ _ _ _ (inv .2) room _ refl (w .0 .taken) (w .1 .left)))
+          (⊎-elim
+          (λ w. rw (w .5, w .6) (passed-opt _ _ _ _ _ _ (inv .2) room _ refl (w .1 .taken) (w .2 .taken) _ (w .4 .ensures)))
+          (⊎-elim
+          (λ w. rw (w .3, w .4) (passed-opt-none _ _ _ _ _ _ (inv .2) room _ refl (w .1 .taken) (w .2 .left)))
+          (⊎-elim
+          (λ w. rw (w .6, w .7) (passed-plus _ _ _ _ _ _ (inv .2) room _ refl (w .2 .taken) (w .3 .taken) _ (w .5 .ensures)))
+          (⊎-elim
+          (λ w. rw (w .4, w .5) (passed-plus-none _ _ _ _ _ _ (inv .2) room _ refl (w .2 .taken) (w .3 .left)))
+          (⊎-elim
+          (λ w. rw (w .8, w .9) (passed-join _ _ _ _ _ _ (inv .2) room _ refl (w .0 .left) (w .1 .left) (w .2 .left) (w .3 .taken) (w .4 .taken) _ (w .7 .ensures)))
+          (⊎-elim
+          (λ w. rw (w .5, w .6) (passed-join-none _ _ _ _ _ _ (inv .2) room _ refl (w .0 .left) (w .1 .left) (w .2 .left) (w .3 .taken) (w .4 .left)))
+          (λ w. rw (w .4, w .5) (passed-other _ _ _ _ _ _ (inv .2) room _ refl (w .3 .left))))))))))
+          (c .if2 .came),
     )
 
 element-copy-out-result : tie.Need-element-copy-out-result Inv-loop μ-loop

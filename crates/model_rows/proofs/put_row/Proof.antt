@@ -1,22 +1,23 @@
--- `put_row` meets its contract. The invariant: the first `j` numbers of the row are put.
+-- `put_row` meets its contract. The invariant: the first `j` numbers of the row are put, whichever element has its row there.
 use mathlib.Core.Path.{_≡_, refl}
-use Prim.Native.Nat.{_-_, _≤_}
+use Prim.Native.Nat.{ℕ, _-_, _≤_}
 use native.Mathlib.Omega.{arith}
+use Rattle.type_tables.specs.Means.{rowAt}
 use Rattle.model_rows.specs.Rows.{BitsPut, bits-none, bits-more, row-put}
 use Rattle.model_rows.proofs.put_row.Statement.{statement}
 use Rattle.model_rows.proofs.put_row.Tie as tie
 
 abbrev Inv-loop : tie.InvT-loop
-Inv-loop rows₀ e table u r j₀ rows j = (j ≤ 12) × BitsPut table e u rows₀ rows j
+Inv-loop rows₀ table u r j₀ rows j = (j ≤ 12) × ((e : ℕ) → e ≤ 64 → r ≡ rowAt e (u .0) → BitsPut table e (u .0) rows₀ rows j)
 
 abbrev μ-loop : tie.MeasureT-loop
-μ-loop rows₀ e table u r j₀ rows j = 12 - j
+μ-loop rows₀ table u r j₀ rows j = 12 - j
 
 row-requires : tie.Need-row-requires Inv-loop μ-loop
 row-requires c κs = omega arith
 
 loop-holds : tie.Need-loop-holds Inv-loop μ-loop
-loop-holds c = (omega arith, bits-none _ _ _ _ (omega arith) (omega arith) (omega arith))
+loop-holds c = (omega arith, λ e l q. bits-none _ _ _ _ (omega arith) (omega arith) (omega arith))
 
 mul-packed : tie.Need-mul-packed Inv-loop μ-loop
 mul-packed c = omega arith
@@ -43,7 +44,7 @@ loop-less : tie.Need-loop-less Inv-loop μ-loop
 loop-less c = omega arith
 
 loop-again : tie.Need-loop-again Inv-loop μ-loop
-loop-again c = (omega arith, bits-more _ _ _ _ (omega arith) (omega arith) _ _ _ _ (c .before .before .loop .inv .1) (omega arith) (omega arith) (c .packed .ensures))
+loop-again c = (omega arith, λ e l q. bits-more _ _ _ _ (omega arith) (omega arith) _ _ _ _ (c .before .before .before .loop .inv .1 e l q) (omega arith) (omega arith) (c .packed .ensures))
 
 mul-cell : tie.Need-mul-cell Inv-loop μ-loop
 mul-cell c = omega arith
@@ -77,9 +78,10 @@ element-write-rows-3 c = omega arith
 
 returns : tie.Need-returns Inv-loop μ-loop
 returns c =
-    let inv = c .before .before .before .loop .inv in
-    let full : c .before .before .before .loop .j ≡ 12 = omega arith in
-    row-put _ _ _ _ (omega arith) (omega arith) _ _ _ _ _ (rw full at (inv .1)) (omega arith) (omega arith) (c .before .cell .ensures .0) refl
+    let looped = c .before .before .before .before .before in
+    let first = looped .before .before in
+    let full : looped .loop .j ≡ 12 = omega arith in
+    row-put _ _ _ _ (omega arith) (omega arith) _ _ _ _ _ (rw full at (looped .loop .inv .1 (first .args .e .0) (first .pre .0) (looped .before .row .ensures))) (omega arith) (omega arith) (c .before .before .cell .ensures .0) refl
 
 pub put-row-spec : {M : Type 1} → statement M
 put-row-spec =

@@ -7,7 +7,7 @@ use Rattle.model_rows.proofs.put_rows.Statement.{statement}
 use Rattle.model_rows.proofs.put_rows.Tie as tie
 
 abbrev Inv-loop : tie.InvT-loop
-Inv-loop rows₀ e table count u₀ rows u = (u ≤ count + 1) × RowsPut table e rows₀ rows u
+Inv-loop rows₀ e table count u₀ rows u = (u ≤ count + 1) × RowsPut table (e .0) rows₀ rows u
 
 abbrev μ-loop : tie.MeasureT-loop
 μ-loop rows₀ e table count u₀ rows u = count + 1 - u

@@ -39,10 +39,10 @@ undeclared-requires c κs = search needs
 
 returns : tie.Need-returns
 returns c =
-    let a = c .before .before .before .before .before .before .before .before .before .args in (
-      onward-refused (a .d .now) (a .at) (c .before .before .before .before .before .before .before .before .before .pre .4) (c .undeclared .ensures),
+    let a = c .before .before .before .before .before .before .before .before .before .before .args in (
+      onward-refused (a .d .now) (a .at) (c .before .before .before .before .before .before .before .before .before .before .pre .4) (c .undeclared .ensures),
       λ es i t range.
-          finds-undeclared-start (settings (a .long)) (a .s .now) es (a .d .now) (a .at) (c .before .before .tagged .ensures .0 es i) (a .e) (a .u) (c .before .if1 .taken) _ (c .undeclared .ensures) (start-stands (c .before .before .before)),
+          finds-undeclared-start (settings (a .long)) (a .s .now) es (a .d .now) (a .at) (c .before .before .before .tagged .ensures .0 es i) (a .e .0) (a .u .0) (c .before .if1 .taken) _ (c .undeclared .ensures) (start-stands (c .before .before .before .before)),
     )
 
 enum-known-t-2 : tie.Need-enum-known-t-2
@@ -58,10 +58,10 @@ undeclared-requires-2 c κs = search needs
 
 returns-2 : tie.Need-returns-2
 returns-2 c =
-    let a = c .before .before .before .before .before .before .before .before .before .args in (
-      onward-refused (a .d .now) (a .at) (c .before .before .before .before .before .before .before .before .before .pre .4) (c .undeclared2 .ensures),
+    let a = c .before .before .before .before .before .before .before .before .before .before .args in (
+      onward-refused (a .d .now) (a .at) (c .before .before .before .before .before .before .before .before .before .before .pre .4) (c .undeclared2 .ensures),
       λ es i t range.
-          finds-undeclared-end (settings (a .long)) (a .s .now) es (a .d .now) (a .at) (c .before .before .tagged2 .ensures .0 es i) (a .e) (a .u) (c .before .if2 .taken) _ (c .undeclared2 .ensures) (end-stands (c .before .before .before)),
+          finds-undeclared-end (settings (a .long)) (a .s .now) es (a .d .now) (a .at) (c .before .before .before .tagged2 .ensures .0 es i) (a .e .0) (a .u .0) (c .before .if2 .taken) _ (c .undeclared2 .ensures) (end-stands (c .before .before .before .before)),
     )
 
 enum-known-t-3 : tie.Need-enum-known-t-3
@@ -73,20 +73,20 @@ enum-told c = search needs
 fitting-requires : tie.Need-fitting-requires
 fitting-requires c κs = (c .before .before .before .before .before .pre .2, c .before .before .before .before .before .pre .3, omega arith)
 
-add-t25 : tie.Need-add-t25
-add-t25 c = omega (arith, c .before .before .before .before .before .before .before .pre .4, c .before .before .before .before .before .before .before .pre .5)
+add-t26 : tie.Need-add-t26
+add-t26 c = omega (arith, c .before .before .before .before .before .before .before .before .pre .4, c .before .before .before .before .before .before .before .before .pre .5)
 
 returns-3 : tie.Need-returns-3
 returns-3 c = (
-  (omega arith, omega (arith, c .before .before .before .before .before .before .before .pre .4)),
-  λ es i t range. finds-separator (c .before .fitting .ensures .0 _ es t range pcdata refl tt) (blank-stands (c .before .before)) (omega (arith, c .if3 .taken, c .before .fitting .ensures .1)),
+  (omega arith, omega (arith, c .before .before .before .before .before .before .before .before .pre .4)),
+  λ es i t range. finds-separator (c .before .before .fitting .ensures .0 _ es t range pcdata refl tt) (blank-stands (c .before .before .before)) (omega (arith, c .if3 .taken, c .before .before .fitting .ensures .1)),
 )
 
 add-run-end : tie.Need-add-run-end
-add-run-end c = omega (arith, c .before .before .before .before .before .before .before .pre .4, c .before .before .before .before .before .before .before .pre .5)
+add-run-end c = omega (arith, c .before .before .before .before .before .before .before .before .pre .4, c .before .before .before .before .before .before .before .before .pre .5)
 
 run-end-requires : tie.Need-run-end-requires
-run-end-requires c κs = (c .before .before .before .before .before .before .before .pre .0, omega (arith, c .before .before .before .before .before .before .before .pre .4))
+run-end-requires c κs = (c .before .before .before .before .before .before .before .before .pre .0, omega (arith, c .before .before .before .before .before .before .before .before .pre .4))
 
 enum-told-2 : tie.Need-enum-told-2
 enum-told-2 c = search needs
@@ -102,16 +102,16 @@ enum-known-t-4 c = search needs
 
 returns-4 : tie.Need-returns-4
 returns-4 c =
-    let a = c .before .before .before .before .before .before .before .before .args in (
-      onward-start (a .d .now) (a .at) (c .before .before .before .before .before .before .before .before .pre .4) (c .before .tagged .ensures .1) (settings (a .long)) (start-stands (c .before .before)),
-      λ es i t range. finds-start (settings (a .long)) (a .s .now) es (a .d .now) (a .at) (c .before .tagged .ensures .0 es i) (a .e) (a .u) (start-stands (c .before .before)) (c .if1 .left),
+    let a = c .before .before .before .before .before .before .before .before .before .args in (
+      onward-start (a .d .now) (a .at) (c .before .before .before .before .before .before .before .before .before .pre .4) (c .before .before .tagged .ensures .1) (settings (a .long)) (start-stands (c .before .before .before)),
+      λ es i t range. finds-start (settings (a .long)) (a .s .now) es (a .d .now) (a .at) (c .before .before .tagged .ensures .0 es i) (a .e .0) (a .u .0) (start-stands (c .before .before .before)) (c .if1 .left),
     )
 
 returns-5 : tie.Need-returns-5
 returns-5 c =
-    let a = c .before .before .before .before .before .before .before .before .args in (
-      onward-end (a .d .now) (a .at) (c .before .before .before .before .before .before .before .before .pre .4) (c .before .tagged2 .ensures .1) (settings (a .long)) (end-stands (c .before .before)),
-      λ es i t range. finds-end (settings (a .long)) (a .s .now) es (a .d .now) (a .at) (c .before .tagged2 .ensures .0 es i) (end-stands (c .before .before)) (c .if2 .left),
+    let a = c .before .before .before .before .before .before .before .before .before .args in (
+      onward-end (a .d .now) (a .at) (c .before .before .before .before .before .before .before .before .before .pre .4) (c .before .before .tagged2 .ensures .1) (settings (a .long)) (end-stands (c .before .before .before)),
+      λ es i t range. finds-end (settings (a .long)) (a .s .now) es (a .d .now) (a .at) (c .before .before .tagged2 .ensures .0 es i) (end-stands (c .before .before .before)) (c .if2 .left),
     )
 
 returns-6 : tie.Need-returns-6
@@ -122,8 +122,8 @@ returns-6 c =
 
 returns-7 : tie.Need-returns-7
 returns-7 c = (
-  onward-run (c .before .before .before .before .before .before .before .before .args .d .now) (c .before .before .before .before .before .before .before .before .args .at) (c .before .before .before .before .before .before .before .before .pre .4) (c .run-end .ensures),
-  λ es i t range. runs refl (finds-blank-run (c .before .before .fitting .ensures .0 _ es t range pcdata refl tt) (blank-stands (c .before .before .before)) (λ z. omega (arith, c .before .if3 .left)) (c .run-end .ensures)),
+  onward-run (c .before .before .before .before .before .before .before .before .before .args .d .now) (c .before .before .before .before .before .before .before .before .before .args .at) (c .before .before .before .before .before .before .before .before .before .pre .4) (c .run-end .ensures),
+  λ es i t range. runs refl (finds-blank-run (c .before .before .before .fitting .ensures .0 _ es t range pcdata refl tt) (blank-stands (c .before .before .before .before)) (λ z. omega (arith, c .before .if3 .left)) (c .run-end .ensures)),
 )
 
 returns-8 : tie.Need-returns-8
@@ -151,7 +151,7 @@ piece-at-spec =
     enum-known-t-3
     enum-told
     fitting-requires
-    add-t25
+    add-t26
     returns-3
     add-run-end
     run-end-requires

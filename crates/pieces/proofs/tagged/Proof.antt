@@ -7,7 +7,7 @@ find-requires : tie.Need-find-requires
 find-requires c κs = search needs
 
 returns : tie.Need-returns
-returns c = (λ es i. c .find .ensures .0 es i .0, c .find .ensures .1 .0)
+returns c = (λ es i. c .before .find .ensures .0 es i .0, c .before .find .ensures .1 .0)
 
 pub tagged-spec : {M : Type 1} → statement M
 tagged-spec = tie.close (tie.spec find-requires returns)

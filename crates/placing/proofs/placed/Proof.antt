@@ -13,8 +13,8 @@ place-of-requires c κs = search needs
 
 returns : tie.Need-returns
 returns c =
-    let found = c .before in
-    placed-nowhere (found .before .before .before .pre .0) (record { answers = found .place-of .ensures .0 }) (omega (arith, c .if1 .taken, found .place-of .ensures .1))
+    let found = c .before .before in
+    placed-nowhere (found .before .before .before .before .before .pre .0) (record { answers = found .place-of .ensures .0 }) (omega (arith, c .if1 .taken, found .place-of .ensures .1))
 
 is-full-requires : tie.Need-is-full-requires
 is-full-requires c κs = search needs
@@ -22,8 +22,11 @@ is-full-requires c κs = search needs
 returns-2 : tie.Need-returns-2
 returns-2 c =
     let full = c .before in
-    let found = full .before .before in
-    placed-full (found .before .before .before .pre .0) (record { answers = found .place-of .ensures .0 }) (λ z. omega (arith, full .before .if1 .left)) (full .is-full .ensures) (c .if2 .taken)
+    let found = full .before .before .before in
+    placed-full (found .before .before .before .before .before .pre .0) (record { answers = found .place-of .ensures .0 }) (λ z. omega (arith, full .before .if1 .left)) (full .is-full .ensures) (c .if2 .taken)
+
+place-shown-requires : tie.Need-place-shown-requires
+place-shown-requires c κs = search needs
 
 take-requires : tie.Need-take-requires
 take-requires c κs = search needs
@@ -45,27 +48,30 @@ returns-3 c =
     let put = c .before .before .before .before in
     let tested = put .before .before .before in
     let took = tested .before .before in
-    let full = took .before .before in
-    let found = full .before .before in
-    placed-written (found .before .before .before .pre .0) (record { answers = found .place-of .ensures .0 }) (full .before .if1 .left) (full .is-full .ensures) (took .before .if2 .left) (found .place-of .ensures .1)
-    (tested .before .opens .ensures) (not-true _ (tested .if3 .taken)) (took .take .ensures) (put .put-written .ensures)
+    let full = took .before .before .before in
+    let found = full .before .before .before in
+    placed-written (found .before .before .before .before .before .pre .0) (record { answers = found .place-of .ensures .0 }) (full .before .if1 .left) (full .is-full .ensures) (took .before .before .if2 .left) (found .place-of .ensures .1)
+    (tested .before .opens .ensures) (not-true _ (tested .if3 .taken)) (took .take .ensures) (took .before .place-shown .ensures .0) (put .put-written .ensures)
 
 sub-put-event : tie.Need-sub-put-event
-sub-put-event c = search needs
+sub-put-event c = c .before .before .before .before .before .before .before .before .before .before .before .before .before .before .before .before .pre .3
 
 put-event-requires : tie.Need-put-event-requires
-put-event-requires c κs = search needs
+put-event-requires c κs =
+    let shows = c .before .before .before .before .before .before in
+    let first = shows .before .before .before .before .before .before .before .before .before .before in
+    (omega (arith, first .pre .5), omega (arith, first .pre .2), omega (arith, first .pre .3, first .pre .4), omega (arith, first .pre .4), omega (arith, shows .place-shown .ensures .1))
 
 start-requires : tie.Need-start-requires
 start-requires c κs =
     let tested = c in
     let took = tested .before .before in
-    let full = took .before .before in
-    let found = full .before .before in
-    let first = found .before .before .before in
+    let full = took .before .before .before in
+    let found = full .before .before .before in
+    let first = found .before .before .before .before .before in
     rw (took .take .ensures) (
       ranged-took (first .args .rows .now) _ (first .pre .0) (found .place-of .ensures .1),
-      opening-room (full .is-full .ensures .1) (took .before .if2 .left) (tested .before .opens .ensures .0) (not-false _ (tested .if3 .left)),
+      opening-room (full .is-full .ensures .1) (took .before .before .if2 .left) (tested .before .opens .ensures .0) (not-false _ (tested .if3 .left)),
       first .pre .2,
     )
 
@@ -81,11 +87,11 @@ returns-4 c =
     let opened = put .before .before .before in
     let tested = opened .before in
     let took = tested .before .before in
-    let full = took .before .before in
-    let found = full .before .before in
-    let first = found .before .before .before in
-    placed-opened (first .pre .0) (record { answers = found .place-of .ensures .0 }) (full .before .if1 .left) (full .is-full .ensures) (took .before .if2 .left) (found .place-of .ensures .1)
-    (tested .before .opens .ensures) (not-false _ (tested .if3 .left)) (first .pre .2) (opened .start .ensures ∙ rw (took .take .ensures)) (put .put-event .ensures)
+    let full = took .before .before .before in
+    let found = full .before .before .before in
+    let first = found .before .before .before .before .before in
+    placed-opened (first .pre .0) (record { answers = found .place-of .ensures .0 }) (full .before .if1 .left) (full .is-full .ensures) (took .before .before .if2 .left) (found .place-of .ensures .1)
+    (tested .before .opens .ensures) (not-false _ (tested .if3 .left)) (first .pre .2) (opened .start .ensures ∙ rw (took .take .ensures)) (took .before .place-shown .ensures .0) (put .put-event .ensures)
 
 pub placed-spec : {M : Type 1} → statement M
 placed-spec =
@@ -95,6 +101,7 @@ placed-spec =
     returns
     is-full-requires
     returns-2
+    place-shown-requires
     take-requires
     opens-requires
     put-written-requires

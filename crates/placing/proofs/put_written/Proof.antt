@@ -19,7 +19,7 @@ same-length-2 c = search needs
 returns : tie.Need-returns
 returns c =
     let put = c .before .before .before .before in
-    puts-run (put .before .before .before .before .before .before .args .after) _ (put .before .before .before .if1 .taken) (put .put-event .ensures .0) (put .put-event .ensures .1)
+    puts-run (put .before .before .before .before .before .before .before .args .after) (put .before .before .before .before .before .before .before .args .shown .0) _ (put .before .before .before .if1 .taken) (put .put-event .ensures .0) (put .put-event .ensures .1)
 
 sub-put-event-2 : tie.Need-sub-put-event-2
 sub-put-event-2 c = search needs
@@ -40,7 +40,7 @@ returns-2 : tie.Need-returns-2
 returns-2 c =
     let second = c .before .before .before .before in
     let first = second .before .before .before .before .before .before .before in
-    puts-empty (first .before .before .before .before .before .before .args .after) _ (first .before .before .before .if1 .left) (first .put-event2 .ensures .0) (first .put-event2 .ensures .1) (second .put-event3 .ensures .0) (second .put-event3 .ensures .1)
+    puts-empty (first .before .before .before .before .before .before .before .args .after) (first .before .before .before .before .before .before .before .args .shown .0) _ (first .before .before .before .if1 .left) (first .put-event2 .ensures .0) (first .put-event2 .ensures .1) (second .put-event3 .ensures .0) (second .put-event3 .ensures .1)
 
 pub put-written-spec : {M : Type 1} → statement M
 put-written-spec =

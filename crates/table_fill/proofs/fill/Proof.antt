@@ -29,8 +29,8 @@ put-element-requires c κs =
     let pre = turn .before .before .before .before .before .before .pre in
     record { accepted = accepted-own _ _ _ _ (pre .1 .0); indexed = indexed-own _ _ _ _ (pre .1 .0); from = turn .loop .inv .0; to = omega (arith, counted-own _ _ _ _ (pre .0)); filled = turn .loop .inv .2 }
 
-add-e : tie.Need-add-e Inv-loop μ-loop
-add-e c =
+add-k : tie.Need-add-k Inv-loop μ-loop
+add-k c =
     let pre = c .before .before .before .before .before .before .before .before .before .before .before .before .before .pre in
     let few = indexed-own _ _ _ _ (pre .1 .0) .few in
     let counted = counted-own _ _ _ _ (pre .0) in
@@ -57,7 +57,7 @@ fill-spec =
     put-document-requires
     loop-holds
     put-element-requires
-    add-e
+    add-k
     loop-less
     loop-again
     returns)

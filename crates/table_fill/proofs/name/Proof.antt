@@ -36,9 +36,9 @@ find-requires c κs = (omega arith, omega arith, omega arith)
 
 returns-2 : tie.Need-returns-2
 returns-2 c =
-    let tested = c .before .before in (
-      λ es indexed. name-some _ es _ _ _ _ (tested .before .widened .ensures .0) (c .before .place-at .ensures .0) (tested .if1 .left) (c .find .ensures .0 es indexed .0),
-      name-fits _ (c .find .ensures .1 .0),
+    let tested = c .before .before .before in (
+      λ es indexed. name-some _ es _ _ _ _ (tested .before .widened .ensures .0) (c .before .before .place-at .ensures .0) (tested .if1 .left) (c .before .find .ensures .0 es indexed .0),
+      name-fits _ (c .before .find .ensures .1 .0),
     )
 
 pub name-spec : {M : Type 1} → statement M

@@ -20,7 +20,7 @@ sub-element-at c = search needs
 
 element-at-requires : tie.Need-element-at-requires
 element-at-requires c κs =
-    name-in _ _ _ _ _ _ _ _ _ (c .before .before .before .before .before .before .pre) _ (c .before .before .offset .ensures .0)
+    name-in _ _ _ _ _ _ _ _ _ (c .before .before .before .before .before .before .before .pre) _ (c .before .before .before .offset .ensures .0)
 
 enum-known-r : tie.Need-enum-known-r
 enum-known-r c = search needs
@@ -31,31 +31,31 @@ enum-told c = search needs
 returns : tie.Need-returns
 returns c =
     let reading = c .before .before in
-    let start = reading .before .before .before .before .before .before .before in
-    let offset = reading .before .before .before .offset .ensures .0 in
+    let start = reading .before .before .before .before .before .before .before .before in
+    let offset = reading .before .before .before .before .offset .ensures .0 in
     let met = reading .element-at .ensures .0 in
     absurd (not-refused _ _ _ _ _ _ _ _ _ (start .pre) _ _ _ _ offset met _ (c .enum-told .given .1))
 
 row-requires : tie.Need-row-requires
-row-requires c κs = (few _ _ _ _ _ _ _ _ _ (c .before .before .before .before .before .before .before .before .before .before .before .before .pre), omega arith)
+row-requires c κs = (few _ _ _ _ _ _ _ _ _ (c .before .before .before .before .before .before .before .before .before .before .before .before .before .pre), omega arith)
 
 element-write-rows : tie.Need-element-write-rows
-element-write-rows c = omega (arith, few _ _ _ _ _ _ _ _ _ (c .before .before .before .before .before .before .before .before .before .before .before .before .before .pre))
+element-write-rows c = omega (arith, few _ _ _ _ _ _ _ _ _ (c .before .before .before .before .before .before .before .before .before .before .before .before .before .before .pre))
 
 returns-2 : tie.Need-returns-2
 returns-2 c =
     let reading = c .before .before .before .before .before .before in
-    let start = reading .before .before .before .before .before .before .before in
-    let offset = reading .before .before .before .offset .ensures .0 in
+    let start = reading .before .before .before .before .before .before .before .before in
+    let offset = reading .before .before .before .before .offset .ensures .0 in
     let met = reading .element-at .ensures .0 in
     let is = c .before .before .before .before .r .given .1 in
-    element-empty _ _ _ _ _ _ _ _ _ (start .pre) _ _ _ _ offset met _ is _ (reading .before .before .before .before .put-facts .ensures) (c .before .if1 .taken) _ (c .row .ensures)
+    element-empty _ _ _ _ _ _ _ _ _ (start .pre) _ _ _ _ offset met _ is _ (reading .before .before .before .before .before .put-facts .ensures) (c .before .if1 .taken) _ (c .row .ensures)
 
 put-rows-requires : tie.Need-put-rows-requires
 put-rows-requires c κs =
     let reading = c .before .before .before .before .before .before .before in
-    let start = reading .before .before .before .before .before .before .before in
-    let offset = reading .before .before .before .offset .ensures .0 in
+    let start = reading .before .before .before .before .before .before .before .before in
+    let offset = reading .before .before .before .before .offset .ensures .0 in
     let met = reading .element-at .ensures .0 in
     let is = c .before .before .before .before .before .r .given .1 in
     (few _ _ _ _ _ _ _ _ _ (start .pre), places-few _ _ _ _ _ _ _ _ _ (start .pre) _ _ _ _ offset met _ is (c .before .before .if1 .left), start .pre .filled .rows-len)
@@ -63,20 +63,20 @@ put-rows-requires c κs =
 put-places-requires : tie.Need-put-places-requires
 put-places-requires c κs =
     let reading = c .before .before .before .before .before .before .before .before .before .before .before in
-    let start = reading .before .before .before .before .before .before .before in
-    let offset = reading .before .before .before .offset .ensures .0 in
+    let start = reading .before .before .before .before .before .before .before .before in
+    let offset = reading .before .before .before .before .offset .ensures .0 in
     let met = reading .element-at .ensures .0 in
     let is = c .before .before .before .before .before .before .before .before .before .r .given .1 in
-    places-due _ _ _ _ _ _ _ _ _ (start .pre) _ _ _ _ offset met _ is _ (reading .before .before .before .before .put-facts .ensures) (c .before .before .before .before .before .before .if1 .left)
+    places-due _ _ _ _ _ _ _ _ _ (start .pre) _ _ _ _ offset met _ is _ (reading .before .before .before .before .before .put-facts .ensures) (c .before .before .before .before .before .before .if1 .left)
 
 returns-3 : tie.Need-returns-3
 returns-3 c =
     let reading = c .before .before .before .before .before .before .before .before .before .before .before .before in
-    let start = reading .before .before .before .before .before .before .before in
-    let offset = reading .before .before .before .offset .ensures .0 in
+    let start = reading .before .before .before .before .before .before .before .before in
+    let offset = reading .before .before .before .before .offset .ensures .0 in
     let met = reading .element-at .ensures .0 in
     let is = c .before .before .before .before .before .before .before .before .before .before .r .given .1 in
-    element-model _ _ _ _ _ _ _ _ _ (start .pre) _ _ _ _ offset met _ is _ (reading .before .before .before .before .put-facts .ensures) (c .before .before .before .before .before .before .before .if1 .left) _ _ _ (c .before .before .before .before .put-rows .ensures) (c .put-places .ensures _ (start .pre .indexed))
+    element-model _ _ _ _ _ _ _ _ _ (start .pre) _ _ _ _ offset met _ is _ (reading .before .before .before .before .before .put-facts .ensures) (c .before .before .before .before .before .before .before .if1 .left) _ _ _ (c .before .before .before .before .put-rows .ensures) (c .put-places .ensures _ (start .pre .indexed))
 
 pub put-element-spec : {M : Type 1} → statement M
 put-element-spec =

@@ -19,7 +19,7 @@ Inv-loop s elements index places₀ facts₀ e names count p₀ places facts p =
     × (p ≤ count + 1)
     × (length places ≡ PLACES)
     × (length facts ≡ FACTS)
-    × ((es : List Element) → Indexed s es elements index → PlacesPut s es (placesOf names count) e places₀ facts₀ places facts p)
+    × ((es : List Element) → Indexed s es elements index → PlacesPut s es (placesOf names count) (e .0) places₀ facts₀ places facts p)
 
 abbrev μ-loop : tie.MeasureT-loop
 μ-loop s elements index places₀ facts₀ e names count p₀ places facts p = count + 1 - p
@@ -32,7 +32,7 @@ loop-holds c =
 name-requires : tie.Need-name-requires Inv-loop μ-loop
 name-requires c κs =
     let pre = c .before .before .before .pre in
-    (omega arith, omega arith, pre .fit (c .before .loop .p) (omega arith) (omega arith))
+    (omega arith, omega arith, pre .fit (c .before .loop .i) (omega arith) (omega arith))
 
 put-place-requires : tie.Need-put-place-requires Inv-loop μ-loop
 put-place-requires c κs =
@@ -41,8 +41,8 @@ put-place-requires c κs =
     let fits = c .before .before .name .ensures .1 in
     (omega arith, omega arith, fits .0, fits .1, turn .loop .inv .2, turn .loop .inv .3)
 
-add-p : tie.Need-add-p Inv-loop μ-loop
-add-p c = omega arith
+add-i : tie.Need-add-i Inv-loop μ-loop
+add-i c = omega arith
 
 loop-less : tie.Need-loop-less Inv-loop μ-loop
 loop-less c = omega arith
@@ -60,7 +60,7 @@ loop-again c =
 
 returns : tie.Need-returns Inv-loop μ-loop
 returns c =
-    let full : c .before .loop .p ≡ c .before .before .before .args .count + 1 = omega arith in
+    let full : c .before .loop .i ≡ c .before .before .before .args .count + 1 = omega arith in
     rw full at (c .before .loop .inv .4)
 
 pub put-places-spec : {M : Type 1} → statement M
@@ -72,7 +72,7 @@ put-places-spec =
     loop-holds
     name-requires
     put-place-requires
-    add-p
+    add-i
     loop-less
     loop-again
     returns)

@@ -19,7 +19,7 @@ shr-result : tie.Need-shr-result
 shr-result c = search needs
 
 returns : tie.Need-returns
-returns c = rw (c .wide .ensures .0, c .before .before .row .ensures)
+returns c = rw (c .before .wide .ensures .0, c .before .before .before .before .row .ensures)
 
 pub bit-spec : {M : Type 1} → statement M
 bit-spec =

@@ -12,7 +12,7 @@ startable-requires c κs = search needs
 returns : tie.Need-returns
 returns c = (
   λ s es tables range.
-      c .startable .ensures .0 s es _ tables (c .before .before .args .u) (record { range = range; required = c .before .required .ensures .1 (tables .settings) s es (tables .accepted) (tables .rows-say) range }),
+      c .startable .ensures .0 s es _ tables (c .before .before .args .u .0) (record { range = range; required = c .before .required .ensures .1 (tables .settings) s es (tables .accepted) (tables .rows-say) range }),
   c .startable .ensures .1,
 )
 

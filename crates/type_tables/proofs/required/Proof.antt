@@ -20,13 +20,13 @@ returns : tie.Need-returns
 returns c =
     let read = c .before in
     let a = read .before .before .before .args in
-    requires-none (a .rows .now) (a .e) (a .u) _ _ (read .before .before .row .ensures) (read .wide .ensures .0) (c .if1 .taken)
+    requires-none (a .rows .now) (a .e .0) (a .u .0) _ _ (read .before .before .row .ensures) (read .wide .ensures .0) (c .if1 .taken)
 
 returns-2 : tie.Need-returns-2
 returns-2 c =
     let read = c .before in
     let a = read .before .before .before .args in
-    requires-some (a .rows .now) (a .e) (a .u) _ _ (read .before .before .row .ensures) (read .wide .ensures .0) (c .if1 .left)
+    requires-some (a .rows .now) (a .e .0) (a .u .0) _ _ (read .before .before .row .ensures) (read .wide .ensures .0) (c .if1 .left)
 
 pub required-spec : {M : Type 1} → statement M
 required-spec =

@@ -9,15 +9,15 @@ use Rattle.type_tables.proofs.startable.Statement.{statement}
 use Rattle.type_tables.proofs.startable.Tie as tie
 
 names : (c : tie.Else4) →
-    let read = c .before .before in
-    let a = read .before .before .before .before .args in
-    Names (a .places .now) (a .e) (a .p) (read .wide .result)
+    let read = c .before .before .before .before in
+    let a = read .before .before .before .before .before .before .before .before .args in
+    Names (a .places .now) (a .e .0) (a .p .0) (read .wide .result)
 names c =
-    let read = c .before .before in
+    let read = c .before .before .before .before in
     record {
-      some = read .before .before .before .if1 .left;
+      some = read .before .before .before .before .before .before .if1 .left;
       read = read .wide .ensures .0;
-      declared = c .before .if3 .left;
+      declared = c .before .before .if3 .left;
       element = omega (arith, c .if4 .left);
     }
 
@@ -44,15 +44,15 @@ wide-requires c κs = search needs
 
 returns-3 : tie.Need-returns-3
 returns-3 c =
-    let read = c .before in (
-      λ s es rows tables u requires. none-declared _ _ _ _ _ _ s es tables requires (read .before .before .before .if1 .left) _ (read .wide .ensures .0) (c .if3 .taken),
+    let read = c .before .before in (
+      λ s es rows tables u requires. none-declared _ _ _ _ _ _ s es tables requires (read .before .before .before .before .before .before .if1 .left) _ (read .wide .ensures .0) (c .if3 .taken),
       omega arith,
     )
 
 returns-4 : tie.Need-returns-4
 returns-4 c =
-    let read = c .before .before in (
-      λ s es rows tables u requires. data-required _ _ _ _ _ _ s es tables requires (read .before .before .before .if1 .left) _ (read .wide .ensures .0) (c .if4 .taken),
+    let read = c .before .before .before .before in (
+      λ s es rows tables u requires. data-required _ _ _ _ _ _ s es tables requires (read .before .before .before .before .before .before .if1 .left) _ (read .wide .ensures .0) (c .if4 .taken),
       omega arith,
     )
 

@@ -1,37 +1,43 @@
--- `chain` meets its contract. The invariant: what is still to be looked for gives the chain. The measure is what is left of the 64 elements.
+-- `chain` meets its contract. The invariant: what is still to be looked for gives what was to be looked for at first, which gives the chain. The measure is what is left of the 64 elements.
 use Prim.Native.Nat.{_-_, _≤_}
 use mathlib.Core.Path.{_≡_}
 use native.Mathlib.Omega.{arith}
 use borrow.Author.Needs.{needs}
 use borrow.Author.Tests.{eqb-true, eqb-false, not-true, not-false}
-use Rattle.ways.specs.Chains.{Looks, looks-start, looks-found, looks-next, looks-none, looks-over}
+use Rattle.ways.specs.Chains.{Looks, Carries, looks-start, looks-found, looks-next, looks-none, looks-over}
 use Rattle.ways.proofs.chain.Statement.{statement}
 use Rattle.ways.proofs.chain.Tie as tie
 
 abbrev Inv-loop : tie.InvT-loop
-Inv-loop rows places facts e q x c₀ n₀ c n = (1 ≤ n) × (c ≤ 64) × Looks rows places facts e q x c n
+Inv-loop rows places facts x c₀ n₀ none c n = (1 ≤ n) × (c .0 ≤ 64) × Carries rows places facts (x .0) (c₀ .0) (c .0) n
 
 abbrev μ-loop : tie.MeasureT-loop
-μ-loop rows places facts e q x c₀ n₀ c n = 65 - n
+μ-loop rows places facts x c₀ n₀ none c n = 65 - n
+
+-- what is still to be looked for
+looks : (p : tie.At-loop Inv-loop μ-loop) →
+    let a = p .before .before .args in
+    Looks (a .rows .now) (a .places .now) (a .facts .now) (a .e .0) (a .q .0) (a .x .0) (p .loop .c .0) (p .loop .n)
+looks p = p .loop .inv .2 .on _ _ (looks-start _ _ _ _ _ _ _ (p .before .startable .ensures .0))
 
 -- the chain goes on
-there : (c : tie.Then1 Inv-loop μ-loop) → c .before .before .loop .c ≡ 0 → ⊥
+there : (c : tie.Then1 Inv-loop μ-loop) → c .before .before .before .loop .c .0 ≡ 0 → ⊥
 there c = eqb-false _ _ (not-true _ (c .if1 .taken))
 
 startable-requires : tie.Need-startable-requires Inv-loop μ-loop
 startable-requires c κs = search needs
 
 loop-holds : tie.Need-loop-holds Inv-loop μ-loop
-loop-holds c = (omega arith, c .startable .ensures .1, looks-start _ _ _ _ _ _ _ (c .startable .ensures .0))
+loop-holds c = (omega arith, c .startable .ensures .1, record { on = λ e q h. h })
 
 fitting-requires : tie.Need-fitting-requires Inv-loop μ-loop
 fitting-requires c κs = search needs
 
 returns : tie.Need-returns Inv-loop μ-loop
 returns c =
-    let inside = c .before .before .before in
+    let inside = c .before .before .before .before .before in
     let inv = inside .before .loop .inv in
-    (looks-found _ _ _ _ _ _ _ _ (inv .2) (inv .0) (inside .loop-test .taken) (there (c .before .before)) _ (c .before .fitting .ensures .0) (λ z. omega (arith, c .if2 .taken)), inside .loop-test .taken)
+    (looks-found _ _ _ _ _ _ _ _ (looks (inside .before)) (inv .0) (inside .loop-test .taken) (there (c .before .before .before)) _ (c .before .before .fitting .ensures .0) (λ z. omega (arith, c .if2 .taken)), inside .loop-test .taken)
 
 inferable-requires : tie.Need-inferable-requires Inv-loop μ-loop
 inferable-requires c κs = search needs
@@ -44,18 +50,25 @@ loop-less c = omega arith
 
 loop-again : tie.Need-loop-again Inv-loop μ-loop
 loop-again c =
-    let inside = c .before .before .before .before in
-    let inv = inside .before .loop .inv in
-    (omega arith, c .inferable .ensures .1, looks-next _ _ _ _ _ _ _ _ (inv .2) (inv .0) (inside .loop-test .taken) (there (c .before .before .before)) _ (c .before .before .fitting .ensures .0) (omega (arith, c .before .if2 .left)) _ (c .inferable .ensures .0))
+    let inside = c .before .before .before .before .before .before in
+    let inv = inside .before .loop .inv in (
+      omega arith,
+      c .inferable .ensures .1,
+      record {
+        on = λ e q h.
+            looks-next _ _ _ e q _ _ _ (inv .2 .on e q h) (inv .0) (inside .loop-test .taken) (there (c .before .before .before .before)) _ (c .before .before .before .fitting .ensures .0)
+            (omega (arith, c .before .if2 .left)) _ (c .inferable .ensures .0);
+      },
+    )
 
 returns-2 : tie.Need-returns-2 Inv-loop μ-loop
 returns-2 c =
-    let inside = c .before in
+    let inside = c .before .before in
     let inv = inside .before .loop .inv in
-    (looks-none _ _ _ _ _ _ _ _ (inv .2) (inv .0) (inside .loop-test .taken) (eqb-true _ _ (not-false _ (c .if1 .left))), omega arith)
+    (looks-none _ _ _ _ _ _ _ _ (looks (inside .before)) (inv .0) (inside .loop-test .taken) (eqb-true _ _ (not-false _ (c .if1 .left))), omega arith)
 
 returns-3 : tie.Need-returns-3 Inv-loop μ-loop
-returns-3 c = let inv = c .before .loop .inv in (looks-over _ _ _ _ _ _ _ _ (inv .2) (inv .0) (c .loop-test .left), omega arith)
+returns-3 c = let inv = c .before .loop .inv in (looks-over _ _ _ _ _ _ _ _ (looks (c .before)) (inv .0) (c .loop-test .left), omega arith)
 
 pub chain-spec : {M : Type 1} → statement M
 chain-spec =

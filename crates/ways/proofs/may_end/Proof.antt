@@ -23,8 +23,8 @@ end-omitted-requires c κs = search needs
 
 returns-3 : tie.Need-returns-3
 returns-3 c =
-    let inner = c .before .before .before .if1 .left in
-    let complete = not-false _ (c .before .if2 .left) in (
+    let inner = c .before .before .before .before .if1 .left in
+    let complete = not-false _ (c .before .before .if2 .left) in (
       λ s es facts stands. c .end-omitted .ensures s es facts (stands-declared s stands (omega (arith, inner))) ∙ ends-in-parent s stands (omega (arith, inner)) complete,
       λ e. (omega (arith, inner), complete),
     )

@@ -25,19 +25,19 @@ returns c =
     let told = c .before .found .given .1 in
     let first = c .before .before .before in
     let a = first .args in
-    (λ s es tables range t i d. ap (placeOf (decided s es .fits (a .e) (placed (a .u)) t)) (sym told), rw told at (first .pre .3))
+    (λ s es tables range t i d. ap (placeOf (decided s es .fits (a .e .0) (placed (a .u .0)) t)) (sym told), rw told at (first .pre .3))
 
 returns-2 : tie.Need-returns-2
 returns-2 c =
     let told = c .before .enum-told .given .1 in
     let a = c .before .before .before .args in
-    (λ s es tables range t i d. c .fitting .ensures .0 s es tables range t i d ∙ ap (placeOf (decided s es .fits (a .e) (placed (a .u)) t)) (sym told), c .fitting .ensures .1)
+    (λ s es tables range t i d. c .fitting .ensures .0 s es tables range t i d ∙ ap (placeOf (decided s es .fits (a .e .0) (placed (a .u .0)) t)) (sym told), c .fitting .ensures .1)
 
 returns-3 : tie.Need-returns-3
 returns-3 c =
     let told = c .enum-told2 .given .1 in
     let a = c .before .before .args in
-    (λ s es tables range t i d. ap (placeOf (decided s es .fits (a .e) (placed (a .u)) t)) (sym told), omega arith)
+    (λ s es tables range t i d. ap (placeOf (decided s es .fits (a .e .0) (placed (a .u .0)) t)) (sym told), omega arith)
 
 pub place-of-spec : {M : Type 1} → statement M
 place-of-spec =

@@ -10,7 +10,7 @@ fitting-requires : tie.Need-fitting-requires
 fitting-requires c κs = search needs
 
 returns : tie.Need-returns
-returns c = (λ s es tables requires t i d. way-taken _ _ _ (c .before .fitting .ensures .0 s es tables (requires .range) t i d) (c .if1 .taken), (c .before .fitting .ensures .1, omega arith))
+returns c = (λ s es tables requires t i d. way-taken _ _ _ (c .before .before .fitting .ensures .0 s es tables (requires .range) t i d) (c .if1 .taken), (c .before .before .fitting .ensures .1, omega arith))
 
 chain-requires : tie.Need-chain-requires
 chain-requires c κs = search needs
@@ -19,7 +19,7 @@ returns-2 : tie.Need-returns-2
 returns-2 c =
     let fits = c .before .before in (
       λ s es tables requires t i d.
-          way-inferred _ _ _ (sym (fits .before .fitting .ensures .0 s es tables (requires .range) t i d) ∙ fits .if1 .left) (c .before .chain .ensures .0 s es tables _ requires t i d) (c .if2 .taken),
+          way-inferred _ _ _ (sym (fits .before .before .fitting .ensures .0 s es tables (requires .range) t i d) ∙ fits .if1 .left) (c .before .chain .ensures .0 s es tables _ requires t i d) (c .if2 .taken),
       (omega arith, c .before .chain .ensures .1),
     )
 
@@ -27,7 +27,7 @@ returns-3 : tie.Need-returns-3
 returns-3 c =
     let fits = c .before .before in (
       λ s es tables requires t i d.
-          way-stuck _ _ (sym (fits .before .fitting .ensures .0 s es tables (requires .range) t i d) ∙ fits .if1 .left) (sym (c .before .chain .ensures .0 s es tables _ requires t i d) ∙ c .if2 .left),
+          way-stuck _ _ (sym (fits .before .before .fitting .ensures .0 s es tables (requires .range) t i d) ∙ fits .if1 .left) (sym (c .before .chain .ensures .0 s es tables _ requires t i d) ∙ c .if2 .left),
       (omega arith, omega arith),
     )
 

@@ -11,15 +11,15 @@ use Rattle.open_elements.proofs.Open.is_open.Statement.{statement}
 use Rattle.open_elements.proofs.Open.is_open.Tie as tie
 
 abbrev Inv-loop : tie.InvT-loop
-Inv-loop x around i₀ i = (i ≤ i₀) × (isOpen x (aroundOf around i₀) ≡ isOpen x (aroundOf around i))
+Inv-loop x around i₀ i = (i ≤ i₀) × (isOpen (x .0) (aroundOf around i₀) ≡ isOpen (x .0) (aroundOf around i))
 
 abbrev μ-loop : tie.MeasureT-loop
 μ-loop x around i₀ i = i
 
 -- the current element is another
 past : (p : tie.At-loop Inv-loop μ-loop) →
-    let a = p .before .before .before .before .args in
-    isOpen (a .x) (current (a .self) ∷ around (a .self)) ≡ isOpen (a .x) (aroundOf (a .self .around) (p .loop .i))
+    let a = p .before .before .before .before .before .before .args in
+    isOpen (a .x .0) (current (a .self) ∷ around (a .self)) ≡ isOpen (a .x .0) (aroundOf (a .self .around) (p .loop .i))
 past p = open-past _ _ _ (p .before .before .if1 .left) ∙ p .loop .inv .1
 
 returns : tie.Need-returns Inv-loop μ-loop
@@ -37,28 +37,28 @@ mul-c c = search needs
 array-copy-out-c : tie.Need-array-copy-out-c Inv-loop μ-loop
 array-copy-out-c c = search needs
 
-wide-requires : tie.Need-wide-requires Inv-loop μ-loop
-wide-requires c κs = search needs
+number-requires : tie.Need-number-requires Inv-loop μ-loop
+number-requires c κs = search needs
 
 returns-2 : tie.Need-returns-2 Inv-loop μ-loop
 returns-2 c =
-    let p = c .before .before .before .before in
-    let a = p .before .before .before .before .args in
-    sym (past p ∙ open-entry (a .x) (a .self .around) (p .loop .i) (omega arith) (sym (c .before .wide .ensures .0) ∙ c .if2 .taken))
+    let p = c .before .before .before .before .before .before in
+    let a = p .before .before .before .before .before .before .args in
+    sym (past p ∙ open-entry (a .x .0) (a .self .around) (p .loop .i) (omega arith) (sym (c .before .before .before .number .ensures) ∙ c .if2 .taken))
 
 loop-less : tie.Need-loop-less Inv-loop μ-loop
 loop-less c = search needs
 
 loop-again : tie.Need-loop-again Inv-loop μ-loop
 loop-again c =
-    let p = c .before .before .before .before in
-    let a = p .before .before .before .before .args in
-    (omega arith, p .loop .inv .1 ∙ open-further (a .x) (a .self .around) (p .loop .i) (omega arith) (λ e. c .if2 .left (c .before .wide .ensures .0 ∙ e)))
+    let p = c .before .before .before .before .before .before in
+    let a = p .before .before .before .before .before .before .args in
+    (omega arith, p .loop .inv .1 ∙ open-further (a .x .0) (a .self .around) (p .loop .i) (omega arith) (λ e. c .if2 .left (c .before .before .before .number .ensures ∙ e)))
 
 returns-3 : tie.Need-returns-3 Inv-loop μ-loop
 returns-3 c =
     let p = c .before in
-    let a = p .before .before .before .before .args in
+    let a = p .before .before .before .before .before .before .args in
     let e : p .loop .i ≡ 0 = omega arith in
     sym (past p ∙ rw (e, open-none))
 
@@ -73,7 +73,7 @@ is-open-spec =
     sub-i
     mul-c
     array-copy-out-c
-    wide-requires
+    number-requires
     returns-2
     loop-less
     loop-again

@@ -4,14 +4,8 @@ use borrow.Author.Needs.{needs}
 use Rattle.open_elements.proofs.Open.start.Statement.{statement}
 use Rattle.open_elements.proofs.Open.start.Tie as tie
 
-cast-t6 : tie.Need-cast-t6
-cast-t6 c = search needs
-
-cast-t7 : tie.Need-cast-t7
-cast-t7 c = search needs
-
-cast-t8 : tie.Need-cast-t8
-cast-t8 c = search needs
+of-requires : tie.Need-of-requires
+of-requires c κs = search needs
 
 mul-around : tie.Need-mul-around
 mul-around c = search needs
@@ -30,16 +24,14 @@ required-requires c κs = search needs
 
 returns : tie.Need-returns
 returns c =
-    let a = c .before .before .before .before .before .before .args in
-    opening-by (a .rows .now) (a .element) (a .self) (c .before .complete .ensures .0) (c .required .ensures .0)
+    let a = c .before .before .before .before .before .before .before .args in
+    opening-by (a .rows .now) (a .element) (a .self) (c .before .before .before .of .ensures) (c .before .complete .ensures .0) (c .required .ensures .0)
 
 pub start-spec : {M : Type 1} → statement M
 start-spec =
     tie.close
     (tie.spec
-    cast-t6
-    cast-t7
-    cast-t8
+    of-requires
     mul-around
     array-set-from-around
     add-self

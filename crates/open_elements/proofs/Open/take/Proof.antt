@@ -12,7 +12,7 @@ required-requires c κs = search needs
 
 returns : tie.Need-returns
 returns c =
-    let a = c .before .before .args in
+    let a = c .before .before .before .args in
     took-by (a .rows .now) (a .place) (a .self) (c .before .complete .ensures .0) (c .required .ensures .0)
 
 pub take-spec : {M : Type 1} → statement M
