@@ -107,6 +107,26 @@ module _ (end lo : ℕ) (T : List ℕ) (n d k joint : ℕ) (names table table' :
   next-place : m .places + 1 ≡ lo + size (t .group)
   next-place = omega arith
 
+-- A model of which less is due.
+pub keeps-less : (end lo : ℕ) (T : List ℕ) (n d e k joint : ℕ) (names table : List ℕ) (m : Model) (t : Tokens) → e ≤ d → Keeps end (begun lo T n d) k joint names table m t → Keeps end (begun lo T n e) k joint names table m t
+keeps-less end lo T n d e k joint names table m t h K = record {
+  at = K .at;
+  places = K .places;
+  tokens = K .tokens;
+  part = K .part;
+  and-at = K .and-at;
+  repeated-at = K .repeated-at;
+  names-hold = K .names-hold;
+  tabled = λ r. tabled-less lo T n h (K .tabled (ready-more lo T n h r));
+  joins = K .joins;
+  from = K .from;
+  numbered = K .numbered;
+  counted = K .counted;
+  at-in = K .at-in;
+  places-in = K .places-in;
+  tokens-in = K .tokens-in;
+}
+
 -- The group repeated.
 module _ (lo : ℕ) (T : List ℕ) (n d τ c : ℕ) (table table' : List ℕ) (g : Group) (from : 1 ≤ lo) (to : lo + size g ≤ 97) (few : τ ≤ 96) (gn : Numbered g lo) (hi : ℕ) (H : hi ≡ lo + size g) (r : table' ≡ repeated table lo hi)
     (ready : Ready (begun lo T n d)) where
@@ -167,25 +187,7 @@ module _ (s : List ℕ) (lo : ℕ) (T : List ℕ) (n d : ℕ) (names table : Lis
         (K .numbered) refl)
 
   pub occurs-not : (b ≡ 63 → ⊥) → (b ≡ 43 → ⊥) → (b ≡ 42 → ⊥) → Keeps (length s) (begun lo T n d) 1 0 names table m (occurrence s t)
-  occurs-not x y z =
-      rw (occurrence-none s t (not 63 x) (not 43 y) (not 42 z))
-      (record {
-        at = K .at;
-        places = K .places;
-        tokens = K .tokens;
-        part = K .part;
-        and-at = K .and-at;
-        repeated-at = K .repeated-at;
-        names-hold = K .names-hold;
-        tabled = λ r. tabled-less lo T n (omega arith) (before r);
-        joins = K .joins;
-        from = K .from;
-        numbered = K .numbered;
-        counted = K .counted;
-        at-in = K .at-in;
-        places-in = K .places-in;
-        tokens-in = K .tokens-in;
-      })
+  occurs-not x y z = rw (occurrence-none s t (not 63 x) (not 43 y) (not 42 z)) (keeps-less (length s) lo T n (d + 2) d 1 0 names table m t (omega arith) K)
 
 -- Two groups joined by a connector.
 
