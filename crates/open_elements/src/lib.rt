@@ -5,10 +5,9 @@ use layout::Place;
 use layout::ROWS;
 ghost use mathlib.Core.Path.{_≡_};
 ghost use mathlib.Core.Bool.{true};
-ghost use mathlib.Core.List.{_∷_};
 ghost use Prim.Native.Nat.{_≤_, _<_};
 ghost use Rattle.rules.specs.Settling.{shown, isOpen};
-ghost use Rattle.open_elements.specs.Means.{entry, fresh, took, opening, ended, current, around, Ranged};
+ghost use Rattle.open_elements.specs.Means.{entry, fresh, opening, ended, bare, Ranged, Taking, Starting};
 
 // An open element, the place that was taken last in it, or 0, and its marks: whether its content is complete there, and
 // the place that is required, or 0. Each number is kept in a byte: `of` alone puts them there, and the methods alone read them.
@@ -120,7 +119,7 @@ impl Open {
         place: Place,
     ) -> Self
         requires { ⌜ Ranged self × (place .0 ≤ 96) ⌝ }
-        ensures { λ r. ⌜ r ≡ took (now (rows .entry)) (place .0) self ⌝ }
+        ensures { λ r. ⌜ Taking (now (rows .entry)) (now (members .entry)) (now (begun .entry)) (place .0) self r (now (begun .exit)) ⌝ }
     {
         let e = self.element;
         let mut required = type_tables::kept(rows, e, place);
@@ -169,7 +168,10 @@ impl Open {
         members: &[u8],
         begun: &mut [u32; BEGUN],
         element: ElementNo,
-    ) -> Self {
+    ) -> Self
+        requires { ⌜ Ranged self × (self .count < 24) × (element .0 ≤ 64) ⌝ }
+        ensures { λ r. ⌜ Starting (now (rows .entry)) (now (members .entry)) (now (begun .entry)) (element .0) self r (now (begun .exit)) ⌝ }
+    {
         let e = self.element;
         let place = self.required;
         let mut required = type_tables::kept(rows, e, place);
@@ -216,7 +218,7 @@ impl Open {
     // Whether the element x is open.
     pub fn is_open(self, x: ElementNo) -> bool
         requires { ⌜ Ranged self ⌝ }
-        ensures { λ r. ⌜ r ≡ isOpen (x .0) (current self ∷ around self) ⌝ }
+        ensures { λ r. ⌜ r ≡ isOpen (x .0) (bare self) ⌝ }
     {
         let e = self.element;
         if e.0 == x.0 {
