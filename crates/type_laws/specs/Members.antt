@@ -1,0 +1,162 @@
+-- The "&" groups of a type file that was read: each has two to 32 members, and a model has at most 96 of them in all, since each is a content token.
+use Prim.Native.Nat.{ℕ, zero, suc, _+_, _-_, _≤_, _<_}
+use mathlib.Core.Path.{_≡_, refl, subst}
+use mathlib.Core.Bool.{Bool, true, false, _&&_, _||_}
+use mathlib.Core.List.{List, []}
+use native.Mathlib.Omega.{arith}
+use lib.Dec.{eqb, leb, ltb}
+use borrow.Author.Tests.{leb-true, leb-false}
+use Rattle.rules.specs.Settings.{Settings}
+use Rattle.rules.specs.Bytes.{byteAt, letter, nameEnd, GRPCNT, GRPLVL, GRPGTCNT}
+use Rattle.rules.specs.Reading.{Reading, refused, got, andThen}
+use Rattle.rules.specs.Walk.{Group, place, seq, alt, opt, plus, and, Members, one, also}
+use Rattle.rules.specs.TypeFile.{isWord, isCut, EMPTY, ANY, CDATA, RCDATA, Place, Tokens, occurrence, membersOf, join, oneMore, token, Further, closed, joined, further, members, group, Content, empty, model, ContentEnd, contentModel, contentWord, content, Element, typeFile}
+use Rattle.rules.specs.Elements.{contentOf}
+use Rattle.model_sets.specs.Bits.{bool-cases}
+use Rattle.member_laws.specs.Members.{amount, total, totalM, Sized, SizedM}
+use Rattle.rules_laws.specs.Holds.{Holds, Gives, stops, reads, got-so, each, so, on, either, whichever}
+use Rattle.rules_laws.specs.Within.{Fits, ContentIn}
+use Rattle.rules_laws.specs.Groups.{Indicated, optional, repeated, any, occurrence-holds, token-holds, further-holds, unfit-holds}
+use Rattle.rules_laws.specs.Declarations.{Declares}
+use Rattle.type_laws.specs.Made.{each-content, typeFile-made}
+use Rattle.type_laws.specs.Width.{typeFile-content}
+
+-- What holds of tokens that were read behind n others: they count at least one more for each member.
+abbrev Counts : ℕ → Tokens → Type 0
+Counts n t = Sized (t .group) × (n + total (t .group) ≤ t .tokens)
+
+indicated-counts : (n : ℕ) (t : Tokens) {g : Group} {k : ℕ} → Indicated t g k → Counts n t → Sized g × (n + total g ≤ t .tokens)
+indicated-counts n t optional c = c
+indicated-counts n t repeated c = c
+indicated-counts n t any c = c
+
+occurrence-counts : (n : ℕ) (s : List ℕ) (t : Tokens) → Counts n t → Counts n (occurrence s t)
+occurrence-counts n s t c = occurrence-holds (Counts n) s t c (λ g k i l. indicated-counts n t i c)
+
+-- A group of which k tokens were read behind n others. One that is no "&" group has a token besides its members; an "&" group of several has at most k.
+abbrev spare : Group → ℕ
+spare (place p) = 1
+spare (seq g h) = 1
+spare (alt g h) = 1
+spare (opt g) = 1
+spare (plus g) = 1
+spare (and m) = 0
+
+record Growing (n k : ℕ) (t : Tokens) : Type 0 where
+  sized : Sized (t .group)
+  alone : k ≤ 1 → n + 1 + total (t .group) ≤ t .tokens
+  counted : n + spare (t .group) + total (t .group) ≤ t .tokens
+  few : 2 ≤ k → amount (membersOf (t .group)) ≤ k
+
+spare-one : (g : Group) → spare g ≤ 1
+spare-one (place p) = omega arith
+spare-one (seq g h) = omega arith
+spare-one (alt g h) = omega arith
+spare-one (opt g) = omega arith
+spare-one (plus g) = omega arith
+spare-one (and m) = omega arith
+
+-- The members of a group are its own, or it is the only one.
+of-members : (g : Group) → Sized g → SizedM (membersOf g) × (totalM (membersOf g) + amount (membersOf g) ≡ total g + spare g) × (1 ≤ amount (membersOf g))
+of-members (place p) z = (z, omega arith, omega arith)
+of-members (seq g h) z = (z, omega arith, omega arith)
+of-members (alt g h) z = (z, omega arith, omega arith)
+of-members (opt g) z = (z, omega arith, omega arith)
+of-members (plus g) z = (z, omega arith, omega arith)
+of-members (and m) z = (z .0, omega arith, omega (arith, z .1))
+
+-- A further token is joined.
+module _ (n k : ℕ) (t u : Tokens) (grows : Growing n k t) (some : 1 ≤ k) (room : k < GRPCNT) (counts : Counts (t .tokens + 1) u) where
+  abbrev Joined : Group → Type 0
+  Joined g = Sized g × (n + spare g + total g ≤ u .tokens) × (amount (membersOf g) ≤ k + 1)
+
+  joined-first : k ≤ 1 → Joined (and (also (one (t .group)) (u .group)))
+  joined-first l = (((grows .sized, counts .0), omega arith, omega arith), omega (arith, counts .1, grows .alone l), omega arith)
+
+  joined-further : 2 ≤ k → Joined (and (also (membersOf (t .group)) (u .group)))
+  joined-further l =
+      let (z, e, o) = of-members (t .group) (grows .sized) in
+      (((z, counts .0), omega arith, omega (arith, grows .few l)), omega (arith, e, counts .1, grows .counted), omega (arith, grows .few l))
+
+  joined-by : (b : ℕ) → Joined (join k b (t .group) (u .group))
+  joined-by b =
+      whichever Joined (eqb b 44) (λ e. ((grows .sized, counts .0), omega (arith, counts .1, grows .counted), omega arith))
+      (λ e. whichever Joined (eqb b 124) (λ f. ((grows .sized, counts .0), omega (arith, counts .1, grows .counted), omega arith))
+      (λ f. whichever (λ (z : Members). Joined (and (also z (u .group)))) (leb k 1) (λ i. joined-first (leb-true k 1 i)) (λ i. joined-further (leb-false k 1 i))))
+
+or-first : (a b : Bool) → a || b ≡ false → a ≡ false
+or-first true b e = e
+or-first false b e = refl
+
+-- Groups
+
+module _ (c : Settings) (s : List ℕ) where
+  abbrev InnerCounts : (ℕ → List Place → ℕ → Reading Tokens) → Type 0
+  InnerCounts inner = (at : ℕ) (ps : List Place) (n : ℕ) → Gives (Counts n) (inner at ps n)
+
+  abbrev FurtherGrows : (n k : ℕ) → Further → Type 0
+  FurtherGrows n k (closed t) = Counts n t
+  FurtherGrows n k (joined b t) = Growing n (k + 1) t
+
+  module _ (inner : ℕ → List Place → ℕ → Reading Tokens) (inner-counts : InnerCounts inner) where
+    token-counts : (at : ℕ) (full : Bool) (ps : List Place) (n : ℕ) → Gives (λ (t : Tokens). (full ≡ false) × Counts (n + 1) t) (token c inner s at full ps n)
+    token-counts at full ps n =
+        token-holds s c inner at full ps n (λ m k h. tt)
+        (λ x l e. (x, occurrence-counts (n + 1) s _ (refl, omega arith)))
+        (λ x l. (x, (refl, omega arith)))
+        (λ x l. on (inner-counts at ps (n + 1)) (λ t y. reads (x, occurrence-counts (n + 1) s t y)))
+
+    further-grows : (n k joint : ℕ) (t : Tokens) → 1 ≤ k → Growing n k t → Gives (FurtherGrows n k) (further c inner s k joint t)
+    further-grows n k joint t some grows =
+        further-holds s c inner k joint t (λ m k h. tt)
+        (λ i l h. (grows .sized, omega (arith, grows .counted)))
+        (λ b i j q f m l h. on (token-counts j (leb GRPCNT k || leb GRPGTCNT (t .tokens)) (t .places) (t .tokens))
+        (λ u x.
+        let y = joined-by n k t u grows some (leb-false GRPCNT k (or-first (leb GRPCNT k) (leb GRPGTCNT (t .tokens)) (x .0))) (x .1) b in
+        reads (record { sized = y .0; alone = λ l. absurd (omega arith); counted = y .1; few = λ l. y .2 })))
+
+    members-count : (n left k joint : ℕ) (t : Tokens) → 1 ≤ k → Growing n k t → Gives (Counts n) (members c inner s left k joint t)
+    unfolding members
+    members-count n zero k joint t some grows = stops {n = 6} {k = t .at} tt
+    members-count n (suc left) k joint t some grows = on (further-grows n k joint t some grows) (by-further (λ b u v. members-count n left (k + 1) b u (omega arith) v))
+      where
+        by-further : ((b : ℕ) (u : Tokens) → Growing n (k + 1) u → Gives (Counts n) (members c inner s left (k + 1) b u))
+            → (x : Further) → FurtherGrows n k x → Gives (Counts n) (elim x [ closed u ↦ got u | joined b u ↦ members c inner s left (k + 1) b u ])
+        by-further ih (closed u) v = reads v
+        by-further ih (joined b u) v = ih b u v
+
+  group-counts : (levels : ℕ) → InnerCounts (group c levels s)
+  unfolding group
+  group-counts zero at ps n = stops {n = 6} {k = at} tt
+  group-counts (suc levels) at ps n =
+      on (token-counts (group c levels s) (group-counts levels) _ (leb GRPGTCNT n) ps n)
+      (λ t x.
+      members-count (group c levels s) (group-counts levels) n GRPCNT 1 0 t (omega arith)
+      (record { sized = x .1 .0; alone = λ l. x .1 .1; counted = omega (arith, x .1 .1, spare-one (t .group)); few = λ l. absurd (omega arith) }))
+
+  -- A content, read from i on.
+  abbrev CountedIn : Content → Type 0
+  CountedIn empty = Unit {0}
+  CountedIn (model g ps n) = Sized g × (total g ≤ n)
+
+  content-counts : (from i : ℕ) → Gives (λ (x : ContentEnd). CountedIn (x .content)) (content c s from i)
+  unfolding content contentModel contentWord
+  content-counts from i =
+      either (eqb (byteAt s i) 40)
+      (λ x. on (group-counts GRPLVL i [] 0) (λ t y. let z = occurrence-counts 0 s t y in reads (z .0, omega (arith, z .1))))
+      (λ x. either (letter (byteAt s i))
+      (λ y. either (ltb (c .nameLength) (nameEnd s i - i)) (λ z. stops tt)
+      (λ z. either (ltb from i && isWord s i (nameEnd s i) EMPTY) (λ u. reads tt)
+      (λ u. either (isWord s i (nameEnd s i) ANY || isWord s i (nameEnd s i) CDATA || isWord s i (nameEnd s i) RCDATA) (λ v. stops tt)
+      (λ v. either (ltb from i && isCut s i (nameEnd s i) EMPTY) (λ w. stops tt) (λ w. stops tt)))))
+      (λ y. unfit-holds s i (λ n k h. tt)))
+
+  pub typeFile-members : (es : List Element) → typeFile c s ≡ got es → (k : ℕ) {g : Group} {ps : List Place} {n : ℕ} → contentOf es k ≡ model g ps n → Sized g × (total g ≤ 96)
+  typeFile-members es read k {g} {ps} {n} e =
+      let x : Sized g × (total g ≤ n) = subst CountedIn e (all k) in
+      let f : Fits s ps n = subst (ContentIn s) e (typeFile-content c s es read k) in
+      (x .0, omega (arith, x .1, f .few))
+    where
+      all : (k : ℕ) → CountedIn (contentOf es k)
+      all zero = (refl, omega arith)
+      all (suc k) = each-content CountedIn tt es (λ j h. let d = typeFile-made c s es read j h in got-so (content-counts (d .before) (d .begun)) (d .contentRead)) k
