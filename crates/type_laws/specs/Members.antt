@@ -1,18 +1,21 @@
--- The "&" groups of a type file that was read: each has two to 32 members, and a model has at most 96 of them in all, since each is a content token.
+-- The "&" groups of a type file that was read: each has two to 32 members, and a model has at most 96 of them in all, since each is a content token; where
+-- the text has no "&" there is none.
 use Prim.Native.Nat.{ℕ, zero, suc, _+_, _-_, _≤_, _<_}
-use mathlib.Core.Path.{_≡_, refl, subst}
+use mathlib.Core.Path.{_≡_, refl, sym, _∙_, subst}
 use mathlib.Core.Bool.{Bool, true, false, _&&_, _||_}
 use mathlib.Core.List.{List, []}
 use native.Mathlib.Omega.{arith}
+use lib.ListN.{length}
 use lib.Dec.{eqb, leb, ltb}
-use borrow.Author.Tests.{leb-true, leb-false}
+use borrow.Author.Tests.{eqb-true, leb-true, leb-false}
 use Rattle.rules.specs.Settings.{Settings}
-use Rattle.rules.specs.Bytes.{byteAt, letter, nameEnd, GRPCNT, GRPLVL, GRPGTCNT}
+use Rattle.rules.specs.Bytes.{byteAt, letter, nameEnd, GRPCNT, GRPLVL, GRPGTCNT, AND, SEQ, OR}
 use Rattle.rules.specs.Reading.{Reading, refused, got, andThen}
 use Rattle.rules.specs.Walk.{Group, place, seq, alt, opt, plus, and, Members, one, also}
-use Rattle.rules.specs.TypeFile.{isWord, isCut, EMPTY, ANY, CDATA, RCDATA, Place, Tokens, occurrence, membersOf, join, oneMore, token, Further, closed, joined, further, members, group, Content, empty, model, ContentEnd, contentModel, contentWord, content, Element, typeFile}
+use Rattle.rules.specs.TypeFile.{isWord, isCut, EMPTY, ANY, CDATA, RCDATA, Place, Tokens, occurrence, isConnector, membersOf, join, oneMore, token, Further, closed, joined, further, members, group, Content, empty, model, ContentEnd, contentModel, contentWord, content, Element, typeFile}
 use Rattle.rules.specs.Elements.{contentOf}
 use Rattle.model_sets.specs.Bits.{bool-cases}
+use Rattle.and_laws.specs.Sets.{Plain}
 use Rattle.member_laws.specs.Members.{amount, total, totalM, Sized, SizedM}
 use Rattle.rules_laws.specs.Holds.{Holds, Gives, stops, reads, got-so, each, so, on, either, whichever}
 use Rattle.rules_laws.specs.Within.{Fits, ContentIn}
@@ -21,17 +24,21 @@ use Rattle.rules_laws.specs.Declarations.{Declares}
 use Rattle.type_laws.specs.Made.{each-content, typeFile-made}
 use Rattle.type_laws.specs.Width.{typeFile-content}
 
+-- No "&" stands in the text.
+abbrev pub Without : List ℕ → Type 0
+Without s = (i : ℕ) → i < length s → byteAt s i ≡ AND → ⊥
+
 -- What holds of tokens that were read behind n others: they count at least one more for each member.
-abbrev Counts : ℕ → Tokens → Type 0
-Counts n t = Sized (t .group) × (n + total (t .group) ≤ t .tokens)
+abbrev Counts : List ℕ → ℕ → Tokens → Type 0
+Counts s n t = Sized (t .group) × (n + total (t .group) ≤ t .tokens) × (Without s → Plain (t .group))
 
-indicated-counts : (n : ℕ) (t : Tokens) {g : Group} {k : ℕ} → Indicated t g k → Counts n t → Sized g × (n + total g ≤ t .tokens)
-indicated-counts n t optional c = c
-indicated-counts n t repeated c = c
-indicated-counts n t any c = c
+indicated-counts : (s : List ℕ) (n : ℕ) (t : Tokens) {g : Group} {k : ℕ} → Indicated t g k → Counts s n t → Sized g × (n + total g ≤ t .tokens) × (Without s → Plain g)
+indicated-counts s n t optional c = c
+indicated-counts s n t repeated c = c
+indicated-counts s n t any c = c
 
-occurrence-counts : (n : ℕ) (s : List ℕ) (t : Tokens) → Counts n t → Counts n (occurrence s t)
-occurrence-counts n s t c = occurrence-holds (Counts n) s t c (λ g k i l. indicated-counts n t i c)
+occurrence-counts : (n : ℕ) (s : List ℕ) (t : Tokens) → Counts s n t → Counts s n (occurrence s t)
+occurrence-counts n s t c = occurrence-holds (Counts s n) s t c (λ g k i l. indicated-counts s n t i c)
 
 -- A group of which k tokens were read behind n others. One that is no "&" group has a token besides its members; an "&" group of several has at most k.
 abbrev spare : Group → ℕ
@@ -42,11 +49,12 @@ spare (opt g) = 1
 spare (plus g) = 1
 spare (and m) = 0
 
-record Growing (n k : ℕ) (t : Tokens) : Type 0 where
+record Growing (s : List ℕ) (n k : ℕ) (t : Tokens) : Type 0 where
   sized : Sized (t .group)
   alone : k ≤ 1 → n + 1 + total (t .group) ≤ t .tokens
   counted : n + spare (t .group) + total (t .group) ≤ t .tokens
   few : 2 ≤ k → amount (membersOf (t .group)) ≤ k
+  plain : Without s → Plain (t .group)
 
 spare-one : (g : Group) → spare g ≤ 1
 spare-one (place p) = omega arith
@@ -66,7 +74,7 @@ of-members (plus g) z = (z, omega arith, omega arith)
 of-members (and m) z = (z .0, omega arith, omega (arith, z .1))
 
 -- A further token is joined.
-module _ (n k : ℕ) (t u : Tokens) (grows : Growing n k t) (some : 1 ≤ k) (room : k < GRPCNT) (counts : Counts (t .tokens + 1) u) where
+module _ (s : List ℕ) (n k : ℕ) (t u : Tokens) (grows : Growing s n k t) (some : 1 ≤ k) (room : k < GRPCNT) (counts : Counts s (t .tokens + 1) u) where
   abbrev Joined : Group → Type 0
   Joined g = Sized g × (n + spare g + total g ≤ u .tokens) × (amount (membersOf g) ≤ k + 1)
 
@@ -84,6 +92,12 @@ module _ (n k : ℕ) (t u : Tokens) (grows : Growing n k t) (some : 1 ≤ k) (ro
       (λ e. whichever Joined (eqb b 124) (λ f. ((grows .sized, counts .0), omega (arith, counts .1, grows .counted), omega arith))
       (λ f. whichever (λ (z : Members). Joined (and (also z (u .group)))) (leb k 1) (λ i. joined-first (leb-true k 1 i)) (λ i. joined-further (leb-false k 1 i))))
 
+  -- Without "&" it is joined by another connector.
+  joined-plain : (b i : ℕ) → isConnector b ≡ true → b ≡ byteAt s i → i < length s → Without s → Plain (join k b (t .group) (u .group))
+  joined-plain b i q e l w =
+      whichever Plain (eqb b SEQ) (λ x. (grows .plain w, counts .2 w))
+      (λ x. whichever Plain (eqb b OR) (λ y. (grows .plain w, counts .2 w)) (λ y. absurd (w i l (sym e ∙ eqb-true b AND (rw (x, y) at q)))))
+
 or-first : (a b : Bool) → a || b ≡ false → a ≡ false
 or-first true b e = e
 or-first false b e = refl
@@ -92,36 +106,37 @@ or-first false b e = refl
 
 module _ (c : Settings) (s : List ℕ) where
   abbrev InnerCounts : (ℕ → List Place → ℕ → Reading Tokens) → Type 0
-  InnerCounts inner = (at : ℕ) (ps : List Place) (n : ℕ) → Gives (Counts n) (inner at ps n)
+  InnerCounts inner = (at : ℕ) (ps : List Place) (n : ℕ) → Gives (Counts s n) (inner at ps n)
 
   abbrev FurtherGrows : (n k : ℕ) → Further → Type 0
-  FurtherGrows n k (closed t) = Counts n t
-  FurtherGrows n k (joined b t) = Growing n (k + 1) t
+  FurtherGrows n k (closed t) = Counts s n t
+  FurtherGrows n k (joined b t) = Growing s n (k + 1) t
 
   module _ (inner : ℕ → List Place → ℕ → Reading Tokens) (inner-counts : InnerCounts inner) where
-    token-counts : (at : ℕ) (full : Bool) (ps : List Place) (n : ℕ) → Gives (λ (t : Tokens). (full ≡ false) × Counts (n + 1) t) (token c inner s at full ps n)
+    token-counts : (at : ℕ) (full : Bool) (ps : List Place) (n : ℕ) → Gives (λ (t : Tokens). (full ≡ false) × Counts s (n + 1) t) (token c inner s at full ps n)
     token-counts at full ps n =
         token-holds s c inner at full ps n (λ m k h. tt)
-        (λ x l e. (x, occurrence-counts (n + 1) s _ (refl, omega arith)))
-        (λ x l. (x, (refl, omega arith)))
+        (λ x l e. (x, occurrence-counts (n + 1) s _ (refl, omega arith, λ w. refl)))
+        (λ x l. (x, (refl, omega arith, λ w. refl)))
         (λ x l. on (inner-counts at ps (n + 1)) (λ t y. reads (x, occurrence-counts (n + 1) s t y)))
 
-    further-grows : (n k joint : ℕ) (t : Tokens) → 1 ≤ k → Growing n k t → Gives (FurtherGrows n k) (further c inner s k joint t)
+    further-grows : (n k joint : ℕ) (t : Tokens) → 1 ≤ k → Growing s n k t → Gives (FurtherGrows n k) (further c inner s k joint t)
     further-grows n k joint t some grows =
         further-holds s c inner k joint t (λ m k h. tt)
-        (λ i l h. (grows .sized, omega (arith, grows .counted)))
-        (λ b i j q f m l h. on (token-counts j (leb GRPCNT k || leb GRPGTCNT (t .tokens)) (t .places) (t .tokens))
+        (λ i l h. (grows .sized, omega (arith, grows .counted), grows .plain))
+        (λ b i j q e f m l h. on (token-counts j (leb GRPCNT k || leb GRPGTCNT (t .tokens)) (t .places) (t .tokens))
         (λ u x.
-        let y = joined-by n k t u grows some (leb-false GRPCNT k (or-first (leb GRPCNT k) (leb GRPGTCNT (t .tokens)) (x .0))) (x .1) b in
-        reads (record { sized = y .0; alone = λ l. absurd (omega arith); counted = y .1; few = λ l. y .2 })))
+        let room = leb-false GRPCNT k (or-first (leb GRPCNT k) (leb GRPGTCNT (t .tokens)) (x .0)) in
+        let y = joined-by s n k t u grows some room (x .1) b in
+        reads (record { sized = y .0; alone = λ l. absurd (omega arith); counted = y .1; few = λ l. y .2; plain = joined-plain s n k t u grows some room (x .1) b i q e m })))
 
-    members-count : (n left k joint : ℕ) (t : Tokens) → 1 ≤ k → Growing n k t → Gives (Counts n) (members c inner s left k joint t)
+    members-count : (n left k joint : ℕ) (t : Tokens) → 1 ≤ k → Growing s n k t → Gives (Counts s n) (members c inner s left k joint t)
     unfolding members
     members-count n zero k joint t some grows = stops {n = 6} {k = t .at} tt
     members-count n (suc left) k joint t some grows = on (further-grows n k joint t some grows) (by-further (λ b u v. members-count n left (k + 1) b u (omega arith) v))
       where
-        by-further : ((b : ℕ) (u : Tokens) → Growing n (k + 1) u → Gives (Counts n) (members c inner s left (k + 1) b u))
-            → (x : Further) → FurtherGrows n k x → Gives (Counts n) (elim x [ closed u ↦ got u | joined b u ↦ members c inner s left (k + 1) b u ])
+        by-further : ((b : ℕ) (u : Tokens) → Growing s n (k + 1) u → Gives (Counts s n) (members c inner s left (k + 1) b u))
+            → (x : Further) → FurtherGrows n k x → Gives (Counts s n) (elim x [ closed u ↦ got u | joined b u ↦ members c inner s left (k + 1) b u ])
         by-further ih (closed u) v = reads v
         by-further ih (joined b u) v = ih b u v
 
@@ -132,18 +147,18 @@ module _ (c : Settings) (s : List ℕ) where
       on (token-counts (group c levels s) (group-counts levels) _ (leb GRPGTCNT n) ps n)
       (λ t x.
       members-count (group c levels s) (group-counts levels) n GRPCNT 1 0 t (omega arith)
-      (record { sized = x .1 .0; alone = λ l. x .1 .1; counted = omega (arith, x .1 .1, spare-one (t .group)); few = λ l. absurd (omega arith) }))
+      (record { sized = x .1 .0; alone = λ l. x .1 .1; counted = omega (arith, x .1 .1, spare-one (t .group)); few = λ l. absurd (omega arith); plain = x .1 .2 }))
 
   -- A content, read from i on.
   abbrev CountedIn : Content → Type 0
   CountedIn empty = Unit {0}
-  CountedIn (model g ps n) = Sized g × (total g ≤ n)
+  CountedIn (model g ps n) = Sized g × (total g ≤ n) × (Without s → Plain g)
 
   content-counts : (from i : ℕ) → Gives (λ (x : ContentEnd). CountedIn (x .content)) (content c s from i)
   unfolding content contentModel contentWord
   content-counts from i =
       either (eqb (byteAt s i) 40)
-      (λ x. on (group-counts GRPLVL i [] 0) (λ t y. let z = occurrence-counts 0 s t y in reads (z .0, omega (arith, z .1))))
+      (λ x. on (group-counts GRPLVL i [] 0) (λ t y. let z = occurrence-counts 0 s t y in reads (z .0, omega (arith, z .1), z .2)))
       (λ x. either (letter (byteAt s i))
       (λ y. either (ltb (c .nameLength) (nameEnd s i - i)) (λ z. stops tt)
       (λ z. either (ltb from i && isWord s i (nameEnd s i) EMPTY) (λ u. reads tt)
@@ -151,12 +166,12 @@ module _ (c : Settings) (s : List ℕ) where
       (λ v. either (ltb from i && isCut s i (nameEnd s i) EMPTY) (λ w. stops tt) (λ w. stops tt)))))
       (λ y. unfit-holds s i (λ n k h. tt)))
 
-  pub typeFile-members : (es : List Element) → typeFile c s ≡ got es → (k : ℕ) {g : Group} {ps : List Place} {n : ℕ} → contentOf es k ≡ model g ps n → Sized g × (total g ≤ 96)
+  pub typeFile-members : (es : List Element) → typeFile c s ≡ got es → (k : ℕ) {g : Group} {ps : List Place} {n : ℕ} → contentOf es k ≡ model g ps n → Sized g × (total g ≤ 96) × (Without s → Plain g)
   typeFile-members es read k {g} {ps} {n} e =
-      let x : Sized g × (total g ≤ n) = subst CountedIn e (all k) in
+      let x : Sized g × (total g ≤ n) × (Without s → Plain g) = subst CountedIn e (all k) in
       let f : Fits s ps n = subst (ContentIn s) e (typeFile-content c s es read k) in
-      (x .0, omega (arith, x .1, f .few))
+      (x .0, omega (arith, x .1, f .few), x .2)
     where
       all : (k : ℕ) → CountedIn (contentOf es k)
-      all zero = (refl, omega arith)
+      all zero = (refl, omega arith, λ w. refl)
       all (suc k) = each-content CountedIn tt es (λ j h. let d = typeFile-made c s es read j h in got-so (content-counts (d .before) (d .begun)) (d .contentRead)) k
