@@ -3,7 +3,7 @@
 use Prim.Native.Nat.{ℕ, zero, suc, _+_, _-_, _≤_, _<_}
 use mathlib.Core.Path.{_≡_, refl, sym, _∙_, subst}
 use mathlib.Core.Bool.{Bool, true, false, _&&_, _||_}
-use mathlib.Core.List.{List, []}
+use mathlib.Core.List.{List, [], _∷_}
 use native.Mathlib.Omega.{arith}
 use lib.ListN.{length}
 use lib.Dec.{eqb, leb, ltb}
@@ -12,8 +12,9 @@ use Rattle.rules.specs.Settings.{Settings}
 use Rattle.rules.specs.Bytes.{byteAt, letter, nameEnd, GRPCNT, GRPLVL, GRPGTCNT, AND, SEQ, OR}
 use Rattle.rules.specs.Reading.{Reading, refused, got, andThen}
 use Rattle.rules.specs.Walk.{Group, place, seq, alt, opt, plus, and, Members, one, also}
-use Rattle.rules.specs.TypeFile.{isWord, isCut, EMPTY, ANY, CDATA, RCDATA, Place, Tokens, occurrence, isConnector, membersOf, join, oneMore, token, Further, closed, joined, further, members, group, Content, empty, model, ContentEnd, contentModel, contentWord, content, Element, typeFile}
-use Rattle.rules.specs.Elements.{contentOf}
+use Rattle.rules.specs.TypeFile.{isWord, isCut, EMPTY, ANY, CDATA, RCDATA, Place, Tokens, occurrence, isConnector, membersOf, join, oneMore, joinTokens, token, Further, closed, joined, further, members, group, Content, empty, model, ContentEnd, contentModel, contentWord, content, Element, typeFile}
+use Rattle.rules.specs.Judge.{firstRepeated}
+use Rattle.rules.specs.Elements.{elementAt, contentOf}
 use Rattle.model_sets.specs.Bits.{bool-cases}
 use Rattle.and_laws.specs.Sets.{Plain}
 use Rattle.member_laws.specs.Members.{amount, total, totalM, Sized, SizedM}
@@ -28,14 +29,18 @@ use Rattle.type_laws.specs.Width.{typeFile-content}
 abbrev pub Without : List ℕ → Type 0
 Without s = (i : ℕ) → i < length s → byteAt s i ≡ AND → ⊥
 
+-- The "&" that are told of them stand in the text.
+abbrev AndIn : List ℕ → Tokens → Type 0
+AndIn s t = (t .and ≤ length s) × (t .repeated ≤ length s)
+
 -- What holds of tokens that were read behind n others: they count at least one more for each member.
 abbrev Counts : List ℕ → ℕ → Tokens → Type 0
-Counts s n t = Sized (t .group) × (n + total (t .group) ≤ t .tokens) × (Without s → Plain (t .group))
+Counts s n t = Sized (t .group) × (n + total (t .group) ≤ t .tokens) × (Without s → Plain (t .group)) × AndIn s t
 
-indicated-counts : (s : List ℕ) (n : ℕ) (t : Tokens) {g : Group} {k : ℕ} → Indicated t g k → Counts s n t → Sized g × (n + total g ≤ t .tokens) × (Without s → Plain g)
-indicated-counts s n t optional c = c
-indicated-counts s n t repeated c = c
-indicated-counts s n t any c = c
+indicated-counts : (s : List ℕ) (n : ℕ) (t : Tokens) {g : Group} {k : ℕ} → Indicated t g k → Counts s n t → Sized g × (n + total g ≤ t .tokens) × (Without s → Plain g) × ((t .and ≤ length s) × (k ≤ length s))
+indicated-counts s n t optional (z, l, w, (a, r)) = (z, l, w, (a, r))
+indicated-counts s n t repeated (z, l, w, (a, r)) = (z, l, w, (a, a))
+indicated-counts s n t any (z, l, w, (a, r)) = (z, l, w, (a, a))
 
 occurrence-counts : (n : ℕ) (s : List ℕ) (t : Tokens) → Counts s n t → Counts s n (occurrence s t)
 occurrence-counts n s t c = occurrence-holds (Counts s n) s t c (λ g k i l. indicated-counts s n t i c)
@@ -55,6 +60,7 @@ record Growing (s : List ℕ) (n k : ℕ) (t : Tokens) : Type 0 where
   counted : n + spare (t .group) + total (t .group) ≤ t .tokens
   few : 2 ≤ k → amount (membersOf (t .group)) ≤ k
   plain : Without s → Plain (t .group)
+  within : AndIn s t
 
 spare-one : (g : Group) → spare g ≤ 1
 spare-one (place p) = omega arith
@@ -98,6 +104,13 @@ module _ (s : List ℕ) (n k : ℕ) (t u : Tokens) (grows : Growing s n k t) (so
       whichever Plain (eqb b SEQ) (λ x. (grows .plain w, counts .2 w))
       (λ x. whichever Plain (eqb b OR) (λ y. (grows .plain w, counts .2 w)) (λ y. absurd (w i l (sym e ∙ eqb-true b AND (rw (x, y) at q)))))
 
+  joined-within : (b i : ℕ) → i < length s → AndIn s (joinTokens k b i t u)
+  joined-within b i l =
+      let (z, m, w, (a, r)) = counts in (
+        whichever (λ (j : ℕ). j ≤ length s) (eqb (t .and) 0) (λ x. whichever (λ (j : ℕ). j ≤ length s) (eqb b AND) (λ y. omega arith) (λ y. a)) (λ x. grows .within .0),
+        whichever (λ (j : ℕ). j ≤ length s) (eqb (t .repeated) 0) (λ x. r) (λ x. grows .within .1),
+      )
+
 or-first : (a b : Bool) → a || b ≡ false → a ≡ false
 or-first true b e = e
 or-first false b e = refl
@@ -116,19 +129,19 @@ module _ (c : Settings) (s : List ℕ) where
     token-counts : (at : ℕ) (full : Bool) (ps : List Place) (n : ℕ) → Gives (λ (t : Tokens). (full ≡ false) × Counts s (n + 1) t) (token c inner s at full ps n)
     token-counts at full ps n =
         token-holds s c inner at full ps n (λ m k h. tt)
-        (λ x l e. (x, occurrence-counts (n + 1) s _ (refl, omega arith, λ w. refl)))
-        (λ x l. (x, (refl, omega arith, λ w. refl)))
+        (λ x l e. (x, occurrence-counts (n + 1) s _ (refl, omega arith, λ w. refl, (omega arith, omega arith))))
+        (λ x l. (x, (refl, omega arith, λ w. refl, (omega arith, omega arith))))
         (λ x l. on (inner-counts at ps (n + 1)) (λ t y. reads (x, occurrence-counts (n + 1) s t y)))
 
     further-grows : (n k joint : ℕ) (t : Tokens) → 1 ≤ k → Growing s n k t → Gives (FurtherGrows n k) (further c inner s k joint t)
     further-grows n k joint t some grows =
         further-holds s c inner k joint t (λ m k h. tt)
-        (λ i l h. (grows .sized, omega (arith, grows .counted), grows .plain))
+        (λ i l h. (grows .sized, omega (arith, grows .counted), grows .plain, grows .within))
         (λ b i j q e f m l h. on (token-counts j (leb GRPCNT k || leb GRPGTCNT (t .tokens)) (t .places) (t .tokens))
         (λ u x.
         let room = leb-false GRPCNT k (or-first (leb GRPCNT k) (leb GRPGTCNT (t .tokens)) (x .0)) in
         let y = joined-by s n k t u grows some room (x .1) b in
-        reads (record { sized = y .0; alone = λ l. absurd (omega arith); counted = y .1; few = λ l. y .2; plain = joined-plain s n k t u grows some room (x .1) b i q e m })))
+        reads (record { sized = y .0; alone = λ l. absurd (omega arith); counted = y .1; few = λ l. y .2; plain = joined-plain s n k t u grows some room (x .1) b i q e m; within = joined-within s n k t u grows some room (x .1) b i m })))
 
     members-count : (n left k joint : ℕ) (t : Tokens) → 1 ≤ k → Growing s n k t → Gives (Counts s n) (members c inner s left k joint t)
     unfolding members
@@ -147,21 +160,21 @@ module _ (c : Settings) (s : List ℕ) where
       on (token-counts (group c levels s) (group-counts levels) _ (leb GRPGTCNT n) ps n)
       (λ t x.
       members-count (group c levels s) (group-counts levels) n GRPCNT 1 0 t (omega arith)
-      (record { sized = x .1 .0; alone = λ l. x .1 .1; counted = omega (arith, x .1 .1, spare-one (t .group)); few = λ l. absurd (omega arith); plain = x .1 .2 }))
+      (record { sized = x .1 .0; alone = λ l. x .1 .1; counted = omega (arith, x .1 .1, spare-one (t .group)); few = λ l. absurd (omega arith); plain = x .1 .2; within = x .1 .3 }))
 
   -- A content, read from i on.
   abbrev CountedIn : Content → Type 0
   CountedIn empty = Unit {0}
   CountedIn (model g ps n) = Sized g × (total g ≤ n) × (Without s → Plain g)
 
-  content-counts : (from i : ℕ) → Gives (λ (x : ContentEnd). CountedIn (x .content)) (content c s from i)
+  content-counts : (from i : ℕ) → Gives (λ (x : ContentEnd). CountedIn (x .content) × (x .repeated ≤ length s)) (content c s from i)
   unfolding content contentModel contentWord
   content-counts from i =
       either (eqb (byteAt s i) 40)
-      (λ x. on (group-counts GRPLVL i [] 0) (λ t y. let z = occurrence-counts 0 s t y in reads (z .0, omega (arith, z .1), z .2)))
+      (λ x. on (group-counts GRPLVL i [] 0) (λ t y. let (z, l, w, (a, r)) = occurrence-counts 0 s t y in reads ((z, omega (arith, l), w), r)))
       (λ x. either (letter (byteAt s i))
       (λ y. either (ltb (c .nameLength) (nameEnd s i - i)) (λ z. stops tt)
-      (λ z. either (ltb from i && isWord s i (nameEnd s i) EMPTY) (λ u. reads tt)
+      (λ z. either (ltb from i && isWord s i (nameEnd s i) EMPTY) (λ u. reads (tt, omega arith))
       (λ u. either (isWord s i (nameEnd s i) ANY || isWord s i (nameEnd s i) CDATA || isWord s i (nameEnd s i) RCDATA) (λ v. stops tt)
       (λ v. either (ltb from i && isCut s i (nameEnd s i) EMPTY) (λ w. stops tt) (λ w. stops tt)))))
       (λ y. unfit-holds s i (λ n k h. tt)))
@@ -174,4 +187,13 @@ module _ (c : Settings) (s : List ℕ) where
     where
       all : (k : ℕ) → CountedIn (contentOf es k)
       all zero = (refl, omega arith, λ w. refl)
-      all (suc k) = each-content CountedIn tt es (λ j h. let d = typeFile-made c s es read j h in got-so (content-counts (d .before) (d .begun)) (d .contentRead)) k
+      all (suc k) = each-content CountedIn tt es (λ j h. let d = typeFile-made c s es read j h in got-so (content-counts (d .before) (d .begun)) (d .contentRead) .0) k
+
+  -- Where 25 stands is in the text.
+  pub typeFile-repeated : (es : List Element) → typeFile c s ≡ got es → firstRepeated es ≤ length s
+  unfolding firstRepeated elementAt
+  typeFile-repeated es read = go es (λ k h. let d = typeFile-made c s es read k h in got-so (content-counts (d .before) (d .begun)) (d .contentRead) .1)
+    where
+      go : (fs : List Element) → ((k : ℕ) → k < length fs → elementAt fs k .repeated ≤ length s) → firstRepeated fs ≤ length s
+      go [] f = omega arith
+      go (e ∷ fs) f = bool-cases (eqb (e .repeated) 0) (λ x. rw (x, firstRepeated) (go fs (λ k h. f (suc k) (omega arith)))) (λ x. rw (x, firstRepeated) (f 0 (omega arith)))
