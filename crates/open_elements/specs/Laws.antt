@@ -19,8 +19,8 @@ use Rattle.layout.specs.declared.Place.{Place}
 use Rattle.layout.specs.declared.ElementNo.{ElementNo}
 use Rattle.layout.specs.Typed.{placeNo, elementNo}
 use Rattle.document_laws.specs.Decide.{isCompleteIn, requiredOf}
-use Rattle.last_places.specs.Last.{lastOnly, allLast, short, InRange, Sound}
-use Rattle.last_places.specs.Short.{last-placed}
+use Rattle.turn_laws.specs.Last.{lastOnly, allLast, short, InRange, Sound}
+use Rattle.turn_laws.specs.Short.{last-placed}
 use Rattle.type_tables.specs.Means.{standing, width, completeAt, requiredAt, Rows, Requires}
 use Rattle.type_tables.specs.Ranges.{required-kept, required-small}
 use Rattle.open_elements.specs.declared.Entry.{Entry}

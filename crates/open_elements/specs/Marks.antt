@@ -22,9 +22,9 @@ use Rattle.document_laws.specs.Decide.{isCompleteIn, requiredOf, decided}
 use Rattle.document_laws.specs.Laws.{accepted-decided}
 use Rattle.document_laws.specs.Same.{Begun, AllBegun, Passes, passes-begun, passes-same}
 use Rattle.type_laws.specs.Width.{typeFile-width}
-use Rattle.last_places.specs.Last.{placed, lastOnly, allLast, short}
-use Rattle.last_places.specs.Short.{last-placed}
-use Rattle.last_places.specs.Turns.{Reaches}
+use Rattle.turn_laws.specs.Last.{placed, lastOnly, allLast, short}
+use Rattle.turn_laws.specs.Short.{last-placed}
+use Rattle.turn_laws.specs.Turns.{Reaches}
 use Rattle.open_elements.specs.declared.Entry.{Entry}
 use Rattle.open_elements.specs.declared.Open.{Open}
 use Rattle.open_elements.specs.Means as kept
