@@ -224,13 +224,13 @@ module _ {c : Settings} {s : List ℕ} {room : ℕ} {a : Answer} where
   refuses-twenty-five (ambiguous l es r v k p q f e) h = absurd (omega (arith, rw e at h))
   refuses-twenty-five (noRoom l es r v u f e) h = absurd (omega (arith, rw e at h))
 
-  refuses-nine : Refuses c s room a → a .number ≡ 9 → Legible c s × (es : List Element) × (typeFile c s ≡ got es) × FirstAmbiguous s (a .position) (a .first) (a .second) es
+  refuses-nine : Refuses c s room a → a .number ≡ 9 → Legible c s × (es : List Element) × (typeFile c s ≡ got es) × (firstRepeated es ≡ 0) × FirstAmbiguous s (a .position) (a .first) (a .second) es
   refuses-nine (notOffered o e) h = absurd (omega (arith, rw e at h))
   refuses-nine (tooLong o l e) h = absurd (omega (arith, rw e at h))
   refuses-nine (notAllowed o l d e) h = absurd (omega (arith, rw e at h))
   refuses-nine (malformed l n k r e) h = absurd (omega (arith, rw e at h, typeFile-within c s n k r))
   refuses-nine (repeated l es r v e) h = absurd (omega (arith, rw e at h))
-  refuses-nine (ambiguous l es r v k p q f e) h = rw e (l, es, r, f)
+  refuses-nine (ambiguous l es r v k p q f e) h = rw e (l, es, r, v, f)
   refuses-nine (noRoom l es r v u f e) h = absurd (omega (arith, rw e at h))
 
   refuses-nineteen : Refuses c s room a → a .number ≡ 19 → (es : List Element) × Accepts c s es × (room < 6 * length es)
@@ -259,7 +259,7 @@ module _ {l : Lent} {c : Settings} {s before : List ℕ} {a : Answer} {after : L
   pub settled-twenty-five : Judged l c s before a after → a .number ≡ 25 → Legible c s × (es : List Element) × (typeFile c s ≡ got es) × (1 ≤ firstRepeated es) × (a .position ≡ firstRepeated es)
   settled-twenty-five x h = refuses-twenty-five (settled-refuses x (λ z. omega arith) .0) h
 
-  pub settled-nine : Judged l c s before a after → a .number ≡ 9 → Legible c s × (es : List Element) × (typeFile c s ≡ got es) × FirstAmbiguous s (a .position) (a .first) (a .second) es
+  pub settled-nine : Judged l c s before a after → a .number ≡ 9 → Legible c s × (es : List Element) × (typeFile c s ≡ got es) × (firstRepeated es ≡ 0) × FirstAmbiguous s (a .position) (a .first) (a .second) es
   settled-nine x h = refuses-nine (settled-refuses x (λ z. omega arith) .0) h
 
   pub settled-nineteen : Judged l c s before a after → a .number ≡ 19 → (es : List Element) × Accepts c s es × (room l before < 6 * length es)

@@ -99,7 +99,7 @@ module _ {c : Settings} {s d : List ℕ} {room : ℕ} {a : Answer} where
       absurd (⊎-elim (λ j. omega (arith, rw e at h)) (λ j. omega (arith, rw e at h)) (document-within c s es (r .decisions) d n k (r .reading) .0))
   both-twenty-five (noRoom es ev r f e) h = absurd (omega (arith, rw e at h))
 
-  both-nine : RefusesBoth c s d room a → a .number ≡ 9 → BothLegible c s d × (es : List Element) × (typeFile c s ≡ got es) × FirstAmbiguous s (a .position) (a .first) (a .second) es
+  both-nine : RefusesBoth c s d room a → a .number ≡ 9 → BothLegible c s d × (es : List Element) × (typeFile c s ≡ got es) × (firstRepeated es ≡ 0) × FirstAmbiguous s (a .position) (a .first) (a .second) es
   both-nine (notOffered o e) h = absurd (omega (arith, rw e at h))
   both-nine (typeTooLong o l e) h = absurd (omega (arith, rw e at h))
   both-nine (documentTooLong o l m e) h = absurd (omega (arith, rw e at h))
@@ -107,7 +107,7 @@ module _ {c : Settings} {s d : List ℕ} {room : ℕ} {a : Answer} where
   both-nine (documentNotAllowed l m x e) h = absurd (omega (arith, rw e at h))
   both-nine (malformed l n k r e) h = absurd (omega (arith, rw e at h, typeFile-within c s n k r))
   both-nine (repeated l es r v e) h = absurd (omega (arith, rw e at h))
-  both-nine (ambiguous l es r v k p q f e) h = rw e (l, es, r, f)
+  both-nine (ambiguous l es r v k p q f e) h = rw e (l, es, r, v, f)
   both-nine (unsettled es n k r e) h =
       absurd (⊎-elim (λ j. omega (arith, rw e at h)) (λ j. omega (arith, rw e at h)) (document-within c s es (r .decisions) d n k (r .reading) .0))
   both-nine (noRoom es ev r f e) h = absurd (omega (arith, rw e at h))
@@ -176,7 +176,7 @@ module _ {l : Lent} {c : Settings} {s d before : List ℕ} {a : Answer} {after :
   pub given-twenty-five : ReadAs l c s d before a after → a .number ≡ 25 → BothLegible c s d × (es : List Element) × (typeFile c s ≡ got es) × (1 ≤ firstRepeated es) × (a .position ≡ firstRepeated es)
   given-twenty-five x h = both-twenty-five (given-refuses x (λ z. omega arith) .0) h
 
-  pub given-nine : ReadAs l c s d before a after → a .number ≡ 9 → BothLegible c s d × (es : List Element) × (typeFile c s ≡ got es) × FirstAmbiguous s (a .position) (a .first) (a .second) es
+  pub given-nine : ReadAs l c s d before a after → a .number ≡ 9 → BothLegible c s d × (es : List Element) × (typeFile c s ≡ got es) × (firstRepeated es ≡ 0) × FirstAmbiguous s (a .position) (a .first) (a .second) es
   given-nine x h = both-nine (given-refuses x (λ z. omega arith) .0) h
 
   pub given-nineteen : ReadAs l c s d before a after → a .number ≡ 19 → (es : List Element) × (ev : List Event) × Reads c s d es (got ev) × (room l before < eventWidth * length ev)

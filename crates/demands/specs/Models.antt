@@ -3,6 +3,7 @@ use Prim.Native.Nat.{ℕ, zero, suc, _+_, _-_, _≤_, _<_}
 use mathlib.Core.Path.{_≡_, refl, ap, subst, _∙_}
 use mathlib.Core.Logic.{_⊎_, inl, inr}
 use mathlib.Core.List.{List, [], _∷_, _++_, List·Memᴰ, List·Memᴰ·head, List·Memᴰ·tail}
+use native.Mathlib.Decide.{decLt}
 use native.Mathlib.Omega.{arith}
 use lib.ListN.{length}
 use Rattle.rules.specs.Settings.{Settings}
@@ -10,7 +11,7 @@ use Rattle.rules.specs.Reading.{got}
 use Rattle.rules.specs.Walk.{Group, MayComeNext}
 use Rattle.rules.specs.Ambiguity.{PairAtFault}
 use Rattle.rules.specs.TypeFile.{Place, Content, empty, model, Element, typeFile}
-use Rattle.rules.specs.Judge.{placeAt, samePlace, Answer, Unambiguous, AllUnambiguous, PairStandsAt, FirstAmbiguous, here, later}
+use Rattle.rules.specs.Judge.{placeAt, samePlace, Answer, Unambiguous, AllUnambiguous, PairStandsAt, FirstAmbiguous, here, later, firstRepeated}
 use Rattle.rules_laws.specs.In.{All, none, more, all-snoc, all-mem}
 use Rattle.rules_laws.specs.Holds.{got-so}
 use Rattle.rules_laws.specs.Groups.{Built, GuardedIn, content-read}
@@ -21,8 +22,9 @@ use Rattle.and_laws.specs.Sets.{walk-in}
 use Rattle.and_laws.specs.Numbers.{Guarded, has-range}
 use Rattle.and_laws.specs.First.{firstPairOf, firstPairOf-none, firstPairOf-is}
 use Rattle.document_laws.specs.Decide.{AllGuarded}
-use Rattle.document_laws.specs.Numbers.{Counted, counted-builds}
-use Rattle.demands.specs.Words.{ModelOf, NamesFirst}
+use Rattle.document_laws.specs.Numbers.{Counted, counted-builds, typeFile-guarded}
+use Rattle.type_laws.specs.Members.{typeFile-unguarded}
+use Rattle.demands.specs.Words.{ModelOf, SomeRepeated, NamesFirst}
 use Rattle.answer_laws.specs.Judge.{stands-model, model-exactly, not-ambiguous}
 
 -- The places of a model that was read are numbered from 1, left to right, and as many as were written down.
@@ -49,6 +51,39 @@ module _ (c : Settings) (s : List ℕ) where
     where
       next-place : (g : Group) → Numbered g 1 → (taken : List ℕ) (p : ℕ) → MayComeNext g taken p → (1 ≤ p) × (p < 1 + size g)
       next-place g i taken p (t, w) = has-range g 1 i p (walk-in g ((taken ++ p ∷ []) ++ t) w p (mem-left (taken ++ p ∷ []) t p (mem-right taken (p ∷ []) p (mem-head p []))))
+
+  -- Number 25 and what the models have.
+
+  pub some-repeated : (es : List Element) → typeFile c s ≡ got es → 1 ≤ firstRepeated es → SomeRepeated es
+  some-repeated es r l =
+      let (e, m, x) = typeFile-unguarded c s es r l in
+      by-content e m (e .content) refl x
+    where
+      by-content : (e : Element) → List·Memᴰ e es → (x : Content) → e .content ≡ x → (GuardedIn (e .content) → ⊥) → SomeRepeated es
+      by-content e m empty i x = absurd (x (rw i tt))
+      by-content e m (model g ps n) i x = (g, ps, (e, n, m, i), λ d. x (rw i d))
+
+  -- Where none is told every model is guarded.
+  pub unrepeated-none : (es : List Element) → typeFile c s ≡ got es → firstRepeated es ≡ 0 → SomeRepeated es → ⊥
+  unrepeated-none es r o (g, ps, (e, n, m, i), x) = x (rw i at (guarded-member es (typeFile-guarded c s es r o) m))
+    where
+      guarded-member : (fs : List Element) → AllGuarded fs → {e : Element} → List·Memᴰ e fs → GuardedIn (e .content)
+      guarded-member (f ∷ fs) d (List·Memᴰ·head e) = rw e (d .0)
+      guarded-member (f ∷ fs) d (List·Memᴰ·tail m) = guarded-member fs (d .1) m
+
+  pub none-repeated : (es : List Element) → typeFile c s ≡ got es → (SomeRepeated es → ⊥) → firstRepeated es ≡ 0
+  none-repeated es r o = go (decLt 0 (firstRepeated es))
+    where
+      go : Dec (0 < firstRepeated es) → firstRepeated es ≡ 0
+      go (yes l) = absurd (o (some-repeated es r l))
+      go (no n) = omega arith
+
+  pub repeated-some : (es : List Element) → typeFile c s ≡ got es → SomeRepeated es → 1 ≤ firstRepeated es
+  repeated-some es r x = go (decLt 0 (firstRepeated es))
+    where
+      go : Dec (0 < firstRepeated es) → 1 ≤ firstRepeated es
+      go (yes l) = l
+      go (no n) = absurd (unrepeated-none es r (omega arith) x)
 
 -- The first ambiguous model, and what stands before and behind it.
 
