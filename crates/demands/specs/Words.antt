@@ -7,12 +7,11 @@ use lib.ListN.{length}
 use Rattle.rules.specs.Settings.{Settings}
 use Rattle.rules.specs.Lent.{Lent, standing, room, filledWith, zeroed}
 use Rattle.rules.specs.Reading.{got}
-use Rattle.rules.specs.Walk.{Group, Begins}
+use Rattle.rules.specs.Walk.{Group, Guarded, Begins}
 use Rattle.rules.specs.Ambiguity.{SpellSame, Ambiguous, FirstPair}
 use Rattle.rules.specs.TypeFile.{Place, model, Element, typeFile}
 use Rattle.rules.specs.Judge.{placeAt, samePlace, Answer, acceptance, records, Accepts}
 use Rattle.rules.specs.Events.{Event, eventWidth}
-use Rattle.and_laws.specs.Numbers.{Guarded}
 use Rattle.rules.specs.Reader.{eventNumbers, Reads}
 
 -- The type judge
