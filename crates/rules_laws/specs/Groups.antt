@@ -257,7 +257,7 @@ module _ (c : Settings) (s : List ℕ) {T : List Place → Group → List Place 
       (λ e. whichever (λ (z : Group). T ps z rs) (eqb b 124) (λ f. build .choice x y)
       (λ f. whichever (λ (z : Members). T ps (and (also z h)) rs) (leb k 1) (λ i. build .anyOrder x y) (λ i. member-more g x y)))
 
-  occurrence-read : {at : ℕ} {ps : List Place} (t : Tokens) → Read s T at ps t → Read s T at ps (occurrence s t)
+  pub occurrence-read : {at : ℕ} {ps : List Place} (t : Tokens) → Read s T at ps t → Read s T at ps (occurrence s t)
   occurrence-read {at} {ps} t r =
       occurrence-holds (Read s T at ps) s t r (λ g n i l. record { from = omega (arith, r .from); inside = omega arith; fits = r .fits; built = indicated i (r .built); some = omega arith; plain = λ e. indicated-plain t i (r .plain e); guarded = indicated-guarded t i (r .plain) (r .guarded) })
 
