@@ -18,7 +18,7 @@ use Rattle.numbers.specs.Laws.{eventNumbers-length, lent-length}
 use Rattle.rules_laws.specs.Within.{typeFile-within}
 use Rattle.document_laws.specs.Laws.{reads-some, reads-one}
 use Rattle.document_laws.specs.Answers.{read-as-one}
-use Rattle.last_places.specs.Within.{DocumentNumber, document-within}
+use Rattle.turn_laws.specs.Within.{DocumentNumber, document-within}
 use Rattle.answer_laws.specs.Judge.{first-one, first-all, first-in, read-fair}
 
 -- Two answers to the same two inputs are the same: that a type has one first ambiguous model is the judge's half.

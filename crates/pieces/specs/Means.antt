@@ -12,7 +12,7 @@ use Rattle.rules.specs.Elements.{numberOf}
 use Rattle.rules.specs.Decisions.{pcdata}
 use Rattle.document_laws.specs.Decide.{decided}
 use Rattle.rules_laws.specs.Runs.{isRun, runEnd}
-use Rattle.last_places.specs.Last.{placed}
+use Rattle.turn_laws.specs.Last.{placed}
 use Rattle.pieces.specs.declared.Piece.{Piece}
 use Rattle.pieces.specs.declared.Piece.the-variants as found
 

@@ -20,7 +20,7 @@ use Rattle.rules_laws.specs.Holds.{got-so}
 use Rattle.rules_laws.specs.Pieces.{TagRead, piece-read, piece-short}
 use Rattle.rules_laws.specs.Runs.{isRun, runEnd, runEnd-in}
 use Rattle.tags.specs.declared.Tag as text
-use Rattle.last_places.specs.Last.{placed}
+use Rattle.turn_laws.specs.Last.{placed}
 use Rattle.pieces.specs.declared.Piece.{Piece}
 use Rattle.pieces.specs.declared.Piece.the-variants as found
 use Rattle.pieces.specs.Means.{Names, Ignored, separates, undeclaredStart, undeclaredEnd, Runs, ToSettle, starts, Finds, Onward}

@@ -21,7 +21,7 @@ ghost use lib.ListN.{length};
 ghost use Rattle.rules.specs.Settings.{settings, mostNameLength};
 ghost use Rattle.rules.specs.TypeFile.{Element};
 ghost use Rattle.rules.specs.Elements.{numberOf};
-ghost use Rattle.last_places.specs.Last.{InRange};
+ghost use Rattle.turn_laws.specs.Last.{InRange};
 ghost use Rattle.delimiters.specs.Means.{Classes};
 ghost use Rattle.element_index.specs.Means.{Indexed};
 ghost use Rattle.type_tables.specs.Means.{standing, Tables};

@@ -8,7 +8,7 @@ use Rattle.rules.specs.TypeFile.{Element}
 use Rattle.rules.specs.Events.{Event}
 use Rattle.rules.specs.Settling.{State, startElement}
 use Rattle.document_laws.specs.Decide.{decided}
-use Rattle.last_places.specs.Last.{takeRun}
+use Rattle.turn_laws.specs.Means.{takeRun}
 use Rattle.type_tables.specs.Means.{Tables}
 use Rattle.open_elements.specs.declared.Open.{Open}
 use Rattle.open_elements.specs.declared.Outcome.{Outcome}
