@@ -1,4 +1,6 @@
 -- What the open elements of the code stand for, in the rules' terms.
 pub mod Means
+pub mod Owed
 pub mod Laws
+pub mod Taken
 pub mod Marks

@@ -1,0 +1,105 @@
+-- The place that an element can take, and the marks that are made where it is taken.
+use Prim.Native.Nat.{ℕ, zero, suc, _+_, _-_, _≤_, _<_}
+use mathlib.Core.Path.{_≡_, refl, sym, _∙_, ap, subst}
+use mathlib.Core.Bool.{Bool, true, false, cond}
+use mathlib.Core.Logic.{⊎-elim}
+use mathlib.Core.List.{List, [], _∷_, _++_}
+use native.Mathlib.Omega.{arith}
+use borrow.Author.Tests.{eq-eqb, ne-eqb}
+use lib.ListN.{length, getD}
+use Rattle.rules.specs.TypeFile.{Content, empty, model, Element}
+use Rattle.rules.specs.Elements.{contentOf}
+use Rattle.rules.specs.Decisions.{Token}
+use Rattle.rules.specs.Settling as rules
+use Rattle.layout.specs.declared.Place.{Place}
+use Rattle.document_laws.specs.Decide.{fitsIn, requiredFor, decided}
+use Rattle.document_laws.specs.Laws.{accepted-decided}
+use Rattle.and_groups.specs.Means.{Takes}
+use Rattle.type_tables.specs.Means.{rowAt, completeAt, Tables, Entered, CanTake}
+use Rattle.open_elements.specs.Owed.{took-plain, took-among, can-range}
+use Rattle.open_elements.specs.Means.{Marking}
+
+-- What can be taken: the place as which a token fits, and the required place.
+module _ {s : List ℕ} {es : List Element} {rows places facts M begun : List ℕ} {level e u : ℕ} {o : rules.Open} (tables : Tables s es rows places facts M) (h : Entered es M begun level e u o) where
+  pub can-fit : (t : Token) → 1 ≤ rules.fitting s es (decided s es) o t → CanTake es o (rules.fitting s es (decided s es) o t)
+  unfolding fitsIn
+  can-fit t l = by-content (contentOf es (o .number)) refl
+    where
+      by-content : (c : Content) → contentOf es (o .number) ≡ c → CanTake es o (rules.fitting s es (decided s es) o t)
+      by-content empty i = absurd (omega (arith, rw (i, fitsIn) at l))
+      by-content (model g ps n) i =
+          record {
+            group = g;
+            places = ps;
+            tokens = n;
+            content = i;
+            next = accepted-decided s es (tables .accepted) .walks (o .number) i (o .taken) (h .begins (rw (h .number) at i)) .fits t .some l .next;
+          }
+
+  pub can-require : 1 ≤ rules.requiredPlace s es (decided s es) o → CanTake es o (rules.requiredPlace s es (decided s es) o)
+  unfolding requiredFor
+  can-require l = by-content (contentOf es (o .number)) refl
+    where
+      by-content : (c : Content) → contentOf es (o .number) ≡ c → CanTake es o (rules.requiredPlace s es (decided s es) o)
+      by-content empty i = absurd (omega (arith, rw (i, requiredFor) at l))
+      by-content (model g ps n) i =
+          record {
+            group = g;
+            places = ps;
+            tokens = n;
+            content = i;
+            next = accepted-decided s es (tables .accepted) .walks (o .number) i (o .taken) (h .begins (rw (h .number) at i)) .required .some l .next;
+          }
+
+  required-range : requiredFor (contentOf es e) (o .taken) ≤ 96
+  required-range = rw (h .number) at (by-place _ refl)
+    where
+      by-place : (p : ℕ) → rules.requiredPlace s es (decided s es) o ≡ p → rules.requiredPlace s es (decided s es) o ≤ 96
+      by-place zero i = omega arith
+      by-place (suc p) i = can-range tables (can-require (omega arith)) .1
+
+-- The marks
+
+-- They are kept by what one of two branches made of them.
+pub marking-same : {rows M before : List ℕ} {level e u p : ℕ} {after begun : List ℕ} {c d : Bool} {q : ℕ} {r : Place} → begun ≡ after → d ≡ c → r .0 ≡ q
+    → Marking rows M before level e u p after c q → Marking rows M before level e u p begun d (r .0)
+marking-same i j k m = rw (i, j, k) m
+
+module _ {rows M before : List ℕ} {level e u p kept : ℕ} (read : kept ≡ getD rows (rowAt e p + 13) 0) {c : Bool} (row : c ≡ completeAt rows e p) where
+  -- A model without "&": the row has them.
+  pub marking-plain : kept ≤ 96 → Marking rows M before level e u p before c kept
+  marking-plain l =
+      record {
+        small = l;
+        whole = refl;
+        elsewhere = λ k j other few. refl;
+        marks = λ s es places facts tables o entered can.
+            let (there, complete, required) = took-plain tables entered can read l in
+            (there, row ∙ complete, required);
+      }
+
+  module _ (large : 96 < kept) {after : List ℕ} {r : ℕ} (takes : Takes M level e u p before after r) where
+    -- A group lacks a member: nothing is complete there, and the place of that group is required.
+    pub marking-held : (r ≡ 255 → ⊥) → Marking rows M before level e u p after false r
+    marking-held n =
+        record {
+          small = ⊎-elim (λ i. absurd (n i)) (λ l. l) (takes .small);
+          whole = takes .whole;
+          elsewhere = takes .elsewhere;
+          marks = λ s es places facts tables o entered can.
+              let (there, complete, required) = took-among tables entered can read large takes in
+              (there, rw (ne-eqb r 255 n) at complete, rw (ne-eqb r 255 n) at required);
+        }
+
+    -- No group does: the row has the marks.
+    pub marking-free : r ≡ 255 → {q : ℕ} → q ≤ 96 → (kept ≤ 224 → q ≡ kept - 128) → Marking rows M before level e u p after c q
+    marking-free i l low =
+        record {
+          small = l;
+          whole = takes .whole;
+          elsewhere = takes .elsewhere;
+          marks = λ s es places facts tables o entered can.
+              let (there, complete, required) = took-among tables entered can read large takes in
+              let due = rw (eq-eqb r 255 i) at required in
+              (there, row ∙ (rw (eq-eqb r 255 i) at complete), low (omega (arith, due, required-range tables there)) ∙ due);
+        }
