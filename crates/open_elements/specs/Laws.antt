@@ -106,20 +106,20 @@ module _ (es : List Element) (M begun : List ℕ) (a : List Entry) where
   all-set k x (suc n) (o ∷ os) l h = (rw (getD-set-other a k n x none (λ e. omega arith)) (h .0), all-set k x n os (omega arith) (h .1))
 
   -- So does what begins at a level further in.
-  all-elsewhere : {level : ℕ} (after : List ℕ) → Elsewhere level begun after → (n : ℕ) (os : List rules.Open) → n ≤ level → AllKept es M begun a n os → AllKept es M after a n os
-  all-elsewhere after other zero [] l h = tt
-  all-elsewhere after other zero (o ∷ os) l h = absurd h
-  all-elsewhere after other (suc n) [] l h = absurd h
-  all-elsewhere after other (suc n) (o ∷ os) l h =
+  all-elsewhere : {s rows places facts : List ℕ} → Tables s es rows places facts M → {level : ℕ} (after : List ℕ) → Elsewhere level begun after → (n : ℕ) (os : List rules.Open) → n ≤ level → AllKept es M begun a n os → AllKept es M after a n os
+  all-elsewhere tables after other zero [] l h = tt
+  all-elsewhere tables after other zero (o ∷ os) l h = absurd h
+  all-elsewhere tables after other (suc n) [] l h = absurd h
+  all-elsewhere tables after other (suc n) (o ∷ os) l h =
       let k = h .0 in (
         record {
-          entered = entered-elsewhere (k .entered) other (λ e. omega arith);
+          entered = entered-elsewhere tables (k .entered) other (λ e. omega arith);
           complete = k .complete;
           required = k .required;
           document = k .document;
           inner = k .inner;
         },
-        all-elsewhere after other n os (omega arith) (h .1),
+        all-elsewhere tables after other n os (omega arith) (h .1),
       )
 
 -- Where one is open, the current one has a parent, which is the current one when that has ended.
@@ -206,7 +206,7 @@ taking-by {M = M} {before = before} {after = after} o m =
             whole = h .whole;
             few = h .few;
             current = record { entered = entered; complete = complete; required = required; document = h .current .document; inner = h .current .inner };
-            around = all-elsewhere es M before (o .around) after (m .elsewhere) (o .count) (z .around) (omega arith) (h .around);
+            around = all-elsewhere es M before (o .around) tables after (m .elsewhere) (o .count) (z .around) (omega arith) (h .around);
           };
     }
 

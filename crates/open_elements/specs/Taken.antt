@@ -1,4 +1,4 @@
--- The place that an element can take, and the marks that are made where it is taken.
+-- The marks that are made where a place is taken.
 use Prim.Native.Nat.{ℕ, zero, suc, _+_, _-_, _≤_, _<_}
 use mathlib.Core.Path.{_≡_, refl, sym, _∙_, ap, subst}
 use mathlib.Core.Bool.{Bool, true, false, cond}
@@ -16,47 +16,9 @@ use Rattle.document_laws.specs.Decide.{fitsIn, requiredFor, decided}
 use Rattle.document_laws.specs.Laws.{accepted-decided}
 use Rattle.and_groups.specs.Means.{Takes}
 use Rattle.type_tables.specs.Means.{rowAt, completeAt, Tables, Entered, CanTake}
-use Rattle.open_elements.specs.Owed.{took-plain, took-among, can-range}
+use Rattle.open_elements.specs.Owed.{required-range}
+use Rattle.open_elements.specs.Owing.{took-plain, took-among}
 use Rattle.open_elements.specs.Means.{Marking}
-
--- What can be taken: the place as which a token fits, and the required place.
-module _ {s : List ℕ} {es : List Element} {rows places facts M begun : List ℕ} {level e u : ℕ} {o : rules.Open} (tables : Tables s es rows places facts M) (h : Entered es M begun level e u o) where
-  pub can-fit : (t : Token) → 1 ≤ rules.fitting s es (decided s es) o t → CanTake es o (rules.fitting s es (decided s es) o t)
-  unfolding fitsIn
-  can-fit t l = by-content (contentOf es (o .number)) refl
-    where
-      by-content : (c : Content) → contentOf es (o .number) ≡ c → CanTake es o (rules.fitting s es (decided s es) o t)
-      by-content empty i = absurd (omega (arith, rw (i, fitsIn) at l))
-      by-content (model g ps n) i =
-          record {
-            group = g;
-            places = ps;
-            tokens = n;
-            content = i;
-            next = accepted-decided s es (tables .accepted) .walks (o .number) i (o .taken) (h .begins (rw (h .number) at i)) .fits t .some l .next;
-          }
-
-  pub can-require : 1 ≤ rules.requiredPlace s es (decided s es) o → CanTake es o (rules.requiredPlace s es (decided s es) o)
-  unfolding requiredFor
-  can-require l = by-content (contentOf es (o .number)) refl
-    where
-      by-content : (c : Content) → contentOf es (o .number) ≡ c → CanTake es o (rules.requiredPlace s es (decided s es) o)
-      by-content empty i = absurd (omega (arith, rw (i, requiredFor) at l))
-      by-content (model g ps n) i =
-          record {
-            group = g;
-            places = ps;
-            tokens = n;
-            content = i;
-            next = accepted-decided s es (tables .accepted) .walks (o .number) i (o .taken) (h .begins (rw (h .number) at i)) .required .some l .next;
-          }
-
-  required-range : requiredFor (contentOf es e) (o .taken) ≤ 96
-  required-range = rw (h .number) at (by-place _ refl)
-    where
-      by-place : (p : ℕ) → rules.requiredPlace s es (decided s es) o ≡ p → rules.requiredPlace s es (decided s es) o ≤ 96
-      by-place zero i = omega arith
-      by-place (suc p) i = can-range tables (can-require (omega arith)) .1
 
 -- The marks
 
