@@ -2,7 +2,7 @@
 use Prim.Native.Nat.{ℕ, zero, suc, _+_, _-_, _≤_, _<_}
 use mathlib.Core.Path.{_≡_}
 use mathlib.Core.Bool.{Bool, false}
-use mathlib.Core.List.{List, [], _∷_}
+use mathlib.Core.List.{List, [], _∷_, _++_}
 use lib.ListN.{length, getD, set, replicate}
 use Rattle.rules.specs.Reading.{Reading, refused, got}
 use Rattle.rules.specs.TypeFile.{Element}
@@ -92,6 +92,10 @@ pub record Ranged (o : Open) : Type 0 where
 
 -- What holds from token to token, by the tables of a type
 
+-- The rules' open element with the place p taken.
+abbrev pub taking : ℕ → rules.Open → rules.Open
+taking p o = record { number = o .number; taken = o .taken ++ p ∷ [] }
+
 -- What is kept of an open element at the level is that of the rules' open element o: the last of the places taken, the members that have begun, and the
 -- marks, which are what the definition says of the places taken. The document itself, and it alone, has the level 0.
 pub record Kept (es : List Element) (M begun : List ℕ) (level : ℕ) (x : Entry) (o : rules.Open) : Type 0 where
@@ -115,6 +119,15 @@ pub record Stands (es : List Element) (M begun : List ℕ) (o : Open) (z : State
   pub few : o .count ≤ 24
   pub current : Kept es M begun (o .count) (covered o) (z .current)
   pub around : AllKept es M begun (o .around) (o .count) (z .around)
+
+-- The place p is taken at the level in the element e, after the place u, and these are its marks. The bits of the other levels are as they were; by the tables
+-- of a type the marks are what the definition says of the places taken.
+pub record Marking (rows M before : List ℕ) (level e u p : ℕ) (after : List ℕ) (complete : Bool) (required : ℕ) : Type 0 where
+  pub small : required ≤ 96
+  pub whole : length after ≡ length before
+  pub elsewhere : Elsewhere level before after
+  pub marks : (s : List ℕ) (es : List Element) (places facts : List ℕ) → Tables s es rows places facts M → (o : rules.Open) → Entered es M before level e u o → CanTake es o p
+      → Entered es M after level e p (taking p o) × (complete ≡ isCompleteIn (contentOf es e) (o .taken ++ p ∷ [])) × (required ≡ requiredFor (contentOf es e) (o .taken ++ p ∷ []))
 
 -- The place p is taken in the current element: the state is as it was but for the place and its marks, and the bits but for those of this level. By the
 -- tables of a type it then stands for the rules' state with this place taken.
