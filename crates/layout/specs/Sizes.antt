@@ -58,3 +58,23 @@ FACT = CONTENTS + 3
 
 abbrev pub FACTS : ℕ
 FACTS = CONTENTS * FACT
+
+-- The members of "&" groups: of each content a number for each position and two for each member, and four for each group.
+abbrev pub GROUP : ℕ
+GROUP = 4
+
+abbrev pub AND-GROUPS : ℕ
+AND-GROUPS = 48
+
+abbrev pub MEMBER : ℕ
+MEMBER = 3 * POSITIONS + GROUP * (AND-GROUPS + 1)
+
+abbrev pub MEMBERS : ℕ
+MEMBERS = CONTENTS * MEMBER
+
+-- Which members have begun: of the document and of each of the 24 open elements 96 bits, three numbers; and one number more.
+abbrev pub BEGUN-WORDS : ℕ
+BEGUN-WORDS = 3
+
+abbrev pub BEGUN : ℕ
+BEGUN = 25 * BEGUN-WORDS + 1

@@ -9,7 +9,7 @@ use native.Mathlib.Decide.{ℕ-discrete}
 use lib.Dec.{eqb}
 use lib.ListN.{getD}
 use borrow.Author.Tests.{eqb-true}
-use Rattle.rules.specs.Walk.{Group, place, seq, alt, opt, plus, and, once, Walk, Begins}
+use Rattle.rules.specs.Walk.{Group, place, seq, alt, opt, plus, and, once, Walk, Begins, lastOr0}
 use Rattle.rules.specs.Ambiguity.{PairAtFault, FirstPair}
 use Rattle.rules.specs.Judge.{samePlace}
 use Rattle.layout.specs.Sizes.{MODEL-ROW, CODE}
@@ -20,7 +20,7 @@ use Rattle.and_laws.specs.Sets.{Plain}
 use Rattle.and_laws.specs.Numbers.{Guarded, numbered-good}
 use Rattle.and_laws.specs.Fold.{clash, some-walk}
 use Rattle.and_laws.specs.Pairs.{both-clash}
-use Rattle.and_laws.specs.Begun.{begins-none, lastOr0, lastOr0-snoc, next-of, next-last}
+use Rattle.and_laws.specs.Begun.{begins-none, lastOr0-snoc, next-of, next-last}
 use Rattle.and_laws.specs.First.{clash-row, firstPairOf, firstPairOf-none, firstPairOf-is}
 use Rattle.model_table.specs.Places.{none-follow}
 use Rattle.model_table.specs.Means.{Says}
