@@ -8,7 +8,7 @@ use Rattle.rules.specs.Walk.{Group, place, seq, alt, opt, plus, and, Members, o
 use Rattle.model_sets.specs.Bits.{or-left, or-right, not-true, not-both}
 use Rattle.model_sets.specs.Sets.{has, hasM, size, sizeM, Numbered, NumberedM, nullable, first, firstM, last, lastM, follow, followM}
 use Rattle.and_laws.specs.Base.{Apart}
-use Rattle.and_laws.specs.Sets.{Good, GoodM}
+use Rattle.and_laws.specs.Sets.{Good, GoodM, Plain}
 use Rattle.and_laws.specs.Rows.{last-has, lastM-has, follow-from, followM-from, follow-to, followM-to, and-no, and-yes, or-no}
 use Rattle.and_laws.specs.Unique.{first-has, firstM-has}
 
@@ -143,3 +143,38 @@ module _ (R : ℕ → ℕ → Bool) where
         added-marks (one h) g lo (n, k) (d, c, a) f,
       )
   marks (also m x) g lo (n, k) (d, c, a) f = (marks m x lo n d (rows-before (also m x) g a f), added-marks (also m x) g lo (n, k) (d, c, a) f)
+
+  -- It tells so within each "&" group.
+  abbrev mutual
+    pub AndRows : Group → Type 0
+    AndRows (place n) = n ≡ n
+    AndRows (seq g h) = AndRows g × AndRows h
+    AndRows (alt g h) = AndRows g × AndRows h
+    AndRows (opt g) = AndRows g
+    AndRows (plus g) = AndRows g
+    AndRows (and m) = RowsM m × AndRowsM m
+
+    pub AndRowsM : Members → Type 0
+    AndRowsM (one g) = AndRows g
+    AndRowsM (also m g) = AndRowsM m × AndRows g
+
+  plain-rows : (g : Group) → Plain g → AndRows g
+  plain-rows (place n) p = refl
+  plain-rows (seq g h) (p, q) = (plain-rows g p, plain-rows h q)
+  plain-rows (alt g h) (p, q) = (plain-rows g p, plain-rows h q)
+  plain-rows (opt g) p = plain-rows g p
+  plain-rows (plus g) p = plain-rows g p
+  plain-rows (and m) p = absurd p
+
+  mutual
+    pub and-rows : (g : Group) → Good g → Rows g → AndRows g
+    and-rows (place n) d f = refl
+    and-rows (seq g h) (d, k, a) f = (and-rows g d (rows-seq-left g h a f), and-rows h k (rows-seq-right g h a f))
+    and-rows (alt g h) (d, k, a) f = (and-rows g d (rows-alt-left g h a f), and-rows h k (rows-alt-right g h a f))
+    and-rows (opt g) d f = and-rows g d f
+    and-rows (plus g) (d, p) f = plain-rows g p
+    and-rows (and m) d f = (f, andM-rows m d f)
+
+    andM-rows : (m : Members) → GoodM m → RowsM m → AndRowsM m
+    andM-rows (one g) d f = and-rows g d f
+    andM-rows (also m g) (d, k, a) f = (andM-rows m d (rows-before m g a f), and-rows g k (rows-added m g a f))

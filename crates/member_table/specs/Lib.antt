@@ -4,3 +4,6 @@ pub mod Counting
 pub mod Beside
 pub mod Puts
 pub mod Joined
+pub mod Chains
+pub mod Running
+pub mod Closing
