@@ -80,6 +80,10 @@ pub amount-one : (m : Members) → 1 ≤ amount m
 amount-one (one g) = omega arith
 amount-one (also m g) = omega arith
 
+pub amount-size : (m : Members) → amount m ≤ sizeM m
+amount-size (one g) = size-one g
+amount-size (also m g) = omega (arith, amount-size m, size-one g)
+
 module _ (stack : List Piece) (first : ℕ) where
   pub needed-is : (m : Members) (lo : ℕ) → Pieces stack first m lo → neededIn stack first (amount m) ≡ needs m
   needed-is (one g) lo p = ap (λ (a : Piece). 0 + cond (a .null) 0 1) p ∙ bool-cases (nullable g) (λ e. rw e) (λ e. rw e)

@@ -7,3 +7,5 @@ pub mod Joined
 pub mod Chains
 pub mod Running
 pub mod Closing
+pub mod Fills
+pub mod Tells
