@@ -16,7 +16,7 @@ use Rattle.and_laws.specs.Ranked.{Level}
 use Rattle.and_laws.specs.Rows.{lastM-has}
 use Rattle.member_laws.specs.Members.{amount, needs, spares, numberFor, numberIn, Each, groupAt, dueAt, recordAt, firstAt, neededAt, sizeAt, outerAt, Grouped, Chain}
 use Rattle.member_table.specs.Joined.{amount-is, each-map, InRange}
-use Rattle.member_table.specs.Puts.{Slot}
+use Rattle.member_table.specs.Slots.{Slot}
 use Rattle.member_table.specs.Beside.{not-left, not-right}
 
 -- Two places in one member

@@ -21,10 +21,10 @@ use Rattle.member_laws.specs.Members.{amount, needs, spares, Each, groupAt, due
 use Rattle.member_table.specs.declared.Piece.{Piece}
 use Rattle.member_table.specs.Filling.{State, pieceAt, nonePiece, neededIn, closedPiece, recordFrom, putRecord, putGroup, putOnes, closeGroup}
 use Rattle.member_table.specs.Beside.{RowsM, EachMarks, second, marks, lastM-end}
-use Rattle.member_table.specs.Puts.{Slot}
+use Rattle.member_table.specs.Slots.{Slot}
 use Rattle.member_table.specs.Joined.{pieceOf, Pieces, amount-is, amount-one, needed-is, sizeM-one, each-map, rowsOf, Joined, joins}
 use Rattle.member_table.specs.Chains.{baseOf, Keeps, Closes}
-use Rattle.member_table.specs.Running.{Common, Ready}
+use Rattle.member_table.specs.States.{Common, Ready}
 
 -- The last number of the code
 

@@ -24,7 +24,7 @@ use Rattle.member_table.specs.Filling.{State, pieceAt, nonePiece, placeP
 use Rattle.member_table.specs.Beside.{AndRows, AndRowsM, not-left, not-right, no-last, no-lastM}
 use Rattle.member_table.specs.Joined.{pieceOf, Pieces, rowsOf, size-one, sizeM-one, amount-size}
 use Rattle.member_table.specs.Chains.{baseOf, Spells, spells-map, spells-close, InMember, InGroup, together-right}
-use Rattle.member_table.specs.Running.{runOps, run-append, run-one, step-place, step-opt, step-seq, step-alt, step-plus, step-also, step-close, Upon, upon-both, upon-one, Common, common-none, common-stack, common-both, Ready, ready-after, ready-part, chains-both}
+use Rattle.member_table.specs.States.{runOps, run-append, run-one, step-place, step-opt, step-seq, step-alt, step-plus, step-also, step-close, Upon, upon-both, upon-one, Common, common-none, common-stack, common-both, Ready, ready-after, ready-part, chains-both}
 use Rattle.member_table.specs.Closing.{codes-and, closedState, close-is, closes, close-common}
 
 -- The place v is in g, and can end it if u can.

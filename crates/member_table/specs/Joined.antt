@@ -23,7 +23,7 @@ use Rattle.model_links.specs.Each.{each, each-more, each-none}
 use Rattle.member_table.specs.declared.Piece.{Piece}
 use Rattle.member_table.specs.Filling.{marked, recordFrom, pieceAt, neededIn, numberAt, otherAt, putOne, putOnes}
 use Rattle.member_table.specs.Beside.{Marks, EachMarks, not-left, not-right, no-last, no-lastM}
-use Rattle.member_table.specs.Puts.{Slot, Put, puts, each-last}
+use Rattle.member_table.specs.Slots.{Slot, Put, puts, each-last}
 
 mutual
   pub size-one : (g : Group) → 1 ≤ size g

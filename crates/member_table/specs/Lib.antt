@@ -2,10 +2,10 @@
 pub mod Filling
 pub mod Counting
 pub mod Beside
-pub mod Puts
+pub mod Slots
 pub mod Joined
 pub mod Chains
-pub mod Running
+pub mod States
 pub mod Closing
 pub mod Fills
 pub mod Tells

@@ -20,7 +20,7 @@ use Rattle.member_table.specs.Filling.{State, nonePiece, startFill, fill
 use Rattle.member_table.specs.Beside.{Rows, and-rows}
 use Rattle.member_table.specs.Joined.{rowsOf}
 use Rattle.member_table.specs.Chains.{baseOf, spells-chain}
-use Rattle.member_table.specs.Running.{runOps, run-in, Ready}
+use Rattle.member_table.specs.States.{runOps, run-in, Ready}
 use Rattle.member_table.specs.Fills.{Ran, runs, InPart}
 
 -- Every group has two members or more.

@@ -18,7 +18,7 @@ use Rattle.model_code.specs.Spelled.{codes, codesM, codeIn}
 use Rattle.member_laws.specs.Members.{amount, firstAt, outerAt, recordAt}
 use Rattle.member_table.specs.declared.Piece.{Piece}
 use Rattle.member_table.specs.Filling.{State, pieceAt, nonePiece, placePiece, optPiece, joinedPiece, stacked, closeGroup, fits, stepFill, startFill, runFill, recordFrom}
-use Rattle.member_table.specs.Puts.{Slot}
+use Rattle.member_table.specs.Slots.{Slot}
 use Rattle.member_table.specs.Beside.{not-left, not-right}
 use Rattle.member_table.specs.Chains.{baseOf, Spells, spells-map, Keeps, spells-keep}
 
