@@ -32,3 +32,11 @@ module _ (stack : List Piece) (first : ℕ) where
       let step : neededIn stack first (suc j) ≡ neededIn stack first j = rw n (omega arith) in
       rw n (omega (arith, most, step, needed-below j)))
       (λ n. rw n (omega (arith, needed-below j)))
+
+-- One piece more.
+module _ (stack : List Piece) (first j n : ℕ) (so : n ≡ neededIn stack first j) where
+  pub needed-one : pieceAt stack (first + j) .null ≡ false → n + 1 ≡ neededIn stack first (j + 1)
+  needed-one e = let s : j + 1 ≡ suc j = omega arith in rw (s, e) (omega (arith, so))
+
+  pub needed-null : pieceAt stack (first + j) .null ≡ true → n ≡ neededIn stack first (j + 1)
+  needed-null e = let s : j + 1 ≡ suc j = omega arith in rw (s, e) (omega (arith, so))

@@ -1,3 +1,4 @@
 -- How the table of the members of "&" groups is filled from a model's code, and that it then tells the members.
 pub mod Filling
 pub mod Counting
+pub mod Puts
