@@ -9,9 +9,9 @@ use lib.Seq.{set-out}
 use lib.Dec.{eqb}
 use borrow.Author.Tests.{eq-eqb, ne-eqb, le-leb, lt-leb, lt-ltb, le-ltb}
 use Rattle.layout.specs.Sizes.{MODEL-ROW}
-use Rattle.model_links.specs.Each.{each-turn}
+use Rattle.model_links.specs.Each.{each-turn, each-end}
 use Rattle.member_table.specs.declared.Piece.{Piece}
-use Rattle.member_table.specs.Filling.{putFree, marked, recordFrom, putPlace, putPlaces, putOuter, putOuters, pieceAt, neededIn, numberAt, otherAt, putMember, putOne}
+use Rattle.member_table.specs.Filling.{putFree, marked, recordFrom, putPlace, putPlaces, putOuter, putOuters, pieceAt, neededIn, numberAt, otherAt, putMember, putOne, putOnes, putGroup}
 
 module _ (M : List ℕ) (i x : ℕ) where
   pub free-put : getD M i 0 ≡ 0 → set M i x ≡ putFree M i x
@@ -84,3 +84,18 @@ module _ (M : List ℕ) (base : ℕ) (T lasts : List ℕ) (groups own : ℕ) (st
       S₃ ≡ set S₂ (base + 97 + h) (groups + 1) → S₄ ≡ set S₃ (base + 194 + h) (pieceAt stack (first + j) .required) → S₄ ≡ putOne M base T lasts groups own stack first needed j
   unfolding putOne putMember
   one-put w h lo last h-is w-is lo-is last-is S₁ S₂ S₃ S₄ e₁ e₂ e₃ e₄ = rw (e₄, e₃, e₂, e₁, h-is, w-is, lo-is, last-is)
+
+-- The members of a group in turn, and the group whole.
+module _ (M : List ℕ) (base : ℕ) (T lasts : List ℕ) (groups own : ℕ) (stack : List Piece) (first needed : ℕ) where
+  pub ones-turn : (S R : List ℕ) (j k : ℕ) → S ≡ putOne M base T lasts groups own stack first needed j → j < k → putOnes M base T lasts groups own stack first needed j k ≡ R → putOnes S base T lasts groups own stack first needed (j + 1) k ≡ R
+  unfolding putOnes
+  ones-turn S R j k e l inv = each-turn (λ N i. putOne N base T lasts groups own stack first needed i) M j k S R e l inv
+
+  pub ones-end : (R : List ℕ) (j k : ℕ) → k ≤ j → putOnes M base T lasts groups own stack first needed j k ≡ R → M ≡ R
+  unfolding putOnes
+  ones-end R j k l inv = each-end (λ N i. putOne N base T lasts groups own stack first needed i) M j k R l inv
+
+  pub group-put :
+      (k : ℕ) (S₁ S₂ S₃ R : List ℕ) → S₁ ≡ set M (recordFrom base (groups + 1)) own → S₂ ≡ set S₁ (recordFrom base (groups + 1) + 1) needed → S₃ ≡ set S₂ (recordFrom base (groups + 1) + 2) k →
+      R ≡ putOnes S₃ base T lasts groups own stack first needed 0 k → R ≡ putGroup M base T lasts groups own stack first needed k
+  group-put k S₁ S₂ S₃ R e₁ e₂ e₃ e = rw (sym e₁, sym e₂, sym e₃) e

@@ -185,7 +185,7 @@ fn put_one(
     requires { ⌜ groups < 48 ⌝ }
     requires { ⌜ first < 96 ⌝ }
     requires { ⌜ first + j < 97 ⌝ }
-    requires { ⌜ (own < 97) × (needed < 97) ⌝ }
+    requires { ⌜ (own < 97) × (needed ≤ 97) ⌝ }
     requires { ⌜ numberAt stack first own needed j < 97 ⌝ }
     ensures { λ _. ⌜ now (members .exit) ≡ putOne (now (members .entry)) base (now (table .entry)) lasts groups own stack first needed j ⌝ }
 {
