@@ -1,5 +1,5 @@
 -- How the table of the members of "&" groups is filled from a model's code, and that it then tells the members.
 pub mod Filling
 pub mod Counting
-pub mod Puts
-pub mod Running
+pub mod Writes
+pub mod Steps

@@ -5,7 +5,7 @@ use mathlib.Core.Logic.{⊎-elim}
 use native.Mathlib.Omega.{arith}
 use borrow.Author.Needs.{needs}
 use borrow.Author.Tests.{ltb-true, ltb-false}
-use Rattle.member_table.specs.Running.{Running, run-start, run-by, fits-told, runs-place, runs-full, runs-opt, runs-opt-none, runs-join, runs-join-none, runs-other, runs-unfit, runs-close, ran-all, ran-full}
+use Rattle.member_table.specs.Steps.{Running, run-start, run-by, fits-told, runs-place, runs-full, runs-opt, runs-opt-none, runs-join, runs-join-none, runs-other, runs-unfit, runs-close, ran-all, ran-full}
 use Rattle.member_table.proofs.fill.Statement.{statement}
 use Rattle.member_table.proofs.fill.Tie as tie
 

@@ -2,7 +2,7 @@
 use mathlib.Core.Logic.{⊎-elim}
 use native.Mathlib.Omega.{arith}
 use borrow.Author.Needs.{needs}
-use Rattle.member_table.specs.Puts.{marked-one, marked-other, marked-past}
+use Rattle.member_table.specs.Writes.{marked-one, marked-other, marked-past}
 use Rattle.member_table.proofs.mark.Statement.{statement}
 use Rattle.member_table.proofs.mark.Tie as tie
 

@@ -1,6 +1,6 @@
 -- `put_free` meets its contract: the number is free, it is not, or there is none.
 use borrow.Author.Needs.{needs}
-use Rattle.member_table.specs.Puts.{free-put, free-kept, free-past}
+use Rattle.member_table.specs.Writes.{free-put, free-kept, free-past}
 use Rattle.member_table.proofs.put_free.Statement.{statement}
 use Rattle.member_table.proofs.put_free.Tie as tie
 

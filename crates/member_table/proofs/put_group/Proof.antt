@@ -6,7 +6,7 @@ use lib.ListN.{length}
 use borrow.Author.Needs.{needs}
 use Rattle.member_table.specs.Filling.{neededIn, putOnes}
 use Rattle.member_table.specs.Counting.{number-small, needed-small}
-use Rattle.member_table.specs.Puts.{ones-turn, ones-end, group-put}
+use Rattle.member_table.specs.Writes.{ones-turn, ones-end, group-put}
 use Rattle.member_table.proofs.put_group.Statement.{statement}
 use Rattle.member_table.proofs.put_group.Tie as tie
 

@@ -5,7 +5,7 @@ use Prim.Native.Nat.{ℕ, _<_, _+_}
 use native.Mathlib.Omega.{arith}
 use borrow.Author.Needs.{needs}
 use Rattle.member_table.specs.Filling.{numberAt, otherAt, pieceAt}
-use Rattle.member_table.specs.Puts.{number-null, number-needed, other-second, other-first, one-put}
+use Rattle.member_table.specs.Writes.{number-null, number-needed, other-second, other-first, one-put}
 use Rattle.member_table.proofs.put_one.Statement.{statement}
 use Rattle.member_table.proofs.put_one.Tie as tie
 

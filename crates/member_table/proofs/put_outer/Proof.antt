@@ -1,7 +1,7 @@
 -- `put_outer` meets its contract: the last place of the group is within the member, behind it, or before it.
 use native.Mathlib.Omega.{arith}
 use borrow.Author.Needs.{needs}
-use Rattle.member_table.specs.Puts.{outer-within, outer-right, outer-left}
+use Rattle.member_table.specs.Writes.{outer-within, outer-right, outer-left}
 use Rattle.member_table.proofs.put_outer.Statement.{statement}
 use Rattle.member_table.proofs.put_outer.Tie as tie
 

@@ -6,7 +6,7 @@ use lib.ListN.{length}
 use borrow.Author.Needs.{needs}
 use Rattle.model_links.specs.Each.{each-end}
 use Rattle.member_table.specs.Filling.{putOuters}
-use Rattle.member_table.specs.Puts.{outers-turn}
+use Rattle.member_table.specs.Writes.{outers-turn}
 use Rattle.member_table.proofs.put_outers.Statement.{statement}
 use Rattle.member_table.proofs.put_outers.Tie as tie
 

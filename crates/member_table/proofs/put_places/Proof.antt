@@ -6,7 +6,7 @@ use lib.ListN.{length}
 use borrow.Author.Needs.{needs}
 use Rattle.model_links.specs.Each.{each-end}
 use Rattle.member_table.specs.Filling.{putPlaces}
-use Rattle.member_table.specs.Puts.{places-turn}
+use Rattle.member_table.specs.Writes.{places-turn}
 use Rattle.member_table.proofs.put_places.Statement.{statement}
 use Rattle.member_table.proofs.put_places.Tie as tie
 
