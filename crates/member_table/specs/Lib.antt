@@ -3,3 +3,11 @@ pub mod Filling
 pub mod Counting
 pub mod Writes
 pub mod Steps
+pub mod Beside
+pub mod Puts
+pub mod Joined
+pub mod Chains
+pub mod Running
+pub mod Closing
+pub mod Fills
+pub mod Tells
