@@ -32,3 +32,18 @@ module _ (stack : List Piece) (first : ℕ) where
       let step : neededIn stack first (suc j) ≡ neededIn stack first j = rw n (omega arith) in
       rw n (omega (arith, most, step, needed-below j)))
       (λ n. rw n (omega (arith, needed-below j)))
+
+-- One piece more.
+module _ (stack : List Piece) (first j n : ℕ) (so : n ≡ neededIn stack first j) where
+  pub needed-one : pieceAt stack (first + j) .null ≡ false → n + 1 ≡ neededIn stack first (j + 1)
+  needed-one e = let s : j + 1 ≡ suc j = omega arith in rw (s, e) (omega (arith, so))
+
+  pub needed-null : pieceAt stack (first + j) .null ≡ true → n ≡ neededIn stack first (j + 1)
+  needed-null e = let s : j + 1 ≡ suc j = omega arith in rw (s, e) (omega (arith, so))
+
+-- The number of a member of a group that has room is small, and so is how many cannot be nothing.
+pub number-small : (stack : List Piece) (first own needed j k : ℕ) → needed ≡ neededIn stack first k → j < k → own + k ≤ 97 → numberAt stack first own needed j < 97
+number-small stack first own needed j k e l room = let less = number-below stack first own j k l in rw e (omega (arith, less))
+
+pub needed-small : (stack : List Piece) (first needed k : ℕ) → needed ≡ neededIn stack first k → needed ≤ k
+needed-small stack first needed k e = rw e (needed-below stack first k)

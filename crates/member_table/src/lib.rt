@@ -15,7 +15,7 @@ use layout::MODEL_ROWS;
 use layout::POSITIONS;
 ghost use mathlib.Core.Path.{_≡_};
 ghost use Prim.Native.Nat.{_+_, _*_, _≤_, _<_};
-ghost use lib.ListN.{set};
+ghost use lib.ListN.{length, set};
 ghost use Rattle.member_table.specs.Filling.{putFree, marked, putPlaces, putOuter, putOuters, neededIn, numberAt, putOne, putGroup, fits, joinedPiece, filled};
 
 // A group on the stack: its places are those from `lo` to `last`; whether it can be nothing, and the place that it requires at its start, or 0.
@@ -46,6 +46,11 @@ fn put_free(members: &mut [u8], i: usize, x: u8)
     }
 }
 
+// A table has this many numbers, which a reference to it does not say.
+fn whole(table: [u8; MODEL])
+    ensures { λ _. ⌜ length table ≡ 9893 ⌝ }
+{}
+
 // The member h, and 128 more if w may come next after the place u.
 fn mark(table: &[u8; MODEL], u: usize, w: usize, h: usize) -> u8
     requires { ⌜ u < 256 ⌝ }
@@ -53,6 +58,7 @@ fn mark(table: &[u8; MODEL], u: usize, w: usize, h: usize) -> u8
     requires { ⌜ h < 97 ⌝ }
     ensures { λ r. ⌜ r ≡ marked (now (table .entry)) u w h ⌝ }
 {
+    whole(*table);
     let i = u * MODEL_ROW + w;
     if i < MODEL {
         if table[i] == 1 {
@@ -179,7 +185,7 @@ fn put_one(
     requires { ⌜ groups < 48 ⌝ }
     requires { ⌜ first < 96 ⌝ }
     requires { ⌜ first + j < 97 ⌝ }
-    requires { ⌜ (own < 97) × (needed < 97) ⌝ }
+    requires { ⌜ (own < 97) × (needed ≤ 97) ⌝ }
     requires { ⌜ numberAt stack first own needed j < 97 ⌝ }
     ensures { λ _. ⌜ now (members .exit) ≡ putOne (now (members .entry)) base (now (table .entry)) lasts groups own stack first needed j ⌝ }
 {
@@ -189,10 +195,11 @@ fn put_one(
     if m.null {
         h = own + needed + (j - n);
     }
-    let mut other = stack[first];
+    let mut o = first;
     if j == 0 {
-        other = stack[first + 1];
+        o = first + 1;
     }
+    let other = stack[o];
     let w = numbers::wide(other.lo);
     let lo = numbers::wide(m.lo);
     let hi = numbers::wide(m.last) + 1;
