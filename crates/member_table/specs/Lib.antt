@@ -11,3 +11,4 @@ pub mod States
 pub mod Closing
 pub mod Fills
 pub mod Tells
+pub mod Others
