@@ -1,15 +1,15 @@
 -- Where a member of an "&" group can end, as the rows of the model tell it: there a place that begins another member may come next.
-use Prim.Native.Nat.{ℕ, zero, suc, _+_, _-_, _≤_, _<_}
-use mathlib.Core.Path.{_≡_, refl, sym, _∙_, ap, subst}
-use mathlib.Core.Bool.{Bool, true, false, _&&_, _||_, cond}
+use Prim.Native.Nat.{ℕ, _+_, _-_}
+use mathlib.Core.Path.{_≡_, refl, _∙_, subst}
+use mathlib.Core.Bool.{Bool, true, false}
 use native.Mathlib.Omega.{arith}
 use borrow.Author.Tests.{eq-eqb}
 use Rattle.rules.specs.Walk.{Group, place, seq, alt, opt, plus, and, Members, one, also}
 use Rattle.model_sets.specs.Bits.{or-left, or-right, not-true, not-both}
-use Rattle.model_sets.specs.Sets.{has, hasM, size, sizeM, Numbered, NumberedM, nullable, first, firstM, last, lastM, follow, followM}
+use Rattle.model_sets.specs.Sets.{has, hasM, size, sizeM, Numbered, NumberedM, first, firstM, last, lastM, follow, followM}
 use Rattle.and_laws.specs.Base.{Apart}
 use Rattle.and_laws.specs.Sets.{Good, GoodM, Plain}
-use Rattle.and_laws.specs.Rows.{last-has, lastM-has, follow-from, followM-from, follow-to, followM-to, and-no, and-yes, or-no}
+use Rattle.and_laws.specs.Rows.{last-has, lastM-has, follow-from, followM-from, follow-to, and-no, and-yes, or-no}
 use Rattle.and_laws.specs.Unique.{first-has, firstM-has}
 
 -- what a place that is not there cannot do

@@ -1,7 +1,7 @@
 -- What the functions of the code do to the table of members: one number of the code after the other, upon a stack of groups.
 use Prim.Native.Nat.{ℕ, zero, suc, _+_, _-_, _*_}
 use mathlib.Core.Bool.{Bool, true, false, _&&_, _||_, cond}
-use mathlib.Core.List.{List, [], _∷_}
+use mathlib.Core.List.{List}
 use lib.ListN.{getD, set, replicate}
 use lib.Dec.{ltb, leb, eqb}
 use Rattle.layout.specs.Sizes.{POSITIONS, MODEL-ROW, MODEL-ROWS, CODE, GROUP, AND-GROUPS, MEMBER}

@@ -1,15 +1,15 @@
 -- The code of a group is run: its piece lies on the stack, its "&" groups are in the table, and the chain of each of its places spells the groups around the place.
-use Prim.Native.Nat.{ℕ, zero, suc, _+_, _-_, _*_, _≤_, _<_}
+use Prim.Native.Nat.{ℕ, suc, _+_, _-_, _≤_, _<_}
 use mathlib.Core.Path.{_≡_, refl, sym, _∙_, ap, subst}
-use mathlib.Core.Bool.{Bool, true, false, _&&_, _||_, cond, false≢true}
-use mathlib.Core.Logic.{_⊎_, inl, inr, ⊎-elim}
+use mathlib.Core.Bool.{Bool, true, _&&_, _||_, cond}
+use mathlib.Core.Logic.{inl}
 use mathlib.Core.List.{List, [], _∷_, _++_}
 use native.Mathlib.Omega.{arith}
-use lib.ListN.{length, getD, set, length-set}
+use lib.ListN.{length, set, length-set}
 use lib.Seq.{getD-set-same, getD-set-other}
 use Rattle.rules.specs.Walk.{Group, place, seq, alt, opt, plus, and, Members, one, also}
-use Rattle.model_sets.specs.Bits.{or-left, or-right, or-cases, and-both, bool-cases, not-true, not-both}
-use Rattle.model_sets.specs.Sets.{has, hasM, size, sizeM, Numbered, NumberedM, nullable, last, lastM, must}
+use Rattle.model_sets.specs.Bits.{or-left, or-right, and-both, bool-cases}
+use Rattle.model_sets.specs.Sets.{has, hasM, size, sizeM, Numbered, NumberedM, nullable, last, lastM}
 use Rattle.and_laws.specs.Base.{Apart}
 use Rattle.and_laws.specs.Sets.{Good, GoodM, Plain}
 use Rattle.and_laws.specs.Rest.{or-none}

@@ -1,28 +1,28 @@
 -- The members of an "&" group, put one after the other: what the table then has of each.
-use Prim.Native.Nat.{ℕ, zero, suc, _+_, _-_, _*_, _≤_, _<_}
-use mathlib.Core.Path.{_≡_, refl, sym, _∙_, ap, subst}
-use mathlib.Core.Bool.{Bool, true, false, _&&_, _||_, cond}
+use Prim.Native.Nat.{ℕ, suc, _+_, _-_, _*_, _≤_, _<_}
+use mathlib.Core.Path.{_≡_, refl, _∙_, ap}
+use mathlib.Core.Bool.{Bool, true, false, cond}
 use mathlib.Core.Logic.{_⊎_, inl, inr, ⊎-elim}
 use mathlib.Core.List.{List}
 use native.Mathlib.Omega.{arith}
 use lib.Dec.{eqb}
 use lib.ListN.{length, getD}
-use borrow.Author.Tests.{eq-eqb, ne-eqb, eqb-true}
+use borrow.Author.Tests.{eq-eqb, ne-eqb}
 use Rattle.rules.specs.Walk.{Group, place, seq, alt, opt, plus, and, Members, one, also}
 use Rattle.layout.specs.Sizes.{POSITIONS, MODEL-ROW}
-use Rattle.model_sets.specs.Bits.{or-left, or-right, or-cases, bool-cases, not-true, not-both}
+use Rattle.model_sets.specs.Bits.{or-left, or-right, bool-cases, not-both}
 use Rattle.model_sets.specs.Sets.{has, hasM, size, sizeM, Numbered, NumberedM, nullable, last, lastM, must}
 use Rattle.and_laws.specs.Base.{Apart}
-use Rattle.and_laws.specs.Sets.{Good, GoodM}
+use Rattle.and_laws.specs.Sets.{GoodM}
 use Rattle.and_laws.specs.Rest.{or-none}
 use Rattle.and_laws.specs.Decide.{or-only}
 use Rattle.and_laws.specs.Rows.{or-no}
-use Rattle.and_laws.specs.Numbers.{has-range, hasM-range}
+use Rattle.and_laws.specs.Numbers.{has-range}
 use Rattle.member_laws.specs.Members.{amount, needs, spares, numberFor, numberIn, Each}
 use Rattle.model_links.specs.Each.{each, each-more, each-none}
 use Rattle.member_table.specs.declared.Piece.{Piece}
-use Rattle.member_table.specs.Filling.{marked, recordFrom, pieceAt, neededIn, numberAt, otherAt, putOne, putOnes}
-use Rattle.member_table.specs.Beside.{Marks, EachMarks, not-left, not-right, no-last, no-lastM}
+use Rattle.member_table.specs.Filling.{recordFrom, pieceAt, neededIn, numberAt, otherAt, putOne, putOnes}
+use Rattle.member_table.specs.Beside.{Marks, EachMarks, not-left, no-last, no-lastM}
 use Rattle.member_table.specs.Slots.{Slot, Put, puts, each-last}
 
 mutual

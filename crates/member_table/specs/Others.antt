@@ -1,6 +1,6 @@
 -- What the table tells of one content stays when only the parts of others change.
 use Prim.Native.Nat.{ℕ, _+_, _*_, _≤_, _<_}
-use mathlib.Core.Path.{_≡_, refl, sym, _∙_, ap, subst}
+use mathlib.Core.Path.{_≡_, sym, _∙_, ap}
 use mathlib.Core.Bool.{Bool, true, _&&_, cond}
 use mathlib.Core.Logic.{_⊎_, inl, inr}
 use mathlib.Core.List.{List, [], _∷_}
@@ -8,10 +8,10 @@ use native.Mathlib.Omega.{arith}
 use lib.ListN.{getD}
 use Rattle.rules.specs.Walk.{Group}
 use Rattle.layout.specs.Sizes.{POSITIONS, GROUP, MEMBER}
-use Rattle.model_sets.specs.Sets.{has, size, Numbered, lastM}
+use Rattle.model_sets.specs.Sets.{size, Numbered, lastM}
 use Rattle.and_laws.specs.Numbers.{has-range}
 use Rattle.and_laws.specs.Ranked.{Level, levels}
-use Rattle.member_laws.specs.Members.{amount, needs, spares, numberIn, holderAt, groupAt, dueAt, firstAt, neededAt, sizeAt, outerAt, Grouped, Chain, Told}
+use Rattle.member_laws.specs.Members.{needs, spares, numberIn, holderAt, groupAt, dueAt, firstAt, neededAt, sizeAt, outerAt, Grouped, Chain, Told}
 use Rattle.member_table.specs.Joined.{amount-is, each-map, InRange}
 use Rattle.member_table.specs.Tells.{Filled}
 

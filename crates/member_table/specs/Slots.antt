@@ -1,7 +1,7 @@
 -- What putting a member leaves in the table: number by number.
 use Prim.Native.Nat.{ℕ, zero, suc, _+_, _-_, _*_, _≤_, _<_}
-use mathlib.Core.Path.{_≡_, refl, sym, _∙_, ap, subst}
-use mathlib.Core.Bool.{Bool, true, false, _&&_, cond}
+use mathlib.Core.Path.{_≡_, refl, _∙_, ap, subst}
+use mathlib.Core.Bool.{Bool, true, _&&_, cond}
 use mathlib.Core.Logic.{_⊎_, inl, inr}
 use mathlib.Core.List.{List}
 use native.Mathlib.Omega.{arith}
@@ -9,11 +9,11 @@ use native.Mathlib.Decide.{ℕ-discrete}
 use lib.Dec.{eqb, leb, ltb}
 use lib.ListN.{length, getD, set, length-set}
 use lib.Seq.{getD-set-same, getD-set-other}
-use borrow.Author.Tests.{eq-eqb, ne-eqb, eqb-true, lt-ltb, le-leb, le-ltb, lt-leb, leb-true, ltb-true}
-use Rattle.layout.specs.Sizes.{POSITIONS, GROUP}
+use borrow.Author.Tests.{eq-eqb, ne-eqb, lt-ltb, le-leb, leb-true, ltb-true}
+use Rattle.layout.specs.Sizes.{POSITIONS}
 use Rattle.model_sets.specs.Bits.{and-left, and-right, bool-cases}
-use Rattle.model_links.specs.Each.{turns, each, each-keeps, each-more, each-none}
-use Rattle.member_table.specs.Filling.{putFree, marked, recordFrom, putPlace, putPlaces, putOuter, putOuters, putMember}
+use Rattle.model_links.specs.Each.{turns, each, each-keeps}
+use Rattle.member_table.specs.Filling.{putFree, marked, recordFrom, putPlaces, putOuter, putOuters, putMember}
 
 -- A number that is put where none is yet.
 module _ (M : List ℕ) (i x : ℕ) where

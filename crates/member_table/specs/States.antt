@@ -1,25 +1,25 @@
 -- Numbers of the code run one after the other, and what the state keeps of what was there before.
-use Prim.Native.Nat.{ℕ, zero, suc, _+_, _-_, _*_, _≤_, _<_}
-use mathlib.Core.Path.{_≡_, refl, sym, _∙_, ap, subst}
-use mathlib.Core.Bool.{Bool, true, false, _&&_, _||_, cond, false≢true}
-use mathlib.Core.Logic.{_⊎_, inl, inr, ⊎-elim}
+use Prim.Native.Nat.{ℕ, zero, suc, _+_, _-_, _≤_, _<_}
+use mathlib.Core.Path.{_≡_, refl, sym, _∙_, ap}
+use mathlib.Core.Bool.{Bool, true, false, _||_, cond}
+use mathlib.Core.Logic.{_⊎_, inl, inr}
 use mathlib.Core.List.{List, [], _∷_, _++_}
 use native.Mathlib.Omega.{arith}
-use lib.ListN.{length, getD, set, length-set}
-use lib.Seq.{getD-set-same, getD-set-other}
+use lib.ListN.{length, getD, length-set}
+use lib.Seq.{getD-set-other}
 use borrow.Author.Tests.{lt-ltb, le-leb, le-ltb, ne-eqb}
-use Rattle.rules.specs.Walk.{Group, Members, one, also, and}
-use Rattle.layout.specs.Sizes.{MEMBER, POSITIONS, MODEL-ROWS, CODE}
-use Rattle.model_sets.specs.Bits.{or-left, or-right, or-cases, bool-cases, not-true, not-both}
+use Rattle.rules.specs.Walk.{one, and}
+use Rattle.layout.specs.Sizes.{MEMBER, MODEL-ROWS, CODE}
+use Rattle.model_sets.specs.Bits.{bool-cases}
 use Rattle.and_laws.specs.Base.{Apart}
 use Rattle.and_laws.specs.Decide.{or-only}
 use Rattle.and_laws.specs.Ranked.{Level}
-use Rattle.model_code.specs.Spelled.{codes, codesM, codeIn}
-use Rattle.member_laws.specs.Members.{amount, firstAt, outerAt, recordAt}
+use Rattle.model_code.specs.Spelled.{codeIn}
+use Rattle.member_laws.specs.Members.{outerAt}
 use Rattle.member_table.specs.declared.Piece.{Piece}
-use Rattle.member_table.specs.Filling.{State, pieceAt, nonePiece, placePiece, optPiece, joinedPiece, stacked, closeGroup, fits, stepFill, startFill, runFill, recordFrom}
+use Rattle.member_table.specs.Filling.{State, pieceAt, nonePiece, placePiece, optPiece, joinedPiece, stacked, closeGroup, stepFill, startFill, runFill}
 use Rattle.member_table.specs.Slots.{Slot}
-use Rattle.member_table.specs.Beside.{not-left, not-right}
+use Rattle.member_table.specs.Beside.{not-right}
 use Rattle.member_table.specs.Chains.{baseOf, Spells, spells-map, Keeps, spells-keep}
 
 -- Numbers one after the other
