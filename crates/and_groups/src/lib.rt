@@ -10,6 +10,8 @@ use layout::GROUP;
 use layout::MEMBER;
 use layout::POSITIONS;
 use layout::Place;
+ghost use Prim.Native.Nat.{_≤_};
+ghost use Rattle.and_groups.specs.Means.{Takes, Follows};
 
 fn wide(x: u32) -> u64 {
     x as u64
@@ -163,7 +165,10 @@ pub fn take(
     e: ElementNo,
     u: Place,
     p: Place,
-) -> usize {
+) -> usize
+    requires { ⌜ (level ≤ 24) × (e .0 ≤ 64) × (u .0 ≤ 96) × (p .0 ≤ 96) ⌝ }
+    ensures { λ r. ⌜ Takes (now (members .entry)) level (e .0) (u .0) (p .0) (now (begun .entry)) (now (begun .exit)) r ⌝ }
+{
     if u.0 == 0 {
         clear(begun, level);
     }
@@ -184,7 +189,10 @@ pub fn may_follow(
     e: ElementNo,
     u: Place,
     p: Place,
-) -> bool {
+) -> bool
+    requires { ⌜ (level ≤ 24) × (e .0 ≤ 64) × (u .0 ≤ 96) × (p .0 ≤ 96) ⌝ }
+    ensures { λ r. ⌜ Follows (now (members .entry)) level (e .0) (u .0) (p .0) (now (begun .entry)) r ⌝ }
+{
     let mut h = holder(members, e, u) % 128;
     let mut i = holder(members, e, p) % 128;
     while h != 0 {

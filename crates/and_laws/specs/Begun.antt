@@ -7,7 +7,7 @@ use mathlib.Core.List.{List, [], _∷_, _++_}
 use native.Mathlib.Omega.{arith}
 use Rattle.model_sets.specs.Bits.{bool-cases}
 use Rattle.model_sets.specs.Sets.{size, Numbered, has, follow, nextIn, completeIn, requiredIn}
-use Rattle.rules.specs.Walk.{Group, Begins, MayComeNext, Complete, Required}
+use Rattle.rules.specs.Walk.{Group, Begins, lastFrom, lastOr0, MayComeNext, Complete, Required}
 use Rattle.and_laws.specs.Base.{mem, mem-left, mem-right, Ends, ends-mem}
 use Rattle.and_laws.specs.Sets.{held, Plain, Good, walk-in}
 use Rattle.and_laws.specs.Left.{Agrees}
@@ -27,15 +27,6 @@ pub begins-shorter : (g : Group) (s t : List ℕ) → Begins g (s ++ t) → Begi
 begins-shorter g s t b = begins-less g s t b
 
 -- The last place taken
-
--- the last of the places after u, u if there is none
-abbrev pub lastFrom : ℕ → List ℕ → ℕ
-lastFrom u [] = u
-lastFrom u (p ∷ s) = lastFrom p s
-
--- the last place, 0 if there is none
-abbrev pub lastOr0 : List ℕ → ℕ
-lastOr0 s = lastFrom 0 s
 
 pub lastFrom-snoc : (u : ℕ) (s : List ℕ) (p : ℕ) → lastFrom u (s ++ p ∷ []) ≡ p
 lastFrom-snoc u [] p = refl

@@ -10,8 +10,8 @@ use Rattle.rules.specs.TypeFile.{Element}
 use Rattle.rules.specs.Events.{Event, endWritten}
 use Rattle.rules.specs.Settling.{isOpen, isComplete, closeFrom, endElement, endFrom, endDocument}
 use Rattle.document_laws.specs.Decide.{decided}
-use Rattle.last_places.specs.Last.{shortly}
-use Rattle.last_places.specs.Short.{endElement-exact}
+use Rattle.turn_laws.specs.Last.{shortly}
+use Rattle.turn_laws.specs.Short.{endElement-exact}
 use Rattle.type_tables.specs.Means.{Facts}
 use Rattle.event_buffer.specs.Means.{noted, Puts}
 use Rattle.event_buffer.specs.Laws.{puts-none, puts-then}

@@ -25,7 +25,7 @@ use Rattle.rules.specs.Acts.{Declared, Act, MarksMean, Passes, Few}
 use Rattle.rules.specs.Reader.{Reads}
 use Rattle.document_laws.specs.Decide.{decided}
 use Rattle.document_laws.specs.Moves.{fits, required}
-use Rattle.last_places.specs.Turns.{Reaches}
+use Rattle.turn_laws.specs.Turns.{Reaches}
 use Rattle.type_tables.specs.Means.{Rows, Facts, Tables}
 use Rattle.layout.specs.declared.Place as typed
 use Rattle.open_elements.specs.declared.Open.{Open}

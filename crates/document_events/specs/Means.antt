@@ -11,7 +11,7 @@ use Rattle.rules.specs.Events.{Event}
 use Rattle.rules.specs.Reader.{document, eventNumbers}
 use Rattle.numbers.specs.Means.{Written}
 use Rattle.document_laws.specs.Decide.{decided}
-use Rattle.last_places.specs.Turns.{Reaches}
+use Rattle.turn_laws.specs.Turns.{Reaches}
 use Rattle.element_index.specs.Means.{Indexed}
 use Rattle.type_tables.specs.Means.{Tables}
 use Rattle.event_buffer.specs.Means.{Holds}

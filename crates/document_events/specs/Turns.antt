@@ -19,8 +19,8 @@ use Rattle.layout.specs.Typed.{elementNo}
 use Rattle.document_laws.specs.Decide.{decided}
 use Rattle.type_laws.specs.Names.{numberOf-range}
 use Rattle.type_laws.specs.Pcdata.{pcdata-stays}
-use Rattle.last_places.specs.Last.{shortly, takeRun, InRange}
-use Rattle.last_places.specs.Turns.{Reaches, reaches-start, reaches-end, refused-piece, refused-undeclared-start, refused-undeclared-end, reaches-start-tag, refused-start-tag, reaches-end-tag, refused-end-tag, reaches-skipped, reaches-blank, reaches-run, refused-run}
+use Rattle.turn_laws.specs.Last.{shortly, takeRun, InRange}
+use Rattle.turn_laws.specs.Turns.{Reaches, reaches-start, reaches-end, refused-piece, refused-undeclared-start, refused-undeclared-end, reaches-start-tag, refused-start-tag, reaches-end-tag, refused-end-tag, reaches-skipped, reaches-blank, reaches-run, refused-run}
 use Rattle.element_index.specs.Means.{Indexed}
 use Rattle.type_tables.specs.Means.{standing, Tables}
 use Rattle.open_elements.specs.declared.Open.{Open}

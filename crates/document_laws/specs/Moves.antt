@@ -19,7 +19,7 @@ use Rattle.rules.specs.Decisions.{Token, start, pcdata, Decisions}
 use Rattle.rules.specs.Events.{Event, startWritten, startInferred, endWritten, endInferred, endOfEmpty, withData}
 use Rattle.rules.specs.Settling.{Open, State, nothingOpen, takePlace, shown, placeTaken, enter, note, limited, isOpen, Inward, settled, stuck, fitting, isComplete, requiredPlace, inferable, chain, inferStarts, takeToken, inward, settleFrom, isOver, settle, startElement, takeData, takeBlank, endLeftOut, closeFrom, endElement, endFrom, endDocument}
 use Rattle.rules.specs.Reader.{Reached, goOn, tagged, settlePiece, piecesWithin, document}
-use Rattle.model_sets.specs.Reach.{lastOr0-snoc}
+use Rattle.and_laws.specs.Begun.{lastOr0-snoc}
 use Rattle.rules_laws.specs.Holds.{stops, reads, Refuses}
 use Rattle.rules_laws.specs.Holds as holds
 use Rattle.rules_laws.specs.Both.{Both, stop, read, on, either, so, itself}

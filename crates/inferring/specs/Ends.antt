@@ -12,7 +12,7 @@ use Rattle.rules.specs.Events.{Event, endInferred}
 use Rattle.rules.specs.Settling.{State, settled, stuck, inward, settleFrom, fitting}
 use Rattle.rules.specs.Settling as rules
 use Rattle.document_laws.specs.Decide.{decided}
-use Rattle.last_places.specs.Short.{state}
+use Rattle.turn_laws.specs.Short.{state}
 use Rattle.open_elements.specs.declared.Open.{Open}
 use Rattle.open_elements.specs.Means.{current, around, stateOf, ended, Ranged}
 use Rattle.open_elements.specs.Laws.{around-ended, stands-requires, stands-ended, ranged-ended}

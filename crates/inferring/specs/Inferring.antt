@@ -10,7 +10,7 @@ use Rattle.rules.specs.Events.{startInferred, endInferred, Event}
 use Rattle.rules.specs.Settling.{State, takePlace, shown, placeTaken, enter, note, fitting, requiredPlace, inferable, settleFrom}
 use Rattle.rules.specs.Settling as rules
 use Rattle.document_laws.specs.Decide.{decided}
-use Rattle.last_places.specs.Last.{short}
+use Rattle.turn_laws.specs.Last.{short}
 use Rattle.type_tables.specs.Means.{nameNumber, Declares, Tables, Requires}
 use Rattle.open_elements.specs.declared.Open.{Open}
 use Rattle.open_elements.specs.Means.{stateOf, current, around, took, opening, ended, Ranged, Stands}

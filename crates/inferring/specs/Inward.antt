@@ -21,8 +21,8 @@ use Rattle.layout.specs.Typed.{placeNo}
 use Rattle.document_laws.specs.Decide.{fitsIn, decided}
 use Rattle.document_laws.specs.Chain.{chain-leads}
 use Rattle.type_laws.specs.Width.{typeFile-width}
-use Rattle.last_places.specs.Last.{short}
-use Rattle.last_places.specs.Short.{state, allLast-length, lastOnly-took, takePlace-short, fitting-short}
+use Rattle.turn_laws.specs.Last.{short}
+use Rattle.turn_laws.specs.Short.{state, allLast-length, lastOnly-took, takePlace-short, fitting-short}
 use Rattle.type_tables.specs.Means.{width}
 use Rattle.type_tables.specs.Search.{search-most}
 use Rattle.open_elements.specs.declared.Open.{Open}

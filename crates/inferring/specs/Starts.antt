@@ -13,9 +13,9 @@ use Rattle.rules.specs.Settling as rules
 use Rattle.document_laws.specs.Decide.{decided}
 use Rattle.document_laws.specs.Chain.{Leads}
 use Rattle.document_laws.specs.Moves.{placeTaken-took}
-use Rattle.last_places.specs.Last.{lastOnly, allLast, short}
-use Rattle.last_places.specs.Short.{state, lastOnly-took}
-use Rattle.last_places.specs.Short as shorts
+use Rattle.turn_laws.specs.Last.{lastOnly, allLast, short}
+use Rattle.turn_laws.specs.Short.{state, lastOnly-took}
+use Rattle.turn_laws.specs.Short as shorts
 use Rattle.type_tables.specs.Means.{standing, width, Tables}
 use Rattle.type_tables.specs.Ranges.{required-most}
 use Rattle.open_elements.specs.declared.Open.{Open}

@@ -12,7 +12,7 @@ use Rattle.rules.specs.Elements.{endO}
 use Rattle.rules.specs.Decisions.{Decisions}
 use Rattle.rules.specs.Events.{Event, endInferred, endWritten}
 use Rattle.rules.specs.Settling.{Open, State, isOpen, isComplete, endLeftOut, closeFrom, endElement, endFrom, endDocument}
-use Rattle.last_places.specs.Last.{Sound}
+use Rattle.turn_laws.specs.Last.{Sound}
 use Rattle.left_out_ends.specs.Until.{inferEnds}
 
 -- One end

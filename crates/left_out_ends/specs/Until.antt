@@ -1,7 +1,7 @@
 -- How ends are inferred from the current element outwards, and what the functions of the code say of it.
 use Prim.Native.Nat.{ℕ, zero, suc, _+_, _≤_, _<_}
 use mathlib.Core.Path.{_≡_}
-use mathlib.Core.Bool.{true, false}
+use mathlib.Core.Bool.{Bool, true, false}
 use mathlib.Core.List.{List, [], _∷_, _++_}
 use lib.ListN.{length}
 use lib.Dec.{eqb}
@@ -16,7 +16,7 @@ use Rattle.type_tables.specs.Means.{Facts}
 use Rattle.event_buffer.specs.Means.{Puts}
 use Rattle.open_elements.specs.declared.Open.{Open}
 use Rattle.open_elements.specs.declared.Outcome.{Outcome}
-use Rattle.open_elements.specs.Means.{current, around, stateOf, outcomeOf, Ranged, Stands}
+use Rattle.open_elements.specs.Means.{Becomes, Ranged, Stands}
 
 -- Ends are inferred until the current element is x, or nothing is around it: what an end tag and the document's end have in common.
 unfoldable pub inferEnds : List ℕ → List Element → Decisions → (x at : ℕ) → List rules.Open → rules.Open → List Event → Reading State
@@ -27,10 +27,6 @@ inferEnds s es D x at (u ∷ around) o ev =
       | false ↦ andThen (endLeftOut s es D at o) λ e. inferEnds s es D x at around u (ev ++ e ∷ [])
     ]
 
--- The same by the state of the code, after these events.
-abbrev pub inferred : List ℕ → List Element → (x at : ℕ) → Open → List Event → Reading State
-inferred s es x at o ev = inferEnds s es (decided s es) x at (around o) (current o) ev
-
 -- What is read where an event is due, or a refusal if the number is not 0.
 abbrev pub dueOf : (at number : ℕ) → Event → Reading Event
 dueOf at zero e = got e
@@ -40,7 +36,8 @@ dueOf at (suc n) e = refused (suc n) at
 pub record Judges (facts : List ℕ) (o : Open) (number : ℕ) : Type 0 where
   pub small : number < 20
   pub sure : number ≡ 0 → o .complete ≡ true
-  pub due : (s : List ℕ) (es : List Element) → Facts s es facts → Stands es o → 1 ≤ o .count → (at : ℕ) → endLeftOut s es (decided s es) at (current o) ≡ dueOf at number (endInferred (o .element .0) at)
+  pub due : (s : List ℕ) (es : List Element) (raised : ℕ → Bool) → Facts s es raised facts → (M begun : List ℕ) (z : State) → Stands es M begun o z → 1 ≤ o .count → (at : ℕ)
+      → endLeftOut s es (decided s es) at (z .current) ≡ dueOf at number (endInferred (o .element .0) at)
 
 -- What is handed back, whatever the tables hold: the numbers of the state are in range, and these events were put behind n others.
 pub record Brings (n : ℕ) (numbers bytes : List ℕ) (r : Outcome) (numbers′ bytes′ : List ℕ) : Type 0 where
@@ -54,7 +51,6 @@ pub record Brings (n : ℕ) (numbers bytes : List ℕ) (r : Outcome) (numbers′
 pub record Until (facts : List ℕ) (x at n : ℕ) (o : Open) (numbers bytes : List ℕ) (r : Outcome) (numbers′ bytes′ : List ℕ) : Type 0 where
   pub brings : Brings n numbers bytes r numbers′ bytes′
   pub few : length (brings .events) + r .open .count ≤ o .count
-  pub stands : (es : List Element) → Stands es o → Stands es (r .open)
   pub reached : r .number ≡ 0 → 1 ≤ r .open .count → r .open .element .0 ≡ x
-  pub same : (s : List ℕ) (es : List Element) → Facts s es facts → Stands es o → (before : List Event)
-      → outcomeOf at (r .number) (stateOf (r .open) (before ++ brings .events)) ≡ inferred s es x at o before
+  pub ends : (s : List ℕ) (es : List Element) (raised : ℕ → Bool) → Facts s es raised facts → (M begun : List ℕ) (z : State) → Stands es M begun o z
+      → Becomes at (r .number) (λ (y : State). Stands es M begun (r .open) y × (y .events ≡ z .events ++ brings .events)) (inferEnds s es (decided s es) x at (z .around) (z .current) (z .events))

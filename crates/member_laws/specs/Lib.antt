@@ -1,2 +1,4 @@
 -- What the table of the members of "&" groups tells of a model, and what the bits of an open element tell of the places taken in it.
 pub mod Members
+pub mod Numbered
+pub mod Inside

@@ -16,8 +16,8 @@ use Rattle.model_table.specs.Fill.{tableOf}
 use Rattle.model_links.specs.Cells.{below-or-from}
 use Rattle.model_table.specs.Means.{table-says}
 use Rattle.document_laws.specs.Decide.{isCompleteIn, requiredOf}
-use Rattle.last_places.specs.Last.{placed}
-use Rattle.last_places.specs.Short.{last-placed}
+use Rattle.turn_laws.specs.Last.{placed}
+use Rattle.turn_laws.specs.Short.{last-placed}
 use Rattle.type_tables.specs.Means.{rowAt, bitOf, nextOf}
 use Rattle.model_rows.specs.Bits.{cellOf, packedOf, flag-is, packed-bit, lowest-bit, single-bit}
 

@@ -13,8 +13,8 @@ use Rattle.rules.specs.Settling.{State}
 use Rattle.rules.specs.Settling as rules
 use Rattle.model_sets.specs.Reach.{lastOr0}
 use Rattle.document_laws.specs.Decide.{isCompleteIn, requiredOf}
-use Rattle.last_places.specs.Last.{placed}
-use Rattle.last_places.specs.Short.{last-placed}
+use Rattle.turn_laws.specs.Last.{placed}
+use Rattle.turn_laws.specs.Short.{last-placed}
 use Rattle.open_elements.specs.declared.Entry.{Entry}
 use Rattle.open_elements.specs.declared.Open.{Open}
 use Rattle.open_elements.specs.Means.{none, opened, aroundOf, covered, stateOf, Marked, Stands}

@@ -23,8 +23,8 @@ use Rattle.document_laws.specs.Laws.{accepted-decided}
 use Rattle.document_laws.specs.Chain.{inferable-may}
 use Rattle.document_laws.specs.Moves.{Answers, Chosen, fits, required}
 use Rattle.document_laws.specs.Same.{AllBegun, begun-moves, nothing-begun}
-use Rattle.last_places.specs.Last.{placed, lastOnly, allLast, short}
-use Rattle.last_places.specs.Short.{state, last-placed}
+use Rattle.turn_laws.specs.Last.{placed, lastOnly, allLast, short}
+use Rattle.turn_laws.specs.Short.{state, last-placed}
 use Rattle.type_tables.specs.Means.{standing, width, Rows}
 use Rattle.type_tables.specs.Ranges.{width-most, required-most}
 use Rattle.open_elements.specs.declared.Open.{Open}

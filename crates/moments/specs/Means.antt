@@ -8,7 +8,7 @@ use Rattle.rules.specs.Decisions.{start, pcdata, Decisions}
 use Rattle.rules.specs.Settling.{State, fitting, requiredPlace}
 use Rattle.rules.specs.Acts.{Act, starts, empties, infers, data-byte, infers-end, ends}
 use Rattle.document_laws.specs.Same.{AllBegun}
-use Rattle.last_places.specs.Last.{short}
+use Rattle.turn_laws.specs.Last.{short}
 use Rattle.open_elements.specs.declared.Open.{Open}
 use Rattle.open_elements.specs.Means.{none, stateOf, took, opening, ended, Ranged, Stands}
 use Rattle.open_elements.specs.Marks.{MarksSay}

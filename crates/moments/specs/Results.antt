@@ -18,12 +18,12 @@ use Rattle.rules_laws.specs.Holds.{got-so}
 use Rattle.document_laws.specs.Decide.{decided}
 use Rattle.document_laws.specs.Laws.{accepted-decided}
 use Rattle.document_laws.specs.Moves.{withDatum}
-use Rattle.last_places.specs.Last.{short, shortly, takeRun}
-use Rattle.last_places.specs.Short.{state, startElement-short, takeData-short, endElement-short}
-use Rattle.last_places.specs.Steps.{takeData-got}
-use Rattle.last_places.specs.Run.{run-taken}
-use Rattle.last_places.specs.Follows.{shortly-got}
-use Rattle.last_places.specs.Turns.{Reaches}
+use Rattle.turn_laws.specs.Last.{short, shortly, takeRun}
+use Rattle.turn_laws.specs.Short.{state, startElement-short, takeData-short, endElement-short}
+use Rattle.turn_laws.specs.Steps.{takeData-got}
+use Rattle.turn_laws.specs.Run.{run-taken}
+use Rattle.turn_laws.specs.Follows.{shortly-got}
+use Rattle.turn_laws.specs.Turns.{Reaches}
 use Rattle.type_tables.specs.Means.{Rows, Facts, Tables}
 use Rattle.open_elements.specs.declared.Open.{Open}
 use Rattle.open_elements.specs.declared.Outcome.{Outcome}

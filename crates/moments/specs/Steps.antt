@@ -28,9 +28,9 @@ use Rattle.document_laws.specs.Decide.{decided, isCompleteIn-last}
 use Rattle.document_laws.specs.Laws.{accepted-decided}
 use Rattle.document_laws.specs.Chain.{chosen, inferable-is, chain-step, chain-leads}
 use Rattle.document_laws.specs.Moves.{withDatum}
-use Rattle.last_places.specs.Last.{lastOnly, allLast, short, shortly}
-use Rattle.last_places.specs.Short.{state, last-placed, lastOnly-twice, short-short}
-use Rattle.last_places.specs.Follows.{shortly-got}
+use Rattle.turn_laws.specs.Last.{lastOnly, allLast, short, shortly}
+use Rattle.turn_laws.specs.Short.{state, last-placed, lastOnly-twice, short-short}
+use Rattle.turn_laws.specs.Follows.{shortly-got}
 use Rattle.type_tables.specs.Means.{width, Rows, Facts, Tables}
 use Rattle.open_elements.specs.declared.Open.{Open}
 use Rattle.open_elements.specs.declared.Outcome.{Outcome}

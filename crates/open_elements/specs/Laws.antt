@@ -1,67 +1,33 @@
--- Laws of the open elements: what the methods do to the rules' state, and what stays so from token to token.
+-- Laws of the open elements: what the methods do to the rules' state that they stand for, and what stays in range.
 use Prim.Native.Nat.{ℕ, zero, suc, _+_, _-_, _*_, _≤_, _<_}
-use mathlib.Core.Path.{_≡_, refl, ap, sym, _∙_, subst}
+use mathlib.Core.Path.{_≡_, refl, ap, ap₂, sym, _∙_, subst}
 use mathlib.Core.Bool.{Bool, true, false}
-use mathlib.Core.List.{List, [], _∷_, _++_, append-assoc, append-nil}
+use mathlib.Core.List.{List, [], _∷_, _++_}
 use native.Mathlib.Decide.{ℕ-discrete}
 use native.Mathlib.Numerals.{add-one}
 use native.Mathlib.Omega.{arith}
 use borrow.Author.Tests.{eq-eqb, ne-eqb}
 use lib.ListN.{length, getD, set, length-set, length-replicate}
+use lib.Dec.{eqb}
 use lib.Seq.{getD-set-same, getD-set-other}
-use Rattle.rules.specs.Settings.{Settings}
 use Rattle.rules.specs.TypeFile.{Element}
-use Rattle.rules.specs.Judge.{Accepts}
 use Rattle.rules.specs.Events.{Event}
-use Rattle.rules.specs.Settling.{shown, isOpen}
+use Rattle.rules.specs.Settling.{State, nothingOpen, takePlace, enter, shown, isOpen}
 use Rattle.rules.specs.Settling as rules
 use Rattle.layout.specs.declared.Place.{Place}
 use Rattle.layout.specs.declared.ElementNo.{ElementNo}
 use Rattle.layout.specs.Typed.{placeNo, elementNo}
-use Rattle.document_laws.specs.Decide.{isCompleteIn, requiredOf}
-use Rattle.last_places.specs.Last.{lastOnly, allLast, short, InRange, Sound}
-use Rattle.last_places.specs.Short.{last-placed}
-use Rattle.type_tables.specs.Means.{standing, width, completeAt, requiredAt, Rows, Requires}
-use Rattle.type_tables.specs.Ranges.{required-kept, required-small}
+use Rattle.document_laws.specs.Decide.{isCompleteIn, requiredFor}
+use Rattle.document_laws.specs.Moves.{state}
+use Rattle.document_laws.specs.Moves as moves
+use Rattle.and_groups.specs.Means.{Elsewhere}
+use Rattle.type_tables.specs.Means.{completeAt, requiredAt, Tables, Entered, CanTake}
+use Rattle.open_elements.specs.Owed.{required-small, entered-elsewhere, entered-fresh, fresh-complete, fresh-required}
 use Rattle.open_elements.specs.declared.Entry.{Entry}
 use Rattle.open_elements.specs.declared.Open.{Open}
-use Rattle.open_elements.specs.Means.{none, opened, aroundOf, current, around, stateOf, fresh, took, covered, opening, parentOf, ended, Within, Ranged, Marked, Stands}
+use Rattle.open_elements.specs.Means.{none, fresh, covered, opening, parentOf, ended, aroundOf, bare, Within, Ranged, Kept, AllKept, Stands, Marking, Taking, Starting}
 
--- The elements around the current one
-
-aroundOf-set : (a : List Entry) (n : ℕ) (x : Entry) (m : ℕ) → m ≤ n → aroundOf (set a n x) m ≡ aroundOf a m
-aroundOf-set a n x zero l = refl
-aroundOf-set a n x (suc m) l = rw (getD-set-other a n m x none (λ e. omega arith), aroundOf-set a n x m (omega arith))
-
-aroundOf-length : (a : List Entry) (n : ℕ) → length (aroundOf a n) ≡ n
-aroundOf-length a zero = refl
-aroundOf-length a (suc n) = ap suc (aroundOf-length a n)
-
-pub around-length : (o : Open) → length (around o) ≡ o .count
-around-length o = aroundOf-length (o .around) (o .count)
-
--- Opening an element puts the current one in front of those around it.
-pub around-opening : (rows : List ℕ) (k : ℕ) (o : Open) → length (o .around) ≡ 24 → o .count < 24 → around (opening rows k o) ≡ current o ∷ around o
-around-opening rows k o w l =
-    rw (
-      add-one (o .count),
-      getD-set-same (o .around) (o .count) (covered o) none (omega arith),
-      aroundOf-set (o .around) (o .count) (covered o) (o .count) (omega arith),
-    )
-
-aroundOf-less : (a : List Entry) (n : ℕ) → 1 ≤ n → aroundOf a n ≡ opened (getD a (n - 1) none) ∷ aroundOf a (n - 1)
-aroundOf-less a zero l = absurd (omega arith)
-aroundOf-less a (suc n) l = let e : suc n - 1 ≡ n = omega arith in rw e
-
--- Ending the current element makes the innermost of those around it the current one.
-pub around-ended : (o : Open) → 1 ≤ o .count → around o ≡ current (ended o) ∷ around (ended o)
-around-ended o l = aroundOf-less (o .around) (o .count) l
-
--- What was read of the rows makes the state that `took` and `opening` give.
-pub took-by : (rows : List ℕ) (p : Place) (o : Open) {c : Bool} {q : Place} → c ≡ completeAt rows (o .element .0) (p .0) → q .0 ≡ requiredAt rows (o .element .0) (p .0)
-    → record { around = o .around; count = o .count; element = o .element; place = p; complete = c; required = q } ≡ took rows (p .0) o
-took-by rows p o h k = λ i. record { around = o .around; count = o .count; element = o .element; place = p; complete = h i; required = placeNo (k i) }
-
+-- What was read of the rows makes the state that `opening` gives.
 pub opening-by : (rows : List ℕ) (k : ElementNo) (o : Open) {x : Entry} {c : Bool} {q : Place} → x ≡ covered o → c ≡ completeAt rows (k .0) 0 → q .0 ≡ requiredAt rows (k .0) 0
     → record { around = set (o .around) (o .count) x; count = o .count + 1; element = k; place = placeNo 0; complete = c; required = q } ≡ opening rows (k .0) o
 opening-by rows k o e h l =
@@ -72,24 +38,6 @@ pub ended-by : (o : Open) {e : ElementNo} {p q : Place} → e .0 ≡ parentOf o 
     → record { around = o .around; count = o .count - 1; element = e; place = p; complete = parentOf o .complete; required = q } ≡ ended o
 ended-by o h k l =
     λ i. record { around = o .around; count = o .count - 1; element = elementNo (h i); place = placeNo (k i); complete = parentOf o .complete; required = placeNo (l i) }
-
--- Where nothing is open, nothing is around the current element.
-pub around-none : (o : Open) → o .count ≡ 0 → around o ≡ []
-around-none o e = rw e
-
--- Of each open element the state has the last place only.
-pub standing-last : (e u : ℕ) → lastOnly (standing e u) ≡ standing e u
-standing-last e u = ap (standing e) (last-placed u)
-
-aroundOf-last : (a : List Entry) (n : ℕ) → allLast (aroundOf a n) ≡ aroundOf a n
-aroundOf-last a zero = refl
-aroundOf-last a (suc n) = rw (standing-last (getD a n none .element) (getD a n none .place), aroundOf-last a n)
-
-pub around-last : (o : Open) → allLast (around o) ≡ around o
-around-last o = aroundOf-last (o .around) (o .count)
-
-pub stateOf-short : (o : Open) (ev : List Event) → short (stateOf o ev) ≡ stateOf o ev
-stateOf-short o ev = rw (standing-last (o .element .0) (o .place .0), aroundOf-last (o .around) (o .count))
 
 -- The place that a start shows
 
@@ -113,120 +61,164 @@ pub open-none : (x : ℕ) → isOpen x [] ≡ false
 unfolding isOpen
 open-none x = refl
 
+open-same : (x : ℕ) (o u : rules.Open) (os us : List rules.Open) → o .number ≡ u .number → isOpen x os ≡ isOpen x us → isOpen x (o ∷ os) ≡ isOpen x (u ∷ us)
+unfolding isOpen
+open-same x o u os us e i = ap₂ {C = Bool} (λ n b. elim (eqb n x) [ true ↦ true | false ↦ b ]) e i
+
+aroundOf-less : (a : List Entry) (n : ℕ) → 1 ≤ n → aroundOf a n ≡ moves.fresh (getD a (n - 1) none .element) ∷ aroundOf a (n - 1)
+aroundOf-less a zero l = absurd (omega arith)
+aroundOf-less a (suc n) l = let e : suc n - 1 ≡ n = omega arith in rw e
+
 -- The last of the first i entries, looked at.
 pub open-entry : (x : ℕ) (a : List Entry) (i : ℕ) → 1 ≤ i → getD a (i - 1) none .element ≡ x → isOpen x (aroundOf a i) ≡ true
-open-entry x a i l e = ap (isOpen x) (aroundOf-less a i l) ∙ open-here x (opened (getD a (i - 1) none)) (aroundOf a (i - 1)) e
+open-entry x a i l e = ap (isOpen x) (aroundOf-less a i l) ∙ open-here x (moves.fresh (getD a (i - 1) none .element)) (aroundOf a (i - 1)) e
 
 pub open-further : (x : ℕ) (a : List Entry) (i : ℕ) → 1 ≤ i → (getD a (i - 1) none .element ≡ x → ⊥) → isOpen x (aroundOf a i) ≡ isOpen x (aroundOf a (i - 1))
-open-further x a i l n = ap (isOpen x) (aroundOf-less a i l) ∙ open-past x (opened (getD a (i - 1) none)) (aroundOf a (i - 1)) n
+open-further x a i l n = ap (isOpen x) (aroundOf-less a i l) ∙ open-past x (moves.fresh (getD a (i - 1) none .element)) (aroundOf a (i - 1)) n
 
--- What stays so from token to token
+-- What stands for a state of the rules
 
-place-in : (es : List Element) (e p : ℕ) → e ≤ length es → p ≤ width es e → InRange es (standing e p)
-place-in es e p d w = record { declared = d; place = rw (last-placed p) w }
+module _ (es : List Element) (M begun : List ℕ) (a : List Entry) where
+  -- Elements that are open have the same numbers, from the innermost outwards.
+  all-open : (x n : ℕ) (os : List rules.Open) → AllKept es M begun a n os → isOpen x (aroundOf a n) ≡ isOpen x os
+  unfolding isOpen
+  all-open x zero [] h = refl
+  all-open x zero (o ∷ os) h = absurd h
+  all-open x (suc n) [] h = absurd h
+  all-open x (suc n) (o ∷ os) h = open-same x (moves.fresh (getD a n none .element)) o (aroundOf a n) os (sym (h .0 .entered .number)) (all-open x n os (h .1))
 
-sound-place : (es : List Element) (e u p : ℕ) (os : List rules.Open) → p ≤ width es e → Sound es (standing e u) os → Sound es (standing e p) os
-sound-place es e u p [] w h = place-in es e p (h .declared) w
-sound-place es e u p (x ∷ os) w h = (h .0, place-in es e p (h .1 .declared) w, h .2)
+  all-length : (n : ℕ) (os : List rules.Open) → AllKept es M begun a n os → length os ≡ n
+  all-length zero [] h = refl
+  all-length zero (o ∷ os) h = absurd h
+  all-length (suc n) [] h = absurd h
+  all-length (suc n) (o ∷ os) h = ap suc (all-length n os (h .1))
 
-sound-first : (es : List Element) (o : rules.Open) (os : List rules.Open) → Sound es o os → InRange es o
-sound-first es o [] h = h
-sound-first es o (x ∷ os) h = h .1
+  -- The innermost of those around the current one, and the others.
+  all-first : (n : ℕ) (u : rules.Open) (os : List rules.Open) → AllKept es M begun a n (u ∷ os) → (1 ≤ n) × Kept es M begun (n - 1) (getD a (n - 1) none) u × AllKept es M begun a (n - 1) os
+  all-first zero u os h = absurd h
+  all-first (suc n) u os h = let e : suc n - 1 ≡ n = omega arith in (omega arith, rw e (h .0), rw e (h .1))
 
--- The current element is one of the type, at a place of its model.
-pub stands-range : {es : List Element} {o : Open} → Stands es o → InRange es (current o)
-stands-range {es} {o} h = sound-first es (current o) (around o) (h .sound)
+  -- What is written further in leaves them.
+  all-set : (k : ℕ) (x : Entry) (n : ℕ) (os : List rules.Open) → n ≤ k → AllKept es M begun a n os → AllKept es M begun (set a k x) n os
+  all-set k x zero [] l h = tt
+  all-set k x zero (o ∷ os) l h = absurd h
+  all-set k x (suc n) [] l h = absurd h
+  all-set k x (suc n) (o ∷ os) l h = (rw (getD-set-other a k n x none (λ e. omega arith)) (h .0), all-set k x n os (omega arith) (h .1))
 
-pub stands-place : {es : List Element} {o : Open} → Stands es o → o .place .0 ≤ width es (o .element .0)
-stands-place {es} {o} h = rw (last-placed (o .place .0)) at (stands-range h .place)
+  -- So does what begins at a level further in.
+  all-elsewhere : {s rows places facts : List ℕ} → Tables s es rows places facts M → {level : ℕ} (after : List ℕ) → Elsewhere level begun after → (n : ℕ) (os : List rules.Open) → n ≤ level → AllKept es M begun a n os → AllKept es M after a n os
+  all-elsewhere tables after other zero [] l h = tt
+  all-elsewhere tables after other zero (o ∷ os) l h = absurd h
+  all-elsewhere tables after other (suc n) [] l h = absurd h
+  all-elsewhere tables after other (suc n) (o ∷ os) l h =
+      let k = h .0 in (
+        record {
+          entered = entered-elsewhere tables (k .entered) other (λ e. omega arith);
+          complete = k .complete;
+          required = k .required;
+          document = k .document;
+          inner = k .inner;
+        },
+        all-elsewhere tables after other n os (omega arith) (h .1),
+      )
 
--- Around the current element there is an open one or the document: it is an element, and so may end.
-around-parts : {es : List Element} {o : Open} → Stands es o → 1 ≤ o .count → Sound es (current o) (current (ended o) ∷ around (ended o))
-around-parts {es} {o} h l = subst (λ (os : List rules.Open). Sound es (current o) os) (around-ended o l) (h .sound)
+-- Where one is open, the current one has a parent, which is the current one when that has ended.
+pub record Around (es : List Element) (M begun : List ℕ) (o : Open) (z : State) : Type 0 where
+  pub parent : rules.Open
+  pub others : List rules.Open
+  pub are : z .around ≡ parent ∷ others
+  pub number : parent .number ≡ ended o .element .0
+  pub stands : (ev : List Event) → Stands es M begun (ended o) (state parent others ev)
 
-pub stands-element : {es : List Element} {o : Open} → Stands es o → 1 ≤ o .count → 1 ≤ o .element .0
-stands-element h l = around-parts h l .0
+module _ {es : List Element} {M begun : List ℕ} {o : Open} {z : State} (h : Stands es M begun o z) where
+  pub stands-open : (x : ℕ) → isOpen x (bare o) ≡ isOpen x (z .current ∷ z .around)
+  stands-open x = open-same x (moves.fresh (o .element .0)) (z .current) (aroundOf (o .around) (o .count)) (z .around) (sym (h .current .entered .number)) (all-open es M begun (o .around) x (o .count) (z .around) (h .around))
 
--- Of the elements around the current one, the outermost alone is the document itself.
-pub parent-element : {es : List Element} {o : Open} → Stands es o → 1 < o .count → 1 ≤ ended o .element .0
-parent-element {es} {o} h l = subst (λ (os : List rules.Open). Sound es (current (ended o)) os) (around-ended (ended o) (omega arith)) (around-parts h (omega arith) .2) .0
+  -- As many are open as stand around the current one.
+  pub stands-deep : length (z .around) ≡ o .count
+  stands-deep = all-length es M begun (o .around) (o .count) (z .around) (h .around)
 
-pub parent-document : {es : List Element} {o : Open} → Stands es o → o .count ≡ 1 → ended o .element .0 ≡ 0
-parent-document {es} {o} h e = let z : o .count - 1 ≡ 0 = omega arith in rw z (h .outermost (omega arith))
+  -- Where one is open, the current one is an element, and not the document itself.
+  pub stands-element : 1 ≤ o .count → 1 ≤ o .element .0
+  stands-element l = h .current .inner l
 
--- The place that is kept as required is required after the place taken last.
-pub stands-requires : {es : List Element} {o : Open} → Stands es o → Requires es (o .element .0) (o .required .0) (o .place .0)
-stands-requires h = record { range = stands-range h; required = h .marked .required }
+  pub stands-ended : (u : rules.Open) (os : List rules.Open) → z .around ≡ u ∷ os → (ev : List Event) → Stands es M begun (ended o) (state u os ev)
+  stands-ended u os e ev =
+      let (l, x, y) = all-first es M begun (o .around) (o .count) u os (subst (λ (us : List rules.Open). AllKept es M begun (o .around) (o .count) us) e (h .around)) in
+      record { whole = h .whole; few = omega (arith, h .few); current = x; around = y }
+
+  pub stands-around : 1 ≤ o .count → Around es M begun o z
+  stands-around l = by-around (z .around) refl
+    where
+      by-around : (os : List rules.Open) → z .around ≡ os → Around es M begun o z
+      by-around [] e = absurd (omega (arith, stands-deep, ap (λ (us : List rules.Open). length us) e))
+      by-around (u ∷ os) e =
+          record { parent = u; others = os; are = e; number = stands-ended u os e [] .current .entered .number; stands = stands-ended u os e }
+
+  -- Nothing is around the current one where none is open.
+  pub stands-alone : o .count ≡ 0 → z .around ≡ []
+  stands-alone e = by-around (z .around) refl
+    where
+      by-around : (os : List rules.Open) → z .around ≡ os → z .around ≡ []
+      by-around [] i = i
+      by-around (u ∷ os) i = absurd (omega (arith, stands-deep, ap (λ (us : List rules.Open). length us) i))
+
+  -- Events are noted elsewhere.
+  pub stands-noted : (ev : List Event) → Stands es M begun o (state (z .current) (z .around) ev)
+  stands-noted ev = record { whole = h .whole; few = h .few; current = h .current; around = h .around }
+
+  -- An element is opened in the current one.
+  pub stands-opening : {s rows places facts : List ℕ} → Tables s es rows places facts M → (k : ℕ) → o .count < 24 → 1 ≤ k → k ≤ length es → Stands es M begun (opening rows k o) (enter k z)
+  stands-opening {rows = rows} tables k l some there =
+      record {
+        whole = simp length-set (h .whole);
+        few = omega arith;
+        current =
+            record {
+              entered = entered-fresh there;
+              complete = fresh-complete tables there;
+              required = fresh-required tables there;
+              document = λ e. absurd (omega arith);
+              inner = λ i. some;
+            };
+        around =
+            rw (add-one (o .count)) (
+              rw (getD-set-same (o .around) (o .count) (covered o) none (omega (arith, h .whole))) (h .current),
+              all-set es M begun (o .around) (o .count) (covered o) (o .count) (z .around) (omega arith) (h .around),
+            );
+      }
+
+-- The place is taken where its marks are made: the elements around have their bits at other levels.
+pub taking-by : {rows M before after : List ℕ} (o : Open) {p : Place} {c : Bool} {q : Place} → Marking rows M before (o .count) (o .element .0) (o .place .0) (p .0) after c (q .0)
+    → Taking rows M before (p .0) o (record { around = o .around; count = o .count; element = o .element; place = p; complete = c; required = q }) after
+taking-by {M = M} {before = before} {after = after} o m =
+    record {
+      around = refl;
+      count = refl;
+      element = refl;
+      place = refl;
+      small = m .small;
+      whole = m .whole;
+      elsewhere = m .elsewhere;
+      stands = λ s es places facts tables z h can.
+          let (entered, complete, required) = m .marks s es places facts tables (z .current) (h .current .entered) can in
+          record {
+            whole = h .whole;
+            few = h .few;
+            current = record { entered = entered; complete = complete; required = required; document = h .current .document; inner = h .current .inner };
+            around = all-elsewhere es M before (o .around) tables after (m .elsewhere) (o .count) (z .around) (omega arith) (h .around);
+          };
+    }
 
 -- Nothing is open: the document itself is not complete, and requires its one place.
-pub stands-fresh : (es : List Element) → Stands es fresh
-unfolding isCompleteIn requiredOf
-stands-fresh es =
+pub stands-fresh : (es : List Element) (M begun : List ℕ) → Stands es M begun fresh nothingOpen
+unfolding isCompleteIn requiredFor
+stands-fresh es M begun =
     record {
       whole = length-replicate 24 none;
       few = omega arith;
-      sound = place-in es 0 0 (omega arith) (omega arith);
-      marked = record { complete = refl; required = refl };
-      kept = λ k l. absurd (omega arith);
-      document = λ e. refl;
-      outermost = λ l. absurd (omega arith);
-    }
-
--- What the rows have after a place are the marks of the element there.
-rows-mark : {c : Settings} {s : List ℕ} {es : List Element} → Accepts c s es → {rows : List ℕ} → Rows es rows → {x : Entry} → x .element ≤ length es → x .place ≤ width es (x .element)
-    → x .complete ≡ completeAt rows (x .element) (x .place) → x .required ≡ requiredAt rows (x .element) (x .place) → Marked es x
-rows-mark {c} {s} {es} accepted {rows} said {x} d w m r =
-    record { complete = m ∙ said .complete (x .element) (x .place) d w; required = r ∙ required-kept s es accepted rows said (x .element) (x .place) d w }
-
-pub stands-took : {c : Settings} {s : List ℕ} {es : List Element} → Accepts c s es → {rows : List ℕ} → Rows es rows → {o : Open} (p : ℕ) → Stands es o → p ≤ width es (o .element .0) → Stands es (took rows p o)
-stands-took {c} {s} {es} accepted said {o} p h w =
-    record {
-      whole = h .whole;
-      few = h .few;
-      sound = sound-place es (o .element .0) (o .place .0) p (around o) w (h .sound);
-      marked = rows-mark accepted said (stands-range h .declared) w refl refl;
-      kept = h .kept;
-      document = h .document;
-      outermost = h .outermost;
-    }
-
--- The marks of the element in which another is opened are kept with it.
-kept-set : (es : List Element) (a : List Entry) (n : ℕ) (x : Entry) → n < length a → Marked es x → ((k : ℕ) → k < n → Marked es (getD a k none)) → (k : ℕ) → k < n + 1 → Marked es (getD (set a n x) k none)
-kept-set es a n x l m h k i = by-place (ℕ-discrete k n)
-  where
-    by-place : Dec (k ≡ n) → Marked es (getD (set a n x) k none)
-    by-place (yes e) = rw (e, getD-set-same a n x none l) m
-    by-place (no e) = rw (getD-set-other a n k x none e) (h k (omega arith))
-
--- The outermost entry stays where one is written further in; the first that is written is the document itself.
-outermost-set : (a : List Entry) (n : ℕ) (x : Entry) → n < length a → (n ≡ 0 → x .element ≡ 0) → (1 ≤ n → getD a 0 none .element ≡ 0) → getD (set a n x) 0 none .element ≡ 0
-outermost-set a zero x l d h = rw (getD-set-same a 0 x none l) (d refl)
-outermost-set a (suc n) x l d h = rw (getD-set-other a (suc n) 0 x none (λ e. omega arith)) (h (omega arith))
-
-pub stands-opening : {c : Settings} {s : List ℕ} {es : List Element} → Accepts c s es → {rows : List ℕ} → Rows es rows → {o : Open} (k : ℕ) → Stands es o → o .count < 24 → 1 ≤ k → k ≤ length es → Stands es (opening rows k o)
-stands-opening {c} {s} {es} accepted {rows} said {o} k h l some there =
-    record {
-      whole = simp length-set (h .whole);
-      few = omega arith;
-      sound =
-          subst (λ (os : List rules.Open). Sound es (standing k 0) os) (sym (around-opening rows k o (h .whole) l))
-          (some, place-in es k 0 there (omega arith), h .sound);
-      marked = rows-mark accepted said there (omega arith) refl refl;
-      kept = kept-set es (o .around) (o .count) (covered o) (omega (arith, h .whole)) (h .marked) (h .kept);
-      document = λ e. absurd (omega arith);
-      outermost = λ i. outermost-set (o .around) (o .count) (covered o) (omega (arith, h .whole)) (h .document) (h .outermost);
-    }
-
-pub stands-ended : {es : List Element} {o : Open} → Stands es o → 1 ≤ o .count → Stands es (ended o)
-stands-ended {es} {o} h l =
-    record {
-      whole = h .whole;
-      few = omega (arith, h .few);
-      sound = around-parts h l .2;
-      marked = h .kept (o .count - 1) (omega arith);
-      kept = λ k i. h .kept k (omega arith);
-      document = λ e. let z : o .count - 1 ≡ 0 = e in rw z (h .outermost l);
-      outermost = λ i. h .outermost l;
+      current = record { entered = entered-fresh (omega arith); complete = refl; required = refl; document = λ e. refl; inner = λ l. absurd (omega arith) };
+      around = tt;
     }
 
 -- What stays in range, whatever the tables hold
@@ -242,8 +234,16 @@ ranged-fresh =
       kept = λ k l. absurd (omega arith);
     }
 
-pub ranged-took : (rows : List ℕ) (p : ℕ) {o : Open} → Ranged o → p ≤ 96 → Ranged (took rows p o)
-ranged-took rows p {o} h l = record { whole = h .whole; few = h .few; element = h .element; place = l; required = required-small rows (o .element .0) p; kept = h .kept }
+pub ranged-taking : {rows M before after : List ℕ} {p : ℕ} {o r : Open} → Taking rows M before p o r after → Ranged o → p ≤ 96 → Ranged r
+ranged-taking t h l =
+    record {
+      whole = rw (t .around) (h .whole);
+      few = rw (t .count) (h .few);
+      element = rw (t .element) (h .element);
+      place = rw (t .place) l;
+      required = t .small;
+      kept = rw (t .around, t .count) (h .kept);
+    }
 
 -- What is kept of the current element is in range, and what was kept before stays.
 within-set : (a : List Entry) (n : ℕ) (x : Entry) → n < length a → Within x → ((k : ℕ) → k < n → Within (getD a k none)) → (k : ℕ) → k < n + 1 → Within (getD (set a n x) k none)

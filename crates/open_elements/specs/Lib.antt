@@ -1,4 +1,7 @@
 -- What the open elements of the code stand for, in the rules' terms.
 pub mod Means
+pub mod Owed
+pub mod Owing
 pub mod Laws
+pub mod Taken
 pub mod Marks

@@ -1,34 +1,28 @@
 -- What the kept marks say of the places taken, over walks: "Keep "complete" instead of asking again .. At every moment both must equal what
 -- 01's definition says of the places taken." (paper 02, request four)
 use Prim.Native.Nat.{ℕ, zero, suc, _≤_}
-use mathlib.Core.Path.{_≡_, refl, sym, _∙_, ap}
+use mathlib.Core.Path.{_≡_, refl, sym, _∙_, subst}
 use mathlib.Core.List.{List, [], _∷_}
 use native.Mathlib.Omega.{arith}
 use lib.ListN.{getD}
 use Rattle.rules.specs.Settings.{Settings}
 use Rattle.rules.specs.Walk.{Group}
-use Rattle.rules.specs.TypeFile.{Place, Content, empty, model, Element}
+use Rattle.rules.specs.TypeFile.{Place, model, Element}
 use Rattle.rules.specs.Judge.{Accepts}
 use Rattle.rules.specs.Elements.{contentOf}
-use Rattle.rules.specs.Decisions.{Decisions, Means}
-use Rattle.rules.specs.Events.{Event}
 use Rattle.rules.specs.Settling.{State}
 use Rattle.rules.specs.Acts.{MarksMean}
 use Rattle.rules.specs.Settling as rules
-use Rattle.rules_laws.specs.Within.{All, none, more}
-use Rattle.model_sets.specs.Reach.{lastOr0, next-sound}
-use Rattle.model_sets.specs.Pairs.{next-range}
-use Rattle.document_laws.specs.Decide.{isCompleteIn, requiredOf, decided}
+use Rattle.rules_laws.specs.Groups.{GuardedIn}
+use Rattle.and_laws.specs.Begun.{next-range}
+use Rattle.document_laws.specs.Decide.{content-guarded, decided}
+use Rattle.document_laws.specs.Numbers.{typeFile-guarded}
 use Rattle.document_laws.specs.Laws.{accepted-decided}
-use Rattle.document_laws.specs.Same.{Begun, AllBegun, Passes, passes-begun, passes-same}
 use Rattle.type_laws.specs.Width.{typeFile-width}
-use Rattle.last_places.specs.Last.{placed, lastOnly, allLast, short}
-use Rattle.last_places.specs.Short.{last-placed}
-use Rattle.last_places.specs.Turns.{Reaches}
 use Rattle.open_elements.specs.declared.Entry.{Entry}
 use Rattle.open_elements.specs.declared.Open.{Open}
 use Rattle.open_elements.specs.Means as kept
-use Rattle.open_elements.specs.Means.{opened, aroundOf, covered, stateOf, Marked, Stands}
+use Rattle.open_elements.specs.Means.{covered, Kept, AllKept, Stands}
 
 -- The entry is that of the rules' open element o, and its marks say so. An EMPTY element has no model, and none is ever entered.
 pub record Say (es : List Element) (x : Entry) (o : rules.Open) : Type 0 where
@@ -47,86 +41,41 @@ pub record MarksSay (es : List Element) (o : Open) (z : State) : Type 0 where
   pub current : Say es (covered o) (z .current)
   pub around : AllSay es (o .around) (o .count) (z .around)
 
--- The last place decides
-
-complete-last : (c : Content) (taken : List ℕ) → isCompleteIn c taken ≡ isCompleteIn c (placed (lastOr0 taken))
-unfolding isCompleteIn
-complete-last empty taken = refl
-complete-last (model g ps n) taken = rw (last-placed (lastOr0 taken))
-
-required-last : (c : Content) (taken : List ℕ) → requiredOf c taken ≡ requiredOf c (placed (lastOr0 taken))
-unfolding requiredOf
-required-last empty taken = refl
-required-last (model g ps n) taken = rw (last-placed (lastOr0 taken))
-
 module _ {c : Settings} (s : List ℕ) (es : List Element) (accepted : Accepts c s es) where
-  module _ (x : Entry) (o : rules.Open) (marked : Marked es x) (same : lastOnly o ≡ opened x) where
-    is-complete : x .complete ≡ isCompleteIn (contentOf es (o .number)) (o .taken)
-    is-complete =
-        marked .complete ∙ ap (λ (u : rules.Open). isCompleteIn (contentOf es (u .number)) (u .taken)) (sym same) ∙ sym (complete-last (contentOf es (o .number)) (o .taken))
+  say : {M begun : List ℕ} {level : ℕ} {x : Entry} {o : rules.Open} → Kept es M begun level x o → Say es x o
+  say {x = x} {o = o} h = record { element = sym (h .entered .number); marks = by-model }
+    where
+      by-model : {g : Group} {ps : List Place} {n : ℕ} → contentOf es (o .number) ≡ model g ps n → MarksMean (x .complete) (x .required) g (o .taken)
+      by-model {g} {ps} {n} e =
+          let means = accepted-decided s es accepted .walks (o .number) e (o .taken) (h .entered .begins (rw (h .entered .number) at e)) in
+          let numbered = typeFile-width c s es (accepted .elements) (o .number) e .2 in
+          let guarded = subst GuardedIn e (content-guarded es (typeFile-guarded c s es (accepted .elements) (accepted .unrepeated)) (o .number)) in
+          let is-complete : x .complete ≡ decided s es .complete (o .number) (o .taken) = rw (h .entered .number) (h .complete) in
+          let is-required : x .required ≡ decided s es .required (o .number) (o .taken) = rw (h .entered .number) (h .required) in
+          record {
+            complete = (λ t. means .complete .0 (sym is-complete ∙ t), λ w. is-complete ∙ means .complete .1 w);
+            required = λ p l. (
+              λ t. let q : p ≡ decided s es .required (o .number) (o .taken) = sym t ∙ is-required in rw q (means .required .some (rw q at l)),
+              λ r. is-required ∙ means .required .only p r,
+            );
+            none = (
+              λ t p r.
+                  let q : p ≡ 0 = sym (means .required .only p r) ∙ sym is-required ∙ t in
+                  omega (arith, next-range g numbered guarded (o .taken) p (r .next)),
+              λ none. is-required ∙ zero-if (decided s es .required (o .number) (o .taken)) (λ l. none _ (means .required .some l)),
+            );
+          }
+        where
+          zero-if : (n : ℕ) → (1 ≤ n → ⊥) → n ≡ 0
+          zero-if zero h = refl
+          zero-if (suc n) h = absurd (h (omega arith))
 
-    is-required : x .required ≡ requiredOf (contentOf es (o .number)) (o .taken)
-    is-required =
-        marked .required ∙ ap (λ (u : rules.Open). requiredOf (contentOf es (u .number)) (u .taken)) (sym same) ∙ sym (required-last (contentOf es (o .number)) (o .taken))
+  all-say : (M begun : List ℕ) (a : List Entry) (n : ℕ) (os : List rules.Open) → AllKept es M begun a n os → AllSay es a n os
+  all-say M begun a zero [] h = tt
+  all-say M begun a zero (o ∷ os) h = absurd h
+  all-say M begun a (suc n) [] h = absurd h
+  all-say M begun a (suc n) (o ∷ os) h = (say (h .0), all-say M begun a n os (h .1))
 
-    say : Begun es o → Say es x o
-    say b = record { element = ap (λ (u : rules.Open). u .number) (sym same); marks = by-model }
-      where
-        by-model : {g : Group} {ps : List Place} {n : ℕ} → contentOf es (o .number) ≡ model g ps n → MarksMean (x .complete) (x .required) g (o .taken)
-        by-model {g} {ps} {n} e =
-            let i : b .group ≡ g = cc in
-            let means = accepted-decided s es accepted .walks (o .number) e (o .taken) (rw i at (b .begins)) in
-            let numbered = typeFile-width c s es (accepted .elements) (o .number) e .2 in
-            record {
-              complete = (λ t. means .complete .0 (sym is-complete ∙ t), λ w. is-complete ∙ means .complete .1 w);
-              required = λ p l. (
-                λ t. let q : p ≡ decided s es .required (o .number) (o .taken) = sym t ∙ is-required in rw q (means .required .some (rw q at l)),
-                λ r. is-required ∙ means .required .only p r,
-              );
-              none = (
-                λ t p r.
-                    let q : p ≡ 0 = sym (means .required .only p r) ∙ sym is-required ∙ t in
-                    omega (arith, next-range g numbered (lastOr0 (o .taken)) p (next-sound g 1 numbered (omega arith) (o .taken) p (r .0))),
-                λ h. is-required ∙ zero-if (decided s es .required (o .number) (o .taken)) (λ l. h _ (means .required .some l)),
-              );
-            }
-          where
-            zero-if : (n : ℕ) → (1 ≤ n → ⊥) → n ≡ 0
-            zero-if zero h = refl
-            zero-if (suc n) h = absurd (h (omega arith))
-
-  all-say : (a : List Entry) (n : ℕ) (os : List rules.Open) → ((k : ℕ) → suc k ≤ n → Marked es (getD a k kept.none)) → allLast os ≡ aroundOf a n → All (Begun es) os → AllSay es a n os
-  all-say a zero [] h e b = tt
-  all-say a zero (o ∷ os) h e b = absurd (let z : _≡_ {A = ℕ} 0 1 = cc in omega arith)
-  all-say a (suc n) [] h e b = absurd (let z : _≡_ {A = ℕ} 0 1 = cc in omega arith)
-  all-say a (suc n) (o ∷ os) h e (more x b) =
-      let i : lastOnly o ≡ opened (getD a n kept.none) = cc in
-      let j : allLast os ≡ aroundOf a n = cc in
-      (say (getD a n kept.none) o (h n (omega arith)) i x, all-say a n os (λ k l. h k (omega arith)) j b)
-
-  -- So it is wherever `Stands` holds of the open elements and they have the last places of a state in which the places taken begin walks.
-  pub marks-say : (o : Open) → Stands es o → (z : State) (ev : List Event) → AllBegun es z → short z ≡ stateOf o ev → MarksSay es o z
-  marks-say o h z ev b e =
-      record {
-        current = say (covered o) (z .current) (h .marked) (ap (λ (y : State). y .current) e) (b .current);
-        around = all-say (o .around) (o .count) (z .around) (λ k l. h .kept k (omega arith)) (ap (λ (y : State). y .around) e) (b .around);
-      }
-
-  -- "At every moment both must equal what 01's definition says of the places taken": reading the document d, under any settings, has come to `at`,
-  -- and the rules, by whatever decisions mean the walks, come there with the state z, of which the marks say what the walks say.
-  pub record AtMoment (given : Settings) (d : List ℕ) (at : ℕ) (o : Open) : Type 0 where
-    pub state : State
-    pub passes : (D : Decisions) → Means s es D → Passes given s es D d at state
-    pub marks : MarksSay es o state
-
-  -- `Reaches` and `Stands` hold before the first token (`reaches-start`, `stands-fresh`), and by the contracts of `settling::token` and
-  -- `closing::end_tag` after each that is not refused: `Going` and `Turned` of document_events have both.
-  pub at-every-moment : (given : Settings) (d : List ℕ) (at : ℕ) (o : Open) (ev : List Event) → Stands es o → Reaches given s es d at (stateOf o ev) → AtMoment given d at o
-  at-every-moment given d at o ev h r =
-      let means = accepted-decided s es accepted in
-      let f = r .follows in
-      record {
-        state = f .state;
-        passes = λ D x. passes-same s es (decided s es) D means x d (f .passes);
-        marks = marks-say o h (f .state) ev (passes-begun s es (decided s es) means d (f .passes)) (f .same);
-      }
+  -- So it is wherever the open elements stand for a state of the rules.
+  pub marks-say : {M begun : List ℕ} {o : Open} {z : State} → Stands es M begun o z → MarksSay es o z
+  marks-say {M} {begun} {o} {z} h = record { current = say (h .current); around = all-say M begun (o .around) (o .count) (z .around) (h .around) }

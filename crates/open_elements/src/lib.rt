@@ -5,10 +5,12 @@ use layout::Place;
 use layout::ROWS;
 ghost use mathlib.Core.Path.{_≡_};
 ghost use mathlib.Core.Bool.{true};
-ghost use mathlib.Core.List.{_∷_};
-ghost use Prim.Native.Nat.{_≤_, _<_};
+ghost use mathlib.Core.List.{List};
+ghost use Prim.Native.Nat.{ℕ, _+_, _-_, _≤_, _<_};
+ghost use lib.ListN.{getD};
 ghost use Rattle.rules.specs.Settling.{shown, isOpen};
-ghost use Rattle.open_elements.specs.Means.{entry, fresh, took, opening, ended, current, around, Ranged};
+ghost use Rattle.type_tables.specs.Means.{rowAt, completeAt};
+ghost use Rattle.open_elements.specs.Means.{entry, fresh, opening, ended, bare, Ranged, Marking, Taking, Starting};
 
 // An open element, the place that was taken last in it, or 0, and its marks: whether its content is complete there, and
 // the place that is required, or 0. Each number is kept in a byte: `of` alone puts them there, and the methods alone read them.
@@ -40,6 +42,12 @@ pub struct Outcome {
     pub number: u32,
 }
 
+// The marks of an open element: whether its content is complete, and the place that is required, or 0.
+struct Marks {
+    complete: bool,
+    required: Place,
+}
+
 // The place as the event of a start has it, which took it in this parent: the document itself stands in no model, so that the document element
 // has 0.
 pub fn place_shown(parent: ElementNo, place: Place) -> Place
@@ -50,6 +58,52 @@ pub fn place_shown(parent: ElementNo, place: Place) -> Place
         return Place(0);
     }
     place
+}
+
+// The marks of the element e, whose model has an "&", where the place p is taken at the level after the place u. Its row has them, if no group lacks a
+// member: else the content is not complete, and the required place is that group's.
+//
+// It is called from two places, so that it stays out of line.
+fn among(
+    members: &[u8],
+    begun: &mut [u32; BEGUN],
+    level: usize,
+    e: ElementNo,
+    u: Place,
+    p: Place,
+    complete: bool,
+    kept: usize,
+) -> Marks
+    requires { ⌜ (level ≤ 24) × (e .0 ≤ 64) × (u .0 ≤ 96) × (p .0 ≤ 96) ⌝ }
+    ensures { λ r. ⌜ ((rows : List ℕ) → complete ≡ completeAt rows (e .0) (p .0) → kept ≡ getD rows (rowAt (e .0) (p .0) + 13) 0 → 96 < kept →
+        Marking rows (now (members .entry)) (now (begun .entry)) level (e .0) (u .0) (p .0) (now (begun .exit)) (r .complete) (r .required .0)) ⌝ }
+{
+    let m = and_groups::take(members, begun, level, e, u, p);
+    if m != 255 {
+        let due = Place(m);
+        return Marks {
+            complete: false,
+            required: due,
+        };
+    }
+    let due = lowered(kept);
+    Marks {
+        complete: complete,
+        required: due,
+    }
+}
+
+// The required place that is kept 128 higher; 0 where none is.
+fn lowered(kept: usize) -> Place
+    ensures { λ r. ⌜ (r .0 ≤ 96) × (kept ≤ 224 → r .0 ≡ kept - 128) ⌝ }
+{
+    if kept < 128 {
+        return Place(0);
+    }
+    if 224 < kept {
+        return Place(0);
+    }
+    Place(kept - 128)
 }
 
 impl Entry {
@@ -71,20 +125,6 @@ impl Entry {
         ensures { λ r. ⌜ r .0 ≡ self .element ⌝ }
     {
         ElementNo(numbers::wide(self.element))
-    }
-
-    // The place that was taken last in it.
-    fn last(self) -> Place
-        ensures { λ r. ⌜ r .0 ≡ self .place ⌝ }
-    {
-        Place(numbers::wide(self.place))
-    }
-
-    // The place that is required in it.
-    fn due(self) -> Place
-        ensures { λ r. ⌜ r .0 ≡ self .required ⌝ }
-    {
-        Place(numbers::wide(self.required))
     }
 }
 
@@ -120,23 +160,22 @@ impl Open {
         place: Place,
     ) -> Self
         requires { ⌜ Ranged self × (place .0 ≤ 96) ⌝ }
-        ensures { λ r. ⌜ r ≡ took (now (rows .entry)) (place .0) self ⌝ }
+        ensures { λ r. ⌜ Taking (now (rows .entry)) (now (members .entry)) (now (begun .entry)) (place .0) self r (now (begun .exit)) ⌝ }
     {
+        let n = self.count;
         let e = self.element;
-        let mut required = type_tables::kept(rows, e, place);
+        let u = self.place;
+        let kept = type_tables::kept(rows, e, place);
         let mut complete = type_tables::complete(rows, e, place);
-        if 96 < required {
-            let m = and_groups::take(members, begun, self.count, e, self.place, place);
-            if m == 255 {
-                required -= 128;
-            } else {
-                required = m;
-                complete = false;
-            }
+        let mut required = Place(kept);
+        if 96 < kept {
+            let m = among(members, begun, n, e, u, place, complete, kept);
+            complete = m.complete;
+            required = m.required;
         }
         self.place = place;
         self.complete = complete;
-        self.required = Place(required);
+        self.required = required;
         self
     }
 
@@ -169,23 +208,25 @@ impl Open {
         members: &[u8],
         begun: &mut [u32; BEGUN],
         element: ElementNo,
-    ) -> Self {
+    ) -> Self
+        requires { ⌜ Ranged self × (self .count < 24) × (element .0 ≤ 64) ⌝ }
+        ensures { λ r. ⌜ Starting (now (rows .entry)) (now (members .entry)) (now (begun .entry)) (element .0) self r (now (begun .exit)) ⌝ }
+    {
+        let n = self.count;
         let e = self.element;
+        let u = self.place;
         let place = self.required;
-        let mut required = type_tables::kept(rows, e, place);
+        let kept = type_tables::kept(rows, e, place);
         let mut complete = type_tables::complete(rows, e, place);
-        if 96 < required {
-            let m = and_groups::take(members, begun, self.count, e, self.place, place);
-            if m == 255 {
-                required -= 128;
-            } else {
-                required = m;
-                complete = false;
-            }
+        let mut required = Place(kept);
+        if 96 < kept {
+            let m = among(members, begun, n, e, u, place, complete, kept);
+            complete = m.complete;
+            required = m.required;
         }
         self.place = place;
         self.complete = complete;
-        self.required = Place(required);
+        self.required = required;
         self.start(rows, element)
     }
 
@@ -197,11 +238,13 @@ impl Open {
         let n = self.count - 1;
         let around = self.around;
         let parent = around[n];
+        let place = Place(numbers::wide(parent.place));
+        let required = Place(numbers::wide(parent.required));
         self.count = n;
         self.element = parent.number();
-        self.place = parent.last();
+        self.place = place;
         self.complete = parent.complete;
-        self.required = parent.due();
+        self.required = required;
         self
     }
 
@@ -216,7 +259,7 @@ impl Open {
     // Whether the element x is open.
     pub fn is_open(self, x: ElementNo) -> bool
         requires { ⌜ Ranged self ⌝ }
-        ensures { λ r. ⌜ r ≡ isOpen (x .0) (current self ∷ around self) ⌝ }
+        ensures { λ r. ⌜ r ≡ isOpen (x .0) (bare self) ⌝ }
     {
         let e = self.element;
         if e.0 == x.0 {

@@ -10,9 +10,9 @@ use Rattle.rules.specs.Document.{Tag, startTag, endTag, skipped, blank, piece}
 use Rattle.rules.specs.Document as rules
 use Rattle.rules.specs.Elements.{numberOf}
 use Rattle.rules.specs.Decisions.{pcdata}
+use Rattle.rules.specs.Settling.{Open, fitting}
 use Rattle.document_laws.specs.Decide.{decided}
 use Rattle.rules_laws.specs.Runs.{isRun, runEnd}
-use Rattle.last_places.specs.Last.{placed}
 use Rattle.pieces.specs.declared.Piece.{Piece}
 use Rattle.pieces.specs.declared.Piece.the-variants as found
 
@@ -23,10 +23,10 @@ pub record Names (c : Settings) (s : List ℕ) (es : List Element) (d : List ℕ
   pub there : piece c d at ≡ got (kind (record { name = name; size = size; after = after }))
   pub number : numberOf s es d name size ≡ x
 
--- What is ignored at `at`, up to `after`, in the element e after the place u.
-pub data Ignored (c : Settings) (s : List ℕ) (es : List Element) (d : List ℕ) (e u at after : ℕ) : Type 0 where
-  skips : piece c d at ≡ got (skipped after) → Ignored c s es d e u at after
-  separates : piece c d at ≡ got blank → decided s es .fits e (placed u) pcdata ≡ 0 → after ≡ at + 1 → Ignored c s es d e u at after
+-- What is ignored at `at`, up to `after`, in the open element o.
+pub data Ignored (c : Settings) (s : List ℕ) (es : List Element) (d : List ℕ) (o : Open) (at after : ℕ) : Type 0 where
+  skips : piece c d at ≡ got (skipped after) → Ignored c s es d o at after
+  separates : piece c d at ≡ got blank → fitting s es (decided s es) o pcdata ≡ 0 → after ≡ at + 1 → Ignored c s es d o at after
 
 -- What is refused at `at` whatever is open.
 pub data Unread (c : Settings) (s : List ℕ) (es : List Element) (d : List ℕ) (at number position : ℕ) : Type 0 where
@@ -35,22 +35,22 @@ pub data Unread (c : Settings) (s : List ℕ) (es : List Element) (d : List ℕ)
   undeclaredEnd : {after : ℕ} → Names c s es d endTag at 0 after → number ≡ 10 → position ≡ at → Unread c s es d at number position
 
 -- A run of data at `at`, up to `after`: a blank begins one only where data may come next.
-pub record Runs (c : Settings) (s : List ℕ) (es : List Element) (d : List ℕ) (e u at after : ℕ) : Type 0 where
+pub record Runs (c : Settings) (s : List ℕ) (es : List Element) (d : List ℕ) (o : Open) (at after : ℕ) : Type 0 where
   pub run : isRun (piece c d at) ≡ true
-  pub fits : piece c d at ≡ got blank → 1 ≤ decided s es .fits e (placed u) pcdata
+  pub fits : piece c d at ≡ got blank → 1 ≤ fitting s es (decided s es) o pcdata
   pub ends : after ≡ runEnd d (at + 1)
 
 -- What is to be settled at `at`, up to `after`: the start tag of the element x, or a run of data for 0.
-pub data ToSettle (c : Settings) (s : List ℕ) (es : List Element) (d : List ℕ) (e u at x after : ℕ) : Type 0 where
-  runs : x ≡ 0 → Runs c s es d e u at after → ToSettle c s es d e u at x after
-  starts : 1 ≤ x → Names c s es d startTag at x after → ToSettle c s es d e u at x after
+pub data ToSettle (c : Settings) (s : List ℕ) (es : List Element) (d : List ℕ) (o : Open) (at x after : ℕ) : Type 0 where
+  runs : x ≡ 0 → Runs c s es d o at after → ToSettle c s es d o at x after
+  starts : 1 ≤ x → Names c s es d startTag at x after → ToSettle c s es d o at x after
 
--- What the code finds at `at` of d, where the current element is e after the place u.
-abbrev pub Finds : Settings → (s : List ℕ) (es : List Element) (d : List ℕ) (e u at : ℕ) → Piece → Type 0
-Finds c s es d e u at (found.Token x after) = ToSettle c s es d e u at (x .0) after
-Finds c s es d e u at (found.End x after) = Names c s es d endTag at (x .0) after × (1 ≤ x .0)
-Finds c s es d e u at (found.Passed after) = Ignored c s es d e u at after
-Finds c s es d e u at (found.Refused f) = Unread c s es d at (f .number) (f .at)
+-- What the code finds at `at` of d, where the current element is o.
+abbrev pub Finds : Settings → (s : List ℕ) (es : List Element) (d : List ℕ) (o : Open) (at : ℕ) → Piece → Type 0
+Finds c s es d o at (found.Token x after) = ToSettle c s es d o at (x .0) after
+Finds c s es d o at (found.End x after) = Names c s es d endTag at (x .0) after × (1 ≤ x .0)
+Finds c s es d o at (found.Passed after) = Ignored c s es d o at after
+Finds c s es d o at (found.Refused f) = Unread c s es d at (f .number) (f .at)
 
 -- What is found moves on and stays within the document, which is `len` bytes long, and names an element that the tables have room for,
 -- whatever they hold.

@@ -1,9 +1,12 @@
 -- What stands at a position: what the code finds there, from the token, and where reading goes on.
 use Prim.Native.Nat.{ℕ, _+_, _≤_, _<_}
 use mathlib.Core.Path.{_≡_, refl, sym, _∙_, ap}
+use mathlib.Core.Bool.{Bool, true, false}
 use mathlib.Core.List.{List}
 use native.Mathlib.Omega.{arith}
 use lib.ListN.{length}
+use lib.Dec.{leb}
+use borrow.Author.Tests.{leb-true, leb-false}
 use Rattle.rules.specs.Settings.{Settings, mostNameLength}
 use Rattle.rules.specs.Reading.{got}
 use Rattle.rules.specs.TypeFile.{Element}
@@ -11,6 +14,7 @@ use Rattle.rules.specs.Document.{Tag, startTag, endTag, skipped, blank, dataByt
 use Rattle.rules.specs.Document as rules
 use Rattle.rules.specs.Elements.{numberOf}
 use Rattle.rules.specs.Decisions.{pcdata}
+use Rattle.rules.specs.Settling.{Open, fitting}
 use Rattle.layout.specs.declared.ElementNo.{ElementNo}
 use Rattle.layout.specs.Typed.{elementNo}
 use Rattle.document_laws.specs.Decide.{decided}
@@ -20,7 +24,6 @@ use Rattle.rules_laws.specs.Holds.{got-so}
 use Rattle.rules_laws.specs.Pieces.{TagRead, piece-read, piece-short}
 use Rattle.rules_laws.specs.Runs.{isRun, runEnd, runEnd-in}
 use Rattle.tags.specs.declared.Tag as text
-use Rattle.last_places.specs.Last.{placed}
 use Rattle.pieces.specs.declared.Piece.{Piece}
 use Rattle.pieces.specs.declared.Piece.the-variants as found
 use Rattle.pieces.specs.Means.{Names, Ignored, separates, undeclaredStart, undeclaredEnd, Runs, ToSettle, starts, Finds, Onward}
@@ -45,28 +48,34 @@ module _ (c : Settings) (s : List ℕ) (es : List Element) (d : List ℕ) (at : 
   named : (kind : Tag → rules.Piece) → piece c d at ≡ got (kind (tagIn t)) → Names c s es d kind at x (t .after)
   named kind p = record { name = t .name; size = t .size; there = p; number = sym q }
 
-  pub finds-start : (e u : ℕ) → piece c d at ≡ got (startTag (tagIn t)) → (x ≡ 0 → ⊥) → ToSettle c s es d e u at x (t .after)
-  finds-start e u p l = starts (omega arith) (named startTag p)
+  pub finds-start : (o : Open) → piece c d at ≡ got (startTag (tagIn t)) → (x ≡ 0 → ⊥) → ToSettle c s es d o at x (t .after)
+  finds-start o p l = starts (omega arith) (named startTag p)
 
   pub finds-end : piece c d at ≡ got (endTag (tagIn t)) → (x ≡ 0 → ⊥) → Names c s es d endTag at x (t .after) × (1 ≤ x)
   finds-end p l = (named endTag p, omega arith)
 
-  module _ (e u : ℕ) (z : x ≡ 0) (r : Piece) (w : r ≡ found.Refused (record { number = 10; at = at })) where
-    pub finds-undeclared-start : piece c d at ≡ got (startTag (tagIn t)) → Finds c s es d e u at r
+  module _ (o : Open) (z : x ≡ 0) (r : Piece) (w : r ≡ found.Refused (record { number = 10; at = at })) where
+    pub finds-undeclared-start : piece c d at ≡ got (startTag (tagIn t)) → Finds c s es d o at r
     finds-undeclared-start p = rw w (undeclaredStart (rw z at (named startTag p)) refl refl)
 
-    pub finds-undeclared-end : piece c d at ≡ got (endTag (tagIn t)) → Finds c s es d e u at r
+    pub finds-undeclared-end : piece c d at ≡ got (endTag (tagIn t)) → Finds c s es d o at r
     finds-undeclared-end p = rw w (undeclaredEnd (rw z at (named endTag p)) refl refl)
 
--- A blank is ignored where data does not fit, and begins a run where it does.
-module _ {c : Settings} {s : List ℕ} {es : List Element} {d : List ℕ} {e u at p : ℕ} (q : p ≡ decided s es .fits e (placed u) pcdata) (b : piece c d at ≡ got blank) where
-  pub finds-separator : p ≡ 0 → Ignored c s es d e u at (at + 1)
-  finds-separator z = separates b (sym q ∙ z) refl
+-- A blank is ignored where data does not fit, and begins a run where it does. The tables answer of the element e, which the open one is.
+says : (s : List ℕ) (es : List Element) (o : Open) {e : ℕ} {r : Bool} → o .number ≡ e → r ≡ leb 1 (decided s es .fits e (o .taken) pcdata) → r ≡ leb 1 (fitting s es (decided s es) o pcdata)
+says s es o n q = q ∙ ap (λ (k : ℕ). leb 1 (decided s es .fits k (o .taken) pcdata)) (sym n)
 
-  pub finds-blank-run : (p ≡ 0 → ⊥) → {after : ℕ} → after ≡ runEnd d (at + 1) → Runs c s es d e u at after
-  finds-blank-run l a = record { run = ap isRun b; fits = λ _. omega arith; ends = a }
+none-fits : (k : ℕ) → leb 1 k ≡ false → k ≡ 0
+none-fits k h = let l = leb-false 1 k h in omega arith
 
-pub finds-data-run : {c : Settings} {s : List ℕ} {es : List Element} {d : List ℕ} {e u at after : ℕ} → piece c d at ≡ got dataByte → after ≡ runEnd d (at + 1) → Runs c s es d e u at after
+module _ {c : Settings} {s : List ℕ} {es : List Element} {d : List ℕ} (o : Open) {e at : ℕ} {r : Bool} (n : o .number ≡ e) (q : r ≡ leb 1 (decided s es .fits e (o .taken) pcdata)) (b : piece c d at ≡ got blank) where
+  pub finds-separator : r ≡ false → Ignored c s es d o at (at + 1)
+  finds-separator z = separates b (none-fits (fitting s es (decided s es) o pcdata) (sym (says s es o n q) ∙ z)) refl
+
+  pub finds-blank-run : r ≡ true → {after : ℕ} → after ≡ runEnd d (at + 1) → Runs c s es d o at after
+  finds-blank-run z a = record { run = ap isRun b; fits = λ _. leb-true 1 (fitting s es (decided s es) o pcdata) (sym (says s es o n q) ∙ z); ends = a }
+
+pub finds-data-run : {c : Settings} {s : List ℕ} {es : List Element} {d : List ℕ} {o : Open} {at after : ℕ} → piece c d at ≡ got dataByte → after ≡ runEnd d (at + 1) → Runs c s es d o at after
 finds-data-run b a = record { run = ap isRun b; fits = λ w. let no : _≡_ {A = ℕ} 0 1 = cc in absurd (omega arith); ends = a }
 
 -- Where reading goes on

@@ -1,7 +1,7 @@
 // What stands at a position of a document, names looked up.
 //
-// `elements` and `index` are those of the crate element_index, `rows`, `places` and `facts` those of type_tables, `classes` that of
-// delimiters. Where the tables are no type's, what is found is not decided, but that its element is at most 64 and that it ends
+// `elements` and `index` are those of the crate element_index, `rows`, `places`, `facts` and `members` those of type_tables, `begun` has
+// the bits of what has begun in each open element, `classes` is the table of delimiters. Where the tables are no type's, what is found is not decided, but that its element is at most 64 and that it ends
 // further on, within the document, unless it is refused.
 use document_text::Token;
 use layout::BEGUN;
@@ -21,10 +21,10 @@ ghost use lib.ListN.{length};
 ghost use Rattle.rules.specs.Settings.{settings, mostNameLength};
 ghost use Rattle.rules.specs.TypeFile.{Element};
 ghost use Rattle.rules.specs.Elements.{numberOf};
-ghost use Rattle.last_places.specs.Last.{InRange};
+ghost use Rattle.rules.specs.Settling as rules;
 ghost use Rattle.delimiters.specs.Means.{Classes};
 ghost use Rattle.element_index.specs.Means.{Indexed};
-ghost use Rattle.type_tables.specs.Means.{standing, Tables};
+ghost use Rattle.type_tables.specs.Means.{Tables, Entered};
 ghost use Rattle.pieces.specs.Means.{Finds, Onward};
 
 // What stands at a position of the document, names looked up.
@@ -54,7 +54,7 @@ fn tagged(s: &[u8], elements: &[u32; RECORDS], index: &[u8; INDEX], d: &[u8], t:
     f.element
 }
 
-// What stands at `at`, where the current element is e after the place u.
+// What stands at `at`, where the current element, of which so many are around it as `level` says, is e after the place u.
 pub fn piece_at(
     long: usize,
     s: &[u8],
@@ -72,10 +72,10 @@ pub fn piece_at(
     u: Place,
     at: usize,
 ) -> Piece
-    requires { ⌜ Classes (now classes) × (long ≤ mostNameLength) × (e .0 ≤ 64) × (u .0 ≤ 96) × (at < length (now d)) × (length (now d) ≤ 65535) ⌝ }
+    requires { ⌜ Classes (now classes) × (long ≤ mostNameLength) × (level ≤ 24) × (e .0 ≤ 64) × (u .0 ≤ 96) × (at < length (now d)) × (length (now d) ≤ 65535) ⌝ }
     ensures { λ r. ⌜ Onward (length (now (d .entry))) at r ⌝ }
-    ensures { λ r. ⌜ ((es : List Element) → Indexed (now (s .entry)) es (now (elements .entry)) (now (index .entry)) → Tables (now (s .entry)) es (now (rows .entry)) (now (places .entry)) (now (facts .entry)) →
-        InRange es (standing (e .0) (u .0)) → Finds (settings long) (now (s .entry)) es (now (d .entry)) (e .0) (u .0) at r) ⌝ }
+    ensures { λ r. ⌜ ((es : List Element) → Indexed (now (s .entry)) es (now (elements .entry)) (now (index .entry)) → Tables (now (s .entry)) es (now (rows .entry)) (now (places .entry)) (now (facts .entry)) (now (members .entry)) →
+        (o : rules.Open) → Entered es (now (members .entry)) (now (begun .entry)) level (e .0) (u .0) o → Finds (settings long) (now (s .entry)) es (now (d .entry)) o at r) ⌝ }
 {
     let t = document_text::token_at(long, classes, d, at);
     let data = ElementNo(0);

@@ -11,8 +11,8 @@ use Rattle.rules.specs.Events.{Event}
 use Rattle.rules.specs.Settling.{State, takePlace, shown, placeTaken, limited, fitting}
 use Rattle.rules.specs.Walk.{lastOr0}
 use Rattle.document_laws.specs.Decide.{decided}
-use Rattle.last_places.specs.Last.{short}
-use Rattle.last_places.specs.Short.{state, last-placed, allLast-length, lastOnly-took, takePlace-short, fitting-short}
+use Rattle.turn_laws.specs.Last.{short}
+use Rattle.turn_laws.specs.Short.{state, last-placed, allLast-length, lastOnly-took, takePlace-short, fitting-short}
 use Rattle.open_elements.specs.declared.Open.{Open}
 use Rattle.open_elements.specs.Means.{current, around, stateOf, took}
 use Rattle.open_elements.specs.Laws.{around-length, around-last}

@@ -10,7 +10,7 @@ use Rattle.rules.specs.Elements.{contentOf, hasModel}
 use Rattle.rules.specs.Events.{startWritten, endOfEmpty, dataRun, Event}
 use Rattle.rules.specs.Settling.{State, placeTaken, enter, note, limited, fitting}
 use Rattle.document_laws.specs.Decide.{decided}
-use Rattle.last_places.specs.Last.{short, shortly}
+use Rattle.turn_laws.specs.Last.{short, shortly}
 use Rattle.type_tables.specs.Means.{Tables}
 use Rattle.open_elements.specs.declared.Open.{Open}
 use Rattle.open_elements.specs.declared.Outcome.{Outcome}

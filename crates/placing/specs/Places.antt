@@ -14,8 +14,8 @@ use Rattle.rules.specs.Decisions.{Token, start}
 use Rattle.rules.specs.Events.{Event, startWritten, endOfEmpty, dataRun}
 use Rattle.rules.specs.Settling.{State, shown, enter, note}
 use Rattle.document_laws.specs.Decide.{decided}
-use Rattle.last_places.specs.Last.{placed, short, shortly, InRange}
-use Rattle.last_places.specs.Short.{state}
+use Rattle.turn_laws.specs.Last.{placed, short, shortly, InRange}
+use Rattle.turn_laws.specs.Short.{state}
 use Rattle.type_tables.specs.Means.{standing, nameNumber, Declares, Facts, Tables}
 use Rattle.open_elements.specs.declared.Open.{Open}
 use Rattle.open_elements.specs.declared.Outcome.{Outcome}

@@ -11,7 +11,7 @@ use Rattle.rules.specs.Decisions.{Token, Decisions}
 use Rattle.rules.specs.Events.{Event}
 use Rattle.rules.specs.Settling.{State, takePlace, fitting, takeToken, isOver, settleFrom, settle, startElement}
 use Rattle.document_laws.specs.Decide.{decided}
-use Rattle.last_places.specs.Last.{short, shortly, takeRun}
+use Rattle.turn_laws.specs.Last.{short, shortly, takeRun}
 use Rattle.type_tables.specs.Means.{width, Tables}
 use Rattle.open_elements.specs.declared.Open.{Open}
 use Rattle.open_elements.specs.declared.Outcome.{Outcome}

@@ -9,7 +9,7 @@ use Rattle.rules.specs.TypeFile.{Content, empty, model, Element}
 use Rattle.rules.specs.Judge.{Answer, refusal, acceptance, PairStandsAt, FirstAmbiguous, here, later, Refuses, notOffered, tooLong, notAllowed, malformed, ambiguous, noRoom, Judged}
 use Rattle.rules.specs.Reader.{RefusesBoth, ReadAs}
 use Rattle.rules_laws.specs.Within.{typeFile-within, typeFile-count}
-use Rattle.last_places.specs.Within.{document-within}
+use Rattle.turn_laws.specs.Within.{document-within}
 use Rattle.document_reader.specs.declared.Answer as reader
 use Rattle.document_reader.specs.declared.Answer.the-variants as answer
 use Rattle.document_reader.specs.Means as means

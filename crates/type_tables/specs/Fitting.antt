@@ -11,8 +11,8 @@ use Rattle.rules.specs.Decisions.{Token, hasName}
 use Rattle.layout.specs.Sizes.{POSITIONS, FACT}
 use Rattle.model_sets.specs.Bits.{and-both}
 use Rattle.document_laws.specs.Decide.{search, search-passes, fitsIn}
-use Rattle.last_places.specs.Last.{placed, InRange}
-use Rattle.last_places.specs.Short.{last-placed}
+use Rattle.turn_laws.specs.Last.{placed, InRange}
+use Rattle.turn_laws.specs.Short.{last-placed}
 use Rattle.type_laws.specs.Width.{typeFile-width}
 use Rattle.type_tables.specs.Means.{standing, width, nameNumber, Declares, rowAt, bitOf, nextOf, Tables}
 use Rattle.type_tables.specs.Search.{search-most, search-none, search-hit, search-miss, search-both}

@@ -4,3 +4,4 @@ pub mod Search
 pub mod Ranges
 pub mod Fitting
 pub mod Inferring
+pub mod Marks

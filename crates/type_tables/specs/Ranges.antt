@@ -17,8 +17,8 @@ use Rattle.model_sets.specs.Reach.{lastOr0, next-sound}
 use Rattle.model_sets.specs.Must.{required-sound}
 use Rattle.model_sets.specs.Pairs.{next-range, row-begins}
 use Rattle.document_laws.specs.Decide.{requiredOf}
-use Rattle.last_places.specs.Last.{placed, InRange}
-use Rattle.last_places.specs.Short.{last-placed}
+use Rattle.turn_laws.specs.Last.{placed, InRange}
+use Rattle.turn_laws.specs.Short.{last-placed}
 use Rattle.type_laws.specs.Width.{typeFile-width}
 use Rattle.type_tables.specs.Means.{standing, width, rowAt, placeOr0, requiredAt, Rows}
 

@@ -26,20 +26,20 @@ use layout::Place;
 use layout::ROW;
 use layout::ROWS;
 ghost use mathlib.Core.Path.{_≡_};
-ghost use mathlib.Core.List.{List};
+ghost use mathlib.Core.Bool.{Bool};
+ghost use mathlib.Core.List.{List, []};
 ghost use Prim.Native.Nat.{ℕ, _+_, _*_, _/_, _%_, _≤_, _<_};
-ghost use lib.ListN.{getD};
-ghost use Rattle.rules.specs.Settings.{Settings};
+ghost use lib.ListN.{length, getD};
+ghost use lib.Dec.{leb};
 ghost use Rattle.rules.specs.TypeFile.{Element};
-ghost use Rattle.rules.specs.Judge.{Accepts};
 ghost use Rattle.rules.specs.Elements.{contentOf, hasModel, startO, endO};
 ghost use Rattle.rules.specs.Decisions.{Token};
 ghost use Rattle.rules.specs.Settling as rules;
 ghost use Rattle.rules.specs.Decisions as decisions;
 ghost use Rattle.layout.specs.Sizes.{POSITIONS};
 ghost use Rattle.document_laws.specs.Decide.{decided};
-ghost use Rattle.last_places.specs.Last.{placed, InRange};
-ghost use Rattle.type_tables.specs.Means.{standing, nameNumber, rowAt, bitOf, completeAt, requiredAt, Declares, Rows, Facts, Tables, Requires};
+ghost use Rattle.document_laws.specs.Moves.{fresh};
+ghost use Rattle.type_tables.specs.Means.{nameNumber, rowAt, bitOf, completeAt, requiredAt, Declares, Facts, Tables, Entered};
 
 // Where the row of the element e after the place u begins.
 pub fn row(e: ElementNo, u: Place) -> usize
@@ -58,27 +58,26 @@ fn bit(rows: &[u8; ROWS], e: ElementNo, u: Place, p: Place) -> bool
     (b >> (p.0 % 8)) % 2 == 1
 }
 
-// Whether the content of the element e is complete after the place u.
+// Whether the row of the element e after the place u has its content complete there.
 pub fn complete(rows: &[u8; ROWS], e: ElementNo, u: Place) -> bool
     requires { ⌜ (e .0 ≤ 64) × (u .0 ≤ 96) ⌝ }
     ensures { λ r. ⌜ r ≡ completeAt (now (rows .entry)) (e .0) (u .0) ⌝ }
-    ensures { λ r. ⌜ ((s : List ℕ) (es : List Element) → Rows es (now (rows .entry)) → InRange es (standing (e .0) (u .0)) →
-        r ≡ decided s es .complete (e .0) (placed (u .0))) ⌝ }
 {
     rows[row(e, u)] % 2 == 1
 }
 
-// The required place, or 0; 128 more where the model has an "&".
-pub fn kept(rows: &[u8; ROWS], e: ElementNo, u: Place) -> usize {
+// What the row of the element e after the place u has for the required place, or 0; 128 more where the model has an "&" and u is a place.
+pub fn kept(rows: &[u8; ROWS], e: ElementNo, u: Place) -> usize
+    requires { ⌜ (e .0 ≤ 64) × (u .0 ≤ 96) ⌝ }
+    ensures { λ r. ⌜ (r ≡ getD (now (rows .entry)) (rowAt (e .0) (u .0) + 13) 0) × (r ≤ 255) ⌝ }
+{
     numbers::wide(rows[row(e, u) + 13])
 }
 
-// The required place, or 0.
+// The required place that the row of the element e after the place u has, or 0.
 pub fn required(rows: &[u8; ROWS], e: ElementNo, u: Place) -> Place
     requires { ⌜ (e .0 ≤ 64) × (u .0 ≤ 96) ⌝ }
     ensures { λ r. ⌜ r .0 ≡ requiredAt (now (rows .entry)) (e .0) (u .0) ⌝ }
-    ensures { λ r. ⌜ ((c : Settings) (s : List ℕ) (es : List Element) → Accepts c s es → Rows es (now (rows .entry)) → InRange es (standing (e .0) (u .0)) →
-        r .0 ≡ decided s es .required (e .0) (placed (u .0))) ⌝ }
 {
     let p = numbers::wide(rows[row(e, u) + 13]);
     if 96 < p {
@@ -99,7 +98,7 @@ fn smaller(places: &[u8; PLACES], e: ElementNo, p: Place) -> Place
 // decided.
 fn start_omitted(facts: &[u8; FACTS], e: ElementNo) -> bool
     requires { ⌜ e .0 ≤ 64 ⌝ }
-    ensures { λ r. ⌜ ((s : List ℕ) (es : List Element) → Facts s es (now (facts .entry)) → Declares es (decisions.start (e .0)) → r ≡ startO es (e .0)) ⌝ }
+    ensures { λ r. ⌜ ((s : List ℕ) (es : List Element) (raised : ℕ → Bool) → Facts s es raised (now (facts .entry)) → Declares es (decisions.start (e .0)) → r ≡ startO es (e .0)) ⌝ }
 {
     facts[e.0 * FACT + 65] == 1
 }
@@ -107,7 +106,7 @@ fn start_omitted(facts: &[u8; FACTS], e: ElementNo) -> bool
 // Whether the end tag of the element e may be omitted. Of an element that is not declared, or where the tables are no type's, it is not decided.
 pub fn end_omitted(facts: &[u8; FACTS], e: ElementNo) -> bool
     requires { ⌜ e .0 ≤ 64 ⌝ }
-    ensures { λ r. ⌜ ((s : List ℕ) (es : List Element) → Facts s es (now (facts .entry)) → Declares es (decisions.start (e .0)) → r ≡ endO es (e .0)) ⌝ }
+    ensures { λ r. ⌜ ((s : List ℕ) (es : List Element) (raised : ℕ → Bool) → Facts s es raised (now (facts .entry)) → Declares es (decisions.start (e .0)) → r ≡ endO es (e .0)) ⌝ }
 {
     facts[e.0 * FACT + 66] == 1
 }
@@ -115,7 +114,7 @@ pub fn end_omitted(facts: &[u8; FACTS], e: ElementNo) -> bool
 // Whether the content of the element e is a model. Of an element that is not declared, or where the tables are no type's, it is not decided.
 pub fn has_model(facts: &[u8; FACTS], e: ElementNo) -> bool
     requires { ⌜ e .0 ≤ 64 ⌝ }
-    ensures { λ r. ⌜ ((s : List ℕ) (es : List Element) → Facts s es (now (facts .entry)) → Declares es (decisions.start (e .0)) →
+    ensures { λ r. ⌜ ((s : List ℕ) (es : List Element) (raised : ℕ → Bool) → Facts s es raised (now (facts .entry)) → Declares es (decisions.start (e .0)) →
         r ≡ hasModel (contentOf es (e .0))) ⌝ }
 {
     facts[e.0 * FACT + 67] == 1
@@ -183,9 +182,10 @@ pub fn fitting(
     u: Place,
     x: ElementNo,
 ) -> Place
-    requires { ⌜ (e .0 ≤ 64) × (u .0 ≤ 96) × (x .0 ≤ 64) ⌝ }
-    ensures { λ r. ⌜ ((s : List ℕ) (es : List Element) → Tables s es (now (rows .entry)) (now (places .entry)) (now (facts .entry)) → InRange es (standing (e .0) (u .0)) →
-        (t : Token) → nameNumber t ≡ x .0 → Declares es t → r .0 ≡ decided s es .fits (e .0) (placed (u .0)) t) ⌝ }
+    requires { ⌜ (level ≤ 24) × (e .0 ≤ 64) × (u .0 ≤ 96) × (x .0 ≤ 64) ⌝ }
+    ensures { λ r. ⌜ ((s : List ℕ) (es : List Element) → Tables s es (now (rows .entry)) (now (places .entry)) (now (facts .entry)) (now (members .entry)) →
+        (o : rules.Open) → Entered es (now (members .entry)) (now (begun .entry)) level (e .0) (u .0) o →
+        (t : Token) → nameNumber t ≡ x .0 → Declares es t → r .0 ≡ decided s es .fits (e .0) (o .taken) t) ⌝ }
     ensures { λ r. ⌜ r .0 ≤ 96 ⌝ }
 {
     let name = x.0;
@@ -206,7 +206,12 @@ pub fn takes_data(
     level: usize,
     e: ElementNo,
     u: Place,
-) -> bool {
+) -> bool
+    requires { ⌜ (level ≤ 24) × (e .0 ≤ 64) × (u .0 ≤ 96) ⌝ }
+    ensures { λ r. ⌜ ((s : List ℕ) (es : List Element) → Tables s es (now (rows .entry)) (now (places .entry)) (now (facts .entry)) (now (members .entry)) →
+        (o : rules.Open) → Entered es (now (members .entry)) (now (begun .entry)) level (e .0) (u .0) o →
+        r ≡ leb 1 (decided s es .fits (e .0) (o .taken) decisions.pcdata)) ⌝ }
+{
     let p = numbers::wide(facts[e.0 * FACT]);
     if 96 < p {
         let q = largest_among(rows, places, members, begun, level, e, u, p);
@@ -223,7 +228,12 @@ pub fn fitting_first(
     facts: &[u8; FACTS],
     e: ElementNo,
     x: ElementNo,
-) -> Place {
+) -> Place
+    requires { ⌜ (e .0 ≤ 64) × (x .0 ≤ 64) ⌝ }
+    ensures { λ r. ⌜ ((s : List ℕ) (es : List Element) (M : List ℕ) → Tables s es (now (rows .entry)) (now (places .entry)) (now (facts .entry)) M → e .0 ≤ length es →
+        (t : Token) → nameNumber t ≡ x .0 → Declares es t → r .0 ≡ decided s es .fits (e .0) [] t) ⌝ }
+    ensures { λ r. ⌜ r .0 ≤ 96 ⌝ }
+{
     let name = x.0;
     let mut p = numbers::wide(facts[e.0 * FACT + name]);
     if 96 < p {
@@ -242,8 +252,9 @@ pub fn fitting_first(
 // The element whose start is to be inferred in the element e where the place p is required, or 0.
 pub fn startable(places: &[u8; PLACES], facts: &[u8; FACTS], e: ElementNo, p: Place) -> ElementNo
     requires { ⌜ e .0 ≤ 64 ⌝ }
-    ensures { λ r. ⌜ ((s : List ℕ) (es : List Element) (rows : List ℕ) → Tables s es rows (now (places .entry)) (now (facts .entry)) → (u : ℕ) → Requires es (e .0) (p .0) u →
-        r .0 ≡ rules.inferable s es (decided s es) (standing (e .0) u)) ⌝ }
+    ensures { λ r. ⌜ ((s : List ℕ) (es : List Element) (rows M : List ℕ) → Tables s es rows (now (places .entry)) (now (facts .entry)) M →
+        (o : rules.Open) (begun : List ℕ) (level u : ℕ) → Entered es M begun level (e .0) u o → p .0 ≡ rules.requiredPlace s es (decided s es) o →
+        r .0 ≡ rules.inferable s es (decided s es) o) ⌝ }
     ensures { λ r. ⌜ r .0 ≤ 64 ⌝ }
 {
     let none = ElementNo(0);
@@ -278,8 +289,8 @@ pub fn inferable(
     e: ElementNo,
 ) -> ElementNo
     requires { ⌜ e .0 ≤ 64 ⌝ }
-    ensures { λ r. ⌜ ((s : List ℕ) (es : List Element) → Tables s es (now (rows .entry)) (now (places .entry)) (now (facts .entry)) → InRange es (standing (e .0) 0) →
-        r .0 ≡ rules.inferable s es (decided s es) (standing (e .0) 0)) ⌝ }
+    ensures { λ r. ⌜ ((s : List ℕ) (es : List Element) (M : List ℕ) → Tables s es (now (rows .entry)) (now (places .entry)) (now (facts .entry)) M → e .0 ≤ length es →
+        r .0 ≡ rules.inferable s es (decided s es) (fresh (e .0))) ⌝ }
     ensures { λ r. ⌜ r .0 ≤ 64 ⌝ }
 {
     let none = Place(0);

@@ -17,7 +17,7 @@ use Rattle.document_laws.specs.Decide.{decided}
 use Rattle.document_laws.specs.Same.{link}
 use Rattle.document_laws.specs.Chain.{chain-leads, chain-shortest}
 use Rattle.type_laws.specs.Names.{numberOf-range}
-use Rattle.last_places.specs.Last.{placed, InRange}
+use Rattle.turn_laws.specs.Last.{placed, InRange}
 use Rattle.type_tables.specs.Means.{standing, nameNumber, Declares, Tables, Requires}
 use Rattle.ways.specs.declared.Way.the-variants.{Taken, Inferred, Stuck}
 use Rattle.ways.specs.Means.{wayOf, chained}

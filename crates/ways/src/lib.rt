@@ -20,7 +20,7 @@ ghost use Rattle.rules.specs.Elements.{contentOf, hasModel};
 ghost use Rattle.rules.specs.Decisions.{Token};
 ghost use Rattle.rules.specs.Decisions as decisions;
 ghost use Rattle.document_laws.specs.Decide.{decided};
-ghost use Rattle.last_places.specs.Last.{placed, InRange};
+ghost use Rattle.turn_laws.specs.Last.{placed, InRange};
 ghost use Rattle.type_tables.specs.Means.{standing, nameNumber, Declares, Facts, Tables, Requires};
 ghost use Rattle.ways.specs.Means.{wayOf, chained, startsOf, fitOf, placeOf, MayEnd};
 

@@ -23,9 +23,9 @@ partner-requires : tie.Need-partner-requires Inv-loop μ-loop
 partner-requires c κs = (omega arith, c .before .before .before .keys-of .ensures)
 
 returns : tie.Need-returns Inv-loop μ-loop
-returns c F t =
+returns c =
     let turn = c .before .before .before in
-    pairs-found _ _ _ _ _ (turn .before .loop .inv .2 F t) _ (omega arith) (c .before .partner .ensures F t) (omega arith)
+    (λ F t. pairs-found _ _ _ _ _ (turn .before .loop .inv .2 F t) _ (omega arith) (c .before .partner .ensures .0 F t) (omega arith), (omega arith, c .before .partner .ensures .1))
 
 add-p : tie.Need-add-p Inv-loop μ-loop
 add-p c = omega arith
@@ -36,10 +36,10 @@ loop-less c = omega arith
 loop-again : tie.Need-loop-again Inv-loop μ-loop
 loop-again c =
     let turn = c .before .before .before in
-    (omega arith, omega arith, λ F t. pairs-past _ _ _ _ _ (turn .before .loop .inv .2 F t) _ (omega arith) (c .before .partner .ensures F t) (omega arith))
+    (omega arith, omega arith, λ F t. pairs-past _ _ _ _ _ (turn .before .loop .inv .2 F t) _ (omega arith) (c .before .partner .ensures .0 F t) (omega arith))
 
 returns-2 : tie.Need-returns-2 Inv-loop μ-loop
-returns-2 c F t = pairs-none _ _ _ _ _ (c .before .loop .inv .2 F t) (omega arith)
+returns-2 c = (λ F t. pairs-none _ _ _ _ _ (c .before .loop .inv .2 F t) (omega arith), (omega arith, omega arith))
 
 pub first-pair-spec : {M : Type 1} → statement M
 first-pair-spec =

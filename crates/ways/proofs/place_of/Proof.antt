@@ -3,7 +3,7 @@ use mathlib.Core.Path.{sym, _∙_, ap}
 use native.Mathlib.Omega.{arith}
 use borrow.Author.Needs.{needs}
 use Rattle.document_laws.specs.Decide.{decided}
-use Rattle.last_places.specs.Last.{placed}
+use Rattle.turn_laws.specs.Last.{placed}
 use Rattle.ways.specs.Means.{placeOf}
 use Rattle.ways.proofs.place_of.Statement.{statement}
 use Rattle.ways.proofs.place_of.Tie as tie

@@ -13,19 +13,19 @@ mul-parent c = search needs
 array-copy-out-parent : tie.Need-array-copy-out-parent
 array-copy-out-parent c = search needs
 
+wide-requires : tie.Need-wide-requires
+wide-requires c κs = search needs
+
+wide-requires-2 : tie.Need-wide-requires-2
+wide-requires-2 c κs = search needs
+
 number-requires : tie.Need-number-requires
 number-requires c κs = search needs
-
-last-requires : tie.Need-last-requires
-last-requires c κs = search needs
-
-due-requires : tie.Need-due-requires
-due-requires c κs = search needs
 
 returns : tie.Need-returns
 returns c =
     let a = c .before .before .before .before .before .before .args in
-    ended-by (a .self) (c .before .before .number .ensures) (c .before .last .ensures) (c .due .ensures)
+    ended-by (a .self) (c .number .ensures) (c .before .before .wide .ensures .0) (c .before .wide2 .ensures .0)
 
 pub end-spec : {M : Type 1} → statement M
 end-spec =
@@ -34,7 +34,7 @@ end-spec =
     sub-n
     mul-parent
     array-copy-out-parent
+    wide-requires
+    wide-requires-2
     number-requires
-    last-requires
-    due-requires
     returns)

@@ -1,12 +1,11 @@
 -- `is_open` meets its contract: what is still to be looked at decides, from the innermost outwards.
 use Prim.Native.Nat.{_≤_}
 use mathlib.Core.Path.{_≡_, refl, sym, _∙_}
-use mathlib.Core.List.{_∷_}
 use native.Mathlib.Omega.{arith}
 use borrow.Author.Needs.{needs}
 use Rattle.rules.specs.Settling.{isOpen}
 use Rattle.open_elements.specs.Laws.{open-here, open-past, open-none, open-entry, open-further}
-use Rattle.open_elements.specs.Means.{aroundOf, current, around}
+use Rattle.open_elements.specs.Means.{aroundOf, bare}
 use Rattle.open_elements.proofs.Open.is_open.Statement.{statement}
 use Rattle.open_elements.proofs.Open.is_open.Tie as tie
 
@@ -19,7 +18,7 @@ abbrev μ-loop : tie.MeasureT-loop
 -- the current element is another
 past : (p : tie.At-loop Inv-loop μ-loop) →
     let a = p .before .before .before .before .before .before .args in
-    isOpen (a .x .0) (current (a .self) ∷ around (a .self)) ≡ isOpen (a .x .0) (aroundOf (a .self .around) (p .loop .i))
+    isOpen (a .x .0) (bare (a .self)) ≡ isOpen (a .x .0) (aroundOf (a .self .around) (p .loop .i))
 past p = open-past _ _ _ (p .before .before .if1 .left) ∙ p .loop .inv .1
 
 returns : tie.Need-returns Inv-loop μ-loop

@@ -25,7 +25,7 @@ required-requires c κs = search needs
 returns : tie.Need-returns
 returns c =
     let a = c .before .before .before .before .before .before .before .args in
-    opening-by (a .rows .now) (a .element) (a .self) (c .before .before .before .of .ensures) (c .before .complete .ensures .0) (c .required .ensures .0)
+    opening-by (a .rows .now) (a .element) (a .self) (c .before .before .before .of .ensures) (c .before .complete .ensures) (c .required .ensures)
 
 pub start-spec : {M : Type 1} → statement M
 start-spec =

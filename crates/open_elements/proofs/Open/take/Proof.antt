@@ -1,19 +1,31 @@
--- `take` meets its contract: the marks are what the rows have after the place.
-use Rattle.open_elements.specs.Laws.{took-by}
+-- `take` meets its contract: the marks are what the row has after the place, or what is left by the groups that lack a member.
+use mathlib.Core.Path.{ap}
+use mathlib.Core.Logic.{⊎-elim}
 use borrow.Author.Needs.{needs}
+use Rattle.layout.specs.declared.Place.{Place}
+use Rattle.open_elements.specs.Laws.{taking-by}
+use Rattle.open_elements.specs.Taken.{marking-same, marking-plain}
 use Rattle.open_elements.proofs.Open.take.Statement.{statement}
 use Rattle.open_elements.proofs.Open.take.Tie as tie
+
+kept-requires : tie.Need-kept-requires
+kept-requires c κs = search needs
 
 complete-requires : tie.Need-complete-requires
 complete-requires c κs = search needs
 
-required-requires : tie.Need-required-requires
-required-requires c κs = search needs
+among-requires : tie.Need-among-requires
+among-requires c κs = search needs
 
 returns : tie.Need-returns
 returns c =
-    let a = c .before .before .before .args in
-    took-by (a .rows .now) (a .place) (a .self) (c .before .complete .ensures .0) (c .required .ensures .0)
+    let b = c .before in
+    let a = b .before .before .before .before .before .args in
+    taking-by (a .self)
+    (⊎-elim
+    (λ w. marking-same (w .4) (w .5) (ap (λ (p : Place). p .0) (w .6)) (w .2 .ensures (a .rows .now) (b .complete .ensures) (b .before .kept .ensures .0) (w .0 .taken)))
+    (λ w. marking-same (w .1) (w .2) (ap (λ (p : Place). p .0) (w .3)) (marking-plain (b .before .kept .ensures .0) (b .complete .ensures) (w .0 .left)))
+    (c .if1 .came))
 
 pub take-spec : {M : Type 1} → statement M
-take-spec = tie.close (tie.spec complete-requires required-requires returns)
+take-spec = tie.close (tie.spec kept-requires complete-requires among-requires returns)

@@ -4,20 +4,21 @@ use mathlib.Core.Path.{_≡_, refl, ap}
 use mathlib.Core.Bool.{false}
 use mathlib.Core.List.{List}
 use Rattle.rules.specs.TypeFile.{Element}
-use Rattle.rules.specs.Decisions.{Token, Decisions}
+use Rattle.rules.specs.Decisions.{Token, Decisions, Means}
 use Rattle.rules.specs.Events.{Event}
 use Rattle.rules.specs.Settling.{Open, State, takePlace, enter, fitting, settle, startElement, endElement}
 use Rattle.rules_laws.specs.Holds.{Holds}
 use Rattle.rules_laws.specs.Both.{first}
 use Rattle.document_laws.specs.Moves.{parent-is, At, Closed, Moves, Itself, keeps-ends, answers-itself, any-moves, settle-both, startElement-both, endElement-both}
-use Rattle.last_places.specs.Last.{joins}
-use Rattle.last_places.specs.Short.{took}
-use Rattle.last_places.specs.Joins.{joins-other}
+use Rattle.document_laws.specs.Same.{Begun, AllBegun, begun-moves}
+use Rattle.turn_laws.specs.Means.{joins, took}
+use Rattle.turn_laws.specs.Joins.{joins-other}
 
--- The token t was settled, where `before` were the events: it is the last that the current element took, and no data goes on an event that is
--- new.
+-- The token t was settled, where `before` were the events: it is the last that the current element took, where the places taken began a walk, and no data
+-- goes on an event that is new.
 pub record Settled (s : List ℕ) (es : List Element) (D : Decisions) (t : Token) (before : List Event) (x : State) : Type 0 where
   pub place : Open
+  pub begun : Begun es place
   pub fits : 1 ≤ fitting s es D place t
   pub current : x .current ≡ took place (fitting s es D place t)
   pub parted : (j : ℕ) → joins j before ≡ false → joins j (x .events) ≡ false
@@ -34,25 +35,36 @@ closed-parted : (x : State) → Closed x → Parted x
 closed-parted x c j = rw (c .last) (joins-other j (c .before) (c .event) (c .other))
 
 module _ (s : List ℕ) (es : List Element) (D : Decisions) where
-  parted-moves : (before : List Event) → Moves s es D D (Itself (PartedFrom before))
-  parted-moves before =
+  -- What settling keeps: the places taken begin walks, and no data goes on an event that is new.
+  abbrev Kept : List Event → State → Type 0
+  Kept before z = AllBegun es z × PartedFrom before z
+
+  kept-moves : Means s es D → (before : List Event) → Moves s es D D (Itself (Kept before))
+  kept-moves means before =
+      let moves = begun-moves s es D D means means in
       record {
         ends =
             keeps-ends
             (record {
               alike = λ {z} h. answers-itself s es D (z .current);
-              note = λ {z} h e k j i. joins-other j (z .events) e k;
-              leave = λ {z} h. parent-is (PartedFrom before) z h (λ u around e. h);
+              note = λ {z} h e k. (moves .ends .note (refl, h .0) e k .1, λ j i. joins-other j (z .events) e k);
+              leave = λ {z} h. (moves .ends .leave (refl, h .0) .1, parent-is (PartedFrom before) z (h .1) (λ u around e. h .1));
             });
-        taking = λ q p c. (ap (takePlace p) (q .0), q .1);
-        enter = λ q k m. (ap (enter k) (q .0), q .1);
+        taking = λ {z} q p c. (ap (takePlace p) (q .0), (moves .taking (q .0, q .1 .0) p c .1, q .1 .1));
+        enter = λ q k m. (ap (enter k) (q .0), (moves .enter (q .0, q .1 .0) k m .1, q .1 .1));
       }
 
-  pub settle-leaves : (t : Token) (at : ℕ) (z : State) → Holds (At at) (Settled s es D t (z .events)) (settle s es D t at z)
-  settle-leaves t at z =
-      first (settle-both (parted-moves (z .events)) t at (refl, λ j h. h))
+  pub settle-leaves : Means s es D → (t : Token) (at : ℕ) (z : State) → AllBegun es z → Holds (At at) (Settled s es D t (z .events)) (settle s es D t at z)
+  settle-leaves means t at z begun =
+      first (settle-both (kept-moves means (z .events)) t at (refl, (begun, λ j h. h)))
       (λ x w a.
-      record { place = a .here .current; fits = a .fits; current = ap (λ (y : State). y .current) (a .first); parted = λ j h. rw (a .first) (a .keeps .1 j h) })
+      record {
+        place = a .here .current;
+        begun = a .keeps .1 .0 .current;
+        fits = a .fits;
+        current = ap (λ (y : State). y .current) (a .first);
+        parted = λ j h. rw (a .first) (a .keeps .1 .1 j h);
+      })
 
   -- The last event is no data, so a run that follows is a new one.
 

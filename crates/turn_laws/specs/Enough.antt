@@ -19,7 +19,7 @@ use Rattle.rules_laws.specs.Pieces.{PieceRead, piece-read}
 use Rattle.model_sets.specs.Bits.{bool-cases}
 use Rattle.document_laws.specs.Moves.{At, pieceEnd, any-moves, any-datum, settlePiece-both}
 use Rattle.document_laws.specs.Same.{Passes, begins, goes}
-use Rattle.last_places.specs.Last.{pieces}
+use Rattle.turn_laws.specs.Means.{pieces}
 
 -- A piece that is read moves on and stays within the document.
 pub piece-moves : (c : Settings) (d : List ℕ) (at : ℕ) → at < length d → (p : Piece) → piece c d at ≡ got p → (at < pieceEnd p at) × (pieceEnd p at ≤ length d)

@@ -1,0 +1,2 @@
+-- What is decided by the members that have begun.
+pub mod Means

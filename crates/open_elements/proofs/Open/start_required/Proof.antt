@@ -1,0 +1,46 @@
+-- `start_required` meets its contract: the place is taken as in `take`, then the element opened.
+use mathlib.Core.Path.{ap}
+use mathlib.Core.Logic.{⊎-elim}
+use native.Mathlib.Omega.{arith}
+use borrow.Author.Needs.{needs}
+use Rattle.layout.specs.declared.Place.{Place}
+use Rattle.open_elements.specs.Means.{Taking}
+use Rattle.open_elements.specs.Laws.{taking-by, ranged-taking}
+use Rattle.open_elements.specs.Taken.{marking-same, marking-plain}
+use Rattle.open_elements.proofs.Open.start_required.Statement.{statement}
+use Rattle.open_elements.proofs.Open.start_required.Tie as tie
+
+kept-requires : tie.Need-kept-requires
+kept-requires c κs = search needs
+
+complete-requires : tie.Need-complete-requires
+complete-requires c κs = search needs
+
+among-requires : tie.Need-among-requires
+among-requires c κs = search needs
+
+-- the place is taken
+took : (c : tie.Joined1) →
+    let a = c .before .before .before .before .before .before .before .args in
+    Taking (a .rows .now) (a .members .now) (a .begun .now) (a .self .required .0) (a .self)
+    (record { around = a .self .around; count = a .self .count; element = a .self .element; place = a .self .required; complete = c .if1 .complete; required = c .if1 .required })
+    (c .if1 .begun)
+took c =
+    let b = c .before in
+    let a = b .before .before .before .before .before .before .args in
+    taking-by (a .self)
+    (⊎-elim
+    (λ w. marking-same (w .4) (w .5) (ap (λ (p : Place). p .0) (w .6)) (w .2 .ensures (a .rows .now) (b .complete .ensures) (b .before .kept .ensures .0) (w .0 .taken)))
+    (λ w. marking-same (w .1) (w .2) (ap (λ (p : Place). p .0) (w .3)) (marking-plain (b .before .kept .ensures .0) (b .complete .ensures) (w .0 .left)))
+    (c .if1 .came))
+
+start-requires : tie.Need-start-requires
+start-requires c κs =
+    let pre = c .before .before .before .before .before .before .before .pre in
+    (ranged-taking (took c) (pre .0) (omega (arith, pre .0 .required)), pre .1, pre .2)
+
+returns : tie.Need-returns
+returns c = record { taken = _; taking = took (c .before); opens = c .start .ensures }
+
+pub start-required-spec : {M : Type 1} → statement M
+start-required-spec = tie.close (tie.spec kept-requires complete-requires among-requires start-requires returns)

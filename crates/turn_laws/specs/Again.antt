@@ -1,0 +1,73 @@
+-- Where the place that was taken last is taken again, everything is decided as before: the last of the places taken and the set of them decide.
+use Prim.Native.Nat.{ℕ, zero, suc, _≤_}
+use mathlib.Core.Path.{_≡_, refl, sym, _∙_, ap, ap₂, subst}
+use mathlib.Core.Bool.{Bool, true, false, _&&_, false≢true}
+use mathlib.Core.Logic.{inl, inr}
+use mathlib.Core.List.{List, [], _∷_, _++_}
+use lib.Dec.{eqb}
+use borrow.Author.Tests.{eqb-true}
+use Rattle.rules.specs.Walk.{lastFrom, lastOr0}
+use Rattle.rules.specs.TypeFile.{Content, empty, model, Element}
+use Rattle.rules.specs.Elements.{contentOf}
+use Rattle.rules.specs.Decisions.{Token, hasName}
+use Rattle.rules.specs.Settling.{Open, fitting}
+use Rattle.model_sets.specs.Bits.{or-cases, not-true, not-both, bool-cases}
+use Rattle.model_sets.specs.Sets.{size}
+use Rattle.and_laws.specs.Base.{mem, mem-left, mem-cases, Ends}
+use Rattle.and_laws.specs.Taken.{nextFrom, completeFrom, requiredFrom, IsLast, last-taken}
+use Rattle.and_laws.specs.Begun.{lastOr0-snoc}
+use Rattle.document_laws.specs.Decide.{search, fitsIn, isCompleteIn, requiredFor, decided}
+use Rattle.turn_laws.specs.Means.{took, Again}
+
+-- The last place
+
+ends-from : (v : ℕ) (s : List ℕ) (u : ℕ) → Ends s u → lastFrom v s ≡ u
+ends-from v [] u e = absurd e
+ends-from v (p ∷ s) u (inl (n, e)) = rw n e
+ends-from v (p ∷ s) u (inr e) = ends-from p s u e
+
+pub last-is : (s : List ℕ) (u : ℕ) → IsLast s u → lastOr0 s ≡ u
+last-is s zero e = rw e
+last-is s (suc u) e = ends-from 0 s (suc u) e
+
+-- A place that was taken is no new one.
+mem-again : (s : List ℕ) (p q : ℕ) → mem s p ≡ true → mem (s ++ p ∷ []) q ≡ mem s q
+mem-again s p q h = bool-cases (mem s q) (λ e. mem-left s (p ∷ []) q e ∙ sym e) (λ e. not-true (mem (s ++ p ∷ []) q) (λ i. mem-cases s (p ∷ []) q (not-both e) (λ y. not-both e (there y)) i) ∙ sym e)
+  where
+    there : mem (p ∷ []) q ≡ true → mem s q ≡ true
+    there y = or-cases (eqb p q) false (λ x. subst (λ (r : ℕ). mem s r ≡ true) (eqb-true p q x) h) (λ x. absurd (false≢true x)) y
+
+pub again-itself : (o : Open) → Again o o
+again-itself o = record { number = refl; ends = λ u h. h; last = refl; same = refl }
+
+-- Once more.
+pub again-took : {o v : Open} → Again o v → (p : ℕ) → 1 ≤ p → lastOr0 (o .taken) ≡ p → mem (o .taken) p ≡ true → Again o (took v p)
+again-took {o} {v} a p l e m =
+    let there : mem (v .taken) p ≡ true = ap (λ (S : ℕ → Bool). S p) (a .same) ∙ m in
+    record {
+      number = a .number;
+      ends = λ u h. subst (IsLast (v .taken ++ p ∷ [])) (sym e ∙ last-is (o .taken) u h) (last-taken (v .taken) p l);
+      last = lastOr0-snoc (v .taken) p ∙ sym e;
+      same = (λ i q. mem-again (v .taken) p q there i) ∙ a .same;
+    }
+
+-- What is decided
+
+module _ {o v : Open} (a : Again o v) where
+  pub again-fits : (s : List ℕ) (es : List Element) (t : Token) → fitting s es (decided s es) v t ≡ fitting s es (decided s es) o t
+  unfolding fitsIn
+  again-fits s es t = ap (λ (k : ℕ). fitsIn s es (contentOf es k) (v .taken) t) (a .number) ∙ go (contentOf es (o .number))
+    where
+      go : (c : Content) → fitsIn s es c (v .taken) t ≡ fitsIn s es c (o .taken) t
+      go empty = refl
+      go (model g ps n) = ap₂ (λ (u : ℕ) (S : ℕ → Bool). search (λ p. hasName s es ps t p && nextFrom g u S p) (size g)) (a .last) (a .same)
+
+  pub again-complete : (c : Content) → isCompleteIn c (v .taken) ≡ isCompleteIn c (o .taken)
+  unfolding isCompleteIn
+  again-complete empty = refl
+  again-complete (model g ps n) = ap₂ (completeFrom g) (a .last) (a .same)
+
+  pub again-required : (c : Content) → requiredFor c (v .taken) ≡ requiredFor c (o .taken)
+  unfolding requiredFor
+  again-required empty = refl
+  again-required (model g ps n) = ap₂ (requiredFrom g) (a .last) (a .same)
