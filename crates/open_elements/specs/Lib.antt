@@ -1,5 +1,6 @@
 -- What the open elements of the code stand for, in the rules' terms.
 pub mod Means
+pub mod Becomes
 pub mod Owed
 pub mod Owing
 pub mod Laws
