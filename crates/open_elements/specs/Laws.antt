@@ -17,7 +17,7 @@ use Rattle.rules.specs.Settling as rules
 use Rattle.layout.specs.declared.Place.{Place}
 use Rattle.layout.specs.declared.ElementNo.{ElementNo}
 use Rattle.layout.specs.Typed.{placeNo, elementNo}
-use Rattle.document_laws.specs.Decide.{isCompleteIn, requiredFor}
+use Rattle.document_laws.specs.Decide.{isCompleteIn, requiredFor, decided}
 use Rattle.document_laws.specs.Moves.{state}
 use Rattle.document_laws.specs.Moves as moves
 use Rattle.and_groups.specs.Means.{Elsewhere}
@@ -137,6 +137,13 @@ module _ {es : List Element} {M begun : List ℕ} {o : Open} {z : State} (h : St
   -- As many are open as stand around the current one.
   pub stands-deep : length (z .around) ≡ o .count
   stands-deep = all-length es M begun (o .around) (o .count) (z .around) (h .around)
+
+  -- The marks of the current one, as the rules ask for them.
+  pub stands-complete : (s : List ℕ) → o .complete ≡ rules.isComplete s es (decided s es) (z .current)
+  stands-complete s = rw (h .current .entered .number) (h .current .complete)
+
+  pub stands-required : (s : List ℕ) → o .required .0 ≡ rules.requiredPlace s es (decided s es) (z .current)
+  stands-required s = rw (h .current .entered .number) (h .current .required)
 
   -- Where one is open, the current one is an element, and not the document itself.
   pub stands-element : 1 ≤ o .count → 1 ≤ o .element .0

@@ -64,8 +64,7 @@ pub fn placed(
     ensures { λ r. ⌜ Places (now (rows .entry)) (now (places .entry)) (now (facts .entry)) found (x .0) at after n state (now (numbers .entry)) (now (bytes .entry)) r (now (numbers .exit)) (now (bytes .exit)) ⌝ }
 {
     let e = state.element;
-    let u = state.place;
-    let p = ways::place_of(rows, places, facts, e, u, found, x);
+    let p = ways::place_of(rows, places, facts, e, found, x);
     if p.0 == 0 {
         return Outcome {
             open: state,
