@@ -6,7 +6,7 @@ use mathlib.Core.Bool.{true, false≢true}
 use mathlib.Core.List.{List, [], _∷_, _++_}
 use native.Mathlib.Omega.{arith}
 use lib.ListN.{length}
-use lib.Dec.{eqb, ltb}
+use lib.Dec.{eqb}
 use borrow.Author.Tests.{le-ltb}
 use Rattle.rules.specs.Bytes.{TAGLVL}
 use Rattle.rules.specs.Reading.{Reading, got, andThen}
@@ -95,7 +95,7 @@ place-found f g Stuck p e n h i = absurd (n e)
 
 limited-small : (at : ℕ) (z : State) → Few z → limited at z ≡ got z
 unfolding limited
-limited-small at z f = rw (le-ltb (length (z .around)) TAGLVL f, limited)
+limited-small at z f = rw (le-ltb TAGLVL (length (z .around)) f, limited)
 
 not-none : (n : ℕ) → (n ≡ 0 → ⊥) → 1 ≤ n
 not-none zero h = absurd (h refl)
