@@ -6,7 +6,7 @@ use mathlib.Core.Logic.{_⊎_}
 use mathlib.Core.List.{List, [], _∷_, _++_}
 use lib.ListN.{length}
 use Rattle.rules.specs.Walk.{Group}
-use Rattle.model_sets.specs.Sets.{Numbered, has}
+use Rattle.model_sets.specs.Sets.{size, Numbered, has}
 use Rattle.and_laws.specs.Base.{mem}
 use Rattle.and_laws.specs.Numbers.{Guarded}
 use Rattle.and_laws.specs.Levels.{around, blocksIn, loneIn, mayIn}
@@ -25,7 +25,7 @@ pub record Takes (M : List ℕ) (level e u p : ℕ) (before after : List ℕ) (r
   pub elsewhere : Elsewhere level before after
   pub small : (r ≡ 255) ⊎ (r ≤ 96)
   pub stands : (g : Group) → Numbered g 1 → Guarded g → Told M e g → (taken : List ℕ) → Standing before level M e g u taken → has g p ≡ true → Standing after level M e g p (taken ++ p ∷ [])
-  pub blocked : (g : Group) → Numbered g 1 → Guarded g → Told M e g → (taken : List ℕ) → Standing before level M e g u taken → has g p ≡ true → Blocked g p (mem (taken ++ p ∷ [])) r
+  pub blocked : (g : Group) → Numbered g 1 → Guarded g → size g ≤ 96 → Told M e g → (taken : List ℕ) → Standing before level M e g u taken → has g p ≡ true → Blocked g p (mem (taken ++ p ∷ [])) r
 
 -- p is left by what has begun after the place u, 0 at the start.
 abbrev pub Follows : (M : List ℕ) (level e u p : ℕ) (begun : List ℕ) → Bool → Type 0

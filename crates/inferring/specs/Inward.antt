@@ -59,3 +59,9 @@ way-fits p (suc f) n e =
     let i : p ≡ placeNo (suc f) = cc in
     let j : p .0 ≡ suc f = ap (λ (q : Place). q .0) i in
     (j, λ z. omega arith)
+
+-- Where starts are inferred there is one.
+pub way-some : (k f n : ℕ) → Inferred k ≡ wayOf f n → 1 ≤ k
+way-some k zero zero e = absurd (let z : _≡_ {A = ℕ} 0 1 = cc in omega arith)
+way-some k zero (suc n) e = let i : k ≡ suc n = cc in omega arith
+way-some k (suc f) n e = absurd (let z : _≡_ {A = ℕ} 0 1 = cc in omega arith)

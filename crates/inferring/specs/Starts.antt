@@ -46,6 +46,12 @@ module _ (s : List ℕ) (es : List Element) (D : Decisions) where
   infer-deeper at zero z = omega arith
   infer-deeper at (suc n) z = infer-deeper at n (inferOne s es D at z) ∙ omega arith
 
+  -- In the last that was started nothing was taken.
+  pub infer-fresh : (at n : ℕ) (z : State) → 1 ≤ n → inferMany s es D at n z .current .taken ≡ []
+  infer-fresh at zero z l = absurd (omega arith)
+  infer-fresh at (suc zero) z l = refl
+  infer-fresh at (suc (suc n)) z l = infer-fresh at (suc n) (inferOne s es D at z) (omega arith)
+
 -- One start
 
 module _ {rows places facts M before : List ℕ} {at n : ℕ} {o : Open} {numbers bytes : List ℕ} {r : Open} {after numbers′ bytes′ : List ℕ}

@@ -1,6 +1,7 @@
 -- `clash_with` meets its contract: a pair found before stays, EMPTY has none, and the search finds the first of a model.
 use Prim.Native.Nat.{ℕ, _≤_, _<_}
 use mathlib.Core.Path.{_≡_}
+use mathlib.Core.Logic.{⊎-elim}
 use native.Mathlib.Omega.{arith}
 use borrow.Author.Tests.{not-false, eqb-true}
 use Rattle.element_records.specs.Clashes.{pending-kept, pending-clear, pending-first, content-empty, content-none, content-pair}
@@ -8,8 +9,8 @@ use Rattle.element_records.proofs.clash_with.Statement.{statement}
 use Rattle.element_records.proofs.clash_with.Tie as tie
 
 -- Where a pair is found, its places are those of the model.
-places-in : (c : tie.Else4) → (c .before .first-pair .result .first ≤ 96) × (1 ≤ c .before .first-pair .result .second) × (c .before .first-pair .result .second ≤ 96)
-places-in c = omega (arith, c .before .first-pair .ensures .1, c .before .before .before .before .before .before .before .before .before .before .pre (c .before .before .before .before .before .if2 .left), c .if4 .left)
+places-in : (c : tie.Else4) → (1 ≤ c .before .first-pair .result .first) × (c .before .first-pair .result .first < c .before .first-pair .result .second) × (c .before .first-pair .result .second ≤ 96)
+places-in c = ⊎-elim (λ z. absurd (c .if4 .left (z .1))) (λ w. omega (arith, w, c .before .before .before .before .before .before .before .before .before .before .pre (c .before .before .before .before .before .if2 .left))) (c .before .first-pair .ensures .1)
 
 returns : tie.Need-returns
 returns c es x h k z =

@@ -47,31 +47,31 @@ mul-numbers c =
 
 returns-2 : tie.Need-returns-2
 returns-2 c legible =
-    let a = c .before .before .before .before .before .before .before .before .before .before .args in
-    let (es, y, k) = kept (c .before .before .before .before .before) in
+    let a = c .before .before .before .before .before .before .before .before .before .args in
+    let (es, y, k) = kept (c .before .before .before .before) in
     decides-repeated (settingsOf (a .c)) (a .s .now) (a .room) legible es y _ (k .repeated-at) (c .if1 .taken)
 
 returns-3 : tie.Need-returns-3
 returns-3 c legible =
-    let a = c .before .before .before .before .before .before .before .before .before .before .before .args in
-    let (es, y, k) = kept (c .before .before .before .before .before .before) in
+    let a = c .before .before .before .before .before .before .before .before .before .before .args in
+    let (es, y, k) = kept (c .before .before .before .before .before) in
     let none = sym (k .repeated-at) ∙ c .before .if1 .left in
     decides-ambiguous (settingsOf (a .c)) (a .s .now) (a .room) legible es y none _ (k .pending none) (c .if2 .taken)
 
 returns-4 : tie.Need-returns-4
 returns-4 c legible =
-    let a = c .before .before .before .before .before .before .before .before .before .before .before .before .args in
-    let (es, y, k) = kept (c .before .before .before .before .before .before .before) in
+    let a = c .before .before .before .before .before .before .before .before .before .before .before .args in
+    let (es, y, k) = kept (c .before .before .before .before .before .before) in
     let none = sym (k .repeated-at) ∙ c .before .before .if1 .left in
     decides-full (settingsOf (a .c)) (a .s .now) (a .room) legible es y none _ (k .pending none) (c .before .if2 .left) _ (k .counted) (c .if3 .taken)
 
 returns-5 : tie.Need-returns-5
 returns-5 c legible =
-    let a = c .before .before .before .before .before .before .before .before .before .before .before .before .args in
-    let f = c .before .before .before .before .before .before .before .before .before in
-    let (es, y, k) = kept (c .before .before .before .before .before .before .before) in
+    let a = c .before .before .before .before .before .before .before .before .before .before .before .args in
+    let f = c .before .before .before .before .before .before .before .before in
+    let (es, y, k) = kept (c .before .before .before .before .before .before) in
     let none = sym (k .repeated-at) ∙ c .before .before .if1 .left in
-    decides-accepted (settingsOf (a .c)) (a .s .now) (a .room) legible es y none _ (k .pending none) (c .before .if2 .left) (f .file-read .last .1 .1 .0) (c .before .before .before .before .before .before .before .r .given .0 .0) k (c .if3 .left)
+    decides-accepted (settingsOf (a .c)) (a .s .now) (a .room) legible es y none _ (k .pending none) (c .before .if2 .left) (f .file-read .last .1 .1 .0) (c .before .before .before .before .before .before .r .given .0 .0) k (c .if3 .left)
 
 pub decide-legible-spec : {M : Type 1} → statement M
 decide-legible-spec =
