@@ -46,18 +46,18 @@ module _ (M : List ℕ) (i x : ℕ) where
       go (yes e) = rw (ne-eqb (getD M i 0) 0 (λ z. omega (arith, some, ap (λ (j : ℕ). getD M j 0) e, z)))
       go (no ne) = free-other k ne
 
--- The mark that says where a member can end.
-module _ (T : List ℕ) (u w h : ℕ) where
-  pub marked-one : getD T (u * 98 + w) 0 ≡ 1 → h + 128 ≡ marked T u w h
-  marked-one e = rw (eq-eqb _ _ e)
+-- The mark that says where a member can end, by the number of the table that was read.
+module _ (T : List ℕ) (u w h i : ℕ) where
+  pub marked-one : getD T i 0 ≡ 1 → i ≡ u * 98 + w → h + 128 ≡ marked T u w h
+  marked-one e is = rw (sym is, eq-eqb _ _ e)
 
-  pub marked-other : (getD T (u * 98 + w) 0 ≡ 1 → ⊥) → h ≡ marked T u w h
-  marked-other d = rw (ne-eqb _ _ d) (omega arith)
+  pub marked-other : (getD T i 0 ≡ 1 → ⊥) → i ≡ u * 98 + w → h ≡ marked T u w h
+  marked-other d is = rw (sym is, ne-eqb _ _ d) (omega arith)
 
-  pub marked-past : length T ≡ 9893 → 9893 ≤ u * 98 + w → h ≡ marked T u w h
-  marked-past len l =
-      let none : getD T (u * 98 + w) 0 ≡ 0 = List·getD-eq-default T 0 (omega (arith, len)) in
-      marked-other (λ e. omega (arith, none, e))
+  pub marked-past : length T ≡ 9893 → 9893 ≤ i → i ≡ u * 98 + w → h ≡ marked T u w h
+  marked-past len l is =
+      let none : getD T i 0 ≡ 0 = List·getD-eq-default T 0 (omega (arith, len)) in
+      marked-other (λ e. omega (arith, none, e)) is
 
 -- The group that ends with `last` is within the member, behind it, or before it.
 module _ (M : List ℕ) (base : ℕ) (T : List ℕ) (w h lo hi last g : ℕ) where
@@ -87,10 +87,10 @@ module _ (M S : List ℕ) (base : ℕ) (T : List ℕ) (w h : ℕ) where
 -- One member, and one group.
 module _ (M : List ℕ) (base : ℕ) (T lasts : List ℕ) (groups w h lo hi required : ℕ) where
   pub member-put :
-      (S₁ S₂ S₃ S₄ : List ℕ) → S₁ ≡ putPlaces M base T w h lo hi → S₂ ≡ putOuters S₁ base T w h lo hi lasts 1 (groups + 1) →
+      (S₁ S₂ S₃ S₄ : List ℕ) (end : ℕ) → S₁ ≡ putPlaces M base T w h lo hi → S₂ ≡ putOuters S₁ base T w h lo hi lasts 1 end → end ≡ groups + 1 →
       S₃ ≡ set S₂ (base + 97 + h) (groups + 1) → S₄ ≡ set S₃ (base + 194 + h) required → S₄ ≡ putMember M base T lasts groups w h lo hi required
   unfolding putMember
-  member-put S₁ S₂ S₃ S₄ e₁ e₂ e₃ e₄ = rw (e₄, e₃, e₂, e₁)
+  member-put S₁ S₂ S₃ S₄ end e₁ e₂ all e₃ e₄ = rw (e₄, e₃, e₂, e₁, all)
 
 pub record-put :
     (M : List ℕ) (base groups own needed k : ℕ) (S₁ S₂ S₃ : List ℕ) → S₁ ≡ set M (recordFrom base (groups + 1)) own → S₂ ≡ set S₁ (recordFrom base (groups + 1) + 1) needed →

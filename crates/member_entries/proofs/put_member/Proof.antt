@@ -1,4 +1,5 @@
 -- `put_member` meets its contract: places, groups, and the two numbers of the member, put in turn.
+use native.Mathlib.Omega.{arith}
 use borrow.Author.Needs.{needs}
 use Rattle.member_entries.specs.Writes.{member-put}
 use Rattle.member_entries.proofs.put_member.Statement.{statement}
@@ -46,7 +47,7 @@ returns c =
     let group = last .before .before .before .before in
     let outers = group .before .before .before .before in
     let places = outers .before .before .before .before in
-    member-put _ _ _ _ _ _ _ _ _ _ _ _ _ _ (places .put-places .ensures) (outers .put-outers .ensures) (group .put .ensures) (last .put2 .ensures)
+    member-put _ _ _ _ _ _ _ _ _ _ _ _ _ _ _ (places .put-places .ensures) (outers .put-outers .ensures) (omega arith) (group .put .ensures) (last .put2 .ensures)
 
 pub put-member-spec : {M : Type 1} → statement M
 put-member-spec =
