@@ -15,8 +15,9 @@ use Rattle.and_laws.specs.Levels.{together}
 use Rattle.and_laws.specs.Ranked.{Level}
 use Rattle.and_laws.specs.Rows.{lastM-has}
 use Rattle.member_laws.specs.Members.{amount, needs, spares, numberFor, numberIn, groupAt, dueAt, recordAt, firstAt, neededAt, sizeAt, outerAt, Grouped, Chain}
-use Rattle.member_table.specs.Joined.{amount-is, each-map, InRange}
-use Rattle.member_table.specs.Slots.{Slot}
+use Rattle.member_laws.specs.Numbered.{amount-both}
+use Rattle.member_entries.specs.Slots.{Slot}
+use Rattle.member_table.specs.Joined.{each-map, InRange}
 use Rattle.member_table.specs.Beside.{not-right}
 
 -- Two places in one member
@@ -105,8 +106,8 @@ module _ (e : ℕ) where
         }
       where
         low : (n : ℕ) → InRange (firstAt M e (l .number)) (needs (l .members)) (needs (l .members)) (spares (l .members)) n → n ≤ c
-        low n (inl (x, y)) = omega (arith, amount-is (l .members))
-        low n (inr (x, y)) = omega (arith, amount-is (l .members))
+        low n (inl (x, y)) = omega (arith, amount-both (l .members))
+        low n (inr (x, y)) = omega (arith, amount-both (l .members))
 
     among-keep : (b' c' : ℕ) → b ≤ b' → c ≤ c' → (l : Level) → Among M b c l → Among S b' c' l
     among-keep b' c' x y l (from, to, high) = (from, omega arith, omega (arith, K .first (l .number) to))

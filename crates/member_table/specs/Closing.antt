@@ -18,11 +18,13 @@ use Rattle.and_laws.specs.Sets.{GoodM}
 use Rattle.and_laws.specs.Rows.{and-no, and-yes}
 use Rattle.model_code.specs.Spelled.{codes, codesM}
 use Rattle.member_laws.specs.Members.{amount, needs, firstAt, neededAt, sizeAt, outerAt, Grouped}
+use Rattle.member_laws.specs.Numbered.{amount-both}
+use Rattle.member_entries.specs.Entries.{recordFrom, putRecord}
+use Rattle.member_entries.specs.Slots.{Slot}
 use Rattle.member_table.specs.declared.Piece.{Piece}
-use Rattle.member_table.specs.Filling.{State, pieceAt, closedPiece, recordFrom, putRecord, putGroup, closeGroup}
+use Rattle.member_table.specs.Filling.{State, pieceAt, closedPiece, putGroup, closeGroup}
 use Rattle.member_table.specs.Beside.{RowsM, second, marks, lastM-end}
-use Rattle.member_table.specs.Slots.{Slot}
-use Rattle.member_table.specs.Joined.{pieceOf, Pieces, amount-is, needed-is, each-map, rowsOf, Joined, joins}
+use Rattle.member_table.specs.Joined.{pieceOf, Pieces, needed-is, each-map, rowsOf, Joined, joins}
 use Rattle.member_table.specs.Chains.{baseOf, Keeps, Closes}
 use Rattle.member_table.specs.States.{Common}
 
@@ -179,7 +181,7 @@ module _
       pieces
       (rw (pieces-first (t .stack) first all lo pieces, pieces-second (t .stack) first m g lo pieces) (marks (rowsOf T) m g lo numbered good rows))
       (omega arith)
-      (omega (arith, amount-is all))
+      (omega (arith, amount-both all))
       begun
       (omega (arith, len-begun))
 

@@ -12,7 +12,8 @@ use Rattle.model_sets.specs.Sets.{size, Numbered, lastM}
 use Rattle.and_laws.specs.Numbers.{has-range}
 use Rattle.and_laws.specs.Ranked.{Level, levels}
 use Rattle.member_laws.specs.Members.{needs, spares, numberIn, holderAt, groupAt, dueAt, firstAt, neededAt, sizeAt, outerAt, Grouped, Chain, Told}
-use Rattle.member_table.specs.Joined.{amount-is, each-map, InRange}
+use Rattle.member_laws.specs.Numbered.{amount-both}
+use Rattle.member_table.specs.Joined.{each-map, InRange}
 use Rattle.member_table.specs.Tells.{Filled}
 
 module _ (M S : List ℕ) (e : ℕ) (same : (k : ℕ) → k < MEMBER → getD S (e * MEMBER + k) 0 ≡ getD M (e * MEMBER + k) 0) where
@@ -48,8 +49,8 @@ module _ (M S : List ℕ) (e : ℕ) (same : (k : ℕ) → k < MEMBER → getD S 
       }
     where
       low : (n : ℕ) → InRange (firstAt M e (l .number)) (needs (l .members)) (needs (l .members)) (spares (l .members)) n → n ≤ 96
-      low n (inl (x, y)) = omega (arith, amount-is (l .members), g .room)
-      low n (inr (x, y)) = omega (arith, amount-is (l .members), g .room)
+      low n (inl (x, y)) = omega (arith, amount-both (l .members), g .room)
+      low n (inr (x, y)) = omega (arith, amount-both (l .members), g .room)
 
       group-same : (n : ℕ) → n ≤ 96 → groupAt S e n ≡ groupAt M e n
       group-same n k = at (e * MEMBER + POSITIONS + n) (POSITIONS + n) (omega arith) (omega arith)

@@ -16,9 +16,9 @@ use Rattle.and_laws.specs.Decide.{or-only}
 use Rattle.and_laws.specs.Ranked.{Level}
 use Rattle.model_code.specs.Spelled.{codeIn}
 use Rattle.member_laws.specs.Members.{outerAt}
+use Rattle.member_entries.specs.Slots.{Slot}
 use Rattle.member_table.specs.declared.Piece.{Piece}
 use Rattle.member_table.specs.Filling.{State, pieceAt, nonePiece, placePiece, optPiece, joinedPiece, stacked, closeGroup, stepFill, startFill, runFill}
-use Rattle.member_table.specs.Slots.{Slot}
 use Rattle.member_table.specs.Beside.{not-right}
 use Rattle.member_table.specs.Chains.{baseOf, Spells, spells-map, Keeps, spells-keep}
 

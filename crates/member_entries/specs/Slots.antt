@@ -1,55 +1,20 @@
 -- What putting a member leaves in the table: number by number.
-use Prim.Native.Nat.{ℕ, zero, suc, _+_, _-_, _*_, _≤_, _<_}
-use mathlib.Core.Path.{_≡_, refl, _∙_, ap, subst}
+use Prim.Native.Nat.{ℕ, _+_, _*_, _≤_, _<_}
+use mathlib.Core.Path.{_≡_, refl, _∙_, subst}
 use mathlib.Core.Bool.{Bool, true, _&&_, cond}
 use mathlib.Core.Logic.{_⊎_, inl, inr}
 use mathlib.Core.List.{List}
 use native.Mathlib.Omega.{arith}
 use native.Mathlib.Decide.{ℕ-discrete}
-use lib.Dec.{eqb, leb, ltb}
+use lib.Dec.{leb, ltb}
 use lib.ListN.{length, getD, set, length-set}
 use lib.Seq.{getD-set-same, getD-set-other}
-use borrow.Author.Tests.{eq-eqb, ne-eqb, lt-ltb, le-leb, leb-true, ltb-true}
+use borrow.Author.Tests.{lt-ltb, le-leb, leb-true, ltb-true}
 use Rattle.layout.specs.Sizes.{POSITIONS}
 use Rattle.model_sets.specs.Bits.{and-left, and-right, bool-cases}
-use Rattle.model_links.specs.Each.{turns, each, each-keeps}
-use Rattle.member_table.specs.Filling.{putFree, marked, recordFrom, putPlaces, putOuter, putOuters, putMember}
-
--- A number that is put where none is yet.
-module _ (M : List ℕ) (i x : ℕ) where
-  pub free-length : length (putFree M i x) ≡ length M
-  unfolding putFree
-  free-length = bool-cases (eqb (getD M i 0) 0) (λ e. rw e (length-set M i x)) (λ e. rw e)
-
-  pub free-other : (k : ℕ) → (k ≡ i → ⊥) → getD (putFree M i x) k 0 ≡ getD M k 0
-  unfolding putFree
-  free-other k ne = bool-cases (eqb (getD M i 0) 0) (λ e. rw e (getD-set-other M i k x 0 ne)) (λ e. rw e)
-
-  pub free-put : i < length M → getD M i 0 ≡ 0 → getD (putFree M i x) i 0 ≡ x
-  unfolding putFree
-  free-put l z = rw (eq-eqb (getD M i 0) 0 z) (getD-set-same M i x 0 l)
-
-  pub free-kept : (k : ℕ) → 1 ≤ getD M k 0 → getD (putFree M i x) k 0 ≡ getD M k 0
-  unfolding putFree
-  free-kept k some = go (ℕ-discrete k i)
-    where
-      go : Dec (k ≡ i) → getD (putFree M i x) k 0 ≡ getD M k 0
-      go (yes e) = rw (ne-eqb (getD M i 0) 0 (λ z. omega (arith, some, ap (λ (j : ℕ). getD M j 0) e, z)))
-      go (no ne) = free-other k ne
-
--- A turn more at the end.
-turns-last : (f : List ℕ → ℕ → List ℕ) (k : ℕ) (M : List ℕ) (i : ℕ) → turns f M i (suc k) ≡ f (turns f M i k) (i + k)
-unfolding turns
-turns-last f zero M i = let e : i + 0 ≡ i = omega arith in rw e
-turns-last f (suc k) M i = let e : i + suc k ≡ i + 1 + k = omega arith in turns-last f k (f M i) (i + 1) ∙ rw e
-
-pub each-last : (f : List ℕ → ℕ → List ℕ) (M : List ℕ) (b : ℕ) → each f M 0 (b + 1) ≡ f (each f M 0 b) b
-unfolding each
-each-last f M b =
-    let e : b + 1 - 0 ≡ suc b = omega arith in
-    let d : b - 0 ≡ b = omega arith in
-    let z : 0 + b ≡ b = omega arith in
-    ap (turns f M 0) e ∙ turns-last f b M 0 ∙ rw (d, z)
+use Rattle.model_links.specs.Each.{each, each-keeps}
+use Rattle.member_entries.specs.Entries.{putFree, marked, recordFrom, putPlaces, putOuter, putOuters, putMember}
+use Rattle.member_entries.specs.Writes.{free-length, free-other, free-put, free-kept}
 
 -- Numbers put at some places of a range, each where none is yet.
 module _ (t : ℕ → Bool) (at x : ℕ → ℕ) (apart : (i j : ℕ) → at i ≡ at j → i ≡ j) where
@@ -102,12 +67,16 @@ module _ (t : ℕ → Bool) (at x : ℕ → ℕ) (apart : (i j : ℕ) → at i �
 abbrev pub Slot : (base : ℕ) (lasts : List ℕ) (groups s v : ℕ) → Type 0
 Slot base lasts groups s v = ((v ≤ 96) × (s ≡ base + v)) ⊎ ((n : ℕ) × (1 ≤ n) × (n ≤ groups) × (s ≡ recordFrom base n + 3) × (v ≡ getD lasts n 0))
 
+-- What was there in M is there in S.
+abbrev pub Kept : (base : ℕ) (lasts : List ℕ) (groups : ℕ) (M S : List ℕ) → Type 0
+Kept base lasts groups M S = (s v : ℕ) → Slot base lasts groups s v → 1 ≤ getD M s 0 → getD S s 0 ≡ getD M s 0
+
 -- The table S is M with the member h put.
 pub record Put (base : ℕ) (T lasts : List ℕ) (groups w h lo hi required : ℕ) (M S : List ℕ) : Type 0 where
   pub len : length S ≡ length M
   pub taken : (s v : ℕ) → Slot base lasts groups s v → lo ≤ v → v < hi → getD M s 0 ≡ 0 → getD S s 0 ≡ marked T v w h
   pub other : (s v : ℕ) → Slot base lasts groups s v → (lo ≤ v → v < hi → ⊥) → getD S s 0 ≡ getD M s 0
-  pub kept : (s v : ℕ) → Slot base lasts groups s v → 1 ≤ getD M s 0 → getD S s 0 ≡ getD M s 0
+  pub kept : Kept base lasts groups M S
   pub group : getD S (base + POSITIONS + h) 0 ≡ groups + 1
   pub due : getD S (base + 2 * POSITIONS + h) 0 ≡ required
   pub rest :

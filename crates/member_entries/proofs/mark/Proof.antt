@@ -2,9 +2,9 @@
 use mathlib.Core.Logic.{⊎-elim}
 use native.Mathlib.Omega.{arith}
 use borrow.Author.Needs.{needs}
-use Rattle.member_table.specs.Writes.{marked-one, marked-other, marked-past}
-use Rattle.member_table.proofs.mark.Statement.{statement}
-use Rattle.member_table.proofs.mark.Tie as tie
+use Rattle.member_entries.specs.Writes.{marked-one, marked-other, marked-past}
+use Rattle.member_entries.proofs.mark.Statement.{statement}
+use Rattle.member_entries.proofs.mark.Tie as tie
 
 whole-requires : tie.Need-whole-requires
 whole-requires c κs = search needs
@@ -25,7 +25,7 @@ cast-result : tie.Need-cast-result
 cast-result c = search needs
 
 returns : tie.Need-returns
-returns c = let x = c .before .before .before .before .before .args in marked-one (x .table .now) (x .u) (x .w) (x .h) (c .if2 .taken)
+returns c = let x = c .before .before .before .before .before .args in marked-one (x .table .now) (x .u) (x .w) (x .h) _ (c .if2 .taken) (omega arith)
 
 cast-result-2 : tie.Need-cast-result-2
 cast-result-2 c = search needs
@@ -34,8 +34,8 @@ returns-2 : tie.Need-returns-2
 returns-2 c =
     let x = c .before .before .before .args in
     ⊎-elim
-    (λ w. marked-other (x .table .now) (x .u) (x .w) (x .h) (w .2 .left))
-    (λ w. marked-past (x .table .now) (x .u) (x .w) (x .h) (c .before .whole .ensures) (w .left))
+    (λ w. marked-other (x .table .now) (x .u) (x .w) (x .h) _ (w .2 .left) (omega arith))
+    (λ w. marked-past (x .table .now) (x .u) (x .w) (x .h) _ (c .before .whole .ensures) (w .left) (omega arith))
     (c .if1 .came)
 
 pub mark-spec : {M : Type 1} → statement M
