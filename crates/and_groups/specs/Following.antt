@@ -340,3 +340,22 @@ module _ (M begun : List ℕ) (level e u p h passed i skipped : ℕ) (w : Follow
 
         pub follows-other : (h ≡ i → ⊥) → (r : Bool) → r ≡ begunAt begun level i → Follows M level e u p begun (not r)
         follows-other z r b = answers (not r) (λ g S answer good v. ap not b ∙ pair-other M begun level e u p h passed i skipped g S answer v some good inner (sym at-h ∙ same ∙ at-i) z)
+
+-- As the loop has it, which knows of the places only what it was begun with.
+pub record Walking (M begun : List ℕ) (level e h₀ i₀ h passed i skipped : ℕ) : Type 0 where
+  pub at : (u p : ℕ) → h₀ ≡ holderAt M e u % 128 → i₀ ≡ holderAt M e p % 128 → Following M begun level e u p h passed i skipped
+
+module _ (M begun : List ℕ) (level e h₀ i₀ : ℕ) where
+  pub walking-start : Walking M begun level e h₀ i₀ h₀ 0 i₀ 0
+  walking-start = record { at = λ u p a b. subst (λ (x : ℕ). Following M begun level e u p x 0 i₀ 0) (sym a) (subst (λ (y : ℕ). Following M begun level e u p (holderAt M e u % 128) 0 y 0) (sym b) (following-start M begun level e u p (holderAt M e u) (holderAt M e p) refl refl)) }
+
+  module _ (h passed i skipped : ℕ) (w : Walking M begun level e h₀ i₀ h passed i skipped) (some : h ≡ 0 → ⊥) (n q : ℕ) (gives : Grouping M e h n) (asks : Grouping M e i q) where
+    pub walking-out : n < q → (lacks : Bool) → Lacks M begun level e n lacks → lacks ≡ false → (outer : ℕ) → outer ≡ getD M (recordAt M e n + 3) 0 → Walking M begun level e h₀ i₀ (outer % 128) n i skipped
+    walking-out less lacks tells z outer o = record { at = λ u p a b. following-out M begun level e u p h passed i skipped (w .at u p a b) some n q gives asks less lacks tells z outer o }
+
+    pub walking-in : (i ≡ 0 → ⊥) → q < n → (outer : ℕ) → outer ≡ getD M (recordAt M e q + 3) 0 → Walking M begun level e h₀ i₀ h passed (outer % 128) q
+    walking-in inner less outer o = record { at = λ u p a b. following-in M begun level e u p h passed i skipped (w .at u p a b) some n q gives asks inner less outer o }
+
+-- A group below 256 is a member's.
+pub inner-some : (M : List ℕ) (e i q : ℕ) → Grouping M e i q → q ≤ 255 → i ≡ 0 → ⊥
+inner-some M e i q asks few z = omega (arith, asks .none z)

@@ -3,7 +3,7 @@ use Prim.Native.Nat.{ℕ, zero, suc, _+_, _-_, _*_, _/_, _%_, _^_, _≤_, _<_}
 use mathlib.Core.Path.{_≡_, refl, sym, _∙_, ap, subst}
 use mathlib.Core.Bool.{Bool, true, false, not, cond}
 use mathlib.Core.List.{List}
-use native.Mathlib.Decide.{decLt}
+use native.Mathlib.Decide.{ℕ-discrete, decLt}
 use native.Mathlib.Omega.{arith}
 use lib.ListN.{getD}
 use lib.Dec.{eqb}
@@ -21,6 +21,7 @@ use Rattle.member_laws.specs.Members.{amount, needs, recordAt, firstAt, neededA
 use Rattle.member_laws.specs.Numbered.{both-tests, amount-both, none-lacks, lacks-none, rest-one, rest-two, rest-none}
 use Rattle.member_laws.specs.Around.{numbered-due}
 use Rattle.begun_bits.specs.Means.{Idle}
+use Rattle.begun_bits.specs.Laws.{shifted-wide}
 use Rattle.begun_bits.specs.Bits.{zero-bit, none-set, Sets, none, lone, more, sets, pow-only, pow-set}
 use Rattle.and_groups.specs.Walks.{Lacks, Due}
 
@@ -123,9 +124,26 @@ module _ (M begun : List ℕ) (level e n first k y : ℕ) (at-first : first ≡ 
       due-large large = record { small = omega arith; says = λ l S i kept marked small. absurd (omega (arith, is-due l S i kept marked)) }
 
     -- A number with one bit has one of the first 32.
-    pub due-found : (y ≡ 0 → ⊥) → bitAnd y (y - 1) ≡ 0 → ((i : ℕ) → i < 32 → y ≡ 2 ^ i → ⊥) → ⊥
-    due-found some alone f = let (j, z) = lone-bit y (omega arith) alone in f j (go j z (decLt j 32)) z
+    pub due-found : (y ≡ 0 → ⊥) → bitAnd y (y - 1) ≡ 0 → ((i : ℕ) → i < 32 → y ≡ 2 ^ i → ⊥) → Due M begun level e n 0
+    due-found some alone f = let (j, z) = lone-bit y (omega arith) alone in absurd (f j (go j z (decLt j 32)) z)
       where
         go : (j : ℕ) → y ≡ 2 ^ j → Dec (j < 32) → j < 32
         go j z (yes h) = h
         go j z (no h) = absurd (omega (arith, idle .small, pow-mono {i = 32} {j = j} (omega arith)))
+
+-- The powers below 2 ^ j were tried.
+pub record Tried (y j : ℕ) : Type 0 where
+  pub none : (i : ℕ) → i < j → y ≡ 2 ^ i → ⊥
+
+pub tried-start : (y : ℕ) → Tried y 0
+tried-start y = record { none = λ i l z. omega arith }
+
+pub tried-on : (y j : ℕ) → j < 32 → Tried y j → (y ≡ 1 * 2 ^ j % 2 ^ 64 → ⊥) → Tried y (j + 1)
+tried-on y j few t n = record { none = λ i l z. go i l z (ℕ-discrete i j) }
+  where
+    go : (i : ℕ) → i < j + 1 → y ≡ 2 ^ i → Dec (i ≡ j) → ⊥
+    go i l z (yes d) = n (z ∙ ap (λ (x : ℕ). 2 ^ x) d ∙ sym (shifted-wide j (omega arith)))
+    go i l z (no d) = t .none i (omega arith) z
+
+pub power : (y j : ℕ) → j < 32 → y ≡ 1 * 2 ^ j % 2 ^ 64 → y ≡ 2 ^ j
+power y j few z = z ∙ shifted-wide j (omega arith)

@@ -37,11 +37,11 @@ pub record Ready (M : List ℕ) (level e u : ℕ) (before now : List ℕ) : Type
   pub elsewhere : Elsewhere level before now
   pub stand : (g : Group) → Told M e g → (taken : List ℕ) → Standing before level M e g u taken → AllStand M now level e g taken
 
-pub ready-on : (M : List ℕ) (level e u : ℕ) (before : List ℕ) → (u ≡ 0 → ⊥) → Ready M level e u before before
-ready-on M level e u before n = record { whole = refl; elsewhere = λ k j x l. refl; stand = λ g told taken stands. record { marked = stands .marked (omega arith) } }
+pub ready-on : (M : List ℕ) (level e u : ℕ) (before now : List ℕ) → (u ≡ 0 → ⊥) → now ≡ before → Ready M level e u before now
+ready-on M level e u before now n same = subst (Ready M level e u before) (sym same) (record { whole = refl; elsewhere = λ k j x l. refl; stand = λ g told taken stands. record { marked = stands .marked (omega arith) } })
 
-pub ready-clear : (M : List ℕ) (level e u : ℕ) (before now : List ℕ) → u ≡ 0 → Clears level before now → Ready M level e u before now
-ready-clear M level e u before now z clears = record { whole = clears .whole; elsewhere = clears .elsewhere; stand = λ g told taken stands. record { marked = λ q i. stand g told taken (subst (IsLast taken) z (stands .last)) q i } }
+ready-clear-by : (M : List ℕ) (level e u : ℕ) (before now : List ℕ) → u ≡ 0 → Clears level before now → Ready M level e u before now
+ready-clear-by M level e u before now z clears = record { whole = clears .whole; elsewhere = clears .elsewhere; stand = λ g told taken stands. record { marked = λ q i. stand g told taken (subst (IsLast taken) z (stands .last)) q i } }
   where
     none : (taken : List ℕ) → taken ≡ [] → (l : Level) → Grouped M e l → Marked now level M e (mem taken) l
     none taken y l kept = at-each _ _ (λ (n : ℕ) (k : Group). begunAt now level n ≡ meets k (mem taken)) (l .members) (λ n k i. let small = numbered-small M e l kept n k i in clears .bits n (omega arith) (omega arith) ∙ sym (ap (λ (s : List ℕ). meets k (mem s)) y ∙ meets-none k))
@@ -52,6 +52,9 @@ ready-clear M level e u before now z clears = record { whole = clears .whole; el
 
     stand : (g : Group) → Told M e g → (taken : List ℕ) → taken ≡ [] → (q : ℕ) → has g q ≡ true → AllMarked now level M e (mem taken) (levels g 0 q)
     stand g told taken y q i = each taken y (levels g 0 q) (chain-kept M e q true _ (levels g 0 q) (told .places q i))
+
+pub ready-clear : (M : List ℕ) (level e u : ℕ) (before now cleared : List ℕ) → u ≡ 0 → Clears level before cleared → now ≡ cleared → Ready M level e u before now
+ready-clear M level e u before now cleared z clears same = subst (Ready M level e u before) (sym same) (ready-clear-by M level e u before cleared z clears)
 
 -- Entering
 module _ (M : List ℕ) (level e h p : ℕ) (now after : List ℕ) (read : h ≡ holderAt M e p) (enters : Enters M level e (h % 128) now after) (g : Group) (good : Good g) (told : Told M e g) (taken : List ℕ) (stand : AllStand M now level e g taken) (here : has g p ≡ true) where

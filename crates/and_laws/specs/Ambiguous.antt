@@ -8,7 +8,8 @@ use native.Mathlib.Decide.{ℕ-discrete, decLt}
 use native.Mathlib.Omega.{arith}
 use Rattle.model_sets.specs.Sets.{has}
 use Rattle.rules.specs.Walk.{Group, Begins, MayComeNext}
-use Rattle.rules.specs.Ambiguity.{SpellSame, none, next, Ambiguous, PairAtFault}
+use Rattle.rules.specs.Ambiguity.{SpellSame, none, next, Ambiguous, PairAtFault, FirstPair}
+use Rattle.model_sets.specs.Search.{least-unique}
 use Rattle.and_laws.specs.Base.{In, mem-head, mem-right}
 use Rattle.and_laws.specs.Sets.{Good}
 use Rattle.and_laws.specs.Fold.{begins-less, clash}
@@ -39,6 +40,9 @@ module _ (same : ℕ → ℕ → Bool) where
       pub ambiguous-pair : Ambiguous same g → Faulty
       ambiguous-pair (s, t, a, b, e, ne) = ⊎-elim (λ st. absurd (ne st)) (λ x. x) (equal-or-faulty [] e a b)
 
+      pub unambiguous-equal : ((p q : ℕ) → PairAtFault same g p q → ⊥) → (s t : List ℕ) → Begins g s → Begins g t → SpellSame same s t → s ≡ t
+      unambiguous-equal none-at-fault s t a b e = ⊎-elim (λ st. st) (λ x. absurd (none-at-fault (x .0) (x .1) (x .2))) (equal-or-faulty [] e a b)
+
       -- no clash, no ambiguity
       pub unambiguous : Good g → ((p q : ℕ) → p < q → same p q ≡ true → clash g p q ≡ true → ⊥) → (s t : List ℕ) → Begins g s → Begins g t → SpellSame same s t → s ≡ t
       unambiguous d n s t a b e = ⊎-elim (λ st. st) (λ (p, q, f). absurd (let (l, x, y) = fault-clash same g d p q f in n p q l x y)) (equal-or-faulty [] e a b)
@@ -53,3 +57,7 @@ module _ (same : ℕ → ℕ → Bool) where
         where
           differ : s ++ p ∷ [] ≡ s ++ q ∷ [] → ⊥
           differ z = let pq = head-eq-of-cons-eq (append-cancel-left s (p ∷ []) (q ∷ []) z) in omega arith
+
+    -- At most one pair comes first.
+    pub first-pair-unique : (p q a b : ℕ) → FirstPair same g p q → FirstPair same g a b → (p ≡ a) × (q ≡ b)
+    first-pair-unique p q a b (x, f) (y, k) = least-unique p q a b (f a b y) (k p q x)

@@ -7,22 +7,9 @@ use borrow.Author.Tests.{eqb-true}
 use Rattle.model_sets.specs.Bits.{or-cases}
 use Rattle.model_sets.specs.Sets.{has, hasM, size, sizeM, Numbered, NumberedM}
 use Rattle.rules.specs.Walk.{Group, place, seq, alt, opt, plus, and, Members, one, also}
+pub use Rattle.rules.specs.Walk.{Guarded, GuardedM}
 use Rattle.and_laws.specs.Base.{Apart}
 use Rattle.and_laws.specs.Sets.{Plain, Good, GoodM}
-
--- "An "&" group may not stand, at any depth, in a token or group that carries "+" or "*", nor carry one."
-abbrev mutual
-  pub Guarded : Group → Type 0
-  Guarded (place n) = n ≡ n
-  Guarded (seq g h) = Guarded g × Guarded h
-  Guarded (alt g h) = Guarded g × Guarded h
-  Guarded (opt g) = Guarded g
-  Guarded (plus g) = Plain g
-  Guarded (and m) = GuardedM m
-
-  pub GuardedM : Members → Type 0
-  GuardedM (one g) = Guarded g
-  GuardedM (also m g) = GuardedM m × Guarded g
 
 mutual
   pub has-range : (g : Group) (lo : ℕ) → Numbered g lo → (p : ℕ) → has g p ≡ true → (lo ≤ p) × (p < lo + size g)

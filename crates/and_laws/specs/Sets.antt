@@ -9,6 +9,7 @@ use borrow.Author.Tests.{eqb-true, eq-eqb}
 use Rattle.model_sets.specs.Bits.{or-left, or-right, or-cases}
 use Rattle.model_sets.specs.Sets.{has, hasM}
 use Rattle.rules.specs.Walk.{Group, place, seq, alt, opt, plus, and, Members, one, also, Runs, once, more, joined, Walk, Orders}
+pub use Rattle.rules.specs.Walk.{Plain}
 use Rattle.and_laws.specs.Base.{mem, mem-left, mem-right, mem-cases, In, Apart, in-append, in-one, joined-append}
 
 -- the place stands in an "&" group
@@ -33,15 +34,6 @@ abbrev mutual
   pub meetsM : Members → (ℕ → Bool) → Bool
   meetsM (one g) S = meets g S
   meetsM (also m g) S = meetsM m S || meets g S
-
--- no "&"
-abbrev pub Plain : Group → Type 0
-Plain (place n) = n ≡ n
-Plain (seq g h) = Plain g × Plain h
-Plain (alt g h) = Plain g × Plain h
-Plain (opt g) = Plain g
-Plain (plus g) = Plain g
-Plain (and m) = ⊥
 
 -- places differ, and no "&" stands under "+" or "*"
 abbrev mutual

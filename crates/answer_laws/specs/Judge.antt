@@ -13,11 +13,12 @@ use Rattle.rules.specs.Reading.{Reading, refused, got}
 use Rattle.rules.specs.Walk.{Group, Begins}
 use Rattle.rules.specs.Ambiguity.{SpellSame, Ambiguous, PairAtFault, FirstPair}
 use Rattle.rules.specs.TypeFile.{Place, Content, empty, model, Element, typeFile}
-use Rattle.rules.specs.Judge.{placeAt, samePlace, Answer, refusal, acceptance, Unambiguous, AllUnambiguous, PairStandsAt, FirstAmbiguous, here, later, records, Legible, Refuses, notOffered, tooLong, notAllowed, malformed, ambiguous, noRoom, Accepts, Judged, refuses, accepts}
+use Rattle.rules.specs.Judge.{placeAt, samePlace, Answer, refusal, acceptance, Unambiguous, AllUnambiguous, PairStandsAt, FirstAmbiguous, here, later, firstRepeated, records, Legible, Refuses, notOffered, tooLong, notAllowed, malformed, repeated, ambiguous, noRoom, Accepts, Judged, refuses, accepts}
 use Rattle.numbers.specs.Laws.{records-length, lent-length}
 use Rattle.rules_laws.specs.Within.{ContentIn, all-mem, placeAt-in, typeFile-within, typeFile-elements}
-use Rattle.model_sets.specs.Ambiguous.{ambiguous-pair, pair-ambiguous, unambiguous-equal, first-pair-unique}
+use Rattle.and_laws.specs.Ambiguous.{ambiguous-pair, pair-ambiguous, unambiguous-equal, first-pair-unique}
 use Rattle.rules_laws.specs.Names.{samePlace-refl, samePlace-sym}
+use Rattle.type_laws.specs.Members.{typeFile-repeated}
 
 -- The first model with a pair at fault.
 
@@ -96,9 +97,10 @@ first-model {s} {k} {p} {q} f =
 -- What the judge promises of a legible type, by what its reading gives.
 data Read (l : Lent) (s before : List ℕ) (a : Answer) (after : List ℕ) : Reading (List Element) → Type 0 where
   bad : {n k : ℕ} → a ≡ refusal n k 0 0 → after ≡ zeroed before → Read l s before a after (refused n k)
-  clash : {es : List Element} (k p q : ℕ) → FirstAmbiguous s k p q es → a ≡ refusal 9 k p q → after ≡ zeroed before → Read l s before a after (got es)
-  tight : {es : List Element} → AllUnambiguous s es → room l before < 6 * length es → a ≡ refusal 19 0 0 0 → after ≡ zeroed before → Read l s before a after (got es)
-  enough : {es : List Element} → AllUnambiguous s es → 6 * length es ≤ room l before → a ≡ acceptance (length es) → after ≡ filledWith (standing l (records es)) before → Read l s before a after (got es)
+  again : {es : List Element} → 1 ≤ firstRepeated es → a ≡ refusal 25 (firstRepeated es) 0 0 → after ≡ zeroed before → Read l s before a after (got es)
+  clash : {es : List Element} → firstRepeated es ≡ 0 → (k p q : ℕ) → FirstAmbiguous s k p q es → a ≡ refusal 9 k p q → after ≡ zeroed before → Read l s before a after (got es)
+  tight : {es : List Element} → firstRepeated es ≡ 0 → AllUnambiguous s es → room l before < 6 * length es → a ≡ refusal 19 0 0 0 → after ≡ zeroed before → Read l s before a after (got es)
+  enough : {es : List Element} → firstRepeated es ≡ 0 → AllUnambiguous s es → 6 * length es ≤ room l before → a ≡ acceptance (length es) → after ≡ filledWith (standing l (records es)) before → Read l s before a after (got es)
 
 both : {a b c : Answer} {x y z : List ℕ} → (a ≡ c) × (x ≡ z) → (b ≡ c) × (y ≡ z) → (a ≡ b) × (x ≡ y)
 both (e, f) (g, h) = (e ∙ sym g, f ∙ sym h)
@@ -106,17 +108,24 @@ both (e, f) (g, h) = (e ∙ sym g, f ∙ sym h)
 module _ {l : Lent} {s before : List ℕ} where
   read-one : {a b : Answer} {after other : List ℕ} {r : Reading (List Element)} → Read l s before a after r → Read l s before b other r → (a ≡ b) × (after ≡ other)
   read-one (bad e z) (bad f y) = (e ∙ sym f, z ∙ sym y)
-  read-one (clash k p q x e z) (clash j i l w f y) =
+  read-one (again o e z) (again v f y) = (e ∙ sym f, z ∙ sym y)
+  read-one (again o e z) (clash v j i l w f y) = absurd (omega arith)
+  read-one (again o e z) (tight v u h f y) = absurd (omega arith)
+  read-one (again o e z) (enough v u h f y) = absurd (omega arith)
+  read-one (clash o k p q x e z) (again v f y) = absurd (omega arith)
+  read-one (clash o k p q x e z) (clash v j i l w f y) =
       let (v, d, g) = first-one s x w in
       (cc, z ∙ sym y)
-  read-one (clash k p q x e z) (tight u h f y) = absurd (first-all s x u)
-  read-one (clash k p q x e z) (enough u h f y) = absurd (first-all s x u)
-  read-one (tight u h e z) (clash j i l w f y) = absurd (first-all s w u)
-  read-one (tight u h e z) (tight v l f y) = (e ∙ sym f, z ∙ sym y)
-  read-one (tight u h e z) (enough v l f y) = absurd (omega arith)
-  read-one (enough u h e z) (clash j i l w f y) = absurd (first-all s w u)
-  read-one (enough u h e z) (tight v l f y) = absurd (omega arith)
-  read-one (enough u h e z) (enough v l f y) = (e ∙ sym f, z ∙ sym y)
+  read-one (clash o k p q x e z) (tight v u h f y) = absurd (first-all s x u)
+  read-one (clash o k p q x e z) (enough v u h f y) = absurd (first-all s x u)
+  read-one (tight o u h e z) (again v f y) = absurd (omega arith)
+  read-one (tight o u h e z) (clash v j i l w f y) = absurd (first-all s w u)
+  read-one (tight o u h e z) (tight v w l f y) = (e ∙ sym f, z ∙ sym y)
+  read-one (tight o u h e z) (enough v w l f y) = absurd (omega arith)
+  read-one (enough o u h e z) (again v f y) = absurd (omega arith)
+  read-one (enough o u h e z) (clash v j i l w f y) = absurd (first-all s w u)
+  read-one (enough o u h e z) (tight v w l f y) = absurd (omega arith)
+  read-one (enough o u h e z) (enough v w l f y) = (e ∙ sym f, z ∙ sym y)
 
 module _ {l : Lent} {c : Settings} {s before : List ℕ} where
   -- At each stage of the order there is one way to go on.
@@ -126,8 +135,9 @@ module _ {l : Lent} {c : Settings} {s before : List ℕ} where
   when-not-offered h (refuses (tooLong o l e) z) = absurd (true≢false (sym o ∙ h))
   when-not-offered h (refuses (notAllowed o l d e) z) = absurd (true≢false (sym o ∙ h))
   when-not-offered h (refuses (malformed l n k r e) z) = absurd (true≢false (sym (l .offered) ∙ h))
-  when-not-offered h (refuses (ambiguous l es r k p q f e) z) = absurd (true≢false (sym (l .offered) ∙ h))
-  when-not-offered h (refuses (noRoom l es r u f e) z) = absurd (true≢false (sym (l .offered) ∙ h))
+  when-not-offered h (refuses (repeated l es r v e) z) = absurd (true≢false (sym (l .offered) ∙ h))
+  when-not-offered h (refuses (ambiguous l es r v k p q f e) z) = absurd (true≢false (sym (l .offered) ∙ h))
+  when-not-offered h (refuses (noRoom l es r v u f e) z) = absurd (true≢false (sym (l .offered) ∙ h))
   when-not-offered h (accepts es w f e z) = absurd (true≢false (sym (w .legible .offered) ∙ h))
 
   when-long : {a : Answer} {after : List ℕ} → isOffered c ≡ true → typeLimit < length s → Judged l c s before a after → (a ≡ refusal 1 0 0 0) × (after ≡ zeroed before)
@@ -135,8 +145,9 @@ module _ {l : Lent} {c : Settings} {s before : List ℕ} where
   when-long u h (refuses (tooLong o l e) z) = (e, z)
   when-long u h (refuses (notAllowed o l d e) z) = absurd (omega arith)
   when-long u h (refuses (malformed l n k r e) z) = absurd (omega arith)
-  when-long u h (refuses (ambiguous l es r k p q f e) z) = absurd (omega arith)
-  when-long u h (refuses (noRoom l es r w f e) z) = absurd (omega arith)
+  when-long u h (refuses (repeated l es r v e) z) = absurd (omega arith)
+  when-long u h (refuses (ambiguous l es r v k p q f e) z) = absurd (omega arith)
+  when-long u h (refuses (noRoom l es r v w f e) z) = absurd (omega arith)
   when-long u h (accepts es w f e z) = absurd (omega arith)
 
   when-dirty : {a : Answer} {after : List ℕ} → isOffered c ≡ true → length s ≤ typeLimit → span allowed s < length s → Judged l c s before a after → (a ≡ refusal 2 (span allowed s) 0 0) × (after ≡ zeroed before)
@@ -144,8 +155,9 @@ module _ {l : Lent} {c : Settings} {s before : List ℕ} where
   when-dirty u h d (refuses (tooLong o l e) z) = absurd (omega arith)
   when-dirty u h d (refuses (notAllowed o l x e) z) = (e, z)
   when-dirty u h d (refuses (malformed l n k r e) z) = absurd (omega arith)
-  when-dirty u h d (refuses (ambiguous l es r k p q f e) z) = absurd (omega arith)
-  when-dirty u h d (refuses (noRoom l es r w f e) z) = absurd (omega arith)
+  when-dirty u h d (refuses (repeated l es r v e) z) = absurd (omega arith)
+  when-dirty u h d (refuses (ambiguous l es r v k p q f e) z) = absurd (omega arith)
+  when-dirty u h d (refuses (noRoom l es r v w f e) z) = absurd (omega arith)
   when-dirty u h d (accepts es w f e z) = absurd (omega arith)
 
   when-legible : {a : Answer} {after : List ℕ} → Legible c s → Judged l c s before a after → Read l s before a after (typeFile c s)
@@ -153,9 +165,10 @@ module _ {l : Lent} {c : Settings} {s before : List ℕ} where
   when-legible h (refuses (tooLong o l e) z) = absurd (omega arith)
   when-legible h (refuses (notAllowed o l d e) z) = absurd (omega arith)
   when-legible h (refuses (malformed l n k r e) z) = rw r (bad e z)
-  when-legible h (refuses (ambiguous l es r k p q f e) z) = rw r (clash k p q f e z)
-  when-legible h (refuses (noRoom l es r u f e) z) = rw r (tight u f e z)
-  when-legible h (accepts es w f e z) = rw (w .elements) (enough (w .unambiguous) f e z)
+  when-legible h (refuses (repeated l es r v e) z) = rw r (again v e z)
+  when-legible h (refuses (ambiguous l es r v k p q f e) z) = rw r (clash v k p q f e z)
+  when-legible h (refuses (noRoom l es r v u f e) z) = rw r (tight v u f e z)
+  when-legible h (accepts es w f e z) = rw (w .elements) (enough (w .unrepeated) (w .unambiguous) f e z)
 
   -- Two answers to one type are the same.
   pub settled-one : {a b : Answer} {after other : List ℕ} → Judged l c s before a after → Judged l c s before b other → (a ≡ b) × (after ≡ other)
@@ -163,9 +176,10 @@ module _ {l : Lent} {c : Settings} {s before : List ℕ} where
   settled-one (refuses (tooLong o l e) z) y = both (e, z) (when-long o l y)
   settled-one (refuses (notAllowed o l d e) z) y = both (e, z) (when-dirty o l d y)
   settled-one (refuses (malformed l n k r e) z) y = read-one (rw r (bad e z)) (when-legible l y)
-  settled-one (refuses (ambiguous l es r k p q f e) z) y = read-one (rw r (clash k p q f e z)) (when-legible l y)
-  settled-one (refuses (noRoom l es r u f e) z) y = read-one (rw r (tight u f e z)) (when-legible l y)
-  settled-one (accepts es w f e z) y = read-one (rw (w .elements) (enough (w .unambiguous) f e z)) (when-legible (w .legible) y)
+  settled-one (refuses (repeated l es r v e) z) y = read-one (rw r (again v e z)) (when-legible l y)
+  settled-one (refuses (ambiguous l es r v k p q f e) z) y = read-one (rw r (clash v k p q f e z)) (when-legible l y)
+  settled-one (refuses (noRoom l es r v u f e) z) y = read-one (rw r (tight v u f e z)) (when-legible l y)
+  settled-one (accepts es w f e z) y = read-one (rw (w .elements) (enough (w .unrepeated) (w .unambiguous) f e z)) (when-legible (w .legible) y)
 
   pub settled-refuses : {a : Answer} {after : List ℕ} → Judged l c s before a after → (a .number ≡ 0 → ⊥) → Refuses c s (room l before) a × (after ≡ zeroed before)
   settled-refuses (refuses r z) h = (r, z)
@@ -174,15 +188,16 @@ module _ {l : Lent} {c : Settings} {s before : List ℕ} where
 -- What a refusal says.
 module _ {c : Settings} {s : List ℕ} {room : ℕ} {a : Answer} where
   pub refuses-named : Refuses c s room a
-      → (n : ℕ) × (k : ℕ) × (p : ℕ) × (q : ℕ) × (a ≡ refusal n k p q) × (((1 ≤ n) × (n ≤ 9)) ⊎ ((n ≡ 19) ⊎ (n ≡ 24))) × (k ≤ length s) × ((n ≡ 9 → ⊥) → (p ≡ 0) × (q ≡ 0))
-  refuses-named (notOffered o e) = (24, 0, 0, 0, e, inr (inr refl), omega arith, λ h. omega arith)
+      → (n : ℕ) × (k : ℕ) × (p : ℕ) × (q : ℕ) × (a ≡ refusal n k p q) × (((1 ≤ n) × (n ≤ 9)) ⊎ ((n ≡ 19) ⊎ ((24 ≤ n) × (n ≤ 25)))) × (k ≤ length s) × ((n ≡ 9 → ⊥) → (p ≡ 0) × (q ≡ 0))
+  refuses-named (notOffered o e) = (24, 0, 0, 0, e, inr (inr (omega arith)), omega arith, λ h. omega arith)
   refuses-named (tooLong o l e) = (1, 0, 0, 0, e, inl (omega arith), omega arith, λ h. omega arith)
   refuses-named (notAllowed o l d e) = (2, span allowed s, 0, 0, e, inl (omega arith), omega arith, λ h. omega arith)
   refuses-named (malformed l n k r e) =
       let (i, j, b) = typeFile-within c s n k r in
       (n, k, 0, 0, e, inl (omega arith), b, λ h. omega arith)
-  refuses-named (ambiguous l es r k p q f e) = (9, k, p, q, e, inl (omega arith), first-in s c f r, λ h. absurd (h refl))
-  refuses-named (noRoom l es r u f e) = (19, 0, 0, 0, e, inr (inl refl), omega arith, λ h. omega arith)
+  refuses-named (repeated l es r v e) = (25, firstRepeated es, 0, 0, e, inr (inr (omega arith)), typeFile-repeated c s es r, λ h. omega arith)
+  refuses-named (ambiguous l es r v k p q f e) = (9, k, p, q, e, inl (omega arith), first-in s c f r, λ h. absurd (h refl))
+  refuses-named (noRoom l es r v u f e) = (19, 0, 0, 0, e, inr (inl refl), omega arith, λ h. omega arith)
 
   pub refuses-some : Refuses c s room a → a .number ≡ 0 → ⊥
   refuses-some r h =
@@ -190,30 +205,42 @@ module _ {c : Settings} {s : List ℕ} {room : ℕ} {a : Answer} where
       let z : n ≡ 0 = rw e at h in
       ⊎-elim (λ x. omega arith) (λ x. ⊎-elim (λ y. omega arith) (λ y. omega arith) x) b
 
-  -- Number 24, number 9, and number 19.
+  -- Number 24, number 25, number 9, and number 19.
   refuses-twenty-four : Refuses c s room a → a .number ≡ 24 → isOffered c ≡ false
   refuses-twenty-four (notOffered o e) h = o
   refuses-twenty-four (tooLong o l e) h = absurd (omega (arith, rw e at h))
   refuses-twenty-four (notAllowed o l d e) h = absurd (omega (arith, rw e at h))
   refuses-twenty-four (malformed l n k r e) h = absurd (omega (arith, rw e at h, typeFile-within c s n k r))
-  refuses-twenty-four (ambiguous l es r k p q f e) h = absurd (omega (arith, rw e at h))
-  refuses-twenty-four (noRoom l es r u f e) h = absurd (omega (arith, rw e at h))
+  refuses-twenty-four (repeated l es r v e) h = absurd (omega (arith, rw e at h))
+  refuses-twenty-four (ambiguous l es r v k p q f e) h = absurd (omega (arith, rw e at h))
+  refuses-twenty-four (noRoom l es r v u f e) h = absurd (omega (arith, rw e at h))
 
-  refuses-nine : Refuses c s room a → a .number ≡ 9 → Legible c s × (es : List Element) × (typeFile c s ≡ got es) × FirstAmbiguous s (a .position) (a .first) (a .second) es
+  refuses-twenty-five : Refuses c s room a → a .number ≡ 25 → Legible c s × (es : List Element) × (typeFile c s ≡ got es) × (1 ≤ firstRepeated es) × (a .position ≡ firstRepeated es)
+  refuses-twenty-five (notOffered o e) h = absurd (omega (arith, rw e at h))
+  refuses-twenty-five (tooLong o l e) h = absurd (omega (arith, rw e at h))
+  refuses-twenty-five (notAllowed o l d e) h = absurd (omega (arith, rw e at h))
+  refuses-twenty-five (malformed l n k r e) h = absurd (omega (arith, rw e at h, typeFile-within c s n k r))
+  refuses-twenty-five (repeated l es r v e) h = (l, es, r, v, ap (λ (b : Answer). b .position) e)
+  refuses-twenty-five (ambiguous l es r v k p q f e) h = absurd (omega (arith, rw e at h))
+  refuses-twenty-five (noRoom l es r v u f e) h = absurd (omega (arith, rw e at h))
+
+  refuses-nine : Refuses c s room a → a .number ≡ 9 → Legible c s × (es : List Element) × (typeFile c s ≡ got es) × (firstRepeated es ≡ 0) × FirstAmbiguous s (a .position) (a .first) (a .second) es
   refuses-nine (notOffered o e) h = absurd (omega (arith, rw e at h))
   refuses-nine (tooLong o l e) h = absurd (omega (arith, rw e at h))
   refuses-nine (notAllowed o l d e) h = absurd (omega (arith, rw e at h))
   refuses-nine (malformed l n k r e) h = absurd (omega (arith, rw e at h, typeFile-within c s n k r))
-  refuses-nine (ambiguous l es r k p q f e) h = rw e (l, es, r, f)
-  refuses-nine (noRoom l es r u f e) h = absurd (omega (arith, rw e at h))
+  refuses-nine (repeated l es r v e) h = absurd (omega (arith, rw e at h))
+  refuses-nine (ambiguous l es r v k p q f e) h = rw e (l, es, r, v, f)
+  refuses-nine (noRoom l es r v u f e) h = absurd (omega (arith, rw e at h))
 
   refuses-nineteen : Refuses c s room a → a .number ≡ 19 → (es : List Element) × Accepts c s es × (room < 6 * length es)
   refuses-nineteen (notOffered o e) h = absurd (omega (arith, rw e at h))
   refuses-nineteen (tooLong o l e) h = absurd (omega (arith, rw e at h))
   refuses-nineteen (notAllowed o l d e) h = absurd (omega (arith, rw e at h))
   refuses-nineteen (malformed l n k r e) h = absurd (omega (arith, rw e at h, typeFile-within c s n k r))
-  refuses-nineteen (ambiguous l es r k p q f e) h = absurd (omega (arith, rw e at h))
-  refuses-nineteen (noRoom l es r u f e) h = (es, record { legible = l; elements = r; unambiguous = u }, f)
+  refuses-nineteen (repeated l es r v e) h = absurd (omega (arith, rw e at h))
+  refuses-nineteen (ambiguous l es r v k p q f e) h = absurd (omega (arith, rw e at h))
+  refuses-nineteen (noRoom l es r v u f e) h = (es, record { legible = l; elements = r; unrepeated = v; unambiguous = u }, f)
 
 pub read-fair : {c : Settings} {s : List ℕ} {ds es : List Element} → Accepts c s ds → typeFile c s ≡ got es → AllUnambiguous s es
 read-fair {c} {s} {ds} {es} w r =
@@ -229,28 +256,43 @@ module _ {l : Lent} {c : Settings} {s before : List ℕ} {a : Answer} {after : L
   pub settled-twenty-four : Judged l c s before a after → a .number ≡ 24 → isOffered c ≡ false
   settled-twenty-four x h = refuses-twenty-four (settled-refuses x (λ z. omega arith) .0) h
 
-  pub settled-nine : Judged l c s before a after → a .number ≡ 9 → Legible c s × (es : List Element) × (typeFile c s ≡ got es) × FirstAmbiguous s (a .position) (a .first) (a .second) es
+  pub settled-twenty-five : Judged l c s before a after → a .number ≡ 25 → Legible c s × (es : List Element) × (typeFile c s ≡ got es) × (1 ≤ firstRepeated es) × (a .position ≡ firstRepeated es)
+  settled-twenty-five x h = refuses-twenty-five (settled-refuses x (λ z. omega arith) .0) h
+
+  pub settled-nine : Judged l c s before a after → a .number ≡ 9 → Legible c s × (es : List Element) × (typeFile c s ≡ got es) × (firstRepeated es ≡ 0) × FirstAmbiguous s (a .position) (a .first) (a .second) es
   settled-nine x h = refuses-nine (settled-refuses x (λ z. omega arith) .0) h
 
   pub settled-nineteen : Judged l c s before a after → a .number ≡ 19 → (es : List Element) × Accepts c s es × (room l before < 6 * length es)
   settled-nineteen x h = refuses-nineteen (settled-refuses x (λ z. omega arith) .0) h
 
-  -- Under 9 some model has a pair at fault; else none that was read has.
-  pub settled-fair : Judged l c s before a after → Legible c s → (es : List Element) → typeFile c s ≡ got es → (a .number ≡ 9 → ⊥) → AllUnambiguous s es
-  settled-fair x i es r n = go (rw r at (when-legible i x))
+  -- Under 25 an "&" stands where none may; else none does.
+  pub settled-repeated : Judged l c s before a after → Legible c s → (es : List Element) → typeFile c s ≡ got es → 1 ≤ firstRepeated es → a .number ≡ 25
+  settled-repeated x i es r n = go (rw r at (when-legible i x))
+    where
+      go : Read l s before a after (got es) → a .number ≡ 25
+      go (again v e z) = rw e
+      go (clash v k p q f e z) = absurd (omega arith)
+      go (tight v u f e z) = absurd (omega arith)
+      go (enough v u f e z) = absurd (omega arith)
+
+  -- Under 9 some model has a pair at fault; else none that was read has, unless it is 25 that comes before.
+  pub settled-fair : Judged l c s before a after → Legible c s → (es : List Element) → typeFile c s ≡ got es → (a .number ≡ 9 → ⊥) → (a .number ≡ 25 → ⊥) → AllUnambiguous s es
+  settled-fair x i es r n m = go (rw r at (when-legible i x))
     where
       go : Read l s before a after (got es) → AllUnambiguous s es
-      go (clash k p q f e z) = absurd (n (rw e))
-      go (tight u f e z) = u
-      go (enough u f e z) = u
+      go (again v e z) = absurd (m (rw e))
+      go (clash v k p q f e z) = absurd (n (rw e))
+      go (tight v u f e z) = u
+      go (enough v u f e z) = u
 
-  pub settled-faulty : Judged l c s before a after → Legible c s → (es : List Element) → typeFile c s ≡ got es → (AllUnambiguous s es → ⊥) → a .number ≡ 9
-  settled-faulty x i es r n = go (rw r at (when-legible i x))
+  pub settled-faulty : Judged l c s before a after → Legible c s → (es : List Element) → typeFile c s ≡ got es → firstRepeated es ≡ 0 → (AllUnambiguous s es → ⊥) → a .number ≡ 9
+  settled-faulty x i es r o n = go (rw r at (when-legible i x))
     where
       go : Read l s before a after (got es) → a .number ≡ 9
-      go (clash k p q f e z) = rw e
-      go (tight u f e z) = absurd (n u)
-      go (enough u f e z) = absurd (n u)
+      go (again v e z) = absurd (omega arith)
+      go (clash v k p q f e z) = rw e
+      go (tight v u f e z) = absurd (n u)
+      go (enough v u f e z) = absurd (n u)
 
 -- The buffer keeps its length.
 pub settled-length : {l : Lent} {c : Settings} {s before : List ℕ} {a : Answer} {after : List ℕ} → Judged l c s before a after → length after ≡ length before

@@ -1,6 +1,6 @@
 -- The rules settle one answer of the reader, and what each such answer is.
 use Prim.Native.Nat.{ℕ, _*_, _<_, _≤_}
-use mathlib.Core.Path.{_≡_, refl, sym, _∙_}
+use mathlib.Core.Path.{_≡_, refl, sym, ap, _∙_}
 use mathlib.Core.Bool.{true, false, true≢false}
 use mathlib.Core.Logic.{_⊎_, inl, inr, ⊎-elim}
 use mathlib.Core.List.{List}
@@ -11,13 +11,14 @@ use Rattle.rules.specs.Bytes.{allowed, span}
 use Rattle.rules.specs.Lent.{Lent, standing, room, filledWith, zeroed}
 use Rattle.rules.specs.Reading.{Reading, refused, got}
 use Rattle.rules.specs.TypeFile.{Element, typeFile}
-use Rattle.rules.specs.Judge.{Answer, refusal, acceptance, AllUnambiguous, FirstAmbiguous, Refuses, Accepts}
+use Rattle.rules.specs.Judge.{Answer, refusal, acceptance, AllUnambiguous, FirstAmbiguous, firstRepeated, Refuses, Accepts}
 use Rattle.rules.specs.Events.{Event, eventWidth}
-use Rattle.rules.specs.Reader.{eventNumbers, documentRefusal, BothLegible, Reads, RefusesBoth, notOffered, typeTooLong, documentTooLong, typeNotAllowed, documentNotAllowed, malformed, ambiguous, unsettled, noRoom, ReadAs, refuses, accepts}
+use Rattle.rules.specs.Reader.{eventNumbers, documentRefusal, BothLegible, Reads, RefusesBoth, notOffered, typeTooLong, documentTooLong, typeNotAllowed, documentNotAllowed, malformed, repeated, ambiguous, unsettled, noRoom, ReadAs, refuses, accepts}
 use Rattle.numbers.specs.Laws.{eventNumbers-length, lent-length}
 use Rattle.rules_laws.specs.Within.{typeFile-within}
-use Rattle.document_laws.specs.Laws.{reads-some, reads-one}
+use Rattle.document_laws.specs.Laws.{same-elements, reads-some, reads-one}
 use Rattle.document_laws.specs.Answers.{read-as-one}
+use Rattle.type_laws.specs.Members.{typeFile-repeated}
 use Rattle.turn_laws.specs.Within.{DocumentNumber, document-within}
 use Rattle.answer_laws.specs.Judge.{first-one, first-all, first-in, read-fair}
 
@@ -34,7 +35,7 @@ reading-one c s d es l w =
 
 -- What a refusal says: where it stands, and by which numbers.
 abbrev TypeSays : List ℕ → Answer → Type 0
-TypeSays s a = (a .input ≡ 1) × (a .position ≤ length s) × (((1 ≤ a .number) × (a .number ≤ 9)) ⊎ (a .number ≡ 24))
+TypeSays s a = (a .input ≡ 1) × (a .position ≤ length s) × (((1 ≤ a .number) × (a .number ≤ 9)) ⊎ ((24 ≤ a .number) × (a .number ≤ 25)))
 
 abbrev DocumentSays : List ℕ → Answer → Type 0
 DocumentSays d a = (a .input ≡ 2) × (a .position ≤ length d) × (((1 ≤ a .number) × (a .number ≤ 5)) ⊎ ((10 ≤ a .number) × (a .number ≤ 19)))
@@ -42,7 +43,7 @@ DocumentSays d a = (a .input ≡ 2) × (a .position ≤ length d) × (((1 ≤ a 
 abbrev Says : (s d : List ℕ) → Answer → Type 0
 Says s d a = (TypeSays s a ⊎ DocumentSays d a) × ((a .number ≡ 9 → ⊥) → (a .first ≡ 0) × (a .second ≡ 0)) × (a .count ≡ 0)
 
-type-says : (s d : List ℕ) (n k : ℕ) → ((1 ≤ n) × (n ≤ 9)) ⊎ (n ≡ 24) → k ≤ length s → Says s d (refusal n k 0 0)
+type-says : (s d : List ℕ) (n k : ℕ) → ((1 ≤ n) × (n ≤ 9)) ⊎ ((24 ≤ n) × (n ≤ 25)) → k ≤ length s → Says s d (refusal n k 0 0)
 type-says s d n k h i = (inl (refl, i, h), λ o. (refl, refl), refl)
 
 document-says : (s d : List ℕ) (n k : ℕ) → ((1 ≤ n) × (n ≤ 5)) ⊎ ((10 ≤ n) × (n ≤ 19)) → k ≤ length d → Says s d (documentRefusal n k)
@@ -53,7 +54,7 @@ document-number = ⊎-elim (λ h. inl (omega arith)) (λ h. inr (omega arith))
 
 module _ {c : Settings} {s d : List ℕ} {room : ℕ} {a : Answer} where
   pub both-says : RefusesBoth c s d room a → Says s d a
-  both-says (notOffered o e) = rw e (type-says s d 24 0 (inr refl) (omega arith))
+  both-says (notOffered o e) = rw e (type-says s d 24 0 (inr (omega arith)) (omega arith))
   both-says (typeTooLong o l e) = rw e (type-says s d 1 0 (inl (omega arith)) (omega arith))
   both-says (documentTooLong o l m e) = rw e (document-says s d 1 0 (inl (omega arith)) (omega arith))
   both-says (typeNotAllowed o l m x e) = rw e (type-says s d 2 (span allowed s) (inl (omega arith)) (omega arith))
@@ -61,7 +62,8 @@ module _ {c : Settings} {s d : List ℕ} {room : ℕ} {a : Answer} where
   both-says (malformed l n k r e) =
       let (i, j, b) = typeFile-within c s n k r in
       rw e (type-says s d n k (inl (omega arith)) b)
-  both-says (ambiguous l es r k p q f e) = rw e (inl (refl, first-in s c f r, inl (omega arith)), λ h. absurd (h refl), refl)
+  both-says (repeated l es r v e) = rw e (type-says s d 25 (firstRepeated es) (inr (omega arith)) (typeFile-repeated c s es r))
+  both-says (ambiguous l es r v k p q f e) = rw e (inl (refl, first-in s c f r, inl (omega arith)), λ h. absurd (h refl), refl)
   both-says (unsettled es n k r e) =
       let (i, b) = document-within c s es (r .decisions) d n k (r .reading) in
       rw e (document-says s d n k (document-number i) b)
@@ -70,7 +72,7 @@ module _ {c : Settings} {s d : List ℕ} {room : ℕ} {a : Answer} where
   pub both-some : RefusesBoth c s d room a → a .number ≡ 0 → ⊥
   both-some r h = ⊎-elim (λ i. ⊎-elim (λ j. omega arith) (λ j. omega arith) (i .2)) (λ i. ⊎-elim (λ j. omega arith) (λ j. omega arith) (i .2)) (both-says r .0)
 
-  -- Number 24, number 9, and number 19.
+  -- Number 24, number 25, number 9, and number 19.
   both-twenty-four : RefusesBoth c s d room a → a .number ≡ 24 → isOffered c ≡ false
   both-twenty-four (notOffered o e) h = o
   both-twenty-four (typeTooLong o l e) h = absurd (omega (arith, rw e at h))
@@ -78,19 +80,34 @@ module _ {c : Settings} {s d : List ℕ} {room : ℕ} {a : Answer} where
   both-twenty-four (typeNotAllowed o l m x e) h = absurd (omega (arith, rw e at h))
   both-twenty-four (documentNotAllowed l m x e) h = absurd (omega (arith, rw e at h))
   both-twenty-four (malformed l n k r e) h = absurd (omega (arith, rw e at h, typeFile-within c s n k r))
-  both-twenty-four (ambiguous l es r k p q f e) h = absurd (omega (arith, rw e at h))
+  both-twenty-four (repeated l es r v e) h = absurd (omega (arith, rw e at h))
+  both-twenty-four (ambiguous l es r v k p q f e) h = absurd (omega (arith, rw e at h))
   both-twenty-four (unsettled es n k r e) h =
       absurd (⊎-elim (λ j. omega (arith, rw e at h)) (λ j. omega (arith, rw e at h)) (document-within c s es (r .decisions) d n k (r .reading) .0))
   both-twenty-four (noRoom es ev r f e) h = absurd (omega (arith, rw e at h))
 
-  both-nine : RefusesBoth c s d room a → a .number ≡ 9 → BothLegible c s d × (es : List Element) × (typeFile c s ≡ got es) × FirstAmbiguous s (a .position) (a .first) (a .second) es
+  both-twenty-five : RefusesBoth c s d room a → a .number ≡ 25 → BothLegible c s d × (es : List Element) × (typeFile c s ≡ got es) × (1 ≤ firstRepeated es) × (a .position ≡ firstRepeated es)
+  both-twenty-five (notOffered o e) h = absurd (omega (arith, rw e at h))
+  both-twenty-five (typeTooLong o l e) h = absurd (omega (arith, rw e at h))
+  both-twenty-five (documentTooLong o l m e) h = absurd (omega (arith, rw e at h))
+  both-twenty-five (typeNotAllowed o l m x e) h = absurd (omega (arith, rw e at h))
+  both-twenty-five (documentNotAllowed l m x e) h = absurd (omega (arith, rw e at h))
+  both-twenty-five (malformed l n k r e) h = absurd (omega (arith, rw e at h, typeFile-within c s n k r))
+  both-twenty-five (repeated l es r v e) h = (l, es, r, v, ap (λ (b : Answer). b .position) e)
+  both-twenty-five (ambiguous l es r v k p q f e) h = absurd (omega (arith, rw e at h))
+  both-twenty-five (unsettled es n k r e) h =
+      absurd (⊎-elim (λ j. omega (arith, rw e at h)) (λ j. omega (arith, rw e at h)) (document-within c s es (r .decisions) d n k (r .reading) .0))
+  both-twenty-five (noRoom es ev r f e) h = absurd (omega (arith, rw e at h))
+
+  both-nine : RefusesBoth c s d room a → a .number ≡ 9 → BothLegible c s d × (es : List Element) × (typeFile c s ≡ got es) × (firstRepeated es ≡ 0) × FirstAmbiguous s (a .position) (a .first) (a .second) es
   both-nine (notOffered o e) h = absurd (omega (arith, rw e at h))
   both-nine (typeTooLong o l e) h = absurd (omega (arith, rw e at h))
   both-nine (documentTooLong o l m e) h = absurd (omega (arith, rw e at h))
   both-nine (typeNotAllowed o l m x e) h = absurd (omega (arith, rw e at h))
   both-nine (documentNotAllowed l m x e) h = absurd (omega (arith, rw e at h))
   both-nine (malformed l n k r e) h = absurd (omega (arith, rw e at h, typeFile-within c s n k r))
-  both-nine (ambiguous l es r k p q f e) h = rw e (l, es, r, f)
+  both-nine (repeated l es r v e) h = absurd (omega (arith, rw e at h))
+  both-nine (ambiguous l es r v k p q f e) h = rw e (l, es, r, v, f)
   both-nine (unsettled es n k r e) h =
       absurd (⊎-elim (λ j. omega (arith, rw e at h)) (λ j. omega (arith, rw e at h)) (document-within c s es (r .decisions) d n k (r .reading) .0))
   both-nine (noRoom es ev r f e) h = absurd (omega (arith, rw e at h))
@@ -102,36 +119,47 @@ module _ {c : Settings} {s d : List ℕ} {room : ℕ} {a : Answer} where
   both-nineteen (typeNotAllowed o l m x e) h = absurd (omega (arith, rw e at h))
   both-nineteen (documentNotAllowed l m x e) h = absurd (omega (arith, rw e at h))
   both-nineteen (malformed l n k r e) h = absurd (omega (arith, rw e at h, typeFile-within c s n k r))
-  both-nineteen (ambiguous l es r k p q f e) h = absurd (omega (arith, rw e at h))
+  both-nineteen (repeated l es r v e) h = absurd (omega (arith, rw e at h))
+  both-nineteen (ambiguous l es r v k p q f e) h = absurd (omega (arith, rw e at h))
   both-nineteen (unsettled es n k r e) h =
       absurd (⊎-elim (λ j. omega (arith, rw e at h)) (λ j. omega (arith, rw e at h)) (document-within c s es (r .decisions) d n k (r .reading) .0))
   both-nineteen (noRoom es ev r f e) h = (es, ev, r, f)
 
 -- What the judge refuses a type for, but for want of room, the reader refuses it for.
-pub type-refused : {c : Settings} {s d : List ℕ} {room other : ℕ} {a : Answer} → BothLegible c s d → Refuses c s room a → a .number ≤ 9 → RefusesBoth c s d other a
-type-refused i (Refuses.notOffered o e) h = absurd (omega (arith, rw e at h))
+pub type-refused : {c : Settings} {s d : List ℕ} {room other : ℕ} {a : Answer} → BothLegible c s d → Refuses c s room a → (a .number ≡ 19 → ⊥) → RefusesBoth c s d other a
+type-refused i (Refuses.notOffered o e) h = absurd (true≢false (sym (i .type .offered) ∙ o))
 type-refused i (Refuses.tooLong o l e) h = absurd (omega (arith, i .type .short))
 type-refused i (Refuses.notAllowed o l x e) h = absurd (omega (arith, i .type .clean))
 type-refused i (Refuses.malformed l n k r e) h = malformed i n k r e
-type-refused i (Refuses.ambiguous l es r k p q f e) h = ambiguous i es r k p q f e
-type-refused i (Refuses.noRoom l es r u f e) h = absurd (omega (arith, rw e at h))
+type-refused i (Refuses.repeated l es r v e) h = repeated i es r v e
+type-refused i (Refuses.ambiguous l es r v k p q f e) h = ambiguous i es r v k p q f e
+type-refused i (Refuses.noRoom l es r v u f e) h = absurd (h (rw e))
 
 -- What the answer to two legible inputs tells of the type.
 data OfType (c : Settings) (s : List ℕ) (a : Answer) : Type 0 where
   bad : (n k : ℕ) → typeFile c s ≡ refused n k → OfType c s a
-  clash : a .number ≡ 9 → OfType c s a
+  again : (es : List Element) → typeFile c s ≡ got es → 1 ≤ firstRepeated es → a .number ≡ 25 → OfType c s a
+  clash : (es : List Element) → typeFile c s ≡ got es → firstRepeated es ≡ 0 → a .number ≡ 9 → OfType c s a
   fair : (es : List Element) → Accepts c s es → OfType c s a
 
 module _ {c : Settings} {s : List ℕ} {a : Answer} {es : List Element} where
-  of-faulty : OfType c s a → typeFile c s ≡ got es → (AllUnambiguous s es → ⊥) → a .number ≡ 9
-  of-faulty (bad m k e) r n = let z : _≡_ {A = ℕ} 0 1 = cc in absurd (omega arith)
-  of-faulty (clash h) r n = h
-  of-faulty (fair fs w) r n = absurd (n (read-fair w r))
+  of-repeated : OfType c s a → typeFile c s ≡ got es → 1 ≤ firstRepeated es → a .number ≡ 25
+  of-repeated (bad m k e) r n = let z : _≡_ {A = ℕ} 0 1 = cc in absurd (omega arith)
+  of-repeated (again fs i v h) r n = h
+  of-repeated (clash fs i v h) r n = absurd (omega (arith, ap firstRepeated (same-elements c s es fs r i)))
+  of-repeated (fair fs w) r n = absurd (omega (arith, ap firstRepeated (same-elements c s es fs r (w .elements)), w .unrepeated))
 
-  of-fair : OfType c s a → typeFile c s ≡ got es → (a .number ≡ 9 → ⊥) → AllUnambiguous s es
-  of-fair (bad m k e) r n = let z : _≡_ {A = ℕ} 0 1 = cc in absurd (omega arith)
-  of-fair (clash h) r n = absurd (n h)
-  of-fair (fair fs w) r n = read-fair w r
+  of-faulty : OfType c s a → typeFile c s ≡ got es → firstRepeated es ≡ 0 → (AllUnambiguous s es → ⊥) → a .number ≡ 9
+  of-faulty (bad m k e) r o n = let z : _≡_ {A = ℕ} 0 1 = cc in absurd (omega arith)
+  of-faulty (again fs i v h) r o n = absurd (omega (arith, ap firstRepeated (same-elements c s es fs r i)))
+  of-faulty (clash fs i v h) r o n = h
+  of-faulty (fair fs w) r o n = absurd (n (read-fair w r))
+
+  of-fair : OfType c s a → typeFile c s ≡ got es → (a .number ≡ 9 → ⊥) → (a .number ≡ 25 → ⊥) → AllUnambiguous s es
+  of-fair (bad m k e) r n o = let z : _≡_ {A = ℕ} 0 1 = cc in absurd (omega arith)
+  of-fair (again fs i v h) r n o = absurd (o h)
+  of-fair (clash fs i v h) r n o = absurd (n h)
+  of-fair (fair fs w) r n o = read-fair w r
 
 module _ {l : Lent} {c : Settings} {s d before : List ℕ} {a : Answer} {after : List ℕ} where
   pub given-refuses : ReadAs l c s d before a after → (a .number ≡ 0 → ⊥) → RefusesBoth c s d (room l before) a × (after ≡ zeroed before)
@@ -145,7 +173,10 @@ module _ {l : Lent} {c : Settings} {s d before : List ℕ} {a : Answer} {after :
   pub given-twenty-four : ReadAs l c s d before a after → a .number ≡ 24 → isOffered c ≡ false
   given-twenty-four x h = both-twenty-four (given-refuses x (λ z. omega arith) .0) h
 
-  pub given-nine : ReadAs l c s d before a after → a .number ≡ 9 → BothLegible c s d × (es : List Element) × (typeFile c s ≡ got es) × FirstAmbiguous s (a .position) (a .first) (a .second) es
+  pub given-twenty-five : ReadAs l c s d before a after → a .number ≡ 25 → BothLegible c s d × (es : List Element) × (typeFile c s ≡ got es) × (1 ≤ firstRepeated es) × (a .position ≡ firstRepeated es)
+  given-twenty-five x h = both-twenty-five (given-refuses x (λ z. omega arith) .0) h
+
+  pub given-nine : ReadAs l c s d before a after → a .number ≡ 9 → BothLegible c s d × (es : List Element) × (typeFile c s ≡ got es) × (firstRepeated es ≡ 0) × FirstAmbiguous s (a .position) (a .first) (a .second) es
   given-nine x h = both-nine (given-refuses x (λ z. omega arith) .0) h
 
   pub given-nineteen : ReadAs l c s d before a after → a .number ≡ 19 → (es : List Element) × (ev : List Event) × Reads c s d es (got ev) × (room l before < eventWidth * length ev)
@@ -158,17 +189,22 @@ module _ {l : Lent} {c : Settings} {s d before : List ℕ} {a : Answer} {after :
   given-type i (refuses (typeNotAllowed o l m x e) z) = absurd (omega (arith, i .type .clean))
   given-type i (refuses (documentNotAllowed l m x e) z) = absurd (omega (arith, i .clean))
   given-type i (refuses (malformed l n k r e) z) = bad n k r
-  given-type i (refuses (ambiguous l es r k p q f e) z) = clash (rw e)
+  given-type i (refuses (repeated l es r v e) z) = again es r v (rw e)
+  given-type i (refuses (ambiguous l es r v k p q f e) z) = clash es r v (rw e)
   given-type i (refuses (unsettled es n k r e) z) = fair es (r .accepted)
   given-type i (refuses (noRoom es ev r f e) z) = fair es (r .accepted)
   given-type i (accepts es ev r f e z) = fair es (r .accepted)
 
-  -- Under 9 some model has a pair at fault; else none has.
-  pub given-faulty : ReadAs l c s d before a after → BothLegible c s d → {es : List Element} → typeFile c s ≡ got es → (AllUnambiguous s es → ⊥) → a .number ≡ 9
-  given-faulty x i r n = of-faulty (given-type i x) r n
+  -- Under 25 an "&" stands where none may; else none does.
+  pub given-repeated : ReadAs l c s d before a after → BothLegible c s d → {es : List Element} → typeFile c s ≡ got es → 1 ≤ firstRepeated es → a .number ≡ 25
+  given-repeated x i r n = of-repeated (given-type i x) r n
 
-  pub given-fair : ReadAs l c s d before a after → BothLegible c s d → {es : List Element} → typeFile c s ≡ got es → (a .number ≡ 9 → ⊥) → AllUnambiguous s es
-  given-fair x i r n = of-fair (given-type i x) r n
+  -- Under 9 some model has a pair at fault; else none has, unless it is 25 that comes before.
+  pub given-faulty : ReadAs l c s d before a after → BothLegible c s d → {es : List Element} → typeFile c s ≡ got es → firstRepeated es ≡ 0 → (AllUnambiguous s es → ⊥) → a .number ≡ 9
+  given-faulty x i r o n = of-faulty (given-type i x) r o n
+
+  pub given-fair : ReadAs l c s d before a after → BothLegible c s d → {es : List Element} → typeFile c s ≡ got es → (a .number ≡ 9 → ⊥) → (a .number ≡ 25 → ⊥) → AllUnambiguous s es
+  given-fair x i r n o = of-fair (given-type i x) r n o
 
   -- The buffer keeps its length.
   pub given-length : ReadAs l c s d before a after → length after ≡ length before

@@ -5,10 +5,10 @@ ghost use mathlib.Core.Path.{_≡_};
 ghost use mathlib.Core.Bool.{_&&_, _||_};
 ghost use mathlib.Core.List.{List};
 ghost use lib.Dec.{eqb};
-ghost use Prim.Native.Nat.{ℕ, _≤_};
+ghost use Prim.Native.Nat.{ℕ, _+_, _≤_};
 ghost use lib.ListN.{length};
 ghost use Rattle.rules.specs.TypeFile.{Tokens, occurrence, isConnector, earlier};
-ghost use Rattle.connectors.specs.Kept.{Keeps, joinModel, joinTable};
+ghost use Rattle.connectors.specs.Kept.{begun, Keeps, joinModel, joinTable};
 
 // What is kept of a model while it is read: where it ends so far, how many places and content tokens it has, what
 // its table goes on with, how many numbers its code has, and where the first "&" of the group stands and the first that is refused, or 0.
@@ -27,8 +27,8 @@ pub struct Model {
 pub fn with_occurrence(s: &[u8], table: &mut [u8; MODEL], lo: usize, m: Model) -> Model
     requires { ⌜ m .at ≤ length (now s) ⌝ }
     requires { ⌜ m .places ≤ 96 ⌝ }
-    ensures { λ r. ⌜ ((T names : List ℕ) (t : Tokens) → Keeps (length (now (s .entry))) lo T names (now (table .entry)) m t →
-        Keeps (length (now (s .entry))) lo T names (now (table .exit)) r (occurrence (now (s .entry)) t)) ⌝ }
+    ensures { λ r. ⌜ ((T names : List ℕ) (n d : ℕ) (t : Tokens) → Keeps (length (now (s .entry))) (begun lo T n (d + 2)) 1 0 names (now (table .entry)) m t →
+        Keeps (length (now (s .entry))) (begun lo T n d) 1 0 names (now (table .exit)) r (occurrence (now (s .entry)) t)) ⌝ }
 {
     let at = m.at;
     let places = m.places;
@@ -96,8 +96,8 @@ fn earlier(i: u16, j: u16) -> u16
 
 // The group m, whose first place is `lo`, and the token u after it, joined by the connector b at i; any byte but "," and "&" joins as "|" does.
 pub fn joined_by(table: &mut [u8; MODEL], b: u8, i: usize, lo: usize, m: Model, u: Model) -> Model
-    requires { ⌜ (m .places ≤ 96) × (u .places ≤ 96) ⌝ }
-    ensures { λ r. ⌜ r ≡ joinModel b m u ⌝ }
+    requires { ⌜ (m .places ≤ 96) × (u .places ≤ 96) × (i ≤ 32768) ⌝ }
+    ensures { λ r. ⌜ r ≡ joinModel b i m u ⌝ }
     ensures { λ _. ⌜ now (table .exit) ≡ joinTable b lo m u (now (table .entry)) ⌝ }
 {
     let at = u.at;

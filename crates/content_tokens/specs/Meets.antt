@@ -7,16 +7,16 @@ use lib.ListN.{length}
 use Rattle.rules.specs.Reading.{Reading, refused, got}
 use Rattle.rules.specs.TypeFile.{Tokens, isCut, PCDATA}
 use Rattle.text.specs.declared.Fault.{Fault}
-use Rattle.connectors.specs.Kept.{Keeps}
+use Rattle.connectors.specs.Kept.{Begun, Keeps}
 use Rattle.content_tokens.specs.declared.ModelRead.{ModelRead}
 use Rattle.content_tokens.specs.declared.ModelRead.the-variants.{Read, Refused}
 
 -- An answer stands for a reading: a refusal with its number and position, or a model with what is kept of it.
-abbrev pub Meets : (end lo : ℕ) (T names table : List ℕ) → ModelRead → Reading Tokens → Type 0
-Meets end lo T names table (Read m) (got t) = Keeps end lo T names table m t
-Meets end lo T names table (Read m) (refused n k) = ⊥
-Meets end lo T names table (Refused f) (got t) = ⊥
-Meets end lo T names table (Refused f) (refused n k) = (f .number ≡ n) × (f .at ≡ k)
+abbrev pub Meets : (end : ℕ) (B : Begun) (names table : List ℕ) → ModelRead → Reading Tokens → Type 0
+Meets end B names table (Read m) (got t) = Keeps end B 1 0 names table m t
+Meets end B names table (Read m) (refused n k) = ⊥
+Meets end B names table (Refused f) (got t) = ⊥
+Meets end B names table (Refused f) (refused n k) = (f .number ≡ n) × (f .at ≡ k)
 
 -- The refusal in an answer that is one.
 abbrev pub modelFault : ModelRead → Fault

@@ -1,54 +1,105 @@
 -- Laws of a name and of `#PCDATA` as content tokens, and of the place that each is.
-use Prim.Native.Nat.{ℕ, suc, _+_, _-_, _≤_, _<_}
+use Prim.Native.Nat.{ℕ, suc, _+_, _-_, _*_, _≤_, _<_}
 use mathlib.Core.Path.{_≡_, refl, sym, ap, _∙_}
 use mathlib.Core.Bool.{Bool, true, false}
-use mathlib.Core.List.{List, [], _∷_, _++_}
+use mathlib.Core.List.{List, [], _∷_, _++_, append-nil}
 use native.Mathlib.Omega.{arith}
 use lib.ListN.{length}
 use borrow.Author.Tests.{lt-ltb, le-ltb}
 use Rattle.rules.specs.Settings.{Settings}
 use Rattle.rules.specs.Bytes.{byteAt, letter, nameEnd}
 use Rattle.rules.specs.Reading.{refused, got}
-use Rattle.rules.specs.Walk.{Group, star}
+use Rattle.rules.specs.Walk.{Group, place, plus, star}
 use Rattle.rules.specs.TypeFile.{Place, Tokens, occurrence, newPlace, nameToken, dataToken, isWord, isCut, PCDATA}
 use Rattle.text.specs.Laws.{cut-or}
+use Rattle.model_sets.specs.Sets.{Numbered}
+use Rattle.model_sets.specs.Sets as sets
+use Rattle.model_links.specs.Behind.{Behind, behind-on}
 use Rattle.model_table.specs.declared.Part.{Part}
-use Rattle.model_table.specs.Fill.{part, repeated, putPlace}
+use Rattle.model_table.specs.Fill.{part, partOf, repeated, putPlace}
+use Rattle.model_table.specs.Means.{Filled, Fresh, placed, repeats}
+use Rattle.model_table.specs.Behind.{place-behind, repeated-behind}
+use Rattle.model_code.specs.Means.{putCode, codeNext}
+use Rattle.model_code.specs.Spelled.{codes, codeIn}
 use Rattle.model_names.specs.Places.{placesOf}
 use Rattle.model_names.specs.Laws.{placesOf-length}
-use Rattle.connectors.specs.Kept.{Keeps}
-use Rattle.connectors.specs.Grown.{keeps-on, repeats}
+use Rattle.connectors.specs.declared.Model.{Model}
+use Rattle.connectors.specs.Kept.{begun, Ready, Tabled, Keeps}
+use Rattle.connectors.specs.Grown.{joins-one, ready-more, tabled-put, tabled-on}
 use Rattle.content_tokens.specs.declared.ModelRead.{ModelRead}
 use Rattle.content_tokens.specs.declared.ModelRead.the-variants.{Refused}
 use Rattle.content_tokens.specs.Meets.{wrongData}
 
 -- A new place.
 
-module _ (end at at' size places tokens : ℕ) (T names₀ names table : List ℕ) (p : Part) where
+module _ (end at at' size places tokens n : ℕ) (T names₀ names : List ℕ) (h : at' ≤ end) (i : places ≤ tokens) (j : tokens < 96)
+    (e : placesOf names (places + 1) ≡ placesOf names₀ places ++ record { at = at; size = size } ∷ []) where
   abbrev pub newTokens : Group → Tokens
-  newTokens g = record { group = g; at = at'; places = placesOf names₀ places ++ record { at = at; size = size } ∷ []; tokens = tokens + 1 }
+  newTokens g = record { group = g; at = at'; places = placesOf names₀ places ++ record { at = at; size = size } ∷ []; tokens = tokens + 1; and = 0; repeated = 0 }
 
-  pub new-place : at' ≤ end → places ≤ tokens → tokens < 96
-      → placesOf names (places + 1) ≡ placesOf names₀ places ++ record { at = at; size = size } ∷ []
-      → table ≡ putPlace T (places + 1)
-      → p ≡ part false (places + 1)
-      → Keeps end (places + 1) T names table (record { at = at'; places = places + 1; tokens = tokens + 1; part = p }) (newTokens (newPlace (placesOf names₀ places)))
-  new-place h i j e f q =
+  abbrev pub newModel : Part → (code : ℕ) → Model
+  newModel p c = record { at = at'; places = places + 1; tokens = tokens + 1; part = p; code = c; and = 0; repeated = 0 }
+
+  counted : suc (length (placesOf names₀ places)) ≡ places + 1
+  counted = omega (arith, placesOf-length names₀ places)
+
+  -- what is kept where the place is the group g, or has an indicator
+  new-keeps : (d c : ℕ) (g : ℕ → Group) (p : Part) (S : List ℕ) → p ≡ partOf (g (places + 1)) → Numbered (g (places + 1)) (places + 1) → sets.size (g (places + 1)) ≡ 1
+      → (Ready (begun (places + 1) T n d) → Tabled (begun (places + 1) T n d) (g (places + 1)) (codes (g (places + 1))) (tokens + 1) S c)
+      → Keeps end (begun (places + 1) T n d) 1 0 names S (newModel p c) (newTokens (g (suc (length (placesOf names₀ places)))))
+  new-keeps d c g p S q a z f =
       let l : length (placesOf names₀ places ++ record { at = at; size = size } ∷ []) ≡ places + 1 = ap length (sym e) ∙ placesOf-length names (places + 1) in
-      let n : suc (length (placesOf names₀ places)) ≡ places + 1 = omega (arith, placesOf-length names₀ places) in
-      record {
+      rw counted
+      (record {
         at = refl;
         places = sym l;
         tokens = refl;
-        part = rw n q;
+        part = q;
+        and-at = refl;
+        repeated-at = refl;
         names-hold = e;
-        table-filled = rw n f;
-        numbered = n;
+        tabled = f;
+        joins = joins-one (g (places + 1));
+        from = omega arith;
+        numbered = a;
         counted = omega arith;
         at-in = h;
         places-in = omega arith;
         tokens-in = omega arith;
-      }
+      })
+
+  module _ (R : List ℕ) (f : R ≡ putPlace T (places + 1)) where
+    place-filled : Fresh (places + 1) T → Filled (place (places + 1)) (places + 1) T R
+    place-filled fresh = rw f (placed (places + 1) (places + 1) T (omega arith) (omega arith) refl fresh)
+
+    place-kept : Behind T R
+    place-kept = rw f (place-behind T (places + 1) (omega arith))
+
+    pub new-place : (p : Part) (S : List ℕ) (c : ℕ) → p ≡ part false (places + 1) → S ≡ putCode R n (places + 1) → c ≡ codeNext n
+        → Keeps end (begun (places + 1) T n (4 * tokens + 3 + 2)) 1 0 names S (newModel p c) (newTokens (newPlace (placesOf names₀ places)))
+    new-place p S c q s k =
+        new-keeps (4 * tokens + 3 + 2) c place p S q refl refl
+        (λ ready.
+        rw (s, k)
+        (tabled-on (places + 1) T n (4 * tokens + 3 + 2) (tokens + 1) n (places + 1) (place (places + 1)) [] T R ready (omega arith) (omega arith) (place-filled (ready .fresh)) place-kept (sym (append-nil (codeIn T n))) (omega arith)))
+
+    -- `#PCDATA`, which repeats or is left out
+    pub new-data : (p : Part) (Q S₁ S₂ S : List ℕ) (c₁ c₂ c : ℕ) → p ≡ part true 0 → Q ≡ repeated R (places + 1) (places + 1 + 1) → S₁ ≡ putCode Q n (places + 1) → c₁ ≡ codeNext n
+        → S₂ ≡ putCode S₁ c₁ 100 → c₂ ≡ codeNext c₁ → S ≡ putCode S₂ c₂ 99 → c ≡ codeNext c₂
+        → Keeps end (begun (places + 1) T n (4 * tokens + 3)) 1 0 names S (newModel p c) (newTokens (star (newPlace (placesOf names₀ places))))
+    new-data p Q S₁ S₂ S c₁ c₂ c q r s₁ k₁ s₂ k₂ s k =
+        new-keeps (4 * tokens + 3) c (λ x. star (place x)) p S q refl refl
+        (λ ready.
+        let lo : ℕ = places + 1 in
+        let g : Group = place lo in
+        let d : ℕ = 4 * tokens + 3 in
+        let on : Behind T Q = rw r (behind-on place-kept (repeated-behind R lo (lo + 1) (omega arith) (omega arith))) in
+        let filled : Filled (plus g) lo T Q = rw r (repeats g lo (omega arith) (omega arith) refl T R (place-filled (ready .fresh))) in
+        let x₁ : Tabled (begun lo T n (d + 1 + 1)) (plus g) (lo ∷ []) (tokens + 1) S₁ c₁ =
+        rw (s₁, k₁) (tabled-on lo T n (d + 1 + 1) (tokens + 1) n lo (plus g) [] T Q (ready-more lo T n (omega arith) ready) (omega arith) (omega arith) filled on (sym (append-nil (codeIn T n))) (omega arith)) in
+        let x₂ : Tabled (begun lo T n (d + 1)) (plus g) (codes (plus g)) (tokens + 1) S₂ c₂ =
+        rw (s₂, k₂) (tabled-put lo T n (d + 1) (tokens + 1) c₁ 100 (plus g) (lo ∷ []) S₁ (ready-more lo T n (omega arith) ready) (omega arith) (omega arith) (x₁ .filled) (x₁ .code-holds) (x₁ .room)) in
+        rw (s, k) (tabled-put lo T n d (tokens + 1) c₂ 99 (star g) (codes (plus g)) S₂ ready (omega arith) (omega arith) (x₂ .filled) (x₂ .code-holds) (x₂ .room)))
 
 -- A name.
 
@@ -61,7 +112,7 @@ module _ (c : Settings) (s : List ℕ) (at e : ℕ) (full : Bool) (ps : List Pla
   unfolding nameToken
   name-full h f = rw (le-ltb _ _ (rw E at h), f, nameToken)
 
-  pub name-got : e - at ≤ c .nameLength → full ≡ false → nameToken c s at full ps n ≡ got (occurrence s (record { group = newPlace ps; at = e; places = ps ++ record { at = at; size = e - at } ∷ []; tokens = n + 1 }))
+  pub name-got : e - at ≤ c .nameLength → full ≡ false → nameToken c s at full ps n ≡ got (occurrence s (record { group = newPlace ps; at = e; places = ps ++ record { at = at; size = e - at } ∷ []; tokens = n + 1; and = 0; repeated = 0 }))
   unfolding nameToken
   name-got h f = rw (le-ltb _ _ (rw E at h), f, nameToken, E)
 
@@ -80,7 +131,7 @@ module _ (s : List ℕ) (at : ℕ) (full : Bool) (ps : List Place) (n : ℕ) whe
     data-full q f = rw (L, ← E, ← W, q, f, dataToken)
 
     pub data-got : w ≡ true → full ≡ false
-        → dataToken s at full ps n ≡ got (record { group = star (newPlace ps); at = e; places = ps ++ record { at = at; size = 0 } ∷ []; tokens = n + 1 })
+        → dataToken s at full ps n ≡ got (record { group = star (newPlace ps); at = e; places = ps ++ record { at = at; size = 0 } ∷ []; tokens = n + 1; and = 0; repeated = 0 })
     unfolding dataToken
     data-got q f = rw (L, ← E, ← W, q, f, dataToken, E)
 
@@ -100,17 +151,3 @@ module _ (s : List ℕ) (at e : ℕ) (w : Bool) (W : w ≡ isCut s (at + 1) e PC
 
   pub wrong-whole : w ≡ false → r ≡ Refused (record { number = 4; at = at }) → r ≡ Refused (record { number = 4; at = wrongData s at e })
   wrong-whole q f = refusal-at _ _ f (rw (← W, q))
-
--- A new `#PCDATA`: a new place that repeats or is left out.
-pub new-data : (end at e places tokens : ℕ) (T names₀ names table table' : List ℕ) (p q : Part)
-    → e ≤ end → places ≤ tokens → tokens < 96
-    → placesOf names (places + 1) ≡ placesOf names₀ places ++ record { at = at; size = 0 } ∷ []
-    → table ≡ putPlace T (places + 1)
-    → p ≡ part false (places + 1)
-    → table' ≡ repeated table (places + 1) (places + 1 + 1)
-    → q ≡ part true 0
-    → Keeps end (places + 1) T names table' (record { at = e; places = places + 1; tokens = tokens + 1; part = q })
-    (record { group = star (newPlace (placesOf names₀ places)); at = e; places = placesOf names₀ places ++ record { at = at; size = 0 } ∷ []; tokens = tokens + 1 })
-new-data end at e places tokens T names₀ names table table' p q h i j n f o r w =
-    let K = new-place end at e 0 places tokens T names₀ names table p h i j n f o in
-    keeps-on end (places + 1) T names table table' _ _ K (star (newPlace (placesOf names₀ places))) e e q refl h w (repeats end (places + 1) T names table table' _ _ K r) (K .numbered) refl

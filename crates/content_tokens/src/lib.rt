@@ -5,11 +5,12 @@ use layout::NAMES;
 use text::Fault;
 ghost use mathlib.Core.Path.{_≡_};
 ghost use mathlib.Core.Bool.{false};
-ghost use Prim.Native.Nat.{_+_, _≤_, _<_};
+ghost use Prim.Native.Nat.{_+_, _*_, _≤_, _<_};
 ghost use lib.ListN.{length};
 ghost use Rattle.rules.specs.Settings.{settings};
 ghost use Rattle.rules.specs.TypeFile.{nameToken, dataToken};
 ghost use Rattle.model_names.specs.Places.{placesOf};
+ghost use Rattle.connectors.specs.Kept.{begun};
 ghost use Rattle.content_tokens.specs.Meets.{wrongData, Meets, modelFault};
 
 pub enum ModelRead {
@@ -52,7 +53,7 @@ pub fn name_token(
 ) -> ModelRead
     requires { ⌜ (at ≤ length (now s)) × (length (now s) ≤ 32768) ⌝ }
     requires { ⌜ (places ≤ tokens) × (full ≡ false → tokens < 96) ⌝ }
-    ensures { λ r. ⌜ Meets (length (now (s .entry))) (places + 1) (now (table .entry)) (now (names .exit)) (now (table .exit)) r
+    ensures { λ r. ⌜ Meets (length (now (s .entry))) (begun (places + 1) (now (table .entry)) code (4 * tokens + 3)) (now (names .exit)) (now (table .exit)) r
         (nameToken (settings long) (now (s .entry)) at full (placesOf (now (names .entry)) places) tokens) ⌝ }
 {
     let e = text::name_end(s, at);
@@ -103,7 +104,7 @@ pub fn data_token(
 ) -> ModelRead
     requires { ⌜ (at < length (now s)) × (length (now s) ≤ 32768) ⌝ }
     requires { ⌜ (places ≤ tokens) × (full ≡ false → tokens < 96) ⌝ }
-    ensures { λ r. ⌜ Meets (length (now (s .entry))) (places + 1) (now (table .entry)) (now (names .exit)) (now (table .exit)) r
+    ensures { λ r. ⌜ Meets (length (now (s .entry))) (begun (places + 1) (now (table .entry)) code (4 * tokens + 3)) (now (names .exit)) (now (table .exit)) r
         (dataToken (now (s .entry)) at full (placesOf (now (names .entry)) places) tokens) ⌝ }
 {
     let b = text::byte(s, at + 1);

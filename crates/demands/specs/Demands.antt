@@ -18,7 +18,7 @@ use Rattle.rules.specs.Reading.{Reading, got}
 use Rattle.rules.specs.Walk.{Group}
 use Rattle.rules.specs.Ambiguity.{Ambiguous, PairAtFault}
 use Rattle.rules.specs.TypeFile.{Place, Element, typeFile}
-use Rattle.rules.specs.Judge.{samePlace, Answer, refusal, Legible, Refuses, Accepts, Judged}
+use Rattle.rules.specs.Judge.{samePlace, Answer, refusal, firstRepeated, Legible, Refuses, Accepts, Judged}
 use Rattle.rules.specs.Events.{Event, eventWidth}
 use Rattle.rules.specs.Decisions.{Decisions}
 use Rattle.rules.specs.Settling.{State, nothingOpen, isComplete}
@@ -29,7 +29,7 @@ use Rattle.acts.specs.Readings.{passes-acts, document-acts}
 use Rattle.acts.specs.Deeds.{acts-deeds}
 use Rattle.place_laws.specs.Taken.{deeds-took}
 use Rattle.place_laws.specs.Pinned.{deeds-one}
-use Rattle.demands.specs.Words.{Refusal, Acceptance, ModelOf, SomeAmbiguous, NamesFirst, NamesDecide, ReaderRefusal, ReaderAcceptance, SameVerdict}
+use Rattle.demands.specs.Words.{Refusal, Acceptance, ModelOf, SomeRepeated, SomeAmbiguous, NamesFirst, NamesDecide, ReaderRefusal, ReaderAcceptance, SameVerdict}
 use Rattle.answer_laws.specs.Reader.{given-one, reading-one}
 use Rattle.demands.specs.Exists.{judged-some, read-some}
 use Rattle.demands.specs.Kept as kept
@@ -66,13 +66,16 @@ pub record JudgeKeeps (l : Lent) (c : Settings) (s before : List ℕ) (a : Answe
   -- Paper 02, request six: "another is 24, in the type at 0", before anything else, and only that is.
   pub not-offered : isOffered c ≡ false → a ≡ refusal 24 0 0 0
   pub not-offered-exactly : (a .number ≡ 24) ↔ (isOffered c ≡ false)
-  -- Demand 3, of a type file "where nothing is wrong that the stated order puts before ambiguity": it is legible and was read. It is refused
+  -- Paper 02, request twelve: "number 25 at the first such "&"", looked for after 3 to 8 and before 9.
+  pub repeated-exactly : (a .number ≡ 25) ↔ (Legible c s × (es : List Element) × (typeFile c s ≡ got es) × SomeRepeated es)
+  pub repeated-named : a .number ≡ 25 → (es : List Element) × (typeFile c s ≡ got es) × (a .position ≡ firstRepeated es)
+  -- Demand 3, of a type file "where nothing is wrong that the stated order puts before ambiguity": it is legible, was read and is not under 25. It is refused
   -- as ambiguous "exactly when some content model in it has two different sequences of places, of whatever length, each the beginning of some
   -- walk, that spell the same names. The refusal names the first such model, and in it the first pair"; "where there is no such refusal, the
   -- names alone decide the places in every model".
-  pub ambiguous-exactly : (a .number ≡ 9) ↔ (Legible c s × (es : List Element) × (typeFile c s ≡ got es) × SomeAmbiguous s es)
+  pub ambiguous-exactly : (a .number ≡ 9) ↔ (Legible c s × (es : List Element) × (typeFile c s ≡ got es) × (SomeRepeated es → ⊥) × SomeAmbiguous s es)
   pub ambiguous-named : a .number ≡ 9 → NamesFirst c s a
-  pub names-decide : Legible c s → (a .number ≡ 9 → ⊥) → (es : List Element) → typeFile c s ≡ got es → NamesDecide s es
+  pub names-decide : Legible c s → (a .number ≡ 9 → ⊥) → (es : List Element) → typeFile c s ≡ got es → (SomeRepeated es → ⊥) → NamesDecide s es
 
 -- The reader, lent `before`, answers a to the type file s and the document d under the settings c and leaves `after`.
 pub record ReaderKeeps (l : Lent) (c : Settings) (s d before : List ℕ) (a : Answer) (after : List ℕ) : Type 0 where
@@ -88,10 +91,13 @@ pub record ReaderKeeps (l : Lent) (c : Settings) (s d before : List ℕ) (a : An
   -- Paper 02, request six, as for the judge.
   pub not-offered : isOffered c ≡ false → a ≡ refusal 24 0 0 0
   pub not-offered-exactly : (a .number ≡ 24) ↔ (isOffered c ≡ false)
+  -- Paper 02, request twelve, as for the judge.
+  pub repeated-exactly : (a .number ≡ 25) ↔ (BothLegible c s d × (es : List Element) × (typeFile c s ≡ got es) × SomeRepeated es)
+  pub repeated-named : a .number ≡ 25 → (es : List Element) × (typeFile c s ≡ got es) × (a .position ≡ firstRepeated es)
   -- Demand 3, "whatever document and lent buffer come with it".
-  pub ambiguous-exactly : (a .number ≡ 9) ↔ (BothLegible c s d × (es : List Element) × (typeFile c s ≡ got es) × SomeAmbiguous s es)
+  pub ambiguous-exactly : (a .number ≡ 9) ↔ (BothLegible c s d × (es : List Element) × (typeFile c s ≡ got es) × (SomeRepeated es → ⊥) × SomeAmbiguous s es)
   pub ambiguous-named : a .number ≡ 9 → NamesFirst c s a
-  pub names-decide : BothLegible c s d → (a .number ≡ 9 → ⊥) → (es : List Element) → typeFile c s ≡ got es → NamesDecide s es
+  pub names-decide : BothLegible c s d → (a .number ≡ 9 → ⊥) → (es : List Element) → typeFile c s ≡ got es → (SomeRepeated es → ⊥) → NamesDecide s es
 
 pub judge-keeps : (l : Lent) (c : Settings) (s before : List ℕ) (a : Answer) (after : List ℕ) → Judged l c s before a after → JudgeKeeps l c s before a after
 judge-keeps l c s before a after p =
@@ -105,6 +111,8 @@ judge-keeps l c s before a after p =
       too-small-exactly = kept.too-small-exactly l c s before a after p;
       not-offered = kept.not-offered l c s before a after p;
       not-offered-exactly = kept.not-offered-exactly l c s before a after p;
+      repeated-exactly = kept.repeated-exactly l c s before a after p;
+      repeated-named = kept.repeated-named l c s before a after p;
       ambiguous-exactly = kept.ambiguous-exactly l c s before a after p;
       ambiguous-named = kept.ambiguous-named l c s before a after p;
       names-decide = kept.names-decide l c s before a after p;
@@ -122,6 +130,8 @@ reader-keeps l c s d before a after p =
       too-small-exactly = kept.reader-too-small-exactly l c s d before a after p;
       not-offered = kept.reader-not-offered l c s d before a after p;
       not-offered-exactly = kept.reader-not-offered-exactly l c s d before a after p;
+      repeated-exactly = kept.reader-repeated-exactly l c s d before a after p;
+      repeated-named = kept.reader-repeated-named l c s d before a after p;
       ambiguous-exactly = kept.reader-ambiguous-exactly l c s d before a after p;
       ambiguous-named = kept.reader-ambiguous-named l c s d before a after p;
       names-decide = kept.reader-names-decide l c s d before a after p;

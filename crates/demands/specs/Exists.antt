@@ -12,11 +12,12 @@ use Rattle.rules.specs.Bytes.{allowed, span, typeLimit, documentLimit}
 use Rattle.rules.specs.Lent.{Lent, standing, room, filledWith, zeroed}
 use Rattle.rules.specs.Reading.{Reading, refused, got}
 use Rattle.rules.specs.TypeFile.{Element, typeFile}
-use Rattle.rules.specs.Judge.{Answer, refusal, acceptance, AllUnambiguous, records, Legible, Refuses, Accepts, Judged}
+use Rattle.rules.specs.Judge.{Answer, refusal, acceptance, AllUnambiguous, firstRepeated, records, Legible, Refuses, Accepts, Judged}
 use Rattle.rules.specs.Events.{Event, eventWidth}
 use Rattle.rules.specs.Reader.{eventNumbers, documentRefusal, BothLegible, Reads, RefusesBoth, ReadAs}
 use Rattle.model_sets.specs.Bits.{bool-cases}
 use Rattle.text.specs.Laws.{span-in}
+use Rattle.document_laws.specs.Numbers.{typeFile-guarded}
 use Rattle.document_laws.specs.Laws.{reads-some}
 use Rattle.demands.specs.Models.{typeFile-counted, SomeFirst, first-or-none}
 
@@ -37,15 +38,19 @@ module _ (l : Lent) (c : Settings) (s before : List ℕ) where
   judge-accepted es w = go (decLt (room l before) (6 * length es))
     where
       go : Dec (room l before < 6 * length es) → SomeJudged
-      go (yes h) = judge-refuses (refusal 19 0 0 0) (Refuses.noRoom (w .legible) es (w .elements) (w .unambiguous) h refl)
+      go (yes h) = judge-refuses (refusal 19 0 0 0) (Refuses.noRoom (w .legible) es (w .elements) (w .unrepeated) (w .unambiguous) h refl)
       go (no h) = (acceptance (length es), filledWith (standing l (records es)) before, Judged.accepts es w (omega arith) refl refl)
 
   judge-elements : Legible c s → (es : List Element) → typeFile c s ≡ got es → SomeJudged
-  judge-elements i es r = go (first-or-none s es (typeFile-counted c s es r))
+  judge-elements i es r = go (decLt 0 (firstRepeated es))
     where
-      go : SomeFirst s es ⊎ AllUnambiguous s es → SomeJudged
-      go (inl (k, p, q, f)) = judge-refuses (refusal 9 k p q) (Refuses.ambiguous i es r k p q f refl)
-      go (inr u) = judge-accepted es (record { legible = i; elements = r; unambiguous = u })
+      by-models : firstRepeated es ≡ 0 → SomeFirst s es ⊎ AllUnambiguous s es → SomeJudged
+      by-models o (inl (k, p, q, f)) = judge-refuses (refusal 9 k p q) (Refuses.ambiguous i es r o k p q f refl)
+      by-models o (inr u) = judge-accepted es (record { legible = i; elements = r; unrepeated = o; unambiguous = u })
+
+      go : Dec (0 < firstRepeated es) → SomeJudged
+      go (yes l) = judge-refuses (refusal 25 (firstRepeated es) 0 0) (Refuses.repeated i es r l refl)
+      go (no n) = let o : firstRepeated es ≡ 0 = omega arith in by-models o (first-or-none s es (typeFile-counted c s es r) (typeFile-guarded c s es r o))
 
   judge-reading : Legible c s → (r : Reading (List Element)) → typeFile c s ≡ r → SomeJudged
   judge-reading i (refused n k) e = judge-refuses (refusal n k 0 0) (Refuses.malformed i n k e refl)
@@ -89,11 +94,15 @@ module _ (l : Lent) (c : Settings) (s d before : List ℕ) where
   reader-events es (got ev) x = reader-accepted es ev x
 
   reader-elements : BothLegible c s d → (es : List Element) → typeFile c s ≡ got es → SomeRead
-  reader-elements i es r = go (first-or-none s es (typeFile-counted c s es r))
+  reader-elements i es r = go (decLt 0 (firstRepeated es))
     where
-      go : SomeFirst s es ⊎ AllUnambiguous s es → SomeRead
-      go (inl (k, p, q, f)) = reader-refuses (refusal 9 k p q) (RefusesBoth.ambiguous i es r k p q f refl)
-      go (inr u) = reader-events es _ (reads-some s d es i (record { legible = i .type; elements = r; unambiguous = u }))
+      by-models : firstRepeated es ≡ 0 → SomeFirst s es ⊎ AllUnambiguous s es → SomeRead
+      by-models o (inl (k, p, q, f)) = reader-refuses (refusal 9 k p q) (RefusesBoth.ambiguous i es r o k p q f refl)
+      by-models o (inr u) = reader-events es _ (reads-some s d es i (record { legible = i .type; elements = r; unrepeated = o; unambiguous = u }))
+
+      go : Dec (0 < firstRepeated es) → SomeRead
+      go (yes l) = reader-refuses (refusal 25 (firstRepeated es) 0 0) (RefusesBoth.repeated i es r l refl)
+      go (no n) = let o : firstRepeated es ≡ 0 = omega arith in by-models o (first-or-none s es (typeFile-counted c s es r) (typeFile-guarded c s es r o))
 
   reader-reading : BothLegible c s d → (r : Reading (List Element)) → typeFile c s ≡ r → SomeRead
   reader-reading i (refused n k) e = reader-refuses (refusal n k 0 0) (RefusesBoth.malformed i n k e refl)

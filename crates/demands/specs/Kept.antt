@@ -12,13 +12,14 @@ use Rattle.rules.specs.Reading.{got}
 use Rattle.rules.specs.Walk.{Group}
 use Rattle.rules.specs.Ambiguity.{Ambiguous, PairAtFault}
 use Rattle.rules.specs.TypeFile.{Place, Element, typeFile}
-use Rattle.rules.specs.Judge.{samePlace, Answer, refusal, Legible, Refuses, noRoom, Accepts, Judged, refuses, accepts}
+use Rattle.rules.specs.Judge.{samePlace, Answer, refusal, firstRepeated, Legible, Refuses, noRoom, Accepts, Judged, refuses, accepts}
 use Rattle.rules.specs.Events.{Event, eventWidth}
 use Rattle.rules.specs.Reader.{BothLegible, Reads, RefusesBoth, ReadAs}
-use Rattle.demands.specs.Words.{Refusal, Acceptance, ModelOf, SomeAmbiguous, NamesFirst, NamesDecide, ReaderRefusal, ReaderAcceptance, SameVerdict}
-use Rattle.answer_laws.specs.Judge.{settled-one, settled-refuses, settled-accepts, settled-fair, settled-faulty, refuses-named, refuses-some, settled-twenty-four, settled-nine, settled-nineteen, first-model, model-exactly, not-ambiguous, names-alone, settled-length}
-use Rattle.demands.specs.Models.{pair-in, names-first}
-use Rattle.answer_laws.specs.Reader.{given-one, both-says, both-some, given-twenty-four, given-nine, given-nineteen, type-refused, given-refuses, given-accepts, given-faulty, given-fair, given-length}
+use Rattle.demands.specs.Words.{Refusal, Acceptance, ModelOf, SomeRepeated, SomeAmbiguous, NamesFirst, NamesDecide, ReaderRefusal, ReaderAcceptance, SameVerdict}
+use Rattle.answer_laws.specs.Judge.{settled-one, settled-refuses, settled-accepts, settled-fair, settled-faulty, refuses-named, refuses-some, settled-twenty-four, settled-twenty-five, settled-repeated, settled-nine, settled-nineteen, first-model, model-exactly, not-ambiguous, names-alone, settled-length}
+use Rattle.demands.specs.Models.{pair-in, names-first, some-repeated, repeated-some, unrepeated-none, none-repeated}
+use Rattle.document_laws.specs.Laws.{same-elements}
+use Rattle.answer_laws.specs.Reader.{given-one, both-says, both-some, given-twenty-four, given-twenty-five, given-repeated, given-nine, given-nineteen, type-refused, given-refuses, given-accepts, given-faulty, given-fair, given-length}
 
 -- The type judge
 
@@ -47,7 +48,7 @@ module _ (l : Lent) (c : Settings) (s before : List ℕ) (a : Answer) (after : L
       let (es, w, f, e, z) = settled-accepts promised h in
       record { elements = es; accepted = w; fits = f; answer = e; written = z }
 
-  -- Every refusal is the one that the order picks: "1 type, .. 2 type, ..; the type file's 3 to 8 ..; 9; ..; 19".
+  -- Every refusal is the one that the order picks: "1 type, .. 2 type, ..; the type file's 3 to 8 ..; 9; ..; 19", with 24 before all and 25 before 9.
   pub refused-exactly : (a .number ≡ 0 → ⊥) ↔ Refuses c s (room l before) a
   refused-exactly = (λ h. settled-refuses promised h .0, refuses-some)
 
@@ -58,7 +59,7 @@ module _ (l : Lent) (c : Settings) (s before : List ℕ) (a : Answer) (after : L
   pub too-small-exactly : (a .number ≡ 19) ↔ ((es : List Element) × Accepts c s es × (room l before < 6 * length es))
   too-small-exactly = (
     settled-nineteen promised,
-    λ (es, w, f). rw (order-picks _ (noRoom (w .legible) es (w .elements) (w .unambiguous) f refl)),
+    λ (es, w, f). rw (order-picks _ (noRoom (w .legible) es (w .elements) (w .unrepeated) (w .unambiguous) f refl)),
   )
 
   -- Number 24: the caller's settings are not offered.
@@ -68,20 +69,35 @@ module _ (l : Lent) (c : Settings) (s before : List ℕ) (a : Answer) (after : L
   pub not-offered-exactly : (a .number ≡ 24) ↔ (isOffered c ≡ false)
   not-offered-exactly = (settled-twenty-four promised, λ o. rw (not-offered o))
 
+  -- Number 25: in some content model an "&" group stands where none may.
+  pub repeated-exactly : (a .number ≡ 25) ↔ (Legible c s × (es : List Element) × (typeFile c s ≡ got es) × SomeRepeated es)
+  repeated-exactly = (
+    λ h. let (i, es, r, l, k) = settled-twenty-five promised h in (i, es, r, some-repeated c s es r l),
+    λ (i, es, r, x). settled-repeated promised i es r (repeated-some c s es r x),
+  )
+
+  pub repeated-named : a .number ≡ 25 → (es : List Element) × (typeFile c s ≡ got es) × (a .position ≡ firstRepeated es)
+  repeated-named h = let (i, es, r, l, k) = settled-twenty-five promised h in (es, r, k)
+
   -- Demand 3: a type is refused as ambiguous exactly when some content model is.
 
-  pub ambiguous-exactly : (a .number ≡ 9) ↔ (Legible c s × (es : List Element) × (typeFile c s ≡ got es) × SomeAmbiguous s es)
+  pub ambiguous-exactly : (a .number ≡ 9) ↔ (Legible c s × (es : List Element) × (typeFile c s ≡ got es) × (SomeRepeated es → ⊥) × SomeAmbiguous s es)
   ambiguous-exactly = (
-    λ h. let (i, es, r, f) = settled-nine promised h in (i, es, r, first-model f),
-    λ (i, es, r, (g, ps, (e, n, m, b), x)). settled-faulty promised i es r (λ u. not-ambiguous s g ps u m b x),
+    λ h. let (i, es, r, o, f) = settled-nine promised h in (i, es, r, unrepeated-none c s es r o, first-model f),
+    λ (i, es, r, o, (g, ps, (e, n, m, b), x)). settled-faulty promised i es r (none-repeated c s es r o) (λ u. not-ambiguous s g ps u m b x),
   )
 
   pub ambiguous-named : a .number ≡ 9 → NamesFirst c s a
-  ambiguous-named h = let (i, es, r, f) = settled-nine promised h in names-first c s a es r f
+  ambiguous-named h = let (i, es, r, o, f) = settled-nine promised h in names-first c s a es r f
 
   -- Else names alone decide places, also where the buffer is too small.
-  pub names-decide : Legible c s → (a .number ≡ 9 → ⊥) → (es : List Element) → typeFile c s ≡ got es → NamesDecide s es
-  names-decide i h es r g ps (e, n, m, b) = names-alone s g ps (settled-fair promised i es r h) m b
+  pub names-decide : Legible c s → (a .number ≡ 9 → ⊥) → (es : List Element) → typeFile c s ≡ got es → (SomeRepeated es → ⊥) → NamesDecide s es
+  names-decide i h es r o g ps (e, n, m, b) = names-alone s g ps (settled-fair promised i es r h (not-repeated o)) m b
+    where
+      not-repeated : (SomeRepeated es → ⊥) → a .number ≡ 25 → ⊥
+      not-repeated o z =
+          let (j, fs, q, x) = repeated-exactly .0 z in
+          o (rw (same-elements c s fs es q r) at x)
 
 -- A model is ambiguous by demand 3 exactly if it has a pair at fault.
 pub pair-exactly : (s : List ℕ) (g : Group) (ps : List Place) → Ambiguous (samePlace s ps) g ↔ ((p : ℕ) × (q : ℕ) × PairAtFault (samePlace s ps) g p q)
@@ -146,30 +162,45 @@ module _ (l : Lent) (c : Settings) (s d before : List ℕ) (a : Answer) (after :
   pub reader-not-offered-exactly : (a .number ≡ 24) ↔ (isOffered c ≡ false)
   reader-not-offered-exactly = (given-twenty-four called, λ o. rw (reader-not-offered o))
 
+  -- Number 25, as for the judge.
+  pub reader-repeated-exactly : (a .number ≡ 25) ↔ (BothLegible c s d × (es : List Element) × (typeFile c s ≡ got es) × SomeRepeated es)
+  reader-repeated-exactly = (
+    λ h. let (i, es, r, l, k) = given-twenty-five called h in (i, es, r, some-repeated c s es r l),
+    λ (i, es, r, x). given-repeated called i r (repeated-some c s es r x),
+  )
+
+  pub reader-repeated-named : a .number ≡ 25 → (es : List Element) × (typeFile c s ≡ got es) × (a .position ≡ firstRepeated es)
+  reader-repeated-named h = let (i, es, r, l, k) = given-twenty-five called h in (es, r, k)
+
   -- Demand 3, whatever document and buffer come with the type: it is refused as ambiguous exactly when some content model is.
 
-  pub reader-ambiguous-exactly : (a .number ≡ 9) ↔ (BothLegible c s d × (es : List Element) × (typeFile c s ≡ got es) × SomeAmbiguous s es)
+  pub reader-ambiguous-exactly : (a .number ≡ 9) ↔ (BothLegible c s d × (es : List Element) × (typeFile c s ≡ got es) × (SomeRepeated es → ⊥) × SomeAmbiguous s es)
   reader-ambiguous-exactly = (
-    λ h. let (i, es, r, f) = given-nine called h in (i, es, r, first-model f),
-    λ (i, es, r, (g, ps, (e, n, m, b), x)). given-faulty called i r (λ u. not-ambiguous s g ps u m b x),
+    λ h. let (i, es, r, o, f) = given-nine called h in (i, es, r, unrepeated-none c s es r o, first-model f),
+    λ (i, es, r, o, (g, ps, (e, n, m, b), x)). given-faulty called i r (none-repeated c s es r o) (λ u. not-ambiguous s g ps u m b x),
   )
 
   pub reader-ambiguous-named : a .number ≡ 9 → NamesFirst c s a
-  reader-ambiguous-named h = let (i, es, r, f) = given-nine called h in names-first c s a es r f
+  reader-ambiguous-named h = let (i, es, r, o, f) = given-nine called h in names-first c s a es r f
 
   -- Else names alone decide places, also where the document is refused.
-  pub reader-names-decide : BothLegible c s d → (a .number ≡ 9 → ⊥) → (es : List Element) → typeFile c s ≡ got es → NamesDecide s es
-  reader-names-decide i h es r g ps (e, n, m, b) = names-alone s g ps (given-fair called i r h) m b
+  pub reader-names-decide : BothLegible c s d → (a .number ≡ 9 → ⊥) → (es : List Element) → typeFile c s ≡ got es → (SomeRepeated es → ⊥) → NamesDecide s es
+  reader-names-decide i h es r o g ps (e, n, m, b) = names-alone s g ps (given-fair called i r h (not-repeated o)) m b
+    where
+      not-repeated : (SomeRepeated es → ⊥) → a .number ≡ 25 → ⊥
+      not-repeated o z =
+          let (j, fs, q, x) = reader-repeated-exactly .0 z in
+          o (rw (same-elements c s fs es q r) at x)
 
 -- Demand 3, across the calls: the judge, lent `before`, and the reader, lent `other`, are of one mind on the type.
 module _ (l m : Lent) (c : Settings) (s d before other : List ℕ) (a b : Answer) (after left : List ℕ) (judged : Judged l c s before a after) (kept : ReadAs m c s d other b left) where
-  same-answer : BothLegible c s d → 1 ≤ a .number → a .number ≤ 9 → a ≡ b
+  same-answer : BothLegible c s d → 1 ≤ a .number → (a .number ≡ 19 → ⊥) → a ≡ b
   same-answer i h k = sym (reader-order-picks m c s d other b left kept a (type-refused i (refused-exactly l c s before a after judged .0 (λ z. omega arith)) k))
 
   same-nine : BothLegible c s d → b .number ≡ 9 → a .number ≡ 9
   same-nine i h =
-      let (j, es, r, x) = reader-ambiguous-exactly m c s d other b left kept .0 h in
-      ambiguous-exactly l c s before a after judged .1 (i .type, es, r, x)
+      let (j, es, r, o, x) = reader-ambiguous-exactly m c s d other b left kept .0 h in
+      ambiguous-exactly l c s before a after judged .1 (i .type, es, r, o, x)
 
   pub same-verdict : BothLegible c s d → SameVerdict a b
-  same-verdict i = record { ambiguous = (λ h. rw (same-answer i (omega arith) (omega arith)) at h, same-nine i); same = same-answer i }
+  same-verdict i = record { ambiguous = (λ h. rw (same-answer i (omega arith) (λ z. omega arith)) at h, same-nine i); same = same-answer i }

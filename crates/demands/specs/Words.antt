@@ -7,7 +7,7 @@ use lib.ListN.{length}
 use Rattle.rules.specs.Settings.{Settings}
 use Rattle.rules.specs.Lent.{Lent, standing, room, filledWith, zeroed}
 use Rattle.rules.specs.Reading.{got}
-use Rattle.rules.specs.Walk.{Group, Begins}
+use Rattle.rules.specs.Walk.{Group, Guarded, Begins}
 use Rattle.rules.specs.Ambiguity.{SpellSame, Ambiguous, FirstPair}
 use Rattle.rules.specs.TypeFile.{Place, model, Element, typeFile}
 use Rattle.rules.specs.Judge.{placeAt, samePlace, Answer, acceptance, records, Accepts}
@@ -16,10 +16,10 @@ use Rattle.rules.specs.Reader.{eventNumbers, Reads}
 
 -- The type judge
 
--- Demand 1: a refusal gives a number, which input and a byte position; 24 is paper 02's, request six. "Input 1 is the type"; "the two places are 0 except under 9";
+-- Demand 1: a refusal gives a number, which input and a byte position; 24 and 25 are paper 02's, requests six and twelve. "Input 1 is the type"; "the two places are 0 except under 9";
 -- "on refusal the whole buffer is zero and the count is 0".
 pub record Refusal (s before : List ℕ) (a : Answer) (after : List ℕ) : Type 0 where
-  pub number : ((1 ≤ a .number) × (a .number ≤ 9)) ⊎ ((a .number ≡ 19) ⊎ (a .number ≡ 24))
+  pub number : ((1 ≤ a .number) × (a .number ≤ 9)) ⊎ ((a .number ≡ 19) ⊎ ((24 ≤ a .number) × (a .number ≤ 25)))
   pub input : a .input ≡ 1
   pub position : a .position ≤ length s
   pub places : (a .number ≡ 9 → ⊥) → (a .first ≡ 0) × (a .second ≡ 0)
@@ -37,6 +37,10 @@ pub record Acceptance (l : Lent) (c : Settings) (s before : List ℕ) (a : Answe
 -- An element of es has the content model g, with the places ps.
 abbrev pub ModelOf : List Element → Group → List Place → Type 0
 ModelOf es g ps = (e : Element) × (n : ℕ) × List·Memᴰ e es × (e .content ≡ model g ps n)
+
+-- Paper 02, request twelve: in some content model an "&" group stands "at any depth, in a token or group that carries "+" or "*"", or carries one.
+abbrev pub SomeRepeated : List Element → Type 0
+SomeRepeated es = (g : Group) × (ps : List Place) × ModelOf es g ps × (Guarded g → ⊥)
 
 -- "Some content model in it has two different sequences of places, of whatever length, each the beginning of some walk, that spell the same
 -- names."
@@ -72,7 +76,7 @@ NamesDecide s es = (g : Group) (ps : List Place) → ModelOf es g ps → (u v : 
 
 -- "Input 1 is the type, 2 the document": each has its numbers, and the position stands in it.
 abbrev pub InType : (s : List ℕ) → Answer → Type 0
-InType s a = (a .input ≡ 1) × (a .position ≤ length s) × (((1 ≤ a .number) × (a .number ≤ 9)) ⊎ (a .number ≡ 24))
+InType s a = (a .input ≡ 1) × (a .position ≤ length s) × (((1 ≤ a .number) × (a .number ≤ 9)) ⊎ ((24 ≤ a .number) × (a .number ≤ 25)))
 
 abbrev pub InDocument : (d : List ℕ) → Answer → Type 0
 InDocument d a = (a .input ≡ 2) × (a .position ≤ length d) × (((1 ≤ a .number) × (a .number ≤ 5)) ⊎ ((10 ≤ a .number) × (a .number ≤ 19)))
@@ -96,4 +100,4 @@ pub record ReaderAcceptance (l : Lent) (c : Settings) (s d before : List ℕ) (a
 -- The reader "judges the type afresh", and as the judge does, whose answer is a: where the type is at fault, b is the same answer.
 pub record SameVerdict (a b : Answer) : Type 0 where
   pub ambiguous : (a .number ≡ 9) ↔ (b .number ≡ 9)
-  pub same : 1 ≤ a .number → a .number ≤ 9 → a ≡ b
+  pub same : 1 ≤ a .number → (a .number ≡ 19 → ⊥) → a ≡ b

@@ -1,6 +1,6 @@
 -- Laws of the rules' content: each way that reading it goes.
 use Prim.Native.Nat.{ℕ, _-_, _≤_, _<_}
-use mathlib.Core.Path.{_≡_, refl, sym, ap, ap₂, _∙_}
+use mathlib.Core.Path.{_≡_, refl, sym, ap, ap₂, subst, _∙_}
 use mathlib.Core.Bool.{true, false, _&&_, _||_}
 use mathlib.Core.List.{List, []}
 use native.Mathlib.Omega.{arith}
@@ -14,8 +14,16 @@ use Rattle.rules.specs.TypeFile.{empty, model, ContentEnd, isWord, isCut, EMPTY
 use Rattle.text.specs.Laws.{cut-or}
 use Rattle.text.specs.Means.{refusalOf}
 use Rattle.text.specs.declared.Fault.{Fault}
+use Rattle.and_laws.specs.Sets.{Plain}
+use Rattle.and_laws.specs.Numbers.{Guarded}
+use Rattle.rules_laws.specs.Holds.{got-so}
+use Rattle.rules_laws.specs.In.{fits-none}
+use Rattle.rules_laws.specs.Groups.{Read, group-read, occurrence-read, Whatever, whatever-builds}
 use Rattle.model_table.specs.Fill.{blank, finished}
-use Rattle.connectors.specs.Kept.{Keeps}
+use Rattle.model_table.specs.Means.{Filled, fresh-blank, says}
+use Rattle.model_table.specs.Behind.{finished-behind}
+use Rattle.model_code.specs.Spelled.{codes, codeIn, code-same}
+use Rattle.connectors.specs.Kept.{Begun, begun, Tabled, Keeps}
 use Rattle.content_tokens.specs.Meets.{Meets, modelFault}
 use Rattle.content_tokens.specs.Readings.{refused-is}
 use Rattle.content_tokens.specs.declared.ModelRead.{ModelRead}
@@ -33,7 +41,7 @@ module _ (c : Settings) (s : List ℕ) (from i : ℕ) where
   word-long h = rw (lt-ltb _ _ h, contentWord)
 
   module _ (h : nameEnd s i - i ≤ c .nameLength) where
-    pub word-empty : (ltb from i && isWord s i (nameEnd s i) EMPTY) ≡ true → contentWord c s from i ≡ got (record { content = empty; at = nameEnd s i })
+    pub word-empty : (ltb from i && isWord s i (nameEnd s i) EMPTY) ≡ true → contentWord c s from i ≡ got (record { content = empty; at = nameEnd s i; repeated = 0 })
     unfolding contentWord
     word-empty w = rw (le-ltb _ _ h, w, contentWord)
 
@@ -53,22 +61,41 @@ module _ (c : Settings) (s : List ℕ) (i : ℕ) where
   model-refused q = rw (q, contentModel)
 
   pub model-got : {t : Tokens} → group c GRPLVL s i [] 0 ≡ got t
-      → contentModel c s i ≡ got (record { content = model (occurrence s t .group) (occurrence s t .places) (occurrence s t .tokens); at = occurrence s t .at })
+      → contentModel c s i ≡ got (record { content = model (occurrence s t .group) (occurrence s t .places) (occurrence s t .tokens); at = occurrence s t .at; repeated = occurrence s t .repeated })
   unfolding contentModel
   model-got q = rw (q, contentModel)
 
 -- A refusal of a model that is passed on.
-pub model-fault : (end lo : ℕ) (T names table : List ℕ) (r : ModelRead) (x : Reading Tokens) {f g : Fault} → Meets end lo T names table r x → r ≡ modelRead.Refused f → g ≡ modelFault r → x ≡ refusalOf g
-model-fault end lo T names table r x {f} h q e = refused-is end lo T names table f x (rw q at h) ∙ ap refusalOf (sym (e ∙ ap modelFault q))
+pub model-fault : (end : ℕ) (B : Begun) (names table : List ℕ) (r : ModelRead) (x : Reading Tokens) {f g : Fault} → Meets end B names table r x → r ≡ modelRead.Refused f → g ≡ modelFault r → x ≡ refusalOf g
+model-fault end B names table r x {f} h q e = refused-is end B names table f x (rw q at h) ∙ ap refusalOf (sym (e ∙ ap modelFault q))
+
+-- A model that was read, with its indicator: where no "&" is told it has none, and where none is refused none stands under "+".
+module _ (c : Settings) (s : List ℕ) (i : ℕ) (h : i < length s) (t : Tokens) (e : group c GRPLVL s i [] 0 ≡ got t) where
+  model-read : Read s Whatever i [] (occurrence s t)
+  model-read = occurrence-read c s whatever-builds t (got-so (group-read c s whatever-builds GRPLVL i [] 0 h (fits-none s)) e)
+
+  pub model-plain : occurrence s t .and ≡ 0 → Plain (occurrence s t .group)
+  model-plain = model-read .plain
+
+  pub model-guarded : occurrence s t .repeated ≡ 0 → Guarded (occurrence s t .group)
+  model-guarded = model-read .guarded
 
 -- What the code keeps of a model when its table is finished.
-module _ {end : ℕ} {names T table : List ℕ} {m : Model} {t : Tokens} (k : Keeps end 1 T names table m t) where
-  pub model-kept : T ≡ blank → {finish : List ℕ} → finish ≡ finished table (m .part)
-      → KeepsBody end names finish (record { kind = 1; tokens = m .tokens; places = m .places; at = m .at }) (record { content = model (t .group) (t .places) (t .tokens); at = t .at })
-  model-kept e q =
+module _ {end : ℕ} {names T table : List ℕ} {m : Model} {t : Tokens} (k : Keeps end (begun 1 T 0 0) 1 0 names table m t) (plain : t .and ≡ 0 → Plain (t .group)) (guarded : t .repeated ≡ 0 → Guarded (t .group)) (e : T ≡ blank) where
+  tabled : Tabled (begun 1 T 0 0) (t .group) (codes (t .group)) (t .tokens) table (m .code)
+  tabled = k .tabled (record { fresh = rw e (fresh-blank 1); owed = omega arith })
+
+  filled : Filled (t .group) 1 blank table
+  filled = subst (λ (S : List ℕ). Filled (t .group) 1 S table) e (tabled .filled)
+
+  pub model-kept : {finish : List ℕ} (code and repeated : ℕ) → finish ≡ finished table (m .part) → code ≡ m .code → and ≡ m .and → repeated ≡ m .repeated
+      → KeepsBody end names finish (record { kind = 1; tokens = m .tokens; places = m .places; at = m .at; code = code; and = and; repeated = repeated })
+      (record { content = model (t .group) (t .places) (t .tokens); at = t .at; repeated = t .repeated })
+  model-kept {finish} code a r q x y z =
       record {
         at = k .at;
         at-in = k .at-in;
+        repeated-at = z ∙ k .repeated-at;
         content = (
           refl,
           k .tokens,
@@ -76,10 +103,14 @@ module _ {end : ℕ} {names T table : List ℕ} {m : Model} {t : Tokens} (k : Ke
           record {
             names-hold = k .names-hold;
             counted = k .places;
-            table-filled = q ∙ ap₂ finished (rw e at (k .table-filled)) (k .part);
+            says = rw (q, k .part) (says (t .group) (k .numbered) (omega (arith, k .counted, k .places-in, k .tokens-in)) table filled);
+            room = omega (arith, tabled .room, k .tokens-in);
+            spelled = ap₂ codeIn q x ∙ code-same table (finished table (m .part)) (finished-behind table (m .part) .same) (m .code) ∙ tabled .code-holds;
+            plain = λ o. plain (sym (k .and-at) ∙ sym y ∙ o);
+            guarded = λ o. guarded (sym (k .repeated-at) ∙ sym z ∙ o);
             numbered = k .numbered;
-            sized = omega arith;
-            places-in = omega arith;
+            sized = omega (arith, k .counted, k .places);
+            places-in = omega (arith, k .places, k .places-in, k .tokens-in);
           },
         );
       }

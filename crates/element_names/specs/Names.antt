@@ -15,7 +15,7 @@ Recorded elements es = take (6 * length es) elements ≡ records es
 
 -- An element of which only the name is known: that of the k-th record.
 abbrev pub nameAt : List ℕ → ℕ → rules.Element
-nameAt elements k = record { at = getD elements (6 * k) 0; size = getD elements (6 * k + 1) 0; start = 0; end = 0; content = empty }
+nameAt elements k = record { at = getD elements (6 * k) 0; size = getD elements (6 * k + 1) 0; start = 0; end = 0; content = empty; repeated = 0 }
 
 -- Whatever was declared before: a name that is read lies in the input, one more element has room, and the name is no longer than a name may be.
 abbrev pub NameIn : (long end i count : ℕ) → Reached → Type 0

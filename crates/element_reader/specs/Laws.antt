@@ -55,7 +55,7 @@ module _ (c : Settings) (s : List ℕ) (es : List rules.Element) (h : Head) wher
         rest-close q = rw (g, rest, b, l, q)
 
         pub rest-got : {k : ℕ} → close s j ≡ got k
-            → rest c s es h ≡ got (record { elements = es ++ declare h (x .content) ∷ []; at = k })
+            → rest c s es h ≡ got (record { elements = es ++ declare h x ∷ []; at = k })
         unfolding rest
         rest-got q = rw (g, rest, b, l, q)
 
@@ -94,6 +94,7 @@ element-from {from} {later} end names table es (elementRead.Read e) (got d) l h 
   size-in = h .size-in;
   start = h .start;
   end-tag = h .end-tag;
+  repeated-at = h .repeated-at;
   content = h .content;
 }
 element-from end names table es (elementRead.Refused f) (refused n k) l h = h

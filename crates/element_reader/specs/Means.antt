@@ -26,7 +26,8 @@ pub record KeepsElement (end from : ℕ) (names table : List ℕ) (es : List rul
   pub size-in : element .size ≤ end
   pub start : e .start ≡ element .start
   pub end-tag : e .end ≡ element .end
-  pub content : KeepsContent names table (e .kind) (e .tokens) (e .places) (element .content)
+  pub repeated-at : e .repeated ≡ element .repeated
+  pub content : KeepsContent names table (e .kind) (e .tokens) (e .places) (e .code) (e .and) (e .repeated) (element .content)
 
 abbrev pub MeetsElement : (end from : ℕ) (names table : List ℕ) → List rules.Element → ElementRead → Reading Declared → Type 0
 MeetsElement end from names table es (elementRead.Read e) (got d) = KeepsElement end from names table es e d

@@ -1,11 +1,13 @@
 -- What the element reader's answer makes of what is kept.
 use Prim.Native.Nat.{ℕ, _+_, _*_, _≤_, _<_}
-use mathlib.Core.Path.{_≡_, refl}
-use mathlib.Core.List.{List, _++_}
+use mathlib.Core.Path.{_≡_, refl, sym, _∙_}
+use mathlib.Core.List.{List, [], _∷_, _++_}
 use native.Mathlib.Omega.{arith}
 use lib.ListN.{length, take}
 use Rattle.rules.specs.Reading.{Reading, refused, got}
-use Rattle.rules.specs.TypeFile.{Content, empty, model, Element, Declared}
+use Rattle.rules.specs.TypeFile.{Content, empty, model, Element, Declared, earlier}
+use Rattle.rules.specs.Judge.{firstRepeated}
+use Rattle.rules_laws.specs.Groups.{earlier-none}
 use Rattle.text.specs.declared.Fault.{Fault}
 use Rattle.element_content.specs.Kept.{KeepsContent}
 use Rattle.element_reader.specs.Means.{KeepsElement, MeetsElement, elementFault}
@@ -16,7 +18,7 @@ use Rattle.element_records.specs.declared.Clash.{Clash}
 use Rattle.element_records.specs.declared.Progress.{Progress}
 use Rattle.element_records.specs.declared.Step.the-variants.{Read, Refused}
 use Rattle.element_records.specs.Progress.{numbersOf, PendingWith, KeepsProgress, MeetsStep}
-use Rattle.element_records.specs.Records.{length-more, numbers-kept, recorded-more}
+use Rattle.element_records.specs.Records.{length-more, repeated-more, numbers-kept, recorded-more}
 
 -- What the element reader's answer makes of a step.
 module _ (s : List ℕ) (from : ℕ) (names table : List ℕ) (es : List Element) where
@@ -42,21 +44,23 @@ module _ (s : List ℕ) (from : ℕ) (names table : List ℕ) (es : List Element
     element-fits h =
         (omega (arith, k .name, k .name-in), omega (arith, k .size, k .size-in), by-content (k .element .content) (k .content))
       where
-        by-content : (c : Content) → KeepsContent names table (e .kind) (e .tokens) (e .places) c → e .tokens < 4294967296
+        by-content : (c : Content) → KeepsContent names table (e .kind) (e .tokens) (e .places) (e .code) (e .and) (e .repeated) c → e .tokens < 4294967296
         by-content empty m = omega (arith, m .1)
         by-content (model g ps n) m = omega (arith, m .1, m .2)
 
     pub element-places : (e .kind ≡ 0 → ⊥) → e .places ≤ 96
     element-places z = by-content (k .element .content) (k .content)
       where
-        by-content : (c : Content) → KeepsContent names table (e .kind) (e .tokens) (e .places) c → e .places ≤ 96
+        by-content : (c : Content) → KeepsContent names table (e .kind) (e .tokens) (e .places) (e .code) (e .and) (e .repeated) c → e .places ≤ 96
         by-content empty m = absurd (z (m .0))
         by-content (model g ps n) m = m .3 .places-in
 
-    pub element-step : (before after : List ℕ) (p : Progress) (c : Clash) (x : Reading Declared) → x ≡ got d → KeepsProgress s before p es → p .count < 64
-        → take (6 * (p .count + 1)) after ≡ take (6 * p .count) before ++ numbersOf e → PendingWith s c es (k .element .content)
-        → MeetsStep s after from (Read (record { at = e .at; count = p .count + 1; clash = c })) x
-    element-step before after p c x y h few w q =
+    pub element-step : (before after : List ℕ) (p : Progress) (c : Clash) (first : ℕ) (x : Reading Declared) → x ≡ got d → KeepsProgress s before p es → p .count < 64
+        → take (6 * (p .count + 1)) after ≡ take (6 * p .count) before ++ numbersOf e → first ≡ earlier (p .repeated) (e .repeated)
+        → (firstRepeated es ≡ 0 → e .repeated ≡ 0 → PendingWith s c es (k .element .content))
+        → MeetsStep s after from (Read (record { at = e .at; count = p .count + 1; clash = c; repeated = first })) x
+    element-step before after p c first x y h few w o q =
+        let all : firstRepeated (es ++ k .element ∷ []) ≡ earlier (firstRepeated es) (k .element .repeated) = repeated-more es (k .element) in
         let m = length-more es (k .element) in
         let n = h .counted in
         rw y (
@@ -67,7 +71,12 @@ module _ (s : List ℕ) (from : ℕ) (names table : List ℕ) (es : List Element
                 rw (k .grows)
                 (recorded-more before after (p .count) e es (k .element) n (h .recorded) w (numbers-kept names table e (k .element) (k .name) (k .size) (k .start) (k .end-tag) (k .content)));
             at-in = omega (arith, k .at, k .at-in);
-            pending = rw (k .grows) (q (k .element) refl);
+            repeated-at = rw (k .grows, all) (rw (h .repeated-at, k .repeated-at) at o);
+            pending =
+                rw (k .grows)
+                (λ z.
+                let (a, b) = earlier-none (firstRepeated es) (k .element .repeated) (sym all ∙ z) in
+                q a (k .repeated-at ∙ b) (k .element) refl);
           },
           k .at,
           k .onward,

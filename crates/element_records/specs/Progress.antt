@@ -6,7 +6,7 @@ use mathlib.Core.List.{List, [], _∷_, _++_}
 use lib.ListN.{length}
 use Rattle.rules.specs.Reading.{Reading, refused, got}
 use Rattle.rules.specs.TypeFile.{Content, Element, Declared}
-use Rattle.rules.specs.Judge.{AllUnambiguous, FirstAmbiguous}
+use Rattle.rules.specs.Judge.{AllUnambiguous, FirstAmbiguous, firstRepeated}
 use Rattle.text.specs.declared.Fault.{Fault}
 use Rattle.element_names.specs.Names.{Recorded}
 use Rattle.element_reader.specs.declared as declared
@@ -27,13 +27,14 @@ Pending s c es = ((c .second ≡ 0) × AllUnambiguous s es) ⊎ ((1 ≤ c .secon
 abbrev pub PendingWith : List ℕ → Clash → List Element → Content → Type 0
 PendingWith s c es x = (e : Element) → e .content ≡ x → Pending s c (es ++ e ∷ [])
 
--- What is kept of the elements es, read up to p .at.
+-- What is kept of the elements es, read up to p .at. Where an "&" is refused no pair is asked for.
 pub record KeepsProgress (s elements : List ℕ) (p : Progress) (es : List Element) : Type 0 where
   pub counted : p .count ≡ length es
   pub room : length es ≤ 64
   pub recorded : Recorded elements es
   pub at-in : p .at ≤ length s
-  pub pending : Pending s (p .clash) es
+  pub repeated-at : p .repeated ≡ firstRepeated es
+  pub pending : firstRepeated es ≡ 0 → Pending s (p .clash) es
 
 -- Some elements are kept so.
 abbrev pub InProgress : (s elements : List ℕ) (p : Progress) → Type 0

@@ -2,12 +2,16 @@
 use Prim.Native.Nat.{ℕ, _+_, _*_, _≤_, _<_}
 use mathlib.Core.Path.{_≡_, sym, ap, _∙_}
 use mathlib.Core.List.{List, [], _∷_, _++_, append-nil, append-assoc}
+use mathlib.Core.Bool.{true, false}
 use native.Mathlib.Omega.{arith}
 use native.Mathlib.Numerals.{add-one}
 use lib.ListN.{length, take, set, length-append, length-set}
 use lib.Seq.{take-suc-set}
-use Rattle.rules.specs.TypeFile.{Content, empty, model, Element}
-use Rattle.rules.specs.Judge.{records, contentNumbers}
+use lib.Dec.{eqb}
+use borrow.Author.Tests.{eqb-true}
+use Rattle.rules.specs.TypeFile.{Content, empty, model, Element, earlier}
+use Rattle.rules.specs.Judge.{records, contentNumbers, firstRepeated}
+use Rattle.model_sets.specs.Bits.{bool-cases}
 use Rattle.element_names.specs.Names.{Recorded}
 use Rattle.element_content.specs.Kept.{KeepsContent}
 use Rattle.element_reader.specs.declared as declared
@@ -28,14 +32,23 @@ records-more [] x = ap (λ (l : List ℕ). x .at ∷ x .size ∷ x .start ∷ x 
 records-more (e ∷ es) x =
     ap (λ (l : List ℕ). e .at ∷ e .size ∷ e .start ∷ e .end ∷ l) (rw (records-more es x) (sym (append-assoc (contentNumbers (e .content)) (records es) (recordOf x))))
 
+-- The first "&" that is refused is one of those before, or of the element.
+pub repeated-more : (es : List Element) (x : Element) → firstRepeated (es ++ x ∷ []) ≡ earlier (firstRepeated es) (x .repeated)
+unfolding firstRepeated
+repeated-more [] x = bool-cases (eqb (x .repeated) 0) (λ e. rw (e, firstRepeated) (sym (eqb-true (x .repeated) 0 e))) (λ e. rw (e, firstRepeated))
+repeated-more (e ∷ es) x = bool-cases (eqb (e .repeated) 0) (λ y. rw (y, firstRepeated) (repeated-more es x)) (λ y. rw (y, firstRepeated) (sym (some y)))
+  where
+    some : eqb (e .repeated) 0 ≡ false → earlier (e .repeated) (x .repeated) ≡ e .repeated
+    some y = rw (y, earlier)
+
 -- What the code writes of an element is its record.
 module _ (names table : List ℕ) (e : declared.Element.Element) (x : Element) where
-  content-kept : (c : Content) → KeepsContent names table (e .kind) (e .tokens) (e .places) c → _≡_ {A = List ℕ} (e .kind ∷ e .tokens ∷ []) (contentNumbers c)
+  content-kept : (c : Content) → KeepsContent names table (e .kind) (e .tokens) (e .places) (e .code) (e .and) (e .repeated) c → _≡_ {A = List ℕ} (e .kind ∷ e .tokens ∷ []) (contentNumbers c)
   content-kept empty k = rw (k .0, k .1)
   content-kept (model g ps n) k = rw (k .0, k .1)
 
   pub numbers-kept : e .offset ≡ x .at → e .size ≡ x .size → e .start ≡ x .start → e .end ≡ x .end
-      → KeepsContent names table (e .kind) (e .tokens) (e .places) (x .content) → numbersOf e ≡ recordOf x
+      → KeepsContent names table (e .kind) (e .tokens) (e .places) (e .code) (e .and) (e .repeated) (x .content) → numbersOf e ≡ recordOf x
   numbers-kept a b c d k = rw (a, b, c, d) (ap (λ (l : List ℕ). x .at ∷ x .size ∷ x .start ∷ x .end ∷ l) (content-kept (x .content) k))
 
 pub recorded-more : (before after : List ℕ) (k : ℕ) (e : declared.Element.Element) (es : List Element) (x : Element) → k ≡ length es → Recorded before es

@@ -63,11 +63,12 @@ fn put_record(elements: &mut [u32; RECORDS], k: usize, e: Element)
     elements[6 * k + 5] = e.tokens as u32;
 }
 
-// The first pair at fault so far, where the element e, read last, has its model in `names` and `table`.
+// The first pair at fault so far, where the element e, read last, has its model in `names` and `table`. Where an "&" of the model is refused, it is
+// not decided.
 fn clash_with(s: &[u8], c: Clash, e: Element, names: &[u32; NAMES], table: &[u8; MODEL]) -> Clash
     requires { ⌜ ((e .kind ≡ 0 → ⊥) → e .places ≤ 96) ⌝ }
     ensures { λ r. ⌜ ((es : List rules.Element) (x : rules.Content) → Pending (now (s .entry)) c es →
-        KeepsContent (now (names .entry)) (now (table .entry)) (e .kind) (e .tokens) (e .places) x → PendingWith (now (s .entry)) r es x) ⌝ }
+        KeepsContent (now (names .entry)) (now (table .entry)) (e .kind) (e .tokens) (e .places) (e .code) (e .and) (e .repeated) x → e .repeated ≡ 0 → PendingWith (now (s .entry)) r es x) ⌝ }
 {
     if c.second != 0 {
         return c;

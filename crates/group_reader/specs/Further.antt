@@ -1,20 +1,34 @@
 -- What follows a content token, in the rules' terms.
-use Prim.Native.Nat.{ℕ}
+use Prim.Native.Nat.{ℕ, _+_}
 use mathlib.Core.Path.{_≡_}
+use mathlib.Core.Bool.{_&&_, cond}
 use mathlib.Core.List.{List}
+use lib.Dec.{eqb, leb}
 use Rattle.rules.specs.Reading.{Reading, refused, got}
 use Rattle.rules.specs.TypeFile.{Further, closed, joined}
+use Rattle.model_code.specs.Means.{putCode, codeNext}
 use Rattle.group_reader.specs.declared.Next.{Next}
 use Rattle.group_reader.specs.declared.Next.the-variants.{Closed, Joined, Unfit}
-use Rattle.connectors.specs.Kept.{Keeps}
+use Rattle.connectors.specs.Kept.{Begun, begun, Keeps}
 
--- An answer stands for a reading: the group's end, a further content token with what is kept of both, or a refusal.
-abbrev pub MeetsFurther : (end lo : ℕ) (T names table : List ℕ) → Next → Reading Further → Type 0
-MeetsFurther end lo T names table (Closed m) (got (closed t)) = Keeps end lo T names table m t
-MeetsFurther end lo T names table (Closed m) (got (joined b t)) = ⊥
-MeetsFurther end lo T names table (Closed m) (refused n k) = ⊥
-MeetsFurther end lo T names table (Joined c m) (got (closed t)) = ⊥
-MeetsFurther end lo T names table (Joined c m) (got (joined b t)) = (c ≡ b) × Keeps end lo T names table m t
-MeetsFurther end lo T names table (Joined c m) (refused n k) = ⊥
-MeetsFurther end lo T names table (Unfit f) (got x) = ⊥
-MeetsFurther end lo T names table (Unfit f) (refused n k) = (f .number ≡ n) × (f .at ≡ k)
+-- The same start, where one number more is due: that of a group's ")".
+abbrev pub beforeEnd : Begun → Begun
+beforeEnd B = begun (B .lo) (B .table) (B .code) (B .due + 1)
+
+-- An answer stands for a reading: the group's end, a further content token with what is kept of the k before and of it, or a refusal.
+abbrev pub MeetsFurther : (end : ℕ) (B : Begun) (k : ℕ) (names table : List ℕ) → Next → Reading Further → Type 0
+MeetsFurther end B k names table (Closed m) (got (closed t)) = Keeps end B 1 0 names table m t
+MeetsFurther end B k names table (Closed m) (got (joined b t)) = ⊥
+MeetsFurther end B k names table (Closed m) (refused n p) = ⊥
+MeetsFurther end B k names table (Joined c m) (got (closed t)) = ⊥
+MeetsFurther end B k names table (Joined c m) (got (joined b t)) = (c ≡ b) × Keeps end (beforeEnd B) (k + 1) b names table m t
+MeetsFurther end B k names table (Joined c m) (refused n p) = ⊥
+MeetsFurther end B k names table (Unfit f) (got x) = ⊥
+MeetsFurther end B k names table (Unfit f) (refused n p) = (f .number ≡ n) × (f .at ≡ p)
+
+-- The code where a group of k content tokens joined by the connector ends.
+abbrev pub closedTable : (k joint n : ℕ) → List ℕ → List ℕ
+closedTable k joint n T = cond (eqb joint 38 && leb k 32) (putCode T n (128 + k)) T
+
+abbrev pub closedCode : (k joint n : ℕ) → ℕ
+closedCode k joint n = cond (eqb joint 38 && leb k 32) (codeNext n) n

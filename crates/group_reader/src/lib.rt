@@ -7,14 +7,14 @@ use text::Fault;
 ghost use mathlib.Core.Path.{_≡_};
 ghost use mathlib.Core.Bool.{false};
 ghost use mathlib.Core.List.{List};
-ghost use Prim.Native.Nat.{ℕ, _+_, _≤_, _<_};
+ghost use Prim.Native.Nat.{ℕ, _+_, _*_, _≤_, _<_};
 ghost use lib.ListN.{length};
 ghost use Rattle.rules.specs.Settings.{settings};
 ghost use Rattle.rules.specs.TypeFile.{Tokens, token, further, group};
 ghost use Rattle.model_names.specs.Places.{placesOf};
-ghost use Rattle.connectors.specs.Kept.{Keeps};
+ghost use Rattle.connectors.specs.Kept.{begun, Keeps};
 ghost use Rattle.content_tokens.specs.Meets.{Meets};
-ghost use Rattle.group_reader.specs.Further.{MeetsFurther};
+ghost use Rattle.group_reader.specs.Further.{MeetsFurther, closedTable, closedCode};
 
 // What follows a content token: the group's end, or a connector and a further content token.
 pub enum Next {
@@ -24,7 +24,9 @@ pub enum Next {
 }
 
 // The code where a group of k content tokens joined by c ends: that of an "&" group gets how many there are.
-fn closed_code(table: &mut [u8; MODEL], code: u16, k: usize, c: u8) -> u16 {
+fn closed_code(table: &mut [u8; MODEL], code: u16, k: usize, c: u8) -> u16
+    ensures { λ r. ⌜ (now (table .exit) ≡ closedTable k c code (now (table .entry))) × (r ≡ closedCode k c code) ⌝ }
+{
     if c != b'&' {
         return code;
     }
@@ -49,7 +51,7 @@ fn token_at(
 ) -> ModelRead
     requires { ⌜ (at ≤ length (now s)) × (length (now s) ≤ 32768) ⌝ }
     requires { ⌜ (places ≤ tokens) × (full ≡ false → tokens < 96) ⌝ }
-    ensures { λ r. ⌜ Meets (length (now (s .entry))) (places + 1) (now (table .entry)) (now (names .exit)) (now (table .exit)) r
+    ensures { λ r. ⌜ Meets (length (now (s .entry))) (begun (places + 1) (now (table .entry)) code (4 * tokens + 3)) (now (names .exit)) (now (table .exit)) r
         (token (settings long) (group (settings long) levels (now (s .entry))) (now (s .entry)) at full (placesOf (now (names .entry)) places) tokens) ⌝ }
 {
     let b = text::byte(s, at);
@@ -89,8 +91,8 @@ fn next_at(
 ) -> Next
     requires { ⌜ (m .at ≤ length (now s)) × (length (now s) ≤ 32768) ⌝ }
     requires { ⌜ (m .places ≤ m .tokens) × (m .tokens ≤ 96) ⌝ }
-    ensures { λ r. ⌜ ((T : List ℕ) (t : Tokens) → Keeps (length (now (s .entry))) lo T (now (names .entry)) (now (table .entry)) m t →
-        MeetsFurther (length (now (s .entry))) lo T (now (names .exit)) (now (table .exit)) r
+    ensures { λ r. ⌜ ((T : List ℕ) (n d : ℕ) (t : Tokens) → Keeps (length (now (s .entry))) (begun lo T n (d + 1)) k c (now (names .entry)) (now (table .entry)) m t →
+        MeetsFurther (length (now (s .entry))) (begun lo T n d) k (now (names .exit)) (now (table .exit)) r
         (further (settings long) (group (settings long) levels (now (s .entry))) (now (s .entry)) k c t)) ⌝ }
 {
     let i = text::separators_end(s, m.at);
@@ -140,7 +142,7 @@ pub fn group_at(
 ) -> ModelRead
     requires { ⌜ (at < length (now s)) × (length (now s) ≤ 32768) ⌝ }
     requires { ⌜ (places ≤ tokens) × (tokens ≤ 96) ⌝ }
-    ensures { λ r. ⌜ Meets (length (now (s .entry))) (places + 1) (now (table .entry)) (now (names .exit)) (now (table .exit)) r
+    ensures { λ r. ⌜ Meets (length (now (s .entry))) (begun (places + 1) (now (table .entry)) code (4 * tokens + 2)) (now (names .exit)) (now (table .exit)) r
         (group (settings long) levels (now (s .entry)) at (placesOf (now (names .entry)) places) tokens) ⌝ }
 {
     if levels == 0 {

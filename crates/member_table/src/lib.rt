@@ -4,6 +4,7 @@
 // group; for each member the place that it requires at its start, or 0; for each group its first member, how many of its members cannot be nothing, how many
 // there are, and the innermost member that holds it, or 0, and 128 more where that member can end with this group. Groups count from 1 in the order
 // of their ")", so that an inner one comes before those around it; members count from 1, group after group, in each those that cannot be nothing first.
+use layout::AND_GROUPS;
 use layout::CODE;
 use layout::ElementNo;
 use layout::GROUP;
@@ -12,234 +13,359 @@ use layout::MODEL;
 use layout::MODEL_ROW;
 use layout::MODEL_ROWS;
 use layout::POSITIONS;
+ghost use mathlib.Core.Path.{_≡_};
+ghost use Prim.Native.Nat.{_+_, _*_, _≤_, _<_};
+ghost use lib.ListN.{length, set};
+ghost use Rattle.member_table.specs.Filling.{putFree, marked, putPlaces, putOuter, putOuters, neededIn, numberAt, putOne, putGroup, fits, joinedPiece, filled};
 
-// A group on the stack: its places are [lo, hi); whether it can be nothing, and the place that it requires at its start, or 0.
+// A group on the stack: its places are those from `lo` to `last`; whether it can be nothing, and the place that it requires at its start, or 0.
 pub struct Piece {
-    pub lo: usize,
-    pub hi: usize,
+    pub lo: u8,
+    pub last: u8,
     pub null: bool,
     pub required: u8,
 }
 
-// How far the table is filled: how many groups and how many members there are.
-pub struct Filled {
-    pub groups: usize,
-    pub members: usize,
-}
-
 // A number of the table; nothing is put past its end.
-fn put(members: &mut [u8], i: usize, x: u8) {
+fn put(members: &mut [u8], i: usize, x: u8)
+    ensures { λ _. ⌜ now (members .exit) ≡ set (now (members .entry)) i x ⌝ }
+{
     if i < members.len() {
         members[i] = x;
     }
 }
 
-// Whether a number of the table is 0.
-fn is_free(members: &[u8], i: usize) -> bool {
+// A number is put where none is yet.
+fn put_free(members: &mut [u8], i: usize, x: u8)
+    ensures { λ _. ⌜ now (members .exit) ≡ putFree (now (members .entry)) i x ⌝ }
+{
     if i < members.len() {
-        members[i] == 0
-    } else {
-        false
+        if members[i] == 0 {
+            members[i] = x;
+        }
     }
 }
 
-// The member number, and 128 more if w may come next after the place u.
-fn mark(table: &[u8; MODEL], u: usize, w: usize, number: usize) -> u8 {
-    let mut m = number;
-    if table[u * MODEL_ROW + w] == 1 {
-        m += 128;
+// A table has this many numbers, which a reference to it does not say.
+fn whole(table: [u8; MODEL])
+    ensures { λ _. ⌜ length table ≡ 9893 ⌝ }
+{}
+
+// The member h, and 128 more if w may come next after the place u.
+fn mark(table: &[u8; MODEL], u: usize, w: usize, h: usize) -> u8
+    requires { ⌜ u < 256 ⌝ }
+    requires { ⌜ w < 256 ⌝ }
+    requires { ⌜ h < 97 ⌝ }
+    ensures { λ r. ⌜ r ≡ marked (now (table .entry)) u w h ⌝ }
+{
+    whole(*table);
+    let i = u * MODEL_ROW + w;
+    if i < MODEL {
+        if table[i] == 1 {
+            return (h + 128) as u8;
+        }
     }
-    m as u8
+    h as u8
 }
 
-// Where what is kept of the group g begins.
-fn record(base: usize, g: usize) -> usize {
-    base + 3 * POSITIONS + g * GROUP
-}
-
-// The member m of the next group is put: it gets the next number, and so do its places that no inner member holds, and the groups that no inner member
-// holds, of which `lasts` has the last places. w can begin another member of the group, so it may come next where the member can end.
-fn put_member(
+// The member h has the places of [lo, hi) that no inner member has. w can begin another member of its group, so it may come next where h can end.
+fn put_places(
     members: &mut [u8],
     base: usize,
     table: &[u8; MODEL],
-    lasts: [u8; 49],
-    f: Filled,
-    m: Piece,
+    lo: usize,
+    hi: usize,
     w: usize,
-) -> Filled {
-    let h = f.members + 1;
-    let mut u = m.lo;
-    while u < m.hi {
-        if is_free(members, base + u) {
-            put(members, base + u, mark(table, u, w, h));
-        }
-        u += 1;
-    }
-    let mut g = 1;
-    while g <= f.groups {
-        let last = numbers::wide(lasts[g]);
-        if m.lo <= last && last < m.hi {
-            let at = record(base, g) + 3;
-            if is_free(members, at) {
-                put(members, at, mark(table, last, w, h));
-            }
-        }
-        g += 1;
-    }
-    let own = f.groups + 1;
-    put(members, base + POSITIONS + h, own as u8);
-    put(members, base + 2 * POSITIONS + h, m.required);
-    Filled {
-        groups: f.groups,
-        members: h,
+    h: usize,
+)
+    requires { ⌜ base < 65536 ⌝ }
+    requires { ⌜ hi ≤ 256 ⌝ }
+    requires { ⌜ w < 256 ⌝ }
+    requires { ⌜ h < 97 ⌝ }
+    ensures { λ _. ⌜ now (members .exit) ≡ putPlaces (now (members .entry)) base (now (table .entry)) w h lo hi ⌝ }
+{
+    for u in lo..hi {
+        put_free(members, base + u, mark(table, u, w, h));
     }
 }
 
-// Of the k pieces of the stack from `first` on those are put that can be nothing, or those that cannot.
-fn put_some(
+// The member h of the places [lo, hi) has the group g, which ends with the place `last`, if that is one of its places and no inner member has the group.
+fn put_outer(
+    members: &mut [u8],
+    base: usize,
+    table: &[u8; MODEL],
+    lo: usize,
+    hi: usize,
+    w: usize,
+    h: usize,
+    last: usize,
+    g: usize,
+)
+    requires { ⌜ base < 65536 ⌝ }
+    requires { ⌜ w < 256 ⌝ }
+    requires { ⌜ h < 97 ⌝ }
+    requires { ⌜ last < 256 ⌝ }
+    requires { ⌜ g ≤ 48 ⌝ }
+    ensures { λ _. ⌜ now (members .exit) ≡ putOuter (now (members .entry)) base (now (table .entry)) w h lo hi last g ⌝ }
+{
+    if lo <= last {
+        if last < hi {
+            put_free(
+                members,
+                base + 3 * POSITIONS + g * GROUP + 3,
+                mark(table, last, w, h),
+            );
+        }
+    }
+}
+
+// The member h has those of the first groups that are within it and that no inner member has.
+fn put_outers(
+    members: &mut [u8],
+    base: usize,
+    table: &[u8; MODEL],
+    lo: usize,
+    hi: usize,
+    w: usize,
+    h: usize,
+    lasts: [u8; 49],
+    groups: usize,
+)
+    requires { ⌜ base < 65536 ⌝ }
+    requires { ⌜ w < 256 ⌝ }
+    requires { ⌜ h < 97 ⌝ }
+    requires { ⌜ groups ≤ 48 ⌝ }
+    ensures { λ _. ⌜ now (members .exit) ≡ putOuters (now (members .entry)) base (now (table .entry)) w h lo hi lasts 1 (groups + 1) ⌝ }
+{
+    let end = groups + 1;
+    for g in 1..end {
+        put_outer(
+            members,
+            base,
+            table,
+            lo,
+            hi,
+            w,
+            h,
+            numbers::wide(lasts[g]),
+            g,
+        );
+    }
+}
+
+// How many of the k pieces of the stack from `first` on cannot be nothing.
+fn needed_in(stack: [Piece; POSITIONS], first: usize, k: usize) -> usize
+    requires { ⌜ first + k ≤ 97 ⌝ }
+    ensures { λ r. ⌜ (r ≡ neededIn stack first k) × (r ≤ k) ⌝ }
+{
+    let mut n = 0;
+    for j in 0..k {
+        let m = stack[first + j];
+        if !m.null {
+            n += 1;
+        }
+    }
+    n
+}
+
+// The piece j of the stack from `first` on is a member of the next group, whose members are numbered from `own`.
+fn put_one(
     members: &mut [u8],
     base: usize,
     table: &[u8; MODEL],
     lasts: [u8; 49],
-    before: Filled,
+    groups: usize,
+    own: usize,
     stack: [Piece; POSITIONS],
     first: usize,
-    k: usize,
-    null: bool,
-) -> Filled {
-    let mut f = before;
-    let one = stack[first];
-    let two = stack[first + 1];
-    let mut j = 0;
-    while j < k {
-        let m = stack[first + j];
-        if m.null == null {
-            let mut w = one.lo;
-            if j == 0 {
-                w = two.lo;
-            }
-            f = put_member(members, base, table, lasts, f, m, w);
-        }
-        j += 1;
+    needed: usize,
+    j: usize,
+)
+    requires { ⌜ base < 65536 ⌝ }
+    requires { ⌜ groups < 48 ⌝ }
+    requires { ⌜ first < 96 ⌝ }
+    requires { ⌜ first + j < 97 ⌝ }
+    requires { ⌜ (own < 97) × (needed ≤ 97) ⌝ }
+    requires { ⌜ numberAt stack first own needed j < 97 ⌝ }
+    ensures { λ _. ⌜ now (members .exit) ≡ putOne (now (members .entry)) base (now (table .entry)) lasts groups own stack first needed j ⌝ }
+{
+    let m = stack[first + j];
+    let n = needed_in(stack, first, j);
+    let mut h = own + n;
+    if m.null {
+        h = own + needed + (j - n);
     }
-    f
+    let mut o = first;
+    if j == 0 {
+        o = first + 1;
+    }
+    let other = stack[o];
+    let w = numbers::wide(other.lo);
+    let lo = numbers::wide(m.lo);
+    let hi = numbers::wide(m.last) + 1;
+    put_places(members, base, table, lo, hi, w, h);
+    put_outers(members, base, table, lo, hi, w, h, lasts, groups);
+    let g = groups + 1;
+    put(members, base + POSITIONS + h, g as u8);
+    put(members, base + 2 * POSITIONS + h, m.required);
 }
 
-// The group of the k pieces of the stack from `first` on.
+// The next group: its members are the k pieces of the stack from `first` on, of which `needed` cannot be nothing.
 fn put_group(
     members: &mut [u8],
     base: usize,
     table: &[u8; MODEL],
     lasts: [u8; 49],
-    f: Filled,
+    groups: usize,
+    own: usize,
     stack: [Piece; POSITIONS],
     first: usize,
+    needed: usize,
     k: usize,
-) -> Filled {
-    let n = put_some(members, base, table, lasts, f, stack, first, k, false);
-    let all = put_some(members, base, table, lasts, n, stack, first, k, true);
-    let g = f.groups + 1;
-    let at = record(base, g);
-    let own = f.members + 1;
-    let needed = n.members - f.members;
+)
+    requires { ⌜ base < 65536 ⌝ }
+    requires { ⌜ groups < 48 ⌝ }
+    requires { ⌜ 2 ≤ k ⌝ }
+    requires { ⌜ first + k ≤ 97 ⌝ }
+    requires { ⌜ own + k ≤ 97 ⌝ }
+    requires { ⌜ needed ≡ neededIn stack first k ⌝ }
+    ensures { λ _. ⌜ now (members .exit) ≡ putGroup (now (members .entry)) base (now (table .entry)) lasts groups own stack first needed k ⌝ }
+{
+    let at = base + 3 * POSITIONS + (groups + 1) * GROUP;
     put(members, at, own as u8);
     put(members, at + 1, needed as u8);
     put(members, at + 2, k as u8);
-    Filled {
-        groups: g,
-        members: all.members,
+    for j in 0..k {
+        put_one(
+            members,
+            base,
+            table,
+            lasts,
+            groups,
+            own,
+            stack,
+            first,
+            needed,
+            j,
+        );
     }
 }
 
-// Whether each of the k pieces from `first` on can be nothing.
-fn all_null(stack: [Piece; POSITIONS], first: usize, k: usize) -> bool {
-    let mut j = 0;
-    while j < k {
-        let m = stack[first + j];
-        if !m.null {
-            return false;
-        }
-        j += 1;
+// Whether a group of k members can be put, where so many pieces are on the stack and so many groups and members are put.
+fn fits(k: usize, top: usize, groups: usize, count: usize) -> bool
+    requires { ⌜ k < 256 ⌝ }
+    requires { ⌜ count < 97 ⌝ }
+    ensures { λ r. ⌜ r ≡ fits k top groups count ⌝ }
+{
+    if k < 2 {
+        return false;
     }
-    true
+    if top < k {
+        return false;
+    }
+    if AND_GROUPS <= groups {
+        return false;
+    }
+    count + k < POSITIONS
 }
 
 // Two pieces joined by "," or "|".
-fn joined(op: u8, a: Piece, b: Piece) -> Piece {
+fn joined(op: u8, a: Piece, b: Piece) -> Piece
+    ensures { λ r. ⌜ r ≡ joinedPiece op a b ⌝ }
+{
+    let mut null = a.null;
+    let mut required: u8 = 0;
     if op == model_code::SEQ {
-        let mut required = a.required;
+        required = a.required;
         if a.null {
+            null = b.null;
             required = b.required;
         }
-        return Piece {
-            lo: a.lo,
-            hi: b.hi,
-            null: a.null && b.null,
-            required: required,
-        };
+    } else if !a.null {
+        null = b.null;
     }
     Piece {
         lo: a.lo,
-        hi: b.hi,
-        null: a.null || b.null,
-        required: 0,
+        last: b.last,
+        null: null,
+        required: required,
     }
 }
 
 // The members of the element e, whose model has its table in `table` with n numbers of code. They are all 0 before.
-pub fn fill(members: &mut [u8], e: ElementNo, table: &[u8; MODEL], n: usize) {
+pub fn fill(members: &mut [u8], e: ElementNo, table: &[u8; MODEL], n: usize)
+    requires { ⌜ e .0 < 65 ⌝ }
+    ensures { λ _. ⌜ now (members .exit) ≡ filled (now (members .entry)) (e .0) (now (table .entry)) n ⌝ }
+{
     let base = e.0 * MEMBER;
     let mut stack = [Piece {
         lo: 0,
-        hi: 0,
+        last: 0,
         null: false,
         required: 0,
     }; POSITIONS];
     let mut lasts = [0u8; 49];
-    let mut f = Filled {
-        groups: 0,
-        members: 0,
-    };
+    let mut groups = 0;
+    let mut count = 0;
     let mut top = 0;
     let mut i = 0;
     while i < n && i < CODE {
         let op = table[MODEL_ROWS + i];
         if op < model_code::SEQ {
-            let p = numbers::wide(op);
-            stack[top] = Piece {
-                lo: p,
-                hi: p + 1,
-                null: false,
-                required: op,
-            };
-            top += 1;
+            if top < POSITIONS {
+                stack[top] = Piece {
+                    lo: op,
+                    last: op,
+                    null: false,
+                    required: op,
+                };
+                top += 1;
+            }
         } else if op == model_code::OPT {
-            let a = stack[top - 1];
-            stack[top - 1] = Piece {
-                lo: a.lo,
-                hi: a.hi,
-                null: true,
-                required: 0,
-            };
+            if 1 <= top {
+                let a = stack[top - 1];
+                stack[top - 1] = Piece {
+                    lo: a.lo,
+                    last: a.last,
+                    null: true,
+                    required: 0,
+                };
+            }
         } else if op < model_code::PLUS {
-            stack[top - 2] = joined(op, stack[top - 2], stack[top - 1]);
-            top -= 1;
+            if 2 <= top {
+                stack[top - 2] = joined(op, stack[top - 2], stack[top - 1]);
+                top -= 1;
+            }
         } else if model_code::AND < op {
             let k = numbers::wide(op) - 128;
-            let first = top - k;
-            let a = stack[first];
-            let b = stack[top - 1];
-            f = put_group(members, base, table, lasts, f, stack, first, k);
-            let last = b.hi - 1;
-            lasts[f.groups] = last as u8;
-            stack[first] = Piece {
-                lo: a.lo,
-                hi: b.hi,
-                null: all_null(stack, first, k),
-                required: 0,
-            };
-            top = first + 1;
+            if fits(k, top, groups, count) {
+                let first = top - k;
+                let needed = needed_in(stack, first, k);
+                put_group(
+                    members,
+                    base,
+                    table,
+                    lasts,
+                    groups,
+                    count + 1,
+                    stack,
+                    first,
+                    needed,
+                    k,
+                );
+                let a = stack[first];
+                let b = stack[top - 1];
+                stack[first] = Piece {
+                    lo: a.lo,
+                    last: b.last,
+                    null: needed == 0,
+                    required: 0,
+                };
+                groups += 1;
+                count += k;
+                lasts[groups] = b.last;
+                top = first + 1;
+            }
         }
         i += 1;
     }

@@ -4,16 +4,19 @@ use mathlib.Core.Path.{_≡_, refl, sym, ap, _∙_}
 use mathlib.Core.Bool.{Bool}
 use mathlib.Core.List.{List, [], _∷_, _++_}
 use native.Mathlib.Omega.{arith}
-use lib.ListN.{length, getD}
+use native.Mathlib.Numerals.{add-one}
+use lib.ListN.{length, getD, set, length-set}
+use lib.Seq.{getD-set-same, getD-set-other}
 use borrow.Author.Tests.{ne-eqb, lt-ltb, le-ltb}
-use Rattle.layout.specs.Sizes.{MODEL-ROWS, CODE}
+use Rattle.layout.specs.Sizes.{MODEL-ROWS, CODE, MODEL}
 use Rattle.rules.specs.Walk.{Group, place, seq, alt, opt, plus, and, Members, one, also}
 use Rattle.model_sets.specs.Sets.{size, sizeM, Numbered, NumberedM}
 use Rattle.and_laws.specs.Fold.{clash}
 use Rattle.and_laws.specs.Code.{Six, sixes, eval, evalM, six-eval}
-use Rattle.model_code.specs.Means.{stepCode, runCode, Told}
+use Rattle.model_code.specs.Means.{putCode, codeNext, stepCode, runCode, Told}
 
-abbrev count : Members → ℕ
+-- How many members there are.
+abbrev pub count : Members → ℕ
 count (one g) = 1
 count (also m g) = count m + 1
 
@@ -34,6 +37,34 @@ abbrev mutual
 abbrev pub codeIn : List ℕ → ℕ → List ℕ
 codeIn T zero = []
 codeIn T (suc n) = codeIn T n ++ getD T (MODEL-ROWS + n) 0 ∷ []
+
+-- The code does not ask what stands in the rows.
+pub code-same : (T S : List ℕ) → ((k : ℕ) → MODEL-ROWS ≤ k → getD S k 0 ≡ getD T k 0) → (n : ℕ) → codeIn S n ≡ codeIn T n
+code-same T S same zero = refl
+code-same T S same (suc n) = rw (code-same T S same n, same (MODEL-ROWS + n) (omega arith))
+
+-- A number put behind n others.
+module _ (T : List ℕ) (n op : ℕ) (room : n < CODE) where
+  put-is : putCode T n op ≡ set T (MODEL-ROWS + n) op
+  put-is = rw (lt-ltb n CODE room)
+
+  pub put-next : codeNext n ≡ n + 1
+  put-next = rw (lt-ltb n CODE room)
+
+  pub put-rows : (k : ℕ) → k < MODEL-ROWS → getD (putCode T n op) k 0 ≡ getD T k 0
+  put-rows k h = ap (λ (S : List ℕ). getD S k 0) put-is ∙ getD-set-other T (MODEL-ROWS + n) k op 0 (λ e. omega arith)
+
+  pub put-length : length (putCode T n op) ≡ length T
+  put-length = ap length put-is ∙ length-set T (MODEL-ROWS + n) op
+
+  before-put : (m : ℕ) → m ≤ n → codeIn (set T (MODEL-ROWS + n) op) m ≡ codeIn T m
+  before-put zero l = refl
+  before-put (suc m) l = rw (before-put m (omega arith), getD-set-other T (MODEL-ROWS + n) (MODEL-ROWS + m) op 0 (λ e. omega arith))
+
+  pub code-put : length T ≡ MODEL → codeIn (putCode T n op) (codeNext n) ≡ codeIn T n ++ op ∷ []
+  code-put len =
+      let e : codeNext n ≡ suc n = put-next ∙ add-one n in
+      rw (e, put-is, before-put n (omega arith), getD-set-same T (MODEL-ROWS + n) op 0 (omega arith))
 
 -- Numbers one after the other.
 abbrev runNumbers : (p q : ℕ) → List ℕ → List Six → List Six

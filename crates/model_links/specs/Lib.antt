@@ -2,3 +2,4 @@
 pub mod Each
 pub mod Links
 pub mod Cells
+pub mod Behind

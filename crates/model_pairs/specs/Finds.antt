@@ -12,7 +12,7 @@ use borrow.Author.Tests.{eqb-true}
 use Rattle.rules.specs.Walk.{Group, place, seq, alt, opt, plus, and, once, Walk, Begins, lastOr0}
 use Rattle.rules.specs.Ambiguity.{PairAtFault, FirstPair}
 use Rattle.rules.specs.Judge.{samePlace}
-use Rattle.layout.specs.Sizes.{MODEL-ROW, MODEL-ROWS, CODE}
+use Rattle.layout.specs.Sizes.{MODEL-ROW, CODE}
 use Rattle.model_sets.specs.Bits.{and-left, and-right, and-both, or-cases, or-left, or-right}
 use Rattle.model_sets.specs.Sets.{size, Numbered, has, follow, nextIn}
 use Rattle.model_sets.specs.Search.{searchPair}
@@ -22,9 +22,8 @@ use Rattle.and_laws.specs.Fold.{clash, some-walk}
 use Rattle.and_laws.specs.Pairs.{both-clash}
 use Rattle.and_laws.specs.Begun.{begins-none, lastOr0-snoc, next-of, next-last}
 use Rattle.and_laws.specs.First.{clash-row, firstPairOf, firstPairOf-none, firstPairOf-is}
-use Rattle.model_table.specs.Fill.{tableOf}
 use Rattle.model_table.specs.Places.{none-follow}
-use Rattle.model_table.specs.Means.{table-says}
+use Rattle.model_table.specs.Means.{Says}
 use Rattle.model_names.specs.Places.{placesOf}
 use Rattle.model_code.specs.Spelled.{codes, codeIn, told-clash}
 use Rattle.model_pairs.specs.Rows.{rowIn, clashIn, Tells, faultIn}
@@ -97,13 +96,13 @@ is-bit : (b : Bool) → eqb (cond b 1 0) 1 ≡ b
 is-bit true = refl
 is-bit false = refl
 
--- The table of a group says in its rows what the group's table says, and spells the group behind them; without "&" where it is said so.
+-- The table says in its rows what is computed of the group g, and spells g behind them; g is without "&" where that is said.
 pub record Holds (table : List ℕ) (g : Group) (n code : ℕ) (has-and : Bool) : Type 0 where
   pub numbered : Numbered g 1
   pub guarded : Guarded g
   pub sized : size g ≡ n
   pub few : n ≤ 96
-  pub rows : (k : ℕ) → k < MODEL-ROWS → getD table k 0 ≡ getD (tableOf g) k 0
+  pub says : Says g table
   pub room : code ≤ CODE
   pub spelled : codeIn table code ≡ codes g
   pub plain : has-and ≡ false → Plain g
@@ -114,7 +113,7 @@ module _ (table : List ℕ) (g : Group) (n code : ℕ) (has-and : Bool) (holds :
   row-says u p u-to p-from p-to =
       let few = holds .few in
       let sized = holds .sized in
-      ap (λ (x : ℕ). eqb x 1) (holds .rows (u * MODEL-ROW + p) (omega arith) ∙ table-says g (holds .numbered) (omega arith) .next u p (omega arith) p-from (omega arith)) ∙ is-bit (nextIn g u p)
+      ap (λ (x : ℕ). eqb x 1) (holds .says .next u p (omega arith) p-from (omega arith)) ∙ is-bit (nextIn g u p)
 
   pub tells : Tells table n code has-and (clash g)
   tells =

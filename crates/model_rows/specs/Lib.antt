@@ -1,3 +1,4 @@
 -- How the rows of a model's table become bits, and what they then say.
 pub mod Bits
 pub mod Rows
+pub mod Required

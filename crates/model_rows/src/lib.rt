@@ -9,10 +9,10 @@ use layout::Place;
 use layout::ROWS;
 ghost use mathlib.Core.Path.{_≡_};
 ghost use Prim.Native.Nat.{_+_, _*_, _≤_, _<_};
-ghost use lib.ListN.{length};
+ghost use lib.ListN.{length, getD};
 ghost use Rattle.layout.specs.Sizes.{MODEL, ROWS};
 ghost use Rattle.model_rows.specs.Bits.{cellOf, packedOf};
-ghost use Rattle.model_rows.specs.Rows.{RowPut, RowsPut};
+ghost use Rattle.model_rows.specs.Rows.{RowPut, RowsDue, RowsPut};
 
 // Whether a number of a model's table is 1, as 1 or 0.
 fn cell(table: &[u8; MODEL], i: usize) -> u8
@@ -37,10 +37,10 @@ fn packed(table: &[u8; MODEL], i: usize) -> u8
         + cell(table, i + 7) * 128
 }
 
-// The row of the element e after the place u.
+// The row of the element e after the place u; the required place is kept `raise` higher.
 fn put_row(rows: &mut [u8; ROWS], e: ElementNo, table: &[u8; MODEL], u: Place, raise: u8)
-    requires { ⌜ (e .0 ≤ 64) × (u .0 ≤ 96) × (length (now rows) ≡ ROWS) ⌝ }
-    ensures { λ _. ⌜ RowPut (now (table .entry)) (e .0) (u .0) (now (rows .entry)) (now (rows .exit)) ⌝ }
+    requires { ⌜ (e .0 ≤ 64) × (u .0 ≤ 96) × (length (now rows) ≡ ROWS) × (getD (now table) (u .0 * 98 + 97) 0 ≤ 96) × (raise ≤ 128) ⌝ }
+    ensures { λ _. ⌜ RowPut (now (table .entry)) (e .0) (u .0) raise (now (rows .entry)) (now (rows .exit)) ⌝ }
 {
     let r = type_tables::row(e, u);
     let mut j = 0;
@@ -53,10 +53,10 @@ fn put_row(rows: &mut [u8; ROWS], e: ElementNo, table: &[u8; MODEL], u: Place, r
     rows[r + 13] = required + raise;
 }
 
-// The rows of the element e, whose model has `count` places.
+// The rows of the element e, whose model has `count` places. After a place the required place is kept `raise` higher.
 pub fn put_rows(rows: &mut [u8; ROWS], e: ElementNo, table: &[u8; MODEL], count: usize, raise: u8)
-    requires { ⌜ (e .0 ≤ 64) × (count ≤ 96) × (length (now rows) ≡ ROWS) ⌝ }
-    ensures { λ _. ⌜ RowsPut (now (table .entry)) (e .0) (now (rows .entry)) (now (rows .exit)) (count + 1) ⌝ }
+    requires { ⌜ RowsDue (now table) (e .0) count (now rows) × (raise ≤ 128) ⌝ }
+    ensures { λ _. ⌜ RowsPut (now (table .entry)) (e .0) raise (now (rows .entry)) (now (rows .exit)) (count + 1) ⌝ }
 {
     let start = Place(0);
     put_row(rows, e, table, start, 0);

@@ -2,3 +2,4 @@
 pub mod Fill
 pub mod Places
 pub mod Means
+pub mod Behind

@@ -37,7 +37,7 @@ pub record Fresh (lo : ℕ) (T : List ℕ) : Type 0 where
   pub row-0 : (k : ℕ) → lo ≤ k → k < 97 → getD T k 0 ≡ 0
   pub rows : (k : ℕ) → lo * MODEL-ROW ≤ k → k < MODEL-ROWS → getD T k 0 ≡ 0
 
-fresh-after : (g : Group) (lo : ℕ) (T S : List ℕ) → 1 ≤ lo → Fresh lo T → Filled g lo T S → Fresh (lo + size g) S
+pub fresh-after : (g : Group) (lo : ℕ) (T S : List ℕ) → 1 ≤ lo → Fresh lo T → Filled g lo T S → Fresh (lo + size g) S
 fresh-after g lo T S from t s =
     record {
       len = s .len;
@@ -45,8 +45,23 @@ fresh-after g lo T S from t s =
       rows = λ k ge lt. s .over k ge lt ∙ t .rows k (omega arith) lt;
     }
 
+-- What S says, R says too, if its rows are those of S.
+pub shows-same : {lo hi : ℕ} {T S : List ℕ} {F L : ℕ → Bool} {N : ℕ → ℕ → Bool} {M : ℕ → ℕ} (R : List ℕ) → lo ≤ 97 → hi ≤ 97 → length R ≡ MODEL → ((k : ℕ) → k < MODEL-ROWS → getD R k 0 ≡ getD S k 0)
+    → Shows lo hi T S F L N M → Shows lo hi T R F L N M
+shows-same R lo-to hi-to l same s =
+    record {
+      len = l;
+      under = λ k lt. same k (omega arith) ∙ s .under k lt;
+      between = λ k le lt. same k (omega arith) ∙ s .between k le lt;
+      over = λ k le lt. same k lt ∙ s .over k le lt;
+      begins = λ p ge lt. same p (omega arith) ∙ s .begins p ge lt;
+      ends = λ u ge lt. same (u * MODEL-ROW) (omega arith) ∙ s .ends u ge lt;
+      follows = λ u p ge lt p-from p-to. same (u * MODEL-ROW + p) (omega arith) ∙ s .follows u p ge lt p-from p-to;
+      requires = λ u ge lt. same (u * MODEL-ROW + 97) (omega arith) ∙ s .requires u ge lt;
+    }
+
 -- a place alone
-placed : (n lo : ℕ) (T : List ℕ) → 1 ≤ lo → lo + 1 ≤ 97 → n ≡ lo → Fresh lo T → Filled (place n) lo T (putPlace T n)
+pub placed : (n lo : ℕ) (T : List ℕ) → 1 ≤ lo → lo + 1 ≤ 97 → n ≡ lo → Fresh lo T → Filled (place n) lo T (putPlace T n)
 placed n lo T from to e t =
     let l = t .len in
     let S : List ℕ = set T n 1 in
@@ -108,7 +123,7 @@ module _ (g h : Group) (lo : ℕ) (from : 1 ≤ lo) (to : lo + size g + size h �
   on-both P in-g in-h p ge lt =
       ⊎-elim (λ (x : p < lo + size g). in-g p ge x) (λ (x : lo + size g ≤ p). in-h p x (omega arith)) (below-or-from p (lo + size g))
 
-  both : (T R S : List ℕ) → Filled g lo T R → Filled h (lo + size g) R S → Filled (alt g h) lo T S
+  pub both : (T R S : List ℕ) → Filled g lo T R → Filled h (lo + size g) R S → Filled (alt g h) lo T S
   both T R S fg fh =
       record {
         len = fh .len;
@@ -370,7 +385,7 @@ module _ (g h : Group) (lo : ℕ) (from : 1 ≤ lo) (to : lo + size g + size h �
       }
 
   -- the two in sequence
-  sequence : (T S : List ℕ) → Filled (alt g h) lo T S
+  pub sequence : (T S : List ℕ) → Filled (alt g h) lo T S
       → Filled (seq g h) lo T (joinSeq S lo (lo + size g) (lo + size g + size h) (partOf g) (partOf h))
   unfolding R closeEnds closeStarts
   sequence T S s =
@@ -380,7 +395,7 @@ module _ (g h : Group) (lo : ℕ) (from : 1 ≤ lo) (to : lo + size g + size h �
       (ends-closed T linked-up (in-sequence T S s) (nullable h))
 
   -- the two in any order
-  any-order : (T S : List ℕ) → Filled (alt g h) lo T S
+  pub any-order : (T S : List ℕ) → Filled (alt g h) lo T S
       → Shows lo (lo + (size g + size h)) T (joinAnd S lo (lo + size g) (lo + size g + size h)) (first (alt g h)) (last (alt g h))
       (λ u p. (follow g u p || follow h u p) || ((last g u && first h p) || (last h u && first g p))) (mustAfter (alt g h))
   unfolding R Q
@@ -395,7 +410,7 @@ module _ (g : Group) (lo : ℕ) (from : 1 ≤ lo) (to : lo + size g ≤ 97) (gn 
       (λ p ge. none-first g p (has-over g lo p gn ge))
       (last g) S lo (lo + size g) (s .len) from (omega arith) to (s .begins) (s .ends)
 
-  repeats : Filled (plus g) lo T (link S lo (lo + size g) lo (lo + size g))
+  pub repeats : Filled (plus g) lo T (link S lo (lo + size g) lo (lo + size g))
   repeats =
       let R : List ℕ = link S lo (lo + size g) lo (lo + size g) in
       let r = again in
@@ -501,7 +516,7 @@ module _ (g : Group) (gn : Numbered g 1) (to : size g ≤ 96) (F : List ℕ) (f 
       getD-set-same Z 97 (must g) 0 (omega arith)
   required-in (suc u) le = as-filled (suc u * MODEL-ROW + 97) (omega arith) (omega arith) ∙ f .requires (suc u) (omega arith) (omega arith)
 
-  says : Says g (finished F (partOf g))
+  pub says : Says g (finished F (partOf g))
   unfolding Z
   says =
       record {

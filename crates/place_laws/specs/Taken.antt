@@ -21,9 +21,10 @@ use Rattle.rules.specs.Acts.{Declared, dataTaken, Deed, opened, passed, inferre
 use Rattle.text.specs.Laws.{sameText-refl}
 use Rattle.rules_laws.specs.Names.{samePlace-refl}
 use Rattle.model_sets.specs.Bits.{and-left, and-right}
-use Rattle.model_sets.specs.Reach.{lastOr0-snoc, next-sound}
-use Rattle.model_sets.specs.Pairs.{next-range}
-use Rattle.document_laws.specs.Decide.{names-same}
+use Rattle.and_laws.specs.Begun.{lastOr0-snoc, next-range}
+use Rattle.rules_laws.specs.Groups.{GuardedIn}
+use Rattle.document_laws.specs.Decide.{names-same, content-guarded}
+use Rattle.document_laws.specs.Numbers.{typeFile-guarded}
 use Rattle.document_laws.specs.Chain.{inferable-may}
 use Rattle.document_laws.specs.Moves.{placeTaken-took, fits, required}
 use Rattle.document_laws.specs.Same.{Begun, AllBegun, nothing-begun, begun-moves}
@@ -70,7 +71,8 @@ module _ {c : Settings} (s : List ℕ) (es : List Element) (accepted : Accepts c
   place-range : (m : ℕ) {g : Group} {ps : List Place} {n : ℕ} → contentOf es m ≡ model g ps n → (taken : List ℕ) (t : Token) (p : ℕ) → Fits s es g ps taken t p → (1 ≤ p) × (p ≤ length ps)
   place-range m {g} e taken t p x =
       let (many, few, numbered) = typeFile-width c s es (accepted .elements) m e in
-      omega (arith, next-range g numbered (lastOr0 taken) p (next-sound g 1 numbered (omega arith) taken p (x .next)), many)
+      let guarded = subst GuardedIn e (content-guarded es (typeFile-guarded c s es (accepted .elements) (accepted .unrepeated)) m) in
+      omega (arith, next-range g numbered guarded taken p (x .next), many)
 
   -- The document itself has one place, that of the first element.
   first-named : {g : Group} {ps : List Place} {n : ℕ} → contentOf es 0 ≡ model g ps n → (taken : List ℕ) (k p : ℕ) → 1 ≤ k → k ≤ length es → Fits s es g ps taken (start k) p → k ≡ 1
@@ -161,7 +163,7 @@ module _ {c : Settings} (s : List ℕ) (es : List Element) (accepted : Accepts c
         let named : numberOf s es s (placeAt (x .places) (p - 1) .at) (placeAt (x .places) (p - 1) .size) ≡ k = rw (x .has) at (inferable-named s es D o k i l) in
         let r = means .walks (o .number) (x .has) (o .taken) (x .begins) .required .some (may .place) in
         took-place o x k p e l declared number (place ∙ placeTaken-took o p)
-        (record { name = named-number c s es (accepted .elements) (x .places) k p l declared .1 named; next = r .0 })
+        (record { name = named-number c s es (accepted .elements) (x .places) k p l declared .1 named; next = r .next })
 
     deed-adds : {z y : State} → AllBegun es z → Deed s es D z y → Adds z y
     deed-adds {z} b (opened k at after d f m) = one _ refl (λ i. fits-took z b k d f _ refl refl) (λ n. absurd (n (inl refl)))

@@ -25,6 +25,29 @@ mutual
 abbrev pub star : Group → Group
 star g = opt (plus g)
 
+-- A group without "&" groups, at any depth.
+abbrev pub Plain : Group → Type 0
+Plain (place n) = n ≡ n
+Plain (seq g h) = Plain g × Plain h
+Plain (alt g h) = Plain g × Plain h
+Plain (opt g) = Plain g
+Plain (plus g) = Plain g
+Plain (and m) = ⊥
+
+-- "An "&" group may not stand, at any depth, in a token or group that carries "+" or "*", nor carry one" (paper 02, request twelve).
+abbrev mutual
+  pub Guarded : Group → Type 0
+  Guarded (place n) = n ≡ n
+  Guarded (seq g h) = Guarded g × Guarded h
+  Guarded (alt g h) = Guarded g × Guarded h
+  Guarded (opt g) = Guarded g
+  Guarded (plus g) = Plain g
+  Guarded (and m) = GuardedM m
+
+  pub GuardedM : Members → Type 0
+  GuardedM (one g) = Guarded g
+  GuardedM (also m g) = GuardedM m × Guarded g
+
 -- One or more sequences of P, one after the other.
 pub data Runs (P : List ℕ → Type 0) : List ℕ → Type 0 where
   once : {w : List ℕ} → P w → Runs P w

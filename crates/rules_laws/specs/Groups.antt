@@ -96,7 +96,7 @@ module _ {R : (number position : ℕ) → Type 0} (s : List ℕ) where
     pub further-holds : {P : Further → Type 0} (k joint : ℕ) (t : Tokens)
         → ((m k : ℕ) → InFrom s (t .at) m k → R m k)
         → ((i : ℕ) → t .at ≤ i → i < length s → P (closed (grouped (t .group) (i + 1) (t .repeated) t)))
-        → ((b i j : ℕ) → isConnector b ≡ true → t .at ≤ i → i < length s → t .at ≤ j → j ≤ length s
+        → ((b i j : ℕ) → isConnector b ≡ true → b ≡ byteAt s i → t .at ≤ i → i < length s → t .at ≤ j → j ≤ length s
         → Holds R P (andThen (token c inner s j (leb GRPCNT k || leb GRPGTCNT (t .tokens)) (t .places) (t .tokens)) (λ u. got (joined b (joinTokens k b i t u)))))
         → Holds R P (further c inner s k joint t)
     unfolding further
@@ -110,7 +110,7 @@ module _ {R : (number position : ℕ) → Type 0} (s : List ℕ) where
         (λ y. either (isConnector b && (eqb joint 0 || eqb joint b))
         (λ z.
         let l = test-in (λ v. isConnector v && (eqb joint 0 || eqb joint v)) refl s i z in
-        next b i (separatorsEnd s (i + 1)) (and-left (isConnector b) _ z) from l (omega (arith, from, separatorsEnd-from s (i + 1))) (separatorsEnd-le s (i + 1) (omega arith)))
+        next b i (separatorsEnd s (i + 1)) (and-left (isConnector b) _ z) refl from l (omega (arith, from, separatorsEnd-from s (i + 1))) (separatorsEnd-le s (i + 1) (omega arith)))
         (λ z. stops (stop 4 i (λ h. omega (arith, inside h))))))
 
 -- Room
@@ -128,7 +128,7 @@ module _ (c : Settings) (inner : ℕ → List Place → ℕ → Reading Tokens) 
   further-roomy : (k joint : ℕ) (t : Tokens) → Gives (Roomy k) (further c inner s k joint t)
   further-roomy k joint t =
       further-holds s c inner k joint t (λ m k h. tt) (λ i l h. tt)
-      (λ b i j q f m l h. on (token-room j (leb GRPCNT k || leb GRPGTCNT (t .tokens)) (t .places) (t .tokens)) (λ u x. reads (leb-false GRPCNT k (or-none _ _ x .0))))
+      (λ b i j q e f m l h. on (token-room j (leb GRPCNT k || leb GRPGTCNT (t .tokens)) (t .places) (t .tokens)) (λ u x. reads (leb-false GRPCNT k (or-none _ _ x .0))))
 
   pub further-room : (k joint : ℕ) (t : Tokens) (b : ℕ) (u : Tokens) → further c inner s k joint t ≡ got (joined b u) → k < GRPCNT
   further-room k joint t b u e = got-so (further-roomy k joint t) e
@@ -199,7 +199,7 @@ indicated-plain t repeated x = x
 indicated-plain t any x = x
 
 -- Of two positions the first is 0 where both are.
-earlier-none : (i j : ℕ) → earlier i j ≡ 0 → (i ≡ 0) × (j ≡ 0)
+pub earlier-none : (i j : ℕ) → earlier i j ≡ 0 → (i ≡ 0) × (j ≡ 0)
 earlier-none i j e = bool-cases (eqb i 0) (λ x. (eqb-true i 0 x, rw (x, earlier) at e)) (λ x. absurd (not-both x (eq-eqb i 0 (rw (x, earlier) at e))))
 
 member-guarded : (g h : Group) → Guarded g → Guarded h → Guarded (and (also (membersOf g) h))
@@ -257,7 +257,7 @@ module _ (c : Settings) (s : List ℕ) {T : List Place → Group → List Place 
       (λ e. whichever (λ (z : Group). T ps z rs) (eqb b 124) (λ f. build .choice x y)
       (λ f. whichever (λ (z : Members). T ps (and (also z h)) rs) (leb k 1) (λ i. build .anyOrder x y) (λ i. member-more g x y)))
 
-  occurrence-read : {at : ℕ} {ps : List Place} (t : Tokens) → Read s T at ps t → Read s T at ps (occurrence s t)
+  pub occurrence-read : {at : ℕ} {ps : List Place} (t : Tokens) → Read s T at ps t → Read s T at ps (occurrence s t)
   occurrence-read {at} {ps} t r =
       occurrence-holds (Read s T at ps) s t r (λ g n i l. record { from = omega (arith, r .from); inside = omega arith; fits = r .fits; built = indicated i (r .built); some = omega arith; plain = λ e. indicated-plain t i (r .plain e); guarded = indicated-guarded t i (r .plain) (r .guarded) })
 
@@ -301,7 +301,7 @@ module _ (c : Settings) (s : List ℕ) {T : List Place → Group → List Place 
     further-read {at} {ps} k joint t r =
         further-holds s c inner k joint t (λ m k i. i (r .inside))
         (λ i l h. record { from = omega (arith, r .from); inside = omega arith; fits = r .fits; built = r .built; some = omega arith; plain = r .plain; guarded = r .guarded })
-        (λ b i j q f m l h.
+        (λ b i j q e f m l h.
         on (token-read j (leb GRPCNT k || leb GRPGTCNT (t .tokens)) (t .places) (t .tokens) h (r .fits) (λ x. leb-false _ _ (or-none (leb GRPCNT k) _ x .1)))
         (λ u v. reads (record {
           from = omega (arith, r .from, v .from);

@@ -5,3 +5,4 @@ pub mod Names
 pub mod Width
 pub mod Pcdata
 pub mod Again
+pub mod Members

@@ -1,8 +1,9 @@
+-- `lacks` meets its contract: the bits of the members that cannot be nothing are all set, or not.
+use mathlib.Core.Path.{refl}
+use Rattle.and_groups.specs.Lacking.{lacks-by}
 use borrow.Author.Needs.{needs}
 use Rattle.and_groups.proofs.lacks.Statement.{statement}
 use Rattle.and_groups.proofs.lacks.Tie as tie
-use Rattle.begun_bits.proofs.idle.Reads as idle-reads
-use Rattle.begun_bits.proofs.of_group.Reads as of-group-reads
 
 of-group-requires : tie.Need-of-group-requires
 of-group-requires c κs = search needs
@@ -14,7 +15,7 @@ idle-requires : tie.Need-idle-requires
 idle-requires c κs = search needs
 
 returns : tie.Need-returns
-returns c = ?
+returns c = lacks-by _ _ _ _ _ _ _ _ (c .before .before .of-group .ensures .0) (c .idle .ensures) (c .before .of-group2 .ensures .0) _ refl
 
 pub lacks-spec : {M : Type 1} → statement M
 lacks-spec = tie.close (tie.spec of-group-requires of-group-requires-2 idle-requires returns)

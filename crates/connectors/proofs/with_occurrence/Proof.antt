@@ -7,17 +7,19 @@ use Rattle.connectors.proofs.with_occurrence.Tie as tie
 byte-requires : tie.Need-byte-requires
 byte-requires c κs = search needs
 
-add-t11 : tie.Need-add-t11
-add-t11 c = search needs
+add-t14 : tie.Need-add-t14
+add-t14 c = search needs
 
 optional-requires : tie.Need-optional-requires
 optional-requires c κs = search needs
 
+put-requires : tie.Need-put-requires
+put-requires c κs = search needs
+
 returns : tie.Need-returns
-returns c T names t K =
-    let b = c .before .before in
-    let x = b .before .before .before .args in
-    occurs-opt (x .s .now) (x .lo) T names _ (x .m) t K (b .byte .result) (b .byte .ensures) _ (c .before .if1 .taken) (c .optional .ensures)
+returns c T names n d t K =
+    let x = c .before .before .before .before .before .before .before .args in
+    occurs-opt (x .s .now) (x .lo) T n d names _ (x .m) t K (c .before .before .before .before .byte .result) (c .before .before .before .before .byte .ensures) _ _ _ (c .before .before .before .if1 .taken) (c .before .before .optional .ensures) (c .put .ensures .0) (c .put .ensures .1)
 
 add-repeat : tie.Need-add-repeat
 add-repeat c = search needs
@@ -25,15 +27,16 @@ add-repeat c = search needs
 repeat-requires : tie.Need-repeat-requires
 repeat-requires c κs = search needs
 
-add-t15 : tie.Need-add-t15
-add-t15 c = search needs
+add-t20 : tie.Need-add-t20
+add-t20 c = search needs
+
+put-requires-2 : tie.Need-put-requires-2
+put-requires-2 c κs = search needs
 
 returns-2 : tie.Need-returns-2
-returns-2 c T names t K =
-    let d = c .before .before in
-    let b = d .before .before in
-    let x = b .before .before .before .args in
-    occurs-plus (x .s .now) (x .lo) T names _ (x .m) t K (b .byte .result) (b .byte .ensures) _ (d .before .if1 .left) (c .repeat .ensures) (d .if2 .taken)
+returns-2 c T names n d t K =
+    let x = c .before .before .before .before .before .before .before .before .before .args in
+    occurs-plus (x .s .now) (x .lo) T n d names _ (x .m) t K (c .before .before .before .before .before .before .byte .result) (c .before .before .before .before .before .before .byte .ensures) _ (c .before .before .before .before .before .if1 .left) (c .before .before .repeat .ensures) _ _ (c .before .before .before .before .if2 .taken) (c .put2 .ensures .0) (c .put2 .ensures .1)
 
 add-repeat-2 : tie.Need-add-repeat-2
 add-repeat-2 c = search needs
@@ -41,40 +44,47 @@ add-repeat-2 c = search needs
 repeat-requires-2 : tie.Need-repeat-requires-2
 repeat-requires-2 c κs = search needs
 
-add-t18 : tie.Need-add-t18
-add-t18 c = search needs
+put-requires-3 : tie.Need-put-requires-3
+put-requires-3 c κs = search needs
+
+add-t25 : tie.Need-add-t25
+add-t25 c = search needs
 
 optional-requires-2 : tie.Need-optional-requires-2
 optional-requires-2 c κs = search needs
 
+put-requires-4 : tie.Need-put-requires-4
+put-requires-4 c κs = search needs
+
 returns-3 : tie.Need-returns-3
-returns-3 c T names t K =
-    let d = c .before .before .before in
-    let b = d .before .before .before in
-    let x = b .before .before .before .args in
-    occurs-star (x .s .now) (x .lo) T names _ (x .m) t K (b .byte .result) (b .byte .ensures) _ (d .before .before .if1 .left) (c .before .repeat2 .ensures) _ (d .before .if2 .left) (d .if3 .taken) (c .optional2 .ensures)
+returns-3 c T names n d t K =
+    let x = c .before .before .before .before .before .before .before .before .before .before .before .before .before .args in
+    occurs-star (x .s .now) (x .lo) T n d names _ (x .m) t K (c .before .before .before .before .before .before .before .before .before .before .byte .result) (c .before .before .before .before .before .before .before .before .before .before .byte .ensures) _ (c .before .before .before .before .before .before .before .before .before .if1 .left) (c .before .before .before .before .before .repeat2 .ensures) _ _ _ _ _ (c .before .before .before .before .before .before .before .before .if2 .left) (c .before .before .before .before .before .before .before .if3 .taken) (c .before .before .optional2 .ensures) (c .before .before .before .put3 .ensures .0) (c .before .before .before .put3 .ensures .1) (c .put4 .ensures .0) (c .put4 .ensures .1)
 
 returns-4 : tie.Need-returns-4
-returns-4 c T names t K =
-    let b = c .before .before .before in
-    let x = b .before .before .before .args in
-    occurs-not (x .s .now) (x .lo) T names _ (x .m) t K (b .byte .result) (b .byte .ensures) (c .before .before .if1 .left) (c .before .if2 .left) (c .if3 .left)
+returns-4 c T names n d t K =
+    let x = c .before .before .before .before .before .before .args in
+    occurs-not (x .s .now) (x .lo) T n d names _ (x .m) t K (c .before .before .before .byte .result) (c .before .before .before .byte .ensures) (c .before .before .if1 .left) (c .before .if2 .left) (c .if3 .left)
 
 pub with-occurrence-spec : {M : Type 1} → statement M
 with-occurrence-spec =
     tie.close
     (tie.spec
     byte-requires
-    add-t11
+    add-t14
     optional-requires
+    put-requires
     returns
     add-repeat
     repeat-requires
-    add-t15
+    add-t20
+    put-requires-2
     returns-2
     add-repeat-2
     repeat-requires-2
-    add-t18
+    put-requires-3
+    add-t25
     optional-requires-2
+    put-requires-4
     returns-3
     returns-4)

@@ -12,6 +12,17 @@ use Rattle.content_tokens.specs.Tokens.{data-word, data-full, data-got, 
 use Rattle.content_tokens.proofs.data_token.Statement.{statement}
 use Rattle.content_tokens.proofs.data_token.Tie as tie
 
+-- what the test says of the byte after `#`
+is-one : (c : tie.Then1) → letter (byteAt (c .before .before .before .before .args .s .now) (c .before .before .before .before .args .at + 1)) ≡ true
+is-one c = ap letter (sym (c .before .before .byte .ensures)) ∙ sym (c .before .is-letter .ensures) ∙ c .if1 .taken
+
+is-none : (c : tie.Else1) → letter (byteAt (c .before .before .before .before .args .s .now) (c .before .before .before .before .args .at + 1)) ≡ false
+is-none c = ap letter (sym (c .before .before .byte .ensures)) ∙ sym (c .before .is-letter .ensures) ∙ c .if1 .left
+
+-- room for one more token
+room : (c : tie.Else3) → (c .before .before .before .before .before .before .before .before .before .args .places ≤ c .before .before .before .before .before .before .before .before .before .args .tokens) × (c .before .before .before .before .before .before .before .before .before .args .tokens < 96)
+room c = (c .before .before .before .before .before .before .before .before .before .pre .1 .0, c .before .before .before .before .before .before .before .before .before .pre .1 .1 (c .if3 .left))
+
 add-byte : tie.Need-add-byte
 add-byte c = search needs
 
@@ -20,13 +31,6 @@ byte-requires c κs = search needs
 
 is-letter-requires : tie.Need-is-letter-requires
 is-letter-requires c κs = search needs
-
--- what the test says of the byte after `#`
-is-one : (c : tie.Then1) → letter (byteAt (c .before .before .before .before .args .s .now) (c .before .before .before .before .args .at + 1)) ≡ true
-is-one c = ap letter (sym (c .before .before .byte .ensures)) ∙ sym (c .before .is-letter .ensures) ∙ c .if1 .taken
-
-is-none : (c : tie.Else1) → letter (byteAt (c .before .before .before .before .args .s .now) (c .before .before .before .before .args .at + 1)) ≡ false
-is-none c = ap letter (sym (c .before .before .byte .ensures)) ∙ sym (c .before .is-letter .ensures) ∙ c .if1 .left
 
 add-name-end : tie.Need-add-name-end
 add-name-end c = search needs
@@ -42,49 +46,35 @@ slice-aggregate-is-word c = search needs
 
 is-word-requires : tie.Need-is-word-requires
 is-word-requires c κs =
-    let e = c .before in
-    let a = e .before .before .before .before .before in
-    let x = a .args in
-    omega (arith, a .pre, nameEnd-from (x .s .now) (x .at + 1), nameEnd-le (x .s .now) (x .at + 1) (omega arith), e .name-end .ensures)
+    let x = c .before .before .before .before .before .before .args in
+    omega (arith, c .before .before .before .before .before .before .pre, nameEnd-from (x .s .now) (x .at + 1), nameEnd-le (x .s .now) (x .at + 1) (omega arith), c .before .name-end .ensures)
 
 wrong-data-requires : tie.Need-wrong-data-requires
 wrong-data-requires c κs =
-    let e = c .before .before .before in
-    let a = e .before .before .before .before .before in
-    let x = a .args in
-    omega (arith, a .pre, nameEnd-from (x .s .now) (x .at + 1), nameEnd-le (x .s .now) (x .at + 1) (omega arith), e .name-end .ensures)
+    let x = c .before .before .before .before .before .before .before .before .args in
+    omega (arith, c .before .before .before .before .before .before .before .before .pre, nameEnd-from (x .s .now) (x .at + 1), nameEnd-le (x .s .now) (x .at + 1) (omega arith), c .before .before .before .name-end .ensures)
 
 returns : tie.Need-returns
 returns c =
-    let w = c .before .before in
-    let e = w .before .before in
-    let x = e .before .before .before .before .before .args in
-    refused-meets _ _ _ _ _ _ 4 _ _ (c .wrong-data .ensures)
-    (data-word (x .s .now) (x .at) (x .full) _ (x .tokens) (is-one (e .before)) (e .name-end .result) (e .name-end .ensures) (w .is-word .result) (w .is-word .ensures) (not-true _ (c .before .if2 .taken)))
+    let w = c .before .before .is-word in
+    let e = c .before .before .before .before .name-end in
+    let x = c .before .before .before .before .before .before .before .before .before .args in
+    refused-meets _ _ _ _ _ 4 _ _ (c .wrong-data .ensures)
+    (data-word (x .s .now) (x .at) (x .full) _ (x .tokens) (is-one (c .before .before .before .before .before)) (e .result) (e .ensures) (w .result) (w .ensures) (not-true _ (c .before .if2 .taken)))
 
 refusal-requires : tie.Need-refusal-requires
 refusal-requires c κs = search needs
 
 returns-2 : tie.Need-returns-2
 returns-2 c =
-    let d = c .before .before in
-    let w = d .before in
-    let e = w .before .before in
-    let x = e .before .before .before .before .before .args in
-    refused-meets _ _ _ _ _ _ 6 (x .at) _ (c .refusal .ensures)
-    (data-full (x .s .now) (x .at) (x .full) _ (x .tokens) (is-one (e .before)) (e .name-end .result) (e .name-end .ensures) (w .is-word .result) (w .is-word .ensures) (not-false _ (d .if2 .left)) (c .before .if3 .taken))
-
--- room for one more token
-room : (c : tie.Else3) → (c .before .before .before .before .before .before .before .before .before .args .places ≤ c .before .before .before .before .before .before .before .before .before .args .tokens)
-    × (c .before .before .before .before .before .before .before .before .before .args .tokens < 96)
-room c =
-    let a = c .before .before .before .before .before .before .before .before .before in
-    (a .pre .1 .0, a .pre .1 .1 (c .if3 .left))
+    let w = c .before .before .before .is-word in
+    let e = c .before .before .before .before .before .name-end in
+    let x = c .before .before .before .before .before .before .before .before .before .before .args in
+    refused-meets _ _ _ _ _ 6 (x .at) _ (c .refusal .ensures)
+    (data-full (x .s .now) (x .at) (x .full) _ (x .tokens) (is-one (c .before .before .before .before .before .before)) (e .result) (e .ensures) (w .result) (w .ensures) (not-false _ (c .before .before .if2 .left)) (c .before .if3 .taken))
 
 put-name-requires : tie.Need-put-name-requires
-put-name-requires c κs =
-    let a = c .before .before .before .before .before .before .before .before .before .before in
-    omega (arith, a .pre, room (c .before))
+put-name-requires c κs = omega (arith, c .before .before .before .before .before .before .before .before .before .before .pre, room (c .before))
 
 add-p : tie.Need-add-p
 add-p c = omega (arith, room (c .before .before))
@@ -98,26 +88,35 @@ add-repeat c = omega (arith, room (c .before .before .before .before .before))
 repeat-requires : tie.Need-repeat-requires
 repeat-requires c κs = omega (arith, room (c .before .before .before .before .before))
 
-add-t15 : tie.Need-add-t15
-add-t15 c = omega (arith, room (c .before .before .before .before .before .before))
+cast-put : tie.Need-cast-put
+cast-put c = omega (arith, room (c .before .before .before .before .before .before .before))
+
+put-requires : tie.Need-put-requires
+put-requires c κs = search needs
+
+put-requires-2 : tie.Need-put-requires-2
+put-requires-2 c κs = search needs
+
+add-t18 : tie.Need-add-t18
+add-t18 c = omega (arith, room (c .before .before .before .before .before .before .before .before .before .before))
 
 optional-requires : tie.Need-optional-requires
 optional-requires c κs = search needs
 
+put-requires-3 : tie.Need-put-requires-3
+put-requires-3 c κs = search needs
+
 returns-3 : tie.Need-returns-3
 returns-3 c =
-    let r = c .before in
-    let p = r .before .before in
-    let n = p .before .before in
-    let d = n .before .before in
-    let w = d .before .before in
-    let e = w .before .before in
-    let a = e .before .before .before .before .before in
-    let x = a .args in
-    got-meets _ _ _ _ _ _ _ _ _ refl
-    (data-got (x .s .now) (x .at) (x .full) _ (x .tokens) (is-one (e .before)) (e .name-end .result) (e .name-end .ensures) (w .is-word .result) (w .is-word .ensures) (not-false _ (d .before .if2 .left)) (d .if3 .left))
-    (new-data _ (x .at) (e .name-end .result) (x .places) (x .tokens) (x .table .now) (x .names .now) _ _ _ (p .put-place .result) _
-    (omega (arith, nameEnd-le (x .s .now) (x .at + 1) (omega (arith, a .pre)), e .name-end .ensures)) (room d .0) (room d .1) (n .put-name .ensures .0) (p .put-place .ensures .0) (p .put-place .ensures .1) (r .repeat .ensures) (c .optional .ensures))
+    let w = c .before .before .before .before .before .before .before .before .before .before .before .before .before .before .before .is-word in
+    let e = c .before .before .before .before .before .before .before .before .before .before .before .before .before .before .before .before .before .name-end in
+    let few = room (c .before .before .before .before .before .before .before .before .before .before .before .before .before) in
+    let x = c .before .before .before .before .before .before .before .before .before .before .before .before .before .before .before .before .before .before .before .before .before .before .args in
+    got-meets _ _ _ _ _ _ _ _ refl
+    (data-got (x .s .now) (x .at) (x .full) _ (x .tokens) (is-one (c .before .before .before .before .before .before .before .before .before .before .before .before .before .before .before .before .before .before)) (e .result) (e .ensures) (w .result) (w .ensures) (not-false _ (c .before .before .before .before .before .before .before .before .before .before .before .before .before .before .if2 .left)) (c .before .before .before .before .before .before .before .before .before .before .before .before .before .if3 .left))
+    (new-data _ (x .at) (e .result) 0 (x .places) (x .tokens) (x .code) (x .table .now) (x .names .now) _
+    (omega (arith, nameEnd-le (x .s .now) (x .at + 1) (omega (arith, c .before .before .before .before .before .before .before .before .before .before .before .before .before .before .before .before .before .before .before .before .before .before .pre)), e .ensures)) (few .0) (few .1) (c .before .before .before .before .before .before .before .before .before .before .before .put-name .ensures .0) _ (c .before .before .before .before .before .before .before .before .before .put-place .ensures .0) _ _ _ _ _ _ _ _
+    (c .before .before .optional .ensures) (c .before .before .before .before .before .before .before .repeat .ensures) (c .before .before .before .before .before .put .ensures .0) (c .before .before .before .before .before .put .ensures .1) (c .before .before .before .put2 .ensures .0) (c .before .before .before .put2 .ensures .1) (c .put3 .ensures .0) (c .put3 .ensures .1))
 
 add-refusal : tie.Need-add-refusal
 add-refusal c = search needs
@@ -127,9 +126,8 @@ refusal-requires-2 c κs = search needs
 
 returns-4 : tie.Need-returns-4
 returns-4 c =
-    let d = c .before in
-    let x = d .before .before .before .before .args in
-    refused-meets _ _ _ _ _ _ 4 (x .at + 1) _ (c .refusal2 .ensures) (data-none (x .s .now) (x .at) (x .full) _ (x .tokens) (is-none d))
+    let x = c .before .before .before .before .before .args in
+    refused-meets _ _ _ _ _ 4 (x .at + 1) _ (c .refusal2 .ensures) (data-none (x .s .now) (x .at) (x .full) _ (x .tokens) (is-none (c .before)))
 
 pub data-token-spec : {M : Type 1} → statement M
 data-token-spec =
@@ -152,8 +150,12 @@ data-token-spec =
     put-place-requires
     add-repeat
     repeat-requires
-    add-t15
+    cast-put
+    put-requires
+    put-requires-2
+    add-t18
     optional-requires
+    put-requires-3
     returns-3
     add-refusal
     refusal-requires-2

@@ -22,62 +22,54 @@ refusal-requires c κs = search needs
 
 returns : tie.Need-returns
 returns c =
-    let e = c .before .before in
-    let x = e .before .before .args in
-    refused-meets _ _ _ _ _ _ 3 (x .at) _ (c .refusal .ensures) (name-long (settings (x .long)) (x .s .now) (x .at) (e .name-end .result) (x .full) _ (x .tokens) (e .name-end .ensures) (c .before .if1 .taken))
+    let e = c .before .before .name-end in
+    let x = c .before .before .before .before .args in
+    refused-meets _ _ _ _ _ 3 (x .at) _ (c .refusal .ensures) (name-long (settings (x .long)) (x .s .now) (x .at) (e .result) (x .full) _ (x .tokens) (e .ensures) (c .before .if1 .taken))
 
 refusal-requires-2 : tie.Need-refusal-requires-2
 refusal-requires-2 c κs = search needs
 
 returns-2 : tie.Need-returns-2
 returns-2 c =
-    let d = c .before .before in
-    let e = d .before in
-    let x = e .before .before .args in
-    refused-meets _ _ _ _ _ _ 6 (x .at) _ (c .refusal2 .ensures) (name-full (settings (x .long)) (x .s .now) (x .at) (e .name-end .result) (x .full) _ (x .tokens) (e .name-end .ensures) (d .if1 .left) (c .before .if2 .taken))
+    let e = c .before .before .before .name-end in
+    let x = c .before .before .before .before .before .args in
+    refused-meets _ _ _ _ _ 6 (x .at) _ (c .refusal2 .ensures) (name-full (settings (x .long)) (x .s .now) (x .at) (e .result) (x .full) _ (x .tokens) (e .ensures) (c .before .before .if1 .left) (c .before .if2 .taken))
 
 put-name-requires : tie.Need-put-name-requires
 put-name-requires c κs =
-    let e = c .before .before .before in
-    let a = e .before .before in
-    let x = a .args in
-    omega (arith, a .pre, a .pre .1 .1 (c .before .if2 .left), nameEnd-le (x .s .now) (x .at) (a .pre .0 .0), e .name-end .ensures)
+    let x = c .before .before .before .before .before .args in
+    omega (arith, c .before .before .before .before .before .pre, c .before .before .before .before .before .pre .1 .1 (c .before .if2 .left), nameEnd-le (x .s .now) (x .at) (c .before .before .before .before .before .pre .0 .0), c .before .before .before .name-end .ensures)
 
 add-p : tie.Need-add-p
-add-p c =
-    let a = c .before .before .before .before .before .before in
-    omega (arith, a .pre, a .pre .1 .1 (c .before .before .if2 .left))
+add-p c = omega (arith, c .before .before .before .before .before .before .pre, c .before .before .before .before .before .before .pre .1 .1 (c .before .before .if2 .left))
 
 add-count : tie.Need-add-count
-add-count c =
-    let a = c .before .before .before .before .before .before in
-    omega (arith, a .pre, a .pre .1 .1 (c .before .before .if2 .left))
+add-count c = omega (arith, c .before .before .before .before .before .before .pre, c .before .before .before .before .before .before .pre .1 .1 (c .before .before .if2 .left))
 
 put-place-requires : tie.Need-put-place-requires
-put-place-requires c κs =
-    let a = c .before .before .before .before .before .before .before in
-    omega (arith, a .pre, a .pre .1 .1 (c .before .before .before .if2 .left))
+put-place-requires c κs = omega (arith, c .before .before .before .before .before .before .before .pre, c .before .before .before .before .before .before .before .pre .1 .1 (c .before .before .before .if2 .left))
+
+cast-put : tie.Need-cast-put
+cast-put c = omega (arith, c .before .before .before .before .before .before .before .before .before .pre, c .before .before .before .before .before .before .before .before .before .pre .1 .1 (c .before .before .before .before .before .if2 .left))
+
+put-requires : tie.Need-put-requires
+put-requires c κs = search needs
 
 with-occurrence-requires : tie.Need-with-occurrence-requires
 with-occurrence-requires c κs =
-    let e = c .before .before .before .before .before .before .before in
-    let a = e .before .before in
-    let x = a .args in
-    omega (arith, a .pre, a .pre .1 .1 (c .before .before .before .before .before .if2 .left), nameEnd-le (x .s .now) (x .at) (a .pre .0 .0), e .name-end .ensures)
+    let x = c .before .before .before .before .before .before .before .before .before .before .before .args in
+    omega (arith, c .before .before .before .before .before .before .before .before .before .before .before .pre, c .before .before .before .before .before .before .before .before .before .before .before .pre .1 .1 (c .before .before .before .before .before .before .before .if2 .left), nameEnd-le (x .s .now) (x .at) (c .before .before .before .before .before .before .before .before .before .before .before .pre .0 .0), c .before .before .before .before .before .before .before .before .before .name-end .ensures)
 
 returns-3 : tie.Need-returns-3
 returns-3 c =
-    let p = c .before .before in
-    let n = p .before .before in
-    let d = n .before .before in
-    let e = d .before .before in
-    let a = e .before .before in
-    let x = a .args in
-    got-meets _ _ _ _ _ _ _ _ _ refl
-    (name-got (settings (x .long)) (x .s .now) (x .at) (e .name-end .result) (x .full) _ (x .tokens) (e .name-end .ensures) (d .before .if1 .left) (d .if2 .left))
-    (c .with-occurrence .ensures _ _ _
-    (new-place _ (x .at) (e .name-end .result) _ (x .places) (x .tokens) (x .table .now) (x .names .now) _ _ (p .put-place .result)
-    (omega (arith, nameEnd-le (x .s .now) (x .at) (a .pre .0 .0), e .name-end .ensures)) (a .pre .1 .0) (a .pre .1 .1 (d .if2 .left)) (n .put-name .ensures .0) (p .put-place .ensures .0) (p .put-place .ensures .1)))
+    let e = c .before .before .before .before .before .before .before .before .before .before .name-end in
+    let pre = c .before .before .before .before .before .before .before .before .before .before .before .before .pre in
+    let x = c .before .before .before .before .before .before .before .before .before .before .before .before .args in
+    got-meets _ _ _ _ _ _ _ _ refl
+    (name-got (settings (x .long)) (x .s .now) (x .at) (e .result) (x .full) _ (x .tokens) (e .ensures) (c .before .before .before .before .before .before .before .before .before .if1 .left) (c .before .before .before .before .before .before .before .before .if2 .left))
+    (c .with-occurrence .ensures _ _ _ _ _
+    (new-place _ (x .at) (e .result) _ (x .places) (x .tokens) (x .code) (x .table .now) (x .names .now) _
+    (omega (arith, nameEnd-le (x .s .now) (x .at) (pre .0 .0), e .ensures)) (pre .1 .0) (pre .1 .1 (c .before .before .before .before .before .before .before .before .if2 .left)) (c .before .before .before .before .before .before .put-name .ensures .0) _ (c .before .before .before .before .put-place .ensures .0) _ _ _ (c .before .before .before .before .put-place .ensures .1) (c .before .before .put .ensures .0) (c .before .before .put .ensures .1)))
 
 pub name-token-spec : {M : Type 1} → statement M
 name-token-spec =
@@ -93,5 +85,7 @@ name-token-spec =
     add-p
     add-count
     put-place-requires
+    cast-put
+    put-requires
     with-occurrence-requires
     returns-3)

@@ -8,12 +8,22 @@ use Rattle.rules.specs.Settings.{settings}
 use Rattle.rules.specs.Bytes.{GRPLVL}
 use Rattle.rules.specs.Reading.{got}
 use Rattle.rules.specs.TypeFile.{Tokens, group}
-use Rattle.connectors.specs.Kept.{Keeps}
+use Rattle.connectors.specs.Kept.{begun, Keeps}
 use Rattle.content_tokens.specs.Readings.{read-got}
 use Rattle.model_names.specs.Places.{placesOf}
-use Rattle.element_content.specs.Contents.{model-fault, model-refused, model-got, model-kept, body-meets, body-refused}
+use Rattle.element_content.specs.Contents.{model-fault, model-refused, model-got, model-plain, model-guarded, model-kept, body-meets, body-refused}
 use Rattle.element_content.proofs.body_model.Statement.{statement}
 use Rattle.element_content.proofs.body_model.Tie as tie
+
+-- The group was read.
+group-read : (c : tie.After-known-told)
+    → (t : Tokens)
+    × (group (settings (c .before .before .before .before .before .before .before .before .before .args .long)) GRPLVL (c .before .before .before .before .before .before .before .before .before .args .s .now) (c .before .before .before .before .before .before .before .before .before .args .i) [] 0 ≡ got t)
+    × Keeps (length (c .before .before .before .before .before .before .before .before .before .args .s .now)) (begun 1 (c .before .before .before .before .before .before .clear .last .0) 0 2) 1 0 (c .before .before .before .group-at .last .1 .1 .1 .1 .1 .1 .1 .0) (c .before .before .before .group-at .last .1 .1 .1 .1 .1 .1 .1 .1 .0) (c .before .r .given .0 .0) t
+unfolding placesOf
+group-read c =
+    let last = c .before .before .before .group-at .last .1 .1 .1 .1 .1 .1 .1 in
+    read-got (length (c .before .before .before .before .before .before .before .before .before .args .s .now)) (begun 1 (c .before .before .before .before .before .before .clear .last .0) 0 2) (last .0) (last .1 .0) (c .before .r .given .0 .0) _ (rw (c .before .r .given .1) at (c .before .before .before .group-at .ensures))
 
 clear-requires : tie.Need-clear-requires
 clear-requires c κs = search needs
@@ -33,32 +43,11 @@ fault-of-requires c κs = search needs
 returns : tie.Need-returns
 unfolding placesOf
 returns c =
-    let read = c .before .before .before in
-    let a = read .before .before .before .before .before .before .args in
-    let last = read .group-at .last .1 .1 .1 .1 .1 .1 in
-    let T = read .before .before .before .clear .last .0 in
+    let a = c .before .before .before .before .before .before .before .before .before .args in
+    let last = c .before .before .before .group-at .last .1 .1 .1 .1 .1 .1 .1 in
     body-refused (length (a .s .now)) (last .0) (last .1 .0) _ _
     (model-refused (settings (a .long)) (a .s .now) (a .i)
-    (model-fault (length (a .s .now)) 1 T (last .0) (last .1 .0) (read .group-at .result) _ (read .group-at .ensures) (c .before .enum-told .given .1) (c .fault-of .ensures)))
-
--- The group was read.
-group-read : (c : tie.After-known-told)
-    → (t : Tokens)
-    × (group (settings (c .before .before .before .before .before .before .before .before .before .args .long)) GRPLVL (c .before .before .before .before .before .before .before .before .before .args .s .now) (c .before .before .before .before .before .before .before .before .before .args .i) [] 0 ≡ got t)
-    × Keeps
-    (length (c .before .before .before .before .before .before .before .before .before .args .s .now))
-    1
-    (c .before .before .before .before .before .before .clear .last .0)
-    (c .before .before .before .group-at .last .1 .1 .1 .1 .1 .1 .0)
-    (c .before .before .before .group-at .last .1 .1 .1 .1 .1 .1 .1 .0)
-    (c .before .r .given .0 .0)
-    t
-unfolding placesOf
-group-read c =
-    let read = c .before .before .before in
-    let a = read .before .before .before .before .before .before .args in
-    let last = read .group-at .last .1 .1 .1 .1 .1 .1 in
-    read-got (length (a .s .now)) 1 (read .before .before .before .clear .last .0) (last .0) (last .1 .0) (c .before .r .given .0 .0) _ (rw (c .before .r .given .1) at (read .group-at .ensures))
+    (model-fault (length (a .s .now)) (begun 1 (c .before .before .before .before .before .before .clear .last .0) 0 2) (last .0) (last .1 .0) (c .before .before .before .group-at .result) _ (c .before .before .before .group-at .ensures) (c .before .enum-told .given .1) (c .fault-of .ensures)))
 
 with-occurrence-requires : tie.Need-with-occurrence-requires
 with-occurrence-requires c κs =
@@ -68,16 +57,24 @@ with-occurrence-requires c κs =
 finish-requires : tie.Need-finish-requires
 finish-requires c κs = search needs
 
+wide-requires : tie.Need-wide-requires
+wide-requires c κs = search needs
+
+wide-requires-2 : tie.Need-wide-requires-2
+wide-requires-2 c κs = search needs
+
+wide-requires-3 : tie.Need-wide-requires-3
+wide-requires-3 c κs = search needs
+
 returns-2 : tie.Need-returns-2
 returns-2 c =
-    let with = c .before .before .before in
-    let read = with .before .before in
-    let a = read .before .before .before .before .before .before .before .before .before .args in
-    let names = read .before .before .before .group-at .last .1 .1 .1 .1 .1 .1 .0 in
-    let model = group-read read in
-    let kept = with .with-occurrence .ensures _ names (model .0) (model .2) in
-    body-meets (length (a .s .now)) names (c .finish .last .0) _ _ _ (model-got (settings (a .long)) (a .s .now) (a .i) (model .1))
-    (model-kept kept (read .before .before .before .before .before .before .clear .ensures) (c .finish .ensures))
+    let a = c .before .before .before .before .before .before .before .before .before .before .before .before .before .before .before .before .before .args in
+    let names = c .before .before .before .before .before .before .before .before .before .before .before .group-at .last .1 .1 .1 .1 .1 .1 .1 .0 in
+    let model = group-read (c .before .before .before .before .before .before .before .before) in
+    let kept = c .before .before .before .before .before .before .with-occurrence .ensures _ names _ 0 (model .0) (model .2) in
+    body-meets (length (a .s .now)) names (c .before .before .before .finish .last .0) _ _ _ (model-got (settings (a .long)) (a .s .now) (a .i) (model .1))
+    (model-kept kept (model-plain (settings (a .long)) (a .s .now) (a .i) (c .before .before .before .before .before .before .before .before .before .before .before .before .before .before .before .before .before .pre .0) (model .0) (model .1)) (model-guarded (settings (a .long)) (a .s .now) (a .i) (c .before .before .before .before .before .before .before .before .before .before .before .before .before .before .before .before .before .pre .0) (model .0) (model .1)) (c .before .before .before .before .before .before .before .before .before .before .before .before .before .before .clear .ensures)
+    _ _ _ (c .before .before .before .finish .ensures) (c .before .before .wide .ensures .0) (c .before .wide2 .ensures .0) (c .wide3 .ensures .0))
 
 pub body-model-spec : {M : Type 1} → statement M
 body-model-spec =
@@ -91,4 +88,7 @@ body-model-spec =
     returns
     with-occurrence-requires
     finish-requires
+    wide-requires
+    wide-requires-2
+    wide-requires-3
     returns-2)

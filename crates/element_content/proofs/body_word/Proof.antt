@@ -51,7 +51,7 @@ returns-2 c =
     rw (lt-ltb _ _ (c .before .before .before .if2 .taken), ← name .name-end .ensures) (sym (c .before .is-word .ensures) ∙ c .if3 .taken)
     in
     body-meets (length (a .s .now)) (a .names .now) (a .table .now) _ _ _ (word-empty (settings (a .long)) (a .s .now) (a .from) (a .i) (omega arith) passed)
-    (record { at = name .name-end .ensures; at-in = rw (← name .name-end .ensures) (end-in name); content = (refl, refl) })
+    (record { at = name .name-end .ensures; at-in = rw (← name .name-end .ensures) (end-in name); repeated-at = refl; content = (refl, refl) })
 
 slice-aggregate-is-word-2 : tie.Need-slice-aggregate-is-word-2
 slice-aggregate-is-word-2 c = search needs

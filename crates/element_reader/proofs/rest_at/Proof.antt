@@ -167,6 +167,7 @@ returns-5 c es =
       size-in = start (gap-before body) .pre .3;
       start = refl;
       end-tag = refl;
+      repeated-at = kept .2 .repeated-at;
       content = kept .2 .content;
     })
 

@@ -8,10 +8,10 @@ use Rattle.model_rows.proofs.put_row.Statement.{statement}
 use Rattle.model_rows.proofs.put_row.Tie as tie
 
 abbrev Inv-loop : tie.InvT-loop
-Inv-loop rows₀ table u r j₀ rows j = (j ≤ 12) × ((e : ℕ) → e ≤ 64 → r ≡ rowAt e (u .0) → BitsPut table e (u .0) rows₀ rows j)
+Inv-loop rows₀ table u raise r j₀ rows j = (j ≤ 12) × ((e : ℕ) → e ≤ 64 → r ≡ rowAt e (u .0) → BitsPut table e (u .0) rows₀ rows j)
 
 abbrev μ-loop : tie.MeasureT-loop
-μ-loop rows₀ table u r j₀ rows j = 12 - j
+μ-loop rows₀ table u raise r j₀ rows j = 12 - j
 
 row-requires : tie.Need-row-requires Inv-loop μ-loop
 row-requires c κs = omega arith
@@ -73,6 +73,9 @@ element-copy-out-required c = omega arith
 add-rows-3 : tie.Need-add-rows-3 Inv-loop μ-loop
 add-rows-3 c = omega arith
 
+add-rows-4 : tie.Need-add-rows-4 Inv-loop μ-loop
+add-rows-4 c = omega arith
+
 element-write-rows-3 : tie.Need-element-write-rows-3 Inv-loop μ-loop
 element-write-rows-3 c = omega arith
 
@@ -81,7 +84,7 @@ returns c =
     let looped = c .before .before .before .before .before in
     let first = looped .before .before in
     let full : looped .loop .j ≡ 12 = omega arith in
-    row-put _ _ _ _ (omega arith) (omega arith) _ _ _ _ _ (rw full at (looped .loop .inv .1 (first .args .e .0) (first .pre .0) (looped .before .row .ensures))) (omega arith) (omega arith) (c .before .before .cell .ensures .0) refl
+    row-put _ _ _ _ (omega arith) (omega arith) _ _ _ _ _ _ (rw full at (looped .loop .inv .1 (first .args .e .0) (first .pre .0) (looped .before .row .ensures))) (omega arith) (omega arith) (c .before .before .cell .ensures .0) refl
 
 pub put-row-spec : {M : Type 1} → statement M
 put-row-spec =
@@ -109,5 +112,6 @@ put-row-spec =
     add-required
     element-copy-out-required
     add-rows-3
+    add-rows-4
     element-write-rows-3
     returns)

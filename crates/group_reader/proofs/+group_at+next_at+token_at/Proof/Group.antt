@@ -1,6 +1,6 @@
 -- The needs of `group_at`: the first token, and a loop over the others. Its invariant: what is kept of the members so far, whatever
 -- was kept of the first one; its measure: how many members there may still be.
-use Prim.Native.Nat.{ℕ, _+_, _-_}
+use Prim.Native.Nat.{ℕ, _+_, _*_, _-_}
 use mathlib.Core.Path.{_≡_}
 use native.Mathlib.Omega.{arith}
 use lib.ListN.{length}
@@ -11,7 +11,7 @@ use Rattle.rules.specs.Settings.{settings}
 use Rattle.rules.specs.TypeFile.{Tokens, group, token, members}
 use Rattle.model_names.specs.Places.{placesOf}
 use Rattle.text.specs.Laws.{separatorsEnd-le}
-use Rattle.connectors.specs.Kept.{Keeps}
+use Rattle.connectors.specs.Kept.{begun, Keeps}
 use Rattle.content_tokens.specs.Readings.{refused-meets, refused-then}
 use Rattle.group_reader.specs.Groups.{group-none, group-some, group-begun, So, so-first, so-in, so-closed, so-unfit, so-joined}
 use Rattle.group_reader.proofs.group_at.Reads as group-at
@@ -19,10 +19,10 @@ use Rattle.group_reader.proofs.+group_at+next_at+token_at.Lts-group_at 
 use Rattle.group_reader.proofs.+group_at+next_at+token_at.Proof.Measures.{group-at-at, group-at-calls}
 
 abbrev pub Inv-loop : lts.InvT-loop
-Inv-loop long s at levels places tokens names₀ table₀ i m₀ k₀ c₀ names table m k c = So (settings long) (group (settings long) (levels - 1) s) s (places + 1) names₀ table₀ m₀ names table m k c
+Inv-loop long s at levels places tokens code names₀ table₀ i m₀ k₀ c₀ names table m k c = So (settings long) (group (settings long) (levels - 1) s) s (places + 1) names₀ table₀ m₀ names table m k c
 
 abbrev pub μ-loop : lts.MeasureT-loop
-μ-loop long s at levels places tokens names₀ table₀ i m₀ k₀ c₀ names table m k c = 33 - k
+μ-loop long s at levels places tokens code names₀ table₀ i m₀ k₀ c₀ names table m k c = 33 - k
 
 module _ (t : ℕ) where
   pub refusal-requires : lts.Need-refusal-requires (group-at-calls t) (group-at-at t) group-at.Post Inv-loop μ-loop
@@ -31,7 +31,7 @@ module _ (t : ℕ) where
   pub returns : lts.Need-returns (group-at-calls t) (group-at-at t) group-at.Post Inv-loop μ-loop
   returns c =
       let x = c .before .before .before .args in
-      refused-meets _ _ _ _ _ _ 6 (x .at) _ (c .refusal .ensures) (group-none (settings (x .long)) (x .levels) (x .s .now) (x .at) _ (x .tokens) (c .before .if1 .taken))
+      refused-meets _ _ _ _ _ 6 (x .at) _ (c .refusal .ensures) (group-none (settings (x .long)) (x .levels) (x .s .now) (x .at) _ (x .tokens) (c .before .if1 .taken))
 
   pub add-separators-end : lts.Need-add-separators-end (group-at-calls t) (group-at-at t) group-at.Post Inv-loop μ-loop
   add-separators-end c = omega (arith, c .before .before .pre .1)
@@ -65,7 +65,7 @@ module _ (t : ℕ) where
       let r = c .before .before in
       let i = r .before .before .before in
       let x = i .before .before .before .args in
-      refused-then _ _ _ _ _ (r .token-at .result) (token (settings (x .long)) (group (settings (x .long)) (x .levels - 1) (x .s .now)) (x .s .now) (i .separators-end .result) (leb 96 (x .tokens)) (placesOf (x .names .now) (x .places)) (x .tokens)) (r .token-at .ensures) _ _ _ (c .enum-told .given .1)
+      refused-then _ _ _ _ (r .token-at .result) (token (settings (x .long)) (group (settings (x .long)) (x .levels - 1) (x .s .now)) (x .s .now) (i .separators-end .result) (leb 96 (x .tokens)) (placesOf (x .names .now) (x .places)) (x .tokens)) (r .token-at .ensures) _ _ _ _ (c .enum-told .given .1)
       (group-some (settings (x .long)) (x .levels) (x .s .now) (x .at) (i .separators-end .result) _ (x .tokens) (i .before .if1 .left) (i .separators-end .ensures))
 
   pub loop-holds : lts.Need-loop-holds (group-at-calls t) (group-at-at t) group-at.Post Inv-loop μ-loop
@@ -76,14 +76,14 @@ module _ (t : ℕ) where
   start c = c .before .before .before .before .before .before .before .before .before .before
 
   -- the first token, as it was read
-  begun : (c : lts.At-loop (group-at-calls t) (group-at-at t) group-at.Post Inv-loop μ-loop)
-      → (u : Tokens) × Keeps (length (start c .args .s .now)) (start c .args .places + 1) (start c .args .table .now) (c .before .before .before .before .token-at .last .1 .1 .1 .1 .1 .1 .1 .0) (c .before .before .before .before .token-at .last .1 .1 .1 .1 .1 .1 .1 .1 .0) (c .before .before .r .given .0 .0) u
+  first-read : (c : lts.At-loop (group-at-calls t) (group-at-at t) group-at.Post Inv-loop μ-loop)
+      → (u : Tokens) × Keeps (length (start c .args .s .now)) (begun (start c .args .places + 1) (start c .args .table .now) (start c .args .code) (4 * start c .args .tokens + 2 + 1)) 1 0 (c .before .before .before .before .token-at .last .1 .1 .1 .1 .1 .1 .1 .1 .0) (c .before .before .before .before .token-at .last .1 .1 .1 .1 .1 .1 .1 .1 .1 .0) (c .before .before .r .given .0 .0) u
       × (group (settings (start c .args .long)) (start c .args .levels) (start c .args .s .now) (start c .args .at) (placesOf (start c .args .names .now) (start c .args .places)) (start c .args .tokens) ≡ members (settings (start c .args .long)) (group (settings (start c .args .long)) (start c .args .levels - 1) (start c .args .s .now)) (start c .args .s .now) 32 1 0 u)
-  begun c =
+  first-read c =
       let r = c .before .before .before .before in
       let i = r .before .before .before in
       let x = start c .args in
-      group-begun (settings (x .long)) (x .levels) (x .s .now) (x .at) (i .separators-end .result) (placesOf (x .names .now) (x .places)) (x .tokens) (x .places + 1) (x .table .now) _ _ (r .token-at .result) (c .before .before .r .given .0 .0)
+      group-begun (settings (x .long)) (x .levels) (x .s .now) (x .at) (i .separators-end .result) (placesOf (x .names .now) (x .places)) (x .tokens) (x .places + 1) (x .table .now) (x .code) _ _ (r .token-at .result) (c .before .before .r .given .0 .0)
       (r .token-at .ensures) (c .before .before .r .given .1) (i .before .if1 .left) (i .separators-end .ensures)
 
   pub sub-next-at : lts.Need-sub-next-at (group-at-calls t) (group-at-at t) group-at.Post Inv-loop μ-loop
@@ -96,8 +96,8 @@ module _ (t : ℕ) where
   next-at-requires c κs =
       let l = c .before .before in
       let a = start l in
-      let b = begun l in
-      omega (arith, a .pre, l .before .before .before .before .before .before .before .before .if1 .left, so-in _ _ _ _ _ _ _ _ _ _ _ _ (l .loop .inv) _ (b .0) (b .1))
+      let b = first-read l in
+      omega (arith, a .pre, l .before .before .before .before .before .before .before .before .if1 .left, so-in _ _ _ _ _ _ _ _ _ _ _ _ (l .loop .inv) _ _ _ (b .0) (b .1))
 
   pub enum-known-n : lts.Need-enum-known-n (group-at-calls t) (group-at-at t) group-at.Post Inv-loop μ-loop
   enum-known-n c = search needs
@@ -106,8 +106,8 @@ module _ (t : ℕ) where
   returns-3 c =
       let n = c .before .before .before in
       let l = n .before .before .before in
-      let b = begun l in
-      so-closed _ _ _ _ _ _ _ _ _ _ _ _ (l .loop .inv) _ _ (n .next-at .result) (n .next-at .ensures) _ (b .0) (b .1) _ _ (b .2) (c .before .n .given .1)
+      let b = first-read l in
+      so-closed _ _ _ _ _ _ _ _ _ _ _ _ (l .loop .inv) _ _ (n .next-at .result) (n .next-at .ensures) _ _ _ (b .0) (b .1) _ _ (b .2) (c .before .n .given .1)
 
   pub enum-known-n-2 : lts.Need-enum-known-n-2 (group-at-calls t) (group-at-at t) group-at.Post Inv-loop μ-loop
   enum-known-n-2 c = search needs
@@ -116,8 +116,8 @@ module _ (t : ℕ) where
   returns-4 c =
       let n = c .before .before .before in
       let l = n .before .before .before in
-      let b = begun l in
-      so-unfit _ _ _ _ _ _ _ _ _ _ _ _ (l .loop .inv) _ _ (n .next-at .result) (n .next-at .ensures) _ (b .0) (b .1) _ _ (b .2) (c .before .n2 .given .1)
+      let b = first-read l in
+      so-unfit _ _ _ _ _ _ _ _ _ _ _ _ (l .loop .inv) _ _ (n .next-at .result) (n .next-at .ensures) _ _ _ (b .0) (b .1) _ _ (b .2) (c .before .n2 .given .1)
 
   pub enum-known-n-3 : lts.Need-enum-known-n-3 (group-at-calls t) (group-at-at t) group-at.Post Inv-loop μ-loop
   enum-known-n-3 c = search needs
@@ -132,5 +132,5 @@ module _ (t : ℕ) where
   loop-again c =
       let n = c .before .before .before in
       let l = n .before .before .before in
-      let b = begun l in
-      so-joined _ _ _ _ _ _ _ _ _ _ _ _ (l .loop .inv) _ _ (n .next-at .result) (n .next-at .ensures) _ (b .0) (b .1) _ _ (c .before .n3 .given .1) .1
+      let b = first-read l in
+      so-joined _ _ _ _ _ _ _ _ _ _ _ _ (l .loop .inv) _ _ (n .next-at .result) (n .next-at .ensures) _ _ _ (b .0) (b .1) _ _ (c .before .n3 .given .1) .1

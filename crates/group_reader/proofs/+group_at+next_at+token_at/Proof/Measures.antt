@@ -12,6 +12,7 @@ use Rattle.group_reader.proofs.+group_at+next_at+token_at.Lts-next_at a
 use Rattle.group_reader.proofs.token_at.Reads as token-at
 use Rattle.group_reader.proofs.token_at.Kinds as token-at-kinds
 use Rattle.group_reader.proofs.+group_at+next_at+token_at.Lts-token_at as token-at-lts
+use Rattle.group_reader.proofs.closed_code.Reads as closed-code-reads
 use Rattle.content_tokens.proofs.data_token.Reads as data-token-reads
 use Rattle.content_tokens.proofs.fault_of.Reads as fault-of-reads
 use Rattle.connectors.proofs.is_connector.Reads as is-connector-reads
@@ -60,6 +61,8 @@ next-at-calls t = (
   separators-end-reads.Learnt,
   byte-reads.Asked,
   byte-reads.Learnt,
+  closed-code-reads.Asked,
+  closed-code-reads.Learnt,
   is-connector-reads.Asked,
   is-connector-reads.Learnt,
   token-at-below t,

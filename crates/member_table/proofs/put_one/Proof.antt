@@ -1,0 +1,159 @@
+-- `put_one` meets its contract: the member's number and a place of another first, then what is put in turn.
+use mathlib.Core.Path.{_≡_, refl, _∙_}
+use mathlib.Core.Logic.{⊎-elim}
+use Prim.Native.Nat.{ℕ, _<_, _+_}
+use native.Mathlib.Omega.{arith}
+use borrow.Author.Needs.{needs}
+use Rattle.member_table.specs.Filling.{numberAt, otherAt, pieceAt}
+use Rattle.member_table.specs.Writes.{number-null, number-needed, other-second, other-first, one-put}
+use Rattle.member_table.proofs.put_one.Statement.{statement}
+use Rattle.member_table.proofs.put_one.Tie as tie
+
+-- The member's number, and that it is small.
+is-number : (c : tie.Joined1) → let x = c .before .before .before .before .args in c .if1 .h ≡ numberAt (x .t7) (x .first) (x .own) (x .needed) (x .j)
+is-number c =
+    let x = c .before .before .before .before .args in
+    let n = c .before .needed-in .ensures .0 in
+    ⊎-elim
+    (λ w. number-null (x .t7) (x .first) (x .own) (x .needed) (x .j) _ n (w .0 .taken) _ (w .1))
+    (λ w. number-needed (x .t7) (x .first) (x .own) (x .needed) (x .j) _ n (w .0 .left) _ (w .1))
+    (c .if1 .came)
+
+small : (c : tie.Joined1) → c .if1 .h < 97
+small c = rw (is-number c) (c .before .before .before .before .pre .1 .1 .1 .1 .1)
+
+-- A place that begins another member, and that the piece is on the stack.
+is-other : (c : tie.Joined2) → let x = c .before .before .before .before .before .args in (pieceAt (x .t7) (c .if2 .o) .lo ≡ otherAt (x .t7) (x .first) (x .j)) × (c .if2 .o < 97)
+is-other c =
+    let x = c .before .before .before .before .before .args in
+    ⊎-elim
+    (λ w. (other-second (x .t7) (x .first) (x .j) _ (w .0 .taken) (w .1), omega (arith, w .1)))
+    (λ w. (other-first (x .t7) (x .first) (x .j) _ (w .0 .left) (w .1), omega (arith, w .1)))
+    (c .if2 .came)
+
+add-m : tie.Need-add-m
+add-m c = search needs
+
+mul-m : tie.Need-mul-m
+mul-m c = search needs
+
+array-copy-out-m : tie.Need-array-copy-out-m
+array-copy-out-m c = search needs
+
+needed-in-requires : tie.Need-needed-in-requires
+needed-in-requires c κs = search needs
+
+add-h : tie.Need-add-h
+add-h c = search needs
+
+add-h-2 : tie.Need-add-h-2
+add-h-2 c = search needs
+
+sub-h : tie.Need-sub-h
+sub-h c = search needs
+
+add-h-3 : tie.Need-add-h-3
+add-h-3 c = search needs
+
+add-o : tie.Need-add-o
+add-o c = search needs
+
+mul-other : tie.Need-mul-other
+mul-other c = omega (arith, is-other (c .before) .1)
+
+array-copy-out-other : tie.Need-array-copy-out-other
+array-copy-out-other c = is-other (c .before) .1
+
+wide-requires : tie.Need-wide-requires
+wide-requires c κs = search needs
+
+wide-requires-2 : tie.Need-wide-requires-2
+wide-requires-2 c κs = search needs
+
+wide-requires-3 : tie.Need-wide-requires-3
+wide-requires-3 c κs = search needs
+
+add-hi : tie.Need-add-hi
+add-hi c = search needs
+
+put-places-requires : tie.Need-put-places-requires
+put-places-requires c κs = omega (arith, small (c .before .before .before .before .before .before .before))
+
+put-outers-requires : tie.Need-put-outers-requires
+put-outers-requires c κs = omega (arith, small (c .before .before .before .before .before .before .before .before .before .before .before))
+
+add-g : tie.Need-add-g
+add-g c = search needs
+
+add-put : tie.Need-add-put
+add-put c = search needs
+
+add-put-2 : tie.Need-add-put-2
+add-put-2 c = omega (arith, small (c .before .before .before .before .before .before .before .before .before .before .before .before .before .before .before .before))
+
+cast-put : tie.Need-cast-put
+cast-put c = search needs
+
+put-requires : tie.Need-put-requires
+put-requires c κs = search needs
+
+mul-put : tie.Need-mul-put
+mul-put c = search needs
+
+add-put-3 : tie.Need-add-put-3
+add-put-3 c = search needs
+
+add-put-4 : tie.Need-add-put-4
+add-put-4 c = omega (arith, small (c .before .before .before .before .before .before .before .before .before .before .before .before .before .before .before .before .before .before .before .before))
+
+put-requires-2 : tie.Need-put-requires-2
+put-requires-2 c κs = search needs
+
+same-length : tie.Need-same-length
+same-length c = search needs
+
+returns : tie.Need-returns
+returns c =
+    let last = c .before .before in
+    let group = last .before .before .before .before in
+    let outer = group .before .before .before .before .before in
+    let places = outer .before .before .before .before in
+    let got = places .before .before in
+    let known = got .before .before .before .before .before in
+    let x = known .before .before .before .before .before .args in
+    one-put (x .members .now) (x .base) (x .table .now) (x .lasts) (x .groups) (x .own) (x .t7) (x .first) (x .needed) (x .j) _ _ _ _
+    (is-number (known .before)) (got .before .before .wide .ensures .0 ∙ is-other known .0) (got .before .wide2 .ensures .0) (got .wide3 .ensures .0)
+    _ _ _ _ (places .put-places .ensures) (outer .put-outers .ensures) (group .put .ensures) (last .put2 .ensures)
+
+pub put-one-spec : {M : Type 1} → statement M
+put-one-spec =
+    tie.close
+    (tie.spec
+    add-m
+    mul-m
+    array-copy-out-m
+    needed-in-requires
+    add-h
+    add-h-2
+    sub-h
+    add-h-3
+    add-o
+    mul-other
+    array-copy-out-other
+    wide-requires
+    wide-requires-2
+    wide-requires-3
+    add-hi
+    put-places-requires
+    put-outers-requires
+    add-g
+    add-put
+    add-put-2
+    cast-put
+    put-requires
+    mul-put
+    add-put-3
+    add-put-4
+    put-requires-2
+    same-length
+    returns)

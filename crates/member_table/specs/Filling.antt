@@ -1,0 +1,175 @@
+-- What the functions of the code do to the table of members: one number of the code after the other, upon a stack of groups.
+use Prim.Native.Nat.{ℕ, zero, suc, _+_, _-_, _*_}
+use mathlib.Core.Bool.{Bool, true, false, _&&_, _||_, cond}
+use mathlib.Core.List.{List}
+use lib.ListN.{getD, set, replicate}
+use lib.Dec.{ltb, leb, eqb}
+use Rattle.layout.specs.Sizes.{POSITIONS, MODEL-ROW, MODEL-ROWS, CODE, GROUP, AND-GROUPS, MEMBER}
+use Rattle.model_links.specs.Each.{each}
+use Rattle.member_table.specs.declared.Piece.{Piece}
+
+-- A number is put where none is yet.
+unfoldable pub putFree : List ℕ → (i x : ℕ) → List ℕ
+putFree M i x = cond (eqb (getD M i 0) 0) (set M i x) M
+
+-- The member h, and 128 more if the table has w after u.
+abbrev pub marked : List ℕ → (u w h : ℕ) → ℕ
+marked T u w h = h + cond (eqb (getD T (u * MODEL-ROW + w) 0) 1) 128 0
+
+-- Where what is kept of a group begins.
+abbrev pub recordFrom : (base g : ℕ) → ℕ
+recordFrom base g = base + 3 * POSITIONS + g * GROUP
+
+-- The member h gets the free places of [lo, hi).
+abbrev pub putPlace : (base : ℕ) (T : List ℕ) (w h : ℕ) → List ℕ → ℕ → List ℕ
+putPlace base T w h M u = putFree M (base + u) (marked T u w h)
+
+unfoldable pub putPlaces : List ℕ → (base : ℕ) (T : List ℕ) (w h lo hi : ℕ) → List ℕ
+putPlaces M base T w h lo hi = each (putPlace base T w h) M lo hi
+
+-- The member h of [lo, hi) gets the group g, which is free and ends with `last`; and those of the groups [a, b).
+unfoldable pub putOuter : List ℕ → (base : ℕ) (T : List ℕ) (w h lo hi last g : ℕ) → List ℕ
+putOuter M base T w h lo hi last g = cond (leb lo last && ltb last hi) (putFree M (recordFrom base g + 3) (marked T last w h)) M
+
+unfoldable pub putOuters : List ℕ → (base : ℕ) (T : List ℕ) (w h lo hi : ℕ) (lasts : List ℕ) (a b : ℕ) → List ℕ
+putOuters M base T w h lo hi lasts a b = each (λ S g. putOuter S base T w h lo hi (getD lasts g 0) g) M a b
+
+-- Pieces
+
+abbrev pub nonePiece : Piece
+nonePiece = record { lo = 0; last = 0; null = false; required = 0 }
+
+abbrev pub pieceAt : List Piece → ℕ → Piece
+pieceAt stack k = getD stack k nonePiece
+
+abbrev pub placePiece : ℕ → Piece
+placePiece p = record { lo = p; last = p; null = false; required = p }
+
+abbrev pub optPiece : Piece → Piece
+optPiece a = record { lo = a .lo; last = a .last; null = true; required = 0 }
+
+abbrev pub joinedPiece : ℕ → Piece → Piece → Piece
+joinedPiece op a b =
+    cond
+    (eqb op 97)
+    (record { lo = a .lo; last = b .last; null = a .null && b .null; required = cond (a .null) (b .required) (a .required) })
+    (record { lo = a .lo; last = b .last; null = a .null || b .null; required = 0 })
+
+abbrev pub closedPiece : (needed : ℕ) → Piece → Piece → Piece
+closedPiece needed a b = record { lo = a .lo; last = b .last; null = eqb needed 0; required = 0 }
+
+-- How many of the k pieces from `first` on cannot be nothing.
+abbrev pub neededIn : List Piece → (first k : ℕ) → ℕ
+neededIn stack first zero = 0
+neededIn stack first (suc j) = neededIn stack first j + cond (pieceAt stack (first + j) .null) 0 1
+
+-- The number of the piece j as a member: those that cannot be nothing come first.
+abbrev pub numberAt : List Piece → (first own needed j : ℕ) → ℕ
+numberAt stack first own needed j =
+    cond (pieceAt stack (first + j) .null) (own + needed + (j - neededIn stack first j)) (own + neededIn stack first j)
+
+-- A place that begins another member than the piece j.
+abbrev pub otherAt : List Piece → (first j : ℕ) → ℕ
+otherAt stack first j = cond (eqb j 0) (pieceAt stack (first + 1) .lo) (pieceAt stack first .lo)
+
+-- The member h of the group after the first groups, with the places [lo, hi) and what it requires.
+unfoldable pub putMember : List ℕ → (base : ℕ) (T lasts : List ℕ) (groups w h lo hi required : ℕ) → List ℕ
+putMember M base T lasts groups w h lo hi required =
+    set (set (putOuters (putPlaces M base T w h lo hi) base T w h lo hi lasts 1 (groups + 1)) (base + POSITIONS + h) (groups + 1)) (base + 2 * POSITIONS + h) required
+
+unfoldable pub putOne : List ℕ → (base : ℕ) (T lasts : List ℕ) (groups own : ℕ) (stack : List Piece) (first needed j : ℕ) → List ℕ
+putOne M base T lasts groups own stack first needed j =
+    putMember
+    M
+    base
+    T
+    lasts
+    groups
+    (otherAt stack first j)
+    (numberAt stack first own needed j)
+    (pieceAt stack (first + j) .lo)
+    (pieceAt stack (first + j) .last + 1)
+    (pieceAt stack (first + j) .required)
+
+-- What is kept of the next group itself, and its members [a, b).
+abbrev pub putRecord : List ℕ → (base groups own needed k : ℕ) → List ℕ
+putRecord M base groups own needed k =
+    set (set (set M (recordFrom base (groups + 1)) own) (recordFrom base (groups + 1) + 1) needed) (recordFrom base (groups + 1) + 2) k
+
+unfoldable pub putOnes : List ℕ → (base : ℕ) (T lasts : List ℕ) (groups own : ℕ) (stack : List Piece) (first needed a b : ℕ) → List ℕ
+putOnes M base T lasts groups own stack first needed a b = each (λ S j. putOne S base T lasts groups own stack first needed j) M a b
+
+abbrev pub putGroup : List ℕ → (base : ℕ) (T lasts : List ℕ) (groups own : ℕ) (stack : List Piece) (first needed k : ℕ) → List ℕ
+putGroup M base T lasts groups own stack first needed k =
+    putOnes (putRecord M base groups own needed k) base T lasts groups own stack first needed 0 k
+
+-- One number of the code
+
+-- The table, the stack with how many pieces are on it, the groups with the last place of each, and how many members there are.
+pub record State : Type 0 where
+  pub members : List ℕ
+  pub stack : List Piece
+  pub top : ℕ
+  pub lasts : List ℕ
+  pub groups : ℕ
+  pub count : ℕ
+
+abbrev pub fits : (k top groups count : ℕ) → Bool
+fits k top groups count = leb 2 k && (leb k top && (ltb groups AND-GROUPS && ltb (count + k) POSITIONS))
+
+-- the stack with a piece at k, which is the last now
+abbrev pub stacked : State → (k : ℕ) → Piece → State
+stacked s k a = record { members = s .members; stack = set (s .stack) k a; top = k + 1; lasts = s .lasts; groups = s .groups; count = s .count }
+
+-- "&" groups end: the last k pieces are the members.
+abbrev pub closeGroup : (base : ℕ) (T : List ℕ) (k : ℕ) → State → State
+closeGroup base T k s =
+    record {
+      members =
+          putGroup
+          (s .members)
+          base
+          T
+          (s .lasts)
+          (s .groups)
+          (s .count + 1)
+          (s .stack)
+          (s .top - k)
+          (neededIn (s .stack) (s .top - k) k)
+          k;
+      stack =
+          set
+          (s .stack)
+          (s .top - k)
+          (closedPiece (neededIn (s .stack) (s .top - k) k) (pieceAt (s .stack) (s .top - k)) (pieceAt (s .stack) (s .top - 1)));
+      top = s .top - k + 1;
+      lasts = set (s .lasts) (s .groups + 1) (pieceAt (s .stack) (s .top - 1) .last);
+      groups = s .groups + 1;
+      count = s .count + k;
+    }
+
+-- A number that lacks pieces or room does nothing.
+abbrev pub stepFill : (base : ℕ) (T : List ℕ) → State → (op : ℕ) → State
+stepFill base T s op =
+    cond
+    (ltb op 97)
+    (cond (ltb (s .top) POSITIONS) (stacked s (s .top) (placePiece op)) s)
+    (cond
+    (eqb op 99)
+    (cond (leb 1 (s .top)) (stacked s (s .top - 1) (optPiece (pieceAt (s .stack) (s .top - 1)))) s)
+    (cond
+    (ltb op 100)
+    (cond (leb 2 (s .top)) (stacked s (s .top - 2) (joinedPiece op (pieceAt (s .stack) (s .top - 2)) (pieceAt (s .stack) (s .top - 1)))) s)
+    (cond (ltb 128 op) (cond (fits (op - 128) (s .top) (s .groups) (s .count)) (closeGroup base T (op - 128) s) s) s)))
+
+abbrev pub startFill : List ℕ → State
+startFill M = record { members = M; stack = replicate POSITIONS nonePiece; top = 0; lasts = replicate (AND-GROUPS + 1) 0; groups = 0; count = 0 }
+
+-- The first n numbers of the code, fewer than CODE.
+unfoldable pub runFill : List ℕ → (base : ℕ) (T : List ℕ) → ℕ → State
+runFill M base T zero = startFill M
+runFill M base T (suc i) = cond (ltb i CODE) (stepFill base T (runFill M base T i) (getD T (MODEL-ROWS + i) 0)) (runFill M base T i)
+
+-- The table of members when the code of the element e, n numbers, has been run.
+abbrev pub filled : List ℕ → (e : ℕ) (T : List ℕ) (n : ℕ) → List ℕ
+filled M e T n = runFill M (e * MEMBER) T n .members

@@ -1,0 +1,266 @@
+-- The members of an "&" group, put one after the other: what the table then has of each.
+use Prim.Native.Nat.{ℕ, suc, _+_, _-_, _*_, _≤_, _<_}
+use mathlib.Core.Path.{_≡_, refl, _∙_, ap}
+use mathlib.Core.Bool.{Bool, true, false, cond}
+use mathlib.Core.Logic.{_⊎_, inl, inr, ⊎-elim}
+use mathlib.Core.List.{List}
+use native.Mathlib.Omega.{arith}
+use lib.Dec.{eqb}
+use lib.ListN.{length, getD}
+use borrow.Author.Tests.{eq-eqb, ne-eqb}
+use Rattle.rules.specs.Walk.{Group, place, seq, alt, opt, plus, and, Members, one, also}
+use Rattle.layout.specs.Sizes.{POSITIONS, MODEL-ROW}
+use Rattle.model_sets.specs.Bits.{or-left, or-right, bool-cases, not-both}
+use Rattle.model_sets.specs.Sets.{has, hasM, size, sizeM, Numbered, NumberedM, nullable, last, lastM, must}
+use Rattle.and_laws.specs.Base.{Apart}
+use Rattle.and_laws.specs.Sets.{GoodM}
+use Rattle.and_laws.specs.Rest.{or-none}
+use Rattle.and_laws.specs.Decide.{or-only}
+use Rattle.and_laws.specs.Rows.{or-no}
+use Rattle.and_laws.specs.Numbers.{has-range}
+use Rattle.member_laws.specs.Members.{amount, needs, spares, numberFor, numberIn, Each}
+use Rattle.model_links.specs.Each.{each, each-more, each-none}
+use Rattle.member_table.specs.declared.Piece.{Piece}
+use Rattle.member_table.specs.Filling.{recordFrom, pieceAt, neededIn, numberAt, otherAt, putOne, putOnes}
+use Rattle.member_table.specs.Beside.{Marks, EachMarks, not-left, no-last, no-lastM}
+use Rattle.member_table.specs.Slots.{Slot, Put, puts, each-last}
+
+mutual
+  pub size-one : (g : Group) → 1 ≤ size g
+  size-one (place n) = omega arith
+  size-one (seq g h) = omega (arith, size-one g)
+  size-one (alt g h) = omega (arith, size-one g)
+  size-one (opt g) = size-one g
+  size-one (plus g) = size-one g
+  size-one (and m) = sizeM-one m
+
+  pub sizeM-one : (m : Members) → 1 ≤ sizeM m
+  sizeM-one (one g) = size-one g
+  sizeM-one (also m g) = omega (arith, size-one g)
+
+below : (p a : ℕ) {C : Type 0} → (p < a → C) → (a ≤ p → C) → C
+below p a f k = go (native.Mathlib.Decide.decLt p a) f k
+  where
+    go : {C : Type 0} → Dec (p < a) → (p < a → C) → (a ≤ p → C) → C
+    go (yes l) f k = f l
+    go (no n) f k = k (omega (arith, n))
+
+-- Every number from the first place to the last is a place of the group.
+mutual
+  pub range-has : (g : Group) (lo : ℕ) → Numbered g lo → (p : ℕ) → lo ≤ p → p < lo + size g → has g p ≡ true
+  range-has (place n) lo e p a b = eq-eqb n p (omega arith)
+  range-has (seq g h) lo (m, n) p a b =
+      below p (lo + size g) (λ l. or-left _ (range-has g lo m p a l)) (λ l. or-right (has g p) (range-has h (lo + size g) n p l (omega arith)))
+  range-has (alt g h) lo (m, n) p a b =
+      below p (lo + size g) (λ l. or-left _ (range-has g lo m p a l)) (λ l. or-right (has g p) (range-has h (lo + size g) n p l (omega arith)))
+  range-has (opt g) lo n p a b = range-has g lo n p a b
+  range-has (plus g) lo n p a b = range-has g lo n p a b
+  range-has (and m) lo n p a b = rangeM-has m lo n p a b
+
+  pub rangeM-has : (m : Members) (lo : ℕ) → NumberedM m lo → (p : ℕ) → lo ≤ p → p < lo + sizeM m → hasM m p ≡ true
+  rangeM-has (one g) lo n p a b = range-has g lo n p a b
+  rangeM-has (also m g) lo (n, k) p a b =
+      below p (lo + sizeM m) (λ l. or-left _ (rangeM-has m lo n p a l)) (λ l. or-right (hasM m p) (range-has g (lo + sizeM m) k p l (omega arith)))
+
+-- Pieces
+
+-- What is on the stack of a group whose places begin at `lo`; the members of a group on the stack.
+abbrev pub pieceOf : Group → ℕ → Piece
+pieceOf g lo = record { lo = lo; last = lo + size g - 1; null = nullable g; required = must g }
+
+abbrev pub Pieces : List Piece → (first : ℕ) → Members → ℕ → Type 0
+Pieces stack first (one g) lo = pieceAt stack (first + 0) ≡ pieceOf g lo
+Pieces stack first (also m g) lo = Pieces stack first m lo × (pieceAt stack (first + amount m) ≡ pieceOf g (lo + sizeM m))
+
+pub amount-is : (m : Members) → amount m ≡ needs m + spares m
+amount-is (one g) = bool-cases (nullable g) (λ e. rw e) (λ e. rw e)
+amount-is (also m g) = bool-cases (nullable g) (λ e. rw e (omega (arith, amount-is m))) (λ e. rw e (omega (arith, amount-is m)))
+
+pub amount-one : (m : Members) → 1 ≤ amount m
+amount-one (one g) = omega arith
+amount-one (also m g) = omega arith
+
+pub amount-size : (m : Members) → amount m ≤ sizeM m
+amount-size (one g) = size-one g
+amount-size (also m g) = omega (arith, amount-size m, size-one g)
+
+module _ (stack : List Piece) (first : ℕ) where
+  pub needed-is : (m : Members) (lo : ℕ) → Pieces stack first m lo → neededIn stack first (amount m) ≡ needs m
+  needed-is (one g) lo p = ap (λ (a : Piece). 0 + cond (a .null) 0 1) p ∙ bool-cases (nullable g) (λ e. rw e) (λ e. rw e)
+  needed-is (also m g) lo (p, q) =
+      let e : amount m + 1 ≡ suc (amount m) = omega arith in
+      rw e (ap (λ (n : ℕ). n + cond (pieceAt stack (first + amount m) .null) 0 1) (needed-is m lo p) ∙ ap (λ (a : Piece). needs m + cond (a .null) 0 1) q)
+
+  -- The number that the next member gets.
+  pub number-is : (own needed : ℕ) (m : Members) (g : Group) (lo : ℕ) → Pieces stack first (also m g) lo → numberAt stack first own needed (amount m) ≡ numberFor own needed (needs m) (spares m) g
+  number-is own needed m g lo (p, q) =
+      let e : amount m - neededIn stack first (amount m) ≡ spares m = omega (arith, amount-is m, needed-is m lo p) in
+      rw (e, needed-is m lo p) (ap (λ (a : Piece). cond (a .null) (own + needed + spares m) (own + needs m)) q)
+
+-- Numbers of members
+
+abbrev pub InRange : (own needed a b n : ℕ) → Type 0
+InRange own needed a b n = ((own ≤ n) × (n < own + a)) ⊎ ((own + needed ≤ n) × (n < own + needed + b))
+
+number-range : (own needed a b : ℕ) (g : Group) → InRange own needed (a + cond (nullable g) 0 1) (b + cond (nullable g) 1 0) (numberFor own needed a b g)
+number-range own needed a b g = bool-cases (nullable g) (λ e. rw e (inr (omega arith, omega arith))) (λ e. rw e (inl (omega arith, omega arith)))
+
+range-one : (own needed : ℕ) (g : Group) → InRange own needed (cond (nullable g) 0 1) (cond (nullable g) 1 0) (numberFor own needed 0 0 g)
+range-one own needed g = bool-cases (nullable g) (λ e. rw e (inr (omega arith, omega arith))) (λ e. rw e (inl (omega arith, omega arith)))
+
+pub each-map : {P Q : ℕ → Group → Type 0} (own needed : ℕ) (m : Members) → ((n : ℕ) (g : Group) → InRange own needed (needs m) (spares m) n → P n g → Q n g) → Each P own needed m → Each Q own needed m
+each-map own needed (one g) f p = f (numberFor own needed 0 0 g) g (range-one own needed g) p
+each-map own needed (also m g) f (e, p) = (
+  each-map own needed m (λ n x r. f n x (⊎-elim (λ i. inl (i .0, omega (arith, i .1))) (λ i. inr (i .0, omega (arith, i .1))) r)) e,
+  f (numberFor own needed (needs m) (spares m) g) g (number-range own needed (needs m) (spares m) g) p,
+)
+
+-- the next number is none of those before
+number-new : (own needed a b : ℕ) (g : Group) (n : ℕ) → a + cond (nullable g) 0 1 ≤ needed → InRange own needed a b n → n ≡ numberFor own needed a b g → ⊥
+number-new own needed a b g n l (inl (i, j)) = bool-cases (nullable g) (λ e. rw e (λ x. omega (arith, (rw e at l)))) (λ e. rw e (λ x. omega arith))
+number-new own needed a b g n l (inr (i, j)) = bool-cases (nullable g) (λ e. rw e (λ x. omega arith)) (λ e. rw e (λ x. omega (arith, (rw e at l))))
+
+number-from : (own needed a b : ℕ) (g : Group) → own ≤ numberFor own needed a b g
+number-from own needed a b g = bool-cases (nullable g) (λ e. rw e (omega arith)) (λ e. rw e (omega arith))
+
+number-to : (own needed a b : ℕ) (g : Group) → a + cond (nullable g) 0 1 ≤ needed → own + needed + (b + cond (nullable g) 1 0) ≤ 97 → numberFor own needed a b g ≤ 96
+number-to own needed a b g l r = bool-cases (nullable g) (λ e. rw e (omega (arith, (rw e at r)))) (λ e. rw e (omega (arith, (rw e at l), (rw e at r))))
+
+-- A table in which the members have been put
+
+-- what the rows of the model's table tell
+abbrev pub rowsOf : List ℕ → ℕ → ℕ → Bool
+rowsOf T u w = eqb (getD T (u * MODEL-ROW + w) 0) 1
+
+pub record Joined (base : ℕ) (lasts : List ℕ) (groups own needed : ℕ) (m : Members) (M S : List ℕ) : Type 0 where
+  pub len : length S ≡ length M
+  pub put : (s v : ℕ) → Slot base lasts groups s v → hasM m v ≡ true → getD M s 0 ≡ 0 → getD S s 0 ≡ numberIn own needed m v + cond (lastM m v) 128 0
+  pub other : (s v : ℕ) → Slot base lasts groups s v → hasM m v ≡ false → getD S s 0 ≡ getD M s 0
+  pub kept : (s v : ℕ) → Slot base lasts groups s v → 1 ≤ getD M s 0 → getD S s 0 ≡ getD M s 0
+  pub each : Each (λ (n : ℕ) (g : Group). (getD S (base + POSITIONS + n) 0 ≡ groups + 1) × (getD S (base + 2 * POSITIONS + n) 0 ≡ must g)) own needed m
+  pub rest :
+      (k : ℕ)
+      → ((u : ℕ) → u ≤ 96 → k ≡ base + u → ⊥)
+      → ((n : ℕ) → 1 ≤ n → n ≤ groups → k ≡ recordFrom base n + 3 → ⊥)
+      → ((n : ℕ) → own ≤ n → n ≤ 96 → k ≡ base + POSITIONS + n → ⊥)
+      → ((n : ℕ) → own ≤ n → n ≤ 96 → k ≡ base + 2 * POSITIONS + n → ⊥)
+      → getD S k 0 ≡ getD M k 0
+
+module _ (base : ℕ) (T lasts : List ℕ) (groups own needed : ℕ) where
+  -- the first member
+  joined-first :
+      (g : Group) (lo w : ℕ)
+      → Numbered g lo
+      → Marks (rowsOf T) w g
+      → numberFor own needed 0 0 g ≤ 96
+      → (M S : List ℕ)
+      → Put base T lasts groups w (numberFor own needed 0 0 g) lo (lo + size g) (must g) M S
+      → Joined base lasts groups own needed (one g) M S
+  joined-first g lo w n marks to M S p =
+      record {
+        len = p .len;
+        put = λ s v is i z.
+            let r = has-range g lo n v i in
+            p .taken s v is (r .0) (r .1) z ∙ ap (λ (b : Bool). numberFor own needed 0 0 g + cond b 128 0) (marks v i);
+        other = λ s v is i. p .other s v is (λ a b. not-both i (range-has g lo n v a b));
+        kept = p .kept;
+        each = (p .group, p .due);
+        rest = λ k a b c d. p .rest k a b (c (numberFor own needed 0 0 g) (number-from own needed 0 0 g) to) (d (numberFor own needed 0 0 g) (number-from own needed 0 0 g) to);
+      }
+
+  -- one more
+  joined-more :
+      (m : Members) (g : Group) (lo w : ℕ)
+      → Numbered g lo
+      → Apart (hasM m) (has g)
+      → Marks (rowsOf T) w g
+      → needs m + cond (nullable g) 0 1 ≤ needed
+      → own + needed + (spares m + cond (nullable g) 1 0) ≤ 97
+      → (M R S : List ℕ)
+      → Joined base lasts groups own needed m M R
+      → Put base T lasts groups w (numberFor own needed (needs m) (spares m) g) lo (lo + size g) (must g) R S
+      → Joined base lasts groups own needed (also m g) M S
+  joined-more m g lo w n a marks l room M R S j p =
+      let to = number-to own needed (needs m) (spares m) g l room in
+      record {
+        len = p .len ∙ j .len;
+        put = λ s v is i z.
+            bool-cases
+            (has g v)
+            (λ y.
+            let r = has-range g lo n v y in
+            rw (y, no-lastM m v (not-left a y))
+            (p .taken s v is (r .0) (r .1) (j .other s v is (not-left a y) ∙ z) ∙ ap (λ (b : Bool). numberFor own needed (needs m) (spares m) g + cond b 128 0) (marks v y)))
+            (λ y.
+            let x = or-only (hasM m v) (has g v) y i in
+            rw (y, no-last g v y, or-no (lastM m v))
+            (p .other s v is (λ c d. not-both y (range-has g lo n v c d)) ∙ j .put s v is x z));
+        other = λ s v is i.
+            let (x, y) = or-none (hasM m v) (has g v) i in
+            p .other s v is (λ c d. not-both y (range-has g lo n v c d)) ∙ j .other s v is x;
+        kept = λ s v is some.
+            let e = j .kept s v is some in
+            p .kept s v is (omega (arith, e)) ∙ e;
+        each = (each-map own needed m (λ k x r q. (away k (range-low r) (range-high r) (number-new own needed (needs m) (spares m) g k l r) .0 ∙ q .0, away k (range-low r) (range-high r) (number-new own needed (needs m) (spares m) g k l r) .1 ∙ q .1)) (j .each), (p .group, p .due));
+        rest = λ k b c d e.
+            p .rest k b c (d (numberFor own needed (needs m) (spares m) g) (number-from own needed (needs m) (spares m) g) to) (e (numberFor own needed (needs m) (spares m) g) (number-from own needed (needs m) (spares m) g) to)
+            ∙ j .rest k b c d e;
+      }
+    where
+      range-low : {k : ℕ} → InRange own needed (needs m) (spares m) k → own ≤ k
+      range-low (inl (x, y)) = x
+      range-low (inr (x, y)) = omega arith
+
+      range-high : {k : ℕ} → InRange own needed (needs m) (spares m) k → k ≤ 96
+      range-high (inl (x, y)) = omega arith
+      range-high (inr (x, y)) = omega arith
+
+      away : (k : ℕ) → own ≤ k → k ≤ 96 → (k ≡ numberFor own needed (needs m) (spares m) g → ⊥) → (getD S (base + POSITIONS + k) 0 ≡ getD R (base + POSITIONS + k) 0) × (getD S (base + 2 * POSITIONS + k) 0 ≡ getD R (base + 2 * POSITIONS + k) 0)
+      away k low high ne =
+          let to = number-to own needed (needs m) (spares m) g l room in (
+            p .rest (base + POSITIONS + k) (λ u x y. omega arith) (λ q x y z. omega arith) (λ x. ne (omega arith)) (λ x. omega arith),
+            p .rest (base + 2 * POSITIONS + k) (λ u x y. omega arith) (λ q x y z. omega arith) (λ x. omega arith) (λ x. ne (omega arith)),
+          )
+
+  module _ (stack : List Piece) (first : ℕ) (few : groups ≤ 48) where
+    one-put :
+        (S : List ℕ) → base + 487 ≤ length S
+        → (j w h : ℕ) (g : Group) (lo : ℕ)
+        → pieceAt stack (first + j) ≡ pieceOf g lo
+        → otherAt stack first j ≡ w
+        → numberAt stack first own needed j ≡ h
+        → h ≤ 96
+        → lo + size g ≤ 97
+        → Put base T lasts groups w h lo (lo + size g) (must g) S (putOne S base T lasts groups own stack first needed j)
+    unfolding putOne
+    one-put S room j w h g lo is other number to high =
+        let e : lo + size g - 1 + 1 ≡ lo + size g = omega (arith, size-one g) in
+        rw (other, number, is, e) (puts base T lasts groups w h lo (lo + size g) (must g) S room few to (omega arith) high)
+
+    pub joins :
+        (m : Members) (lo : ℕ)
+        → NumberedM m lo
+        → GoodM m
+        → lo + sizeM m ≤ 97
+        → Pieces stack first m lo
+        → EachMarks (rowsOf T) (pieceAt stack first .lo) (pieceAt stack (first + 1) .lo) m
+        → needs m ≤ needed
+        → own + needed + spares m ≤ 97
+        → (M : List ℕ)
+        → base + 487 ≤ length M
+        → Joined base lasts groups own needed m M (putOnes M base T lasts groups own stack first needed 0 (amount m))
+    unfolding putOnes
+    joins (one g) lo n d high p marks l r M room =
+        let f : List ℕ → ℕ → List ℕ = λ S j. putOne S base T lasts groups own stack first needed j in
+        let e : each f M 0 1 ≡ f M 0 = each-more f M 0 1 (omega arith) ∙ each-none f (f M 0) (0 + 1) 1 (omega arith) in
+        let z : 0 - 0 ≡ 0 = omega arith in
+        let to = number-to own needed 0 0 g (omega arith) (omega arith) in
+        rw e (joined-first g lo (pieceAt stack (first + 1) .lo) n marks to M (f M 0) (one-put M room 0 (pieceAt stack (first + 1) .lo) (numberFor own needed 0 0 g) g lo p refl (ap (λ (a : Piece). cond (a .null) (own + needed + 0) (own + 0)) p) to high))
+    joins (also m g) lo (n, k) (d, c, a) high (p, q) (marks, mark) l r M room =
+        let f : List ℕ → ℕ → List ℕ = λ S j. putOne S base T lasts groups own stack first needed j in
+        let R = each f M 0 (amount m) in
+        let J : Joined base lasts groups own needed m M R = joins m lo n d (omega arith) p marks (omega arith) (omega arith) M room in
+        let to = number-to own needed (needs m) (spares m) g l r in
+        let away : otherAt stack first (amount m) ≡ pieceAt stack first .lo = rw (ne-eqb (amount m) 0 (λ e. omega (arith, amount-one m, e))) in
+        rw (each-last f M (amount m)) (joined-more m g (lo + sizeM m) (pieceAt stack first .lo) k a mark l r M R (f R (amount m)) J
+        (one-put R (omega (arith, J .len, room)) (amount m) (pieceAt stack first .lo) (numberFor own needed (needs m) (spares m) g) g (lo + sizeM m) q away (number-is stack first own needed m g lo (p, q)) to (omega arith)))

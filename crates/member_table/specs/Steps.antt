@@ -1,0 +1,129 @@
+-- What one number of the code makes of the table and of the stack, and that the code may be run number by number.
+use Prim.Native.Nat.{ℕ, zero, suc, _+_, _-_, _≤_, _<_}
+use mathlib.Core.Path.{_≡_, refl, sym, ap, subst, _∙_}
+use mathlib.Core.Bool.{Bool, true, false, _&&_}
+use lib.Dec.{ltb, leb}
+use mathlib.Core.Logic.{_⊎_, inl, inr, ⊎-elim}
+use mathlib.Core.List.{List}
+use native.Mathlib.Omega.{arith}
+use native.Mathlib.Decide.{decLt}
+use lib.ListN.{length, getD, set}
+use borrow.Author.Tests.{eq-eqb, ne-eqb, lt-ltb, le-ltb, le-leb, lt-leb, ltb-true, leb-true}
+use Rattle.model_sets.specs.Bits.{and-left, and-right}
+use Rattle.layout.specs.Sizes.{MODEL-ROWS, CODE}
+use Rattle.member_table.specs.declared.Piece.{Piece}
+use Rattle.member_table.specs.Filling.{State, pieceAt, placePiece, optPiece, joinedPiece, closedPiece, neededIn, putGroup, fits, closeGroup, stepFill, startFill, runFill}
+
+abbrev pub stateOf : List ℕ → List Piece → ℕ → List ℕ → (groups count : ℕ) → State
+stateOf M stack top lasts groups count = record { members = M; stack = stack; top = top; lasts = lasts; groups = groups; count = count }
+
+-- The state when the first i numbers of the code of T have been run upon M₀.
+pub record Running (T : List ℕ) (base : ℕ) (M₀ : List ℕ) (i : ℕ) (M : List ℕ) (stack : List Piece) (top : ℕ) (lasts : List ℕ) (groups count : ℕ) : Type 0 where
+  pub long : length M ≡ length M₀
+  pub low : top ≤ 97
+  pub few : groups ≤ 48
+  pub fewer : count < 97
+  pub is : stateOf M stack top lasts groups count ≡ runFill M₀ base T i
+
+pub run-start : (T : List ℕ) (base : ℕ) (M : List ℕ) → startFill M ≡ runFill M base T 0
+unfolding runFill
+run-start T base M = refl
+
+run-next : (T : List ℕ) (base : ℕ) (M : List ℕ) (i : ℕ) → i < CODE → stepFill base T (runFill M base T i) (getD T (MODEL-ROWS + i) 0) ≡ runFill M base T (i + 1)
+unfolding runFill
+run-next T base M i l = let e : i + 1 ≡ suc i = omega arith in rw (e, lt-ltb i CODE l)
+
+-- The same state by other names.
+pub run-by :
+    {T : List ℕ} {base : ℕ} {M₀ : List ℕ} {i : ℕ} {M N : List ℕ} {stack stack₁ : List Piece} {lasts lasts₁ : List ℕ} {groups groups₁ count count₁ top top₁ : ℕ} →
+    N ≡ M → stack₁ ≡ stack → lasts₁ ≡ lasts → groups₁ ≡ groups → count₁ ≡ count → top₁ ≡ top → Running T base M₀ i M stack top lasts groups count → Running T base M₀ i N stack₁ top₁ lasts₁ groups₁ count₁
+run-by a b c d e f r = rw (a, b, c, d, e, f) r
+
+-- A group that fits has two members or more on the stack, and there is room for the group and for them.
+pub fits-told : (k top groups count : ℕ) → fits k top groups count ≡ true → (2 ≤ k) × (k ≤ top) × (groups < 48) × (count + k < 97)
+fits-told k top groups count e =
+    let tail = and-right (leb 2 k) (leb k top && (ltb groups 48 && ltb (count + k) 97)) e in
+    let end = and-right (leb k top) (ltb groups 48 && ltb (count + k) 97) tail in (
+      leb-true 2 k (and-left (leb 2 k) (leb k top && (ltb groups 48 && ltb (count + k) 97)) e),
+      leb-true k top (and-left (leb k top) (ltb groups 48 && ltb (count + k) 97) tail),
+      ltb-true groups 48 (and-left (ltb groups 48) (ltb (count + k) 97) end),
+      ltb-true (count + k) 97 (and-right (ltb groups 48) (ltb (count + k) 97) end),
+    )
+
+-- One number more.
+module _ (T : List ℕ) (base : ℕ) (M₀ : List ℕ) (i : ℕ) (M : List ℕ) (stack : List Piece) (top : ℕ) (lasts : List ℕ) (groups count : ℕ) (so : Running T base M₀ i M stack top lasts groups count) (room : i < CODE) (op : ℕ) (read : op ≡ getD T (MODEL-ROWS + i) 0) where
+  stepped : (next : State) → next ≡ stepFill base T (stateOf M stack top lasts groups count) op → next ≡ runFill M₀ base T (i + 1)
+  stepped next e =
+      e ∙ ap (λ (r : State). stepFill base T r op) (so .is) ∙ ap (stepFill base T (runFill M₀ base T i)) read ∙ run-next T base M₀ i room
+
+  stays : stateOf M stack top lasts groups count ≡ stepFill base T (stateOf M stack top lasts groups count) op → Running T base M₀ (i + 1) M stack top lasts groups count
+  stays e = record { long = so .long; low = so .low; few = so .few; fewer = so .fewer; is = stepped (stateOf M stack top lasts groups count) e }
+
+  stacks : (k : ℕ) (x : Piece) (up : ℕ) → up ≡ k + 1 → up ≤ 97 → stateOf M (set stack k x) (k + 1) lasts groups count ≡ stepFill base T (stateOf M stack top lasts groups count) op → Running T base M₀ (i + 1) M (set stack k x) up lasts groups count
+  stacks k x up u l e =
+      record { long = so .long; low = l; few = so .few; fewer = so .fewer; is = ap (λ (n : ℕ). stateOf M (set stack k x) n lasts groups count) u ∙ stepped (stateOf M (set stack k x) (k + 1) lasts groups count) e }
+
+  pub runs-place : op < 97 → top < 97 → Running T base M₀ (i + 1) M (set stack top (placePiece op)) (top + 1) lasts groups count
+  runs-place small l = stacks top (placePiece op) (top + 1) refl (omega arith) (rw (lt-ltb op 97 small, lt-ltb top 97 l))
+
+  pub runs-full : op < 97 → 97 ≤ top → Running T base M₀ (i + 1) M stack top lasts groups count
+  runs-full small l = stays (rw (lt-ltb op 97 small, le-ltb top 97 l))
+
+  pub runs-opt : op ≡ 99 → 1 ≤ top → Running T base M₀ (i + 1) M (set stack (top - 1) (optPiece (pieceAt stack (top - 1)))) top lasts groups count
+  runs-opt is l = stacks (top - 1) (optPiece (pieceAt stack (top - 1))) top (omega arith) (so .low) (rw (le-ltb op 97 (omega arith), eq-eqb op 99 is, le-leb 1 top l))
+
+  pub runs-opt-none : op ≡ 99 → top < 1 → Running T base M₀ (i + 1) M stack top lasts groups count
+  runs-opt-none is l = stays (rw (le-ltb op 97 (omega arith), eq-eqb op 99 is, lt-leb 1 top l))
+
+  pub runs-join : 97 ≤ op → (op ≡ 99 → ⊥) → op < 100 → 2 ≤ top → (x : Piece) → x ≡ joinedPiece op (pieceAt stack (top - 2)) (pieceAt stack (top - 1)) → Running T base M₀ (i + 1) M (set stack (top - 2) x) (top - 1) lasts groups count
+  runs-join n₁ n₂ n₃ l x e =
+      rw e
+      (stacks (top - 2) (joinedPiece op (pieceAt stack (top - 2)) (pieceAt stack (top - 1))) (top - 1) (omega arith) (omega (arith, so .low))
+      (rw (le-ltb op 97 n₁, ne-eqb op 99 n₂, lt-ltb op 100 n₃, le-leb 2 top l)))
+
+  pub runs-join-none : 97 ≤ op → (op ≡ 99 → ⊥) → op < 100 → top < 2 → Running T base M₀ (i + 1) M stack top lasts groups count
+  runs-join-none n₁ n₂ n₃ l = stays (rw (le-ltb op 97 n₁, ne-eqb op 99 n₂, lt-ltb op 100 n₃, lt-leb 2 top l))
+
+  pub runs-other : 100 ≤ op → op ≤ 128 → Running T base M₀ (i + 1) M stack top lasts groups count
+  runs-other n₃ n₄ = stays (rw (le-ltb op 97 (omega arith), ne-eqb op 99 (λ (e : op ≡ 99). omega arith), le-ltb op 100 n₃, le-ltb 128 op n₄))
+
+  pub runs-unfit : 128 < op → (wide : ℕ) → wide ≡ op → fits (wide - 128) top groups count ≡ false → Running T base M₀ (i + 1) M stack top lasts groups count
+  runs-unfit n wide e f =
+      let g : fits (op - 128) top groups count ≡ false = rw e at f in
+      stays (rw (le-ltb op 97 (omega arith), ne-eqb op 99 (λ (d : op ≡ 99). omega arith), le-ltb op 100 (omega arith), lt-ltb 128 op n, g))
+
+  -- A group ends: its members are on the stack, and there is room for them.
+  pub runs-close :
+      128 < op → (wide : ℕ) → wide ≡ op → fits (wide - 128) top groups count ≡ true → (needed : ℕ) → needed ≡ neededIn stack (top - (wide - 128)) (wide - 128) →
+      (M₁ : List ℕ) → length M₁ ≡ length M → M₁ ≡ putGroup M base T lasts groups (count + 1) stack (top - (wide - 128)) needed (wide - 128) →
+      Running T base M₀ (i + 1) M₁ (set stack (top - (wide - 128)) (closedPiece needed (pieceAt stack (top - (wide - 128))) (pieceAt stack (top - 1)))) (top - (wide - 128) + 1)
+      (set lasts (groups + 1) (pieceAt stack (top - 1) .last)) (groups + 1) (count + (wide - 128))
+  runs-close n wide e f needed is M₁ len puts =
+      let told = fits-told (wide - 128) top groups count f in
+      let g : fits (op - 128) top groups count ≡ true = rw e at f in
+      let closed : stateOf M₁ (set stack (top - (wide - 128)) (closedPiece needed (pieceAt stack (top - (wide - 128))) (pieceAt stack (top - 1)))) (top - (wide - 128) + 1) (set lasts (groups + 1) (pieceAt stack (top - 1) .last)) (groups + 1) (count + (wide - 128)) ≡ closeGroup base T (op - 128) (stateOf M stack top lasts groups count) = rw (puts, is, e) in
+      record {
+        long = len ∙ so .long;
+        low = omega (arith, told .0, so .low);
+        few = omega (arith, told .2);
+        fewer = omega (arith, told .3);
+        is = closed ∙ stepped (closeGroup base T (op - 128) (stateOf M stack top lasts groups count)) (rw (le-ltb op 97 (omega arith), ne-eqb op 99 (λ (d : op ≡ 99). omega arith), le-ltb op 100 (omega arith), lt-ltb 128 op n, g));
+      }
+
+decided : {a b : ℕ} → Dec (a < b) → (a < b) ⊎ (b ≤ a)
+decided (yes l) = inl l
+decided (no n) = inr (omega (arith, n))
+
+run-stays : (T : List ℕ) (base : ℕ) (M : List ℕ) (i d n : ℕ) → CODE ≤ i → n ≡ d + i → runFill M base T i ≡ runFill M base T n
+unfolding runFill
+run-stays T base M i zero n l e = let f : n ≡ i = omega arith in rw f
+run-stays T base M i (suc d) zero l e = absurd (omega arith)
+run-stays T base M i (suc d) (suc n) l e = rw (le-ltb n CODE (omega arith)) (run-stays T base M i d n l (omega arith))
+
+-- All numbers have been run, or all that there is room for.
+module _ (T : List ℕ) (base : ℕ) (M₀ : List ℕ) (i : ℕ) (M : List ℕ) (stack : List Piece) (top : ℕ) (lasts : List ℕ) (groups count : ℕ) (so : Running T base M₀ i M stack top lasts groups count) (n : ℕ) where
+  pub ran-all : i ≡ n → M ≡ runFill M₀ base T n .members
+  ran-all e = ap (λ (s : State). s .members) (so .is) ∙ ap (λ (k : ℕ). runFill M₀ base T k .members) e
+
+  pub ran-full : i ≤ n → CODE ≤ i → M ≡ runFill M₀ base T n .members
+  ran-full l full = ap (λ (s : State). s .members) (so .is ∙ run-stays T base M₀ i (n - i) n full (omega arith))
