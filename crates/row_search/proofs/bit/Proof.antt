@@ -1,8 +1,7 @@
+-- `bit` meets its contract: a shift by k is a division by the k-th power of two.
 use borrow.Author.Needs.{needs}
 use Rattle.row_search.proofs.bit.Statement.{statement}
 use Rattle.row_search.proofs.bit.Tie as tie
-use Rattle.numbers.proofs.wide.Reads as wide-reads
-use Rattle.row_search.proofs.row.Reads as row-reads
 
 row-requires : tie.Need-row-requires
 row-requires c κs = search needs
@@ -20,7 +19,7 @@ shr-result : tie.Need-shr-result
 shr-result c = search needs
 
 returns : tie.Need-returns
-returns c = ?
+returns c = rw (c .before .wide .ensures .0, c .before .before .before .before .row .ensures)
 
 pub bit-spec : {M : Type 1} → statement M
 bit-spec =
