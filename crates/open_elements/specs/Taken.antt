@@ -1,14 +1,13 @@
 -- The marks of an open element after a place is taken, as the rows and what has begun give them: they are what the rules decide, and the element stands for the
 -- rules' with this place more.
-use Prim.Native.Nat.{ℕ, zero, suc, _+_, _-_, _≤_, _<_}
+use Prim.Native.Nat.{ℕ, zero, suc, _+_, _≤_, _<_}
 use mathlib.Core.Path.{_≡_, refl, sym, _∙_, ap, subst}
 use mathlib.Core.Bool.{Bool, true, false, _&&_, not, cond}
-use mathlib.Core.Logic.{inl, ⊎-elim}
+use mathlib.Core.Logic.{_⊎_, inl, inr, ⊎-elim}
 use mathlib.Core.List.{List, [], _∷_, _++_}
+use native.Mathlib.Decide.{ℕ-discrete}
 use native.Mathlib.Omega.{arith}
 use lib.ListN.{length, getD}
-use lib.Dec.{eqb}
-use borrow.Author.Tests.{eq-eqb, ne-eqb}
 use Rattle.rules.specs.Walk.{Group}
 use Rattle.rules.specs.TypeFile.{model, Element}
 use Rattle.rules.specs.Elements.{contentOf}
@@ -29,15 +28,12 @@ use Rattle.document_laws.specs.Numbers.{typeFile-guarded}
 use Rattle.type_laws.specs.Width.{typeFile-width}
 use Rattle.and_groups.specs.Means.{Blocked, free, held, Takes}
 use Rattle.type_tables.specs.Means.{width, rowAt, completeAt, raisedAt, PlainIn, ToldIn, Tables, Entered, CanTake}
-use Rattle.open_elements.specs.Means.{taking, Marking}
+use Rattle.open_elements.specs.Means.{taking, Weighs, Marking}
 use Rattle.open_elements.specs.Entered.{required-range}
 
--- What is kept where no group blocks, and what else.
-abbrev pub completeBy : (r : ℕ) → Bool → Bool
-completeBy r b = cond (eqb r 255) b false
-
-abbrev pub requiredBy : (r kept : ℕ) → ℕ
-requiredBy r kept = cond (eqb r 255) (kept - 128) r
+-- What the groups around the place leave of the marks of its row: all, where they answer 255; else the content is not complete, and what they answer is required.
+abbrev Left : (r : ℕ) (row : Bool) (n : ℕ) (complete : Bool) (required : ℕ) → Type 0
+Left r row n c q = ((r ≡ 255) × (row ≡ c) × (n ≡ q)) ⊎ ((r ≤ 96) × (false ≡ c) × (r ≡ q))
 
 -- A place that was taken.
 is-taken : (g : Group) (p : ℕ) (S : ℕ → Bool) → has g p ≡ true → S p ≡ true → IsTaken g p S
@@ -55,23 +51,18 @@ raised-so b zero n l e m s = absurd (omega arith)
 raised-so true (suc p) n l e m s = (refl, e)
 raised-so false (suc p) n l e m s = absurd (omega (arith, m refl))
 
--- By what blocks
-
-blocked-complete : {g : Group} {p r : ℕ} {S : ℕ → Bool} {b : Bool} (c : Bool) → Blocked g p S r → b ≡ c && not (blocksIn (around g p) p S) → completeBy r c ≡ b
-blocked-complete c (free e i) k = rw (eq-eqb _ 255 e) (sym (k ∙ rw i (all c)))
+-- By what blocks.
+blocked-left : {g : Group} {p r m : ℕ} {S : ℕ → Bool} {b : Bool} (c : Bool) (n : ℕ) → Blocked g p S r → b ≡ c && not (blocksIn (around g p) p S) → m ≡ cond (blocksIn (around g p) p S) (loneIn (around g p) S) n → Left r c n b m
+blocked-left c n (free e i) k j = inl (e, sym (k ∙ rw i (all c)), sym (j ∙ rw i))
   where
     all : (c : Bool) → c && true ≡ c
     all true = refl
     all false = refl
-blocked-complete {r = r} c (held e l i) k = rw (ne-eqb r 255 (λ z. omega arith)) (sym (k ∙ rw i (none c)))
+blocked-left c n (held e l i) k j = inr (l, sym (k ∙ rw i (none c)), e ∙ sym (j ∙ rw i))
   where
     none : (c : Bool) → c && false ≡ false
     none true = refl
     none false = refl
-
-blocked-required : {g : Group} {p r kept m : ℕ} {S : ℕ → Bool} (n : ℕ) → Blocked g p S r → kept ≡ 128 + n → m ≡ cond (blocksIn (around g p) p S) (loneIn (around g p) S) n → requiredBy r kept ≡ m
-blocked-required {kept = kept} n (free e i) k j = let low : kept - 128 ≡ n = omega arith in rw (eq-eqb _ 255 e) (low ∙ sym (j ∙ rw i))
-blocked-required {r = r} n (held e l i) k j = rw (ne-eqb r 255 (λ z. omega arith)) (e ∙ sym (j ∙ rw i))
 
 groups-around : (g : Group) (p : ℕ) → 1 ≤ p → groupsAt g p ≡ around g p
 groups-around g zero l = absurd (omega arith)
@@ -162,17 +153,16 @@ module _ {s : List ℕ} {es : List Element} {rows places facts M before : List �
       omega (arith, required-range tables (plain-stands plain), is-required, plain-required g good (mem taken) plain p there)
 
   pub took-among : 96 < kept → {after : List ℕ} {r : ℕ} → Takes M level e u p before after r
-      → Entered es M after level e p (taking p o) × (completeBy r (completeAt rows e p) ≡ decided s es .complete e taken) × (requiredBy r kept ≡ decided s es .required e taken)
+      → Entered es M after level e p (taking p o) × (n : ℕ) × (kept ≡ 128 + n) × Left r (completeAt rows e p) n (decided s es .complete e taken) (decided s es .required e taken)
   took-among large {after} {r} takes =
       let (raised, kept-is) = raised-so (tables .raised e) p (requiredIn g p) (range .0) row-required plain-small large in
       let told = subst (ToldIn M e) content (tables .told e (h .declared) raised) in
       let stands = h .stands content in
       let blocked = takes .blocked g (sized .2) guarded (sized .1) told (o .taken) stands inside in
-      let groups = groups-around g p (range .0) in (
-        entered-taking after (takes .stands g (sized .2) guarded told (o .taken) stands inside),
-        ap (completeBy r) row-complete ∙ blocked-complete (completeIn g p) blocked (is-complete ∙ rw groups at (complete-around g good (mem taken) p there)),
-        blocked-required (requiredIn g p) blocked kept-is (is-required ∙ rw groups at (required-around g good (mem taken) p there)),
-      )
+      let groups = groups-around g p (range .0) in
+      let complete : decided s es .complete e taken ≡ completeIn g p && not (blocksIn (around g p) p (mem taken)) = is-complete ∙ rw groups at (complete-around g good (mem taken) p there) in
+      let required : decided s es .required e taken ≡ cond (blocksIn (around g p) p (mem taken)) (loneIn (around g p) (mem taken)) (requiredIn g p) = is-required ∙ rw groups at (required-around g good (mem taken) p there) in
+      (entered-taking after (takes .stands g (sized .2) guarded told (o .taken) stands inside), requiredIn g p, kept-is, rw row-complete (blocked-left (completeIn g p) (requiredIn g p) blocked complete required))
 
 -- The marks
 
@@ -194,28 +184,28 @@ module _ {rows M before : List ℕ} {level e u p kept : ℕ} (read : kept ≡ ge
             (there, row ∙ complete, required);
       }
 
-  module _ (large : 96 < kept) {after : List ℕ} {r : ℕ} (takes : Takes M level e u p before after r) where
-    -- A group lacks a member: nothing is complete there, and the place of that group is required.
-    pub marking-held : (r ≡ 255 → ⊥) → Marking rows M before level e u p after false r
-    marking-held n =
-        record {
-          small = ⊎-elim (λ i. absurd (n i)) (λ l. l) (takes .small);
-          whole = takes .whole;
-          elsewhere = takes .elsewhere;
-          marks = λ s es places facts tables o entered can.
-              let (there, complete, required) = took-among tables entered can read large takes in
-              (there, rw (ne-eqb r 255 n) at complete, rw (ne-eqb r 255 n) at required);
-        }
-
-    -- No group does: the row has the marks.
-    pub marking-free : r ≡ 255 → {q : ℕ} → q ≤ 96 → (kept ≤ 224 → q ≡ kept - 128) → Marking rows M before level e u p after c q
-    marking-free i l low =
-        record {
-          small = l;
-          whole = takes .whole;
-          elsewhere = takes .elsewhere;
-          marks = λ s es places facts tables o entered can.
-              let (there, complete, required) = took-among tables entered can read large takes in
-              let due = rw (eq-eqb r 255 i) at required in
-              (there, row ∙ (rw (eq-eqb r 255 i) at complete), low (omega (arith, due, required-range tables there)) ∙ due);
-        }
+  -- A model with "&": what its groups leave of them.
+  pub marking-among : 96 < kept → {after : List ℕ} {r : ℕ} → Takes M level e u p before after r → {d : Bool} {q : ℕ} → Weighs r c kept d q → Marking rows M before level e u p after d q
+  marking-among large {after} {r} takes {d} {q} w = by-answer (ℕ-discrete r 255)
+    where
+      by-answer : Dec (r ≡ 255) → Marking rows M before level e u p after d q
+      by-answer (no f) =
+          let (marked, due) = w .held f in
+          record {
+            small = rw due (⊎-elim (λ i. absurd (f i)) (λ l. l) (takes .small));
+            whole = takes .whole;
+            elsewhere = takes .elsewhere;
+            marks = λ s es places facts tables o entered can.
+                let (there, n, raised, left) = took-among tables entered can read large takes in
+                ⊎-elim (λ x. absurd (f (x .0))) (λ x. (there, marked ∙ x .1, due ∙ x .2)) left;
+          }
+      by-answer (yes i) =
+          let (marked, small, low) = w .free i in
+          record {
+            small = small;
+            whole = takes .whole;
+            elsewhere = takes .elsewhere;
+            marks = λ s es places facts tables o entered can.
+                let (there, n, raised, left) = took-among tables entered can read large takes in
+                ⊎-elim (λ x. (there, marked ∙ row ∙ x .1, low n raised (omega (arith, x .2, required-range tables there)) ∙ x .2)) (λ x. absurd (omega (arith, x .0, i))) left;
+          }
