@@ -1,10 +1,10 @@
 -- The loop of step 3, for every type whose tables these are: ends are inferred until the token fits or is stuck.
-use Prim.Native.Nat.{ℕ, zero, suc, _+_, _≤_, _<_}
+use Prim.Native.Nat.{ℕ, _+_, _≤_}
 use mathlib.Core.Path.{_≡_, refl, sym, _∙_, ap, subst}
 use mathlib.Core.Bool.{Bool, true, false}
 use mathlib.Core.List.{List, [], _∷_, _++_, append-assoc, append-nil}
 use native.Mathlib.Omega.{arith}
-use lib.ListN.{length, length-append}
+use lib.ListN.{length-append}
 use Rattle.rules.specs.Reading.{refused, got}
 use Rattle.rules.specs.TypeFile.{Element}
 use Rattle.rules.specs.Decisions.{Token, Decisions}
@@ -20,7 +20,7 @@ use Rattle.open_elements.specs.Laws.{stands-required, stands-around, ranged-end
 use Rattle.event_buffer.specs.Means.{Puts}
 use Rattle.event_buffer.specs.Laws.{puts-none, puts-then}
 use Rattle.ways.specs.declared.Way.{Way}
-use Rattle.ways.specs.declared.Way.the-variants.{Taken, Inferred, Stuck}
+use Rattle.ways.specs.declared.Way.the-variants.{Stuck}
 use Rattle.ways.specs.Means.{wayOf, chained, mayEnd, MayEnd}
 use Rattle.inferring.specs.Inferring.{none, more, Comes, Turns, Finds}
 use Rattle.inferring.specs.Inward.{inwardAs, inward-way}

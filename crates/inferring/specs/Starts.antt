@@ -15,8 +15,8 @@ use Rattle.document_laws.specs.Chain.{Leads, inferable-may}
 use Rattle.document_laws.specs.Moves.{fresh, placeTaken-took}
 use Rattle.type_tables.specs.Means.{Tables, CanTake}
 use Rattle.open_elements.specs.declared.Open.{Open}
-use Rattle.open_elements.specs.Means.{opening, Ranged, Stands}
-use Rattle.open_elements.specs.Owed.{can-require}
+use Rattle.open_elements.specs.Means.{Ranged, Stands}
+use Rattle.open_elements.specs.Entered.{can-require}
 use Rattle.open_elements.specs.Laws.{stands-required, stands-noted, stands-opening, ranged-taking, ranged-opening}
 use Rattle.event_buffer.specs.Means.{Puts}
 use Rattle.event_buffer.specs.Laws.{puts-none, puts-then}

@@ -1,8 +1,8 @@
 -- Laws of the open elements: what the methods do to the rules' state that they stand for, and what stays in range.
-use Prim.Native.Nat.{ℕ, zero, suc, _+_, _-_, _*_, _≤_, _<_}
+use Prim.Native.Nat.{ℕ, zero, suc, _+_, _-_, _≤_, _<_}
 use mathlib.Core.Path.{_≡_, refl, ap, ap₂, sym, _∙_, subst}
 use mathlib.Core.Bool.{Bool, true, false}
-use mathlib.Core.List.{List, [], _∷_, _++_}
+use mathlib.Core.List.{List, [], _∷_}
 use native.Mathlib.Decide.{ℕ-discrete}
 use native.Mathlib.Numerals.{add-one}
 use native.Mathlib.Omega.{arith}
@@ -12,7 +12,7 @@ use lib.Dec.{eqb}
 use lib.Seq.{getD-set-same, getD-set-other}
 use Rattle.rules.specs.TypeFile.{Element}
 use Rattle.rules.specs.Events.{Event}
-use Rattle.rules.specs.Settling.{State, nothingOpen, takePlace, enter, shown, isOpen}
+use Rattle.rules.specs.Settling.{State, nothingOpen, enter, shown, isOpen}
 use Rattle.rules.specs.Settling as rules
 use Rattle.layout.specs.declared.Place.{Place}
 use Rattle.layout.specs.declared.ElementNo.{ElementNo}
@@ -21,11 +21,11 @@ use Rattle.document_laws.specs.Decide.{isCompleteIn, requiredFor, decided}
 use Rattle.document_laws.specs.Moves.{state}
 use Rattle.document_laws.specs.Moves as moves
 use Rattle.and_groups.specs.Means.{Elsewhere}
-use Rattle.type_tables.specs.Means.{completeAt, requiredAt, Tables, Entered, CanTake}
-use Rattle.open_elements.specs.Owed.{required-small, entered-elsewhere, entered-fresh, fresh-complete, fresh-required}
+use Rattle.type_tables.specs.Means.{completeAt, requiredAt, Tables}
+use Rattle.open_elements.specs.Entered.{required-small, entered-elsewhere, entered-fresh, fresh-complete, fresh-required}
 use Rattle.open_elements.specs.declared.Entry.{Entry}
 use Rattle.open_elements.specs.declared.Open.{Open}
-use Rattle.open_elements.specs.Means.{none, fresh, covered, opening, parentOf, ended, aroundOf, bare, Within, Ranged, Kept, AllKept, Stands, Marking, Taking, Starting}
+use Rattle.open_elements.specs.Means.{none, fresh, covered, opening, parentOf, ended, aroundOf, bare, Within, Ranged, Kept, AllKept, Stands, Marking, Taking}
 
 -- What was read of the rows makes the state that `opening` gives.
 pub opening-by : (rows : List ℕ) (k : ElementNo) (o : Open) {x : Entry} {c : Bool} {q : Place} → x ≡ covered o → c ≡ completeAt rows (k .0) 0 → q .0 ≡ requiredAt rows (k .0) 0

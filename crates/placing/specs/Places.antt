@@ -7,7 +7,7 @@ use native.Mathlib.Omega.{arith}
 use lib.ListN.{length}
 use lib.Dec.{leb}
 use borrow.Author.Tests.{leb-true, leb-false, le-ltb, lt-ltb}
-use Rattle.rules.specs.Reading.{Reading, refused, got}
+use Rattle.rules.specs.Reading.{refused, got}
 use Rattle.rules.specs.TypeFile.{Element}
 use Rattle.rules.specs.Elements.{contentOf, hasModel}
 use Rattle.rules.specs.Decisions.{Token, start}
@@ -15,9 +15,8 @@ use Rattle.rules.specs.Events.{Event, startWritten, endOfEmpty}
 use Rattle.rules.specs.Settling.{State, takePlace, shown, placeTaken, enter, note, limited}
 use Rattle.document_laws.specs.Decide.{decided}
 use Rattle.document_laws.specs.Moves.{state, placeTaken-took}
-use Rattle.type_tables.specs.Means.{nameNumber, Declares, Facts, Tables, CanTake}
+use Rattle.type_tables.specs.Means.{nameNumber, Declares, Facts, Tables}
 use Rattle.open_elements.specs.declared.Open.{Open}
-use Rattle.open_elements.specs.declared.Outcome.{Outcome}
 use Rattle.open_elements.specs.Means.{Becomes, opening, Ranged, Stands, Taking}
 use Rattle.open_elements.specs.Laws.{stands-deep, stands-noted, stands-opening, ranged-taking, ranged-opening}
 use Rattle.event_buffer.specs.Means.{noted, Puts}

@@ -2,7 +2,7 @@
 use Prim.Native.Nat.{ℕ, zero, suc, _+_, _≤_, _<_}
 use mathlib.Core.Path.{_≡_, refl, sym, _∙_, ap, ap₂, subst}
 use mathlib.Core.Bool.{true, false}
-use mathlib.Core.List.{List, [], _∷_, _++_, append-assoc}
+use mathlib.Core.List.{List, [], _++_, append-assoc}
 use native.Mathlib.Omega.{arith}
 use lib.ListN.{length, length-append}
 use Rattle.rules.specs.Reading.{Reading, refused, got, andThen}
@@ -16,7 +16,7 @@ use Rattle.type_tables.specs.Means.{Tables, CanTake}
 use Rattle.open_elements.specs.declared.Open.{Open}
 use Rattle.open_elements.specs.declared.Outcome.{Outcome}
 use Rattle.open_elements.specs.Means.{Becomes, Ranged, Stands}
-use Rattle.open_elements.specs.Owed.{can-fit}
+use Rattle.open_elements.specs.Entered.{can-fit}
 use Rattle.open_elements.specs.Laws.{stands-deep}
 use Rattle.event_buffer.specs.Laws.{puts-none, puts-then}
 use Rattle.ways.specs.declared.Way.{Way}

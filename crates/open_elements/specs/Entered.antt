@@ -1,6 +1,6 @@
--- What the tables say of an open element that is entered, and of the places that it can take.
-use Prim.Native.Nat.{ℕ, zero, suc, _+_, _-_, _*_, _/_, _%_, _^_, _≤_, _<_}
-use mathlib.Core.Path.{_≡_, refl, sym, _∙_, ap, subst}
+-- What the tables say of an open element that is entered: what begins elsewhere leaves it so, which places it can take, and the marks at its start.
+use Prim.Native.Nat.{ℕ, zero, suc, _+_, _-_, _/_, _%_, _^_, _≤_}
+use mathlib.Core.Path.{_≡_, refl, _∙_, ap, subst}
 use mathlib.Core.Bool.{Bool, true, false, _&&_}
 use mathlib.Core.List.{List, [], _∷_}
 use native.Mathlib.Omega.{arith}
@@ -12,7 +12,6 @@ use Rattle.rules.specs.TypeFile.{Place, Content, empty, model, Element}
 use Rattle.rules.specs.Elements.{contentOf}
 use Rattle.rules.specs.Decisions.{Token}
 use Rattle.rules.specs.Settling as rules
-use Rattle.layout.specs.Sizes.{BEGUN-WORDS}
 use Rattle.model_sets.specs.Bits.{bool-cases}
 use Rattle.model_sets.specs.Sets.{has, lastM}
 use Rattle.and_laws.specs.Base.{mem}
@@ -20,7 +19,7 @@ use Rattle.and_laws.specs.Begun.{begins-none, next-range}
 use Rattle.and_laws.specs.Sets.{meets}
 use Rattle.and_laws.specs.Ranked.{Level, levels}
 use Rattle.rules_laws.specs.Groups.{GuardedIn}
-use Rattle.member_laws.specs.Members.{Grouped, Chain, wordAt, begunAt, AllMarked, Standing, amount, needs, firstAt, outerAt, holderAt}
+use Rattle.member_laws.specs.Members.{Grouped, Chain, begunAt, AllMarked, Standing, amount, needs, firstAt, outerAt, holderAt}
 use Rattle.member_laws.specs.Numbered.{amount-both, each-at, at-each, Ranged, needed, spare, numbered-range}
 use Rattle.member_laws.specs.Inside.{EachLevel, plain-levels}
 use Rattle.document_laws.specs.Decide.{fitsIn, isCompleteIn, requiredFor, decided, content-guarded}
