@@ -76,54 +76,20 @@ wide-requires-3 c κs = search needs
 add-hi : tie.Need-add-hi
 add-hi c = search needs
 
-put-places-requires : tie.Need-put-places-requires
-put-places-requires c κs = omega (arith, small (c .before .before .before .before .before .before .before))
-
-put-outers-requires : tie.Need-put-outers-requires
-put-outers-requires c κs = omega (arith, small (c .before .before .before .before .before .before .before .before .before .before .before))
-
-add-g : tie.Need-add-g
-add-g c = search needs
-
-add-put : tie.Need-add-put
-add-put c = search needs
-
-add-put-2 : tie.Need-add-put-2
-add-put-2 c = omega (arith, small (c .before .before .before .before .before .before .before .before .before .before .before .before .before .before .before .before))
-
-cast-put : tie.Need-cast-put
-cast-put c = search needs
-
-put-requires : tie.Need-put-requires
-put-requires c κs = search needs
-
-mul-put : tie.Need-mul-put
-mul-put c = search needs
-
-add-put-3 : tie.Need-add-put-3
-add-put-3 c = search needs
-
-add-put-4 : tie.Need-add-put-4
-add-put-4 c = omega (arith, small (c .before .before .before .before .before .before .before .before .before .before .before .before .before .before .before .before .before .before .before .before))
-
-put-requires-2 : tie.Need-put-requires-2
-put-requires-2 c κs = search needs
+put-member-requires : tie.Need-put-member-requires
+put-member-requires c κs = omega (arith, small (c .before .before .before .before .before .before .before))
 
 same-length : tie.Need-same-length
 same-length c = search needs
 
 returns : tie.Need-returns
 returns c =
-    let last = c .before .before in
-    let group = last .before .before .before .before in
-    let outer = group .before .before .before .before .before in
-    let places = outer .before .before .before .before in
-    let got = places .before .before in
+    let put = c .before .before in
+    let got = put .before .before in
     let known = got .before .before .before .before .before in
     let x = known .before .before .before .before .before .args in
     one-put (x .members .now) (x .base) (x .table .now) (x .lasts) (x .groups) (x .own) (x .t7) (x .first) (x .needed) (x .j) _ _ _ _
-    (is-number (known .before)) (got .before .before .wide .ensures .0 ∙ is-other known .0) (got .before .wide2 .ensures .0) (got .wide3 .ensures .0)
-    _ _ _ _ (places .put-places .ensures) (outer .put-outers .ensures) (group .put .ensures) (last .put2 .ensures)
+    (is-number (known .before)) (got .before .before .wide .ensures .0 ∙ is-other known .0) (got .before .wide2 .ensures .0) (got .wide3 .ensures .0) _ (put .put-member .ensures)
 
 pub put-one-spec : {M : Type 1} → statement M
 put-one-spec =
@@ -144,16 +110,6 @@ put-one-spec =
     wide-requires-2
     wide-requires-3
     add-hi
-    put-places-requires
-    put-outers-requires
-    add-g
-    add-put
-    add-put-2
-    cast-put
-    put-requires
-    mul-put
-    add-put-3
-    add-put-4
-    put-requires-2
+    put-member-requires
     same-length
     returns)

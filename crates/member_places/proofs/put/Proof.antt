@@ -2,8 +2,8 @@
 use mathlib.Core.Path.{sym}
 use lib.Seq.{set-out}
 use borrow.Author.Needs.{needs}
-use Rattle.member_table.proofs.put.Statement.{statement}
-use Rattle.member_table.proofs.put.Tie as tie
+use Rattle.member_places.proofs.put.Statement.{statement}
+use Rattle.member_places.proofs.put.Tie as tie
 
 slice-write-members : tie.Need-slice-write-members
 slice-write-members c = search needs

@@ -5,10 +5,10 @@ use native.Mathlib.Omega.{arith}
 use lib.ListN.{length}
 use borrow.Author.Needs.{needs}
 use Rattle.model_links.specs.Each.{each-end}
-use Rattle.member_table.specs.Filling.{putOuters}
-use Rattle.member_table.specs.Writes.{outers-turn}
-use Rattle.member_table.proofs.put_outers.Statement.{statement}
-use Rattle.member_table.proofs.put_outers.Tie as tie
+use Rattle.member_places.specs.Puts.{putOuters}
+use Rattle.member_places.specs.Writes.{outers-turn}
+use Rattle.member_places.proofs.put_outers.Statement.{statement}
+use Rattle.member_places.proofs.put_outers.Tie as tie
 
 abbrev Inv-loop : tie.InvT-loop
 Inv-loop members₀ base table lo hi w h groups lasts end g₀ members g =

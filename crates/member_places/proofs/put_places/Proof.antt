@@ -5,10 +5,10 @@ use native.Mathlib.Omega.{arith}
 use lib.ListN.{length}
 use borrow.Author.Needs.{needs}
 use Rattle.model_links.specs.Each.{each-end}
-use Rattle.member_table.specs.Filling.{putPlaces}
-use Rattle.member_table.specs.Writes.{places-turn}
-use Rattle.member_table.proofs.put_places.Statement.{statement}
-use Rattle.member_table.proofs.put_places.Tie as tie
+use Rattle.member_places.specs.Puts.{putPlaces}
+use Rattle.member_places.specs.Writes.{places-turn}
+use Rattle.member_places.proofs.put_places.Statement.{statement}
+use Rattle.member_places.proofs.put_places.Tie as tie
 
 abbrev Inv-loop : tie.InvT-loop
 Inv-loop members₀ base table lo hi w h u₀ members u =

@@ -1,9 +1,9 @@
 -- `put_outer` meets its contract: the last place of the group is within the member, behind it, or before it.
 use native.Mathlib.Omega.{arith}
 use borrow.Author.Needs.{needs}
-use Rattle.member_table.specs.Writes.{outer-within, outer-right, outer-left}
-use Rattle.member_table.proofs.put_outer.Statement.{statement}
-use Rattle.member_table.proofs.put_outer.Tie as tie
+use Rattle.member_places.specs.Writes.{outer-within, outer-right, outer-left}
+use Rattle.member_places.proofs.put_outer.Statement.{statement}
+use Rattle.member_places.proofs.put_outer.Tie as tie
 
 mul-put-free : tie.Need-mul-put-free
 mul-put-free c = search needs

@@ -2,9 +2,9 @@
 use mathlib.Core.Logic.{⊎-elim}
 use native.Mathlib.Omega.{arith}
 use borrow.Author.Needs.{needs}
-use Rattle.member_table.specs.Writes.{marked-one, marked-other, marked-past}
-use Rattle.member_table.proofs.mark.Statement.{statement}
-use Rattle.member_table.proofs.mark.Tie as tie
+use Rattle.member_places.specs.Writes.{marked-one, marked-other, marked-past}
+use Rattle.member_places.proofs.mark.Statement.{statement}
+use Rattle.member_places.proofs.mark.Tie as tie
 
 whole-requires : tie.Need-whole-requires
 whole-requires c κs = search needs

@@ -1,8 +1,8 @@
 -- `put_free` meets its contract: the number is free, it is not, or there is none.
 use borrow.Author.Needs.{needs}
-use Rattle.member_table.specs.Writes.{free-put, free-kept, free-past}
-use Rattle.member_table.proofs.put_free.Statement.{statement}
-use Rattle.member_table.proofs.put_free.Tie as tie
+use Rattle.member_places.specs.Writes.{free-put, free-kept, free-past}
+use Rattle.member_places.proofs.put_free.Statement.{statement}
+use Rattle.member_places.proofs.put_free.Tie as tie
 
 slice-read-if2 : tie.Need-slice-read-if2
 slice-read-if2 c = search needs
