@@ -16,7 +16,8 @@ use Rattle.rules.specs.Elements.{elementAt, contentOf, placesIn, hasModel}
 use Rattle.layout.specs.Sizes.{FACT, FACTS}
 use Rattle.model_sets.specs.Sets.{size}
 use Rattle.and_laws.specs.Numbers.{Guarded, has-range}
-use Rattle.document_laws.specs.Decide.{GuardedIn, content-guarded}
+use Rattle.rules_laws.specs.Groups.{GuardedIn}
+use Rattle.document_laws.specs.Decide.{content-guarded}
 use Rattle.document_laws.specs.Numbers.{typeFile-guarded}
 use Rattle.model_names.specs.Places.{placesOf}
 use Rattle.model_names.specs.Laws.{placeAt-placesOf}

@@ -3,7 +3,6 @@ use Prim.Native.Nat.{ℕ, _*_, _-_, _≤_}
 use mathlib.Core.Path.{_≡_, refl}
 use mathlib.Core.Bool.{true}
 use native.Mathlib.Omega.{arith}
-use lib.ListN.{length}
 use borrow.Author.Needs.{needs}
 use Rattle.layout.specs.Sizes.{FACT}
 use Rattle.table_fill.specs.Filled.{LargestPut, raise-none, raise-more}
@@ -21,3 +20,54 @@ mul-f c = omega arith
 
 loop-holds : tie.Need-loop-holds Inv-loop μ-loop
 loop-holds c = (omega arith, λ e l q. raise-none _ _ (c .before .pre .1))
+
+add-raised : tie.Need-add-raised Inv-loop μ-loop
+add-raised c = omega arith
+
+element-copy-out-raised : tie.Need-element-copy-out-raised Inv-loop μ-loop
+element-copy-out-raised c = omega arith
+
+raised-requires : tie.Need-raised-requires Inv-loop μ-loop
+raised-requires c κs = search needs
+
+add-facts : tie.Need-add-facts Inv-loop μ-loop
+add-facts c = omega arith
+
+element-write-facts : tie.Need-element-write-facts Inv-loop μ-loop
+element-write-facts c = omega arith
+
+add-x : tie.Need-add-x Inv-loop μ-loop
+add-x c = omega arith
+
+loop-less : tie.Need-loop-less Inv-loop μ-loop
+loop-less c = omega arith
+
+loop-again : tie.Need-loop-again Inv-loop μ-loop
+loop-again c =
+    let i = c .before .before .before .loop in
+    (omega arith, λ e l q. raise-more _ _ _ _ _ _ l (omega arith) (i .inv .1 e l q) (omega arith) (c .raised .ensures))
+
+returns : tie.Need-returns Inv-loop μ-loop
+returns c =
+    let i = c .before .loop in
+    let x = c .before .before .before in
+    let full : i .x ≡ 65 = omega arith in
+    rw full at (i .inv .1 (x .args .e .0) (x .pre .0) refl)
+
+pub raise-facts-spec : {M : Type 1} → statement M
+raise-facts-spec =
+    tie.close
+    (tie.spec
+    Inv-loop
+    μ-loop
+    mul-f
+    loop-holds
+    add-raised
+    element-copy-out-raised
+    raised-requires
+    add-facts
+    element-write-facts
+    add-x
+    loop-less
+    loop-again
+    returns)
