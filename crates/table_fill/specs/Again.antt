@@ -91,7 +91,7 @@ last-same es x y q = sym (elementAt-next es x []) ∙ ap (λ (l : List Element).
 
 -- The declaration was read, and its names and its table keep the content.
 abbrev pub ReadsAs : (names table : List ℕ) → Content → ElementRead → Type 0
-ReadsAs names table c (elementRead.Read d) = KeepsContent names table (d .kind) (d .tokens) (d .places) c
+ReadsAs names table c (elementRead.Read d) = KeepsContent names table (d .kind) (d .tokens) (d .places) (d .code) (d .and) (d .repeated) c
 ReadsAs names table c (elementRead.Refused f) = ⊥
 
 module _ (c : Settings) (s elements : List ℕ) (es : List Element) (read : typeFile c s ≡ got es) (r : Recorded elements es) (e : ℕ) (from : 1 ≤ e) (to : e ≤ length es) (names table : List ℕ) where
@@ -99,7 +99,7 @@ module _ (c : Settings) (s elements : List ℕ) (es : List Element) (read : type
       → ReadsAs names table (contentOf es e) x
   reads-declared at fs d q (elementRead.Read y) m =
       let same : m .element ≡ elementAt es (e - 1) = last-same fs _ _ (sym (m .grows) ∙ q) in
-      subst (KeepsContent names table (y .kind) (y .tokens) (y .places)) (ap (λ (z : Element). z .content) same ∙ sym (content-at es e from)) (m .content)
+      subst (KeepsContent names table (y .kind) (y .tokens) (y .places) (y .code) (y .and) (y .repeated)) (ap (λ (z : Element). z .content) same ∙ sym (content-at es e from)) (m .content)
   reads-declared at fs d q (elementRead.Refused f) m = m
 
   pub reads-again : (at : ℕ) (x : ElementRead) → at ≡ getD elements (6 * (e - 1)) 0

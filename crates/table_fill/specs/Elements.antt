@@ -1,6 +1,8 @@
 -- One element of an indexed type: what its record and its declaration, read again, put into the tables.
 use Prim.Native.Nat.{ℕ, zero, suc, _+_, _-_, _*_, _≤_, _<_}
-use mathlib.Core.Path.{_≡_, refl, subst, _∙_}
+use mathlib.Core.Path.{_≡_, refl, sym, subst, _∙_}
+use mathlib.Core.Bool.{Bool, true, false, cond, true≢false}
+use mathlib.Core.Logic.{_⊎_, inl, inr}
 use mathlib.Core.List.{List, [], _∷_}
 use native.Mathlib.Nat.{not-suc-le-zero, le-of-suc-le-suc}
 use native.Mathlib.Omega.{arith}
@@ -12,6 +14,11 @@ use Rattle.rules.specs.TypeFile.{Place, Content, empty, model, Element, element
 use Rattle.rules.specs.Judge.{Accepts, placeAt}
 use Rattle.rules.specs.Elements.{elementAt, contentOf, placesIn, hasModel}
 use Rattle.layout.specs.Sizes.{FACT, FACTS}
+use Rattle.model_sets.specs.Sets.{size}
+use Rattle.and_laws.specs.Numbers.{Guarded, has-range}
+use Rattle.rules_laws.specs.Groups.{GuardedIn}
+use Rattle.document_laws.specs.Decide.{content-guarded}
+use Rattle.document_laws.specs.Numbers.{typeFile-guarded}
 use Rattle.model_names.specs.Places.{placesOf}
 use Rattle.model_names.specs.Laws.{placeAt-placesOf}
 use Rattle.text.specs.declared.Fault.{Fault}
@@ -23,13 +30,17 @@ use Rattle.rules_laws.specs.Offered.{offered-range}
 use Rattle.rules_laws.specs.Within.{All, more, PlaceIn, ContentIn}
 use Rattle.type_laws.specs.Models.{ShortIn}
 use Rattle.type_laws.specs.Again.{typeFile-sizes}
+use Rattle.type_laws.specs.Members.{typeFile-members}
 use Rattle.type_laws.specs.Width.{typeFile-content, typeFile-places-short}
 use Rattle.element_index.specs.Means.{Indexed}
-use Rattle.type_tables.specs.Means.{rowAt}
+use Rattle.type_tables.specs.Means.{rowAt, PlainIn}
+use Rattle.member_table.specs.Filling.{filled}
 use Rattle.model_rows.specs.Bits.{flag-most}
-use Rattle.model_rows.specs.Rows.{RowsPut}
+use Rattle.model_rows.specs.Rows.{RowsDue, RowsPut}
+use Rattle.model_rows.specs.Required.{required-few}
 use Rattle.table_fill.specs.Places.{PlacesPut, places-none}
-use Rattle.table_fill.specs.Filled.{Filled, RowsFor, TagsPut, filled-more}
+use Rattle.table_fill.specs.Told.{TellsIn, lent-still, members-put}
+use Rattle.table_fill.specs.Filled.{Filled, RowsFor, TagsPut, LargestPut, MembersPut, largest-same, members-same, filled-more}
 use Rattle.table_fill.specs.Kinds.{rows-model, rows-empty}
 use Rattle.table_fill.specs.Again.{ReadsAs, recorded-name, recorded-start, recorded-end, recorded-kind, content-at, reads-again}
 use Rattle.table_fill.specs.Names.{IsName, NamesFit, PlacesDue}
@@ -47,12 +58,12 @@ pub record Flags (elements : List ℕ) (e : ℕ) : Type 0 where
 
 -- What is asked for the element e to be put: the type is accepted under the settings c, by which its declaration is read again, and indexed, and the
 -- tables are filled up to e.
-pub record ElementDue (c : Settings) (s : List ℕ) (es : List Element) (elements index rows places facts : List ℕ) (e : ℕ) : Type 0 where
+pub record ElementDue (c : Settings) (s : List ℕ) (es : List Element) (elements index rows places facts members : List ℕ) (e : ℕ) : Type 0 where
   pub accepted : Accepts c s es
   pub indexed : Indexed s es elements index
   pub from : 1 ≤ e
   pub to : e ≤ length es
-  pub filled : Filled s es rows places facts e
+  pub filled : Filled s es rows places facts members e
 
 name-at : (s : List ℕ) (long : ℕ) → long ≤ mostNameLength → (ps : List Place) → All (PlaceIn s) ps → All (λ (x : Place). x .size ≤ long) ps → (k : ℕ) → k < length ps → IsName s (placeAt ps k)
 unfolding placeAt
@@ -60,7 +71,7 @@ name-at s long most [] w u k h = absurd (not-suc-le-zero h)
 name-at s long most (x ∷ ps) (more p w) (more l u) zero h = (omega arith, p .ends)
 name-at s long most (x ∷ ps) (more p w) (more l u) (suc k) h = name-at s long most ps w u k (le-of-suc-le-suc h)
 
-module _ (c : Settings) (s : List ℕ) (es : List Element) (elements index R P F : List ℕ) (e : ℕ) (due : ElementDue c s es elements index R P F e) where
+module _ (c : Settings) (s : List ℕ) (es : List Element) (elements index R P F M : List ℕ) (e : ℕ) (due : ElementDue c s es elements index R P F M e) where
   abbrev k : ℕ
   k = e - 1
 
@@ -126,25 +137,41 @@ module _ (c : Settings) (s : List ℕ) (es : List Element) (elements index R P F
     not-refused f q = rw q at again
 
     module _ (d : declared.Element.Element) (is : x ≡ elementRead.Read d) where
-      keeps : KeepsContent names table (d .kind) (d .tokens) (d .places) (contentOf es e)
+      keeps : KeepsContent names table (d .kind) (d .tokens) (d .places) (d .code) (d .and) (d .repeated) (contentOf es e)
       keeps = rw is at again
 
       pub places-few : (d .kind ≡ 0 → ⊥) → d .places ≤ 96
       places-few z = by-content (contentOf es e) keeps
         where
-          by-content : (y : Content) → KeepsContent names table (d .kind) (d .tokens) (d .places) y → d .places ≤ 96
+          by-content : (y : Content) → KeepsContent names table (d .kind) (d .tokens) (d .places) (d .code) (d .and) (d .repeated) y → d .places ≤ 96
           by-content empty w = absurd (z (w .0))
           by-content (model g ps n) w = w .3 .places-in
 
       names-fit : (d .kind ≡ 0 → ⊥) → NamesFit s names (d .places)
       names-fit z = by-content (contentOf es e) keeps (typeFile-content c s es (due .accepted .elements) e) (typeFile-places-short c s es (due .accepted .elements) e)
         where
-          by-content : (y : Content) → KeepsContent names table (d .kind) (d .tokens) (d .places) y → ContentIn s y → ShortIn (c .nameLength) y → NamesFit s names (d .places)
+          by-content : (y : Content) → KeepsContent names table (d .kind) (d .tokens) (d .places) (d .code) (d .and) (d .repeated) y → ContentIn s y → ShortIn (c .nameLength) y → NamesFit s names (d .places)
           by-content empty w y u p a b = absurd (z (w .0))
           by-content (model g ps n) w y u p a b =
               let m = w .3 in
               subst (IsName s) (placeAt-placesOf names (d .places) (p - 1) (omega arith))
               (rw (m .names-hold) (name-at s (c .nameLength) (offered-range c (due .accepted .legible .offered) .1) ps (y .places) u (p - 1) (omega (arith, m .counted))))
+
+      -- It is a model.
+      is-model : (y : Content) → KeepsContent names table (d .kind) (d .tokens) (d .places) (d .code) (d .and) (d .repeated) y → (d .kind ≡ 0 → ⊥)
+          → (g : Group) × (ps : List Place) × (n : ℕ) × (model g ps n ≡ y) × KeepsModel names table (d .places) (d .code) (d .and) (d .repeated) g ps
+      is-model empty w z = absurd (z (w .0))
+      is-model (model g ps n) w z = (g, ps, n, refl, w .3)
+
+      pub rows-due : (d .kind ≡ 0 → ⊥) → RowsDue table e (d .places) R
+      rows-due z =
+          let (g, ps, n, q, m) = is-model (contentOf es e) keeps z in
+          record {
+            element = few;
+            few = m .places-in;
+            len = due .filled .rows-len;
+            required = λ u l. rw (m .says .required u (omega (arith, m .sized))) (required-few g (m .numbered) (omega (arith, m .sized, m .places-in)) u);
+          }
 
       -- With the facts of the record put.
       module _ (G : List ℕ) (put : G ≡ factsPut F elements e) where
@@ -163,31 +190,57 @@ module _ (c : Settings) (s : List ℕ) (es : List Element) (elements index R P F
             }
 
         -- It is EMPTY.
-        is-empty : (y : Content) → KeepsContent names table (d .kind) (d .tokens) (d .places) y → d .kind ≡ 0 → empty ≡ y
+        is-empty : (y : Content) → KeepsContent names table (d .kind) (d .tokens) (d .places) (d .code) (d .and) (d .repeated) y → d .kind ≡ 0 → empty ≡ y
         is-empty empty w z = refl
         is-empty (model g ps n) w z = absurd (omega (arith, w .0))
 
-        pub element-empty : d .kind ≡ 0 → (i : ℕ) → i ≡ rowAt e 0 → Filled s es (set R i 1) P G (e + 1)
+        pub element-empty : d .kind ≡ 0 → (i : ℕ) → i ≡ rowAt e 0 → Filled s es (set R i 1) P G M (e + 1)
         element-empty z i at =
             let h = due .filled in
             let q = is-empty (contentOf es e) keeps z in
-            rw at (filled-more c s es (due .accepted .elements) e R P F h (set R (rowAt e 0) 1) G P G
-            (subst (λ (y : Content). RowsFor y e R (set R (rowAt e 0) 1)) q (rows-empty e R few (h .rows-len) (h .rows-rest)))
+            rw at (filled-more c s es (due .accepted .elements) e false R P F M h (set R (rowAt e 0) 1) G P G G M
+            (subst (λ (y : Content). RowsFor y false e R (set R (rowAt e 0) 1)) q (rows-empty e R few (h .rows-len) (h .rows-rest)))
             tags
             (subst (λ (y : Content). PlacesPut s es (placesIn y) e P G P G (length (placesIn y) + 1)) q
-            (places-none c s es (due .accepted .elements) [] e P G (h .places-len) (tags .len) (λ j a b. tags .under j b ∙ h .facts-rest j a))))
+            (places-none c s es (due .accepted .elements) [] e P G (h .places-len) (tags .len) (λ j a b. tags .under j b ∙ h .facts-rest j a)))
+            (largest-same e G (tags .len))
+            (members-same s (contentOf es e) e M (h .lent) (subst PlainIn q tt)))
 
-        -- It is a model.
-        is-model : (y : Content) → KeepsContent names table (d .kind) (d .tokens) (d .places) y → (d .kind ≡ 0 → ⊥)
-            → (g : Group) × (ps : List Place) × (n : ℕ) × (model g ps n ≡ y) × KeepsModel names table (d .places) g ps
-        is-model empty w z = absurd (z (w .0))
-        is-model (model g ps n) w z = (g, ps, n, refl, w .3)
-
-        pub element-model : (d .kind ≡ 0 → ⊥) → (R′ P′ F′ : List ℕ) → RowsPut table e R R′ (d .places + 1) → PlacesPut s es (placesOf names (d .places)) e P G P′ F′ (d .places + 1)
-            → Filled s es R′ P′ F′ (e + 1)
-        element-model z R′ P′ F′ r w =
+        -- A model, without "&" or with.
+        by-rows : (d .kind ≡ 0 → ⊥) → (b : Bool) (R′ P′ H F′ M′ : List ℕ) → RowsPut table e (cond b 128 0) R R′ (d .places + 1) → PlacesPut s es (placesOf names (d .places)) e P G P′ H (d .places + 1)
+            → LargestPut b e H F′ 65 → MembersPut s (contentOf es e) b e M M′ → Filled s es R′ P′ F′ M′ (e + 1)
+        by-rows z b R′ P′ H F′ M′ r w f put =
             let (g, ps, n, q, m) = is-model (contentOf es e) keeps z in
-            filled-more c s es (due .accepted .elements) e R P F (due .filled) R′ G P′ F′
-            (subst (λ (y : Content). RowsFor y e R R′) q (rows-model g ps n e R R′ (m .numbered) (m .sized ∙ m .counted) (omega arith) (rw (← m .table-filled, ← m .counted) r)))
+            filled-more c s es (due .accepted .elements) e b R P F M (due .filled) R′ G P′ H F′ M′
+            (subst (λ (y : Content). RowsFor y b e R R′) q (rows-model table g ps n e b R R′ (m .says) (m .sized ∙ m .counted) (omega (arith, m .sized, m .places-in)) (rw (← m .counted) r)))
             tags
-            (subst (λ (y : Content). PlacesPut s es (placesIn y) e P G P′ F′ (length (placesIn y) + 1)) q (rw (← m .counted, ← m .names-hold) w))
+            (subst (λ (y : Content). PlacesPut s es (placesIn y) e P G P′ H (length (placesIn y) + 1)) q (rw (← m .counted, ← m .names-hold) w))
+            f
+            put
+
+        pub element-plain : (d .kind ≡ 0 → ⊥) → d .and ≡ 0 → (R′ P′ F′ : List ℕ) → RowsPut table e 0 R R′ (d .places + 1) → PlacesPut s es (placesOf names (d .places)) e P G P′ F′ (d .places + 1)
+            → Filled s es R′ P′ F′ M (e + 1)
+        element-plain z none R′ P′ F′ r w =
+            let (g, ps, n, q, m) = is-model (contentOf es e) keeps z in
+            by-rows z false R′ P′ F′ F′ M r w (largest-same e F′ (w .facts-len)) (members-same s (contentOf es e) e M (due .filled .lent) (subst PlainIn q (m .plain none)))
+
+        told : (d .kind ≡ 0 → ⊥) → (M′ : List ℕ) → length M′ ≡ length M → M′ ≡ filled M e table (d .code) → MembersPut s (contentOf es e) true e M M′
+        told z M′ len is =
+            let read = due .accepted .elements in
+            let (g, ps, n, q, m) = is-model (contentOf es e) keeps z in
+            let guarded : Guarded g = subst GuardedIn (sym q) (content-guarded es (typeFile-guarded c s es read (due .accepted .unrepeated)) e) in
+            let (sized, total, plain) = typeFile-members c s es read e (sym q) in
+            let small : size g ≤ 96 = omega (arith, m .sized, m .places-in) in
+            let put =
+            members-put s M M′ table e (d .code) g (due .filled .lent) (omega (arith, few)) (due .filled .members-rest) (m .room) (m .spelled) (m .says .next) (m .numbered) guarded sized small total plain len is in
+            record {
+              lent = lent-still s M M′ len (due .filled .lent);
+              under = λ k l. put .others k (inl l);
+              over = λ k l. put .others k (inr l);
+              plain = λ x. absurd (true≢false x);
+              told = λ x. subst (TellsIn M′ e) q (put .told, λ u i. let range = has-range g 1 (m .numbered) u i in omega (arith, range .1));
+            }
+
+        pub element-among : (d .kind ≡ 0 → ⊥) → (R′ P′ H F′ M′ : List ℕ) → RowsPut table e 128 R R′ (d .places + 1) → PlacesPut s es (placesOf names (d .places)) e P G P′ H (d .places + 1)
+            → LargestPut true e H F′ 65 → length M′ ≡ length M → M′ ≡ filled M e table (d .code) → Filled s es R′ P′ F′ M′ (e + 1)
+        element-among z R′ P′ H F′ M′ r w f len is = by-rows z true R′ P′ H F′ M′ r w f (told z M′ len is)

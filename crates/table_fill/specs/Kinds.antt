@@ -2,7 +2,7 @@
 use Prim.Native.Nat.{ℕ, zero, suc, _+_, _/_, _%_, _^_, _≤_, _<_}
 use mathlib.Core.Path.{_≡_, refl, sym, _∙_}
 use mathlib.Core.Logic.{⊎-elim}
-use mathlib.Core.Bool.{false}
+use mathlib.Core.Bool.{Bool, false, cond}
 use mathlib.Core.List.{List}
 use native.Mathlib.Decide.{ℕ-discrete}
 use native.Mathlib.Nat.{div-eq-of-lt}
@@ -19,26 +19,26 @@ use Rattle.rules.specs.TypeFile.{Place, empty, model, Element, typeFile}
 use Rattle.rules.specs.Judge.{placeAt}
 use Rattle.rules.specs.Elements.{elementAt, contentOf, placesIn}
 use Rattle.layout.specs.Sizes.{ROWS, PLACES, FACTS}
-use Rattle.model_sets.specs.Sets.{size, Numbered}
-use Rattle.model_table.specs.Fill.{tableOf}
+use Rattle.model_sets.specs.Sets.{size}
+use Rattle.model_table.specs.Means.{Says}
 use Rattle.model_links.specs.Cells.{below-or-from}
-use Rattle.document_laws.specs.Decide.{isCompleteIn, requiredOf}
 use Rattle.rules_laws.specs.Within.{typeFile-count}
 use Rattle.type_laws.specs.Names.{typeFile-element, typeFile-distinct, isNamed-join}
 use Rattle.text.specs.Laws.{sameText-refl}
 use Rattle.type_tables.specs.Means.{rowAt, bitOf, namedBy}
 use Rattle.model_rows.specs.Rows.{RowsPut, RowSays, row-says}
 use Rattle.table_fill.specs.Places.{PlacePut, places-none, places-more}
-use Rattle.table_fill.specs.Filled.{Filled, RowsFor, filled-more}
+use Rattle.table_fill.specs.Told.{NoMembers, none-lent, none-rest}
+use Rattle.table_fill.specs.Filled.{Filled, RowsFor, largest-same, members-same, filled-more}
 
 -- A model: its table row by row.
-pub rows-model : (g : Group) (ps : List Place) (n e : ℕ) (T S : List ℕ) → Numbered g 1 → size g ≡ length ps → size g ≤ 96 → RowsPut (tableOf g) e T S (length ps + 1) → RowsFor (model g ps n) e T S
-rows-model g ps n e T S numbered counted few h =
+pub rows-model : (table : List ℕ) (g : Group) (ps : List Place) (n e : ℕ) (b : Bool) (T S : List ℕ) → Says g table → size g ≡ length ps → size g ≤ 96 → RowsPut table e (cond b 128 0) T S (length ps + 1) → RowsFor (model g ps n) b e T S
+rows-model table g ps n e b T S says counted few h =
     record {
       len = h .len;
       under = h .under;
       over = λ k l. h .over k (omega arith);
-      says = λ u l. row-says g ps n e u S numbered few (omega arith) (h .has u (omega arith));
+      says = λ u l. row-says table g ps n e u b S says (omega arith) (h .has u (omega arith));
     }
 
 -- A row with its first number alone
@@ -67,8 +67,7 @@ module _ (e u : ℕ) (S : List ℕ) (x : ℕ) (first : getD S (rowAt e u) 0 ≡ 
       high b = rw (others (p / 8) (omega arith) (omega arith)) (high-bit 0 (p % 8) (omega arith))
 
 -- EMPTY: the content is complete at the start.
-pub rows-empty : (e : ℕ) (T : List ℕ) → e ≤ 64 → length T ≡ ROWS → ((k : ℕ) → rowAt e 0 ≤ k → getD T k 0 ≡ 0) → RowsFor empty e T (set T (rowAt e 0) 1)
-unfolding isCompleteIn requiredOf
+pub rows-empty : (e : ℕ) (T : List ℕ) → e ≤ 64 → length T ≡ ROWS → ((k : ℕ) → rowAt e 0 ≤ k → getD T k 0 ≡ 0) → RowsFor empty false e T (set T (rowAt e 0) 1)
 rows-empty e T e-to l rest =
     let S : List ℕ = set T (rowAt e 0) 1 in
     let first : getD S (rowAt e 0) 0 ≡ 1 = getD-set-same T (rowAt e 0) 1 0 (omega arith) in
@@ -124,16 +123,14 @@ module _ (T : List ℕ) (l : length T ≡ ROWS) (zeros : (k : ℕ) → getD T k 
   between : (k : ℕ) → 1 ≤ k → k < 13 → getD S k 0 ≡ 0
   between k a b = getD-set-other T₂ 14 k 1 0 (omega arith) ∙ getD-set-other T₁ 13 k 1 0 (omega arith) ∙ getD-set-other T 0 k 2 0 (omega arith) ∙ zeros k
 
-  at-start : RowSays (model (place 1) ps 1) 0 0 S
-  unfolding isCompleteIn requiredOf
+  at-start : RowSays (model (place 1) ps 1) false 0 0 S
   at-start = record { next = λ p a b. by-place p (ℕ-discrete p 1) a b; complete = rw at-0; required = at-13 }
     where
       by-place : (p : ℕ) → Dec (p ≡ 1) → 1 ≤ p → p ≤ 96 → bitOf (getD S (rowAt 0 0 + p / 8) 0) (p % 8) ≡ eqb 1 p
       by-place p (yes z) a b = rw (z, at-0)
       by-place p (no z) a b = no-place 0 0 S 2 at-0 (λ j c d. between (0 + j) (omega arith) (omega arith)) p (omega arith) b ∙ sym (ne-eqb 1 p (λ y. omega arith))
 
-  after-it : RowSays (model (place 1) ps 1) 0 1 S
-  unfolding isCompleteIn requiredOf
+  after-it : RowSays (model (place 1) ps 1) false 0 1 S
   after-it =
       record {
         next = λ p a b. no-place 0 1 S 1 at-14 (λ j c d. kept (14 + j) (omega arith) ∙ zeros (14 + j)) p a b;
@@ -141,7 +138,7 @@ module _ (T : List ℕ) (l : length T ≡ ROWS) (zeros : (k : ℕ) → getD T k 
         required = kept 27 (omega arith) ∙ zeros 27;
       }
 
-  rows-document : RowsFor (model (place 1) ps 1) 0 T S
+  rows-document : RowsFor (model (place 1) ps 1) false 0 T S
   rows-document =
       record {
         len = length-set T₂ 14 1 ∙ len₂;
@@ -150,7 +147,7 @@ module _ (T : List ℕ) (l : length T ≡ ROWS) (zeros : (k : ℕ) → getD T k 
         says = by-row;
       }
     where
-      by-row : (u : ℕ) → u ≤ length ps → RowSays (model (place 1) ps 1) 0 u S
+      by-row : (u : ℕ) → u ≤ length ps → RowSays (model (place 1) ps 1) false 0 u S
       by-row zero h = at-start
       by-row (suc zero) h = after-it
       by-row (suc (suc u)) h = absurd (omega arith)
@@ -182,23 +179,30 @@ module _ (c : Settings) (s : List ℕ) (es : List Element) (read : typeFile c s 
       let i = isNamed-join s x s (x .at) (x .size) refl (sameText-refl s (x .at) (x .size)) in
       rw (ne-eqb (x .size) 0 (λ z. omega (arith, n .some))) (sym (typeFile-distinct c s es read 0 h s (x .at) (x .size) i))
 
-  filled-none : Filled s es noRows noPlaces noFacts 0
-  filled-none =
+  filled-none : (M : List ℕ) → NoMembers s M → Filled s es noRows noPlaces noFacts M 0
+  filled-none M none =
       record {
         rows-len = length-replicate {A = ℕ} ROWS 0;
         places-len = length-replicate {A = ℕ} PLACES 0;
         facts-len = length-replicate {A = ℕ} FACTS 0;
         rows-rest = λ k h. zeros-in ROWS k;
         facts-rest = λ k h. zeros-in FACTS k;
+        lent = none-lent s M none;
+        members-rest = λ k h. none-rest s M none k;
+        raised = λ k. false;
         says = λ e h. absurd (omega arith);
       }
 
-  pub filled-document : (P F : List ℕ) → PlacePut 0 1 1 noPlaces noFacts P F → Filled s es (documentRows noRows) P F 1
-  filled-document P F w =
-      let h = filled-none in
+  pub filled-document : (P F M : List ℕ) → NoMembers s M → PlacePut 0 1 1 noPlaces noFacts P F → Filled s es (documentRows noRows) P F M 1
+  filled-document P F M none w =
+      let h = filled-none M none in
       let ps = placesIn (contentOf es 0) in
-      filled-more c s es read 0 noRows noPlaces noFacts h (documentRows noRows) noFacts P F
+      let put =
+      places-more c s es read ps 0 noPlaces noFacts noPlaces noFacts 1 (omega arith) (omega arith)
+      (places-none c s es read ps 0 noPlaces noFacts (h .places-len) (h .facts-len) (λ k a b. zeros-in FACTS k)) 1 document-names P F w in
+      filled-more c s es read 0 false noRows noPlaces noFacts M h (documentRows noRows) noFacts P F F M
       (rows-document noRows (h .rows-len) (λ k. zeros-in ROWS k) ps refl)
       (record { len = h .facts-len; under = λ k l. refl; over = λ k l. refl; tags = λ l. absurd (omega arith) })
-      (places-more c s es read ps 0 noPlaces noFacts noPlaces noFacts 1 (omega arith) (omega arith)
-      (places-none c s es read ps 0 noPlaces noFacts (h .places-len) (h .facts-len) (λ k a b. zeros-in FACTS k)) 1 document-names P F w)
+      put
+      (largest-same 0 F (put .facts-len))
+      (members-same s (contentOf es 0) 0 M (h .lent) refl)

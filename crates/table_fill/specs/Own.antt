@@ -10,6 +10,7 @@ use Rattle.rules.specs.Judge.{Accepts}
 use Rattle.layout.specs.Sizes.{PLACES, FACTS}
 use Rattle.element_index.specs.Means.{Judged, Indexed}
 use Rattle.type_tables.specs.Means.{Tables}
+use Rattle.table_fill.specs.Told.{NoMembers}
 use Rattle.table_fill.specs.Places.{PlacePut}
 use Rattle.table_fill.specs.Filled.{Filled, filled-all}
 use Rattle.table_fill.specs.Kinds.{documentRows, noRows, noPlaces, noFacts, filled-document}
@@ -35,8 +36,8 @@ indexed-own c s elements index (es, a, i) = subst (λ (l : List Element). Indexe
 pub counted-own : (c : Settings) (s elements : List ℕ) (count : ℕ) → Judged c s elements count → length (elementsOf c s) ≡ count
 counted-own c s elements count (es, a, n, r) = rw (← own c s es (a .elements)) n
 
-pub tables-own : (c : Settings) (s R P F : List ℕ) (n : ℕ) → Filled s (elementsOf c s) R P F n → n ≡ length (elementsOf c s) + 1 → (es : List Element) → Accepts c s es → Tables s es R P F
-tables-own c s R P F n h q es a = filled-all c s es (a .elements) R P F a (rw (own c s es (a .elements), ← q) h)
+pub tables-own : (c : Settings) (s R P F M : List ℕ) (n : ℕ) → Filled s (elementsOf c s) R P F M n → n ≡ length (elementsOf c s) + 1 → (es : List Element) → Accepts c s es → Tables s es R P F M
+tables-own c s R P F M n h q es a = filled-all c s es (a .elements) R P F M a (rw (own c s es (a .elements), ← q) h)
 
 -- The tables at the start
 
@@ -46,6 +47,6 @@ Blank R P F = (R ≡ noRows) × (P ≡ noPlaces) × (F ≡ noFacts)
 pub blank-lengths : {R P F : List ℕ} → Blank R P F → (length P ≡ PLACES) × (length F ≡ FACTS)
 blank-lengths (a, b, c) = (rw b (length-replicate {A = ℕ} PLACES 0), rw c (length-replicate {A = ℕ} FACTS 0))
 
-pub filled-own : (c : Settings) (s elements index R P F R′ P′ F′ : List ℕ) → IndexedIn c s elements index → Blank R P F → R′ ≡ documentRows R → PlacePut 0 1 1 P F P′ F′ → Filled s (elementsOf c s) R′ P′ F′ 1
-filled-own c s elements index R P F R′ P′ F′ i (a, b, d) q w =
-    rw (q, a) (filled-document c s (elementsOf c s) (accepted-own c s elements index i .elements) P′ F′ (rw (b, d) at w))
+pub filled-own : (c : Settings) (s elements index R P F R′ P′ F′ M : List ℕ) → IndexedIn c s elements index → Blank R P F → NoMembers s M → R′ ≡ documentRows R → PlacePut 0 1 1 P F P′ F′ → Filled s (elementsOf c s) R′ P′ F′ M 1
+filled-own c s elements index R P F R′ P′ F′ M i (a, b, d) none q w =
+    rw (q, a) (filled-document c s (elementsOf c s) (accepted-own c s elements index i .elements) P′ F′ M none (rw (b, d) at w))

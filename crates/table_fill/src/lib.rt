@@ -26,9 +26,11 @@ ghost use Rattle.layout.specs.Sizes.{ROWS, PLACES, FACTS};
 ghost use Rattle.model_names.specs.Places.{placeIn, placesOf};
 ghost use Rattle.element_reader.specs.Means.{Recorded};
 ghost use Rattle.element_index.specs.Means.{Judged, Indexed};
-ghost use Rattle.type_tables.specs.Means.{Tables};
+ghost use Rattle.type_tables.specs.Means.{raisedPlace, Tables};
 ghost use Rattle.table_fill.specs.Places.{slotOf, PlacePut, PlacesPut};
-ghost use Rattle.table_fill.specs.Filled.{Filled};
+ghost use mathlib.Core.Bool.{true};
+ghost use Rattle.table_fill.specs.Told.{NoMembers};
+ghost use Rattle.table_fill.specs.Filled.{LargestPut, Filled};
 ghost use Rattle.table_fill.specs.Kinds.{documentRows};
 ghost use Rattle.table_fill.specs.Names.{nameOf, IsName, PlacesDue};
 ghost use Rattle.table_fill.specs.Own.{elementsOf};
@@ -137,6 +139,32 @@ fn put_facts(facts: &mut [u8; FACTS], elements: &[u32; RECORDS], e: ElementNo)
     facts[e.0 * FACT + 67] = elements[k + 4] as u8;
 }
 
+// The largest place of a name as it is kept where the model has an "&": 128 higher, if there is one.
+fn raised(p: u8) -> u8
+    ensures { λ r. ⌜ (p ≤ 96 → r ≡ raisedPlace true p) ⌝ }
+{
+    if p == 0 {
+        return 0;
+    }
+    if 128 <= p {
+        return p;
+    }
+    p + 128
+}
+
+// The largest places of the element e are kept higher: its model has an "&".
+fn raise_facts(facts: &mut [u8; FACTS], e: ElementNo)
+    requires { ⌜ (e .0 ≤ 64) × (length (now facts) ≡ FACTS) ⌝ }
+    ensures { λ _. ⌜ LargestPut true (e .0) (now (facts .entry)) (now (facts .exit)) 65 ⌝ }
+{
+    let f = e.0 * FACT;
+    let mut x = 0;
+    while x < 65 {
+        facts[f + x] = raised(facts[f + x]);
+        x += 1;
+    }
+}
+
 // The element e: its declaration is read again from its name on, which fills `names` and `table`.
 fn put_element(
     long: usize,
@@ -151,8 +179,8 @@ fn put_element(
     names: &mut [u32; NAMES],
     table: &mut [u8; MODEL],
 )
-    requires { ⌜ ElementDue (settings long) (now s) (elementsOf (settings long) (now s)) (now elements) (now index) (now rows) (now places) (now facts) (e .0) ⌝ }
-    ensures { λ _. ⌜ Filled (now (s .entry)) (elementsOf (settings long) (now (s .entry))) (now (rows .exit)) (now (places .exit)) (now (facts .exit)) (e .0 + 1) ⌝ }
+    requires { ⌜ ElementDue (settings long) (now s) (elementsOf (settings long) (now s)) (now elements) (now index) (now rows) (now places) (now facts) (now members) (e .0) ⌝ }
+    ensures { λ _. ⌜ Filled (now (s .entry)) (elementsOf (settings long) (now (s .entry))) (now (rows .exit)) (now (places .exit)) (now (facts .exit)) (now (members .exit)) (e .0 + 1) ⌝ }
 {
     put_facts(facts, elements, e);
     let r = element_reader::element_at(
@@ -173,30 +201,18 @@ fn put_element(
         return;
     }
     let n = d.places;
-    let mut raise: u8 = 0;
-    if d.and != 0 {
-        raise = 128;
-    }
-    model_rows::put_rows(rows, e, table, n, raise);
     put_places(s, elements, index, places, facts, e, names, n);
-    if d.and != 0 {
-        raise_facts(facts, e);
-        member_table::fill(members, e, table, d.code);
+    if d.and == 0 {
+        model_rows::put_rows(rows, e, table, n, 0);
+        return;
     }
+    model_rows::put_rows(rows, e, table, n, 128);
+    raise_facts(facts, e);
+    member_table::fill(members, e, table, d.code);
 }
 
-// The largest places of the element e are kept 128 higher: its model has an "&".
-fn raise_facts(facts: &mut [u8; FACTS], e: ElementNo) {
-    let mut x = 0;
-    while x < 65 {
-        if facts[e.0 * FACT + x] != 0 {
-            facts[e.0 * FACT + x] += 128;
-        }
-        x += 1;
-    }
-}
-
-// Fills the tables, which are all 0, from an accepted type file whose elements are recorded in `elements`. What they then hold for
+// Fills the tables, which are all 0, from an accepted type file whose elements are recorded in `elements`. Where no "&" stands in it there need be no table
+// of members. What they then hold for
 // numbers past the type's elements and past a model's places is not decided: the state never stands there.
 pub fn fill(
     long: usize,
@@ -212,8 +228,9 @@ pub fn fill(
     requires { ⌜ Judged (settings long) (now s) (now elements) count ⌝ }
     requires { ⌜ ((es : List Element) × Accepts (settings long) (now s) es × Indexed (now s) es (now elements) (now index)) ⌝ }
     requires { ⌜ (now rows ≡ replicate ROWS 0) × (now places ≡ replicate PLACES 0) × (now facts ≡ replicate FACTS 0) ⌝ }
+    requires { ⌜ NoMembers (now s) (now members) ⌝ }
     ensures { λ _. ⌜ ((es : List Element) → Accepts (settings long) (now (s .entry)) es → length es ≡ count → Recorded (now (elements .entry)) es →
-        Tables (now (s .entry)) es (now (rows .exit)) (now (places .exit)) (now (facts .exit))) ⌝ }
+        Tables (now (s .entry)) es (now (rows .exit)) (now (places .exit)) (now (facts .exit)) (now (members .exit))) ⌝ }
 {
     let mut names = [0u32; NAMES];
     let mut table = [0u8; MODEL];

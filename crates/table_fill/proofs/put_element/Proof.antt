@@ -1,26 +1,26 @@
 -- `put_element` meets its contract: the declaration reads as it did, so the content that it gives is that of the element.
 use native.Mathlib.Omega.{arith}
-use Rattle.table_fill.specs.Elements.{few, flags, name-in, not-refused, places-few, places-due, element-empty, element-model}
 use borrow.Author.Needs.{needs}
+use Rattle.table_fill.specs.Elements.{few, flags, name-in, not-refused, rows-due, places-due, element-empty, element-plain, element-among}
 use Rattle.table_fill.proofs.put_element.Statement.{statement}
 use Rattle.table_fill.proofs.put_element.Tie as tie
 
 put-facts-requires : tie.Need-put-facts-requires
 put-facts-requires c κs =
-    let due = c .before .before .pre in
-    (due .from, few _ _ _ _ _ _ _ _ _ due, flags _ _ _ _ _ _ _ _ _ due)
+    let due = c .before .before .before .pre in
+    (due .from, few _ _ _ _ _ _ _ _ _ _ due, flags _ _ _ _ _ _ _ _ _ _ due)
 
 offset-requires : tie.Need-offset-requires
 offset-requires c κs =
-    let due = c .before .before .before .pre in
-    (due .from, few _ _ _ _ _ _ _ _ _ due)
+    let due = c .before .before .before .before .pre in
+    (due .from, few _ _ _ _ _ _ _ _ _ _ due)
 
 sub-element-at : tie.Need-sub-element-at
 sub-element-at c = search needs
 
 element-at-requires : tie.Need-element-at-requires
 element-at-requires c κs =
-    name-in _ _ _ _ _ _ _ _ _ (c .before .before .before .before .before .before .before .pre) _ (c .before .before .before .offset .ensures .0)
+    name-in _ _ _ _ _ _ _ _ _ _ (c .before .before .before .before .before .before .before .before .pre) _ (c .before .before .before .offset .ensures .0)
 
 enum-known-r : tie.Need-enum-known-r
 enum-known-r c = search needs
@@ -30,53 +30,84 @@ enum-told c = search needs
 
 returns : tie.Need-returns
 returns c =
-    let reading = c .before .before in
-    let start = reading .before .before .before .before .before .before .before .before in
-    let offset = reading .before .before .before .before .offset .ensures .0 in
-    let met = reading .element-at .ensures .0 in
-    absurd (not-refused _ _ _ _ _ _ _ _ _ (start .pre) _ _ _ _ offset met _ (c .enum-told .given .1))
+    let read = c .before .before in
+    let start = read .before .before .before .before .before .before .before .before .before in
+    let offset = read .before .before .before .before .offset .ensures .0 in
+    let met = read .element-at .ensures .0 in
+    absurd (not-refused _ _ _ _ _ _ _ _ _ _ (start .pre) _ _ _ _ offset met _ (c .enum-told .given .1))
 
 row-requires : tie.Need-row-requires
-row-requires c κs = (few _ _ _ _ _ _ _ _ _ (c .before .before .before .before .before .before .before .before .before .before .before .before .before .pre), omega arith)
+row-requires c κs = (few _ _ _ _ _ _ _ _ _ _ (c .before .before .before .before .before .before .before .before .before .before .before .before .before .before .pre), omega arith)
 
 element-write-rows : tie.Need-element-write-rows
-element-write-rows c = omega (arith, few _ _ _ _ _ _ _ _ _ (c .before .before .before .before .before .before .before .before .before .before .before .before .before .before .pre))
+element-write-rows c = omega (arith, few _ _ _ _ _ _ _ _ _ _ (c .before .before .before .before .before .before .before .before .before .before .before .before .before .before .before .pre))
 
 returns-2 : tie.Need-returns-2
 returns-2 c =
-    let reading = c .before .before .before .before .before .before in
-    let start = reading .before .before .before .before .before .before .before .before in
-    let offset = reading .before .before .before .before .offset .ensures .0 in
-    let met = reading .element-at .ensures .0 in
+    let read = c .before .before .before .before .before .before in
+    let start = read .before .before .before .before .before .before .before .before .before in
+    let offset = read .before .before .before .before .offset .ensures .0 in
+    let met = read .element-at .ensures .0 in
     let is = c .before .before .before .before .r .given .1 in
-    element-empty _ _ _ _ _ _ _ _ _ (start .pre) _ _ _ _ offset met _ is _ (reading .before .before .before .before .before .put-facts .ensures) (c .before .if1 .taken) _ (c .row .ensures)
-
-put-rows-requires : tie.Need-put-rows-requires
-put-rows-requires c κs =
-    let reading = c .before .before .before .before .before .before .before in
-    let start = reading .before .before .before .before .before .before .before .before in
-    let offset = reading .before .before .before .before .offset .ensures .0 in
-    let met = reading .element-at .ensures .0 in
-    let is = c .before .before .before .before .before .r .given .1 in
-    (few _ _ _ _ _ _ _ _ _ (start .pre), places-few _ _ _ _ _ _ _ _ _ (start .pre) _ _ _ _ offset met _ is (c .before .before .if1 .left), start .pre .filled .rows-len)
+    element-empty _ _ _ _ _ _ _ _ _ _ (start .pre) _ _ _ _ offset met _ is _ (read .before .before .before .before .before .put-facts .ensures) (c .before .if1 .taken) _ (c .row .ensures)
 
 put-places-requires : tie.Need-put-places-requires
 put-places-requires c κs =
-    let reading = c .before .before .before .before .before .before .before .before .before .before .before in
-    let start = reading .before .before .before .before .before .before .before .before in
-    let offset = reading .before .before .before .before .offset .ensures .0 in
-    let met = reading .element-at .ensures .0 in
-    let is = c .before .before .before .before .before .before .before .before .before .r .given .1 in
-    places-due _ _ _ _ _ _ _ _ _ (start .pre) _ _ _ _ offset met _ is _ (reading .before .before .before .before .before .put-facts .ensures) (c .before .before .before .before .before .before .if1 .left)
+    let read = c .before .before .before .before .before .before .before .before in
+    let start = read .before .before .before .before .before .before .before .before .before in
+    let offset = read .before .before .before .before .offset .ensures .0 in
+    let met = read .element-at .ensures .0 in
+    let is = c .before .before .before .before .before .before .r .given .1 in
+    places-due _ _ _ _ _ _ _ _ _ _ (start .pre) _ _ _ _ offset met _ is _ (read .before .before .before .before .before .put-facts .ensures) (c .before .before .before .if1 .left)
+
+put-rows-requires : tie.Need-put-rows-requires
+put-rows-requires c κs =
+    let read = c .before .before .before .before .before .before .before .before .before .before .before .before .before in
+    let start = read .before .before .before .before .before .before .before .before .before in
+    let offset = read .before .before .before .before .offset .ensures .0 in
+    let met = read .element-at .ensures .0 in
+    let is = c .before .before .before .before .before .before .before .before .before .before .before .r .given .1 in
+    (rows-due _ _ _ _ _ _ _ _ _ _ (start .pre) _ _ _ _ offset met _ is (c .before .before .before .before .before .before .before .before .if1 .left), omega arith)
 
 returns-3 : tie.Need-returns-3
 returns-3 c =
-    let reading = c .before .before .before .before .before .before .before .before .before .before .before .before in
-    let start = reading .before .before .before .before .before .before .before .before in
-    let offset = reading .before .before .before .before .offset .ensures .0 in
-    let met = reading .element-at .ensures .0 in
-    let is = c .before .before .before .before .before .before .before .before .before .before .r .given .1 in
-    element-model _ _ _ _ _ _ _ _ _ (start .pre) _ _ _ _ offset met _ is _ (reading .before .before .before .before .before .put-facts .ensures) (c .before .before .before .before .before .before .before .if1 .left) _ _ _ (c .before .before .before .before .put-rows .ensures) (c .put-places .ensures _ (start .pre .indexed))
+    let read = c .before .before .before .before .before .before .before .before .before .before .before .before .before .before in
+    let start = read .before .before .before .before .before .before .before .before .before in
+    let offset = read .before .before .before .before .offset .ensures .0 in
+    let met = read .element-at .ensures .0 in
+    let is = c .before .before .before .before .before .before .before .before .before .before .before .before .r .given .1 in
+    element-plain _ _ _ _ _ _ _ _ _ _ (start .pre) _ _ _ _ offset met _ is _ (read .before .before .before .before .before .put-facts .ensures) (c .before .before .before .before .before .before .before .before .before .if1 .left) (c .before .before .before .if2 .taken) _ _ _ (c .put-rows .ensures) (c .before .before .before .before .before .put-places .ensures _ (start .pre .indexed))
+
+put-rows-requires-2 : tie.Need-put-rows-requires-2
+put-rows-requires-2 c κs =
+    let read = c .before .before .before .before .before .before .before .before .before .before .before .before .before in
+    let start = read .before .before .before .before .before .before .before .before .before in
+    let offset = read .before .before .before .before .offset .ensures .0 in
+    let met = read .element-at .ensures .0 in
+    let is = c .before .before .before .before .before .before .before .before .before .before .before .r .given .1 in
+    (rows-due _ _ _ _ _ _ _ _ _ _ (start .pre) _ _ _ _ offset met _ is (c .before .before .before .before .before .before .before .before .if1 .left), omega arith)
+
+raise-facts-requires : tie.Need-raise-facts-requires
+raise-facts-requires c κs =
+    let start = c .before .before .before .before .before .before .before .before .before .before .before .before .before .before .before .before .before .before .before .before .before .before .before .before in
+    (few _ _ _ _ _ _ _ _ _ _ (start .pre), c .before .before .before .before .before .before .put-places .ensures _ (start .pre .indexed) .facts-len)
+
+fill-requires : tie.Need-fill-requires
+fill-requires c κs = omega (arith, few _ _ _ _ _ _ _ _ _ _ (c .before .before .before .before .before .before .before .before .before .before .before .before .before .before .before .before .before .before .before .before .before .before .before .before .before .before .before .pre))
+
+same-length : tie.Need-same-length
+same-length c = c .before .before .fill .kept .0
+
+returns-4 : tie.Need-returns-4
+returns-4 c =
+    let read = c .before .before .before .before .before .before .before .before .before .before .before .before .before .before .before .before .before .before .before .before .before in
+    let start = read .before .before .before .before .before .before .before .before .before in
+    let offset = read .before .before .before .before .offset .ensures .0 in
+    let met = read .element-at .ensures .0 in
+    let is = c .before .before .before .before .before .before .before .before .before .before .before .before .before .before .before .before .before .before .before .r .given .1 in
+    let filled = c .before .before in
+    element-among _ _ _ _ _ _ _ _ _ _ (start .pre) _ _ _ _ offset met _ is _ (read .before .before .before .before .before .put-facts .ensures) (c .before .before .before .before .before .before .before .before .before .before .before .before .before .before .before .before .if1 .left) _ _ _ _ _ (c .before .before .before .before .before .before .before .put-rows2 .ensures) (c .before .before .before .before .before .before .before .before .before .before .before .before .put-places .ensures _ (start .pre .indexed))
+    (c .before .before .before .before .before .raise-facts .ensures) (filled .fill .kept .0) (filled .fill .ensures)
 
 pub put-element-spec : {M : Type 1} → statement M
 put-element-spec =
@@ -92,6 +123,11 @@ put-element-spec =
     row-requires
     element-write-rows
     returns-2
-    put-rows-requires
     put-places-requires
-    returns-3)
+    put-rows-requires
+    returns-3
+    put-rows-requires-2
+    raise-facts-requires
+    fill-requires
+    same-length
+    returns-4)
