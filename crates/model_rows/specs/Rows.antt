@@ -121,6 +121,17 @@ module _ (table : List ℕ) (e raise : ℕ) (T : List ℕ) where
   rows-next R S zero l h r = absurd (omega arith)
   rows-next R S (suc u) l h r = rows-more R S (suc u) h r
 
+-- The loop knows the rows as they are after the first.
+pub record Putting (table : List ℕ) (e raise : ℕ) (R S : List ℕ) (u : ℕ) : Type 0 where
+  pub len : length S ≡ ROWS
+  pub from : (T : List ℕ) → RowsPut table e raise T R 1 → RowsPut table e raise T S u
+
+pub putting-start : (table : List ℕ) (e raise : ℕ) (R : List ℕ) → length R ≡ ROWS → Putting table e raise R R 1
+putting-start table e raise R l = record { len = l; from = λ T h. h }
+
+pub putting-next : (table : List ℕ) (e raise : ℕ) (R Q S : List ℕ) (u : ℕ) → 1 ≤ u → Putting table e raise R Q u → RowPut table e u raise Q S → Putting table e raise R S (u + 1)
+putting-next table e raise R Q S u l h r = record { len = r .len; from = λ T k. rows-next table e raise T Q S u l (h .from T k) r }
+
 -- What is said
 
 -- What the row of the element e after the place u is to say of the content, raised or not.

@@ -1,5 +1,5 @@
 -- `put_row` meets its contract. The invariant: the first `j` numbers of the row are put, whichever element has its row there.
-use mathlib.Core.Path.{_≡_, refl}
+use mathlib.Core.Path.{_≡_}
 use Prim.Native.Nat.{ℕ, _-_, _≤_}
 use native.Mathlib.Omega.{arith}
 use Rattle.row_search.specs.Means.{rowAt}
@@ -8,10 +8,10 @@ use Rattle.model_rows.proofs.put_row.Statement.{statement}
 use Rattle.model_rows.proofs.put_row.Tie as tie
 
 abbrev Inv-loop : tie.InvT-loop
-Inv-loop rows₀ table u r j₀ rows j = (j ≤ 12) × ((e : ℕ) → e ≤ 64 → r ≡ rowAt e (u .0) → BitsPut table e (u .0) rows₀ rows j)
+Inv-loop rows₀ table u raise r j₀ rows j = (j ≤ 12) × ((e : ℕ) → e ≤ 64 → r ≡ rowAt e (u .0) → BitsPut table e (u .0) rows₀ rows j)
 
 abbrev μ-loop : tie.MeasureT-loop
-μ-loop rows₀ table u r j₀ rows j = 12 - j
+μ-loop rows₀ table u raise r j₀ rows j = 12 - j
 
 row-requires : tie.Need-row-requires Inv-loop μ-loop
 row-requires c κs = omega arith
@@ -61,14 +61,17 @@ add-rows-2 c = omega arith
 element-write-rows-2 : tie.Need-element-write-rows-2 Inv-loop μ-loop
 element-write-rows-2 c = omega arith
 
-mul-required : tie.Need-mul-required Inv-loop μ-loop
-mul-required c = omega arith
+mul-raised : tie.Need-mul-raised Inv-loop μ-loop
+mul-raised c = omega arith
 
-add-required : tie.Need-add-required Inv-loop μ-loop
-add-required c = omega arith
+add-raised : tie.Need-add-raised Inv-loop μ-loop
+add-raised c = omega arith
 
-element-copy-out-required : tie.Need-element-copy-out-required Inv-loop μ-loop
-element-copy-out-required c = omega arith
+element-copy-out-raised : tie.Need-element-copy-out-raised Inv-loop μ-loop
+element-copy-out-raised c = omega arith
+
+raised-requires : tie.Need-raised-requires Inv-loop μ-loop
+raised-requires c κs = omega arith
 
 add-rows-3 : tie.Need-add-rows-3 Inv-loop μ-loop
 add-rows-3 c = omega arith
@@ -78,10 +81,10 @@ element-write-rows-3 c = omega arith
 
 returns : tie.Need-returns Inv-loop μ-loop
 returns c =
-    let looped = c .before .before .before .before .before in
+    let looped = c .before .before .before .before .before .before in
     let first = looped .before .before in
     let full : looped .loop .j ≡ 12 = omega arith in
-    row-put _ _ _ _ (omega arith) (omega arith) _ _ _ _ _ (rw full at (looped .loop .inv .1 (first .args .e .0) (first .pre .0) (looped .before .row .ensures))) (omega arith) (omega arith) (c .before .before .cell .ensures .0) refl
+    row-put _ _ _ _ (omega arith) (omega arith) _ _ _ _ _ _ (rw full at (looped .loop .inv .1 (first .args .e .0) (first .pre .0) (looped .before .row .ensures))) (omega arith) (omega arith) (c .before .before .before .cell .ensures .0) (c .raised .ensures)
 
 pub put-row-spec : {M : Type 1} → statement M
 put-row-spec =
@@ -105,9 +108,10 @@ put-row-spec =
     cell-requires
     add-rows-2
     element-write-rows-2
-    mul-required
-    add-required
-    element-copy-out-required
+    mul-raised
+    add-raised
+    element-copy-out-raised
+    raised-requires
     add-rows-3
     element-write-rows-3
     returns)
