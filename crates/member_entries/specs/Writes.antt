@@ -9,7 +9,7 @@ use lib.ListN.{length, getD, set, length-set, List·getD-eq-default}
 use lib.Seq.{set-out, getD-set-same, getD-set-other}
 use borrow.Author.Tests.{eq-eqb, ne-eqb, le-leb, lt-leb, lt-ltb, le-ltb}
 use Rattle.model_sets.specs.Bits.{bool-cases}
-use Rattle.model_links.specs.Each.{each-turn}
+use Rattle.model_links.specs.Each.{each-turn, each-end}
 use Rattle.member_entries.specs.Entries.{putFree, marked, recordFrom, putPlace, putPlaces, putOuter, putOuters, putMember, putRecord}
 
 -- A number that is put where none is yet.
@@ -83,6 +83,16 @@ module _ (M S : List ℕ) (base : ℕ) (T : List ℕ) (w h : ℕ) where
   unfolding putOuters
   outers-turn lo hi lasts last g end R e m l inv =
       each-turn (λ N k. putOuter N base T w h lo hi (getD lasts k 0) k) M g end S R (e ∙ ap (λ (k : ℕ). putOuter M base T w h lo hi k g) m) l inv
+
+-- The end of each loop.
+module _ (M : List ℕ) (base : ℕ) (T : List ℕ) (w h : ℕ) where
+  pub places-end : (u hi : ℕ) (R : List ℕ) → hi ≤ u → putPlaces M base T w h u hi ≡ R → M ≡ R
+  unfolding putPlaces
+  places-end u hi R l inv = each-end (putPlace base T w h) M u hi R l inv
+
+  pub outers-end : (lo hi : ℕ) (lasts : List ℕ) (g end : ℕ) (R : List ℕ) → end ≤ g → putOuters M base T w h lo hi lasts g end ≡ R → M ≡ R
+  unfolding putOuters
+  outers-end lo hi lasts g end R l inv = each-end (λ N k. putOuter N base T w h lo hi (getD lasts k 0) k) M g end R l inv
 
 -- One member, and one group.
 module _ (M : List ℕ) (base : ℕ) (T lasts : List ℕ) (groups w h lo hi required : ℕ) where

@@ -9,7 +9,7 @@ use lib.ListN.{getD}
 use Rattle.rules.specs.Walk.{Group, Members, one, also}
 use Rattle.layout.specs.Sizes.{MEMBER}
 use Rattle.model_sets.specs.Bits.{or-left, or-right, or-cases, and-left, and-right, bool-cases}
-use Rattle.model_sets.specs.Sets.{has, hasM, nullable, lastM, must}
+use Rattle.model_sets.specs.Sets.{has, hasM, nullable, lastM}
 use Rattle.and_laws.specs.Sets.{GoodM}
 use Rattle.and_laws.specs.Levels.{together}
 use Rattle.and_laws.specs.Ranked.{Level}

@@ -8,7 +8,6 @@ use native.Mathlib.Omega.{arith}
 use lib.ListN.{length, getD, length-set}
 use lib.Seq.{getD-set-other}
 use borrow.Author.Tests.{lt-ltb, le-leb, le-ltb, ne-eqb}
-use Rattle.rules.specs.Walk.{one, and}
 use Rattle.layout.specs.Sizes.{MEMBER, MODEL-ROWS, CODE}
 use Rattle.model_sets.specs.Bits.{bool-cases}
 use Rattle.and_laws.specs.Base.{Apart}

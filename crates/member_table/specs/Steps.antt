@@ -1,12 +1,10 @@
 -- What one number of the code makes of the table and of the stack, and that the code may be run number by number.
 use Prim.Native.Nat.{ℕ, zero, suc, _+_, _-_, _≤_, _<_}
-use mathlib.Core.Path.{_≡_, refl, sym, ap, subst, _∙_}
-use mathlib.Core.Bool.{Bool, true, false, _&&_}
+use mathlib.Core.Path.{_≡_, refl, ap, _∙_}
+use mathlib.Core.Bool.{true, false, _&&_}
 use lib.Dec.{ltb, leb}
-use mathlib.Core.Logic.{_⊎_, inl, inr, ⊎-elim}
 use mathlib.Core.List.{List}
 use native.Mathlib.Omega.{arith}
-use native.Mathlib.Decide.{decLt}
 use lib.ListN.{length, getD, set}
 use borrow.Author.Tests.{eq-eqb, ne-eqb, lt-ltb, le-ltb, le-leb, lt-leb, ltb-true, leb-true}
 use Rattle.model_sets.specs.Bits.{and-left, and-right}
@@ -109,10 +107,6 @@ module _ (T : List ℕ) (base : ℕ) (M₀ : List ℕ) (i : ℕ) (M : List ℕ) 
         fewer = omega (arith, told .3);
         is = closed ∙ stepped (closeGroup base T (op - 128) (stateOf M stack top lasts groups count)) (rw (le-ltb op 97 (omega arith), ne-eqb op 99 (λ (d : op ≡ 99). omega arith), le-ltb op 100 (omega arith), lt-ltb 128 op n, g));
       }
-
-decided : {a b : ℕ} → Dec (a < b) → (a < b) ⊎ (b ≤ a)
-decided (yes l) = inl l
-decided (no n) = inr (omega (arith, n))
 
 run-stays : (T : List ℕ) (base : ℕ) (M : List ℕ) (i d n : ℕ) → CODE ≤ i → n ≡ d + i → runFill M base T i ≡ runFill M base T n
 unfolding runFill

@@ -1,5 +1,4 @@
 -- `put_outer` meets its contract: the last place of the group is within the member, behind it, or before it.
-use native.Mathlib.Omega.{arith}
 use borrow.Author.Needs.{needs}
 use Rattle.member_entries.specs.Writes.{outer-within, outer-right, outer-left}
 use Rattle.member_entries.proofs.put_outer.Statement.{statement}

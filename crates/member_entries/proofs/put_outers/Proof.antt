@@ -1,12 +1,11 @@
 -- `put_outers` meets its contract. The invariant: what is left to do, done to the table as it is, gives the table that is to be.
-use Prim.Native.Nat.{_-_, _≤_}
+use Prim.Native.Nat.{_-_}
 use mathlib.Core.Path.{_≡_, refl, _∙_}
 use native.Mathlib.Omega.{arith}
 use lib.ListN.{length}
 use borrow.Author.Needs.{needs}
-use Rattle.model_links.specs.Each.{each-end}
 use Rattle.member_entries.specs.Entries.{putOuters}
-use Rattle.member_entries.specs.Writes.{outers-turn}
+use Rattle.member_entries.specs.Writes.{outers-turn, outers-end}
 use Rattle.member_entries.proofs.put_outers.Statement.{statement}
 use Rattle.member_entries.proofs.put_outers.Tie as tie
 
@@ -48,8 +47,7 @@ same-length : tie.Need-same-length Inv-loop μ-loop
 same-length c = c .before .loop .inv .0
 
 returns : tie.Need-returns Inv-loop μ-loop
-unfolding putOuters
-returns c = each-end _ _ _ _ _ (c .loop-test .left) (c .before .loop .inv .1)
+returns c = outers-end _ _ _ _ _ _ _ _ _ _ _ (c .loop-test .left) (c .before .loop .inv .1)
 
 pub put-outers-spec : {M : Type 1} → statement M
 put-outers-spec =

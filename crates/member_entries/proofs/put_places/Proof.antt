@@ -1,12 +1,11 @@
 -- `put_places` meets its contract. The invariant: what is left to do, done to the table as it is, gives the table that is to be.
-use Prim.Native.Nat.{_-_, _≤_}
+use Prim.Native.Nat.{_-_}
 use mathlib.Core.Path.{_≡_, refl, _∙_}
 use native.Mathlib.Omega.{arith}
 use lib.ListN.{length}
 use borrow.Author.Needs.{needs}
-use Rattle.model_links.specs.Each.{each-end}
 use Rattle.member_entries.specs.Entries.{putPlaces}
-use Rattle.member_entries.specs.Writes.{places-turn}
+use Rattle.member_entries.specs.Writes.{places-turn, places-end}
 use Rattle.member_entries.proofs.put_places.Statement.{statement}
 use Rattle.member_entries.proofs.put_places.Tie as tie
 
@@ -45,8 +44,7 @@ same-length : tie.Need-same-length Inv-loop μ-loop
 same-length c = c .before .loop .inv .0
 
 returns : tie.Need-returns Inv-loop μ-loop
-unfolding putPlaces
-returns c = each-end _ _ _ _ _ (c .loop-test .left) (c .before .loop .inv .1)
+returns c = places-end _ _ _ _ _ _ _ _ (c .loop-test .left) (c .before .loop .inv .1)
 
 pub put-places-spec : {M : Type 1} → statement M
 put-places-spec =

@@ -1,7 +1,4 @@
 -- `joined` meets its contract: "," after what can be nothing or not, "|" likewise.
-use mathlib.Core.Bool.{Bool, true, false}
-use Prim.Native.Nat.{ℕ}
-use mathlib.Core.Path.{_≡_, refl}
 use borrow.Author.Tests.{eq-eqb, ne-eqb, not-true, not-false}
 use Rattle.member_table.proofs.joined.Statement.{statement}
 use Rattle.member_table.proofs.joined.Tie as tie

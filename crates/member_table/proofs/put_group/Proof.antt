@@ -1,10 +1,9 @@
 -- `put_group` meets its contract. The invariant: what is left to do, done to the table as it is, gives the table that is to be.
-use Prim.Native.Nat.{_-_, _≤_}
+use Prim.Native.Nat.{_-_}
 use mathlib.Core.Path.{_≡_, refl, _∙_}
 use native.Mathlib.Omega.{arith}
 use lib.ListN.{length}
-use borrow.Author.Needs.{needs}
-use Rattle.member_table.specs.Filling.{neededIn, putOnes}
+use Rattle.member_table.specs.Filling.{putOnes}
 use Rattle.member_table.specs.Counting.{number-small, needed-small}
 use Rattle.member_table.specs.Putting.{ones-turn, ones-end, group-put}
 use Rattle.member_table.proofs.put_group.Statement.{statement}

@@ -1,7 +1,7 @@
 -- `put_one` meets its contract: the member's number, a place that begins another, and then the member is put.
-use mathlib.Core.Path.{_≡_, refl, _∙_}
+use mathlib.Core.Path.{_≡_, _∙_}
 use mathlib.Core.Logic.{⊎-elim}
-use Prim.Native.Nat.{ℕ, _<_, _+_}
+use Prim.Native.Nat.{_<_}
 use native.Mathlib.Omega.{arith}
 use borrow.Author.Needs.{needs}
 use Rattle.member_table.specs.Filling.{numberAt, otherAt, pieceAt}
