@@ -37,3 +37,8 @@ putOuters M base T w h lo hi lasts a b = each (λ S g. putOuter S base T w h lo 
 unfoldable pub putMember : List ℕ → (base : ℕ) (T lasts : List ℕ) (groups w h lo hi required : ℕ) → List ℕ
 putMember M base T lasts groups w h lo hi required =
     set (set (putOuters (putPlaces M base T w h lo hi) base T w h lo hi lasts 1 (groups + 1)) (base + POSITIONS + h) (groups + 1)) (base + 2 * POSITIONS + h) required
+
+-- What is kept of the next group itself.
+abbrev pub putRecord : List ℕ → (base groups own needed k : ℕ) → List ℕ
+putRecord M base groups own needed k =
+    set (set (set M (recordFrom base (groups + 1)) own) (recordFrom base (groups + 1) + 1) needed) (recordFrom base (groups + 1) + 2) k

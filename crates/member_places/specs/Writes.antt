@@ -7,7 +7,7 @@ use lib.ListN.{length, getD, set, List·getD-eq-default}
 use lib.Seq.{set-out}
 use borrow.Author.Tests.{eq-eqb, ne-eqb, le-leb, lt-leb, lt-ltb, le-ltb}
 use Rattle.model_links.specs.Each.{each-turn}
-use Rattle.member_places.specs.Puts.{putFree, marked, recordFrom, putPlace, putPlaces, putOuter, putOuters, putMember}
+use Rattle.member_places.specs.Puts.{putFree, marked, recordFrom, putPlace, putPlaces, putOuter, putOuters, putMember, putRecord}
 
 module _ (M : List ℕ) (i x : ℕ) where
   pub free-put : getD M i 0 ≡ 0 → set M i x ≡ putFree M i x
@@ -64,3 +64,9 @@ pub member-put :
     S₃ ≡ set S₂ (base + 97 + h) (groups + 1) → S₄ ≡ set S₃ (base + 194 + h) required → S₄ ≡ putMember M base T lasts groups w h lo hi required
 unfolding putMember
 member-put M base T lasts groups w h lo hi required S₁ S₂ S₃ S₄ e₁ e₂ e₃ e₄ = rw (e₄, e₃, e₂, e₁)
+
+-- The three numbers of a group.
+pub record-put :
+    (M : List ℕ) (base groups own needed k : ℕ) (S₁ S₂ S₃ : List ℕ) → S₁ ≡ set M (recordFrom base (groups + 1)) own → S₂ ≡ set S₁ (recordFrom base (groups + 1) + 1) needed →
+    S₃ ≡ set S₂ (recordFrom base (groups + 1) + 2) k → S₃ ≡ putRecord M base groups own needed k
+record-put M base groups own needed k S₁ S₂ S₃ e₁ e₂ e₃ = rw (e₃, e₂, e₁)

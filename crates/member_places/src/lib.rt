@@ -8,10 +8,10 @@ use layout::POSITIONS;
 ghost use mathlib.Core.Path.{_≡_};
 ghost use Prim.Native.Nat.{_+_, _*_, _≤_, _<_};
 ghost use lib.ListN.{length, set};
-ghost use Rattle.member_places.specs.Puts.{putFree, marked, putPlaces, putOuter, putOuters, putMember};
+ghost use Rattle.member_places.specs.Puts.{putFree, marked, putPlaces, putOuter, putOuters, putMember, putRecord};
 
 // A number of the table; nothing is put past its end.
-pub fn put(members: &mut [u8], i: usize, x: u8)
+fn put(members: &mut [u8], i: usize, x: u8)
     ensures { λ _. ⌜ now (members .exit) ≡ set (now (members .entry)) i x ⌝ }
 {
     if i < members.len() {
@@ -162,4 +162,24 @@ pub fn put_member(
     let g = groups + 1;
     put(members, base + POSITIONS + h, g as u8);
     put(members, base + 2 * POSITIONS + h, required);
+}
+
+// What is kept of the next group itself: its first member, how many of its members cannot be nothing, how many there are.
+pub fn put_record(
+    members: &mut [u8],
+    base: usize,
+    groups: usize,
+    own: usize,
+    needed: usize,
+    k: usize,
+)
+    requires { ⌜ base < 65536 ⌝ }
+    requires { ⌜ groups < 48 ⌝ }
+    requires { ⌜ (own < 256) × (needed < 256) × (k < 256) ⌝ }
+    ensures { λ _. ⌜ now (members .exit) ≡ putRecord (now (members .entry)) base groups own needed k ⌝ }
+{
+    let at = base + 3 * POSITIONS + (groups + 1) * GROUP;
+    put(members, at, own as u8);
+    put(members, at + 1, needed as u8);
+    put(members, at + 2, k as u8);
 }

@@ -8,7 +8,7 @@ use Rattle.layout.specs.Sizes.{POSITIONS, MODEL-ROW, MODEL-ROWS, CODE, GROUP, A
 use Rattle.model_links.specs.Each.{each}
 use Rattle.member_table.specs.declared.Piece.{Piece}
 -- What is put for one member is cited from here too.
-pub use Rattle.member_places.specs.Puts.{marked, recordFrom, putPlace}
+pub use Rattle.member_places.specs.Puts.{marked, recordFrom, putPlace, putRecord}
 unfoldable pub use Rattle.member_places.specs.Puts.{putFree, putPlaces, putOuter, putOuters, putMember}
 
 -- Pieces
@@ -63,11 +63,7 @@ putOne M base T lasts groups own stack first needed j =
     (pieceAt stack (first + j) .last + 1)
     (pieceAt stack (first + j) .required)
 
--- What is kept of the next group itself, and its members [a, b).
-abbrev pub putRecord : List ℕ → (base groups own needed k : ℕ) → List ℕ
-putRecord M base groups own needed k =
-    set (set (set M (recordFrom base (groups + 1)) own) (recordFrom base (groups + 1) + 1) needed) (recordFrom base (groups + 1) + 2) k
-
+-- The members [a, b) of the next group.
 unfoldable pub putOnes : List ℕ → (base : ℕ) (T lasts : List ℕ) (groups own : ℕ) (stack : List Piece) (first needed a b : ℕ) → List ℕ
 putOnes M base T lasts groups own stack first needed a b = each (λ S j. putOne S base T lasts groups own stack first needed j) M a b
 

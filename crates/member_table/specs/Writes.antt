@@ -3,11 +3,10 @@ use Prim.Native.Nat.{ℕ, _+_, _-_, _≤_, _<_}
 use mathlib.Core.Path.{_≡_, sym}
 use mathlib.Core.Bool.{true, false}
 use mathlib.Core.List.{List}
-use lib.ListN.{set}
 use borrow.Author.Tests.{eq-eqb, ne-eqb}
 use Rattle.model_links.specs.Each.{each-turn, each-end}
 use Rattle.member_table.specs.declared.Piece.{Piece}
-use Rattle.member_table.specs.Filling.{recordFrom, pieceAt, neededIn, numberAt, otherAt, putMember, putOne, putOnes, putGroup}
+use Rattle.member_table.specs.Filling.{putRecord, pieceAt, neededIn, numberAt, otherAt, putMember, putOne, putOnes, putGroup}
 
 -- One member: its number, a place that begins another, and what is put in turn.
 module _ (stack : List Piece) (first own needed j n : ℕ) (so : n ≡ neededIn stack first j) where
@@ -41,7 +40,5 @@ module _ (M : List ℕ) (base : ℕ) (T lasts : List ℕ) (groups own : ℕ) (st
   unfolding putOnes
   ones-end R j k l inv = each-end (λ N i. putOne N base T lasts groups own stack first needed i) M j k R l inv
 
-  pub group-put :
-      (k : ℕ) (S₁ S₂ S₃ R : List ℕ) → S₁ ≡ set M (recordFrom base (groups + 1)) own → S₂ ≡ set S₁ (recordFrom base (groups + 1) + 1) needed → S₃ ≡ set S₂ (recordFrom base (groups + 1) + 2) k →
-      R ≡ putOnes S₃ base T lasts groups own stack first needed 0 k → R ≡ putGroup M base T lasts groups own stack first needed k
-  group-put k S₁ S₂ S₃ R e₁ e₂ e₃ e = rw (sym e₁, sym e₂, sym e₃) e
+  pub group-put : (k : ℕ) (S R : List ℕ) → S ≡ putRecord M base groups own needed k → R ≡ putOnes S base T lasts groups own stack first needed 0 k → R ≡ putGroup M base T lasts groups own stack first needed k
+  group-put k S R e f = rw (sym e) f

@@ -7,7 +7,6 @@
 use layout::AND_GROUPS;
 use layout::CODE;
 use layout::ElementNo;
-use layout::GROUP;
 use layout::MEMBER;
 use layout::MODEL;
 use layout::MODEL_ROWS;
@@ -109,10 +108,7 @@ fn put_group(
     requires { ⌜ needed ≡ neededIn stack first k ⌝ }
     ensures { λ _. ⌜ now (members .exit) ≡ putGroup (now (members .entry)) base (now (table .entry)) lasts groups own stack first needed k ⌝ }
 {
-    let at = base + 3 * POSITIONS + (groups + 1) * GROUP;
-    member_places::put(members, at, own as u8);
-    member_places::put(members, at + 1, needed as u8);
-    member_places::put(members, at + 2, k as u8);
+    member_places::put_record(members, base, groups, own, needed, k);
     for j in 0..k {
         put_one(
             members,

@@ -11,50 +11,17 @@ use Rattle.member_table.proofs.put_group.Statement.{statement}
 use Rattle.member_table.proofs.put_group.Tie as tie
 
 abbrev Inv-loop : tie.InvT-loop
-Inv-loop members₀ base table lasts groups own stack first needed k at j₀ members j =
+Inv-loop members₀ base table lasts groups own stack first needed k j₀ members j =
     (length members ≡ length members₀) × (putOnes members base table lasts groups own stack first needed j k ≡ putOnes members₀ base table lasts groups own stack first needed 0 k)
 
 abbrev μ-loop : tie.MeasureT-loop
-μ-loop members₀ base table lasts groups own stack first needed k at j₀ members j = k - j
+μ-loop members₀ base table lasts groups own stack first needed k j₀ members j = k - j
 
-mul-at : tie.Need-mul-at Inv-loop μ-loop
-mul-at c = omega arith
-
-add-at : tie.Need-add-at Inv-loop μ-loop
-add-at c = omega arith
-
-add-at-2 : tie.Need-add-at-2 Inv-loop μ-loop
-add-at-2 c = omega arith
-
-mul-at-2 : tie.Need-mul-at-2 Inv-loop μ-loop
-mul-at-2 c = omega arith
-
-add-at-3 : tie.Need-add-at-3 Inv-loop μ-loop
-add-at-3 c = omega arith
-
-cast-put : tie.Need-cast-put Inv-loop μ-loop
-cast-put c = omega arith
-
-put-requires : tie.Need-put-requires Inv-loop μ-loop
-put-requires c κs = search needs
-
-add-put : tie.Need-add-put Inv-loop μ-loop
-add-put c = omega arith
-
-cast-put-2 : tie.Need-cast-put-2 Inv-loop μ-loop
-cast-put-2 c = let x = c .before .before .before .before .before .before in omega (arith, needed-small (x .args .stack) (x .args .first) (x .args .needed) (x .args .k) (x .pre .1 .1 .1 .1 .1))
-
-put-requires-2 : tie.Need-put-requires-2 Inv-loop μ-loop
-put-requires-2 c κs = search needs
-
-add-put-2 : tie.Need-add-put-2 Inv-loop μ-loop
-add-put-2 c = omega arith
-
-cast-put-3 : tie.Need-cast-put-3 Inv-loop μ-loop
-cast-put-3 c = omega arith
-
-put-requires-3 : tie.Need-put-requires-3 Inv-loop μ-loop
-put-requires-3 c κs = search needs
+put-record-requires : tie.Need-put-record-requires Inv-loop μ-loop
+put-record-requires c κs =
+    let x = c .before .before in
+    let few = needed-small (x .args .stack) (x .args .first) (x .args .needed) (x .args .k) (x .pre .1 .1 .1 .1 .1) in
+    (omega arith, (omega arith, (omega arith, omega (arith, few), omega arith)))
 
 loop-holds : tie.Need-loop-holds Inv-loop μ-loop
 loop-holds c = (refl, refl)
@@ -62,7 +29,7 @@ loop-holds c = (refl, refl)
 put-one-requires : tie.Need-put-one-requires Inv-loop μ-loop
 put-one-requires c κs =
     let i = c .before .before .loop in
-    let x = c .before .before .before .before .before .before .before .before .before .before .before .before .before .before .before .before in
+    let x = c .before .before .before .before .before .before .before .before in
     let needed = x .pre .1 .1 .1 .1 .1 in
     let few = needed-small (x .args .stack) (x .args .first) (x .args .needed) (x .args .k) needed in
     let number = number-small (x .args .stack) (x .args .first) (x .args .own) (x .args .needed) (i .j) (x .args .k) needed (omega arith) (omega arith) in
@@ -81,20 +48,14 @@ loop-again c =
     (put .put-one .kept .0 ∙ i .inv .0, ones-turn _ _ _ _ _ _ _ _ _ _ _ _ _ (put .put-one .ensures) (put .before .before .loop-test .taken) (i .inv .1))
 
 same-length : tie.Need-same-length Inv-loop μ-loop
-same-length c =
-    let third = c .before .before .before .before in
-    let second = third .before .before .before .before in
-    c .before .loop .inv .0 ∙ third .put3 .kept .0 ∙ second .put2 .kept .0 ∙ second .before .before .before .before .put .kept .0
+same-length c = c .before .loop .inv .0 ∙ c .before .before .before .before .put-record .kept .0
 
 returns : tie.Need-returns Inv-loop μ-loop
 returns c =
-    let i = c .before .loop in
-    let third = c .before .before .before .before in
-    let second = third .before .before .before .before in
-    let one = second .before .before .before .before in
-    let x = one .before .before .before .args in
-    group-put (x .members .now) (x .base) (x .table .now) (x .lasts) (x .groups) (x .own) (x .stack) (x .first) (x .needed) (x .k) _ _ _ _ (one .put .ensures) (second .put2 .ensures) (third .put3 .ensures)
-    (ones-end _ _ _ _ _ _ _ _ _ _ _ _ (c .loop-test .left) (i .inv .1))
+    let put = c .before .before .before .before in
+    let x = put .before .before .before .args in
+    group-put (x .members .now) (x .base) (x .table .now) (x .lasts) (x .groups) (x .own) (x .stack) (x .first) (x .needed) (x .k) _ _ (put .put-record .ensures)
+    (ones-end _ _ _ _ _ _ _ _ _ _ _ _ (c .loop-test .left) (c .before .loop .inv .1))
 
 pub put-group-spec : {M : Type 1} → statement M
 put-group-spec =
@@ -102,19 +63,7 @@ put-group-spec =
     (tie.spec
     Inv-loop
     μ-loop
-    mul-at
-    add-at
-    add-at-2
-    mul-at-2
-    add-at-3
-    cast-put
-    put-requires
-    add-put
-    cast-put-2
-    put-requires-2
-    add-put-2
-    cast-put-3
-    put-requires-3
+    put-record-requires
     loop-holds
     put-one-requires
     add-j
