@@ -48,7 +48,7 @@
 #include <stddef.h>
 #include <stdint.h>
 
-#define SGML_VERSION "0.5.0"
+#define SGML_VERSION "0.6.0"
 #define SGML_VERSION_NUMBER 500 /* 10000 times the major version, 100 times the minor one and the patch */
 
 #ifdef __cplusplus

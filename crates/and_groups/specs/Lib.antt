@@ -1,2 +1,8 @@
 -- What is decided by the members that have begun.
 pub mod Means
+pub mod Walks
+pub mod Lacking
+pub mod Entering
+pub mod Blocking
+pub mod Following
+pub mod Taking

@@ -6,17 +6,13 @@ use mathlib.Core.Logic.{_⊎_}
 use mathlib.Core.List.{List, [], _∷_, _++_}
 use lib.ListN.{length}
 use Rattle.rules.specs.Walk.{Group}
-use Rattle.layout.specs.Sizes.{BEGUN-WORDS}
-use Rattle.model_sets.specs.Sets.{Numbered, has}
+use Rattle.model_sets.specs.Sets.{size, Numbered, has}
 use Rattle.and_laws.specs.Base.{mem}
 use Rattle.and_laws.specs.Numbers.{Guarded}
 use Rattle.and_laws.specs.Levels.{around, blocksIn, loneIn, mayIn}
 use Rattle.and_laws.specs.Taken.{groupsAt}
-use Rattle.member_laws.specs.Members.{Told, wordAt, Standing}
-
--- The bits of every other level are as they were.
-abbrev pub Elsewhere : (level : ℕ) (before after : List ℕ) → Type 0
-Elsewhere level before after = (k j : ℕ) → (k ≡ level → ⊥) → j < BEGUN-WORDS → wordAt after k j ≡ wordAt before k j
+use Rattle.member_laws.specs.Members.{Told, Standing}
+pub use Rattle.member_laws.specs.Members.{Elsewhere}
 
 -- What `take` answers of the places taken, p the last of them: 255 where no group blocks, else the place that is required in the group that does, or 0.
 pub data Blocked (g : Group) (p : ℕ) (S : ℕ → Bool) (r : ℕ) : Type 0 where
@@ -29,7 +25,7 @@ pub record Takes (M : List ℕ) (level e u p : ℕ) (before after : List ℕ) (r
   pub elsewhere : Elsewhere level before after
   pub small : (r ≡ 255) ⊎ (r ≤ 96)
   pub stands : (g : Group) → Numbered g 1 → Guarded g → Told M e g → (taken : List ℕ) → Standing before level M e g u taken → has g p ≡ true → Standing after level M e g p (taken ++ p ∷ [])
-  pub blocked : (g : Group) → Numbered g 1 → Guarded g → Told M e g → (taken : List ℕ) → Standing before level M e g u taken → has g p ≡ true → Blocked g p (mem (taken ++ p ∷ [])) r
+  pub blocked : (g : Group) → Numbered g 1 → Guarded g → size g ≤ 96 → Told M e g → (taken : List ℕ) → Standing before level M e g u taken → has g p ≡ true → Blocked g p (mem (taken ++ p ∷ [])) r
 
 -- p is left by what has begun after the place u, 0 at the start.
 abbrev pub Follows : (M : List ℕ) (level e u p : ℕ) (begun : List ℕ) → Bool → Type 0

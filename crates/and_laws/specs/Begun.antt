@@ -3,7 +3,7 @@ use Prim.Native.Nat.{ℕ, zero, suc, _+_, _≤_, _<_}
 use mathlib.Core.Path.{_≡_, refl, sym, _∙_, ap, subst}
 use mathlib.Core.Bool.{Bool, true, _&&_}
 use mathlib.Core.Logic.{_⊎_, inl, inr, _↔_}
-use mathlib.Core.List.{List, [], _∷_, _++_}
+use mathlib.Core.List.{List, [], _∷_, _++_, cons≢nil}
 use native.Mathlib.Omega.{arith}
 use Rattle.model_sets.specs.Bits.{bool-cases}
 use Rattle.model_sets.specs.Sets.{size, Numbered, has, follow, nextIn, completeIn, requiredIn}
@@ -39,6 +39,18 @@ ends-last : (p : ℕ) (s : List ℕ) → Ends (p ∷ s) (lastFrom p s)
 ends-last p [] = inl (refl, refl)
 ends-last p (q ∷ s) = inr (ends-last q s)
 
+-- the last place is one only
+pub last-is : (s : List ℕ) (u : ℕ) → IsLast s u → lastOr0 s ≡ u
+last-is s zero e = ap lastOr0 e
+last-is [] (suc u) e = absurd e
+last-is (p ∷ s) (suc u) e = ends-is p s (suc u) e
+  where
+    ends-is : (p : ℕ) (s : List ℕ) (u : ℕ) → Ends (p ∷ s) u → lastFrom p s ≡ u
+    ends-is p [] u (inl (n, e)) = e
+    ends-is p [] u (inr e) = absurd e
+    ends-is p (q ∷ s) u (inl (n, e)) = absurd (cons≢nil n)
+    ends-is p (q ∷ s) u (inr e) = ends-is q s u e
+
 -- What the places taken decide
 
 abbrev pub nextOf : Group → List ℕ → ℕ → Bool
@@ -68,7 +80,7 @@ module _ (g : Group) (numbered : Numbered g 1) (guarded : Guarded g) where
       go zero e l = absurd (omega arith)
       go (suc u) e l = e
 
-  is-taken : (s : List ℕ) → Begins g s → IsTaken g (lastOr0 s) (mem s)
+  pub is-taken : (s : List ℕ) → Begins g s → IsTaken g (lastOr0 s) (mem s)
   is-taken [] b = refl
   is-taken (p ∷ s) b = go (lastFrom p s) (begins-last p s b)
     where

@@ -1,8 +1,8 @@
 -- The open elements of the program, at every step of settling and closing: demand 1, "keeps between 0 and 24 elements open", and paper 02, request four,
 -- "Store the mark, and the required place if there is one, with each open element. At every moment both must equal what 01's definition says of
 -- the places taken." The hypotheses are the contracts as they stand in the source, as on the page of the calls: `Asked` is what a function requires.
-use Prim.Native.Nat.{ℕ, suc, _≤_}
-use mathlib.Core.Path.{_≡_, sym, _∙_, ap, subst}
+use Prim.Native.Nat.{ℕ, suc, _≤_, _<_}
+use mathlib.Core.Path.{_≡_, refl, sym, _∙_, subst}
 use mathlib.Core.Bool.{true}
 use mathlib.Core.List.{List, [], _∷_, _++_}
 use native.Mathlib.Omega.{arith}
@@ -19,26 +19,28 @@ use Rattle.rules.specs.Judge.{Accepts}
 use Rattle.rules.specs.Elements.{contentOf, hasModel}
 use Rattle.rules.specs.Decisions.{Token, pcdata, Decisions, Means}
 use Rattle.rules.specs.Events.{endWritten, endInferred, Event, withData}
-use Rattle.rules.specs.Settling.{State, nothingOpen, takePlace, enter, fitting, isComplete, requiredPlace, takeToken, startElement, takeData, endElement}
+use Rattle.rules.specs.Settling.{State, nothingOpen, takePlace, enter, fitting, isComplete, requiredPlace, inferable, takeToken, startElement, takeData, endElement}
 use Rattle.rules.specs.Settling as rules
 use Rattle.rules.specs.Acts.{Declared, Act, MarksMean, Passes, Few}
 use Rattle.rules.specs.Reader.{Reads}
 use Rattle.document_laws.specs.Decide.{decided}
 use Rattle.document_laws.specs.Moves.{fits, required}
 use Rattle.turn_laws.specs.Turns.{Reaches}
-use Rattle.type_tables.specs.Means.{Rows, Facts, Tables}
+use Rattle.type_tables.specs.Means.{Tables}
 use Rattle.layout.specs.declared.Place as typed
 use Rattle.open_elements.specs.declared.Open.{Open}
 use Rattle.open_elements.specs.declared.Outcome.{Outcome}
-use Rattle.open_elements.specs.Means.{stateOf, fresh, took, Ranged, Stands}
+use Rattle.open_elements.specs.Means.{fresh, Ranged, Stands, Taking}
 use Rattle.open_elements.specs.Marks.{AllSay}
-use Rattle.open_elements.specs.Laws.{ranged-fresh, ranged-took, ranged-opening, ranged-ended}
+use Rattle.open_elements.specs.Laws.{ranged-fresh, ranged-taking, ranged-opening, ranged-ended}
 use Rattle.open_elements.proofs.Open.new as new
 use Rattle.open_elements.proofs.Open.new.Reads as new-reads
 use Rattle.open_elements.proofs.Open.take as take
 use Rattle.open_elements.proofs.Open.take.Reads as take-reads
 use Rattle.open_elements.proofs.Open.start as start
 use Rattle.open_elements.proofs.Open.start.Reads as start-reads
+use Rattle.open_elements.proofs.Open.start_required as start-required
+use Rattle.open_elements.proofs.Open.start_required.Reads as start-required-reads
 use Rattle.open_elements.proofs.Open.infer_end as infer-end
 use Rattle.open_elements.proofs.Open.infer_end.Reads as infer-end-reads
 use Rattle.open_elements.proofs.Open.end as end
@@ -46,7 +48,7 @@ use Rattle.open_elements.proofs.Open.end.Reads as end-reads
 use Rattle.left_out_ends.specs.Until.{inferEnds}
 use Rattle.left_out_ends.proofs.end_until as end-until
 use Rattle.left_out_ends.proofs.end_until.Reads as end-until-reads
-use Rattle.ways.specs.declared.Way.the-variants.{Taken, Stuck}
+use Rattle.ways.specs.declared.Way.the-variants.{Taken, Inferred, Stuck}
 use Rattle.ways.specs.Means.{tokenOf, startsOf}
 use Rattle.inferring.specs.declared.Stop.{Stop}
 use Rattle.inferring.specs.Inferring.{inferOne, Infers}
@@ -63,8 +65,8 @@ use Rattle.closing.proofs.end_tag as end-tag
 use Rattle.closing.proofs.end_tag.Reads as end-tag-reads
 use Rattle.closing.proofs.finish as finish
 use Rattle.closing.proofs.finish.Reads as finish-reads
-use Rattle.moments.specs.Means.{done, Moment, Beside, Leads}
-use Rattle.moments.specs.Beside.{moment-first, moment-noted, moment-parent, moment-ended, moment-entered, complete-kept, required-kept, moment-took, moment-act}
+use Rattle.moments.specs.Means.{Moment, Does, Asks, Beside, Leads}
+use Rattle.moments.specs.Beside.{moment-first, moment-noted, moment-parent, moment-ended, moment-entered, complete-kept, required-kept, moment-took, moment-started, moment-act, moment-asks}
 use Rattle.moments.specs.Results.{passes-beside, document-beside, reaches-leads, settles-leads, data-leads, tagged-leads}
 use Rattle.moments.specs.Steps.{stops-lead, infers-start-does, places-leads, places-data, until-leads, finished-beside}
 
@@ -80,11 +82,17 @@ keeps-few h = (h .few, h .whole)
 pub new-few : (κs : Lfts 0) (a : ArgsD new.signature κs) (r : Open) (e : AtExit new.ended κs) → new-reads.Learnt κs a r e → KeepsFew r
 new-few κs a r e made = keeps-few (subst Ranged (sym made) ranged-fresh)
 
-pub take-few : (κs : Lfts 1) (a : ArgsD take.signature κs) (r : Open) (e : AtExit take.ended κs) → take-reads.Asked κs a → take-reads.Learnt κs a r e → KeepsFew (a .0) × KeepsFew r
-take-few κs a r e asked made = (keeps-few (asked .0), keeps-few (subst Ranged (sym made) (ranged-took (now (a .1 .0)) (a .1 .1 .0 .0) (asked .0) (asked .1))))
+pub take-few : (κs : Lfts 3) (a : ArgsD take.signature κs) (r : Open) (e : AtExit take.ended κs) → take-reads.Asked κs a → take-reads.Learnt κs a r e → KeepsFew (a .0) × KeepsFew r
+take-few κs a r e asked made = (keeps-few (asked .0), keeps-few (ranged-taking made (asked .0) (asked .1)))
 
 pub start-few : (κs : Lfts 1) (a : ArgsD start.signature κs) (r : Open) (e : AtExit start.ended κs) → start-reads.Asked κs a → start-reads.Learnt κs a r e → KeepsFew (a .0) × KeepsFew r
 start-few κs a r e asked made = (keeps-few (asked .0), keeps-few (subst Ranged (sym made) (ranged-opening (now (a .1 .0)) (a .1 .1 .0 .0) (asked .0) (asked .1) (asked .2))))
+
+pub start-required-few : (κs : Lfts 3) (a : ArgsD start-required.signature κs) (r : Open) (e : AtExit start-required.ended κs) → start-required-reads.Asked κs a → start-required-reads.Learnt κs a r e → KeepsFew (a .0) × KeepsFew r
+start-required-few κs a r e asked made =
+    let taken = ranged-taking (made .taking) (asked .0) (asked .0 .required) in
+    let less : made .taken .count < 24 = omega (arith, made .taking .count, asked .1) in
+    (keeps-few (asked .0), keeps-few (subst Ranged (sym (made .opens)) (ranged-opening (now (a .1 .0)) (a .1 .1 .1 .1 .0 .0) taken less (asked .2))))
 
 pub infer-end-few : (κs : Lfts 0) (a : ArgsD infer-end.signature κs) (r : Open) (e : AtExit infer-end.ended κs) → infer-end-reads.Asked κs a → infer-end-reads.Learnt κs a r e → KeepsFew (a .0) × KeepsFew r
 infer-end-few κs a r e asked made = (keeps-few (asked .0), keeps-few (subst Ranged (sym made) (ranged-ended (asked .0) (asked .1))))
@@ -93,7 +101,7 @@ pub end-few : (κs : Lfts 0) (a : ArgsD end.signature κs) (r : Open) (e : AtExi
 end-few κs a r e asked made = (keeps-few (asked .0), keeps-few (subst Ranged (sym made) (ranged-ended (asked .0) (asked .1))))
 
 -- So are those that settling a start tag or data, an end tag and the document's end are handed and hand back, where they refuse as well.
-pub token-few : (κs : Lfts 5) (a : ArgsD token.signature κs) (r : Outcome) (e : AtExit token.ended κs) → token-reads.Asked κs a → token-reads.Learnt κs a r e → KeepsFew (a .1 .1 .1 .0) × KeepsFew (r .open)
+pub token-few : (κs : Lfts 7) (a : ArgsD token.signature κs) (r : Outcome) (e : AtExit token.ended κs) → token-reads.Asked κs a → token-reads.Learnt κs a r e → KeepsFew (a .1 .1 .1 .1 .1 .0) × KeepsFew (r .open)
 token-few κs a r e asked settles = (keeps-few (asked .0), keeps-few (settles .ranged))
 
 pub end-tag-few : (κs : Lfts 3) (a : ArgsD end-tag.signature κs) (r : Outcome) (e : AtExit end-tag.ended κs) → end-tag-reads.Asked κs a → end-tag-reads.Learnt κs a r e → KeepsFew (a .1 .0) × KeepsFew (r .open)
@@ -106,215 +114,239 @@ finish-few κs a r e asked finished = (keeps-few (asked .0), keeps-few (finished
 
 -- At a moment (`Moment`) 0 to 24 are open, as many in the program as in the rules, the program stands for the rules' state, and the marks of the current
 -- element and of each around it say what the walks say of all places taken (`MarksMean` of the rules). Nothing is open at the first moment, and from a
--- moment each act (`Act` of the rules: a start, written or inferred, an end, written or inferred, data) leads to a moment, with what the methods of the
--- open elements make of it (`done`): so it is wherever a token has come to, though it may still be refused.
-pub moment-few : (es : List Element) (z : State) (o : Open) → Moment es z o → (o .count ≡ length (z .around)) × KeepsFew o
-moment-few es z o m = (m .many, keeps-few (m .ranged))
+-- moment each act (`Act` of the rules: a start, written or inferred, an end, written or inferred, data) leads to a moment, with whatever the methods of the
+-- open elements make of it (`Does`: what they promise), and they may be called for it (`Asks`): so it is wherever a token has come to, though it may still be
+-- refused. `bits` is what the program keeps beside of the members of "&" groups that have begun, and M is the type's table of members.
+pub moment-few : (es : List Element) (M bits : List ℕ) (z : State) (o : Open) → Moment es M bits z o → (o .count ≡ length (z .around)) × KeepsFew o
+moment-few es M bits z o m = (m .many, keeps-few (m .ranged))
 
-pub moment-marks : (es : List Element) (z : State) (o : Open) → Moment es z o
+pub moment-marks : (es : List Element) (M bits : List ℕ) (z : State) (o : Open) → Moment es M bits z o
     → (o .element .0 ≡ z .current .number) × ((g : Group) (ps : List Place) (n : ℕ) → contentOf es (z .current .number) ≡ model g ps n → MarksMean (o .complete) (o .required .0) g (z .current .taken))
-moment-marks es z o m = (m .marks .current .element, λ g ps n e. m .marks .current .marks e)
+moment-marks es M bits z o m = (m .marks .current .element, λ g ps n e. m .marks .current .marks e)
 
 -- So it is of each element around the current one: the entries of the array say it of the elements of the rules' state, the innermost first (`AllSay` of
 -- open_elements/specs/Marks).
-pub moment-marks-around : (es : List Element) (z : State) (o : Open) → Moment es z o → AllSay es (o .around) (o .count) (z .around)
-moment-marks-around es z o m = m .marks .around
+pub moment-marks-around : (es : List Element) (M bits : List ℕ) (z : State) (o : Open) → Moment es M bits z o → AllSay es (o .around) (o .count) (z .around)
+moment-marks-around es M bits z o m = m .marks .around
 
-pub first-moment : (c : Settings) (s : List ℕ) (es : List Element) → Accepts c s es → Moment es nothingOpen fresh
-first-moment c = moment-first
+pub first-moment : (c : Settings) (s : List ℕ) (es : List Element) → Accepts c s es → (M bits : List ℕ) → Moment es M bits nothingOpen fresh
+first-moment c s es accepted M bits = moment-first s es accepted
 
-module _ (c : Settings) (s : List ℕ) (es : List Element) (accepted : Accepts c s es) (D : Decisions) (means : Means s es D) (rows : List ℕ) (said : Rows es rows) where
-  pub each-act : (z y : State) (o : Open) → Moment es z o → (a : Act s es D z y) → Few y → Moment es y (done s es D rows a o)
-  each-act z y o m a few = moment-act s es accepted D means rows said m a few
+module _ (s : List ℕ) (es : List Element) (rows places facts M : List ℕ) (tables : Tables s es rows places facts M) (D : Decisions) (means : Means s es D) where
+  pub each-act : (z y : State) (o q : Open) (bits bits′ : List ℕ) → Moment es M bits z o → (a : Act s es D z y) → Few y → Does s es D rows M a o bits q bits′ → Moment es M bits′ y q
+  each-act z y o q bits bits′ m a few does = moment-act tables D means m a few does
+
+  pub each-act-asked : (z y : State) (o : Open) (bits : List ℕ) → Moment es M bits z o → (a : Act s es D z y) → Few y → Asks s es D rows M a o
+  each-act-asked z y o bits m a few = moment-asks tables D means m a few
 
 -- Before and after each method, "At every moment both must equal what 01's definition says of the places taken": the methods are all that changes the open
 -- elements, and from a moment each leads to a moment, whether or not the token is refused in the end: `take` of a place as which a token fits or which is
--- required, `start` of an element that has a model, and both that end the current element. A start is two calls, `take` and `start`, with a moment between
--- them.
+-- required, `start` of an element that has a model, `start_required` of the one that is required, and both that end the current element. A start that is
+-- written is two calls, `take` and `start`, with a moment between them.
 
 -- `new`: nothing is open yet.
 pub new-moment : (κs : Lfts 0) (a : ArgsD new.signature κs) (r : Open) (e : AtExit new.ended κs) → new-reads.Learnt κs a r e
-    → (c : Settings) (s : List ℕ) (es : List Element) → Accepts c s es → Moment es nothingOpen r
-new-moment κs a r e made c s es accepted = subst (Moment es nothingOpen) (sym made) (moment-first s es accepted)
+    → (c : Settings) (s : List ℕ) (es : List Element) → Accepts c s es → (M bits : List ℕ) → Moment es M bits nothingOpen r
+new-moment κs a r e made c s es accepted M bits = subst (Moment es M bits nothingOpen) (sym made) (moment-first s es accepted)
 
--- `take`, by the rows of the type, of the place as which a start tag or a data byte fits: that place is taken in the rules' state.
-pub take-fitting : (κs : Lfts 1) (a : ArgsD take.signature κs) (r : Open) (e : AtExit take.ended κs) → take-reads.Learnt κs a r e
-    → (c : Settings) (s : List ℕ) (es : List Element) → Accepts c s es → (D : Decisions) → Means s es D → Rows es (now (a .1 .0))
+-- `take`, by the tables of the type, of the place as which a start tag or a data byte fits: that place is taken in the rules' state.
+pub take-fitting : (κs : Lfts 3) (a : ArgsD take.signature κs) (r : Open) (e : AtExit take.ended κs) → take-reads.Learnt κs a r e
+    → (s : List ℕ) (es : List Element) (places facts : List ℕ) → Tables s es (now (a .1 .0)) places facts (now (a .1 .1 .0)) → (D : Decisions) → Means s es D
     → let o = a .0 in
-    let place = a .1 .1 .0 .0 in
-    (z : State) → Moment es z o → (t : Token) → place ≡ fitting s es D (z .current) t → 1 ≤ place → Moment es (takeToken s es D t z) r
-take-fitting κs a r e made c s es accepted D means said z m t same some =
-    subst (Moment es _) (sym (made ∙ ap (λ (p : ℕ). took (now (a .1 .0)) p (a .0)) same))
-    (moment-took s es accepted D means (now (a .1 .0)) said z (a .0) m (fits t (omega (arith, same))))
+    let M = now (a .1 .1 .0) in
+    let place = a .1 .1 .1 .1 .0 .0 in
+    (z : State) → Moment es M (now (a .1 .1 .1 .0)) z o → (t : Token) → place ≡ fitting s es D (z .current) t → 1 ≤ place → Moment es M (now (e .1 .1 .1 .0)) (takeToken s es D t z) r
+take-fitting κs a r e made s es places facts tables D means z m t same some =
+    moment-took tables D means m (fits t (omega (arith, same))) (subst (λ (p : ℕ). Taking (now (a .1 .0)) (now (a .1 .1 .0)) (now (a .1 .1 .1 .0)) p (a .0) r (now (e .1 .1 .1 .0))) same made)
 
 -- `take` of the required place, which is kept with the current element: it is the place that the rules require, and is taken in their state.
-pub take-required : (κs : Lfts 1) (a : ArgsD take.signature κs) (r : Open) (e : AtExit take.ended κs) → take-reads.Learnt κs a r e
-    → (c : Settings) (s : List ℕ) (es : List Element) → Accepts c s es → (D : Decisions) → Means s es D → Rows es (now (a .1 .0))
+pub take-required : (κs : Lfts 3) (a : ArgsD take.signature κs) (r : Open) (e : AtExit take.ended κs) → take-reads.Learnt κs a r e
+    → (s : List ℕ) (es : List Element) (places facts : List ℕ) → Tables s es (now (a .1 .0)) places facts (now (a .1 .1 .0)) → (D : Decisions) → Means s es D
     → let o = a .0 in
-    let place = a .1 .1 .0 .0 in
-    (z : State) → Moment es z o → place ≡ o .required .0 → 1 ≤ place → Moment es (takePlace (requiredPlace s es D (z .current)) z) r
-take-required κs a r e made c s es accepted D means said z m same some =
-    let kept = same ∙ sym (required-kept s es accepted D means z (a .0) m) in
-    subst (Moment es _) (sym (made ∙ ap (λ (p : ℕ). took (now (a .1 .0)) p (a .0)) kept))
-    (moment-took s es accepted D means (now (a .1 .0)) said z (a .0) m (required (omega (arith, kept))))
+    let M = now (a .1 .1 .0) in
+    let place = a .1 .1 .1 .1 .0 .0 in
+    (z : State) → Moment es M (now (a .1 .1 .1 .0)) z o → place ≡ o .required .0 → 1 ≤ place → Moment es M (now (e .1 .1 .1 .0)) (takePlace (requiredPlace s es D (z .current)) z) r
+take-required κs a r e made s es places facts tables D means z m same some =
+    let kept = same ∙ sym (required-kept s es (tables .accepted) m D means) in
+    moment-took tables D means m (required (omega (arith, kept))) (subst (λ (p : ℕ). Taking (now (a .1 .0)) (now (a .1 .1 .0)) (now (a .1 .1 .1 .0)) p (a .0) r (now (e .1 .1 .1 .0))) kept made)
 
 -- `start` of an element that has a model: it is entered in the rules' state.
 pub start-moment : (κs : Lfts 1) (a : ArgsD start.signature κs) (r : Open) (e : AtExit start.ended κs) → start-reads.Asked κs a → start-reads.Learnt κs a r e
-    → (c : Settings) (s : List ℕ) (es : List Element) → Accepts c s es → Rows es (now (a .1 .0))
+    → (s : List ℕ) (es : List Element) (places facts M : List ℕ) → Tables s es (now (a .1 .0)) places facts M
     → let o = a .0 in
     let k = a .1 .1 .0 .0 in
-    (z : State) → Moment es z o → Declared es k → hasModel (contentOf es k) ≡ true → Moment es (enter k z) r
-start-moment κs a r e asked made c s es accepted said z m declared has =
-    subst (Moment es _) (sym made) (moment-entered s es accepted (now (a .1 .0)) said z (a .0) m (a .1 .1 .0 .0) declared has (asked .1))
+    (bits : List ℕ) (z : State) → Moment es M bits z o → Declared es k → hasModel (contentOf es k) ≡ true → Moment es M bits (enter k z) r
+start-moment κs a r e asked made s es places facts M tables bits z m declared has = subst (Moment es M bits (enter (a .1 .1 .0 .0) z)) (sym made) (moment-entered tables m (a .1 .1 .0 .0) declared has (asked .1))
+
+-- `start_required`, of the element whose start is to be inferred: in the rules' state the required place is taken, and the element entered.
+pub start-required-moment : (κs : Lfts 3) (a : ArgsD start-required.signature κs) (r : Open) (e : AtExit start-required.ended κs) → start-required-reads.Asked κs a → start-required-reads.Learnt κs a r e
+    → (s : List ℕ) (es : List Element) (places facts : List ℕ) → Tables s es (now (a .1 .0)) places facts (now (a .1 .1 .0)) → (D : Decisions) → Means s es D
+    → let o = a .0 in
+    let M = now (a .1 .1 .0) in
+    let k = a .1 .1 .1 .1 .0 .0 in
+    (z : State) → Moment es M (now (a .1 .1 .1 .0)) z o → inferable s es D (z .current) ≡ k → 1 ≤ k → Moment es M (now (e .1 .1 .1 .0)) (enter k (takePlace (requiredPlace s es D (z .current)) z)) r
+start-required-moment κs a r e asked made s es places facts tables D means z m chosen some = moment-started tables D means m (a .1 .1 .1 .1 .0 .0) chosen some (asked .1) made
 
 -- `infer_end`: the method asks for the mark, so that the content is complete in the rules too. The parent u of the current element is the current one again,
 -- with us around it, and the end is noted. So it is of each end that a start tag, data, an end tag or the document's end infers.
 pub infer-end-moment : (κs : Lfts 0) (a : ArgsD infer-end.signature κs) (r : Open) (e : AtExit infer-end.ended κs) → infer-end-reads.Asked κs a → infer-end-reads.Learnt κs a r e
-    → (c : Settings) (s : List ℕ) (es : List Element) → Accepts c s es → (D : Decisions) → Means s es D → (z : State) → Moment es z (a .0) → (at : ℕ)
+    → (c : Settings) (s : List ℕ) (es : List Element) → Accepts c s es → (D : Decisions) → Means s es D → (M bits : List ℕ) (z : State) → Moment es M bits z (a .0) → (at : ℕ)
     → (isComplete s es D (z .current) ≡ true)
     × (u : rules.Open) × (us : List rules.Open) × (z .around ≡ u ∷ us)
-    × Moment es (record { current = u; around = us; events = z .events ++ endInferred (z .current .number) at ∷ [] }) r
-infer-end-moment κs a r e asked made c s es accepted D means z m at =
-    let (u, us, parent) = moment-parent s es accepted z (a .0) m (asked .1) in
-    (complete-kept s es accepted D means z (a .0) m ∙ asked .2, u, us, parent, subst (Moment es _) (sym made) (moment-ended s es accepted z (a .0) m u us _ parent))
+    × Moment es M bits (record { current = u; around = us; events = z .events ++ endInferred (z .current .number) at ∷ [] }) r
+infer-end-moment κs a r e asked made c s es accepted D means M bits z m at =
+    let (u, us, parent) = moment-parent s es accepted m (asked .1) in
+    (complete-kept s es accepted m D means ∙ asked .2, u, us, parent, subst (Moment es M bits _) (sym made) (moment-ended s es accepted m u us _ parent))
 
 -- `end`, of an end tag, likewise.
 pub end-moment : (κs : Lfts 0) (a : ArgsD end.signature κs) (r : Open) (e : AtExit end.ended κs) → end-reads.Asked κs a → end-reads.Learnt κs a r e
-    → (c : Settings) (s : List ℕ) (es : List Element) → Accepts c s es → (z : State) → Moment es z (a .0) → (at after : ℕ)
+    → (c : Settings) (s : List ℕ) (es : List Element) → Accepts c s es → (M bits : List ℕ) (z : State) → Moment es M bits z (a .0) → (at after : ℕ)
     → (u : rules.Open) × (us : List rules.Open) × (z .around ≡ u ∷ us)
-    × Moment es (record { current = u; around = us; events = z .events ++ endWritten (z .current .number) at after ∷ [] }) r
-end-moment κs a r e asked made c s es accepted z m at after =
-    let (u, us, parent) = moment-parent s es accepted z (a .0) m (asked .1) in
-    (u, us, parent, subst (Moment es _) (sym made) (moment-ended s es accepted z (a .0) m u us _ parent))
+    × Moment es M bits (record { current = u; around = us; events = z .events ++ endWritten (z .current .number) at after ∷ [] }) r
+end-moment κs a r e asked made c s es accepted M bits z m at after =
+    let (u, us, parent) = moment-parent s es accepted m (asked .1) in
+    (u, us, parent, subst (Moment es M bits _) (sym made) (moment-ended s es accepted m u us _ parent))
 
 -- To note events, which no method does, leaves a moment a moment.
-pub noted-moment : (c : Settings) (s : List ℕ) (es : List Element) → Accepts c s es → (z : State) (o : Open) → Moment es z o → (ev : List Event)
-    → Moment es (record { current = z .current; around = z .around; events = ev }) o
-noted-moment c s es accepted z o m ev = moment-noted s es accepted z o m ev
+pub noted-moment : (c : Settings) (s : List ℕ) (es : List Element) → Accepts c s es → (M bits : List ℕ) (z : State) (o : Open) → Moment es M bits z o → (ev : List Event)
+    → Moment es M bits (record { current = z .current; around = z .around; events = ev }) o
+noted-moment c s es accepted M bits z o m ev = moment-noted s es accepted m ev
 
--- `Beside` leads from one moment to another, act by act.
-module _ (c : Settings) (s d : List ℕ) (es : List Element) (rows : List ℕ) (said : Rows es rows) where
+-- `Beside` leads from one moment to another, act by act, whatever the methods make of each act.
+module _ (c : Settings) (s d : List ℕ) (es : List Element) (rows places facts M : List ℕ) (tables : Tables s es rows places facts M) (bits : List ℕ) where
   -- All moments before any position that reading comes to between tokens, those within each token too.
-  pub every-moment : (r : Reading (List Event)) (x : Reads c s d es r) (at : ℕ) (z : State) → Passes c s es (x .decisions) d at z → (o : Open) × Beside s es (x .decisions) rows nothingOpen fresh z o
-  every-moment r x at z p = passes-beside s es (x .accepted) (x .decisions) (x .means) rows said d at z p
+  pub every-moment : (r : Reading (List Event)) (x : Reads c s d es r) (at : ℕ) (z : State) → Passes c s es (x .decisions) d at z → Beside s es (x .decisions) rows M nothingOpen fresh bits z
+  every-moment r x at z p = passes-beside tables (x .decisions) (x .means) bits d p
 
   -- All moments of a document that is read to its end, where nothing is open any more.
   pub every-moment-read : (ev : List Event) (x : Reads c s d es (got ev))
-      → (z : State) × (o : Open) × Beside s es (x .decisions) rows nothingOpen fresh z o × (o .count ≡ 0) × (isComplete s es (x .decisions) (z .current) ≡ true) × (z .events ≡ ev)
-  every-moment-read ev x = document-beside s es (x .accepted) (x .decisions) (x .means) rows said d ev (x .reading)
+      → (z : State) × Beside s es (x .decisions) rows M nothingOpen fresh bits z × (z .around ≡ []) × (isComplete s es (x .decisions) (z .current) ≡ true) × (z .events ≡ ev)
+  every-moment-read ev x = document-beside tables (x .decisions) (x .means) bits d c ev (x .reading)
 
   -- What the program has between tokens is what the acts lead to: `Ranged`, `Stands` and `Reaches` are what its loop keeps (`Going` of document_events).
   -- The state that is handed from token to token is at a moment itself (`there` of `Leads`).
-  pub between-tokens : Accepts c s es → (at : ℕ) (o : Open) (ev : List Event) → Ranged o → Stands es o → Reaches c s es d at (stateOf o ev)
-      → (z : State) × Passes c s es (decided s es) d at z × Leads s es (decided s es) rows nothingOpen fresh z o
-  between-tokens accepted at o ev g h r = reaches-leads s es accepted rows said d at o ev g h r
+  pub between-tokens : (at : ℕ) (o : Open) (now : List ℕ) (z : State) → Ranged o → Stands es M now o z → Reaches c s es d at z
+      → Passes c s es (decided s es) d at z × Leads s es (decided s es) rows M nothingOpen fresh bits z o now
+  between-tokens at o now z g h r = (r .passes, reaches-leads tables bits g h r)
 
 -- Within a start tag that is not refused: the ends that it infers, the starts that it infers, then itself, with a moment before and after each. x is the
 -- element, from `at` to `after`. What `token` gives is what these acts lead to.
-pub within-start-tag : (κs : Lfts 5) (a : ArgsD token.signature κs) (r : Outcome) (e : AtExit token.ended κs) → token-reads.Learnt κs a r e
-    → (s : List ℕ) (es : List Element) → Tables s es (now (a .0)) (now (a .1 .0)) (now (a .1 .1 .0))
-    → let o = a .1 .1 .1 .0 in
-    let x = a .1 .1 .1 .1 .0 .0 in
-    let at = a .1 .1 .1 .1 .1 .0 in
-    let after = a .1 .1 .1 .1 .1 .1 .0 in
-    1 ≤ x → x ≤ length es → r .number ≡ 0 → (z : State) → Moment es z o
-    → (y : State) × (startElement s es (decided s es) x at after z ≡ got y) × Leads s es (decided s es) (now (a .0)) z o y (r .open)
-within-start-tag κs a r e settles s es tables some most done z m = settles-leads s es (tables .accepted) (now (a .0)) (tables .rows-say) tables _ settles some most done z m
+pub within-start-tag : (κs : Lfts 7) (a : ArgsD token.signature κs) (r : Outcome) (e : AtExit token.ended κs) → token-reads.Learnt κs a r e
+    → (s : List ℕ) (es : List Element) → Tables s es (now (a .0)) (now (a .1 .0)) (now (a .1 .1 .0)) (now (a .1 .1 .1 .0))
+    → let M = now (a .1 .1 .1 .0) in
+    let bits = now (a .1 .1 .1 .1 .0) in
+    let o = a .1 .1 .1 .1 .1 .0 in
+    let x = a .1 .1 .1 .1 .1 .1 .0 .0 in
+    let at = a .1 .1 .1 .1 .1 .1 .1 .0 in
+    let after = a .1 .1 .1 .1 .1 .1 .1 .1 .0 in
+    1 ≤ x → x ≤ length es → r .number ≡ 0 → (z : State) → Moment es M bits z o
+    → (y : State) × (startElement s es (decided s es) x at after z ≡ got y) × Leads s es (decided s es) (now (a .0)) M z o bits y (r .open) (now (e .1 .1 .1 .1 .0))
+within-start-tag κs a r e settles s es tables some most done z m = settles-leads tables settles some most done z m
 
 -- Within a run of data that is not refused: x is 0. The first byte of the run infers what is inferred and takes its place; each further byte takes the
 -- same place again.
-pub within-data : (κs : Lfts 5) (a : ArgsD token.signature κs) (r : Outcome) (e : AtExit token.ended κs) → token-reads.Learnt κs a r e
-    → (s : List ℕ) (es : List Element) → Tables s es (now (a .0)) (now (a .1 .0)) (now (a .1 .1 .0))
-    → let o = a .1 .1 .1 .0 in
-    let x = a .1 .1 .1 .1 .0 .0 in
-    let at = a .1 .1 .1 .1 .1 .0 in
-    x ≡ 0 → r .number ≡ 0 → (z : State) → Moment es z o
-    → (y : State) × (takeData s es (decided s es) at z ≡ got y) × Leads s es (decided s es) (now (a .0)) z o y (r .open)
-within-data κs a r e settles s es tables nothing done z m = data-leads s es (tables .accepted) (now (a .0)) (tables .rows-say) tables _ settles nothing done z m
+pub within-data : (κs : Lfts 7) (a : ArgsD token.signature κs) (r : Outcome) (e : AtExit token.ended κs) → token-reads.Learnt κs a r e
+    → (s : List ℕ) (es : List Element) → Tables s es (now (a .0)) (now (a .1 .0)) (now (a .1 .1 .0)) (now (a .1 .1 .1 .0))
+    → let M = now (a .1 .1 .1 .0) in
+    let bits = now (a .1 .1 .1 .1 .0) in
+    let o = a .1 .1 .1 .1 .1 .0 in
+    let x = a .1 .1 .1 .1 .1 .1 .0 .0 in
+    let at = a .1 .1 .1 .1 .1 .1 .1 .0 in
+    x ≡ 0 → r .number ≡ 0 → (z : State) → Moment es M bits z o
+    → (y : State) × (takeData s es (decided s es) at z ≡ got y) × Leads s es (decided s es) (now (a .0)) M z o bits y (r .open) (now (e .1 .1 .1 .1 .0))
+within-data κs a r e settles s es tables nothing done z m = data-leads tables settles nothing done z m
 
--- Within an end tag that is not refused: the ends that it infers, then itself. The rows are those of the type, which an end tag does not ask.
+-- Within an end tag that is not refused: the ends that it infers, then itself. The other tables are those of the type, which an end tag does not ask.
 pub within-end-tag : (κs : Lfts 3) (a : ArgsD end-tag.signature κs) (r : Outcome) (e : AtExit end-tag.ended κs) → end-tag-reads.Learnt κs a r e
-    → (c : Settings) (s : List ℕ) (es : List Element) (rows : List ℕ) → Accepts c s es → Rows es rows → Facts s es (now (a .0))
+    → (s : List ℕ) (es : List Element) (rows places M : List ℕ) → Tables s es rows places (now (a .0)) M
     → let o = a .1 .0 in
     let x = a .1 .1 .0 .0 in
     let at = a .1 .1 .1 .0 in
     let after = a .1 .1 .1 .1 .0 in
-    r .number ≡ 0 → (z : State) → Moment es z o
-    → (y : State) × (endElement s es (decided s es) x at after z ≡ got y) × Leads s es (decided s es) rows z o y (r .open)
-within-end-tag κs a r e tagged c s es rows accepted said facts-say done z m = tagged-leads s es accepted rows said facts-say tagged done z m
+    r .number ≡ 0 → (bits : List ℕ) (z : State) → Moment es M bits z o
+    → (y : State) × (endElement s es (decided s es) x at after z ≡ got y) × Leads s es (decided s es) rows M z o bits y (r .open) bits
+within-end-tag κs a r e tagged s es rows places M tables done bits z m = tagged-leads tables tagged done z m
 
 -- Within the document's end that is not refused: the ends that it infers, until nothing is open and the document itself is complete, with the events that
 -- it brings.
 pub within-end : (κs : Lfts 3) (a : ArgsD finish.signature κs) (r : Outcome) (e : AtExit finish.ended κs) (h : finish-reads.Learnt κs a r e)
-    → (c : Settings) (s : List ℕ) (es : List Element) (rows : List ℕ) → Accepts c s es → Rows es rows → Facts s es (now (a .0))
+    → (s : List ℕ) (es : List Element) (rows places M : List ℕ) → Tables s es rows places (now (a .0)) M
     → let o = a .1 .0 in
-    r .number ≡ 0 → (z : State) → Moment es z o
-    → (y : State) × (q : Open) × Beside s es (decided s es) rows z o y q × (q .count ≡ 0) × (isComplete s es (decided s es) (y .current) ≡ true) × (y .events ≡ z .events ++ h .brings .events)
-within-end κs a r e finished c s es rows accepted said facts-say none z m = finished-beside s es accepted rows said facts-say finished none z m
+    r .number ≡ 0 → (bits : List ℕ) (z : State) → Moment es M bits z o
+    → (y : State) × Beside s es (decided s es) rows M z o bits y × (y .around ≡ []) × (isComplete s es (decided s es) (y .current) ≡ true) × (y .events ≡ z .events ++ h .brings .events)
+within-end κs a r e finished s es rows places M tables none bits z m = finished-beside tables finished none z m
 
 -- The steps within a token, "At every moment both must equal what 01's definition says of the places taken": each by the contract of the function that takes
 -- it, from the moment before it to the moment after it, though the token may still be refused later.
 
--- Within a start tag of x, or data for 0, the ends that are inferred before it (`ends` of inferring): act by act they lead to just the open elements that are
+-- Within a start tag of x, or data for 0, the ends that are inferred before it (`ends` of inferring): act by act they lead to the open elements that are
 -- handed back. Where the token is not stuck there, so many starts can be inferred one in the other as were found, none if the token fits, and it fits in the
 -- last; a place that was found is the one as which the token fits.
-pub within-ends : (κs : Lfts 5) (a : ArgsD step-ends.signature κs) (r : Stop) (e : AtExit step-ends.ended κs) → step-ends-reads.Learnt κs a r e
-    → (s : List ℕ) (es : List Element) → Tables s es (now (a .0)) (now (a .1 .0)) (now (a .1 .1 .0))
-    → let o = a .1 .1 .1 .0 in
-    let x = a .1 .1 .1 .1 .0 .0 in
-    x ≤ length es → (z : State) → Moment es z o
-    → (y : State) × Beside s es (decided s es) (now (a .0)) z o y (r .open)
+pub within-ends : (κs : Lfts 7) (a : ArgsD step-ends.signature κs) (r : Stop) (e : AtExit step-ends.ended κs) → step-ends-reads.Learnt κs a r e
+    → (s : List ℕ) (es : List Element) → Tables s es (now (a .0)) (now (a .1 .0)) (now (a .1 .1 .0)) (now (a .1 .1 .1 .0))
+    → let M = now (a .1 .1 .1 .0) in
+    let bits = now (a .1 .1 .1 .1 .0) in
+    let o = a .1 .1 .1 .1 .1 .0 in
+    let x = a .1 .1 .1 .1 .1 .1 .0 .0 in
+    x ≤ length es → (z : State) → Moment es M bits z o
+    → (y : State) × Leads s es (decided s es) (now (a .0)) M z o bits y (r .open) bits
     × ((r .found ≡ Stuck → ⊥) → Infers s es (decided s es) (tokenOf x) (startsOf (r .found)) (y .current))
     × ((p : typed.Place) → r .found ≡ Taken p → p .0 ≡ fitting s es (decided s es) (y .current) (tokenOf x))
-within-ends κs a r e stops s es tables most z m = stops-lead s es (tables .accepted) (now (a .0)) (tables .rows-say) tables stops most z m
+within-ends κs a r e stops s es tables most z m = stops-lead tables stops most z m
 
 -- Each start that is inferred before it (`infer_start` of inferring), where one or more are left to infer: it is one act, after which there is a moment with
--- the open elements that are handed back, and one start fewer is left.
-pub within-inferred-start : (κs : Lfts 5) (a : ArgsD infer-start.signature κs) (r : Open) (e : AtExit infer-start.ended κs) → infer-start-reads.Asked κs a → infer-start-reads.Learnt κs a r e
-    → (s : List ℕ) (es : List Element) → Tables s es (now (a .0)) (now (a .1 .0)) (now (a .1 .1 .0))
-    → let o = a .1 .1 .1 .0 in
-    let at = a .1 .1 .1 .1 .0 in
-    (z : State) → Moment es z o → (t : Token) (left : ℕ) → Infers s es (decided s es) t (suc left) (z .current)
+-- the open elements that are handed back, and one start fewer is left. Nothing is taken yet in the element that it opens.
+pub within-inferred-start : (κs : Lfts 7) (a : ArgsD infer-start.signature κs) (r : Open) (e : AtExit infer-start.ended κs) → infer-start-reads.Asked κs a → infer-start-reads.Learnt κs a r e
+    → (s : List ℕ) (es : List Element) → Tables s es (now (a .0)) (now (a .1 .0)) (now (a .1 .1 .0)) (now (a .1 .1 .1 .0))
+    → let M = now (a .1 .1 .1 .0) in
+    let o = a .1 .1 .1 .1 .1 .0 in
+    let at = a .1 .1 .1 .1 .1 .1 .0 in
+    (z : State) → Moment es M (now (a .1 .1 .1 .1 .0)) z o → (t : Token) (left : ℕ) → Infers s es (decided s es) t (suc left) (z .current)
     → let y = inferOne s es (decided s es) at z in
-    Act s es (decided s es) z y × Moment es y r × Infers s es (decided s es) t left (y .current)
+    Act s es (decided s es) z y × Moment es M (now (e .1 .1 .1 .1 .0)) y r × Infers s es (decided s es) t left (y .current) × (y .current .taken ≡ [])
 within-inferred-start κs a r e asked infers s es tables z m t left (some, rest) =
-    let (does, there) = infers-start-does s es (tables .accepted) (now (a .0)) (tables .rows-say) tables infers (asked .1) z m some in
-    (does, there, rest)
+    let (does, there) = infers-start-does tables infers (asked .1) z m some in
+    (does, there, rest, refl)
 
 -- The place of a start tag of x (`placed` of placing), which is not refused there: in the rules' state the place is taken as which the tag fits, and the tag is
--- noted; acts lead there, and what is handed back is at that moment. What was found before (`within-ends`) is how many starts to infer, or that place.
-pub within-place : (κs : Lfts 5) (a : ArgsD place.signature κs) (r : Outcome) (e : AtExit place.ended κs) → place-reads.Learnt κs a r e
-    → (s : List ℕ) (es : List Element) → Tables s es (now (a .0)) (now (a .1 .0)) (now (a .1 .1 .0))
-    → let o = a .1 .1 .1 .0 in
-    let found = a .1 .1 .1 .1 .0 in
-    let x = a .1 .1 .1 .1 .1 .0 .0 in
-    let at = a .1 .1 .1 .1 .1 .1 .0 in
-    let after = a .1 .1 .1 .1 .1 .1 .1 .0 in
-    1 ≤ x → x ≤ length es → r .number ≡ 0 → (z : State) → Moment es z o
-    → ((p : typed.Place) → found ≡ Taken p → p .0 ≡ fitting s es (decided s es) (z .current) (tokenOf x))
-    → (y : State) × (noting es x at after (takeToken s es (decided s es) (tokenOf x) z) ≡ got y) × Leads s es (decided s es) (now (a .0)) z o y (r .open)
-within-place κs a r e places s es tables some most done z m right = places-leads s es (tables .accepted) (now (a .0)) (tables .rows-say) tables _ places some most done z m right
+-- noted; acts lead there, and what is handed back is at that moment. What was found before (`within-ends`) is how many starts to infer, after which nothing
+-- is taken yet in the current element (`within-inferred-start`), or that place.
+pub within-place : (κs : Lfts 7) (a : ArgsD place.signature κs) (r : Outcome) (e : AtExit place.ended κs) → place-reads.Learnt κs a r e
+    → (s : List ℕ) (es : List Element) → Tables s es (now (a .0)) (now (a .1 .0)) (now (a .1 .1 .0)) (now (a .1 .1 .1 .0))
+    → let M = now (a .1 .1 .1 .0) in
+    let bits = now (a .1 .1 .1 .1 .0) in
+    let o = a .1 .1 .1 .1 .1 .0 in
+    let found = a .1 .1 .1 .1 .1 .1 .0 in
+    let x = a .1 .1 .1 .1 .1 .1 .1 .0 .0 in
+    let at = a .1 .1 .1 .1 .1 .1 .1 .1 .0 in
+    let after = a .1 .1 .1 .1 .1 .1 .1 .1 .1 .0 in
+    1 ≤ x → x ≤ length es → r .number ≡ 0 → (z : State) → Moment es M bits z o
+    → ((p : typed.Place) → found ≡ Taken p → p .0 ≡ fitting s es (decided s es) (z .current) (tokenOf x)) → ((n : ℕ) → found ≡ Inferred n → z .current .taken ≡ [])
+    → (y : State) × (noting es x at after (takeToken s es (decided s es) (tokenOf x) z) ≡ got y) × Leads s es (decided s es) (now (a .0)) M z o bits y (r .open) (now (e .1 .1 .1 .1 .0))
+within-place κs a r e places s es tables some most done z m right new = places-leads tables _ places some most done z m right new
 
 -- The place of a run of data likewise: the rules' state is the one after its first byte. Each further byte takes the same place again.
-pub within-data-place : (κs : Lfts 5) (a : ArgsD place.signature κs) (r : Outcome) (e : AtExit place.ended κs) → place-reads.Learnt κs a r e
-    → (s : List ℕ) (es : List Element) → Tables s es (now (a .0)) (now (a .1 .0)) (now (a .1 .1 .0))
-    → let o = a .1 .1 .1 .0 in
-    let found = a .1 .1 .1 .1 .0 in
-    let x = a .1 .1 .1 .1 .1 .0 .0 in
-    let at = a .1 .1 .1 .1 .1 .1 .0 in
-    x ≡ 0 → r .number ≡ 0 → (z : State) → Moment es z o
-    → ((p : typed.Place) → found ≡ Taken p → p .0 ≡ fitting s es (decided s es) (z .current) (tokenOf x))
+pub within-data-place : (κs : Lfts 7) (a : ArgsD place.signature κs) (r : Outcome) (e : AtExit place.ended κs) → place-reads.Learnt κs a r e
+    → (s : List ℕ) (es : List Element) → Tables s es (now (a .0)) (now (a .1 .0)) (now (a .1 .1 .0)) (now (a .1 .1 .1 .0))
+    → let M = now (a .1 .1 .1 .0) in
+    let bits = now (a .1 .1 .1 .1 .0) in
+    let o = a .1 .1 .1 .1 .1 .0 in
+    let found = a .1 .1 .1 .1 .1 .1 .0 in
+    let x = a .1 .1 .1 .1 .1 .1 .1 .0 .0 in
+    let at = a .1 .1 .1 .1 .1 .1 .1 .1 .0 in
+    x ≡ 0 → r .number ≡ 0 → (z : State) → Moment es M bits z o
+    → ((p : typed.Place) → found ≡ Taken p → p .0 ≡ fitting s es (decided s es) (z .current) (tokenOf x)) → ((n : ℕ) → found ≡ Inferred n → z .current .taken ≡ [])
     → let y = takeToken s es (decided s es) pcdata z in
-    Leads s es (decided s es) (now (a .0)) z o (record { current = y .current; around = y .around; events = withData at (y .events) }) (r .open)
-within-data-place κs a r e places s es tables nothing done z m right = places-data s es (tables .accepted) (now (a .0)) (tables .rows-say) tables _ places nothing done z m right
+    Leads s es (decided s es) (now (a .0)) M z o bits (record { current = y .current; around = y .around; events = withData at (y .events) }) (r .open) (now (e .1 .1 .1 .1 .0))
+within-data-place κs a r e places s es tables nothing done z m right new = places-data tables _ places nothing done z m right new
 
 -- Within an end tag of x, or the document's end, the ends that are inferred until the current element is x or nothing is around it (`end_until` of
 -- left_out_ends), where none of them is refused. `infer-end-moment` has the moment after each.
 pub within-left-out-ends : (κs : Lfts 3) (a : ArgsD end-until.signature κs) (r : Outcome) (e : AtExit end-until.ended κs) → end-until-reads.Learnt κs a r e
-    → (c : Settings) (s : List ℕ) (es : List Element) (rows : List ℕ) → Accepts c s es → Rows es rows → Facts s es (now (a .0))
+    → (s : List ℕ) (es : List Element) (rows places M : List ℕ) → Tables s es rows places (now (a .0)) M
     → let o = a .1 .0 in
     let x = a .1 .1 .0 .0 in
     let at = a .1 .1 .1 .0 in
-    r .number ≡ 0 → (z : State) → Moment es z o
-    → (y : State) × (inferEnds s es (decided s es) x at (z .around) (z .current) (z .events) ≡ got y) × Leads s es (decided s es) rows z o y (r .open)
-within-left-out-ends κs a r e until c s es rows accepted said facts-say done z m = until-leads s es accepted rows said facts-say until done z m
+    r .number ≡ 0 → (bits : List ℕ) (z : State) → Moment es M bits z o
+    → (y : State) × (inferEnds s es (decided s es) x at (z .around) (z .current) (z .events) ≡ got y) × Leads s es (decided s es) rows M z o bits y (r .open) bits
+within-left-out-ends κs a r e until s es rows places M tables done bits z m = until-leads tables until done z m

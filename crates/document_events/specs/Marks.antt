@@ -2,28 +2,53 @@
 -- each open element, in the loop over a document's tokens.
 use Prim.Native.Nat.{ℕ}
 use mathlib.Core.Path.{_≡_}
-use mathlib.Core.List.{List, _++_}
+use mathlib.Core.List.{List}
 use Rattle.rules.specs.Settings.{Settings}
 use Rattle.rules.specs.TypeFile.{Element}
 use Rattle.rules.specs.Judge.{Accepts}
+use Rattle.rules.specs.Decisions.{Decisions, Means}
 use Rattle.rules.specs.Events.{Event}
+use Rattle.rules.specs.Settling.{State}
+use Rattle.document_laws.specs.Decide.{decided}
+use Rattle.document_laws.specs.Laws.{accepted-decided}
+use Rattle.document_laws.specs.Same.{Passes, passes-same}
+use Rattle.turn_laws.specs.Turns.{Reaches}
 use Rattle.element_index.specs.Means.{Indexed}
 use Rattle.type_tables.specs.Means.{Tables}
 use Rattle.open_elements.specs.declared.Open.{Open}
 use Rattle.open_elements.specs.declared.Outcome.{Outcome}
-use Rattle.open_elements.specs.Marks.{AtMoment, at-every-moment}
+use Rattle.open_elements.specs.Means.{Stands}
+use Rattle.open_elements.specs.Marks.{MarksSay, marks-say}
 use Rattle.document_events.specs.Means.{Turned, Going}
 
+-- Reading the document d, under any settings, has come to `at`, and the rules, by whatever decisions mean the walks, come there with the state z, of which the
+-- marks say what the walks say.
+pub record AtMoment (s : List ℕ) (es : List Element) (given : Settings) (d : List ℕ) (at : ℕ) (o : Open) : Type 0 where
+  pub state : State
+  pub passes : (D : Decisions) → Means s es D → Passes given s es D d at state
+  pub marks : MarksSay es o state
+
+-- `Reaches` and `Stands` hold before the first token (`reaches-start`, `stands-fresh`), and by the contracts of `settling::token` and
+-- `closing::end_tag` after each that is not refused: `Going` and `Turned` have both.
+pub at-every-moment : {c : Settings} (s : List ℕ) (es : List Element) → Accepts c s es → {given : Settings} {d M begun : List ℕ} {at : ℕ} {o : Open} {z : State} → Stands es M begun o z → Reaches given s es d at z → AtMoment s es given d at o
+at-every-moment s es accepted {d = d} {z = z} h r =
+    record {
+      state = z;
+      passes = λ D x. passes-same s es (decided s es) D (accepted-decided s es accepted) x d (r .passes);
+      marks = marks-say s es accepted h;
+    }
+
 -- At the start of each turn of the loop, the first one too.
-pub marks-going : {c : Settings} {s elements index rows places facts d numbers numbersNow bytes bytesNow : List ℕ} {n at : ℕ} {o : Open}
-    → Going c s elements index rows places facts d numbers numbersNow bytes bytesNow n at o
-    → (es : List Element) → Indexed s es elements index → (t : Tables s es rows places facts) → AtMoment s es (t .accepted) c d at o
-marks-going {c} {s} {d = d} {at = at} {o = o} g es i t =
+pub marks-going : {c : Settings} {s elements index rows places facts M d begun numbers numbersNow bytes bytesNow : List ℕ} {n at : ℕ} {o : Open}
+    → Going c s elements index rows places facts M d begun numbers numbersNow bytes bytesNow n at o
+    → (es : List Element) → Indexed s es elements index → Tables s es rows places facts M → AtMoment s es c d at o
+marks-going {s = s} g es i t =
     let came = g .any es i t in
-    at-every-moment s es (t .accepted) c d at o (came .events) (came .stands) (came .reaches)
+    at-every-moment s es (t .accepted) (came .stands) (came .reaches)
 
 -- After each token that is settled and not refused.
-pub marks-turned : {c e : Settings} {s : List ℕ} {es : List Element} (a : Accepts e s es) {d : List ℕ} {at after : ℕ} {before events : List Event} {r : Outcome}
-    → Turned c s es d at after before events r → r .number ≡ 0 → AtMoment s es a c d after (r .open)
-marks-turned {c} {e} {s} {es} a {d} {at} {after} {before} {events} {r} u z =
-    at-every-moment s es a c d after (r .open) (before ++ events) (u .stands z) (u .reaches z)
+pub marks-turned : {c e : Settings} {s : List ℕ} {es : List Element} → Accepts e s es → {d M begun : List ℕ} {at after : ℕ} {events : List Event} {r : Outcome}
+    → Turned c s es d M begun at after events r → r .number ≡ 0 → AtMoment s es c d after (r .open)
+marks-turned {s = s} {es} a u z =
+    let (y, came, reach) = u .goes z in
+    at-every-moment s es a (came .0) reach

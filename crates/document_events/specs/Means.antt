@@ -1,13 +1,14 @@
 -- What the events of a document are, and what the loop over its tokens leaves, in the rules' terms.
 use Prim.Native.Nat.{ℕ, _*_, _≤_, _<_}
 use mathlib.Core.Path.{_≡_}
-use mathlib.Core.List.{List, _++_}
+use mathlib.Core.List.{List}
 use lib.ListN.{length}
 use Rattle.rules.specs.Settings.{Settings}
 use Rattle.rules.specs.Reading.{refused, got}
 use Rattle.rules.specs.TypeFile.{Element}
 use Rattle.rules.specs.Lent.{bytesOf}
 use Rattle.rules.specs.Events.{Event}
+use Rattle.rules.specs.Settling.{State}
 use Rattle.rules.specs.Reader.{document, eventNumbers}
 use Rattle.numbers.specs.Means.{Written}
 use Rattle.document_laws.specs.Decide.{decided}
@@ -17,7 +18,8 @@ use Rattle.type_tables.specs.Means.{Tables}
 use Rattle.event_buffer.specs.Means.{Holds}
 use Rattle.open_elements.specs.declared.Open.{Open}
 use Rattle.open_elements.specs.declared.Outcome.{Outcome}
-use Rattle.open_elements.specs.Means.{stateOf, Ranged, Stands}
+use Rattle.open_elements.specs.Means.{Ranged, Stands}
+use Rattle.open_elements.specs.Becomes.{StandsWith}
 use Rattle.document_events.specs.declared.Counted.{Counted}
 use Rattle.document_events.specs.declared.Counted.the-variants as counted
 
@@ -28,27 +30,26 @@ EventsOf c s es d numbers numbersAfter bytes bytesAfter (counted.Events n) =
     Written bytes bytesAfter (bytesOf (eventNumbers ev)) × (n < 4294967296)
 EventsOf c s es d numbers numbersAfter bytes bytesAfter (counted.Refused f) = document c s es (decided s es) d ≡ refused (f .number) (f .at)
 
--- What a token that stands at `at`, up to `after`, has come to, with these events of its own behind those before: reading goes on behind it,
--- or the document is refused there.
-pub record Turned (c : Settings) (s : List ℕ) (es : List Element) (d : List ℕ) (at after : ℕ) (before events : List Event) (r : Outcome) : Type 0 where
-  pub reaches : r .number ≡ 0 → Reaches c s es d after (stateOf (r .open) (before ++ events))
-  pub stands : r .number ≡ 0 → Stands es (r .open)
+-- What a token that stands at `at`, up to `after`, has come to: reading goes on behind it with a state for which the open elements stand, by what has begun, and
+-- which has these events, or the document is refused there.
+pub record Turned (c : Settings) (s : List ℕ) (es : List Element) (d M begun : List ℕ) (at after : ℕ) (events : List Event) (r : Outcome) : Type 0 where
+  pub goes : r .number ≡ 0 → (y : State) × StandsWith es M begun (r .open) events y × Reaches c s es d after y
   pub refuses : 1 ≤ r .number → document c s es (decided s es) d ≡ refused (r .number) at
 
 -- Reading has come to `at` with these elements open, and the events so far are in the buffers as far as they fit.
-pub record Comes (c : Settings) (s : List ℕ) (es : List Element) (d numbers numbersNow bytes bytesNow : List ℕ) (n at : ℕ) (o : Open) : Type 0 where
-  pub events : List Event
-  pub reaches : Reaches c s es d at (stateOf o events)
-  pub stands : Stands es o
-  pub counted : n ≡ length events
-  pub holds : Holds numbers bytes numbersNow bytesNow events
+pub record Comes (c : Settings) (s : List ℕ) (es : List Element) (d M begun numbers numbersNow bytes bytesNow : List ℕ) (n at : ℕ) (o : Open) : Type 0 where
+  pub state : State
+  pub reaches : Reaches c s es d at state
+  pub stands : Stands es M begun o state
+  pub counted : n ≡ length (state .events)
+  pub holds : Holds numbers bytes numbersNow bytesNow (state .events)
 
 -- The same for any elements of which the index and the tables are. Whatever these hold, the numbers are in range: a token takes at least a
 -- byte and brings at most 50 events.
-pub record Going (c : Settings) (s elements index rows places facts d numbers numbersNow bytes bytesNow : List ℕ) (n at : ℕ) (o : Open) : Type 0 where
+pub record Going (c : Settings) (s elements index rows places facts M d begun numbers numbersNow bytes bytesNow : List ℕ) (n at : ℕ) (o : Open) : Type 0 where
   pub inside : at ≤ length d
   pub few : n ≤ 50 * at
   pub ranged : Ranged o
   pub numbers-same : length numbersNow ≡ length numbers
   pub bytes-same : length bytesNow ≡ length bytes
-  pub any : (es : List Element) → Indexed s es elements index → Tables s es rows places facts → Comes c s es d numbers numbersNow bytes bytesNow n at o
+  pub any : (es : List Element) → Indexed s es elements index → Tables s es rows places facts M → Comes c s es d M begun numbers numbersNow bytes bytesNow n at o

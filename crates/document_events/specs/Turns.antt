@@ -1,6 +1,7 @@
 -- The loop over a document's tokens: what a turn leaves, and what the document reads as where the loop ends.
 use Prim.Native.Nat.{ℕ, zero, suc, _+_, _-_, _*_, _≤_, _<_}
-use mathlib.Core.Path.{_≡_, refl, sym, _∙_, ap}
+use mathlib.Core.Path.{_≡_, refl, sym, _∙_, ap, subst}
+use mathlib.Core.Bool.{true}
 use mathlib.Core.List.{List, [], _++_}
 use native.Mathlib.Omega.{arith}
 use lib.ListN.{length, length-append}
@@ -9,24 +10,32 @@ use Rattle.rules.specs.Reading.{Reading, refused, got}
 use Rattle.rules.specs.TypeFile.{Element}
 use Rattle.rules.specs.Lent.{bytesOf}
 use Rattle.rules.specs.Judge.{Accepts}
+use Rattle.rules.specs.Document.{blank, piece}
+use Rattle.rules.specs.Decisions.{pcdata}
 use Rattle.rules.specs.Events.{Event}
-use Rattle.rules.specs.Settling.{State, startElement, endElement, endDocument}
+use Rattle.rules.specs.Settling.{State, fitting, startElement, endElement, endDocument}
+use Rattle.rules.specs.Settling as rules
 use Rattle.rules.specs.Reader.{document, eventNumbers}
 use Rattle.numbers.specs.Laws.{written-none}
 use Rattle.text.specs.declared.Fault.{Fault}
 use Rattle.layout.specs.declared.ElementNo.{ElementNo}
 use Rattle.layout.specs.Typed.{elementNo}
+use Rattle.rules_laws.specs.Runs.{isRun, runEnd}
 use Rattle.document_laws.specs.Decide.{decided}
+use Rattle.document_laws.specs.Laws.{accepted-decided}
+use Rattle.document_laws.specs.Moves.{state}
+use Rattle.document_laws.specs.Same.{passes-begun}
 use Rattle.type_laws.specs.Names.{numberOf-range}
-use Rattle.type_laws.specs.Pcdata.{pcdata-stays}
-use Rattle.turn_laws.specs.Last.{shortly, takeRun, InRange}
+use Rattle.turn_laws.specs.Means.{takeRun}
 use Rattle.turn_laws.specs.Turns.{Reaches, reaches-start, reaches-end, refused-piece, refused-undeclared-start, refused-undeclared-end, reaches-start-tag, refused-start-tag, reaches-end-tag, refused-end-tag, reaches-skipped, reaches-blank, reaches-run, refused-run}
 use Rattle.element_index.specs.Means.{Indexed}
-use Rattle.type_tables.specs.Means.{standing, Tables}
+use Rattle.event_buffer.specs.Means.{Holds}
+use Rattle.type_tables.specs.Means.{Tables, Entered}
 use Rattle.open_elements.specs.declared.Open.{Open}
 use Rattle.open_elements.specs.declared.Outcome.{Outcome}
-use Rattle.open_elements.specs.Means.{stateOf, outcomeOf, closedOf, fresh, Ranged, Stands}
-use Rattle.open_elements.specs.Laws.{stands-range, stands-fresh, ranged-fresh}
+use Rattle.open_elements.specs.Means.{Becomes, fresh, Ranged, Stands}
+use Rattle.open_elements.specs.Becomes.{StandsWith, was-refused, was-got}
+use Rattle.open_elements.specs.Laws.{stands-fresh, ranged-fresh}
 use Rattle.settling.specs.Settled.{takes, Settles}
 use Rattle.left_out_ends.specs.Until.{Brings}
 use Rattle.closing.specs.Closed.{Tagged, Finished}
@@ -36,16 +45,9 @@ use Rattle.pieces.specs.Means.{skips, separates, malformed, undeclaredStart, un
 use Rattle.document_events.specs.declared.Counted.{Counted}
 use Rattle.document_events.specs.declared.Counted.the-variants as counted
 use Rattle.document_events.specs.Means.{EventsOf, Turned, Comes, Going}
+use Rattle.document_events.specs.Again.{stands-again}
 
 -- What a token comes to
-
-outcomeOf-refused : (at n : ℕ) (z : State) → 1 ≤ n → outcomeOf at n z ≡ refused n at
-outcomeOf-refused at zero z l = absurd (omega arith)
-outcomeOf-refused at (suc n) z l = refl
-
-closedOf-refused : (at n : ℕ) (ev : List Event) → 1 ≤ n → closedOf at n ev ≡ refused n at
-closedOf-refused at zero ev l = absurd (omega arith)
-closedOf-refused at (suc n) ev l = refl
 
 module _ (s : List ℕ) (es : List Element) (at after : ℕ) (z : State) where
   takes-start : (x : ℕ) → 1 ≤ x → takes s es x at after z ≡ startElement s es (decided s es) x at after z
@@ -56,59 +58,62 @@ module _ (s : List ℕ) (es : List Element) (at after : ℕ) (z : State) where
   takes-run zero l = refl
   takes-run (suc k) l = absurd (omega arith)
 
-module _ (at : ℕ) (r : Outcome) (ev : List Event) {x : Reading State} (e : outcomeOf at (r .number) (stateOf (r .open) ev) ≡ x) where
-  outcome-got : r .number ≡ 0 → x ≡ got (stateOf (r .open) ev)
-  outcome-got z = sym e ∙ ap (λ (n : ℕ). outcomeOf at n (stateOf (r .open) ev)) z
+module _ (c : Settings) (s : List ℕ) (es : List Element) (d M begun : List ℕ) (at : ℕ) (z : State) (h : at < length d) (reach : Reaches c s es d at z) (events : List Event) (r : Outcome) (x after : ℕ) where
+  abbrev Came : State → Type 0
+  Came = StandsWith es M begun (r .open) events
 
-  outcome-refused : 1 ≤ r .number → x ≡ refused (r .number) at
-  outcome-refused i = sym e ∙ outcomeOf-refused at (r .number) (stateOf (r .open) ev) i
-
-module _ (c : Settings) (s : List ℕ) (es : List Element) (d : List ℕ) (at : ℕ) (o : Open) (before : List Event) (h : at < length d) (reach : Reaches c s es d at (stateOf o before)) (events : List Event) (r : Outcome) (stands : r .number ≡ 0 → Stands es (r .open)) (x after : ℕ) where
   -- An end tag.
-  turned-end : Finds c s es d (o .element .0) (o .place .0) at (found.End (elementNo x) after)
-      → outcomeOf at (r .number) (stateOf (r .open) (before ++ events)) ≡ shortly (endElement s es (decided s es) x at after (stateOf o before)) → Turned c s es d at after before events r
-  turned-end (n, i) e =
+  turned-end : Finds c s es d (z .current) at (found.End (elementNo x) after) → Becomes at (r .number) Came (endElement s es (decided s es) x at after z) → Turned c s es d M begun at after events r
+  turned-end (n, i) b =
+      let q = endElement s es (decided s es) x at after z in
       record {
-        reaches = λ z. reaches-end-tag reach h (n .there) x (n .number) i (outcome-got at r (before ++ events) e z);
-        stands = stands;
-        refuses = λ k. refused-end-tag reach h (n .there) x (n .number) i (outcome-refused at r (before ++ events) e k);
+        goes = λ o. let (y, e, came) = was-got at Came q b o in (y, came, reaches-end-tag reach h (n .there) x (n .number) i e);
+        refuses = λ k. refused-end-tag reach h (n .there) x (n .number) i (was-refused at Came q b k);
+      }
+
+  -- A run of data: the rules take its place with each byte.
+  turned-run : {given : Settings} → Accepts given s es → isRun (piece c d at) ≡ true → (piece c d at ≡ got blank → 1 ≤ fitting s es (decided s es) (z .current) pcdata)
+      → Becomes at (r .number) Came (takeRun s es (decided s es) at (runEnd d (at + 1) - at) z) → Turned c s es d M begun at (runEnd d (at + 1)) events r
+  turned-run accepted run fits b =
+      let q = takeRun s es (decided s es) at (runEnd d (at + 1) - at) z in
+      record {
+        goes = λ o.
+            let (y, e, came) = was-got at Came q b o in
+            let (v, again, there) = reaches-run reach h run fits accepted e in
+            let begins = passes-begun s es (decided s es) (accepted-decided s es accepted) d (there .passes) .current in
+            (state v (y .around) (y .events), (stands-again (came .0) again begins, came .1), there);
+        refuses = λ k. refused-run reach h run fits (was-refused at Came q b k);
       }
 
   -- A start tag or a run of data, for 0.
-  turned-token : {e : Settings} → Accepts e s es → ToSettle c s es d (o .element .0) (o .place .0) at x after
-      → outcomeOf at (r .number) (stateOf (r .open) (before ++ events)) ≡ shortly (takes s es x at after (stateOf o before)) → Turned c s es d at after before events r
-  turned-token accepted (starts i n) v =
-      let e = v ∙ ap shortly (takes-start s es at after (stateOf o before) x i) in
+  turned-token : {given : Settings} → Accepts given s es → ToSettle c s es d (z .current) at x after → Becomes at (r .number) Came (takes s es x at after z) → Turned c s es d M begun at after events r
+  turned-token accepted (starts i n) b =
+      let q = takes s es x at after z in
+      let is = takes-start s es at after z x i in
       record {
-        reaches = λ z. reaches-start-tag reach h (n .there) x (n .number) i (outcome-got at r (before ++ events) e z);
-        stands = stands;
-        refuses = λ k. refused-start-tag reach h (n .there) x (n .number) i (outcome-refused at r (before ++ events) e k);
+        goes = λ o. let (y, e, came) = was-got at Came q b o in (y, came, reaches-start-tag reach h (n .there) x (n .number) i (sym is ∙ e));
+        refuses = λ k. refused-start-tag reach h (n .there) x (n .number) i (sym is ∙ was-refused at Came q b k);
       }
-  turned-token accepted (runs z f) v =
-      let w = v ∙ ap shortly (takes-run s es at after (stateOf o before) x z) in
-      let e = rw (f .ends) at w in
-      rw (f .ends) (record {
-        reaches = λ z. reaches-run reach h (f .run) (f .fits) (pcdata-stays s es accepted) (outcome-got at r (before ++ events) e z);
-        stands = stands;
-        refuses = λ k. refused-run reach h (f .run) (f .fits) (outcome-refused at r (before ++ events) e k);
-      })
+  turned-token accepted (runs nothing f) b =
+      let is = takes-run s es at after z x nothing ∙ ap (λ (k : ℕ). takeRun s es (decided s es) at (k - at) z) (f .ends) in
+      subst (λ (k : ℕ). Turned c s es d M begun at k events r) (sym (f .ends)) (turned-run accepted (f .run) (f .fits) (subst (λ (q : Reading State). Becomes at (r .number) Came q) is b))
 
 -- The element of a start tag is declared.
-settles-declared : (c : Settings) (s : List ℕ) (es : List Element) (d : List ℕ) (e u at x after : ℕ) → ToSettle c s es d e u at x after → x ≤ length es
-settles-declared c s es d e u at x after (runs z f) = omega arith
-settles-declared c s es d e u at x after (starts l n) = omega (arith, n .number, numberOf-range s es d (n .name) (n .size))
+settles-declared : (c : Settings) (s : List ℕ) (es : List Element) (d : List ℕ) (o : rules.Open) (at x after : ℕ) → ToSettle c s es d o at x after → x ≤ length es
+settles-declared c s es d o at x after (runs z f) = omega arith
+settles-declared c s es d o at x after (starts l n) = omega (arith, n .number, numberOf-range s es d (n .name) (n .size))
 
 -- What is refused whatever is open.
-refused-unread : (c : Settings) (s : List ℕ) (es : List Element) (d : List ℕ) (at : ℕ) (o : Open) (before : List Event) → at < length d → Reaches c s es d at (stateOf o before) → (f : Fault) → Finds c s es d (o .element .0) (o .place .0) at (found.Refused f) → document c s es (decided s es) d ≡ refused (f .number) (f .at)
-refused-unread c s es d at o before h reach f (malformed e) = refused-piece reach h e
-refused-unread c s es d at o before h reach f (undeclaredStart n e k) = rw (e, k) (refused-undeclared-start reach h (n .there) (n .number))
-refused-unread c s es d at o before h reach f (undeclaredEnd n e k) = rw (e, k) (refused-undeclared-end reach h (n .there) (n .number))
+refused-unread : (c : Settings) (s : List ℕ) (es : List Element) (d : List ℕ) (at : ℕ) (z : State) → at < length d → Reaches c s es d at z → (f : Fault) → Finds c s es d (z .current) at (found.Refused f) → document c s es (decided s es) d ≡ refused (f .number) (f .at)
+refused-unread c s es d at z h reach f (malformed e) = refused-piece reach h e
+refused-unread c s es d at z h reach f (undeclaredStart n e k) = rw (e, k) (refused-undeclared-start reach h (n .there) (n .number))
+refused-unread c s es d at z h reach f (undeclaredEnd n e k) = rw (e, k) (refused-undeclared-end reach h (n .there) (n .number))
 
 -- The loop
 
-pub going-start : (c : Settings) (s elements index rows places facts d numbers bytes : List ℕ) {o : Open} → o ≡ fresh → Going c s elements index rows places facts d numbers numbers bytes bytes 0 0 o
+pub going-start : (c : Settings) (s elements index rows places facts M d begun numbers bytes : List ℕ) {o : Open} → o ≡ fresh → Going c s elements index rows places facts M d begun numbers numbers bytes bytes 0 0 o
 unfolding eventNumbers bytesOf
-going-start c s elements index rows places facts d numbers bytes q =
+going-start c s elements index rows places facts M d begun numbers bytes q =
     rw q (record {
       inside = omega arith;
       few = omega arith;
@@ -117,24 +122,24 @@ going-start c s elements index rows places facts d numbers bytes q =
       bytes-same = refl;
       any = λ es i t.
           record {
-            events = [];
+            state = rules.nothingOpen;
             reaches = reaches-start c s es d;
-            stands = stands-fresh es;
+            stands = stands-fresh es M begun;
             counted = refl;
             holds = record { numbers-kept = refl; bytes-kept = refl; numbers-hold = written-none numbers; bytes-hold = written-none bytes };
           };
     })
 
 -- What piece_at ensures of what stands at `at`.
-abbrev pub PieceSaid : Settings → (s elements index rows places facts d : List ℕ) (at : ℕ) → Open → Piece → Type 0
-PieceSaid c s elements index rows places facts d at o p =
-    (es : List Element) → Indexed s es elements index → Tables s es rows places facts → InRange es (standing (o .element .0) (o .place .0)) → Finds c s es d (o .element .0) (o .place .0) at p
+abbrev pub PieceSaid : Settings → (s elements index rows places facts M d begun : List ℕ) (at : ℕ) → Open → Piece → Type 0
+PieceSaid c s elements index rows places facts M d begun at o p =
+    (es : List Element) → Indexed s es elements index → Tables s es rows places facts M → (v : rules.Open) → Entered es M begun (o .count) (o .element .0) (o .place .0) v → Finds c s es d v at p
 
-module _ {c : Settings} {s elements index rows places facts d numbers numbersNow bytes bytesNow : List ℕ} {n at : ℕ} {o : Open} (g : Going c s elements index rows places facts d numbers numbersNow bytes bytesNow n at o) where
+module _ {c : Settings} {s elements index rows places facts M d begun numbers numbersNow bytes bytesNow : List ℕ} {n at : ℕ} {o : Open} (g : Going c s elements index rows places facts M d begun numbers numbersNow bytes bytesNow n at o) where
   -- A token up to `after` was settled and brought these events, or was refused.
-  module _ {after : ℕ} (on : (at < after) × (after ≤ length d)) {r : Outcome} {numbers′ bytes′ : List ℕ} (b : Brings n numbersNow bytesNow r numbers′ bytes′) (few : length (b .events) ≤ 50)
-      (turned : (es : List Element) (i : Indexed s es elements index) (t : Tables s es rows places facts) → Turned c s es d at after (g .any es i t .events) (b .events) r) where
-    going-on : r .number ≡ 0 → Going c s elements index rows places facts d numbers numbers′ bytes bytes′ (r .events) after (r .open)
+  module _ {after : ℕ} (on : (at < after) × (after ≤ length d)) {r : Outcome} {begun′ numbers′ bytes′ : List ℕ} (b : Brings n numbersNow bytesNow r numbers′ bytes′) (few : length (b .events) ≤ 50)
+      (turned : (es : List Element) (i : Indexed s es elements index) (t : Tables s es rows places facts M) → Turned c s es d M begun′ at after (g .any es i t .state .events ++ b .events) r) where
+    going-on : r .number ≡ 0 → Going c s elements index rows places facts M d begun′ numbers numbers′ bytes bytes′ (r .events) after (r .open)
     going-on z =
         record {
           inside = on .1;
@@ -144,27 +149,28 @@ module _ {c : Settings} {s elements index rows places facts d numbers numbersNow
           bytes-same = b .puts .bytes-kept ∙ g .bytes-same;
           any = λ es i t.
               let came = g .any es i t in
-              let u = turned es i t in
+              let before = came .state .events in
+              let (y, there, reach) = turned es i t .goes z in
               record {
-                events = came .events ++ b .events;
-                reaches = u .reaches z;
-                stands = u .stands z;
-                counted = omega (arith, length-append (came .events) (b .events), came .counted, b .counted);
-                holds = b .puts .behind numbers bytes (came .events) (came .counted) (came .holds);
+                state = y;
+                reaches = reach;
+                stands = there .0;
+                counted = omega (arith, ap length (there .1), length-append before (b .events), came .counted, b .counted);
+                holds = subst (Holds numbers bytes numbers′ bytes′) (sym (there .1)) (b .puts .behind numbers bytes before (came .counted) (came .holds));
               };
         }
 
-    refuses-there : (r .number ≡ 0 → ⊥) → {answer : Counted} → answer ≡ counted.Refused (record { number = r .number; at = at }) → (es : List Element) → Indexed s es elements index → Tables s es rows places facts → EventsOf c s es d numbers numbers′ bytes bytes′ answer
+    refuses-there : (r .number ≡ 0 → ⊥) → {answer : Counted} → answer ≡ counted.Refused (record { number = r .number; at = at }) → (es : List Element) → Indexed s es elements index → Tables s es rows places facts M → EventsOf c s es d numbers numbers′ bytes bytes′ answer
     refuses-there z q es i t = rw q (turned es i t .refuses (omega arith))
 
-  module _ (h : at < length d) (p : Piece) (said : PieceSaid c s elements index rows places facts d at o p) where
-    finds : (es : List Element) → Indexed s es elements index → Tables s es rows places facts → Finds c s es d (o .element .0) (o .place .0) at p
-    finds es i t = said es i t (stands-range (g .any es i t .stands))
+  module _ (h : at < length d) (p : Piece) (said : PieceSaid c s elements index rows places facts M d begun at o p) where
+    finds : (es : List Element) (i : Indexed s es elements index) (t : Tables s es rows places facts M) → Finds c s es d (g .any es i t .state .current) at p
+    finds es i t = said es i t (g .any es i t .state .current) (g .any es i t .stands .current .entered)
 
-    pub piece-refuses : {f : Fault} → p ≡ found.Refused f → (es : List Element) → Indexed s es elements index → Tables s es rows places facts → document c s es (decided s es) d ≡ refused (f .number) (f .at)
+    pub piece-refuses : {f : Fault} → p ≡ found.Refused f → (es : List Element) → Indexed s es elements index → Tables s es rows places facts M → document c s es (decided s es) d ≡ refused (f .number) (f .at)
     piece-refuses {f} q es i t =
         let came = g .any es i t in
-        refused-unread c s es d at o (came .events) h (came .reaches) f (rw q at (finds es i t))
+        refused-unread c s es d at (came .state) h (came .reaches) f (rw q at (finds es i t))
 
     module _ (onward : Onward (length d) at p) where
       -- Each moves on within the document.
@@ -178,7 +184,7 @@ module _ {c : Settings} {s elements index rows places facts d numbers numbersNow
       passed-range q = rw q at onward
 
       -- What is ignored leaves the open elements as they were.
-      pub going-passed : {after : ℕ} → p ≡ found.Passed after → Going c s elements index rows places facts d numbers numbersNow bytes bytesNow n after o
+      pub going-passed : {after : ℕ} → p ≡ found.Passed after → Going c s elements index rows places facts M d begun numbers numbersNow bytes bytesNow n after o
       going-passed {after} q =
           let (k, m) = passed-range q in
           record {
@@ -189,12 +195,12 @@ module _ {c : Settings} {s elements index rows places facts d numbers numbersNow
             bytes-same = g .bytes-same;
             any = λ es i t.
                 let came = g .any es i t in
-                record { events = came .events; reaches = by-kind es (came .events) (came .reaches) (rw q at (finds es i t)); stands = came .stands; counted = came .counted; holds = came .holds };
+                record { state = came .state; reaches = by-kind es (came .state) (came .reaches) (rw q at (finds es i t)); stands = came .stands; counted = came .counted; holds = came .holds };
           }
         where
-          by-kind : (es : List Element) (before : List Event) → Reaches c s es d at (stateOf o before) → Finds c s es d (o .element .0) (o .place .0) at (found.Passed after) → Reaches c s es d after (stateOf o before)
-          by-kind es before reach (skips e) = reaches-skipped reach h e
-          by-kind es before reach (separates e z a) = rw a (reaches-blank reach h e z)
+          by-kind : (es : List Element) (z : State) → Reaches c s es d at z → Finds c s es d (z .current) at (found.Passed after) → Reaches c s es d after z
+          by-kind es z reach (skips e) = reaches-skipped reach h e
+          by-kind es z reach (separates e n a) = rw a (reaches-blank reach h e n)
 
       module _ (small : length d ≤ 65535) {x : ElementNo} {after : ℕ} where
         asked : (x .0 ≤ 64) × (at < after) × (after ≤ length d) → (x .0 ≤ 64) × (at ≤ after) × (after < 4294967296) × (n + 50 < 4294967296)
@@ -208,34 +214,35 @@ module _ {c : Settings} {s elements index rows places facts d numbers numbersNow
 
       module _ {x : ElementNo} {after : ℕ} {r : Outcome} {numbers′ bytes′ : List ℕ} where
         -- A start tag or a run of data.
-        module _ (q : p ≡ found.Token x after) (t : Settles rows places facts (x .0) at after n o numbersNow bytesNow r numbers′ bytes′) where
+        module _ {begun′ : List ℕ} (q : p ≡ found.Token x after) (t : Settles rows places facts M (x .0) at after n o begun numbersNow bytesNow r begun′ numbers′ bytes′) where
           abbrev brought : Brings n numbersNow bytesNow r numbers′ bytes′
           brought = record { ranged = t .ranged; small = t .small; events = t .events; puts = t .puts; counted = t .counted }
 
-          settled : (es : List Element) (i : Indexed s es elements index) (u : Tables s es rows places facts) → Turned c s es d at after (g .any es i u .events) (t .events) r
+          settled : (es : List Element) (i : Indexed s es elements index) (u : Tables s es rows places facts M) → Turned c s es d M begun′ at after (g .any es i u .state .events ++ t .events) r
           settled es i u =
               let came = g .any es i u in
-              let f : ToSettle c s es d (o .element .0) (o .place .0) at (x .0) after = rw q at (finds es i u) in
-              let w = t .settles s es u (came .stands) (settles-declared c s es d (o .element .0) (o .place .0) at (x .0) after f) in
-              turned-token c s es d at o (came .events) h (came .reaches) (t .events) r (w .stands) (x .0) after (u .accepted) f (w .comes (came .events))
+              let z = came .state in
+              let f : ToSettle c s es d (z .current) at (x .0) after = rw q at (finds es i u) in
+              turned-token c s es d M begun′ at z h (came .reaches) (z .events ++ t .events) r (x .0) after (u .accepted) f (t .settles s es u z (came .stands) (settles-declared c s es d (z .current) at (x .0) after f))
 
-          pub going-token : r .number ≡ 0 → Going c s elements index rows places facts d numbers numbers′ bytes bytes′ (r .events) after (r .open)
+          pub going-token : r .number ≡ 0 → Going c s elements index rows places facts M d begun′ numbers numbers′ bytes bytes′ (r .events) after (r .open)
           going-token = going-on (token-range q) brought (t .few) settled
 
-          pub token-refuses : (r .number ≡ 0 → ⊥) → {answer : Counted} → answer ≡ counted.Refused (record { number = r .number; at = at }) → (es : List Element) → Indexed s es elements index → Tables s es rows places facts → EventsOf c s es d numbers numbers′ bytes bytes′ answer
+          pub token-refuses : (r .number ≡ 0 → ⊥) → {answer : Counted} → answer ≡ counted.Refused (record { number = r .number; at = at }) → (es : List Element) → Indexed s es elements index → Tables s es rows places facts M → EventsOf c s es d numbers numbers′ bytes bytes′ answer
           token-refuses = refuses-there (token-range q) brought (t .few) settled
 
         -- An end tag.
         module _ (q : p ≡ found.End x after) (t : Tagged facts (x .0) at after n o numbersNow bytesNow r numbers′ bytes′) where
-          ended : (es : List Element) (i : Indexed s es elements index) (u : Tables s es rows places facts) → Turned c s es d at after (g .any es i u .events) (t .brings .events) r
+          ended : (es : List Element) (i : Indexed s es elements index) (u : Tables s es rows places facts M) → Turned c s es d M begun at after (g .any es i u .state .events ++ t .brings .events) r
           ended es i u =
               let came = g .any es i u in
-              turned-end c s es d at o (came .events) h (came .reaches) (t .brings .events) r (t .stands s es (u .facts-say) (came .stands)) (x .0) after (rw q at (finds es i u)) (t .closes s es (u .facts-say) (came .stands) (came .events))
+              let z = came .state in
+              turned-end c s es d M begun at z h (came .reaches) (z .events ++ t .brings .events) r (x .0) after (rw q at (finds es i u)) (t .closes s es (u .raised) (u .facts-say) M begun z (came .stands))
 
-          pub going-end : r .number ≡ 0 → Going c s elements index rows places facts d numbers numbers′ bytes bytes′ (r .events) after (r .open)
+          pub going-end : r .number ≡ 0 → Going c s elements index rows places facts M d begun numbers numbers′ bytes bytes′ (r .events) after (r .open)
           going-end = going-on (end-range q) (t .brings) (t .few) ended
 
-          pub end-tag-refuses : (r .number ≡ 0 → ⊥) → {answer : Counted} → answer ≡ counted.Refused (record { number = r .number; at = at }) → (es : List Element) → Indexed s es elements index → Tables s es rows places facts → EventsOf c s es d numbers numbers′ bytes bytes′ answer
+          pub end-tag-refuses : (r .number ≡ 0 → ⊥) → {answer : Counted} → answer ≡ counted.Refused (record { number = r .number; at = at }) → (es : List Element) → Indexed s es elements index → Tables s es rows places facts M → EventsOf c s es d numbers numbers′ bytes bytes′ answer
           end-tag-refuses = refuses-there (end-range q) (t .brings) (t .few) ended
 
   -- All is read.
@@ -247,22 +254,30 @@ module _ {c : Settings} {s elements index rows places facts d numbers numbersNow
       whole : at ≡ length d
       whole = omega (arith, g .inside)
 
-      ends : {x : Reading (List Event)} (es : List Element) (i : Indexed s es elements index) (u : Tables s es rows places facts) → closedOf at (r .number) (g .any es i u .events ++ t .brings .events) ≡ x → document c s es (decided s es) d ≡ x
-      ends es i u e =
+      -- What the document's end has become.
+      ends : (es : List Element) (i : Indexed s es elements index) (u : Tables s es rows places facts M)
+          → Becomes at (r .number) (λ (ev : List Event). ev ≡ g .any es i u .state .events ++ t .brings .events) (endDocument s es (decided s es) (length d) (g .any es i u .state))
+      ends es i u =
           let came = g .any es i u in
-          reaches-end (came .reaches) whole (ap (λ (n : ℕ). endDocument s es (decided s es) n (stateOf o (came .events))) (sym whole) ∙ sym (t .ends s es (u .facts-say) (came .stands) (came .events)) ∙ e)
+          let z = came .state in
+          subst (λ (k : ℕ). Becomes at (r .number) (λ (ev : List Event). ev ≡ z .events ++ t .brings .events) (endDocument s es (decided s es) k z)) whole
+          (t .ends s es (u .raised) (u .facts-say) M begun z (came .stands))
 
-      pub end-refuses : (r .number ≡ 0 → ⊥) → {answer : Counted} → answer ≡ counted.Refused (record { number = r .number; at = at }) → (es : List Element) → Indexed s es elements index → Tables s es rows places facts → EventsOf c s es d numbers numbers′ bytes bytes′ answer
-      end-refuses z q es i u = rw q (ends es i u (closedOf-refused at (r .number) (g .any es i u .events ++ t .brings .events) (omega arith)))
+      pub end-refuses : (r .number ≡ 0 → ⊥) → {answer : Counted} → answer ≡ counted.Refused (record { number = r .number; at = at }) → (es : List Element) → Indexed s es elements index → Tables s es rows places facts M → EventsOf c s es d numbers numbers′ bytes bytes′ answer
+      end-refuses some q es i u =
+          let z = g .any es i u .state in
+          rw q (reaches-end (g .any es i u .reaches) whole (was-refused at (λ (ev : List Event). ev ≡ z .events ++ t .brings .events) (endDocument s es (decided s es) (length d) z) (ends es i u) (omega arith)))
 
-      pub end-counts : length d ≤ 65535 → r .number ≡ 0 → (es : List Element) → Indexed s es elements index → Tables s es rows places facts → EventsOf c s es d numbers numbers′ bytes bytes′ (counted.Events (r .events))
-      end-counts small z es i u =
+      pub end-counts : length d ≤ 65535 → r .number ≡ 0 → (es : List Element) → Indexed s es elements index → Tables s es rows places facts M → EventsOf c s es d numbers numbers′ bytes bytes′ (counted.Events (r .events))
+      end-counts small nothing es i u =
           let came = g .any es i u in
+          let z = came .state in
           let b = t .brings in
-          let held = b .puts .behind numbers bytes (came .events) (came .counted) (came .holds) in (
-            came .events ++ b .events,
-            ends es i u (ap (λ (n : ℕ). closedOf at n (came .events ++ b .events)) z),
-            omega (arith, length-append (came .events) (b .events), came .counted, b .counted),
+          let (ev, e, are) = was-got at (λ (ev : List Event). ev ≡ z .events ++ b .events) (endDocument s es (decided s es) (length d) z) (ends es i u) nothing in
+          let held = b .puts .behind numbers bytes (z .events) (came .counted) (came .holds) in (
+            z .events ++ b .events,
+            reaches-end (came .reaches) whole (e ∙ ap got are),
+            omega (arith, length-append (z .events) (b .events), came .counted, b .counted),
             held .numbers-hold,
             held .bytes-hold,
             omega (arith, b .counted, t .few, g .few, g .inside),

@@ -1,7 +1,7 @@
 // The events of a document under a type whose tables are filled.
 //
-// `elements` and `index` are those of the crate element_index, `rows`, `places` and `facts` those of type_tables, `classes` that of
-// delimiters. Where the tables are no type's, neither the answer nor what the buffers hold is decided; the loop ends all the same.
+// `elements` and `index` are those of the crate element_index, `rows`, `places`, `facts` and `members` those of type_tables, `classes` is the table
+// of delimiters. Where the tables are no type's, neither the answer nor what the buffers hold is decided; the loop ends all the same.
 use layout::BEGUN;
 use layout::FACTS;
 use layout::INDEX;
@@ -54,7 +54,7 @@ pub fn events_of(
     bytes: &mut [u8],
 ) -> Counted
     requires { ⌜ Classes (now classes) × (long ≤ mostNameLength) × (length (now d) ≤ 65535) ⌝ }
-    ensures { λ r. ⌜ ((es : List Element) → Indexed (now (s .entry)) es (now (elements .entry)) (now (index .entry)) → Tables (now (s .entry)) es (now (rows .entry)) (now (places .entry)) (now (facts .entry)) →
+    ensures { λ r. ⌜ ((es : List Element) → Indexed (now (s .entry)) es (now (elements .entry)) (now (index .entry)) → Tables (now (s .entry)) es (now (rows .entry)) (now (places .entry)) (now (facts .entry)) (now (members .entry)) →
         EventsOf (settings long) (now (s .entry)) es (now (d .entry)) (now (numbers .entry)) (now (numbers .exit)) (now (bytes .entry)) (now (bytes .exit)) r) ⌝ }
 {
     let mut at = 0;

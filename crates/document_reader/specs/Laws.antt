@@ -41,8 +41,9 @@ module _ {c : Settings} (s d : List ℕ) (b : BothLegible c s d) where
   type-refused a (Refuses.tooLong o l e) room = absurd (omega (arith, b .type .short))
   type-refused a (Refuses.notAllowed o l m e) room = absurd (omega (arith, b .type .clean))
   type-refused a (Refuses.malformed l n k r e) room = RefusesBoth.malformed b n k r e
-  type-refused a (Refuses.ambiguous l es r k p q f e) room = RefusesBoth.ambiguous b es r k p q f e
-  type-refused a (Refuses.noRoom l es r u m e) room = absurd (omega (arith, typeFile-count c s es r))
+  type-refused a (Refuses.repeated l es r v e) room = RefusesBoth.repeated b es r v e
+  type-refused a (Refuses.ambiguous l es r v k p q f e) room = RefusesBoth.ambiguous b es r v k p q f e
+  type-refused a (Refuses.noRoom l es r v u m e) room = absurd (omega (arith, typeFile-count c s es r))
 
   module _ (elements : List ℕ) (v : Verdict) (verdict-is : Legible c s → Decides c s 384 elements v) where
     h : Decides c s 384 elements v

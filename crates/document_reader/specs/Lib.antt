@@ -1,3 +1,4 @@
 -- What the reader's answer stands for, in the rules' terms, and laws of it.
 pub mod Means
 pub mod Laws
+pub mod And

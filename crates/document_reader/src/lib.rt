@@ -18,14 +18,16 @@ ghost use mathlib.Core.List.{List};
 ghost use Prim.Native.Nat.{_≤_};
 ghost use lib.ListN.{length};
 ghost use Rattle.rules.specs.Lent.{Lent};
-ghost use Rattle.rules.specs.Settings.{settings};
+ghost use Rattle.rules.specs.Settings.{settings, mostNameLength};
 ghost use Rattle.rules.specs.TypeFile.{Element};
 ghost use Rattle.rules.specs.Judge.{Accepts};
 ghost use Rattle.rules.specs.Reader.{ReadAs};
 ghost use Rattle.element_names.specs.Names.{Recorded};
 ghost use Rattle.inputs.specs.Means.{settingsOf};
-ghost use Rattle.element_index.specs.Means.{Judged};
+ghost use Rattle.element_index.specs.Means.{Judged, Indexed};
+ghost use Rattle.type_tables.specs.Means.{Tables};
 ghost use Rattle.document_events.specs.Means.{EventsOf};
+ghost use Rattle.document_reader.specs.And.{Tells};
 ghost use Rattle.document_reader.specs.Means.{answerOf, CountFits, Judges, Answers, fittedTo, isRefusal};
 
 // The reader's answer.
@@ -57,7 +59,9 @@ fn judged(c: Settings, s: &[u8], d: &[u8], elements: &mut [u32; RECORDS]) -> Ans
 }
 
 // Whether an "&" stands anywhere in the text. The loop has no way out, so that it goes by several bytes at a time.
-fn holds_and(s: &[u8]) -> bool {
+fn holds_and(s: &[u8]) -> bool
+    ensures { λ r. ⌜ Tells (now (s .entry)) (length (now (s .entry))) r ⌝ }
+{
     let mut some = false;
     let mut i = 0;
     while i < s.len() {
@@ -82,7 +86,11 @@ fn follow(
     members: &[u8],
     numbers: &mut [u32],
     bytes: &mut [u8],
-) -> Counted {
+) -> Counted
+    requires { ⌜ (long ≤ mostNameLength) × (length (now d) ≤ 65535) ⌝ }
+    ensures { λ r. ⌜ ((es : List Element) → Indexed (now (s .entry)) es (now (elements .entry)) (now (index .entry)) → Tables (now (s .entry)) es (now (rows .entry)) (now (places .entry)) (now (facts .entry)) (now (members .entry)) →
+        EventsOf (settings long) (now (s .entry)) es (now (d .entry)) (now (numbers .entry)) (now (numbers .exit)) (now (bytes .entry)) (now (bytes .exit)) r) ⌝ }
+{
     // The class of each byte, 32 a row, is 1 for one that may begin something else than data, 2 for one that may go on a name
     let classes = b"\0\0\0\0\0\0\0\0\0\0\x01\0\0\0\0\0\0\0\0\0\0\0\0\0\0\0\0\0\0\0\0\0\
         \0\0\0\0\0\0\x01\0\0\0\0\0\0\x02\x02\0\x02\x02\x02\x02\x02\x02\x02\x02\x02\x02\0\0\x01\0\0\0\

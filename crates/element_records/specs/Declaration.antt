@@ -7,6 +7,7 @@ use lib.ListN.{length, take}
 use Rattle.rules.specs.Reading.{Reading, refused, got}
 use Rattle.rules.specs.TypeFile.{Content, empty, model, Element, Declared, earlier}
 use Rattle.rules.specs.Judge.{firstRepeated}
+use Rattle.rules_laws.specs.Groups.{earlier-none}
 use Rattle.text.specs.declared.Fault.{Fault}
 use Rattle.element_content.specs.Kept.{KeepsContent}
 use Rattle.element_reader.specs.Means.{KeepsElement, MeetsElement, elementFault}
@@ -17,7 +18,7 @@ use Rattle.element_records.specs.declared.Clash.{Clash}
 use Rattle.element_records.specs.declared.Progress.{Progress}
 use Rattle.element_records.specs.declared.Step.the-variants.{Read, Refused}
 use Rattle.element_records.specs.Progress.{numbersOf, PendingWith, KeepsProgress, MeetsStep}
-use Rattle.element_records.specs.Records.{length-more, repeated-more, earlier-none, numbers-kept, recorded-more}
+use Rattle.element_records.specs.Records.{length-more, repeated-more, numbers-kept, recorded-more}
 
 -- What the element reader's answer makes of a step.
 module _ (s : List ℕ) (from : ℕ) (names table : List ℕ) (es : List Element) where

@@ -2,15 +2,16 @@
 use Prim.Native.Nat.{ℕ, _+_, _*_, _≤_, _<_}
 use mathlib.Core.Path.{_≡_, sym, ap, _∙_}
 use mathlib.Core.List.{List, [], _∷_, _++_, append-nil, append-assoc}
+use mathlib.Core.Bool.{true, false}
 use native.Mathlib.Omega.{arith}
 use native.Mathlib.Numerals.{add-one}
 use lib.ListN.{length, take, set, length-append, length-set}
 use lib.Seq.{take-suc-set}
 use lib.Dec.{eqb}
-use borrow.Author.Tests.{eqb-true, eq-eqb}
+use borrow.Author.Tests.{eqb-true}
 use Rattle.rules.specs.TypeFile.{Content, empty, model, Element, earlier}
 use Rattle.rules.specs.Judge.{records, contentNumbers, firstRepeated}
-use Rattle.model_sets.specs.Bits.{not-both, bool-cases}
+use Rattle.model_sets.specs.Bits.{bool-cases}
 use Rattle.element_names.specs.Names.{Recorded}
 use Rattle.element_content.specs.Kept.{KeepsContent}
 use Rattle.element_reader.specs.declared as declared
@@ -34,12 +35,11 @@ records-more (e ∷ es) x =
 -- The first "&" that is refused is one of those before, or of the element.
 pub repeated-more : (es : List Element) (x : Element) → firstRepeated (es ++ x ∷ []) ≡ earlier (firstRepeated es) (x .repeated)
 unfolding firstRepeated
-repeated-more [] x = bool-cases (eqb (x .repeated) 0) (λ e. rw e (sym (eqb-true (x .repeated) 0 e))) (λ e. rw e)
-repeated-more (e ∷ es) x = bool-cases (eqb (e .repeated) 0) (λ y. rw y (repeated-more es x)) (λ y. rw (y, y))
-
--- Of two positions the first is 0 where both are.
-pub earlier-none : (i j : ℕ) → earlier i j ≡ 0 → (i ≡ 0) × (j ≡ 0)
-earlier-none i j e = bool-cases (eqb i 0) (λ x. (eqb-true i 0 x, rw (x, earlier) at e)) (λ x. absurd (not-both x (eq-eqb i 0 (rw (x, earlier) at e))))
+repeated-more [] x = bool-cases (eqb (x .repeated) 0) (λ e. rw (e, firstRepeated) (sym (eqb-true (x .repeated) 0 e))) (λ e. rw (e, firstRepeated))
+repeated-more (e ∷ es) x = bool-cases (eqb (e .repeated) 0) (λ y. rw (y, firstRepeated) (repeated-more es x)) (λ y. rw (y, firstRepeated) (sym (some y)))
+  where
+    some : eqb (e .repeated) 0 ≡ false → earlier (e .repeated) (x .repeated) ≡ e .repeated
+    some y = rw (y, earlier)
 
 -- What the code writes of an element is its record.
 module _ (names table : List ℕ) (e : declared.Element.Element) (x : Element) where

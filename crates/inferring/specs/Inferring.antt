@@ -1,4 +1,4 @@
--- What inferring ends and starts does, step by step, by counts and by the last places: what its contracts cite.
+-- What inferring ends and starts does, step by step, beside the rules' own states: what its contracts cite.
 use Prim.Native.Nat.{ℕ, zero, suc, _+_, _≤_}
 use mathlib.Core.Path.{_≡_}
 use mathlib.Core.Bool.{true, false}
@@ -10,10 +10,10 @@ use Rattle.rules.specs.Events.{startInferred, endInferred, Event}
 use Rattle.rules.specs.Settling.{State, takePlace, shown, placeTaken, enter, note, fitting, requiredPlace, inferable, settleFrom}
 use Rattle.rules.specs.Settling as rules
 use Rattle.document_laws.specs.Decide.{decided}
-use Rattle.turn_laws.specs.Last.{short}
-use Rattle.type_tables.specs.Means.{nameNumber, Declares, Tables, Requires}
+use Rattle.document_laws.specs.Moves.{state, fresh}
+use Rattle.type_tables.specs.Means.{nameNumber, Declares, Tables, Entered}
 use Rattle.open_elements.specs.declared.Open.{Open}
-use Rattle.open_elements.specs.Means.{stateOf, current, around, took, opening, ended, Ranged, Stands}
+use Rattle.open_elements.specs.Means.{Ranged, Stands, Starting}
 use Rattle.event_buffer.specs.Means.{Puts}
 use Rattle.ways.specs.declared.Way.{Way}
 use Rattle.ways.specs.declared.Way.the-variants.{Stuck}
@@ -22,37 +22,41 @@ use Rattle.inferring.specs.declared.Stop.{Stop}
 
 -- Ends
 
--- From o₀ ends are inferred one after another, with these events, each where step 3 allows it.
-pub data EndsTo (s : List ℕ) (es : List Element) (at : ℕ) (o₀ : Open) : List Event → Open → Type 0 where
-  none : EndsTo s es at o₀ [] o₀
-  more : {events : List Event} {o : Open} → EndsTo s es at o₀ events o → 1 ≤ o .count → mayEnd s es (decided s es) (current o) (around o) ≡ true → EndsTo s es at o₀ (events ++ endInferred (o .element .0) at ∷ []) (ended o)
+-- From z₀ ends are inferred one after another, each where step 3 allows it.
+pub data EndsTo (s : List ℕ) (es : List Element) (at : ℕ) (z₀ : State) : State → Type 0 where
+  none : EndsTo s es at z₀ z₀
+  more : {z : State} {u : rules.Open} {us : List rules.Open} → EndsTo s es at z₀ z → z .around ≡ u ∷ us → mayEnd s es (decided s es) (z .current) (z .around) ≡ true
+      → EndsTo s es at z₀ (state u us (z .events ++ endInferred (z .current .number) at ∷ []))
 
--- What is settled from o on, after these events, is what is settled from o₀ on, and ends alone were inferred between.
-pub record Comes (s : List ℕ) (es : List Element) (t : Token) (at : ℕ) (o : Open) (events : List Event) (o₀ : Open) : Type 0 where
-  pub stands : Stands es o
-  pub ends : EndsTo s es at o₀ events o
-  pub same : (before : List Event) → settleFrom s es (decided s es) t at (around o) (current o) (before ++ events) ≡ settleFrom s es (decided s es) t at (around o₀) (current o₀) before
+-- The open elements have come to stand for a state from which the same is settled as from z₀: ends alone were inferred between, with these events.
+pub record Comes (s : List ℕ) (es : List Element) (M begun : List ℕ) (t : Token) (at : ℕ) (o : Open) (events : List Event) (z₀ : State) : Type 0 where
+  pub there : State
+  pub stands : Stands es M begun o there
+  pub ends : EndsTo s es at z₀ there
+  pub noted : there .events ≡ z₀ .events ++ events
+  pub same : settleFrom s es (decided s es) t at (there .around) (there .current) (there .events) ≡ settleFrom s es (decided s es) t at (z₀ .around) (z₀ .current) (z₀ .events)
 
 -- So it is for every type whose tables these are, and the token whose name is x. An end was inferred for each event.
-pub record Turns (rows places facts : List ℕ) (x at n : ℕ) (o₀ : Open) (numbers₀ bytes₀ : List ℕ) (o : Open) (m : ℕ) (numbers bytes : List ℕ) : Type 0 where
+pub record Turns (rows places facts M begun : List ℕ) (x at n : ℕ) (o₀ : Open) (numbers₀ bytes₀ : List ℕ) (o : Open) (m : ℕ) (numbers bytes : List ℕ) : Type 0 where
   pub events : List Event
   pub puts : Puts numbers₀ bytes₀ n events numbers bytes
   pub counted : m ≡ n + length events
   pub deep : length events + o .count ≡ o₀ .count
   pub ranged : Ranged o
-  pub comes : (s : List ℕ) (es : List Element) → Tables s es rows places facts → Stands es o₀ → (t : Token) → nameNumber t ≡ x → Declares es t → Comes s es t at o events o₀
+  pub comes : (s : List ℕ) (es : List Element) → Tables s es rows places facts M → (z : State) → Stands es M begun o₀ z → (t : Token) → nameNumber t ≡ x → Declares es t → Comes s es M begun t at o events z
 
 -- What is found of the current element.
-abbrev pub Finds : (rows places facts : List ℕ) (x : ℕ) → Open → Way → Type 0
-Finds rows places facts x o w =
-    (s : List ℕ) (es : List Element) → Tables s es rows places facts → Requires es (o .element .0) (o .required .0) (o .place .0) → (t : Token) → nameNumber t ≡ x → Declares es t → w ≡ wayOf (fitting s es (decided s es) (current o) t) (chained s es (decided s es) t (current o))
+abbrev pub Finds : (rows places facts M begun : List ℕ) (x : ℕ) → Open → Way → Type 0
+Finds rows places facts M begun x o w =
+    (s : List ℕ) (es : List Element) → Tables s es rows places facts M → (v : rules.Open) → Entered es M begun (o .count) (o .element .0) (o .place .0) v → o .required .0 ≡ requiredPlace s es (decided s es) v
+    → (t : Token) → nameNumber t ≡ x → Declares es t → w ≡ wayOf (fitting s es (decided s es) v t) (chained s es (decided s es) t v)
 
 -- No more ends are inferred.
-pub record Stops (rows places facts : List ℕ) (x at n : ℕ) (o₀ : Open) (numbers₀ bytes₀ : List ℕ) (r : Stop) (numbers bytes : List ℕ) : Type 0 where
-  pub turns : Turns rows places facts x at n o₀ numbers₀ bytes₀ (r .open) (r .events) numbers bytes
+pub record Stops (rows places facts M begun : List ℕ) (x at n : ℕ) (o₀ : Open) (numbers₀ bytes₀ : List ℕ) (r : Stop) (numbers bytes : List ℕ) : Type 0 where
+  pub turns : Turns rows places facts M begun x at n o₀ numbers₀ bytes₀ (r .open) (r .events) numbers bytes
   pub fits : fitOf (r .found) ≤ 96
   pub starts : startsOf (r .found) ≤ 64
-  pub finds : Finds rows places facts x (r .open) (r .found)
+  pub finds : Finds rows places facts M begun x (r .open) (r .found)
   pub stays : r .found ≡ Stuck → MayEnd facts (r .open) false
 
 -- Starts
@@ -73,19 +77,21 @@ module _ (s : List ℕ) (es : List Element) (D : Decisions) where
   -- So many starts can be inferred in o, one in the other, and the token fits in the last.
   abbrev pub Infers : Token → ℕ → rules.Open → Type 0
   Infers t zero o = 1 ≤ fitting s es D o t
-  Infers t (suc n) o = (1 ≤ inferable s es D o) × Infers t n (record { number = inferable s es D o; taken = [] })
+  Infers t (suc n) o = (1 ≤ inferable s es D o) × Infers t n (fresh (inferable s es D o))
 
--- To infer what is left from o, after these events, comes to the same as to infer so many starts from o₀.
-pub record InfersOn (s : List ℕ) (es : List Element) (t : Token) (at left : ℕ) (o : Open) (events : List Event) (starts : ℕ) (o₀ : Open) : Type 0 where
-  pub stands : Stands es o
-  pub infers : Infers s es (decided s es) t left (current o)
-  pub same : (before : List Event) → short (inferMany s es (decided s es) at left (stateOf o (before ++ events))) ≡ short (inferMany s es (decided s es) at starts (stateOf o₀ before))
+-- The open elements have come to stand for a state from which what is left to infer comes to the same as so many starts from z₀; with these events.
+pub record InfersOn (s : List ℕ) (es : List Element) (M begun : List ℕ) (t : Token) (at left : ℕ) (o : Open) (events : List Event) (starts : ℕ) (z₀ : State) : Type 0 where
+  pub there : State
+  pub stands : Stands es M begun o there
+  pub infers : Infers s es (decided s es) t left (there .current)
+  pub noted : there .events ≡ z₀ .events ++ events
+  pub same : inferMany s es (decided s es) at left there ≡ inferMany s es (decided s es) at starts z₀
 
 -- The required place is taken, the element k opened there, and its start noted; by the tables of a type it is the one whose start is to be
 -- inferred.
-pub record InfersStart (rows places facts : List ℕ) (at n : ℕ) (o : Open) (numbers bytes : List ℕ) (r : Open) (numbers′ bytes′ : List ℕ) : Type 0 where
+pub record InfersStart (rows places facts M before : List ℕ) (at n : ℕ) (o : Open) (numbers bytes : List ℕ) (r : Open) (after numbers′ bytes′ : List ℕ) : Type 0 where
   pub k : ℕ
   pub few : k ≤ 64
-  pub opens : r ≡ opening rows k (took rows (o .required .0) o)
+  pub starting : Starting rows M before k o r after
   pub puts : Puts numbers bytes n (startInferred k at (shown (o .element .0) (o .required .0)) ∷ []) numbers′ bytes′
-  pub chosen : (s : List ℕ) (es : List Element) → Tables s es rows places facts → Stands es o → k ≡ inferable s es (decided s es) (current o)
+  pub chosen : (s : List ℕ) (es : List Element) → Tables s es rows places facts M → (z : State) → Stands es M before o z → k ≡ inferable s es (decided s es) (z .current)

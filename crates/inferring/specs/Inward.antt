@@ -1,47 +1,24 @@
 -- Steps 1 and 2 by what the code finds of an element.
-use Prim.Native.Nat.{ℕ, zero, suc, _≤_, _<_}
-use mathlib.Core.Path.{_≡_, refl, sym, _∙_, ap, ap₂}
+use Prim.Native.Nat.{ℕ, zero, suc, _≤_}
+use mathlib.Core.Path.{_≡_, refl, ap}
 use mathlib.Core.Bool.{true, false}
 use mathlib.Core.List.{List, [], _∷_}
 use native.Mathlib.Omega.{arith}
 use lib.ListN.{length}
 use lib.Dec.{leb}
-use borrow.Author.Tests.{le-leb, le-ltb, lt-ltb}
-use Rattle.rules.specs.Settings.{Settings}
-use Rattle.rules.specs.Reading.{refused, got}
-use Rattle.rules.specs.TypeFile.{Content, empty, model, Element}
-use Rattle.rules.specs.Judge.{Accepts}
-use Rattle.rules.specs.Elements.{contentOf, placesIn}
+use borrow.Author.Tests.{le-leb}
+use Rattle.rules.specs.TypeFile.{Element}
 use Rattle.rules.specs.Decisions.{Token, Decisions}
-use Rattle.rules.specs.Events.{Event}
-use Rattle.rules.specs.Settling.{State, Inward, settled, stuck, takePlace, limited, fitting, chain, inferStarts, takeToken, inward}
+use Rattle.rules.specs.Settling.{State, Inward, settled, stuck, takePlace, fitting, chain, inferStarts, takeToken, inward}
 use Rattle.rules.specs.Settling as rules
 use Rattle.layout.specs.declared.Place.{Place}
 use Rattle.layout.specs.Typed.{placeNo}
-use Rattle.document_laws.specs.Decide.{fitsIn, decided}
 use Rattle.document_laws.specs.Chain.{chain-leads}
-use Rattle.type_laws.specs.Width.{typeFile-width}
-use Rattle.turn_laws.specs.Last.{short}
-use Rattle.turn_laws.specs.Short.{state, allLast-length, lastOnly-took, takePlace-short, fitting-short}
-use Rattle.type_tables.specs.Means.{width}
-use Rattle.type_tables.specs.Search.{search-most}
-use Rattle.open_elements.specs.declared.Open.{Open}
-use Rattle.open_elements.specs.Means.{current, around, stateOf, took}
-use Rattle.open_elements.specs.Laws.{around-length, around-last}
 use Rattle.ways.specs.declared.Way.{Way}
 use Rattle.ways.specs.declared.Way.the-variants.{Taken, Inferred, Stuck}
 use Rattle.ways.specs.Means.{wayOf, chained}
 use Rattle.inferring.specs.Inferring.{inferMany, Infers}
 use Rattle.inferring.specs.Starts.{chain-infers, chain-starts}
-
--- The place as which a token fits is one of the model's.
-pub fits-most : {c : Settings} (s : List ℕ) (es : List Element) → Accepts c s es → (k : ℕ) (taken : List ℕ) (t : Token) → decided s es .fits k taken t ≤ width es k
-unfolding fitsIn
-fits-most {c} s es accepted k taken t = go (contentOf es k) refl
-  where
-    go : (x : Content) → contentOf es k ≡ x → fitsIn s es x taken t ≤ length (placesIn x)
-    go empty e = omega arith
-    go (model g ps n) e = rw (← typeFile-width c s es (accepted .elements) k e .0) (search-most _ _)
 
 -- Steps 1 and 2, by whatever decisions
 
@@ -82,3 +59,9 @@ way-fits p (suc f) n e =
     let i : p ≡ placeNo (suc f) = cc in
     let j : p .0 ≡ suc f = ap (λ (q : Place). q .0) i in
     (j, λ z. omega arith)
+
+-- Where starts are inferred there is one.
+pub way-some : (k f n : ℕ) → Inferred k ≡ wayOf f n → 1 ≤ k
+way-some k zero zero e = absurd (let z : _≡_ {A = ℕ} 0 1 = cc in omega arith)
+way-some k zero (suc n) e = let i : k ≡ suc n = cc in omega arith
+way-some k (suc f) n e = absurd (let z : _≡_ {A = ℕ} 0 1 = cc in omega arith)

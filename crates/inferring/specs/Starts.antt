@@ -1,153 +1,154 @@
--- Starts that are inferred one in the other, by the last places taken.
+-- Starts that are inferred one in the other.
 use Prim.Native.Nat.{ℕ, zero, suc, _+_, _-_, _≤_, _<_}
 use mathlib.Core.Path.{_≡_, refl, sym, _∙_, ap, ap₂, subst}
 use mathlib.Core.List.{List, [], _∷_, _++_, append-assoc, append-nil}
 use native.Mathlib.Omega.{arith}
 use lib.ListN.{length, length-append}
-use borrow.Author.Tests.{leb-true}
+use borrow.Author.Tests.{le-leb, leb-true}
 use Rattle.rules.specs.TypeFile.{Element}
 use Rattle.rules.specs.Decisions.{Token, Decisions}
 use Rattle.rules.specs.Events.{Event, startInferred}
 use Rattle.rules.specs.Settling.{State, takePlace, shown, placeTaken, enter, note, fitting, requiredPlace, inferable, inferStarts}
 use Rattle.rules.specs.Settling as rules
 use Rattle.document_laws.specs.Decide.{decided}
-use Rattle.document_laws.specs.Chain.{Leads}
-use Rattle.document_laws.specs.Moves.{placeTaken-took}
-use Rattle.turn_laws.specs.Last.{lastOnly, allLast, short}
-use Rattle.turn_laws.specs.Short.{state, lastOnly-took}
-use Rattle.turn_laws.specs.Short as shorts
-use Rattle.type_tables.specs.Means.{standing, width, Tables}
-use Rattle.type_tables.specs.Ranges.{required-most}
+use Rattle.document_laws.specs.Chain.{Leads, inferable-may}
+use Rattle.document_laws.specs.Moves.{fresh, placeTaken-took}
+use Rattle.type_tables.specs.Means.{Tables, CanTake}
 use Rattle.open_elements.specs.declared.Open.{Open}
-use Rattle.open_elements.specs.Means.{current, around, stateOf, took, opening, Ranged, Stands}
-use Rattle.open_elements.specs.Laws.{standing-last, around-opening, stands-place, stands-took, stands-opening, ranged-took, ranged-opening}
+use Rattle.open_elements.specs.Means.{Ranged, Stands}
+use Rattle.open_elements.specs.Entered.{can-require}
+use Rattle.open_elements.specs.Laws.{stands-required, stands-noted, stands-opening, ranged-taking, ranged-opening}
 use Rattle.event_buffer.specs.Means.{Puts}
 use Rattle.event_buffer.specs.Laws.{puts-none, puts-then}
-use Rattle.ways.specs.Chains.{inferable-most}
 use Rattle.inferring.specs.Inferring.{inferOne, inferMany, Infers, InfersOn, InfersStart}
 
 -- By whatever decisions
 module _ (s : List ℕ) (es : List Element) (D : Decisions) where
-  -- The start of k is inferred at the required place.
-  abbrev starting : (at k : ℕ) → State → State
-  starting at k z =
-      let y = takePlace (requiredPlace s es D (z .current)) z in
+  -- The start of k is inferred at the place p.
+  abbrev starting : (at p k : ℕ) → State → State
+  starting at p k z =
+      let y = takePlace p z in
       note (startInferred k at (placeTaken (y .current))) (enter k y)
 
   -- The starts of a chain are those that are inferred one in the other.
   pub chain-infers : (t : Token) (ks : List ℕ) (o : rules.Open) → Leads s es D t o ks → Infers s es D t (length ks) o
   chain-infers t [] o h = leb-true 1 (fitting s es D o t) h
-  chain-infers t (k ∷ ks) o (e, i, h) = rw e (leb-true 1 k i, chain-infers t ks (standing k 0) h)
+  chain-infers t (k ∷ ks) o (e, i, h) = rw e (leb-true 1 k i, chain-infers t ks (fresh k) h)
 
   pub chain-starts : (t : Token) (at : ℕ) (ks : List ℕ) (z : State) → Leads s es D t (z .current) ks → inferStarts s es D at ks z ≡ inferMany s es D at (length ks) z
   unfolding inferStarts
   chain-starts t at [] z h = refl
-  chain-starts t at (k ∷ ks) z (e, i, h) = chain-starts t at ks (starting at k z) h ∙ ap (λ j. inferMany s es D at (length ks) (starting at j z)) (sym e)
-
-  -- What lies around the current element matters by its last places only.
-  infer-around : (at n : ℕ) (o : rules.Open) (a b : List rules.Open) (ev : List Event) → allLast a ≡ allLast b → short (inferMany s es D at n (state o a ev)) ≡ short (inferMany s es D at n (state o b ev))
-  infer-around at zero o a b ev e = ap (λ us. state (lastOnly o) us ev) e
-  infer-around at (suc n) o a b ev e =
-      let k = inferable s es D o in
-      let u = shorts.took o (requiredPlace s es D o) in
-      infer-around at n (standing k 0) (u ∷ a) (u ∷ b) (ev ++ startInferred k at (placeTaken u) ∷ []) (ap (λ us. lastOnly u ∷ us) e)
+  chain-starts t at (k ∷ ks) z (e, i, h) =
+      let p = requiredPlace s es D (z .current) in
+      chain-starts t at ks (starting at p k z) h ∙ ap (λ j. inferMany s es D at (length ks) (starting at p j z)) (sym e)
 
   pub infer-deeper : (at n : ℕ) (z : State) → length (inferMany s es D at n z .around) ≡ length (z .around) + n
   infer-deeper at zero z = omega arith
   infer-deeper at (suc n) z = infer-deeper at n (inferOne s es D at z) ∙ omega arith
 
--- The required place is one of the model's.
-required-in : {s : List ℕ} {es : List Element} {rows places facts : List ℕ} → Tables s es rows places facts → {o : Open} → Stands es o → o .required .0 ≤ width es (o .element .0)
-required-in {s} {es} tables {o} stands =
-    omega (arith, stands .marked .required, required-most s es (tables .accepted) (o .element .0) (o .place .0) (stands-place stands))
+  -- In the last that was started nothing was taken.
+  pub infer-fresh : (at n : ℕ) (z : State) → 1 ≤ n → inferMany s es D at n z .current .taken ≡ []
+  infer-fresh at zero z l = absurd (omega arith)
+  infer-fresh at (suc zero) z l = refl
+  infer-fresh at (suc (suc n)) z l = infer-fresh at (suc n) (inferOne s es D at z) (omega arith)
 
--- One start is inferred, the first of those to be inferred.
-module _ (s : List ℕ) (es : List Element) {rows places facts : List ℕ} (tables : Tables s es rows places facts) {o : Open} (stands : Stands es o) (less : o .count < 24) (k : ℕ)
-    (chosen : k ≡ inferable s es (decided s es) (current o)) where
-  -- the required place is taken, and the element opened there
-  abbrev inferring : Open
-  inferring = opening rows k (took rows (o .required .0) o)
+-- One start
 
-  infer-stands : 1 ≤ inferable s es (decided s es) (current o) → Stands es inferring
-  infer-stands some =
-      stands-opening (tables .accepted) (tables .rows-say) k (stands-took (tables .accepted) (tables .rows-say) (o .required .0) stands (required-in tables stands)) less (rw chosen some) (rw chosen (inferable-most s es (decided s es) (current o)))
+module _ {rows places facts M before : List ℕ} {at n : ℕ} {o : Open} {numbers bytes : List ℕ} {r : Open} {after numbers′ bytes′ : List ℕ}
+    (i : InfersStart rows places facts M before at n o numbers bytes r after numbers′ bytes′) (less : o .count < 24) where
+  -- its event, with the place that it took
+  abbrev started : Event
+  started = startInferred (i .k) at (shown (o .element .0) (o .required .0))
 
-  module _ (t : Token) (at left : ℕ) where
-    -- its event, with the place that it took
-    abbrev starts : Event
-    starts = startInferred k at (shown (o .element .0) (o .required .0))
+  start-ranged : Ranged o → Ranged r
+  start-ranged h =
+      let t = i .starting .taking in
+      rw (i .starting .opens) (ranged-opening rows (i .k) (ranged-taking t h (h .required)) (omega (arith, t .count)) (i .few))
 
-    infer-same : (before : List Event)
-        → short (inferMany s es (decided s es) at left (stateOf inferring (before ++ starts ∷ []))) ≡ short (inferMany s es (decided s es) at (suc left) (stateOf o before))
-    infer-same before =
-        let p = o .required .0 in
-        let ev = before ++ starts ∷ [] in
-        let opened : stateOf inferring ev ≡ state (standing k 0) (standing (o .element .0) p ∷ around o) ev =
-        ap (λ us. state (standing k 0) us ev) (around-opening rows k (took rows p o) (stands .whole) less) in
-        ap (λ z. short (inferMany s es (decided s es) at left z)) opened
-        ∙ infer-around s es (decided s es) at left (standing k 0) _ _ ev (ap (λ u. u ∷ allLast (around o)) (standing-last (o .element .0) p ∙ sym (lastOnly-took (current o) p)))
-        ∙ ap₂ (λ j q. short (inferMany s es (decided s es) at left (state (standing j 0) (shorts.took (current o) q ∷ around o) (before ++ startInferred j at (shown (o .element .0) q) ∷ [])))) chosen (stands .marked .required)
-        ∙ ap (λ m. short (inferMany s es (decided s es) at left (state (standing (inferable s es (decided s es) (current o)) 0) (shorts.took (current o) (requiredPlace s es (decided s es) (current o)) ∷ around o) (before ++ startInferred (inferable s es (decided s es) (current o)) at m ∷ []))))
-        (sym (placeTaken-took (current o) (requiredPlace s es (decided s es) (current o))))
+  start-deep : r .count ≡ o .count + 1
+  start-deep = ap (λ (u : Open). u .count) (i .starting .opens) ∙ omega (arith, i .starting .taking .count)
 
-    pub infers-one : Infers s es (decided s es) t (suc left) (current o) → {r : Open} → r ≡ inferring → InfersOn s es t at left r (starts ∷ []) (suc left) o
-    infers-one (some, infers) e =
-        subst (λ (x : Open). InfersOn s es t at left x (starts ∷ []) (suc left) o) (sym e)
-        record { stands = infer-stands some; infers = rw chosen infers; same = infer-same }
+  module _ {s : List ℕ} {es : List Element} (tables : Tables s es rows places facts M) {z : State} (stands : Stands es M before o z) (some : 1 ≤ inferable s es (decided s es) (z .current)) where
+    abbrev D : Decisions
+    D = decided s es
+
+    -- By the tables of a type the place is the required one, and the element that which is to be inferred.
+    start-same : starting s es D at (o .required .0) (i .k) z ≡ inferOne s es D at z
+    start-same = ap₂ (λ p k. starting s es D at p k z) (stands-required stands s) (i .chosen s es tables z stands)
+
+    -- The state of the rules in which the start was inferred.
+    pub start-stands : Stands es M after r (inferOne s es D at z)
+    start-stands =
+        let may = inferable-may s es D (z .current) (le-leb 1 _ some) in
+        let can : CanTake es (z .current) (o .required .0) = rw (stands-required stands s) (can-require tables (stands .current .entered) (may .place)) in
+        let t = i .starting .taking in
+        let chosen = i .chosen s es tables z stands in
+        let opened = stands-opening (t .stands s es places facts tables z stands can) tables (i .k) (omega (arith, t .count)) (omega (arith, chosen)) (omega (arith, chosen, may .declared)) in
+        subst (λ (y : State). Stands es M after r y) start-same (rw (i .starting .opens) (stands-noted opened _))
+
+    pub start-noted : inferOne s es D at z .events ≡ z .events ++ started ∷ []
+    start-noted =
+        ap (λ (y : State). y .events) (sym start-same)
+        ∙ ap (λ p. z .events ++ startInferred (i .k) at p ∷ []) (placeTaken-took (z .current) (o .required .0) ∙ ap (λ k. shown k (o .required .0)) (stands .current .entered .number))
 
 -- Many starts
 
--- k of the starts are inferred, and what is left to infer from o comes to the same as all of them from o₀.
-pub record Along (rows places facts : List ℕ) (at m starts k : ℕ) (o₀ : Open) (numbers₀ bytes₀ : List ℕ) (o : Open) (numbers bytes : List ℕ) : Type 0 where
+-- k of the starts are inferred, and what is left to infer comes to the same as all of them from the first state.
+pub record Along (rows places facts M : List ℕ) (at m starts k : ℕ) (o₀ : Open) (begun₀ numbers₀ bytes₀ : List ℕ) (o : Open) (begun numbers bytes : List ℕ) : Type 0 where
   pub most : k ≤ starts
   pub events : List Event
   pub puts : Puts numbers₀ bytes₀ m events numbers bytes
   pub counted : length events ≡ k
   pub deep : o .count ≡ o₀ .count + k
+  pub whole : length begun ≡ length begun₀
   pub ranged : Ranged o
-  pub still : k ≡ 0 → (o ≡ o₀) × (events ≡ [])
-  pub along : (s : List ℕ) (es : List Element) → Tables s es rows places facts → Stands es o₀ → (t : Token) → Infers s es (decided s es) t starts (current o₀) → InfersOn s es t at (starts - k) o events starts o₀
+  pub still : k ≡ 0 → o ≡ o₀
+  pub along : (s : List ℕ) (es : List Element) → Tables s es rows places facts M → (z : State) → Stands es M begun₀ o₀ z → (t : Token) → Infers s es (decided s es) t starts (z .current)
+      → InfersOn s es M begun t at (starts - k) o events starts z
 
-infers-then : {s : List ℕ} {es : List Element} {t : Token} {at left m starts : ℕ} {o p q : Open} {ev fv : List Event} → InfersOn s es t at left p fv m o → InfersOn s es t at m o ev starts q → InfersOn s es t at left p (ev ++ fv) starts q
-infers-then {s} {es} {at = at} {left = left} {p = p} {ev = ev} {fv = fv} a b =
-    record {
-      stands = a .stands;
-      infers = a .infers;
-      same = λ before. ap (λ l. short (inferMany s es (decided s es) at left (stateOf p l))) (sym (append-assoc before ev fv)) ∙ a .same (before ++ ev) ∙ b .same before;
-    }
-
-module _ (rows places facts : List ℕ) (at m starts : ℕ) where
-  pub along-start : (o : Open) (numbers bytes : List ℕ) → Ranged o → Along rows places facts at m starts 0 o numbers bytes o numbers bytes
-  along-start o numbers bytes h =
-      let z : starts - 0 ≡ starts = omega arith in
+module _ (rows places facts M : List ℕ) (at m starts : ℕ) where
+  pub along-start : (o : Open) (begun numbers bytes : List ℕ) → Ranged o → Along rows places facts M at m starts 0 o begun numbers bytes o begun numbers bytes
+  along-start o begun numbers bytes h =
+      let left : starts - 0 ≡ starts = omega arith in
       record {
         most = omega arith;
         events = [];
         puts = puts-none numbers bytes m;
         counted = refl;
         deep = omega arith;
+        whole = refl;
         ranged = h;
-        still = λ z. (refl, refl);
-        along = λ s es tables stands t infers. rw z record { stands = stands; infers = infers; same = λ before. rw append-nil };
+        still = λ e. refl;
+        along = λ s es tables z stands t infers. rw left record { there = z; stands = stands; infers = infers; noted = rw append-nil; same = refl };
       }
 
-  module _ {k : ℕ} {o₀ : Open} {numbers₀ bytes₀ : List ℕ} {o : Open} {numbers bytes : List ℕ} (h : Along rows places facts at m starts k o₀ numbers₀ bytes₀ o numbers bytes) where
+  module _ {k : ℕ} {o₀ : Open} {begun₀ numbers₀ bytes₀ : List ℕ} {o : Open} {begun numbers bytes : List ℕ} (h : Along rows places facts M at m starts k o₀ begun₀ numbers₀ bytes₀ o begun numbers bytes) where
     -- A turn of the loop: one start more is inferred.
-    pub along-next : k < starts → o .count < 24 → {r : Open} {numbers′ bytes′ : List ℕ} → InfersStart rows places facts at (m + k) o numbers bytes r numbers′ bytes′ → Along rows places facts at m starts (k + 1) o₀ numbers₀ bytes₀ r numbers′ bytes′
-    along-next l less {r} i =
-        let z : starts - k ≡ suc (starts - (k + 1)) = omega arith in
+    pub along-next : k < starts → o .count < 24 → {r : Open} {begun′ numbers′ bytes′ : List ℕ} → InfersStart rows places facts M begun at (m + k) o numbers bytes r begun′ numbers′ bytes′
+        → Along rows places facts M at m starts (k + 1) o₀ begun₀ numbers₀ bytes₀ r begun′ numbers′ bytes′
+    along-next l less i =
+        let left : starts - k ≡ suc (starts - (k + 1)) = omega arith in
         record {
           most = omega arith;
-          events = h .events ++ startInferred (i .k) at (shown (o .element .0) (o .required .0)) ∷ [];
+          events = h .events ++ started i less ∷ [];
           puts = puts-then (h .puts) (omega (arith, h .counted)) (i .puts);
           counted = simp length-append (omega (arith, h .counted));
-          deep = omega (arith, h .deep, ap (λ (u : Open). u .count) (i .opens));
-          ranged = rw (i .opens) (ranged-opening rows (i .k) (ranged-took rows (o .required .0) (h .ranged) (h .ranged .required)) less (i .few));
-          still = λ z. absurd (omega arith);
-          along = λ s es tables stands t infers.
-              let b = rw z at (h .along s es tables stands t infers) in
-              infers-then (infers-one s es tables (b .stands) less (i .k) (i .chosen s es tables (b .stands)) t at (starts - (k + 1)) (b .infers) (i .opens)) b;
+          deep = omega (arith, h .deep, start-deep i less);
+          whole = i .starting .taking .whole ∙ h .whole;
+          ranged = start-ranged i less (h .ranged);
+          still = λ e. absurd (omega arith);
+          along = λ s es tables z stands t infers.
+              let b = rw left at (h .along s es tables z stands t infers) in
+              let some = b .infers .0 in
+              record {
+                there = inferOne s es (decided s es) at (b .there);
+                stands = start-stands i less tables (b .stands) some;
+                infers = b .infers .1;
+                noted = start-noted i less tables (b .stands) some ∙ ap (λ (ev : List Event). ev ++ started i less ∷ []) (b .noted) ∙ append-assoc (z .events) (h .events) (started i less ∷ []);
+                same = b .same;
+              };
         }
 
-    pub along-all : starts ≤ k → (s : List ℕ) (es : List Element) → Tables s es rows places facts → Stands es o₀ → (t : Token) → Infers s es (decided s es) t starts (current o₀) → InfersOn s es t at 0 o (h .events) starts o₀
-    along-all l s es tables stands t infers = let z : starts - k ≡ 0 = omega arith in rw z at (h .along s es tables stands t infers)
+    pub along-all : starts ≤ k → (s : List ℕ) (es : List Element) → Tables s es rows places facts M → (z : State) → Stands es M begun₀ o₀ z → (t : Token) → Infers s es (decided s es) t starts (z .current)
+        → InfersOn s es M begun t at 0 o (h .events) starts z
+    along-all l s es tables z stands t infers = let none : starts - k ≡ 0 = omega arith in rw none at (h .along s es tables z stands t infers)

@@ -39,7 +39,7 @@ pub fn ends(
     bytes: &mut [u8],
 ) -> Stop
     requires { ⌜ Ranged state × (x .0 ≤ 64) × (at < 4294967296) × (n + 50 < 4294967296) ⌝ }
-    ensures { λ r. ⌜ Stops (now (rows .entry)) (now (places .entry)) (now (facts .entry)) (x .0) at n state (now (numbers .entry)) (now (bytes .entry)) r (now (numbers .exit)) (now (bytes .exit)) ⌝ }
+    ensures { λ r. ⌜ Stops (now (rows .entry)) (now (places .entry)) (now (facts .entry)) (now (members .entry)) (now (begun .entry)) (x .0) at n state (now (numbers .entry)) (now (bytes .entry)) r (now (numbers .exit)) (now (bytes .exit)) ⌝ }
 {
     let mut o = state;
     let mut m = n;
@@ -80,7 +80,7 @@ pub fn infer_start(
     bytes: &mut [u8],
 ) -> Open
     requires { ⌜ Ranged state × (state .count < 24) × (at < 4294967296) × (n < 4294967296) ⌝ }
-    ensures { λ r. ⌜ InfersStart (now (rows .entry)) (now (places .entry)) (now (facts .entry)) at n state (now (numbers .entry)) (now (bytes .entry)) r (now (numbers .exit)) (now (bytes .exit)) ⌝ }
+    ensures { λ r. ⌜ InfersStart (now (rows .entry)) (now (places .entry)) (now (facts .entry)) (now (members .entry)) (now (begun .entry)) at n state (now (numbers .entry)) (now (bytes .entry)) r (now (begun .exit)) (now (numbers .exit)) (now (bytes .exit)) ⌝ }
 {
     let e = state.element;
     let q = state.required;

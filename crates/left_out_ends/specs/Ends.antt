@@ -1,5 +1,5 @@
 -- Ends inferred from the current element outwards, in the rules: what one end comes to, and how an end tag and the document's end go on where no more is inferred.
-use Prim.Native.Nat.{ℕ}
+use Prim.Native.Nat.{ℕ, _≤_}
 use mathlib.Core.Path.{_≡_, refl, ap, sym, _∙_}
 use mathlib.Core.Bool.{Bool, true, false}
 use mathlib.Core.List.{List, [], _∷_, _++_}
@@ -12,7 +12,6 @@ use Rattle.rules.specs.Elements.{endO}
 use Rattle.rules.specs.Decisions.{Decisions}
 use Rattle.rules.specs.Events.{Event, endInferred, endWritten}
 use Rattle.rules.specs.Settling.{Open, State, isOpen, isComplete, endLeftOut, closeFrom, endElement, endFrom, endDocument}
-use Rattle.turn_laws.specs.Last.{Sound}
 use Rattle.left_out_ends.specs.Until.{inferEnds}
 
 -- One end
@@ -37,6 +36,10 @@ then-then (refused n j) f g k h = refl
 then-then (got a) f g k h = h a
 
 module _ (s : List ℕ) (es : List Element) (D : Decisions) (x at : ℕ) where
+  -- From a state of the rules.
+  abbrev pub inferredFrom : State → Reading State
+  inferredFrom z = inferEnds s es D x at (z .around) (z .current) (z .events)
+
   pub ends-here : (os : List Open) (o : Open) (ev : List Event) → o .number ≡ x → inferEnds s es D x at os o ev ≡ got (record { current = o; around = os; events = ev })
   unfolding inferEnds
   ends-here [] o ev e = refl
@@ -76,6 +79,11 @@ module _ (s : List ℕ) (es : List Element) (D : Decisions) (x at : ℕ) where
             let n : o .number ≡ x → ⊥ = eqb-false (o .number) x t in
             close-past u os o ev n ∙ then-then (endLeftOut s es D at o) _ _ closeOn ih ∙ sym (ap (λ r. andThen r closeOn) (ends-past u os o ev n))
 
+-- Each of these elements but the outermost has a number: that is the document itself.
+abbrev pub Numbered : Open → List Open → Type 0
+Numbered o [] = Unit {0}
+Numbered o (u ∷ os) = (1 ≤ o .number) × Numbered u os
+
 module _ (s : List ℕ) (es : List Element) (D : Decisions) (at : ℕ) where
   abbrev pub endOn : State → Reading (List Event)
   endOn z = endFrom s es D at (z .around) (z .current) (z .events)
@@ -85,13 +93,13 @@ module _ (s : List ℕ) (es : List Element) (D : Decisions) (at : ℕ) where
   unfolding endFrom
   end-past u os o ev = refl
 
-  -- So does the document's end: each open element has a number, so none is left open.
-  pub end-ends : (os : List Open) (o : Open) (ev : List Event) → Sound es o os → endFrom s es D at os o ev ≡ andThen (inferEnds s es D 0 at os o ev) endOn
+  -- So does the document's end: none is left open.
+  pub end-ends : (os : List Open) (o : Open) (ev : List Event) → Numbered o os → endFrom s es D at os o ev ≡ andThen (inferEnds s es D 0 at os o ev) endOn
   end-ends [] o ev h = rw (ends-none s es D 0 at o ev)
   end-ends (u ∷ os) o ev h =
       let n : o .number ≡ 0 → ⊥ = (λ z. omega (arith, h .0)) in
       end-past u os o ev
-      ∙ then-then (endLeftOut s es D at o) _ _ endOn (λ e. end-ends os u (ev ++ e ∷ []) (h .2))
+      ∙ then-then (endLeftOut s es D at o) _ _ endOn (λ e. end-ends os u (ev ++ e ∷ []) (h .1))
       ∙ sym (ap (λ r. andThen r endOn) (ends-past s es D 0 at u os o ev n))
 
 -- An end tag

@@ -1,36 +1,55 @@
 -- The loop that infers ends: what the tables' answers say, each turn, and each way out.
 use Prim.Native.Nat.{ℕ, zero, suc, _+_, _≤_, _<_}
 use mathlib.Core.Path.{_≡_, refl, ap, sym, _∙_, subst}
-use mathlib.Core.Bool.{Bool, true, false, true≢false}
+use mathlib.Core.Bool.{Bool, true, false}
 use mathlib.Core.List.{List, [], _∷_, _++_, append-assoc, append-nil}
 use native.Mathlib.Omega.{arith}
-use lib.ListN.{length, length-append}
-use Rattle.rules.specs.Reading.{refused, got, andThen}
+use lib.ListN.{length, length-append, getD}
+use Rattle.rules.specs.Reading.{Reading, refused, got, andThen}
 use Rattle.rules.specs.TypeFile.{Element}
-use Rattle.rules.specs.Elements.{endO}
+use Rattle.rules.specs.Elements.{contentOf, endO}
 use Rattle.rules.specs.Decisions.{start}
 use Rattle.rules.specs.Events.{Event, endInferred}
-use Rattle.rules.specs.Settling.{State, endLeftOut}
-use Rattle.document_laws.specs.Decide.{decided}
+use Rattle.rules.specs.Settling.{State, isComplete, endLeftOut}
+use Rattle.rules.specs.Settling as rules
+use Rattle.document_laws.specs.Decide.{isCompleteIn, decided}
+use Rattle.document_laws.specs.Moves.{state}
 use Rattle.type_tables.specs.Means.{Declares, Facts}
 use Rattle.event_buffer.specs.Means.{noted, Puts}
 use Rattle.event_buffer.specs.Laws.{puts-none, puts-then}
+use Rattle.open_elements.specs.declared.Entry.{Entry}
 use Rattle.open_elements.specs.declared.Open.{Open}
 use Rattle.open_elements.specs.declared.Outcome.{Outcome}
-use Rattle.open_elements.specs.Means.{current, around, stateOf, ended, outcomeOf, Ranged, Stands}
-use Rattle.open_elements.specs.Laws.{around-ended, around-none, stands-range, stands-element, stands-ended, ranged-ended}
-use Rattle.left_out_ends.specs.Until.{inferEnds, inferred, dueOf, Judges, Brings, Until}
-use Rattle.left_out_ends.specs.Ends.{left-incomplete, left-required, left-out, ends-here, ends-none, ends-past}
+use Rattle.open_elements.specs.Means.{none, ended, Ranged, Kept, AllKept, Stands}
+use Rattle.open_elements.specs.Becomes.{StandsWith, becomes-refused, becomes-got}
+use Rattle.open_elements.specs.Laws.{stands-element, stands-around, stands-alone, ranged-ended}
+use Rattle.left_out_ends.specs.Until.{inferEnds, dueOf, Judges, Brings, Until}
+use Rattle.left_out_ends.specs.Ends.{inferredFrom, Numbered, left-incomplete, left-required, left-out, ends-here, ends-none, ends-past}
+
+-- What the open elements say of the state that they stand for
+
+module _ {es : List Element} {M begun : List ℕ} {o : Open} {z : State} (h : Stands es M begun o z) where
+  pub stands-complete : (s : List ℕ) → isComplete s es (decided s es) (z .current) ≡ o .complete
+  stands-complete s = ap (λ (k : ℕ). isCompleteIn (contentOf es k) (z .current .taken)) (h .current .entered .number) ∙ sym (h .current .complete)
+
+  -- The current element is declared, where something is around it.
+  declared : 1 ≤ o .count → Declares es (start (o .element .0))
+  declared l = (stands-element h l, h .current .entered .declared)
+
+-- Each element that is around another has a number.
+kept-numbered : {es : List Element} {M begun : List ℕ} (a : List Entry) (n : ℕ) (x : Entry) (o : rules.Open) (os : List rules.Open) → Kept es M begun n x o → AllKept es M begun a n os → Numbered o os
+kept-numbered a n x o [] h k = tt
+kept-numbered a zero x o (u ∷ os) h k = absurd k
+kept-numbered a (suc n) x o (u ∷ os) h k = (omega (arith, h .inner (omega arith), h .entered .number), kept-numbered a n (getD a n none) u os (k .0) (k .1))
+
+pub stands-numbered : {es : List Element} {M begun : List ℕ} {o : Open} {z : State} → Stands es M begun o z → Numbered (z .current) (z .around)
+stands-numbered {o = o} {z = z} h = kept-numbered (o .around) (o .count) _ (z .current) (z .around) (h .current) (h .around)
 
 -- What the tables' answers say
 
 -- The end of the element e may be left out, or not.
 abbrev pub SaysOmitted : (facts : List ℕ) (e : ℕ) → Bool → Type 0
-SaysOmitted facts e b = (s : List ℕ) (es : List Element) → Facts s es facts → Declares es (start e) → b ≡ endO es e
-
--- The current element is declared, where something is around it.
-declared : {es : List Element} {o : Open} → Stands es o → 1 ≤ o .count → Declares es (start (o .element .0))
-declared h l = (stands-element h l, stands-range h .declared)
+SaysOmitted facts e b = (s : List ℕ) (es : List Element) (raised : ℕ → Bool) → Facts s es raised facts → Declares es (start e) → b ≡ endO es e
 
 module _ (facts : List ℕ) (o : Open) where
   pub judges-incomplete : o .complete ≡ false → Judges facts o 13
@@ -38,16 +57,19 @@ module _ (facts : List ℕ) (o : Open) where
       record {
         small = omega arith;
         sure = λ z. absurd (omega arith);
-        due = λ s es f h l at. left-incomplete s es (decided s es) at (current o) (sym (h .marked .complete) ∙ e);
+        due = λ s es raised f M begun z h l at. left-incomplete s es (decided s es) at (z .current) (stands-complete h s ∙ e);
       }
 
   module _ {d : Bool} (e : o .complete ≡ true) (m : SaysOmitted facts (o .element .0) d) where
+    omitted : (s : List ℕ) (es : List Element) (raised : ℕ → Bool) → Facts s es raised facts → {M begun : List ℕ} {z : State} → Stands es M begun o z → 1 ≤ o .count → endO es (z .current .number) ≡ d
+    omitted s es raised f h l = ap (endO es) (h .current .entered .number) ∙ sym (m s es raised f (declared h l))
+
     pub judges-required : d ≡ false → Judges facts o 14
     judges-required g =
         record {
           small = omega arith;
           sure = λ z. absurd (omega arith);
-          due = λ s es f h l at. left-required s es (decided s es) at (current o) (sym (h .marked .complete) ∙ e) (sym (m s es f (declared h l)) ∙ g);
+          due = λ s es raised f M begun z h l at. left-required s es (decided s es) at (z .current) (stands-complete h s ∙ e) (omitted s es raised f h l ∙ g);
         }
 
     pub judges-out : d ≡ true → Judges facts o 0
@@ -55,40 +77,34 @@ module _ (facts : List ℕ) (o : Open) where
         record {
           small = omega arith;
           sure = λ z. e;
-          due = λ s es f h l at. left-out s es (decided s es) at (current o) (sym (h .marked .complete) ∙ e) (sym (m s es f (declared h l)) ∙ g);
+          due = λ s es raised f M begun z h l at.
+              left-out s es (decided s es) at (z .current) (stands-complete h s ∙ e) (omitted s es raised f h l ∙ g) ∙ ap (λ (k : ℕ). got (endInferred k at)) (h .current .entered .number);
         }
 
 -- The loop
 
--- The state q, after k events, is on the way from o to where no more ends are inferred.
+-- The state q, after k events, is on the way from o to where no more ends are inferred: wherever o stands for a state of the rules, q does for one from
+-- which they come to the same.
 pub record Goes (facts : List ℕ) (x at n : ℕ) (o : Open) (numbers bytes : List ℕ) (q : Open) (k : ℕ) (numbers′ bytes′ : List ℕ) : Type 0 where
   pub ranged : Ranged q
   pub events : List Event
   pub puts : Puts numbers bytes n events numbers′ bytes′
   pub counted : k ≡ n + length events
   pub few : length events + q .count ≤ o .count
-  pub stands : (es : List Element) → Stands es o → Stands es q
-  pub same : (s : List ℕ) (es : List Element) → Facts s es facts → Stands es o → (before : List Event) → inferred s es x at q (before ++ events) ≡ inferred s es x at o before
-
-pub outcome-refused : (at n : ℕ) (z : State) → (n ≡ 0 → ⊥) → outcomeOf at n z ≡ refused n at
-outcome-refused at zero z h = absurd (h refl)
-outcome-refused at (suc n) z h = refl
+  pub same : (s : List ℕ) (es : List Element) (raised : ℕ → Bool) → Facts s es raised facts → (M begun : List ℕ) (z : State) → Stands es M begun o z
+      → (y : State) × Stands es M begun q y × (y .events ≡ z .events ++ events) × (inferredFrom s es (decided s es) x at z ≡ inferredFrom s es (decided s es) x at y)
 
 due-refused : (at n : ℕ) (e : Event) → (n ≡ 0 → ⊥) → dueOf at n e ≡ refused n at
 due-refused at zero e h = absurd (h refl)
 due-refused at (suc n) e h = refl
 
-module _ (s : List ℕ) (es : List Element) (x at : ℕ) (o : Open) (ev : List Event) where
-  inferred-none : o .count ≡ 0 → inferred s es x at o ev ≡ got (stateOf o ev)
-  inferred-none e =
-      subst (λ os. inferEnds s es (decided s es) x at os (current o) ev ≡ got (record { current = current o; around = os; events = ev })) (sym (around-none o e))
-      (ends-none s es (decided s es) x at (current o) ev)
-
-  -- One turn: what is around the current element is taken apart, and its end is due.
-  inferred-past : 1 ≤ o .count → (o .element .0 ≡ x → ⊥) → inferred s es x at o ev ≡ andThen (endLeftOut s es (decided s es) at (current o)) λ e. inferred s es x at (ended o) (ev ++ e ∷ [])
-  inferred-past l n =
-      ap (λ os. inferEnds s es (decided s es) x at os (current o) ev) (around-ended o l)
-      ∙ ends-past s es (decided s es) x at (current (ended o)) (around (ended o)) (current o) ev n
+-- One turn: what is around the current element is taken apart, and its end is due.
+from-past : (s : List ℕ) (es : List Element) (x at : ℕ) (y : State) (u : rules.Open) (us : List rules.Open) → y .around ≡ u ∷ us → (y .current .number ≡ x → ⊥) → {due : Reading Event} → endLeftOut s es (decided s es) at (y .current) ≡ due
+    → inferredFrom s es (decided s es) x at y ≡ andThen due λ e. inferredFrom s es (decided s es) x at (state u us (y .events ++ e ∷ []))
+from-past s es x at y u us e n i =
+    ap (λ (os : List rules.Open). inferEnds s es (decided s es) x at os (y .current) (y .events)) e
+    ∙ ends-past s es (decided s es) x at u us (y .current) (y .events) n
+    ∙ ap (λ (d : Reading Event). andThen d λ t. inferredFrom s es (decided s es) x at (state u us (y .events ++ t ∷ []))) i
 
 abbrev pub left : Open → (events number : ℕ) → Outcome
 left o k number = record { «open» = o; events = k; number = number }
@@ -102,8 +118,7 @@ module _ {facts : List ℕ} {x at n : ℕ} {o : Open} {numbers bytes : List ℕ}
         puts = puts-none numbers bytes n;
         counted = omega arith;
         few = omega arith;
-        stands = λ es h. h;
-        same = λ s es f h before. ap (λ ev. inferred s es x at o ev) (append-nil before);
+        same = λ s es raised f M begun z st. (z, st, sym (append-nil (z .events)), refl);
       }
 
   module _ {q : Open} {k : ℕ} {numbers′ bytes′ : List ℕ} (g : Goes facts x at n o numbers bytes q k numbers′ bytes′) where
@@ -115,9 +130,10 @@ module _ {facts : List ℕ} {x at n : ℕ} {o : Open} {numbers bytes : List ℕ}
         record {
           brings = brings 0 (omega arith);
           few = g .few;
-          stands = g .stands;
           reached = λ z l. e;
-          same = λ s es f h before. sym (ends-here s es (decided s es) x at (around q) (current q) (before ++ g .events) e) ∙ g .same s es f h before;
+          ends = λ s es raised f M begun z st.
+              let (y, here, ev, i) = g .same s es raised f M begun z st in
+              becomes-got at (StandsWith es M begun q (z .events ++ g .events)) refl (i ∙ ends-here s es (decided s es) x at (y .around) (y .current) (y .events) (here .current .entered .number ∙ e)) (here, ev);
         }
 
     pub until-none : q .count ≡ 0 → Until facts x at n o numbers bytes (left q k 0) numbers′ bytes′
@@ -125,42 +141,45 @@ module _ {facts : List ℕ} {x at n : ℕ} {o : Open} {numbers bytes : List ℕ}
         record {
           brings = brings 0 (omega arith);
           few = g .few;
-          stands = g .stands;
           reached = λ z l. absurd (omega arith);
-          same = λ s es f h before. sym (inferred-none s es x at q (before ++ g .events) e) ∙ g .same s es f h before;
+          ends = λ s es raised f M begun z st.
+              let (y, here, ev, i) = g .same s es raised f M begun z st in
+              becomes-got at (StandsWith es M begun q (z .events ++ g .events)) refl
+              (i ∙ subst (λ (os : List rules.Open). inferEnds s es (decided s es) x at os (y .current) (y .events) ≡ got (state (y .current) os (y .events))) (sym (stands-alone here e)) (ends-none s es (decided s es) x at (y .current) (y .events)))
+              (here, ev);
         }
 
     module _ (l : 1 ≤ q .count) (m : q .element .0 ≡ x → ⊥) {number : ℕ} (j : Judges facts q number) where
-      past : {due : ℕ} → number ≡ due → (s : List ℕ) (es : List Element) → Facts s es facts → Stands es o → (before : List Event)
-          → (andThen (dueOf at due (endInferred (q .element .0) at)) λ e. inferred s es x at (ended q) ((before ++ g .events) ++ e ∷ [])) ≡ inferred s es x at o before
-      past e s es f h before =
-          sym (inferred-past s es x at q (before ++ g .events) l m
-          ∙ ap (λ d. andThen d λ t. inferred s es x at (ended q) ((before ++ g .events) ++ t ∷ [])) (j .due s es f (g .stands es h) l at ∙ ap (λ k. dueOf at k (endInferred (q .element .0) at)) e))
-          ∙ g .same s es f h before
-
       pub until-refused : (number ≡ 0 → ⊥) → Until facts x at n o numbers bytes (left q k number) numbers′ bytes′
-      until-refused z =
+      until-refused some =
           record {
             brings = brings number (j .small);
             few = g .few;
-            stands = g .stands;
-            reached = λ y k. absurd (z y);
-            same = λ s es f h before.
-                outcome-refused at number (stateOf q (before ++ g .events)) z
-                ∙ sym (ap (λ d. andThen d λ t. inferred s es x at (ended q) ((before ++ g .events) ++ t ∷ [])) (due-refused at number (endInferred (q .element .0) at) z))
-                ∙ past refl s es f h before;
+            reached = λ y k. absurd (some y);
+            ends = λ s es raised f M begun z st.
+                let (y, here, ev, i) = g .same s es raised f M begun z st in
+                let a = stands-around here l in
+                becomes-refused at (StandsWith es M begun q (z .events ++ g .events)) (omega arith)
+                (i ∙ from-past s es x at y (a .parent) (a .others) (a .are) (λ e. m (sym (here .current .entered .number) ∙ e)) (j .due s es raised f M begun y here l at ∙ due-refused at number (endInferred (q .element .0) at) some));
           }
 
       pub goes-turn : number ≡ 0 → {next : Open} {m : ℕ} {numbers″ bytes″ : List ℕ} → next ≡ ended q → m ≡ k + 1 → Puts numbers′ bytes′ k (noted 4 (q .element .0) at 0 0 ∷ []) numbers″ bytes″
           → Goes facts x at n o numbers bytes next m numbers″ bytes″
-      goes-turn z {numbers″ = numbers″} {bytes″} e c p =
-          let sizes = length-append (g .events) (endInferred (q .element .0) at ∷ []) in
+      goes-turn nothing {numbers″ = numbers″} {bytes″} e c p =
+          let event = endInferred (q .element .0) at in
+          let sizes = length-append (g .events) (event ∷ []) in
           rw e (record {
             ranged = ranged-ended (g .ranged) l;
-            events = g .events ++ endInferred (q .element .0) at ∷ [];
+            events = g .events ++ event ∷ [];
             puts = puts-then (g .puts) (g .counted) p;
             counted = omega (arith, g .counted);
             few = omega (arith, g .few);
-            stands = λ es h. stands-ended (g .stands es h) l;
-            same = λ s es f h before. ap (λ ev. inferred s es x at (ended q) ev) (sym (append-assoc before (g .events) (endInferred (q .element .0) at ∷ []))) ∙ past z s es f h before;
+            same = λ s es raised f M begun z st.
+                let (y, here, ev, i) = g .same s es raised f M begun z st in
+                let a = stands-around here l in (
+                  state (a .parent) (a .others) (y .events ++ event ∷ []),
+                  a .stands (y .events ++ event ∷ []),
+                  ap (λ t. t ++ event ∷ []) ev ∙ append-assoc (z .events) (g .events) (event ∷ []),
+                  i ∙ from-past s es x at y (a .parent) (a .others) (a .are) (λ e. m (sym (here .current .entered .number) ∙ e)) (j .due s es raised f M begun y here l at ∙ ap (λ (k : ℕ). dueOf at k event) nothing),
+                );
           })

@@ -6,7 +6,7 @@ use mathlib.Core.Logic.{_⊎_, inl, inr}
 use mathlib.Core.List.{List, [], _∷_, _++_}
 use native.Mathlib.Omega.{arith}
 use Rattle.rules.specs.Walk.{Group, place, seq, alt, opt, plus, and, Members, one, also}
-use Rattle.model_sets.specs.Bits.{or-left, or-right, and-both, bool-cases}
+use Rattle.model_sets.specs.Bits.{or-left, or-right, and-both, not-true, bool-cases}
 use Rattle.model_sets.specs.Sets.{has, hasM}
 use Rattle.and_laws.specs.Sets.{Plain, Good, GoodM}
 use Rattle.and_laws.specs.Decide.{or-only}
@@ -197,3 +197,39 @@ plain-levels (alt g h) (d, k) b u = bool-cases (has h u) (λ j. rw j (plain-leve
 plain-levels (opt g) d b u = plain-levels g d b u
 plain-levels (plus g) d b u = refl
 plain-levels (and m) d b u = absurd d
+
+-- It holds of one of them.
+abbrev pub AnyLevel : (Level → Type 0) → List Level → Type 0
+AnyLevel P [] = ⊥
+AnyLevel P (l ∷ ls) = P l ⊎ AnyLevel P ls
+
+any-append : (P : Level → Type 0) (ls : List Level) (l : Level) → AnyLevel P ls → AnyLevel P (ls ++ l ∷ [])
+any-append P [] l x = absurd x
+any-append P (k ∷ ls) l (inl x) = inl x
+any-append P (k ∷ ls) l (inr x) = inr (any-append P ls l x)
+
+any-last : (P : Level → Type 0) (ls : List Level) (l : Level) → P l → AnyLevel P (ls ++ l ∷ [])
+any-last P [] l x = inl x
+any-last P (k ∷ ls) l x = inr (any-last P ls l x)
+
+-- the same group under the same number
+abbrev pub IsSame : Level → Level → Type 0
+IsSame l k = (k .number ≡ l .number) × (k .members ≡ l .members)
+
+mutual
+  -- A group that has the place is one of those around it.
+  pub level-around : (g : Group) (b : ℕ) (l : Level) → IsLevel g b l → Good g → (p : ℕ) → hasM (l .members) p ≡ true → AnyLevel (IsSame l) (levels g b p)
+  level-around (place n) b l i d p h = absurd i
+  level-around (seq g h) b l (inl i) (d, k, a) p x = let j : has h p ≡ false = not-true (has h p) (a p (level-has g b l i p x)) in rw j (level-around g b l i d p x)
+  level-around (seq g h) b l (inr i) (d, k, a) p x = let j : has h p ≡ true = level-has h (b + count g) l i p x in rw j (level-around h (b + count g) l i k p x)
+  level-around (alt g h) b l (inl i) (d, k, a) p x = let j : has h p ≡ false = not-true (has h p) (a p (level-has g b l i p x)) in rw j (level-around g b l i d p x)
+  level-around (alt g h) b l (inr i) (d, k, a) p x = let j : has h p ≡ true = level-has h (b + count g) l i p x in rw j (level-around h (b + count g) l i k p x)
+  level-around (opt g) b l i d p x = level-around g b l i d p x
+  level-around (plus g) b l i d p x = absurd i
+  level-around (and m) b l (inl i) d p x = any-append (IsSame l) (levelsM m b p) _ (levelM-around m b l i d p x)
+  level-around (and m) b l (inr (e, f)) d p x = any-last (IsSame l) (levelsM m b p) (record { number = suc (b + countM m); members = m }) (sym e, sym f)
+
+  levelM-around : (m : Members) (b : ℕ) (l : Level) → IsLevelM m b l → GoodM m → (p : ℕ) → hasM (l .members) p ≡ true → AnyLevel (IsSame l) (levelsM m b p)
+  levelM-around (one g) b l i d p x = level-around g b l i d p x
+  levelM-around (also m g) b l (inl i) (d, k, a) p x = let j : has g p ≡ false = not-true (has g p) (a p (levelM-has m b l i p x)) in rw j (levelM-around m b l i d p x)
+  levelM-around (also m g) b l (inr i) (d, k, a) p x = let j : has g p ≡ true = level-has g (b + countM m) l i p x in rw j (level-around g (b + countM m) l i k p x)

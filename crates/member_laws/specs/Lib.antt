@@ -2,3 +2,4 @@
 pub mod Members
 pub mod Numbered
 pub mod Inside
+pub mod Around

@@ -139,12 +139,20 @@ module _ (begun : List ℕ) (level : ℕ) where
   begunAt h = eqb (wordAt ((h - 1) / 32) / 2 ^ ((h - 1) % 32) % 2) 1
 
   module _ (M : List ℕ) (e : ℕ) (S : ℕ → Bool) where
+    -- The bits of the group's members are set of which a place was taken.
+    abbrev pub Marked : Level → Type 0
+    Marked l = Each (λ (n : ℕ) (g : Group). begunAt n ≡ meets g S) (firstAt M e (l .number)) (needs (l .members)) (l .members)
+
     -- In each of these groups the bits are set of the members of which a place was taken.
     abbrev pub AllMarked : List Level → Type 0
     AllMarked [] = true ≡ true
-    AllMarked (l ∷ ls) = Each (λ (n : ℕ) (g : Group). begunAt n ≡ meets g S) (firstAt M e (l .number)) (needs (l .members)) (l .members) × AllMarked ls
+    AllMarked (l ∷ ls) = Marked l × AllMarked ls
 
   -- The bits of the level are those of the places taken in the element e, whose model is g, after the place u. At its start they are anything.
   pub record Standing (M : List ℕ) (e : ℕ) (g : Group) (u : ℕ) (taken : List ℕ) : Type 0 where
     pub last : IsLast taken u
     pub marked : 1 ≤ u → (p : ℕ) → has g p ≡ true → AllMarked M e (mem taken) (levels g 0 p)
+
+-- The bits of every other level are as they were.
+abbrev pub Elsewhere : (level : ℕ) (before after : List ℕ) → Type 0
+Elsewhere level before after = (k j : ℕ) → (k ≡ level → ⊥) → j < BEGUN-WORDS → wordAt after k j ≡ wordAt before k j

@@ -14,7 +14,7 @@ use Rattle.model_sets.specs.Bits.{or-left, or-right, or-cases, and-both, not-tr
 use Rattle.model_sets.specs.Sets.{has, hasM, nullable, must}
 use Rattle.and_laws.specs.Base.{mem}
 use Rattle.and_laws.specs.Sets.{meets, GoodM}
-use Rattle.and_laws.specs.Rest.{allM}
+use Rattle.and_laws.specs.Rest.{allM, anyM}
 use Rattle.and_laws.specs.Req.{restReq}
 use Rattle.and_laws.specs.Rows.{fine}
 use Rattle.and_laws.specs.Filed.{allOf, Distinct, all-each, each-all, loneOf, lone-one, lone-two, lone-none, IsNumber, Filed, fineNumber, filed-fine, filed-rest}
@@ -49,6 +49,15 @@ module _ (first N : ℕ) where
   numbered-has (one g) n k (e, d) p h = rw d at h
   numbered-has (also m g) n k (inl i) p h = or-left _ (numbered-has m n k i p h)
   numbered-has (also m g) n k (inr (e, d)) p h = or-right (hasM m p) (rw d at h)
+
+  pub any-numbered : (t : Group → Bool) (m : Members) → anyM t m ≡ true → (n : ℕ) × (k : Group) × IsNumbered m n k × (t k ≡ true)
+  any-numbered t (one g) i = (numberFor first N 0 0 g, g, (refl, refl), i)
+  any-numbered t (also m g) i = or-cases (anyM t m) (t g) (λ x. let (n, k, j, y) = any-numbered t m x in (n, k, inl j, y)) (λ y. (numberFor first N (needs m) (spares m) g, g, inr (refl, refl), y)) i
+
+  pub numbered-any : (t : Group → Bool) (m : Members) (n : ℕ) (k : Group) → IsNumbered m n k → t k ≡ true → anyM t m ≡ true
+  numbered-any t (one g) n k (e, d) x = rw d at x
+  numbered-any t (also m g) n k (inl i) x = or-left _ (numbered-any t m n k i x)
+  numbered-any t (also m g) n k (inr (e, d)) x = or-right (anyM t m) (rw d at x)
 
   -- The member that has the place p has the number that is said of p, and no other has it.
   pub place-numbered : (m : Members) (p : ℕ) → hasM m p ≡ true → (k : Group) × IsNumbered m (numberIn first N m p) k × (has k p ≡ true)

@@ -1,23 +1,24 @@
 -- The chain of "&" groups around a place, as far as the table has it: it ends where no member is kept yet, and the next group that is put makes it longer.
-use Prim.Native.Nat.{ℕ, zero, suc, _+_, _-_, _*_, _≤_, _<_}
+use Prim.Native.Nat.{ℕ, suc, _+_, _*_, _≤_}
 use mathlib.Core.Path.{_≡_, refl, sym, _∙_, ap, subst}
-use mathlib.Core.Bool.{Bool, true, false, _&&_, _||_, cond, false≢true}
-use mathlib.Core.Logic.{_⊎_, inl, inr, ⊎-elim}
+use mathlib.Core.Bool.{Bool, true, false, _&&_, cond}
+use mathlib.Core.Logic.{inl, inr}
 use mathlib.Core.List.{List, [], _∷_, _++_}
 use native.Mathlib.Omega.{arith}
 use lib.ListN.{getD}
 use Rattle.rules.specs.Walk.{Group, Members, one, also}
-use Rattle.layout.specs.Sizes.{POSITIONS, AND-GROUPS, MEMBER}
-use Rattle.model_sets.specs.Bits.{or-left, or-right, or-cases, and-left, and-right, and-both, bool-cases, not-true, not-both}
+use Rattle.layout.specs.Sizes.{MEMBER}
+use Rattle.model_sets.specs.Bits.{or-left, or-right, or-cases, and-left, and-right, bool-cases}
 use Rattle.model_sets.specs.Sets.{has, hasM, nullable, lastM, must}
 use Rattle.and_laws.specs.Sets.{GoodM}
 use Rattle.and_laws.specs.Levels.{together}
 use Rattle.and_laws.specs.Ranked.{Level}
 use Rattle.and_laws.specs.Rows.{lastM-has}
-use Rattle.member_laws.specs.Members.{amount, needs, spares, numberFor, numberIn, Each, groupAt, dueAt, recordAt, firstAt, neededAt, sizeAt, outerAt, Grouped, Chain}
-use Rattle.member_table.specs.Joined.{amount-is, each-map, InRange}
-use Rattle.member_table.specs.Puts.{Slot}
-use Rattle.member_table.specs.Beside.{not-left, not-right}
+use Rattle.member_laws.specs.Members.{amount, needs, spares, numberFor, numberIn, groupAt, dueAt, recordAt, firstAt, neededAt, sizeAt, outerAt, Grouped, Chain}
+use Rattle.member_laws.specs.Numbered.{amount-both}
+use Rattle.member_entries.specs.Slots.{Slot}
+use Rattle.member_table.specs.Joined.{each-map, InRange}
+use Rattle.member_table.specs.Beside.{not-right}
 
 -- Two places in one member
 
@@ -105,8 +106,8 @@ module _ (e : ℕ) where
         }
       where
         low : (n : ℕ) → InRange (firstAt M e (l .number)) (needs (l .members)) (needs (l .members)) (spares (l .members)) n → n ≤ c
-        low n (inl (x, y)) = omega (arith, amount-is (l .members))
-        low n (inr (x, y)) = omega (arith, amount-is (l .members))
+        low n (inl (x, y)) = omega (arith, amount-both (l .members))
+        low n (inr (x, y)) = omega (arith, amount-both (l .members))
 
     among-keep : (b' c' : ℕ) → b ≤ b' → c ≤ c' → (l : Level) → Among M b c l → Among S b' c' l
     among-keep b' c' x y l (from, to, high) = (from, omega arith, omega (arith, K .first (l .number) to))

@@ -1,30 +1,32 @@
 -- The end of an "&" group: its members, the last pieces of the stack, are put, and the group takes their place.
-use Prim.Native.Nat.{ℕ, zero, suc, _+_, _-_, _*_, _≤_, _<_}
+use Prim.Native.Nat.{ℕ, suc, _+_, _-_, _*_, _≤_, _<_}
 use mathlib.Core.Path.{_≡_, refl, sym, _∙_, ap, subst}
-use mathlib.Core.Bool.{Bool, true, false, _&&_, _||_, cond, false≢true}
-use mathlib.Core.Logic.{_⊎_, inl, inr, ⊎-elim}
+use mathlib.Core.Bool.{Bool}
+use mathlib.Core.Logic.{_⊎_, inl, inr}
 use mathlib.Core.List.{List, [], _∷_, _++_}
 use native.Mathlib.Omega.{arith}
 use lib.Dec.{eqb}
 use lib.ListN.{length, getD, set, length-set}
 use lib.Seq.{getD-set-same, getD-set-other}
-use borrow.Author.Tests.{eq-eqb, ne-eqb}
+use borrow.Author.Tests.{ne-eqb}
 use Rattle.rules.specs.Bytes.{GRPCNT}
 use Rattle.rules.specs.Walk.{Group, and, Members, one, also}
 use Rattle.layout.specs.Sizes.{MEMBER, POSITIONS}
 use Rattle.model_sets.specs.Bits.{bool-cases}
-use Rattle.model_sets.specs.Sets.{has, hasM, size, sizeM, NumberedM, nullable, nullableM, lastM, must}
+use Rattle.model_sets.specs.Sets.{hasM, size, sizeM, NumberedM, nullable, nullableM}
 use Rattle.and_laws.specs.Sets.{GoodM}
 use Rattle.and_laws.specs.Rows.{and-no, and-yes}
 use Rattle.model_code.specs.Spelled.{codes, codesM}
-use Rattle.member_laws.specs.Members.{amount, needs, spares, Each, groupAt, dueAt, recordAt, firstAt, neededAt, sizeAt, outerAt, Grouped}
+use Rattle.member_laws.specs.Members.{amount, needs, firstAt, neededAt, sizeAt, outerAt, Grouped}
+use Rattle.member_laws.specs.Numbered.{amount-both}
+use Rattle.member_entries.specs.Entries.{recordFrom, putRecord}
+use Rattle.member_entries.specs.Slots.{Slot}
 use Rattle.member_table.specs.declared.Piece.{Piece}
-use Rattle.member_table.specs.Filling.{State, pieceAt, nonePiece, neededIn, closedPiece, recordFrom, putRecord, putGroup, putOnes, closeGroup}
-use Rattle.member_table.specs.Beside.{RowsM, EachMarks, second, marks, lastM-end}
-use Rattle.member_table.specs.Puts.{Slot}
-use Rattle.member_table.specs.Joined.{pieceOf, Pieces, amount-is, amount-one, needed-is, sizeM-one, each-map, rowsOf, Joined, joins}
+use Rattle.member_table.specs.Filling.{State, pieceAt, closedPiece, putGroup, closeGroup}
+use Rattle.member_table.specs.Beside.{RowsM, second, marks, lastM-end}
+use Rattle.member_table.specs.Joined.{pieceOf, Pieces, needed-is, each-map, rowsOf, Joined, joins}
 use Rattle.member_table.specs.Chains.{baseOf, Keeps, Closes}
-use Rattle.member_table.specs.Running.{Common, Ready}
+use Rattle.member_table.specs.States.{Common}
 
 -- The last number of the code
 
@@ -179,7 +181,7 @@ module _
       pieces
       (rw (pieces-first (t .stack) first all lo pieces, pieces-second (t .stack) first m g lo pieces) (marks (rowsOf T) m g lo numbered good rows))
       (omega arith)
-      (omega (arith, amount-is all))
+      (omega (arith, amount-both all))
       begun
       (omega (arith, len-begun))
 

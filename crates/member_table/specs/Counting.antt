@@ -1,6 +1,6 @@
 -- How many pieces cannot be nothing, and that the members of a group have numbers in its range.
 use Prim.Native.Nat.{ℕ, zero, suc, _+_, _-_, _≤_, _<_}
-use mathlib.Core.Path.{_≡_, refl, subst}
+use mathlib.Core.Path.{_≡_, sym, subst}
 use mathlib.Core.Bool.{Bool, true, false, cond}
 use mathlib.Core.List.{List}
 use native.Mathlib.Omega.{arith}
@@ -40,6 +40,14 @@ module _ (stack : List Piece) (first j n : ℕ) (so : n ≡ neededIn stack first
 
   pub needed-null : pieceAt stack (first + j) .null ≡ true → n ≡ neededIn stack first (j + 1)
   needed-null e = let s : j + 1 ≡ suc j = omega arith in rw (s, e) (omega (arith, so))
+
+-- The number of a member that can be nothing, and of one that cannot.
+module _ (stack : List Piece) (first own needed j n : ℕ) (so : n ≡ neededIn stack first j) where
+  pub number-null : pieceAt stack (first + j) .null ≡ true → (h : ℕ) → h ≡ own + needed + (j - n) → h ≡ numberAt stack first own needed j
+  number-null e h is = rw (e, sym so) is
+
+  pub number-needed : pieceAt stack (first + j) .null ≡ false → (h : ℕ) → h ≡ own + n → h ≡ numberAt stack first own needed j
+  number-needed e h is = rw (e, sym so) is
 
 -- The number of a member of a group that has room is small, and so is how many cannot be nothing.
 pub number-small : (stack : List Piece) (first own needed j k : ℕ) → needed ≡ neededIn stack first k → j < k → own + k ≤ 97 → numberAt stack first own needed j < 97

@@ -1,15 +1,13 @@
 -- What the functions of the code do to the table of members: one number of the code after the other, upon a stack of groups.
 use Prim.Native.Nat.{ℕ, zero, suc, _+_, _-_, _*_}
 use mathlib.Core.Bool.{Bool, true, false, _&&_, _||_, cond}
-use mathlib.Core.List.{List, [], _∷_}
+use mathlib.Core.List.{List}
 use lib.ListN.{getD, set, replicate}
 use lib.Dec.{ltb, leb, eqb}
-use Rattle.layout.specs.Sizes.{POSITIONS, MODEL-ROW, MODEL-ROWS, CODE, GROUP, AND-GROUPS, MEMBER}
+use Rattle.layout.specs.Sizes.{POSITIONS, MODEL-ROWS, CODE, AND-GROUPS, MEMBER}
 use Rattle.model_links.specs.Each.{each}
+use Rattle.member_entries.specs.Entries.{putMember, putRecord}
 use Rattle.member_table.specs.declared.Piece.{Piece}
--- What is put for one member is cited from here too.
-pub use Rattle.member_places.specs.Puts.{marked, recordFrom, putPlace, putRecord}
-unfoldable pub use Rattle.member_places.specs.Puts.{putFree, putPlaces, putOuter, putOuters, putMember}
 
 -- Pieces
 
@@ -49,6 +47,7 @@ numberAt stack first own needed j =
 abbrev pub otherAt : List Piece → (first j : ℕ) → ℕ
 otherAt stack first j = cond (eqb j 0) (pieceAt stack (first + 1) .lo) (pieceAt stack first .lo)
 
+-- The piece j is put as a member of the next group.
 unfoldable pub putOne : List ℕ → (base : ℕ) (T lasts : List ℕ) (groups own : ℕ) (stack : List Piece) (first needed j : ℕ) → List ℕ
 putOne M base T lasts groups own stack first needed j =
     putMember
@@ -63,7 +62,7 @@ putOne M base T lasts groups own stack first needed j =
     (pieceAt stack (first + j) .last + 1)
     (pieceAt stack (first + j) .required)
 
--- The members [a, b) of the next group.
+-- The pieces [a, b) are put, and the next group whole.
 unfoldable pub putOnes : List ℕ → (base : ℕ) (T lasts : List ℕ) (groups own : ℕ) (stack : List Piece) (first needed a b : ℕ) → List ℕ
 putOnes M base T lasts groups own stack first needed a b = each (λ S j. putOne S base T lasts groups own stack first needed j) M a b
 

@@ -1,29 +1,31 @@
 -- The members of an "&" group, put one after the other: what the table then has of each.
-use Prim.Native.Nat.{ℕ, zero, suc, _+_, _-_, _*_, _≤_, _<_}
-use mathlib.Core.Path.{_≡_, refl, sym, _∙_, ap, subst}
-use mathlib.Core.Bool.{Bool, true, false, _&&_, _||_, cond}
+use Prim.Native.Nat.{ℕ, suc, _+_, _-_, _*_, _≤_, _<_}
+use mathlib.Core.Path.{_≡_, refl, _∙_, ap}
+use mathlib.Core.Bool.{Bool, true, false, cond}
 use mathlib.Core.Logic.{_⊎_, inl, inr, ⊎-elim}
 use mathlib.Core.List.{List}
 use native.Mathlib.Omega.{arith}
 use lib.Dec.{eqb}
 use lib.ListN.{length, getD}
-use borrow.Author.Tests.{eq-eqb, ne-eqb, eqb-true}
+use borrow.Author.Tests.{eq-eqb, ne-eqb}
 use Rattle.rules.specs.Walk.{Group, place, seq, alt, opt, plus, and, Members, one, also}
 use Rattle.layout.specs.Sizes.{POSITIONS, MODEL-ROW}
-use Rattle.model_sets.specs.Bits.{or-left, or-right, or-cases, bool-cases, not-true, not-both}
+use Rattle.model_sets.specs.Bits.{or-left, or-right, bool-cases, not-both}
 use Rattle.model_sets.specs.Sets.{has, hasM, size, sizeM, Numbered, NumberedM, nullable, last, lastM, must}
 use Rattle.and_laws.specs.Base.{Apart}
-use Rattle.and_laws.specs.Sets.{Good, GoodM}
+use Rattle.and_laws.specs.Sets.{GoodM}
 use Rattle.and_laws.specs.Rest.{or-none}
 use Rattle.and_laws.specs.Decide.{or-only}
-use Rattle.and_laws.specs.Rows.{or-no}
-use Rattle.and_laws.specs.Numbers.{has-range, hasM-range}
+use Rattle.and_laws.specs.Rows.{last-has, lastM-has, or-no}
+use Rattle.and_laws.specs.Numbers.{has-range}
 use Rattle.member_laws.specs.Members.{amount, needs, spares, numberFor, numberIn, Each}
-use Rattle.model_links.specs.Each.{each, each-more, each-none}
+use Rattle.member_laws.specs.Numbered.{amount-both}
+use Rattle.member_entries.specs.Entries.{recordFrom}
+use Rattle.member_entries.specs.Slots.{Slot, Kept, Put, puts}
 use Rattle.member_table.specs.declared.Piece.{Piece}
-use Rattle.member_table.specs.Filling.{marked, recordFrom, pieceAt, neededIn, numberAt, otherAt, putOne, putOnes}
-use Rattle.member_table.specs.Beside.{Marks, EachMarks, not-left, not-right, no-last, no-lastM}
-use Rattle.member_table.specs.Puts.{Slot, Put, puts, each-last}
+use Rattle.member_table.specs.Filling.{pieceAt, neededIn, numberAt, otherAt, putOne, putOnes}
+use Rattle.member_table.specs.Putting.{ones-first, ones-last}
+use Rattle.member_table.specs.Beside.{Marks, EachMarks, not-left, without}
 
 mutual
   pub size-one : (g : Group) → 1 ≤ size g
@@ -72,10 +74,6 @@ abbrev pub Pieces : List Piece → (first : ℕ) → Members → ℕ → Type 0
 Pieces stack first (one g) lo = pieceAt stack (first + 0) ≡ pieceOf g lo
 Pieces stack first (also m g) lo = Pieces stack first m lo × (pieceAt stack (first + amount m) ≡ pieceOf g (lo + sizeM m))
 
-pub amount-is : (m : Members) → amount m ≡ needs m + spares m
-amount-is (one g) = bool-cases (nullable g) (λ e. rw e) (λ e. rw e)
-amount-is (also m g) = bool-cases (nullable g) (λ e. rw e (omega (arith, amount-is m))) (λ e. rw e (omega (arith, amount-is m)))
-
 pub amount-one : (m : Members) → 1 ≤ amount m
 amount-one (one g) = omega arith
 amount-one (also m g) = omega arith
@@ -94,7 +92,7 @@ module _ (stack : List Piece) (first : ℕ) where
   -- The number that the next member gets.
   pub number-is : (own needed : ℕ) (m : Members) (g : Group) (lo : ℕ) → Pieces stack first (also m g) lo → numberAt stack first own needed (amount m) ≡ numberFor own needed (needs m) (spares m) g
   number-is own needed m g lo (p, q) =
-      let e : amount m - neededIn stack first (amount m) ≡ spares m = omega (arith, amount-is m, needed-is m lo p) in
+      let e : amount m - neededIn stack first (amount m) ≡ spares m = omega (arith, amount-both m, needed-is m lo p) in
       rw (e, needed-is m lo p) (ap (λ (a : Piece). cond (a .null) (own + needed + spares m) (own + needs m)) q)
 
 -- Numbers of members
@@ -136,7 +134,7 @@ pub record Joined (base : ℕ) (lasts : List ℕ) (groups own needed : ℕ) (m :
   pub len : length S ≡ length M
   pub put : (s v : ℕ) → Slot base lasts groups s v → hasM m v ≡ true → getD M s 0 ≡ 0 → getD S s 0 ≡ numberIn own needed m v + cond (lastM m v) 128 0
   pub other : (s v : ℕ) → Slot base lasts groups s v → hasM m v ≡ false → getD S s 0 ≡ getD M s 0
-  pub kept : (s v : ℕ) → Slot base lasts groups s v → 1 ≤ getD M s 0 → getD S s 0 ≡ getD M s 0
+  pub kept : Kept base lasts groups M S
   pub each : Each (λ (n : ℕ) (g : Group). (getD S (base + POSITIONS + n) 0 ≡ groups + 1) × (getD S (base + 2 * POSITIONS + n) 0 ≡ must g)) own needed m
   pub rest :
       (k : ℕ)
@@ -189,11 +187,11 @@ module _ (base : ℕ) (T lasts : List ℕ) (groups own needed : ℕ) where
             (has g v)
             (λ y.
             let r = has-range g lo n v y in
-            rw (y, no-lastM m v (not-left a y))
+            rw (y, without (lastM-has m v) (not-left a y))
             (p .taken s v is (r .0) (r .1) (j .other s v is (not-left a y) ∙ z) ∙ ap (λ (b : Bool). numberFor own needed (needs m) (spares m) g + cond b 128 0) (marks v y)))
             (λ y.
             let x = or-only (hasM m v) (has g v) y i in
-            rw (y, no-last g v y, or-no (lastM m v))
+            rw (y, without (last-has g v) y, or-no (lastM m v))
             (p .other s v is (λ c d. not-both y (range-has g lo n v c d)) ∙ j .put s v is x z));
         other = λ s v is i.
             let (x, y) = or-none (hasM m v) (has g v) i in
@@ -249,18 +247,13 @@ module _ (base : ℕ) (T lasts : List ℕ) (groups own needed : ℕ) where
         → (M : List ℕ)
         → base + 487 ≤ length M
         → Joined base lasts groups own needed m M (putOnes M base T lasts groups own stack first needed 0 (amount m))
-    unfolding putOnes
     joins (one g) lo n d high p marks l r M room =
-        let f : List ℕ → ℕ → List ℕ = λ S j. putOne S base T lasts groups own stack first needed j in
-        let e : each f M 0 1 ≡ f M 0 = each-more f M 0 1 (omega arith) ∙ each-none f (f M 0) (0 + 1) 1 (omega arith) in
-        let z : 0 - 0 ≡ 0 = omega arith in
         let to = number-to own needed 0 0 g (omega arith) (omega arith) in
-        rw e (joined-first g lo (pieceAt stack (first + 1) .lo) n marks to M (f M 0) (one-put M room 0 (pieceAt stack (first + 1) .lo) (numberFor own needed 0 0 g) g lo p refl (ap (λ (a : Piece). cond (a .null) (own + needed + 0) (own + 0)) p) to high))
+        rw (ones-first M base T lasts groups own stack first needed) (joined-first g lo (pieceAt stack (first + 1) .lo) n marks to M (putOne M base T lasts groups own stack first needed 0) (one-put M room 0 (pieceAt stack (first + 1) .lo) (numberFor own needed 0 0 g) g lo p refl (ap (λ (a : Piece). cond (a .null) (own + needed + 0) (own + 0)) p) to high))
     joins (also m g) lo (n, k) (d, c, a) high (p, q) (marks, mark) l r M room =
-        let f : List ℕ → ℕ → List ℕ = λ S j. putOne S base T lasts groups own stack first needed j in
-        let R = each f M 0 (amount m) in
+        let R = putOnes M base T lasts groups own stack first needed 0 (amount m) in
         let J : Joined base lasts groups own needed m M R = joins m lo n d (omega arith) p marks (omega arith) (omega arith) M room in
         let to = number-to own needed (needs m) (spares m) g l r in
         let away : otherAt stack first (amount m) ≡ pieceAt stack first .lo = rw (ne-eqb (amount m) 0 (λ e. omega (arith, amount-one m, e))) in
-        rw (each-last f M (amount m)) (joined-more m g (lo + sizeM m) (pieceAt stack first .lo) k a mark l r M R (f R (amount m)) J
+        rw (ones-last M base T lasts groups own stack first needed (amount m)) (joined-more m g (lo + sizeM m) (pieceAt stack first .lo) k a mark l r M R (putOne R base T lasts groups own stack first needed (amount m)) J
         (one-put R (omega (arith, J .len, room)) (amount m) (pieceAt stack first .lo) (numberFor own needed (needs m) (spares m) g) g (lo + sizeM m) q away (number-is stack first own needed m g lo (p, q)) to (omega arith)))

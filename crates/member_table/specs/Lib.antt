@@ -1,13 +1,13 @@
 -- How the table of the members of "&" groups is filled from a model's code, and that it then tells the members.
 pub mod Filling
 pub mod Counting
-pub mod Writes
+pub mod Putting
 pub mod Steps
 pub mod Beside
-pub mod Puts
 pub mod Joined
 pub mod Chains
-pub mod Running
+pub mod States
 pub mod Closing
 pub mod Fills
 pub mod Tells
+pub mod Others

@@ -1,8 +1,8 @@
 -- The table that is filled from a model's code and rows tells the members of its "&" groups.
-use Prim.Native.Nat.{ℕ, zero, suc, _+_, _-_, _*_, _≤_, _<_}
+use Prim.Native.Nat.{ℕ, zero, suc, _+_, _*_, _≤_, _<_}
 use mathlib.Core.Path.{_≡_, refl, sym, _∙_, ap, subst}
 use mathlib.Core.Bool.{Bool, true, false, cond}
-use mathlib.Core.Logic.{_⊎_, inl, inr}
+use mathlib.Core.Logic.{_⊎_, inl}
 use mathlib.Core.List.{List}
 use native.Mathlib.Omega.{arith}
 use lib.Dec.{eqb}
@@ -20,7 +20,7 @@ use Rattle.member_table.specs.Filling.{State, nonePiece, startFill, fill
 use Rattle.member_table.specs.Beside.{Rows, and-rows}
 use Rattle.member_table.specs.Joined.{rowsOf}
 use Rattle.member_table.specs.Chains.{baseOf, spells-chain}
-use Rattle.member_table.specs.Running.{runOps, run-in, Ready}
+use Rattle.member_table.specs.States.{runOps, run-in, Ready}
 use Rattle.member_table.specs.Fills.{Ran, runs, InPart}
 
 -- Every group has two members or more.

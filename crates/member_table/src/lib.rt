@@ -1,9 +1,7 @@
 // The members of a model's "&" groups, from its code: what the crate and_groups asks.
 //
-// Of each content: for each position the innermost member that holds the place, or 0, and 128 more where the place can end that member; for each member its
-// group; for each member the place that it requires at its start, or 0; for each group its first member, how many of its members cannot be nothing, how many
-// there are, and the innermost member that holds it, or 0, and 128 more where that member can end with this group. Groups count from 1 in the order
-// of their ")", so that an inner one comes before those around it; members count from 1, group after group, in each those that cannot be nothing first.
+// Groups count from 1 in the order of their ")", so that an inner one comes before those around it; members count from 1, group after group, in each those that
+// cannot be nothing first. What is kept of each says the crate member_entries.
 use layout::AND_GROUPS;
 use layout::CODE;
 use layout::ElementNo;
@@ -73,7 +71,7 @@ fn put_one(
     let w = numbers::wide(other.lo);
     let lo = numbers::wide(m.lo);
     let hi = numbers::wide(m.last) + 1;
-    member_places::put_member(
+    member_entries::put_member(
         members,
         base,
         table,
@@ -108,7 +106,7 @@ fn put_group(
     requires { ⌜ needed ≡ neededIn stack first k ⌝ }
     ensures { λ _. ⌜ now (members .exit) ≡ putGroup (now (members .entry)) base (now (table .entry)) lasts groups own stack first needed k ⌝ }
 {
-    member_places::put_record(members, base, groups, own, needed, k);
+    member_entries::put_record(members, base, groups, own, needed, k);
     for j in 0..k {
         put_one(
             members,

@@ -5,6 +5,7 @@ use layout::NAMES;
 use layout::POSITIONS;
 ghost use mathlib.Core.Path.{_≡_};
 ghost use mathlib.Core.Bool.{Bool, true, false, _||_};
+ghost use mathlib.Core.Logic.{_⊎_};
 ghost use Prim.Native.Nat.{ℕ, suc, _+_, _-_, _*_, _≤_, _<_};
 ghost use lib.ListN.{getD};
 ghost use Rattle.layout.specs.Sizes.{MODEL-ROW};
@@ -90,7 +91,7 @@ fn partner(
     requires { ⌜ (n ≤ 96) × (1 ≤ p) × (p ≤ n) ⌝ }
     requires { ⌜ ((x : ℕ) → 1 ≤ x → x ≤ n → getD (now keys) x 0 ≡ keyOf (now s) (placeIn (now names) (x - 1))) ⌝ }
     ensures { λ r. ⌜ ((F : ℕ → ℕ → Bool) → Tells (now (table .entry)) n code and F → r ≡ findFrom (faultIn (now (s .entry)) (now (names .entry)) F n p) (n - p) (suc p)) ⌝ }
-    ensures { λ r. ⌜ r ≤ n ⌝ }
+    ensures { λ r. ⌜ (r ≡ 0) ⊎ ((p < r) × (r ≤ n)) ⌝ }
 {
     if !same_names::shares_key(keys, n, p) {
         return 0;
@@ -123,7 +124,7 @@ pub fn first_pair(
 ) -> Pair
     requires { ⌜ n ≤ 96 ⌝ }
     ensures { λ r. ⌜ ((F : ℕ → ℕ → Bool) → Tells (now (table .entry)) n code and F → (r .first, r .second) ≡ searchPair (faultIn (now (s .entry)) (now (names .entry)) F n) n) ⌝ }
-    ensures { λ r. ⌜ (r .first ≤ n) × (r .second ≤ n) ⌝ }
+    ensures { λ r. ⌜ ((r .first ≡ 0) × (r .second ≡ 0)) ⊎ ((1 ≤ r .first) × (r .first < r .second) × (r .second ≤ n)) ⌝ }
 {
     let keys = same_names::keys_of(s, names, n);
     let mut p = 1;

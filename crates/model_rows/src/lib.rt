@@ -42,7 +42,7 @@ fn put_row(rows: &mut [u8; ROWS], e: ElementNo, table: &[u8; MODEL], u: Place, r
     requires { ⌜ (e .0 ≤ 64) × (u .0 ≤ 96) × (length (now rows) ≡ ROWS) × (getD (now table) (u .0 * 98 + 97) 0 ≤ 96) × (raise ≤ 128) ⌝ }
     ensures { λ _. ⌜ RowPut (now (table .entry)) (e .0) (u .0) raise (now (rows .entry)) (now (rows .exit)) ⌝ }
 {
-    let r = type_tables::row(e, u);
+    let r = row_search::row(e, u);
     let mut j = 0;
     while j < 12 {
         rows[r + j] = packed(table, u.0 * MODEL_ROW + 8 * j);

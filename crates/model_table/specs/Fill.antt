@@ -2,13 +2,13 @@
 -- The table has 97 rows of 98 numbers. Row 0 is the start, row u is after the place u; the places are 1 to 96.
 -- Column 0 is 1 where the content is complete, column p is 1 where the place p may come next, column 97 is the required place or 0.
 -- While a model is read, row 0 holds the places that can begin, and column 0 those that can end, the innermost finished group around them.
-use Prim.Native.Nat.{ℕ, _+_, _*_}
+use Prim.Native.Nat.{ℕ, _*_}
 use mathlib.Core.Bool.{Bool, _&&_, _||_, cond}
 use mathlib.Core.List.{List}
 use lib.ListN.{set, replicate}
-use Rattle.rules.specs.Walk.{Group, place, seq, alt, opt, plus, and, Members, one, also}
+use Rattle.rules.specs.Walk.{Group}
 use Rattle.layout.specs.Sizes.{MODEL-ROW, MODEL}
-use Rattle.model_sets.specs.Sets.{size, sizeM, nullable, must}
+use Rattle.model_sets.specs.Sets.{nullable, must}
 use Rattle.model_links.specs.Links.{link, settle, unbegin}
 use Rattle.model_table.specs.declared.Part.{Part}
 
@@ -60,24 +60,6 @@ finished T g = set (set T 0 (cond (g .nullable) 1 0)) 97 (g .required)
 abbrev pub partOf : Group → Part
 partOf g = part (nullable g) (must g)
 
--- what a group g whose places are numbered from lo does to the table
-abbrev mutual
-  pub fill : Group → ℕ → List ℕ → List ℕ
-  fill (place n) lo T = putPlace T n
-  fill (seq g h) lo T = joinSeq (fill h (lo + size g) (fill g lo T)) lo (lo + size g) (lo + size g + size h) (partOf g) (partOf h)
-  fill (alt g h) lo T = fill h (lo + size g) (fill g lo T)
-  fill (opt g) lo T = fill g lo T
-  fill (plus g) lo T = repeated (fill g lo T) lo (lo + size g)
-  fill (and m) lo T = fillM m lo T
-
-  pub fillM : Members → ℕ → List ℕ → List ℕ
-  fillM (one g) lo T = fill g lo T
-  fillM (also m g) lo T = joinAnd (fill g (lo + sizeM m) (fillM m lo T)) lo (lo + sizeM m) (lo + sizeM m + size g)
-
 -- the empty table
 abbrev pub blank : List ℕ
 blank = replicate MODEL 0
-
--- the table of a model whose places are numbered from 1
-abbrev pub tableOf : Group → List ℕ
-tableOf g = finished (fill g 1 blank) (partOf g)

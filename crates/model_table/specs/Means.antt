@@ -8,11 +8,11 @@ use native.Mathlib.Omega.{arith}
 use lib.ListN.{length, getD, set, replicate, length-set, length-replicate}
 use lib.Seq.{getD-set-same, getD-set-other}
 use borrow.Author.Tests.{eq-eqb}
-use Rattle.rules.specs.Walk.{Group, place, seq, alt, opt, plus, and, Members, one, also}
+use Rattle.rules.specs.Walk.{Group, place, seq, alt, plus}
 use Rattle.layout.specs.Sizes.{MODEL-ROW, MODEL-ROWS, MODEL}
-use Rattle.model_sets.specs.Sets.{size, sizeM, Numbered, NumberedM, has, nullable, first, last, follow, must, mustAfter, nextIn, completeIn, requiredIn}
+use Rattle.model_sets.specs.Sets.{size, Numbered, has, nullable, first, last, follow, must, mustAfter, nextIn, completeIn, requiredIn}
 use Rattle.model_links.specs.Links.{link, settle, unbegin}
-use Rattle.model_table.specs.Fill.{putPlace, closeEnds, closeStarts, joinSeq, joinAnd, partOf, finished, fill, fillM, blank, tableOf}
+use Rattle.model_table.specs.Fill.{putPlace, closeEnds, closeStarts, joinSeq, joinAnd, partOf, finished, blank}
 use Rattle.model_links.specs.Cells.{bit, below-or-from, Linked, linked, linked-same, linked-end, cond-and-false, Settled, settled, Unbegun, unbegun}
 use Rattle.model_table.specs.Places.{none-first, none-last, none-follow, has-under, has-over, has-inside}
 
@@ -433,34 +433,6 @@ module _ (g : Group) (lo : ℕ) (from : 1 ≤ lo) (to : lo + size g ≤ 97) (gn 
             ∙ s .requires u ge lt;
       }
 
-mutual
-  -- A fresh table filled with a numbered group says of its places what is computed of the group.
-  pub fills : (g : Group) (lo : ℕ) (T : List ℕ) → 1 ≤ lo → lo + size g ≤ 97 → Numbered g lo → Fresh lo T → Filled g lo T (fill g lo T)
-  fills (place n) lo T from to e t = placed n lo T from to e t
-  fills (seq g h) lo T from to e t =
-      let fg : Filled g lo T (fill g lo T) = fills g lo T from (omega arith) (e .0) t in
-      let fh : Filled h (lo + size g) (fill g lo T) (fill h (lo + size g) (fill g lo T)) =
-      fills h (lo + size g) (fill g lo T) (omega arith) (omega arith) (e .1) (fresh-after g lo T (fill g lo T) from t fg) in
-      sequence g h lo from (omega arith) (e .0) (e .1) T (fill h (lo + size g) (fill g lo T))
-      (both g h lo from (omega arith) (e .0) (e .1) T (fill g lo T) (fill h (lo + size g) (fill g lo T)) fg fh)
-  fills (alt g h) lo T from to e t =
-      let fg : Filled g lo T (fill g lo T) = fills g lo T from (omega arith) (e .0) t in
-      let fh : Filled h (lo + size g) (fill g lo T) (fill h (lo + size g) (fill g lo T)) =
-      fills h (lo + size g) (fill g lo T) (omega arith) (omega arith) (e .1) (fresh-after g lo T (fill g lo T) from t fg) in
-      both g h lo from (omega arith) (e .0) (e .1) T (fill g lo T) (fill h (lo + size g) (fill g lo T)) fg fh
-  fills (opt g) lo T from to e t = fills g lo T from to e t
-  fills (plus g) lo T from to e t = repeats g lo from to e T (fill g lo T) (fills g lo T from to e t)
-  fills (and m) lo T from to e t = fillsM m lo T from to e t
-
-  fillsM : (m : Members) (lo : ℕ) (T : List ℕ) → 1 ≤ lo → lo + sizeM m ≤ 97 → NumberedM m lo → Fresh lo T → Filled (and m) lo T (fillM m lo T)
-  fillsM (one g) lo T from to e t = fills g lo T from to e t
-  fillsM (also m g) lo T from to e t =
-      let fm : Filled (and m) lo T (fillM m lo T) = fillsM m lo T from (omega arith) (e .0) t in
-      let fg : Filled g (lo + sizeM m) (fillM m lo T) (fill g (lo + sizeM m) (fillM m lo T)) =
-      fills g (lo + sizeM m) (fillM m lo T) (omega arith) (omega arith) (e .1) (fresh-after (and m) lo T (fillM m lo T) from t fm) in
-      any-order (and m) g lo from (omega arith) (e .0) (e .1) T (fill g (lo + sizeM m) (fillM m lo T))
-      (both (and m) g lo from (omega arith) (e .0) (e .1) T (fillM m lo T) (fill g (lo + sizeM m) (fillM m lo T)) fm fg)
-
 zeros : (n k : ℕ) → _≡_ {A = ℕ} (getD (replicate n 0) k 0) 0
 zeros zero k = refl
 zeros (suc n) zero = refl
@@ -516,6 +488,7 @@ module _ (g : Group) (gn : Numbered g 1) (to : size g ≤ 96) (F : List ℕ) (f 
       getD-set-same Z 97 (must g) 0 (omega arith)
   required-in (suc u) le = as-filled (suc u * MODEL-ROW + 97) (omega arith) (omega arith) ∙ f .requires (suc u) (omega arith) (omega arith)
 
+  -- The table that was filled while a model was read says, once row 0 has its two columns, what is computed of the model.
   pub says : Says g (finished F (partOf g))
   unfolding Z
   says =
@@ -525,7 +498,3 @@ module _ (g : Group) (gn : Numbered g 1) (to : size g ≤ 96) (F : List ℕ) (f 
         complete = complete-in;
         required = required-in;
       }
-
--- The table that is filled while a model is read says what is computed of the model.
-pub table-says : (g : Group) → Numbered g 1 → size g ≤ 96 → Says g (tableOf g)
-table-says g gn to = says g gn to (fill g 1 blank) (fills g 1 blank (omega arith) (omega arith) gn (fresh-blank 1))

@@ -1,67 +1,61 @@
--- Open elements that stand for the same state are alike: the last places decide the marks.
+-- Open elements that stand for the same state are alike: the places taken decide the last of them and the marks.
 use Prim.Native.Nat.{ℕ, zero, suc, _<_}
-use mathlib.Core.Path.{_≡_, sym, _∙_, ap, ap₂}
+use mathlib.Core.Path.{_≡_, sym, _∙_, ap}
 use mathlib.Core.Bool.{Bool}
-use mathlib.Core.List.{List}
+use mathlib.Core.List.{List, [], _∷_}
 use native.Mathlib.Decide.{ℕ-discrete}
 use native.Mathlib.Omega.{arith}
 use lib.ListN.{length, getD}
+use Rattle.rules.specs.Walk.{lastOr0}
 use Rattle.rules.specs.TypeFile.{Element}
 use Rattle.rules.specs.Elements.{contentOf}
-use Rattle.rules.specs.Events.{Event}
 use Rattle.rules.specs.Settling.{State}
 use Rattle.rules.specs.Settling as rules
-use Rattle.model_sets.specs.Reach.{lastOr0}
-use Rattle.document_laws.specs.Decide.{isCompleteIn, requiredOf}
-use Rattle.turn_laws.specs.Last.{placed}
-use Rattle.turn_laws.specs.Short.{last-placed}
+use Rattle.rules_laws.specs.In.{All, more}
+use Rattle.document_laws.specs.Decide.{isCompleteIn, requiredFor}
+use Rattle.document_laws.specs.Same.{Begun, AllBegun}
+use Rattle.turn_laws.specs.Again.{last-is}
 use Rattle.open_elements.specs.declared.Entry.{Entry}
 use Rattle.open_elements.specs.declared.Open.{Open}
-use Rattle.open_elements.specs.Means.{none, opened, aroundOf, covered, stateOf, Marked, Stands}
-use Rattle.open_elements.specs.Laws.{around-length}
+use Rattle.open_elements.specs.Means.{none, covered, Kept, AllKept, Stands}
+use Rattle.open_elements.specs.Laws.{stands-deep}
 use Rattle.moments.specs.Means.{Alike}
 
 made : {e f p q : ℕ} {c d : Bool} {r t : ℕ} → e ≡ f → p ≡ q → c ≡ d → r ≡ t
     → _≡_ {A = Entry} (record { element = e; place = p; complete = c; required = r }) (record { element = f; place = q; complete = d; required = t })
 made a b c d = rw (a, b, c, d)
 
--- Entries of the same element at the same place have the same marks.
-module _ (es : List Element) (x y : Entry) (h : Marked es x) (j : Marked es y) (e : opened x ≡ opened y) where
-  element-same : x .element ≡ y .element
-  element-same = ap (λ (o : rules.Open). o .number) e
+module _ (es : List Element) (M : List ℕ) where
+  -- What is kept of an open element in which the places taken begin a walk.
+  kept-entry : {bits : List ℕ} {level : ℕ} (x : Entry) (o : rules.Open) → Kept es M bits level x o → Begun es o
+      → x ≡ record { element = o .number; place = lastOr0 (o .taken); complete = isCompleteIn (contentOf es (o .number)) (o .taken); required = requiredFor (contentOf es (o .number)) (o .taken) }
+  kept-entry x o h b =
+      let e = h .entered .number in
+      let place = last-is (o .taken) (x .place) (h .entered .stands (rw e at (b .has)) .last) in
+      made (sym e) (sym place) (h .complete ∙ ap (λ (k : ℕ). isCompleteIn (contentOf es k) (o .taken)) (sym e)) (h .required ∙ ap (λ (k : ℕ). requiredFor (contentOf es k) (o .taken)) (sym e))
 
-  place-same : x .place ≡ y .place
-  place-same = sym (last-placed (x .place)) ∙ ap (λ (o : rules.Open). lastOr0 (o .taken)) e ∙ last-placed (y .place)
+  entry-same : {bits other : List ℕ} {level deep : ℕ} (x y : Entry) (o : rules.Open) → Kept es M bits level x o → Kept es M other deep y o → Begun es o → x ≡ y
+  entry-same x y o h j b = kept-entry x o h b ∙ sym (kept-entry y o j b)
 
-  entry-same : x ≡ y
-  entry-same =
-      made element-same place-same (h .complete ∙ ap₂ (λ (k p : ℕ). isCompleteIn (contentOf es k) (placed p)) element-same place-same ∙ sym (j .complete))
-      (h .required ∙ ap₂ (λ (k p : ℕ). requiredOf (contentOf es k) (placed p)) element-same place-same ∙ sym (j .required))
+  -- Each of the first n entries is kept of the same open element.
+  each-same : (bits other : List ℕ) (a b : List Entry) (n : ℕ) (os : List rules.Open) → AllKept es M bits a n os → AllKept es M other b n os → All (Begun es) os → (k : ℕ) → k < n → getD a k none ≡ getD b k none
+  each-same bits other a b zero os h j g k l = absurd (omega arith)
+  each-same bits other a b (suc n) [] h j g k l = absurd h
+  each-same bits other a b (suc n) (o ∷ os) h j (more i g) k l = by-place (entry-same (getD a n none) (getD b n none) o (h .0) (j .0) i) (each-same bits other a b n os (h .1) (j .1) g k) (ℕ-discrete k n)
+    where
+      by-place : getD a n none ≡ getD b n none → (k < n → getD a k none ≡ getD b k none) → Dec (k ≡ n) → getD a k none ≡ getD b k none
+      by-place first rest (yes e) = rw e first
+      by-place first rest (no e) = rest (omega arith)
 
--- Each of the first n entries stands for the same open element.
-each-same : (a b : List Entry) (n : ℕ) → aroundOf a n ≡ aroundOf b n → (k : ℕ) → k < n → opened (getD a k none) ≡ opened (getD b k none)
-each-same a b zero e k l = absurd (omega arith)
-each-same a b (suc n) e k l =
-    let first : opened (getD a n none) ≡ opened (getD b n none) = cc in
-    let rest : aroundOf a n ≡ aroundOf b n = cc in
-    by-place first (each-same a b n rest k) (ℕ-discrete k n)
-  where
-    by-place : opened (getD a n none) ≡ opened (getD b n none) → (k < n → opened (getD a k none) ≡ opened (getD b k none)) → Dec (k ≡ n) → opened (getD a k none) ≡ opened (getD b k none)
-    by-place first rest (yes i) = rw i first
-    by-place first rest (no i) = rest (omega arith)
-
-pub stands-alike : {es : List Element} {o q : Open} → Stands es o → Stands es q → (ev : List Event) → stateOf o ev ≡ stateOf q ev → Alike o q
-stands-alike {es} {o} {q} h j ev e =
-    let counts : o .count ≡ q .count = sym (around-length o) ∙ ap (λ (z : State). length (z .around)) e ∙ around-length q in
-    let x = covered o in
-    let y = covered q in
-    let entry : x ≡ y = entry-same es x y (h .marked) (j .marked) (ap (λ (z : State). z .current) e) in
-    let all : aroundOf (o .around) (o .count) ≡ aroundOf (q .around) (o .count) = ap (λ (z : State). z .around) e ∙ ap (aroundOf (q .around)) (sym counts) in
+pub stands-alike : {es : List Element} {M bits other : List ℕ} {o q : Open} {z : State} → AllBegun es z → Stands es M bits o z → Stands es M other q z → Alike o q
+stands-alike {es} {M} {bits} {other} {o} {q} {z} b h j =
+    let counts : q .count ≡ o .count = sym (stands-deep j) ∙ stands-deep h in
+    let entry : covered o ≡ covered q = entry-same es M (covered o) (covered q) (z .current) (h .current) (j .current) (b .current) in
     record {
-      count = counts;
+      count = sym counts;
       element = ap (λ (v : Entry). v .element) entry;
       place = ap (λ (v : Entry). v .place) entry;
       complete = ap (λ (v : Entry). v .complete) entry;
       required = ap (λ (v : Entry). v .required) entry;
-      around = λ k l. entry-same es _ _ (h .kept k l) (j .kept k (omega arith)) (each-same (o .around) (q .around) (o .count) all k l);
+      around = λ k l. each-same es M bits other (o .around) (q .around) (o .count) (z .around) (h .around) (rw counts at (j .around)) (b .around) k l;
     }

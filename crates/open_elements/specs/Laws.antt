@@ -1,8 +1,8 @@
 -- Laws of the open elements: what the methods do to the rules' state that they stand for, and what stays in range.
-use Prim.Native.Nat.{ℕ, zero, suc, _+_, _-_, _*_, _≤_, _<_}
+use Prim.Native.Nat.{ℕ, zero, suc, _+_, _-_, _≤_, _<_}
 use mathlib.Core.Path.{_≡_, refl, ap, ap₂, sym, _∙_, subst}
 use mathlib.Core.Bool.{Bool, true, false}
-use mathlib.Core.List.{List, [], _∷_, _++_}
+use mathlib.Core.List.{List, [], _∷_}
 use native.Mathlib.Decide.{ℕ-discrete}
 use native.Mathlib.Numerals.{add-one}
 use native.Mathlib.Omega.{arith}
@@ -12,20 +12,20 @@ use lib.Dec.{eqb}
 use lib.Seq.{getD-set-same, getD-set-other}
 use Rattle.rules.specs.TypeFile.{Element}
 use Rattle.rules.specs.Events.{Event}
-use Rattle.rules.specs.Settling.{State, nothingOpen, takePlace, enter, shown, isOpen}
+use Rattle.rules.specs.Settling.{State, nothingOpen, enter, shown, isOpen}
 use Rattle.rules.specs.Settling as rules
 use Rattle.layout.specs.declared.Place.{Place}
 use Rattle.layout.specs.declared.ElementNo.{ElementNo}
 use Rattle.layout.specs.Typed.{placeNo, elementNo}
-use Rattle.document_laws.specs.Decide.{isCompleteIn, requiredFor}
+use Rattle.document_laws.specs.Decide.{isCompleteIn, requiredFor, decided}
 use Rattle.document_laws.specs.Moves.{state}
 use Rattle.document_laws.specs.Moves as moves
 use Rattle.and_groups.specs.Means.{Elsewhere}
-use Rattle.type_tables.specs.Means.{completeAt, requiredAt, Tables, Entered, CanTake}
-use Rattle.open_elements.specs.Owed.{required-small, entered-elsewhere, entered-fresh, fresh-complete, fresh-required}
+use Rattle.type_tables.specs.Means.{completeAt, requiredAt, Tables}
+use Rattle.open_elements.specs.Entered.{required-small, entered-elsewhere, entered-fresh, fresh-complete, fresh-required}
 use Rattle.open_elements.specs.declared.Entry.{Entry}
 use Rattle.open_elements.specs.declared.Open.{Open}
-use Rattle.open_elements.specs.Means.{none, fresh, covered, opening, parentOf, ended, aroundOf, bare, Within, Ranged, Kept, AllKept, Stands, Marking, Taking, Starting}
+use Rattle.open_elements.specs.Means.{none, fresh, covered, opening, parentOf, ended, aroundOf, bare, Within, Ranged, Kept, AllKept, Stands, Marking, Taking}
 
 -- What was read of the rows makes the state that `opening` gives.
 pub opening-by : (rows : List ℕ) (k : ElementNo) (o : Open) {x : Entry} {c : Bool} {q : Place} → x ≡ covered o → c ≡ completeAt rows (k .0) 0 → q .0 ≡ requiredAt rows (k .0) 0
@@ -137,6 +137,13 @@ module _ {es : List Element} {M begun : List ℕ} {o : Open} {z : State} (h : St
   -- As many are open as stand around the current one.
   pub stands-deep : length (z .around) ≡ o .count
   stands-deep = all-length es M begun (o .around) (o .count) (z .around) (h .around)
+
+  -- The marks of the current one, as the rules ask for them.
+  pub stands-complete : (s : List ℕ) → o .complete ≡ rules.isComplete s es (decided s es) (z .current)
+  stands-complete s = rw (h .current .entered .number) (h .current .complete)
+
+  pub stands-required : (s : List ℕ) → o .required .0 ≡ rules.requiredPlace s es (decided s es) (z .current)
+  stands-required s = rw (h .current .entered .number) (h .current .required)
 
   -- Where one is open, the current one is an element, and not the document itself.
   pub stands-element : 1 ≤ o .count → 1 ≤ o .element .0

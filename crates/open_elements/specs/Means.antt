@@ -120,6 +120,11 @@ pub record Stands (es : List Element) (M begun : List ℕ) (o : Open) (z : State
   pub current : Kept es M begun (o .count) (covered o) (z .current)
   pub around : AllKept es M begun (o .around) (o .count) (z .around)
 
+-- The marks that are left of those of a row, by what the groups around the place answer: 255 where none lacks a member.
+pub record Weighs (m : ℕ) (row : Bool) (kept : ℕ) (complete : Bool) (required : ℕ) : Type 0 where
+  pub held : (m ≡ 255 → ⊥) → (complete ≡ false) × (required ≡ m)
+  pub free : m ≡ 255 → (complete ≡ row) × (required ≤ 96) × ((n : ℕ) → kept ≡ 128 + n → n ≤ 96 → required ≡ n)
+
 -- The place p is taken at the level in the element e, after the place u, and these are its marks. The bits of the other levels are as they were; by the tables
 -- of a type the marks are what the definition says of the places taken.
 pub record Marking (rows M before : List ℕ) (level e u p : ℕ) (after : List ℕ) (complete : Bool) (required : ℕ) : Type 0 where

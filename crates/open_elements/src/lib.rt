@@ -5,12 +5,9 @@ use layout::Place;
 use layout::ROWS;
 ghost use mathlib.Core.Path.{_≡_};
 ghost use mathlib.Core.Bool.{true};
-ghost use mathlib.Core.List.{List};
-ghost use Prim.Native.Nat.{ℕ, _+_, _-_, _≤_, _<_};
-ghost use lib.ListN.{getD};
+ghost use Prim.Native.Nat.{ℕ, _+_, _≤_, _<_};
 ghost use Rattle.rules.specs.Settling.{shown, isOpen};
-ghost use Rattle.type_tables.specs.Means.{rowAt, completeAt};
-ghost use Rattle.open_elements.specs.Means.{entry, fresh, opening, ended, bare, Ranged, Marking, Taking, Starting};
+ghost use Rattle.open_elements.specs.Means.{entry, fresh, opening, ended, bare, Ranged, Weighs, Taking, Starting};
 
 // An open element, the place that was taken last in it, or 0, and its marks: whether its content is complete there, and
 // the place that is required, or 0. Each number is kept in a byte: `of` alone puts them there, and the methods alone read them.
@@ -60,25 +57,11 @@ pub fn place_shown(parent: ElementNo, place: Place) -> Place
     place
 }
 
-// The marks of the element e, whose model has an "&", where the place p is taken at the level after the place u. Its row has them, if no group lacks a
-// member: else the content is not complete, and the required place is that group's.
-//
-// It is called from two places, so that it stays out of line.
-fn among(
-    members: &[u8],
-    begun: &mut [u32; BEGUN],
-    level: usize,
-    e: ElementNo,
-    u: Place,
-    p: Place,
-    complete: bool,
-    kept: usize,
-) -> Marks
-    requires { ⌜ (level ≤ 24) × (e .0 ≤ 64) × (u .0 ≤ 96) × (p .0 ≤ 96) ⌝ }
-    ensures { λ r. ⌜ ((rows : List ℕ) → complete ≡ completeAt rows (e .0) (p .0) → kept ≡ getD rows (rowAt (e .0) (p .0) + 13) 0 → 96 < kept →
-        Marking rows (now (members .entry)) (now (begun .entry)) level (e .0) (u .0) (p .0) (now (begun .exit)) (r .complete) (r .required .0)) ⌝ }
+// The marks of an element whose model has an "&", where the row has these and the groups around the place answer m (`take` of and_groups): the row's, if no
+// group lacks a member; else the content is not complete, and m is required.
+fn weighed(m: usize, complete: bool, kept: usize) -> Marks
+    ensures { λ r. ⌜ Weighs m complete kept (r .complete) (r .required .0) ⌝ }
 {
-    let m = and_groups::take(members, begun, level, e, u, p);
     if m != 255 {
         let due = Place(m);
         return Marks {
@@ -93,17 +76,15 @@ fn among(
     }
 }
 
-// The required place that is kept 128 higher; 0 where none is.
+// The place that is kept 128 higher, or 0.
 fn lowered(kept: usize) -> Place
-    ensures { λ r. ⌜ (r .0 ≤ 96) × (kept ≤ 224 → r .0 ≡ kept - 128) ⌝ }
+    ensures { λ r. ⌜ (r .0 ≤ 96) × ((n : ℕ) → kept ≡ 128 + n → n ≤ 96 → r .0 ≡ n) ⌝ }
 {
-    if kept < 128 {
+    let n = kept % 128;
+    if 96 < n {
         return Place(0);
     }
-    if 224 < kept {
-        return Place(0);
-    }
-    Place(kept - 128)
+    Place(n)
 }
 
 impl Entry {
@@ -169,9 +150,10 @@ impl Open {
         let mut complete = type_tables::complete(rows, e, place);
         let mut required = Place(kept);
         if 96 < kept {
-            let m = among(members, begun, n, e, u, place, complete, kept);
-            complete = m.complete;
-            required = m.required;
+            let m = and_groups::take(members, begun, n, e, u, place);
+            let marks = weighed(m, complete, kept);
+            complete = marks.complete;
+            required = marks.required;
         }
         self.place = place;
         self.complete = complete;
@@ -220,9 +202,10 @@ impl Open {
         let mut complete = type_tables::complete(rows, e, place);
         let mut required = Place(kept);
         if 96 < kept {
-            let m = among(members, begun, n, e, u, place, complete, kept);
-            complete = m.complete;
-            required = m.required;
+            let m = and_groups::take(members, begun, n, e, u, place);
+            let marks = weighed(m, complete, kept);
+            complete = marks.complete;
+            required = marks.required;
         }
         self.place = place;
         self.complete = complete;

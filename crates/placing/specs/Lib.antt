@@ -1,4 +1,3 @@
 -- How a token takes its place.
 pub mod Noting
-pub mod Limits
 pub mod Places

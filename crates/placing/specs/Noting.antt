@@ -1,4 +1,4 @@
--- What follows once a token has its place, by the last places: what the contracts cite.
+-- What follows once a token has its place: what the contracts cite.
 use Prim.Native.Nat.{ℕ, zero, suc, _+_, _-_, _≤_, _<_}
 use mathlib.Core.Path.{_≡_}
 use mathlib.Core.Bool.{true, false}
@@ -8,13 +8,12 @@ use Rattle.rules.specs.Reading.{Reading, got, andThen}
 use Rattle.rules.specs.TypeFile.{Element}
 use Rattle.rules.specs.Elements.{contentOf, hasModel}
 use Rattle.rules.specs.Events.{startWritten, endOfEmpty, dataRun, Event}
-use Rattle.rules.specs.Settling.{State, placeTaken, enter, note, limited, fitting}
+use Rattle.rules.specs.Settling.{State, takePlace, placeTaken, enter, note, limited}
 use Rattle.document_laws.specs.Decide.{decided}
-use Rattle.turn_laws.specs.Last.{short, shortly}
-use Rattle.type_tables.specs.Means.{Tables}
+use Rattle.type_tables.specs.Means.{Tables, CanTake}
 use Rattle.open_elements.specs.declared.Open.{Open}
 use Rattle.open_elements.specs.declared.Outcome.{Outcome}
-use Rattle.open_elements.specs.Means.{stateOf, current, took, outcomeOf, Ranged, Stands}
+use Rattle.open_elements.specs.Means.{Becomes, Ranged, Stands}
 use Rattle.event_buffer.specs.Means.{Puts}
 use Rattle.ways.specs.declared.Way.{Way}
 use Rattle.ways.specs.Means.{tokenOf, placeOf}
@@ -38,20 +37,22 @@ writtenOf (suc k) p at after = startWritten (suc k) at after p ∷ endOfEmpty (s
 
 -- The place
 
--- The token, which has the place p in o, is noted, and opened if it is an element with a model, or refused.
-pub record Notes (es : List Element) (rows : List ℕ) (x at after p : ℕ) (o : Open) (events : List Event) (r : Outcome) : Type 0 where
-  pub comes : (before : List Event) (y : State) → short y ≡ stateOf (took rows p o) before → outcomeOf at (r .number) (stateOf (r .open) (before ++ events)) ≡ shortly (noting es x at after y)
-  pub stands : r .number ≡ 0 → Stands es (r .open)
+-- The open elements stand for what was read, and so many events are noted more than in z.
+abbrev pub Follows : (es : List Element) (M begun : List ℕ) (o : Open) (z : State) (events : List Event) → State → Type 0
+Follows es M begun o z events y = Stands es M begun o y × (y .events ≡ z .events ++ events)
 
--- The token takes its place by what was found, and is noted so; where it fits at none it is refused.
-pub record Places (rows places facts : List ℕ) (found : Way) (x at after n : ℕ) (o : Open) (numbers bytes : List ℕ) (r : Outcome) (numbers′ bytes′ : List ℕ) : Type 0 where
+-- The token takes its place by what was found, and is noted there, and opened if it is an element with a model, or refused; where it fits at none it is
+-- refused.
+pub record Places (rows places facts M begun : List ℕ) (found : Way) (x at after n : ℕ) (o : Open) (numbers bytes : List ℕ) (r : Outcome) (begun′ numbers′ bytes′ : List ℕ) : Type 0 where
   pub ranged : Ranged (r .open)
   pub small : r .number < 20
+  pub whole : length begun′ ≡ length begun
   pub events : List Event
   pub puts : Puts numbers bytes n events numbers′ bytes′
   pub counted : r .events ≡ n + length events
   pub few : length events ≤ 2
   pub p : ℕ
-  pub place : (s : List ℕ) (es : List Element) → Tables s es rows places facts → Stands es o → x ≤ length es → p ≡ placeOf (fitting s es (decided s es) (current o) (tokenOf x)) found
+  pub place : (s : List ℕ) (es : List Element) → Tables s es rows places facts M → o .element .0 ≤ length es → x ≤ length es → p ≡ placeOf (decided s es .fits (o .element .0) [] (tokenOf x)) found
   pub stuck : p ≡ 0 → r .number ≡ 12
-  pub notes : (p ≡ 0 → ⊥) → (s : List ℕ) (es : List Element) → Tables s es rows places facts → Stands es (took rows p o) → x ≤ length es → Notes es rows x at after p o events r
+  pub notes : (p ≡ 0 → ⊥) → (s : List ℕ) (es : List Element) → Tables s es rows places facts M → (z : State) → Stands es M begun o z → CanTake es (z .current) p → x ≤ length es
+      → Becomes at (r .number) (Follows es M begun′ (r .open) z events) (noting es x at after (takePlace p z))

@@ -61,11 +61,10 @@ pub fn placed(
     bytes: &mut [u8],
 ) -> Outcome
     requires { ⌜ Ranged state × (fitOf found ≤ 96) × (x .0 ≤ 64) × (at ≤ after) × (after < 4294967296) × (n + 2 < 4294967296) ⌝ }
-    ensures { λ r. ⌜ Places (now (rows .entry)) (now (places .entry)) (now (facts .entry)) found (x .0) at after n state (now (numbers .entry)) (now (bytes .entry)) r (now (numbers .exit)) (now (bytes .exit)) ⌝ }
+    ensures { λ r. ⌜ Places (now (rows .entry)) (now (places .entry)) (now (facts .entry)) (now (members .entry)) (now (begun .entry)) found (x .0) at after n state (now (numbers .entry)) (now (bytes .entry)) r (now (begun .exit)) (now (numbers .exit)) (now (bytes .exit)) ⌝ }
 {
     let e = state.element;
-    let u = state.place;
-    let p = ways::place_of(rows, places, facts, e, u, found, x);
+    let p = ways::place_of(rows, places, facts, e, found, x);
     if p.0 == 0 {
         return Outcome {
             open: state,

@@ -199,7 +199,7 @@ indicated-plain t repeated x = x
 indicated-plain t any x = x
 
 -- Of two positions the first is 0 where both are.
-earlier-none : (i j : ℕ) → earlier i j ≡ 0 → (i ≡ 0) × (j ≡ 0)
+pub earlier-none : (i j : ℕ) → earlier i j ≡ 0 → (i ≡ 0) × (j ≡ 0)
 earlier-none i j e = bool-cases (eqb i 0) (λ x. (eqb-true i 0 x, rw (x, earlier) at e)) (λ x. absurd (not-both x (eq-eqb i 0 (rw (x, earlier) at e))))
 
 member-guarded : (g h : Group) → Guarded g → Guarded h → Guarded (and (also (membersOf g) h))

@@ -32,7 +32,7 @@ pub fn token(
     bytes: &mut [u8],
 ) -> Outcome
     requires { ⌜ Ranged state × (x .0 ≤ 64) × (at ≤ after) × (after < 4294967296) × (n + 50 < 4294967296) ⌝ }
-    ensures { λ r. ⌜ Settles (now (rows .entry)) (now (places .entry)) (now (facts .entry)) (x .0) at after n state (now (numbers .entry)) (now (bytes .entry)) r (now (numbers .exit)) (now (bytes .exit)) ⌝ }
+    ensures { λ r. ⌜ Settles (now (rows .entry)) (now (places .entry)) (now (facts .entry)) (now (members .entry)) (x .0) at after n state (now (begun .entry)) (now (numbers .entry)) (now (bytes .entry)) r (now (begun .exit)) (now (numbers .exit)) (now (bytes .exit)) ⌝ }
 {
     if ways::is_over(state) {
         return Outcome {

@@ -197,7 +197,7 @@ fn put_element(
     };
     if d.kind == 0 {
         let none = Place(0);
-        rows[type_tables::row(e, none)] = 1;
+        rows[row_search::row(e, none)] = 1;
         return;
     }
     let n = d.places;

@@ -26,9 +26,9 @@ module _ (s elements : List ℕ) where
   step-refused from n k x r e q = rw (e, q) (refl, refl)
 
   pub step-onward : (from j : ℕ) (p : Progress) (es : List Element) (x : Reading Declared) (r : Step) → KeepsProgress s elements p es → x ≡ got (record { elements = es; at = j })
-      → r ≡ Read (record { at = j; count = p .count; clash = p .clash }) → from < j → j ≤ length s → MeetsStep s elements from r x
+      → r ≡ Read (record { at = j; count = p .count; clash = p .clash; repeated = p .repeated }) → from < j → j ≤ length s → MeetsStep s elements from r x
   step-onward from j p es x r k e q f l =
-      rw (e, q) (record { counted = k .counted; room = k .room; recorded = k .recorded; at-in = l; pending = k .pending }, refl, f)
+      rw (e, q) (record { counted = k .counted; room = k .room; recorded = k .recorded; at-in = l; repeated-at = k .repeated-at; pending = k .pending }, refl, f)
 
   pub step-back : (from to : ℕ) → from ≤ to → (r : Step) (x : Reading Declared) → MeetsStep s elements to r x → MeetsStep s elements from r x
   step-back from to l (Read p) (got d) m = (m .0, m .1, omega (arith, m .2))
@@ -97,7 +97,7 @@ module _ (s elements : List ℕ) (i : ℕ) (p : Progress) (es : List Element) (r
   comment-refused f g e q = rw (read, q, e) (refl, refl)
 
   pub comment-onward : (j : ℕ) (z : Step) → atDashes s (i + 2) ≡ true → r ≡ reachedAs.At j → reached r ≡ commentDeclaration s (i + 2) → KeepsProgress s elements p es
-      → z ≡ Read (record { at = j; count = p .count; clash = p .clash }) → MeetsStep s elements i z x
+      → z ≡ Read (record { at = j; count = p .count; clash = p .clash; repeated = p .repeated }) → MeetsStep s elements i z x
   comment-onward j z d e c k w =
       let l = comment-range s (i + 2) d j (sym c ∙ ap reached e) in
       step-onward s elements i j p es x z k (read ∙ rw e) w (omega arith) (l .1)

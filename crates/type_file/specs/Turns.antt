@@ -10,7 +10,7 @@ use Rattle.rules.specs.Settings.{Settings}
 use Rattle.rules.specs.Bytes.{separatorsEnd}
 use Rattle.rules.specs.Reading.{Reading, refused, got, andThen}
 use Rattle.rules.specs.TypeFile.{Element, Declared, declaration, declarationsWithin, typeFile}
-use Rattle.rules.specs.Judge.{records}
+use Rattle.rules.specs.Judge.{records, firstRepeated}
 use Rattle.text.specs.Laws.{separatorsEnd-from}
 use Rattle.text.specs.declared.Fault.{Fault}
 use Rattle.element_records.specs.declared.Progress.{Progress}
@@ -41,13 +41,13 @@ pub record ReadsOn (c : Settings) (s elements : List ℕ) (p : Progress) : Type 
   pub still : declarationsWithin c (suc turns) s (p .at) so-far ≡ typeFile c s
   pub enough : length s ≤ turns + p .at
 
-pub reads-start : (c : Settings) (s elements : List ℕ) → ReadsOn c s elements (record { at = 0; count = 0; clash = record { at = 0; first = 0; second = 0 } })
-unfolding typeFile records
+pub reads-start : (c : Settings) (s elements : List ℕ) → ReadsOn c s elements (record { at = 0; count = 0; clash = record { at = 0; first = 0; second = 0 }; repeated = 0 })
+unfolding typeFile records firstRepeated
 reads-start c s elements =
     record {
       so-far = [];
       turns = length s;
-      keeps = record { counted = refl; room = omega arith; recorded = refl; at-in = omega arith; pending = inl (refl, tt) };
+      keeps = record { counted = refl; room = omega arith; recorded = refl; at-in = omega arith; repeated-at = refl; pending = λ z. inl (refl, tt) };
       still = refl;
       enough = omega arith;
     }

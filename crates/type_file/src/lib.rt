@@ -53,7 +53,7 @@ fn keyword_at(
 
 // What p counts, read up to `at`.
 fn onward(p: Progress, at: usize) -> Step
-    ensures { λ r. ⌜ r ≡ Step.Read (record { at = at; count = p .count; clash = p .clash }) ⌝ }
+    ensures { λ r. ⌜ r ≡ Step.Read (record { at = at; count = p .count; clash = p .clash; repeated = p .repeated }) ⌝ }
 {
     let c = p.clash;
     Step::Read(Progress {

@@ -9,7 +9,7 @@ use Rattle.rules.specs.Settings.{Settings}
 use Rattle.rules.specs.Lent.{Lent, standing, room, filledWith, zeroed}
 use Rattle.rules.specs.Reading.{Reading, refused, got}
 use Rattle.rules.specs.TypeFile.{Element, typeFile}
-use Rattle.rules.specs.Judge.{Legible, Refuses, Accepts, malformed, ambiguous, noRoom, Judged, refuses, accepts, refusal, acceptance}
+use Rattle.rules.specs.Judge.{firstRepeated, Legible, Refuses, Accepts, malformed, repeated, ambiguous, noRoom, Judged, refuses, accepts, refusal, acceptance}
 use Rattle.numbers.specs.Laws.{records-length}
 use Rattle.text.specs.declared.Fault.{Fault}
 use Rattle.element_records.specs.declared.Clash.{Clash}
@@ -32,18 +32,22 @@ module _ (c : Settings) (s : List ℕ) (room : ℕ) (legible : Legible c s) wher
       by-reading (refused n k) y h = malformed legible n k y (rw (h .0, h .1))
       by-reading (got es) y h = absurd h
 
-  module _ (es : List Element) (y : typeFile c s ≡ got es) (x : Clash) where
+  -- an "&" is refused
+  pub decides-repeated : (es : List Element) → typeFile c s ≡ got es → (n : ℕ) → n ≡ firstRepeated es → (n ≡ 0 → ⊥) → Refuses c s room (refusal 25 n 0 0)
+  decides-repeated es y n e z = repeated legible es y (omega arith) (ap (λ (k : ℕ). refusal 25 k 0 0) e)
+
+  module _ (es : List Element) (y : typeFile c s ≡ got es) (none : firstRepeated es ≡ 0) (x : Clash) where
     pub decides-ambiguous : Pending s x es → (x .second ≡ 0 → ⊥) → Refuses c s room (refusal 9 (x .at) (x .first) (x .second))
     decides-ambiguous (inl h) z = absurd (z (h .0))
-    decides-ambiguous (inr h) z = ambiguous legible es y (x .at) (x .first) (x .second) (h .1) refl
+    decides-ambiguous (inr h) z = ambiguous legible es y none (x .at) (x .first) (x .second) (h .1) refl
 
     module _ (h : Pending s x es) (z : x .second ≡ 0) where
       pub decides-full : (n : ℕ) → n ≡ length es → room < 6 * n → Refuses c s room (refusal 19 0 0 0)
-      decides-full n e l = noRoom legible es y (none-so-far s x es z h) (rw e at l) refl
+      decides-full n e l = noRoom legible es y none (none-so-far s x es z h) (rw e at l) refl
 
       pub decides-accepted : (elements : List ℕ) (p : Progress) → KeepsProgress s elements p es → 6 * p .count ≤ room → Decides c s room elements (Accepted (p .count))
       decides-accepted elements p k l =
-          let all : Accepts c s es = record { legible = legible; elements = y; unambiguous = none-so-far s x es z h } in
+          let all : Accepts c s es = record { legible = legible; elements = y; unrepeated = none; unambiguous = none-so-far s x es z h } in
           (es, all, k .counted, rw (k .counted) at l, k .room, k .recorded)
 
 -- What the lent buffer holds after the verdict.

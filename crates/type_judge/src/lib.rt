@@ -34,11 +34,9 @@ pub fn decide_legible(c: Settings, s: &[u8], room: usize, elements: &mut [u32; R
     let clash = p.clash;
     let second = clash.second;
     let numbers = 6 * p.count;
-    if p.repeated != 0 {
-        return Verdict::Malformed(Fault {
-            number: 25,
-            at: p.repeated,
-        });
+    let at = p.repeated;
+    if at != 0 {
+        return Verdict::Malformed(Fault { number: 25, at: at });
     }
     if second != 0 {
         return Verdict::Ambiguous(clash);

@@ -17,6 +17,7 @@ use Rattle.model_sets.specs.Sets.{nextIn, completeIn, requiredIn}
 use Rattle.and_laws.specs.Sets.{Plain}
 use Rattle.member_laws.specs.Members.{Told, Standing}
 use Rattle.document_laws.specs.Decide.{search}
+pub use Rattle.row_search.specs.Means.{rowAt, bitOf}
 
 -- How many places the model of the element number e has; EMPTY has none.
 abbrev pub width : List Element → ℕ → ℕ
@@ -33,14 +34,6 @@ Declares es (start k) = (1 ≤ k) × (k ≤ length es)
 Declares es pcdata = Unit {0}
 
 -- The tables
-
--- Where the row of the element e after the place u begins.
-abbrev pub rowAt : (e u : ℕ) → ℕ
-rowAt e u = (e * POSITIONS + u) * ROW
-
--- Whether the bit k of a number is 1.
-abbrev pub bitOf : (b k : ℕ) → Bool
-bitOf b k = eqb (b / 2 ^ k % 2) 1
 
 -- A number that is a place, or 0: in the tables of a type no other stands where a place is kept.
 abbrev pub placeOr0 : ℕ → ℕ
@@ -75,6 +68,12 @@ raisedAt b (suc u) n = cond b (128 + n) n
 abbrev pub raisedPlace : Bool → ℕ → ℕ
 raisedPlace b zero = 0
 raisedPlace b (suc p) = cond b (128 + suc p) (suc p)
+
+-- q is the place that a number is which may be raised; 0 where it is none.
+pub record Lowered (p q : ℕ) : Type 0 where
+  pub small : q ≤ 96
+  pub low : p ≤ 96 → q ≡ p
+  pub high : (n : ℕ) → p ≡ 128 + n → n ≤ 96 → q ≡ n
 
 -- `raised` says of which elements the numbers are raised.
 pub record Rows (es : List Element) (raised : ℕ → Bool) (rows : List ℕ) : Type 0 where

@@ -1,48 +1,51 @@
--- What is asked of the tables of a type is in range: the width of a model, the last place taken, the place that is required.
+-- The models of a type that is accepted: numbered, guarded, of at most 96 places; what is required in them is one of their places.
 use Prim.Native.Nat.{ℕ, zero, suc, _+_, _≤_, _<_}
-use mathlib.Core.Path.{_≡_, refl, sym, _∙_, ap}
+use mathlib.Core.Path.{_≡_, refl, sym, _∙_, ap, subst}
 use mathlib.Core.Bool.{Bool, true, false, cond}
-use mathlib.Core.List.{List}
+use mathlib.Core.List.{List, []}
 use native.Mathlib.Omega.{arith}
 use lib.ListN.{length, getD}
 use lib.Dec.{eqb, leb}
 use borrow.Author.Tests.{le-leb, lt-leb, leb-true}
 use Rattle.rules.specs.Settings.{Settings}
-use Rattle.rules.specs.Walk.{Group}
-use Rattle.rules.specs.TypeFile.{Content, empty, model, Element}
+use Rattle.rules.specs.Walk.{Group, Begins}
+use Rattle.rules.specs.TypeFile.{Place, Content, empty, model, Element}
 use Rattle.rules.specs.Judge.{Accepts}
 use Rattle.rules.specs.Elements.{contentOf, placesIn}
-use Rattle.model_sets.specs.Sets.{size, Numbered, requiredIn}
-use Rattle.model_sets.specs.Reach.{lastOr0, next-sound}
-use Rattle.model_sets.specs.Must.{required-sound}
-use Rattle.model_sets.specs.Pairs.{next-range, row-begins}
-use Rattle.document_laws.specs.Decide.{requiredOf}
-use Rattle.turn_laws.specs.Last.{placed, InRange}
-use Rattle.turn_laws.specs.Short.{last-placed}
+use Rattle.model_sets.specs.Sets.{size, Numbered}
+use Rattle.and_laws.specs.Numbers.{Guarded}
+use Rattle.and_laws.specs.Begun.{requiredOf, required-of, next-range, begins-none}
+use Rattle.rules_laws.specs.Groups.{GuardedIn}
+use Rattle.document_laws.specs.Decide.{requiredFor, isCompleteIn, content-guarded}
+use Rattle.document_laws.specs.Numbers.{typeFile-guarded}
 use Rattle.type_laws.specs.Width.{typeFile-width}
-use Rattle.type_tables.specs.Means.{standing, width, rowAt, placeOr0, requiredAt, Rows}
+use Rattle.type_tables.specs.Means.{width, rowAt, placeOr0, completeRow, requiredRow, completeAt, requiredAt, Rows}
 
 -- A test that is kept as a number.
 pub one-if : (b : Bool) → eqb (cond b 1 0) 1 ≡ b
 one-if true = refl
 one-if false = refl
 
--- The last place taken is one of the model's, or 0.
-pub place-range : (es : List Element) (e u : ℕ) → InRange es (standing e u) → u ≤ width es e
-place-range es e u i = rw (last-placed u) at (i .place)
+-- One model
 
--- The place required in a row is one of the model's.
-required-range : (g : Group) → Numbered g 1 → (u : ℕ) → u ≤ size g → requiredIn g u ≤ size g
-required-range g numbered u l = go (requiredIn g u) refl
-  where
-    go : (p : ℕ) → requiredIn g u ≡ p → p ≤ size g
-    go zero e = omega arith
-    go (suc p) e =
-        let (s, b, z) = row-begins g numbered u l in
-        let (next, passed) = required-sound g 1 numbered (omega arith) s b (suc p) (ap (requiredIn g) z ∙ e) (omega arith) in
-        next-range g numbered (lastOr0 s) (suc p) (next-sound g 1 numbered (omega arith) s (suc p) next) .1
+-- The group is that of the element's model.
+pub record Modelled (es : List Element) (k : ℕ) (g : Group) : Type 0 where
+  pub numbered : Numbered g 1
+  pub guarded : Guarded g
+  pub few : size g ≤ 96
+  pub wide : size g ≡ width es k
 
 module _ {c : Settings} (s : List ℕ) (es : List Element) (accepted : Accepts c s es) (k : ℕ) where
+  pub modelled : {g : Group} {ps : List Place} {n : ℕ} → contentOf es k ≡ model g ps n → Modelled es k g
+  modelled {g} {ps} {n} e =
+      let (counted, few, numbered) = typeFile-width c s es (accepted .elements) k e in
+      record {
+        numbered = numbered;
+        guarded = subst GuardedIn e (content-guarded es (typeFile-guarded c s es (accepted .elements) (accepted .unrepeated)) k);
+        few = few;
+        wide = counted ∙ ap (λ (x : Content). length (placesIn x)) (sym e);
+      }
+
   pub width-most : width es k ≤ 96
   width-most = go (contentOf es k) refl
     where
@@ -50,15 +53,20 @@ module _ {c : Settings} (s : List ℕ) (es : List Element) (accepted : Accepts c
       go empty e = omega arith
       go (model g ps n) e = omega (arith, typeFile-width c s es (accepted .elements) k e)
 
-  pub required-most : (u : ℕ) → u ≤ width es k → requiredOf (contentOf es k) (placed u) ≤ width es k
-  unfolding requiredOf
-  required-most u = go (contentOf es k) refl
+  -- What is required after a beginning is one of the model's places.
+  pub required-most : (taken : List ℕ) → ((g : Group) (ps : List Place) (n : ℕ) → contentOf es k ≡ model g ps n → Begins g taken) → requiredFor (contentOf es k) taken ≤ width es k
+  unfolding requiredFor
+  required-most taken = go (contentOf es k) refl
     where
-      go : (x : Content) → contentOf es k ≡ x → u ≤ length (placesIn x) → requiredOf x (placed u) ≤ length (placesIn x)
-      go empty e l = omega arith
-      go (model g ps n) e l =
+      go : (x : Content) → contentOf es k ≡ x → ((g : Group) (ps : List Place) (n : ℕ) → contentOf es k ≡ model g ps n → Begins g taken) → requiredFor x taken ≤ length (placesIn x)
+      go empty e b = omega arith
+      go (model g ps n) e b =
           let (counted, few, numbered) = typeFile-width c s es (accepted .elements) k e in
-          rw last-placed (omega (arith, required-range g numbered u (omega arith)))
+          by (requiredOf g taken) refl numbered (modelled e .guarded) counted (b g ps n e)
+        where
+          by : (p : ℕ) → requiredOf g taken ≡ p → Numbered g 1 → Guarded g → size g ≡ length ps → Begins g taken → p ≤ length ps
+          by zero z numbered guarded counted b = omega arith
+          by (suc p) z numbered guarded counted b = omega (arith, next-range g numbered guarded taken (suc p) (required-of g numbered guarded taken b (suc p) (omega arith) .0 z .next))
 
 -- The number that is kept as a place
 
@@ -79,25 +87,22 @@ place-most n = by-test (leb n 96) refl
 pub required-small : (rows : List ℕ) (e u : ℕ) → requiredAt rows e u ≤ 96
 required-small rows e u = place-most (getD rows (rowAt e u + 13) 0)
 
--- In the rows of a type the required place is one of the model's.
-pub required-kept : {c : Settings} (s : List ℕ) (es : List Element) → Accepts c s es → (rows : List ℕ) → Rows es rows → (e u : ℕ) → e ≤ length es → u ≤ width es e → requiredAt rows e u ≡ requiredOf (contentOf es e) (placed u)
-required-kept s es accepted rows said e u d l =
-    let said-so = said .required e u d l in
-    kept-place (getD rows (rowAt e u + 13) 0) (omega (arith, said-so, required-most s es accepted e u l, width-most s es accepted e)) ∙ said-so
+-- At the start the rows decide.
+module _ {c : Settings} (s : List ℕ) (es : List Element) (accepted : Accepts c s es) (raised : ℕ → Bool) (rows : List ℕ) (said : Rows es raised rows) (e : ℕ) (declared : e ≤ length es) where
+  pub start-complete : completeAt rows e 0 ≡ isCompleteIn (contentOf es e) []
+  unfolding isCompleteIn
+  start-complete = said .complete e 0 declared (omega arith) ∙ go (contentOf es e)
+    where
+      go : (x : Content) → completeRow x 0 ≡ isCompleteIn x []
+      go empty = refl
+      go (model g ps n) = refl
 
--- What is read of the rows, at b, is the required place, also by the rules.
-module _ (rows : List ℕ) (e u r b : ℕ) (there : b ≡ rowAt e u) (read : r ≡ getD rows (b + 13) 0) where
-  abbrev RequiresAt : ℕ → Type 0
-  RequiresAt q = (q ≡ requiredAt rows e u) × ((c : Settings) (s : List ℕ) (es : List Element) → Accepts c s es → Rows es rows → InRange es (standing e u) → q ≡ requiredOf (contentOf es e) (placed u))
-
-  by-rows : (q : ℕ) → q ≡ requiredAt rows e u → RequiresAt q
-  by-rows q z = (z, λ c s es accepted said range. z ∙ required-kept s es accepted rows said e u (range .declared) (place-range es e u range))
-
-  read-there : getD rows (rowAt e u + 13) 0 ≡ r
-  read-there = rw (← there) (sym read)
-
-  pub requires-none : 96 < r → RequiresAt 0
-  requires-none l = by-rows 0 (sym (ap placeOr0 read-there ∙ no-place r l))
-
-  pub requires-some : r ≤ 96 → RequiresAt r
-  requires-some l = by-rows r (sym (ap placeOr0 read-there ∙ kept-place r l))
+  pub start-required : requiredAt rows e 0 ≡ requiredFor (contentOf es e) []
+  unfolding requiredFor
+  start-required =
+      let read = said .required e 0 declared (omega arith) ∙ go (contentOf es e) in
+      kept-place (getD rows (rowAt e 0 + 13) 0) (omega (arith, read, required-most s es accepted e [] (λ g ps n z. begins-none g), width-most s es accepted e)) ∙ read
+    where
+      go : (x : Content) → requiredRow x 0 ≡ requiredFor x []
+      go empty = refl
+      go (model g ps n) = refl

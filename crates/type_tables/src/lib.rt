@@ -23,7 +23,6 @@ use layout::LINK;
 use layout::PLACES;
 use layout::POSITIONS;
 use layout::Place;
-use layout::ROW;
 use layout::ROWS;
 ghost use mathlib.Core.Path.{_≡_};
 ghost use mathlib.Core.Bool.{Bool};
@@ -39,31 +38,14 @@ ghost use Rattle.rules.specs.Decisions as decisions;
 ghost use Rattle.layout.specs.Sizes.{POSITIONS};
 ghost use Rattle.document_laws.specs.Decide.{decided};
 ghost use Rattle.document_laws.specs.Moves.{fresh};
-ghost use Rattle.type_tables.specs.Means.{nameNumber, rowAt, bitOf, completeAt, requiredAt, Declares, Facts, Tables, Entered};
-
-// Where the row of the element e after the place u begins.
-pub fn row(e: ElementNo, u: Place) -> usize
-    requires { ⌜ (e .0 ≤ 64) × (u .0 ≤ 96) ⌝ }
-    ensures { λ r. ⌜ r ≡ rowAt (e .0) (u .0) ⌝ }
-{
-    (e.0 * POSITIONS + u.0) * ROW
-}
-
-// Whether the place p may come next in the element e after the place u; for 0, whether the content is complete.
-fn bit(rows: &[u8; ROWS], e: ElementNo, u: Place, p: Place) -> bool
-    requires { ⌜ (e .0 ≤ 64) × (u .0 ≤ 96) × (p .0 ≤ 96) ⌝ }
-    ensures { λ r. ⌜ r ≡ bitOf (getD (now (rows .entry)) (rowAt (e .0) (u .0) + p .0 / 8) 0) (p .0 % 8) ⌝ }
-{
-    let b = numbers::wide(rows[row(e, u) + p.0 / 8]);
-    (b >> (p.0 % 8)) % 2 == 1
-}
+ghost use Rattle.type_tables.specs.Means.{nameNumber, rowAt, completeAt, requiredAt, Declares, Lowered, Facts, Tables, Entered};
 
 // Whether the row of the element e after the place u has its content complete there.
 pub fn complete(rows: &[u8; ROWS], e: ElementNo, u: Place) -> bool
     requires { ⌜ (e .0 ≤ 64) × (u .0 ≤ 96) ⌝ }
     ensures { λ r. ⌜ r ≡ completeAt (now (rows .entry)) (e .0) (u .0) ⌝ }
 {
-    rows[row(e, u)] % 2 == 1
+    rows[row_search::row(e, u)] % 2 == 1
 }
 
 // What the row of the element e after the place u has for the required place, or 0; 128 more where the model has an "&" and u is a place.
@@ -71,7 +53,7 @@ pub fn kept(rows: &[u8; ROWS], e: ElementNo, u: Place) -> usize
     requires { ⌜ (e .0 ≤ 64) × (u .0 ≤ 96) ⌝ }
     ensures { λ r. ⌜ (r ≡ getD (now (rows .entry)) (rowAt (e .0) (u .0) + 13) 0) × (r ≤ 255) ⌝ }
 {
-    numbers::wide(rows[row(e, u) + 13])
+    numbers::wide(rows[row_search::row(e, u) + 13])
 }
 
 // The required place that the row of the element e after the place u has, or 0.
@@ -79,19 +61,11 @@ pub fn required(rows: &[u8; ROWS], e: ElementNo, u: Place) -> Place
     requires { ⌜ (e .0 ≤ 64) × (u .0 ≤ 96) ⌝ }
     ensures { λ r. ⌜ r .0 ≡ requiredAt (now (rows .entry)) (e .0) (u .0) ⌝ }
 {
-    let p = numbers::wide(rows[row(e, u) + 13]);
+    let p = numbers::wide(rows[row_search::row(e, u) + 13]);
     if 96 < p {
         return Place(0);
     }
     Place(p)
-}
-
-// The next smaller place of the same name.
-fn smaller(places: &[u8; PLACES], e: ElementNo, p: Place) -> Place
-    requires { ⌜ (e .0 ≤ 64) × (p .0 ≤ 96) ⌝ }
-    ensures { λ r. ⌜ r .0 ≡ getD (now (places .entry)) ((e .0 * POSITIONS + p .0) * 2 + 1) 0 ⌝ }
-{
-    Place(numbers::wide(places[(e.0 * POSITIONS + p.0) * LINK + 1]))
 }
 
 // Whether the start tag of the element e may be omitted. Of an element that is not declared, or where the tables are no type's, it is not
@@ -120,56 +94,6 @@ pub fn has_model(facts: &[u8; FACTS], e: ElementNo) -> bool
     facts[e.0 * FACT + 67] == 1
 }
 
-// The largest of the place p and the smaller ones of its name that some row has after the place u in the element e, or 0. They are linked downwards.
-fn largest(rows: &[u8; ROWS], places: &[u8; PLACES], e: ElementNo, u: Place, p: Place) -> Place {
-    let mut q = p;
-    while q.0 != 0 {
-        if bit(rows, e, u, q) {
-            return q;
-        }
-        let r = smaller(places, e, q);
-        if q.0 <= r.0 {
-            return Place(0);
-        }
-        q = r;
-    }
-    Place(0)
-}
-
-// The largest of the place p and the smaller ones of its name that may come next in the element e, whose model has an "&", after the place u at the
-// level, or 0.
-fn largest_among(
-    rows: &[u8; ROWS],
-    places: &[u8; PLACES],
-    members: &[u8],
-    begun: &[u32; BEGUN],
-    level: usize,
-    e: ElementNo,
-    u: Place,
-    p: usize,
-) -> Place {
-    if p < 128 {
-        return Place(0);
-    }
-    let mut q = Place(p - 128);
-    if 96 < q.0 {
-        return Place(0);
-    }
-    while q.0 != 0 {
-        if bit(rows, e, u, q) {
-            if and_groups::may_follow(members, begun, level, e, u, q) {
-                return q;
-            }
-        }
-        let r = smaller(places, e, q);
-        if q.0 <= r.0 {
-            return Place(0);
-        }
-        q = r;
-    }
-    Place(0)
-}
-
 // The place of the name x that may come next in the element e after the place u at the level, or 0.
 pub fn fitting(
     rows: &[u8; ROWS],
@@ -191,9 +115,9 @@ pub fn fitting(
     let name = x.0;
     let p = numbers::wide(facts[e.0 * FACT + name]);
     if 96 < p {
-        return largest_among(rows, places, members, begun, level, e, u, p);
+        return row_search::largest_among(rows, places, members, begun, level, e, u, p);
     }
-    largest(rows, places, e, u, Place(p))
+    row_search::largest(rows, places, e, u, Place(p))
 }
 
 // Whether data may come next in the element e after the place u at the level.
@@ -214,11 +138,27 @@ pub fn takes_data(
 {
     let p = numbers::wide(facts[e.0 * FACT]);
     if 96 < p {
-        let q = largest_among(rows, places, members, begun, level, e, u, p);
+        let q = row_search::largest_among(rows, places, members, begun, level, e, u, p);
         return q.0 != 0;
     }
-    let q = largest(rows, places, e, u, Place(p));
+    let q = row_search::largest(rows, places, e, u, Place(p));
     q.0 != 0
+}
+
+// The place that a number of the facts is, 128 higher where the model has an "&"; 0 where it is none.
+fn lowered(p: usize) -> Place
+    ensures { λ r. ⌜ Lowered p (r .0) ⌝ }
+{
+    if p <= 96 {
+        return Place(p);
+    }
+    if p < 128 {
+        return Place(0);
+    }
+    if 96 < p - 128 {
+        return Place(0);
+    }
+    Place(p - 128)
 }
 
 // The place of the name x that may come next at the start of the element e, or 0. Nothing has begun there, so the row decides.
@@ -235,18 +175,9 @@ pub fn fitting_first(
     ensures { λ r. ⌜ r .0 ≤ 96 ⌝ }
 {
     let name = x.0;
-    let mut p = numbers::wide(facts[e.0 * FACT + name]);
-    if 96 < p {
-        if p < 128 {
-            return Place(0);
-        }
-        p -= 128;
-        if 96 < p {
-            return Place(0);
-        }
-    }
+    let p = numbers::wide(facts[e.0 * FACT + name]);
     let none = Place(0);
-    largest(rows, places, e, none, Place(p))
+    row_search::largest(rows, places, e, none, lowered(p))
 }
 
 // The element whose start is to be inferred in the element e where the place p is required, or 0.

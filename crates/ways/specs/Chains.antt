@@ -14,13 +14,13 @@ use Rattle.rules.specs.Settling.{Open, elementOf, fitting, requiredPlace, infer
 use Rattle.layout.specs.declared.Place.{Place}
 use Rattle.layout.specs.Typed.{placeNo}
 use Rattle.document_laws.specs.Decide.{decided}
+use Rattle.document_laws.specs.Moves.{fresh}
 use Rattle.document_laws.specs.Same.{link}
 use Rattle.document_laws.specs.Chain.{chain-leads, chain-shortest}
 use Rattle.type_laws.specs.Names.{numberOf-range}
-use Rattle.turn_laws.specs.Last.{placed, InRange}
-use Rattle.type_tables.specs.Means.{standing, nameNumber, Declares, Tables, Requires}
+use Rattle.type_tables.specs.Means.{nameNumber, Declares, Tables, Entered}
 use Rattle.ways.specs.declared.Way.the-variants.{Taken, Inferred, Stuck}
-use Rattle.ways.specs.Means.{wayOf, chained}
+use Rattle.ways.specs.Means.{wayOf, chained, Requires}
 
 -- One turn of a chain
 
@@ -85,14 +85,14 @@ module _ (s : List ℕ) (es : List Element) (D : Decisions) where
     -- The chain among so many elements, whose first is c.
     unfoldable pub chainFrom : (left c : ℕ) → List ℕ
     chainFrom zero c = []
-    chainFrom (suc left) c = link c (fitting s es D (standing c 0) t) (chainFrom left (inferable s es D (standing c 0)))
+    chainFrom (suc left) c = link c (fitting s es D (fresh c) t) (chainFrom left (inferable s es D (fresh c)))
 
     chain-from : (n : ℕ) (o : Open) → chain s es D n t o ≡ chainFrom n (inferable s es D o)
     unfolding chain link chainFrom
     chain-from zero o = refl
     chain-from (suc n) o =
         let k = inferable s es D o in
-        ap (link k (fitting s es D (standing k 0) t)) (chain-from n (standing k 0))
+        ap (link k (fitting s es D (fresh k) t)) (chain-from n (fresh k))
 
     -- A chain that is found among n elements is found among more.
     chain-more : (n m : ℕ) → n ≤ m → (o : Open) (k : ℕ) (ks : List ℕ) → chain s es D n t o ≡ k ∷ ks → chain s es D m t o ≡ k ∷ ks
@@ -101,7 +101,7 @@ module _ (s : List ℕ) (es : List Element) (D : Decisions) where
     chain-more (suc n) zero l o k ks e = absurd (omega arith)
     chain-more (suc n) (suc m) l o k ks e =
         let j = inferable s es D o in
-        link-more j (fitting s es D (standing j 0) t) _ _ (λ i is. chain-more n m (omega arith) (standing j 0) i is) k ks e
+        link-more j (fitting s es D (fresh j) t) _ _ (λ i is. chain-more n m (omega arith) (fresh j) i is) k ks e
 
     -- A chain found among n elements has at most n.
     pub chain-most : (n : ℕ) (o : Open) → length (chain s es D n t o) ≤ n
@@ -109,7 +109,7 @@ module _ (s : List ℕ) (es : List Element) (D : Decisions) where
     chain-most zero o = omega arith
     chain-most (suc n) o =
         let k = inferable s es D o in
-        omega (arith, link-most k (fitting s es D (standing k 0) t) (chain s es D n t (standing k 0)), chain-most n (standing k 0))
+        omega (arith, link-most k (fitting s es D (fresh k) t) (chain s es D n t (fresh k)), chain-most n (fresh k))
 
     -- To look among more than there are finds no other.
     pub chain-enough : (n : ℕ) → length es ≤ n → (o : Open) → chain s es D n t o ≡ chain s es D (length es) t o
@@ -126,9 +126,6 @@ module _ (s : List ℕ) (es : List Element) (D : Decisions) where
 pub record Ahead (s : List ℕ) (es : List Element) (D : Decisions) (t : Token) (o : Open) (c n : ℕ) : Type 0 where
   pub within : c ≤ length es
   pub still : chained s es D t o ≡ past (n - 1) (chainFrom s es D t (65 - n) c)
-
-first-range : (es : List Element) (c : ℕ) → c ≤ length es → InRange es (standing c 0)
-first-range es c l = record { declared = l; place = omega arith }
 
 module _ (s : List ℕ) (es : List Element) (D : Decisions) (t : Token) (o : Open) (few : length es ≤ 64) where
   ahead-start : (c : ℕ) → c ≡ inferable s es D o → Ahead s es D t o c 1
@@ -148,7 +145,7 @@ module _ (s : List ℕ) (es : List Element) (D : Decisions) (t : Token) (o : Ope
   ahead-over l = let e : 65 - n ≡ 0 = omega arith in sym (h .still ∙ rw (e, chainFrom))
 
   -- one turn, where there is one
-  turn : (l : ℕ) → l ≡ 65 - n → 1 ≤ l → chained s es D t o ≡ past (n - 1) (link c (fitting s es D (standing c 0) t) (chainFrom s es D t (65 - (n + 1)) (inferable s es D (standing c 0))))
+  turn : (l : ℕ) → l ≡ 65 - n → 1 ≤ l → chained s es D t o ≡ past (n - 1) (link c (fitting s es D (fresh c) t) (chainFrom s es D t (65 - (n + 1)) (inferable s es D (fresh c))))
   unfolding chainFrom
   turn zero e i = absurd (omega arith)
   turn (suc l) e i =
@@ -158,20 +155,20 @@ module _ (s : List ℕ) (es : List Element) (D : Decisions) (t : Token) (o : Ope
   ahead-none : n ≤ 64 → c ≡ 0 → 0 ≡ chained s es D t o
   ahead-none l e = sym (turn _ refl (omega arith) ∙ rw e (past-none (n - 1) _ _))
 
-  ahead-found : n ≤ 64 → (c ≡ 0 → ⊥) → (fitting s es D (standing c 0) t ≡ 0 → ⊥) → n ≡ chained s es D t o
+  ahead-found : n ≤ 64 → (c ≡ 0 → ⊥) → (fitting s es D (fresh c) t ≡ 0 → ⊥) → n ≡ chained s es D t o
   ahead-found l i j = let e : (n - 1) + 1 ≡ n = omega arith in sym (turn _ refl (omega arith) ∙ past-found (n - 1) c _ _ (omega arith) (omega arith) ∙ e)
 
-  ahead-next : n ≤ 64 → (c ≡ 0 → ⊥) → fitting s es D (standing c 0) t ≡ 0 → (k : ℕ) → k ≡ inferable s es D (standing c 0) → Ahead s es D t o k (n + 1)
+  ahead-next : n ≤ 64 → (c ≡ 0 → ⊥) → fitting s es D (fresh c) t ≡ 0 → (k : ℕ) → k ≡ inferable s es D (fresh c) → Ahead s es D t o k (n + 1)
   ahead-next l i f k e =
       let m : (n - 1) + 1 ≡ n + 1 - 1 = omega arith in
       record {
-        within = rw e (inferable-most s es D (standing c 0));
+        within = rw e (inferable-most s es D (fresh c));
         still = turn _ refl (omega arith) ∙ rw (f, past-on (n - 1) c _ (omega arith), m, ← e);
       }
 
 -- The same in every type whose tables these are and where the place q is required, for the token whose name is x.
 pub record Looks (rows places facts : List ℕ) (e q x c n : ℕ) : Type 0 where
-  pub left : (s : List ℕ) (es : List Element) → Tables s es rows places facts → (u : ℕ) → Requires es e q u → (t : Token) → nameNumber t ≡ x → Declares es t → Ahead s es (decided s es) t (standing e u) c n
+  pub left : (s : List ℕ) (es : List Element) (M : List ℕ) → Tables s es rows places facts M → (o : Open) → Requires s es M e q o → (t : Token) → nameNumber t ≡ x → Declares es t → Ahead s es (decided s es) t o c n
 
 -- Where that is so of the first element of a chain, whatever requires it, it is so of the element c after n - 1 others.
 pub record Carries (rows places facts : List ℕ) (x first c n : ℕ) : Type 0 where
@@ -180,46 +177,49 @@ pub record Carries (rows places facts : List ℕ) (x first c n : ℕ) : Type 0 w
 -- The chain has so many starts, for the token whose name is x.
 abbrev Counts : (rows places facts : List ℕ) (e q x n : ℕ) → Type 0
 Counts rows places facts e q x n =
-    (s : List ℕ) (es : List Element) → Tables s es rows places facts → (u : ℕ) → Requires es e q u → (t : Token) → nameNumber t ≡ x → Declares es t → n ≡ chained s es (decided s es) t (standing e u)
+    (s : List ℕ) (es : List Element) (M : List ℕ) → Tables s es rows places facts M → (o : Open) → Requires s es M e q o → (t : Token) → nameNumber t ≡ x → Declares es t → n ≡ chained s es (decided s es) t o
 
 -- That token fits as the place p at the start of c, or p is 0.
 abbrev FitsFirst : (rows places facts : List ℕ) (c x p : ℕ) → Type 0
 FitsFirst rows places facts c x p =
-    (s : List ℕ) (es : List Element) → Tables s es rows places facts → InRange es (standing c 0) → (t : Token) → nameNumber t ≡ x → Declares es t → p ≡ decided s es .fits c (placed 0) t
+    (s : List ℕ) (es : List Element) (M : List ℕ) → Tables s es rows places facts M → c ≤ length es → (t : Token) → nameNumber t ≡ x → Declares es t → p ≡ decided s es .fits c [] t
 
 module _ (rows places facts : List ℕ) (e q x : ℕ) where
   pub looks-start : (c : ℕ)
-      → ((s : List ℕ) (es : List Element) (some : List ℕ) → Tables s es some places facts → (u : ℕ) → Requires es e q u → c ≡ inferable s es (decided s es) (standing e u))
+      → ((s : List ℕ) (es : List Element) (some M : List ℕ) → Tables s es some places facts M
+      → (o : Open) (begun : List ℕ) (level u : ℕ) → Entered es M begun level e u o → q ≡ requiredPlace s es (decided s es) o → c ≡ inferable s es (decided s es) o)
       → Looks rows places facts e q x c 1
-  looks-start c found = record { left = λ s es tables u requires t i d. ahead-start s es (decided s es) t (standing e u) (tables .few) c (found s es rows tables u requires) }
+  looks-start c found =
+      record { left = λ s es M tables o h t i d. ahead-start s es (decided s es) t o (tables .few) c (found s es rows M tables o (h .begun) (h .level) (h .place) (h .entered) (h .required)) }
 
   module _ (c n : ℕ) (h : Looks rows places facts e q x c n) where
     pub looks-over : 1 ≤ n → 64 < n → Counts rows places facts e q x 0
-    looks-over some l s es tables u requires t i d = ahead-over s es (decided s es) t (standing e u) c n some (h .left s es tables u requires t i d) l
+    looks-over some l s es M tables o requires t i d = ahead-over s es (decided s es) t o c n some (h .left s es M tables o requires t i d) l
 
     module _ (some : 1 ≤ n) (most : n ≤ 64) where
       pub looks-none : c ≡ 0 → Counts rows places facts e q x 0
-      looks-none z s es tables u requires t i d = ahead-none s es (decided s es) t (standing e u) c n some (h .left s es tables u requires t i d) most z
+      looks-none z s es M tables o requires t i d = ahead-none s es (decided s es) t o c n some (h .left s es M tables o requires t i d) most z
 
       module _ (there : c ≡ 0 → ⊥) (p : ℕ) (fits : FitsFirst rows places facts c x p) where
-        fitted : (s : List ℕ) (es : List Element) → Tables s es rows places facts → (u : ℕ) → Requires es e q u → (t : Token) → nameNumber t ≡ x → Declares es t → p ≡ fitting s es (decided s es) (standing c 0) t
-        fitted s es tables u requires t i d = fits s es tables (first-range es c (h .left s es tables u requires t i d .within)) t i d
-
         pub looks-found : (p ≡ 0 → ⊥) → Counts rows places facts e q x n
-        looks-found z s es tables u requires t i d =
-            ahead-found s es (decided s es) t (standing e u) c n some (h .left s es tables u requires t i d) most there (λ y. z (fitted s es tables u requires t i d ∙ y))
+        looks-found z s es M tables o requires t i d =
+            let a = h .left s es M tables o requires t i d in
+            ahead-found s es (decided s es) t o c n some a most there (λ y. z (fits s es M tables (a .within) t i d ∙ y))
 
-        pub looks-next : p ≡ 0 → (k : ℕ)
-            → ((s : List ℕ) (es : List Element) → Tables s es rows places facts → InRange es (standing c 0) → k ≡ inferable s es (decided s es) (standing c 0))
+        pub looks-next : p ≡ 0 → (k : ℕ) → ((s : List ℕ) (es : List Element) (M : List ℕ) → Tables s es rows places facts M → c ≤ length es → k ≡ inferable s es (decided s es) (fresh c))
             → Looks rows places facts e q x k (n + 1)
         looks-next z k found =
             record {
-              left = λ s es tables u requires t i d.
-                  let a = h .left s es tables u requires t i d in
-                  ahead-next s es (decided s es) t (standing e u) c n some a most there (sym (fitted s es tables u requires t i d) ∙ z) k (found s es tables (first-range es c (a .within)));
+              left = λ s es M tables o requires t i d.
+                  let a = h .left s es M tables o requires t i d in
+                  ahead-next s es (decided s es) t o c n some a most there (sym (fits s es M tables (a .within) t i d) ∙ z) k (found s es M tables (a .within));
             }
 
 -- What is answered of an element
+
+-- The element is that of the rules.
+pub fits-at : (s : List ℕ) {es : List Element} {M begun : List ℕ} {level e u : ℕ} {o : Open} (t : Token) → Entered es M begun level e u o → decided s es .fits e (o .taken) t ≡ fitting s es (decided s es) o t
+fits-at s {es} {o = o} t h = ap (λ k. decided s es .fits k (o .taken) t) (sym (h .number))
 
 pub way-taken : (p : Place) (f n : ℕ) → p .0 ≡ f → (p .0 ≡ 0 → ⊥) → Taken p ≡ wayOf f n
 way-taken p f n = by-number (p .0)

@@ -2,44 +2,47 @@
 use Prim.Native.Nat.{ℕ, suc, zero, _≤_, _<_}
 use mathlib.Core.Path.{_≡_, refl, sym, _∙_, ap}
 use mathlib.Core.Bool.{Bool, true, false, _&&_}
-use mathlib.Core.List.{List}
+use mathlib.Core.List.{List, [], _∷_}
 use native.Mathlib.Omega.{arith}
 use lib.Dec.{eqb, leb}
 use borrow.Author.Tests.{le-leb}
 use Rattle.rules.specs.TypeFile.{Element}
-use Rattle.rules.specs.Elements.{endO}
+use Rattle.rules.specs.Elements.{contentOf, endO}
 use Rattle.rules.specs.Decisions.{start}
-use Rattle.rules.specs.Events.{Event}
-use Rattle.rules.specs.Settling.{isOver}
-use Rattle.document_laws.specs.Decide.{decided}
+use Rattle.rules.specs.Settling.{State, isOver}
+use Rattle.rules.specs.Settling as rules
+use Rattle.document_laws.specs.Decide.{isCompleteIn, decided}
 use Rattle.type_tables.specs.Means.{Declares}
 use Rattle.open_elements.specs.declared.Open.{Open}
-use Rattle.open_elements.specs.Means.{stateOf, current, around, ended, Stands}
-use Rattle.open_elements.specs.Laws.{around-ended, around-none, stands-range, stands-element, parent-element, parent-document}
+use Rattle.open_elements.specs.Means.{ended, Stands}
+use Rattle.open_elements.specs.Laws.{stands-element, stands-around, stands-alone}
 use Rattle.ways.specs.Means.{mayEnd}
 
-module _ (s : List ℕ) {es : List Element} {o : Open} (stands : Stands es o) where
+-- By a parent, and by the number and the mark that are kept.
+ends-by : (s : List ℕ) (es : List Element) (v u : rules.Open) (us others : List rules.Open) {k j : ℕ} {b : Bool} → us ≡ u ∷ others → v .number ≡ k → u .number ≡ j → b ≡ isCompleteIn (contentOf es k) (v .taken)
+    → mayEnd s es (decided s es) v us ≡ b && (endO es k && leb 1 j)
+ends-by s es v u us others e i l m = rw (e, i, l, m)
+
+module _ (s : List ℕ) {es : List Element} {M begun : List ℕ} {o : Open} {z : State} (stands : Stands es M begun o z) where
   -- The document is over where nothing is open and its content is complete.
-  pub over-says : (before : List Event) → (eqb (o .element .0) 0 && o .complete) ≡ isOver s es (decided s es) (stateOf o before)
-  over-says before = ap (λ b. eqb (o .element .0) 0 && b) (stands .marked .complete)
+  pub over-says : (eqb (o .element .0) 0 && o .complete) ≡ isOver s es (decided s es) z
+  over-says = rw (stands .current .entered .number) (ap (λ b. eqb (o .element .0) 0 && b) (stands .current .complete))
 
-  -- Nothing is open: no end is inferred.
-  pub none-ends : o .count ≡ 0 → false ≡ mayEnd s es (decided s es) (current o) (around o)
-  none-ends z = rw (around-none o z)
+  -- What is open is an element of the type.
+  pub stands-declared : 1 ≤ o .count → Declares es (start (o .element .0))
+  stands-declared some = (stands-element stands some, stands .current .entered .declared)
 
-  module _ (some : 1 ≤ o .count) where
-    -- What is open is an element of the type.
-    pub stands-declared : Declares es (start (o .element .0))
-    stands-declared = (stands-element stands some, stands-range stands .declared)
+  -- An end is inferred by the marks, and if the parent is an element.
+  may-end : 1 ≤ o .count → mayEnd s es (decided s es) (z .current) (z .around) ≡ o .complete && (endO es (o .element .0) && leb 1 (ended o .element .0))
+  may-end some =
+      let a = stands-around stands some in
+      ends-by s es (z .current) (a .parent) (z .around) (a .others) (a .are) (stands .current .entered .number) (a .number) (stands .current .complete)
 
-    may-end : mayEnd s es (decided s es) (current o) (around o) ≡ o .complete && (endO es (o .element .0) && leb 1 (ended o .element .0))
-    may-end = rw (around-ended o some, stands .marked .complete)
-
-    pub incomplete-stays : o .complete ≡ false → false ≡ mayEnd s es (decided s es) (current o) (around o)
-    incomplete-stays e = sym (may-end ∙ rw e)
+  pub incomplete-stays : 1 ≤ o .count → o .complete ≡ false → false ≡ mayEnd s es (decided s es) (z .current) (z .around)
+  incomplete-stays some e = sym (may-end some ∙ rw e)
 
   -- Nothing is open but the document element: the document lies around it.
-  pub document-stays : o .count ≤ 1 → false ≡ mayEnd s es (decided s es) (current o) (around o)
+  pub document-stays : o .count ≤ 1 → false ≡ mayEnd s es (decided s es) (z .current) (z .around)
   document-stays l = by-count (o .count) refl
     where
       none : (b c : Bool) → b && (c && false) ≡ false
@@ -47,15 +50,17 @@ module _ (s : List ℕ) {es : List Element} {o : Open} (stands : Stands es o) wh
       none true false = refl
       none false c = refl
 
-      by-count : (n : ℕ) → o .count ≡ n → false ≡ mayEnd s es (decided s es) (current o) (around o)
-      by-count zero z = none-ends z
-      by-count (suc n) z =
-          let one : o .count ≡ 1 = omega arith in
-          sym (may-end (omega arith) ∙ rw (parent-document stands one) (none (o .complete) (endO es (o .element .0))))
+      by-count : (n : ℕ) → o .count ≡ n → false ≡ mayEnd s es (decided s es) (z .current) (z .around)
+      by-count zero e = rw (stands-alone stands e) refl
+      by-count (suc n) e =
+          let document : ended o .element .0 ≡ 0 = stands-around stands (omega arith) .stands [] .current .document (omega arith) in
+          sym (may-end (omega arith) ∙ rw document (none (o .complete) (endO es (o .element .0))))
 
   -- Any other element's parent is an element.
-  pub ends-in-parent : 1 < o .count → o .complete ≡ true → endO es (o .element .0) ≡ mayEnd s es (decided s es) (current o) (around o)
-  ends-in-parent l e = sym (may-end (omega arith) ∙ rw (e, le-leb 1 (ended o .element .0) (parent-element stands l)) (all (endO es (o .element .0))))
+  pub ends-in-parent : 1 < o .count → o .complete ≡ true → endO es (o .element .0) ≡ mayEnd s es (decided s es) (z .current) (z .around)
+  ends-in-parent l e =
+      let inner : 1 ≤ ended o .element .0 = stands-element (stands-around stands (omega arith) .stands []) (omega arith) in
+      sym (may-end (omega arith) ∙ rw (e, le-leb 1 (ended o .element .0) inner) (all (endO es (o .element .0))))
     where
       all : (b : Bool) → b && true ≡ b
       all true = refl

@@ -1,4 +1,4 @@
--- What settling asks of the current element, by counts and by the last place taken: what the contracts cite.
+-- What settling asks of the current element, by counts: what the contracts cite.
 use Prim.Native.Nat.{ℕ, zero, suc, _≤_}
 use mathlib.Core.Path.{_≡_, refl}
 use mathlib.Core.Bool.{Bool, false, _&&_}
@@ -13,9 +13,9 @@ use Rattle.rules.specs.Settling.{isComplete}
 use Rattle.rules.specs.Settling as rules
 use Rattle.layout.specs.Typed.{placeNo}
 use Rattle.document_laws.specs.Decide.{decided}
-use Rattle.type_tables.specs.Means.{nameNumber, Declares, Facts}
+use Rattle.type_tables.specs.Means.{nameNumber, Declares, Facts, Entered}
 use Rattle.open_elements.specs.declared.Open.{Open}
-use Rattle.open_elements.specs.Means.{current, around, Stands}
+use Rattle.open_elements.specs.Means.{Stands}
 use Rattle.ways.specs.declared.Way.{Way}
 use Rattle.ways.specs.declared.Way.the-variants.{Taken, Inferred, Stuck}
 
@@ -48,9 +48,18 @@ module _ (s : List ℕ) (es : List Element) (D : Decisions) where
   mayEnd o [] = false
   mayEnd o (u ∷ us) = isComplete s es D o && (endO es (o .number) && leb 1 (u .number))
 
+-- The element e stands for the rules' open element o, in which the place q is required, or none where q is 0.
+pub record Requires (s : List ℕ) (es : List Element) (M : List ℕ) (e q : ℕ) (o : rules.Open) : Type 0 where
+  pub begun : List ℕ
+  pub level : ℕ
+  pub place : ℕ
+  pub entered : Entered es M begun level e place o
+  pub required : q ≡ rules.requiredPlace s es (decided s es) o
+
 -- Whether the end of the current element is inferred.
 abbrev pub MayEnd : (facts : List ℕ) → Open → Bool → Type 0
-MayEnd facts o b = (s : List ℕ) (es : List Element) → Facts s es facts → Stands es o → b ≡ mayEnd s es (decided s es) (current o) (around o)
+MayEnd facts o b =
+    (s : List ℕ) (es : List Element) (raised : ℕ → Bool) → Facts s es raised facts → (M begun : List ℕ) (z : rules.State) → Stands es M begun o z → b ≡ mayEnd s es (decided s es) (z .current) (z .around)
 
 -- By what was found of the current element: how many starts are inferred, the place as which the token fits at once, and the place that is
 -- taken, or 0, where f is the place as which it fits after the starts.

@@ -11,18 +11,19 @@ use layout::Place;
 use layout::ROWS;
 use open_elements::Open;
 ghost use mathlib.Core.Path.{_≡_};
-ghost use mathlib.Core.Bool.{true, false, _&&_};
-ghost use mathlib.Core.List.{List};
+ghost use mathlib.Core.Bool.{Bool, true, false, _&&_};
+ghost use mathlib.Core.List.{List, []};
 ghost use Prim.Native.Nat.{ℕ, _≤_, _<_};
+ghost use lib.ListN.{length};
 ghost use lib.Dec.{eqb, leb};
 ghost use Rattle.rules.specs.TypeFile.{Element};
 ghost use Rattle.rules.specs.Elements.{contentOf, hasModel};
 ghost use Rattle.rules.specs.Decisions.{Token};
 ghost use Rattle.rules.specs.Decisions as decisions;
+ghost use Rattle.rules.specs.Settling as rules;
 ghost use Rattle.document_laws.specs.Decide.{decided};
-ghost use Rattle.turn_laws.specs.Last.{placed, InRange};
-ghost use Rattle.type_tables.specs.Means.{standing, nameNumber, Declares, Facts, Tables, Requires};
-ghost use Rattle.ways.specs.Means.{wayOf, chained, startsOf, fitOf, placeOf, MayEnd};
+ghost use Rattle.type_tables.specs.Means.{nameNumber, Declares, Facts, Tables, Entered};
+ghost use Rattle.ways.specs.Means.{wayOf, chained, startsOf, fitOf, placeOf, Requires, MayEnd};
 
 // What the current element has to say to a start tag or a data byte.
 pub enum Way {
@@ -44,8 +45,8 @@ fn chain(
     x: ElementNo,
 ) -> usize
     requires { ⌜ (e .0 ≤ 64) × (x .0 ≤ 64) ⌝ }
-    ensures { λ r. ⌜ ((s : List ℕ) (es : List Element) → Tables s es (now (rows .entry)) (now (places .entry)) (now (facts .entry)) → (u : ℕ) → Requires es (e .0) (q .0) u →
-        (t : Token) → nameNumber t ≡ x .0 → Declares es t → r ≡ chained s es (decided s es) t (standing (e .0) u)) ⌝ }
+    ensures { λ r. ⌜ ((s : List ℕ) (es : List Element) (M : List ℕ) → Tables s es (now (rows .entry)) (now (places .entry)) (now (facts .entry)) M →
+        (o : rules.Open) → Requires s es M (e .0) (q .0) o → (t : Token) → nameNumber t ≡ x .0 → Declares es t → r ≡ chained s es (decided s es) t o) ⌝ }
     ensures { λ r. ⌜ r ≤ 64 ⌝ }
 {
     let mut c = type_tables::startable(places, facts, e, q);
@@ -61,7 +62,7 @@ fn chain(
     0
 }
 
-// Steps 1 and 2 at the element e after the place u, where the place q is required.
+// Steps 1 and 2 at the element e after the place u at the level, where the place q is required.
 pub fn way_at(
     rows: &[u8; ROWS],
     places: &[u8; PLACES],
@@ -74,9 +75,10 @@ pub fn way_at(
     q: Place,
     x: ElementNo,
 ) -> Way
-    requires { ⌜ (e .0 ≤ 64) × (u .0 ≤ 96) × (x .0 ≤ 64) ⌝ }
-    ensures { λ r. ⌜ ((s : List ℕ) (es : List Element) → Tables s es (now (rows .entry)) (now (places .entry)) (now (facts .entry)) → Requires es (e .0) (q .0) (u .0) →
-        (t : Token) → nameNumber t ≡ x .0 → Declares es t → r ≡ wayOf (decided s es .fits (e .0) (placed (u .0)) t) (chained s es (decided s es) t (standing (e .0) (u .0)))) ⌝ }
+    requires { ⌜ (level ≤ 24) × (e .0 ≤ 64) × (u .0 ≤ 96) × (x .0 ≤ 64) ⌝ }
+    ensures { λ r. ⌜ ((s : List ℕ) (es : List Element) → Tables s es (now (rows .entry)) (now (places .entry)) (now (facts .entry)) (now (members .entry)) →
+        (o : rules.Open) → Entered es (now (members .entry)) (now (begun .entry)) level (e .0) (u .0) o → q .0 ≡ rules.requiredPlace s es (decided s es) o →
+        (t : Token) → nameNumber t ≡ x .0 → Declares es t → r ≡ wayOf (rules.fitting s es (decided s es) o t) (chained s es (decided s es) t o)) ⌝ }
     ensures { λ r. ⌜ (fitOf r ≤ 96) × (startsOf r ≤ 64) ⌝ }
 {
     let p = type_tables::fitting(rows, places, facts, members, begun, level, e, u, x);
@@ -118,20 +120,19 @@ pub fn starts_of(w: Way) -> usize
     }
 }
 
-// The place of x by what was found, in the element e after the place u, or 0 where nothing fits. Where starts were inferred, e is the
-// last that was started.
+// The place of x by what was found, in the element e, or 0 where nothing fits. Where starts were inferred, e is the last that was started, in
+// which nothing was taken.
 pub fn place_of(
     rows: &[u8; ROWS],
     places: &[u8; PLACES],
     facts: &[u8; FACTS],
     e: ElementNo,
-    u: Place,
     found: Way,
     x: ElementNo,
 ) -> Place
-    requires { ⌜ (e .0 ≤ 64) × (u .0 ≤ 96) × (x .0 ≤ 64) × (fitOf found ≤ 96) ⌝ }
-    ensures { λ r. ⌜ ((s : List ℕ) (es : List Element) → Tables s es (now (rows .entry)) (now (places .entry)) (now (facts .entry)) → InRange es (standing (e .0) (u .0)) →
-        (t : Token) → nameNumber t ≡ x .0 → Declares es t → r .0 ≡ placeOf (decided s es .fits (e .0) (placed (u .0)) t) found) ⌝ }
+    requires { ⌜ (e .0 ≤ 64) × (x .0 ≤ 64) × (fitOf found ≤ 96) ⌝ }
+    ensures { λ r. ⌜ ((s : List ℕ) (es : List Element) (M : List ℕ) → Tables s es (now (rows .entry)) (now (places .entry)) (now (facts .entry)) M → e .0 ≤ length es →
+        (t : Token) → nameNumber t ≡ x .0 → Declares es t → r .0 ≡ placeOf (decided s es .fits (e .0) [] t) found) ⌝ }
     ensures { λ r. ⌜ r .0 ≤ 96 ⌝ }
 {
     match found {
@@ -154,7 +155,7 @@ pub fn is_full(count: usize, x: ElementNo) -> bool
 // Whether x is an element with a model: it is open once it has started.
 pub fn opens(facts: &[u8; FACTS], x: ElementNo) -> bool
     requires { ⌜ x .0 ≤ 64 ⌝ }
-    ensures { λ r. ⌜ (x .0 ≡ 0 → r ≡ false) × ((s : List ℕ) (es : List Element) → Facts s es (now (facts .entry)) → Declares es (decisions.start (x .0)) → r ≡ hasModel (contentOf es (x .0))) ⌝ }
+    ensures { λ r. ⌜ (x .0 ≡ 0 → r ≡ false) × ((s : List ℕ) (es : List Element) (raised : ℕ → Bool) → Facts s es raised (now (facts .entry)) → Declares es (decisions.start (x .0)) → r ≡ hasModel (contentOf es (x .0))) ⌝ }
 {
     if x.0 == 0 {
         return false;

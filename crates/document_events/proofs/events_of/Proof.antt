@@ -12,65 +12,65 @@ use Rattle.document_events.proofs.events_of.Statement.{statement}
 use Rattle.document_events.proofs.events_of.Tie as tie
 
 abbrev Inv-loop : tie.InvT-loop
-Inv-loop long s elements index rows places facts classes d numbers₀ bytes₀ at₀ n₀ o₀ numbers bytes at n o =
-    Going (settings long) s elements index rows places facts d numbers₀ numbers bytes₀ bytes n at o
+Inv-loop long s elements index rows places facts members classes d numbers₀ bytes₀ at₀ n₀ o₀ begun₀ numbers bytes at n o begun =
+    Going (settings long) s elements index rows places facts members d begun numbers₀ numbers bytes₀ bytes n at o
 
 abbrev μ-loop : tie.MeasureT-loop
-μ-loop long s elements index rows places facts classes d numbers₀ bytes₀ at₀ n₀ o₀ numbers bytes at n o =
+μ-loop long s elements index rows places facts members classes d numbers₀ bytes₀ at₀ n₀ o₀ begun₀ numbers bytes at n o begun =
     length d - at
 
 new-requires : tie.Need-new-requires Inv-loop μ-loop
 new-requires c κs = search needs
 
 loop-holds : tie.Need-loop-holds Inv-loop μ-loop
-loop-holds c = going-start _ _ _ _ _ _ _ _ _ _ (c .new .ensures)
+loop-holds c = going-start _ _ _ _ _ _ _ _ _ _ _ _ (c .new .ensures)
 
 piece-at-requires : tie.Need-piece-at-requires Inv-loop μ-loop
 piece-at-requires c κs =
-    let g = c .before .before .before .loop .inv in
-    let p = c .before .before .before .before .before .before .before .before .before .pre in
-    (p .0, p .1, g .ranged .element, g .ranged .place, omega (arith, c .before .before .loop-test .taken), p .2)
+    let g = c .before .before .before .before .loop .inv in
+    let p = c .before .before .before .before .before .before .before .before .before .before .before .pre in
+    (p .0, p .1, g .ranged .few, g .ranged .element, g .ranged .place, omega (arith, c .before .before .before .loop-test .taken), p .2)
 
 enum-known-p : tie.Need-enum-known-p Inv-loop μ-loop
 enum-known-p c = search needs
 
 token-requires : tie.Need-token-requires Inv-loop μ-loop
 token-requires c κs =
-    let m = c .before .before .before .before .before in
-    let g = c .before .before .before .before .before .before .before .before .before .loop .inv in
-    let h = c .before .before .before .before .before .before .before .before .loop-test .taken in
-    token-asked g (omega (arith, h)) (m .piece-at .result) (m .piece-at .ensures .1) (m .piece-at .ensures .0) (c .before .before .before .before .before .before .before .before .before .before .before .before .before .before .before .pre .2) (c .before .before .before .p .given .1)
+    let m = c .before .before .before .before .before .before in
+    let g = c .before .before .before .before .before .before .before .before .before .before .before .loop .inv in
+    let h = c .before .before .before .before .before .before .before .before .before .before .loop-test .taken in
+    token-asked g (omega (arith, h)) (m .piece-at .result) (m .piece-at .ensures .1) (m .piece-at .ensures .0) (c .before .before .before .before .before .before .before .before .before .before .before .before .before .before .before .before .before .before .pre .2) (c .before .before .before .before .p .given .1)
 
 refusal-requires : tie.Need-refusal-requires Inv-loop μ-loop
 refusal-requires c κs = search needs
 
 same-length : tie.Need-same-length Inv-loop μ-loop
-same-length c = c .before .before .before .before .before .before .before .token .ensures .puts .numbers-kept ∙ c .before .before .before .before .before .before .before .before .before .before .before .before .before .before .before .before .before .loop .inv .numbers-same
+same-length c = c .before .before .before .before .before .before .before .token .ensures .puts .numbers-kept ∙ c .before .before .before .before .before .before .before .before .before .before .before .before .before .before .before .before .before .before .before .loop .inv .numbers-same
 
 same-length-2 : tie.Need-same-length-2 Inv-loop μ-loop
-same-length-2 c = c .before .before .before .before .before .before .before .token .ensures .puts .bytes-kept ∙ c .before .before .before .before .before .before .before .before .before .before .before .before .before .before .before .before .before .loop .inv .bytes-same
+same-length-2 c = c .before .before .before .before .before .before .before .token .ensures .puts .bytes-kept ∙ c .before .before .before .before .before .before .before .before .before .before .before .before .before .before .before .before .before .before .before .loop .inv .bytes-same
 
 returns : tie.Need-returns Inv-loop μ-loop
 returns c =
-    let m = c .before .before .before .before .before .before .before .before .before .before .before .before .before in
-    let g = c .before .before .before .before .before .before .before .before .before .before .before .before .before .before .before .before .before .loop .inv in
-    let h = c .before .before .before .before .before .before .before .before .before .before .before .before .before .before .before .before .loop-test .taken in
-    token-refuses g (omega (arith, h)) (m .piece-at .result) (m .piece-at .ensures .1) (m .piece-at .ensures .0) (c .before .before .before .before .before .before .before .before .before .before .before .p .given .1) (c .before .before .before .before .before .before .before .token .ensures) (c .before .if1 .taken) (c .refusal .ensures)
+    let m = c .before .before .before .before .before .before .before .before .before .before .before .before .before .before in
+    let g = c .before .before .before .before .before .before .before .before .before .before .before .before .before .before .before .before .before .before .before .loop .inv in
+    let h = c .before .before .before .before .before .before .before .before .before .before .before .before .before .before .before .before .before .before .loop-test .taken in
+    token-refuses g (omega (arith, h)) (m .piece-at .result) (m .piece-at .ensures .1) (m .piece-at .ensures .0) (c .before .before .before .before .before .before .before .before .before .before .before .before .p .given .1) (c .before .before .before .before .before .before .before .token .ensures) (c .before .if1 .taken) (c .refusal .ensures)
 
 loop-less : tie.Need-loop-less Inv-loop μ-loop
 loop-less c =
-    let m = c .before .before .before .before .before .before .before .before .before .before .before .before .before in
-    let g = c .before .before .before .before .before .before .before .before .before .before .before .before .before .before .before .before .before .loop .inv in
-    let h = c .before .before .before .before .before .before .before .before .before .before .before .before .before .before .before .before .loop-test .taken in
-    let r = token-range g (omega (arith, h)) (m .piece-at .result) (m .piece-at .ensures .1) (m .piece-at .ensures .0) (c .before .before .before .before .before .before .before .before .before .before .before .p .given .1) in
+    let m = c .before .before .before .before .before .before .before .before .before .before .before .before .before .before in
+    let g = c .before .before .before .before .before .before .before .before .before .before .before .before .before .before .before .before .before .before .before .loop .inv in
+    let h = c .before .before .before .before .before .before .before .before .before .before .before .before .before .before .before .before .before .before .loop-test .taken in
+    let r = token-range g (omega (arith, h)) (m .piece-at .result) (m .piece-at .ensures .1) (m .piece-at .ensures .0) (c .before .before .before .before .before .before .before .before .before .before .before .before .p .given .1) in
     omega (arith, h, r)
 
 loop-again : tie.Need-loop-again Inv-loop μ-loop
 loop-again c =
-    let m = c .before .before .before .before .before .before .before .before .before .before .before .before .before in
-    let g = c .before .before .before .before .before .before .before .before .before .before .before .before .before .before .before .before .before .loop .inv in
-    let h = c .before .before .before .before .before .before .before .before .before .before .before .before .before .before .before .before .loop-test .taken in
-    going-token g (omega (arith, h)) (m .piece-at .result) (m .piece-at .ensures .1) (m .piece-at .ensures .0) (c .before .before .before .before .before .before .before .before .before .before .before .p .given .1) (c .before .before .before .before .before .before .before .token .ensures) (c .before .if1 .left)
+    let m = c .before .before .before .before .before .before .before .before .before .before .before .before .before .before in
+    let g = c .before .before .before .before .before .before .before .before .before .before .before .before .before .before .before .before .before .before .before .loop .inv in
+    let h = c .before .before .before .before .before .before .before .before .before .before .before .before .before .before .before .before .before .before .loop-test .taken in
+    going-token g (omega (arith, h)) (m .piece-at .result) (m .piece-at .ensures .1) (m .piece-at .ensures .0) (c .before .before .before .before .before .before .before .before .before .before .before .before .p .given .1) (c .before .before .before .before .before .before .before .token .ensures) (c .before .if1 .left)
 
 enum-known-p-2 : tie.Need-enum-known-p-2 Inv-loop μ-loop
 enum-known-p-2 c = search needs
@@ -78,39 +78,39 @@ enum-known-p-2 c = search needs
 end-tag-requires : tie.Need-end-tag-requires Inv-loop μ-loop
 end-tag-requires c κs =
     let m = c .before .before .before .before .before in
-    let g = c .before .before .before .before .before .before .before .before .before .loop .inv in
-    let h = c .before .before .before .before .before .before .before .before .loop-test .taken in
-    end-asked g (omega (arith, h)) (m .piece-at .result) (m .piece-at .ensures .1) (m .piece-at .ensures .0) (c .before .before .before .before .before .before .before .before .before .before .before .before .before .before .before .pre .2) (c .before .before .before .p2 .given .1)
+    let g = c .before .before .before .before .before .before .before .before .before .before .loop .inv in
+    let h = c .before .before .before .before .before .before .before .before .before .loop-test .taken in
+    end-asked g (omega (arith, h)) (m .piece-at .result) (m .piece-at .ensures .1) (m .piece-at .ensures .0) (c .before .before .before .before .before .before .before .before .before .before .before .before .before .before .before .before .before .pre .2) (c .before .before .before .p2 .given .1)
 
 refusal-requires-2 : tie.Need-refusal-requires-2 Inv-loop μ-loop
 refusal-requires-2 c κs = search needs
 
 same-length-3 : tie.Need-same-length-3 Inv-loop μ-loop
-same-length-3 c = c .before .before .before .before .before .before .before .end-tag .ensures .brings .puts .numbers-kept ∙ c .before .before .before .before .before .before .before .before .before .before .before .before .before .before .before .before .before .loop .inv .numbers-same
+same-length-3 c = c .before .before .before .before .before .before .before .end-tag .ensures .brings .puts .numbers-kept ∙ c .before .before .before .before .before .before .before .before .before .before .before .before .before .before .before .before .before .before .loop .inv .numbers-same
 
 same-length-4 : tie.Need-same-length-4 Inv-loop μ-loop
-same-length-4 c = c .before .before .before .before .before .before .before .end-tag .ensures .brings .puts .bytes-kept ∙ c .before .before .before .before .before .before .before .before .before .before .before .before .before .before .before .before .before .loop .inv .bytes-same
+same-length-4 c = c .before .before .before .before .before .before .before .end-tag .ensures .brings .puts .bytes-kept ∙ c .before .before .before .before .before .before .before .before .before .before .before .before .before .before .before .before .before .before .loop .inv .bytes-same
 
 returns-2 : tie.Need-returns-2 Inv-loop μ-loop
 returns-2 c =
     let m = c .before .before .before .before .before .before .before .before .before .before .before .before .before in
-    let g = c .before .before .before .before .before .before .before .before .before .before .before .before .before .before .before .before .before .loop .inv in
-    let h = c .before .before .before .before .before .before .before .before .before .before .before .before .before .before .before .before .loop-test .taken in
+    let g = c .before .before .before .before .before .before .before .before .before .before .before .before .before .before .before .before .before .before .loop .inv in
+    let h = c .before .before .before .before .before .before .before .before .before .before .before .before .before .before .before .before .before .loop-test .taken in
     end-tag-refuses g (omega (arith, h)) (m .piece-at .result) (m .piece-at .ensures .1) (m .piece-at .ensures .0) (c .before .before .before .before .before .before .before .before .before .before .before .p2 .given .1) (c .before .before .before .before .before .before .before .end-tag .ensures) (c .before .if2 .taken) (c .refusal2 .ensures)
 
 loop-less-2 : tie.Need-loop-less-2 Inv-loop μ-loop
 loop-less-2 c =
     let m = c .before .before .before .before .before .before .before .before .before .before .before .before .before in
-    let g = c .before .before .before .before .before .before .before .before .before .before .before .before .before .before .before .before .before .loop .inv in
-    let h = c .before .before .before .before .before .before .before .before .before .before .before .before .before .before .before .before .loop-test .taken in
+    let g = c .before .before .before .before .before .before .before .before .before .before .before .before .before .before .before .before .before .before .loop .inv in
+    let h = c .before .before .before .before .before .before .before .before .before .before .before .before .before .before .before .before .before .loop-test .taken in
     let r = end-range g (omega (arith, h)) (m .piece-at .result) (m .piece-at .ensures .1) (m .piece-at .ensures .0) (c .before .before .before .before .before .before .before .before .before .before .before .p2 .given .1) in
     omega (arith, h, r)
 
 loop-again-2 : tie.Need-loop-again-2 Inv-loop μ-loop
 loop-again-2 c =
     let m = c .before .before .before .before .before .before .before .before .before .before .before .before .before in
-    let g = c .before .before .before .before .before .before .before .before .before .before .before .before .before .before .before .before .before .loop .inv in
-    let h = c .before .before .before .before .before .before .before .before .before .before .before .before .before .before .before .before .loop-test .taken in
+    let g = c .before .before .before .before .before .before .before .before .before .before .before .before .before .before .before .before .before .before .loop .inv in
+    let h = c .before .before .before .before .before .before .before .before .before .before .before .before .before .before .before .before .before .loop-test .taken in
     going-end g (omega (arith, h)) (m .piece-at .result) (m .piece-at .ensures .1) (m .piece-at .ensures .0) (c .before .before .before .before .before .before .before .before .before .before .before .p2 .given .1) (c .before .before .before .before .before .before .before .end-tag .ensures) (c .before .if2 .left)
 
 enum-known-p-3 : tie.Need-enum-known-p-3 Inv-loop μ-loop
@@ -119,36 +119,36 @@ enum-known-p-3 c = search needs
 loop-less-3 : tie.Need-loop-less-3 Inv-loop μ-loop
 loop-less-3 c =
     let m = c .before .before .before in
-    let g = c .before .before .before .before .before .before .before .loop .inv in
-    let h = c .before .before .before .before .before .before .loop-test .taken in
+    let g = c .before .before .before .before .before .before .before .before .loop .inv in
+    let h = c .before .before .before .before .before .before .before .loop-test .taken in
     let r = passed-range g (omega (arith, h)) (m .piece-at .result) (m .piece-at .ensures .1) (m .piece-at .ensures .0) (c .before .p3 .given .1) in
     omega (arith, h, r)
 
 loop-again-3 : tie.Need-loop-again-3 Inv-loop μ-loop
 loop-again-3 c =
     let m = c .before .before .before in
-    let g = c .before .before .before .before .before .before .before .loop .inv in
-    let h = c .before .before .before .before .before .before .loop-test .taken in
+    let g = c .before .before .before .before .before .before .before .before .loop .inv in
+    let h = c .before .before .before .before .before .before .before .loop-test .taken in
     going-passed g (omega (arith, h)) (m .piece-at .result) (m .piece-at .ensures .1) (m .piece-at .ensures .0) (c .before .p3 .given .1)
 
 enum-known-p-4 : tie.Need-enum-known-p-4 Inv-loop μ-loop
 enum-known-p-4 c = search needs
 
 same-length-5 : tie.Need-same-length-5 Inv-loop μ-loop
-same-length-5 c = c .before .before .before .before .before .before .before .loop .inv .numbers-same
+same-length-5 c = c .before .before .before .before .before .before .before .before .loop .inv .numbers-same
 
 same-length-6 : tie.Need-same-length-6 Inv-loop μ-loop
-same-length-6 c = c .before .before .before .before .before .before .before .loop .inv .bytes-same
+same-length-6 c = c .before .before .before .before .before .before .before .before .loop .inv .bytes-same
 
 returns-3 : tie.Need-returns-3 Inv-loop μ-loop
 returns-3 c =
     let m = c .before .before .before in
-    let g = c .before .before .before .before .before .before .before .loop .inv in
-    let h = c .before .before .before .before .before .before .loop-test .taken in
+    let g = c .before .before .before .before .before .before .before .before .loop .inv in
+    let h = c .before .before .before .before .before .before .before .loop-test .taken in
     piece-refuses g (omega (arith, h)) (m .piece-at .result) (m .piece-at .ensures .1) (c .before .p4 .given .1)
 
 finish-requires : tie.Need-finish-requires Inv-loop μ-loop
-finish-requires c κs = finish-asked (c .before .before .before .loop .inv) (omega (arith, c .before .before .loop-test .left)) (c .before .before .before .before .before .before .before .before .before .pre .2)
+finish-requires c κs = finish-asked (c .before .before .before .loop .inv) (omega (arith, c .before .before .loop-test .left)) (c .before .before .before .before .before .before .before .before .before .before .pre .2)
 
 refusal-requires-3 : tie.Need-refusal-requires-3 Inv-loop μ-loop
 refusal-requires-3 c κs = search needs
@@ -169,7 +169,7 @@ same-length-10 : tie.Need-same-length-10 Inv-loop μ-loop
 same-length-10 c = c .before .before .before .before .before .before .finish .ensures .brings .puts .bytes-kept ∙ c .before .before .before .before .before .before .before .before .before .before .loop .inv .bytes-same
 
 returns-5 : tie.Need-returns-5 Inv-loop μ-loop
-returns-5 c = end-counts (c .before .before .before .before .before .before .before .before .before .before .loop .inv) (omega (arith, c .before .before .before .before .before .before .before .before .before .loop-test .left)) (c .before .before .before .before .before .before .finish .ensures) (c .before .before .before .before .before .before .before .before .before .before .before .before .before .before .before .before .pre .2) (c .if3 .left)
+returns-5 c = end-counts (c .before .before .before .before .before .before .before .before .before .before .loop .inv) (omega (arith, c .before .before .before .before .before .before .before .before .before .loop-test .left)) (c .before .before .before .before .before .before .finish .ensures) (c .before .before .before .before .before .before .before .before .before .before .before .before .before .before .before .before .before .pre .2) (c .if3 .left)
 
 pub events-of-spec : {M : Type 1} → statement M
 events-of-spec =

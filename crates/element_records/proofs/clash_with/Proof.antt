@@ -1,38 +1,38 @@
 -- `clash_with` meets its contract: a pair found before stays, EMPTY has none, and the search finds the first of a model.
-use Prim.Native.Nat.{_≤_, _<_}
+use Prim.Native.Nat.{ℕ, _≤_, _<_}
+use mathlib.Core.Path.{_≡_}
+use mathlib.Core.Logic.{⊎-elim}
 use native.Mathlib.Omega.{arith}
-use Rattle.element_records.specs.Clashes.{pending-kept, pending-clear, pending-first, content-empty, content-none, content-pair, answer-in}
+use borrow.Author.Tests.{not-false, eqb-true}
+use Rattle.element_records.specs.Clashes.{pending-kept, pending-clear, pending-first, content-empty, content-none, content-pair}
 use Rattle.element_records.proofs.clash_with.Statement.{statement}
 use Rattle.element_records.proofs.clash_with.Tie as tie
 
+-- Where a pair is found, its places are those of the model.
+places-in : (c : tie.Else4) → (1 ≤ c .before .first-pair .result .first) × (c .before .first-pair .result .first < c .before .first-pair .result .second) × (c .before .first-pair .result .second ≤ 96)
+places-in c = ⊎-elim (λ z. absurd (c .if4 .left (z .1))) (λ w. omega (arith, w, c .before .before .before .before .before .before .before .before .before .before .pre (c .before .before .before .before .before .if2 .left))) (c .before .first-pair .ensures .1)
+
 returns : tie.Need-returns
-returns c es x h k =
+returns c es x h k z =
     let a = c .before .before .before .args in
     pending-kept (a .s .now) (a .c) es x (λ z. omega (arith, z, c .if1 .taken)) h
 
 returns-2 : tie.Need-returns-2
-returns-2 c es x h k =
+returns-2 c es x h k z =
     let a = c .before .before .before .before .before .args in
-    pending-clear (a .s .now) (a .c) es x h (content-empty (a .s .now) _ _ _ _ _ x (c .if2 .taken) k)
-
-first-pair-requires : tie.Need-first-pair-requires
-first-pair-requires c κs = c .before .before .before .before .before .pre (c .if2 .left)
+    pending-clear (a .s .now) (a .c) es x h (content-empty (a .s .now) _ _ _ _ _ _ _ _ x (c .if2 .taken) k)
 
 returns-3 : tie.Need-returns-3
-returns-3 c es x h k =
-    let a = c .before .before .before .before .before .before .before .args in
-    pending-clear (a .s .now) (a .c) es x h
-    (content-none (a .s .now) (a .names .now) (a .table .now) _ _ _ _ _ (c .before .first-pair .ensures) x (c .before .before .if2 .left) (c .if3 .taken) k)
+returns-3 c es x h k z = absurd (c .if3 .taken z)
 
--- Where a pair is found, its places are those of the model.
-places-in : (c : tie.Else3) →
-    let r = c .before .first-pair .result in
-    (1 ≤ r .first) × (r .first < r .second) × (r .second ≤ 96)
-places-in c =
-    let a = c .before .before .before .before .before .before .before .args in
-    let r = answer-in (a .s .now) (a .names .now) (a .table .now) (a .e .places) _ _ (c .before .first-pair .ensures) (c .if3 .left) in
-    let n = c .before .before .before .before .before .before .before .pre (c .before .before .if2 .left) in
-    omega arith
+first-pair-requires : tie.Need-first-pair-requires
+first-pair-requires c κs = c .before .before .before .before .before .before .before .before .pre (c .before .before .before .if2 .left)
+
+returns-4 : tie.Need-returns-4
+returns-4 c es x h k z =
+    let a = c .before .before .before .before .before .before .before .before .before .before .args in
+    pending-clear (a .s .now) (a .c) es x h
+    (content-none (a .s .now) (a .names .now) (a .table .now) _ _ _ _ _ _ z _ (λ e. eqb-true _ _ (not-false _ e)) _ _ (c .before .first-pair .ensures .0) x (c .before .before .before .before .before .if2 .left) (c .if4 .taken) k)
 
 place-at-requires : tie.Need-place-at-requires
 place-at-requires c κs = omega (arith, places-in c)
@@ -46,13 +46,23 @@ cast-t12 c = omega (arith, places-in (c .before))
 cast-t13 : tie.Need-cast-t13
 cast-t13 c = omega (arith, places-in (c .before))
 
-returns-4 : tie.Need-returns-4
-returns-4 c es x h k =
-    let a = c .before .before .before .before .before .before .before .before .args in
-    pending-first (a .s .now) (a .c) es x (c .before .before .before .before .before .if1 .left) h _ (c .before .if3 .left)
-    (content-pair (a .s .now) (a .names .now) (a .table .now) _ _ _ _ _ (c .before .before .first-pair .ensures) x _ (c .before .before .before .if2 .left) (c .before .if3 .left) (c .place-at .ensures .0) k)
+returns-5 : tie.Need-returns-5
+returns-5 c es x h k z =
+    let a = c .before .before .before .before .before .before .before .before .before .before .before .args in
+    pending-first (a .s .now) (a .c) es x (c .before .before .before .before .before .before .before .before .if1 .left) h _ (c .before .if4 .left)
+    (content-pair (a .s .now) (a .names .now) (a .table .now) _ _ _ _ _ _ z _ (λ e. eqb-true _ _ (not-false _ e)) _ _ (c .before .before .first-pair .ensures .0) x _ (c .before .before .before .before .before .before .if2 .left) (c .before .if4 .left) (c .place-at .ensures .0) k)
 
 pub clash-with-spec : {M : Type 1} → statement M
 clash-with-spec =
     tie.close
-    (tie.spec returns returns-2 first-pair-requires returns-3 place-at-requires cast-t11 cast-t12 cast-t13 returns-4)
+    (tie.spec
+    returns
+    returns-2
+    returns-3
+    first-pair-requires
+    returns-4
+    place-at-requires
+    cast-t11
+    cast-t12
+    cast-t13
+    returns-5)

@@ -1,13 +1,15 @@
 -- `element_at` meets its contract: what the element reader refuses is refused, and what it reads is recorded behind the elements before.
-use Prim.Native.Nat.{_<_}
-use mathlib.Core.Path.{_≡_, sym}
+use Prim.Native.Nat.{ℕ, _<_}
+use mathlib.Core.Path.{_≡_, sym, _∙_}
+use mathlib.Core.Logic.{⊎-elim}
 use mathlib.Core.List.{List}
 use native.Mathlib.Omega.{arith}
 use lib.ListN.{length}
 use borrow.Author.Needs.{needs}
+use borrow.Author.Tests.{eq-eqb, ne-eqb}
 use Rattle.rules.specs.Settings.{settings}
 use Rattle.rules.specs.Reading.{got}
-use Rattle.rules.specs.TypeFile.{Element, Declared, element}
+use Rattle.rules.specs.TypeFile.{Element, Declared, element, earlier}
 use Rattle.element_reader.specs.Means.{KeepsElement, MeetsElement}
 use Rattle.element_records.specs.Progress.{KeepsProgress}
 use Rattle.element_records.specs.Declaration.{element-refused, element-kept, element-fits, element-places, element-step}
@@ -35,6 +37,16 @@ kept c es k =
 
 few : (c : tie.After-r) → c .before .before .before .before .before .before .before .args .p .count < 64
 few c = rw (c .r .given .1) at (c .before .before .element-at .ensures .1)
+
+-- The first "&" that is refused.
+none : (i j f : ℕ) → i ≡ 0 → f ≡ j → f ≡ earlier i j
+none i j f e q = rw (eq-eqb i 0 e, earlier) q
+
+some : (i j f : ℕ) → (i ≡ 0 → ⊥) → f ≡ i → f ≡ earlier i j
+some i j f e q = rw (ne-eqb i 0 e, earlier) q
+
+first-is : (c : tie.Joined1) → c .if1 .first ≡ earlier (c .before .before .before .before .before .before .before .before .before .before .before .before .args .p .repeated) (c .before .before .before .before .before .r .given .0 .0 .repeated)
+first-is c = ⊎-elim (λ w. none _ _ _ (w .0 .taken) (w .1)) (λ w. some _ _ _ (w .0 .left) (w .1)) (c .if1 .came)
 
 element-at-requires : tie.Need-element-at-requires
 element-at-requires c κs =
@@ -66,26 +78,26 @@ put-record-requires c κs =
     let (offset, size, tokens) = element-fits (a .s .now) (a .at) (l .0) (l .1 .0) es _ d m short in
     (few (c .before .before), offset, size, tokens)
 
-add-t18 : tie.Need-add-t18
-add-t18 c = omega (arith, few (c .before .before .before .before))
+add-t20 : tie.Need-add-t20
+add-t20 c = omega (arith, few (c .before .before .before .before .before))
 
 clash-with-requires : tie.Need-clash-with-requires
 clash-with-requires c κs =
-    let a = c .before .before .before .before .before .before .before .before .before .before .before .before .before .args in
-    let l = c .before .before .before .before .before .before .before .before .element-at .last .1 .1 .1 .1 .1 in
-    let (at, (es, k)) = c .before .before .before .before .before .before .before .before .before .before .before .before .before .pre in
-    let (d, q, m) = kept (c .before .before .before .before .before .before) es k in
+    let a = c .before .before .before .before .before .before .before .before .before .before .before .before .before .before .args in
+    let l = c .before .before .before .before .before .before .before .before .before .element-at .last .1 .1 .1 .1 .1 in
+    let (at, (es, k)) = c .before .before .before .before .before .before .before .before .before .before .before .before .before .before .pre in
+    let (d, q, m) = kept (c .before .before .before .before .before .before .before) es k in
     element-places (a .s .now) (a .at) (l .0) (l .1 .0) es _ d m
 
 returns-2 : tie.Need-returns-2
 returns-2 c es k =
-    let a = c .before .before .before .before .before .before .before .before .before .before .before .before .before .before .args in
-    let l = c .before .before .before .before .before .before .before .before .before .element-at .last .1 .1 .1 .1 .1 in
-    let w = c .before .before .before .before .put-record in
-    let r = c .before .before .before .before .before .before .before in
+    let a = c .before .before .before .before .before .before .before .before .before .before .before .before .before .before .before .args in
+    let l = c .before .before .before .before .before .before .before .before .before .before .element-at .last .1 .1 .1 .1 .1 in
+    let w = c .before .before .before .before .before .put-record in
+    let r = c .before .before .before .before .before .before .before .before in
     let (d, q, m) = kept r es k in
-    element-step (a .s .now) (a .at) (l .0) (l .1 .0) es _ d m (a .elements .now) (w .last .0) (a .p) (c .clash-with .result) (element (settings (a .long)) (a .s .now) (a .at) es) q k (few r) (w .ensures)
-    (c .clash-with .ensures es (m .element .content) (k .pending) (m .content))
+    element-step (a .s .now) (a .at) (l .0) (l .1 .0) es _ d m (a .elements .now) (w .last .0) (a .p) (c .clash-with .result) _ (element (settings (a .long)) (a .s .now) (a .at) es) q k (few r) (w .ensures)
+    (first-is (c .before .before .before)) (λ y z. c .clash-with .ensures es (m .element .content) (k .pending y) (m .content) z)
 
 pub element-at-spec : {M : Type 1} → statement M
 element-at-spec =
@@ -97,6 +109,6 @@ element-at-spec =
     fault-of-requires
     returns
     put-record-requires
-    add-t18
+    add-t20
     clash-with-requires
     returns-2)

@@ -1,6 +1,6 @@
 -- `ends` meets its contract. The invariant: what is settled from the state come to is what is settled from the first; the measure is how many are open.
-use Prim.Native.Nat.{ℕ, _≤_, _<_}
-use mathlib.Core.Path.{_≡_, refl, sym, _∙_, ap}
+use Prim.Native.Nat.{_<_}
+use mathlib.Core.Path.{_≡_, sym, _∙_, ap}
 use mathlib.Core.Bool.{true}
 use mathlib.Core.Logic.{⊎-elim}
 use native.Mathlib.Omega.{arith}
@@ -13,13 +13,13 @@ use Rattle.inferring.proofs.ends.Statement.{statement}
 use Rattle.inferring.proofs.ends.Tie as tie
 
 abbrev Inv-loop : tie.InvT-loop
-Inv-loop rows places facts x at n numbers₀ bytes₀ o₀ m₀ numbers bytes o m = Turns rows places facts (x .0) at n o₀ numbers₀ bytes₀ o m numbers bytes
+Inv-loop rows places facts members begun x at n numbers₀ bytes₀ o₀ m₀ numbers bytes o m = Turns rows places facts members begun (x .0) at n o₀ numbers₀ bytes₀ o m numbers bytes
 
 abbrev μ-loop : tie.MeasureT-loop
-μ-loop rows places facts x at n numbers₀ bytes₀ o₀ m₀ numbers bytes o m = o .count
+μ-loop rows places facts members begun x at n numbers₀ bytes₀ o₀ m₀ numbers bytes o m = o .count
 
 loop-holds : tie.Need-loop-holds Inv-loop μ-loop
-loop-holds c = turns-start _ _ _ _ _ _ _ _ _ (c .before .before .pre .0)
+loop-holds c = turns-start _ _ _ _ _ _ _ _ _ _ _ (c .before .before .before .pre .0)
 
 way-at-requires : tie.Need-way-at-requires Inv-loop μ-loop
 way-at-requires c κs = search needs
@@ -31,7 +31,7 @@ may-end-requires : tie.Need-may-end-requires Inv-loop μ-loop
 may-end-requires c κs = search needs
 
 abbrev first : tie.At-loop Inv-loop μ-loop → tie.Start Inv-loop μ-loop
-first c = c .before .before .before
+first c = c .before .before .before .before
 
 -- an end is inferred: something is open, and its content complete
 goes-on : (c : tie.Else1 Inv-loop μ-loop) →
@@ -61,7 +61,7 @@ loop-again c =
     let ends = put .before .before .before in
     let told = ends .before .before in
     let way = told .before .before in
-    turns-end _ _ _ _ _ _ (way .before .before .before .before .loop .inv) _ (way .way-at .ensures .0) (told .enum-told .given .1) _ (ends .before .may-end .ensures .0) (not-false _ (ends .if1 .left)) (omega (arith, goes-on ends .0))
+    turns-end _ _ _ _ _ _ _ _ (way .before .before .before .before .loop .inv) _ (way .way-at .ensures .0) (told .enum-told .given .1) _ (ends .before .may-end .ensures .0) (not-false _ (ends .if1 .left)) (omega (arith, goes-on ends .0))
     (put .put-event .ensures .1) (c .infer-end .ensures) (put .put-event .ensures .0)
 
 same-length : tie.Need-same-length Inv-loop μ-loop
@@ -96,7 +96,7 @@ returns-2 c =
       fits = way .way-at .ensures .1 .0;
       starts = way .way-at .ensures .1 .1;
       finds = way .way-at .ensures .0;
-      stays = λ e s es f h. sym (not-true _ (c .if1 .taken)) ∙ ends .may-end .ensures .0 s es f h;
+      stays = λ e s es raised f M begun z h. sym (not-true _ (c .if1 .taken)) ∙ ends .may-end .ensures .0 s es raised f M begun z h;
     }
 
 pub ends-spec : {M : Type 1} → statement M

@@ -6,7 +6,7 @@ use lib.ListN.{length}
 use borrow.Author.Needs.{needs}
 use Rattle.member_table.specs.Filling.{neededIn, putOnes}
 use Rattle.member_table.specs.Counting.{number-small, needed-small}
-use Rattle.member_table.specs.Writes.{ones-turn, ones-end, group-put}
+use Rattle.member_table.specs.Putting.{ones-turn, ones-end, group-put}
 use Rattle.member_table.proofs.put_group.Statement.{statement}
 use Rattle.member_table.proofs.put_group.Tie as tie
 
@@ -20,8 +20,7 @@ abbrev μ-loop : tie.MeasureT-loop
 put-record-requires : tie.Need-put-record-requires Inv-loop μ-loop
 put-record-requires c κs =
     let x = c .before .before in
-    let few = needed-small (x .args .stack) (x .args .first) (x .args .needed) (x .args .k) (x .pre .1 .1 .1 .1 .1) in
-    (omega arith, (omega arith, (omega arith, omega (arith, few), omega arith)))
+    omega (arith, needed-small (x .args .stack) (x .args .first) (x .args .needed) (x .args .k) (x .pre .1 .1 .1 .1 .1))
 
 loop-holds : tie.Need-loop-holds Inv-loop μ-loop
 loop-holds c = (refl, refl)
@@ -52,9 +51,9 @@ same-length c = c .before .loop .inv .0 ∙ c .before .before .before .before .p
 
 returns : tie.Need-returns Inv-loop μ-loop
 returns c =
-    let put = c .before .before .before .before in
-    let x = put .before .before .before .args in
-    group-put (x .members .now) (x .base) (x .table .now) (x .lasts) (x .groups) (x .own) (x .stack) (x .first) (x .needed) (x .k) _ _ (put .put-record .ensures)
+    let whole = c .before .before .before .before in
+    let x = whole .before .before .before .args in
+    group-put (x .members .now) (x .base) (x .table .now) (x .lasts) (x .groups) (x .own) (x .stack) (x .first) (x .needed) (x .k) _ _ (whole .put-record .ensures)
     (ones-end _ _ _ _ _ _ _ _ _ _ _ _ (c .loop-test .left) (c .before .loop .inv .1))
 
 pub put-group-spec : {M : Type 1} → statement M

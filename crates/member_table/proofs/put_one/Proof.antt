@@ -1,11 +1,12 @@
--- `put_one` meets its contract: the member's number and a place of another first, then what is put in turn.
+-- `put_one` meets its contract: the member's number, a place that begins another, and then the member is put.
 use mathlib.Core.Path.{_≡_, refl, _∙_}
 use mathlib.Core.Logic.{⊎-elim}
 use Prim.Native.Nat.{ℕ, _<_, _+_}
 use native.Mathlib.Omega.{arith}
 use borrow.Author.Needs.{needs}
 use Rattle.member_table.specs.Filling.{numberAt, otherAt, pieceAt}
-use Rattle.member_table.specs.Writes.{number-null, number-needed, other-second, other-first, one-put}
+use Rattle.member_table.specs.Counting.{number-null, number-needed}
+use Rattle.member_table.specs.Putting.{other-second, other-first, one-put}
 use Rattle.member_table.proofs.put_one.Statement.{statement}
 use Rattle.member_table.proofs.put_one.Tie as tie
 
@@ -15,8 +16,8 @@ is-number c =
     let x = c .before .before .before .before .args in
     let n = c .before .needed-in .ensures .0 in
     ⊎-elim
-    (λ w. number-null (x .t7) (x .first) (x .own) (x .needed) (x .j) _ n (w .0 .taken) _ (w .1))
-    (λ w. number-needed (x .t7) (x .first) (x .own) (x .needed) (x .j) _ n (w .0 .left) _ (w .1))
+    (λ w. number-null (x .t7) (x .first) (x .own) (x .needed) (x .j) _ n (w .0 .taken) _ (omega (arith, w .1)))
+    (λ w. number-needed (x .t7) (x .first) (x .own) (x .needed) (x .j) _ n (w .0 .left) _ (omega (arith, w .1)))
     (c .if1 .came)
 
 small : (c : tie.Joined1) → c .if1 .h < 97

@@ -1,5 +1,7 @@
 -- `first_pair` meets its contract. The invariant: no place before `p` is in a pair at fault, so what is still to be searched gives the answer.
 use Prim.Native.Nat.{ℕ, _+_, _-_, _≤_}
+use mathlib.Core.Path.{refl}
+use mathlib.Core.Logic.{inl, inr, ⊎-elim}
 use mathlib.Core.Bool.{Bool}
 use native.Mathlib.Omega.{arith}
 use Rattle.model_pairs.specs.Rows.{Tells}
@@ -24,8 +26,10 @@ partner-requires c κs = (omega arith, c .before .before .before .keys-of .ensur
 
 returns : tie.Need-returns Inv-loop μ-loop
 returns c =
-    let turn = c .before .before .before in
-    (λ F t. pairs-found _ _ _ _ _ (turn .before .loop .inv .2 F t) _ (omega arith) (c .before .partner .ensures .0 F t) (omega arith), (omega arith, c .before .partner .ensures .1))
+    let turn = c .before .before .before in (
+      λ F t. pairs-found _ _ _ _ _ (turn .before .loop .inv .2 F t) _ (omega arith) (c .before .partner .ensures .0 F t) (omega arith),
+      ⊎-elim (λ z. absurd (c .if1 .taken z)) (λ w. inr (turn .before .loop .inv .0, w .0, w .1)) (c .before .partner .ensures .1),
+    )
 
 add-p : tie.Need-add-p Inv-loop μ-loop
 add-p c = omega arith
@@ -39,7 +43,7 @@ loop-again c =
     (omega arith, omega arith, λ F t. pairs-past _ _ _ _ _ (turn .before .loop .inv .2 F t) _ (omega arith) (c .before .partner .ensures .0 F t) (omega arith))
 
 returns-2 : tie.Need-returns-2 Inv-loop μ-loop
-returns-2 c = (λ F t. pairs-none _ _ _ _ _ (c .before .loop .inv .2 F t) (omega arith), (omega arith, omega arith))
+returns-2 c = (λ F t. pairs-none _ _ _ _ _ (c .before .loop .inv .2 F t) (omega arith), inl (refl, refl))
 
 pub first-pair-spec : {M : Type 1} → statement M
 first-pair-spec =

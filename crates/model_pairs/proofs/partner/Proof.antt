@@ -1,7 +1,7 @@
 -- `partner` meets its contract. The invariant: no place after `p` before `q` is at fault with it, so what is still to be searched gives the answer, and `q` has the name of `p`.
 use Prim.Native.Nat.{ℕ, _+_, _-_, _≤_, _<_}
-use mathlib.Core.Path.{_≡_, sym, _∙_}
-use mathlib.Core.Logic.{⊎-elim}
+use mathlib.Core.Path.{_≡_, refl, sym, _∙_}
+use mathlib.Core.Logic.{inl, inr, ⊎-elim}
 use mathlib.Core.Bool.{Bool, true}
 use native.Mathlib.Omega.{arith}
 use borrow.Author.Needs.{needs}
@@ -32,7 +32,7 @@ returns c =
           (seeks-on (x .s .now) (x .names .now) F (x .n) (x .p) (x .p + 1) (x .n + 1) (seeks-start _ _ _ _ _ (start .pre .0 .2)) (omega arith) (omega arith)
           (unshared (x .s .now) (x .names .now) (x .keys .now) (x .n) (x .p) (start .pre .0 .1) (start .pre .0 .2) (start .pre .1) (sym (c .before .shares-key .ensures) ∙ not-true _ (c .if1 .taken))))
           (omega arith),
-      omega arith,
+      inl refl,
     )
 
 add-same-name : tie.Need-add-same-name Inv-loop μ-loop
@@ -50,7 +50,7 @@ begun c F =
     seeks-on _ _ _ _ _ _ _ (seeks-start _ _ _ _ _ (c .before .before .before .before .pre .0 .2)) (found .0) (found .1) (found .2)
 
 returns-2 : tie.Need-returns-2 Inv-loop μ-loop
-returns-2 c = (λ F t. seeks-none _ _ _ _ _ _ (begun (c .before) F) (omega arith), omega arith)
+returns-2 c = (λ F t. seeks-none _ _ _ _ _ _ (begun (c .before) F) (omega arith), inl refl)
 
 beside-requires : tie.Need-beside-requires Inv-loop μ-loop
 beside-requires c κs = omega arith
@@ -76,7 +76,7 @@ returns-3 c =
       λ F t.
           seeks-found _ _ _ _ _ _ (inv .0 F t) (omega arith)
           (at-fault _ _ _ _ _ _ F t _ _ (inv .4) (inv .1) low _ (looped .before .beside .ensures _ (omega (arith, inv .5, low))) (asked .before .if3 .taken) _ (told .0) (told .1) (inv .3 low) (c .if4 .taken)),
-      omega (arith, low),
+      inr (inv .1, low),
     )
 
 add-same-name-2 : tie.Need-add-same-name-2 Inv-loop μ-loop
@@ -112,7 +112,7 @@ loop-again c =
     )
 
 returns-4 : tie.Need-returns-4 Inv-loop μ-loop
-returns-4 c = (λ F t. seeks-none _ _ _ _ _ _ (c .before .loop .inv .0 F t) (omega arith), omega arith)
+returns-4 c = (λ F t. seeks-none _ _ _ _ _ _ (c .before .loop .inv .0 F t) (omega arith), inl refl)
 
 pub partner-spec : {M : Type 1} → statement M
 partner-spec =

@@ -17,14 +17,14 @@ part-and-requires : tie.Need-part-and-requires
 part-and-requires c κs = search needs
 
 -- the changes, one after the other
-in-turn : (T A B : List ℕ) (lo mid hi : ℕ) → A ≡ link T lo mid mid hi → B ≡ link A mid hi lo mid → B ≡ link (link T lo mid mid hi) mid hi lo mid
-in-turn T A B lo mid hi a b = cc
+in-turn : (A L B : List ℕ) (from to lo hi : ℕ) → A ≡ L → B ≡ link A from to lo hi → B ≡ link L from to lo hi
+in-turn A L B from to lo hi a b = cc
 
 returns : tie.Need-returns
 returns c =
     let back = c .before in
     let there = back .before .before in
-    (in-turn _ _ _ _ _ _ (there .link .ensures) (back .link2 .ensures), c .part-and .ensures)
+    (in-turn _ _ _ _ _ _ _ (there .link .ensures) (back .link2 .ensures), c .part-and .ensures)
 
 pub join-and-spec : {M : Type 1} → statement M
 join-and-spec = tie.close (tie.spec link-requires link-requires-2 part-and-requires returns)

@@ -21,9 +21,9 @@ part-seq-requires : tie.Need-part-seq-requires
 part-seq-requires c κs = search needs
 
 -- the changes, one after the other
-in-turn : (A L B C : List ℕ) (lo mid hi : ℕ) (g h : Part)
-    → A ≡ L → B ≡ closeEnds A lo mid h → C ≡ closeStarts B mid hi g → C ≡ closeStarts (closeEnds L lo mid h) mid hi g
-in-turn A L B C lo mid hi g h a b c = cc
+in-turn : (A L B C : List ℕ) (lo mid from to : ℕ) (g h : Part)
+    → A ≡ L → B ≡ closeEnds A lo mid h → C ≡ closeStarts B from to g → C ≡ closeStarts (closeEnds L lo mid h) from to g
+in-turn A L B C lo mid from to g h a b c = cc
 
 returns : tie.Need-returns
 returns c =
@@ -31,7 +31,7 @@ returns c =
     let ends = starts .before .before in
     let linked = ends .before .before in
     let x = linked .before .before .args in
-    (in-turn _ _ _ _ _ _ _ (x .g) (x .h) (linked .link .ensures) (ends .close-ends .ensures) (starts .close-starts .ensures), c .part-seq .ensures)
+    (in-turn _ _ _ _ _ _ _ _ (x .g) (x .h) (linked .link .ensures) (ends .close-ends .ensures) (starts .close-starts .ensures), c .part-seq .ensures)
 
 pub join-seq-spec : {M : Type 1} → statement M
 join-seq-spec =

@@ -1,9 +1,8 @@
 -- `placed` meets its contract: the token takes the place that was found, and is noted there or refused.
 use native.Mathlib.Omega.{arith}
 use borrow.Author.Needs.{needs}
-use mathlib.Core.Path.{_∙_}
 use borrow.Author.Tests.{not-true, not-false}
-use Rattle.open_elements.specs.Laws.{ranged-took}
+use Rattle.open_elements.specs.Laws.{ranged-taking}
 use Rattle.placing.specs.Places.{placed-nowhere, placed-full, placed-written, opening-room, placed-opened}
 use Rattle.placing.proofs.placed.Statement.{statement}
 use Rattle.placing.proofs.placed.Tie as tie
@@ -14,7 +13,7 @@ place-of-requires c κs = search needs
 returns : tie.Need-returns
 returns c =
     let found = c .before .before in
-    placed-nowhere (found .before .before .before .before .before .pre .0) (record { answers = found .place-of .ensures .0 }) (omega (arith, c .if1 .taken, found .place-of .ensures .1))
+    placed-nowhere _ _ (found .before .before .before .before .before .pre .0) (record { answers = found .place-of .ensures .0 }) (omega (arith, c .if1 .taken, found .place-of .ensures .1))
 
 is-full-requires : tie.Need-is-full-requires
 is-full-requires c κs = search needs
@@ -23,7 +22,7 @@ returns-2 : tie.Need-returns-2
 returns-2 c =
     let full = c .before in
     let found = full .before .before .before in
-    placed-full (found .before .before .before .before .before .pre .0) (record { answers = found .place-of .ensures .0 }) (λ z. omega (arith, full .before .if1 .left)) (full .is-full .ensures) (c .if2 .taken)
+    placed-full _ _ (found .before .before .before .before .before .pre .0) (record { answers = found .place-of .ensures .0 }) (λ z. omega (arith, full .before .if1 .left)) (full .is-full .ensures) (c .if2 .taken)
 
 place-shown-requires : tie.Need-place-shown-requires
 place-shown-requires c κs = search needs
@@ -35,7 +34,10 @@ opens-requires : tie.Need-opens-requires
 opens-requires c κs = search needs
 
 put-written-requires : tie.Need-put-written-requires
-put-written-requires c κs = search needs
+put-written-requires c κs =
+    let shows = c .before .before .before .before .before .before in
+    let first = shows .before .before .before .before .before .before .before .before .before .before in
+    (first .pre .2, shows .place-shown .ensures .1, first .pre .3, first .pre .4, first .pre .5)
 
 same-length : tie.Need-same-length
 same-length c = search needs
@@ -48,17 +50,17 @@ returns-3 c =
     let put = c .before .before .before .before in
     let tested = put .before .before .before in
     let took = tested .before .before in
-    let full = took .before .before .before in
+    let full = took .before .before .before .before in
     let found = full .before .before .before in
-    placed-written (found .before .before .before .before .before .pre .0) (record { answers = found .place-of .ensures .0 }) (full .before .if1 .left) (full .is-full .ensures) (took .before .before .if2 .left) (found .place-of .ensures .1)
-    (tested .before .opens .ensures) (not-true _ (tested .if3 .taken)) (took .take .ensures) (took .before .place-shown .ensures .0) (put .put-written .ensures)
+    placed-written _ _ (found .before .before .before .before .before .pre .0) (record { answers = found .place-of .ensures .0 }) (full .before .if1 .left) (full .is-full .ensures) (took .before .before .before .if2 .left) (found .place-of .ensures .1)
+    (tested .before .opens .ensures) (took .take .ensures) (took .before .before .place-shown .ensures .0) (not-true _ (tested .if3 .taken)) (put .put-written .ensures)
 
 sub-put-event : tie.Need-sub-put-event
-sub-put-event c = c .before .before .before .before .before .before .before .before .before .before .before .before .before .before .before .before .pre .3
+sub-put-event c = c .before .before .before .before .before .before .before .before .before .before .before .before .before .before .before .before .before .pre .3
 
 put-event-requires : tie.Need-put-event-requires
 put-event-requires c κs =
-    let shows = c .before .before .before .before .before .before in
+    let shows = c .before .before .before .before .before .before .before in
     let first = shows .before .before .before .before .before .before .before .before .before .before in
     (omega (arith, first .pre .5), omega (arith, first .pre .2), omega (arith, first .pre .3, first .pre .4), omega (arith, first .pre .4), omega (arith, shows .place-shown .ensures .1))
 
@@ -66,12 +68,11 @@ start-requires : tie.Need-start-requires
 start-requires c κs =
     let tested = c in
     let took = tested .before .before in
-    let full = took .before .before .before in
+    let full = took .before .before .before .before in
     let found = full .before .before .before in
-    let first = found .before .before .before .before .before in
-    rw (took .take .ensures) (
-      ranged-took (first .args .rows .now) _ (first .pre .0) (found .place-of .ensures .1),
-      opening-room (full .is-full .ensures .1) (took .before .before .if2 .left) (tested .before .opens .ensures .0) (not-false _ (tested .if3 .left)),
+    let first = found .before .before .before .before .before in (
+      ranged-taking (took .take .ensures) (first .pre .0) (found .place-of .ensures .1),
+      rw (took .take .ensures .count) (opening-room (full .is-full .ensures .1) (took .before .before .before .if2 .left) (tested .before .opens .ensures .0) (not-false _ (tested .if3 .left))),
       first .pre .2,
     )
 
@@ -87,11 +88,11 @@ returns-4 c =
     let opened = put .before .before .before in
     let tested = opened .before in
     let took = tested .before .before in
-    let full = took .before .before .before in
+    let full = took .before .before .before .before in
     let found = full .before .before .before in
     let first = found .before .before .before .before .before in
-    placed-opened (first .pre .0) (record { answers = found .place-of .ensures .0 }) (full .before .if1 .left) (full .is-full .ensures) (took .before .before .if2 .left) (found .place-of .ensures .1)
-    (tested .before .opens .ensures) (not-false _ (tested .if3 .left)) (first .pre .2) (opened .start .ensures ∙ rw (took .take .ensures)) (took .before .place-shown .ensures .0) (put .put-event .ensures)
+    placed-opened _ _ (first .pre .0) (record { answers = found .place-of .ensures .0 }) (full .before .if1 .left) (full .is-full .ensures) (took .before .before .before .if2 .left) (found .place-of .ensures .1)
+    (tested .before .opens .ensures) (took .take .ensures) (took .before .before .place-shown .ensures .0) (not-false _ (tested .if3 .left)) (first .pre .2) (opened .start .ensures) (put .put-event .ensures)
 
 pub placed-spec : {M : Type 1} → statement M
 placed-spec =

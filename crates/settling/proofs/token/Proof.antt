@@ -6,10 +6,9 @@ use mathlib.Core.List.{List}
 use native.Mathlib.Omega.{arith}
 use borrow.Author.Needs.{needs}
 use Rattle.rules.specs.TypeFile.{Element}
-use Rattle.rules.specs.Events.{Event}
-use Rattle.rules.specs.Settling.{isOver}
+use Rattle.rules.specs.Settling.{State, isOver}
 use Rattle.document_laws.specs.Decide.{decided}
-use Rattle.open_elements.specs.Means.{stateOf, Stands}
+use Rattle.open_elements.specs.Means.{Stands}
 use Rattle.ways.specs.Ends.{over-says}
 use Rattle.inferring.specs.Starts.{Along, along-start, along-next}
 use Rattle.settling.specs.Tokens.{settles-over, settles-many, settles-placed}
@@ -17,22 +16,22 @@ use Rattle.settling.proofs.token.Statement.{statement}
 use Rattle.settling.proofs.token.Tie as tie
 
 abbrev Inv-loop : tie.InvT-loop
-Inv-loop rows places facts x at after n numbers₀ bytes₀ found starts m o₀ k₀ numbers bytes o k = Along rows places facts at m starts k o₀ numbers₀ bytes₀ o numbers bytes
+Inv-loop rows places facts members begun₀ x at after n numbers₀ bytes₀ found starts m o₀ k₀ begun numbers bytes o k = Along rows places facts members at m starts k o₀ begun₀ numbers₀ bytes₀ o begun numbers bytes
 
 abbrev μ-loop : tie.MeasureT-loop
-μ-loop rows places facts x at after n numbers₀ bytes₀ found starts m o₀ k₀ numbers bytes o k = starts - k
+μ-loop rows places facts members begun₀ x at after n numbers₀ bytes₀ found starts m o₀ k₀ begun numbers bytes o k = starts - k
 
 -- the function's entry, from where ends were inferred
 abbrev first : tie.After-ends Inv-loop μ-loop → tie.Start Inv-loop μ-loop
-first c = c .before .before .before .before .before .before .before
+first c = c .before .before .before .before .before .before .before .before .before
 
 -- where ends were inferred, from where the state come to is at hand
 abbrev ended : tie.After-struct-known Inv-loop μ-loop → tie.After-ends Inv-loop μ-loop
 ended c = c .before .before .before .before .before .before .before
 
 -- the document is not over
-on : (c : tie.After-ends Inv-loop μ-loop) (s : List ℕ) (es : List Element) → Stands es (first c .args .state) → (before : List Event) → isOver s es (decided s es) (stateOf (first c .args .state) before) ≡ false
-on c s es stands before = sym (over-says s stands before) ∙ sym (c .before .before .before .before .is-over .ensures) ∙ c .before .before .before .if1 .left
+on : (c : tie.After-ends Inv-loop μ-loop) (s : List ℕ) (es : List Element) (z : State) → Stands es (first c .args .members .now) (first c .args .begun .now) (first c .args .state) z → isOver s es (decided s es) z ≡ false
+on c s es z stands = sym (over-says s stands) ∙ sym (c .before .before .before .before .before .is-over .ensures) ∙ c .before .before .before .before .if1 .left
 
 -- so many events, at most, and so many starts
 few : (c : tie.After-struct-known Inv-loop μ-loop) → (ended c .ends .result .events ≤ first (ended c) .args .n + 24) × (c .before .before .starts-of .result ≤ 64)
@@ -44,11 +43,11 @@ is-over-requires : tie.Need-is-over-requires Inv-loop μ-loop
 is-over-requires c κs = search needs
 
 returns : tie.Need-returns Inv-loop μ-loop
-returns c = settles-over _ _ _ _ _ _ _ _ _ _ (c .before .before .before .before .pre .0) (λ s es stands before. sym (over-says s stands before) ∙ sym (c .before .is-over .ensures) ∙ c .if1 .taken)
+returns c = settles-over _ _ _ _ _ _ _ _ _ _ _ _ (c .before .before .before .before .before .pre .0) (λ s es z stands. sym (over-says s stands) ∙ sym (c .before .is-over .ensures) ∙ c .if1 .taken)
 
 ends-requires : tie.Need-ends-requires Inv-loop μ-loop
 ends-requires c κs =
-    let pre = c .before .before .before .before .before .before .pre in
+    let pre = c .before .before .before .before .before .before .before .before .pre in
     (pre .0, pre .1, omega (arith, pre .2, pre .3), pre .4)
 
 starts-of-requires : tie.Need-starts-of-requires Inv-loop μ-loop
@@ -69,7 +68,7 @@ returns-2 c =
     settles-many (first e .args .after) (first e .pre .0 .few) (on e) (e .ends .ensures) (omega (arith, c .if2 .taken, c .before .before .before .starts-of .ensures))
 
 loop-holds : tie.Need-loop-holds Inv-loop μ-loop
-loop-holds c = along-start _ _ _ _ _ _ _ _ _ (ended (c .before) .ends .ensures .turns .ranged)
+loop-holds c = along-start _ _ _ _ _ _ _ _ _ _ _ (ended (c .before) .ends .ensures .turns .ranged)
 
 -- so many events, with the starts
 events : (c : tie.At-loop Inv-loop μ-loop) →
@@ -85,11 +84,11 @@ less : (c : tie.In-loop Inv-loop μ-loop) → c .before .loop .o .count < 24
 less c = omega (arith, c .before .loop .inv .deep, c .loop-test .taken, c .before .before .if2 .left)
 
 add-infer-start : tie.Need-add-infer-start Inv-loop μ-loop
-add-infer-start c = omega (arith, events (c .before), c .loop-test .taken)
+add-infer-start c = omega (arith, events (c .before .before), c .before .loop-test .taken)
 
 infer-start-requires : tie.Need-infer-start-requires Inv-loop μ-loop
 infer-start-requires c κs =
-    let inside = c .before .before in
+    let inside = c .before .before .before in
     let inv = inside .before .loop .inv in
     let pre = first (ended (inside .before .before .before)) .pre in
     (inv .ranged, less inside, omega (arith, pre .2, pre .3), omega (arith, events (inside .before), inside .loop-test .taken, pre .4))
@@ -103,15 +102,15 @@ loop-less c = omega arith
 loop-again : tie.Need-loop-again Inv-loop μ-loop
 loop-again c =
     let start = c .before .before .before .before in
-    let inside = start .before .before .before in
-    along-next _ _ _ _ _ _ (inside .before .loop .inv) (inside .loop-test .taken) (less inside) (start .infer-start .ensures)
+    let inside = start .before .before .before .before in
+    along-next _ _ _ _ _ _ _ (inside .before .loop .inv) (inside .loop-test .taken) (less inside) (start .infer-start .ensures)
 
 add-placed : tie.Need-add-placed Inv-loop μ-loop
-add-placed c = omega (arith, events (c .before), first (ended (c .before .before .before)) .pre .4)
+add-placed c = omega (arith, events (c .before .before), first (ended (c .before .before .before .before)) .pre .4)
 
 placed-requires : tie.Need-placed-requires Inv-loop μ-loop
 placed-requires c κs =
-    let looped = c .before .before .before in
+    let looped = c .before .before .before .before in
     let e = ended (looped .before .before) in
     let pre = first e .pre in
     (looped .loop .inv .ranged, e .ends .ensures .fits, pre .1, pre .2, pre .3, omega (arith, events looped, pre .4))
@@ -119,7 +118,7 @@ placed-requires c κs =
 settles : tie.Need-returns-3 Inv-loop μ-loop
 settles c =
     let placed = c .before .before .before .before in
-    let done = placed .before .before .before in
+    let done = placed .before .before .before .before in
     let looped = done .before in
     let s = looped .before .before in
     let e = ended s in

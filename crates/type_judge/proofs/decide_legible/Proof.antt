@@ -1,5 +1,5 @@
 -- `decide_legible` meets its contract: each way by the tests that led there.
-use mathlib.Core.Path.{_≡_, refl}
+use mathlib.Core.Path.{_≡_, sym, _∙_}
 use mathlib.Core.List.{List}
 use native.Mathlib.Omega.{arith}
 use Rattle.rules.specs.Reading.{got}
@@ -7,7 +7,7 @@ use Rattle.rules.specs.TypeFile.{Element, typeFile}
 use Rattle.inputs.specs.Means.{settingsOf}
 use Rattle.element_records.specs.Progress.{KeepsProgress}
 use Rattle.type_file.specs.Turns.{file-kept}
-use Rattle.type_judge.specs.Laws.{decides-malformed, decides-ambiguous, decides-full, decides-accepted}
+use Rattle.type_judge.specs.Laws.{decides-malformed, decides-repeated, decides-ambiguous, decides-full, decides-accepted}
 use borrow.Author.Needs.{needs}
 use Rattle.type_judge.proofs.decide_legible.Statement.{statement}
 use Rattle.type_judge.proofs.decide_legible.Tie as tie
@@ -15,11 +15,11 @@ use Rattle.type_judge.proofs.decide_legible.Tie as tie
 -- The elements that are kept where the type file was read.
 kept : (c : tie.After-r) →
     let f = c .before .before in
-    let a = f .before .before .before .args in
+    let a = c .before .before .before .before .before .args in
     (es : List Element) × (typeFile (settingsOf (a .c)) (a .s .now) ≡ got es) × KeepsProgress (a .s .now) (f .file-read .last .1 .1 .0) (c .r .given .0 .0) es
 kept c =
     let f = c .before .before in
-    let a = f .before .before .before .args in
+    let a = c .before .before .before .before .before .args in
     file-kept (settingsOf (a .c)) (a .s .now) (f .file-read .last .1 .1 .0) (f .file-read .result) (f .file-read .ensures) (c .r .given .0 .0) (c .r .given .1)
 
 file-read-requires : tie.Need-file-read-requires
@@ -49,20 +49,41 @@ returns-2 : tie.Need-returns-2
 returns-2 c legible =
     let a = c .before .before .before .before .before .before .before .before .before .args in
     let (es, y, k) = kept (c .before .before .before .before) in
-    decides-ambiguous (settingsOf (a .c)) (a .s .now) (a .room) legible es y _ (k .pending) (c .if1 .taken)
+    decides-repeated (settingsOf (a .c)) (a .s .now) (a .room) legible es y _ (k .repeated-at) (c .if1 .taken)
 
 returns-3 : tie.Need-returns-3
 returns-3 c legible =
     let a = c .before .before .before .before .before .before .before .before .before .before .args in
     let (es, y, k) = kept (c .before .before .before .before .before) in
-    decides-full (settingsOf (a .c)) (a .s .now) (a .room) legible es y _ (k .pending) (c .before .if1 .left) _ (k .counted) (c .if2 .taken)
+    let none = sym (k .repeated-at) ∙ c .before .if1 .left in
+    decides-ambiguous (settingsOf (a .c)) (a .s .now) (a .room) legible es y none _ (k .pending none) (c .if2 .taken)
 
 returns-4 : tie.Need-returns-4
 returns-4 c legible =
-    let a = c .before .before .before .before .before .before .before .before .before .before .args in
-    let f = c .before .before .before .before .before .before .before in
-    let (es, y, k) = kept (c .before .before .before .before .before) in
-    decides-accepted (settingsOf (a .c)) (a .s .now) (a .room) legible es y _ (k .pending) (c .before .if1 .left) (f .file-read .last .1 .1 .0) (c .before .before .before .before .before .r .given .0 .0) k (c .if2 .left)
+    let a = c .before .before .before .before .before .before .before .before .before .before .before .args in
+    let (es, y, k) = kept (c .before .before .before .before .before .before) in
+    let none = sym (k .repeated-at) ∙ c .before .before .if1 .left in
+    decides-full (settingsOf (a .c)) (a .s .now) (a .room) legible es y none _ (k .pending none) (c .before .if2 .left) _ (k .counted) (c .if3 .taken)
+
+returns-5 : tie.Need-returns-5
+returns-5 c legible =
+    let a = c .before .before .before .before .before .before .before .before .before .before .before .args in
+    let f = c .before .before .before .before .before .before .before .before in
+    let (es, y, k) = kept (c .before .before .before .before .before .before) in
+    let none = sym (k .repeated-at) ∙ c .before .before .if1 .left in
+    decides-accepted (settingsOf (a .c)) (a .s .now) (a .room) legible es y none _ (k .pending none) (c .before .if2 .left) (f .file-read .last .1 .1 .0) (c .before .before .before .before .before .before .r .given .0 .0) k (c .if3 .left)
 
 pub decide-legible-spec : {M : Type 1} → statement M
-decide-legible-spec = tie.close (tie.spec file-read-requires enum-known-r enum-told fault-of-requires returns mul-numbers returns-2 returns-3 returns-4)
+decide-legible-spec =
+    tie.close
+    (tie.spec
+    file-read-requires
+    enum-known-r
+    enum-told
+    fault-of-requires
+    returns
+    mul-numbers
+    returns-2
+    returns-3
+    returns-4
+    returns-5)

@@ -14,7 +14,7 @@ element-copy-out-result : tie.Need-element-copy-out-result
 element-copy-out-result c = search needs
 
 returns : tie.Need-returns
-returns c s es said declared = rw (said .has _ (declared .0) (declared .1)) (one-if _)
+returns c s es raised said declared = rw (said .has _ (declared .0) (declared .1)) (one-if _)
 
 pub has-model-spec : {M : Type 1} → statement M
 has-model-spec = tie.close (tie.spec mul-result add-result element-copy-out-result returns)

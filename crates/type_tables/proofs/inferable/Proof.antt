@@ -1,5 +1,9 @@
 -- `inferable` meets its contract: what may be started at the place that is required.
+use mathlib.Core.Path.{_∙_}
+use mathlib.Core.List.{[]}
 use borrow.Author.Needs.{needs}
+use Rattle.document_laws.specs.Moves.{fresh}
+use Rattle.type_tables.specs.Marks.{entered-fresh, fresh-required}
 use Rattle.type_tables.proofs.inferable.Statement.{statement}
 use Rattle.type_tables.proofs.inferable.Tie as tie
 
@@ -11,8 +15,7 @@ startable-requires c κs = search needs
 
 returns : tie.Need-returns
 returns c = (
-  λ s es tables range.
-      c .startable .ensures .0 s es _ tables (c .before .before .args .u .0) (record { range = range; required = c .before .required .ensures .1 (tables .settings) s es (tables .accepted) (tables .rows-say) range }),
+  λ s es M tables declared. c .startable .ensures .0 s es _ M tables (fresh _) [] 0 0 (entered-fresh declared) (c .before .required .ensures ∙ fresh-required tables declared),
   c .startable .ensures .1,
 )
 

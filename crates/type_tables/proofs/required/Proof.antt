@@ -1,6 +1,10 @@
--- `required` meets its contract: the row holds what the rules decide.
+-- `required` meets its contract.
+use Prim.Native.Nat.{ℕ, _+_}
+use mathlib.Core.Path.{sym, _∙_, ap}
+use lib.ListN.{getD}
 use borrow.Author.Needs.{needs}
-use Rattle.type_tables.specs.Ranges.{requires-none, requires-some}
+use Rattle.type_tables.specs.Means.{placeOr0}
+use Rattle.type_tables.specs.Ranges.{kept-place, no-place}
 use Rattle.type_tables.proofs.required.Statement.{statement}
 use Rattle.type_tables.proofs.required.Tie as tie
 
@@ -17,16 +21,10 @@ wide-requires : tie.Need-wide-requires
 wide-requires c κs = search needs
 
 returns : tie.Need-returns
-returns c =
-    let read = c .before in
-    let a = read .before .before .before .args in
-    requires-none (a .rows .now) (a .e .0) (a .u .0) _ _ (read .before .before .row .ensures) (read .wide .ensures .0) (c .if1 .taken)
+returns c = let a = c .before .before .before .before .args in sym (ap placeOr0 (ap (λ (i : ℕ). getD (a .rows .now) (i + 13) 0) (sym (c .before .before .before .row .ensures)) ∙ sym (c .before .wide .ensures .0)) ∙ no-place _ (c .if1 .taken))
 
 returns-2 : tie.Need-returns-2
-returns-2 c =
-    let read = c .before in
-    let a = read .before .before .before .args in
-    requires-some (a .rows .now) (a .e .0) (a .u .0) _ _ (read .before .before .row .ensures) (read .wide .ensures .0) (c .if1 .left)
+returns-2 c = let a = c .before .before .before .before .args in sym (ap placeOr0 (ap (λ (i : ℕ). getD (a .rows .now) (i + 13) 0) (sym (c .before .before .before .row .ensures)) ∙ sym (c .before .wide .ensures .0)) ∙ kept-place _ (c .if1 .left))
 
 pub required-spec : {M : Type 1} → statement M
 required-spec =

@@ -4,7 +4,7 @@ use mathlib.Core.Path.{sym, _∙_}
 use native.Mathlib.Omega.{arith}
 use borrow.Author.Needs.{needs}
 use borrow.Author.Tests.{not-true, not-false}
-use Rattle.type_tables.specs.Inferring.{none-required, large-required, none-declared, data-required, Names, declares, start-kept, no-model, infers}
+use Rattle.type_tables.specs.Inferring.{infers-by, none-required, large-required, none-declared, data-required, Names, declares, start-kept, no-model, infers}
 use Rattle.type_tables.proofs.startable.Statement.{statement}
 use Rattle.type_tables.proofs.startable.Tie as tie
 
@@ -22,10 +22,10 @@ names c =
     }
 
 returns : tie.Need-returns
-returns c = (λ s es rows tables u requires. none-required _ _ _ _ _ _ s es tables requires (c .if1 .taken), omega arith)
+returns c = (infers-by _ _ _ _ _ (λ s es rows M taken tables requires. none-required _ _ _ _ _ _ s es taken tables requires (c .if1 .taken)), omega arith)
 
 returns-2 : tie.Need-returns-2
-returns-2 c = (λ s es rows tables u requires. large-required _ _ _ _ _ _ s es tables requires (omega (arith, c .if2 .taken)), omega arith)
+returns-2 c = (infers-by _ _ _ _ _ (λ s es rows M taken tables requires. large-required _ _ _ _ _ _ s es taken tables requires (omega (arith, c .if2 .taken))), omega arith)
 
 mul-wide : tie.Need-mul-wide
 mul-wide c = search needs
@@ -45,14 +45,14 @@ wide-requires c κs = search needs
 returns-3 : tie.Need-returns-3
 returns-3 c =
     let read = c .before .before in (
-      λ s es rows tables u requires. none-declared _ _ _ _ _ _ s es tables requires (read .before .before .before .before .before .before .if1 .left) _ (read .wide .ensures .0) (c .if3 .taken),
+      infers-by _ _ _ _ _ (λ s es rows M taken tables requires. none-declared _ _ _ _ _ _ s es taken tables requires (read .before .before .before .before .before .before .if1 .left) _ (read .wide .ensures .0) (c .if3 .taken)),
       omega arith,
     )
 
 returns-4 : tie.Need-returns-4
 returns-4 c =
     let read = c .before .before .before .before in (
-      λ s es rows tables u requires. data-required _ _ _ _ _ _ s es tables requires (read .before .before .before .before .before .before .if1 .left) _ (read .wide .ensures .0) (c .if4 .taken),
+      infers-by _ _ _ _ _ (λ s es rows M taken tables requires. data-required _ _ _ _ _ _ s es taken tables requires (read .before .before .before .before .before .before .if1 .left) _ (read .wide .ensures .0) (c .if4 .taken)),
       omega arith,
     )
 
@@ -63,9 +63,9 @@ returns-5 : tie.Need-returns-5
 returns-5 c =
     let starts = c .before in
     let named = names (starts .before) in (
-      λ s es rows tables u requires.
-          start-kept _ _ _ _ _ _ _ named s es tables requires
-          (sym (starts .start-omitted .ensures s es (tables .facts-say) (declares _ _ _ _ _ _ _ named s es tables requires)) ∙ not-true _ (c .if5 .taken)),
+      infers-by _ _ _ _ _ (λ s es rows M taken tables requires.
+          start-kept _ _ _ _ _ _ _ named s es taken tables requires
+          (sym (starts .start-omitted .ensures s es (tables .raised) (tables .facts-say) (declares _ _ _ _ _ _ _ named s es taken tables requires)) ∙ not-true _ (c .if5 .taken))),
       omega arith,
     )
 
@@ -76,9 +76,9 @@ returns-6 : tie.Need-returns-6
 returns-6 c =
     let models = c .before in
     let named = names (models .before .before .before) in (
-      λ s es rows tables u requires.
-          no-model _ _ _ _ _ _ _ named s es tables requires
-          (sym (models .has-model .ensures s es (tables .facts-say) (declares _ _ _ _ _ _ _ named s es tables requires)) ∙ not-true _ (c .if6 .taken)),
+      infers-by _ _ _ _ _ (λ s es rows M taken tables requires.
+          no-model _ _ _ _ _ _ _ named s es taken tables requires
+          (sym (models .has-model .ensures s es (tables .raised) (tables .facts-say) (declares _ _ _ _ _ _ _ named s es taken tables requires)) ∙ not-true _ (c .if6 .taken))),
       omega arith,
     )
 
@@ -87,11 +87,11 @@ returns-7 c =
     let models = c .before in
     let starts = models .before .before in
     let named = names (starts .before) in (
-      λ s es rows tables u requires.
-          let declared = declares _ _ _ _ _ _ _ named s es tables requires in
-          infers _ _ _ _ _ _ _ named s es tables requires
-          (sym (starts .start-omitted .ensures s es (tables .facts-say) declared) ∙ not-false _ (models .before .if5 .left))
-          (sym (models .has-model .ensures s es (tables .facts-say) declared) ∙ not-false _ (c .if6 .left)),
+      infers-by _ _ _ _ _ (λ s es rows M taken tables requires.
+          let declared = declares _ _ _ _ _ _ _ named s es taken tables requires in
+          infers _ _ _ _ _ _ _ named s es taken tables requires
+          (sym (starts .start-omitted .ensures s es (tables .raised) (tables .facts-say) declared) ∙ not-false _ (models .before .if5 .left))
+          (sym (models .has-model .ensures s es (tables .raised) (tables .facts-say) declared) ∙ not-false _ (c .if6 .left))),
       named .element,
     )
 

@@ -9,10 +9,10 @@ use Rattle.ways.proofs.chain.Statement.{statement}
 use Rattle.ways.proofs.chain.Tie as tie
 
 abbrev Inv-loop : tie.InvT-loop
-Inv-loop rows places facts x c₀ n₀ none c n = (1 ≤ n) × (c .0 ≤ 64) × Carries rows places facts (x .0) (c₀ .0) (c .0) n
+Inv-loop rows places facts x c₀ n₀ c n = (1 ≤ n) × (c .0 ≤ 64) × Carries rows places facts (x .0) (c₀ .0) (c .0) n
 
 abbrev μ-loop : tie.MeasureT-loop
-μ-loop rows places facts x c₀ n₀ none c n = 65 - n
+μ-loop rows places facts x c₀ n₀ c n = 65 - n
 
 -- what is still to be looked for
 looks : (p : tie.At-loop Inv-loop μ-loop) →
@@ -30,14 +30,14 @@ startable-requires c κs = search needs
 loop-holds : tie.Need-loop-holds Inv-loop μ-loop
 loop-holds c = (omega arith, c .startable .ensures .1, record { on = λ e q h. h })
 
-fitting-requires : tie.Need-fitting-requires Inv-loop μ-loop
-fitting-requires c κs = search needs
+fitting-first-requires : tie.Need-fitting-first-requires Inv-loop μ-loop
+fitting-first-requires c κs = search needs
 
 returns : tie.Need-returns Inv-loop μ-loop
 returns c =
     let inside = c .before .before .before .before .before in
     let inv = inside .before .loop .inv in
-    (looks-found _ _ _ _ _ _ _ _ (looks (inside .before)) (inv .0) (inside .loop-test .taken) (there (c .before .before .before)) _ (c .before .before .fitting .ensures .0) (λ z. omega (arith, c .if2 .taken)), inside .loop-test .taken)
+    (looks-found _ _ _ _ _ _ _ _ (looks (inside .before)) (inv .0) (inside .loop-test .taken) (there (c .before .before .before)) _ (c .before .before .fitting-first .ensures .0) (λ z. omega (arith, c .if2 .taken)), inside .loop-test .taken)
 
 inferable-requires : tie.Need-inferable-requires Inv-loop μ-loop
 inferable-requires c κs = search needs
@@ -56,7 +56,7 @@ loop-again c =
       c .inferable .ensures .1,
       record {
         on = λ e q h.
-            looks-next _ _ _ e q _ _ _ (inv .2 .on e q h) (inv .0) (inside .loop-test .taken) (there (c .before .before .before .before)) _ (c .before .before .before .fitting .ensures .0)
+            looks-next _ _ _ e q _ _ _ (inv .2 .on e q h) (inv .0) (inside .loop-test .taken) (there (c .before .before .before .before)) _ (c .before .before .before .fitting-first .ensures .0)
             (omega (arith, c .before .if2 .left)) _ (c .inferable .ensures .0);
       },
     )
@@ -78,7 +78,7 @@ chain-spec =
     μ-loop
     startable-requires
     loop-holds
-    fitting-requires
+    fitting-first-requires
     returns
     inferable-requires
     add-n

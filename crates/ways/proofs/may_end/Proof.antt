@@ -1,5 +1,5 @@
 -- `may_end` meets its contract: each test is one of step 3.
-use Prim.Native.Nat.{ℕ, _<_}
+use Prim.Native.Nat.{ℕ}
 use mathlib.Core.Path.{_≡_, _∙_}
 use mathlib.Core.Bool.{true, false}
 use native.Mathlib.Omega.{arith}
@@ -13,10 +13,10 @@ clash : false ≡ true → ⊥
 clash e = let z : _≡_ {A = ℕ} 0 1 = cc in omega arith
 
 returns : tie.Need-returns
-returns c = (λ s es facts stands. document-stays s stands (omega (arith, c .if1 .taken)), λ e. absurd (clash e))
+returns c = (λ s es raised facts M begun z stands. document-stays s stands (omega (arith, c .if1 .taken)), λ e. absurd (clash e))
 
 returns-2 : tie.Need-returns-2
-returns-2 c = (λ s es facts stands. incomplete-stays s stands (omega (arith, c .before .before .if1 .left)) (not-true _ (c .if2 .taken)), λ e. absurd (clash e))
+returns-2 c = (λ s es raised facts M begun z stands. incomplete-stays s stands (omega (arith, c .before .before .if1 .left)) (not-true _ (c .if2 .taken)), λ e. absurd (clash e))
 
 end-omitted-requires : tie.Need-end-omitted-requires
 end-omitted-requires c κs = search needs
@@ -25,7 +25,7 @@ returns-3 : tie.Need-returns-3
 returns-3 c =
     let inner = c .before .before .before .before .if1 .left in
     let complete = not-false _ (c .before .before .if2 .left) in (
-      λ s es facts stands. c .end-omitted .ensures s es facts (stands-declared s stands (omega (arith, inner))) ∙ ends-in-parent s stands (omega (arith, inner)) complete,
+      λ s es raised facts M begun z stands. c .end-omitted .ensures s es raised facts (stands-declared s stands (omega (arith, inner))) ∙ ends-in-parent s stands (omega (arith, inner)) complete,
       λ e. (omega (arith, inner), complete),
     )
 

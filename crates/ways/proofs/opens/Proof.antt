@@ -6,7 +6,7 @@ use Rattle.ways.proofs.opens.Statement.{statement}
 use Rattle.ways.proofs.opens.Tie as tie
 
 returns : tie.Need-returns
-returns c = (λ e. refl, λ s es f d. absurd (omega (arith, d .0, c .if1 .taken)))
+returns c = (λ e. refl, λ s es raised f d. absurd (omega (arith, d .0, c .if1 .taken)))
 
 has-model-requires : tie.Need-has-model-requires
 has-model-requires c κs = search needs

@@ -6,7 +6,7 @@ use borrow.Author.Needs.{needs}
 use Rattle.layout.specs.declared.Place.{Place}
 use Rattle.open_elements.specs.Means.{Taking}
 use Rattle.open_elements.specs.Laws.{taking-by, ranged-taking}
-use Rattle.open_elements.specs.Taken.{marking-same, marking-plain}
+use Rattle.open_elements.specs.Taken.{marking-same, marking-plain, marking-among}
 use Rattle.open_elements.proofs.Open.start_required.Statement.{statement}
 use Rattle.open_elements.proofs.Open.start_required.Tie as tie
 
@@ -16,8 +16,11 @@ kept-requires c κs = search needs
 complete-requires : tie.Need-complete-requires
 complete-requires c κs = search needs
 
-among-requires : tie.Need-among-requires
-among-requires c κs = search needs
+take-requires : tie.Need-take-requires
+take-requires c κs = search needs
+
+weighed-requires : tie.Need-weighed-requires
+weighed-requires c κs = search needs
 
 -- the place is taken
 took : (c : tie.Joined1) →
@@ -30,7 +33,7 @@ took c =
     let a = b .before .before .before .before .before .before .args in
     taking-by (a .self)
     (⊎-elim
-    (λ w. marking-same (w .4) (w .5) (ap (λ (p : Place). p .0) (w .6)) (w .2 .ensures (a .rows .now) (b .complete .ensures) (b .before .kept .ensures .0) (w .0 .taken)))
+    (λ w. marking-same (w .5) (w .6) (ap (λ (p : Place). p .0) (w .7)) (marking-among (b .before .kept .ensures .0) (b .complete .ensures) (w .0 .taken) (w .2 .ensures) (w .3 .ensures)))
     (λ w. marking-same (w .1) (w .2) (ap (λ (p : Place). p .0) (w .3)) (marking-plain (b .before .kept .ensures .0) (b .complete .ensures) (w .0 .left)))
     (c .if1 .came))
 
@@ -43,4 +46,4 @@ returns : tie.Need-returns
 returns c = record { taken = _; taking = took (c .before); opens = c .start .ensures }
 
 pub start-required-spec : {M : Type 1} → statement M
-start-required-spec = tie.close (tie.spec kept-requires complete-requires among-requires start-requires returns)
+start-required-spec = tie.close (tie.spec kept-requires complete-requires take-requires weighed-requires start-requires returns)

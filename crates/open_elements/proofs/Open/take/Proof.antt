@@ -4,7 +4,7 @@ use mathlib.Core.Logic.{⊎-elim}
 use borrow.Author.Needs.{needs}
 use Rattle.layout.specs.declared.Place.{Place}
 use Rattle.open_elements.specs.Laws.{taking-by}
-use Rattle.open_elements.specs.Taken.{marking-same, marking-plain}
+use Rattle.open_elements.specs.Taken.{marking-same, marking-plain, marking-among}
 use Rattle.open_elements.proofs.Open.take.Statement.{statement}
 use Rattle.open_elements.proofs.Open.take.Tie as tie
 
@@ -14,8 +14,11 @@ kept-requires c κs = search needs
 complete-requires : tie.Need-complete-requires
 complete-requires c κs = search needs
 
-among-requires : tie.Need-among-requires
-among-requires c κs = search needs
+take-requires : tie.Need-take-requires
+take-requires c κs = search needs
+
+weighed-requires : tie.Need-weighed-requires
+weighed-requires c κs = search needs
 
 returns : tie.Need-returns
 returns c =
@@ -23,9 +26,9 @@ returns c =
     let a = b .before .before .before .before .before .args in
     taking-by (a .self)
     (⊎-elim
-    (λ w. marking-same (w .4) (w .5) (ap (λ (p : Place). p .0) (w .6)) (w .2 .ensures (a .rows .now) (b .complete .ensures) (b .before .kept .ensures .0) (w .0 .taken)))
+    (λ w. marking-same (w .5) (w .6) (ap (λ (p : Place). p .0) (w .7)) (marking-among (b .before .kept .ensures .0) (b .complete .ensures) (w .0 .taken) (w .2 .ensures) (w .3 .ensures)))
     (λ w. marking-same (w .1) (w .2) (ap (λ (p : Place). p .0) (w .3)) (marking-plain (b .before .kept .ensures .0) (b .complete .ensures) (w .0 .left)))
     (c .if1 .came))
 
 pub take-spec : {M : Type 1} → statement M
-take-spec = tie.close (tie.spec kept-requires complete-requires among-requires returns)
+take-spec = tie.close (tie.spec kept-requires complete-requires take-requires weighed-requires returns)

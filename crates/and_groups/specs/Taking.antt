@@ -1,0 +1,171 @@
+-- A place is taken: the members around it have begun besides those that had, and what blocks is found by the bits after it.
+use Prim.Native.Nat.{ℕ, zero, suc, _+_, _%_, _≤_, _<_}
+use mathlib.Core.Path.{_≡_, refl, sym, _∙_, ap, subst}
+use mathlib.Core.Bool.{Bool, true, false, _||_}
+use mathlib.Core.Logic.{_⊎_, inl, inr}
+use mathlib.Core.List.{List, [], _∷_, _++_}
+use native.Mathlib.Omega.{arith}
+use lib.ListN.{length}
+use lib.Dec.{eqb}
+use borrow.Author.Tests.{eq-eqb}
+use Rattle.rules.specs.Walk.{Group, place, seq, alt, opt, plus, and, Members, one, also}
+use Rattle.model_sets.specs.Bits.{or-left, or-right, or-cases, bool-cases}
+use Rattle.model_sets.specs.Sets.{Numbered, size, has, hasM, nullable, must, mustM}
+use Rattle.and_laws.specs.Base.{mem}
+use Rattle.and_laws.specs.Sets.{meets, Good}
+use Rattle.and_laws.specs.Numbers.{Guarded, has-range, numbered-good}
+use Rattle.and_laws.specs.Req.{anyIdle, restReq}
+use Rattle.and_laws.specs.Levels.{around, blocksIn, loneIn}
+use Rattle.and_laws.specs.Ranked.{count, Level, levels, levels-around, levels-rise, groupsOf}
+use Rattle.and_laws.specs.Taken.{IsLast, last-taken}
+use Rattle.member_laws.specs.Members.{needs, firstAt, holderAt, Grouped, Chain, Told, begunAt, Marked, AllMarked, Standing, Elsewhere}
+use Rattle.member_laws.specs.Numbered.{at-each, each-at}
+use Rattle.member_laws.specs.Inside.{level-has, EachLevel, each-level, IsAround, levels-are, levels-nest}
+use Rattle.member_laws.specs.Around.{isHolder, NumberedAt, Closed, numbered-small, chain-kept, closed-by, is-holder, meets-more, meets-none}
+use Rattle.begun_bits.specs.Means.{Clears}
+use Rattle.and_groups.specs.Means.{Takes, Blocked, free, held}
+use Rattle.and_groups.specs.Walks as walks
+use Rattle.and_groups.specs.Walks.{Enters, Blocks, Blocking, Due}
+
+-- The bits of all groups of the model are those of the places taken.
+pub record AllStand (M begun : List ℕ) (level e : ℕ) (g : Group) (taken : List ℕ) : Type 0 where
+  pub marked : (q : ℕ) → has g q ≡ true → AllMarked begun level M e (mem taken) (levels g 0 q)
+
+-- Before the place is taken: after another, or at the start, where the bits were cleared.
+pub record Ready (M : List ℕ) (level e u : ℕ) (before now : List ℕ) : Type 0 where
+  pub whole : length now ≡ length before
+  pub elsewhere : Elsewhere level before now
+  pub stand : (g : Group) → Told M e g → (taken : List ℕ) → Standing before level M e g u taken → AllStand M now level e g taken
+
+pub ready-on : (M : List ℕ) (level e u : ℕ) (before now : List ℕ) → (u ≡ 0 → ⊥) → now ≡ before → Ready M level e u before now
+ready-on M level e u before now n same = subst (Ready M level e u before) (sym same) (record { whole = refl; elsewhere = λ k j x l. refl; stand = λ g told taken stands. record { marked = stands .marked (omega arith) } })
+
+ready-clear-by : (M : List ℕ) (level e u : ℕ) (before now : List ℕ) → u ≡ 0 → Clears level before now → Ready M level e u before now
+ready-clear-by M level e u before now z clears = record { whole = clears .whole; elsewhere = clears .elsewhere; stand = λ g told taken stands. record { marked = λ q i. stand g told taken (subst (IsLast taken) z (stands .last)) q i } }
+  where
+    none : (taken : List ℕ) → taken ≡ [] → (l : Level) → Grouped M e l → Marked now level M e (mem taken) l
+    none taken y l kept = at-each _ _ (λ (n : ℕ) (k : Group). begunAt now level n ≡ meets k (mem taken)) (l .members) (λ n k i. let small = numbered-small M e l kept n k i in clears .bits n (omega arith) (omega arith) ∙ sym (ap (λ (s : List ℕ). meets k (mem s)) y ∙ meets-none k))
+
+    each : (taken : List ℕ) → taken ≡ [] → (ls : List Level) → EachLevel (Grouped M e) ls → AllMarked now level M e (mem taken) ls
+    each taken y [] k = refl
+    each taken y (l ∷ ls) (k, ks) = (none taken y l k, each taken y ls ks)
+
+    stand : (g : Group) → Told M e g → (taken : List ℕ) → taken ≡ [] → (q : ℕ) → has g q ≡ true → AllMarked now level M e (mem taken) (levels g 0 q)
+    stand g told taken y q i = each taken y (levels g 0 q) (chain-kept M e q true _ (levels g 0 q) (told .places q i))
+
+pub ready-clear : (M : List ℕ) (level e u : ℕ) (before now cleared : List ℕ) → u ≡ 0 → Clears level before cleared → now ≡ cleared → Ready M level e u before now
+ready-clear M level e u before now cleared z clears same = subst (Ready M level e u before) (sym same) (ready-clear-by M level e u before cleared z clears)
+
+-- Entering
+module _ (M : List ℕ) (level e h p : ℕ) (now after : List ℕ) (read : h ≡ holderAt M e p) (enters : Enters M level e (h % 128) now after) (g : Group) (good : Good g) (told : Told M e g) (taken : List ℕ) (stand : AllStand M now level e g taken) (here : has g p ≡ true) where
+  kept-at : (q : ℕ) → has g q ≡ true → EachLevel (Grouped M e) (levels g 0 q)
+  kept-at q i = chain-kept M e q true _ (levels g 0 q) (told .places q i)
+
+  bits : (n : ℕ) → 1 ≤ n → n ≤ 96 → begunAt after level n ≡ begunAt now level n || isHolder M e p n (levels g 0 p)
+  bits n a b =
+      enters .bits p true (holderAt M e p) (0 + count g) (levels g 0 p) (ap (λ (x : ℕ). x % 128) read) (told .places p here) (levels-rise g 0 p)
+      (each-level (IsAround g 0 p) (λ (l : Level). hasM (l .members) p ≡ true) (λ l x. x .1) (levels g 0 p) (levels-are g 0 p here))
+      (closed-by M e now level (mem taken) g good p (levels g 0 p) (levels-are g 0 p here) (levels-nest g 0 p here) (stand .marked p here)) n a (omega arith)
+
+  marked-more : (q : ℕ) (l : Level) → IsAround g 0 q l → Grouped M e l → Marked now level M e (mem taken) l → Marked after level M e (mem (taken ++ p ∷ [])) l
+  marked-more q l (i, x) kept marked =
+      at-each _ _ (λ (n : ℕ) (k : Group). begunAt after level n ≡ meets k (mem (taken ++ p ∷ []))) (l .members)
+      (λ n k j.
+      let small = numbered-small M e l kept n k j in
+      bits n (small .0) (small .1)
+      ∙ ap (λ (b : Bool). b || isHolder M e p n (levels g 0 p)) (each-at _ _ (λ (n : ℕ) (k : Group). begunAt now level n ≡ meets k (mem taken)) (l .members) marked n k j)
+      ∙ ap (λ (b : Bool). meets k (mem taken) || b) (is-holder M e g good p here (kept-at p here) l i kept n k j)
+      ∙ sym (meets-more k taken p))
+
+  each-more : (q : ℕ) (ls : List Level) → EachLevel (IsAround g 0 q) ls → EachLevel (Grouped M e) ls → AllMarked now level M e (mem taken) ls → AllMarked after level M e (mem (taken ++ p ∷ [])) ls
+  each-more q [] a k m = refl
+  each-more q (l ∷ ls) (a, b) (k, ks) (m, n) = (marked-more q l a k m, each-more q ls b ks n)
+
+  pub stand-more : AllStand M after level e g (taken ++ p ∷ [])
+  stand-more = record { marked = λ q i. each-more q (levels g 0 q) (levels-are g 0 q i) (kept-at q i) (stand .marked q i) }
+
+-- The place that a group requires is one of its own, or 0.
+
+abbrev OwnOr0 : (ℕ → Bool) → ℕ → Type 0
+OwnOr0 own n = (n ≡ 0) ⊎ (own n ≡ true)
+
+mutual
+  must-own : (k : Group) → OwnOr0 (has k) (must k)
+  must-own (place n) = inr (eq-eqb n n refl)
+  must-own (seq g h) = bool-cases (nullable g) (λ x. rw x (wider (must-own h))) (λ x. rw x (narrow (must-own g)))
+    where
+      wider : OwnOr0 (has h) (must h) → OwnOr0 (has (seq g h)) (must h)
+      wider (inl z) = inl z
+      wider (inr y) = inr (or-right (has g (must h)) y)
+
+      narrow : OwnOr0 (has g) (must g) → OwnOr0 (has (seq g h)) (must g)
+      narrow (inl z) = inl z
+      narrow (inr y) = inr (or-left _ y)
+  must-own (alt g h) = inl refl
+  must-own (opt g) = inl refl
+  must-own (plus g) = must-own g
+  must-own (and m) = mustM-own m
+
+  mustM-own : (m : Members) → OwnOr0 (hasM m) (mustM m)
+  mustM-own (one g) = must-own g
+  mustM-own (also m g) = inl refl
+
+rest-own : (m : Members) (S : ℕ → Bool) → OwnOr0 (hasM m) (restReq m S)
+rest-own (one g) S = bool-cases (meets g S) (λ x. rw x (inl refl)) (λ x. rw x (must-own g))
+rest-own (also m g) S = bool-cases (meets g S) (λ x. rw x (narrow (rest-own m S))) (λ x. rw x (bool-cases (anyIdle S m) (λ y. rw y (inl refl)) (λ y. rw y (wider (must-own g)))))
+  where
+    narrow : OwnOr0 (hasM m) (restReq m S) → OwnOr0 (hasM (also m g)) (restReq m S)
+    narrow (inl z) = inl z
+    narrow (inr y) = inr (or-left _ y)
+
+    wider : OwnOr0 (has g) (must g) → OwnOr0 (hasM (also m g)) (must g)
+    wider (inl z) = inl z
+    wider (inr y) = inr (or-right (hasM m (must g)) y)
+
+rest-small : (g : Group) → Numbered g 1 → size g ≤ 96 → (p : ℕ) (l : Level) → IsAround g 0 p l → (S : ℕ → Bool) → restReq (l .members) S ≤ 96
+rest-small g numbered few p l (i, x) S = go (rest-own (l .members) S)
+  where
+    go : OwnOr0 (hasM (l .members)) (restReq (l .members) S) → restReq (l .members) S ≤ 96
+    go (inl z) = omega arith
+    go (inr y) = omega (arith, has-range g 1 numbered (restReq (l .members) S) (level-has g 0 l i (restReq (l .members) S) y))
+
+-- The place is taken
+module _ (M : List ℕ) (level e u p : ℕ) (before now after : List ℕ) (h : ℕ) (ready : Ready M level e u before now) (read : h ≡ holderAt M e p) (enters : Enters M level e (h % 128) now after) where
+  stands : (g : Group) → Numbered g 1 → Guarded g → Told M e g → (taken : List ℕ) → Standing before level M e g u taken → has g p ≡ true → Standing after level M e g p (taken ++ p ∷ [])
+  stands g numbered guarded told taken standing here =
+      let all = stand-more M level e h p now after read enters g (numbered-good g 1 numbered guarded) told taken (ready .stand g told taken standing) here in
+      record { last = last-taken taken p (has-range g 1 numbered p here .0); marked = λ a. all .marked }
+
+  module _ (b : ℕ) (blocks : Blocks M after level e h b) where
+    at-block : (g : Group) → Numbered g 1 → Guarded g → Told M e g → (taken : List ℕ) → Standing before level M e g u taken → has g p ≡ true → Blocking M after level e g p (mem (taken ++ p ∷ [])) (levels g 0 p) b
+    at-block g numbered guarded told taken standing here =
+        let all = stand-more M level e h p now after read enters g (numbered-good g 1 numbered guarded) told taken (ready .stand g told taken standing) here in
+        blocks .says g p (mem (taken ++ p ∷ [])) (levels g 0 p) (0 + count g) (subst (λ (x : ℕ). Chain M e p true x (levels g 0 p)) (sym read) (told .places p here)) (levels-rise g 0 p) (levels-are g 0 p here) (all .marked p here)
+
+    taken-by : (r : ℕ) → (r ≡ 255) ⊎ (r ≤ 96) → ((g : Group) → Numbered g 1 → size g ≤ 96 → (S : ℕ → Bool) → Blocking M after level e g p S (levels g 0 p) b → Blocked g p S r) → Takes M level e u p before after r
+    taken-by r small f =
+        record {
+          whole = enters .whole ∙ ready .whole;
+          elsewhere = λ k j x l. enters .elsewhere k j x l ∙ ready .elsewhere k j x l;
+          small = small;
+          stands = stands;
+          blocked = λ g numbered guarded few told taken standing here. f g numbered few (mem (taken ++ p ∷ [])) (at-block g numbered guarded told taken standing here);
+        }
+
+    pub takes-free : b ≡ 0 → Takes M level e u p before after 255
+    takes-free z = taken-by 255 (inl refl) (λ g numbered few S. go g S)
+      where
+        go : (g : Group) (S : ℕ → Bool) → Blocking M after level e g p S (levels g 0 p) b → Blocked g p S 255
+        go g S (walks.free x y) = free refl (ap (λ (ms : List Members). blocksIn ms p S) (sym (levels-around g 0 p)) ∙ y)
+        go g S (walks.held some l i kept marked is x y) = absurd (omega arith)
+
+    pub takes-held : (b ≡ 0 → ⊥) → (r : ℕ) → Due M after level e b r → Takes M level e u p before after r
+    takes-held n r due = taken-by r (inr (due .small)) (λ g numbered few S. go g numbered few S)
+      where
+        go : (g : Group) → Numbered g 1 → size g ≤ 96 → (S : ℕ → Bool) → Blocking M after level e g p S (levels g 0 p) b → Blocked g p S r
+        go g numbered few S (walks.free x y) = absurd (n x)
+        go g numbered few S (walks.held some l i kept marked is x y) =
+            held
+            (due .says l S i kept marked (rest-small g numbered few p l is S) ∙ sym y ∙ ap (λ (ms : List Members). loneIn ms S) (levels-around g 0 p))
+            (due .small)
+            (ap (λ (ms : List Members). blocksIn ms p S) (sym (levels-around g 0 p)) ∙ x)

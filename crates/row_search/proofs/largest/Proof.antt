@@ -1,0 +1,62 @@
+-- `largest` meets its contract. The invariant: the places still to be looked at give the answer. The measure is the place.
+use Prim.Native.Nat.{_≤_}
+use mathlib.Core.Path.{sym, _∙_}
+use native.Mathlib.Omega.{arith}
+use borrow.Author.Needs.{needs}
+use Rattle.row_search.specs.Means.{RowSays}
+use Rattle.row_search.specs.Laws.{Seeks, seeks-start, seeks-found, seeks-rising, seeks-next, seeks-none}
+use Rattle.row_search.proofs.largest.Statement.{statement}
+use Rattle.row_search.proofs.largest.Tie as tie
+
+abbrev Inv-loop : tie.InvT-loop
+Inv-loop rows places e u q₀ q = (q .0 ≤ 96) × Seeks (RowSays rows (e .0) (u .0)) places (e .0) (q₀ .0) (q .0)
+
+abbrev μ-loop : tie.MeasureT-loop
+μ-loop rows places e u q₀ q = q .0
+
+loop-holds : tie.Need-loop-holds Inv-loop μ-loop
+loop-holds c = (omega arith, seeks-start _ _ _ _)
+
+bit-requires : tie.Need-bit-requires Inv-loop μ-loop
+bit-requires c κs = search needs
+
+returns : tie.Need-returns Inv-loop μ-loop
+returns c =
+    let tested = c .before in
+    let looped = tested .before .before .before in
+    seeks-found _ _ _ _ _ (looped .loop .inv .1) (tested .before .if1 .taken) (looped .loop .inv .0) (sym (c .if2 .taken) ∙ tested .bit .ensures)
+
+smaller-requires : tie.Need-smaller-requires Inv-loop μ-loop
+smaller-requires c κs = search needs
+
+returns-2 : tie.Need-returns-2 Inv-loop μ-loop
+returns-2 c =
+    let inside = c .before .before .before .before .before .before in
+    seeks-rising _ _ _ _ _ (inside .before .before .loop .inv .1) (inside .if1 .taken) _ (c .before .before .before .smaller .ensures) (c .if3 .taken)
+
+loop-less : tie.Need-loop-less Inv-loop μ-loop
+loop-less c = omega arith
+
+loop-again : tie.Need-loop-again Inv-loop μ-loop
+loop-again c =
+    let tested = c .before .before .before .before .before in
+    let inside = tested .before in
+    (omega arith, seeks-next _ _ _ _ _ (inside .before .before .loop .inv .1) (inside .if1 .taken) (sym (c .before .before .before .before .if2 .left) ∙ tested .bit .ensures) _ (c .before .before .before .smaller .ensures) (omega arith))
+
+returns-3 : tie.Need-returns-3 Inv-loop μ-loop
+returns-3 c = seeks-none _ _ _ _ _ (c .before .before .loop .inv .1) (c .if1 .left)
+
+pub largest-spec : {M : Type 1} → statement M
+largest-spec =
+    tie.close
+    (tie.spec
+    Inv-loop
+    μ-loop
+    loop-holds
+    bit-requires
+    returns
+    smaller-requires
+    returns-2
+    loop-less
+    loop-again
+    returns-3)
