@@ -20,7 +20,7 @@ use Rattle.document_laws.specs.Decide.{search}
 use Rattle.rules_laws.specs.Within.{typeFile-count}
 use Rattle.type_laws.specs.Width.{typeFile-width}
 use Rattle.type_tables.specs.Means.{width, nameNumber, Declares, rowAt, namedBy, raisedPlace, PlainIn, ToldIn, Tables}
-use Rattle.type_tables.specs.Search.{search-most}
+use Rattle.row_search.specs.Laws.{search-most}
 use Rattle.model_rows.specs.Rows.{RowSays, row-says-still}
 use Rattle.table_fill.specs.Told.{TellsIn, tells-still, Lent}
 use Rattle.table_fill.specs.Places.{PlacesPut, number-few}
