@@ -6,19 +6,17 @@ use mathlib.Core.Logic.{_⊎_, inl, inr}
 use mathlib.Core.List.{List, [], _∷_, _++_}
 use native.Mathlib.Omega.{arith}
 use lib.ListN.{length}
-use lib.Dec.{eqb}
-use borrow.Author.Tests.{eq-eqb}
-use Rattle.rules.specs.Walk.{Group, place, seq, alt, opt, plus, and, Members, one, also}
-use Rattle.model_sets.specs.Bits.{or-left, or-right, or-cases, bool-cases}
-use Rattle.model_sets.specs.Sets.{Numbered, size, has, hasM, nullable, must, mustM}
+use Rattle.rules.specs.Walk.{Group, Members}
+use Rattle.model_sets.specs.Sets.{Numbered, size, has, hasM}
 use Rattle.and_laws.specs.Base.{mem}
 use Rattle.and_laws.specs.Sets.{meets, Good}
 use Rattle.and_laws.specs.Numbers.{Guarded, has-range, numbered-good}
-use Rattle.and_laws.specs.Req.{anyIdle, restReq}
+use Rattle.and_laws.specs.Req.{restReq}
 use Rattle.and_laws.specs.Levels.{around, blocksIn, loneIn}
 use Rattle.and_laws.specs.Ranked.{count, Level, levels, levels-around, levels-rise, groupsOf}
 use Rattle.and_laws.specs.Taken.{IsLast, last-taken}
 use Rattle.member_laws.specs.Members.{needs, firstAt, holderAt, Grouped, Chain, Told, begunAt, Marked, AllMarked, Standing, Elsewhere}
+use Rattle.member_laws.specs.Own.{OwnOr0, rest-own}
 use Rattle.member_laws.specs.Numbered.{at-each, each-at}
 use Rattle.member_laws.specs.Inside.{level-has, EachLevel, each-level, IsAround, levels-are, levels-nest}
 use Rattle.member_laws.specs.Around.{isHolder, NumberedAt, Closed, numbered-small, chain-kept, closed-by, is-holder, meets-more, meets-none}
@@ -84,44 +82,7 @@ module _ (M : List ℕ) (level e h p : ℕ) (now after : List ℕ) (read : h ≡
   pub stand-more : AllStand M after level e g (taken ++ p ∷ [])
   stand-more = record { marked = λ q i. each-more q (levels g 0 q) (levels-are g 0 q i) (kept-at q i) (stand .marked q i) }
 
--- The place that a group requires is one of its own, or 0.
-
-abbrev OwnOr0 : (ℕ → Bool) → ℕ → Type 0
-OwnOr0 own n = (n ≡ 0) ⊎ (own n ≡ true)
-
-mutual
-  must-own : (k : Group) → OwnOr0 (has k) (must k)
-  must-own (place n) = inr (eq-eqb n n refl)
-  must-own (seq g h) = bool-cases (nullable g) (λ x. rw x (wider (must-own h))) (λ x. rw x (narrow (must-own g)))
-    where
-      wider : OwnOr0 (has h) (must h) → OwnOr0 (has (seq g h)) (must h)
-      wider (inl z) = inl z
-      wider (inr y) = inr (or-right (has g (must h)) y)
-
-      narrow : OwnOr0 (has g) (must g) → OwnOr0 (has (seq g h)) (must g)
-      narrow (inl z) = inl z
-      narrow (inr y) = inr (or-left _ y)
-  must-own (alt g h) = inl refl
-  must-own (opt g) = inl refl
-  must-own (plus g) = must-own g
-  must-own (and m) = mustM-own m
-
-  mustM-own : (m : Members) → OwnOr0 (hasM m) (mustM m)
-  mustM-own (one g) = must-own g
-  mustM-own (also m g) = inl refl
-
-rest-own : (m : Members) (S : ℕ → Bool) → OwnOr0 (hasM m) (restReq m S)
-rest-own (one g) S = bool-cases (meets g S) (λ x. rw x (inl refl)) (λ x. rw x (must-own g))
-rest-own (also m g) S = bool-cases (meets g S) (λ x. rw x (narrow (rest-own m S))) (λ x. rw x (bool-cases (anyIdle S m) (λ y. rw y (inl refl)) (λ y. rw y (wider (must-own g)))))
-  where
-    narrow : OwnOr0 (hasM m) (restReq m S) → OwnOr0 (hasM (also m g)) (restReq m S)
-    narrow (inl z) = inl z
-    narrow (inr y) = inr (or-left _ y)
-
-    wider : OwnOr0 (has g) (must g) → OwnOr0 (hasM (also m g)) (must g)
-    wider (inl z) = inl z
-    wider (inr y) = inr (or-right (hasM m (must g)) y)
-
+-- The place that a group requires is one of the model's.
 rest-small : (g : Group) → Numbered g 1 → size g ≤ 96 → (p : ℕ) (l : Level) → IsAround g 0 p l → (S : ℕ → Bool) → restReq (l .members) S ≤ 96
 rest-small g numbered few p l (i, x) S = go (rest-own (l .members) S)
   where

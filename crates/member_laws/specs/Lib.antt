@@ -3,3 +3,4 @@ pub mod Members
 pub mod Numbered
 pub mod Inside
 pub mod Around
+pub mod Own

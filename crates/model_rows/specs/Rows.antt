@@ -1,6 +1,7 @@
 -- The rows of a model, put into the table of rows number by number, and what they then say.
 use Prim.Native.Nat.{ℕ, zero, suc, _+_, _*_, _/_, _%_, _≤_, _<_}
-use mathlib.Core.Path.{_≡_, refl, ap, _∙_}
+use mathlib.Core.Path.{_≡_, refl, ap, _∙_, subst}
+use mathlib.Core.Bool.{Bool, true, false, cond}
 use mathlib.Core.Logic.{⊎-elim}
 use mathlib.Core.List.{List}
 use native.Mathlib.Omega.{arith}
@@ -11,23 +12,21 @@ use borrow.Author.Count.{below-more}
 use Rattle.rules.specs.Walk.{Group}
 use Rattle.rules.specs.TypeFile.{Place, Content, model}
 use Rattle.layout.specs.Sizes.{MODEL-ROW, ROWS}
-use Rattle.model_sets.specs.Sets.{size, Numbered, nextIn, completeIn}
-use Rattle.model_table.specs.Fill.{tableOf}
+use Rattle.model_sets.specs.Sets.{size, Numbered, nextIn, completeIn, requiredIn}
 use Rattle.model_links.specs.Cells.{below-or-from}
-use Rattle.model_table.specs.Means.{table-says}
-use Rattle.document_laws.specs.Decide.{isCompleteIn, requiredOf}
-use Rattle.turn_laws.specs.Last.{placed}
-use Rattle.turn_laws.specs.Short.{last-placed}
-use Rattle.type_tables.specs.Means.{rowAt, bitOf, nextOf}
+use Rattle.model_table.specs.Means.{Says}
+use Rattle.member_laws.specs.Own.{required-size}
+use Rattle.row_search.specs.Means.{rowAt, bitOf}
+use Rattle.type_tables.specs.Means.{completeAt, nextRow, completeRow, requiredRow, raisedAt}
 use Rattle.model_rows.specs.Bits.{cellOf, packedOf, flag-is, packed-bit, lowest-bit, single-bit}
 
 -- What is put
 
--- The row of the element e after the place u holds the row u of a model's table.
-pub record RowHas (table : List ℕ) (e u : ℕ) (S : List ℕ) : Type 0 where
+-- The row of the element e after the place u holds the row u of a model's table, with the required place so much higher.
+pub record RowHas (table : List ℕ) (e u raise : ℕ) (S : List ℕ) : Type 0 where
   pub bits : (j : ℕ) → j < 12 → getD S (rowAt e u + j) 0 ≡ packedOf table (u * MODEL-ROW + 8 * j)
   pub last : getD S (rowAt e u + 12) 0 ≡ cellOf table (u * MODEL-ROW + 96)
-  pub required : getD S (rowAt e u + 13) 0 ≡ getD table (u * MODEL-ROW + 97) 0
+  pub required : getD table (u * MODEL-ROW + 97) 0 ≤ 96 → getD S (rowAt e u + 13) 0 ≡ getD table (u * MODEL-ROW + 97) 0 + raise
 
 -- The first j numbers of that row, and nothing else, are put into T.
 pub record BitsPut (table : List ℕ) (e u : ℕ) (T S : List ℕ) (j : ℕ) : Type 0 where
@@ -37,26 +36,31 @@ pub record BitsPut (table : List ℕ) (e u : ℕ) (T S : List ℕ) (j : ℕ) : T
   pub bits : (i : ℕ) → i < j → getD S (rowAt e u + i) 0 ≡ packedOf table (u * MODEL-ROW + 8 * i)
 
 -- The row, and nothing else, is put into T.
-pub record RowPut (table : List ℕ) (e u : ℕ) (T S : List ℕ) : Type 0 where
+pub record RowPut (table : List ℕ) (e u raise : ℕ) (T S : List ℕ) : Type 0 where
   pub len : length S ≡ ROWS
   pub under : (k : ℕ) → k < rowAt e u → getD S k 0 ≡ getD T k 0
   pub over : (k : ℕ) → rowAt e u + 14 ≤ k → getD S k 0 ≡ getD T k 0
-  pub has : RowHas table e u S
+  pub has : RowHas table e u raise S
+
+-- At the start nothing is raised.
+abbrev pub raiseAt : (raise u : ℕ) → ℕ
+raiseAt raise zero = 0
+raiseAt raise (suc u) = raise
 
 -- The first n rows of e, and nothing else, are put into T.
-pub record RowsPut (table : List ℕ) (e : ℕ) (T S : List ℕ) (n : ℕ) : Type 0 where
+pub record RowsPut (table : List ℕ) (e raise : ℕ) (T S : List ℕ) (n : ℕ) : Type 0 where
   pub len : length S ≡ ROWS
   pub under : (k : ℕ) → k < rowAt e 0 → getD S k 0 ≡ getD T k 0
   pub over : (k : ℕ) → rowAt e n ≤ k → getD S k 0 ≡ getD T k 0
-  pub has : (u : ℕ) → u < n → RowHas table e u S
+  pub has : (u : ℕ) → u < n → RowHas table e u (raiseAt raise u) S
 
 -- A row is as it was where its numbers are.
-row-has-still : (table : List ℕ) (e u : ℕ) (T S : List ℕ) → ((k : ℕ) → rowAt e u ≤ k → k < rowAt e u + 14 → getD S k 0 ≡ getD T k 0) → RowHas table e u T → RowHas table e u S
-row-has-still table e u T S same h =
+row-has-still : (table : List ℕ) (e u raise : ℕ) (T S : List ℕ) → ((k : ℕ) → rowAt e u ≤ k → k < rowAt e u + 14 → getD S k 0 ≡ getD T k 0) → RowHas table e u raise T → RowHas table e u raise S
+row-has-still table e u raise T S same h =
     record {
       bits = λ j l. same (rowAt e u + j) (omega arith) (omega arith) ∙ h .bits j l;
       last = same (rowAt e u + 12) (omega arith) (omega arith) ∙ h .last;
-      required = same (rowAt e u + 13) (omega arith) (omega arith) ∙ h .required;
+      required = λ few. same (rowAt e u + 13) (omega arith) (omega arith) ∙ h .required few;
     }
 
 module _ (table : List ℕ) (e u : ℕ) (T : List ℕ) (e-to : e ≤ 64) (u-to : u ≤ 96) where
@@ -77,9 +81,9 @@ module _ (table : List ℕ) (e u : ℕ) (T : List ℕ) (e-to : e ≤ 64) (u-to :
       }
 
   -- The last two numbers are put.
-  pub row-put : (S : List ℕ) (i j a b : ℕ) → BitsPut table e u T S 12 → i ≡ rowAt e u + 12 → j ≡ rowAt e u + 13 → a ≡ cellOf table (u * MODEL-ROW + 96) → b ≡ getD table (u * MODEL-ROW + 97) 0
-      → RowPut table e u T (set (set S i a) j b)
-  row-put S i j a b h w y p q =
+  pub row-put : (S : List ℕ) (i j a b raise : ℕ) → BitsPut table e u T S 12 → i ≡ rowAt e u + 12 → j ≡ rowAt e u + 13 → a ≡ cellOf table (u * MODEL-ROW + 96) → (getD table (u * MODEL-ROW + 97) 0 ≤ 96 → b ≡ getD table (u * MODEL-ROW + 97) 0 + raise)
+      → RowPut table e u raise T (set (set S i a) j b)
+  row-put S i j a b raise h w y p q =
       let m = h .len in
       let R : List ℕ = set S i a in
       let n : length R ≡ ROWS = length-set S i a ∙ m in
@@ -92,40 +96,48 @@ module _ (table : List ℕ) (e u : ℕ) (T : List ℕ) (e-to : e ≤ 64) (u-to :
         has = record {
           bits = λ k lt. else (rowAt e u + k) (omega arith) (omega arith) ∙ h .bits k lt;
           last = rw (← w) (getD-set-other R j i b 0 (omega arith) ∙ getD-set-same S i a 0 (omega arith)) ∙ p;
-          required = rw (← y) (getD-set-same R j b 0 (omega arith)) ∙ q;
+          required = λ few. rw (← y) (getD-set-same R j b 0 (omega arith)) ∙ q few;
         };
       }
 
-module _ (table : List ℕ) (e : ℕ) (T : List ℕ) where
-  pub rows-none : length T ≡ ROWS → RowsPut table e T T 0
+module _ (table : List ℕ) (e raise : ℕ) (T : List ℕ) where
+  pub rows-none : length T ≡ ROWS → RowsPut table e raise T T 0
   rows-none l = record { len = l; under = λ k h. refl; over = λ k h. refl; has = λ u h. absurd (omega arith) }
 
-  pub rows-more : (R S : List ℕ) (u : ℕ) → RowsPut table e T R u → RowPut table e u R S → RowsPut table e T S (u + 1)
+  pub rows-more : (R S : List ℕ) (u : ℕ) → RowsPut table e raise T R u → RowPut table e u (raiseAt raise u) R S → RowsPut table e raise T S (u + 1)
   rows-more R S u h r =
       record {
         len = r .len;
         under = λ k lt. r .under k (omega arith) ∙ h .under k lt;
         over = λ k le. r .over k (omega arith) ∙ h .over k (omega arith);
-        has = below-more (λ (v : ℕ). RowHas table e v S) u (λ v lt. row-has-still table e v R S (λ k a b. r .under k (omega arith)) (h .has v lt)) (r .has);
+        has = below-more (λ (v : ℕ). RowHas table e v (raiseAt raise v) S) u (λ v lt. row-has-still table e v (raiseAt raise v) R S (λ k a b. r .under k (omega arith)) (h .has v lt)) (r .has);
       }
+
+  -- The first row, and a later one.
+  pub rows-first : (S : List ℕ) → length T ≡ ROWS → RowPut table e 0 0 T S → RowsPut table e raise T S 1
+  rows-first S l r = let one : 0 + 1 ≡ 1 = omega arith in subst (RowsPut table e raise T S) one (rows-more T S 0 (rows-none l) r)
+
+  pub rows-next : (R S : List ℕ) (u : ℕ) → 1 ≤ u → RowsPut table e raise T R u → RowPut table e u raise R S → RowsPut table e raise T S (u + 1)
+  rows-next R S zero l h r = absurd (omega arith)
+  rows-next R S (suc u) l h r = rows-more R S (suc u) h r
 
 -- What is said
 
--- What the row of the element e after the place u is to say of the content.
-pub record RowSays (c : Content) (e u : ℕ) (rows : List ℕ) : Type 0 where
-  pub next : (p : ℕ) → 1 ≤ p → p ≤ 96 → bitOf (getD rows (rowAt e u + p / 8) 0) (p % 8) ≡ nextOf c u p
-  pub complete : eqb (getD rows (rowAt e u) 0 % 2) 1 ≡ isCompleteIn c (placed u)
-  pub required : getD rows (rowAt e u + 13) 0 ≡ requiredOf c (placed u)
+-- What the row of the element e after the place u is to say of the content, raised or not.
+pub record RowSays (c : Content) (e u : ℕ) (b : Bool) (rows : List ℕ) : Type 0 where
+  pub next : (p : ℕ) → 1 ≤ p → p ≤ 96 → bitOf (getD rows (rowAt e u + p / 8) 0) (p % 8) ≡ nextRow c u p
+  pub complete : completeAt rows e u ≡ completeRow c u
+  pub required : getD rows (rowAt e u + 13) 0 ≡ raisedAt b u (requiredRow c u)
 
-pub row-says-still : (c : Content) (e u : ℕ) (T S : List ℕ) → ((k : ℕ) → rowAt e u ≤ k → k < rowAt e u + 14 → getD S k 0 ≡ getD T k 0) → RowSays c e u T → RowSays c e u S
-row-says-still c e u T S same h =
+pub row-says-still : (c : Content) (e u : ℕ) (b : Bool) (T S : List ℕ) → ((k : ℕ) → rowAt e u ≤ k → k < rowAt e u + 14 → getD S k 0 ≡ getD T k 0) → RowSays c e u b T → RowSays c e u b S
+row-says-still c e u b T S same h =
     record {
-      next = λ p a b. ap (λ (x : ℕ). bitOf x (p % 8)) (same (rowAt e u + p / 8) (omega arith) (omega arith)) ∙ h .next p a b;
+      next = λ p l m. ap (λ (x : ℕ). bitOf x (p % 8)) (same (rowAt e u + p / 8) (omega arith) (omega arith)) ∙ h .next p l m;
       complete = ap (λ (x : ℕ). eqb (x % 2) 1) (same (rowAt e u) (omega arith) (omega arith)) ∙ h .complete;
       required = same (rowAt e u + 13) (omega arith) (omega arith) ∙ h .required;
     }
 
-module _ (table : List ℕ) (e u : ℕ) (S : List ℕ) (h : RowHas table e u S) where
+module _ (table : List ℕ) (e u raise : ℕ) (S : List ℕ) (h : RowHas table e u raise S) where
   -- The bit p of the row is the number p of the table's row.
   bit-at : (p : ℕ) → p ≤ 96 → bitOf (getD S (rowAt e u + p / 8) 0) (p % 8) ≡ eqb (getD table (u * MODEL-ROW + p) 0) 1
   bit-at p l = ⊎-elim inside end (below-or-from (p / 8) 12)
@@ -144,17 +156,22 @@ module _ (table : List ℕ) (e u : ℕ) (S : List ℕ) (h : RowHas table e u S) 
           let z : p ≡ 96 = omega arith in
           rw (a, b, z) (single-bit table (u * MODEL-ROW + 96) _ (h .last))
 
--- A row of a model's table says what the walks of the model decide.
-pub row-says : (g : Group) (ps : List Place) (n e u : ℕ) (S : List ℕ) → Numbered g 1 → size g ≤ 96 → u ≤ size g → RowHas (tableOf g) e u S → RowSays (model g ps n) e u S
-unfolding isCompleteIn requiredOf
-row-says g ps n e u S numbered few l h =
-    let t = table-says g numbered few in
+-- How much a number is raised.
+abbrev pub raiseOf : Bool → ℕ
+raiseOf b = cond b 128 0
+
+raised-by : (b : Bool) (u n : ℕ) → n + raiseAt (raiseOf b) u ≡ raisedAt b u n
+raised-by b zero n = omega arith
+raised-by true (suc u) n = omega arith
+raised-by false (suc u) n = omega arith
+
+-- A row of a table that says what is computed of a model says the model's row.
+pub row-says : (g : Group) (ps : List Place) (n e u : ℕ) (b : Bool) (table S : List ℕ) → Says g table → Numbered g 1 → size g ≤ 96 → u ≤ size g → RowHas table e u (raiseAt (raiseOf b) u) S → RowSays (model g ps n) e u b S
+row-says g ps n e u b table S t numbered few l h =
     let y : u * MODEL-ROW + 0 ≡ u * MODEL-ROW = omega arith in
     let z : rowAt e u + 0 / 8 ≡ rowAt e u = omega arith in
     record {
-      next = λ p a b. bit-at (tableOf g) e u S h p b ∙ flag-is (nextIn g u p) _ (t .next u p l a b);
-      complete =
-          rw (last-placed u)
-          (lowest-bit (getD S (rowAt e u) 0) ∙ (rw (y, z) at (bit-at (tableOf g) e u S h 0 (omega arith))) ∙ flag-is (completeIn g u) _ (t .complete u l));
-      required = rw (last-placed u) (h .required ∙ t .required u l);
+      next = λ p k m. bit-at table e u _ S h p m ∙ flag-is (nextIn g u p) _ (t .next u p l k m);
+      complete = lowest-bit (getD S (rowAt e u) 0) ∙ (rw (y, z) at (bit-at table e u _ S h 0 (omega arith))) ∙ flag-is (completeIn g u) _ (t .complete u l);
+      required = h .required (omega (arith, t .required u l, required-size g numbered u)) ∙ ap (λ (x : ℕ). x + raiseAt (raiseOf b) u) (t .required u l) ∙ raised-by b u (requiredIn g u);
     }

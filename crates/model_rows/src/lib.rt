@@ -37,10 +37,21 @@ fn packed(table: &[u8; MODEL], i: usize) -> u8
         + cell(table, i + 7) * 128
 }
 
-// The row of the element e after the place u.
+// The required place as it is kept, raised or not; 0 for what is no place.
+fn raised(required: u8, raise: u8) -> u8
+    requires { ⌜ raise ≤ 128 ⌝ }
+    ensures { λ r. ⌜ (required ≤ 96 → r ≡ required + raise) ⌝ }
+{
+    if 96 < required {
+        return 0;
+    }
+    required + raise
+}
+
+// The row of the element e after the place u; the required place is kept so much higher.
 fn put_row(rows: &mut [u8; ROWS], e: ElementNo, table: &[u8; MODEL], u: Place, raise: u8)
-    requires { ⌜ (e .0 ≤ 64) × (u .0 ≤ 96) × (length (now rows) ≡ ROWS) ⌝ }
-    ensures { λ _. ⌜ RowPut (now (table .entry)) (e .0) (u .0) (now (rows .entry)) (now (rows .exit)) ⌝ }
+    requires { ⌜ (e .0 ≤ 64) × (u .0 ≤ 96) × (length (now rows) ≡ ROWS) × (raise ≤ 128) ⌝ }
+    ensures { λ _. ⌜ RowPut (now (table .entry)) (e .0) (u .0) raise (now (rows .entry)) (now (rows .exit)) ⌝ }
 {
     let r = row_search::row(e, u);
     let mut j = 0;
@@ -49,14 +60,13 @@ fn put_row(rows: &mut [u8; ROWS], e: ElementNo, table: &[u8; MODEL], u: Place, r
         j += 1;
     }
     rows[r + 12] = cell(table, u.0 * MODEL_ROW + 96);
-    let required = table[u.0 * MODEL_ROW + POSITIONS];
-    rows[r + 13] = required + raise;
+    rows[r + 13] = raised(table[u.0 * MODEL_ROW + POSITIONS], raise);
 }
 
-// The rows of the element e, whose model has `count` places.
+// The rows of the element e, whose model has `count` places; the required places after a place are kept so much higher.
 pub fn put_rows(rows: &mut [u8; ROWS], e: ElementNo, table: &[u8; MODEL], count: usize, raise: u8)
-    requires { ⌜ (e .0 ≤ 64) × (count ≤ 96) × (length (now rows) ≡ ROWS) ⌝ }
-    ensures { λ _. ⌜ RowsPut (now (table .entry)) (e .0) (now (rows .entry)) (now (rows .exit)) (count + 1) ⌝ }
+    requires { ⌜ (e .0 ≤ 64) × (count ≤ 96) × (length (now rows) ≡ ROWS) × (raise ≤ 128) ⌝ }
+    ensures { λ _. ⌜ RowsPut (now (table .entry)) (e .0) raise (now (rows .entry)) (now (rows .exit)) (count + 1) ⌝ }
 {
     let start = Place(0);
     put_row(rows, e, table, start, 0);

@@ -87,11 +87,11 @@ pub fn largest_among(
                 return q;
             }
         }
-        let r = smaller(places, e, q);
-        if q.0 <= r.0 {
+        let below = smaller(places, e, q);
+        if q.0 <= below.0 {
             return Place(0);
         }
-        q = r;
+        q = below;
     }
     Place(0)
 }

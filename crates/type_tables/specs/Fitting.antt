@@ -1,11 +1,14 @@
 -- The place as which a token fits: the search along the links of its name gives what the rules decide.
 use Prim.Native.Nat.{ℕ, zero, suc, _+_, _-_, _*_, _/_, _%_, _≤_, _<_}
 use mathlib.Core.Path.{_≡_, refl, sym, _∙_, ap, subst}
-use mathlib.Core.Bool.{Bool, true, false, _&&_, cond, false≢true}
+use mathlib.Core.Bool.{Bool, true, false, _&&_, not, cond, false≢true}
 use mathlib.Core.Logic.{_⊎_, inl, inr}
 use mathlib.Core.List.{List, []}
 use native.Mathlib.Omega.{arith}
 use lib.ListN.{length, getD}
+use lib.Dec.{eqb, leb}
+use borrow.Author.Tests.{ne-eqb, le-leb}
+use native.Mathlib.Decide.{decLt}
 use Rattle.rules.specs.Walk.{Group, Begins, lastOr0}
 use Rattle.rules.specs.TypeFile.{Place, Content, empty, model, Element}
 use Rattle.rules.specs.Elements.{contentOf, placesIn}
@@ -21,13 +24,13 @@ use Rattle.and_laws.specs.Unique.{first-has}
 use Rattle.and_laws.specs.Rows.{follow-to}
 use Rattle.and_laws.specs.Levels.{mayIn}
 use Rattle.and_laws.specs.Taken.{nextFrom, IsLast, IsTaken, groupsAt, next-around, plain-next}
-use Rattle.and_laws.specs.Begun.{nextOf, last-is, is-taken}
+use Rattle.and_laws.specs.Begun.{nextOf, begins-none, last-is, is-taken}
 use Rattle.member_laws.specs.Members.{Told, Standing}
 use Rattle.document_laws.specs.Decide.{search, search-passes, fitsIn, decided}
 use Rattle.type_laws.specs.Width.{typeFile-width}
 use Rattle.row_search.specs.Means.{rowAt, nextBit, Linked, Largest, LargestRaised, RowSays, BothSay}
 use Rattle.row_search.specs.Laws.{search-most, search-none, search-both}
-use Rattle.type_tables.specs.Means.{width, nameNumber, Declares, nextRow, raisedPlace, PlainIn, ToldIn, Tables, Entered}
+use Rattle.type_tables.specs.Means.{width, nameNumber, Declares, nextRow, Lowered, raisedPlace, PlainIn, ToldIn, Tables, Entered}
 use Rattle.type_tables.specs.Ranges.{Modelled, modelled, width-most}
 
 -- What may come next in a content after the places taken.
@@ -65,8 +68,8 @@ module _ {s : List ℕ} {es : List Element} {rows places facts M : List ℕ} (ta
       }
 
   -- What is found along the links is what the rules decide, where what is said of each place is.
-  fits-by : (Says : ℕ → Bool → Type 0) → ((q : ℕ) (b : Bool) → 1 ≤ q → q ≤ width es e → Says q b → b ≡ next q) → (n r : ℕ) → n ≡ top → Largest Says places e n r → r ≡ decided s es .fits e taken t
-  fits-by Says says n r z found = found .finds named next (subst (Linked places e named) (sym z) linked) (λ q b l h. says q b l (omega (arith, top-few))) ∙ ap (search (λ p. named p && next p)) z ∙ sym fits-search
+  fits-by : (Says : ℕ → Bool → Type 0) → ((q : ℕ) (b : Bool) → 1 ≤ q → q ≤ top → Says q b → b ≡ next q) → (n r : ℕ) → n ≡ top → Largest Says places e n r → r ≡ decided s es .fits e taken t
+  fits-by Says says n r z found = found .finds named next (subst (Linked places e named) (sym z) linked) (λ q b l h. says q b l (omega arith)) ∙ ap (search (λ p. named p && next p)) z ∙ sym fits-search
 
   -- The number that is kept
 
@@ -118,7 +121,71 @@ module _ {s : List ℕ} {es : List Element} {rows places facts M : List ℕ} (ta
         go : (c : Content) → contentOf es e ≡ c → ToldIn M e c → BothSay rows M begun level e u q b → nextBit rows e u q ≡ nextRow c u q → b ≡ nextAfter c taken q
         go empty y d (inl (v, w)) r = w
         go empty y d (inr (v, w)) r = absurd (false≢true (sym r ∙ v))
-        go (model g ps n) y d say r = by say
+        go (model g ps n) y d say r = by say (last g ps n y) (modelled s es (tables .accepted) e y)
           where
-            by : BothSay rows M begun level e u q b → b ≡ nextOf g taken q
-            by x = ?
+            module-next : Begins g taken × IsLast taken u → Modelled es e g → (IsTaken g u (mem taken)) × (nextOf g taken q ≡ nextIn g u q && mayIn (groupsAt g u) u (mem taken) q)
+            module-next (x, z) m =
+                let is = last-is taken u z in
+                let i : IsTaken g u (mem taken) = subst (λ (v : ℕ). IsTaken g v (mem taken)) is (is-taken g (m .numbered) (m .guarded) taken x) in
+                (i, ap (λ (v : ℕ). nextFrom g v (mem taken) q) is ∙ next-around g (numbered-good g 1 (m .numbered) (m .guarded)) (mem taken) u i q)
+
+            has-last : (u : ℕ) → IsTaken g u (mem taken) → 1 ≤ u → has g u ≡ true
+            has-last zero i k = absurd (omega arith)
+            has-last (suc u) i k = i .0
+
+            has-next : (u : ℕ) → nextIn g u q ≡ true → has g q ≡ true
+            has-next zero i = first-has g q i
+            has-next (suc u) i = follow-to g (suc u) q i
+
+            by : BothSay rows M begun level e u q b → Begins g taken × IsLast taken u → Modelled es e g → b ≡ nextOf g taken q
+            by (inl (v, w)) x m = w ∙ sym (module-next x m .1 ∙ ap (λ (z : Bool). z && mayIn (groupsAt g u) u (mem taken) q) (sym r ∙ v))
+            by (inr (v, f)) x m =
+                let (i, z) = module-next x m in
+                f g (m .numbered) (m .guarded) d taken (stands g ps n y) (has-last u i) (has-next u (sym r ∙ v)) ∙ sym (z ∙ ap (λ (z : Bool). z && mayIn (groupsAt g u) u (mem taken) q) (sym r ∙ v))
+
+-- An open element
+module _ {s : List ℕ} {es : List Element} {rows places facts M begun : List ℕ} {level e u : ℕ} {o : Open} (tables : Tables s es rows places facts M) (entered : Entered es M begun level e u o) (t : Token) (known : Declares es t) (x p r : ℕ) (name : nameNumber t ≡ x) (read : p ≡ getD facts (e * FACT + x) 0) where
+  begun-with : (g : Group) (ps : List Place) (n : ℕ) → contentOf es e ≡ model g ps n → Begins g (o .taken) × IsLast (o .taken) u
+  begun-with g ps n c = (entered .begins c, entered .stands c .last)
+
+  read-name : p ≡ getD facts (e * FACT + nameNumber t) 0
+  read-name = read ∙ ap (λ (y : ℕ). getD facts (e * FACT + y) 0) (sym name)
+
+  pub fits-low : p ≤ 96 → Largest (RowSays rows e u) places e p r → r ≡ decided s es .fits e (o .taken) t
+  fits-low l found =
+      let (z, way) = read-low tables e (entered .declared) (o .taken) t known p read-name l in
+      fits-by tables e (entered .declared) (o .taken) t known (RowSays rows e u) (says way) p r z found
+    where
+      says : (tables .raised e ≡ false) ⊎ (top tables e (entered .declared) (o .taken) t known ≡ 0) → (q : ℕ) (b : Bool) → 1 ≤ q → q ≤ top tables e (entered .declared) (o .taken) t known → RowSays rows e u q b → b ≡ next tables e (entered .declared) (o .taken) t known q
+      says (inl y) q b k h = row-next tables e (entered .declared) (o .taken) t known u (entered .place) begun-with (inl (tables .plain e (entered .declared) y)) q b k (omega (arith, top-few tables e (entered .declared) (o .taken) t known))
+      says (inr y) q b k h = absurd (omega arith)
+
+  pub fits-high : 96 < p → LargestRaised (BothSay rows M begun level e u) places e p r → r ≡ decided s es .fits e (o .taken) t
+  fits-high l found =
+      let (z, y) = read-high tables e (entered .declared) (o .taken) t known p read-name l in
+      fits-by tables e (entered .declared) (o .taken) t known (BothSay rows M begun level e u)
+      (λ q b k h. both-next tables e (entered .declared) (o .taken) t known u (entered .place) begun-with begun level (tables .told e (entered .declared) y) (λ g ps n c. entered .stands c) q b k (omega (arith, top-few tables e (entered .declared) (o .taken) t known)))
+      (top tables e (entered .declared) (o .taken) t known) r refl (found .finds _ z (omega (arith, top-few tables e (entered .declared) (o .taken) t known)))
+
+-- The start of an element: nothing has begun there, so the row decides.
+pub fits-start : {s : List ℕ} {es : List Element} {rows places facts M : List ℕ} (tables : Tables s es rows places facts M) (e : ℕ) (declared : e ≤ length es) (t : Token) (known : Declares es t) (x p q r : ℕ) → nameNumber t ≡ x → p ≡ getD facts (e * FACT + x) 0 → Lowered p q → Largest (RowSays rows e 0) places e q r → r ≡ decided s es .fits e [] t
+fits-start {s} {es} {rows} {places} {facts} {M} tables e declared t known x p q r name read lowered found =
+    fits-by tables e declared [] t known (RowSays rows e 0)
+    (λ q b k h. row-next tables e declared [] t known 0 (omega arith) (λ g ps n c. (begins-none g, refl)) (inr refl) q b k (omega (arith, top-few tables e declared [] t known)))
+    q r (go (decLt 96 p)) found
+  where
+    at : p ≡ getD facts (e * FACT + nameNumber t) 0
+    at = read ∙ ap (λ (y : ℕ). getD facts (e * FACT + y) 0) (sym name)
+
+    go : Dec (96 < p) → q ≡ top tables e declared [] t known
+    go (yes l) = let (z, y) = read-high tables e declared [] t known p at l in lowered .high _ z (omega (arith, top-few tables e declared [] t known))
+    go (no l) = let (z, y) = read-low tables e declared [] t known p at (omega arith) in lowered .low (omega arith) ∙ z
+
+-- A place was found, or not.
+pub some-found : (q : ℕ) → not (eqb q 0) ≡ leb 1 q
+some-found zero = refl
+some-found (suc q) = ap not (ne-eqb (suc q) 0 (λ z. omega arith)) ∙ sym (le-leb 1 (suc q) (omega arith))
+
+-- Data is the name 0.
+pub read-data : (facts : List ℕ) (e p : ℕ) → p ≡ getD facts (e * FACT) 0 → p ≡ getD facts (e * FACT + 0) 0
+read-data facts e p z = let d : e * FACT ≡ e * FACT + 0 = omega arith in z ∙ ap (λ (i : ℕ). getD facts i 0) d

@@ -3,3 +3,4 @@ pub mod Means
 pub mod Ranges
 pub mod Marks
 pub mod Fitting
+pub mod Inferring

@@ -69,6 +69,12 @@ abbrev pub raisedPlace : Bool → ℕ → ℕ
 raisedPlace b zero = 0
 raisedPlace b (suc p) = cond b (128 + suc p) (suc p)
 
+-- q is the place that a number is which may be raised; 0 where it is none.
+pub record Lowered (p q : ℕ) : Type 0 where
+  pub small : q ≤ 96
+  pub low : p ≤ 96 → q ≡ p
+  pub high : (n : ℕ) → p ≡ 128 + n → n ≤ 96 → q ≡ n
+
 -- `raised` says of which elements the numbers are raised.
 pub record Rows (es : List Element) (raised : ℕ → Bool) (rows : List ℕ) : Type 0 where
   pub next : (e u p : ℕ) → e ≤ length es → u ≤ width es e → 1 ≤ p → p ≤ 96 → bitOf (getD rows (rowAt e u + p / 8) 0) (p % 8) ≡ nextRow (contentOf es e) u p

@@ -38,7 +38,7 @@ ghost use Rattle.rules.specs.Decisions as decisions;
 ghost use Rattle.layout.specs.Sizes.{POSITIONS};
 ghost use Rattle.document_laws.specs.Decide.{decided};
 ghost use Rattle.document_laws.specs.Moves.{fresh};
-ghost use Rattle.type_tables.specs.Means.{nameNumber, rowAt, completeAt, requiredAt, Declares, Facts, Tables, Entered};
+ghost use Rattle.type_tables.specs.Means.{nameNumber, rowAt, completeAt, requiredAt, Declares, Lowered, Facts, Tables, Entered};
 
 // Whether the row of the element e after the place u has its content complete there.
 pub fn complete(rows: &[u8; ROWS], e: ElementNo, u: Place) -> bool
@@ -145,6 +145,22 @@ pub fn takes_data(
     q.0 != 0
 }
 
+// The place that a number of the facts is, 128 higher where the model has an "&"; 0 where it is none.
+fn lowered(p: usize) -> Place
+    ensures { λ r. ⌜ Lowered p (r .0) ⌝ }
+{
+    if p <= 96 {
+        return Place(p);
+    }
+    if p < 128 {
+        return Place(0);
+    }
+    if 96 < p - 128 {
+        return Place(0);
+    }
+    Place(p - 128)
+}
+
 // The place of the name x that may come next at the start of the element e, or 0. Nothing has begun there, so the row decides.
 pub fn fitting_first(
     rows: &[u8; ROWS],
@@ -159,18 +175,9 @@ pub fn fitting_first(
     ensures { λ r. ⌜ r .0 ≤ 96 ⌝ }
 {
     let name = x.0;
-    let mut p = numbers::wide(facts[e.0 * FACT + name]);
-    if 96 < p {
-        if p < 128 {
-            return Place(0);
-        }
-        p -= 128;
-        if 96 < p {
-            return Place(0);
-        }
-    }
+    let p = numbers::wide(facts[e.0 * FACT + name]);
     let none = Place(0);
-    row_search::largest(rows, places, e, none, Place(p))
+    row_search::largest(rows, places, e, none, lowered(p))
 }
 
 // The element whose start is to be inferred in the element e where the place p is required, or 0.
