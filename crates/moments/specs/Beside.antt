@@ -24,7 +24,7 @@ use Rattle.document_laws.specs.Same.{AllBegun, begun-moves, nothing-begun}
 use Rattle.type_tables.specs.Means.{Tables, CanTake}
 use Rattle.open_elements.specs.declared.Open.{Open}
 use Rattle.open_elements.specs.Means.{fresh, opening, ended, Ranged, Stands, Taking, Starting}
-use Rattle.open_elements.specs.Entered.{can-range}
+use Rattle.type_tables.specs.Marks.{can-range}
 use Rattle.open_elements.specs.Laws.{stands-deep, stands-required, stands-fresh, stands-noted, stands-opening, stands-ended, stands-around, ranged-fresh, ranged-taking, ranged-opening, ranged-ended}
 use Rattle.open_elements.specs.Marks.{marks-say}
 use Rattle.left_out_ends.specs.Loop.{stands-complete}
