@@ -90,7 +90,7 @@ module _ {s : List ℕ} {es : List Element} {rows places facts M : List ℕ} (ta
       can = can-take s es (tables .accepted) m D means c
 
       pub place-small : p ≤ 96
-      place-small = can-range tables can .1
+      place-small = can-range tables (m .stands .current .entered) can .1
 
       pub moment-took : {r : Open} {bits′ : List ℕ} → Taking rows M bits p o r bits′ → Moment es M bits′ (takePlace p z) r
       moment-took t =
