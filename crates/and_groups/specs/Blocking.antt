@@ -1,12 +1,12 @@
 -- The walk that looks for the first group that blocks: what is left of the groups around p blocks exactly if all do.
-use Prim.Native.Nat.{ℕ, zero, suc, _+_, _-_, _%_, _≤_, _<_}
+use Prim.Native.Nat.{ℕ, _+_, _-_, _≤_, _<_}
 use mathlib.Core.Path.{_≡_, refl, sym, _∙_, ap, subst}
 use mathlib.Core.Bool.{Bool, true, false, _&&_, _||_, not, cond, false≢true}
 use mathlib.Core.List.{List, [], _∷_}
 use native.Mathlib.Omega.{arith}
 use lib.ListN.{getD}
 use Rattle.rules.specs.Walk.{Group}
-use Rattle.model_sets.specs.Sets.{hasM, lastM}
+use Rattle.model_sets.specs.Sets.{lastM}
 use Rattle.and_laws.specs.Rest.{allM}
 use Rattle.and_laws.specs.Req.{restReq}
 use Rattle.and_laws.specs.Rows.{fine}

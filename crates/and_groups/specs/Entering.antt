@@ -1,19 +1,18 @@
 -- The walk that enters the members around a place: what is still to be entered, with what has begun, is what is to have begun at the end.
-use Prim.Native.Nat.{ℕ, zero, suc, _+_, _%_, _≤_, _<_}
+use Prim.Native.Nat.{ℕ, _+_, _%_, _≤_, _<_}
 use mathlib.Core.Path.{_≡_, refl, sym, _∙_, ap, subst}
-use mathlib.Core.Bool.{Bool, true, false, _||_, false≢true}
+use mathlib.Core.Bool.{Bool, true, false, _||_}
 use mathlib.Core.List.{List, [], _∷_}
 use native.Mathlib.Omega.{arith}
 use lib.ListN.{length, getD}
 use lib.Dec.{eqb}
-use borrow.Author.Tests.{eqb-true, eq-eqb}
+use borrow.Author.Tests.{eqb-true}
 use Rattle.layout.specs.Sizes.{POSITIONS}
-use Rattle.model_sets.specs.Bits.{or-left, or-right, or-cases}
+use Rattle.model_sets.specs.Bits.{or-left, or-cases}
 use Rattle.model_sets.specs.Sets.{hasM}
 use Rattle.and_laws.specs.Rows.{or-no}
 use Rattle.and_laws.specs.Ranked.{Level, Rising}
 use Rattle.member_laws.specs.Members.{groupAt, recordAt, outerAt, Grouped, Chain, begunAt, Elsewhere}
-use Rattle.member_laws.specs.Numbered.{both-tests}
 use Rattle.member_laws.specs.Inside.{EachLevel}
 use Rattle.member_laws.specs.Around.{memberAt, isHolder, Closed, member-group, member-small, chain-kept, chain-none, chain-first, holder-each}
 use Rattle.begun_bits.specs.Means.{Begins}

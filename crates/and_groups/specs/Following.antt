@@ -1,14 +1,14 @@
 -- The walk outwards from the last place and from the one that is asked for at once: what is left of both says what all say.
 use Prim.Native.Nat.{ℕ, zero, suc, _+_, _%_, _≤_, _<_}
 use mathlib.Core.Path.{_≡_, refl, sym, _∙_, ap, subst}
-use mathlib.Core.Bool.{Bool, true, false, _&&_, _||_, not, cond, false≢true}
+use mathlib.Core.Bool.{Bool, true, false, _&&_, _||_, not}
 use mathlib.Core.List.{List, [], _∷_}
 use native.Mathlib.Omega.{arith}
 use lib.ListN.{getD}
 use lib.Dec.{eqb, ltb}
 use borrow.Author.Tests.{eq-eqb, ne-eqb, lt-ltb, le-ltb}
 use Rattle.rules.specs.Walk.{Group, Members}
-use Rattle.model_sets.specs.Bits.{and-left, and-right, and-both, or-left, not-true, not-both}
+use Rattle.model_sets.specs.Bits.{and-left, and-right, and-both, or-left, not-true}
 use Rattle.model_sets.specs.Sets.{Numbered, has, hasM}
 use Rattle.and_laws.specs.Base.{mem}
 use Rattle.and_laws.specs.Sets.{meets, Good, GoodM}
@@ -16,10 +16,10 @@ use Rattle.and_laws.specs.Numbers.{Guarded, numbered-good}
 use Rattle.and_laws.specs.Rest.{allM, anyM}
 use Rattle.and_laws.specs.Rows.{fine, unbegun}
 use Rattle.and_laws.specs.Levels.{together, within, mayIn}
-use Rattle.and_laws.specs.Ranked.{count, Level, levels, levels-rise, Rising, dropTo, headIs, mayBy, may-by}
+use Rattle.and_laws.specs.Ranked.{count, Level, levels, levels-rise, Rising, mayBy, may-by}
 use Rattle.and_laws.specs.Taken.{groupsAt}
 use Rattle.member_laws.specs.Members.{needs, numberIn, holderAt, groupAt, recordAt, outerAt, firstAt, Grouped, Chain, Told, begunAt, Marked, AllMarked, Standing}
-use Rattle.member_laws.specs.Numbered.{both-tests, any-numbered, numbered-any, numbered-place, numbered-once, each-at}
+use Rattle.member_laws.specs.Numbered.{both-tests, any-numbered, numbered-any, numbered-place, numbered-once}
 use Rattle.member_laws.specs.Inside.{level-once, level-good, EachLevel, each-level, IsAround, levels-are}
 use Rattle.member_laws.specs.Around.{memberAt, NumberedAt, held, member-group, member-small, member-begun, chain-none, chain-first}
 use Rattle.begun_bits.specs.Means.{Grouping}

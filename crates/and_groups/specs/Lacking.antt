@@ -1,5 +1,5 @@
 -- One group: whether it lacks a member, and which place its only member requires that has not begun, from the bits.
-use Prim.Native.Nat.{ℕ, zero, suc, _+_, _-_, _*_, _/_, _%_, _^_, _≤_, _<_}
+use Prim.Native.Nat.{ℕ, _+_, _-_, _*_, _/_, _%_, _^_, _≤_, _<_}
 use mathlib.Core.Path.{_≡_, refl, sym, _∙_, ap, subst}
 use mathlib.Core.Bool.{Bool, true, false, not, cond}
 use mathlib.Core.List.{List}
@@ -10,8 +10,6 @@ use lib.Dec.{eqb}
 use lib.Pow.{pow-mono}
 use lib.Bits.{bitAnd}
 use borrow.Author.Tests.{eqb-true, eq-eqb}
-use Rattle.rules.specs.Walk.{Members}
-use Rattle.model_sets.specs.Bits.{bool-cases}
 use Rattle.and_laws.specs.Rest.{allM}
 use Rattle.and_laws.specs.Req.{restReq}
 use Rattle.and_laws.specs.Rows.{fine}

@@ -1,7 +1,7 @@
 -- A place is taken: the members around it have begun besides those that had, and what blocks is found by the bits after it.
-use Prim.Native.Nat.{ℕ, zero, suc, _+_, _%_, _≤_, _<_}
+use Prim.Native.Nat.{ℕ, _+_, _%_, _≤_}
 use mathlib.Core.Path.{_≡_, refl, sym, _∙_, ap, subst}
-use mathlib.Core.Bool.{Bool, true, false, _||_}
+use mathlib.Core.Bool.{Bool, true, _||_}
 use mathlib.Core.Logic.{_⊎_, inl, inr}
 use mathlib.Core.List.{List, [], _∷_, _++_}
 use native.Mathlib.Omega.{arith}
@@ -12,14 +12,14 @@ use Rattle.and_laws.specs.Base.{mem}
 use Rattle.and_laws.specs.Sets.{meets, Good}
 use Rattle.and_laws.specs.Numbers.{Guarded, has-range, numbered-good}
 use Rattle.and_laws.specs.Req.{restReq}
-use Rattle.and_laws.specs.Levels.{around, blocksIn, loneIn}
-use Rattle.and_laws.specs.Ranked.{count, Level, levels, levels-around, levels-rise, groupsOf}
+use Rattle.and_laws.specs.Levels.{blocksIn, loneIn}
+use Rattle.and_laws.specs.Ranked.{count, Level, levels, levels-around, levels-rise}
 use Rattle.and_laws.specs.Taken.{IsLast, last-taken}
-use Rattle.member_laws.specs.Members.{needs, firstAt, holderAt, Grouped, Chain, Told, begunAt, Marked, AllMarked, Standing, Elsewhere}
+use Rattle.member_laws.specs.Members.{holderAt, Grouped, Chain, Told, begunAt, Marked, AllMarked, Standing, Elsewhere}
 use Rattle.member_laws.specs.Own.{OwnOr0, rest-own}
 use Rattle.member_laws.specs.Numbered.{at-each, each-at}
 use Rattle.member_laws.specs.Inside.{level-has, EachLevel, each-level, IsAround, levels-are, levels-nest}
-use Rattle.member_laws.specs.Around.{isHolder, NumberedAt, Closed, numbered-small, chain-kept, closed-by, is-holder, meets-more, meets-none}
+use Rattle.member_laws.specs.Around.{isHolder, numbered-small, chain-kept, closed-by, is-holder, meets-more, meets-none}
 use Rattle.begun_bits.specs.Means.{Clears}
 use Rattle.and_groups.specs.Means.{Takes, Blocked, free, held}
 use Rattle.and_groups.specs.Walks as walks

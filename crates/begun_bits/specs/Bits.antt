@@ -1,14 +1,13 @@
 -- Numbers bit by bit: a bit set, a part of two words, the bits that are not set, and how many there are.
 use Prim.Native.Nat.{ℕ, zero, suc, _+_, _-_, _*_, _/_, _%_, _^_, _≤_, _<_}
-use mathlib.Core.Path.{_≡_, refl, sym, _∙_, ap, subst}
+use mathlib.Core.Path.{_≡_, refl, sym, _∙_, ap}
 use mathlib.Core.Bool.{Bool, true, false, _||_, cond}
-use mathlib.Core.Logic.{_⊎_, inl, inr}
-use native.Mathlib.Nat.{pow-suc, pow-zero, mod-lt}
+use native.Mathlib.Nat.{pow-suc, mod-lt}
 use native.Mathlib.Omega.{arith}
 use lib.Dec.{eqb}
 use borrow.Author.Tests.{eqb-true, eqb-false}
 use Rattle.model_sets.specs.Bits.{bool-cases}
-use lib.Pow.{pow-pos, shr-shr, shr-le, high, low, field, mod-mod-pow}
+use lib.Pow.{shr-shr, shr-le, high, low, field, mod-mod-pow}
 use lib.Bits.{bitOr, or-shr, or-mod}
 
 -- Halves

@@ -1,7 +1,7 @@
 -- What the functions write and read, over plain lists.
-use Prim.Native.Nat.{ℕ, zero, suc, _+_, _-_, _*_, _/_, _%_, _^_, _≤_, _<_}
+use Prim.Native.Nat.{ℕ, _+_, _-_, _*_, _/_, _%_, _^_, _≤_, _<_}
 use mathlib.Core.Path.{_≡_, refl, sym, _∙_, ap, subst}
-use mathlib.Core.Bool.{Bool, true, false, _||_, cond}
+use mathlib.Core.Bool.{Bool, _||_, cond}
 use mathlib.Core.List.{List}
 use native.Mathlib.Decide.{ℕ-discrete, decLt}
 use native.Mathlib.Nat.{mod-lt}
@@ -12,8 +12,6 @@ use lib.Dec.{eqb}
 use borrow.Author.Tests.{eq-eqb, ne-eqb}
 use lib.Pow.{pow-pos, pow-mono, ones-sub-lt, shl-exact}
 use lib.Bits.{bitOr}
-use Rattle.layout.specs.Sizes.{POSITIONS}
-use Rattle.rules.specs.Bytes.{GRPCNT}
 use Rattle.and_laws.specs.Rows.{or-no}
 use Rattle.member_laws.specs.Members.{wordAt, begunAt, Elsewhere}
 use Rattle.begun_bits.specs.Means.{Begins, Clears, Idle}

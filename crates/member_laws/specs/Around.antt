@@ -1,24 +1,23 @@
 -- The groups around a place as the table has them: the number of the member that holds the place in each, and that the bits of an outer member are set where those of
 -- an inner one are.
-use Prim.Native.Nat.{ℕ, zero, suc, _+_, _-_, _*_, _/_, _%_, _^_, _≤_, _<_}
+use Prim.Native.Nat.{ℕ, _%_, _≤_}
 use mathlib.Core.Path.{_≡_, refl, sym, _∙_, ap, subst}
-use mathlib.Core.Bool.{Bool, true, false, _&&_, _||_, not, cond, false≢true}
-use mathlib.Core.Logic.{_⊎_, inl, inr}
+use mathlib.Core.Bool.{Bool, true, false, _&&_, _||_, false≢true}
+use mathlib.Core.Logic.{inl, inr}
 use mathlib.Core.List.{List, [], _∷_, _++_}
 use native.Mathlib.Omega.{arith}
 use lib.Dec.{eqb}
 use borrow.Author.Tests.{eqb-true, eq-eqb}
 use Rattle.rules.specs.Walk.{Group, Members}
 use Rattle.model_sets.specs.Bits.{or-left, or-right, or-cases, and-left, and-right, not-true}
-use Rattle.model_sets.specs.Sets.{has, hasM, must, lastM}
+use Rattle.model_sets.specs.Sets.{has, hasM, must}
 use Rattle.and_laws.specs.Base.{mem, mem-left, mem-right, mem-cases, mem-head}
 use Rattle.and_laws.specs.Sets.{meets, Good, GoodM, meets-common, common-meets}
-use Rattle.and_laws.specs.Rest.{anyM}
 use Rattle.and_laws.specs.Levels.{together}
-use Rattle.and_laws.specs.Ranked.{Level, levels, Rising}
-use Rattle.member_laws.specs.Members.{amount, needs, numberIn, Each, groupAt, dueAt, firstAt, outerAt, Grouped, Chain, Told, begunAt, Marked, AllMarked}
+use Rattle.and_laws.specs.Ranked.{Level, levels}
+use Rattle.member_laws.specs.Members.{needs, numberIn, Each, groupAt, dueAt, firstAt, Grouped, Chain, begunAt, Marked, AllMarked}
 use Rattle.member_laws.specs.Numbered.{both-tests, amount-both, IsNumbered, any-numbered, each-at, at-each, numbered-has, place-numbered, numbered-place, numbered-range, numbered-once, Ranged, needed, spare}
-use Rattle.member_laws.specs.Inside.{IsLevel, level-once, level-good, level-around, EachLevel, AnyLevel, IsSame, IsAround, levels-are, Nested, levels-nest}
+use Rattle.member_laws.specs.Inside.{IsLevel, level-once, level-good, level-around, EachLevel, AnyLevel, IsSame, IsAround, levels-are, Nested}
 
 module _ (M : List ℕ) (e : ℕ) where
   -- the number of the member of the group that holds u

@@ -1,23 +1,23 @@
 -- The numbers of the members of one group: no two have one, they follow one another, and those that cannot be nothing come first. So the bits of the members
 -- that have not begun say whether the group lacks a member, and which place the only one that is left requires.
-use Prim.Native.Nat.{ℕ, zero, suc, _+_, _-_, _*_, _/_, _%_, _^_, _≤_, _<_}
+use Prim.Native.Nat.{ℕ, _+_, _-_, _≤_, _<_}
 use mathlib.Core.Path.{_≡_, refl, sym, _∙_, ap, subst}
-use mathlib.Core.Bool.{Bool, true, false, _&&_, _||_, not, cond, false≢true}
+use mathlib.Core.Bool.{Bool, true, false, false≢true}
 use mathlib.Core.Logic.{_⊎_, inl, inr}
 use mathlib.Core.List.{List, [], _∷_}
-use native.Mathlib.Decide.{ℕ-discrete, decLt}
+use native.Mathlib.Decide.{decLt}
 use native.Mathlib.Omega.{arith}
 use lib.Dec.{eqb, leb}
-use borrow.Author.Tests.{eqb-true, eq-eqb, leb-true, le-leb, lt-leb}
+use borrow.Author.Tests.{eqb-true, eq-eqb, le-leb, lt-leb}
 use Rattle.rules.specs.Walk.{Group, Members, one, also}
-use Rattle.model_sets.specs.Bits.{or-left, or-right, or-cases, and-both, not-true, not-both, bool-cases}
+use Rattle.model_sets.specs.Bits.{or-left, or-right, or-cases, not-true, not-both, bool-cases}
 use Rattle.model_sets.specs.Sets.{has, hasM, nullable, must}
 use Rattle.and_laws.specs.Base.{mem}
 use Rattle.and_laws.specs.Sets.{meets, GoodM}
 use Rattle.and_laws.specs.Rest.{allM, anyM}
 use Rattle.and_laws.specs.Req.{restReq}
 use Rattle.and_laws.specs.Rows.{fine}
-use Rattle.and_laws.specs.Filed.{allOf, Distinct, all-each, each-all, loneOf, lone-one, lone-two, lone-none, IsNumber, Filed, fineNumber, filed-fine, filed-rest}
+use Rattle.and_laws.specs.Filed.{Distinct, all-each, each-all, lone-one, lone-two, lone-none, IsNumber, Filed, fineNumber, filed-fine, filed-rest}
 use Rattle.member_laws.specs.Members.{amount, needs, spares, numberFor, numberIn, Each}
 
 -- Two tests that hold together are one.

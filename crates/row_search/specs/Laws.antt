@@ -1,6 +1,6 @@
 -- Laws of the search for the last place that passes a test; a search for a place that passes two tests goes over those that pass the first. The loop of the
 -- search: the places that are still to be looked at give the answer.
-use Prim.Native.Nat.{ℕ, zero, suc, _+_, _-_, _≤_, _<_}
+use Prim.Native.Nat.{ℕ, zero, suc, _-_, _≤_, _<_}
 use mathlib.Core.Path.{_≡_, refl, sym, _∙_, ap, subst}
 use mathlib.Core.Bool.{Bool, true, false, _&&_}
 use mathlib.Core.List.{List}

@@ -1,7 +1,7 @@
 -- The place as which a token fits: the search along the links of its name gives what the rules decide.
-use Prim.Native.Nat.{ℕ, zero, suc, _+_, _-_, _*_, _/_, _%_, _≤_, _<_}
+use Prim.Native.Nat.{ℕ, zero, suc, _+_, _*_, _≤_, _<_}
 use mathlib.Core.Path.{_≡_, refl, sym, _∙_, ap, subst}
-use mathlib.Core.Bool.{Bool, true, false, _&&_, not, cond, false≢true}
+use mathlib.Core.Bool.{Bool, true, false, _&&_, not, false≢true}
 use mathlib.Core.Logic.{_⊎_, inl, inr}
 use mathlib.Core.List.{List, []}
 use native.Mathlib.Omega.{arith}
@@ -9,26 +9,25 @@ use lib.ListN.{length, getD}
 use lib.Dec.{eqb, leb}
 use borrow.Author.Tests.{ne-eqb, le-leb}
 use native.Mathlib.Decide.{decLt}
-use Rattle.rules.specs.Walk.{Group, Begins, lastOr0}
+use Rattle.rules.specs.Walk.{Group, Begins}
 use Rattle.rules.specs.TypeFile.{Place, Content, empty, model, Element}
 use Rattle.rules.specs.Elements.{contentOf, placesIn}
-use Rattle.rules.specs.Decisions.{Token, pcdata, hasName}
+use Rattle.rules.specs.Decisions.{Token, hasName}
 use Rattle.rules.specs.Settling.{Open}
-use Rattle.layout.specs.Sizes.{POSITIONS, FACT}
-use Rattle.model_sets.specs.Bits.{bool-cases}
-use Rattle.model_sets.specs.Sets.{Numbered, has, first, follow, nextIn}
+use Rattle.layout.specs.Sizes.{FACT}
+use Rattle.model_sets.specs.Sets.{has, nextIn}
 use Rattle.and_laws.specs.Base.{mem}
 use Rattle.and_laws.specs.Sets.{Plain}
-use Rattle.and_laws.specs.Numbers.{Guarded, numbered-good}
+use Rattle.and_laws.specs.Numbers.{numbered-good}
 use Rattle.and_laws.specs.Unique.{first-has}
 use Rattle.and_laws.specs.Rows.{follow-to}
 use Rattle.and_laws.specs.Levels.{mayIn}
 use Rattle.and_laws.specs.Taken.{nextFrom, IsLast, IsTaken, groupsAt, next-around, plain-next}
 use Rattle.and_laws.specs.Begun.{nextOf, begins-none, last-is, is-taken}
-use Rattle.member_laws.specs.Members.{Told, Standing}
+use Rattle.member_laws.specs.Members.{Standing}
 use Rattle.document_laws.specs.Decide.{search, search-passes, fitsIn, decided}
 use Rattle.type_laws.specs.Width.{typeFile-width}
-use Rattle.row_search.specs.Means.{rowAt, nextBit, Linked, Largest, LargestRaised, RowSays, BothSay}
+use Rattle.row_search.specs.Means.{nextBit, Linked, Largest, LargestRaised, RowSays, BothSay}
 use Rattle.row_search.specs.Laws.{search-most, search-none, search-both}
 use Rattle.type_tables.specs.Means.{width, nameNumber, Declares, nextRow, Lowered, raisedPlace, PlainIn, ToldIn, Tables, Entered}
 use Rattle.type_tables.specs.Ranges.{Modelled, modelled, width-most}

@@ -1,28 +1,27 @@
 -- The marks of an open element after a place is taken, as the rows and what has begun give them: they are what the rules decide, and the element stands for the
 -- rules' with this place more.
-use Prim.Native.Nat.{ℕ, zero, suc, _+_, _-_, _*_, _/_, _%_, _^_, _≤_, _<_}
+use Prim.Native.Nat.{ℕ, zero, suc, _+_, _-_, _/_, _%_, _^_, _≤_, _<_}
 use mathlib.Core.Path.{_≡_, refl, sym, _∙_, ap, subst}
 use mathlib.Core.Bool.{Bool, true, false, _&&_, not, cond}
-use mathlib.Core.Logic.{_⊎_, inl, inr}
 use mathlib.Core.List.{List, [], _∷_, _++_}
 use native.Mathlib.Omega.{arith}
 use lib.ListN.{length, getD}
 use lib.Dec.{eqb}
 use borrow.Author.Tests.{eq-eqb, ne-eqb}
-use Rattle.rules.specs.Walk.{Group, Members, Begins, lastOr0}
+use Rattle.rules.specs.Walk.{Group, Members, Begins}
 use Rattle.rules.specs.TypeFile.{Place, Content, model, Element}
 use Rattle.rules.specs.Elements.{contentOf}
 use Rattle.rules.specs.Settling.{Open}
-use Rattle.model_sets.specs.Sets.{size, Numbered, has, completeIn, requiredIn}
+use Rattle.model_sets.specs.Sets.{size, has, completeIn, requiredIn}
 use Rattle.and_laws.specs.Base.{mem}
 use Rattle.and_laws.specs.Sets.{Plain, Good, meets}
-use Rattle.and_laws.specs.Numbers.{Guarded, has-range, numbered-good}
+use Rattle.and_laws.specs.Numbers.{numbered-good}
 use Rattle.and_laws.specs.Rows.{and-no, and-yes}
 use Rattle.and_laws.specs.Levels.{around, blocksIn, loneIn}
 use Rattle.and_laws.specs.Ranked.{Level, levels}
 use Rattle.and_laws.specs.Taken.{completeFrom, requiredFrom, IsTaken, groupsAt, last-taken, plain-complete as rows-complete, plain-required as rows-required, complete-around, required-around}
-use Rattle.and_laws.specs.Begun.{completeOf, requiredOf, begins-none, lastOr0-snoc, is-taken, next-range, complete-last, required-last}
-use Rattle.member_laws.specs.Members.{Each, begunAt, wordAt, Grouped, Told, Marked, AllMarked, Standing}
+use Rattle.and_laws.specs.Begun.{begins-none, lastOr0-snoc, is-taken, next-range}
+use Rattle.member_laws.specs.Members.{begunAt, Grouped, Told, Marked, AllMarked, Standing}
 use Rattle.member_laws.specs.Numbered.{each-at, at-each}
 use Rattle.member_laws.specs.Inside.{EachLevel, plain-levels}
 use Rattle.member_laws.specs.Around.{numbered-small, chain-kept}
@@ -251,9 +250,6 @@ module _ {s : List ℕ} {es : List Element} {rows places facts M : List ℕ} {e 
   pub fresh-required : Tables s es rows places facts M → e ≤ length es → requiredAt rows e 0 ≡ decided s es .required e []
   fresh-required tables declared = start-required s es (tables .accepted) (tables .raised) rows (tables .rows-say) e declared
 
-  -- What is required is a place or 0, and what can be taken is a place.
-  pub entered-required : {begun : List ℕ} {level u : ℕ} {o : Open} → Tables s es rows places facts M → Entered es M begun level e u o → decided s es .required e (o .taken) ≤ 96
-  entered-required {begun} {level} {u} {o} tables entered = omega (arith, required-most s es (tables .accepted) e (o .taken) (λ g ps n c. entered .begins c), width-most s es (tables .accepted) e)
-
+  -- What can be taken is a place.
   pub can-range : {begun : List ℕ} {level u p : ℕ} {o : Open} → Tables s es rows places facts M → Entered es M begun level e u o → CanTake es o p → (1 ≤ p) × (p ≤ 96)
   can-range tables entered can = let x = range tables entered can in omega (arith, of-model tables entered can .few)

@@ -1,5 +1,5 @@
 -- What the tables of a type say, in the rules' terms: the decisions of the walks, by the last place taken and by what has begun of "&" groups.
-use Prim.Native.Nat.{ℕ, zero, suc, _+_, _-_, _*_, _/_, _%_, _^_, _≤_}
+use Prim.Native.Nat.{ℕ, zero, suc, _+_, _-_, _*_, _/_, _%_, _≤_}
 use mathlib.Core.Path.{_≡_}
 use mathlib.Core.Bool.{Bool, true, false, cond}
 use mathlib.Core.List.{List}
@@ -12,7 +12,7 @@ use Rattle.rules.specs.Judge.{Accepts, placeAt}
 use Rattle.rules.specs.Elements.{elementAt, numberOf, contentOf, placesIn, hasModel}
 use Rattle.rules.specs.Decisions.{Token, start, pcdata, hasName}
 use Rattle.rules.specs.Settling.{Open}
-use Rattle.layout.specs.Sizes.{POSITIONS, ROW, FACT}
+use Rattle.layout.specs.Sizes.{POSITIONS, FACT}
 use Rattle.model_sets.specs.Sets.{nextIn, completeIn, requiredIn}
 use Rattle.and_laws.specs.Sets.{Plain}
 use Rattle.member_laws.specs.Members.{Told, Standing}

@@ -1,5 +1,4 @@
 -- `startable` meets its contract: each test is one of the rule's, or no type's tables come to it.
-use Prim.Native.Nat.{_≤_}
 use mathlib.Core.Path.{sym, _∙_}
 use native.Mathlib.Omega.{arith}
 use borrow.Author.Needs.{needs}
