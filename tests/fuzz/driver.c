@@ -8,7 +8,7 @@
 #include <time.h>
 
 #define LONGEST 4096
-#define FILES 1024
+#define FILES 4096
 
 int LLVMFuzzerTestOneInput(const uint8_t *data, size_t size);
 

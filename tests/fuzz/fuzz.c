@@ -65,7 +65,8 @@ static void check_answer(const struct answer *a, const uint8_t *buffer, size_t r
     size_t used = record * n[SGML_ANSWER_COUNT];
     must(a->before == FILL && a->behind == FILL, "the answer's guards");
     must(all(buffer - GUARD, GUARD, FILL) && all(buffer + room, GUARD, FILL), "the buffer's guards");
-    must(n[SGML_ANSWER_NUMBER] <= SGML_ERR_NO_ROOM || n[SGML_ANSWER_NUMBER] == SGML_ERR_SETTINGS, "a number is below 20, or 24");
+    must(n[SGML_ANSWER_NUMBER] <= SGML_ERR_NO_ROOM || n[SGML_ANSWER_NUMBER] == SGML_ERR_SETTINGS || n[SGML_ANSWER_NUMBER] == SGML_ERR_REPEATED,
+         "a number is below 20, or 24 or 25");
     must((n[SGML_ANSWER_NUMBER] == SGML_ERR_SETTINGS) == (name_length < SGML_NAMELEN || name_length > SGML_MOST_NAMELEN),
          "24 exactly if names may not be so long");
     must(n[SGML_ANSWER_NUMBER] != SGML_ERR_SETTINGS || (n[SGML_ANSWER_INPUT] == SGML_IN_TYPE && n[SGML_ANSWER_POSITION] == 0), "24 in the type at 0");
