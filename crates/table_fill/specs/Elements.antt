@@ -28,6 +28,7 @@ use Rattle.element_reader.specs.declared.ElementRead.{ElementRead}
 use Rattle.element_reader.specs.declared.ElementRead.the-variants as elementRead
 use Rattle.rules_laws.specs.Offered.{offered-range}
 use Rattle.rules_laws.specs.Within.{All, more, PlaceIn, ContentIn}
+use Rattle.member_laws.specs.Own.{required-size}
 use Rattle.type_laws.specs.Models.{ShortIn}
 use Rattle.type_laws.specs.Again.{typeFile-sizes}
 use Rattle.type_laws.specs.Members.{typeFile-members}
@@ -37,7 +38,6 @@ use Rattle.type_tables.specs.Means.{rowAt, PlainIn}
 use Rattle.member_table.specs.Filling.{filled}
 use Rattle.model_rows.specs.Bits.{flag-most}
 use Rattle.model_rows.specs.Rows.{RowsDue, RowsPut}
-use Rattle.model_rows.specs.Required.{required-few}
 use Rattle.table_fill.specs.Places.{PlacesPut, places-none}
 use Rattle.table_fill.specs.Told.{TellsIn, lent-still, members-put}
 use Rattle.table_fill.specs.Filled.{Filled, RowsFor, TagsPut, LargestPut, MembersPut, largest-same, members-same, filled-more}
@@ -170,7 +170,7 @@ module _ (c : Settings) (s : List ℕ) (es : List Element) (elements index R P F
             element = few;
             few = m .places-in;
             len = due .filled .rows-len;
-            required = λ u l. rw (m .says .required u (omega (arith, m .sized))) (required-few g (m .numbered) (omega (arith, m .sized, m .places-in)) u);
+            required = λ u l. omega (arith, m .says .required u (omega (arith, m .sized)), required-size g (m .numbered) u, m .sized, m .places-in);
           }
 
       -- With the facts of the record put.
