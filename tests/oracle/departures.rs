@@ -18,6 +18,10 @@ pub enum Kind {
     Parted,
     /// An element has no rank suffix: `<!ELEMENT H 1`.
     Rank,
+    /// The last member left of an "&" group is required; by ISO 8879 (4.62) a member of one never is.
+    LastMember,
+    /// Number 25: an "&" group in what carries "+" or "*". ISO 8879 has no such rule.
+    Repeated,
     /// House figures: 32,768 bytes of type file, 65,535 of document, 64 elements.
     House,
 }
@@ -29,7 +33,8 @@ const POSITION: usize = 2;
 const TYPE_BYTES: usize = 32_768;
 const DOCUMENT_BYTES: usize = 65_535;
 
-/// The document without what a departure bears on. Of one with a form that the reader refuses and
+/// The document without what a departure bears on, and with the tags written that the reader alone
+/// infers. Of one with a form that the reader refuses and
 /// onsgmls takes, only the part before that form stays.
 pub fn plain_document(name_length: u32, type_file: &[u8], document: &[u8]) -> (Vec<u8>, Kinds) {
     let mut kinds = Kinds::new();
@@ -38,10 +43,19 @@ pub fn plain_document(name_length: u32, type_file: &[u8], document: &[u8]) -> (V
         document.truncate(start);
         kinds.insert(kind);
     }
-    let ignored = oracle::ignored_beside_data(name_length, type_file, &document);
-    for at in ignored.into_iter().rev() {
-        document.remove(at);
-        kinds.insert(Kind::Separator);
+    let noted = oracle::noted(name_length, type_file, &document);
+    let mut changes: Vec<(usize, String)> = noted.last_members;
+    changes.extend(noted.ignored.into_iter().map(|at| (at, String::new())));
+    // From the end on, so that those before stay where they are.
+    changes.sort();
+    for (at, tags) in changes.into_iter().rev() {
+        if tags.is_empty() {
+            document.remove(at);
+            kinds.insert(Kind::Separator);
+        } else {
+            document.splice(at..at, tags.into_bytes());
+            kinds.insert(Kind::LastMember);
+        }
     }
     (document, kinds)
 }
@@ -84,6 +98,16 @@ pub fn plain_type(name_length: u32, type_file: &[u8]) -> (Vec<u8>, Kinds) {
                 file.truncate(declaration_start(&file, at));
                 Kind::LeftOut
             }
+            25 => {
+                let Some(mark) = repeating_mark(&file, at) else {
+                    return (file, kinds);
+                };
+                match file[mark] {
+                    b'*' => file[mark] = b'?',
+                    _ => drop(file.remove(mark)),
+                }
+                Kind::Repeated
+            }
             8 if at < file.len() => {
                 file.truncate(declaration_start(&file, at));
                 Kind::House
@@ -96,6 +120,21 @@ pub fn plain_type(name_length: u32, type_file: &[u8]) -> (Vec<u8>, Kinds) {
         };
         kinds.insert(kind);
     }
+}
+
+/// The "+" or "*" of the innermost group around a byte that carries one.
+fn repeating_mark(file: &[u8], at: usize) -> Option<usize> {
+    let mut inner = 0;
+    for index in at..file.len() {
+        match file[index] {
+            b'(' => inner += 1,
+            b')' if inner > 0 => inner -= 1,
+            b')' if matches!(file.get(index + 1), Some(b'+' | b'*')) => return Some(index + 1),
+            b'>' => return None,
+            _ => {}
+        }
+    }
+    None
 }
 
 /// Where the declaration at hand begins, or the last one before.

@@ -84,7 +84,7 @@ const COMMENT_FRAGMENTS: [&str; 13] = [
 pub fn any_type(random: &mut Random) -> Type {
     match random.below(100) {
         0..=19 => sound_type(random),
-        20..=34 => repetitive_type(random),
+        20..=34 => repetitive_type(random, SOME),
         35..=39 => limit_type(random),
         40..=63 => {
             let mut damaged = sound_type(random);
@@ -108,16 +108,24 @@ pub fn any_type(random: &mut Random) -> Type {
     }
 }
 
-/// Chances in a hundred that a token is `#PCDATA`, in most models and in those of `mixed_type`.
-const SOME_DATA: usize = 8;
-const MUCH_DATA: usize = 35;
+/// Chances in a hundred that a token is `#PCDATA`, and that a group is joined by "&".
+#[derive(Clone, Copy)]
+struct Shares {
+    data: usize,
+    ands: usize,
+}
+
+/// In most models, in those of `mixed_type` and in those of `any_order_type`.
+const SOME: Shares = Shares { data: 8, ands: 25 };
+const MUCH_DATA: Shares = Shares { data: 35, ands: 25 };
+const MANY_ANDS: Shares = Shares { data: 8, ands: 60 };
 
 /// A well-formed type file within the limits; its models may be ambiguous.
 pub fn sound_type(random: &mut Random) -> Type {
     if random.percent(20) {
         return chained_type(random);
     }
-    layered_type(random, SOME_DATA)
+    layered_type(random, SOME)
 }
 
 /// A well-formed type file with `#PCDATA` in many models, beside names and more than once. (`opensp.rs`
@@ -127,7 +135,23 @@ pub fn mixed_type(random: &mut Random) -> Type {
     layered_type(random, MUCH_DATA)
 }
 
-fn layered_type(random: &mut Random, data: usize) -> Type {
+/// A well-formed type file with "&" in most models; half of them have one model, with few names, so
+/// that ambiguous and unambiguous lie close together. (`opensp.rs` alone asks for this.)
+#[allow(dead_code)]
+pub fn any_order_type(random: &mut Random) -> Type {
+    match random.percent(50) {
+        true => repetitive_type(random, MANY_ANDS),
+        false => layered_type(random, MANY_ANDS),
+    }
+}
+
+/// The same, for documents.
+#[allow(dead_code)]
+pub fn any_order_layers(random: &mut Random) -> Type {
+    layered_type(random, MANY_ANDS)
+}
+
+fn layered_type(random: &mut Random, shares: Shares) -> Type {
     let count = random.between(1, 6);
     let names = some_of(random, &NAMES, count);
     // In layers, where a model has only names declared later, documents come to an end more often.
@@ -139,20 +163,20 @@ fn layered_type(random: &mut Random, data: usize) -> Type {
         } else {
             &names[..]
         };
-        elements.push(sound_element(random, name, usable, data));
+        elements.push(sound_element(random, name, usable, shares));
     }
     written_type(random, elements)
 }
 
 /// A model over few names, each likely to stand in it more than once, so that ambiguous and
 /// unambiguous lie close together.
-fn repetitive_type(random: &mut Random) -> Type {
+fn repetitive_type(random: &mut Random, shares: Shares) -> Type {
     let count = random.between(2, 4);
     let names = NAMES[..count].iter().map(|name| name.to_string()).collect();
     let mut bag = Bag {
         names,
         put_back: true,
-        data: SOME_DATA,
+        shares,
     };
     let mut element = empty_element(random, 1);
     element.model = Some(sound_group(random, &mut bag, 1));
@@ -203,7 +227,7 @@ fn some_of(random: &mut Random, choices: &[&str], count: usize) -> Vec<String> {
         .collect()
 }
 
-fn sound_element(random: &mut Random, name: &str, usable: &[String], data: usize) -> Element {
+fn sound_element(random: &mut Random, name: &str, usable: &[String], shares: Shares) -> Element {
     let mut names = usable.to_vec();
     if random.percent(12) {
         names.push(random.pick(&UNDECLARED).to_string());
@@ -213,7 +237,7 @@ fn sound_element(random: &mut Random, name: &str, usable: &[String], data: usize
     let mut bag = Bag {
         names,
         put_back: random.percent(30),
-        data,
+        shares,
     };
     let model = if random.percent(8) {
         None
@@ -236,8 +260,7 @@ fn sound_element(random: &mut Random, name: &str, usable: &[String], data: usize
 struct Bag {
     names: Vec<String>,
     put_back: bool,
-    /// Chances in a hundred of `#PCDATA`.
-    data: usize,
+    shares: Shares,
 }
 
 impl Bag {
@@ -277,13 +300,16 @@ fn group(members: Vec<Token>, connector: char, indicator: &'static str) -> Token
 }
 
 fn sound_group(random: &mut Random, bag: &mut Bag, level: usize) -> Token {
-    let connector = random.pick(&[",", ",", "&", "|"]).chars().next();
+    let connector = match random.percent(bag.shares.ands) {
+        true => '&',
+        false => [',', ',', '|'][random.below(3)],
+    };
     let count = *random.pick(&[&1, &2, &2, &3, &4]);
     let mut members = vec![sound_token(random, bag, level)];
     while members.len() < count && !bag.names.is_empty() {
         members.push(sound_token(random, bag, level));
     }
-    let mut group = group(members, connector.unwrap_or(','), "");
+    let mut group = group(members, connector, "");
     // Where it would be number 25 it is now and then written all the same.
     group.indicator = if has_and(&group) && random.percent(95) {
         random.pick(&["", "", "?"])
@@ -302,7 +328,7 @@ fn sound_token(random: &mut Random, bag: &mut Bag, level: usize) -> Token {
     if level < 5 && random.percent(22) {
         return sound_group(random, bag, level + 1);
     }
-    if random.percent(bag.data) {
+    if random.percent(bag.shares.data) {
         return pcdata();
     }
     let indicator = random.pick(&["", "", "", "?", "*", "+"]);
@@ -320,7 +346,7 @@ fn limit_type(random: &mut Random) -> Type {
         random,
         "A",
         &["A".to_string(), "B".to_string()],
-        SOME_DATA,
+        SOME,
     )];
     match random.below(7) {
         0 => {
@@ -336,7 +362,7 @@ fn limit_type(random: &mut Random) -> Type {
                 .map(|number| empty_element(random, number))
                 .collect();
         }
-        4 => elements.push(sound_element(random, "A", &["B".to_string()], SOME_DATA)),
+        4 => elements.push(sound_element(random, "A", &["B".to_string()], SOME)),
         _ => put_long_name(random, &mut elements[0]),
     }
     let mut written = written_type(random, elements);

@@ -32,7 +32,7 @@ APPINFO NONE>
 "#;
 
 /// What both readers say of an accepted document; neighbouring data is one event.
-#[derive(Debug, PartialEq)]
+#[derive(Clone, Debug, PartialEq)]
 pub enum Event {
     Start {
         name: String,
@@ -45,6 +45,17 @@ pub enum Event {
     Data(Vec<u8>),
     /// Any other line of onsgmls' output.
     Other(String),
+}
+
+impl Event {
+    /// The same with its tag written.
+    pub fn written(&self) -> Event {
+        let mut event = self.clone();
+        if let Event::Start { written, .. } | Event::End { written, .. } = &mut event {
+            *written = true;
+        }
+        event
+    }
 }
 
 /// Adds data to the data before it, if there is any.

@@ -49,16 +49,25 @@ pub fn read(name_length: u32, type_file: &[u8], document: &[u8], buffer: &mut [u
     hand_over(numbers, NUMBERS_PER_EVENT, IN_DOCUMENT, buffer)
 }
 
-/// Where separators were ignored in an element that has `#PCDATA` in its model, up to the refusal.
+/// What was read otherwise than ISO 8879 has it, up to the refusal.
+#[derive(Default)]
+pub struct Noted {
+    /// Where separators were ignored in an element that has `#PCDATA` in its model.
+    pub ignored: Vec<usize>,
+    /// Starts that were inferred in a member of an "&" group that had not begun, where another had:
+    /// the token's offset, and the tags as they could have been written there.
+    pub last_members: Vec<(usize, String)>,
+}
+
 /// The type file is an accepted one. (`opensp.rs` alone asks for this.)
 #[allow(dead_code)]
-pub fn ignored_beside_data(name_length: u32, type_file: &[u8], document: &[u8]) -> Vec<usize> {
-    let mut ignored = Vec::new();
+pub fn noted(name_length: u32, type_file: &[u8], document: &[u8]) -> Noted {
+    let mut noted = Noted::default();
     if let Ok(elements) = judged(name_length, type_file) {
-        // A refusal ends the list; what it is doesn't matter here.
-        let _ = read_document(name_length, &elements, document, &mut ignored);
+        // A refusal ends the lists; what it is doesn't matter here.
+        let _ = read_document(name_length, &elements, document, &mut noted);
     }
-    ignored
+    noted
 }
 
 /// A refusal, in the order of the answer's numbers.
@@ -129,7 +138,7 @@ fn events(
     check_bytes(type_file, IN_TYPE)?;
     check_bytes(document, IN_DOCUMENT)?;
     let elements = judged(name_length, type_file)?;
-    read_document(name_length, &elements, document, &mut Vec::new())
+    read_document(name_length, &elements, document, &mut Noted::default())
         .map_err(|(position, number)| Refusal::new(number, IN_DOCUMENT, position))
 }
 
@@ -1003,15 +1012,14 @@ struct DocumentReader<'a> {
     bytes: &'a [u8],
     open: Vec<Open<'a>>,
     events: Vec<[u32; NUMBERS_PER_EVENT]>,
-    /// For `ignored_beside_data`.
-    ignored: &'a mut Vec<usize>,
+    noted: &'a mut Noted,
 }
 
 fn read_document(
     name_length: u32,
     elements: &[Element],
     bytes: &[u8],
-    ignored: &mut Vec<usize>,
+    noted: &mut Noted,
 ) -> Result<Vec<[u32; NUMBERS_PER_EVENT]>, Fault> {
     // "With nothing open yet, only the document element may come next, and it is required."
     let token = ContentToken {
@@ -1040,7 +1048,7 @@ fn read_document(
         bytes,
         open: vec![document],
         events: Vec::new(),
-        ignored,
+        noted,
     };
     let mut at = 0;
     while at < bytes.len() {
@@ -1109,7 +1117,7 @@ impl<'a> DocumentReader<'a> {
             .iter()
             .any(|place| place.name == PCDATA)
         {
-            self.ignored.push(at);
+            self.noted.ignored.push(at);
         }
         Ok(at + 1)
     }
@@ -1313,10 +1321,44 @@ impl<'a> DocumentReader<'a> {
 
     fn infer_starts(&mut self, chain: &[(usize, &'a Model)], at: usize) {
         for &(element, model) in chain {
+            if self.begins_a_member_after_another(Token::Start(element)) {
+                let tags = self.tags_for(element, at);
+                self.noted.last_members.push((at, tags));
+            }
             let place = self.take(Token::Start(element));
             self.event(START_INFERRED, Some(element), at, 0, place);
             self.push(element, model);
         }
+    }
+
+    /// The end tags inferred for the token at `at`, and the element's start tag.
+    fn tags_for(&self, element: usize, at: usize) -> String {
+        let name = |element: usize| &self.elements[element].name;
+        let ends = self.events.iter().rev();
+        let ends = ends.take_while(|event| event[0] == END_INFERRED && event[2] == at as u32);
+        let mut tags: Vec<String> = ends
+            .map(|event| format!("</{}>", name(event[1] as usize - 1)))
+            .collect();
+        tags.reverse();
+        tags.concat() + &format!("<{}>", name(element))
+    }
+
+    /// The token's place is in a member of an "&" group of which no place was taken, but one of
+    /// another member was.
+    fn begins_a_member_after_another(&self, token: Token) -> bool {
+        let Some((place, _)) = self.fitting(token) else {
+            return false;
+        };
+        let (model, taken) = (self.current().model, &self.current().taken);
+        let has_begun = |places: &Vec<usize>| places.iter().any(|place| taken.contains(place));
+        model.tokens.iter().any(|token| {
+            let Form::Group(Connector::AnyOrder, members) = &token.form else {
+                return false;
+            };
+            let members: Vec<_> = members.iter().map(|&member| model.places_of(member)).collect();
+            let begins = |places: &Vec<usize>| places.contains(&place) && !has_begun(places);
+            members.iter().any(begins) && members.iter().any(has_begun)
+        })
     }
 
     fn push(&mut self, element: usize, model: &'a Model) {

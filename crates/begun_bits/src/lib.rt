@@ -96,7 +96,8 @@ pub fn clear(begun: &mut [u32; BEGUN], level: usize)
     begun[level * BEGUN_WORDS + 2] = 0;
 }
 
-// Of the k members from `first` on those that have not begun, as bits; 0 where there are no such members.
+// Of the k members from `first` on those that have not begun, as bits. Where the table has no such members, what it answers is not decided, but that it
+// is below 2^32.
 pub fn idle(begun: &[u32; BEGUN], level: usize, first: usize, k: usize) -> usize
     requires { ⌜ level ≤ 24 ⌝ }
     ensures { λ r. ⌜ Idle (now (begun .entry)) level first k r ⌝ }

@@ -13,6 +13,7 @@ use denote.Ref.{now}
 use denote.Triple.Clauses.{AtExit}
 use borrow.Fn.World.{ArgsD}
 use Rattle.rules.specs.Settings.{Settings, settings, isOffered}
+use Rattle.rules.specs.Bytes.{byteAt, AND}
 use Rattle.rules.specs.Lent.{Lent, room}
 use Rattle.rules.specs.Reading.{Reading, got}
 use Rattle.rules.specs.Walk.{Group}
@@ -68,7 +69,7 @@ pub record JudgeKeeps (l : Lent) (c : Settings) (s before : List ℕ) (a : Answe
   pub not-offered-exactly : (a .number ≡ 24) ↔ (isOffered c ≡ false)
   -- Paper 02, request twelve: "number 25 at the first such "&"", looked for after 3 to 8 and before 9.
   pub repeated-exactly : (a .number ≡ 25) ↔ (Legible c s × (es : List Element) × (typeFile c s ≡ got es) × SomeRepeated es)
-  pub repeated-named : a .number ≡ 25 → (es : List Element) × (typeFile c s ≡ got es) × (a .position ≡ firstRepeated es)
+  pub repeated-named : a .number ≡ 25 → (es : List Element) × (typeFile c s ≡ got es) × (a .position ≡ firstRepeated es) × (byteAt s (a .position) ≡ AND)
   -- Demand 3, of a type file "where nothing is wrong that the stated order puts before ambiguity": it is legible, was read and is not under 25. It is refused
   -- as ambiguous "exactly when some content model in it has two different sequences of places, of whatever length, each the beginning of some
   -- walk, that spell the same names. The refusal names the first such model, and in it the first pair"; "where there is no such refusal, the
@@ -93,7 +94,7 @@ pub record ReaderKeeps (l : Lent) (c : Settings) (s d before : List ℕ) (a : An
   pub not-offered-exactly : (a .number ≡ 24) ↔ (isOffered c ≡ false)
   -- Paper 02, request twelve, as for the judge.
   pub repeated-exactly : (a .number ≡ 25) ↔ (BothLegible c s d × (es : List Element) × (typeFile c s ≡ got es) × SomeRepeated es)
-  pub repeated-named : a .number ≡ 25 → (es : List Element) × (typeFile c s ≡ got es) × (a .position ≡ firstRepeated es)
+  pub repeated-named : a .number ≡ 25 → (es : List Element) × (typeFile c s ≡ got es) × (a .position ≡ firstRepeated es) × (byteAt s (a .position) ≡ AND)
   -- Demand 3, "whatever document and lent buffer come with it".
   pub ambiguous-exactly : (a .number ≡ 9) ↔ (BothLegible c s d × (es : List Element) × (typeFile c s ≡ got es) × (SomeRepeated es → ⊥) × SomeAmbiguous s es)
   pub ambiguous-named : a .number ≡ 9 → NamesFirst c s a

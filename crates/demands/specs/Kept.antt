@@ -7,6 +7,7 @@ use mathlib.Core.List.{List}
 use native.Mathlib.Omega.{arith}
 use lib.ListN.{length}
 use Rattle.rules.specs.Settings.{Settings, isOffered}
+use Rattle.rules.specs.Bytes.{byteAt, AND}
 use Rattle.rules.specs.Lent.{Lent, room}
 use Rattle.rules.specs.Reading.{got}
 use Rattle.rules.specs.Walk.{Group}
@@ -19,6 +20,7 @@ use Rattle.demands.specs.Words.{Refusal, Acceptance, ModelOf, SomeRepeat
 use Rattle.answer_laws.specs.Judge.{settled-one, settled-refuses, settled-accepts, settled-fair, settled-faulty, refuses-named, refuses-some, settled-twenty-four, settled-twenty-five, settled-repeated, settled-nine, settled-nineteen, first-model, model-exactly, not-ambiguous, names-alone, settled-length}
 use Rattle.demands.specs.Models.{pair-in, names-first, some-repeated, repeated-some, unrepeated-none, none-repeated}
 use Rattle.document_laws.specs.Laws.{same-elements}
+use Rattle.type_laws.specs.Members.{typeFile-ampersand}
 use Rattle.answer_laws.specs.Reader.{given-one, both-says, both-some, given-twenty-four, given-twenty-five, given-repeated, given-nine, given-nineteen, type-refused, given-refuses, given-accepts, given-faulty, given-fair, given-length}
 
 -- The type judge
@@ -76,8 +78,8 @@ module _ (l : Lent) (c : Settings) (s before : List ℕ) (a : Answer) (after : L
     λ (i, es, r, x). settled-repeated promised i es r (repeated-some c s es r x),
   )
 
-  pub repeated-named : a .number ≡ 25 → (es : List Element) × (typeFile c s ≡ got es) × (a .position ≡ firstRepeated es)
-  repeated-named h = let (i, es, r, l, k) = settled-twenty-five promised h in (es, r, k)
+  pub repeated-named : a .number ≡ 25 → (es : List Element) × (typeFile c s ≡ got es) × (a .position ≡ firstRepeated es) × (byteAt s (a .position) ≡ AND)
+  repeated-named h = let (i, es, r, l, k) = settled-twenty-five promised h in (es, r, k, rw k (typeFile-ampersand c s es r l))
 
   -- Demand 3: a type is refused as ambiguous exactly when some content model is.
 
@@ -169,8 +171,8 @@ module _ (l : Lent) (c : Settings) (s d before : List ℕ) (a : Answer) (after :
     λ (i, es, r, x). given-repeated called i r (repeated-some c s es r x),
   )
 
-  pub reader-repeated-named : a .number ≡ 25 → (es : List Element) × (typeFile c s ≡ got es) × (a .position ≡ firstRepeated es)
-  reader-repeated-named h = let (i, es, r, l, k) = given-twenty-five called h in (es, r, k)
+  pub reader-repeated-named : a .number ≡ 25 → (es : List Element) × (typeFile c s ≡ got es) × (a .position ≡ firstRepeated es) × (byteAt s (a .position) ≡ AND)
+  reader-repeated-named h = let (i, es, r, l, k) = given-twenty-five called h in (es, r, k, rw k (typeFile-ampersand c s es r l))
 
   -- Demand 3, whatever document and buffer come with the type: it is refused as ambiguous exactly when some content model is.
 

@@ -16,7 +16,7 @@ use Rattle.document_laws.specs.Moves.{fresh, placeTaken-took}
 use Rattle.type_tables.specs.Means.{Tables, CanTake}
 use Rattle.open_elements.specs.declared.Open.{Open}
 use Rattle.open_elements.specs.Means.{Ranged, Stands}
-use Rattle.open_elements.specs.Entered.{can-require}
+use Rattle.open_elements.specs.Taken.{can-require}
 use Rattle.open_elements.specs.Laws.{stands-required, stands-noted, stands-opening, ranged-taking, ranged-opening}
 use Rattle.event_buffer.specs.Means.{Puts}
 use Rattle.event_buffer.specs.Laws.{puts-none, puts-then}

@@ -1,5 +1,5 @@
 -- The search of a model's tables finds the model's first pair at fault, in the rules' terms.
-use Prim.Native.Nat.{ℕ, zero, suc, _+_, _*_, _≤_, _<_}
+use Prim.Native.Nat.{ℕ, zero, suc, _+_, _≤_}
 use mathlib.Core.Path.{_≡_, refl, sym, ap, subst, _∙_}
 use mathlib.Core.Bool.{Bool, true, false, _&&_, cond, false≢true}
 use mathlib.Core.Logic.{inl, inr}
@@ -7,12 +7,11 @@ use mathlib.Core.List.{List, [], _∷_, _++_, append-assoc}
 use native.Mathlib.Omega.{arith}
 use native.Mathlib.Decide.{ℕ-discrete}
 use lib.Dec.{eqb}
-use lib.ListN.{getD}
 use borrow.Author.Tests.{eqb-true}
 use Rattle.rules.specs.Walk.{Group, place, seq, alt, opt, plus, and, once, Walk, Begins, lastOr0}
 use Rattle.rules.specs.Ambiguity.{PairAtFault, FirstPair}
 use Rattle.rules.specs.Judge.{samePlace}
-use Rattle.layout.specs.Sizes.{MODEL-ROW, CODE}
+use Rattle.layout.specs.Sizes.{CODE}
 use Rattle.model_sets.specs.Bits.{and-left, and-right, and-both, or-cases, or-left, or-right}
 use Rattle.model_sets.specs.Sets.{size, Numbered, has, follow, nextIn}
 use Rattle.model_sets.specs.Search.{searchPair}

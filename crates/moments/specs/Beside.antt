@@ -24,7 +24,7 @@ use Rattle.document_laws.specs.Same.{AllBegun, begun-moves, nothing-begun}
 use Rattle.type_tables.specs.Means.{Tables, CanTake}
 use Rattle.open_elements.specs.declared.Open.{Open}
 use Rattle.open_elements.specs.Means.{fresh, opening, ended, Ranged, Stands, Taking, Starting}
-use Rattle.open_elements.specs.Entered.{can-range}
+use Rattle.type_tables.specs.Marks.{can-range}
 use Rattle.open_elements.specs.Laws.{stands-deep, stands-required, stands-fresh, stands-noted, stands-opening, stands-ended, stands-around, ranged-fresh, ranged-taking, ranged-opening, ranged-ended}
 use Rattle.open_elements.specs.Marks.{marks-say}
 use Rattle.left_out_ends.specs.Loop.{stands-complete}
@@ -90,7 +90,7 @@ module _ {s : List ℕ} {es : List Element} {rows places facts M : List ℕ} (ta
       can = can-take s es (tables .accepted) m D means c
 
       pub place-small : p ≤ 96
-      place-small = can-range tables can .1
+      place-small = can-range tables (m .stands .current .entered) can .1
 
       pub moment-took : {r : Open} {bits′ : List ℕ} → Taking rows M bits p o r bits′ → Moment es M bits′ (takePlace p z) r
       moment-took t =

@@ -22,7 +22,8 @@ use Rattle.document_laws.specs.Moves.{state}
 use Rattle.document_laws.specs.Moves as moves
 use Rattle.and_groups.specs.Means.{Elsewhere}
 use Rattle.type_tables.specs.Means.{completeAt, requiredAt, Tables}
-use Rattle.open_elements.specs.Entered.{required-small, entered-elsewhere, entered-fresh, fresh-complete, fresh-required}
+use Rattle.type_tables.specs.Ranges.{required-small}
+use Rattle.type_tables.specs.Marks.{entered-elsewhere, entered-fresh, fresh-complete, fresh-required}
 use Rattle.open_elements.specs.declared.Entry.{Entry}
 use Rattle.open_elements.specs.declared.Open.{Open}
 use Rattle.open_elements.specs.Means.{none, fresh, covered, opening, parentOf, ended, aroundOf, bare, Within, Ranged, Kept, AllKept, Stands, Marking, Taking}

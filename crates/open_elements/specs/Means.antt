@@ -13,6 +13,7 @@ use Rattle.layout.specs.Typed.{placeNo, elementNo}
 use Rattle.document_laws.specs.Decide.{isCompleteIn, requiredFor}
 use Rattle.document_laws.specs.Moves as moves
 use Rattle.type_tables.specs.Means.{completeAt, requiredAt, Tables, Entered, CanTake}
+use Rattle.type_tables.specs.Marks.{taking}
 use Rattle.and_groups.specs.Means.{Elsewhere}
 use Rattle.open_elements.specs.declared.Entry.{Entry}
 use Rattle.open_elements.specs.declared.Open.{Open}
@@ -92,10 +93,6 @@ pub record Ranged (o : Open) : Type 0 where
 
 -- What holds from token to token, by the tables of a type
 
--- The rules' open element with the place p taken.
-abbrev pub taking : ℕ → rules.Open → rules.Open
-taking p o = record { number = o .number; taken = o .taken ++ p ∷ [] }
-
 -- What is kept of an open element at the level is that of the rules' open element o: the last of the places taken, the members that have begun, and the
 -- marks, which are what the definition says of the places taken. The document itself, and it alone, has the level 0.
 pub record Kept (es : List Element) (M begun : List ℕ) (level : ℕ) (x : Entry) (o : rules.Open) : Type 0 where
@@ -123,7 +120,7 @@ pub record Stands (es : List Element) (M begun : List ℕ) (o : Open) (z : State
 -- The marks that are left of those of a row, by what the groups around the place answer: 255 where none lacks a member.
 pub record Weighs (m : ℕ) (row : Bool) (kept : ℕ) (complete : Bool) (required : ℕ) : Type 0 where
   pub held : (m ≡ 255 → ⊥) → (complete ≡ false) × (required ≡ m)
-  pub free : m ≡ 255 → (complete ≡ row) × (required ≤ 96) × ((n : ℕ) → kept ≡ 128 + n → n ≤ 96 → required ≡ n)
+  pub free : m ≡ 255 → (complete ≡ row) × (required ≤ 96) × (96 < kept → kept ≤ 224 → required ≡ kept - 128)
 
 -- The place p is taken at the level in the element e, after the place u, and these are its marks. The bits of the other levels are as they were; by the tables
 -- of a type the marks are what the definition says of the places taken.

@@ -5,7 +5,7 @@ use layout::Place;
 use layout::ROWS;
 ghost use mathlib.Core.Path.{_≡_};
 ghost use mathlib.Core.Bool.{true};
-ghost use Prim.Native.Nat.{ℕ, _+_, _≤_, _<_};
+ghost use Prim.Native.Nat.{_-_, _≤_, _<_};
 ghost use Rattle.rules.specs.Settling.{shown, isOpen};
 ghost use Rattle.open_elements.specs.Means.{entry, fresh, opening, ended, bare, Ranged, Weighs, Taking, Starting};
 
@@ -78,7 +78,7 @@ fn weighed(m: usize, complete: bool, kept: usize) -> Marks
 
 // The place that is kept 128 higher, or 0.
 fn lowered(kept: usize) -> Place
-    ensures { λ r. ⌜ (r .0 ≤ 96) × ((n : ℕ) → kept ≡ 128 + n → n ≤ 96 → r .0 ≡ n) ⌝ }
+    ensures { λ r. ⌜ (r .0 ≤ 96) × (96 < kept → kept ≤ 224 → r .0 ≡ kept - 128) ⌝ }
 {
     let n = kept % 128;
     if 96 < n {

@@ -59,7 +59,7 @@ pub data FirstAmbiguous (s : List ℕ) (k p q : ℕ) : List Element → Type 0 w
   here : {e : Element} {es : List Element} → PairStandsAt s (e .content) k p q → FirstAmbiguous s k p q (e ∷ es)
   later : {e : Element} {es : List Element} → Unambiguous s (e .content) → FirstAmbiguous s k p q es → FirstAmbiguous s k p q (e ∷ es)
 
--- "Number 25 at the first such "&"" (paper 02, request twelve), which is in the first model that has one. There is none where it is 0.
+-- Paper 02, request twelve: "that is number 25 at the first such "&"", which is in the first model that has one. There is none where it is 0.
 unfoldable pub firstRepeated : List Element → ℕ
 firstRepeated [] = 0
 firstRepeated (e ∷ es) = elim (eqb (e .repeated) 0) [ true ↦ firstRepeated es | false ↦ e .repeated ]

@@ -16,7 +16,7 @@ use Rattle.type_tables.specs.Means.{Tables, CanTake}
 use Rattle.open_elements.specs.declared.Open.{Open}
 use Rattle.open_elements.specs.declared.Outcome.{Outcome}
 use Rattle.open_elements.specs.Means.{Becomes, Ranged, Stands}
-use Rattle.open_elements.specs.Entered.{can-fit}
+use Rattle.open_elements.specs.Taken.{can-fit}
 use Rattle.open_elements.specs.Laws.{stands-deep}
 use Rattle.event_buffer.specs.Laws.{puts-none, puts-then}
 use Rattle.ways.specs.declared.Way.{Way}

@@ -6,9 +6,10 @@ use native.Mathlib.Omega.{arith}
 use Rattle.rules.specs.Settings.{Settings}
 use Rattle.rules.specs.Lent.{Lent}
 use Rattle.rules.specs.TypeFile.{Content, empty, model, Element}
-use Rattle.rules.specs.Judge.{Answer, refusal, acceptance, PairStandsAt, FirstAmbiguous, here, later, Refuses, notOffered, tooLong, notAllowed, malformed, ambiguous, noRoom, Judged}
+use Rattle.rules.specs.Judge.{Answer, refusal, acceptance, PairStandsAt, FirstAmbiguous, here, later, Refuses, notOffered, tooLong, notAllowed, malformed, repeated, ambiguous, noRoom, Judged}
 use Rattle.rules.specs.Reader.{RefusesBoth, ReadAs}
 use Rattle.rules_laws.specs.Within.{typeFile-within, typeFile-count}
+use Rattle.type_laws.specs.Members.{typeFile-repeated}
 use Rattle.turn_laws.specs.Within.{document-within}
 use Rattle.document_reader.specs.declared.Answer as reader
 use Rattle.document_reader.specs.declared.Answer.the-variants as answer
@@ -32,8 +33,9 @@ malformed-in c s room n k (notOffered o e) = omega (arith, ap (λ (a : Answer). 
 malformed-in c s room n k (tooLong o l e) = omega (arith, ap (λ (a : Answer). a .position) e)
 malformed-in c s room n k (notAllowed o l m e) = omega (arith, ap (λ (a : Answer). a .position) e)
 malformed-in c s room n k (malformed l m j r e) = omega (arith, l .short, typeFile-within c s m j r, ap (λ (a : Answer). a .position) e)
-malformed-in c s room n k (ambiguous l es r j p q f e) = absurd (omega (arith, ambiguous-ordered f, ap (λ (a : Answer). a .second) e))
-malformed-in c s room n k (noRoom l es r u m e) = omega (arith, ap (λ (a : Answer). a .position) e)
+malformed-in c s room n k (repeated l es r v e) = omega (arith, l .short, typeFile-repeated c s es r, ap (λ (a : Answer). a .position) e)
+malformed-in c s room n k (ambiguous l es r v j p q f e) = absurd (omega (arith, ambiguous-ordered f, ap (λ (a : Answer). a .second) e))
+malformed-in c s room n k (noRoom l es r v u m e) = omega (arith, ap (λ (a : Answer). a .position) e)
 
 -- A refusal names its input.
 refuses-input : {c : Settings} {s : List ℕ} {room : ℕ} {a : Answer} → Refuses c s room a → a .input ≡ 1
@@ -41,8 +43,9 @@ refuses-input (notOffered o e) = rw e
 refuses-input (tooLong o l e) = rw e
 refuses-input (notAllowed o l m e) = rw e
 refuses-input (malformed l n k r e) = rw e
-refuses-input (ambiguous l es r k p q f e) = rw e
-refuses-input (noRoom l es r u m e) = rw e
+refuses-input (repeated l es r v e) = rw e
+refuses-input (ambiguous l es r v k p q f e) = rw e
+refuses-input (noRoom l es r v u m e) = rw e
 
 judged-count : {l : Lent} {c : Settings} {s before after : List ℕ} {n : ℕ} → Judged l c s before (acceptance n) after → n ≤ 64
 judged-count (Judged.refuses r z) = absurd (omega (arith, refuses-input r))
@@ -68,7 +71,8 @@ refused-in (RefusesBoth.documentTooLong o l m e) = omega (arith, position e)
 refused-in (RefusesBoth.typeNotAllowed o l m h e) = omega (arith, position e)
 refused-in (RefusesBoth.documentNotAllowed l m h e) = omega (arith, position e)
 refused-in {c} {s} (RefusesBoth.malformed l m j r e) = omega (arith, l .type .short, typeFile-within c s m j r, position e)
-refused-in (RefusesBoth.ambiguous l es r j p q f e) = absurd (omega (arith, ambiguous-ordered f, ap (λ (a : Answer). a .second) e))
+refused-in {c} {s} (RefusesBoth.repeated l es r v e) = omega (arith, l .type .short, typeFile-repeated c s es r, position e)
+refused-in (RefusesBoth.ambiguous l es r v j p q f e) = absurd (omega (arith, ambiguous-ordered f, ap (λ (a : Answer). a .second) e))
 refused-in {c} {s} {d} (RefusesBoth.unsettled es m j x e) = omega (arith, x .legible .short, document-within c s es (x .decisions) d m j (x .reading) .1, position e)
 refused-in (RefusesBoth.noRoom es ev x l e) = omega (arith, position e)
 

@@ -10,7 +10,7 @@ use Rattle.rules.specs.Reading.{got}
 use Rattle.rules.specs.TypeFile.{Element}
 use Rattle.rules.specs.Judge.{Answer, acceptance}
 use Rattle.rules.specs.Events.{Event, eventWidth}
-use Rattle.rules.specs.Reader.{eventNumbers, Reads, RefusesBoth, notOffered, typeTooLong, documentTooLong, typeNotAllowed, documentNotAllowed, malformed, ambiguous, unsettled, noRoom, ReadAs, refuses, accepts}
+use Rattle.rules.specs.Reader.{eventNumbers, Reads, RefusesBoth, notOffered, typeTooLong, documentTooLong, typeNotAllowed, documentNotAllowed, malformed, repeated, ambiguous, unsettled, noRoom, ReadAs, refuses, accepts}
 use Rattle.rules.specs.Printed.{programSettings, programRoom, inputText, refusedText, Prints, refusal}
 
 -- What was read under the settings that the program gives.
@@ -25,7 +25,8 @@ refuses-input (documentTooLong o l m e) = rw e (omega arith)
 refuses-input (typeNotAllowed o l m c e) = rw e (omega arith)
 refuses-input (documentNotAllowed l m c e) = rw e (omega arith)
 refuses-input (malformed l n k r e) = rw e (omega arith)
-refuses-input (ambiguous l es r k p q f e) = rw e (omega arith)
+refuses-input (repeated l es r v e) = rw e (omega arith)
+refuses-input (ambiguous l es r v k p q f e) = rw e (omega arith)
 refuses-input (unsettled es n k r e) = rw e (omega arith)
 refuses-input (noRoom es ev r f e) = rw e (omega arith)
 

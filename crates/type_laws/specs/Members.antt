@@ -31,8 +31,11 @@ abbrev pub Without : List ℕ → Type 0
 Without s = (i : ℕ) → i < length s → byteAt s i ≡ AND → ⊥
 
 -- The "&" that are told of a group stand in the text, and there is one where one is told: at all, and where none may stand.
+abbrev AndAt : List ℕ → ℕ → Type 0
+AndAt s i = (i ≤ length s) × (1 ≤ i → byteAt s i ≡ AND)
+
 abbrev AndIn : List ℕ → Group → (and repeated : ℕ) → Type 0
-AndIn s g i j = (i ≤ length s) × (j ≤ length s) × (1 ≤ i → Plain g → ⊥) × (1 ≤ j → Guarded g → ⊥)
+AndIn s g i j = AndAt s i × AndAt s j × (1 ≤ i → Plain g → ⊥) × (1 ≤ j → Guarded g → ⊥)
 
 -- What holds of tokens that were read behind n others: they count at least one more for each member.
 abbrev Counts : List ℕ → ℕ → Tokens → Type 0
@@ -113,12 +116,12 @@ module _ (s : List ℕ) (n k : ℕ) (t u : Tokens) (grows : Growing s n k t) (so
       whichever Plain (eqb b SEQ) (λ x. (grows .plain w, counts .2 w))
       (λ x. whichever Plain (eqb b OR) (λ y. (grows .plain w, counts .2 w)) (λ y. absurd (w i l (sym e ∙ eqb-true b AND (rw (x, y) at q)))))
 
-  joined-within : (b i : ℕ) → isConnector b ≡ true → i < length s → AndIn s (join k b (t .group) (u .group)) (joinTokens k b i t u .and) (joinTokens k b i t u .repeated)
+  joined-within : (b i : ℕ) → b ≡ byteAt s i → i < length s → AndIn s (join k b (t .group) (u .group)) (joinTokens k b i t u .and) (joinTokens k b i t u .repeated)
   joined-within b i q l =
       let (z, m, w, (a, r, p, g)) = counts in
       let (c, d, o, h) = grows .within in (
-        whichever (λ (j : ℕ). j ≤ length s) (eqb (t .and) 0) (λ x. whichever (λ (j : ℕ). j ≤ length s) (eqb b AND) (λ y. omega arith) (λ y. a)) (λ x. c),
-        whichever (λ (j : ℕ). j ≤ length s) (eqb (t .repeated) 0) (λ x. r) (λ x. d),
+        whichever (AndAt s) (eqb (t .and) 0) (λ x. whichever (AndAt s) (eqb b AND) (λ y. (omega arith, λ v. sym q ∙ eqb-true b AND y)) (λ y. a)) (λ x. c),
+        whichever (AndAt s) (eqb (t .repeated) 0) (λ x. r) (λ x. d),
         whichever
             (λ (j : ℕ). 1 ≤ j → Plain (join k b (t .group) (u .group)) → ⊥)
             (eqb (t .and) 0)
@@ -169,8 +172,8 @@ module _ (c : Settings) (s : List ℕ) where
     token-counts : (at : ℕ) (full : Bool) (ps : List Place) (n : ℕ) → Gives (λ (t : Tokens). (full ≡ false) × Counts s (n + 1) t) (token c inner s at full ps n)
     token-counts at full ps n =
         token-holds s c inner at full ps n (λ m k h. tt)
-        (λ x l e. (x, occurrence-counts (n + 1) s _ (refl, omega arith, λ w. refl, (omega arith, omega arith, λ v. absurd (omega arith), λ v. absurd (omega arith)))))
-        (λ x l. (x, (refl, omega arith, λ w. refl, (omega arith, omega arith, λ v. absurd (omega arith), λ v. absurd (omega arith)))))
+        (λ x l e. (x, occurrence-counts (n + 1) s _ (refl, omega arith, λ w. refl, ((omega arith, λ v. absurd (omega arith)), (omega arith, λ v. absurd (omega arith)), λ v. absurd (omega arith), λ v. absurd (omega arith)))))
+        (λ x l. (x, (refl, omega arith, λ w. refl, ((omega arith, λ v. absurd (omega arith)), (omega arith, λ v. absurd (omega arith)), λ v. absurd (omega arith), λ v. absurd (omega arith)))))
         (λ x l. on (inner-counts at ps (n + 1)) (λ t y. reads (x, occurrence-counts (n + 1) s t y)))
 
     further-grows : (n k joint : ℕ) (t : Tokens) → 1 ≤ k → Growing s n k t → Gives (FurtherGrows n k) (further c inner s k joint t)
@@ -181,7 +184,7 @@ module _ (c : Settings) (s : List ℕ) where
         (λ u x.
         let room = leb-false GRPCNT k (or-first (leb GRPCNT k) (leb GRPGTCNT (t .tokens)) (x .0)) in
         let y = joined-by s n k t u grows some room (x .1) b in
-        reads (record { sized = y .0; alone = λ l. absurd (omega arith); counted = y .1; few = λ l. y .2; plain = joined-plain s n k t u grows some room (x .1) b i q e m; within = joined-within s n k t u grows some room (x .1) b i q m })))
+        reads (record { sized = y .0; alone = λ l. absurd (omega arith); counted = y .1; few = λ l. y .2; plain = joined-plain s n k t u grows some room (x .1) b i q e m; within = joined-within s n k t u grows some room (x .1) b i e m })))
 
     members-count : (n left k joint : ℕ) (t : Tokens) → 1 ≤ k → Growing s n k t → Gives (Counts s n) (members c inner s left k joint t)
     unfolding members
@@ -207,14 +210,14 @@ module _ (c : Settings) (s : List ℕ) where
   CountedIn empty = Unit {0}
   CountedIn (model g ps n) = Sized g × (total g ≤ n) × (Without s → Plain g)
 
-  content-counts : (from i : ℕ) → Gives (λ (x : ContentEnd). CountedIn (x .content) × (x .repeated ≤ length s) × (1 ≤ x .repeated → GuardedIn (x .content) → ⊥)) (content c s from i)
+  content-counts : (from i : ℕ) → Gives (λ (x : ContentEnd). CountedIn (x .content) × AndAt s (x .repeated) × (1 ≤ x .repeated → GuardedIn (x .content) → ⊥)) (content c s from i)
   unfolding content contentModel contentWord
   content-counts from i =
       either (eqb (byteAt s i) 40)
       (λ x. on (group-counts GRPLVL i [] 0) (λ t y. let (z, l, w, (a, r, p, g)) = occurrence-counts 0 s t y in reads ((z, omega (arith, l), w), r, g)))
       (λ x. either (letter (byteAt s i))
       (λ y. either (ltb (c .nameLength) (nameEnd s i - i)) (λ z. stops tt)
-      (λ z. either (ltb from i && isWord s i (nameEnd s i) EMPTY) (λ u. reads (tt, omega arith, λ v. absurd (omega arith)))
+      (λ z. either (ltb from i && isWord s i (nameEnd s i) EMPTY) (λ u. reads (tt, (omega arith, λ v. absurd (omega arith)), λ v. absurd (omega arith)))
       (λ u. either (isWord s i (nameEnd s i) ANY || isWord s i (nameEnd s i) CDATA || isWord s i (nameEnd s i) RCDATA) (λ v. stops tt)
       (λ v. either (ltb from i && isCut s i (nameEnd s i) EMPTY) (λ w. stops tt) (λ w. stops tt)))))
       (λ y. unfit-holds s i (λ n k h. tt)))
@@ -229,14 +232,20 @@ module _ (c : Settings) (s : List ℕ) where
       all zero = (refl, omega arith, λ w. refl)
       all (suc k) = each-content CountedIn tt es (λ j h. let d = typeFile-made c s es read j h in got-so (content-counts (d .before) (d .begun)) (d .contentRead) .0) k
 
-  -- Where 25 stands is in the text.
-  pub typeFile-repeated : (es : List Element) → typeFile c s ≡ got es → firstRepeated es ≤ length s
+  -- Where 25 stands is in the text, and an "&".
+  repeated-at : (es : List Element) → typeFile c s ≡ got es → AndAt s (firstRepeated es)
   unfolding firstRepeated elementAt
-  typeFile-repeated es read = go es (λ k h. let d = typeFile-made c s es read k h in got-so (content-counts (d .before) (d .begun)) (d .contentRead) .1)
+  repeated-at es read = go es (λ k h. let d = typeFile-made c s es read k h in got-so (content-counts (d .before) (d .begun)) (d .contentRead) .1)
     where
-      go : (fs : List Element) → ((k : ℕ) → k < length fs → elementAt fs k .repeated ≤ length s) → firstRepeated fs ≤ length s
-      go [] f = omega arith
+      go : (fs : List Element) → ((k : ℕ) → k < length fs → AndAt s (elementAt fs k .repeated)) → AndAt s (firstRepeated fs)
+      go [] f = (omega arith, λ l. absurd (omega arith))
       go (e ∷ fs) f = bool-cases (eqb (e .repeated) 0) (λ x. rw (x, firstRepeated) (go fs (λ k h. f (suc k) (omega arith)))) (λ x. rw (x, firstRepeated) (f 0 (omega arith)))
+
+  pub typeFile-repeated : (es : List Element) → typeFile c s ≡ got es → firstRepeated es ≤ length s
+  typeFile-repeated es read = repeated-at es read .0
+
+  pub typeFile-ampersand : (es : List Element) → typeFile c s ≡ got es → 1 ≤ firstRepeated es → byteAt s (firstRepeated es) ≡ AND
+  typeFile-ampersand es read = repeated-at es read .1
 
   -- Under 25 some model has an "&" where none may stand.
   pub typeFile-unguarded : (es : List Element) → typeFile c s ≡ got es → 1 ≤ firstRepeated es → (e : Element) × List·Memᴰ e es × (GuardedIn (e .content) → ⊥)

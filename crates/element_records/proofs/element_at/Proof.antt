@@ -1,6 +1,6 @@
 -- `element_at` meets its contract: what the element reader refuses is refused, and what it reads is recorded behind the elements before.
 use Prim.Native.Nat.{ℕ, _<_}
-use mathlib.Core.Path.{_≡_, sym, _∙_}
+use mathlib.Core.Path.{_≡_, sym}
 use mathlib.Core.Logic.{⊎-elim}
 use mathlib.Core.List.{List}
 use native.Mathlib.Omega.{arith}

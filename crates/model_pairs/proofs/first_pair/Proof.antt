@@ -28,7 +28,7 @@ returns : tie.Need-returns Inv-loop μ-loop
 returns c =
     let turn = c .before .before .before in (
       λ F t. pairs-found _ _ _ _ _ (turn .before .loop .inv .2 F t) _ (omega arith) (c .before .partner .ensures .0 F t) (omega arith),
-      ⊎-elim (λ z. absurd (c .if1 .taken z)) (λ w. inr (turn .before .loop .inv .0, w .0, w .1)) (c .before .partner .ensures .1),
+      ⊎-elim (λ z. absurd (omega (arith, z, c .if1 .taken))) (λ w. inr (turn .before .loop .inv .0, w .0, w .1)) (c .before .partner .ensures .1),
     )
 
 add-p : tie.Need-add-p Inv-loop μ-loop
