@@ -1,13 +1,15 @@
 -- What a group requires is one of its own places, or 0.
-use Prim.Native.Nat.{ℕ}
+use Prim.Native.Nat.{ℕ, zero, suc, _≤_}
 use mathlib.Core.Path.{_≡_, refl}
-use mathlib.Core.Bool.{Bool, true}
+use mathlib.Core.Bool.{Bool, true, _&&_, not}
 use mathlib.Core.Logic.{_⊎_, inl, inr}
+use native.Mathlib.Omega.{arith}
 use borrow.Author.Tests.{eq-eqb}
 use Rattle.rules.specs.Walk.{Group, place, seq, alt, opt, plus, and, Members, one, also}
 use Rattle.model_sets.specs.Bits.{or-left, or-right, bool-cases}
-use Rattle.model_sets.specs.Sets.{has, hasM, nullable, must, mustM}
+use Rattle.model_sets.specs.Sets.{size, Numbered, has, hasM, nullable, last, must, mustM, mustAfter, mustAfterM, requiredIn}
 use Rattle.and_laws.specs.Sets.{meets}
+use Rattle.and_laws.specs.Numbers.{has-range}
 use Rattle.and_laws.specs.Req.{anyIdle, restReq}
 
 abbrev pub OwnOr0 : (ℕ → Bool) → ℕ → Type 0
@@ -35,6 +37,36 @@ mutual
   mustM-own (one g) = must-own g
   mustM-own (also m g) = inl refl
 
+mutual
+  after-own : (k : Group) (u : ℕ) → OwnOr0 (has k) (mustAfter k u)
+  after-own (place n) u = inl refl
+  after-own (seq g h) u =
+      bool-cases
+      (has h u)
+      (λ x. rw x (own-wider (has h) (has (seq g h)) (λ n y. or-right (has g n) y) (mustAfter h u) (after-own h u)))
+      (λ x.
+      rw x
+      (bool-cases
+      (last g u && not (nullable h))
+      (λ y. rw y (own-wider (has h) (has (seq g h)) (λ n z. or-right (has g n) z) (must h) (must-own h)))
+      (λ y. rw y (own-wider (has g) (has (seq g h)) (λ n z. or-left _ z) (mustAfter g u) (after-own g u)))))
+  after-own (alt g h) u =
+      bool-cases
+      (has h u)
+      (λ x. rw x (own-wider (has h) (has (alt g h)) (λ n y. or-right (has g n) y) (mustAfter h u) (after-own h u)))
+      (λ x. rw x (own-wider (has g) (has (alt g h)) (λ n y. or-left _ y) (mustAfter g u) (after-own g u)))
+  after-own (opt g) u = after-own g u
+  after-own (plus g) u = after-own g u
+  after-own (and m) u = afterM-own m u
+
+  afterM-own : (m : Members) (u : ℕ) → OwnOr0 (hasM m) (mustAfterM m u)
+  afterM-own (one g) u = after-own g u
+  afterM-own (also m g) u =
+      bool-cases
+      (has g u)
+      (λ x. rw x (own-wider (has g) (hasM (also m g)) (λ n y. or-right (hasM m n) y) (mustAfter g u) (after-own g u)))
+      (λ x. rw x (own-wider (hasM m) (hasM (also m g)) (λ n y. or-left _ y) (mustAfterM m u) (afterM-own m u)))
+
 -- What the only member requires that has not begun.
 pub rest-own : (m : Members) (S : ℕ → Bool) → OwnOr0 (hasM m) (restReq m S)
 rest-own (one g) S = bool-cases (meets g S) (λ x. rw x (inl refl)) (λ x. rw x (must-own g))
@@ -48,3 +80,16 @@ rest-own (also m g) S =
     (anyIdle S m)
     (λ y. rw y (inl refl))
     (λ y. rw y (own-wider (has g) (hasM (also m g)) (λ n z. or-right (hasM m n) z) (must g) (must-own g)))))
+
+-- The place that a row requires is one of the model's.
+pub required-size : (g : Group) → Numbered g 1 → (u : ℕ) → requiredIn g u ≤ size g
+required-size g numbered zero = go (must g) (must-own g)
+  where
+    go : (n : ℕ) → OwnOr0 (has g) n → n ≤ size g
+    go n (inl z) = omega arith
+    go n (inr y) = omega (arith, has-range g 1 numbered n y)
+required-size g numbered (suc u) = go (mustAfter g (suc u)) (after-own g (suc u))
+  where
+    go : (n : ℕ) → OwnOr0 (has g) n → n ≤ size g
+    go n (inl z) = omega arith
+    go n (inr y) = omega (arith, has-range g 1 numbered n y)

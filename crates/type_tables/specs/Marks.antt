@@ -250,6 +250,9 @@ module _ {s : List ℕ} {es : List Element} {rows places facts M : List ℕ} {e 
   pub fresh-required : Tables s es rows places facts M → e ≤ length es → requiredAt rows e 0 ≡ decided s es .required e []
   fresh-required tables declared = start-required s es (tables .accepted) (tables .raised) rows (tables .rows-say) e declared
 
-  -- What can be taken is a place.
+  -- What is required is a place or 0, and what can be taken is a place.
+  pub entered-required : {begun : List ℕ} {level u : ℕ} {o : Open} → Tables s es rows places facts M → Entered es M begun level e u o → decided s es .required e (o .taken) ≤ 96
+  entered-required {begun} {level} {u} {o} tables entered = omega (arith, required-most s es (tables .accepted) e (o .taken) (λ g ps n c. entered .begins c), width-most s es (tables .accepted) e)
+
   pub can-range : {begun : List ℕ} {level u p : ℕ} {o : Open} → Tables s es rows places facts M → Entered es M begun level e u o → CanTake es o p → (1 ≤ p) × (p ≤ 96)
   can-range tables entered can = let x = range tables entered can in omega (arith, of-model tables entered can .few)
