@@ -114,9 +114,9 @@ fn body_model(
         tokens: m.tokens,
         places: m.places,
         at: m.at,
-        code: model_code::wide(m.code),
-        and: model_code::wide(m.and),
-        repeated: model_code::wide(m.repeated),
+        code: numbers::short(m.code),
+        and: numbers::short(m.and),
+        repeated: numbers::short(m.repeated),
     })
 }
 

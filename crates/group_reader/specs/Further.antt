@@ -1,9 +1,10 @@
 -- What follows a content token, in the rules' terms.
-use Prim.Native.Nat.{ℕ, _+_}
+use Prim.Native.Nat.{ℕ, _+_, _≤_, _<_}
 use mathlib.Core.Path.{_≡_}
 use mathlib.Core.Bool.{_&&_, cond}
 use mathlib.Core.List.{List}
 use lib.Dec.{eqb, leb}
+use borrow.Author.Tests.{eq-eqb, ne-eqb, le-leb, lt-leb}
 use Rattle.rules.specs.Reading.{Reading, refused, got}
 use Rattle.rules.specs.TypeFile.{Further, closed, joined}
 use Rattle.model_code.specs.Means.{putCode, codeNext}
@@ -32,3 +33,14 @@ closedTable k joint n T = cond (eqb joint 38 && leb k 32) (putCode T n (128 + k)
 
 abbrev pub closedCode : (k joint n : ℕ) → ℕ
 closedCode k joint n = cond (eqb joint 38 && leb k 32) (codeNext n) n
+
+-- Another group leaves both as they are, and so does one that is too large; else the number is put.
+module _ (k joint n : ℕ) (T : List ℕ) where
+  pub closed-other : (joint ≡ 38 → ⊥) → (T ≡ closedTable k joint n T) × (n ≡ closedCode k joint n)
+  closed-other e = let x = ne-eqb joint 38 e in (rw x, rw x)
+
+  pub closed-many : joint ≡ 38 → 32 < k → (T ≡ closedTable k joint n T) × (n ≡ closedCode k joint n)
+  closed-many e h = let x = eq-eqb joint 38 e in let y = lt-leb k 32 h in (rw (x, y), rw (x, y))
+
+  pub closed-few : joint ≡ 38 → k ≤ 32 → (S : List ℕ) (r : ℕ) → (S ≡ putCode T n (128 + k)) × (r ≡ codeNext n) → (S ≡ closedTable k joint n T) × (r ≡ closedCode k joint n)
+  closed-few e h S r p = let x = eq-eqb joint 38 e in let y = le-leb k 32 h in (rw (x, y) (p .0), rw (x, y) (p .1))

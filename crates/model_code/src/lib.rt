@@ -29,19 +29,12 @@ pub const AND: u8 = 128;
 pub fn put(table: &mut [u8; MODEL], n: u16, op: u8) -> u16
     ensures { λ r. ⌜ (now (table .exit) ≡ putCode (now (table .entry)) n op) × (r ≡ codeNext n) ⌝ }
 {
-    let i = wide(n);
+    let i = numbers::short(n);
     if CODE <= i {
         return n;
     }
     table[MODEL_ROWS + i] = op;
     n + 1
-}
-
-// A number of 16 bits as an index.
-pub fn wide(n: u16) -> usize
-    ensures { λ r. ⌜ (r ≡ n) × (r < 65536) ⌝ }
-{
-    n as usize
 }
 
 // What a pass keeps of a group for the places p and q: whether it can be nothing; whether p, whether q can begin a walk of it; whether p,

@@ -14,6 +14,13 @@ pub fn wide(b: u8) -> usize
     b as usize
 }
 
+// A number of 16 bits as an index.
+pub fn short(n: u16) -> usize
+    ensures { λ r. ⌜ (r ≡ n) × (r < 65536) ⌝ }
+{
+    n as usize
+}
+
 // A number as an index.
 pub fn widened(x: u32) -> usize
     ensures { λ r. ⌜ (r ≡ x) × (r < 4294967296) ⌝ }

@@ -57,14 +57,14 @@ with-occurrence-requires c κs =
 finish-requires : tie.Need-finish-requires
 finish-requires c κs = search needs
 
-wide-requires : tie.Need-wide-requires
-wide-requires c κs = search needs
+short-requires : tie.Need-short-requires
+short-requires c κs = search needs
 
-wide-requires-2 : tie.Need-wide-requires-2
-wide-requires-2 c κs = search needs
+short-requires-2 : tie.Need-short-requires-2
+short-requires-2 c κs = search needs
 
-wide-requires-3 : tie.Need-wide-requires-3
-wide-requires-3 c κs = search needs
+short-requires-3 : tie.Need-short-requires-3
+short-requires-3 c κs = search needs
 
 returns-2 : tie.Need-returns-2
 returns-2 c =
@@ -74,7 +74,7 @@ returns-2 c =
     let kept = c .before .before .before .before .before .before .with-occurrence .ensures _ names _ 0 (model .0) (model .2) in
     body-meets (length (a .s .now)) names (c .before .before .before .finish .last .0) _ _ _ (model-got (settings (a .long)) (a .s .now) (a .i) (model .1))
     (model-kept kept (model-plain (settings (a .long)) (a .s .now) (a .i) (c .before .before .before .before .before .before .before .before .before .before .before .before .before .before .before .before .before .pre .0) (model .0) (model .1)) (model-guarded (settings (a .long)) (a .s .now) (a .i) (c .before .before .before .before .before .before .before .before .before .before .before .before .before .before .before .before .before .pre .0) (model .0) (model .1)) (c .before .before .before .before .before .before .before .before .before .before .before .before .before .before .clear .ensures)
-    _ _ _ (c .before .before .before .finish .ensures) (c .before .before .wide .ensures .0) (c .before .wide2 .ensures .0) (c .wide3 .ensures .0))
+    _ _ _ (c .before .before .before .finish .ensures) (c .before .before .short .ensures .0) (c .before .short2 .ensures .0) (c .short3 .ensures .0))
 
 pub body-model-spec : {M : Type 1} → statement M
 body-model-spec =
@@ -88,7 +88,7 @@ body-model-spec =
     returns
     with-occurrence-requires
     finish-requires
-    wide-requires
-    wide-requires-2
-    wide-requires-3
+    short-requires
+    short-requires-2
+    short-requires-3
     returns-2)
