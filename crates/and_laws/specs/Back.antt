@@ -131,10 +131,6 @@ mutual
   members-walk (one g) d u S x v z a y e i o l = one-joins g (λ u S s z t e i w l. left-walk g d u S s z t e i w l) u S x v z a y e i o l
   members-walk (also m g) (d, k, c) u S x v z a y e i o l = more-joins m g c (λ u S x v z a y e i o l. members-walk m d u S x v z a y e i o l) (λ u S s z t e i w l. left-walk g k u S s z t e i w l) u S x v z a y e i o l
 
--- The residual law: for a beginning s whose last place is u, and any set that has of the places in "&" groups those of s.
-pub residual : (g : Group) → Good g → (u : ℕ) (S : ℕ → Bool) (s t : List ℕ) → Ends s u → Agrees (held g) s S → Begins g s → Walk g (s ++ t) ↔ Left g u S t
-residual g d u S s t e i (z, w) = (walk-left g d u S s t e i, left-walk g d u S s z t e i w)
-
 -- What the reader needs: the same last place, and in "&" groups the same places taken.
 pub record Alike (g : Group) (s t : List ℕ) : Type 0 where
   pub last : (u : ℕ) × Ends s u × Ends t u
@@ -148,6 +144,3 @@ alike g d s t v (z, w) a x =
 
 pub alike-next : (g : Group) → Good g → (s t : List ℕ) (p : ℕ) → Begins g t → Alike g s t → MayComeNext g s p → MayComeNext g t p
 alike-next g d s t p b a (v, w) = (v, rw append-assoc (alike g d s t (p ∷ v) b a (rw append-assoc at w)))
-
-pub alike-complete : (g : Group) → Good g → (s t : List ℕ) → Begins g t → Alike g s t → Complete g s → Complete g t
-alike-complete g d s t b a w = rw append-nil at (alike g d s t [] b a (rw append-nil w))

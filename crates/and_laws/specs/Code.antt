@@ -166,10 +166,6 @@ module _ (p q : ℕ) where
     six-evalM (one g) = six-eval g
     six-evalM (also m g) = rw (six-evalM m, six-eval g)
 
-  -- one pass over the code gives whether p and q clash
-  pub clash-run : (g : Group) → run (sixes p q) (post g) [] ≡ sixOf p q g ∷ []
-  clash-run g = run-post (sixes p q) g [] ∙ ap (λ (v : Six). v ∷ []) (six-eval g)
-
 -- The decisions for the last place u, the set S and the place p; the last three are over the members of an "&" group.
 pub record Val : Type 0 where
   pub null : Bool
@@ -265,7 +261,3 @@ module _ (u : ℕ) (S : ℕ → Bool) (p : ℕ) where
     val-evalM : (m : Members) → evalM (vals u S p) m ≡ valOfM u S p m
     val-evalM (one g) = rw (val-eval g)
     val-evalM (also m g) = rw (val-evalM m, val-eval g)
-
-  -- one pass over the code gives next, complete and "every walk passes p"
-  pub decide-run : (g : Group) → run (vals u S p) (post g) [] ≡ valOf u S p g ∷ []
-  decide-run g = run-post (vals u S p) g [] ∙ ap (λ (v : Val). v ∷ []) (val-eval g)

@@ -17,7 +17,7 @@ use Rattle.and_laws.specs.Left.{Left, Now, Agrees, walk-left}
 use Rattle.and_laws.specs.Back.{left-walk}
 use Rattle.and_laws.specs.Fold.{one-walk, add-back, some-walk, null-walk, first-begins}
 use Rattle.and_laws.specs.Exact.{walk-null, walk-first}
-use Rattle.and_laws.specs.Rest.{allM, anyM, or-none, none-or, arr-some, arr-empty, empty-arr, arr-starts, starts-arr, arr-passes, arr-avoids}
+use Rattle.and_laws.specs.Rest.{allM, anyM, or-none, arr-some, arr-empty, empty-arr, arr-starts, starts-arr, arr-passes, arr-avoids}
 
 -- every walk passes p
 abbrev mutual

@@ -19,18 +19,6 @@ use Rattle.and_laws.specs.Req.{reqAfter, sound0, complete0, sound, compl
 
 -- The set of places taken: nothing at the start, one place more at each step; without "&" any set will do.
 
-pub agrees-none : (f : ℕ → Bool) → Agrees f [] (λ (p : ℕ). false)
-agrees-none f p i = (λ j. j, λ j. j)
-
-pub agrees-take : (f : ℕ → Bool) (s : List ℕ) (S : ℕ → Bool) (p : ℕ) → Agrees f s S → Agrees f (s ++ p ∷ []) (λ (q : ℕ). S q || eqb p q)
-agrees-take f s S p a q i = (
-  λ j. or-cases (S q) _ (λ k. mem-left s (p ∷ []) q (a q i .0 k)) (λ k. mem-right s (p ∷ []) q (or-left _ k)) j,
-  λ j. mem-cases s (p ∷ []) q (λ k. or-left _ (a q i .1 k)) (λ k. or-right (S q) (or-cases (eqb p q) false (λ l. l) (λ l. absurd (false≢true l)) k)) j,
-)
-
-pub plain-agrees : (g : Group) → Plain g → (s : List ℕ) (S : ℕ → Bool) → Agrees (held g) s S
-plain-agrees g n s S p i = absurd (plain-held g n p i)
-
 -- The required place, for p that is not 0.
 module _ (g : Group) (good : Good g) (u : ℕ) (S : ℕ → Bool) (s : List ℕ) (e : Ends s u) (agree : Agrees (held g) s S) (begun : Begins g s) (p : ℕ) (pos : p ≡ 0 → ⊥) where
   in-g : has g u ≡ true

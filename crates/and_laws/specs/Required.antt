@@ -178,25 +178,6 @@ module _ (g : Group) (good : Good g) (u : ℕ) (S : ℕ → Bool) (s : List ℕ)
     λ (x, f). and-both (next-fold g good u S s e agree begun p .1 x) (must-fold g good u S s e agree begun p .1 (λ t w. memᴰ-mem t p (f t w))),
   )
 
-  pub now-fold : (required g u S p ≡ true) ↔ RequiredBy g s p
-  now-fold = (there, back)
-    where
-      there : required g u S p ≡ true → RequiredBy g s p
-      there i =
-          let x = forced-fold .0 (and-left (fit g u S p && passesAfter g u S p) _ i) in
-          let n = not-true-false (hinders (ready S (fit g u S)) g p) (and-right (fit g u S p && passesAfter g u S p) _ i) in
-          (x, λ h o b q l y. not-both n (other-hinders (ready S (fit g u S)) p g h o (and-both (false-not-true (meets h S) (same-begun h o ∙ b)) (common-meets h (fit g u S) q l (next-fold g good u S s e agree begun q .1 y)))))
-
-      back : RequiredBy g s p → required g u S p ≡ true
-      back (x, k) =
-          and-both (forced-fold .1 x) (false-not-true (hinders (ready S (fit g u S)) g p) (not-true (hinders (ready S (fit g u S)) g p) no))
-        where
-          no : hinders (ready S (fit g u S)) g p ≡ true → ⊥
-          no i =
-              let (h, o, j) = hinders-other (ready S (fit g u S)) p g i in
-              let (q, l, y) = meets-common h (fit g u S) (and-right (not (meets h S)) _ j) in
-              k h o (sym (same-begun h o) ∙ not-true-false (meets h S) (and-left (not (meets h S)) _ j)) q l (next-fold g good u S s e agree begun q .0 y)
-
 -- At the start no member has begun.
 abbrev pub required0 : Group → ℕ → Bool
 required0 g p = (first g p && passes g p) && not (hinders (λ (h : Group). meets h (first g)) g p)
@@ -210,21 +191,3 @@ module _ (g : Group) (p : ℕ) where
     λ i. (next-start g p .0 (and-left (first g p) _ i), λ t w. mem-memᴰ t p (must-start g p .0 (and-right (first g p) _ i) t w)),
     λ (x, f). and-both (next-start g p .1 x) (must-start g p .1 (λ t w. memᴰ-mem t p (f t w))),
   )
-
-  pub now-start : (required0 g p ≡ true) ↔ RequiredBy g [] p
-  now-start = (there, back)
-    where
-      there : required0 g p ≡ true → RequiredBy g [] p
-      there i =
-          let x = forced-start .0 (and-left (first g p && passes g p) _ i) in
-          let n = not-true-false (hinders (λ (h : Group). meets h (first g)) g p) (and-right (first g p && passes g p) _ i) in
-          (x, λ h o b q l y. not-both n (other-hinders (λ (h : Group). meets h (first g)) p g h o (common-meets h (first g) q l (next-start g q .1 y))))
-
-      back : RequiredBy g [] p → required0 g p ≡ true
-      back (x, k) = and-both (forced-start .1 x) (false-not-true (hinders (λ (h : Group). meets h (first g)) g p) (not-true (hinders (λ (h : Group). meets h (first g)) g p) no))
-        where
-          no : hinders (λ (h : Group). meets h (first g)) g p ≡ true → ⊥
-          no i =
-              let (h, o, j) = hinders-other (λ (h : Group). meets h (first g)) p g i in
-              let (q, l, y) = meets-common h (first g) j in
-              k h o (none-begun h) q l (next-start g q .0 y)

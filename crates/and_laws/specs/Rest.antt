@@ -22,9 +22,6 @@ pub or-none : (a b : Bool) → a || b ≡ false → (a ≡ false) × (b ≡ fals
 or-none true b e = absurd (false≢true (sym e))
 or-none false b e = (refl, e)
 
-pub none-or : {a b : Bool} → a ≡ false → b ≡ false → a || b ≡ false
-none-or x y = rw (x, y)
-
 joined-put : (a b : List (List ℕ)) (w : List ℕ) → joined (a ++ (block w ++ b)) ≡ joined a ++ (w ++ joined b)
 joined-put a b w = joined-append a (block w ++ b) ∙ ap (_++_ (joined a)) (joined-block w b)
 

@@ -15,7 +15,7 @@ use Rattle.and_laws.specs.Left.{Agrees}
 use Rattle.and_laws.specs.Decide.{fit, done, next-fold, complete-fold, next-start, complete-start}
 use Rattle.and_laws.specs.Meant.{required-meant}
 use Rattle.and_laws.specs.Req.{reqAfter}
-use Rattle.and_laws.specs.Number.{agrees-take, number-required, number-required-start}
+use Rattle.and_laws.specs.Number.{number-required, number-required-start}
 use Rattle.and_laws.specs.Rows.{may, fit-row, plain-may, and-yes}
 use Rattle.and_laws.specs.Levels.{around, blocksIn, loneIn, mayIn, blocks-in, lone-in, may-in}
 use Rattle.and_laws.specs.Lacking.{blocks, lone, done-blocks, req-row, plain-blocks}
@@ -84,18 +84,6 @@ groupsAt g (suc u) = around g (suc u)
 
 -- What rows and what has begun say.
 module _ (g : Group) (good : Good g) (S : ℕ → Bool) where
-  pub next-row : (u : ℕ) → IsTaken g u S → (p : ℕ) → nextFrom g u S p ≡ nextIn g u p && mayFrom g u S p
-  next-row zero t p = sym (and-yes (first g p))
-  next-row (suc u) (i, t) p = fit-row (suc u) S t p g good i
-
-  pub complete-row : (u : ℕ) → IsTaken g u S → completeFrom g u S ≡ completeIn g u && not (blocksFrom g u S)
-  complete-row zero t = sym (and-yes (nullable g))
-  complete-row (suc u) (i, t) = done-blocks g good (suc u) S i
-
-  pub required-row : (u : ℕ) → IsTaken g u S → requiredFrom g u S ≡ cond (blocksFrom g u S) (lone g u S) (requiredIn g u)
-  required-row zero t = refl
-  required-row (suc u) (i, t) = req-row g good (suc u) S i
-
   -- Without "&" the rows say it all.
   pub plain-next : Plain g → (u : ℕ) → IsTaken g u S → (p : ℕ) → nextFrom g u S p ≡ nextIn g u p
   plain-next n zero t p = refl

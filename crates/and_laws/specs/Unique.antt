@@ -455,23 +455,3 @@ module _ (S : ℕ → Bool) (p q : ℕ) where
         (λ j.
         let l : hasM m u ≡ true = or-only (hasM m u) (has g u) j i in
         unique-now m d u l (more-state m g a u S s .1 l) (now-others m g u p j x) (now-others m g u q j y) (λ z o. c z (inl (inl o))))
-
--- At most one place is required.
-pub required-unique : (g : Group) → Good g → (s : List ℕ) → Begins g s → (p q : ℕ) → RequiredBy g s p → RequiredBy g s q → p ≡ q
-required-unique g d [] b p q ((x, f), k) ((y, h), l) =
-    unique-start (mem []) p q g d (λ r i j. false≢true j) (next-start g p .1 x, must-start g p .1 (λ t w. memᴰ-mem t p (f t w))) (next-start g q .1 y, must-start g q .1 (λ t w. memᴰ-mem t q (h t w))) (λ z o n i. k z o n q i y)
-required-unique g d (r ∷ s) (z, w) p q ((x, f), k) ((y, h), l) =
-    let (u, e) = ends-of r s in
-    let same : Agrees (held g) (r ∷ s) (mem (r ∷ s)) = λ v i. (λ j. j, λ j. j) in
-    unique-after
-    (mem (r ∷ s))
-    p
-    q
-    g
-    d
-    u
-    (walk-in g ((r ∷ s) ++ z) w u (mem-left (r ∷ s) z u (ends-mem (r ∷ s) u e)))
-    (r ∷ s, z, e, same, w)
-    (next-fold g d u (mem (r ∷ s)) (r ∷ s) e same (z, w) p .1 x, must-fold g d u (mem (r ∷ s)) (r ∷ s) e same (z, w) p .1 (λ t v. memᴰ-mem t p (f t v)))
-    (next-fold g d u (mem (r ∷ s)) (r ∷ s) e same (z, w) q .1 y, must-fold g d u (mem (r ∷ s)) (r ∷ s) e same (z, w) q .1 (λ t v. memᴰ-mem t q (h t v)))
-    (λ z o n i. k z o n q i y)

@@ -31,10 +31,6 @@ RECORDS = 6 * elementLimit
 abbrev pub EVENT : ℕ
 EVENT = eventWidth
 
--- The numbers that the small program lends.
-abbrev pub PROGRAM-ROOM : ℕ
-PROGRAM-ROOM = programRoom
-
 -- What has content: the document itself (0), and the elements.
 abbrev pub CONTENTS : ℕ
 CONTENTS = elementLimit + 1

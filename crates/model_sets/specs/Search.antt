@@ -72,9 +72,6 @@ pairFrom-ext t v (suc k) p e =
       pairFrom-ext t v k (suc p) (λ a b l m n. e a b (omega arith) (omega arith) (omega arith)),
     )
 
-pub searchPair-ext : (t v : ℕ → ℕ → Bool) (n : ℕ) → ((p q : ℕ) → 1 ≤ p → p < q → q ≤ n → t p q ≡ v p q) → searchPair t n ≡ searchPair v n
-searchPair-ext t v n e = pairFrom-ext t v n 1 (λ a b l m o. e a b l m (omega arith))
-
 module _ (t : ℕ → ℕ → Bool) where
   -- (x, y) comes before every pair among the numbers from p up to, not including, end that passes
   abbrev pub Before : ℕ → ℕ → ℕ → ℕ → Type 0
