@@ -81,6 +81,10 @@ finds-data-run b a = record { run = ap isRun b; fits = λ w. let no : _≡_ {A =
 -- Where reading goes on
 
 module _ (d : List ℕ) (at : ℕ) (h : at < length d) where
+  -- A run of data from the next position on.
+  pub onward-run : {after : ℕ} → after ≡ runEnd d (at + 1) → Onward (length d) at (found.Token (elementNo 0) after)
+  onward-run e = let (i, j) = runEnd-in d (at + 1) (omega arith) in (omega arith, omega arith, omega arith)
+
   pub onward-refused : {p : Piece} {f : Fault} → p ≡ found.Refused f → Onward (length d) at p
   onward-refused e = rw e tt
 
