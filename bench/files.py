@@ -31,6 +31,8 @@ def elements(n, content):
 
 
 write("T", "<!ELEMENT LIST O O (ITEM+)><!ELEMENT ITEM O O (NAME,QTY?)><!ELEMENT NAME O O (#PCDATA)><!ELEMENT QTY - O (#PCDATA)>")
+write("par", "<!ELEMENT LIST O O (ITEM+)><!ELEMENT ITEM O O (NAME,QTY?)><!ELEMENT NAME O O (#PCDATA)><!ELEMENT QTY - O (#PCDATA)>"
+      "<!ATTLIST ITEM PAR NUMBER #REQUIRED UNIT (ea|bx|pk) #IMPLIED>")
 typical = "<!-- a catalogue -->\n<!ELEMENT LIST O O (HEAD?,(SECTION|ITEM)+)>\n<!ELEMENT HEAD - O (#PCDATA)>\n"
 for k in range(38):
     typical += "<!ELEMENT P%d - O (NAME%d,(QTY%d|UNIT%d)*,NOTE%d?)>\n" % ((k,) * 5)
@@ -84,6 +86,17 @@ document("plain", [(("gauze swab 10x10 and adhesive tape; " * 2000)[:65000], "")
 for n in (1, 2, 4, 8, 16, 32, 65):
     document("growth-%02d" % n, catalogue(n * 1000))
 
+# A catalogue under par: each item with two attributes.
+items, left = [], 65000
+while True:
+    k = len(items)
+    item = ' PAR="%d" UNIT="%s">' % (10 + k % 90, ("ea", "bx", "pk")[k % 3]), WARES[k % 4], str(10 + k % 90)
+    left -= len("<ITEM<QTY>") + sum(len(part) for part in item)
+    if left < 0:
+        break
+    items.append(item)
+write("par", "".join("<ITEM%s%s<QTY>%s" % item for item in items), ".sgm")
+write("par", "<LIST>" + "".join("<ITEM%s<NAME>%s</NAME><QTY>%s</QTY></ITEM>" % item for item in items) + "</LIST>", ".xml")
 
 # The same documents under "," groups and under "&" groups: small groups, groups of 32, and groups in groups.
 def supply(name, model_of, item, children):

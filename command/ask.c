@@ -4,7 +4,7 @@
 #include <string.h>
 
 enum {
-    TAIL = 2048, /* bytes put behind a beginning */
+    TAIL = 8192, /* bytes put behind a beginning */
     DEPTH = 8,  /* start tags and data put there, where all are tried */
     STEPS = 40, /* and where one is tried */
     WORK = 40 * 1000 * 1000 /* bytes read for that at most, twice: a second or so */
@@ -59,10 +59,11 @@ void begin_question(struct question *q, const struct input *type, const struct i
     q->type = type;
     q->document = document;
     q->cut = cut;
+    q->attributes = sgml_attributes(type->bytes, type->length, q->lists, sizeof q->lists, answer, name_limit) ? 0 : answer[SGML_ANSWER_COUNT];
     q->elements = sgml_judge(type->bytes, type->length, q->records, sizeof q->records, answer, name_limit) ? 0 : answer[SGML_ANSWER_COUNT];
 }
 
-/* 3 to 8 come by position, and before 25, 9 and 19: so a word is unfit exactly if one of them stands at it or before it. */
+/* 3 to 8, 10, 20 and 22 come by position, and before 25, 9 and 19: so a word is unfit exactly if one of them stands at it or before it. */
 int may_stand(const struct input *type, size_t cut, const char *tail, size_t before)
 {
     struct reply r = ask_type(type, cut, tail);
@@ -83,6 +84,68 @@ int may_come(const struct question *q, const char *tail, size_t before)
     return r.number == SGML_ERR_NO_ROOM || (r.input == SGML_IN_DOCUMENT && r.position > q->cut + before);
 }
 
+/* 3, 4 and 5 come before everything else in a tag, by position. */
+int may_go_on(const struct question *q, const char *tail)
+{
+    struct reply r = ask_document(q->type, q->document, q->cut, tail);
+    return r.input != SGML_IN_DOCUMENT || r.position > q->cut || (r.number != SGML_ERR_NAME_TOO_LONG && r.number != SGML_ERR_MALFORMED && r.number != SGML_ERR_LEFT_OUT);
+}
+
+uint32_t element_named(const struct question *q, const char *name)
+{
+    char other[SGML_MOST_NAMELEN + 1];
+    uint32_t k;
+    for (k = 1; k <= q->elements; k++) {
+        sgml_copy_name(q->type->bytes, q->records, k, other, sizeof other);
+        if (!strcmp(name, other))
+            return k;
+    }
+    return 0;
+}
+
+/* Appends a required attribute with a value that fits it: of a group the first token, which only separators part from the "(". */
+static void add_attribute(const struct question *q, char *text, size_t room, struct sgml_attribute a)
+{
+    char name[SGML_MOST_NAMELEN + 1], value[SGML_MOST_NAMELEN + 1] = "A";
+    const uint8_t *token = q->type->bytes + a.group_offset + 1;
+    size_t n = 0;
+    if (a.value == SGML_NUMBER)
+        strcpy(value, "1");
+    if (a.value == SGML_TOKENS) {
+        while (strchr(" \t\r\n", *token))
+            token++;
+        while (n < SGML_MOST_NAMELEN && !strchr(" \t\r\n,|&)", token[n])) {
+            value[n] = (char)token[n];
+            n++;
+        }
+        value[n] = 0;
+    }
+    sgml_copy_attribute_name(q->type->bytes, a, name, sizeof name);
+    if (strlen(text) + strlen(name) + strlen(value) + 6 <= room) {
+        strcat(text, " ");
+        strcat(text, name);
+        strcat(text, "=\"");
+        strcat(text, value);
+        strcat(text, "\"");
+    }
+}
+
+void add_start_tag(const struct question *q, char *text, size_t room, uint32_t element)
+{
+    size_t before = strlen(text);
+    uint32_t k;
+    add_tag(q, text, room, "<", element);
+    if (strlen(text) == before)
+        return;
+    text[strlen(text) - 1] = 0;
+    for (k = 0; k < q->attributes; k++) {
+        struct sgml_attribute a = sgml_attribute_at(q->lists, k);
+        if (a.element == element && a.preset == SGML_REQUIRED)
+            add_attribute(q, text, room - 1, a);
+    }
+    strcat(text, ">");
+}
+
 void add_tag(const struct question *q, char *text, size_t room, const char *before, uint32_t element)
 {
     char name[SGML_MOST_NAMELEN + 1];
@@ -98,7 +161,7 @@ void add_tag(const struct question *q, char *text, size_t room, const char *befo
 static void add_token(const struct question *q, char *tail, uint32_t element)
 {
     if (element)
-        add_tag(q, tail, TAIL, "<", element);
+        add_start_tag(q, tail, TAIL, element);
     else
         strcat(tail, ".");
 }
@@ -219,6 +282,8 @@ size_t open_at(const struct question *q, struct open open[SGML_TAGLVL])
     events = events_of(q->type, &whole, answer);
     for (k = 0; events && k < answer[SGML_ANSWER_COUNT]; k++) {
         struct sgml_event e = sgml_event_at(events, k);
+        if (e.kind == SGML_KIND_ATTRIBUTE || e.kind == SGML_KIND_ATTRIBUTE_DEFAULTED)
+            continue;
         if (e.offset >= q->cut && e.kind != SGML_KIND_END_OF_EMPTY)
             break;
         if (e.kind == SGML_KIND_START || e.kind == SGML_KIND_START_INFERRED) {

@@ -15,12 +15,12 @@ struct input {
     size_t length;
 };
 
-/* A type file, a document and its fault at the byte `cut`; the records are those of the type. */
+/* A type file, a document and its fault at the byte `cut`; the records are those of the type, of its elements and of their attributes. */
 struct question {
     const struct input *type, *document;
     size_t cut;
-    uint8_t records[SGML_MOST_RECORD_BYTES];
-    uint32_t elements; /* 0 where the type is refused */
+    uint8_t records[SGML_MOST_RECORD_BYTES], lists[SGML_MOST_ATTRIBUTE_BYTES];
+    uint32_t elements, attributes; /* 0 where the type is refused */
 };
 
 /* An open element: its number, and the offset of its start tag, or of what called for it. */
@@ -43,6 +43,15 @@ int may_come(const struct question *q, const char *tail, size_t before);
 
 /* Appends an element's tag to a text, if there is room: before is "<" or "</". */
 void add_tag(const struct question *q, char *text, size_t room, const char *before, uint32_t element);
+
+/* The beginning of the document, which is within a tag, and then a tail: whether the tag may go on so. */
+int may_go_on(const struct question *q, const char *tail);
+
+/* Appends an element's start tag with the attributes that it must have, if there is room. */
+void add_start_tag(const struct question *q, char *text, size_t room, uint32_t element);
+
+/* The number of the element of this name, in upper case; 0 if there is none. */
+uint32_t element_named(const struct question *q, const char *name);
 
 /* The elements open at the fault, from the outermost. 0 where this could not be found out. */
 size_t open_at(const struct question *q, struct open open[SGML_TAGLVL]);

@@ -87,7 +87,7 @@ static void malformed(const struct fault *f)
 static void put_declaration(const struct fault *f)
 {
     static const char *const known[] = {
-        "ATTLIST", "DOCTYPE", "ENTITY", "IDLINK", "LINK", "LINKTYPE", "NOTATION", "SGML", "SHORTREF", "USELINK", "USEMAP",
+        "DOCTYPE", "ENTITY", "IDLINK", "LINK", "LINKTYPE", "NOTATION", "SGML", "SHORTREF", "USELINK", "USEMAP",
     };
     const char *keyword = name_at(f->input, f->at + 2);
     size_t k;
@@ -99,8 +99,8 @@ static void put_declaration(const struct fault *f)
     for (k = 0; k < sizeof known / sizeof *known; k++)
         if (!strcmp(keyword, known[k]))
             break;
-    fprintf(f->to, k < sizeof known / sizeof *known ? ": a type file has <!ELEMENT declarations and comments"
-                                                    : ": there is no such declaration; <!ELEMENT may be meant");
+    fprintf(f->to, k < sizeof known / sizeof *known ? ": a type file has <!ELEMENT and <!ATTLIST declarations and comments"
+                                                    : ": there is no such declaration; <!ELEMENT or <!ATTLIST may be meant");
 }
 
 static void left_out(const struct fault *f)
@@ -117,7 +117,7 @@ static void left_out(const struct fault *f)
         fprintf(f->to, "a reference to a parameter entity (%%) is not supported");
     else if (byte == '&' && next == '#')
         fprintf(f->to, "a reference to a character (&#) is not supported");
-    else if (byte == '&' && input == f->document)
+    else if (byte == '&' && (input == f->document || is_in_list(f)))
         fprintf(f->to, "&%s is a reference to an entity, which is not supported; %s& %s", name_at(input, f->at + 1),
                 "for the character itself write a space behind it: ", name_at(input, f->at + 1));
     else if (byte == '(')
@@ -146,12 +146,17 @@ void explain(FILE *to, const struct input *type, const struct input *document, c
     static void (*const texts[])(const struct fault *) = {
         NULL,       too_long, bad_byte,         long_name,  malformed,   left_out, quantity,  declared_twice, elements,    ambiguous,
         undeclared, not_open, not_allowed_here, incomplete, end_missing, too_deep, after_end, section_end,    no_document, no_room,
+        attribute,  attribute_missing, misfit,
     };
     const struct input *input = answer[SGML_ANSWER_INPUT] == SGML_IN_TYPE ? type : document;
     struct fault f = { to, type, document, input, answer[SGML_ANSWER_POSITION], answer };
     uint32_t number = answer[SGML_ANSWER_NUMBER];
     if (number == SGML_ERR_SETTINGS)
         not_offered(&f);
+    else if (number == SGML_ERR_UNDECLARED && input == type)
+        unlisted(&f);
+    else if (number == SGML_ERR_DECLARED_TWICE && is_in_list(&f))
+        attribute_twice(&f);
     else if (number == SGML_ERR_REPEATED)
         fprintf(to, "this \"&\" stands in what \"+\" or \"*\" repeats; the members of an \"&\" group stand once each");
     else if (number && number < sizeof texts / sizeof *texts)

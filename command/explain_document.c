@@ -1,24 +1,34 @@
 /* explain_document.c - refusals of a document in words: what is open at the fault, and what may come. */
+#include "../examples/position.h"
 #include "fault.h"
 #include <ctype.h>
 #include <stdlib.h>
 #include <string.h>
 
-/* Within a tag there are a name and separators alone, so the tag began at the last "<" before. */
+/* What may stand at the fault, by asking for each. */
 void unfit_in_tag(const struct fault *f)
 {
+    static const struct {
+        const char *tail, *words;
+    } forms[] = { { ">", "\">\"" }, { "A", "the name of an attribute" }, { "=", "\"=\"" }, { "\"", "a value in quotes" } };
+    static struct question q;
+    struct list list = { "", 0, 0 };
     uint8_t byte = byte_at(f->document, f->at);
-    size_t s = f->at;
-    while (s && f->document->bytes[s - 1] != '<')
-        s--;
-    s -= s > 0;
+    size_t s = form_start(f), k;
+    begin_question(&q, f->type, f->document, f->at);
+    for (k = 0; k < sizeof forms / sizeof *forms; k++)
+        if (may_go_on(&q, forms[k].tail) && !(k == 1 && f->at && is_name_byte(f->document->bytes[f->at - 1])))
+            add(&list, forms[k].words);
     fprintf(f->to, "in the tag <%s%s ", stands(f->document, s, "</") ? "/" : "", tag_name(f->document, s));
-    if (byte == '<')
+    if (byte == '<') {
         fprintf(f->to, "the \">\" is missing before this \"<\"");
-    else if (isalpha(byte))
-        fprintf(f->to, "only \">\" may stand here, and not %s: attributes are not supported", name_at(f->document, f->at));
+        return;
+    }
+    put_list(f, "only ", &list);
+    if (isalpha(byte))
+        fprintf(f->to, " may stand here, and not %s", name_at(f->document, f->at));
     else
-        fprintf(f->to, "only \">\" may stand here, and not \"%c\"", byte);
+        fprintf(f->to, byte <= ' ' ? " may stand here, and not a separator" : " may stand here, and not \"%c\"", byte);
 }
 
 /* One letter more, less or other, or two letters in the wrong order; of short names too many are that near. */
@@ -102,9 +112,11 @@ static void put_allowed(const struct fault *f, const struct question *q, const s
     char tag[SGML_MOST_NAMELEN + 4];
     uint32_t k;
     for (k = 1; k <= q->elements; k++) {
-        tag[0] = 0;
+        static char start[8192];
+        tag[0] = start[0] = 0;
         add_tag(q, tag, sizeof tag, "<", k);
-        if (may_come(q, tag, 0))
+        add_start_tag(q, start, sizeof start, k);
+        if (may_come(q, start, 0))
             add(&list, tag);
     }
     if (may_come(q, ".", 0))
@@ -121,10 +133,13 @@ static void put_allowed(const struct fault *f, const struct question *q, const s
 /* The end tag that would let the refused start tag or data come, if there is one. */
 static void put_missing_end(const struct fault *f, const struct question *q, const struct open *open, size_t depth)
 {
-    char tail[2 * SGML_MOST_NAMELEN + 8], token[SGML_MOST_NAMELEN + 3] = ".";
+    static char tail[8192], token[8000];
     size_t i = depth;
-    if (is_tag(f->document, f->at))
-        snprintf(token, sizeof token, "<%.*s>", SGML_MOST_NAMELEN, tag_name(f->document, f->at));
+    strcpy(token, ".");
+    if (is_tag(f->document, f->at)) {
+        token[0] = 0;
+        add_start_tag(q, token, sizeof token, element_named(q, tag_name(f->document, f->at)));
+    }
     while (i-- > 1) {
         size_t before;
         tail[0] = 0;

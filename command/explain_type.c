@@ -18,7 +18,8 @@ static int fits(const struct fault *f, const char *word)
 static void put_fitting(const struct fault *f)
 {
     static const char *const words[] = {
-        "-", "O", "EMPTY", "(", "#PCDATA", ",", "|", "&", ")", ">", "<!ELEMENT", "!ELEMENT", "ELEMENT", "<!-- -->",
+        "-", "O", "EMPTY", "(", "#PCDATA", ",", "|", "&", ")", "CDATA", "NUMBER", "NAME", "#REQUIRED", "#IMPLIED", ">", "<!ELEMENT", "!ELEMENT", "ELEMENT",
+        "<!ATTLIST", "!ATTLIST", "ATTLIST", "<!-- -->",
     };
     struct list list = { "", 0, 0 };
     int is_name = fits(f, "A");
@@ -31,6 +32,8 @@ static void put_fitting(const struct fault *f)
             snprintf(quoted, sizeof quoted, "\"%s\"", words[k]);
             add(&list, quoted);
         }
+    if (fits(f, "\""))
+        add(&list, "a value in quotes");
     put_list(f, "; here may stand ", &list);
 }
 
@@ -53,7 +56,7 @@ void quantity(const struct fault *f)
     if (byte_at(f->type, f->at) == '(' && may_stand(f->type, f->at, "A", 0))
         fprintf(f->to, "groups stand in each other more than %d deep", SGML_GRPLVL);
     else
-        fprintf(f->to, "%s%sone too many: a group has at most %d content tokens, and a content model %d", name_at(f->type, f->at),
+        fprintf(f->to, "%s%sone too many: a group has at most %d tokens, and a content model %d", name_at(f->type, f->at),
                 *name_at(f->type, f->at) ? " is " : "", SGML_GRPCNT, SGML_GRPGTCNT);
 }
 

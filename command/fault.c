@@ -72,13 +72,13 @@ void put_list(const struct fault *f, const char *before, struct list *list)
         fprintf(f->to, "%s%s%s", before, list->text, list->count > SHOWN ? " and more" : "");
 }
 
-/* The last "<" before which nothing is unfinished. If it is not the last of all, that one stands in a comment, and "<!" is sought. */
+/* The last "<" before which nothing is unfinished. Others stand in a comment or in an attribute's value. */
 size_t form_start(const struct fault *f)
 {
     const struct input *document = f->input == f->document ? f->document : NULL;
     size_t s = f->at, looks = 0;
     while (s-- && looks < LOOKS)
-        if (f->input->bytes[s] == '<' && (!looks || stands(f->input, s, "<!"))) {
+        if (f->input->bytes[s] == '<') {
             looks++;
             if (!ends_within(f->type, document, s))
                 return s;

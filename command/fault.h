@@ -50,6 +50,14 @@ void declared_twice(const struct fault *f);
 void elements(const struct fault *f);
 void ambiguous(const struct fault *f);
 
+/* 7, 10 and 20 of an attribute list, and 20, 21 and 22, */
+int is_in_list(const struct fault *f);
+void attribute_twice(const struct fault *f);
+void unlisted(const struct fault *f);
+void attribute(const struct fault *f);
+void attribute_missing(const struct fault *f);
+void misfit(const struct fault *f);
+
 /* and 4 of a tag and 10 to 18. */
 void unfit_in_tag(const struct fault *f);
 void undeclared(const struct fault *f);

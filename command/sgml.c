@@ -23,9 +23,10 @@ struct job {
     int count;
 };
 
-/* The type, as it was read once, and the records of an accepted one. */
+/* The type, as it was read once, and the records of an accepted one: of its elements, and of its attributes. */
 static uint8_t type_bytes[SGML_TYPE_LIMIT + 1], document_bytes[SGML_DOCUMENT_LIMIT + 1];
-static uint8_t records[SGML_MOST_RECORD_BYTES];
+static uint8_t records[SGML_MOST_RECORD_BYTES], attributes[SGML_MOST_ATTRIBUTE_BYTES];
+static uint32_t attribute_count;
 
 static const char usage[] = "usage: " NAME " [-q] [--name-length N] [--places] [--answer] [--] TYPE DOCUMENT...\n"
                             "       " NAME " [-q] [--name-length N] (--esis | --check) [--] TYPE DOCUMENT...\n"
@@ -114,6 +115,16 @@ static enum status refused(const struct job *job, const struct input *type, cons
     return REFUSED;
 }
 
+static int is_attribute(struct sgml_event e)
+{
+    return e.kind == SGML_KIND_ATTRIBUTE || e.kind == SGML_KIND_ATTRIBUTE_DEFAULTED;
+}
+
+static struct sgml_attribute attribute_at(const uint8_t *events, uint32_t count, uint32_t k)
+{
+    return sgml_attribute_of(attributes, attribute_count, sgml_element_at(events, count, k), sgml_event_at(events, k).element);
+}
+
 static void print_events(const struct job *job, const struct input *type, const uint8_t *events, uint32_t count)
 {
     char name[SGML_MOST_NAMELEN + 1];
@@ -123,6 +134,8 @@ static void print_events(const struct job *job, const struct input *type, const 
         struct sgml_event e = sgml_event_at(events, k);
         if (e.kind == SGML_KIND_DATA)
             strcpy(name, "-");
+        else if (is_attribute(e))
+            sgml_copy_attribute_name(type->bytes, attribute_at(events, count, k), name, sizeof name);
         else
             sgml_copy_name(type->bytes, records, e.element, name, sizeof name);
         printf("%u %s %u %u", (unsigned)e.kind, name, (unsigned)e.offset, (unsigned)e.length);
@@ -145,6 +158,35 @@ static void print_escaped(uint8_t byte)
         putchar(byte);
 }
 
+/* The A lines of the element that starts with the event k, whose attribute events stand right before it: all attributes of its list, as
+ * onsgmls gives them, an implied one too. Names and tokens are folded, and of a number the digits stay. */
+static void print_attributes(const struct input *type, const struct input *document, const uint8_t *events, uint32_t k)
+{
+    uint32_t element = sgml_event_at(events, k).element, first = k, i, n;
+    char name[SGML_MOST_NAMELEN + 1];
+    while (first && is_attribute(sgml_event_at(events, first - 1)))
+        first--;
+    for (n = 0; n < attribute_count; n++) {
+        struct sgml_attribute a = sgml_attribute_at(attributes, n);
+        const uint8_t *value = NULL;
+        uint32_t length = 0;
+        if (a.element != element)
+            continue;
+        for (i = first; i < k; i++) {
+            struct sgml_event e = sgml_event_at(events, i);
+            if (e.element == a.number) {
+                value = sgml_value(type->bytes, document->bytes, e);
+                length = e.length;
+            }
+        }
+        sgml_copy_attribute_name(type->bytes, a, name, sizeof name);
+        printf("A%s %s", name, !value ? "IMPLIED" : a.value == SGML_CDATA ? "CDATA " : "TOKEN ");
+        for (i = 0; i < length; i++)
+            print_escaped(a.value == SGML_CDATA || value[i] < 'a' || value[i] > 'z' ? value[i] : (uint8_t)(value[i] - 'a' + 'A'));
+        putchar('\n');
+    }
+}
+
 /* Runs of data with no tag between them are one line, as with onsgmls. */
 static void print_esis(const struct input *type, const struct input *document, const uint8_t *events, uint32_t count)
 {
@@ -152,8 +194,12 @@ static void print_esis(const struct input *type, const struct input *document, c
     uint32_t k, i, before = 0;
     for (k = 0; k < count; k++) {
         struct sgml_event e = sgml_event_at(events, k);
+        if (is_attribute(e))
+            continue;
         if (before == SGML_KIND_DATA && e.kind != SGML_KIND_DATA)
             putchar('\n');
+        if (e.kind == SGML_KIND_START || e.kind == SGML_KIND_START_INFERRED)
+            print_attributes(type, document, events, k);
         if (e.kind == SGML_KIND_DATA) {
             if (before != SGML_KIND_DATA)
                 putchar('-');
@@ -222,6 +268,8 @@ static enum status run(struct job *job)
     int i;
     if (load(&type, sizeof type_bytes))
         return NOT_RUN;
+    if (!sgml_attributes(type.bytes, type.length, attributes, sizeof attributes, answer, name_limit))
+        attribute_count = answer[SGML_ANSWER_COUNT];
     number = sgml_judge(type.bytes, type.length, records, sizeof records, answer, name_limit);
     if (!job->count)
         return judge(job, &type, answer);

@@ -1,6 +1,7 @@
 /* controller.c - what a cabinet's controller does with the library: reads a catalogue under its type and shows how many items and
  * pieces lie in each drawer, or where and why the catalogue is refused. A drawer is told by its NUMBER; in a type without one, by the
- * place that an ITEM took in the content model around it. */
+ * place that an ITEM took in the content model around it. Where the type gives an ITEM a par level, the attribute PAR, it also shows how many
+ * pieces there should be and how many are short. */
 #include "position.h"
 #include "sgml.h"
 #include <ctype.h>
@@ -24,21 +25,24 @@ struct input {
 /* The elements that mean something to a cabinet, with their numbers in the type; 0 for one that it does not declare. */
 enum role { NUMBER, ITEM, NAME, QTY, ROLES };
 static const char *const role_names[ROLES] = { "NUMBER", "ITEM", "NAME", "QTY" };
-static uint32_t roles[ROLES];
+static uint32_t roles[ROLES], par_number; /* par_number: of PAR among the attributes of ITEM */
 
 static struct drawer {
     int is_named;
     uint32_t items, counted; /* counted: the items whose quantity is given */
-    uint64_t pieces;
+    uint64_t pieces, par, missing; /* missing: what the counted items are short of their par level */
 } drawers[DRAWERS + 1]; /* by number; 0 is for items that stand in no drawer */
 
 /* What has been read: the drawer and the item at hand, the data events of the innermost element, and the faults so far. */
 struct reading {
-    const struct input *catalogue;
+    const struct input *type, *catalogue;
     struct drawer *drawer;
     struct sgml_event item, data; /* the item's name, and the last data event that is not blank */
     uint32_t runs;                /* data events that are not blank */
     size_t at;                    /* where the element's content begins */
+    struct sgml_event level;      /* the par level of the element that starts next; its kind is 0 if there is none */
+    uint32_t par;                 /* the item's par level */
+    int is_levelled;              /* it has one */
     int is_in_number;             /* NUMBER or QTY is open */
     int faults;
 };
@@ -105,6 +109,22 @@ static uint8_t *events_of(const struct input *type, const struct input *catalogu
     }
 }
 
+/* Finds the attribute PAR of ITEM. */
+static void find_par(const struct input *type)
+{
+    static uint8_t lists[SGML_MOST_ATTRIBUTE_BYTES];
+    uint32_t answer[SGML_ANSWER_SIZE];
+    char name[SGML_NAMELEN + 1];
+    if (sgml_attributes(type->bytes, type->length, lists, sizeof lists, answer, SGML_NAMELEN))
+        return;
+    for (uint32_t k = 0; k < answer[SGML_ANSWER_COUNT]; k++) {
+        struct sgml_attribute a = sgml_attribute_at(lists, k);
+        sgml_copy_attribute_name(type->bytes, a, name, sizeof name);
+        if (a.element == roles[ITEM] && !strcmp(name, "PAR"))
+            par_number = a.number;
+    }
+}
+
 /* Finds the elements by name in a type that has been accepted. */
 static void find_roles(const struct input *type)
 {
@@ -119,6 +139,7 @@ static void find_roles(const struct input *type)
             if (!strcmp(name, role_names[role]))
                 roles[role] = element;
     }
+    find_par(type);
 }
 
 static int is_separator(uint8_t byte)
@@ -126,10 +147,10 @@ static int is_separator(uint8_t byte)
     return byte == ' ' || byte == '\t' || byte == '\r';
 }
 
-/* The number that a data event holds: one to DIGITS digits, with nothing but separators around them. */
-static int is_number(const struct input *catalogue, struct sgml_event data, uint32_t *value)
+/* The number that these bytes are: one to DIGITS digits, with nothing but separators around them. */
+static int is_number(const uint8_t *b, size_t length, uint32_t *value)
 {
-    const uint8_t *b = catalogue->bytes + data.offset, *end = b + data.length;
+    const uint8_t *end = b + length;
     int digits = 0;
     for (*value = 0; b < end && is_separator(*b); b++)
         ;
@@ -162,11 +183,25 @@ static void take_drawer(struct reading *r, uint32_t number)
     }
 }
 
+/* The par level that the tag gives, or the type by default. */
+static void take_level(struct reading *r, struct sgml_event e)
+{
+    r->is_levelled = r->level.kind && is_number(sgml_value(r->type->bytes, r->catalogue->bytes, r->level), r->level.length, &r->par);
+    if (r->is_levelled) {
+        r->drawer->par += r->par;
+    } else if (r->level.kind) {
+        r->runs = 0;
+        r->at = e.offset;
+        fault(r, "this par level is not a number of one to nine digits");
+    }
+}
+
 static void take_start(struct reading *r, struct sgml_event e)
 {
     if (r->is_in_number) { /* an element within cuts a number as a comment does */
         r->runs += 2;
         r->data = e;
+        r->level.kind = 0;
         return;
     }
     r->runs = 0;
@@ -177,7 +212,9 @@ static void take_start(struct reading *r, struct sgml_event e)
         if (!roles[NUMBER])
             take_drawer(r, e.place);
         r->drawer->items++;
+        take_level(r, e);
     }
+    r->level.kind = 0;
 }
 
 /* A blank run is no part of a number or a name. */
@@ -196,7 +233,7 @@ static void take_data(struct reading *r, struct sgml_event e)
 static void take_end(struct reading *r, struct sgml_event e)
 {
     uint32_t value = 0;
-    int is_right = r->runs == 1 && is_number(r->catalogue, r->data, &value);
+    int is_right = r->runs == 1 && is_number(r->catalogue->bytes + r->data.offset, r->data.length, &value);
     if (e.element == roles[NUMBER] || e.element == roles[QTY])
         r->is_in_number = 0;
     if (e.element == roles[NAME] && r->runs) {
@@ -213,20 +250,26 @@ static void take_end(struct reading *r, struct sgml_event e)
         } else {
             r->drawer->counted++;
             r->drawer->pieces += value;
+            if (r->is_levelled && value < r->par)
+                r->drawer->missing += r->par - value;
         }
     }
 }
 
 /* Counts what the events say. Numbers are the controller's own business: it shows each that makes no sense. */
-static int faults_in(const struct input *catalogue, const uint8_t *events, uint32_t n)
+static int faults_in(const struct input *type, const struct input *catalogue, const uint8_t *events, uint32_t n)
 {
     struct reading r;
     memset(&r, 0, sizeof r);
+    r.type = type;
     r.catalogue = catalogue;
     r.drawer = drawers;
     for (uint32_t k = 0; k < n; k++) {
         struct sgml_event e = sgml_event_at(events, k);
-        if (e.kind == SGML_KIND_START || e.kind == SGML_KIND_START_INFERRED)
+        if (e.kind == SGML_KIND_ATTRIBUTE || e.kind == SGML_KIND_ATTRIBUTE_DEFAULTED) {
+            if (par_number == e.element && sgml_element_at(events, n, k) == roles[ITEM])
+                r.level = e;
+        } else if (e.kind == SGML_KIND_START || e.kind == SGML_KIND_START_INFERRED)
             take_start(&r, e);
         else if (e.kind == SGML_KIND_DATA)
             take_data(&r, e);
@@ -236,18 +279,31 @@ static int faults_in(const struct input *catalogue, const uint8_t *events, uint3
     return r.faults;
 }
 
+/* A line of the table; par levels where the type has them. */
+static void show_drawer(const char *name, const struct drawer *d)
+{
+    printf("%6s %10" PRIu32 " %10" PRIu32 " %12" PRIu64, name, d->items, d->counted, d->pieces);
+    if (par_number)
+        printf(" %12" PRIu64 " %12" PRIu64, d->par, d->missing);
+    printf("\n");
+}
+
 static enum status show_table(void)
 {
-    struct drawer all = { 1, 0, 0, 0 };
-    printf("drawer      items    counted       pieces\n");
+    struct drawer all = { 1, 0, 0, 0, 0, 0 };
+    char name[16];
+    printf("drawer      items    counted       pieces%s\n", par_number ? "          par        short" : "");
     for (struct drawer *d = drawers; d <= drawers + DRAWERS; d++) {
+        snprintf(name, sizeof name, "%d", (int)(d - drawers));
         if (d->is_named || d->items)
-            printf("%6d %10" PRIu32 " %10" PRIu32 " %12" PRIu64 "\n", (int)(d - drawers), d->items, d->counted, d->pieces);
+            show_drawer(name, d);
         all.items += d->items;
         all.counted += d->counted;
         all.pieces += d->pieces;
+        all.par += d->par;
+        all.missing += d->missing;
     }
-    printf("   all %10" PRIu32 " %10" PRIu32 " %12" PRIu64 "\n", all.items, all.counted, all.pieces);
+    show_drawer("all", &all);
     return COUNTED;
 }
 
@@ -256,7 +312,7 @@ static enum status count(const struct input *type, const struct input *catalogue
 {
     int faults;
     find_roles(type);
-    faults = faults_in(catalogue, events, n);
+    faults = faults_in(type, catalogue, events, n);
     if (!faults)
         return show_table();
     printf("%d at fault, nothing counted\n", faults);

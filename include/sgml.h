@@ -1,7 +1,8 @@
 /* sgml.h - the proved SGML reader of Skroefinte, called from C (C99 and C++).
  *
- * Two calls. sgml_judge takes a type file and says which elements it declares, or refuses it. sgml_read takes a type file and
- * a document, judges the type afresh and gives the document's events, or refuses one of the two. A program of ten lines:
+ * Three calls. sgml_judge takes a type file and says which elements it declares, or refuses it; sgml_attributes says likewise which
+ * attributes. sgml_read takes a type file and a document, judges the type afresh and gives the document's events, or refuses one of
+ * the two. A program of ten lines:
  *
  *     uint32_t answer[SGML_ANSWER_SIZE];
  *     size_t room = SGML_EVENT_BYTES * SGML_MOST_EVENTS(document_len), k;
@@ -24,6 +25,20 @@
  *     and no more 16. The fifth is the place that a start took in the content model of its parent; the four before it are what they were. A
  *     program that goes by the names below is compiled again with this header, and nothing else changes for it; one that has 4 or 16 written
  *     in it must be changed, and room that was enough for its events holds four fifths of them.
+ * Attributes.  A type file may have attribute lists (<!ATTLIST) since 0.7.0, and a start tag attributes: <ITEM PAR="40">. They come as
+ *     events of two further kinds, just before the start event that they belong to, in the order of declaration: SGML_KIND_ATTRIBUTE if the
+ *     tag gives it, SGML_KIND_ATTRIBUTE_DEFAULTED if the type file does; one that is neither given nor has a default comes not at all. Such
+ *     an event's `element` is no element's number but the attribute's in its list, from 1. Its name and what is declared of it are in the
+ *     records of sgml_attributes, called once for a type. Whose attribute it is, sgml_element_at says; its value, sgml_value. So:
+ *
+ *         if (e.kind == SGML_KIND_ATTRIBUTE || e.kind == SGML_KIND_ATTRIBUTE_DEFAULTED) {
+ *             struct sgml_attribute a = sgml_attribute_of(attributes, attribute_count, sgml_element_at(buffer, count, k), e.element);
+ *             printf("%.*s=%.*s\n", (int)a.name_length, (const char *)type + a.name_offset, (int)e.length,
+ *                    (const char *)sgml_value(type, document, e));
+ *         }
+ *
+ *     A program that was written for 0.6.0 goes on as it is with types that have no list. With others it must pass over the two kinds, or use
+ *     them; and SGML_MOST_EVENTS is larger, since every start may bring SGML_ATTCNT events more.
  * Memory.  Nothing here allocates, keeps state or touches memory other than what the caller lends. The inputs are the caller's
  *     and only read; buffer and answer are lent for the call. A pointer may be null where its length is 0. The two inputs may
  *     overlap each other. Buffer and answer overlap nothing, neither each other nor an input: where they do, no call promises
@@ -48,8 +63,8 @@
 #include <stddef.h>
 #include <stdint.h>
 
-#define SGML_VERSION "0.6.0"
-#define SGML_VERSION_NUMBER 500 /* 10000 times the major version, 100 times the minor one and the patch */
+#define SGML_VERSION "0.7.0"
+#define SGML_VERSION_NUMBER 700 /* 10000 times the major version, 100 times the minor one and the patch */
 
 #ifdef __cplusplus
 extern "C" {
@@ -72,35 +87,43 @@ enum {
     SGML_GRPCNT = 32,            /* content tokens in one model group */
     SGML_GRPLVL = 16,            /* levels of model groups */
     SGML_GRPGTCNT = 96,          /* content tokens in a content model */
+    SGML_ATTCNT = 40,            /* attributes of an element */
     SGML_TAGLVL = 24,            /* open elements */
-    SGML_STACK_BYTES = 176 * 1024 /* of stack that a call takes at most; measured, not proved */
+    SGML_STACK_BYTES = 192 * 1024 /* of stack that a call takes at most; measured, not proved */
 };
 
 /* How large things are: in 32-bit numbers, and as bytes of a lent buffer, four to a number. */
 enum {
     SGML_ANSWER_SIZE = 6, /* numbers in an answer */
     SGML_RECORD_SIZE = 6, /* numbers in an element's record */
+    SGML_ATTRIBUTE_SIZE = 9, /* numbers in an attribute's record */
     SGML_EVENT_SIZE = 5,  /* numbers in an event */
     SGML_RECORD_BYTES = 4 * SGML_RECORD_SIZE,
+    SGML_ATTRIBUTE_BYTES = 4 * SGML_ATTRIBUTE_SIZE,
     SGML_EVENT_BYTES = 4 * SGML_EVENT_SIZE,
-    SGML_MOST_RECORD_BYTES = SGML_RECORD_BYTES * SGML_ELEMENT_LIMIT /* the records of any type file fit in */
+    SGML_MOST_RECORD_BYTES = SGML_RECORD_BYTES * SGML_ELEMENT_LIMIT, /* the records of any type file fit in */
+    SGML_MOST_ATTRIBUTE_BYTES = SGML_ATTRIBUTE_BYTES * SGML_ATTCNT * SGML_ELEMENT_LIMIT /* and those of its attributes */
 };
 
-/* The most events that a document of n bytes can bring. SGML_EVENT_BYTES times as many bytes are enough for every document of that
- * length; for SGML_DOCUMENT_LIMIT bytes that is some 30 million bytes. Documents that people write bring far fewer, some three
- * events to ten bytes. So where memory is short, lend what there is. The answer SGML_ERR_NO_ROOM then says that nothing is wrong
- * but the room: lend more and call again (twice as much each time, until the call has what this macro says), or tell that the
- * document is too large for this device. It never says that the document is at fault.
+/* The most events that a document of n bytes can bring under a type whose elements have at most m attributes each, and under any type.
+ * SGML_EVENT_BYTES times as many bytes are enough for every document of that length; for SGML_DOCUMENT_LIMIT bytes that is some 30
+ * million bytes without attributes and 630 with SGML_ATTCNT. Documents that people write bring far fewer, some three events to ten
+ * bytes. So where memory is short, lend what there is. The answer SGML_ERR_NO_ROOM then says that nothing is wrong but the room: lend
+ * more and call again (twice as much each time, until the call has what this macro says), or tell that the document is too large for this
+ * device. It never says that the document is at fault.
  *
  * Why so many. The starts that one tag or run of data brings are all open once it is settled. So the first brings at most TAGLVL
  * of them, and since the document element then stays open, each later one at most TAGLVL - 1. A run of data with no tag
  * between it and the run before brings none, since #PCDATA may come again where it came. Let there be a start tags, b end tags,
  * r runs of data that are the first or have a tag before them, and s other runs. Then there are at most 1 + 23 (a + r) starts,
- * as many ends, and r + s runs: 2 + 46 a + 47 r + s events. Now r <= a + b + 1, and the document has at least
- * 3 a + 4 b + r + 2 s bytes: "<A>", "</A>", a byte, and a byte after one that is ignored. By these two,
- * 46 a + 47 r + s <= 93/4 (3 a + 4 b + r + 2 s) + 95/4 (r - a - b) <= (93 n + 95) / 4. With L for TAGLVL, 93 is 4 L - 3 and
- * 95 is 4 L - 1. */
-#define SGML_MOST_EVENTS(n) (((4 * (size_t)SGML_TAGLVL - 3) * (size_t)(n) + 4 * (size_t)SGML_TAGLVL + 7) / 4)
+ * each with at most m attributes, as many ends, and r + s runs. With B for 23 (m + 2) that is m + 2 + B a + (B + 1) r + s events. Now
+ * r <= a + b + 1, and the document has at least 3 a + 4 b + r + 2 s bytes: "<A>", "</A>", a byte, and a byte after one that is
+ * ignored. By these two, B a + (B + 1) r + s <= (2 B + 1)/4 (3 a + 4 b + r + 2 s) + (2 B + 3)/4 (r - a - b)
+ * <= ((2 B + 1) n + 2 B + 3) / 4. Without attributes B is 46. */
+#define SGML_MOST_EVENTS_WITH(n, m) \
+    (((2 * SGML_MOST_B(m) + 1) * (size_t)(n) + 2 * SGML_MOST_B(m) + 3 + 4 * ((size_t)(m) + 2)) / 4)
+#define SGML_MOST_B(m) (((size_t)SGML_TAGLVL - 1) * ((size_t)(m) + 2))
+#define SGML_MOST_EVENTS(n) SGML_MOST_EVENTS_WITH(n, SGML_ATTCNT)
 
 /* What the numbers of an answer say, by their places in `answer`. */
 enum sgml_answer {
@@ -115,8 +138,8 @@ enum sgml_answer {
 /* The inputs of a call, as answer[SGML_ANSWER_INPUT] names them. */
 enum sgml_input { SGML_IN_NEITHER = 0, SGML_IN_TYPE = 1, SGML_IN_DOCUMENT = 2 };
 
-/* The refusals. 1 to 5 are of a type file or a document, 6 to 9 and 25 of a type file, 10 to 18 of a document; 24 is of neither, and
- * answered as position 0 of the type file. */
+/* The refusals. 1 to 5, 10, 20 and 22 are of a type file or a document, 6 to 9 and 25 of a type file, 11 to 18 and 21 of a document; 24 is
+ * of neither, and answered as position 0 of the type file. */
 enum sgml_refusal {
     SGML_ACCEPTED = 0,
     SGML_ERR_TOO_LONG = 1,          /* the input is longer than its limit; position 0 */
@@ -125,10 +148,10 @@ enum sgml_refusal {
     SGML_ERR_MALFORMED = 4,         /* malformed: the first unfit byte; or the input ends within a form: the input's length */
     SGML_ERR_LEFT_OUT = 5,          /* a form of ISO 8879 that is left out here: its first byte */
     SGML_ERR_QUANTITY = 6,          /* GRPCNT, GRPLVL or GRPGTCNT passed: the token or "(" too many */
-    SGML_ERR_DECLARED_TWICE = 7,    /* an element declared twice: the second name */
+    SGML_ERR_DECLARED_TWICE = 7,    /* an element, or an attribute of a list, declared twice: the second name */
     SGML_ERR_ELEMENTS = 8,          /* more than SGML_ELEMENT_LIMIT elements: that name; or none: the type file's length */
     SGML_ERR_AMBIGUOUS = 9,         /* an ambiguous content model: the second place of the pair */
-    SGML_ERR_UNDECLARED = 10,       /* a tag of an undeclared name: the tag */
+    SGML_ERR_UNDECLARED = 10,       /* a tag of an undeclared name: the tag; or an attribute list for one: the name */
     SGML_ERR_NOT_OPEN = 11,         /* an end tag of which no such element is open: the tag */
     SGML_ERR_NOT_ALLOWED_HERE = 12, /* a start tag or data that fits nowhere: the tag or the data */
     SGML_ERR_INCOMPLETE = 13,       /* an element is incomplete at an end tag or the document's end */
@@ -138,6 +161,10 @@ enum sgml_refusal {
     SGML_ERR_SECTION_END = 17,      /* "]]>" outside tags and comments: its first byte */
     SGML_ERR_NO_DOCUMENT = 18,      /* no document element: the document's length */
     SGML_ERR_NO_ROOM = 19,          /* the lent buffer is too small; position 0 */
+    SGML_ERR_ATTRIBUTE = 20,        /* an attribute that is not declared or given twice: its name; in a type file an element's second list:
+                                       the element's name, an attribute over SGML_ATTCNT: its name, a token twice in a list: the second */
+    SGML_ERR_ATTRIBUTE_MISSING = 21, /* a required attribute is missing: the tag */
+    SGML_ERR_VALUE = 22,            /* a value that does not fit its declared value, or has a tab or a line end in it: its opening quote */
     SGML_ERR_SETTINGS = 24,         /* name_length is not one of SGML_NAMELEN to SGML_MOST_NAMELEN: position 0 of the type file */
     SGML_ERR_REPEATED = 25          /* an "&" group in something that carries "+" or "*", or that carries one: the first such "&" */
 };
@@ -153,10 +180,10 @@ static inline const char *sgml_refusal_text(uint32_t number)
     case SGML_ERR_MALFORMED: return "malformed, or ends too early";
     case SGML_ERR_LEFT_OUT: return "a form of ISO 8879 that is not supported";
     case SGML_ERR_QUANTITY: return "too many content tokens or group levels";
-    case SGML_ERR_DECLARED_TWICE: return "an element declared twice";
+    case SGML_ERR_DECLARED_TWICE: return "an element or attribute declared twice";
     case SGML_ERR_ELEMENTS: return "too many elements, or none";
     case SGML_ERR_AMBIGUOUS: return "an ambiguous content model";
-    case SGML_ERR_UNDECLARED: return "a tag of an undeclared element";
+    case SGML_ERR_UNDECLARED: return "a tag or attribute list of an undeclared element";
     case SGML_ERR_NOT_OPEN: return "an end tag, but no such element is open";
     case SGML_ERR_NOT_ALLOWED_HERE: return "this start tag or data is not allowed here";
     case SGML_ERR_INCOMPLETE: return "an element ends before its content is complete";
@@ -166,6 +193,9 @@ static inline const char *sgml_refusal_text(uint32_t number)
     case SGML_ERR_SECTION_END: return "]]> outside tags and comments";
     case SGML_ERR_NO_DOCUMENT: return "there is no document element";
     case SGML_ERR_NO_ROOM: return "the lent buffer is too small";
+    case SGML_ERR_ATTRIBUTE: return "an attribute that is not declared, or is there twice";
+    case SGML_ERR_ATTRIBUTE_MISSING: return "a required attribute is missing";
+    case SGML_ERR_VALUE: return "a value that is not as its attribute is declared";
     case SGML_ERR_SETTINGS: return "a length of names that is not offered";
     case SGML_ERR_REPEATED: return "an \"&\" group that is repeated";
     default: return "no refusal has this number";
@@ -190,6 +220,39 @@ struct sgml_record {
     uint32_t tokens;                   /* content tokens of the model; 0 for EMPTY */
 };
 
+/* What the numbers of an attribute's record say, by their places in it. */
+enum sgml_attribute_place {
+    SGML_ATTRIBUTE_ELEMENT = 0,     /* its element's number */
+    SGML_ATTRIBUTE_NUMBER = 1,      /* its own number in the list, from 1 */
+    SGML_ATTRIBUTE_NAME_OFFSET = 2, /* where its name stands in the type file */
+    SGML_ATTRIBUTE_NAME_LENGTH = 3,
+    SGML_ATTRIBUTE_VALUE = 4,          /* its declared value: an enum sgml_declared */
+    SGML_ATTRIBUTE_GROUP_OFFSET = 5,   /* where the "(" of its name token group stands in the type file; else 0 */
+    SGML_ATTRIBUTE_DEFAULT = 6,        /* its default: an enum sgml_default */
+    SGML_ATTRIBUTE_DEFAULT_OFFSET = 7, /* where the default's value stands in the type file, without quotes; else 0 */
+    SGML_ATTRIBUTE_DEFAULT_LENGTH = 8
+};
+
+/* Declared values. */
+enum sgml_declared {
+    SGML_CDATA = 0,  /* any text without tabs and line ends */
+    SGML_NUMBER = 1, /* digits, 1 to name_length of them */
+    SGML_NAME = 2,   /* a name */
+    SGML_TOKENS = 3  /* one of the tokens of a group, in either case of letters */
+};
+
+/* Defaults. */
+enum sgml_default { SGML_REQUIRED = 0, SGML_IMPLIED = 1, SGML_LITERAL = 2 };
+
+/* An attribute of an element: the numbers of its record. */
+struct sgml_attribute {
+    uint32_t element, number;            /* its element's number, and its own in the list */
+    uint32_t name_offset, name_length;   /* where its name stands in the type file */
+    uint32_t value, group_offset;        /* an enum sgml_declared; where a name token group stands */
+    uint32_t preset;                     /* an enum sgml_default */
+    uint32_t preset_offset, preset_length; /* where the value of a literal stands in the type file, without quotes */
+};
+
 /* The kinds of event, with the offset and length in the document that go with them. */
 enum sgml_kind {
     SGML_KIND_START = 1,          /* a start tag: its offset and length */
@@ -197,7 +260,9 @@ enum sgml_kind {
     SGML_KIND_END = 3,            /* an end tag: its offset and length */
     SGML_KIND_END_INFERRED = 4,   /* an omitted end tag: the offset of what called for it, or the document's length; length 0 */
     SGML_KIND_DATA = 5,           /* a longest run of neighbouring data bytes; element 0 */
-    SGML_KIND_END_OF_EMPTY = 6    /* the end of an EMPTY element: the offset after its tag; length 0 */
+    SGML_KIND_END_OF_EMPTY = 6,   /* the end of an EMPTY element: the offset after its tag; length 0 */
+    SGML_KIND_ATTRIBUTE = 7,      /* an attribute that the next start's tag gives: offset and length of its value in the document, without quotes */
+    SGML_KIND_ATTRIBUTE_DEFAULTED = 8 /* one that the next start has by default: offset and length of its value in the type file */
 };
 
 /* An event: its numbers. A line break (byte 10) or a comment ends a run of data: "4", line break, "0" is two events, and joining
@@ -205,7 +270,7 @@ enum sgml_kind {
  * (ITEM*,NEXT,ITEM*) an ITEM with place 1 stands before NEXT, one with place 3 behind it. No other place was possible for its name. */
 struct sgml_event {
     uint32_t kind;    /* an enum sgml_kind */
-    uint32_t element; /* the element's number from 1, in the order of declaration; 0 for data */
+    uint32_t element; /* the element's number from 1, in the order of declaration; 0 for data; of an attribute its number in its list, from 1 */
     uint32_t offset;
     uint32_t length;
     uint32_t place; /* of a start, written or inferred: the place it took in its parent's content model; 0 for the document element and for
@@ -246,6 +311,14 @@ SGML_LOOK_AT_ANSWER uint32_t sgml_judge(const uint8_t *type, size_t type_len, ui
 SGML_LOOK_AT_ANSWER uint32_t sgml_read(const uint8_t *type, size_t type_len, const uint8_t *document, size_t document_len,
                                        uint8_t *buffer, size_t buffer_len, uint32_t answer[SGML_ANSWER_SIZE], uint32_t name_length);
 
+/* Lists the attributes of a type file. Parameters and answer are those of sgml_judge, and so are the refusals: the type is judged.
+ *
+ * Accepted: the buffer begins with answer[SGML_ANSWER_COUNT] records of SGML_ATTRIBUTE_SIZE numbers, one for each attribute, in the order of
+ * the elements and in that of each list; every byte behind them is as it was. SGML_MOST_ATTRIBUTE_BYTES bytes are always enough.
+ * Refused: every byte of the buffer is zero and answer[SGML_ANSWER_COUNT] is 0. */
+SGML_LOOK_AT_ANSWER uint32_t sgml_attributes(const uint8_t *type, size_t type_len, uint8_t *buffer, size_t buffer_len,
+                                             uint32_t answer[SGML_ANSWER_SIZE], uint32_t name_length);
+
 /* The k-th number of a lent buffer. */
 static inline uint32_t sgml_number(const uint8_t *buffer, size_t k)
 {
@@ -278,6 +351,64 @@ static inline struct sgml_record sgml_record_at(const uint8_t *buffer, size_t k)
     r.content = sgml_number(b, SGML_RECORD_CONTENT);
     r.tokens = sgml_number(b, SGML_RECORD_TOKENS);
     return r;
+}
+
+/* The k-th record of an attribute in a lent buffer, k from 0 and below answer[SGML_ANSWER_COUNT]. */
+static inline struct sgml_attribute sgml_attribute_at(const uint8_t *buffer, size_t k)
+{
+    const uint8_t *b = buffer + SGML_ATTRIBUTE_BYTES * k;
+    struct sgml_attribute a;
+    a.element = sgml_number(b, SGML_ATTRIBUTE_ELEMENT);
+    a.number = sgml_number(b, SGML_ATTRIBUTE_NUMBER);
+    a.name_offset = sgml_number(b, SGML_ATTRIBUTE_NAME_OFFSET);
+    a.name_length = sgml_number(b, SGML_ATTRIBUTE_NAME_LENGTH);
+    a.value = sgml_number(b, SGML_ATTRIBUTE_VALUE);
+    a.group_offset = sgml_number(b, SGML_ATTRIBUTE_GROUP_OFFSET);
+    a.preset = sgml_number(b, SGML_ATTRIBUTE_DEFAULT);
+    a.preset_offset = sgml_number(b, SGML_ATTRIBUTE_DEFAULT_OFFSET);
+    a.preset_length = sgml_number(b, SGML_ATTRIBUTE_DEFAULT_LENGTH);
+    return a;
+}
+
+/* The attribute with this number in the list of this element, among `count` records of sgml_attributes. All of it is 0 where there is none. */
+static inline struct sgml_attribute sgml_attribute_of(const uint8_t *buffer, size_t count, uint32_t element, uint32_t number)
+{
+    struct sgml_attribute none = { 0, 0, 0, 0, 0, 0, 0, 0, 0 };
+    size_t k;
+    for (k = 0; k < count; k++) {
+        const uint8_t *b = buffer + SGML_ATTRIBUTE_BYTES * k;
+        if (sgml_number(b, SGML_ATTRIBUTE_ELEMENT) == element && sgml_number(b, SGML_ATTRIBUTE_NUMBER) == number)
+            return sgml_attribute_at(buffer, k);
+    }
+    return none;
+}
+
+/* The element of the k-th of `count` events: that of the next start for an attribute, 0 for data. */
+static inline uint32_t sgml_element_at(const uint8_t *events, size_t count, size_t k)
+{
+    struct sgml_event e = sgml_event_at(events, k);
+    while ((e.kind == SGML_KIND_ATTRIBUTE || e.kind == SGML_KIND_ATTRIBUTE_DEFAULTED) && ++k < count)
+        e = sgml_event_at(events, k);
+    return e.element;
+}
+
+/* The e.length bytes of an attribute's value, without quotes: a part of the document if the tag gives it, of the type file if it is defaulted. */
+static inline const uint8_t *sgml_value(const uint8_t *type, const uint8_t *document, struct sgml_event e)
+{
+    return (e.kind == SGML_KIND_ATTRIBUTE ? document : type) + e.offset;
+}
+
+/* Copies the name of an attribute as sgml_copy_name does that of an element. */
+static inline size_t sgml_copy_attribute_name(const uint8_t *type, struct sgml_attribute a, char *to, size_t room)
+{
+    size_t i;
+    for (i = 0; i < a.name_length && i + 1 < room; i++) {
+        uint8_t byte = type[a.name_offset + i];
+        to[i] = (char)(byte >= 'a' && byte <= 'z' ? byte - 'a' + 'A' : byte);
+    }
+    if (room)
+        to[i] = 0;
+    return a.name_length;
 }
 
 /* Copies the name of the element number `element`, from 1, to a text of `room` bytes, in upper case and with a zero behind it, as

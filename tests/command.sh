@@ -106,6 +106,12 @@ check "both places of an ambiguous model" test "$status,$(head -1 "$out/stdout")
 ran target/controller examples/unnumbered.type examples/unnumbered.cat
 printf '%s\n' "drawer      items    counted       pieces" "     1          2          1           40" "     3          1          1           12" "   all          3          2           52" >"$out/unnumbered"
 check "drawers by the places of their items" diff "$out/stdout" "$out/unnumbered"
+ran target/controller examples/par.type examples/par.cat
+printf '%s\n' "drawer      items    counted       pieces          par        short" \
+    "     1          2          2           19           50           31" \
+    "     2          2          1           12           15            0" \
+    "   all          4          3           31           65           31" >"$out/par"
+check "par levels, and what is short of them" diff "$out/stdout" "$out/par"
 told
 
 # Where a byte of a file stands, as FILE:LINE:COLUMN.
@@ -161,12 +167,13 @@ check "--esis of $escapes" diff "$out/escapes.esis" tests/command/escapes.esis
 agree() {
     local element
     target/sgml --esis "$1" "$2" >"$out/esis" || return 1
-    element=$(sed -n '1s/^(//p' "$out/esis")
+    element=$(sed -n 's/^(//p' "$out/esis" | head -n 1)
     { printf '<!DOCTYPE %s [' "$element"; cat "$1"; printf ']>'; cat "$2"; } >"$out/whole.sgm"
     onsgmls -w no-all "<OSFILE RECORDS=ASIS>$out/whole.sgm" 2>"$out/stderr" | diff -q - "$out/esis" >/dev/null
 }
 if needs onsgmls opensp "onsgmls on the same documents"; then
     check "onsgmls on $escapes" agree "$note" "$escapes"
+    check "onsgmls on par levels" agree examples/par.type examples/par.cat
     for c in all-tags few-tags larger; do
         check "onsgmls on $c" agree examples/cabinet.type "examples/catalogues/$c.cat"
     done
@@ -174,7 +181,12 @@ if needs onsgmls opensp "onsgmls on the same documents"; then
         # onsgmls has short tags, and ignores a record end at the start and end of an element.
         case $v in
         */bare-marks | */02-7-places/g34) continue ;;
-        */mixed/165 | */return-is-data | */02-7-places/g19 | */02-7-places/g22 | */02-7-places/g31 | */02-7-places/g35 | */02-7-places/g38) continue ;;
+        */02-1-attributes/g04 | */02-1-attributes/g38 | */mixed/165 | */return-is-data | */02-7-places/g19 | */02-7-places/g22 | */02-7-places/g31 | */02-7-places/g35 | */02-7-places/g38) continue ;;
+        esac
+        # It infers no start of a member of an "&" group, and takes a separator for data where #PCDATA may not come next.
+        case $v in
+        */and-with-defaults | */02-12-and/required-0[2358] | */02-12-and/required-1[13789] | */02-12-and/required-20) continue ;;
+        */02-12-and/required-inferred-chain | */02-12-and/g22 | */02-12-and/mixed-04) continue ;;
         esac
         # It is given no declaration with another NAMELEN here.
         [ ! -e "$v/args" ] || continue

@@ -14,7 +14,7 @@ echo "2 passed, 0 failed"
 
 # The compiler is asked to refuse a call of which nothing is used, and nothing else.
 echo "a call whose answer is ignored is warned of"
-for call in 'sgml_judge(t, n, NULL, 0, a, SGML_NAMELEN)' 'sgml_read(t, n, t, n, NULL, 0, a, SGML_NAMELEN)'; do
+for call in 'sgml_judge(t, n, NULL, 0, a, SGML_NAMELEN)' 'sgml_attributes(t, n, NULL, 0, a, SGML_NAMELEN)' 'sgml_read(t, n, t, n, NULL, 0, a, SGML_NAMELEN)'; do
     printf '#include "sgml.h"\nuint32_t f(const uint8_t *t, size_t n, uint32_t *a);\nuint32_t f(const uint8_t *t, size_t n, uint32_t *a)\n{\n    return %s;\n}\n' "$call" >"$out/used.c"
     sed "s/return \(.*\);/\1; return 0;/" "$out/used.c" >"$out/ignored.c"
     cc -std=c99 -Wall -Wextra -pedantic -Werror -Iinclude -c "$out/used.c" -o "$out/used.o"
@@ -24,7 +24,7 @@ for call in 'sgml_judge(t, n, NULL, 0, a, SGML_NAMELEN)' 'sgml_read(t, n, t, n, 
     fi
     grep -q unused-result "$out/ignored.txt"
 done
-echo "2 passed, 0 failed"
+echo "3 passed, 0 failed"
 
 if needs rustc rustc "the second implementation on the vectors, and on all walks of small models"; then
     echo "the second implementation on the vectors, and on all walks of small models"

@@ -1,6 +1,6 @@
 /* most.c - documents that bring as many events as SGML_MOST_EVENTS says, or nearly: the macro is enough and not far too large.
  * Tag Z and data "." bring 23 starts each, by turns, and each calls for the ends of those before. A round begins with tag P, since
- * nothing can be required where a repeated group begins again. With "time" the longest of them is read, and a type file judged that
+ * nothing can be required where a repeated group begins again. Where each element has a list, every start brings its defaults. With "time" the longest of them is read, and a type file judged that
  * takes long, and the times are told. */
 #define _POSIX_C_SOURCE 199309L
 #include "check.h"
@@ -43,6 +43,23 @@ static void make_type(const char *content)
     declare("<!ELEMENT Z - O EMPTY><!ELEMENT P - O EMPTY>");
 }
 
+/* Each of these elements gets as many attributes as there may be, all with a default. */
+static void declare_lists(void)
+{
+    char name[8];
+    int k, a;
+    for (k = 0; k < 48; k++) {
+        if (k < 5)
+            sprintf(name, "%c", "DQRZP"[k]);
+        else
+            sprintf(name, "%c%d", k < 26 ? 'C' : 'B', k < 26 ? k - 4 : k - 25);
+        type_len += (size_t)sprintf(type + type_len, "<!ATTLIST %s", name);
+        for (a = 0; a < SGML_ATTCNT; a++)
+            type_len += (size_t)sprintf(type + type_len, " A%d CDATA ''", a);
+        declare(">");
+    }
+}
+
 static void make_rounds_type(void)
 {
     static const int sizes[] = { 32, 32, 26 };
@@ -78,10 +95,9 @@ static uint32_t count_in(size_t room, uint32_t *number)
     return answer[SGML_ANSWER_COUNT];
 }
 
-/* The document is accepted with so many events, and the macro's room is enough. */
-static void check_count(size_t least)
+/* The document is accepted with so many events, and the macro's room is enough; most is what it says. */
+static void check_count(size_t least, size_t most)
 {
-    size_t most = SGML_MOST_EVENTS(document_len);
     uint32_t number, count = count_in(SGML_EVENT_BYTES * most, &number);
     check(number == 0, "the room that the macro says is enough");
     check(count <= most && count >= least, "as many events as were worked out");
@@ -102,7 +118,7 @@ static void make_longest(void)
 static uint32_t read_longest(void)
 {
     uint32_t number;
-    return count_in(SGML_EVENT_BYTES * SGML_MOST_EVENTS(document_len), &number);
+    return count_in(SGML_EVENT_BYTES * SGML_MOST_EVENTS_WITH(document_len, 0), &number);
 }
 
 static uint32_t judge_type(void)
@@ -151,7 +167,7 @@ static void tell_times(void)
 {
     uint32_t count;
     double best = best_of(read_longest, &count);
-    printf("%zu bytes, %u events of at most %zu: %.2f ms\n", document_len, (unsigned)count, SGML_MOST_EVENTS(document_len), best);
+    printf("%zu bytes, %u events of at most %zu: %.2f ms\n", document_len, (unsigned)count, SGML_MOST_EVENTS_WITH(document_len, 0), best);
     make_same_type();
     best = best_of(judge_type, &count);
     printf("type file of %zu bytes, %u elements: %.2f ms\n", type_len, (unsigned)count, best);
@@ -168,7 +184,9 @@ int main(int argc, char **argv)
         make_type(whole);
         document_len = 1;
         put_pairs(pairs);
-        check_count(SGML_MOST_EVENTS(document_len));
+        check_count(SGML_MOST_EVENTS_WITH(document_len, 0), SGML_MOST_EVENTS_WITH(document_len, 0));
+        declare_lists();
+        check_count(SGML_MOST_EVENTS(document_len), SGML_MOST_EVENTS(document_len));
         strcat(content, ",Q,R");
     }
     make_longest();
@@ -176,6 +194,6 @@ int main(int argc, char **argv)
         tell_times();
         return 0;
     }
-    check_count(SGML_MOST_EVENTS(document_len) / 100 * 98);
+    check_count(SGML_MOST_EVENTS_WITH(document_len, 0) / 100 * 98, SGML_MOST_EVENTS_WITH(document_len, 0));
     return told();
 }

@@ -12,7 +12,7 @@
 
 #define STACK (512 * 1024)
 #define PAINT 0x5A
-#define ROOM (SGML_EVENT_BYTES * 64 + SGML_MOST_RECORD_BYTES)
+#define ROOM (SGML_EVENT_BYTES * 1024 + SGML_MOST_RECORD_BYTES + SGML_MOST_ATTRIBUTE_BYTES)
 
 static char type[SGML_TYPE_LIMIT];
 static size_t type_len;
@@ -45,6 +45,13 @@ static void *read_call(void *buffer)
 {
     uint32_t answer[SGML_ANSWER_SIZE];
     look(sgml_read((const uint8_t *)type, type_len, (const uint8_t *)document, strlen(document), buffer, ROOM, answer, SGML_MOST_NAMELEN), answer);
+    return NULL;
+}
+
+static void *list_call(void *buffer)
+{
+    uint32_t answer[SGML_ANSWER_SIZE];
+    look(sgml_attributes((const uint8_t *)type, type_len, buffer, ROOM, answer, SGML_MOST_NAMELEN), answer);
     return NULL;
 }
 
@@ -127,6 +134,24 @@ int main(void)
     chain = taken(read_call);
     if (chain > reading)
         reading = chain;
-    printf("a call of the judge takes %zu bytes of stack, one of the reader %zu; the limit is %d\n", judging, reading, SGML_STACK_BYTES);
+
+    /* attributes with a group of as many tokens as there may be, and defaults before each inferred start */
+    for (k = 0; k < SGML_TAGLVL; k++) {
+        type_len += (size_t)sprintf(type + type_len, "<!ATTLIST E%d A%s", k, k ? "" : "(");
+        for (level = 0; !k && level < SGML_GRPCNT; level++)
+            type_len += (size_t)sprintf(type + type_len, "%sT%d", level ? "|" : "", level);
+        text(k ? " CDATA 'x'" : ")'t31' B NUMBER '1' C NAME #IMPLIED", 1);
+        text(">", 1);
+    }
+    chain = taken(read_call);
+    if (chain > reading)
+        reading = chain;
+    chain = taken(list_call);
+    if (chain > judging)
+        judging = chain;
+    chain = taken(judge_call);
+    if (chain > judging)
+        judging = chain;
+    printf("a call that judges a type takes %zu bytes of stack, one of the reader %zu; the limit is %d\n", judging, reading, SGML_STACK_BYTES);
     return wrong;
 }

@@ -24,6 +24,7 @@ static uint64_t state;
 static const char *const words[] = {
     "<!ELEMENT ", " - O ", " O O ", "EMPTY>", "(#PCDATA)", "#PCDATA", "<!--", "-->", "<!>", "--", ")>", "(A|B)*", ",", "|", "?", "+",
     "*", "(", ")", "<A>", "</A>", "<B>", "</B>", "<", "</", ">", "]]>", "&#", "\n", "\r", " ", "A", "B", "ABCDEFGH", "ABCDEFGHI", "\x8c", "\xa0", "%", "-",
+    "<!ATTLIST A ", " X CDATA ", " NUMBER ", " NAME ", "#REQUIRED", "#IMPLIED", "\"1\"", "'a'", "=\"", " X=\"1\"", "(a|b)", "\"", "=",
 };
 
 static size_t below(size_t n)

@@ -1,4 +1,4 @@
-/* fuzz.c - both calls on arbitrary bytes, held to what is true of every answer. A first byte from 128 on says how long a name may be,
+/* fuzz.c - the calls on arbitrary bytes, held to what is true of every answer. A first byte from 128 on says how long a name may be,
  * 128 for 0; else that is 8. What stands before the first byte 0 is the type file, what stands behind it the document. */
 #include "sgml.h"
 #include <ctype.h>
@@ -65,8 +65,8 @@ static void check_answer(const struct answer *a, const uint8_t *buffer, size_t r
     size_t used = record * n[SGML_ANSWER_COUNT];
     must(a->before == FILL && a->behind == FILL, "the answer's guards");
     must(all(buffer - GUARD, GUARD, FILL) && all(buffer + room, GUARD, FILL), "the buffer's guards");
-    must(n[SGML_ANSWER_NUMBER] <= SGML_ERR_NO_ROOM || n[SGML_ANSWER_NUMBER] == SGML_ERR_SETTINGS || n[SGML_ANSWER_NUMBER] == SGML_ERR_REPEATED,
-         "a number is below 20, or 24 or 25");
+    must(n[SGML_ANSWER_NUMBER] <= SGML_ERR_VALUE || n[SGML_ANSWER_NUMBER] == SGML_ERR_SETTINGS || n[SGML_ANSWER_NUMBER] == SGML_ERR_REPEATED,
+         "a number is below 23, or 24 or 25");
     must((n[SGML_ANSWER_NUMBER] == SGML_ERR_SETTINGS) == (name_length < SGML_NAMELEN || name_length > SGML_MOST_NAMELEN),
          "24 exactly if names may not be so long");
     must(n[SGML_ANSWER_NUMBER] != SGML_ERR_SETTINGS || (n[SGML_ANSWER_INPUT] == SGML_IN_TYPE && n[SGML_ANSWER_POSITION] == 0), "24 in the type at 0");
@@ -90,6 +90,17 @@ static uint8_t *judge(struct slice type, size_t room, struct answer *a)
     must(sgml_judge(type.bytes, type.length, buffer, room, a->numbers, name_length) == a->numbers[SGML_ANSWER_NUMBER], "the judge gives back the number");
     check_answer(a, buffer, room, SGML_RECORD_BYTES, lengths);
     must(a->numbers[SGML_ANSWER_INPUT] != SGML_IN_DOCUMENT, "the judge looks at the type only");
+    return buffer;
+}
+
+static uint8_t *list_attributes(struct slice type, size_t room, struct answer *a)
+{
+    size_t lengths[2] = { type.length, 0 };
+    uint8_t *buffer = lend(room);
+    a->before = a->behind = FILL;
+    must(sgml_attributes(type.bytes, type.length, buffer, room, a->numbers, name_length) == a->numbers[SGML_ANSWER_NUMBER],
+         "the list of attributes gives back the number");
+    check_answer(a, buffer, room, SGML_ATTRIBUTE_BYTES, lengths);
     return buffer;
 }
 
@@ -118,6 +129,39 @@ static void check_records(const uint8_t *records, uint32_t count, size_t type_le
         before = offset + length;
         see(1, tokens);
     }
+}
+
+/* Attributes come in the order of their elements and of each list, and what is declared of them lies in the type file. */
+static void check_attributes(const uint8_t *lists, uint32_t count, struct slice type, uint32_t elements)
+{
+    struct sgml_attribute before = { 0, 0, 0, 0, 0, 0, 0, 0, 0 };
+    uint32_t k;
+    for (k = 0; k < count; k++) {
+        struct sgml_attribute a = sgml_attribute_at(lists, k);
+        must(a.element >= 1 && a.element <= elements && a.number >= 1 && a.number <= SGML_ATTCNT, "an attribute's numbers");
+        must(a.element == before.element ? a.number == before.number + 1 : a.element > before.element && a.number == 1, "attributes in order");
+        must(a.name_length >= 1 && a.name_length <= name_length && a.name_offset + a.name_length < type.length, "an attribute's name");
+        must(a.value <= SGML_TOKENS && (a.value == SGML_TOKENS) == (a.group_offset > 0), "a declared value");
+        must(!a.group_offset || type.bytes[a.group_offset] == '(', "a group stands there");
+        must(a.preset <= SGML_LITERAL && (a.preset == SGML_LITERAL) == (a.preset_offset > 0), "a default");
+        must(!a.preset_offset || type.bytes[a.preset_offset - 1] == type.bytes[a.preset_offset + a.preset_length], "a default stands in quotes");
+        see(10, a.value * 4 + a.preset);
+        before = a;
+    }
+}
+
+/* An attribute of the element that starts next: in the order of declaration, its value between two quotes of one kind. */
+static void check_attribute(struct sgml_event e, struct sgml_event before, struct sgml_attribute a, struct slice document, struct slice type)
+{
+    struct slice text = e.kind == SGML_KIND_ATTRIBUTE ? document : type;
+    const uint8_t *value = text.bytes + e.offset;
+    must(a.name_length > 0, "an attribute is declared");
+    must(e.offset > 0 && e.offset + e.length < text.length && value[-1] == value[e.length] && (value[-1] == '"' || value[-1] == '\''), "a value stands in quotes");
+    must(!memchr(value, value[-1], e.length), "a value has no quote of its own");
+    must(e.kind == SGML_KIND_ATTRIBUTE || (e.offset == a.preset_offset && e.length == a.preset_length), "a default is the type's");
+    must((before.kind != SGML_KIND_ATTRIBUTE && before.kind != SGML_KIND_ATTRIBUTE_DEFAULTED) || before.element < e.element, "attributes in order");
+    must(e.place == 0, "an attribute has no place");
+    see(11, e.kind * 64 + e.element);
 }
 
 /* The bytes of a tag: "<" or "</", the element's name, whatever its case, and ">" last. */
@@ -181,23 +225,32 @@ static void check_place(struct sgml_event e, uint32_t parent, const uint8_t *rec
 
 /* Starts and ends nest: never more than 24 open, none before the document element and after it. */
 static void check_events(const uint8_t *events, uint32_t count, struct slice document, struct slice type, const uint8_t *records,
-                         uint32_t elements)
+                         uint32_t elements, const uint8_t *lists, uint32_t attributes)
 {
     uint32_t open[SGML_TAGLVL], depth = 0, k;
     uint32_t names[SGML_ELEMENT_LIMIT + 1][SGML_GRPGTCNT + 1];
-    struct sgml_event before = { 0, 0, 0, 0, 0 };
+    struct sgml_event before = { 0, 0, 0, 0, 0 }, last = before;
+    int is_begun = 0;
     memset(names, 0, sizeof names);
     must(count >= 2, "a document has an element");
     must(count <= SGML_MOST_EVENTS(document.length), "no more events than the header says");
     for (k = 0; k < count; k++) {
         struct sgml_event e = sgml_event_at(events, k);
+        if (e.kind == SGML_KIND_ATTRIBUTE || e.kind == SGML_KIND_ATTRIBUTE_DEFAULTED) {
+            check_attribute(e, last, sgml_attribute_of(lists, attributes, sgml_element_at(events, count, k), e.element), document, type);
+            last = e;
+            continue;
+        }
+        must(last.kind < SGML_KIND_ATTRIBUTE || e.kind == SGML_KIND_START || e.kind == SGML_KIND_START_INFERRED, "attributes stand before a start");
+        last = e;
         check_event(e, document, type, records, elements);
         check_order(before, e);
         check_place(e, depth ? open[depth - 1] : 0, records, names);
-        must(depth > 0 || k == 0, "nothing stands outside the document element");
+        must(depth > 0 || !is_begun, "nothing stands outside the document element");
         if (e.kind == SGML_KIND_START || e.kind == SGML_KIND_START_INFERRED) {
-            must(depth < SGML_TAGLVL && (k > 0 || e.element == 1), "at most 24 open, the document element first");
+            must(depth < SGML_TAGLVL && (is_begun || e.element == 1), "at most 24 open, the document element first");
             open[depth++] = e.element;
+            is_begun = 1;
         } else if (e.kind == SGML_KIND_DATA) {
             must(depth > 0, "data stands in an element");
         } else {
@@ -241,13 +294,18 @@ static void check_longer(struct slice type, struct slice document, size_t room, 
 
 static void check_calls(struct slice type, struct slice document)
 {
-    static uint8_t records[SGML_RECORD_BYTES * SGML_ELEMENT_LIMIT];
-    struct answer judged, a;
+    static uint8_t records[SGML_RECORD_BYTES * SGML_ELEMENT_LIMIT], lists[SGML_MOST_ATTRIBUTE_BYTES];
+    struct answer judged, listed, a;
     size_t room = 65536;
     const uint8_t *events, *buffer = judge(type, sizeof records + type.length % 4, &judged);
     memcpy(records, buffer, sizeof records);
     if (!judged.numbers[SGML_ANSWER_NUMBER])
         check_records(records, judged.numbers[SGML_ANSWER_COUNT], type.length);
+    buffer = list_attributes(type, sizeof lists + type.length % 4, &listed);
+    memcpy(lists, buffer, sizeof lists);
+    must(judged.numbers[SGML_ANSWER_NUMBER] ? !memcmp(&listed, &judged, sizeof listed) : !listed.numbers[SGML_ANSWER_NUMBER], "attributes are listed of what the judge accepts");
+    if (!listed.numbers[SGML_ANSWER_NUMBER])
+        check_attributes(lists, listed.numbers[SGML_ANSWER_COUNT], type, judged.numbers[SGML_ANSWER_COUNT]);
     for (events = read_events(type, document, room, &a); a.numbers[SGML_ANSWER_NUMBER] == SGML_ERR_NO_ROOM; room *= 2)
         events = read_events(type, document, room * 2, &a);
     see(0, a.numbers[SGML_ANSWER_NUMBER] * 2 + a.numbers[SGML_ANSWER_INPUT] % 2);
@@ -257,7 +315,8 @@ static void check_calls(struct slice type, struct slice document)
         must(!judged.numbers[SGML_ANSWER_NUMBER] || a.numbers[SGML_ANSWER_NUMBER] == SGML_ERR_TOO_LONG || a.numbers[SGML_ANSWER_NUMBER] == SGML_ERR_BYTE,
              "a type that the judge refuses is not read under");
     if (a.numbers[SGML_ANSWER_NUMBER] == 0) {
-        check_events(events, a.numbers[SGML_ANSWER_COUNT], document, type, records, judged.numbers[SGML_ANSWER_COUNT]);
+        check_events(events, a.numbers[SGML_ANSWER_COUNT], document, type, records, judged.numbers[SGML_ANSWER_COUNT], lists,
+                     listed.numbers[SGML_ANSWER_COUNT]);
         check_longer(type, document, room, events, a.numbers[SGML_ANSWER_COUNT]);
         check_room(type, document, a.numbers[SGML_ANSWER_COUNT], document.length);
     }

@@ -3,7 +3,7 @@
 //!
 //! rustc -O --edition 2021 compare.rs -L FOLDER -l static=NAME && ./compare COUNT SEED [FIRST] [trace]
 //!
-//! The judge on a type file, and the reader on three documents for each, half of them with names longer
+//! The judge on a type file and its list of attributes, and the reader on three documents for each, half of them with names longer
 //! than 8 and a length of names to go with them, now and then one that is refused.
 //! Case number n of a seed is always the same; FIRST skips the cases before it, and `trace` prints
 //! each case's number first, to find one that ends the program.
@@ -22,6 +22,8 @@ use std::{env, process};
 const SHOWN_DIFFERENCES: usize = 3;
 /// Numbers for as many elements as there may be.
 const JUDGE_ROOM: usize = 6 * 64;
+/// Numbers for as many attributes as there may be.
+const LIST_ROOM: usize = 9 * 40 * 64;
 
 fn main() {
     let arguments: Vec<String> = env::args().skip(1).collect();
@@ -68,6 +70,12 @@ fn compare_case(case: u64, random: &mut Random, tally: &mut Tally) {
         name_length: given(random, longest),
         type_file: generate::stretched(&any.file, longest),
         document: None,
+        lists: false,
+    };
+    compare_inputs(case, random, &inputs, tally);
+    let inputs = Inputs {
+        lists: true,
+        ..inputs
     };
     compare_inputs(case, random, &inputs, tally);
     let accepted = accepted_type(random);
@@ -77,6 +85,7 @@ fn compare_case(case: u64, random: &mut Random, tally: &mut Tally) {
             name_length: given(random, longest),
             type_file: generate::stretched(&under.file, longest),
             document: Some(generate::stretched(&document, longest)),
+            lists: false,
         };
         compare_inputs(case, random, &inputs, tally);
     }
@@ -130,6 +139,8 @@ fn compare_inputs(case: u64, random: &mut Random, inputs: &Inputs, tally: &mut T
 fn record_bytes(inputs: &Inputs) -> usize {
     if inputs.document.is_some() {
         4 * oracle::NUMBERS_PER_EVENT
+    } else if inputs.lists {
+        9 * 4
     } else {
         6 * 4
     }
@@ -138,17 +149,26 @@ fn record_bytes(inputs: &Inputs) -> usize {
 /// The oracle's answer where the buffer is no limit.
 fn answer_with_room(inputs: &Inputs) -> Answer {
     match &inputs.document {
+        None if inputs.lists => {
+            oracle::attributes(inputs.name_length, &inputs.type_file, &mut [0; LIST_ROOM])
+        }
         None => oracle::judge(inputs.name_length, &inputs.type_file, &mut [0; JUDGE_ROOM]),
-        // No document brings more events than this: under 50 for each token, see the paper's
-        // limit of 24 open elements, and a token has at least one byte.
+        // A token brings under 50 events without attributes, see the paper's limit of 24 open elements; with them more and
+        // more room is tried.
         Some(document) => {
-            let room = oracle::NUMBERS_PER_EVENT * 50 * (document.len().min(65_535) + 1);
-            oracle::read(
-                inputs.name_length,
-                &inputs.type_file,
-                document,
-                &mut vec![0; room],
-            )
+            let mut room = oracle::NUMBERS_PER_EVENT * 50 * (document.len().min(65_535) + 1);
+            loop {
+                let answer = oracle::read(
+                    inputs.name_length,
+                    &inputs.type_file,
+                    document,
+                    &mut vec![0; room],
+                );
+                if answer.number != 19 {
+                    return answer;
+                }
+                room *= 4;
+            }
         }
     }
 }

@@ -22,6 +22,11 @@ pub enum Kind {
     LastMember,
     /// Number 25: an "&" group in what carries "+" or "*". ISO 8879 has no such rule.
     Repeated,
+    /// Number 22 for a value that holds a separator: a tab or line end fits no declared value, a space CDATA only. By ISO 8879
+    /// (7.9.3) they are replaced by spaces, and around a token left out.
+    Value,
+    /// Number 10 of a type file: an attribute list stands behind the declaration of its element. By ISO 8879 it may stand before.
+    Later,
     /// House figures: 32,768 bytes of type file, 65,535 of document, 64 elements.
     House,
 }
@@ -67,12 +72,39 @@ fn form_refused(name_length: u32, type_file: &[u8], document: &[u8]) -> Option<(
     let at = answer[POSITION] as usize;
     match answer[NUMBER] {
         1 => Some((Kind::House, DOCUMENT_BYTES)),
-        5 => Some((Kind::LeftOut, at)),
+        5 => Some((
+            Kind::LeftOut,
+            within_tag(name_length, type_file, document, at).unwrap_or(at),
+        )),
+        22 => Some((
+            Kind::Value,
+            within_tag(name_length, type_file, document, at)?,
+        )),
         4 if document.get(at) == Some(&b'/') => {
             let tag = document[..at].iter().rposition(|&byte| byte == b'<')?;
             letter_at(document, tag + 1).then_some((Kind::Net, tag))
         }
         _ => None,
+    }
+}
+
+/// Where the tag begins within which a byte stands: before it the document is not refused for ending within a form.
+fn within_tag(name_length: u32, type_file: &[u8], document: &[u8], at: usize) -> Option<usize> {
+    let ends_within = |end: usize| {
+        let mut answer = [0; 6];
+        library::read(
+            name_length,
+            type_file,
+            &document[..end],
+            &mut [],
+            &mut answer,
+        );
+        answer[NUMBER] == 4 && answer[POSITION] as usize == end
+    };
+    let mut starts = (0..at).rev().filter(|&start| document[start] == b'<');
+    match ends_within(at) {
+        true => starts.find(|&start| !ends_within(start)),
+        false => None,
     }
 }
 
@@ -93,6 +125,14 @@ pub fn plain_type(name_length: u32, type_file: &[u8]) -> (Vec<u8>, Kinds) {
                 // One digit of it; the next, if there is one, is as unfit.
                 file.remove(at);
                 Kind::Rank
+            }
+            10 => {
+                file.truncate(declaration_start(&file, at));
+                Kind::Later
+            }
+            22 => {
+                file.truncate(declaration_start(&file, at));
+                Kind::Value
             }
             5 => {
                 file.truncate(declaration_start(&file, at));
@@ -170,12 +210,19 @@ fn is_name_byte(byte: u8) -> bool {
 }
 
 /// The type file with spaces for its comments, every other byte where it was. Within declarations of
-/// either kind a comment runs from `--` to the next `--`; one without an end goes to the input's.
+/// any kind a comment runs from `--` to the next `--`; one without an end goes to the input's. In a group and in a literal
+/// there is none; that a literal's quote has no partner is as if it were no quote.
 pub fn without_comments(type_file: &[u8]) -> Vec<u8> {
     let mut plain = type_file.to_vec();
-    let mut at = 0;
+    let (mut at, mut in_group) = (0, false);
     while at < plain.len() {
-        if letter_at(&plain, at) {
+        in_group = (in_group || plain[at] == b'(') && !b")<>".contains(&plain[at]);
+        if b"\"'".contains(&plain[at]) {
+            let length = plain[at + 1..].iter().position(|&byte| byte == plain[at]);
+            at += length.map_or(1, |length| length + 2);
+        } else if in_group {
+            at += 1;
+        } else if letter_at(&plain, at) {
             // A "-" may belong to a name.
             let name = plain[at..].iter().take_while(|&&byte| is_name_byte(byte));
             at += name.count();

@@ -30,6 +30,7 @@ fn main() -> io::Result<()> {
             name_length,
             type_file: type_file.to_vec(),
             document: Some(document.to_vec()),
+            lists: false,
         };
         let lent = Lent {
             length: 1023,

@@ -54,6 +54,23 @@ struct Element {
     end_omissible: bool,
     /// None is EMPTY.
     model: Option<Token>,
+    attributes: Vec<Attribute>,
+}
+
+/// An attribute of a generated list.
+struct Attribute {
+    name: String,
+    declared: Declared,
+    is_required: bool,
+    /// None is `#REQUIRED` or `#IMPLIED`.
+    default: Option<String>,
+}
+
+enum Declared {
+    Cdata,
+    Number,
+    Name,
+    Tokens(Vec<String>),
 }
 
 /// A generated type file with what it declares; damage to the file leaves the latter as it was.
@@ -199,6 +216,7 @@ fn chained_type(random: &mut Random) -> Type {
             start_omissible: random.percent(95),
             end_omissible: random.percent(90),
             model: Some(chained_model(random, &names[index + 1..])),
+            attributes: Vec::new(),
         });
     }
     written_type(random, elements)
@@ -253,6 +271,7 @@ fn sound_element(random: &mut Random, name: &str, usable: &[String], shares: Sha
         start_omissible,
         end_omissible,
         model,
+        attributes: Vec::new(),
     }
 }
 
@@ -419,6 +438,7 @@ fn empty_element(random: &mut Random, number: usize) -> Element {
         start_omissible: random.percent(50),
         end_omissible: true,
         model: None,
+        attributes: Vec::new(),
     }
 }
 
@@ -455,6 +475,12 @@ pub fn stretched(text: &[u8], longest: usize) -> Vec<u8> {
     let mut changed = Vec::new();
     let mut rest = text;
     while let Some(&byte) = rest.first() {
+        // A comment's dashes belong to no name.
+        if byte == b'-' {
+            changed.push(byte);
+            rest = &rest[1..];
+            continue;
+        }
         let name = &rest[..rest.iter().take_while(|byte| is_name_byte(byte)).count()];
         let length = match name.to_ascii_uppercase().as_slice() {
             _ if longest == 8 => name.len(),
@@ -485,17 +511,179 @@ pub fn pad(bytes: &mut Vec<u8>, length: usize) {
 // ---------------------------------------------------------------------------------------------
 // Writing a type down, with separators, comments and either case
 
-fn written_type(random: &mut Random, elements: Vec<Element>) -> Type {
+/// Attributes have lists, after their element, in half of the types.
+fn written_type(random: &mut Random, mut elements: Vec<Element>) -> Type {
+    if random.percent(50) {
+        for element in &mut elements {
+            if random.percent(40) {
+                element.attributes = some_attributes(random);
+            }
+        }
+    }
     let mut file = String::new();
+    let mut later = Vec::new();
     for element in &elements {
         between_declarations(random, &mut file);
         write_element(random, &mut file, element);
+        match random.percent(50) {
+            true => write_list(random, &mut file, element),
+            false => later.push(element),
+        }
+    }
+    for element in later {
+        write_list(random, &mut file, element);
     }
     between_declarations(random, &mut file);
     Type {
         file: file.into_bytes(),
         elements,
     }
+}
+
+const ATTRIBUTE_NAMES: [&str; 12] = [
+    "PAR", "UNIT", "ID", "KIND", "A", "B", "X-Y", "N.1", "ABCDEFGH", "QTY", "SIZE", "Z",
+];
+#[rustfmt::skip]
+const TOKENS: [&str; 14] = [
+    "A", "B", "EA", "BX", "1", "40", ".", "-", "--", "X.Y-Z", "ABCDEFGH", "0", "T0", "Z9",
+];
+/// Values that fit CDATA, some of them also another declared value.
+#[rustfmt::skip]
+const VALUES: [&str; 20] = [
+    "", " ", "40", "007", "x", "a b", "it's", "<A>", ">", "--", "]]>", "&", "&#", "& b", "&;", "a=b", "%x;", "11111111", "111111111",
+    "ABCDEFGH",
+];
+/// Values that are refused whatever is declared.
+const BAD_VALUES: [&str; 6] = ["a\tb", "\n", "a\rb", "&a;", "&#6", "x&#y;"];
+
+/// A list: few attributes, now and then about as many as there may be. No token stands in it twice, mostly.
+fn some_attributes(random: &mut Random) -> Vec<Attribute> {
+    let many = random.percent(2);
+    let count = match many {
+        true => random.between(39, 41),
+        false => random.between(1, 4),
+    };
+    let mut names = some_of(random, &ATTRIBUTE_NAMES, 12);
+    if many {
+        names = (0..count).map(|number| format!("Q{number}")).collect();
+    }
+    let mut tokens: Vec<&str> = TOKENS.to_vec();
+    let mut attributes = Vec::new();
+    for name in names.into_iter().take(count) {
+        let declared = match random.below(5) {
+            0 | 1 => Declared::Cdata,
+            2 => Declared::Number,
+            3 => Declared::Name,
+            _ => Declared::Tokens(some_tokens(random, &mut tokens)),
+        };
+        let default = random.percent(45).then(|| a_value(random, &declared));
+        let is_required = default.is_none() && random.percent(30);
+        attributes.push(Attribute {
+            name,
+            declared,
+            is_required,
+            default,
+        });
+    }
+    attributes
+}
+
+fn some_tokens(random: &mut Random, left: &mut Vec<&str>) -> Vec<String> {
+    if random.percent(2) {
+        let count = random.between(31, 33);
+        return (0..count).map(|number| format!("G{number}")).collect();
+    }
+    let count = random.between(1, 3).min(left.len());
+    let mut tokens: Vec<String> = (0..count)
+        .map(|_| left.remove(random.below(left.len())).to_string())
+        .collect();
+    if tokens.is_empty() || random.percent(3) {
+        tokens.push(random.pick(&["A", "EA", "ABCDEFGHI"]).to_string());
+    }
+    tokens
+}
+
+/// A value, mostly one that fits.
+fn a_value(random: &mut Random, declared: &Declared) -> String {
+    if random.percent(3) {
+        return random.pick(&BAD_VALUES).to_string();
+    }
+    if random.percent(5) {
+        return random.pick(&VALUES).to_string();
+    }
+    match declared {
+        Declared::Cdata => random.pick(&VALUES).to_string(),
+        Declared::Number => random.pick(&["0", "40", "007", "11111111"]).to_string(),
+        Declared::Name => random.pick(&["x", "A.1", "ABCDEFGH", "N-"]).to_string(),
+        Declared::Tokens(tokens) => tokens[random.below(tokens.len())].clone(),
+    }
+}
+
+/// In the quotes that the value does not have.
+fn write_literal(random: &mut Random, file: &mut String, value: &str) {
+    let quote = match (value.contains('"'), value.contains('\'')) {
+        (true, _) => '\'',
+        (_, true) => '"',
+        _ => *random.pick(&[&'"', &'\'']),
+    };
+    file.push(quote);
+    file.push_str(value);
+    file.push(quote);
+}
+
+fn write_list(random: &mut Random, file: &mut String, element: &Element) {
+    if element.attributes.is_empty() {
+        return;
+    }
+    file.push_str("<!");
+    write_in_any_case(random, file, "ATTLIST");
+    gap(random, file);
+    write_in_any_case(random, file, &element.name);
+    for attribute in &element.attributes {
+        gap(random, file);
+        write_in_any_case(random, file, &attribute.name);
+        let mut word = "";
+        match &attribute.declared {
+            Declared::Cdata => word = "CDATA",
+            Declared::Number => word = "NUMBER",
+            Declared::Name => word = "NAME",
+            Declared::Tokens(tokens) => {
+                loose_gap(random, file, 60);
+                write_tokens(random, file, tokens);
+                loose_gap(random, file, 60);
+            }
+        }
+        if !word.is_empty() {
+            gap(random, file);
+            write_in_any_case(random, file, word);
+            gap(random, file);
+        }
+        match &attribute.default {
+            Some(value) => write_literal(random, file, value),
+            None => {
+                file.push('#');
+                let word = ["IMPLIED", "REQUIRED"][attribute.is_required as usize];
+                write_in_any_case(random, file, word);
+            }
+        }
+    }
+    loose_gap(random, file, 15);
+    file.push('>');
+}
+
+fn write_tokens(random: &mut Random, file: &mut String, tokens: &[String]) {
+    let connector = *random.pick(&[&'|', &',', &'&']);
+    file.push('(');
+    for (index, token) in tokens.iter().enumerate() {
+        if index > 0 {
+            separators(random, file);
+            file.push(connector);
+        }
+        separators(random, file);
+        write_in_any_case(random, file, token);
+    }
+    separators(random, file);
+    file.push(')');
 }
 
 fn between_declarations(random: &mut Random, file: &mut String) {
@@ -626,12 +814,14 @@ fn separators(random: &mut Random, file: &mut String) {
 // Random type files and damage
 
 #[rustfmt::skip]
-const TYPE_FRAGMENTS: [&str; 58] = [
+const TYPE_FRAGMENTS: [&str; 83] = [
     "<!ELEMENT ", "<!ELEMENT", "<!element A - O ", "A", "B", "a.-9", "ABCDEFGH", "ABCDEFGHI", " ",
     "\n", "\r", "\t", "-", "O", "o", "(", ")", ",", "|", "&", "?", "*", "+", "#PCDATA", "#PCDAT",
     "#pcdataX", "#ABCDEFGHI", "#", "EMPTY", "EMPTYX", "ANY", "CDATA", "RCDATA", ">", "--", "%", "<!",
     "<", "<!--", "-->", "<!>", "<!ATTLIST", "<![", "<?", "[", "-(", "+(", " -O", "-- x --", "()", "9",
     "- - ANY", "<!-- a -- ", "<!-- a -- -- b -- >", "<!-- a -- b -->", "---", "-- %", "-- -",
+    "<!ATTLIST A ", "<!ATTLIST A X ", "<!ATTLIST A X CDATA ", "NUMBER", "NAME", "NUMB", "#REQUIRED", "#IMPLIED", "#REQ", "#FIXED", "\"", "'",
+    "\"a\"", "'40'", "\"&a\"", "\"& \"", "\"a\tb\"", " X CDATA #IMPLIED", " Y(a|b)'a'", "(a,b)", "(a&b)", "(--)", "(a", "X", "ID",
 ];
 
 /// Fragments in a row, alone or where the inside of a declaration or of a group is due.
@@ -652,6 +842,18 @@ fn random_type(random: &mut Random) -> Type {
         "<!ELEMENT A - O (B)",
         "<!ELEMENT A - O EMPTY",
         "<!ELEMENT A O O (#PCDATA)>",
+        "<!ELEMENT A O O (#PCDATA)><!ATTLIST",
+        "<!ELEMENT A O O (#PCDATA)><!ATTLIST A",
+        "<!ELEMENT A O O (#PCDATA)><!ATTLIST A X",
+        "<!ELEMENT A O O (#PCDATA)><!ATTLIST A X ",
+        "<!ELEMENT A O O (#PCDATA)><!ATTLIST A X(",
+        "<!ELEMENT A O O (#PCDATA)><!ATTLIST A X(a",
+        "<!ELEMENT A O O (#PCDATA)><!ATTLIST A X(a|b)",
+        "<!ELEMENT A O O (#PCDATA)><!ATTLIST A X CDATA",
+        "<!ELEMENT A O O (#PCDATA)><!ATTLIST A X NUMBER ",
+        "<!ELEMENT A O O (#PCDATA)><!ATTLIST A X CDATA '",
+        "<!ELEMENT A O O (#PCDATA)><!ATTLIST A X CDATA #IMPLIED",
+        "<!ELEMENT A O O (#PCDATA)><!ATTLIST A X NAME \"a\"",
     ]);
     let mut file = start.as_bytes().to_vec();
     if start.ends_with('(') && random.percent(40) {
@@ -715,12 +917,14 @@ fn damage(random: &mut Random, bytes: &mut Vec<u8>, fragments: &[&str]) {
 // Documents
 
 #[rustfmt::skip]
-const DOCUMENT_FRAGMENTS: [&str; 50] = [
+const DOCUMENT_FRAGMENTS: [&str; 67] = [
     "x", "40", " ", "\n", "\r", "\t", "<", "</", "</>", "<!", "<!>", "<!-- c -->", "<!--", "-->",
     "<!-", "<!-->", "<![", "<!D", "<?", "&", "&a", "&#", "&#6", "&#;", "]", "]]", "]]>", "]]]>", ">",
     "<A>", "</A>", "<B>", "</B >", "<LIST>", "</LIST>", "<ITEM\n>", "</item>", "<ABCDEFGH>",
     "<ABCDEFGHI>", "<Q>", "</Q>", "<A x>", "<A/>", "<A", "<!-- a -- ", "<!-- a -- -- b -- >",
     "<!-- a -- b -->", "--", "-- >", "---",
+    "<A PAR=\"40\">", "<A PAR='40' par=\"1\">", " X=\"1\"", "=", "=\"", "\"", "'", " A='", "\" ", "='a&b'", "='a\tb'", "<A X=", "<A X='a'Y=\"b\">",
+    "<A ABCDEFGHI=''>", "<Q X=\"1\">", " =", "PAR=''",
 ];
 
 /// A document of any kind for the given type, whose file may be damaged.
@@ -790,13 +994,54 @@ impl TreeWriter<'_> {
         // The start of an EMPTY element is never inferred.
         let omissible = element.start_omissible && element.model.is_some();
         if !(omissible && random.percent(self.omit_start)) {
-            self.tag(random, "<", &element.name);
+            self.start_tag(random, element);
         }
         let Some(model) = &element.model else { return };
         self.token(random, model, depth);
         if !(element.end_omissible && random.percent(self.omit_end)) {
             self.tag(random, "</", &element.name);
         }
+    }
+
+    /// With attributes in any order, mostly those that are required and some others.
+    fn start_tag(&mut self, random: &mut Random, element: &Element) {
+        self.document.push('<');
+        write_in_any_case(random, &mut self.document, &element.name);
+        let mut given: Vec<&Attribute> = Vec::new();
+        for attribute in &element.attributes {
+            let chance = if attribute.is_required { 97 } else { 45 };
+            if random.percent(chance) {
+                given.insert(random.below(given.len() + 1), attribute);
+            }
+        }
+        // Given twice, or not declared.
+        if !given.is_empty() && random.percent(4) {
+            given.push(given[random.below(given.len())]);
+        }
+        if random.percent(2) {
+            self.document
+                .push_str(random.pick(&[" U='1'", " PAR=\"40\"", " A ='x'"]));
+        }
+        let mut is_parted = false;
+        for attribute in given {
+            if !is_parted || random.percent(80) {
+                self.document.push_str(random.pick(&SEPARATORS));
+            }
+            separators(random, &mut self.document);
+            write_in_any_case(random, &mut self.document, &attribute.name);
+            separators(random, &mut self.document);
+            self.document.push('=');
+            separators(random, &mut self.document);
+            let mut value = a_value(random, &attribute.declared);
+            if let (Declared::Tokens(_), true) = (&attribute.declared, random.percent(50)) {
+                value = value.to_ascii_lowercase();
+            }
+            write_literal(random, &mut self.document, &value);
+            is_parted = true;
+        }
+        separators(random, &mut self.document);
+        self.document.push('>');
+        self.filler(random);
     }
 
     fn tag(&mut self, random: &mut Random, open: &str, name: &str) {

@@ -8,12 +8,13 @@ use crate::oracle::{self, Answer};
 const GUARD: usize = 24;
 /// Stands in the answer before the call, so that a number left unwritten shows.
 const UNWRITTEN: u32 = 0xDEAD_BEEF;
-/// What one call is given, but for the buffer. Without a document the judge is called.
+/// What one call is given, but for the buffer. Without a document the judge is called, or the list of attributes.
 #[derive(Clone)]
 pub struct Inputs {
     pub name_length: u32,
     pub type_file: Vec<u8>,
     pub document: Option<Vec<u8>>,
+    pub lists: bool,
 }
 
 /// What is lent: how many bytes, and how far off a number's alignment they begin.
@@ -52,6 +53,9 @@ fn expected(inputs: &Inputs, lent: Lent) -> Outcome {
     let number = |bytes: &[u8]| u32::from_le_bytes([bytes[0], bytes[1], bytes[2], bytes[3]]);
     let mut numbers: Vec<u32> = buffer.chunks_exact(4).map(number).collect();
     let answer = match &inputs.document {
+        None if inputs.lists => {
+            oracle::attributes(inputs.name_length, &inputs.type_file, &mut numbers)
+        }
         None => oracle::judge(inputs.name_length, &inputs.type_file, &mut numbers),
         Some(document) => oracle::read(
             inputs.name_length,
@@ -89,6 +93,9 @@ fn actual(inputs: &Inputs, lent: Lent) -> Outcome {
     let mut answer = [UNWRITTEN; 6];
     let type_file = &inputs.type_file;
     let given = match &inputs.document {
+        None if inputs.lists => {
+            library::attributes(inputs.name_length, type_file, buffer, &mut answer)
+        }
         None => library::judge(inputs.name_length, type_file, buffer, &mut answer),
         Some(document) => {
             library::read(inputs.name_length, type_file, document, buffer, &mut answer)

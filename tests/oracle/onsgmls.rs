@@ -43,6 +43,11 @@ pub enum Event {
         written: bool,
     },
     Data(Vec<u8>),
+    /// An attribute of the element that starts next: what its line says behind the "A".
+    Attribute {
+        line: String,
+        written: bool,
+    },
     /// Any other line of onsgmls' output.
     Other(String),
 }
@@ -137,6 +142,10 @@ fn events_of(output: &[u8]) -> Vec<Event> {
             }),
             b')' => events.push(Event::End {
                 name: name(),
+                written,
+            }),
+            b'A' => events.push(Event::Attribute {
+                line: name(),
                 written,
             }),
             b'-' => add_data(&mut events, unescaped(rest)),

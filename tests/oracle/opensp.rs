@@ -1,5 +1,5 @@
 //! Holds the library beside OpenSP: generated documents without record ends are accepted by both or
-//! by neither, with the same elements, tags left out and text; generated type files likewise, with
+//! by neither, with the same elements, attributes, tags left out and text; generated type files likewise, with
 //! the same first pair of places where a model is ambiguous. Where the paper departs from ISO 8879
 //! (`departures.rs`), the inputs are written anew and compared once more. Names may have LENGTH bytes, in
 //! the declaration that onsgmls is given too.
@@ -23,17 +23,23 @@ use std::{env, io, process};
 
 /// Five numbers of four bytes.
 const EVENT_BYTES: usize = 4 * oracle::NUMBERS_PER_EVENT;
+/// Nine numbers of four bytes, of an attribute.
+const LIST_BYTES: usize = 4 * 9;
 const SHOWN_DIFFERENCES: usize = 3;
 
 /// Of each kind of departure but `House` inputs that show it: type file and document, or a type file.
 #[rustfmt::skip]
-const EXAMPLES: [(Kind, &str, Option<&str>); 10] = [
+const EXAMPLES: [(Kind, &str, Option<&str>); 14] = [
     // Refused by onsgmls alone, by the reader alone, and accepted by both with other text.
     (Kind::Separator, "<!ELEMENT A - O (#PCDATA,B)><!ELEMENT B - O EMPTY>", Some("<A>x<B> </A>")),
     (Kind::Separator, "<!ELEMENT A - O (B,#PCDATA,A?)><!ELEMENT B O O (#PCDATA)>", Some("<A> <A>x")),
     (Kind::Separator, "<!ELEMENT A - O (B,#PCDATA)><!ELEMENT B O O (#PCDATA)>", Some("<A> x")),
     (Kind::LeftOut, "<!ELEMENT A - O (#PCDATA)>", Some("<A>&#65;")),
     (Kind::LeftOut, "<!ELEMENT A - O ANY>", None),
+    (Kind::Value, "<!ELEMENT A O O (#PCDATA)><!ATTLIST A X CDATA #IMPLIED>", Some("<A X='a\tb'>x")),
+    (Kind::Value, "<!ELEMENT A O O (#PCDATA)><!ATTLIST A X NUMBER #IMPLIED>", Some("<A X=' 4'>")),
+    (Kind::Value, "<!ELEMENT A O O (#PCDATA)><!ATTLIST A X (a|b) ' a'>", None),
+    (Kind::Later, "<!ELEMENT A O O (B)><!ATTLIST B X CDATA #IMPLIED><!ELEMENT B O O EMPTY>", None),
     (Kind::Net, "<!ELEMENT A - O (#PCDATA)>", Some("<A/x")),
     (Kind::Parted, "<!ELEMENT A -O EMPTY>", None),
     (Kind::Rank, "<!ELEMENT A - O EMPTY><!ELEMENT H 1 - O EMPTY>", None),
@@ -205,7 +211,7 @@ fn compare_document(
     let read = |document: &[u8]| reading(beside.name_length, &type_file, document);
     let reading = read(&document);
     // Of some, only the beginning is left.
-    let cut = [Kind::LeftOut, Kind::Net, Kind::House]
+    let cut = [Kind::LeftOut, Kind::Value, Kind::Net, Kind::House]
         .iter()
         .any(|kind| kinds.contains(kind));
     let difference_anew = if kinds.is_empty() {
@@ -268,8 +274,11 @@ fn without_record_ends(random: &mut Random, document: &[u8]) -> Vec<u8> {
 fn reading(name_length: u32, type_file: &[u8], document: &[u8]) -> Read {
     let (mut answer, mut records) = ([0; 6], [0; 6 * 4 * 64]);
     library::judge(name_length, type_file, &mut records, &mut answer);
-    // No token brings more than 50 events, and a token has at least one byte.
-    let mut buffer = vec![0; EVENT_BYTES * 50 * (document.len() + 1)];
+    let mut lists = vec![0; LIST_BYTES * 40 * 64];
+    library::attributes(name_length, type_file, &mut lists, &mut answer);
+    lists.truncate(LIST_BYTES * answer[5] as usize);
+    // No token brings more than 50 events and 24 times 40 attributes, and a token has at least one byte.
+    let mut buffer = vec![0; EVENT_BYTES * 1010 * (document.len() + 1)];
     library::read(name_length, type_file, document, &mut buffer, &mut answer);
     if answer[0] != 0 {
         return Err(answer[0]);
@@ -279,11 +288,30 @@ fn reading(name_length: u32, type_file: &[u8], document: &[u8]) -> Read {
         u32::from_le_bytes(four) as usize
     };
     let mut events = Vec::new();
+    let mut given = BTreeMap::new();
     for event in buffer.chunks_exact(EVENT_BYTES).take(answer[5] as usize) {
         let [kind, element, offset, length] = [0, 1, 2, 3].map(|index| number(event, index));
         if kind == 5 {
             add_data(&mut events, document[offset..offset + length].to_vec());
             continue;
+        }
+        if kind == 7 || kind == 8 {
+            let text = if kind == 7 { document } else { type_file };
+            given.insert(element, (kind == 7, &text[offset..offset + length]));
+            continue;
+        }
+        if kind == 1 || kind == 2 {
+            // All attributes of its list, an implied one too.
+            for list in lists.chunks_exact(LIST_BYTES) {
+                let [of, number, name, size, declared] =
+                    [0, 1, 2, 3, 4].map(|index| number(list, index));
+                if of == element {
+                    let name = &type_file[name..name + size];
+                    let value = given.get(&number).copied();
+                    events.push(attribute(name, declared == 0, value));
+                }
+            }
+            given.clear();
         }
         let record = &records[24 * (element - 1)..];
         let name = &type_file[number(record, 0)..][..number(record, 1)];
@@ -296,6 +324,21 @@ fn reading(name_length: u32, type_file: &[u8], document: &[u8]) -> Read {
         });
     }
     Ok(events)
+}
+
+/// An attribute as onsgmls writes it: CDATA as it stands, else folded, and with no value where it is implied.
+fn attribute(name: &[u8], is_cdata: bool, value: Option<(bool, &[u8])>) -> Event {
+    let name = String::from_utf8_lossy(name).to_uppercase();
+    let text = value.map(|(_, bytes)| String::from_utf8_lossy(bytes).replace('\\', "\\\\"));
+    let line = match text {
+        None => format!("{name} IMPLIED"),
+        Some(text) if is_cdata => format!("{name} CDATA {text}"),
+        Some(text) => format!("{name} TOKEN {}", text.to_uppercase()),
+    };
+    Event::Attribute {
+        line,
+        written: value.is_some_and(|(written, _)| written),
+    }
 }
 
 fn document_difference(

@@ -8,6 +8,8 @@ const NAME_LENGTHS: std::ops::RangeInclusive<u32> = 8..=32;
 const GRPCNT: usize = 32;
 const GRPLVL: usize = 16;
 const GRPGTCNT: usize = 96;
+/// Attributes to an element.
+const ATTCNT: usize = 40;
 const TAGLVL: usize = 24;
 const TYPE_BYTES: usize = 32_768;
 const DOCUMENT_BYTES: usize = 65_535;
@@ -17,6 +19,7 @@ const IN_TYPE: u32 = 1;
 const IN_DOCUMENT: u32 = 2;
 
 const NUMBERS_PER_ELEMENT: usize = 6;
+const NUMBERS_PER_ATTRIBUTE: usize = 9;
 pub const NUMBERS_PER_EVENT: usize = 5;
 
 /// The full answer of either call; number 0 is acceptance.
@@ -41,6 +44,25 @@ pub fn judge(name_length: u32, type_file: &[u8], buffer: &mut [u32]) -> Answer {
         .and_then(|()| judged(name_length, type_file));
     let numbers = elements.map(|elements| elements.iter().flat_map(Element::record).collect());
     hand_over(numbers, NUMBERS_PER_ELEMENT, IN_TYPE, buffer)
+}
+
+/// The attributes of the type file, refused as it is; an accepted one leaves nine numbers per attribute: element, number
+/// in its list, offset and length of its name, declared value, its group, default, offset and length of the default.
+pub fn attributes(name_length: u32, type_file: &[u8], buffer: &mut [u32]) -> Answer {
+    let elements = check_settings(name_length)
+        .and_then(|()| check_length(type_file, TYPE_BYTES, IN_TYPE))
+        .and_then(|()| check_bytes(type_file, IN_TYPE))
+        .and_then(|()| judged(name_length, type_file));
+    let numbers = elements.map(|elements| {
+        let mut numbers = Vec::new();
+        for (element, number) in elements.iter().zip(1..) {
+            for (attribute, place) in element.attributes().iter().zip(1..) {
+                numbers.extend(attribute.record(number, place));
+            }
+        }
+        numbers
+    });
+    hand_over(numbers, NUMBERS_PER_ATTRIBUTE, IN_TYPE, buffer)
 }
 
 /// Reads the document under the type file; an accepted one leaves five numbers per event.
@@ -617,9 +639,113 @@ struct Element {
     end_omissible: bool,
     /// None is EMPTY.
     model: Option<Model>,
+    /// None where it has no list.
+    list: Option<Vec<Attribute>>,
+}
+
+/// What may stand as the value of an attribute.
+enum Declared {
+    Cdata,
+    Number,
+    Name,
+    /// A name token group and where its "(" stands.
+    Tokens(Vec<String>, usize),
+}
+
+enum Default {
+    Required,
+    Implied,
+    /// Offset and length of the value in the type file.
+    Value(usize, usize),
+}
+
+struct Attribute {
+    name: String,
+    position: usize,
+    declared: Declared,
+    default: Default,
+}
+
+impl Attribute {
+    fn record(&self, element: u32, number: u32) -> [u32; NUMBERS_PER_ATTRIBUTE] {
+        let (declared, group) = match self.declared {
+            Declared::Cdata => (0, 0),
+            Declared::Number => (1, 0),
+            Declared::Name => (2, 0),
+            Declared::Tokens(_, position) => (3, position as u32),
+        };
+        let (default, offset, length) = match self.default {
+            Default::Required => (0, 0, 0),
+            Default::Implied => (1, 0, 0),
+            Default::Value(offset, length) => (2, offset as u32, length as u32),
+        };
+        [
+            element,
+            number,
+            self.position as u32,
+            self.name.len() as u32,
+            declared,
+            group,
+            default,
+            offset,
+            length,
+        ]
+    }
+
+    fn is_required(&self) -> bool {
+        matches!(self.default, Default::Required)
+    }
+}
+
+impl Declared {
+    /// Whether number 22 is not for this value.
+    fn takes(&self, value: &[u8], longest: usize) -> bool {
+        let short = (1..=longest).contains(&value.len());
+        match self {
+            Declared::Cdata => !value.iter().any(|byte| matches!(byte, 9 | 10 | 13)),
+            Declared::Number => short && value.iter().all(u8::is_ascii_digit),
+            Declared::Name => {
+                short
+                    && value[0].is_ascii_alphabetic()
+                    && value.iter().all(|&byte| is_name_byte(byte))
+            }
+            Declared::Tokens(tokens, _) => tokens
+                .iter()
+                .any(|token| token.as_bytes().eq_ignore_ascii_case(value)),
+        }
+    }
+}
+
+/// The value of the literal whose opening quote stands at `quote`, as offset and length. Number 5 for a reference as in
+/// content, and 4 if the input ends before the closing quote, whichever comes first.
+fn literal(bytes: &[u8], quote: usize) -> Result<(usize, usize), Fault> {
+    let start = quote + 1;
+    let closing = bytes[start..].iter().position(|&byte| byte == bytes[quote]);
+    let end = closing.map_or(bytes.len(), |length| start + length);
+    match (start..end).find(|&at| is_reference(bytes, at)) {
+        Some(reference) => Err((reference, 5)),
+        None if closing.is_none() => Err((bytes.len(), 4)),
+        None => Ok((start, end - start)),
+    }
+}
+
+/// "&" and a letter, or `&#` and a letter or digit.
+fn is_reference(bytes: &[u8], at: usize) -> bool {
+    let after = |distance: usize| bytes.get(at + distance).copied().unwrap_or(0);
+    bytes[at] == b'&'
+        && (after(1).is_ascii_alphabetic() || after(1) == b'#' && after(2).is_ascii_alphanumeric())
 }
 
 impl Element {
+    fn attributes(&self) -> &[Attribute] {
+        self.list.as_deref().unwrap_or_default()
+    }
+
+    /// "An element with a required attribute never has its start inferred."
+    fn start_inferable(&self) -> bool {
+        self.start_omissible && !self.attributes().iter().any(Attribute::is_required)
+    }
+
     fn record(&self) -> [u32; NUMBERS_PER_ELEMENT] {
         // The outermost group is among the tokens of a model but isn't counted.
         let tokens = self
@@ -722,6 +848,7 @@ impl TypeReader<'_> {
             b'-' => self.at = comment_declaration(self.bytes, self.at, 5)?,
             byte if byte.is_ascii_alphabetic() => match self.short_word()?.as_str() {
                 "ELEMENT" => self.element_declaration()?,
+                "ATTLIST" => self.list_declaration()?,
                 // Also where the input ends within the keyword (open point 2).
                 _ => return Err((start, 5)),
             },
@@ -761,8 +888,163 @@ impl TypeReader<'_> {
             start_omissible,
             end_omissible,
             model,
+            list: None,
         });
         Ok(())
+    }
+
+    /// What follows `<!ATTLIST`, up to and with ">".
+    fn list_declaration(&mut self) -> Result<(), Fault> {
+        self.parted()?;
+        let position = self.at;
+        match self.byte()? {
+            b'(' => return Err((position, 5)),
+            byte if byte.is_ascii_alphabetic() => {}
+            _ => return Err(self.no_parameter()),
+        }
+        let name = self.short_word()?;
+        let Some(number) = self
+            .elements
+            .iter()
+            .position(|element| element.name == name)
+        else {
+            return Err((position, 10));
+        };
+        if self.elements[number].list.is_some() {
+            return Err((position, 20));
+        }
+        let mut list: Vec<Attribute> = Vec::new();
+        loop {
+            let parted = self.parted()?;
+            match self.byte()? {
+                b'>' if !list.is_empty() => break,
+                byte if byte.is_ascii_alphabetic() => {}
+                _ => return Err(self.no_parameter()),
+            }
+            let attribute = self.definition(&list, parted)?;
+            list.push(attribute);
+        }
+        self.at += 1;
+        self.elements[number].list = Some(list);
+        Ok(())
+    }
+
+    /// An attribute definition, from its name on, behind those of the list so far.
+    fn definition(&mut self, list: &[Attribute], parted: bool) -> Result<Attribute, Fault> {
+        let position = self.at;
+        let name = self.short_word()?;
+        // At the name, the lower number first.
+        if !parted {
+            return Err((position, 4));
+        }
+        if list.iter().any(|attribute| attribute.name == name) {
+            return Err((position, 7));
+        }
+        if list.len() == ATTCNT {
+            return Err((position, 20));
+        }
+        self.parted()?;
+        let declared = self.declared_value(list)?;
+        let parted = self.parted()? || matches!(declared, Declared::Tokens(..));
+        let default = match self.byte()? {
+            b'#' | b'"' | b'\'' if !parted => return Err((self.at, 4)),
+            b'#' => self.default_word()?,
+            b'"' | b'\'' => self.default_literal(&declared)?,
+            _ => return Err(self.no_parameter()),
+        };
+        Ok(Attribute {
+            name,
+            position,
+            declared,
+            default,
+        })
+    }
+
+    fn declared_value(&mut self, list: &[Attribute]) -> Result<Declared, Fault> {
+        let position = self.at;
+        match self.byte()? {
+            b'(' => {
+                let tokens = self.name_tokens(list)?;
+                Ok(Declared::Tokens(tokens, position))
+            }
+            byte if byte.is_ascii_alphabetic() => match self.short_word()?.as_str() {
+                "CDATA" => Ok(Declared::Cdata),
+                "NUMBER" => Ok(Declared::Number),
+                "NAME" => Ok(Declared::Name),
+                word => Err(self.wrong_word_of(position, word, &["CDATA", "NUMBER", "NAME"])),
+            },
+            _ => Err(self.no_parameter()),
+        }
+    }
+
+    /// As `wrong_word` where several words fit.
+    fn wrong_word_of(&self, stands_at: usize, word: &str, fit: &[&str]) -> Fault {
+        let faults = fit
+            .iter()
+            .map(|fits| self.wrong_word(stands_at, word, fits));
+        faults.max().unwrap_or((stands_at, 4))
+    }
+
+    /// A name token group from its "(" on. In it only separators part, and `--` is a token.
+    fn name_tokens(&mut self, list: &[Attribute]) -> Result<Vec<String>, Fault> {
+        let mut tokens: Vec<String> = Vec::new();
+        let mut joined = None;
+        loop {
+            self.at += 1;
+            self.skip_separators();
+            let position = self.at;
+            match self.byte()? {
+                b'%' => return Err((position, 5)),
+                byte if is_name_byte(byte) => {}
+                _ => return Err((position, 4)),
+            }
+            let token = self.short_word()?;
+            if tokens.len() == GRPCNT {
+                return Err((position, 6));
+            }
+            let in_list = list.iter().any(|attribute| match &attribute.declared {
+                Declared::Tokens(others, _) => others.contains(&token),
+                _ => false,
+            });
+            if in_list || tokens.contains(&token) {
+                return Err((position, 20));
+            }
+            tokens.push(token);
+            self.skip_separators();
+            match self.byte()? {
+                b')' => break,
+                b'%' => return Err((self.at, 5)),
+                byte @ (b',' | b'|' | b'&') if joined.is_none() || joined == Some(byte) => {
+                    joined = Some(byte)
+                }
+                _ => return Err((self.at, 4)),
+            }
+        }
+        self.at += 1;
+        Ok(tokens)
+    }
+
+    fn default_word(&mut self) -> Result<Default, Fault> {
+        let hash = self.at;
+        self.at += 1;
+        if !self.byte()?.is_ascii_alphabetic() {
+            return Err((self.at, 4));
+        }
+        match self.word().as_str() {
+            "REQUIRED" => Ok(Default::Required),
+            "IMPLIED" => Ok(Default::Implied),
+            word => Err(self.wrong_word_of(hash, word, &["REQUIRED", "IMPLIED"])),
+        }
+    }
+
+    fn default_literal(&mut self, declared: &Declared) -> Result<Default, Fault> {
+        let quote = self.at;
+        let (offset, length) = literal(self.bytes, quote)?;
+        if !declared.takes(&self.bytes[offset..offset + length], self.longest) {
+            return Err((quote, 22));
+        }
+        self.at = offset + length + 1;
+        Ok(Default::Value(offset, length))
     }
 
     fn element_name(&mut self) -> Result<String, Fault> {
@@ -989,6 +1271,17 @@ const END_WRITTEN: u32 = 3;
 const END_INFERRED: u32 = 4;
 const DATA: u32 = 5;
 const END_OF_EMPTY: u32 = 6;
+const ATTRIBUTE: u32 = 7;
+const ATTRIBUTE_DEFAULTED: u32 = 8;
+
+/// An attribute as a start tag gives it.
+struct Given {
+    name: String,
+    position: usize,
+    quote: usize,
+    /// Offset and length of the value.
+    value: (usize, usize),
+}
 
 /// What is settled by steps 1 to 4.
 #[derive(Clone, Copy)]
@@ -1090,8 +1383,7 @@ impl<'a> DocumentReader<'a> {
         rest.starts_with(b"<?")
             || rest.starts_with(b"<!")
                 && self.holds(at + 2, |byte| byte.is_ascii_alphabetic() || byte == b'[')
-            || rest.starts_with(b"&") && self.holds(at + 1, |byte| byte.is_ascii_alphabetic())
-            || rest.starts_with(b"&#") && self.holds(at + 2, |byte| byte.is_ascii_alphanumeric())
+            || is_reference(self.bytes, at)
     }
 
     /// A byte that is data or ignored.
@@ -1122,21 +1414,103 @@ impl<'a> DocumentReader<'a> {
         Ok(at + 1)
     }
 
-    /// Name, separators, ">": gives the element and the offset after the tag. Numbers 3, 4, 10.
-    fn tag(&self, tag: usize, name_at: usize) -> Result<(usize, usize), Fault> {
-        let name = longest_name(self.bytes, name_at);
-        if name.len() > self.longest {
-            return Err((name_at, 3));
+    /// A name at `at` and where it ends. Number 3.
+    fn name(&self, at: usize) -> Result<(String, usize), Fault> {
+        let name = longest_name(self.bytes, at);
+        let end = at + name.len();
+        match name.len() > self.longest {
+            true => Err((at, 3)),
+            false => Ok((name, end)),
         }
-        let mut at = name_at + name.len();
+    }
+
+    /// Where the separators at `at` end; past the end of input that is its length.
+    fn behind_separators(&self, mut at: usize) -> usize {
         while self.holds(at, is_separator) {
             at += 1;
         }
-        // Past the end of input this is its length.
+        at
+    }
+
+    /// Name, attributes if it may have any, separators, ">": gives the element, the attributes and the offset after the
+    /// tag. Numbers 3, 4, 5 by position, then 10.
+    fn tag(
+        &self,
+        tag: usize,
+        name_at: usize,
+        is_start: bool,
+    ) -> Result<(usize, Vec<Given>, usize), Fault> {
+        let (name, end) = self.name(name_at)?;
+        let mut given = Vec::new();
+        let mut at = self.behind_separators(end);
+        while is_start && self.holds(at, |byte| byte.is_ascii_alphabetic()) {
+            let (name, end) = self.name(at)?;
+            let sign = self.behind_separators(end);
+            if !self.holds(sign, |byte| byte == b'=') {
+                return Err((sign, 4));
+            }
+            let quote = self.behind_separators(sign + 1);
+            if !self.holds(quote, |byte| byte == b'"' || byte == b'\'') {
+                return Err((quote, 4));
+            }
+            let value = literal(self.bytes, quote)?;
+            given.push(Given {
+                name,
+                position: at,
+                quote,
+                value,
+            });
+            at = self.behind_separators(value.0 + value.1 + 1);
+        }
         if !self.holds(at, |byte| byte == b'>') {
             return Err((at, 4));
         }
-        Ok((self.declared(&name).ok_or((tag, 10))?, at + 1))
+        let element = self.declared(&name).ok_or((tag, 10))?;
+        Ok((element, given, at + 1))
+    }
+
+    /// Numbers 20, 22 and 21 of a start tag, in this order.
+    fn check_attributes(&self, tag: usize, element: usize, given: &[Given]) -> Result<(), Fault> {
+        let list = self.elements[element].attributes();
+        let declared = |one: &Given| list.iter().find(|attribute| attribute.name == one.name);
+        for (index, one) in given.iter().enumerate() {
+            let twice = given[..index].iter().any(|other| other.name == one.name);
+            if twice || declared(one).is_none() {
+                return Err((one.position, 20));
+            }
+        }
+        for one in given {
+            let value = &self.bytes[one.value.0..one.value.0 + one.value.1];
+            if declared(one).is_some_and(|attribute| !attribute.declared.takes(value, self.longest))
+            {
+                return Err((one.quote, 22));
+            }
+        }
+        let is_there = |attribute: &Attribute| given.iter().any(|one| one.name == attribute.name);
+        match list
+            .iter()
+            .all(|attribute| !attribute.is_required() || is_there(attribute))
+        {
+            true => Ok(()),
+            false => Err((tag, 21)),
+        }
+    }
+
+    /// The attribute events before a start, in declaration order.
+    fn attribute_events(&mut self, element: usize, given: &[Given]) {
+        let elements = self.elements;
+        for (number, attribute) in elements[element].attributes().iter().enumerate() {
+            let written = given.iter().find(|one| one.name == attribute.name);
+            match (written, &attribute.default) {
+                (Some(one), _) => {
+                    self.event(ATTRIBUTE, Some(number), one.value.0, one.value.1, None)
+                }
+                (None, Default::Value(offset, length)) => {
+                    self.event(ATTRIBUTE_DEFAULTED, Some(number), *offset, *length, None)
+                }
+                (None, _) => {}
+            }
+        }
     }
 
     fn declared(&self, name: &str) -> Option<usize> {
@@ -1146,12 +1520,14 @@ impl<'a> DocumentReader<'a> {
     }
 
     fn start_tag(&mut self, at: usize) -> Result<usize, Fault> {
-        let (element, after) = self.tag(at, at + 1)?;
+        let (element, given, after) = self.tag(at, at + 1, true)?;
+        self.check_attributes(at, element, &given)?;
         let place = self.settle(Token::Start(element), at)?;
         // This element counts too, an EMPTY one as well: it is open for an instant.
         if self.open_elements() + 1 > TAGLVL {
             return Err((at, 15));
         }
+        self.attribute_events(element, &given);
         self.event(START_WRITTEN, Some(element), at, after - at, place);
         let elements = self.elements;
         match &elements[element].model {
@@ -1162,7 +1538,7 @@ impl<'a> DocumentReader<'a> {
     }
 
     fn end_tag(&mut self, at: usize) -> Result<usize, Fault> {
-        let (element, after) = self.tag(at, at + 2)?;
+        let (element, _, after) = self.tag(at, at + 2, false)?;
         if !self.open.iter().any(|open| open.element == element) {
             return Err((at, 11));
         }
@@ -1306,7 +1682,7 @@ impl<'a> DocumentReader<'a> {
             let element = self.declared(&model.places[place].name)?;
             // Round in a circle: the token fits at none of these starts.
             let seen = chain.iter().any(|&(earlier, _)| earlier == element);
-            if seen || !elements[element].start_omissible {
+            if seen || !elements[element].start_inferable() {
                 return None;
             }
             model = elements[element].model.as_ref()?;
@@ -1326,6 +1702,7 @@ impl<'a> DocumentReader<'a> {
                 self.noted.last_members.push((at, tags));
             }
             let place = self.take(Token::Start(element));
+            self.attribute_events(element, &[]);
             self.event(START_INFERRED, Some(element), at, 0, place);
             self.push(element, model);
         }

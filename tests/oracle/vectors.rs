@@ -9,6 +9,7 @@ mod folders;
 mod oracle;
 
 use folders::{cases_in, name_length};
+use std::collections::BTreeMap;
 use std::fmt::Write;
 use std::path::Path;
 use std::{env, fs, io, process};
@@ -62,16 +63,26 @@ fn small_program(name_length: u32, type_file: &[u8], document: &[u8]) -> (String
         return (refused, String::new());
     }
     let names = element_names(name_length, type_file);
+    let attributes = attribute_names(name_length, type_file);
     let mut printed = format!("events {}\n", answer.count);
     let mut numbers = String::new();
-    for event in buffer
+    let events: Vec<&[u32]> = buffer
         .chunks(oracle::NUMBERS_PER_EVENT)
         .take(answer.count as usize)
-    {
-        let name = if event[1] == 0 {
-            "-"
-        } else {
-            &names[event[1] as usize - 1]
+        .collect();
+    for (index, event) in events.iter().enumerate() {
+        let starts = |event: &&&[u32]| event[0] == 1 || event[0] == 2;
+        let name = match event[0] {
+            5 => "-",
+            // The attribute's name, of the element that starts next.
+            7 | 8 => {
+                let element = events[index..]
+                    .iter()
+                    .find(starts)
+                    .map_or(0, |start| start[1]);
+                &attributes[&(element, event[1])]
+            }
+            _ => &names[event[1] as usize - 1],
         };
         let _ = writeln!(printed, "{} {name} {} {}", event[0], event[2], event[3]);
         let line: Vec<String> = event.iter().map(u32::to_string).collect();
@@ -89,4 +100,16 @@ fn element_names(name_length: u32, type_file: &[u8]) -> Vec<String> {
         String::from_utf8_lossy(&type_file[offset..offset + length]).to_ascii_uppercase()
     };
     buffer.chunks(6).take(count).map(name).collect()
+}
+
+/// Upper case names of the declared attributes, by the numbers of element and attribute.
+fn attribute_names(name_length: u32, type_file: &[u8]) -> BTreeMap<(u32, u32), String> {
+    let mut buffer = [0; 9 * 40 * 64];
+    let count = oracle::attributes(name_length, type_file, &mut buffer).count as usize;
+    let name = |record: &[u32]| {
+        let (offset, length) = (record[2] as usize, record[3] as usize);
+        let name = String::from_utf8_lossy(&type_file[offset..offset + length]);
+        ((record[0], record[1]), name.to_ascii_uppercase())
+    };
+    buffer.chunks(9).take(count).map(name).collect()
 }

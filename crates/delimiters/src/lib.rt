@@ -8,7 +8,8 @@ ghost use lib.ListN.{length};
 ghost use lib.Dec.{eqb, leb};
 ghost use Rattle.rules.specs.Bytes.{byteAt, letter};
 ghost use Rattle.rules.specs.TypeFile.{atDashes};
-ghost use Rattle.rules.specs.Document.{isReference, isSectionEnd};
+ghost use Rattle.rules.specs.Attributes.{isReference};
+ghost use Rattle.rules.specs.Document.{isSectionEnd};
 
 // Whether `/` and a letter stand behind `<` at i.
 pub fn is_end_tag(s: &[u8], i: usize) -> bool

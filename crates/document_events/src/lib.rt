@@ -1,10 +1,12 @@
 // The events of a document under a type whose tables are filled.
 //
 // `elements` and `index` are those of the crate element_index, `rows`, `places`, `facts` and `members` those of type_tables, `classes` is the table
-// of delimiters. Where the tables are no type's, neither the answer nor what the buffers hold is decided; the loop ends all the same.
+// of delimiters, `lists` that of list_table. Where the tables are no type's, neither the answer nor what the buffers hold is decided; the loop ends all the same.
 use layout::BEGUN;
 use layout::FACTS;
+use layout::GIVEN;
 use layout::INDEX;
+use layout::MARKS;
 use layout::PLACES;
 use layout::RECORDS;
 use layout::ROWS;
@@ -48,19 +50,22 @@ pub fn events_of(
     places: &[u8; PLACES],
     facts: &[u8; FACTS],
     members: &[u8],
+    lists: &[u16],
     classes: &[u8; 256],
     d: &[u8],
     numbers: &mut [u32],
     bytes: &mut [u8],
 ) -> Counted
-    requires { ⌜ Classes (now classes) × (long ≤ mostNameLength) × (length (now d) ≤ 65535) ⌝ }
-    ensures { λ r. ⌜ ((es : List Element) → Indexed (now (s .entry)) es (now (elements .entry)) (now (index .entry)) → Tables (now (s .entry)) es (now (rows .entry)) (now (places .entry)) (now (facts .entry)) (now (members .entry)) →
+    requires { ⌜ Classes (now classes) × (long ≤ mostNameLength) × (length (now d) ≤ 65535) × (length (now s) ≤ 32768) ⌝ }
+    ensures { λ r. ⌜ ((es : List Element) → Indexed (now (s .entry)) es (now (elements .entry)) (now (index .entry)) → Tables (now (s .entry)) es (now (rows .entry)) (now (places .entry)) (now (facts .entry)) (now (members .entry)) → Lists (settings long) (now (s .entry)) es (now (lists .entry)) →
         EventsOf (settings long) (now (s .entry)) es (now (d .entry)) (now (numbers .entry)) (now (numbers .exit)) (now (bytes .entry)) (now (bytes .exit)) r) ⌝ }
 {
     let mut at = 0;
     let mut n = 0;
     let mut o = Open::new();
     let mut begun = [0u32; BEGUN];
+    let mut given = [0u16; GIVEN];
+    let mut marks = [0u16; MARKS];
     while at < d.len() {
         let e = o.element;
         let u = o.place;
@@ -74,12 +79,15 @@ pub fn events_of(
             facts,
             members,
             &begun,
+            lists,
             classes,
             d,
             o.count,
             e,
             u,
             at,
+            &mut given,
+            &mut marks,
         );
         match p {
             Piece::Token(x, after) => {
@@ -89,6 +97,8 @@ pub fn events_of(
                     facts,
                     members,
                     &mut begun,
+                    lists,
+                    &marks,
                     o,
                     x,
                     at,

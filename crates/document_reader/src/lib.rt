@@ -3,9 +3,11 @@ use document_events::Counted;
 use element_records::Clash;
 use inputs::Checked;
 use inputs::Settings;
+use layout::ELEMENTS;
 use layout::EVENT;
 use layout::FACTS;
 use layout::INDEX;
+use layout::LISTS;
 use layout::MEMBERS;
 use layout::NUMBER;
 use layout::PLACES;
@@ -39,10 +41,16 @@ pub enum Answer {
     InDocument(Fault),
 }
 
-// Number 24 of the settings, numbers 1 and 2 of both inputs, then the type: accepted with so many elements in `elements`, or refused. On
-// refusal what `elements` holds is not decided.
-fn judged(c: Settings, s: &[u8], d: &[u8], elements: &mut [u32; RECORDS]) -> Answer
-    ensures { λ r. ⌜ Judges (settingsOf c) (now (s .entry)) (now (d .entry)) (now (elements .exit)) r ⌝ }
+// Number 24 of the settings, numbers 1 and 2 of both inputs, then the type: accepted with so many elements in `elements`, or refused. On refusal what `elements`
+// holds is not decided.
+fn judged(
+    c: Settings,
+    s: &[u8],
+    d: &[u8],
+    elements: &mut [u32; RECORDS],
+    heads: &mut [u16; ELEMENTS],
+) -> Answer
+    ensures { λ r. ⌜ Judges (settingsOf c) (now (s .entry)) (now (d .entry)) (now (elements .exit)) (now (heads .exit)) r ⌝ }
 {
     let g = inputs::check(c, s, d);
     match g {
@@ -50,7 +58,7 @@ fn judged(c: Settings, s: &[u8], d: &[u8], elements: &mut [u32; RECORDS]) -> Ans
         Checked::InDocument(f) => return Answer::InDocument(f),
         Checked::Legible => {}
     }
-    let v = type_judge::decide_legible(c, s, RECORDS, elements);
+    let v = type_judge::decide_legible(c, s, RECORDS, elements, heads);
     match v {
         Verdict::Accepted(n) => Answer::Accepted(n),
         Verdict::Malformed(f) => Answer::InType(f),
@@ -84,6 +92,7 @@ fn follow(
     places: &[u8; PLACES],
     facts: &[u8; FACTS],
     members: &[u8],
+    lists: &[u16],
     numbers: &mut [u32],
     bytes: &mut [u8],
 ) -> Counted
@@ -109,6 +118,7 @@ fn follow(
         places,
         facts,
         members,
+        lists,
         classes,
         d,
         numbers,
@@ -116,17 +126,18 @@ fn follow(
     )
 }
 
-// Reads the document under an accepted type, whose n elements are recorded. A type without "&" needs no table of members.
-fn read_under(
+// Reads the document under an accepted type, whose n elements are recorded and whose attributes are in `lists`. A type without "&" needs no table of members.
+fn read_listed(
     long: usize,
     s: &[u8],
     d: &[u8],
     elements: &[u32; RECORDS],
+    lists: &[u16],
     n: usize,
     numbers: &mut [u32],
     bytes: &mut [u8],
 ) -> Counted
-    requires { ⌜ Judged (settings long) (now s) (now elements) n × (length (now d) ≤ 65535) ⌝ }
+    requires { ⌜ Judged (settings long) (now s) (now elements) n × (length (now d) ≤ 65535) × ((es : List Element) × Accepts (settings long) (now s) es × Lists (settings long) (now s) es (now lists)) ⌝ }
     ensures { λ r. ⌜ ((es : List Element) → Accepts (settings long) (now (s .entry)) es → length es ≡ n → Recorded (now (elements .entry)) es →
         EventsOf (settings long) (now (s .entry)) es (now (d .entry)) (now (numbers .entry)) (now (numbers .exit)) (now (bytes .entry)) (now (bytes .exit)) r) ⌝ }
 {
@@ -141,6 +152,7 @@ fn read_under(
             long,
             s,
             elements,
+            lists,
             n,
             &index,
             &mut rows,
@@ -158,6 +170,7 @@ fn read_under(
             &places,
             &facts,
             &members,
+            lists,
             numbers,
             bytes,
         );
@@ -167,6 +180,7 @@ fn read_under(
         long,
         s,
         elements,
+        lists,
         n,
         &index,
         &mut rows,
@@ -184,9 +198,34 @@ fn read_under(
         &places,
         &facts,
         &none,
+        lists,
         numbers,
         bytes,
     )
+}
+
+// Reads the document under an accepted type, whose n elements are recorded and whose lists stand in `heads`. A type without attributes pays for no table of them.
+fn read_under(
+    long: usize,
+    s: &[u8],
+    d: &[u8],
+    elements: &[u32; RECORDS],
+    heads: &[u16; ELEMENTS],
+    n: usize,
+    numbers: &mut [u32],
+    bytes: &mut [u8],
+) -> Counted
+    requires { ⌜ Judged (settings long) (now s) (now elements) n × HeadsOf (settings long) (now s) (now heads) × (length (now d) ≤ 65535) ⌝ }
+    ensures { λ r. ⌜ ((es : List Element) → Accepts (settings long) (now (s .entry)) es → length es ≡ n → Recorded (now (elements .entry)) es →
+        EventsOf (settings long) (now (s .entry)) es (now (d .entry)) (now (numbers .entry)) (now (numbers .exit)) (now (bytes .entry)) (now (bytes .exit)) r) ⌝ }
+{
+    if !attribute_lists::has_any(heads, n) {
+        let none = [0u16; 0];
+        return read_listed(long, s, d, elements, &none, n, numbers, bytes);
+    }
+    let mut lists = [0u16; LISTS];
+    attribute_lists::fill(long, s, heads, n, &mut lists);
+    read_listed(long, s, d, elements, &lists, n, numbers, bytes)
 }
 
 // Judges the type and reads the document; a refusal zeroes nothing yet. Where it refuses, or the room is short, what the buffers hold is not
@@ -195,11 +234,12 @@ fn answered(c: Settings, s: &[u8], d: &[u8], numbers: &mut [u32], bytes: &mut [u
     ensures { λ r. ⌜ Answers (settingsOf c) (now (s .entry)) (now (d .entry)) (now (numbers .entry)) (now (numbers .exit)) (now (bytes .entry)) (now (bytes .exit)) r ⌝ }
 {
     let mut elements = [0u32; RECORDS];
-    let v = judged(c, s, d, &mut elements);
+    let mut heads = [0u16; ELEMENTS];
+    let v = judged(c, s, d, &mut elements, &mut heads);
     let Answer::Accepted(n) = v else {
         return v;
     };
-    let r = read_under(c.name_length, s, d, &elements, n, numbers, bytes);
+    let r = read_under(c.name_length, s, d, &elements, &heads, n, numbers, bytes);
     match r {
         Counted::Events(k) => Answer::Accepted(k),
         Counted::Refused(f) => Answer::InDocument(f),

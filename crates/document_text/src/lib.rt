@@ -1,4 +1,5 @@
 // The tokens of a document, read from its bytes.
+use layout::GIVEN;
 use tags::Tag;
 use tags::TagRead;
 use text::Fault;
@@ -77,13 +78,19 @@ fn declaration_at(s: &[u8], i: usize) -> Token
 }
 
 // What `<` at i begins.
-fn markup_at(long: usize, classes: &[u8; 256], s: &[u8], i: usize) -> Token
+fn markup_at(
+    long: usize,
+    classes: &[u8; 256],
+    s: &[u8],
+    i: usize,
+    given: &mut [u16; GIVEN],
+) -> Token
     requires { ⌜ Classes (now classes) × (i < length (now s)) ⌝ }
-    ensures { λ r. ⌜ pieceOf r ≡ markupPiece (settings long) (now (s .entry)) i ⌝ }
+    ensures { λ r. ⌜ MeetsPiece (now (given .exit)) r (markupPiece (settings long) (now (s .entry)) i) ⌝ }
 {
     let b = text::byte(s, i + 1);
     if text::is_letter(b) {
-        return start_tag(tags::tag_at(long, classes, s, i + 1));
+        return start_tag(tags::start_tag_at(long, classes, s, i + 1, given));
     }
     if delimiters::is_end_tag(s, i) {
         return end_tag(tags::tag_at(long, classes, s, i + 2));
@@ -124,13 +131,19 @@ fn byte_at(s: &[u8], i: usize) -> Token
     Token::Data
 }
 
-// What stands at i, where the document does not end.
-pub fn token_at(long: usize, classes: &[u8; 256], s: &[u8], i: usize) -> Token
+// What stands at i, where the document does not end. Where it is a start tag, `given` has the attributes that it gives (crate tags); else what that holds is not decided.
+pub fn token_at(
+    long: usize,
+    classes: &[u8; 256],
+    s: &[u8],
+    i: usize,
+    given: &mut [u16; GIVEN],
+) -> Token
     requires { ⌜ Classes (now classes) × (i < length (now s)) ⌝ }
-    ensures { λ r. ⌜ pieceOf r ≡ piece (settings long) (now (s .entry)) i ⌝ }
+    ensures { λ r. ⌜ MeetsPiece (now (given .exit)) r (piece (settings long) (now (s .entry)) i) ⌝ }
 {
     if text::byte(s, i) == b'<' {
-        return markup_at(long, classes, s, i);
+        return markup_at(long, classes, s, i, given);
     }
     if delimiters::is_reference(s, i) {
         return Token::Refused(Fault { number: 5, at: i });

@@ -1,7 +1,7 @@
 -- The elements declared so far as their table holds them, and the name of one more, in the rules' terms.
 use Prim.Native.Nat.{ℕ, _+_, _*_, _≤_, _<_}
 use mathlib.Core.Path.{_≡_}
-use mathlib.Core.List.{List}
+use mathlib.Core.List.{List, []}
 use lib.ListN.{length, take, getD}
 use Rattle.rules.specs.TypeFile.{empty}
 use Rattle.rules.specs.TypeFile as rules
@@ -15,7 +15,7 @@ Recorded elements es = take (6 * length es) elements ≡ records es
 
 -- An element of which only the name is known: that of the k-th record.
 abbrev pub nameAt : List ℕ → ℕ → rules.Element
-nameAt elements k = record { at = getD elements (6 * k) 0; size = getD elements (6 * k + 1) 0; start = 0; end = 0; content = empty; repeated = 0 }
+nameAt elements k = record { at = getD elements (6 * k) 0; size = getD elements (6 * k + 1) 0; start = 0; end = 0; content = empty; repeated = 0; attributes = [] }
 
 -- Whatever was declared before: a name that is read lies in the input, one more element has room, and the name is no longer than a name may be.
 abbrev pub NameIn : (long end i count : ℕ) → Reached → Type 0

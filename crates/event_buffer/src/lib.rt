@@ -1,4 +1,5 @@
 // The lent buffers: an event is written behind those before.
+use layout::AttributeNo;
 use layout::EVENT;
 use layout::ElementNo;
 use layout::NUMBER;
@@ -70,5 +71,26 @@ pub fn put_event(
     let p = place.0 as u32;
     note_numbers(numbers, n, kind, e, i, k, p);
     note_bytes(bytes, n, kind, e, i, k, p);
+    n + 1
+}
+
+// The event of an attribute, after n others, as `put_event` puts one: kind 7 or 8, its number, and offset and length of its value.
+pub fn put_attribute(
+    numbers: &mut [u32],
+    bytes: &mut [u8],
+    n: usize,
+    kind: u32,
+    attribute: AttributeNo,
+    at: usize,
+    size: usize,
+) -> usize
+    requires { ⌜ (n < 4294967296) × (attribute .0 < 4294967296) × (at < 4294967296) × (size < 4294967296) ⌝ }
+    ensures { λ r. ⌜ (r ≡ n + 1) × Puts (now (numbers .entry)) (now (bytes .entry)) n (noted kind (attribute .0) at size 0 ∷ []) (now (numbers .exit)) (now (bytes .exit)) ⌝ }
+{
+    let a = attribute.0 as u32;
+    let i = at as u32;
+    let k = size as u32;
+    note_numbers(numbers, n, kind, a, i, k, 0);
+    note_bytes(bytes, n, kind, a, i, k, 0);
     n + 1
 }

@@ -17,7 +17,7 @@ abbrev typeText : List ℕ
 typeText = 81 ∷ 116 ∷ 121 ∷ []
 
 abbrev declared : Element
-declared = record { at = 0; size = 3; start = 1; end = 1; content = empty; repeated = 0 }
+declared = record { at = 0; size = 3; start = 1; end = 1; content = empty; repeated = 0; attributes = [] }
 
 abbrev written : Event
 written = record { kind = 1; number = 1; offset = 0; size = 5; place = 0 }

@@ -72,9 +72,40 @@ pub const MEMBERS: usize = CONTENTS * MEMBER;
 pub const BEGUN_WORDS: usize = 3;
 
 pub const BEGUN: usize = 25 * BEGUN_WORDS + 1;
+
+// The attributes of an element: how many there are, and five numbers for each of at most 40. All positions of a type file fit 16 bits.
+pub const ATTCNT: usize = 40;
+
+pub const ATTRIBUTE: usize = 5;
+
+pub const LIST: usize = 1 + ATTCNT * ATTRIBUTE;
+
+// Those of all elements; a type without attributes has none of it.
+pub const LISTS: usize = ELEMENTS * LIST;
+
+// The tokens of the name token groups of one list: of each where it stands and how long it is; 32 in a group.
+pub const TOKENS: usize = 2 * 32 * ATTCNT;
+
+// The attributes that a start tag gives, as they are read: four numbers for each of at most one more than a list has. A further one would be the second of
+// its name, or of none of the list.
+pub const WRITTEN: usize = 4;
+
+pub const GIVEN: usize = WRITTEN * (ATTCNT + 1);
+
+// What a tag gives of the attributes of its element: of each where the value begins and how long it is.
+pub const MARKS: usize = 2 * ATTCNT;
+
+// The records of a type's attributes, for a caller: nine numbers for each.
+pub const ATTRIBUTE_RECORD: usize = 9;
+
+pub const ATTRIBUTE_RECORDS: usize = ATTRIBUTE_RECORD * ATTCNT * ELEMENTS;
+
 // A place of a content model, from 1, or 0 for none: at the start of the content none is taken yet.
 pub struct Place(pub usize);
 
 // An element's number, from 1 in declaration order. 0 is the document itself where an element is open, data where a token is named, and
 // none where one is looked for; 255 is `#PCDATA` where a place names it.
 pub struct ElementNo(pub usize);
+
+// An attribute's number in the list of its element, from 1.
+pub struct AttributeNo(pub usize);

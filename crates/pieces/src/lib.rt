@@ -1,13 +1,16 @@
 // What stands at a position of a document, names looked up.
 //
 // `elements` and `index` are those of the crate element_index, `rows`, `places`, `facts` and `members` those of type_tables, `begun` has
-// the bits of what has begun in each open element, `classes` is the table of delimiters. Where the tables are no type's, what is found is not decided, but that its element is at most 64 and that it ends
+// the bits of what has begun in each open element, `classes` is the table of delimiters, `lists` that of list_table, `given` that of tags, `marks` that of
+// attribute_marks. Where the tables are no type's, what is found is not decided, but that its element is at most 64 and that it ends
 // further on, within the document, unless it is refused.
 use document_text::Token;
 use layout::BEGUN;
 use layout::ElementNo;
 use layout::FACTS;
+use layout::GIVEN;
 use layout::INDEX;
+use layout::MARKS;
 use layout::PLACES;
 use layout::Place;
 use layout::RECORDS;
@@ -54,7 +57,8 @@ fn tagged(s: &[u8], elements: &[u32; RECORDS], index: &[u8; INDEX], d: &[u8], t:
     f.element
 }
 
-// What stands at `at`, where the current element, of which so many are around it as `level` says, is e after the place u.
+// What stands at `at`, where the current element, of which so many are around it as `level` says, is e after the place u. Where it is a start tag, `marks` has
+// the attributes that it gives; else, and where it is refused, what that holds is not decided.
 pub fn piece_at(
     long: usize,
     s: &[u8],
@@ -65,19 +69,23 @@ pub fn piece_at(
     facts: &[u8; FACTS],
     members: &[u8],
     begun: &[u32; BEGUN],
+    lists: &[u16],
     classes: &[u8; 256],
     d: &[u8],
     level: usize,
     e: ElementNo,
     u: Place,
     at: usize,
+    given: &mut [u16; GIVEN],
+    marks: &mut [u16; MARKS],
 ) -> Piece
-    requires { ⌜ Classes (now classes) × (long ≤ mostNameLength) × (level ≤ 24) × (e .0 ≤ 64) × (u .0 ≤ 96) × (at < length (now d)) × (length (now d) ≤ 65535) ⌝ }
+    requires { ⌜ Classes (now classes) × (long ≤ mostNameLength) × (level ≤ 24) × (e .0 ≤ 64) × (u .0 ≤ 96) × (at < length (now d)) × (length (now d) ≤ 65535) × (length (now s) ≤ 32768) ⌝ }
     ensures { λ r. ⌜ Onward (length (now (d .entry))) at r ⌝ }
     ensures { λ r. ⌜ ((es : List Element) → Indexed (now (s .entry)) es (now (elements .entry)) (now (index .entry)) → Tables (now (s .entry)) es (now (rows .entry)) (now (places .entry)) (now (facts .entry)) (now (members .entry)) →
-        (o : rules.Open) → Entered es (now (members .entry)) (now (begun .entry)) level (e .0) (u .0) o → Finds (settings long) (now (s .entry)) es (now (d .entry)) o at r) ⌝ }
+        Lists (settings long) (now (s .entry)) es (now (lists .entry)) →
+        (o : rules.Open) → Entered es (now (members .entry)) (now (begun .entry)) level (e .0) (u .0) o → Finds (settings long) (now (s .entry)) es (now (d .entry)) o at r × MarksAt (settings long) (now (s .entry)) es (now (d .entry)) at r (now (marks .exit))) ⌝ }
 {
-    let t = document_text::token_at(long, classes, d, at);
+    let t = document_text::token_at(long, classes, d, at, given);
     let data = ElementNo(0);
     match t {
         Token::StartTag(g) => {
@@ -85,23 +93,29 @@ pub fn piece_at(
             if x.0 == 0 {
                 return undeclared(at);
             }
-            Piece::Token(x, g.after)
+            if g.given != 0 || lists.len() != 0 {
+                let f = attribute_marks::check(long, s, lists, d, x, given, g.given, at, marks);
+                if f.number != 0 {
+                    return Piece::Refused(f);
+                }
+            }
+            return Piece::Token(x, g.after);
         }
         Token::EndTag(g) => {
             let x = tagged(s, elements, index, d, g);
             if x.0 == 0 {
                 return undeclared(at);
             }
-            Piece::End(x, g.after)
+            return Piece::End(x, g.after);
         }
-        Token::Skipped(j) => Piece::Passed(j),
+        Token::Skipped(j) => return Piece::Passed(j),
+        Token::Refused(f) => return Piece::Refused(f),
         Token::Blank => {
             if !type_tables::takes_data(rows, places, facts, members, begun, level, e, u) {
                 return Piece::Passed(at + 1);
             }
-            Piece::Token(data, data_runs::run_end(classes, d, at + 1))
         }
-        Token::Data => Piece::Token(data, data_runs::run_end(classes, d, at + 1)),
-        Token::Refused(f) => Piece::Refused(f),
+        Token::Data => {}
     }
+    Piece::Token(data, data_runs::run_end(classes, d, at + 1))
 }

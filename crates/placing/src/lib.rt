@@ -7,6 +7,7 @@
 use layout::BEGUN;
 use layout::ElementNo;
 use layout::FACTS;
+use layout::MARKS;
 use layout::PLACES;
 use layout::Place;
 use layout::ROWS;
@@ -51,6 +52,8 @@ pub fn placed(
     facts: &[u8; FACTS],
     members: &[u8],
     begun: &mut [u32; BEGUN],
+    lists: &[u16],
+    marks: &[u16; MARKS],
     state: Open,
     found: Way,
     x: ElementNo,
@@ -60,8 +63,8 @@ pub fn placed(
     numbers: &mut [u32],
     bytes: &mut [u8],
 ) -> Outcome
-    requires { ⌜ Ranged state × (fitOf found ≤ 96) × (x .0 ≤ 64) × (at ≤ after) × (after < 4294967296) × (n + 2 < 4294967296) ⌝ }
-    ensures { λ r. ⌜ Places (now (rows .entry)) (now (places .entry)) (now (facts .entry)) (now (members .entry)) (now (begun .entry)) found (x .0) at after n state (now (numbers .entry)) (now (bytes .entry)) r (now (begun .exit)) (now (numbers .exit)) (now (bytes .exit)) ⌝ }
+    requires { ⌜ Ranged state × (fitOf found ≤ 96) × (x .0 ≤ 64) × (at ≤ after) × (after < 4294967296) × (n + 42 < 4294967296) ⌝ }
+    ensures { λ r. ⌜ Places (now (rows .entry)) (now (places .entry)) (now (facts .entry)) (now (members .entry)) (now (begun .entry)) (now (lists .entry)) (now (marks .entry)) found (x .0) at after n state (now (numbers .entry)) (now (bytes .entry)) r (now (begun .exit)) (now (numbers .exit)) (now (bytes .exit)) ⌝ }
 {
     let e = state.element;
     let p = ways::place_of(rows, places, facts, e, found, x);
@@ -81,8 +84,9 @@ pub fn placed(
     }
     let shown = open_elements::place_shown(e, p);
     let last = state.take(rows, members, begun, p);
+    let i = attribute_events::put_written(lists, marks, x, n, numbers, bytes);
     if !ways::opens(facts, x) {
-        let m = put_written(x, shown, at, after, n, numbers, bytes);
+        let m = put_written(x, shown, at, after, i, numbers, bytes);
         return Outcome {
             open: last,
             events: m,
@@ -90,7 +94,7 @@ pub fn placed(
         };
     }
     let inner = last.start(rows, x);
-    let m = event_buffer::put_event(numbers, bytes, n, 1, x, at, after - at, shown);
+    let m = event_buffer::put_event(numbers, bytes, i, 1, x, at, after - at, shown);
     Outcome {
         open: inner,
         events: m,

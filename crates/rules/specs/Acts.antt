@@ -12,12 +12,12 @@ use Rattle.rules.specs.Bytes.{TAGLVL}
 use Rattle.rules.specs.Reading.{got}
 use Rattle.rules.specs.Walk.{Group, Begins, Complete, Required}
 use Rattle.rules.specs.TypeFile.{Place, model, Element}
-use Rattle.rules.specs.Document.{Piece, piece}
+use Rattle.rules.specs.Document.{Piece}
 use Rattle.rules.specs.Elements.{contentOf, hasModel, endO}
 use Rattle.rules.specs.Decisions.{start, pcdata, Fits, Decisions}
 use Rattle.rules.specs.Events.{Event, startWritten, startInferred, endWritten, endInferred, dataRun, endOfEmpty, withData}
 use Rattle.rules.specs.Settling.{Open, State, nothingOpen, takePlace, placeTaken, enter, note, fitting, isComplete, requiredPlace, inferable, takeToken}
-use Rattle.rules.specs.Reader.{Reached, settlePiece}
+use Rattle.rules.specs.Reader.{Reached, pieceUnder, settlePiece}
 
 -- Acts
 
@@ -103,7 +103,7 @@ pub data Took (s : List ℕ) (es : List Element) (parent : Open) (e : Event) : T
 -- Reading the document d under the settings c, piece by piece, comes to `at` with the state z.
 pub data Passes (c : Settings) (s : List ℕ) (es : List Element) (D : Decisions) (d : List ℕ) : ℕ → State → Type 0 where
   begins : Passes c s es D d 0 nothingOpen
-  goes : {at : ℕ} {z : State} {p : Piece} (r : Reached) → Passes c s es D d at z → at < length d → piece c d at ≡ got p → settlePiece s es D d p at z ≡ got r → Passes c s es D d (r .at) (r .state)
+  goes : {at : ℕ} {z : State} {p : Piece} (r : Reached) → Passes c s es D d at z → at < length d → pieceUnder c s es d at ≡ got p → settlePiece s es D d p at z ≡ got r → Passes c s es D d (r .at) (r .state)
 
 -- "TAGLVL 24 open elements": at most 24 stand around the current one, which is how many are open, since the outermost of them is the document itself.
 abbrev pub Few : State → Type 0

@@ -27,6 +27,9 @@ SPACE = 32
 abbrev pub EXCLAMATION : ℕ
 EXCLAMATION = 33
 
+abbrev pub LIT : ℕ
+LIT = 34
+
 abbrev pub RNI : ℕ
 RNI = 35
 
@@ -35,6 +38,9 @@ PERO = 37
 
 abbrev pub AND : ℕ
 AND = 38
+
+abbrev pub LITA : ℕ
+LITA = 39
 
 abbrev pub GRPO : ℕ
 GRPO = 40
@@ -63,6 +69,9 @@ SOLIDUS = 47
 abbrev pub STAGO : ℕ
 STAGO = 60
 
+abbrev pub VI : ℕ
+VI = 61
+
 abbrev pub MDC : ℕ
 MDC = 62
 
@@ -89,6 +98,9 @@ separator b = eqb b TAB || eqb b RS || eqb b RE || eqb b SPACE
 -- A letter of either case.
 unfoldable pub letter : ℕ → Bool
 letter b = (leb 65 b && leb b 90) || (leb 97 b && leb b 122)
+
+unfoldable pub digit : ℕ → Bool
+digit b = leb 48 b && leb b 57
 
 -- "Letters fold to upper case."
 unfoldable pub fold : ℕ → ℕ
@@ -133,6 +145,10 @@ typeLimit = 32768
 
 abbrev pub elementLimit : ℕ
 elementLimit = 64
+
+-- "At most 40 attributes to an element" (paper 02, request one).
+abbrev pub ATTCNT : ℕ
+ATTCNT = 40
 
 -- "TAGLVL 24 open elements."
 abbrev pub TAGLVL : ℕ

@@ -5,6 +5,7 @@ use mathlib.Core.List.{List, [], _∷_}
 use Rattle.rules.specs.Settings.{Settings}
 use Rattle.rules.specs.Lent.{bytes}
 use Rattle.rules.specs.Judge.{Answer, Judged}
+use Rattle.rules.specs.Listing.{Lists}
 use Rattle.rules.specs.Reader.{ReadAs}
 
 -- "An accepted call gives 0 for number, input and position, and how many records it wrote; input 1 is the type, 2 the document. The two
@@ -22,3 +23,8 @@ JudgedNumbers c s before returned numbers after = (a : Answer) × (returned ≡ 
 -- the lent bytes what goes with it.
 abbrev pub ReadNumbers : Settings → (s d before : List ℕ) (returned : ℕ) (numbers after : List ℕ) → Type 0
 ReadNumbers c s d before returned numbers after = (a : Answer) × (returned ≡ a .number) × (numbers ≡ answerNumbers a) × ReadAs bytes c s d before a after
+
+-- The attributes of a type (paper 02, request one): the call returns the number of an answer to the type file s under the settings c, gives its six
+-- numbers, and leaves in the lent bytes what goes with it.
+abbrev pub ListedNumbers : Settings → (s before : List ℕ) (returned : ℕ) (numbers after : List ℕ) → Type 0
+ListedNumbers c s before returned numbers after = (a : Answer) × (returned ≡ a .number) × (numbers ≡ answerNumbers a) × Lists bytes c s before a after

@@ -1,19 +1,30 @@
 -- The document's pieces: tags, comment declarations, what is skipped, and single bytes (paper 01, "The document"), with refusals 3, 4, 5 and 17.
 -- c has the settings of the call. What a piece means for the open elements is in Settling.
-use Prim.Native.Nat.{ℕ, _+_, _-_}
+use Prim.Native.Nat.{ℕ, zero, suc, _+_, _-_}
 use mathlib.Core.Bool.{Bool, true, false, _&&_, _||_}
-use mathlib.Core.List.{List}
+use mathlib.Core.List.{List, [], _∷_, _++_}
+use lib.ListN.{length}
 use lib.Dec.{eqb, leb, ltb}
-use Rattle.rules.specs.Bytes.{byteAt, letter, nameEnd, separatorsEnd, TAB, RS, RE, SPACE, EXCLAMATION, RNI, AND, SOLIDUS, STAGO, MDC, OPT, DSO, DSC}
+use Rattle.rules.specs.Bytes.{byteAt, letter, nameEnd, separatorsEnd, TAB, RS, RE, SPACE, EXCLAMATION, AND, SOLIDUS, STAGO, VI, MDC, OPT, DSO, DSC}
 use Rattle.rules.specs.Settings.{Settings}
 use Rattle.rules.specs.Reading.{Reading, refused, got, andThen}
+use Rattle.rules.specs.Attributes.{quote, isReference, literalEnd}
 use Rattle.rules.specs.TypeFile.{atDashes, commentDeclaration}
 
--- A tag: where its name stands, how long that is, and where the tag ends.
+-- An attribute as a start tag gives it: where its name stands and how long that is, where the literal's opening quote stands, and how long the value is,
+-- which begins behind it.
+pub record Written : Type 0 where
+  pub at : ℕ
+  pub size : ℕ
+  pub quote : ℕ
+  pub length : ℕ
+
+-- A tag: where its name stands, how long that is, where the tag ends, and the attributes that it gives; an end tag gives none.
 pub record Tag : Type 0 where
   pub name : ℕ
   pub size : ℕ
   pub after : ℕ
+  pub written : List Written
 
 -- What stands at a position of the document, outside tags and comments.
 pub data Piece : Type 0 where
@@ -25,15 +36,53 @@ pub data Piece : Type 0 where
   blank : Piece
   dataByte : Piece
 
--- "Name, separators, `>`." Within a tag 3 comes before 4. `at` is the name's first byte, a letter.
+-- An end tag: "name, separators, `>`." Within a tag 3 comes before 4. `at` is the name's first byte, a letter.
 unfoldable pub tag : Settings → List ℕ → ℕ → Reading Tag
 tag c d at =
     let e = nameEnd d at in
     let i = separatorsEnd d e in
     elim (ltb (c .nameLength) (e - at)) [
       | true ↦ refused 3 at
-      | false ↦ elim (eqb (byteAt d i) MDC) [ true ↦ got (record { name = at; size = e - at; after = i + 1 }) | false ↦ refused 4 i ]
+      | false ↦ elim (eqb (byteAt d i) MDC) [ true ↦ got (record { name = at; size = e - at; after = i + 1; written = [] }) | false ↦ refused 4 i ]
     ]
+
+-- An attribute in a start tag, whose name, a letter, stands at i: "written values are literals in either quote; separators may stand between name, `=` and
+-- literal".
+unfoldable pub specification : Settings → List ℕ → (i : ℕ) → Reading Written
+specification c d i =
+    let e = nameEnd d i in
+    let j = separatorsEnd d e in
+    let k = separatorsEnd d (j + 1) in
+    elim (ltb (c .nameLength) (e - i)) [
+      | true ↦ refused 3 i
+      | false ↦ elim (eqb (byteAt d j) VI) [
+        | true ↦ elim (quote (byteAt d k)) [
+          | true ↦ andThen (literalEnd d k) λ q. got (record { at = i; size = e - i; quote = k; length = q - (k + 1) })
+          | false ↦ refused 4 k
+        ]
+        | false ↦ refused 4 j
+      ]
+    ]
+
+-- What follows the name of a start tag, from to e, or an attribute, at `at`: further attributes, "and none need follow a literal", then `>`. "In a tag 3,
+-- 4 and 5 come first, by position". Each turn but the last takes an attribute, so there are fewer turns than bytes.
+unfoldable pub specifications : Settings → (turns : ℕ) → List ℕ → (name e at : ℕ) → List Written → Reading Tag
+specifications c zero d name e at ws = refused 4 (length d)
+specifications c (suc turns) d name e at ws =
+    let i = separatorsEnd d at in
+    elim (eqb (byteAt d i) MDC) [
+      | true ↦ got (record { name = name; size = e - name; after = i + 1; written = ws })
+      | false ↦ elim (letter (byteAt d i)) [
+        | true ↦ andThen (specification c d i) λ w. specifications c turns d name e (w .quote + 1 + w .length + 1) (ws ++ w ∷ [])
+        | false ↦ refused 4 i
+      ]
+    ]
+
+-- A start tag: name, attributes, separators, `>`. `at` is the name's first byte, a letter.
+unfoldable pub startTagAt : Settings → List ℕ → (at : ℕ) → Reading Tag
+startTagAt c d at =
+    let e = nameEnd d at in
+    elim (ltb (c .nameLength) (e - at)) [ true ↦ refused 3 at | false ↦ specifications c (suc (length d)) d at e e [] ]
 
 -- What is refused in a comment declaration is number 4 in a document: number 5 names no `%` there.
 abbrev pub malformed : {A : Type 0} → Reading A → Reading A
@@ -57,7 +106,7 @@ unfoldable pub markupPiece : Settings → List ℕ → ℕ → Reading Piece
 markupPiece c d i =
     let b = byteAt d (i + 1) in
     elim (letter b) [
-      | true ↦ andThen (tag c d (i + 1)) λ t. got (startTag t)
+      | true ↦ andThen (startTagAt c d (i + 1)) λ t. got (startTag t)
       | false ↦ elim (eqb b SOLIDUS && letter (byteAt d (i + 2))) [
         | true ↦ andThen (tag c d (i + 2)) λ t. got (endTag t)
         | false ↦ elim (eqb b EXCLAMATION) [
@@ -66,13 +115,6 @@ markupPiece c d i =
         ]
       ]
     ]
-
--- ""&" then a letter; `&#` then a letter or digit" are number 5.
-abbrev pub isReference : List ℕ → ℕ → Bool
-isReference d i =
-    let b = byteAt d (i + 1) in
-    let c = byteAt d (i + 2) in
-    letter b || (eqb b RNI && (letter c || (leb 48 c && leb c 57)))
 
 -- "`]]>` outside tags and comments" is number 17.
 abbrev pub isSectionEnd : List ℕ → ℕ → Bool

@@ -1,15 +1,16 @@
 -- The elements of a type by number and by name (paper 01, "What the reader takes and gives", "The document").
 use Prim.Native.Nat.{ℕ, zero, suc, _+_, _-_}
-use mathlib.Core.Bool.{Bool, true, false}
+use mathlib.Core.Bool.{Bool, true, false, not, _&&_}
 use mathlib.Core.List.{List, [], _∷_}
 use lib.Dec.{eqb}
 use Rattle.rules.specs.Bytes.{sameText}
 use Rattle.rules.specs.Walk.{place}
+use Rattle.rules.specs.Attributes.{needsTag}
 use Rattle.rules.specs.TypeFile.{Place, Content, empty, model, Element}
 
 -- The k-th element of the type, from 0.
 unfoldable pub elementAt : List Element → ℕ → Element
-elementAt [] k = record { at = 0; size = 0; start = 0; end = 0; content = empty; repeated = 0 }
+elementAt [] k = record { at = 0; size = 0; start = 0; end = 0; content = empty; repeated = 0; attributes = [] }
 elementAt (e ∷ es) zero = e
 elementAt (e ∷ es) (suc k) = elementAt es k
 
@@ -40,9 +41,10 @@ abbrev pub hasModel : Content → Bool
 hasModel empty = false
 hasModel (model g ps n) = true
 
--- The start tag, the end tag may be left out: "O".
+-- The start tag may be left out: "O". But "an element with a required attribute never has its start inferred (7.3.1.1)" (paper 02, request one).
 abbrev pub startO : List Element → ℕ → Bool
-startO es k = eqb (elementAt es (k - 1) .start) 1
+startO es k = eqb (elementAt es (k - 1) .start) 1 && not (needsTag (elementAt es (k - 1) .attributes))
 
+-- The end tag may be left out: "O".
 abbrev pub endO : List Element → ℕ → Bool
 endO es k = eqb (elementAt es (k - 1) .end) 1

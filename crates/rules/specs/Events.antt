@@ -1,4 +1,4 @@
--- Events (paper 01, "What the reader takes and gives"; paper 02, request seven).
+-- Events (paper 01, "What the reader takes and gives"; paper 02, requests seven and one).
 use Prim.Native.Nat.{ℕ, _+_, _-_}
 use mathlib.Core.Bool.{true, false, _&&_}
 use mathlib.Core.List.{List, [], _∷_}
@@ -37,6 +37,14 @@ dataRun at size = record { kind = 5; number = 0; offset = at; size = size; place
 
 abbrev pub endOfEmpty : (k after : ℕ) → Event
 endOfEmpty k after = record { kind = 6; number = k; offset = after; size = 0; place = 0 }
+
+-- "Kind 7 written, kind 8 defaulted, with the attribute's number in its list, from 1 .., offset and length" of the value without quotes: "a part of the
+-- document if written and a part of the type file if defaulted".
+abbrev pub attributeWritten : (a at size : ℕ) → Event
+attributeWritten a at size = record { kind = 7; number = a; offset = at; size = size; place = 0 }
+
+abbrev pub attributeDefaulted : (a at size : ℕ) → Event
+attributeDefaulted a at size = record { kind = 8; number = a; offset = at; size = size; place = 0 }
 
 -- "Kind 5 is a longest run of neighbouring data bytes; an ignored byte or a comment ends a run": the events with a data byte at `at`.
 unfoldable pub withData : ℕ → List Event → List Event

@@ -1,19 +1,22 @@
--- The rules of paper 01, in its order, and what paper 02 adds (Settings, Lookup, and the marks in Acts): read these files to know what is promised.
+-- The rules of paper 01, in its order, and what paper 02 adds (Settings, Lookup, Attributes, Given, Listing, and the marks in Acts): read these files to know what is promised.
 pub mod Lent
 pub mod Settings
 pub mod Bytes
 pub mod Reading
 pub mod Walk
 pub mod Ambiguity
+pub mod Attributes
 pub mod TypeFile
 pub mod Judge
 pub mod Document
 pub mod Elements
 pub mod Decisions
 pub mod Events
+pub mod Given
 pub mod Settling
 pub mod Lookup
 pub mod Reader
 pub mod Acts
+pub mod Listing
 pub mod Calls
 pub mod Printed

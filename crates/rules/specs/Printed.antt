@@ -1,15 +1,16 @@
 -- What the small program prints (paper 01, "What the reader takes and gives"): "A small program reads `type.sgm` and `doc.sgm`, lends 16,384
 -- numbers" (from request seven of paper 02 on "20,480, so printed lines stay") "and prints `events N`, then a line per event: kind, element
 -- name in upper case or `-`, offset, length, one space between. On refusal it prints only `refused N in type at P` or `refused N in document at P`."
-use Prim.Native.Nat.{ℕ, zero, suc, _+_, _*_, _/_, _%_, _≤_}
+use Prim.Native.Nat.{ℕ, zero, suc, _+_, _-_, _*_, _/_, _%_, _≤_}
 use mathlib.Core.Path.{_≡_}
-use mathlib.Core.Bool.{true, false}
+use mathlib.Core.Bool.{true, false, _||_}
 use mathlib.Core.List.{List, [], _∷_, _++_}
 use lib.ListN.{length}
-use lib.Dec.{leb}
+use lib.Dec.{eqb, leb}
 use Rattle.rules.specs.Settings.{Settings, settings}
 use Rattle.rules.specs.Bytes.{byteAt, fold}
 use Rattle.rules.specs.Reading.{got}
+use Rattle.rules.specs.Attributes.{attributeAt}
 use Rattle.rules.specs.TypeFile.{Element}
 use Rattle.rules.specs.Judge.{Answer}
 use Rattle.rules.specs.Elements.{elementAt}
@@ -43,13 +44,27 @@ abbrev pub nameText : List ℕ → List Element → ℕ → List ℕ
 nameText s es zero = 45 ∷ []
 nameText s es (suc k) = upper s (elementAt es k .at) (elementAt es k .size)
 
+-- The number of the element that starts next.
+unfoldable pub startsNext : List Event → ℕ
+startsNext [] = 0
+startsNext (e ∷ ev) = elim (eqb (e .kind) 1 || eqb (e .kind) 2) [ true ↦ e .number | false ↦ startsNext ev ]
+
+-- "The attribute's number in its list .. (printed as its name)": of the list of the element that starts next.
+abbrev pub attributeText : List ℕ → List Element → (k a : ℕ) → List ℕ
+attributeText s es k a = let x = attributeAt (elementAt es (k - 1) .attributes) (a - 1) in upper s (x .at) (x .size)
+
+-- The name of an event, before these.
+abbrev pub eventText : List ℕ → List Element → Event → List Event → List ℕ
+eventText s es e ev =
+    elim (eqb (e .kind) 7 || eqb (e .kind) 8) [ true ↦ attributeText s es (startsNext ev) (e .number) | false ↦ nameText s es (e .number) ]
+
 -- The line of an event: "kind, element name in upper case or `-`, offset, length, one space between."
 unfoldable pub line : (kind : ℕ) → (name : List ℕ) → (offset size : ℕ) → List ℕ
 line k x o n = word (decimal k) 32 ++ (word x 32 ++ (word (decimal o) 32 ++ word (decimal n) 10))
 
 unfoldable pub eventLines : List ℕ → List Element → List Event → List ℕ
 eventLines s es [] = []
-eventLines s es (e ∷ ev) = line (e .kind) (nameText s es (e .number)) (e .offset) (e .size) ++ eventLines s es ev
+eventLines s es (e ∷ ev) = line (e .kind) (eventText s es e ev) (e .offset) (e .size) ++ eventLines s es ev
 
 -- `events N`, and the lines of the events.
 abbrev pub eventsWord : List ℕ

@@ -15,6 +15,7 @@ use Rattle.rules.specs.Document.{Tag, Piece, startTag, endTag, skipped, 
 use Rattle.rules.specs.Elements.{numberOf}
 use Rattle.rules.specs.Decisions.{Decisions, Means}
 use Rattle.rules.specs.Events.{Event, eventWidth}
+use Rattle.rules.specs.Given.{pieceAttributed, withAttributes}
 use Rattle.rules.specs.Settling.{State, nothingOpen, startElement, takeData, takeBlank, endElement, endDocument}
 
 -- Reading a document
@@ -43,6 +44,11 @@ module _ (s : List ℕ) (es : List Element) (D : Decisions) (d : List ℕ) where
   settlePiece blank at z = goOn (at + 1) (takeBlank s es D at z)
   settlePiece dataByte at z = goOn (at + 1) (takeData s es D at z)
 
+-- What stands at `at` in the document d under the type file s with the elements es: the piece, the attributes of a start tag held against the list of its
+-- element. "In a tag 3, 4 and 5 come first, by position, then 10, 20, 22, 21" (paper 02, request one), and all of them before 16, 12 and 15.
+unfoldable pub pieceUnder : Settings → (s : List ℕ) → List Element → (d : List ℕ) → (at : ℕ) → Reading Piece
+pieceUnder c s es d at = andThen (piece c d at) λ p. andThen (pieceAttributed c s es d at p) λ u. got p
+
 -- The same document under the settings c, which decide how long a name in a tag may be.
 module _ (c : Settings) (s : List ℕ) (es : List Element) (D : Decisions) (d : List ℕ) where
   -- "The document's tokens in turn", from `at` on. Each turn but the last takes a piece, so there are fewer turns than bytes.
@@ -52,13 +58,14 @@ module _ (c : Settings) (s : List ℕ) (es : List Element) (D : Decisions) (d : 
       elim (leb (length d) at) [
         | true ↦ endDocument s es D (length d) z
         | false ↦
-            andThen (piece c d at) λ p.
+            andThen (pieceUnder c s es d at) λ p.
             andThen (settlePiece s es D d p at z) λ y.
             piecesWithin turns (y .at) (y .state)
       ]
 
+  -- "Before a start event come attribute events in declaration order" (paper 02, request one). "Demand 2 reads with these events."
   unfoldable pub document : Reading (List Event)
-  document = piecesWithin (suc (length d)) 0 nothingOpen
+  document = andThen (piecesWithin (suc (length d)) 0 nothingOpen) λ ev. got (withAttributes c s es d ev)
 
 -- The answer
 

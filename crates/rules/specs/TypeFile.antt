@@ -1,17 +1,19 @@
--- The type file: declarations, parameters, comments and model groups (paper 01, "The type file"), with refusals 3 to 8, and where the "&" of
--- number 25 stands (paper 02, request twelve).
+-- The type file: declarations, parameters, comments and model groups (paper 01, "The type file"), with refusals 3 to 8, where the "&" of
+-- number 25 stands (paper 02, request twelve), and attribute definition lists with refusals 10, 20 and 22 (request one), which "take their
+-- turn among 3 to 8".
 -- Numbers 3 and 5 read "with the given length for 8" (paper 02, request six): c has the settings of the call.
 -- Reading goes from left to right and refuses at the first fault, the lower number first where two stand at one position.
 -- A byte at which no form goes on is the unfit one of number 4; past the end it is 0, so the position is then the length.
 use Prim.Native.Nat.{ℕ, zero, suc, _+_, _-_}
-use mathlib.Core.Bool.{Bool, true, false, _&&_, _||_}
+use mathlib.Core.Bool.{Bool, true, false, not, _&&_, _||_}
 use mathlib.Core.List.{List, [], _∷_, _++_}
 use lib.ListN.{length, drop}
 use lib.Dec.{eqb, leb, ltb}
-use Rattle.rules.specs.Bytes.{byteAt, letter, nameEnd, separatorsEnd, sameText, GRPCNT, GRPLVL, GRPGTCNT, elementLimit, EXCLAMATION, RNI, PERO, AND, GRPO, GRPC, REP, PLUS, SEQ, MINUS, STAGO, MDC, OPT, DSO, OR}
+use Rattle.rules.specs.Bytes.{byteAt, letter, nameEnd, separatorsEnd, sameText, GRPCNT, GRPLVL, GRPGTCNT, ATTCNT, elementLimit, EXCLAMATION, RNI, PERO, AND, GRPO, GRPC, REP, PLUS, SEQ, MINUS, STAGO, MDC, OPT, DSO, OR}
 use Rattle.rules.specs.Settings.{Settings}
 use Rattle.rules.specs.Reading.{Reading, refused, got, andThen}
 use Rattle.rules.specs.Walk.{Group, place, seq, alt, opt, plus, and, Members, one, also, star}
+use Rattle.rules.specs.Attributes.{Part, bytesIn, quote, literalEnd, DeclaredValue, cdata, number, name, tokens, Default, required, implied, literal, Attribute, AttList, attributeOf, fits}
 
 -- Comments
 
@@ -79,6 +81,21 @@ PCDATA = 80 ∷ 67 ∷ 68 ∷ 65 ∷ 84 ∷ 65 ∷ []
 
 abbrev pub O : List ℕ
 O = 79 ∷ []
+
+abbrev pub ATTLIST : List ℕ
+ATTLIST = 65 ∷ 84 ∷ 84 ∷ 76 ∷ 73 ∷ 83 ∷ 84 ∷ []
+
+abbrev pub NUMBER : List ℕ
+NUMBER = 78 ∷ 85 ∷ 77 ∷ 66 ∷ 69 ∷ 82 ∷ []
+
+abbrev pub NAME : List ℕ
+NAME = 78 ∷ 65 ∷ 77 ∷ 69 ∷ []
+
+abbrev pub REQUIRED : List ℕ
+REQUIRED = 82 ∷ 69 ∷ 81 ∷ 85 ∷ 73 ∷ 82 ∷ 69 ∷ 68 ∷ []
+
+abbrev pub IMPLIED : List ℕ
+IMPLIED = 73 ∷ 77 ∷ 80 ∷ 76 ∷ 73 ∷ 69 ∷ 68 ∷ []
 
 -- The input ends within the word from `at` to `end`, which could have gone on as the given one: then no byte of it is unfit, and
 -- number 4 stands at the input's end and not at the word's first byte.
@@ -248,7 +265,8 @@ pub data Content : Type 0 where
   empty : Content
   model : Group → List Place → (tokens : ℕ) → Content
 
--- `repeated` is where the first "&" of the model stands that number 25 is given for, 0 if there is none.
+-- `repeated` is where the first "&" of the model stands that number 25 is given for, 0 if there is none. `attributes` are those of its list,
+-- in declaration order.
 pub record Element : Type 0 where
   pub at : ℕ
   pub size : ℕ
@@ -256,6 +274,7 @@ pub record Element : Type 0 where
   pub end : ℕ
   pub content : Content
   pub repeated : ℕ
+  pub attributes : List Attribute
 
 -- An element declared before has the name of this size at `at`.
 unfoldable pub isDeclared : List ℕ → List Element → ℕ → ℕ → Bool
@@ -368,14 +387,14 @@ close s i =
       | false ↦ elim ((eqb b MINUS || eqb b PLUS) && eqb (byteAt s (i + 1)) GRPO) [ true ↦ refused 5 i | false ↦ unfit s i ]
     ]
 
--- What was read of a type file: the elements in declaration order, and where it goes on.
+-- What an element declaration adds: the elements in declaration order, and where the type file goes on.
 pub record Declared : Type 0 where
   pub elements : List Element
   pub at : ℕ
 
--- The element that is declared with this head and this content.
+-- The element that is declared with this head and this content. Its attributes come with a list further on.
 abbrev pub declare : Head → ContentEnd → Element
-declare h x = record { at = h .name; size = h .size; start = h .start; end = h .end; content = x .content; repeated = x .repeated }
+declare h x = record { at = h .name; size = h .size; start = h .start; end = h .end; content = x .content; repeated = x .repeated; attributes = [] }
 
 -- What follows the head: the content and the end of the declaration.
 unfoldable pub rest : Settings → List ℕ → List Element → Head → Reading Declared
@@ -390,52 +409,306 @@ rest c s es h =
 unfoldable pub element : Settings → List ℕ → ℕ → List Element → Reading Declared
 element c s at es = andThen (head c s at es) (rest c s es)
 
+-- Name token groups
+
+-- "A token twice in a list": one of these has the same bytes, folded.
+unfoldable pub isToken : List ℕ → List Part → (at size : ℕ) → Bool
+isToken s [] at size = false
+isToken s (p ∷ ps) at size = sameName s (p .at) (p .size) at size || isToken s ps at size
+
+-- A token at i: "letters, digits, "." and "-", 1 to 8 long, a longer one 3 at its first byte". `ps` are the tokens of the group before it, `seen`
+-- those of the list's groups before.
+unfoldable pub groupToken : Settings → List ℕ → (seen ps : List Part) → (i : ℕ) → Reading Part
+groupToken c s seen ps i =
+    let e = nameEnd s i in
+    elim (ltb i e) [
+      | true ↦ elim (ltb (c .nameLength) (e - i)) [
+        | true ↦ refused 3 i
+        | false ↦ elim (leb GRPCNT (length ps)) [
+          | true ↦ refused 6 i
+          | false ↦ elim (isToken s (seen ++ ps) i (e - i)) [ true ↦ refused 20 i | false ↦ got (record { at = i; size = e - i }) ]
+        ]
+      ]
+      | false ↦ elim (eqb (byteAt s i) PERO) [ true ↦ refused 5 i | false ↦ refused 4 i ]
+    ]
+
+-- The tokens of a group and where it ends.
+pub record TokensEnd : Type 0 where
+  pub tokens : List Part
+  pub at : ℕ
+
+-- The connectors of name token groups; ""&" .. joins name token groups too" (request twelve).
+abbrev pub isTokenConnector : ℕ → Bool
+isTokenConnector b = eqb b SEQ || (eqb b OR || eqb b AND)
+
+-- The rest of a group, "one connector" (0: none yet), from behind its "(" or a connector on. `left` is how many more tokens it may have; where it is 0
+-- the token was refused already.
+unfoldable pub groupTokens : Settings → List ℕ → (seen : List Part) → (left connector : ℕ) → (ps : List Part) → (at : ℕ) → Reading TokensEnd
+groupTokens c s seen zero connector ps at = refused 6 at
+groupTokens c s seen (suc left) connector ps at =
+    andThen (groupToken c s seen ps (separatorsEnd s at)) λ p.
+    let i = separatorsEnd s (p .at + p .size) in
+    let b = byteAt s i in
+    elim (eqb b GRPC) [
+      | true ↦ got (record { tokens = ps ++ p ∷ []; at = i + 1 })
+      | false ↦ elim (eqb b PERO) [
+        | true ↦ refused 5 i
+        | false ↦ elim (isTokenConnector b && (eqb connector 0 || eqb connector b)) [
+          | true ↦ groupTokens c s seen left b (ps ++ p ∷ []) (i + 1)
+          | false ↦ refused 4 i
+        ]
+      ]
+    ]
+
+-- The group whose "(" stands at `at`.
+unfoldable pub tokenGroup : Settings → List ℕ → (seen : List Part) → (at : ℕ) → Reading TokensEnd
+tokenGroup c s seen at = groupTokens c s seen (suc GRPCNT) 0 [] (at + 1)
+
+-- Attribute definitions
+
+-- The tokens of all groups of these attributes.
+unfoldable pub tokensOf : List Attribute → List Part
+tokensOf [] = []
+tokensOf (a ∷ xs) = elim (a .value) [ cdata ↦ tokensOf xs | number ↦ tokensOf xs | name ↦ tokensOf xs | tokens i ps ↦ ps ++ tokensOf xs ]
+
+-- The attribute's name at i, a letter, and where it ends; the parameter before ended at `from`. "7 holds for a list's attributes too", and 20 for "a 41st".
+unfoldable pub attributeName : Settings → List ℕ → List Attribute → (from i : ℕ) → Reading ℕ
+attributeName c s xs from i =
+    let e = nameEnd s i in
+    elim (ltb (c .nameLength) (e - i)) [
+      | true ↦ refused 3 i
+      | false ↦ elim (ltb from i) [
+        | true ↦ elim (leb 1 (attributeOf s xs s i (e - i))) [
+          | true ↦ refused 7 i
+          | false ↦ elim (leb ATTCNT (length xs)) [ true ↦ refused 20 i | false ↦ got e ]
+        ]
+        | false ↦ refused 4 i
+      ]
+    ]
+
+-- A declared value and where it ends.
+pub record ValueEnd : Type 0 where
+  pub value : DeclaredValue
+  pub at : ℕ
+
+-- A word as declared value. Every word but three is a wrong one.
+unfoldable pub valueWord : Settings → List ℕ → (i : ℕ) → Reading ValueEnd
+valueWord c s i =
+    let e = nameEnd s i in
+    elim (ltb (c .nameLength) (e - i)) [
+      | true ↦ refused 3 i
+      | false ↦ elim (isWord s i e CDATA) [
+        | true ↦ got (record { value = cdata; at = e })
+        | false ↦ elim (isWord s i e NUMBER) [
+          | true ↦ got (record { value = number; at = e })
+          | false ↦ elim (isWord s i e NAME) [
+            | true ↦ got (record { value = name; at = e })
+            | false ↦ elim (isCut s i e CDATA || (isCut s i e NUMBER || isCut s i e NAME)) [ true ↦ refused 4 (length s) | false ↦ refused 4 i ]
+          ]
+        ]
+      ]
+    ]
+
+-- The declared value at i; `seen` are the tokens of the list so far. A name ends before a letter only where something parts them.
+unfoldable pub declaredValue : Settings → List ℕ → (seen : List Part) → (i : ℕ) → Reading ValueEnd
+declaredValue c s seen i =
+    elim (eqb (byteAt s i) GRPO) [
+      | true ↦ andThen (tokenGroup c s seen i) λ t. got (record { value = tokens i (t .tokens); at = t .at })
+      | false ↦ elim (letter (byteAt s i)) [ true ↦ valueWord c s i | false ↦ unfit s i ]
+    ]
+
+-- A default and where it ends.
+pub record DefaultEnd : Type 0 where
+  pub default : Default
+  pub at : ℕ
+
+-- `#REQUIRED` or `#IMPLIED`, from its `#` at i. "A wrong word after `#` stands at the `#`."
+unfoldable pub defaultWord : List ℕ → (i : ℕ) → Reading DefaultEnd
+defaultWord s i =
+    let e = nameEnd s (i + 1) in
+    elim (letter (byteAt s (i + 1))) [
+      | true ↦ elim (isWord s (i + 1) e REQUIRED) [
+        | true ↦ got (record { default = required; at = e })
+        | false ↦ elim (isWord s (i + 1) e IMPLIED) [
+          | true ↦ got (record { default = implied; at = e })
+          | false ↦ elim (isCut s (i + 1) e REQUIRED || isCut s (i + 1) e IMPLIED) [ true ↦ refused 4 (length s) | false ↦ refused 4 i ]
+        ]
+      ]
+      | false ↦ refused 4 (i + 1)
+    ]
+
+-- A literal as default, from its opening quote at i: 22 stands there, "not for a literal with 4 or 5 in it".
+unfoldable pub defaultLiteral : Settings → List ℕ → DeclaredValue → (i : ℕ) → Reading DefaultEnd
+defaultLiteral c s x i =
+    andThen (literalEnd s i) λ e.
+    let p : Part = record { at = i + 1; size = e - (i + 1) } in
+    elim (fits c s x (bytesIn s p)) [ true ↦ got (record { default = literal p; at = e + 1 }) | false ↦ refused 22 i ]
+
+-- "A group needs none on either side": nothing need part the default from it.
+abbrev pub isGroup : DeclaredValue → Bool
+isGroup cdata = false
+isGroup number = false
+isGroup name = false
+isGroup (tokens at ps) = true
+
+-- The default at i of an attribute with this declared value, which ended at `from`.
+unfoldable pub defaultValue : Settings → List ℕ → DeclaredValue → (from i : ℕ) → Reading DefaultEnd
+defaultValue c s x from i =
+    let b = byteAt s i in
+    elim (eqb b RNI || quote b) [
+      | true ↦ elim (isGroup x || ltb from i) [
+        | true ↦ elim (eqb b RNI) [ true ↦ defaultWord s i | false ↦ defaultLiteral c s x i ]
+        | false ↦ refused 4 i
+      ]
+      | false ↦ unfit s i
+    ]
+
+-- An attribute definition and where it ends.
+pub record Definition : Type 0 where
+  pub attribute : Attribute
+  pub at : ℕ
+
+-- The definition whose name, a letter, stands at i, after these attributes of the list; the parameter before ended at `from`.
+unfoldable pub definition : Settings → List ℕ → List Attribute → (from i : ℕ) → Reading Definition
+definition c s xs from i =
+    andThen (attributeName c s xs from i) λ e.
+    andThen (gap s e) λ j.
+    andThen (declaredValue c s (tokensOf xs) j) λ v.
+    andThen (gap s (v .at)) λ k.
+    andThen (defaultValue c s (v .value) (v .at) k) λ f.
+    got (record { attribute = record { at = i; size = e - i; value = v .value; default = f .default }; at = f .at })
+
+-- The attributes of a list and where its declaration ends.
+pub record ListEnd : Type 0 where
+  pub attributes : List Attribute
+  pub at : ℕ
+
+-- The definitions of a list, one or more, and the `>`; what was read ended at `from`. `left` is how many more definitions there may be; where it is 0
+-- the name was refused already.
+unfoldable pub definitions : Settings → List ℕ → (left : ℕ) → List Attribute → (from : ℕ) → Reading ListEnd
+definitions c s zero xs from = refused 20 from
+definitions c s (suc left) xs from =
+    andThen (gap s from) λ i.
+    elim (eqb (byteAt s i) MDC && leb 1 (length xs)) [
+      | true ↦ got (record { attributes = xs; at = i + 1 })
+      | false ↦ elim (letter (byteAt s i)) [
+        | true ↦ andThen (definition c s xs from i) λ d. definitions c s left (xs ++ d .attribute ∷ []) (d .at)
+        | false ↦ unfit s i
+      ]
+    ]
+
+-- The list whose element's name ends at `from`: this depends on nothing that was declared before.
+unfoldable pub listFrom : Settings → List ℕ → (from : ℕ) → Reading ListEnd
+listFrom c s from = definitions c s (suc ATTCNT) [] from
+
+-- Attribute definition lists
+
+-- The number of the element with the name of this size at `at`, from 1; 0 if none has it. The first of these has the number k.
+unfoldable pub declaredFrom : ℕ → List ℕ → List Element → (at size : ℕ) → ℕ
+declaredFrom k s [] at size = 0
+declaredFrom k s (e ∷ es) at size = elim (sameName s (e .at) (e .size) at size) [ true ↦ k | false ↦ declaredFrom (k + 1) s es at size ]
+
+-- The element with this number has a list.
+unfoldable pub isListed : List AttList → ℕ → Bool
+isListed [] k = false
+isListed (l ∷ ls) k = eqb (l .element) k || isListed ls k
+
+-- The element whose attributes are declared, and where its name ends.
+pub record Listed : Type 0 where
+  pub element : ℕ
+  pub at : ℕ
+
+-- "One list each, the element declared before it, else 10"; "a second list" is 20. "A group as element name" is number 5.
+unfoldable pub listedElement : Settings → List ℕ → List Element → List AttList → (i : ℕ) → Reading Listed
+listedElement c s es ls i =
+    let e = nameEnd s i in
+    let k = declaredFrom 1 s es i (e - i) in
+    elim (letter (byteAt s i)) [
+      | true ↦ elim (ltb (c .nameLength) (e - i)) [
+        | true ↦ refused 3 i
+        | false ↦ elim (leb 1 k) [
+          | true ↦ elim (isListed ls k) [ true ↦ refused 20 i | false ↦ got (record { element = k; at = e }) ]
+          | false ↦ refused 10 i
+        ]
+      ]
+      | false ↦ elim (eqb (byteAt s i) GRPO) [ true ↦ refused 5 i | false ↦ unfit s i ]
+    ]
+
+-- What was read of a type file: the elements and the attribute lists, each in declaration order, and where it goes on.
+pub record Declarations : Type 0 where
+  pub elements : List Element
+  pub lists : List AttList
+  pub at : ℕ
+
+-- An attribute definition list declaration whose keyword ends at `at`.
+unfoldable pub attributeList : Settings → List ℕ → (at : ℕ) → List Element → List AttList → Reading Declarations
+attributeList c s at es ls =
+    andThen (gap s at) λ i.
+    andThen (listedElement c s es ls i) λ l.
+    andThen (listFrom c s (l .at)) λ x.
+    got (record { elements = es; lists = ls ++ record { element = l .element; attributes = x .attributes } ∷ []; at = x .at })
+
 -- The type file
 
--- `<!` and a letter: "`<!` and a name of 1 to 8 other than ELEMENT" is number 5, and that too reads "with the given length for 8".
-unfoldable pub keyword : Settings → List ℕ → ℕ → List Element → Reading Declared
-keyword c s i es =
+-- `<!` and a letter: "`<!` and a name of 1 to 8 other than ELEMENT" is number 5, and that too reads "with the given length for 8"; "ATTLIST leaves the
+-- list under 5".
+unfoldable pub keyword : Settings → List ℕ → ℕ → List Element → List AttList → Reading Declarations
+keyword c s i es ls =
     let e = nameEnd s (i + 2) in
     elim (ltb (c .nameLength) (e - (i + 2))) [
       | true ↦ refused 3 (i + 2)
-      | false ↦ elim (isWord s (i + 2) e ELEMENT) [ true ↦ element c s e es | false ↦ refused 5 i ]
+      | false ↦ elim (isWord s (i + 2) e ELEMENT) [
+        | true ↦ andThen (element c s e es) λ d. got (record { elements = d .elements; lists = ls; at = d .at })
+        | false ↦ elim (isWord s (i + 2) e ATTLIST) [ true ↦ attributeList c s e es ls | false ↦ refused 5 i ]
+      ]
     ]
 
 -- `<!` at i: `<!>`, a comment declaration, `<![` (number 5) or a keyword. "No gap stands between `<!` and its keyword."
-unfoldable pub markup : Settings → List ℕ → ℕ → List Element → Reading Declared
-markup c s i es =
+unfoldable pub markup : Settings → List ℕ → ℕ → List Element → List AttList → Reading Declarations
+markup c s i es ls =
     let b = byteAt s (i + 2) in
     elim (eqb b MDC) [
-      | true ↦ got (record { elements = es; at = i + 3 })
+      | true ↦ got (record { elements = es; lists = ls; at = i + 3 })
       | false ↦ elim (eqb b MINUS) [
         | true ↦ elim (eqb (byteAt s (i + 3)) MINUS) [
-          | true ↦ andThen (commentDeclaration s (i + 2)) λ j. got (record { elements = es; at = j })
+          | true ↦ andThen (commentDeclaration s (i + 2)) λ j. got (record { elements = es; lists = ls; at = j })
           | false ↦ refused 4 (i + 3)
         ]
-        | false ↦ elim (eqb b DSO) [ true ↦ refused 5 i | false ↦ elim (letter b) [ true ↦ keyword c s i es | false ↦ refused 4 (i + 2) ] ]
+        | false ↦ elim (eqb b DSO) [ true ↦ refused 5 i | false ↦ elim (letter b) [ true ↦ keyword c s i es ls | false ↦ refused 4 (i + 2) ] ]
       ]
     ]
 
 -- What stands at i, where a declaration may begin and the input does not end.
-unfoldable pub declaration : Settings → List ℕ → ℕ → List Element → Reading Declared
-declaration c s i es =
+unfoldable pub declaration : Settings → List ℕ → ℕ → List Element → List AttList → Reading Declarations
+declaration c s i es ls =
     let b = byteAt s i in
     let second = byteAt s (i + 1) in
     elim (eqb b STAGO) [
-      | true ↦ elim (eqb second EXCLAMATION) [ true ↦ markup c s i es | false ↦ elim (eqb second OPT) [ true ↦ refused 5 i | false ↦ refused 4 (i + 1) ] ]
+      | true ↦ elim (eqb second EXCLAMATION) [ true ↦ markup c s i es ls | false ↦ elim (eqb second OPT) [ true ↦ refused 5 i | false ↦ refused 4 (i + 1) ] ]
       | false ↦ elim (eqb b PERO) [ true ↦ refused 5 i | false ↦ refused 4 i ]
     ]
 
--- "Separators, comment declarations, `<!>` and element declarations", from `at` on. A type file with no element is number 8 at its length.
+-- "Separators, comment declarations, `<!>` and element declarations", and attribute lists, from `at` on. A type file with no element is number 8 at its length.
 -- Each turn but the last takes a declaration, so there are fewer turns than bytes.
-unfoldable pub declarationsWithin : Settings → ℕ → List ℕ → ℕ → List Element → Reading (List Element)
-declarationsWithin c zero s at es = refused 4 (length s)
-declarationsWithin c (suc turns) s at es =
+unfoldable pub declarationsWithin : Settings → ℕ → List ℕ → ℕ → List Element → List AttList → Reading Declarations
+declarationsWithin c zero s at es ls = refused 4 (length s)
+declarationsWithin c (suc turns) s at es ls =
     let i = separatorsEnd s at in
     elim (leb (length s) i) [
-      | true ↦ elim (eqb (length es) 0) [ true ↦ refused 8 (length s) | false ↦ got es ]
-      | false ↦ andThen (declaration c s i es) λ d. declarationsWithin c turns s (d .at) (d .elements)
+      | true ↦ elim (eqb (length es) 0) [ true ↦ refused 8 (length s) | false ↦ got (record { elements = es; lists = ls; at = i }) ]
+      | false ↦ andThen (declaration c s i es ls) λ d. declarationsWithin c turns s (d .at) (d .elements) (d .lists)
     ]
 
+-- The attributes of the list for the element with this number; none where there is no such list.
+unfoldable pub attributesOf : List AttList → ℕ → List Attribute
+attributesOf [] k = []
+attributesOf (l ∷ ls) k = elim (eqb (l .element) k) [ true ↦ l .attributes | false ↦ attributesOf ls k ]
+
+-- Each element with the attributes of its list. The first of these has the number k.
+unfoldable pub listed : ℕ → List AttList → List Element → List Element
+listed k ls [] = []
+listed k ls (e ∷ es) =
+    record { at = e .at; size = e .size; start = e .start; end = e .end; content = e .content; repeated = e .repeated; attributes = attributesOf ls k } ∷ listed (k + 1) ls es
+
 unfoldable pub typeFile : Settings → List ℕ → Reading (List Element)
-typeFile c s = declarationsWithin c (suc (length s)) s 0 []
+typeFile c s = andThen (declarationsWithin c (suc (length s)) s 0 [] []) λ d. got (listed 1 (d .lists) (d .elements))

@@ -3,23 +3,23 @@
 use Prim.Native.Nat.{ℕ, zero, suc, _+_, _-_, _≤_, _<_}
 use mathlib.Core.Path.{_≡_, refl, sym, _∙_, ap, subst}
 use mathlib.Core.Bool.{Bool, true, false, _&&_, _||_}
+use mathlib.Core.Logic.{_⊎_, inl, inr}
 use mathlib.Core.List.{List, [], _∷_, _++_}
 use native.Mathlib.Omega.{arith}
-use lib.ListN.{length, drop}
+use lib.ListN.{length}
 use lib.Dec.{eqb, leb, ltb}
-use borrow.Author.Tests.{eqb-false, ltb-true, ltb-false, leb-false}
+use borrow.Author.Tests.{eqb-false, ltb-false, leb-false}
 use Rattle.rules.specs.Settings.{Settings}
 use Rattle.rules.specs.Bytes.{byteAt, letter, nameEnd, separatorsEnd, elementLimit}
 use Rattle.rules.specs.Reading.{refused, got}
-use Rattle.rules.specs.TypeFile.{atDashes, beforeDashes, commentDeclaration, gapWithin, gap, isWord, O, ELEMENT, Content, ContentEnd, Element, isDeclared, elementName, Word, omission, Head, words, head, content, close, Declared, rest, element, keyword, markup, declaration, declarationsWithin, typeFile, declare}
-use Rattle.text.specs.Laws.{test-in, letter-in, nameEnd-from, nameEnd-le, nameEnd-more, separatorsEnd-from, separatorsEnd-le, dashes-end-in, gap-range}
-use Rattle.rules_laws.specs.Holds.{Holds, stops, reads, got-so, known, so, on, on-same, either}
-use Rattle.rules_laws.specs.In.{In, NameIn}
+use Rattle.rules.specs.Attributes.{Attribute, AttList}
+use Rattle.rules.specs.TypeFile.{commentDeclaration, gap, isWord, O, ELEMENT, ATTLIST, ContentEnd, Element, isDeclared, elementName, Word, omission, Head, words, head, content, close, Declared, rest, element, declaredFrom, isListed, Listed, listedElement, Declarations, attributeList, keyword, markup, declaration, declarationsWithin, attributesOf, listed, typeFile, declare}
+use Rattle.text.specs.Laws.{test-in, letter-in, nameEnd-from, nameEnd-le, nameEnd-more, separatorsEnd-from, separatorsEnd-le}
+use Rattle.rules_laws.specs.Holds.{Holds, stops, reads, got-so, known, so, on, on-same, either, whichever}
+use Rattle.rules_laws.specs.In.{All, none, more, all-snoc, NameIn}
 use Rattle.rules_laws.specs.Groups.{InType, InFrom, unfit-holds, content-read, whatever-builds}
-
--- From i on, within the input.
-abbrev pub Onward : List ℕ → (i j : ℕ) → Type 0
-Onward s i j = (i ≤ j) × (j ≤ length s)
+use Rattle.rules_laws.specs.Gaps.{Onward, gap-within, comment-within}
+use Rattle.rules_laws.specs.Definitions.{InFile, in-file, at-file, early, undeclared, twice, ListRead, list-holds}
 
 -- How the declaration of e was read behind the elements es: its keyword ends at `from`, it ends at `after`, and its content was read at
 -- `begun`, where the parameter before had ended at `before`.
@@ -39,6 +39,7 @@ pub record Declares (c : Settings) (s : List ℕ) (es : List Element) (e : Eleme
   pub begun : ℕ
   pub ends : ℕ
   pub contentRead : content c s before begun ≡ got (record { content = e .content; at = ends; repeated = e .repeated })
+  pub unlisted : e .attributes ≡ []
 
 -- What is known of a name from i to e, of one of the two words, of both, of a head, and of what follows it.
 pub record NameRead (c : Settings) (s : List ℕ) (es : List Element) (i e : ℕ) : Type 0 where
@@ -84,36 +85,67 @@ data Grows (c : Settings) (s : List ℕ) (es : List Element) : List Element → 
   same : Grows c s es es
   one : (e : Element) → Declares c s es e → Grows c s es (es ++ e ∷ [])
 
+-- An attribute list that was read; and the attributes of an element, if it has some.
+abbrev pub ListIn : Settings → List ℕ → AttList → Type 0
+ListIn c s l = ListRead c s (l .attributes)
+
+abbrev pub ListedIn : Settings → List ℕ → List Attribute → Type 0
+ListedIn c s xs = (xs ≡ []) ⊎ ListRead c s xs
+
+-- A declaration adds no list, or one.
+data Adds (c : Settings) (s : List ℕ) (ls : List AttList) : List AttList → Type 0 where
+  nothing : Adds c s ls ls
+  list : (l : AttList) → ListIn c s l → Adds c s ls (ls ++ l ∷ [])
+
+-- An element without its attributes, as it is while the type file is read: they come with a list further on.
+abbrev pub bare : Element → Element
+bare e = record { at = e .at; size = e .size; start = e .start; end = e .end; content = e .content; repeated = e .repeated; attributes = [] }
+
+unfoldable pub bares : List Element → List Element
+bares [] = []
+bares (e ∷ es) = bare e ∷ bares es
+
+abbrev Bare : Element → Type 0
+Bare e = e .attributes ≡ []
+
 record DeclaredRead (c : Settings) (s : List ℕ) (i : ℕ) (es : List Element) (d : Declared) : Type 0 where
   from : i < d .at
   inside : d .at ≤ length s
   grows : Grows c s es (d .elements)
 
+-- What was read up to behind i, where these elements and lists were read before.
+record DeclarationsRead (c : Settings) (s : List ℕ) (i : ℕ) (es : List Element) (ls : List AttList) (d : Declarations) : Type 0 where
+  from : i < d .at
+  inside : d .at ≤ length s
+  grows : Grows c s es (d .elements)
+  lists : Adds c s ls (d .lists)
+
+bare-same : {e : Element} → Bare e → bare e ≡ e
+bare-same {e} h = ap (λ (xs : List Attribute). record { at = e .at; size = e .size; start = e .start; end = e .end; content = e .content; repeated = e .repeated; attributes = xs }) (sym h)
+
+bare-grown : {c : Settings} {s : List ℕ} {es ds : List Element} → Grows c s es ds → All Bare es → All Bare ds
+bare-grown same a = a
+bare-grown (one e d) a = all-snoc a (d .unlisted)
+
+bares-listed : (k : ℕ) (ls : List AttList) {es : List Element} → All Bare es → bares (listed k ls es) ≡ es
+unfolding bares listed
+bares-listed k ls none = refl
+bares-listed k ls (more {x = e} {xs = es} h a) = cong-cons (bare-same h) (bares-listed (k + 1) ls a)
+  where
+    cong-cons : {x y : Element} {xs ys : List Element} → x ≡ y → xs ≡ ys → x ∷ xs ≡ y ∷ ys
+    cong-cons p q = cc
+
+pub bares-length : (es : List Element) → length (bares es) ≡ length es
+unfolding bares
+bares-length [] = refl
+bares-length (e ∷ es) = ap suc (bares-length es)
+
+listed-length : (k : ℕ) (ls : List AttList) (es : List Element) → length (listed k ls es) ≡ length es
+unfolding listed
+listed-length k ls [] = refl
+listed-length k ls (e ∷ es) = ap suc (listed-length (k + 1) ls es)
+
 module _ (s : List ℕ) where
-  -- Comments and gaps
-
-  gapWithin-within : (turns at : ℕ) → at ≤ length s → Holds (InType s) (In s) (gapWithin turns s at)
-  unfolding gapWithin
-  gapWithin-within zero at h = stops {n = 4} {k = length s} (omega arith)
-  gapWithin-within (suc turns) at h =
-      let i = separatorsEnd s at in
-      let l = separatorsEnd-le s at h in
-      let e = i + 2 + beforeDashes (drop (i + 2) s) in
-      either (atDashes s i)
-      (λ d. either (ltb e (length s)) (λ y. gapWithin-within turns (e + 2) (dashes-end-in s (i + 2) e refl (ltb-true _ _ y))) (λ y. stops (omega arith)))
-      (λ d. either (eqb (byteAt s i) 37) (λ y. stops (omega arith)) (λ y. reads l))
-
-  pub gap-within : (at : ℕ) → at ≤ length s → Holds (InType s) (Onward s at) (gap s at)
-  unfolding gap
-  gap-within at h = so (known (gapWithin-within (suc (length s)) at h)) (λ n k x. x) (λ i x. gap-range s at i h (x .0))
-
-  pub comment-within : (at : ℕ) → at ≤ length s → Holds (InType s) (Onward s (at + 1)) (commentDeclaration s at)
-  unfolding commentDeclaration
-  comment-within at h =
-      on (gap-within at h)
-      (λ i r. either (eqb (byteAt s i) 62) (λ x. reads (omega (arith, r, test-in (λ v. eqb v 62) refl s i x)))
-      (λ x. either (eqb (byteAt s i) 45) (λ y. stops (omega (arith, test-in (λ v. eqb v 45) refl s i y))) (λ y. stops (omega (arith, r)))))
-
   -- The end of a declaration
 
   pub close-read : (i : ℕ) → Holds (InFrom s i) (Onward s (i + 1)) (close s i)
@@ -219,6 +251,7 @@ module _ (c : Settings) (s : List ℕ) where
         begun = a .begun;
         ends = a .inner .at;
         contentRead = a .contentRead;
+        unlisted = refl;
       }))
 
   element-read : (i at : ℕ) (es : List Element) → i < at → at ≤ length s → Holds (InType s) (DeclaredRead c s i es) (element c s at es)
@@ -228,71 +261,131 @@ module _ (c : Settings) (s : List ℕ) where
       let (y, w, a) = p in
       record { from = omega (arith, w .from, a .from); inside = a .inside; grows = declares at es y d r w a }
 
+  -- Attribute lists
+
+  pub listed-read : (i : ℕ) (es : List Element) (ls : List AttList) → i ≤ length s → Holds (InFile s) (λ (l : Listed). (i < l .at) × (l .at ≤ length s)) (listedElement c s es ls i)
+  unfolding listedElement
+  listed-read i es ls h =
+      let e = nameEnd s i in
+      let k = declaredFrom 1 s es i (e - i) in
+      either (letter (byteAt s i))
+      (λ x. either (ltb (c .nameLength) (e - i)) (λ y. early s (omega arith))
+      (λ y. either (leb 1 k)
+      (λ z. either (isListed ls k) (λ u. twice s h) (λ u. reads (nameEnd-more s i x, nameEnd-le s i h)))
+      (λ z. undeclared s h)))
+      (λ x. either (eqb (byteAt s i) 40) (λ y. early s (omega arith)) (λ y. unfit-holds s i (λ n k r. in-file s (r h))))
+
+  list-parts : (i at : ℕ) (es : List Element) (ls : List AttList) → i < at → at ≤ length s → Holds (InFile s) (DeclarationsRead c s i es ls) (attributeList c s at es ls)
+  unfolding attributeList
+  list-parts i at es ls h l =
+      on (at-file s (gap-within s at l)) λ j p.
+      on (listed-read j es ls (p .1)) λ y q.
+      on (known (list-holds c s (λ xs. Unit {0}) (λ xs a x d. tt) (y .at) (q .1) tt)) λ z r.
+      reads
+      (record {
+        from = omega (arith, p, q, r .1 .from);
+        inside = r .1 .inside;
+        grows = same;
+        lists = list (record { element = y .element; attributes = z .attributes }) (record { from = y .at; after = z .at; inside = q .1; read = r .0 });
+      })
+
   -- The type file
 
-  keyword-read : (i : ℕ) (es : List Element) → i + 2 ≤ length s → Holds (InType s) (DeclaredRead c s i es) (keyword c s i es)
+  keyword-read : (i : ℕ) (es : List Element) (ls : List AttList) → i + 2 ≤ length s → Holds (InFile s) (DeclarationsRead c s i es ls) (keyword c s i es ls)
   unfolding keyword
-  keyword-read i es h =
+  keyword-read i es ls h =
       let e = nameEnd s (i + 2) in
-      either (ltb (c .nameLength) (e - (i + 2))) (λ x. stops (omega arith))
-      (λ x. either (isWord s (i + 2) e ELEMENT) (λ y. element-read i e es (omega (arith, nameEnd-from s (i + 2))) (nameEnd-le s (i + 2) h)) (λ y. stops (omega arith)))
+      let from : i < e = omega (arith, nameEnd-from s (i + 2)) in
+      either (ltb (c .nameLength) (e - (i + 2))) (λ x. early s (omega arith))
+      (λ x. either (isWord s (i + 2) e ELEMENT)
+      (λ y. on (at-file s (element-read i e es from (nameEnd-le s (i + 2) h))) (λ d r. reads (record { from = r .from; inside = r .inside; grows = r .grows; lists = nothing })))
+      (λ y. either (isWord s (i + 2) e ATTLIST) (λ z. list-parts i e es ls from (nameEnd-le s (i + 2) h)) (λ z. early s (omega arith))))
 
-  markup-read : (i : ℕ) (es : List Element) → i + 2 ≤ length s → Holds (InType s) (DeclaredRead c s i es) (markup c s i es)
+  markup-read : (i : ℕ) (es : List Element) (ls : List AttList) → i + 2 ≤ length s → Holds (InFile s) (DeclarationsRead c s i es ls) (markup c s i es ls)
   unfolding markup
-  markup-read i es h =
+  markup-read i es ls h =
       let b = byteAt s (i + 2) in
-      either (eqb b 62) (λ x. reads (record { from = omega arith; inside = omega (arith, test-in (λ v. eqb v 62) refl s (i + 2) x); grows = same }))
+      either (eqb b 62) (λ x. reads (record { from = omega arith; inside = omega (arith, test-in (λ v. eqb v 62) refl s (i + 2) x); grows = same; lists = nothing }))
       (λ x. either (eqb b 45)
-      (λ y. either (eqb (byteAt s (i + 3)) 45) (λ z. on (comment-within s (i + 2) h) (λ j l. reads (record { from = omega (arith, l); inside = l .1; grows = same })))
-      (λ z. stops (omega (arith, test-in (λ v. eqb v 45) refl s (i + 2) y))))
-      (λ y. either (eqb b 91) (λ z. stops (omega arith)) (λ z. either (letter b) (λ u. keyword-read i es h) (λ u. stops (omega arith)))))
+      (λ y. either (eqb (byteAt s (i + 3)) 45) (λ z. on (at-file s (comment-within s (i + 2) h)) (λ j l. reads (record { from = omega (arith, l); inside = l .1; grows = same; lists = nothing })))
+      (λ z. early s (omega (arith, test-in (λ v. eqb v 45) refl s (i + 2) y))))
+      (λ y. either (eqb b 91) (λ z. early s (omega arith)) (λ z. either (letter b) (λ u. keyword-read i es ls h) (λ u. early s (omega arith)))))
 
-  declaration-read : (i : ℕ) (es : List Element) → i < length s → Holds (InType s) (DeclaredRead c s i es) (declaration c s i es)
+  declaration-read : (i : ℕ) (es : List Element) (ls : List AttList) → i < length s → Holds (InFile s) (DeclarationsRead c s i es ls) (declaration c s i es ls)
   unfolding declaration
-  declaration-read i es h =
+  declaration-read i es ls h =
       let b = byteAt s i in
       let second = byteAt s (i + 1) in
       either (eqb b 60)
-      (λ x. either (eqb second 33) (λ y. markup-read i es (omega (arith, test-in (λ v. eqb v 33) refl s (i + 1) y)))
-      (λ y. either (eqb second 63) (λ z. stops (omega arith)) (λ z. stops (omega arith))))
-      (λ x. either (eqb b 37) (λ y. stops (omega arith)) (λ y. stops (omega arith)))
+      (λ x. either (eqb second 33) (λ y. markup-read i es ls (omega (arith, test-in (λ v. eqb v 33) refl s (i + 1) y)))
+      (λ y. either (eqb second 63) (λ z. early s (omega arith)) (λ z. early s (omega arith))))
+      (λ x. either (eqb b 37) (λ y. early s (omega arith)) (λ y. early s (omega arith)))
 
-  -- What holds where nothing is declared, and with a further element, holds of what is read.
+  listed-in : {ls ms : List AttList} → Adds c s ls ms → All (ListIn c s) ls → All (ListIn c s) ms
+  listed-in nothing a = a
+  listed-in (list l r) a = all-snoc a r
+
+  -- The attributes of an element were read as its list, or it has none.
+  attributes-in : {ls : List AttList} → All (ListIn c s) ls → (k : ℕ) → ListedIn c s (attributesOf ls k)
+  unfolding attributesOf
+  attributes-in none k = inl refl
+  attributes-in (more {x = l} r a) k = whichever (ListedIn c s) (eqb (l .element) k) (λ e. inr r) (λ e. attributes-in a k)
+
+  listed-each : {ls : List AttList} → All (ListIn c s) ls → (k : ℕ) (es : List Element) → All (λ (e : Element). ListedIn c s (e .attributes)) (listed k ls es)
+  unfolding listed
+  listed-each a k [] = none
+  listed-each a k (e ∷ es) = more (attributes-in a k) (listed-each a (k + 1) es)
+
+  -- What holds where nothing is declared, and with a further element, holds of what is read, but for the attributes, which come behind. Those of each element are its
+  -- list's.
   module _ (I : List Element → Type 0) (further : (es : List Element) (e : Element) → I es → Declares c s es e → I (es ++ e ∷ [])) where
     grown : {es ds : List Element} → Grows c s es ds → I es → I ds
     grown same x = x
     grown {es} (one e d) x = further es e x d
 
-    declarations-hold : (turns at : ℕ) (es : List Element) → at ≤ length s → I es → Holds (InType s) (λ (ds : List Element). (1 ≤ length ds) × I ds) (declarationsWithin c turns s at es)
+    record Whole (d : Declarations) : Type 0 where
+      some : 1 ≤ length (d .elements)
+      each : I (d .elements)
+      bare : All Bare (d .elements)
+      lists : All (ListIn c s) (d .lists)
+
+    declarations-hold : (turns at : ℕ) (es : List Element) (ls : List AttList) → at ≤ length s → I es → All Bare es → All (ListIn c s) ls → Holds (InFile s) Whole (declarationsWithin c turns s at es ls)
     unfolding declarationsWithin
-    declarations-hold zero at es h x = stops {n = 4} {k = length s} (omega arith)
-    declarations-hold (suc turns) at es h x =
+    declarations-hold zero at es ls h x y z = early s {n = 4} {k = length s} (omega arith)
+    declarations-hold (suc turns) at es ls h x y z =
         let i = separatorsEnd s at in
         either (leb (length s) i)
-        (λ y. either (eqb (length es) 0) (λ z. stops (omega arith)) (λ z. reads (omega (arith, eqb-false (length es) 0 z), x)))
-        (λ y. on (declaration-read i es (leb-false _ _ y)) (λ d r. declarations-hold turns (d .at) (d .elements) (r .inside) (grown (r .grows) x)))
+        (λ u. either (eqb (length es) 0) (λ v. early s (omega arith)) (λ v. reads (record { some = omega (arith, eqb-false (length es) 0 v); each = x; bare = y; lists = z })))
+        (λ u. on (declaration-read i es ls (leb-false _ _ u))
+        (λ d r. declarations-hold turns (d .at) (d .elements) (d .lists) (r .inside) (grown (r .grows) x) (bare-grown (r .grows) y) (listed-in (r .lists) z)))
 
-    pub typeFile-holds : I [] → Holds (InType s) (λ (es : List Element). (1 ≤ length es) × I es) (typeFile c s)
+    pub typeFile-holds : I [] → Holds (InFile s) (λ (es : List Element). (1 ≤ length es) × I (bares es) × All (λ (e : Element). ListedIn c s (e .attributes)) es) (typeFile c s)
     unfolding typeFile
-    typeFile-holds x = declarations-hold (suc (length s)) 0 [] (omega arith) x
+    typeFile-holds x =
+        on (declarations-hold (suc (length s)) 0 [] [] (omega arith) x none none) λ d r.
+        reads (
+          omega (arith, r .some, listed-length 1 (d .lists) (d .elements)),
+          subst I (sym (bares-listed 1 (d .lists) (r .bare))) (r .each),
+          listed-each (r .lists) 1 (d .elements),
+        )
 
   -- The bound on the turns is never reached: any two that are enough give the same.
-  pub declarations-enough : (m n at : ℕ) (es : List Element) → at ≤ length s → length s - at < m → length s - at < n → declarationsWithin c m s at es ≡ declarationsWithin c n s at es
+  pub declarations-enough : (m n at : ℕ) (es : List Element) (ls : List AttList) → at ≤ length s → length s - at < m → length s - at < n → declarationsWithin c m s at es ls ≡ declarationsWithin c n s at es ls
   unfolding declarationsWithin
-  declarations-enough zero n at es h i j = absurd (omega arith)
-  declarations-enough (suc m) zero at es h i j = absurd (omega arith)
-  declarations-enough (suc m) (suc n) at es h i j = go (leb (length s) k) refl (λ d r. declarations-enough m n (d .at) (d .elements) (r .inside))
+  declarations-enough zero n at es ls h i j = absurd (omega arith)
+  declarations-enough (suc m) zero at es ls h i j = absurd (omega arith)
+  declarations-enough (suc m) (suc n) at es ls h i j = go (leb (length s) k) refl (λ d r. declarations-enough m n (d .at) (d .elements) (d .lists) (r .inside))
     where
       k : ℕ
       k = separatorsEnd s at
 
       go : (b : Bool) → leb (length s) k ≡ b
-          → ((d : Declared) → DeclaredRead c s k es d → length s - d .at < m → length s - d .at < n → declarationsWithin c m s (d .at) (d .elements) ≡ declarationsWithin c n s (d .at) (d .elements))
-          → declarationsWithin c (suc m) s at es ≡ declarationsWithin c (suc n) s at es
+          → ((d : Declarations) → DeclarationsRead c s k es ls d → length s - d .at < m → length s - d .at < n → declarationsWithin c m s (d .at) (d .elements) (d .lists) ≡ declarationsWithin c n s (d .at) (d .elements) (d .lists))
+          → declarationsWithin c (suc m) s at es ls ≡ declarationsWithin c (suc n) s at es ls
       go true e ih = rw (declarationsWithin, e)
       go false e ih =
           rw (declarationsWithin, e)
-          (on-same (so (declaration-read k es (leb-false _ _ e)) (λ n p x. tt) (λ d r. r))
+          (on-same (so (declaration-read k es ls (leb-false _ _ e)) (λ n p x. tt) (λ d r. r))
           (λ d r. ih d r (omega (arith, r .from, r .inside, separatorsEnd-from s at)) (omega (arith, r .from, r .inside, separatorsEnd-from s at))))
 
 -- Where a word, the words and the end of a declaration lead.

@@ -4,6 +4,8 @@ pub mod Both
 pub mod Offered
 pub mod In
 pub mod Groups
+pub mod Gaps
+pub mod Definitions
 pub mod Declarations
 pub mod Within
 pub mod Pieces

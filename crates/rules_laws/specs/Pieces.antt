@@ -1,9 +1,9 @@
 -- The pieces of a document, walked once: where a piece stands, what its name is, and by which numbers and where it is refused.
-use Prim.Native.Nat.{ℕ, _+_, _-_, _≤_, _<_}
+use Prim.Native.Nat.{ℕ, zero, suc, _+_, _-_, _≤_, _<_}
 use mathlib.Core.Path.{_≡_, refl}
 use mathlib.Core.Bool.{true, _&&_, _||_}
 use mathlib.Core.Logic.{_⊎_, inl, inr}
-use mathlib.Core.List.{List}
+use mathlib.Core.List.{List, [], _∷_, _++_}
 use native.Mathlib.Omega.{arith}
 use lib.ListN.{length}
 use lib.Dec.{eqb, ltb}
@@ -12,15 +12,25 @@ use Rattle.rules.specs.Settings.{Settings}
 use Rattle.rules.specs.Bytes.{byteAt, letter, nameEnd, separatorsEnd}
 use Rattle.rules.specs.Reading.{Reading, refused}
 use Rattle.rules.specs.TypeFile.{atDashes, commentDeclaration}
-use Rattle.rules.specs.Document.{Tag, Piece, startTag, endTag, skipped, blank, dataByte, tag, malformed, declarationPiece, markupPiece, isReference, isSectionEnd, bytePiece, piece}
+use Rattle.rules.specs.Attributes.{quote, isReference, literalEnd}
+use Rattle.rules.specs.Document.{Written, Tag, Piece, startTag, endTag, skipped, blank, dataByte, tag, specification, specifications, startTagAt, malformed, declarationPiece, markupPiece, isSectionEnd, bytePiece, piece}
 use Rattle.text.specs.Laws.{test-in, letter-in, nameEnd-from, nameEnd-le, nameEnd-more, separatorsEnd-from, separatorsEnd-le, second, dashes-in}
-use Rattle.rules_laws.specs.Holds.{Holds, stops, reads, Gives, each, on, either}
+use Rattle.rules_laws.specs.Holds.{Holds, stops, reads, Gives, each, so, on, either}
 use Rattle.rules_laws.specs.Groups.{InType}
-use Rattle.rules_laws.specs.Declarations.{Onward, comment-within}
+use Rattle.rules_laws.specs.In.{All, none, more, all-snoc}
+use Rattle.rules_laws.specs.Gaps.{Onward, comment-within}
+use Rattle.rules_laws.specs.Definitions.{literal-holds}
 
 -- A piece is refused by 3 to 5 or 17, in the document.
 abbrev pub InPiece : List ℕ → (number position : ℕ) → Type 0
 InPiece d n k = (((3 ≤ n) × (n ≤ 5)) ⊎ (n ≡ 17)) × (k ≤ length d)
+
+-- An attribute of a tag that ends at `after`: its name, which begins with a letter, stands before the opening quote, and the literal before the end.
+pub record WrittenIn (d : List ℕ) (after : ℕ) (w : Written) : Type 0 where
+  pub some : 1 ≤ w .size
+  pub named : letter (byteAt d (w .at)) ≡ true
+  pub parted : w .at + w .size < w .quote
+  pub ends : w .quote + 1 + w .length + 1 < after
 
 -- A tag behind i: its name begins behind i, with a letter, and ends before the tag does. How long it may be: `tag-short`.
 pub record TagRead (d : List ℕ) (i : ℕ) (t : Tag) : Type 0 where
@@ -29,6 +39,7 @@ pub record TagRead (d : List ℕ) (i : ℕ) (t : Tag) : Type 0 where
   pub named : letter (byteAt d (t .name)) ≡ true
   pub ends : t .name + t .size < t .after
   pub inside : t .after ≤ length d
+  pub given : All (WrittenIn d (t .after)) (t .written)
 
 abbrev pub PieceRead : List ℕ → (i : ℕ) → Piece → Type 0
 PieceRead d i (startTag t) = TagRead d i t
@@ -100,14 +111,83 @@ module _ (c : Settings) (d : List ℕ) where
       either (ltb (c .nameLength) (e - at)) (λ x. early d (omega arith))
       (λ x. either (eqb (byteAt d j) 62)
       (λ y.
-      reads (record { behind = h; some = omega (arith, nameEnd-more d at l); named = l; ends = omega arith; inside = omega (arith, test-in (λ v. eqb v 62) refl d j y) }))
+      reads (record { behind = h; some = omega (arith, nameEnd-more d at l); named = l; ends = omega arith; inside = omega (arith, test-in (λ v. eqb v 62) refl d j y); given = none }))
       (λ y. early d (omega arith)))
+
+  -- A start tag
+
+  literal-piece : (i : ℕ) → Holds (InPiece d) (λ (e : ℕ). (i < e) × (e < length d)) (literalEnd d i)
+  literal-piece i = so (literal-holds d i) (λ n k x. (inl (omega (arith, x), omega (arith, x)), omega (arith, x))) (λ e x. x)
+
+  -- The literal ends at the closing quote.
+  record SpecificationRead (i : ℕ) (w : Written) : Type 0 where
+    at : w .at ≡ i
+    some : 1 ≤ w .size
+    parted : w .at + w .size < w .quote
+    inside : w .quote + 1 + w .length < length d
+
+  specification-read : (i : ℕ) → letter (byteAt d i) ≡ true → Holds (InPiece d) (SpecificationRead i) (specification c d i)
+  unfolding specification
+  specification-read i l =
+      let e = nameEnd d i in
+      let j = separatorsEnd d e in
+      let k = separatorsEnd d (j + 1) in
+      let inside = letter-in d i l in
+      let more = nameEnd-more d i l in
+      let le = nameEnd-le d i (omega arith) in
+      let behind = separatorsEnd-from d e in
+      let within = separatorsEnd-le d e le in
+      let next = separatorsEnd-from d (j + 1) in
+      either (ltb (c .nameLength) (e - i)) (λ x. early d (omega arith))
+      (λ x. either (eqb (byteAt d j) 61)
+      (λ y.
+      let last = separatorsEnd-le d (j + 1) (omega (arith, test-in (λ v. eqb v 61) refl d j y)) in
+      either (quote (byteAt d k))
+      (λ z. on (literal-piece k) (λ q r. reads (record { at = refl; some = omega arith; parted = omega arith; inside = omega (arith, r) })))
+      (λ z. early d (omega arith)))
+      (λ y. early d (omega arith)))
+
+  -- What stands before the end of a tag stands before it where the tag goes on.
+  written-further : (from to : ℕ) → from ≤ to → {ws : List Written} → All (WrittenIn d from) ws → All (WrittenIn d to) ws
+  written-further from to h none = none
+  written-further from to h (more {x = w} {xs = ws} p a) = more {x = w} (record { some = p .some; named = p .named; parted = p .parted; ends = omega (arith, p .ends) }) (written-further from to h {ws = ws} a)
+
+  specifications-read : (i turns name e at : ℕ) (ws : List Written) → i < name → 1 ≤ e - name → letter (byteAt d name) ≡ true → e ≤ at → at ≤ length d → All (WrittenIn d (at + 1)) ws
+      → Holds (InPiece d) (TagRead d i) (specifications c turns d name e at ws)
+  unfolding specifications
+  specifications-read i zero name e at ws h m l f g a = early d {n = 4} {k = length d} (omega arith)
+  specifications-read i (suc turns) name e at ws h m l f g a =
+      let j = separatorsEnd d at in
+      let from = separatorsEnd-from d at in
+      let le = separatorsEnd-le d at g in
+      either (eqb (byteAt d j) 62)
+      (λ x.
+      let inside = test-in (λ v. eqb v 62) refl d j x in
+      reads (record { behind = h; some = m; named = l; ends = omega arith; inside = omega arith; given = written-further (at + 1) (j + 1) (omega arith) a }))
+      (λ x. either (letter (byteAt d j))
+      (λ y. on (specification-read j y) λ w r.
+      let on-to = w .quote + 1 + w .length + 1 in
+      let parted = r .parted in
+      let begins = r .at in
+      specifications-read i turns name e on-to (ws ++ w ∷ []) h m l (omega arith) (omega (arith, r .inside))
+      (all-snoc (written-further (at + 1) (on-to + 1) (omega arith) a) (record { some = r .some; named = rw begins y; parted = parted; ends = omega arith })))
+      (λ y. early d (omega arith)))
+
+  start-read : (i at : ℕ) → i < at → letter (byteAt d at) ≡ true → Holds (InPiece d) (TagRead d i) (startTagAt c d at)
+  unfolding startTagAt
+  start-read i at h l =
+      let e = nameEnd d at in
+      let inside = letter-in d at l in
+      let le = nameEnd-le d at (omega arith) in
+      let more = nameEnd-more d at l in
+      either (ltb (c .nameLength) (e - at)) (λ x. early d (omega arith))
+      (λ x. specifications-read i (suc (length d)) at e e [] h (omega arith) l (omega arith) le none)
 
   markup-read : (i : ℕ) → i < length d → Holds (InPiece d) (PieceRead d i) (markupPiece c d i)
   unfolding markupPiece
   markup-read i h =
       let b = byteAt d (i + 1) in
-      either (letter b) (λ x. on (tag-read i (i + 1) (omega arith) x) (λ t r. reads r))
+      either (letter b) (λ x. on (start-read i (i + 1) (omega arith) x) (λ t r. reads r))
       (λ x. either (eqb b 47 && letter (byteAt d (i + 2))) (λ y. on (tag-read i (i + 2) (omega arith) (second (eqb b 47) (letter (byteAt d (i + 2))) y)) (λ t r. reads r))
       (λ y. either (eqb b 33) (λ z. declaration-read d i h) (λ z. either (eqb b 63) (λ u. early d (omega arith)) (λ u. reads tt))))
 
@@ -126,11 +206,25 @@ module _ (c : Settings) (d : List ℕ) where
       let j = separatorsEnd d e in
       either (ltb (c .nameLength) (e - at)) (λ x. stops tt) (λ x. either (eqb (byteAt d j) 62) (λ y. reads (ltb-false _ _ x)) (λ y. stops tt))
 
+  specifications-short : (turns name e at : ℕ) (ws : List Written) → e - name ≤ c .nameLength → Gives (λ (t : Tag). t .size ≤ c .nameLength) (specifications c turns d name e at ws)
+  unfolding specifications
+  specifications-short zero name e at ws h = stops tt
+  specifications-short (suc turns) name e at ws h =
+      let j = separatorsEnd d at in
+      either (eqb (byteAt d j) 62) (λ x. reads h)
+      (λ x. either (letter (byteAt d j))
+      (λ y. on (each {P = λ (w : Written). Unit {0}} (specification c d j) (λ n k e. tt) (λ w e. tt)) (λ w r. specifications-short turns name e (w .quote + 1 + w .length + 1) (ws ++ w ∷ []) h))
+      (λ y. stops tt))
+
+  start-short : (at : ℕ) → Gives (λ (t : Tag). t .size ≤ c .nameLength) (startTagAt c d at)
+  unfolding startTagAt
+  start-short at = let e = nameEnd d at in either (ltb (c .nameLength) (e - at)) (λ x. stops tt) (λ x. specifications-short (suc (length d)) at e e [] (ltb-false _ _ x))
+
   markup-short : (i : ℕ) → Gives (ShortPiece (c .nameLength)) (markupPiece c d i)
   unfolding markupPiece
   markup-short i =
       let b = byteAt d (i + 1) in
-      either (letter b) (λ x. on (tag-short (i + 1)) (λ t r. reads r))
+      either (letter b) (λ x. on (start-short (i + 1)) (λ t r. reads r))
       (λ x. either (eqb b 47 && letter (byteAt d (i + 2))) (λ y. on (tag-short (i + 2)) (λ t r. reads r))
       (λ y. either (eqb b 33) (λ z. declaration-short d (c .nameLength) i) (λ z. either (eqb b 63) (λ u. stops tt) (λ u. reads tt))))
 

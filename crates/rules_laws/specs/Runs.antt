@@ -10,7 +10,7 @@ use lib.Dec.{eqb}
 use Rattle.rules.specs.Settings.{Settings, settings, leastNameLength}
 use Rattle.rules.specs.Bytes.{byteAt, letter, SOLIDUS, STAGO}
 use Rattle.rules.specs.Reading.{Reading, refused, got, andThen}
-use Rattle.rules.specs.Document.{Tag, Piece, startTag, endTag, skipped, blank, dataByte, tag, markupPiece, piece}
+use Rattle.rules.specs.Document.{Tag, Piece, startTag, endTag, skipped, blank, dataByte, tag, startTagAt, markupPiece, piece}
 
 -- Whether a piece goes on a run of data.
 abbrev pub isRun : Reading Piece → Bool
@@ -94,7 +94,7 @@ module _ (c e : Settings) (d : List ℕ) (i : ℕ) where
   unfolding markupPiece
   markup-alike =
       let b = byteAt d (i + 1) in
-      branch (letter b) (record { going = start-stops (tag c d (i + 1)) ∙ sym (start-stops (tag e d (i + 1))) })
+      branch (letter b) (record { going = start-stops (startTagAt c d (i + 1)) ∙ sym (start-stops (startTagAt e d (i + 1))) })
       (branch (eqb b SOLIDUS && letter (byteAt d (i + 2))) (record { going = end-stops (tag c d (i + 2)) ∙ sym (end-stops (tag e d (i + 2))) }) (record { going = refl }))
 
   piece-alike : Alike (piece c d i) (piece e d i)

@@ -1,12 +1,14 @@
 // How a start tag or a run of data is settled among the open elements: the four steps, one after the other.
 //
-// `rows`, `places` and `facts` are the tables of the type (crate type_tables). x is the element that starts, or 0 for data. n is how
+// `rows`, `places` and `facts` are the tables of the type (crate type_tables), `lists` its attributes (crate list_table), `marks` those that a start tag gives (crate
+// attribute_marks). x is the element that starts, or 0 for data. n is how
 // many events there are so far; they are put to `numbers` and `bytes` (crate event_buffer).
 // Where the tables are no type's, or the state stands in none, what a token brings is not decided, but that the state's numbers are in range,
 // that the refusal number is below 20, and that so many events were put as are counted.
 use layout::BEGUN;
 use layout::ElementNo;
 use layout::FACTS;
+use layout::MARKS;
 use layout::PLACES;
 use layout::ROWS;
 use open_elements::Open;
@@ -23,6 +25,8 @@ pub fn token(
     facts: &[u8; FACTS],
     members: &[u8],
     begun: &mut [u32; BEGUN],
+    lists: &[u16],
+    marks: &[u16; MARKS],
     state: Open,
     x: ElementNo,
     at: usize,
@@ -31,8 +35,8 @@ pub fn token(
     numbers: &mut [u32],
     bytes: &mut [u8],
 ) -> Outcome
-    requires { ⌜ Ranged state × (x .0 ≤ 64) × (at ≤ after) × (after < 4294967296) × (n + 50 < 4294967296) ⌝ }
-    ensures { λ r. ⌜ Settles (now (rows .entry)) (now (places .entry)) (now (facts .entry)) (now (members .entry)) (x .0) at after n state (now (begun .entry)) (now (numbers .entry)) (now (bytes .entry)) r (now (begun .exit)) (now (numbers .exit)) (now (bytes .exit)) ⌝ }
+    requires { ⌜ Ranged state × (x .0 ≤ 64) × (at ≤ after) × (after < 4294967296) × (n + 1100 < 4294967296) ⌝ }
+    ensures { λ r. ⌜ Settles (now (rows .entry)) (now (places .entry)) (now (facts .entry)) (now (members .entry)) (now (lists .entry)) (now (marks .entry)) (x .0) at after n state (now (begun .entry)) (now (numbers .entry)) (now (bytes .entry)) r (now (begun .exit)) (now (numbers .exit)) (now (bytes .exit)) ⌝ }
 {
     if ways::is_over(state) {
         return Outcome {
@@ -56,7 +60,7 @@ pub fn token(
     );
     let found = f.found;
     let starts = ways::starts_of(found);
-    let m = f.events;
+    let mut m = f.events;
     let mut o = f.open;
     if 24 < o.count + starts {
         return Outcome {
@@ -67,18 +71,10 @@ pub fn token(
     }
     let mut k = 0;
     while k < starts {
-        o = inferring::infer_start(
-            rows,
-            places,
-            facts,
-            members,
-            begun,
-            o,
-            at,
-            m + k,
-            numbers,
-            bytes,
-        );
+        let e = inferring::next_start(places, facts, o);
+        m = attribute_events::put_defaults(lists, e, m, numbers, bytes);
+        o = inferring::infer_start(rows, members, begun, o, e, at, m, numbers, bytes);
+        m += 1;
         k += 1;
     }
     placing::placed(
@@ -87,12 +83,14 @@ pub fn token(
         facts,
         members,
         begun,
+        lists,
+        marks,
         o,
         found,
         x,
         at,
         after,
-        m + starts,
+        m,
         numbers,
         bytes,
     )

@@ -79,3 +79,20 @@ pub extern "C" fn sgml_read(
     *answer = six;
     six[0]
 }
+
+// The attributes of a type for C. `name_length` is how long a name may be; `buffer` gets nine numbers of four bytes for each attribute, or is zeroed; `answer`
+// gets the refusal number, input, position, the two places and the count. The refusal number is returned as well.
+#[no_mangle]
+pub extern "C" fn sgml_attributes(
+    type_file: &[u8],
+    buffer: &mut [u8],
+    answer: &mut [u32; 6],
+    name_length: u32,
+) -> u32
+    ensures { λ r. ⌜ ListedNumbers (settings «name_length») (now («type_file» .entry)) (now (buffer .entry)) r (now (answer .exit)) (now (buffer .exit)) ⌝ }
+{
+    let v = attribute_records::list_to_bytes(chosen(name_length), type_file, buffer);
+    let six = numbers_of(v);
+    *answer = six;
+    six[0]
+}

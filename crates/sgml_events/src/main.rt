@@ -3,16 +3,18 @@
 use document_reader::Answer;
 use file_reader::Loaded;
 use inputs::Settings;
+use layout::ATTRIBUTE_RECORDS;
 use layout::PROGRAM_ROOM;
 use layout::RECORDS;
 use libc::STDOUT_FILENO;
+use type_judge::Verdict;
 ghost use mathlib.Core.Path.{_≡_};
 ghost use Prim.Native.Nat.{_≤_};
 ghost use lib.ListN.{length, take};
 ghost use Rattle.io.specs.Counts.{Counts};
 ghost use Rattle.rules.specs.Printed.{programSettings, Prints};
 ghost use Rattle.inputs.specs.Means.{settingsOf};
-ghost use Rattle.sgml_events.specs.Means.{Accepted, EventsPut, Whole};
+ghost use Rattle.sgml_events.specs.Means.{Accepted, ListedIn, EventsPut, Whole};
 
 // What the program gives: names of at most 8 bytes.
 fn given() -> Settings
@@ -21,7 +23,20 @@ fn given() -> Settings
     Settings { name_length: 8 }
 }
 
-// The text of n events of a document whose type is accepted; the judge gives where its elements' names stand. What out holds behind the text
+// How many attributes a type has that is accepted, and their records.
+fn listed(s: &[u8], attributes: &mut [u32; ATTRIBUTE_RECORDS]) -> usize
+    requires { ⌜ Accepted (now s) ⌝ }
+    ensures { λ r. ⌜ ListedIn (now (s .entry)) (now (attributes .exit)) r ⌝ }
+{
+    let v = attribute_records::list(given(), s, attributes);
+    match v {
+        Verdict::Accepted(t) => t,
+        Verdict::Malformed(_) => 0,
+        Verdict::Ambiguous(_) => 0,
+    }
+}
+
+// The text of n events of a document whose type is accepted; the judge gives where its elements' names stand, and the list of attributes where theirs do. What out holds behind the text
 // is decided neither here nor below.
 fn put_events(out: &mut [u8], s: &[u8], numbers: &[u32; PROGRAM_ROOM], n: usize) -> usize
     requires { ⌜ (294984 ≤ length (now out)) × Accepted (now s) × (n ≤ 4096) ⌝ }
@@ -29,7 +44,9 @@ fn put_events(out: &mut [u8], s: &[u8], numbers: &[u32; PROGRAM_ROOM], n: usize)
 {
     let mut elements = [0u32; RECORDS];
     type_judge::judge(given(), s, &mut elements);
-    event_lines::put_events(out, s, &elements, numbers, n)
+    let mut attributes = [0u32; ATTRIBUTE_RECORDS];
+    let total = listed(s, &mut attributes);
+    event_lines::put_events(out, s, &elements, &attributes, total, numbers, n)
 }
 
 // The text that is printed for a type file and a document, at the start of out.

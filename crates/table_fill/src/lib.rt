@@ -128,13 +128,24 @@ fn put_places(
     }
 }
 
-// Both omissions and the content of the element e.
-fn put_facts(facts: &mut [u8; FACTS], elements: &[u32; RECORDS], e: ElementNo)
+// Whether the start of the element e may be inferred, both omissions being recorded: "O", and none of its attributes is required.
+fn start_fact(elements: &[u32; RECORDS], lists: &[u16], e: ElementNo) -> u8
     requires { ⌜ (1 ≤ e .0) × (e .0 ≤ 64) × Flags (now elements) (e .0) ⌝ }
-    ensures { λ _. ⌜ now (facts .exit) ≡ factsPut (now (facts .entry)) (now (elements .entry)) (e .0) ⌝ }
+    ensures { λ r. ⌜ ((s : List ℕ) (es : List Element) → Recorded (now (elements .entry)) es → Lists s es (now (lists .entry)) → r ≡ flag (startO es (e .0))) ⌝ }
+{
+    if list_table::needs_tag(lists, e) {
+        return 0;
+    }
+    elements[6 * (e.0 - 1) + 2] as u8
+}
+
+// Whether the start of the element e may be inferred, whether its end may be omitted, and its content.
+fn put_facts(facts: &mut [u8; FACTS], elements: &[u32; RECORDS], lists: &[u16], e: ElementNo)
+    requires { ⌜ (1 ≤ e .0) × (e .0 ≤ 64) × Flags (now elements) (e .0) ⌝ }
+    ensures { λ _. ⌜ now (facts .exit) ≡ factsPut (now (facts .entry)) (now (elements .entry)) (now (lists .entry)) (e .0) ⌝ }
 {
     let k = 6 * (e.0 - 1);
-    facts[e.0 * FACT + 65] = elements[k + 2] as u8;
+    facts[e.0 * FACT + 65] = start_fact(elements, lists, e);
     facts[e.0 * FACT + 66] = elements[k + 3] as u8;
     facts[e.0 * FACT + 67] = elements[k + 4] as u8;
 }
@@ -170,6 +181,7 @@ fn put_element(
     long: usize,
     s: &[u8],
     elements: &[u32; RECORDS],
+    lists: &[u16],
     index: &[u8; INDEX],
     rows: &mut [u8; ROWS],
     places: &mut [u8; PLACES],
@@ -182,7 +194,7 @@ fn put_element(
     requires { ⌜ ElementDue (settings long) (now s) (elementsOf (settings long) (now s)) (now elements) (now index) (now rows) (now places) (now facts) (now members) (e .0) ⌝ }
     ensures { λ _. ⌜ Filled (now (s .entry)) (elementsOf (settings long) (now (s .entry))) (now (rows .exit)) (now (places .exit)) (now (facts .exit)) (now (members .exit)) (e .0 + 1) ⌝ }
 {
-    put_facts(facts, elements, e);
+    put_facts(facts, elements, lists, e);
     let r = element_reader::element_at(
         long,
         s,
@@ -218,6 +230,7 @@ pub fn fill(
     long: usize,
     s: &[u8],
     elements: &[u32; RECORDS],
+    lists: &[u16],
     count: usize,
     index: &[u8; INDEX],
     rows: &mut [u8; ROWS],
@@ -226,7 +239,7 @@ pub fn fill(
     members: &mut [u8],
 )
     requires { ⌜ Judged (settings long) (now s) (now elements) count ⌝ }
-    requires { ⌜ ((es : List Element) × Accepts (settings long) (now s) es × Indexed (now s) es (now elements) (now index)) ⌝ }
+    requires { ⌜ ((es : List Element) × Accepts (settings long) (now s) es × Indexed (now s) es (now elements) (now index) × Lists (settings long) (now s) es (now lists)) ⌝ }
     requires { ⌜ (now rows ≡ replicate ROWS 0) × (now places ≡ replicate PLACES 0) × (now facts ≡ replicate FACTS 0) ⌝ }
     requires { ⌜ NoMembers (now s) (now members) ⌝ }
     ensures { λ _. ⌜ ((es : List Element) → Accepts (settings long) (now (s .entry)) es → length es ≡ count → Recorded (now (elements .entry)) es →
@@ -241,6 +254,7 @@ pub fn fill(
             long,
             s,
             elements,
+            lists,
             index,
             rows,
             places,

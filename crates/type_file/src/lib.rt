@@ -1,7 +1,10 @@
-// The whole type file: separators, comment declarations and element declarations to its end, or the first refusal.
+// The whole type file: separators, comment declarations, element declarations and attribute lists to its end, or the first refusal.
+//
+// `heads` is that of the crate attribute_lists.
 use element_records::Clash;
 use element_records::Progress;
 use element_records::Step;
+use layout::ELEMENTS;
 use layout::MODEL;
 use layout::NAMES;
 use layout::RECORDS;
@@ -14,8 +17,10 @@ ghost use lib.ListN.{length};
 ghost use Rattle.rules.specs.Settings.{settings};
 ghost use Rattle.rules.specs.TypeFile.{keyword, markup, declaration, typeFile};
 ghost use Rattle.rules.specs.TypeFile as rules;
-ghost use Rattle.element_records.specs.Progress.{KeepsProgress, InProgress, MeetsStep};
-ghost use Rattle.type_file.specs.File.{MeetsFile};
+ghost use Rattle.rules.specs.Attributes.{AttList};
+ghost use Rattle.attribute_lists.specs.Means.{Headed};
+ghost use Rattle.element_records.specs.Progress.{KeepsProgress, InProgress};
+ghost use Rattle.type_file.specs.File.{MeetsDeclarations, MeetsFile};
 
 fn refusal(number: u32, at: usize) -> Step
     ensures { λ r. ⌜ r ≡ Step.Refused (record { number = number; at = at }) ⌝ }
@@ -33,13 +38,14 @@ fn keyword_at(
     i: usize,
     p: Progress,
     elements: &mut [u32; RECORDS],
+    heads: &mut [u16; ELEMENTS],
     names: &mut [u32; NAMES],
     table: &mut [u8; MODEL],
 ) -> Step
     requires { ⌜ (i + 2 ≤ length (now s)) × (length (now s) ≤ 32768) ⌝ }
     requires { ⌜ InProgress (now s) (now elements) p ⌝ }
-    ensures { λ r. ⌜ ((es : List rules.Element) → KeepsProgress (now (s .entry)) (now (elements .entry)) p es →
-        MeetsStep (now (s .entry)) (now (elements .exit)) i r (keyword (settings long) (now (s .entry)) i es)) ⌝ }
+    ensures { λ r. ⌜ ((es : List rules.Element) (ls : List AttList) → KeepsProgress (now (s .entry)) (now (elements .entry)) p es → Headed (settings long) (now (s .entry)) (now (heads .entry)) ls →
+        MeetsDeclarations (settings long) (now (s .entry)) (now (elements .exit)) (now (heads .exit)) i r (keyword (settings long) (now (s .entry)) i es ls)) ⌝ }
 {
     let e = text::name_end(s, i + 2);
     if long < e - (i + 2) {
@@ -48,7 +54,14 @@ fn keyword_at(
     if words::is_word(s, i + 2, e, b"ELEMENT") {
         return element_records::element_at(long, s, e, p, elements, names, table);
     }
-    refusal(5, i)
+    if !words::is_word(s, i + 2, e, b"ATTLIST") {
+        return refusal(5, i);
+    }
+    let r = attribute_lists::list_at(long, s, e, elements, p.count, heads);
+    let Reached::At(j) = r else {
+        return Step::Refused(text::fault_of(r));
+    };
+    onward(p, j)
 }
 
 // What p counts, read up to `at`.
@@ -71,13 +84,14 @@ fn markup_at(
     i: usize,
     p: Progress,
     elements: &mut [u32; RECORDS],
+    heads: &mut [u16; ELEMENTS],
     names: &mut [u32; NAMES],
     table: &mut [u8; MODEL],
 ) -> Step
     requires { ⌜ (i + 2 ≤ length (now s)) × (length (now s) ≤ 32768) ⌝ }
     requires { ⌜ InProgress (now s) (now elements) p ⌝ }
-    ensures { λ r. ⌜ ((es : List rules.Element) → KeepsProgress (now (s .entry)) (now (elements .entry)) p es →
-        MeetsStep (now (s .entry)) (now (elements .exit)) i r (markup (settings long) (now (s .entry)) i es)) ⌝ }
+    ensures { λ r. ⌜ ((es : List rules.Element) (ls : List AttList) → KeepsProgress (now (s .entry)) (now (elements .entry)) p es → Headed (settings long) (now (s .entry)) (now (heads .entry)) ls →
+        MeetsDeclarations (settings long) (now (s .entry)) (now (elements .exit)) (now (heads .exit)) i r (markup (settings long) (now (s .entry)) i es ls)) ⌝ }
 {
     let b = text::byte(s, i + 2);
     if b == b'>' {
@@ -97,7 +111,7 @@ fn markup_at(
         return refusal(5, i);
     }
     if text::is_letter(b) {
-        return keyword_at(long, s, i, p, elements, names, table);
+        return keyword_at(long, s, i, p, elements, heads, names, table);
     }
     refusal(4, i + 2)
 }
@@ -109,19 +123,20 @@ fn declaration_at(
     i: usize,
     p: Progress,
     elements: &mut [u32; RECORDS],
+    heads: &mut [u16; ELEMENTS],
     names: &mut [u32; NAMES],
     table: &mut [u8; MODEL],
 ) -> Step
     requires { ⌜ (i < length (now s)) × (length (now s) ≤ 32768) ⌝ }
     requires { ⌜ InProgress (now s) (now elements) p ⌝ }
-    ensures { λ r. ⌜ ((es : List rules.Element) → KeepsProgress (now (s .entry)) (now (elements .entry)) p es →
-        MeetsStep (now (s .entry)) (now (elements .exit)) i r (declaration (settings long) (now (s .entry)) i es)) ⌝ }
+    ensures { λ r. ⌜ ((es : List rules.Element) (ls : List AttList) → KeepsProgress (now (s .entry)) (now (elements .entry)) p es → Headed (settings long) (now (s .entry)) (now (heads .entry)) ls →
+        MeetsDeclarations (settings long) (now (s .entry)) (now (elements .exit)) (now (heads .exit)) i r (declaration (settings long) (now (s .entry)) i es ls)) ⌝ }
 {
     let b = text::byte(s, i);
     if b == b'<' {
         let c = text::byte(s, i + 1);
         if c == b'!' {
-            return markup_at(long, s, i, p, elements, names, table);
+            return markup_at(long, s, i, p, elements, heads, names, table);
         }
         if c == b'?' {
             return refusal(5, i);
@@ -136,9 +151,14 @@ fn declaration_at(
 
 // The whole type file, where a name may have at most `long` bytes. What stands in `elements` behind the records of its elements, and in
 // all of it on refusal, is not decided.
-pub fn file_read(long: usize, s: &[u8], elements: &mut [u32; RECORDS]) -> Step
-    requires { ⌜ length (now s) ≤ 32768 ⌝ }
-    ensures { λ r. ⌜ MeetsFile (now (s .entry)) (now (elements .exit)) r (typeFile (settings long) (now (s .entry))) ⌝ }
+pub fn file_read(
+    long: usize,
+    s: &[u8],
+    elements: &mut [u32; RECORDS],
+    heads: &mut [u16; ELEMENTS],
+) -> Step
+    requires { ⌜ (length (now s) ≤ 32768) × (now heads ≡ replicate 64 0) ⌝ }
+    ensures { λ r. ⌜ MeetsFile (settings long) (now (s .entry)) (now (elements .exit)) (now (heads .exit)) r (typeFile (settings long) (now (s .entry))) ⌝ }
 {
     let mut names = [0u32; NAMES];
     let mut table = [0u8; MODEL];
@@ -160,7 +180,7 @@ pub fn file_read(long: usize, s: &[u8], elements: &mut [u32; RECORDS]) -> Step
             }
             return Step::Read(p);
         }
-        let r = declaration_at(long, s, i, p, elements, &mut names, &mut table);
+        let r = declaration_at(long, s, i, p, elements, heads, &mut names, &mut table);
         let Step::Read(q) = r else {
             return r;
         };

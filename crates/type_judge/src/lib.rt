@@ -2,6 +2,7 @@
 use element_records::Clash;
 use element_records::Step;
 use inputs::Settings;
+use layout::ELEMENTS;
 use layout::NUMBER;
 use layout::RECORDS;
 use text::Fault;
@@ -23,11 +24,17 @@ pub enum Verdict {
 // The verdict on a type file whose length and bytes were looked at, where the lent buffer has room for so many numbers: if
 // accepted, the elements are recorded in `elements`; what stands behind their records, and in all of it on refusal, is not
 // decided. Nor is the verdict where a byte is not allowed or the settings are not offered.
-pub fn decide_legible(c: Settings, s: &[u8], room: usize, elements: &mut [u32; RECORDS]) -> Verdict
+pub fn decide_legible(
+    c: Settings,
+    s: &[u8],
+    room: usize,
+    elements: &mut [u32; RECORDS],
+    heads: &mut [u16; ELEMENTS],
+) -> Verdict
     requires { ⌜ length (now s) ≤ 32768 ⌝ }
-    ensures { λ r. ⌜ (Legible (settingsOf c) (now (s .entry)) → Decides (settingsOf c) (now (s .entry)) room (now (elements .exit)) r) ⌝ }
+    ensures { λ r. ⌜ (Legible (settingsOf c) (now (s .entry)) → Decides (settingsOf c) (now (s .entry)) room (now (elements .exit)) (now (heads .exit)) r) ⌝ }
 {
-    let r = type_file::file_read(c.name_length, s, elements);
+    let r = type_file::file_read(c.name_length, s, elements, heads);
     let Step::Read(p) = r else {
         return Verdict::Malformed(element_records::fault_of(r));
     };
@@ -49,8 +56,14 @@ pub fn decide_legible(c: Settings, s: &[u8], room: usize, elements: &mut [u32; R
 
 // The verdict on any type file under any settings: number 24 comes first, then 1 and 2. Behind the records, and on refusal,
 // what `elements` holds is not decided.
-pub fn decide(c: Settings, s: &[u8], room: usize, elements: &mut [u32; RECORDS]) -> Verdict
-    ensures { λ r. ⌜ Decides (settingsOf c) (now (s .entry)) room (now (elements .exit)) r ⌝ }
+pub fn decide(
+    c: Settings,
+    s: &[u8],
+    room: usize,
+    elements: &mut [u32; RECORDS],
+    heads: &mut [u16; ELEMENTS],
+) -> Verdict
+    ensures { λ r. ⌜ Decides (settingsOf c) (now (s .entry)) room (now (elements .exit)) (now (heads .exit)) r ⌝ }
 {
     if !inputs::is_offered(c) {
         return Verdict::Malformed(Fault { number: 24, at: 0 });
@@ -62,7 +75,7 @@ pub fn decide(c: Settings, s: &[u8], room: usize, elements: &mut [u32; RECORDS])
     if a < s.len() {
         return Verdict::Malformed(Fault { number: 2, at: a });
     }
-    decide_legible(c, s, room, elements)
+    decide_legible(c, s, room, elements, heads)
 }
 
 // Judges a type file under the settings c. The buffer gets six numbers for each element, or is zeroed.
@@ -70,7 +83,8 @@ pub fn judge(c: Settings, s: &[u8], buffer: &mut [u32]) -> Verdict
     ensures { λ r. ⌜ Judged numbers (settingsOf c) (now (s .entry)) (now (buffer .entry)) (answerOf r) (now (buffer .exit)) ⌝ }
 {
     let mut elements = [0u32; RECORDS];
-    let v = decide(c, s, buffer.len(), &mut elements);
+    let mut heads = [0u16; ELEMENTS];
+    let v = decide(c, s, buffer.len(), &mut elements, &mut heads);
     if let Verdict::Accepted(n) = v {
         element_records::whole(elements);
         numbers::put_numbers(buffer, &elements, 6 * n);
@@ -85,7 +99,8 @@ pub fn judge_to_bytes(c: Settings, s: &[u8], buffer: &mut [u8]) -> Verdict
     ensures { λ r. ⌜ Judged bytes (settingsOf c) (now (s .entry)) (now (buffer .entry)) (answerOf r) (now (buffer .exit)) ⌝ }
 {
     let mut elements = [0u32; RECORDS];
-    let v = decide(c, s, buffer.len() / NUMBER, &mut elements);
+    let mut heads = [0u16; ELEMENTS];
+    let v = decide(c, s, buffer.len() / NUMBER, &mut elements, &mut heads);
     if let Verdict::Accepted(n) = v {
         element_records::whole(elements);
         numbers::put_bytes(buffer, &elements, 6 * n);

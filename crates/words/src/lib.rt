@@ -1,6 +1,7 @@
 // Texts and words compared, folded to upper case.
 ghost use mathlib.Core.Path.{_≡_};
 ghost use Prim.Native.Nat.{_+_, _≤_, _<_};
+ghost use lib.ListN.{length};
 ghost use lib.Dec.{eqb};
 ghost use Rattle.rules.specs.Bytes.{fold, sameText};
 ghost use Rattle.rules.specs.TypeFile.{isWord, isCut};
@@ -23,6 +24,22 @@ pub fn same_text(s: &[u8], a: usize, t: &[u8], b: usize, n: usize) -> bool
     let mut k = 0;
     while k < n {
         if !is_same(text::byte(s, a + k), text::byte(t, b + k)) {
+            return false;
+        }
+        k += 1;
+    }
+    true
+}
+
+// Whether n bytes of s from a and n bytes of t from b are equal, folded. All of them are there, so that none is asked whether it still is
+// within, as `same_text` does.
+pub fn same_within(s: &[u8], a: usize, t: &[u8], b: usize, n: usize) -> bool
+    requires { ⌜ (a + n ≤ length (now s)) × (b + n ≤ length (now t)) ⌝ }
+    ensures { λ r. ⌜ r ≡ sameText (now (s .entry)) a (now (t .entry)) b n ⌝ }
+{
+    let mut k = 0;
+    while k < n {
+        if !is_same(s[a + k], t[b + k]) {
             return false;
         }
         k += 1;

@@ -1,0 +1,108 @@
+// The attribute events before a start event, in declaration order: those that a tag gives, and those that are defaulted.
+//
+// `lists` is that of the crate list_table, `marks` that of attribute_marks. n is how many events there are so far; they are put to `numbers` and
+// `bytes` (crate event_buffer).
+use layout::AttributeNo;
+use layout::ElementNo;
+use layout::MARKS;
+ghost use mathlib.Core.Path.{_≡_};
+ghost use mathlib.Core.List.{List, []};
+ghost use Prim.Native.Nat.{ℕ, _+_, _≤_, _<_};
+ghost use lib.ListN.{length};
+ghost use Rattle.rules.specs.Settings.{Settings};
+ghost use Rattle.rules.specs.TypeFile.{Element};
+ghost use Rattle.rules.specs.Elements.{elementAt};
+ghost use Rattle.rules.specs.Given.{attributeEvents};
+ghost use Rattle.event_buffer.specs.Means.{Puts};
+ghost use Rattle.list_table.specs.Means.{Lists};
+ghost use Rattle.attribute_marks.specs.Means.{Marked};
+ghost use Rattle.attribute_events.specs.Means.{PutsAttributes};
+
+// The event of the attribute k of the element e, from 0, of which the marks say how it is written: none where it is not and is required or implied.
+fn put_one(
+    lists: &[u16],
+    e: ElementNo,
+    k: usize,
+    at: usize,
+    size: usize,
+    n: usize,
+    numbers: &mut [u32],
+    bytes: &mut [u8],
+) -> usize
+    requires { ⌜ (1 ≤ e .0) × (e .0 ≤ 64) × (k < 40) × (at < 4294967296) × (size < 4294967296) × (n < 4294967296) ⌝ }
+    ensures { λ r. ⌜ PutsOne (now (lists .entry)) (e .0) k at size n (now (numbers .entry)) (now (bytes .entry)) r (now (numbers .exit)) (now (bytes .exit)) ⌝ }
+{
+    let a = AttributeNo(k + 1);
+    if at != 0 {
+        return event_buffer::put_attribute(numbers, bytes, n, 7, a, at, size);
+    }
+    let r = list_table::attribute(lists, e, k);
+    if r.default < 2 {
+        return n;
+    }
+    event_buffer::put_attribute(numbers, bytes, n, 8, a, r.default, r.length)
+}
+
+// Those before the start of the element e, of which a tag gives what the marks say.
+fn put_all(
+    lists: &[u16],
+    marks: &[u16; MARKS],
+    e: ElementNo,
+    n: usize,
+    numbers: &mut [u32],
+    bytes: &mut [u8],
+) -> usize
+    requires { ⌜ (e .0 ≤ 64) × (n + 40 < 4294967296) ⌝ }
+    ensures { λ r. ⌜ ((c : Settings) (s d : List ℕ) (es : List Element) (ws : List Written) → Lists c s es (now (lists .entry)) → 1 ≤ e .0 → Marked (elementAt es (e .0 - 1) .attributes) d ws (now (marks .entry)) →
+        PutsAttributes (attributeEvents 1 s (elementAt es (e .0 - 1) .attributes) d ws) n (now (numbers .entry)) (now (bytes .entry)) r (now (numbers .exit)) (now (bytes .exit))) × (n ≤ r) × (r ≤ n + 40) ⌝ }
+{
+    let count = list_table::count(lists, e);
+    let mut m = n;
+    let mut k = 0;
+    while k < count {
+        let at = numbers::short(marks[2 * k]);
+        let size = numbers::short(marks[2 * k + 1]);
+        m = put_one(lists, e, k, at, size, m, numbers, bytes);
+        k += 1;
+    }
+    m
+}
+
+// Those before the start of the element e that a tag with these marks brings, none for data; gives how many events there are now. A type without attributes is told at
+// once.
+pub fn put_written(
+    lists: &[u16],
+    marks: &[u16; MARKS],
+    e: ElementNo,
+    n: usize,
+    numbers: &mut [u32],
+    bytes: &mut [u8],
+) -> usize
+    requires { ⌜ (e .0 ≤ 64) × (n + 40 < 4294967296) ⌝ }
+    ensures { λ r. ⌜ ((c : Settings) (s d : List ℕ) (es : List Element) (ws : List Written) → Lists c s es (now (lists .entry)) → 1 ≤ e .0 → Marked (elementAt es (e .0 - 1) .attributes) d ws (now (marks .entry)) →
+        PutsAttributes (attributeEvents 1 s (elementAt es (e .0 - 1) .attributes) d ws) n (now (numbers .entry)) (now (bytes .entry)) r (now (numbers .exit)) (now (bytes .exit))) × (n ≤ r) × (r ≤ n + 40) ⌝ }
+{
+    if lists.len() == 0 {
+        return n;
+    }
+    put_all(lists, marks, e, n, numbers, bytes)
+}
+
+// Those before the start of the element e that is inferred: all are defaulted.
+pub fn put_defaults(
+    lists: &[u16],
+    e: ElementNo,
+    n: usize,
+    numbers: &mut [u32],
+    bytes: &mut [u8],
+) -> usize
+    requires { ⌜ (e .0 ≤ 64) × (n + 40 < 4294967296) ⌝ }
+    ensures { λ r. ⌜ ((c : Settings) (s d : List ℕ) (es : List Element) → Lists c s es (now (lists .entry)) → 1 ≤ e .0 →
+        PutsAttributes (attributeEvents 1 s (elementAt es (e .0 - 1) .attributes) d []) n (now (numbers .entry)) (now (bytes .entry)) r (now (numbers .exit)) (now (bytes .exit))) × (n ≤ r) × (r ≤ n + 40) ⌝ }
+{
+    if list_table::count(lists, e) == 0 {
+        return n;
+    }
+    let none = [0u16; MARKS];
+    put_all(lists, &none, e, n, numbers, bytes)
+}

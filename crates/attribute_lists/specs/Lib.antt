@@ -1,0 +1,3 @@
+-- Where the lists of a type stand, what the answers of the code stand for, and which element a list is for.
+pub mod Means
+pub mod Laws

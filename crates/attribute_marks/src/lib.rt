@@ -1,0 +1,151 @@
+// The attributes that a start tag gives, held against the list of its element: each declared and given once, its value fitting, none that is required missing.
+//
+// `lists` is that of the crate list_table, `given` has the attributes of a tag as they are read (crate tags). `marks` has for each attribute of the element where its written value begins in the document, and how
+// long it is; 0 where it is not written.
+use layout::ElementNo;
+use layout::GIVEN;
+use layout::MARKS;
+use tags::Written;
+use text::Fault;
+ghost use mathlib.Core.Path.{_≡_};
+ghost use mathlib.Core.List.{List};
+ghost use Prim.Native.Nat.{_+_, _≤_, _<_};
+ghost use lib.ListN.{length};
+ghost use Rattle.rules.specs.Settings.{settings};
+ghost use Rattle.rules.specs.TypeFile.{Element};
+ghost use Rattle.rules.specs.Elements.{elementAt};
+ghost use Rattle.rules.specs.Document.{startTagAt};
+ghost use Rattle.rules.specs.Given.{attributed, noneMissing};
+ghost use Rattle.list_table.specs.Means.{Lists};
+ghost use Rattle.attribute_marks.specs.Means.{Marked, MeetsMark, MeetsGiven, Attributed};
+
+// None of the first n attributes is written.
+fn clear(marks: &mut [u16; MARKS], n: usize)
+    requires { ⌜ n ≤ 40 ⌝ }
+    ensures { λ _. ⌜ Marked n [] (now (marks .exit)) ⌝ }
+{
+    let mut k = 0;
+    while k < n {
+        marks[2 * k] = 0;
+        k += 1;
+    }
+}
+
+// An attribute of the element e as a tag gives it: 20 if it is not declared or marked already, 22 if its value does not fit, else 0.
+fn mark(
+    long: usize,
+    s: &[u8],
+    lists: &[u16],
+    d: &[u8],
+    e: ElementNo,
+    w: Written,
+    marks: &mut [u16; MARKS],
+) -> u32
+    requires { ⌜ (e .0 ≤ 64) × (length (now s) ≤ 32768) × (length (now d) ≤ 65535) × (w .quote + w .length + 1 < length (now d)) ⌝ }
+    ensures { λ r. ⌜ ((es : List Element) → Lists (settings long) (now (s .entry)) es (now (lists .entry)) → 1 ≤ e .0 →
+        MeetsMark (settings long) (now (s .entry)) (elementAt es (e .0 - 1) .attributes) (now (d .entry)) w (now (marks .entry)) (now (marks .exit)) r) ⌝ }
+{
+    let a = list_table::find(s, lists, e, d, w.name, w.size);
+    if a == 0 {
+        return 20;
+    }
+    let k = a - 1;
+    if marks[2 * k] != 0 {
+        return 20;
+    }
+    marks[2 * k] = (w.quote + 1) as u16;
+    marks[2 * k + 1] = w.length as u16;
+    let r = list_table::attribute(lists, e, k);
+    let v = attribute_values::value(s, d, true, w.quote + 1, w.length);
+    if attribute_values::fits(long, s, r.value, v) {
+        return 0;
+    }
+    22
+}
+
+// The n attributes that a tag gives: the first 20, else the first 22, else number 0. Where it is 0 they are marked.
+fn marked(
+    long: usize,
+    s: &[u8],
+    lists: &[u16],
+    d: &[u8],
+    e: ElementNo,
+    given: &[u16; GIVEN],
+    n: usize,
+    marks: &mut [u16; MARKS],
+) -> Fault
+    requires { ⌜ (e .0 ≤ 64) × (n ≤ 41) × GivenIn (length (now d)) (now given) n × (length (now s) ≤ 32768) × (length (now d) ≤ 65535) ⌝ }
+    ensures { λ r. ⌜ ((es : List Element) → Lists (settings long) (now (s .entry)) es (now (lists .entry)) → 1 ≤ e .0 →
+        MeetsGiven (settings long) (now (s .entry)) (elementAt es (e .0 - 1) .attributes) (now (d .entry)) (keptOf (now (given .entry)) n) (now (marks .exit)) r) ⌝ }
+{
+    let mut misfit = 0;
+    let mut k = 0;
+    while k < n {
+        let w = tags::kept(given, k);
+        let r = mark(long, s, lists, d, e, w, marks);
+        if r == 20 {
+            return Fault {
+                number: 20,
+                at: w.name,
+            };
+        }
+        if r == 22 && misfit == 0 {
+            misfit = w.quote;
+        }
+        k += 1;
+    }
+    if misfit != 0 {
+        return Fault {
+            number: 22,
+            at: misfit,
+        };
+    }
+    Fault { number: 0, at: 0 }
+}
+
+// Whether an attribute of the element e is required and not marked.
+fn is_missing(lists: &[u16], e: ElementNo, n: usize, marks: &[u16; MARKS]) -> bool
+    requires { ⌜ (1 ≤ e .0) × (e .0 ≤ 64) × (n ≤ 40) ⌝ }
+    ensures { λ r. ⌜ ((c : settings.Settings) (s d : List ℕ) (es : List Element) (ws : List rules.Written) → Lists c s es (now (lists .entry)) → n ≡ length (elementAt es (e .0 - 1) .attributes) →
+        Marked n ws (now (marks .entry)) → (at : ℕ) → noneMissing s (elementAt es (e .0 - 1) .attributes) d at ws ≡ elim r [ true ↦ refused 21 at | false ↦ got tt ]) ⌝ }
+{
+    let mut k = 0;
+    while k < n {
+        if marks[2 * k] == 0 {
+            if list_table::attribute(lists, e, k).default == 0 {
+                return true;
+            }
+        }
+        k += 1;
+    }
+    false
+}
+
+// The start tag at `at`, which was read, of the element e, which gives g attributes, of which so many are kept: 20, 22 or 21, or number 0. Where it is 0 they are marked; else
+// what `marks` holds is not decided.
+pub fn check(
+    long: usize,
+    s: &[u8],
+    lists: &[u16],
+    d: &[u8],
+    e: ElementNo,
+    given: &[u16; GIVEN],
+    g: usize,
+    at: usize,
+    marks: &mut [u16; MARKS],
+) -> Fault
+    requires { ⌜ (1 ≤ e .0) × (e .0 ≤ 64) × (g ≤ 41) × GivenIn (length (now d)) (now given) g × (length (now s) ≤ 32768) × (length (now d) ≤ 65535) ⌝ }
+    ensures { λ r. ⌜ ((es : List Element) → Lists (settings long) (now (s .entry)) es (now (lists .entry)) → (ws : List rules.Written) → KeptAs (now (given .entry)) g ws →
+        Attributed (elementAt es (e .0 - 1) .attributes) ws (now (marks .exit)) r (attributed (settings long) (now (s .entry)) (elementAt es (e .0 - 1) .attributes) (now (d .entry)) at ws)) ⌝ }
+{
+    let n = list_table::count(lists, e);
+    clear(marks, n);
+    let f = marked(long, s, lists, d, e, given, g, marks);
+    if f.number != 0 {
+        return f;
+    }
+    if is_missing(lists, e, n, marks) {
+        return Fault { number: 21, at: at };
+    }
+    f
+}

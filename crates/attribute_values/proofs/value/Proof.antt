@@ -1,0 +1,20 @@
+-- `value` meets its contract: each way by the part of its text.
+use mathlib.Core.Path.{_≡_, _∙_}
+use borrow.Author.Needs.{needs}
+use Rattle.attribute_values.proofs.value.Statement.{statement}
+use Rattle.attribute_values.proofs.value.Tie as tie
+
+part-requires : tie.Need-part-requires
+part-requires c κs = search needs
+
+returns : tie.Need-returns
+returns c = rw (c .before .if1 .taken) (c .part .ensures)
+
+part-requires-2 : tie.Need-part-requires-2
+part-requires-2 c κs = search needs
+
+returns-2 : tie.Need-returns-2
+returns-2 c = rw (c .before .if1 .left) (c .part2 .ensures)
+
+pub value-spec : {M : Type 1} → statement M
+value-spec = tie.close (tie.spec part-requires returns part-requires-2 returns-2)

@@ -1,0 +1,2 @@
+-- How the scan of a literal ends.
+pub mod Laws
