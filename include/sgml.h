@@ -49,7 +49,7 @@
 #include <stdint.h>
 
 #define SGML_VERSION "0.6.0"
-#define SGML_VERSION_NUMBER 500 /* 10000 times the major version, 100 times the minor one and the patch */
+#define SGML_VERSION_NUMBER 600 /* 10000 times the major version, 100 times the minor one and the patch */
 
 #ifdef __cplusplus
 extern "C" {
