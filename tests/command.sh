@@ -188,6 +188,13 @@ if needs onsgmls opensp "onsgmls on the same documents"; then
         */and-with-defaults | */02-12-and/required-0[2358] | */02-12-and/required-1[13789] | */02-12-and/required-20) continue ;;
         */02-12-and/required-inferred-chain | */02-12-and/g22 | */02-12-and/mixed-04) continue ;;
         esac
+        # It infers no start of the last member of an "&" group, and takes a separator for data where `#PCDATA` may not come next (LastMember and
+        # Separator of docs/DECISIONS.md).
+        case $v in
+        */02-12-and/required-0[2358] | */02-12-and/required-1[13789] | */02-12-and/required-20 | */02-12-and/required-inferred-chain) continue ;;
+        */and/inner-last-member | */and/last-member-inferred) continue ;;
+        */02-12-and/g22 | */02-12-and/mixed-04) continue ;;
+        esac
         # It is given no declaration with another NAMELEN here.
         [ ! -e "$v/args" ] || continue
         [ "$(head -c 6 "$v/expected")" != events ] || check "onsgmls on $v" agree "$v/type.sgm" "$v/doc.sgm"

@@ -12,6 +12,12 @@ cc -std=c99 -Wall -Wextra -pedantic -Werror -Iinclude -c "$out/header.c" -o "$ou
 c++ -Wall -Wextra -pedantic -Werror -Iinclude -x c++ -c "$out/header.c" -o "$out/header.o"
 echo "2 passed, 0 failed"
 
+echo "the version as a text and as a number"
+version=$(sed -n 's/^#define SGML_VERSION "\(.*\)"/\1/p' include/sgml.h)
+number=$(sed -n 's/^#define SGML_VERSION_NUMBER \([0-9]*\).*/\1/p' include/sgml.h)
+echo "$version" | { IFS=. read -r major minor patch && [ "$((10000 * major + 100 * minor + patch))" -eq "$number" ]; }
+echo "1 passed, 0 failed"
+
 # The compiler is asked to refuse a call of which nothing is used, and nothing else.
 echo "a call whose answer is ignored is warned of"
 for call in 'sgml_judge(t, n, NULL, 0, a, SGML_NAMELEN)' 'sgml_attributes(t, n, NULL, 0, a, SGML_NAMELEN)' 'sgml_read(t, n, t, n, NULL, 0, a, SGML_NAMELEN)'; do

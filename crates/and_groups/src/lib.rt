@@ -1,7 +1,9 @@
 // What has begun of the "&" groups of the open elements, and what it decides: which place may come next, whether the content is complete,
 // which place is required.
 //
-// A walk outwards goes on only to a group of a higher number, so that it ends whatever the table holds: groups count in the order of their ")".
+// A walk outwards goes on only to a group of a higher number, so that it ends whatever the table holds: groups count in the order of their ")". Where the
+// table tells no model, or the bits are not those of the places taken in it, what `take` and `may_follow` answer is not decided, but that `take` answers 255 or
+// at most 96 and leaves the bits of every other level.
 use layout::BEGUN;
 use layout::ElementNo;
 use layout::Place;

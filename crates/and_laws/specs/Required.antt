@@ -178,10 +178,6 @@ module _ (g : Group) (good : Good g) (u : ℕ) (S : ℕ → Bool) (s : List ℕ)
     λ (x, f). and-both (next-fold g good u S s e agree begun p .1 x) (must-fold g good u S s e agree begun p .1 (λ t w. memᴰ-mem t p (f t w))),
   )
 
--- At the start no member has begun.
-abbrev pub required0 : Group → ℕ → Bool
-required0 g p = (first g p && passes g p) && not (hinders (λ (h : Group). meets h (first g)) g p)
-
 module _ (g : Group) (p : ℕ) where
   pub none-begun : (h : Group) → Unbegun h []
   none-begun h = not-true (meets h (mem [])) (λ i. let (q, x, y) = meets-common h (mem []) i in false≢true y)

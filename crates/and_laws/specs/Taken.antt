@@ -63,15 +63,6 @@ module _ (g : Group) (good : Good g) (S : ℕ → Bool) where
       through : {A B C : Type 0} → A ↔ B → B ↔ C → A ↔ C
       through (f, h) (k, l) = (λ a. k (f a), λ c. h (l c))
 
--- At the start nothing has begun, so nothing is taken away.
-abbrev pub mayFrom : Group → ℕ → (ℕ → Bool) → ℕ → Bool
-mayFrom g zero S p = true
-mayFrom g (suc u) S p = may g (suc u) S p
-
-abbrev pub blocksFrom : Group → ℕ → (ℕ → Bool) → Bool
-blocksFrom g zero S = false
-blocksFrom g (suc u) S = blocks g (suc u) S
-
 -- u is 0, or a place of the group that was taken
 abbrev pub IsTaken : Group → ℕ → (ℕ → Bool) → Type 0
 IsTaken g zero S = zero ≡ zero

@@ -76,7 +76,7 @@ fn weighed(m: usize, complete: bool, kept: usize) -> Marks
     }
 }
 
-// The place that is kept 128 higher, or 0.
+// The place that is kept 128 higher, or 0. Of a number that is not kept so the answer is not decided, but that it is at most 96.
 fn lowered(kept: usize) -> Place
     ensures { λ r. ⌜ (r .0 ≤ 96) × (96 < kept → kept ≤ 224 → r .0 ≡ kept - 128) ⌝ }
 {
