@@ -5,18 +5,8 @@
 use layout::AttributeNo;
 use layout::ElementNo;
 use layout::MARKS;
-ghost use mathlib.Core.Path.{_≡_};
-ghost use mathlib.Core.List.{List, []};
-ghost use Prim.Native.Nat.{ℕ, _+_, _≤_, _<_};
-ghost use lib.ListN.{length};
-ghost use Rattle.rules.specs.Settings.{Settings};
-ghost use Rattle.rules.specs.TypeFile.{Element};
-ghost use Rattle.rules.specs.Elements.{elementAt};
-ghost use Rattle.rules.specs.Given.{attributeEvents};
-ghost use Rattle.event_buffer.specs.Means.{Puts};
-ghost use Rattle.list_table.specs.Means.{Lists};
-ghost use Rattle.attribute_marks.specs.Means.{Marked};
-ghost use Rattle.attribute_events.specs.Means.{PutsAttributes};
+ghost use Prim.Native.Nat.{_+_, _≤_, _<_};
+ghost use Rattle.attribute_events.specs.Means.{PutsOne, PutsWritten, PutsDefaults};
 
 // The event of the attribute k of the element e, from 0, of which the marks say how it is written: none where it is not and is required or implied.
 fn put_one(
@@ -53,8 +43,7 @@ fn put_all(
     bytes: &mut [u8],
 ) -> usize
     requires { ⌜ (e .0 ≤ 64) × (n + 40 < 4294967296) ⌝ }
-    ensures { λ r. ⌜ ((c : Settings) (s d : List ℕ) (es : List Element) (ws : List Written) → Lists c s es (now (lists .entry)) → 1 ≤ e .0 → Marked (elementAt es (e .0 - 1) .attributes) d ws (now (marks .entry)) →
-        PutsAttributes (attributeEvents 1 s (elementAt es (e .0 - 1) .attributes) d ws) n (now (numbers .entry)) (now (bytes .entry)) r (now (numbers .exit)) (now (bytes .exit))) × (n ≤ r) × (r ≤ n + 40) ⌝ }
+    ensures { λ r. ⌜ PutsWritten (now (lists .entry)) (now (marks .entry)) (e .0) n (now (numbers .entry)) (now (bytes .entry)) r (now (numbers .exit)) (now (bytes .exit)) ⌝ }
 {
     let count = list_table::count(lists, e);
     let mut m = n;
@@ -79,8 +68,7 @@ pub fn put_written(
     bytes: &mut [u8],
 ) -> usize
     requires { ⌜ (e .0 ≤ 64) × (n + 40 < 4294967296) ⌝ }
-    ensures { λ r. ⌜ ((c : Settings) (s d : List ℕ) (es : List Element) (ws : List Written) → Lists c s es (now (lists .entry)) → 1 ≤ e .0 → Marked (elementAt es (e .0 - 1) .attributes) d ws (now (marks .entry)) →
-        PutsAttributes (attributeEvents 1 s (elementAt es (e .0 - 1) .attributes) d ws) n (now (numbers .entry)) (now (bytes .entry)) r (now (numbers .exit)) (now (bytes .exit))) × (n ≤ r) × (r ≤ n + 40) ⌝ }
+    ensures { λ r. ⌜ PutsWritten (now (lists .entry)) (now (marks .entry)) (e .0) n (now (numbers .entry)) (now (bytes .entry)) r (now (numbers .exit)) (now (bytes .exit)) ⌝ }
 {
     if lists.len() == 0 {
         return n;
@@ -97,8 +85,7 @@ pub fn put_defaults(
     bytes: &mut [u8],
 ) -> usize
     requires { ⌜ (e .0 ≤ 64) × (n + 40 < 4294967296) ⌝ }
-    ensures { λ r. ⌜ ((c : Settings) (s d : List ℕ) (es : List Element) → Lists c s es (now (lists .entry)) → 1 ≤ e .0 →
-        PutsAttributes (attributeEvents 1 s (elementAt es (e .0 - 1) .attributes) d []) n (now (numbers .entry)) (now (bytes .entry)) r (now (numbers .exit)) (now (bytes .exit))) × (n ≤ r) × (r ≤ n + 40) ⌝ }
+    ensures { λ r. ⌜ PutsDefaults (now (lists .entry)) (e .0) n (now (numbers .entry)) (now (bytes .entry)) r (now (numbers .exit)) (now (bytes .exit)) ⌝ }
 {
     if list_table::count(lists, e) == 0 {
         return n;

@@ -8,21 +8,24 @@ use layout::MARKS;
 use tags::Written;
 use text::Fault;
 ghost use mathlib.Core.Path.{_≡_};
+ghost use mathlib.Core.Bool.{Bool, true, false};
 ghost use mathlib.Core.List.{List};
-ghost use Prim.Native.Nat.{_+_, _≤_, _<_};
-ghost use lib.ListN.{length};
-ghost use Rattle.rules.specs.Settings.{settings};
-ghost use Rattle.rules.specs.TypeFile.{Element};
-ghost use Rattle.rules.specs.Elements.{elementAt};
-ghost use Rattle.rules.specs.Document.{startTagAt};
+ghost use Prim.Native.Nat.{ℕ, _+_, _*_, _-_, _≤_, _<_};
+ghost use lib.ListN.{length, getD};
+ghost use Rattle.rules.specs.Settings.{Settings, settings};
+ghost use Rattle.rules.specs.Reading.{refused, got};
+ghost use Rattle.rules.specs.Attributes.{Attribute};
+ghost use Rattle.rules.specs.Document as rules;
 ghost use Rattle.rules.specs.Given.{attributed, noneMissing};
-ghost use Rattle.list_table.specs.Means.{Lists};
-ghost use Rattle.attribute_marks.specs.Means.{Marked, MeetsMark, MeetsGiven, Attributed};
+ghost use Rattle.list_table.specs.Means.{ListAt};
+ghost use Rattle.tags.specs.Given.{writtenAs, keptOf, KeptAs, WrittenFits, WrittenIn, GivenIn};
+ghost use Rattle.attribute_marks.specs.Marks.{Marked, Attributed};
+ghost use Rattle.attribute_marks.specs.Means.{Marks, Given};
 
 // None of the first n attributes is written.
 fn clear(marks: &mut [u16; MARKS], n: usize)
     requires { ⌜ n ≤ 40 ⌝ }
-    ensures { λ _. ⌜ Marked n [] (now (marks .exit)) ⌝ }
+    ensures { λ _. ⌜ ((k : ℕ) → k < n → getD (now (marks .exit)) (2 * k) 0 ≡ 0) ⌝ }
 {
     let mut k = 0;
     while k < n {
@@ -41,9 +44,9 @@ fn mark(
     w: Written,
     marks: &mut [u16; MARKS],
 ) -> u32
-    requires { ⌜ (e .0 ≤ 64) × (length (now s) ≤ 32768) × (length (now d) ≤ 65535) × (w .quote + w .length + 1 < length (now d)) ⌝ }
-    ensures { λ r. ⌜ ((es : List Element) → Lists (settings long) (now (s .entry)) es (now (lists .entry)) → 1 ≤ e .0 →
-        MeetsMark (settings long) (now (s .entry)) (elementAt es (e .0 - 1) .attributes) (now (d .entry)) w (now (marks .entry)) (now (marks .exit)) r) ⌝ }
+    requires { ⌜ (1 ≤ e .0) × (e .0 ≤ 64) × (length (now s) ≤ 32768) × (length (now d) ≤ 65535) × WrittenFits w × WrittenIn (length (now d)) w ⌝ }
+    ensures { λ r. ⌜ ((xs : List Attribute) (before : List rules.Written) → ListAt (settings long) (now (s .entry)) (now (lists .entry)) (201 * (e .0 - 1)) xs → Marked (now (s .entry)) xs (now (d .entry)) before (now (marks .entry)) →
+        Marks (settings long) (now (s .entry)) xs (now (d .entry)) before (writtenAs w) (now (marks .exit)) r) ⌝ }
 {
     let a = list_table::find(s, lists, e, d, w.name, w.size);
     if a == 0 {
@@ -74,9 +77,9 @@ fn marked(
     n: usize,
     marks: &mut [u16; MARKS],
 ) -> Fault
-    requires { ⌜ (e .0 ≤ 64) × (n ≤ 41) × GivenIn (length (now d)) (now given) n × (length (now s) ≤ 32768) × (length (now d) ≤ 65535) ⌝ }
-    ensures { λ r. ⌜ ((es : List Element) → Lists (settings long) (now (s .entry)) es (now (lists .entry)) → 1 ≤ e .0 →
-        MeetsGiven (settings long) (now (s .entry)) (elementAt es (e .0 - 1) .attributes) (now (d .entry)) (keptOf (now (given .entry)) n) (now (marks .exit)) r) ⌝ }
+    requires { ⌜ (1 ≤ e .0) × (e .0 ≤ 64) × (n ≤ 41) × GivenIn (length (now d)) (now given) n × (length (now s) ≤ 32768) × (length (now d) ≤ 65535) ⌝ }
+    ensures { λ r. ⌜ ((xs : List Attribute) → ListAt (settings long) (now (s .entry)) (now (lists .entry)) (201 * (e .0 - 1)) xs → ((k : ℕ) → k < length xs → getD (now (marks .entry)) (2 * k) 0 ≡ 0) →
+        Given (settings long) (now (s .entry)) xs (now (d .entry)) (keptOf (now (given .entry)) n) (now (marks .exit)) r) ⌝ }
 {
     let mut misfit = 0;
     let mut k = 0;
@@ -106,8 +109,8 @@ fn marked(
 // Whether an attribute of the element e is required and not marked.
 fn is_missing(lists: &[u16], e: ElementNo, n: usize, marks: &[u16; MARKS]) -> bool
     requires { ⌜ (1 ≤ e .0) × (e .0 ≤ 64) × (n ≤ 40) ⌝ }
-    ensures { λ r. ⌜ ((c : settings.Settings) (s d : List ℕ) (es : List Element) (ws : List rules.Written) → Lists c s es (now (lists .entry)) → n ≡ length (elementAt es (e .0 - 1) .attributes) →
-        Marked n ws (now (marks .entry)) → (at : ℕ) → noneMissing s (elementAt es (e .0 - 1) .attributes) d at ws ≡ elim r [ true ↦ refused 21 at | false ↦ got tt ]) ⌝ }
+    ensures { λ r. ⌜ ((c : Settings) (s d : List ℕ) (xs : List Attribute) (ws : List rules.Written) → ListAt c s (now (lists .entry)) (201 * (e .0 - 1)) xs → n ≡ length xs → Marked s xs d ws (now (marks .entry)) →
+        (at : ℕ) → noneMissing s xs d at ws ≡ elim r [ true ↦ refused 21 at | false ↦ got tt ]) ⌝ }
 {
     let mut k = 0;
     while k < n {
@@ -135,8 +138,8 @@ pub fn check(
     marks: &mut [u16; MARKS],
 ) -> Fault
     requires { ⌜ (1 ≤ e .0) × (e .0 ≤ 64) × (g ≤ 41) × GivenIn (length (now d)) (now given) g × (length (now s) ≤ 32768) × (length (now d) ≤ 65535) ⌝ }
-    ensures { λ r. ⌜ ((es : List Element) → Lists (settings long) (now (s .entry)) es (now (lists .entry)) → (ws : List rules.Written) → KeptAs (now (given .entry)) g ws →
-        Attributed (elementAt es (e .0 - 1) .attributes) ws (now (marks .exit)) r (attributed (settings long) (now (s .entry)) (elementAt es (e .0 - 1) .attributes) (now (d .entry)) at ws)) ⌝ }
+    ensures { λ r. ⌜ ((xs : List Attribute) (ws : List rules.Written) → ListAt (settings long) (now (s .entry)) (now (lists .entry)) (201 * (e .0 - 1)) xs → KeptAs (now (given .entry)) g ws →
+        Attributed (now (s .entry)) xs (now (d .entry)) ws (now (marks .exit)) r (attributed (settings long) (now (s .entry)) xs (now (d .entry)) at ws)) ⌝ }
 {
     let n = list_table::count(lists, e);
     clear(marks, n);

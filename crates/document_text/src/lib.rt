@@ -6,15 +6,19 @@ use text::Fault;
 use text::Reached;
 ghost use mathlib.Core.Path.{_≡_};
 ghost use mathlib.Core.Bool.{_||_};
-ghost use Prim.Native.Nat.{_≤_, _<_};
+ghost use mathlib.Core.List.{List};
+ghost use Prim.Native.Nat.{ℕ, _≤_, _<_};
 ghost use lib.ListN.{length};
 ghost use lib.Dec.{eqb};
 ghost use Rattle.rules.specs.Settings.{settings};
+ghost use Rattle.rules.specs.Reading.{Reading};
+ghost use Rattle.rules.specs.Document as rules;
 ghost use Rattle.rules.specs.Document.{malformed, declarationPiece, markupPiece, bytePiece, piece};
 ghost use Rattle.text.specs.Means.{reached};
 ghost use Rattle.delimiters.specs.Means.{Classes};
 ghost use Rattle.tags.specs.Tags.{tagOf};
-ghost use Rattle.document_text.specs.Means.{pieceOf, asStartTag, asEndTag, asSkipped};
+ghost use Rattle.tags.specs.Given.{MeetsTag};
+ghost use Rattle.document_text.specs.Means.{pieceOf, MeetsPiece, asStartTag, asEndTag, asSkipped};
 
 // What stands at a position of the document.
 pub enum Token {
@@ -29,7 +33,7 @@ pub enum Token {
 }
 
 fn start_tag(r: TagRead) -> Token
-    ensures { λ t. ⌜ pieceOf t ≡ asStartTag (tagOf r) ⌝ }
+    ensures { λ t. ⌜ ((end : ℕ) (g : List ℕ) (x : Reading rules.Tag) → MeetsTag end g r x → MeetsPiece end g t (asStartTag x)) ⌝ }
 {
     match r {
         TagRead::Read(t) => Token::StartTag(t),
@@ -85,8 +89,8 @@ fn markup_at(
     i: usize,
     given: &mut [u16; GIVEN],
 ) -> Token
-    requires { ⌜ Classes (now classes) × (i < length (now s)) ⌝ }
-    ensures { λ r. ⌜ MeetsPiece (now (given .exit)) r (markupPiece (settings long) (now (s .entry)) i) ⌝ }
+    requires { ⌜ Classes (now classes) × (i < length (now s)) × (length (now s) ≤ 65535) ⌝ }
+    ensures { λ r. ⌜ MeetsPiece (length (now (s .entry))) (now (given .exit)) r (markupPiece (settings long) (now (s .entry)) i) ⌝ }
 {
     let b = text::byte(s, i + 1);
     if text::is_letter(b) {
@@ -139,8 +143,8 @@ pub fn token_at(
     i: usize,
     given: &mut [u16; GIVEN],
 ) -> Token
-    requires { ⌜ Classes (now classes) × (i < length (now s)) ⌝ }
-    ensures { λ r. ⌜ MeetsPiece (now (given .exit)) r (piece (settings long) (now (s .entry)) i) ⌝ }
+    requires { ⌜ Classes (now classes) × (i < length (now s)) × (length (now s) ≤ 65535) ⌝ }
+    ensures { λ r. ⌜ MeetsPiece (length (now (s .entry))) (now (given .exit)) r (piece (settings long) (now (s .entry)) i) ⌝ }
 {
     if text::byte(s, i) == b'<' {
         return markup_at(long, classes, s, i, given);

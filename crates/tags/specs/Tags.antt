@@ -1,20 +1,25 @@
 -- The rules' tag that an answer of the code stands for, and each way that the rules read one.
 use Prim.Native.Nat.{ℕ, _+_, _-_, _≤_, _<_}
 use mathlib.Core.Path.{_≡_}
-use mathlib.Core.List.{List}
+use mathlib.Core.List.{List, []}
 use borrow.Author.Tests.{eq-eqb, ne-eqb, lt-ltb, le-ltb}
 use Rattle.rules.specs.Bytes.{byteAt, nameEnd, separatorsEnd}
 use Rattle.rules.specs.Settings.{Settings}
 use Rattle.rules.specs.Reading.{Reading, refused, got}
-use Rattle.rules.specs.Document.{tag}
+use Rattle.rules.specs.Document.{tag, Written}
 use Rattle.rules.specs.Document as rules
 use Rattle.text.specs.Means.{refusalOf}
 use Rattle.tags.specs.declared.Tag.{Tag}
 use Rattle.tags.specs.declared.TagRead.{TagRead}
 use Rattle.tags.specs.declared.TagRead.the-variants as tagRead
 
+-- The rules' tag that gives these attributes.
+abbrev pub tagWith : List Written → Tag → rules.Tag
+tagWith ws t = record { name = t .name; size = t .size; after = t .after; written = ws }
+
+-- An end tag gives none.
 abbrev pub tagIn : Tag → rules.Tag
-tagIn t = record { name = t .name; size = t .size; after = t .after }
+tagIn t = tagWith [] t
 
 abbrev pub tagOf : TagRead → Reading rules.Tag
 tagOf (tagRead.Read t) = got (tagIn t)
@@ -27,7 +32,7 @@ module _ (c : Settings) (s : List ℕ) (at e : ℕ) (q : e ≡ nameEnd s at) whe
   tag-long h = rw (tag, lt-ltb _ _ (rw q at h))
 
   module _ (j : ℕ) (p : j ≡ separatorsEnd s e) (h : e - at ≤ c .nameLength) where
-    pub tag-read : byteAt s j ≡ 62 → got (record { name = at; size = e - at; after = j + 1 }) ≡ tag c s at
+    pub tag-read : byteAt s j ≡ 62 → got (record { name = at; size = e - at; after = j + 1; written = [] }) ≡ tag c s at
     unfolding tag
     tag-read g = rw (p, q, tag, le-ltb _ _ (rw q at h), eq-eqb _ _ (rw (p, q) at g))
 

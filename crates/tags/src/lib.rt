@@ -5,13 +5,15 @@ use layout::WRITTEN;
 use text::Fault;
 use text::Reached;
 ghost use mathlib.Core.Path.{_≡_};
-ghost use Prim.Native.Nat.{_≤_};
+ghost use mathlib.Core.List.{[]};
+ghost use Prim.Native.Nat.{suc, _≤_, _<_};
 ghost use lib.ListN.{length};
 ghost use Rattle.rules.specs.Bytes.{nameByte, nameEnd};
 ghost use Rattle.rules.specs.Settings.{settings};
 ghost use Rattle.rules.specs.Document.{tag, specification, specifications, startTagAt};
 ghost use Rattle.delimiters.specs.Means.{Classes};
-ghost use Rattle.tags.specs.Tags.{tagOf, WrittenFits, Keeps, keptIn, MeetsTag, writtenOf, writtenFault};
+ghost use Rattle.tags.specs.Tags.{tagOf};
+ghost use Rattle.tags.specs.Given.{WrittenFits, Keeps, keptIn, MeetsTag, writtenOf, writtenFault};
 
 // A tag: where its name stands, how long that is, where the tag ends, and how many of the attributes that it gives are kept.
 pub struct Tag {
@@ -169,7 +171,7 @@ fn attributes_at(
     given: &mut [u16; GIVEN],
 ) -> TagRead
     requires { ⌜ Classes (now classes) × (i ≤ e) × (e < first) × (first ≤ length (now s)) × (length (now s) ≤ 65535) ⌝ }
-    ensures { λ r. ⌜ MeetsTag (now (given .exit)) r (specifications (settings long) (suc (length (now (s .entry)))) (now (s .entry)) i e first []) ⌝ }
+    ensures { λ r. ⌜ MeetsTag (length (now (s .entry))) (now (given .exit)) r (specifications (settings long) (suc (length (now (s .entry)))) (now (s .entry)) i e first []) ⌝ }
 {
     let mut n = 0;
     let mut j = first;
@@ -202,7 +204,7 @@ pub fn start_tag_at(
     given: &mut [u16; GIVEN],
 ) -> TagRead
     requires { ⌜ Classes (now classes) × (i ≤ length (now s)) × (length (now s) ≤ 65535) ⌝ }
-    ensures { λ r. ⌜ MeetsTag (now (given .exit)) r (startTagAt (settings long) (now (s .entry)) i) ⌝ }
+    ensures { λ r. ⌜ MeetsTag (length (now (s .entry))) (now (given .exit)) r (startTagAt (settings long) (now (s .entry)) i) ⌝ }
 {
     let e = name_end(classes, s, i);
     if long < e - i {

@@ -1,0 +1,2 @@
+-- The attribute events before a start event.
+pub mod Means
