@@ -11,3 +11,4 @@ pub mod Within
 pub mod Pieces
 pub mod Names
 pub mod Runs
+pub mod BeforeStarts
