@@ -1,13 +1,13 @@
 -- The attribute events before a start event, as they are put.
-use Prim.Native.Nat.{ℕ, _+_, _*_, _-_, _≤_}
+use Prim.Native.Nat.{ℕ, _+_, _*_, _-_, _≤_, _<_}
 use mathlib.Core.Path.{_≡_}
-use mathlib.Core.List.{List, []}
-use lib.ListN.{length, getD}
+use mathlib.Core.List.{List, [], _∷_}
+use lib.ListN.{length, take}
 use Rattle.rules.specs.Settings.{Settings}
-use Rattle.rules.specs.Attributes.{Attribute}
+use Rattle.rules.specs.Attributes.{Attribute, attributeAt}
 use Rattle.rules.specs.Document.{Written}
 use Rattle.rules.specs.Events.{Event}
-use Rattle.rules.specs.Given.{attributeEvents}
+use Rattle.rules.specs.Given.{attributeEvent, attributeEvents}
 use Rattle.event_buffer.specs.Means.{Puts}
 use Rattle.list_table.specs.Means.{ListAt}
 use Rattle.attribute_marks.specs.Marks.{Marked}
@@ -31,7 +31,19 @@ pub record PutsDefaults (lists : List ℕ) (e n : ℕ) (numbers bytes : List ℕ
   pub few : PutsFew 40 e n numbers bytes r numbers′ bytes′ events
   pub are : (c : Settings) (s d : List ℕ) (xs : List Attribute) → 1 ≤ e → ListAt c s lists (201 * (e - 1)) xs → events ≡ attributeEvents 1 s xs d []
 
+-- The two marks of an attribute say that a tag gives it so: at 0 it is not written, since a value never begins there.
+abbrev pub MarkedWith : (at size : ℕ) → List Written → Type 0
+MarkedWith at size [] = at ≡ 0
+MarkedWith at size (w ∷ ws) = (at ≡ w .quote + 1) × (size ≡ w .length)
+
 -- That of the attribute k of the element e, from 0, of which the marks are these two numbers.
 pub record PutsOne (lists : List ℕ) (e k at size n : ℕ) (numbers bytes : List ℕ) (r : ℕ) (numbers′ bytes′ : List ℕ) : Type 0 where
   pub events : List Event
   pub few : PutsFew 1 e n numbers bytes r numbers′ bytes′ events
+  pub are : (c : Settings) (s : List ℕ) (xs : List Attribute) (ws : List Written) → ListAt c s lists (201 * (e - 1)) xs → k < length xs → MarkedWith at size ws → events ≡ attributeEvent (k + 1) (attributeAt xs k .default) ws
+
+-- Those of the first k attributes of the element e, with these marks.
+pub record PutsFirst (lists marks : List ℕ) (e k n : ℕ) (numbers bytes : List ℕ) (r : ℕ) (numbers′ bytes′ : List ℕ) : Type 0 where
+  pub events : List Event
+  pub few : PutsFew k e n numbers bytes r numbers′ bytes′ events
+  pub are : (c : Settings) (s d : List ℕ) (xs : List Attribute) (ws : List Written) → 1 ≤ e → ListAt c s lists (201 * (e - 1)) xs → Marked s xs d ws marks → k ≤ length xs → events ≡ attributeEvents 1 s (take k xs) d ws

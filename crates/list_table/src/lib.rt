@@ -49,10 +49,10 @@ fn row_at(lists: &[u16], i: usize) -> Row
     }
 }
 
-// How many attributes the element e has, at most 40.
+// How many attributes the element e has, at most 40; data, for which e is 0, has none.
 pub fn count(lists: &[u16], e: ElementNo) -> usize
     requires { ⌜ e .0 ≤ 64 ⌝ }
-    ensures { λ r. ⌜ ((c : Settings) (s : List ℕ) (xs : List Attribute) → 1 ≤ e .0 → ListAt c s (now (lists .entry)) (201 * (e .0 - 1)) xs → r ≡ length xs) × (r ≤ 40) ⌝ }
+    ensures { λ r. ⌜ ((c : Settings) (s : List ℕ) (xs : List Attribute) → 1 ≤ e .0 → ListAt c s (now (lists .entry)) (201 * (e .0 - 1)) xs → r ≡ length xs) × (r ≤ 40) × (e .0 ≡ 0 → r ≡ 0) ⌝ }
 {
     if e.0 == 0 {
         return 0;
