@@ -18,7 +18,7 @@ use Rattle.event_buffer.specs.Means.{noted, Puts}
 use Rattle.event_buffer.specs.Laws.{puts-none, puts-then}
 use Rattle.list_table.specs.declared.Row.{Row}
 use Rattle.list_table.specs.Means.{rowIn, ListAt}
-use Rattle.attribute_marks.specs.Marks.{MarkedAs, Marked}
+use Rattle.attribute_marks.specs.Marks.{MarkedAs}
 use Rattle.attribute_events.specs.Means.{PutsFew, PutsWritten, PutsDefaults, MarkedWith, PutsOne, PutsFirst}
 
 -- The event of one attribute, with these marks

@@ -1,43 +1,46 @@
--- What stands at a position of a document under the settings c, in the rules' terms.
-use Prim.Native.Nat.{ℕ, _+_, _≤_, _<_}
+-- What stands at a position of a document under the settings c and a type, in the rules' terms.
+use Prim.Native.Nat.{ℕ, _+_, _-_, _≤_, _<_}
 use mathlib.Core.Path.{_≡_}
 use mathlib.Core.Bool.{true}
 use mathlib.Core.List.{List}
 use Rattle.rules.specs.Settings.{Settings}
 use Rattle.rules.specs.Reading.{refused, got}
 use Rattle.rules.specs.TypeFile.{Element}
-use Rattle.rules.specs.Document.{Tag, startTag, endTag, skipped, blank, piece}
+use Rattle.rules.specs.Document.{Written, Tag, startTag, endTag, skipped, blank, piece}
 use Rattle.rules.specs.Document as rules
-use Rattle.rules.specs.Elements.{numberOf}
+use Rattle.rules.specs.Elements.{elementAt, numberOf}
 use Rattle.rules.specs.Decisions.{pcdata}
 use Rattle.rules.specs.Settling.{Open, fitting}
+use Rattle.rules.specs.Reader.{pieceUnder}
 use Rattle.document_laws.specs.Decide.{decided}
 use Rattle.rules_laws.specs.Runs.{isRun, runEnd}
+use Rattle.attribute_marks.specs.Marks.{Marked}
 use Rattle.pieces.specs.declared.Piece.{Piece}
 use Rattle.pieces.specs.declared.Piece.the-variants as found
 
--- A tag at `at`, up to `after`, that names the element x; 0 if none is declared so.
+-- A tag at `at`, up to `after`, that names the element x; 0 if none is declared so. The attributes that it gives are those of the element's list.
 pub record Names (c : Settings) (s : List ℕ) (es : List Element) (d : List ℕ) (kind : Tag → rules.Piece) (at x after : ℕ) : Type 0 where
   pub name : ℕ
   pub size : ℕ
-  pub there : piece c d at ≡ got (kind (record { name = name; size = size; after = after }))
+  pub written : List Written
+  pub there : pieceUnder c s es d at ≡ got (kind (record { name = name; size = size; after = after; written = written }))
   pub number : numberOf s es d name size ≡ x
 
 -- What is ignored at `at`, up to `after`, in the open element o.
 pub data Ignored (c : Settings) (s : List ℕ) (es : List Element) (d : List ℕ) (o : Open) (at after : ℕ) : Type 0 where
-  skips : piece c d at ≡ got (skipped after) → Ignored c s es d o at after
-  separates : piece c d at ≡ got blank → fitting s es (decided s es) o pcdata ≡ 0 → after ≡ at + 1 → Ignored c s es d o at after
+  skips : pieceUnder c s es d at ≡ got (skipped after) → Ignored c s es d o at after
+  separates : pieceUnder c s es d at ≡ got blank → fitting s es (decided s es) o pcdata ≡ 0 → after ≡ at + 1 → Ignored c s es d o at after
 
 -- What is refused at `at` whatever is open.
 pub data Unread (c : Settings) (s : List ℕ) (es : List Element) (d : List ℕ) (at number position : ℕ) : Type 0 where
-  malformed : piece c d at ≡ refused number position → Unread c s es d at number position
+  malformed : pieceUnder c s es d at ≡ refused number position → Unread c s es d at number position
   undeclaredStart : {after : ℕ} → Names c s es d startTag at 0 after → number ≡ 10 → position ≡ at → Unread c s es d at number position
   undeclaredEnd : {after : ℕ} → Names c s es d endTag at 0 after → number ≡ 10 → position ≡ at → Unread c s es d at number position
 
 -- A run of data at `at`, up to `after`: a blank begins one only where data may come next.
 pub record Runs (c : Settings) (s : List ℕ) (es : List Element) (d : List ℕ) (o : Open) (at after : ℕ) : Type 0 where
-  pub run : isRun (piece c d at) ≡ true
-  pub fits : piece c d at ≡ got blank → 1 ≤ fitting s es (decided s es) o pcdata
+  pub run : isRun (pieceUnder c s es d at) ≡ true
+  pub fits : pieceUnder c s es d at ≡ got blank → 1 ≤ fitting s es (decided s es) o pcdata
   pub ends : after ≡ runEnd d (at + 1)
 
 -- What is to be settled at `at`, up to `after`: the start tag of the element x, or a run of data for 0.
@@ -51,6 +54,13 @@ Finds c s es d o at (found.Token x after) = ToSettle c s es d o at (x .0) after
 Finds c s es d o at (found.End x after) = Names c s es d endTag at (x .0) after × (1 ≤ x .0)
 Finds c s es d o at (found.Passed after) = Ignored c s es d o at after
 Finds c s es d o at (found.Refused f) = Unread c s es d at (f .number) (f .at)
+
+-- Where it is a start tag of the element x, each attribute of that is marked as the tag gives it.
+abbrev pub MarksAt : Settings → (s : List ℕ) (es : List Element) (d : List ℕ) (at : ℕ) → Piece → (marks : List ℕ) → Type 0
+MarksAt c s es d at (found.Token x after) marks = 1 ≤ x .0 → (t : Tag) → piece c d at ≡ got (startTag t) → Marked s (elementAt es (x .0 - 1) .attributes) d (t .written) marks
+MarksAt c s es d at (found.End x after) marks = Unit {0}
+MarksAt c s es d at (found.Passed after) marks = Unit {0}
+MarksAt c s es d at (found.Refused f) marks = Unit {0}
 
 -- What is found moves on and stays within the document, which is `len` bytes long, and names an element that the tables have room for,
 -- whatever they hold.

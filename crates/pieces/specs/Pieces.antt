@@ -1,40 +1,53 @@
 -- What stands at a position: what the code finds there, from the token, and where reading goes on.
-use Prim.Native.Nat.{ℕ, _+_, _≤_, _<_}
-use mathlib.Core.Path.{_≡_, refl, sym, _∙_, ap}
+use Prim.Native.Nat.{ℕ, _+_, _*_, _-_, _≤_, _<_}
+use mathlib.Core.Path.{_≡_, refl, sym, _∙_, ap, subst}
 use mathlib.Core.Bool.{Bool, true, false}
-use mathlib.Core.List.{List}
+use mathlib.Core.List.{List, [], _∷_}
 use native.Mathlib.Omega.{arith}
-use lib.ListN.{length}
+use lib.ListN.{length, List·getD-eq-default}
 use lib.Dec.{leb}
 use borrow.Author.Tests.{leb-true, leb-false}
 use Rattle.rules.specs.Settings.{Settings, mostNameLength}
-use Rattle.rules.specs.Reading.{got}
+use Rattle.rules.specs.Reading.{Reading, got}
+use Rattle.rules.specs.Attributes.{Attribute}
 use Rattle.rules.specs.TypeFile.{Element}
-use Rattle.rules.specs.Document.{Tag, startTag, endTag, skipped, blank, dataByte, piece}
+use Rattle.rules.specs.Document.{Written, Tag, startTag, endTag, skipped, blank, dataByte, piece}
 use Rattle.rules.specs.Document as rules
-use Rattle.rules.specs.Elements.{numberOf}
+use Rattle.rules.specs.Elements.{elementAt, numberOf}
 use Rattle.rules.specs.Decisions.{pcdata}
+use Rattle.rules.specs.Given.{allListed, allFit, noneMissing, attributed}
 use Rattle.rules.specs.Settling.{Open, fitting}
 use Rattle.layout.specs.declared.ElementNo.{ElementNo}
 use Rattle.layout.specs.Typed.{elementNo}
 use Rattle.document_laws.specs.Decide.{decided}
+use Rattle.document_laws.specs.Under.{under-end, under-blank, under-data, under-undeclared, under-start, under-misgiven}
+use Rattle.type_laws.specs.Names.{numberOf-range}
 use Rattle.text.specs.declared.Fault.{Fault}
-use Rattle.tags.specs.Tags.{tagIn}
 use Rattle.rules_laws.specs.Holds.{got-so}
 use Rattle.rules_laws.specs.Pieces.{TagRead, piece-read, piece-short}
 use Rattle.rules_laws.specs.Runs.{isRun, runEnd, runEnd-in}
-use Rattle.tags.specs.declared.Tag as text
+use Rattle.tags.specs.Given.{keptOf, KeptAs}
+use Rattle.document_text.specs.declared.Token.{Token}
+use Rattle.document_text.specs.Means.{MeetsPiece}
+use Rattle.element_index.specs.Means.{Indexed}
+use Rattle.list_table.specs.Means.{ListAt, Lists}
+use Rattle.attribute_marks.specs.Differ.{NamesDiffer, lists-differ}
+use Rattle.attribute_marks.specs.Marks.{Marked, Attributed}
 use Rattle.pieces.specs.declared.Piece.{Piece}
 use Rattle.pieces.specs.declared.Piece.the-variants as found
-use Rattle.pieces.specs.Means.{Names, Ignored, separates, undeclaredStart, undeclaredEnd, Runs, ToSettle, starts, Finds, Onward}
+use Rattle.pieces.specs.Means.{Names, Ignored, separates, malformed, undeclaredStart, undeclaredEnd, Runs, ToSettle, starts, Finds, MarksAt, Onward}
 
 -- From the token
+
+-- What is read, by the token that it is.
+pub token-is : (end : ℕ) (g : List ℕ) (x : Reading rules.Piece) (r : Token) → MeetsPiece end g r x → {y : Token} → r ≡ y → MeetsPiece end g y x
+token-is end g x r m e = subst (λ (v : Token). MeetsPiece end g v x) e m
 
 -- What the index asks of a tag's name.
 abbrev pub NameAsked : List ℕ → Tag → Type 0
 NameAsked d t = (1 ≤ t .size) × (t .size ≤ mostNameLength) × (t .name + t .size ≤ length d)
 
-module _ (c : Settings) (most : c .nameLength ≤ mostNameLength) (d : List ℕ) (at : ℕ) (h : at < length d) (t : Tag) where
+module _ (c : Settings) (most : c .nameLength ≤ mostNameLength) (d : List ℕ) (at : ℕ) (h : at < length d) {t : Tag} where
   asked : TagRead d at t → t .size ≤ c .nameLength → NameAsked d t
   asked r l = (r .some, omega arith, omega (arith, r .ends, r .inside))
 
@@ -44,22 +57,61 @@ module _ (c : Settings) (most : c .nameLength ≤ mostNameLength) (d : List ℕ)
   pub end-tag-asked : piece c d at ≡ got (endTag t) → NameAsked d t
   end-tag-asked e = asked (got-so (piece-read c d at h) e) (got-so (piece-short c d at) e)
 
-module _ (c : Settings) (s : List ℕ) (es : List Element) (d : List ℕ) (at : ℕ) {t : text.Tag} {x : ℕ} (q : x ≡ numberOf s es d (t .name) (t .size)) where
-  named : (kind : Tag → rules.Piece) → piece c d at ≡ got (kind (tagIn t)) → Names c s es d kind at x (t .after)
-  named kind p = record { name = t .name; size = t .size; there = p; number = sym q }
+-- A tag whose element is x, or 0.
+module _ (c : Settings) (s : List ℕ) (es : List Element) (d : List ℕ) (at : ℕ) {t : Tag} {x : ℕ} (q : x ≡ numberOf s es d (t .name) (t .size)) where
+  pub finds-end : piece c d at ≡ got (endTag t) → (x ≡ 0 → ⊥) → Names c s es d endTag at x (t .after) × (1 ≤ x)
+  finds-end p l = (record { name = t .name; size = t .size; written = t .written; there = under-end c s es d at p; number = sym q }, omega arith)
 
-  pub finds-start : (o : Open) → piece c d at ≡ got (startTag (tagIn t)) → (x ≡ 0 → ⊥) → ToSettle c s es d o at x (t .after)
-  finds-start o p l = starts (omega arith) (named startTag p)
+  module _ (o : Open) (z : x ≡ 0) (r : Piece) (w : r ≡ found.Refused (record { number = 10; at = at })) (marks : List ℕ) where
+    pub finds-undeclared-start : piece c d at ≡ got (startTag t) → Finds c s es d o at r × MarksAt c s es d at r marks
+    finds-undeclared-start p = rw w (undeclaredStart (record { name = t .name; size = t .size; written = t .written; there = under-undeclared c s es d at p (sym q ∙ z); number = sym q ∙ z }) refl refl, tt)
 
-  pub finds-end : piece c d at ≡ got (endTag (tagIn t)) → (x ≡ 0 → ⊥) → Names c s es d endTag at x (t .after) × (1 ≤ x)
-  finds-end p l = (named endTag p, omega arith)
+    pub finds-undeclared-end : piece c d at ≡ got (endTag t) → Finds c s es d o at r × MarksAt c s es d at r marks
+    finds-undeclared-end p = rw w (undeclaredEnd (record { name = t .name; size = t .size; written = t .written; there = under-end c s es d at p; number = sym q ∙ z }) refl refl, tt)
 
-  module _ (o : Open) (z : x ≡ 0) (r : Piece) (w : r ≡ found.Refused (record { number = 10; at = at })) where
-    pub finds-undeclared-start : piece c d at ≡ got (startTag (tagIn t)) → Finds c s es d o at r
-    finds-undeclared-start p = rw w (undeclaredStart (rw z at (named startTag p)) refl refl)
+  -- A start tag, whose attributes are held against the list of the element: f is what the code says of them.
+  module _ (e : piece c d at ≡ got (startTag t)) (some : x ≡ 0 → ⊥) where
+    pub number-some : 1 ≤ x
+    number-some = omega arith
 
-    pub finds-undeclared-end : piece c d at ≡ got (endTag (tagIn t)) → Finds c s es d o at r
-    finds-undeclared-end p = rw w (undeclaredEnd (rw z at (named endTag p)) refl refl)
+    -- Its list is in the table, and the names in it differ, as in every type.
+    pub list-held : (elements index lists given : List ℕ) (n : ℕ) → Indexed s es elements index → Lists c s es lists → KeptAs given n (t .written) → {marks : List ℕ} {f : Fault}
+        → ((xs : List Attribute) (ws : List Written) → ListAt c s lists (201 * (x - 1)) xs → NamesDiffer s xs → KeptAs given n ws → Attributed s xs d ws marks f (attributed c s xs d at ws))
+        → Attributed s (elementAt es (x - 1) .attributes) d (t .written) marks f (attributed c s (elementAt es (x - 1) .attributes) d at (t .written))
+    list-held elements index lists given n i l k said =
+        let declared : x - 1 < length es = omega (arith, q, numberOf-range s es d (t .name) (t .size)) in
+        said (elementAt es (x - 1) .attributes) (t .written) (l (x - 1) declared) (lists-differ (i .settings) s es (i .accepted .elements) (x - 1) declared) k
+
+    module _ {marks : List ℕ} {f : Fault} (a : Attributed s (elementAt es (x - 1) .attributes) d (t .written) marks f (attributed c s (elementAt es (x - 1) .attributes) d at (t .written))) where
+      pub finds-misgiven : (o : Open) → (f .number ≡ 0 → ⊥) → Finds c s es d o at (found.Refused f)
+      finds-misgiven o z = malformed (under-misgiven c s es d at e (sym q) number-some (a .refuses z))
+
+      pub finds-start : (o : Open) → f .number ≡ 0 → ToSettle c s es d o at x (t .after)
+      finds-start o z = starts number-some (record { name = t .name; size = t .size; written = t .written; there = under-start c s es d at e (sym q) number-some (a .passes z .0); number = sym q })
+
+      pub marks-start : f .number ≡ 0 → (u : Tag) → piece c d at ≡ got (startTag u) → Marked s (elementAt es (x - 1) .attributes) d (u .written) marks
+      marks-start z u p = let same : t ≡ u = cc in subst (λ (v : Tag). Marked s (elementAt es (x - 1) .attributes) d (v .written) marks) same (a .passes z .1)
+
+-- Where no element has a list and none is given there is nothing to hold.
+nothing-given : (given : List ℕ) (ws : List Written) → KeptAs given 0 ws → ws ≡ []
+unfolding keptOf
+nothing-given given [] k = refl
+nothing-given given (w ∷ ws) k = let z : _≡_ {A = ℕ} 0 1 = cc (k .kept) in absurd (omega arith)
+
+none-held : (c : Settings) (s : List ℕ) (xs : List Attribute) (d : List ℕ) (at : ℕ) (ws : List Written) → length xs ≡ 0 → ws ≡ [] → attributed c s xs d at ws ≡ got tt
+unfolding attributed allListed allFit noneMissing
+none-held c s [] d at [] h e = refl
+none-held c s [] d at (w ∷ ws) h e = let z : _≡_ {A = ℕ} 0 1 = cc in absurd (omega arith)
+none-held c s (a ∷ xs) d at ws h e = absurd (omega (arith, h))
+
+pub attributed-none : (c : Settings) (s lists d given marks : List ℕ) (at b n : ℕ) → n ≡ 0 → length lists ≡ 0 → (xs : List Attribute) (ws : List Written) → ListAt c s lists b xs → KeptAs given n ws
+    → Attributed s xs d ws marks (record { number = 0; at = 0 }) (attributed c s xs d at ws)
+attributed-none c s lists d given marks at b n z h xs ws l k =
+    let few : length xs ≡ 0 = sym (l .counted) ∙ List·getD-eq-default lists 0 (omega arith) in
+    record {
+      passes = λ e. (none-held c s xs d at ws few (nothing-given given ws (rw z at k)), λ j i. absurd (omega (arith, i, few)));
+      refuses = λ e. absurd (e refl);
+    }
 
 -- A blank is ignored where data does not fit, and begins a run where it does. The tables answer of the element e, which the open one is.
 says : (s : List ℕ) (es : List Element) (o : Open) {e : ℕ} {r : Bool} → o .number ≡ e → r ≡ leb 1 (decided s es .fits e (o .taken) pcdata) → r ≡ leb 1 (fitting s es (decided s es) o pcdata)
@@ -70,13 +122,15 @@ none-fits k h = let l = leb-false 1 k h in omega arith
 
 module _ {c : Settings} {s : List ℕ} {es : List Element} {d : List ℕ} (o : Open) {e at : ℕ} {r : Bool} (n : o .number ≡ e) (q : r ≡ leb 1 (decided s es .fits e (o .taken) pcdata)) (b : piece c d at ≡ got blank) where
   pub finds-separator : r ≡ false → Ignored c s es d o at (at + 1)
-  finds-separator z = separates b (none-fits (fitting s es (decided s es) o pcdata) (sym (says s es o n q) ∙ z)) refl
+  finds-separator z = separates (under-blank c s es d at b) (none-fits (fitting s es (decided s es) o pcdata) (sym (says s es o n q) ∙ z)) refl
 
   pub finds-blank-run : r ≡ true → {after : ℕ} → after ≡ runEnd d (at + 1) → Runs c s es d o at after
-  finds-blank-run z a = record { run = ap isRun b; fits = λ _. leb-true 1 (fitting s es (decided s es) o pcdata) (sym (says s es o n q) ∙ z); ends = a }
+  finds-blank-run z a = record { run = ap isRun (under-blank c s es d at b); fits = λ _. leb-true 1 (fitting s es (decided s es) o pcdata) (sym (says s es o n q) ∙ z); ends = a }
 
 pub finds-data-run : {c : Settings} {s : List ℕ} {es : List Element} {d : List ℕ} {o : Open} {at after : ℕ} → piece c d at ≡ got dataByte → after ≡ runEnd d (at + 1) → Runs c s es d o at after
-finds-data-run b a = record { run = ap isRun b; fits = λ w. let no : _≡_ {A = ℕ} 0 1 = cc in absurd (omega arith); ends = a }
+finds-data-run {c} {s} {es} {d} {o} {at} b a =
+    let there = under-data c s es d at b in
+    record { run = ap isRun there; fits = λ w. let no : _≡_ {A = ℕ} 0 1 = cc in absurd (omega arith); ends = a }
 
 -- Where reading goes on
 
@@ -88,14 +142,14 @@ module _ (d : List ℕ) (at : ℕ) (h : at < length d) where
   pub onward-refused : {p : Piece} {f : Fault} → p ≡ found.Refused f → Onward (length d) at p
   onward-refused e = rw e tt
 
-  module _ {t : text.Tag} {x : ElementNo} (few : x .0 ≤ 64) where
-    onward-tag : TagRead d at (tagIn t) → (x .0 ≤ 64) × (at < t .after) × (t .after ≤ length d)
+  module _ {t : Tag} {x : ElementNo} (few : x .0 ≤ 64) where
+    onward-tag : TagRead d at t → (x .0 ≤ 64) × (at < t .after) × (t .after ≤ length d)
     onward-tag r = (few, omega (arith, r .behind, r .ends), r .inside)
 
-    pub onward-start : (c : Settings) → piece c d at ≡ got (startTag (tagIn t)) → Onward (length d) at (found.Token x (t .after))
+    pub onward-start : (c : Settings) → piece c d at ≡ got (startTag t) → Onward (length d) at (found.Token x (t .after))
     onward-start c e = onward-tag (got-so (piece-read c d at h) e)
 
-    pub onward-end : (c : Settings) → piece c d at ≡ got (endTag (tagIn t)) → Onward (length d) at (found.End x (t .after))
+    pub onward-end : (c : Settings) → piece c d at ≡ got (endTag t) → Onward (length d) at (found.End x (t .after))
     onward-end c e = onward-tag (got-so (piece-read c d at h) e)
 
   pub onward-skipped : (c : Settings) {after : ℕ} → piece c d at ≡ got (skipped after) → Onward (length d) at (found.Passed after)

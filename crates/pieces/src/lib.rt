@@ -19,16 +19,23 @@ use tags::Tag;
 use text::Fault;
 ghost use mathlib.Core.Path.{_≡_};
 ghost use mathlib.Core.List.{List};
-ghost use Prim.Native.Nat.{_+_, _≤_, _<_};
+ghost use Prim.Native.Nat.{_+_, _*_, _-_, _≤_, _<_};
 ghost use lib.ListN.{length};
 ghost use Rattle.rules.specs.Settings.{settings, mostNameLength};
 ghost use Rattle.rules.specs.TypeFile.{Element};
+ghost use Rattle.rules.specs.Attributes.{Attribute};
+ghost use Rattle.rules.specs.Document as document;
 ghost use Rattle.rules.specs.Elements.{numberOf};
+ghost use Rattle.rules.specs.Given.{attributed};
 ghost use Rattle.rules.specs.Settling as rules;
 ghost use Rattle.delimiters.specs.Means.{Classes};
+ghost use Rattle.tags.specs.Given.{KeptAs, GivenIn};
 ghost use Rattle.element_index.specs.Means.{Indexed};
+ghost use Rattle.list_table.specs.Means.{ListAt, Lists};
+ghost use Rattle.attribute_marks.specs.Differ.{NamesDiffer};
+ghost use Rattle.attribute_marks.specs.Marks.{Attributed};
 ghost use Rattle.type_tables.specs.Means.{Tables, Entered};
-ghost use Rattle.pieces.specs.Means.{Finds, Onward};
+ghost use Rattle.pieces.specs.Means.{Finds, MarksAt, Onward};
 
 // What stands at a position of the document, names looked up.
 pub enum Piece {
@@ -55,6 +62,31 @@ fn tagged(s: &[u8], elements: &[u32; RECORDS], index: &[u8; INDEX], d: &[u8], t:
 {
     let f = element_index::find(s, elements, index, d, t.name, t.size);
     f.element
+}
+
+// What the start tag at `at`, of the element x, gives, of which n attributes are kept, held against the list of x: 20, 22 or 21, or number 0, and then they are marked. Where
+// no element has a list and none is given there is nothing to hold.
+fn held(
+    long: usize,
+    s: &[u8],
+    lists: &[u16],
+    d: &[u8],
+    x: ElementNo,
+    given: &[u16; GIVEN],
+    n: usize,
+    at: usize,
+    marks: &mut [u16; MARKS],
+) -> Fault
+    requires { ⌜ (1 ≤ x .0) × (x .0 ≤ 64) × (n ≤ 41) × GivenIn (length (now d)) (now given) n × (length (now s) ≤ 32768) × (length (now d) ≤ 65535) ⌝ }
+    ensures { λ r. ⌜ ((xs : List Attribute) (ws : List document.Written) → ListAt (settings long) (now (s .entry)) (now (lists .entry)) (201 * (x .0 - 1)) xs → NamesDiffer (now (s .entry)) xs → KeptAs (now (given .entry)) n ws →
+        Attributed (now (s .entry)) xs (now (d .entry)) ws (now (marks .exit)) r (attributed (settings long) (now (s .entry)) xs (now (d .entry)) at ws)) ⌝ }
+{
+    if n == 0 {
+        if lists.len() == 0 {
+            return Fault { number: 0, at: 0 };
+        }
+    }
+    attribute_marks::check(long, s, lists, d, x, given, n, at, marks)
 }
 
 // What stands at `at`, where the current element, of which so many are around it as `level` says, is e after the place u. Where it is a start tag, `marks` has
@@ -93,11 +125,9 @@ pub fn piece_at(
             if x.0 == 0 {
                 return undeclared(at);
             }
-            if g.given != 0 || lists.len() != 0 {
-                let f = attribute_marks::check(long, s, lists, d, x, given, g.given, at, marks);
-                if f.number != 0 {
-                    return Piece::Refused(f);
-                }
+            let f = held(long, s, lists, d, x, given, g.given, at, marks);
+            if f.number != 0 {
+                return Piece::Refused(f);
             }
             return Piece::Token(x, g.after);
         }

@@ -1,5 +1,4 @@
 -- `put_defaults` meets its contract: nothing is marked, so that all are defaulted.
-use native.Mathlib.Omega.{arith}
 use borrow.Author.Needs.{needs}
 use Rattle.attribute_events.specs.Laws.{defaults-none, defaults-unmarked}
 use Rattle.attribute_events.proofs.put_defaults.Statement.{statement}

@@ -1,48 +1,76 @@
 -- `piece_at` meets its contract: by the token that stands there.
 use mathlib.Core.Path.{_≡_, refl}
+use mathlib.Core.Logic.{⊎-elim}
+use mathlib.Core.List.{List}
 use native.Mathlib.Omega.{arith}
+use lib.ListN.{length}
 use borrow.Author.Tests.{not-true, not-false}
 use Rattle.rules.specs.Settings.{settings}
 use Rattle.rules.specs.Reading.{got}
-use Rattle.rules.specs.Document.{startTag, endTag, blank, piece}
-use Rattle.tags.specs.Tags.{tagIn}
-use Rattle.document_text.specs.Laws.{token-start, token-end, token-skipped, token-blank, token-data, token-refused}
+use Rattle.rules.specs.Document.{Written, startTag, endTag, piece}
+use Rattle.tags.specs.Tags.{tagIn, tagWith}
+use Rattle.tags.specs.Given.{ReadAs}
+use Rattle.document_laws.specs.Under.{under-skipped, under-refused}
 use Rattle.pieces.specs.Means.{skips, runs, malformed}
-use Rattle.pieces.specs.Pieces.{start-tag-asked, end-tag-asked, finds-start, finds-end, finds-undeclared-start, finds-undeclared-end, finds-separator, finds-blank-run, finds-data-run, onward-start, onward-end, onward-skipped, onward-run, onward-refused}
+use Rattle.pieces.specs.Pieces.{token-is, start-tag-asked, end-tag-asked, list-held, finds-start, finds-misgiven, marks-start, finds-end, finds-undeclared-start, finds-undeclared-end, finds-separator, finds-blank-run, finds-data-run, onward-start, onward-end, onward-skipped, onward-run, onward-refused}
 use borrow.Author.Needs.{needs}
 use Rattle.pieces.proofs.piece_at.Statement.{statement}
 use Rattle.pieces.proofs.piece_at.Tie as tie
 
--- A start tag stands there, an end tag, a blank.
-start-stands : (c : tie.After-known-told) → piece (settings (c .before .before .before .before .before .before .before .args .long)) (c .before .before .before .before .before .before .before .args .d .now) (c .before .before .before .before .before .before .before .args .at) ≡ got (startTag (tagIn (c .before .t .given .0 .0)))
-start-stands c = token-start (c .before .before .before .token-at .ensures) (c .before .t .given .1)
+-- A start tag stands there, which gives these attributes, or an end tag.
+start-stands : (c : tie.After-known-told) → (ws : List Written) × (piece (settings (c .before .before .before .before .before .before .before .before .before .args .long)) (c .before .before .before .before .before .before .before .before .before .args .d .now) (c .before .before .before .before .before .before .before .before .before .args .at) ≡ got (startTag (tagWith ws (c .before .t .given .0 .0)))) × ReadAs (length (c .before .before .before .before .before .before .before .before .before .args .d .now)) (c .before .before .before .token-at .last .1 .1 .1 .1 .0) (c .before .t .given .0 .0 .given) ws
+start-stands c = token-is (length (c .before .before .before .before .before .before .before .before .before .args .d .now)) (c .before .before .before .token-at .last .1 .1 .1 .1 .0) _ (c .before .before .before .token-at .result) (c .before .before .before .token-at .ensures) (c .before .t .given .1)
 
-end-stands : (c : tie.After-known-told2) → piece (settings (c .before .before .before .before .before .before .before .args .long)) (c .before .before .before .before .before .before .before .args .d .now) (c .before .before .before .before .before .before .before .args .at) ≡ got (endTag (tagIn (c .before .t2 .given .0 .0)))
-end-stands c = token-end (c .before .before .before .token-at .ensures) (c .before .t2 .given .1)
-
-blank-stands : (c : tie.After-enum-told) → piece (settings (c .before .before .before .before .before .before .args .long)) (c .before .before .before .before .before .before .args .d .now) (c .before .before .before .before .before .before .args .at) ≡ got blank
-blank-stands c = token-blank (c .before .before .token-at .ensures) (c .enum-told .given .1)
+end-stands : (c : tie.After-known-told2) → piece (settings (c .before .before .before .before .before .before .before .before .before .args .long)) (c .before .before .before .before .before .before .before .before .before .args .d .now) (c .before .before .before .before .before .before .before .before .before .args .at) ≡ got (endTag (tagIn (c .before .t2 .given .0 .0)))
+end-stands c = token-is (length (c .before .before .before .before .before .before .before .before .before .args .d .now)) (c .before .before .before .token-at .last .1 .1 .1 .1 .0) _ (c .before .before .before .token-at .result) (c .before .before .before .token-at .ensures) (c .before .t2 .given .1)
 
 token-at-requires : tie.Need-token-at-requires
-token-at-requires c κs = (c .before .before .before .pre .0, c .before .before .before .pre .5)
+token-at-requires c κs = search needs
 
 enum-known-t : tie.Need-enum-known-t
 enum-known-t c = search needs
 
 tagged-requires : tie.Need-tagged-requires
 tagged-requires c κs =
-    let begun = c .before .before .before .before .before .before .before in
-    start-tag-asked (settings (begun .args .long)) (begun .pre .1) (begun .args .d .now) (begun .args .at) (begun .pre .5) _ (start-stands c)
+    let a = c .before .before .before .before .before .before .before .before .before .args in
+    start-tag-asked (settings (a .long)) (c .before .before .before .before .before .before .before .before .before .pre .1) (a .d .now) (a .at) (c .before .before .before .before .before .before .before .before .before .pre .5) (start-stands (c) .1)
 
 undeclared-requires : tie.Need-undeclared-requires
 undeclared-requires c κs = search needs
 
 returns : tie.Need-returns
 returns c =
-    let a = c .before .before .before .before .before .before .before .before .before .before .before .args in (
-      onward-refused (a .d .now) (a .at) (c .before .before .before .before .before .before .before .before .before .before .before .pre .5) (c .undeclared .ensures),
-      λ es i t o r.
-          finds-undeclared-start (settings (a .long)) (a .s .now) es (a .d .now) (a .at) (c .before .before .before .tagged .ensures .0 es i) o (c .before .if1 .taken) _ (c .undeclared .ensures) (start-stands (c .before .before .before .before)),
+    let a = c .before .before .before .before .before .before .before .before .before .before .before .before .before .args in
+    let (ws, e, k) = start-stands (c .before .before .before .before) in (
+      onward-refused (a .d .now) (a .at) (c .before .before .before .before .before .before .before .before .before .before .before .before .before .pre .5) (c .undeclared .ensures),
+      λ es i t l o r. finds-undeclared-start (settings (a .long)) (a .s .now) es (a .d .now) (a .at) (c .before .before .before .tagged .ensures .0 es i) o (c .before .if1 .taken) _ (c .undeclared .ensures) _ e,
+    )
+
+held-requires : tie.Need-held-requires
+held-requires c κs =
+    let k = start-stands (c .before .before .before .before .before) .2 in
+    (omega (arith, c .before .before .if1 .left), c .before .before .before .before .tagged .ensures .1, k .kept .few, k .inside, c .before .before .before .before .before .before .before .before .before .before .before .before .before .before .pre .7, c .before .before .before .before .before .before .before .before .before .before .before .before .before .before .pre .6)
+
+returns-2 : tie.Need-returns-2
+returns-2 c =
+    let a = c .before .before .before .before .before .before .before .before .before .before .before .before .before .before .before .before .before .args in
+    let (ws, e, k) = start-stands (c .before .before .before .before .before .before .before .before) in (
+      tt,
+      λ es i t l o r.
+          let q = c .before .before .before .before .before .before .before .tagged .ensures .0 es i in
+          let held = list-held (settings (a .long)) (a .s .now) es (a .d .now) (a .at) q e (c .before .before .before .before .before .if1 .left) _ _ (a .lists .now) (c .before .before .before .before .before .before .before .before .before .before .before .token-at .last .1 .1 .1 .1 .0) _ i l (k .kept) (c .before .before .held .ensures) in
+          (finds-misgiven (settings (a .long)) (a .s .now) es (a .d .now) (a .at) q e (c .before .before .before .before .before .if1 .left) held o (c .if2 .taken), tt),
+    )
+
+returns-3 : tie.Need-returns-3
+returns-3 c =
+    let a = c .before .before .before .before .before .before .before .before .before .before .before .before .before .before .before .before .before .args in
+    let (ws, e, k) = start-stands (c .before .before .before .before .before .before .before .before) in (
+      onward-start (a .d .now) (a .at) (c .before .before .before .before .before .before .before .before .before .before .before .before .before .before .before .before .before .pre .5) (c .before .before .before .before .before .before .before .tagged .ensures .1) (settings (a .long)) e,
+      λ es i t l o r.
+          let q = c .before .before .before .before .before .before .before .tagged .ensures .0 es i in
+          let held = list-held (settings (a .long)) (a .s .now) es (a .d .now) (a .at) q e (c .before .before .before .before .before .if1 .left) _ _ (a .lists .now) (c .before .before .before .before .before .before .before .before .before .before .before .token-at .last .1 .1 .1 .1 .0) _ i l (k .kept) (c .before .before .held .ensures) in
+          (finds-start (settings (a .long)) (a .s .now) es (a .d .now) (a .at) q e (c .before .before .before .before .before .if1 .left) held o (omega arith), λ some. marks-start (settings (a .long)) (a .s .now) es (a .d .now) (a .at) q e (c .before .before .before .before .before .if1 .left) held (omega arith)),
     )
 
 enum-known-t-2 : tie.Need-enum-known-t-2
@@ -50,90 +78,80 @@ enum-known-t-2 c = search needs
 
 tagged-requires-2 : tie.Need-tagged-requires-2
 tagged-requires-2 c κs =
-    let begun = c .before .before .before .before .before .before .before in
-    end-tag-asked (settings (begun .args .long)) (begun .pre .1) (begun .args .d .now) (begun .args .at) (begun .pre .5) _ (end-stands c)
+    let a = c .before .before .before .before .before .before .before .before .before .args in
+    end-tag-asked (settings (a .long)) (c .before .before .before .before .before .before .before .before .before .pre .1) (a .d .now) (a .at) (c .before .before .before .before .before .before .before .before .before .pre .5) (end-stands (c))
 
 undeclared-requires-2 : tie.Need-undeclared-requires-2
 undeclared-requires-2 c κs = search needs
 
-returns-2 : tie.Need-returns-2
-returns-2 c =
-    let a = c .before .before .before .before .before .before .before .before .before .before .before .args in (
-      onward-refused (a .d .now) (a .at) (c .before .before .before .before .before .before .before .before .before .before .before .pre .5) (c .undeclared2 .ensures),
-      λ es i t o r.
-          finds-undeclared-end (settings (a .long)) (a .s .now) es (a .d .now) (a .at) (c .before .before .before .tagged2 .ensures .0 es i) o (c .before .if2 .taken) _ (c .undeclared2 .ensures) (end-stands (c .before .before .before .before)),
+returns-4 : tie.Need-returns-4
+returns-4 c =
+    let a = c .before .before .before .before .before .before .before .before .before .before .before .before .before .args in
+    let e = end-stands (c .before .before .before .before) in (
+      onward-refused (a .d .now) (a .at) (c .before .before .before .before .before .before .before .before .before .before .before .before .before .pre .5) (c .undeclared2 .ensures),
+      λ es i t l o r. finds-undeclared-end (settings (a .long)) (a .s .now) es (a .d .now) (a .at) (c .before .before .before .tagged2 .ensures .0 es i) o (c .before .if3 .taken) _ (c .undeclared2 .ensures) _ e,
+    )
+
+returns-5 : tie.Need-returns-5
+returns-5 c =
+    let a = c .before .before .before .before .before .before .before .before .before .before .before .before .args in
+    let e = end-stands (c .before .before .before) in (
+      onward-end (a .d .now) (a .at) (c .before .before .before .before .before .before .before .before .before .before .before .before .pre .5) (c .before .before .tagged2 .ensures .1) (settings (a .long)) e,
+      λ es i t l o r. (finds-end (settings (a .long)) (a .s .now) es (a .d .now) (a .at) (c .before .before .tagged2 .ensures .0 es i) e (c .if3 .left), tt),
     )
 
 enum-known-t-3 : tie.Need-enum-known-t-3
 enum-known-t-3 c = search needs
 
-enum-told : tie.Need-enum-told
-enum-told c = search needs
-
-takes-data-requires : tie.Need-takes-data-requires
-takes-data-requires c κs = (c .before .before .before .before .before .before .pre .2, c .before .before .before .before .before .before .pre .3, c .before .before .before .before .before .before .pre .4)
-
-add-t29 : tie.Need-add-t29
-add-t29 c = omega (arith, c .before .before .before .before .before .before .before .before .pre .5, c .before .before .before .before .before .before .before .before .pre .6)
-
-returns-3 : tie.Need-returns-3
-returns-3 c = (
-  (omega arith, omega (arith, c .before .before .before .before .before .before .before .before .pre .5)),
-  λ es i t o r. finds-separator o (r .number) (c .before .takes-data .ensures _ es t o r) (blank-stands (c .before .before)) (not-true _ (c .if3 .taken)),
-)
-
-add-run-end : tie.Need-add-run-end
-add-run-end c = omega (arith, c .before .before .before .before .before .before .before .before .pre .5, c .before .before .before .before .before .before .before .before .pre .6)
-
-run-end-requires : tie.Need-run-end-requires
-run-end-requires c κs = (c .before .before .before .before .before .before .before .before .pre .0, omega (arith, c .before .before .before .before .before .before .before .before .pre .5))
-
-enum-told-2 : tie.Need-enum-told-2
-enum-told-2 c = search needs
-
-add-run-end-2 : tie.Need-add-run-end-2
-add-run-end-2 c = omega (arith, c .before .before .before .before .before .before .pre .5, c .before .before .before .before .before .before .pre .6)
-
-run-end-requires-2 : tie.Need-run-end-requires-2
-run-end-requires-2 c κs = (c .before .before .before .before .before .before .pre .0, omega (arith, c .before .before .before .before .before .before .pre .5))
+returns-6 : tie.Need-returns-6
+returns-6 c =
+    let a = c .before .before .before .before .before .before .before .before .before .args in
+    let e = token-is (length (a .d .now)) (c .before .before .before .token-at .last .1 .1 .1 .1 .0) _ (c .before .before .before .token-at .result) (c .before .before .before .token-at .ensures) (c .before .t3 .given .1) in
+    (onward-skipped (a .d .now) (a .at) (c .before .before .before .before .before .before .before .before .before .pre .5) (settings (a .long)) e, λ es i t l o r. (skips (under-skipped (settings (a .long)) (a .s .now) es (a .d .now) (a .at) e), tt))
 
 enum-known-t-4 : tie.Need-enum-known-t-4
 enum-known-t-4 c = search needs
 
-returns-4 : tie.Need-returns-4
-returns-4 c =
-    let a = c .before .before .before .before .before .before .before .before .before .before .args in (
-      onward-start (a .d .now) (a .at) (c .before .before .before .before .before .before .before .before .before .before .pre .5) (c .before .before .tagged .ensures .1) (settings (a .long)) (start-stands (c .before .before .before)),
-      λ es i t o r. finds-start (settings (a .long)) (a .s .now) es (a .d .now) (a .at) (c .before .before .tagged .ensures .0 es i) o (start-stands (c .before .before .before)) (c .if1 .left),
-    )
-
-returns-5 : tie.Need-returns-5
-returns-5 c =
-    let a = c .before .before .before .before .before .before .before .before .before .before .args in (
-      onward-end (a .d .now) (a .at) (c .before .before .before .before .before .before .before .before .before .before .pre .5) (c .before .before .tagged2 .ensures .1) (settings (a .long)) (end-stands (c .before .before .before)),
-      λ es i t o r. finds-end (settings (a .long)) (a .s .now) es (a .d .now) (a .at) (c .before .before .tagged2 .ensures .0 es i) (end-stands (c .before .before .before)) (c .if2 .left),
-    )
-
-returns-6 : tie.Need-returns-6
-returns-6 c =
-    let e = token-skipped (c .before .before .before .token-at .ensures) (c .before .t3 .given .1) in
-    let begun = c .before .before .before .before .before .before .before in
-    (onward-skipped (begun .args .d .now) (begun .args .at) (begun .pre .5) (settings (begun .args .long)) e, λ es i t o r. skips e)
-
 returns-7 : tie.Need-returns-7
-returns-7 c = (
-  onward-run (c .before .before .before .before .before .before .before .before .before .args .d .now) (c .before .before .before .before .before .before .before .before .before .args .at) (c .before .before .before .before .before .before .before .before .before .pre .5) (c .run-end .ensures),
-  λ es i t o r. runs refl (finds-blank-run o (r .number) (c .before .before .takes-data .ensures _ es t o r) (blank-stands (c .before .before .before)) (not-false _ (c .before .if3 .left)) (c .run-end .ensures)),
-)
+returns-7 c =
+    let a = c .before .before .before .before .before .before .before .before .before .args in
+    let e = token-is (length (a .d .now)) (c .before .before .before .token-at .last .1 .1 .1 .1 .0) _ (c .before .before .before .token-at .result) (c .before .before .before .token-at .ensures) (c .before .t4 .given .1) in
+    (tt, λ es i t l o r. (malformed (under-refused (settings (a .long)) (a .s .now) es (a .d .now) (a .at) e), tt))
+
+enum-told : tie.Need-enum-told
+enum-told c = search needs
+
+takes-data-requires : tie.Need-takes-data-requires
+takes-data-requires c κs = search needs
+
+add-t35 : tie.Need-add-t35
+add-t35 c = search needs
 
 returns-8 : tie.Need-returns-8
-returns-8 c = (
-  onward-run (c .before .before .before .before .before .before .before .args .d .now) (c .before .before .before .before .before .before .before .args .at) (c .before .before .before .before .before .before .before .pre .5) (c .run-end2 .ensures),
-  λ es i t o r. runs refl (finds-data-run (token-data (c .before .before .before .token-at .ensures) (c .before .enum-told2 .given .1)) (c .run-end2 .ensures)),
-)
+returns-8 c =
+    let a = c .before .before .before .before .before .before .before .before .before .before .args in
+    let e = token-is (length (a .d .now)) (c .before .before .before .before .token-at .last .1 .1 .1 .1 .0) _ (c .before .before .before .before .token-at .result) (c .before .before .before .before .token-at .ensures) (c .before .before .enum-told .given .1) in
+    ((omega arith, omega (arith, c .before .before .before .before .before .before .before .before .before .before .pre .5)), λ es i t l o r. (finds-separator o (r .number) (c .before .takes-data .ensures _ es t o r) e (not-true _ (c .if4 .taken)), tt))
+
+enum-told-2 : tie.Need-enum-told-2
+enum-told-2 c = search needs
+
+add-run-end : tie.Need-add-run-end
+add-run-end c = search needs
+
+run-end-requires : tie.Need-run-end-requires
+run-end-requires c κs = search needs
 
 returns-9 : tie.Need-returns-9
-returns-9 c = (tt, λ es i t o r. malformed (token-refused (c .before .before .before .token-at .ensures) (c .before .t4 .given .1)))
+returns-9 c =
+    let a = c .before .before .before .before .before .before .before .before .args in (
+      onward-run (a .d .now) (a .at) (c .before .before .before .before .before .before .before .before .pre .5) (c .run-end .ensures),
+      λ es i t l o r. (
+        ⊎-elim (λ w. runs refl (finds-blank-run o (r .number) (w .2 .ensures _ es t o r) (token-is (length (a .d .now)) (c .before .before .token-at .last .1 .1 .1 .1 .0) _ (c .before .before .token-at .result) (c .before .before .token-at .ensures) (w .1 .given .1)) (not-false _ (w .3 .left)) (c .run-end .ensures)))
+            (λ w. runs refl (finds-data-run (token-is (length (a .d .now)) (c .before .before .token-at .last .1 .1 .1 .1 .0) _ (c .before .before .token-at .result) (c .before .before .token-at .ensures) (w .1 .given .1)) (c .run-end .ensures))) (c .before .match .came),
+        λ some. absurd (omega arith),
+      ),
+    )
 
 pub piece-at-spec : {M : Type 1} → statement M
 piece-at-spec =
@@ -144,24 +162,23 @@ piece-at-spec =
     tagged-requires
     undeclared-requires
     returns
+    held-requires
+    returns-2
+    returns-3
     enum-known-t-2
     tagged-requires-2
     undeclared-requires-2
-    returns-2
-    enum-known-t-3
-    enum-told
-    takes-data-requires
-    add-t29
-    returns-3
-    add-run-end
-    run-end-requires
-    enum-told-2
-    add-run-end-2
-    run-end-requires-2
-    enum-known-t-4
     returns-4
     returns-5
+    enum-known-t-3
     returns-6
+    enum-known-t-4
     returns-7
+    enum-told
+    takes-data-requires
+    add-t35
     returns-8
+    enum-told-2
+    add-run-end
+    run-end-requires
     returns-9)
