@@ -13,7 +13,7 @@ element-copy-out-result : tie.Need-element-copy-out-result
 element-copy-out-result c = search needs
 
 returns : tie.Need-returns
-returns c s es raised said declared = rw (said .start _ (declared .0) (declared .1))
+returns c s es raised said declared = said .start _ (declared .0) (declared .1)
 
 pub start-omitted-spec : {M : Type 1} → statement M
 start-omitted-spec = tie.close (tie.spec mul-result add-result element-copy-out-result returns)
