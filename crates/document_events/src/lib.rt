@@ -83,25 +83,31 @@ pub fn events_of(
         );
         match p {
             Piece::Token(x, after) => {
-                let r = settling::token(
-                    rows,
-                    places,
-                    facts,
-                    members,
-                    &mut begun,
-                    o,
-                    x,
-                    at,
-                    after,
-                    n,
-                    numbers,
-                    bytes,
-                );
+                if ways::is_over(o) {
+                    return refusal(16, at);
+                }
+                let f = inferring::ends(rows, places, facts, members, &begun, o, x, at, n, numbers, bytes);
+                let found = f.found;
+                let starts = ways::starts_of(found);
+                let m = f.events;
+                o = f.open;
+                if 24 < o.count + starts {
+                    return refusal(15, at);
+                }
+                let mut k = 0;
+                while k < starts {
+                    o = inferring::infer_start(rows, places, facts, members, &mut begun, o, at, m + k, numbers, bytes);
+                    k += 1;
+                }
+                let r = placing::placed(rows, places, facts, members, &mut begun, o, found, x, at, after, m + starts, numbers, bytes);
                 if r.number != 0 {
                     return refusal(r.number, at);
                 }
                 n = r.events;
                 o = r.open;
+                if ways::opens(facts, x) {
+                    o = o.start(rows, x);
+                }
                 at = after;
             }
             Piece::End(x, after) => {

@@ -23,6 +23,7 @@ ghost use Rattle.placing.specs.Noting.{writtenOf, Places};
 
 // The events of a run of data, or of an EMPTY element x, which took this place.
 fn put_written(
+    facts: &[u8; FACTS],
     x: ElementNo,
     shown: Place,
     at: usize,
@@ -40,6 +41,9 @@ fn put_written(
         return event_buffer::put_event(numbers, bytes, n, 5, x, at, after - at, none);
     }
     let m = event_buffer::put_event(numbers, bytes, n, 1, x, at, after - at, shown);
+    if ways::opens(facts, x) {
+        return m;
+    }
     event_buffer::put_event(numbers, bytes, m, 6, x, after, 0, none)
 }
 
@@ -81,18 +85,9 @@ pub fn placed(
     }
     let shown = open_elements::place_shown(e, p);
     let last = state.take(rows, members, begun, p);
-    if !ways::opens(facts, x) {
-        let m = put_written(x, shown, at, after, n, numbers, bytes);
-        return Outcome {
-            open: last,
-            events: m,
-            number: 0,
-        };
-    }
-    let inner = last.start(rows, x);
-    let m = event_buffer::put_event(numbers, bytes, n, 1, x, at, after - at, shown);
+    let m = put_written(facts, x, shown, at, after, n, numbers, bytes);
     Outcome {
-        open: inner,
+        open: last,
         events: m,
         number: 0,
     }
