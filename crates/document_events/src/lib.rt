@@ -86,7 +86,19 @@ pub fn events_of(
                 if ways::is_over(o) {
                     return refusal(16, at);
                 }
-                let f = inferring::ends(rows, places, facts, members, &begun, o, x, at, n, numbers, bytes);
+                let f = inferring::ends(
+                    rows,
+                    places,
+                    facts,
+                    members,
+                    &begun,
+                    o,
+                    x,
+                    at,
+                    n,
+                    numbers,
+                    bytes,
+                );
                 let found = f.found;
                 let starts = ways::starts_of(found);
                 let m = f.events;
@@ -96,10 +108,35 @@ pub fn events_of(
                 }
                 let mut k = 0;
                 while k < starts {
-                    o = inferring::infer_start(rows, places, facts, members, &mut begun, o, at, m + k, numbers, bytes);
+                    o = inferring::infer_start(
+                        rows,
+                        places,
+                        facts,
+                        members,
+                        &mut begun,
+                        o,
+                        at,
+                        m + k,
+                        numbers,
+                        bytes,
+                    );
                     k += 1;
                 }
-                let r = placing::placed(rows, places, facts, members, &mut begun, o, found, x, at, after, m + starts, numbers, bytes);
+                let r = placing::placed(
+                    rows,
+                    places,
+                    facts,
+                    members,
+                    &mut begun,
+                    o,
+                    found,
+                    x,
+                    at,
+                    after,
+                    m + starts,
+                    numbers,
+                    bytes,
+                );
                 if r.number != 0 {
                     return refusal(r.number, at);
                 }
