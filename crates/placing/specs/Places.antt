@@ -211,15 +211,19 @@ module _ {rows places facts M begun : List ℕ} {found : Way} {x at after n : �
             (h .notes some s es tables z stands can most);
       }
 
-  -- An element with a model was opened, whichever these are by the table of facts.
-  module _ (small : x ≤ 64) (fine : r .number ≡ 0) where
-    opened-ranged : (b : Bool) → Opens facts x b → Ranged (openedBy rows x b (r .open))
-    opened-ranged true opens = ranged-opening rows x (h .ranged) (h .room fine (λ z. clash refl (opens .0 z))) small
-    opened-ranged false opens = h .ranged
+  module _ (fine : r .number ≡ 0) (b : Bool) (none : x ≡ 0 → b ≡ false) {q : Open} (i : q ≡ openedBy rows x b (r .open)) where
+    pub opened-ranged : x ≤ 64 → Ranged q
+    opened-ranged small = rw i (by-flag b none)
+      where
+        by-flag : (b : Bool) → (x ≡ 0 → b ≡ false) → Ranged (openedBy rows x b (r .open))
+        by-flag true none = ranged-opening rows x (h .ranged) (h .room fine (λ z. clash refl (none z))) small
+        by-flag false none = h .ranged
 
-    module _ {s : List ℕ} {es : List Element} (tables : Tables s es rows places facts M) {z : State} (stands : Stands es M begun o z) (can : CanTake es (z .current) (h .p)) (most : x ≤ length es) where
-      opened-stands : (b : Bool) → Opens facts x b → Stands es M begun′ (openedBy rows x b (r .open)) (entering es x (takePlace (h .p) z))
-      opened-stands b opens = by-flag b opens
+    -- By the tables of a type the element has a model, or the token is another: the open elements stand for what the rules make of it.
+    module _ {s : List ℕ} {es : List Element} (tables : Tables s es rows places facts M) {z : State} (stands : Stands es M begun o z) (can : CanTake es (z .current) (h .p)) (most : x ≤ length es)
+        (model : (x ≡ 0 → ⊥) → hasModel (contentOf es x) ≡ b) where
+      opened-stands : Stands es M begun′ q (entering es x (takePlace (h .p) z))
+      opened-stands = rw i (by-flag b none model)
         where
           y : State
           y = takePlace (h .p) z
@@ -227,20 +231,23 @@ module _ {rows places facts M begun : List ℕ} {found : Way} {x at after n : �
           there : Stands es M begun′ (r .open) y
           there = h .taking fine .stands s es places facts tables z stands can
 
-          by-flag : (b : Bool) → Opens facts x b → Stands es M begun′ (openedBy rows x b (r .open)) (entering es x y)
-          by-flag true opens =
-              let element : x ≡ 0 → ⊥ = (λ z. clash refl (opens .0 z)) in
-              rw (entering-model es y x element (model-is opens tables element most refl)) (stands-opening there tables x (h .room fine element) (omega (arith, element)) most)
-          by-flag false opens = rw (entering-none es y x (λ element. model-is opens tables element most refl)) there
+          by-flag : (b : Bool) → (x ≡ 0 → b ≡ false) → ((x ≡ 0 → ⊥) → hasModel (contentOf es x) ≡ b) → Stands es M begun′ (openedBy rows x b (r .open)) (entering es x y)
+          by-flag true none model =
+              let element : x ≡ 0 → ⊥ = (λ z. clash refl (none z)) in
+              rw (entering-model es y x element (model element)) (stands-opening there tables x (h .room fine element) (omega (arith, element)) most)
+          by-flag false none model = rw (entering-none es y x model) there
 
-    pub places-opened : (b : Bool) → Opens facts x b → {q : Open} → q ≡ openedBy rows x b (r .open) → Places rows places facts M begun found x at after n o numbers bytes r q begun′ numbers′ bytes′
-    places-opened b opens {q} i =
-        record {
-          placed = h;
-          ranged = rw i (opened-ranged b opens);
-          notes = λ some s es tables z stands can most.
-              let y = takePlace (h .p) z in
-              let there : Stands es M begun′ q (entering es x y) = rw i (opened-stands tables stands can most b opens) in
-              becomes-more {P = Notes es x y (h .events)} {Q = Follows es M begun′ q z (h .events)} at (r .number) (noting es x at after y)
-              (λ e w is. (subst (Stands es M begun′ q) (sym is) (stands-noted there (y .events ++ h .events)), ap (λ (v : State). v .events) is)) (h .notes some s es tables z stands can most);
-        }
+      pub opened-notes : (h .p ≡ 0 → ⊥) → Becomes at (r .number) (Follows es M begun′ q z (h .events)) (noting es x at after (takePlace (h .p) z))
+      opened-notes some =
+          let y = takePlace (h .p) z in
+          becomes-more {P = Notes es x y (h .events)} {Q = Follows es M begun′ q z (h .events)} at (r .number) (noting es x at after y)
+          (λ e w is. (subst (Stands es M begun′ q) (sym is) (stands-noted opened-stands (y .events ++ h .events)), ap (λ (v : State). v .events) is)) (h .notes some s es tables z stands can most)
+
+  -- Whatever the tables hold: an element that opens by the table of facts was opened.
+  pub places-opened : r .number ≡ 0 → x ≤ 64 → (b : Bool) → Opens facts x b → {q : Open} → q ≡ openedBy rows x b (r .open) → Places rows places facts M begun found x at after n o numbers bytes r q begun′ numbers′ bytes′
+  places-opened fine small b opens i =
+      record {
+        placed = h;
+        ranged = opened-ranged fine b (opens .0) i small;
+        notes = λ some s es tables z stands can most. opened-notes fine b (opens .0) i tables stands can most (λ element. model-is opens tables element most refl) some;
+      }
