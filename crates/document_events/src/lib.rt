@@ -91,19 +91,61 @@ pub fn events_of(
         );
         match p {
             Piece::Token(x, after) => {
-                let r = settling::token(
+                if ways::is_over(o) {
+                    return refusal(16, at);
+                }
+                let f = inferring::ends(
+                    rows,
+                    places,
+                    facts,
+                    members,
+                    &begun,
+                    o,
+                    x,
+                    at,
+                    n,
+                    numbers,
+                    bytes,
+                );
+                let found = f.found;
+                let starts = ways::starts_of(found);
+                let mut m = f.events;
+                o = f.open;
+                if 24 < o.count + starts {
+                    return refusal(15, at);
+                }
+                let mut k = 0;
+                while k < starts {
+                    let j = inferring::next_start(places, facts, o);
+                    m = attribute_events::put_defaults(lists, j, m, numbers, bytes);
+                    o = inferring::infer_start(
+                        rows,
+                        places,
+                        facts,
+                        members,
+                        &mut begun,
+                        o,
+                        at,
+                        m,
+                        numbers,
+                        bytes,
+                    );
+                    m += 1;
+                    k += 1;
+                }
+                m = attribute_events::put_written(lists, &marks, x, m, numbers, bytes);
+                let r = placing::placed(
                     rows,
                     places,
                     facts,
                     members,
                     &mut begun,
-                    lists,
-                    &marks,
                     o,
+                    found,
                     x,
                     at,
                     after,
-                    n,
+                    m,
                     numbers,
                     bytes,
                 );
@@ -112,6 +154,9 @@ pub fn events_of(
                 }
                 n = r.events;
                 o = r.open;
+                if ways::opens(facts, x) {
+                    o = o.start(rows, x);
+                }
                 at = after;
             }
             Piece::End(x, after) => {

@@ -1,4 +1,4 @@
--- What has become of a token, in the rules' terms: what the contract of `token` cites.
+-- What has become of a token, in the rules' terms, once all its steps were taken.
 use Prim.Native.Nat.{ℕ, zero, suc, _+_, _-_, _≤_, _<_}
 use mathlib.Core.Path.{_≡_}
 use mathlib.Core.List.{List, _++_}

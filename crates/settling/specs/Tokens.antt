@@ -27,8 +27,8 @@ use Rattle.inferring.specs.Inferring.{Comes, Stops, inferMany}
 use Rattle.inferring.specs.Starts.{infer-deeper, infer-fresh, Along, along-all}
 use Rattle.inferring.specs.Inward.{way-fits, way-infers, way-some}
 use Rattle.inferring.specs.Ends.{found-at, found-settled, found-refused}
-use Rattle.placing.specs.Noting.{noting, Follows, Places}
-use Rattle.placing.specs.Places.{noting-many}
+use Rattle.placing.specs.Noting.{noting, Placed, Follows, Places}
+use Rattle.placing.specs.Places.{noting-many, becomes-more}
 use Rattle.settling.specs.Settled.{takes, Settles}
 
 -- What the rules make of a token: it is settled, then noted.
@@ -45,13 +45,9 @@ settle-on : (s : List ℕ) (es : List Element) (D : Decisions) (t : Token) (at :
 unfolding settle
 settle-on s es D t at z e = rw (e, settle)
 
--- A refusal by the number that the code has, and what was read as something that holds of more.
+-- A refusal by the number that the code has.
 becomes-refused : (P : State → Type 0) (at : ℕ) {n m : ℕ} {q : Reading State} → n ≡ m → 1 ≤ m → q ≡ refused m at → Becomes at n P q
 becomes-refused P at {n} e l i = subst (Becomes at n P) (sym i) (e, omega (arith, e), refl)
-
-becomes-more : {P Q : State → Type 0} (at n : ℕ) (q : Reading State) → ((y : State) → P y → Q y) → Becomes at n P q → Becomes at n Q q
-becomes-more at n (refused m k) f h = h
-becomes-more at n (got y) f h = (h .0, f y (h .1))
 
 -- The token comes after the document.
 pub settles-over : (rows places facts M : List ℕ) (x at after n : ℕ) (o : Open) (begun numbers bytes : List ℕ) → Ranged o
@@ -117,16 +113,19 @@ module _ {rows places facts M begun : List ℕ} {x at n : ℕ} {o₀ : Open} {nu
       by-way s es tables z stands most (Inferred k) e = many s es tables z stands most k e (rw e at l)
       by-way s es tables z stands most Stuck e = absurd (omega (arith, rw e at l, h .turns .ranged .few))
 
-  -- The starts are inferred, and the token takes its place.
+  -- The starts are inferred, the token takes its place, and an element with a model is opened.
   module _ {starts k : ℕ} {o : Open} {begun₁ numbers₁ bytes₁ : List ℕ} (counted : starts ≡ startsOf (f .found)) (few : f .open .count + starts ≤ 24)
       (a : Along rows places facts M at (f .events) starts k (f .open) begun numbers bytes o begun₁ numbers₁ bytes₁) (all : starts ≤ k)
-      {r : Outcome} {begun′ numbers′ bytes′ : List ℕ} (placed : Places rows places facts M begun₁ (f .found) x at after (f .events + starts) o numbers₁ bytes₁ r begun′ numbers′ bytes′) where
+      {r : Outcome} {q : Open} {begun′ numbers′ bytes′ : List ℕ} (opened : Places rows places facts M begun₁ (f .found) x at after (f .events + starts) o numbers₁ bytes₁ r q begun′ numbers′ bytes′) where
+    abbrev placed : Placed rows places facts M begun₁ (f .found) x at after (f .events + starts) o numbers₁ bytes₁ r begun′ numbers′ bytes′
+    placed = opened .placed
+
     abbrev events : List Event
     events = (h .turns .events ++ a .events) ++ placed .events
 
     module _ (s : List ℕ) (es : List Element) (tables : Tables s es rows places facts M) (z : State) (stands : Stands es M begun o₀ z) (most : x ≤ length es) where
       abbrev Done : Type 0
-      Done = Becomes at (r .number) (Follows es M begun′ (r .open) z events) (takes s es x at after z)
+      Done = Becomes at (r .number) (Follows es M begun′ q z events) (takes s es x at after z)
 
       -- After the starts, in the state w, the token has the place p.
       as-placed : (w : State) → Stands es M begun₁ o w → w .events ≡ there s es tables z stands most .events ++ a .events → CanTake es (w .current) (placed .p) → (placed .p ≡ 0 → ⊥)
@@ -135,10 +134,10 @@ module _ {rows places facts M begun : List ℕ} {x at n : ℕ} {o₀ : Open} {nu
           let y = takePlace (placed .p) w in
           let before : w .events ≡ z .events ++ (h .turns .events ++ a .events) =
           noted ∙ ap (λ (ev : List Event). ev ++ a .events) (come s es tables z stands most .noted) ∙ append-assoc (z .events) (h .turns .events) (a .events) in
-          subst (Becomes at (r .number) (Follows es M begun′ (r .open) z events)) (sym (from-there s es tables z stands most (got y) settled))
+          subst (Becomes at (r .number) (Follows es M begun′ q z events)) (sym (from-there s es tables z stands most (got y) settled))
           (becomes-more at (r .number) (noting es x at after y)
-          (λ v e. (e .0, e .1 ∙ ap (λ (ev : List Event). ev ++ placed .events) before ∙ append-assoc (z .events) (h .turns .events ++ a .events) (placed .events)))
-          (placed .notes some s es tables w here can most))
+          (λ i v e. (e .0, e .1 ∙ ap (λ (ev : List Event). ev ++ placed .events) before ∙ append-assoc (z .events) (h .turns .events ++ a .events) (placed .events)))
+          (opened .notes some s es tables w here can most))
 
       by-way : (w : Way) → f .found ≡ w → Done
       by-way (Taken p) e =
@@ -168,16 +167,16 @@ module _ {rows places facts M begun : List ℕ} {x at n : ℕ} {o₀ : Open} {nu
           let none : starts ≡ 0 = counted ∙ ap startsOf e in
           let declared : o .element .0 ≤ length es = rw (a .still (omega (arith, a .most))) (come s es tables z stands most .stands .current .entered .declared) in
           let refuses : r .number ≡ 12 = placed .stuck (placed .place s es tables declared most ∙ ap (placeOf (decided s es .fits (o .element .0) [] (tokenOf x))) e) in
-          becomes-refused (Follows es M begun′ (r .open) z events) at refuses (omega arith)
+          becomes-refused (Follows es M begun′ q z events) at refuses (omega arith)
           (from-there s es tables z stands most (refused 12 at)
           (found-refused s es (decided s es) (tokenOf x) at y (f .found) (found s es tables z stands most) e
           (sym (h .stays e s es (tables .raised) (tables .facts-say) M begun y (come s es tables z stands most .stands)))))
 
-    pub settles-placed : Settles rows places facts M x at after n o₀ begun numbers₀ bytes₀ r begun′ numbers′ bytes′
+    pub settles-placed : Settles rows places facts M x at after n o₀ begun numbers₀ bytes₀ (record { «open» = q; events = r .events; number = r .number }) begun′ numbers′ bytes′
     settles-placed =
         let first : f .events + starts ≡ n + length (h .turns .events ++ a .events) = simp length-append (omega (arith, h .turns .counted, a .counted, a .most)) in
         record {
-          ranged = placed .ranged;
+          ranged = opened .ranged;
           small = placed .small;
           whole = placed .whole ∙ a .whole;
           events = events;
