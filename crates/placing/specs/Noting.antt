@@ -70,6 +70,7 @@ pub record Placed (rows places facts M begun : List ℕ) (found : Way) (x at aft
   pub puts : Puts numbers bytes n events numbers′ bytes′
   pub counted : r .events ≡ n + length events
   pub few : length events ≤ 2
+  pub written : r .number ≡ 0 → (b : Bool) × (v : ℕ) × (events ≡ writtenOf x b v at after)
   pub p : ℕ
   pub place : (s : List ℕ) (es : List Element) → Tables s es rows places facts M → o .element .0 ≤ length es → x ≤ length es → p ≡ placeOf (decided s es .fits (o .element .0) [] (tokenOf x)) found
   pub stuck : p ≡ 0 → r .number ≡ 12

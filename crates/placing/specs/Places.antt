@@ -135,6 +135,7 @@ module _ {rows places facts : List ℕ} (M begun : List ℕ) {found : Way} {x at
         puts = puts-none numbers bytes n;
         counted = omega arith;
         few = omega arith;
+        written = λ e. absurd (omega arith);
         p = p;
         place = place-of asked M;
         stuck = λ z. refl;
@@ -155,6 +156,7 @@ module _ {rows places facts : List ℕ} (M begun : List ℕ) {found : Way} {x at
           puts = puts-none numbers bytes n;
           counted = omega arith;
           few = omega arith;
+          written = λ e. absurd (omega arith);
           p = p;
           place = place-of asked M;
           stuck = λ z. absurd (some z);
@@ -178,6 +180,7 @@ module _ {rows places facts : List ℕ} (M begun : List ℕ) {found : Way} {x at
           puts = w .puts;
           counted = w .counted;
           few = written-few x (w .b) v at after;
+          written = λ e. (w .b, v, refl);
           p = p;
           place = place-of asked M;
           stuck = λ z. absurd (some z);
