@@ -57,12 +57,13 @@ module _ (c : Settings) (s l : List ℕ) (b : ℕ) (d : List ℕ) (w : Written) 
           marked-more s xs d before w marks (n - 1) long (a .few) u m i y x
 
       -- Whether its value v fits.
-      module _ (v : List ℕ) (p : v ≡ take (w .length) (drop (w .quote + 1) d)) (r : Bool) (f : (y : DeclaredValue) → DeclaredAs c s (row .value) y → r ≡ fits c s y v) where
+      module _ (v : List ℕ) (p : v ≡ take (w .quote + 1 + w .length - (w .quote + 1)) (drop (w .quote + 1) d)) (r : Bool) (f : (y : DeclaredValue) → DeclaredAs c s (row .value) y → r ≡ fits c s y v) where
         fit : r ≡ isFitting c s xs d w
         fit =
             let i = of-some s d (w .at) (w .size) xs n e z .0 in
             let o = f (attributeAt xs (n - 1) .value) (subst (λ (x : Row). DeclaredAs c s (x .value) (attributeAt xs (n - 1) .value)) (sym q) (a .rows (n - 1) i .value)) in
-            o ∙ ap (fits c s (attributeAt xs (n - 1) .value)) p ∙ ap (λ (k : ℕ). fits c s (attributeAt xs (k - 1) .value) (take (w .length) (drop (w .quote + 1) d))) e
+            let z : w .quote + 1 + w .length - (w .quote + 1) ≡ w .length = omega arith in
+            o ∙ ap (fits c s (attributeAt xs (n - 1) .value)) (rw z at p) ∙ ap (λ (k : ℕ). fits c s (attributeAt xs (k - 1) .value) (take (w .length) (drop (w .quote + 1) d))) e
 
         pub answer-fitting : r ≡ true → Marks c s xs d before w (putMark marks (n - 1) (w .quote + 1) (w .length)) 0
         answer-fitting t = means.fitting new after (sym fit ∙ t)

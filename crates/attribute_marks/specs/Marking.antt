@@ -85,3 +85,18 @@ marked-more s xs d before w marks k long few n m h y z j g = by-same (ℕ-discre
         (as-other marks after j (givenFor s (attributeAt xs j) d before) (getD-set-other one (2 * k + 1) (2 * j) (w .length) 0 (omega (arith, q)) ∙ getD-set-other marks (2 * k) (2 * j) (w .quote + 1) 0 (omega (arith, q)))
         (getD-set-other one (2 * k + 1) (2 * j + 1) (w .length) 0 (omega (arith, q)) ∙ getD-set-other marks (2 * k) (2 * j + 1) (w .quote + 1) 0 (omega (arith, q)))
         (m j g))
+
+-- None of the first n attributes is marked.
+pub record Cleared (marks : List ℕ) (n : ℕ) : Type 0 where
+  pub long : length marks ≡ 80
+  pub none : (k : ℕ) → k < n → getD marks (2 * k) 0 ≡ 0
+
+pub cleared-first : (marks : List ℕ) → length marks ≡ 80 → Cleared marks 0
+cleared-first marks e = record { long = e; none = λ k h. absurd (omega (arith, h)) }
+
+pub cleared-turn : (marks : List ℕ) (n : ℕ) → n < 40 → Cleared marks n → Cleared (set marks (2 * n) 0) (n + 1)
+cleared-turn marks n l c = record { long = length-set marks (2 * n) 0 ∙ c .long; none = λ k h. by-last k h (ℕ-discrete k n) }
+  where
+    by-last : (k : ℕ) → k < n + 1 → Dec (k ≡ n) → getD (set marks (2 * n) 0) (2 * k) 0 ≡ 0
+    by-last k h (yes q) = rw q (getD-set-same marks (2 * n) 0 0 (omega (arith, c .long)))
+    by-last k h (no q) = getD-set-other marks (2 * n) (2 * k) 0 0 (omega (arith, q)) ∙ c .none k (omega (arith, h, q))

@@ -16,7 +16,7 @@ use Rattle.rules.specs.Document as rules
 use Rattle.rules.specs.Given.{allListed, allFit, givenFor}
 use Rattle.list_table.specs.Means.{ListAt}
 use Rattle.tags.specs.declared.Written.{Written}
-use Rattle.tags.specs.Given.{writtenAs, keptIn, keptOf}
+use Rattle.tags.specs.Given.{writtenAs, keptIn, keptOf, WrittenIn, GivenIn}
 use Rattle.attribute_marks.specs.Differ.{NamesDiffer}
 use Rattle.attribute_marks.specs.Marks.{Marked}
 use Rattle.attribute_marks.specs.Means.{Marks, unlisted, unfitting, fitting, Given}
@@ -34,10 +34,10 @@ misfit-some : (m : ℕ) → (m ≡ 0 → ⊥) → misfitAt m ≡ refused 22 (m -
 misfit-some m e = rw (misfitAt, ne-eqb m 0 e)
 
 -- What is remembered behind one more, whose quote stands at q and whose answer is r.
-pub data Next (m r q : ℕ) : ℕ → Type 0 where
-  right : (r ≡ 22 → ⊥) → Next m r q m
-  later : (m ≡ 0 → ⊥) → Next m r q m
-  first : r ≡ 22 → m ≡ 0 → Next m r q (q + 1)
+pub data Next (m r q m′ : ℕ) : Type 0 where
+  right : (r ≡ 22 → ⊥) → m′ ≡ m → Next m r q m′
+  later : (m ≡ 0 → ⊥) → m′ ≡ m → Next m r q m′
+  first : r ≡ 22 → m ≡ 0 → m′ ≡ q + 1 → Next m r q m′
 
 module _ (c : Settings) (s : List ℕ) (xs : List Attribute) (d : List ℕ) (vs : List rules.Written) (w : rules.Written) (marks : List ℕ) where
   fit-later : (m : ℕ) → allFit c s xs d vs ≡ misfitAt m → (m ≡ 0 → ⊥) → allFit c s xs d (vs ++ w ∷ []) ≡ misfitAt m
@@ -57,9 +57,9 @@ module _ (c : Settings) (s : List ℕ) (xs : List Attribute) (d : List ℕ) (vs 
 
   -- The first misfit is remembered.
   fit-turn : (m r m′ : ℕ) → allFit c s xs d vs ≡ misfitAt m → Marks c s xs d vs w marks r → (r ≡ 20 → ⊥) → Next m r (w .quote) m′ → allFit c s xs d (vs ++ w ∷ []) ≡ misfitAt m′
-  fit-turn m r m′ e k y (later n) = fit-later m e n
-  fit-turn m r m′ e k y (first z n) = fit-first (e ∙ misfit-none m n) r k z
-  fit-turn m r m′ e k y (right z) = by-zero (ℕ-discrete m 0)
+  fit-turn m r m′ e k y (later n q) = fit-later m e n ∙ ap misfitAt (sym q)
+  fit-turn m r m′ e k y (first z n q) = fit-first (e ∙ misfit-none m n) r k z ∙ ap misfitAt (sym q)
+  fit-turn m r m′ e k y (right z q) = by-zero (ℕ-discrete m 0) ∙ ap misfitAt (sym q)
     where
       by-zero : Dec (m ≡ 0) → allFit c s xs d (vs ++ w ∷ []) ≡ misfitAt m
       by-zero (yes n) = fit-right (e ∙ misfit-none m n) r k y z ∙ sym (misfit-none m n)
@@ -84,6 +84,10 @@ record Goes (c : Settings) (s : List ℕ) (xs : List Attribute) (d g : List ℕ)
 -- So under each list that the table has at b, if at first nothing was marked.
 pub record Going (c : Settings) (s lists : List ℕ) (b : ℕ) (d g before : List ℕ) (k : ℕ) (marks : List ℕ) (misfit : ℕ) : Type 0 where
   goes : (xs : List Attribute) → ListAt c s lists b xs → NamesDiffer s xs → ((j : ℕ) → j < length xs → getD before (2 * j) 0 ≡ 0) → Goes c s xs d g k marks misfit
+
+-- The k-th that is kept, as it is read.
+pub kept-in : (end : ℕ) (g : List ℕ) (n : ℕ) → GivenIn end g n → (k : ℕ) → k < n → (w : Written) → w ≡ keptIn g k → WrittenIn end w
+kept-in end g n f k h w e = subst (WrittenIn end) (sym e) (f k h)
 
 kept-more : (g : List ℕ) (k : ℕ) → keptOf g (k + 1) ≡ keptOf g k ++ writtenAs (keptIn g k) ∷ []
 unfolding keptOf
