@@ -1,5 +1,5 @@
 -- The names of a list's attributes differ: in a type that was read each is new in its list (number 7).
-use Prim.Native.Nat.{ℕ, zero, suc, _+_, _≤_, _<_}
+use Prim.Native.Nat.{ℕ, zero, suc, _≤_, _<_}
 use mathlib.Core.Path.{_≡_, sym, _∙_}
 use mathlib.Core.Bool.{true, false, true≢false}
 use mathlib.Core.Logic.{inl, inr}
@@ -13,7 +13,7 @@ use Rattle.rules.specs.Attributes.{Attribute, isCalled, attributeOf, attributeA
 use Rattle.rules.specs.TypeFile.{Element, typeFile}
 use Rattle.rules.specs.Elements.{elementAt}
 use Rattle.rules_laws.specs.Holds.{got-so}
-use Rattle.rules_laws.specs.Definitions.{Defines, list-holds}
+use Rattle.rules_laws.specs.Definitions.{list-holds}
 use Rattle.rules_laws.specs.Declarations.{ListedIn}
 use Rattle.rules_laws.specs.Within.{All, none, more, typeFile-lists}
 use Rattle.list_table.specs.Laws.{at-before, at-last}

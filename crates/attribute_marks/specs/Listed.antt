@@ -1,6 +1,6 @@
 -- The attributes that a tag gives, read one after the other: a refusal of the first is one of all, one more, and that no more are listed than the list has.
-use Prim.Native.Nat.{ℕ, zero, suc, _+_, _*_, _-_, _≤_, _<_}
-use mathlib.Core.Path.{_≡_, refl, sym, _∙_, ap, subst}
+use Prim.Native.Nat.{ℕ, _+_, _≤_, _<_}
+use mathlib.Core.Path.{_≡_, refl, sym, _∙_, ap}
 use mathlib.Core.Bool.{Bool, true, false, not, _&&_, _||_, true≢false}
 use mathlib.Core.List.{List, [], _∷_, _++_}
 use native.Mathlib.Decide.{decLe}
@@ -17,7 +17,7 @@ use Rattle.rules.specs.Document.{Written}
 use Rattle.rules.specs.Given.{isGivenIn, allListed, allFit, givenFor}
 use Rattle.model_sets.specs.Bits.{bool-cases}
 use Rattle.attribute_marks.specs.Means.{isNew, isFitting}
-use Rattle.attribute_marks.specs.Marking.{isSome, some-none, given-in}
+use Rattle.attribute_marks.specs.Marking.{some-none, given-in}
 
 -- These, the last of vs first, then bs.
 unfoldable onto : List Written → List Written → List Written

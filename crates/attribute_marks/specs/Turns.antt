@@ -1,7 +1,7 @@
 -- One attribute after the other: what is known behind the first k, and what one more gives.
 use Prim.Native.Nat.{ℕ, zero, suc, _+_, _*_, _-_, _≤_, _<_}
 use mathlib.Core.Path.{_≡_, refl, sym, _∙_, ap, subst}
-use mathlib.Core.Bool.{Bool, true, false}
+use mathlib.Core.Bool.{true, false}
 use mathlib.Core.List.{List, [], _∷_, _++_}
 use native.Mathlib.Decide.{ℕ-discrete}
 use native.Mathlib.Numerals.{add-one}
@@ -11,7 +11,7 @@ use lib.Dec.{eqb}
 use borrow.Author.Tests.{eq-eqb, ne-eqb}
 use Rattle.rules.specs.Settings.{Settings}
 use Rattle.rules.specs.Reading.{Reading, refused, got}
-use Rattle.rules.specs.Attributes.{Attribute, attributeAt}
+use Rattle.rules.specs.Attributes.{Attribute}
 use Rattle.rules.specs.Document as rules
 use Rattle.rules.specs.Given.{allListed, allFit, givenFor}
 use Rattle.list_table.specs.Means.{ListAt}
@@ -19,8 +19,7 @@ use Rattle.tags.specs.declared.Written.{Written}
 use Rattle.tags.specs.Given.{writtenAs, keptIn, keptOf, WrittenIn, GivenIn}
 use Rattle.attribute_marks.specs.Differ.{NamesDiffer}
 use Rattle.attribute_marks.specs.Marks.{Marked}
-use Rattle.attribute_marks.specs.Means.{Marks, unlisted, unfitting, fitting, Given}
-use Rattle.attribute_marks.specs.Means as means
+use Rattle.attribute_marks.specs.Means.{Marks, Given, unlisted, unfitting, fitting}
 use Rattle.attribute_marks.specs.Listed.{listed-refused, listed-more, listed-ends, fit-refused, fit-more, fit-ends}
 
 -- The first misfit as it is remembered: the place behind its quote, or 0 for none.
@@ -133,15 +132,15 @@ module _ (c : Settings) (s lists : List ℕ) (b : ℕ) (d g before : List ℕ) w
     going-stop n h y xs a u z =
         let o = f .goes xs a u z in
         let l = listed-stop c s xs d (keptOf g k) (writtenAs w) after r (o .listed) (m xs (keptOf g k) a u (o .marked)) y in
-        means.unlisted (w .name) (listed-on s xs d g (k + 1) (w .name) (rw (← snoc) l) n (omega arith))
+        unlisted (w .name) (listed-on s xs d g (k + 1) (w .name) (rw (← snoc) l) n (omega arith))
 
   module _ (k n : ℕ) (e : k ≡ n) (marks : List ℕ) (misfit : ℕ) (f : Going c s lists b d g before k marks misfit) (xs : List Attribute) (a : ListAt c s lists b xs) (u : NamesDiffer s xs) (z : (j : ℕ) → j < length xs → getD before (2 * j) 0 ≡ 0) where
     pub going-misfit : (misfit ≡ 0 → ⊥) → Given c s xs d (keptOf g n) marks (record { number = 22; at = misfit - 1 })
     going-misfit y =
         let o = f .goes xs a u z in
-        means.unfitting (misfit - 1) (rw (← e) (o .listed)) (rw (← e) (o .fit ∙ misfit-some misfit y))
+        unfitting (misfit - 1) (rw (← e) (o .listed)) (rw (← e) (o .fit ∙ misfit-some misfit y))
 
     pub going-end : misfit ≡ 0 → Given c s xs d (keptOf g n) marks (record { number = 0; at = 0 })
     going-end y =
         let o = f .goes xs a u z in
-        means.fitting (rw (← e) (o .listed)) (rw (← e) (o .fit ∙ misfit-none misfit y)) (subst (λ (i : ℕ). Marked s xs d (keptOf g i) marks) e (o .marked))
+        fitting (rw (← e) (o .listed)) (rw (← e) (o .fit ∙ misfit-none misfit y)) (subst (λ (i : ℕ). Marked s xs d (keptOf g i) marks) e (o .marked))

@@ -8,7 +8,7 @@ use layout::MARKS;
 use tags::Written;
 use text::Fault;
 ghost use mathlib.Core.Path.{_≡_};
-ghost use mathlib.Core.Bool.{Bool, true, false};
+ghost use mathlib.Core.Bool.{true, false};
 ghost use mathlib.Core.List.{List};
 ghost use Prim.Native.Nat.{ℕ, _+_, _*_, _-_, _≤_, _<_};
 ghost use lib.ListN.{length, getD};
@@ -65,17 +65,19 @@ fn mark(
     }
     whole(*marks);
     let from = w.quote + 1;
-    let end = from + w.length;
     marks[2 * k] = from as u16;
     marks[2 * k + 1] = w.length as u16;
     let r = list_table::attribute(lists, e, k);
-    if attribute_values::fits(long, s, r.value, &d[from..end]) {
+    // What is written stands in the document, so that no other text is lent.
+    let v = attribute_values::value(d, d, true, from, w.length);
+    if attribute_values::fits(long, s, r.value, v) {
         return 0;
     }
     22
 }
 
-// The n attributes that a tag gives: the first 20, else the first 22, else number 0. Where it is 0 they are marked.
+// The n attributes that a tag gives: the first 20, else the first 22, else number 0. Where it is 0 they are marked. A 20 comes before each 22, so that the first misfit is
+// only remembered: where its value begins, which is never 0.
 fn marked(
     long: usize,
     s: &[u8],

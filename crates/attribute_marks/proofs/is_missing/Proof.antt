@@ -1,9 +1,8 @@
 -- `is_missing` meets its contract. The invariant: none of the first k attributes is required and not marked.
 use Prim.Native.Nat.{_*_, _-_, _≤_}
 use mathlib.Core.Logic.{⊎-elim}
-use mathlib.Core.Path.{sym, ap, _∙_}
+use mathlib.Core.Path.{ap, _∙_}
 use native.Mathlib.Omega.{arith}
-use borrow.Author.Needs.{needs}
 use Rattle.list_table.specs.declared.Row.{Row}
 use Rattle.attribute_marks.specs.Missing.{NoneMissing, missing-first, missing-turn, missing-found, missing-none}
 use Rattle.attribute_marks.proofs.is_missing.Statement.{statement}
@@ -46,9 +45,12 @@ loop-less c = omega arith
 loop-again : tie.Need-loop-again Inv-loop μ-loop
 loop-again c =
     let turn = c .before .before .before in
-    let a = turn .before .before .args in
-    (omega arith, omega arith, missing-turn (a .lists .now) _ (a .marks .now) _ (turn .loop .inv .2)
-    (⊎-elim (λ w x y. w .3 .left (ap Row.default (w .1 .ensures .0) ∙ y)) (λ w x y. w .left x) (c .if1 .came)))
+    let a = turn .before .before .args in (
+      omega arith,
+      omega arith,
+      missing-turn (a .lists .now) _ (a .marks .now) _ (turn .loop .inv .2)
+          (⊎-elim (λ w x y. w .3 .left (ap Row.default (w .1 .ensures .0) ∙ y)) (λ w x y. w .left x) (c .if1 .came)),
+    )
 
 returns-2 : tie.Need-returns-2 Inv-loop μ-loop
 returns-2 c =

@@ -1,5 +1,4 @@
 -- `mark` meets its contract.
-use mathlib.Core.Path.{refl}
 use native.Mathlib.Omega.{arith}
 use borrow.Author.Needs.{needs}
 use Rattle.tags.specs.Given.{writtenAs}
@@ -31,16 +30,13 @@ returns-2 : tie.Need-returns-2
 returns-2 c =
     let found = c .before .before .before in
     let a = found .before .before .before .before .args in
-    λ xs before l u m. answer-again _ (a .s .now) (a .lists .now) _ (a .d .now) (writtenAs (a .w)) (a .marks .now) xs before l u m _ (found .find .ensures .0 _ xs l) (c .before .before .if1 .left) (c .if2 .taken)
+    λ xs before l u m. answer-again _ (a .s .now) (a .lists .now) _ (a .d .now) (writtenAs (a .w)) (a .marks .now) xs before l u m _ (found .find .ensures .0 _ xs l) (c .before .before .if1 .left) (λ z. omega (arith, c .if2 .taken, z))
 
 whole-requires : tie.Need-whole-requires
 whole-requires c κs = search needs
 
 add-from : tie.Need-add-from
 add-from c = search needs
-
-add-end : tie.Need-add-end
-add-end c = search needs
 
 cast-marks : tie.Need-cast-marks
 cast-marks c = search needs
@@ -72,14 +68,8 @@ element-write-marks-2 c = search needs
 attribute-requires : tie.Need-attribute-requires
 attribute-requires c κs = search needs
 
-sub-fits : tie.Need-sub-fits
-sub-fits c = search needs
-
-part-fits-start : tie.Need-part-fits-start
-part-fits-start c = search needs
-
-part-fits-end : tie.Need-part-fits-end
-part-fits-end c = search needs
+value-requires : tie.Need-value-requires
+value-requires c κs = search needs
 
 fits-requires : tie.Need-fits-requires
 fits-requires c κs = search needs
@@ -87,22 +77,24 @@ fits-requires c κs = search needs
 returns-3 : tie.Need-returns-3
 returns-3 c =
     let row = c .before .before .before in
-    let long = row .before .before .before .before in
+    let long = row .before .before .before in
     let seen = long .before .before in
     let found = seen .before .before .before in
-    let a = found .before .before .before .before .args in
+    let start = found .before .before .before .before in
+    let a = start .args in
     λ xs before l u m.
-    answer-fitting _ (a .s .now) (a .lists .now) _ (a .d .now) (writtenAs (a .w)) (a .marks .now) xs before l u m _ (found .find .ensures .0 _ xs l) (seen .before .before .if1 .left) (long .whole .ensures) (seen .if2 .left) _ (row .attribute .ensures .0) _ refl _ (c .before .fits2 .ensures) (c .if3 .taken)
+    answer-fitting _ (a .s .now) (a .lists .now) _ (a .d .now) (writtenAs (a .w)) (a .marks .now) xs before l u m _ (found .find .ensures .0 _ xs l) (seen .before .before .if1 .left) (long .whole .ensures) (omega (arith, seen .if2 .left)) _ (row .attribute .ensures .0) _ (c .before .before .value .ensures) (omega (arith, start .pre)) _ (c .before .fits2 .ensures) (c .if3 .taken)
 
 returns-4 : tie.Need-returns-4
 returns-4 c =
     let row = c .before .before .before in
-    let long = row .before .before .before .before in
+    let long = row .before .before .before in
     let seen = long .before .before in
     let found = seen .before .before .before in
-    let a = found .before .before .before .before .args in
+    let start = found .before .before .before .before in
+    let a = start .args in
     λ xs before l u m.
-    answer-unfitting _ (a .s .now) (a .lists .now) _ (a .d .now) (writtenAs (a .w)) (a .marks .now) xs before l u m _ (found .find .ensures .0 _ xs l) (seen .before .before .if1 .left) (long .whole .ensures) (seen .if2 .left) _ (row .attribute .ensures .0) _ refl _ (c .before .fits2 .ensures) (c .if3 .left)
+    answer-unfitting _ (a .s .now) (a .lists .now) _ (a .d .now) (writtenAs (a .w)) (a .marks .now) xs before l u m _ (found .find .ensures .0 _ xs l) (seen .before .before .if1 .left) (long .whole .ensures) (omega (arith, seen .if2 .left)) _ (row .attribute .ensures .0) _ (c .before .before .value .ensures) (omega (arith, start .pre)) _ (c .before .fits2 .ensures) (c .if3 .left)
 
 pub mark-spec : {M : Type 1} → statement M
 mark-spec =
@@ -117,7 +109,6 @@ mark-spec =
     returns-2
     whole-requires
     add-from
-    add-end
     cast-marks
     mul-marks
     mul-marks-2
@@ -128,9 +119,7 @@ mark-spec =
     mul-marks-4
     element-write-marks-2
     attribute-requires
-    sub-fits
-    part-fits-start
-    part-fits-end
+    value-requires
     fits-requires
     returns-3
     returns-4)

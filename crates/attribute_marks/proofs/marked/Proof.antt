@@ -3,7 +3,6 @@ use Prim.Native.Nat.{_*_, _-_, _≤_}
 use mathlib.Core.Logic.{⊎-elim}
 use native.Mathlib.Omega.{arith}
 use lib.ListN.{length}
-use borrow.Author.Needs.{needs}
 use Rattle.rules.specs.Settings.{settings}
 use Rattle.attribute_marks.specs.Turns.{right, later, first, kept-in, Going, going-first, going-turn, going-stop, going-misfit, going-end}
 use Rattle.attribute_marks.proofs.marked.Statement.{statement}
@@ -52,9 +51,12 @@ loop-again c =
     let made = c .before .before in
     let kept = made .before .before in
     let turn = kept .before .before in
-    let a = turn .before .before .before .before .args in
-    (omega arith, omega arith, going-turn _ (a .s .now) (a .lists .now) _ (a .d .now) (a .given .now) _ _ _ _ (turn .loop .inv .2) _ (kept .kept .ensures) _ _ (made .mark .ensures) (c .before .if1 .left) _
-    (⊎-elim (λ w. first (w .0 .taken) (w .1 .taken) (w .3)) (⊎-elim (λ w. later (w .1 .left) (w .2)) (λ w. right (w .0 .left) (w .1))) (c .if2 .came)))
+    let a = turn .before .before .before .before .args in (
+      omega arith,
+      omega arith,
+      going-turn _ (a .s .now) (a .lists .now) _ (a .d .now) (a .given .now) _ _ _ _ (turn .loop .inv .2) _ (kept .kept .ensures) _ _ (made .mark .ensures) (c .before .if1 .left) _
+          (⊎-elim (λ w. first (w .0 .taken) (omega (arith, w .1 .taken)) (w .3)) (⊎-elim (λ w. later (λ z. omega (arith, w .1 .left, z)) (w .2)) (λ w. right (w .0 .left) (w .1))) (c .if2 .came)),
+    )
 
 sub-t17 : tie.Need-sub-t17 Inv-loop μ-loop
 sub-t17 c = omega arith
