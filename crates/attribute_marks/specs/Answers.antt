@@ -17,7 +17,7 @@ use Rattle.text.specs.Means.{refusalOf}
 use Rattle.attribute_values.specs.Means.{DeclaredAs}
 use Rattle.list_table.specs.declared.Row.{Row}
 use Rattle.list_table.specs.Means.{rowIn, ListAt}
-use Rattle.tags.specs.Given.{keptOf, KeptAs}
+use Rattle.tag_attributes.specs.Given.{keptOf, KeptAs}
 use Rattle.attribute_marks.specs.Found.{of-some}
 use Rattle.attribute_marks.specs.Differ.{NamesDiffer}
 use Rattle.attribute_marks.specs.Marks.{Marked, Attributed}

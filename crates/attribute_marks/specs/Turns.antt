@@ -15,8 +15,8 @@ use Rattle.rules.specs.Attributes.{Attribute}
 use Rattle.rules.specs.Document as rules
 use Rattle.rules.specs.Given.{allListed, allFit, givenFor}
 use Rattle.list_table.specs.Means.{ListAt}
-use Rattle.tags.specs.declared.Written.{Written}
-use Rattle.tags.specs.Given.{writtenAs, keptIn, keptOf, WrittenIn, GivenIn}
+use Rattle.tag_attributes.specs.declared.Written.{Written}
+use Rattle.tag_attributes.specs.Given.{writtenAs, keptIn, keptOf, WrittenIn, GivenIn}
 use Rattle.attribute_marks.specs.Differ.{NamesDiffer}
 use Rattle.attribute_marks.specs.Marks.{Marked}
 use Rattle.attribute_marks.specs.Means.{Marks, Given, unlisted, unfitting, fitting}

@@ -1,11 +1,11 @@
 // The attributes that a start tag gives, held against the list of its element: each declared and given once, its value fitting, none that is required missing.
 //
-// `lists` is that of the crate list_table, `given` has the attributes of a tag as they are read (crate tags). `marks` has for each attribute of the element where its written value begins in the document, and how
+// `lists` is that of the crate list_table, `given` has the attributes of a tag as they are read (crate tag_attributes). `marks` has for each attribute of the element where its written value begins in the document, and how
 // long it is; 0 where it is not written.
 use layout::ElementNo;
 use layout::GIVEN;
 use layout::MARKS;
-use tags::Written;
+use tag_attributes::Written;
 use text::Fault;
 ghost use mathlib.Core.Path.{_≡_};
 ghost use mathlib.Core.Bool.{true, false};
@@ -18,7 +18,7 @@ ghost use Rattle.rules.specs.Attributes.{Attribute};
 ghost use Rattle.rules.specs.Document as rules;
 ghost use Rattle.rules.specs.Given.{attributed, noneMissing};
 ghost use Rattle.list_table.specs.Means.{ListAt};
-ghost use Rattle.tags.specs.Given.{writtenAs, keptOf, KeptAs, WrittenIn, GivenIn};
+ghost use Rattle.tag_attributes.specs.Given.{writtenAs, keptOf, KeptAs, WrittenIn, GivenIn};
 ghost use Rattle.attribute_marks.specs.Differ.{NamesDiffer};
 ghost use Rattle.attribute_marks.specs.Marks.{Marked, Attributed};
 ghost use Rattle.attribute_marks.specs.Means.{Marks, Given};
@@ -95,7 +95,7 @@ fn marked(
     let mut misfit = 0;
     let mut k = 0;
     while k < n {
-        let w = tags::kept(given, k);
+        let w = tag_attributes::kept(given, k);
         let r = mark(long, s, lists, d, e, w, marks);
         if r == 20 {
             return Fault {

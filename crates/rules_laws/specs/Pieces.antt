@@ -120,13 +120,13 @@ module _ (c : Settings) (d : List ℕ) where
   literal-piece i = so (literal-holds d i) (λ n k x. (inl (omega (arith, x), omega (arith, x)), omega (arith, x))) (λ e x. x)
 
   -- The literal ends at the closing quote.
-  record SpecificationRead (i : ℕ) (w : Written) : Type 0 where
-    at : w .at ≡ i
-    some : 1 ≤ w .size
-    parted : w .at + w .size < w .quote
-    inside : w .quote + 1 + w .length < length d
+  pub record SpecificationRead (i : ℕ) (w : Written) : Type 0 where
+    pub at : w .at ≡ i
+    pub some : 1 ≤ w .size
+    pub parted : w .at + w .size < w .quote
+    pub inside : w .quote + 1 + w .length < length d
 
-  specification-read : (i : ℕ) → letter (byteAt d i) ≡ true → Holds (InPiece d) (SpecificationRead i) (specification c d i)
+  pub specification-read : (i : ℕ) → letter (byteAt d i) ≡ true → Holds (InPiece d) (SpecificationRead i) (specification c d i)
   unfolding specification
   specification-read i l =
       let e = nameEnd d i in

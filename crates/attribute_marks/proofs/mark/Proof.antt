@@ -1,7 +1,7 @@
 -- `mark` meets its contract.
 use native.Mathlib.Omega.{arith}
 use borrow.Author.Needs.{needs}
-use Rattle.tags.specs.Given.{writtenAs}
+use Rattle.tag_attributes.specs.Given.{writtenAs}
 use Rattle.attribute_marks.specs.Answers.{answer-unlisted, answer-again, answer-fitting, answer-unfitting}
 use Rattle.attribute_marks.proofs.mark.Statement.{statement}
 use Rattle.attribute_marks.proofs.mark.Tie as tie
