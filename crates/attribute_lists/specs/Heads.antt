@@ -13,18 +13,20 @@ use borrow.Author.Tests.{eq-eqb, ne-eqb}
 use Rattle.rules.specs.Settings.{Settings}
 use Rattle.rules.specs.Reading.{Reading, got, andThen}
 use Rattle.rules.specs.Attributes.{Attribute, AttList}
-use Rattle.rules.specs.TypeFile.{gap, ListEnd, listFrom, isListed, Listed, listedElement, attributeList, attributesOf}
+use Rattle.rules.specs.TypeFile.{gap, ListEnd, listFrom, isListed, Listed, listedElement, attributeList, attributesOf, listed}
 use Rattle.rules.specs.TypeFile as rules
+use Rattle.rules.specs.Elements.{elementAt}
 use Rattle.text.specs.declared.Fault.{Fault}
 use Rattle.text.specs.declared.Reached.{Reached}
 use Rattle.text.specs.declared.Reached.the-variants as reached
 use Rattle.text.specs.Means.{refusalOf, faultOf}
 use Rattle.layout.specs.declared.ElementNo.{ElementNo}
-use Rattle.list_table.specs.Means.{ListAt, Copied}
+use Rattle.list_table.specs.Means.{ListAt, Lists, Copied}
 use Rattle.list_definitions.specs.Means.{ListAs, MeetsList, ListIn}
 use Rattle.attribute_lists.specs.declared.ListedRead.{ListedRead}
 use Rattle.attribute_lists.specs.declared.ListedRead.the-variants as answers
-use Rattle.attribute_lists.specs.Means.{HeadRead, Headed, listedOf, listedFault, ListedFits, ListsAs, Again}
+use Rattle.attribute_lists.specs.Means.{HeadRead, Headed, HeadedAs, anyIn, listedOf, listedFault, ListedFits, ListsAs, Again}
+use Rattle.attribute_lists.specs.Laws.{any-found}
 
 attributes-on : (b : Bool) (x q : List Attribute) {r : Bool} {a : List Attribute} → (b || r) ≡ false → (r ≡ false → q ≡ a) → elim b [ true ↦ x | false ↦ q ] ≡ a
 attributes-on true x q e f = absurd (true≢false e)
@@ -127,6 +129,24 @@ module _ (c : Settings) (s heads : List ℕ) (ls : List AttList) (h : Headed c s
       by-reads j m f (yes q) = rw q reads-same
       by-reads j m f (no q) = reads-other j m q f
 
+-- Where no list was read no element has a head.
+pub headed-none : (c : Settings) (s : List ℕ) {heads : List ℕ} → heads ≡ replicate 64 0 → Headed c s heads []
+unfolding isListed
+headed-none c s {heads} e = record { has = λ k h. sym (ap not (eq-eqb _ _ (free k h))); reads = λ k h f. absurd (f (free k h)) }
+  where
+    free : (k : ℕ) → k < 64 → getD heads k 0 ≡ 0
+    free k h = rw e (getD-replicate 64 k 0 0 h)
+
+-- Where all were read each element gets the attributes of its list.
+pub headed-all : {c : Settings} {s heads : List ℕ} {ls : List AttList} → Headed c s heads ls → (es : List rules.Element) → HeadedAs c s heads (listed 1 ls es)
+unfolding listed elementAt
+headed-all {ls = ls} h es = record { lists = ls; headed = h; each = λ k l. go 1 es k l }
+  where
+    go : (n : ℕ) (es : List rules.Element) (k : ℕ) → k < length (listed n ls es) → elementAt (listed n ls es) k .attributes ≡ attributesOf ls (k + n)
+    go n [] k l = absurd (omega (arith, l))
+    go n (e ∷ es) zero l = let z : n ≡ 0 + n = omega arith in ap (attributesOf ls) z
+    go n (e ∷ es) (suc k) l = let z : k + (n + 1) ≡ suc k + n = omega arith in go (n + 1) es k (omega (arith, l)) ∙ ap (attributesOf ls) z
+
 -- A declaration of a list, each way that it can go.
 module _ (c : Settings) (s : List ℕ) (at : ℕ) (es : List rules.Element) (ls : List AttList) where
   pub list-gap : {f : Fault} → gap s at ≡ refusalOf f → attributeList c s at es ls ≡ refusalOf f
@@ -228,6 +248,21 @@ module _ (c : Settings) (s heads : List ℕ) where
           done = λ ls h j l. done-next ls h j l (ℕ-discrete j k);
           rest = λ j l n. a .others (201 * j) [] (inr (omega (arith, l))) (f .rest j (omega (arith, l)) n);
         }
+
+-- The table of a type's lists: filled, or empty where no element has a list.
+module _ {c : Settings} {s heads : List ℕ} {es : List rules.Element} (h : HeadedAs c s heads es) where
+  pub lists-filled : (lists : List ℕ) → ((ls : List AttList) → Headed c s heads ls → (k : ℕ) → k < length es → ListAt c s lists (201 * k) (attributesOf ls (k + 1))) → Lists c s es lists
+  lists-filled lists f k l = rw (h .each k l) (f (h .lists) (h .headed) k l)
+
+  pub lists-none : length es ≤ 64 → anyIn heads (length es) ≡ false → Lists c s es []
+  lists-none few none k l = rw (h .each k l, attributes-none (k + 1) (h .lists) unlisted) (record { counted = refl; few = omega arith; rows = λ i x. absurd (omega (arith, x)) })
+    where
+      unlisted : isListed (h .lists) (k + 1) ≡ false
+      unlisted = by-head (ℕ-discrete (getD heads k 0) 0)
+        where
+          by-head : Dec (getD heads k 0 ≡ 0) → isListed (h .lists) (k + 1) ≡ false
+          by-head (yes z) = h .headed .has k (omega (arith, l, few)) ∙ ap not (eq-eqb _ _ z)
+          by-head (no z) = absurd (true≢false (sym (any-found heads k (length es) l z) ∙ none))
 
 -- Answers by cases.
 

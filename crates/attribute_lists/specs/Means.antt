@@ -11,6 +11,7 @@ use Rattle.rules.specs.Reading.{Reading, got}
 use Rattle.rules.specs.Attributes.{Attribute, AttList}
 use Rattle.rules.specs.TypeFile.{listFrom, isListed, Listed, Declarations, attributesOf}
 use Rattle.rules.specs.TypeFile as rules
+use Rattle.rules.specs.Elements.{elementAt}
 use Rattle.text.specs.declared.Fault.{Fault}
 use Rattle.text.specs.declared.Reached.{Reached}
 use Rattle.text.specs.declared.Reached.the-variants as reached
@@ -29,6 +30,12 @@ pub record HeadRead (c : Settings) (s : List ℕ) (from : ℕ) (ls : List AttLis
 pub record Headed (c : Settings) (s heads : List ℕ) (ls : List AttList) : Type 0 where
   pub has : (k : ℕ) → k < 64 → isListed ls (k + 1) ≡ not (eqb (getD heads k 0) 0)
   pub reads : (k : ℕ) → k < 64 → (getD heads k 0 ≡ 0 → ⊥) → HeadRead c s (getD heads k 0) ls k
+
+-- The elements es have the attributes of the lists at these heads.
+pub record HeadedAs (c : Settings) (s heads : List ℕ) (es : List rules.Element) : Type 0 where
+  pub lists : List AttList
+  pub headed : Headed c s heads lists
+  pub each : (k : ℕ) → k < length es → elementAt es k .attributes ≡ attributesOf lists (k + 1)
 
 -- One of the first n elements has a list.
 unfoldable pub anyIn : List ℕ → (n : ℕ) → Bool

@@ -1,14 +1,14 @@
 // The attributes that a start tag gives, held against the list of its element: each declared and given once, its value fitting, none that is required missing.
 //
-// `lists` is that of the crate list_table, `given` has the attributes of a tag as they are read (crate tags). `marks` has for each attribute of the element where its written value begins in the document, and how
+// `lists` is that of the crate list_table, `given` has the attributes of a tag as they are read (crate tag_attributes). `marks` has for each attribute of the element where its written value begins in the document, and how
 // long it is; 0 where it is not written.
 use layout::ElementNo;
 use layout::GIVEN;
 use layout::MARKS;
-use tags::Written;
+use tag_attributes::Written;
 use text::Fault;
 ghost use mathlib.Core.Path.{_≡_};
-ghost use mathlib.Core.Bool.{Bool, true, false};
+ghost use mathlib.Core.Bool.{true, false};
 ghost use mathlib.Core.List.{List};
 ghost use Prim.Native.Nat.{ℕ, _+_, _*_, _-_, _≤_, _<_};
 ghost use lib.ListN.{length, getD};
@@ -18,15 +18,22 @@ ghost use Rattle.rules.specs.Attributes.{Attribute};
 ghost use Rattle.rules.specs.Document as rules;
 ghost use Rattle.rules.specs.Given.{attributed, noneMissing};
 ghost use Rattle.list_table.specs.Means.{ListAt};
-ghost use Rattle.tags.specs.Given.{writtenAs, keptOf, KeptAs, WrittenFits, WrittenIn, GivenIn};
+ghost use Rattle.tag_attributes.specs.Given.{writtenAs, keptOf, KeptAs, WrittenIn, GivenIn};
+ghost use Rattle.attribute_marks.specs.Differ.{NamesDiffer};
 ghost use Rattle.attribute_marks.specs.Marks.{Marked, Attributed};
 ghost use Rattle.attribute_marks.specs.Means.{Marks, Given};
+
+// The marks have room for so many numbers.
+fn whole(marks: [u16; MARKS])
+    ensures { λ _. ⌜ length marks ≡ 80 ⌝ }
+{}
 
 // None of the first n attributes is written.
 fn clear(marks: &mut [u16; MARKS], n: usize)
     requires { ⌜ n ≤ 40 ⌝ }
     ensures { λ _. ⌜ ((k : ℕ) → k < n → getD (now (marks .exit)) (2 * k) 0 ≡ 0) ⌝ }
 {
+    whole(*marks);
     let mut k = 0;
     while k < n {
         marks[2 * k] = 0;
@@ -44,8 +51,8 @@ fn mark(
     w: Written,
     marks: &mut [u16; MARKS],
 ) -> u32
-    requires { ⌜ (1 ≤ e .0) × (e .0 ≤ 64) × (length (now s) ≤ 32768) × (length (now d) ≤ 65535) × WrittenFits w × WrittenIn (length (now d)) w ⌝ }
-    ensures { λ r. ⌜ ((xs : List Attribute) (before : List rules.Written) → ListAt (settings long) (now (s .entry)) (now (lists .entry)) (201 * (e .0 - 1)) xs → Marked (now (s .entry)) xs (now (d .entry)) before (now (marks .entry)) →
+    requires { ⌜ (1 ≤ e .0) × (e .0 ≤ 64) × (length (now s) ≤ 32768) × (length (now d) ≤ 65535) × WrittenIn (length (now d)) w ⌝ }
+    ensures { λ r. ⌜ ((xs : List Attribute) (before : List rules.Written) → ListAt (settings long) (now (s .entry)) (now (lists .entry)) (201 * (e .0 - 1)) xs → NamesDiffer (now (s .entry)) xs → Marked (now (s .entry)) xs (now (d .entry)) before (now (marks .entry)) →
         Marks (settings long) (now (s .entry)) xs (now (d .entry)) before (writtenAs w) (now (marks .exit)) r) ⌝ }
 {
     let a = list_table::find(s, lists, e, d, w.name, w.size);
@@ -56,17 +63,21 @@ fn mark(
     if marks[2 * k] != 0 {
         return 20;
     }
-    marks[2 * k] = (w.quote + 1) as u16;
+    whole(*marks);
+    let from = w.quote + 1;
+    marks[2 * k] = from as u16;
     marks[2 * k + 1] = w.length as u16;
     let r = list_table::attribute(lists, e, k);
-    let v = attribute_values::value(s, d, true, w.quote + 1, w.length);
+    // What is written stands in the document, so that no other text is lent.
+    let v = attribute_values::value(d, d, true, from, w.length);
     if attribute_values::fits(long, s, r.value, v) {
         return 0;
     }
     22
 }
 
-// The n attributes that a tag gives: the first 20, else the first 22, else number 0. Where it is 0 they are marked.
+// The n attributes that a tag gives: the first 20, else the first 22, else number 0. Where it is 0 they are marked. A 20 comes before each 22, so that the first misfit is
+// only remembered: where its value begins, which is never 0.
 fn marked(
     long: usize,
     s: &[u8],
@@ -78,13 +89,13 @@ fn marked(
     marks: &mut [u16; MARKS],
 ) -> Fault
     requires { ⌜ (1 ≤ e .0) × (e .0 ≤ 64) × (n ≤ 41) × GivenIn (length (now d)) (now given) n × (length (now s) ≤ 32768) × (length (now d) ≤ 65535) ⌝ }
-    ensures { λ r. ⌜ ((xs : List Attribute) → ListAt (settings long) (now (s .entry)) (now (lists .entry)) (201 * (e .0 - 1)) xs → ((k : ℕ) → k < length xs → getD (now (marks .entry)) (2 * k) 0 ≡ 0) →
+    ensures { λ r. ⌜ ((xs : List Attribute) → ListAt (settings long) (now (s .entry)) (now (lists .entry)) (201 * (e .0 - 1)) xs → NamesDiffer (now (s .entry)) xs → ((k : ℕ) → k < length xs → getD (now (marks .entry)) (2 * k) 0 ≡ 0) →
         Given (settings long) (now (s .entry)) xs (now (d .entry)) (keptOf (now (given .entry)) n) (now (marks .exit)) r) ⌝ }
 {
     let mut misfit = 0;
     let mut k = 0;
     while k < n {
-        let w = tags::kept(given, k);
+        let w = tag_attributes::kept(given, k);
         let r = mark(long, s, lists, d, e, w, marks);
         if r == 20 {
             return Fault {
@@ -92,15 +103,17 @@ fn marked(
                 at: w.name,
             };
         }
-        if r == 22 && misfit == 0 {
-            misfit = w.quote;
+        if r == 22 {
+            if misfit == 0 {
+                misfit = w.quote + 1;
+            }
         }
         k += 1;
     }
     if misfit != 0 {
         return Fault {
             number: 22,
-            at: misfit,
+            at: misfit - 1,
         };
     }
     Fault { number: 0, at: 0 }
@@ -138,7 +151,7 @@ pub fn check(
     marks: &mut [u16; MARKS],
 ) -> Fault
     requires { ⌜ (1 ≤ e .0) × (e .0 ≤ 64) × (g ≤ 41) × GivenIn (length (now d)) (now given) g × (length (now s) ≤ 32768) × (length (now d) ≤ 65535) ⌝ }
-    ensures { λ r. ⌜ ((xs : List Attribute) (ws : List rules.Written) → ListAt (settings long) (now (s .entry)) (now (lists .entry)) (201 * (e .0 - 1)) xs → KeptAs (now (given .entry)) g ws →
+    ensures { λ r. ⌜ ((xs : List Attribute) (ws : List rules.Written) → ListAt (settings long) (now (s .entry)) (now (lists .entry)) (201 * (e .0 - 1)) xs → NamesDiffer (now (s .entry)) xs → KeptAs (now (given .entry)) g ws →
         Attributed (now (s .entry)) xs (now (d .entry)) ws (now (marks .exit)) r (attributed (settings long) (now (s .entry)) xs (now (d .entry)) at ws)) ⌝ }
 {
     let n = list_table::count(lists, e);

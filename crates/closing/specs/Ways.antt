@@ -10,6 +10,7 @@ use Rattle.rules.specs.TypeFile.{Element}
 use Rattle.rules.specs.Events.{Event, endWritten}
 use Rattle.rules.specs.Settling.{State, isOpen, closeFrom, endElement, endFrom, endDocument}
 use Rattle.rules.specs.Settling as rules
+use Rattle.rules_laws.specs.BeforeStarts.{plain-none, plain-then, plain-end-written}
 use Rattle.document_laws.specs.Decide.{decided}
 use Rattle.type_tables.specs.Means.{Facts}
 use Rattle.event_buffer.specs.Means.{noted, Puts}
@@ -29,7 +30,7 @@ use Rattle.closing.specs.Closed.{Tagged, Finished}
 pub tag-unopened : (facts : List ℕ) (x at after n : ℕ) (o : Open) (numbers bytes : List ℕ) → Ranged o → isOpen x (bare o) ≡ false → Tagged facts x at after n o numbers bytes (left o n 11) numbers bytes
 tag-unopened facts x at after n o numbers bytes h i =
     record {
-      brings = record { ranged = h; small = omega arith; events = []; puts = puts-none numbers bytes n; counted = omega arith };
+      brings = record { ranged = h; small = omega arith; events = []; puts = puts-none numbers bytes n; counted = omega arith; plain = plain-none };
       few = omega arith;
       closes = λ s es raised f M begun z st.
           becomes-refused at (StandsWith es M begun o (z .events ++ [])) (omega arith) (element-shut s es (decided s es) x at after z (sym (stands-open st x) ∙ i));
@@ -72,7 +73,7 @@ module _ {facts : List ℕ} {x at : ℕ} (after : ℕ) {n : ℕ} {o : Open} {num
 
   -- What is handed back with another number.
   abbrev again : (number : ℕ) → number < 20 → Brings n numbers bytes (left (r .open) (r .events) number) numbers′ bytes′
-  again number h = record { ranged = k .until .brings .ranged; small = h; events = events; puts = k .until .brings .puts; counted = k .until .brings .counted }
+  again number h = record { ranged = k .until .brings .ranged; small = h; events = events; puts = k .until .brings .puts; counted = k .until .brings .counted; plain = k .until .brings .plain }
 
   module _ (nothing : r .number ≡ 0) where
     -- Where no more ends are inferred, it closes the element that is current there.
@@ -119,7 +120,7 @@ module _ {facts : List ℕ} {x at : ℕ} (after : ℕ) {n : ℕ} {o : Open} {num
           let sizes = length-append events (event ∷ []) in
           let b = k .until .brings in
           rw e (record {
-            brings = record { ranged = ranged-ended (b .ranged) l; small = omega arith; events = events ++ event ∷ []; puts = puts-then (b .puts) (b .counted) p; counted = omega (arith, b .counted) };
+            brings = record { ranged = ranged-ended (b .ranged) l; small = omega arith; events = events ++ event ∷ []; puts = puts-then (b .puts) (b .counted) p; counted = omega (arith, b .counted); plain = plain-then (b .plain) (plain-end-written x at after) };
             few = omega (arith, fewer);
             closes = λ s es raised f M begun z st.
                 let (y, here, i) = tag-there s es raised f M begun z st in
@@ -179,7 +180,7 @@ module _ {facts : List ℕ} {at n : ℕ} {o : Open} {numbers bytes : List ℕ} {
     pub end-unfinished : r .open .complete ≡ false → Finished facts at n o numbers bytes (left (r .open) (r .events) 18) numbers′ bytes′
     end-unfinished t =
         record {
-          brings = record { ranged = u .brings .ranged; small = omega arith; events = put; puts = u .brings .puts; counted = u .brings .counted };
+          brings = record { ranged = u .brings .ranged; small = omega arith; events = put; puts = u .brings .puts; counted = u .brings .counted; plain = u .brings .plain };
           few = omega (arith, fewest);
           ends = λ s es raised f M begun z st.
               let (y, here, e) = end-there s es raised f M begun z st in

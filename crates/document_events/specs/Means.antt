@@ -8,12 +8,14 @@ use Rattle.rules.specs.Reading.{refused, got}
 use Rattle.rules.specs.TypeFile.{Element}
 use Rattle.rules.specs.Lent.{bytesOf}
 use Rattle.rules.specs.Events.{Event}
+use Rattle.rules.specs.Given.{withAttributes}
 use Rattle.rules.specs.Settling.{State}
 use Rattle.rules.specs.Reader.{document, eventNumbers}
 use Rattle.numbers.specs.Means.{Written}
 use Rattle.document_laws.specs.Decide.{decided}
 use Rattle.turn_laws.specs.Turns.{Reaches}
 use Rattle.element_index.specs.Means.{Indexed}
+use Rattle.list_table.specs.Means.{Lists}
 use Rattle.type_tables.specs.Means.{Tables}
 use Rattle.event_buffer.specs.Means.{Holds}
 use Rattle.open_elements.specs.declared.Open.{Open}
@@ -36,20 +38,20 @@ pub record Turned (c : Settings) (s : List ℕ) (es : List Element) (d M begun :
   pub goes : r .number ≡ 0 → (y : State) × StandsWith es M begun (r .open) events y × Reaches c s es d after y
   pub refuses : 1 ≤ r .number → document c s es (decided s es) d ≡ refused (r .number) at
 
--- Reading has come to `at` with these elements open, and the events so far are in the buffers as far as they fit.
+-- Reading has come to `at` with these elements open, and the events so far are in the buffers as far as they fit, with attribute events before each start.
 pub record Comes (c : Settings) (s : List ℕ) (es : List Element) (d M begun numbers numbersNow bytes bytesNow : List ℕ) (n at : ℕ) (o : Open) : Type 0 where
   pub state : State
   pub reaches : Reaches c s es d at state
   pub stands : Stands es M begun o state
-  pub counted : n ≡ length (state .events)
-  pub holds : Holds numbers bytes numbersNow bytesNow (state .events)
+  pub counted : n ≡ length (withAttributes c s es d (state .events))
+  pub holds : Holds numbers bytes numbersNow bytesNow (withAttributes c s es d (state .events))
 
--- The same for any elements of which the index and the tables are. Whatever these hold, the numbers are in range: a token takes at least a
--- byte and brings at most 50 events.
-pub record Going (c : Settings) (s elements index rows places facts M d begun numbers numbersNow bytes bytesNow : List ℕ) (n at : ℕ) (o : Open) : Type 0 where
+-- The same for any elements of which the index, the tables and the lists are. Whatever these hold, the numbers are in range: a token takes at least a
+-- byte and brings at most 1050 events.
+pub record Going (c : Settings) (s elements index rows places facts M lists d begun numbers numbersNow bytes bytesNow : List ℕ) (n at : ℕ) (o : Open) : Type 0 where
   pub inside : at ≤ length d
-  pub few : n ≤ 50 * at
+  pub few : n ≤ 1050 * at
   pub ranged : Ranged o
   pub numbers-same : length numbersNow ≡ length numbers
   pub bytes-same : length bytesNow ≡ length bytes
-  pub any : (es : List Element) → Indexed s es elements index → Tables s es rows places facts M → Comes c s es d M begun numbers numbersNow bytes bytesNow n at o
+  pub any : (es : List Element) → Indexed s es elements index → Tables s es rows places facts M → Lists c s es lists → Comes c s es d M begun numbers numbersNow bytes bytesNow n at o

@@ -41,6 +41,9 @@ fn refusal(number: u32, at: usize) -> Counted
 
 // The document d under a type. Its events go to a buffer of numbers and to one of bytes, each as far as they fit. What a buffer holds
 // that is too small for all of them, or where the document is refused, is not decided; it keeps its length, and the reader zeroes it.
+//
+// The steps of a start tag or of data stand here, and not in a function of their own: such a function has a state of its own, and copies the array of
+// the open elements at each token.
 pub fn events_of(
     long: usize,
     s: &[u8],
@@ -90,20 +93,69 @@ pub fn events_of(
             &mut marks,
         );
         match p {
+            // A start tag of x, or a run of data where x is 0.
             Piece::Token(x, after) => {
-                let r = settling::token(
+                // Number 16: the document element has ended.
+                if ways::is_over(o) {
+                    return refusal(16, at);
+                }
+                // Steps 1 to 3: ends are inferred until x fits, or starts can be inferred before it, or it is stuck.
+                let f = inferring::ends(
+                    rows,
+                    places,
+                    facts,
+                    members,
+                    &begun,
+                    o,
+                    x,
+                    at,
+                    n,
+                    numbers,
+                    bytes,
+                );
+                let found = f.found;
+                let starts = ways::starts_of(found);
+                let mut m = f.events;
+                o = f.open;
+                // Number 15: so many starts would be too many.
+                if 24 < o.count + starts {
+                    return refusal(15, at);
+                }
+                // Step 2: the starts are inferred, one in the other.
+                let mut k = 0;
+                while k < starts {
+                    let j = inferring::next_start(places, facts, o);
+                    m = attribute_events::put_defaults(lists, j, m, numbers, bytes);
+                    o = inferring::infer_start(
+                        rows,
+                        places,
+                        facts,
+                        members,
+                        &mut begun,
+                        o,
+                        at,
+                        m,
+                        numbers,
+                        bytes,
+                    );
+                    m += 1;
+                    k += 1;
+                }
+                // The attribute events of a start tag come before its own.
+                m = attribute_events::put_written(lists, &marks, x, m, numbers, bytes);
+                // The token takes its place, and its events are put; where it is stuck, or no room is left for its element, it is refused.
+                let r = placing::placed(
                     rows,
                     places,
                     facts,
                     members,
                     &mut begun,
-                    lists,
-                    &marks,
                     o,
+                    found,
                     x,
                     at,
                     after,
-                    n,
+                    m,
                     numbers,
                     bytes,
                 );
@@ -112,6 +164,10 @@ pub fn events_of(
                 }
                 n = r.events;
                 o = r.open;
+                // An element with a model is open from here on.
+                if ways::opens(facts, x) {
+                    o = o.start(rows, x);
+                }
                 at = after;
             }
             Piece::End(x, after) => {

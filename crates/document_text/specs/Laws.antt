@@ -1,20 +1,24 @@
 -- Laws of the rules' pieces: each way that reading goes.
 use Prim.Native.Nat.{ℕ, _+_}
-use mathlib.Core.Path.{_≡_, sym, ap, _∙_}
-use mathlib.Core.Bool.{true, false, _&&_, _||_}
+use mathlib.Core.Path.{_≡_, refl, sym, ap, subst, _∙_}
+use mathlib.Core.Bool.{Bool, true, false, _&&_, _||_, true≢false}
 use mathlib.Core.List.{List}
 use lib.Dec.{eqb}
 use borrow.Author.Tests.{eq-eqb, ne-eqb}
 use Rattle.rules.specs.Settings.{Settings}
 use Rattle.rules.specs.Bytes.{byteAt, letter}
 use Rattle.rules.specs.Reading.{Reading, refused, got}
+use Rattle.rules.specs.Attributes.{isReference}
 use Rattle.rules.specs.TypeFile.{atDashes, commentDeclaration}
-use Rattle.rules.specs.Document.{Tag, Piece, startTag, endTag, skipped, blank, dataByte, tag, malformed, declarationPiece, markupPiece, isReference, isSectionEnd, bytePiece, piece}
+use Rattle.rules.specs.Document.{Written, Tag, Piece, startTag, endTag, skipped, blank, dataByte, tag, startTagAt, malformed, declarationPiece, markupPiece, isSectionEnd, bytePiece, piece}
 use Rattle.text.specs.Means.{refusalOf}
 use Rattle.text.specs.declared.Fault.{Fault}
-use Rattle.tags.specs.Tags.{tagIn}
+use Rattle.tags.specs.Tags.{tagWith, tagIn}
+use Rattle.tags.specs.Given.{ReadAs, MeetsTag}
 use Rattle.tags.specs.declared.Tag as here
-use Rattle.document_text.specs.Means.{pieceOf, asStartTag, asEndTag, asSkipped}
+use Rattle.tags.specs.declared.TagRead.{TagRead}
+use Rattle.tags.specs.declared.TagRead.the-variants as tagRead
+use Rattle.document_text.specs.Means.{pieceOf, MeetsPiece, asStartTag, asEndTag, asSkipped}
 use Rattle.document_text.specs.declared.Token.{Token}
 use Rattle.document_text.specs.declared.Token.the-variants as token
 
@@ -39,9 +43,9 @@ module _ (s : List ℕ) (i b : ℕ) (q : b ≡ byteAt s (i + 2)) where
 
 -- `<` at i under the settings c, before the byte b.
 module _ (c : Settings) (s : List ℕ) (i b : ℕ) (q : b ≡ byteAt s (i + 1)) where
-  pub markup-start : letter b ≡ true → (r : Reading Tag) → r ≡ tag c s (i + 1) → asStartTag r ≡ markupPiece c s i
+  pub markup-start : letter b ≡ true → markupPiece c s i ≡ asStartTag (startTagAt c s (i + 1))
   unfolding markupPiece
-  markup-start l r e = rw (e, markupPiece, rw q at l)
+  markup-start l = rw (markupPiece, rw q at l)
 
   module _ (l : letter b ≡ false) where
     pub markup-end : (eqb (byteAt s (i + 1)) 47 && letter (byteAt s (i + 2))) ≡ true → (r : Reading Tag) → r ≡ tag c s (i + 2) → asEndTag r ≡ markupPiece c s i
@@ -96,22 +100,82 @@ module _ (c : Settings) (s : List ℕ) (i : ℕ) where
       unfolding piece
       piece-byte e = rw (piece, ne-eqb _ _ h, r, e)
 
+-- A tag that was read as a start tag, and one that was refused.
+module _ (r : TagRead) (end : ℕ) (g : List ℕ) (x : Reading Tag) (m : MeetsTag end g r x) where
+  pub meets-start : {t : here.Tag} → r ≡ tagRead.Read t → MeetsPiece end g (token.StartTag t) (asStartTag x)
+  meets-start q =
+      let n = subst (λ (y : TagRead). MeetsTag end g y x) q m in
+      (n .0, ap asStartTag (n .1), n .2)
+
+  pub meets-refused : {f : Fault} → r ≡ tagRead.Refused f → MeetsPiece end g (token.Refused f) (asStartTag x)
+  meets-refused q = ap asStartTag (subst (λ (y : TagRead). MeetsTag end g y x) q m)
+
+-- Whether a start tag was read.
+abbrev isStart : Reading Piece → Bool
+isStart (refused n k) = false
+isStart (got (startTag t)) = true
+isStart (got (endTag t)) = false
+isStart (got (skipped i)) = false
+isStart (got blank) = false
+isStart (got dataByte) = false
+
+-- None was.
+pub record NoStart (x : Reading Piece) : Type 0 where
+  no : isStart x ≡ false
+
+pub end-no-start : (r : Reading Tag) → NoStart (asEndTag r)
+end-no-start (refused n k) = record { no = refl }
+end-no-start (got t) = record { no = refl }
+
+skipped-no-start : (r : Reading ℕ) → NoStart (asSkipped r)
+skipped-no-start (refused n k) = record { no = refl }
+skipped-no-start (got e) = record { no = refl }
+
+either-no-start : {x y : Reading Piece} (b : Bool) → NoStart x → NoStart y → NoStart (elim b [ true ↦ x | false ↦ y ])
+either-no-start true p q = p
+either-no-start false p q = q
+
+pub declaration-no-start : (s : List ℕ) (i : ℕ) → NoStart (declarationPiece s i)
+unfolding declarationPiece
+declaration-no-start s i =
+    let b = byteAt s (i + 2) in
+    either-no-start (eqb b 62) (record { no = refl })
+    (either-no-start (atDashes s (i + 2)) (skipped-no-start (malformed (commentDeclaration s (i + 2)))) (either-no-start (letter b || eqb b 91) (record { no = refl }) (record { no = refl })))
+
+pub byte-no-start : (s : List ℕ) (i : ℕ) → NoStart (bytePiece s i)
+unfolding bytePiece
+byte-no-start s i =
+    let b = byteAt s i in
+    either-no-start (eqb b 10) (record { no = refl }) (either-no-start (eqb b 9 || (eqb b 13 || eqb b 32)) (record { no = refl }) (record { no = refl }))
+
+-- A token that stands for what is no start tag: nothing is kept of attributes. It is what the rules read, x.
+pub meets-other : (end : ℕ) (g : List ℕ) (r : Token) {x y : Reading Piece} → pieceOf r ≡ y → NoStart y → y ≡ x → MeetsPiece end g r x
+meets-other end g (token.StartTag t) e n q = absurd (true≢false (ap isStart e ∙ n .no))
+meets-other end g (token.EndTag t) e n q = sym (e ∙ q)
+meets-other end g (token.Skipped i) e n q = sym (e ∙ q)
+meets-other end g token.Blank e n q = sym (e ∙ q)
+meets-other end g token.Data e n q = sym (e ∙ q)
+meets-other end g (token.Refused f) e n q = sym (e ∙ q)
+
 -- A token by cases: what the rules read, where the code's answer is known.
-module _ {x : Reading Piece} {r : Token} (e : pieceOf r ≡ x) where
-  pub token-start : {t : here.Tag} → r ≡ token.StartTag t → x ≡ got (startTag (tagIn t))
-  token-start q = sym e ∙ ap pieceOf q
+module _ (end : ℕ) (g : List ℕ) (r : Token) (x : Reading Piece) (m : MeetsPiece end g r x) where
+  known : {t : Token} → r ≡ t → MeetsPiece end g t x
+  known q = subst (λ (y : Token). MeetsPiece end g y x) q m
+
+  pub token-start : {t : here.Tag} → r ≡ token.StartTag t → (ws : List Written) × (x ≡ got (startTag (tagWith ws t))) × ReadAs end g (t .given) ws
+  token-start q = known q
 
   pub token-end : {t : here.Tag} → r ≡ token.EndTag t → x ≡ got (endTag (tagIn t))
-  token-end q = sym e ∙ ap pieceOf q
+  token-end q = known q
 
   pub token-skipped : {i : ℕ} → r ≡ token.Skipped i → x ≡ got (skipped i)
-  token-skipped q = sym e ∙ ap pieceOf q
+  token-skipped q = known q
 
   pub token-blank : r ≡ token.Blank → x ≡ got blank
-  token-blank q = sym e ∙ ap pieceOf q
+  token-blank q = known q
 
   pub token-data : r ≡ token.Data → x ≡ got dataByte
-  token-data q = sym e ∙ ap pieceOf q
+  token-data q = known q
 
   pub token-refused : {f : Fault} → r ≡ token.Refused f → x ≡ refusalOf f
-  token-refused q = sym e ∙ ap pieceOf q
+  token-refused q = known q

@@ -11,6 +11,7 @@ use Rattle.rules.specs.Decisions.{Token, Decisions}
 use Rattle.rules.specs.Events.{Event, endInferred}
 use Rattle.rules.specs.Settling.{State, settled, stuck, inward, settleFrom, fitting}
 use Rattle.rules.specs.Settling as rules
+use Rattle.rules_laws.specs.BeforeStarts.{plain-none, plain-then, plain-end-inferred}
 use Rattle.document_laws.specs.Decide.{decided}
 use Rattle.document_laws.specs.Moves.{state}
 use Rattle.type_tables.specs.Means.{nameNumber, Declares, Tables}
@@ -94,6 +95,7 @@ module _ (rows places facts M begun : List ℕ) (x at n : ℕ) where
         events = [];
         puts = puts-none numbers bytes n;
         counted = omega arith;
+        plain = plain-none;
         deep = omega arith;
         ranged = h;
         comes = λ s es tables z stands t i d. record { there = z; stands = stands; ends = none; noted = rw append-nil; same = refl };
@@ -110,6 +112,7 @@ module _ (rows places facts M begun : List ℕ) (x at n : ℕ) where
         events = h .events ++ endInferred (o .element .0) at ∷ [];
         puts = puts-then (h .puts) (h .counted) puts;
         counted = simp length-append (omega (arith, h .counted));
+        plain = plain-then (h .plain) (plain-end-inferred (o .element .0) at);
         deep = simp length-append (omega (arith, h .deep));
         ranged = ranged-ended (h .ranged) some;
         comes = λ s es tables z stands t j d.

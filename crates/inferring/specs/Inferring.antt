@@ -9,6 +9,7 @@ use Rattle.rules.specs.Decisions.{Token, Decisions}
 use Rattle.rules.specs.Events.{startInferred, endInferred, Event}
 use Rattle.rules.specs.Settling.{State, takePlace, shown, placeTaken, enter, note, fitting, requiredPlace, inferable, settleFrom}
 use Rattle.rules.specs.Settling as rules
+use Rattle.rules_laws.specs.BeforeStarts.{Plain}
 use Rattle.document_laws.specs.Decide.{decided}
 use Rattle.document_laws.specs.Moves.{state, fresh}
 use Rattle.type_tables.specs.Means.{nameNumber, Declares, Tables, Entered}
@@ -41,6 +42,7 @@ pub record Turns (rows places facts M begun : List ℕ) (x at n : ℕ) (o₀ : O
   pub events : List Event
   pub puts : Puts numbers₀ bytes₀ n events numbers bytes
   pub counted : m ≡ n + length events
+  pub plain : Plain events
   pub deep : length events + o .count ≡ o₀ .count
   pub ranged : Ranged o
   pub comes : (s : List ℕ) (es : List Element) → Tables s es rows places facts M → (z : State) → Stands es M begun o₀ z → (t : Token) → nameNumber t ≡ x → Declares es t → Comes s es M begun t at o events z
@@ -86,6 +88,11 @@ pub record InfersOn (s : List ℕ) (es : List Element) (M begun : List ℕ) (t :
   pub infers : Infers s es (decided s es) t left (there .current)
   pub noted : there .events ≡ z₀ .events ++ events
   pub same : inferMany s es (decided s es) at left there ≡ inferMany s es (decided s es) at starts z₀
+
+-- By the tables of a type k is the element whose start is to be inferred next, wherever the open elements stand for a state of the rules.
+abbrev pub Chooses : (places facts : List ℕ) → Open → (k : ℕ) → Type 0
+Chooses places facts o k =
+    (s : List ℕ) (es : List Element) (rows M begun : List ℕ) → Tables s es rows places facts M → (z : State) → Stands es M begun o z → k ≡ inferable s es (decided s es) (z .current)
 
 -- The required place is taken, the element k opened there, and its start noted; by the tables of a type it is the one whose start is to be
 -- inferred.

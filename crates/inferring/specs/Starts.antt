@@ -1,15 +1,19 @@
 -- Starts that are inferred one in the other.
-use Prim.Native.Nat.{ℕ, zero, suc, _+_, _-_, _≤_, _<_}
+use Prim.Native.Nat.{ℕ, zero, suc, _+_, _-_, _*_, _≤_, _<_}
 use mathlib.Core.Path.{_≡_, refl, sym, _∙_, ap, ap₂, subst}
 use mathlib.Core.List.{List, [], _∷_, _++_, append-assoc, append-nil}
 use native.Mathlib.Omega.{arith}
 use lib.ListN.{length, length-append}
 use borrow.Author.Tests.{le-leb, leb-true}
+use Rattle.rules.specs.Settings.{Settings}
 use Rattle.rules.specs.TypeFile.{Element}
+use Rattle.rules.specs.Elements.{elementAt}
+use Rattle.rules.specs.Given.{attributeEvents, withAttributes}
 use Rattle.rules.specs.Decisions.{Token, Decisions}
 use Rattle.rules.specs.Events.{Event, startInferred}
 use Rattle.rules.specs.Settling.{State, takePlace, shown, placeTaken, enter, note, fitting, requiredPlace, inferable, inferStarts}
 use Rattle.rules.specs.Settling as rules
+use Rattle.rules_laws.specs.BeforeStarts.{with-append, with-start-inferred, plain-none}
 use Rattle.document_laws.specs.Decide.{decided}
 use Rattle.document_laws.specs.Chain.{Leads, inferable-may}
 use Rattle.document_laws.specs.Moves.{fresh, placeTaken-took}
@@ -20,7 +24,9 @@ use Rattle.open_elements.specs.Taken.{can-require}
 use Rattle.open_elements.specs.Laws.{stands-required, stands-noted, stands-opening, ranged-taking, ranged-opening}
 use Rattle.event_buffer.specs.Means.{Puts}
 use Rattle.event_buffer.specs.Laws.{puts-none, puts-then}
-use Rattle.inferring.specs.Inferring.{inferOne, inferMany, Infers, InfersOn, InfersStart}
+use Rattle.list_table.specs.Means.{Lists}
+use Rattle.attribute_events.specs.Means.{PutsDefaults}
+use Rattle.inferring.specs.Inferring.{inferOne, inferMany, Infers, InfersOn, Chooses, InfersStart}
 
 -- By whatever decisions
 module _ (s : List ℕ) (es : List Element) (D : Decisions) where
@@ -93,61 +99,98 @@ module _ {rows places facts M before : List ℕ} {at n : ℕ} {o : Open} {number
 
 -- Many starts
 
--- k of the starts are inferred, and what is left to infer comes to the same as all of them from the first state.
-pub record Along (rows places facts M : List ℕ) (at m starts k : ℕ) (o₀ : Open) (begun₀ numbers₀ bytes₀ : List ℕ) (o : Open) (begun numbers bytes : List ℕ) : Type 0 where
+-- k of the starts are inferred, and what is left to infer comes to the same as all of them from the first state. What is put are their events, with the
+-- attribute events before each: at most 41 for a start.
+pub record Along (rows places facts M lists : List ℕ) (at m₀ starts k : ℕ) (o₀ : Open) (begun₀ numbers₀ bytes₀ : List ℕ) (m : ℕ) (o : Open) (begun numbers bytes : List ℕ) : Type 0 where
   pub most : k ≤ starts
   pub events : List Event
-  pub puts : Puts numbers₀ bytes₀ m events numbers bytes
-  pub counted : length events ≡ k
+  pub written : List Event
+  pub puts : Puts numbers₀ bytes₀ m₀ written numbers bytes
+  pub counted : m ≡ m₀ + length written
+  pub few : length written ≤ 41 * k
   pub deep : o .count ≡ o₀ .count + k
   pub whole : length begun ≡ length begun₀
   pub ranged : Ranged o
   pub still : k ≡ 0 → o ≡ o₀
   pub along : (s : List ℕ) (es : List Element) → Tables s es rows places facts M → (z : State) → Stands es M begun₀ o₀ z → (t : Token) → Infers s es (decided s es) t starts (z .current)
       → InfersOn s es M begun t at (starts - k) o events starts z
+  pub adds : (s : List ℕ) (es : List Element) → Tables s es rows places facts M → (z : State) → Stands es M begun₀ o₀ z → (t : Token) → Infers s es (decided s es) t starts (z .current)
+      → (c : Settings) (d : List ℕ) → Lists c s es lists → written ≡ withAttributes c s es d events
 
-module _ (rows places facts M : List ℕ) (at m starts : ℕ) where
-  pub along-start : (o : Open) (begun numbers bytes : List ℕ) → Ranged o → Along rows places facts M at m starts 0 o begun numbers bytes o begun numbers bytes
+module _ (rows places facts M lists : List ℕ) (at m₀ starts : ℕ) where
+  pub along-start : (o : Open) (begun numbers bytes : List ℕ) → Ranged o → Along rows places facts M lists at m₀ starts 0 o begun numbers bytes m₀ o begun numbers bytes
   along-start o begun numbers bytes h =
       let left : starts - 0 ≡ starts = omega arith in
       record {
         most = omega arith;
         events = [];
-        puts = puts-none numbers bytes m;
-        counted = refl;
+        written = [];
+        puts = puts-none numbers bytes m₀;
+        counted = omega arith;
+        few = omega arith;
         deep = omega arith;
         whole = refl;
         ranged = h;
         still = λ e. refl;
         along = λ s es tables z stands t infers. rw left record { there = z; stands = stands; infers = infers; noted = rw append-nil; same = refl };
+        adds = λ s es tables z stands t infers c d lists. sym (plain-none .plain c s es d);
       }
 
-  module _ {k : ℕ} {o₀ : Open} {begun₀ numbers₀ bytes₀ : List ℕ} {o : Open} {begun numbers bytes : List ℕ} (h : Along rows places facts M at m starts k o₀ begun₀ numbers₀ bytes₀ o begun numbers bytes) where
-    -- A turn of the loop: one start more is inferred.
-    pub along-next : k < starts → o .count < 24 → {r : Open} {begun′ numbers′ bytes′ : List ℕ} → InfersStart rows places facts M begun at (m + k) o numbers bytes r begun′ numbers′ bytes′
-        → Along rows places facts M at m starts (k + 1) o₀ begun₀ numbers₀ bytes₀ r begun′ numbers′ bytes′
-    along-next l less i =
-        let left : starts - k ≡ suc (starts - (k + 1)) = omega arith in
-        record {
-          most = omega arith;
-          events = h .events ++ started i less ∷ [];
-          puts = puts-then (h .puts) (omega (arith, h .counted)) (i .puts);
-          counted = simp length-append (omega (arith, h .counted));
-          deep = omega (arith, h .deep, start-deep i less);
-          whole = i .starting .taking .whole ∙ h .whole;
-          ranged = start-ranged i less (h .ranged);
-          still = λ e. absurd (omega arith);
-          along = λ s es tables z stands t infers.
-              let b = rw left at (h .along s es tables z stands t infers) in
-              let some = b .infers .0 in
-              record {
-                there = inferOne s es (decided s es) at (b .there);
-                stands = start-stands i less tables (b .stands) some;
-                infers = b .infers .1;
-                noted = start-noted i less tables (b .stands) some ∙ ap (λ (ev : List Event). ev ++ started i less ∷ []) (b .noted) ∙ append-assoc (z .events) (h .events) (started i less ∷ []);
-                same = b .same;
-              };
-        }
+  module _ {k : ℕ} {o₀ : Open} {begun₀ numbers₀ bytes₀ : List ℕ} {m : ℕ} {o : Open} {begun numbers bytes : List ℕ} (h : Along rows places facts M lists at m₀ starts k o₀ begun₀ numbers₀ bytes₀ m o begun numbers bytes) where
+    -- A turn of the loop: one start more is inferred, behind the events of the attributes of its element.
+    module _ (l : k < starts) (less : o .count < 24) {e : ℕ} (chooses : Chooses places facts o e) {m₁ : ℕ} {numbers₁ bytes₁ : List ℕ} (before : PutsDefaults lists e m numbers bytes m₁ numbers₁ bytes₁)
+        {r : Open} {begun′ numbers′ bytes′ : List ℕ} (i : InfersStart rows places facts M begun at m₁ o numbers₁ bytes₁ r begun′ numbers′ bytes′) where
+      left : starts - k ≡ suc (starts - (k + 1))
+      left = omega arith
+
+      -- what is left to infer before the turn
+      here : (s : List ℕ) (es : List Element) → Tables s es rows places facts M → (z : State) → Stands es M begun₀ o₀ z → (t : Token) → Infers s es (decided s es) t starts (z .current)
+          → InfersOn s es M begun t at (suc (starts - (k + 1))) o (h .events) starts z
+      here s es tables z stands t infers = rw left at (h .along s es tables z stands t infers)
+
+      -- By the tables of a type the events of the attributes are those of the element that starts.
+      same-element : (s : List ℕ) (es : List Element) → Tables s es rows places facts M → (y : State) → Stands es M begun o y → e ≡ i .k
+      same-element s es tables y stands = chooses s es rows M begun tables y stands ∙ sym (i .chosen s es tables y stands)
+
+      defaults : (s : List ℕ) (es : List Element) → Tables s es rows places facts M → (y : State) → Stands es M begun o y → 1 ≤ inferable s es (decided s es) (y .current)
+          → (c : Settings) (d : List ℕ) → Lists c s es lists → before .events ++ started i less ∷ [] ≡ withAttributes c s es d (started i less ∷ [])
+      defaults s es tables y stands some c d l =
+          let same = same-element s es tables y stands in
+          let chosen = i .chosen s es tables y stands in
+          let may = inferable-may s es (decided s es) (y .current) (le-leb 1 _ some) in
+          let are = before .are c s d (elementAt es (e - 1) .attributes) (omega (arith, same, chosen)) (l (e - 1) (omega (arith, same, chosen, may .declared))) in
+          ap (λ (ev : List Event). ev ++ started i less ∷ []) (are ∙ ap (λ (j : ℕ). attributeEvents 1 s (elementAt es (j - 1) .attributes) d []) same)
+          ∙ sym (with-start-inferred c s es d (i .k) at (shown (o .element .0) (o .required .0)))
+
+      pub along-next : Along rows places facts M lists at m₀ starts (k + 1) o₀ begun₀ numbers₀ bytes₀ (m₁ + 1) r begun′ numbers′ bytes′
+      along-next =
+          let put = puts-then (before .few .puts) (before .few .counted) (i .puts) in
+          record {
+            most = omega arith;
+            events = h .events ++ started i less ∷ [];
+            written = h .written ++ (before .events ++ started i less ∷ []);
+            puts = puts-then (h .puts) (h .counted) put;
+            counted = simp length-append (omega (arith, h .counted, before .few .counted));
+            few = simp length-append (omega (arith, h .few, before .few .few));
+            deep = omega (arith, h .deep, start-deep i less);
+            whole = i .starting .taking .whole ∙ h .whole;
+            ranged = start-ranged i less (h .ranged);
+            still = λ e. absurd (omega arith);
+            along = λ s es tables z stands t infers.
+                let b = here s es tables z stands t infers in
+                let some = b .infers .0 in
+                record {
+                  there = inferOne s es (decided s es) at (b .there);
+                  stands = start-stands i less tables (b .stands) some;
+                  infers = b .infers .1;
+                  noted = start-noted i less tables (b .stands) some ∙ ap (λ (ev : List Event). ev ++ started i less ∷ []) (b .noted) ∙ append-assoc (z .events) (h .events) (started i less ∷ []);
+                  same = b .same;
+                };
+            adds = λ s es tables z stands t infers c d lists.
+                let b = here s es tables z stands t infers in
+                ap₂ (λ (u v : List Event). u ++ v) (h .adds s es tables z stands t infers c d lists) (defaults s es tables (b .there) (b .stands) (b .infers .0) c d lists)
+                ∙ sym (with-append c s es d (h .events) (started i less ∷ []));
+          }
 
     pub along-all : starts ≤ k → (s : List ℕ) (es : List Element) → Tables s es rows places facts M → (z : State) → Stands es M begun₀ o₀ z → (t : Token) → Infers s es (decided s es) t starts (z .current)
         → InfersOn s es M begun t at 0 o (h .events) starts z

@@ -14,7 +14,7 @@ use open_elements::Open;
 use ways::Way;
 ghost use Prim.Native.Nat.{_+_, _≤_, _<_};
 ghost use Rattle.open_elements.specs.Means.{Ranged};
-ghost use Rattle.inferring.specs.Inferring.{Stops, InfersStart};
+ghost use Rattle.inferring.specs.Inferring.{Stops, Chooses, InfersStart};
 
 // Where no more ends are inferred: the state come to, what its current element has to say to the token, and how many events there
 // are.
@@ -66,33 +66,35 @@ pub fn ends(
     }
 }
 
-// The element whose start is inferred next.
+// The element whose start is inferred next: its attribute events come before it.
 pub fn next_start(places: &[u8; PLACES], facts: &[u8; FACTS], state: Open) -> ElementNo
     requires { ⌜ Ranged state ⌝ }
-    ensures { λ r. ⌜ (r .0 ≡ startableAt (now (places .entry)) (now (facts .entry)) state) × (r .0 ≤ 64) ⌝ }
+    ensures { λ r. ⌜ Chooses (now (places .entry)) (now (facts .entry)) state (r .0) × (r .0 ≤ 64) ⌝ }
 {
     let e = state.element;
     let q = state.required;
     type_tables::startable(places, facts, e, q)
 }
 
-// One start is inferred, of the element k that comes next so: the required place is taken, and its element opened.
+// One start is inferred: the required place is taken, and its element opened.
 pub fn infer_start(
     rows: &[u8; ROWS],
+    places: &[u8; PLACES],
+    facts: &[u8; FACTS],
     members: &[u8],
     begun: &mut [u32; BEGUN],
     state: Open,
-    k: ElementNo,
     at: usize,
     n: usize,
     numbers: &mut [u32],
     bytes: &mut [u8],
 ) -> Open
-    requires { ⌜ Ranged state × (state .count < 24) × (k .0 ≤ 64) × (at < 4294967296) × (n < 4294967296) ⌝ }
-    ensures { λ r. ⌜ InfersStart (now (rows .entry)) (now (members .entry)) (now (begun .entry)) (k .0) at n state (now (numbers .entry)) (now (bytes .entry)) r (now (begun .exit)) (now (numbers .exit)) (now (bytes .exit)) ⌝ }
+    requires { ⌜ Ranged state × (state .count < 24) × (at < 4294967296) × (n < 4294967296) ⌝ }
+    ensures { λ r. ⌜ InfersStart (now (rows .entry)) (now (places .entry)) (now (facts .entry)) (now (members .entry)) (now (begun .entry)) at n state (now (numbers .entry)) (now (bytes .entry)) r (now (begun .exit)) (now (numbers .exit)) (now (bytes .exit)) ⌝ }
 {
     let e = state.element;
     let q = state.required;
+    let k = type_tables::startable(places, facts, e, q);
     let shown = open_elements::place_shown(e, q);
     event_buffer::put_event(numbers, bytes, n, 2, k, at, 0, shown);
     state.start_required(rows, members, begun, k)

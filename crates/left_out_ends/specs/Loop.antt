@@ -12,6 +12,7 @@ use Rattle.rules.specs.Decisions.{start}
 use Rattle.rules.specs.Events.{Event, endInferred}
 use Rattle.rules.specs.Settling.{State, isComplete, endLeftOut}
 use Rattle.rules.specs.Settling as rules
+use Rattle.rules_laws.specs.BeforeStarts.{Plain, plain-none, plain-then, plain-end-inferred}
 use Rattle.document_laws.specs.Decide.{isCompleteIn, decided}
 use Rattle.document_laws.specs.Moves.{state}
 use Rattle.type_tables.specs.Means.{Declares, Facts}
@@ -91,6 +92,7 @@ pub record Goes (facts : List ℕ) (x at n : ℕ) (o : Open) (numbers bytes : Li
   pub puts : Puts numbers bytes n events numbers′ bytes′
   pub counted : k ≡ n + length events
   pub few : length events + q .count ≤ o .count
+  pub plain : Plain events
   pub same : (s : List ℕ) (es : List Element) (raised : ℕ → Bool) → Facts s es raised facts → (M begun : List ℕ) (z : State) → Stands es M begun o z
       → (y : State) × Stands es M begun q y × (y .events ≡ z .events ++ events) × (inferredFrom s es (decided s es) x at z ≡ inferredFrom s es (decided s es) x at y)
 
@@ -118,12 +120,13 @@ module _ {facts : List ℕ} {x at n : ℕ} {o : Open} {numbers bytes : List ℕ}
         puts = puts-none numbers bytes n;
         counted = omega arith;
         few = omega arith;
+        plain = plain-none;
         same = λ s es raised f M begun z st. (z, st, sym (append-nil (z .events)), refl);
       }
 
   module _ {q : Open} {k : ℕ} {numbers′ bytes′ : List ℕ} (g : Goes facts x at n o numbers bytes q k numbers′ bytes′) where
     abbrev brings : (number : ℕ) → number < 20 → Brings n numbers bytes (left q k number) numbers′ bytes′
-    brings number h = record { ranged = g .ranged; small = h; events = g .events; puts = g .puts; counted = g .counted }
+    brings number h = record { ranged = g .ranged; small = h; events = g .events; puts = g .puts; counted = g .counted; plain = g .plain }
 
     pub until-here : q .element .0 ≡ x → Until facts x at n o numbers bytes (left q k 0) numbers′ bytes′
     until-here e =
@@ -174,6 +177,7 @@ module _ {facts : List ℕ} {x at n : ℕ} {o : Open} {numbers bytes : List ℕ}
             puts = puts-then (g .puts) (g .counted) p;
             counted = omega (arith, g .counted);
             few = omega (arith, g .few);
+            plain = plain-then (g .plain) (plain-end-inferred (q .element .0) at);
             same = λ s es raised f M begun z st.
                 let (y, here, ev, i) = g .same s es raised f M begun z st in
                 let a = stands-around here l in (

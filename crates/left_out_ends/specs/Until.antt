@@ -11,6 +11,7 @@ use Rattle.rules.specs.Decisions.{Decisions}
 use Rattle.rules.specs.Events.{Event, endInferred}
 use Rattle.rules.specs.Settling.{State, endLeftOut}
 use Rattle.rules.specs.Settling as rules
+use Rattle.rules_laws.specs.BeforeStarts.{Plain}
 use Rattle.document_laws.specs.Decide.{decided}
 use Rattle.type_tables.specs.Means.{Facts}
 use Rattle.event_buffer.specs.Means.{Puts}
@@ -39,13 +40,15 @@ pub record Judges (facts : List ℕ) (o : Open) (number : ℕ) : Type 0 where
   pub due : (s : List ℕ) (es : List Element) (raised : ℕ → Bool) → Facts s es raised facts → (M begun : List ℕ) (z : State) → Stands es M begun o z → 1 ≤ o .count → (at : ℕ)
       → endLeftOut s es (decided s es) at (z .current) ≡ dueOf at number (endInferred (o .element .0) at)
 
--- What is handed back, whatever the tables hold: the numbers of the state are in range, and these events were put behind n others.
+-- What is handed back, whatever the tables hold: the numbers of the state are in range, and these events, ends alone, were put
+-- behind n others.
 pub record Brings (n : ℕ) (numbers bytes : List ℕ) (r : Outcome) (numbers′ bytes′ : List ℕ) : Type 0 where
   pub ranged : Ranged (r .open)
   pub small : r .number < 20
   pub events : List Event
   pub puts : Puts numbers bytes n events numbers′ bytes′
   pub counted : r .events ≡ n + length events
+  pub plain : Plain events
 
 -- The outcome r is what inferring ends comes to from the state o. At most one end is inferred for each element that is open no more.
 pub record Until (facts : List ℕ) (x at n : ℕ) (o : Open) (numbers bytes : List ℕ) (r : Outcome) (numbers′ bytes′ : List ℕ) : Type 0 where

@@ -29,23 +29,23 @@ row-is l i p q r t u = rw (p, q, r, t, u)
 
 -- Attributes by number
 
-at-before : (xs : List Attribute) (x : Attribute) (k : ℕ) → k < length xs → attributeAt (xs ++ x ∷ []) k ≡ attributeAt xs k
+pub at-before : (xs : List Attribute) (x : Attribute) (k : ℕ) → k < length xs → attributeAt (xs ++ x ∷ []) k ≡ attributeAt xs k
 unfolding attributeAt
 at-before [] x k h = absurd (omega (arith, h))
 at-before (a ∷ xs) x zero h = refl
 at-before (a ∷ xs) x (suc k) h = at-before xs x k (omega (arith, h))
 
-at-last : (xs : List Attribute) (x : Attribute) → attributeAt (xs ++ x ∷ []) (length xs) ≡ x
+pub at-last : (xs : List Attribute) (x : Attribute) → attributeAt (xs ++ x ∷ []) (length xs) ≡ x
 unfolding attributeAt
 at-last [] x = refl
 at-last (a ∷ xs) x = at-last xs x
 
 -- Whether one is required
 
-required-is : (x n : ℕ) → x ≡ 0 → isRequired (defaultIs x n) ≡ true
+pub required-is : (x n : ℕ) → x ≡ 0 → isRequired (defaultIs x n) ≡ true
 required-is x n e = rw (defaultIs, eq-eqb x 0 e)
 
-required-not : (x n : ℕ) → (x ≡ 0 → ⊥) → isRequired (defaultIs x n) ≡ false
+pub required-not : (x n : ℕ) → (x ≡ 0 → ⊥) → isRequired (defaultIs x n) ≡ false
 required-not x n h = by-tests (eqb x 0) (eqb x 1) (ne-eqb x 0 h)
   where
     by-tests : (a b : Bool) → a ≡ false → isRequired (elim a [ true ↦ required | false ↦ elim b [ true ↦ implied | false ↦ literal (record { at = x; size = n }) ] ]) ≡ false

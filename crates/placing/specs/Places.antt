@@ -1,4 +1,4 @@
--- What follows once a token has its place: it is noted, opened or refused.
+-- What follows once a token has its place: it is noted or refused, and an element with a model is opened.
 use Prim.Native.Nat.{ℕ, zero, suc, _+_, _-_, _≤_, _<_}
 use mathlib.Core.Path.{_≡_, refl, sym, _∙_, ap, subst}
 use mathlib.Core.Bool.{Bool, true, false}
@@ -7,23 +7,24 @@ use native.Mathlib.Omega.{arith}
 use lib.ListN.{length}
 use lib.Dec.{leb}
 use borrow.Author.Tests.{leb-true, leb-false, le-ltb, lt-ltb}
-use Rattle.rules.specs.Reading.{refused, got}
+use Rattle.rules.specs.Reading.{Reading, refused, got}
 use Rattle.rules.specs.TypeFile.{Element}
 use Rattle.rules.specs.Elements.{contentOf, hasModel}
-use Rattle.rules.specs.Decisions.{Token, start}
+use Rattle.rules.specs.Decisions.{Token}
 use Rattle.rules.specs.Events.{Event, startWritten, endOfEmpty}
-use Rattle.rules.specs.Settling.{State, takePlace, shown, placeTaken, enter, note, limited}
+use Rattle.rules.specs.Settling.{State, takePlace, shown, placeTaken, enter, limited}
 use Rattle.document_laws.specs.Decide.{decided}
 use Rattle.document_laws.specs.Moves.{state, placeTaken-took}
-use Rattle.type_tables.specs.Means.{nameNumber, Declares, Facts, Tables}
+use Rattle.type_tables.specs.Means.{nameNumber, Declares, Tables, CanTake}
 use Rattle.open_elements.specs.declared.Open.{Open}
-use Rattle.open_elements.specs.Means.{Becomes, opening, Ranged, Stands, Taking}
+use Rattle.open_elements.specs.declared.Outcome.{Outcome}
+use Rattle.open_elements.specs.Means.{Becomes, Ranged, Stands, Taking}
 use Rattle.open_elements.specs.Laws.{stands-deep, stands-noted, stands-opening, ranged-taking, ranged-opening}
 use Rattle.event_buffer.specs.Means.{noted, Puts}
 use Rattle.event_buffer.specs.Laws.{puts-none, puts-then}
 use Rattle.ways.specs.declared.Way.{Way}
 use Rattle.ways.specs.Means.{tokenOf, tokenOf-number, tokenOf-declared, placeOf}
-use Rattle.placing.specs.Noting.{noting, writtenOf, Follows, Places}
+use Rattle.placing.specs.Noting.{noting, Opens, writtenOf, Writes, entering, Notes, Placed, openedBy, Follows, Places}
 
 -- The limit of 24
 
@@ -47,34 +48,56 @@ module _ (es : List Element) (at after : ℕ) (y : State) where
   noting-full zero some l = absurd (some refl)
   noting-full (suc k) some l = rw (limited-many at (enter (suc k) y) (omega arith))
 
-  noting-written : (x : ℕ) → length (y .around) ≤ 24 → ((x ≡ 0 → ⊥) → (length (y .around) < 24) × (hasModel (contentOf es x) ≡ false))
-      → noting es x at after y ≡ got (state (y .current) (y .around) (y .events ++ writtenOf x (placeTaken (y .current)) at after))
-  noting-written zero l none = rw (limited-few at y l)
-  noting-written (suc k) l none =
-      let (less, empty) = none (λ z. omega arith) in
+  noting-notes : (x : ℕ) (b : Bool) → length (y .around) ≤ 24 → ((x ≡ 0 → ⊥) → (length (y .around) < 24) × (hasModel (contentOf es x) ≡ b))
+      → noting es x at after y ≡ got (state (entering es x y .current) (entering es x y .around) (y .events ++ writtenOf x b (placeTaken (y .current)) at after))
+  noting-notes zero b l some = rw (limited-few at y l)
+  noting-notes (suc k) true l some =
+      let (less, model) = some (λ z. omega arith) in
+      rw (limited-few at (enter (suc k) y) (omega arith), model, entering)
+  noting-notes (suc k) false l some =
+      let (less, empty) = some (λ z. omega arith) in
       let e = startWritten (suc k) at after (placeTaken (y .current)) in
-      rw (limited-few at (enter (suc k) y) (omega arith), empty) (ap (λ (ev : List Event). got (state (y .current) (y .around) ev)) (append-assoc (y .events) (e ∷ []) (endOfEmpty (suc k) after ∷ [])))
+      rw (limited-few at (enter (suc k) y) (omega arith), empty, entering) (ap (λ (ev : List Event). got (state (y .current) (y .around) ev)) (append-assoc (y .events) (e ∷ []) (endOfEmpty (suc k) after ∷ [])))
 
-  noting-opens : (x : ℕ) → (x ≡ 0 → ⊥) → length (y .around) < 24 → hasModel (contentOf es x) ≡ true → noting es x at after y ≡ got (note (startWritten x at after (placeTaken (y .current))) (enter x y))
-  noting-opens zero some less model = absurd (some refl)
-  noting-opens (suc k) some less model = rw (limited-few at (enter (suc k) y) (omega arith), model)
+-- What is entered: an element with a model.
 
--- The events of a token that opens nothing
+module _ (es : List Element) (y : State) where
+  entering-model : (x : ℕ) → (x ≡ 0 → ⊥) → hasModel (contentOf es x) ≡ true → entering es x y ≡ enter x y
+  entering-model zero some model = absurd (some refl)
+  entering-model (suc k) some model = rw (model, entering)
 
-module _ {numbers bytes : List ℕ} {at n r : ℕ} (after p : ℕ) where
-  pub puts-run : (x : ℕ) → x ≡ 0 → {numbers′ bytes′ : List ℕ} → r ≡ n + 1 → Puts numbers bytes n (noted 5 x at (after - at) 0 ∷ []) numbers′ bytes′
-      → (r ≡ n + length (writtenOf x p at after)) × Puts numbers bytes n (writtenOf x p at after) numbers′ bytes′
-  puts-run zero z e puts = (e, puts)
-  puts-run (suc k) z e puts = absurd (omega arith)
+  entering-none : (x : ℕ) → ((x ≡ 0 → ⊥) → hasModel (contentOf es x) ≡ false) → entering es x y ≡ y
+  entering-none zero empty = refl
+  entering-none (suc k) empty = rw (empty (λ z. omega arith), entering)
 
-  pub puts-empty : (x : ℕ) → (x ≡ 0 → ⊥) → {m : ℕ} {numbers′ bytes′ numbers″ bytes″ : List ℕ} → m ≡ n + 1 → Puts numbers bytes n (startWritten x at after p ∷ []) numbers′ bytes′
-      → r ≡ m + 1 → Puts numbers′ bytes′ m (endOfEmpty x after ∷ []) numbers″ bytes″ → (r ≡ n + length (writtenOf x p at after)) × Puts numbers bytes n (writtenOf x p at after) numbers″ bytes″
-  puts-empty zero some e first i second = absurd (some refl)
-  puts-empty (suc k) some e first i second = (omega arith, puts-then first e second)
+-- The events of the token
 
-written-few : (x p at after : ℕ) → length (writtenOf x p at after) ≤ 2
-written-few zero p at after = omega arith
-written-few (suc k) p at after = omega arith
+module _ (at after p : ℕ) where
+  started : (x : ℕ) → (x ≡ 0 → ⊥) → writtenOf x true p at after ≡ startWritten x at after p ∷ []
+  started zero i = absurd (i refl)
+  started (suc k) i = refl
+
+  emptied : (x : ℕ) → (x ≡ 0 → ⊥) → writtenOf x false p at after ≡ startWritten x at after p ∷ endOfEmpty x after ∷ []
+  emptied zero i = absurd (i refl)
+  emptied (suc k) i = refl
+
+module _ {facts numbers bytes : List ℕ} {x at n : ℕ} (after p : ℕ) where
+  pub writes-run : x ≡ 0 → {r : ℕ} {numbers′ bytes′ : List ℕ} → r ≡ n + 1 → Puts numbers bytes n (noted 5 x at (after - at) 0 ∷ []) numbers′ bytes′ → Writes facts x p at after n numbers bytes r numbers′ bytes′
+  writes-run z e puts =
+      rw z record { b = false; opens = (λ z. refl, λ s es raised facts d. absurd (omega (arith, d .0))); counted = e; puts = rw z at puts }
+
+  -- Of an element: its start, and its end unless it opens.
+  module _ (some : x ≡ 0 → ⊥) {b : Bool} (opens : Opens facts x b) {m : ℕ} {numbers′ bytes′ : List ℕ} (e : m ≡ n + 1) (first : Puts numbers bytes n (startWritten x at after p ∷ []) numbers′ bytes′) where
+    pub writes-opened : b ≡ true → Writes facts x p at after n numbers bytes m numbers′ bytes′
+    writes-opened i = record { b = true; opens = rw i at opens; counted = rw (started at after p x some) e; puts = rw (started at after p x some) first }
+
+    pub writes-empty : b ≡ false → {r : ℕ} {numbers″ bytes″ : List ℕ} → r ≡ m + 1 → Puts numbers′ bytes′ m (endOfEmpty x after ∷ []) numbers″ bytes″ → Writes facts x p at after n numbers bytes r numbers″ bytes″
+    writes-empty i j second = record { b = false; opens = rw i at opens; counted = rw (emptied at after p x some) (omega arith); puts = rw (emptied at after p x some) (puts-then first e second) }
+
+written-few : (x : ℕ) (b : Bool) (p at after : ℕ) → length (writtenOf x b p at after) ≤ 2
+written-few zero b p at after = omega arith
+written-few (suc k) true p at after = omega arith
+written-few (suc k) false p at after = omega arith
 
 clash : {b : Bool} → b ≡ true → b ≡ false → ⊥
 clash e i = let z : _≡_ {A = ℕ} 0 1 = cc in omega arith
@@ -87,17 +110,11 @@ place-of : {rows places facts : List ℕ} {found : Way} {x e p : ℕ} → Asked 
     → (M : List ℕ) (s : List ℕ) (es : List Element) → Tables s es rows places facts M → e ≤ length es → x ≤ length es → p ≡ placeOf (decided s es .fits e [] (tokenOf x)) found
 place-of {x = x} asked M s es tables declared most = asked .answers s es M tables declared (tokenOf x) (tokenOf-number x) (tokenOf-declared es x most)
 
--- Where it is not full there is room for an element, and what opens is one.
+-- Where it is not full there is room for an element.
 room : {x c : ℕ} {full : Bool} → ((x ≡ 0 → ⊥) → full ≡ leb 24 c) → full ≡ false → (x ≡ 0 → ⊥) → c < 24
 room {c = c} fills roomy i = leb-false 24 c (sym (fills i) ∙ roomy)
 
-pub opening-room : {x c : ℕ} {full b : Bool} → ((x ≡ 0 → ⊥) → full ≡ leb 24 c) → full ≡ false → (x ≡ 0 → b ≡ false) → b ≡ true → c < 24
-opening-room fills roomy none e = room fills roomy (λ z. clash e (none z))
-
 -- What the table of facts says is whether the element has a model.
-abbrev Opens : (facts : List ℕ) (x : ℕ) → Bool → Type 0
-Opens facts x b = (x ≡ 0 → b ≡ false) × ((s : List ℕ) (es : List Element) (raised : ℕ → Bool) → Facts s es raised facts → Declares es (start x) → b ≡ hasModel (contentOf es x))
-
 model-is : {rows places facts M : List ℕ} {x : ℕ} {b : Bool} → Opens facts x b → {s : List ℕ} {es : List Element} → Tables s es rows places facts M → (x ≡ 0 → ⊥) → x ≤ length es → {c : Bool} → b ≡ c → hasModel (contentOf es x) ≡ c
 model-is opens {s} {es} tables element most e = sym (opens .1 s es (tables .raised) (tables .facts-say) (omega (arith, element), most)) ∙ e
 
@@ -108,7 +125,7 @@ shows {z = z} stands p same = placeTaken-took (z .current) p ∙ ap (λ k. shown
 -- What the code does with the place p
 
 module _ {rows places facts : List ℕ} (M begun : List ℕ) {found : Way} {x at after n : ℕ} {o : Open} (h : Ranged o) {numbers bytes : List ℕ} {p : ℕ} (asked : Asked rows places facts found x (o .element .0) p) where
-  pub placed-nowhere : p ≡ 0 → Places rows places facts M begun found x at after n o numbers bytes (record { «open» = o; events = n; number = 12 }) begun numbers bytes
+  pub placed-nowhere : p ≡ 0 → Placed rows places facts M begun found x at after n o numbers bytes (record { «open» = o; events = n; number = 12 }) begun numbers bytes
   placed-nowhere z =
       record {
         ranged = h;
@@ -118,14 +135,17 @@ module _ {rows places facts : List ℕ} (M begun : List ℕ) {found : Way} {x at
         puts = puts-none numbers bytes n;
         counted = omega arith;
         few = omega arith;
+        written = λ e. absurd (omega arith);
         p = p;
         place = place-of asked M;
         stuck = λ z. refl;
+        taking = λ e. absurd (omega arith);
+        room = λ e. absurd (omega arith);
         notes = λ some. absurd (some z);
       }
 
   module _ (some : p ≡ 0 → ⊥) {full : Bool} (fills : (x ≡ 0 → full ≡ false) × ((x ≡ 0 → ⊥) → full ≡ leb 24 (o .count))) where
-    pub placed-full : full ≡ true → Places rows places facts M begun found x at after n o numbers bytes (record { «open» = o; events = n; number = 15 }) begun numbers bytes
+    pub placed-full : full ≡ true → Placed rows places facts M begun found x at after n o numbers bytes (record { «open» = o; events = n; number = 15 }) begun numbers bytes
     placed-full e =
         let element : x ≡ 0 → ⊥ = (λ z. clash e (fills .0 z)) in
         record {
@@ -136,58 +156,101 @@ module _ {rows places facts : List ℕ} (M begun : List ℕ) {found : Way} {x at
           puts = puts-none numbers bytes n;
           counted = omega arith;
           few = omega arith;
+          written = λ e. absurd (omega arith);
           p = p;
           place = place-of asked M;
           stuck = λ z. absurd (some z);
+          taking = λ e. absurd (omega arith);
+          room = λ e. absurd (omega arith);
           notes = λ i s es tables z stands can most.
               let many = leb-true 24 (o .count) (sym (fills .1 element) ∙ e) in
-              subst (Becomes at 15 (Follows es M begun o z [])) (sym (noting-full es at after (takePlace p z) x element (omega (arith, stands-deep stands)))) (refl, omega arith, refl);
+              subst (Becomes at 15 (Notes es x (takePlace p z) [])) (sym (noting-full es at after (takePlace p z) x element (omega (arith, stands-deep stands)))) (refl, omega arith, refl);
         }
 
-    module _ (roomy : full ≡ false) (within : p ≤ 96) {b : Bool}
-        (opens : Opens facts x b)
-        {q : Open} {begun′ : List ℕ} (took : Taking rows M begun p o q begun′) {v : ℕ} (same : v ≡ shown (o .element .0) p) where
-      pub placed-written : b ≡ false → {m : ℕ} {numbers′ bytes′ : List ℕ} → (m ≡ n + length (writtenOf x v at after)) × Puts numbers bytes n (writtenOf x v at after) numbers′ bytes′
-          → Places rows places facts M begun found x at after n o numbers bytes (record { «open» = q; events = m; number = 0 }) begun′ numbers′ bytes′
-      placed-written e (counted, puts) =
-          record {
-            ranged = ranged-taking took h within;
-            small = omega arith;
-            whole = took .whole;
-            events = writtenOf x v at after;
-            puts = puts;
-            counted = counted;
-            few = written-few x v at after;
-            p = p;
-            place = place-of asked M;
-            stuck = λ z. absurd (some z);
-            notes = λ i s es tables z stands can most.
-                let y = takePlace p z in
-                let deep = stands-deep stands in
-                let empty : (x ≡ 0 → ⊥) → (length (y .around) < 24) × (hasModel (contentOf es x) ≡ false) = (λ element. (omega (arith, deep, room {c = o .count} (fills .1) roomy element), model-is opens tables element most e)) in
-                subst (Becomes at 0 (Follows es M begun′ q z (writtenOf x v at after))) (sym (noting-written es at after y x (omega (arith, deep, stands .few)) empty))
-                (refl, (stands-noted (took .stands s es places facts tables z stands can) _, ap (λ (k : ℕ). z .events ++ writtenOf x k at after) (shows stands p same)));
-          }
+    pub placed-taken : full ≡ false → p ≤ 96 → {q : Open} {begun′ : List ℕ} → Taking rows M begun p o q begun′ → {v : ℕ} → v ≡ shown (o .element .0) p
+        → {m : ℕ} {numbers′ bytes′ : List ℕ} → Writes facts x v at after n numbers bytes m numbers′ bytes′
+        → Placed rows places facts M begun found x at after n o numbers bytes (record { «open» = q; events = m; number = 0 }) begun′ numbers′ bytes′
+    placed-taken roomy within took {v} same w =
+        let less : (x ≡ 0 → ⊥) → o .count < 24 = room (fills .1) roomy in
+        record {
+          ranged = ranged-taking took h within;
+          small = omega arith;
+          whole = took .whole;
+          events = writtenOf x (w .b) v at after;
+          puts = w .puts;
+          counted = w .counted;
+          few = written-few x (w .b) v at after;
+          written = λ e. (w .b, v, refl);
+          p = p;
+          place = place-of asked M;
+          stuck = λ z. absurd (some z);
+          taking = λ e. took;
+          room = λ e element. omega (arith, less element, took .count);
+          notes = λ i s es tables z stands can most.
+              let y = takePlace p z in
+              let deep = stands-deep stands in
+              let model : (x ≡ 0 → ⊥) → (length (y .around) < 24) × (hasModel (contentOf es x) ≡ w .b) = (λ element. (omega (arith, deep, less element), model-is (w .opens) tables element most refl)) in
+              let noted = noting-notes es at after y x (w .b) (omega (arith, deep, stands .few)) model ∙ ap (λ (k : ℕ). got (state (entering es x y .current) (entering es x y .around) (y .events ++ writtenOf x (w .b) k at after))) (shows stands p same) in
+              subst (Becomes at 0 (Notes es x y (writtenOf x (w .b) v at after))) (sym noted) (refl, refl);
+        }
 
-      pub placed-opened : b ≡ true → x ≤ 64 → {r : Open} → r ≡ opening rows x q → {m : ℕ} {numbers′ bytes′ : List ℕ} → (m ≡ n + 1) × Puts numbers bytes n (startWritten x at after v ∷ []) numbers′ bytes′
-          → Places rows places facts M begun found x at after n o numbers bytes (record { «open» = r; events = m; number = 0 }) begun′ numbers′ bytes′
-      placed-opened e small {r} i (counted, puts) =
-          let element : x ≡ 0 → ⊥ = (λ z. clash e (opens .0 z)) in
-          let less : o .count < 24 = room (fills .1) roomy element in
-          record {
-            ranged = rw i (ranged-opening rows x (ranged-taking took h within) (omega (arith, less, took .count)) small);
-            small = omega arith;
-            whole = took .whole;
-            events = startWritten x at after v ∷ [];
-            puts = puts;
-            counted = counted;
-            few = omega arith;
-            p = p;
-            place = place-of asked M;
-            stuck = λ z. absurd (some z);
-            notes = λ j s es tables z stands can most.
-                let y = takePlace p z in
-                let there = stands-opening (took .stands s es places facts tables z stands can) tables x (omega (arith, less, took .count)) (omega (arith, element)) most in
-                subst (Becomes at 0 (Follows es M begun′ r z (startWritten x at after v ∷ []))) (sym (noting-opens es at after y x element (omega (arith, less, stands-deep stands)) (model-is opens tables element most e)))
-                (refl, (rw i (stands-noted there _), ap (λ (k : ℕ). z .events ++ startWritten x at after k ∷ []) (shows stands p same)));
-          }
+-- What has become of the token holds of more, where it is not refused.
+pub becomes-more : {P Q : State → Type 0} (at n : ℕ) (q : Reading State) → (n ≡ 0 → (y : State) → P y → Q y) → Becomes at n P q → Becomes at n Q q
+becomes-more at n (refused m k) f h = h
+becomes-more at n (got y) f h = (h .0, f (h .0) y (h .1))
+
+-- What the caller does with an element that opens
+
+module _ {rows places facts M begun : List ℕ} {found : Way} {x at after n : ℕ} {o : Open} {numbers bytes : List ℕ} {r : Outcome} {begun′ numbers′ bytes′ : List ℕ}
+    (h : Placed rows places facts M begun found x at after n o numbers bytes r begun′ numbers′ bytes′) where
+  -- The token was refused.
+  pub places-refused : (r .number ≡ 0 → ⊥) → Places rows places facts M begun found x at after n o numbers bytes r (r .open) begun′ numbers′ bytes′
+  places-refused none =
+      record {
+        placed = h;
+        ranged = h .ranged;
+        notes = λ some s es tables z stands can most.
+            becomes-more {P = Notes es x (takePlace (h .p) z) (h .events)} {Q = Follows es M begun′ (r .open) z (h .events)} at (r .number) (noting es x at after (takePlace (h .p) z)) (λ e. absurd (none e))
+            (h .notes some s es tables z stands can most);
+      }
+
+  module _ (fine : r .number ≡ 0) (b : Bool) (none : x ≡ 0 → b ≡ false) {q : Open} (i : q ≡ openedBy rows x b (r .open)) where
+    pub opened-ranged : x ≤ 64 → Ranged q
+    opened-ranged small = rw i (by-flag b none)
+      where
+        by-flag : (b : Bool) → (x ≡ 0 → b ≡ false) → Ranged (openedBy rows x b (r .open))
+        by-flag true none = ranged-opening rows x (h .ranged) (h .room fine (λ z. clash refl (none z))) small
+        by-flag false none = h .ranged
+
+    -- By the tables of a type the element has a model, or the token is another: the open elements stand for what the rules make of it.
+    module _ {s : List ℕ} {es : List Element} (tables : Tables s es rows places facts M) {z : State} (stands : Stands es M begun o z) (can : CanTake es (z .current) (h .p)) (most : x ≤ length es)
+        (model : (x ≡ 0 → ⊥) → hasModel (contentOf es x) ≡ b) where
+      opened-stands : Stands es M begun′ q (entering es x (takePlace (h .p) z))
+      opened-stands = rw i (by-flag b none model)
+        where
+          y : State
+          y = takePlace (h .p) z
+
+          there : Stands es M begun′ (r .open) y
+          there = h .taking fine .stands s es places facts tables z stands can
+
+          by-flag : (b : Bool) → (x ≡ 0 → b ≡ false) → ((x ≡ 0 → ⊥) → hasModel (contentOf es x) ≡ b) → Stands es M begun′ (openedBy rows x b (r .open)) (entering es x y)
+          by-flag true none model =
+              let element : x ≡ 0 → ⊥ = (λ z. clash refl (none z)) in
+              rw (entering-model es y x element (model element)) (stands-opening there tables x (h .room fine element) (omega (arith, element)) most)
+          by-flag false none model = rw (entering-none es y x model) there
+
+      pub opened-notes : (h .p ≡ 0 → ⊥) → Becomes at (r .number) (Follows es M begun′ q z (h .events)) (noting es x at after (takePlace (h .p) z))
+      opened-notes some =
+          let y = takePlace (h .p) z in
+          becomes-more {P = Notes es x y (h .events)} {Q = Follows es M begun′ q z (h .events)} at (r .number) (noting es x at after y)
+          (λ e w is. (subst (Stands es M begun′ q) (sym is) (stands-noted opened-stands (y .events ++ h .events)), ap (λ (v : State). v .events) is)) (h .notes some s es tables z stands can most)
+
+  -- Whatever the tables hold: an element that opens by the table of facts was opened.
+  pub places-opened : r .number ≡ 0 → x ≤ 64 → (b : Bool) → Opens facts x b → {q : Open} → q ≡ openedBy rows x b (r .open) → Places rows places facts M begun found x at after n o numbers bytes r q begun′ numbers′ bytes′
+  places-opened fine small b opens i =
+      record {
+        placed = h;
+        ranged = opened-ranged fine b (opens .0) i small;
+        notes = λ some s es tables z stands can most. opened-notes fine b (opens .0) i tables stands can most (λ element. model-is opens tables element most refl) some;
+      }

@@ -7,23 +7,20 @@
 use layout::BEGUN;
 use layout::ElementNo;
 use layout::FACTS;
-use layout::MARKS;
 use layout::PLACES;
 use layout::Place;
 use layout::ROWS;
 use open_elements::Open;
 use open_elements::Outcome;
 use ways::Way;
-ghost use mathlib.Core.Path.{_≡_};
 ghost use Prim.Native.Nat.{_+_, _≤_, _<_};
-ghost use lib.ListN.{length};
 ghost use Rattle.open_elements.specs.Means.{Ranged};
-ghost use Rattle.event_buffer.specs.Means.{Puts};
 ghost use Rattle.ways.specs.Means.{fitOf};
-ghost use Rattle.placing.specs.Noting.{writtenOf, Places};
+ghost use Rattle.placing.specs.Noting.{Writes, Placed};
 
-// The events of a run of data, or of an EMPTY element x, which took this place.
+// The events of a run of data, or of an element x, which took this place: the end of an EMPTY element stands behind its tag.
 fn put_written(
+    facts: &[u8; FACTS],
     x: ElementNo,
     shown: Place,
     at: usize,
@@ -33,27 +30,27 @@ fn put_written(
     bytes: &mut [u8],
 ) -> usize
     requires { ⌜ (x .0 ≤ 64) × (shown .0 ≤ 96) × (at ≤ after) × (after < 4294967296) × (n + 2 < 4294967296) ⌝ }
-    ensures { λ r. ⌜ (r ≡ n + length (writtenOf (x .0) (shown .0) at after)) ×
-        Puts (now (numbers .entry)) (now (bytes .entry)) n (writtenOf (x .0) (shown .0) at after) (now (numbers .exit)) (now (bytes .exit)) ⌝ }
+    ensures { λ r. ⌜ Writes (now (facts .entry)) (x .0) (shown .0) at after n (now (numbers .entry)) (now (bytes .entry)) r (now (numbers .exit)) (now (bytes .exit)) ⌝ }
 {
     let none = Place(0);
     if x.0 == 0 {
         return event_buffer::put_event(numbers, bytes, n, 5, x, at, after - at, none);
     }
     let m = event_buffer::put_event(numbers, bytes, n, 1, x, at, after - at, shown);
+    if ways::opens(facts, x) {
+        return m;
+    }
     event_buffer::put_event(numbers, bytes, m, 6, x, after, 0, none)
 }
 
-// The token takes its place by what was found, and is noted; an element with a model is opened. Where it is refused neither the state, but for
-// its range, nor the events are decided.
+// The token takes its place by what was found, and its events are put; an element with a model is left for the caller to open. Where it is refused neither the
+// state, but for its range, nor the events are decided.
 pub fn placed(
     rows: &[u8; ROWS],
     places: &[u8; PLACES],
     facts: &[u8; FACTS],
     members: &[u8],
     begun: &mut [u32; BEGUN],
-    lists: &[u16],
-    marks: &[u16; MARKS],
     state: Open,
     found: Way,
     x: ElementNo,
@@ -63,8 +60,8 @@ pub fn placed(
     numbers: &mut [u32],
     bytes: &mut [u8],
 ) -> Outcome
-    requires { ⌜ Ranged state × (fitOf found ≤ 96) × (x .0 ≤ 64) × (at ≤ after) × (after < 4294967296) × (n + 42 < 4294967296) ⌝ }
-    ensures { λ r. ⌜ Places (now (rows .entry)) (now (places .entry)) (now (facts .entry)) (now (members .entry)) (now (begun .entry)) (now (lists .entry)) (now (marks .entry)) found (x .0) at after n state (now (numbers .entry)) (now (bytes .entry)) r (now (begun .exit)) (now (numbers .exit)) (now (bytes .exit)) ⌝ }
+    requires { ⌜ Ranged state × (fitOf found ≤ 96) × (x .0 ≤ 64) × (at ≤ after) × (after < 4294967296) × (n + 2 < 4294967296) ⌝ }
+    ensures { λ r. ⌜ Placed (now (rows .entry)) (now (places .entry)) (now (facts .entry)) (now (members .entry)) (now (begun .entry)) found (x .0) at after n state (now (numbers .entry)) (now (bytes .entry)) r (now (begun .exit)) (now (numbers .exit)) (now (bytes .exit)) ⌝ }
 {
     let e = state.element;
     let p = ways::place_of(rows, places, facts, e, found, x);
@@ -84,19 +81,9 @@ pub fn placed(
     }
     let shown = open_elements::place_shown(e, p);
     let last = state.take(rows, members, begun, p);
-    let i = attribute_events::put_written(lists, marks, x, n, numbers, bytes);
-    if !ways::opens(facts, x) {
-        let m = put_written(x, shown, at, after, i, numbers, bytes);
-        return Outcome {
-            open: last,
-            events: m,
-            number: 0,
-        };
-    }
-    let inner = last.start(rows, x);
-    let m = event_buffer::put_event(numbers, bytes, i, 1, x, at, after - at, shown);
+    let m = put_written(facts, x, shown, at, after, n, numbers, bytes);
     Outcome {
-        open: inner,
+        open: last,
         events: m,
         number: 0,
     }

@@ -1,7 +1,7 @@
 -- Attribute events before starts, event by event: `withAttributes` walked once.
 use Prim.Native.Nat.{ℕ, _+_, _-_}
-use mathlib.Core.Path.{_≡_, refl, sym, _∙_, ap}
-use mathlib.Core.List.{List, [], _∷_, _++_, append-assoc, append-nil}
+use mathlib.Core.Path.{_≡_, refl, sym, _∙_, ap, ap₂}
+use mathlib.Core.List.{List, [], _∷_, _++_, append-assoc}
 use Rattle.rules.specs.Settings.{Settings}
 use Rattle.rules.specs.Reading.{got}
 use Rattle.rules.specs.TypeFile.{Element}
@@ -24,19 +24,19 @@ module _ (c : Settings) (s : List ℕ) (es : List Element) (d : List ℕ) where
   unfolding withAttributes
   alone e h = ap (λ (ev : List Event). ev ++ e ∷ []) h
 
-  pub with-end-inferred : (k at : ℕ) → With (endInferred k at ∷ []) ≡ endInferred k at ∷ []
+  with-end-inferred : (k at : ℕ) → With (endInferred k at ∷ []) ≡ endInferred k at ∷ []
   unfolding attributesBefore
   with-end-inferred k at = alone (endInferred k at) refl
 
-  pub with-end-written : (k at after : ℕ) → With (endWritten k at after ∷ []) ≡ endWritten k at after ∷ []
+  with-end-written : (k at after : ℕ) → With (endWritten k at after ∷ []) ≡ endWritten k at after ∷ []
   unfolding attributesBefore
   with-end-written k at after = alone (endWritten k at after) refl
 
-  pub with-data : (at size : ℕ) → With (dataRun at size ∷ []) ≡ dataRun at size ∷ []
+  with-data : (at size : ℕ) → With (dataRun at size ∷ []) ≡ dataRun at size ∷ []
   unfolding attributesBefore
   with-data at size = alone (dataRun at size) refl
 
-  pub with-end-of-empty : (k after : ℕ) → With (endOfEmpty k after ∷ []) ≡ endOfEmpty k after ∷ []
+  with-end-of-empty : (k after : ℕ) → With (endOfEmpty k after ∷ []) ≡ endOfEmpty k after ∷ []
   unfolding attributesBefore
   with-end-of-empty k after = alone (endOfEmpty k after) refl
 
@@ -49,3 +49,26 @@ module _ (c : Settings) (s : List ℕ) (es : List Element) (d : List ℕ) where
   pub with-start-written : (k at after p : ℕ) {t : Tag} → startTagAt c d (at + 1) ≡ got t → With (startWritten k at after p ∷ []) ≡ attributeEvents 1 s (elementAt es (k - 1) .attributes) d (t .written) ++ startWritten k at after p ∷ []
   unfolding attributesBefore withAttributes
   with-start-written k at after p e = ap (λ r. attributeEvents 1 s (elementAt es (k - 1) .attributes) d (givenBy r) ++ startWritten k at after p ∷ []) e
+
+-- Attribute events come before none of these.
+pub record Plain (ev : List Event) : Type 0 where
+  pub plain : (c : Settings) (s : List ℕ) (es : List Element) (d : List ℕ) → withAttributes c s es d ev ≡ ev
+
+pub plain-none : Plain []
+unfolding withAttributes
+plain-none = record { plain = λ c s es d. refl }
+
+pub plain-then : {a b : List Event} → Plain a → Plain b → Plain (a ++ b)
+plain-then {a} {b} p q = record { plain = λ c s es d. with-append c s es d a b ∙ ap₂ (λ (u v : List Event). u ++ v) (p .plain c s es d) (q .plain c s es d) }
+
+pub plain-end-inferred : (k at : ℕ) → Plain (endInferred k at ∷ [])
+plain-end-inferred k at = record { plain = λ c s es d. with-end-inferred c s es d k at }
+
+pub plain-end-written : (k at after : ℕ) → Plain (endWritten k at after ∷ [])
+plain-end-written k at after = record { plain = λ c s es d. with-end-written c s es d k at after }
+
+pub plain-data : (at size : ℕ) → Plain (dataRun at size ∷ [])
+plain-data at size = record { plain = λ c s es d. with-data c s es d at size }
+
+pub plain-end-of-empty : (k after : ℕ) → Plain (endOfEmpty k after ∷ [])
+plain-end-of-empty k after = record { plain = λ c s es d. with-end-of-empty c s es d k after }

@@ -10,12 +10,12 @@ use lib.Dec.{eqb, ltb}
 use borrow.Author.Tests.{ltb-false}
 use Rattle.rules.specs.Settings.{Settings}
 use Rattle.rules.specs.Bytes.{byteAt, letter, nameEnd, separatorsEnd}
-use Rattle.rules.specs.Reading.{Reading, refused}
+use Rattle.rules.specs.Reading.{Reading, refused, got}
 use Rattle.rules.specs.TypeFile.{atDashes, commentDeclaration}
 use Rattle.rules.specs.Attributes.{quote, isReference, literalEnd}
 use Rattle.rules.specs.Document.{Written, Tag, Piece, startTag, endTag, skipped, blank, dataByte, tag, specification, specifications, startTagAt, malformed, declarationPiece, markupPiece, isSectionEnd, bytePiece, piece}
 use Rattle.text.specs.Laws.{test-in, letter-in, nameEnd-from, nameEnd-le, nameEnd-more, separatorsEnd-from, separatorsEnd-le, second, dashes-in}
-use Rattle.rules_laws.specs.Holds.{Holds, stops, reads, Gives, each, so, on, either}
+use Rattle.rules_laws.specs.Holds.{got-so, Holds, stops, reads, Gives, each, so, on, either}
 use Rattle.rules_laws.specs.Groups.{InType}
 use Rattle.rules_laws.specs.In.{All, none, more, all-snoc}
 use Rattle.rules_laws.specs.Gaps.{Onward, comment-within}
@@ -120,13 +120,13 @@ module _ (c : Settings) (d : List ℕ) where
   literal-piece i = so (literal-holds d i) (λ n k x. (inl (omega (arith, x), omega (arith, x)), omega (arith, x))) (λ e x. x)
 
   -- The literal ends at the closing quote.
-  record SpecificationRead (i : ℕ) (w : Written) : Type 0 where
-    at : w .at ≡ i
-    some : 1 ≤ w .size
-    parted : w .at + w .size < w .quote
-    inside : w .quote + 1 + w .length < length d
+  pub record SpecificationRead (i : ℕ) (w : Written) : Type 0 where
+    pub at : w .at ≡ i
+    pub some : 1 ≤ w .size
+    pub parted : w .at + w .size < w .quote
+    pub inside : w .quote + 1 + w .length < length d
 
-  specification-read : (i : ℕ) → letter (byteAt d i) ≡ true → Holds (InPiece d) (SpecificationRead i) (specification c d i)
+  pub specification-read : (i : ℕ) → letter (byteAt d i) ≡ true → Holds (InPiece d) (SpecificationRead i) (specification c d i)
   unfolding specification
   specification-read i l =
       let e = nameEnd d i in
@@ -234,3 +234,44 @@ module _ (c : Settings) (d : List ℕ) where
       either (eqb (byteAt d i) 60) (λ x. markup-short i)
       (λ x. either (eqb (byteAt d i) 38 && isReference d i) (λ y. stops tt)
       (λ y. either (isSectionEnd d i) (λ z. stops tt) (λ z. byte-short d (c .nameLength) i)))
+
+-- A start tag among the pieces is the one that is read behind its `<`.
+abbrev StartsAs : Settings → List ℕ → (i : ℕ) → Piece → Type 0
+StartsAs c d i (startTag t) = startTagAt c d (i + 1) ≡ got t
+StartsAs c d i (endTag t) = Unit {0}
+StartsAs c d i (skipped after) = Unit {0}
+StartsAs c d i blank = Unit {0}
+StartsAs c d i dataByte = Unit {0}
+
+module _ (c : Settings) (d : List ℕ) (i : ℕ) where
+  declaration-starts : Gives (StartsAs c d i) (declarationPiece d i)
+  unfolding declarationPiece
+  declaration-starts =
+      let b = byteAt d (i + 2) in
+      either (eqb b 62) (λ x. reads tt)
+      (λ x. either (atDashes d (i + 2)) (λ y. on (each {P = λ (e : ℕ). Unit {0}} (malformed (commentDeclaration d (i + 2))) (λ n k e. tt) (λ k e. tt)) (λ k u. reads tt))
+      (λ y. either (letter b || eqb b 91) (λ z. stops tt) (λ z. reads tt)))
+
+  byte-starts : Gives (StartsAs c d i) (bytePiece d i)
+  unfolding bytePiece
+  byte-starts =
+      let b = byteAt d i in
+      either (eqb b 10) (λ x. reads tt) (λ x. either (eqb b 9 || (eqb b 13 || eqb b 32)) (λ y. reads tt) (λ y. reads tt))
+
+  markup-starts : Gives (StartsAs c d i) (markupPiece c d i)
+  unfolding markupPiece
+  markup-starts =
+      let b = byteAt d (i + 1) in
+      either (letter b) (λ x. on (each {P = λ (t : Tag). startTagAt c d (i + 1) ≡ got t} (startTagAt c d (i + 1)) (λ n k e. tt) (λ t e. e)) (λ t r. reads r))
+      (λ x. either (eqb b 47 && letter (byteAt d (i + 2))) (λ y. on (each {P = λ (t : Tag). Unit {0}} (tag c d (i + 2)) (λ n k e. tt) (λ t e. tt)) (λ t r. reads tt))
+      (λ y. either (eqb b 33) (λ z. declaration-starts) (λ z. either (eqb b 63) (λ u. stops tt) (λ u. reads tt))))
+
+  piece-starts : Gives (StartsAs c d i) (piece c d i)
+  unfolding piece
+  piece-starts =
+      either (eqb (byteAt d i) 60) (λ x. markup-starts)
+      (λ x. either (eqb (byteAt d i) 38 && isReference d i) (λ y. stops tt)
+      (λ y. either (isSectionEnd d i) (λ z. stops tt) (λ z. byte-starts)))
+
+  pub piece-start-tag : {t : Tag} → piece c d i ≡ got (startTag t) → startTagAt c d (i + 1) ≡ got t
+  piece-start-tag e = got-so piece-starts e

@@ -1,17 +1,24 @@
 -- The whole of a token: the ends, the starts and its place, put together as the rules have them.
-use Prim.Native.Nat.{ℕ, zero, suc, _+_, _≤_, _<_}
+use Prim.Native.Nat.{ℕ, zero, suc, _+_, _-_, _*_, _≤_, _<_}
 use mathlib.Core.Path.{_≡_, refl, sym, _∙_, ap, ap₂, subst}
-use mathlib.Core.Bool.{true, false}
-use mathlib.Core.List.{List, [], _++_, append-assoc}
+use mathlib.Core.Bool.{Bool, true, false}
+use mathlib.Core.List.{List, [], _∷_, _++_, append-assoc}
 use native.Mathlib.Omega.{arith}
 use lib.ListN.{length, length-append}
+use Rattle.rules.specs.Settings.{Settings}
 use Rattle.rules.specs.Reading.{Reading, refused, got, andThen}
 use Rattle.rules.specs.TypeFile.{Element}
 use Rattle.rules.specs.Decisions.{Token, Decisions}
-use Rattle.rules.specs.Events.{Event}
+use Rattle.rules.specs.Document.{Tag, startTagAt}
+use Rattle.rules.specs.Elements.{elementAt}
+use Rattle.rules.specs.Events.{Event, startWritten, dataRun, endOfEmpty}
+use Rattle.rules.specs.Given.{attributeEvents, withAttributes}
 use Rattle.rules.specs.Settling.{State, takePlace, fitting, takeToken, isOver, settleFrom, settle, startElement}
+use Rattle.rules_laws.specs.BeforeStarts.{with-append, with-start-written, plain-data, plain-end-of-empty}
 use Rattle.document_laws.specs.Decide.{decided}
 use Rattle.turn_laws.specs.Means.{takeRun}
+use Rattle.list_table.specs.Means.{Lists}
+use Rattle.attribute_events.specs.Means.{PutsWritten}
 use Rattle.type_tables.specs.Means.{Tables, CanTake}
 use Rattle.open_elements.specs.declared.Open.{Open}
 use Rattle.open_elements.specs.declared.Outcome.{Outcome}
@@ -23,13 +30,13 @@ use Rattle.ways.specs.declared.Way.{Way}
 use Rattle.ways.specs.declared.Way.the-variants.{Taken, Inferred, Stuck}
 use Rattle.ways.specs.Means.{tokenOf, tokenOf-number, tokenOf-declared, wayOf, chained, startsOf, placeOf}
 use Rattle.inferring.specs.declared.Stop.{Stop}
-use Rattle.inferring.specs.Inferring.{Comes, Stops, inferMany}
+use Rattle.inferring.specs.Inferring.{Comes, Stops, inferMany, Infers}
 use Rattle.inferring.specs.Starts.{infer-deeper, infer-fresh, Along, along-all}
 use Rattle.inferring.specs.Inward.{way-fits, way-infers, way-some}
 use Rattle.inferring.specs.Ends.{found-at, found-settled, found-refused}
-use Rattle.placing.specs.Noting.{noting, Follows, Places}
-use Rattle.placing.specs.Places.{noting-many}
-use Rattle.settling.specs.Settled.{takes, Settles}
+use Rattle.placing.specs.Noting.{noting, writtenOf, Placed, Follows, Places}
+use Rattle.placing.specs.Places.{noting-many, becomes-more}
+use Rattle.settling.specs.Settled.{takes, Gives, Settles}
 
 -- What the rules make of a token: it is settled, then noted.
 takes-noting : (s : List ℕ) (es : List Element) (x at after : ℕ) (z : State) → takes s es x at after z ≡ andThen (settle s es (decided s es) (tokenOf x) at z) (noting es x at after)
@@ -45,27 +52,41 @@ settle-on : (s : List ℕ) (es : List Element) (D : Decisions) (t : Token) (at :
 unfolding settle
 settle-on s es D t at z e = rw (e, settle)
 
--- A refusal by the number that the code has, and what was read as something that holds of more.
+-- A refusal by the number that the code has.
 becomes-refused : (P : State → Type 0) (at : ℕ) {n m : ℕ} {q : Reading State} → n ≡ m → 1 ≤ m → q ≡ refused m at → Becomes at n P q
 becomes-refused P at {n} e l i = subst (Becomes at n P) (sym i) (e, omega (arith, e), refl)
 
-becomes-more : {P Q : State → Type 0} (at n : ℕ) (q : Reading State) → ((y : State) → P y → Q y) → Becomes at n P q → Becomes at n Q q
-becomes-more at n (refused m k) f h = h
-becomes-more at n (got y) f h = (h .0, f y (h .1))
+-- The attribute events of a tag and the events of its token are those of the token with attribute events before its start; data has none.
+given-written : (c : Settings) (s : List ℕ) (es : List Element) (d : List ℕ) (at after : ℕ) (b : Bool) (v x : ℕ) (given : List Event) → (x ≡ 0 → given ≡ [])
+    → (1 ≤ x → (t : Tag) × (startTagAt c d (at + 1) ≡ got t) × (given ≡ attributeEvents 1 s (elementAt es (x - 1) .attributes) d (t .written)))
+    → given ++ writtenOf x b v at after ≡ withAttributes c s es d (writtenOf x b v at after)
+given-written c s es d at after b v zero given none some = ap (λ (i : List Event). i ++ dataRun at (after - at) ∷ []) (none refl) ∙ sym (plain-data at (after - at) .plain c s es d)
+given-written c s es d at after true v (suc k) given none some =
+    let (t, there, are) = some (omega arith) in
+    ap (λ (i : List Event). i ++ startWritten (suc k) at after v ∷ []) are ∙ sym (with-start-written c s es d (suc k) at after v there)
+given-written c s es d at after false v (suc k) given none some =
+    let (t, there, are) = some (omega arith) in
+    let start = startWritten (suc k) at after v in
+    let end = endOfEmpty (suc k) after in
+    sym (append-assoc given (start ∷ []) (end ∷ []))
+    ∙ ap₂ (λ (i j : List Event). i ++ j) (ap (λ (i : List Event). i ++ start ∷ []) are ∙ sym (with-start-written c s es d (suc k) at after v there)) (sym (plain-end-of-empty (suc k) after .plain c s es d))
+    ∙ sym (with-append c s es d (start ∷ []) (end ∷ []))
 
 -- The token comes after the document.
-pub settles-over : (rows places facts M : List ℕ) (x at after n : ℕ) (o : Open) (begun numbers bytes : List ℕ) → Ranged o
+pub settles-over : (rows places facts M lists marks : List ℕ) (x at after n : ℕ) (o : Open) (begun numbers bytes : List ℕ) → Ranged o
     → ((s : List ℕ) (es : List Element) (z : State) → Stands es M begun o z → isOver s es (decided s es) z ≡ true)
-    → Settles rows places facts M x at after n o begun numbers bytes (record { «open» = o; events = n; number = 16 }) begun numbers bytes
-settles-over rows places facts M x at after n o begun numbers bytes h over =
+    → Settles rows places facts M lists marks x at after n o begun numbers bytes (record { «open» = o; events = n; number = 16 }) begun numbers bytes
+settles-over rows places facts M lists marks x at after n o begun numbers bytes h over =
     record {
       ranged = h;
       small = omega arith;
       whole = refl;
       events = [];
+      written = [];
       puts = puts-none numbers bytes n;
       counted = omega arith;
       few = omega arith;
+      adds = λ e. absurd (omega arith);
       settles = λ s es tables z stands most.
           becomes-refused (Follows es M begun o z []) at refl (omega arith)
           (takes-noting s es x at after z ∙ ap (λ q. andThen q (noting es x at after)) (settle-over s es (decided s es) (tokenOf x) at z (over s es z stands)));
@@ -99,16 +120,18 @@ module _ {rows places facts M begun : List ℕ} {x at n : ℕ} {o₀ : Open} {nu
         from-there (got y) (found-settled s es (decided s es) t at there (Inferred k) (sym e ∙ found) _ refl)
         ∙ noting-many es at after y x (omega (arith, infer-deeper s es (decided s es) at k there, stands-deep (come .stands)))
 
-  pub settles-many : 24 < f .open .count + startsOf (f .found) → Settles rows places facts M x at after n o₀ begun numbers₀ bytes₀ (record { «open» = f .open; events = f .events; number = 15 }) begun numbers bytes
-  settles-many l =
+  pub settles-many : (lists marks : List ℕ) → 24 < f .open .count + startsOf (f .found) → Settles rows places facts M lists marks x at after n o₀ begun numbers₀ bytes₀ (record { «open» = f .open; events = f .events; number = 15 }) begun numbers bytes
+  settles-many lists marks l =
       record {
         ranged = h .turns .ranged;
         small = omega arith;
         whole = refl;
         events = h .turns .events;
+        written = h .turns .events;
         puts = h .turns .puts;
         counted = h .turns .counted;
         few = omega (arith, h .turns .deep);
+        adds = λ e. absurd (omega arith);
         settles = λ s es tables z stands most. becomes-refused (Follows es M begun (f .open) z (h .turns .events)) at refl (omega arith) (by-way s es tables z stands most (f .found) refl);
       }
     where
@@ -117,16 +140,20 @@ module _ {rows places facts M begun : List ℕ} {x at n : ℕ} {o₀ : Open} {nu
       by-way s es tables z stands most (Inferred k) e = many s es tables z stands most k e (rw e at l)
       by-way s es tables z stands most Stuck e = absurd (omega (arith, rw e at l, h .turns .ranged .few))
 
-  -- The starts are inferred, and the token takes its place.
-  module _ {starts k : ℕ} {o : Open} {begun₁ numbers₁ bytes₁ : List ℕ} (counted : starts ≡ startsOf (f .found)) (few : f .open .count + starts ≤ 24)
-      (a : Along rows places facts M at (f .events) starts k (f .open) begun numbers bytes o begun₁ numbers₁ bytes₁) (all : starts ≤ k)
-      {r : Outcome} {begun′ numbers′ bytes′ : List ℕ} (placed : Places rows places facts M begun₁ (f .found) x at after (f .events + starts) o numbers₁ bytes₁ r begun′ numbers′ bytes′) where
+  -- The starts are inferred, each behind its attribute events, those of a tag are put, the token takes its place, and an element with a model is opened.
+  module _ {lists marks : List ℕ} {starts k m : ℕ} {o : Open} {begun₁ numbers₁ bytes₁ : List ℕ} (counted : starts ≡ startsOf (f .found)) (few : f .open .count + starts ≤ 24)
+      (a : Along rows places facts M lists at (f .events) starts k (f .open) begun numbers bytes m o begun₁ numbers₁ bytes₁) (all : starts ≤ k)
+      {m₁ : ℕ} {numbers₂ bytes₂ : List ℕ} (given : PutsWritten lists marks x m numbers₁ bytes₁ m₁ numbers₂ bytes₂)
+      {r : Outcome} {q : Open} {begun′ numbers′ bytes′ : List ℕ} (opened : Places rows places facts M begun₁ (f .found) x at after m₁ o numbers₂ bytes₂ r q begun′ numbers′ bytes′) where
+    abbrev placed : Placed rows places facts M begun₁ (f .found) x at after m₁ o numbers₂ bytes₂ r begun′ numbers′ bytes′
+    placed = opened .placed
+
     abbrev events : List Event
     events = (h .turns .events ++ a .events) ++ placed .events
 
     module _ (s : List ℕ) (es : List Element) (tables : Tables s es rows places facts M) (z : State) (stands : Stands es M begun o₀ z) (most : x ≤ length es) where
       abbrev Done : Type 0
-      Done = Becomes at (r .number) (Follows es M begun′ (r .open) z events) (takes s es x at after z)
+      Done = Becomes at (r .number) (Follows es M begun′ q z events) (takes s es x at after z)
 
       -- After the starts, in the state w, the token has the place p.
       as-placed : (w : State) → Stands es M begun₁ o w → w .events ≡ there s es tables z stands most .events ++ a .events → CanTake es (w .current) (placed .p) → (placed .p ≡ 0 → ⊥)
@@ -135,10 +162,10 @@ module _ {rows places facts M begun : List ℕ} {x at n : ℕ} {o₀ : Open} {nu
           let y = takePlace (placed .p) w in
           let before : w .events ≡ z .events ++ (h .turns .events ++ a .events) =
           noted ∙ ap (λ (ev : List Event). ev ++ a .events) (come s es tables z stands most .noted) ∙ append-assoc (z .events) (h .turns .events) (a .events) in
-          subst (Becomes at (r .number) (Follows es M begun′ (r .open) z events)) (sym (from-there s es tables z stands most (got y) settled))
+          subst (Becomes at (r .number) (Follows es M begun′ q z events)) (sym (from-there s es tables z stands most (got y) settled))
           (becomes-more at (r .number) (noting es x at after y)
-          (λ v e. (e .0, e .1 ∙ ap (λ (ev : List Event). ev ++ placed .events) before ∙ append-assoc (z .events) (h .turns .events ++ a .events) (placed .events)))
-          (placed .notes some s es tables w here can most))
+          (λ i v e. (e .0, e .1 ∙ ap (λ (ev : List Event). ev ++ placed .events) before ∙ append-assoc (z .events) (h .turns .events ++ a .events) (placed .events)))
+          (opened .notes some s es tables w here can most))
 
       by-way : (w : Way) → f .found ≡ w → Done
       by-way (Taken p) e =
@@ -147,7 +174,7 @@ module _ {rows places facts M begun : List ℕ} {x at n : ℕ} {o₀ : Open} {nu
           let is = sym e ∙ found s es tables z stands most in
           let (fits, some) = way-fits p (fitting s es (decided s es) (y .current) t) (chained s es (decided s es) t (y .current)) is in
           let none : starts ≡ 0 = counted ∙ ap startsOf e in
-          let i = rw none at (along-all rows places facts M at (f .events) starts a all s es tables y (come s es tables z stands most .stands) t (rw none (omega (arith, fits, some)))) in
+          let i = rw none at (along-all rows places facts M lists at (f .events) starts a all s es tables y (come s es tables z stands most .stands) t (rw none (omega (arith, fits, some)))) in
           let here : placed .p ≡ p .0 = placed .place s es tables (i .stands .current .entered .declared) most ∙ ap (placeOf (decided s es .fits (o .element .0) [] t)) e in
           let fit : placed .p ≡ fitting s es (decided s es) (i .there .current) t = here ∙ fits ∙ ap (λ (v : State). fitting s es (decided s es) (v .current) t) (sym (i .same)) in
           as-placed (i .there) (i .stands) (i .noted) (rw fit (can-fit tables (i .stands .current .entered) t (i .infers))) (λ v. some (sym here ∙ v))
@@ -157,7 +184,7 @@ module _ {rows places facts M begun : List ℕ} {x at n : ℕ} {o₀ : Open} {nu
           let y = there s es tables z stands most in
           let is = sym e ∙ found s es tables z stands most in
           let n-starts : starts ≡ m = counted ∙ ap startsOf e in
-          let i = rw n-starts at (along-all rows places facts M at (f .events) starts a all s es tables y (come s es tables z stands most .stands) t (rw n-starts (way-infers s es (decided s es) t m (y .current) is))) in
+          let i = rw n-starts at (along-all rows places facts M lists at (f .events) starts a all s es tables y (come s es tables z stands most .stands) t (rw n-starts (way-infers s es (decided s es) t m (y .current) is))) in
           let nothing : i .there .current .taken ≡ [] = ap (λ (v : State). v .current .taken) (i .same) ∙ infer-fresh s es (decided s es) at m y (way-some m (fitting s es (decided s es) (y .current) t) (chained s es (decided s es) t (y .current)) is) in
           let fit : placed .p ≡ fitting s es (decided s es) (i .there .current) t =
           placed .place s es tables (i .stands .current .entered .declared) most ∙ ap (placeOf (decided s es .fits (o .element .0) [] t)) e ∙ rw (nothing, i .stands .current .entered .number) refl in
@@ -168,21 +195,54 @@ module _ {rows places facts M begun : List ℕ} {x at n : ℕ} {o₀ : Open} {nu
           let none : starts ≡ 0 = counted ∙ ap startsOf e in
           let declared : o .element .0 ≤ length es = rw (a .still (omega (arith, a .most))) (come s es tables z stands most .stands .current .entered .declared) in
           let refuses : r .number ≡ 12 = placed .stuck (placed .place s es tables declared most ∙ ap (placeOf (decided s es .fits (o .element .0) [] (tokenOf x))) e) in
-          becomes-refused (Follows es M begun′ (r .open) z events) at refuses (omega arith)
+          becomes-refused (Follows es M begun′ q z events) at refuses (omega arith)
           (from-there s es tables z stands most (refused 12 at)
           (found-refused s es (decided s es) (tokenOf x) at y (f .found) (found s es tables z stands most) e
           (sym (h .stays e s es (tables .raised) (tables .facts-say) M begun y (come s es tables z stands most .stands)))))
 
-    pub settles-placed : Settles rows places facts M x at after n o₀ begun numbers₀ bytes₀ r begun′ numbers′ bytes′
+      -- Where the token is not refused, so many starts can be inferred as were found.
+      infers-all : r .number ≡ 0 → (w : Way) → f .found ≡ w → Infers s es (decided s es) (tokenOf x) starts (there s es tables z stands most .current)
+      infers-all fine (Taken p) e =
+          let t = tokenOf x in
+          let y = there s es tables z stands most in
+          let (fits, some) = way-fits p (fitting s es (decided s es) (y .current) t) (chained s es (decided s es) t (y .current)) (sym e ∙ found s es tables z stands most) in
+          let none : starts ≡ 0 = counted ∙ ap startsOf e in
+          rw none (omega (arith, fits, some))
+      infers-all fine (Inferred n) e =
+          let y = there s es tables z stands most in
+          let n-starts : starts ≡ n = counted ∙ ap startsOf e in
+          rw n-starts (way-infers s es (decided s es) (tokenOf x) n (y .current) (sym e ∙ found s es tables z stands most))
+      infers-all fine Stuck e =
+          let none : starts ≡ 0 = counted ∙ ap startsOf e in
+          let declared : o .element .0 ≤ length es = rw (a .still (omega (arith, a .most))) (come s es tables z stands most .stands .current .entered .declared) in
+          absurd (omega (arith, fine, placed .stuck (placed .place s es tables declared most ∙ ap (placeOf (decided s es .fits (o .element .0) [] (tokenOf x))) e)))
+
+      -- What is put are these events, with the attribute events before each start.
+      put-with : r .number ≡ 0 → (c : Settings) (d : List ℕ) → Lists c s es lists → (1 ≤ x → Gives c s es d x at marks)
+          → ((h .turns .events ++ a .written) ++ given .events) ++ placed .events ≡ withAttributes c s es d events
+      put-with fine c d lists gives =
+          let y = there s es tables z stands most in
+          let (b, v, is) = placed .written fine in
+          let before = ap₂ (λ (i j : List Event). i ++ j) (sym (h .turns .plain .plain c s es d)) (a .adds s es tables y (come s es tables z stands most .stands) (tokenOf x) (infers-all fine (f .found) refl) c d lists)
+          ∙ sym (with-append c s es d (h .turns .events) (a .events)) in
+          let last = ap (λ (i : List Event). given .events ++ i) is
+          ∙ given-written c s es d at after b v x (given .events) (given .few .nothing) (λ l. let g = gives l in (g .tag, g .there, given .are c s d _ (g .tag .written) l (lists (x - 1) (omega arith)) (g .marked)))
+          ∙ ap (withAttributes c s es d) (sym is) in
+          append-assoc (h .turns .events ++ a .written) (given .events) (placed .events) ∙ ap₂ (λ (i j : List Event). i ++ j) before last ∙ sym (with-append c s es d (h .turns .events ++ a .events) (placed .events))
+
+    pub settles-placed : Settles rows places facts M lists marks x at after n o₀ begun numbers₀ bytes₀ (record { «open» = q; events = r .events; number = r .number }) begun′ numbers′ bytes′
     settles-placed =
-        let first : f .events + starts ≡ n + length (h .turns .events ++ a .events) = simp length-append (omega (arith, h .turns .counted, a .counted, a .most)) in
+        let first : m ≡ n + length (h .turns .events ++ a .written) = simp length-append (omega (arith, h .turns .counted, a .counted)) in
+        let second : m₁ ≡ n + length ((h .turns .events ++ a .written) ++ given .events) = simp length-append (omega (arith, h .turns .counted, a .counted, given .few .counted)) in
         record {
-          ranged = placed .ranged;
+          ranged = opened .ranged;
           small = placed .small;
           whole = placed .whole ∙ a .whole;
           events = events;
-          puts = puts-then (puts-then (h .turns .puts) (h .turns .counted) (a .puts)) first (placed .puts);
-          counted = placed .counted ∙ simp length-append (omega (arith, simp length-append at first));
-          few = simp length-append (omega (arith, h .turns .deep, a .counted, a .most, placed .few));
+          written = ((h .turns .events ++ a .written) ++ given .events) ++ placed .events;
+          puts = puts-then (puts-then (puts-then (h .turns .puts) (h .turns .counted) (a .puts)) first (given .few .puts)) second (placed .puts);
+          counted = placed .counted ∙ simp length-append (omega (arith, h .turns .counted, a .counted, given .few .counted));
+          few = simp length-append (omega (arith, h .turns .deep, a .few, a .most, given .few .few, placed .few));
           settles = λ s es tables z stands most. by-way s es tables z stands most (f .found) refl;
+          adds = λ fine s es tables z stands most c d lists gives. put-with s es tables z stands most fine c d lists gives;
         }

@@ -1,3 +1,4 @@
--- What a tag that was read stands for, what is kept of the attributes that it gives, and how the rules read one.
+-- What a tag that was read stands for, and how the rules read one; the attributes of a start tag one after the other.
 pub mod Tags
 pub mod Given
+pub mod Attributes

@@ -72,7 +72,7 @@ runs-stop (suc n) d i h = by-test (isRun (anyPiece d i)) refl (runs-stop n d (i 
 pub runEnd-stop : (d : List ℕ) (i : ℕ) → i ≤ length d → runEnd d i < length d → isRun (anyPiece d (runEnd d i)) ≡ false
 runEnd-stop d i l h = runs-stop (length d - i) d i (omega arith)
 
-run-cases : {C : Type 0} (r : Reading Piece) → isRun r ≡ true → (r ≡ got blank → C) → (r ≡ got dataByte → C) → C
+pub run-cases : {C : Type 0} (r : Reading Piece) → isRun r ≡ true → (r ≡ got blank → C) → (r ≡ got dataByte → C) → C
 run-cases (refused n k) e f g = absurd (false≢true e)
 run-cases (got (startTag t)) e f g = absurd (false≢true e)
 run-cases (got (endTag t)) e f g = absurd (false≢true e)

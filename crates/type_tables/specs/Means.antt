@@ -9,7 +9,7 @@ use Rattle.rules.specs.Settings.{Settings}
 use Rattle.rules.specs.Walk.{Group, Begins, MayComeNext}
 use Rattle.rules.specs.TypeFile.{Place, Content, empty, model, Element}
 use Rattle.rules.specs.Judge.{Accepts, placeAt}
-use Rattle.rules.specs.Elements.{elementAt, numberOf, contentOf, placesIn, hasModel, startO}
+use Rattle.rules.specs.Elements.{elementAt, numberOf, startO, contentOf, placesIn, hasModel}
 use Rattle.rules.specs.Decisions.{Token, start, pcdata, hasName}
 use Rattle.rules.specs.Settling.{Open}
 use Rattle.layout.specs.Sizes.{POSITIONS, FACT}
@@ -91,7 +91,7 @@ pub record Places (s : List ℕ) (es : List Element) (places : List ℕ) : Type 
 
 pub record Facts (s : List ℕ) (es : List Element) (raised : ℕ → Bool) (facts : List ℕ) : Type 0 where
   pub largest : (e : ℕ) (t : Token) → e ≤ length es → Declares es t → getD facts (e * FACT + nameNumber t) 0 ≡ raisedPlace (raised e) (search (hasName s es (placesIn (contentOf es e)) t) (width es e))
-  pub start : (e : ℕ) → 1 ≤ e → e ≤ length es → getD facts (e * FACT + 65) 0 ≡ cond (startO es e) 1 0
+  pub start : (e : ℕ) → 1 ≤ e → e ≤ length es → eqb (getD facts (e * FACT + 65) 0) 1 ≡ startO es e
   pub end : (e : ℕ) → 1 ≤ e → e ≤ length es → getD facts (e * FACT + 66) 0 ≡ elementAt es (e - 1) .end
   pub has : (e : ℕ) → 1 ≤ e → e ≤ length es → getD facts (e * FACT + 67) 0 ≡ cond (hasModel (contentOf es e)) 1 0
 

@@ -1,15 +1,34 @@
--- `events_of` meets its contract. The loop's invariant: reading has come to `at` with these elements open, and the events so far are in both
--- buffers as far as they fit. The measure is what is left of the document.
-use Prim.Native.Nat.{_-_}
-use mathlib.Core.Path.{_∙_}
+-- `events_of` meets its contract. The invariant of the loop: reading has come to `at` with these elements open, and the events so far are in the
+-- buffers; the measure is how much of the document is left. That of the inferred starts: what is left to infer comes to the same as all of them; the measure is
+-- how many are left.
+use Prim.Native.Nat.{ℕ, _+_, _-_, _≤_, _<_}
+use mathlib.Core.Path.{_≡_, refl, sym, _∙_}
+use mathlib.Core.Bool.{true, false, false≢true}
+use mathlib.Core.List.{List}
 use native.Mathlib.Omega.{arith}
-use borrow.Author.Needs.{needs}
 use lib.ListN.{length}
+use borrow.Author.Needs.{needs}
 use Rattle.rules.specs.Settings.{settings}
+use Rattle.rules.specs.TypeFile.{Element}
+use Rattle.rules.specs.Settling.{State, isOver}
+use Rattle.document_laws.specs.Decide.{decided}
+use Rattle.open_elements.specs.Means.{Ranged, Stands}
+use Rattle.ways.specs.Ends.{over-says}
+use Rattle.inferring.specs.Starts.{Along, along-start, along-next}
+use Rattle.placing.specs.Places.{places-refused, places-opened}
+use Rattle.settling.specs.Tokens.{settles-over, settles-many, settles-placed}
 use Rattle.document_events.specs.Means.{Going}
 use Rattle.document_events.specs.Turns.{going-start, piece-refuses, token-asked, token-range, token-refuses, going-token, end-asked, end-range, end-tag-refuses, going-end, passed-range, going-passed, finish-asked, end-refuses, end-counts}
 use Rattle.document_events.proofs.events_of.Statement.{statement}
 use Rattle.document_events.proofs.events_of.Tie as tie
+
+abbrev Inv-loop2 : tie.InvT-loop2
+Inv-loop2 long s elements index rows places facts members classes d numbers₀ bytes₀ at n o₀ begun₀ x after found starts m k₀ numbers bytes o begun k =
+    Along rows places facts members at m starts k o₀ begun₀ numbers₀ bytes₀ o begun numbers bytes
+
+abbrev μ-loop2 : tie.MeasureT-loop2
+μ-loop2 long s elements index rows places facts members classes d numbers₀ bytes₀ at n o₀ begun₀ x after found starts m k₀ numbers bytes o begun k =
+    starts - k
 
 abbrev Inv-loop : tie.InvT-loop
 Inv-loop long s elements index rows places facts members classes d numbers₀ bytes₀ at₀ n₀ o₀ begun₀ numbers bytes at n o begun =
@@ -19,195 +38,405 @@ abbrev μ-loop : tie.MeasureT-loop
 μ-loop long s elements index rows places facts members classes d numbers₀ bytes₀ at₀ n₀ o₀ begun₀ numbers bytes at n o begun =
     length d - at
 
-new-requires : tie.Need-new-requires Inv-loop μ-loop
+-- The function's entry, from a turn of the loop, and that turn from what stands at `at`.
+abbrev first : tie.In-loop Inv-loop2 μ-loop2 Inv-loop μ-loop → tie.Start Inv-loop2 μ-loop2 Inv-loop μ-loop
+first c = c .before .before .before .before .before .before .before .before
+
+abbrev turn : tie.After-piece-at Inv-loop2 μ-loop2 Inv-loop μ-loop → tie.In-loop Inv-loop2 μ-loop2 Inv-loop μ-loop
+turn c = c .before .before .before .before
+
+-- What stands there, from where it is known to be a token.
+abbrev piece : tie.After-known-told Inv-loop2 μ-loop2 Inv-loop μ-loop → tie.After-piece-at Inv-loop2 μ-loop2 Inv-loop μ-loop
+piece c = c .before .before .before
+
+-- The token, from where ends were inferred; where they were, from where the state come to is at hand; that, from where the place was taken.
+abbrev told : tie.After-ends Inv-loop2 μ-loop2 Inv-loop μ-loop → tie.After-known-told Inv-loop2 μ-loop2 Inv-loop μ-loop
+told c = c .before .before .before .before .before .before
+
+abbrev ended : tie.After-struct-known Inv-loop2 μ-loop2 Inv-loop μ-loop → tie.After-ends Inv-loop2 μ-loop2 Inv-loop μ-loop
+ended c = c .before .before .before .before .before .before .before
+
+abbrev inferred : tie.After-placed Inv-loop2 μ-loop2 Inv-loop μ-loop → tie.After-loop2 Inv-loop2 μ-loop2 Inv-loop μ-loop
+inferred c = c .before .before .before .before
+
+-- Where the token ends.
+abbrev after : tie.After-known-told Inv-loop2 μ-loop2 Inv-loop μ-loop → ℕ
+after c = c .before .p .given .0 .1 .0
+
+-- What the steps of a token ask for.
+asked : (c : tie.After-known-told Inv-loop2 μ-loop2 Inv-loop μ-loop) →
+    let l = turn (piece c) .before .loop in
+    Ranged (l .o) × (c .before .p .given .0 .0 .0 ≤ 64) × (l .at ≤ after c) × (after c < 4294967296) × (l .n + 50 < 4294967296)
+asked c =
+    let p = piece c in
+    let t = turn p in
+    token-asked (t .before .loop .inv) (omega (arith, t .loop-test .taken)) (p .piece-at .result) (p .piece-at .ensures .1) (p .piece-at .ensures .0) (first t .pre .2) (c .before .p .given .1)
+
+-- It ends behind where it begins, and within the document.
+range : (c : tie.After-known-told Inv-loop2 μ-loop2 Inv-loop μ-loop) →
+    let t = turn (piece c) in
+    (t .before .loop .at < after c) × (after c ≤ length (first t .args .d .now))
+range c =
+    let p = piece c in
+    let t = turn p in
+    token-range (t .before .loop .inv) (omega (arith, t .loop-test .taken)) (p .piece-at .result) (p .piece-at .ensures .1) (p .piece-at .ensures .0) (c .before .p .given .1)
+
+-- The document is not over.
+on : (c : tie.After-ends Inv-loop2 μ-loop2 Inv-loop μ-loop) →
+    let t = turn (piece (told c)) in
+    (s : List ℕ) (es : List Element) (z : State) → Stands es (first t .args .members .now) (t .before .loop .begun) (t .before .loop .o) z → isOver s es (decided s es) z ≡ false
+on c s es z stands = sym (over-says s stands) ∙ sym (c .before .before .before .before .before .is-over .ensures) ∙ c .before .before .before .before .if1 .left
+
+-- So many events, at most, and so many starts.
+few : (c : tie.After-struct-known Inv-loop2 μ-loop2 Inv-loop μ-loop) → (ended c .ends .result .events ≤ turn (piece (told (ended c))) .before .loop .n + 24) × (c .before .before .starts-of .result ≤ 64)
+few c =
+    let e = ended c in
+    let f = e .ends .ensures in
+    (omega (arith, f .turns .counted, f .turns .deep, asked (told e) .0 .few), omega (arith, f .starts, c .before .before .starts-of .ensures))
+
+-- So many events, with the starts.
+events : (c : tie.At-loop2 Inv-loop2 μ-loop2 Inv-loop μ-loop) →
+    let s = c .before .before in
+    ended s .ends .result .events + s .before .before .starts-of .result ≤ turn (piece (told (ended s))) .before .loop .n + 48
+events c =
+    let s = c .before .before in
+    let f = ended s .ends .ensures .turns in
+    omega (arith, c .before .if2 .left, f .counted, f .deep, asked (told (ended s)) .0 .few)
+
+-- There is room for one more.
+less : (c : tie.In-loop2 Inv-loop2 μ-loop2 Inv-loop μ-loop) → c .before .loop2 .o .count < 24
+less c = omega (arith, c .before .loop2 .inv .deep, c .loop2-test .taken, c .before .before .if2 .left)
+
+new-requires : tie.Need-new-requires Inv-loop2 μ-loop2 Inv-loop μ-loop
 new-requires c κs = search needs
 
-loop-holds : tie.Need-loop-holds Inv-loop μ-loop
+loop-holds : tie.Need-loop-holds Inv-loop2 μ-loop2 Inv-loop μ-loop
 loop-holds c = going-start _ _ _ _ _ _ _ _ _ _ _ _ (c .new .ensures)
 
-piece-at-requires : tie.Need-piece-at-requires Inv-loop μ-loop
+piece-at-requires : tie.Need-piece-at-requires Inv-loop2 μ-loop2 Inv-loop μ-loop
 piece-at-requires c κs =
-    let g = c .before .before .before .before .loop .inv in
-    let p = c .before .before .before .before .before .before .before .before .before .before .before .pre in
-    (p .0, p .1, g .ranged .few, g .ranged .element, g .ranged .place, omega (arith, c .before .before .before .loop-test .taken), p .2)
+    let t = c .before .before .before in
+    let g = t .before .loop .inv in
+    let p = first t .pre in
+    (p .0, p .1, g .ranged .few, g .ranged .element, g .ranged .place, omega (arith, t .loop-test .taken), p .2)
 
-enum-known-p : tie.Need-enum-known-p Inv-loop μ-loop
+enum-known-p : tie.Need-enum-known-p Inv-loop2 μ-loop2 Inv-loop μ-loop
 enum-known-p c = search needs
 
-token-requires : tie.Need-token-requires Inv-loop μ-loop
-token-requires c κs =
-    let m = c .before .before .before .before .before .before in
-    let g = c .before .before .before .before .before .before .before .before .before .before .before .loop .inv in
-    let h = c .before .before .before .before .before .before .before .before .before .before .loop-test .taken in
-    token-asked g (omega (arith, h)) (m .piece-at .result) (m .piece-at .ensures .1) (m .piece-at .ensures .0) (c .before .before .before .before .before .before .before .before .before .before .before .before .before .before .before .before .before .before .pre .2) (c .before .before .before .before .p .given .1)
+is-over-requires : tie.Need-is-over-requires Inv-loop2 μ-loop2 Inv-loop μ-loop
+is-over-requires c κs = search needs
 
-refusal-requires : tie.Need-refusal-requires Inv-loop μ-loop
+refusal-requires : tie.Need-refusal-requires Inv-loop2 μ-loop2 Inv-loop μ-loop
 refusal-requires c κs = search needs
 
-same-length : tie.Need-same-length Inv-loop μ-loop
-same-length c = c .before .before .before .before .before .before .before .token .ensures .puts .numbers-kept ∙ c .before .before .before .before .before .before .before .before .before .before .before .before .before .before .before .before .before .before .before .loop .inv .numbers-same
+same-length : tie.Need-same-length Inv-loop2 μ-loop2 Inv-loop μ-loop
+same-length c = c .before .before .before .before .before .before .before .before .before .before .before .loop .inv .numbers-same
 
-same-length-2 : tie.Need-same-length-2 Inv-loop μ-loop
-same-length-2 c = c .before .before .before .before .before .before .before .token .ensures .puts .bytes-kept ∙ c .before .before .before .before .before .before .before .before .before .before .before .before .before .before .before .before .before .before .before .loop .inv .bytes-same
+same-length-2 : tie.Need-same-length-2 Inv-loop2 μ-loop2 Inv-loop μ-loop
+same-length-2 c = c .before .before .before .before .before .before .before .before .before .before .before .loop .inv .bytes-same
 
-returns : tie.Need-returns Inv-loop μ-loop
+returns : tie.Need-returns Inv-loop2 μ-loop2 Inv-loop μ-loop
 returns c =
-    let m = c .before .before .before .before .before .before .before .before .before .before .before .before .before .before in
-    let g = c .before .before .before .before .before .before .before .before .before .before .before .before .before .before .before .before .before .before .before .loop .inv in
-    let h = c .before .before .before .before .before .before .before .before .before .before .before .before .before .before .before .before .before .before .loop-test .taken in
-    token-refuses g (omega (arith, h)) (m .piece-at .result) (m .piece-at .ensures .1) (m .piece-at .ensures .0) (c .before .before .before .before .before .before .before .before .before .before .before .before .p .given .1) (c .before .before .before .before .before .before .before .token .ensures) (c .before .if1 .taken) (c .refusal .ensures)
+    let over = c .before .before in
+    let k = over .before in
+    let p = piece k in
+    let t = turn p in
+    let g = t .before .loop .inv in
+    let s = settles-over _ _ _ _ _ _ _ _ _ _ _ _ (g .ranged) (λ s es z stands. sym (over-says s stands) ∙ sym (over .is-over .ensures) ∙ c .before .if1 .taken) in
+    token-refuses g (omega (arith, t .loop-test .taken)) (p .piece-at .result) (p .piece-at .ensures .1) (p .piece-at .ensures .0) (k .before .p .given .1) s (λ z. omega arith) (c .refusal .ensures)
 
-loop-less : tie.Need-loop-less Inv-loop μ-loop
-loop-less c =
-    let m = c .before .before .before .before .before .before .before .before .before .before .before .before .before .before in
-    let g = c .before .before .before .before .before .before .before .before .before .before .before .before .before .before .before .before .before .before .before .loop .inv in
-    let h = c .before .before .before .before .before .before .before .before .before .before .before .before .before .before .before .before .before .before .loop-test .taken in
-    let r = token-range g (omega (arith, h)) (m .piece-at .result) (m .piece-at .ensures .1) (m .piece-at .ensures .0) (c .before .before .before .before .before .before .before .before .before .before .before .before .p .given .1) in
-    omega (arith, h, r)
+ends-requires : tie.Need-ends-requires Inv-loop2 μ-loop2 Inv-loop μ-loop
+ends-requires c κs =
+    let a = asked (c .before .before .before .before .before) in
+    (a .0, a .1, omega (arith, a .2, a .3), a .4)
 
-loop-again : tie.Need-loop-again Inv-loop μ-loop
-loop-again c =
-    let m = c .before .before .before .before .before .before .before .before .before .before .before .before .before .before in
-    let g = c .before .before .before .before .before .before .before .before .before .before .before .before .before .before .before .before .before .before .before .loop .inv in
-    let h = c .before .before .before .before .before .before .before .before .before .before .before .before .before .before .before .before .before .before .loop-test .taken in
-    going-token g (omega (arith, h)) (m .piece-at .result) (m .piece-at .ensures .1) (m .piece-at .ensures .0) (c .before .before .before .before .before .before .before .before .before .before .before .before .p .given .1) (c .before .before .before .before .before .before .before .token .ensures) (c .before .if1 .left)
+starts-of-requires : tie.Need-starts-of-requires Inv-loop2 μ-loop2 Inv-loop μ-loop
+starts-of-requires c κs = search needs
 
-enum-known-p-2 : tie.Need-enum-known-p-2 Inv-loop μ-loop
-enum-known-p-2 c = search needs
+add-if2 : tie.Need-add-if2 Inv-loop2 μ-loop2 Inv-loop μ-loop
+add-if2 c = omega (arith, few c .1, ended c .ends .ensures .turns .ranged .few)
 
-end-tag-requires : tie.Need-end-tag-requires Inv-loop μ-loop
-end-tag-requires c κs =
-    let m = c .before .before .before .before .before in
-    let g = c .before .before .before .before .before .before .before .before .before .before .loop .inv in
-    let h = c .before .before .before .before .before .before .before .before .before .loop-test .taken in
-    end-asked g (omega (arith, h)) (m .piece-at .result) (m .piece-at .ensures .1) (m .piece-at .ensures .0) (c .before .before .before .before .before .before .before .before .before .before .before .before .before .before .before .before .before .pre .2) (c .before .before .before .p2 .given .1)
-
-refusal-requires-2 : tie.Need-refusal-requires-2 Inv-loop μ-loop
+refusal-requires-2 : tie.Need-refusal-requires-2 Inv-loop2 μ-loop2 Inv-loop μ-loop
 refusal-requires-2 c κs = search needs
 
-same-length-3 : tie.Need-same-length-3 Inv-loop μ-loop
-same-length-3 c = c .before .before .before .before .before .before .before .end-tag .ensures .brings .puts .numbers-kept ∙ c .before .before .before .before .before .before .before .before .before .before .before .before .before .before .before .before .before .before .loop .inv .numbers-same
+same-length-3 : tie.Need-same-length-3 Inv-loop2 μ-loop2 Inv-loop μ-loop
+same-length-3 c = c .before .before .before .before .before .before .before .before .before .ends .ensures .turns .puts .numbers-kept ∙ c .before .before .before .before .before .before .before .before .before .before .before .before .before .before .before .before .before .before .before .before .before .before .before .loop .inv .numbers-same
 
-same-length-4 : tie.Need-same-length-4 Inv-loop μ-loop
-same-length-4 c = c .before .before .before .before .before .before .before .end-tag .ensures .brings .puts .bytes-kept ∙ c .before .before .before .before .before .before .before .before .before .before .before .before .before .before .before .before .before .before .loop .inv .bytes-same
+same-length-4 : tie.Need-same-length-4 Inv-loop2 μ-loop2 Inv-loop μ-loop
+same-length-4 c = c .before .before .before .before .before .before .before .before .before .ends .ensures .turns .puts .bytes-kept ∙ c .before .before .before .before .before .before .before .before .before .before .before .before .before .before .before .before .before .before .before .before .before .before .before .loop .inv .bytes-same
 
-returns-2 : tie.Need-returns-2 Inv-loop μ-loop
+returns-2 : tie.Need-returns-2 Inv-loop2 μ-loop2 Inv-loop μ-loop
 returns-2 c =
-    let m = c .before .before .before .before .before .before .before .before .before .before .before .before .before in
-    let g = c .before .before .before .before .before .before .before .before .before .before .before .before .before .before .before .before .before .before .loop .inv in
-    let h = c .before .before .before .before .before .before .before .before .before .before .before .before .before .before .before .before .before .loop-test .taken in
-    end-tag-refuses g (omega (arith, h)) (m .piece-at .result) (m .piece-at .ensures .1) (m .piece-at .ensures .0) (c .before .before .before .before .before .before .before .before .before .before .before .p2 .given .1) (c .before .before .before .before .before .before .before .end-tag .ensures) (c .before .if2 .taken) (c .refusal2 .ensures)
+    let e = c .before .before .before .before .before .before .before .before .before in
+    let k = told e in
+    let p = piece k in
+    let t = turn p in
+    let g = t .before .loop .inv in
+    let s = settles-many (after k) (g .ranged .few) (on e) (e .ends .ensures) (omega (arith, c .before .if2 .taken, c .before .before .before .before .starts-of .ensures)) in
+    token-refuses g (omega (arith, t .loop-test .taken)) (p .piece-at .result) (p .piece-at .ensures .1) (p .piece-at .ensures .0) (k .before .p .given .1) s (λ z. omega arith) (c .refusal2 .ensures)
 
-loop-less-2 : tie.Need-loop-less-2 Inv-loop μ-loop
-loop-less-2 c =
-    let m = c .before .before .before .before .before .before .before .before .before .before .before .before .before in
-    let g = c .before .before .before .before .before .before .before .before .before .before .before .before .before .before .before .before .before .before .loop .inv in
-    let h = c .before .before .before .before .before .before .before .before .before .before .before .before .before .before .before .before .before .loop-test .taken in
-    let r = end-range g (omega (arith, h)) (m .piece-at .result) (m .piece-at .ensures .1) (m .piece-at .ensures .0) (c .before .before .before .before .before .before .before .before .before .before .before .p2 .given .1) in
-    omega (arith, h, r)
+loop2-holds : tie.Need-loop2-holds Inv-loop2 μ-loop2 Inv-loop μ-loop
+loop2-holds c = along-start _ _ _ _ _ _ _ _ _ _ _ (c .before .before .before .before .before .before .before .before .ends .ensures .turns .ranged)
 
-loop-again-2 : tie.Need-loop-again-2 Inv-loop μ-loop
-loop-again-2 c =
-    let m = c .before .before .before .before .before .before .before .before .before .before .before .before .before in
-    let g = c .before .before .before .before .before .before .before .before .before .before .before .before .before .before .before .before .before .before .loop .inv in
-    let h = c .before .before .before .before .before .before .before .before .before .before .before .before .before .before .before .before .before .loop-test .taken in
-    going-end g (omega (arith, h)) (m .piece-at .result) (m .piece-at .ensures .1) (m .piece-at .ensures .0) (c .before .before .before .before .before .before .before .before .before .before .before .p2 .given .1) (c .before .before .before .before .before .before .before .end-tag .ensures) (c .before .if2 .left)
+add-infer-start : tie.Need-add-infer-start Inv-loop2 μ-loop2 Inv-loop μ-loop
+add-infer-start c = omega (arith, events (c .before .before), c .before .loop2-test .taken, asked (c .before .before .before .before .before .before .before .before .before .before .before .before .before .before .before .before .before) .4)
 
-enum-known-p-3 : tie.Need-enum-known-p-3 Inv-loop μ-loop
-enum-known-p-3 c = search needs
+infer-start-requires : tie.Need-infer-start-requires Inv-loop2 μ-loop2 Inv-loop μ-loop
+infer-start-requires c κs =
+    let l = c .before .before .before in
+    let a = asked (l .before .before .before .before .before .before .before .before .before .before .before .before .before .before .before .before) in
+    (l .before .loop2 .inv .ranged, less l, omega (arith, a .2, a .3), omega (arith, events (l .before), l .loop2-test .taken, a .4))
 
-loop-less-3 : tie.Need-loop-less-3 Inv-loop μ-loop
-loop-less-3 c =
-    let m = c .before .before .before in
-    let g = c .before .before .before .before .before .before .before .before .loop .inv in
-    let h = c .before .before .before .before .before .before .before .loop-test .taken in
-    let r = passed-range g (omega (arith, h)) (m .piece-at .result) (m .piece-at .ensures .1) (m .piece-at .ensures .0) (c .before .p3 .given .1) in
-    omega (arith, h, r)
+add-k : tie.Need-add-k Inv-loop2 μ-loop2 Inv-loop μ-loop
+add-k c = omega arith
 
-loop-again-3 : tie.Need-loop-again-3 Inv-loop μ-loop
-loop-again-3 c =
-    let m = c .before .before .before in
-    let g = c .before .before .before .before .before .before .before .before .loop .inv in
-    let h = c .before .before .before .before .before .before .before .loop-test .taken in
-    going-passed g (omega (arith, h)) (m .piece-at .result) (m .piece-at .ensures .1) (m .piece-at .ensures .0) (c .before .p3 .given .1)
+loop2-less : tie.Need-loop2-less Inv-loop2 μ-loop2 Inv-loop μ-loop
+loop2-less c = omega arith
 
-enum-known-p-4 : tie.Need-enum-known-p-4 Inv-loop μ-loop
-enum-known-p-4 c = search needs
+loop2-again : tie.Need-loop2-again Inv-loop2 μ-loop2 Inv-loop μ-loop
+loop2-again c =
+    let start = c .before .before .before .before in
+    let l = start .before .before .before .before in
+    along-next _ _ _ _ _ _ _ (l .before .loop2 .inv) (l .loop2-test .taken) (less l) (start .infer-start .ensures)
 
-same-length-5 : tie.Need-same-length-5 Inv-loop μ-loop
-same-length-5 c = c .before .before .before .before .before .before .before .before .loop .inv .numbers-same
+add-placed : tie.Need-add-placed Inv-loop2 μ-loop2 Inv-loop μ-loop
+add-placed c = omega (arith, events (c .before .before), asked (c .before .before .before .before .before .before .before .before .before .before .before .before .before .before .before .before .before) .4)
 
-same-length-6 : tie.Need-same-length-6 Inv-loop μ-loop
-same-length-6 c = c .before .before .before .before .before .before .before .before .loop .inv .bytes-same
+placed-requires : tie.Need-placed-requires Inv-loop2 μ-loop2 Inv-loop μ-loop
+placed-requires c κs =
+    let l = c .before .before .before .before in
+    let e = l .before .before .before .before .before .before .before .before .before in
+    let a = asked (told e) in
+    (l .loop2 .inv .ranged, e .ends .ensures .fits, a .1, a .2, a .3, omega (arith, events l, a .4))
 
-returns-3 : tie.Need-returns-3 Inv-loop μ-loop
-returns-3 c =
-    let m = c .before .before .before in
-    let g = c .before .before .before .before .before .before .before .before .loop .inv in
-    let h = c .before .before .before .before .before .before .before .loop-test .taken in
-    piece-refuses g (omega (arith, h)) (m .piece-at .result) (m .piece-at .ensures .1) (c .before .p4 .given .1)
-
-finish-requires : tie.Need-finish-requires Inv-loop μ-loop
-finish-requires c κs = finish-asked (c .before .before .before .loop .inv) (omega (arith, c .before .before .loop-test .left)) (c .before .before .before .before .before .before .before .before .before .before .pre .2)
-
-refusal-requires-3 : tie.Need-refusal-requires-3 Inv-loop μ-loop
+refusal-requires-3 : tie.Need-refusal-requires-3 Inv-loop2 μ-loop2 Inv-loop μ-loop
 refusal-requires-3 c κs = search needs
 
-same-length-7 : tie.Need-same-length-7 Inv-loop μ-loop
-same-length-7 c = c .before .before .before .before .before .before .before .finish .ensures .brings .puts .numbers-kept ∙ c .before .before .before .before .before .before .before .before .before .before .before .loop .inv .numbers-same
+same-length-5 : tie.Need-same-length-5 Inv-loop2 μ-loop2 Inv-loop μ-loop
+same-length-5 c = c .before .before .before .before .before .before .before .placed .ensures .puts .numbers-kept ∙ c .before .before .before .before .before .before .before .before .before .before .before .before .loop2 .inv .puts .numbers-kept ∙ c .before .before .before .before .before .before .before .before .before .before .before .before .before .before .before .before .before .before .before .before .before .ends .ensures .turns .puts .numbers-kept ∙ c .before .before .before .before .before .before .before .before .before .before .before .before .before .before .before .before .before .before .before .before .before .before .before .before .before .before .before .before .before .before .before .before .before .before .before .loop .inv .numbers-same
 
-same-length-8 : tie.Need-same-length-8 Inv-loop μ-loop
-same-length-8 c = c .before .before .before .before .before .before .before .finish .ensures .brings .puts .bytes-kept ∙ c .before .before .before .before .before .before .before .before .before .before .before .loop .inv .bytes-same
+same-length-6 : tie.Need-same-length-6 Inv-loop2 μ-loop2 Inv-loop μ-loop
+same-length-6 c = c .before .before .before .before .before .before .before .placed .ensures .puts .bytes-kept ∙ c .before .before .before .before .before .before .before .before .before .before .before .before .loop2 .inv .puts .bytes-kept ∙ c .before .before .before .before .before .before .before .before .before .before .before .before .before .before .before .before .before .before .before .before .before .ends .ensures .turns .puts .bytes-kept ∙ c .before .before .before .before .before .before .before .before .before .before .before .before .before .before .before .before .before .before .before .before .before .before .before .before .before .before .before .before .before .before .before .before .before .before .before .loop .inv .bytes-same
 
-returns-4 : tie.Need-returns-4 Inv-loop μ-loop
-returns-4 c = end-refuses (c .before .before .before .before .before .before .before .before .before .before .before .loop .inv) (omega (arith, c .before .before .before .before .before .before .before .before .before .before .loop-test .left)) (c .before .before .before .before .before .before .before .finish .ensures) (c .before .if3 .taken) (c .refusal3 .ensures)
+returns-3 : tie.Need-returns-3 Inv-loop2 μ-loop2 Inv-loop μ-loop
+returns-3 c =
+    let put = c .before .before .before .before .before .before .before in
+    let i = inferred put in
+    let e = i .before .before .before .before .before .before .before .before .before .before in
+    let k = told e in
+    let p = piece k in
+    let t = turn p in
+    let g = t .before .loop .inv in
+    let s = settles-placed (after k) (g .ranged .few) (on e) (e .ends .ensures) (i .before .before .before .before .before .starts-of .ensures) (i .before .before .if2 .left) (i .before .loop2 .inv) (i .loop2-test .left) (places-refused (put .placed .ensures) (c .before .if3 .taken)) in
+    token-refuses g (omega (arith, t .loop-test .taken)) (p .piece-at .result) (p .piece-at .ensures .1) (p .piece-at .ensures .0) (k .before .p .given .1) s (c .before .if3 .taken) (c .refusal3 .ensures)
 
-same-length-9 : tie.Need-same-length-9 Inv-loop μ-loop
-same-length-9 c = c .before .before .before .before .before .before .finish .ensures .brings .puts .numbers-kept ∙ c .before .before .before .before .before .before .before .before .before .before .loop .inv .numbers-same
+opens-requires : tie.Need-opens-requires Inv-loop2 μ-loop2 Inv-loop μ-loop
+opens-requires c κs = asked (c .before .before .before .before .before .before .before .before .before .before .before .before .before .before .before .before .before .before .before .before .before .before .before .before .before .before .before) .1
 
-same-length-10 : tie.Need-same-length-10 Inv-loop μ-loop
-same-length-10 c = c .before .before .before .before .before .before .finish .ensures .brings .puts .bytes-kept ∙ c .before .before .before .before .before .before .before .before .before .before .loop .inv .bytes-same
+start-requires : tie.Need-start-requires Inv-loop2 μ-loop2 Inv-loop μ-loop
+start-requires c κs =
+    let put = c .before .before .before .before .before .before .before .before .before in
+    let h = put .placed .ensures in
+    (h .ranged, h .room (c .before .before .before .if3 .left) (λ z. false≢true (sym (c .before .opens .ensures .0 z) ∙ c .if4 .taken)), asked (put .before .before .before .before .before .before .before .before .before .before .before .before .before .before .before .before .before .before .before .before) .1)
 
-returns-5 : tie.Need-returns-5 Inv-loop μ-loop
-returns-5 c = end-counts (c .before .before .before .before .before .before .before .before .before .before .loop .inv) (omega (arith, c .before .before .before .before .before .before .before .before .before .loop-test .left)) (c .before .before .before .before .before .before .finish .ensures) (c .before .before .before .before .before .before .before .before .before .before .before .before .before .before .before .before .before .pre .2) (c .if3 .left)
+loop-less : tie.Need-loop-less Inv-loop2 μ-loop2 Inv-loop μ-loop
+loop-less c =
+    let k = c .before .before .before .before .before .before .before .before .before .before .before .before .before .before .before .before .before .before .before .before .before .before .before .before .before .before .before .before .before .before in
+    omega (arith, turn (piece k) .loop-test .taken, range k)
+
+loop-again : tie.Need-loop-again Inv-loop2 μ-loop2 Inv-loop μ-loop
+loop-again c =
+    let put = c .before .before .before .before .before .before .before .before .before .before in
+    let i = inferred put in
+    let e = i .before .before .before .before .before .before .before .before .before .before in
+    let k = told e in
+    let p = piece k in
+    let t = turn p in
+    let g = t .before .loop .inv in
+    let s = settles-placed (after k) (g .ranged .few) (on e) (e .ends .ensures) (i .before .before .before .before .before .starts-of .ensures) (i .before .before .if2 .left) (i .before .loop2 .inv) (i .loop2-test .left) (places-opened (put .placed .ensures) (c .before .before .before .before .if3 .left) (asked k .1) true (rw (c .before .if4 .taken) at (c .before .before .opens .ensures)) (c .start .ensures)) in
+    going-token g (omega (arith, t .loop-test .taken)) (p .piece-at .result) (p .piece-at .ensures .1) (p .piece-at .ensures .0) (k .before .p .given .1) s (c .before .before .before .before .if3 .left)
+
+loop-less-2 : tie.Need-loop-less-2 Inv-loop2 μ-loop2 Inv-loop μ-loop
+loop-less-2 c =
+    let k = c .before .before .before .before .before .before .before .before .before .before .before .before .before .before .before .before .before .before .before .before .before .before .before .before .before .before .before .before .before in
+    omega (arith, turn (piece k) .loop-test .taken, range k)
+
+loop-again-2 : tie.Need-loop-again-2 Inv-loop2 μ-loop2 Inv-loop μ-loop
+loop-again-2 c =
+    let put = c .before .before .before .before .before .before .before .before .before in
+    let i = inferred put in
+    let e = i .before .before .before .before .before .before .before .before .before .before in
+    let k = told e in
+    let p = piece k in
+    let t = turn p in
+    let g = t .before .loop .inv in
+    let s = settles-placed (after k) (g .ranged .few) (on e) (e .ends .ensures) (i .before .before .before .before .before .starts-of .ensures) (i .before .before .if2 .left) (i .before .loop2 .inv) (i .loop2-test .left) (places-opened (put .placed .ensures) (c .before .before .before .if3 .left) (asked k .1) false (rw (c .if4 .left) at (c .before .opens .ensures)) refl) in
+    going-token g (omega (arith, t .loop-test .taken)) (p .piece-at .result) (p .piece-at .ensures .1) (p .piece-at .ensures .0) (k .before .p .given .1) s (c .before .before .before .if3 .left)
+
+enum-known-p-2 : tie.Need-enum-known-p-2 Inv-loop2 μ-loop2 Inv-loop μ-loop
+enum-known-p-2 c = search needs
+
+end-tag-requires : tie.Need-end-tag-requires Inv-loop2 μ-loop2 Inv-loop μ-loop
+end-tag-requires c κs =
+    let k = c .before .before in
+    let p = k .before .before .before in
+    let t = turn p in
+    end-asked (t .before .loop .inv) (omega (arith, t .loop-test .taken)) (p .piece-at .result) (p .piece-at .ensures .1) (p .piece-at .ensures .0) (first t .pre .2) (k .before .p2 .given .1)
+
+refusal-requires-4 : tie.Need-refusal-requires-4 Inv-loop2 μ-loop2 Inv-loop μ-loop
+refusal-requires-4 c κs = search needs
+
+same-length-7 : tie.Need-same-length-7 Inv-loop2 μ-loop2 Inv-loop μ-loop
+same-length-7 c = c .before .before .before .before .before .before .before .end-tag .ensures .brings .puts .numbers-kept ∙ c .before .before .before .before .before .before .before .before .before .before .before .before .before .before .before .before .before .before .loop .inv .numbers-same
+
+same-length-8 : tie.Need-same-length-8 Inv-loop2 μ-loop2 Inv-loop μ-loop
+same-length-8 c = c .before .before .before .before .before .before .before .end-tag .ensures .brings .puts .bytes-kept ∙ c .before .before .before .before .before .before .before .before .before .before .before .before .before .before .before .before .before .before .loop .inv .bytes-same
+
+returns-4 : tie.Need-returns-4 Inv-loop2 μ-loop2 Inv-loop μ-loop
+returns-4 c =
+    let tag = c .before .before .before .before .before .before .before in
+    let k = tag .before .before .before in
+    let p = k .before .before .before in
+    let t = turn p in
+    end-tag-refuses (t .before .loop .inv) (omega (arith, t .loop-test .taken)) (p .piece-at .result) (p .piece-at .ensures .1) (p .piece-at .ensures .0) (k .before .p2 .given .1) (tag .end-tag .ensures) (c .before .if5 .taken) (c .refusal4 .ensures)
+
+loop-less-3 : tie.Need-loop-less-3 Inv-loop2 μ-loop2 Inv-loop μ-loop
+loop-less-3 c =
+    let k = c .before .before .before .before .before .before .before .before .before .before in
+    let p = k .before .before .before in
+    let t = turn p in
+    let r = end-range (t .before .loop .inv) (omega (arith, t .loop-test .taken)) (p .piece-at .result) (p .piece-at .ensures .1) (p .piece-at .ensures .0) (k .before .p2 .given .1) in
+    omega (arith, t .loop-test .taken, r)
+
+loop-again-3 : tie.Need-loop-again-3 Inv-loop2 μ-loop2 Inv-loop μ-loop
+loop-again-3 c =
+    let tag = c .before .before .before .before .before .before .before in
+    let k = tag .before .before .before in
+    let p = k .before .before .before in
+    let t = turn p in
+    going-end (t .before .loop .inv) (omega (arith, t .loop-test .taken)) (p .piece-at .result) (p .piece-at .ensures .1) (p .piece-at .ensures .0) (k .before .p2 .given .1) (tag .end-tag .ensures) (c .before .if5 .left)
+
+enum-known-p-3 : tie.Need-enum-known-p-3 Inv-loop2 μ-loop2 Inv-loop μ-loop
+enum-known-p-3 c = search needs
+
+loop-less-4 : tie.Need-loop-less-4 Inv-loop2 μ-loop2 Inv-loop μ-loop
+loop-less-4 c =
+    let p = c .before .before .before in
+    let t = turn p in
+    let r = passed-range (t .before .loop .inv) (omega (arith, t .loop-test .taken)) (p .piece-at .result) (p .piece-at .ensures .1) (p .piece-at .ensures .0) (c .before .p3 .given .1) in
+    omega (arith, t .loop-test .taken, r)
+
+loop-again-4 : tie.Need-loop-again-4 Inv-loop2 μ-loop2 Inv-loop μ-loop
+loop-again-4 c =
+    let p = c .before .before .before in
+    let t = turn p in
+    going-passed (t .before .loop .inv) (omega (arith, t .loop-test .taken)) (p .piece-at .result) (p .piece-at .ensures .1) (p .piece-at .ensures .0) (c .before .p3 .given .1)
+
+enum-known-p-4 : tie.Need-enum-known-p-4 Inv-loop2 μ-loop2 Inv-loop μ-loop
+enum-known-p-4 c = search needs
+
+same-length-9 : tie.Need-same-length-9 Inv-loop2 μ-loop2 Inv-loop μ-loop
+same-length-9 c = c .before .before .before .before .before .before .before .before .loop .inv .numbers-same
+
+same-length-10 : tie.Need-same-length-10 Inv-loop2 μ-loop2 Inv-loop μ-loop
+same-length-10 c = c .before .before .before .before .before .before .before .before .loop .inv .bytes-same
+
+returns-5 : tie.Need-returns-5 Inv-loop2 μ-loop2 Inv-loop μ-loop
+returns-5 c =
+    let p = c .before .before .before in
+    let t = turn p in
+    piece-refuses (t .before .loop .inv) (omega (arith, t .loop-test .taken)) (p .piece-at .result) (p .piece-at .ensures .1) (c .before .p4 .given .1)
+
+finish-requires : tie.Need-finish-requires Inv-loop2 μ-loop2 Inv-loop μ-loop
+finish-requires c κs = finish-asked (c .before .before .before .loop .inv) (omega (arith, c .before .before .loop-test .left)) (c .before .before .before .before .before .before .before .before .before .before .pre .2)
+
+refusal-requires-5 : tie.Need-refusal-requires-5 Inv-loop2 μ-loop2 Inv-loop μ-loop
+refusal-requires-5 c κs = search needs
+
+same-length-11 : tie.Need-same-length-11 Inv-loop2 μ-loop2 Inv-loop μ-loop
+same-length-11 c = c .before .before .before .before .before .before .before .finish .ensures .brings .puts .numbers-kept ∙ c .before .before .before .before .before .before .before .before .before .before .before .loop .inv .numbers-same
+
+same-length-12 : tie.Need-same-length-12 Inv-loop2 μ-loop2 Inv-loop μ-loop
+same-length-12 c = c .before .before .before .before .before .before .before .finish .ensures .brings .puts .bytes-kept ∙ c .before .before .before .before .before .before .before .before .before .before .before .loop .inv .bytes-same
+
+returns-6 : tie.Need-returns-6 Inv-loop2 μ-loop2 Inv-loop μ-loop
+returns-6 c =
+    let over = c .before .before .before .before .before .before .before .before .before .before in
+    end-refuses (over .before .loop .inv) (omega (arith, over .loop-test .left)) (c .before .before .before .before .before .before .before .finish .ensures) (c .before .if6 .taken) (c .refusal5 .ensures)
+
+same-length-13 : tie.Need-same-length-13 Inv-loop2 μ-loop2 Inv-loop μ-loop
+same-length-13 c = c .before .before .before .before .before .before .finish .ensures .brings .puts .numbers-kept ∙ c .before .before .before .before .before .before .before .before .before .before .loop .inv .numbers-same
+
+same-length-14 : tie.Need-same-length-14 Inv-loop2 μ-loop2 Inv-loop μ-loop
+same-length-14 c = c .before .before .before .before .before .before .finish .ensures .brings .puts .bytes-kept ∙ c .before .before .before .before .before .before .before .before .before .before .loop .inv .bytes-same
+
+returns-7 : tie.Need-returns-7 Inv-loop2 μ-loop2 Inv-loop μ-loop
+returns-7 c =
+    let over = c .before .before .before .before .before .before .before .before .before in
+    end-counts (over .before .loop .inv) (omega (arith, over .loop-test .left)) (c .before .before .before .before .before .before .finish .ensures) (over .before .before .before .before .before .before .before .before .pre .2) (c .if6 .left)
 
 pub events-of-spec : {M : Type 1} → statement M
 events-of-spec =
     tie.close
     (tie.spec
+    Inv-loop2
+    μ-loop2
     Inv-loop
     μ-loop
     new-requires
     loop-holds
     piece-at-requires
     enum-known-p
-    token-requires
+    is-over-requires
     refusal-requires
     same-length
     same-length-2
     returns
-    loop-less
-    loop-again
-    enum-known-p-2
-    end-tag-requires
+    ends-requires
+    starts-of-requires
+    add-if2
     refusal-requires-2
     same-length-3
     same-length-4
     returns-2
-    loop-less-2
-    loop-again-2
-    enum-known-p-3
-    loop-less-3
-    loop-again-3
-    enum-known-p-4
+    loop2-holds
+    add-infer-start
+    infer-start-requires
+    add-k
+    loop2-less
+    loop2-again
+    add-placed
+    placed-requires
+    refusal-requires-3
     same-length-5
     same-length-6
     returns-3
-    finish-requires
-    refusal-requires-3
+    opens-requires
+    start-requires
+    loop-less
+    loop-again
+    loop-less-2
+    loop-again-2
+    enum-known-p-2
+    end-tag-requires
+    refusal-requires-4
     same-length-7
     same-length-8
     returns-4
+    loop-less-3
+    loop-again-3
+    enum-known-p-3
+    loop-less-4
+    loop-again-4
+    enum-known-p-4
     same-length-9
     same-length-10
-    returns-5)
+    returns-5
+    finish-requires
+    refusal-requires-5
+    same-length-11
+    same-length-12
+    returns-6
+    same-length-13
+    same-length-14
+    returns-7)

@@ -1,8 +1,9 @@
 -- `token_at` meets its contract: each way by the tests that led there.
 use mathlib.Core.Path.{sym, _∙_}
+use lib.ListN.{length}
 use borrow.Author.Needs.{needs}
 use Rattle.rules.specs.Settings.{settings}
-use Rattle.document_text.specs.Laws.{piece-markup, piece-reference, piece-section, piece-byte}
+use Rattle.document_text.specs.Laws.{piece-markup, piece-reference, piece-section, piece-byte, byte-no-start, meets-other}
 use Rattle.document_text.proofs.token_at.Statement.{statement}
 use Rattle.document_text.proofs.token_at.Tie as tie
 
@@ -14,32 +15,44 @@ markup-at-requires c κs = search needs
 
 returns : tie.Need-returns
 returns c =
-    let a = c .before .before .before .before .args in
-    c .markup-at .ensures ∙ piece-markup (settings (a .long)) (a .s .now) (a .i) (sym (c .before .before .byte .ensures) ∙ c .before .if1 .taken)
+    let t = c .before .before in
+    let a = t .before .before .before .args in
+    rw (sym (piece-markup (settings (a .long)) (a .s .now) (a .i) (sym (t .before .byte .ensures) ∙ t .if1 .taken))) (c .markup-at .ensures)
 
 is-reference-requires : tie.Need-is-reference-requires
 is-reference-requires c κs = search needs
 
 returns-2 : tie.Need-returns-2
 returns-2 c =
-    let a = c .before .before .before .before .before .args in
-    piece-reference (settings (a .long)) (a .s .now) (a .i) (λ e. c .before .before .if1 .left (c .before .before .before .byte .ensures ∙ e)) (sym (c .before .is-reference .ensures) ∙ c .if2 .taken)
+    let l = c .before .before in
+    let b = l .before in
+    let a = b .before .before .args in
+    sym (piece-reference (settings (a .long)) (a .s .now) (a .i) (λ e. l .if1 .left (b .byte .ensures ∙ e)) (sym (c .before .is-reference .ensures) ∙ c .if2 .taken))
 
 is-section-end-requires : tie.Need-is-section-end-requires
 is-section-end-requires c κs = search needs
 
 returns-3 : tie.Need-returns-3
 returns-3 c =
-    let a = c .before .before .before .before .before .before .before .args in
-    piece-section (settings (a .long)) (a .s .now) (a .i) (λ e. c .before .before .before .before .if1 .left (c .before .before .before .before .before .byte .ensures ∙ e)) (sym (c .before .before .before .is-reference .ensures) ∙ c .before .before .if2 .left) (sym (c .before .is-section-end .ensures) ∙ c .if3 .taken)
+    let r = c .before .before in
+    let l = r .before .before in
+    let b = l .before in
+    let a = b .before .before .args in
+    sym
+    (piece-section (settings (a .long)) (a .s .now) (a .i) (λ e. l .if1 .left (b .byte .ensures ∙ e)) (sym (r .before .is-reference .ensures) ∙ r .if2 .left) (sym (c .before .is-section-end .ensures) ∙ c .if3 .taken))
 
 byte-at-requires : tie.Need-byte-at-requires
 byte-at-requires c κs = search needs
 
 returns-4 : tie.Need-returns-4
 returns-4 c =
-    let a = c .before .before .before .before .before .before .before .before .args in
-    c .byte-at .ensures ∙ piece-byte (settings (a .long)) (a .s .now) (a .i) (λ e. c .before .before .before .before .before .if1 .left (c .before .before .before .before .before .before .byte .ensures ∙ e)) (sym (c .before .before .before .before .is-reference .ensures) ∙ c .before .before .before .if2 .left) (sym (c .before .before .is-section-end .ensures) ∙ c .before .if3 .left)
+    let e = c .before in
+    let r = e .before .before in
+    let l = r .before .before in
+    let b = l .before in
+    let a = b .before .before .args in
+    meets-other (length (a .s .now)) (a .given .now) (c .byte-at .result) (c .byte-at .ensures) (byte-no-start (a .s .now) (a .i))
+    (piece-byte (settings (a .long)) (a .s .now) (a .i) (λ x. l .if1 .left (b .byte .ensures ∙ x)) (sym (r .before .is-reference .ensures) ∙ r .if2 .left) (sym (e .before .is-section-end .ensures) ∙ e .if3 .left))
 
 pub token-at-spec : {M : Type 1} → statement M
 token-at-spec =

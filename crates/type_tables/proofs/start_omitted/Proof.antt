@@ -1,6 +1,5 @@
--- `start_omitted` meets its contract: the number that is kept is 1 where the start may be left out.
+-- `start_omitted` meets its contract: the number that is kept is the element's.
 use borrow.Author.Needs.{needs}
-use Rattle.type_tables.specs.Ranges.{one-if}
 use Rattle.type_tables.proofs.start_omitted.Statement.{statement}
 use Rattle.type_tables.proofs.start_omitted.Tie as tie
 
@@ -14,7 +13,7 @@ element-copy-out-result : tie.Need-element-copy-out-result
 element-copy-out-result c = search needs
 
 returns : tie.Need-returns
-returns c s es raised said declared = rw (said .start _ (declared .0) (declared .1)) (one-if _)
+returns c s es raised said declared = said .start _ (declared .0) (declared .1)
 
 pub start-omitted-spec : {M : Type 1} → statement M
 start-omitted-spec = tie.close (tie.spec mul-result add-result element-copy-out-result returns)

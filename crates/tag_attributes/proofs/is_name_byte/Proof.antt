@@ -1,8 +1,8 @@
 -- `is_name_byte` meets its contract: the table has the class of each byte.
 use native.Mathlib.Omega.{arith}
 use borrow.Author.Needs.{needs}
-use Rattle.tags.proofs.is_name_byte.Statement.{statement}
-use Rattle.tags.proofs.is_name_byte.Tie as tie
+use Rattle.tag_attributes.proofs.is_name_byte.Statement.{statement}
+use Rattle.tag_attributes.proofs.is_name_byte.Tie as tie
 
 element-copy-out-result : tie.Need-element-copy-out-result
 element-copy-out-result c = search needs

@@ -6,8 +6,8 @@ use lib.ListN.{length, drop}
 use borrow.Author.Tests.{not-true, not-false}
 use Rattle.rules.specs.Bytes.{letter, nameByte, span, nameEnd}
 use Rattle.text.specs.Laws.{spanned, before-all, span-turn, span-end}
-use Rattle.tags.proofs.name_end.Statement.{statement}
-use Rattle.tags.proofs.name_end.Tie as tie
+use Rattle.tag_attributes.proofs.name_end.Statement.{statement}
+use Rattle.tag_attributes.proofs.name_end.Tie as tie
 
 abbrev Inv-loop : tie.InvT-loop
 Inv-loop classes s at i₀ i = (i ≤ length s) × (i + span nameByte (drop i s) ≡ at + span nameByte (drop at s))
