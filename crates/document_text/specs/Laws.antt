@@ -43,7 +43,7 @@ module _ (s : List ℕ) (i b : ℕ) (q : b ≡ byteAt s (i + 2)) where
 
 -- `<` at i under the settings c, before the byte b.
 module _ (c : Settings) (s : List ℕ) (i b : ℕ) (q : b ≡ byteAt s (i + 1)) where
-  pub markup-start : letter b ≡ true → markupPiece c s i ≡ asStartTag (startTagAt c s (i + 1))
+  pub markup-start : letter b ≡ true → asStartTag (startTagAt c s (i + 1)) ≡ markupPiece c s i
   unfolding markupPiece
   markup-start l = rw (markupPiece, rw q at l)
 

@@ -135,7 +135,7 @@ fn byte_at(s: &[u8], i: usize) -> Token
     Token::Data
 }
 
-// What stands at i, where the document does not end. Where it is a start tag, `given` has the attributes that it gives (crate tags); else what that holds is not decided.
+// What stands at i, where the document does not end. Where it is a start tag, `given` has the attributes that it gives (crate tag_attributes); else what that holds is not decided.
 pub fn token_at(
     long: usize,
     classes: &[u8; 256],

@@ -2,7 +2,7 @@
 use Prim.Native.Nat.{_+_}
 use mathlib.Core.Path.{refl, sym, ap, _∙_}
 use borrow.Author.Needs.{needs}
-use Rattle.rules.specs.Document.{tag}
+use Rattle.rules.specs.Document.{tag, startTagAt}
 use Rattle.rules_laws.specs.Runs.{anySettings, isRun, start-stops, end-stops}
 use Rattle.document_text.specs.Laws.{markup-start, markup-end, markup-declaration}
 use Rattle.data_runs.specs.Laws.{markup-runs}
@@ -21,8 +21,8 @@ is-letter-requires c κs = search needs
 returns : tie.Need-returns
 returns c =
     let a = c .before .before .before .before .args in
-    let read = tag anySettings (a .s .now) (a .i + 1) in
-    sym (start-stops read) ∙ ap isRun (markup-start anySettings (a .s .now) (a .i) _ (c .before .before .byte .ensures) (sym (c .before .is-letter .ensures) ∙ c .if1 .taken) read refl)
+    let read = startTagAt anySettings (a .s .now) (a .i + 1) in
+    sym (start-stops read) ∙ ap isRun (markup-start anySettings (a .s .now) (a .i) _ (c .before .before .byte .ensures) (sym (c .before .is-letter .ensures) ∙ c .if1 .taken))
 
 is-end-tag-requires : tie.Need-is-end-tag-requires
 is-end-tag-requires c κs = search needs

@@ -38,7 +38,7 @@ returns c =
     let b = t .before .before in
     let a = b .before .before .args in
     let o = settings (a .long) in
-    rw (markup-start o (a .s .now) (a .i) _ (b .byte .ensures) (sym (t .before .is-letter .ensures) ∙ t .if1 .taken))
+    rw (sym (markup-start o (a .s .now) (a .i) _ (b .byte .ensures) (sym (t .before .is-letter .ensures) ∙ t .if1 .taken)))
     (c .start-tag .ensures (length (a .s .now)) _ (startTagAt o (a .s .now) (a .i + 1)) (c .before .start-tag-at .ensures))
 
 is-end-tag-requires : tie.Need-is-end-tag-requires
