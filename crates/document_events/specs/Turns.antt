@@ -130,11 +130,6 @@ going-start c s elements index rows places facts M d begun numbers bytes q =
           };
     })
 
--- What piece_at ensures of what stands at `at`.
-abbrev pub PieceSaid : Settings → (s elements index rows places facts M d begun : List ℕ) (at : ℕ) → Open → Piece → Type 0
-PieceSaid c s elements index rows places facts M d begun at o p =
-    (es : List Element) → Indexed s es elements index → Tables s es rows places facts M → (v : rules.Open) → Entered es M begun (o .count) (o .element .0) (o .place .0) v → Finds c s es d v at p
-
 module _ {c : Settings} {s elements index rows places facts M d begun numbers numbersNow bytes bytesNow : List ℕ} {n at : ℕ} {o : Open} (g : Going c s elements index rows places facts M d begun numbers numbersNow bytes bytesNow n at o) where
   -- A token up to `after` was settled and brought these events, or was refused.
   module _ {after : ℕ} (on : (at < after) × (after ≤ length d)) {r : Outcome} {begun′ numbers′ bytes′ : List ℕ} (b : Brings n numbersNow bytesNow r numbers′ bytes′) (few : length (b .events) ≤ 50)
@@ -162,88 +157,6 @@ module _ {c : Settings} {s elements index rows places facts M d begun numbers nu
 
     refuses-there : (r .number ≡ 0 → ⊥) → {answer : Counted} → answer ≡ counted.Refused (record { number = r .number; at = at }) → (es : List Element) → Indexed s es elements index → Tables s es rows places facts M → EventsOf c s es d numbers numbers′ bytes bytes′ answer
     refuses-there z q es i t = rw q (turned es i t .refuses (omega arith))
-
-  module _ (h : at < length d) (p : Piece) (said : PieceSaid c s elements index rows places facts M d begun at o p) where
-    finds : (es : List Element) (i : Indexed s es elements index) (t : Tables s es rows places facts M) → Finds c s es d (g .any es i t .state .current) at p
-    finds es i t = said es i t (g .any es i t .state .current) (g .any es i t .stands .current .entered)
-
-    pub piece-refuses : {f : Fault} → p ≡ found.Refused f → (es : List Element) → Indexed s es elements index → Tables s es rows places facts M → document c s es (decided s es) d ≡ refused (f .number) (f .at)
-    piece-refuses {f} q es i t =
-        let came = g .any es i t in
-        refused-unread c s es d at (came .state) h (came .reaches) f (rw q at (finds es i t))
-
-    module _ (onward : Onward (length d) at p) where
-      -- Each moves on within the document.
-      pub token-range : {x : ElementNo} {after : ℕ} → p ≡ found.Token x after → (at < after) × (after ≤ length d)
-      token-range {x} {after} q = let (f, k, m) : (x .0 ≤ 64) × (at < after) × (after ≤ length d) = rw q at onward in (k, m)
-
-      pub end-range : {x : ElementNo} {after : ℕ} → p ≡ found.End x after → (at < after) × (after ≤ length d)
-      end-range {x} {after} q = let (f, k, m) : (x .0 ≤ 64) × (at < after) × (after ≤ length d) = rw q at onward in (k, m)
-
-      pub passed-range : {after : ℕ} → p ≡ found.Passed after → (at < after) × (after ≤ length d)
-      passed-range q = rw q at onward
-
-      -- What is ignored leaves the open elements as they were.
-      pub going-passed : {after : ℕ} → p ≡ found.Passed after → Going c s elements index rows places facts M d begun numbers numbersNow bytes bytesNow n after o
-      going-passed {after} q =
-          let (k, m) = passed-range q in
-          record {
-            inside = m;
-            few = omega (arith, g .few);
-            ranged = g .ranged;
-            numbers-same = g .numbers-same;
-            bytes-same = g .bytes-same;
-            any = λ es i t.
-                let came = g .any es i t in
-                record { state = came .state; reaches = by-kind es (came .state) (came .reaches) (rw q at (finds es i t)); stands = came .stands; counted = came .counted; holds = came .holds };
-          }
-        where
-          by-kind : (es : List Element) (z : State) → Reaches c s es d at z → Finds c s es d (z .current) at (found.Passed after) → Reaches c s es d after z
-          by-kind es z reach (skips e) = reaches-skipped reach h e
-          by-kind es z reach (separates e n a) = rw a (reaches-blank reach h e n)
-
-      module _ (small : length d ≤ 65535) {x : ElementNo} {after : ℕ} where
-        asked : (x .0 ≤ 64) × (at < after) × (after ≤ length d) → (x .0 ≤ 64) × (at ≤ after) × (after < 4294967296) × (n + 50 < 4294967296)
-        asked (f, k, m) = (f, omega arith, omega arith, omega (arith, g .few))
-
-        pub token-asked : p ≡ found.Token x after → Ranged o × (x .0 ≤ 64) × (at ≤ after) × (after < 4294967296) × (n + 50 < 4294967296)
-        token-asked q = let (a, b, c, e) = asked (rw q at onward) in (g .ranged, a, b, c, e)
-
-        pub end-asked : p ≡ found.End x after → Ranged o × (at ≤ after) × (after < 4294967296) × (x .0 ≤ 64) × (n + 50 < 4294967296)
-        end-asked q = let (a, b, c, e) = asked (rw q at onward) in (g .ranged, b, c, a, e)
-
-      module _ {x : ElementNo} {after : ℕ} {r : Outcome} {numbers′ bytes′ : List ℕ} where
-        -- A start tag or a run of data.
-        module _ {begun′ : List ℕ} (q : p ≡ found.Token x after) (t : Settles rows places facts M (x .0) at after n o begun numbersNow bytesNow r begun′ numbers′ bytes′) where
-          abbrev brought : Brings n numbersNow bytesNow r numbers′ bytes′
-          brought = record { ranged = t .ranged; small = t .small; events = t .events; puts = t .puts; counted = t .counted }
-
-          settled : (es : List Element) (i : Indexed s es elements index) (u : Tables s es rows places facts M) → Turned c s es d M begun′ at after (g .any es i u .state .events ++ t .events) r
-          settled es i u =
-              let came = g .any es i u in
-              let z = came .state in
-              let f : ToSettle c s es d (z .current) at (x .0) after = rw q at (finds es i u) in
-              turned-token c s es d M begun′ at z h (came .reaches) (z .events ++ t .events) r (x .0) after (u .accepted) f (t .settles s es u z (came .stands) (settles-declared c s es d (z .current) at (x .0) after f))
-
-          pub going-token : r .number ≡ 0 → Going c s elements index rows places facts M d begun′ numbers numbers′ bytes bytes′ (r .events) after (r .open)
-          going-token = going-on (token-range q) brought (t .few) settled
-
-          pub token-refuses : (r .number ≡ 0 → ⊥) → {answer : Counted} → answer ≡ counted.Refused (record { number = r .number; at = at }) → (es : List Element) → Indexed s es elements index → Tables s es rows places facts M → EventsOf c s es d numbers numbers′ bytes bytes′ answer
-          token-refuses = refuses-there (token-range q) brought (t .few) settled
-
-        -- An end tag.
-        module _ (q : p ≡ found.End x after) (t : Tagged facts (x .0) at after n o numbersNow bytesNow r numbers′ bytes′) where
-          ended : (es : List Element) (i : Indexed s es elements index) (u : Tables s es rows places facts M) → Turned c s es d M begun at after (g .any es i u .state .events ++ t .brings .events) r
-          ended es i u =
-              let came = g .any es i u in
-              let z = came .state in
-              turned-end c s es d M begun at z h (came .reaches) (z .events ++ t .brings .events) r (x .0) after (rw q at (finds es i u)) (t .closes s es (u .raised) (u .facts-say) M begun z (came .stands))
-
-          pub going-end : r .number ≡ 0 → Going c s elements index rows places facts M d begun numbers numbers′ bytes bytes′ (r .events) after (r .open)
-          going-end = going-on (end-range q) (t .brings) (t .few) ended
-
-          pub end-tag-refuses : (r .number ≡ 0 → ⊥) → {answer : Counted} → answer ≡ counted.Refused (record { number = r .number; at = at }) → (es : List Element) → Indexed s es elements index → Tables s es rows places facts M → EventsOf c s es d numbers numbers′ bytes bytes′ answer
-          end-tag-refuses = refuses-there (end-range q) (t .brings) (t .few) ended
 
   -- All is read.
   module _ (over : length d ≤ at) where
@@ -282,3 +195,91 @@ module _ {c : Settings} {s elements index rows places facts M d begun numbers nu
             held .bytes-hold,
             omega (arith, b .counted, t .few, g .few, g .inside),
           )
+
+-- A turn of the loop: the document has something at `at`, and this is what piece_at ensures of it.
+pub record Turn (c : Settings) (s elements index rows places facts M d begun numbers numbersNow bytes bytesNow : List ℕ) (n at : ℕ) (o : Open) (p : Piece) : Type 0 where
+  pub going : Going c s elements index rows places facts M d begun numbers numbersNow bytes bytesNow n at o
+  pub inside : at < length d
+  pub onward : Onward (length d) at p
+  pub said : (es : List Element) → Indexed s es elements index → Tables s es rows places facts M → (v : rules.Open) → Entered es M begun (o .count) (o .element .0) (o .place .0) v → Finds c s es d v at p
+
+module _ {c : Settings} {s elements index rows places facts M d begun numbers numbersNow bytes bytesNow : List ℕ} {n at : ℕ} {o : Open} {p : Piece} (turn : Turn c s elements index rows places facts M d begun numbers numbersNow bytes bytesNow n at o p) where
+  finds : (es : List Element) (i : Indexed s es elements index) (t : Tables s es rows places facts M) → Finds c s es d (turn .going .any es i t .state .current) at p
+  finds es i t = turn .said es i t (turn .going .any es i t .state .current) (turn .going .any es i t .stands .current .entered)
+
+  pub piece-refuses : {f : Fault} → p ≡ found.Refused f → (es : List Element) → Indexed s es elements index → Tables s es rows places facts M → document c s es (decided s es) d ≡ refused (f .number) (f .at)
+  piece-refuses {f} q es i t =
+      let came = turn .going .any es i t in
+      refused-unread c s es d at (came .state) (turn .inside) (came .reaches) f (rw q at (finds es i t))
+
+  -- Each moves on within the document.
+  pub token-range : {x : ElementNo} {after : ℕ} → p ≡ found.Token x after → (at < after) × (after ≤ length d)
+  token-range {x} {after} q = let (f, k, m) : (x .0 ≤ 64) × (at < after) × (after ≤ length d) = rw q at (turn .onward) in (k, m)
+
+  pub end-range : {x : ElementNo} {after : ℕ} → p ≡ found.End x after → (at < after) × (after ≤ length d)
+  end-range {x} {after} q = let (f, k, m) : (x .0 ≤ 64) × (at < after) × (after ≤ length d) = rw q at (turn .onward) in (k, m)
+
+  pub passed-range : {after : ℕ} → p ≡ found.Passed after → (at < after) × (after ≤ length d)
+  passed-range q = rw q at (turn .onward)
+
+  -- What is ignored leaves the open elements as they were.
+  pub going-passed : {after : ℕ} → p ≡ found.Passed after → Going c s elements index rows places facts M d begun numbers numbersNow bytes bytesNow n after o
+  going-passed {after} q =
+      let (k, m) = passed-range q in
+      record {
+        inside = m;
+        few = omega (arith, turn .going .few);
+        ranged = turn .going .ranged;
+        numbers-same = turn .going .numbers-same;
+        bytes-same = turn .going .bytes-same;
+        any = λ es i t.
+            let came = turn .going .any es i t in
+            record { state = came .state; reaches = by-kind es (came .state) (came .reaches) (rw q at (finds es i t)); stands = came .stands; counted = came .counted; holds = came .holds };
+      }
+    where
+      by-kind : (es : List Element) (z : State) → Reaches c s es d at z → Finds c s es d (z .current) at (found.Passed after) → Reaches c s es d after z
+      by-kind es z reach (skips e) = reaches-skipped reach (turn .inside) e
+      by-kind es z reach (separates e n a) = rw a (reaches-blank reach (turn .inside) e n)
+
+  module _ (small : length d ≤ 65535) {x : ElementNo} {after : ℕ} where
+    asked : (x .0 ≤ 64) × (at < after) × (after ≤ length d) → (x .0 ≤ 64) × (at ≤ after) × (after < 4294967296) × (n + 50 < 4294967296)
+    asked (f, k, m) = (f, omega arith, omega arith, omega (arith, turn .going .few))
+
+    pub token-asked : p ≡ found.Token x after → Ranged o × (x .0 ≤ 64) × (at ≤ after) × (after < 4294967296) × (n + 50 < 4294967296)
+    token-asked q = let (a, b, c, e) = asked (rw q at (turn .onward)) in (turn .going .ranged, a, b, c, e)
+
+    pub end-asked : p ≡ found.End x after → Ranged o × (at ≤ after) × (after < 4294967296) × (x .0 ≤ 64) × (n + 50 < 4294967296)
+    end-asked q = let (a, b, c, e) = asked (rw q at (turn .onward)) in (turn .going .ranged, b, c, a, e)
+
+  module _ {x : ElementNo} {after : ℕ} {r : Outcome} {numbers′ bytes′ : List ℕ} where
+    -- A start tag or a run of data.
+    module _ {begun′ : List ℕ} (q : p ≡ found.Token x after) (t : Settles rows places facts M (x .0) at after n o begun numbersNow bytesNow r begun′ numbers′ bytes′) where
+      abbrev brought : Brings n numbersNow bytesNow r numbers′ bytes′
+      brought = record { ranged = t .ranged; small = t .small; events = t .events; puts = t .puts; counted = t .counted }
+
+      settled : (es : List Element) (i : Indexed s es elements index) (u : Tables s es rows places facts M) → Turned c s es d M begun′ at after (turn .going .any es i u .state .events ++ t .events) r
+      settled es i u =
+          let came = turn .going .any es i u in
+          let z = came .state in
+          let f : ToSettle c s es d (z .current) at (x .0) after = rw q at (finds es i u) in
+          turned-token c s es d M begun′ at z (turn .inside) (came .reaches) (z .events ++ t .events) r (x .0) after (u .accepted) f (t .settles s es u z (came .stands) (settles-declared c s es d (z .current) at (x .0) after f))
+
+      pub going-token : r .number ≡ 0 → Going c s elements index rows places facts M d begun′ numbers numbers′ bytes bytes′ (r .events) after (r .open)
+      going-token = going-on (turn .going) (token-range q) brought (t .few) settled
+
+      pub token-refuses : (r .number ≡ 0 → ⊥) → {answer : Counted} → answer ≡ counted.Refused (record { number = r .number; at = at }) → (es : List Element) → Indexed s es elements index → Tables s es rows places facts M → EventsOf c s es d numbers numbers′ bytes bytes′ answer
+      token-refuses = refuses-there (turn .going) (token-range q) brought (t .few) settled
+
+    -- An end tag.
+    module _ (q : p ≡ found.End x after) (t : Tagged facts (x .0) at after n o numbersNow bytesNow r numbers′ bytes′) where
+      ended : (es : List Element) (i : Indexed s es elements index) (u : Tables s es rows places facts M) → Turned c s es d M begun at after (turn .going .any es i u .state .events ++ t .brings .events) r
+      ended es i u =
+          let came = turn .going .any es i u in
+          let z = came .state in
+          turned-end c s es d M begun at z (turn .inside) (came .reaches) (z .events ++ t .brings .events) r (x .0) after (rw q at (finds es i u)) (t .closes s es (u .raised) (u .facts-say) M begun z (came .stands))
+
+      pub going-end : r .number ≡ 0 → Going c s elements index rows places facts M d begun numbers numbers′ bytes bytes′ (r .events) after (r .open)
+      going-end = going-on (turn .going) (end-range q) (t .brings) (t .few) ended
+
+      pub end-tag-refuses : (r .number ≡ 0 → ⊥) → {answer : Counted} → answer ≡ counted.Refused (record { number = r .number; at = at }) → (es : List Element) → Indexed s es elements index → Tables s es rows places facts M → EventsOf c s es d numbers numbers′ bytes bytes′ answer
+      end-tag-refuses = refuses-there (turn .going) (end-range q) (t .brings) (t .few) ended
