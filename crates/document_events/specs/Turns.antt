@@ -2,7 +2,7 @@
 use Prim.Native.Nat.{ℕ, zero, suc, _+_, _-_, _*_, _≤_, _<_}
 use mathlib.Core.Path.{_≡_, refl, sym, _∙_, ap, subst}
 use mathlib.Core.Bool.{true}
-use mathlib.Core.List.{List, [], _++_}
+use mathlib.Core.List.{List, _++_}
 use native.Mathlib.Omega.{arith}
 use lib.ListN.{length, length-append}
 use Rattle.rules.specs.Settings.{Settings}
@@ -33,7 +33,7 @@ use Rattle.event_buffer.specs.Means.{Holds}
 use Rattle.type_tables.specs.Means.{Tables, Entered}
 use Rattle.open_elements.specs.declared.Open.{Open}
 use Rattle.open_elements.specs.declared.Outcome.{Outcome}
-use Rattle.open_elements.specs.Means.{Becomes, fresh, Ranged, Stands}
+use Rattle.open_elements.specs.Means.{Becomes, fresh, Ranged}
 use Rattle.open_elements.specs.Becomes.{StandsWith, was-refused, was-got}
 use Rattle.open_elements.specs.Laws.{stands-fresh, ranged-fresh}
 use Rattle.settling.specs.Settled.{takes, Settles}
@@ -44,7 +44,7 @@ use Rattle.pieces.specs.declared.Piece.the-variants as found
 use Rattle.pieces.specs.Means.{skips, separates, malformed, undeclaredStart, undeclaredEnd, ToSettle, runs, starts, Finds, Onward}
 use Rattle.document_events.specs.declared.Counted.{Counted}
 use Rattle.document_events.specs.declared.Counted.the-variants as counted
-use Rattle.document_events.specs.Means.{EventsOf, Turned, Comes, Going}
+use Rattle.document_events.specs.Means.{EventsOf, Turned, Going}
 use Rattle.document_events.specs.Again.{stands-again}
 
 -- What a token comes to

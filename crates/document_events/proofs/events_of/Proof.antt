@@ -112,13 +112,6 @@ on : (c : tie.After-ends Inv-loop2 μ-loop2 Inv-loop μ-loop) →
     (s : List ℕ) (es : List Element) (z : State) → Stands es (first (t .before) .args .members .now) (t .before .loop .begun) (t .before .loop .o) z → isOver s es (decided s es) z ≡ false
 on c s es z stands = sym (over-says s stands) ∙ sym (c .before .before .before .before .before .is-over .ensures) ∙ c .before .before .before .before .if1 .left
 
--- So many events, at most, and so many starts.
-few : (c : tie.After-struct-known Inv-loop2 μ-loop2 Inv-loop μ-loop) → (ended c .ends .result .events ≤ turn (piece (told (ended c))) .before .loop .n + 24) × (c .before .before .starts-of .result ≤ 64)
-few c =
-    let e = ended c in
-    let f = e .ends .ensures in
-    (omega (arith, f .turns .counted, f .turns .deep, asked (told e) .0 .few), omega (arith, f .starts, c .before .before .starts-of .ensures))
-
 -- So many events, with the starts.
 events : (c : tie.At-loop2 Inv-loop2 μ-loop2 Inv-loop μ-loop) →
     let s = c .before .before in
@@ -176,7 +169,9 @@ starts-of-requires : tie.Need-starts-of-requires Inv-loop2 μ-loop2 Inv-loop μ-
 starts-of-requires c κs = search needs
 
 add-if2 : tie.Need-add-if2 Inv-loop2 μ-loop2 Inv-loop μ-loop
-add-if2 c = omega (arith, few c .1, ended c .ends .ensures .turns .ranged .few)
+add-if2 c =
+    let f = ended c .ends .ensures in
+    omega (arith, f .starts, c .before .before .starts-of .ensures, f .turns .ranged .few)
 
 refusal-requires-2 : tie.Need-refusal-requires-2 Inv-loop2 μ-loop2 Inv-loop μ-loop
 refusal-requires-2 c κs = search needs
