@@ -38,7 +38,7 @@ use Rattle.list_table.specs.Means.{Lists}
 use Rattle.type_tables.specs.Means.{Tables, Entered}
 use Rattle.open_elements.specs.declared.Open.{Open}
 use Rattle.open_elements.specs.declared.Outcome.{Outcome}
-use Rattle.open_elements.specs.Means.{Becomes, fresh, Ranged, Stands}
+use Rattle.open_elements.specs.Means.{Becomes, fresh, Ranged}
 use Rattle.open_elements.specs.Becomes.{StandsWith, was-refused, was-got}
 use Rattle.open_elements.specs.Laws.{stands-fresh, ranged-fresh}
 use Rattle.settling.specs.Settled.{takes, Gives, Settles}
@@ -48,7 +48,7 @@ use Rattle.pieces.specs.declared.Piece.the-variants as found
 use Rattle.pieces.specs.Means.{skips, separates, malformed, undeclaredStart, undeclaredEnd, ToSettle, runs, starts, Finds, MarksAt, Onward}
 use Rattle.document_events.specs.declared.Counted.{Counted}
 use Rattle.document_events.specs.declared.Counted.the-variants as counted
-use Rattle.document_events.specs.Means.{EventsOf, Turned, Comes, Going}
+use Rattle.document_events.specs.Means.{EventsOf, Turned, Going}
 use Rattle.document_events.specs.Again.{stands-again}
 
 -- What a token comes to
@@ -134,11 +134,6 @@ going-start c s elements index rows places facts M lists d begun numbers bytes q
           };
     })
 
--- What piece_at ensures of what stands at `at`.
-abbrev pub PieceSaid : Settings → (s elements index rows places facts M lists d begun : List ℕ) (at : ℕ) → Open → Piece → (marks : List ℕ) → Type 0
-PieceSaid c s elements index rows places facts M lists d begun at o p marks =
-    (es : List Element) → Indexed s es elements index → Tables s es rows places facts M → Lists c s es lists → (v : rules.Open) → Entered es M begun (o .count) (o .element .0) (o .place .0) v → Finds c s es d v at p × MarksAt c s es d at p marks
-
 module _ {c : Settings} {s elements index rows places facts M lists d begun numbers numbersNow bytes bytesNow : List ℕ} {n at : ℕ} {o : Open} (g : Going c s elements index rows places facts M lists d begun numbers numbersNow bytes bytesNow n at o) where
   -- A token up to `after` was settled and brought these events, or was refused; what was put are these with attribute events before each start.
   module _ {after : ℕ} (on : (at < after) × (after ≤ length d)) {r : Outcome} {begun′ numbers′ bytes′ : List ℕ} (ranged : Ranged (r .open)) (events : List Event) {written : List Event} (puts : Puts numbersNow bytesNow n written numbers′ bytes′)
@@ -170,112 +165,6 @@ module _ {c : Settings} {s elements index rows places facts M lists d begun numb
 
     refuses-there : (r .number ≡ 0 → ⊥) → {answer : Counted} → answer ≡ counted.Refused (record { number = r .number; at = at }) → (es : List Element) → Indexed s es elements index → Tables s es rows places facts M → Lists c s es lists → EventsOf c s es d numbers numbers′ bytes bytes′ answer
     refuses-there z q es i t l = rw q (turned es i t l .refuses (omega arith))
-
-  module _ (h : at < length d) (p : Piece) {marks : List ℕ} (said : PieceSaid c s elements index rows places facts M lists d begun at o p marks) where
-    finds : (es : List Element) (i : Indexed s es elements index) (t : Tables s es rows places facts M) (l : Lists c s es lists) → Finds c s es d (g .any es i t l .state .current) at p
-    finds es i t l = said es i t l (g .any es i t l .state .current) (g .any es i t l .stands .current .entered) .0
-
-    gives : (es : List Element) → Indexed s es elements index → Tables s es rows places facts M → Lists c s es lists → MarksAt c s es d at p marks
-    gives es i t l = said es i t l (g .any es i t l .state .current) (g .any es i t l .stands .current .entered) .1
-
-    pub piece-refuses : {f : Fault} → p ≡ found.Refused f → (es : List Element) → Indexed s es elements index → Tables s es rows places facts M → Lists c s es lists → document c s es (decided s es) d ≡ refused (f .number) (f .at)
-    piece-refuses {f} q es i t l =
-        let came = g .any es i t l in
-        refused-unread c s es d at (came .state) h (came .reaches) f (rw q at (finds es i t l))
-
-    module _ (onward : Onward (length d) at p) where
-      -- Each moves on within the document.
-      pub token-range : {x : ElementNo} {after : ℕ} → p ≡ found.Token x after → (at < after) × (after ≤ length d)
-      token-range {x} {after} q = let (f, k, m) : (x .0 ≤ 64) × (at < after) × (after ≤ length d) = rw q at onward in (k, m)
-
-      pub end-range : {x : ElementNo} {after : ℕ} → p ≡ found.End x after → (at < after) × (after ≤ length d)
-      end-range {x} {after} q = let (f, k, m) : (x .0 ≤ 64) × (at < after) × (after ≤ length d) = rw q at onward in (k, m)
-
-      pub passed-range : {after : ℕ} → p ≡ found.Passed after → (at < after) × (after ≤ length d)
-      passed-range q = rw q at onward
-
-      -- What is ignored leaves the open elements as they were.
-      pub going-passed : {after : ℕ} → p ≡ found.Passed after → Going c s elements index rows places facts M lists d begun numbers numbersNow bytes bytesNow n after o
-      going-passed {after} q =
-          let (k, m) = passed-range q in
-          record {
-            inside = m;
-            few = omega (arith, g .few);
-            ranged = g .ranged;
-            numbers-same = g .numbers-same;
-            bytes-same = g .bytes-same;
-            any = λ es i t l.
-                let came = g .any es i t l in
-                record { state = came .state; reaches = by-kind es (came .state) (came .reaches) (rw q at (finds es i t l)); stands = came .stands; counted = came .counted; holds = came .holds };
-          }
-        where
-          by-kind : (es : List Element) (z : State) → Reaches c s es d at z → Finds c s es d (z .current) at (found.Passed after) → Reaches c s es d after z
-          by-kind es z reach (skips e) = reaches-skipped reach h e
-          by-kind es z reach (separates e n a) = rw a (reaches-blank reach h e n)
-
-      module _ (small : length d ≤ 65535) {x : ElementNo} {after : ℕ} where
-        asked : (x .0 ≤ 64) × (at < after) × (after ≤ length d) → (x .0 ≤ 64) × (at ≤ after) × (after < 4294967296) × (n + 1100 < 4294967296)
-        asked (f, k, m) = (f, omega arith, omega arith, omega (arith, g .few))
-
-        pub token-asked : p ≡ found.Token x after → Ranged o × (x .0 ≤ 64) × (at ≤ after) × (after < 4294967296) × (n + 1100 < 4294967296)
-        token-asked q = let (a, b, c, e) = asked (rw q at onward) in (g .ranged, a, b, c, e)
-
-        pub end-asked : p ≡ found.End x after → Ranged o × (at ≤ after) × (after < 4294967296) × (x .0 ≤ 64) × (n + 1100 < 4294967296)
-        end-asked q = let (a, b, c, e) = asked (rw q at onward) in (g .ranged, b, c, a, e)
-
-      module _ {x : ElementNo} {after : ℕ} {r : Outcome} {numbers′ bytes′ : List ℕ} where
-        -- A start tag or a run of data.
-        module _ {begun′ : List ℕ} (q : p ≡ found.Token x after) (t : Settles rows places facts M lists marks (x .0) at after n o begun numbersNow bytesNow r begun′ numbers′ bytes′) where
-          to-settle : (es : List Element) (i : Indexed s es elements index) (u : Tables s es rows places facts M) (l : Lists c s es lists) → ToSettle c s es d (g .any es i u l .state .current) at (x .0) after
-          to-settle es i u l = rw q at (finds es i u l)
-
-          declared : (es : List Element) → Indexed s es elements index → Tables s es rows places facts M → Lists c s es lists → x .0 ≤ length es
-          declared es i u l = settles-declared c s es d (g .any es i u l .state .current) at (x .0) after (to-settle es i u l)
-
-          settled : (es : List Element) (i : Indexed s es elements index) (u : Tables s es rows places facts M) (l : Lists c s es lists) → Turned c s es d M begun′ at after (g .any es i u l .state .events ++ t .events) r
-          settled es i u l =
-              let came = g .any es i u l in
-              let z = came .state in
-              turned-token c s es d M begun′ at z h (came .reaches) (z .events ++ t .events) r (x .0) after (u .accepted) (to-settle es i u l) (t .settles s es u z (came .stands) (declared es i u l))
-
-          -- The tag's attributes are marked.
-          tag-gives : (es : List Element) → Indexed s es elements index → Tables s es rows places facts M → Lists c s es lists → (v : rules.Open) → ToSettle c s es d v at (x .0) after → 1 ≤ x .0 → Gives c s es d (x .0) at marks
-          tag-gives es i u l v (runs z f) some = absurd (omega arith)
-          tag-gives es i u l v (starts k f) some =
-              let there = under-piece c s es d at (f .there) .0 in
-              let marked : MarksAt c s es d at (found.Token x after) marks = rw q at (gives es i u l) in
-              record { tag = _; there = piece-start-tag c d at there; marked = marked some _ there }
-
-          added : r .number ≡ 0 → (es : List Element) → Indexed s es elements index → Tables s es rows places facts M → Lists c s es lists → t .written ≡ withAttributes c s es d (t .events)
-          added fine es i u l =
-              let came = g .any es i u l in
-              t .adds fine s es u (came .state) (came .stands) (declared es i u l) c d l (tag-gives es i u l (came .state .current) (to-settle es i u l))
-
-          pub going-token : r .number ≡ 0 → Going c s elements index rows places facts M lists d begun′ numbers numbers′ bytes bytes′ (r .events) after (r .open)
-          going-token = going-on (token-range q) (t .ranged) (t .events) (t .puts) (t .counted) (t .few) settled added
-
-          pub token-refuses : (r .number ≡ 0 → ⊥) → {answer : Counted} → answer ≡ counted.Refused (record { number = r .number; at = at }) → (es : List Element) → Indexed s es elements index → Tables s es rows places facts M → Lists c s es lists → EventsOf c s es d numbers numbers′ bytes bytes′ answer
-          token-refuses = refuses-there (token-range q) (t .ranged) (t .events) (t .puts) (t .counted) (t .few) settled added
-
-        -- An end tag.
-        module _ (q : p ≡ found.End x after) (t : Tagged facts (x .0) at after n o numbersNow bytesNow r numbers′ bytes′) where
-          ended : (es : List Element) (i : Indexed s es elements index) (u : Tables s es rows places facts M) (l : Lists c s es lists) → Turned c s es d M begun at after (g .any es i u l .state .events ++ t .brings .events) r
-          ended es i u l =
-              let came = g .any es i u l in
-              let z = came .state in
-              turned-end c s es d M begun at z h (came .reaches) (z .events ++ t .brings .events) r (x .0) after (rw q at (finds es i u l)) (t .closes s es (u .raised) (u .facts-say) M begun z (came .stands))
-
-          alone : r .number ≡ 0 → (es : List Element) → Indexed s es elements index → Tables s es rows places facts M → Lists c s es lists → t .brings .events ≡ withAttributes c s es d (t .brings .events)
-          alone fine es i u l = sym (t .brings .plain .plain c s es d)
-
-          many : length (t .brings .events) ≤ 1050
-          many = omega (arith, t .few)
-
-          pub going-end : r .number ≡ 0 → Going c s elements index rows places facts M lists d begun numbers numbers′ bytes bytes′ (r .events) after (r .open)
-          going-end = going-on (end-range q) (t .brings .ranged) (t .brings .events) (t .brings .puts) (t .brings .counted) many ended alone
-
-          pub end-tag-refuses : (r .number ≡ 0 → ⊥) → {answer : Counted} → answer ≡ counted.Refused (record { number = r .number; at = at }) → (es : List Element) → Indexed s es elements index → Tables s es rows places facts M → Lists c s es lists → EventsOf c s es d numbers numbers′ bytes bytes′ answer
-          end-tag-refuses = refuses-there (end-range q) (t .brings .ranged) (t .brings .events) (t .brings .puts) (t .brings .counted) many ended alone
 
   -- All is read.
   module _ (over : length d ≤ at) where
@@ -317,3 +206,115 @@ module _ {c : Settings} {s elements index rows places facts M lists d begun numb
             held .bytes-hold,
             omega (arith, b .counted, t .few, g .few, g .inside),
           )
+
+-- A turn of the loop: the document has something at `at`, and this is what piece_at ensures of it, the attributes of a start tag being marked.
+pub record Turn (c : Settings) (s elements index rows places facts M lists d begun numbers numbersNow bytes bytesNow : List ℕ) (n at : ℕ) (o : Open) (p : Piece) (marks : List ℕ) : Type 0 where
+  pub going : Going c s elements index rows places facts M lists d begun numbers numbersNow bytes bytesNow n at o
+  pub inside : at < length d
+  pub onward : Onward (length d) at p
+  pub said : (es : List Element) → Indexed s es elements index → Tables s es rows places facts M → Lists c s es lists → (v : rules.Open) → Entered es M begun (o .count) (o .element .0) (o .place .0) v → Finds c s es d v at p × MarksAt c s es d at p marks
+
+module _ {c : Settings} {s elements index rows places facts M lists d begun numbers numbersNow bytes bytesNow : List ℕ} {n at : ℕ} {o : Open} {p : Piece} {marks : List ℕ} (turn : Turn c s elements index rows places facts M lists d begun numbers numbersNow bytes bytesNow n at o p marks) where
+  finds : (es : List Element) (i : Indexed s es elements index) (t : Tables s es rows places facts M) (l : Lists c s es lists) → Finds c s es d (turn .going .any es i t l .state .current) at p
+  finds es i t l = turn .said es i t l (turn .going .any es i t l .state .current) (turn .going .any es i t l .stands .current .entered) .0
+
+  gives : (es : List Element) → Indexed s es elements index → Tables s es rows places facts M → Lists c s es lists → MarksAt c s es d at p marks
+  gives es i t l = turn .said es i t l (turn .going .any es i t l .state .current) (turn .going .any es i t l .stands .current .entered) .1
+
+  pub piece-refuses : {f : Fault} → p ≡ found.Refused f → (es : List Element) → Indexed s es elements index → Tables s es rows places facts M → Lists c s es lists → document c s es (decided s es) d ≡ refused (f .number) (f .at)
+  piece-refuses {f} q es i t l =
+      let came = turn .going .any es i t l in
+      refused-unread c s es d at (came .state) (turn .inside) (came .reaches) f (rw q at (finds es i t l))
+
+  -- Each moves on within the document.
+  pub token-range : {x : ElementNo} {after : ℕ} → p ≡ found.Token x after → (at < after) × (after ≤ length d)
+  token-range {x} {after} q = let (f, k, m) : (x .0 ≤ 64) × (at < after) × (after ≤ length d) = rw q at (turn .onward) in (k, m)
+
+  pub end-range : {x : ElementNo} {after : ℕ} → p ≡ found.End x after → (at < after) × (after ≤ length d)
+  end-range {x} {after} q = let (f, k, m) : (x .0 ≤ 64) × (at < after) × (after ≤ length d) = rw q at (turn .onward) in (k, m)
+
+  pub passed-range : {after : ℕ} → p ≡ found.Passed after → (at < after) × (after ≤ length d)
+  passed-range q = rw q at (turn .onward)
+
+  -- What is ignored leaves the open elements as they were.
+  pub going-passed : {after : ℕ} → p ≡ found.Passed after → Going c s elements index rows places facts M lists d begun numbers numbersNow bytes bytesNow n after o
+  going-passed {after} q =
+      let (k, m) = passed-range q in
+      record {
+        inside = m;
+        few = omega (arith, turn .going .few);
+        ranged = turn .going .ranged;
+        numbers-same = turn .going .numbers-same;
+        bytes-same = turn .going .bytes-same;
+        any = λ es i t l.
+            let came = turn .going .any es i t l in
+            record { state = came .state; reaches = by-kind es (came .state) (came .reaches) (rw q at (finds es i t l)); stands = came .stands; counted = came .counted; holds = came .holds };
+      }
+    where
+      by-kind : (es : List Element) (z : State) → Reaches c s es d at z → Finds c s es d (z .current) at (found.Passed after) → Reaches c s es d after z
+      by-kind es z reach (skips e) = reaches-skipped reach (turn .inside) e
+      by-kind es z reach (separates e n a) = rw a (reaches-blank reach (turn .inside) e n)
+
+  module _ (small : length d ≤ 65535) {x : ElementNo} {after : ℕ} where
+    asked : (x .0 ≤ 64) × (at < after) × (after ≤ length d) → (x .0 ≤ 64) × (at ≤ after) × (after < 4294967296) × (n + 1100 < 4294967296)
+    asked (f, k, m) = (f, omega arith, omega arith, omega (arith, turn .going .few))
+
+    pub token-asked : p ≡ found.Token x after → Ranged o × (x .0 ≤ 64) × (at ≤ after) × (after < 4294967296) × (n + 1100 < 4294967296)
+    token-asked q = let (a, b, c, e) = asked (rw q at (turn .onward)) in (turn .going .ranged, a, b, c, e)
+
+    pub end-asked : p ≡ found.End x after → Ranged o × (at ≤ after) × (after < 4294967296) × (x .0 ≤ 64) × (n + 1100 < 4294967296)
+    end-asked q = let (a, b, c, e) = asked (rw q at (turn .onward)) in (turn .going .ranged, b, c, a, e)
+
+  module _ {x : ElementNo} {after : ℕ} {r : Outcome} {numbers′ bytes′ : List ℕ} where
+    -- A start tag or a run of data.
+    module _ {begun′ : List ℕ} (q : p ≡ found.Token x after) (t : Settles rows places facts M lists marks (x .0) at after n o begun numbersNow bytesNow r begun′ numbers′ bytes′) where
+      to-settle : (es : List Element) (i : Indexed s es elements index) (u : Tables s es rows places facts M) (l : Lists c s es lists) → ToSettle c s es d (turn .going .any es i u l .state .current) at (x .0) after
+      to-settle es i u l = rw q at (finds es i u l)
+
+      declared : (es : List Element) → Indexed s es elements index → Tables s es rows places facts M → Lists c s es lists → x .0 ≤ length es
+      declared es i u l = settles-declared c s es d (turn .going .any es i u l .state .current) at (x .0) after (to-settle es i u l)
+
+      settled : (es : List Element) (i : Indexed s es elements index) (u : Tables s es rows places facts M) (l : Lists c s es lists) → Turned c s es d M begun′ at after (turn .going .any es i u l .state .events ++ t .events) r
+      settled es i u l =
+          let came = turn .going .any es i u l in
+          let z = came .state in
+          turned-token c s es d M begun′ at z (turn .inside) (came .reaches) (z .events ++ t .events) r (x .0) after (u .accepted) (to-settle es i u l) (t .settles s es u z (came .stands) (declared es i u l))
+
+      -- The tag's attributes are marked.
+      tag-gives : (es : List Element) → Indexed s es elements index → Tables s es rows places facts M → Lists c s es lists → (v : rules.Open) → ToSettle c s es d v at (x .0) after → 1 ≤ x .0 → Gives c s es d (x .0) at marks
+      tag-gives es i u l v (runs z f) some = absurd (omega arith)
+      tag-gives es i u l v (starts k f) some =
+          let there = under-piece c s es d at (f .there) .0 in
+          let marked : MarksAt c s es d at (found.Token x after) marks = rw q at (gives es i u l) in
+          record { tag = _; there = piece-start-tag c d at there; marked = marked some _ there }
+
+      added : r .number ≡ 0 → (es : List Element) → Indexed s es elements index → Tables s es rows places facts M → Lists c s es lists → t .written ≡ withAttributes c s es d (t .events)
+      added fine es i u l =
+          let came = turn .going .any es i u l in
+          t .adds fine s es u (came .state) (came .stands) (declared es i u l) c d l (tag-gives es i u l (came .state .current) (to-settle es i u l))
+
+      pub going-token : r .number ≡ 0 → Going c s elements index rows places facts M lists d begun′ numbers numbers′ bytes bytes′ (r .events) after (r .open)
+      going-token = going-on (turn .going) (token-range q) (t .ranged) (t .events) (t .puts) (t .counted) (t .few) settled added
+
+      pub token-refuses : (r .number ≡ 0 → ⊥) → {answer : Counted} → answer ≡ counted.Refused (record { number = r .number; at = at }) → (es : List Element) → Indexed s es elements index → Tables s es rows places facts M → Lists c s es lists → EventsOf c s es d numbers numbers′ bytes bytes′ answer
+      token-refuses = refuses-there (turn .going) (token-range q) (t .ranged) (t .events) (t .puts) (t .counted) (t .few) settled added
+
+    -- An end tag.
+    module _ (q : p ≡ found.End x after) (t : Tagged facts (x .0) at after n o numbersNow bytesNow r numbers′ bytes′) where
+      ended : (es : List Element) (i : Indexed s es elements index) (u : Tables s es rows places facts M) (l : Lists c s es lists) → Turned c s es d M begun at after (turn .going .any es i u l .state .events ++ t .brings .events) r
+      ended es i u l =
+          let came = turn .going .any es i u l in
+          let z = came .state in
+          turned-end c s es d M begun at z (turn .inside) (came .reaches) (z .events ++ t .brings .events) r (x .0) after (rw q at (finds es i u l)) (t .closes s es (u .raised) (u .facts-say) M begun z (came .stands))
+
+      alone : r .number ≡ 0 → (es : List Element) → Indexed s es elements index → Tables s es rows places facts M → Lists c s es lists → t .brings .events ≡ withAttributes c s es d (t .brings .events)
+      alone fine es i u l = sym (t .brings .plain .plain c s es d)
+
+      many : length (t .brings .events) ≤ 1050
+      many = omega (arith, t .few)
+
+      pub going-end : r .number ≡ 0 → Going c s elements index rows places facts M lists d begun numbers numbers′ bytes bytes′ (r .events) after (r .open)
+      going-end = going-on (turn .going) (end-range q) (t .brings .ranged) (t .brings .events) (t .brings .puts) (t .brings .counted) many ended alone
+
+      pub end-tag-refuses : (r .number ≡ 0 → ⊥) → {answer : Counted} → answer ≡ counted.Refused (record { number = r .number; at = at }) → (es : List Element) → Indexed s es elements index → Tables s es rows places facts M → Lists c s es lists → EventsOf c s es d numbers numbers′ bytes bytes′ answer
+      end-tag-refuses = refuses-there (turn .going) (end-range q) (t .brings .ranged) (t .brings .events) (t .brings .puts) (t .brings .counted) many ended alone

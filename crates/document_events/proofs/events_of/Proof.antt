@@ -18,7 +18,7 @@ use Rattle.inferring.specs.Starts.{Along, along-start, along-next}
 use Rattle.placing.specs.Places.{places-refused, places-opened}
 use Rattle.settling.specs.Tokens.{settles-over, settles-many, settles-placed}
 use Rattle.document_events.specs.Means.{Going}
-use Rattle.document_events.specs.Turns.{going-start, piece-refuses, token-asked, token-range, token-refuses, going-token, end-asked, end-range, end-tag-refuses, going-end, passed-range, going-passed, finish-asked, end-refuses, end-counts}
+use Rattle.document_events.specs.Turns.{going-start, Turn, piece-refuses, token-asked, token-range, token-refuses, going-token, end-asked, end-range, end-tag-refuses, going-end, passed-range, going-passed, finish-asked, end-refuses, end-counts}
 use Rattle.document_events.proofs.events_of.Statement.{statement}
 use Rattle.document_events.proofs.events_of.Tie as tie
 
@@ -38,26 +38,57 @@ abbrev μ-loop : tie.MeasureT-loop
 μ-loop long s elements index rows places facts members classes d numbers₀ bytes₀ at₀ n₀ o₀ begun₀ numbers bytes at n o begun =
     length d - at
 
--- The function's entry, from a turn of the loop, and that turn from what stands at `at`.
-abbrev first : tie.In-loop Inv-loop2 μ-loop2 Inv-loop μ-loop → tie.Start Inv-loop2 μ-loop2 Inv-loop μ-loop
-first c = c .before .before .before .before .before .before .before .before
+-- Points of the program, each from a later one: the function's entry and the turn of the loop, then what stands at `at`, where it is known to be a token.
+abbrev first : tie.At-loop Inv-loop2 μ-loop2 Inv-loop μ-loop → tie.Start Inv-loop2 μ-loop2 Inv-loop μ-loop
+first c = c .before .before .before .before .before .before .before
 
 abbrev turn : tie.After-piece-at Inv-loop2 μ-loop2 Inv-loop μ-loop → tie.In-loop Inv-loop2 μ-loop2 Inv-loop μ-loop
 turn c = c .before .before .before .before
 
--- What stands there, from where it is known to be a token.
 abbrev piece : tie.After-known-told Inv-loop2 μ-loop2 Inv-loop μ-loop → tie.After-piece-at Inv-loop2 μ-loop2 Inv-loop μ-loop
 piece c = c .before .before .before
 
--- The token, from where ends were inferred; where they were, from where the state come to is at hand; that, from where the place was taken.
+-- The token before its ends are inferred, the ends before its starts, and the starts before its place.
 abbrev told : tie.After-ends Inv-loop2 μ-loop2 Inv-loop μ-loop → tie.After-known-told Inv-loop2 μ-loop2 Inv-loop μ-loop
 told c = c .before .before .before .before .before .before
 
 abbrev ended : tie.After-struct-known Inv-loop2 μ-loop2 Inv-loop μ-loop → tie.After-ends Inv-loop2 μ-loop2 Inv-loop μ-loop
 ended c = c .before .before .before .before .before .before .before
 
+abbrev stopped : tie.At-loop2 Inv-loop2 μ-loop2 Inv-loop μ-loop → tie.After-ends Inv-loop2 μ-loop2 Inv-loop μ-loop
+stopped c = ended (c .before .before)
+
 abbrev inferred : tie.After-placed Inv-loop2 μ-loop2 Inv-loop μ-loop → tie.After-loop2 Inv-loop2 μ-loop2 Inv-loop μ-loop
 inferred c = c .before .before .before .before
+
+abbrev placed : tie.After-struct-known2 Inv-loop2 μ-loop2 Inv-loop μ-loop → tie.After-placed Inv-loop2 μ-loop2 Inv-loop μ-loop
+placed c = c .before .before .before .before .before
+
+abbrev token : tie.After-struct-known2 Inv-loop2 μ-loop2 Inv-loop μ-loop → tie.After-known-told Inv-loop2 μ-loop2 Inv-loop μ-loop
+token c = told (stopped (inferred (placed c) .before))
+
+-- What stands at `at` where it is an end tag; the end tag and the document's end, settled.
+abbrev end-piece : tie.After-known-told2 Inv-loop2 μ-loop2 Inv-loop μ-loop → tie.After-piece-at Inv-loop2 μ-loop2 Inv-loop μ-loop
+end-piece c = c .before .before .before
+
+abbrev told-end : tie.After-end-tag Inv-loop2 μ-loop2 Inv-loop μ-loop → tie.After-known-told2 Inv-loop2 μ-loop2 Inv-loop μ-loop
+told-end c = c .before .before .before
+
+abbrev tagged : tie.After-struct-known3 Inv-loop2 μ-loop2 Inv-loop μ-loop → tie.After-end-tag Inv-loop2 μ-loop2 Inv-loop μ-loop
+tagged c = c .before .before .before .before .before
+
+abbrev finished : tie.After-struct-known4 Inv-loop2 μ-loop2 Inv-loop μ-loop → tie.After-finish Inv-loop2 μ-loop2 Inv-loop μ-loop
+finished c = c .before .before .before .before .before
+
+abbrev over : tie.After-finish Inv-loop2 μ-loop2 Inv-loop μ-loop → tie.After-loop Inv-loop2 μ-loop2 Inv-loop μ-loop
+over c = c .before .before .before
+
+-- A turn of the loop.
+at-turn : (c : tie.After-piece-at Inv-loop2 μ-loop2 Inv-loop μ-loop) →
+    let a = first (turn c .before) .args in
+    let l = turn c .before .loop in
+    Turn (settings (a .long)) (a .s .now) (a .elements .now) (a .index .now) (a .rows .now) (a .places .now) (a .facts .now) (a .members .now) (a .d .now) (l .begun) (a .numbers .now) (l .numbers) (a .bytes .now) (l .bytes) (l .n) (l .at) (l .o) (c .piece-at .result)
+at-turn c = record { going = turn c .before .loop .inv; inside = omega (arith, turn c .loop-test .taken); onward = c .piece-at .ensures .0; said = c .piece-at .ensures .1 }
 
 -- Where the token ends.
 abbrev after : tie.After-known-told Inv-loop2 μ-loop2 Inv-loop μ-loop → ℕ
@@ -67,32 +98,19 @@ after c = c .before .p .given .0 .1 .0
 asked : (c : tie.After-known-told Inv-loop2 μ-loop2 Inv-loop μ-loop) →
     let l = turn (piece c) .before .loop in
     Ranged (l .o) × (c .before .p .given .0 .0 .0 ≤ 64) × (l .at ≤ after c) × (after c < 4294967296) × (l .n + 50 < 4294967296)
-asked c =
-    let p = piece c in
-    let t = turn p in
-    token-asked (t .before .loop .inv) (omega (arith, t .loop-test .taken)) (p .piece-at .result) (p .piece-at .ensures .1) (p .piece-at .ensures .0) (first t .pre .2) (c .before .p .given .1)
+asked c = token-asked (at-turn (piece c)) (first (turn (piece c) .before) .pre .2) (c .before .p .given .1)
 
 -- It ends behind where it begins, and within the document.
 range : (c : tie.After-known-told Inv-loop2 μ-loop2 Inv-loop μ-loop) →
     let t = turn (piece c) in
-    (t .before .loop .at < after c) × (after c ≤ length (first t .args .d .now))
-range c =
-    let p = piece c in
-    let t = turn p in
-    token-range (t .before .loop .inv) (omega (arith, t .loop-test .taken)) (p .piece-at .result) (p .piece-at .ensures .1) (p .piece-at .ensures .0) (c .before .p .given .1)
+    (t .before .loop .at < after c) × (after c ≤ length (first (t .before) .args .d .now))
+range c = token-range (at-turn (piece c)) (c .before .p .given .1)
 
 -- The document is not over.
 on : (c : tie.After-ends Inv-loop2 μ-loop2 Inv-loop μ-loop) →
     let t = turn (piece (told c)) in
-    (s : List ℕ) (es : List Element) (z : State) → Stands es (first t .args .members .now) (t .before .loop .begun) (t .before .loop .o) z → isOver s es (decided s es) z ≡ false
+    (s : List ℕ) (es : List Element) (z : State) → Stands es (first (t .before) .args .members .now) (t .before .loop .begun) (t .before .loop .o) z → isOver s es (decided s es) z ≡ false
 on c s es z stands = sym (over-says s stands) ∙ sym (c .before .before .before .before .before .is-over .ensures) ∙ c .before .before .before .before .if1 .left
-
--- So many events, at most, and so many starts.
-few : (c : tie.After-struct-known Inv-loop2 μ-loop2 Inv-loop μ-loop) → (ended c .ends .result .events ≤ turn (piece (told (ended c))) .before .loop .n + 24) × (c .before .before .starts-of .result ≤ 64)
-few c =
-    let e = ended c in
-    let f = e .ends .ensures in
-    (omega (arith, f .turns .counted, f .turns .deep, asked (told e) .0 .few), omega (arith, f .starts, c .before .before .starts-of .ensures))
 
 -- So many events, with the starts.
 events : (c : tie.At-loop2 Inv-loop2 μ-loop2 Inv-loop μ-loop) →
@@ -117,7 +135,7 @@ piece-at-requires : tie.Need-piece-at-requires Inv-loop2 μ-loop2 Inv-loop μ-lo
 piece-at-requires c κs =
     let t = c .before .before .before in
     let g = t .before .loop .inv in
-    let p = first t .pre in
+    let p = first (t .before) .pre in
     (p .0, p .1, g .ranged .few, g .ranged .element, g .ranged .place, omega (arith, t .loop-test .taken), p .2)
 
 enum-known-p : tie.Need-enum-known-p Inv-loop2 μ-loop2 Inv-loop μ-loop
@@ -130,20 +148,17 @@ refusal-requires : tie.Need-refusal-requires Inv-loop2 μ-loop2 Inv-loop μ-loop
 refusal-requires c κs = search needs
 
 same-length : tie.Need-same-length Inv-loop2 μ-loop2 Inv-loop μ-loop
-same-length c = c .before .before .before .before .before .before .before .before .before .before .before .loop .inv .numbers-same
+same-length c = turn (piece (c .before .before .before)) .before .loop .inv .numbers-same
 
 same-length-2 : tie.Need-same-length-2 Inv-loop2 μ-loop2 Inv-loop μ-loop
-same-length-2 c = c .before .before .before .before .before .before .before .before .before .before .before .loop .inv .bytes-same
+same-length-2 c = turn (piece (c .before .before .before)) .before .loop .inv .bytes-same
 
 returns : tie.Need-returns Inv-loop2 μ-loop2 Inv-loop μ-loop
 returns c =
-    let over = c .before .before in
-    let k = over .before in
-    let p = piece k in
-    let t = turn p in
-    let g = t .before .loop .inv in
-    let s = settles-over _ _ _ _ _ _ _ _ _ _ _ _ (g .ranged) (λ s es z stands. sym (over-says s stands) ∙ sym (over .is-over .ensures) ∙ c .before .if1 .taken) in
-    token-refuses g (omega (arith, t .loop-test .taken)) (p .piece-at .result) (p .piece-at .ensures .1) (p .piece-at .ensures .0) (k .before .p .given .1) s (λ z. omega arith) (c .refusal .ensures)
+    let k = c .before .before .before in
+    let t = at-turn (piece k) in
+    let s = settles-over _ _ _ _ _ _ _ _ _ _ _ _ (t .going .ranged) (λ s es z stands. sym (over-says s stands) ∙ sym (c .before .before .is-over .ensures) ∙ c .before .if1 .taken) in
+    token-refuses t (k .before .p .given .1) s (λ z. omega arith) (c .refusal .ensures)
 
 ends-requires : tie.Need-ends-requires Inv-loop2 μ-loop2 Inv-loop μ-loop
 ends-requires c κs =
@@ -154,37 +169,39 @@ starts-of-requires : tie.Need-starts-of-requires Inv-loop2 μ-loop2 Inv-loop μ-
 starts-of-requires c κs = search needs
 
 add-if2 : tie.Need-add-if2 Inv-loop2 μ-loop2 Inv-loop μ-loop
-add-if2 c = omega (arith, few c .1, ended c .ends .ensures .turns .ranged .few)
+add-if2 c =
+    let f = ended c .ends .ensures in
+    omega (arith, f .starts, c .before .before .starts-of .ensures, f .turns .ranged .few)
 
 refusal-requires-2 : tie.Need-refusal-requires-2 Inv-loop2 μ-loop2 Inv-loop μ-loop
 refusal-requires-2 c κs = search needs
 
 same-length-3 : tie.Need-same-length-3 Inv-loop2 μ-loop2 Inv-loop μ-loop
-same-length-3 c = c .before .before .before .before .before .before .before .before .before .ends .ensures .turns .puts .numbers-kept ∙ c .before .before .before .before .before .before .before .before .before .before .before .before .before .before .before .before .before .before .before .before .before .before .before .loop .inv .numbers-same
+same-length-3 c = ended (c .before .before) .ends .ensures .turns .puts .numbers-kept ∙ turn (piece (told (ended (c .before .before)))) .before .loop .inv .numbers-same
 
 same-length-4 : tie.Need-same-length-4 Inv-loop2 μ-loop2 Inv-loop μ-loop
-same-length-4 c = c .before .before .before .before .before .before .before .before .before .ends .ensures .turns .puts .bytes-kept ∙ c .before .before .before .before .before .before .before .before .before .before .before .before .before .before .before .before .before .before .before .before .before .before .before .loop .inv .bytes-same
+same-length-4 c = ended (c .before .before) .ends .ensures .turns .puts .bytes-kept ∙ turn (piece (told (ended (c .before .before)))) .before .loop .inv .bytes-same
 
 returns-2 : tie.Need-returns-2 Inv-loop2 μ-loop2 Inv-loop μ-loop
 returns-2 c =
-    let e = c .before .before .before .before .before .before .before .before .before in
+    let e = ended (c .before .before) in
     let k = told e in
-    let p = piece k in
-    let t = turn p in
-    let g = t .before .loop .inv in
-    let s = settles-many (after k) (g .ranged .few) (on e) (e .ends .ensures) (omega (arith, c .before .if2 .taken, c .before .before .before .before .starts-of .ensures)) in
-    token-refuses g (omega (arith, t .loop-test .taken)) (p .piece-at .result) (p .piece-at .ensures .1) (p .piece-at .ensures .0) (k .before .p .given .1) s (λ z. omega arith) (c .refusal2 .ensures)
+    let t = at-turn (piece k) in
+    let s = settles-many (after k) (t .going .ranged .few) (on e) (e .ends .ensures) (omega (arith, c .before .if2 .taken, c .before .before .before .before .starts-of .ensures)) in
+    token-refuses t (k .before .p .given .1) s (λ z. omega arith) (c .refusal2 .ensures)
 
 loop2-holds : tie.Need-loop2-holds Inv-loop2 μ-loop2 Inv-loop μ-loop
-loop2-holds c = along-start _ _ _ _ _ _ _ _ _ _ _ (c .before .before .before .before .before .before .before .before .ends .ensures .turns .ranged)
+loop2-holds c = along-start _ _ _ _ _ _ _ _ _ _ _ (ended (c .before) .ends .ensures .turns .ranged)
 
 add-infer-start : tie.Need-add-infer-start Inv-loop2 μ-loop2 Inv-loop μ-loop
-add-infer-start c = omega (arith, events (c .before .before), c .before .loop2-test .taken, asked (c .before .before .before .before .before .before .before .before .before .before .before .before .before .before .before .before .before) .4)
+add-infer-start c =
+    let l = c .before .before in
+    omega (arith, events l, c .before .loop2-test .taken, asked (told (stopped l)) .4)
 
 infer-start-requires : tie.Need-infer-start-requires Inv-loop2 μ-loop2 Inv-loop μ-loop
 infer-start-requires c κs =
     let l = c .before .before .before in
-    let a = asked (l .before .before .before .before .before .before .before .before .before .before .before .before .before .before .before .before) in
+    let a = asked (told (stopped (l .before))) in
     (l .before .loop2 .inv .ranged, less l, omega (arith, a .2, a .3), omega (arith, events (l .before), l .loop2-test .taken, a .4))
 
 add-k : tie.Need-add-k Inv-loop2 μ-loop2 Inv-loop μ-loop
@@ -200,12 +217,14 @@ loop2-again c =
     along-next _ _ _ _ _ _ _ (l .before .loop2 .inv) (l .loop2-test .taken) (less l) (start .infer-start .ensures)
 
 add-placed : tie.Need-add-placed Inv-loop2 μ-loop2 Inv-loop μ-loop
-add-placed c = omega (arith, events (c .before .before), asked (c .before .before .before .before .before .before .before .before .before .before .before .before .before .before .before .before .before) .4)
+add-placed c =
+    let l = c .before .before in
+    omega (arith, events l, asked (told (stopped l)) .4)
 
 placed-requires : tie.Need-placed-requires Inv-loop2 μ-loop2 Inv-loop μ-loop
 placed-requires c κs =
     let l = c .before .before .before .before in
-    let e = l .before .before .before .before .before .before .before .before .before in
+    let e = stopped l in
     let a = asked (told e) in
     (l .loop2 .inv .ranged, e .ends .ensures .fits, a .1, a .2, a .3, omega (arith, events l, a .4))
 
@@ -213,65 +232,65 @@ refusal-requires-3 : tie.Need-refusal-requires-3 Inv-loop2 μ-loop2 Inv-loop μ-
 refusal-requires-3 c κs = search needs
 
 same-length-5 : tie.Need-same-length-5 Inv-loop2 μ-loop2 Inv-loop μ-loop
-same-length-5 c = c .before .before .before .before .before .before .before .placed .ensures .puts .numbers-kept ∙ c .before .before .before .before .before .before .before .before .before .before .before .before .loop2 .inv .puts .numbers-kept ∙ c .before .before .before .before .before .before .before .before .before .before .before .before .before .before .before .before .before .before .before .before .before .ends .ensures .turns .puts .numbers-kept ∙ c .before .before .before .before .before .before .before .before .before .before .before .before .before .before .before .before .before .before .before .before .before .before .before .before .before .before .before .before .before .before .before .before .before .before .before .loop .inv .numbers-same
+same-length-5 c =
+    let q = placed (c .before .before) in
+    let l = inferred q .before in
+    let e = stopped l in
+    q .placed .ensures .puts .numbers-kept ∙ l .loop2 .inv .puts .numbers-kept ∙ e .ends .ensures .turns .puts .numbers-kept ∙ turn (piece (told e)) .before .loop .inv .numbers-same
 
 same-length-6 : tie.Need-same-length-6 Inv-loop2 μ-loop2 Inv-loop μ-loop
-same-length-6 c = c .before .before .before .before .before .before .before .placed .ensures .puts .bytes-kept ∙ c .before .before .before .before .before .before .before .before .before .before .before .before .loop2 .inv .puts .bytes-kept ∙ c .before .before .before .before .before .before .before .before .before .before .before .before .before .before .before .before .before .before .before .before .before .ends .ensures .turns .puts .bytes-kept ∙ c .before .before .before .before .before .before .before .before .before .before .before .before .before .before .before .before .before .before .before .before .before .before .before .before .before .before .before .before .before .before .before .before .before .before .before .loop .inv .bytes-same
+same-length-6 c =
+    let q = placed (c .before .before) in
+    let l = inferred q .before in
+    let e = stopped l in
+    q .placed .ensures .puts .bytes-kept ∙ l .loop2 .inv .puts .bytes-kept ∙ e .ends .ensures .turns .puts .bytes-kept ∙ turn (piece (told e)) .before .loop .inv .bytes-same
 
 returns-3 : tie.Need-returns-3 Inv-loop2 μ-loop2 Inv-loop μ-loop
 returns-3 c =
-    let put = c .before .before .before .before .before .before .before in
-    let i = inferred put in
-    let e = i .before .before .before .before .before .before .before .before .before .before in
+    let q = placed (c .before .before) in
+    let i = inferred q in
+    let l = i .before in
+    let e = stopped l in
     let k = told e in
-    let p = piece k in
-    let t = turn p in
-    let g = t .before .loop .inv in
-    let s = settles-placed (after k) (g .ranged .few) (on e) (e .ends .ensures) (i .before .before .before .before .before .starts-of .ensures) (i .before .before .if2 .left) (i .before .loop2 .inv) (i .loop2-test .left) (places-refused (put .placed .ensures) (c .before .if3 .taken)) in
-    token-refuses g (omega (arith, t .loop-test .taken)) (p .piece-at .result) (p .piece-at .ensures .1) (p .piece-at .ensures .0) (k .before .p .given .1) s (c .before .if3 .taken) (c .refusal3 .ensures)
+    let t = at-turn (piece k) in
+    let s = settles-placed (after k) (t .going .ranged .few) (on e) (e .ends .ensures) (l .before .before .before .before .starts-of .ensures) (l .before .if2 .left) (l .loop2 .inv) (i .loop2-test .left) (places-refused (q .placed .ensures) (c .before .if3 .taken)) in
+    token-refuses t (k .before .p .given .1) s (c .before .if3 .taken) (c .refusal3 .ensures)
 
 opens-requires : tie.Need-opens-requires Inv-loop2 μ-loop2 Inv-loop μ-loop
-opens-requires c κs = asked (c .before .before .before .before .before .before .before .before .before .before .before .before .before .before .before .before .before .before .before .before .before .before .before .before .before .before .before) .1
+opens-requires c κs = asked (token (c .before .before)) .1
 
 start-requires : tie.Need-start-requires Inv-loop2 μ-loop2 Inv-loop μ-loop
 start-requires c κs =
-    let put = c .before .before .before .before .before .before .before .before .before in
-    let h = put .placed .ensures in
-    (h .ranged, h .room (c .before .before .before .if3 .left) (λ z. false≢true (sym (c .before .opens .ensures .0 z) ∙ c .if4 .taken)), asked (put .before .before .before .before .before .before .before .before .before .before .before .before .before .before .before .before .before .before .before .before) .1)
+    let h = placed (c .before .before .before .before) .placed .ensures in
+    (h .ranged, h .room (c .before .before .before .if3 .left) (λ z. false≢true (sym (c .before .opens .ensures .0 z) ∙ c .if4 .taken)), asked (token (c .before .before .before .before)) .1)
 
 loop-less : tie.Need-loop-less Inv-loop2 μ-loop2 Inv-loop μ-loop
-loop-less c =
-    let k = c .before .before .before .before .before .before .before .before .before .before .before .before .before .before .before .before .before .before .before .before .before .before .before .before .before .before .before .before .before .before in
-    omega (arith, turn (piece k) .loop-test .taken, range k)
+loop-less c = omega (arith, range (token (c .before .before .before .before .before)))
 
 loop-again : tie.Need-loop-again Inv-loop2 μ-loop2 Inv-loop μ-loop
 loop-again c =
-    let put = c .before .before .before .before .before .before .before .before .before .before in
-    let i = inferred put in
-    let e = i .before .before .before .before .before .before .before .before .before .before in
+    let q = placed (c .before .before .before .before .before) in
+    let i = inferred q in
+    let l = i .before in
+    let e = stopped l in
     let k = told e in
-    let p = piece k in
-    let t = turn p in
-    let g = t .before .loop .inv in
-    let s = settles-placed (after k) (g .ranged .few) (on e) (e .ends .ensures) (i .before .before .before .before .before .starts-of .ensures) (i .before .before .if2 .left) (i .before .loop2 .inv) (i .loop2-test .left) (places-opened (put .placed .ensures) (c .before .before .before .before .if3 .left) (asked k .1) true (rw (c .before .if4 .taken) at (c .before .before .opens .ensures)) (c .start .ensures)) in
-    going-token g (omega (arith, t .loop-test .taken)) (p .piece-at .result) (p .piece-at .ensures .1) (p .piece-at .ensures .0) (k .before .p .given .1) s (c .before .before .before .before .if3 .left)
+    let t = at-turn (piece k) in
+    let s = settles-placed (after k) (t .going .ranged .few) (on e) (e .ends .ensures) (l .before .before .before .before .starts-of .ensures) (l .before .if2 .left) (l .loop2 .inv) (i .loop2-test .left) (places-opened (q .placed .ensures) (c .before .before .before .before .if3 .left) (asked k .1) true (rw (c .before .if4 .taken) at (c .before .before .opens .ensures)) (c .start .ensures)) in
+    going-token t (k .before .p .given .1) s (c .before .before .before .before .if3 .left)
 
 loop-less-2 : tie.Need-loop-less-2 Inv-loop2 μ-loop2 Inv-loop μ-loop
-loop-less-2 c =
-    let k = c .before .before .before .before .before .before .before .before .before .before .before .before .before .before .before .before .before .before .before .before .before .before .before .before .before .before .before .before .before in
-    omega (arith, turn (piece k) .loop-test .taken, range k)
+loop-less-2 c = omega (arith, range (token (c .before .before .before .before)))
 
 loop-again-2 : tie.Need-loop-again-2 Inv-loop2 μ-loop2 Inv-loop μ-loop
 loop-again-2 c =
-    let put = c .before .before .before .before .before .before .before .before .before in
-    let i = inferred put in
-    let e = i .before .before .before .before .before .before .before .before .before .before in
+    let q = placed (c .before .before .before .before) in
+    let i = inferred q in
+    let l = i .before in
+    let e = stopped l in
     let k = told e in
-    let p = piece k in
-    let t = turn p in
-    let g = t .before .loop .inv in
-    let s = settles-placed (after k) (g .ranged .few) (on e) (e .ends .ensures) (i .before .before .before .before .before .starts-of .ensures) (i .before .before .if2 .left) (i .before .loop2 .inv) (i .loop2-test .left) (places-opened (put .placed .ensures) (c .before .before .before .if3 .left) (asked k .1) false (rw (c .if4 .left) at (c .before .opens .ensures)) refl) in
-    going-token g (omega (arith, t .loop-test .taken)) (p .piece-at .result) (p .piece-at .ensures .1) (p .piece-at .ensures .0) (k .before .p .given .1) s (c .before .before .before .if3 .left)
+    let t = at-turn (piece k) in
+    let s = settles-placed (after k) (t .going .ranged .few) (on e) (e .ends .ensures) (l .before .before .before .before .starts-of .ensures) (l .before .if2 .left) (l .loop2 .inv) (i .loop2-test .left) (places-opened (q .placed .ensures) (c .before .before .before .if3 .left) (asked k .1) false (rw (c .if4 .left) at (c .before .opens .ensures)) refl) in
+    going-token t (k .before .p .given .1) s (c .before .before .before .if3 .left)
 
 enum-known-p-2 : tie.Need-enum-known-p-2 Inv-loop2 μ-loop2 Inv-loop μ-loop
 enum-known-p-2 c = search needs
@@ -279,101 +298,85 @@ enum-known-p-2 c = search needs
 end-tag-requires : tie.Need-end-tag-requires Inv-loop2 μ-loop2 Inv-loop μ-loop
 end-tag-requires c κs =
     let k = c .before .before in
-    let p = k .before .before .before in
-    let t = turn p in
-    end-asked (t .before .loop .inv) (omega (arith, t .loop-test .taken)) (p .piece-at .result) (p .piece-at .ensures .1) (p .piece-at .ensures .0) (first t .pre .2) (k .before .p2 .given .1)
+    let t = at-turn (end-piece k) in
+    end-asked t (first (turn (end-piece k) .before) .pre .2) (k .before .p2 .given .1)
 
 refusal-requires-4 : tie.Need-refusal-requires-4 Inv-loop2 μ-loop2 Inv-loop μ-loop
 refusal-requires-4 c κs = search needs
 
 same-length-7 : tie.Need-same-length-7 Inv-loop2 μ-loop2 Inv-loop μ-loop
-same-length-7 c = c .before .before .before .before .before .before .before .end-tag .ensures .brings .puts .numbers-kept ∙ c .before .before .before .before .before .before .before .before .before .before .before .before .before .before .before .before .before .before .loop .inv .numbers-same
+same-length-7 c = tagged (c .before .before) .end-tag .ensures .brings .puts .numbers-kept ∙ turn (end-piece (told-end (tagged (c .before .before)))) .before .loop .inv .numbers-same
 
 same-length-8 : tie.Need-same-length-8 Inv-loop2 μ-loop2 Inv-loop μ-loop
-same-length-8 c = c .before .before .before .before .before .before .before .end-tag .ensures .brings .puts .bytes-kept ∙ c .before .before .before .before .before .before .before .before .before .before .before .before .before .before .before .before .before .before .loop .inv .bytes-same
+same-length-8 c = tagged (c .before .before) .end-tag .ensures .brings .puts .bytes-kept ∙ turn (end-piece (told-end (tagged (c .before .before)))) .before .loop .inv .bytes-same
 
 returns-4 : tie.Need-returns-4 Inv-loop2 μ-loop2 Inv-loop μ-loop
 returns-4 c =
-    let tag = c .before .before .before .before .before .before .before in
-    let k = tag .before .before .before in
-    let p = k .before .before .before in
-    let t = turn p in
-    end-tag-refuses (t .before .loop .inv) (omega (arith, t .loop-test .taken)) (p .piece-at .result) (p .piece-at .ensures .1) (p .piece-at .ensures .0) (k .before .p2 .given .1) (tag .end-tag .ensures) (c .before .if5 .taken) (c .refusal4 .ensures)
+    let tag = tagged (c .before .before) in
+    let k = told-end tag in
+    let t = at-turn (end-piece k) in
+    end-tag-refuses t (k .before .p2 .given .1) (tag .end-tag .ensures) (c .before .if5 .taken) (c .refusal4 .ensures)
 
 loop-less-3 : tie.Need-loop-less-3 Inv-loop2 μ-loop2 Inv-loop μ-loop
 loop-less-3 c =
-    let k = c .before .before .before .before .before .before .before .before .before .before in
-    let p = k .before .before .before in
-    let t = turn p in
-    let r = end-range (t .before .loop .inv) (omega (arith, t .loop-test .taken)) (p .piece-at .result) (p .piece-at .ensures .1) (p .piece-at .ensures .0) (k .before .p2 .given .1) in
-    omega (arith, t .loop-test .taken, r)
+    let k = told-end (tagged (c .before .before)) in
+    omega (arith, end-range (at-turn (end-piece k)) (k .before .p2 .given .1))
 
 loop-again-3 : tie.Need-loop-again-3 Inv-loop2 μ-loop2 Inv-loop μ-loop
 loop-again-3 c =
-    let tag = c .before .before .before .before .before .before .before in
-    let k = tag .before .before .before in
-    let p = k .before .before .before in
-    let t = turn p in
-    going-end (t .before .loop .inv) (omega (arith, t .loop-test .taken)) (p .piece-at .result) (p .piece-at .ensures .1) (p .piece-at .ensures .0) (k .before .p2 .given .1) (tag .end-tag .ensures) (c .before .if5 .left)
+    let tag = tagged (c .before .before) in
+    let k = told-end tag in
+    let t = at-turn (end-piece k) in
+    going-end t (k .before .p2 .given .1) (tag .end-tag .ensures) (c .before .if5 .left)
 
 enum-known-p-3 : tie.Need-enum-known-p-3 Inv-loop2 μ-loop2 Inv-loop μ-loop
 enum-known-p-3 c = search needs
 
 loop-less-4 : tie.Need-loop-less-4 Inv-loop2 μ-loop2 Inv-loop μ-loop
-loop-less-4 c =
-    let p = c .before .before .before in
-    let t = turn p in
-    let r = passed-range (t .before .loop .inv) (omega (arith, t .loop-test .taken)) (p .piece-at .result) (p .piece-at .ensures .1) (p .piece-at .ensures .0) (c .before .p3 .given .1) in
-    omega (arith, t .loop-test .taken, r)
+loop-less-4 c = omega (arith, passed-range (at-turn (c .before .before .before)) (c .before .p3 .given .1))
 
 loop-again-4 : tie.Need-loop-again-4 Inv-loop2 μ-loop2 Inv-loop μ-loop
-loop-again-4 c =
-    let p = c .before .before .before in
-    let t = turn p in
-    going-passed (t .before .loop .inv) (omega (arith, t .loop-test .taken)) (p .piece-at .result) (p .piece-at .ensures .1) (p .piece-at .ensures .0) (c .before .p3 .given .1)
+loop-again-4 c = going-passed (at-turn (c .before .before .before)) (c .before .p3 .given .1)
 
 enum-known-p-4 : tie.Need-enum-known-p-4 Inv-loop2 μ-loop2 Inv-loop μ-loop
 enum-known-p-4 c = search needs
 
 same-length-9 : tie.Need-same-length-9 Inv-loop2 μ-loop2 Inv-loop μ-loop
-same-length-9 c = c .before .before .before .before .before .before .before .before .loop .inv .numbers-same
+same-length-9 c = turn (c .before .before .before) .before .loop .inv .numbers-same
 
 same-length-10 : tie.Need-same-length-10 Inv-loop2 μ-loop2 Inv-loop μ-loop
-same-length-10 c = c .before .before .before .before .before .before .before .before .loop .inv .bytes-same
+same-length-10 c = turn (c .before .before .before) .before .loop .inv .bytes-same
 
 returns-5 : tie.Need-returns-5 Inv-loop2 μ-loop2 Inv-loop μ-loop
-returns-5 c =
-    let p = c .before .before .before in
-    let t = turn p in
-    piece-refuses (t .before .loop .inv) (omega (arith, t .loop-test .taken)) (p .piece-at .result) (p .piece-at .ensures .1) (c .before .p4 .given .1)
+returns-5 c = piece-refuses (at-turn (c .before .before .before)) (c .before .p4 .given .1)
 
 finish-requires : tie.Need-finish-requires Inv-loop2 μ-loop2 Inv-loop μ-loop
-finish-requires c κs = finish-asked (c .before .before .before .loop .inv) (omega (arith, c .before .before .loop-test .left)) (c .before .before .before .before .before .before .before .before .before .before .pre .2)
+finish-requires c κs = finish-asked (c .before .before .before .loop .inv) (omega (arith, c .before .before .loop-test .left)) (first (c .before .before .before) .pre .2)
 
 refusal-requires-5 : tie.Need-refusal-requires-5 Inv-loop2 μ-loop2 Inv-loop μ-loop
 refusal-requires-5 c κs = search needs
 
 same-length-11 : tie.Need-same-length-11 Inv-loop2 μ-loop2 Inv-loop μ-loop
-same-length-11 c = c .before .before .before .before .before .before .before .finish .ensures .brings .puts .numbers-kept ∙ c .before .before .before .before .before .before .before .before .before .before .before .loop .inv .numbers-same
+same-length-11 c = finished (c .before .before) .finish .ensures .brings .puts .numbers-kept ∙ over (finished (c .before .before)) .before .loop .inv .numbers-same
 
 same-length-12 : tie.Need-same-length-12 Inv-loop2 μ-loop2 Inv-loop μ-loop
-same-length-12 c = c .before .before .before .before .before .before .before .finish .ensures .brings .puts .bytes-kept ∙ c .before .before .before .before .before .before .before .before .before .before .before .loop .inv .bytes-same
+same-length-12 c = finished (c .before .before) .finish .ensures .brings .puts .bytes-kept ∙ over (finished (c .before .before)) .before .loop .inv .bytes-same
 
 returns-6 : tie.Need-returns-6 Inv-loop2 μ-loop2 Inv-loop μ-loop
 returns-6 c =
-    let over = c .before .before .before .before .before .before .before .before .before .before in
-    end-refuses (over .before .loop .inv) (omega (arith, over .loop-test .left)) (c .before .before .before .before .before .before .before .finish .ensures) (c .before .if6 .taken) (c .refusal5 .ensures)
+    let f = finished (c .before .before) in
+    end-refuses (over f .before .loop .inv) (omega (arith, over f .loop-test .left)) (f .finish .ensures) (c .before .if6 .taken) (c .refusal5 .ensures)
 
 same-length-13 : tie.Need-same-length-13 Inv-loop2 μ-loop2 Inv-loop μ-loop
-same-length-13 c = c .before .before .before .before .before .before .finish .ensures .brings .puts .numbers-kept ∙ c .before .before .before .before .before .before .before .before .before .before .loop .inv .numbers-same
+same-length-13 c = finished (c .before) .finish .ensures .brings .puts .numbers-kept ∙ over (finished (c .before)) .before .loop .inv .numbers-same
 
 same-length-14 : tie.Need-same-length-14 Inv-loop2 μ-loop2 Inv-loop μ-loop
-same-length-14 c = c .before .before .before .before .before .before .finish .ensures .brings .puts .bytes-kept ∙ c .before .before .before .before .before .before .before .before .before .before .loop .inv .bytes-same
+same-length-14 c = finished (c .before) .finish .ensures .brings .puts .bytes-kept ∙ over (finished (c .before)) .before .loop .inv .bytes-same
 
 returns-7 : tie.Need-returns-7 Inv-loop2 μ-loop2 Inv-loop μ-loop
 returns-7 c =
-    let over = c .before .before .before .before .before .before .before .before .before in
-    end-counts (over .before .loop .inv) (omega (arith, over .loop-test .left)) (c .before .before .before .before .before .before .finish .ensures) (over .before .before .before .before .before .before .before .before .pre .2) (c .if6 .left)
+    let f = finished (c .before) in
+    end-counts (over f .before .loop .inv) (omega (arith, over f .loop-test .left)) (f .finish .ensures) (first (over f .before) .pre .2) (c .if6 .left)
 
 pub events-of-spec : {M : Type 1} → statement M
 events-of-spec =
