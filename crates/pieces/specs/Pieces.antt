@@ -26,7 +26,7 @@ use Rattle.text.specs.declared.Fault.{Fault}
 use Rattle.rules_laws.specs.Holds.{got-so}
 use Rattle.rules_laws.specs.Pieces.{TagRead, piece-read, piece-short}
 use Rattle.rules_laws.specs.Runs.{isRun, runEnd, runEnd-in}
-use Rattle.tags.specs.Given.{keptOf, KeptAs}
+use Rattle.tag_attributes.specs.Given.{keptOf, KeptAs}
 use Rattle.document_text.specs.declared.Token.{Token}
 use Rattle.document_text.specs.Means.{MeetsPiece}
 use Rattle.element_index.specs.Means.{Indexed}

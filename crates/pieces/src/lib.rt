@@ -1,7 +1,7 @@
 // What stands at a position of a document, names looked up.
 //
 // `elements` and `index` are those of the crate element_index, `rows`, `places`, `facts` and `members` those of type_tables, `begun` has
-// the bits of what has begun in each open element, `classes` is the table of delimiters, `lists` that of list_table, `given` that of tags, `marks` that of
+// the bits of what has begun in each open element, `classes` is the table of delimiters, `lists` that of list_table, `given` that of tag_attributes, `marks` that of
 // attribute_marks. Where the tables are no type's, what is found is not decided, but that its element is at most 64 and that it ends
 // further on, within the document, unless it is refused.
 use document_text::Token;
@@ -29,7 +29,7 @@ ghost use Rattle.rules.specs.Elements.{numberOf};
 ghost use Rattle.rules.specs.Given.{attributed};
 ghost use Rattle.rules.specs.Settling as rules;
 ghost use Rattle.delimiters.specs.Means.{Classes};
-ghost use Rattle.tags.specs.Given.{KeptAs, GivenIn};
+ghost use Rattle.tag_attributes.specs.Given.{KeptAs, GivenIn};
 ghost use Rattle.element_index.specs.Means.{Indexed};
 ghost use Rattle.list_table.specs.Means.{ListAt, Lists};
 ghost use Rattle.attribute_marks.specs.Differ.{NamesDiffer};
