@@ -8,11 +8,10 @@ use lib.ListN.{length, List·getD-eq-default}
 use lib.Dec.{leb}
 use borrow.Author.Tests.{leb-true, leb-false}
 use Rattle.rules.specs.Settings.{Settings, mostNameLength}
-use Rattle.rules.specs.Reading.{Reading, got}
+use Rattle.rules.specs.Reading.{got}
 use Rattle.rules.specs.Attributes.{Attribute}
 use Rattle.rules.specs.TypeFile.{Element}
 use Rattle.rules.specs.Document.{Written, Tag, startTag, endTag, skipped, blank, dataByte, piece}
-use Rattle.rules.specs.Document as rules
 use Rattle.rules.specs.Elements.{elementAt, numberOf}
 use Rattle.rules.specs.Decisions.{pcdata}
 use Rattle.rules.specs.Given.{allListed, allFit, noneMissing, attributed}
@@ -27,8 +26,6 @@ use Rattle.rules_laws.specs.Holds.{got-so}
 use Rattle.rules_laws.specs.Pieces.{TagRead, piece-read, piece-short}
 use Rattle.rules_laws.specs.Runs.{isRun, runEnd, runEnd-in}
 use Rattle.tag_attributes.specs.Given.{keptOf, KeptAs}
-use Rattle.document_text.specs.declared.Token.{Token}
-use Rattle.document_text.specs.Means.{MeetsPiece}
 use Rattle.element_index.specs.Means.{Indexed}
 use Rattle.list_table.specs.Means.{ListAt, Lists}
 use Rattle.attribute_marks.specs.Differ.{NamesDiffer, lists-differ}
@@ -38,10 +35,6 @@ use Rattle.pieces.specs.declared.Piece.the-variants as found
 use Rattle.pieces.specs.Means.{Names, Ignored, separates, malformed, undeclaredStart, undeclaredEnd, Runs, ToSettle, starts, Finds, MarksAt, Onward}
 
 -- From the token
-
--- What is read, by the token that it is.
-pub token-is : (end : ℕ) (g : List ℕ) (x : Reading rules.Piece) (r : Token) → MeetsPiece end g r x → {y : Token} → r ≡ y → MeetsPiece end g y x
-token-is end g x r m e = subst (λ (v : Token). MeetsPiece end g v x) e m
 
 -- What the index asks of a tag's name.
 abbrev pub NameAsked : List ℕ → Tag → Type 0

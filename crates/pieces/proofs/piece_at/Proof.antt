@@ -10,19 +10,20 @@ use Rattle.rules.specs.Reading.{got}
 use Rattle.rules.specs.Document.{Written, startTag, endTag, piece}
 use Rattle.tags.specs.Tags.{tagIn, tagWith}
 use Rattle.tags.specs.Given.{ReadAs}
+use Rattle.document_text.specs.Laws.{token-start, token-end, token-skipped, token-blank, token-data, token-refused}
 use Rattle.document_laws.specs.Under.{under-skipped, under-refused}
 use Rattle.pieces.specs.Means.{skips, runs, malformed}
-use Rattle.pieces.specs.Pieces.{token-is, start-tag-asked, end-tag-asked, list-held, finds-start, finds-misgiven, marks-start, finds-end, finds-undeclared-start, finds-undeclared-end, finds-separator, finds-blank-run, finds-data-run, onward-start, onward-end, onward-skipped, onward-run, onward-refused}
+use Rattle.pieces.specs.Pieces.{start-tag-asked, end-tag-asked, list-held, finds-start, finds-misgiven, marks-start, finds-end, finds-undeclared-start, finds-undeclared-end, finds-separator, finds-blank-run, finds-data-run, onward-start, onward-end, onward-skipped, onward-run, onward-refused}
 use borrow.Author.Needs.{needs}
 use Rattle.pieces.proofs.piece_at.Statement.{statement}
 use Rattle.pieces.proofs.piece_at.Tie as tie
 
 -- A start tag stands there, which gives these attributes, or an end tag.
 start-stands : (c : tie.After-known-told) → (ws : List Written) × (piece (settings (c .before .before .before .before .before .before .before .before .before .args .long)) (c .before .before .before .before .before .before .before .before .before .args .d .now) (c .before .before .before .before .before .before .before .before .before .args .at) ≡ got (startTag (tagWith ws (c .before .t .given .0 .0)))) × ReadAs (length (c .before .before .before .before .before .before .before .before .before .args .d .now)) (c .before .before .before .token-at .last .1 .1 .1 .1 .0) (c .before .t .given .0 .0 .given) ws
-start-stands c = token-is (length (c .before .before .before .before .before .before .before .before .before .args .d .now)) (c .before .before .before .token-at .last .1 .1 .1 .1 .0) _ (c .before .before .before .token-at .result) (c .before .before .before .token-at .ensures) (c .before .t .given .1)
+start-stands c = token-start (length (c .before .before .before .before .before .before .before .before .before .args .d .now)) (c .before .before .before .token-at .last .1 .1 .1 .1 .0) (c .before .before .before .token-at .result) _ (c .before .before .before .token-at .ensures) (c .before .t .given .1)
 
 end-stands : (c : tie.After-known-told2) → piece (settings (c .before .before .before .before .before .before .before .before .before .args .long)) (c .before .before .before .before .before .before .before .before .before .args .d .now) (c .before .before .before .before .before .before .before .before .before .args .at) ≡ got (endTag (tagIn (c .before .t2 .given .0 .0)))
-end-stands c = token-is (length (c .before .before .before .before .before .before .before .before .before .args .d .now)) (c .before .before .before .token-at .last .1 .1 .1 .1 .0) _ (c .before .before .before .token-at .result) (c .before .before .before .token-at .ensures) (c .before .t2 .given .1)
+end-stands c = token-end (length (c .before .before .before .before .before .before .before .before .before .args .d .now)) (c .before .before .before .token-at .last .1 .1 .1 .1 .0) (c .before .before .before .token-at .result) _ (c .before .before .before .token-at .ensures) (c .before .t2 .given .1)
 
 token-at-requires : tie.Need-token-at-requires
 token-at-requires c κs = search needs
@@ -106,7 +107,7 @@ enum-known-t-3 c = search needs
 returns-6 : tie.Need-returns-6
 returns-6 c =
     let a = c .before .before .before .before .before .before .before .before .before .args in
-    let e = token-is (length (a .d .now)) (c .before .before .before .token-at .last .1 .1 .1 .1 .0) _ (c .before .before .before .token-at .result) (c .before .before .before .token-at .ensures) (c .before .t3 .given .1) in
+    let e = token-skipped (length (a .d .now)) (c .before .before .before .token-at .last .1 .1 .1 .1 .0) (c .before .before .before .token-at .result) _ (c .before .before .before .token-at .ensures) (c .before .t3 .given .1) in
     (onward-skipped (a .d .now) (a .at) (c .before .before .before .before .before .before .before .before .before .pre .5) (settings (a .long)) e, λ es i t l o r. (skips (under-skipped (settings (a .long)) (a .s .now) es (a .d .now) (a .at) e), tt))
 
 enum-known-t-4 : tie.Need-enum-known-t-4
@@ -115,7 +116,7 @@ enum-known-t-4 c = search needs
 returns-7 : tie.Need-returns-7
 returns-7 c =
     let a = c .before .before .before .before .before .before .before .before .before .args in
-    let e = token-is (length (a .d .now)) (c .before .before .before .token-at .last .1 .1 .1 .1 .0) _ (c .before .before .before .token-at .result) (c .before .before .before .token-at .ensures) (c .before .t4 .given .1) in
+    let e = token-refused (length (a .d .now)) (c .before .before .before .token-at .last .1 .1 .1 .1 .0) (c .before .before .before .token-at .result) _ (c .before .before .before .token-at .ensures) (c .before .t4 .given .1) in
     (tt, λ es i t l o r. (malformed (under-refused (settings (a .long)) (a .s .now) es (a .d .now) (a .at) e), tt))
 
 enum-told : tie.Need-enum-told
@@ -130,7 +131,7 @@ add-t35 c = search needs
 returns-8 : tie.Need-returns-8
 returns-8 c =
     let a = c .before .before .before .before .before .before .before .before .before .before .args in
-    let e = token-is (length (a .d .now)) (c .before .before .before .before .token-at .last .1 .1 .1 .1 .0) _ (c .before .before .before .before .token-at .result) (c .before .before .before .before .token-at .ensures) (c .before .before .enum-told .given .1) in
+    let e = token-blank (length (a .d .now)) (c .before .before .before .before .token-at .last .1 .1 .1 .1 .0) (c .before .before .before .before .token-at .result) _ (c .before .before .before .before .token-at .ensures) (c .before .before .enum-told .given .1) in
     ((omega arith, omega (arith, c .before .before .before .before .before .before .before .before .before .before .pre .5)), λ es i t l o r. (finds-separator o (r .number) (c .before .takes-data .ensures _ es t o r) e (not-true _ (c .if4 .taken)), tt))
 
 enum-told-2 : tie.Need-enum-told-2
@@ -147,8 +148,8 @@ returns-9 c =
     let a = c .before .before .before .before .before .before .before .before .args in (
       onward-run (a .d .now) (a .at) (c .before .before .before .before .before .before .before .before .pre .5) (c .run-end .ensures),
       λ es i t l o r. (
-        ⊎-elim (λ w. runs refl (finds-blank-run o (r .number) (w .2 .ensures _ es t o r) (token-is (length (a .d .now)) (c .before .before .token-at .last .1 .1 .1 .1 .0) _ (c .before .before .token-at .result) (c .before .before .token-at .ensures) (w .1 .given .1)) (not-false _ (w .3 .left)) (c .run-end .ensures)))
-            (λ w. runs refl (finds-data-run (token-is (length (a .d .now)) (c .before .before .token-at .last .1 .1 .1 .1 .0) _ (c .before .before .token-at .result) (c .before .before .token-at .ensures) (w .1 .given .1)) (c .run-end .ensures))) (c .before .match .came),
+        ⊎-elim (λ w. runs refl (finds-blank-run o (r .number) (w .2 .ensures _ es t o r) (token-blank (length (a .d .now)) (c .before .before .token-at .last .1 .1 .1 .1 .0) (c .before .before .token-at .result) _ (c .before .before .token-at .ensures) (w .1 .given .1)) (not-false _ (w .3 .left)) (c .run-end .ensures)))
+            (λ w. runs refl (finds-data-run (token-data (length (a .d .now)) (c .before .before .token-at .last .1 .1 .1 .1 .0) (c .before .before .token-at .result) _ (c .before .before .token-at .ensures) (w .1 .given .1)) (c .run-end .ensures))) (c .before .match .came),
         λ some. absurd (omega arith),
       ),
     )
