@@ -22,7 +22,7 @@ pub struct Part {
 pub fn clear(table: &mut [u8; MODEL])
     ensures { λ _. ⌜ now (table .exit) ≡ blank ⌝ }
 {
-    *table = [0u8; MODEL];
+    model_links::unbegin(table, 1, POSITIONS);
 }
 
 // A new place p.
@@ -30,6 +30,7 @@ pub fn put_place(table: &mut [u8; MODEL], p: usize) -> Part
     requires { ⌜ p < 97 ⌝ }
     ensures { λ r. ⌜ (now (table .exit) ≡ putPlace (now (table .entry)) p) × (r ≡ part false p) ⌝ }
 {
+    model_links::clear_row(table, p);
     table[p] = 1;
     table[p * MODEL_ROW] = 1;
     Part {
