@@ -7,7 +7,13 @@ use layout::MODEL_ROW;
 use layout::POSITIONS;
 ghost use mathlib.Core.Path.{_≡_};
 ghost use Prim.Native.Nat.{_≤_, _<_};
+ghost use lib.ListN.{length};
 ghost use Rattle.model_links.specs.Links.{linkCell, linkRow, linkFrom, link, settleRow, settle, clearRow, unbegin};
+
+// A table has this many numbers, which a reference to it does not say.
+pub fn whole(table: [u8; MODEL])
+    ensures { λ _. ⌜ length table ≡ 9893 ⌝ }
+{}
 
 // p may come after u if it can begin the group.
 fn link_cell(table: &mut [u8; MODEL], u: usize, p: usize)
