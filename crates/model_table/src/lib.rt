@@ -3,8 +3,8 @@
 // It has 97 rows of 98 numbers. Row 0 is the start, row u is after the place u; the places are 1 to 96.
 // Column 0 is 1 where the content is complete, column p is 1 where the place p may come next, column 97 is the
 // required place, or 0. While a model is read, row 0 holds the places that can begin, and column 0 those that can
-// end, the innermost finished group around them. The places of a group are [lo, hi). A row is cleared when its place is read: what a
-// model read before has left in the rows behind the last place, and behind them in its code, is read by nobody.
+// end, the innermost finished group around them. The places of a group are [lo, hi). A row is cleared when its place is read: what
+// the model before left in the rows behind the last place, and in the code behind what is put there, nobody reads.
 use layout::MODEL;
 use layout::MODEL_ROW;
 use layout::POSITIONS;
@@ -20,7 +20,7 @@ pub struct Part {
     pub required: u8,
 }
 
-// A new model: no place can begin it yet.
+// A new model: no place can begin it yet. What is said of anything else is not decided.
 pub fn clear(table: &mut [u8; MODEL])
     ensures { λ _. ⌜ Fresh (now (table .exit)) ⌝ }
 {

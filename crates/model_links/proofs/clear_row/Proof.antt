@@ -34,10 +34,10 @@ loop-less c = omega arith
 
 loop-again : tie.Need-loop-again Inv-loop μ-loop
 unfolding clearCell
-loop-again c = each-turn (clearCell _) _ _ _ _ _ refl (c .loop-test .taken) (c .before .loop .inv)
+loop-again c = each-turn (clearCell _) _ _ _ _ _ refl (omega arith) (c .before .loop .inv)
 
 returns : tie.Need-returns Inv-loop μ-loop
-returns c = each-end _ _ _ _ _ (c .loop-test .left) (c .before .loop .inv)
+returns c = each-end _ _ _ _ _ (omega arith) (c .before .loop .inv)
 
 pub clear-row-spec : {M : Type 1} → statement M
 clear-row-spec =
