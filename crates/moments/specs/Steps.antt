@@ -1,20 +1,19 @@
 -- The steps within a token, each by the contract of the function that takes it: the ends of step 3, a start that is inferred, the place of a start
 -- tag, the ends that an end tag and the document's end infer.
-use Prim.Native.Nat.{ℕ, zero, suc, _-_, _≤_, _<_}
+use Prim.Native.Nat.{ℕ, zero, suc, _≤_, _<_}
 use mathlib.Core.Path.{_≡_, refl, sym, _∙_, ap, ap₂, subst}
 use mathlib.Core.Bool.{Bool, true, false, false≢true}
 use mathlib.Core.List.{List, [], _∷_, _++_}
 use native.Mathlib.Omega.{arith}
 use lib.ListN.{length}
 use lib.Dec.{eqb}
-use borrow.Author.Tests.{le-ltb}
 use Rattle.rules.specs.Bytes.{TAGLVL}
-use Rattle.rules.specs.Reading.{Reading, got, andThen}
+use Rattle.rules.specs.Reading.{got}
 use Rattle.rules.specs.TypeFile.{Element}
 use Rattle.rules.specs.Elements.{contentOf, hasModel, endO}
 use Rattle.rules.specs.Decisions.{Token, start, pcdata, Decisions}
-use Rattle.rules.specs.Events.{Event, dataRun, withData}
-use Rattle.rules.specs.Settling.{State, takePlace, limited, fitting, isComplete, inferable, chain, takeToken, endDocument}
+use Rattle.rules.specs.Events.{Event, withData}
+use Rattle.rules.specs.Settling.{State, takePlace, fitting, isComplete, inferable, chain, takeToken, endDocument}
 use Rattle.rules.specs.Settling as rules
 use Rattle.rules.specs.Acts.{Act, infers, data-byte, infers-end, Acts, Few}
 use Rattle.rules.specs.Acts as act
@@ -93,10 +92,6 @@ place-found : (f g : ℕ) (w : Way) (p : ℕ) → p ≡ placeOf g w → (p ≡ 0
 place-found f g (Taken q) p e n h i = e ∙ h q refl
 place-found f g (Inferred k) p e n h i = e ∙ i k refl
 place-found f g Stuck p e n h i = absurd (n e)
-
-limited-small : (at : ℕ) (z : State) → Few z → limited at z ≡ got z
-unfolding limited
-limited-small at z f = rw (le-ltb TAGLVL (length (z .around)) f, limited)
 
 not-none : (n : ℕ) → (n ≡ 0 → ⊥) → 1 ≤ n
 not-none zero h = absurd (h refl)
