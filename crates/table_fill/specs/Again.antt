@@ -15,6 +15,7 @@ use Rattle.rules.specs.Elements.{elementAt, contentOf, hasModel}
 use Rattle.element_reader.specs.Means.{Recorded, KeepsContent, MeetsElement}
 use Rattle.element_reader.specs.declared.ElementRead.{ElementRead}
 use Rattle.element_reader.specs.declared.ElementRead.the-variants as elementRead
+use Rattle.rules_laws.specs.Declarations.{bare, bares, bares-length}
 use Rattle.type_laws.specs.Made.{elementAt-next}
 use Rattle.type_laws.specs.Again.{typeFile-again}
 
@@ -51,6 +52,15 @@ records-take (x ∷ es) zero = refl
 records-take (x ∷ es) (suc k) =
     let z : 6 * suc k ≡ length (recordOf x) + 6 * k = omega (arith, record-length x) in
     rw z (take-append-add (recordOf x) (records es) (6 * k) ∙ ap (λ (l : List ℕ). recordOf x ++ l) (records-take es k))
+
+-- An element's attributes are not in its record.
+records-bares : (es : List Element) → records (bares es) ≡ records es
+unfolding records bares
+records-bares [] = refl
+records-bares (x ∷ es) = ap (λ (l : List ℕ). recordOf x ++ l) (records-bares es)
+
+recorded-bares : (elements : List ℕ) (es : List Element) → Recorded elements es → Recorded elements (bares es)
+recorded-bares elements es r = rw (bares-length es, records-bares es) r
 
 module _ (elements : List ℕ) (es : List Element) (r : Recorded elements es) where
   -- The numbers of a record.
@@ -95,10 +105,10 @@ ReadsAs names table c (elementRead.Read d) = KeepsContent names table (d .kind) 
 ReadsAs names table c (elementRead.Refused f) = ⊥
 
 module _ (c : Settings) (s elements : List ℕ) (es : List Element) (read : typeFile c s ≡ got es) (r : Recorded elements es) (e : ℕ) (from : 1 ≤ e) (to : e ≤ length es) (names table : List ℕ) where
-  reads-declared : (at : ℕ) (fs : List Element) (d : Declared) → d .elements ≡ fs ++ elementAt es (e - 1) ∷ [] → (x : ElementRead) → MeetsElement (length s) at names table fs x (got d)
+  reads-declared : (at : ℕ) (fs : List Element) (d : Declared) → d .elements ≡ fs ++ bare (elementAt es (e - 1)) ∷ [] → (x : ElementRead) → MeetsElement (length s) at names table fs x (got d)
       → ReadsAs names table (contentOf es e) x
   reads-declared at fs d q (elementRead.Read y) m =
-      let same : m .element ≡ elementAt es (e - 1) = last-same fs _ _ (sym (m .grows) ∙ q) in
+      let same : m .element ≡ bare (elementAt es (e - 1)) = last-same fs _ _ (sym (m .grows) ∙ q) in
       subst (KeepsContent names table (y .kind) (y .tokens) (y .places) (y .code) (y .and) (y .repeated)) (ap (λ (z : Element). z .content) same ∙ sym (content-at es e from)) (m .content)
   reads-declared at fs d q (elementRead.Refused f) m = m
 
@@ -108,5 +118,7 @@ module _ (c : Settings) (s elements : List ℕ) (es : List Element) (read : type
       let k : ℕ = e - 1 in
       let (d, g, w) = typeFile-again c s es read k (omega arith) in
       let stands : at ≡ elementAt es k .at = q ∙ recorded-name elements es r k (omega arith) in
-      reads-declared at (take k es) d w x
-      (subst (MeetsElement (length s) at names table (take k es) x) (rw stands g) (m (take k es) (length-take-le k es (omega arith)) (recorded-take elements es r k (omega arith))))
+      let before : List Element = take k (bares es) in
+      let whole = bares-length es in
+      reads-declared at before d w x
+      (subst (MeetsElement (length s) at names table before x) (rw stands g) (m before (length-take-le k (bares es) (omega arith)) (recorded-take elements (bares es) (recorded-bares elements es r) k (omega arith))))

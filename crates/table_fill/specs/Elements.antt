@@ -1,15 +1,17 @@
 -- One element of an indexed type: what its record and its declaration, read again, put into the tables.
 use Prim.Native.Nat.{ℕ, zero, suc, _+_, _-_, _*_, _≤_, _<_}
-use mathlib.Core.Path.{_≡_, refl, sym, subst, _∙_}
-use mathlib.Core.Bool.{Bool, true, false, cond, true≢false}
+use mathlib.Core.Path.{_≡_, refl, sym, ap, subst, _∙_}
+use mathlib.Core.Bool.{Bool, true, false, not, _&&_, and-true, and-false, cond, true≢false}
 use mathlib.Core.Logic.{_⊎_, inl, inr}
 use mathlib.Core.List.{List, [], _∷_}
 use native.Mathlib.Nat.{not-suc-le-zero, le-of-suc-le-suc}
 use native.Mathlib.Omega.{arith}
 use lib.ListN.{length, getD, set, length-set}
 use lib.Seq.{getD-set-same, getD-set-other}
+use lib.Dec.{eqb}
 use Rattle.rules.specs.Settings.{Settings, mostNameLength}
 use Rattle.rules.specs.Walk.{Group}
+use Rattle.rules.specs.Attributes.{Attribute, needsTag}
 use Rattle.rules.specs.TypeFile.{Place, Content, empty, model, Element, element}
 use Rattle.rules.specs.Judge.{Accepts, placeAt}
 use Rattle.rules.specs.Elements.{elementAt, contentOf, placesIn, hasModel}
@@ -34,6 +36,7 @@ use Rattle.type_laws.specs.Again.{typeFile-sizes}
 use Rattle.type_laws.specs.Members.{typeFile-members}
 use Rattle.type_laws.specs.Width.{typeFile-content, typeFile-places-short}
 use Rattle.element_index.specs.Means.{Indexed}
+use Rattle.list_table.specs.Means.{ListAt, Lists}
 use Rattle.type_tables.specs.Means.{rowAt, PlainIn}
 use Rattle.member_table.specs.Filling.{filled}
 use Rattle.model_rows.specs.Bits.{flag-most}
@@ -45,10 +48,22 @@ use Rattle.table_fill.specs.Kinds.{rows-model, rows-empty}
 use Rattle.table_fill.specs.Again.{ReadsAs, recorded-name, recorded-start, recorded-end, recorded-kind, content-at, reads-again}
 use Rattle.table_fill.specs.Names.{IsName, NamesFit, PlacesDue}
 
--- Both omissions and the content, from the record of the element e.
-abbrev pub factsPut : (F elements : List ℕ) → ℕ → List ℕ
-factsPut F elements e =
-    set (set (set F (e * FACT + 65) (getD elements (6 * (e - 1) + 2) 0)) (e * FACT + 66) (getD elements (6 * (e - 1) + 3) 0)) (e * FACT + 67) (getD elements (6 * (e - 1) + 4) 0)
+-- What is kept of the start of the element e: 1 where it may be inferred, by its record and its list.
+pub record StartFact (elements lists : List ℕ) (e n : ℕ) : Type 0 where
+  pub is : (c : Settings) (s : List ℕ) (xs : List Attribute) → ListAt c s lists (201 * (e - 1)) xs → eqb n 1 ≡ (eqb (getD elements (6 * (e - 1) + 2) 0) 1 && not (needsTag xs))
+
+-- That, and whether its end may be omitted and its content, from the record.
+pub record FactsPut (elements lists : List ℕ) (e : ℕ) (F G : List ℕ) : Type 0 where
+  pub start : ℕ
+  pub fact : StartFact elements lists e start
+  pub put : G ≡ set (set (set F (e * FACT + 65) start) (e * FACT + 66) (getD elements (6 * (e - 1) + 3) 0)) (e * FACT + 67) (getD elements (6 * (e - 1) + 4) 0)
+
+module _ (elements lists : List ℕ) (e : ℕ) {b : Bool} (says : (c : Settings) (s : List ℕ) (xs : List Attribute) → ListAt c s lists (201 * (e - 1)) xs → b ≡ needsTag xs) where
+  pub start-required : b ≡ true → StartFact elements lists e 0
+  start-required t = record { is = λ c s xs l. sym (and-false (eqb (getD elements (6 * (e - 1) + 2) 0) 1)) ∙ ap (λ (r : Bool). eqb (getD elements (6 * (e - 1) + 2) 0) 1 && not r) (sym t ∙ says c s xs l) }
+
+  pub start-recorded : b ≡ false → StartFact elements lists e (getD elements (6 * (e - 1) + 2) 0)
+  start-recorded t = record { is = λ c s xs l. sym (and-true (eqb (getD elements (6 * (e - 1) + 2) 0) 1)) ∙ ap (λ (r : Bool). eqb (getD elements (6 * (e - 1) + 2) 0) 1 && not r) (sym t ∙ says c s xs l) }
 
 -- The three numbers are 0 or 1.
 pub record Flags (elements : List ℕ) (e : ℕ) : Type 0 where
@@ -56,11 +71,12 @@ pub record Flags (elements : List ℕ) (e : ℕ) : Type 0 where
   pub end : getD elements (6 * (e - 1) + 3) 0 ≤ 1
   pub kind : getD elements (6 * (e - 1) + 4) 0 ≤ 1
 
--- What is asked for the element e to be put: the type is accepted under the settings c, by which its declaration is read again, and indexed, and the
--- tables are filled up to e.
-pub record ElementDue (c : Settings) (s : List ℕ) (es : List Element) (elements index rows places facts members : List ℕ) (e : ℕ) : Type 0 where
+-- What is asked for the element e to be put: the type is accepted under the settings c, by which its declaration is read again, indexed, and its lists are in their
+-- table; the tables are filled up to e.
+pub record ElementDue (c : Settings) (s : List ℕ) (es : List Element) (elements lists index rows places facts members : List ℕ) (e : ℕ) : Type 0 where
   pub accepted : Accepts c s es
   pub indexed : Indexed s es elements index
+  pub listed : Lists c s es lists
   pub from : 1 ≤ e
   pub to : e ≤ length es
   pub filled : Filled s es rows places facts members e
@@ -71,7 +87,7 @@ name-at s long most [] w u k h = absurd (not-suc-le-zero h)
 name-at s long most (x ∷ ps) (more p w) (more l u) zero h = (omega arith, p .ends)
 name-at s long most (x ∷ ps) (more p w) (more l u) (suc k) h = name-at s long most ps w u k (le-of-suc-le-suc h)
 
-module _ (c : Settings) (s : List ℕ) (es : List Element) (elements index R P F M : List ℕ) (e : ℕ) (due : ElementDue c s es elements index R P F M e) where
+module _ (c : Settings) (s : List ℕ) (es : List Element) (elements lists index R P F M : List ℕ) (e : ℕ) (due : ElementDue c s es elements lists index R P F M e) where
   abbrev k : ℕ
   k = e - 1
 
@@ -98,14 +114,14 @@ module _ (c : Settings) (s : List ℕ) (es : List Element) (elements index R P F
       let (a, b, g, d, f) = typeFile-sizes c s es (due .accepted .elements) k k-in in
       (omega (arith, recorded-name elements es (due .indexed .recorded) k k-in), due .accepted .legible .short, omega (arith, few))
 
-  tags-put : TagsPut (elementAt es k) (contentOf es e) e F (factsPut F elements e)
-  tags-put =
+  tags-put : (G : List ℕ) → FactsPut elements lists e F G → TagsPut (elementAt es k) (contentOf es e) e F G
+  tags-put G p =
       let most : e ≤ 64 = few in
       let r = due .indexed .recorded in
       let x : ℕ = e * FACT + 65 in
       let y : ℕ = e * FACT + 66 in
       let z : ℕ = e * FACT + 67 in
-      let a : ℕ = getD elements (6 * (e - 1) + 2) 0 in
+      let a : ℕ = p .start in
       let b : ℕ = getD elements (6 * (e - 1) + 3) 0 in
       let d : ℕ = getD elements (6 * (e - 1) + 4) 0 in
       let F₁ : List ℕ = set F x a in
@@ -115,16 +131,18 @@ module _ (c : Settings) (s : List ℕ) (es : List Element) (elements index R P F
       let l₂ : length F₂ ≡ FACTS = length-set F₁ y b ∙ l₁ in
       let else : (j : ℕ) → (j ≡ x → ⊥) → (j ≡ y → ⊥) → (j ≡ z → ⊥) → getD (set F₂ z d) j 0 ≡ getD F j 0 =
       λ j p q r. getD-set-other F₂ z j d 0 r ∙ getD-set-other F₁ y j b 0 q ∙ getD-set-other F x j a 0 p in
-      record {
+      let kept : getD (set F₂ z d) x 0 ≡ a = getD-set-other F₂ z x d 0 (omega arith) ∙ getD-set-other F₁ y x b 0 (omega arith) ∙ getD-set-same F x a 0 (omega arith) in
+      let attributes : List Attribute = elementAt es k .attributes in
+      rw (p .put) (record {
         len = length-set F₂ z d ∙ l₂;
         under = λ j h. else j (omega arith) (omega arith) (omega arith);
         over = λ j h. else j (omega arith) (omega arith) (omega arith);
         tags = λ h. record {
-          start = getD-set-other F₂ z x d 0 (omega arith) ∙ getD-set-other F₁ y x b 0 (omega arith) ∙ getD-set-same F x a 0 (omega arith) ∙ recorded-start elements es r k k-in;
+          start = ap (λ (n : ℕ). eqb n 1) kept ∙ p .fact .is c s attributes (due .listed k k-in) ∙ ap (λ (n : ℕ). eqb n 1 && not (needsTag attributes)) (recorded-start elements es r k k-in);
           end = getD-set-other F₂ z y d 0 (omega arith) ∙ getD-set-same F₁ y b 0 (omega arith) ∙ recorded-end elements es r k k-in;
           has = rw (content-at es e (due .from)) (getD-set-same F₂ z d 0 (omega arith) ∙ recorded-kind elements es r k k-in);
         };
-      }
+      })
 
   -- The declaration, read again
 
@@ -174,9 +192,9 @@ module _ (c : Settings) (s : List ℕ) (es : List Element) (elements index R P F
           }
 
       -- With the facts of the record put.
-      module _ (G : List ℕ) (put : G ≡ factsPut F elements e) where
+      module _ (G : List ℕ) (put : FactsPut elements lists e F G) where
         tags : TagsPut (elementAt es k) (contentOf es e) e F G
-        tags = rw put tags-put
+        tags = tags-put G put
 
         pub places-due : (d .kind ≡ 0 → ⊥) → PlacesDue s names P G e (d .places)
         places-due z =

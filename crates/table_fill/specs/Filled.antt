@@ -1,7 +1,7 @@
 -- The tables filled element by element: of those below a number they say what they are to say, of the others nothing yet.
 use Prim.Native.Nat.{ℕ, zero, suc, _+_, _-_, _*_, _≤_, _<_}
 use mathlib.Core.Path.{_≡_, refl, ap, _∙_}
-use mathlib.Core.Bool.{Bool, true, false, cond, false≢true}
+use mathlib.Core.Bool.{Bool, true, false, not, _&&_, cond, false≢true}
 use mathlib.Core.List.{List}
 use native.Mathlib.Omega.{arith}
 use lib.ListN.{length, getD, set, length-set}
@@ -11,6 +11,7 @@ use borrow.Author.Count.{below-more}
 use borrow.Author.Tests.{eq-eqb, ne-eqb}
 use Rattle.rules.specs.Settings.{Settings}
 use Rattle.rules.specs.Reading.{got}
+use Rattle.rules.specs.Attributes.{needsTag}
 use Rattle.rules.specs.TypeFile.{Content, empty, model, Element, typeFile}
 use Rattle.rules.specs.Judge.{Accepts}
 use Rattle.rules.specs.Elements.{elementAt, contentOf, placesIn, hasModel}
@@ -27,9 +28,9 @@ use Rattle.table_fill.specs.Places.{PlacesPut, number-few}
 
 -- What is said of one element
 
--- Of its omissions and its content.
+-- Of its omissions and its content: whether its start may be inferred, whether its end tag may be left out.
 pub record TagsSay (x : Element) (c : Content) (e : ℕ) (facts : List ℕ) : Type 0 where
-  pub start : getD facts (e * FACT + 65) 0 ≡ x .start
+  pub start : eqb (getD facts (e * FACT + 65) 0) 1 ≡ (eqb (x .start) 1 && not (needsTag (x .attributes)))
   pub end : getD facts (e * FACT + 66) 0 ≡ x .end
   pub has : getD facts (e * FACT + 67) 0 ≡ cond (hasModel c) 1 0
 
@@ -139,7 +140,7 @@ module _ (c : Settings) (s : List ℕ) (es : List Element) (read : typeFile c s 
         tags = λ l.
             let t = h .tags l in
             record {
-              start = facts (e * FACT + 65) (omega arith) ∙ t .start;
+              start = ap (λ (n : ℕ). eqb n 1) (facts (e * FACT + 65) (omega arith)) ∙ t .start;
               end = facts (e * FACT + 66) (omega arith) ∙ t .end;
               has = facts (e * FACT + 67) (omega arith) ∙ t .has;
             };
@@ -164,7 +165,7 @@ module _ (c : Settings) (s : List ℕ) (es : List Element) (read : typeFile c s 
           tags = λ l.
               let x = t .tags l in
               record {
-                start = f .over (e * FACT + 65) (omega arith) ∙ w .facts-over (e * FACT + 65) (omega arith) ∙ x .start;
+                start = ap (λ (n : ℕ). eqb n 1) (f .over (e * FACT + 65) (omega arith) ∙ w .facts-over (e * FACT + 65) (omega arith)) ∙ x .start;
                 end = f .over (e * FACT + 66) (omega arith) ∙ w .facts-over (e * FACT + 66) (omega arith) ∙ x .end;
                 has = f .over (e * FACT + 67) (omega arith) ∙ w .facts-over (e * FACT + 67) (omega arith) ∙ x .has;
               };

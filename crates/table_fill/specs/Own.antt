@@ -9,6 +9,7 @@ use Rattle.rules.specs.TypeFile.{Element, typeFile}
 use Rattle.rules.specs.Judge.{Accepts}
 use Rattle.layout.specs.Sizes.{PLACES, FACTS}
 use Rattle.element_index.specs.Means.{Judged, Indexed}
+use Rattle.list_table.specs.Means.{Lists}
 use Rattle.type_tables.specs.Means.{Tables}
 use Rattle.table_fill.specs.Told.{NoMembers}
 use Rattle.table_fill.specs.Places.{PlacePut}
@@ -23,15 +24,18 @@ own : (c : Settings) (s : List ℕ) (es : List Element) → typeFile c s ≡ got
 unfolding elementsOf
 own c s es read = rw (read, elementsOf)
 
--- The index of a type that is accepted under the settings c, though it may have been made under others.
-abbrev pub IndexedIn : Settings → (s elements index : List ℕ) → Type 0
-IndexedIn c s elements index = (es : List Element) × Accepts c s es × Indexed s es elements index
+-- The index of a type that is accepted under the settings c, though it may have been made under others, and its lists.
+abbrev pub IndexedIn : Settings → (s elements index lists : List ℕ) → Type 0
+IndexedIn c s elements index lists = (es : List Element) × Accepts c s es × Indexed s es elements index × Lists c s es lists
 
-pub accepted-own : (c : Settings) (s elements index : List ℕ) → IndexedIn c s elements index → Accepts c s (elementsOf c s)
-accepted-own c s elements index (es, a, i) = subst (Accepts c s) (own c s es (a .elements)) a
+pub accepted-own : (c : Settings) (s elements index lists : List ℕ) → IndexedIn c s elements index lists → Accepts c s (elementsOf c s)
+accepted-own c s elements index lists (es, a, i, l) = subst (Accepts c s) (own c s es (a .elements)) a
 
-pub indexed-own : (c : Settings) (s elements index : List ℕ) → IndexedIn c s elements index → Indexed s (elementsOf c s) elements index
-indexed-own c s elements index (es, a, i) = subst (λ (l : List Element). Indexed s l elements index) (own c s es (a .elements)) i
+pub indexed-own : (c : Settings) (s elements index lists : List ℕ) → IndexedIn c s elements index lists → Indexed s (elementsOf c s) elements index
+indexed-own c s elements index lists (es, a, i, l) = subst (λ (ds : List Element). Indexed s ds elements index) (own c s es (a .elements)) i
+
+pub lists-own : (c : Settings) (s elements index lists : List ℕ) → IndexedIn c s elements index lists → Lists c s (elementsOf c s) lists
+lists-own c s elements index lists (es, a, i, l) = subst (λ (ds : List Element). Lists c s ds lists) (own c s es (a .elements)) l
 
 pub counted-own : (c : Settings) (s elements : List ℕ) (count : ℕ) → Judged c s elements count → length (elementsOf c s) ≡ count
 counted-own c s elements count (es, a, n, r) = rw (← own c s es (a .elements)) n
@@ -47,6 +51,6 @@ Blank R P F = (R ≡ noRows) × (P ≡ noPlaces) × (F ≡ noFacts)
 pub blank-lengths : {R P F : List ℕ} → Blank R P F → (length P ≡ PLACES) × (length F ≡ FACTS)
 blank-lengths (a, b, c) = (rw b (length-replicate {A = ℕ} PLACES 0), rw c (length-replicate {A = ℕ} FACTS 0))
 
-pub filled-own : (c : Settings) (s elements index R P F R′ P′ F′ M : List ℕ) → IndexedIn c s elements index → Blank R P F → NoMembers s M → R′ ≡ documentRows R → PlacePut 0 1 1 P F P′ F′ → Filled s (elementsOf c s) R′ P′ F′ M 1
-filled-own c s elements index R P F R′ P′ F′ M i (a, b, d) none q w =
-    rw (q, a) (filled-document c s (elementsOf c s) (accepted-own c s elements index i .elements) P′ F′ M none (rw (b, d) at w))
+pub filled-own : (c : Settings) (s elements index lists R P F R′ P′ F′ M : List ℕ) → IndexedIn c s elements index lists → Blank R P F → NoMembers s M → R′ ≡ documentRows R → PlacePut 0 1 1 P F P′ F′ → Filled s (elementsOf c s) R′ P′ F′ M 1
+filled-own c s elements index lists R P F R′ P′ F′ M i (a, b, d) none q w =
+    rw (q, a) (filled-document c s (elementsOf c s) (accepted-own c s elements index lists i .elements) P′ F′ M none (rw (b, d) at w))

@@ -26,6 +26,7 @@ ghost use Rattle.layout.specs.Sizes.{ROWS, PLACES, FACTS};
 ghost use Rattle.model_names.specs.Places.{placeIn, placesOf};
 ghost use Rattle.element_reader.specs.Means.{Recorded};
 ghost use Rattle.element_index.specs.Means.{Judged, Indexed};
+ghost use Rattle.list_table.specs.Means.{Lists};
 ghost use Rattle.type_tables.specs.Means.{raisedPlace, Tables};
 ghost use Rattle.table_fill.specs.Places.{slotOf, PlacePut, PlacesPut};
 ghost use mathlib.Core.Bool.{true};
@@ -34,7 +35,7 @@ ghost use Rattle.table_fill.specs.Filled.{LargestPut, Filled};
 ghost use Rattle.table_fill.specs.Kinds.{documentRows};
 ghost use Rattle.table_fill.specs.Names.{nameOf, IsName, PlacesDue};
 ghost use Rattle.table_fill.specs.Own.{elementsOf};
-ghost use Rattle.table_fill.specs.Elements.{factsPut, Flags, ElementDue};
+ghost use Rattle.table_fill.specs.Elements.{Flags, StartFact, FactsPut, ElementDue};
 
 // By which number a place that names v is filed: that of the element, 0 for `#PCDATA`.
 fn slot(v: ElementNo) -> usize
@@ -128,10 +129,10 @@ fn put_places(
     }
 }
 
-// Whether the start of the element e may be inferred, both omissions being recorded: "O", and none of its attributes is required.
+// Whether the start of the element e may be inferred, by its record and its list: "O", and none of its attributes is required.
 fn start_fact(elements: &[u32; RECORDS], lists: &[u16], e: ElementNo) -> u8
     requires { ⌜ (1 ≤ e .0) × (e .0 ≤ 64) × Flags (now elements) (e .0) ⌝ }
-    ensures { λ r. ⌜ ((s : List ℕ) (es : List Element) → Recorded (now (elements .entry)) es → Lists s es (now (lists .entry)) → r ≡ flag (startO es (e .0))) ⌝ }
+    ensures { λ r. ⌜ StartFact (now (elements .entry)) (now (lists .entry)) (e .0) r ⌝ }
 {
     if list_table::needs_tag(lists, e) {
         return 0;
@@ -142,7 +143,7 @@ fn start_fact(elements: &[u32; RECORDS], lists: &[u16], e: ElementNo) -> u8
 // Whether the start of the element e may be inferred, whether its end may be omitted, and its content.
 fn put_facts(facts: &mut [u8; FACTS], elements: &[u32; RECORDS], lists: &[u16], e: ElementNo)
     requires { ⌜ (1 ≤ e .0) × (e .0 ≤ 64) × Flags (now elements) (e .0) ⌝ }
-    ensures { λ _. ⌜ now (facts .exit) ≡ factsPut (now (facts .entry)) (now (elements .entry)) (now (lists .entry)) (e .0) ⌝ }
+    ensures { λ _. ⌜ FactsPut (now (elements .entry)) (now (lists .entry)) (e .0) (now (facts .entry)) (now (facts .exit)) ⌝ }
 {
     let k = 6 * (e.0 - 1);
     facts[e.0 * FACT + 65] = start_fact(elements, lists, e);
@@ -191,7 +192,7 @@ fn put_element(
     names: &mut [u32; NAMES],
     table: &mut [u8; MODEL],
 )
-    requires { ⌜ ElementDue (settings long) (now s) (elementsOf (settings long) (now s)) (now elements) (now index) (now rows) (now places) (now facts) (now members) (e .0) ⌝ }
+    requires { ⌜ ElementDue (settings long) (now s) (elementsOf (settings long) (now s)) (now elements) (now lists) (now index) (now rows) (now places) (now facts) (now members) (e .0) ⌝ }
     ensures { λ _. ⌜ Filled (now (s .entry)) (elementsOf (settings long) (now (s .entry))) (now (rows .exit)) (now (places .exit)) (now (facts .exit)) (now (members .exit)) (e .0 + 1) ⌝ }
 {
     put_facts(facts, elements, lists, e);

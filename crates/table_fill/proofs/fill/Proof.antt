@@ -5,36 +5,43 @@ use native.Mathlib.Omega.{arith}
 use lib.ListN.{length}
 use Rattle.rules.specs.Settings.{settings}
 use Rattle.table_fill.specs.Filled.{Filled}
-use Rattle.table_fill.specs.Own.{elementsOf, accepted-own, indexed-own, counted-own, tables-own, blank-lengths, filled-own}
+use Rattle.table_fill.specs.Own.{elementsOf, accepted-own, indexed-own, lists-own, counted-own, tables-own, blank-lengths, filled-own}
 use Rattle.table_fill.proofs.fill.Statement.{statement}
 use Rattle.table_fill.proofs.fill.Tie as tie
 
 abbrev Inv-loop : tie.InvT-loop
-Inv-loop long s elements count index rows₀ places₀ facts₀ members₀ names₀ table₀ k₀ rows places facts members names table k =
+Inv-loop long s elements lists count index rows₀ places₀ facts₀ members₀ names₀ table₀ k₀ rows places facts members names table k =
     (1 ≤ k) × (k ≤ count + 1) × (length members ≡ length members₀) × Filled s (elementsOf (settings long) s) rows places facts members k
 
 abbrev μ-loop : tie.MeasureT-loop
-μ-loop long s elements count index rows₀ places₀ facts₀ members₀ names₀ table₀ k₀ rows places facts members names table k =
+μ-loop long s elements lists count index rows₀ places₀ facts₀ members₀ names₀ table₀ k₀ rows places facts members names table k =
     count + 1 - k
 
 put-document-requires : tie.Need-put-document-requires Inv-loop μ-loop
-put-document-requires c κs = blank-lengths (c .before .before .before .before .before .pre .1 .1 .0)
+put-document-requires c κs = blank-lengths (c .before .before .before .before .before .before .pre .1 .1 .0)
 
 loop-holds : tie.Need-loop-holds Inv-loop μ-loop
 loop-holds c =
-    let pre = c .before .before .before .before .before .before .pre in
-    (omega arith, omega arith, refl, filled-own _ _ _ _ _ _ _ _ _ _ _ (pre .1 .0) (pre .1 .1 .0) (pre .1 .1 .1) (c .put-document .ensures .0) (c .put-document .ensures .1))
+    let pre = c .before .before .before .before .before .before .before .pre in
+    (omega arith, omega arith, refl, filled-own _ _ _ _ _ _ _ _ _ _ _ _ (pre .1 .0) (pre .1 .1 .0) (pre .1 .1 .1) (c .put-document .ensures .0) (c .put-document .ensures .1))
 
 put-element-requires : tie.Need-put-element-requires Inv-loop μ-loop
 put-element-requires c κs =
-    let turn = c .before .before .before .before .before .before .before in
-    let pre = turn .before .before .before .before .before .before .before .pre in
-    record { accepted = accepted-own _ _ _ _ (pre .1 .0); indexed = indexed-own _ _ _ _ (pre .1 .0); from = turn .loop .inv .0; to = omega (arith, counted-own _ _ _ _ (pre .0)); filled = turn .loop .inv .3 }
+    let pre = c .before .before .before .before .before .before .before .before .before .before .before .before .before .before .before .pre in
+    let inv = c .before .before .before .before .before .before .before .loop .inv in
+    record {
+      accepted = accepted-own _ _ _ _ _ (pre .1 .0);
+      indexed = indexed-own _ _ _ _ _ (pre .1 .0);
+      listed = lists-own _ _ _ _ _ (pre .1 .0);
+      from = inv .0;
+      to = omega (arith, counted-own _ _ _ _ (pre .0));
+      filled = inv .3;
+    }
 
 add-k : tie.Need-add-k Inv-loop μ-loop
 add-k c =
-    let pre = c .before .before .before .before .before .before .before .before .before .before .before .before .before .before .before .before .before .pre in
-    let few = indexed-own _ _ _ _ (pre .1 .0) .few in
+    let pre = c .before .before .before .before .before .before .before .before .before .before .before .before .before .before .before .before .before .before .pre in
+    let few = indexed-own _ _ _ _ _ (pre .1 .0) .few in
     let counted = counted-own _ _ _ _ (pre .0) in
     omega arith
 
@@ -42,16 +49,14 @@ loop-less : tie.Need-loop-less Inv-loop μ-loop
 loop-less c = omega arith
 
 loop-again : tie.Need-loop-again Inv-loop μ-loop
-loop-again c =
-    let put = c .before .before .put-element in
-    (omega arith, omega arith, put .kept .1 .1 .1 .1 .1 .1 .1 .0 ∙ c .before .before .before .before .before .before .before .before .before .before .loop .inv .2, put .ensures)
+loop-again c = (omega arith, omega arith, c .before .before .put-element .kept .1 .1 .1 .1 .1 .1 .1 .1 .0 ∙ c .before .before .before .before .before .before .before .before .before .before .loop .inv .2, c .before .before .put-element .ensures)
 
 same-length : tie.Need-same-length Inv-loop μ-loop
 same-length c = c .before .loop .inv .2
 
 returns : tie.Need-returns Inv-loop μ-loop
 returns c es a n r =
-    let pre = c .before .before .before .before .before .before .before .before .pre in
+    let pre = c .before .before .before .before .before .before .before .before .before .pre in
     let counted = counted-own _ _ _ _ (pre .0) in
     tables-own _ _ _ _ _ _ _ (c .before .loop .inv .3) (omega arith) es a
 

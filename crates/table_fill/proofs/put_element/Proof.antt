@@ -7,20 +7,19 @@ use Rattle.table_fill.proofs.put_element.Tie as tie
 
 put-facts-requires : tie.Need-put-facts-requires
 put-facts-requires c κs =
-    let due = c .before .before .before .pre in
-    (due .from, few _ _ _ _ _ _ _ _ _ _ due, flags _ _ _ _ _ _ _ _ _ _ due)
+    let due = c .before .before .before .before .pre in
+    (due .from, few _ _ _ _ _ _ _ _ _ _ _ due, flags _ _ _ _ _ _ _ _ _ _ _ due)
 
 offset-requires : tie.Need-offset-requires
 offset-requires c κs =
-    let due = c .before .before .before .before .pre in
-    (due .from, few _ _ _ _ _ _ _ _ _ _ due)
+    let due = c .before .before .before .before .before .pre in
+    (due .from, few _ _ _ _ _ _ _ _ _ _ _ due)
 
 sub-element-at : tie.Need-sub-element-at
 sub-element-at c = search needs
 
 element-at-requires : tie.Need-element-at-requires
-element-at-requires c κs =
-    name-in _ _ _ _ _ _ _ _ _ _ (c .before .before .before .before .before .before .before .before .pre) _ (c .before .before .before .offset .ensures .0)
+element-at-requires c κs = name-in _ _ _ _ _ _ _ _ _ _ _ (c .before .before .before .before .before .before .before .before .before .pre) _ (c .before .before .before .offset .ensures .0)
 
 enum-known-r : tie.Need-enum-known-r
 enum-known-r c = search needs
@@ -29,85 +28,48 @@ enum-told : tie.Need-enum-told
 enum-told c = search needs
 
 returns : tie.Need-returns
-returns c =
-    let read = c .before .before in
-    let start = read .before .before .before .before .before .before .before .before .before in
-    let offset = read .before .before .before .before .offset .ensures .0 in
-    let met = read .element-at .ensures .0 in
-    absurd (not-refused _ _ _ _ _ _ _ _ _ _ (start .pre) _ _ _ _ offset met _ (c .enum-told .given .1))
+returns c = absurd (not-refused _ _ _ _ _ _ _ _ _ _ _ (c .before .before .before .before .before .before .before .before .before .before .before .before .pre) _ _ _ _ (c .before .before .before .before .before .before .offset .ensures .0) (c .before .before .element-at .ensures .0) _ (c .enum-told .given .1))
 
 row-requires : tie.Need-row-requires
-row-requires c κs = (few _ _ _ _ _ _ _ _ _ _ (c .before .before .before .before .before .before .before .before .before .before .before .before .before .before .pre), omega arith)
+row-requires c κs = (few _ _ _ _ _ _ _ _ _ _ _ (c .before .before .before .before .before .before .before .before .before .before .before .before .before .before .before .pre), omega arith)
 
 element-write-rows : tie.Need-element-write-rows
-element-write-rows c = omega (arith, few _ _ _ _ _ _ _ _ _ _ (c .before .before .before .before .before .before .before .before .before .before .before .before .before .before .before .pre))
+element-write-rows c = omega (arith, few _ _ _ _ _ _ _ _ _ _ _ (c .before .before .before .before .before .before .before .before .before .before .before .before .before .before .before .before .pre))
 
 returns-2 : tie.Need-returns-2
 returns-2 c =
-    let read = c .before .before .before .before .before .before in
-    let start = read .before .before .before .before .before .before .before .before .before in
-    let offset = read .before .before .before .before .offset .ensures .0 in
-    let met = read .element-at .ensures .0 in
-    let is = c .before .before .before .before .r .given .1 in
-    element-empty _ _ _ _ _ _ _ _ _ _ (start .pre) _ _ _ _ offset met _ is _ (read .before .before .before .before .before .put-facts .ensures) (c .before .if1 .taken) _ (c .row .ensures)
+    element-empty _ _ _ _ _ _ _ _ _ _ _ (c .before .before .before .before .before .before .before .before .before .before .before .before .before .before .before .before .pre) _ _ _ _ (c .before .before .before .before .before .before .before .before .before .before .offset .ensures .0) (c .before .before .before .before .before .before .element-at .ensures .0) _ (c .before .before .before .before .r .given .1) _ (c .before .before .before .before .before .before .before .before .before .before .before .put-facts .ensures) (c .before .if1 .taken) _ (c .row .ensures)
 
 put-places-requires : tie.Need-put-places-requires
-put-places-requires c κs =
-    let read = c .before .before .before .before .before .before .before .before in
-    let start = read .before .before .before .before .before .before .before .before .before in
-    let offset = read .before .before .before .before .offset .ensures .0 in
-    let met = read .element-at .ensures .0 in
-    let is = c .before .before .before .before .before .before .r .given .1 in
-    places-due _ _ _ _ _ _ _ _ _ _ (start .pre) _ _ _ _ offset met _ is _ (read .before .before .before .before .before .put-facts .ensures) (c .before .before .before .if1 .left)
+put-places-requires c κs = places-due _ _ _ _ _ _ _ _ _ _ _ (c .before .before .before .before .before .before .before .before .before .before .before .before .before .before .before .before .before .before .pre) _ _ _ _ (c .before .before .before .before .before .before .before .before .before .before .before .before .offset .ensures .0) (c .before .before .before .before .before .before .before .before .element-at .ensures .0) _ (c .before .before .before .before .before .before .r .given .1) _ (c .before .before .before .before .before .before .before .before .before .before .before .before .before .put-facts .ensures) (c .before .before .before .if1 .left)
 
 put-rows-requires : tie.Need-put-rows-requires
-put-rows-requires c κs =
-    let read = c .before .before .before .before .before .before .before .before .before .before .before .before .before in
-    let start = read .before .before .before .before .before .before .before .before .before in
-    let offset = read .before .before .before .before .offset .ensures .0 in
-    let met = read .element-at .ensures .0 in
-    let is = c .before .before .before .before .before .before .before .before .before .before .before .r .given .1 in
-    (rows-due _ _ _ _ _ _ _ _ _ _ (start .pre) _ _ _ _ offset met _ is (c .before .before .before .before .before .before .before .before .if1 .left), omega arith)
+put-rows-requires c κs = (rows-due _ _ _ _ _ _ _ _ _ _ _ (c .before .before .before .before .before .before .before .before .before .before .before .before .before .before .before .before .before .before .before .before .before .before .before .pre) _ _ _ _ (c .before .before .before .before .before .before .before .before .before .before .before .before .before .before .before .before .before .offset .ensures .0) (c .before .before .before .before .before .before .before .before .before .before .before .before .before .element-at .ensures .0) _ (c .before .before .before .before .before .before .before .before .before .before .before .r .given .1) (c .before .before .before .before .before .before .before .before .if1 .left), omega arith)
 
 returns-3 : tie.Need-returns-3
 returns-3 c =
-    let read = c .before .before .before .before .before .before .before .before .before .before .before .before .before .before in
-    let start = read .before .before .before .before .before .before .before .before .before in
-    let offset = read .before .before .before .before .offset .ensures .0 in
-    let met = read .element-at .ensures .0 in
-    let is = c .before .before .before .before .before .before .before .before .before .before .before .before .r .given .1 in
-    element-plain _ _ _ _ _ _ _ _ _ _ (start .pre) _ _ _ _ offset met _ is _ (read .before .before .before .before .before .put-facts .ensures) (c .before .before .before .before .before .before .before .before .before .if1 .left) (c .before .before .before .if2 .taken) _ _ _ (c .put-rows .ensures) (c .before .before .before .before .before .put-places .ensures _ (start .pre .indexed))
+    let due = c .before .before .before .before .before .before .before .before .before .before .before .before .before .before .before .before .before .before .before .before .before .before .before .before .pre in
+    element-plain _ _ _ _ _ _ _ _ _ _ _ due _ _ _ _ (c .before .before .before .before .before .before .before .before .before .before .before .before .before .before .before .before .before .before .offset .ensures .0) (c .before .before .before .before .before .before .before .before .before .before .before .before .before .before .element-at .ensures .0) _ (c .before .before .before .before .before .before .before .before .before .before .before .before .r .given .1) _ (c .before .before .before .before .before .before .before .before .before .before .before .before .before .before .before .before .before .before .before .put-facts .ensures) (c .before .before .before .before .before .before .before .before .before .if1 .left) (c .before .before .before .if2 .taken) _ _ _ (c .put-rows .ensures) (c .before .before .before .before .before .put-places .ensures _ (due .indexed))
 
 put-rows-requires-2 : tie.Need-put-rows-requires-2
-put-rows-requires-2 c κs =
-    let read = c .before .before .before .before .before .before .before .before .before .before .before .before .before in
-    let start = read .before .before .before .before .before .before .before .before .before in
-    let offset = read .before .before .before .before .offset .ensures .0 in
-    let met = read .element-at .ensures .0 in
-    let is = c .before .before .before .before .before .before .before .before .before .before .before .r .given .1 in
-    (rows-due _ _ _ _ _ _ _ _ _ _ (start .pre) _ _ _ _ offset met _ is (c .before .before .before .before .before .before .before .before .if1 .left), omega arith)
+put-rows-requires-2 c κs = (rows-due _ _ _ _ _ _ _ _ _ _ _ (c .before .before .before .before .before .before .before .before .before .before .before .before .before .before .before .before .before .before .before .before .before .before .before .pre) _ _ _ _ (c .before .before .before .before .before .before .before .before .before .before .before .before .before .before .before .before .before .offset .ensures .0) (c .before .before .before .before .before .before .before .before .before .before .before .before .before .element-at .ensures .0) _ (c .before .before .before .before .before .before .before .before .before .before .before .r .given .1) (c .before .before .before .before .before .before .before .before .if1 .left), omega arith)
 
 raise-facts-requires : tie.Need-raise-facts-requires
 raise-facts-requires c κs =
-    let start = c .before .before .before .before .before .before .before .before .before .before .before .before .before .before .before .before .before .before .before .before .before .before .before .before in
-    (few _ _ _ _ _ _ _ _ _ _ (start .pre), c .before .before .before .before .before .before .put-places .ensures _ (start .pre .indexed) .facts-len)
+    let due = c .before .before .before .before .before .before .before .before .before .before .before .before .before .before .before .before .before .before .before .before .before .before .before .before .before .pre in
+    (few _ _ _ _ _ _ _ _ _ _ _ due, c .before .before .before .before .before .before .put-places .ensures _ (due .indexed) .facts-len)
 
 fill-requires : tie.Need-fill-requires
-fill-requires c κs = omega (arith, few _ _ _ _ _ _ _ _ _ _ (c .before .before .before .before .before .before .before .before .before .before .before .before .before .before .before .before .before .before .before .before .before .before .before .before .before .before .before .pre))
+fill-requires c κs = omega (arith, few _ _ _ _ _ _ _ _ _ _ _ (c .before .before .before .before .before .before .before .before .before .before .before .before .before .before .before .before .before .before .before .before .before .before .before .before .before .before .before .before .pre))
 
 same-length : tie.Need-same-length
 same-length c = c .before .before .fill .kept .0
 
 returns-4 : tie.Need-returns-4
 returns-4 c =
-    let read = c .before .before .before .before .before .before .before .before .before .before .before .before .before .before .before .before .before .before .before .before .before in
-    let start = read .before .before .before .before .before .before .before .before .before in
-    let offset = read .before .before .before .before .offset .ensures .0 in
-    let met = read .element-at .ensures .0 in
-    let is = c .before .before .before .before .before .before .before .before .before .before .before .before .before .before .before .before .before .before .before .r .given .1 in
-    let filled = c .before .before in
-    element-among _ _ _ _ _ _ _ _ _ _ (start .pre) _ _ _ _ offset met _ is _ (read .before .before .before .before .before .put-facts .ensures) (c .before .before .before .before .before .before .before .before .before .before .before .before .before .before .before .before .if1 .left) _ _ _ _ _ (c .before .before .before .before .before .before .before .put-rows2 .ensures) (c .before .before .before .before .before .before .before .before .before .before .before .before .put-places .ensures _ (start .pre .indexed))
-    (c .before .before .before .before .before .raise-facts .ensures) (filled .fill .kept .0) (filled .fill .ensures)
+    let due = c .before .before .before .before .before .before .before .before .before .before .before .before .before .before .before .before .before .before .before .before .before .before .before .before .before .before .before .before .before .before .before .pre in
+    element-among _ _ _ _ _ _ _ _ _ _ _ due _ _ _ _ (c .before .before .before .before .before .before .before .before .before .before .before .before .before .before .before .before .before .before .before .before .before .before .before .before .before .offset .ensures .0) (c .before .before .before .before .before .before .before .before .before .before .before .before .before .before .before .before .before .before .before .before .before .element-at .ensures .0) _ (c .before .before .before .before .before .before .before .before .before .before .before .before .before .before .before .before .before .before .before .r .given .1) _ (c .before .before .before .before .before .before .before .before .before .before .before .before .before .before .before .before .before .before .before .before .before .before .before .before .before .before .put-facts .ensures) (c .before .before .before .before .before .before .before .before .before .before .before .before .before .before .before .before .if1 .left) _ _ _ _ _ (c .before .before .before .before .before .before .before .put-rows2 .ensures) (c .before .before .before .before .before .before .before .before .before .before .before .before .put-places .ensures _ (due .indexed))
+    (c .before .before .before .before .before .raise-facts .ensures) (c .before .before .fill .kept .0) (c .before .before .fill .ensures)
 
 pub put-element-spec : {M : Type 1} → statement M
 put-element-spec =
