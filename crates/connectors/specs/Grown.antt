@@ -30,7 +30,7 @@ joins-one g = record { few = omega arith; alone = λ e. refl; some = λ e. absur
 module _ (lo : ℕ) (T : List ℕ) (n : ℕ) where
   -- where less is due
   pub ready-more : {d e : ℕ} → e ≤ d → Ready (begun lo T n e) → Ready (begun lo T n d)
-  ready-more h r = record { fresh = r .fresh; owed = omega (arith, r .owed) }
+  ready-more h r = record { len = r .len; owed = omega (arith, r .owed) }
 
   pub tabled-less : {d e τ c : ℕ} {g : Group} {own table : List ℕ} → e ≤ d → Tabled (begun lo T n d) g own τ table c → Tabled (begun lo T n e) g own τ table c
   tabled-less h x = record { filled = x .filled; code-holds = x .code-holds; room = omega (arith, x .room) }

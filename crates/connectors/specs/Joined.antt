@@ -14,7 +14,7 @@ use Rattle.model_sets.specs.Sets.{size, sizeM, Numbered, NumberedM}
 use Rattle.model_links.specs.Behind.{Behind, behind-none}
 use Rattle.model_table.specs.declared.Part.{Part}
 use Rattle.model_table.specs.Fill.{partOf, partSeq, partAlt, partAnd, joinSeq, joinAnd}
-use Rattle.model_table.specs.Means.{Filled, fresh-after, both, sequence, any-order}
+use Rattle.model_table.specs.Means.{Filled, both, sequence, any-order}
 use Rattle.model_table.specs.Behind.{seq-behind, and-behind}
 use Rattle.model_code.specs.Means.{putCode, codeNext}
 use Rattle.model_code.specs.Spelled.{count, codes, codesM, codeIn}
@@ -76,7 +76,7 @@ module _ (end lo : ℕ) (T : List ℕ) (n d k joint : ℕ) (names table names' t
     ready-second : Ready (begun (m .places + 1) table (m .code) (4 * m .tokens + 3))
     ready-second =
         record {
-          fresh = rw mid (fresh-after (t .group) lo T table (K .from) (ready .fresh) (first-tabled .filled));
+          len = first-tabled .filled .len;
           owed = omega (arith, first-tabled .room, ready .owed, K .tokens);
         }
 

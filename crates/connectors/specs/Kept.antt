@@ -7,10 +7,11 @@ use lib.ListN.{length}
 use lib.Dec.{eqb}
 use Rattle.rules.specs.Walk.{Group, and}
 use Rattle.rules.specs.TypeFile.{Tokens, membersOf, earlier}
+use Rattle.layout.specs.Sizes.{MODEL}
 use Rattle.model_sets.specs.Sets.{size, Numbered}
 use Rattle.model_table.specs.declared.Part.{Part}
 use Rattle.model_table.specs.Fill.{partOf, partSeq, partAlt, partAnd, joinSeq, joinAnd}
-use Rattle.model_table.specs.Means.{Filled, Fresh}
+use Rattle.model_table.specs.Means.{Filled}
 use Rattle.model_code.specs.Means.{putCode, codeNext}
 use Rattle.model_code.specs.Spelled.{count, codes, codesM, codeIn}
 use Rattle.model_names.specs.Places.{placesOf}
@@ -27,9 +28,9 @@ pub record Begun : Type 0 where
 abbrev pub begun : (lo : ℕ) (T : List ℕ) (n due : ℕ) → Begun
 begun lo T n due = record { lo = lo; table = T; code = n; due = due }
 
--- The table says nothing yet of the places from there on, and the code has room.
+-- The table has its length, and the code has room.
 pub record Ready (B : Begun) : Type 0 where
-  pub fresh : Fresh (B .lo) (B .table)
+  pub len : length (B .table) ≡ MODEL
   pub owed : B .code ≤ B .due
 
 -- The table and its code, of so many numbers, hold what they held and the group g, which is spelled so. The model has so many tokens.

@@ -12,12 +12,13 @@ use Rattle.rules.specs.Reading.{refused, got}
 use Rattle.rules.specs.Walk.{Group, place, plus, star}
 use Rattle.rules.specs.TypeFile.{Place, Tokens, occurrence, newPlace, nameToken, dataToken, isWord, isCut, PCDATA}
 use Rattle.text.specs.Laws.{cut-or}
+use Rattle.layout.specs.Sizes.{MODEL}
 use Rattle.model_sets.specs.Sets.{Numbered}
 use Rattle.model_sets.specs.Sets as sets
 use Rattle.model_links.specs.Behind.{Behind, behind-on}
 use Rattle.model_table.specs.declared.Part.{Part}
 use Rattle.model_table.specs.Fill.{part, partOf, repeated, putPlace}
-use Rattle.model_table.specs.Means.{Filled, Fresh, placed, repeats}
+use Rattle.model_table.specs.Means.{Filled, placed, repeats}
 use Rattle.model_table.specs.Behind.{place-behind, repeated-behind}
 use Rattle.model_code.specs.Means.{putCode, codeNext}
 use Rattle.model_code.specs.Spelled.{codes, codeIn}
@@ -69,8 +70,8 @@ module _ (end at at' size places tokens n : ℕ) (T names₀ names : List ℕ) (
       })
 
   module _ (R : List ℕ) (f : R ≡ putPlace T (places + 1)) where
-    place-filled : Fresh (places + 1) T → Filled (place (places + 1)) (places + 1) T R
-    place-filled fresh = rw f (placed (places + 1) (places + 1) T (omega arith) (omega arith) refl fresh)
+    place-filled : length T ≡ MODEL → Filled (place (places + 1)) (places + 1) T R
+    place-filled len = rw f (placed (places + 1) (places + 1) T (omega arith) (omega arith) refl len)
 
     place-kept : Behind T R
     place-kept = rw f (place-behind T (places + 1) (omega arith))
@@ -81,7 +82,7 @@ module _ (end at at' size places tokens n : ℕ) (T names₀ names : List ℕ) (
         new-keeps (4 * tokens + 3 + 2) c place p S q refl refl
         (λ ready.
         rw (s, k)
-        (tabled-on (places + 1) T n (4 * tokens + 3 + 2) (tokens + 1) n (places + 1) (place (places + 1)) [] T R ready (omega arith) (omega arith) (place-filled (ready .fresh)) place-kept (sym (append-nil (codeIn T n))) (omega arith)))
+        (tabled-on (places + 1) T n (4 * tokens + 3 + 2) (tokens + 1) n (places + 1) (place (places + 1)) [] T R ready (omega arith) (omega arith) (place-filled (ready .len)) place-kept (sym (append-nil (codeIn T n))) (omega arith)))
 
     -- `#PCDATA`, which repeats or is left out
     pub new-data : (p : Part) (Q S₁ S₂ S : List ℕ) (c₁ c₂ c : ℕ) → p ≡ part true 0 → Q ≡ repeated R (places + 1) (places + 1 + 1) → S₁ ≡ putCode Q n (places + 1) → c₁ ≡ codeNext n
@@ -94,7 +95,7 @@ module _ (end at at' size places tokens n : ℕ) (T names₀ names : List ℕ) (
         let g : Group = place lo in
         let d : ℕ = 4 * tokens + 3 in
         let on : Behind T Q = rw r (behind-on place-kept (repeated-behind R lo (lo + 1) (omega arith) (omega arith))) in
-        let filled : Filled (plus g) lo T Q = rw r (repeats g lo (omega arith) (omega arith) refl T R (place-filled (ready .fresh))) in
+        let filled : Filled (plus g) lo T Q = rw r (repeats g lo (omega arith) (omega arith) refl T R (place-filled (ready .len))) in
         let x₁ : Tabled (begun lo T n (d + 1 + 1)) (plus g) (lo ∷ []) (tokens + 1) S₁ c₁ =
         rw (s₁, k₁) (tabled-on lo T n (d + 1 + 1) (tokens + 1) n lo (plus g) [] T Q (ready-more lo T n (omega arith) ready) (omega arith) (omega arith) filled on (sym (append-nil (codeIn T n))) (omega arith)) in
         let x₂ : Tabled (begun lo T n (d + 1)) (plus g) (codes (plus g)) (tokens + 1) S₂ c₂ =

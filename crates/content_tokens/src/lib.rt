@@ -39,7 +39,7 @@ pub fn refusal(number: u32, at: usize) -> ModelRead
 }
 
 // A name as content token, at most `long` bytes long. Where it is refused, what `names` and `table` hold is not decided; nor is, here and
-// below, what `names` holds behind the places that were read.
+// below, what they hold behind the places that were read.
 pub fn name_token(
     long: usize,
     s: &[u8],

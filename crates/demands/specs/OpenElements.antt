@@ -2,11 +2,12 @@
 -- "Store the mark, and the required place if there is one, with each open element. At every moment both must equal what 01's definition says of
 -- the places taken." The hypotheses are the contracts as they stand in the source, as on the page of the calls: `Asked` is what a function requires.
 use Prim.Native.Nat.{ℕ, suc, _≤_, _<_}
-use mathlib.Core.Path.{_≡_, refl, sym, _∙_, subst}
-use mathlib.Core.Bool.{true}
+use mathlib.Core.Path.{_≡_, refl, sym, _∙_, ap, ap₂, subst}
+use mathlib.Core.Bool.{Bool, true, false, _&&_}
 use mathlib.Core.List.{List, [], _∷_, _++_}
 use native.Mathlib.Omega.{arith}
 use lib.ListN.{length}
+use lib.Dec.{eqb}
 use contract.Lifetimes.{Lfts}
 use denote.Ref.{now}
 use denote.Triple.Clauses.{AtExit}
@@ -30,7 +31,7 @@ use Rattle.type_tables.specs.Means.{Tables}
 use Rattle.layout.specs.declared.Place as typed
 use Rattle.open_elements.specs.declared.Open.{Open}
 use Rattle.open_elements.specs.declared.Outcome.{Outcome}
-use Rattle.open_elements.specs.Means.{fresh, Ranged, Stands, Taking}
+use Rattle.open_elements.specs.Means.{fresh, opening, Ranged, Stands, Taking}
 use Rattle.open_elements.specs.Marks.{AllSay}
 use Rattle.open_elements.specs.Laws.{ranged-fresh, ranged-taking, ranged-opening, ranged-ended}
 use Rattle.open_elements.proofs.Open.new as new
@@ -50,25 +51,28 @@ use Rattle.left_out_ends.proofs.end_until as end-until
 use Rattle.left_out_ends.proofs.end_until.Reads as end-until-reads
 use Rattle.ways.specs.declared.Way.the-variants.{Taken, Inferred, Stuck}
 use Rattle.ways.specs.Means.{tokenOf, startsOf}
+use Rattle.ways.proofs.is_over as is-over
+use Rattle.ways.proofs.is_over.Reads as is-over-reads
+use Rattle.ways.proofs.opens as opens
+use Rattle.ways.proofs.opens.Reads as opens-reads
 use Rattle.inferring.specs.declared.Stop.{Stop}
-use Rattle.inferring.specs.Inferring.{inferOne, Infers}
+use Rattle.inferring.specs.Inferring.{Stops, inferOne, Infers, InfersStart}
 use Rattle.inferring.proofs.ends as step-ends
 use Rattle.inferring.proofs.ends.Reads as step-ends-reads
 use Rattle.inferring.proofs.infer_start as infer-start
 use Rattle.inferring.proofs.infer_start.Reads as infer-start-reads
-use Rattle.placing.specs.Noting.{noting}
+use Rattle.placing.specs.Noting.{noting, Opens, Placed, openedBy}
 use Rattle.placing.proofs.placed as place
 use Rattle.placing.proofs.placed.Reads as place-reads
-use Rattle.settling.proofs.token as token
-use Rattle.settling.proofs.token.Reads as token-reads
+use Rattle.settling.specs.Steps.{Steps}
 use Rattle.closing.proofs.end_tag as end-tag
 use Rattle.closing.proofs.end_tag.Reads as end-tag-reads
 use Rattle.closing.proofs.finish as finish
 use Rattle.closing.proofs.finish.Reads as finish-reads
 use Rattle.moments.specs.Means.{Moment, Does, Asks, Beside, Leads}
 use Rattle.moments.specs.Beside.{moment-first, moment-noted, moment-parent, moment-ended, moment-entered, complete-kept, required-kept, moment-took, moment-started, moment-act, moment-asks}
-use Rattle.moments.specs.Results.{passes-beside, document-beside, reaches-leads, settles-leads, data-leads, tagged-leads}
-use Rattle.moments.specs.Steps.{stops-lead, infers-start-does, places-leads, places-data, until-leads, finished-beside}
+use Rattle.moments.specs.Results.{passes-beside, document-beside, reaches-leads, steps-lead, steps-data, tagged-leads}
+use Rattle.moments.specs.Steps.{stops-lead, infers-start-does, placed-moment, places-leads, places-data, until-leads, finished-beside}
 
 -- Demand 1, "keeps between 0 and 24 elements open", and what is kept of them lies in the array of 24 entries.
 abbrev pub KeepsFew : Open → Type 0
@@ -100,9 +104,19 @@ infer-end-few κs a r e asked made = (keeps-few (asked .0), keeps-few (subst Ran
 pub end-few : (κs : Lfts 0) (a : ArgsD end.signature κs) (r : Open) (e : AtExit end.ended κs) → end-reads.Asked κs a → end-reads.Learnt κs a r e → KeepsFew (a .0) × KeepsFew r
 end-few κs a r e asked made = (keeps-few (asked .0), keeps-few (subst Ranged (sym made) (ranged-ended (asked .0) (asked .1))))
 
--- So are those that settling a start tag or data, an end tag and the document's end are handed and hand back, where they refuse as well.
-pub token-few : (κs : Lfts 7) (a : ArgsD token.signature κs) (r : Outcome) (e : AtExit token.ended κs) → token-reads.Asked κs a → token-reads.Learnt κs a r e → KeepsFew (a .1 .1 .1 .1 .1 .0) × KeepsFew (r .open)
-token-few κs a r e asked settles = (keeps-few (asked .0), keeps-few (settles .ranged))
+-- So are those that the steps of a start tag or data, an end tag and the document's end are handed and hand back, where they refuse as well.
+pub ends-few : (κs : Lfts 7) (a : ArgsD step-ends.signature κs) (r : Stop) (e : AtExit step-ends.ended κs) → step-ends-reads.Asked κs a → step-ends-reads.Learnt κs a r e → KeepsFew (a .1 .1 .1 .1 .1 .0) × KeepsFew (r .open)
+ends-few κs a r e asked stops = (keeps-few (asked .0), keeps-few (stops .turns .ranged))
+
+pub infer-start-few : (κs : Lfts 7) (a : ArgsD infer-start.signature κs) (r : Open) (e : AtExit infer-start.ended κs) → infer-start-reads.Asked κs a → infer-start-reads.Learnt κs a r e → KeepsFew (a .1 .1 .1 .1 .1 .0) × KeepsFew r
+infer-start-few κs a r e asked infers =
+    let made = infers .starting in
+    let taken = ranged-taking (made .taking) (asked .0) (asked .0 .required) in
+    let less : made .taken .count < 24 = omega (arith, made .taking .count, asked .1) in
+    (keeps-few (asked .0), keeps-few (subst Ranged (sym (made .opens)) (ranged-opening (now (a .0)) (infers .k) taken less (infers .few))))
+
+pub placed-few : (κs : Lfts 7) (a : ArgsD place.signature κs) (r : Outcome) (e : AtExit place.ended κs) → place-reads.Asked κs a → place-reads.Learnt κs a r e → KeepsFew (a .1 .1 .1 .1 .1 .0) × KeepsFew (r .open)
+placed-few κs a r e asked placed = (keeps-few (asked .0), keeps-few (placed .ranged))
 
 pub end-tag-few : (κs : Lfts 3) (a : ArgsD end-tag.signature κs) (r : Outcome) (e : AtExit end-tag.ended κs) → end-tag-reads.Asked κs a → end-tag-reads.Learnt κs a r e → KeepsFew (a .1 .0) × KeepsFew (r .open)
 end-tag-few κs a r e asked tagged = (keeps-few (asked .0), keeps-few (tagged .brings .ranged))
@@ -229,32 +243,38 @@ module _ (c : Settings) (s d : List ℕ) (es : List Element) (rows places facts 
       → Passes c s es (decided s es) d at z × Leads s es (decided s es) rows M nothingOpen fresh bits z o now
   between-tokens at o now z g h r = (r .passes, reaches-leads tables bits g h r)
 
--- Within a start tag that is not refused: the ends that it infers, the starts that it infers, then itself, with a moment before and after each. x is the
--- element, from `at` to `after`. What `token` gives is what these acts lead to.
-pub within-start-tag : (κs : Lfts 7) (a : ArgsD token.signature κs) (r : Outcome) (e : AtExit token.ended κs) → token-reads.Learnt κs a r e
-    → (s : List ℕ) (es : List Element) → Tables s es (now (a .0)) (now (a .1 .0)) (now (a .1 .1 .0)) (now (a .1 .1 .1 .0))
-    → let M = now (a .1 .1 .1 .0) in
-    let bits = now (a .1 .1 .1 .1 .0) in
-    let o = a .1 .1 .1 .1 .1 .0 in
-    let x = a .1 .1 .1 .1 .1 .1 .0 .0 in
-    let at = a .1 .1 .1 .1 .1 .1 .1 .0 in
-    let after = a .1 .1 .1 .1 .1 .1 .1 .1 .0 in
-    1 ≤ x → x ≤ length es → r .number ≡ 0 → (z : State) → Moment es M bits z o
-    → (y : State) × (startElement s es (decided s es) x at after z ≡ got y) × Leads s es (decided s es) (now (a .0)) M z o bits y (r .open) (now (e .1 .1 .1 .1 .0))
-within-start-tag κs a r e settles s es tables some most done z m = settles-leads tables settles some most done z m
+-- The steps of a start tag or of data, in order (`Steps` of settling/specs): what it says of each is the contract of the function that takes it. `is_over`
+-- answers whether the document is over, `ends` infers ends, `infer_start` each of the starts, `placed` takes the place, `opens` answers whether the element
+-- has a model, and `start` opens it (`start-few`, `start-moment`).
+pub is-over-step : (κs : Lfts 0) (a : ArgsD is-over.signature κs) (r : Bool) (e : AtExit is-over.ended κs) → is-over-reads.Learnt κs a r e → r ≡ eqb (a .0 .element .0) 0 && a .0 .complete
+is-over-step κs a r e says = says
 
--- Within a run of data that is not refused: x is 0. The first byte of the run infers what is inferred and takes its place; each further byte takes the
--- same place again.
-pub within-data : (κs : Lfts 7) (a : ArgsD token.signature κs) (r : Outcome) (e : AtExit token.ended κs) → token-reads.Learnt κs a r e
-    → (s : List ℕ) (es : List Element) → Tables s es (now (a .0)) (now (a .1 .0)) (now (a .1 .1 .0)) (now (a .1 .1 .1 .0))
-    → let M = now (a .1 .1 .1 .0) in
-    let bits = now (a .1 .1 .1 .1 .0) in
-    let o = a .1 .1 .1 .1 .1 .0 in
-    let x = a .1 .1 .1 .1 .1 .1 .0 .0 in
-    let at = a .1 .1 .1 .1 .1 .1 .1 .0 in
-    x ≡ 0 → r .number ≡ 0 → (z : State) → Moment es M bits z o
-    → (y : State) × (takeData s es (decided s es) at z ≡ got y) × Leads s es (decided s es) (now (a .0)) M z o bits y (r .open) (now (e .1 .1 .1 .1 .0))
-within-data κs a r e settles s es tables nothing done z m = data-leads tables settles nothing done z m
+pub ends-step : (κs : Lfts 7) (a : ArgsD step-ends.signature κs) (r : Stop) (e : AtExit step-ends.ended κs) → step-ends-reads.Learnt κs a r e
+    → Stops (now (a .0)) (now (a .1 .0)) (now (a .1 .1 .0)) (now (a .1 .1 .1 .0)) (now (a .1 .1 .1 .1 .0)) (a .1 .1 .1 .1 .1 .1 .0 .0) (a .1 .1 .1 .1 .1 .1 .1 .0) (a .1 .1 .1 .1 .1 .1 .1 .1 .0) (a .1 .1 .1 .1 .1 .0) (now (a .1 .1 .1 .1 .1 .1 .1 .1 .1 .0)) (now (a .1 .1 .1 .1 .1 .1 .1 .1 .1 .1 .0)) r (now (e .1 .1 .1 .1 .1 .1 .1 .1 .1 .0)) (now (e .1 .1 .1 .1 .1 .1 .1 .1 .1 .1 .0))
+ends-step κs a r e stops = stops
+
+pub infer-start-step : (κs : Lfts 7) (a : ArgsD infer-start.signature κs) (r : Open) (e : AtExit infer-start.ended κs) → infer-start-reads.Learnt κs a r e
+    → InfersStart (now (a .0)) (now (a .1 .0)) (now (a .1 .1 .0)) (now (a .1 .1 .1 .0)) (now (a .1 .1 .1 .1 .0)) (a .1 .1 .1 .1 .1 .1 .0) (a .1 .1 .1 .1 .1 .1 .1 .0) (a .1 .1 .1 .1 .1 .0) (now (a .1 .1 .1 .1 .1 .1 .1 .1 .0)) (now (a .1 .1 .1 .1 .1 .1 .1 .1 .1 .0)) r (now (e .1 .1 .1 .1 .0)) (now (e .1 .1 .1 .1 .1 .1 .1 .1 .0)) (now (e .1 .1 .1 .1 .1 .1 .1 .1 .1 .0))
+infer-start-step κs a r e infers = infers
+
+pub placed-step : (κs : Lfts 7) (a : ArgsD place.signature κs) (r : Outcome) (e : AtExit place.ended κs) → place-reads.Learnt κs a r e
+    → Placed (now (a .0)) (now (a .1 .0)) (now (a .1 .1 .0)) (now (a .1 .1 .1 .0)) (now (a .1 .1 .1 .1 .0)) (a .1 .1 .1 .1 .1 .1 .0) (a .1 .1 .1 .1 .1 .1 .1 .0 .0) (a .1 .1 .1 .1 .1 .1 .1 .1 .0) (a .1 .1 .1 .1 .1 .1 .1 .1 .1 .0) (a .1 .1 .1 .1 .1 .1 .1 .1 .1 .1 .0) (a .1 .1 .1 .1 .1 .0) (now (a .1 .1 .1 .1 .1 .1 .1 .1 .1 .1 .1 .0)) (now (a .1 .1 .1 .1 .1 .1 .1 .1 .1 .1 .1 .1 .0)) r (now (e .1 .1 .1 .1 .0)) (now (e .1 .1 .1 .1 .1 .1 .1 .1 .1 .1 .1 .0)) (now (e .1 .1 .1 .1 .1 .1 .1 .1 .1 .1 .1 .1 .0))
+placed-step κs a r e placed = placed
+
+pub opens-step : (κs : Lfts 1) (a : ArgsD opens.signature κs) (r : Bool) (e : AtExit opens.ended κs) → opens-reads.Learnt κs a r e → Opens (now (a .0)) (a .1 .0 .0) r
+opens-step κs a r e says = says
+
+-- Within a start tag that is not refused: the ends that it infers, the starts that it infers, then itself, with a moment before and after each. x is the
+-- element, from `at` to `after`. What the steps give, one after the other, is what these acts lead to.
+module _ (s : List ℕ) (es : List Element) (rows places facts M : List ℕ) (tables : Tables s es rows places facts M) (x at after n : ℕ) (o : Open) (bits numbers bytes : List ℕ) (q : Open) (bits′ numbers′ bytes′ : List ℕ)
+    (steps : Steps rows places facts M x at after n o bits numbers bytes q bits′ numbers′ bytes′) where
+  pub within-start-tag : 1 ≤ x → x ≤ length es → (z : State) → Moment es M bits z o → (y : State) × (startElement s es (decided s es) x at after z ≡ got y) × Leads s es (decided s es) rows M z o bits y q bits′
+  within-start-tag some most z m = steps-lead tables steps some most z m
+
+  -- Within a run of data that is not refused: x is 0. The first byte of the run infers what is inferred and takes its place; each further byte takes the
+  -- same place again.
+  pub within-data : x ≡ 0 → (z : State) → Moment es M bits z o → (y : State) × (takeData s es (decided s es) at z ≡ got y) × Leads s es (decided s es) rows M z o bits y q bits′
+  within-data nothing z m = steps-data tables steps nothing z m
 
 -- Within an end tag that is not refused: the ends that it infers, then itself. The other tables are those of the type, which an end tag does not ask.
 pub within-end-tag : (κs : Lfts 3) (a : ArgsD end-tag.signature κs) (r : Outcome) (e : AtExit end-tag.ended κs) → end-tag-reads.Learnt κs a r e
@@ -308,10 +328,23 @@ within-inferred-start κs a r e asked infers s es tables z m t left (some, rest)
     let (does, there) = infers-start-does tables infers (asked .1) z m some in
     (does, there, rest, refl)
 
--- The place of a start tag of x (`placed` of placing), which is not refused there: in the rules' state the place is taken as which the tag fits, and the tag is
--- noted; acts lead there, and what is handed back is at that moment. What was found before (`within-ends`) is how many starts to infer, after which nothing
--- is taken yet in the current element (`within-inferred-start`), or that place.
+-- The place of a start tag of x, or of data for 0 (`placed` of placing), which is not refused there: in the rules' state the place is taken as which the token
+-- fits. What was found before (`within-ends`) is how many starts to infer, after which nothing is taken yet in the current element
+-- (`within-inferred-start`), or that place.
 pub within-place : (κs : Lfts 7) (a : ArgsD place.signature κs) (r : Outcome) (e : AtExit place.ended κs) → place-reads.Learnt κs a r e
+    → (s : List ℕ) (es : List Element) → Tables s es (now (a .0)) (now (a .1 .0)) (now (a .1 .1 .0)) (now (a .1 .1 .1 .0))
+    → let M = now (a .1 .1 .1 .0) in
+    let bits = now (a .1 .1 .1 .1 .0) in
+    let o = a .1 .1 .1 .1 .1 .0 in
+    let found = a .1 .1 .1 .1 .1 .1 .0 in
+    let x = a .1 .1 .1 .1 .1 .1 .1 .0 .0 in
+    x ≤ length es → r .number ≡ 0 → (z : State) → Moment es M bits z o
+    → ((p : typed.Place) → found ≡ Taken p → p .0 ≡ fitting s es (decided s es) (z .current) (tokenOf x)) → ((n : ℕ) → found ≡ Inferred n → z .current .taken ≡ [])
+    → Moment es M (now (e .1 .1 .1 .1 .0)) (takeToken s es (decided s es) (tokenOf x) z) (r .open)
+within-place κs a r e placed s es tables most done z m right new = placed-moment tables _ placed most done z m right new
+
+-- Of an EMPTY element x the tag is noted there, and acts lead to what is handed back.
+pub within-empty-place : (κs : Lfts 7) (a : ArgsD place.signature κs) (r : Outcome) (e : AtExit place.ended κs) → place-reads.Learnt κs a r e
     → (s : List ℕ) (es : List Element) → Tables s es (now (a .0)) (now (a .1 .0)) (now (a .1 .1 .0)) (now (a .1 .1 .1 .0))
     → let M = now (a .1 .1 .1 .0) in
     let bits = now (a .1 .1 .1 .1 .0) in
@@ -320,10 +353,30 @@ pub within-place : (κs : Lfts 7) (a : ArgsD place.signature κs) (r : Outcome) 
     let x = a .1 .1 .1 .1 .1 .1 .1 .0 .0 in
     let at = a .1 .1 .1 .1 .1 .1 .1 .1 .0 in
     let after = a .1 .1 .1 .1 .1 .1 .1 .1 .1 .0 in
-    1 ≤ x → x ≤ length es → r .number ≡ 0 → (z : State) → Moment es M bits z o
+    1 ≤ x → x ≤ length es → hasModel (contentOf es x) ≡ false → r .number ≡ 0 → (z : State) → Moment es M bits z o
     → ((p : typed.Place) → found ≡ Taken p → p .0 ≡ fitting s es (decided s es) (z .current) (tokenOf x)) → ((n : ℕ) → found ≡ Inferred n → z .current .taken ≡ [])
     → (y : State) × (noting es x at after (takeToken s es (decided s es) (tokenOf x) z) ≡ got y) × Leads s es (decided s es) (now (a .0)) M z o bits y (r .open) (now (e .1 .1 .1 .1 .0))
-within-place κs a r e places s es tables some most done z m right new = places-leads tables _ places some most done z m right new
+within-empty-place κs a r e placed s es tables some most none done z m right new =
+    places-leads tables _ placed (ap (λ (b : Bool). openedBy (now (a .0)) (a .1 .1 .1 .1 .1 .1 .1 .0 .0) b (r .open)) (sym none)) some most done z m right new
+
+-- An element x that has a model is opened after it (`start` of open_elements, with what `placed` handed back): the tag is noted and the element entered, and
+-- acts lead to what `start` hands back.
+pub within-opened-place : (κs : Lfts 7) (a : ArgsD place.signature κs) (r : Outcome) (e : AtExit place.ended κs) → place-reads.Learnt κs a r e
+    → (s : List ℕ) (es : List Element) → Tables s es (now (a .0)) (now (a .1 .0)) (now (a .1 .1 .0)) (now (a .1 .1 .1 .0))
+    → let M = now (a .1 .1 .1 .0) in
+    let bits = now (a .1 .1 .1 .1 .0) in
+    let o = a .1 .1 .1 .1 .1 .0 in
+    let found = a .1 .1 .1 .1 .1 .1 .0 in
+    let x = a .1 .1 .1 .1 .1 .1 .1 .0 .0 in
+    let at = a .1 .1 .1 .1 .1 .1 .1 .1 .0 in
+    let after = a .1 .1 .1 .1 .1 .1 .1 .1 .1 .0 in
+    (lives : Lfts 1) (b : ArgsD start.signature lives) (q : Open) (f : AtExit start.ended lives) → start-reads.Learnt lives b q f → b .0 ≡ r .open → now (b .1 .0) ≡ now (a .0) → b .1 .1 .0 .0 ≡ x
+    → 1 ≤ x → x ≤ length es → hasModel (contentOf es x) ≡ true → r .number ≡ 0 → (z : State) → Moment es M bits z o
+    → ((p : typed.Place) → found ≡ Taken p → p .0 ≡ fitting s es (decided s es) (z .current) (tokenOf x)) → ((n : ℕ) → found ≡ Inferred n → z .current .taken ≡ [])
+    → (y : State) × (noting es x at after (takeToken s es (decided s es) (tokenOf x) z) ≡ got y) × Leads s es (decided s es) (now (a .0)) M z o bits y q (now (e .1 .1 .1 .1 .0))
+within-opened-place κs a r e placed s es tables lives b q f made given table number some most has done z m right new =
+    let there : q ≡ opening (now (a .0)) (a .1 .1 .1 .1 .1 .1 .1 .0 .0) (r .open) = made ∙ ap₂ (λ (rows : List ℕ) (k : ℕ). opening rows k (b .0)) table number ∙ ap (opening (now (a .0)) (a .1 .1 .1 .1 .1 .1 .1 .0 .0)) given in
+    places-leads tables _ placed (there ∙ ap (λ (c : Bool). openedBy (now (a .0)) (a .1 .1 .1 .1 .1 .1 .1 .0 .0) c (r .open)) (sym has)) some most done z m right new
 
 -- The place of a run of data likewise: the rules' state is the one after its first byte. Each further byte takes the same place again.
 pub within-data-place : (κs : Lfts 7) (a : ArgsD place.signature κs) (r : Outcome) (e : AtExit place.ended κs) → place-reads.Learnt κs a r e

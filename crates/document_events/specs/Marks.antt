@@ -14,6 +14,7 @@ use Rattle.document_laws.specs.Laws.{accepted-decided}
 use Rattle.document_laws.specs.Same.{Passes, passes-same}
 use Rattle.turn_laws.specs.Turns.{Reaches}
 use Rattle.element_index.specs.Means.{Indexed}
+use Rattle.list_table.specs.Means.{Lists}
 use Rattle.type_tables.specs.Means.{Tables}
 use Rattle.open_elements.specs.declared.Open.{Open}
 use Rattle.open_elements.specs.declared.Outcome.{Outcome}
@@ -39,11 +40,11 @@ at-every-moment s es accepted {d = d} {z = z} h r =
     }
 
 -- At the start of each turn of the loop, the first one too.
-pub marks-going : {c : Settings} {s elements index rows places facts M d begun numbers numbersNow bytes bytesNow : List ℕ} {n at : ℕ} {o : Open}
-    → Going c s elements index rows places facts M d begun numbers numbersNow bytes bytesNow n at o
-    → (es : List Element) → Indexed s es elements index → Tables s es rows places facts M → AtMoment s es c d at o
-marks-going {s = s} g es i t =
-    let came = g .any es i t in
+pub marks-going : {c : Settings} {s elements index rows places facts M lists d begun numbers numbersNow bytes bytesNow : List ℕ} {n at : ℕ} {o : Open}
+    → Going c s elements index rows places facts M lists d begun numbers numbersNow bytes bytesNow n at o
+    → (es : List Element) → Indexed s es elements index → Tables s es rows places facts M → Lists c s es lists → AtMoment s es c d at o
+marks-going {s = s} g es i t l =
+    let came = g .any es i t l in
     at-every-moment s es (t .accepted) (came .stands) (came .reaches)
 
 -- After each token that is settled and not refused.

@@ -137,14 +137,14 @@ going-start c s elements index rows places facts M lists d begun numbers bytes q
 module _ {c : Settings} {s elements index rows places facts M lists d begun numbers numbersNow bytes bytesNow : List ℕ} {n at : ℕ} {o : Open} (g : Going c s elements index rows places facts M lists d begun numbers numbersNow bytes bytesNow n at o) where
   -- A token up to `after` was settled and brought these events, or was refused; what was put are these with attribute events before each start.
   module _ {after : ℕ} (on : (at < after) × (after ≤ length d)) {r : Outcome} {begun′ numbers′ bytes′ : List ℕ} (ranged : Ranged (r .open)) (events : List Event) {written : List Event} (puts : Puts numbersNow bytesNow n written numbers′ bytes′)
-      (counted : r .events ≡ n + length written) (few : length written ≤ 1050)
+      (count : r .events ≡ n + length written) (few : length written ≤ 1050)
       (turned : (es : List Element) (i : Indexed s es elements index) (t : Tables s es rows places facts M) (l : Lists c s es lists) → Turned c s es d M begun′ at after (g .any es i t l .state .events ++ events) r)
       (adds : r .number ≡ 0 → (es : List Element) → Indexed s es elements index → Tables s es rows places facts M → Lists c s es lists → written ≡ withAttributes c s es d events) where
     going-on : r .number ≡ 0 → Going c s elements index rows places facts M lists d begun′ numbers numbers′ bytes bytes′ (r .events) after (r .open)
     going-on z =
         record {
           inside = on .1;
-          few = omega (arith, g .few, counted, on .0);
+          few = omega (arith, g .few, count, on .0);
           ranged = ranged;
           numbers-same = puts .numbers-kept ∙ g .numbers-same;
           bytes-same = puts .bytes-kept ∙ g .bytes-same;
@@ -158,7 +158,7 @@ module _ {c : Settings} {s elements index rows places facts M lists d begun numb
                 state = y;
                 reaches = reach;
                 stands = there .0;
-                counted = omega (arith, ap length all, length-append before written, came .counted, counted);
+                counted = omega (arith, ap length all, length-append before written, came .counted, count);
                 holds = subst (Holds numbers bytes numbers′ bytes′) (sym all) (puts .behind numbers bytes before (came .counted) (came .holds));
               };
         }

@@ -21,6 +21,7 @@ ghost use Rattle.rules.specs.Settings.{settings, mostNameLength};
 ghost use Rattle.rules.specs.TypeFile.{Element};
 ghost use Rattle.delimiters.specs.Means.{Classes};
 ghost use Rattle.element_index.specs.Means.{Indexed};
+ghost use Rattle.list_table.specs.Means.{Lists};
 ghost use Rattle.type_tables.specs.Means.{Tables};
 ghost use Rattle.document_events.specs.Means.{EventsOf};
 

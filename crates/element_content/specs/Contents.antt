@@ -1,6 +1,6 @@
 -- Laws of the rules' content: each way that reading it goes.
 use Prim.Native.Nat.{ℕ, _-_, _≤_, _<_}
-use mathlib.Core.Path.{_≡_, refl, sym, ap, ap₂, subst, _∙_}
+use mathlib.Core.Path.{_≡_, refl, sym, ap, ap₂, _∙_}
 use mathlib.Core.Bool.{true, false, _&&_, _||_}
 use mathlib.Core.List.{List, []}
 use native.Mathlib.Omega.{arith}
@@ -19,8 +19,8 @@ use Rattle.and_laws.specs.Numbers.{Guarded}
 use Rattle.rules_laws.specs.Holds.{got-so}
 use Rattle.rules_laws.specs.In.{fits-none}
 use Rattle.rules_laws.specs.Groups.{Read, group-read, occurrence-read, Whatever, whatever-builds}
-use Rattle.model_table.specs.Fill.{blank, finished}
-use Rattle.model_table.specs.Means.{Filled, fresh-blank, says}
+use Rattle.model_table.specs.Fill.{finished}
+use Rattle.model_table.specs.Means.{Fresh, says}
 use Rattle.model_table.specs.Behind.{finished-behind}
 use Rattle.model_code.specs.Spelled.{codes, codeIn, code-same}
 use Rattle.connectors.specs.Kept.{Begun, begun, Tabled, Keeps}
@@ -81,12 +81,9 @@ module _ (c : Settings) (s : List ℕ) (i : ℕ) (h : i < length s) (t : Tokens)
   model-guarded = model-read .guarded
 
 -- What the code keeps of a model when its table is finished.
-module _ {end : ℕ} {names T table : List ℕ} {m : Model} {t : Tokens} (k : Keeps end (begun 1 T 0 0) 1 0 names table m t) (plain : t .and ≡ 0 → Plain (t .group)) (guarded : t .repeated ≡ 0 → Guarded (t .group)) (e : T ≡ blank) where
+module _ {end : ℕ} {names T table : List ℕ} {m : Model} {t : Tokens} (k : Keeps end (begun 1 T 0 0) 1 0 names table m t) (plain : t .and ≡ 0 → Plain (t .group)) (guarded : t .repeated ≡ 0 → Guarded (t .group)) (fresh : Fresh T) where
   tabled : Tabled (begun 1 T 0 0) (t .group) (codes (t .group)) (t .tokens) table (m .code)
-  tabled = k .tabled (record { fresh = rw e (fresh-blank 1); owed = omega arith })
-
-  filled : Filled (t .group) 1 blank table
-  filled = subst (λ (S : List ℕ). Filled (t .group) 1 S table) e (tabled .filled)
+  tabled = k .tabled (record { len = fresh .len; owed = omega arith })
 
   pub model-kept : {finish : List ℕ} (code and repeated : ℕ) → finish ≡ finished table (m .part) → code ≡ m .code → and ≡ m .and → repeated ≡ m .repeated
       → KeepsBody end names finish (record { kind = 1; tokens = m .tokens; places = m .places; at = m .at; code = code; and = and; repeated = repeated })
@@ -103,7 +100,7 @@ module _ {end : ℕ} {names T table : List ℕ} {m : Model} {t : Tokens} (k : Ke
           record {
             names-hold = k .names-hold;
             counted = k .places;
-            says = rw (q, k .part) (says (t .group) (k .numbered) (omega (arith, k .counted, k .places-in, k .tokens-in)) table filled);
+            says = rw (q, k .part) (says (t .group) (k .numbered) (omega (arith, k .counted, k .places-in, k .tokens-in)) T table fresh (tabled .filled));
             room = omega (arith, tabled .room, k .tokens-in);
             spelled = ap₂ codeIn q x ∙ code-same table (finished table (m .part)) (finished-behind table (m .part) .same) (m .code) ∙ tabled .code-holds;
             plain = λ o. plain (sym (k .and-at) ∙ sym y ∙ o);

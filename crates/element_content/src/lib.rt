@@ -121,7 +121,7 @@ fn body_model(
 }
 
 // The content at i, where the parameter before ended at `from`. Where it is refused or EMPTY, what `names` and `table` hold is not decided,
-// nor how many places EMPTY has; behind the places of a model, `names` is not decided either.
+// nor how many places EMPTY has; nor is what they hold behind the places of a model.
 pub fn body_at(
     long: usize,
     s: &[u8],

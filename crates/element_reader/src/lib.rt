@@ -111,8 +111,8 @@ fn rest_at(
 }
 
 // An element declaration whose keyword ends at `at`, after those recorded in `elements`. Where it is refused or the content is EMPTY,
-// what `names` and `table` hold is not decided, nor how many places an EMPTY element has; behind the places of a model, `names` is not
-// decided either. Where `elements` holds no records of elements, all that is decided is that one more has room.
+// what `names` and `table` hold is not decided, nor how many places an EMPTY element has; nor is what they hold behind the
+// places of a model. Where `elements` holds no records of elements, all that is decided is that one more has room.
 pub fn element_at(
     long: usize,
     s: &[u8],

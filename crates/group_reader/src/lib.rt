@@ -127,8 +127,8 @@ fn next_at(
     Next::Joined(b, connectors::joined_by(table, b, i, lo, m, u))
 }
 
-// A group whose "(" stands at `at`; `levels` is how many group levels are left. What `names` holds behind the places read so far, and where
-// it is refused what `names` and `table` hold, is not decided; they are filled anew for the next model.
+// A group whose "(" stands at `at`; `levels` is how many group levels are left. What `names` and `table` hold behind the places read
+// so far, and where it is refused in all, is not decided; they are filled anew for the next model.
 pub fn group_at(
     long: usize,
     s: &[u8],

@@ -9,7 +9,7 @@ use layout::MODEL_ROW;
 use layout::POSITIONS;
 ghost use mathlib.Core.Path.{_≡_};
 ghost use Prim.Native.Nat.{_+_, _≤_, _<_};
-ghost use lib.ListN.{length, set};
+ghost use lib.ListN.{set};
 ghost use Rattle.member_entries.specs.Entries.{putFree, marked, putPlaces, putOuter, putOuters, putMember, putRecord};
 
 // A number of the table; nothing is put past its end.
@@ -32,11 +32,6 @@ fn put_free(members: &mut [u8], i: usize, x: u8)
     }
 }
 
-// A table has this many numbers, which a reference to it does not say.
-fn whole(table: [u8; MODEL])
-    ensures { λ _. ⌜ length table ≡ 9893 ⌝ }
-{}
-
 // The member h, and 128 more if w may come next after the place u.
 fn mark(table: &[u8; MODEL], u: usize, w: usize, h: usize) -> u8
     requires { ⌜ u < 256 ⌝ }
@@ -44,7 +39,7 @@ fn mark(table: &[u8; MODEL], u: usize, w: usize, h: usize) -> u8
     requires { ⌜ h < 97 ⌝ }
     ensures { λ r. ⌜ r ≡ marked (now (table .entry)) u w h ⌝ }
 {
-    whole(*table);
+    model_links::whole(*table);
     let i = u * MODEL_ROW + w;
     if i < MODEL {
         if table[i] == 1 {

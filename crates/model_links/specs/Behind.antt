@@ -9,7 +9,7 @@ use lib.Seq.{getD-set-other}
 use lib.Dec.{eqb}
 use Rattle.layout.specs.Sizes.{MODEL-ROW, MODEL-ROWS}
 use Rattle.model_links.specs.Each.{each-keeps}
-use Rattle.model_links.specs.Links.{linkCell, linkRow, linkFrom, link, settleRow, settle, unbeginCell, unbegin}
+use Rattle.model_links.specs.Links.{linkCell, linkRow, linkFrom, link, settleRow, settle, clearCell, clearRow, unbeginCell, unbegin}
 
 -- S holds behind the rows what T does.
 pub record Behind (T S : List ℕ) : Type 0 where
@@ -33,6 +33,11 @@ unfolding linkCell
 row-behind T u c d h c-to d-to =
     each-keeps (linkCell u) c d (λ R i. Behind T R)
     (λ R i from to x. behind-on x (behind-if (eqb (getD R i 0) 1) (behind-set R (u * MODEL-ROW + i) 1 (omega arith)) behind-none)) T c-to behind-none
+
+pub clear-behind : (T : List ℕ) (u : ℕ) → u < 97 → Behind T (clearRow T u)
+unfolding clearCell
+clear-behind T u h =
+    each-keeps (clearCell u) 0 MODEL-ROW (λ R i. Behind T R) (λ R i from to x. behind-on x (behind-set R (u * MODEL-ROW + i) 0 (omega arith))) T (omega arith) behind-none
 
 module _ (T : List ℕ) (a b : ℕ) (a-to : a ≤ b) (b-to : b ≤ 97) where
   pub link-behind : (c d : ℕ) → c ≤ d → d ≤ 97 → Behind T (link T a b c d)

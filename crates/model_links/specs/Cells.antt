@@ -1,6 +1,6 @@
 -- What each change leaves in the table, number by number.
 use Prim.Native.Nat.{ℕ, _+_, _*_, _≤_, _<_}
-use mathlib.Core.Path.{_≡_, refl, ap, _∙_}
+use mathlib.Core.Path.{_≡_, refl, ap, subst, _∙_}
 use mathlib.Core.Logic.{_≢_, _⊎_, inl, inr, ⊎-elim}
 use mathlib.Core.Bool.{Bool, true, false, _&&_, cond}
 use mathlib.Core.List.{List}
@@ -12,7 +12,7 @@ use lib.Dec.{eqb}
 use borrow.Author.Count.{below-more}
 use Rattle.layout.specs.Sizes.{MODEL-ROW, MODEL}
 use Rattle.model_links.specs.Each.{each-keeps}
-use Rattle.model_links.specs.Links.{linkCell, linkRow, linkFrom, link, settleRow, settle, unbeginCell, unbegin}
+use Rattle.model_links.specs.Links.{linkCell, linkRow, linkFrom, link, settleRow, settle, clearCell, clearRow, unbeginCell, unbegin}
 
 -- a flag as the table holds it
 abbrev pub bit : Bool → ℕ
@@ -248,30 +248,42 @@ module _ (ends : ℕ → Bool) (r : ℕ) (T : List ℕ) (a b : ℕ) (l : length 
       }
 
 -- The numbers [a, i) of T are 0, and nothing else is changed.
-pub record Unbegun (T : List ℕ) (a : ℕ) (S : List ℕ) (i : ℕ) : Type 0 where
+pub record Cleared (T : List ℕ) (a : ℕ) (S : List ℕ) (i : ℕ) : Type 0 where
   pub len : length S ≡ MODEL
   pub under : (k : ℕ) → k < a → getD S k 0 ≡ getD T k 0
   pub over : (k : ℕ) → i ≤ k → getD S k 0 ≡ getD T k 0
   pub none : (k : ℕ) → a ≤ k → k < i → getD S k 0 ≡ 0
 
-module _ (T : List ℕ) (a b : ℕ) (l : length T ≡ MODEL) (a-to : a ≤ b) (b-to : b ≤ 97) where
-  unbegin-one : (S : List ℕ) (i : ℕ) → a ≤ i → i < b → Unbegun T a S i → Unbegun T a (unbeginCell S i) (i + 1)
-  unfolding unbeginCell
-  unbegin-one S i from to h =
-      let m = h .len in
-      record {
-        len = length-set S i 0 ∙ m;
-        under = λ k lt. getD-set-other S i k 0 0 (omega arith) ∙ h .under k lt;
-        over = λ k le. getD-set-other S i k 0 0 (omega arith) ∙ h .over k (omega arith);
-        none =
-            λ k ge lt.
-            below-more (λ (p : ℕ). a ≤ p → getD (set S i 0) p 0 ≡ 0) i
-            (λ p pt g. getD-set-other S i p 0 0 (omega arith) ∙ h .none p g pt)
-            (λ g. getD-set-same S i 0 0 (omega arith))
-            k lt ge;
-      }
+cleared-none : (T : List ℕ) (a : ℕ) → length T ≡ MODEL → Cleared T a T a
+cleared-none T a l = record { len = l; under = λ k lt. refl; over = λ k le. refl; none = λ k ge lt. absurd (omega arith) }
 
-  pub unbegun : Unbegun T a (unbegin T a b) b
-  unbegun =
-      each-keeps unbeginCell a b (Unbegun T a) unbegin-one T a-to
-      record { len = l; under = λ k lt. refl; over = λ k le. refl; none = λ k ge lt. absurd (omega arith) }
+cleared-one : (T : List ℕ) (a : ℕ) (S : List ℕ) (i : ℕ) → a ≤ i → i < MODEL → Cleared T a S i → Cleared T a (set S i 0) (i + 1)
+cleared-one T a S i from to h =
+    let m = h .len in
+    record {
+      len = length-set S i 0 ∙ m;
+      under = λ k lt. getD-set-other S i k 0 0 (omega arith) ∙ h .under k lt;
+      over = λ k le. getD-set-other S i k 0 0 (omega arith) ∙ h .over k (omega arith);
+      none =
+          λ k ge lt.
+          below-more (λ (p : ℕ). a ≤ p → getD (set S i 0) p 0 ≡ 0) i
+          (λ p pt g. getD-set-other S i p 0 0 (omega arith) ∙ h .none p g pt)
+          (λ g. getD-set-same S i 0 0 (omega arith))
+          k lt ge;
+    }
+
+pub unbegun : (T : List ℕ) (a b : ℕ) → length T ≡ MODEL → a ≤ b → b ≤ 97 → Cleared T a (unbegin T a b) b
+unfolding unbeginCell
+unbegun T a b l a-to b-to =
+    each-keeps unbeginCell a b (Cleared T a) (λ S i from to h. cleared-one T a S i from (omega arith) h) T a-to (cleared-none T a l)
+
+pub cleared-row : (T : List ℕ) (u : ℕ) → length T ≡ MODEL → u ≤ 96 → Cleared T (u * MODEL-ROW) (clearRow T u) (u * MODEL-ROW + 98)
+unfolding clearCell
+cleared-row T u l u-to =
+    each-keeps (clearCell u) 0 98 (λ S i. Cleared T (u * MODEL-ROW) S (u * MODEL-ROW + i))
+    (λ S i from to h.
+    let e : u * MODEL-ROW + i + 1 ≡ u * MODEL-ROW + (i + 1) = omega arith in
+    rw e at (cleared-one T (u * MODEL-ROW) S (u * MODEL-ROW + i) (omega arith) (omega arith) h))
+    T (omega arith)
+    (let e : u * MODEL-ROW ≡ u * MODEL-ROW + 0 = omega arith in
+    subst (Cleared T (u * MODEL-ROW) T) e (cleared-none T (u * MODEL-ROW) l))

@@ -30,6 +30,14 @@ settleRow r T u = cond (eqb (getD T (u * MODEL-ROW) 0) 1) (set (set T (u * MODEL
 abbrev pub settle : List ℕ → ℕ → ℕ → ℕ → List ℕ
 settle T lo mid r = each (settleRow r) T lo mid
 
+-- a number of row u is 0
+unfoldable pub clearCell : ℕ → List ℕ → ℕ → List ℕ
+clearCell u T c = set T (u * MODEL-ROW + c) 0
+
+-- so all of them
+abbrev pub clearRow : List ℕ → ℕ → List ℕ
+clearRow T u = each (clearCell u) T 0 MODEL-ROW
+
 -- p can no longer begin
 unfoldable pub unbeginCell : List ℕ → ℕ → List ℕ
 unbeginCell T p = set T p 0

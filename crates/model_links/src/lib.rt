@@ -7,7 +7,13 @@ use layout::MODEL_ROW;
 use layout::POSITIONS;
 ghost use mathlib.Core.Path.{_≡_};
 ghost use Prim.Native.Nat.{_≤_, _<_};
-ghost use Rattle.model_links.specs.Links.{linkCell, linkRow, linkFrom, link, settleRow, settle, unbegin};
+ghost use lib.ListN.{length};
+ghost use Rattle.model_links.specs.Links.{linkCell, linkRow, linkFrom, link, settleRow, settle, clearRow, unbegin};
+
+// A table has this many numbers, which a reference to it does not say.
+pub fn whole(table: [u8; MODEL])
+    ensures { λ _. ⌜ length table ≡ 9893 ⌝ }
+{}
 
 // p may come after u if it can begin the group.
 fn link_cell(table: &mut [u8; MODEL], u: usize, p: usize)
@@ -71,6 +77,16 @@ pub fn settle(table: &mut [u8; MODEL], lo: usize, mid: usize, required: u8)
 {
     for u in lo..mid {
         settle_row(table, u, required);
+    }
+}
+
+// Nothing is said of the place u any more: every number of its row is 0.
+pub fn clear_row(table: &mut [u8; MODEL], u: usize)
+    requires { ⌜ u < 97 ⌝ }
+    ensures { λ _. ⌜ now (table .exit) ≡ clearRow (now (table .entry)) u ⌝ }
+{
+    for c in 0..MODEL_ROW {
+        table[u * MODEL_ROW + c] = 0;
     }
 }
 

@@ -5,13 +5,15 @@ use mathlib.Core.List.{List}
 use native.Mathlib.Omega.{arith}
 use lib.ListN.{set}
 use Rattle.layout.specs.Sizes.{MODEL-ROW}
-use Rattle.model_links.specs.Links.{link}
-use Rattle.model_links.specs.Behind.{Behind, behind-none, behind-on, behind-set, behind-if, link-behind, settle-behind, unbegin-behind}
+use Rattle.model_links.specs.Links.{link, clearRow}
+use Rattle.model_links.specs.Behind.{Behind, behind-none, behind-on, behind-set, behind-if, link-behind, settle-behind, clear-behind, unbegin-behind}
 use Rattle.model_table.specs.declared.Part.{Part}
 use Rattle.model_table.specs.Fill.{putPlace, closeEnds, closeStarts, joinSeq, joinAnd, repeated, finished}
 
 pub place-behind : (T : List ℕ) (p : ℕ) → p < 97 → Behind T (putPlace T p)
-place-behind T p h = behind-on (behind-set T p 1 (omega arith)) (behind-set (set T p 1) (p * MODEL-ROW) 1 (omega arith))
+place-behind T p h =
+    let R : List ℕ = clearRow T p in
+    behind-on (behind-on (clear-behind T p h) (behind-set R p 1 (omega arith))) (behind-set (set R p 1) (p * MODEL-ROW) 1 (omega arith))
 
 pub finished-behind : (T : List ℕ) (g : Part) → Behind T (finished T g)
 finished-behind T g = behind-on (behind-set T 0 (cond (g .nullable) 1 0) (omega arith)) (behind-set (set T 0 (cond (g .nullable) 1 0)) 97 (g .required) (omega arith))

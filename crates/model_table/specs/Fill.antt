@@ -5,16 +5,16 @@
 use Prim.Native.Nat.{ℕ, _*_}
 use mathlib.Core.Bool.{Bool, _&&_, _||_, cond}
 use mathlib.Core.List.{List}
-use lib.ListN.{set, replicate}
+use lib.ListN.{set}
 use Rattle.rules.specs.Walk.{Group}
-use Rattle.layout.specs.Sizes.{MODEL-ROW, MODEL}
+use Rattle.layout.specs.Sizes.{MODEL-ROW}
 use Rattle.model_sets.specs.Sets.{nullable, must}
-use Rattle.model_links.specs.Links.{link, settle, unbegin}
+use Rattle.model_links.specs.Links.{link, settle, clearRow, unbegin}
 use Rattle.model_table.specs.declared.Part.{Part}
 
--- a new place can begin and end itself
+-- a new place can begin and end itself, and nothing comes after it
 abbrev pub putPlace : List ℕ → ℕ → List ℕ
-putPlace T p = set (set T p 1) (p * MODEL-ROW) 1
+putPlace T p = set (set (clearRow T p) p 1) (p * MODEL-ROW) 1
 
 -- what is kept of a group beside the table
 abbrev pub part : Bool → ℕ → Part
@@ -59,7 +59,3 @@ finished T g = set (set T 0 (cond (g .nullable) 1 0)) 97 (g .required)
 -- what is kept of a group
 abbrev pub partOf : Group → Part
 partOf g = part (nullable g) (must g)
-
--- the empty table
-abbrev pub blank : List ℕ
-blank = replicate MODEL 0

@@ -5,23 +5,23 @@ use mathlib.Core.Logic.{⊎-elim}
 use mathlib.Core.Bool.{Bool, true, false, _&&_, _||_, not, cond, and-true, or-comm}
 use mathlib.Core.List.{List}
 use native.Mathlib.Omega.{arith}
-use lib.ListN.{length, getD, set, replicate, length-set, length-replicate}
+use lib.ListN.{length, getD, set, length-set}
 use lib.Seq.{getD-set-same, getD-set-other}
 use borrow.Author.Tests.{eq-eqb}
 use Rattle.rules.specs.Walk.{Group, place, seq, alt, plus}
 use Rattle.layout.specs.Sizes.{MODEL-ROW, MODEL-ROWS, MODEL}
 use Rattle.model_sets.specs.Sets.{size, Numbered, has, nullable, first, last, follow, must, mustAfter, nextIn, completeIn, requiredIn}
-use Rattle.model_links.specs.Links.{link, settle, unbegin}
-use Rattle.model_table.specs.Fill.{putPlace, closeEnds, closeStarts, joinSeq, joinAnd, partOf, finished, blank}
-use Rattle.model_links.specs.Cells.{bit, below-or-from, Linked, linked, linked-same, linked-end, cond-and-false, Settled, settled, Unbegun, unbegun}
+use Rattle.model_links.specs.Links.{link, settle, clearRow, unbegin}
+use Rattle.model_table.specs.Fill.{putPlace, closeEnds, closeStarts, joinSeq, joinAnd, partOf, finished}
+use Rattle.model_links.specs.Cells.{bit, below-or-from, Linked, linked, linked-same, linked-end, cond-and-false, Settled, settled, Cleared, cleared-row, unbegun}
 use Rattle.model_table.specs.Places.{none-first, none-last, none-follow, has-under, has-over, has-inside}
 
--- The rows of S differ from those of T only in what they say of the places [lo, hi): row 0 says F, column 0 L, the columns between N and the last column M.
+-- S says of the places [lo, hi) in row 0 F, in column 0 L, in the columns between N and in the last column M. What T says of other places in
+-- row 0, and in the rows before, S says too.
 pub record Shows (lo hi : ℕ) (T S : List ℕ) (F L : ℕ → Bool) (N : ℕ → ℕ → Bool) (M : ℕ → ℕ) : Type 0 where
   pub len : length S ≡ MODEL
   pub under : (k : ℕ) → k < lo → getD S k 0 ≡ getD T k 0
   pub between : (k : ℕ) → hi ≤ k → k < lo * MODEL-ROW → getD S k 0 ≡ getD T k 0
-  pub over : (k : ℕ) → hi * MODEL-ROW ≤ k → k < MODEL-ROWS → getD S k 0 ≡ getD T k 0
   pub begins : (p : ℕ) → lo ≤ p → p < hi → getD S p 0 ≡ bit (F p)
   pub ends : (u : ℕ) → lo ≤ u → u < hi → getD S (u * MODEL-ROW) 0 ≡ bit (L u)
   pub follows : (u p : ℕ) → lo ≤ u → u < hi → 1 ≤ p → p < 97 → getD S (u * MODEL-ROW + p) 0 ≡ bit (N u p)
@@ -31,20 +31,6 @@ pub record Shows (lo hi : ℕ) (T S : List ℕ) (F L : ℕ → Bool) (N : ℕ �
 abbrev pub Filled : Group → ℕ → List ℕ → List ℕ → Type 0
 Filled g lo T S = Shows lo (lo + size g) T S (first g) (last g) (follow g) (mustAfter g)
 
--- T says nothing yet of the places from lo on.
-pub record Fresh (lo : ℕ) (T : List ℕ) : Type 0 where
-  pub len : length T ≡ MODEL
-  pub row-0 : (k : ℕ) → lo ≤ k → k < 97 → getD T k 0 ≡ 0
-  pub rows : (k : ℕ) → lo * MODEL-ROW ≤ k → k < MODEL-ROWS → getD T k 0 ≡ 0
-
-pub fresh-after : (g : Group) (lo : ℕ) (T S : List ℕ) → 1 ≤ lo → Fresh lo T → Filled g lo T S → Fresh (lo + size g) S
-fresh-after g lo T S from t s =
-    record {
-      len = s .len;
-      row-0 = λ k ge lt. s .between k ge (omega arith) ∙ t .row-0 k (omega arith) lt;
-      rows = λ k ge lt. s .over k ge lt ∙ t .rows k (omega arith) lt;
-    }
-
 -- What S says, R says too, if its rows are those of S.
 pub shows-same : {lo hi : ℕ} {T S : List ℕ} {F L : ℕ → Bool} {N : ℕ → ℕ → Bool} {M : ℕ → ℕ} (R : List ℕ) → lo ≤ 97 → hi ≤ 97 → length R ≡ MODEL → ((k : ℕ) → k < MODEL-ROWS → getD R k 0 ≡ getD S k 0)
     → Shows lo hi T S F L N M → Shows lo hi T R F L N M
@@ -53,7 +39,6 @@ shows-same R lo-to hi-to l same s =
       len = l;
       under = λ k lt. same k (omega arith) ∙ s .under k lt;
       between = λ k le lt. same k (omega arith) ∙ s .between k le lt;
-      over = λ k le lt. same k lt ∙ s .over k le lt;
       begins = λ p ge lt. same p (omega arith) ∙ s .begins p ge lt;
       ends = λ u ge lt. same (u * MODEL-ROW) (omega arith) ∙ s .ends u ge lt;
       follows = λ u p ge lt p-from p-to. same (u * MODEL-ROW + p) (omega arith) ∙ s .follows u p ge lt p-from p-to;
@@ -61,28 +46,28 @@ shows-same R lo-to hi-to l same s =
     }
 
 -- a place alone
-pub placed : (n lo : ℕ) (T : List ℕ) → 1 ≤ lo → lo + 1 ≤ 97 → n ≡ lo → Fresh lo T → Filled (place n) lo T (putPlace T n)
-placed n lo T from to e t =
-    let l = t .len in
-    let S : List ℕ = set T n 1 in
-    let m : length S ≡ MODEL = length-set T n 1 ∙ l in
-    let else : (k : ℕ) → (k ≡ n → ⊥) → (k ≡ n * MODEL-ROW → ⊥) → getD (set S (n * MODEL-ROW) 1) k 0 ≡ getD T k 0 =
-    λ k x y. getD-set-other S (n * MODEL-ROW) k 1 0 y ∙ getD-set-other T n k 1 0 x in
+pub placed : (n lo : ℕ) (T : List ℕ) → 1 ≤ lo → lo + 1 ≤ 97 → n ≡ lo → length T ≡ MODEL → Filled (place n) lo T (putPlace T n)
+placed n lo T from to e l =
+    let R : List ℕ = clearRow T n in
+    let r : Cleared T (n * MODEL-ROW) R (n * MODEL-ROW + 98) = cleared-row T n l (omega arith) in
+    let S : List ℕ = set R n 1 in
+    let m : length S ≡ MODEL = length-set R n 1 ∙ r .len in
+    let else : (k : ℕ) → (k ≡ n → ⊥) → (k ≡ n * MODEL-ROW → ⊥) → getD (set S (n * MODEL-ROW) 1) k 0 ≡ getD R k 0 =
+    λ k x y. getD-set-other S (n * MODEL-ROW) k 1 0 y ∙ getD-set-other R n k 1 0 x in
     record {
       len = length-set S (n * MODEL-ROW) 1 ∙ m;
-      under = λ k lt. else k (omega arith) (omega arith);
-      between = λ k le lt. else k (omega arith) (omega arith);
-      over = λ k le lt. else k (omega arith) (omega arith);
+      under = λ k lt. else k (omega arith) (omega arith) ∙ r .under k (omega arith);
+      between = λ k le lt. else k (omega arith) (omega arith) ∙ r .under k (omega arith);
       begins =
           λ p ge lt.
           let q : p ≡ n = omega arith in
-          rw (q, eq-eqb n n refl) (getD-set-other S (n * MODEL-ROW) n 1 0 (omega arith) ∙ getD-set-same T n 1 0 (omega arith));
+          rw (q, eq-eqb n n refl) (getD-set-other S (n * MODEL-ROW) n 1 0 (omega arith) ∙ getD-set-same R n 1 0 (omega (arith, r .len)));
       ends =
           λ u ge lt.
           let q : u ≡ n = omega arith in
           rw (q, eq-eqb n n refl) (getD-set-same S (n * MODEL-ROW) 1 0 (omega arith));
-      follows = λ u p ge lt p-from p-to. else (u * MODEL-ROW + p) (omega arith) (omega arith) ∙ t .rows (u * MODEL-ROW + p) (omega arith) (omega arith);
-      requires = λ u ge lt. else (u * MODEL-ROW + 97) (omega arith) (omega arith) ∙ t .rows (u * MODEL-ROW + 97) (omega arith) (omega arith);
+      follows = λ u p ge lt p-from p-to. else (u * MODEL-ROW + p) (omega arith) (omega arith) ∙ r .none (u * MODEL-ROW + p) (omega arith) (omega arith);
+      requires = λ u ge lt. else (u * MODEL-ROW + 97) (omega arith) (omega arith) ∙ r .none (u * MODEL-ROW + 97) (omega arith) (omega arith);
     }
 
 only-left : (a b : Bool) → b ≡ false → a ≡ (a || b)
@@ -129,7 +114,6 @@ module _ (g h : Group) (lo : ℕ) (from : 1 ≤ lo) (to : lo + size g + size h �
         len = fh .len;
         under = λ k lt. fh .under k (omega arith) ∙ fg .under k lt;
         between = λ k le lt. fh .between k (omega arith) (omega arith) ∙ fg .between k (omega arith) lt;
-        over = λ k le lt. fh .over k (omega arith) lt ∙ fg .over k (omega arith) lt;
         begins =
             on-both (λ (p : ℕ). getD S p 0 ≡ bit (first g p || first h p))
             (λ p ge lt. fh .under p lt ∙ fg .begins p ge lt ∙ ap bit (only-left (first g p) (first h p) (none-first h p (no-h p lt))))
@@ -187,7 +171,6 @@ module _ (g h : Group) (lo : ℕ) (from : 1 ≤ lo) (to : lo + size g + size h �
           len = r .len;
           under = λ k lt. r .rows-before k (omega arith) ∙ s .under k lt;
           between = λ k le lt. r .rows-before k lt ∙ s .between k le lt;
-          over = λ k le lt. r .rows-after k (omega arith) ∙ s .over k le lt;
           begins = λ p ge lt. r .rows-before p (omega arith) ∙ s .begins p ge lt;
           ends =
               λ u ge lt.
@@ -265,7 +248,6 @@ module _ (g h : Group) (lo : ℕ) (from : 1 ≤ lo) (to : lo + size g + size h �
           len = q .len;
           under = λ k lt. q .rows-before k (omega arith) ∙ s .under k lt;
           between = λ k le lt. q .rows-before k (omega arith) ∙ s .between k le lt;
-          over = λ k le lt. q .rows-after k (omega arith) ∙ s .over k le lt;
           begins = λ p ge lt. q .rows-before p (omega arith) ∙ s .begins p ge lt;
           ends =
               λ u ge lt.
@@ -307,7 +289,6 @@ module _ (g h : Group) (lo : ℕ) (from : 1 ≤ lo) (to : lo + size g + size h �
           len = s .len;
           under = s .under;
           between = s .between;
-          over = s .over;
           begins = s .begins;
           ends = λ u ge lt. s .ends u ge lt ∙ ap bit (or-comm (last g u) (last h u));
           follows = s .follows;
@@ -323,7 +304,6 @@ module _ (g h : Group) (lo : ℕ) (from : 1 ≤ lo) (to : lo + size g + size h �
           len = r .len;
           under = λ k lt. r .rows-before k (omega arith) ∙ s .under k lt;
           between = λ k le lt. r .rows-before k lt ∙ s .between k le lt;
-          over = λ k le lt. r .rows-after k (omega arith) ∙ s .over k le lt;
           begins = λ p ge lt. r .rows-before p (omega arith) ∙ s .begins p ge lt;
           ends =
               λ u ge lt.
@@ -359,7 +339,6 @@ module _ (g h : Group) (lo : ℕ) (from : 1 ≤ lo) (to : lo + size g + size h �
         len = s .len;
         under = s .under;
         between = s .between;
-        over = s .over;
         begins = s .begins;
         ends = s .ends;
         follows = s .follows;
@@ -367,12 +346,11 @@ module _ (g h : Group) (lo : ℕ) (from : 1 ≤ lo) (to : lo + size g + size h �
       }
   starts-closed T R L N M false s =
       let S : List ℕ = unbegin R (lo + size g) (lo + size g + size h) in
-      let r : Unbegun R (lo + size g) S (lo + size g + size h) = unbegun R (lo + size g) (lo + size g + size h) (s .len) (omega arith) to in
+      let r : Cleared R (lo + size g) S (lo + size g + size h) = unbegun R (lo + size g) (lo + size g + size h) (s .len) (omega arith) to in
       record {
         len = r .len;
         under = λ k lt. r .under k (omega arith) ∙ s .under k lt;
         between = λ k le lt. r .over k (omega arith) ∙ s .between k le lt;
-        over = λ k le lt. r .over k (omega arith) ∙ s .over k le lt;
         begins =
             λ p ge lt.
             ⊎-elim
@@ -418,7 +396,6 @@ module _ (g : Group) (lo : ℕ) (from : 1 ≤ lo) (to : lo + size g ≤ 97) (gn 
         len = r .len;
         under = λ k lt. r .rows-before k (omega arith) ∙ s .under k lt;
         between = λ k le lt. r .rows-before k lt ∙ s .between k le lt;
-        over = λ k le lt. r .rows-after k le ∙ s .over k le lt;
         begins = λ p ge lt. r .rows-before p (omega arith) ∙ s .begins p ge lt;
         ends =
             λ u ge lt. linked-end (first g) (last g) S lo R (lo + size g) r u ge lt (none-first g 0 (has-under g lo 0 gn from)) ∙ s .ends u ge lt;
@@ -433,13 +410,15 @@ module _ (g : Group) (lo : ℕ) (from : 1 ≤ lo) (to : lo + size g ≤ 97) (gn 
             ∙ s .requires u ge lt;
       }
 
-zeros : (n k : ℕ) → _≡_ {A = ℕ} (getD (replicate n 0) k 0) 0
-zeros zero k = refl
-zeros (suc n) zero = refl
-zeros (suc n) (suc k) = zeros n k
+-- No place can begin the model yet.
+pub record Fresh (T : List ℕ) : Type 0 where
+  pub len : length T ≡ MODEL
+  pub none : (p : ℕ) → 1 ≤ p → p < 97 → getD T p 0 ≡ 0
 
-pub fresh-blank : (lo : ℕ) → Fresh lo blank
-fresh-blank lo = record { len = length-replicate {A = ℕ} MODEL 0; row-0 = λ k ge lt. zeros MODEL k; rows = λ k ge lt. zeros MODEL k }
+pub fresh-cleared : (T S : List ℕ) → length T ≡ MODEL → S ≡ unbegin T 1 97 → Fresh S
+fresh-cleared T S l e =
+    let r = unbegun T 1 97 l (omega arith) (omega arith) in
+    rw e (record { len = r .len; none = r .none })
 
 -- What is read in a table of the model g: in row u what may come next, whether the content is complete and what is required, once u was
 -- the last place taken, or at the start where u is 0.
@@ -449,7 +428,7 @@ pub record Says (g : Group) (T : List ℕ) : Type 0 where
   pub complete : (u : ℕ) → u ≤ size g → getD T (u * MODEL-ROW) 0 ≡ cond (completeIn g u) 1 0
   pub required : (u : ℕ) → u ≤ size g → getD T (u * MODEL-ROW + 97) 0 ≡ requiredIn g u
 
-module _ (g : Group) (gn : Numbered g 1) (to : size g ≤ 96) (F : List ℕ) (f : Filled g 1 blank F) where
+module _ (g : Group) (gn : Numbered g 1) (to : size g ≤ 96) (T F : List ℕ) (t : Fresh T) (f : Filled g 1 T F) where
   Z : List ℕ
   Z = set F 0 (cond (nullable g) 1 0)
 
@@ -465,7 +444,7 @@ module _ (g : Group) (gn : Numbered g 1) (to : size g ≤ 96) (F : List ℕ) (f 
   begin : (p : ℕ) → 1 ≤ p → p ≤ 96 → getD F p 0 ≡ bit (first g p)
   begin p ge le =
       ⊎-elim (λ (x : p < 1 + size g). f .begins p ge x)
-      (λ (x : 1 + size g ≤ p). rw (none-first g p (has-over g 1 p gn x)) (f .between p x (omega arith) ∙ zeros MODEL p))
+      (λ (x : 1 + size g ≤ p). rw (none-first g p (has-over g 1 p gn x)) (f .between p x (omega arith) ∙ t .none p ge (omega arith)))
       (below-or-from p (1 + size g))
 
   next-in : (u p : ℕ) → u ≤ size g → 1 ≤ p → p ≤ 96 → getD (set Z 97 (must g)) (u * MODEL-ROW + p) 0 ≡ cond (nextIn g u p) 1 0

@@ -3,14 +3,16 @@
 // It has 97 rows of 98 numbers. Row 0 is the start, row u is after the place u; the places are 1 to 96.
 // Column 0 is 1 where the content is complete, column p is 1 where the place p may come next, column 97 is the
 // required place, or 0. While a model is read, row 0 holds the places that can begin, and column 0 those that can
-// end, the innermost finished group around them. The places of a group are [lo, hi).
+// end, the innermost finished group around them. The places of a group are [lo, hi). A row is cleared when its place is read: what
+// the model before left in the rows behind the last place, and in the code behind what is put there, nobody reads.
 use layout::MODEL;
 use layout::MODEL_ROW;
 use layout::POSITIONS;
 ghost use mathlib.Core.Path.{_≡_};
 ghost use Prim.Native.Nat.{_≤_, _<_};
 ghost use mathlib.Core.Bool.{true, false};
-ghost use Rattle.model_table.specs.Fill.{putPlace, part, partSeq, partAlt, closeEnds, closeStarts, joinSeq, joinAnd, partAnd, repeated, finished, blank};
+ghost use Rattle.model_table.specs.Fill.{putPlace, part, partSeq, partAlt, closeEnds, closeStarts, joinSeq, joinAnd, partAnd, repeated, finished};
+ghost use Rattle.model_table.specs.Means.{Fresh};
 
 // What is kept of a group beside the table: whether it can be empty, and which place it requires, or 0.
 pub struct Part {
@@ -18,18 +20,20 @@ pub struct Part {
     pub required: u8,
 }
 
-// Every number is 0.
+// A new model: no place can begin it yet. What is said of anything else is not decided.
 pub fn clear(table: &mut [u8; MODEL])
-    ensures { λ _. ⌜ now (table .exit) ≡ blank ⌝ }
+    ensures { λ _. ⌜ Fresh (now (table .exit)) ⌝ }
 {
-    *table = [0u8; MODEL];
+    model_links::whole(*table);
+    model_links::unbegin(table, 1, POSITIONS);
 }
 
-// A new place p.
+// A new place p, after which nothing comes yet.
 pub fn put_place(table: &mut [u8; MODEL], p: usize) -> Part
     requires { ⌜ p < 97 ⌝ }
     ensures { λ r. ⌜ (now (table .exit) ≡ putPlace (now (table .entry)) p) × (r ≡ part false p) ⌝ }
 {
+    model_links::clear_row(table, p);
     table[p] = 1;
     table[p * MODEL_ROW] = 1;
     Part {

@@ -10,6 +10,7 @@ use Rattle.rules.specs.Reading.{got}
 use Rattle.rules.specs.TypeFile.{Element}
 use Rattle.rules.specs.Decisions.{Decisions, Means}
 use Rattle.rules.specs.Events.{Event, withData}
+use Rattle.rules.specs.Given.{withAttributes}
 use Rattle.rules.specs.Settling.{State, nothingOpen, isComplete, startElement, takeData, endElement}
 use Rattle.rules.specs.Reader.{document}
 use Rattle.rules.specs.Acts.{Acts, Passes, Few}
@@ -28,6 +29,7 @@ use Rattle.open_elements.specs.Means.{fresh, Ranged, Stands}
 use Rattle.open_elements.specs.Becomes.{StandsWith, was-got}
 use Rattle.open_elements.specs.Laws.{stands-noted}
 use Rattle.settling.specs.Settled.{takes, Settles}
+use Rattle.settling.specs.Steps.{Steps, steps-settle}
 use Rattle.closing.specs.Closed.{Tagged}
 use Rattle.acts.specs.Readings.{startElement-acts, takeData-acts, endElement-acts, passes-acts, document-acts}
 use Rattle.moments.specs.Means.{Moment, Beside, Leads}
@@ -40,11 +42,12 @@ module _ {s : List ℕ} {es : List Element} {rows places facts M : List ℕ} (ta
   pub passes-beside : {c : Settings} {at : ℕ} {z : State} → Passes c s es D d at z → Beside s es D rows M nothingOpen fresh bits z
   passes-beside p = acts-beside tables D means (moment-first s es (tables .accepted)) (passes-acts s es D d p)
 
-  -- A document that is read to its end: at last nothing is open.
-  pub document-beside : (c : Settings) (ev : List Event) → document c s es D d ≡ got ev → (z : State) × Beside s es D rows M nothingOpen fresh bits z × (z .around ≡ []) × (isComplete s es D (z .current) ≡ true) × (z .events ≡ ev)
+  -- A document that is read to its end: at last nothing is open, and its events are those noted, with attribute events before each start.
+  pub document-beside : (c : Settings) (ev : List Event) → document c s es D d ≡ got ev → (z : State) × Beside s es D rows M nothingOpen fresh bits z × (z .around ≡ []) × (isComplete s es D (z .current) ≡ true) × (withAttributes c s es d (z .events) ≡ ev)
   document-beside c ev e =
-      let r = document-acts s es D d c ev e in
-      (r .last, acts-beside tables D means (moment-first s es (tables .accepted)) (r .acts), r .nothing, r .complete, r .events)
+      let a = document-acts s es D d c ev e in
+      let r = a .over in
+      (r .last, acts-beside tables D means (moment-first s es (tables .accepted)) (r .acts), r .nothing, r .complete, ap (withAttributes c s es d) (r .events) ∙ sym (a .given))
 
 module _ {s : List ℕ} {es : List Element} {rows places facts M : List ℕ} (tables : Tables s es rows places facts M) where
   abbrev D : Decisions
@@ -63,13 +66,13 @@ module _ {s : List ℕ} {es : List Element} {rows places facts M : List ℕ} (ta
   pub reaches-leads : (first : List ℕ) {c : Settings} {d : List ℕ} {at : ℕ} {o : Open} {bits : List ℕ} {z : State} → Ranged o → Stands es M bits o z → Reaches c s es d at z → Leads s es D rows M nothingOpen fresh first z o bits
   reaches-leads first {d = d} g h r = leads (moment-first s es (tables .accepted)) (passes-acts s es D d (r .passes)) g h
 
-  module _ {x at after n : ℕ} {o : Open} {bits numbers bytes : List ℕ} {r : Outcome} {bits′ numbers′ bytes′ : List ℕ} (h : Settles rows places facts M x at after n o bits numbers bytes r bits′ numbers′ bytes′) where
+  module _ {lists marks : List ℕ} {x at after n : ℕ} {o : Open} {bits numbers bytes : List ℕ} {r : Outcome} {bits′ numbers′ bytes′ : List ℕ} (h : Settles rows places facts M lists marks x at after n o bits numbers bytes r bits′ numbers′ bytes′) where
     -- What has become of the token, where it is not refused.
     settled : x ≤ length es → r .number ≡ 0 → (z : State) → Moment es M bits z o → (y : State) × (takes s es x at after z ≡ got y) × StandsWith es M bits′ (r .open) (z .events ++ h .events) y
     settled most done z m = was-got at (StandsWith es M bits′ (r .open) (z .events ++ h .events)) (takes s es x at after z) (h .settles s es tables z (m .stands) most) done
 
-    -- A start tag (`token` of settling): the ends and the starts that it infers, then itself.
-    pub settles-leads : 1 ≤ x → x ≤ length es → r .number ≡ 0 → (z : State) → Moment es M bits z o → (y : State) × (startElement s es D x at after z ≡ got y) × Leads s es D rows M z o bits y (r .open) bits′
+    -- A start tag: the ends and the starts that it infers, then itself.
+    settles-leads : 1 ≤ x → x ≤ length es → r .number ≡ 0 → (z : State) → Moment es M bits z o → (y : State) × (startElement s es D x at after z ≡ got y) × Leads s es D rows M z o bits y (r .open) bits′
     settles-leads some most done z m =
         let (y, e, came) = settled most done z m in
         let i : startElement s es D x at after z ≡ got y = sym (starts x some) ∙ e in
@@ -79,9 +82,9 @@ module _ {s : List ℕ} {es : List Element} {rows places facts M : List ℕ} (ta
         starts zero l = absurd (omega arith)
         starts (suc k) l = refl
 
-    -- A run of data (`token` of settling): the ends and the starts that its first byte infers, then that byte. The further bytes of the run take the same
-    -- place again, which leaves the program's open elements as they are.
-    pub data-leads : x ≡ 0 → r .number ≡ 0 → (z : State) → Moment es M bits z o → (y : State) × (takeData s es D at z ≡ got y) × Leads s es D rows M z o bits y (r .open) bits′
+    -- A run of data: the ends and the starts that its first byte infers, then that byte. The further bytes of the run take the same place again, which
+    -- leaves the program's open elements as they are.
+    data-leads : x ≡ 0 → r .number ≡ 0 → (z : State) → Moment es M bits z o → (y : State) × (takeData s es D at z ≡ got y) × Leads s es D rows M z o bits y (r .open) bits′
     data-leads nothing done z m =
         let (w, e, came) = settled (omega arith) done z m in
         let (y, settles, few, left) = run-taken s es D at (after - at) z w (sym (runs x nothing) ∙ e) in
@@ -92,6 +95,14 @@ module _ {s : List ℕ} {es : List Element} {rows places facts M : List ℕ} (ta
         runs : (k : ℕ) → k ≡ 0 → takes s es k at after z ≡ takeRun s es D at (after - at) z
         runs zero l = refl
         runs (suc k) l = absurd (omega arith)
+
+  -- The same by the steps of the token in order, as the program takes them.
+  module _ {lists marks : List ℕ} {x at after n : ℕ} {o : Open} {bits numbers bytes : List ℕ} {q : Open} {bits′ numbers′ bytes′ : List ℕ} (h : Steps rows places facts M lists marks x at after n o bits numbers bytes q bits′ numbers′ bytes′) where
+    pub steps-lead : 1 ≤ x → x ≤ length es → (z : State) → Moment es M bits z o → (y : State) × (startElement s es D x at after z ≡ got y) × Leads s es D rows M z o bits y q bits′
+    steps-lead some most z m = settles-leads (steps-settle (m .ranged) (omega (arith, tables .few)) h) some most (h .fine) z m
+
+    pub steps-data : x ≡ 0 → (z : State) → Moment es M bits z o → (y : State) × (takeData s es D at z ≡ got y) × Leads s es D rows M z o bits y q bits′
+    steps-data nothing z m = data-leads (steps-settle (m .ranged) (omega arith) h) nothing (h .fine) z m
 
   -- An end tag (`end_tag` of closing): the ends that it infers, then itself.
   pub tagged-leads : {x at after n : ℕ} {o : Open} {numbers bytes : List ℕ} {r : Outcome} {numbers′ bytes′ : List ℕ} → Tagged facts x at after n o numbers bytes r numbers′ bytes′ → r .number ≡ 0 → {bits : List ℕ} (z : State) → Moment es M bits z o

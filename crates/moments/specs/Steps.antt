@@ -1,20 +1,19 @@
 -- The steps within a token, each by the contract of the function that takes it: the ends of step 3, a start that is inferred, the place of a start
 -- tag, the ends that an end tag and the document's end infer.
-use Prim.Native.Nat.{ℕ, zero, suc, _-_, _≤_, _<_}
+use Prim.Native.Nat.{ℕ, zero, suc, _≤_, _<_}
 use mathlib.Core.Path.{_≡_, refl, sym, _∙_, ap, ap₂, subst}
-use mathlib.Core.Bool.{true, false≢true}
+use mathlib.Core.Bool.{Bool, true, false, false≢true}
 use mathlib.Core.List.{List, [], _∷_, _++_}
 use native.Mathlib.Omega.{arith}
 use lib.ListN.{length}
 use lib.Dec.{eqb}
-use borrow.Author.Tests.{le-ltb}
 use Rattle.rules.specs.Bytes.{TAGLVL}
-use Rattle.rules.specs.Reading.{Reading, got, andThen}
+use Rattle.rules.specs.Reading.{got}
 use Rattle.rules.specs.TypeFile.{Element}
-use Rattle.rules.specs.Elements.{endO}
+use Rattle.rules.specs.Elements.{contentOf, hasModel, endO}
 use Rattle.rules.specs.Decisions.{Token, start, pcdata, Decisions}
-use Rattle.rules.specs.Events.{Event, dataRun, withData}
-use Rattle.rules.specs.Settling.{State, takePlace, limited, fitting, isComplete, inferable, chain, takeToken, endDocument}
+use Rattle.rules.specs.Events.{Event, withData}
+use Rattle.rules.specs.Settling.{State, takePlace, fitting, isComplete, inferable, chain, takeToken, endDocument}
 use Rattle.rules.specs.Settling as rules
 use Rattle.rules.specs.Acts.{Act, infers, data-byte, infers-end, Acts, Few}
 use Rattle.rules.specs.Acts as act
@@ -29,13 +28,14 @@ use Rattle.document_laws.specs.Moves.{state, withDatum, fits}
 use Rattle.type_tables.specs.Means.{Tables, CanTake}
 use Rattle.open_elements.specs.declared.Open.{Open}
 use Rattle.open_elements.specs.declared.Outcome.{Outcome}
-use Rattle.open_elements.specs.Means.{Starting, Stands}
+use Rattle.open_elements.specs.Means.{Taking, Starting}
 use Rattle.open_elements.specs.Becomes.{StandsWith, was-got}
 use Rattle.open_elements.specs.Laws.{stands-required, stands-noted}
 use Rattle.ways.specs.declared.Way.{Way}
 use Rattle.ways.specs.declared.Way.the-variants.{Taken, Inferred, Stuck}
 use Rattle.ways.specs.Means.{tokenOf, tokenOf-number, tokenOf-declared, wayOf, mayEnd, startsOf, placeOf}
-use Rattle.placing.specs.Noting.{noting, Places}
+use Rattle.placing.specs.Noting.{noting, Placed, openedBy}
+use Rattle.placing.specs.Places.{opened-ranged, opened-notes}
 use Rattle.inferring.specs.Inferring.{EndsTo, none, more, Stops, inferOne, Infers, InfersStart}
 use Rattle.inferring.specs.declared.Stop.{Stop}
 use Rattle.inferring.specs.Starts.{chain-infers}
@@ -45,7 +45,7 @@ use Rattle.closing.specs.Closed.{Finished}
 use Rattle.acts.specs.Readings.{Comes, leftOut, noted-acts, endDocument-acts}
 use Rattle.acts.specs.Laws.{acts-then, acts-last}
 use Rattle.moments.specs.Means.{Moment, Beside, Leads}
-use Rattle.moments.specs.Beside.{can-take, moment-act, acts-beside}
+use Rattle.moments.specs.Beside.{can-take, moment-took, moment-act, acts-beside}
 use Rattle.moments.specs.Results.{leads}
 
 may-end-so : (s : List ℕ) (es : List Element) (D : Decisions) (o : rules.Open) (us : List rules.Open) → mayEnd s es D o us ≡ true → (isComplete s es D o ≡ true) × (endO es (o .number) ≡ true)
@@ -93,10 +93,6 @@ place-found f g (Taken q) p e n h i = e ∙ h q refl
 place-found f g (Inferred k) p e n h i = e ∙ i k refl
 place-found f g Stuck p e n h i = absurd (n e)
 
-limited-small : (at : ℕ) (z : State) → Few z → limited at z ≡ got z
-unfolding limited
-limited-small at z f = rw (le-ltb TAGLVL (length (z .around)) f, limited)
-
 not-none : (n : ℕ) → (n ≡ 0 → ⊥) → 1 ≤ n
 not-none zero h = absurd (h refl)
 not-none (suc n) h = omega arith
@@ -140,7 +136,7 @@ module _ {s : List ℕ} {es : List Element} {rows places facts M : List ℕ} (ta
   -- The place of a token (`placed` of placing) that is not refused there. What was found is the place as which the token fits, or starts that were inferred, so
   -- that nothing is taken yet in the current element.
   module _ {bits : List ℕ} (x : ℕ) {found : Way} {at after n : ℕ} {o : Open} {numbers bytes : List ℕ} {r : Outcome} {bits′ numbers′ bytes′ : List ℕ}
-      (h : Places rows places facts M bits found x at after n o numbers bytes r bits′ numbers′ bytes′) (most : x ≤ length es) (fine : r .number ≡ 0) (z : State) (m : Moment es M bits z o)
+      (h : Placed rows places facts M bits found x at after n o numbers bytes r bits′ numbers′ bytes′) (most : x ≤ length es) (fine : r .number ≡ 0) (z : State) (m : Moment es M bits z o)
       (right : (p : Place) → found ≡ Taken p → p .0 ≡ fitting s es (D s es) (z .current) (tokenOf x)) (new : (n : ℕ) → found ≡ Inferred n → z .current .taken ≡ []) where
     some-place : h .p ≡ 0 → ⊥
     some-place e = omega (arith, h .stuck e)
@@ -153,46 +149,48 @@ module _ {s : List ℕ} {es : List Element} {rows places facts M : List ℕ} (ta
     fits-some : 1 ≤ fitting s es (D s es) (z .current) (tokenOf x)
     fits-some = omega (arith, place-fits, not-none (h .p) some-place)
 
-    -- What is noted is what the rules note.
-    noted : (y : State) × (noting es x at after (takePlace (h .p) z) ≡ got y) × StandsWith es M bits′ (r .open) (z .events ++ h .events) y
-    noted =
-        let can : CanTake es (z .current) (h .p) = rw place-fits (can-take s es (tables .accepted) m (D s es) (accepted-decided s es (tables .accepted)) (fits (tokenOf x) fits-some)) in
-        was-got at (StandsWith es M bits′ (r .open) (z .events ++ h .events)) (noting es x at after (takePlace (h .p) z)) (h .notes some-place s es tables z (m .stands) can most) fine
+    -- The place is taken as which the token fits: there is a moment, at which an element with a model is not open yet.
+    pub placed-moment : Moment es M bits′ (takeToken s es (D s es) (tokenOf x) z) (r .open)
+    placed-moment = moment-took tables (D s es) (accepted-decided s es (tables .accepted)) m (fits (tokenOf x) fits-some) (subst (λ (p : ℕ). Taking rows M bits p o (r .open) bits′) place-fits (h .taking fine))
 
-  -- That of a start tag: one act, which opens its element or, of an EMPTY one, leaves what is open.
+    -- What is noted is what the rules note, once an element with a model is open.
+    module _ (b : Bool) (none : x ≡ 0 → b ≡ false) (model : (x ≡ 0 → ⊥) → hasModel (contentOf es x) ≡ b) {q : Open} (opened : q ≡ openedBy rows x b (r .open)) where
+      noted : (y : State) × (noting es x at after (takePlace (h .p) z) ≡ got y) × StandsWith es M bits′ q (z .events ++ h .events) y
+      noted =
+          let can : CanTake es (z .current) (h .p) = rw place-fits (can-take s es (tables .accepted) m (D s es) (accepted-decided s es (tables .accepted)) (fits (tokenOf x) fits-some)) in
+          was-got at (StandsWith es M bits′ q (z .events ++ h .events)) (noting es x at after (takePlace (h .p) z)) (opened-notes h fine b none opened tables (m .stands) can most model some-place) fine
+
+  -- That of a start tag: one act, which opens its element or, of an EMPTY one, leaves what is open. The element is opened after `placed` (`start` of
+  -- open_elements), where it has a model.
   pub places-leads : {bits : List ℕ} (x : ℕ) {found : Way} {at after n : ℕ} {o : Open} {numbers bytes : List ℕ} {r : Outcome} {bits′ numbers′ bytes′ : List ℕ}
-      → Places rows places facts M bits found x at after n o numbers bytes r bits′ numbers′ bytes′ → 1 ≤ x → x ≤ length es → r .number ≡ 0 → (z : State) → Moment es M bits z o
+      → Placed rows places facts M bits found x at after n o numbers bytes r bits′ numbers′ bytes′ → {q : Open} → q ≡ openedBy rows x (hasModel (contentOf es x)) (r .open)
+      → 1 ≤ x → x ≤ length es → r .number ≡ 0 → (z : State) → Moment es M bits z o
       → ((p : Place) → found ≡ Taken p → p .0 ≡ fitting s es (D s es) (z .current) (tokenOf x)) → ((n : ℕ) → found ≡ Inferred n → z .current .taken ≡ [])
-      → (y : State) × (noting es x at after (takeToken s es (D s es) (tokenOf x) z) ≡ got y) × Leads s es (D s es) rows M z o bits y (r .open) bits′
-  places-leads zero h some most fine z m right new = absurd (omega arith)
-  places-leads (suc k) {at = at} {after} h some most fine z m right new =
-      let (y, e, came) = noted (suc k) h most fine z m right new in
+      → (y : State) × (noting es x at after (takeToken s es (D s es) (tokenOf x) z) ≡ got y) × Leads s es (D s es) rows M z o bits y q bits′
+  places-leads zero h opened some most fine z m right new = absurd (omega arith)
+  places-leads (suc k) {at = at} {after} h opened some most fine z m right new =
+      let b = hasModel (contentOf es (suc k)) in
+      let none : suc k ≡ 0 → b ≡ false = (λ e. absurd (omega arith)) in
+      let (y, e, came) = noted (suc k) h most fine z m right new b none (λ i. refl) opened in
       let same = place-fits (suc k) h most fine z m right new in
       let comes : Comes s es (D s es) (start (suc k)) z (takePlace (h .p) z) =
       record { here = z; acts = λ n l j. act.still l; fits = fits-some (suc k) h most fine z m right new; taken = ap (λ (q : ℕ). takePlace q z) same } in (
         y,
         ap (λ (q : ℕ). noting es (suc k) at after (takePlace q z)) (sym same) ∙ e,
-        leads tables m (got-so (noted-acts s es (D s es) (suc k) at after z (takePlace (h .p) z) (some, most) (moment-small m) comes) e) (h .ranged) (came .0),
+        leads tables m (got-so (noted-acts s es (D s es) (suc k) at after z (takePlace (h .p) z) (some, most) (moment-small m) comes) e) (opened-ranged h fine b none opened (omega (arith, most, tables .few))) (came .0),
       )
 
   -- That of a run of data: one act, of its first byte. Each further byte takes the same place again, which leaves the program's open elements as they are.
   pub places-data : {bits : List ℕ} (x : ℕ) {found : Way} {at after n : ℕ} {o : Open} {numbers bytes : List ℕ} {r : Outcome} {bits′ numbers′ bytes′ : List ℕ}
-      → Places rows places facts M bits found x at after n o numbers bytes r bits′ numbers′ bytes′ → x ≡ 0 → r .number ≡ 0 → (z : State) → Moment es M bits z o
+      → Placed rows places facts M bits found x at after n o numbers bytes r bits′ numbers′ bytes′ → x ≡ 0 → r .number ≡ 0 → (z : State) → Moment es M bits z o
       → ((p : Place) → found ≡ Taken p → p .0 ≡ fitting s es (D s es) (z .current) (tokenOf x)) → ((n : ℕ) → found ≡ Inferred n → z .current .taken ≡ [])
       → Leads s es (D s es) rows M z o bits (withDatum at (takeToken s es (D s es) pcdata z)) (r .open) bits′
   places-data (suc k) h nothing fine z m right new = absurd (omega arith)
   places-data {bits} zero {at = at} {after} {r = r} {bits′} h nothing fine z m right new =
       let few = moment-small m in
-      let (y, e, came) = noted zero h (omega arith) fine z m right new in
-      let same = place-fits zero h (omega arith) fine z m right new in
-      let w = takePlace (h .p) z in
-      let size = after - at in
-      let i : got (state (w .current) (z .around) (z .events ++ dataRun at size ∷ [])) ≡ got y =
-      ap (λ (q : Reading State). andThen q λ (v : State). got (state (v .current) (v .around) (v .events ++ dataRun at size ∷ []))) (sym (limited-small at w few)) ∙ e in
-      let j : y ≡ state (w .current) (z .around) (z .events ++ dataRun at size ∷ []) = cc in
-      let stands : Stands es M bits′ (r .open) (withDatum at w) = stands-noted (subst (Stands es M bits′ (r .open)) j (came .0)) (withData at (z .events)) in
+      let there = placed-moment zero h (omega arith) fine z m right new in
       let byte : Act s es (D s es) z (withDatum at (takeToken s es (D s es) pcdata z)) = data-byte at (fits-some zero h (omega arith) fine z m right new) in
-      leads tables m (act.next few byte (act.still few)) (h .ranged) (subst (λ (q : ℕ). Stands es M bits′ (r .open) (withDatum at (takePlace q z))) same stands)
+      leads tables m (act.next few byte (act.still few)) (h .ranged) (stands-noted (there .stands) (withData at (z .events)))
 
   -- The ends that are inferred until the current element is x, or nothing is around it (`end_until` of left_out_ends).
   pub until-leads : {x at n : ℕ} {o : Open} {numbers bytes : List ℕ} {r : Outcome} {numbers′ bytes′ : List ℕ} → Until facts x at n o numbers bytes r numbers′ bytes′ → r .number ≡ 0 → {bits : List ℕ} (z : State) → Moment es M bits z o
