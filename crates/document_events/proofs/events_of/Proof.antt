@@ -93,11 +93,15 @@ finished c = c .before .before .before .before .before
 abbrev over : tie.After-finish Inv-loop2 μ-loop2 Inv-loop μ-loop → tie.After-loop Inv-loop2 μ-loop2 Inv-loop μ-loop
 over c = c .before .before .before
 
+-- What is left in `marks`, the last of what is handed over.
+abbrev marked : tie.After-piece-at Inv-loop2 μ-loop2 Inv-loop μ-loop → List ℕ
+marked c = c .piece-at .last .1 .1 .1 .1 .1 .1 .1 .1 .1 .1 .1 .1 .1 .1 .1 .1 .1 .0
+
 -- A turn of the loop.
 at-turn : (c : tie.After-piece-at Inv-loop2 μ-loop2 Inv-loop μ-loop) →
     let a = first (turn c .before) .args in
     let l = turn c .before .loop in
-    Turn (settings (a .long)) (a .s .now) (a .elements .now) (a .index .now) (a .rows .now) (a .places .now) (a .facts .now) (a .members .now) (a .lists .now) (a .d .now) (l .begun) (a .numbers .now) (l .numbers) (a .bytes .now) (l .bytes) (l .n) (l .at) (l .o) (c .piece-at .result) (c .piece-at .last .1 .1 .1 .1 .1 .1 .1 .1 .1 .1 .1 .1 .1 .1 .1 .1 .1 .0)
+    Turn (settings (a .long)) (a .s .now) (a .elements .now) (a .index .now) (a .rows .now) (a .places .now) (a .facts .now) (a .members .now) (a .lists .now) (a .d .now) (l .begun) (a .numbers .now) (l .numbers) (a .bytes .now) (l .bytes) (l .n) (l .at) (l .o) (c .piece-at .result) (marked c)
 at-turn c = record { going = turn c .before .loop .inv; inside = omega (arith, turn c .loop-test .taken); onward = c .piece-at .ensures .0; said = c .piece-at .ensures .1 }
 
 -- Where the token ends.
@@ -122,7 +126,7 @@ on : (c : tie.After-ends Inv-loop2 μ-loop2 Inv-loop μ-loop) →
     (s : List ℕ) (es : List Element) (z : State) → Stands es (first (t .before) .args .members .now) (t .before .loop .begun) (t .before .loop .o) z → isOver s es (decided s es) z ≡ false
 on c s es z stands = sym (over-says s stands) ∙ sym (c .before .before .before .before .before .is-over .ensures) ∙ c .before .before .before .before .if1 .left
 
--- So many events that there is room for those of a tag's attributes and of its token.
+-- The events are so few that those of an element's attributes and those of the token can still be counted.
 room : (c : tie.At-loop2 Inv-loop2 μ-loop2 Inv-loop μ-loop) → c .loop2 .m + 90 < 4294967296
 room c =
     let s = stopped c in
@@ -130,12 +134,9 @@ room c =
     let i = c .loop2 .inv in
     omega (arith, i .counted, i .few, i .most, c .before .if2 .left, f .counted, f .deep, asked (told s) .0 .few, asked (told s) .4)
 
--- There is room for one more.
+-- There is room for one more open element.
 less : (c : tie.In-loop2 Inv-loop2 μ-loop2 Inv-loop μ-loop) → c .before .loop2 .o .count < 24
 less c = omega (arith, c .before .loop2 .inv .deep, c .loop2-test .taken, c .before .before .if2 .left)
-
-new-requires : tie.Need-new-requires Inv-loop2 μ-loop2 Inv-loop μ-loop
-new-requires c κs = search needs
 
 loop-holds : tie.Need-loop-holds Inv-loop2 μ-loop2 Inv-loop μ-loop
 loop-holds c = going-start _ _ _ _ _ _ _ _ _ _ _ _ _ (c .new .ensures)
@@ -146,15 +147,6 @@ piece-at-requires c κs =
     let g = t .before .loop .inv in
     let p = first (t .before) .pre in
     (p .0, p .1, g .ranged .few, g .ranged .element, g .ranged .place, omega (arith, t .loop-test .taken), p .2, p .3)
-
-enum-known-p : tie.Need-enum-known-p Inv-loop2 μ-loop2 Inv-loop μ-loop
-enum-known-p c = search needs
-
-is-over-requires : tie.Need-is-over-requires Inv-loop2 μ-loop2 Inv-loop μ-loop
-is-over-requires c κs = search needs
-
-refusal-requires : tie.Need-refusal-requires Inv-loop2 μ-loop2 Inv-loop μ-loop
-refusal-requires c κs = search needs
 
 same-length : tie.Need-same-length Inv-loop2 μ-loop2 Inv-loop μ-loop
 same-length c = turn (piece (c .before .before .before)) .before .loop .inv .numbers-same
@@ -174,16 +166,10 @@ ends-requires c κs =
     let a = asked (c .before .before .before .before .before) in
     (a .0, a .1, omega (arith, a .2, a .3), omega (arith, a .4))
 
-starts-of-requires : tie.Need-starts-of-requires Inv-loop2 μ-loop2 Inv-loop μ-loop
-starts-of-requires c κs = search needs
-
 add-if2 : tie.Need-add-if2 Inv-loop2 μ-loop2 Inv-loop μ-loop
 add-if2 c =
     let f = ended c .ends .ensures in
     omega (arith, f .starts, c .before .before .starts-of .ensures, f .turns .ranged .few)
-
-refusal-requires-2 : tie.Need-refusal-requires-2 Inv-loop2 μ-loop2 Inv-loop μ-loop
-refusal-requires-2 c κs = search needs
 
 same-length-3 : tie.Need-same-length-3 Inv-loop2 μ-loop2 Inv-loop μ-loop
 same-length-3 c = ended (c .before .before) .ends .ensures .turns .puts .numbers-kept ∙ turn (piece (told (ended (c .before .before)))) .before .loop .inv .numbers-same
@@ -251,9 +237,6 @@ placed-requires c κs =
     let f = w .put-written .ensures .few in
     (l .loop2 .inv .ranged, e .ends .ensures .fits, a .1, a .2, a .3, omega (arith, room l, f .counted, f .few))
 
-refusal-requires-3 : tie.Need-refusal-requires-3 Inv-loop2 μ-loop2 Inv-loop μ-loop
-refusal-requires-3 c κs = search needs
-
 same-length-5 : tie.Need-same-length-5 Inv-loop2 μ-loop2 Inv-loop μ-loop
 same-length-5 c =
     let q = placed (c .before .before) in
@@ -320,18 +303,12 @@ loop-again-2 c =
     let s = settles-placed (after k) (t .going .ranged .few) (on e) (e .ends .ensures) (l .before .before .before .before .starts-of .ensures) (l .before .if2 .left) (l .loop2 .inv) (i .loop2-test .left) (w .put-written .ensures) (places-opened (q .placed .ensures) (c .before .before .before .if3 .left) (asked k .1) false (rw (c .if4 .left) at (c .before .opens .ensures)) refl) in
     going-token t (k .before .p .given .1) s (c .before .before .before .if3 .left)
 
-enum-known-p-2 : tie.Need-enum-known-p-2 Inv-loop2 μ-loop2 Inv-loop μ-loop
-enum-known-p-2 c = search needs
-
 end-tag-requires : tie.Need-end-tag-requires Inv-loop2 μ-loop2 Inv-loop μ-loop
 end-tag-requires c κs =
     let k = c .before .before in
     let t = at-turn (end-piece k) in
     let a = end-asked t (first (turn (end-piece k) .before) .pre .2) (k .before .p2 .given .1) in
     (a .0, a .1, a .2, a .3, omega (arith, a .4))
-
-refusal-requires-4 : tie.Need-refusal-requires-4 Inv-loop2 μ-loop2 Inv-loop μ-loop
-refusal-requires-4 c κs = search needs
 
 same-length-7 : tie.Need-same-length-7 Inv-loop2 μ-loop2 Inv-loop μ-loop
 same-length-7 c = tagged (c .before .before) .end-tag .ensures .brings .puts .numbers-kept ∙ turn (end-piece (told-end (tagged (c .before .before)))) .before .loop .inv .numbers-same
@@ -358,17 +335,11 @@ loop-again-3 c =
     let t = at-turn (end-piece k) in
     going-end t (k .before .p2 .given .1) (tag .end-tag .ensures) (c .before .if5 .left)
 
-enum-known-p-3 : tie.Need-enum-known-p-3 Inv-loop2 μ-loop2 Inv-loop μ-loop
-enum-known-p-3 c = search needs
-
 loop-less-4 : tie.Need-loop-less-4 Inv-loop2 μ-loop2 Inv-loop μ-loop
 loop-less-4 c = omega (arith, passed-range (at-turn (c .before .before .before)) (c .before .p3 .given .1))
 
 loop-again-4 : tie.Need-loop-again-4 Inv-loop2 μ-loop2 Inv-loop μ-loop
 loop-again-4 c = going-passed (at-turn (c .before .before .before)) (c .before .p3 .given .1)
-
-enum-known-p-4 : tie.Need-enum-known-p-4 Inv-loop2 μ-loop2 Inv-loop μ-loop
-enum-known-p-4 c = search needs
 
 same-length-9 : tie.Need-same-length-9 Inv-loop2 μ-loop2 Inv-loop μ-loop
 same-length-9 c = turn (c .before .before .before) .before .loop .inv .numbers-same
@@ -383,9 +354,6 @@ finish-requires : tie.Need-finish-requires Inv-loop2 μ-loop2 Inv-loop μ-loop
 finish-requires c κs =
     let a = finish-asked (c .before .before .before .loop .inv) (omega (arith, c .before .before .loop-test .left)) (first (c .before .before .before) .pre .2) in
     (a .0, a .1, omega (arith, a .2))
-
-refusal-requires-5 : tie.Need-refusal-requires-5 Inv-loop2 μ-loop2 Inv-loop μ-loop
-refusal-requires-5 c κs = search needs
 
 same-length-11 : tie.Need-same-length-11 Inv-loop2 μ-loop2 Inv-loop μ-loop
 same-length-11 c = finished (c .before .before) .finish .ensures .brings .puts .numbers-kept ∙ over (finished (c .before .before)) .before .loop .inv .numbers-same
@@ -409,6 +377,7 @@ returns-7 c =
     let f = finished (c .before) in
     end-counts (over f .before .loop .inv) (omega (arith, over f .loop-test .left)) (f .finish .ensures) (first (over f .before) .pre .2) (c .if6 .left)
 
+-- What is left out of the list by name asks for nothing, or for what the arm of the `match` says.
 pub events-of-spec : {M : Type 1} → statement M
 events-of-spec =
     tie.close
@@ -417,19 +386,19 @@ events-of-spec =
     μ-loop2
     Inv-loop
     μ-loop
-    new-requires
+    (λ c κs. search needs)
     loop-holds
     piece-at-requires
-    enum-known-p
-    is-over-requires
-    refusal-requires
+    (λ c. search needs)
+    (λ c κs. search needs)
+    (λ c κs. search needs)
     same-length
     same-length-2
     returns
     ends-requires
-    starts-of-requires
+    (λ c κs. search needs)
     add-if2
-    refusal-requires-2
+    (λ c κs. search needs)
     same-length-3
     same-length-4
     returns-2
@@ -443,7 +412,7 @@ events-of-spec =
     loop2-again
     put-written-requires
     placed-requires
-    refusal-requires-3
+    (λ c κs. search needs)
     same-length-5
     same-length-6
     returns-3
@@ -453,23 +422,23 @@ events-of-spec =
     loop-again
     loop-less-2
     loop-again-2
-    enum-known-p-2
+    (λ c. search needs)
     end-tag-requires
-    refusal-requires-4
+    (λ c κs. search needs)
     same-length-7
     same-length-8
     returns-4
     loop-less-3
     loop-again-3
-    enum-known-p-3
+    (λ c. search needs)
     loop-less-4
     loop-again-4
-    enum-known-p-4
+    (λ c. search needs)
     same-length-9
     same-length-10
     returns-5
     finish-requires
-    refusal-requires-5
+    (λ c κs. search needs)
     same-length-11
     same-length-12
     returns-6
