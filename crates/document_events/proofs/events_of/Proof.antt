@@ -23,32 +23,32 @@ use Rattle.document_events.proofs.events_of.Statement.{statement}
 use Rattle.document_events.proofs.events_of.Tie as tie
 
 abbrev Inv-loop2 : tie.InvT-loop2
-Inv-loop2 long s elements index rows places facts members classes d numbers₀ bytes₀ at n o₀ begun₀ x after found starts m k₀ numbers bytes o begun k =
-    Along rows places facts members at m starts k o₀ begun₀ numbers₀ bytes₀ o begun numbers bytes
+Inv-loop2 long s elements index rows places facts members lists classes d numbers₀ bytes₀ at n o₀ begun₀ given marks x after found starts m₀ k₀ numbers bytes o begun m k =
+    Along rows places facts members lists at m₀ starts k o₀ begun₀ numbers₀ bytes₀ m o begun numbers bytes
 
 abbrev μ-loop2 : tie.MeasureT-loop2
-μ-loop2 long s elements index rows places facts members classes d numbers₀ bytes₀ at n o₀ begun₀ x after found starts m k₀ numbers bytes o begun k =
+μ-loop2 long s elements index rows places facts members lists classes d numbers₀ bytes₀ at n o₀ begun₀ given marks x after found starts m₀ k₀ numbers bytes o begun m k =
     starts - k
 
 abbrev Inv-loop : tie.InvT-loop
-Inv-loop long s elements index rows places facts members classes d numbers₀ bytes₀ at₀ n₀ o₀ begun₀ numbers bytes at n o begun =
-    Going (settings long) s elements index rows places facts members d begun numbers₀ numbers bytes₀ bytes n at o
+Inv-loop long s elements index rows places facts members lists classes d numbers₀ bytes₀ at₀ n₀ o₀ begun₀ given₀ marks₀ numbers bytes at n o begun given marks =
+    Going (settings long) s elements index rows places facts members lists d begun numbers₀ numbers bytes₀ bytes n at o
 
 abbrev μ-loop : tie.MeasureT-loop
-μ-loop long s elements index rows places facts members classes d numbers₀ bytes₀ at₀ n₀ o₀ begun₀ numbers bytes at n o begun =
+μ-loop long s elements index rows places facts members lists classes d numbers₀ bytes₀ at₀ n₀ o₀ begun₀ given₀ marks₀ numbers bytes at n o begun given marks =
     length d - at
 
 -- Points of the program, each from a later one: the function's entry and the turn of the loop, then what stands at `at`, where it is known to be a token.
 abbrev first : tie.At-loop Inv-loop2 μ-loop2 Inv-loop μ-loop → tie.Start Inv-loop2 μ-loop2 Inv-loop μ-loop
-first c = c .before .before .before .before .before .before .before
+first c = c .before .before .before .before .before .before .before .before
 
 abbrev turn : tie.After-piece-at Inv-loop2 μ-loop2 Inv-loop μ-loop → tie.In-loop Inv-loop2 μ-loop2 Inv-loop μ-loop
-turn c = c .before .before .before .before
+turn c = c .before .before .before .before .before .before
 
 abbrev piece : tie.After-known-told Inv-loop2 μ-loop2 Inv-loop μ-loop → tie.After-piece-at Inv-loop2 μ-loop2 Inv-loop μ-loop
 piece c = c .before .before .before
 
--- The token before its ends are inferred, the ends before its starts, and the starts before its place.
+-- The token before its ends are inferred, the ends before its starts, those before the attribute events of its tag, and these before its place.
 abbrev told : tie.After-ends Inv-loop2 μ-loop2 Inv-loop μ-loop → tie.After-known-told Inv-loop2 μ-loop2 Inv-loop μ-loop
 told c = c .before .before .before .before .before .before
 
@@ -58,14 +58,24 @@ ended c = c .before .before .before .before .before .before .before
 abbrev stopped : tie.At-loop2 Inv-loop2 μ-loop2 Inv-loop μ-loop → tie.After-ends Inv-loop2 μ-loop2 Inv-loop μ-loop
 stopped c = ended (c .before .before)
 
-abbrev inferred : tie.After-placed Inv-loop2 μ-loop2 Inv-loop μ-loop → tie.After-loop2 Inv-loop2 μ-loop2 Inv-loop μ-loop
+abbrev inferred : tie.After-put-written Inv-loop2 μ-loop2 Inv-loop μ-loop → tie.After-loop2 Inv-loop2 μ-loop2 Inv-loop μ-loop
 inferred c = c .before .before .before .before
+
+abbrev written : tie.After-placed Inv-loop2 μ-loop2 Inv-loop μ-loop → tie.After-put-written Inv-loop2 μ-loop2 Inv-loop μ-loop
+written c = c .before .before .before .before .before .before .before .before
 
 abbrev placed : tie.After-struct-known2 Inv-loop2 μ-loop2 Inv-loop μ-loop → tie.After-placed Inv-loop2 μ-loop2 Inv-loop μ-loop
 placed c = c .before .before .before .before .before
 
 abbrev token : tie.After-struct-known2 Inv-loop2 μ-loop2 Inv-loop μ-loop → tie.After-known-told Inv-loop2 μ-loop2 Inv-loop μ-loop
-token c = told (stopped (inferred (placed c) .before))
+token c = told (stopped (inferred (written (placed c)) .before))
+
+-- A start that is inferred: its attribute events, and the turn before them.
+abbrev defaulted : tie.After-infer-start-arg2 Inv-loop2 μ-loop2 Inv-loop μ-loop → tie.After-put-defaults Inv-loop2 μ-loop2 Inv-loop μ-loop
+defaulted c = c .before .before .before .before .before .before .before
+
+abbrev next : tie.After-put-defaults Inv-loop2 μ-loop2 Inv-loop μ-loop → tie.After-next-start Inv-loop2 μ-loop2 Inv-loop μ-loop
+next c = c .before .before .before
 
 -- What stands at `at` where it is an end tag; the end tag and the document's end, settled.
 abbrev end-piece : tie.After-known-told2 Inv-loop2 μ-loop2 Inv-loop μ-loop → tie.After-piece-at Inv-loop2 μ-loop2 Inv-loop μ-loop
@@ -83,11 +93,15 @@ finished c = c .before .before .before .before .before
 abbrev over : tie.After-finish Inv-loop2 μ-loop2 Inv-loop μ-loop → tie.After-loop Inv-loop2 μ-loop2 Inv-loop μ-loop
 over c = c .before .before .before
 
+-- What is left in `marks`, the last of what is handed over.
+abbrev marked : tie.After-piece-at Inv-loop2 μ-loop2 Inv-loop μ-loop → List ℕ
+marked c = c .piece-at .last .1 .1 .1 .1 .1 .1 .1 .1 .1 .1 .1 .1 .1 .1 .1 .1 .1 .0
+
 -- A turn of the loop.
 at-turn : (c : tie.After-piece-at Inv-loop2 μ-loop2 Inv-loop μ-loop) →
     let a = first (turn c .before) .args in
     let l = turn c .before .loop in
-    Turn (settings (a .long)) (a .s .now) (a .elements .now) (a .index .now) (a .rows .now) (a .places .now) (a .facts .now) (a .members .now) (a .d .now) (l .begun) (a .numbers .now) (l .numbers) (a .bytes .now) (l .bytes) (l .n) (l .at) (l .o) (c .piece-at .result)
+    Turn (settings (a .long)) (a .s .now) (a .elements .now) (a .index .now) (a .rows .now) (a .places .now) (a .facts .now) (a .members .now) (a .lists .now) (a .d .now) (l .begun) (a .numbers .now) (l .numbers) (a .bytes .now) (l .bytes) (l .n) (l .at) (l .o) (c .piece-at .result) (marked c)
 at-turn c = record { going = turn c .before .loop .inv; inside = omega (arith, turn c .loop-test .taken); onward = c .piece-at .ensures .0; said = c .piece-at .ensures .1 }
 
 -- Where the token ends.
@@ -97,7 +111,7 @@ after c = c .before .p .given .0 .1 .0
 -- What the steps of a token ask for.
 asked : (c : tie.After-known-told Inv-loop2 μ-loop2 Inv-loop μ-loop) →
     let l = turn (piece c) .before .loop in
-    Ranged (l .o) × (c .before .p .given .0 .0 .0 ≤ 64) × (l .at ≤ after c) × (after c < 4294967296) × (l .n + 50 < 4294967296)
+    Ranged (l .o) × (c .before .p .given .0 .0 .0 ≤ 64) × (l .at ≤ after c) × (after c < 4294967296) × (l .n + 1100 < 4294967296)
 asked c = token-asked (at-turn (piece c)) (first (turn (piece c) .before) .pre .2) (c .before .p .given .1)
 
 -- It ends behind where it begins, and within the document.
@@ -112,40 +126,27 @@ on : (c : tie.After-ends Inv-loop2 μ-loop2 Inv-loop μ-loop) →
     (s : List ℕ) (es : List Element) (z : State) → Stands es (first (t .before) .args .members .now) (t .before .loop .begun) (t .before .loop .o) z → isOver s es (decided s es) z ≡ false
 on c s es z stands = sym (over-says s stands) ∙ sym (c .before .before .before .before .before .is-over .ensures) ∙ c .before .before .before .before .if1 .left
 
--- So many events, with the starts.
-events : (c : tie.At-loop2 Inv-loop2 μ-loop2 Inv-loop μ-loop) →
-    let s = c .before .before in
-    ended s .ends .result .events + s .before .before .starts-of .result ≤ turn (piece (told (ended s))) .before .loop .n + 48
-events c =
-    let s = c .before .before in
-    let f = ended s .ends .ensures .turns in
-    omega (arith, c .before .if2 .left, f .counted, f .deep, asked (told (ended s)) .0 .few)
+-- The events are so few that those of an element's attributes and those of the token can still be counted.
+room : (c : tie.At-loop2 Inv-loop2 μ-loop2 Inv-loop μ-loop) → c .loop2 .m + 90 < 4294967296
+room c =
+    let s = stopped c in
+    let f = s .ends .ensures .turns in
+    let i = c .loop2 .inv in
+    omega (arith, i .counted, i .few, i .most, c .before .if2 .left, f .counted, f .deep, asked (told s) .0 .few, asked (told s) .4)
 
--- There is room for one more.
+-- There is room for one more open element.
 less : (c : tie.In-loop2 Inv-loop2 μ-loop2 Inv-loop μ-loop) → c .before .loop2 .o .count < 24
 less c = omega (arith, c .before .loop2 .inv .deep, c .loop2-test .taken, c .before .before .if2 .left)
 
-new-requires : tie.Need-new-requires Inv-loop2 μ-loop2 Inv-loop μ-loop
-new-requires c κs = search needs
-
 loop-holds : tie.Need-loop-holds Inv-loop2 μ-loop2 Inv-loop μ-loop
-loop-holds c = going-start _ _ _ _ _ _ _ _ _ _ _ _ (c .new .ensures)
+loop-holds c = going-start _ _ _ _ _ _ _ _ _ _ _ _ _ (c .new .ensures)
 
 piece-at-requires : tie.Need-piece-at-requires Inv-loop2 μ-loop2 Inv-loop μ-loop
 piece-at-requires c κs =
-    let t = c .before .before .before in
+    let t = c .before .before .before .before .before in
     let g = t .before .loop .inv in
     let p = first (t .before) .pre in
-    (p .0, p .1, g .ranged .few, g .ranged .element, g .ranged .place, omega (arith, t .loop-test .taken), p .2)
-
-enum-known-p : tie.Need-enum-known-p Inv-loop2 μ-loop2 Inv-loop μ-loop
-enum-known-p c = search needs
-
-is-over-requires : tie.Need-is-over-requires Inv-loop2 μ-loop2 Inv-loop μ-loop
-is-over-requires c κs = search needs
-
-refusal-requires : tie.Need-refusal-requires Inv-loop2 μ-loop2 Inv-loop μ-loop
-refusal-requires c κs = search needs
+    (p .0, p .1, g .ranged .few, g .ranged .element, g .ranged .place, omega (arith, t .loop-test .taken), p .2, p .3)
 
 same-length : tie.Need-same-length Inv-loop2 μ-loop2 Inv-loop μ-loop
 same-length c = turn (piece (c .before .before .before)) .before .loop .inv .numbers-same
@@ -157,24 +158,18 @@ returns : tie.Need-returns Inv-loop2 μ-loop2 Inv-loop μ-loop
 returns c =
     let k = c .before .before .before in
     let t = at-turn (piece k) in
-    let s = settles-over _ _ _ _ _ _ _ _ _ _ _ _ (t .going .ranged) (λ s es z stands. sym (over-says s stands) ∙ sym (c .before .before .is-over .ensures) ∙ c .before .if1 .taken) in
+    let s = settles-over _ _ _ _ _ _ _ _ _ _ _ _ _ _ (t .going .ranged) (λ s es z stands. sym (over-says s stands) ∙ sym (c .before .before .is-over .ensures) ∙ c .before .if1 .taken) in
     token-refuses t (k .before .p .given .1) s (λ z. omega arith) (c .refusal .ensures)
 
 ends-requires : tie.Need-ends-requires Inv-loop2 μ-loop2 Inv-loop μ-loop
 ends-requires c κs =
     let a = asked (c .before .before .before .before .before) in
-    (a .0, a .1, omega (arith, a .2, a .3), a .4)
-
-starts-of-requires : tie.Need-starts-of-requires Inv-loop2 μ-loop2 Inv-loop μ-loop
-starts-of-requires c κs = search needs
+    (a .0, a .1, omega (arith, a .2, a .3), omega (arith, a .4))
 
 add-if2 : tie.Need-add-if2 Inv-loop2 μ-loop2 Inv-loop μ-loop
 add-if2 c =
     let f = ended c .ends .ensures in
     omega (arith, f .starts, c .before .before .starts-of .ensures, f .turns .ranged .few)
-
-refusal-requires-2 : tie.Need-refusal-requires-2 Inv-loop2 μ-loop2 Inv-loop μ-loop
-refusal-requires-2 c κs = search needs
 
 same-length-3 : tie.Need-same-length-3 Inv-loop2 μ-loop2 Inv-loop μ-loop
 same-length-3 c = ended (c .before .before) .ends .ensures .turns .puts .numbers-kept ∙ turn (piece (told (ended (c .before .before)))) .before .loop .inv .numbers-same
@@ -187,25 +182,36 @@ returns-2 c =
     let e = ended (c .before .before) in
     let k = told e in
     let t = at-turn (piece k) in
-    let s = settles-many (after k) (t .going .ranged .few) (on e) (e .ends .ensures) (omega (arith, c .before .if2 .taken, c .before .before .before .before .starts-of .ensures)) in
+    let s = settles-many (after k) (t .going .ranged .few) (on e) (e .ends .ensures) _ _ (omega (arith, c .before .if2 .taken, c .before .before .before .before .starts-of .ensures)) in
     token-refuses t (k .before .p .given .1) s (λ z. omega arith) (c .refusal2 .ensures)
 
 loop2-holds : tie.Need-loop2-holds Inv-loop2 μ-loop2 Inv-loop μ-loop
-loop2-holds c = along-start _ _ _ _ _ _ _ _ _ _ _ (ended (c .before) .ends .ensures .turns .ranged)
+loop2-holds c = along-start _ _ _ _ _ _ _ _ _ _ _ _ (ended (c .before) .ends .ensures .turns .ranged)
 
-add-infer-start : tie.Need-add-infer-start Inv-loop2 μ-loop2 Inv-loop μ-loop
-add-infer-start c =
-    let l = c .before .before in
-    omega (arith, events l, c .before .loop2-test .taken, asked (told (stopped l)) .4)
+next-start-requires : tie.Need-next-start-requires Inv-loop2 μ-loop2 Inv-loop μ-loop
+next-start-requires c κs = c .before .loop2 .inv .ranged
+
+put-defaults-requires : tie.Need-put-defaults-requires Inv-loop2 μ-loop2 Inv-loop μ-loop
+put-defaults-requires c κs = (c .before .before .next-start .ensures .1, omega (arith, room (c .before .before .before .before)))
 
 infer-start-requires : tie.Need-infer-start-requires Inv-loop2 μ-loop2 Inv-loop μ-loop
 infer-start-requires c κs =
-    let l = c .before .before .before in
+    let p = defaulted c in
+    let l = next p .before in
     let a = asked (told (stopped (l .before))) in
-    (l .before .loop2 .inv .ranged, less l, omega (arith, a .2, a .3), omega (arith, events (l .before), l .loop2-test .taken, a .4))
+    let f = p .put-defaults .ensures .few in
+    (l .before .loop2 .inv .ranged, less l, omega (arith, a .2, a .3), omega (arith, room (l .before), f .counted, f .few))
+
+add-m : tie.Need-add-m Inv-loop2 μ-loop2 Inv-loop μ-loop
+add-m c =
+    let p = defaulted (c .before .before .before .before .before) in
+    let f = p .put-defaults .ensures .few in
+    omega (arith, room (next p .before .before), f .counted, f .few)
 
 add-k : tie.Need-add-k Inv-loop2 μ-loop2 Inv-loop μ-loop
-add-k c = omega arith
+add-k c =
+    let l = next (defaulted (c .before .before .before .before .before)) .before in
+    omega (arith, l .loop2-test .taken, l .before .before .if2 .left)
 
 loop2-less : tie.Need-loop2-less Inv-loop2 μ-loop2 Inv-loop μ-loop
 loop2-less c = omega arith
@@ -213,47 +219,50 @@ loop2-less c = omega arith
 loop2-again : tie.Need-loop2-again Inv-loop2 μ-loop2 Inv-loop μ-loop
 loop2-again c =
     let start = c .before .before .before .before in
-    let l = start .before .before .before .before in
-    along-next _ _ _ _ _ _ _ (l .before .loop2 .inv) (l .loop2-test .taken) (less l) (start .infer-start .ensures)
+    let p = defaulted (start .before) in
+    let l = next p .before in
+    along-next _ _ _ _ _ _ _ _ (l .before .loop2 .inv) (l .loop2-test .taken) (less l) (next p .next-start .ensures .0) (p .put-defaults .ensures) (start .infer-start .ensures)
 
-add-placed : tie.Need-add-placed Inv-loop2 μ-loop2 Inv-loop μ-loop
-add-placed c =
-    let l = c .before .before in
-    omega (arith, events l, asked (told (stopped l)) .4)
+put-written-requires : tie.Need-put-written-requires Inv-loop2 μ-loop2 Inv-loop μ-loop
+put-written-requires c κs =
+    let l = c .before .before .before .before in
+    (asked (told (stopped l)) .1, omega (arith, room l))
 
 placed-requires : tie.Need-placed-requires Inv-loop2 μ-loop2 Inv-loop μ-loop
 placed-requires c κs =
-    let l = c .before .before .before .before in
+    let w = c .before .before .before .before .before .before .before in
+    let l = inferred w .before in
     let e = stopped l in
     let a = asked (told e) in
-    (l .loop2 .inv .ranged, e .ends .ensures .fits, a .1, a .2, a .3, omega (arith, events l, a .4))
-
-refusal-requires-3 : tie.Need-refusal-requires-3 Inv-loop2 μ-loop2 Inv-loop μ-loop
-refusal-requires-3 c κs = search needs
+    let f = w .put-written .ensures .few in
+    (l .loop2 .inv .ranged, e .ends .ensures .fits, a .1, a .2, a .3, omega (arith, room l, f .counted, f .few))
 
 same-length-5 : tie.Need-same-length-5 Inv-loop2 μ-loop2 Inv-loop μ-loop
 same-length-5 c =
     let q = placed (c .before .before) in
-    let l = inferred q .before in
+    let w = written q in
+    let l = inferred w .before in
     let e = stopped l in
-    q .placed .ensures .puts .numbers-kept ∙ l .loop2 .inv .puts .numbers-kept ∙ e .ends .ensures .turns .puts .numbers-kept ∙ turn (piece (told e)) .before .loop .inv .numbers-same
+    q .placed .ensures .puts .numbers-kept ∙ w .put-written .ensures .few .puts .numbers-kept ∙ l .loop2 .inv .puts .numbers-kept ∙ e .ends .ensures .turns .puts .numbers-kept ∙ turn (piece (told e)) .before .loop .inv .numbers-same
 
 same-length-6 : tie.Need-same-length-6 Inv-loop2 μ-loop2 Inv-loop μ-loop
 same-length-6 c =
     let q = placed (c .before .before) in
-    let l = inferred q .before in
+    let w = written q in
+    let l = inferred w .before in
     let e = stopped l in
-    q .placed .ensures .puts .bytes-kept ∙ l .loop2 .inv .puts .bytes-kept ∙ e .ends .ensures .turns .puts .bytes-kept ∙ turn (piece (told e)) .before .loop .inv .bytes-same
+    q .placed .ensures .puts .bytes-kept ∙ w .put-written .ensures .few .puts .bytes-kept ∙ l .loop2 .inv .puts .bytes-kept ∙ e .ends .ensures .turns .puts .bytes-kept ∙ turn (piece (told e)) .before .loop .inv .bytes-same
 
 returns-3 : tie.Need-returns-3 Inv-loop2 μ-loop2 Inv-loop μ-loop
 returns-3 c =
     let q = placed (c .before .before) in
-    let i = inferred q in
+    let w = written q in
+    let i = inferred w in
     let l = i .before in
     let e = stopped l in
     let k = told e in
     let t = at-turn (piece k) in
-    let s = settles-placed (after k) (t .going .ranged .few) (on e) (e .ends .ensures) (l .before .before .before .before .starts-of .ensures) (l .before .if2 .left) (l .loop2 .inv) (i .loop2-test .left) (places-refused (q .placed .ensures) (c .before .if3 .taken)) in
+    let s = settles-placed (after k) (t .going .ranged .few) (on e) (e .ends .ensures) (l .before .before .before .before .starts-of .ensures) (l .before .if2 .left) (l .loop2 .inv) (i .loop2-test .left) (w .put-written .ensures) (places-refused (q .placed .ensures) (c .before .if3 .taken)) in
     token-refuses t (k .before .p .given .1) s (c .before .if3 .taken) (c .refusal3 .ensures)
 
 opens-requires : tie.Need-opens-requires Inv-loop2 μ-loop2 Inv-loop μ-loop
@@ -270,12 +279,13 @@ loop-less c = omega (arith, range (token (c .before .before .before .before .bef
 loop-again : tie.Need-loop-again Inv-loop2 μ-loop2 Inv-loop μ-loop
 loop-again c =
     let q = placed (c .before .before .before .before .before) in
-    let i = inferred q in
+    let w = written q in
+    let i = inferred w in
     let l = i .before in
     let e = stopped l in
     let k = told e in
     let t = at-turn (piece k) in
-    let s = settles-placed (after k) (t .going .ranged .few) (on e) (e .ends .ensures) (l .before .before .before .before .starts-of .ensures) (l .before .if2 .left) (l .loop2 .inv) (i .loop2-test .left) (places-opened (q .placed .ensures) (c .before .before .before .before .if3 .left) (asked k .1) true (rw (c .before .if4 .taken) at (c .before .before .opens .ensures)) (c .start .ensures)) in
+    let s = settles-placed (after k) (t .going .ranged .few) (on e) (e .ends .ensures) (l .before .before .before .before .starts-of .ensures) (l .before .if2 .left) (l .loop2 .inv) (i .loop2-test .left) (w .put-written .ensures) (places-opened (q .placed .ensures) (c .before .before .before .before .if3 .left) (asked k .1) true (rw (c .before .if4 .taken) at (c .before .before .opens .ensures)) (c .start .ensures)) in
     going-token t (k .before .p .given .1) s (c .before .before .before .before .if3 .left)
 
 loop-less-2 : tie.Need-loop-less-2 Inv-loop2 μ-loop2 Inv-loop μ-loop
@@ -284,25 +294,21 @@ loop-less-2 c = omega (arith, range (token (c .before .before .before .before)))
 loop-again-2 : tie.Need-loop-again-2 Inv-loop2 μ-loop2 Inv-loop μ-loop
 loop-again-2 c =
     let q = placed (c .before .before .before .before) in
-    let i = inferred q in
+    let w = written q in
+    let i = inferred w in
     let l = i .before in
     let e = stopped l in
     let k = told e in
     let t = at-turn (piece k) in
-    let s = settles-placed (after k) (t .going .ranged .few) (on e) (e .ends .ensures) (l .before .before .before .before .starts-of .ensures) (l .before .if2 .left) (l .loop2 .inv) (i .loop2-test .left) (places-opened (q .placed .ensures) (c .before .before .before .if3 .left) (asked k .1) false (rw (c .if4 .left) at (c .before .opens .ensures)) refl) in
+    let s = settles-placed (after k) (t .going .ranged .few) (on e) (e .ends .ensures) (l .before .before .before .before .starts-of .ensures) (l .before .if2 .left) (l .loop2 .inv) (i .loop2-test .left) (w .put-written .ensures) (places-opened (q .placed .ensures) (c .before .before .before .if3 .left) (asked k .1) false (rw (c .if4 .left) at (c .before .opens .ensures)) refl) in
     going-token t (k .before .p .given .1) s (c .before .before .before .if3 .left)
-
-enum-known-p-2 : tie.Need-enum-known-p-2 Inv-loop2 μ-loop2 Inv-loop μ-loop
-enum-known-p-2 c = search needs
 
 end-tag-requires : tie.Need-end-tag-requires Inv-loop2 μ-loop2 Inv-loop μ-loop
 end-tag-requires c κs =
     let k = c .before .before in
     let t = at-turn (end-piece k) in
-    end-asked t (first (turn (end-piece k) .before) .pre .2) (k .before .p2 .given .1)
-
-refusal-requires-4 : tie.Need-refusal-requires-4 Inv-loop2 μ-loop2 Inv-loop μ-loop
-refusal-requires-4 c κs = search needs
+    let a = end-asked t (first (turn (end-piece k) .before) .pre .2) (k .before .p2 .given .1) in
+    (a .0, a .1, a .2, a .3, omega (arith, a .4))
 
 same-length-7 : tie.Need-same-length-7 Inv-loop2 μ-loop2 Inv-loop μ-loop
 same-length-7 c = tagged (c .before .before) .end-tag .ensures .brings .puts .numbers-kept ∙ turn (end-piece (told-end (tagged (c .before .before)))) .before .loop .inv .numbers-same
@@ -329,17 +335,11 @@ loop-again-3 c =
     let t = at-turn (end-piece k) in
     going-end t (k .before .p2 .given .1) (tag .end-tag .ensures) (c .before .if5 .left)
 
-enum-known-p-3 : tie.Need-enum-known-p-3 Inv-loop2 μ-loop2 Inv-loop μ-loop
-enum-known-p-3 c = search needs
-
 loop-less-4 : tie.Need-loop-less-4 Inv-loop2 μ-loop2 Inv-loop μ-loop
 loop-less-4 c = omega (arith, passed-range (at-turn (c .before .before .before)) (c .before .p3 .given .1))
 
 loop-again-4 : tie.Need-loop-again-4 Inv-loop2 μ-loop2 Inv-loop μ-loop
 loop-again-4 c = going-passed (at-turn (c .before .before .before)) (c .before .p3 .given .1)
-
-enum-known-p-4 : tie.Need-enum-known-p-4 Inv-loop2 μ-loop2 Inv-loop μ-loop
-enum-known-p-4 c = search needs
 
 same-length-9 : tie.Need-same-length-9 Inv-loop2 μ-loop2 Inv-loop μ-loop
 same-length-9 c = turn (c .before .before .before) .before .loop .inv .numbers-same
@@ -351,10 +351,9 @@ returns-5 : tie.Need-returns-5 Inv-loop2 μ-loop2 Inv-loop μ-loop
 returns-5 c = piece-refuses (at-turn (c .before .before .before)) (c .before .p4 .given .1)
 
 finish-requires : tie.Need-finish-requires Inv-loop2 μ-loop2 Inv-loop μ-loop
-finish-requires c κs = finish-asked (c .before .before .before .loop .inv) (omega (arith, c .before .before .loop-test .left)) (first (c .before .before .before) .pre .2)
-
-refusal-requires-5 : tie.Need-refusal-requires-5 Inv-loop2 μ-loop2 Inv-loop μ-loop
-refusal-requires-5 c κs = search needs
+finish-requires c κs =
+    let a = finish-asked (c .before .before .before .loop .inv) (omega (arith, c .before .before .loop-test .left)) (first (c .before .before .before) .pre .2) in
+    (a .0, a .1, omega (arith, a .2))
 
 same-length-11 : tie.Need-same-length-11 Inv-loop2 μ-loop2 Inv-loop μ-loop
 same-length-11 c = finished (c .before .before) .finish .ensures .brings .puts .numbers-kept ∙ over (finished (c .before .before)) .before .loop .inv .numbers-same
@@ -378,6 +377,7 @@ returns-7 c =
     let f = finished (c .before) in
     end-counts (over f .before .loop .inv) (omega (arith, over f .loop-test .left)) (f .finish .ensures) (first (over f .before) .pre .2) (c .if6 .left)
 
+-- What is left out of the list by name asks for nothing, or for what the arm of the `match` says.
 pub events-of-spec : {M : Type 1} → statement M
 events-of-spec =
     tie.close
@@ -386,31 +386,33 @@ events-of-spec =
     μ-loop2
     Inv-loop
     μ-loop
-    new-requires
+    (λ c κs. search needs)
     loop-holds
     piece-at-requires
-    enum-known-p
-    is-over-requires
-    refusal-requires
+    (λ c. search needs)
+    (λ c κs. search needs)
+    (λ c κs. search needs)
     same-length
     same-length-2
     returns
     ends-requires
-    starts-of-requires
+    (λ c κs. search needs)
     add-if2
-    refusal-requires-2
+    (λ c κs. search needs)
     same-length-3
     same-length-4
     returns-2
     loop2-holds
-    add-infer-start
+    next-start-requires
+    put-defaults-requires
     infer-start-requires
+    add-m
     add-k
     loop2-less
     loop2-again
-    add-placed
+    put-written-requires
     placed-requires
-    refusal-requires-3
+    (λ c κs. search needs)
     same-length-5
     same-length-6
     returns-3
@@ -420,23 +422,23 @@ events-of-spec =
     loop-again
     loop-less-2
     loop-again-2
-    enum-known-p-2
+    (λ c. search needs)
     end-tag-requires
-    refusal-requires-4
+    (λ c κs. search needs)
     same-length-7
     same-length-8
     returns-4
     loop-less-3
     loop-again-3
-    enum-known-p-3
+    (λ c. search needs)
     loop-less-4
     loop-again-4
-    enum-known-p-4
+    (λ c. search needs)
     same-length-9
     same-length-10
     returns-5
     finish-requires
-    refusal-requires-5
+    (λ c κs. search needs)
     same-length-11
     same-length-12
     returns-6
