@@ -11,12 +11,13 @@ use Rattle.rules.specs.Settings.{Settings}
 use Rattle.rules.specs.Bytes.{TAGLVL}
 use Rattle.rules.specs.Reading.{Reading, refused, got, andThen}
 use Rattle.rules.specs.TypeFile.{Element}
-use Rattle.rules.specs.Document.{Tag, Piece, startTag, endTag, skipped, blank, dataByte, piece}
+use Rattle.rules.specs.Document.{Tag, Piece, startTag, endTag, skipped, blank, dataByte}
 use Rattle.rules.specs.Elements.{numberOf, contentOf, hasModel, endO}
 use Rattle.rules.specs.Decisions.{Token, start, pcdata, Decisions}
 use Rattle.rules.specs.Events.{Event, startWritten, startInferred, endWritten, endInferred, endOfEmpty}
+use Rattle.rules.specs.Given.{withAttributes}
 use Rattle.rules.specs.Settling.{Open, State, nothingOpen, takePlace, placeTaken, enter, note, limited, isOpen, Inward, settled, stuck, fitting, isComplete, requiredPlace, chain, inferStarts, takeToken, inward, settleFrom, isOver, settle, startElement, takeData, takeBlank, endLeftOut, closeFrom, endElement, endFrom, endDocument}
-use Rattle.rules.specs.Reader.{Reached, tagged, settlePiece, piecesWithin, document}
+use Rattle.rules.specs.Reader.{Reached, tagged, settlePiece, pieceUnder, piecesWithin, document}
 use Rattle.rules.specs.Acts.{Declared, starts, empties, infers, data-byte, infers-end, ends, Acts, still, next, Passes, begins, goes, Few}
 use Rattle.rules_laws.specs.Holds.{stops, reads, Gives, each, so, on, either, got-so}
 use Rattle.model_sets.specs.Bits.{and-left, and-right}
@@ -244,12 +245,19 @@ module _ (s : List ℕ) (es : List Element) (D : Decisions) where
     piecesWithin-acts c zero at z f = stops tt
     piecesWithin-acts c (suc turns) at z f =
         either (leb (length d) at) (λ e. endDocument-acts (length d) z f)
-        (λ e. on (each (piece c d at) (λ n k i. tt) (λ p i. i)) λ p i.
+        (λ e. on (each (pieceUnder c s es d at) (λ n k i. tt) (λ p i. i)) λ p i.
         on (settlePiece-acts p at z f) λ y a.
         so (piecesWithin-acts c turns (y .at) (y .state) (acts-last a)) (λ n k x. x)
         (λ ev o. record { last = o .last; acts = acts-then a (o .acts); nothing = o .nothing; complete = o .complete; events = o .events }))
 
+    -- The events of a document are those that acts note, with attribute events before each start.
+    pub record ActsOf (c : Settings) (ev : List Event) : Type 0 where
+      pub noted : List Event
+      pub over : Over nothingOpen noted
+      pub given : ev ≡ withAttributes c s es d noted
+
     -- Every document that is read is a sequence of acts, from nothing open to nothing open, with at most 24 open in each state passed.
-    pub document-acts : (c : Settings) (ev : List Event) → document c s es D d ≡ got ev → Over nothingOpen ev
+    pub document-acts : (c : Settings) (ev : List Event) → document c s es D d ≡ got ev → ActsOf c ev
     unfolding document
-    document-acts c ev e = got-so (piecesWithin-acts c (suc (length d)) 0 nothingOpen (omega arith)) e
+    document-acts c ev e =
+        got-so {P = ActsOf c} (on (piecesWithin-acts c (suc (length d)) 0 nothingOpen (omega arith)) (λ fv o. reads (record { noted = fv; over = o; given = refl }))) e

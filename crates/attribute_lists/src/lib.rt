@@ -18,7 +18,7 @@ ghost use Rattle.rules.specs.TypeFile as rules;
 ghost use Rattle.element_names.specs.Names.{Recorded, nameAt};
 ghost use Rattle.list_table.specs.Means.{ListAt};
 ghost use Rattle.list_definitions.specs.Means.{ListIn};
-ghost use Rattle.attribute_lists.specs.Means.{Headed, anyIn, listedOf, ListedFits, listedFault, MeetsLists};
+ghost use Rattle.attribute_lists.specs.Means.{Headed, anyIn, listedOf, ListedFits, listedFault, MeetsLists, Again};
 
 // The element of a list, and where its name ends.
 pub enum ListedRead {
@@ -73,7 +73,7 @@ fn listed_at(
 ) -> ListedRead
     requires { ⌜ (i ≤ length (now s)) × (length (now s) ≤ 32768) × (count ≤ 64) ⌝ }
     ensures { λ r. ⌜ ((es : List rules.Element) (ls : List AttList) → length es ≡ count → Recorded (now (elements .entry)) es → Headed (settings long) (now (s .entry)) (now (heads .entry)) ls →
-        listedOf r ≡ listedElement (settings long) (now (s .entry)) es ls i) × ListedFits (length (now (s .entry))) i count r ⌝ }
+        listedOf r ≡ listedElement (settings long) (now (s .entry)) es ls i) × ListedFits (length (now (s .entry))) i count (now (heads .entry)) r ⌝ }
 {
     let b = text::byte(s, i);
     if !text::is_letter(b) {
@@ -96,6 +96,11 @@ fn listed_at(
     ListedRead::Read(ElementNo(k), e)
 }
 
+// There is a head for each element.
+fn whole(heads: [u16; ELEMENTS])
+    ensures { λ _. ⌜ length heads ≡ 64 ⌝ }
+{}
+
 // An attribute definition list declaration whose keyword ends at `at`, after the elements recorded in `elements` and the lists in `heads`, and where it ends. Where it is
 // refused, what `heads` holds is not decided.
 pub fn list_at(
@@ -112,7 +117,7 @@ pub fn list_at(
 {
     let g = gaps::gap_end(s, at);
     let Reached::At(i) = g else {
-        return g;
+        return Reached::Refused(text::fault_of(g));
     };
     let l = listed_at(long, s, i, elements, count, heads);
     let ListedRead::Read(k, from) = l else {
@@ -121,8 +126,9 @@ pub fn list_at(
     let mut list = [0u16; LIST];
     let r = list_definitions::definitions_at(long, s, from, &mut list);
     let Reached::At(e) = r else {
-        return r;
+        return Reached::Refused(text::fault_of(r));
     };
+    whole(*heads);
     let h = k.0 - 1;
     heads[h] = from as u16;
     Reached::At(e)
@@ -143,21 +149,33 @@ pub fn has_any(heads: &[u16; ELEMENTS], n: usize) -> bool
     false
 }
 
-// Fills the table, which is all 0, with the lists of a type of n elements, each read again from its head on. A head that is no place behind a keyword is no type's.
+// Puts the list of the k-th element, from 0, whose head is `from`, into the table. A head that is no place behind a keyword is no type's.
+fn read_again(long: usize, s: &[u8], from: usize, k: usize, lists: &mut [u16])
+    requires { ⌜ (k < 64) × (length (now s) ≤ 32768) × (length (now lists) ≡ 12864) ⌝ }
+    ensures { λ _. ⌜ Again (settings long) (now (s .entry)) from k (now (lists .entry)) (now (lists .exit)) ⌝ }
+{
+    if from < 3 {
+        return;
+    }
+    if s.len() < from {
+        return;
+    }
+    let mut list = [0u16; LIST];
+    let r = list_definitions::definitions_at(long, s, from, &mut list);
+    let Reached::At(_) = r else {
+        return;
+    };
+    list_table::put_list(lists, k, &list);
+}
+
+// Fills the table, which is all 0, with the lists of a type of n elements, each read again from its head on.
 pub fn fill(long: usize, s: &[u8], heads: &[u16; ELEMENTS], n: usize, lists: &mut [u16])
     requires { ⌜ (n ≤ 64) × (length (now s) ≤ 32768) × (now lists ≡ replicate 12864 0) ⌝ }
     ensures { λ _. ⌜ ((ls : List AttList) → Headed (settings long) (now (s .entry)) (now (heads .entry)) ls → (k : ℕ) → k < n → ListAt (settings long) (now (s .entry)) (now (lists .exit)) (201 * k) (attributesOf ls (k + 1))) ⌝ }
 {
-    let mut list = [0u16; LIST];
     let mut k = 0;
     while k < n {
-        let from = numbers::short(heads[k]);
-        if 3 <= from && from <= s.len() {
-            let r = list_definitions::definitions_at(long, s, from, &mut list);
-            if let Reached::At(_) = r {
-                list_table::put_list(lists, k, &list);
-            }
-        }
+        read_again(long, s, numbers::short(heads[k]), k, lists);
         k += 1;
     }
 }

@@ -5,6 +5,7 @@ pub mod Decide
 pub mod Numbers
 pub mod Chain
 pub mod Moves
+pub mod Under
 pub mod Same
 pub mod Answers
 -- The documents of the paper's shelf.

@@ -13,12 +13,13 @@ use Rattle.rules.specs.Settings.{Settings}
 use Rattle.rules.specs.Bytes.{TAGLVL}
 use Rattle.rules.specs.Reading.{Reading, got}
 use Rattle.rules.specs.TypeFile.{Element}
-use Rattle.rules.specs.Document.{Tag, Piece, startTag, endTag, skipped, blank, dataByte, piece}
+use Rattle.rules.specs.Document.{Tag, Piece, startTag, endTag, skipped, blank, dataByte}
 use Rattle.rules.specs.Elements.{contentOf, hasModel, endO, numberOf}
 use Rattle.rules.specs.Decisions.{Token, start, pcdata, Decisions}
 use Rattle.rules.specs.Events.{Event, startWritten, startInferred, endWritten, endInferred, endOfEmpty, withData}
+use Rattle.rules.specs.Given.{withAttributes}
 use Rattle.rules.specs.Settling.{Open, State, nothingOpen, takePlace, shown, placeTaken, enter, note, limited, isOpen, Inward, settled, stuck, fitting, isComplete, requiredPlace, inferable, chain, inferStarts, takeToken, inward, settleFrom, isOver, settle, startElement, takeData, takeBlank, endLeftOut, closeFrom, endElement, endFrom, endDocument}
-use Rattle.rules.specs.Reader.{Reached, goOn, tagged, settlePiece, piecesWithin, document}
+use Rattle.rules.specs.Reader.{Reached, goOn, tagged, settlePiece, pieceUnder, piecesWithin, document}
 use Rattle.and_laws.specs.Begun.{lastOr0-snoc}
 use Rattle.rules_laws.specs.Holds.{stops, reads, Refuses}
 use Rattle.rules_laws.specs.Holds as holds
@@ -359,7 +360,7 @@ module _ {s : List ℕ} {es : List Element} {D E : Decisions} {Q : State → Sta
     settlePiece-both dataByte at {z} q = onward dataByte at (at + 1) z refl (so (takeData-both at q) (λ n k x. x) (λ x w r. (r .0, λ f. r .1)))
 
     -- The rest of the document, where R holds of what pieces and settling refuse.
-    module _ (c : Settings) (R : (number position : ℕ) → Type 0) (bound : R 4 (length d)) (by-piece : (at : ℕ) → at < length d → Refuses R (piece c d at)) (by-settling : (at n k : ℕ) → at ≤ length d → At at n k → R n k) where
+    module _ (c : Settings) (R : (number position : ℕ) → Type 0) (bound : R 4 (length d)) (by-piece : (at : ℕ) → at < length d → Refuses R (pieceUnder c s es d at)) (by-settling : (at n k : ℕ) → at ≤ length d → At at n k → R n k) where
       pub piecesWithin-both : (turns at : ℕ) {z y : State} → Q z y → Both R (λ (x w : List Event). x ≡ w) (piecesWithin c s es D d turns at z) (piecesWithin c s es E d turns at y)
       unfolding piecesWithin
       piecesWithin-both zero at q = stop bound
@@ -376,7 +377,7 @@ module _ {s : List ℕ} {es : List Element} {D E : Decisions} {Q : State → Sta
       -- Two readings of the whole document.
       pub document-both : Q nothingOpen nothingOpen → Both R (λ (x w : List Event). x ≡ w) (document c s es D d) (document c s es E d)
       unfolding document
-      document-both q = piecesWithin-both (suc (length d)) 0 q
+      document-both q = on (piecesWithin-both (suc (length d)) 0 q) (λ x w e. read (ap (withAttributes c s es d) e))
 
 -- One state
 

@@ -1,6 +1,7 @@
 -- The places of every model that is read are numbered from 1, left to right; and where no "&" is refused, none stands under "+".
 use Prim.Native.Nat.{ℕ, suc, _+_}
-use mathlib.Core.Path.{_≡_, refl, subst}
+use mathlib.Core.Path.{_≡_, refl, _∙_, ap, subst}
+use mathlib.Core.Bool.{true, false}
 use mathlib.Core.List.{List, [], _∷_, _++_}
 use native.Mathlib.Omega.{arith}
 use lib.ListN.{length, length-append}
@@ -12,7 +13,7 @@ use Rattle.rules.specs.Walk.{Group}
 use Rattle.rules.specs.TypeFile.{Place, Content, empty, model, Element, typeFile}
 use Rattle.rules_laws.specs.Holds.{got-so}
 use Rattle.rules_laws.specs.Groups.{Builds, Built, GuardedIn, whatever-builds, content-read}
-use Rattle.rules_laws.specs.Declarations.{Declares, typeFile-holds}
+use Rattle.rules_laws.specs.Declarations.{Declares, bares, typeFile-holds}
 use Rattle.model_sets.specs.Sets.{size, Numbered}
 use Rattle.rules.specs.Judge.{firstRepeated}
 use Rattle.model_sets.specs.Bits.{bool-cases, not-both}
@@ -52,12 +53,18 @@ numbered-more : (es : List Element) (e : Element) → AllNumbered es → Numbere
 numbered-more [] e a n = (n, tt)
 numbered-more (x ∷ es) e a n = (a .0, numbered-more es e (a .1) n)
 
+-- Attributes have no part in it.
+numbered-whole : (es : List Element) → AllNumbered (bares es) → AllNumbered es
+unfolding bares
+numbered-whole [] a = tt
+numbered-whole (e ∷ es) a = (a .0, numbered-whole es (a .1))
+
 module _ (c : Settings) (s : List ℕ) where
   declared-more : (es : List Element) (e : Element) → AllNumbered es → Declares c s es e → AllNumbered (es ++ e ∷ [])
   declared-more es e a d = numbered-more es e a (content-numbered (e .content) (got-so (content-read c s counted-builds (d .before) (d .begun)) (d .contentRead) .built))
 
   pub typeFile-numbered : (es : List Element) → typeFile c s ≡ got es → AllNumbered es
-  typeFile-numbered es e = got-so (typeFile-holds c s AllNumbered declared-more tt) e .1
+  typeFile-numbered es e = numbered-whole es (got-so (typeFile-holds c s AllNumbered declared-more tt) e .1)
 
 -- No "&" is refused among these and one more exactly if none is in either.
 repeated-more : (es : List Element) (e : Element) → firstRepeated (es ++ e ∷ []) ≡ 0 → (firstRepeated es ≡ 0) × (e .repeated ≡ 0)
@@ -73,6 +80,16 @@ guarded-more : (es : List Element) (e : Element) → AllGuarded es → GuardedIn
 guarded-more [] e a g = (g, tt)
 guarded-more (x ∷ es) e a g = (a .0, guarded-more es e (a .1) g)
 
+guarded-whole : (es : List Element) → AllGuarded (bares es) → AllGuarded es
+unfolding bares
+guarded-whole [] a = tt
+guarded-whole (e ∷ es) a = (a .0, guarded-whole es (a .1))
+
+pub repeated-whole : (es : List Element) → firstRepeated (bares es) ≡ firstRepeated es
+unfolding bares firstRepeated
+repeated-whole [] = refl
+repeated-whole (e ∷ es) = ap (λ (n : ℕ). elim (eqb (e .repeated) 0) [ true ↦ n | false ↦ e .repeated ]) (repeated-whole es)
+
 abbrev Unrefused : List Element → Type 0
 Unrefused es = firstRepeated es ≡ 0 → AllGuarded es
 
@@ -83,4 +100,4 @@ module _ (c : Settings) (s : List ℕ) where
       guarded-more es e (a y) (got-so (content-read c s whatever-builds (d .before) (d .begun)) (d .contentRead) .guarded z)
 
   pub typeFile-guarded : (es : List Element) → typeFile c s ≡ got es → firstRepeated es ≡ 0 → AllGuarded es
-  typeFile-guarded es e = got-so (typeFile-holds c s Unrefused unrefused-more (λ x. tt)) e .1
+  typeFile-guarded es e x = guarded-whole es (got-so (typeFile-holds c s Unrefused unrefused-more (λ x. tt)) e .1 (repeated-whole es ∙ x))

@@ -6,11 +6,10 @@ use mathlib.Core.List.{List, [], _∷_, _++_}
 use Rattle.rules.specs.Settings.{Settings}
 use Rattle.rules.specs.Walk.{Group, Begins}
 use Rattle.rules.specs.TypeFile.{Place, Content, empty, model, Element}
-use Rattle.rules.specs.Document.{piece}
 use Rattle.rules.specs.Elements.{contentOf, hasModel}
 use Rattle.rules.specs.Decisions.{Decisions, Means}
 use Rattle.rules.specs.Settling.{Open, State, nothingOpen, takePlace, enter}
-use Rattle.rules.specs.Reader.{settlePiece, document}
+use Rattle.rules.specs.Reader.{settlePiece, pieceUnder, document}
 use Rattle.rules_laws.specs.Holds.{Any, got-so, each}
 use Rattle.rules_laws.specs.Both.{so, first, same}
 use Rattle.rules_laws.specs.In.{All, none, more}
@@ -83,7 +82,7 @@ module _ (s : List ℕ) (es : List Element) (D E : Decisions) (x : Means s es D)
   -- Two decisions that mean the walks read every document alike.
   pub document-one : (c : Settings) (d : List ℕ) → document c s es D d ≡ document c s es E d
   document-one c d =
-      same (document-both begun-moves begun-datum d c Any tt (λ at l. each (piece c d at) (λ n k e. tt) (λ p e. tt)) (λ at n k l h. tt) (refl, nothing-begun es))
+      same (document-both begun-moves begun-datum d c Any tt (λ at l. each (pieceUnder c s es d at) (λ n k e. tt) (λ p e. tt)) (λ at n k l h. tt) (refl, nothing-begun es))
 
 -- The states that reading comes to
 

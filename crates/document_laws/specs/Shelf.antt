@@ -8,13 +8,15 @@ use Rattle.rules.specs.Bytes.{allowed, separator, letter, fold, nameByte, span,
 use Rattle.rules.specs.Reading.{Reading, refused, got}
 use Rattle.rules.specs.TypeFile.{beforeDashes, gapWithin, gap, occurrence, nameToken, dataToken, token, further, members, group}
 use Rattle.rules.specs.TypeFile.{isDeclared, elementName, omission, words, head, contentWord, contentModel, content, close, rest, element}
-use Rattle.rules.specs.TypeFile.{commentDeclaration, keyword, markup, declaration, declarationsWithin, typeFile}
+use Rattle.rules.specs.Attributes.{needsTag}
+use Rattle.rules.specs.TypeFile.{commentDeclaration, keyword, markup, declaration, declarationsWithin, attributesOf, listed, typeFile}
 use Rattle.rules.specs.Judge.{placeAt, firstRepeated}
-use Rattle.rules.specs.Document.{tag, declarationPiece, markupPiece, bytePiece, piece}
+use Rattle.rules.specs.Document.{tag, specifications, startTagAt, declarationPiece, markupPiece, bytePiece, piece}
 use Rattle.rules.specs.Elements.{elementAt, numberFrom, numberOf}
 use Rattle.rules.specs.Events.{Event, startWritten, startInferred, endInferred, dataRun, withData}
+use Rattle.rules.specs.Given.{allListed, allFit, noneMissing, attributed, pieceAttributed, attributeEvents, attributesBefore, withAttributes}
 use Rattle.rules.specs.Settling.{limited, isOpen, inferable, chain, inferStarts, inward, settleFrom, settle, startElement, takeData, takeBlank, endLeftOut, closeFrom, endElement, endFrom, endDocument}
-use Rattle.rules.specs.Reader.{tagged, settlePiece, piecesWithin, document}
+use Rattle.rules.specs.Reader.{tagged, settlePiece, pieceUnder, piecesWithin, document}
 use Rattle.rules_laws.specs.In.{All}
 use Rattle.document_laws.specs.Ascii.{ascii}
 use Rattle.document_laws.specs.Decide.{search, fitsIn, isCompleteIn, requiredFor}
@@ -81,5 +83,5 @@ shelf =
     []
 
 pub shelf-right : All (Right eight (λ (x : Example). x .type) (ReadSo eight)) shelf
-unfolding isOffered ascii restOfT T T- under whole shelf allPass passes readsAs isLegible allFair isFair isNumbered areNumbered firstRepeated sameReading sameEvents sameEvent search fitsIn isCompleteIn requiredFor tagged settlePiece piecesWithin document elementAt numberFrom numberOf withData limited isOpen inferable chain inferStarts inward settleFrom settle startElement takeData takeBlank endLeftOut closeFrom endElement endFrom endDocument tag declarationPiece markupPiece bytePiece piece placeAt allowed separator letter fold nameByte span nameEnd separatorsEnd sameText beforeDashes gapWithin gap occurrence nameToken dataToken token further members group isDeclared elementName omission words head contentWord contentModel content close rest element commentDeclaration keyword markup declaration declarationsWithin typeFile
+unfolding isOffered ascii restOfT T T- under whole shelf allPass passes readsAs isLegible allFair isFair isNumbered areNumbered firstRepeated sameReading sameEvents sameEvent search fitsIn isCompleteIn requiredFor tagged settlePiece allListed allFit noneMissing attributed pieceAttributed attributeEvents attributesBefore withAttributes pieceUnder piecesWithin document elementAt numberFrom numberOf withData limited isOpen inferable chain inferStarts inward settleFrom settle startElement takeData takeBlank endLeftOut closeFrom endElement endFrom endDocument tag specifications startTagAt declarationPiece markupPiece bytePiece piece placeAt allowed separator letter fold nameByte span nameEnd separatorsEnd sameText beforeDashes gapWithin gap occurrence nameToken dataToken token further members group isDeclared elementName omission words head contentWord contentModel content close rest element commentDeclaration keyword markup declaration declarationsWithin needsTag attributesOf listed typeFile
 shelf-right = all-right eight (λ (x : Example). x .type) (readsAs eight) (reads-so eight) shelf refl

@@ -21,7 +21,7 @@ pub record Example : Type 0 where
 -- The rules read it so.
 abbrev pub EndsSo : Settings → Example → Type 0
 EndsSo c x =
-    (markup c (x .text) 0 [] ≡ andThen (x .inType) (λ j. got (record { elements = []; at = j }))) × (piece c (x .text) 0 ≡ andThen (x .inDocument) (λ e. got (skipped e)))
+    (markup c (x .text) 0 [] [] ≡ andThen (x .inType) (λ j. got (record { elements = []; lists = []; at = j }))) × (piece c (x .text) 0 ≡ andThen (x .inDocument) (λ e. got (skipped e)))
 
 pub both : String → Reading ℕ → Example
 both t r = record { text = ascii t; inType = r; inDocument = r }

@@ -9,8 +9,8 @@ use Rattle.rules.specs.Bytes.{separator, letter, fold, nameByte, span, nameEnd,
 use Rattle.rules.specs.Reading.{Reading, refused, got, andThen}
 use Rattle.rules.specs.TypeFile.{beforeDashes, gapWithin, gap, occurrence, nameToken, dataToken, token, further, members, group}
 use Rattle.rules.specs.TypeFile.{isDeclared, elementName, omission, words, head, contentWord, contentModel, content, close, rest, element}
-use Rattle.rules.specs.TypeFile.{commentDeclaration, keyword, markup, declaration, declarationsWithin, typeFile}
-use Rattle.rules.specs.Document.{Piece, startTag, endTag, tag, markupPiece, piece}
+use Rattle.rules.specs.TypeFile.{commentDeclaration, keyword, markup, declaration, declarationsWithin, attributesOf, listed, typeFile}
+use Rattle.rules.specs.Document.{Piece, startTag, endTag, tag, specifications, startTagAt, markupPiece, piece}
 use Rattle.rules_laws.specs.In.{All, none, more}
 use Rattle.document_laws.specs.Ascii.{ascii}
 
@@ -43,7 +43,7 @@ types =
     []
 
 pub types-right : All DeclaresSo types
-unfolding ascii under types separator letter fold nameByte span nameEnd separatorsEnd sameText beforeDashes gapWithin gap occurrence nameToken dataToken token further members group isDeclared elementName omission words head contentWord contentModel content close rest element commentDeclaration keyword markup declaration declarationsWithin typeFile
+unfolding ascii under types separator letter fold nameByte span nameEnd separatorsEnd sameText beforeDashes gapWithin gap occurrence nameToken dataToken token further members group isDeclared elementName omission words head contentWord contentModel content close rest element commentDeclaration keyword markup declaration declarationsWithin attributesOf listed typeFile
 types-right = more refl (more refl (more refl (more refl (more refl (more refl (more refl (more refl (more refl none))))))))
 
 -- A tag at the beginning of a document, under a length.
@@ -58,11 +58,11 @@ TagSo x = piece (settings (x .long)) (x .text) 0 ≡ x .gives
 pub tags : List TagExample
 tags =
     record { long = 8; text = ascii "<CATALOGUE>"; gives = refused 3 1 } ∷
-    record { long = 9; text = ascii "<CATALOGUE>"; gives = got (startTag (record { name = 1; size = 9; after = 11 })) } ∷
+    record { long = 9; text = ascii "<CATALOGUE>"; gives = got (startTag (record { name = 1; size = 9; after = 11; written = [] })) } ∷
     record { long = 8; text = ascii "</CATALOGUE>"; gives = refused 3 2 } ∷
-    record { long = 9; text = ascii "</CATALOGUE >"; gives = got (endTag (record { name = 2; size = 9; after = 13 })) } ∷
+    record { long = 9; text = ascii "</CATALOGUE >"; gives = got (endTag (record { name = 2; size = 9; after = 13; written = [] })) } ∷
     []
 
 pub tags-right : All TagSo tags
-unfolding ascii tags separator letter nameByte span nameEnd separatorsEnd tag markupPiece piece
+unfolding ascii tags separator letter nameByte span nameEnd separatorsEnd tag specifications startTagAt markupPiece piece
 tags-right = more refl (more refl (more refl (more refl none)))

@@ -12,14 +12,15 @@ use Rattle.rules.specs.TypeFile.{Element}
 use Rattle.rules.specs.Document.{Piece, startTag, endTag, skipped, blank, dataByte, piece}
 use Rattle.rules.specs.Decisions.{Decisions}
 use Rattle.rules.specs.Settling.{State, nothingOpen, endDocument}
-use Rattle.rules.specs.Reader.{Reached, settlePiece, piecesWithin, document}
+use Rattle.rules.specs.Reader.{Reached, settlePiece, pieceUnder, piecesWithin, document}
 use Rattle.rules_laws.specs.Holds.{Holds, got-so, each, so, on-same}
 use Rattle.rules_laws.specs.Both.{first}
 use Rattle.rules_laws.specs.Pieces.{PieceRead, piece-read}
 use Rattle.model_sets.specs.Bits.{bool-cases}
 use Rattle.document_laws.specs.Moves.{At, pieceEnd, any-moves, any-datum, settlePiece-both}
+use Rattle.document_laws.specs.Under.{under-piece}
 use Rattle.document_laws.specs.Same.{Passes, begins, goes}
-use Rattle.turn_laws.specs.Means.{pieces}
+use Rattle.turn_laws.specs.Means.{pieces, attributing}
 
 -- A piece that is read moves on and stays within the document.
 pub piece-moves : (c : Settings) (d : List ℕ) (at : ℕ) → at < length d → (p : Piece) → piece c d at ≡ got p → (at < pieceEnd p at) × (pieceEnd p at ≤ length d)
@@ -36,8 +37,8 @@ module _ (c : Settings) (s : List ℕ) (es : List Element) (D : Decisions) (d : 
   abbrev Onward : ℕ → Reached → Type 0
   Onward at y = (at < y .at) × (y .at ≤ length d)
 
-  moves-on : (p : Piece) (at : ℕ) (z : State) → at < length d → piece c d at ≡ got p → Holds (At at) (Onward at) (settlePiece s es D d p at z)
-  moves-on p at z h e = first (settlePiece-both (any-moves s es D) any-datum d p at (refl, tt)) (λ x w r. rw (r .first) (piece-moves c d at h p e))
+  moves-on : (p : Piece) (at : ℕ) (z : State) → at < length d → pieceUnder c s es d at ≡ got p → Holds (At at) (Onward at) (settlePiece s es D d p at z)
+  moves-on p at z h e = first (settlePiece-both (any-moves s es D) any-datum d p at (refl, tt)) (λ x w r. rw (r .first) (piece-moves c d at h p (under-piece c s es d at e .0)))
 
   -- More turns than bytes are left are enough.
   pub enough : (n m at : ℕ) (z : State) → length d - at < n → length d - at < m → piecesWithin c s es D d n at z ≡ piecesWithin c s es D d m at z
@@ -46,7 +47,7 @@ module _ (c : Settings) (s : List ℕ) (es : List Element) (D : Decisions) (d : 
   enough (suc n) zero at z i j = absurd (omega arith)
   enough (suc n) (suc m) at z i j =
       bool-cases (leb (length d) at) (λ e. rw (piecesWithin, e))
-      (λ e. rw (piecesWithin, e) (on-same (each (piece c d at) (λ n k h. tt) (λ p q. q))
+      (λ e. rw (piecesWithin, e) (on-same (each (pieceUnder c s es d at) (λ n k h. tt) (λ p q. q))
       (λ p q. on-same (so (moves-on p at z (leb-false (length d) at e) q) (λ n k h. tt) (λ y h. h))
       (λ y h. enough n m (y .at) (y .state) (omega (arith, h, leb-false (length d) at e)) (omega (arith, h, leb-false (length d) at e))))))
 
@@ -57,14 +58,14 @@ module _ (c : Settings) (s : List ℕ) (es : List Element) (D : Decisions) (d : 
   pieces-end at z h = rw (piecesWithin, le-leb (length d) at h)
 
   module _ (at : ℕ) (z : State) (h : at < length d) where
-    turn : pieces c s es D d at z ≡ andThen (piece c d at) (λ p. andThen (settlePiece s es D d p at z) λ y. piecesWithin c s es D d (length d - at) (y .at) (y .state))
+    turn : pieces c s es D d at z ≡ andThen (pieceUnder c s es d at) (λ p. andThen (settlePiece s es D d p at z) λ y. piecesWithin c s es D d (length d - at) (y .at) (y .state))
     unfolding piecesWithin
     turn = rw (piecesWithin, lt-leb (length d) at h)
 
-    pub pieces-refused : (n k : ℕ) → piece c d at ≡ refused n k → pieces c s es D d at z ≡ refused n k
+    pub pieces-refused : (n k : ℕ) → pieceUnder c s es d at ≡ refused n k → pieces c s es D d at z ≡ refused n k
     pieces-refused n k e = rw (turn, e)
 
-    module _ (p : Piece) (q : piece c d at ≡ got p) where
+    module _ (p : Piece) (q : pieceUnder c s es d at ≡ got p) where
       pub pieces-stop : (n k : ℕ) → settlePiece s es D d p at z ≡ refused n k → pieces c s es D d at z ≡ refused n k
       pieces-stop n k e = rw (turn, q, e)
 
@@ -75,10 +76,10 @@ module _ (c : Settings) (s : List ℕ) (es : List Element) (D : Decisions) (d : 
           range = got-so (moves-on p at z h q) e
 
   -- What is left where reading comes to reads as the document does.
-  pub passes-rest : {at : ℕ} {z : State} → Passes c s es D d at z → pieces c s es D d at z ≡ document c s es D d
+  pub passes-rest : {at : ℕ} {z : State} → Passes c s es D d at z → attributing c s es d (pieces c s es D d at z) ≡ document c s es D d
   unfolding document
-  passes-rest begins = ap (λ n. piecesWithin c s es D d (suc n) 0 nothingOpen) whole
+  passes-rest begins = ap (λ n. attributing c s es d (piecesWithin c s es D d (suc n) 0 nothingOpen)) whole
     where
       whole : length d - 0 ≡ length d
       whole = omega arith
-  passes-rest (goes {at} {z} {p} r x h e i) = sym (pieces-on at z h p e r i) ∙ passes-rest x
+  passes-rest (goes {at} {z} {p} r x h e i) = ap (attributing c s es d) (sym (pieces-on at z h p e r i)) ∙ passes-rest x

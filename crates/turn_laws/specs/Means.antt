@@ -11,6 +11,7 @@ use Rattle.rules.specs.Walk.{lastOr0}
 use Rattle.rules.specs.TypeFile.{Element}
 use Rattle.rules.specs.Decisions.{pcdata, Decisions}
 use Rattle.rules.specs.Events.{Event, dataRun}
+use Rattle.rules.specs.Given.{withAttributes}
 use Rattle.rules.specs.Settling.{Open, State, limited, settle}
 use Rattle.rules.specs.Reader.{piecesWithin}
 use Rattle.and_laws.specs.Base.{mem}
@@ -26,6 +27,10 @@ takeRun s es D at size z =
 -- The rest of the document d from `at` on.
 abbrev pub pieces : Settings → List ℕ → List Element → Decisions → (d : List ℕ) (at : ℕ) → State → Reading (List Event)
 pieces c s es D d at z = piecesWithin c s es D d (suc (length d - at)) at z
+
+-- What is read of the document d where its pieces give r: attribute events come before each start.
+abbrev pub attributing : Settings → List ℕ → List Element → (d : List ℕ) → Reading (List Event) → Reading (List Event)
+attributing c s es d r = andThen r λ ev. got (withAttributes c s es d ev)
 
 -- The last event is a run of data that ends at `at`.
 abbrev pub joins : ℕ → List Event → Bool

@@ -19,7 +19,7 @@ use Rattle.rules.specs.Elements.{contentOf, placesIn}
 use Rattle.rules.specs.Decisions.{Token, pcdata, hasName, Decisions}
 use Rattle.rules.specs.Events.{dataRun, withData}
 use Rattle.rules.specs.Settling.{Open, State, fitting, takeToken, settle, takeData}
-use Rattle.rules.specs.Reader.{goOn, settlePiece}
+use Rattle.rules.specs.Reader.{goOn, settlePiece, pieceUnder}
 use Rattle.rules_laws.specs.Holds.{got-so}
 use Rattle.rules_laws.specs.Runs.{isRun, runs, runEnd, runs-each, runEnd-in, anyPiece, run-any}
 use Rattle.and_laws.specs.Base.{mem, mem-right, mem-head}
@@ -28,6 +28,7 @@ use Rattle.and_laws.specs.Begun.{lastOr0-snoc}
 use Rattle.document_laws.specs.Decide.{search, fitsIn, decided}
 use Rattle.document_laws.specs.Laws.{accepted-decided}
 use Rattle.document_laws.specs.Moves.{state}
+use Rattle.document_laws.specs.Under.{under-blank, under-data}
 use Rattle.document_laws.specs.Same.{Begun, Passes, goes, passes-begun}
 use Rattle.type_laws.specs.Pcdata.{pcdata-stays}
 use Rattle.turn_laws.specs.Means.{takeRun, pieces, joins, took, Again}
@@ -82,8 +83,8 @@ run-cases (got dataByte) e f g = g refl
 module _ (c : Settings) (s : List ℕ) (es : List Element) (D : Decisions) where
   -- A piece of a run where data may come next is a data byte.
   module _ (d : List ℕ) (at : ℕ) (z : State) (run : isRun (piece c d at) ≡ true) (fits : piece c d at ≡ got blank → 1 ≤ fitting s es D (z .current) pcdata) where
-    pub run-settles : (p : Piece) × (piece c d at ≡ got p) × (settlePiece s es D d p at z ≡ goOn (at + 1) (takeData s es D at z))
-    run-settles = run-cases (piece c d at) run (λ e. (blank, e, blank-settles s es D d at z (fits e))) (λ e. (dataByte, e, data-settles s es D d at z))
+    pub run-settles : (p : Piece) × (pieceUnder c s es d at ≡ got p) × (settlePiece s es D d p at z ≡ goOn (at + 1) (takeData s es D at z))
+    run-settles = run-cases (piece c d at) run (λ e. (blank, under-blank c s es d at e, blank-settles s es D d at z (fits e))) (λ e. (dataByte, under-data c s es d at e, data-settles s es D d at z))
 
     pub data-stop : (n k : ℕ) → at < length d → takeData s es D at z ≡ refused n k → pieces c s es D d at z ≡ refused n k
     data-stop n k h e = let (p, q, i) = run-settles in pieces-stop c s es D d at z h p q n k (i ∙ ap (goOn (at + 1)) e)

@@ -1,4 +1,4 @@
--- A declaration read again, from its name on: no gap stands before a name, so the same element is read.
+-- A declaration read again, from its name on: no gap stands before a name, so the same element is read, but for its attributes, which come with a list.
 use Prim.Native.Nat.{ℕ, _+_, _≤_, _<_}
 use mathlib.Core.Path.{_≡_, refl, sym, _∙_}
 use mathlib.Core.Bool.{true, false, _&&_}
@@ -14,6 +14,7 @@ use Rattle.rules.specs.TypeFile.{atDashes, gap, Element, head, Declared, elemen
 use Rattle.rules.specs.Elements.{elementAt}
 use Rattle.model_sets.specs.Bits.{or-cases, and-left}
 use Rattle.text.specs.Laws.{span-end, gapOn-end, gap-start}
+use Rattle.rules_laws.specs.Declarations.{bare, bares}
 use Rattle.type_laws.specs.Made.{typeFile-made}
 use Rattle.type_laws.specs.Names.{typeFile-element}
 
@@ -42,10 +43,10 @@ unfolding element head
 element-again c s es from i g l = rw (gap-none s i l, g)
 
 module _ (c : Settings) (s : List ℕ) (es : List Element) (read : typeFile c s ≡ got es) (k : ℕ) (few : k < length es) where
-  pub typeFile-again : (d : Declared) × (element c s (elementAt es k .at) (take k es) ≡ got d) × (d .elements ≡ take k es ++ elementAt es k ∷ [])
+  pub typeFile-again : (d : Declared) × (element c s (elementAt es k .at) (take k (bares es)) ≡ got d) × (d .elements ≡ take k (bares es) ++ bare (elementAt es k) ∷ [])
   typeFile-again =
       let m = typeFile-made c s es read k few in
-      (_, element-again c s (take k es) (m .from) (elementAt es k .at) (m .begins) (m .named) ∙ m .read, refl)
+      (_, element-again c s (take k (bares es)) (m .from) (elementAt es k .at) (m .begins) (m .named) ∙ m .read, refl)
 
   -- What its record may hold.
   pub typeFile-sizes : (1 ≤ elementAt es k .size) × (elementAt es k .size ≤ c .nameLength) × (elementAt es k .at + elementAt es k .size ≤ length s) × (elementAt es k .start ≤ 1) × (elementAt es k .end ≤ 1)

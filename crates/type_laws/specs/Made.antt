@@ -1,6 +1,6 @@
--- Each element of a type file was read by the rule for an element declaration, behind those before it.
+-- Each element of a type file was read by the rule for an element declaration, behind those before it, but for its attributes.
 use Prim.Native.Nat.{ℕ, zero, suc, _<_}
-use mathlib.Core.Path.{_≡_, refl}
+use mathlib.Core.Path.{_≡_, refl, subst}
 use mathlib.Core.List.{List, [], _∷_, _++_}
 use native.Mathlib.Decide.{decLt}
 use native.Mathlib.Nat.{not-suc-le-zero, le-of-suc-le-suc}
@@ -12,7 +12,7 @@ use Rattle.rules.specs.Reading.{got}
 use Rattle.rules.specs.TypeFile.{Element, Content, empty, typeFile}
 use Rattle.rules.specs.Elements.{elementAt}
 use Rattle.rules_laws.specs.Holds.{got-so}
-use Rattle.rules_laws.specs.Declarations.{Declares, typeFile-holds}
+use Rattle.rules_laws.specs.Declarations.{Declares, bare, bares, bares-length, typeFile-holds}
 
 -- Elements of a list to which others are added, and of its beginning.
 
@@ -33,6 +33,13 @@ elementAt-take es zero k h = absurd (not-suc-le-zero h)
 elementAt-take [] (suc n) k h = refl
 elementAt-take (e ∷ es) (suc n) zero h = refl
 elementAt-take (e ∷ es) (suc n) (suc k) h = elementAt-take es n k (le-of-suc-le-suc h)
+
+-- The attributes of an element come with its list, further on: without them it is as it was declared.
+pub bares-at : (es : List Element) (k : ℕ) → elementAt (bares es) k ≡ bare (elementAt es k)
+unfolding elementAt bares
+bares-at [] k = refl
+bares-at (e ∷ es) zero = refl
+bares-at (e ∷ es) (suc k) = bares-at es k
 
 -- What holds of EMPTY and of the content of each element holds whatever the number: past the last element it is EMPTY.
 pub each-content : (P : Content → Type 0) → P empty → (es : List Element) → ((k : ℕ) → k < length es → P (elementAt es k .content)) → (k : ℕ) → P (elementAt es k .content)
@@ -58,5 +65,5 @@ module _ (c : Settings) (s : List ℕ) where
           let z : k ≡ length es = omega (arith, length-append es (e ∷ [])) in
           rw (z, take-append-seam es (e ∷ []), elementAt-next es e []) d
 
-  pub typeFile-made : (es : List Element) → typeFile c s ≡ got es → Made es
-  typeFile-made es e = got-so (typeFile-holds c s Made made-more made-none) e .1
+  pub typeFile-made : (es : List Element) → typeFile c s ≡ got es → (k : ℕ) → k < length es → Declares c s (take k (bares es)) (bare (elementAt es k))
+  typeFile-made es e k h = subst (Declares c s (take k (bares es))) (bares-at es k) (got-so (typeFile-holds c s Made made-more made-none) e .1 k (omega (arith, bares-length es)))

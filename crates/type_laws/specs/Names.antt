@@ -1,6 +1,6 @@
 -- The number of an element by its name: in range, of an element that has the name, and of no other, since declared names differ.
 use Prim.Native.Nat.{ℕ, zero, suc, _+_, _-_, _≤_, _<_}
-use mathlib.Core.Path.{_≡_, refl, sym, _∙_}
+use mathlib.Core.Path.{_≡_, refl, sym, _∙_, subst}
 use mathlib.Core.Bool.{true, false, true≢false}
 use mathlib.Core.Logic.{_↔_}
 use mathlib.Core.List.{List, [], _∷_}
@@ -22,7 +22,8 @@ use Rattle.text.specs.Laws.{sameText-sym}
 use Rattle.document_laws.specs.Decide.{sameText-trans}
 use Rattle.document_laws.specs.Chain.{numberFrom-range}
 use Rattle.rules_laws.specs.Within.{All, more, ElementIn, typeFile-elements}
-use Rattle.type_laws.specs.Made.{elementAt-take, typeFile-made}
+use Rattle.rules_laws.specs.Declarations.{bares, bares-length}
+use Rattle.type_laws.specs.Made.{elementAt-take, bares-at, typeFile-made}
 
 -- The search by name
 
@@ -112,7 +113,9 @@ module _ (c : Settings) (s : List ℕ) (es : List Element) (read : typeFile c s 
   -- An element has not the name of one before it.
   differs : (j k : ℕ) → j < k → k < length es → isNamed s (elementAt es j) s (elementAt es k .at) (elementAt es k .size) ≡ false
   differs j k l h =
-      rw (← elementAt-take es k j l) (fresh-differs s (take k es) (elementAt es k .at) (elementAt es k .size) (typeFile-made c s es read k h .fresh) j (omega (arith, length-take-le k es (omega arith))))
+      let whole = bares-length es in
+      subst (λ (e : Element). isNamed s e s (elementAt es k .at) (elementAt es k .size) ≡ false) (elementAt-take (bares es) k j l ∙ bares-at es j)
+      (fresh-differs s (take k (bares es)) (elementAt es k .at) (elementAt es k .size) (typeFile-made c s es read k h .fresh) j (omega (arith, length-take-le k (bares es) (omega arith))))
 
   pub typeFile-distinct : (k : ℕ) → k < length es → (t : List ℕ) (at size : ℕ) → isNamed s (elementAt es k) t at size ≡ true → numberOf s es t at size ≡ k + 1
   unfolding numberOf

@@ -85,7 +85,7 @@ returns-6 c =
       λ es ls n r h.
           listed-got (settings (a .long)) (a .s .now) es ls (a .i) (tested letter (c .before .before .before .before .before .before .before .before .byte .ensures) (c .before .before .before .before .before .before .before .is-letter .ensures) (not-false _ (c .before .before .before .before .before .before .if1 .left))) _ (c .before .before .before .before .before .name-end .ensures) (c .before .before .before .before .if3 .left) (c .before .before .before .element-of .ensures .0 es n r) (c .before .before .if4 .left)
           (listed-head (settings (a .long)) (a .s .now) (a .heads .now) ls _ h (omega (arith, c .before .before .if4 .left)) (omega (arith, c .before .before .before .element-of .ensures .1, c .before .before .before .before .before .before .before .before .before .before .pre))) (ap not (eq-eqb _ _ (c .if5 .left))),
-      omega (arith, c .before .before .before .before .before .before .before .before .before .before .pre, c .before .before .if4 .left, c .before .before .before .element-of .ensures .1, nameEnd-from (a .s .now) (a .i), nameEnd-le (a .s .now) (a .i) (c .before .before .before .before .before .before .before .before .before .before .pre .0), c .before .before .before .before .before .name-end .ensures),
+      omega (arith, c .if5 .left, c .before .before .before .before .before .before .before .before .before .before .pre, c .before .before .if4 .left, c .before .before .before .element-of .ensures .1, nameEnd-from (a .s .now) (a .i), nameEnd-le (a .s .now) (a .i) (c .before .before .before .before .before .before .before .before .before .before .pre .0), c .before .before .before .before .before .name-end .ensures),
     )
 
 pub listed-at-spec : {M : Type 1} → statement M

@@ -19,27 +19,27 @@ byte-requires-2 c κs = tt
 
 markup-at-requires : tie.Need-markup-at-requires
 markup-at-requires c κs =
-    let a = c .before .before .before .before .before .before .before .before .args in
-    let h = byte-is-in (a .s .now) (a .i + 1) 33 (sym (c .before .before .before .before .byte2 .ensures) ∙ c .before .before .before .if2 .taken) (omega arith) in
-    ((omega arith, c .before .before .before .before .before .before .before .before .pre .0 .1), c .before .before .before .before .before .before .before .before .pre .1)
+    let a = c .before .before .before .before .before .before .before .before .before .args in
+    let in-text = byte-is-in (a .s .now) (a .i + 1) 33 (sym (c .before .before .before .before .before .byte2 .ensures) ∙ c .before .before .before .before .if2 .taken) (omega arith) in
+    ((omega arith, c .before .before .before .before .before .before .before .before .before .pre .0 .1), c .before .before .before .before .before .before .before .before .before .pre .1)
 
 returns : tie.Need-returns
-returns c es k =
-    let a = c .before .before .before .before .before .before .before .before .before .args in
-    let b = c .before .before .before .before .before .before .before .byte .ensures in
-    let d = c .before .before .before .before .before .byte2 .ensures in
-    rw (declaration-markup (settings (a .long)) (a .s .now) (a .i) _ es b _ d (c .before .before .before .before .before .before .if1 .taken) (c .before .before .before .before .if2 .taken)) (c .markup-at .ensures es k)
+returns c es ls k h =
+    let a = c .before .before .before .before .before .before .before .before .before .before .args in
+    let b = c .before .before .before .before .before .before .before .before .byte .ensures in
+    let d = c .before .before .before .before .before .before .byte2 .ensures in
+    rw (declaration-markup (settings (a .long)) (a .s .now) (a .i) _ es ls b _ d (c .before .before .before .before .before .before .before .if1 .taken) (c .before .before .before .before .before .if2 .taken)) (c .markup-at .ensures es ls k h)
 
 refusal-requires : tie.Need-refusal-requires
 refusal-requires c κs = tt
 
 returns-2 : tie.Need-returns-2
-returns-2 c es k =
+returns-2 c es ls k h =
     let a = c .before .before .before .before .before .before .before .args in
     let b = c .before .before .before .before .before .byte .ensures in
     let d = c .before .before .before .byte2 .ensures in
-    step-refused (a .s .now) (a .elements .now) (a .i) 5 (a .i) _ _
-    (declaration-instruction (settings (a .long)) (a .s .now) (a .i) _ es b _ d (c .before .before .before .before .if1 .taken) (c .before .if3 .taken)) (c .refusal .ensures)
+    step-refused (settings (a .long)) (a .s .now) (a .elements .now) (a .heads .now) (a .i) 5 (a .i) _ _
+    (declaration-instruction (settings (a .long)) (a .s .now) (a .i) _ es ls b _ d (c .before .before .before .before .if1 .taken) (c .before .if3 .taken)) (c .refusal .ensures)
 
 add-refusal : tie.Need-add-refusal
 add-refusal c = omega arith
@@ -48,32 +48,32 @@ refusal-requires-2 : tie.Need-refusal-requires-2
 refusal-requires-2 c κs = tt
 
 returns-3 : tie.Need-returns-3
-returns-3 c es k =
+returns-3 c es ls k h =
     let a = c .before .before .before .before .before .before .before .args in
     let b = c .before .before .before .before .before .byte .ensures in
     let d = c .before .before .before .byte2 .ensures in
-    step-refused (a .s .now) (a .elements .now) (a .i) 4 (a .i + 1) _ _
-    (declaration-tag (settings (a .long)) (a .s .now) (a .i) _ es b _ d (c .before .before .before .before .if1 .taken) (c .before .before .if2 .left) (c .before .if3 .left)) (c .refusal2 .ensures)
+    step-refused (settings (a .long)) (a .s .now) (a .elements .now) (a .heads .now) (a .i) 4 (a .i + 1) _ _
+    (declaration-tag (settings (a .long)) (a .s .now) (a .i) _ es ls b _ d (c .before .before .before .before .if1 .taken) (c .before .before .if2 .left) (c .before .if3 .left)) (c .refusal2 .ensures)
 
 refusal-requires-3 : tie.Need-refusal-requires-3
 refusal-requires-3 c κs = tt
 
 returns-4 : tie.Need-returns-4
-returns-4 c es k =
+returns-4 c es ls k h =
     let a = c .before .before .before .before .before .args in
     let b = c .before .before .before .byte .ensures in
-    step-refused (a .s .now) (a .elements .now) (a .i) 5 (a .i) _ _
-    (declaration-reference (settings (a .long)) (a .s .now) (a .i) _ es b (c .before .if4 .taken)) (c .refusal3 .ensures)
+    step-refused (settings (a .long)) (a .s .now) (a .elements .now) (a .heads .now) (a .i) 5 (a .i) _ _
+    (declaration-reference (settings (a .long)) (a .s .now) (a .i) _ es ls b (c .before .if4 .taken)) (c .refusal3 .ensures)
 
 refusal-requires-4 : tie.Need-refusal-requires-4
 refusal-requires-4 c κs = tt
 
 returns-5 : tie.Need-returns-5
-returns-5 c es k =
+returns-5 c es ls k h =
     let a = c .before .before .before .before .before .args in
     let b = c .before .before .before .byte .ensures in
-    step-refused (a .s .now) (a .elements .now) (a .i) 4 (a .i) _ _
-    (declaration-other (settings (a .long)) (a .s .now) (a .i) _ es b (c .before .before .if1 .left) (c .before .if4 .left)) (c .refusal4 .ensures)
+    step-refused (settings (a .long)) (a .s .now) (a .elements .now) (a .heads .now) (a .i) 4 (a .i) _ _
+    (declaration-other (settings (a .long)) (a .s .now) (a .i) _ es ls b (c .before .before .if1 .left) (c .before .if4 .left)) (c .refusal4 .ensures)
 
 pub declaration-at-spec : {M : Type 1} → statement M
 declaration-at-spec =

@@ -1,12 +1,14 @@
 -- `keyword_at` meets its contract: each way by the tests that led there.
 use Prim.Native.Nat.{_+_}
-use mathlib.Core.Path.{sym, _∙_}
+use mathlib.Core.Path.{_≡_, sym, _∙_}
 use native.Mathlib.Omega.{arith}
 use borrow.Author.Needs.{needs}
+use borrow.Author.Tests.{not-true, not-false}
 use Rattle.rules.specs.Settings.{settings}
-use Rattle.rules.specs.TypeFile.{element}
+use Rattle.rules.specs.TypeFile.{element, attributeList}
 use Rattle.text.specs.Laws.{nameEnd-from, nameEnd-le}
-use Rattle.type_file.specs.Declarations.{step-refused, step-back, keyword-long, keyword-element, keyword-other}
+use Rattle.attribute_lists.specs.Heads.{defined-within}
+use Rattle.type_file.specs.Declarations.{step-refused, step-element, list-refused, list-onward, keyword-long, keyword-element, keyword-list, keyword-other, list-word}
 use Rattle.type_file.proofs.keyword_at.Statement.{statement}
 use Rattle.type_file.proofs.keyword_at.Tie as tie
 
@@ -29,10 +31,10 @@ refusal-requires : tie.Need-refusal-requires
 refusal-requires c κs = tt
 
 returns : tie.Need-returns
-returns c es k =
+returns c es ls k h =
     let a = c .before .before .before .before .args in
-    step-refused (a .s .now) (a .elements .now) (a .i) 3 (a .i + 2) _ _
-    (keyword-long (settings (a .long)) (a .s .now) (a .i) _ es (c .before .before .name-end .ensures) (c .before .if1 .taken)) (c .refusal .ensures)
+    step-refused (settings (a .long)) (a .s .now) (a .elements .now) (a .heads .now) (a .i) 3 (a .i + 2) _ _
+    (keyword-long (settings (a .long)) (a .s .now) (a .i) _ es ls (c .before .before .name-end .ensures) (c .before .if1 .taken)) (c .refusal .ensures)
 
 add-is-word : tie.Need-add-is-word
 add-is-word c = omega arith
@@ -55,24 +57,82 @@ element-at-requires c κs =
     ((rw e (nameEnd-le (a .s .now) (a .i + 2) (h .0)), h .1), c .before .before .before .before .before .before .before .before .before .pre .1)
 
 returns-2 : tie.Need-returns-2
-returns-2 c es k =
+returns-2 c es ls k h =
     let a = c .before .before .before .before .before .before .before .before .before .before .args in
     let e = c .before .before .before .before .before .before .before .before .name-end in
     let r = c .element-at in
     let w = sym (c .before .before .before .before .before .is-word .ensures) ∙ c .before .before .before .before .if2 .taken in
     let from = nameEnd-from (a .s .now) (a .i + 2) in
-    rw (keyword-element (settings (a .long)) (a .s .now) (a .i) _ es (e .ensures) (c .before .before .before .before .before .before .before .if1 .left) w)
-    (step-back (a .s .now) (r .last .1 .1 .1 .1 .0) (a .i) (e .result) (omega (arith, e .ensures)) (r .result) (element (settings (a .long)) (a .s .now) (e .result) es) (r .ensures es k))
+    rw (keyword-element (settings (a .long)) (a .s .now) (a .i) _ es ls (e .ensures) (c .before .before .before .before .before .before .before .if1 .left) w)
+    (step-element (settings (a .long)) (a .s .now) (r .last .1 .1 .1 .1 .0) (a .heads .now) (a .i) (e .result) ls (omega (arith, e .ensures)) h (r .result) (element (settings (a .long)) (a .s .now) (e .result) es) (r .ensures es k))
+
+add-is-word-2 : tie.Need-add-is-word-2
+add-is-word-2 c = omega arith
+
+slice-aggregate-is-word-2 : tie.Need-slice-aggregate-is-word-2
+slice-aggregate-is-word-2 c = search needs
+
+is-word-requires-2 : tie.Need-is-word-requires-2
+is-word-requires-2 c κs =
+    let a = c .before .before .before .before .before .before .before .args in
+    let e = c .before .before .before .before .before .name-end .ensures in
+    let h = c .before .before .before .before .before .before .before .pre .0 in
+    omega (arith, nameEnd-from (a .s .now) (a .i + 2), nameEnd-le (a .s .now) (a .i + 2) (h .0))
 
 refusal-requires-2 : tie.Need-refusal-requires-2
 refusal-requires-2 c κs = tt
 
 returns-3 : tie.Need-returns-3
-returns-3 c es k =
-    let a = c .before .before .before .before .before .before .before .args in
-    let w = sym (c .before .before .is-word .ensures) ∙ c .before .if2 .left in
-    step-refused (a .s .now) (a .elements .now) (a .i) 5 (a .i) _ _
-    (keyword-other (settings (a .long)) (a .s .now) (a .i) _ es (c .before .before .before .before .before .name-end .ensures) (c .before .before .before .before .if1 .left) w) (c .refusal2 .ensures)
+returns-3 c es ls k h =
+    let a = c .before .before .before .before .before .before .before .before .before .before .args in
+    let w = sym (c .before .before .before .before .before .is-word .ensures) ∙ c .before .before .before .before .if2 .left in
+    let v = sym (c .before .before .is-word2 .ensures) ∙ not-true _ (c .before .if3 .taken) in
+    step-refused (settings (a .long)) (a .s .now) (a .elements .now) (a .heads .now) (a .i) 5 (a .i) _ _
+    (keyword-other (settings (a .long)) (a .s .now) (a .i) _ es ls (c .before .before .before .before .before .before .before .before .name-end .ensures) (c .before .before .before .before .before .before .before .if1 .left) w v) (c .refusal2 .ensures)
+
+list-at-requires : tie.Need-list-at-requires
+list-at-requires c κs =
+    let a = c .before .before .before .before .before .before .before .before .before .before .before .args in
+    let e = c .before .before .before .before .before .before .before .before .before .name-end in
+    let h = c .before .before .before .before .before .before .before .before .before .before .before .pre .0 in
+    let (es, k) = c .before .before .before .before .before .before .before .before .before .before .before .pre .1 in
+    let v = sym (c .before .before .before .is-word2 .ensures) ∙ not-false _ (c .before .before .if3 .left) in
+    omega (arith, e .ensures, h, k .counted, k .room, list-word (a .s .now) (a .i + 2) (e .result) v, nameEnd-le (a .s .now) (a .i + 2) (h .0))
+
+enum-known-r : tie.Need-enum-known-r
+enum-known-r c = search needs
+
+enum-told : tie.Need-enum-told
+enum-told c = search needs
+
+fault-of-requires : tie.Need-fault-of-requires
+fault-of-requires c κs = tt
+
+returns-4 : tie.Need-returns-4
+returns-4 c es ls k h =
+    let a = c .before .before .before .before .before .before .before .before .before .before .before .before .before .before .before .args in
+    let e = c .before .before .before .before .before .before .before .before .before .before .before .before .before .name-end in
+    let r = c .before .before .before .list-at in
+    let w = sym (c .before .before .before .before .before .before .before .before .before .before .is-word .ensures) ∙ c .before .before .before .before .before .before .before .before .before .if2 .left in
+    let v = sym (c .before .before .before .before .before .before .before .is-word2 .ensures) ∙ not-false _ (c .before .before .before .before .before .before .if3 .left) in
+    rw (keyword-list (settings (a .long)) (a .s .now) (a .i) _ es ls (e .ensures) (c .before .before .before .before .before .before .before .before .before .before .before .before .if1 .left) w v)
+    (list-refused (settings (a .long)) (a .s .now) (a .elements .now) (r .last .1 .1 .1 .1 .1 .0) (a .i) (a .p) es (r .result) (attributeList (settings (a .long)) (a .s .now) (e .result) es ls) (r .ensures .0 es ls (sym (k .counted)) (k .recorded) h) _ _ (c .before .enum-told .given .1) (c .fault-of .ensures))
+
+onward-requires : tie.Need-onward-requires
+onward-requires c κs = tt
+
+returns-5 : tie.Need-returns-5
+returns-5 c es ls k h =
+    let a = c .before .before .before .before .before .before .before .before .before .before .before .before .before .before .before .before .args in
+    let e = c .before .before .before .before .before .before .before .before .before .before .before .before .before .before .name-end in
+    let r = c .before .before .before .before .list-at in
+    let w = sym (c .before .before .before .before .before .before .before .before .before .before .before .is-word .ensures) ∙ c .before .before .before .before .before .before .before .before .before .before .if2 .left in
+    let v = sym (c .before .before .before .before .before .before .before .before .is-word2 .ensures) ∙ not-false _ (c .before .before .before .before .before .before .before .if3 .left) in
+    let q = c .before .before .r .given .1 in
+    let x = defined-within (r .ensures .1) q in
+    let from = nameEnd-from (a .s .now) (a .i + 2) in
+    rw (keyword-list (settings (a .long)) (a .s .now) (a .i) _ es ls (e .ensures) (c .before .before .before .before .before .before .before .before .before .before .before .before .before .if1 .left) w v)
+    (list-onward (settings (a .long)) (a .s .now) (a .elements .now) (r .last .1 .1 .1 .1 .1 .0) (a .i) (a .p) es (r .result) (attributeList (settings (a .long)) (a .s .now) (e .result) es ls) (r .ensures .0 es ls (sym (k .counted)) (k .recorded) h) _ _ q k (c .onward .ensures) (omega (arith, e .ensures, from, x)) (x .1))
 
 pub keyword-at-spec : {M : Type 1} → statement M
 keyword-at-spec =
@@ -90,5 +150,15 @@ keyword-at-spec =
     is-word-requires
     element-at-requires
     returns-2
+    add-is-word-2
+    slice-aggregate-is-word-2
+    is-word-requires-2
     refusal-requires-2
-    returns-3)
+    returns-3
+    list-at-requires
+    enum-known-r
+    enum-told
+    fault-of-requires
+    returns-4
+    onward-requires
+    returns-5)

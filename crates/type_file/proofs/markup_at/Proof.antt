@@ -24,12 +24,12 @@ onward-requires : tie.Need-onward-requires
 onward-requires c κs = tt
 
 returns : tie.Need-returns
-returns c es k =
+returns c es ls k h =
     let a = c .before .before .before .before .args in
     let b = c .before .before .byte .ensures in
     let q = c .before .if1 .taken in
-    let h = byte-is-in (a .s .now) (a .i + 2) 62 (sym b ∙ q) (omega arith) in
-    step-onward (a .s .now) (a .elements .now) (a .i) (a .i + 3) (a .p) es _ _ k (markup-none (settings (a .long)) (a .s .now) (a .i) _ es b q) (c .onward .ensures) (omega arith) (omega arith)
+    let in-text = byte-is-in (a .s .now) (a .i + 2) 62 (sym b ∙ q) (omega arith) in
+    step-onward (settings (a .long)) (a .s .now) (a .elements .now) (a .heads .now) (a .i) (a .i + 3) (a .p) es ls _ _ k h (markup-none (settings (a .long)) (a .s .now) (a .i) _ es ls b q) (c .onward .ensures) (omega arith) (omega arith)
 
 add-byte-2 : tie.Need-add-byte-2
 add-byte-2 c = omega arith
@@ -44,12 +44,12 @@ refusal-requires : tie.Need-refusal-requires
 refusal-requires c κs = tt
 
 returns-2 : tie.Need-returns-2
-returns-2 c es k =
+returns-2 c es ls k h =
     let a = c .before .before .before .before .before .before .before .args in
     let b = c .before .before .before .before .before .byte .ensures in
     let d = c .before .before .byte2 .ensures in
-    step-refused (a .s .now) (a .elements .now) (a .i) 4 (a .i + 3) _ _
-    (markup-dash (settings (a .long)) (a .s .now) (a .i) _ es b _ d (c .before .before .before .if2 .taken) (c .before .if3 .taken)) (c .refusal .ensures)
+    step-refused (settings (a .long)) (a .s .now) (a .elements .now) (a .heads .now) (a .i) 4 (a .i + 3) _ _
+    (markup-dash (settings (a .long)) (a .s .now) (a .i) _ es ls b _ d (c .before .before .before .if2 .taken) (c .before .if3 .taken)) (c .refusal .ensures)
 
 add-comment-end : tie.Need-add-comment-end
 add-comment-end c = omega arith
@@ -72,48 +72,48 @@ fault-of-requires : tie.Need-fault-of-requires
 fault-of-requires c κs = tt
 
 returns-3 : tie.Need-returns-3
-returns-3 c es k =
+returns-3 c es ls k h =
     let a = c .before .before .before .before .before .before .before .before .before .before .args in
     let b = c .before .before .before .before .before .before .before .before .byte .ensures in
     let d = c .before .before .before .before .before .byte2 .ensures in
-    comment-refused (a .s .now) (a .elements .now) (a .i) (a .p) es _ _
-    (markup-comment (settings (a .long)) (a .s .now) (a .i) _ es b _ d (c .before .before .before .before .before .before .if2 .taken) _ (c .before .before .before .before .if3 .left) (c .before .before .before .comment-end .ensures)) _ _
+    comment-refused (settings (a .long)) (a .s .now) (a .elements .now) (a .heads .now) (a .i) (a .p) es ls _ _
+    (markup-comment (settings (a .long)) (a .s .now) (a .i) _ es ls b _ d (c .before .before .before .before .before .before .if2 .taken) _ (c .before .before .before .before .if3 .left) (c .before .before .before .comment-end .ensures)) _ _
     (c .before .enum-told .given .1) (c .fault-of .ensures)
 
 onward-requires-2 : tie.Need-onward-requires-2
 onward-requires-2 c κs = tt
 
 returns-4 : tie.Need-returns-4
-returns-4 c es k =
+returns-4 c es ls k h =
     let a = c .before .before .before .before .before .before .before .before .before .before .before .args in
     let b = c .before .before .before .before .before .before .before .before .before .byte .ensures in
     let d = c .before .before .before .before .before .before .byte2 .ensures in
     let e = c .before .before .before .before .comment-end .ensures in
-    comment-onward (a .s .now) (a .elements .now) (a .i) (a .p) es _ _
-    (markup-comment (settings (a .long)) (a .s .now) (a .i) _ es b _ d (c .before .before .before .before .before .before .before .if2 .taken) _ (c .before .before .before .before .before .if3 .left) e) _ _ (opened (c .before .before .before .before .before)) (c .before .before .r .given .1) e k (c .onward2 .ensures)
+    comment-onward (settings (a .long)) (a .s .now) (a .elements .now) (a .heads .now) (a .i) (a .p) es ls _ _
+    (markup-comment (settings (a .long)) (a .s .now) (a .i) _ es ls b _ d (c .before .before .before .before .before .before .before .if2 .taken) _ (c .before .before .before .before .before .if3 .left) e) _ _ (opened (c .before .before .before .before .before)) (c .before .before .r .given .1) e k h (c .onward2 .ensures)
 
 refusal-requires-2 : tie.Need-refusal-requires-2
 refusal-requires-2 c κs = tt
 
 returns-5 : tie.Need-returns-5
-returns-5 c es k =
+returns-5 c es ls k h =
     let a = c .before .before .before .before .before .before .args in
     let b = c .before .before .before .before .byte .ensures in
-    step-refused (a .s .now) (a .elements .now) (a .i) 5 (a .i) _ _ (markup-section (settings (a .long)) (a .s .now) (a .i) _ es b (c .before .if4 .taken)) (c .refusal2 .ensures)
+    step-refused (settings (a .long)) (a .s .now) (a .elements .now) (a .heads .now) (a .i) 5 (a .i) _ _ (markup-section (settings (a .long)) (a .s .now) (a .i) _ es ls b (c .before .if4 .taken)) (c .refusal2 .ensures)
 
 is-letter-requires : tie.Need-is-letter-requires
 is-letter-requires c κs = tt
 
 keyword-at-requires : tie.Need-keyword-at-requires
-keyword-at-requires c κs = c .before .before .before .before .before .before .before .before .before .before .pre
+keyword-at-requires c κs = c .before .before .before .before .before .before .before .before .before .before .before .pre
 
 returns-6 : tie.Need-returns-6
-returns-6 c es k =
-    let a = c .before .before .before .before .before .before .before .before .before .before .before .args in
-    let b = c .before .before .before .before .before .before .before .before .before .byte .ensures in
-    let l = sym (c .before .before .before .before .before .is-letter .ensures) ∙ c .before .before .before .before .if5 .taken in
-    rw (markup-keyword (settings (a .long)) (a .s .now) (a .i) _ es b (c .before .before .before .before .before .before .before .before .if1 .left) (c .before .before .before .before .before .before .before .if2 .left) (c .before .before .before .before .before .before .if4 .left) l)
-    (c .keyword-at .ensures es k)
+returns-6 c es ls k h =
+    let a = c .before .before .before .before .before .before .before .before .before .before .before .before .args in
+    let b = c .before .before .before .before .before .before .before .before .before .before .byte .ensures in
+    let l = sym (c .before .before .before .before .before .before .is-letter .ensures) ∙ c .before .before .before .before .before .if5 .taken in
+    rw (markup-keyword (settings (a .long)) (a .s .now) (a .i) _ es ls b (c .before .before .before .before .before .before .before .before .before .if1 .left) (c .before .before .before .before .before .before .before .before .if2 .left) (c .before .before .before .before .before .before .before .if4 .left) l)
+    (c .keyword-at .ensures es ls k h)
 
 add-refusal-2 : tie.Need-add-refusal-2
 add-refusal-2 c = omega arith
@@ -122,12 +122,12 @@ refusal-requires-3 : tie.Need-refusal-requires-3
 refusal-requires-3 c κs = tt
 
 returns-7 : tie.Need-returns-7
-returns-7 c es k =
+returns-7 c es ls k h =
     let a = c .before .before .before .before .before .before .before .before .args in
     let b = c .before .before .before .before .before .before .byte .ensures in
     let l = sym (c .before .before .is-letter .ensures) ∙ c .before .if5 .left in
-    step-refused (a .s .now) (a .elements .now) (a .i) 4 (a .i + 2) _ _
-    (markup-other (settings (a .long)) (a .s .now) (a .i) _ es b (c .before .before .before .before .before .if1 .left) (c .before .before .before .before .if2 .left) (c .before .before .before .if4 .left) l) (c .refusal3 .ensures)
+    step-refused (settings (a .long)) (a .s .now) (a .elements .now) (a .heads .now) (a .i) 4 (a .i + 2) _ _
+    (markup-other (settings (a .long)) (a .s .now) (a .i) _ es ls b (c .before .before .before .before .before .if1 .left) (c .before .before .before .before .if2 .left) (c .before .before .before .if4 .left) l) (c .refusal3 .ensures)
 
 pub markup-at-spec : {M : Type 1} → statement M
 markup-at-spec =

@@ -1,0 +1,134 @@
+-- `list_at` meets its contract: each way by what was read so far.
+use native.Mathlib.Omega.{arith}
+use borrow.Author.Needs.{needs}
+use Rattle.rules.specs.Settings.{settings}
+use Rattle.text.specs.Laws.{gap-range, reached-got, reached-refused}
+use Rattle.attribute_lists.specs.Heads.{list-gap, list-unnamed, list-undefined, list-headed, listed-is, listed-refused, listed-within, defined-got, defined-refused, defined-within}
+use Rattle.attribute_lists.proofs.list_at.Statement.{statement}
+use Rattle.attribute_lists.proofs.list_at.Tie as tie
+
+gap-end-requires : tie.Need-gap-end-requires
+gap-end-requires c κs = search needs
+
+enum-known-g : tie.Need-enum-known-g
+enum-known-g c = search needs
+
+enum-told : tie.Need-enum-told
+enum-told c = search needs
+
+fault-of-requires : tie.Need-fault-of-requires
+fault-of-requires c κs = search needs
+
+returns : tie.Need-returns
+returns c =
+    let a = c .before .before .before .before .before .args in
+    (λ es ls n r h. list-gap (settings (a .long)) (a .s .now) (a .at) es ls (reached-refused (c .before .before .before .gap-end .ensures) (c .before .enum-told .given .1) (c .fault-of .ensures)), tt)
+
+listed-at-requires : tie.Need-listed-at-requires
+listed-at-requires c κs =
+    let a = c .before .before .before .before .before .before .args in
+    omega (arith, c .before .before .before .before .before .before .pre, gap-range (a .s .now) (a .at) _ (c .before .before .before .before .before .before .pre .1) (reached-got (c .before .before .before .before .gap-end .ensures) (c .before .before .g .given .1)))
+
+enum-known-l : tie.Need-enum-known-l
+enum-known-l c = search needs
+
+enum-told-2 : tie.Need-enum-told-2
+enum-told-2 c = search needs
+
+fault-of-listed-requires : tie.Need-fault-of-listed-requires
+fault-of-listed-requires c κs = search needs
+
+returns-2 : tie.Need-returns-2
+returns-2 c =
+    let a = c .before .before .before .before .before .before .before .before .before .before .args in (
+      λ es ls n r h.
+          list-unnamed (settings (a .long)) (a .s .now) (a .at) es ls (reached-got (c .before .before .before .before .before .before .before .before .gap-end .ensures) (c .before .before .before .before .before .before .g .given .1))
+          (listed-refused (c .before .before .before .listed-at .ensures .0 es ls n r h) (c .before .enum-told2 .given .1) (c .fault-of-listed .ensures)),
+      tt,
+    )
+
+definitions-at-requires : tie.Need-definitions-at-requires
+definitions-at-requires c κs =
+    let a = c .before .before .before .before .before .before .before .before .before .before .before .args in
+    let w = listed-within (a .heads .now) (c .before .before .before .before .listed-at .ensures .1) (c .before .before .l .given .1) in
+    omega (arith, c .before .before .before .before .before .before .before .before .before .before .before .pre, w, gap-range (a .s .now) (a .at) _ (c .before .before .before .before .before .before .before .before .before .before .before .pre .1) (reached-got (c .before .before .before .before .before .before .before .before .before .gap-end .ensures) (c .before .before .before .before .before .before .before .g .given .1)))
+
+enum-known-r : tie.Need-enum-known-r
+enum-known-r c = search needs
+
+enum-told-3 : tie.Need-enum-told-3
+enum-told-3 c = search needs
+
+fault-of-requires-2 : tie.Need-fault-of-requires-2
+fault-of-requires-2 c κs = search needs
+
+returns-3 : tie.Need-returns-3
+returns-3 c =
+    let a = c .before .before .before .before .before .before .before .before .before .before .before .before .before .before .before .args in (
+      λ es ls n r h.
+          list-undefined (settings (a .long)) (a .s .now) (a .at) es ls (reached-got (c .before .before .before .before .before .before .before .before .before .before .before .before .before .gap-end .ensures) (c .before .before .before .before .before .before .before .before .before .before .before .g .given .1))
+          (listed-is (c .before .before .before .before .before .before .before .before .listed-at .ensures .0 es ls n r h) (c .before .before .before .before .before .before .l .given .1)) (defined-refused (settings (a .long)) (a .s .now) _ _ _ (c .before .before .before .definitions-at .ensures .0) (c .before .enum-told3 .given .1) (c .fault-of2 .ensures)),
+      tt,
+    )
+
+whole-requires : tie.Need-whole-requires
+whole-requires c κs = search needs
+
+sub-h : tie.Need-sub-h
+sub-h c =
+    let w = listed-within (c .before .before .before .before .before .before .before .before .before .before .before .before .before .before .before .before .before .before .args .heads .now) (c .before .before .before .before .before .before .before .before .before .before .before .listed-at .ensures .1) (c .before .before .before .before .before .before .before .before .before .l .given .1) in
+    omega (arith, w)
+
+cast-heads : tie.Need-cast-heads
+cast-heads c =
+    let w = listed-within (c .before .before .before .before .before .before .before .before .before .before .before .before .before .before .before .before .before .before .args .heads .now) (c .before .before .before .before .before .before .before .before .before .before .before .listed-at .ensures .1) (c .before .before .before .before .before .before .before .before .before .l .given .1) in
+    omega (arith, c .before .before .before .before .before .before .before .before .before .before .before .before .before .before .before .before .before .before .pre, w)
+
+mul-heads : tie.Need-mul-heads
+mul-heads c =
+    let w = listed-within (c .before .before .before .before .before .before .before .before .before .before .before .before .before .before .before .before .before .before .args .heads .now) (c .before .before .before .before .before .before .before .before .before .before .before .listed-at .ensures .1) (c .before .before .before .before .before .before .before .before .before .l .given .1) in
+    omega (arith, c .before .before .before .before .before .before .before .before .before .before .before .before .before .before .before .before .before .before .pre, w)
+
+element-write-heads : tie.Need-element-write-heads
+element-write-heads c =
+    let w = listed-within (c .before .before .before .before .before .before .before .before .before .before .before .before .before .before .before .before .before .before .args .heads .now) (c .before .before .before .before .before .before .before .before .before .before .before .listed-at .ensures .1) (c .before .before .before .before .before .before .before .before .before .l .given .1) in
+    omega (arith, c .before .before .before .before .before .before .before .before .before .before .before .before .before .before .before .before .before .before .pre, w)
+
+returns-4 : tie.Need-returns-4
+returns-4 c =
+    let a = c .before .before .before .before .before .before .before .before .before .before .before .before .before .before .before .before .before .before .args in
+    let o = settings (a .long) in
+    let g = reached-got (c .before .before .before .before .before .before .before .before .before .before .before .before .before .before .before .before .gap-end .ensures) (c .before .before .before .before .before .before .before .before .before .before .before .before .before .before .g .given .1) in
+    let range = gap-range (a .s .now) (a .at) _ (c .before .before .before .before .before .before .before .before .before .before .before .before .before .before .before .before .before .before .pre .1) g in
+    let w = listed-within (a .heads .now) (c .before .before .before .before .before .before .before .before .before .before .before .listed-at .ensures .1) (c .before .before .before .before .before .before .before .before .before .l .given .1) in (
+      λ es ls n r h.
+          list-headed o (a .s .now) (a .at) es ls g (listed-is (c .before .before .before .before .before .before .before .before .before .before .before .listed-at .ensures .0 es ls n r h) (c .before .before .before .before .before .before .before .before .before .l .given .1)) (a .heads .now) _ _ h (c .before .whole .ensures) (omega (arith, c .before .before .before .before .before .before .before .before .before .before .before .before .before .before .before .before .before .before .pre, range, w)) (w .3) (w .0) (omega (arith, c .before .before .before .before .before .before .before .before .before .before .before .before .before .before .before .before .before .before .pre, w)) (w .4)
+          (defined-got o (a .s .now) _ _ _ (c .before .before .before .before .before .before .definitions-at .ensures .0) (c .before .before .before .before .r .given .1)),
+      omega (arith, range, w, defined-within (c .before .before .before .before .before .before .definitions-at .ensures .1) (c .before .before .before .before .r .given .1)),
+    )
+
+pub list-at-spec : {M : Type 1} → statement M
+list-at-spec =
+    tie.close
+    (tie.spec
+    gap-end-requires
+    enum-known-g
+    enum-told
+    fault-of-requires
+    returns
+    listed-at-requires
+    enum-known-l
+    enum-told-2
+    fault-of-listed-requires
+    returns-2
+    definitions-at-requires
+    enum-known-r
+    enum-told-3
+    fault-of-requires-2
+    returns-3
+    whole-requires
+    sub-h
+    cast-heads
+    mul-heads
+    element-write-heads
+    returns-4)
