@@ -7,6 +7,7 @@ use Rattle.rules.specs.Settings.{Settings}
 use Rattle.rules.specs.TypeFile.{Element}
 use Rattle.rules.specs.Judge.{Answer, refusal, acceptance, Refuses, Accepts}
 use Rattle.element_names.specs.Names.{Recorded}
+use Rattle.attribute_lists.specs.Means.{HeadedAs}
 use Rattle.type_judge.specs.declared.Verdict.{Verdict}
 use Rattle.type_judge.specs.declared.Verdict.the-variants.{Accepted, Malformed, Ambiguous}
 
@@ -16,9 +17,10 @@ answerOf (Accepted n) = acceptance n
 answerOf (Malformed f) = refusal (f .number) (f .at) 0 0
 answerOf (Ambiguous c) = refusal 9 (c .at) (c .first) (c .second)
 
--- The verdict on a type file under the settings c, where the lent buffer has room for so many numbers: accepted with the elements that are recorded, or refused.
-abbrev pub Decides : Settings → (s : List ℕ) (room : ℕ) (elements : List ℕ) → Verdict → Type 0
-Decides c s room elements (Accepted n) =
-    (es : List Element) × Accepts c s es × (n ≡ length es) × (6 * length es ≤ room) × (length es ≤ 64) × Recorded elements es
-Decides c s room elements (Malformed f) = Refuses c s room (answerOf (Malformed f))
-Decides c s room elements (Ambiguous x) = Refuses c s room (answerOf (Ambiguous x))
+-- The verdict on a type file under the settings c, where the lent buffer has room for so many numbers: accepted with the elements that are recorded, whose
+-- lists have their heads, or refused.
+abbrev pub Decides : Settings → (s : List ℕ) (room : ℕ) (elements heads : List ℕ) → Verdict → Type 0
+Decides c s room elements heads (Accepted n) =
+    (es : List Element) × Accepts c s es × (n ≡ length es) × (6 * length es ≤ room) × (length es ≤ 64) × Recorded elements es × HeadedAs c s heads es
+Decides c s room elements heads (Malformed f) = Refuses c s room (answerOf (Malformed f))
+Decides c s room elements heads (Ambiguous x) = Refuses c s room (answerOf (Ambiguous x))

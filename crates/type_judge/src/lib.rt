@@ -6,8 +6,9 @@ use layout::ELEMENTS;
 use layout::NUMBER;
 use layout::RECORDS;
 use text::Fault;
+ghost use mathlib.Core.Path.{_≡_};
 ghost use Prim.Native.Nat.{_≤_};
-ghost use lib.ListN.{length};
+ghost use lib.ListN.{length, replicate};
 ghost use Rattle.rules.specs.Lent.{numbers, bytes};
 ghost use Rattle.rules.specs.Judge.{Legible, Judged};
 ghost use Rattle.inputs.specs.Means.{settingsOf};
@@ -22,8 +23,8 @@ pub enum Verdict {
 }
 
 // The verdict on a type file whose length and bytes were looked at, where the lent buffer has room for so many numbers: if
-// accepted, the elements are recorded in `elements`; what stands behind their records, and in all of it on refusal, is not
-// decided. Nor is the verdict where a byte is not allowed or the settings are not offered.
+// accepted, the elements are recorded in `elements`, and `heads`, which is all 0, gets the heads of their lists; what stands
+// behind the records, and in all of both on refusal, is not decided. Nor is the verdict where a byte is not allowed or the settings are not offered.
 pub fn decide_legible(
     c: Settings,
     s: &[u8],
@@ -31,7 +32,7 @@ pub fn decide_legible(
     elements: &mut [u32; RECORDS],
     heads: &mut [u16; ELEMENTS],
 ) -> Verdict
-    requires { ⌜ length (now s) ≤ 32768 ⌝ }
+    requires { ⌜ (length (now s) ≤ 32768) × (now heads ≡ replicate 64 0) ⌝ }
     ensures { λ r. ⌜ (Legible (settingsOf c) (now (s .entry)) → Decides (settingsOf c) (now (s .entry)) room (now (elements .exit)) (now (heads .exit)) r) ⌝ }
 {
     let r = type_file::file_read(c.name_length, s, elements, heads);
@@ -55,7 +56,7 @@ pub fn decide_legible(
 }
 
 // The verdict on any type file under any settings: number 24 comes first, then 1 and 2. Behind the records, and on refusal,
-// what `elements` holds is not decided.
+// what `elements` holds is not decided, nor on refusal what `heads` does, which is all 0 before.
 pub fn decide(
     c: Settings,
     s: &[u8],
@@ -63,6 +64,7 @@ pub fn decide(
     elements: &mut [u32; RECORDS],
     heads: &mut [u16; ELEMENTS],
 ) -> Verdict
+    requires { ⌜ now heads ≡ replicate 64 0 ⌝ }
     ensures { λ r. ⌜ Decides (settingsOf c) (now (s .entry)) room (now (elements .exit)) (now (heads .exit)) r ⌝ }
 {
     if !inputs::is_offered(c) {

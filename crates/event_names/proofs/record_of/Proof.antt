@@ -1,7 +1,7 @@
 -- `event_names::record_of` finds the record. The invariant: what is left of the records gives the answer.
 use Prim.Native.Nat.{_-_, _≤_}
 use mathlib.Core.Logic.{⊎-elim}
-use mathlib.Core.Path.{_≡_, refl, _∙_}
+use mathlib.Core.Path.{_≡_, _∙_}
 use Rattle.event_names.specs.Means.{recordOf}
 use Rattle.event_names.specs.Laws.{recordLeft, record-first, record-here, record-other, record-behind, record-none}
 use native.Mathlib.Omega.{arith}
