@@ -15,6 +15,7 @@ use Rattle.rules.specs.Ambiguity.{SpellSame, Ambiguous, PairAtFault, FirstPair}
 use Rattle.rules.specs.TypeFile.{Place, Content, empty, model, Element, typeFile}
 use Rattle.rules.specs.Judge.{placeAt, samePlace, Answer, refusal, acceptance, Unambiguous, AllUnambiguous, PairStandsAt, FirstAmbiguous, here, later, firstRepeated, records, Legible, Refuses, notOffered, tooLong, notAllowed, malformed, repeated, ambiguous, noRoom, Accepts, Judged, refuses, accepts}
 use Rattle.numbers.specs.Laws.{records-length, lent-length}
+use Rattle.rules_laws.specs.Definitions.{IsFileNumber}
 use Rattle.rules_laws.specs.Within.{ContentIn, all-mem, placeAt-in, typeFile-within, typeFile-elements}
 use Rattle.and_laws.specs.Ambiguous.{ambiguous-pair, pair-ambiguous, unambiguous-equal, first-pair-unique}
 use Rattle.rules_laws.specs.Names.{samePlace-refl, samePlace-sym}
@@ -185,32 +186,57 @@ module _ {l : Lent} {c : Settings} {s before : List ℕ} where
   settled-refuses (refuses r z) h = (r, z)
   settled-refuses (accepts es w f e z) h = absurd (h (rw e))
 
+-- The numbers that a type may be refused by, but for 19; those of a type file are among them, and are none that the order gives apart.
+abbrev pub TypeNumber : ℕ → Type 0
+TypeNumber n = ((1 ≤ n) × (n ≤ 10)) ⊎ ((n ≡ 20) ⊎ ((n ≡ 22) ⊎ ((24 ≤ n) × (n ≤ 25))))
+
+pub file-number : {n : ℕ} → IsFileNumber n → TypeNumber n
+file-number (inl x) = inl (omega arith)
+file-number (inr (inl e)) = inl (omega arith)
+file-number (inr (inr (inl e))) = inr (inl e)
+file-number (inr (inr (inr e))) = inr (inr (inl e))
+
+abbrev pub Apart : ℕ → Type 0
+Apart n = (n ≡ 9 → ⊥) × (n ≡ 19 → ⊥) × (24 ≤ n → ⊥)
+
+pub file-apart : {n : ℕ} → IsFileNumber n → Apart n
+file-apart (inl x) = (λ e. omega arith, λ e. omega arith, λ e. omega arith)
+file-apart (inr (inl x)) = (λ e. omega arith, λ e. omega arith, λ e. omega arith)
+file-apart (inr (inr (inl x))) = (λ e. omega arith, λ e. omega arith, λ e. omega arith)
+file-apart (inr (inr (inr x))) = (λ e. omega arith, λ e. omega arith, λ e. omega arith)
+
+pub type-some : {n : ℕ} → TypeNumber n → n ≡ 0 → ⊥
+type-some (inl x) e = omega arith
+type-some (inr (inl x)) e = omega arith
+type-some (inr (inr (inl x))) e = omega arith
+type-some (inr (inr (inr x))) e = omega arith
+
 -- What a refusal says.
 module _ {c : Settings} {s : List ℕ} {room : ℕ} {a : Answer} where
   pub refuses-named : Refuses c s room a
-      → (n : ℕ) × (k : ℕ) × (p : ℕ) × (q : ℕ) × (a ≡ refusal n k p q) × (((1 ≤ n) × (n ≤ 9)) ⊎ ((n ≡ 19) ⊎ ((24 ≤ n) × (n ≤ 25)))) × (k ≤ length s) × ((n ≡ 9 → ⊥) → (p ≡ 0) × (q ≡ 0))
-  refuses-named (notOffered o e) = (24, 0, 0, 0, e, inr (inr (omega arith)), omega arith, λ h. omega arith)
-  refuses-named (tooLong o l e) = (1, 0, 0, 0, e, inl (omega arith), omega arith, λ h. omega arith)
-  refuses-named (notAllowed o l d e) = (2, span allowed s, 0, 0, e, inl (omega arith), omega arith, λ h. omega arith)
+      → (n : ℕ) × (k : ℕ) × (p : ℕ) × (q : ℕ) × (a ≡ refusal n k p q) × ((n ≡ 19) ⊎ TypeNumber n) × (k ≤ length s) × ((n ≡ 9 → ⊥) → (p ≡ 0) × (q ≡ 0))
+  refuses-named (notOffered o e) = (24, 0, 0, 0, e, inr (inr (inr (inr (omega arith)))), omega arith, λ h. omega arith)
+  refuses-named (tooLong o l e) = (1, 0, 0, 0, e, inr (inl (omega arith)), omega arith, λ h. omega arith)
+  refuses-named (notAllowed o l d e) = (2, span allowed s, 0, 0, e, inr (inl (omega arith)), omega arith, λ h. omega arith)
   refuses-named (malformed l n k r e) =
-      let (i, j, b) = typeFile-within c s n k r in
-      (n, k, 0, 0, e, inl (omega arith), b, λ h. omega arith)
-  refuses-named (repeated l es r v e) = (25, firstRepeated es, 0, 0, e, inr (inr (omega arith)), typeFile-repeated c s es r, λ h. omega arith)
-  refuses-named (ambiguous l es r v k p q f e) = (9, k, p, q, e, inl (omega arith), first-in s c f r, λ h. absurd (h refl))
-  refuses-named (noRoom l es r v u f e) = (19, 0, 0, 0, e, inr (inl refl), omega arith, λ h. omega arith)
+      let (i, b) = typeFile-within c s n k r in
+      (n, k, 0, 0, e, inr (file-number i), b, λ h. omega arith)
+  refuses-named (repeated l es r v e) = (25, firstRepeated es, 0, 0, e, inr (inr (inr (inr (omega arith)))), typeFile-repeated c s es r, λ h. omega arith)
+  refuses-named (ambiguous l es r v k p q f e) = (9, k, p, q, e, inr (inl (omega arith)), first-in s c f r, λ h. absurd (h refl))
+  refuses-named (noRoom l es r v u f e) = (19, 0, 0, 0, e, inl refl, omega arith, λ h. omega arith)
 
   pub refuses-some : Refuses c s room a → a .number ≡ 0 → ⊥
   refuses-some r h =
       let (n, k, p, q, e, b, i, o) = refuses-named r in
       let z : n ≡ 0 = rw e at h in
-      ⊎-elim (λ x. omega arith) (λ x. ⊎-elim (λ y. omega arith) (λ y. omega arith) x) b
+      ⊎-elim (λ x. omega arith) (λ x. type-some x z) b
 
   -- Number 24, number 25, number 9, and number 19.
   refuses-twenty-four : Refuses c s room a → a .number ≡ 24 → isOffered c ≡ false
   refuses-twenty-four (notOffered o e) h = o
   refuses-twenty-four (tooLong o l e) h = absurd (omega (arith, rw e at h))
   refuses-twenty-four (notAllowed o l d e) h = absurd (omega (arith, rw e at h))
-  refuses-twenty-four (malformed l n k r e) h = absurd (omega (arith, rw e at h, typeFile-within c s n k r))
+  refuses-twenty-four (malformed l n k r e) h = absurd (file-apart (typeFile-within c s n k r .0) .2 (omega (arith, rw e at h)))
   refuses-twenty-four (repeated l es r v e) h = absurd (omega (arith, rw e at h))
   refuses-twenty-four (ambiguous l es r v k p q f e) h = absurd (omega (arith, rw e at h))
   refuses-twenty-four (noRoom l es r v u f e) h = absurd (omega (arith, rw e at h))
@@ -219,7 +245,7 @@ module _ {c : Settings} {s : List ℕ} {room : ℕ} {a : Answer} where
   refuses-twenty-five (notOffered o e) h = absurd (omega (arith, rw e at h))
   refuses-twenty-five (tooLong o l e) h = absurd (omega (arith, rw e at h))
   refuses-twenty-five (notAllowed o l d e) h = absurd (omega (arith, rw e at h))
-  refuses-twenty-five (malformed l n k r e) h = absurd (omega (arith, rw e at h, typeFile-within c s n k r))
+  refuses-twenty-five (malformed l n k r e) h = absurd (file-apart (typeFile-within c s n k r .0) .2 (omega (arith, rw e at h)))
   refuses-twenty-five (repeated l es r v e) h = (l, es, r, v, ap (λ (b : Answer). b .position) e)
   refuses-twenty-five (ambiguous l es r v k p q f e) h = absurd (omega (arith, rw e at h))
   refuses-twenty-five (noRoom l es r v u f e) h = absurd (omega (arith, rw e at h))
@@ -228,7 +254,7 @@ module _ {c : Settings} {s : List ℕ} {room : ℕ} {a : Answer} where
   refuses-nine (notOffered o e) h = absurd (omega (arith, rw e at h))
   refuses-nine (tooLong o l e) h = absurd (omega (arith, rw e at h))
   refuses-nine (notAllowed o l d e) h = absurd (omega (arith, rw e at h))
-  refuses-nine (malformed l n k r e) h = absurd (omega (arith, rw e at h, typeFile-within c s n k r))
+  refuses-nine (malformed l n k r e) h = absurd (file-apart (typeFile-within c s n k r .0) .0 (rw e at h))
   refuses-nine (repeated l es r v e) h = absurd (omega (arith, rw e at h))
   refuses-nine (ambiguous l es r v k p q f e) h = rw e (l, es, r, v, f)
   refuses-nine (noRoom l es r v u f e) h = absurd (omega (arith, rw e at h))
@@ -237,7 +263,7 @@ module _ {c : Settings} {s : List ℕ} {room : ℕ} {a : Answer} where
   refuses-nineteen (notOffered o e) h = absurd (omega (arith, rw e at h))
   refuses-nineteen (tooLong o l e) h = absurd (omega (arith, rw e at h))
   refuses-nineteen (notAllowed o l d e) h = absurd (omega (arith, rw e at h))
-  refuses-nineteen (malformed l n k r e) h = absurd (omega (arith, rw e at h, typeFile-within c s n k r))
+  refuses-nineteen (malformed l n k r e) h = absurd (file-apart (typeFile-within c s n k r .0) .1 (rw e at h))
   refuses-nineteen (repeated l es r v e) h = absurd (omega (arith, rw e at h))
   refuses-nineteen (ambiguous l es r v k p q f e) h = absurd (omega (arith, rw e at h))
   refuses-nineteen (noRoom l es r v u f e) h = (es, record { legible = l; elements = r; unrepeated = v; unambiguous = u }, f)

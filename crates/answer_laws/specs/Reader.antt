@@ -20,7 +20,7 @@ use Rattle.document_laws.specs.Laws.{same-elements, reads-some, reads-one}
 use Rattle.document_laws.specs.Answers.{read-as-one}
 use Rattle.type_laws.specs.Members.{typeFile-repeated}
 use Rattle.turn_laws.specs.Within.{DocumentNumber, document-within}
-use Rattle.answer_laws.specs.Judge.{first-one, first-all, first-in, read-fair}
+use Rattle.answer_laws.specs.Judge.{first-one, first-all, first-in, TypeNumber, file-number, Apart, file-apart, type-some, read-fair}
 
 -- Two answers to the same two inputs are the same: that a type has one first ambiguous model is the judge's half.
 pub given-one : (l : Lent) (c : Settings) (s d before : List ℕ) (a b : Answer) (after other : List ℕ) → ReadAs l c s d before a after → ReadAs l c s d before b other → (a ≡ b) × (after ≡ other)
@@ -35,34 +35,41 @@ reading-one c s d es l w =
 
 -- What a refusal says: where it stands, and by which numbers.
 abbrev TypeSays : List ℕ → Answer → Type 0
-TypeSays s a = (a .input ≡ 1) × (a .position ≤ length s) × (((1 ≤ a .number) × (a .number ≤ 9)) ⊎ ((24 ≤ a .number) × (a .number ≤ 25)))
+TypeSays s a = (a .input ≡ 1) × (a .position ≤ length s) × TypeNumber (a .number)
 
 abbrev DocumentSays : List ℕ → Answer → Type 0
-DocumentSays d a = (a .input ≡ 2) × (a .position ≤ length d) × (((1 ≤ a .number) × (a .number ≤ 5)) ⊎ ((10 ≤ a .number) × (a .number ≤ 19)))
+DocumentSays d a = (a .input ≡ 2) × (a .position ≤ length d) × (((1 ≤ a .number) × (a .number ≤ 5)) ⊎ ((10 ≤ a .number) × (a .number ≤ 22)))
 
 abbrev Says : (s d : List ℕ) → Answer → Type 0
 Says s d a = (TypeSays s a ⊎ DocumentSays d a) × ((a .number ≡ 9 → ⊥) → (a .first ≡ 0) × (a .second ≡ 0)) × (a .count ≡ 0)
 
-type-says : (s d : List ℕ) (n k : ℕ) → ((1 ≤ n) × (n ≤ 9)) ⊎ ((24 ≤ n) × (n ≤ 25)) → k ≤ length s → Says s d (refusal n k 0 0)
+type-says : (s d : List ℕ) (n k : ℕ) → TypeNumber n → k ≤ length s → Says s d (refusal n k 0 0)
 type-says s d n k h i = (inl (refl, i, h), λ o. (refl, refl), refl)
 
-document-says : (s d : List ℕ) (n k : ℕ) → ((1 ≤ n) × (n ≤ 5)) ⊎ ((10 ≤ n) × (n ≤ 19)) → k ≤ length d → Says s d (documentRefusal n k)
+document-says : (s d : List ℕ) (n k : ℕ) → ((1 ≤ n) × (n ≤ 5)) ⊎ ((10 ≤ n) × (n ≤ 22)) → k ≤ length d → Says s d (documentRefusal n k)
 document-says s d n k h i = (inr (refl, i, h), λ o. (refl, refl), refl)
 
-document-number : {n : ℕ} → DocumentNumber n → ((1 ≤ n) × (n ≤ 5)) ⊎ ((10 ≤ n) × (n ≤ 19))
-document-number = ⊎-elim (λ h. inl (omega arith)) (λ h. inr (omega arith))
+document-number : {n : ℕ} → DocumentNumber n → ((1 ≤ n) × (n ≤ 5)) ⊎ ((10 ≤ n) × (n ≤ 22))
+document-number (inl x) = inl (omega arith)
+document-number (inr (inl x)) = inr (omega arith)
+document-number (inr (inr x)) = inr (omega arith)
+
+document-apart : {n : ℕ} → DocumentNumber n → Apart n
+document-apart (inl x) = (λ e. omega arith, λ e. omega arith, λ e. omega arith)
+document-apart (inr (inl x)) = (λ e. omega arith, λ e. omega arith, λ e. omega arith)
+document-apart (inr (inr x)) = (λ e. omega arith, λ e. omega arith, λ e. omega arith)
 
 module _ {c : Settings} {s d : List ℕ} {room : ℕ} {a : Answer} where
   pub both-says : RefusesBoth c s d room a → Says s d a
-  both-says (notOffered o e) = rw e (type-says s d 24 0 (inr (omega arith)) (omega arith))
+  both-says (notOffered o e) = rw e (type-says s d 24 0 (inr (inr (inr (omega arith)))) (omega arith))
   both-says (typeTooLong o l e) = rw e (type-says s d 1 0 (inl (omega arith)) (omega arith))
   both-says (documentTooLong o l m e) = rw e (document-says s d 1 0 (inl (omega arith)) (omega arith))
   both-says (typeNotAllowed o l m x e) = rw e (type-says s d 2 (span allowed s) (inl (omega arith)) (omega arith))
   both-says (documentNotAllowed l m x e) = rw e (document-says s d 2 (span allowed d) (inl (omega arith)) (omega arith))
   both-says (malformed l n k r e) =
-      let (i, j, b) = typeFile-within c s n k r in
-      rw e (type-says s d n k (inl (omega arith)) b)
-  both-says (repeated l es r v e) = rw e (type-says s d 25 (firstRepeated es) (inr (omega arith)) (typeFile-repeated c s es r))
+      let (i, b) = typeFile-within c s n k r in
+      rw e (type-says s d n k (file-number i) b)
+  both-says (repeated l es r v e) = rw e (type-says s d 25 (firstRepeated es) (inr (inr (inr (omega arith)))) (typeFile-repeated c s es r))
   both-says (ambiguous l es r v k p q f e) = rw e (inl (refl, first-in s c f r, inl (omega arith)), λ h. absurd (h refl), refl)
   both-says (unsettled es n k r e) =
       let (i, b) = document-within c s es (r .decisions) d n k (r .reading) in
@@ -70,7 +77,7 @@ module _ {c : Settings} {s d : List ℕ} {room : ℕ} {a : Answer} where
   both-says (noRoom es ev r f e) = rw e (document-says s d 19 0 (inr (omega arith)) (omega arith))
 
   pub both-some : RefusesBoth c s d room a → a .number ≡ 0 → ⊥
-  both-some r h = ⊎-elim (λ i. ⊎-elim (λ j. omega arith) (λ j. omega arith) (i .2)) (λ i. ⊎-elim (λ j. omega arith) (λ j. omega arith) (i .2)) (both-says r .0)
+  both-some r h = ⊎-elim (λ i. type-some (i .2) h) (λ i. ⊎-elim (λ j. omega arith) (λ j. omega arith) (i .2)) (both-says r .0)
 
   -- Number 24, number 25, number 9, and number 19.
   both-twenty-four : RefusesBoth c s d room a → a .number ≡ 24 → isOffered c ≡ false
@@ -79,11 +86,10 @@ module _ {c : Settings} {s d : List ℕ} {room : ℕ} {a : Answer} where
   both-twenty-four (documentTooLong o l m e) h = absurd (omega (arith, rw e at h))
   both-twenty-four (typeNotAllowed o l m x e) h = absurd (omega (arith, rw e at h))
   both-twenty-four (documentNotAllowed l m x e) h = absurd (omega (arith, rw e at h))
-  both-twenty-four (malformed l n k r e) h = absurd (omega (arith, rw e at h, typeFile-within c s n k r))
+  both-twenty-four (malformed l n k r e) h = absurd (file-apart (typeFile-within c s n k r .0) .2 (omega (arith, rw e at h)))
   both-twenty-four (repeated l es r v e) h = absurd (omega (arith, rw e at h))
   both-twenty-four (ambiguous l es r v k p q f e) h = absurd (omega (arith, rw e at h))
-  both-twenty-four (unsettled es n k r e) h =
-      absurd (⊎-elim (λ j. omega (arith, rw e at h)) (λ j. omega (arith, rw e at h)) (document-within c s es (r .decisions) d n k (r .reading) .0))
+  both-twenty-four (unsettled es n k r e) h = absurd (document-apart (document-within c s es (r .decisions) d n k (r .reading) .0) .2 (omega (arith, rw e at h)))
   both-twenty-four (noRoom es ev r f e) h = absurd (omega (arith, rw e at h))
 
   both-twenty-five : RefusesBoth c s d room a → a .number ≡ 25 → BothLegible c s d × (es : List Element) × (typeFile c s ≡ got es) × (1 ≤ firstRepeated es) × (a .position ≡ firstRepeated es)
@@ -92,11 +98,10 @@ module _ {c : Settings} {s d : List ℕ} {room : ℕ} {a : Answer} where
   both-twenty-five (documentTooLong o l m e) h = absurd (omega (arith, rw e at h))
   both-twenty-five (typeNotAllowed o l m x e) h = absurd (omega (arith, rw e at h))
   both-twenty-five (documentNotAllowed l m x e) h = absurd (omega (arith, rw e at h))
-  both-twenty-five (malformed l n k r e) h = absurd (omega (arith, rw e at h, typeFile-within c s n k r))
+  both-twenty-five (malformed l n k r e) h = absurd (file-apart (typeFile-within c s n k r .0) .2 (omega (arith, rw e at h)))
   both-twenty-five (repeated l es r v e) h = (l, es, r, v, ap (λ (b : Answer). b .position) e)
   both-twenty-five (ambiguous l es r v k p q f e) h = absurd (omega (arith, rw e at h))
-  both-twenty-five (unsettled es n k r e) h =
-      absurd (⊎-elim (λ j. omega (arith, rw e at h)) (λ j. omega (arith, rw e at h)) (document-within c s es (r .decisions) d n k (r .reading) .0))
+  both-twenty-five (unsettled es n k r e) h = absurd (document-apart (document-within c s es (r .decisions) d n k (r .reading) .0) .2 (omega (arith, rw e at h)))
   both-twenty-five (noRoom es ev r f e) h = absurd (omega (arith, rw e at h))
 
   both-nine : RefusesBoth c s d room a → a .number ≡ 9 → BothLegible c s d × (es : List Element) × (typeFile c s ≡ got es) × (firstRepeated es ≡ 0) × FirstAmbiguous s (a .position) (a .first) (a .second) es
@@ -105,11 +110,10 @@ module _ {c : Settings} {s d : List ℕ} {room : ℕ} {a : Answer} where
   both-nine (documentTooLong o l m e) h = absurd (omega (arith, rw e at h))
   both-nine (typeNotAllowed o l m x e) h = absurd (omega (arith, rw e at h))
   both-nine (documentNotAllowed l m x e) h = absurd (omega (arith, rw e at h))
-  both-nine (malformed l n k r e) h = absurd (omega (arith, rw e at h, typeFile-within c s n k r))
+  both-nine (malformed l n k r e) h = absurd (file-apart (typeFile-within c s n k r .0) .0 (rw e at h))
   both-nine (repeated l es r v e) h = absurd (omega (arith, rw e at h))
   both-nine (ambiguous l es r v k p q f e) h = rw e (l, es, r, v, f)
-  both-nine (unsettled es n k r e) h =
-      absurd (⊎-elim (λ j. omega (arith, rw e at h)) (λ j. omega (arith, rw e at h)) (document-within c s es (r .decisions) d n k (r .reading) .0))
+  both-nine (unsettled es n k r e) h = absurd (document-apart (document-within c s es (r .decisions) d n k (r .reading) .0) .0 (rw e at h))
   both-nine (noRoom es ev r f e) h = absurd (omega (arith, rw e at h))
 
   both-nineteen : RefusesBoth c s d room a → a .number ≡ 19 → (es : List Element) × (ev : List Event) × Reads c s d es (got ev) × (room < eventWidth * length ev)
@@ -118,11 +122,10 @@ module _ {c : Settings} {s d : List ℕ} {room : ℕ} {a : Answer} where
   both-nineteen (documentTooLong o l m e) h = absurd (omega (arith, rw e at h))
   both-nineteen (typeNotAllowed o l m x e) h = absurd (omega (arith, rw e at h))
   both-nineteen (documentNotAllowed l m x e) h = absurd (omega (arith, rw e at h))
-  both-nineteen (malformed l n k r e) h = absurd (omega (arith, rw e at h, typeFile-within c s n k r))
+  both-nineteen (malformed l n k r e) h = absurd (file-apart (typeFile-within c s n k r .0) .1 (rw e at h))
   both-nineteen (repeated l es r v e) h = absurd (omega (arith, rw e at h))
   both-nineteen (ambiguous l es r v k p q f e) h = absurd (omega (arith, rw e at h))
-  both-nineteen (unsettled es n k r e) h =
-      absurd (⊎-elim (λ j. omega (arith, rw e at h)) (λ j. omega (arith, rw e at h)) (document-within c s es (r .decisions) d n k (r .reading) .0))
+  both-nineteen (unsettled es n k r e) h = absurd (document-apart (document-within c s es (r .decisions) d n k (r .reading) .0) .1 (rw e at h))
   both-nineteen (noRoom es ev r f e) h = (es, ev, r, f)
 
 -- What the judge refuses a type for, but for want of room, the reader refuses it for.

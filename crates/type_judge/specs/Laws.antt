@@ -20,15 +20,16 @@ use Rattle.type_judge.specs.declared.Verdict.{Verdict}
 use Rattle.type_judge.specs.declared.Verdict.the-variants.{Accepted, Malformed, Ambiguous}
 use Rattle.element_records.specs.Progress.{Pending, KeepsProgress, stepFault}
 use Rattle.element_records.specs.Clashes.{none-so-far}
+use Rattle.attribute_lists.specs.Means.{HeadedAs}
 use Rattle.type_file.specs.File.{MeetsFile}
 use Rattle.type_judge.specs.Means.{answerOf, Decides}
 
 -- The verdict on a type file that was refused, or read.
 module _ (c : Settings) (s : List ℕ) (room : ℕ) (legible : Legible c s) where
-  pub decides-malformed : (elements : List ℕ) (r : Step) → MeetsFile s elements r (typeFile c s) → (f g : Fault) → r ≡ Refused f → g ≡ stepFault r → Refuses c s room (refusal (g .number) (g .at) 0 0)
-  decides-malformed elements r m f g e q = rw (q, e) (by-reading (typeFile c s) refl (rw e at m))
+  pub decides-malformed : (elements heads : List ℕ) (r : Step) → MeetsFile c s elements heads r (typeFile c s) → (f g : Fault) → r ≡ Refused f → g ≡ stepFault r → Refuses c s room (refusal (g .number) (g .at) 0 0)
+  decides-malformed elements heads r m f g e q = rw (q, e) (by-reading (typeFile c s) refl (rw e at m))
     where
-      by-reading : (x : Reading (List Element)) → typeFile c s ≡ x → MeetsFile s elements (Refused f) x → Refuses c s room (refusal (f .number) (f .at) 0 0)
+      by-reading : (x : Reading (List Element)) → typeFile c s ≡ x → MeetsFile c s elements heads (Refused f) x → Refuses c s room (refusal (f .number) (f .at) 0 0)
       by-reading (refused n k) y h = malformed legible n k y (rw (h .0, h .1))
       by-reading (got es) y h = absurd h
 
@@ -45,29 +46,29 @@ module _ (c : Settings) (s : List ℕ) (room : ℕ) (legible : Legible c s) wher
       pub decides-full : (n : ℕ) → n ≡ length es → room < 6 * n → Refuses c s room (refusal 19 0 0 0)
       decides-full n e l = noRoom legible es y none (none-so-far s x es z h) (rw e at l) refl
 
-      pub decides-accepted : (elements : List ℕ) (p : Progress) → KeepsProgress s elements p es → 6 * p .count ≤ room → Decides c s room elements (Accepted (p .count))
-      decides-accepted elements p k l =
+      pub decides-accepted : (elements heads : List ℕ) (p : Progress) → KeepsProgress s elements p es → HeadedAs c s heads es → 6 * p .count ≤ room → Decides c s room elements heads (Accepted (p .count))
+      decides-accepted elements heads p k u l =
           let all : Accepts c s es = record { legible = legible; elements = y; unrepeated = none; unambiguous = none-so-far s x es z h } in
-          (es, all, k .counted, rw (k .counted) at l, k .room, k .recorded)
+          (es, all, k .counted, rw (k .counted) at l, k .room, k .recorded, u)
 
 -- What the lent buffer holds after the verdict.
-module _ (l : Lent) (c : Settings) (s before elements : List ℕ) (v : Verdict) (d : Decides c s (room l before) elements v) where
+module _ (l : Lent) (c : Settings) (s before elements heads : List ℕ) (v : Verdict) (d : Decides c s (room l before) elements heads v) where
   -- The records stand in the table, and fit the buffer.
   pub accepted-fits : (n : ℕ) → v ≡ Accepted n → (n ≤ 64) × (6 * n ≤ room l before) × (6 * n ≤ length elements)
   accepted-fits n e =
-      let (es, a, count, fits, few, w) = rw e at d in
+      let (es, a, count, fits, few, w, u) = rw e at d in
       let whole = ap length (take-append-drop (6 * length es) elements) in
       (omega arith, omega arith, omega (arith, length-append (take (6 * length es) elements) (drop (6 * length es) elements), ap length w, records-length es))
 
   pub judged-accepts : (n : ℕ) (after : List ℕ) → v ≡ Accepted n → after ≡ filledWith (standing l (take (6 * n) elements)) before → Judged l c s before (answerOf (Accepted n)) after
   judged-accepts n after e q =
-      let (es, a, count, fits, few, w) = rw e at d in
+      let (es, a, count, fits, few, w, u) = rw e at d in
       accepts es a fits (ap acceptance count) (rw (q, count, w))
 
   pub judged-refuses : (after : List ℕ) → ((n : ℕ) → v ≡ Accepted n → ⊥) → after ≡ zeroed before → Judged l c s before (answerOf v) after
   judged-refuses after other q = by-verdict v refl d
     where
-      by-verdict : (u : Verdict) → v ≡ u → Decides c s (room l before) elements u → Judged l c s before (answerOf v) after
+      by-verdict : (u : Verdict) → v ≡ u → Decides c s (room l before) elements heads u → Judged l c s before (answerOf v) after
       by-verdict (Accepted n) e h = absurd (other n e)
       by-verdict (Malformed f) e h = rw e (refuses h q)
       by-verdict (Ambiguous x) e h = rw e (refuses h q)

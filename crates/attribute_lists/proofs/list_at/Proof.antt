@@ -25,9 +25,7 @@ returns c =
     (λ es ls n r h. list-gap (settings (a .long)) (a .s .now) (a .at) es ls (reached-refused (c .before .before .before .gap-end .ensures) (c .before .enum-told .given .1) (c .fault-of .ensures)), tt)
 
 listed-at-requires : tie.Need-listed-at-requires
-listed-at-requires c κs =
-    let a = c .before .before .before .before .before .before .args in
-    omega (arith, c .before .before .before .before .before .before .pre, gap-range (a .s .now) (a .at) _ (c .before .before .before .before .before .before .pre .1) (reached-got (c .before .before .before .before .gap-end .ensures) (c .before .before .g .given .1)))
+listed-at-requires c κs = omega (arith, c .before .before .before .before .before .before .pre, gap-range (c .before .before .before .before .before .before .args .s .now) (c .before .before .before .before .before .before .args .at) _ (c .before .before .before .before .before .before .pre .1) (reached-got (c .before .before .before .before .gap-end .ensures) (c .before .before .g .given .1)))
 
 enum-known-l : tie.Need-enum-known-l
 enum-known-l c = search needs
@@ -49,9 +47,7 @@ returns-2 c =
 
 definitions-at-requires : tie.Need-definitions-at-requires
 definitions-at-requires c κs =
-    let a = c .before .before .before .before .before .before .before .before .before .before .before .args in
-    let w = listed-within (a .heads .now) (c .before .before .before .before .listed-at .ensures .1) (c .before .before .l .given .1) in
-    omega (arith, c .before .before .before .before .before .before .before .before .before .before .before .pre, w, gap-range (a .s .now) (a .at) _ (c .before .before .before .before .before .before .before .before .before .before .before .pre .1) (reached-got (c .before .before .before .before .before .before .before .before .before .gap-end .ensures) (c .before .before .before .before .before .before .before .g .given .1)))
+    omega (arith, c .before .before .before .before .before .before .before .before .before .before .before .pre, listed-within (c .before .before .before .before .before .before .before .before .before .before .before .args .heads .now) (c .before .before .before .before .listed-at .ensures .1) (c .before .before .l .given .1), gap-range (c .before .before .before .before .before .before .before .before .before .before .before .args .s .now) (c .before .before .before .before .before .before .before .before .before .before .before .args .at) _ (c .before .before .before .before .before .before .before .before .before .before .before .pre .1) (reached-got (c .before .before .before .before .before .before .before .before .before .gap-end .ensures) (c .before .before .before .before .before .before .before .g .given .1)))
 
 enum-known-r : tie.Need-enum-known-r
 enum-known-r c = search needs
@@ -75,24 +71,16 @@ whole-requires : tie.Need-whole-requires
 whole-requires c κs = search needs
 
 sub-h : tie.Need-sub-h
-sub-h c =
-    let w = listed-within (c .before .before .before .before .before .before .before .before .before .before .before .before .before .before .before .before .before .before .args .heads .now) (c .before .before .before .before .before .before .before .before .before .before .before .listed-at .ensures .1) (c .before .before .before .before .before .before .before .before .before .l .given .1) in
-    omega (arith, w)
+sub-h c = omega (arith, listed-within (c .before .before .before .before .before .before .before .before .before .before .before .before .before .before .before .before .before .before .args .heads .now) (c .before .before .before .before .before .before .before .before .before .before .before .listed-at .ensures .1) (c .before .before .before .before .before .before .before .before .before .l .given .1))
 
 cast-heads : tie.Need-cast-heads
-cast-heads c =
-    let w = listed-within (c .before .before .before .before .before .before .before .before .before .before .before .before .before .before .before .before .before .before .args .heads .now) (c .before .before .before .before .before .before .before .before .before .before .before .listed-at .ensures .1) (c .before .before .before .before .before .before .before .before .before .l .given .1) in
-    omega (arith, c .before .before .before .before .before .before .before .before .before .before .before .before .before .before .before .before .before .before .pre, w)
+cast-heads c = omega (arith, c .before .before .before .before .before .before .before .before .before .before .before .before .before .before .before .before .before .before .pre, listed-within (c .before .before .before .before .before .before .before .before .before .before .before .before .before .before .before .before .before .before .args .heads .now) (c .before .before .before .before .before .before .before .before .before .before .before .listed-at .ensures .1) (c .before .before .before .before .before .before .before .before .before .l .given .1))
 
 mul-heads : tie.Need-mul-heads
-mul-heads c =
-    let w = listed-within (c .before .before .before .before .before .before .before .before .before .before .before .before .before .before .before .before .before .before .args .heads .now) (c .before .before .before .before .before .before .before .before .before .before .before .listed-at .ensures .1) (c .before .before .before .before .before .before .before .before .before .l .given .1) in
-    omega (arith, c .before .before .before .before .before .before .before .before .before .before .before .before .before .before .before .before .before .before .pre, w)
+mul-heads c = omega (arith, c .before .before .before .before .before .before .before .before .before .before .before .before .before .before .before .before .before .before .pre, listed-within (c .before .before .before .before .before .before .before .before .before .before .before .before .before .before .before .before .before .before .args .heads .now) (c .before .before .before .before .before .before .before .before .before .before .before .listed-at .ensures .1) (c .before .before .before .before .before .before .before .before .before .l .given .1))
 
 element-write-heads : tie.Need-element-write-heads
-element-write-heads c =
-    let w = listed-within (c .before .before .before .before .before .before .before .before .before .before .before .before .before .before .before .before .before .before .args .heads .now) (c .before .before .before .before .before .before .before .before .before .before .before .listed-at .ensures .1) (c .before .before .before .before .before .before .before .before .before .l .given .1) in
-    omega (arith, c .before .before .before .before .before .before .before .before .before .before .before .before .before .before .before .before .before .before .pre, w)
+element-write-heads c = omega (arith, c .before .before .before .before .before .before .before .before .before .before .before .before .before .before .before .before .before .before .pre, listed-within (c .before .before .before .before .before .before .before .before .before .before .before .before .before .before .before .before .before .before .args .heads .now) (c .before .before .before .before .before .before .before .before .before .before .before .listed-at .ensures .1) (c .before .before .before .before .before .before .before .before .before .l .given .1))
 
 returns-4 : tie.Need-returns-4
 returns-4 c =

@@ -33,13 +33,13 @@ returns-3 c =
     notAllowed (offered (c .before .before .before)) (c .before .before .if2 .left) (rw e at (c .if3 .taken)) (rw e)
 
 -- Nothing but the type file's own faults is left.
-legible : (c : tie.After-decide-legible) → let a = c .before .before .before .before .before .before .before .before .args in Legible (settingsOf (a .c)) (a .s .now)
+legible : (c : tie.After-decide-legible) → let a = c .before .before .before .before .before .before .before .before .before .args in Legible (settingsOf (a .c)) (a .s .now)
 legible c =
-    let a = c .before .before .before .before .before .before .before .before .args in
-    legible-type (settingsOf (a .c)) (a .s .now) _ (offered (c .before .before .before .before .before)) (c .before .before .before .before .if2 .left) (c .before .before .before .allowed-end .ensures) (c .before .before .if3 .left)
+    let a = c .before .before .before .before .before .before .before .before .before .args in
+    legible-type (settingsOf (a .c)) (a .s .now) _ (offered (c .before .before .before .before .before .before)) (c .before .before .before .before .before .if2 .left) (c .before .before .before .before .allowed-end .ensures) (c .before .before .before .if3 .left)
 
 decide-legible-requires : tie.Need-decide-legible-requires
-decide-legible-requires c κs = omega arith
+decide-legible-requires c κs = (c .before .before .before .before .if2 .left, c .before .before .before .before .before .before .before .before .pre)
 
 returns-4 : tie.Need-returns-4
 returns-4 c = c .decide-legible .ensures (legible c)

@@ -6,6 +6,7 @@ use Rattle.rules.specs.Reading.{got}
 use Rattle.rules.specs.TypeFile.{Element, typeFile}
 use Rattle.inputs.specs.Means.{settingsOf}
 use Rattle.element_records.specs.Progress.{KeepsProgress}
+use Rattle.attribute_lists.specs.Means.{HeadedAs}
 use Rattle.type_file.specs.Turns.{file-kept}
 use Rattle.type_judge.specs.Laws.{decides-malformed, decides-repeated, decides-ambiguous, decides-full, decides-accepted}
 use borrow.Author.Needs.{needs}
@@ -14,13 +15,13 @@ use Rattle.type_judge.proofs.decide_legible.Tie as tie
 
 -- The elements that are kept where the type file was read.
 kept : (c : tie.After-r) →
-    let f = c .before .before in
-    let a = c .before .before .before .before .before .args in
-    (es : List Element) × (typeFile (settingsOf (a .c)) (a .s .now) ≡ got es) × KeepsProgress (a .s .now) (f .file-read .last .1 .1 .0) (c .r .given .0 .0) es
+    let f = c .before .before .file-read in
+    let a = c .before .before .before .before .before .before .args in
+    (es : List Element) × (typeFile (settingsOf (a .c)) (a .s .now) ≡ got es) × KeepsProgress (a .s .now) (f .last .1 .1 .0) (c .r .given .0 .0) es × HeadedAs (settingsOf (a .c)) (a .s .now) (f .last .1 .1 .1 .0) es
 kept c =
-    let f = c .before .before in
-    let a = c .before .before .before .before .before .args in
-    file-kept (settingsOf (a .c)) (a .s .now) (f .file-read .last .1 .1 .0) (f .file-read .result) (f .file-read .ensures) (c .r .given .0 .0) (c .r .given .1)
+    let f = c .before .before .file-read in
+    let a = c .before .before .before .before .before .before .args in
+    file-kept (settingsOf (a .c)) (a .s .now) (f .last .1 .1 .0) (f .last .1 .1 .1 .0) (f .result) (f .ensures) (c .r .given .0 .0) (c .r .given .1)
 
 file-read-requires : tie.Need-file-read-requires
 file-read-requires c κs = search needs
@@ -36,42 +37,42 @@ fault-of-requires c κs = search needs
 
 returns : tie.Need-returns
 returns c legible =
-    let a = c .before .before .before .before .before .before .args in
-    let f = c .before .before .before in
-    decides-malformed (settingsOf (a .c)) (a .s .now) (a .room) legible (f .file-read .last .1 .1 .0) (f .file-read .result) (f .file-read .ensures) _ _ (c .before .enum-told .given .1) (c .fault-of .ensures)
+    let a = c .before .before .before .before .before .before .before .args in
+    let f = c .before .before .before .file-read in
+    decides-malformed (settingsOf (a .c)) (a .s .now) (a .room) legible (f .last .1 .1 .0) (f .last .1 .1 .1 .0) (f .result) (f .ensures) _ _ (c .before .enum-told .given .1) (c .fault-of .ensures)
 
 mul-numbers : tie.Need-mul-numbers
 mul-numbers c =
-    let (es, y, k) = kept (c .before .before .before) in
+    let (es, y, k, u) = kept (c .before .before .before) in
     omega (arith, k .counted, k .room)
 
 returns-2 : tie.Need-returns-2
 returns-2 c legible =
-    let a = c .before .before .before .before .before .before .before .before .before .args in
-    let (es, y, k) = kept (c .before .before .before .before) in
+    let a = c .before .before .before .before .before .before .before .before .before .before .args in
+    let (es, y, k, u) = kept (c .before .before .before .before) in
     decides-repeated (settingsOf (a .c)) (a .s .now) (a .room) legible es y _ (k .repeated-at) (c .if1 .taken)
 
 returns-3 : tie.Need-returns-3
 returns-3 c legible =
-    let a = c .before .before .before .before .before .before .before .before .before .before .args in
-    let (es, y, k) = kept (c .before .before .before .before .before) in
+    let a = c .before .before .before .before .before .before .before .before .before .before .before .args in
+    let (es, y, k, u) = kept (c .before .before .before .before .before) in
     let none = sym (k .repeated-at) ∙ c .before .if1 .left in
     decides-ambiguous (settingsOf (a .c)) (a .s .now) (a .room) legible es y none _ (k .pending none) (c .if2 .taken)
 
 returns-4 : tie.Need-returns-4
 returns-4 c legible =
-    let a = c .before .before .before .before .before .before .before .before .before .before .before .args in
-    let (es, y, k) = kept (c .before .before .before .before .before .before) in
+    let a = c .before .before .before .before .before .before .before .before .before .before .before .before .args in
+    let (es, y, k, u) = kept (c .before .before .before .before .before .before) in
     let none = sym (k .repeated-at) ∙ c .before .before .if1 .left in
     decides-full (settingsOf (a .c)) (a .s .now) (a .room) legible es y none _ (k .pending none) (c .before .if2 .left) _ (k .counted) (c .if3 .taken)
 
 returns-5 : tie.Need-returns-5
 returns-5 c legible =
-    let a = c .before .before .before .before .before .before .before .before .before .before .before .args in
-    let f = c .before .before .before .before .before .before .before .before in
-    let (es, y, k) = kept (c .before .before .before .before .before .before) in
+    let a = c .before .before .before .before .before .before .before .before .before .before .before .before .args in
+    let f = c .before .before .before .before .before .before .before .before .file-read in
+    let (es, y, k, u) = kept (c .before .before .before .before .before .before) in
     let none = sym (k .repeated-at) ∙ c .before .before .if1 .left in
-    decides-accepted (settingsOf (a .c)) (a .s .now) (a .room) legible es y none _ (k .pending none) (c .before .if2 .left) (f .file-read .last .1 .1 .0) (c .before .before .before .before .before .before .r .given .0 .0) k (c .if3 .left)
+    decides-accepted (settingsOf (a .c)) (a .s .now) (a .room) legible es y none _ (k .pending none) (c .before .if2 .left) (f .last .1 .1 .0) (f .last .1 .1 .1 .0) (c .before .before .before .before .before .before .r .given .0 .0) k u (c .if3 .left)
 
 pub decide-legible-spec : {M : Type 1} → statement M
 decide-legible-spec =

@@ -12,13 +12,13 @@ use Rattle.type_judge.proofs.judge_to_bytes.Tie as tie
 
 -- The records fit the table and the buffer.
 fits : (c : tie.After-v) →
-    let b = c .before .before .before .before .before .before .args .buffer .now in
+    let b = c .before .before .before .before .before .before .before .args .buffer .now in
     let n = c .v .given .0 .0 in
     (n ≤ 64) × (6 * n ≤ room bytes b) × (6 * n ≤ length (c .before .before .decide .last .1 .1 .1 .0))
 fits c =
-    let a = c .before .before .before .before .before .before .args in
+    let a = c .before .before .before .before .before .before .before .args in
     let d = c .before .before .decide in
-    accepted-fits bytes (settingsOf (a .c)) (a .s .now) (a .buffer .now) (d .last .1 .1 .1 .0) (d .result) (d .ensures) (c .v .given .0 .0) (c .v .given .1)
+    accepted-fits bytes (settingsOf (a .c)) (a .s .now) (a .buffer .now) (d .last .1 .1 .1 .0) (d .last .1 .1 .1 .1 .0) (d .result) (d .ensures) (c .v .given .0 .0) (c .v .given .1)
 
 decide-requires : tie.Need-decide-requires
 decide-requires c κs = search needs
@@ -46,18 +46,18 @@ same-length c = search needs
 
 returns : tie.Need-returns
 returns c =
-    let a = c .before .before .before .before .before .before .before .before .before .before .before .before .before .args in
+    let a = c .before .before .before .before .before .before .before .before .before .before .before .before .before .before .args in
     let d = c .before .before .before .before .before .before .before .before .before .decide in
-    judged-accepts bytes (settingsOf (a .c)) (a .s .now) (a .buffer .now) (d .last .1 .1 .1 .0) (d .result) (d .ensures) _ _ (c .before .before .before .before .before .before .before .v .given .1) (c .before .before .put-bytes .ensures)
+    judged-accepts bytes (settingsOf (a .c)) (a .s .now) (a .buffer .now) (d .last .1 .1 .1 .0) (d .last .1 .1 .1 .1 .0) (d .result) (d .ensures) _ _ (c .before .before .before .before .before .before .before .v .given .1) (c .before .before .put-bytes .ensures)
 
 same-length-2 : tie.Need-same-length-2
 same-length-2 c = search needs
 
 returns-2 : tie.Need-returns-2
 returns-2 c =
-    let a = c .before .before .before .before .before .before .before .before .before .args in
+    let a = c .before .before .before .before .before .before .before .before .before .before .args in
     let d = c .before .before .before .before .before .decide in
-    judged-refuses bytes (settingsOf (a .c)) (a .s .now) (a .buffer .now) (d .last .1 .1 .1 .0) (d .result) (d .ensures) _
+    judged-refuses bytes (settingsOf (a .c)) (a .s .now) (a .buffer .now) (d .last .1 .1 .1 .0) (d .last .1 .1 .1 .1 .0) (d .result) (d .ensures) _
     (λ n e. ⊎-elim (λ z. omega arith) (λ z. omega arith) (rw e at (c .before .before .before .before .match .keys2))) (c .before .before .clear-bytes .ensures)
 
 pub judge-to-bytes-spec : {M : Type 1} → statement M
