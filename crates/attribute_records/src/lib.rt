@@ -9,111 +9,111 @@ use layout::RECORDS;
 use list_table::Row;
 use text::Fault;
 use type_judge::Verdict;
-ghost use Rattle.rules.specs.Lent.{numbers, bytes};
-ghost use Rattle.rules.specs.Listing.{Lists};
+ghost use mathlib.Core.Path.{_≡_};
+ghost use mathlib.Core.List.{List};
+ghost use Prim.Native.Nat.{ℕ, _+_, _-_, _*_, _≤_, _<_};
+ghost use lib.ListN.{length};
+ghost use Rattle.rules.specs.Lent.{numbers, bytes, bytesOf};
+ghost use Rattle.rules.specs.Settings.{settings};
+ghost use Rattle.rules.specs.Listing.{attributeWidth, Lists};
 ghost use Rattle.inputs.specs.Means.{settingsOf};
+ghost use Rattle.numbers.specs.Means.{written};
+ghost use Rattle.list_table.specs.Means.{Short};
 ghost use Rattle.type_judge.specs.Means.{answerOf};
-ghost use Rattle.attribute_records.specs.Means.{rowNumbers, Recorded};
+ghost use Rattle.attribute_records.specs.Means.{kindOf, detailOf, rowNumbers, Puts, PutsList, PutsLists, ListsUnder, Decides};
 
-// A number, the i-th of each buffer that holds it.
-fn put(numbers: &mut [u32], bytes: &mut [u8], i: usize, x: usize)
-    requires { ⌜ (i < 65536) × (x < 4294967296) ⌝ }
-    ensures { λ _. ⌜ Puts (now (numbers .entry)) (now (bytes .entry)) i x (now (numbers .exit)) (now (bytes .exit)) ⌝ }
+// Which kind x is, where those below m have their own number and all others are m.
+fn kind(x: usize, m: usize) -> u32
+    requires { ⌜ m < 65536 ⌝ }
+    ensures { λ r. ⌜ r ≡ kindOf m x ⌝ }
 {
-    let y = x as u32;
-    if i < numbers.len() {
-        numbers[i] = y;
+    if x < m { x as u32 } else { m as u32 }
+}
+
+// What goes with the kind m: y; with those below it goes 0.
+fn detail(x: usize, m: usize, y: usize) -> u32
+    requires { ⌜ y < 65536 ⌝ }
+    ensures { λ r. ⌜ r ≡ detailOf m x y ⌝ }
+{
+    if x < m { 0 } else { y as u32 }
+}
+
+// The nine numbers of the attribute a of the element e.
+fn row_numbers(e: usize, a: usize, r: Row) -> [u32; ATTRIBUTE_RECORD]
+    requires { ⌜ (e ≤ 64) × (a ≤ 40) × Short r ⌝ }
+    ensures { λ x. ⌜ x ≡ rowNumbers e a r ⌝ }
+{
+    [
+        e as u32,
+        a as u32,
+        r.name as u32,
+        r.size as u32,
+        kind(r.value, 3),
+        detail(r.value, 3, r.value),
+        kind(r.default, 2),
+        detail(r.default, 2, r.default),
+        detail(r.default, 2, r.length),
+    ]
+}
+
+// The numbers of a record from the i-th number of a buffer on, if they fit.
+fn note_numbers(buffer: &mut [u32], i: usize, row: &[u32])
+    requires { ⌜ (i < 65536) × (length (now row) ≡ attributeWidth) ⌝ }
+    ensures { λ _. ⌜ now (buffer .exit) ≡ written (now (buffer .entry)) i (now (row .entry)) ⌝ }
+{
+    if i + ATTRIBUTE_RECORD <= buffer.len() {
+        numbers::put_numbers(&mut buffer[i..], row, ATTRIBUTE_RECORD);
     }
-    if NUMBER * i + NUMBER <= bytes.len() {
-        numbers::put_number(bytes, NUMBER * i, y);
+}
+
+// The same as four bytes each, low byte first, from the i-th byte on.
+fn note_bytes(buffer: &mut [u8], i: usize, row: &[u32])
+    requires { ⌜ (i < 262144) × (length (now row) ≡ attributeWidth) ⌝ }
+    ensures { λ _. ⌜ now (buffer .exit) ≡ written (now (buffer .entry)) i (bytesOf (now (row .entry))) ⌝ }
+{
+    if i + NUMBER * ATTRIBUTE_RECORD <= buffer.len() {
+        numbers::put_bytes(&mut buffer[i..], row, ATTRIBUTE_RECORD);
     }
 }
 
-// Which declared value a row has: 0 CDATA, 1 NUMBER, 2 NAME, 3 a name token group.
-fn value_kind(r: Row) -> usize
-    ensures { λ k. ⌜ k ≡ valueKind r ⌝ }
-{
-    if r.value < 3 { r.value } else { 3 }
-}
-
-// Where the name token group of a row stands, or 0.
-fn group_of(r: Row) -> usize
-    ensures { λ k. ⌜ k ≡ groupAt r ⌝ }
-{
-    if r.value < 3 { 0 } else { r.value }
-}
-
-// Which default a row has: 0 `#REQUIRED`, 1 `#IMPLIED`, 2 a literal.
-fn default_kind(r: Row) -> usize
-    ensures { λ k. ⌜ k ≡ defaultKind r ⌝ }
-{
-    if r.default < 2 { r.default } else { 2 }
-}
-
-// Where the value of a row's literal begins, or 0.
-fn default_of(r: Row) -> usize
-    ensures { λ k. ⌜ k ≡ defaultAt r ⌝ }
-{
-    if r.default < 2 { 0 } else { r.default }
-}
-
-// The nine numbers of the attribute a of the element e, behind n records.
+// The record of the attribute a of the element e, behind n records, to each buffer that it fits. What a buffer holds that is too small for all records is not decided.
 fn put_record(numbers: &mut [u32], bytes: &mut [u8], n: usize, e: usize, a: usize, r: Row)
-    requires { ⌜ (n < 2560) × (e ≤ 64) × (a ≤ 40) ⌝ }
-    ensures { λ _. ⌜ Records (now (numbers .entry)) (now (bytes .entry)) n (rowNumbers e a r) (now (numbers .exit)) (now (bytes .exit)) ⌝ }
+    requires { ⌜ (n < 2560) × (e ≤ 64) × (a ≤ 40) × Short r ⌝ }
+    ensures { λ _. ⌜ Puts (now (numbers .entry)) (now (bytes .entry)) n (rowNumbers e a r) (now (numbers .exit)) (now (bytes .exit)) ⌝ }
 {
+    let row = row_numbers(e, a, r);
     let i = ATTRIBUTE_RECORD * n;
-    put(numbers, bytes, i, e);
-    put(numbers, bytes, i + 1, a);
-    put(numbers, bytes, i + 2, r.name);
-    put(numbers, bytes, i + 3, r.size);
-    put(numbers, bytes, i + 4, value_kind(r));
-    put(numbers, bytes, i + 5, group_of(r));
-    put(numbers, bytes, i + 6, default_kind(r));
-    put(numbers, bytes, i + 7, default_of(r));
-    put(numbers, bytes, i + 8, r.length);
+    note_numbers(numbers, i, &row);
+    note_bytes(bytes, NUMBER * i, &row);
 }
 
-// How many attributes the first n elements have.
-fn total(lists: &[u16], n: usize) -> usize
-    requires { ⌜ n ≤ 64 ⌝ }
-    ensures { λ r. ⌜ ((c : Settings) (s : List ℕ) (es : List Element) → Lists c s es (now (lists .entry)) → length es ≡ n → r ≡ attributeCount es) × (r ≤ 40 * n) ⌝ }
+// The records of the attributes of the element e, behind n records; how many there are then.
+fn put_list(lists: &[u16], e: usize, n: usize, numbers: &mut [u32], bytes: &mut [u8]) -> usize
+    requires { ⌜ (1 ≤ e) × (e ≤ 64) × (n ≤ 2520) ⌝ }
+    ensures { λ r. ⌜ PutsList (now (lists .entry)) e (now (numbers .entry)) (now (bytes .entry)) n (now (numbers .exit)) (now (bytes .exit)) r × (r ≤ n + 40) ⌝ }
 {
-    let mut t = 0;
-    let mut k = 1;
-    while k <= n {
-        t += list_table::count(lists, ElementNo(k));
-        k += 1;
+    let count = list_table::count(lists, ElementNo(e));
+    let mut a = 0;
+    while a < count {
+        let r = list_table::attribute(lists, ElementNo(e), a);
+        put_record(numbers, bytes, n + a, e, a + 1, r);
+        a += 1;
     }
-    t
+    n + a
 }
 
-// The records of all attributes of the first n elements.
-fn put_records(lists: &[u16], n: usize, numbers: &mut [u32], bytes: &mut [u8])
+// The records of all attributes of the first n elements; how many there are.
+fn put_lists(lists: &[u16], n: usize, numbers: &mut [u32], bytes: &mut [u8]) -> usize
     requires { ⌜ n ≤ 64 ⌝ }
-    ensures { λ _. ⌜ ((c : Settings) (s : List ℕ) (es : List Element) → Lists c s es (now (lists .entry)) → length es ≡ n →
-        Records (now (numbers .entry)) (now (bytes .entry)) 0 (listNumbers 1 es) (now (numbers .exit)) (now (bytes .exit))) ⌝ }
+    ensures { λ r. ⌜ PutsLists (now (lists .entry)) n (now (numbers .entry)) (now (bytes .entry)) (now (numbers .exit)) (now (bytes .exit)) r × (r ≤ 2560) ⌝ }
 {
     let mut m = 0;
-    let mut k = 1;
-    while k <= n {
-        let e = ElementNo(k);
-        let count = list_table::count(lists, e);
-        let mut a = 0;
-        while a < count {
-            put_record(
-                numbers,
-                bytes,
-                m,
-                k,
-                a + 1,
-                list_table::attribute(lists, e, a),
-            );
-            m += 1;
-            a += 1;
-        }
+    let mut k = 0;
+    while k < n {
+        m = put_list(lists, k + 1, m, numbers, bytes);
         k += 1;
     }
+    m
 }
 
 // The attributes of a type whose n elements are recorded, where the buffers have room for so many numbers.
@@ -125,19 +125,23 @@ fn listed(
     room: usize,
     numbers: &mut [u32],
     bytes: &mut [u8],
-) -> Verdict {
+) -> Verdict
+    requires { ⌜ (n ≤ 64) × (length (now s) ≤ 32768) ⌝ }
+    ensures { λ r. ⌜ ListsUnder (settings long) (now (s .entry)) (now (heads .entry)) n room (now (numbers .entry)) (now (bytes .entry)) (now (numbers .exit)) (now (bytes .exit)) r ⌝ }
+{
     let mut lists = [0u16; LISTS];
     attribute_lists::fill(long, s, heads, n, &mut lists);
-    let t = total(&lists, n);
+    let t = put_lists(&lists, n, numbers, bytes);
     if room < ATTRIBUTE_RECORD * t {
         return Verdict::Malformed(Fault { number: 19, at: 0 });
     }
-    put_records(&lists, n, numbers, bytes);
     Verdict::Accepted(t)
 }
 
-// Judges the type, with room for all its elements, then lists its attributes; a refusal zeroes nothing yet.
-fn decide(c: Settings, s: &[u8], room: usize, numbers: &mut [u32], bytes: &mut [u8]) -> Verdict {
+// Judges the type, with room for all its elements, then lists its attributes; a refusal zeroes nothing yet, and what the buffers hold then is not decided.
+fn decide(c: Settings, s: &[u8], room: usize, numbers: &mut [u32], bytes: &mut [u8]) -> Verdict
+    ensures { λ r. ⌜ Decides (settingsOf c) (now (s .entry)) room (now (numbers .entry)) (now (bytes .entry)) (now (numbers .exit)) (now (bytes .exit)) r ⌝ }
+{
     let mut elements = [0u32; RECORDS];
     let mut heads = [0u16; ELEMENTS];
     let v = type_judge::decide(c, s, RECORDS, &mut elements, &mut heads);
@@ -151,6 +155,7 @@ fn decide(c: Settings, s: &[u8], room: usize, numbers: &mut [u32], bytes: &mut [
 pub fn list(c: Settings, s: &[u8], buffer: &mut [u32]) -> Verdict
     ensures { λ r. ⌜ Lists numbers (settingsOf c) (now (s .entry)) (now (buffer .entry)) (answerOf r) (now (buffer .exit)) ⌝ }
 {
+    // No bytes are lent, so that records go to the numbers alone.
     let mut none = [0u8; 0];
     let v = decide(c, s, buffer.len(), buffer, &mut none);
     if let Verdict::Accepted(_) = v {
@@ -164,6 +169,7 @@ pub fn list(c: Settings, s: &[u8], buffer: &mut [u32]) -> Verdict
 pub fn list_to_bytes(c: Settings, s: &[u8], buffer: &mut [u8]) -> Verdict
     ensures { λ r. ⌜ Lists bytes (settingsOf c) (now (s .entry)) (now (buffer .entry)) (answerOf r) (now (buffer .exit)) ⌝ }
 {
+    // No numbers are lent, so that records go to the bytes alone.
     let mut none = [0u32; 0];
     let v = decide(c, s, buffer.len() / NUMBER, &mut none, buffer);
     if let Verdict::Accepted(_) = v {

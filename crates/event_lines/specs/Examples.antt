@@ -3,10 +3,11 @@ use Prim.Native.Nat.{ℕ}
 use mathlib.Core.Path.{_≡_, refl}
 use mathlib.Core.List.{List, [], _∷_}
 use Rattle.rules.specs.Bytes.{fold}
+use Rattle.rules.specs.Attributes.{number, required, attributeAt}
 use Rattle.rules.specs.TypeFile.{Element, empty}
 use Rattle.rules.specs.Elements.{elementAt}
-use Rattle.rules.specs.Events.{Event}
-use Rattle.rules.specs.Printed.{decimalWithin, decimal, word, upper, line, eventLines, eventsText, inType, refusedText}
+use Rattle.rules.specs.Events.{Event, attributeWritten}
+use Rattle.rules.specs.Printed.{decimalWithin, decimal, word, upper, startsNext, line, eventLines, eventsText, inType, refusedText}
 
 decimals : (decimal 0 ≡ 48 ∷ []) × (decimal 10 ≡ 49 ∷ 48 ∷ []) × (decimal 65535 ≡ 54 ∷ 53 ∷ 53 ∷ 51 ∷ 53 ∷ [])
 unfolding decimal decimalWithin
@@ -30,6 +31,22 @@ lines : eventsText typeText (declared ∷ []) (written ∷ ended ∷ [])
     ≡ 101 ∷ 118 ∷ 101 ∷ 110 ∷ 116 ∷ 115 ∷ 32 ∷ 50 ∷ 10 ∷ 49 ∷ 32 ∷ 81 ∷ 84 ∷ 89 ∷ 32 ∷ 48 ∷ 32 ∷ 53 ∷ 10 ∷ 54 ∷ 32 ∷ 81 ∷ 84 ∷ 89 ∷ 32 ∷ 53 ∷ 32 ∷ 48 ∷ 10 ∷ []
 unfolding eventsText eventLines line word upper decimal decimalWithin elementAt fold
 lines = refl
+
+-- `Qty` with the attribute `Par`, and the events before `<Qty Par="40">`.
+abbrev textWith : List ℕ
+textWith = 81 ∷ 116 ∷ 121 ∷ 80 ∷ 97 ∷ 114 ∷ []
+
+abbrev declaredWith : Element
+declaredWith = record { at = 0; size = 3; start = 1; end = 1; content = empty; repeated = 0; attributes = record { at = 3; size = 3; value = number; default = required } ∷ [] }
+
+abbrev given : Event
+given = attributeWritten 1 10 2
+
+-- `events 2`, `7 PAR 10 2`, `1 QTY 0 5`.
+attribute-lines : eventsText textWith (declaredWith ∷ []) (given ∷ written ∷ [])
+    ≡ 101 ∷ 118 ∷ 101 ∷ 110 ∷ 116 ∷ 115 ∷ 32 ∷ 50 ∷ 10 ∷ 55 ∷ 32 ∷ 80 ∷ 65 ∷ 82 ∷ 32 ∷ 49 ∷ 48 ∷ 32 ∷ 50 ∷ 10 ∷ 49 ∷ 32 ∷ 81 ∷ 84 ∷ 89 ∷ 32 ∷ 48 ∷ 32 ∷ 53 ∷ 10 ∷ []
+unfolding eventsText eventLines startsNext attributeAt line word upper decimal decimalWithin elementAt fold
+attribute-lines = refl
 
 -- `refused 9 in type at 19`.
 refused : refusedText 9 inType 19

@@ -5,6 +5,9 @@ use Rattle.event_lines.specs.Laws.{puts-line}
 use Rattle.event_lines.proofs.put_event.Statement.{statement}
 use Rattle.event_lines.proofs.put_event.Tie as tie
 
+mul-i : tie.Need-mul-i
+mul-i c = search needs
+
 mul-put-short : tie.Need-mul-put-short
 mul-put-short c = search needs
 
@@ -14,17 +17,8 @@ element-copy-out-put-short c = search needs
 put-short-requires : tie.Need-put-short-requires
 put-short-requires c κs = search needs
 
-add-put-name : tie.Need-add-put-name
-add-put-name c = search needs
-
-mul-put-name : tie.Need-mul-put-name
-mul-put-name c = search needs
-
-element-copy-out-put-name : tie.Need-element-copy-out-put-name
-element-copy-out-put-name c = search needs
-
-put-name-requires : tie.Need-put-name-requires
-put-name-requires c κs = search needs
+put-named-requires : tie.Need-put-named-requires
+put-named-requires c κs = search needs
 
 add-put-short : tie.Need-add-put-short
 add-put-short c = search needs
@@ -55,20 +49,18 @@ same-length c = search needs
 
 returns : tie.Need-returns
 returns c =
-    let a = c .before .before .before .before .before .before .before .before .before .before .before .before .before .before .before .before .before .before .before .before .before .before .args in
-    (puts-line _ _ (a .numbers .now) (a .i) (c .before .before .before .before .before .before .before .before .before .before .before .before .before .before .before .before .before .put-short .ensures .0) (c .before .before .before .before .before .before .before .before .before .before .before .before .put-name .ensures .0) (c .before .before .before .before .before .before .before .put-short2 .ensures .0) (c .before .before .put-short3 .ensures .0), omega arith)
+    let a = c .before .before .before .before .before .before .before .before .before .before .before .before .before .before .before .before .before .before .before .before .before .args in
+    (puts-line _ _ _ _ (a .numbers .now) (a .k) (a .n) (c .before .before .before .before .before .before .before .before .before .before .before .before .before .before .before .before .put-short .ensures .0) (c .before .before .before .before .before .before .before .before .before .before .before .before .put-named .ensures .0) (c .before .before .before .before .before .before .before .put-short2 .ensures .0) (c .before .before .put-short3 .ensures .0), omega arith)
 
 pub put-event-spec : {M : Type 1} → statement M
 put-event-spec =
     tie.close
     (tie.spec
+    mul-i
     mul-put-short
     element-copy-out-put-short
     put-short-requires
-    add-put-name
-    mul-put-name
-    element-copy-out-put-name
-    put-name-requires
+    put-named-requires
     add-put-short
     mul-put-short-2
     element-copy-out-put-short-2

@@ -22,7 +22,7 @@ same-length c = search needs
 
 returns : tie.Need-returns
 returns c =
-    puts-events _ _ _ _ (c .before .before .before .before .before .before .before .before .before .before .put-bytes .ensures) (c .before .before .before .before .before .before .put-number .ensures .0) (c .before .before .put-lines .ensures)
+    puts-events _ _ _ _ _ _ (c .before .before .before .before .before .before .before .before .before .before .put-bytes .ensures) (c .before .before .before .before .before .before .put-number .ensures .0) (c .before .before .put-lines .ensures)
 
 pub put-events-spec : {M : Type 1} → statement M
 put-events-spec =

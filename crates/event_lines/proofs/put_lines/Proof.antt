@@ -6,22 +6,20 @@ use Rattle.event_lines.proofs.put_lines.Statement.{statement}
 use Rattle.event_lines.proofs.put_lines.Tie as tie
 
 abbrev Inv-loop : tie.InvT-loop
-Inv-loop out₀ at s elements numbers n end₀ i₀ out end i =
-    Lines out₀ at out end (linesLeft s elements numbers n i) (allLines s elements numbers n) × (end ≤ at + 72 * i) × (i ≤ n)
+Inv-loop out₀ at s elements attributes total numbers n end₀ i₀ out end i =
+    Lines out₀ at out end (linesLeft s elements attributes total numbers n i) (allLines s elements attributes total numbers n) × (end ≤ at + 72 * i) × (i ≤ n)
 
 abbrev μ-loop : tie.MeasureT-loop
-μ-loop out₀ at s elements numbers n end₀ i₀ out end i = n - i
+μ-loop out₀ at s elements attributes total numbers n end₀ i₀ out end i = n - i
 
 loop-holds : tie.Need-loop-holds Inv-loop μ-loop
-loop-holds c = (lines-start _ _ _ _ _ _ (omega arith), omega arith, omega arith)
-
-mul-put-event : tie.Need-mul-put-event Inv-loop μ-loop
-mul-put-event c = omega arith
+loop-holds c = (lines-start _ _ _ _ _ _ _ _ (omega arith), omega arith, omega arith)
 
 put-event-requires : tie.Need-put-event-requires Inv-loop μ-loop
 put-event-requires c κs =
     let long = c .before .before .loop .inv .0 .same in
-    (omega arith, c .before .before .before .before .before .pre .1, omega arith)
+    let given = c .before .before .before .before .before .pre in
+    (omega arith, given .1, omega arith, given .2, given .3, given .4)
 
 add-i : tie.Need-add-i Inv-loop μ-loop
 add-i c = omega arith
@@ -31,13 +29,13 @@ loop-less c = omega arith
 
 loop-again : tie.Need-loop-again Inv-loop μ-loop
 loop-again c =
-    (lines-turn _ _ _ _ (c .before .before .before .before .before .loop .inv .0) (omega arith) (c .before .before .put-event .ensures .0), omega arith, omega arith)
+    (lines-turn _ _ _ _ _ _ (c .before .before .before .before .before .loop .inv .0) (omega arith) (c .before .before .put-event .ensures .0), omega arith, omega arith)
 
 same-length : tie.Need-same-length Inv-loop μ-loop
 same-length c = c .before .loop .inv .0 .same
 
 returns : tie.Need-returns Inv-loop μ-loop
-returns c = lines-end _ _ _ _ (c .before .loop .inv .0) (omega arith)
+returns c = lines-end _ _ _ _ _ _ (c .before .loop .inv .0) (omega arith)
 
 pub put-lines-spec : {M : Type 1} → statement M
 put-lines-spec =
@@ -46,7 +44,6 @@ put-lines-spec =
     Inv-loop
     μ-loop
     loop-holds
-    mul-put-event
     put-event-requires
     add-i
     loop-less

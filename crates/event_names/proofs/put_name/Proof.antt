@@ -1,10 +1,10 @@
--- `event_lines::put_name` puts the name that the table of elements has for the number.
+-- `event_names::put_name` puts the name that the table of elements has for the number.
 use Prim.Native.Nat.{_-_}
 use native.Mathlib.Omega.{arith}
 use borrow.Author.Needs.{needs}
-use Rattle.event_lines.specs.Laws.{puts-name, puts-no-name, name-zero, name-by, name-none}
-use Rattle.event_lines.proofs.put_name.Statement.{statement}
-use Rattle.event_lines.proofs.put_name.Tie as tie
+use Rattle.event_names.specs.Laws.{puts-name, puts-no-name, name-zero, name-by, name-none}
+use Rattle.event_names.proofs.put_name.Statement.{statement}
+use Rattle.event_names.proofs.put_name.Tie as tie
 
 put-byte-requires : tie.Need-put-byte-requires
 put-byte-requires c κs = search needs

@@ -1,0 +1,56 @@
+-- `decide` meets its contract: the judge refuses, or what it accepts is listed.
+use native.Mathlib.Omega.{arith}
+use mathlib.Core.Path.{subst}
+use mathlib.Core.Logic.{⊎-elim}
+use Rattle.inputs.specs.Means.{settingsOf}
+use Rattle.type_judge.specs.Means.{Decides}
+use Rattle.type_judge.specs.declared.Verdict.the-variants.{Accepted}
+use Rattle.attribute_records.specs.Decided.{decided-refused, decided-listed}
+use borrow.Author.Needs.{needs}
+use Rattle.attribute_records.proofs.decide.Statement.{statement}
+use Rattle.attribute_records.proofs.decide.Tie as tie
+
+decide-requires : tie.Need-decide-requires
+decide-requires c κs = search needs
+
+enum-known-v : tie.Need-enum-known-v
+enum-known-v c = search needs
+
+-- The type is accepted.
+accepted : (c : tie.After-known-told) → let a = c .before .before .before .before .before .before .before .before .before .args in let d = c .before .before .before .decide in Decides (settingsOf (a .c)) (a .s .now) 384 (d .last .1 .1 .1 .0) (d .last .1 .1 .1 .1 .0) (Accepted (c .before .v .given .0 .0))
+accepted c = let a = c .before .before .before .before .before .before .before .before .before .args in let d = c .before .before .before .decide in subst (Decides (settingsOf (a .c)) (a .s .now) 384 (d .last .1 .1 .1 .0) (d .last .1 .1 .1 .1 .0)) (c .before .v .given .1) (d .ensures)
+
+returns : tie.Need-returns
+returns c =
+    let a = c .before .before .before .before .before .before .before .args in
+    let d = c .before .decide in
+    decided-refused (settingsOf (a .c)) (a .s .now) (d .last .1 .1 .1 .0) (d .last .1 .1 .1 .1 .0) (a .room) _ _ (d .result) (d .ensures) (λ n e. ⊎-elim (λ z. omega arith) (λ z. omega arith) (rw e at (c .match .keys2)))
+
+listed-requires : tie.Need-listed-requires
+listed-requires c κs =
+    let (es, a, count, fits, few, recorded, u) = accepted (c .before .before .before) in
+    (omega arith, omega (arith, a .legible .short))
+
+same-length : tie.Need-same-length
+same-length c = search needs
+
+same-length-2 : tie.Need-same-length-2
+same-length-2 c = search needs
+
+returns-2 : tie.Need-returns-2
+returns-2 c =
+    let a = c .before .before .before .before .before .before .before .before .before .before .before .before .before .before .before .before .before .args in
+    let d = c .before .before .before .before .before .before .before .before .before .before .before .decide in
+    decided-listed (settingsOf (a .c)) (a .s .now) (d .last .1 .1 .1 .0) (d .last .1 .1 .1 .1 .0) (a .room) _ _ _ _ _ (accepted (c .before .before .before .before .before .before .before .before)) (c .before .before .before .before .listed .result) (c .before .before .before .before .listed .ensures)
+
+pub decide-spec : {M : Type 1} → statement M
+decide-spec =
+    tie.close
+    (tie.spec
+    decide-requires
+    enum-known-v
+    returns
+    listed-requires
+    same-length
+    same-length-2
+    returns-2)

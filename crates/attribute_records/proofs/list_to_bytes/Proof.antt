@@ -1,0 +1,52 @@
+-- `list_to_bytes` meets its contract: what is listed stands in the buffer, and a refusal clears it.
+use native.Mathlib.Omega.{arith}
+use mathlib.Core.Logic.{⊎-elim}
+use Rattle.rules.specs.Lent.{bytes}
+use Rattle.inputs.specs.Means.{settingsOf}
+use Rattle.attribute_records.specs.Decided.{listed-accepts, listed-refuses, zeroed-kept}
+use borrow.Author.Needs.{needs}
+use Rattle.attribute_records.proofs.list_to_bytes.Statement.{statement}
+use Rattle.attribute_records.proofs.list_to_bytes.Tie as tie
+
+slice-aggregate-decide : tie.Need-slice-aggregate-decide
+slice-aggregate-decide c = search needs
+
+decide-requires : tie.Need-decide-requires
+decide-requires c κs = search needs
+
+enum-told : tie.Need-enum-told
+enum-told c = search needs
+
+same-length : tie.Need-same-length
+same-length c = search needs
+
+returns : tie.Need-returns
+returns c =
+    let a = c .before .before .before .before .before .before .before .before .before .before .args in
+    let d = c .before .before .before .before .before .decide in
+    listed-accepts bytes (settingsOf (a .c)) (a .s .now) _ _ _ _ (d .result) (d .ensures) _ (c .enum-told .given .1)
+
+clear-bytes-requires : tie.Need-clear-bytes-requires
+clear-bytes-requires c κs = search needs
+
+same-length-2 : tie.Need-same-length-2
+same-length-2 c = search needs
+
+returns-2 : tie.Need-returns-2
+returns-2 c =
+    let a = c .before .before .before .before .before .before .before .before .before .before .before .before .before .args in
+    let d = c .before .before .before .before .before .before .before .before .decide in
+    listed-refuses bytes (settingsOf (a .c)) (a .s .now) _ _ _ _ (d .result) (d .ensures) _ (λ n e. ⊎-elim (λ z. omega arith) (λ z. omega arith) (rw e at (c .before .before .before .before .match .keys2))) (zeroed-kept (a .buffer .now) (d .last .1 .1 .1 .1 .0) (d .kept .1 .1 .1 .1 .0) (c .before .before .clear-bytes .ensures))
+
+pub list-to-bytes-spec : {M : Type 1} → statement M
+list-to-bytes-spec =
+    tie.close
+    (tie.spec
+    slice-aggregate-decide
+    decide-requires
+    enum-told
+    same-length
+    returns
+    clear-bytes-requires
+    same-length-2
+    returns-2)

@@ -1,0 +1,60 @@
+-- `listed` meets its contract: the table is filled, the records are put, and the room is looked at.
+use native.Mathlib.Omega.{arith}
+use Rattle.rules.specs.Settings.{settings}
+use Rattle.attribute_records.specs.Decided.{listed-full, listed-put}
+use borrow.Author.Needs.{needs}
+use Rattle.attribute_records.proofs.listed.Statement.{statement}
+use Rattle.attribute_records.proofs.listed.Tie as tie
+
+slice-aggregate-fill : tie.Need-slice-aggregate-fill
+slice-aggregate-fill c = search needs
+
+fill-requires : tie.Need-fill-requires
+fill-requires c κs = search needs
+
+slice-aggregate-put-lists : tie.Need-slice-aggregate-put-lists
+slice-aggregate-put-lists c = search needs
+
+put-lists-requires : tie.Need-put-lists-requires
+put-lists-requires c κs = search needs
+
+mul-if1 : tie.Need-mul-if1
+mul-if1 c = search needs
+
+same-length : tie.Need-same-length
+same-length c = search needs
+
+same-length-2 : tie.Need-same-length-2
+same-length-2 c = search needs
+
+returns : tie.Need-returns
+returns c =
+    let a = c .before .before .before .before .before .before .before .before .before .before .before .before .before .before .before .args in
+    listed-full (settings (a .long)) (a .s .now) (a .heads .now) _ (a .n) (c .before .before .before .before .before .before .before .before .before .before .fill .ensures) _ _ _ _ (c .before .before .before .before .before .put-lists .ensures .0) (a .room) (omega arith)
+
+same-length-3 : tie.Need-same-length-3
+same-length-3 c = search needs
+
+same-length-4 : tie.Need-same-length-4
+same-length-4 c = search needs
+
+returns-2 : tie.Need-returns-2
+returns-2 c =
+    let a = c .before .before .before .before .before .before .before .before .before .before .before .before .before .before .before .args in
+    listed-put (settings (a .long)) (a .s .now) (a .heads .now) _ (a .n) (c .before .before .before .before .before .before .before .before .before .before .fill .ensures) _ _ _ _ (c .before .before .before .before .before .put-lists .ensures .0) (a .room) (omega arith)
+
+pub listed-spec : {M : Type 1} → statement M
+listed-spec =
+    tie.close
+    (tie.spec
+    slice-aggregate-fill
+    fill-requires
+    slice-aggregate-put-lists
+    put-lists-requires
+    mul-if1
+    same-length
+    same-length-2
+    returns
+    same-length-3
+    same-length-4
+    returns-2)
