@@ -2,14 +2,14 @@
 -- the rules of crates/rules. `JudgeKeeps` and `ReaderKeeps` say what the demands ask of an answer and of what the lent buffer holds
 -- after; the theorems on the calls, further below, say that each call of the source gives just that. That it ends and stays in its buffers is checked with its
 -- contract. Meets says the same of the routines of both calls for C.
-use Prim.Native.Nat.{ℕ, _*_, _<_, _≤_}
-use mathlib.Core.Path.{_≡_, _∙_}
+use Prim.Native.Nat.{ℕ, _-_, _*_, _<_, _≤_}
+use mathlib.Core.Path.{_≡_, sym, _∙_, ap}
 use mathlib.Core.Bool.{true, false}
 use mathlib.Core.Logic.{_↔_}
 use mathlib.Core.List.{List, [], _∷_, _++_}
 use lib.ListN.{length}
 use contract.Lifetimes.{Lfts}
-use denote.Ref.{now}
+use denote.Ref.{RefT, now}
 use denote.Triple.Clauses.{AtExit}
 use borrow.Fn.World.{ArgsD}
 use Rattle.rules.specs.Settings.{Settings, settings, isOffered}
@@ -21,14 +21,18 @@ use Rattle.rules.specs.Ambiguity.{Ambiguous, PairAtFault}
 use Rattle.rules.specs.TypeFile.{Place, Element, typeFile}
 use Rattle.rules.specs.Judge.{samePlace, Answer, refusal, firstRepeated, Legible, Refuses, Accepts, Judged}
 use Rattle.rules.specs.Events.{Event, eventWidth}
+use Rattle.rules.specs.Attributes.{needsTag}
+use Rattle.rules.specs.Elements.{elementAt}
+use Rattle.rules.specs.Given.{attributesBefore, withAttributes, valueBytes}
 use Rattle.rules.specs.Decisions.{Decisions}
-use Rattle.rules.specs.Settling.{State, nothingOpen, isComplete}
+use Rattle.rules.specs.Settling.{Open, State, nothingOpen, isComplete, inferable}
 use Rattle.rules.specs.Acts.{Acts, Deeds, IsStart, Took, Passes, Few}
 use Rattle.rules.specs.Reader.{BothLegible, Reads, RefusesBoth, ReadAs}
-use Rattle.rules.specs.Calls.{answerNumbers}
+use Rattle.rules.specs.Listing.{Lists}
+use Rattle.rules.specs.Calls.{answerNumbers, ListedNumbers}
 use Rattle.acts.specs.Readings.{passes-acts, document-acts}
 use Rattle.acts.specs.Deeds.{acts-deeds}
-use Rattle.place_laws.specs.Taken.{deeds-took}
+use Rattle.place_laws.specs.Stood.{stood}
 use Rattle.place_laws.specs.Pinned.{deeds-one}
 use Rattle.demands.specs.Words.{Refusal, Acceptance, ModelOf, SomeRepeated, SomeAmbiguous, NamesFirst, NamesDecide, ReaderRefusal, ReaderAcceptance, SameVerdict}
 use Rattle.answer_laws.specs.Reader.{given-one, reading-one}
@@ -47,8 +51,16 @@ use Rattle.document_reader.proofs.read as read-call
 use Rattle.document_reader.proofs.read.Reads as read-reads
 use Rattle.document_reader.proofs.read_to_bytes as read-bytes
 use Rattle.document_reader.proofs.read_to_bytes.Reads as read-bytes-reads
+use Rattle.attribute_values.proofs.value as value-call
+use Rattle.attribute_values.proofs.value.Reads as value-reads
 use Rattle.sgml.proofs.sgml_judge as c-judge
 use Rattle.sgml.proofs.sgml_judge.Reads as c-judge-reads
+use Rattle.attribute_records.proofs.list as list-call
+use Rattle.attribute_records.proofs.list.Reads as list-reads
+use Rattle.attribute_records.proofs.list_to_bytes as list-bytes
+use Rattle.attribute_records.proofs.list_to_bytes.Reads as list-bytes-reads
+use Rattle.sgml.proofs.sgml_attributes as c-attributes
+use Rattle.sgml.proofs.sgml_attributes.Reads as c-attributes-reads
 use Rattle.sgml.proofs.sgml_read as c-read
 use Rattle.sgml.proofs.sgml_read.Reads as c-read-reads
 
@@ -152,7 +164,10 @@ pub asks-nothing :
     × ((κs : Lfts 2) (a : ArgsD judge-bytes.signature κs) → judge-bytes-reads.Asked κs a)
     × ((κs : Lfts 3) (a : ArgsD read-call.signature κs) → read-reads.Asked κs a)
     × ((κs : Lfts 3) (a : ArgsD read-bytes.signature κs) → read-bytes-reads.Asked κs a)
-asks-nothing = (λ κs a. tt, λ κs a. tt, λ κs a. tt, λ κs a. tt, λ κs a. tt, λ κs a. tt)
+    × ((κs : Lfts 3) (a : ArgsD c-attributes.signature κs) → c-attributes-reads.Asked κs a)
+    × ((κs : Lfts 2) (a : ArgsD list-call.signature κs) → list-reads.Asked κs a)
+    × ((κs : Lfts 2) (a : ArgsD list-bytes.signature κs) → list-bytes-reads.Asked κs a)
+asks-nothing = (λ κs a. tt, λ κs a. tt, λ κs a. tt, λ κs a. tt, λ κs a. tt, λ κs a. tt, λ κs a. tt, λ κs a. tt, λ κs a. tt)
 
 -- What C gets of `sgml_judge`: the number that is returned and the six numbers are those of one answer, and with what the lent bytes hold then it
 -- keeps the demands.
@@ -201,6 +216,20 @@ pub read-to-bytes : (κs : Lfts 3) (a : ArgsD read-bytes.signature κs) (r : rea
     → ReaderKeeps Lent.bytes (settingsOf (a .0)) (now (a .1 .0)) (now (a .1 .1 .0)) (now (a .1 .1 .1 .0)) (means.answerOf r) (now (e .1 .1 .1 .0))
 read-to-bytes κs a r e (as-read, fits) = reader-keeps Lent.bytes _ _ _ _ _ _ as-read
 
+-- The attributes of a type, for a caller who gets their events by number (paper 02, request one): the number that is returned and the six numbers are those of one answer,
+-- which refuses as the judge does, or gives nine numbers for each attribute, in the order of the elements and of their lists (`Lists` of the rules).
+pub sgml-attributes : (κs : Lfts 3) (a : ArgsD c-attributes.signature κs) (r : ℕ) (e : AtExit c-attributes.ended κs) → c-attributes-reads.Learnt κs a r e
+    → ListedNumbers (settings (a .1 .1 .1 .0)) (now (a .0)) (now (a .1 .0)) r (now (e .1 .1 .0)) (now (e .1 .0))
+sgml-attributes κs a r e listed = listed
+
+pub list : (κs : Lfts 2) (a : ArgsD list-call.signature κs) (r : Verdict) (e : AtExit list-call.ended κs) → list-reads.Learnt κs a r e
+    → Lists Lent.numbers (settingsOf (a .0)) (now (a .1 .0)) (now (a .1 .1 .0)) (verdict.answerOf r) (now (e .1 .1 .0))
+list κs a r e listed = listed
+
+pub list-to-bytes : (κs : Lfts 2) (a : ArgsD list-bytes.signature κs) (r : Verdict) (e : AtExit list-bytes.ended κs) → list-bytes-reads.Learnt κs a r e
+    → Lists Lent.bytes (settingsOf (a .0)) (now (a .1 .0)) (now (a .1 .1 .0)) (verdict.answerOf r) (now (e .1 .1 .0))
+list-to-bytes κs a r e listed = listed
+
 -- The rules have an answer to every call, and only one, with what the buffer holds after: so they are total, whatever the code does.
 pub judged-exists : (l : Lent) (c : Settings) (s before : List ℕ) → (a : Answer) × (after : List ℕ) × Judged l c s before a after
 judged-exists = judged-some
@@ -227,24 +256,26 @@ few-open c s d es r x at z = passes-acts s es (x .decisions) d
 
 -- So it is in every state that acts pass up to the last one of a document that is read to its end, the ends that are inferred at the document's end among
 -- them: there nothing is open any more.
-pub few-open-read : (c : Settings) (s d : List ℕ) (es : List Element) (ev : List Event) (x : Reads c s d es (got ev)) → (z : State) × Acts s es (x .decisions) Few nothingOpen z × (z .around ≡ []) × (z .events ≡ ev)
+pub few-open-read : (c : Settings) (s d : List ℕ) (es : List Element) (ev : List Event) (x : Reads c s d es (got ev)) → (z : State) × Acts s es (x .decisions) Few nothingOpen z × (z .around ≡ []) × (withAttributes c s es d (z .events) ≡ ev)
 few-open-read c s d es ev x =
-    let over = document-acts s es (x .decisions) d c ev (x .reading) in
-    (over .last, over .acts, over .nothing, over .events)
+    let a = document-acts s es (x .decisions) d c ev (x .reading) in
+    let over = a .over in
+    (over .last, over .acts, over .nothing, ap (withAttributes c s es d) (over .events) ∙ sym (a .given))
 
 -- Paper 02, request seven: "Start events get a fifth number: the place they took in their parent's model, 0 for the document element; all other events
 -- carry 0 there", "under an accepted type no other place was possible for its name". Of each event e of a document that is read, with the events `before` it:
--- where it is a start, these lead, by what each did (`Deeds` of the rules), to the state z, in whose current element, the parent, it took its place (`Took`).
+-- where it is a start, these lead, by what each did (`Deeds` of the rules), to the state z, in whose current element, the parent, it took its place (`Took`). Between
+-- stand the events of its own attributes: "before a start event come attribute events" (request one).
 pub places-taken : (c : Settings) (s d : List ℕ) (es : List Element) (ev : List Event) (x : Reads c s d es (got ev)) (before : List Event) (e : Event) (after : List Event) → ev ≡ before ++ e ∷ after
-    → (IsStart e → (z : State) × Deeds s es (x .decisions) z × (z .events ≡ before) × Took s es (z .current) e) × ((IsStart e → ⊥) → e .place ≡ 0)
+    → (IsStart e → (z : State) × Deeds s es (x .decisions) z × (withAttributes c s es d (z .events) ++ attributesBefore c s es d e ≡ before) × Took s es (z .current) e) × ((IsStart e → ⊥) → e .place ≡ 0)
 places-taken c s d es ev x before e after parts =
-    let over = document-acts s es (x .decisions) d c ev (x .reading) in
-    deeds-took s es (x .accepted) (x .decisions) (x .means) (acts-deeds s es (x .decisions) Deeds.nothing (over .acts)) before e after (over .events ∙ parts)
+    let a = document-acts s es (x .decisions) d c ev (x .reading) in
+    kept.told-among c s es (x .accepted) (x .decisions) (x .means) d (acts-deeds s es (x .decisions) Deeds.nothing (a .over .acts)) before e (stood c s es d _ before e after (ap (withAttributes c s es d) (a .over .events) ∙ sym (a .given) ∙ parts))
 
 -- So it is of the events that a call writes: those of `ReaderAcceptance`, which every accepted call gives.
 pub places-written : (l : Lent) (c : Settings) (s d lent : List ℕ) (a : Answer) (left : List ℕ) (w : ReaderAcceptance l c s d lent a left) (before : List Event) (e : Event) (after : List Event)
     → w .events ≡ before ++ e ∷ after
-    → (IsStart e → (z : State) × Deeds s (w .elements) (w .read .decisions) z × (z .events ≡ before) × Took s (w .elements) (z .current) e) × ((IsStart e → ⊥) → e .place ≡ 0)
+    → (IsStart e → (z : State) × Deeds s (w .elements) (w .read .decisions) z × (withAttributes c s (w .elements) d (z .events) ++ attributesBefore c s (w .elements) d e ≡ before) × Took s (w .elements) (z .current) e) × ((IsStart e → ⊥) → e .place ≡ 0)
 places-written l c s d lent a left w = places-taken c s d (w .elements) (w .events) (w .read)
 
 -- There is no other such state: what the same events did is one state.
@@ -253,10 +284,22 @@ state-before s es D z y = deeds-one s es D
 
 -- All that a document does to the open elements, event by event: a start took a place and opened its element, an end closed a complete one, data fitted. At
 -- the end nothing is open, and the document element was there.
-pub events-did : (c : Settings) (s d : List ℕ) (es : List Element) (ev : List Event) (x : Reads c s d es (got ev)) → (z : State) × Deeds s es (x .decisions) z × (z .around ≡ []) × (isComplete s es (x .decisions) (z .current) ≡ true) × (z .events ≡ ev)
+pub events-did : (c : Settings) (s d : List ℕ) (es : List Element) (ev : List Event) (x : Reads c s d es (got ev)) → (z : State) × Deeds s es (x .decisions) z × (z .around ≡ []) × (isComplete s es (x .decisions) (z .current) ≡ true) × (withAttributes c s es d (z .events) ≡ ev)
 events-did c s d es ev x =
-    let over = document-acts s es (x .decisions) d c ev (x .reading) in
-    (over .last, acts-deeds s es (x .decisions) Deeds.nothing (over .acts), over .nothing, over .complete, over .events)
+    let a = document-acts s es (x .decisions) d c ev (x .reading) in
+    let over = a .over in
+    (over .last, acts-deeds s es (x .decisions) Deeds.nothing (over .acts), over .nothing, over .complete, ap (withAttributes c s es d) (over .events) ∙ sym (a .given))
+
+-- Paper 02, request one: "An element with a required attribute never has its start inferred": whatever start is inferred in an open element, by whatever decisions,
+-- is of an element without one.
+pub required-never-inferred : (s : List ℕ) (es : List Element) (D : Decisions) (o : Open) → 1 ≤ inferable s es D o → needsTag (elementAt es (inferable s es D o - 1) .attributes) ≡ false
+required-never-inferred = kept.required-never-inferred
+
+-- "The value without quotes, handed to the caller, is a part of the document if written and a part of the type file if defaulted" (`valueBytes` of the rules): what
+-- `value` returns for the offset and length of an attribute event, which are those of the literal without its quotes (`attributeEvent` of the rules).
+pub value-given : (κs : Lfts 1) (a : ArgsD value-call.signature κs) (r : RefT (List ℕ)) (e : AtExit value-call.ended κs) → value-reads.Learnt κs a r e
+    → now r ≡ valueBytes (now (a .0)) (now (a .1 .0)) (a .1 .1 .0) (record { at = a .1 .1 .1 .0; size = a .1 .1 .1 .1 .0 })
+value-given κs a r e given = given
 
 -- Demand 3 by pairs at fault: a model is ambiguous exactly if it has one; of a model that was read, both its places are places of the model.
 pub pair-exactly : (s : List ℕ) (g : Group) (ps : List Place) → Ambiguous (samePlace s ps) g ↔ ((p : ℕ) × (q : ℕ) × PairAtFault (samePlace s ps) g p q)

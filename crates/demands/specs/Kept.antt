@@ -1,11 +1,13 @@
 -- The demands proved, one theorem each: Demands has them together, to be read first.
-use Prim.Native.Nat.{ℕ, _*_, _<_, _≤_}
-use mathlib.Core.Path.{_≡_, refl, sym}
-use mathlib.Core.Bool.{false}
-use mathlib.Core.Logic.{_↔_}
-use mathlib.Core.List.{List}
+use Prim.Native.Nat.{ℕ, _-_, _*_, _<_, _≤_}
+use mathlib.Core.Path.{_≡_, refl, sym, _∙_, ap}
+use mathlib.Core.Bool.{Bool, true, false, _&&_}
+use mathlib.Core.Logic.{_↔_, ⊎-elim}
+use mathlib.Core.List.{List, _++_}
 use native.Mathlib.Omega.{arith}
 use lib.ListN.{length}
+use lib.Dec.{eqb, leb}
+use borrow.Author.Tests.{not-true}
 use Rattle.rules.specs.Settings.{Settings, isOffered}
 use Rattle.rules.specs.Bytes.{byteAt, AND}
 use Rattle.rules.specs.Lent.{Lent, room}
@@ -15,12 +17,21 @@ use Rattle.rules.specs.Ambiguity.{Ambiguous, PairAtFault}
 use Rattle.rules.specs.TypeFile.{Place, Element, typeFile}
 use Rattle.rules.specs.Judge.{samePlace, Answer, refusal, firstRepeated, Legible, Refuses, noRoom, Accepts, Judged, refuses, accepts}
 use Rattle.rules.specs.Events.{Event, eventWidth}
+use Rattle.rules.specs.Attributes.{needsTag}
+use Rattle.rules.specs.Elements.{elementAt, contentOf, hasModel, startO}
+use Rattle.rules.specs.Given.{attributesBefore, withAttributes}
+use Rattle.rules.specs.Decisions.{Decisions, Means}
+use Rattle.rules.specs.Settling.{Open, State, elementOf, requiredPlace, inferable}
+use Rattle.rules.specs.Acts.{Deeds, IsStart, Took}
 use Rattle.rules.specs.Reader.{BothLegible, Reads, RefusesBoth, ReadAs}
 use Rattle.demands.specs.Words.{Refusal, Acceptance, ModelOf, SomeRepeated, SomeAmbiguous, NamesFirst, NamesDecide, ReaderRefusal, ReaderAcceptance, SameVerdict}
 use Rattle.answer_laws.specs.Judge.{settled-one, settled-refuses, settled-accepts, settled-fair, settled-faulty, refuses-named, refuses-some, settled-twenty-four, settled-twenty-five, settled-repeated, settled-nine, settled-nineteen, first-model, model-exactly, not-ambiguous, names-alone, settled-length}
 use Rattle.demands.specs.Models.{pair-in, names-first, some-repeated, repeated-some, unrepeated-none, none-repeated}
 use Rattle.document_laws.specs.Laws.{same-elements}
+use Rattle.model_sets.specs.Bits.{and-left, and-right}
 use Rattle.type_laws.specs.Members.{typeFile-ampersand}
+use Rattle.place_laws.specs.Taken.{deeds-took}
+use Rattle.place_laws.specs.Stood.{OfAttribute, Stood, added, there}
 use Rattle.answer_laws.specs.Reader.{given-one, both-says, both-some, given-twenty-four, given-twenty-five, given-repeated, given-nine, given-nineteen, type-refused, given-refuses, given-accepts, given-faulty, given-fair, given-length}
 
 -- The type judge
@@ -206,3 +217,34 @@ module _ (l m : Lent) (c : Settings) (s d before other : List ℕ) (a b : Answer
 
   pub same-verdict : BothLegible c s d → SameVerdict a b
   same-verdict i = record { ambiguous = (λ h. rw (same-answer i (omega arith) (λ z. omega arith)) at h, same-nine i); same = same-answer i }
+
+-- Events
+
+-- Of each event of a document: a start took its place behind all that the events before did, and the events of its own attributes stand between; all others have no place.
+pub told-among : (c : Settings) (s : List ℕ) (es : List Element) {given : Settings} → Accepts given s es → (D : Decisions) → Means s es D → (d : List ℕ) {y : State} → Deeds s es D y → (before : List Event) (e : Event) → Stood c s es d (y .events) before e
+    → (IsStart e → (z : State) × Deeds s es D z × (withAttributes c s es d (z .events) ++ attributesBefore c s es d e ≡ before) × Took s es (z .current) e) × ((IsStart e → ⊥) → e .place ≡ 0)
+told-among c s es accepted D means d deeds before e (added o) = (λ k. absurd (no-start e o k), λ k. o .place)
+  where
+    no-start : (e : Event) → OfAttribute e → IsStart e → ⊥
+    no-start e o k = ⊎-elim (λ i. ⊎-elim (λ j. omega (arith, i, j)) (λ j. omega (arith, i, j)) k) (λ i. ⊎-elim (λ j. omega (arith, i, j)) (λ j. omega (arith, i, j)) k) (o .kind)
+told-among c s es accepted D means d deeds before e (there first last i j) =
+    let (took, other) = deeds-took s es accepted D means deeds first e last i in
+    (λ k. let (z, did, are, t) = took k in (z, did, ap (λ (v : List Event). withAttributes c s es d v ++ attributesBefore c s es d e) are ∙ sym j, t), other)
+
+-- Paper 02, request one: no start of an element with a required attribute is inferred.
+pub required-never-inferred : (s : List ℕ) (es : List Element) (D : Decisions) (o : Open) → 1 ≤ inferable s es D o → needsTag (elementAt es (inferable s es D o - 1) .attributes) ≡ false
+unfolding inferable
+required-never-inferred s es D o some = go test refl some
+  where
+    p : ℕ
+    p = requiredPlace s es D o
+
+    k : ℕ
+    k = elementOf s es o p
+
+    test : Bool
+    test = leb 1 p && (leb 1 k && (startO es k && hasModel (contentOf es k)))
+
+    go : (b : Bool) → test ≡ b → 1 ≤ elim b [ true ↦ k | false ↦ 0 ] → needsTag (elementAt es (elim b [ true ↦ k | false ↦ 0 ] - 1) .attributes) ≡ false
+    go true e l = not-true _ (and-right (eqb (elementAt es (k - 1) .start) 1) _ (and-left (startO es k) _ (and-right (leb 1 k) _ (and-right (leb 1 p) _ e))))
+    go false e l = absurd (omega arith)

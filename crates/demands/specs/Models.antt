@@ -15,7 +15,7 @@ use Rattle.rules.specs.Judge.{placeAt, samePlace, Answer, Unambiguous, AllUnamb
 use Rattle.rules_laws.specs.In.{All, none, more, all-snoc, all-mem}
 use Rattle.rules_laws.specs.Holds.{got-so}
 use Rattle.rules_laws.specs.Groups.{Built, GuardedIn, content-read}
-use Rattle.rules_laws.specs.Declarations.{Declares, typeFile-holds}
+use Rattle.rules_laws.specs.Declarations.{Declares, bares, typeFile-holds}
 use Rattle.model_sets.specs.Sets.{size, Numbered}
 use Rattle.and_laws.specs.Base.{mem-left, mem-right, mem-head}
 use Rattle.and_laws.specs.Sets.{walk-in}
@@ -31,12 +31,18 @@ use Rattle.answer_laws.specs.Judge.{stands-model, model-exactly, not-ambiguous}
 abbrev pub PlacesCounted : Element → Type 0
 PlacesCounted e = Built Counted (e .content)
 
+-- Attributes take nothing from a content.
+counted-whole : (es : List Element) → All PlacesCounted (bares es) → All PlacesCounted es
+unfolding bares
+counted-whole [] none = none
+counted-whole (e ∷ es) (more h a) = more h (counted-whole es a)
+
 module _ (c : Settings) (s : List ℕ) where
   counted-more : (es : List Element) (e : Element) → All PlacesCounted es → Declares c s es e → All PlacesCounted (es ++ e ∷ [])
   counted-more es e a d = all-snoc a (got-so (content-read c s counted-builds (d .before) (d .begun)) (d .contentRead) .built)
 
   pub typeFile-counted : (es : List Element) → typeFile c s ≡ got es → All PlacesCounted es
-  typeFile-counted es e = got-so (typeFile-holds c s (All PlacesCounted) counted-more none) e .1
+  typeFile-counted es e = counted-whole es (got-so (typeFile-holds c s (All PlacesCounted) counted-more none) e .1)
 
   model-counted : (es : List Element) → typeFile c s ≡ got es → (g : Group) (ps : List Place) → ModelOf es g ps → Counted [] g ps
   model-counted es r g ps (e, n, m, b) = subst (Built Counted) b (all-mem (typeFile-counted es r) m)

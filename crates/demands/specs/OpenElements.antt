@@ -20,6 +20,7 @@ use Rattle.rules.specs.Judge.{Accepts}
 use Rattle.rules.specs.Elements.{contentOf, hasModel}
 use Rattle.rules.specs.Decisions.{Token, pcdata, Decisions, Means}
 use Rattle.rules.specs.Events.{endWritten, endInferred, Event, withData}
+use Rattle.rules.specs.Given.{withAttributes}
 use Rattle.rules.specs.Settling.{State, nothingOpen, takePlace, enter, fitting, isComplete, requiredPlace, inferable, takeToken, startElement, takeData, endElement}
 use Rattle.rules.specs.Settling as rules
 use Rattle.rules.specs.Acts.{Declared, Act, MarksMean, Passes, Few}
@@ -28,6 +29,7 @@ use Rattle.document_laws.specs.Decide.{decided}
 use Rattle.document_laws.specs.Moves.{fits, required}
 use Rattle.turn_laws.specs.Turns.{Reaches}
 use Rattle.type_tables.specs.Means.{Tables}
+use Rattle.layout.specs.declared.ElementNo.{ElementNo}
 use Rattle.layout.specs.declared.Place as typed
 use Rattle.open_elements.specs.declared.Open.{Open}
 use Rattle.open_elements.specs.declared.Outcome.{Outcome}
@@ -56,7 +58,14 @@ use Rattle.ways.proofs.is_over.Reads as is-over-reads
 use Rattle.ways.proofs.opens as opens
 use Rattle.ways.proofs.opens.Reads as opens-reads
 use Rattle.inferring.specs.declared.Stop.{Stop}
-use Rattle.inferring.specs.Inferring.{Stops, inferOne, Infers, InfersStart}
+use Rattle.attribute_events.specs.Means.{PutsDefaults, PutsWritten}
+use Rattle.attribute_events.proofs.put_defaults as put-defaults
+use Rattle.attribute_events.proofs.put_defaults.Reads as put-defaults-reads
+use Rattle.attribute_events.proofs.put_written as put-written
+use Rattle.attribute_events.proofs.put_written.Reads as put-written-reads
+use Rattle.inferring.specs.Inferring.{Stops, inferOne, Infers, Chooses, InfersStart}
+use Rattle.inferring.proofs.next_start as next-start
+use Rattle.inferring.proofs.next_start.Reads as next-start-reads
 use Rattle.inferring.proofs.ends as step-ends
 use Rattle.inferring.proofs.ends.Reads as step-ends-reads
 use Rattle.inferring.proofs.infer_start as infer-start
@@ -234,7 +243,7 @@ module _ (c : Settings) (s d : List ℕ) (es : List Element) (rows places facts 
 
   -- All moments of a document that is read to its end, where nothing is open any more.
   pub every-moment-read : (ev : List Event) (x : Reads c s d es (got ev))
-      → (z : State) × Beside s es (x .decisions) rows M nothingOpen fresh bits z × (z .around ≡ []) × (isComplete s es (x .decisions) (z .current) ≡ true) × (z .events ≡ ev)
+      → (z : State) × Beside s es (x .decisions) rows M nothingOpen fresh bits z × (z .around ≡ []) × (isComplete s es (x .decisions) (z .current) ≡ true) × (withAttributes c s es d (z .events) ≡ ev)
   every-moment-read ev x = document-beside tables (x .decisions) (x .means) bits d c ev (x .reading)
 
   -- What the program has between tokens is what the acts lead to: `Ranged`, `Stands` and `Reaches` are what its loop keeps (`Going` of document_events).
@@ -244,8 +253,9 @@ module _ (c : Settings) (s d : List ℕ) (es : List Element) (rows places facts 
   between-tokens at o now z g h r = (r .passes, reaches-leads tables bits g h r)
 
 -- The steps of a start tag or of data, in order (`Steps` of settling/specs): what it says of each is the contract of the function that takes it. `is_over`
--- answers whether the document is over, `ends` infers ends, `infer_start` each of the starts, `placed` takes the place, `opens` answers whether the element
--- has a model, and `start` opens it (`start-few`, `start-moment`).
+-- answers whether the document is over, `ends` infers ends, `next_start` says whose start is inferred next, `put_defaults` puts the events of its attributes, `infer_start`
+-- infers it, `put_written` puts the events of the attributes of a tag, `placed` takes the place, `opens` answers whether the element has a model, and `start` opens it
+-- (`start-few`, `start-moment`).
 pub is-over-step : (κs : Lfts 0) (a : ArgsD is-over.signature κs) (r : Bool) (e : AtExit is-over.ended κs) → is-over-reads.Learnt κs a r e → r ≡ eqb (a .0 .element .0) 0 && a .0 .complete
 is-over-step κs a r e says = says
 
@@ -257,6 +267,17 @@ pub infer-start-step : (κs : Lfts 7) (a : ArgsD infer-start.signature κs) (r :
     → InfersStart (now (a .0)) (now (a .1 .0)) (now (a .1 .1 .0)) (now (a .1 .1 .1 .0)) (now (a .1 .1 .1 .1 .0)) (a .1 .1 .1 .1 .1 .1 .0) (a .1 .1 .1 .1 .1 .1 .1 .0) (a .1 .1 .1 .1 .1 .0) (now (a .1 .1 .1 .1 .1 .1 .1 .1 .0)) (now (a .1 .1 .1 .1 .1 .1 .1 .1 .1 .0)) r (now (e .1 .1 .1 .1 .0)) (now (e .1 .1 .1 .1 .1 .1 .1 .1 .0)) (now (e .1 .1 .1 .1 .1 .1 .1 .1 .1 .0))
 infer-start-step κs a r e infers = infers
 
+pub next-start-step : (κs : Lfts 2) (a : ArgsD next-start.signature κs) (r : ElementNo) (e : AtExit next-start.ended κs) → next-start-reads.Learnt κs a r e → Chooses (now (a .0)) (now (a .1 .0)) (a .1 .1 .0) (r .0)
+next-start-step κs a r e (chooses, few) = chooses
+
+pub put-defaults-step : (κs : Lfts 3) (a : ArgsD put-defaults.signature κs) (r : ℕ) (e : AtExit put-defaults.ended κs) → put-defaults-reads.Learnt κs a r e
+    → PutsDefaults (now (a .0)) (a .1 .0 .0) (a .1 .1 .0) (now (a .1 .1 .1 .0)) (now (a .1 .1 .1 .1 .0)) r (now (e .1 .1 .1 .0)) (now (e .1 .1 .1 .1 .0))
+put-defaults-step κs a r e puts = puts
+
+pub put-written-step : (κs : Lfts 4) (a : ArgsD put-written.signature κs) (r : ℕ) (e : AtExit put-written.ended κs) → put-written-reads.Learnt κs a r e
+    → PutsWritten (now (a .0)) (now (a .1 .0)) (a .1 .1 .0 .0) (a .1 .1 .1 .0) (now (a .1 .1 .1 .1 .0)) (now (a .1 .1 .1 .1 .1 .0)) r (now (e .1 .1 .1 .1 .0)) (now (e .1 .1 .1 .1 .1 .0))
+put-written-step κs a r e puts = puts
+
 pub placed-step : (κs : Lfts 7) (a : ArgsD place.signature κs) (r : Outcome) (e : AtExit place.ended κs) → place-reads.Learnt κs a r e
     → Placed (now (a .0)) (now (a .1 .0)) (now (a .1 .1 .0)) (now (a .1 .1 .1 .0)) (now (a .1 .1 .1 .1 .0)) (a .1 .1 .1 .1 .1 .1 .0) (a .1 .1 .1 .1 .1 .1 .1 .0 .0) (a .1 .1 .1 .1 .1 .1 .1 .1 .0) (a .1 .1 .1 .1 .1 .1 .1 .1 .1 .0) (a .1 .1 .1 .1 .1 .1 .1 .1 .1 .1 .0) (a .1 .1 .1 .1 .1 .0) (now (a .1 .1 .1 .1 .1 .1 .1 .1 .1 .1 .1 .0)) (now (a .1 .1 .1 .1 .1 .1 .1 .1 .1 .1 .1 .1 .0)) r (now (e .1 .1 .1 .1 .0)) (now (e .1 .1 .1 .1 .1 .1 .1 .1 .1 .1 .1 .0)) (now (e .1 .1 .1 .1 .1 .1 .1 .1 .1 .1 .1 .1 .0))
 placed-step κs a r e placed = placed
@@ -266,8 +287,8 @@ opens-step κs a r e says = says
 
 -- Within a start tag that is not refused: the ends that it infers, the starts that it infers, then itself, with a moment before and after each. x is the
 -- element, from `at` to `after`. What the steps give, one after the other, is what these acts lead to.
-module _ (s : List ℕ) (es : List Element) (rows places facts M : List ℕ) (tables : Tables s es rows places facts M) (x at after n : ℕ) (o : Open) (bits numbers bytes : List ℕ) (q : Open) (bits′ numbers′ bytes′ : List ℕ)
-    (steps : Steps rows places facts M x at after n o bits numbers bytes q bits′ numbers′ bytes′) where
+module _ (s : List ℕ) (es : List Element) (rows places facts M lists marks : List ℕ) (tables : Tables s es rows places facts M) (x at after n : ℕ) (o : Open) (bits numbers bytes : List ℕ) (q : Open) (bits′ numbers′ bytes′ : List ℕ)
+    (steps : Steps rows places facts M lists marks x at after n o bits numbers bytes q bits′ numbers′ bytes′) where
   pub within-start-tag : 1 ≤ x → x ≤ length es → (z : State) → Moment es M bits z o → (y : State) × (startElement s es (decided s es) x at after z ≡ got y) × Leads s es (decided s es) rows M z o bits y q bits′
   within-start-tag some most z m = steps-lead tables steps some most z m
 

@@ -16,10 +16,14 @@ use Rattle.rules.specs.Reader.{eventNumbers, Reads}
 
 -- The type judge
 
--- Demand 1: a refusal gives a number, which input and a byte position; 24 and 25 are paper 02's, requests six and twelve. "Input 1 is the type"; "the two places are 0 except under 9";
+-- The numbers of a type file: 10, 20 and 22 are of attribute lists, 24 and 25 are paper 02's, requests six and twelve.
+abbrev pub TypeNumber : ℕ → Type 0
+TypeNumber n = ((1 ≤ n) × (n ≤ 10)) ⊎ ((n ≡ 20) ⊎ ((n ≡ 22) ⊎ ((24 ≤ n) × (n ≤ 25))))
+
+-- Demand 1: a refusal gives a number, which input and a byte position. "Input 1 is the type"; "the two places are 0 except under 9";
 -- "on refusal the whole buffer is zero and the count is 0".
 pub record Refusal (s before : List ℕ) (a : Answer) (after : List ℕ) : Type 0 where
-  pub number : ((1 ≤ a .number) × (a .number ≤ 9)) ⊎ ((a .number ≡ 19) ⊎ ((24 ≤ a .number) × (a .number ≤ 25)))
+  pub number : (a .number ≡ 19) ⊎ TypeNumber (a .number)
   pub input : a .input ≡ 1
   pub position : a .position ≤ length s
   pub places : (a .number ≡ 9 → ⊥) → (a .first ≡ 0) × (a .second ≡ 0)
@@ -76,10 +80,10 @@ NamesDecide s es = (g : Group) (ps : List Place) → ModelOf es g ps → (u v : 
 
 -- "Input 1 is the type, 2 the document": each has its numbers, and the position stands in it.
 abbrev pub InType : (s : List ℕ) → Answer → Type 0
-InType s a = (a .input ≡ 1) × (a .position ≤ length s) × (((1 ≤ a .number) × (a .number ≤ 9)) ⊎ ((24 ≤ a .number) × (a .number ≤ 25)))
+InType s a = (a .input ≡ 1) × (a .position ≤ length s) × TypeNumber (a .number)
 
 abbrev pub InDocument : (d : List ℕ) → Answer → Type 0
-InDocument d a = (a .input ≡ 2) × (a .position ≤ length d) × (((1 ≤ a .number) × (a .number ≤ 5)) ⊎ ((10 ≤ a .number) × (a .number ≤ 19)))
+InDocument d a = (a .input ≡ 2) × (a .position ≤ length d) × (((1 ≤ a .number) × (a .number ≤ 5)) ⊎ ((10 ≤ a .number) × (a .number ≤ 22)))
 
 -- Demand 1, as for the judge.
 pub record ReaderRefusal (s d before : List ℕ) (a : Answer) (after : List ℕ) : Type 0 where
