@@ -29,8 +29,8 @@ pub record AtMoment (s : List ℕ) (es : List Element) (given : Settings) (d : L
   pub passes : (D : Decisions) → Means s es D → Passes given s es D d at state
   pub marks : MarksSay es o state
 
--- `Reaches` and `Stands` hold before the first token (`reaches-start`, `stands-fresh`), and by the contracts of `settling::token` and
--- `closing::end_tag` after each that is not refused: `Going` and `Turned` have both.
+-- `Reaches` and `Stands` hold before the first token (`reaches-start`, `stands-fresh`), and by the steps of a start tag or data (`Settles` of settling)
+-- and the contract of `closing::end_tag` after each that is not refused: `Going` and `Turned` have both.
 pub at-every-moment : {c : Settings} (s : List ℕ) (es : List Element) → Accepts c s es → {given : Settings} {d M begun : List ℕ} {at : ℕ} {o : Open} {z : State} → Stands es M begun o z → Reaches given s es d at z → AtMoment s es given d at o
 at-every-moment s es accepted {d = d} {z = z} h r =
     record {
