@@ -4,7 +4,7 @@ use inputs::Settings;
 use type_judge::Verdict;
 ghost use mathlib.Core.Path.{_≡_};
 ghost use Rattle.rules.specs.Settings.{settings};
-ghost use Rattle.rules.specs.Calls.{answerNumbers, JudgedNumbers, ReadNumbers};
+ghost use Rattle.rules.specs.Calls.{answerNumbers, JudgedNumbers, ReadNumbers, ListedNumbers};
 ghost use Rattle.inputs.specs.Means.{settingsOf};
 ghost use Rattle.type_judge.specs.Means.{answerOf};
 ghost use Rattle.document_reader.specs.Means as reader;
