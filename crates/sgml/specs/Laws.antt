@@ -7,9 +7,11 @@ use Rattle.rules.specs.Settings.{Settings}
 use Rattle.rules.specs.Lent.{Lent}
 use Rattle.rules.specs.TypeFile.{Content, empty, model, Element}
 use Rattle.rules.specs.Judge.{Answer, refusal, acceptance, PairStandsAt, FirstAmbiguous, here, later, Refuses, notOffered, tooLong, notAllowed, malformed, repeated, ambiguous, noRoom, Judged}
+use Rattle.rules.specs.Listing.{Lists}
 use Rattle.rules.specs.Reader.{RefusesBoth, ReadAs}
 use Rattle.rules_laws.specs.Within.{typeFile-within, typeFile-count}
 use Rattle.type_laws.specs.Members.{typeFile-repeated}
+use Rattle.type_laws.specs.Attributes.{typeFile-attributes, attributes-count}
 use Rattle.turn_laws.specs.Within.{document-within}
 use Rattle.document_reader.specs.declared.Answer as reader
 use Rattle.document_reader.specs.declared.Answer.the-variants as answer
@@ -59,6 +61,24 @@ pub verdict-fits : (l : Lent) (c : Settings) (s before after : List ℕ) (v : Ve
 verdict-fits l c s before after (Accepted n) h = let few = judged-count h in omega arith
 verdict-fits l c s before after (Malformed f) h = let i = judged-in h in omega arith
 verdict-fits l c s before after (Ambiguous x) h = tt
+
+-- The same for the list of attributes.
+listed-count : {l : Lent} {c : Settings} {s before after : List ℕ} {n : ℕ} → Lists l c s before (acceptance n) after → n ≤ 2560
+listed-count (Lists.refuses r z) = absurd (omega (arith, refuses-input r))
+listed-count (Lists.noRoom es w h e z) = absurd (omega (arith, ap (λ (a : Answer). a .input) e))
+listed-count {l} {c} {s} (Lists.accepts es w f e z) =
+    let all = attributes-count c s es (typeFile-attributes c s es (w .elements)) in
+    omega (arith, typeFile-count c s es (w .elements), ap (λ (a : Answer). a .count) e)
+
+listed-in : {l : Lent} {c : Settings} {s before after : List ℕ} {n k : ℕ} → Lists l c s before (refusal n k 0 0) after → k ≤ 32768
+listed-in {l} {c} {s} {n = n} {k} (Lists.refuses r z) = malformed-in c s _ n k r
+listed-in (Lists.noRoom es w h e z) = omega (arith, ap (λ (a : Answer). a .position) e)
+listed-in (Lists.accepts es w f e z) = absurd (omega (arith, ap (λ (a : Answer). a .input) e))
+
+pub listed-fits : (l : Lent) (c : Settings) (s before after : List ℕ) (v : Verdict) → Lists l c s before (answerOf v) after → VerdictFits v
+listed-fits l c s before after (Accepted n) h = let few = listed-count h in omega arith
+listed-fits l c s before after (Malformed f) h = let i = listed-in h in omega arith
+listed-fits l c s before after (Ambiguous x) h = tt
 
 -- The same for the reader: a refusal's position lies in its input, which is no longer than its limit, or is 0.
 position : {a b : Answer} → a ≡ b → a .position ≡ b .position

@@ -6,3 +6,4 @@ pub mod Width
 pub mod Pcdata
 pub mod Again
 pub mod Members
+pub mod Attributes
