@@ -45,30 +45,30 @@ module _ {c : Settings} (s d : List ℕ) (b : BothLegible c s d) where
   type-refused a (Refuses.ambiguous l es r v k p q f e) room = RefusesBoth.ambiguous b es r v k p q f e
   type-refused a (Refuses.noRoom l es r v u m e) room = absurd (omega (arith, typeFile-count c s es r))
 
-  module _ (elements : List ℕ) (v : Verdict) (verdict-is : Legible c s → Decides c s 384 elements v) where
-    h : Decides c s 384 elements v
+  module _ (elements heads : List ℕ) (v : Verdict) (verdict-is : Legible c s → Decides c s 384 elements heads v) where
+    h : Decides c s 384 elements heads v
     h = verdict-is (b .type)
 
-    pub judges-accepted : (n : ℕ) → v ≡ verdict.Accepted n → Judges c s d elements (answer.Accepted n)
+    pub judges-accepted : (n : ℕ) → v ≡ verdict.Accepted n → Judges c s d elements heads (answer.Accepted n)
     judges-accepted n e =
-        let (es, a, k, room, few, w) = rw e at h in
-        (es, b, a, k, w)
+        let (es, a, k, room, few, w, l) = rw e at h in
+        (b, (es, a, sym k, w, l))
 
-    pub judges-malformed : (f : Fault) → v ≡ verdict.Malformed f → Judges c s d elements (answer.InType f)
+    pub judges-malformed : (f : Fault) → v ≡ verdict.Malformed f → Judges c s d elements heads (answer.InType f)
     judges-malformed f e = type-refused _ (rw e at h)
 
-    pub judges-ambiguous : (x : Clash) → v ≡ verdict.Ambiguous x → Judges c s d elements (answer.Ambiguous x)
+    pub judges-ambiguous : (x : Clash) → v ≡ verdict.Ambiguous x → Judges c s d elements heads (answer.Ambiguous x)
     judges-ambiguous x e = type-refused _ (rw e at h)
 
 -- The document
 
 module _ (c : Settings) (s d numbers numbersAfter bytes bytesAfter : List ℕ) where
   -- Where the type is refused nothing is read.
-  pub answers-refused : (elements : List ℕ) (v : Answer) → Judges c s d elements v → ((n : ℕ) → v ≡ answer.Accepted n → ⊥) → Answers c s d numbers numbersAfter bytes bytesAfter v
-  answers-refused elements (answer.Accepted n) h other = absurd (other n refl)
-  answers-refused elements (answer.InType f) h other = h
-  answers-refused elements (answer.Ambiguous x) h other = h
-  answers-refused elements (answer.InDocument f) h other = h
+  pub answers-refused : (elements heads : List ℕ) (v : Answer) → Judges c s d elements heads v → ((n : ℕ) → v ≡ answer.Accepted n → ⊥) → Answers c s d numbers numbersAfter bytes bytesAfter v
+  answers-refused elements heads (answer.Accepted n) h other = absurd (other n refl)
+  answers-refused elements heads (answer.InType f) h other = h
+  answers-refused elements heads (answer.Ambiguous x) h other = h
+  answers-refused elements heads (answer.InDocument f) h other = h
 
   module _ (es : List Element) (b : BothLegible c s d) (a : Accepts c s es) (r : Counted) (h : EventsOf c s es d numbers numbersAfter bytes bytesAfter r) where
     pub answers-events : (n : ℕ) → r ≡ counted.Events n → Answers c s d numbers numbersAfter bytes bytesAfter (answer.Accepted n)

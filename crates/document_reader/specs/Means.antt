@@ -16,6 +16,10 @@ use Rattle.rules.specs.Reader.{documentRefusal, eventNumbers, BothLegible, Read
 use Rattle.numbers.specs.Means.{Written}
 use Rattle.inputs.specs.Means.{RefusesAlways}
 use Rattle.element_names.specs.Names.{Recorded}
+use Rattle.list_table.specs.Means.{Lists}
+use Rattle.attribute_lists.specs.Means.{HeadedAs}
+use Rattle.document_events.specs.declared.Counted.{Counted}
+use Rattle.document_events.specs.Means.{EventsOf}
 use Rattle.document_reader.specs.declared.Answer.{Answer}
 use Rattle.document_reader.specs.declared.Answer.the-variants as answer
 
@@ -33,13 +37,23 @@ CountFits (answer.InType f) = Unit {0}
 CountFits (answer.Ambiguous x) = Unit {0}
 CountFits (answer.InDocument f) = Unit {0}
 
--- Number 24 of the settings, numbers 1 and 2 of both inputs, and the type: accepted with elements that are recorded, or refused.
-abbrev pub Judges : Settings → (s d elements : List ℕ) → Answer → Type 0
-Judges c s d elements (answer.Accepted n) =
-    (es : List Element) × BothLegible c s d × Accepts c s es × (n ≡ length es) × Recorded elements es
-Judges c s d elements (answer.InType f) = RefusesAlways c s d (answerOf (answer.InType f))
-Judges c s d elements (answer.Ambiguous x) = RefusesAlways c s d (answerOf (answer.Ambiguous x))
-Judges c s d elements (answer.InDocument f) = RefusesAlways c s d (answerOf (answer.InDocument f))
+-- A type that is accepted under the settings c: its n elements are recorded, and have the attributes of the lists at these heads, or in this table.
+abbrev pub JudgedHeads : Settings → (s elements heads : List ℕ) (n : ℕ) → Type 0
+JudgedHeads c s elements heads n = (es : List Element) × Accepts c s es × (length es ≡ n) × Recorded elements es × HeadedAs c s heads es
+
+abbrev pub JudgedLists : Settings → (s elements lists : List ℕ) (n : ℕ) → Type 0
+JudgedLists c s elements lists n = (es : List Element) × Accepts c s es × (length es ≡ n) × Recorded elements es × Lists c s es lists
+
+-- Number 24 of the settings, numbers 1 and 2 of both inputs, and the type: accepted with its elements and their lists, or refused.
+abbrev pub Judges : Settings → (s d elements heads : List ℕ) → Answer → Type 0
+Judges c s d elements heads (answer.Accepted n) = BothLegible c s d × JudgedHeads c s elements heads n
+Judges c s d elements heads (answer.InType f) = RefusesAlways c s d (answerOf (answer.InType f))
+Judges c s d elements heads (answer.Ambiguous x) = RefusesAlways c s d (answerOf (answer.Ambiguous x))
+Judges c s d elements heads (answer.InDocument f) = RefusesAlways c s d (answerOf (answer.InDocument f))
+
+-- What the document comes to under the elements of the type that is accepted.
+abbrev pub Followed : Settings → (s d numbers numbersAfter bytes bytesAfter : List ℕ) → Counted → Type 0
+Followed c s d numbers numbersAfter bytes bytesAfter r = (es : List Element) × Accepts c s es × EventsOf c s es d numbers numbersAfter bytes bytesAfter r
 
 -- One of a list of numbers and a list of bytes: the one that is lent.
 abbrev pub lentOf : Lent → (numbers bytes : List ℕ) → List ℕ

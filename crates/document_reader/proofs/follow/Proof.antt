@@ -6,8 +6,8 @@ use Rattle.document_reader.proofs.follow.Tie as tie
 
 events-of-requires : tie.Need-events-of-requires
 events-of-requires c κs =
-    let pre = c .before .before .before .before .before .before .before .before .pre in
-    (classes-right, pre .0, pre .1)
+    let pre = c .before .before .before .before .before .before .before .before .before .pre in
+    (classes-right, pre .0, pre .1, pre .2)
 
 same-length : tie.Need-same-length
 same-length c = search needs

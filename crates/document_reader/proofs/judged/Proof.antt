@@ -39,7 +39,7 @@ enum-told : tie.Need-enum-told
 enum-told c = search needs
 
 decide-legible-requires : tie.Need-decide-legible-requires
-decide-legible-requires c κs = omega (arith, legible (c .before) .type .short)
+decide-legible-requires c κs = (omega (arith, legible (c .before .before) .type .short), c .before .before .before .before .before .before .before .pre)
 
 enum-known-v : tie.Need-enum-known-v
 enum-known-v c = search needs
@@ -53,17 +53,17 @@ enum-known-v-3 c = search needs
 returns-3 : tie.Need-returns-3
 returns-3 c =
     let w = c .before .before .before in
-    judges-accepted _ _ (legible (w .before .before)) (w .decide-legible .last .1 .1 .1 .0) (w .decide-legible .result) (w .decide-legible .ensures) _ (c .before .v .given .1)
+    judges-accepted _ _ (legible (w .before .before .before)) (w .decide-legible .last .1 .1 .1 .0) (w .decide-legible .last .1 .1 .1 .1 .0) (w .decide-legible .result) (w .decide-legible .ensures) _ (c .before .v .given .1)
 
 returns-4 : tie.Need-returns-4
 returns-4 c =
     let w = c .before .before .before in
-    judges-malformed _ _ (legible (w .before .before)) (w .decide-legible .last .1 .1 .1 .0) (w .decide-legible .result) (w .decide-legible .ensures) _ (c .before .v2 .given .1)
+    judges-malformed _ _ (legible (w .before .before .before)) (w .decide-legible .last .1 .1 .1 .0) (w .decide-legible .last .1 .1 .1 .1 .0) (w .decide-legible .result) (w .decide-legible .ensures) _ (c .before .v2 .given .1)
 
 returns-5 : tie.Need-returns-5
 returns-5 c =
     let w = c .before .before .before in
-    judges-ambiguous _ _ (legible (w .before .before)) (w .decide-legible .last .1 .1 .1 .0) (w .decide-legible .result) (w .decide-legible .ensures) _ (c .before .v3 .given .1)
+    judges-ambiguous _ _ (legible (w .before .before .before)) (w .decide-legible .last .1 .1 .1 .0) (w .decide-legible .last .1 .1 .1 .1 .0) (w .decide-legible .result) (w .decide-legible .ensures) _ (c .before .v3 .given .1)
 
 pub judged-spec : {M : Type 1} → statement M
 judged-spec =
