@@ -1,10 +1,12 @@
 -- The table of elements that the judge leaves, and the lines by the numbers of the buffers, as what the rules read.
 use Prim.Native.Nat.{ℕ, zero, suc, _+_, _-_, _*_, _≤_, _<_}
 use mathlib.Core.Path.{_≡_, refl, sym, ap, _∙_, subst}
+use mathlib.Core.Bool.{Bool, true, false, _||_}
 use mathlib.Core.List.{List, [], _∷_, _++_}
 use native.Mathlib.Omega.{arith}
 use native.Mathlib.Decide.{decLt}
-use lib.ListN.{length, take, drop, getD, replicate, length-replicate, getD-replicate, List·getD-eq-default}
+use lib.ListN.{length, drop, getD, replicate, length-replicate, getD-replicate, List·getD-eq-default}
+use lib.Dec.{eqb}
 use lib.Seq.{take-at, getD-append-add, getD-drop, drop-drop}
 use Rattle.rules.specs.Settings.{Settings}
 use Rattle.rules.specs.Lent.{numbers, filledWith}
@@ -19,8 +21,9 @@ use Rattle.element_reader.specs.Means.{Recorded}
 use Rattle.element_index.specs.Laws.{recorded-offset, recorded-size}
 use Rattle.type_laws.specs.Again.{typeFile-sizes}
 use Rattle.answer_laws.specs.Judge.{settled-one}
-use Rattle.rules.specs.Printed.{programSettings, nameText, line, eventLines, eventsText}
-use Rattle.event_lines.specs.Means.{Fits, nameIn, lineAt, linesFrom, textOf}
+use Rattle.rules.specs.Printed.{programSettings, nameText, startsNext, attributeText, eventText, line, eventLines, eventsText}
+use Rattle.event_names.specs.Means.{Fits, nameIn, startsWithin, attributeIn, namedAt}
+use Rattle.event_lines.specs.Means.{lineAt, linesFrom, textOf}
 
 zero-at : (n i : ℕ) → _≡_ {A = ℕ} (getD (replicate n 0) i 0) 0
 zero-at n i = by-place (decLt i n)
@@ -89,30 +92,56 @@ module _ (s : List ℕ) (es : List Element) (accepted : Accepts programSettings 
   names-are zero = refl
   names-are (suc k) = rw (at-is k, size-is k)
 
--- The lines by the numbers of the lent buffer are the lines of the events.
-module _ (s : List ℕ) (es : List Element) (elements : List ℕ) (names : (k : ℕ) → nameIn s elements k ≡ nameText s es k) (buffer rest : List ℕ) where
-  line-is : (e : Event) (ev : List Event) (i : ℕ) → drop (eventWidth * i) buffer ≡ eventNumbers (e ∷ ev) ++ rest
-      → lineAt s elements buffer (eventWidth * i) ≡ line (e .kind) (nameText s es (e .number)) (e .offset) (e .size)
-  unfolding eventNumbers lineAt
-  line-is e ev i q =
-      let number : (j : ℕ) → getD buffer (eventWidth * i + j) 0 ≡ getD (eventNumbers (e ∷ ev) ++ rest) j 0 = λ j. sym (getD-drop (eventWidth * i) buffer j 0) ∙ ap (λ (l : List ℕ). getD l j 0) q in
-      let first : eventWidth * i + 0 ≡ eventWidth * i = omega arith in
-      rw (rw first at (number 0), number 1, number 2, number 3, names (e .number))
+-- The element that starts next, and the lines, by the numbers of the lent buffer are those of the events.
+module _ (buffer rest : List ℕ) where
+  number-at : (e : Event) (ev : List Event) (i j : ℕ) → drop (eventWidth * i) buffer ≡ eventNumbers (e ∷ ev) ++ rest → getD buffer (eventWidth * i + j) 0 ≡ getD (eventNumbers (e ∷ ev) ++ rest) j 0
+  number-at e ev i j q = sym (getD-drop (eventWidth * i) buffer j 0) ∙ ap (λ (l : List ℕ). getD l j 0) q
 
-  lines-from : (ev : List Event) (i : ℕ) → drop (eventWidth * i) buffer ≡ eventNumbers ev ++ rest → linesFrom s elements buffer (length ev) i ≡ eventLines s es ev
-  unfolding eventNumbers linesFrom eventLines
-  lines-from [] i q = refl
-  lines-from (e ∷ ev) i q =
+  kind-at : (e : Event) (ev : List Event) (i : ℕ) → drop (eventWidth * i) buffer ≡ eventNumbers (e ∷ ev) ++ rest → getD buffer (eventWidth * i) 0 ≡ e .kind
+  unfolding eventNumbers
+  kind-at e ev i q = let first : eventWidth * i + 0 ≡ eventWidth * i = omega arith in rw first at (number-at e ev i 0 q)
+
+  next-at : (e : Event) (ev : List Event) (i : ℕ) → drop (eventWidth * i) buffer ≡ eventNumbers (e ∷ ev) ++ rest → drop (eventWidth * (i + 1)) buffer ≡ eventNumbers ev ++ rest
+  unfolding eventNumbers
+  next-at e ev i q =
       let next : eventWidth * (i + 1) ≡ eventWidth * i + eventWidth = omega arith in
-      let more : drop (eventWidth * (i + 1)) buffer ≡ eventNumbers ev ++ rest = rw (next, ← drop-drop eventWidth (eventWidth * i) buffer, q) in
-      rw (line-is e ev i q, lines-from ev (i + 1) more)
+      rw (next, ← drop-drop eventWidth (eventWidth * i) buffer, q)
 
-  pub lines-are : (ev : List Event) → buffer ≡ eventNumbers ev ++ rest → linesFrom s elements buffer (length ev) 0 ≡ eventLines s es ev
-  lines-are ev q = lines-from ev 0 q
+  starts-are : (ev : List Event) (i : ℕ) → drop (eventWidth * i) buffer ≡ eventNumbers ev ++ rest → startsWithin buffer (length ev) i ≡ startsNext ev
+  unfolding startsWithin startsNext eventNumbers
+  starts-are [] i q = refl
+  starts-are (e ∷ ev) i q = by-kind (eqb (e .kind) 1 || eqb (e .kind) 2) refl (starts-are ev (i + 1) (next-at e ev i q))
+    where
+      by-kind : (b : Bool) → (eqb (e .kind) 1 || eqb (e .kind) 2) ≡ b → startsWithin buffer (length ev) (i + 1) ≡ startsNext ev → startsWithin buffer (suc (length ev)) i ≡ startsNext (e ∷ ev)
+      by-kind true x ih = rw (startsWithin, startsNext, kind-at e ev i q, x) (number-at e ev i 1 q)
+      by-kind false x ih = rw (startsWithin, startsNext, kind-at e ev i q, x) ih
+
+  module _ (s : List ℕ) (es : List Element) (elements : List ℕ) (names : (k : ℕ) → nameIn s elements k ≡ nameText s es k)
+      (attributes : List ℕ) (total : ℕ) (named : (e a : ℕ) → attributeIn s attributes total e a ≡ attributeText s es e a) where
+    name-is : (e : Event) (ev : List Event) (i : ℕ) → drop (eventWidth * i) buffer ≡ eventNumbers (e ∷ ev) ++ rest → namedAt s elements attributes total buffer i (i + suc (length ev)) ≡ eventText s es e ev
+    unfolding namedAt eventNumbers
+    name-is e ev i q = by-kind (eqb (e .kind) 7 || eqb (e .kind) 8) refl
+      where
+        left : i + suc (length ev) - (i + 1) ≡ length ev
+        left = omega arith
+
+        by-kind : (b : Bool) → (eqb (e .kind) 7 || eqb (e .kind) 8) ≡ b → namedAt s elements attributes total buffer i (i + suc (length ev)) ≡ eventText s es e ev
+        by-kind true x = rw (namedAt, eventText, kind-at e ev i q, x, number-at e ev i 1 q, left, starts-are ev (i + 1) (next-at e ev i q)) (named (startsNext ev) (e .number))
+        by-kind false x = rw (namedAt, eventText, kind-at e ev i q, x, number-at e ev i 1 q) (names (e .number))
+
+    line-is : (e : Event) (ev : List Event) (i : ℕ) → drop (eventWidth * i) buffer ≡ eventNumbers (e ∷ ev) ++ rest
+        → lineAt s elements attributes total buffer i (i + suc (length ev)) ≡ line (e .kind) (eventText s es e ev) (e .offset) (e .size)
+    unfolding eventNumbers lineAt
+    line-is e ev i q = rw (kind-at e ev i q, name-is e ev i q, number-at e ev i 2 q, number-at e ev i 3 q)
+
+    pub lines-from : (ev : List Event) (i : ℕ) → drop (eventWidth * i) buffer ≡ eventNumbers ev ++ rest → linesFrom s elements attributes total buffer (length ev) i ≡ eventLines s es ev
+    unfolding eventNumbers linesFrom eventLines
+    lines-from [] i q = refl
+    lines-from (e ∷ ev) i q = rw (line-is e ev i q, lines-from ev (i + 1) (next-at e ev i q))
 
 -- The whole text of the events.
-pub text-is : {text : List ℕ} (s elements buffer : List ℕ) (n : ℕ) → text ≡ textOf s elements buffer n
-    → (es : List Element) (ev : List Event) (rest : List ℕ) → ((k : ℕ) → nameIn s elements k ≡ nameText s es k) → buffer ≡ eventNumbers ev ++ rest → n ≡ length ev
-    → text ≡ eventsText s es ev
+pub text-is : {text : List ℕ} (s elements attributes : List ℕ) (total : ℕ) (buffer : List ℕ) (n : ℕ) → text ≡ textOf s elements attributes total buffer n
+    → (es : List Element) (ev : List Event) (rest : List ℕ) → ((k : ℕ) → nameIn s elements k ≡ nameText s es k) → ((e a : ℕ) → attributeIn s attributes total e a ≡ attributeText s es e a)
+    → buffer ≡ eventNumbers ev ++ rest → n ≡ length ev → text ≡ eventsText s es ev
 unfolding textOf eventsText
-text-is s elements buffer n t es ev rest names q count = t ∙ rw (count, lines-are s es elements names buffer rest ev q)
+text-is s elements attributes total buffer n t es ev rest names named q count = t ∙ rw (count, lines-from buffer rest s es elements names attributes total named ev 0 q)

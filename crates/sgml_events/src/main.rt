@@ -25,7 +25,7 @@ fn given() -> Settings
 
 // How many attributes a type has that is accepted, and their records.
 fn listed(s: &[u8], attributes: &mut [u32; ATTRIBUTE_RECORDS]) -> usize
-    requires { ⌜ Accepted (now s) ⌝ }
+    requires { ⌜ Accepted (now s) × (length (now attributes) ≡ 23040) ⌝ }
     ensures { λ r. ⌜ ListedIn (now (s .entry)) (now (attributes .exit)) r ⌝ }
 {
     let v = attribute_records::list(given(), s, attributes);

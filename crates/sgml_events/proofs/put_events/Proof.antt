@@ -1,6 +1,8 @@
--- `sgml_events::put_events` puts the text of the events: the table of elements that the judge leaves has their names.
+-- `sgml_events::put_events` puts the text of the events: the table of elements that the judge leaves has their names, and that of attributes theirs.
+use Prim.Native.Nat.{ℕ}
 use mathlib.Core.Path.{refl}
 use native.Mathlib.Omega.{arith}
+use lib.ListN.{length-replicate}
 use borrow.Author.Needs.{needs}
 use Rattle.sgml_events.specs.Table.{judged-given, table-fits, names-are, text-is}
 use Rattle.file_reader.specs.Laws.{counts-of}
@@ -16,10 +18,14 @@ given-requires c κs = search needs
 judge-requires : tie.Need-judge-requires
 judge-requires c κs = search needs
 
+listed-requires : tie.Need-listed-requires
+listed-requires c κs = (c .before .before .before .before .before .before .before .pre .1, length-replicate {A = ℕ} 23040 0)
+
 put-events-requires : tie.Need-put-events-requires
 put-events-requires c κs =
-    let (es, accepted) = c .before .before .before .before .before .before .before .before .pre .1 in
-    (omega arith, table-fits _ es accepted _ _ _ refl (judged-given (c .before .before .before .before .before .given .ensures) (c .before .before .before .judge .ensures)), omega arith)
+    let (es, accepted) = c .before .before .before .before .before .before .before .before .before .before .before .pre .1 in
+    let listed = c .before .before .before .listed .ensures in
+    (omega arith, table-fits _ es accepted _ _ _ refl (judged-given (c .before .before .before .before .before .before .before .before .given .ensures) (c .before .before .before .before .before .before .judge .ensures)), omega arith, listed .few, listed .fits)
 
 same-length : tie.Need-same-length
 same-length c = search needs
@@ -27,9 +33,8 @@ same-length c = search needs
 returns : tie.Need-returns
 returns c =
     let said = c .before .before .put-events .ensures in
-    let j = c .before .before .before .before .before .before in
-    let judged = judged-given (j .before .before .given .ensures) (j .judge .ensures) in
-    (counts-of _ _ (said .0), λ es ev rest accepted q count. text-is _ _ _ _ (said .1) es ev rest (names-are _ es accepted _ _ _ refl judged) q count)
+    let judged = judged-given (c .before .before .before .before .before .before .before .before .before .before .before .given .ensures) (c .before .before .before .before .before .before .before .before .before .judge .ensures) in
+    (counts-of _ _ (said .0), λ es ev rest accepted q count. text-is _ _ _ _ _ _ (said .1) es ev rest (names-are _ es accepted _ _ _ refl judged) (c .before .before .before .before .before .before .listed .ensures .named es accepted) q count)
 
 pub put-events-spec : {M : Type 1} → statement M
-put-events-spec = tie.close (tie.spec given-requires slice-aggregate-judge judge-requires put-events-requires same-length returns)
+put-events-spec = tie.close (tie.spec given-requires slice-aggregate-judge judge-requires listed-requires put-events-requires same-length returns)
