@@ -254,8 +254,7 @@ module _ (c : Settings) (s d : List ℕ) (es : List Element) (rows places facts 
 
 -- The steps of a start tag or of data, in order (`Steps` of settling/specs): what it says of each is the contract of the function that takes it. `is_over`
 -- answers whether the document is over, `ends` infers ends, `next_start` says whose start is inferred next, `put_defaults` puts the events of its attributes, `infer_start`
--- infers it, `put_written` puts the events of the attributes of a tag, `placed` takes the place, `opens` answers whether the element has a model, and `start` opens it
--- (`start-few`, `start-moment`).
+-- infers it, `put_written` puts the events of the attributes of a tag, `placed` takes the place, `opens` answers whether the element has a model, and `start` opens it.
 pub is-over-step : (κs : Lfts 0) (a : ArgsD is-over.signature κs) (r : Bool) (e : AtExit is-over.ended κs) → is-over-reads.Learnt κs a r e → r ≡ eqb (a .0 .element .0) 0 && a .0 .complete
 is-over-step κs a r e says = says
 
@@ -284,6 +283,9 @@ placed-step κs a r e placed = placed
 
 pub opens-step : (κs : Lfts 1) (a : ArgsD opens.signature κs) (r : Bool) (e : AtExit opens.ended κs) → opens-reads.Learnt κs a r e → Opens (now (a .0)) (a .1 .0 .0) r
 opens-step κs a r e says = says
+
+pub start-step : (κs : Lfts 1) (a : ArgsD start.signature κs) (r : Open) (e : AtExit start.ended κs) → start-reads.Learnt κs a r e → r ≡ openedBy (now (a .1 .0)) (a .1 .1 .0 .0) true (a .0)
+start-step κs a r e made = made
 
 -- Within a start tag that is not refused: the ends that it infers, the starts that it infers, then itself, with a moment before and after each. x is the
 -- element, from `at` to `after`. What the steps give, one after the other, is what these acts lead to.
