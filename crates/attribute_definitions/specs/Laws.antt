@@ -240,7 +240,7 @@ default-within h q = rw q at h
 module _ (c : Settings) (s : List ℕ) (xs : List Attribute) (from i : ℕ) where
   pub definition-row : (seen : List ℕ) {e j x k f l d n z : ℕ} {ts : List Part} → i ≤ e → e ≤ length s → ts ≡ tokensOf xs → attributeName c s xs from i ≡ got e → gap s e ≡ got j
       → (v : ValueAs c s seen x k f ts (declaredValue c s ts j)) → gap s f ≡ got l → defaultValue c s (v .value) f l ≡ got (record { default = defaultIs d n; at = z })
-      → DefinedAs c s seen (record { name = i; size = e - i; value = x; default = d; length = n }) k z xs (definition c s xs from i)
+      → DefinedAs c s seen (record { name = i; size = e - i; value = x; default = d; width = n }) k z xs (definition c s xs from i)
   definition-row seen {e} {j} {x} {k} {f} {l} {d} {n} {z} {ts} lo hi p a g v h q =
       let y : Attribute = record { at = i; size = e - i; value = v .value; default = defaultIs d n } in
       let w : declaredValue c s (tokensOf xs) j ≡ got (record { value = v .value; at = f }) = ap (λ us. declaredValue c s us j) (sym p) ∙ v .read in

@@ -178,7 +178,7 @@ pub fn definition_at(
             size: e - i,
             value: value,
             default: default,
-            length: length,
+            width: length,
         },
         k,
         z,

@@ -53,9 +53,9 @@ module _ (lists : List ℕ) (e k at size n : ℕ) (numbers bytes : List ℕ) (so
   module _ (z : at ≡ 0) (row : Row) (o : row ≡ rowIn lists (201 * (e - 1) + 1 + 5 * k)) where
     -- What the rules have for it is what its default brings.
     defaulted : (c : Settings) (s : List ℕ) (xs : List Attribute) (ws : List Written) → ListAt c s lists (201 * (e - 1)) xs → k < length xs → MarkedWith at size ws
-        → attributeEvent (k + 1) (defaultIs (row .default) (row .length)) [] ≡ attributeEvent (k + 1) (attributeAt xs k .default) ws
+        → attributeEvent (k + 1) (defaultIs (row .default) (row .width)) [] ≡ attributeEvent (k + 1) (attributeAt xs k .default) ws
     defaulted c s xs ws l i m =
-        ap (λ (x : Row). attributeEvent (k + 1) (defaultIs (x .default) (x .length)) []) o ∙ ap (λ f. attributeEvent (k + 1) f []) (l .rows k i .default)
+        ap (λ (x : Row). attributeEvent (k + 1) (defaultIs (x .default) (x .width)) []) o ∙ ap (λ f. attributeEvent (k + 1) f []) (l .rows k i .default)
         ∙ sym (event-unwritten (k + 1) at size (attributeAt xs k .default) ws z m)
 
     pub one-none : row .default < 2 → PutsOne lists e k at size n numbers bytes n numbers bytes
@@ -63,16 +63,16 @@ module _ (lists : List ℕ) (e k at size n : ℕ) (numbers bytes : List ℕ) (so
         record {
           events = [];
           few = record { puts = puts-none numbers bytes n; counted = omega arith; few = omega arith; nothing = λ y. refl };
-          are = λ c s xs ws l i m. sym (event-none (k + 1) (row .default) (row .length) h) ∙ defaulted c s xs ws l i m;
+          are = λ c s xs ws l i m. sym (event-none (k + 1) (row .default) (row .width) h) ∙ defaulted c s xs ws l i m;
         }
 
-    pub one-defaulted : {r : ℕ} {numbers′ bytes′ : List ℕ} → 2 ≤ row .default → (r ≡ n + 1) × Puts numbers bytes n (noted 8 (k + 1) (row .default) (row .length) 0 ∷ []) numbers′ bytes′
+    pub one-defaulted : {r : ℕ} {numbers′ bytes′ : List ℕ} → 2 ≤ row .default → (r ≡ n + 1) × Puts numbers bytes n (noted 8 (k + 1) (row .default) (row .width) 0 ∷ []) numbers′ bytes′
         → PutsOne lists e k at size n numbers bytes r numbers′ bytes′
     one-defaulted h p =
         record {
-          events = noted 8 (k + 1) (row .default) (row .length) 0 ∷ [];
+          events = noted 8 (k + 1) (row .default) (row .width) 0 ∷ [];
           few = single p;
-          are = λ c s xs ws l i m. sym (event-default (k + 1) (row .default) (row .length) h) ∙ defaulted c s xs ws l i m;
+          are = λ c s xs ws l i m. sym (event-default (k + 1) (row .default) (row .width) h) ∙ defaulted c s xs ws l i m;
         }
 
 -- One attribute after the other

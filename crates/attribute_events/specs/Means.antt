@@ -34,7 +34,7 @@ pub record PutsDefaults (lists : List ℕ) (e n : ℕ) (numbers bytes : List ℕ
 -- The two marks of an attribute say that a tag gives it so: at 0 it is not written, since a value never begins there.
 abbrev pub MarkedWith : (at size : ℕ) → List Written → Type 0
 MarkedWith at size [] = at ≡ 0
-MarkedWith at size (w ∷ ws) = (at ≡ w .quote + 1) × (size ≡ w .length)
+MarkedWith at size (w ∷ ws) = (at ≡ w .quote + 1) × (size ≡ w .width)
 
 -- That of the attribute k of the element e, from 0, of which the marks are these two numbers.
 pub record PutsOne (lists : List ℕ) (e k at size n : ℕ) (numbers bytes : List ℕ) (r : ℕ) (numbers′ bytes′ : List ℕ) : Type 0 where

@@ -30,7 +30,7 @@ fn put_one(
     if r.default < 2 {
         return n;
     }
-    event_buffer::put_attribute(numbers, bytes, n, 8, a, r.default, r.length)
+    event_buffer::put_attribute(numbers, bytes, n, 8, a, r.default, r.width)
 }
 
 // Those before the start of the element e, of which a tag gives what the marks say.

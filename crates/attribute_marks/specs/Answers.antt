@@ -50,13 +50,13 @@ module _ (c : Settings) (s l : List ℕ) (b : ℕ) (d : List ℕ) (w : Written) 
           let g : isGivenIn d before w ≡ false = given ∙ mark-none marks (n - 1) (givenFor s (attributeAt xs (n - 1)) d before) (m (n - 1) (of-some s d (w .at) (w .size) xs n e z .0)) x in
           rw (g, le-leb 1 (attributeOf s xs d (w .at) (w .size)) (omega (arith, e, z)))
 
-      after : Marked s xs d (before ++ w ∷ []) (putMark marks (n - 1) (w .quote + 1) (w .length))
+      after : Marked s xs d (before ++ w ∷ []) (putMark marks (n - 1) (w .quote + 1) (w .width))
       after =
           let (i, y) = of-some s d (w .at) (w .size) xs n e z in
           marked-more s xs d before w marks (n - 1) long (a .few) u m i y x
 
       -- Whether its value v fits.
-      module _ (v : List ℕ) (p : v ≡ valueBytes d d true (valuePart w)) (inside : w .quote + 1 + w .length ≤ length d) (r : Bool) (f : (y : DeclaredValue) → DeclaredAs c s (row .value) y → r ≡ fits c s y v) where
+      module _ (v : List ℕ) (p : v ≡ valueBytes d d true (valuePart w)) (inside : w .quote + 1 + w .width ≤ length d) (r : Bool) (f : (y : DeclaredValue) → DeclaredAs c s (row .value) y → r ≡ fits c s y v) where
         fit : r ≡ isFitting c s xs d w
         fit =
             let i = of-some s d (w .at) (w .size) xs n e z .0 in
@@ -64,10 +64,10 @@ module _ (c : Settings) (s l : List ℕ) (b : ℕ) (d : List ℕ) (w : Written) 
             let b : valueBytes d d true (valuePart w) ≡ bytesIn d (valuePart w) = rw (valueBytes, le-leb _ _ inside) in
             o ∙ ap (fits c s (attributeAt xs (n - 1) .value)) (p ∙ b) ∙ ap (λ (k : ℕ). fits c s (attributeAt xs (k - 1) .value) (bytesIn d (valuePart w))) e
 
-        pub answer-fitting : r ≡ true → Marks c s xs d before w (putMark marks (n - 1) (w .quote + 1) (w .length)) 0
+        pub answer-fitting : r ≡ true → Marks c s xs d before w (putMark marks (n - 1) (w .quote + 1) (w .width)) 0
         answer-fitting t = fitting new after (sym fit ∙ t)
 
-        pub answer-unfitting : r ≡ false → Marks c s xs d before w (putMark marks (n - 1) (w .quote + 1) (w .length)) 22
+        pub answer-unfitting : r ≡ false → Marks c s xs d before w (putMark marks (n - 1) (w .quote + 1) (w .width)) 22
         answer-unfitting t = unfitting new after (sym fit ∙ t)
 
 -- All of a tag.

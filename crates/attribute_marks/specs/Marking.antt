@@ -63,26 +63,26 @@ as-other marks after k (w ∷ ws) e f m = (e ∙ m .0, f ∙ m .1)
 
 -- One more is marked, which is called like the k-th attribute, of which there was none.
 pub marked-more : (s : List ℕ) (xs : List Attribute) (d : List ℕ) (before : List Written) (w : Written) (marks : List ℕ) (k : ℕ) → length marks ≡ 80 → length xs ≤ 40 → NamesDiffer s xs → Marked s xs d before marks
-    → k < length xs → isCalled s (attributeAt xs k) d (w .at) (w .size) ≡ true → getD marks (2 * k) 0 ≡ 0 → Marked s xs d (before ++ w ∷ []) (putMark marks k (w .quote + 1) (w .length))
+    → k < length xs → isCalled s (attributeAt xs k) d (w .at) (w .size) ≡ true → getD marks (2 * k) 0 ≡ 0 → Marked s xs d (before ++ w ∷ []) (putMark marks k (w .quote + 1) (w .width))
 marked-more s xs d before w marks k long few n m h y z j g = by-same (ℕ-discrete j k)
   where
     one : List ℕ
     one = set marks (2 * k) (w .quote + 1)
 
     after : List ℕ
-    after = putMark marks k (w .quote + 1) (w .length)
+    after = putMark marks k (w .quote + 1) (w .width)
 
     by-same : Dec (j ≡ k) → MarkedAs after j (givenFor s (attributeAt xs j) d (before ++ w ∷ []))
     by-same (yes q) =
         rw (q, given-first s (attributeAt xs k) d before w y (mark-none marks k (givenFor s (attributeAt xs k) d before) (m k h) z)) (
-          getD-set-other one (2 * k + 1) (2 * k) (w .length) 0 (omega arith) ∙ getD-set-same marks (2 * k) (w .quote + 1) 0 (omega arith),
-          getD-set-same one (2 * k + 1) (w .length) 0 (omega (arith, length-set marks (2 * k) (w .quote + 1))),
+          getD-set-other one (2 * k + 1) (2 * k) (w .width) 0 (omega arith) ∙ getD-set-same marks (2 * k) (w .quote + 1) 0 (omega arith),
+          getD-set-same one (2 * k + 1) (w .width) 0 (omega (arith, length-set marks (2 * k) (w .quote + 1))),
         )
     by-same (no q) =
         let x : isCalled s (attributeAt xs j) d (w .at) (w .size) ≡ false = bool-cases (isCalled s (attributeAt xs j) d (w .at) (w .size)) (λ e. absurd (q (called-once s xs n d (w .at) (w .size) j k g h e y))) (λ e. e) in
         rw (given-other s (attributeAt xs j) d before w x)
-        (as-other marks after j (givenFor s (attributeAt xs j) d before) (getD-set-other one (2 * k + 1) (2 * j) (w .length) 0 (omega (arith, q)) ∙ getD-set-other marks (2 * k) (2 * j) (w .quote + 1) 0 (omega (arith, q)))
-        (getD-set-other one (2 * k + 1) (2 * j + 1) (w .length) 0 (omega (arith, q)) ∙ getD-set-other marks (2 * k) (2 * j + 1) (w .quote + 1) 0 (omega (arith, q)))
+        (as-other marks after j (givenFor s (attributeAt xs j) d before) (getD-set-other one (2 * k + 1) (2 * j) (w .width) 0 (omega (arith, q)) ∙ getD-set-other marks (2 * k) (2 * j) (w .quote + 1) 0 (omega (arith, q)))
+        (getD-set-other one (2 * k + 1) (2 * j + 1) (w .width) 0 (omega (arith, q)) ∙ getD-set-other marks (2 * k) (2 * j + 1) (w .quote + 1) 0 (omega (arith, q)))
         (m j g))
 
 -- None of the first n attributes is marked.

@@ -13,7 +13,7 @@ use Rattle.text.specs.Means.{refusalOf}
 -- The k-th attribute, from 0, is marked as a tag gives it: 0 where it does not, else where the value begins, which is never 0, and how long it is.
 abbrev pub MarkedAs : (marks : List ℕ) (k : ℕ) → List Written → Type 0
 MarkedAs marks k [] = getD marks (2 * k) 0 ≡ 0
-MarkedAs marks k (w ∷ ws) = (getD marks (2 * k) 0 ≡ w .quote + 1) × (getD marks (2 * k + 1) 0 ≡ w .length)
+MarkedAs marks k (w ∷ ws) = (getD marks (2 * k) 0 ≡ w .quote + 1) × (getD marks (2 * k + 1) 0 ≡ w .width)
 
 -- Each attribute of the list xs is marked as a tag gives it that gives ws.
 abbrev pub Marked : (s : List ℕ) → List Attribute → (d : List ℕ) → List Written → (marks : List ℕ) → Type 0

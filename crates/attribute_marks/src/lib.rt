@@ -66,10 +66,10 @@ fn mark(
     whole(*marks);
     let from = w.quote + 1;
     marks[2 * k] = from as u16;
-    marks[2 * k + 1] = w.length as u16;
+    marks[2 * k + 1] = w.width as u16;
     let r = list_table::attribute(lists, e, k);
     // What is written stands in the document, so that no other text is lent.
-    let v = attribute_values::value(d, d, true, from, w.length);
+    let v = attribute_values::value(d, d, true, from, w.width);
     if attribute_values::fits(long, s, r.value, v) {
         return 0;
     }

@@ -32,7 +32,7 @@ detailOf m x y = elim (ltb x m) [ true ↦ 0 | false ↦ y ]
 -- The nine numbers of the attribute a of the element e, by its row.
 abbrev pub rowNumbers : (e a : ℕ) → Row → List ℕ
 rowNumbers e a r =
-    e ∷ a ∷ r .name ∷ r .size ∷ kindOf 3 (r .value) ∷ detailOf 3 (r .value) (r .value) ∷ kindOf 2 (r .default) ∷ detailOf 2 (r .default) (r .default) ∷ detailOf 2 (r .default) (r .length) ∷ []
+    e ∷ a ∷ r .name ∷ r .size ∷ kindOf 3 (r .value) ∷ detailOf 3 (r .value) (r .value) ∷ kindOf 2 (r .default) ∷ detailOf 2 (r .default) (r .default) ∷ detailOf 2 (r .default) (r .width) ∷ []
 
 -- The buffers, which were these at first, have got all of the numbers, each if they fit there.
 pub record Holds (numbers₀ bytes₀ numbers bytes xs : List ℕ) : Type 0 where

@@ -74,7 +74,7 @@ default-length (literal p) = refl
 row-is : (c : Settings) (s : List ℕ) (e a : ℕ) (r : Row) (x : Attribute) → RowOf c s r x → rowNumbers e a r ≡ attributeNumbers e a (x ∷ [])
 unfolding attributeNumbers
 row-is c s e a r x o =
-    rw (← o .name, ← o .size, value-numbers (o .value), ← o .default, default-numbers (r .default) (r .length))
+    rw (← o .name, ← o .size, value-numbers (o .value), ← o .default, default-numbers (r .default) (r .width))
 
 -- A list
 

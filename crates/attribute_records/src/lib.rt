@@ -51,7 +51,7 @@ fn row_numbers(e: usize, a: usize, r: Row) -> [u32; ATTRIBUTE_RECORD]
         detail(r.value, 3, r.value),
         kind(r.default, 2),
         detail(r.default, 2, r.default),
-        detail(r.default, 2, r.length),
+        detail(r.default, 2, r.width),
     ]
 }
 

@@ -24,7 +24,7 @@ getD-past (x ∷ l) (suc i) h = getD-past l i (omega (arith, h))
 
 -- A row, number by number.
 pub row-is : (l : List ℕ) (i : ℕ) {a b v d n : ℕ} → a ≡ getD l i 0 → b ≡ getD l (i + 1) 0 → v ≡ getD l (i + 2) 0 → d ≡ getD l (i + 3) 0 → n ≡ getD l (i + 4) 0
-    → _≡_ {A = Row} (record { name = a; size = b; value = v; default = d; length = n }) (rowIn l i)
+    → _≡_ {A = Row} (record { name = a; size = b; value = v; default = d; width = n }) (rowIn l i)
 row-is l i p q r t u = rw (p, q, r, t, u)
 
 -- Attributes by number
@@ -163,7 +163,7 @@ module _ (s : List ℕ) (r : Row) (t : List ℕ) (at size : ℕ) where
 
 -- The five numbers from i on are those of r.
 abbrev pub putRow : List ℕ → ℕ → Row → List ℕ
-putRow l i r = set (set (set (set (set l i (r .name)) (i + 1) (r .size)) (i + 2) (r .value)) (i + 3) (r .default)) (i + 4) (r .length)
+putRow l i r = set (set (set (set (set l i (r .name)) (i + 1) (r .size)) (i + 2) (r .value)) (i + 3) (r .default)) (i + 4) (r .width)
 
 module _ (l : List ℕ) (i : ℕ) (r : Row) where
   abbrev a1 : List ℕ
@@ -191,29 +191,29 @@ module _ (l : List ℕ) (i : ℕ) (r : Row) where
   l4 = length-set a3 (i + 3) (r .default) ∙ l3
 
   put-length : length (putRow l i r) ≡ length l
-  put-length = length-set a4 (i + 4) (r .length) ∙ l4
+  put-length = length-set a4 (i + 4) (r .width) ∙ l4
 
   put-before : (j : ℕ) → j < i → getD (putRow l i r) j 0 ≡ getD l j 0
   put-before j h =
-      getD-set-other a4 (i + 4) j (r .length) 0 (omega (arith, h)) ∙ getD-set-other a3 (i + 3) j (r .default) 0 (omega (arith, h)) ∙ getD-set-other a2 (i + 2) j (r .value) 0 (omega (arith, h))
+      getD-set-other a4 (i + 4) j (r .width) 0 (omega (arith, h)) ∙ getD-set-other a3 (i + 3) j (r .default) 0 (omega (arith, h)) ∙ getD-set-other a2 (i + 2) j (r .value) 0 (omega (arith, h))
       ∙ getD-set-other a1 (i + 1) j (r .size) 0 (omega (arith, h)) ∙ getD-set-other l i j (r .name) 0 (omega (arith, h))
 
   -- The row, where a number before it is written too.
   put-row : (n : ℕ) → 1 ≤ i → i + 4 < length l → rowIn (set (putRow l i r) 0 n) i ≡ r
   put-row n f h =
       sym
-      (row-is (set (putRow l i r) 0 n) i {a = r .name} {b = r .size} {v = r .value} {d = r .default} {n = r .length}
+      (row-is (set (putRow l i r) 0 n) i {a = r .name} {b = r .size} {v = r .value} {d = r .default} {n = r .width}
       (sym
-      (first i f ∙ getD-set-other a4 (i + 4) i (r .length) 0 (omega arith) ∙ getD-set-other a3 (i + 3) i (r .default) 0 (omega arith) ∙ getD-set-other a2 (i + 2) i (r .value) 0 (omega arith)
+      (first i f ∙ getD-set-other a4 (i + 4) i (r .width) 0 (omega arith) ∙ getD-set-other a3 (i + 3) i (r .default) 0 (omega arith) ∙ getD-set-other a2 (i + 2) i (r .value) 0 (omega arith)
       ∙ getD-set-other a1 (i + 1) i (r .size) 0 (omega arith) ∙ getD-set-same l i (r .name) 0 (omega (arith, h))))
       (sym
-      (first (i + 1) (omega arith) ∙ getD-set-other a4 (i + 4) (i + 1) (r .length) 0 (omega arith) ∙ getD-set-other a3 (i + 3) (i + 1) (r .default) 0 (omega arith)
+      (first (i + 1) (omega arith) ∙ getD-set-other a4 (i + 4) (i + 1) (r .width) 0 (omega arith) ∙ getD-set-other a3 (i + 3) (i + 1) (r .default) 0 (omega arith)
       ∙ getD-set-other a2 (i + 2) (i + 1) (r .value) 0 (omega arith) ∙ getD-set-same a1 (i + 1) (r .size) 0 (omega (arith, h, l1))))
       (sym
-      (first (i + 2) (omega arith) ∙ getD-set-other a4 (i + 4) (i + 2) (r .length) 0 (omega arith) ∙ getD-set-other a3 (i + 3) (i + 2) (r .default) 0 (omega arith)
+      (first (i + 2) (omega arith) ∙ getD-set-other a4 (i + 4) (i + 2) (r .width) 0 (omega arith) ∙ getD-set-other a3 (i + 3) (i + 2) (r .default) 0 (omega arith)
       ∙ getD-set-same a2 (i + 2) (r .value) 0 (omega (arith, h, l2))))
-      (sym (first (i + 3) (omega arith) ∙ getD-set-other a4 (i + 4) (i + 3) (r .length) 0 (omega arith) ∙ getD-set-same a3 (i + 3) (r .default) 0 (omega (arith, h, l3))))
-      (sym (first (i + 4) (omega arith) ∙ getD-set-same a4 (i + 4) (r .length) 0 (omega (arith, h, l4)))))
+      (sym (first (i + 3) (omega arith) ∙ getD-set-other a4 (i + 4) (i + 3) (r .width) 0 (omega arith) ∙ getD-set-same a3 (i + 3) (r .default) 0 (omega (arith, h, l3))))
+      (sym (first (i + 4) (omega arith) ∙ getD-set-same a4 (i + 4) (r .width) 0 (omega (arith, h, l4)))))
     where
       first : (j : ℕ) → 1 ≤ j → getD (set (putRow l i r) 0 n) j 0 ≡ getD (putRow l i r) j 0
       first j g = getD-set-other (putRow l i r) 0 j n 0 (omega (arith, g))

@@ -17,11 +17,11 @@ use Rattle.list_table.specs.declared.Row.{Row}
 
 -- The five numbers from i on.
 abbrev pub rowIn : List ℕ → ℕ → Row
-rowIn l i = record { name = getD l i 0; size = getD l (i + 1) 0; value = getD l (i + 2) 0; default = getD l (i + 3) 0; length = getD l (i + 4) 0 }
+rowIn l i = record { name = getD l i 0; size = getD l (i + 1) 0; value = getD l (i + 2) 0; default = getD l (i + 3) 0; width = getD l (i + 4) 0 }
 
 -- All of them fit 16 bits.
 abbrev pub Short : Row → Type 0
-Short r = (r .name < 65536) × (r .size < 65536) × (r .value < 65536) × (r .default < 65536) × (r .length < 65536)
+Short r = (r .name < 65536) × (r .size < 65536) × (r .value < 65536) × (r .default < 65536) × (r .width < 65536)
 
 -- What a row says of an attribute, whose name lies in the type file.
 pub record RowOf (c : Settings) (s : List ℕ) (r : Row) (x : Attribute) : Type 0 where
@@ -29,7 +29,7 @@ pub record RowOf (c : Settings) (s : List ℕ) (r : Row) (x : Attribute) : Type 
   pub size : r .size ≡ x .size
   pub inside : x .at + x .size ≤ length s
   pub value : DeclaredAs c s (r .value) (x .value)
-  pub default : defaultIs (r .default) (r .length) ≡ x .default
+  pub default : defaultIs (r .default) (r .width) ≡ x .default
 
 -- The attribute of a row, if its name lies in the type file, has the name of this size at `at` in the text t, folded.
 abbrev pub isNamed : List ℕ → Row → (t : List ℕ) (at size : ℕ) → Bool

@@ -22,7 +22,7 @@ pub struct Row {
     pub size: usize,
     pub value: usize,
     pub default: usize,
-    pub length: usize,
+    pub width: usize,
 }
 
 // A number of the table; 0 past its end.
@@ -45,7 +45,7 @@ fn row_at(lists: &[u16], i: usize) -> Row
         size: number(lists, i + 1),
         value: number(lists, i + 2),
         default: number(lists, i + 3),
-        length: number(lists, i + 4),
+        width: number(lists, i + 4),
     }
 }
 
@@ -88,7 +88,7 @@ pub fn put_attribute(list: &mut [u16; LIST], k: usize, r: Row)
     list[i + 1] = r.size as u16;
     list[i + 2] = r.value as u16;
     list[i + 3] = r.default as u16;
-    list[i + 4] = r.length as u16;
+    list[i + 4] = r.width as u16;
     list[0] = (k + 1) as u16;
 }
 

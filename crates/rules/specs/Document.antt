@@ -17,7 +17,7 @@ pub record Written : Type 0 where
   pub at : ℕ
   pub size : ℕ
   pub quote : ℕ
-  pub length : ℕ
+  pub width : ℕ
 
 -- A tag: where its name stands, how long that is, where the tag ends, and the attributes that it gives; an end tag gives none.
 pub record Tag : Type 0 where
@@ -57,7 +57,7 @@ specification c d i =
       | true ↦ refused 3 i
       | false ↦ elim (eqb (byteAt d j) VI) [
         | true ↦ elim (quote (byteAt d k)) [
-          | true ↦ andThen (literalEnd d k) λ q. got (record { at = i; size = e - i; quote = k; length = q - (k + 1) })
+          | true ↦ andThen (literalEnd d k) λ q. got (record { at = i; size = e - i; quote = k; width = q - (k + 1) })
           | false ↦ refused 4 k
         ]
         | false ↦ refused 4 j
@@ -73,7 +73,7 @@ specifications c (suc turns) d name e at ws =
     elim (eqb (byteAt d i) MDC) [
       | true ↦ got (record { name = name; size = e - name; after = i + 1; written = ws })
       | false ↦ elim (letter (byteAt d i)) [
-        | true ↦ andThen (specification c d i) λ w. specifications c turns d name e (w .quote + 1 + w .length + 1) (ws ++ w ∷ [])
+        | true ↦ andThen (specification c d i) λ w. specifications c turns d name e (w .quote + 1 + w .width + 1) (ws ++ w ∷ [])
         | false ↦ refused 4 i
       ]
     ]

@@ -16,7 +16,7 @@ use Rattle.rules.specs.Events.{Event, attributeWritten, attributeDefault
 
 -- The value of an attribute that a tag of the document d gives: the literal without its quotes.
 abbrev pub valuePart : Written → Part
-valuePart w = record { at = w .quote + 1; size = w .length }
+valuePart w = record { at = w .quote + 1; size = w .width }
 
 -- Refusals
 

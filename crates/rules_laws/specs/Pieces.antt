@@ -30,7 +30,7 @@ pub record WrittenIn (d : List ℕ) (after : ℕ) (w : Written) : Type 0 where
   pub some : 1 ≤ w .size
   pub named : letter (byteAt d (w .at)) ≡ true
   pub parted : w .at + w .size < w .quote
-  pub ends : w .quote + 1 + w .length + 1 < after
+  pub ends : w .quote + 1 + w .width + 1 < after
 
 -- A tag behind i: its name begins behind i, with a letter, and ends before the tag does. How long it may be: `tag-short`.
 pub record TagRead (d : List ℕ) (i : ℕ) (t : Tag) : Type 0 where
@@ -124,7 +124,7 @@ module _ (c : Settings) (d : List ℕ) where
     pub at : w .at ≡ i
     pub some : 1 ≤ w .size
     pub parted : w .at + w .size < w .quote
-    pub inside : w .quote + 1 + w .length < length d
+    pub inside : w .quote + 1 + w .width < length d
 
   pub specification-read : (i : ℕ) → letter (byteAt d i) ≡ true → Holds (InPiece d) (SpecificationRead i) (specification c d i)
   unfolding specification
@@ -166,7 +166,7 @@ module _ (c : Settings) (d : List ℕ) where
       reads (record { behind = h; some = m; named = l; ends = omega arith; inside = omega arith; given = written-further (at + 1) (j + 1) (omega arith) a }))
       (λ x. either (letter (byteAt d j))
       (λ y. on (specification-read j y) λ w r.
-      let on-to = w .quote + 1 + w .length + 1 in
+      let on-to = w .quote + 1 + w .width + 1 in
       let parted = r .parted in
       let begins = r .at in
       specifications-read i turns name e on-to (ws ++ w ∷ []) h m l (omega arith) (omega (arith, r .inside))
@@ -213,7 +213,7 @@ module _ (c : Settings) (d : List ℕ) where
       let j = separatorsEnd d at in
       either (eqb (byteAt d j) 62) (λ x. reads h)
       (λ x. either (letter (byteAt d j))
-      (λ y. on (each {P = λ (w : Written). Unit {0}} (specification c d j) (λ n k e. tt) (λ w e. tt)) (λ w r. specifications-short turns name e (w .quote + 1 + w .length + 1) (ws ++ w ∷ []) h))
+      (λ y. on (each {P = λ (w : Written). Unit {0}} (specification c d j) (λ n k e. tt) (λ w e. tt)) (λ w r. specifications-short turns name e (w .quote + 1 + w .width + 1) (ws ++ w ∷ []) h))
       (λ y. stops tt))
 
   start-short : (at : ℕ) → Gives (λ (t : Tag). t .size ≤ c .nameLength) (startTagAt c d at)

@@ -13,7 +13,7 @@ use Rattle.tag_attributes.specs.declared.WrittenRead.the-variants as wri
 
 -- The rules' attribute that one of the code stands for.
 abbrev pub writtenAs : Written → rules.Written
-writtenAs w = record { at = w .name; size = w .size; quote = w .quote; length = w .length }
+writtenAs w = record { at = w .name; size = w .size; quote = w .quote; width = w .width }
 
 abbrev pub writtenOf : WrittenRead → Reading rules.Written
 writtenOf (writtenRead.Read w) = got (writtenAs w)
@@ -25,11 +25,11 @@ writtenFault (writtenRead.Refused f) = f
 
 -- The four numbers of the n-th, from 0.
 abbrev pub keptIn : List ℕ → (n : ℕ) → Written
-keptIn g n = record { name = getD g (4 * n) 0; size = getD g (4 * n + 1) 0; quote = getD g (4 * n + 2) 0; length = getD g (4 * n + 3) 0 }
+keptIn g n = record { name = getD g (4 * n) 0; size = getD g (4 * n + 1) 0; quote = getD g (4 * n + 2) 0; width = getD g (4 * n + 3) 0 }
 
 -- Each of them fits 16 bits.
 abbrev pub WrittenFits : Written → Type 0
-WrittenFits w = (w .name < 65536) × (w .size < 65536) × (w .quote < 65536) × (w .length < 65536)
+WrittenFits w = (w .name < 65536) × (w .size < 65536) × (w .quote < 65536) × (w .width < 65536)
 
 -- The first n, in the order in which they stand in the tag.
 unfoldable pub keptOf : List ℕ → (n : ℕ) → List rules.Written
@@ -43,7 +43,7 @@ pub record KeptAs (g : List ℕ) (n : ℕ) (ws : List rules.Written) : Type 0 wh
 
 -- Name and literal of an attribute stand within so many bytes.
 abbrev pub WrittenIn : (end : ℕ) → Written → Type 0
-WrittenIn end w = (w .name + w .size ≤ end) × (w .quote + w .length + 1 < end)
+WrittenIn end w = (w .name + w .size ≤ end) × (w .quote + w .width + 1 < end)
 
 -- Those of each that is kept.
 abbrev pub GivenIn : (end : ℕ) → List ℕ → (n : ℕ) → Type 0

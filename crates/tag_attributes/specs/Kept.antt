@@ -15,12 +15,12 @@ use Rattle.tag_attributes.specs.declared.Written.{Written}
 use Rattle.tag_attributes.specs.Given.{writtenAs, keptIn, keptOf, KeptAs, WrittenIn, GivenIn, Keeps}
 
 -- An attribute, number by number.
-pub written-is : {a b q n : ℕ} (w : Written) → a ≡ w .name → b ≡ w .size → q ≡ w .quote → n ≡ w .length → _≡_ {A = Written} (record { name = a; size = b; quote = q; length = n }) w
+pub written-is : {a b q n : ℕ} (w : Written) → a ≡ w .name → b ≡ w .size → q ≡ w .quote → n ≡ w .width → _≡_ {A = Written} (record { name = a; size = b; quote = q; width = n }) w
 written-is w p r t u = rw (p, r, t, u)
 
 -- The four numbers from i on are those of w.
 abbrev pub putWritten : List ℕ → ℕ → Written → List ℕ
-putWritten g i w = set (set (set (set g i (w .name)) (i + 1) (w .size)) (i + 2) (w .quote)) (i + 3) (w .length)
+putWritten g i w = set (set (set (set g i (w .name)) (i + 1) (w .size)) (i + 2) (w .quote)) (i + 3) (w .width)
 
 module _ (g : List ℕ) (i : ℕ) (w : Written) where
   abbrev g1 : List ℕ
@@ -34,7 +34,7 @@ module _ (g : List ℕ) (i : ℕ) (w : Written) where
 
   put-before : (j : ℕ) → j < i → getD (putWritten g i w) j 0 ≡ getD g j 0
   put-before j h =
-      getD-set-other g3 (i + 3) j (w .length) 0 (omega (arith, h)) ∙ getD-set-other g2 (i + 2) j (w .quote) 0 (omega (arith, h)) ∙ getD-set-other g1 (i + 1) j (w .size) 0 (omega (arith, h))
+      getD-set-other g3 (i + 3) j (w .width) 0 (omega (arith, h)) ∙ getD-set-other g2 (i + 2) j (w .quote) 0 (omega (arith, h)) ∙ getD-set-other g1 (i + 1) j (w .size) 0 (omega (arith, h))
       ∙ getD-set-other g i j (w .name) 0 (omega (arith, h))
 
   module _ (room : i + 3 < length g) where
@@ -49,17 +49,17 @@ module _ (g : List ℕ) (i : ℕ) (w : Written) where
 
     put-name : getD (putWritten g i w) i 0 ≡ w .name
     put-name =
-        getD-set-other g3 (i + 3) i (w .length) 0 (omega arith) ∙ getD-set-other g2 (i + 2) i (w .quote) 0 (omega arith) ∙ getD-set-other g1 (i + 1) i (w .size) 0 (omega arith)
+        getD-set-other g3 (i + 3) i (w .width) 0 (omega arith) ∙ getD-set-other g2 (i + 2) i (w .quote) 0 (omega arith) ∙ getD-set-other g1 (i + 1) i (w .size) 0 (omega arith)
         ∙ getD-set-same g i (w .name) 0 (omega (arith, room))
 
     put-size : getD (putWritten g i w) (i + 1) 0 ≡ w .size
-    put-size = getD-set-other g3 (i + 3) (i + 1) (w .length) 0 (omega arith) ∙ getD-set-other g2 (i + 2) (i + 1) (w .quote) 0 (omega arith) ∙ getD-set-same g1 (i + 1) (w .size) 0 (omega (arith, room, long1))
+    put-size = getD-set-other g3 (i + 3) (i + 1) (w .width) 0 (omega arith) ∙ getD-set-other g2 (i + 2) (i + 1) (w .quote) 0 (omega arith) ∙ getD-set-same g1 (i + 1) (w .size) 0 (omega (arith, room, long1))
 
     put-quote : getD (putWritten g i w) (i + 2) 0 ≡ w .quote
-    put-quote = getD-set-other g3 (i + 3) (i + 2) (w .length) 0 (omega arith) ∙ getD-set-same g2 (i + 2) (w .quote) 0 (omega (arith, room, long2))
+    put-quote = getD-set-other g3 (i + 3) (i + 2) (w .width) 0 (omega arith) ∙ getD-set-same g2 (i + 2) (w .quote) 0 (omega (arith, room, long2))
 
-    put-length : getD (putWritten g i w) (i + 3) 0 ≡ w .length
-    put-length = getD-set-same g3 (i + 3) (w .length) 0 (omega (arith, room, long3))
+    put-length : getD (putWritten g i w) (i + 3) 0 ≡ w .width
+    put-length = getD-set-same g3 (i + 3) (w .width) 0 (omega (arith, room, long3))
 
 module _ (g : List ℕ) (n : ℕ) (w : Written) where
   pub keeps-more : length g ≡ 164 → n ≤ 40 → Keeps g n w (putWritten g (4 * n) w) (n + 1)

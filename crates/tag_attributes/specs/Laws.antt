@@ -85,14 +85,14 @@ module _ (c : Settings) (s : List ℕ) (i e : ℕ) (q : e ≡ nameEnd s i) where
       quote-missing k r n = rw (r, x .behind, q, specification, le-ltb _ _ (rw q at h), eq-eqb _ _ (rw (x .behind, q) at (x .here)), rw (r, x .behind, q) at n)
 
       module _ (k : ℕ) (y : QuoteAt s j k) where
-        from-literal : andThen (literalEnd s k) (λ (z : ℕ). got (record { at = i; size = e - i; quote = k; length = z - (k + 1) })) ≡ specification c s i
+        from-literal : andThen (literalEnd s k) (λ (z : ℕ). got (record { at = i; size = e - i; quote = k; width = z - (k + 1) })) ≡ specification c s i
         unfolding specification
         from-literal = rw (y .behind, x .behind, q, specification, le-ltb _ _ (rw q at h), eq-eqb _ _ (rw (x .behind, q) at (x .here)), rw (y .behind, x .behind, q) at (y .here))
 
         pub literal-refused : (a b : ℕ) → literalEnd s k ≡ refused a b → refused a b ≡ specification c s i
         literal-refused a b l = rw l at from-literal
 
-        pub literal-read : (z : ℕ) → literalEnd s k ≡ got z → got (record { at = i; size = e - i; quote = k; length = z - (k + 1) }) ≡ specification c s i
+        pub literal-read : (z : ℕ) → literalEnd s k ≡ got z → got (record { at = i; size = e - i; quote = k; width = z - (k + 1) }) ≡ specification c s i
         literal-read z l = rw l at from-literal
 
 -- An answer by cases and the reading that it stands for.

@@ -19,7 +19,7 @@ pub struct Written {
     pub name: usize,
     pub size: usize,
     pub quote: usize,
-    pub length: usize,
+    pub width: usize,
 }
 
 pub enum WrittenRead {
@@ -90,7 +90,7 @@ pub fn specification_at(long: usize, classes: &[u8; 256], s: &[u8], i: usize) ->
         name: i,
         size: e - i,
         quote: k,
-        length: q - (k + 1),
+        width: q - (k + 1),
     })
 }
 
@@ -112,7 +112,7 @@ pub fn keep(given: &mut [u16; GIVEN], n: usize, w: Written) -> usize
     given[i] = w.name as u16;
     given[i + 1] = w.size as u16;
     given[i + 2] = w.quote as u16;
-    given[i + 3] = w.length as u16;
+    given[i + 3] = w.width as u16;
     n + 1
 }
 
@@ -126,6 +126,6 @@ pub fn kept(given: &[u16; GIVEN], n: usize) -> Written
         name: numbers::short(given[i]),
         size: numbers::short(given[i + 1]),
         quote: numbers::short(given[i + 2]),
-        length: numbers::short(given[i + 3]),
+        width: numbers::short(given[i + 3]),
     }
 }

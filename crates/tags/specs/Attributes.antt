@@ -25,7 +25,7 @@ specificationsOn c turns d name e i ws =
     elim (eqb (byteAt d i) 62) [
       | true ↦ got (record { name = name; size = e - name; after = i + 1; written = ws })
       | false ↦ elim (letter (byteAt d i)) [
-        | true ↦ andThen (specification c d i) λ w. specifications c turns d name e (w .quote + 1 + w .length + 1) (ws ++ w ∷ [])
+        | true ↦ andThen (specification c d i) λ w. specifications c turns d name e (w .quote + 1 + w .width + 1) (ws ++ w ∷ [])
         | false ↦ refused 4 i
       ]
     ]
@@ -87,19 +87,19 @@ module _ (c : Settings) (s : List ℕ) (i e : ℕ) where
         let k = h .at in
         omega arith
 
-    read-one : (turns : ℕ) (ws : List Written) → specificationsOn c turns s i e j ws ≡ specifications c turns s i e (w .quote + 1 + w .length + 1) (ws ++ writtenAs w ∷ [])
+    read-one : (turns : ℕ) (ws : List Written) → specificationsOn c turns s i e j ws ≡ specifications c turns s i e (w .quote + 1 + w .width + 1) (ws ++ writtenAs w ∷ [])
     unfolding specificationsOn
     read-one turns ws = rw (specificationsOn, ne-eqb _ _ (letter-no-close _ l), l, r)
 
-    further : (turns : ℕ) (ws : List Written) (k : ℕ) → k ≡ separatorsEnd s (w .quote + w .length + 2)
+    further : (turns : ℕ) (ws : List Written) (k : ℕ) → k ≡ separatorsEnd s (w .quote + w .width + 2)
         → specificationsOn c (suc turns) s i e j ws ≡ specificationsOn c turns s i e k (ws ++ writtenAs w ∷ [])
     further turns ws k p =
-        let same : w .quote + 1 + w .length + 1 ≡ w .quote + w .length + 2 = omega arith in
+        let same : w .quote + 1 + w .width + 1 ≡ w .quote + w .width + 2 = omega arith in
         let on : List Written = ws ++ writtenAs w ∷ [] in
-        read-one (suc turns) ws ∙ specifications-on c turns s i e (w .quote + 1 + w .length + 1) on ∙ ap (λ (z : ℕ). specificationsOn c turns s i e z on) (ap (separatorsEnd s) same ∙ sym p)
+        read-one (suc turns) ws ∙ specifications-on c turns s i e (w .quote + 1 + w .width + 1) on ∙ ap (λ (z : ℕ). specificationsOn c turns s i e z on) (ap (separatorsEnd s) same ∙ sym p)
 
   module _ (x : Reading Tag) (g : List ℕ) (n j : ℕ) (a : Goes c s i e x g n j) where
-    pub goes-turn : letter (byteAt s j) ≡ true → (w : code.Written) → specification c s j ≡ got (writtenAs w) → (g′ : List ℕ) (m k : ℕ) → Keeps g n w g′ m → k ≡ separatorsEnd s (w .quote + w .length + 2)
+    pub goes-turn : letter (byteAt s j) ≡ true → (w : code.Written) → specification c s j ≡ got (writtenAs w) → (g′ : List ℕ) (m k : ℕ) → Keeps g n w g′ m → k ≡ separatorsEnd s (w .quote + w .width + 2)
         → Goes c s i e x g′ m k
     goes-turn l w r g′ m k y p = by-turns (a .turns) (a .enough) (a .due)
       where
@@ -108,12 +108,12 @@ module _ (c : Settings) (s : List ℕ) (i e : ℕ) where
         by-turns (suc turns) h d =
             let v = written-in j l w r in
             let f = written-on j l w r in
-            let from = separatorsEnd-from s (w .quote + w .length + 2) in
+            let from = separatorsEnd-from s (w .quote + w .width + 2) in
             record {
               turns = turns;
               ws = a .ws ++ writtenAs w ∷ [];
               enough = omega arith;
-              inside = rw p (separatorsEnd-le s (w .quote + w .length + 2) (omega arith));
+              inside = rw p (separatorsEnd-le s (w .quote + w .width + 2) (omega arith));
               due = sym (further j l w r turns (a .ws) k p) ∙ d;
               read = record { kept = kept-more g n w g′ m y (a .ws) (a .read .kept); inside = given-more g n w g′ m y (length s) v (a .read .inside) };
             }

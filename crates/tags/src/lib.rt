@@ -68,7 +68,7 @@ fn attributes_at(
             return TagRead::Refused(tag_attributes::fault_of(r));
         };
         n = tag_attributes::keep(given, n, w);
-        j = text::separators_end(s, w.quote + w.length + 2);
+        j = text::separators_end(s, w.quote + w.width + 2);
     }
     if text::byte(s, j) == b'>' {
         return TagRead::Read(Tag {

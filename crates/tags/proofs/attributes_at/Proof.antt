@@ -99,7 +99,7 @@ loop-less c =
     let a = l .before .before .args in
     let w = r .r .given .0 .0 in
     let on = written-on (settings (a .long)) (a .s .now) (a .i) (a .e) (l .loop .j) (letter-at t) w (written-at r) in
-    omega (arith, inside r, separatorsEnd-from (a .s .now) (w .quote + w .length + 2), c .separators-end .ensures)
+    omega (arith, inside r, separatorsEnd-from (a .s .now) (w .quote + w .width + 2), c .separators-end .ensures)
 
 loop-again : tie.Need-loop-again Inv-loop μ-loop
 loop-again c =
