@@ -7,15 +7,14 @@ use lib.ListN.{length, take, drop, length-append, length-drop, drop-of-length-le
 use lib.Seq.{drop-drop, take-all, length-take-le}
 use Rattle.rules.specs.Settings.{Settings}
 use Rattle.rules.specs.Lent.{bytesOf, filledWith}
-use Rattle.rules.specs.Attributes.{Attribute, AttList}
-use Rattle.rules.specs.TypeFile.{Element, attributesOf}
+use Rattle.rules.specs.Attributes.{Attribute}
+use Rattle.rules.specs.TypeFile.{Element}
 use Rattle.rules.specs.Elements.{elementAt}
 use Rattle.rules.specs.Listing.{attributeNumbers, attributeWidth, listNumbers, attributeCount}
 use Rattle.numbers.specs.Means.{written}
 use Rattle.numbers.specs.Laws.{bytesOf-append, bytesOf-length, written-fits, written-not, written-keeps, written-none, written-more}
 use Rattle.list_table.specs.declared.Row.{Row}
 use Rattle.list_table.specs.Means.{rowIn, ListAt, Lists}
-use Rattle.attribute_lists.specs.Means.{Headed, HeadedAs}
 use Rattle.attribute_records.specs.Means.{rowNumbers, Holds, Puts, PutsList, PutsLists}
 use Rattle.attribute_records.specs.Numbers.{numbers-length, numbers-more, lists-length, lists-more, count-more}
 
@@ -157,8 +156,3 @@ module _ (lists numbers bytes : List ℕ) where
     lists-end {n} i j c s es e l =
         let all = take-all k es (omega arith) in
         (w .counted c s es l (omega arith) ∙ ap attributeCount all, rw all at (w .holds c s es l (omega arith)))
-
--- The table of lists that is filled from the heads is that of the elements.
-pub lists-filled : (c : Settings) (s heads lists : List ℕ) (n : ℕ) (es : List Element) → length es ≡ n → HeadedAs c s heads es
-    → ((ls : List AttList) → Headed c s heads ls → (k : ℕ) → k < n → ListAt c s lists (201 * k) (attributesOf ls (k + 1))) → Lists c s es lists
-lists-filled c s heads lists n es e u f k h = rw (u .each k h) (f (u .lists) (u .headed) k (omega arith))
