@@ -37,6 +37,9 @@ typical = "<!-- a catalogue -->\n<!ELEMENT LIST O O (HEAD?,(SECTION|ITEM)+)>\n<!
 for k in range(38):
     typical += "<!ELEMENT P%d - O (NAME%d,(QTY%d|UNIT%d)*,NOTE%d?)>\n" % ((k,) * 5)
 write("typical", typical + "<!ELEMENT ITEM O O (NAME,QTY?,PAR?)>\n")
+# A type of about 2 KB for short documents in a batch: T and more.
+write("night", "<!ELEMENT LIST O O (ITEM+)><!ELEMENT ITEM O O (NAME,QTY?)><!ELEMENT NAME O O (#PCDATA)><!ELEMENT QTY - O (#PCDATA)>" +
+      "".join("<!ELEMENT P%d - O (NAME%d,(QTY%d|UNIT%d)*,NOTE%d?)>\n" % ((k,) * 5) for k in range(38)), ".dtd")
 write("largest-sequence", elements(64, model(96, ",", ",")))
 write("largest-choice", elements(64, model(96, ",", "|")))
 write("largest-optional", elements(64, model(96, ",", ",", "?")))
@@ -82,6 +85,7 @@ def document(name, items):
 
 document("catalogue", catalogue(65000))
 document("tiny", [("clamp", "40"), ("tape", "")])
+document("short", catalogue(310))
 document("plain", [(("gauze swab 10x10 and adhesive tape; " * 2000)[:65000], "")])
 for n in (1, 2, 4, 8, 16, 32, 65):
     document("growth-%02d" % n, catalogue(n * 1000))
@@ -126,3 +130,30 @@ def deep(c):
 
 
 supply("deep", deep, "<ITEM>" + "".join("<N%d>" % k for k in range(16)), empty(16))
+
+
+def records(name, items):
+    """A catalogue with a record end after each tag and each text."""
+    lines = ["<LIST>"]
+    for n, q in items:
+        lines += ["<ITEM>", "<NAME>", n, "</NAME>", "<QTY>", q, "</QTY>", "</ITEM>"]
+    with open(os.path.join(folder, name + ".sgm"), "w", newline="") as f:
+        f.write("\r\n".join(lines + ["</LIST>", ""]))
+
+
+records("records", catalogue(24000))
+
+
+# Optional members in groups in each other: items that take the innermost alone, or it and the outermost.
+def spare(n):
+    def model_of(c):
+        group = "N0?"
+        for k in range(1, n):
+            group = "(%s%sN%d?)" % (group, c, k)
+        return group
+    return model_of
+
+
+supply("spare-06", spare(6), "<ITEM><N0>", empty(6))
+supply("spare-16", spare(16), "<ITEM><N0>", empty(16))
+supply("spare-far", spare(16), "<ITEM><N0><N15>", empty(16))

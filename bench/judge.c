@@ -1,17 +1,10 @@
 /* judge.c - times the judge on type files: judge [-n LENGTH] TYPE.. The best of many calls, the buffer cleared before each. Names have
  * at most LENGTH bytes, 8 where it is not given. */
 #include "sgml.h"
+#include "timing.h"
 #include <stdio.h>
 #include <stdlib.h>
 #include <string.h>
-#include <time.h>
-
-static double now(void)
-{
-    struct timespec t;
-    clock_gettime(CLOCK_MONOTONIC, &t);
-    return t.tv_sec * 1e6 + t.tv_nsec / 1e3;
-}
 
 int main(int argc, char **argv)
 {
@@ -21,15 +14,13 @@ int main(int argc, char **argv)
     for (; i < argc; i++) {
         uint32_t answer[SGML_ANSWER_SIZE], number = 0;
         double best = 1e12;
-        FILE *file = fopen(argv[i], "rb");
-        size_t n = file ? fread(type, 1, sizeof type, file) : 0;
-        if (!file)
+        size_t n = load(argv[i], type, sizeof type);
+        if (!n)
             return 2;
-        fclose(file);
         for (k = 0; k < 300; k++) {
             double t = now();
             memset(buffer, 0, sizeof buffer);
-            number = sgml_judge(type, n, buffer, sizeof buffer, answer, length);
+            number = sgml_judge(type, n, buffer, sizeof buffer, answer, length, SGML_FIRST_EDITION);
             t = now() - t;
             if (t < best)
                 best = t;

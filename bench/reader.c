@@ -1,34 +1,23 @@
-/* reader.c - times the document reader on documents of one type: reader [-n LENGTH] TYPE DOCUMENT.. The best of many calls, the buffer
+/* reader.c - times the document reader on documents of one type: reader [-n LENGTH] [-e EDITION] TYPE DOCUMENT.. The best of many calls, the buffer
  * cleared before each. Names have at most LENGTH bytes, 8 where it is not given. */
 #include "sgml.h"
+#include "timing.h"
 #include <stdio.h>
 #include <stdlib.h>
 #include <string.h>
-#include <time.h>
 
 static uint8_t type[SGML_TYPE_LIMIT + 1], document[65536], buffer[SGML_EVENT_BYTES * 20480];
-
-static double now(void)
-{
-    struct timespec t;
-    clock_gettime(CLOCK_MONOTONIC, &t);
-    return t.tv_sec * 1e6 + t.tv_nsec / 1e3;
-}
-
-static size_t load(const char *path, uint8_t *to, size_t room)
-{
-    FILE *file = fopen(path, "rb");
-    size_t n = file ? fread(to, 1, room, file) : 0;
-    if (file)
-        fclose(file);
-    return n;
-}
 
 int main(int argc, char **argv)
 {
     int i = argc > 2 && !strcmp(argv[1], "-n") ? 3 : 1, k;
-    uint32_t length = i > 1 ? (uint32_t)atoi(argv[2]) : SGML_NAMELEN;
-    size_t t = i < argc ? load(argv[i++], type, sizeof type) : 0;
+    uint32_t length = i > 1 ? (uint32_t)atoi(argv[2]) : SGML_NAMELEN, edition = SGML_FIRST_EDITION;
+    size_t t;
+    if (i + 1 < argc && !strcmp(argv[i], "-e")) {
+        edition = (uint32_t)atoi(argv[i + 1]);
+        i += 2;
+    }
+    t = i < argc ? load(argv[i++], type, sizeof type) : 0;
     for (; i < argc; i++) {
         uint32_t answer[SGML_ANSWER_SIZE], number = 0;
         double best = 1e12;
@@ -37,7 +26,7 @@ int main(int argc, char **argv)
             double start;
             memset(buffer, 0, sizeof buffer);
             start = now();
-            number = sgml_read(type, t, document, d, buffer, sizeof buffer, answer, length);
+            number = sgml_read(type, t, document, d, buffer, sizeof buffer, answer, length, edition);
             start = now() - start;
             if (start < best)
                 best = start;

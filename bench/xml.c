@@ -1,19 +1,12 @@
 /* xml.c - times expat and libxml2's SAX on XML documents, with handlers that count: the best of many parses from memory. */
+#include "timing.h"
 #include <expat.h>
 #include <libxml/parser.h>
 #include <stdio.h>
 #include <string.h>
-#include <time.h>
 
 static char document[262144];
 static unsigned long tags, runs;
-
-static double now(void)
-{
-    struct timespec t;
-    clock_gettime(CLOCK_MONOTONIC, &t);
-    return t.tv_sec * 1e6 + t.tv_nsec / 1e3;
-}
 
 static void start(void *data, const XML_Char *name, const XML_Char **attributes)
 {

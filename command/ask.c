@@ -10,7 +10,7 @@ enum {
     WORK = 40 * 1000 * 1000 /* bytes read for that at most, twice: a second or so */
 };
 
-uint32_t name_limit = SGML_NAMELEN;
+uint32_t name_limit = SGML_NAMELEN, edition = SGML_FIRST_EDITION;
 
 /* Bytes read since a tail is sought; judging a byte of a type takes some five times as long as reading one of a document. */
 static size_t work;
@@ -41,7 +41,7 @@ static struct reply ask_type(const struct input *type, size_t cut, const char *t
     static uint8_t room[SGML_TYPE_LIMIT + TAIL];
     struct input whole = joined(type, cut, tail, room);
     uint32_t answer[SGML_ANSWER_SIZE];
-    return reply_of(sgml_judge(whole.bytes, whole.length, NULL, 0, answer, name_limit), answer);
+    return reply_of(sgml_judge(whole.bytes, whole.length, NULL, 0, answer, name_limit, edition), answer);
 }
 
 static struct reply ask_document(const struct input *type, const struct input *document, size_t cut, const char *tail)
@@ -50,7 +50,7 @@ static struct reply ask_document(const struct input *type, const struct input *d
     struct input whole = joined(document, cut, tail, room);
     uint32_t answer[SGML_ANSWER_SIZE];
     work += 5 * type->length + whole.length;
-    return reply_of(sgml_read(type->bytes, type->length, whole.bytes, whole.length, NULL, 0, answer, name_limit), answer);
+    return reply_of(sgml_read(type->bytes, type->length, whole.bytes, whole.length, NULL, 0, answer, name_limit, edition), answer);
 }
 
 void begin_question(struct question *q, const struct input *type, const struct input *document, size_t cut)
@@ -59,8 +59,8 @@ void begin_question(struct question *q, const struct input *type, const struct i
     q->type = type;
     q->document = document;
     q->cut = cut;
-    q->attributes = sgml_attributes(type->bytes, type->length, q->lists, sizeof q->lists, answer, name_limit) ? 0 : answer[SGML_ANSWER_COUNT];
-    q->elements = sgml_judge(type->bytes, type->length, q->records, sizeof q->records, answer, name_limit) ? 0 : answer[SGML_ANSWER_COUNT];
+    q->attributes = sgml_attributes(type->bytes, type->length, q->lists, sizeof q->lists, answer, name_limit, edition) ? 0 : answer[SGML_ANSWER_COUNT];
+    q->elements = sgml_judge(type->bytes, type->length, q->records, sizeof q->records, answer, name_limit, edition) ? 0 : answer[SGML_ANSWER_COUNT];
 }
 
 /* 3 to 8, 10, 20 and 22 come by position, and before 25, 9 and 19: so a word is unfit exactly if one of them stands at it or before it. */
@@ -259,7 +259,7 @@ uint8_t *events_of(const struct input *type, const struct input *document, uint3
         uint8_t *events = malloc(room);
         if (!events)
             return NULL;
-        if (sgml_read(type->bytes, type->length, document->bytes, document->length, events, room, answer, name_limit) != SGML_ERR_NO_ROOM || room >= most)
+        if (sgml_read(type->bytes, type->length, document->bytes, document->length, events, room, answer, name_limit, edition) != SGML_ERR_NO_ROOM || room >= most)
             return events;
         free(events);
         room = 4 * room < most ? 4 * room : most;

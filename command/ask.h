@@ -6,8 +6,8 @@
 
 #include "sgml.h"
 
-/* How long a name may be: what both calls are given as long as the command runs. */
-extern uint32_t name_limit;
+/* How long a name may be, and the edition: what all calls are given as long as the command runs. */
+extern uint32_t name_limit, edition;
 
 struct input {
     const char *name; /* as people call it */

@@ -137,8 +137,11 @@ static void no_room(const struct fault *f)
 
 static void not_offered(const struct fault *f)
 {
-    fprintf(f->to, "%s: it is a number from %d to %d, and not %u", sgml_refusal_text(SGML_ERR_SETTINGS), SGML_NAMELEN, SGML_MOST_NAMELEN,
-            (unsigned)name_limit);
+    if (name_limit < SGML_NAMELEN || name_limit > SGML_MOST_NAMELEN)
+        fprintf(f->to, "a length of names that is not offered: it is a number from %d to %d, and not %u", SGML_NAMELEN, SGML_MOST_NAMELEN,
+                (unsigned)name_limit);
+    else
+        fprintf(f->to, "an edition that is not offered: it is %d or %d, and not %u", SGML_FIRST_EDITION, SGML_SECOND_EDITION, (unsigned)edition);
 }
 
 void explain(FILE *to, const struct input *type, const struct input *document, const uint32_t *answer)

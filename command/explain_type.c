@@ -104,7 +104,7 @@ static int is_token(const struct input *type, size_t at, size_t length)
     memcpy(changed, type->bytes, at);
     changed[at] = '[';
     memcpy(changed + at + 1, type->bytes + at + length, type->length - at - length);
-    return sgml_judge(changed, type->length - length + 1, NULL, 0, answer, name_limit) == SGML_ERR_LEFT_OUT && answer[SGML_ANSWER_POSITION] == at;
+    return sgml_judge(changed, type->length - length + 1, NULL, 0, answer, name_limit, edition) == SGML_ERR_LEFT_OUT && answer[SGML_ANSWER_POSITION] == at;
 }
 
 /* The name is one of those that stand one after the other, each in SGML_MOST_NAMELEN bytes and a zero. */

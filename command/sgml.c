@@ -11,7 +11,7 @@
 #define NAME "sgml"
 
 enum status { ACCEPTED = 0, REFUSED = 1, NOT_RUN = 2 };
-enum form { EVENTS, ESIS, CHECK, ANSWER };
+enum form { EVENTS, ESIS, CHECK, ANSWER, BATCH };
 
 /* What was asked for on the command line. */
 struct job {
@@ -28,9 +28,10 @@ static uint8_t type_bytes[SGML_TYPE_LIMIT + 1], document_bytes[SGML_DOCUMENT_LIM
 static uint8_t records[SGML_MOST_RECORD_BYTES], attributes[SGML_MOST_ATTRIBUTE_BYTES];
 static uint32_t attribute_count;
 
-static const char usage[] = "usage: " NAME " [-q] [--name-length N] [--places] [--answer] [--] TYPE DOCUMENT...\n"
-                            "       " NAME " [-q] [--name-length N] (--esis | --check) [--] TYPE DOCUMENT...\n"
-                            "       " NAME " [-q] [--name-length N] --check [--] TYPE\n"
+static const char usage[] = "usage: " NAME " [-q] [--name-length N] [--edition N] [--places] [--answer] [--] TYPE DOCUMENT...\n"
+                            "       " NAME " [-q] [--name-length N] [--edition N] (--esis | --check) [--] TYPE DOCUMENT...\n"
+                            "       " NAME " [-q] [--name-length N] [--edition N] --check [--] TYPE\n"
+                            "       " NAME " [--name-length N] [--edition N] [--places] --batch [--] TYPE DOCUMENT...\n"
                             "       " NAME " -h | --help | --version\n";
 
 static const char help[] =
@@ -40,14 +41,19 @@ static const char help[] =
     "  DOCUMENT    a document; - for standard input\n"
     "  --check     print nothing but refusals; without a document judge the type alone,\n"
     "              and warn of names in its content models that are never declared\n"
-    "  --esis      print the events in the output form of onsgmls. Line ends differ:\n"
-    "              here byte 10 is ignored, so words on two lines join, and byte 13 is data\n"
+    "  --esis      print the events in the output form of onsgmls. In edition 1 line ends differ:\n"
+    "              byte 10 is ignored, so words on two lines join, and byte 13 is data\n"
     "  --answer    print on standard output what the small program of the scope paper prints:\n"
     "              a refusal as \"refused N in type at P\" too, and at most 4,096 events\n"
+    "  --batch     read all documents, up to 200, in one call, and print of each a line \"== DOCUMENT\"\n"
+    "              and what --answer prints\n"
     "  --places    print of each event, as the last number of its line, the place that a start took\n"
     "              in its parent's content model; 0 for the document element and all other events\n"
     "  --name-length N\n"
     "              names have at most N bytes, 8 to 32; 8 where it is not given\n"
+    "  --edition N\n"
+    "              record ends (byte 13) as in edition 1, where all are data that may be, or as in\n"
+    "              edition 2, clause 7.6.1 of ISO 8879; 1 where it is not given\n"
     "  -q          a refusal is one line, without the line of the file\n"
     "  -h, --help  print this and end\n"
     "  --version   print name and version and end\n"
@@ -214,18 +220,26 @@ static void print_esis(const struct input *type, const struct input *document, c
     fputs("C\n", stdout);
 }
 
-/* What the small program prints: its buffer has 20,480 numbers, and a refusal goes to standard output. */
-static enum status answered(const struct job *job, const struct input *type, const struct input *document)
+/* What the small program prints of an answer: a refusal goes to standard output. */
+static enum status print_answer(const struct job *job, const struct input *type, const uint8_t *events, const uint32_t *answer)
 {
-    static uint8_t events[4 * 20480];
-    uint32_t answer[SGML_ANSWER_SIZE];
-    uint32_t number = sgml_read(type->bytes, type->length, document->bytes, document->length, events, sizeof events, answer, name_limit);
-    if (number)
-        printf("refused %u in %s at %u\n", (unsigned)number,
+    if (answer[SGML_ANSWER_NUMBER])
+        printf("refused %u in %s at %u\n", (unsigned)answer[SGML_ANSWER_NUMBER],
                answer[SGML_ANSWER_INPUT] == SGML_IN_TYPE ? "type" : "document", (unsigned)answer[SGML_ANSWER_POSITION]);
     else
         print_events(job, type, events, answer[SGML_ANSWER_COUNT]);
-    return written(number ? REFUSED : ACCEPTED);
+    return answer[SGML_ANSWER_NUMBER] ? REFUSED : ACCEPTED;
+}
+
+/* What the small program prints: its buffer has 20,480 numbers. */
+enum { PROGRAM_BYTES = 4 * 20480 };
+
+static enum status answered(const struct job *job, const struct input *type, const struct input *document)
+{
+    static uint8_t events[PROGRAM_BYTES];
+    uint32_t answer[SGML_ANSWER_SIZE];
+    uint32_t number = sgml_read(type->bytes, type->length, document->bytes, document->length, events, sizeof events, answer, name_limit, edition);
+    return number == answer[SGML_ANSWER_NUMBER] ? written(print_answer(job, type, events, answer)) : NOT_RUN;
 }
 
 /* One document and its own result. */
@@ -251,6 +265,58 @@ static enum status read_document(const struct job *job, const struct input *type
     return job->form == CHECK ? status : written(status);
 }
 
+/* All documents in one call, each with as much room as the small program lends: of each a line with its name, and what that program prints. */
+struct batch {
+    uint8_t *string, *events;
+    size_t *starts, *lengths, *froms, *sizes;
+    uint32_t *answers;
+};
+
+static enum status read_batch(const struct job *job, const struct input *type, struct batch *b)
+{
+    size_t n = (size_t)job->count, end = 0, i;
+    uint32_t answer[SGML_ANSWER_SIZE];
+    enum status status = ACCEPTED;
+    for (i = 0; i < n; i++) {
+        struct input document = { job->documents[i], b->string + end, 0 };
+        if (load(&document, sizeof document_bytes))
+            return NOT_RUN;
+        b->starts[i] = end;
+        b->lengths[i] = document.length;
+        b->froms[i] = PROGRAM_BYTES * i;
+        b->sizes[i] = PROGRAM_BYTES;
+        end += document.length;
+    }
+    if (sgml_read_batch(type->bytes, type->length, b->string, end, b->starts, n, b->lengths, n, b->events, PROGRAM_BYTES * n, b->froms, n, b->sizes, n, b->answers,
+                        SGML_ANSWER_SIZE * n, answer, name_limit, edition))
+        return written(print_answer(job, type, b->events, answer));
+    for (i = 0; i < n; i++) {
+        printf("== %s\n", job->documents[i]);
+        status = worse(status, print_answer(job, type, b->events + b->froms[i], b->answers + SGML_ANSWER_SIZE * i));
+    }
+    return written(status);
+}
+
+static enum status run_batch(const struct job *job, const struct input *type)
+{
+    size_t n = (size_t)job->count;
+    struct batch b = { malloc(sizeof document_bytes * n), malloc(PROGRAM_BYTES * n), malloc(n * sizeof(size_t)), malloc(n * sizeof(size_t)), malloc(n * sizeof(size_t)),
+                       malloc(n * sizeof(size_t)), malloc(SGML_ANSWER_SIZE * n * sizeof(uint32_t)) };
+    enum status status = NOT_RUN;
+    if (b.string && b.events && b.starts && b.lengths && b.froms && b.sizes && b.answers)
+        status = read_batch(job, type, &b);
+    else
+        failed("documents", strerror(ENOMEM));
+    free(b.string);
+    free(b.events);
+    free(b.starts);
+    free(b.lengths);
+    free(b.froms);
+    free(b.sizes);
+    free(b.answers);
+    return status;
+}
+
 /* The type alone. A name that is never declared is allowed in a model, and often a slip. */
 static enum status judge(const struct job *job, const struct input *type, const uint32_t *answer)
 {
@@ -268,11 +334,13 @@ static enum status run(struct job *job)
     int i;
     if (load(&type, sizeof type_bytes))
         return NOT_RUN;
-    if (!sgml_attributes(type.bytes, type.length, attributes, sizeof attributes, answer, name_limit))
+    if (!sgml_attributes(type.bytes, type.length, attributes, sizeof attributes, answer, name_limit, edition))
         attribute_count = answer[SGML_ANSWER_COUNT];
-    number = sgml_judge(type.bytes, type.length, records, sizeof records, answer, name_limit);
+    number = sgml_judge(type.bytes, type.length, records, sizeof records, answer, name_limit, edition);
     if (!job->count)
         return judge(job, &type, answer);
+    if (job->form == BATCH)
+        return run_batch(job, &type);
     if (number && job->form != ANSWER)
         job->count = 1; /* a type that is refused is told of once */
     for (i = 0; i < job->count; i++) {
@@ -289,16 +357,16 @@ static enum status tell(const char *text, const char *more)
     return written(ACCEPTED);
 }
 
-/* Takes how long a name may be; 0 if the word is no number. What the library does not take is the library's to refuse, and that is so of
- * every number that 32 bits do not hold. */
-static int is_name_length(const char *word)
+/* Takes a setting; 0 if the word is no number. What the library does not take is the library's to refuse, and that is so of every number
+ * that 32 bits do not hold. */
+static int is_setting(const char *word, uint32_t *setting)
 {
     size_t digits = word ? strspn(word, "0123456789") : 0;
     unsigned long long number;
     if (!digits || word[digits])
         return 0;
     number = strtoull(word, NULL, 10);
-    name_limit = number < UINT32_MAX ? (uint32_t)number : UINT32_MAX;
+    *setting = number < UINT32_MAX ? (uint32_t)number : UINT32_MAX;
     return 1;
 }
 
@@ -308,6 +376,8 @@ static int is_option(struct job *job, const char *word, int *forms)
     enum form wanted = !strcmp(word, "--esis") ? ESIS : !strcmp(word, "--check") ? CHECK : EVENTS;
     if (!strcmp(word, "--answer"))
         wanted = ANSWER;
+    if (!strcmp(word, "--batch"))
+        wanted = BATCH;
     if (!strcmp(word, "-q")) {
         job->is_short = 1;
         return 1;
@@ -342,8 +412,11 @@ int main(int argc, char **argv)
         } else if (!strcmp(word, "--version")) {
             return tell(NAME " " SGML_VERSION, "\n");
         } else if (!strcmp(word, "--name-length")) {
-            if (!is_name_length(argv[++i]))
+            if (!is_setting(argv[++i], &name_limit))
                 return misused("--name-length takes a number", "");
+        } else if (!strcmp(word, "--edition")) {
+            if (!is_setting(argv[++i], &edition))
+                return misused("--edition takes a number", "");
         } else if (!is_option(&job, word, &forms)) {
             return misused("no such option: ", word);
         }
@@ -351,7 +424,7 @@ int main(int argc, char **argv)
     if (!job.type || (!job.count && job.form != CHECK))
         return misused("a type file and a document are due", "");
     if (forms > 1)
-        return misused("--esis, --check and --answer exclude each other", "");
+        return misused("--esis, --check, --answer and --batch exclude each other", "");
     if (job.has_places && (job.form == ESIS || job.form == CHECK))
         return misused("--places is a part of an event's line: neither --esis nor --check prints one", "");
     if (standard > 1)

@@ -102,7 +102,7 @@ static uint8_t *events_of(const struct input *type, const struct input *catalogu
         uint8_t *events = malloc(room);
         if (!events)
             return NULL;
-        if (sgml_read(type->bytes, type->length, catalogue->bytes, catalogue->length, events, room, answer, SGML_NAMELEN) != SGML_ERR_NO_ROOM || room >= most)
+        if (sgml_read(type->bytes, type->length, catalogue->bytes, catalogue->length, events, room, answer, SGML_NAMELEN, SGML_FIRST_EDITION) != SGML_ERR_NO_ROOM || room >= most)
             return events;
         free(events);
         room = 4 * room < most ? 4 * room : most;
@@ -115,7 +115,7 @@ static void find_par(const struct input *type)
     static uint8_t lists[SGML_MOST_ATTRIBUTE_BYTES];
     uint32_t answer[SGML_ANSWER_SIZE];
     char name[SGML_NAMELEN + 1];
-    if (sgml_attributes(type->bytes, type->length, lists, sizeof lists, answer, SGML_NAMELEN))
+    if (sgml_attributes(type->bytes, type->length, lists, sizeof lists, answer, SGML_NAMELEN, SGML_FIRST_EDITION))
         return;
     for (uint32_t k = 0; k < answer[SGML_ANSWER_COUNT]; k++) {
         struct sgml_attribute a = sgml_attribute_at(lists, k);
@@ -131,7 +131,7 @@ static void find_roles(const struct input *type)
     static uint8_t records[SGML_MOST_RECORD_BYTES];
     uint32_t answer[SGML_ANSWER_SIZE];
     char name[SGML_NAMELEN + 1];
-    if (sgml_judge(type->bytes, type->length, records, sizeof records, answer, SGML_NAMELEN))
+    if (sgml_judge(type->bytes, type->length, records, sizeof records, answer, SGML_NAMELEN, SGML_FIRST_EDITION))
         return;
     for (uint32_t element = 1; element <= answer[SGML_ANSWER_COUNT]; element++) {
         sgml_copy_name(type->bytes, records, element, name, sizeof name);

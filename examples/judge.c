@@ -33,7 +33,7 @@ int main(int argc, char **argv)
     }
     length = fread(type, 1, sizeof type, file);
     fclose(file);
-    if (sgml_judge(type, length, records, sizeof records, answer, SGML_NAMELEN))
+    if (sgml_judge(type, length, records, sizeof records, answer, SGML_NAMELEN, SGML_FIRST_EDITION))
         return refused(answer);
     printf("elements %u\n", (unsigned)answer[SGML_ANSWER_COUNT]);
     for (k = 0; k < answer[SGML_ANSWER_COUNT]; k++) {

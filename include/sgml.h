@@ -1,13 +1,13 @@
 /* sgml.h - the proved SGML reader of Skroefinte, called from C (C99 and C++).
  *
- * Three calls. sgml_judge takes a type file and says which elements it declares, or refuses it; sgml_attributes says likewise which
+ * Four calls. sgml_judge takes a type file and says which elements it declares, or refuses it; sgml_attributes says likewise which
  * attributes. sgml_read takes a type file and a document, judges the type afresh and gives the document's events, or refuses one of
- * the two. A program of ten lines:
+ * the two; sgml_read_batch takes many documents under one type file, which it judges once. A program of ten lines:
  *
  *     uint32_t answer[SGML_ANSWER_SIZE];
  *     size_t room = SGML_EVENT_BYTES * SGML_MOST_EVENTS(document_len), k;
  *     uint8_t *buffer = malloc(room);
- *     if (sgml_read(type, type_len, document, document_len, buffer, room, answer, SGML_NAMELEN)) {
+ *     if (sgml_read(type, type_len, document, document_len, buffer, room, answer, SGML_NAMELEN, SGML_FIRST_EDITION)) {
  *         printf("%s at byte %u\n", sgml_refusal_text(answer[SGML_ANSWER_NUMBER]), (unsigned)answer[SGML_ANSWER_POSITION]);
  *         return 1;
  *     }
@@ -16,11 +16,17 @@
  *         printf("%u %u %u %u %u\n", (unsigned)e.kind, (unsigned)e.element, (unsigned)e.offset, (unsigned)e.length, (unsigned)e.place);
  *     }
  *
- * Names.  Both calls take last how long a name may be: SGML_NAMELEN, which is 8, where nothing else is agreed, and up to
+ * Names.  All calls take how long a name may be: SGML_NAMELEN, which is 8, where nothing else is agreed, and up to
  *     SGML_MOST_NAMELEN, which is 32, for suppliers who declare a longer NAMELEN. Another number is SGML_ERR_SETTINGS, before anything
  *     else is looked at. Before 0.4.0 the calls did not take it, and 8 was what they went by: so a program that was written for 0.3.0
  *     passes SGML_NAMELEN as the last argument of both calls, and nothing else changes for it. What was compiled for 0.3.0 is
  *     compiled anew: it passes no length, and what a call takes for one is then not decided.
+ * Record ends.  All calls take last the edition, since 0.8.0: by which rule a byte 13, the record end, is data. SGML_FIRST_EDITION has it as
+ *     before, data where #PCDATA may come next and ignored elsewhere. SGML_SECOND_EDITION follows clause 7.6.1 of ISO 8879: of the bytes 13 that
+ *     would be data those are ignored that are there for the markup's sake: the first in its element before any byte 10, data or
+ *     subelement, the last after all of these, and one that ends a record with nothing but markup in it. Another number is SGML_ERR_SETTINGS.
+ *     The edition changes nothing else, and nothing for sgml_judge and sgml_attributes but that refusal. A program that was written for 0.7.0
+ *     passes SGML_FIRST_EDITION as the last argument of each call; what was compiled for 0.7.0 is compiled anew.
  * Events.  An event grew with 0.5.0: it has SGML_EVENT_SIZE numbers, which are five and were four before, so that SGML_EVENT_BYTES is 20
  *     and no more 16. The fifth is the place that a start took in the content model of its parent; the four before it are what they were. A
  *     program that goes by the names below is compiled again with this header, and nothing else changes for it; one that has 4 or 16 written
@@ -39,6 +45,18 @@
  *
  *     A program that was written for 0.6.0 goes on as it is with types that have no list. With others it must pass over the two kinds, or use
  *     them; and SGML_MOST_EVENTS is larger, since every start may bring SGML_ATTCNT events more.
+ * Batches.  Up to SGML_BATCH_LIMIT documents of one type are read in one call, sgml_read_batch, which answers each of them just as sgml_read
+ *     does, and is much quicker for short documents, since the type is judged and its tables are filled once. The documents are parts of one
+ *     string, and the events of each go to its own stretch of one buffer:
+ *
+ *         size_t starts[2] = { 0, a_len }, lengths[2] = { a_len, b_len };   // of the documents in `string`
+ *         size_t froms[2] = { 0, 5000 }, sizes[2] = { 5000, 5000 };         // of their stretches in `buffer`, in bytes
+ *         uint32_t answers[2 * SGML_ANSWER_SIZE];
+ *         if (sgml_read_batch(type, type_len, string, a_len + b_len, starts, 2, lengths, 2, buffer, 10000, froms, 2, sizes, 2, answers,
+ *                             2 * SGML_ANSWER_SIZE, answer, SGML_NAMELEN, SGML_FIRST_EDITION))
+ *             return 1; // the lists do not fit each other, the buffer or SGML_BATCH_LIMIT
+ *         for (k = 0; k < 2; k++)
+ *             use(answers + SGML_ANSWER_SIZE * k, buffer + froms[k]);
  * Memory.  Nothing here allocates, keeps state or touches memory other than what the caller lends. The inputs are the caller's
  *     and only read; buffer and answer are lent for the call. A pointer may be null where its length is 0. The two inputs may
  *     overlap each other. Buffer and answer overlap nothing, neither each other nor an input: where they do, no call promises
@@ -63,8 +81,8 @@
 #include <stddef.h>
 #include <stdint.h>
 
-#define SGML_VERSION "0.7.0"
-#define SGML_VERSION_NUMBER 700 /* 10000 times the major version, 100 times the minor one and the patch */
+#define SGML_VERSION "0.8.0"
+#define SGML_VERSION_NUMBER 800 /* 10000 times the major version, 100 times the minor one and the patch */
 
 #ifdef __cplusplus
 extern "C" {
@@ -84,11 +102,14 @@ enum {
     SGML_ELEMENT_LIMIT = 64,     /* declared elements */
     SGML_NAMELEN = 8,            /* bytes of a name: the least that a caller may give */
     SGML_MOST_NAMELEN = 32,      /* and the most */
+    SGML_FIRST_EDITION = 1,      /* record ends as the scope paper has them */
+    SGML_SECOND_EDITION = 2,     /* record ends as clause 7.6.1 of ISO 8879 has them */
     SGML_GRPCNT = 32,            /* content tokens in one model group */
     SGML_GRPLVL = 16,            /* levels of model groups */
     SGML_GRPGTCNT = 96,          /* content tokens in a content model */
     SGML_ATTCNT = 40,            /* attributes of an element */
     SGML_TAGLVL = 24,            /* open elements */
+    SGML_BATCH_LIMIT = 200,      /* documents in one call */
     SGML_STACK_BYTES = 192 * 1024 /* of stack that a call takes at most; measured, not proved */
 };
 
@@ -139,7 +160,7 @@ enum sgml_answer {
 enum sgml_input { SGML_IN_NEITHER = 0, SGML_IN_TYPE = 1, SGML_IN_DOCUMENT = 2 };
 
 /* The refusals. 1 to 5, 10, 20 and 22 are of a type file or a document, 6 to 9 and 25 of a type file, 11 to 18 and 21 of a document; 24 is
- * of neither, and answered as position 0 of the type file. */
+ * of neither, and 23 of what sgml_read_batch is given of the documents; both are answered as position 0 of the type file. */
 enum sgml_refusal {
     SGML_ACCEPTED = 0,
     SGML_ERR_TOO_LONG = 1,          /* the input is longer than its limit; position 0 */
@@ -165,7 +186,9 @@ enum sgml_refusal {
                                        the element's name, an attribute over SGML_ATTCNT: its name, a token twice in a list: the second */
     SGML_ERR_ATTRIBUTE_MISSING = 21, /* a required attribute is missing: the tag */
     SGML_ERR_VALUE = 22,            /* a value that does not fit its declared value, or has a tab or a line end in it: its opening quote */
-    SGML_ERR_SETTINGS = 24,         /* name_length is not one of SGML_NAMELEN to SGML_MOST_NAMELEN: position 0 of the type file */
+    SGML_ERR_BATCH = 23,            /* sgml_read_batch alone: too many documents, or lists that are unfit: position 0 of the type file */
+    SGML_ERR_SETTINGS = 24,         /* name_length is not one of SGML_NAMELEN to SGML_MOST_NAMELEN, or edition neither
+                                       SGML_FIRST_EDITION nor SGML_SECOND_EDITION: position 0 of the type file */
     SGML_ERR_REPEATED = 25          /* an "&" group in something that carries "+" or "*", or that carries one: the first such "&" */
 };
 
@@ -196,7 +219,8 @@ static inline const char *sgml_refusal_text(uint32_t number)
     case SGML_ERR_ATTRIBUTE: return "an attribute that is not declared, or is there twice";
     case SGML_ERR_ATTRIBUTE_MISSING: return "a required attribute is missing";
     case SGML_ERR_VALUE: return "a value that is not as its attribute is declared";
-    case SGML_ERR_SETTINGS: return "a length of names that is not offered";
+    case SGML_ERR_BATCH: return "lists of documents and stretches that are unfit";
+    case SGML_ERR_SETTINGS: return "a length of names or an edition that is not offered";
     case SGML_ERR_REPEATED: return "an \"&\" group that is repeated";
     default: return "no refusal has this number";
     }
@@ -284,6 +308,7 @@ struct sgml_event {
  *                       the end hold no number. SGML_MOST_RECORD_BYTES bytes are always enough.
  *   answer              lent for the SGML_ANSWER_SIZE numbers of the answer
  *   name_length         how many bytes a name may have: SGML_NAMELEN to SGML_MOST_NAMELEN
+ *   edition             SGML_FIRST_EDITION or SGML_SECOND_EDITION; a type file is the same in both
  *
  * Accepted (answer[SGML_ANSWER_NUMBER] is 0): the buffer begins with answer[SGML_ANSWER_COUNT] records of SGML_RECORD_SIZE
  * numbers, one for each element in declaration order; every byte behind them is as it was.
@@ -291,7 +316,7 @@ struct sgml_event {
  *
  * Gives back answer[SGML_ANSWER_NUMBER]: SGML_ACCEPTED, which is 0, or the refusal's number. */
 SGML_LOOK_AT_ANSWER uint32_t sgml_judge(const uint8_t *type, size_t type_len, uint8_t *buffer, size_t buffer_len,
-                                        uint32_t answer[SGML_ANSWER_SIZE], uint32_t name_length);
+                                        uint32_t answer[SGML_ANSWER_SIZE], uint32_t name_length, uint32_t edition);
 
 /* Reads a document under a type file, which is judged afresh.
  *
@@ -301,6 +326,7 @@ SGML_LOOK_AT_ANSWER uint32_t sgml_judge(const uint8_t *type, size_t type_len, ui
  *                           SGML_EVENT_BYTES * SGML_MOST_EVENTS(document_len) bytes are always enough.
  *   answer                  lent for the SGML_ANSWER_SIZE numbers of the answer
  *   name_length             how many bytes a name may have, as above
+ *   edition                 by which rule record ends are read, as above
  *
  * Accepted (answer[SGML_ANSWER_NUMBER] is 0): the buffer begins with answer[SGML_ANSWER_COUNT] events of SGML_EVENT_SIZE numbers,
  * in the order of the document; every byte behind them is as it was.
@@ -309,7 +335,39 @@ SGML_LOOK_AT_ANSWER uint32_t sgml_judge(const uint8_t *type, size_t type_len, ui
  *
  * Gives back answer[SGML_ANSWER_NUMBER], as sgml_judge does. */
 SGML_LOOK_AT_ANSWER uint32_t sgml_read(const uint8_t *type, size_t type_len, const uint8_t *document, size_t document_len,
-                                       uint8_t *buffer, size_t buffer_len, uint32_t answer[SGML_ANSWER_SIZE], uint32_t name_length);
+                                       uint8_t *buffer, size_t buffer_len, uint32_t answer[SGML_ANSWER_SIZE], uint32_t name_length, uint32_t edition);
+
+/* Reads many documents under one type file, which is judged once.
+ *
+ *   type, type_len          the type file
+ *   string, string_len      the bytes of all documents. They may share bytes, and stand in any order
+ *   starts, lengths         of each document where it starts in the string, and how many bytes it has
+ *   buffer, buffer_len      lent for the events of all documents
+ *   froms, sizes            of each document its stretch of the buffer: the byte it starts at, and how many bytes it has. Stretches may stand in
+ *                           any order and touch; a stretch of 0 bytes stands anywhere in the buffer. No byte is in two of them.
+ *   answers, answers_len    lent for the answers: SGML_ANSWER_SIZE numbers for each document, in the order of the lists
+ *   answer                  lent for the SGML_ANSWER_SIZE numbers of the answer to the whole call
+ *   name_length             how many bytes a name may have, as above
+ *   edition                 by which rule record ends are read, as above
+ *
+ * Each list comes with how many entries it has, behind it; all have as many as there are documents, and answers_len is SGML_ANSWER_SIZE times that.
+ *
+ * Accepted (answer[SGML_ANSWER_NUMBER] is 0, and answer[SGML_ANSWER_COUNT] is how many documents there are): answers and stretches are what sgml_read gives
+ * for each document by itself, with its stretch as the lent buffer: its events, or a refusal and zeros. One refused document changes nothing for the
+ * others; a type that is refused is so in each answer, unless the order puts a document's own refusal first. A part that passes the string's end
+ * is refused as a document that is too long (SGML_ERR_TOO_LONG). Sums of starts and lengths may be larger than a size_t holds. Every byte of
+ * the buffer outside the stretches is as it was.
+ * Refused (SGML_ERR_BATCH): there are more than SGML_BATCH_LIMIT documents, the lists do not have as many entries, a stretch passes the buffer's end, or a byte
+ * is in two stretches. Then every byte of the buffer is zero, and answers is as it was.
+ * Refused (SGML_ERR_SETTINGS): name_length or edition is not offered. Where the lists are fit each document is refused for it too, as by sgml_read, and the rest of
+ * the buffer is as it was; where they are not, every byte of the buffer is zero, and answers is as it was.
+ *
+ * Gives back answer[SGML_ANSWER_NUMBER]: SGML_ACCEPTED, SGML_ERR_BATCH or SGML_ERR_SETTINGS. */
+SGML_LOOK_AT_ANSWER uint32_t sgml_read_batch(const uint8_t *type, size_t type_len, const uint8_t *string, size_t string_len,
+                                             const size_t *starts, size_t starts_count, const size_t *lengths, size_t lengths_count,
+                                             uint8_t *buffer, size_t buffer_len, const size_t *froms, size_t froms_count,
+                                             const size_t *sizes, size_t sizes_count, uint32_t *answers, size_t answers_len,
+                                             uint32_t answer[SGML_ANSWER_SIZE], uint32_t name_length, uint32_t edition);
 
 /* Lists the attributes of a type file. Parameters and answer are those of sgml_judge, and so are the refusals: the type is judged.
  *
@@ -317,7 +375,7 @@ SGML_LOOK_AT_ANSWER uint32_t sgml_read(const uint8_t *type, size_t type_len, con
  * the elements and in that of each list; every byte behind them is as it was. SGML_MOST_ATTRIBUTE_BYTES bytes are always enough.
  * Refused: every byte of the buffer is zero and answer[SGML_ANSWER_COUNT] is 0. */
 SGML_LOOK_AT_ANSWER uint32_t sgml_attributes(const uint8_t *type, size_t type_len, uint8_t *buffer, size_t buffer_len,
-                                             uint32_t answer[SGML_ANSWER_SIZE], uint32_t name_length);
+                                             uint32_t answer[SGML_ANSWER_SIZE], uint32_t name_length, uint32_t edition);
 
 /* The k-th number of a lent buffer. */
 static inline uint32_t sgml_number(const uint8_t *buffer, size_t k)

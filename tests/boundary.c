@@ -10,7 +10,7 @@ static uint32_t judged_with(uint32_t name_length, const char *text, size_t room,
     struct slice lent = lend(NULL, 4 * SGML_ANSWER_SIZE, 0);
     uint32_t *answer = (uint32_t *)(void *)lent.bytes, number;
     size_t used;
-    number = sgml_judge(type.bytes, type.length, buffer.bytes, room, answer, name_length);
+    number = sgml_judge(type.bytes, type.length, buffer.bytes, room, answer, name_length, SGML_FIRST_EDITION);
     check(number == answer[SGML_ANSWER_NUMBER], "the call gives back the answer's number");
     if (number) {
         check(all(buffer.bytes, room, 0), "a refusal zeroes the whole buffer, odd bytes too");
@@ -85,8 +85,8 @@ static void check_texts(void)
         "an attribute that is not declared, or is there twice",
         "a required attribute is missing",
         "a value that is not as its attribute is declared",
-        "no refusal has this number",
-        "a length of names that is not offered",
+        "lists of documents and stretches that are unfit",
+        "a length of names or an edition that is not offered",
         "an \"&\" group that is repeated",
         "no refusal has this number",
     };
@@ -102,7 +102,7 @@ static void check_records(const char *two)
     uint32_t answer[SGML_ANSWER_SIZE];
     char name[SGML_MOST_NAMELEN + 1];
     struct sgml_record a, b;
-    check(sgml_judge((const uint8_t *)two, strlen(two), records, sizeof records, answer, SGML_NAMELEN) == SGML_ACCEPTED, "two elements");
+    check(sgml_judge((const uint8_t *)two, strlen(two), records, sizeof records, answer, SGML_NAMELEN, SGML_FIRST_EDITION) == SGML_ACCEPTED, "two elements");
     a = sgml_record_at(records, 0);
     b = sgml_record_at(records, 1);
     check(a.name_offset == 10 && a.name_length == 3 && !a.start_tag && a.end_tag && a.content == 1 && a.tokens == 2, "a record");
@@ -125,7 +125,7 @@ int main(int argc, char **argv)
     for (room = 0; room < 8; room++)
         check(judged("<!ELEMENT A - O (B?,B)>", room, 0) == SGML_ERR_AMBIGUOUS, "9 comes before 19");
     memset(answer, FILL, sizeof answer);
-    check(sgml_judge(NULL, 0, NULL, 0, answer, SGML_NAMELEN) == SGML_ERR_ELEMENTS, "null and empty, given back");
+    check(sgml_judge(NULL, 0, NULL, 0, answer, SGML_NAMELEN, SGML_FIRST_EDITION) == SGML_ERR_ELEMENTS, "null and empty, given back");
     check(answer[SGML_ANSWER_NUMBER] == SGML_ERR_ELEMENTS && answer[SGML_ANSWER_POSITION] == 0, "null and empty");
     check_lengths();
     check_texts();

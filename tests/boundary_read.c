@@ -30,7 +30,7 @@ static void check_places(const char *text, const char *places)
     uint8_t buffer[40 * SGML_EVENT_BYTES];
     char found[48] = "";
     size_t k, n = 0;
-    check(sgml_read((const uint8_t *)row, strlen(row), (const uint8_t *)text, strlen(text), buffer, sizeof buffer, answer, SGML_NAMELEN) == SGML_ACCEPTED, text);
+    check(sgml_read((const uint8_t *)row, strlen(row), (const uint8_t *)text, strlen(text), buffer, sizeof buffer, answer, SGML_NAMELEN, SGML_FIRST_EDITION) == SGML_ACCEPTED, text);
     for (k = 0; k < answer[SGML_ANSWER_COUNT] && k < 40; k++) {
         struct sgml_event e = sgml_event_at(buffer, k);
         if (e.kind == SGML_KIND_START || e.kind == SGML_KIND_START_INFERRED)
@@ -65,7 +65,7 @@ static uint32_t number_with(uint32_t name_length, const char *type_text, const c
     struct slice type = lend(type_text, strlen(type_text), (skew + 1) % 4), document = lend(text, strlen(text), (skew + 3) % 4);
     struct slice buffer = lend(NULL, room, skew), lent = lend(NULL, 4 * SGML_ANSWER_SIZE, 0);
     uint32_t *answer = (uint32_t *)(void *)lent.bytes, number;
-    number = sgml_read(type.bytes, type.length, document.bytes, document.length, buffer.bytes, room, answer, name_length);
+    number = sgml_read(type.bytes, type.length, document.bytes, document.length, buffer.bytes, room, answer, name_length, SGML_FIRST_EDITION);
     check(number == answer[SGML_ANSWER_NUMBER], "the call gives back the answer's number");
     check_answer(answer, buffer);
     if (text == clamp && !number)
@@ -132,7 +132,7 @@ static void check_slices(const char *type, size_t type_len, const char *document
 {
     uint32_t answer[SGML_ANSWER_SIZE];
     memset(answer, FILL, sizeof answer);
-    check(sgml_read((const uint8_t *)type, type_len, (const uint8_t *)document, document_len, NULL, 0, answer, SGML_NAMELEN) == number, what);
+    check(sgml_read((const uint8_t *)type, type_len, (const uint8_t *)document, document_len, NULL, 0, answer, SGML_NAMELEN, SGML_FIRST_EDITION) == number, what);
     check(answer[SGML_ANSWER_NUMBER] == number && answer[SGML_ANSWER_INPUT] == input && answer[SGML_ANSWER_POSITION] == position &&
               answer[SGML_ANSWER_FIRST] == 0 && answer[SGML_ANSWER_SECOND] == 0 && answer[SGML_ANSWER_COUNT] == 0, what);
 }

@@ -35,19 +35,20 @@ static size_t content_of(const char *folder, const char *name, uint8_t *to, size
     return n;
 }
 
-/* namelen N of the file args; 8 where there is no such file. */
-static uint32_t name_length_of(const char *folder)
+/* The number behind this word in the file args; the one given where there is none. */
+static uint32_t setting_of(const char *folder, const char *word, uint32_t otherwise)
 {
-    char path[512];
+    char path[512], found[16];
     FILE *file;
-    unsigned length = SGML_NAMELEN;
+    unsigned number;
     snprintf(path, sizeof path, "%s/args", folder);
     file = fopen(path, "r");
-    if (file && fscanf(file, "namelen %u", &length) != 1)
-        length = SGML_NAMELEN;
+    while (file && fscanf(file, "%15s %u", found, &number) == 2)
+        if (!strcmp(found, word))
+            otherwise = number;
     if (file)
         fclose(file);
-    return length;
+    return otherwise;
 }
 
 int main(int argc, char **argv)
@@ -62,7 +63,8 @@ int main(int argc, char **argv)
         expected[n] = 0;
         expected[strcspn(expected, "\n")] = 0;
         n = content_of(argv[i], "type.sgm", type, sizeof type);
-        given = sgml_judge(type, n, buffer, sizeof buffer, answer, name_length_of(argv[i]));
+        given = sgml_judge(type, n, buffer, sizeof buffer, answer, setting_of(argv[i], "namelen", SGML_NAMELEN),
+                           setting_of(argv[i], "edition", SGML_FIRST_EDITION));
         if (sscanf(expected, "refused %u in type at %u", &number, &position) == 2)
             hold(argv[i],
                  given == number && answer[SGML_ANSWER_NUMBER] == number && answer[SGML_ANSWER_INPUT] == SGML_IN_TYPE &&

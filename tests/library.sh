@@ -20,7 +20,8 @@ echo "1 passed, 0 failed"
 
 # The compiler is asked to refuse a call of which nothing is used, and nothing else.
 echo "a call whose answer is ignored is warned of"
-for call in 'sgml_judge(t, n, NULL, 0, a, SGML_NAMELEN)' 'sgml_attributes(t, n, NULL, 0, a, SGML_NAMELEN)' 'sgml_read(t, n, t, n, NULL, 0, a, SGML_NAMELEN)'; do
+for call in 'sgml_judge(t, n, NULL, 0, a, SGML_NAMELEN, SGML_FIRST_EDITION)' 'sgml_attributes(t, n, NULL, 0, a, SGML_NAMELEN, SGML_FIRST_EDITION)' 'sgml_read(t, n, t, n, NULL, 0, a, SGML_NAMELEN, SGML_FIRST_EDITION)' \
+    'sgml_read_batch(t, n, t, n, NULL, 0, NULL, 0, NULL, 0, NULL, 0, NULL, 0, NULL, 0, a, SGML_NAMELEN, SGML_FIRST_EDITION)'; do
     printf '#include "sgml.h"\nuint32_t f(const uint8_t *t, size_t n, uint32_t *a);\nuint32_t f(const uint8_t *t, size_t n, uint32_t *a)\n{\n    return %s;\n}\n' "$call" >"$out/used.c"
     sed "s/return \(.*\);/\1; return 0;/" "$out/used.c" >"$out/ignored.c"
     cc -std=c99 -Wall -Wextra -pedantic -Werror -Iinclude -c "$out/used.c" -o "$out/used.o"
@@ -30,7 +31,7 @@ for call in 'sgml_judge(t, n, NULL, 0, a, SGML_NAMELEN)' 'sgml_attributes(t, n, 
     fi
     grep -q unused-result "$out/ignored.txt"
 done
-echo "3 passed, 0 failed"
+echo "4 passed, 0 failed"
 
 if needs rustc rustc "the second implementation on the vectors, and on all walks of small models"; then
     echo "the second implementation on the vectors, and on all walks of small models"
@@ -43,6 +44,14 @@ fi
 echo "the library's boundary in C"
 cc -std=c99 -Wall -Wextra -pedantic -Werror -g -Iinclude tests/boundary.c target/staticlib/libsgml.a -o "$out/boundary"
 "$out/boundary"
+
+echo "a batch beside the single calls, at its boundary"
+cc -std=c99 -Wall -Wextra -pedantic -Werror -g -Iinclude tests/boundary_batch.c target/staticlib/libsgml.a -o "$out/boundary_batch"
+"$out/boundary_batch"
+
+echo "the vectors' documents in batches, good and faulty ones mixed, beside the single calls"
+cc -std=c99 -Wall -Wextra -pedantic -Werror -O2 -Iinclude tests/batched.c target/staticlib/libsgml.a -o "$out/batched"
+"$out/batched" tests/vectors/*/*/
 
 echo "the library on the vectors"
 cc -std=c99 -Wall -Wextra -pedantic -Werror -O2 -Iinclude tests/judged.c target/staticlib/libsgml.a -o "$out/judged"
@@ -77,6 +86,14 @@ if needs rustc rustc "the library against the second implementation"; then
     echo "the library against the second implementation, on generated and damaged type files and documents"
     rustc -O --edition 2021 tests/oracle/compare.rs -L target/staticlib -l static=sgml -o "$out/compare"
     "$out/compare" "${CASES:-100000}" "${SEED:-1}"
+
+    echo "the same on documents of record ends, text, comments and tags, in both editions"
+    rustc -O --edition 2021 tests/oracle/records.rs -L target/staticlib -l static=sgml -o "$out/records"
+    "$out/records" "${CASES:-100000}" "${SEED:-1}"
+
+    echo "batches against the second implementation, with lists that are fit and damaged"
+    rustc -O --edition 2021 tests/oracle/batches.rs -L target/staticlib -l static=sgml -o "$out/batches"
+    "$out/batches" "$((${CASES:-100000} / 10))" "${SEED:-1}"
 
     echo "the same on the vectors' inputs, cut at every byte and with every byte value"
     rustc -O --edition 2021 tests/oracle/edges.rs -L target/staticlib -l static=sgml -o "$out/edges"

@@ -30,7 +30,7 @@ int main(int argc, char **argv)
             position = (size_t)(at - type);
             memmove(at, at + 1, strlen(at));
         }
-        given = sgml_judge((const uint8_t *)type, strlen(type), buffer, sizeof buffer, answer, SGML_NAMELEN);
+        given = sgml_judge((const uint8_t *)type, strlen(type), buffer, sizeof buffer, answer, SGML_NAMELEN, SGML_FIRST_EDITION);
         if (given == number && answer[SGML_ANSWER_NUMBER] == number && answer[SGML_ANSWER_POSITION] == position && answer[SGML_ANSWER_FIRST] == first &&
             answer[SGML_ANSWER_SECOND] == second) {
             passed++;

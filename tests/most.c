@@ -90,7 +90,7 @@ static uint32_t count_in(size_t room, uint32_t *number)
     uint8_t *buffer = malloc(room);
     if (!buffer)
         abort();
-    *number = sgml_read((const uint8_t *)type, type_len, (const uint8_t *)document, document_len, buffer, room, answer, SGML_NAMELEN);
+    *number = sgml_read((const uint8_t *)type, type_len, (const uint8_t *)document, document_len, buffer, room, answer, SGML_NAMELEN, SGML_FIRST_EDITION);
     free(buffer);
     return answer[SGML_ANSWER_COUNT];
 }
@@ -125,7 +125,7 @@ static uint32_t judge_type(void)
 {
     uint8_t records[SGML_MOST_RECORD_BYTES];
     uint32_t answer[SGML_ANSWER_SIZE];
-    return sgml_judge((const uint8_t *)type, type_len, records, sizeof records, answer, SGML_NAMELEN) ? 0 : answer[SGML_ANSWER_COUNT];
+    return sgml_judge((const uint8_t *)type, type_len, records, sizeof records, answer, SGML_NAMELEN, SGML_FIRST_EDITION) ? 0 : answer[SGML_ANSWER_COUNT];
 }
 
 /* As many models as there may be, each of one name 93 times: each two of its places are compared. */

@@ -37,16 +37,18 @@ static size_t numbers_of(const char *folder)
     return n;
 }
 
-/* namelen N of the file args; 8 where there is no such file. */
-static uint32_t name_length_of(const char *folder)
+/* The number behind this word in the file args; the one given where there is none. */
+static uint32_t setting_of(const char *folder, const char *word, uint32_t otherwise)
 {
     FILE *file = opened(folder, "args");
-    unsigned length = SGML_NAMELEN;
-    if (file && fscanf(file, "namelen %u", &length) != 1)
-        length = SGML_NAMELEN;
+    char found[16];
+    unsigned number;
+    while (file && fscanf(file, "%15s %u", found, &number) == 2)
+        if (!strcmp(found, word))
+            otherwise = number;
     if (file)
         fclose(file);
-    return length;
+    return otherwise;
 }
 
 static int are_numbers(const uint8_t *buffer, size_t n)
@@ -63,18 +65,18 @@ int main(int argc, char **argv)
     int i;
     for (i = 1; i < argc; i++) {
         size_t n = numbers_of(argv[i]), used = 4 * n, t, d;
-        uint32_t answer[SGML_ANSWER_SIZE], length = name_length_of(argv[i]);
+        uint32_t answer[SGML_ANSWER_SIZE], length = setting_of(argv[i], "namelen", SGML_NAMELEN), edition = setting_of(argv[i], "edition", SGML_FIRST_EDITION);
         struct slice buffer;
         if (!n)
             continue;
         t = content_of(argv[i], "type.sgm", type, sizeof type);
         d = content_of(argv[i], "doc.sgm", document, sizeof document);
         buffer = lend(NULL, used + 1, 0);
-        check(sgml_read(type, t, document, d, buffer.bytes, used + 1, answer, length) == 0 && answer[SGML_ANSWER_COUNT] == n / SGML_EVENT_SIZE, argv[i]);
+        check(sgml_read(type, t, document, d, buffer.bytes, used + 1, answer, length, edition) == 0 && answer[SGML_ANSWER_COUNT] == n / SGML_EVENT_SIZE, argv[i]);
         check(are_numbers(buffer.bytes, n) && buffer.bytes[used] == FILL, argv[i]);
         check(is_whole(buffer), argv[i]);
         buffer = lend(NULL, used - 1, 0);
-        check(sgml_read(type, t, document, d, buffer.bytes, used - 1, answer, length) == SGML_ERR_NO_ROOM && all(buffer.bytes, used - 1, 0), argv[i]);
+        check(sgml_read(type, t, document, d, buffer.bytes, used - 1, answer, length, edition) == SGML_ERR_NO_ROOM && all(buffer.bytes, used - 1, 0), argv[i]);
         check(is_whole(buffer), argv[i]);
     }
     return told();

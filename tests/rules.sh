@@ -71,7 +71,7 @@ while IFS= read -r line; do
     esac
 done <docs/RULES.md
 where="the numbers"
-for number in $(seq 19) 24 25; do
+for number in $(seq 19) 23 24 25; do
     held "$number has an example" grep -qw "$number" <<<"$seen"
     held "$number is in the table" grep -q "^| \[$number\](#$number-" docs/RULES.md
 done

@@ -37,21 +37,36 @@ static void look(uint32_t number, const uint32_t *answer)
 static void *judge_call(void *buffer)
 {
     uint32_t answer[SGML_ANSWER_SIZE];
-    look(sgml_judge((const uint8_t *)type, type_len, buffer, ROOM, answer, SGML_MOST_NAMELEN), answer);
+    look(sgml_judge((const uint8_t *)type, type_len, buffer, ROOM, answer, SGML_MOST_NAMELEN, SGML_FIRST_EDITION), answer);
     return NULL;
 }
 
 static void *read_call(void *buffer)
 {
     uint32_t answer[SGML_ANSWER_SIZE];
-    look(sgml_read((const uint8_t *)type, type_len, (const uint8_t *)document, strlen(document), buffer, ROOM, answer, SGML_MOST_NAMELEN), answer);
+    look(sgml_read((const uint8_t *)type, type_len, (const uint8_t *)document, strlen(document), buffer, ROOM, answer, SGML_MOST_NAMELEN, SGML_FIRST_EDITION), answer);
     return NULL;
 }
 
 static void *list_call(void *buffer)
 {
     uint32_t answer[SGML_ANSWER_SIZE];
-    look(sgml_attributes((const uint8_t *)type, type_len, buffer, ROOM, answer, SGML_MOST_NAMELEN), answer);
+    look(sgml_attributes((const uint8_t *)type, type_len, buffer, ROOM, answer, SGML_MOST_NAMELEN, SGML_FIRST_EDITION), answer);
+    return NULL;
+}
+
+/* A batch of the document twice. */
+static void *batch_call(void *buffer)
+{
+    uint32_t answer[SGML_ANSWER_SIZE], answers[2 * SGML_ANSWER_SIZE];
+    size_t starts[2] = { 0, 0 }, lengths[2], froms[2] = { 0, ROOM / 2 }, sizes[2] = { ROOM / 2, ROOM / 2 };
+    lengths[0] = lengths[1] = strlen(document);
+    if (sgml_read_batch((const uint8_t *)type, type_len, (const uint8_t *)document, lengths[0], starts, 2, lengths, 2, buffer, ROOM, froms, 2, sizes, 2, answers,
+                        2 * SGML_ANSWER_SIZE, answer, SGML_MOST_NAMELEN, SGML_FIRST_EDITION)) {
+        wrong = 1;
+        puts("the batch is refused");
+    }
+    look(answers[SGML_ANSWER_SIZE], answers + SGML_ANSWER_SIZE);
     return NULL;
 }
 
@@ -102,7 +117,7 @@ static size_t taken(void *(*function)(void *))
 int main(void)
 {
     int level, k;
-    size_t judging, reading, chain;
+    size_t judging, reading, batch, chain;
     /* as many levels, tokens and elements as there may be */
     for (k = 0; k < SGML_ELEMENT_LIMIT; k++) {
         type_len += (size_t)sprintf(type + type_len, "<!ELEMENT E%d - O ", k);
@@ -116,6 +131,7 @@ int main(void)
     expected = SGML_ERR_NOT_ALLOWED_HERE;
     document = "<E0><E1>";
     reading = taken(read_call);
+    batch = taken(batch_call);
 
     /* as many elements open as there may be, all inferred, in models of as many levels */
     type_len = 0;
@@ -134,6 +150,9 @@ int main(void)
     chain = taken(read_call);
     if (chain > reading)
         reading = chain;
+    chain = taken(batch_call);
+    if (chain > batch)
+        batch = chain;
 
     /* attributes with a group of as many tokens as there may be, and defaults before each inferred start */
     for (k = 0; k < SGML_TAGLVL; k++) {
@@ -146,12 +165,15 @@ int main(void)
     chain = taken(read_call);
     if (chain > reading)
         reading = chain;
+    chain = taken(batch_call);
+    if (chain > batch)
+        batch = chain;
     chain = taken(list_call);
     if (chain > judging)
         judging = chain;
     chain = taken(judge_call);
     if (chain > judging)
         judging = chain;
-    printf("a call that judges a type takes %zu bytes of stack, one of the reader %zu; the limit is %d\n", judging, reading, SGML_STACK_BYTES);
+    printf("a call that judges a type takes %zu bytes of stack, one of the reader %zu, a batch %zu; the limit is %d\n", judging, reading, batch, SGML_STACK_BYTES);
     return wrong;
 }

@@ -18,8 +18,8 @@ struct answer {
     uint32_t before, numbers[SGML_ANSWER_SIZE], behind;
 };
 
-/* How long a name may be in this input. */
-static uint32_t name_length;
+/* How long a name may be in this input, and its edition. */
+static uint32_t name_length, edition;
 
 /* What was answered leads libFuzzer on, since the library itself counts nothing for it. */
 __attribute__((section("__libfuzzer_extra_counters"))) uint8_t seen[8192];
@@ -87,7 +87,7 @@ static uint8_t *judge(struct slice type, size_t room, struct answer *a)
     size_t lengths[2] = { type.length, 0 };
     uint8_t *buffer = lend(room);
     a->before = a->behind = FILL;
-    must(sgml_judge(type.bytes, type.length, buffer, room, a->numbers, name_length) == a->numbers[SGML_ANSWER_NUMBER], "the judge gives back the number");
+    must(sgml_judge(type.bytes, type.length, buffer, room, a->numbers, name_length, edition) == a->numbers[SGML_ANSWER_NUMBER], "the judge gives back the number");
     check_answer(a, buffer, room, SGML_RECORD_BYTES, lengths);
     must(a->numbers[SGML_ANSWER_INPUT] != SGML_IN_DOCUMENT, "the judge looks at the type only");
     return buffer;
@@ -98,7 +98,7 @@ static uint8_t *list_attributes(struct slice type, size_t room, struct answer *a
     size_t lengths[2] = { type.length, 0 };
     uint8_t *buffer = lend(room);
     a->before = a->behind = FILL;
-    must(sgml_attributes(type.bytes, type.length, buffer, room, a->numbers, name_length) == a->numbers[SGML_ANSWER_NUMBER],
+    must(sgml_attributes(type.bytes, type.length, buffer, room, a->numbers, name_length, edition) == a->numbers[SGML_ANSWER_NUMBER],
          "the list of attributes gives back the number");
     check_answer(a, buffer, room, SGML_ATTRIBUTE_BYTES, lengths);
     return buffer;
@@ -109,7 +109,7 @@ static uint8_t *read_events(struct slice type, struct slice document, size_t roo
     size_t lengths[2] = { type.length, document.length };
     uint8_t *buffer = lend(room);
     a->before = a->behind = FILL;
-    must(sgml_read(type.bytes, type.length, document.bytes, document.length, buffer, room, a->numbers, name_length) == a->numbers[SGML_ANSWER_NUMBER],
+    must(sgml_read(type.bytes, type.length, document.bytes, document.length, buffer, room, a->numbers, name_length, edition) == a->numbers[SGML_ANSWER_NUMBER],
          "the reader gives back the number");
     check_answer(a, buffer, room, SGML_EVENT_BYTES, lengths);
     return buffer;
@@ -292,6 +292,35 @@ static void check_longer(struct slice type, struct slice document, size_t room, 
     name_length = given;
 }
 
+/* The document in two parts, a part that passes the end and the whole, in one batch beside the single calls. The stretches stand in another order. */
+static void check_batch(struct slice type, struct slice document)
+{
+    enum { ROOM = 4096, PARTS = 4 };
+    static uint8_t buffer[PARTS * ROOM], expected[PARTS * ROOM];
+    size_t cut = document.length ? document.bytes[0] % (document.length + 1) : 0, k;
+    size_t starts[PARTS] = { 0, cut, cut, 0 }, lengths[PARTS] = { cut, document.length - cut, document.length - cut + 1, document.length };
+    size_t froms[PARTS] = { 3 * ROOM, 7, 2 * ROOM, ROOM }, sizes[PARTS] = { ROOM, ROOM - 7, cut % ROOM, ROOM };
+    uint32_t answers[PARTS * SGML_ANSWER_SIZE], answer[SGML_ANSWER_SIZE], own[SGML_ANSWER_SIZE];
+    int offered = SGML_NAMELEN <= name_length && name_length <= SGML_MOST_NAMELEN;
+    memset(buffer, FILL, sizeof buffer);
+    memset(expected, FILL, sizeof expected);
+    must(sgml_read_batch(type.bytes, type.length, document.bytes, document.length, starts, PARTS, lengths, PARTS, buffer, sizeof buffer, froms, PARTS, sizes, PARTS,
+                         answers, PARTS * SGML_ANSWER_SIZE, answer, name_length, edition) == (offered ? SGML_ACCEPTED : SGML_ERR_SETTINGS), "the lists are fit");
+    must(answer[SGML_ANSWER_COUNT] == (offered ? PARTS : 0), "a batch says how many documents it has");
+    for (k = 0; k < PARTS; k++) {
+        static const uint8_t none[SGML_DOCUMENT_LIMIT + 1];
+        must(sgml_read(type.bytes, type.length, k == 2 ? none : document.bytes + starts[k], k == 2 ? sizeof none : lengths[k], expected + froms[k], sizes[k], own, name_length, edition) == own[0],
+             "the reader gives back the number");
+        must(!memcmp(own, answers + SGML_ANSWER_SIZE * k, sizeof own), "a batch answers as the single calls");
+    }
+    must(!memcmp(buffer, expected, sizeof buffer), "a batch leaves in its stretches what the single calls do, and the rest as it was");
+    froms[1]++;
+    must(sgml_read_batch(type.bytes, type.length, document.bytes, document.length, starts, PARTS, lengths, PARTS, buffer, sizeof buffer, froms, PARTS, sizes, PARTS,
+                         answers, PARTS * SGML_ANSWER_SIZE, answer, name_length, edition) == (offered ? SGML_ERR_BATCH : SGML_ERR_SETTINGS),
+         "one byte in two stretches is 23");
+    must(all(buffer, sizeof buffer, 0), "23 zeroes the buffer");
+}
+
 static void check_calls(struct slice type, struct slice document)
 {
     static uint8_t records[SGML_RECORD_BYTES * SGML_ELEMENT_LIMIT], lists[SGML_MOST_ATTRIBUTE_BYTES];
@@ -320,6 +349,7 @@ static void check_calls(struct slice type, struct slice document)
         check_longer(type, document, room, events, a.numbers[SGML_ANSWER_COUNT]);
         check_room(type, document, a.numbers[SGML_ANSWER_COUNT], document.length);
     }
+    check_batch(type, document);
 }
 
 int LLVMFuzzerTestOneInput(const uint8_t *data, size_t size)
@@ -331,8 +361,10 @@ int LLVMFuzzerTestOneInput(const uint8_t *data, size_t size)
     if (size > sizeof copy)
         return 0;
     name_length = SGML_NAMELEN;
+    edition = SGML_FIRST_EDITION;
     if (size && data[0] >= 128) {
-        name_length = data[0] - 128;
+        name_length = data[0] % 64;
+        edition = 1 + data[0] / 64 % 2;
         data++;
         size--;
     }

@@ -4,7 +4,7 @@
 //! rustc -O --edition 2021 compare.rs -L FOLDER -l static=NAME && ./compare COUNT SEED [FIRST] [trace]
 //!
 //! The judge on a type file and its list of attributes, and the reader on three documents for each, half of them with names longer
-//! than 8 and a length of names to go with them, now and then one that is refused.
+//! than 8 and a length of names to go with them, now and then one that is refused; in either edition.
 //! Case number n of a seed is always the same; FIRST skips the cases before it, and `trace` prints
 //! each case's number first, to find one that ends the program.
 
@@ -15,7 +15,7 @@ mod oracle;
 
 use generate::Random;
 use held::{differs, show, show_smaller, Inputs, Lent};
-use oracle::Answer;
+use oracle::{Answer, Settings};
 use std::collections::BTreeMap;
 use std::{env, process};
 
@@ -67,7 +67,7 @@ fn compare_case(case: u64, random: &mut Random, tally: &mut Tally) {
     let longest = generate::name_length(random);
     let any = generate::any_type(random);
     let inputs = Inputs {
-        name_length: given(random, longest),
+        settings: given(random, longest),
         type_file: generate::stretched(&any.file, longest),
         document: None,
         lists: false,
@@ -82,7 +82,7 @@ fn compare_case(case: u64, random: &mut Random, tally: &mut Tally) {
     for under in [&any, &accepted, &accepted] {
         let document = generate::any_document(random, under);
         let inputs = Inputs {
-            name_length: given(random, longest),
+            settings: given(random, longest),
             type_file: generate::stretched(&under.file, longest),
             document: Some(generate::stretched(&document, longest)),
             lists: false,
@@ -91,13 +91,23 @@ fn compare_case(case: u64, random: &mut Random, tally: &mut Tally) {
     }
 }
 
-/// The length to which names were stretched, now and then the one beside it or one that is refused.
-fn given(random: &mut Random, longest: usize) -> u32 {
-    match random.below(100) {
+/// The length to which names were stretched, now and then the one beside it or one that is refused; either edition, seldom
+/// another.
+fn given(random: &mut Random, longest: usize) -> Settings {
+    let name_length = match random.below(100) {
         0..=3 => (longest - 1) as u32,
         4..=7 => (longest + 1) as u32,
         8..=10 => *random.pick(&[&0, &1, &7, &33, &64, &u32::MAX]),
         _ => longest as u32,
+    };
+    let edition = match random.below(100) {
+        0 => *random.pick(&[&0, &3, &u32::MAX]),
+        1..=45 => 1,
+        _ => 2,
+    };
+    Settings {
+        name_length,
+        edition,
     }
 }
 
@@ -105,7 +115,7 @@ fn given(random: &mut Random, longest: usize) -> u32 {
 fn accepted_type(random: &mut Random) -> generate::Type {
     loop {
         let sound = generate::sound_type(random);
-        if oracle::judge(8, &sound.file, &mut [0; JUDGE_ROOM]).number == 0 {
+        if oracle::judge(Settings::first(8), &sound.file, &mut [0; JUDGE_ROOM]).number == 0 {
             return sound;
         }
     }
@@ -150,16 +160,16 @@ fn record_bytes(inputs: &Inputs) -> usize {
 fn answer_with_room(inputs: &Inputs) -> Answer {
     match &inputs.document {
         None if inputs.lists => {
-            oracle::attributes(inputs.name_length, &inputs.type_file, &mut [0; LIST_ROOM])
+            oracle::attributes(inputs.settings, &inputs.type_file, &mut [0; LIST_ROOM])
         }
-        None => oracle::judge(inputs.name_length, &inputs.type_file, &mut [0; JUDGE_ROOM]),
+        None => oracle::judge(inputs.settings, &inputs.type_file, &mut [0; JUDGE_ROOM]),
         // A token brings under 50 events without attributes, see the paper's limit of 24 open elements; with them more and
         // more room is tried.
         Some(document) => {
             let mut room = oracle::NUMBERS_PER_EVENT * 50 * (document.len().min(65_535) + 1);
             loop {
                 let answer = oracle::read(
-                    inputs.name_length,
+                    inputs.settings,
                     &inputs.type_file,
                     document,
                     &mut vec![0; room],

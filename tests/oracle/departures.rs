@@ -1,6 +1,7 @@
 //! Where the paper departs from ISO 8879: each kind of departure, and inputs written anew so that
 //! both say the same of them.
 
+use crate::oracle::Settings;
 use crate::{library, oracle};
 use std::collections::BTreeSet;
 
@@ -48,7 +49,7 @@ pub fn plain_document(name_length: u32, type_file: &[u8], document: &[u8]) -> (V
         document.truncate(start);
         kinds.insert(kind);
     }
-    let noted = oracle::noted(name_length, type_file, &document);
+    let noted = oracle::noted(Settings::first(name_length), type_file, &document);
     let mut changes: Vec<(usize, String)> = noted.last_members;
     changes.extend(noted.ignored.into_iter().map(|at| (at, String::new())));
     // From the end on, so that those before stay where they are.
@@ -68,7 +69,7 @@ pub fn plain_document(name_length: u32, type_file: &[u8], document: &[u8]) -> (V
 /// Where a form begins that the reader refuses and onsgmls takes.
 fn form_refused(name_length: u32, type_file: &[u8], document: &[u8]) -> Option<(Kind, usize)> {
     let mut answer = [0; 6];
-    library::read(name_length, type_file, document, &mut [], &mut answer);
+    library::read(Settings::first(name_length), type_file, document, &mut [], &mut answer);
     let at = answer[POSITION] as usize;
     match answer[NUMBER] {
         1 => Some((Kind::House, DOCUMENT_BYTES)),
@@ -93,7 +94,7 @@ fn within_tag(name_length: u32, type_file: &[u8], document: &[u8], at: usize) ->
     let ends_within = |end: usize| {
         let mut answer = [0; 6];
         library::read(
-            name_length,
+            Settings::first(name_length),
             type_file,
             &document[..end],
             &mut [],
@@ -186,7 +187,7 @@ fn declaration_start(file: &[u8], at: usize) -> usize {
 
 fn judged(name_length: u32, type_file: &[u8]) -> [u32; 6] {
     let mut answer = [0; 6];
-    library::judge(name_length, type_file, &mut [0; 6 * 64 * 4], &mut answer);
+    library::judge(Settings::first(name_length), type_file, &mut [0; 6 * 64 * 4], &mut answer);
     answer
 }
 

@@ -8,7 +8,7 @@ mod held;
 mod library;
 mod oracle;
 
-use folders::{cases_in, name_length};
+use folders::{cases_in, settings};
 use held::{differs, show, show_smaller, Inputs, Lent};
 use std::path::Path;
 use std::{env, fs, io, process};
@@ -25,9 +25,9 @@ fn main() -> io::Result<()> {
         process::exit(2);
     };
     let (mut passed, mut failed) = (0, 0);
-    let mut try_one = |name_length: u32, type_file: &[u8], document: &[u8]| {
+    let mut try_one = |settings: oracle::Settings, type_file: &[u8], document: &[u8]| {
         let inputs = Inputs {
-            name_length,
+            settings,
             type_file: type_file.to_vec(),
             document: Some(document.to_vec()),
             lists: false,
@@ -48,18 +48,18 @@ fn main() -> io::Result<()> {
         }
     };
     for case in cases_in(Path::new(&folder))? {
-        let length = name_length(&case);
+        let given = settings(&case);
         let type_file = fs::read(case.join("type.sgm"))?;
         let document = fs::read(case.join("doc.sgm"))?;
         for cut in cuts(document.len()) {
-            try_one(length, &type_file, &document[..cut]);
+            try_one(given, &type_file, &document[..cut]);
         }
         for cut in cuts(type_file.len()) {
-            try_one(length, &type_file[..cut], &document);
+            try_one(given, &type_file[..cut], &document);
         }
         if document.len() <= SHORT {
             for changed in every_byte(&document) {
-                try_one(length, &type_file, &changed);
+                try_one(given, &type_file, &changed);
             }
         }
     }

@@ -1,5 +1,6 @@
-//! The cases in a folder of vectors, each a folder GROUP/CASE, and how long a name may be in each.
+//! The cases in a folder of vectors, each a folder GROUP/CASE, and the settings of each.
 
+use crate::oracle::Settings;
 use std::path::{Path, PathBuf};
 use std::{fs, io};
 
@@ -12,13 +13,17 @@ pub fn cases_in(folder: &Path) -> io::Result<Vec<PathBuf>> {
     Ok(cases)
 }
 
-/// `namelen N` of the case's file `args`; 8 where there is no such line.
-pub fn name_length(case: &Path) -> u32 {
+/// `namelen N` and `edition N` of the case's file `args`; 8 and 1 where there is no such line.
+pub fn settings(case: &Path) -> Settings {
     let args = fs::read_to_string(case.join("args")).unwrap_or_default();
-    let given = args
-        .lines()
-        .find_map(|line| line.strip_prefix("namelen ")?.parse().ok());
-    given.unwrap_or(8)
+    let given = |word: &str, otherwise: u32| {
+        let number = |line: &str| line.strip_prefix(word)?.trim().parse().ok();
+        args.lines().find_map(number).unwrap_or(otherwise)
+    };
+    Settings {
+        name_length: given("namelen ", 8),
+        edition: given("edition ", 1),
+    }
 }
 
 fn folders_in(folder: &Path) -> io::Result<Vec<PathBuf>> {

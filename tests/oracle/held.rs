@@ -11,7 +11,7 @@ const UNWRITTEN: u32 = 0xDEAD_BEEF;
 /// What one call is given, but for the buffer. Without a document the judge is called, or the list of attributes.
 #[derive(Clone)]
 pub struct Inputs {
-    pub name_length: u32,
+    pub settings: oracle::Settings,
     pub type_file: Vec<u8>,
     pub document: Option<Vec<u8>>,
     pub lists: bool,
@@ -54,11 +54,11 @@ fn expected(inputs: &Inputs, lent: Lent) -> Outcome {
     let mut numbers: Vec<u32> = buffer.chunks_exact(4).map(number).collect();
     let answer = match &inputs.document {
         None if inputs.lists => {
-            oracle::attributes(inputs.name_length, &inputs.type_file, &mut numbers)
+            oracle::attributes(inputs.settings, &inputs.type_file, &mut numbers)
         }
-        None => oracle::judge(inputs.name_length, &inputs.type_file, &mut numbers),
+        None => oracle::judge(inputs.settings, &inputs.type_file, &mut numbers),
         Some(document) => oracle::read(
-            inputs.name_length,
+            inputs.settings,
             &inputs.type_file,
             document,
             &mut numbers,
@@ -94,11 +94,11 @@ fn actual(inputs: &Inputs, lent: Lent) -> Outcome {
     let type_file = &inputs.type_file;
     let given = match &inputs.document {
         None if inputs.lists => {
-            library::attributes(inputs.name_length, type_file, buffer, &mut answer)
+            library::attributes(inputs.settings, type_file, buffer, &mut answer)
         }
-        None => library::judge(inputs.name_length, type_file, buffer, &mut answer),
+        None => library::judge(inputs.settings, type_file, buffer, &mut answer),
         Some(document) => {
-            library::read(inputs.name_length, type_file, document, buffer, &mut answer)
+            library::read(inputs.settings, type_file, document, buffer, &mut answer)
         }
     };
     Outcome {
@@ -117,7 +117,7 @@ pub fn show(case: u64, inputs: &Inputs, lent: Lent) {
     println!(
         "difference in case {case}, buffer of {length} bytes at offset {offset}, pattern {pattern}"
     );
-    println!("  names of at most {} bytes", inputs.name_length);
+    println!("  names of at most {} bytes, edition {}", inputs.settings.name_length, inputs.settings.edition);
     show_input("type", &inputs.type_file);
     if let Some(document) = &inputs.document {
         show_input("document", document);

@@ -118,9 +118,10 @@ impl Onsgmls {
             &self.file,
             [doctype.as_bytes(), type_file, b"]>", document].concat(),
         )?;
-        // -E0: all messages, however many.
+        // -E0: all messages, however many. Bytes 10 and 13 are given as they are, a record start and a record end.
+        let file = format!("<OSFILE RECORDS=ASIS>{}", self.file);
         Command::new("onsgmls")
-            .args(["-E0", option, &self.file])
+            .args(["-E0", option, &file])
             .env("LC_ALL", "C")
             .output()
     }
@@ -157,12 +158,13 @@ fn events_of(output: &[u8]) -> Vec<Event> {
     events
 }
 
-/// Data with `\\` and `\nnn` undone; the other escapes stand for what no case here has.
+/// Data with `\\`, `\n`, which is a record end, and `\nnn` undone; the other escapes stand for what no case here has.
 fn unescaped(mut text: &[u8]) -> Vec<u8> {
     let mut bytes = Vec::new();
     loop {
         let (byte, after) = match text {
             [b'\\', b'\\', after @ ..] => (b'\\', after),
+            [b'\\', b'n', after @ ..] => (b'\r', after),
             [b'\\', a @ b'0'..=b'3', b @ b'0'..=b'7', c @ b'0'..=b'7', after @ ..] => {
                 (64 * (a - b'0') + 8 * (b - b'0') + (c - b'0'), after)
             }

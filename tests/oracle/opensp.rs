@@ -1,6 +1,6 @@
 //! Holds the library beside OpenSP: generated documents without record ends are accepted by both or
-//! by neither, with the same elements, attributes, tags left out and text; generated type files likewise, with
-//! the same first pair of places where a model is ambiguous. Where the paper departs from ISO 8879
+//! by neither, with the same elements, attributes, tags left out and text, and so are documents of record ends in
+//! edition 2; generated type files likewise, with the same first pair of places where a model is ambiguous. Where the paper departs from ISO 8879
 //! (`departures.rs`), the inputs are written anew and compared once more. Names may have LENGTH bytes, in
 //! the declaration that onsgmls is given too.
 //!
@@ -18,6 +18,7 @@ mod oracle;
 use departures::{plain_document, plain_type, without_comments, Kind, Kinds};
 use generate::Random;
 use onsgmls::{add_data, clashes, Event, Onsgmls};
+use oracle::Settings;
 use std::collections::BTreeMap;
 use std::{env, io, process};
 
@@ -47,6 +48,19 @@ const EXAMPLES: [(Kind, &str, Option<&str>); 14] = [
     (Kind::Repeated, "<!ELEMENT A - O ((B&C)*,D)+>", None),
 ];
 
+/// Types in which a byte 13 is data wherever an element has `#PCDATA`, so that no departure bears on record ends.
+const RECORD_TYPES: [&str; 6] = [
+    "<!ELEMENT P - O (#PCDATA|Q|E)*><!ELEMENT Q - O (#PCDATA)><!ELEMENT E - O EMPTY>",
+    "<!ELEMENT P - O (Q|E)*><!ELEMENT Q - O (#PCDATA)><!ELEMENT E - O EMPTY>",
+    "<!ELEMENT P O O (Q+)><!ELEMENT Q O O (#PCDATA)>",
+    "<!ELEMENT P O O (Q|E)*><!ELEMENT Q O O (#PCDATA)><!ELEMENT E - O (#PCDATA|Q)*>",
+    "<!ELEMENT P O O ((Q|#PCDATA)*)><!ELEMENT Q - O (P|E|#PCDATA)*><!ELEMENT E - O EMPTY>",
+    "<!ELEMENT P - - (#PCDATA|Q|E)*><!ELEMENT Q - - (#PCDATA|E)*><!ELEMENT E - O EMPTY>",
+];
+const RECORD_PIECES: [&str; 18] = [
+    "\r", "\r", "\r", "\r", "\r\n", "\r\n", "\n", "x", "y z", "<!-- c -->", "<!-- c -->", "<!-- \r\n -->", "<!>", "<!>", "<Q>", "<Q>", "<E>", "</Q>",
+];
+
 fn main() -> io::Result<()> {
     let arguments: Vec<String> = env::args().skip(1).collect();
     let number = |index: usize| arguments.get(index)?.parse::<u64>().ok();
@@ -74,6 +88,7 @@ fn main() -> io::Result<()> {
     for (what, count, compare) in [
         ("documents", documents, any_document as Compare),
         ("documents under \"&\"", documents, any_order_document),
+        ("documents of record ends", 2 * documents, any_records),
         ("type files", types, any_type),
         ("type files with \"&\"", types, any_order_type),
     ] {
@@ -201,6 +216,33 @@ fn some_document(
     )
 }
 
+/// Record ends, text, comments and tags, in edition 2.
+fn any_records(beside: &Onsgmls, random: &mut Random) -> io::Result<Compared> {
+    let type_file = random.pick(&RECORD_TYPES).as_bytes().to_vec();
+    let mut document = "<P>".to_string();
+    for _ in 0..random.between(1, 14) {
+        document += random.pick(&RECORD_PIECES);
+    }
+    // Not every end tag has its start; the last ones are left out or written.
+    if random.percent(50) {
+        document += random.pick(&["</P>", "</Q></P>"]);
+    }
+    let document = document.into_bytes();
+    let settings = Settings {
+        name_length: beside.name_length,
+        edition: 2,
+    };
+    let difference = difference_under(settings, beside, &type_file, &document)?;
+    Ok(Compared {
+        number: reading(settings, &type_file, &document).err().unwrap_or(0),
+        type_file,
+        document,
+        difference_anew: difference.clone(),
+        difference,
+        kinds: Kinds::new(),
+    })
+}
+
 fn compare_document(
     beside: &Onsgmls,
     type_file: Vec<u8>,
@@ -208,7 +250,8 @@ fn compare_document(
 ) -> io::Result<Compared> {
     let difference = document_difference(beside, &type_file, &document)?;
     let (plain, kinds) = plain_document(beside.name_length, &type_file, &document);
-    let read = |document: &[u8]| reading(beside.name_length, &type_file, document);
+    let settings = Settings::first(beside.name_length);
+    let read = |document: &[u8]| reading(settings, &type_file, document);
     let reading = read(&document);
     // Of some, only the beginning is left.
     let cut = [Kind::LeftOut, Kind::Value, Kind::Net, Kind::House]
@@ -271,15 +314,15 @@ fn without_record_ends(random: &mut Random, document: &[u8]) -> Vec<u8> {
 }
 
 /// The library's events, or its refusal number.
-fn reading(name_length: u32, type_file: &[u8], document: &[u8]) -> Read {
+fn reading(settings: Settings, type_file: &[u8], document: &[u8]) -> Read {
     let (mut answer, mut records) = ([0; 6], [0; 6 * 4 * 64]);
-    library::judge(name_length, type_file, &mut records, &mut answer);
+    library::judge(settings, type_file, &mut records, &mut answer);
     let mut lists = vec![0; LIST_BYTES * 40 * 64];
-    library::attributes(name_length, type_file, &mut lists, &mut answer);
+    library::attributes(settings, type_file, &mut lists, &mut answer);
     lists.truncate(LIST_BYTES * answer[5] as usize);
     // No token brings more than 50 events and 24 times 40 attributes, and a token has at least one byte.
     let mut buffer = vec![0; EVENT_BYTES * 1010 * (document.len() + 1)];
-    library::read(name_length, type_file, document, &mut buffer, &mut answer);
+    library::read(settings, type_file, document, &mut buffer, &mut answer);
     if answer[0] != 0 {
         return Err(answer[0]);
     }
@@ -346,7 +389,16 @@ fn document_difference(
     type_file: &[u8],
     document: &[u8],
 ) -> io::Result<Option<String>> {
-    let ours = reading(beside.name_length, type_file, document);
+    difference_under(Settings::first(beside.name_length), beside, type_file, document)
+}
+
+fn difference_under(
+    settings: Settings,
+    beside: &Onsgmls,
+    type_file: &[u8],
+    document: &[u8],
+) -> io::Result<Option<String>> {
+    let ours = reading(settings, type_file, document);
     let theirs = beside.read(&root(type_file), type_file, document)?;
     Ok(match (&ours, &theirs) {
         (Ok(ours), Ok(theirs)) if ours == theirs => None,
@@ -357,7 +409,7 @@ fn document_difference(
 
 fn judged(name_length: u32, type_file: &[u8]) -> [u32; 6] {
     let mut answer = [0; 6];
-    library::judge(name_length, type_file, &mut [0; 6 * 4 * 64], &mut answer);
+    library::judge(Settings::first(name_length), type_file, &mut [0; 6 * 4 * 64], &mut answer);
     answer
 }
 

@@ -5,6 +5,8 @@ use std::collections::{BTreeMap, BTreeSet};
 
 /// The numbers that a caller may give for the length of names.
 const NAME_LENGTHS: std::ops::RangeInclusive<u32> = 8..=32;
+/// The editions of the record rule that a caller may give.
+const EDITIONS: std::ops::RangeInclusive<u32> = 1..=2;
 const GRPCNT: usize = 32;
 const GRPLVL: usize = 16;
 const GRPGTCNT: usize = 96;
@@ -22,6 +24,26 @@ const NUMBERS_PER_ELEMENT: usize = 6;
 const NUMBERS_PER_ATTRIBUTE: usize = 9;
 pub const NUMBERS_PER_EVENT: usize = 5;
 
+/// What the caller chooses.
+#[derive(Clone, Copy, Debug, PartialEq, Eq)]
+pub struct Settings {
+    /// Bytes that a name may have.
+    pub name_length: u32,
+    /// By which rule record ends are read.
+    pub edition: u32,
+}
+
+impl Settings {
+    /// The first edition. (Not every program that has this file asks for it.)
+    #[allow(dead_code)]
+    pub fn first(name_length: u32) -> Self {
+        Settings {
+            name_length,
+            edition: 1,
+        }
+    }
+}
+
 /// The full answer of either call; number 0 is acceptance.
 #[derive(Clone, Copy, Debug, Default, PartialEq, Eq)]
 pub struct Answer {
@@ -37,22 +59,22 @@ pub struct Answer {
 
 /// Judges the type file, whose names may be so long; an accepted one leaves six numbers per element in
 /// `buffer`.
-pub fn judge(name_length: u32, type_file: &[u8], buffer: &mut [u32]) -> Answer {
-    let elements = check_settings(name_length)
+pub fn judge(settings: Settings, type_file: &[u8], buffer: &mut [u32]) -> Answer {
+    let elements = check_settings(settings)
         .and_then(|()| check_length(type_file, TYPE_BYTES, IN_TYPE))
         .and_then(|()| check_bytes(type_file, IN_TYPE))
-        .and_then(|()| judged(name_length, type_file));
+        .and_then(|()| judged(settings, type_file));
     let numbers = elements.map(|elements| elements.iter().flat_map(Element::record).collect());
     hand_over(numbers, NUMBERS_PER_ELEMENT, IN_TYPE, buffer)
 }
 
 /// The attributes of the type file, refused as it is; an accepted one leaves nine numbers per attribute: element, number
 /// in its list, offset and length of its name, declared value, its group, default, offset and length of the default.
-pub fn attributes(name_length: u32, type_file: &[u8], buffer: &mut [u32]) -> Answer {
-    let elements = check_settings(name_length)
+pub fn attributes(settings: Settings, type_file: &[u8], buffer: &mut [u32]) -> Answer {
+    let elements = check_settings(settings)
         .and_then(|()| check_length(type_file, TYPE_BYTES, IN_TYPE))
         .and_then(|()| check_bytes(type_file, IN_TYPE))
-        .and_then(|()| judged(name_length, type_file));
+        .and_then(|()| judged(settings, type_file));
     let numbers = elements.map(|elements| {
         let mut numbers = Vec::new();
         for (element, number) in elements.iter().zip(1..) {
@@ -66,8 +88,8 @@ pub fn attributes(name_length: u32, type_file: &[u8], buffer: &mut [u32]) -> Ans
 }
 
 /// Reads the document under the type file; an accepted one leaves five numbers per event.
-pub fn read(name_length: u32, type_file: &[u8], document: &[u8], buffer: &mut [u32]) -> Answer {
-    let numbers = events(name_length, type_file, document).map(|events| events.concat());
+pub fn read(settings: Settings, type_file: &[u8], document: &[u8], buffer: &mut [u32]) -> Answer {
+    let numbers = events(settings, type_file, document).map(|events| events.concat());
     hand_over(numbers, NUMBERS_PER_EVENT, IN_DOCUMENT, buffer)
 }
 
@@ -83,11 +105,11 @@ pub struct Noted {
 
 /// The type file is an accepted one. (`opensp.rs` alone asks for this.)
 #[allow(dead_code)]
-pub fn noted(name_length: u32, type_file: &[u8], document: &[u8]) -> Noted {
+pub fn noted(settings: Settings, type_file: &[u8], document: &[u8]) -> Noted {
     let mut noted = Noted::default();
-    if let Ok(elements) = judged(name_length, type_file) {
+    if let Ok(elements) = judged(settings, type_file) {
         // A refusal ends the lists; what it is doesn't matter here.
-        let _ = read_document(name_length, &elements, document, &mut noted);
+        let _ = read_document(settings, &elements, document, &mut noted);
     }
     noted
 }
@@ -150,23 +172,23 @@ fn hand_over(
 
 /// Order of the papers: 24, 1 type, 1 document, 2 type, 2 document, the type's 3 to 9, the document.
 fn events(
-    name_length: u32,
+    settings: Settings,
     type_file: &[u8],
     document: &[u8],
 ) -> Result<Vec<[u32; NUMBERS_PER_EVENT]>, Refusal> {
-    check_settings(name_length)?;
+    check_settings(settings)?;
     check_length(type_file, TYPE_BYTES, IN_TYPE)?;
     check_length(document, DOCUMENT_BYTES, IN_DOCUMENT)?;
     check_bytes(type_file, IN_TYPE)?;
     check_bytes(document, IN_DOCUMENT)?;
-    let elements = judged(name_length, type_file)?;
-    read_document(name_length, &elements, document, &mut Noted::default())
+    let elements = judged(settings, type_file)?;
+    read_document(settings, &elements, document, &mut Noted::default())
         .map_err(|(position, number)| Refusal::new(number, IN_DOCUMENT, position))
 }
 
 /// Number 24, in the type at 0, before everything else.
-fn check_settings(name_length: u32) -> Result<(), Refusal> {
-    match NAME_LENGTHS.contains(&name_length) {
+fn check_settings(settings: Settings) -> Result<(), Refusal> {
+    match NAME_LENGTHS.contains(&settings.name_length) && EDITIONS.contains(&settings.edition) {
         true => Ok(()),
         false => Err(Refusal::new(24, IN_TYPE, 0)),
     }
@@ -192,9 +214,9 @@ fn check_bytes(bytes: &[u8], input: u32) -> Result<(), Refusal> {
 }
 
 /// Numbers 3 to 8 over the whole type file, then 25, then 9 over its models in turn.
-fn judged(name_length: u32, type_file: &[u8]) -> Result<Vec<Element>, Refusal> {
+fn judged(settings: Settings, type_file: &[u8]) -> Result<Vec<Element>, Refusal> {
     let elements = TypeReader {
-        longest: name_length as usize,
+        longest: settings.name_length as usize,
         bytes: type_file,
         at: 0,
         elements: Vec::new(),
@@ -1290,26 +1312,82 @@ enum Token {
     Data,
 }
 
+/// What the content of an element consists of, for the record rule of edition 2: "A subelement counts as
+/// one thing within its record; bytes 10 and 13 within markup don't count."
+#[derive(Clone, Copy, PartialEq)]
+enum Thing {
+    Markup,
+    /// A byte 10, or a byte 13 that wouldn't be data.
+    Boundary,
+    /// A byte 13 that would be data, at its offset.
+    RecordEnd(usize),
+    Data,
+    Subelement,
+}
+
+impl Thing {
+    fn is_record(self) -> bool {
+        matches!(self, Thing::Boundary | Thing::RecordEnd(_))
+    }
+}
+
+/// "It is the first in its element and no byte 10, data or subelement came before."
+fn is_first(before: &[Thing]) -> bool {
+    before.iter().all(|&thing| thing == Thing::Markup)
+}
+
+/// "It doesn't stand directly after a byte 10 or 13 and nothing but markup came since the last of these."
+fn is_after_markup(before: &[Thing]) -> bool {
+    match before.iter().rposition(|thing| thing.is_record()) {
+        Some(record) => {
+            let since = &before[record + 1..];
+            !since.is_empty() && since.iter().all(|&thing| thing == Thing::Markup)
+        }
+        None => false,
+    }
+}
+
+/// "It is the last and no data or subelement follows": a byte 13 that is ignored by what came before it is
+/// not there for this (point 20).
+fn last(content: &[Thing]) -> Option<usize> {
+    for (index, thing) in content.iter().enumerate().rev() {
+        let before = &content[..index];
+        match thing {
+            Thing::Markup | Thing::Boundary => {}
+            Thing::RecordEnd(_) if is_first(before) || is_after_markup(before) => {}
+            Thing::RecordEnd(at) => return Some(*at),
+            Thing::Data | Thing::Subelement => return None,
+        }
+    }
+    None
+}
+
 /// An open element; at the very bottom the document itself, whose model is the document element.
 struct Open<'a> {
     element: usize,
     model: &'a Model,
     remainder: Remainder,
     taken: BTreeSet<usize>,
+    /// All that came in it.
+    content: Vec<Thing>,
 }
 
 struct DocumentReader<'a> {
     /// Bytes that a name may have.
     longest: usize,
+    edition: u32,
     elements: &'a [Element],
     bytes: &'a [u8],
     open: Vec<Open<'a>>,
+    /// Each data byte by itself; a byte 13 that turns out to be ignored as the last too.
     events: Vec<[u32; NUMBERS_PER_EVENT]>,
+    /// The offsets of those.
+    last: BTreeSet<usize>,
     noted: &'a mut Noted,
 }
 
 fn read_document(
-    name_length: u32,
+    settings: Settings,
     elements: &[Element],
     bytes: &[u8],
     noted: &mut Noted,
@@ -1334,13 +1412,16 @@ fn read_document(
         model: &model,
         remainder: model.start(),
         taken: BTreeSet::new(),
+        content: Vec::new(),
     };
     let mut reader = DocumentReader {
-        longest: name_length as usize,
+        longest: settings.name_length as usize,
+        edition: settings.edition,
         elements,
         bytes,
         open: vec![document],
         events: Vec::new(),
+        last: BTreeSet::new(),
         noted,
     };
     let mut at = 0;
@@ -1348,7 +1429,7 @@ fn read_document(
         at = reader.piece(at)?;
     }
     reader.document_end()?;
-    Ok(reader.events)
+    Ok(reader.joined_events())
 }
 
 impl<'a> DocumentReader<'a> {
@@ -1357,8 +1438,11 @@ impl<'a> DocumentReader<'a> {
         let letter = |distance| self.holds(at + distance, |byte| byte.is_ascii_alphabetic());
         let rest = &self.bytes[at..];
         if rest.starts_with(b"<!--") {
-            comment_declaration(self.bytes, at + 2, 4)
+            let after = comment_declaration(self.bytes, at + 2, 4)?;
+            self.came(Thing::Markup);
+            Ok(after)
         } else if rest.starts_with(b"<!>") {
+            self.came(Thing::Markup);
             Ok(at + 3)
         } else if self.is_left_out(at) {
             Err((at, 5))
@@ -1386,32 +1470,68 @@ impl<'a> DocumentReader<'a> {
             || is_reference(self.bytes, at)
     }
 
+    /// One thing more in the current element.
+    fn came(&mut self, thing: Thing) {
+        self.open
+            .last_mut()
+            .expect("the document itself is never popped")
+            .content
+            .push(thing);
+    }
+
     /// A byte that is data or ignored.
     fn single_byte(&mut self, at: usize) -> Result<usize, Fault> {
-        let ignored = match self.bytes[at] {
-            10 => true,
-            9 | 13 | 32 => self.fitting(Token::Data).is_none(),
-            _ => false,
-        };
-        if !ignored {
-            self.settle(Token::Data, at)?;
-            match self.events.last_mut() {
-                // The longest run: the byte directly before was data too.
-                Some([DATA, _, offset, length, _]) if (*offset + *length) as usize == at => {
+        let byte = self.bytes[at];
+        let is_separator = matches!(byte, 9 | 13 | 32);
+        if byte == 10 || is_separator && self.fitting(Token::Data).is_none() {
+            if byte == 10 || byte == 13 {
+                self.came(Thing::Boundary);
+            }
+            let places = &self.current().model.places;
+            if places.iter().any(|place| place.name == PCDATA) {
+                self.noted.ignored.push(at);
+            }
+            return Ok(at + 1);
+        }
+        let mut thing = Thing::Data;
+        if self.edition == 2 && byte == 13 {
+            thing = Thing::RecordEnd(at);
+            // "The other two kinds take no place."
+            let before = &self.current().content;
+            if is_first(before) || is_after_markup(before) {
+                self.came(thing);
+                return Ok(at + 1);
+            }
+        }
+        self.settle(Token::Data, at)?;
+        self.came(thing);
+        self.event(DATA, None, at, 1, None);
+        Ok(at + 1)
+    }
+
+    /// The current element ends, and all of its content is known.
+    fn close(&mut self) {
+        let closed = self.open.pop().expect("an element is open");
+        self.last.extend(last(&closed.content));
+    }
+
+    /// Without the bytes ignored as the last, and neighbouring data bytes as one run.
+    fn joined_events(&self) -> Vec<[u32; NUMBERS_PER_EVENT]> {
+        let mut joined: Vec<[u32; NUMBERS_PER_EVENT]> = Vec::new();
+        for event in &self.events {
+            if event[0] == DATA && self.last.contains(&(event[2] as usize)) {
+                continue;
+            }
+            match joined.last_mut() {
+                Some([DATA, _, offset, length, _])
+                    if event[0] == DATA && *offset + *length == event[2] =>
+                {
                     *length += 1
                 }
-                _ => self.event(DATA, None, at, 1, None),
+                _ => joined.push(*event),
             }
-        } else if self
-            .current()
-            .model
-            .places
-            .iter()
-            .any(|place| place.name == PCDATA)
-        {
-            self.noted.ignored.push(at);
         }
-        Ok(at + 1)
+        joined
     }
 
     /// A name at `at` and where it ends. Number 3.
@@ -1529,6 +1649,7 @@ impl<'a> DocumentReader<'a> {
         }
         self.attribute_events(element, &given);
         self.event(START_WRITTEN, Some(element), at, after - at, place);
+        self.came(Thing::Subelement);
         let elements = self.elements;
         match &elements[element].model {
             Some(model) => self.push(element, model),
@@ -1548,7 +1669,7 @@ impl<'a> DocumentReader<'a> {
         if !self.current_complete() {
             return Err((at, 13));
         }
-        self.open.pop();
+        self.close();
         self.event(END_WRITTEN, Some(element), at, after - at, None);
         Ok(after)
     }
@@ -1578,7 +1699,7 @@ impl<'a> DocumentReader<'a> {
 
     fn infer_end(&mut self, at: usize) {
         let element = self.current().element;
-        self.open.pop();
+        self.close();
         self.event(END_INFERRED, Some(element), at, 0, None);
     }
 
@@ -1704,6 +1825,7 @@ impl<'a> DocumentReader<'a> {
             let place = self.take(Token::Start(element));
             self.attribute_events(element, &[]);
             self.event(START_INFERRED, Some(element), at, 0, place);
+            self.came(Thing::Subelement);
             self.push(element, model);
         }
     }
@@ -1744,6 +1866,7 @@ impl<'a> DocumentReader<'a> {
             model,
             remainder: model.start(),
             taken: BTreeSet::new(),
+            content: Vec::new(),
         });
     }
 

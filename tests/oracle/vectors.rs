@@ -1,6 +1,6 @@
 //! Runs the oracle over a folder of vectors, each a folder GROUP/CASE with type.sgm, doc.sgm and
 //! expected, and checks that the small program would print exactly what is expected; where a file `args`
-//! gives another length of names than 8, that a program would which gives that one. A file `numbers` has
+//! gives another length of names than 8 or another edition than 1, that a program would which gives those. A file `numbers` has
 //! the five numbers of each event.
 //!
 //! rustc -O --edition 2021 vectors.rs && ./vectors FOLDER
@@ -8,7 +8,7 @@
 mod folders;
 mod oracle;
 
-use folders::{cases_in, name_length};
+use folders::{cases_in, settings};
 use std::collections::BTreeMap;
 use std::fmt::Write;
 use std::path::Path;
@@ -25,7 +25,7 @@ fn main() -> io::Result<()> {
     let (mut passed, mut failed) = (0, 0);
     for case in cases_in(Path::new(&folder))? {
         let (printed, numbers) = small_program(
-            name_length(&case),
+            settings(&case),
             &fs::read(case.join("type.sgm"))?,
             &fs::read(case.join("doc.sgm"))?,
         );
@@ -47,9 +47,9 @@ fn main() -> io::Result<()> {
 }
 
 /// What it would print, and the numbers of the events, a line each.
-fn small_program(name_length: u32, type_file: &[u8], document: &[u8]) -> (String, String) {
+fn small_program(settings: oracle::Settings, type_file: &[u8], document: &[u8]) -> (String, String) {
     let mut buffer = [0; LENT];
-    let answer = oracle::read(name_length, type_file, document, &mut buffer);
+    let answer = oracle::read(settings, type_file, document, &mut buffer);
     if answer.number != 0 {
         let input = if answer.input == 1 {
             "type"
@@ -62,8 +62,8 @@ fn small_program(name_length: u32, type_file: &[u8], document: &[u8]) -> (String
         );
         return (refused, String::new());
     }
-    let names = element_names(name_length, type_file);
-    let attributes = attribute_names(name_length, type_file);
+    let names = element_names(settings, type_file);
+    let attributes = attribute_names(settings, type_file);
     let mut printed = format!("events {}\n", answer.count);
     let mut numbers = String::new();
     let events: Vec<&[u32]> = buffer
@@ -92,9 +92,9 @@ fn small_program(name_length: u32, type_file: &[u8], document: &[u8]) -> (String
 }
 
 /// Upper case names of the declared elements, from the judge's records.
-fn element_names(name_length: u32, type_file: &[u8]) -> Vec<String> {
+fn element_names(settings: oracle::Settings, type_file: &[u8]) -> Vec<String> {
     let mut buffer = [0; 6 * 64];
-    let count = oracle::judge(name_length, type_file, &mut buffer).count as usize;
+    let count = oracle::judge(settings, type_file, &mut buffer).count as usize;
     let name = |record: &[u32]| {
         let (offset, length) = (record[0] as usize, record[1] as usize);
         String::from_utf8_lossy(&type_file[offset..offset + length]).to_ascii_uppercase()
@@ -103,9 +103,9 @@ fn element_names(name_length: u32, type_file: &[u8]) -> Vec<String> {
 }
 
 /// Upper case names of the declared attributes, by the numbers of element and attribute.
-fn attribute_names(name_length: u32, type_file: &[u8]) -> BTreeMap<(u32, u32), String> {
+fn attribute_names(settings: oracle::Settings, type_file: &[u8]) -> BTreeMap<(u32, u32), String> {
     let mut buffer = [0; 9 * 40 * 64];
-    let count = oracle::attributes(name_length, type_file, &mut buffer).count as usize;
+    let count = oracle::attributes(settings, type_file, &mut buffer).count as usize;
     let name = |record: &[u32]| {
         let (offset, length) = (record[2] as usize, record[3] as usize);
         let name = String::from_utf8_lossy(&type_file[offset..offset + length]);

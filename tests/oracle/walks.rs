@@ -314,7 +314,7 @@ fn required(model: &Model, taken: &[usize]) -> Option<usize> {
 // The oracle's answers held against them
 
 fn check(model: &Model) -> Result<(), String> {
-    let answer = oracle::judge(8, model.text.as_bytes(), &mut [0; 6]);
+    let answer = oracle::judge(oracle::Settings::first(8), model.text.as_bytes(), &mut [0; 6]);
     let judged =
         [answer.number, answer.position, answer.first, answer.second].map(|number| number as usize);
     let expected = match pair_at_fault(model) {
@@ -398,7 +398,7 @@ fn expect(model: &Model, document: &str, expected: Expected) -> Result<(), Strin
     let type_file = model.text.clone() + &["A", "B", "C", "D"].map(child).concat();
     let read = |document: &str| {
         let answer = oracle::read(
-            8,
+            oracle::Settings::first(8),
             type_file.as_bytes(),
             document.as_bytes(),
             &mut [0; 1_000],

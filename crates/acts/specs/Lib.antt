@@ -1,4 +1,4 @@
 -- The acts of which a reading consists: what is true of them, and that every reading is such a sequence.
-pub mod Laws
+pub mod Sequences
 pub mod Readings
 pub mod Deeds

@@ -17,13 +17,14 @@ use Rattle.rules.specs.Decisions.{Token, start, pcdata, Decisions}
 use Rattle.rules.specs.Events.{Event, startWritten, startInferred, endWritten, endInferred, endOfEmpty}
 use Rattle.rules.specs.Given.{withAttributes}
 use Rattle.rules.specs.Settling.{Open, State, nothingOpen, takePlace, placeTaken, enter, note, limited, isOpen, Inward, settled, stuck, fitting, isComplete, requiredPlace, chain, inferStarts, takeToken, inward, settleFrom, isOver, settle, startElement, takeData, takeBlank, endLeftOut, closeFrom, endElement, endFrom, endDocument}
+use Rattle.rules.specs.Records.{Line, newLine, lineAfter, recordsSettled}
 use Rattle.rules.specs.Reader.{Reached, tagged, settlePiece, pieceUnder, piecesWithin, document}
 use Rattle.rules.specs.Acts.{Declared, starts, empties, infers, data-byte, infers-end, ends, Acts, still, next, Passes, begins, goes, Few}
 use Rattle.rules_laws.specs.Holds.{stops, reads, Gives, each, so, on, either, got-so}
 use Rattle.model_sets.specs.Bits.{and-left, and-right}
 use Rattle.document_laws.specs.Chain.{numberFrom-range, Leads, chain-leads}
 use Rattle.document_laws.specs.Moves.{state, withDatum}
-use Rattle.acts.specs.Laws.{acts-then, acts-last}
+use Rattle.acts.specs.Sequences.{acts-then, acts-last}
 
 -- At most n are open.
 abbrev Within : ℕ → State → Type 0
@@ -234,30 +235,30 @@ module _ (s : List ℕ) (es : List Element) (D : Decisions) where
     settlePiece-acts dataByte at z f = on (takeData-acts at z f) λ y a. reads a
 
     -- The states that reading comes to between pieces are such that acts lead to.
-    pub passes-acts : {c : Settings} {at : ℕ} {z : State} → Passes c s es D d at z → Acts s es D Few nothingOpen z
+    pub passes-acts : {c : Settings} {at : ℕ} {l : Line} {z : State} → Passes c s es D d at l z → Acts s es D Few nothingOpen z
     passes-acts begins = still {z = nothingOpen} (omega arith)
-    passes-acts (goes {at} {z} {p} r h l e f) =
+    passes-acts (goes {at} {l} {z} {p} r h i e f) =
         let a = passes-acts h in
         acts-then a (got-so (settlePiece-acts p at z (acts-last a)) f)
 
-    piecesWithin-acts : (c : Settings) (turns at : ℕ) (z : State) → Few z → Gives (Over z) (piecesWithin c s es D d turns at z)
+    piecesWithin-acts : (c : Settings) (turns at : ℕ) (l : Line) (z : State) → Few z → Gives (Over z) (piecesWithin c s es D d turns at l z)
     unfolding piecesWithin
-    piecesWithin-acts c zero at z f = stops tt
-    piecesWithin-acts c (suc turns) at z f =
+    piecesWithin-acts c zero at l z f = stops tt
+    piecesWithin-acts c (suc turns) at l z f =
         either (leb (length d) at) (λ e. endDocument-acts (length d) z f)
-        (λ e. on (each (pieceUnder c s es d at) (λ n k i. tt) (λ p i. i)) λ p i.
+        (λ e. on (each (pieceUnder c s es d at l (z .current)) (λ n k i. tt) (λ p i. i)) λ p i.
         on (settlePiece-acts p at z f) λ y a.
-        so (piecesWithin-acts c turns (y .at) (y .state) (acts-last a)) (λ n k x. x)
+        so (piecesWithin-acts c turns (y .at) (lineAfter s es D d p at l z) (y .state) (acts-last a)) (λ n k x. x)
         (λ ev o. record { last = o .last; acts = acts-then a (o .acts); nothing = o .nothing; complete = o .complete; events = o .events }))
 
-    -- The events of a document are those that acts note, with attribute events before each start.
+    -- The events of a document are those that acts note, without the bytes 13 that are ignored as the last, and with attribute events before each start.
     pub record ActsOf (c : Settings) (ev : List Event) : Type 0 where
       pub noted : List Event
       pub over : Over nothingOpen noted
-      pub given : ev ≡ withAttributes c s es d noted
+      pub given : ev ≡ withAttributes (c .nameLength) s es d (recordsSettled c d noted)
 
     -- Every document that is read is a sequence of acts, from nothing open to nothing open, with at most 24 open in each state passed.
     pub document-acts : (c : Settings) (ev : List Event) → document c s es D d ≡ got ev → ActsOf c ev
     unfolding document
     document-acts c ev e =
-        got-so {P = ActsOf c} (on (piecesWithin-acts c (suc (length d)) 0 nothingOpen (omega arith)) (λ fv o. reads (record { noted = fv; over = o; given = refl }))) e
+        got-so {P = ActsOf c} (on (piecesWithin-acts c (suc (length d)) 0 newLine nothingOpen (omega arith)) (λ fv o. reads (record { noted = fv; over = o; given = refl }))) e

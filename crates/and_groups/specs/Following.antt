@@ -1,16 +1,18 @@
 -- The walk outwards from the last place and from the one that is asked for at once: what is left of both says what all say.
-use Prim.Native.Nat.{ℕ, zero, suc, _+_, _%_, _≤_, _<_}
+use Prim.Native.Nat.{ℕ, zero, suc, _+_, _-_, _/_, _%_, _≤_, _<_}
 use mathlib.Core.Path.{_≡_, refl, sym, _∙_, ap, subst}
-use mathlib.Core.Bool.{Bool, true, false, _&&_, _||_, not}
+use mathlib.Core.Bool.{Bool, true, false, _&&_, _||_, not, false≢true}
+use mathlib.Core.Logic.{_⊎_}
 use mathlib.Core.List.{List, [], _∷_}
 use native.Mathlib.Omega.{arith}
 use lib.ListN.{getD}
 use lib.Dec.{eqb, ltb}
 use borrow.Author.Tests.{eq-eqb, ne-eqb, lt-ltb, le-ltb}
 use Rattle.rules.specs.Walk.{Group, Members}
+use Rattle.layout.specs.Sizes.{AND-GROUPS}
 use Rattle.model_sets.specs.Bits.{and-left, and-right, and-both, or-left, not-true}
 use Rattle.model_sets.specs.Sets.{Numbered, has, hasM}
-use Rattle.and_laws.specs.Base.{mem}
+use Rattle.and_laws.specs.Base.{mem, ends-mem}
 use Rattle.and_laws.specs.Sets.{meets, Good, GoodM}
 use Rattle.and_laws.specs.Numbers.{Guarded, numbered-good}
 use Rattle.and_laws.specs.Rest.{allM, anyM}
@@ -18,12 +20,13 @@ use Rattle.and_laws.specs.Rows.{fine, unbegun}
 use Rattle.and_laws.specs.Levels.{together, within, mayIn}
 use Rattle.and_laws.specs.Ranked.{count, Level, levels, levels-rise, Rising, mayBy, may-by}
 use Rattle.and_laws.specs.Taken.{groupsAt}
-use Rattle.member_laws.specs.Members.{needs, numberIn, holderAt, groupAt, recordAt, outerAt, firstAt, Grouped, Chain, Told, begunAt, Marked, AllMarked, Standing}
+use Rattle.member_laws.specs.Members.{needs, numberIn, holderAt, groupAt, recordAt, outerAt, firstAt, neededAt, runAt, Next, Passed, AllRuns, Grouped, Chain, Told, begunAt, Marked, AllMarked, Standing}
 use Rattle.member_laws.specs.Numbered.{both-tests, any-numbered, numbered-any, numbered-place, numbered-once}
 use Rattle.member_laws.specs.Inside.{level-once, level-good, EachLevel, each-level, IsAround, levels-are}
 use Rattle.member_laws.specs.Around.{memberAt, NumberedAt, held, member-group, member-small, member-begun, chain-none, chain-first}
-use Rattle.begun_bits.specs.Means.{Grouping}
-use Rattle.and_groups.specs.Means.{Follows}
+use Rattle.member_laws.specs.Running.{taken-begun, passed-fine}
+use Rattle.begun_bits.specs.Levels.{Grouping}
+use Rattle.and_groups.specs.Takes.{Follows}
 use Rattle.and_groups.specs.Walks.{Lacks}
 
 -- One group that has both
@@ -79,6 +82,7 @@ pub record Pair (M begun : List ℕ) (level e u p h passed i skipped : ℕ) (g :
   pub u-around : EachLevel (IsAround g 0 u) us
   pub p-around : EachLevel (IsAround g 0 p) ps
   pub marked : AllMarked begun level M e S us
+  pub taken : EachLevel (λ (l : Level). begunAt begun level (memberAt M e u l) ≡ true) us
   pub same : mayBy us ps u S p ≡ answer
 
 pub record Following (M begun : List ℕ) (level e u p h passed i skipped : ℕ) : Type 0 where
@@ -107,6 +111,7 @@ following-start M begun level e u p x y a b = record { pair = λ g numbered guar
           u-around = refl;
           p-around = levels-are g 0 p has-p;
           marked = refl;
+          taken = refl;
           same = refl;
         }
     go (suc v) a g numbered guarded told taken stands has-u has-p =
@@ -129,6 +134,7 @@ following-start M begun level e u p x y a b = record { pair = λ g numbered guar
           u-around = levels-are g 0 (suc v) here;
           p-around = levels-are g 0 p has-p;
           marked = stands .marked (omega arith) (suc v) here;
+          taken = taken-begun M e begun level (mem taken) g (suc v) (ends-mem taken (suc v) (stands .last)) (levels g 0 (suc v)) (levels-are g 0 (suc v) here) (stands .marked (omega arith) (suc v) here);
           same = sym (may-by g (numbered-good g 1 numbered guarded) (suc v) (mem taken) p here has-p);
         }
 
@@ -198,6 +204,63 @@ module _ (M begun : List ℕ) (level e u p h passed i skipped : ℕ) (g : Group)
             equal : ltb (k .number) (l .number) ≡ true → mayBy (l ∷ us) ks u S p ≡ mayBy (l ∷ us) (k ∷ ks) u S p
             equal x = rw x
 
+    -- One group of u is past.
+    pair-out : (q n : ℕ) → Grouping M e i q → n ≡ groupAt M e h → n < q → (l : Level) (us : List Level) → First u h passed (w .us) l us → allM (fine S) (l .members) ≡ true → Pair M begun level e u p (outerAt M e n % 128) n i skipped g S answer
+    pair-out q n gives at-h z l us f all =
+        let at : n ≡ l .number = at-h ∙ f .number in
+        let chain : Chain M e u (w .u-ends) (w .u-holder) (l ∷ us) = subst (Chain M e u (w .u-ends) (w .u-holder)) (f .splits) (w .u-chain) in
+        let rising : Rising passed (w .u-top) (l ∷ us) = subst (Rising passed (w .u-top)) (f .splits) (w .u-rising) in
+        record {
+          us = us;
+          ps = w .ps;
+          u-ends = _;
+          p-ends = w .p-ends;
+          u-holder = outerAt M e (l .number);
+          p-holder = w .p-holder;
+          u-top = w .u-top;
+          p-top = w .p-top;
+          u-read = ap (λ (x : ℕ). outerAt M e x % 128) at;
+          p-read = w .p-read;
+          u-chain = chain .4;
+          p-chain = w .p-chain;
+          u-rising = subst (λ (x : ℕ). Rising x (w .u-top) us) (sym at) (rising .1);
+          p-rising = w .p-rising;
+          u-around = subst (EachLevel (IsAround g 0 u)) (f .splits) (w .u-around) .1;
+          p-around = w .p-around;
+          marked = subst (AllMarked begun level M e S) (f .splits) (w .marked) .1;
+          taken = subst (EachLevel (λ (l : Level). begunAt begun level (memberAt M e u l) ≡ true)) (f .splits) (w .taken) .1;
+          same = ap (λ (t : Bool). t && mayBy us (w .ps) u S p) (sym all) ∙ past q gives (omega (arith, at-h)) l us f;
+        }
+
+    -- One group of p is past.
+    pair-in : (q : ℕ) → (i ≡ 0 → ⊥) → q ≡ groupAt M e i → q < groupAt M e h → Pair M begun level e u p h passed (outerAt M e q % 128) q g S answer
+    pair-in q inner at-i z =
+        let (k, ks, f) = p-first inner in
+        let at : q ≡ k .number = at-i ∙ f .number in
+        let chain : Chain M e p (w .p-ends) (w .p-holder) (k ∷ ks) = subst (Chain M e p (w .p-ends) (w .p-holder)) (f .splits) (w .p-chain) in
+        let rising : Rising skipped (w .p-top) (k ∷ ks) = subst (Rising skipped (w .p-top)) (f .splits) (w .p-rising) in
+        record {
+          us = w .us;
+          ps = ks;
+          u-ends = w .u-ends;
+          p-ends = _;
+          u-holder = w .u-holder;
+          p-holder = outerAt M e (k .number);
+          u-top = w .u-top;
+          p-top = w .p-top;
+          u-read = w .u-read;
+          p-read = ap (λ (x : ℕ). outerAt M e x % 128) at;
+          u-chain = w .u-chain;
+          p-chain = chain .4;
+          u-rising = w .u-rising;
+          p-rising = subst (λ (x : ℕ). Rising x (w .p-top) ks) (sym at) (rising .1);
+          u-around = w .u-around;
+          p-around = subst (EachLevel (IsAround g 0 p)) (f .splits) (w .p-around) .1;
+          marked = w .marked;
+          taken = w .taken;
+          same = skips inner (omega (arith, at-i)) k ks f;
+        }
+
     -- The first group that has both.
     module _ (good : Good g) (n : i ≡ 0 → ⊥) (z : groupAt M e h ≡ groupAt M e i) where
       meet : (l : Level) (us : List Level) → First u h passed (w .us) l us → (k : Level) (ks : List Level) → First p i skipped (w .ps) k ks → within (l .members) u S p ≡ answer
@@ -236,13 +299,39 @@ module _ (M begun : List ℕ) (level e u p h passed i skipped : ℕ) (g : Group)
           let (x, y) = p-member l us f k ks d in
           ap (λ (q : ℕ). not (begunAt begun level q)) x ∙ sym (within-other M begun level e S l (level-good g 0 l (f .around .0) good) (marks l us f) u p (f .around .1) y (λ t. s (f .is ∙ t ∙ sym x))) ∙ meet l us f k ks d
 
+-- A run of groups
+
+-- No other member of the next group of u must come.
+pair-next : (M begun : List ℕ) (level e u p i skipped : ℕ) (g : Group) (S : ℕ → Bool) (answer : Bool) (q n : ℕ) → Grouping M e i q → n + 1 < q → Passed M e n → Pair M begun level e u p (outerAt M e n % 128) n i skipped g S answer → Pair M begun level e u p (outerAt M e (n + 1) % 128) (n + 1) i skipped g S answer
+pair-next M begun level e u p i skipped g S answer q n asks z at v =
+    let h = outerAt M e n % 128 in
+    let some : h ≡ 0 → ⊥ = λ x. omega (arith, at .next .some) in
+    let (l, us, f) = u-first M begun level e u p h n i skipped g S answer v some in
+    let number : n + 1 ≡ l .number = sym (at .next .group) ∙ f .number in
+    let others = subst (λ (x : ℕ). (neededAt M e x ≡ 0) ⊎ ((neededAt M e x ≡ 1) × (firstAt M e x ≡ memberAt M e u l))) number (subst (λ (y : ℕ). (neededAt M e (n + 1) ≡ 0) ⊎ ((neededAt M e (n + 1) ≡ 1) × (firstAt M e (n + 1) ≡ y))) (f .is) (at .others)) in
+    pair-out M begun level e u p h n i skipped g S answer v some q (n + 1) asks (sym (at .next .group)) z l us f
+    (passed-fine M e begun level S l (f .kept) (subst (AllMarked begun level M e S) (f .splits) (v .marked) .0) (memberAt M e u l) (subst (EachLevel (λ (l : Level). begunAt begun level (memberAt M e u l) ≡ true)) (f .splits) (v .taken) .0) others)
+
+run-out : (M begun : List ℕ) (level e u p i skipped : ℕ) (g : Group) (S : ℕ → Bool) (answer : Bool) (q n : ℕ) → Grouping M e i q → (k : ℕ) → n + k < q → ((j : ℕ) → j < k → Passed M e (n + j)) → Pair M begun level e u p (outerAt M e n % 128) n i skipped g S answer → Pair M begun level e u p (outerAt M e (n + k) % 128) (n + k) i skipped g S answer
+run-out M begun level e u p i skipped g S answer q n asks zero z f v = let x : n ≡ n + 0 = omega arith in subst (λ (m : ℕ). Pair M begun level e u p (outerAt M e m % 128) m i skipped g S answer) x v
+run-out M begun level e u p i skipped g S answer q n asks (suc k) z f v =
+    let x : n + k + 1 ≡ n + suc k = omega arith in
+    subst (λ (m : ℕ). Pair M begun level e u p (outerAt M e m % 128) m i skipped g S answer) x (pair-next M begun level e u p i skipped g S answer q (n + k) asks (omega arith) (f k (omega arith)) (run-out M begun level e u p i skipped g S answer q n asks k (omega arith) (λ j l. f j (omega arith)) v))
+
+run-in : (M begun : List ℕ) (level e u p h passed : ℕ) (g : Group) (S : ℕ → Bool) (answer : Bool) (q n : ℕ) → (h ≡ 0 → ⊥) → n ≡ groupAt M e h → (k : ℕ) → q + k < n → ((j : ℕ) → j < k → Next M e (q + j)) → Pair M begun level e u p h passed (outerAt M e q % 128) q g S answer → Pair M begun level e u p h passed (outerAt M e (q + k) % 128) (q + k) g S answer
+run-in M begun level e u p h passed g S answer q n some at-h zero z f v = let x : q ≡ q + 0 = omega arith in subst (λ (m : ℕ). Pair M begun level e u p h passed (outerAt M e m % 128) m g S answer) x v
+run-in M begun level e u p h passed g S answer q n some at-h (suc k) z f v =
+    let x : q + k + 1 ≡ q + suc k = omega arith in
+    let at = f k (omega arith) in
+    subst (λ (m : ℕ). Pair M begun level e u p h passed (outerAt M e m % 128) m g S answer) x (pair-in M begun level e u p h passed (outerAt M e (q + k) % 128) (q + k) g S answer (run-in M begun level e u p h passed g S answer q n some at-h k (omega arith) (λ j l. f j (omega arith)) v) some (q + k + 1) (λ y. omega (arith, at .some)) (sym (at .group)) (omega (arith, at-h)))
+
 -- One step of the walk
 module _ (M begun : List ℕ) (level e u p h passed i skipped : ℕ) (w : Following M begun level e u p h passed i skipped) where
   answers : (r : Bool) → ((g : Group) (S : ℕ → Bool) (answer : Bool) → Good g → Pair M begun level e u p h passed i skipped g S answer → r ≡ answer) → Follows M level e u p begun r
   answers r f g numbered guarded told taken stands has-u has-p = f g (mem taken) _ (numbered-good g 1 numbered guarded) (w .pair g numbered guarded told taken stands has-u has-p)
 
-  goes-on : (x y z v : ℕ) → ((g : Group) (S : ℕ → Bool) (answer : Bool) → Pair M begun level e u p h passed i skipped g S answer → Pair M begun level e u p x y z v g S answer) → Following M begun level e u p x y z v
-  goes-on x y z v f = record { pair = λ g numbered guarded told taken stands has-u has-p. f g (mem taken) _ (w .pair g numbered guarded told taken stands has-u has-p) }
+  goes-on : (x y z v : ℕ) → (AllRuns M e → (g : Group) (S : ℕ → Bool) (answer : Bool) → Pair M begun level e u p h passed i skipped g S answer → Pair M begun level e u p x y z v g S answer) → Following M begun level e u p x y z v
+  goes-on x y z v f = record { pair = λ g numbered guarded told taken stands has-u has-p. f (told .runs) g (mem taken) _ (w .pair g numbered guarded told taken stands has-u has-p) }
 
   pub follows-over : h ≡ 0 → Follows M level e u p begun true
   follows-over z = answers true (λ g S answer good v. pair-over M begun level e u p h passed i skipped g S answer v z)
@@ -269,34 +358,23 @@ module _ (M begun : List ℕ) (level e u p h passed i skipped : ℕ) (w : Follow
         pub follows-lacks : lacks ≡ true → Follows M level e u p begun false
         follows-lacks z = answers false (λ g S answer good v. let (l, us, d, f) = whole g S answer v in ap (λ (t : Bool). not t && mayBy us (v .ps) u S p) (sym z) ∙ d)
 
-        pub following-out : lacks ≡ false → (outer : ℕ) → outer ≡ getD M (recordAt M e n + 3) 0 → Following M begun level e u p (outer % 128) n i skipped
-        following-out z outer o = goes-on (outer % 128) n i skipped (λ g S answer v. go g S answer v (whole g S answer v))
+        -- It lacks nothing, and neither do those of its run, up to t.
+        pub following-out : lacks ≡ false → (run : ℕ) → run ≡ runAt M e n → (t : ℕ) → n ≤ t → t ≤ n + run % 16 → t < q → (outer : ℕ) → outer ≡ getD M (recordAt M e t + 3) 0 → Following M begun level e u p (outer % 128) t i skipped
+        following-out z run is t low far below outer o = goes-on (outer % 128) t i skipped go
           where
-            go : (g : Group) (S : ℕ → Bool) (answer : Bool) (v : Pair M begun level e u p h passed i skipped g S answer) → (l : Level) × (us : List Level) × (not lacks && mayBy us (v .ps) u S p ≡ answer) × First M begun level e u p h passed i skipped g S answer v u h passed (v .us) l us → Pair M begun level e u p (outer % 128) n i skipped g S answer
-            go g S answer v (l, us, d, f) =
-                let at : n ≡ l .number = at-h ∙ f .number in
-                let chain : Chain M e u (v .u-ends) (v .u-holder) (l ∷ us) = subst (Chain M e u (v .u-ends) (v .u-holder)) (f .splits) (v .u-chain) in
-                let rising : Rising passed (v .u-top) (l ∷ us) = subst (Rising passed (v .u-top)) (f .splits) (v .u-rising) in
-                record {
-                  us = us;
-                  ps = v .ps;
-                  u-ends = _;
-                  p-ends = v .p-ends;
-                  u-holder = outerAt M e (l .number);
-                  p-holder = v .p-holder;
-                  u-top = v .u-top;
-                  p-top = v .p-top;
-                  u-read = ap (λ (x : ℕ). x % 128) (o ∙ ap (outerAt M e) at);
-                  p-read = v .p-read;
-                  u-chain = chain .4;
-                  p-chain = v .p-chain;
-                  u-rising = subst (λ (x : ℕ). Rising x (v .u-top) us) (sym at) (rising .1);
-                  p-rising = v .p-rising;
-                  u-around = subst (EachLevel (IsAround g 0 u)) (f .splits) (v .u-around) .1;
-                  p-around = v .p-around;
-                  marked = subst (AllMarked begun level M e S) (f .splits) (v .marked) .1;
-                  same = ap (λ (t : Bool). not t && mayBy us (v .ps) u S p) (sym z) ∙ d;
-                }
+            yes-of : (b : Bool) → not b ≡ false → b ≡ true
+            yes-of true x = refl
+            yes-of false x = absurd (false≢true (sym x))
+
+            go : AllRuns M e → (g : Group) (S : ℕ → Bool) (answer : Bool) → Pair M begun level e u p h passed i skipped g S answer → Pair M begun level e u p (outer % 128) t i skipped g S answer
+            go runs g S answer v =
+                let (l, us, f) = u-first M begun level e u p h passed i skipped g S answer v some in
+                let all = yes-of (allM (fine S) (l .members)) (sym (tells .says l S (at-h ∙ f .number) (f .kept) (subst (AllMarked begun level M e S) (f .splits) (v .marked) .0)) ∙ z) in
+                let small : n ≤ AND-GROUPS = omega (arith, f .kept .within, at-h, f .number) in
+                let end : n + (t - n) ≡ t = omega arith in
+                let one = pair-out M begun level e u p h passed i skipped g S answer v some q n asks at-h less l us f all in
+                let far-off = run-out M begun level e u p i skipped g S answer q n asks (t - n) (omega arith) (λ j x. runs n small .passes j (omega (arith, is))) one in
+                subst (λ (x : ℕ). Pair M begun level e u p (x % 128) t i skipped g S answer) (sym o) (subst (λ (x : ℕ). Pair M begun level e u p (outerAt M e x % 128) x i skipped g S answer) end far-off)
 
     module _ (inner : i ≡ 0 → ⊥) where
       at-i : q ≡ groupAt M e i
@@ -305,34 +383,18 @@ module _ (M begun : List ℕ) (level e u p h passed i skipped : ℕ) (w : Follow
       pub follows-skipped : q ≤ skipped → Follows M level e u p begun false
       follows-skipped z = answers false (λ g S answer good v. absurd (pair-skipped M begun level e u p h passed i skipped g S answer v some inner (omega (arith, at-i))))
 
-      pub following-in : q < n → (outer : ℕ) → outer ≡ getD M (recordAt M e q + 3) 0 → Following M begun level e u p h passed (outer % 128) q
-      following-in z outer o = goes-on h passed (outer % 128) q (λ g S answer v. go g S answer v (p-first M begun level e u p h passed i skipped g S answer v some inner))
+      -- p begins a group that u is not in, and those of its run up to t.
+      pub following-in : q < n → (run : ℕ) → run ≡ runAt M e q → (t : ℕ) → q ≤ t → t ≤ q + run / 16 → t < n → (outer : ℕ) → outer ≡ getD M (recordAt M e t + 3) 0 → Following M begun level e u p h passed (outer % 128) t
+      following-in z run is t low far below outer o = goes-on h passed (outer % 128) t go
         where
-          go : (g : Group) (S : ℕ → Bool) (answer : Bool) (v : Pair M begun level e u p h passed i skipped g S answer) → (k : Level) × (ks : List Level) × First M begun level e u p h passed i skipped g S answer v p i skipped (v .ps) k ks → Pair M begun level e u p h passed (outer % 128) q g S answer
-          go g S answer v (k, ks, f) =
-              let at : q ≡ k .number = at-i ∙ f .number in
-              let chain : Chain M e p (v .p-ends) (v .p-holder) (k ∷ ks) = subst (Chain M e p (v .p-ends) (v .p-holder)) (f .splits) (v .p-chain) in
-              let rising : Rising skipped (v .p-top) (k ∷ ks) = subst (Rising skipped (v .p-top)) (f .splits) (v .p-rising) in
-              record {
-                us = v .us;
-                ps = ks;
-                u-ends = v .u-ends;
-                p-ends = _;
-                u-holder = v .u-holder;
-                p-holder = outerAt M e (k .number);
-                u-top = v .u-top;
-                p-top = v .p-top;
-                u-read = v .u-read;
-                p-read = ap (λ (x : ℕ). x % 128) (o ∙ ap (outerAt M e) at);
-                u-chain = v .u-chain;
-                p-chain = chain .4;
-                u-rising = v .u-rising;
-                p-rising = subst (λ (x : ℕ). Rising x (v .p-top) ks) (sym at) (rising .1);
-                u-around = v .u-around;
-                p-around = subst (EachLevel (IsAround g 0 p)) (f .splits) (v .p-around) .1;
-                marked = v .marked;
-                same = skips M begun level e u p h passed i skipped g S answer v some inner (omega (arith, at-h, at-i)) k ks f;
-              }
+          go : AllRuns M e → (g : Group) (S : ℕ → Bool) (answer : Bool) → Pair M begun level e u p h passed i skipped g S answer → Pair M begun level e u p h passed (outer % 128) t g S answer
+          go runs g S answer v =
+              let (k, ks, f) = p-first M begun level e u p h passed i skipped g S answer v some inner in
+              let small : q ≤ AND-GROUPS = omega (arith, f .kept .within, at-i, f .number) in
+              let end : q + (t - q) ≡ t = omega arith in
+              let one = pair-in M begun level e u p h passed i skipped g S answer v some q inner at-i (omega (arith, at-h)) in
+              let far-off = run-in M begun level e u p h passed g S answer q n some at-h (t - q) (omega arith) (λ j x. runs q small .enters j (omega (arith, is))) one in
+              subst (λ (x : ℕ). Pair M begun level e u p h passed (x % 128) t g S answer) (sym o) (subst (λ (x : ℕ). Pair M begun level e u p h passed (outerAt M e x % 128) x g S answer) end far-off)
 
       module _ (same : n ≡ q) where
         pub follows-same : h ≡ i → Follows M level e u p begun true
@@ -350,12 +412,16 @@ module _ (M begun : List ℕ) (level e h₀ i₀ : ℕ) where
   walking-start = record { at = λ u p a b. subst (λ (x : ℕ). Following M begun level e u p x 0 i₀ 0) (sym a) (subst (λ (y : ℕ). Following M begun level e u p (holderAt M e u % 128) 0 y 0) (sym b) (following-start M begun level e u p (holderAt M e u) (holderAt M e p) refl refl)) }
 
   module _ (h passed i skipped : ℕ) (w : Walking M begun level e h₀ i₀ h passed i skipped) (some : h ≡ 0 → ⊥) (n q : ℕ) (gives : Grouping M e h n) (asks : Grouping M e i q) where
-    pub walking-out : n < q → (lacks : Bool) → Lacks M begun level e n lacks → lacks ≡ false → (outer : ℕ) → outer ≡ getD M (recordAt M e n + 3) 0 → Walking M begun level e h₀ i₀ (outer % 128) n i skipped
-    walking-out less lacks tells z outer o = record { at = λ u p a b. following-out M begun level e u p h passed i skipped (w .at u p a b) some n q gives asks less lacks tells z outer o }
+    pub walking-out : n < q → (lacks : Bool) → Lacks M begun level e n lacks → lacks ≡ false → (run : ℕ) → run ≡ runAt M e n → (t : ℕ) → n ≤ t → t ≤ n + run % 16 → t < q → (outer : ℕ) → outer ≡ getD M (recordAt M e t + 3) 0 → Walking M begun level e h₀ i₀ (outer % 128) t i skipped
+    walking-out less lacks tells z run is t low far below outer o = record { at = λ u p a b. following-out M begun level e u p h passed i skipped (w .at u p a b) some n q gives asks less lacks tells z run is t low far below outer o }
 
-    pub walking-in : (i ≡ 0 → ⊥) → q < n → (outer : ℕ) → outer ≡ getD M (recordAt M e q + 3) 0 → Walking M begun level e h₀ i₀ h passed (outer % 128) q
-    walking-in inner less outer o = record { at = λ u p a b. following-in M begun level e u p h passed i skipped (w .at u p a b) some n q gives asks inner less outer o }
+    pub walking-in : (i ≡ 0 → ⊥) → q < n → (run : ℕ) → run ≡ runAt M e q → (t : ℕ) → q ≤ t → t ≤ q + run / 16 → t < n → (outer : ℕ) → outer ≡ getD M (recordAt M e t + 3) 0 → Walking M begun level e h₀ i₀ h passed (outer % 128) t
+    walking-in inner less run is t low far below outer o = record { at = λ u p a b. following-in M begun level e u p h passed i skipped (w .at u p a b) some n q gives asks inner less run is t low far below outer o }
 
 -- A group below 256 is a member's.
 pub inner-some : (M : List ℕ) (e i q : ℕ) → Grouping M e i q → q ≤ 255 → i ≡ 0 → ⊥
 inner-some M e i q asks few z = omega (arith, asks .none z)
+
+pub grouping-few : (M : List ℕ) (e i q : ℕ) → Grouping M e i q → q ≤ 256
+grouping-few M e zero q asks = omega (arith, asks .none refl)
+grouping-few M e (suc i) q asks = omega (arith, asks .small (omega arith))

@@ -18,8 +18,8 @@ use Rattle.and_laws.specs.Words.{lone-bit, bit-lone}
 use Rattle.member_laws.specs.Members.{amount, needs, recordAt, firstAt, neededAt, sizeAt, dueAt, Grouped, begunAt, Marked}
 use Rattle.member_laws.specs.Numbered.{both-tests, amount-both, none-lacks, lacks-none, rest-one, rest-two, rest-none}
 use Rattle.member_laws.specs.Around.{numbered-due}
-use Rattle.begun_bits.specs.Means.{Idle}
-use Rattle.begun_bits.specs.Laws.{shifted-wide}
+use Rattle.begun_bits.specs.Levels.{Idle}
+use Rattle.begun_bits.specs.Stores.{shifted-wide}
 use Rattle.begun_bits.specs.Bits.{zero-bit, none-set, Sets, none, lone, more, sets, pow-only, pow-set}
 use Rattle.and_groups.specs.Walks.{Lacks, Due}
 

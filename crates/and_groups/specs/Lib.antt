@@ -1,5 +1,5 @@
 -- What is decided by the members that have begun.
-pub mod Means
+pub mod Takes
 pub mod Walks
 pub mod Lacking
 pub mod Entering

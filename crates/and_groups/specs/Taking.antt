@@ -1,5 +1,5 @@
 -- A place is taken: the members around it have begun besides those that had, and what blocks is found by the bits after it.
-use Prim.Native.Nat.{ℕ, _+_, _%_, _≤_}
+use Prim.Native.Nat.{ℕ, zero, suc, _+_, _%_, _≤_, _<_}
 use mathlib.Core.Path.{_≡_, refl, sym, _∙_, ap, subst}
 use mathlib.Core.Bool.{Bool, true, _||_}
 use mathlib.Core.Logic.{_⊎_, inl, inr}
@@ -7,21 +7,23 @@ use mathlib.Core.List.{List, [], _∷_, _++_}
 use native.Mathlib.Omega.{arith}
 use lib.ListN.{length}
 use Rattle.rules.specs.Walk.{Group, Members}
+use Rattle.layout.specs.Sizes.{MEMBERS}
 use Rattle.model_sets.specs.Sets.{Numbered, size, has, hasM}
-use Rattle.and_laws.specs.Base.{mem}
+use Rattle.and_laws.specs.Base.{mem, mem-right, mem-head}
 use Rattle.and_laws.specs.Sets.{meets, Good}
 use Rattle.and_laws.specs.Numbers.{Guarded, has-range, numbered-good}
 use Rattle.and_laws.specs.Req.{restReq}
 use Rattle.and_laws.specs.Levels.{blocksIn, loneIn}
-use Rattle.and_laws.specs.Ranked.{count, Level, levels, levels-around, levels-rise}
+use Rattle.and_laws.specs.Ranked.{count, Level, levels, groupsOf, levels-around, levels-rise, mayBy, may-by}
 use Rattle.and_laws.specs.Taken.{IsLast, last-taken}
 use Rattle.member_laws.specs.Members.{holderAt, Grouped, Chain, Told, begunAt, Marked, AllMarked, Standing, Elsewhere}
 use Rattle.member_laws.specs.Own.{OwnOr0, rest-own}
 use Rattle.member_laws.specs.Numbered.{at-each, each-at}
 use Rattle.member_laws.specs.Inside.{level-has, EachLevel, each-level, IsAround, levels-are, levels-nest}
 use Rattle.member_laws.specs.Around.{isHolder, numbered-small, chain-kept, closed-by, is-holder, meets-more, meets-none}
-use Rattle.begun_bits.specs.Means.{Clears}
-use Rattle.and_groups.specs.Means.{Takes, Blocked, free, held}
+use Rattle.member_laws.specs.Running.{taken-begun}
+use Rattle.begun_bits.specs.Levels.{Clears}
+use Rattle.and_groups.specs.Takes.{Takes, Follows, Blocked, free, held}
 use Rattle.and_groups.specs.Walks as walks
 use Rattle.and_groups.specs.Walks.{Enters, Blocks, Blocking, Due}
 
@@ -61,7 +63,7 @@ module _ (M : List ℕ) (level e h p : ℕ) (now after : List ℕ) (read : h ≡
 
   bits : (n : ℕ) → 1 ≤ n → n ≤ 96 → begunAt after level n ≡ begunAt now level n || isHolder M e p n (levels g 0 p)
   bits n a b =
-      enters .bits p true (holderAt M e p) (0 + count g) (levels g 0 p) (ap (λ (x : ℕ). x % 128) read) (told .places p here) (levels-rise g 0 p)
+      enters .bits (told .runs) p true (holderAt M e p) (0 + count g) (levels g 0 p) (ap (λ (x : ℕ). x % 128) read) (told .places p here) (levels-rise g 0 p)
       (each-level (IsAround g 0 p) (λ (l : Level). hasM (l .members) p ≡ true) (λ l x. x .1) (levels g 0 p) (levels-are g 0 p here))
       (closed-by M e now level (mem taken) g good p (levels g 0 p) (levels-are g 0 p here) (levels-nest g 0 p here) (stand .marked p here)) n a (omega arith)
 
@@ -101,7 +103,7 @@ module _ (M : List ℕ) (level e u p : ℕ) (before now after : List ℕ) (h : �
     at-block : (g : Group) → Numbered g 1 → Guarded g → Told M e g → (taken : List ℕ) → Standing before level M e g u taken → has g p ≡ true → Blocking M after level e g p (mem (taken ++ p ∷ [])) (levels g 0 p) b
     at-block g numbered guarded told taken standing here =
         let all = stand-more M level e h p now after read enters g (numbered-good g 1 numbered guarded) told taken (ready .stand g told taken standing) here in
-        blocks .says g p (mem (taken ++ p ∷ [])) (levels g 0 p) (0 + count g) (subst (λ (x : ℕ). Chain M e p true x (levels g 0 p)) (sym read) (told .places p here)) (levels-rise g 0 p) (levels-are g 0 p here) (all .marked p here)
+        blocks .says (told .runs) g p (mem (taken ++ p ∷ [])) (levels g 0 p) (0 + count g) (subst (λ (x : ℕ). Chain M e p true x (levels g 0 p)) (sym read) (told .places p here)) (levels-rise g 0 p) (levels-are g 0 p here) (all .marked p here) (taken-begun M e after level (mem (taken ++ p ∷ [])) g p (mem-right taken (p ∷ []) p (mem-head p [])) (levels g 0 p) (levels-are g 0 p here) (all .marked p here))
 
     taken-by : (r : ℕ) → (r ≡ 255) ⊎ (r ≤ 96) → ((g : Group) → Numbered g 1 → size g ≤ 96 → (S : ℕ → Bool) → Blocking M after level e g p S (levels g 0 p) b → Blocked g p S r) → Takes M level e u p before after r
     taken-by r small f =
@@ -130,3 +132,32 @@ module _ (M : List ℕ) (level e u p : ℕ) (before now after : List ℕ) (h : �
             (due .says l S i kept marked (rest-small g numbered few p l is S) ∙ sym y ∙ ap (λ (ms : List Members). loneIn ms S) (levels-around g 0 p))
             (due .small)
             (ap (λ (ms : List Members). blocksIn ms p S) (sym (levels-around g 0 p)) ∙ x)
+
+-- A table that is not whole tells no member.
+short-none : (M : List ℕ) (e : ℕ) (g : Group) → length M < MEMBERS → Told M e g → (q : ℕ) → has g q ≡ true → levels g 0 q ≡ []
+short-none M e g short told q i = go (told .whole q i)
+  where
+    go : (levels g 0 q ≡ []) ⊎ (MEMBERS ≤ length M) → levels g 0 q ≡ []
+    go (inl z) = z
+    go (inr z) = absurd (omega arith)
+
+pub takes-short : (M : List ℕ) (level e u p : ℕ) (before : List ℕ) → length M < MEMBERS → Takes M level e u p before before 255
+takes-short M level e u p before short =
+    record {
+      whole = refl;
+      elsewhere = λ k j x l. refl;
+      small = inl refl;
+      stands = λ g numbered guarded told taken standing here.
+          record {
+            last = last-taken taken p (has-range g 1 numbered p here .0);
+            marked = λ a q i. subst (AllMarked before level M e (mem (taken ++ p ∷ []))) (sym (short-none M e g short told q i)) refl;
+          };
+      blocked = λ g numbered guarded few told taken standing here.
+          free refl (ap (λ (ms : List Members). blocksIn ms p (mem (taken ++ p ∷ []))) (sym (levels-around g 0 p)) ∙ ap (λ (ls : List Level). blocksIn (groupsOf ls) p (mem (taken ++ p ∷ []))) (short-none M e g short told p here));
+    }
+
+pub follows-short : (M : List ℕ) (level e u p : ℕ) (begun : List ℕ) → length M < MEMBERS → Follows M level e u p begun true
+follows-short M level e zero p begun short g numbered guarded told taken stands has-u has-p = refl
+follows-short M level e (suc v) p begun short g numbered guarded told taken stands has-u has-p =
+    let here = has-u (omega arith) in
+    ap (λ (ls : List Level). mayBy ls (levels g 0 p) (suc v) (mem taken) p) (sym (short-none M e g short told (suc v) here)) ∙ sym (may-by g (numbered-good g 1 numbered guarded) (suc v) (mem taken) p here has-p)

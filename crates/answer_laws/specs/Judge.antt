@@ -14,7 +14,7 @@ use Rattle.rules.specs.Walk.{Group, Begins}
 use Rattle.rules.specs.Ambiguity.{SpellSame, Ambiguous, PairAtFault, FirstPair}
 use Rattle.rules.specs.TypeFile.{Place, Content, empty, model, Element, typeFile}
 use Rattle.rules.specs.Judge.{placeAt, samePlace, Answer, refusal, acceptance, Unambiguous, AllUnambiguous, PairStandsAt, FirstAmbiguous, here, later, firstRepeated, records, Legible, Refuses, notOffered, tooLong, notAllowed, malformed, repeated, ambiguous, noRoom, Accepts, Judged, refuses, accepts}
-use Rattle.numbers.specs.Laws.{records-length, lent-length}
+use Rattle.numbers.specs.Stores.{records-length, lent-length}
 use Rattle.rules_laws.specs.Definitions.{IsFileNumber}
 use Rattle.rules_laws.specs.Within.{ContentIn, all-mem, placeAt-in, typeFile-within, typeFile-elements}
 use Rattle.and_laws.specs.Ambiguous.{ambiguous-pair, pair-ambiguous, unambiguous-equal, first-pair-unique}
@@ -59,10 +59,10 @@ module _ (s : List ℕ) where
       let (e, m, w) = first-stands f in
       (e, List·Memᴰ·tail m, w)
 
-  pub first-in : (c : Settings) {k p q : ℕ} {es : List Element} → FirstAmbiguous s k p q es → typeFile c s ≡ got es → k ≤ length s
+  pub first-in : (c : Settings) {k p q : ℕ} {es : List Element} → FirstAmbiguous s k p q es → typeFile (c .nameLength) s ≡ got es → k ≤ length s
   first-in c {k} {p} {q} {es} f r =
       let (e, m, w) = first-stands f in
-      stands-in (e .content) k p q (all-mem (typeFile-elements c s es r .1 .each) m .content) w
+      stands-in (e .content) k p q (all-mem (typeFile-elements (c .nameLength) s es r .1 .each) m .content) w
 
   all-content : {es : List Element} {e : Element} → AllUnambiguous s es → List·Memᴰ e es → Unambiguous s (e .content)
   all-content u (List·Memᴰ·head e) = rw e (u .0)
@@ -161,7 +161,7 @@ module _ {l : Lent} {c : Settings} {s before : List ℕ} where
   when-dirty u h d (refuses (noRoom l es r v w f e) z) = absurd (omega arith)
   when-dirty u h d (accepts es w f e z) = absurd (omega arith)
 
-  when-legible : {a : Answer} {after : List ℕ} → Legible c s → Judged l c s before a after → Read l s before a after (typeFile c s)
+  when-legible : {a : Answer} {after : List ℕ} → Legible c s → Judged l c s before a after → Read l s before a after (typeFile (c .nameLength) s)
   when-legible h (refuses (notOffered o e) z) = absurd (true≢false (sym (h .offered) ∙ o))
   when-legible h (refuses (tooLong o l e) z) = absurd (omega arith)
   when-legible h (refuses (notAllowed o l d e) z) = absurd (omega arith)
@@ -219,9 +219,9 @@ module _ {c : Settings} {s : List ℕ} {room : ℕ} {a : Answer} where
   refuses-named (tooLong o l e) = (1, 0, 0, 0, e, inr (inl (omega arith)), omega arith, λ h. omega arith)
   refuses-named (notAllowed o l d e) = (2, span allowed s, 0, 0, e, inr (inl (omega arith)), omega arith, λ h. omega arith)
   refuses-named (malformed l n k r e) =
-      let (i, b) = typeFile-within c s n k r in
+      let (i, b) = typeFile-within (c .nameLength) s n k r in
       (n, k, 0, 0, e, inr (file-number i), b, λ h. omega arith)
-  refuses-named (repeated l es r v e) = (25, firstRepeated es, 0, 0, e, inr (inr (inr (inr (omega arith)))), typeFile-repeated c s es r, λ h. omega arith)
+  refuses-named (repeated l es r v e) = (25, firstRepeated es, 0, 0, e, inr (inr (inr (inr (omega arith)))), typeFile-repeated (c .nameLength) s es r, λ h. omega arith)
   refuses-named (ambiguous l es r v k p q f e) = (9, k, p, q, e, inr (inl (omega arith)), first-in s c f r, λ h. absurd (h refl))
   refuses-named (noRoom l es r v u f e) = (19, 0, 0, 0, e, inl refl, omega arith, λ h. omega arith)
 
@@ -236,25 +236,25 @@ module _ {c : Settings} {s : List ℕ} {room : ℕ} {a : Answer} where
   refuses-twenty-four (notOffered o e) h = o
   refuses-twenty-four (tooLong o l e) h = absurd (omega (arith, rw e at h))
   refuses-twenty-four (notAllowed o l d e) h = absurd (omega (arith, rw e at h))
-  refuses-twenty-four (malformed l n k r e) h = absurd (file-apart (typeFile-within c s n k r .0) .2 (omega (arith, rw e at h)))
+  refuses-twenty-four (malformed l n k r e) h = absurd (file-apart (typeFile-within (c .nameLength) s n k r .0) .2 (omega (arith, rw e at h)))
   refuses-twenty-four (repeated l es r v e) h = absurd (omega (arith, rw e at h))
   refuses-twenty-four (ambiguous l es r v k p q f e) h = absurd (omega (arith, rw e at h))
   refuses-twenty-four (noRoom l es r v u f e) h = absurd (omega (arith, rw e at h))
 
-  refuses-twenty-five : Refuses c s room a → a .number ≡ 25 → Legible c s × (es : List Element) × (typeFile c s ≡ got es) × (1 ≤ firstRepeated es) × (a .position ≡ firstRepeated es)
+  refuses-twenty-five : Refuses c s room a → a .number ≡ 25 → Legible c s × (es : List Element) × (typeFile (c .nameLength) s ≡ got es) × (1 ≤ firstRepeated es) × (a .position ≡ firstRepeated es)
   refuses-twenty-five (notOffered o e) h = absurd (omega (arith, rw e at h))
   refuses-twenty-five (tooLong o l e) h = absurd (omega (arith, rw e at h))
   refuses-twenty-five (notAllowed o l d e) h = absurd (omega (arith, rw e at h))
-  refuses-twenty-five (malformed l n k r e) h = absurd (file-apart (typeFile-within c s n k r .0) .2 (omega (arith, rw e at h)))
+  refuses-twenty-five (malformed l n k r e) h = absurd (file-apart (typeFile-within (c .nameLength) s n k r .0) .2 (omega (arith, rw e at h)))
   refuses-twenty-five (repeated l es r v e) h = (l, es, r, v, ap (λ (b : Answer). b .position) e)
   refuses-twenty-five (ambiguous l es r v k p q f e) h = absurd (omega (arith, rw e at h))
   refuses-twenty-five (noRoom l es r v u f e) h = absurd (omega (arith, rw e at h))
 
-  refuses-nine : Refuses c s room a → a .number ≡ 9 → Legible c s × (es : List Element) × (typeFile c s ≡ got es) × (firstRepeated es ≡ 0) × FirstAmbiguous s (a .position) (a .first) (a .second) es
+  refuses-nine : Refuses c s room a → a .number ≡ 9 → Legible c s × (es : List Element) × (typeFile (c .nameLength) s ≡ got es) × (firstRepeated es ≡ 0) × FirstAmbiguous s (a .position) (a .first) (a .second) es
   refuses-nine (notOffered o e) h = absurd (omega (arith, rw e at h))
   refuses-nine (tooLong o l e) h = absurd (omega (arith, rw e at h))
   refuses-nine (notAllowed o l d e) h = absurd (omega (arith, rw e at h))
-  refuses-nine (malformed l n k r e) h = absurd (file-apart (typeFile-within c s n k r .0) .0 (rw e at h))
+  refuses-nine (malformed l n k r e) h = absurd (file-apart (typeFile-within (c .nameLength) s n k r .0) .0 (rw e at h))
   refuses-nine (repeated l es r v e) h = absurd (omega (arith, rw e at h))
   refuses-nine (ambiguous l es r v k p q f e) h = rw e (l, es, r, v, f)
   refuses-nine (noRoom l es r v u f e) h = absurd (omega (arith, rw e at h))
@@ -263,12 +263,12 @@ module _ {c : Settings} {s : List ℕ} {room : ℕ} {a : Answer} where
   refuses-nineteen (notOffered o e) h = absurd (omega (arith, rw e at h))
   refuses-nineteen (tooLong o l e) h = absurd (omega (arith, rw e at h))
   refuses-nineteen (notAllowed o l d e) h = absurd (omega (arith, rw e at h))
-  refuses-nineteen (malformed l n k r e) h = absurd (file-apart (typeFile-within c s n k r .0) .1 (rw e at h))
+  refuses-nineteen (malformed l n k r e) h = absurd (file-apart (typeFile-within (c .nameLength) s n k r .0) .1 (rw e at h))
   refuses-nineteen (repeated l es r v e) h = absurd (omega (arith, rw e at h))
   refuses-nineteen (ambiguous l es r v k p q f e) h = absurd (omega (arith, rw e at h))
   refuses-nineteen (noRoom l es r v u f e) h = (es, record { legible = l; elements = r; unrepeated = v; unambiguous = u }, f)
 
-pub read-fair : {c : Settings} {s : List ℕ} {ds es : List Element} → Accepts c s ds → typeFile c s ≡ got es → AllUnambiguous s es
+pub read-fair : {c : Settings} {s : List ℕ} {ds es : List Element} → Accepts c s ds → typeFile (c .nameLength) s ≡ got es → AllUnambiguous s es
 read-fair {c} {s} {ds} {es} w r =
     let q = w .elements in
     let e : ds ≡ es = cc in
@@ -282,17 +282,17 @@ module _ {l : Lent} {c : Settings} {s before : List ℕ} {a : Answer} {after : L
   pub settled-twenty-four : Judged l c s before a after → a .number ≡ 24 → isOffered c ≡ false
   settled-twenty-four x h = refuses-twenty-four (settled-refuses x (λ z. omega arith) .0) h
 
-  pub settled-twenty-five : Judged l c s before a after → a .number ≡ 25 → Legible c s × (es : List Element) × (typeFile c s ≡ got es) × (1 ≤ firstRepeated es) × (a .position ≡ firstRepeated es)
+  pub settled-twenty-five : Judged l c s before a after → a .number ≡ 25 → Legible c s × (es : List Element) × (typeFile (c .nameLength) s ≡ got es) × (1 ≤ firstRepeated es) × (a .position ≡ firstRepeated es)
   settled-twenty-five x h = refuses-twenty-five (settled-refuses x (λ z. omega arith) .0) h
 
-  pub settled-nine : Judged l c s before a after → a .number ≡ 9 → Legible c s × (es : List Element) × (typeFile c s ≡ got es) × (firstRepeated es ≡ 0) × FirstAmbiguous s (a .position) (a .first) (a .second) es
+  pub settled-nine : Judged l c s before a after → a .number ≡ 9 → Legible c s × (es : List Element) × (typeFile (c .nameLength) s ≡ got es) × (firstRepeated es ≡ 0) × FirstAmbiguous s (a .position) (a .first) (a .second) es
   settled-nine x h = refuses-nine (settled-refuses x (λ z. omega arith) .0) h
 
   pub settled-nineteen : Judged l c s before a after → a .number ≡ 19 → (es : List Element) × Accepts c s es × (room l before < 6 * length es)
   settled-nineteen x h = refuses-nineteen (settled-refuses x (λ z. omega arith) .0) h
 
   -- Under 25 an "&" stands where none may; else none does.
-  pub settled-repeated : Judged l c s before a after → Legible c s → (es : List Element) → typeFile c s ≡ got es → 1 ≤ firstRepeated es → a .number ≡ 25
+  pub settled-repeated : Judged l c s before a after → Legible c s → (es : List Element) → typeFile (c .nameLength) s ≡ got es → 1 ≤ firstRepeated es → a .number ≡ 25
   settled-repeated x i es r n = go (rw r at (when-legible i x))
     where
       go : Read l s before a after (got es) → a .number ≡ 25
@@ -302,7 +302,7 @@ module _ {l : Lent} {c : Settings} {s before : List ℕ} {a : Answer} {after : L
       go (enough v u f e z) = absurd (omega arith)
 
   -- Under 9 some model has a pair at fault; else none that was read has, unless it is 25 that comes before.
-  pub settled-fair : Judged l c s before a after → Legible c s → (es : List Element) → typeFile c s ≡ got es → (a .number ≡ 9 → ⊥) → (a .number ≡ 25 → ⊥) → AllUnambiguous s es
+  pub settled-fair : Judged l c s before a after → Legible c s → (es : List Element) → typeFile (c .nameLength) s ≡ got es → (a .number ≡ 9 → ⊥) → (a .number ≡ 25 → ⊥) → AllUnambiguous s es
   settled-fair x i es r n m = go (rw r at (when-legible i x))
     where
       go : Read l s before a after (got es) → AllUnambiguous s es
@@ -311,7 +311,7 @@ module _ {l : Lent} {c : Settings} {s before : List ℕ} {a : Answer} {after : L
       go (tight v u f e z) = u
       go (enough v u f e z) = u
 
-  pub settled-faulty : Judged l c s before a after → Legible c s → (es : List Element) → typeFile c s ≡ got es → firstRepeated es ≡ 0 → (AllUnambiguous s es → ⊥) → a .number ≡ 9
+  pub settled-faulty : Judged l c s before a after → Legible c s → (es : List Element) → typeFile (c .nameLength) s ≡ got es → firstRepeated es ≡ 0 → (AllUnambiguous s es → ⊥) → a .number ≡ 9
   settled-faulty x i es r o n = go (rw r at (when-legible i x))
     where
       go : Read l s before a after (got es) → a .number ≡ 9

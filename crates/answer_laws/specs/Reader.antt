@@ -14,9 +14,9 @@ use Rattle.rules.specs.TypeFile.{Element, typeFile}
 use Rattle.rules.specs.Judge.{Answer, refusal, acceptance, AllUnambiguous, FirstAmbiguous, firstRepeated, Refuses, Accepts}
 use Rattle.rules.specs.Events.{Event, eventWidth}
 use Rattle.rules.specs.Reader.{eventNumbers, documentRefusal, BothLegible, Reads, RefusesBoth, notOffered, typeTooLong, documentTooLong, typeNotAllowed, documentNotAllowed, malformed, repeated, ambiguous, unsettled, noRoom, ReadAs, refuses, accepts}
-use Rattle.numbers.specs.Laws.{eventNumbers-length, lent-length}
+use Rattle.numbers.specs.Stores.{eventNumbers-length, lent-length}
 use Rattle.rules_laws.specs.Within.{typeFile-within}
-use Rattle.document_laws.specs.Laws.{same-elements, reads-some, reads-one}
+use Rattle.document_laws.specs.OneReading.{same-elements, reads-some, reads-one}
 use Rattle.document_laws.specs.Answers.{read-as-one}
 use Rattle.type_laws.specs.Members.{typeFile-repeated}
 use Rattle.turn_laws.specs.Within.{DocumentNumber, document-within}
@@ -67,9 +67,9 @@ module _ {c : Settings} {s d : List ℕ} {room : ℕ} {a : Answer} where
   both-says (typeNotAllowed o l m x e) = rw e (type-says s d 2 (span allowed s) (inl (omega arith)) (omega arith))
   both-says (documentNotAllowed l m x e) = rw e (document-says s d 2 (span allowed d) (inl (omega arith)) (omega arith))
   both-says (malformed l n k r e) =
-      let (i, b) = typeFile-within c s n k r in
+      let (i, b) = typeFile-within (c .nameLength) s n k r in
       rw e (type-says s d n k (file-number i) b)
-  both-says (repeated l es r v e) = rw e (type-says s d 25 (firstRepeated es) (inr (inr (inr (omega arith)))) (typeFile-repeated c s es r))
+  both-says (repeated l es r v e) = rw e (type-says s d 25 (firstRepeated es) (inr (inr (inr (omega arith)))) (typeFile-repeated (c .nameLength) s es r))
   both-says (ambiguous l es r v k p q f e) = rw e (inl (refl, first-in s c f r, inl (omega arith)), λ h. absurd (h refl), refl)
   both-says (unsettled es n k r e) =
       let (i, b) = document-within c s es (r .decisions) d n k (r .reading) in
@@ -86,31 +86,31 @@ module _ {c : Settings} {s d : List ℕ} {room : ℕ} {a : Answer} where
   both-twenty-four (documentTooLong o l m e) h = absurd (omega (arith, rw e at h))
   both-twenty-four (typeNotAllowed o l m x e) h = absurd (omega (arith, rw e at h))
   both-twenty-four (documentNotAllowed l m x e) h = absurd (omega (arith, rw e at h))
-  both-twenty-four (malformed l n k r e) h = absurd (file-apart (typeFile-within c s n k r .0) .2 (omega (arith, rw e at h)))
+  both-twenty-four (malformed l n k r e) h = absurd (file-apart (typeFile-within (c .nameLength) s n k r .0) .2 (omega (arith, rw e at h)))
   both-twenty-four (repeated l es r v e) h = absurd (omega (arith, rw e at h))
   both-twenty-four (ambiguous l es r v k p q f e) h = absurd (omega (arith, rw e at h))
   both-twenty-four (unsettled es n k r e) h = absurd (document-apart (document-within c s es (r .decisions) d n k (r .reading) .0) .2 (omega (arith, rw e at h)))
   both-twenty-four (noRoom es ev r f e) h = absurd (omega (arith, rw e at h))
 
-  both-twenty-five : RefusesBoth c s d room a → a .number ≡ 25 → BothLegible c s d × (es : List Element) × (typeFile c s ≡ got es) × (1 ≤ firstRepeated es) × (a .position ≡ firstRepeated es)
+  both-twenty-five : RefusesBoth c s d room a → a .number ≡ 25 → BothLegible c s d × (es : List Element) × (typeFile (c .nameLength) s ≡ got es) × (1 ≤ firstRepeated es) × (a .position ≡ firstRepeated es)
   both-twenty-five (notOffered o e) h = absurd (omega (arith, rw e at h))
   both-twenty-five (typeTooLong o l e) h = absurd (omega (arith, rw e at h))
   both-twenty-five (documentTooLong o l m e) h = absurd (omega (arith, rw e at h))
   both-twenty-five (typeNotAllowed o l m x e) h = absurd (omega (arith, rw e at h))
   both-twenty-five (documentNotAllowed l m x e) h = absurd (omega (arith, rw e at h))
-  both-twenty-five (malformed l n k r e) h = absurd (file-apart (typeFile-within c s n k r .0) .2 (omega (arith, rw e at h)))
+  both-twenty-five (malformed l n k r e) h = absurd (file-apart (typeFile-within (c .nameLength) s n k r .0) .2 (omega (arith, rw e at h)))
   both-twenty-five (repeated l es r v e) h = (l, es, r, v, ap (λ (b : Answer). b .position) e)
   both-twenty-five (ambiguous l es r v k p q f e) h = absurd (omega (arith, rw e at h))
   both-twenty-five (unsettled es n k r e) h = absurd (document-apart (document-within c s es (r .decisions) d n k (r .reading) .0) .2 (omega (arith, rw e at h)))
   both-twenty-five (noRoom es ev r f e) h = absurd (omega (arith, rw e at h))
 
-  both-nine : RefusesBoth c s d room a → a .number ≡ 9 → BothLegible c s d × (es : List Element) × (typeFile c s ≡ got es) × (firstRepeated es ≡ 0) × FirstAmbiguous s (a .position) (a .first) (a .second) es
+  both-nine : RefusesBoth c s d room a → a .number ≡ 9 → BothLegible c s d × (es : List Element) × (typeFile (c .nameLength) s ≡ got es) × (firstRepeated es ≡ 0) × FirstAmbiguous s (a .position) (a .first) (a .second) es
   both-nine (notOffered o e) h = absurd (omega (arith, rw e at h))
   both-nine (typeTooLong o l e) h = absurd (omega (arith, rw e at h))
   both-nine (documentTooLong o l m e) h = absurd (omega (arith, rw e at h))
   both-nine (typeNotAllowed o l m x e) h = absurd (omega (arith, rw e at h))
   both-nine (documentNotAllowed l m x e) h = absurd (omega (arith, rw e at h))
-  both-nine (malformed l n k r e) h = absurd (file-apart (typeFile-within c s n k r .0) .0 (rw e at h))
+  both-nine (malformed l n k r e) h = absurd (file-apart (typeFile-within (c .nameLength) s n k r .0) .0 (rw e at h))
   both-nine (repeated l es r v e) h = absurd (omega (arith, rw e at h))
   both-nine (ambiguous l es r v k p q f e) h = rw e (l, es, r, v, f)
   both-nine (unsettled es n k r e) h = absurd (document-apart (document-within c s es (r .decisions) d n k (r .reading) .0) .0 (rw e at h))
@@ -122,7 +122,7 @@ module _ {c : Settings} {s d : List ℕ} {room : ℕ} {a : Answer} where
   both-nineteen (documentTooLong o l m e) h = absurd (omega (arith, rw e at h))
   both-nineteen (typeNotAllowed o l m x e) h = absurd (omega (arith, rw e at h))
   both-nineteen (documentNotAllowed l m x e) h = absurd (omega (arith, rw e at h))
-  both-nineteen (malformed l n k r e) h = absurd (file-apart (typeFile-within c s n k r .0) .1 (rw e at h))
+  both-nineteen (malformed l n k r e) h = absurd (file-apart (typeFile-within (c .nameLength) s n k r .0) .1 (rw e at h))
   both-nineteen (repeated l es r v e) h = absurd (omega (arith, rw e at h))
   both-nineteen (ambiguous l es r v k p q f e) h = absurd (omega (arith, rw e at h))
   both-nineteen (unsettled es n k r e) h = absurd (document-apart (document-within c s es (r .decisions) d n k (r .reading) .0) .1 (rw e at h))
@@ -140,25 +140,25 @@ type-refused i (Refuses.noRoom l es r v u f e) h = absurd (h (rw e))
 
 -- What the answer to two legible inputs tells of the type.
 data OfType (c : Settings) (s : List ℕ) (a : Answer) : Type 0 where
-  bad : (n k : ℕ) → typeFile c s ≡ refused n k → OfType c s a
-  again : (es : List Element) → typeFile c s ≡ got es → 1 ≤ firstRepeated es → a .number ≡ 25 → OfType c s a
-  clash : (es : List Element) → typeFile c s ≡ got es → firstRepeated es ≡ 0 → a .number ≡ 9 → OfType c s a
+  bad : (n k : ℕ) → typeFile (c .nameLength) s ≡ refused n k → OfType c s a
+  again : (es : List Element) → typeFile (c .nameLength) s ≡ got es → 1 ≤ firstRepeated es → a .number ≡ 25 → OfType c s a
+  clash : (es : List Element) → typeFile (c .nameLength) s ≡ got es → firstRepeated es ≡ 0 → a .number ≡ 9 → OfType c s a
   fair : (es : List Element) → Accepts c s es → OfType c s a
 
 module _ {c : Settings} {s : List ℕ} {a : Answer} {es : List Element} where
-  of-repeated : OfType c s a → typeFile c s ≡ got es → 1 ≤ firstRepeated es → a .number ≡ 25
+  of-repeated : OfType c s a → typeFile (c .nameLength) s ≡ got es → 1 ≤ firstRepeated es → a .number ≡ 25
   of-repeated (bad m k e) r n = let z : _≡_ {A = ℕ} 0 1 = cc in absurd (omega arith)
   of-repeated (again fs i v h) r n = h
   of-repeated (clash fs i v h) r n = absurd (omega (arith, ap firstRepeated (same-elements c s es fs r i)))
   of-repeated (fair fs w) r n = absurd (omega (arith, ap firstRepeated (same-elements c s es fs r (w .elements)), w .unrepeated))
 
-  of-faulty : OfType c s a → typeFile c s ≡ got es → firstRepeated es ≡ 0 → (AllUnambiguous s es → ⊥) → a .number ≡ 9
+  of-faulty : OfType c s a → typeFile (c .nameLength) s ≡ got es → firstRepeated es ≡ 0 → (AllUnambiguous s es → ⊥) → a .number ≡ 9
   of-faulty (bad m k e) r o n = let z : _≡_ {A = ℕ} 0 1 = cc in absurd (omega arith)
   of-faulty (again fs i v h) r o n = absurd (omega (arith, ap firstRepeated (same-elements c s es fs r i)))
   of-faulty (clash fs i v h) r o n = h
   of-faulty (fair fs w) r o n = absurd (n (read-fair w r))
 
-  of-fair : OfType c s a → typeFile c s ≡ got es → (a .number ≡ 9 → ⊥) → (a .number ≡ 25 → ⊥) → AllUnambiguous s es
+  of-fair : OfType c s a → typeFile (c .nameLength) s ≡ got es → (a .number ≡ 9 → ⊥) → (a .number ≡ 25 → ⊥) → AllUnambiguous s es
   of-fair (bad m k e) r n o = let z : _≡_ {A = ℕ} 0 1 = cc in absurd (omega arith)
   of-fair (again fs i v h) r n o = absurd (o h)
   of-fair (clash fs i v h) r n o = absurd (n h)
@@ -176,10 +176,10 @@ module _ {l : Lent} {c : Settings} {s d before : List ℕ} {a : Answer} {after :
   pub given-twenty-four : ReadAs l c s d before a after → a .number ≡ 24 → isOffered c ≡ false
   given-twenty-four x h = both-twenty-four (given-refuses x (λ z. omega arith) .0) h
 
-  pub given-twenty-five : ReadAs l c s d before a after → a .number ≡ 25 → BothLegible c s d × (es : List Element) × (typeFile c s ≡ got es) × (1 ≤ firstRepeated es) × (a .position ≡ firstRepeated es)
+  pub given-twenty-five : ReadAs l c s d before a after → a .number ≡ 25 → BothLegible c s d × (es : List Element) × (typeFile (c .nameLength) s ≡ got es) × (1 ≤ firstRepeated es) × (a .position ≡ firstRepeated es)
   given-twenty-five x h = both-twenty-five (given-refuses x (λ z. omega arith) .0) h
 
-  pub given-nine : ReadAs l c s d before a after → a .number ≡ 9 → BothLegible c s d × (es : List Element) × (typeFile c s ≡ got es) × (firstRepeated es ≡ 0) × FirstAmbiguous s (a .position) (a .first) (a .second) es
+  pub given-nine : ReadAs l c s d before a after → a .number ≡ 9 → BothLegible c s d × (es : List Element) × (typeFile (c .nameLength) s ≡ got es) × (firstRepeated es ≡ 0) × FirstAmbiguous s (a .position) (a .first) (a .second) es
   given-nine x h = both-nine (given-refuses x (λ z. omega arith) .0) h
 
   pub given-nineteen : ReadAs l c s d before a after → a .number ≡ 19 → (es : List Element) × (ev : List Event) × Reads c s d es (got ev) × (room l before < eventWidth * length ev)
@@ -199,14 +199,14 @@ module _ {l : Lent} {c : Settings} {s d before : List ℕ} {a : Answer} {after :
   given-type i (accepts es ev r f e z) = fair es (r .accepted)
 
   -- Under 25 an "&" stands where none may; else none does.
-  pub given-repeated : ReadAs l c s d before a after → BothLegible c s d → {es : List Element} → typeFile c s ≡ got es → 1 ≤ firstRepeated es → a .number ≡ 25
+  pub given-repeated : ReadAs l c s d before a after → BothLegible c s d → {es : List Element} → typeFile (c .nameLength) s ≡ got es → 1 ≤ firstRepeated es → a .number ≡ 25
   given-repeated x i r n = of-repeated (given-type i x) r n
 
   -- Under 9 some model has a pair at fault; else none has, unless it is 25 that comes before.
-  pub given-faulty : ReadAs l c s d before a after → BothLegible c s d → {es : List Element} → typeFile c s ≡ got es → firstRepeated es ≡ 0 → (AllUnambiguous s es → ⊥) → a .number ≡ 9
+  pub given-faulty : ReadAs l c s d before a after → BothLegible c s d → {es : List Element} → typeFile (c .nameLength) s ≡ got es → firstRepeated es ≡ 0 → (AllUnambiguous s es → ⊥) → a .number ≡ 9
   given-faulty x i r o n = of-faulty (given-type i x) r o n
 
-  pub given-fair : ReadAs l c s d before a after → BothLegible c s d → {es : List Element} → typeFile c s ≡ got es → (a .number ≡ 9 → ⊥) → (a .number ≡ 25 → ⊥) → AllUnambiguous s es
+  pub given-fair : ReadAs l c s d before a after → BothLegible c s d → {es : List Element} → typeFile (c .nameLength) s ≡ got es → (a .number ≡ 9 → ⊥) → (a .number ≡ 25 → ⊥) → AllUnambiguous s es
   given-fair x i r n o = of-fair (given-type i x) r n o
 
   -- The buffer keeps its length.

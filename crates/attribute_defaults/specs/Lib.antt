@@ -1,3 +1,3 @@
 -- What the answers of the code stand for, and a default by the tests that the code makes.
-pub mod Means
-pub mod Laws
+pub mod DefaultOf
+pub mod Ways

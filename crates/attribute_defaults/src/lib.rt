@@ -7,12 +7,11 @@ ghost use mathlib.Core.Path.{_≡_};
 ghost use mathlib.Core.List.{List};
 ghost use Prim.Native.Nat.{ℕ, _+_, _≤_, _<_};
 ghost use lib.ListN.{length};
-ghost use Rattle.rules.specs.Settings.{Settings, settings};
 ghost use Rattle.rules.specs.Attributes.{DeclaredValue};
 ghost use Rattle.rules.specs.TypeFile.{defaultWord, defaultLiteral, defaultValue};
-ghost use Rattle.attribute_values.specs.Means.{DeclaredAs};
-ghost use Rattle.attribute_defaults.specs.Means.{defaultOf, defaultFault, DefaultFits};
-ghost use Rattle.attribute_defaults.specs.Laws.{isJoined};
+ghost use Rattle.attribute_values.specs.Parts.{DeclaredAs};
+ghost use Rattle.attribute_defaults.specs.DefaultOf.{defaultOf, defaultFault, DefaultFits};
+ghost use Rattle.attribute_defaults.specs.Ways.{isJoined};
 ghost use Rattle.attribute_defaults.specs.declared.DefaultRead.the-variants as answers;
 
 // The default, the length of its value, and where it ends.
@@ -67,7 +66,7 @@ fn word_at(s: &[u8], i: usize) -> DefaultRead
 // A literal, from its opening quote at i, for the declared value x.
 fn literal_at(long: usize, s: &[u8], x: usize, i: usize) -> DefaultRead
     requires { ⌜ (1 ≤ i) × (i < length (now s)) × (length (now s) ≤ 32768) ⌝ }
-    ensures { λ r. ⌜ ((y : DeclaredValue) → DeclaredAs (settings long) (now (s .entry)) x y → defaultOf r ≡ defaultLiteral (settings long) (now (s .entry)) y i) × DefaultFits (length (now (s .entry))) i r ⌝ }
+    ensures { λ r. ⌜ ((y : DeclaredValue) → DeclaredAs long (now (s .entry)) x y → defaultOf r ≡ defaultLiteral long (now (s .entry)) y i) × DefaultFits (length (now (s .entry))) i r ⌝ }
 {
     let l = literals::literal_end(s, i);
     let Reached::At(e) = l else {
@@ -83,7 +82,7 @@ fn literal_at(long: usize, s: &[u8], x: usize, i: usize) -> DefaultRead
 
 // Whether nothing parts the default at i from its declared value x, which ended at `from`: a group needs nothing between it and what follows.
 fn is_joined(x: usize, from: usize, i: usize) -> bool
-    ensures { λ r. ⌜ ((c : Settings) (s : List ℕ) (y : DeclaredValue) → DeclaredAs c s x y → r ≡ isJoined y from i) ⌝ }
+    ensures { λ r. ⌜ ((long : ℕ) (s : List ℕ) (y : DeclaredValue) → DeclaredAs long s x y → r ≡ isJoined y from i) ⌝ }
 {
     if 3 <= x {
         return false;
@@ -94,7 +93,7 @@ fn is_joined(x: usize, from: usize, i: usize) -> bool
 // The default at i of an attribute with the declared value x, which ended at `from`.
 pub fn default_at(long: usize, s: &[u8], x: usize, from: usize, i: usize) -> DefaultRead
     requires { ⌜ (1 ≤ i) × (i ≤ length (now s)) × (length (now s) ≤ 32768) ⌝ }
-    ensures { λ r. ⌜ ((y : DeclaredValue) → DeclaredAs (settings long) (now (s .entry)) x y → defaultOf r ≡ defaultValue (settings long) (now (s .entry)) y from i) × DefaultFits (length (now (s .entry))) i r ⌝ }
+    ensures { λ r. ⌜ ((y : DeclaredValue) → DeclaredAs long (now (s .entry)) x y → defaultOf r ≡ defaultValue long (now (s .entry)) y from i) × DefaultFits (length (now (s .entry))) i r ⌝ }
 {
     let b = text::byte(s, i);
     if b == b'#' {

@@ -1,3 +1,3 @@
 -- What the answers of the code stand for, and a definition by the tests that the code makes.
-pub mod Means
-pub mod Laws
+pub mod Definition
+pub mod Ways

@@ -13,13 +13,12 @@ ghost use mathlib.Core.Path.{_≡_};
 ghost use mathlib.Core.List.{List};
 ghost use Prim.Native.Nat.{_+_, _*_, _≤_, _<_};
 ghost use lib.ListN.{length};
-ghost use Rattle.rules.specs.Settings.{settings};
 ghost use Rattle.rules.specs.Attributes.{Attribute};
 ghost use Rattle.rules.specs.TypeFile.{tokensOf, attributeName, valueWord, declaredValue, definition};
-ghost use Rattle.text.specs.Means.{reached};
-ghost use Rattle.name_tokens.specs.Means.{partsOf};
-ghost use Rattle.list_table.specs.Means.{ListAt};
-ghost use Rattle.attribute_definitions.specs.Means.{NameFits, wordOf, WordFits, MeetsValue, ValueFits, valueFault, MeetsDefinition, DefinitionFits, definitionFault};
+ghost use Rattle.text.specs.Refusal.{reached};
+ghost use Rattle.name_tokens.specs.Tokens.{partsOf};
+ghost use Rattle.list_table.specs.Lists.{ListAt};
+ghost use Rattle.attribute_definitions.specs.Definition.{NameFits, wordOf, WordFits, MeetsValue, ValueFits, valueFault, MeetsDefinition, DefinitionFits, definitionFault};
 ghost use Rattle.attribute_definitions.specs.declared.ValueRead.the-variants as values;
 
 // A declared value, how many tokens the list has now, and where the value ends.
@@ -65,7 +64,7 @@ pub fn fault_of(r: DefinitionRead) -> Fault
 // The name at i, a letter, after n attributes of the list, and where it ends. The parameter before ended at `from`.
 fn name_at(long: usize, s: &[u8], list: &[u16; LIST], n: usize, from: usize, i: usize) -> Reached
     requires { ⌜ (i ≤ length (now s)) × (length (now s) ≤ 32768) × (n ≤ 40) ⌝ }
-    ensures { λ r. ⌜ ((xs : List Attribute) → length xs ≡ n → ListAt (settings long) (now (s .entry)) (now (list .entry)) 0 xs → reached r ≡ attributeName (settings long) (now (s .entry)) xs from i) ⌝ }
+    ensures { λ r. ⌜ ((xs : List Attribute) → length xs ≡ n → ListAt long (now (s .entry)) (now (list .entry)) 0 xs → reached r ≡ attributeName long (now (s .entry)) xs from i) ⌝ }
     ensures { λ r. ⌜ NameFits (length (now (s .entry))) i n r ⌝ }
 {
     let e = text::name_end(s, i);
@@ -88,7 +87,7 @@ fn name_at(long: usize, s: &[u8], list: &[u16; LIST], n: usize, from: usize, i: 
 // A word as declared value, in a list that has m tokens so far.
 fn word_at(long: usize, s: &[u8], i: usize, m: usize) -> ValueRead
     requires { ⌜ (i ≤ length (now s)) × (length (now s) ≤ 32768) ⌝ }
-    ensures { λ r. ⌜ (wordOf r ≡ valueWord (settings long) (now (s .entry)) i) × WordFits (length (now (s .entry))) i m r ⌝ }
+    ensures { λ r. ⌜ (wordOf r ≡ valueWord long (now (s .entry)) i) × WordFits (length (now (s .entry))) i m r ⌝ }
 {
     let e = text::name_end(s, i);
     if long < e - i {
@@ -118,7 +117,7 @@ fn word_at(long: usize, s: &[u8], i: usize, m: usize) -> ValueRead
 // The declared value at i, in a list that has m tokens so far.
 fn value_at(long: usize, s: &[u8], i: usize, seen: &mut [u16; TOKENS], m: usize) -> ValueRead
     requires { ⌜ (3 ≤ i) × (i ≤ length (now s)) × (length (now s) ≤ 32768) × (m + 32 ≤ 1280) ⌝ }
-    ensures { λ r. ⌜ MeetsValue (settings long) (now (s .entry)) (now (seen .exit)) (partsOf (now (seen .entry)) m) r (declaredValue (settings long) (now (s .entry)) (partsOf (now (seen .entry)) m) i) ⌝ }
+    ensures { λ r. ⌜ MeetsValue long (now (s .entry)) (now (seen .exit)) (partsOf (now (seen .entry)) m) r (declaredValue long (now (s .entry)) (partsOf (now (seen .entry)) m) i) ⌝ }
     ensures { λ r. ⌜ ValueFits (length (now (s .entry))) i m r ⌝ }
 {
     let b = text::byte(s, i);
@@ -148,8 +147,8 @@ pub fn definition_at(
     m: usize,
 ) -> DefinitionRead
     requires { ⌜ (3 ≤ i) × (i ≤ length (now s)) × (length (now s) ≤ 32768) × (n ≤ 40) × (m ≤ 32 * n) ⌝ }
-    ensures { λ r. ⌜ ((xs : List Attribute) → length xs ≡ n → ListAt (settings long) (now (s .entry)) (now (list .entry)) 0 xs → partsOf (now (seen .entry)) m ≡ tokensOf xs →
-        MeetsDefinition (settings long) (now (s .entry)) (now (seen .exit)) xs r (definition (settings long) (now (s .entry)) xs from i)) ⌝ }
+    ensures { λ r. ⌜ ((xs : List Attribute) → length xs ≡ n → ListAt long (now (s .entry)) (now (list .entry)) 0 xs → partsOf (now (seen .entry)) m ≡ tokensOf xs →
+        MeetsDefinition long (now (s .entry)) (now (seen .exit)) xs r (definition long (now (s .entry)) xs from i)) ⌝ }
     ensures { λ r. ⌜ DefinitionFits (length (now (s .entry))) i n m r ⌝ }
 {
     let a = name_at(long, s, list, n, from, i);

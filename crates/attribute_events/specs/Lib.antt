@@ -1,3 +1,3 @@
 -- The attribute events before a start event, and laws of them.
-pub mod Means
-pub mod Laws
+pub mod PutBefore
+pub mod OneByOne

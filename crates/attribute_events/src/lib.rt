@@ -6,7 +6,7 @@ use layout::AttributeNo;
 use layout::ElementNo;
 use layout::MARKS;
 ghost use Prim.Native.Nat.{_+_, _≤_, _<_};
-ghost use Rattle.attribute_events.specs.Means.{PutsOne, PutsWritten, PutsDefaults};
+ghost use Rattle.attribute_events.specs.PutBefore.{PutsOne, PutsWritten, PutsDefaults};
 
 // The event of the attribute k of the element e, from 0, of which the marks say how it is written: none where it is not and is required or implied.
 fn put_one(

@@ -10,7 +10,6 @@ use lib.ListN.{length, getD, set, replicate, length-replicate, getD-replicate}
 use lib.Seq.{getD-set-same, getD-set-other}
 use lib.Dec.{eqb}
 use borrow.Author.Tests.{eq-eqb, ne-eqb}
-use Rattle.rules.specs.Settings.{Settings}
 use Rattle.rules.specs.Reading.{Reading, got, andThen}
 use Rattle.rules.specs.Attributes.{Attribute, AttList}
 use Rattle.rules.specs.TypeFile.{gap, ListEnd, listFrom, isListed, Listed, listedElement, attributeList, attributesOf, listed}
@@ -19,14 +18,14 @@ use Rattle.rules.specs.Elements.{elementAt}
 use Rattle.text.specs.declared.Fault.{Fault}
 use Rattle.text.specs.declared.Reached.{Reached}
 use Rattle.text.specs.declared.Reached.the-variants as reached
-use Rattle.text.specs.Means.{refusalOf, faultOf}
+use Rattle.text.specs.Refusal.{refusalOf, faultOf}
 use Rattle.layout.specs.declared.ElementNo.{ElementNo}
-use Rattle.list_table.specs.Means.{ListAt, Lists, Copied}
-use Rattle.list_definitions.specs.Means.{ListAs, MeetsList, ListIn}
+use Rattle.list_table.specs.Lists.{ListAt, Lists, Copied}
+use Rattle.list_definitions.specs.ListAs.{ListAs, MeetsList, ListIn}
 use Rattle.attribute_lists.specs.declared.ListedRead.{ListedRead}
 use Rattle.attribute_lists.specs.declared.ListedRead.the-variants as answers
-use Rattle.attribute_lists.specs.Means.{HeadRead, Headed, HeadedAs, anyIn, listedOf, listedFault, ListedFits, ListsAs, Again}
-use Rattle.attribute_lists.specs.Laws.{any-found}
+use Rattle.attribute_lists.specs.Listed.{HeadRead, Headed, HeadedAs, anyIn, listedOf, listedFault, ListedFits, ListsAs, Again}
+use Rattle.attribute_lists.specs.Lookup.{any-found}
 
 attributes-on : (b : Bool) (x q : List Attribute) {r : Bool} {a : List Attribute} → (b || r) ≡ false → (r ≡ false → q ≡ a) → elim b [ true ↦ x | false ↦ q ] ≡ a
 attributes-on true x q e f = absurd (true≢false e)
@@ -66,8 +65,8 @@ module _ (l : AttList) (k : ℕ) where
     attributes-others (x ∷ ls) = ap (λ (a : List Attribute). elim (eqb (x .element) k) [ true ↦ x .attributes | false ↦ a ]) (attributes-others ls)
 
 -- Its head is written.
-module _ (c : Settings) (s heads : List ℕ) (ls : List AttList) (h : Headed c s heads ls) (k from e : ℕ) (xs : List Attribute) (sized : length heads ≡ 64) (least : 1 ≤ k) (most : k ≤ 64)
-    (begins : 3 ≤ from) (inside : from ≤ length s) (free : getD heads (k - 1) 0 ≡ 0) (read : listFrom c s from ≡ got (record { attributes = xs; at = e })) where
+module _ (long : ℕ) (s heads : List ℕ) (ls : List AttList) (h : Headed long s heads ls) (k from e : ℕ) (xs : List Attribute) (sized : length heads ≡ 64) (least : 1 ≤ k) (most : k ≤ 64)
+    (begins : 3 ≤ from) (inside : from ≤ length s) (free : getD heads (k - 1) 0 ≡ 0) (read : listFrom long s from ≡ got (record { attributes = xs; at = e })) where
   abbrev one : AttList
   one = record { element = k; attributes = xs }
 
@@ -83,7 +82,7 @@ module _ (c : Settings) (s heads : List ℕ) (ls : List AttList) (h : Headed c s
   has-same : isListed (ls ++ one ∷ []) (k - 1 + 1) ≡ not (eqb (getD (set heads (k - 1) from) (k - 1) 0) 0)
   has-same = listed-same one (k - 1 + 1) ls unlisted (sym number) ∙ sym (ap not (ap (λ n. eqb n 0) here ∙ ne-eqb from 0 (λ z. omega (arith, begins, z))))
 
-  reads-same : HeadRead c s (getD (set heads (k - 1) from) (k - 1) 0) (ls ++ one ∷ []) (k - 1)
+  reads-same : HeadRead long s (getD (set heads (k - 1) from) (k - 1) 0) (ls ++ one ∷ []) (k - 1)
   reads-same =
       rw here
       (record {
@@ -103,7 +102,7 @@ module _ (c : Settings) (s heads : List ℕ) (ls : List AttList) (h : Headed c s
     has-other : isListed (ls ++ one ∷ []) (j + 1) ≡ not (eqb (getD (set heads (k - 1) from) j 0) 0)
     has-other = listed-others one (j + 1) not-it ls ∙ h .has j m ∙ ap (λ n. not (eqb n 0)) (sym kept)
 
-    reads-other : (getD (set heads (k - 1) from) j 0 ≡ 0 → ⊥) → HeadRead c s (getD (set heads (k - 1) from) j 0) (ls ++ one ∷ []) j
+    reads-other : (getD (set heads (k - 1) from) j 0 ≡ 0 → ⊥) → HeadRead long s (getD (set heads (k - 1) from) j 0) (ls ++ one ∷ []) j
     reads-other f =
         let r = h .reads j m (λ z. f (kept ∙ z)) in
         rw kept
@@ -114,7 +113,7 @@ module _ (c : Settings) (s heads : List ℕ) (ls : List AttList) (h : Headed c s
           read = r .read ∙ ap (λ (a : List Attribute). got (record { attributes = a; at = r .after })) (sym (attributes-others one (j + 1) not-it ls));
         })
 
-  pub headed-more : Headed c s (set heads (k - 1) from) (ls ++ one ∷ [])
+  pub headed-more : Headed long s (set heads (k - 1) from) (ls ++ one ∷ [])
   headed-more =
       record {
         has = λ j m. by-has j m (ℕ-discrete j (k - 1));
@@ -125,20 +124,20 @@ module _ (c : Settings) (s heads : List ℕ) (ls : List AttList) (h : Headed c s
       by-has j m (yes q) = rw q has-same
       by-has j m (no q) = has-other j m q
 
-      by-reads : (j : ℕ) → j < 64 → (getD (set heads (k - 1) from) j 0 ≡ 0 → ⊥) → Dec (j ≡ k - 1) → HeadRead c s (getD (set heads (k - 1) from) j 0) (ls ++ one ∷ []) j
+      by-reads : (j : ℕ) → j < 64 → (getD (set heads (k - 1) from) j 0 ≡ 0 → ⊥) → Dec (j ≡ k - 1) → HeadRead long s (getD (set heads (k - 1) from) j 0) (ls ++ one ∷ []) j
       by-reads j m f (yes q) = rw q reads-same
       by-reads j m f (no q) = reads-other j m q f
 
 -- Where no list was read no element has a head.
-pub headed-none : (c : Settings) (s : List ℕ) {heads : List ℕ} → heads ≡ replicate 64 0 → Headed c s heads []
+pub headed-none : (long : ℕ) (s : List ℕ) {heads : List ℕ} → heads ≡ replicate 64 0 → Headed long s heads []
 unfolding isListed
-headed-none c s {heads} e = record { has = λ k h. sym (ap not (eq-eqb _ _ (free k h))); reads = λ k h f. absurd (f (free k h)) }
+headed-none long s {heads} e = record { has = λ k h. sym (ap not (eq-eqb _ _ (free k h))); reads = λ k h f. absurd (f (free k h)) }
   where
     free : (k : ℕ) → k < 64 → getD heads k 0 ≡ 0
     free k h = rw e (getD-replicate 64 k 0 0 h)
 
 -- Where all were read each element gets the attributes of its list.
-pub headed-all : {c : Settings} {s heads : List ℕ} {ls : List AttList} → Headed c s heads ls → (es : List rules.Element) → HeadedAs c s heads (listed 1 ls es)
+pub headed-all : {long : ℕ} {s heads : List ℕ} {ls : List AttList} → Headed long s heads ls → (es : List rules.Element) → HeadedAs long s heads (listed 1 ls es)
 unfolding listed elementAt
 headed-all {ls = ls} h es = record { lists = ls; headed = h; each = λ k l. go 1 es k l }
   where
@@ -148,113 +147,113 @@ headed-all {ls = ls} h es = record { lists = ls; headed = h; each = λ k l. go 1
     go n (e ∷ es) (suc k) l = let z : k + (n + 1) ≡ suc k + n = omega arith in go (n + 1) es k (omega (arith, l)) ∙ ap (attributesOf ls) z
 
 -- A declaration of a list, each way that it can go.
-module _ (c : Settings) (s : List ℕ) (at : ℕ) (es : List rules.Element) (ls : List AttList) where
-  pub list-gap : {f : Fault} → gap s at ≡ refusalOf f → attributeList c s at es ls ≡ refusalOf f
+module _ (long : ℕ) (s : List ℕ) (at : ℕ) (es : List rules.Element) (ls : List AttList) where
+  pub list-gap : {f : Fault} → gap s at ≡ refusalOf f → attributeList long s at es ls ≡ refusalOf f
   unfolding attributeList
   list-gap q = rw (attributeList, q)
 
   module _ {i : ℕ} (g : gap s at ≡ got i) where
-    pub list-unnamed : {f : Fault} → listedElement c s es ls i ≡ refusalOf f → attributeList c s at es ls ≡ refusalOf f
+    pub list-unnamed : {f : Fault} → listedElement long s es ls i ≡ refusalOf f → attributeList long s at es ls ≡ refusalOf f
     unfolding attributeList
     list-unnamed q = rw (attributeList, g, andThen, q)
 
-    module _ {k from : ℕ} (l : listedElement c s es ls i ≡ got (record { element = k; at = from })) where
-      pub list-undefined : {f : Fault} → listFrom c s from ≡ refusalOf f → attributeList c s at es ls ≡ refusalOf f
+    module _ {k from : ℕ} (l : listedElement long s es ls i ≡ got (record { element = k; at = from })) where
+      pub list-undefined : {f : Fault} → listFrom long s from ≡ refusalOf f → attributeList long s at es ls ≡ refusalOf f
       unfolding attributeList
       list-undefined q = rw (attributeList, g, andThen, l, andThen, q)
 
-      pub list-read : {xs : List Attribute} {e : ℕ} → listFrom c s from ≡ got (record { attributes = xs; at = e })
-          → attributeList c s at es ls ≡ got (record { elements = es; lists = ls ++ record { element = k; attributes = xs } ∷ []; at = e })
+      pub list-read : {xs : List Attribute} {e : ℕ} → listFrom long s from ≡ got (record { attributes = xs; at = e })
+          → attributeList long s at es ls ≡ got (record { elements = es; lists = ls ++ record { element = k; attributes = xs } ∷ []; at = e })
       unfolding attributeList
       list-read q = rw (attributeList, g, andThen, l, andThen, q)
 
-      pub list-headed : (heads list : List ℕ) (e : ℕ) → Headed c s heads ls → length heads ≡ 64 → 3 ≤ from → from ≤ length s → 1 ≤ k → k ≤ 64 → getD heads (k - 1) 0 ≡ 0 → ListAs c s list e (listFrom c s from)
-          → ListsAs c s (set heads (k - 1) from) es e (attributeList c s at es ls)
+      pub list-headed : (heads list : List ℕ) (e : ℕ) → Headed long s heads ls → length heads ≡ 64 → 3 ≤ from → from ≤ length s → 1 ≤ k → k ≤ 64 → getD heads (k - 1) 0 ≡ 0 → ListAs long s list e (listFrom long s from)
+          → ListsAs long s (set heads (k - 1) from) es e (attributeList long s at es ls)
       list-headed heads list e h sized begins inside least most free d =
           record {
             lists = ls ++ record { element = k; attributes = d .attributes } ∷ [];
             read = list-read (d .read);
-            headed = headed-more c s heads ls h k from e (d .attributes) sized least most begins inside free (d .read);
+            headed = headed-more long s heads ls h k from e (d .attributes) sized least most begins inside free (d .read);
           }
 
 one-end : {x y : ListEnd} → got x ≡ got y → x ≡ y
 one-end e = cc
 
 -- The list of one element read again.
-module _ (c : Settings) (s : List ℕ) (from k : ℕ) (lists : List ℕ) where
-  pub again-outside : (3 ≤ from → from ≤ length s → ⊥) → Again c s from k lists lists
-  again-outside h = record { long = refl; none = λ z. refl; there = λ ls r. absurd (h (r .begins) (r .inside)); others = λ b xs o l. l }
+module _ (long : ℕ) (s : List ℕ) (from k : ℕ) (lists : List ℕ) where
+  pub again-outside : (3 ≤ from → from ≤ length s → ⊥) → Again long s from k lists lists
+  again-outside h = record { as-long = refl; none = λ z. refl; there = λ ls r. absurd (h (r .begins) (r .inside)); others = λ b xs o l. l }
 
-  pub again-refused : {f : Fault} → listFrom c s from ≡ refusalOf f → Again c s from k lists lists
+  pub again-refused : {f : Fault} → listFrom long s from ≡ refusalOf f → Again long s from k lists lists
   again-refused {f} q =
       record {
-        long = refl;
+        as-long = refl;
         none = λ z. refl;
         there = λ ls r. absurd (never (r .read));
         others = λ b xs o l. l;
       }
     where
-      never : {l : ListEnd} → listFrom c s from ≡ got l → ⊥
+      never : {l : ListEnd} → listFrom long s from ≡ got l → ⊥
       never e = let z : _≡_ {A = ℕ} 0 1 = cc in omega arith
 
-  pub again-put : (list after : List ℕ) (e : ℕ) → 3 ≤ from → ListAs c s list e (listFrom c s from) → Copied list (201 * k) lists after → Again c s from k lists after
+  pub again-put : (list after : List ℕ) (e : ℕ) → 3 ≤ from → ListAs long s list e (listFrom long s from) → Copied list (201 * k) lists after → Again long s from k lists after
   again-put list after e begins r put =
       record {
-        long = put .long;
+        as-long = put .long;
         none = λ z. absurd (omega (arith, begins, z));
-        there = λ ls h. subst (ListAt c s after (201 * k)) (same (r .attributes) (attributesOf ls (k + 1)) e (h .after) (r .read) (h .read)) (put .there c s (r .attributes) (r .listed));
-        others = λ b xs o l. put .others c s b xs o l;
+        there = λ ls h. subst (ListAt long s after (201 * k)) (same (r .attributes) (attributesOf ls (k + 1)) e (h .after) (r .read) (h .read)) (put .there long s (r .attributes) (r .listed));
+        others = λ b xs o l. put .others long s b xs o l;
       }
     where
-      same : (xs ys : List Attribute) (i j : ℕ) → listFrom c s from ≡ got (record { attributes = xs; at = i }) → listFrom c s from ≡ got (record { attributes = ys; at = j }) → xs ≡ ys
+      same : (xs ys : List Attribute) (i j : ℕ) → listFrom long s from ≡ got (record { attributes = xs; at = i }) → listFrom long s from ≡ got (record { attributes = ys; at = j }) → xs ≡ ys
       same xs ys i j p q = ap (λ (l : ListEnd). l .attributes) (one-end (sym p ∙ q))
 
 -- The first k lists are in the table, and the others are empty.
-pub record Fills (c : Settings) (s heads lists : List ℕ) (k : ℕ) : Type 0 where
-  long : length lists ≡ 12864
-  done : (ls : List AttList) → Headed c s heads ls → (j : ℕ) → j < k → ListAt c s lists (201 * j) (attributesOf ls (j + 1))
-  rest : (j : ℕ) → k ≤ j → j < 64 → ListAt c s lists (201 * j) []
+pub record Fills (long : ℕ) (s heads lists : List ℕ) (k : ℕ) : Type 0 where
+  as-long : length lists ≡ 12864
+  done : (ls : List AttList) → Headed long s heads ls → (j : ℕ) → j < k → ListAt long s lists (201 * j) (attributesOf ls (j + 1))
+  rest : (j : ℕ) → k ≤ j → j < 64 → ListAt long s lists (201 * j) []
 
-module _ (c : Settings) (s heads : List ℕ) where
-  pub fills-none : {lists : List ℕ} → lists ≡ replicate 12864 0 → Fills c s heads lists 0
+module _ (long : ℕ) (s heads : List ℕ) where
+  pub fills-none : {lists : List ℕ} → lists ≡ replicate 12864 0 → Fills long s heads lists 0
   fills-none e =
       record {
-        long = rw e (length-replicate {A = ℕ} 12864 0);
+        as-long = rw e (length-replicate {A = ℕ} 12864 0);
         done = λ ls h j l. absurd (omega (arith, l));
         rest = λ j l m. record { counted = rw e (getD-replicate 12864 (201 * j) 0 0 (omega (arith, m))); few = omega arith; rows = λ i x. absurd (omega (arith, x)) };
       }
 
-  pub fills-long : {lists : List ℕ} {k : ℕ} → Fills c s heads lists k → length lists ≡ 12864
-  fills-long f = f .long
+  pub fills-long : {lists : List ℕ} {k : ℕ} → Fills long s heads lists k → length lists ≡ 12864
+  fills-long f = f .as-long
 
-  pub fills-all : {lists : List ℕ} {k n : ℕ} → Fills c s heads lists k → n ≤ k → (ls : List AttList) → Headed c s heads ls → (j : ℕ) → j < n → ListAt c s lists (201 * j) (attributesOf ls (j + 1))
+  pub fills-all : {lists : List ℕ} {k n : ℕ} → Fills long s heads lists k → n ≤ k → (ls : List AttList) → Headed long s heads ls → (j : ℕ) → j < n → ListAt long s lists (201 * j) (attributesOf ls (j + 1))
   fills-all f l ls h j m = f .done ls h j (omega (arith, l, m))
 
-  module _ {lists after : List ℕ} {k : ℕ} (m : k < 64) (f : Fills c s heads lists k) {from : ℕ} (head : from ≡ getD heads k 0) (a : Again c s from k lists after) where
-    put : (ls : List AttList) → Headed c s heads ls → Dec (getD heads k 0 ≡ 0) → ListAt c s after (201 * k) (attributesOf ls (k + 1))
+  module _ {lists after : List ℕ} {k : ℕ} (m : k < 64) (f : Fills long s heads lists k) {from : ℕ} (head : from ≡ getD heads k 0) (a : Again long s from k lists after) where
+    put : (ls : List AttList) → Headed long s heads ls → Dec (getD heads k 0 ≡ 0) → ListAt long s after (201 * k) (attributesOf ls (k + 1))
     put ls h (yes z) =
         let e : attributesOf ls (k + 1) ≡ [] = attributes-none (k + 1) ls (h .has k m ∙ ap not (eq-eqb _ _ z)) in
         rw (a .none (head ∙ z), e) (f .rest k (omega arith) m)
     put ls h (no z) = a .there ls (rw head (h .reads k m z))
 
-    done-next : (ls : List AttList) → Headed c s heads ls → (j : ℕ) → j < k + 1 → Dec (j ≡ k) → ListAt c s after (201 * j) (attributesOf ls (j + 1))
+    done-next : (ls : List AttList) → Headed long s heads ls → (j : ℕ) → j < k + 1 → Dec (j ≡ k) → ListAt long s after (201 * j) (attributesOf ls (j + 1))
     done-next ls h j l (yes q) = rw q (put ls h (ℕ-discrete (getD heads k 0) 0))
     done-next ls h j l (no q) = a .others (201 * j) (attributesOf ls (j + 1)) (inl (omega (arith, l, q))) (f .done ls h j (omega (arith, l, q)))
 
-    pub fills-turn : Fills c s heads after (k + 1)
+    pub fills-turn : Fills long s heads after (k + 1)
     fills-turn =
         record {
-          long = a .long ∙ f .long;
+          as-long = a .as-long ∙ f .as-long;
           done = λ ls h j l. done-next ls h j l (ℕ-discrete j k);
           rest = λ j l n. a .others (201 * j) [] (inr (omega (arith, l))) (f .rest j (omega (arith, l)) n);
         }
 
 -- The table of a type's lists: filled, or empty where no element has a list.
-module _ {c : Settings} {s heads : List ℕ} {es : List rules.Element} (h : HeadedAs c s heads es) where
-  pub lists-filled : (lists : List ℕ) → ((ls : List AttList) → Headed c s heads ls → (k : ℕ) → k < length es → ListAt c s lists (201 * k) (attributesOf ls (k + 1))) → Lists c s es lists
+module _ {long : ℕ} {s heads : List ℕ} {es : List rules.Element} (h : HeadedAs long s heads es) where
+  pub lists-filled : (lists : List ℕ) → ((ls : List AttList) → Headed long s heads ls → (k : ℕ) → k < length es → ListAt long s lists (201 * k) (attributesOf ls (k + 1))) → Lists long s es lists
   lists-filled lists f k l = rw (h .each k l) (f (h .lists) (h .headed) k l)
 
-  pub lists-none : length es ≤ 64 → anyIn heads (length es) ≡ false → Lists c s es []
+  pub lists-none : length es ≤ 64 → anyIn heads (length es) ≡ false → Lists long s es []
   lists-none few none k l = rw (h .each k l, attributes-none (k + 1) (h .lists) unlisted) (record { counted = refl; few = omega arith; rows = λ i x. absurd (omega (arith, x)) })
     where
       unlisted : isListed (h .lists) (k + 1) ≡ false
@@ -276,8 +275,8 @@ pub listed-within : (heads : List ℕ) {end i count e : ℕ} {k : ElementNo} {r 
     → (1 ≤ k .0) × (k .0 ≤ count) × (i ≤ e) × (e ≤ end) × (getD heads (k .0 - 1) 0 ≡ 0)
 listed-within heads h q = rw q at h
 
-module _ (c : Settings) (s list : List ℕ) (r : Reached) (x : Reading ListEnd) (h : MeetsList c s list r x) where
-  pub defined-got : {e : ℕ} → r ≡ reached.At e → ListAs c s list e x
+module _ (long : ℕ) (s list : List ℕ) (r : Reached) (x : Reading ListEnd) (h : MeetsList long s list r x) where
+  pub defined-got : {e : ℕ} → r ≡ reached.At e → ListAs long s list e x
   defined-got q = rw q at h
 
   pub defined-refused : {f g : Fault} → r ≡ reached.Refused f → g ≡ faultOf r → x ≡ refusalOf g

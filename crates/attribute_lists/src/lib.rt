@@ -11,14 +11,13 @@ ghost use mathlib.Core.Path.{_≡_};
 ghost use mathlib.Core.List.{List};
 ghost use Prim.Native.Nat.{ℕ, _+_, _*_, _≤_, _<_};
 ghost use lib.ListN.{length, replicate};
-ghost use Rattle.rules.specs.Settings.{settings};
 ghost use Rattle.rules.specs.Attributes.{AttList};
 ghost use Rattle.rules.specs.TypeFile.{sameName, declaredFrom, listedElement, attributeList, attributesOf};
 ghost use Rattle.rules.specs.TypeFile as rules;
 ghost use Rattle.element_names.specs.Names.{Recorded, nameAt};
-ghost use Rattle.list_table.specs.Means.{ListAt};
-ghost use Rattle.list_definitions.specs.Means.{ListIn};
-ghost use Rattle.attribute_lists.specs.Means.{Headed, anyIn, listedOf, ListedFits, listedFault, MeetsLists, Again};
+ghost use Rattle.list_table.specs.Lists.{ListAt};
+ghost use Rattle.list_definitions.specs.ListAs.{ListIn};
+ghost use Rattle.attribute_lists.specs.Listed.{Headed, anyIn, listedOf, ListedFits, listedFault, MeetsLists, Again};
 
 // The element of a list, and where its name ends.
 pub enum ListedRead {
@@ -72,8 +71,8 @@ fn listed_at(
     heads: &[u16; ELEMENTS],
 ) -> ListedRead
     requires { ⌜ (i ≤ length (now s)) × (length (now s) ≤ 32768) × (count ≤ 64) ⌝ }
-    ensures { λ r. ⌜ ((es : List rules.Element) (ls : List AttList) → length es ≡ count → Recorded (now (elements .entry)) es → Headed (settings long) (now (s .entry)) (now (heads .entry)) ls →
-        listedOf r ≡ listedElement (settings long) (now (s .entry)) es ls i) × ListedFits (length (now (s .entry))) i count (now (heads .entry)) r ⌝ }
+    ensures { λ r. ⌜ ((es : List rules.Element) (ls : List AttList) → length es ≡ count → Recorded (now (elements .entry)) es → Headed long (now (s .entry)) (now (heads .entry)) ls →
+        listedOf r ≡ listedElement long (now (s .entry)) es ls i) × ListedFits (length (now (s .entry))) i count (now (heads .entry)) r ⌝ }
 {
     let b = text::byte(s, i);
     if !text::is_letter(b) {
@@ -112,8 +111,8 @@ pub fn list_at(
     heads: &mut [u16; ELEMENTS],
 ) -> Reached
     requires { ⌜ (3 ≤ at) × (at ≤ length (now s)) × (length (now s) ≤ 32768) × (count ≤ 64) ⌝ }
-    ensures { λ r. ⌜ ((es : List rules.Element) (ls : List AttList) → length es ≡ count → Recorded (now (elements .entry)) es → Headed (settings long) (now (s .entry)) (now (heads .entry)) ls →
-        MeetsLists (settings long) (now (s .entry)) (now (heads .exit)) es r (attributeList (settings long) (now (s .entry)) at es ls)) × ListIn (length (now (s .entry))) at r ⌝ }
+    ensures { λ r. ⌜ ((es : List rules.Element) (ls : List AttList) → length es ≡ count → Recorded (now (elements .entry)) es → Headed long (now (s .entry)) (now (heads .entry)) ls →
+        MeetsLists long (now (s .entry)) (now (heads .exit)) es r (attributeList long (now (s .entry)) at es ls)) × ListIn (length (now (s .entry))) at r ⌝ }
 {
     let g = gaps::gap_end(s, at);
     let Reached::At(i) = g else {
@@ -152,7 +151,7 @@ pub fn has_any(heads: &[u16; ELEMENTS], n: usize) -> bool
 // Puts the list of the k-th element, from 0, whose head is `from`, into the table. A head that is no place behind a keyword is no type's.
 fn read_again(long: usize, s: &[u8], from: usize, k: usize, lists: &mut [u16])
     requires { ⌜ (k < 64) × (length (now s) ≤ 32768) × (length (now lists) ≡ 12864) ⌝ }
-    ensures { λ _. ⌜ Again (settings long) (now (s .entry)) from k (now (lists .entry)) (now (lists .exit)) ⌝ }
+    ensures { λ _. ⌜ Again long (now (s .entry)) from k (now (lists .entry)) (now (lists .exit)) ⌝ }
 {
     if from < 3 {
         return;
@@ -171,7 +170,7 @@ fn read_again(long: usize, s: &[u8], from: usize, k: usize, lists: &mut [u16])
 // Fills the table, which is all 0, with the lists of a type of n elements, each read again from its head on.
 pub fn fill(long: usize, s: &[u8], heads: &[u16; ELEMENTS], n: usize, lists: &mut [u16])
     requires { ⌜ (n ≤ 64) × (length (now s) ≤ 32768) × (now lists ≡ replicate 12864 0) ⌝ }
-    ensures { λ _. ⌜ ((ls : List AttList) → Headed (settings long) (now (s .entry)) (now (heads .entry)) ls → (k : ℕ) → k < n → ListAt (settings long) (now (s .entry)) (now (lists .exit)) (201 * k) (attributesOf ls (k + 1))) ⌝ }
+    ensures { λ _. ⌜ ((ls : List AttList) → Headed long (now (s .entry)) (now (heads .entry)) ls → (k : ℕ) → k < n → ListAt long (now (s .entry)) (now (lists .exit)) (201 * k) (attributesOf ls (k + 1))) ⌝ }
 {
     let mut k = 0;
     while k < n {

@@ -9,7 +9,7 @@ use Rattle.rules.specs.Bytes.{sameText}
 use Rattle.rules.specs.Attributes.{Attribute, isCalled}
 use Rattle.rules.specs.TypeFile.{sameName}
 use Rattle.rules.specs.Document.{Written}
-use Rattle.text.specs.Laws.{sameText-more, sameText-split, sameText-sym}
+use Rattle.text.specs.Words.{sameText-more, sameText-split, sameText-sym}
 use Rattle.model_sets.specs.Bits.{bool-cases}
 use Rattle.rules_laws.specs.Names.{sameName-split, sameName-join}
 

@@ -7,7 +7,6 @@ use mathlib.Core.List.{List, [], _∷_, _++_}
 use native.Mathlib.Decide.{ℕ-discrete, decLt}
 use native.Mathlib.Omega.{arith}
 use lib.ListN.{length, length-append}
-use Rattle.rules.specs.Settings.{Settings}
 use Rattle.rules.specs.Reading.{got}
 use Rattle.rules.specs.Attributes.{Attribute, isCalled, attributeOf, attributeAt}
 use Rattle.rules.specs.TypeFile.{Element, typeFile}
@@ -16,7 +15,7 @@ use Rattle.rules_laws.specs.Holds.{got-so}
 use Rattle.rules_laws.specs.Definitions.{list-holds}
 use Rattle.rules_laws.specs.Declarations.{ListedIn}
 use Rattle.rules_laws.specs.Within.{All, none, more, typeFile-lists}
-use Rattle.list_table.specs.Laws.{at-before, at-last}
+use Rattle.list_table.specs.Finds.{at-before, at-last}
 use Rattle.attribute_marks.specs.Called.{called-both}
 use Rattle.attribute_marks.specs.Found.{of-none}
 
@@ -51,16 +50,16 @@ differ-more s xs a n e = record { apart = λ j k l h. by-last j k l (omega (arit
         let i : k < length xs = omega arith in
         rw (at-before xs a j (omega arith), at-before xs a k i) (n .apart j k l i)
 
-listed-differ : (c : Settings) (s : List ℕ) (xs : List Attribute) → ListedIn c s xs → NamesDiffer s xs
-listed-differ c s xs (inl e) = rw e (record { apart = λ j k l h. absurd (omega (arith, h)) })
-listed-differ c s xs (inr r) = got-so (list-holds c s (NamesDiffer s) (λ ys a n d. differ-more s ys a n (d .fresh)) (r .from) (r .inside) (record { apart = λ j k l h. absurd (omega (arith, h)) })) (r .read) .each
+listed-differ : (long : ℕ) (s : List ℕ) (xs : List Attribute) → ListedIn long s xs → NamesDiffer s xs
+listed-differ long s xs (inl e) = rw e (record { apart = λ j k l h. absurd (omega (arith, h)) })
+listed-differ long s xs (inr r) = got-so (list-holds long s (NamesDiffer s) (λ ys a n d. differ-more s ys a n (d .fresh)) (r .from) (r .inside) (record { apart = λ j k l h. absurd (omega (arith, h)) })) (r .read) .each
 
 -- Those of each element's list, in a type that was read.
-pub lists-differ : (c : Settings) (s : List ℕ) (es : List Element) → typeFile c s ≡ got es → (k : ℕ) → k < length es → NamesDiffer s (elementAt es k .attributes)
+pub lists-differ : (long : ℕ) (s : List ℕ) (es : List Element) → typeFile long s ≡ got es → (k : ℕ) → k < length es → NamesDiffer s (elementAt es k .attributes)
 unfolding elementAt
-lists-differ c s es e k h = each es (typeFile-lists c s es e) k h
+lists-differ long s es e k h = each es (typeFile-lists long s es e) k h
   where
-    each : (ds : List Element) → All (λ (x : Element). ListedIn c s (x .attributes)) ds → (k : ℕ) → k < length ds → NamesDiffer s (elementAt ds k .attributes)
+    each : (ds : List Element) → All (λ (x : Element). ListedIn long s (x .attributes)) ds → (k : ℕ) → k < length ds → NamesDiffer s (elementAt ds k .attributes)
     each [] none k h = absurd (omega (arith, h))
-    each (d ∷ ds) (more p a) zero h = listed-differ c s (d .attributes) p
+    each (d ∷ ds) (more p a) zero h = listed-differ long s (d .attributes) p
     each (d ∷ ds) (more p a) (suc k) h = each ds a k (omega (arith, h))

@@ -3,7 +3,7 @@ pub mod Called
 pub mod Found
 pub mod Differ
 pub mod Marks
-pub mod Means
+pub mod Each
 pub mod Marking
 pub mod Listed
 pub mod Missing

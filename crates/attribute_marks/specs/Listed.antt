@@ -9,14 +9,13 @@ use lib.ListN.{length, take, drop, take-append-drop}
 use lib.Seq.{take-all, length-take-le}
 use lib.Dec.{leb}
 use borrow.Author.Tests.{leb-true}
-use Rattle.rules.specs.Settings.{Settings}
 use Rattle.rules.specs.Reading.{Reading, refused, got, andThen}
 use Rattle.rules.specs.Attributes.{Attribute, isCalled, attributeFrom, attributeOf}
 use Rattle.rules.specs.TypeFile.{sameName}
 use Rattle.rules.specs.Document.{Written}
 use Rattle.rules.specs.Given.{isGivenIn, allListed, allFit, givenFor}
 use Rattle.model_sets.specs.Bits.{bool-cases}
-use Rattle.attribute_marks.specs.Means.{isNew, isFitting}
+use Rattle.attribute_marks.specs.Each.{isNew, isFitting}
 use Rattle.attribute_marks.specs.Marking.{some-none, given-in}
 
 -- These, the last of vs first, then bs.
@@ -64,23 +63,23 @@ module _ (s : List ℕ) (xs : List Attribute) (d : List ℕ) where
 
 -- Values
 
-module _ (c : Settings) (s : List ℕ) (xs : List Attribute) (d : List ℕ) where
-  fit-append : (vs us : List Written) → allFit c s xs d (vs ++ us) ≡ andThen (allFit c s xs d vs) (λ u. allFit c s xs d us)
+module _ (long : ℕ) (s : List ℕ) (xs : List Attribute) (d : List ℕ) where
+  fit-append : (vs us : List Written) → allFit long s xs d (vs ++ us) ≡ andThen (allFit long s xs d vs) (λ u. allFit long s xs d us)
   unfolding allFit
   fit-append [] us = refl
-  fit-append (v ∷ vs) us = bool-cases (isFitting c s xs d v) (λ e. rw (allFit, e) (fit-append vs us)) (λ e. rw (allFit, e))
+  fit-append (v ∷ vs) us = bool-cases (isFitting long s xs d v) (λ e. rw (allFit, e) (fit-append vs us)) (λ e. rw (allFit, e))
 
-  pub fit-refused : (vs us : List Written) {n p : ℕ} → allFit c s xs d vs ≡ refused n p → allFit c s xs d (vs ++ us) ≡ refused n p
-  fit-refused vs us e = fit-append vs us ∙ ap (λ (r : Reading (Unit {0})). andThen r (λ u. allFit c s xs d us)) e
+  pub fit-refused : (vs us : List Written) {n p : ℕ} → allFit long s xs d vs ≡ refused n p → allFit long s xs d (vs ++ us) ≡ refused n p
+  fit-refused vs us e = fit-append vs us ∙ ap (λ (r : Reading (Unit {0})). andThen r (λ u. allFit long s xs d us)) e
 
-  fit-one : (vs : List Written) (w : Written) → allFit c s xs d vs ≡ got tt → allFit c s xs d (vs ++ w ∷ []) ≡ elim (isFitting c s xs d w) [ true ↦ got tt | false ↦ refused 22 (w .quote) ]
+  fit-one : (vs : List Written) (w : Written) → allFit long s xs d vs ≡ got tt → allFit long s xs d (vs ++ w ∷ []) ≡ elim (isFitting long s xs d w) [ true ↦ got tt | false ↦ refused 22 (w .quote) ]
   unfolding allFit
-  fit-one vs w e = fit-append vs (w ∷ []) ∙ ap (λ (r : Reading (Unit {0})). andThen r (λ u. allFit c s xs d (w ∷ []))) e
+  fit-one vs w e = fit-append vs (w ∷ []) ∙ ap (λ (r : Reading (Unit {0})). andThen r (λ u. allFit long s xs d (w ∷ []))) e
 
-  pub fit-more : (vs : List Written) (w : Written) → allFit c s xs d vs ≡ got tt → isFitting c s xs d w ≡ true → allFit c s xs d (vs ++ w ∷ []) ≡ got tt
+  pub fit-more : (vs : List Written) (w : Written) → allFit long s xs d vs ≡ got tt → isFitting long s xs d w ≡ true → allFit long s xs d (vs ++ w ∷ []) ≡ got tt
   fit-more vs w e n = fit-one vs w e ∙ rw n
 
-  pub fit-ends : (vs : List Written) (w : Written) → allFit c s xs d vs ≡ got tt → isFitting c s xs d w ≡ false → allFit c s xs d (vs ++ w ∷ []) ≡ refused 22 (w .quote)
+  pub fit-ends : (vs : List Written) (w : Written) → allFit long s xs d vs ≡ got tt → isFitting long s xs d w ≡ false → allFit long s xs d (vs ++ w ∷ []) ≡ refused 22 (w .quote)
   fit-ends vs w e n = fit-one vs w e ∙ rw n
 
 not-true : (b : Bool) → not b ≡ true → b ≡ false

@@ -8,7 +8,7 @@ use Rattle.rules.specs.Attributes.{Attribute, attributeAt}
 use Rattle.rules.specs.Document.{Written}
 use Rattle.rules.specs.Given.{givenFor}
 use Rattle.text.specs.declared.Fault.{Fault}
-use Rattle.text.specs.Means.{refusalOf}
+use Rattle.text.specs.Refusal.{refusalOf}
 
 -- The k-th attribute, from 0, is marked as a tag gives it: 0 where it does not, else where the value begins, which is never 0, and how long it is.
 abbrev pub MarkedAs : (marks : List ℕ) (k : ℕ) → List Written → Type 0

@@ -6,15 +6,14 @@ use mathlib.Core.List.{List, [], _∷_}
 use native.Mathlib.Decide.{ℕ-discrete}
 use native.Mathlib.Omega.{arith}
 use lib.ListN.{length, getD}
-use Rattle.rules.specs.Settings.{Settings}
 use Rattle.rules.specs.Reading.{refused, got}
 use Rattle.rules.specs.Attributes.{Default, Attribute, attributeAt, isRequired}
 use Rattle.rules.specs.Document.{Written}
 use Rattle.rules.specs.Given.{givenFor, isMissing, noneMissing}
 use Rattle.model_sets.specs.Bits.{bool-cases}
 use Rattle.list_table.specs.declared.Row.{Row}
-use Rattle.list_table.specs.Means.{rowIn, ListAt}
-use Rattle.list_table.specs.Laws.{required-is, required-not}
+use Rattle.list_table.specs.Lists.{rowIn, ListAt}
+use Rattle.list_table.specs.Finds.{required-is, required-not}
 use Rattle.attribute_marks.specs.Marks.{Marked}
 use Rattle.attribute_marks.specs.Marking.{isSome, mark-none, mark-some}
 
@@ -60,7 +59,7 @@ module _ (l : List ℕ) (b : ℕ) (marks : List ℕ) where
       by-last j h (yes q) x y = n (ap (λ m. getD marks (2 * m) 0) (sym q) ∙ x) (ap (λ m. rowIn l (b + 1 + 5 * m) .default) (sym q) ∙ y)
       by-last j h (no q) x y = w .none j (omega (arith, h, q)) x y
 
-  module _ (c : Settings) (s d : List ℕ) (xs : List Attribute) (ws : List Written) (a : ListAt c s l b xs) (m : Marked s xs d ws marks) (at : ℕ) where
+  module _ (long : ℕ) (s d : List ℕ) (xs : List Attribute) (ws : List Written) (a : ListAt long s l b xs) (m : Marked s xs d ws marks) (at : ℕ) where
     pub missing-found : (k n : ℕ) (r : Row) → n ≡ length xs → k < n → getD marks (2 * k) 0 ≡ 0 → r ≡ rowIn l (b + 1 + 5 * k) → r .default ≡ 0 → noneMissing s xs d at ws ≡ refused 21 at
     missing-found k n r e h x q z =
         let i : k < length xs = omega (arith, h, e) in

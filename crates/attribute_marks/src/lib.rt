@@ -12,16 +12,15 @@ ghost use mathlib.Core.Bool.{true, false};
 ghost use mathlib.Core.List.{List};
 ghost use Prim.Native.Nat.{ℕ, _+_, _*_, _-_, _≤_, _<_};
 ghost use lib.ListN.{length, getD};
-ghost use Rattle.rules.specs.Settings.{Settings, settings};
 ghost use Rattle.rules.specs.Reading.{refused, got};
 ghost use Rattle.rules.specs.Attributes.{Attribute};
 ghost use Rattle.rules.specs.Document as rules;
 ghost use Rattle.rules.specs.Given.{attributed, noneMissing};
-ghost use Rattle.list_table.specs.Means.{ListAt};
+ghost use Rattle.list_table.specs.Lists.{ListAt};
 ghost use Rattle.tag_attributes.specs.Given.{writtenAs, keptOf, KeptAs, WrittenIn, GivenIn};
 ghost use Rattle.attribute_marks.specs.Differ.{NamesDiffer};
 ghost use Rattle.attribute_marks.specs.Marks.{Marked, Attributed};
-ghost use Rattle.attribute_marks.specs.Means.{Marks, Given};
+ghost use Rattle.attribute_marks.specs.Each.{Marks, Given};
 
 // The marks have room for so many numbers.
 fn whole(marks: [u16; MARKS])
@@ -52,8 +51,8 @@ fn mark(
     marks: &mut [u16; MARKS],
 ) -> u32
     requires { ⌜ (1 ≤ e .0) × (e .0 ≤ 64) × (length (now s) ≤ 32768) × (length (now d) ≤ 65535) × WrittenIn (length (now d)) w ⌝ }
-    ensures { λ r. ⌜ ((xs : List Attribute) (before : List rules.Written) → ListAt (settings long) (now (s .entry)) (now (lists .entry)) (201 * (e .0 - 1)) xs → NamesDiffer (now (s .entry)) xs → Marked (now (s .entry)) xs (now (d .entry)) before (now (marks .entry)) →
-        Marks (settings long) (now (s .entry)) xs (now (d .entry)) before (writtenAs w) (now (marks .exit)) r) ⌝ }
+    ensures { λ r. ⌜ ((xs : List Attribute) (before : List rules.Written) → ListAt long (now (s .entry)) (now (lists .entry)) (201 * (e .0 - 1)) xs → NamesDiffer (now (s .entry)) xs → Marked (now (s .entry)) xs (now (d .entry)) before (now (marks .entry)) →
+        Marks long (now (s .entry)) xs (now (d .entry)) before (writtenAs w) (now (marks .exit)) r) ⌝ }
 {
     let a = list_table::find(s, lists, e, d, w.name, w.size);
     if a == 0 {
@@ -89,8 +88,8 @@ fn marked(
     marks: &mut [u16; MARKS],
 ) -> Fault
     requires { ⌜ (1 ≤ e .0) × (e .0 ≤ 64) × (n ≤ 41) × GivenIn (length (now d)) (now given) n × (length (now s) ≤ 32768) × (length (now d) ≤ 65535) ⌝ }
-    ensures { λ r. ⌜ ((xs : List Attribute) → ListAt (settings long) (now (s .entry)) (now (lists .entry)) (201 * (e .0 - 1)) xs → NamesDiffer (now (s .entry)) xs → ((k : ℕ) → k < length xs → getD (now (marks .entry)) (2 * k) 0 ≡ 0) →
-        Given (settings long) (now (s .entry)) xs (now (d .entry)) (keptOf (now (given .entry)) n) (now (marks .exit)) r) ⌝ }
+    ensures { λ r. ⌜ ((xs : List Attribute) → ListAt long (now (s .entry)) (now (lists .entry)) (201 * (e .0 - 1)) xs → NamesDiffer (now (s .entry)) xs → ((k : ℕ) → k < length xs → getD (now (marks .entry)) (2 * k) 0 ≡ 0) →
+        Given long (now (s .entry)) xs (now (d .entry)) (keptOf (now (given .entry)) n) (now (marks .exit)) r) ⌝ }
 {
     let mut misfit = 0;
     let mut k = 0;
@@ -122,7 +121,7 @@ fn marked(
 // Whether an attribute of the element e is required and not marked.
 fn is_missing(lists: &[u16], e: ElementNo, n: usize, marks: &[u16; MARKS]) -> bool
     requires { ⌜ (1 ≤ e .0) × (e .0 ≤ 64) × (n ≤ 40) ⌝ }
-    ensures { λ r. ⌜ ((c : Settings) (s d : List ℕ) (xs : List Attribute) (ws : List rules.Written) → ListAt c s (now (lists .entry)) (201 * (e .0 - 1)) xs → n ≡ length xs → Marked s xs d ws (now (marks .entry)) →
+    ensures { λ r. ⌜ ((long : ℕ) (s d : List ℕ) (xs : List Attribute) (ws : List rules.Written) → ListAt long s (now (lists .entry)) (201 * (e .0 - 1)) xs → n ≡ length xs → Marked s xs d ws (now (marks .entry)) →
         (at : ℕ) → noneMissing s xs d at ws ≡ elim r [ true ↦ refused 21 at | false ↦ got tt ]) ⌝ }
 {
     let mut k = 0;
@@ -151,8 +150,8 @@ pub fn check(
     marks: &mut [u16; MARKS],
 ) -> Fault
     requires { ⌜ (1 ≤ e .0) × (e .0 ≤ 64) × (g ≤ 41) × GivenIn (length (now d)) (now given) g × (length (now s) ≤ 32768) × (length (now d) ≤ 65535) ⌝ }
-    ensures { λ r. ⌜ ((xs : List Attribute) (ws : List rules.Written) → ListAt (settings long) (now (s .entry)) (now (lists .entry)) (201 * (e .0 - 1)) xs → NamesDiffer (now (s .entry)) xs → KeptAs (now (given .entry)) g ws →
-        Attributed (now (s .entry)) xs (now (d .entry)) ws (now (marks .exit)) r (attributed (settings long) (now (s .entry)) xs (now (d .entry)) at ws)) ⌝ }
+    ensures { λ r. ⌜ ((xs : List Attribute) (ws : List rules.Written) → ListAt long (now (s .entry)) (now (lists .entry)) (201 * (e .0 - 1)) xs → NamesDiffer (now (s .entry)) xs → KeptAs (now (given .entry)) g ws →
+        Attributed (now (s .entry)) xs (now (d .entry)) ws (now (marks .exit)) r (attributed long (now (s .entry)) xs (now (d .entry)) at ws)) ⌝ }
 {
     let n = list_table::count(lists, e);
     clear(marks, n);

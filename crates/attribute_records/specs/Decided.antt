@@ -12,32 +12,32 @@ use Rattle.rules.specs.Attributes.{AttList}
 use Rattle.rules.specs.TypeFile.{Element, attributesOf}
 use Rattle.rules.specs.Judge.{Answer, acceptance}
 use Rattle.rules.specs.Listing.{attributeWidth, Lists, refuses, noRoom, accepts}
-use Rattle.numbers.specs.Laws.{standing-fits}
-use Rattle.list_table.specs.Means.{ListAt}
-use Rattle.list_table.specs.Means as table
-use Rattle.attribute_lists.specs.Means.{Headed, HeadedAs}
+use Rattle.numbers.specs.Stores.{standing-fits}
+use Rattle.list_table.specs.Lists.{ListAt}
+use Rattle.list_table.specs.Lists as table
+use Rattle.attribute_lists.specs.Listed.{Headed, HeadedAs}
 use Rattle.attribute_lists.specs.Heads.{lists-filled}
 use Rattle.type_judge.specs.declared.Verdict.{Verdict}
 use Rattle.type_judge.specs.declared.Verdict.the-variants.{Accepted, Malformed, Ambiguous}
-use Rattle.type_judge.specs.Means.{answerOf}
-use Rattle.type_judge.specs.Means as judge
-use Rattle.attribute_records.specs.Means.{Holds, PutsLists, ListsUnder, RefusesList, Decides}
+use Rattle.type_judge.specs.Decides.{answerOf}
+use Rattle.type_judge.specs.Decides as judge
+use Rattle.attribute_records.specs.Recorded.{Holds, PutsLists, ListsUnder, RefusesList, Decides}
 use Rattle.attribute_records.specs.Numbers.{lists-length}
 
 -- The records of all lists were put, from the table that was filled.
-module _ (c : Settings) (s heads lists : List ℕ) (n : ℕ) (filled : (ls : List AttList) → Headed c s heads ls → (k : ℕ) → k < n → ListAt c s lists (201 * k) (attributesOf ls (k + 1)))
+module _ (long : ℕ) (s heads lists : List ℕ) (n : ℕ) (filled : (ls : List AttList) → Headed long s heads ls → (k : ℕ) → k < n → ListAt long s lists (201 * k) (attributesOf ls (k + 1)))
     (numbers bytes numbers′ bytes′ : List ℕ) {r : ℕ} (put : PutsLists lists n numbers bytes numbers′ bytes′ r) (room : ℕ) where
-  filled-lists : (es : List Element) → length es ≡ n → HeadedAs c s heads es → table.Lists c s es lists
+  filled-lists : (es : List Element) → length es ≡ n → HeadedAs long s heads es → table.Lists long s es lists
   filled-lists es e u = lists-filled u lists (λ ls h k l. filled ls h k (omega arith))
 
-  pub listed-full : room < attributeWidth * r → ListsUnder c s heads n room numbers bytes numbers′ bytes′ (Malformed (record { number = 19; at = 0 }))
+  pub listed-full : room < attributeWidth * r → ListsUnder long s heads n room numbers bytes numbers′ bytes′ (Malformed (record { number = 19; at = 0 }))
   listed-full h es e u =
-      let t = put c s es e (filled-lists es e u) .0 in
+      let t = put long s es e (filled-lists es e u) .0 in
       (omega arith, refl)
 
-  pub listed-put : attributeWidth * r ≤ room → ListsUnder c s heads n room numbers bytes numbers′ bytes′ (Accepted r)
+  pub listed-put : attributeWidth * r ≤ room → ListsUnder long s heads n room numbers bytes numbers′ bytes′ (Accepted r)
   listed-put h es e u =
-      let (t, w) = put c s es e (filled-lists es e u) in
+      let (t, w) = put long s es e (filled-lists es e u) in
       (omega arith, t, w)
 
 -- The judge's verdict, where it has room for all elements, and what is listed where it accepts.
@@ -47,7 +47,7 @@ module _ (c : Settings) (s elements heads : List ℕ) (room : ℕ) (numbers byte
   decided-refused (Malformed f) d other = inl d
   decided-refused (Ambiguous x) d other = inl d
 
-  pub decided-listed : (n : ℕ) (numbers′ bytes′ : List ℕ) → judge.Decides c s (6 * elementLimit) elements heads (Accepted n) → (v : Verdict) → ListsUnder c s heads n room numbers bytes numbers′ bytes′ v → Decides c s room numbers bytes numbers′ bytes′ v
+  pub decided-listed : (n : ℕ) (numbers′ bytes′ : List ℕ) → judge.Decides c s (6 * elementLimit) elements heads (Accepted n) → (v : Verdict) → ListsUnder (c .nameLength) s heads n room numbers bytes numbers′ bytes′ v → Decides c s room numbers bytes numbers′ bytes′ v
   decided-listed n numbers′ bytes′ d (Accepted t) w = let (es, a, count, fits, few, recorded, u) = d in (es, a, w es (sym count) u)
   decided-listed n numbers′ bytes′ d (Malformed f) w = let (es, a, count, fits, few, recorded, u) = d in inr (es, a, w es (sym count) u)
   decided-listed n numbers′ bytes′ d (Ambiguous x) w = let (es, a, count, fits, few, recorded, u) = d in absurd (w es (sym count) u)

@@ -8,16 +8,15 @@ use native.Mathlib.Numerals.{add-one}
 use lib.ListN.{length, take, length-append}
 use lib.Seq.{length-take-le}
 use borrow.Author.Tests.{ne-eqb, lt-ltb, le-ltb}
-use Rattle.rules.specs.Settings.{Settings}
 use Rattle.rules.specs.Attributes.{DeclaredValue, cdata, number, name, tokens, Default, required, implied, literal, Attribute, attributeAt}
 use Rattle.rules.specs.TypeFile.{Element}
 use Rattle.rules.specs.Elements.{elementAt}
 use Rattle.rules.specs.Listing.{valueNumbers, defaultNumbers, attributeNumbers, attributeWidth, listNumbers, attributeCount}
-use Rattle.attribute_values.specs.Means.{DeclaredAs, as-cdata, as-number, as-name, as-tokens}
-use Rattle.attribute_defaults.specs.Means.{defaultIs}
+use Rattle.attribute_values.specs.Parts.{DeclaredAs, as-cdata, as-number, as-name, as-tokens}
+use Rattle.attribute_defaults.specs.DefaultOf.{defaultIs}
 use Rattle.list_table.specs.declared.Row.{Row}
-use Rattle.list_table.specs.Means.{RowOf}
-use Rattle.attribute_records.specs.Means.{kindOf, detailOf, rowNumbers}
+use Rattle.list_table.specs.Lists.{RowOf}
+use Rattle.attribute_records.specs.Recorded.{kindOf, detailOf, rowNumbers}
 
 -- A kind and what goes with it, by the test that the code makes.
 module _ (m x : ℕ) where
@@ -35,7 +34,7 @@ module _ (m x : ℕ) where
 
 -- One attribute
 
-value-numbers : {c : Settings} {s : List ℕ} {v : ℕ} {x : DeclaredValue} → DeclaredAs c s v x → valueNumbers x ≡ kindOf 3 v ∷ detailOf 3 v v ∷ []
+value-numbers : {long : ℕ} {s : List ℕ} {v : ℕ} {x : DeclaredValue} → DeclaredAs long s v x → valueNumbers x ≡ kindOf 3 v ∷ detailOf 3 v v ∷ []
 value-numbers as-cdata = refl
 value-numbers as-number = refl
 value-numbers as-name = refl
@@ -71,9 +70,9 @@ default-length implied = refl
 default-length (literal p) = refl
 
 -- The row of an attribute has its numbers.
-row-is : (c : Settings) (s : List ℕ) (e a : ℕ) (r : Row) (x : Attribute) → RowOf c s r x → rowNumbers e a r ≡ attributeNumbers e a (x ∷ [])
+row-is : (long : ℕ) (s : List ℕ) (e a : ℕ) (r : Row) (x : Attribute) → RowOf long s r x → rowNumbers e a r ≡ attributeNumbers e a (x ∷ [])
 unfolding attributeNumbers
-row-is c s e a r x o =
+row-is long s e a r x o =
     rw (← o .name, ← o .size, value-numbers (o .value), ← o .default, default-numbers (r .default) (r .width))
 
 -- A list
@@ -100,10 +99,10 @@ take-attribute (x ∷ xs) zero h = refl
 take-attribute (x ∷ xs) (suc k) h = ap (λ (l : List Attribute). x ∷ l) (take-attribute xs k (omega arith))
 
 -- One attribute more, whose row this is.
-pub numbers-more : (c : Settings) (s : List ℕ) (e k : ℕ) (r : Row) (xs : List Attribute) → k < length xs → RowOf c s r (attributeAt xs k) → attributeNumbers e 1 (take (k + 1) xs) ≡ attributeNumbers e 1 (take k xs) ++ rowNumbers e (k + 1) r
-numbers-more c s e k r xs h o =
+pub numbers-more : (long : ℕ) (s : List ℕ) (e k : ℕ) (r : Row) (xs : List Attribute) → k < length xs → RowOf long s r (attributeAt xs k) → attributeNumbers e 1 (take (k + 1) xs) ≡ attributeNumbers e 1 (take k xs) ++ rowNumbers e (k + 1) r
+numbers-more long s e k r xs h o =
     let n : 1 + length (take k xs) ≡ k + 1 = omega (arith, length-take-le k xs (omega arith)) in
-    rw (add-one k, take-attribute xs k h, numbers-append e 1 (take k xs) (attributeAt xs k ∷ []), n, add-one k, row-is c s e (suc k) r (attributeAt xs k) o)
+    rw (add-one k, take-attribute xs k h, numbers-append e 1 (take k xs) (attributeAt xs k ∷ []), n, add-one k, row-is long s e (suc k) r (attributeAt xs k) o)
 
 -- All elements
 

@@ -13,13 +13,12 @@ ghost use mathlib.Core.Path.{_≡_};
 ghost use Prim.Native.Nat.{_+_, _*_, _≤_, _<_};
 ghost use lib.ListN.{length};
 ghost use Rattle.rules.specs.Lent.{numbers, bytes, bytesOf};
-ghost use Rattle.rules.specs.Settings.{settings};
 ghost use Rattle.rules.specs.Listing.{attributeWidth, Lists};
-ghost use Rattle.inputs.specs.Means.{settingsOf};
-ghost use Rattle.numbers.specs.Means.{written};
-ghost use Rattle.list_table.specs.Means.{Short};
-ghost use Rattle.type_judge.specs.Means.{answerOf};
-ghost use Rattle.attribute_records.specs.Means.{kindOf, detailOf, rowNumbers, Puts, PutsList, PutsLists, ListsUnder, Decides};
+ghost use Rattle.inputs.specs.Checks.{settingsOf};
+ghost use Rattle.numbers.specs.Written.{written};
+ghost use Rattle.list_table.specs.Lists.{Short};
+ghost use Rattle.type_judge.specs.Decides.{answerOf};
+ghost use Rattle.attribute_records.specs.Recorded.{kindOf, detailOf, rowNumbers, Puts, PutsList, PutsLists, ListsUnder, Decides};
 
 // Which kind x is, where those below m have their own number and all others are m.
 fn kind(x: usize, m: usize) -> u32
@@ -126,7 +125,7 @@ fn listed(
     bytes: &mut [u8],
 ) -> Verdict
     requires { ⌜ (n ≤ 64) × (length (now s) ≤ 32768) ⌝ }
-    ensures { λ r. ⌜ ListsUnder (settings long) (now (s .entry)) (now (heads .entry)) n room (now (numbers .entry)) (now (bytes .entry)) (now (numbers .exit)) (now (bytes .exit)) r ⌝ }
+    ensures { λ r. ⌜ ListsUnder long (now (s .entry)) (now (heads .entry)) n room (now (numbers .entry)) (now (bytes .entry)) (now (numbers .exit)) (now (bytes .exit)) r ⌝ }
 {
     let mut lists = [0u16; LISTS];
     attribute_lists::fill(long, s, heads, n, &mut lists);

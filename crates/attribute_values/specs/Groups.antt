@@ -8,14 +8,13 @@ use native.Mathlib.Omega.{arith}
 use lib.ListN.{length, drop}
 use lib.Dec.{eqb, leb, ltb}
 use borrow.Author.Tests.{eqb-true, ltb-true, ltb-false}
-use Rattle.rules.specs.Settings.{Settings}
 use Rattle.rules.specs.Bytes.{byteAt, nameByte, nameEnd, separatorsEnd, sameText, GRPCNT}
 use Rattle.rules.specs.Reading.{Reading, got, refused}
 use Rattle.rules.specs.Attributes.{Part, DeclaredValue, cdata, number, name, isOneOf, fits}
 use Rattle.rules.specs.TypeFile.{isToken, groupToken, TokensEnd, isTokenConnector, groupTokens, tokenGroup}
-use Rattle.text.specs.Laws.{test-in, spanned, before-all, separatorsEnd-from}
+use Rattle.text.specs.Words.{test-in, spanned, before-all, separatorsEnd-from}
 use Rattle.rules_laws.specs.Holds.{Holds, stops, reads, Gives, got-so, so, on, either}
-use Rattle.attribute_values.specs.Means.{isSame, GroupAt, DeclaredAs, as-cdata, as-number, as-name, as-tokens}
+use Rattle.attribute_values.specs.Parts.{isSame, GroupAt, DeclaredAs, as-cdata, as-number, as-name, as-tokens}
 
 refused≢got : {A : Type 0} {n k : ℕ} {a : A} → _≡_ {A = Reading A} (refused n k) (got a) → ⊥
 refused≢got e = true≢false (ap isRefused e)
@@ -53,17 +52,17 @@ name-in s i h = by-size (ltb i (length s)) refl
     by-size true e = ltb-true i (length s) e
     by-size false e = absurd (omega (arith, before-all _ _ (spanned nameByte) s i (nameEnd s i) (ltb-false i (length s) e) refl, h))
 
-module _ (c : Settings) (s : List ℕ) (seen : List Part) where
+module _ (long : ℕ) (s : List ℕ) (seen : List Part) where
   -- The token at i.
   abbrev tokenAt : ℕ → Part
   tokenAt i = record { at = i; size = nameEnd s i - i }
 
-  token-known : (ps : List Part) (i : ℕ) → Gives (λ (p : Part). (i < nameEnd s i) × (p ≡ tokenAt i)) (groupToken c s seen ps i)
+  token-known : (ps : List Part) (i : ℕ) → Gives (λ (p : Part). (i < nameEnd s i) × (p ≡ tokenAt i)) (groupToken long s seen ps i)
   unfolding groupToken
   token-known ps i =
       let e = nameEnd s i in
       either (ltb i e)
-      (λ x. either (ltb (c .nameLength) (e - i)) (λ y. stops tt)
+      (λ x. either (ltb long (e - i)) (λ y. stops tt)
       (λ y. either (leb GRPCNT (length ps)) (λ z. stops tt)
       (λ z. either (isToken s (seen ++ ps) i (e - i)) (λ u. stops tt) (λ u. reads (ltb-true i e x, refl)))))
       (λ x. either (eqb (byteAt s i) 37) (λ y. stops tt) (λ y. stops tt))
@@ -72,7 +71,7 @@ module _ (c : Settings) (s : List ℕ) (seen : List Part) where
   data Step (left : ℕ) (ps : List Part) (i : ℕ) (t : TokensEnd) : Type 0 where
     closes : i < nameEnd s i → isTokenConnector (byteAt s (separatorsEnd s (nameEnd s i))) ≡ false → t .tokens ≡ ps ++ tokenAt i ∷ [] → Step left ps i t
     joins : i < nameEnd s i → isTokenConnector (byteAt s (separatorsEnd s (nameEnd s i))) ≡ true
-        → groupTokens c s seen left (byteAt s (separatorsEnd s (nameEnd s i))) (ps ++ tokenAt i ∷ []) (separatorsEnd s (nameEnd s i) + 1) ≡ got t → Step left ps i t
+        → groupTokens long s seen left (byteAt s (separatorsEnd s (nameEnd s i))) (ps ++ tokenAt i ∷ []) (separatorsEnd s (nameEnd s i) + 1) ≡ got t → Step left ps i t
 
   -- The rest of a turn, behind the token p, which ends at n.
   abbrev turn : (left connector : ℕ) (ps : List Part) (p : Part) (n : ℕ) → Reading TokensEnd
@@ -84,7 +83,7 @@ module _ (c : Settings) (s : List ℕ) (seen : List Part) where
         | false ↦ elim (eqb b 37) [
           | true ↦ refused 5 j
           | false ↦ elim (isTokenConnector b && (eqb connector 0 || eqb connector b)) [
-            | true ↦ groupTokens c s seen left b (ps ++ p ∷ []) (j + 1)
+            | true ↦ groupTokens long s seen left b (ps ++ p ∷ []) (j + 1)
             | false ↦ refused 4 j
           ]
         ]
@@ -98,11 +97,11 @@ module _ (c : Settings) (s : List ℕ) (seen : List Part) where
       (λ x. either (eqb b 37) (λ y. stops tt)
       (λ y. either (isTokenConnector b && (eqb connector 0 || eqb connector b))
       (λ z.
-      so (whatever (groupTokens c s seen left b (ps ++ tokenAt i ∷ []) (j + 1))) (λ n k e. tt)
+      so (whatever (groupTokens long s seen left b (ps ++ tokenAt i ∷ []) (j + 1))) (λ n k e. tt)
       (λ t w. joins h (and-left (isTokenConnector b) (eqb connector 0 || eqb connector b) z) w))
       (λ z. stops tt)))
 
-  step-known : (left connector : ℕ) (ps : List Part) (at : ℕ) → Gives (Step left ps (separatorsEnd s at)) (groupTokens c s seen (suc left) connector ps at)
+  step-known : (left connector : ℕ) (ps : List Part) (at : ℕ) → Gives (Step left ps (separatorsEnd s at)) (groupTokens long s seen (suc left) connector ps at)
   unfolding groupTokens
   step-known left connector ps at =
       let i = separatorsEnd s at in
@@ -118,7 +117,7 @@ module _ (c : Settings) (s : List ℕ) (seen : List Part) where
     one-more [] p = or-false (isSame s p v)
     one-more (q ∷ ps) p = ap (λ b. isSame s q v || b) (one-more ps p) ∙ or-assoc (isSame s q v) (isOneOf s ps v) (isSame s p v)
 
-    kept : (left connector : ℕ) (ps : List Part) (at : ℕ) (t : TokensEnd) → groupTokens c s seen left connector ps at ≡ got t → isOneOf s ps v ≡ true → isOneOf s (t .tokens) v ≡ true
+    kept : (left connector : ℕ) (ps : List Part) (at : ℕ) (t : TokensEnd) → groupTokens long s seen left connector ps at ≡ got t → isOneOf s ps v ≡ true → isOneOf s (t .tokens) v ≡ true
     unfolding groupTokens
     kept zero connector ps at t e h = absurd (refused≢got e)
     kept (suc left) connector ps at t e h = by-step (got-so (step-known left connector ps at) e) (kept left)
@@ -130,38 +129,38 @@ module _ (c : Settings) (s : List ℕ) (seen : List Part) where
         further = one-more ps (tokenAt i) ∙ ap (λ b. b || isSame s (tokenAt i) v) h
 
         by-step : Step left ps i t
-            → ((connector : ℕ) (ps : List Part) (at : ℕ) (t : TokensEnd) → groupTokens c s seen left connector ps at ≡ got t → isOneOf s ps v ≡ true → isOneOf s (t .tokens) v ≡ true)
+            → ((connector : ℕ) (ps : List Part) (at : ℕ) (t : TokensEnd) → groupTokens long s seen left connector ps at ≡ got t → isOneOf s ps v ≡ true → isOneOf s (t .tokens) v ≡ true)
             → isOneOf s (t .tokens) v ≡ true
         by-step (closes g n q) ih = ap (λ ts. isOneOf s ts v) q ∙ further
         by-step (joins g n q) ih = ih _ _ _ t q further
 
 -- What is left to read of a group with the tokens ps, from the token at i on: the value is none of those before.
 pub record Rests (s v : List ℕ) (ps : List Part) (i : ℕ) : Type 0 where
-  c : Settings
+  long : ℕ
   seen : List Part
   left : ℕ
   connector : ℕ
   before : List Part
   from : ℕ
   end : TokensEnd
-  read : groupTokens c s seen (suc left) connector before from ≡ got end
+  read : groupTokens long s seen (suc left) connector before from ≡ got end
   tokens : end .tokens ≡ ps
   begins : i ≡ separatorsEnd s from
   others : isOneOf s before v ≡ false
 
 module _ (s v : List ℕ) where
-  pub rests-first : (c : Settings) (at : ℕ) (ps : List Part) → GroupAt c s at ps → Rests s v ps (separatorsEnd s (at + 1))
+  pub rests-first : (long : ℕ) (at : ℕ) (ps : List Part) → GroupAt long s at ps → Rests s v ps (separatorsEnd s (at + 1))
   unfolding tokenGroup isOneOf
-  rests-first c at ps g = record { c = c; seen = g .seen; left = GRPCNT; connector = 0; before = []; from = at + 1; end = g .end; read = g .read; tokens = g .tokens; begins = refl; others = refl }
+  rests-first long at ps g = record { long = long; seen = g .seen; left = GRPCNT; connector = 0; before = []; from = at + 1; end = g .end; read = g .read; tokens = g .tokens; begins = refl; others = refl }
 
   module _ (ps : List Part) (i : ℕ) (r : Rests s v ps i) where
-    step : Step (r .c) s (r .seen) (r .left) (r .before) i (r .end)
-    step = subst (λ (n : ℕ). Step (r .c) s (r .seen) (r .left) (r .before) n (r .end)) (sym (r .begins)) (got-so (step-known (r .c) s (r .seen) (r .left) (r .connector) (r .before) (r .from)) (r .read))
+    step : Step (r .long) s (r .seen) (r .left) (r .before) i (r .end)
+    step = subst (λ (n : ℕ). Step (r .long) s (r .seen) (r .left) (r .before) n (r .end)) (sym (r .begins)) (got-so (step-known (r .long) s (r .seen) (r .left) (r .connector) (r .before) (r .from)) (r .read))
 
     pub rests-in : i < length s
     rests-in = by-step step
       where
-        by-step : Step (r .c) s (r .seen) (r .left) (r .before) i (r .end) → i < length s
+        by-step : Step (r .long) s (r .seen) (r .left) (r .before) i (r .end) → i < length s
         by-step (closes h n q) = name-in s i h
         by-step (joins h n q) = name-in s i h
 
@@ -170,20 +169,20 @@ module _ (s v : List ℕ) where
     rests-found e = ap (λ ts. isOneOf s ts v) (sym (r .tokens)) ∙ by-step step
       where
         whole : isOneOf s (r .before ++ record { at = i; size = nameEnd s i - i } ∷ []) v ≡ true
-        whole = one-more (r .c) s (r .seen) v (r .before) _ ∙ ap (λ b. isOneOf s (r .before) v || b) e ∙ or-true (isOneOf s (r .before) v)
+        whole = one-more (r .long) s (r .seen) v (r .before) _ ∙ ap (λ b. isOneOf s (r .before) v || b) e ∙ or-true (isOneOf s (r .before) v)
 
-        by-step : Step (r .c) s (r .seen) (r .left) (r .before) i (r .end) → isOneOf s (r .end .tokens) v ≡ true
+        by-step : Step (r .long) s (r .seen) (r .left) (r .before) i (r .end) → isOneOf s (r .end .tokens) v ≡ true
         by-step (closes h n q) = ap (λ ts. isOneOf s ts v) q ∙ whole
-        by-step (joins h n q) = kept (r .c) s (r .seen) v _ _ _ _ (r .end) q whole
+        by-step (joins h n q) = kept (r .long) s (r .seen) v _ _ _ _ (r .end) q whole
 
     module _ (e : isSame s (record { at = i; size = nameEnd s i - i }) v ≡ false) where
       none : isOneOf s (r .before ++ record { at = i; size = nameEnd s i - i } ∷ []) v ≡ false
-      none = one-more (r .c) s (r .seen) v (r .before) _ ∙ ap (λ b. b || isSame s (record { at = i; size = nameEnd s i - i }) v) (r .others) ∙ e
+      none = one-more (r .long) s (r .seen) v (r .before) _ ∙ ap (λ b. b || isSame s (record { at = i; size = nameEnd s i - i }) v) (r .others) ∙ e
 
       pub rests-end : isTokenConnector (byteAt s (separatorsEnd s (nameEnd s i))) ≡ false → isOneOf s ps v ≡ false
       rests-end n = by-step step
         where
-          by-step : Step (r .c) s (r .seen) (r .left) (r .before) i (r .end) → isOneOf s ps v ≡ false
+          by-step : Step (r .long) s (r .seen) (r .left) (r .before) i (r .end) → isOneOf s ps v ≡ false
           by-step (closes h m q) = ap (λ ts. isOneOf s ts v) (sym (r .tokens) ∙ q) ∙ none
           by-step (joins h m q) = absurd (true≢false (sym m ∙ n))
 
@@ -191,11 +190,11 @@ module _ (s v : List ℕ) where
       unfolding groupTokens
       rests-turn n = by-step (r .left) step
         where
-          by-step : (left : ℕ) → Step (r .c) s (r .seen) left (r .before) i (r .end) → Rests s v ps (separatorsEnd s (separatorsEnd s (nameEnd s i) + 1))
+          by-step : (left : ℕ) → Step (r .long) s (r .seen) left (r .before) i (r .end) → Rests s v ps (separatorsEnd s (separatorsEnd s (nameEnd s i) + 1))
           by-step left (closes h m q) = absurd (true≢false (sym n ∙ m))
           by-step zero (joins h m q) = absurd (refused≢got q)
           by-step (suc left) (joins h m q) =
-              record { c = r .c; seen = r .seen; left = left; connector = byteAt s (separatorsEnd s (nameEnd s i)); before = r .before ++ record { at = i; size = nameEnd s i - i } ∷ []; from = separatorsEnd s (nameEnd s i) + 1; end = r .end; read = q; tokens = r .tokens; begins = refl; others = none }
+              record { long = r .long; seen = r .seen; left = left; connector = byteAt s (separatorsEnd s (nameEnd s i)); before = r .before ++ record { at = i; size = nameEnd s i - i } ∷ []; from = separatorsEnd s (nameEnd s i) + 1; end = r .end; read = q; tokens = r .tokens; begins = refl; others = none }
 
 -- The same where the code has found the end of the token, the byte behind it, and where the next begins.
 module _ (s v : List ℕ) (ps : List Part) (i : ℕ) (r : Rests s v ps i) (e : ℕ) (ends : e ≡ nameEnd s i) {b : Bool} (same : b ≡ isSame s (record { at = i; size = e - i }) v) where
@@ -218,37 +217,37 @@ module _ (s v : List ℕ) (ps : List Part) (i : ℕ) (r : Rests s v ps i) (e : �
         subst (Rests s v ps) (sym at) (rests-turn s v ps i r (sym here ∙ other) (sym joint ∙ h))
 
 -- A group stands in the text.
-pub group-inside : (c : Settings) (s : List ℕ) (at : ℕ) (ps : List Part) → GroupAt c s at ps → at < length s
-group-inside c s at ps g = omega (arith, rests-in s [] ps _ (rests-first s [] c at ps g), separatorsEnd-from s (at + 1))
+pub group-inside : (long : ℕ) (s : List ℕ) (at : ℕ) (ps : List Part) → GroupAt long s at ps → at < length s
+group-inside long s at ps g = omega (arith, rests-in s [] ps _ (rests-first s [] long at ps g), separatorsEnd-from s (at + 1))
 
 -- A connector stands in the text.
 pub connector-in : (s : List ℕ) (j x : ℕ) → x ≡ byteAt s j → {k : Bool} → k ≡ isTokenConnector x → k ≡ true → j < length s
 connector-in s j x e q h = test-in isTokenConnector refl s j (ap isTokenConnector (sym e) ∙ sym q ∙ h)
 
 -- Which declared value a number stands for.
-module _ (c : Settings) (s : List ℕ) where
-  pub declared-cdata : {x : ℕ} {y : DeclaredValue} → DeclaredAs c s x y → x ≡ 0 → y ≡ cdata
+module _ (long : ℕ) (s : List ℕ) where
+  pub declared-cdata : {x : ℕ} {y : DeclaredValue} → DeclaredAs long s x y → x ≡ 0 → y ≡ cdata
   declared-cdata as-cdata e = refl
   declared-cdata as-number e = absurd (omega (arith, e))
   declared-cdata as-name e = absurd (omega (arith, e))
   declared-cdata (as-tokens at ps h g) e = absurd (omega (arith, e, h))
 
-  pub declared-number : {x : ℕ} {y : DeclaredValue} → DeclaredAs c s x y → x ≡ 1 → y ≡ number
+  pub declared-number : {x : ℕ} {y : DeclaredValue} → DeclaredAs long s x y → x ≡ 1 → y ≡ number
   declared-number as-cdata e = absurd (omega (arith, e))
   declared-number as-number e = refl
   declared-number as-name e = absurd (omega (arith, e))
   declared-number (as-tokens at ps h g) e = absurd (omega (arith, e, h))
 
-  pub declared-name : {x : ℕ} {y : DeclaredValue} → DeclaredAs c s x y → x ≡ 2 → y ≡ name
+  pub declared-name : {x : ℕ} {y : DeclaredValue} → DeclaredAs long s x y → x ≡ 2 → y ≡ name
   declared-name as-cdata e = absurd (omega (arith, e))
   declared-name as-number e = absurd (omega (arith, e))
   declared-name as-name e = refl
   declared-name (as-tokens at ps h g) e = absurd (omega (arith, e, h))
 
-  pub declared-tokens : {x : ℕ} {y : DeclaredValue} (v : List ℕ) {r : Bool} → DeclaredAs c s x y → (x ≡ 0 → ⊥) → (x ≡ 1 → ⊥) → (x ≡ 2 → ⊥)
-      → ((d : Settings) (ps : List Part) → GroupAt d s x ps → r ≡ isOneOf s ps v) → r ≡ fits c s y v
+  pub declared-tokens : {x : ℕ} {y : DeclaredValue} (v : List ℕ) {r : Bool} → DeclaredAs long s x y → (x ≡ 0 → ⊥) → (x ≡ 1 → ⊥) → (x ≡ 2 → ⊥)
+      → ((d : ℕ) (ps : List Part) → GroupAt d s x ps → r ≡ isOneOf s ps v) → r ≡ fits long s y v
   unfolding fits
   declared-tokens v as-cdata a b d f = absurd (a refl)
   declared-tokens v as-number a b d f = absurd (b refl)
   declared-tokens v as-name a b d f = absurd (d refl)
-  declared-tokens v (as-tokens at ps h g) a b d f = f c ps g
+  declared-tokens v (as-tokens at ps h g) a b d f = f long ps g

@@ -8,12 +8,11 @@ ghost use Prim.Native.Nat.{ℕ, _+_, _-_, _≤_, _<_};
 ghost use lib.ListN.{length};
 ghost use lib.Dec.{eqb};
 ghost use Rattle.rules.specs.Bytes.{digit};
-ghost use Rattle.rules.specs.Settings.{Settings, settings};
 ghost use Rattle.rules.specs.Attributes.{Part, DeclaredValue, cdata, number, name, isOneOf};
 ghost use Rattle.rules.specs.Attributes as rules;
 ghost use Rattle.rules.specs.Given.{valueBytes};
 ghost use Rattle.rules.specs.TypeFile.{isTokenConnector};
-ghost use Rattle.attribute_values.specs.Means.{partIn, isSame, GroupAt, DeclaredAs};
+ghost use Rattle.attribute_values.specs.Parts.{partIn, isSame, GroupAt, DeclaredAs};
 
 // A part of a text; none of it where the part does not lie in it.
 fn part(t: &[u8], at: usize, size: usize) -> &[u8]
@@ -54,7 +53,7 @@ fn is_break(b: u8) -> bool
 
 // Whether no byte 9, 10 or 13 is in it.
 fn is_cdata(v: &[u8]) -> bool
-    ensures { λ r. ⌜ ((c : Settings) (s : List ℕ) → r ≡ rules.fits c s cdata (now (v .entry))) ⌝ }
+    ensures { λ r. ⌜ ((long : ℕ) (s : List ℕ) → r ≡ rules.fits long s cdata (now (v .entry))) ⌝ }
 {
     let mut i = 0;
     while i < v.len() {
@@ -77,7 +76,7 @@ fn is_digit(b: u8) -> bool
 
 // Whether it is 1 to `long` digits.
 fn is_number(long: usize, v: &[u8]) -> bool
-    ensures { λ r. ⌜ ((s : List ℕ) → r ≡ rules.fits (settings long) s number (now (v .entry))) ⌝ }
+    ensures { λ r. ⌜ ((s : List ℕ) → r ≡ rules.fits long s number (now (v .entry))) ⌝ }
 {
     if v.len() == 0 {
         return false;
@@ -97,7 +96,7 @@ fn is_number(long: usize, v: &[u8]) -> bool
 
 // Whether it is a name of at most `long` bytes.
 fn is_name(long: usize, v: &[u8]) -> bool
-    ensures { λ r. ⌜ ((s : List ℕ) → r ≡ rules.fits (settings long) s name (now (v .entry))) ⌝ }
+    ensures { λ r. ⌜ ((s : List ℕ) → r ≡ rules.fits long s name (now (v .entry))) ⌝ }
 {
     if !text::is_letter(text::byte(v, 0)) {
         return false;
@@ -135,7 +134,7 @@ fn is_token(s: &[u8], i: usize, e: usize, v: &[u8]) -> bool
 // Whether it is one of the tokens of the group whose "(" stands at `at`, folded. Where no group stands there the answer is not decided.
 fn is_in_group(s: &[u8], at: usize, v: &[u8]) -> bool
     requires { ⌜ length (now s) ≤ 32768 ⌝ }
-    ensures { λ r. ⌜ ((c : Settings) (ps : List Part) → GroupAt c (now (s .entry)) at ps → r ≡ isOneOf (now (s .entry)) ps (now (v .entry))) ⌝ }
+    ensures { λ r. ⌜ ((long : ℕ) (ps : List Part) → GroupAt long (now (s .entry)) at ps → r ≡ isOneOf (now (s .entry)) ps (now (v .entry))) ⌝ }
 {
     if s.len() <= at {
         return false;
@@ -157,7 +156,7 @@ fn is_in_group(s: &[u8], at: usize, v: &[u8]) -> bool
 // Whether the value fits the declared value x of the type file s. Where that is none's the answer is not decided.
 pub fn fits(long: usize, s: &[u8], x: usize, v: &[u8]) -> bool
     requires { ⌜ length (now s) ≤ 32768 ⌝ }
-    ensures { λ r. ⌜ ((y : DeclaredValue) → DeclaredAs (settings long) (now (s .entry)) x y → r ≡ rules.fits (settings long) (now (s .entry)) y (now (v .entry))) ⌝ }
+    ensures { λ r. ⌜ ((y : DeclaredValue) → DeclaredAs long (now (s .entry)) x y → r ≡ rules.fits long (now (s .entry)) y (now (v .entry))) ⌝ }
 {
     if x == 0 {
         return is_cdata(v);

@@ -40,25 +40,34 @@ pow-unset (suc i) (suc j) n = ap (λ (n : ℕ). n % 2) (half-shift (2 ^ suc i) j
 pow-bit : (i j : ℕ) → 2 ^ i / 2 ^ j % 2 ≡ cond (eqb j i) 1 0
 pow-bit i j = bool-cases (eqb j i) (λ x. rw (x, eqb-true j i x) (pow-set i)) (λ x. rw x (pow-unset i j (eqb-false j i x)))
 
+-- The bits of either are set.
+pub or-either : (w x j : ℕ) → eqb (bitOr w x / 2 ^ j % 2) 1 ≡ eqb (w / 2 ^ j % 2) 1 || eqb (x / 2 ^ j % 2) 1
+or-either w x j =
+    ap (λ (n : ℕ). eqb (n % 2) 1) (or-shr w x j)
+    ∙ ap (λ (n : ℕ). eqb n 1) (or-mod (w / 2 ^ j) (x / 2 ^ j) 1)
+    ∙ either (w / 2 ^ j % 2) (x / 2 ^ j % 2) (mod-lt (w / 2 ^ j) (omega arith)) (mod-lt (x / 2 ^ j) (omega arith))
+  where
+    either : (a b : ℕ) → a < 2 → b < 2 → eqb (bitOr a b) 1 ≡ eqb a 1 || eqb b 1
+    either zero zero l m = refl
+    either zero (suc zero) l m = refl
+    either (suc zero) zero l m = refl
+    either (suc zero) (suc zero) l m = refl
+    either (suc (suc a)) b l m = absurd (omega arith)
+    either zero (suc (suc b)) l m = absurd (omega arith)
+    either (suc zero) (suc (suc b)) l m = absurd (omega arith)
+
 -- A bit more is set.
 pub or-bit : (w i j : ℕ) → eqb (bitOr w (2 ^ i) / 2 ^ j % 2) 1 ≡ eqb (w / 2 ^ j % 2) 1 || eqb j i
-or-bit w i j =
-    ap (λ (n : ℕ). eqb (n % 2) 1) (or-shr w (2 ^ i) j)
-    ∙ ap (λ (n : ℕ). eqb n 1) (or-mod (w / 2 ^ j) (2 ^ i / 2 ^ j) 1)
-    ∙ ap (λ (n : ℕ). eqb (bitOr (w / 2 ^ j % 2) n) 1) (pow-bit i j)
-    ∙ either (w / 2 ^ j % 2) (eqb j i) (mod-lt (w / 2 ^ j) (omega arith))
+or-bit w i j = or-either w (2 ^ i) j ∙ ap (λ (b : Bool). eqb (w / 2 ^ j % 2) 1 || b) (ap (λ (n : ℕ). eqb n 1) (pow-bit i j) ∙ bit (eqb j i))
   where
-    either : (x : ℕ) (b : Bool) → x < 2 → eqb (bitOr x (cond b 1 0)) 1 ≡ eqb x 1 || b
-    either zero true l = refl
-    either zero false l = refl
-    either (suc zero) true l = refl
-    either (suc zero) false l = refl
-    either (suc (suc x)) b l = absurd (omega arith)
+    bit : (b : Bool) → eqb (cond b 1 0) 1 ≡ b
+    bit true = refl
+    bit false = refl
 
 -- Parts
 
 -- the bits of a part are those of the whole
-mod-bit : (n k j : ℕ) → j < k → n % 2 ^ k / 2 ^ j % 2 ≡ n / 2 ^ j % 2
+pub mod-bit : (n k j : ℕ) → j < k → n % 2 ^ k / 2 ^ j % 2 ≡ n / 2 ^ j % 2
 mod-bit n k j l =
     let e : k ≡ (k - j) + j = omega arith in
     let d : k - j ≡ (k - j - 1) + 1 = omega arith in

@@ -1,4 +1,5 @@
 -- What is read of the table of members, and of the bits of those that have begun.
-pub mod Means
+pub mod Levels
 pub mod Bits
-pub mod Laws
+pub mod Stores
+pub mod Gathering

@@ -8,10 +8,10 @@ use Rattle.rules.specs.TypeFile.{Element}
 use Rattle.rules.specs.Events.{Event}
 use Rattle.rules.specs.Settling.{State, endElement, endDocument}
 use Rattle.document_laws.specs.Decide.{decided}
-use Rattle.type_tables.specs.Means.{Facts}
+use Rattle.type_tables.specs.Tables.{Facts}
 use Rattle.open_elements.specs.declared.Open.{Open}
 use Rattle.open_elements.specs.declared.Outcome.{Outcome}
-use Rattle.open_elements.specs.Means.{Becomes, Stands}
+use Rattle.open_elements.specs.Stands.{Becomes, Stands}
 use Rattle.left_out_ends.specs.Until.{Brings}
 
 -- What `end_tag` promises: the state and the events are the rules' after the end tag of x, or it is refused as there.

@@ -12,14 +12,14 @@ use Rattle.rules.specs.Settling.{State, isOpen, closeFrom, endElement, endFrom,
 use Rattle.rules.specs.Settling as rules
 use Rattle.rules_laws.specs.BeforeStarts.{plain-none, plain-then, plain-end-written}
 use Rattle.document_laws.specs.Decide.{decided}
-use Rattle.type_tables.specs.Means.{Facts}
-use Rattle.event_buffer.specs.Means.{noted, Puts}
-use Rattle.event_buffer.specs.Laws.{puts-none, puts-then}
+use Rattle.type_tables.specs.Tables.{Facts}
+use Rattle.event_buffer.specs.Buffers.{noted, Puts}
+use Rattle.event_buffer.specs.EventByEvent.{puts-none, puts-then}
 use Rattle.open_elements.specs.declared.Open.{Open}
 use Rattle.open_elements.specs.declared.Outcome.{Outcome}
-use Rattle.open_elements.specs.Means.{bare, ended, Ranged, Stands}
+use Rattle.open_elements.specs.Stands.{bare, ended, Ranged, Stands}
 use Rattle.open_elements.specs.Becomes.{StandsWith, becomes-refused, becomes-got, was-refused, was-got}
-use Rattle.open_elements.specs.Laws.{stands-open, stands-element, stands-around, stands-alone, ranged-ended}
+use Rattle.open_elements.specs.Methods.{stands-open, stands-element, stands-around, stands-alone, ranged-ended}
 use Rattle.left_out_ends.specs.Until.{Brings, Until}
 use Rattle.left_out_ends.specs.Ends.{inferredFrom, closeOn, close-none, close-ends, endOn, end-ends, element-open, element-shut, close-incomplete, close-complete, document-end, end-incomplete, end-complete}
 use Rattle.left_out_ends.specs.Loop.{stands-complete, stands-numbered, left}

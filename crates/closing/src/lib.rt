@@ -10,7 +10,7 @@ use layout::Place;
 use open_elements::Open;
 use open_elements::Outcome;
 ghost use Prim.Native.Nat.{_+_, _≤_, _<_};
-ghost use Rattle.open_elements.specs.Means.{Ranged};
+ghost use Rattle.open_elements.specs.Stands.{Ranged};
 ghost use Rattle.closing.specs.Closed.{Tagged, Finished};
 
 // The end tag of the element x, from `at` to `after`. Where it is refused nothing decides the state, but that its numbers are in range,

@@ -10,15 +10,15 @@ use Rattle.layout.specs.Sizes.{CODE}
 use Rattle.rules.specs.Bytes.{byteAt}
 use Rattle.rules.specs.Walk.{Group, opt, plus, star}
 use Rattle.rules.specs.TypeFile.{Tokens, occurrence, earlier}
-use Rattle.text.specs.Laws.{byte-is-in}
+use Rattle.text.specs.Words.{byte-is-in}
 use Rattle.model_sets.specs.Sets.{size, Numbered}
 use Rattle.model_links.specs.Behind.{Behind}
 use Rattle.model_table.specs.declared.Part.{Part}
 use Rattle.model_table.specs.Fill.{part, partOf, partSeq, partAlt, partAnd, joinSeq, joinAnd, repeated}
-use Rattle.model_table.specs.Means.{Filled, shows-same}
-use Rattle.model_table.specs.Means as means
+use Rattle.model_table.specs.Shows.{Filled, shows-same}
+use Rattle.model_table.specs.Shows as means
 use Rattle.model_table.specs.Behind.{repeated-behind}
-use Rattle.model_code.specs.Means.{putCode, codeNext}
+use Rattle.model_code.specs.Six.{putCode, codeNext}
 use Rattle.model_code.specs.Spelled.{codes, codeIn, code-same, put-next, put-rows, put-length, code-put}
 use Rattle.connectors.specs.declared.Model.{Model}
 use Rattle.connectors.specs.Kept.{begun, Ready, Tabled, Joins, Keeps, joinModel, joinTable}

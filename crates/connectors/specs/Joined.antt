@@ -14,9 +14,9 @@ use Rattle.model_sets.specs.Sets.{size, sizeM, Numbered, NumberedM}
 use Rattle.model_links.specs.Behind.{Behind, behind-none}
 use Rattle.model_table.specs.declared.Part.{Part}
 use Rattle.model_table.specs.Fill.{partOf, partSeq, partAlt, partAnd, joinSeq, joinAnd}
-use Rattle.model_table.specs.Means.{Filled, both, sequence, any-order}
+use Rattle.model_table.specs.Shows.{Filled, both, sequence, any-order}
 use Rattle.model_table.specs.Behind.{seq-behind, and-behind}
-use Rattle.model_code.specs.Means.{putCode, codeNext}
+use Rattle.model_code.specs.Six.{putCode, codeNext}
 use Rattle.model_code.specs.Spelled.{count, codes, codesM, codeIn}
 use Rattle.connectors.specs.declared.Model.{Model}
 use Rattle.connectors.specs.Kept.{begun, Ready, Tabled, spelt, Joins, Keeps, joinPart, joinModel, joinRows, joinNumber, joinTable}

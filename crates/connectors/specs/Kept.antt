@@ -11,8 +11,8 @@ use Rattle.layout.specs.Sizes.{MODEL}
 use Rattle.model_sets.specs.Sets.{size, Numbered}
 use Rattle.model_table.specs.declared.Part.{Part}
 use Rattle.model_table.specs.Fill.{partOf, partSeq, partAlt, partAnd, joinSeq, joinAnd}
-use Rattle.model_table.specs.Means.{Filled}
-use Rattle.model_code.specs.Means.{putCode, codeNext}
+use Rattle.model_table.specs.Shows.{Filled}
+use Rattle.model_code.specs.Six.{putCode, codeNext}
 use Rattle.model_code.specs.Spelled.{count, codes, codesM, codeIn}
 use Rattle.model_names.specs.Places.{placesOf}
 use Rattle.connectors.specs.declared.Model.{Model}

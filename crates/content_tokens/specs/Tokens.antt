@@ -6,24 +6,23 @@ use mathlib.Core.List.{List, [], _∷_, _++_, append-nil}
 use native.Mathlib.Omega.{arith}
 use lib.ListN.{length}
 use borrow.Author.Tests.{lt-ltb, le-ltb}
-use Rattle.rules.specs.Settings.{Settings}
 use Rattle.rules.specs.Bytes.{byteAt, letter, nameEnd}
 use Rattle.rules.specs.Reading.{refused, got}
 use Rattle.rules.specs.Walk.{Group, place, plus, star}
 use Rattle.rules.specs.TypeFile.{Place, Tokens, occurrence, newPlace, nameToken, dataToken, isWord, isCut, PCDATA}
-use Rattle.text.specs.Laws.{cut-or}
+use Rattle.text.specs.Words.{cut-or}
 use Rattle.layout.specs.Sizes.{MODEL}
 use Rattle.model_sets.specs.Sets.{Numbered}
 use Rattle.model_sets.specs.Sets as sets
 use Rattle.model_links.specs.Behind.{Behind, behind-on}
 use Rattle.model_table.specs.declared.Part.{Part}
 use Rattle.model_table.specs.Fill.{part, partOf, repeated, putPlace}
-use Rattle.model_table.specs.Means.{Filled, placed, repeats}
+use Rattle.model_table.specs.Shows.{Filled, placed, repeats}
 use Rattle.model_table.specs.Behind.{place-behind, repeated-behind}
-use Rattle.model_code.specs.Means.{putCode, codeNext}
+use Rattle.model_code.specs.Six.{putCode, codeNext}
 use Rattle.model_code.specs.Spelled.{codes, codeIn}
 use Rattle.model_names.specs.Places.{placesOf}
-use Rattle.model_names.specs.Laws.{placesOf-length}
+use Rattle.model_names.specs.Shared.{placesOf-length}
 use Rattle.connectors.specs.declared.Model.{Model}
 use Rattle.connectors.specs.Kept.{begun, Ready, Tabled, Keeps}
 use Rattle.connectors.specs.Grown.{joins-one, ready-more, tabled-put, tabled-on}
@@ -104,16 +103,16 @@ module _ (end at at' size places tokens n : ℕ) (T names₀ names : List ℕ) (
 
 -- A name.
 
-module _ (c : Settings) (s : List ℕ) (at e : ℕ) (full : Bool) (ps : List Place) (n : ℕ) (E : e ≡ nameEnd s at) where
-  pub name-long : c .nameLength < e - at → nameToken c s at full ps n ≡ refused 3 at
+module _ (long : ℕ) (s : List ℕ) (at e : ℕ) (full : Bool) (ps : List Place) (n : ℕ) (E : e ≡ nameEnd s at) where
+  pub name-long : long < e - at → nameToken long s at full ps n ≡ refused 3 at
   unfolding nameToken
   name-long h = rw (lt-ltb _ _ (rw E at h), nameToken)
 
-  pub name-full : e - at ≤ c .nameLength → full ≡ true → nameToken c s at full ps n ≡ refused 6 at
+  pub name-full : e - at ≤ long → full ≡ true → nameToken long s at full ps n ≡ refused 6 at
   unfolding nameToken
   name-full h f = rw (le-ltb _ _ (rw E at h), f, nameToken)
 
-  pub name-got : e - at ≤ c .nameLength → full ≡ false → nameToken c s at full ps n ≡ got (occurrence s (record { group = newPlace ps; at = e; places = ps ++ record { at = at; size = e - at } ∷ []; tokens = n + 1; and = 0; repeated = 0 }))
+  pub name-got : e - at ≤ long → full ≡ false → nameToken long s at full ps n ≡ got (occurrence s (record { group = newPlace ps; at = e; places = ps ++ record { at = at; size = e - at } ∷ []; tokens = n + 1; and = 0; repeated = 0 }))
   unfolding nameToken
   name-got h f = rw (le-ltb _ _ (rw E at h), f, nameToken, E)
 

@@ -7,7 +7,6 @@ ghost use mathlib.Core.Path.{_≡_};
 ghost use mathlib.Core.Bool.{false};
 ghost use Prim.Native.Nat.{_+_, _*_, _≤_, _<_};
 ghost use lib.ListN.{length};
-ghost use Rattle.rules.specs.Settings.{settings};
 ghost use Rattle.rules.specs.TypeFile.{nameToken, dataToken};
 ghost use Rattle.model_names.specs.Places.{placesOf};
 ghost use Rattle.connectors.specs.Kept.{begun};
@@ -54,7 +53,7 @@ pub fn name_token(
     requires { ⌜ (at ≤ length (now s)) × (length (now s) ≤ 32768) ⌝ }
     requires { ⌜ (places ≤ tokens) × (full ≡ false → tokens < 96) ⌝ }
     ensures { λ r. ⌜ Meets (length (now (s .entry))) (begun (places + 1) (now (table .entry)) code (4 * tokens + 3)) (now (names .exit)) (now (table .exit)) r
-        (nameToken (settings long) (now (s .entry)) at full (placesOf (now (names .entry)) places) tokens) ⌝ }
+        (nameToken long (now (s .entry)) at full (placesOf (now (names .entry)) places) tokens) ⌝ }
 {
     let e = text::name_end(s, at);
     let n = e - at;

@@ -1,2 +1,2 @@
 -- What goes on a run of data, and where it ends.
-pub mod Laws
+pub mod Runs

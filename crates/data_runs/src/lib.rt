@@ -2,9 +2,10 @@
 ghost use mathlib.Core.Path.{_≡_};
 ghost use Prim.Native.Nat.{_+_, _≤_, _<_};
 ghost use lib.ListN.{length};
+ghost use Rattle.rules.specs.Settings.{leastNameLength};
 ghost use Rattle.rules.specs.Document.{declarationPiece, markupPiece};
-ghost use Rattle.delimiters.specs.Means.{special, Classes};
-ghost use Rattle.rules_laws.specs.Runs.{anySettings, anyPiece, isRun, runEnd};
+ghost use Rattle.delimiters.specs.Classes.{special, Classes};
+ghost use Rattle.rules_laws.specs.Runs.{anyPiece, isRun, runEnd};
 
 // Whether a byte may begin something else than data: `<`, `&`, `]`, or byte 10.
 fn is_special(classes: &[u8; 256], b: u8) -> bool
@@ -32,7 +33,7 @@ fn declaration_runs_on(s: &[u8], i: usize) -> bool
 // Whether `<` at i goes on a run of data. No tag is read for this: one ends the run even where it is refused.
 fn markup_runs_on(s: &[u8], i: usize) -> bool
     requires { ⌜ i < length (now s) ⌝ }
-    ensures { λ r. ⌜ r ≡ isRun (markupPiece anySettings (now (s .entry)) i) ⌝ }
+    ensures { λ r. ⌜ r ≡ isRun (markupPiece leastNameLength (now (s .entry)) i) ⌝ }
 {
     let b = text::byte(s, i + 1);
     if text::is_letter(b) {

@@ -1,3 +1,3 @@
 -- What the class of a byte says, and the table of all classes.
-pub mod Means
+pub mod Classes
 pub mod Table

@@ -7,8 +7,8 @@ use native.Mathlib.Omega.{arith}
 use lib.ListN.{length, getD}
 use lib.Dec.{eqb}
 use Rattle.rules.specs.Bytes.{letter, nameByte}
-use Rattle.text.specs.Laws.{second}
-use Rattle.delimiters.specs.Means.{special, ClassOf, Classes}
+use Rattle.text.specs.Words.{second}
+use Rattle.delimiters.specs.Classes.{special, ClassOf, Classes}
 
 -- The classes of the bytes from 0 on, sixteen a row.
 abbrev pub classTable : List ℕ

@@ -10,6 +10,7 @@ ghost use Rattle.rules.specs.Bytes.{byteAt, letter};
 ghost use Rattle.rules.specs.TypeFile.{atDashes};
 ghost use Rattle.rules.specs.Attributes.{isReference};
 ghost use Rattle.rules.specs.Document.{isSectionEnd};
+ghost use Rattle.delimiters.specs.Classes.{Classes};
 
 // Whether `/` and a letter stand behind `<` at i.
 pub fn is_end_tag(s: &[u8], i: usize) -> bool
@@ -82,4 +83,19 @@ pub fn is_section_end(s: &[u8], i: usize) -> bool
         return false;
     }
     text::byte(s, i + 2) == b'>'
+}
+
+// The table of byte classes.
+pub fn class_table() -> [u8; 256]
+    ensures { λ r. ⌜ Classes r ⌝ }
+{
+    // The class of each byte, 32 a row, is 1 for one that may begin something else than data, 2 for one that may go on a name
+    *b"\0\0\0\0\0\0\0\0\0\0\x01\0\0\0\0\0\0\0\0\0\0\0\0\0\0\0\0\0\0\0\0\0\
+        \0\0\0\0\0\0\x01\0\0\0\0\0\0\x02\x02\0\x02\x02\x02\x02\x02\x02\x02\x02\x02\x02\0\0\x01\0\0\0\
+        \0\x02\x02\x02\x02\x02\x02\x02\x02\x02\x02\x02\x02\x02\x02\x02\x02\x02\x02\x02\x02\x02\x02\x02\x02\x02\x02\0\0\x01\0\0\
+        \0\x02\x02\x02\x02\x02\x02\x02\x02\x02\x02\x02\x02\x02\x02\x02\x02\x02\x02\x02\x02\x02\x02\x02\x02\x02\x02\0\0\0\0\0\
+        \0\0\0\0\0\0\0\0\0\0\0\0\0\0\0\0\0\0\0\0\0\0\0\0\0\0\0\0\0\0\0\0\
+        \0\0\0\0\0\0\0\0\0\0\0\0\0\0\0\0\0\0\0\0\0\0\0\0\0\0\0\0\0\0\0\0\
+        \0\0\0\0\0\0\0\0\0\0\0\0\0\0\0\0\0\0\0\0\0\0\0\0\0\0\0\0\0\0\0\0\
+        \0\0\0\0\0\0\0\0\0\0\0\0\0\0\0\0\0\0\0\0\0\0\0\0\0\0\0\0\0\0\0\0"
 }

@@ -16,9 +16,9 @@ use Rattle.rules.specs.Judge.{Answer, refusal, acceptance, AllUnambiguous, firs
 use Rattle.rules.specs.Events.{Event, eventWidth}
 use Rattle.rules.specs.Reader.{eventNumbers, documentRefusal, BothLegible, Reads, RefusesBoth, ReadAs}
 use Rattle.model_sets.specs.Bits.{bool-cases}
-use Rattle.text.specs.Laws.{span-in}
+use Rattle.text.specs.Words.{span-in}
 use Rattle.document_laws.specs.Numbers.{typeFile-guarded}
-use Rattle.document_laws.specs.Laws.{reads-some}
+use Rattle.document_laws.specs.OneReading.{reads-some}
 use Rattle.demands.specs.Models.{typeFile-counted, SomeFirst, first-or-none}
 
 -- All bytes are allowed, or there is a first that is not.
@@ -41,7 +41,7 @@ module _ (l : Lent) (c : Settings) (s before : List ℕ) where
       go (yes h) = judge-refuses (refusal 19 0 0 0) (Refuses.noRoom (w .legible) es (w .elements) (w .unrepeated) (w .unambiguous) h refl)
       go (no h) = (acceptance (length es), filledWith (standing l (records es)) before, Judged.accepts es w (omega arith) refl refl)
 
-  judge-elements : Legible c s → (es : List Element) → typeFile c s ≡ got es → SomeJudged
+  judge-elements : Legible c s → (es : List Element) → typeFile (c .nameLength) s ≡ got es → SomeJudged
   judge-elements i es r = go (decLt 0 (firstRepeated es))
     where
       by-models : firstRepeated es ≡ 0 → SomeFirst s es ⊎ AllUnambiguous s es → SomeJudged
@@ -50,9 +50,9 @@ module _ (l : Lent) (c : Settings) (s before : List ℕ) where
 
       go : Dec (0 < firstRepeated es) → SomeJudged
       go (yes l) = judge-refuses (refusal 25 (firstRepeated es) 0 0) (Refuses.repeated i es r l refl)
-      go (no n) = let o : firstRepeated es ≡ 0 = omega arith in by-models o (first-or-none s es (typeFile-counted c s es r) (typeFile-guarded c s es r o))
+      go (no n) = let o : firstRepeated es ≡ 0 = omega arith in by-models o (first-or-none s es (typeFile-counted (c .nameLength) s es r) (typeFile-guarded (c .nameLength) s es r o))
 
-  judge-reading : Legible c s → (r : Reading (List Element)) → typeFile c s ≡ r → SomeJudged
+  judge-reading : Legible c s → (r : Reading (List Element)) → typeFile (c .nameLength) s ≡ r → SomeJudged
   judge-reading i (refused n k) e = judge-refuses (refusal n k 0 0) (Refuses.malformed i n k e refl)
   judge-reading i (got es) e = judge-elements i es e
 
@@ -61,7 +61,7 @@ module _ (l : Lent) (c : Settings) (s before : List ℕ) where
     where
       go : Dec (span allowed s < length s) → SomeJudged
       go (yes n) = judge-refuses (refusal 2 (span allowed s) 0 0) (Refuses.notAllowed o h n refl)
-      go (no n) = judge-reading (record { offered = o; short = h; clean = all-allowed s n }) (typeFile c s) refl
+      go (no n) = judge-reading (record { offered = o; short = h; clean = all-allowed s n }) (typeFile (c .nameLength) s) refl
 
   judge-offered : isOffered c ≡ true → SomeJudged
   judge-offered o = go (decLt typeLimit (length s))
@@ -93,7 +93,7 @@ module _ (l : Lent) (c : Settings) (s d before : List ℕ) where
   reader-events es (refused n k) x = reader-refuses (documentRefusal n k) (RefusesBoth.unsettled es n k x refl)
   reader-events es (got ev) x = reader-accepted es ev x
 
-  reader-elements : BothLegible c s d → (es : List Element) → typeFile c s ≡ got es → SomeRead
+  reader-elements : BothLegible c s d → (es : List Element) → typeFile (c .nameLength) s ≡ got es → SomeRead
   reader-elements i es r = go (decLt 0 (firstRepeated es))
     where
       by-models : firstRepeated es ≡ 0 → SomeFirst s es ⊎ AllUnambiguous s es → SomeRead
@@ -102,9 +102,9 @@ module _ (l : Lent) (c : Settings) (s d before : List ℕ) where
 
       go : Dec (0 < firstRepeated es) → SomeRead
       go (yes l) = reader-refuses (refusal 25 (firstRepeated es) 0 0) (RefusesBoth.repeated i es r l refl)
-      go (no n) = let o : firstRepeated es ≡ 0 = omega arith in by-models o (first-or-none s es (typeFile-counted c s es r) (typeFile-guarded c s es r o))
+      go (no n) = let o : firstRepeated es ≡ 0 = omega arith in by-models o (first-or-none s es (typeFile-counted (c .nameLength) s es r) (typeFile-guarded (c .nameLength) s es r o))
 
-  reader-reading : BothLegible c s d → (r : Reading (List Element)) → typeFile c s ≡ r → SomeRead
+  reader-reading : BothLegible c s d → (r : Reading (List Element)) → typeFile (c .nameLength) s ≡ r → SomeRead
   reader-reading i (refused n k) e = reader-refuses (refusal n k 0 0) (RefusesBoth.malformed i n k e refl)
   reader-reading i (got es) e = reader-elements i es e
 
@@ -113,7 +113,7 @@ module _ (l : Lent) (c : Settings) (s d before : List ℕ) where
     where
       go : Dec (span allowed d < length d) → SomeRead
       go (yes n) = reader-refuses (documentRefusal 2 (span allowed d)) (RefusesBoth.documentNotAllowed i h n refl)
-      go (no n) = reader-reading (record { type = i; short = h; clean = all-allowed d n }) (typeFile c s) refl
+      go (no n) = reader-reading (record { type = i; short = h; clean = all-allowed d n }) (typeFile (c .nameLength) s) refl
 
   reader-both-short : isOffered c ≡ true → length s ≤ typeLimit → length d ≤ documentLimit → SomeRead
   reader-both-short o h j = go (decLt (span allowed s) (length s))

@@ -1,7 +1,7 @@
 -- The demands proved, one theorem each: Demands has them together, to be read first.
 use Prim.Native.Nat.{ℕ, _-_, _*_, _<_, _≤_}
 use mathlib.Core.Path.{_≡_, refl, sym, _∙_, ap}
-use mathlib.Core.Bool.{Bool, true, false, _&&_}
+use mathlib.Core.Bool.{Bool, true, false, _&&_, _||_}
 use mathlib.Core.Logic.{_↔_, ⊎-elim}
 use mathlib.Core.List.{List, _++_}
 use native.Mathlib.Omega.{arith}
@@ -23,13 +23,16 @@ use Rattle.rules.specs.Given.{attributesBefore, withAttributes}
 use Rattle.rules.specs.Decisions.{Decisions, Means}
 use Rattle.rules.specs.Settling.{Open, State, elementOf, requiredPlace, inferable}
 use Rattle.rules.specs.Acts.{Deeds, IsStart, Took}
+use Rattle.rules.specs.Records.{isEnd, recordsSettled}
 use Rattle.rules.specs.Reader.{BothLegible, Reads, RefusesBoth, ReadAs}
 use Rattle.demands.specs.Words.{Refusal, Acceptance, ModelOf, SomeRepeated, SomeAmbiguous, NamesFirst, NamesDecide, ReaderRefusal, ReaderAcceptance, SameVerdict}
 use Rattle.answer_laws.specs.Judge.{settled-one, settled-refuses, settled-accepts, settled-fair, settled-faulty, refuses-named, refuses-some, settled-twenty-four, settled-twenty-five, settled-repeated, settled-nine, settled-nineteen, first-model, model-exactly, not-ambiguous, names-alone, settled-length}
 use Rattle.demands.specs.Models.{pair-in, names-first, some-repeated, repeated-some, unrepeated-none, none-repeated}
-use Rattle.document_laws.specs.Laws.{same-elements}
+use Rattle.document_laws.specs.OneReading.{same-elements}
 use Rattle.model_sets.specs.Bits.{and-left, and-right}
 use Rattle.type_laws.specs.Members.{typeFile-ampersand}
+use Rattle.record_due.specs.Due.{to-other}
+use Rattle.record_due.specs.Among.{Among, cut-run, stands, among}
 use Rattle.place_laws.specs.Taken.{deeds-took}
 use Rattle.place_laws.specs.Stood.{OfAttribute, Stood, added, there}
 use Rattle.answer_laws.specs.Reader.{given-one, both-says, both-some, given-twenty-four, given-twenty-five, given-repeated, given-nine, given-nineteen, type-refused, given-refuses, given-accepts, given-faulty, given-fair, given-length}
@@ -83,28 +86,28 @@ module _ (l : Lent) (c : Settings) (s before : List ℕ) (a : Answer) (after : L
   not-offered-exactly = (settled-twenty-four promised, λ o. rw (not-offered o))
 
   -- Number 25: in some content model an "&" group stands where none may.
-  pub repeated-exactly : (a .number ≡ 25) ↔ (Legible c s × (es : List Element) × (typeFile c s ≡ got es) × SomeRepeated es)
+  pub repeated-exactly : (a .number ≡ 25) ↔ (Legible c s × (es : List Element) × (typeFile (c .nameLength) s ≡ got es) × SomeRepeated es)
   repeated-exactly = (
-    λ h. let (i, es, r, l, k) = settled-twenty-five promised h in (i, es, r, some-repeated c s es r l),
-    λ (i, es, r, x). settled-repeated promised i es r (repeated-some c s es r x),
+    λ h. let (i, es, r, l, k) = settled-twenty-five promised h in (i, es, r, some-repeated (c .nameLength) s es r l),
+    λ (i, es, r, x). settled-repeated promised i es r (repeated-some (c .nameLength) s es r x),
   )
 
-  pub repeated-named : a .number ≡ 25 → (es : List Element) × (typeFile c s ≡ got es) × (a .position ≡ firstRepeated es) × (byteAt s (a .position) ≡ AND)
-  repeated-named h = let (i, es, r, l, k) = settled-twenty-five promised h in (es, r, k, rw k (typeFile-ampersand c s es r l))
+  pub repeated-named : a .number ≡ 25 → (es : List Element) × (typeFile (c .nameLength) s ≡ got es) × (a .position ≡ firstRepeated es) × (byteAt s (a .position) ≡ AND)
+  repeated-named h = let (i, es, r, l, k) = settled-twenty-five promised h in (es, r, k, rw k (typeFile-ampersand (c .nameLength) s es r l))
 
   -- Demand 3: a type is refused as ambiguous exactly when some content model is.
 
-  pub ambiguous-exactly : (a .number ≡ 9) ↔ (Legible c s × (es : List Element) × (typeFile c s ≡ got es) × (SomeRepeated es → ⊥) × SomeAmbiguous s es)
+  pub ambiguous-exactly : (a .number ≡ 9) ↔ (Legible c s × (es : List Element) × (typeFile (c .nameLength) s ≡ got es) × (SomeRepeated es → ⊥) × SomeAmbiguous s es)
   ambiguous-exactly = (
-    λ h. let (i, es, r, o, f) = settled-nine promised h in (i, es, r, unrepeated-none c s es r o, first-model f),
-    λ (i, es, r, o, (g, ps, (e, n, m, b), x)). settled-faulty promised i es r (none-repeated c s es r o) (λ u. not-ambiguous s g ps u m b x),
+    λ h. let (i, es, r, o, f) = settled-nine promised h in (i, es, r, unrepeated-none (c .nameLength) s es r o, first-model f),
+    λ (i, es, r, o, (g, ps, (e, n, m, b), x)). settled-faulty promised i es r (none-repeated (c .nameLength) s es r o) (λ u. not-ambiguous s g ps u m b x),
   )
 
   pub ambiguous-named : a .number ≡ 9 → NamesFirst c s a
   ambiguous-named h = let (i, es, r, o, f) = settled-nine promised h in names-first c s a es r f
 
   -- Else names alone decide places, also where the buffer is too small.
-  pub names-decide : Legible c s → (a .number ≡ 9 → ⊥) → (es : List Element) → typeFile c s ≡ got es → (SomeRepeated es → ⊥) → NamesDecide s es
+  pub names-decide : Legible c s → (a .number ≡ 9 → ⊥) → (es : List Element) → typeFile (c .nameLength) s ≡ got es → (SomeRepeated es → ⊥) → NamesDecide s es
   names-decide i h es r o g ps (e, n, m, b) = names-alone s g ps (settled-fair promised i es r h (not-repeated o)) m b
     where
       not-repeated : (SomeRepeated es → ⊥) → a .number ≡ 25 → ⊥
@@ -117,9 +120,9 @@ pub pair-exactly : (s : List ℕ) (g : Group) (ps : List Place) → Ambiguous (s
 pair-exactly = model-exactly
 
 -- Of a model that was read both places are places of the model.
-pub pair-places : (c : Settings) (s : List ℕ) (es : List Element) → typeFile c s ≡ got es → (g : Group) (ps : List Place) → ModelOf es g ps
+pub pair-places : (c : Settings) (s : List ℕ) (es : List Element) → typeFile (c .nameLength) s ≡ got es → (g : Group) (ps : List Place) → ModelOf es g ps
     → (p q : ℕ) → PairAtFault (samePlace s ps) g p q → (1 ≤ p) × (q ≤ length ps)
-pair-places = pair-in
+pair-places c = pair-in (c .nameLength)
 
 -- The rules have only one answer of the judge, with what the buffer holds after.
 pub judged-one : (l : Lent) (c : Settings) (s before : List ℕ) (a b : Answer) (after other : List ℕ) → Judged l c s before a after → Judged l c s before b other → (a ≡ b) × (after ≡ other)
@@ -176,28 +179,28 @@ module _ (l : Lent) (c : Settings) (s d before : List ℕ) (a : Answer) (after :
   reader-not-offered-exactly = (given-twenty-four called, λ o. rw (reader-not-offered o))
 
   -- Number 25, as for the judge.
-  pub reader-repeated-exactly : (a .number ≡ 25) ↔ (BothLegible c s d × (es : List Element) × (typeFile c s ≡ got es) × SomeRepeated es)
+  pub reader-repeated-exactly : (a .number ≡ 25) ↔ (BothLegible c s d × (es : List Element) × (typeFile (c .nameLength) s ≡ got es) × SomeRepeated es)
   reader-repeated-exactly = (
-    λ h. let (i, es, r, l, k) = given-twenty-five called h in (i, es, r, some-repeated c s es r l),
-    λ (i, es, r, x). given-repeated called i r (repeated-some c s es r x),
+    λ h. let (i, es, r, l, k) = given-twenty-five called h in (i, es, r, some-repeated (c .nameLength) s es r l),
+    λ (i, es, r, x). given-repeated called i r (repeated-some (c .nameLength) s es r x),
   )
 
-  pub reader-repeated-named : a .number ≡ 25 → (es : List Element) × (typeFile c s ≡ got es) × (a .position ≡ firstRepeated es) × (byteAt s (a .position) ≡ AND)
-  reader-repeated-named h = let (i, es, r, l, k) = given-twenty-five called h in (es, r, k, rw k (typeFile-ampersand c s es r l))
+  pub reader-repeated-named : a .number ≡ 25 → (es : List Element) × (typeFile (c .nameLength) s ≡ got es) × (a .position ≡ firstRepeated es) × (byteAt s (a .position) ≡ AND)
+  reader-repeated-named h = let (i, es, r, l, k) = given-twenty-five called h in (es, r, k, rw k (typeFile-ampersand (c .nameLength) s es r l))
 
   -- Demand 3, whatever document and buffer come with the type: it is refused as ambiguous exactly when some content model is.
 
-  pub reader-ambiguous-exactly : (a .number ≡ 9) ↔ (BothLegible c s d × (es : List Element) × (typeFile c s ≡ got es) × (SomeRepeated es → ⊥) × SomeAmbiguous s es)
+  pub reader-ambiguous-exactly : (a .number ≡ 9) ↔ (BothLegible c s d × (es : List Element) × (typeFile (c .nameLength) s ≡ got es) × (SomeRepeated es → ⊥) × SomeAmbiguous s es)
   reader-ambiguous-exactly = (
-    λ h. let (i, es, r, o, f) = given-nine called h in (i, es, r, unrepeated-none c s es r o, first-model f),
-    λ (i, es, r, o, (g, ps, (e, n, m, b), x)). given-faulty called i r (none-repeated c s es r o) (λ u. not-ambiguous s g ps u m b x),
+    λ h. let (i, es, r, o, f) = given-nine called h in (i, es, r, unrepeated-none (c .nameLength) s es r o, first-model f),
+    λ (i, es, r, o, (g, ps, (e, n, m, b), x)). given-faulty called i r (none-repeated (c .nameLength) s es r o) (λ u. not-ambiguous s g ps u m b x),
   )
 
   pub reader-ambiguous-named : a .number ≡ 9 → NamesFirst c s a
   reader-ambiguous-named h = let (i, es, r, o, f) = given-nine called h in names-first c s a es r f
 
   -- Else names alone decide places, also where the document is refused.
-  pub reader-names-decide : BothLegible c s d → (a .number ≡ 9 → ⊥) → (es : List Element) → typeFile c s ≡ got es → (SomeRepeated es → ⊥) → NamesDecide s es
+  pub reader-names-decide : BothLegible c s d → (a .number ≡ 9 → ⊥) → (es : List Element) → typeFile (c .nameLength) s ≡ got es → (SomeRepeated es → ⊥) → NamesDecide s es
   reader-names-decide i h es r o g ps (e, n, m, b) = names-alone s g ps (given-fair called i r h (not-repeated o)) m b
     where
       not-repeated : (SomeRepeated es → ⊥) → a .number ≡ 25 → ⊥
@@ -221,15 +224,28 @@ module _ (l m : Lent) (c : Settings) (s d before other : List ℕ) (a b : Answer
 -- Events
 
 -- Of each event of a document: a start took its place behind all that the events before did, and the events of its own attributes stand between; all others have no place.
-pub told-among : (c : Settings) (s : List ℕ) (es : List Element) {given : Settings} → Accepts given s es → (D : Decisions) → Means s es D → (d : List ℕ) {y : State} → Deeds s es D y → (before : List Event) (e : Event) → Stood c s es d (y .events) before e
-    → (IsStart e → (z : State) × Deeds s es D z × (withAttributes c s es d (z .events) ++ attributesBefore c s es d e ≡ before) × Took s es (z .current) e) × ((IsStart e → ⊥) → e .place ≡ 0)
+pub told-among : (c : Settings) (s : List ℕ) (es : List Element) {given : Settings} → Accepts given s es → (D : Decisions) → Means s es D → (d : List ℕ) {y : State} → Deeds s es D y → (before : List Event) (e : Event) → Stood (c .nameLength) s es d (recordsSettled c d (y .events)) before e
+    → (IsStart e → (z : State) × Deeds s es D z × (withAttributes (c .nameLength) s es d (recordsSettled c d (z .events)) ++ attributesBefore (c .nameLength) s es d e ≡ before) × Took s es (z .current) e) × ((IsStart e → ⊥) → e .place ≡ 0)
 told-among c s es accepted D means d deeds before e (added o) = (λ k. absurd (no-start e o k), λ k. o .place)
   where
     no-start : (e : Event) → OfAttribute e → IsStart e → ⊥
     no-start e o k = ⊎-elim (λ i. ⊎-elim (λ j. omega (arith, i, j)) (λ j. omega (arith, i, j)) k) (λ i. ⊎-elim (λ j. omega (arith, i, j)) (λ j. omega (arith, i, j)) k) (o .kind)
-told-among c s es accepted D means d deeds before e (there first last i j) =
-    let (took, other) = deeds-took s es accepted D means deeds first e last i in
-    (λ k. let (z, did, are, t) = took k in (z, did, ap (λ (v : List Event). withAttributes c s es d v ++ attributesBefore c s es d e) are ∙ sym j, t), other)
+told-among c s es accepted D means d {y} deeds before e (there first last i j) = by-settled (among c d (y .events) first e last i)
+  where
+    start-no-end : IsStart e → isEnd e ≡ false
+    start-no-end k = ⊎-elim (λ q. ap (λ (n : ℕ). eqb n 3 || eqb n 4) q) (λ q. ap (λ (n : ℕ). eqb n 3 || eqb n 4) q) k
+
+    by-settled : Among c d (y .events) first e
+        → (IsStart e → (z : State) × Deeds s es D z × (withAttributes (c .nameLength) s es d (recordsSettled c d (z .events)) ++ attributesBefore (c .nameLength) s es d e ≡ before) × Took s es (z .current) e) × ((IsStart e → ⊥) → e .place ≡ 0)
+    by-settled (cut-run k p) = (λ q. absurd (⊎-elim (λ n. omega (arith, k, n)) (λ n. omega (arith, k, n)) q), λ q. p)
+    by-settled (stands a b m settled) =
+        let (took, other) = deeds-took s es accepted D means deeds a e b m in (
+          λ k.
+              let (z, did, are, t) = took k in
+              let shows : recordsSettled c d (z .events) ≡ first = ap (recordsSettled c d) are ∙ sym (to-other c d e a (start-no-end k)) ∙ settled in
+              (z, did, ap (λ (v : List Event). withAttributes (c .nameLength) s es d v ++ attributesBefore (c .nameLength) s es d e) shows ∙ sym j, t),
+          other,
+        )
 
 -- Paper 02, request one: no start of an element with a required attribute is inferred.
 pub required-never-inferred : (s : List ℕ) (es : List Element) (D : Decisions) (o : Open) → 1 ≤ inferable s es D o → needsTag (elementAt es (inferable s es D o - 1) .attributes) ≡ false

@@ -37,18 +37,18 @@ unfolding bares
 counted-whole [] none = none
 counted-whole (e ∷ es) (more h a) = more h (counted-whole es a)
 
-module _ (c : Settings) (s : List ℕ) where
-  counted-more : (es : List Element) (e : Element) → All PlacesCounted es → Declares c s es e → All PlacesCounted (es ++ e ∷ [])
-  counted-more es e a d = all-snoc a (got-so (content-read c s counted-builds (d .before) (d .begun)) (d .contentRead) .built)
+module _ (long : ℕ) (s : List ℕ) where
+  counted-more : (es : List Element) (e : Element) → All PlacesCounted es → Declares long s es e → All PlacesCounted (es ++ e ∷ [])
+  counted-more es e a d = all-snoc a (got-so (content-read long s counted-builds (d .before) (d .begun)) (d .contentRead) .built)
 
-  pub typeFile-counted : (es : List Element) → typeFile c s ≡ got es → All PlacesCounted es
-  typeFile-counted es e = counted-whole es (got-so (typeFile-holds c s (All PlacesCounted) counted-more none) e .1)
+  pub typeFile-counted : (es : List Element) → typeFile long s ≡ got es → All PlacesCounted es
+  typeFile-counted es e = counted-whole es (got-so (typeFile-holds long s (All PlacesCounted) counted-more none) e .1)
 
-  model-counted : (es : List Element) → typeFile c s ≡ got es → (g : Group) (ps : List Place) → ModelOf es g ps → Counted [] g ps
+  model-counted : (es : List Element) → typeFile long s ≡ got es → (g : Group) (ps : List Place) → ModelOf es g ps → Counted [] g ps
   model-counted es r g ps (e, n, m, b) = subst (Built Counted) b (all-mem (typeFile-counted es r) m)
 
   -- So are those of a pair at fault.
-  pub pair-in : (es : List Element) → typeFile c s ≡ got es → (g : Group) (ps : List Place) → ModelOf es g ps
+  pub pair-in : (es : List Element) → typeFile long s ≡ got es → (g : Group) (ps : List Place) → ModelOf es g ps
       → (p q : ℕ) → PairAtFault (samePlace s ps) g p q → (1 ≤ p) × (q ≤ length ps)
   pair-in es r g ps m p q f =
       let x = model-counted es r g ps m in
@@ -60,9 +60,9 @@ module _ (c : Settings) (s : List ℕ) where
 
   -- Number 25 and what the models have.
 
-  pub some-repeated : (es : List Element) → typeFile c s ≡ got es → 1 ≤ firstRepeated es → SomeRepeated es
+  pub some-repeated : (es : List Element) → typeFile long s ≡ got es → 1 ≤ firstRepeated es → SomeRepeated es
   some-repeated es r l =
-      let (e, m, x) = typeFile-unguarded c s es r l in
+      let (e, m, x) = typeFile-unguarded long s es r l in
       by-content e m (e .content) refl x
     where
       by-content : (e : Element) → List·Memᴰ e es → (x : Content) → e .content ≡ x → (GuardedIn (e .content) → ⊥) → SomeRepeated es
@@ -70,21 +70,21 @@ module _ (c : Settings) (s : List ℕ) where
       by-content e m (model g ps n) i x = (g, ps, (e, n, m, i), λ d. x (rw i d))
 
   -- Where none is told every model is guarded.
-  pub unrepeated-none : (es : List Element) → typeFile c s ≡ got es → firstRepeated es ≡ 0 → SomeRepeated es → ⊥
-  unrepeated-none es r o (g, ps, (e, n, m, i), x) = x (rw i at (guarded-member es (typeFile-guarded c s es r o) m))
+  pub unrepeated-none : (es : List Element) → typeFile long s ≡ got es → firstRepeated es ≡ 0 → SomeRepeated es → ⊥
+  unrepeated-none es r o (g, ps, (e, n, m, i), x) = x (rw i at (guarded-member es (typeFile-guarded long s es r o) m))
     where
       guarded-member : (fs : List Element) → AllGuarded fs → {e : Element} → List·Memᴰ e fs → GuardedIn (e .content)
       guarded-member (f ∷ fs) d (List·Memᴰ·head e) = rw e (d .0)
       guarded-member (f ∷ fs) d (List·Memᴰ·tail m) = guarded-member fs (d .1) m
 
-  pub none-repeated : (es : List Element) → typeFile c s ≡ got es → (SomeRepeated es → ⊥) → firstRepeated es ≡ 0
+  pub none-repeated : (es : List Element) → typeFile long s ≡ got es → (SomeRepeated es → ⊥) → firstRepeated es ≡ 0
   none-repeated es r o = go (decLt 0 (firstRepeated es))
     where
       go : Dec (0 < firstRepeated es) → firstRepeated es ≡ 0
       go (yes l) = absurd (o (some-repeated es r l))
       go (no n) = omega arith
 
-  pub repeated-some : (es : List Element) → typeFile c s ≡ got es → SomeRepeated es → 1 ≤ firstRepeated es
+  pub repeated-some : (es : List Element) → typeFile long s ≡ got es → SomeRepeated es → 1 ≤ firstRepeated es
   repeated-some es r x = go (decLt 0 (firstRepeated es))
     where
       go : Dec (0 < firstRepeated es) → 1 ≤ firstRepeated es
@@ -104,12 +104,12 @@ parted (later {e} u f) =
     let (front, x, rest, z, v, w) = parted f in
     (e ∷ front, x, rest, ap (λ (l : List Element). e ∷ l) z, (u, v), w)
 
-pub names-first : (c : Settings) (s : List ℕ) (a : Answer) (es : List Element) → typeFile c s ≡ got es → FirstAmbiguous s (a .position) (a .first) (a .second) es → NamesFirst c s a
+pub names-first : (c : Settings) (s : List ℕ) (a : Answer) (es : List Element) → typeFile (c .nameLength) s ≡ got es → FirstAmbiguous s (a .position) (a .first) (a .second) es → NamesFirst c s a
 names-first c s a es r f =
     let (front, e, rest, z, u, w) = parted f in
     let (g, ps, n, is, x, at) = stands-model s (e .content) (a .position) (a .first) (a .second) w in
-    let whole : typeFile c s ≡ got (front ++ e ∷ rest) = r ∙ ap got z in
-    let (i, j) = pair-in c s (front ++ e ∷ rest) whole g ps (e, n, member front e rest, is) (a .first) (a .second) (x .0) in
+    let whole : typeFile (c .nameLength) s ≡ got (front ++ e ∷ rest) = r ∙ ap got z in
+    let (i, j) = pair-in (c .nameLength) s (front ++ e ∷ rest) whole g ps (e, n, member front e rest, is) (a .first) (a .second) (x .0) in
     record {
       earlier = front;
       element = e;

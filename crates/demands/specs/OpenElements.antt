@@ -24,18 +24,19 @@ use Rattle.rules.specs.Given.{withAttributes}
 use Rattle.rules.specs.Settling.{State, nothingOpen, takePlace, enter, fitting, isComplete, requiredPlace, inferable, takeToken, startElement, takeData, endElement}
 use Rattle.rules.specs.Settling as rules
 use Rattle.rules.specs.Acts.{Declared, Act, MarksMean, Passes, Few}
+use Rattle.rules.specs.Records.{Line, recordsSettled}
 use Rattle.rules.specs.Reader.{Reads}
 use Rattle.document_laws.specs.Decide.{decided}
 use Rattle.document_laws.specs.Moves.{fits, required}
 use Rattle.turn_laws.specs.Turns.{Reaches}
-use Rattle.type_tables.specs.Means.{Tables}
+use Rattle.type_tables.specs.Tables.{Tables}
 use Rattle.layout.specs.declared.ElementNo.{ElementNo}
 use Rattle.layout.specs.declared.Place as typed
 use Rattle.open_elements.specs.declared.Open.{Open}
 use Rattle.open_elements.specs.declared.Outcome.{Outcome}
-use Rattle.open_elements.specs.Means.{fresh, opening, Ranged, Stands, Taking}
+use Rattle.open_elements.specs.Stands.{fresh, opening, Ranged, Stands, Taking}
 use Rattle.open_elements.specs.Marks.{AllSay}
-use Rattle.open_elements.specs.Laws.{ranged-fresh, ranged-taking, ranged-opening, ranged-ended}
+use Rattle.open_elements.specs.Methods.{ranged-fresh, ranged-taking, ranged-opening, ranged-ended}
 use Rattle.open_elements.proofs.Open.new as new
 use Rattle.open_elements.proofs.Open.new.Reads as new-reads
 use Rattle.open_elements.proofs.Open.take as take
@@ -52,13 +53,13 @@ use Rattle.left_out_ends.specs.Until.{inferEnds}
 use Rattle.left_out_ends.proofs.end_until as end-until
 use Rattle.left_out_ends.proofs.end_until.Reads as end-until-reads
 use Rattle.ways.specs.declared.Way.the-variants.{Taken, Inferred, Stuck}
-use Rattle.ways.specs.Means.{tokenOf, startsOf}
+use Rattle.ways.specs.Asks.{tokenOf, startsOf}
 use Rattle.ways.proofs.is_over as is-over
 use Rattle.ways.proofs.is_over.Reads as is-over-reads
 use Rattle.ways.proofs.opens as opens
 use Rattle.ways.proofs.opens.Reads as opens-reads
 use Rattle.inferring.specs.declared.Stop.{Stop}
-use Rattle.attribute_events.specs.Means.{PutsDefaults, PutsWritten}
+use Rattle.attribute_events.specs.PutBefore.{PutsDefaults, PutsWritten}
 use Rattle.attribute_events.proofs.put_defaults as put-defaults
 use Rattle.attribute_events.proofs.put_defaults.Reads as put-defaults-reads
 use Rattle.attribute_events.proofs.put_written as put-written
@@ -78,7 +79,7 @@ use Rattle.closing.proofs.end_tag as end-tag
 use Rattle.closing.proofs.end_tag.Reads as end-tag-reads
 use Rattle.closing.proofs.finish as finish
 use Rattle.closing.proofs.finish.Reads as finish-reads
-use Rattle.moments.specs.Means.{Moment, Does, Asks, Beside, Leads}
+use Rattle.moments.specs.Moment.{Moment, Does, Asks, Beside, Leads}
 use Rattle.moments.specs.Beside.{moment-first, moment-noted, moment-parent, moment-ended, moment-entered, complete-kept, required-kept, moment-took, moment-started, moment-act, moment-asks}
 use Rattle.moments.specs.Results.{passes-beside, document-beside, reaches-leads, steps-lead, steps-data, tagged-leads}
 use Rattle.moments.specs.Steps.{stops-lead, infers-start-does, placed-moment, places-leads, places-data, until-leads, finished-beside}
@@ -238,19 +239,19 @@ noted-moment c s es accepted M bits z o m ev = moment-noted s es accepted m ev
 -- `Beside` leads from one moment to another, act by act, whatever the methods make of each act.
 module _ (c : Settings) (s d : List ℕ) (es : List Element) (rows places facts M : List ℕ) (tables : Tables s es rows places facts M) (bits : List ℕ) where
   -- All moments before any position that reading comes to between tokens, those within each token too.
-  pub every-moment : (r : Reading (List Event)) (x : Reads c s d es r) (at : ℕ) (z : State) → Passes c s es (x .decisions) d at z → Beside s es (x .decisions) rows M nothingOpen fresh bits z
-  every-moment r x at z p = passes-beside tables (x .decisions) (x .means) bits d p
+  pub every-moment : (r : Reading (List Event)) (x : Reads c s d es r) (at : ℕ) (l : Line) (z : State) → Passes c s es (x .decisions) d at l z → Beside s es (x .decisions) rows M nothingOpen fresh bits z
+  every-moment r x at l z p = passes-beside tables (x .decisions) (x .means) bits d p
 
   -- All moments of a document that is read to its end, where nothing is open any more.
   pub every-moment-read : (ev : List Event) (x : Reads c s d es (got ev))
-      → (z : State) × Beside s es (x .decisions) rows M nothingOpen fresh bits z × (z .around ≡ []) × (isComplete s es (x .decisions) (z .current) ≡ true) × (withAttributes c s es d (z .events) ≡ ev)
+      → (z : State) × Beside s es (x .decisions) rows M nothingOpen fresh bits z × (z .around ≡ []) × (isComplete s es (x .decisions) (z .current) ≡ true) × (withAttributes (c .nameLength) s es d (recordsSettled c d (z .events)) ≡ ev)
   every-moment-read ev x = document-beside tables (x .decisions) (x .means) bits d c ev (x .reading)
 
   -- What the program has between tokens is what the acts lead to: `Ranged`, `Stands` and `Reaches` are what its loop keeps (`Going` of document_events).
   -- The state that is handed from token to token is at a moment itself (`there` of `Leads`).
-  pub between-tokens : (at : ℕ) (o : Open) (now : List ℕ) (z : State) → Ranged o → Stands es M now o z → Reaches c s es d at z
-      → Passes c s es (decided s es) d at z × Leads s es (decided s es) rows M nothingOpen fresh bits z o now
-  between-tokens at o now z g h r = (r .passes, reaches-leads tables bits g h r)
+  pub between-tokens : (at : ℕ) (l : Line) (o : Open) (now : List ℕ) (z : State) → Ranged o → Stands es M now o z → Reaches c s es d at l z
+      → Passes c s es (decided s es) d at l z × Leads s es (decided s es) rows M nothingOpen fresh bits z o now
+  between-tokens at l o now z g h r = (r .passes, reaches-leads tables bits g h r)
 
 -- The steps of a start tag or of data, in order (`Steps` of settling/specs): what it says of each is the contract of the function that takes it. `is_over`
 -- answers whether the document is over, `ends` infers ends, `next_start` says whose start is inferred next, `put_defaults` puts the events of its attributes, `infer_start`

@@ -59,7 +59,7 @@ pub record NamesFirst (c : Settings) (s : List ℕ) (a : Answer) : Type 0 where
   pub earlier : List Element
   pub element : Element
   pub later : List Element
-  pub read : typeFile c s ≡ got (earlier ++ element ∷ later)
+  pub read : typeFile (c .nameLength) s ≡ got (earlier ++ element ∷ later)
   pub unambiguous : SomeAmbiguous s earlier → ⊥
   pub group : Group
   pub places : List Place

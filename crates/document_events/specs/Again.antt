@@ -12,12 +12,12 @@ use Rattle.and_laws.specs.Ranked.{levels}
 use Rattle.member_laws.specs.Members.{AllMarked, Standing}
 use Rattle.document_laws.specs.Moves.{state}
 use Rattle.document_laws.specs.Same.{Begun}
-use Rattle.turn_laws.specs.Means.{Again}
+use Rattle.turn_laws.specs.RunAtOnce.{Again}
 use Rattle.turn_laws.specs.Again.{again-complete, again-required}
-use Rattle.type_tables.specs.Means.{Entered}
+use Rattle.type_tables.specs.Tables.{Entered}
 use Rattle.open_elements.specs.declared.Entry.{Entry}
 use Rattle.open_elements.specs.declared.Open.{Open}
-use Rattle.open_elements.specs.Means.{Kept, Stands}
+use Rattle.open_elements.specs.Stands.{Kept, Stands}
 
 module _ {es : List Element} {M begun : List ℕ} where
   entered-again : {level e u : ℕ} {o v : rules.Open} → Entered es M begun level e u o → Again o v → Begun es v → Entered es M begun level e u v

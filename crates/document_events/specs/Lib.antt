@@ -1,5 +1,6 @@
 -- What the events of a document are, in the rules' terms, and the laws of the loop that reads them.
-pub mod Means
+pub mod Loop
+pub mod Freeing
 pub mod Again
 pub mod Turns
 pub mod Marks

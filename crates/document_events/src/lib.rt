@@ -15,15 +15,16 @@ use pieces::Piece;
 use text::Fault;
 ghost use mathlib.Core.Path.{_≡_};
 ghost use mathlib.Core.List.{List};
-ghost use Prim.Native.Nat.{_≤_};
+ghost use Prim.Native.Nat.{_≤_, _<_};
 ghost use lib.ListN.{length};
 ghost use Rattle.rules.specs.Settings.{settings, mostNameLength};
 ghost use Rattle.rules.specs.TypeFile.{Element};
-ghost use Rattle.delimiters.specs.Means.{Classes};
-ghost use Rattle.element_index.specs.Means.{Indexed};
-ghost use Rattle.list_table.specs.Means.{Lists};
-ghost use Rattle.type_tables.specs.Means.{Tables};
-ghost use Rattle.document_events.specs.Means.{EventsOf};
+ghost use Rattle.delimiters.specs.Classes.{Classes};
+ghost use Rattle.element_index.specs.Indexed.{Indexed};
+ghost use Rattle.list_table.specs.Lists.{Lists};
+ghost use Rattle.type_tables.specs.Tables.{Tables};
+ghost use Rattle.record_ends.specs.Held.{isHeld};
+ghost use Rattle.document_events.specs.Loop.{EventsOf, Frees};
 
 // How many events a document has, or its refusal.
 pub enum Counted {
@@ -40,6 +41,30 @@ fn refusal(number: u32, at: usize) -> Counted
     })
 }
 
+// How many events there are behind the m that stand behind the ends which a token infers, n being those before these. Where no end came first, more of the element
+// follows the run of data that ended at `since`: if its last byte is held, it is data, and the run is put whole.
+fn freed(
+    edition: usize,
+    d: &[u8],
+    from: usize,
+    since: usize,
+    n: usize,
+    m: usize,
+    numbers: &mut [u32],
+    bytes: &mut [u8],
+) -> usize
+    requires { ⌜ (since ≤ length (now d)) × (from ≤ since) × (since < 4294967296) × (n < 4294967296) ⌝ }
+    ensures { λ r. ⌜ Frees (isHeld edition (now (d .entry)) since) from since n m (now (numbers .entry)) (now (bytes .entry)) r (now (numbers .exit)) (now (bytes .exit)) ⌝ }
+{
+    if !record_ends::is_held(edition, d, since) {
+        return m;
+    }
+    if m != n {
+        return m;
+    }
+    record_ends::put_held(numbers, bytes, n, from, since)
+}
+
 // The document d under a type. Its events go to a buffer of numbers and to one of bytes, each as far as they fit. What a buffer holds
 // that is too small for all of them, or where the document is refused, is not decided; it keeps its length, and the reader zeroes it.
 //
@@ -47,6 +72,7 @@ fn refusal(number: u32, at: usize) -> Counted
 // the open elements at each token.
 pub fn events_of(
     long: usize,
+    edition: usize,
     s: &[u8],
     elements: &[u32; RECORDS],
     index: &[u8; INDEX],
@@ -61,8 +87,8 @@ pub fn events_of(
     bytes: &mut [u8],
 ) -> Counted
     requires { ⌜ Classes (now classes) × (long ≤ mostNameLength) × (length (now d) ≤ 65535) × (length (now s) ≤ 32768) ⌝ }
-    ensures { λ r. ⌜ ((es : List Element) → Indexed (now (s .entry)) es (now (elements .entry)) (now (index .entry)) → Tables (now (s .entry)) es (now (rows .entry)) (now (places .entry)) (now (facts .entry)) (now (members .entry)) → Lists (settings long) (now (s .entry)) es (now (lists .entry)) →
-        EventsOf (settings long) (now (s .entry)) es (now (d .entry)) (now (numbers .entry)) (now (numbers .exit)) (now (bytes .entry)) (now (bytes .exit)) r) ⌝ }
+    ensures { λ r. ⌜ ((es : List Element) → Indexed (now (s .entry)) es (now (elements .entry)) (now (index .entry)) → Tables (now (s .entry)) es (now (rows .entry)) (now (places .entry)) (now (facts .entry)) (now (members .entry)) → Lists long (now (s .entry)) es (now (lists .entry)) →
+        EventsOf (settings long edition) (now (s .entry)) es (now (d .entry)) (now (numbers .entry)) (now (numbers .exit)) (now (bytes .entry)) (now (bytes .exit)) r) ⌝ }
 {
     let mut at = 0;
     let mut n = 0;
@@ -70,11 +96,16 @@ pub fn events_of(
     let mut begun = [0u32; BEGUN];
     let mut given = [0u16; GIVEN];
     let mut marks = [0u16; MARKS];
+    // Where the last tag or data ended, where the last byte 10 or 13 ended that was ignored, and where the last start tag or run of data began.
+    let mut since = 0;
+    let mut mark = 0;
+    let mut from = 0;
     while at < d.len() {
         let e = o.element;
         let u = o.place;
         let p = pieces::piece_at(
             long,
+            edition,
             s,
             elements,
             index,
@@ -90,6 +121,8 @@ pub fn events_of(
             e,
             u,
             at,
+            since,
+            mark,
             &mut given,
             &mut marks,
         );
@@ -122,6 +155,13 @@ pub fn events_of(
                 if 24 < o.count + starts {
                     return refusal(15, at);
                 }
+                // A run of data that is held is put whole where more of its element follows. Whether starts are inferred is asked first: with one call for both the compiler
+                // takes 7 % more instructions.
+                if starts == 0 {
+                    m = freed(edition, d, from, since, n, m, numbers, bytes);
+                } else {
+                    m = freed(edition, d, from, since, n, m, numbers, bytes);
+                }
                 // Step 2: the starts are inferred, one in the other.
                 let mut k = 0;
                 while k < starts {
@@ -144,6 +184,7 @@ pub fn events_of(
                 }
                 // The attribute events of a start tag come before its own.
                 m = attribute_events::put_written(lists, &marks, x, m, numbers, bytes);
+                let shown = record_ends::shown_end(edition, d, after);
                 // The token takes its place, and its events are put; where it is stuck, or no room is left for its element, it is refused.
                 let r = placing::placed(
                     rows,
@@ -155,7 +196,7 @@ pub fn events_of(
                     found,
                     x,
                     at,
-                    after,
+                    shown,
                     m,
                     numbers,
                     bytes,
@@ -169,6 +210,8 @@ pub fn events_of(
                 if ways::opens(facts, x) {
                     o = o.start(rows, x);
                 }
+                from = at;
+                since = after;
                 at = after;
             }
             Piece::End(x, after) => {
@@ -178,9 +221,11 @@ pub fn events_of(
                 }
                 n = t.events;
                 o = t.open;
+                since = after;
                 at = after;
             }
             Piece::Passed(after) => {
+                mark = record_ends::marked(d, at, mark);
                 at = after;
             }
             Piece::Refused(f) => {

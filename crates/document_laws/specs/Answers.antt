@@ -14,13 +14,13 @@ use Rattle.rules.specs.TypeFile.{Element, typeFile}
 use Rattle.rules.specs.Judge.{Answer, refusal, acceptance, AllUnambiguous, FirstAmbiguous, firstRepeated, Legible, Accepts}
 use Rattle.rules.specs.Events.{Event, eventWidth}
 use Rattle.rules.specs.Reader.{eventNumbers, documentRefusal, BothLegible, Reads, RefusesBoth, notOffered, typeTooLong, documentTooLong, typeNotAllowed, documentNotAllowed, malformed, repeated, ambiguous, unsettled, noRoom, ReadAs, refuses, accepts}
-use Rattle.document_laws.specs.Laws.{same-elements, reads-one}
+use Rattle.document_laws.specs.OneReading.{same-elements, reads-one}
 
 -- What the reader promises of legible inputs.
 data Read (l : Lent) (c : Settings) (s d before : List ℕ) (a : Answer) (after : List ℕ) : Type 0 where
-  bad : (n k : ℕ) → typeFile c s ≡ refused n k → a ≡ refusal n k 0 0 → after ≡ zeroed before → Read l c s d before a after
-  again : (es : List Element) → typeFile c s ≡ got es → 1 ≤ firstRepeated es → a ≡ refusal 25 (firstRepeated es) 0 0 → after ≡ zeroed before → Read l c s d before a after
-  clash : (es : List Element) → typeFile c s ≡ got es → firstRepeated es ≡ 0 → (k p q : ℕ) → FirstAmbiguous s k p q es → a ≡ refusal 9 k p q → after ≡ zeroed before → Read l c s d before a after
+  bad : (n k : ℕ) → typeFile (c .nameLength) s ≡ refused n k → a ≡ refusal n k 0 0 → after ≡ zeroed before → Read l c s d before a after
+  again : (es : List Element) → typeFile (c .nameLength) s ≡ got es → 1 ≤ firstRepeated es → a ≡ refusal 25 (firstRepeated es) 0 0 → after ≡ zeroed before → Read l c s d before a after
+  clash : (es : List Element) → typeFile (c .nameLength) s ≡ got es → firstRepeated es ≡ 0 → (k p q : ℕ) → FirstAmbiguous s k p q es → a ≡ refusal 9 k p q → after ≡ zeroed before → Read l c s d before a after
   stops : (es : List Element) (n k : ℕ) → Reads c s d es (refused n k) → a ≡ documentRefusal n k → after ≡ zeroed before → Read l c s d before a after
   tight : (es : List Element) (ev : List Event) → Reads c s d es (got ev) → room l before < eventWidth * length ev → a ≡ documentRefusal 19 0 → after ≡ zeroed before → Read l c s d before a after
   enough : (es : List Element) (ev : List Event) → Reads c s d es (got ev) → eventWidth * length ev ≤ room l before → a ≡ acceptance (length ev) → after ≡ filledWith (standing l (eventNumbers ev)) before → Read l c s d before a after
@@ -146,13 +146,13 @@ module _ (lent : Lent) (c : Settings) (s d before : List ℕ) (one-first : OneFi
   when-legible a after h (refuses (noRoom es ev r f e) z) = tight es ev r f e z
   when-legible a after h (accepts es ev r f e z) = enough es ev r f e z
 
-  accepted-clash : (es fs : List Element) → typeFile c s ≡ got es → (k p q : ℕ) → FirstAmbiguous s k p q es → Accepts c s fs → ⊥
+  accepted-clash : (es fs : List Element) → typeFile (c .nameLength) s ≡ got es → (k p q : ℕ) → FirstAmbiguous s k p q es → Accepts c s fs → ⊥
   accepted-clash es fs e k p q f a = no-first k p q fs (subst (FirstAmbiguous s k p q) (same-elements c s es fs e (a .elements)) f) (a .unambiguous)
 
-  accepted-again : (es fs : List Element) → typeFile c s ≡ got es → 1 ≤ firstRepeated es → Accepts c s fs → ⊥
+  accepted-again : (es fs : List Element) → typeFile (c .nameLength) s ≡ got es → 1 ≤ firstRepeated es → Accepts c s fs → ⊥
   accepted-again es fs e l a = omega (arith, l, ap firstRepeated (same-elements c s es fs e (a .elements)), a .unrepeated)
 
-  accepted-bad : (n k : ℕ) (fs : List Element) → typeFile c s ≡ refused n k → Accepts c s fs → ⊥
+  accepted-bad : (n k : ℕ) (fs : List Element) → typeFile (c .nameLength) s ≡ refused n k → Accepts c s fs → ⊥
   accepted-bad n k fs e a = not-got (sym e ∙ a .elements)
 
   same-got : (es fs : List Element) (ev fv : List Event) → Reads c s d es (got ev) → Reads c s d fs (got fv) → ev ≡ fv

@@ -139,7 +139,7 @@ readsAs c x es =
 abbrev pub ReadSo : Settings → Example → List Element → Type 0
 ReadSo c x es = Reads c (x .type) (x .text) es (x .gives)
 
-pub reads-so : (c : Settings) (x : Example) (es : List Element) → typeFile c (x .type) ≡ got es → readsAs c x es ≡ true → ReadSo c x es
+pub reads-so : (c : Settings) (x : Example) (es : List Element) → typeFile (c .nameLength) (x .type) ≡ got es → readsAs c x es ≡ true → ReadSo c x es
 unfolding readsAs isLegible
 reads-so c x es read t =
     let o = and-left (isOffered c) _ t in
@@ -150,7 +150,7 @@ reads-so c x es read t =
     let t₂ = and-right (isLegible documentLimit (x .text)) _ t₁ in
     let r = eqb-true (firstRepeated es) 0 (and-left (eqb (firstRepeated es) 0) _ t₂) in
     let t₃ = and-right (eqb (firstRepeated es) 0) _ t₂ in
-    let d = typeFile-guarded c (x .type) es read r in
+    let d = typeFile-guarded (c .nameLength) (x .type) es read r in
     let (n, u) = all-fair (x .type) es d (and-left (allFair (x .type) es) _ t₃) in
     let legible : Legible c (x .type) =
     record { offered = o; short = leb-true (length (x .type)) typeLimit (and-left (leb (length (x .type)) typeLimit) _ a); clean = eqb-true _ _ (and-right (leb (length (x .type)) typeLimit) _ a) } in
@@ -166,7 +166,7 @@ reads-so c x es read t =
 
 pub record Right {X : Type 0} (c : Settings) (type : X → List ℕ) (Says : X → List Element → Type 0) (x : X) : Type 0 where
   pub elements : List Element
-  pub reads : typeFile c (type x) ≡ got elements
+  pub reads : typeFile (c .nameLength) (type x) ≡ got elements
   pub says : Says x elements
 
 -- What is got passes the test.
@@ -176,10 +176,10 @@ passes test (got es) = test es
 
 unfoldable pub allPass : {X : Type 0} → Settings → (type : X → List ℕ) → (X → List Element → Bool) → List X → Bool
 allPass c type test [] = true
-allPass c type test (x ∷ xs) = passes (test x) (typeFile c (type x)) && allPass c type test xs
+allPass c type test (x ∷ xs) = passes (test x) (typeFile (c .nameLength) (type x)) && allPass c type test xs
 
-module _ {X : Type 0} (c : Settings) (type : X → List ℕ) {Says : X → List Element → Type 0} (test : X → List Element → Bool) (means : (x : X) (es : List Element) → typeFile c (type x) ≡ got es → test x es ≡ true → Says x es) where
-  right : (x : X) (r : Reading (List Element)) → typeFile c (type x) ≡ r → passes (test x) r ≡ true → Right c type Says x
+module _ {X : Type 0} (c : Settings) (type : X → List ℕ) {Says : X → List Element → Type 0} (test : X → List Element → Bool) (means : (x : X) (es : List Element) → typeFile (c .nameLength) (type x) ≡ got es → test x es ≡ true → Says x es) where
+  right : (x : X) (r : Reading (List Element)) → typeFile (c .nameLength) (type x) ≡ r → passes (test x) r ≡ true → Right c type Says x
   unfolding passes
   right x (refused n k) e t = absurd (false≢true t)
   right x (got es) e t = record { elements = es; reads = e; says = means x es e t }
@@ -188,5 +188,5 @@ module _ {X : Type 0} (c : Settings) (type : X → List ℕ) {Says : X → List 
   unfolding allPass
   all-right [] t = none
   all-right (x ∷ xs) t =
-      let b = passes (test x) (typeFile c (type x)) in
-      more (right x (typeFile c (type x)) refl (and-left b _ t)) (all-right xs (and-right b _ t))
+      let b = passes (test x) (typeFile (c .nameLength) (type x)) in
+      more (right x (typeFile (c .nameLength) (type x)) refl (and-left b _ t)) (all-right xs (and-right b _ t))

@@ -20,7 +20,7 @@ use Rattle.and_laws.specs.Numbers.{Guarded}
 use Rattle.and_laws.specs.Begun.{nextOf, completeOf, requiredOf, next-of, complete-of, required-of, next-range, required-one}
 use Rattle.rules_laws.specs.Groups.{GuardedIn}
 use Rattle.rules_laws.specs.Names.{sameName-split, sameName-join}
-use Rattle.text.specs.Laws.{sameText-sym, sameText-split, sameText-more}
+use Rattle.text.specs.Words.{sameText-sym, sameText-split, sameText-more}
 
 -- The decisions
 

@@ -1,5 +1,5 @@
 -- Laws of the document half of the rules: settling is walked once; what the walks decide is decided, and in one way only.
-pub mod Laws
+pub mod OneReading
 pub mod Agree
 pub mod Decide
 pub mod Numbers

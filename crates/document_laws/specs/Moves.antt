@@ -1,24 +1,25 @@
 -- Settling, walked once. Two readings of a document, by the decisions D and E, go alike from states of which Q holds, if Q has them answer
 -- alike and every move of settling keeps Q: to take a place, to enter an element, to note an event, to leave an element. What one reading
 -- keeps is the case that both are the same.
-use Prim.Native.Nat.{ℕ, zero, suc, _+_, _≤_, _<_}
+use Prim.Native.Nat.{ℕ, zero, suc, _+_, _-_, _≤_, _<_}
 use mathlib.Core.Path.{_≡_, refl, sym, _∙_, ap, ap₂, subst}
-use mathlib.Core.Bool.{Bool, true, false, _&&_}
+use mathlib.Core.Bool.{Bool, true, false, not, _&&_, _||_}
 use mathlib.Core.List.{List, [], _∷_, _++_}
 use native.Mathlib.Omega.{arith}
 use lib.ListN.{length}
 use lib.Dec.{eqb, leb, ltb}
 use borrow.Author.Tests.{leb-true, leb-false, ltb-false}
-use Rattle.rules.specs.Settings.{Settings}
-use Rattle.rules.specs.Bytes.{TAGLVL}
-use Rattle.rules.specs.Reading.{Reading, got}
+use Rattle.rules.specs.Settings.{Settings, isSecond}
+use Rattle.rules.specs.Bytes.{byteAt, RE, TAGLVL}
+use Rattle.rules.specs.Reading.{Reading, refused, got, andThen}
 use Rattle.rules.specs.TypeFile.{Element}
-use Rattle.rules.specs.Document.{Tag, Piece, startTag, endTag, skipped, blank, dataByte}
+use Rattle.rules.specs.Document.{Tag, Piece, startTag, endTag, skipped, blank, dataByte, piece}
 use Rattle.rules.specs.Elements.{contentOf, hasModel, endO, numberOf}
 use Rattle.rules.specs.Decisions.{Token, start, pcdata, Decisions}
 use Rattle.rules.specs.Events.{Event, startWritten, startInferred, endWritten, endInferred, endOfEmpty, withData}
-use Rattle.rules.specs.Given.{withAttributes}
+use Rattle.rules.specs.Given.{pieceAttributed, withAttributes}
 use Rattle.rules.specs.Settling.{Open, State, nothingOpen, takePlace, shown, placeTaken, enter, note, limited, isOpen, Inward, settled, stuck, fitting, isComplete, requiredPlace, inferable, chain, inferStarts, takeToken, inward, settleFrom, isOver, settle, startElement, takeData, takeBlank, endLeftOut, closeFrom, endElement, endFrom, endDocument}
+use Rattle.rules.specs.Records.{Line, newLine, isFresh, atOnce, isIgnored, recordEnds, markBehind, lineAfter, recordsSettled}
 use Rattle.rules.specs.Reader.{Reached, goOn, tagged, settlePiece, pieceUnder, piecesWithin, document}
 use Rattle.and_laws.specs.Begun.{lastOr0-snoc}
 use Rattle.rules_laws.specs.Holds.{stops, reads, Refuses}
@@ -313,6 +314,33 @@ pieceEnd (skipped after) at = after
 pieceEnd blank at = at + 1
 pieceEnd dataByte at = at + 1
 
+-- A piece under a type asks of the current element whether it is fresh, and how record ends stand behind it whether data fits there.
+pub under-fresh : (c : Settings) (s : List ℕ) (es : List Element) (d : List ℕ) (at : ℕ) (l : Line) (o v : Open) → isFresh o ≡ isFresh v → pieceUnder c s es d at l o ≡ pieceUnder c s es d at l v
+unfolding pieceUnder atOnce recordEnds isIgnored
+under-fresh c s es d at l o v e = under-same (piece (c .nameLength) d at)
+  where
+    once : atOnce d at l o ≡ atOnce d at l v
+    once = ap (λ (b : Bool). elim (ltb (l .since) (l .mark)) [ true ↦ not (eqb (l .mark) at) | false ↦ b || (ltb (l .since) at && eqb (byteAt d (l .since - 1)) RE) ]) e
+
+    ends : (p : Piece) → recordEnds c d at l o p ≡ recordEnds c d at l v p
+    ends (startTag t) = refl
+    ends (endTag t) = refl
+    ends (skipped after) = refl
+    ends blank = ap (λ (b : Bool). elim (isSecond c && (eqb (byteAt d at) RE && b)) [ true ↦ skipped (at + 1) | false ↦ blank ]) once
+    ends dataByte = refl
+
+    under-same : (r : Reading Piece) → andThen r (λ p. andThen (pieceAttributed (c .nameLength) s es d at p) λ u. got (recordEnds c d at l o p)) ≡ andThen r (λ p. andThen (pieceAttributed (c .nameLength) s es d at p) λ u. got (recordEnds c d at l v p))
+    under-same (refused n k) = refl
+    under-same (got p) = ap (λ (q : Piece). andThen (pieceAttributed (c .nameLength) s es d at p) λ u. got q) (ends p)
+
+pub line-same : (s : List ℕ) (es : List Element) (D E : Decisions) (d : List ℕ) (p : Piece) (at : ℕ) (l : Line) (z y : State) → fitting s es D (z .current) pcdata ≡ fitting s es E (y .current) pcdata → lineAfter s es D d p at l z ≡ lineAfter s es E d p at l y
+unfolding lineAfter
+line-same s es D E d (startTag t) at l z y e = refl
+line-same s es D E d (endTag t) at l z y e = refl
+line-same s es D E d (skipped after) at l z y e = refl
+line-same s es D E d blank at l z y e = ap (λ (n : ℕ). elim (leb 1 n) [ true ↦ record { since = at + 1; mark = l .mark } | false ↦ record { since = l .since; mark = markBehind d at (l .mark) } ]) e
+line-same s es D E d dataByte at l z y e = refl
+
 -- A data byte is noted at `at`.
 abbrev pub withDatum : (at : ℕ) → State → State
 withDatum at z = state (z .current) (z .around) (withData at (z .events))
@@ -359,25 +387,35 @@ module _ {s : List ℕ} {es : List Element} {D E : Decisions} {Q : State → Sta
     settlePiece-both blank at {z} q = onward blank at (at + 1) z refl (takeBlank-both at q)
     settlePiece-both dataByte at {z} q = onward dataByte at (at + 1) z refl (so (takeData-both at q) (λ n k x. x) (λ x w r. (r .0, λ f. r .1)))
 
-    -- The rest of the document, where R holds of what pieces and settling refuse.
-    module _ (c : Settings) (R : (number position : ℕ) → Type 0) (bound : R 4 (length d)) (by-piece : (at : ℕ) → at < length d → Refuses R (pieceUnder c s es d at)) (by-settling : (at n k : ℕ) → at ≤ length d → At at n k → R n k) where
-      pub piecesWithin-both : (turns at : ℕ) {z y : State} → Q z y → Both R (λ (x w : List Event). x ≡ w) (piecesWithin c s es D d turns at z) (piecesWithin c s es E d turns at y)
+    -- The rest of the document, where R holds of what pieces and settling refuse, and Q has both current elements fresh or neither.
+    module _ (c : Settings) (R : (number position : ℕ) → Type 0) (bound : R 4 (length d)) (by-piece : (at : ℕ) (l : Line) (o : Open) → at < length d → Refuses R (pieceUnder c s es d at l o))
+        (by-settling : (at n k : ℕ) → at ≤ length d → At at n k → R n k) (fresh-alike : (z y : State) → Q z y → isFresh (z .current) ≡ isFresh (y .current)) where
+      abbrev Rest : Decisions → (turns at : ℕ) → Line → State → Reading (List Event)
+      Rest F turns at l z = piecesWithin c s es F d turns at l z
+
+      pub piecesWithin-both : (turns at : ℕ) (l : Line) {z y : State} → Q z y → Both R (λ (x w : List Event). x ≡ w) (Rest D turns at l z) (Rest E turns at l y)
       unfolding piecesWithin
-      piecesWithin-both zero at q = stop bound
-      piecesWithin-both (suc turns) at {z} {y} q =
+      piecesWithin-both zero at l q = stop bound
+      piecesWithin-both (suc turns) at l {z} {y} q =
           either (leb (length d) at) (leb (length d) at) refl
           (λ e. so (endDocument-both (moves .ends) (length d) q) (λ n k x. by-settling (length d) n k (omega arith) x) (λ x w r. r))
           (λ e.
-          let l = leb-false (length d) at e in
-          on (itself (by-piece at l)) λ p j i.
+          let h = leb-false (length d) at e in
+          let next : Decisions → State → Piece → Reading (List Event) = λ F u p. andThen (settlePiece s es F d p at u) λ x. Rest F turns (x .at) (lineAfter s es F d p at l u) (x .state) in
+          subst (λ (r : Reading Piece). Both R (λ (x w : List Event). x ≡ w) (andThen (pieceUnder c s es d at l (z .current)) (next D z)) (andThen r (next E y)))
+          (under-fresh c s es d at l (z .current) (y .current) (fresh-alike z y q))
+          (on (itself (by-piece at l (z .current) h)) λ p j i.
           rw (← i .0)
           (on (so (settlePiece-both p at q) (λ n k x. by-settling at n k (omega arith) x) (λ x w r. r)) λ x w r.
-          subst (λ (m : ℕ). Both R (λ (x w : List Event). x ≡ w) (piecesWithin c s es D d turns (x .at) (x .state)) (piecesWithin c s es E d turns m (w .state))) (r .first ∙ sym (r .second)) (piecesWithin-both turns (x .at) (r .keeps))))
+          let line = line-same s es D E d p at l z y (moves .ends .alike q .fits pcdata) in
+          subst (λ (m : ℕ). Both R (λ (x w : List Event). x ≡ w) (Rest D turns (x .at) (lineAfter s es D d p at l z) (x .state)) (Rest E turns m (lineAfter s es E d p at l y) (w .state))) (r .first ∙ sym (r .second))
+          (subst (λ (k : Line). Both R (λ (x w : List Event). x ≡ w) (Rest D turns (x .at) (lineAfter s es D d p at l z) (x .state)) (Rest E turns (x .at) k (w .state))) line
+          (piecesWithin-both turns (x .at) (lineAfter s es D d p at l z) (r .keeps))))))
 
       -- Two readings of the whole document.
       pub document-both : Q nothingOpen nothingOpen → Both R (λ (x w : List Event). x ≡ w) (document c s es D d) (document c s es E d)
       unfolding document
-      document-both q = on (piecesWithin-both (suc (length d)) 0 q) (λ x w e. read (ap (withAttributes c s es d) e))
+      document-both q = on (piecesWithin-both (suc (length d)) 0 newLine q) (λ x w e. read (ap (λ (ev : List Event). withAttributes (c .nameLength) s es d (recordsSettled c d ev)) e))
 
 -- One state
 
@@ -417,3 +455,7 @@ any-moves s es D =
 
 pub any-datum : (at : ℕ) (z y : State) → Itself AnyState z y → Itself AnyState (withDatum at z) (withDatum at y)
 any-datum at z y q = (ap (withDatum at) (q .0), tt)
+
+-- A state and itself are fresh alike.
+pub itself-fresh : (P : State → Type 0) (z y : State) → Itself P z y → isFresh (z .current) ≡ isFresh (y .current)
+itself-fresh P z y q = ap (λ (w : State). isFresh (w .current)) (q .0)

@@ -7,7 +7,6 @@ use native.Mathlib.Omega.{arith}
 use lib.ListN.{length, length-append}
 use lib.Dec.{eqb}
 use borrow.Author.Tests.{eqb-true, eq-eqb}
-use Rattle.rules.specs.Settings.{Settings}
 use Rattle.rules.specs.Reading.{got}
 use Rattle.rules.specs.Walk.{Group}
 use Rattle.rules.specs.TypeFile.{Place, Content, empty, model, Element, typeFile}
@@ -59,12 +58,12 @@ unfolding bares
 numbered-whole [] a = tt
 numbered-whole (e ∷ es) a = (a .0, numbered-whole es (a .1))
 
-module _ (c : Settings) (s : List ℕ) where
-  declared-more : (es : List Element) (e : Element) → AllNumbered es → Declares c s es e → AllNumbered (es ++ e ∷ [])
-  declared-more es e a d = numbered-more es e a (content-numbered (e .content) (got-so (content-read c s counted-builds (d .before) (d .begun)) (d .contentRead) .built))
+module _ (long : ℕ) (s : List ℕ) where
+  declared-more : (es : List Element) (e : Element) → AllNumbered es → Declares long s es e → AllNumbered (es ++ e ∷ [])
+  declared-more es e a d = numbered-more es e a (content-numbered (e .content) (got-so (content-read long s counted-builds (d .before) (d .begun)) (d .contentRead) .built))
 
-  pub typeFile-numbered : (es : List Element) → typeFile c s ≡ got es → AllNumbered es
-  typeFile-numbered es e = numbered-whole es (got-so (typeFile-holds c s AllNumbered declared-more tt) e .1)
+  pub typeFile-numbered : (es : List Element) → typeFile long s ≡ got es → AllNumbered es
+  typeFile-numbered es e = numbered-whole es (got-so (typeFile-holds long s AllNumbered declared-more tt) e .1)
 
 -- No "&" is refused among these and one more exactly if none is in either.
 repeated-more : (es : List Element) (e : Element) → firstRepeated (es ++ e ∷ []) ≡ 0 → (firstRepeated es ≡ 0) × (e .repeated ≡ 0)
@@ -93,11 +92,11 @@ repeated-whole (e ∷ es) = ap (λ (n : ℕ). elim (eqb (e .repeated) 0) [ true 
 abbrev Unrefused : List Element → Type 0
 Unrefused es = firstRepeated es ≡ 0 → AllGuarded es
 
-module _ (c : Settings) (s : List ℕ) where
-  unrefused-more : (es : List Element) (e : Element) → Unrefused es → Declares c s es e → Unrefused (es ++ e ∷ [])
+module _ (long : ℕ) (s : List ℕ) where
+  unrefused-more : (es : List Element) (e : Element) → Unrefused es → Declares long s es e → Unrefused (es ++ e ∷ [])
   unrefused-more es e a d x =
       let (y, z) = repeated-more es e x in
-      guarded-more es e (a y) (got-so (content-read c s whatever-builds (d .before) (d .begun)) (d .contentRead) .guarded z)
+      guarded-more es e (a y) (got-so (content-read long s whatever-builds (d .before) (d .begun)) (d .contentRead) .guarded z)
 
-  pub typeFile-guarded : (es : List Element) → typeFile c s ≡ got es → firstRepeated es ≡ 0 → AllGuarded es
-  typeFile-guarded es e x = guarded-whole es (got-so (typeFile-holds c s Unrefused unrefused-more (λ x. tt)) e .1 (repeated-whole es ∙ x))
+  pub typeFile-guarded : (es : List Element) → typeFile long s ≡ got es → firstRepeated es ≡ 0 → AllGuarded es
+  typeFile-guarded es e x = guarded-whole es (got-so (typeFile-holds long s Unrefused unrefused-more (λ x. tt)) e .1 (repeated-whole es ∙ x))

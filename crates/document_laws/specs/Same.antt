@@ -1,21 +1,22 @@
 -- The walks decide one reading of every document: any two decisions that mean them read it alike.
 use Prim.Native.Nat.{ℕ}
-use mathlib.Core.Path.{_≡_, refl, sym, _∙_, ap, ap₂}
+use mathlib.Core.Path.{_≡_, refl, sym, _∙_, ap, ap₂, subst}
 use mathlib.Core.Bool.{true, false≢true}
 use mathlib.Core.List.{List, [], _∷_, _++_}
 use Rattle.rules.specs.Settings.{Settings}
 use Rattle.rules.specs.Walk.{Group, Begins}
 use Rattle.rules.specs.TypeFile.{Place, Content, empty, model, Element}
 use Rattle.rules.specs.Elements.{contentOf, hasModel}
-use Rattle.rules.specs.Decisions.{Decisions, Means}
+use Rattle.rules.specs.Decisions.{pcdata, Decisions, Means}
 use Rattle.rules.specs.Settling.{Open, State, nothingOpen, takePlace, enter}
+use Rattle.rules.specs.Records.{Line, lineAfter}
 use Rattle.rules.specs.Reader.{settlePiece, pieceUnder, document}
 use Rattle.rules_laws.specs.Holds.{Any, got-so, each}
 use Rattle.rules_laws.specs.Both.{so, first, same}
 use Rattle.rules_laws.specs.In.{All, none, more}
 use Rattle.and_laws.specs.Begun.{begins-none}
 use Rattle.document_laws.specs.Agree.{agree}
-use Rattle.document_laws.specs.Moves.{fresh, parent, parent-is, Answers, Chosen, fits, required, Moves, Itself, keeps-ends, withDatum, settlePiece-both, document-both}
+use Rattle.document_laws.specs.Moves.{fresh, parent, parent-is, Answers, Chosen, fits, required, Moves, Itself, keeps-ends, itself-fresh, withDatum, line-same, settlePiece-both, document-both}
 unfoldable pub use Rattle.document_laws.specs.Chain.{link}
 pub use Rattle.rules.specs.Acts.{Passes, begins, goes}
 
@@ -82,22 +83,25 @@ module _ (s : List ℕ) (es : List Element) (D E : Decisions) (x : Means s es D)
   -- Two decisions that mean the walks read every document alike.
   pub document-one : (c : Settings) (d : List ℕ) → document c s es D d ≡ document c s es E d
   document-one c d =
-      same (document-both begun-moves begun-datum d c Any tt (λ at l. each (pieceUnder c s es d at) (λ n k e. tt) (λ p e. tt)) (λ at n k l h. tt) (refl, nothing-begun es))
+      same (document-both begun-moves begun-datum d c Any tt (λ at l o h. each (pieceUnder c s es d at l o) (λ n k e. tt) (λ p e. tt)) (λ at n k l h. tt) (itself-fresh (AllBegun es)) (refl, nothing-begun es))
 
 -- The states that reading comes to
 
 module _ (s : List ℕ) (es : List Element) (D : Decisions) where
   -- In each of them the places taken begin walks.
-  pub passes-begun : {c : Settings} → Means s es D → (d : List ℕ) {at : ℕ} {z : State} → Passes c s es D d at z → AllBegun es z
+  pub passes-begun : {c : Settings} → Means s es D → (d : List ℕ) {at : ℕ} {l : Line} {z : State} → Passes c s es D d at l z → AllBegun es z
   passes-begun x d begins = nothing-begun es
-  passes-begun x d (goes {at} {z} {p} r h l e f) =
+  passes-begun x d (goes {at} {l} {z} {p} r h i e f) =
       got-so (first (settlePiece-both (begun-moves s es D D x x) (begun-datum s es D D x x) d p at (refl, passes-begun x d h)) (λ r w a. a .keeps .1)) f
 
 -- Two decisions that mean the walks come to the same states.
-pub passes-same : {c : Settings} (s : List ℕ) (es : List Element) (D E : Decisions) → Means s es D → Means s es E → (d : List ℕ) {at : ℕ} {z : State} → Passes c s es D d at z → Passes c s es E d at z
+pub passes-same : {c : Settings} (s : List ℕ) (es : List Element) (D E : Decisions) → Means s es D → Means s es E → (d : List ℕ) {at : ℕ} {l : Line} {z : State} → Passes c s es D d at l z → Passes c s es E d at l z
 passes-same s es D E x y d begins = begins
-passes-same s es D E x y d (goes {at} {z} {p} r h l e f) = goes r (passes-same s es D E x y d h) l e (sym settles ∙ f)
+passes-same {c} s es D E x y d (goes {at} {l} {z} {p} r h i e f) = subst (λ (k : Line). Passes c s es E d (r .at) k (r .state)) (sym line) (goes r (passes-same s es D E x y d h) i e (sym settles ∙ f))
   where
+    line : lineAfter s es D d p at l z ≡ lineAfter s es E d p at l z
+    line = line-same s es D E d p at l z z (begun-moves s es D E x y .ends .alike (refl, passes-begun s es D x d h) .fits pcdata)
+
     settles : settlePiece s es D d p at z ≡ settlePiece s es E d p at z
     settles =
         same (so (settlePiece-both (begun-moves s es D E x y) (begun-datum s es D E x y) d p at (refl, passes-begun s es D x d h)) (λ n k i. i)

@@ -3,7 +3,7 @@ use Prim.Native.Nat.{ℕ}
 use Prim.Native.String.{String}
 use mathlib.Core.Path.{refl}
 use mathlib.Core.List.{List, [], _∷_, _++_}
-use Rattle.rules.specs.Settings.{Settings, settings, isOffered}
+use Rattle.rules.specs.Settings.{Settings, settings, firstEdition, isOffered}
 use Rattle.rules.specs.Bytes.{allowed, separator, letter, fold, nameByte, span, nameEnd, separatorsEnd, sameText}
 use Rattle.rules.specs.Reading.{Reading, refused, got}
 use Rattle.rules.specs.TypeFile.{beforeDashes, gapWithin, gap, occurrence, nameToken, dataToken, token, further, members, group}
@@ -16,6 +16,7 @@ use Rattle.rules.specs.Elements.{elementAt, numberFrom, numberOf}
 use Rattle.rules.specs.Events.{Event, startWritten, startInferred, endInferred, dataRun, withData}
 use Rattle.rules.specs.Given.{allListed, allFit, noneMissing, attributed, pieceAttributed, attributeEvents, attributesBefore, withAttributes}
 use Rattle.rules.specs.Settling.{limited, isOpen, inferable, chain, inferStarts, inward, settleFrom, settle, startElement, takeData, takeBlank, endLeftOut, closeFrom, endElement, endFrom, endDocument}
+use Rattle.rules.specs.Records.{atOnce, isIgnored, recordEnds, lineAfter, cut, cutBeforeEnds, recordsSettled}
 use Rattle.rules.specs.Reader.{tagged, settlePiece, pieceUnder, piecesWithin, document}
 use Rattle.rules_laws.specs.In.{All}
 use Rattle.document_laws.specs.Ascii.{ascii}
@@ -24,7 +25,7 @@ use Rattle.document_laws.specs.Check.{Example, ReadSo, reads-so, Right, 
 
 -- Paper 01's names have at most 8 bytes.
 abbrev pub eight : Settings
-eight = settings 8
+eight = settings 8 firstEdition
 
 -- Type T behind its first word of LIST.
 pub restOfT : List ℕ
@@ -83,5 +84,5 @@ shelf =
     []
 
 pub shelf-right : All (Right eight (λ (x : Example). x .type) (ReadSo eight)) shelf
-unfolding isOffered ascii restOfT T T- under whole shelf allPass passes readsAs isLegible allFair isFair isNumbered areNumbered firstRepeated sameReading sameEvents sameEvent search fitsIn isCompleteIn requiredFor tagged settlePiece allListed allFit noneMissing attributed pieceAttributed attributeEvents attributesBefore withAttributes pieceUnder piecesWithin document elementAt numberFrom numberOf withData limited isOpen inferable chain inferStarts inward settleFrom settle startElement takeData takeBlank endLeftOut closeFrom endElement endFrom endDocument tag specifications startTagAt declarationPiece markupPiece bytePiece piece placeAt allowed separator letter fold nameByte span nameEnd separatorsEnd sameText beforeDashes gapWithin gap occurrence nameToken dataToken token further members group isDeclared elementName omission words head contentWord contentModel content close rest element commentDeclaration keyword markup declaration declarationsWithin needsTag attributesOf listed typeFile
+unfolding isOffered ascii restOfT T T- under whole shelf allPass passes readsAs isLegible allFair isFair isNumbered areNumbered firstRepeated sameReading sameEvents sameEvent search fitsIn isCompleteIn requiredFor tagged settlePiece allListed allFit noneMissing attributed pieceAttributed attributeEvents attributesBefore withAttributes atOnce isIgnored recordEnds lineAfter cut cutBeforeEnds recordsSettled pieceUnder piecesWithin document elementAt numberFrom numberOf withData limited isOpen inferable chain inferStarts inward settleFrom settle startElement takeData takeBlank endLeftOut closeFrom endElement endFrom endDocument tag specifications startTagAt declarationPiece markupPiece bytePiece piece placeAt allowed separator letter fold nameByte span nameEnd separatorsEnd sameText beforeDashes gapWithin gap occurrence nameToken dataToken token further members group isDeclared elementName omission words head contentWord contentModel content close rest element commentDeclaration keyword markup declaration declarationsWithin needsTag attributesOf listed typeFile
 shelf-right = all-right eight (λ (x : Example). x .type) (readsAs eight) (reads-so eight) shelf refl

@@ -1,4 +1,3 @@
 -- What the reader's answer stands for, in the rules' terms, and laws of it.
-pub mod Means
-pub mod Laws
-pub mod And
+pub mod Answer
+pub mod Answering

@@ -1,7 +1,6 @@
 // The document reader: a type file, a document and a lent buffer in, events or one refusal out.
 use document_events::Counted;
 use element_records::Clash;
-use inputs::Checked;
 use inputs::Settings;
 use layout::ELEMENTS;
 use layout::EVENT;
@@ -14,22 +13,23 @@ use layout::PLACES;
 use layout::RECORDS;
 use layout::ROWS;
 use text::Fault;
-use type_judge::Verdict;
+use type_stage::Ordered;
 ghost use mathlib.Core.Path.{_≡_};
-ghost use mathlib.Core.List.{List};
-ghost use Prim.Native.Nat.{_≤_};
+ghost use mathlib.Core.List.{List, []};
+ghost use Prim.Native.Nat.{ℕ, _≤_};
 ghost use lib.ListN.{length, replicate};
 ghost use Rattle.rules.specs.Lent.{Lent};
 ghost use Rattle.rules.specs.Settings.{settings, mostNameLength};
+ghost use Rattle.rules.specs.Settings as rules;
 ghost use Rattle.rules.specs.TypeFile.{Element};
 ghost use Rattle.rules.specs.Reader.{ReadAs};
-ghost use Rattle.inputs.specs.Means.{settingsOf};
-ghost use Rattle.element_index.specs.Means.{Indexed};
-ghost use Rattle.list_table.specs.Means.{Lists};
-ghost use Rattle.type_tables.specs.Means.{Tables};
-ghost use Rattle.document_events.specs.Means.{EventsOf};
-ghost use Rattle.document_reader.specs.And.{Tells};
-ghost use Rattle.document_reader.specs.Means.{answerOf, CountFits, Judges, JudgedHeads, JudgedLists, Followed, Answers, fittedTo, isRefusal};
+ghost use Rattle.inputs.specs.Checks.{settingsOf};
+ghost use Rattle.element_index.specs.Indexed.{Indexed};
+ghost use Rattle.list_table.specs.Lists.{Lists};
+ghost use Rattle.type_tables.specs.Tables.{Tables};
+ghost use Rattle.document_events.specs.Loop.{EventsOf};
+ghost use Rattle.type_stage.specs.Stages.{JudgedHeads};
+ghost use Rattle.document_reader.specs.Answer.{answerOf, CountFits, Judges, JudgedLists, Followed, Answers, fittedTo, isRefusal};
 
 // The reader's answer.
 pub enum Answer {
@@ -52,38 +52,21 @@ fn judged(
     requires { ⌜ now heads ≡ replicate 64 0 ⌝ }
     ensures { λ r. ⌜ Judges (settingsOf c) (now (s .entry)) (now (d .entry)) (now (elements .exit)) (now (heads .exit)) r ⌝ }
 {
-    let g = inputs::check(c, s, d);
-    match g {
-        Checked::InType(f) => return Answer::InType(f),
-        Checked::InDocument(f) => return Answer::InDocument(f),
-        Checked::Legible => {}
-    }
-    let v = type_judge::decide_legible(c, s, RECORDS, elements, heads);
-    match v {
-        Verdict::Accepted(n) => Answer::Accepted(n),
-        Verdict::Malformed(f) => Answer::InType(f),
-        Verdict::Ambiguous(x) => Answer::Ambiguous(x),
+    let g = type_stage::judged(c, s, elements, heads);
+    let o = type_stage::in_order(g, d);
+    match o {
+        Ordered::Read(n) => Answer::Accepted(n),
+        Ordered::InType(f) => Answer::InType(f),
+        Ordered::Ambiguous(x) => Answer::Ambiguous(x),
+        Ordered::InDocument(f) => Answer::InDocument(f),
     }
 }
 
-// Whether an "&" stands anywhere in the text. The loop has no way out, so that it goes by several bytes at a time.
-fn holds_and(s: &[u8]) -> bool
-    ensures { λ r. ⌜ Tells (now (s .entry)) (length (now (s .entry))) r ⌝ }
-{
-    let mut some = false;
-    let mut i = 0;
-    while i < s.len() {
-        if s[i] == b'&' {
-            some = true;
-        }
-        i += 1;
-    }
-    some
-}
-
-// The events of the document under a type whose tables are filled.
-fn follow(
+// The events of the document under a type whose tables are filled, as bytes. No numbers are lent: that there are none is seen here, where the single call and
+// the batch both come by, so that the loop writes bytes alone.
+pub fn follow(
     long: usize,
+    edition: usize,
     s: &[u8],
     d: &[u8],
     elements: &[u32; RECORDS],
@@ -93,25 +76,18 @@ fn follow(
     facts: &[u8; FACTS],
     members: &[u8],
     lists: &[u16],
-    numbers: &mut [u32],
     bytes: &mut [u8],
 ) -> Counted
     requires { ⌜ (long ≤ mostNameLength) × (length (now d) ≤ 65535) × (length (now s) ≤ 32768) ⌝ }
     ensures { λ r. ⌜ ((es : List Element) → Indexed (now (s .entry)) es (now (elements .entry)) (now (index .entry)) → Tables (now (s .entry)) es (now (rows .entry)) (now (places .entry)) (now (facts .entry)) (now (members .entry)) →
-        Lists (settings long) (now (s .entry)) es (now (lists .entry)) →
-        EventsOf (settings long) (now (s .entry)) es (now (d .entry)) (now (numbers .entry)) (now (numbers .exit)) (now (bytes .entry)) (now (bytes .exit)) r) ⌝ }
+        Lists long (now (s .entry)) es (now (lists .entry)) →
+        EventsOf (settings long edition) (now (s .entry)) es (now (d .entry)) [] [] (now (bytes .entry)) (now (bytes .exit)) r) ⌝ }
 {
-    // The class of each byte, 32 a row, is 1 for one that may begin something else than data, 2 for one that may go on a name
-    let classes = b"\0\0\0\0\0\0\0\0\0\0\x01\0\0\0\0\0\0\0\0\0\0\0\0\0\0\0\0\0\0\0\0\0\
-        \0\0\0\0\0\0\x01\0\0\0\0\0\0\x02\x02\0\x02\x02\x02\x02\x02\x02\x02\x02\x02\x02\0\0\x01\0\0\0\
-        \0\x02\x02\x02\x02\x02\x02\x02\x02\x02\x02\x02\x02\x02\x02\x02\x02\x02\x02\x02\x02\x02\x02\x02\x02\x02\x02\0\0\x01\0\0\
-        \0\x02\x02\x02\x02\x02\x02\x02\x02\x02\x02\x02\x02\x02\x02\x02\x02\x02\x02\x02\x02\x02\x02\x02\x02\x02\x02\0\0\0\0\0\
-        \0\0\0\0\0\0\0\0\0\0\0\0\0\0\0\0\0\0\0\0\0\0\0\0\0\0\0\0\0\0\0\0\
-        \0\0\0\0\0\0\0\0\0\0\0\0\0\0\0\0\0\0\0\0\0\0\0\0\0\0\0\0\0\0\0\0\
-        \0\0\0\0\0\0\0\0\0\0\0\0\0\0\0\0\0\0\0\0\0\0\0\0\0\0\0\0\0\0\0\0\
-        \0\0\0\0\0\0\0\0\0\0\0\0\0\0\0\0\0\0\0\0\0\0\0\0\0\0\0\0\0\0\0\0";
+    let classes = delimiters::class_table();
+    let mut none = [0u32; 0];
     document_events::events_of(
         long,
+        edition,
         s,
         elements,
         index,
@@ -120,9 +96,9 @@ fn follow(
         facts,
         members,
         lists,
-        classes,
+        &classes,
         d,
-        numbers,
+        &mut none,
         bytes,
     )
 }
@@ -132,23 +108,23 @@ fn follow(
 // empty, and takes 3 % more instructions.
 fn read_listed(
     long: usize,
+    edition: usize,
     s: &[u8],
     d: &[u8],
     elements: &[u32; RECORDS],
     lists: &[u16],
     n: usize,
-    numbers: &mut [u32],
     bytes: &mut [u8],
 ) -> Counted
-    requires { ⌜ JudgedLists (settings long) (now s) (now elements) (now lists) n × (length (now d) ≤ 65535) ⌝ }
-    ensures { λ r. ⌜ Followed (settings long) (now (s .entry)) (now (d .entry)) (now (numbers .entry)) (now (numbers .exit)) (now (bytes .entry)) (now (bytes .exit)) r ⌝ }
+    requires { ⌜ JudgedLists (settings long edition) (now s) (now elements) (now lists) n × (length (now d) ≤ 65535) ⌝ }
+    ensures { λ r. ⌜ Followed (settings long edition) (now (s .entry)) (now (d .entry)) [] [] (now (bytes .entry)) (now (bytes .exit)) r ⌝ }
 {
     let mut index = [0u8; INDEX];
     let mut rows = [0u8; ROWS];
     let mut places = [0u8; PLACES];
     let mut facts = [0u8; FACTS];
     element_index::fill_index(s, elements, n, &mut index);
-    if holds_and(s) {
+    if full_tables::holds_and(s) {
         let mut members = [0u8; MEMBERS];
         table_fill::fill(
             long,
@@ -164,6 +140,7 @@ fn read_listed(
         );
         return follow(
             long,
+            edition,
             s,
             d,
             elements,
@@ -173,7 +150,6 @@ fn read_listed(
             &facts,
             &members,
             lists,
-            numbers,
             bytes,
         );
     }
@@ -192,6 +168,7 @@ fn read_listed(
     );
     follow(
         long,
+        edition,
         s,
         d,
         elements,
@@ -201,7 +178,6 @@ fn read_listed(
         &facts,
         &none,
         lists,
-        numbers,
         bytes,
     )
 }
@@ -209,30 +185,30 @@ fn read_listed(
 // Reads the document under an accepted type, whose n elements are recorded and whose lists stand at `heads`. A type without attributes pays for no table of them.
 fn read_under(
     long: usize,
+    edition: usize,
     s: &[u8],
     d: &[u8],
     elements: &[u32; RECORDS],
     heads: &[u16; ELEMENTS],
     n: usize,
-    numbers: &mut [u32],
     bytes: &mut [u8],
 ) -> Counted
-    requires { ⌜ JudgedHeads (settings long) (now s) (now elements) (now heads) n × (length (now d) ≤ 65535) ⌝ }
-    ensures { λ r. ⌜ Followed (settings long) (now (s .entry)) (now (d .entry)) (now (numbers .entry)) (now (numbers .exit)) (now (bytes .entry)) (now (bytes .exit)) r ⌝ }
+    requires { ⌜ JudgedHeads (settings long edition) (now s) (now elements) (now heads) n × (length (now d) ≤ 65535) ⌝ }
+    ensures { λ r. ⌜ Followed (settings long edition) (now (s .entry)) (now (d .entry)) [] [] (now (bytes .entry)) (now (bytes .exit)) r ⌝ }
 {
     if attribute_lists::has_any(heads, n) {
         let mut lists = [0u16; LISTS];
         attribute_lists::fill(long, s, heads, n, &mut lists);
-        return read_listed(long, s, d, elements, &lists, n, numbers, bytes);
+        return read_listed(long, edition, s, d, elements, &lists, n, bytes);
     }
     let none = [0u16; 0];
-    read_listed(long, s, d, elements, &none, n, numbers, bytes)
+    read_listed(long, edition, s, d, elements, &none, n, bytes)
 }
 
 // Judges the type and reads the document; a refusal zeroes nothing yet. Where it refuses, or the room is short, what the buffers hold is not
 // decided.
-fn answered(c: Settings, s: &[u8], d: &[u8], numbers: &mut [u32], bytes: &mut [u8]) -> Answer
-    ensures { λ r. ⌜ Answers (settingsOf c) (now (s .entry)) (now (d .entry)) (now (numbers .entry)) (now (numbers .exit)) (now (bytes .entry)) (now (bytes .exit)) r ⌝ }
+fn answered(c: Settings, s: &[u8], d: &[u8], bytes: &mut [u8]) -> Answer
+    ensures { λ r. ⌜ Answers (settingsOf c) (now (s .entry)) (now (d .entry)) [] [] (now (bytes .entry)) (now (bytes .exit)) r ⌝ }
 {
     let mut elements = [0u32; RECORDS];
     let mut heads = [0u16; ELEMENTS];
@@ -240,7 +216,61 @@ fn answered(c: Settings, s: &[u8], d: &[u8], numbers: &mut [u32], bytes: &mut [u
     let Answer::Accepted(n) = v else {
         return v;
     };
-    let r = read_under(c.name_length, s, d, &elements, &heads, n, numbers, bytes);
+    let r = read_under(c.name_length, c.edition, s, d, &elements, &heads, n, bytes);
+    match r {
+        Counted::Events(k) => Answer::Accepted(k),
+        Counted::Refused(f) => Answer::InDocument(f),
+    }
+}
+
+// The same to numbers, as the small program lends them. It fills all tables.
+fn numbered(c: Settings, s: &[u8], d: &[u8], numbers: &mut [u32]) -> Answer
+    ensures { λ r. ⌜ Answers (settingsOf c) (now (s .entry)) (now (d .entry)) (now (numbers .entry)) (now (numbers .exit)) [] [] r ⌝ }
+{
+    let mut elements = [0u32; RECORDS];
+    let mut heads = [0u16; ELEMENTS];
+    let v = judged(c, s, d, &mut elements, &mut heads);
+    let Answer::Accepted(n) = v else {
+        return v;
+    };
+    let long = c.name_length;
+    let mut lists = [0u16; LISTS];
+    let mut index = [0u8; INDEX];
+    let mut rows = [0u8; ROWS];
+    let mut places = [0u8; PLACES];
+    let mut facts = [0u8; FACTS];
+    let mut members = [0u8; MEMBERS];
+    full_tables::fill(
+        long,
+        s,
+        &elements,
+        &heads,
+        n,
+        &mut lists,
+        &mut index,
+        &mut rows,
+        &mut places,
+        &mut facts,
+        &mut members,
+    );
+    let classes = delimiters::class_table();
+    let mut none = [0u8; 0];
+    let r = document_events::events_of(
+        long,
+        c.edition,
+        s,
+        &elements,
+        &index,
+        &rows,
+        &places,
+        &facts,
+        &members,
+        &lists,
+        &classes,
+        d,
+        numbers,
+        &mut none,
+    );
     match r {
         Counted::Events(k) => Answer::Accepted(k),
         Counted::Refused(f) => Answer::InDocument(f),
@@ -272,14 +302,24 @@ fn refuses(a: Answer) -> bool
     }
 }
 
+// The answer that was found, once the events fit the buffer of bytes; a refusal zeroes it. Of an answer that is not that of what the buffer holds nothing is decided.
+pub fn settled(a: Answer, buffer: &mut [u8]) -> Answer
+    ensures { λ r. ⌜ ((c : rules.Settings) (s d before : List ℕ) → length (now (buffer .entry)) ≡ length before → Answers c s d [] [] before (now (buffer .entry)) a →
+        ReadAs Lent.bytes c s d before (answerOf r) (now (buffer .exit)) × CountFits r) ⌝ }
+{
+    let b = fitted(a, buffer.len() / NUMBER / EVENT);
+    if refuses(b) {
+        numbers::clear_bytes(buffer);
+    }
+    b
+}
+
 // Reads a document under a type file and the settings c. The buffer gets five numbers for each event, or is zeroed.
 pub fn read(c: Settings, s: &[u8], d: &[u8], buffer: &mut [u32]) -> Answer
     ensures { λ r. ⌜ ReadAs Lent.numbers (settingsOf c) (now (s .entry)) (now (d .entry)) (now (buffer .entry)) (answerOf r) (now (buffer .exit)) ⌝ }
     ensures { λ r. ⌜ CountFits r ⌝ }
 {
-    // No bytes are lent, so that events go to the numbers alone.
-    let mut none = [0u8; 0];
-    let v = answered(c, s, d, buffer, &mut none);
+    let v = numbered(c, s, d, buffer);
     let a = fitted(v, buffer.len() / EVENT);
     if refuses(a) {
         numbers::clear_numbers(buffer);
@@ -292,12 +332,6 @@ pub fn read_to_bytes(c: Settings, s: &[u8], d: &[u8], buffer: &mut [u8]) -> Answ
     ensures { λ r. ⌜ ReadAs Lent.bytes (settingsOf c) (now (s .entry)) (now (d .entry)) (now (buffer .entry)) (answerOf r) (now (buffer .exit)) ⌝ }
     ensures { λ r. ⌜ CountFits r ⌝ }
 {
-    // No numbers are lent, so that events go to the bytes alone.
-    let mut none = [0u32; 0];
-    let v = answered(c, s, d, &mut none, buffer);
-    let a = fitted(v, buffer.len() / NUMBER / EVENT);
-    if refuses(a) {
-        numbers::clear_bytes(buffer);
-    }
-    a
+    let v = answered(c, s, d, buffer);
+    settled(v, buffer)
 }

@@ -10,15 +10,14 @@ ghost use mathlib.Core.List.{List};
 ghost use Prim.Native.Nat.{ℕ, _≤_, _<_};
 ghost use lib.ListN.{length};
 ghost use lib.Dec.{eqb};
-ghost use Rattle.rules.specs.Settings.{settings};
 ghost use Rattle.rules.specs.Reading.{Reading};
 ghost use Rattle.rules.specs.Document as rules;
 ghost use Rattle.rules.specs.Document.{malformed, declarationPiece, markupPiece, bytePiece, piece};
-ghost use Rattle.text.specs.Means.{reached};
-ghost use Rattle.delimiters.specs.Means.{Classes};
+ghost use Rattle.text.specs.Refusal.{reached};
+ghost use Rattle.delimiters.specs.Classes.{Classes};
 ghost use Rattle.tags.specs.Tags.{tagOf};
 ghost use Rattle.tags.specs.Given.{MeetsTag};
-ghost use Rattle.document_text.specs.Means.{pieceOf, MeetsPiece, asStartTag, asEndTag, asSkipped};
+ghost use Rattle.document_text.specs.PieceOf.{pieceOf, MeetsPiece, asStartTag, asEndTag, asSkipped};
 
 // What stands at a position of the document.
 pub enum Token {
@@ -90,7 +89,7 @@ fn markup_at(
     given: &mut [u16; GIVEN],
 ) -> Token
     requires { ⌜ Classes (now classes) × (i < length (now s)) × (length (now s) ≤ 65535) ⌝ }
-    ensures { λ r. ⌜ MeetsPiece (length (now (s .entry))) (now (given .exit)) r (markupPiece (settings long) (now (s .entry)) i) ⌝ }
+    ensures { λ r. ⌜ MeetsPiece (length (now (s .entry))) (now (given .exit)) r (markupPiece long (now (s .entry)) i) ⌝ }
 {
     let b = text::byte(s, i + 1);
     if text::is_letter(b) {
@@ -144,7 +143,7 @@ pub fn token_at(
     given: &mut [u16; GIVEN],
 ) -> Token
     requires { ⌜ Classes (now classes) × (i < length (now s)) × (length (now s) ≤ 65535) ⌝ }
-    ensures { λ r. ⌜ MeetsPiece (length (now (s .entry))) (now (given .exit)) r (piece (settings long) (now (s .entry)) i) ⌝ }
+    ensures { λ r. ⌜ MeetsPiece (length (now (s .entry))) (now (given .exit)) r (piece long (now (s .entry)) i) ⌝ }
 {
     if text::byte(s, i) == b'<' {
         return markup_at(long, classes, s, i, given);

@@ -7,12 +7,11 @@ use native.Mathlib.Omega.{arith}
 use lib.ListN.{length}
 use lib.Dec.{ltb}
 use borrow.Author.Tests.{eq-eqb, ne-eqb, lt-ltb, le-ltb}
-use Rattle.rules.specs.Settings.{Settings}
 use Rattle.rules.specs.Bytes.{byteAt, letter, nameEnd, GRPLVL}
 use Rattle.rules.specs.Reading.{Reading, refused, got}
 use Rattle.rules.specs.TypeFile.{empty, model, ContentEnd, isWord, isCut, EMPTY, ANY, CDATA, RCDATA, unfit, contentWord, contentModel, content, Tokens, group, occurrence}
-use Rattle.text.specs.Laws.{cut-or}
-use Rattle.text.specs.Means.{refusalOf}
+use Rattle.text.specs.Words.{cut-or}
+use Rattle.text.specs.Refusal.{refusalOf}
 use Rattle.text.specs.declared.Fault.{Fault}
 use Rattle.and_laws.specs.Sets.{Plain}
 use Rattle.and_laws.specs.Numbers.{Guarded}
@@ -20,7 +19,7 @@ use Rattle.rules_laws.specs.Holds.{got-so}
 use Rattle.rules_laws.specs.In.{fits-none}
 use Rattle.rules_laws.specs.Groups.{Read, group-read, occurrence-read, Whatever, whatever-builds}
 use Rattle.model_table.specs.Fill.{finished}
-use Rattle.model_table.specs.Means.{Fresh, says}
+use Rattle.model_table.specs.Shows.{Fresh, says}
 use Rattle.model_table.specs.Behind.{finished-behind}
 use Rattle.model_code.specs.Spelled.{codes, codeIn, code-same}
 use Rattle.connectors.specs.Kept.{Begun, begun, Tabled, Keeps}
@@ -35,33 +34,33 @@ use Rattle.element_content.specs.declared.BodyRead.the-variants as bodyR
 use Rattle.element_content.specs.Kept.{wrongWord, KeepsBody, MeetsBody, bodyFault}
 
 -- A word as content.
-module _ (c : Settings) (s : List ℕ) (from i : ℕ) where
-  pub word-long : c .nameLength < nameEnd s i - i → contentWord c s from i ≡ refused 3 i
+module _ (long : ℕ) (s : List ℕ) (from i : ℕ) where
+  pub word-long : long < nameEnd s i - i → contentWord long s from i ≡ refused 3 i
   unfolding contentWord
   word-long h = rw (lt-ltb _ _ h, contentWord)
 
-  module _ (h : nameEnd s i - i ≤ c .nameLength) where
-    pub word-empty : (ltb from i && isWord s i (nameEnd s i) EMPTY) ≡ true → contentWord c s from i ≡ got (record { content = empty; at = nameEnd s i; repeated = 0 })
+  module _ (h : nameEnd s i - i ≤ long) where
+    pub word-empty : (ltb from i && isWord s i (nameEnd s i) EMPTY) ≡ true → contentWord long s from i ≡ got (record { content = empty; at = nameEnd s i; repeated = 0 })
     unfolding contentWord
     word-empty w = rw (le-ltb _ _ h, w, contentWord)
 
     module _ (w : (ltb from i && isWord s i (nameEnd s i) EMPTY) ≡ false) where
-      pub word-named : (isWord s i (nameEnd s i) ANY || isWord s i (nameEnd s i) CDATA || isWord s i (nameEnd s i) RCDATA) ≡ true → contentWord c s from i ≡ refused 5 i
+      pub word-named : (isWord s i (nameEnd s i) ANY || isWord s i (nameEnd s i) CDATA || isWord s i (nameEnd s i) RCDATA) ≡ true → contentWord long s from i ≡ refused 5 i
       unfolding contentWord
       word-named n = rw (le-ltb _ _ h, w, n, contentWord)
 
-      pub word-other : (isWord s i (nameEnd s i) ANY || isWord s i (nameEnd s i) CDATA || isWord s i (nameEnd s i) RCDATA) ≡ false → contentWord c s from i ≡ refused 4 (wrongWord s from i (nameEnd s i))
+      pub word-other : (isWord s i (nameEnd s i) ANY || isWord s i (nameEnd s i) CDATA || isWord s i (nameEnd s i) RCDATA) ≡ false → contentWord long s from i ≡ refused 4 (wrongWord s from i (nameEnd s i))
       unfolding contentWord
       word-other n = rw (le-ltb _ _ h, w, n, contentWord) (sym (cut-or (ltb from i && isCut s i (nameEnd s i) EMPTY) (length s) i))
 
 -- A model as content.
-module _ (c : Settings) (s : List ℕ) (i : ℕ) where
-  pub model-refused : {f : Fault} → group c GRPLVL s i [] 0 ≡ refusalOf f → contentModel c s i ≡ refusalOf f
+module _ (long : ℕ) (s : List ℕ) (i : ℕ) where
+  pub model-refused : {f : Fault} → group long GRPLVL s i [] 0 ≡ refusalOf f → contentModel long s i ≡ refusalOf f
   unfolding contentModel
   model-refused q = rw (q, contentModel)
 
-  pub model-got : {t : Tokens} → group c GRPLVL s i [] 0 ≡ got t
-      → contentModel c s i ≡ got (record { content = model (occurrence s t .group) (occurrence s t .places) (occurrence s t .tokens); at = occurrence s t .at; repeated = occurrence s t .repeated })
+  pub model-got : {t : Tokens} → group long GRPLVL s i [] 0 ≡ got t
+      → contentModel long s i ≡ got (record { content = model (occurrence s t .group) (occurrence s t .places) (occurrence s t .tokens); at = occurrence s t .at; repeated = occurrence s t .repeated })
   unfolding contentModel
   model-got q = rw (q, contentModel)
 
@@ -70,9 +69,9 @@ pub model-fault : (end : ℕ) (B : Begun) (names table : List ℕ) (r : ModelRea
 model-fault end B names table r x {f} h q e = refused-is end B names table f x (rw q at h) ∙ ap refusalOf (sym (e ∙ ap modelFault q))
 
 -- A model that was read, with its indicator: where no "&" is told it has none, and where none is refused none stands under "+".
-module _ (c : Settings) (s : List ℕ) (i : ℕ) (h : i < length s) (t : Tokens) (e : group c GRPLVL s i [] 0 ≡ got t) where
+module _ (long : ℕ) (s : List ℕ) (i : ℕ) (h : i < length s) (t : Tokens) (e : group long GRPLVL s i [] 0 ≡ got t) where
   model-read : Read s Whatever i [] (occurrence s t)
-  model-read = occurrence-read c s whatever-builds t (got-so (group-read c s whatever-builds GRPLVL i [] 0 h (fits-none s)) e)
+  model-read = occurrence-read long s whatever-builds t (got-so (group-read long s whatever-builds GRPLVL i [] 0 h (fits-none s)) e)
 
   pub model-plain : occurrence s t .and ≡ 0 → Plain (occurrence s t .group)
   model-plain = model-read .plain
@@ -113,16 +112,16 @@ module _ {end : ℕ} {names T table : List ℕ} {m : Model} {t : Tokens} (k : Ke
       }
 
 -- The content.
-module _ (c : Settings) (s : List ℕ) (from i : ℕ) where
-  pub content-model : byteAt s i ≡ 40 → content c s from i ≡ contentModel c s i
+module _ (long : ℕ) (s : List ℕ) (from i : ℕ) where
+  pub content-model : byteAt s i ≡ 40 → content long s from i ≡ contentModel long s i
   unfolding content
   content-model b = rw (eq-eqb _ _ b, content)
 
-  pub content-word : (byteAt s i ≡ 40 → ⊥) → letter (byteAt s i) ≡ true → content c s from i ≡ contentWord c s from i
+  pub content-word : (byteAt s i ≡ 40 → ⊥) → letter (byteAt s i) ≡ true → content long s from i ≡ contentWord long s from i
   unfolding content
   content-word b l = rw (ne-eqb _ _ b, l, content)
 
-  pub content-unfit : (byteAt s i ≡ 40 → ⊥) → letter (byteAt s i) ≡ false → content c s from i ≡ unfit s i
+  pub content-unfit : (byteAt s i ≡ 40 → ⊥) → letter (byteAt s i) ≡ false → content long s from i ≡ unfit s i
   unfolding content
   content-unfit b l = rw (ne-eqb _ _ b, l, content)
 

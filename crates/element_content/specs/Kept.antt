@@ -13,7 +13,7 @@ use Rattle.model_sets.specs.Sets.{size, Numbered}
 use Rattle.layout.specs.Sizes.{CODE}
 use Rattle.and_laws.specs.Sets.{Plain}
 use Rattle.and_laws.specs.Numbers.{Guarded}
-use Rattle.model_table.specs.Means.{Says}
+use Rattle.model_table.specs.Shows.{Says}
 use Rattle.model_code.specs.Spelled.{codes, codeIn}
 use Rattle.model_names.specs.Places.{placesOf}
 use Rattle.text.specs.declared.Fault.{Fault}

@@ -6,7 +6,6 @@ use text::Fault;
 ghost use mathlib.Core.Path.{_≡_};
 ghost use Prim.Native.Nat.{_≤_, _<_};
 ghost use lib.ListN.{length};
-ghost use Rattle.rules.specs.Settings.{settings};
 ghost use Rattle.rules.specs.TypeFile.{contentWord, contentModel, content};
 ghost use Rattle.element_content.specs.Kept.{wrongWord, MeetsBody, bodyFault};
 
@@ -64,7 +63,7 @@ fn body_word(
     table: &[u8; MODEL],
 ) -> BodyRead
     requires { ⌜ (i ≤ length (now s)) × (length (now s) ≤ 32768) ⌝ }
-    ensures { λ r. ⌜ MeetsBody (length (now (s .entry))) (now (names .entry)) (now (table .entry)) r (contentWord (settings long) (now (s .entry)) from i) ⌝ }
+    ensures { λ r. ⌜ MeetsBody (length (now (s .entry))) (now (names .entry)) (now (table .entry)) r (contentWord long (now (s .entry)) from i) ⌝ }
 {
     let e = text::name_end(s, i);
     if long < e - i {
@@ -99,7 +98,7 @@ fn body_model(
     table: &mut [u8; MODEL],
 ) -> BodyRead
     requires { ⌜ (i < length (now s)) × (length (now s) ≤ 32768) ⌝ }
-    ensures { λ r. ⌜ MeetsBody (length (now (s .entry))) (now (names .exit)) (now (table .exit)) r (contentModel (settings long) (now (s .entry)) i) ⌝ }
+    ensures { λ r. ⌜ MeetsBody (length (now (s .entry))) (now (names .exit)) (now (table .exit)) r (contentModel long (now (s .entry)) i) ⌝ }
 {
     model_table::clear(table);
     let r = group_reader::group_at(long, s, i, 16, 0, 0, 0, names, table);
@@ -131,7 +130,7 @@ pub fn body_at(
     table: &mut [u8; MODEL],
 ) -> BodyRead
     requires { ⌜ (i ≤ length (now s)) × (length (now s) ≤ 32768) ⌝ }
-    ensures { λ r. ⌜ MeetsBody (length (now (s .entry))) (now (names .exit)) (now (table .exit)) r (content (settings long) (now (s .entry)) from i) ⌝ }
+    ensures { λ r. ⌜ MeetsBody (length (now (s .entry))) (now (names .exit)) (now (table .exit)) r (content long (now (s .entry)) from i) ⌝ }
 {
     let b = text::byte(s, i);
     if b == b'(' {

@@ -4,7 +4,6 @@ use mathlib.Core.Path.{_≡_, sym}
 use mathlib.Core.List.{List}
 use native.Mathlib.Omega.{arith}
 use lib.ListN.{length}
-use Rattle.rules.specs.Settings.{Settings}
 use Rattle.rules.specs.TypeFile.{words}
 use Rattle.text.specs.declared.Reached.{Reached}
 use Rattle.text.specs.declared.Reached.the-variants as reached
@@ -20,12 +19,12 @@ pub name-in : (long : ℕ) {end i count e : ℕ} {r : Reached} → NameIn long e
 name-in long h q = rw q at h
 
 -- A head that was read, where the gap before its name began at `from`.
-pub head-in : (c : Settings) (s : List ℕ) (i e from count : ℕ) (r : HeadRead) → headOf r ≡ words c s i e → from ≤ i → i ≤ e → e ≤ length s → count < 64 → e ≤ i + c .nameLength
-    → HeadIn (c .nameLength) (length s) from count r
-head-in c s i e from count (headRead.Read h) q a b d f l =
-    let range = words-range c s i e (headIn h) d (sym q) in
+pub head-in : (long : ℕ) (s : List ℕ) (i e from count : ℕ) (r : HeadRead) → headOf r ≡ words long s i e → from ≤ i → i ≤ e → e ≤ length s → count < 64 → e ≤ i + long
+    → HeadIn long (length s) from count r
+head-in long s i e from count (headRead.Read h) q a b d f l =
+    let range = words-range long s i e (headIn h) d (sym q) in
     omega arith
-head-in c s i e from count (headRead.Refused f) q a b d g l = tt
+head-in long s i e from count (headRead.Refused f) q a b d g l = tt
 
 pub head-within : (long : ℕ) {end from count : ℕ} {r : HeadRead} {h : here.Head} → HeadIn long end from count r → r ≡ headRead.Read h
     → (from ≤ h .at) × (h .at ≤ end) × (h .offset ≤ end) × (h .size ≤ end) × (count < 64) × (h .size ≤ long)

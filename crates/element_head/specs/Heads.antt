@@ -2,7 +2,7 @@
 use Prim.Native.Nat.{ℕ, _≤_, _<_}
 use Rattle.rules.specs.Reading.{Reading, got}
 use Rattle.rules.specs.TypeFile as rules
-use Rattle.text.specs.Means.{refusalOf}
+use Rattle.text.specs.Refusal.{refusalOf}
 use Rattle.text.specs.declared.Fault.{Fault}
 use Rattle.element_head.specs.declared.Omission.{Omission}
 use Rattle.element_head.specs.declared.Omission.the-variants as omission

@@ -6,7 +6,6 @@ ghost use mathlib.Core.Path.{_≡_};
 ghost use mathlib.Core.List.{List};
 ghost use Prim.Native.Nat.{_≤_, _<_};
 ghost use lib.ListN.{length};
-ghost use Rattle.rules.specs.Settings.{settings};
 ghost use Rattle.rules.specs.TypeFile.{omission, words, head};
 ghost use Rattle.rules.specs.TypeFile as rules;
 ghost use Rattle.element_names.specs.Names.{Recorded};
@@ -54,7 +53,7 @@ pub fn fault_of_head(r: HeadRead) -> Fault
 // A word "-" or "O" at i, where the parameter before ended at `from`.
 fn omission_at(long: usize, s: &[u8], from: usize, i: usize) -> Omission
     requires { ⌜ (i ≤ length (now s)) × (length (now s) ≤ 32768) ⌝ }
-    ensures { λ r. ⌜ omissionOf r ≡ omission (settings long) (now (s .entry)) from i ⌝ }
+    ensures { λ r. ⌜ omissionOf r ≡ omission long (now (s .entry)) from i ⌝ }
 {
     let b = text::byte(s, i);
     if b == b'-' && from < i {
@@ -82,7 +81,7 @@ pub fn head_at(
 ) -> HeadRead
     requires { ⌜ (at ≤ length (now s)) × (length (now s) ≤ 32768) × (count ≤ 64) ⌝ }
     ensures { λ r. ⌜ ((es : List rules.Element) → length es ≡ count → Recorded (now (elements .entry)) es →
-        headOf r ≡ head (settings long) (now (s .entry)) at es) ⌝ }
+        headOf r ≡ head long (now (s .entry)) at es) ⌝ }
     ensures { λ r. ⌜ HeadIn long (length (now (s .entry))) at count r ⌝ }
 {
     let g = gaps::gap_end(s, at);
@@ -99,7 +98,7 @@ pub fn head_at(
 // The two words after the name from i to e.
 fn words_at(long: usize, s: &[u8], i: usize, e: usize) -> HeadRead
     requires { ⌜ (i ≤ e) × (e ≤ length (now s)) × (length (now s) ≤ 32768) ⌝ }
-    ensures { λ r. ⌜ headOf r ≡ words (settings long) (now (s .entry)) i e ⌝ }
+    ensures { λ r. ⌜ headOf r ≡ words long (now (s .entry)) i e ⌝ }
 {
     let g = gaps::gap_end(s, e);
     let Reached::At(j) = g else {

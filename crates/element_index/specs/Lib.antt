@@ -1,3 +1,3 @@
 -- What an index of a type's elements says, and the laws by which it is filled and read.
-pub mod Means
-pub mod Laws
+pub mod Indexed
+pub mod Seeking

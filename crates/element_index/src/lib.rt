@@ -16,8 +16,8 @@ ghost use Rattle.rules.specs.Judge.{Accepts};
 ghost use Rattle.rules.specs.Elements.{numberOf};
 ghost use Rattle.rules.specs.Lookup.{compared};
 ghost use Rattle.layout.specs.Sizes.{INDEX};
-ghost use Rattle.element_reader.specs.Means.{Recorded};
-ghost use Rattle.element_index.specs.Means.{Judged, bucketOf, follows, Indexed, putIn};
+ghost use Rattle.element_reader.specs.Keeps.{Recorded};
+ghost use Rattle.element_index.specs.Indexed.{Judged, bucketOf, follows, Indexed, putIn};
 
 // The bucket of a name by its first byte and its length, 1 to 32. Letters that fold to one another are in the same.
 fn bucket(first: u8, size: usize) -> usize

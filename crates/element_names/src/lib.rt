@@ -6,11 +6,10 @@ ghost use mathlib.Core.Path.{_≡_};
 ghost use mathlib.Core.List.{List};
 ghost use Prim.Native.Nat.{_≤_, _<_};
 ghost use lib.ListN.{length, getD};
-ghost use Rattle.rules.specs.Settings.{settings};
 ghost use Rattle.rules.specs.TypeFile.{isDeclared, elementName};
 ghost use Rattle.rules.specs.TypeFile as rules;
 ghost use Rattle.rules.specs.Lookup.{isAlike, compared};
-ghost use Rattle.text.specs.Means.{reached};
+ghost use Rattle.text.specs.Refusal.{reached};
 ghost use Rattle.element_names.specs.Names.{Recorded, nameAt, NameIn};
 
 // A number of the table of elements.
@@ -79,7 +78,7 @@ pub fn element_name(
 ) -> Reached
     requires { ⌜ (i ≤ length (now s)) × (length (now s) ≤ 32768) × (count ≤ 64) ⌝ }
     ensures { λ r. ⌜ ((es : List rules.Element) → length es ≡ count → Recorded (now (elements .entry)) es →
-        reached r ≡ elementName (settings long) (now (s .entry)) i es) ⌝ }
+        reached r ≡ elementName long (now (s .entry)) i es) ⌝ }
     ensures { λ r. ⌜ NameIn long (length (now (s .entry))) i count r ⌝ }
 {
     let b = text::byte(s, i);

@@ -11,13 +11,12 @@ ghost use mathlib.Core.Path.{_≡_};
 ghost use mathlib.Core.List.{List};
 ghost use Prim.Native.Nat.{_≤_};
 ghost use lib.ListN.{length};
-ghost use Rattle.rules.specs.Settings.{settings};
 ghost use Rattle.rules.specs.TypeFile.{close, rest, element};
 ghost use Rattle.rules.specs.TypeFile as rules;
-ghost use Rattle.text.specs.Means.{reached};
+ghost use Rattle.text.specs.Refusal.{reached};
 ghost use Rattle.element_names.specs.Names.{Recorded};
 ghost use Rattle.element_head.specs.Heads.{headIn};
-ghost use Rattle.element_reader.specs.Means.{MeetsElement, ElementIn, elementFault};
+ghost use Rattle.element_reader.specs.Keeps.{MeetsElement, ElementIn, elementFault};
 
 // A whole declaration.
 pub struct Element {
@@ -76,7 +75,7 @@ fn rest_at(
 ) -> ElementRead
     requires { ⌜ (h .at ≤ length (now s)) × (length (now s) ≤ 32768) × (h .offset ≤ length (now s)) × (h .size ≤ length (now s)) ⌝ }
     ensures { λ r. ⌜ ((es : List rules.Element) → MeetsElement (length (now (s .entry))) (h .at) (now (names .exit)) (now (table .exit)) es r
-        (rest (settings long) (now (s .entry)) es (headIn h))) ⌝ }
+        (rest long (now (s .entry)) es (headIn h))) ⌝ }
 {
     let from = h.at;
     let g = gaps::gap_end(s, from);
@@ -124,7 +123,7 @@ pub fn element_at(
 ) -> ElementRead
     requires { ⌜ (at ≤ length (now s)) × (length (now s) ≤ 32768) × (count ≤ 64) ⌝ }
     ensures { λ r. ⌜ ((es : List rules.Element) → length es ≡ count → Recorded (now (elements .entry)) es →
-        MeetsElement (length (now (s .entry))) at (now (names .exit)) (now (table .exit)) es r (element (settings long) (now (s .entry)) at es)) ⌝ }
+        MeetsElement (length (now (s .entry))) at (now (names .exit)) (now (table .exit)) es r (element long (now (s .entry)) at es)) ⌝ }
     ensures { λ r. ⌜ ElementIn count r ⌝ }
 {
     let r = element_head::head_at(long, s, at, elements, count);

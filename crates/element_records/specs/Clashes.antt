@@ -10,7 +10,7 @@ use Rattle.rules.specs.TypeFile.{Place, Content, empty, model, Element}
 use Rattle.rules.specs.Judge.{Unambiguous, AllUnambiguous, PairStandsAt, FirstAmbiguous, here, later}
 use Rattle.model_sets.specs.Search.{searchPair, searchPair-cases}
 use Rattle.model_names.specs.Places.{placeIn}
-use Rattle.model_names.specs.Laws.{placeAt-placesOf}
+use Rattle.model_names.specs.Shared.{placeAt-placesOf}
 use Rattle.and_laws.specs.Fold.{clash}
 use Rattle.model_pairs.specs.Rows.{Tells, faultIn}
 use Rattle.model_pairs.specs.Finds.{Holds, tells, answer-none, answer-first}

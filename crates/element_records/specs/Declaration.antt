@@ -10,7 +10,7 @@ use Rattle.rules.specs.Judge.{firstRepeated}
 use Rattle.rules_laws.specs.Groups.{earlier-none}
 use Rattle.text.specs.declared.Fault.{Fault}
 use Rattle.element_content.specs.Kept.{KeepsContent}
-use Rattle.element_reader.specs.Means.{KeepsElement, MeetsElement, elementFault}
+use Rattle.element_reader.specs.Keeps.{KeepsElement, MeetsElement, elementFault}
 use Rattle.element_reader.specs.declared as declared
 use Rattle.element_reader.specs.declared.ElementRead.{ElementRead}
 use Rattle.element_reader.specs.declared.ElementRead.the-variants as elementRead

@@ -9,7 +9,6 @@ ghost use mathlib.Core.Path.{_≡_};
 ghost use mathlib.Core.List.{List, _++_};
 ghost use Prim.Native.Nat.{_+_, _*_, _≤_, _<_};
 ghost use lib.ListN.{length, take};
-ghost use Rattle.rules.specs.Settings.{settings};
 ghost use Rattle.rules.specs.TypeFile as rules;
 ghost use Rattle.element_content.specs.Kept.{KeepsContent};
 ghost use Rattle.element_records.specs.Progress.{numbersOf, Pending, PendingWith, KeepsProgress, InProgress, MeetsStep, stepFault};
@@ -107,7 +106,7 @@ pub fn element_at(
     requires { ⌜ (at ≤ length (now s)) × (length (now s) ≤ 32768) ⌝ }
     requires { ⌜ InProgress (now s) (now elements) p ⌝ }
     ensures { λ r. ⌜ ((es : List rules.Element) → KeepsProgress (now (s .entry)) (now (elements .entry)) p es →
-        MeetsStep (now (s .entry)) (now (elements .exit)) at r (rules.element (settings long) (now (s .entry)) at es)) ⌝ }
+        MeetsStep (now (s .entry)) (now (elements .exit)) at r (rules.element long (now (s .entry)) at es)) ⌝ }
 {
     let count = p.count;
     let r = element_reader::element_at(long, s, at, elements, count, names, table);

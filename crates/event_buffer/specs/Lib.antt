@@ -1,3 +1,3 @@
 -- What the lent buffers hold after events were written, and laws of it.
-pub mod Means
-pub mod Laws
+pub mod Buffers
+pub mod EventByEvent

@@ -9,8 +9,8 @@ ghost use mathlib.Core.List.{_∷_, []};
 ghost use Prim.Native.Nat.{_+_, _*_, _<_};
 ghost use Rattle.rules.specs.Lent.{bytesOf};
 ghost use Rattle.rules.specs.Events.{eventWidth};
-ghost use Rattle.numbers.specs.Means.{written};
-ghost use Rattle.event_buffer.specs.Means.{noted, Puts};
+ghost use Rattle.numbers.specs.Written.{written};
+ghost use Rattle.event_buffer.specs.Buffers.{noted, Puts, PutsOver};
 
 // The numbers of an event, after n events, if they fit.
 fn note_numbers(
@@ -50,7 +50,7 @@ fn note_bytes(buffer: &mut [u8], n: usize, kind: u32, element: u32, at: u32, siz
     }
 }
 
-// An event, after n others, to each buffer that it fits whole. What a buffer holds that is too small for all events is not decided;
+// An event, after n others, to each buffer that it fits whole; where n + 1 are there it goes over the last of them. What a buffer holds that is too small for all events is not decided;
 // it keeps its length. Nor is it where the n events in one buffer are not those in the other.
 pub fn put_event(
     numbers: &mut [u32],
@@ -63,7 +63,8 @@ pub fn put_event(
     place: Place,
 ) -> usize
     requires { ⌜ (n < 4294967296) × (element .0 < 4294967296) × (at < 4294967296) × (size < 4294967296) × (place .0 < 4294967296) ⌝ }
-    ensures { λ r. ⌜ (r ≡ n + 1) × Puts (now (numbers .entry)) (now (bytes .entry)) n (noted kind (element .0) at size (place .0) ∷ []) (now (numbers .exit)) (now (bytes .exit)) ⌝ }
+    ensures { λ r. ⌜ (r ≡ n + 1) × Puts (now (numbers .entry)) (now (bytes .entry)) n (noted kind (element .0) at size (place .0) ∷ []) (now (numbers .exit)) (now (bytes .exit)) ×
+        PutsOver (now (numbers .entry)) (now (bytes .entry)) n (noted kind (element .0) at size (place .0)) (now (numbers .exit)) (now (bytes .exit)) ⌝ }
 {
     let e = element.0 as u32;
     let i = at as u32;

@@ -1,4 +1,4 @@
 -- The printed text by the numbers of the buffers, and laws that the functions which put it go by.
-pub mod Means
-pub mod Laws
+pub mod TextOf
+pub mod LineByLine
 mod Examples

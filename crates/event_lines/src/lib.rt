@@ -9,9 +9,9 @@ ghost use mathlib.Core.Path.{_≡_};
 ghost use Prim.Native.Nat.{_+_, _*_, _≤_, _<_};
 ghost use lib.ListN.{length, take};
 ghost use Rattle.rules.specs.Printed.{refusedText};
-ghost use Rattle.line_text.specs.Means.{Adds};
-ghost use Rattle.event_names.specs.Means.{Fits, FitsAttributes};
-ghost use Rattle.event_lines.specs.Means.{lineAt, linesFrom, textOf};
+ghost use Rattle.line_text.specs.Adds.{Adds};
+ghost use Rattle.event_names.specs.Names.{Fits, FitsAttributes};
+ghost use Rattle.event_lines.specs.TextOf.{lineAt, linesFrom, textOf};
 
 // The line of the event k of n.
 fn put_event(

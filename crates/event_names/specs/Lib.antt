@@ -1,3 +1,3 @@
 -- The names of events by the numbers of the buffers, and laws that the functions which put them go by.
-pub mod Means
-pub mod Laws
+pub mod Names
+pub mod Naming

@@ -12,8 +12,8 @@ ghost use Prim.Native.Nat.{_+_, _-_, _≤_, _<_};
 ghost use lib.ListN.{length};
 ghost use lib.Dec.{eqb};
 ghost use Rattle.rules.specs.Printed.{word};
-ghost use Rattle.line_text.specs.Means.{Adds};
-ghost use Rattle.event_names.specs.Means.{Fits, FitsAttributes, nameIn, startsAt, recordOf, attributeIn, namedAt};
+ghost use Rattle.line_text.specs.Adds.{Adds};
+ghost use Rattle.event_names.specs.Names.{Fits, FitsAttributes, nameIn, startsAt, recordOf, attributeIn, namedAt};
 
 // The name of the element with the number x, `-` for 0, and a space after it.
 fn put_name(out: &mut [u8], at: usize, s: &[u8], elements: &[u32; RECORDS], x: u32) -> usize

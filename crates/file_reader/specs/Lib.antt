@@ -1,3 +1,3 @@
 -- How much of a file was read, and laws of it.
-pub mod Means
-pub mod Laws
+pub mod Loaded
+pub mod Loading

@@ -1,5 +1,5 @@
 // A file read into a buffer, as far as it fits.
-ghost use Rattle.file_reader.specs.Means.{GivenIn, LoadedIn};
+ghost use Rattle.file_reader.specs.Loaded.{GivenIn, LoadedIn};
 
 // How many bytes one read gave.
 enum Given {

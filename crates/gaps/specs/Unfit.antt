@@ -7,8 +7,8 @@ use lib.ListN.{length}
 use lib.Dec.{eqb, leb}
 use Rattle.rules.specs.Bytes.{byteAt}
 use Rattle.rules.specs.TypeFile.{unfit}
-use Rattle.text.specs.Means.{refusalOf}
-use Rattle.text.specs.Laws.{cut-or}
+use Rattle.text.specs.Refusal.{refusalOf}
+use Rattle.text.specs.Words.{cut-or}
 use Rattle.text.specs.declared.Fault.{Fault}
 
 abbrev pub unfitAt : List ℕ → ℕ → Fault

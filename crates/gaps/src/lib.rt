@@ -6,8 +6,8 @@ ghost use mathlib.Core.Bool.{true};
 ghost use Prim.Native.Nat.{_+_, _≤_, _<_};
 ghost use lib.ListN.{length, drop};
 ghost use Rattle.rules.specs.TypeFile.{atDashes, beforeDashes, commentDeclaration, gap};
-ghost use Rattle.text.specs.Means.{reached};
-ghost use Rattle.text.specs.Laws.{gapOn, behindDash};
+ghost use Rattle.text.specs.Refusal.{reached};
+ghost use Rattle.text.specs.Words.{gapOn, behindDash};
 ghost use Rattle.gaps.specs.Unfit.{unfitAt};
 
 // Whether `--` stands at a position.

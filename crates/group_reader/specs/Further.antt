@@ -7,7 +7,7 @@ use lib.Dec.{eqb, leb}
 use borrow.Author.Tests.{eq-eqb, ne-eqb, le-leb, lt-leb}
 use Rattle.rules.specs.Reading.{Reading, refused, got}
 use Rattle.rules.specs.TypeFile.{Further, closed, joined}
-use Rattle.model_code.specs.Means.{putCode, codeNext}
+use Rattle.model_code.specs.Six.{putCode, codeNext}
 use Rattle.group_reader.specs.declared.Next.{Next}
 use Rattle.group_reader.specs.declared.Next.the-variants.{Closed, Joined, Unfit}
 use Rattle.connectors.specs.Kept.{Begun, begun, Keeps}

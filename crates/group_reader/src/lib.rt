@@ -9,7 +9,6 @@ ghost use mathlib.Core.Bool.{false};
 ghost use mathlib.Core.List.{List};
 ghost use Prim.Native.Nat.{ℕ, _+_, _*_, _≤_, _<_};
 ghost use lib.ListN.{length};
-ghost use Rattle.rules.specs.Settings.{settings};
 ghost use Rattle.rules.specs.TypeFile.{Tokens, token, further, group};
 ghost use Rattle.model_names.specs.Places.{placesOf};
 ghost use Rattle.connectors.specs.Kept.{begun, Keeps};
@@ -52,7 +51,7 @@ fn token_at(
     requires { ⌜ (at ≤ length (now s)) × (length (now s) ≤ 32768) ⌝ }
     requires { ⌜ (places ≤ tokens) × (full ≡ false → tokens < 96) ⌝ }
     ensures { λ r. ⌜ Meets (length (now (s .entry))) (begun (places + 1) (now (table .entry)) code (4 * tokens + 3)) (now (names .exit)) (now (table .exit)) r
-        (token (settings long) (group (settings long) levels (now (s .entry))) (now (s .entry)) at full (placesOf (now (names .entry)) places) tokens) ⌝ }
+        (token long (group long levels (now (s .entry))) (now (s .entry)) at full (placesOf (now (names .entry)) places) tokens) ⌝ }
 {
     let b = text::byte(s, at);
     if text::is_letter(b) {
@@ -93,7 +92,7 @@ fn next_at(
     requires { ⌜ (m .places ≤ m .tokens) × (m .tokens ≤ 96) ⌝ }
     ensures { λ r. ⌜ ((T : List ℕ) (n d : ℕ) (t : Tokens) → Keeps (length (now (s .entry))) (begun lo T n (d + 1)) k c (now (names .entry)) (now (table .entry)) m t →
         MeetsFurther (length (now (s .entry))) (begun lo T n d) k (now (names .exit)) (now (table .exit)) r
-        (further (settings long) (group (settings long) levels (now (s .entry))) (now (s .entry)) k c t)) ⌝ }
+        (further long (group long levels (now (s .entry))) (now (s .entry)) k c t)) ⌝ }
 {
     let i = text::separators_end(s, m.at);
     let b = text::byte(s, i);
@@ -143,7 +142,7 @@ pub fn group_at(
     requires { ⌜ (at < length (now s)) × (length (now s) ≤ 32768) ⌝ }
     requires { ⌜ (places ≤ tokens) × (tokens ≤ 96) ⌝ }
     ensures { λ r. ⌜ Meets (length (now (s .entry))) (begun (places + 1) (now (table .entry)) code (4 * tokens + 2)) (now (names .exit)) (now (table .exit)) r
-        (group (settings long) levels (now (s .entry)) at (placesOf (now (names .entry)) places) tokens) ⌝ }
+        (group long levels (now (s .entry)) at (placesOf (now (names .entry)) places) tokens) ⌝ }
 {
     if levels == 0 {
         return content_tokens::refusal(6, at);

@@ -14,16 +14,16 @@ use Rattle.rules.specs.Settling as rules
 use Rattle.rules_laws.specs.BeforeStarts.{plain-none, plain-then, plain-end-inferred}
 use Rattle.document_laws.specs.Decide.{decided}
 use Rattle.document_laws.specs.Moves.{state}
-use Rattle.type_tables.specs.Means.{nameNumber, Declares, Tables}
+use Rattle.type_tables.specs.Tables.{nameNumber, Declares, Tables}
 use Rattle.open_elements.specs.declared.Open.{Open}
-use Rattle.open_elements.specs.Means.{ended, Ranged, Stands}
-use Rattle.open_elements.specs.Laws.{stands-required, stands-around, ranged-ended}
-use Rattle.event_buffer.specs.Means.{Puts}
-use Rattle.event_buffer.specs.Laws.{puts-none, puts-then}
+use Rattle.open_elements.specs.Stands.{ended, Ranged, Stands}
+use Rattle.open_elements.specs.Methods.{stands-required, stands-around, ranged-ended}
+use Rattle.event_buffer.specs.Buffers.{Puts}
+use Rattle.event_buffer.specs.EventByEvent.{puts-none, puts-then}
 use Rattle.ways.specs.declared.Way.{Way}
 use Rattle.ways.specs.declared.Way.the-variants.{Stuck}
-use Rattle.ways.specs.Means.{wayOf, chained, mayEnd, MayEnd}
-use Rattle.inferring.specs.Inferring.{none, more, Comes, Turns, Finds}
+use Rattle.ways.specs.Asks.{wayOf, chained, mayEnd, MayEnd}
+use Rattle.inferring.specs.Inferring.{none, more, no-end, one-end, Comes, Turns, Finds}
 use Rattle.inferring.specs.Inward.{inwardAs, inward-way}
 
 -- Steps 3 and 4, by whatever decisions
@@ -93,6 +93,7 @@ module _ (rows places facts M begun : List ℕ) (x at n : ℕ) where
   turns-start o numbers bytes h =
       record {
         events = [];
+        are = no-end;
         puts = puts-none numbers bytes n;
         counted = omega arith;
         plain = plain-none;
@@ -110,6 +111,7 @@ module _ (rows places facts M begun : List ℕ) (x at n : ℕ) where
       subst (λ (u : Open). Turns rows places facts M begun x at n o₀ numbers₀ bytes₀ u q numbers′ bytes′) (sym i)
       record {
         events = h .events ++ endInferred (o .element .0) at ∷ [];
+        are = one-end (o .element .0) (h .are);
         puts = puts-then (h .puts) (h .counted) puts;
         counted = simp length-append (omega (arith, h .counted));
         plain = plain-then (h .plain) (plain-end-inferred (o .element .0) at);

@@ -12,13 +12,13 @@ use Rattle.rules.specs.Settling as rules
 use Rattle.rules_laws.specs.BeforeStarts.{Plain}
 use Rattle.document_laws.specs.Decide.{decided}
 use Rattle.document_laws.specs.Moves.{state, fresh}
-use Rattle.type_tables.specs.Means.{nameNumber, Declares, Tables, Entered}
+use Rattle.type_tables.specs.Tables.{nameNumber, Declares, Tables, Entered}
 use Rattle.open_elements.specs.declared.Open.{Open}
-use Rattle.open_elements.specs.Means.{Ranged, Stands, Starting}
-use Rattle.event_buffer.specs.Means.{Puts}
+use Rattle.open_elements.specs.Stands.{Ranged, Stands, Starting}
+use Rattle.event_buffer.specs.Buffers.{Puts}
 use Rattle.ways.specs.declared.Way.{Way}
 use Rattle.ways.specs.declared.Way.the-variants.{Stuck}
-use Rattle.ways.specs.Means.{wayOf, chained, startsOf, fitOf, mayEnd, MayEnd}
+use Rattle.ways.specs.Asks.{wayOf, chained, startsOf, fitOf, mayEnd, MayEnd}
 use Rattle.inferring.specs.declared.Stop.{Stop}
 
 -- Ends
@@ -28,6 +28,11 @@ pub data EndsTo (s : List ℕ) (es : List Element) (at : ℕ) (z₀ : State) : S
   none : EndsTo s es at z₀ z₀
   more : {z : State} {u : rules.Open} {us : List rules.Open} → EndsTo s es at z₀ z → z .around ≡ u ∷ us → mayEnd s es (decided s es) (z .current) (z .around) ≡ true
       → EndsTo s es at z₀ (state u us (z .events ++ endInferred (z .current .number) at ∷ []))
+
+-- The events of ends that are inferred at `at`, one after another.
+pub data EndsAt (at : ℕ) : List Event → Type 0 where
+  no-end : EndsAt at []
+  one-end : (k : ℕ) {ev : List Event} → EndsAt at ev → EndsAt at (ev ++ endInferred k at ∷ [])
 
 -- The open elements have come to stand for a state from which the same is settled as from z₀: ends alone were inferred between, with these events.
 pub record Comes (s : List ℕ) (es : List Element) (M begun : List ℕ) (t : Token) (at : ℕ) (o : Open) (events : List Event) (z₀ : State) : Type 0 where
@@ -40,6 +45,7 @@ pub record Comes (s : List ℕ) (es : List Element) (M begun : List ℕ) (t : To
 -- So it is for every type whose tables these are, and the token whose name is x. An end was inferred for each event.
 pub record Turns (rows places facts M begun : List ℕ) (x at n : ℕ) (o₀ : Open) (numbers₀ bytes₀ : List ℕ) (o : Open) (m : ℕ) (numbers bytes : List ℕ) : Type 0 where
   pub events : List Event
+  pub are : EndsAt at events
   pub puts : Puts numbers₀ bytes₀ n events numbers bytes
   pub counted : m ≡ n + length events
   pub plain : Plain events
@@ -62,6 +68,11 @@ pub record Stops (rows places facts M begun : List ℕ) (x at n : ℕ) (o₀ : O
   pub stays : r .found ≡ Stuck → MayEnd facts (r .open) false
 
 -- Starts
+
+-- The events of starts that are inferred at `at`, one after another.
+pub data StartsAt (at : ℕ) : List Event → Type 0 where
+  no-start : StartsAt at []
+  one-start : (k place : ℕ) {ev : List Event} → StartsAt at ev → StartsAt at (ev ++ startInferred k at place ∷ [])
 
 module _ (s : List ℕ) (es : List Element) (D : Decisions) where
   -- The start of the element that the current one requires is inferred.

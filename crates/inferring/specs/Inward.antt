@@ -16,7 +16,7 @@ use Rattle.layout.specs.Typed.{placeNo}
 use Rattle.document_laws.specs.Chain.{chain-leads}
 use Rattle.ways.specs.declared.Way.{Way}
 use Rattle.ways.specs.declared.Way.the-variants.{Taken, Inferred, Stuck}
-use Rattle.ways.specs.Means.{wayOf, chained}
+use Rattle.ways.specs.Asks.{wayOf, chained}
 use Rattle.inferring.specs.Inferring.{inferMany, Infers}
 use Rattle.inferring.specs.Starts.{chain-infers, chain-starts}
 

@@ -5,7 +5,6 @@ use mathlib.Core.List.{List, [], _∷_, _++_, append-assoc, append-nil}
 use native.Mathlib.Omega.{arith}
 use lib.ListN.{length, length-append}
 use borrow.Author.Tests.{le-leb, leb-true}
-use Rattle.rules.specs.Settings.{Settings}
 use Rattle.rules.specs.TypeFile.{Element}
 use Rattle.rules.specs.Elements.{elementAt}
 use Rattle.rules.specs.Given.{attributeEvents, withAttributes}
@@ -17,16 +16,16 @@ use Rattle.rules_laws.specs.BeforeStarts.{with-append, with-start-inferred, pla
 use Rattle.document_laws.specs.Decide.{decided}
 use Rattle.document_laws.specs.Chain.{Leads, inferable-may}
 use Rattle.document_laws.specs.Moves.{fresh, placeTaken-took}
-use Rattle.type_tables.specs.Means.{Tables, CanTake}
+use Rattle.type_tables.specs.Tables.{Tables, CanTake}
 use Rattle.open_elements.specs.declared.Open.{Open}
-use Rattle.open_elements.specs.Means.{Ranged, Stands}
+use Rattle.open_elements.specs.Stands.{Ranged, Stands}
 use Rattle.open_elements.specs.Taken.{can-require}
-use Rattle.open_elements.specs.Laws.{stands-required, stands-noted, stands-opening, ranged-taking, ranged-opening}
-use Rattle.event_buffer.specs.Means.{Puts}
-use Rattle.event_buffer.specs.Laws.{puts-none, puts-then}
-use Rattle.list_table.specs.Means.{Lists}
-use Rattle.attribute_events.specs.Means.{PutsDefaults}
-use Rattle.inferring.specs.Inferring.{inferOne, inferMany, Infers, InfersOn, Chooses, InfersStart}
+use Rattle.open_elements.specs.Methods.{stands-required, stands-noted, stands-opening, ranged-taking, ranged-opening}
+use Rattle.event_buffer.specs.Buffers.{Puts}
+use Rattle.event_buffer.specs.EventByEvent.{puts-none, puts-then}
+use Rattle.list_table.specs.Lists.{Lists}
+use Rattle.attribute_events.specs.PutBefore.{PutsDefaults}
+use Rattle.inferring.specs.Inferring.{StartsAt, no-start, one-start, inferOne, inferMany, Infers, InfersOn, Chooses, InfersStart}
 
 -- By whatever decisions
 module _ (s : List ℕ) (es : List Element) (D : Decisions) where
@@ -104,6 +103,7 @@ module _ {rows places facts M before : List ℕ} {at n : ℕ} {o : Open} {number
 pub record Along (rows places facts M lists : List ℕ) (at m₀ starts k : ℕ) (o₀ : Open) (begun₀ numbers₀ bytes₀ : List ℕ) (m : ℕ) (o : Open) (begun numbers bytes : List ℕ) : Type 0 where
   pub most : k ≤ starts
   pub events : List Event
+  pub are : StartsAt at events
   pub written : List Event
   pub puts : Puts numbers₀ bytes₀ m₀ written numbers bytes
   pub counted : m ≡ m₀ + length written
@@ -115,7 +115,7 @@ pub record Along (rows places facts M lists : List ℕ) (at m₀ starts k : ℕ)
   pub along : (s : List ℕ) (es : List Element) → Tables s es rows places facts M → (z : State) → Stands es M begun₀ o₀ z → (t : Token) → Infers s es (decided s es) t starts (z .current)
       → InfersOn s es M begun t at (starts - k) o events starts z
   pub adds : (s : List ℕ) (es : List Element) → Tables s es rows places facts M → (z : State) → Stands es M begun₀ o₀ z → (t : Token) → Infers s es (decided s es) t starts (z .current)
-      → (c : Settings) (d : List ℕ) → Lists c s es lists → written ≡ withAttributes c s es d events
+      → (long : ℕ) (d : List ℕ) → Lists long s es lists → written ≡ withAttributes long s es d events
 
 module _ (rows places facts M lists : List ℕ) (at m₀ starts : ℕ) where
   pub along-start : (o : Open) (begun numbers bytes : List ℕ) → Ranged o → Along rows places facts M lists at m₀ starts 0 o begun numbers bytes m₀ o begun numbers bytes
@@ -124,6 +124,7 @@ module _ (rows places facts M lists : List ℕ) (at m₀ starts : ℕ) where
       record {
         most = omega arith;
         events = [];
+        are = no-start;
         written = [];
         puts = puts-none numbers bytes m₀;
         counted = omega arith;
@@ -133,7 +134,7 @@ module _ (rows places facts M lists : List ℕ) (at m₀ starts : ℕ) where
         ranged = h;
         still = λ e. refl;
         along = λ s es tables z stands t infers. rw left record { there = z; stands = stands; infers = infers; noted = rw append-nil; same = refl };
-        adds = λ s es tables z stands t infers c d lists. sym (plain-none .plain c s es d);
+        adds = λ s es tables z stands t infers long d lists. sym (plain-none .plain long s es d);
       }
 
   module _ {k : ℕ} {o₀ : Open} {begun₀ numbers₀ bytes₀ : List ℕ} {m : ℕ} {o : Open} {begun numbers bytes : List ℕ} (h : Along rows places facts M lists at m₀ starts k o₀ begun₀ numbers₀ bytes₀ m o begun numbers bytes) where
@@ -153,14 +154,14 @@ module _ (rows places facts M lists : List ℕ) (at m₀ starts : ℕ) where
       same-element s es tables y stands = chooses s es rows M begun tables y stands ∙ sym (i .chosen s es tables y stands)
 
       defaults : (s : List ℕ) (es : List Element) → Tables s es rows places facts M → (y : State) → Stands es M begun o y → 1 ≤ inferable s es (decided s es) (y .current)
-          → (c : Settings) (d : List ℕ) → Lists c s es lists → before .events ++ started i less ∷ [] ≡ withAttributes c s es d (started i less ∷ [])
-      defaults s es tables y stands some c d l =
+          → (long : ℕ) (d : List ℕ) → Lists long s es lists → before .events ++ started i less ∷ [] ≡ withAttributes long s es d (started i less ∷ [])
+      defaults s es tables y stands some long d l =
           let same = same-element s es tables y stands in
           let chosen = i .chosen s es tables y stands in
           let may = inferable-may s es (decided s es) (y .current) (le-leb 1 _ some) in
-          let are = before .are c s d (elementAt es (e - 1) .attributes) (omega (arith, same, chosen)) (l (e - 1) (omega (arith, same, chosen, may .declared))) in
+          let are = before .are long s d (elementAt es (e - 1) .attributes) (omega (arith, same, chosen)) (l (e - 1) (omega (arith, same, chosen, may .declared))) in
           ap (λ (ev : List Event). ev ++ started i less ∷ []) (are ∙ ap (λ (j : ℕ). attributeEvents 1 s (elementAt es (j - 1) .attributes) d []) same)
-          ∙ sym (with-start-inferred c s es d (i .k) at (shown (o .element .0) (o .required .0)))
+          ∙ sym (with-start-inferred long s es d (i .k) at (shown (o .element .0) (o .required .0)))
 
       pub along-next : Along rows places facts M lists at m₀ starts (k + 1) o₀ begun₀ numbers₀ bytes₀ (m₁ + 1) r begun′ numbers′ bytes′
       along-next =
@@ -168,6 +169,7 @@ module _ (rows places facts M lists : List ℕ) (at m₀ starts : ℕ) where
           record {
             most = omega arith;
             events = h .events ++ started i less ∷ [];
+            are = one-start (i .k) (shown (o .element .0) (o .required .0)) (h .are);
             written = h .written ++ (before .events ++ started i less ∷ []);
             puts = puts-then (h .puts) (h .counted) put;
             counted = simp length-append (omega (arith, h .counted, before .few .counted));
@@ -186,10 +188,10 @@ module _ (rows places facts M lists : List ℕ) (at m₀ starts : ℕ) where
                   noted = start-noted i less tables (b .stands) some ∙ ap (λ (ev : List Event). ev ++ started i less ∷ []) (b .noted) ∙ append-assoc (z .events) (h .events) (started i less ∷ []);
                   same = b .same;
                 };
-            adds = λ s es tables z stands t infers c d lists.
+            adds = λ s es tables z stands t infers long d lists.
                 let b = here s es tables z stands t infers in
-                ap₂ (λ (u v : List Event). u ++ v) (h .adds s es tables z stands t infers c d lists) (defaults s es tables (b .there) (b .stands) (b .infers .0) c d lists)
-                ∙ sym (with-append c s es d (h .events) (started i less ∷ []));
+                ap₂ (λ (u v : List Event). u ++ v) (h .adds s es tables z stands t infers long d lists) (defaults s es tables (b .there) (b .stands) (b .infers .0) long d lists)
+                ∙ sym (with-append long s es d (h .events) (started i less ∷ []));
           }
 
     pub along-all : starts ≤ k → (s : List ℕ) (es : List Element) → Tables s es rows places facts M → (z : State) → Stands es M begun₀ o₀ z → (t : Token) → Infers s es (decided s es) t starts (z .current)

@@ -13,7 +13,7 @@ use layout::ROWS;
 use open_elements::Open;
 use ways::Way;
 ghost use Prim.Native.Nat.{_+_, _≤_, _<_};
-ghost use Rattle.open_elements.specs.Means.{Ranged};
+ghost use Rattle.open_elements.specs.Stands.{Ranged};
 ghost use Rattle.inferring.specs.Inferring.{Stops, Chooses, InfersStart};
 
 // Where no more ends are inferred: the state come to, what its current element has to say to the token, and how many events there

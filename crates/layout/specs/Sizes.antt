@@ -55,18 +55,22 @@ FACT = CONTENTS + 3
 abbrev pub FACTS : ℕ
 FACTS = CONTENTS * FACT
 
--- The members of "&" groups: of each content a number for each position and two for each member, and four for each group.
+-- The members of "&" groups: of each content a number for each position and two for each member, four for each group, and behind these one for each group.
+-- Behind the last content is room for two.
 abbrev pub GROUP : ℕ
 GROUP = 4
 
 abbrev pub AND-GROUPS : ℕ
 AND-GROUPS = 48
 
+abbrev pub RUNS : ℕ
+RUNS = 3 * POSITIONS + GROUP * (AND-GROUPS + 1)
+
 abbrev pub MEMBER : ℕ
-MEMBER = 3 * POSITIONS + GROUP * (AND-GROUPS + 1)
+MEMBER = RUNS + AND-GROUPS + 1
 
 abbrev pub MEMBERS : ℕ
-MEMBERS = CONTENTS * MEMBER
+MEMBERS = (CONTENTS + 2) * MEMBER
 
 -- Which members have begun: of the document and of each of the 24 open elements 96 bits, three numbers; and one number more.
 abbrev pub BEGUN-WORDS : ℕ

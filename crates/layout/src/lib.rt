@@ -58,15 +58,17 @@ pub const FACT: usize = CONTENTS + 3;
 
 pub const FACTS: usize = CONTENTS * FACT;
 
-// The members of "&" groups: of each content a number for each position and two for each member, and four for each group; members and groups count
-// from 1.
+// The members of "&" groups: of each content a number for each position and two for each member, four for each group, and behind these one for each group;
+// members and groups count from 1. Behind the last content is room for two, so that a number which is no group's is read within the table.
 pub const GROUP: usize = 4;
 
 pub const AND_GROUPS: usize = GRPGTCNT / 2;
 
-pub const MEMBER: usize = 3 * POSITIONS + GROUP * (AND_GROUPS + 1);
+pub const RUNS: usize = 3 * POSITIONS + GROUP * (AND_GROUPS + 1);
 
-pub const MEMBERS: usize = CONTENTS * MEMBER;
+pub const MEMBER: usize = RUNS + AND_GROUPS + 1;
+
+pub const MEMBERS: usize = (CONTENTS + 2) * MEMBER;
 
 // Which members have begun: of the document and of each of the 24 open elements 96 bits, three numbers; and one number more.
 pub const BEGUN_WORDS: usize = 3;

@@ -15,15 +15,15 @@ use Rattle.rules.specs.Settling as rules
 use Rattle.rules_laws.specs.BeforeStarts.{Plain, plain-none, plain-then, plain-end-inferred}
 use Rattle.document_laws.specs.Decide.{isCompleteIn, decided}
 use Rattle.document_laws.specs.Moves.{state}
-use Rattle.type_tables.specs.Means.{Declares, Facts}
-use Rattle.event_buffer.specs.Means.{noted, Puts}
-use Rattle.event_buffer.specs.Laws.{puts-none, puts-then}
+use Rattle.type_tables.specs.Tables.{Declares, Facts}
+use Rattle.event_buffer.specs.Buffers.{noted, Puts}
+use Rattle.event_buffer.specs.EventByEvent.{puts-none, puts-then}
 use Rattle.open_elements.specs.declared.Entry.{Entry}
 use Rattle.open_elements.specs.declared.Open.{Open}
 use Rattle.open_elements.specs.declared.Outcome.{Outcome}
-use Rattle.open_elements.specs.Means.{none, ended, Ranged, Kept, AllKept, Stands}
+use Rattle.open_elements.specs.Stands.{none, ended, Ranged, Kept, AllKept, Stands}
 use Rattle.open_elements.specs.Becomes.{StandsWith, becomes-refused, becomes-got}
-use Rattle.open_elements.specs.Laws.{stands-element, stands-around, stands-alone, ranged-ended}
+use Rattle.open_elements.specs.Methods.{stands-element, stands-around, stands-alone, ranged-ended}
 use Rattle.left_out_ends.specs.Until.{inferEnds, dueOf, Judges, Brings, Until}
 use Rattle.left_out_ends.specs.Ends.{inferredFrom, Numbered, left-incomplete, left-required, left-out, ends-here, ends-none, ends-past}
 

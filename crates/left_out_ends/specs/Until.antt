@@ -13,11 +13,11 @@ use Rattle.rules.specs.Settling.{State, endLeftOut}
 use Rattle.rules.specs.Settling as rules
 use Rattle.rules_laws.specs.BeforeStarts.{Plain}
 use Rattle.document_laws.specs.Decide.{decided}
-use Rattle.type_tables.specs.Means.{Facts}
-use Rattle.event_buffer.specs.Means.{Puts}
+use Rattle.type_tables.specs.Tables.{Facts}
+use Rattle.event_buffer.specs.Buffers.{Puts}
 use Rattle.open_elements.specs.declared.Open.{Open}
 use Rattle.open_elements.specs.declared.Outcome.{Outcome}
-use Rattle.open_elements.specs.Means.{Becomes, Ranged, Stands}
+use Rattle.open_elements.specs.Stands.{Becomes, Ranged, Stands}
 
 -- Ends are inferred until the current element is x, or nothing is around it: what an end tag and the document's end have in common.
 unfoldable pub inferEnds : List ℕ → List Element → Decisions → (x at : ℕ) → List rules.Open → rules.Open → List Event → Reading State

@@ -10,7 +10,7 @@ use layout::Place;
 use open_elements::Open;
 use open_elements::Outcome;
 ghost use Prim.Native.Nat.{_+_, _<_};
-ghost use Rattle.open_elements.specs.Means.{Ranged};
+ghost use Rattle.open_elements.specs.Stands.{Ranged};
 ghost use Rattle.left_out_ends.specs.Until.{Judges, Until};
 
 // Why the current element cannot have its end inferred by an end tag or the document's end: 13, 14, or 0 if it can.

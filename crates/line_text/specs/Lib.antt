@@ -1,3 +1,3 @@
 -- What is put into a buffer, and laws that the functions which put words there go by.
-pub mod Means
-pub mod Laws
+pub mod Adds
+pub mod Words

@@ -5,7 +5,7 @@ ghost use mathlib.Core.List.{[], _∷_};
 ghost use Prim.Native.Nat.{_+_, _≤_, _<_};
 ghost use lib.ListN.{length};
 ghost use Rattle.rules.specs.Printed.{decimal, word, upper};
-ghost use Rattle.line_text.specs.Means.{Adds};
+ghost use Rattle.line_text.specs.Adds.{Adds};
 
 // The array has as many bytes as its type says; no code is left of a call.
 fn whole(digits: [u8; 20])

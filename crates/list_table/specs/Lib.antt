@@ -1,3 +1,3 @@
 -- The attribute lists of a type as the table holds them, and what the loops over them find.
-pub mod Means
-pub mod Laws
+pub mod Lists
+pub mod Finds

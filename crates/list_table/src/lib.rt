@@ -12,9 +12,8 @@ ghost use mathlib.Core.Path.{_≡_};
 ghost use mathlib.Core.List.{List, [], _∷_, _++_};
 ghost use Prim.Native.Nat.{ℕ, _+_, _*_, _-_, _≤_, _<_};
 ghost use lib.ListN.{length, getD};
-ghost use Rattle.rules.specs.Settings.{Settings};
 ghost use Rattle.rules.specs.Attributes.{Attribute, attributeAt, attributeOf, needsTag};
-ghost use Rattle.list_table.specs.Means.{rowIn, Short, RowOf, isNamed, ListAt, Copied};
+ghost use Rattle.list_table.specs.Lists.{rowIn, Short, RowOf, isNamed, ListAt, Copied};
 
 // What is kept of an attribute.
 pub struct Row {
@@ -52,7 +51,7 @@ fn row_at(lists: &[u16], i: usize) -> Row
 // How many attributes the element e has, at most 40; data, for which e is 0, has none.
 pub fn count(lists: &[u16], e: ElementNo) -> usize
     requires { ⌜ e .0 ≤ 64 ⌝ }
-    ensures { λ r. ⌜ ((c : Settings) (s : List ℕ) (xs : List Attribute) → 1 ≤ e .0 → ListAt c s (now (lists .entry)) (201 * (e .0 - 1)) xs → r ≡ length xs) × (r ≤ 40) × (e .0 ≡ 0 → r ≡ 0) ⌝ }
+    ensures { λ r. ⌜ ((long : ℕ) (s : List ℕ) (xs : List Attribute) → 1 ≤ e .0 → ListAt long s (now (lists .entry)) (201 * (e .0 - 1)) xs → r ≡ length xs) × (r ≤ 40) × (e .0 ≡ 0 → r ≡ 0) ⌝ }
 {
     if e.0 == 0 {
         return 0;
@@ -80,7 +79,7 @@ fn whole(list: [u16; LIST])
 // The attribute k of a list by itself, from 0, which had k before.
 pub fn put_attribute(list: &mut [u16; LIST], k: usize, r: Row)
     requires { ⌜ (k < 40) × Short r ⌝ }
-    ensures { λ _. ⌜ ((c : Settings) (s : List ℕ) (xs : List Attribute) (x : Attribute) → length xs ≡ k → ListAt c s (now (list .entry)) 0 xs → RowOf c s r x → ListAt c s (now (list .exit)) 0 (xs ++ x ∷ [])) ⌝ }
+    ensures { λ _. ⌜ ((long : ℕ) (s : List ℕ) (xs : List Attribute) (x : Attribute) → length xs ≡ k → ListAt long s (now (list .entry)) 0 xs → RowOf long s r x → ListAt long s (now (list .exit)) 0 (xs ++ x ∷ [])) ⌝ }
 {
     whole(*list);
     let i = 1 + ATTRIBUTE * k;
@@ -111,7 +110,7 @@ pub fn put_list(lists: &mut [u16], k: usize, list: &[u16; LIST])
 // Whether one of the element's attributes is required: its start tag is never inferred.
 pub fn needs_tag(lists: &[u16], e: ElementNo) -> bool
     requires { ⌜ (1 ≤ e .0) × (e .0 ≤ 64) ⌝ }
-    ensures { λ r. ⌜ ((c : Settings) (s : List ℕ) (xs : List Attribute) → ListAt c s (now (lists .entry)) (201 * (e .0 - 1)) xs → r ≡ needsTag xs) ⌝ }
+    ensures { λ r. ⌜ ((long : ℕ) (s : List ℕ) (xs : List Attribute) → ListAt long s (now (lists .entry)) (201 * (e .0 - 1)) xs → r ≡ needsTag xs) ⌝ }
 {
     let n = count(lists, e);
     let mut k = 0;
@@ -141,7 +140,7 @@ fn is_named(s: &[u8], r: Row, t: &[u8], at: usize, size: usize) -> bool
 // The number of the attribute of the element e that has the name of this size at `at` in the text t, from 1; 0 if none has.
 pub fn find(s: &[u8], lists: &[u16], e: ElementNo, t: &[u8], at: usize, size: usize) -> usize
     requires { ⌜ (1 ≤ e .0) × (e .0 ≤ 64) × (at + size ≤ length (now t)) × (length (now t) < 4294967296) ⌝ }
-    ensures { λ r. ⌜ ((c : Settings) (xs : List Attribute) → ListAt c (now (s .entry)) (now (lists .entry)) (201 * (e .0 - 1)) xs → r ≡ attributeOf (now (s .entry)) xs (now (t .entry)) at size) × (r ≤ 40) ⌝ }
+    ensures { λ r. ⌜ ((long : ℕ) (xs : List Attribute) → ListAt long (now (s .entry)) (now (lists .entry)) (201 * (e .0 - 1)) xs → r ≡ attributeOf (now (s .entry)) xs (now (t .entry)) at size) × (r ≤ 40) ⌝ }
 {
     let n = count(lists, e);
     let mut k = 0;

@@ -1,2 +1,2 @@
 -- How the scan of a literal ends.
-pub mod Laws
+pub mod Ways

@@ -7,7 +7,7 @@ ghost use Prim.Native.Nat.{_≤_, _<_};
 ghost use lib.ListN.{length};
 ghost use Rattle.rules.specs.Bytes.{byteAt};
 ghost use Rattle.rules.specs.Attributes.{quote, literalEnd};
-ghost use Rattle.text.specs.Means.{reached};
+ghost use Rattle.text.specs.Refusal.{reached};
 
 pub fn is_quote(b: u8) -> bool
     ensures { λ r. ⌜ r ≡ quote b ⌝ }

@@ -3,12 +3,13 @@
 use Prim.Native.Nat.{ℕ, _+_, _-_, _*_, _/_, _%_, _^_, _≤_, _<_}
 use mathlib.Core.Path.{_≡_}
 use mathlib.Core.Bool.{Bool, true, _&&_, cond}
+use mathlib.Core.Logic.{_⊎_}
 use mathlib.Core.List.{List, [], _∷_}
-use lib.ListN.{getD}
+use lib.ListN.{length, getD}
 use lib.Dec.{eqb}
 use Rattle.rules.specs.Bytes.{GRPCNT}
 use Rattle.rules.specs.Walk.{Group, place, seq, alt, opt, plus, and, Members, one, also}
-use Rattle.layout.specs.Sizes.{POSITIONS, AND-GROUPS, GROUP, MEMBER, BEGUN-WORDS}
+use Rattle.layout.specs.Sizes.{POSITIONS, AND-GROUPS, GROUP, RUNS, MEMBER, MEMBERS, BEGUN-WORDS}
 use Rattle.model_sets.specs.Sets.{has, nullable, lastM, must}
 use Rattle.and_laws.specs.Base.{mem}
 use Rattle.and_laws.specs.Sets.{meets}
@@ -103,6 +104,30 @@ module _ (M : List ℕ) (e : ℕ) where
   abbrev pub outerAt : ℕ → ℕ
   outerAt n = getD M (recordAt n + 3) 0
 
+  -- How far the walks outwards from the group n go at once: 16 times the groups that are entered, and those that are passed.
+  abbrev pub runAt : ℕ → ℕ
+  runAt n = getD M (e * MEMBER + RUNS + n) 0
+
+  -- The innermost member that holds the group n is one of the group n + 1.
+  pub record Next (n : ℕ) : Type 0 where
+    pub within : n < AND-GROUPS
+    pub some : 1 ≤ outerAt n % 128
+    pub group : groupAt (outerAt n % 128) ≡ n + 1
+
+  -- It can end with the group n, and no other member of the group n + 1 must come: this group lacks nothing once that member has begun.
+  pub record Passed (n : ℕ) : Type 0 where
+    pub next : Next n
+    pub ends : 128 < outerAt n
+    pub others : (neededAt (n + 1) ≡ 0) ⊎ ((neededAt (n + 1) ≡ 1) × (firstAt (n + 1) ≡ outerAt n % 128))
+
+  -- From the group n the walks may go so far.
+  pub record Runs (n far : ℕ) : Type 0 where
+    pub enters : (k : ℕ) → k < far / 16 → Next (n + k)
+    pub passes : (k : ℕ) → k < far % 16 → Passed (n + k)
+
+  abbrev pub AllRuns : Type 0
+  AllRuns = (n : ℕ) → n ≤ AND-GROUPS → Runs n (runAt n)
+
   -- What is kept of a group and of its members.
   pub record Grouped (l : Level) : Type 0 where
     pub within : l .number ≤ AND-GROUPS
@@ -127,6 +152,8 @@ module _ (M : List ℕ) (e : ℕ) where
   pub record Told (g : Group) : Type 0 where
     pub start : holderAt 0 ≡ 0
     pub places : (u : ℕ) → has g u ≡ true → Chain u true (holderAt u) (levels g 0 u)
+    pub runs : AllRuns
+    pub whole : (u : ℕ) → has g u ≡ true → (levels g 0 u ≡ []) ⊎ (MEMBERS ≤ length M)
 
 -- What has begun
 

@@ -10,4 +10,3 @@ pub mod States
 pub mod Closing
 pub mod Fills
 pub mod Tells
-pub mod Others

@@ -14,7 +14,7 @@ use Rattle.model_sets.specs.Sets.{has, size, Numbered, follow, nextIn}
 use Rattle.and_laws.specs.Numbers.{Guarded, numbered-good, has-range}
 use Rattle.and_laws.specs.Ranked.{count, countM, levels}
 use Rattle.model_code.specs.Spelled.{codes, codeIn}
-use Rattle.member_laws.specs.Members.{total, totalM, Sized, SizedM, Told}
+use Rattle.member_laws.specs.Members.{total, totalM, Sized, SizedM, holderAt, Chain}
 use Rattle.member_table.specs.declared.Piece.{Piece}
 use Rattle.member_table.specs.Filling.{State, nonePiece, startFill, filled}
 use Rattle.member_table.specs.Beside.{Rows, and-rows}
@@ -52,9 +52,10 @@ rows-of T g n few f (suc u) w i j =
     let b = has-range g 1 n w j in
     ap (λ (x : ℕ). eqb x 1) (f (suc u) w (omega (arith, a .1)) (b .0) (omega (arith, b .1))) ∙ is-bit (follow g (suc u) w)
 
--- What comes of M for the element e, whose model is g: its part tells the members, and nothing else has changed.
+-- What comes of M for the element e, whose model is g: its part tells the members, but for the runs, and nothing else has changed.
 pub record Filled (M : List ℕ) (e : ℕ) (g : Group) (S : List ℕ) : Type 0 where
-  pub told : Told S e g
+  pub start : holderAt S e 0 ≡ 0
+  pub places : (u : ℕ) → has g u ≡ true → Chain S e u true (holderAt S e u) (levels g 0 u)
   pub len : length S ≡ length M
   pub others : (k : ℕ) → (k < e * MEMBER) ⊎ (e * MEMBER + MEMBER ≤ k) → getD S k 0 ≡ getD M k 0
 
@@ -84,11 +85,8 @@ module _
       let is : filled M e T n ≡ end .members = ap (λ (s : State). s .members) (run-in (baseOf e) T M n code ∙ ap (λ (os : _). runOps (baseOf e) T os (startFill M)) spelled) in
       subst (Filled M e g) (sym is)
       (record {
-        told =
-            record {
-              start = ran .common .keeps .other (baseOf e + 0) 0 (inl (omega arith, refl)) (not-true (has g 0) (λ i. let r = has-range g 1 numbered 0 i in omega (arith, r .0))) ∙ free 0 (omega arith);
-              places = λ u i. spells-chain e (end .members) (end .lasts) (end .groups) (end .count) (InPart g u) u true (baseOf e + u) u (levels g 0 u) (ran .chains u i);
-            };
+        start = ran .common .keeps .other (baseOf e + 0) 0 (inl (omega arith, refl)) (not-true (has g 0) (λ i. let r = has-range g 1 numbered 0 i in omega (arith, r .0))) ∙ free 0 (omega arith);
+        places = λ u i. spells-chain e (end .members) (end .lasts) (end .groups) (end .count) (InPart g u) u true (baseOf e + u) u (levels g 0 u) (ran .chains u i);
         len = ran .common .len;
         others = ran .common .outside;
       })

@@ -1,4 +1,4 @@
 -- The code of a content model, and what a pass over it keeps.
-pub mod Means
-pub mod Laws
+pub mod Six
+pub mod Stack
 pub mod Spelled

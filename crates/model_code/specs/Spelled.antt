@@ -13,7 +13,7 @@ use Rattle.rules.specs.Walk.{Group, place, seq, alt, opt, plus, and, Members, o
 use Rattle.model_sets.specs.Sets.{size, sizeM, Numbered, NumberedM}
 use Rattle.and_laws.specs.Fold.{clash}
 use Rattle.and_laws.specs.Code.{Six, sixes, eval, evalM, six-eval}
-use Rattle.model_code.specs.Means.{putCode, codeNext, stepCode, runCode, Told}
+use Rattle.model_code.specs.Six.{putCode, codeNext, stepCode, runCode, Told}
 
 -- How many members there are.
 abbrev pub count : Members → ℕ

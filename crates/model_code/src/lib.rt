@@ -11,7 +11,7 @@ ghost use Prim.Native.Nat.{_<_};
 ghost use mathlib.Core.Bool.{_&&_, _||_};
 ghost use Rattle.and_laws.specs.Fold.{cross};
 ghost use Rattle.and_laws.specs.Code.{sixes};
-ghost use Rattle.model_code.specs.Means.{putCode, codeNext, six, thenSix, eitherSix, addedSix, maybeSix, manySix, joinedSix, Told};
+ghost use Rattle.model_code.specs.Six.{putCode, codeNext, six, thenSix, eitherSix, addedSix, maybeSix, manySix, joinedSix, Told};
 
 pub const SEQ: u8 = 97;
 

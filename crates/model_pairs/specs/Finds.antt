@@ -22,7 +22,7 @@ use Rattle.and_laws.specs.Pairs.{both-clash}
 use Rattle.and_laws.specs.Begun.{begins-none, lastOr0-snoc, next-of, next-last}
 use Rattle.and_laws.specs.First.{clash-row, firstPairOf, firstPairOf-none, firstPairOf-is}
 use Rattle.model_table.specs.Places.{none-follow}
-use Rattle.model_table.specs.Means.{Says}
+use Rattle.model_table.specs.Shows.{Says}
 use Rattle.model_names.specs.Places.{placesOf}
 use Rattle.model_code.specs.Spelled.{codes, codeIn, told-clash}
 use Rattle.model_pairs.specs.Rows.{rowIn, clashIn, Tells, faultIn}

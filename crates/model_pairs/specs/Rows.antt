@@ -7,7 +7,7 @@ use lib.ListN.{getD}
 use lib.Dec.{eqb}
 use Rattle.rules.specs.Judge.{samePlace}
 use Rattle.layout.specs.Sizes.{MODEL-ROW}
-use Rattle.model_code.specs.Means.{Told}
+use Rattle.model_code.specs.Six.{Told}
 use Rattle.model_names.specs.Places.{placesOf}
 
 -- the number that a row has at a place that may come next

@@ -10,7 +10,7 @@ ghost use Prim.Native.Nat.{ℕ, suc, _+_, _-_, _*_, _≤_, _<_};
 ghost use lib.ListN.{getD};
 ghost use Rattle.layout.specs.Sizes.{MODEL-ROW};
 ghost use Rattle.model_sets.specs.Search.{findFrom, searchPair};
-ghost use Rattle.model_code.specs.Means.{Told};
+ghost use Rattle.model_code.specs.Six.{Told};
 ghost use Rattle.model_names.specs.Places.{placeIn, keyOf};
 ghost use Rattle.model_pairs.specs.Rows.{isNext, rowIn, clashIn, Tells, faultIn};
 

@@ -6,7 +6,7 @@ use mathlib.Core.List.{List}
 use native.Mathlib.Omega.{arith}
 use lib.ListN.{getD}
 use lib.Dec.{eqb}
-use Rattle.type_tables.specs.Means.{bitOf}
+use Rattle.type_tables.specs.Tables.{bitOf}
 
 -- Whether a number of the table is 1, as 1 or 0.
 abbrev pub cellOf : List ℕ → ℕ → ℕ

@@ -14,8 +14,8 @@ use Rattle.rules.specs.TypeFile.{Place, Content, model}
 use Rattle.layout.specs.Sizes.{MODEL-ROW, ROWS}
 use Rattle.model_sets.specs.Sets.{size, nextIn, completeIn, requiredIn}
 use Rattle.model_links.specs.Cells.{below-or-from}
-use Rattle.model_table.specs.Means.{Says}
-use Rattle.type_tables.specs.Means.{rowAt, bitOf, completeAt, nextRow, completeRow, requiredRow, raisedAt}
+use Rattle.model_table.specs.Shows.{Says}
+use Rattle.type_tables.specs.Tables.{rowAt, bitOf, completeAt, nextRow, completeRow, requiredRow, raisedAt}
 use Rattle.model_rows.specs.Bits.{cellOf, packedOf, flag-is, packed-bit, lowest-bit, single-bit}
 
 -- What is put

@@ -12,7 +12,7 @@ ghost use mathlib.Core.Path.{_≡_};
 ghost use Prim.Native.Nat.{_≤_, _<_};
 ghost use mathlib.Core.Bool.{true, false};
 ghost use Rattle.model_table.specs.Fill.{putPlace, part, partSeq, partAlt, closeEnds, closeStarts, joinSeq, joinAnd, partAnd, repeated, finished};
-ghost use Rattle.model_table.specs.Means.{Fresh};
+ghost use Rattle.model_table.specs.Shows.{Fresh};
 
 // What is kept of a group beside the table: whether it can be empty, and which place it requires, or 0.
 pub struct Part {

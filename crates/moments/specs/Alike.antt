@@ -11,15 +11,15 @@ use Rattle.rules.specs.TypeFile.{Element}
 use Rattle.rules.specs.Elements.{contentOf}
 use Rattle.rules.specs.Settling.{State}
 use Rattle.rules.specs.Settling as rules
+use Rattle.and_laws.specs.Begun.{last-is}
 use Rattle.rules_laws.specs.In.{All, more}
 use Rattle.document_laws.specs.Decide.{isCompleteIn, requiredFor}
 use Rattle.document_laws.specs.Same.{Begun, AllBegun}
-use Rattle.turn_laws.specs.Again.{last-is}
 use Rattle.open_elements.specs.declared.Entry.{Entry}
 use Rattle.open_elements.specs.declared.Open.{Open}
-use Rattle.open_elements.specs.Means.{none, covered, Kept, AllKept, Stands}
-use Rattle.open_elements.specs.Laws.{stands-deep}
-use Rattle.moments.specs.Means.{Alike}
+use Rattle.open_elements.specs.Stands.{none, covered, Kept, AllKept, Stands}
+use Rattle.open_elements.specs.Methods.{stands-deep}
+use Rattle.moments.specs.Moment.{Alike}
 
 made : {e f p q : ℕ} {c d : Bool} {r t : ℕ} → e ≡ f → p ≡ q → c ≡ d → r ≡ t
     → _≡_ {A = Entry} (record { element = e; place = p; complete = c; required = r }) (record { element = f; place = q; complete = d; required = t })

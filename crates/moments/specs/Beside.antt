@@ -17,19 +17,19 @@ use Rattle.rules.specs.Acts as act
 use Rattle.rules.specs.Settings.{Settings}
 use Rattle.rules.specs.Judge.{Accepts}
 use Rattle.document_laws.specs.Decide.{decided}
-use Rattle.document_laws.specs.Laws.{accepted-decided}
+use Rattle.document_laws.specs.OneReading.{accepted-decided}
 use Rattle.document_laws.specs.Chain.{inferable-may}
 use Rattle.document_laws.specs.Moves.{state, Answers, Chosen, fits, required}
 use Rattle.document_laws.specs.Same.{AllBegun, begun-moves, nothing-begun}
-use Rattle.type_tables.specs.Means.{Tables, CanTake}
+use Rattle.type_tables.specs.Tables.{Tables, CanTake}
 use Rattle.open_elements.specs.declared.Open.{Open}
-use Rattle.open_elements.specs.Means.{fresh, opening, ended, Ranged, Stands, Taking, Starting}
+use Rattle.open_elements.specs.Stands.{fresh, opening, ended, Ranged, Stands, Taking, Starting}
 use Rattle.type_tables.specs.Marks.{can-range}
-use Rattle.open_elements.specs.Laws.{stands-deep, stands-required, stands-fresh, stands-noted, stands-opening, stands-ended, stands-around, ranged-fresh, ranged-taking, ranged-opening, ranged-ended}
+use Rattle.open_elements.specs.Methods.{stands-deep, stands-required, stands-fresh, stands-noted, stands-opening, stands-ended, stands-around, ranged-fresh, ranged-taking, ranged-opening, ranged-ended}
 use Rattle.open_elements.specs.Marks.{marks-say}
 use Rattle.left_out_ends.specs.Loop.{stands-complete}
-use Rattle.acts.specs.Laws.{acts-first, ended-begun}
-use Rattle.moments.specs.Means.{Moment, Does, Asks, Along, Beside}
+use Rattle.acts.specs.Sequences.{acts-first, ended-begun}
+use Rattle.moments.specs.Moment.{Moment, Does, Asks, Along, Beside}
 
 module _ {c : Settings} (s : List ℕ) (es : List Element) (accepted : Accepts c s es) {M bits : List ℕ} where
   -- What has been shown of the two states makes a moment.

@@ -1,5 +1,5 @@
 -- The open elements of the program beside the state of the rules, act by act.
-pub mod Means
+pub mod Moment
 pub mod Beside
 pub mod Alike
 pub mod Results

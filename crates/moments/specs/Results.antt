@@ -12,42 +12,44 @@ use Rattle.rules.specs.Decisions.{Decisions, Means}
 use Rattle.rules.specs.Events.{Event, withData}
 use Rattle.rules.specs.Given.{withAttributes}
 use Rattle.rules.specs.Settling.{State, nothingOpen, isComplete, startElement, takeData, endElement}
+use Rattle.rules.specs.Records.{Line, recordsSettled}
 use Rattle.rules.specs.Reader.{document}
 use Rattle.rules.specs.Acts.{Acts, Passes, Few}
 use Rattle.rules_laws.specs.Holds.{got-so}
 use Rattle.document_laws.specs.Decide.{decided}
-use Rattle.document_laws.specs.Laws.{accepted-decided}
+use Rattle.document_laws.specs.OneReading.{accepted-decided}
 use Rattle.document_laws.specs.Moves.{withDatum}
-use Rattle.turn_laws.specs.Means.{takeRun}
+use Rattle.turn_laws.specs.RunAtOnce.{takeRun}
 use Rattle.turn_laws.specs.Steps.{takeData-got}
 use Rattle.turn_laws.specs.Run.{run-taken}
 use Rattle.turn_laws.specs.Turns.{Reaches}
-use Rattle.type_tables.specs.Means.{Tables}
+use Rattle.type_tables.specs.Tables.{Tables}
 use Rattle.open_elements.specs.declared.Open.{Open}
 use Rattle.open_elements.specs.declared.Outcome.{Outcome}
-use Rattle.open_elements.specs.Means.{fresh, Ranged, Stands}
+use Rattle.open_elements.specs.Stands.{fresh, Ranged, Stands}
 use Rattle.open_elements.specs.Becomes.{StandsWith, was-got}
-use Rattle.open_elements.specs.Laws.{stands-noted}
+use Rattle.open_elements.specs.Methods.{stands-noted}
+use Rattle.placing.specs.Noting.{writtenOf}
 use Rattle.settling.specs.Settled.{takes, Settles}
 use Rattle.settling.specs.Steps.{Steps, steps-settle}
 use Rattle.closing.specs.Closed.{Tagged}
 use Rattle.acts.specs.Readings.{startElement-acts, takeData-acts, endElement-acts, passes-acts, document-acts}
-use Rattle.moments.specs.Means.{Moment, Beside, Leads}
+use Rattle.moments.specs.Moment.{Moment, Beside, Leads}
 use Rattle.moments.specs.Beside.{moment, moment-first, acts-beside, acts-begun}
 use Rattle.moments.specs.Alike.{stands-alike}
 
 -- By whatever decisions mean the walks
 module _ {s : List ℕ} {es : List Element} {rows places facts M : List ℕ} (tables : Tables s es rows places facts M) (D : Decisions) (means : Means s es D) (bits d : List ℕ) where
   -- Wherever reading comes, acts lead to, from nothing open on, and the program's open elements stand beside at every moment.
-  pub passes-beside : {c : Settings} {at : ℕ} {z : State} → Passes c s es D d at z → Beside s es D rows M nothingOpen fresh bits z
+  pub passes-beside : {c : Settings} {at : ℕ} {l : Line} {z : State} → Passes c s es D d at l z → Beside s es D rows M nothingOpen fresh bits z
   passes-beside p = acts-beside tables D means (moment-first s es (tables .accepted)) (passes-acts s es D d p)
 
-  -- A document that is read to its end: at last nothing is open, and its events are those noted, with attribute events before each start.
-  pub document-beside : (c : Settings) (ev : List Event) → document c s es D d ≡ got ev → (z : State) × Beside s es D rows M nothingOpen fresh bits z × (z .around ≡ []) × (isComplete s es D (z .current) ≡ true) × (withAttributes c s es d (z .events) ≡ ev)
+  -- A document that is read to its end: at last nothing is open, and its events are those noted, with record ends settled and attribute events before each start.
+  pub document-beside : (c : Settings) (ev : List Event) → document c s es D d ≡ got ev → (z : State) × Beside s es D rows M nothingOpen fresh bits z × (z .around ≡ []) × (isComplete s es D (z .current) ≡ true) × (withAttributes (c .nameLength) s es d (recordsSettled c d (z .events)) ≡ ev)
   document-beside c ev e =
       let a = document-acts s es D d c ev e in
       let r = a .over in
-      (r .last, acts-beside tables D means (moment-first s es (tables .accepted)) (r .acts), r .nothing, r .complete, ap (withAttributes c s es d) (r .events) ∙ sym (a .given))
+      (r .last, acts-beside tables D means (moment-first s es (tables .accepted)) (r .acts), r .nothing, r .complete, ap (λ (noted : List Event). withAttributes (c .nameLength) s es d (recordsSettled c d noted)) (r .events) ∙ sym (a .given))
 
 module _ {s : List ℕ} {es : List Element} {rows places facts M : List ℕ} (tables : Tables s es rows places facts M) where
   abbrev D : Decisions
@@ -63,13 +65,16 @@ module _ {s : List ℕ} {es : List Element} {rows places facts M : List ℕ} (ta
 
   -- Between tokens: reading has come to `at` (`Reaches`, `Stands` and `Ranged`: what the loop over a document's tokens keeps). All moments before were
   -- passed by acts, from nothing open on.
-  pub reaches-leads : (first : List ℕ) {c : Settings} {d : List ℕ} {at : ℕ} {o : Open} {bits : List ℕ} {z : State} → Ranged o → Stands es M bits o z → Reaches c s es d at z → Leads s es D rows M nothingOpen fresh first z o bits
+  pub reaches-leads : (first : List ℕ) {c : Settings} {d : List ℕ} {at : ℕ} {l : Line} {o : Open} {bits : List ℕ} {z : State} → Ranged o → Stands es M bits o z → Reaches c s es d at l z → Leads s es D rows M nothingOpen fresh first z o bits
   reaches-leads first {d = d} g h r = leads (moment-first s es (tables .accepted)) (passes-acts s es D d (r .passes)) g h
 
-  module _ {lists marks : List ℕ} {x at after n : ℕ} {o : Open} {bits numbers bytes : List ℕ} {r : Outcome} {bits′ numbers′ bytes′ : List ℕ} (h : Settles rows places facts M lists marks x at after n o bits numbers bytes r bits′ numbers′ bytes′) where
+  module _ {lists marks : List ℕ} {x at after n : ℕ} {o : Open} {bits : List ℕ} {ends : List Event} {numbers bytes : List ℕ} {r : Outcome} {bits′ numbers′ bytes′ : List ℕ} (h : Settles rows places facts M lists marks x at after o bits ends n numbers bytes r bits′ numbers′ bytes′) where
     -- What has become of the token, where it is not refused.
-    settled : x ≤ length es → r .number ≡ 0 → (z : State) → Moment es M bits z o → (y : State) × (takes s es x at after z ≡ got y) × StandsWith es M bits′ (r .open) (z .events ++ h .events) y
-    settled most done z m = was-got at (StandsWith es M bits′ (r .open) (z .events ++ h .events)) (takes s es x at after z) (h .settles s es tables z (m .stands) most) done
+    abbrev noted : State → List Event
+    noted z = ((z .events ++ ends) ++ h .starts) ++ writtenOf x (h .opens) (h .taken) at after
+
+    settled : x ≤ length es → r .number ≡ 0 → (z : State) → Moment es M bits z o → (y : State) × (takes s es x at after z ≡ got y) × StandsWith es M bits′ (r .open) (noted z) y
+    settled most done z m = was-got at (StandsWith es M bits′ (r .open) (noted z)) (takes s es x at after z) (h .settles s es tables z (m .stands) most after (λ some. refl)) done
 
     -- A start tag: the ends and the starts that it infers, then itself.
     settles-leads : 1 ≤ x → x ≤ length es → r .number ≡ 0 → (z : State) → Moment es M bits z o → (y : State) × (startElement s es D x at after z ≡ got y) × Leads s es D rows M z o bits y (r .open) bits′

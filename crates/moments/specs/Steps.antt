@@ -22,19 +22,19 @@ use Rattle.layout.specs.Typed.{placeNo}
 use Rattle.rules_laws.specs.Holds.{Gives, reads, so, on, either, got-so}
 use Rattle.model_sets.specs.Bits.{and-left, and-right}
 use Rattle.document_laws.specs.Decide.{decided}
-use Rattle.document_laws.specs.Laws.{accepted-decided}
+use Rattle.document_laws.specs.OneReading.{accepted-decided}
 use Rattle.document_laws.specs.Chain.{chain-leads}
 use Rattle.document_laws.specs.Moves.{state, withDatum, fits}
-use Rattle.type_tables.specs.Means.{Tables, CanTake}
+use Rattle.type_tables.specs.Tables.{Tables, CanTake}
 use Rattle.open_elements.specs.declared.Open.{Open}
 use Rattle.open_elements.specs.declared.Outcome.{Outcome}
-use Rattle.open_elements.specs.Means.{Taking, Starting}
+use Rattle.open_elements.specs.Stands.{Taking, Starting}
 use Rattle.open_elements.specs.Becomes.{StandsWith, was-got}
-use Rattle.open_elements.specs.Laws.{stands-required, stands-noted}
+use Rattle.open_elements.specs.Methods.{stands-required, stands-noted}
 use Rattle.ways.specs.declared.Way.{Way}
 use Rattle.ways.specs.declared.Way.the-variants.{Taken, Inferred, Stuck}
-use Rattle.ways.specs.Means.{tokenOf, tokenOf-number, tokenOf-declared, wayOf, mayEnd, startsOf, placeOf}
-use Rattle.placing.specs.Noting.{noting, Placed, openedBy}
+use Rattle.ways.specs.Asks.{tokenOf, tokenOf-number, tokenOf-declared, wayOf, mayEnd, startsOf, placeOf}
+use Rattle.placing.specs.Noting.{noting, writtenOf, Placed, openedBy}
 use Rattle.placing.specs.Places.{opened-ranged, opened-notes}
 use Rattle.inferring.specs.Inferring.{EndsTo, none, more, Stops, inferOne, Infers, InfersStart}
 use Rattle.inferring.specs.declared.Stop.{Stop}
@@ -43,8 +43,8 @@ use Rattle.left_out_ends.specs.Until.{inferEnds, Until}
 use Rattle.left_out_ends.specs.Ends.{inferredFrom}
 use Rattle.closing.specs.Closed.{Finished}
 use Rattle.acts.specs.Readings.{Comes, leftOut, noted-acts, endDocument-acts}
-use Rattle.acts.specs.Laws.{acts-then, acts-last}
-use Rattle.moments.specs.Means.{Moment, Beside, Leads}
+use Rattle.acts.specs.Sequences.{acts-then, acts-last}
+use Rattle.moments.specs.Moment.{Moment, Beside, Leads}
 use Rattle.moments.specs.Beside.{can-take, moment-took, moment-act, acts-beside}
 use Rattle.moments.specs.Results.{leads}
 
@@ -155,10 +155,13 @@ module _ {s : List ℕ} {es : List Element} {rows places facts M : List ℕ} (ta
 
     -- What is noted is what the rules note, once an element with a model is open.
     module _ (b : Bool) (none : x ≡ 0 → b ≡ false) (model : (x ≡ 0 → ⊥) → hasModel (contentOf es x) ≡ b) {q : Open} (opened : q ≡ openedBy rows x b (r .open)) where
-      noted : (y : State) × (noting es x at after (takePlace (h .p) z) ≡ got y) × StandsWith es M bits′ q (z .events ++ h .events) y
+      abbrev written : List Event
+      written = writtenOf x (h .opens) (h .taken) at after
+
+      noted : (y : State) × (noting es x at after (takePlace (h .p) z) ≡ got y) × StandsWith es M bits′ q (z .events ++ written) y
       noted =
           let can : CanTake es (z .current) (h .p) = rw place-fits (can-take s es (tables .accepted) m (D s es) (accepted-decided s es (tables .accepted)) (fits (tokenOf x) fits-some)) in
-          was-got at (StandsWith es M bits′ q (z .events ++ h .events)) (noting es x at after (takePlace (h .p) z)) (opened-notes h fine b none opened tables (m .stands) can most model some-place) fine
+          was-got at (StandsWith es M bits′ q (z .events ++ written)) (noting es x at after (takePlace (h .p) z)) (opened-notes h fine b none opened tables (m .stands) can most model some-place after (λ some. refl)) fine
 
   -- That of a start tag: one act, which opens its element or, of an EMPTY one, leaves what is open. The element is opened after `placed` (`start` of
   -- open_elements), where it has a model.

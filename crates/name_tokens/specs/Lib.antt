@@ -1,3 +1,3 @@
 -- The tokens of a list as the table holds them, and what reading a group gives.
-pub mod Means
-pub mod Laws
+pub mod Tokens
+pub mod TokenByToken

@@ -10,10 +10,9 @@ ghost use mathlib.Core.List.{List, [], _∷_, _++_};
 ghost use Prim.Native.Nat.{_+_, _≤_, _<_};
 ghost use lib.ListN.{length};
 ghost use lib.Dec.{eqb};
-ghost use Rattle.rules.specs.Settings.{settings};
 ghost use Rattle.rules.specs.Attributes.{Part};
 ghost use Rattle.rules.specs.TypeFile.{sameName, isToken, isTokenConnector, groupToken, tokenGroup};
-ghost use Rattle.name_tokens.specs.Means.{partIn, partsOf, tokenOf, TokenIn, MeetsGroup, GroupIn, groupFault};
+ghost use Rattle.name_tokens.specs.Tokens.{partIn, partsOf, tokenOf, TokenIn, MeetsGroup, GroupIn, groupFault};
 
 // How many tokens the list has now, and where the group ends.
 pub enum GroupRead {
@@ -66,7 +65,7 @@ fn is_seen(s: &[u8], seen: &[u16; TOKENS], n: usize, at: usize, size: usize) -> 
 // The token at i, the k-th of its group from 0, after n of the list, and where it ends.
 fn token_at(long: usize, s: &[u8], i: usize, k: usize, seen: &[u16; TOKENS], n: usize) -> Reached
     requires { ⌜ (i ≤ length (now s)) × (length (now s) ≤ 32768) × (n ≤ 1280) ⌝ }
-    ensures { λ r. ⌜ ((ts ps : List Part) → length ps ≡ k → partsOf (now (seen .entry)) n ≡ ts ++ ps → tokenOf i r ≡ groupToken (settings long) (now (s .entry)) ts ps i) ⌝ }
+    ensures { λ r. ⌜ ((ts ps : List Part) → length ps ≡ k → partsOf (now (seen .entry)) n ≡ ts ++ ps → tokenOf i r ≡ groupToken long (now (s .entry)) ts ps i) ⌝ }
     ensures { λ r. ⌜ TokenIn (length (now (s .entry))) i k r ⌝ }
 {
     let e = text::name_end(s, i);
@@ -126,7 +125,7 @@ fn put_token(seen: &mut [u16; TOKENS], n: usize, at: usize, size: usize)
 // The group whose "(" stands at `at`, in a list that has n tokens so far. Where it is refused, what `seen` holds is not decided.
 pub fn group_at(long: usize, s: &[u8], at: usize, seen: &mut [u16; TOKENS], n: usize) -> GroupRead
     requires { ⌜ (at < length (now s)) × (length (now s) ≤ 32768) × (n + 32 ≤ 1280) ⌝ }
-    ensures { λ r. ⌜ MeetsGroup (now (seen .exit)) n (partsOf (now (seen .entry)) n) r (tokenGroup (settings long) (now (s .entry)) (partsOf (now (seen .entry)) n) at) ⌝ }
+    ensures { λ r. ⌜ MeetsGroup (now (seen .exit)) n (partsOf (now (seen .entry)) n) r (tokenGroup long (now (s .entry)) (partsOf (now (seen .entry)) n) at) ⌝ }
     ensures { λ r. ⌜ GroupIn (length (now (s .entry))) at n r ⌝ }
 {
     let mut m = n;

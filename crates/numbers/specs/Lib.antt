@@ -1,3 +1,3 @@
 -- What a buffer holds after numbers were written to it, and laws of it.
-pub mod Means
-pub mod Laws
+pub mod Written
+pub mod Stores

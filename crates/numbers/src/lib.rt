@@ -5,7 +5,7 @@ ghost use mathlib.Core.List.{_∷_, []};
 ghost use Prim.Native.Nat.{_+_, _*_, _≤_, _<_};
 ghost use lib.ListN.{length, take};
 ghost use Rattle.rules.specs.Lent.{bytesOf, filledWith, zeroed};
-ghost use Rattle.numbers.specs.Means.{written};
+ghost use Rattle.numbers.specs.Written.{written};
 
 // A byte as an index.
 pub fn wide(b: u8) -> usize

@@ -8,7 +8,7 @@ use Rattle.rules.specs.TypeFile.{Element}
 use Rattle.rules.specs.Events.{Event}
 use Rattle.rules.specs.Settling.{State}
 use Rattle.open_elements.specs.declared.Open.{Open}
-use Rattle.open_elements.specs.Means.{Becomes, Stands}
+use Rattle.open_elements.specs.Stands.{Becomes, Stands}
 
 -- The open elements stand for a state that has these events.
 abbrev pub StandsWith : List Element → (M begun : List ℕ) → Open → List Event → State → Type 0

@@ -17,12 +17,12 @@ use Rattle.rules_laws.specs.Groups.{GuardedIn}
 use Rattle.and_laws.specs.Begun.{next-range}
 use Rattle.document_laws.specs.Decide.{content-guarded, decided}
 use Rattle.document_laws.specs.Numbers.{typeFile-guarded}
-use Rattle.document_laws.specs.Laws.{accepted-decided}
+use Rattle.document_laws.specs.OneReading.{accepted-decided}
 use Rattle.type_laws.specs.Width.{typeFile-width}
 use Rattle.open_elements.specs.declared.Entry.{Entry}
 use Rattle.open_elements.specs.declared.Open.{Open}
-use Rattle.open_elements.specs.Means as kept
-use Rattle.open_elements.specs.Means.{covered, Kept, AllKept, Stands}
+use Rattle.open_elements.specs.Stands as kept
+use Rattle.open_elements.specs.Stands.{covered, Kept, AllKept, Stands}
 
 -- The entry is that of the rules' open element o, and its marks say so. An EMPTY element has no model, and none is ever entered.
 pub record Say (es : List Element) (x : Entry) (o : rules.Open) : Type 0 where
@@ -48,8 +48,8 @@ module _ {c : Settings} (s : List ℕ) (es : List Element) (accepted : Accepts c
       by-model : {g : Group} {ps : List Place} {n : ℕ} → contentOf es (o .number) ≡ model g ps n → MarksMean (x .complete) (x .required) g (o .taken)
       by-model {g} {ps} {n} e =
           let means = accepted-decided s es accepted .walks (o .number) e (o .taken) (h .entered .begins (rw (h .entered .number) at e)) in
-          let numbered = typeFile-width c s es (accepted .elements) (o .number) e .2 in
-          let guarded = subst GuardedIn e (content-guarded es (typeFile-guarded c s es (accepted .elements) (accepted .unrepeated)) (o .number)) in
+          let numbered = typeFile-width (c .nameLength) s es (accepted .elements) (o .number) e .2 in
+          let guarded = subst GuardedIn e (content-guarded es (typeFile-guarded (c .nameLength) s es (accepted .elements) (accepted .unrepeated)) (o .number)) in
           let is-complete : x .complete ≡ decided s es .complete (o .number) (o .taken) = rw (h .entered .number) (h .complete) in
           let is-required : x .required ≡ decided s es .required (o .number) (o .taken) = rw (h .entered .number) (h .required) in
           record {

@@ -14,11 +14,11 @@ use Rattle.rules.specs.Decisions.{Token}
 use Rattle.rules.specs.Settling as rules
 use Rattle.layout.specs.declared.Place.{Place}
 use Rattle.document_laws.specs.Decide.{fitsIn, requiredFor, decided}
-use Rattle.document_laws.specs.Laws.{accepted-decided}
-use Rattle.and_groups.specs.Means.{Takes}
-use Rattle.type_tables.specs.Means.{rowAt, completeAt, Tables, Entered, CanTake}
+use Rattle.document_laws.specs.OneReading.{accepted-decided}
+use Rattle.and_groups.specs.Takes.{Takes}
+use Rattle.type_tables.specs.Tables.{rowAt, completeAt, Tables, Entered, CanTake}
 use Rattle.type_tables.specs.Marks.{took-plain, took-among, entered-required}
-use Rattle.open_elements.specs.Means.{Weighs, Marking}
+use Rattle.open_elements.specs.Stands.{Weighs, Marking}
 
 -- The place as which a token fits, and the required place, can be taken.
 module _ {s : List ℕ} {es : List Element} {rows places facts M begun : List ℕ} {level e u : ℕ} {o : rules.Open} (tables : Tables s es rows places facts M) (h : Entered es M begun level e u o) where

@@ -7,7 +7,7 @@ ghost use mathlib.Core.Path.{_≡_};
 ghost use mathlib.Core.Bool.{true};
 ghost use Prim.Native.Nat.{_-_, _≤_, _<_};
 ghost use Rattle.rules.specs.Settling.{shown, isOpen};
-ghost use Rattle.open_elements.specs.Means.{entry, fresh, opening, ended, bare, Ranged, Weighs, Taking, Starting};
+ghost use Rattle.open_elements.specs.Stands.{entry, fresh, opening, ended, bare, Ranged, Weighs, Taking, Starting};
 
 // An open element, the place that was taken last in it, or 0, and its marks: whether its content is complete there, and
 // the place that is required, or 0. Each number is kept in a byte: `of` alone puts them there, and the methods alone read them.

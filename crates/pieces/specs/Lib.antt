@@ -1,3 +1,3 @@
 -- What stands at a position of a document, and laws of it.
-pub mod Means
+pub mod Finds
 pub mod Pieces

@@ -18,6 +18,7 @@ use layout::ROWS;
 use tags::Tag;
 use text::Fault;
 ghost use mathlib.Core.Path.{_≡_};
+ghost use mathlib.Core.Bool.{true};
 ghost use mathlib.Core.List.{List};
 ghost use Prim.Native.Nat.{_+_, _*_, _-_, _≤_, _<_};
 ghost use lib.ListN.{length};
@@ -28,14 +29,16 @@ ghost use Rattle.rules.specs.Document as document;
 ghost use Rattle.rules.specs.Elements.{numberOf};
 ghost use Rattle.rules.specs.Given.{attributed};
 ghost use Rattle.rules.specs.Settling as rules;
-ghost use Rattle.delimiters.specs.Means.{Classes};
+ghost use Rattle.rules.specs.Records.{isFresh};
+ghost use Rattle.delimiters.specs.Classes.{Classes};
 ghost use Rattle.tag_attributes.specs.Given.{KeptAs, GivenIn};
-ghost use Rattle.element_index.specs.Means.{Indexed};
-ghost use Rattle.list_table.specs.Means.{ListAt, Lists};
+ghost use Rattle.element_index.specs.Indexed.{Indexed};
+ghost use Rattle.list_table.specs.Lists.{ListAt, Lists};
 ghost use Rattle.attribute_marks.specs.Differ.{NamesDiffer};
 ghost use Rattle.attribute_marks.specs.Marks.{Attributed};
-ghost use Rattle.type_tables.specs.Means.{Tables, Entered};
-ghost use Rattle.pieces.specs.Means.{Finds, MarksAt, Onward};
+ghost use Rattle.type_tables.specs.Tables.{Tables, Entered};
+ghost use Rattle.record_ends.specs.Held.{lineOf};
+ghost use Rattle.pieces.specs.Finds.{Finds, MarksAt, Onward};
 
 // What stands at a position of the document, names looked up.
 pub enum Piece {
@@ -78,8 +81,8 @@ fn held(
     marks: &mut [u16; MARKS],
 ) -> Fault
     requires { ⌜ (1 ≤ x .0) × (x .0 ≤ 64) × (n ≤ 41) × GivenIn (length (now d)) (now given) n × (length (now s) ≤ 32768) × (length (now d) ≤ 65535) ⌝ }
-    ensures { λ r. ⌜ ((xs : List Attribute) (ws : List document.Written) → ListAt (settings long) (now (s .entry)) (now (lists .entry)) (201 * (x .0 - 1)) xs → NamesDiffer (now (s .entry)) xs → KeptAs (now (given .entry)) n ws →
-        Attributed (now (s .entry)) xs (now (d .entry)) ws (now (marks .exit)) r (attributed (settings long) (now (s .entry)) xs (now (d .entry)) at ws)) ⌝ }
+    ensures { λ r. ⌜ ((xs : List Attribute) (ws : List document.Written) → ListAt long (now (s .entry)) (now (lists .entry)) (201 * (x .0 - 1)) xs → NamesDiffer (now (s .entry)) xs → KeptAs (now (given .entry)) n ws →
+        Attributed (now (s .entry)) xs (now (d .entry)) ws (now (marks .exit)) r (attributed long (now (s .entry)) xs (now (d .entry)) at ws)) ⌝ }
 {
     if n == 0 {
         if lists.len() == 0 {
@@ -89,10 +92,11 @@ fn held(
     attribute_marks::check(long, s, lists, d, x, given, n, at, marks)
 }
 
-// What stands at `at`, where the current element, of which so many are around it as `level` says, is e after the place u. Where it is a start tag, `marks` has
-// the attributes that it gives; else, and where it is refused, what that holds is not decided.
+// What stands at `at`, where the current element, of which so many are around it as `level` says, is e after the place u. `since` and `mark` are those of
+// record_ends. Where it is a start tag, `marks` has the attributes that it gives; else, and where it is refused, what that holds is not decided.
 pub fn piece_at(
     long: usize,
+    edition: usize,
     s: &[u8],
     elements: &[u32; RECORDS],
     index: &[u8; INDEX],
@@ -108,14 +112,17 @@ pub fn piece_at(
     e: ElementNo,
     u: Place,
     at: usize,
+    since: usize,
+    mark: usize,
     given: &mut [u16; GIVEN],
     marks: &mut [u16; MARKS],
 ) -> Piece
-    requires { ⌜ Classes (now classes) × (long ≤ mostNameLength) × (level ≤ 24) × (e .0 ≤ 64) × (u .0 ≤ 96) × (at < length (now d)) × (length (now d) ≤ 65535) × (length (now s) ≤ 32768) ⌝ }
+    requires { ⌜ Classes (now classes) × (long ≤ mostNameLength) × (level ≤ 24) × (e .0 ≤ 64) × (u .0 ≤ 96) × (at < length (now d)) × (length (now d) ≤ 65535) × (length (now s) ≤ 32768) × (since ≤ at) ⌝ }
     ensures { λ r. ⌜ Onward (length (now (d .entry))) at r ⌝ }
     ensures { λ r. ⌜ ((es : List Element) → Indexed (now (s .entry)) es (now (elements .entry)) (now (index .entry)) → Tables (now (s .entry)) es (now (rows .entry)) (now (places .entry)) (now (facts .entry)) (now (members .entry)) →
-        Lists (settings long) (now (s .entry)) es (now (lists .entry)) →
-        (o : rules.Open) → Entered es (now (members .entry)) (now (begun .entry)) level (e .0) (u .0) o → Finds (settings long) (now (s .entry)) es (now (d .entry)) o at r × MarksAt (settings long) (now (s .entry)) es (now (d .entry)) at r (now (marks .exit))) ⌝ }
+        Lists long (now (s .entry)) es (now (lists .entry)) →
+        (o : rules.Open) → Entered es (now (members .entry)) (now (begun .entry)) level (e .0) (u .0) o → (since ≡ 0 → isFresh o ≡ true) →
+        Finds (settings long edition) (now (s .entry)) es (now (d .entry)) (lineOf since mark) o at r × MarksAt (settings long edition) (now (s .entry)) es (now (d .entry)) at r (now (marks .exit))) ⌝ }
 {
     let t = document_text::token_at(long, classes, d, at, given);
     let data = ElementNo(0);
@@ -142,6 +149,9 @@ pub fn piece_at(
         Token::Refused(f) => return Piece::Refused(f),
         Token::Blank => {
             if !type_tables::takes_data(rows, places, facts, members, begun, level, e, u) {
+                return Piece::Passed(at + 1);
+            }
+            if record_ends::is_ignored(edition, d, at, since, mark, u) {
                 return Piece::Passed(at + 1);
             }
         }

@@ -6,7 +6,6 @@ use mathlib.Core.Logic.{_⊎_, inl, inr}
 use mathlib.Core.List.{List, [], _∷_, _++_, append-assoc}
 use native.Mathlib.Omega.{arith}
 use lib.Dec.{eqb}
-use Rattle.rules.specs.Settings.{Settings}
 use Rattle.rules.specs.Attributes.{Default, required, implied, literal, Attribute}
 use Rattle.rules.specs.TypeFile.{Element}
 use Rattle.rules.specs.Document.{Written, startTagAt}
@@ -60,11 +59,11 @@ unfolding attributeEvents
 events-of n s [] d ws = nothing
 events-of n s (a ∷ xs) d ws = all-append (event-of n (a .default) (givenFor s a d ws)) (events-of (n + 1) s xs d ws)
 
-before-of : (c : Settings) (s : List ℕ) (es : List Element) (d : List ℕ) (e : Event) → All OfAttribute (attributesBefore c s es d e)
+before-of : (long : ℕ) (s : List ℕ) (es : List Element) (d : List ℕ) (e : Event) → All OfAttribute (attributesBefore long s es d e)
 unfolding attributesBefore
-before-of c s es d e =
+before-of long s es d e =
     let xs = elementAt es (e .number - 1) .attributes in
-    by-kind (eqb (e .kind) 1) (eqb (e .kind) 2) (events-of 1 s xs d (givenBy (startTagAt c d (e .offset + 1)))) (events-of 1 s xs d [])
+    by-kind (eqb (e .kind) 1) (eqb (e .kind) 2) (events-of 1 s xs d (givenBy (startTagAt long d (e .offset + 1)))) (events-of 1 s xs d [])
   where
     by-kind : (a b : Bool) {x y : List Event} → All OfAttribute x → All OfAttribute y → All OfAttribute (elim a [ true ↦ x | false ↦ elim b [ true ↦ y | false ↦ [] ] ])
     by-kind true b p q = p
@@ -89,23 +88,23 @@ part (y ∷ a) x b (z ∷ before) e after i = on (part a x b before e after (tai
     on (in-last rest j k) = in-last rest (ap₂ (λ (u : Event) (v : List Event). u ∷ v) (sym (head-same i)) j) k
 
 -- An event of the whole list is that of an attribute, or one of those before, which stands behind the attribute events before it and behind all before, with theirs.
-pub data Stood (c : Settings) (s : List ℕ) (es : List Element) (d : List ℕ) (ev before : List Event) (e : Event) : Type 0 where
-  added : OfAttribute e → Stood c s es d ev before e
-  there : (first last : List Event) → ev ≡ first ++ e ∷ last → before ≡ withAttributes c s es d first ++ attributesBefore c s es d e → Stood c s es d ev before e
+pub data Stood (long : ℕ) (s : List ℕ) (es : List Element) (d : List ℕ) (ev before : List Event) (e : Event) : Type 0 where
+  added : OfAttribute e → Stood long s es d ev before e
+  there : (first last : List Event) → ev ≡ first ++ e ∷ last → before ≡ withAttributes long s es d first ++ attributesBefore long s es d e → Stood long s es d ev before e
 
-pub stood : (c : Settings) (s : List ℕ) (es : List Element) (d : List ℕ) (ev before : List Event) (e : Event) (after : List Event) → withAttributes c s es d ev ≡ before ++ e ∷ after → Stood c s es d ev before e
+pub stood : (long : ℕ) (s : List ℕ) (es : List Element) (d : List ℕ) (ev before : List Event) (e : Event) (after : List Event) → withAttributes long s es d ev ≡ before ++ e ∷ after → Stood long s es d ev before e
 unfolding withAttributes
-stood c s es d [] [] e after i = absurd (cons-some i)
-stood c s es d [] (x ∷ before) e after i = absurd (cons-some i)
-stood c s es d (x ∷ ev) before e after i = by-part (λ rest k. stood c s es d ev rest e after k) (part (attributesBefore c s es d x) x (withAttributes c s es d ev) before e after i)
+stood long s es d [] [] e after i = absurd (cons-some i)
+stood long s es d [] (x ∷ before) e after i = absurd (cons-some i)
+stood long s es d (x ∷ ev) before e after i = by-part (λ rest k. stood long s es d ev rest e after k) (part (attributesBefore long s es d x) x (withAttributes long s es d ev) before e after i)
   where
-    outward : {rest : List Event} → before ≡ attributesBefore c s es d x ++ x ∷ rest → Stood c s es d ev rest e → Stood c s es d (x ∷ ev) before e
+    outward : {rest : List Event} → before ≡ attributesBefore long s es d x ++ x ∷ rest → Stood long s es d ev rest e → Stood long s es d (x ∷ ev) before e
     outward j (added o) = added o
     outward {rest} j (there first last k l) =
         there (x ∷ first) last (ap (λ (v : List Event). x ∷ v) k)
-        (j ∙ ap (λ (v : List Event). attributesBefore c s es d x ++ x ∷ v) l ∙ sym (append-assoc (attributesBefore c s es d x) (x ∷ withAttributes c s es d first) (attributesBefore c s es d e)))
+        (j ∙ ap (λ (v : List Event). attributesBefore long s es d x ++ x ∷ v) l ∙ sym (append-assoc (attributesBefore long s es d x) (x ∷ withAttributes long s es d first) (attributesBefore long s es d e)))
 
-    by-part : ((rest : List Event) → withAttributes c s es d ev ≡ rest ++ e ∷ after → Stood c s es d ev rest e) → Parted (attributesBefore c s es d x) x (withAttributes c s es d ev) before e after → Stood c s es d (x ∷ ev) before e
-    by-part on (in-first rest j) = added (all-at before e rest (before-of c s es d x) j)
-    by-part on (between j k) = there [] ev (ap (λ (v : Event). v ∷ ev) k) (j ∙ ap (attributesBefore c s es d) k)
+    by-part : ((rest : List Event) → withAttributes long s es d ev ≡ rest ++ e ∷ after → Stood long s es d ev rest e) → Parted (attributesBefore long s es d x) x (withAttributes long s es d ev) before e after → Stood long s es d (x ∷ ev) before e
+    by-part on (in-first rest j) = added (all-at before e rest (before-of long s es d x) j)
+    by-part on (between j k) = there [] ev (ap (λ (v : Event). v ∷ ev) k) (j ∙ ap (attributesBefore long s es d) k)
     by-part on (in-last rest j k) = outward j (on rest k)

@@ -18,7 +18,7 @@ use Rattle.rules.specs.Decisions.{Token, start, pcdata, Fits, Decisions, Means}
 use Rattle.rules.specs.Events.{Event, dataRun}
 use Rattle.rules.specs.Settling.{Open, State, nothingOpen, takePlace, shown, placeTaken, enter, note, elementOf, fitting, requiredPlace, inferable, takeToken}
 use Rattle.rules.specs.Acts.{Declared, dataTaken, Deed, opened, passed, inferred, fitted, inferred-end, closed, Deeds, nothing, then, IsStart, Took, document-element, in-model}
-use Rattle.text.specs.Laws.{sameText-refl}
+use Rattle.text.specs.Words.{sameText-refl}
 use Rattle.rules_laws.specs.Names.{samePlace-refl}
 use Rattle.model_sets.specs.Bits.{and-left, and-right}
 use Rattle.and_laws.specs.Begun.{lastOr0-snoc, next-range}
@@ -30,7 +30,7 @@ use Rattle.document_laws.specs.Moves.{placeTaken-took, fits, required}
 use Rattle.document_laws.specs.Same.{Begun, AllBegun, nothing-begun, begun-moves}
 use Rattle.type_laws.specs.Names.{typeFile-distinct, named-number}
 use Rattle.type_laws.specs.Width.{typeFile-width}
-use Rattle.acts.specs.Laws.{ended-begun}
+use Rattle.acts.specs.Sequences.{ended-begun}
 use Rattle.answer_laws.specs.Judge.{names-alone}
 
 -- An element whose content is a model is one of the type's: past the last there is none.
@@ -70,8 +70,8 @@ module _ {c : Settings} (s : List ℕ) (es : List Element) (accepted : Accepts c
   -- A place of a model that may come next is one of its places.
   place-range : (m : ℕ) {g : Group} {ps : List Place} {n : ℕ} → contentOf es m ≡ model g ps n → (taken : List ℕ) (t : Token) (p : ℕ) → Fits s es g ps taken t p → (1 ≤ p) × (p ≤ length ps)
   place-range m {g} e taken t p x =
-      let (many, few, numbered) = typeFile-width c s es (accepted .elements) m e in
-      let guarded = subst GuardedIn e (content-guarded es (typeFile-guarded c s es (accepted .elements) (accepted .unrepeated)) m) in
+      let (many, few, numbered) = typeFile-width (c .nameLength) s es (accepted .elements) m e in
+      let guarded = subst GuardedIn e (content-guarded es (typeFile-guarded (c .nameLength) s es (accepted .elements) (accepted .unrepeated)) m) in
       omega (arith, next-range g numbered guarded taken p (x .next), many)
 
   -- The document itself has one place, that of the first element.
@@ -81,9 +81,9 @@ module _ {c : Settings} (s : List ℕ) (es : List Element) (accepted : Accepts c
       let whole : elementName ∷ [] ≡ ps = ap placesIn e in
       let range = place-range 0 e taken (start k) p x in
       let one : p ≡ 1 = omega (arith, ap length whole) in
-      let named = named-number c s es (accepted .elements) ps k p l h .0 (x .name) in
+      let named = named-number (c .nameLength) s es (accepted .elements) ps k p l h .0 (x .name) in
       let at-first : numberOf s es s (elementName .at) (elementName .size) ≡ k = rw (one, ← whole) at named in
-      sym at-first ∙ typeFile-distinct c s es (accepted .elements) 0 (omega arith) s (elementName .at) (elementName .size) itself
+      sym at-first ∙ typeFile-distinct (c .nameLength) s es (accepted .elements) 0 (omega arith) s (elementName .at) (elementName .size) itself
     where
       elementName : Place
       elementName = record { at = elementAt es 0 .at; size = elementAt es 0 .size }
@@ -163,7 +163,7 @@ module _ {c : Settings} (s : List ℕ) (es : List Element) (accepted : Accepts c
         let named : numberOf s es s (placeAt (x .places) (p - 1) .at) (placeAt (x .places) (p - 1) .size) ≡ k = rw (x .has) at (inferable-named s es D o k i l) in
         let r = means .walks (o .number) (x .has) (o .taken) (x .begins) .required .some (may .place) in
         took-place o x k p e l declared number (place ∙ placeTaken-took o p)
-        (record { name = named-number c s es (accepted .elements) (x .places) k p l declared .1 named; next = r .next })
+        (record { name = named-number (c .nameLength) s es (accepted .elements) (x .places) k p l declared .1 named; next = r .next })
 
     deed-adds : {z y : State} → AllBegun es z → Deed s es D z y → Adds z y
     deed-adds {z} b (opened k at after d f m) = one _ refl (λ i. fits-took z b k d f _ refl refl) (λ n. absurd (n (inl refl)))

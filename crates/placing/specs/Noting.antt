@@ -10,15 +10,16 @@ use Rattle.rules.specs.Elements.{contentOf, hasModel}
 use Rattle.rules.specs.Decisions.{start}
 use Rattle.rules.specs.Events.{startWritten, endOfEmpty, dataRun, Event}
 use Rattle.rules.specs.Settling.{State, takePlace, placeTaken, enter, note, limited}
+use Rattle.rules.specs.Records.{dueRun}
 use Rattle.document_laws.specs.Decide.{decided}
 use Rattle.document_laws.specs.Moves.{state}
-use Rattle.type_tables.specs.Means.{Declares, Facts, Tables, CanTake}
+use Rattle.type_tables.specs.Tables.{Declares, Facts, Tables, CanTake}
 use Rattle.open_elements.specs.declared.Open.{Open}
 use Rattle.open_elements.specs.declared.Outcome.{Outcome}
-use Rattle.open_elements.specs.Means.{Becomes, opening, Ranged, Stands, Taking}
-use Rattle.event_buffer.specs.Means.{Puts}
+use Rattle.open_elements.specs.Stands.{Becomes, opening, Ranged, Stands, Taking}
+use Rattle.event_buffer.specs.Buffers.{Puts}
 use Rattle.ways.specs.declared.Way.{Way}
-use Rattle.ways.specs.Means.{tokenOf, placeOf}
+use Rattle.ways.specs.Asks.{tokenOf, placeOf}
 
 -- Of what the rules make of a start tag of the element x, or of a run of data for 0, from `at` to `after`: what follows once the token has its place, in the state y.
 abbrev pub noting : List Element → (x at after : ℕ) → State → Reading State
@@ -42,12 +43,17 @@ writtenOf zero b p at after = dataRun at (after - at) ∷ []
 writtenOf (suc k) true p at after = startWritten (suc k) at after p ∷ []
 writtenOf (suc k) false p at after = startWritten (suc k) at after p ∷ endOfEmpty (suc k) after ∷ []
 
+-- What is shown of these events, up to `shown`: of a run of data the bytes up to there, and no event if there is none; a tag is shown as it is.
+abbrev pub shownOf : (x : ℕ) (opens : Bool) (place at shown : ℕ) → List Event
+shownOf zero b p at shown = dueRun at (shown - at)
+shownOf (suc k) b p at shown = writtenOf (suc k) b p at shown
+
 -- These events are put behind the n before: those of an element that opens, or of a token that does not, by the table of facts.
-pub record Writes (facts : List ℕ) (x place at after n : ℕ) (numbers bytes : List ℕ) (r : ℕ) (numbers′ bytes′ : List ℕ) : Type 0 where
+pub record Writes (facts : List ℕ) (x place at shown n : ℕ) (numbers bytes : List ℕ) (r : ℕ) (numbers′ bytes′ : List ℕ) : Type 0 where
   pub b : Bool
   pub opens : Opens facts x b
-  pub counted : r ≡ n + length (writtenOf x b place at after)
-  pub puts : Puts numbers bytes n (writtenOf x b place at after) numbers′ bytes′
+  pub counted : r ≡ n + length (shownOf x b place at shown)
+  pub puts : Puts numbers bytes n (shownOf x b place at shown) numbers′ bytes′
 
 -- The place
 
@@ -61,8 +67,9 @@ abbrev pub Notes : (es : List Element) (x : ℕ) (y : State) (events : List Even
 Notes es x y events w = w ≡ state (entering es x y .current) (entering es x y .around) (y .events ++ events)
 
 -- The token takes its place by what was found, and its events are put, or it is refused; where it fits at none it is refused. An element with a model is not
--- opened yet: where it is not refused there is room for it, and the open elements are those before but for the place that was taken.
-pub record Placed (rows places facts M begun : List ℕ) (found : Way) (x at after n : ℕ) (o : Open) (numbers bytes : List ℕ) (r : Outcome) (begun′ numbers′ bytes′ : List ℕ) : Type 0 where
+-- opened yet: where it is not refused there is room for it, and the open elements are those before but for the place that was taken. What is put is what is shown of
+-- the events that the rules note: a run of data may reach further than it is shown, a tag ends at `shown`.
+pub record Placed (rows places facts M begun : List ℕ) (found : Way) (x at shown n : ℕ) (o : Open) (numbers bytes : List ℕ) (r : Outcome) (begun′ numbers′ bytes′ : List ℕ) : Type 0 where
   pub ranged : Ranged (r .open)
   pub small : r .number < 20
   pub whole : length begun′ ≡ length begun
@@ -70,14 +77,17 @@ pub record Placed (rows places facts M begun : List ℕ) (found : Way) (x at aft
   pub puts : Puts numbers bytes n events numbers′ bytes′
   pub counted : r .events ≡ n + length events
   pub few : length events ≤ 2
-  pub written : r .number ≡ 0 → (b : Bool) × (v : ℕ) × (events ≡ writtenOf x b v at after)
+  -- Whether its element opens, and the place that it shows.
+  pub opens : Bool
+  pub taken : ℕ
+  pub written : r .number ≡ 0 → events ≡ shownOf x opens taken at shown
   pub p : ℕ
   pub place : (s : List ℕ) (es : List Element) → Tables s es rows places facts M → o .element .0 ≤ length es → x ≤ length es → p ≡ placeOf (decided s es .fits (o .element .0) [] (tokenOf x)) found
   pub stuck : p ≡ 0 → r .number ≡ 12
   pub taking : r .number ≡ 0 → Taking rows M begun p o (r .open) begun′
   pub room : r .number ≡ 0 → (x ≡ 0 → ⊥) → r .open .count < 24
   pub notes : (p ≡ 0 → ⊥) → (s : List ℕ) (es : List Element) → Tables s es rows places facts M → (z : State) → Stands es M begun o z → CanTake es (z .current) p → x ≤ length es
-      → Becomes at (r .number) (Notes es x (takePlace p z) events) (noting es x at after (takePlace p z))
+      → (after : ℕ) → (1 ≤ x → after ≡ shown) → Becomes at (r .number) (Notes es x (takePlace p z) (writtenOf x opens taken at after)) (noting es x at after (takePlace p z))
 
 -- Where it opens, the element x is the current one.
 abbrev pub openedBy : (rows : List ℕ) (x : ℕ) (opens : Bool) → Open → Open
@@ -89,8 +99,8 @@ abbrev pub Follows : (es : List Element) (M begun : List ℕ) (o : Open) (z : St
 Follows es M begun o z events y = Stands es M begun o y × (y .events ≡ z .events ++ events)
 
 -- After that an element with a model is opened, and the open elements are q: by the tables of a type they stand for what the rules make of the token.
-pub record Places (rows places facts M begun : List ℕ) (found : Way) (x at after n : ℕ) (o : Open) (numbers bytes : List ℕ) (r : Outcome) (q : Open) (begun′ numbers′ bytes′ : List ℕ) : Type 0 where
-  pub placed : Placed rows places facts M begun found x at after n o numbers bytes r begun′ numbers′ bytes′
+pub record Places (rows places facts M begun : List ℕ) (found : Way) (x at shown n : ℕ) (o : Open) (numbers bytes : List ℕ) (r : Outcome) (q : Open) (begun′ numbers′ bytes′ : List ℕ) : Type 0 where
+  pub placed : Placed rows places facts M begun found x at shown n o numbers bytes r begun′ numbers′ bytes′
   pub ranged : Ranged q
   pub notes : (placed .p ≡ 0 → ⊥) → (s : List ℕ) (es : List Element) → Tables s es rows places facts M → (z : State) → Stands es M begun o z → CanTake es (z .current) (placed .p) → x ≤ length es
-      → Becomes at (r .number) (Follows es M begun′ q z (placed .events)) (noting es x at after (takePlace (placed .p) z))
+      → (after : ℕ) → (1 ≤ x → after ≡ shown) → Becomes at (r .number) (Follows es M begun′ q z (writtenOf x (placed .opens) (placed .taken) at after)) (noting es x at after (takePlace (placed .p) z))

@@ -11,20 +11,21 @@ use Rattle.rules.specs.Reading.{Reading, refused, got}
 use Rattle.rules.specs.TypeFile.{Element}
 use Rattle.rules.specs.Elements.{contentOf, hasModel}
 use Rattle.rules.specs.Decisions.{Token}
-use Rattle.rules.specs.Events.{Event, startWritten, endOfEmpty}
+use Rattle.rules.specs.Events.{Event, startWritten, dataRun, endOfEmpty}
 use Rattle.rules.specs.Settling.{State, takePlace, shown, placeTaken, enter, limited}
+use Rattle.rules.specs.Records.{dueRun}
 use Rattle.document_laws.specs.Decide.{decided}
 use Rattle.document_laws.specs.Moves.{state, placeTaken-took}
-use Rattle.type_tables.specs.Means.{nameNumber, Declares, Tables, CanTake}
+use Rattle.type_tables.specs.Tables.{nameNumber, Declares, Tables, CanTake}
 use Rattle.open_elements.specs.declared.Open.{Open}
 use Rattle.open_elements.specs.declared.Outcome.{Outcome}
-use Rattle.open_elements.specs.Means.{Becomes, Ranged, Stands, Taking}
-use Rattle.open_elements.specs.Laws.{stands-deep, stands-noted, stands-opening, ranged-taking, ranged-opening}
-use Rattle.event_buffer.specs.Means.{noted, Puts}
-use Rattle.event_buffer.specs.Laws.{puts-none, puts-then}
+use Rattle.open_elements.specs.Stands.{Becomes, Ranged, Stands, Taking}
+use Rattle.open_elements.specs.Methods.{stands-deep, stands-noted, stands-opening, ranged-taking, ranged-opening}
+use Rattle.event_buffer.specs.Buffers.{noted, Puts}
+use Rattle.event_buffer.specs.EventByEvent.{puts-none, puts-then}
 use Rattle.ways.specs.declared.Way.{Way}
-use Rattle.ways.specs.Means.{tokenOf, tokenOf-number, tokenOf-declared, placeOf}
-use Rattle.placing.specs.Noting.{noting, Opens, writtenOf, Writes, entering, Notes, Placed, openedBy, Follows, Places}
+use Rattle.ways.specs.Asks.{tokenOf, tokenOf-number, tokenOf-declared, placeOf}
+use Rattle.placing.specs.Noting.{noting, Opens, writtenOf, shownOf, Writes, entering, Notes, Placed, openedBy, Follows, Places}
 
 -- The limit of 24
 
@@ -70,21 +71,40 @@ module _ (es : List Element) (y : State) where
   entering-none zero empty = refl
   entering-none (suc k) empty = rw (empty (λ z. omega arith), entering)
 
--- The events of the token
+-- What is shown of the token
+
+module _ (at : ℕ) where
+  due-none : (n : ℕ) → n ≡ 0 → dueRun at n ≡ []
+  due-none zero l = refl
+  due-none (suc n) l = absurd (omega arith)
+
+  pub due-some : (n : ℕ) → 1 ≤ n → dueRun at n ≡ dataRun at n ∷ []
+  due-some zero l = absurd (omega arith)
+  due-some (suc n) l = refl
 
 module _ (at after p : ℕ) where
-  started : (x : ℕ) → (x ≡ 0 → ⊥) → writtenOf x true p at after ≡ startWritten x at after p ∷ []
+  started : (x : ℕ) → (x ≡ 0 → ⊥) → shownOf x true p at after ≡ startWritten x at after p ∷ []
   started zero i = absurd (i refl)
   started (suc k) i = refl
 
-  emptied : (x : ℕ) → (x ≡ 0 → ⊥) → writtenOf x false p at after ≡ startWritten x at after p ∷ endOfEmpty x after ∷ []
+  emptied : (x : ℕ) → (x ≡ 0 → ⊥) → shownOf x false p at after ≡ startWritten x at after p ∷ endOfEmpty x after ∷ []
   emptied zero i = absurd (i refl)
   emptied (suc k) i = refl
 
+-- Data does not open.
+unopened : (facts : List ℕ) → Opens facts 0 false
+unopened facts = (λ e. refl, λ s es raised facts d. absurd (omega (arith, d .0)))
+
 module _ {facts numbers bytes : List ℕ} {x at n : ℕ} (after p : ℕ) where
-  pub writes-run : x ≡ 0 → {r : ℕ} {numbers′ bytes′ : List ℕ} → r ≡ n + 1 → Puts numbers bytes n (noted 5 x at (after - at) 0 ∷ []) numbers′ bytes′ → Writes facts x p at after n numbers bytes r numbers′ bytes′
-  writes-run z e puts =
-      rw z record { b = false; opens = (λ z. refl, λ s es raised facts d. absurd (omega (arith, d .0))); counted = e; puts = rw z at puts }
+  pub writes-run : x ≡ 0 → at < after → {r : ℕ} {numbers′ bytes′ : List ℕ} → r ≡ n + 1 → Puts numbers bytes n (noted 5 x at (after - at) 0 ∷ []) numbers′ bytes′ → Writes facts x p at after n numbers bytes r numbers′ bytes′
+  writes-run z l e puts =
+      let some : dueRun at (after - at) ≡ dataRun at (after - at) ∷ [] = due-some at (after - at) (omega arith) in
+      rw z record { b = false; opens = unopened facts; counted = rw some e; puts = rw some (rw z at puts) }
+
+  pub writes-nothing : x ≡ 0 → at ≡ after → Writes facts x p at after n numbers bytes n numbers bytes
+  writes-nothing z l =
+      let none : dueRun at (after - at) ≡ [] = due-none at (after - at) (omega arith) in
+      rw z record { b = false; opens = unopened facts; counted = rw none (omega arith); puts = rw none (puts-none numbers bytes n) }
 
   -- Of an element: its start, and its end unless it opens.
   module _ (some : x ≡ 0 → ⊥) {b : Bool} (opens : Opens facts x b) {m : ℕ} {numbers′ bytes′ : List ℕ} (e : m ≡ n + 1) (first : Puts numbers bytes n (startWritten x at after p ∷ []) numbers′ bytes′) where
@@ -94,10 +114,14 @@ module _ {facts numbers bytes : List ℕ} {x at n : ℕ} (after p : ℕ) where
     pub writes-empty : b ≡ false → {r : ℕ} {numbers″ bytes″ : List ℕ} → r ≡ m + 1 → Puts numbers′ bytes′ m (endOfEmpty x after ∷ []) numbers″ bytes″ → Writes facts x p at after n numbers bytes r numbers″ bytes″
     writes-empty i j second = record { b = false; opens = rw i at opens; counted = rw (emptied at after p x some) (omega arith); puts = rw (emptied at after p x some) (puts-then first e second) }
 
-written-few : (x : ℕ) (b : Bool) (p at after : ℕ) → length (writtenOf x b p at after) ≤ 2
-written-few zero b p at after = omega arith
-written-few (suc k) true p at after = omega arith
-written-few (suc k) false p at after = omega arith
+due-few : (at n : ℕ) → length (dueRun at n) ≤ 2
+due-few at zero = omega arith
+due-few at (suc n) = omega arith
+
+shown-few : (x : ℕ) (b : Bool) (p at shown : ℕ) → length (shownOf x b p at shown) ≤ 2
+shown-few zero b p at shown = due-few at (shown - at)
+shown-few (suc k) true p at shown = omega arith
+shown-few (suc k) false p at shown = omega arith
 
 clash : {b : Bool} → b ≡ true → b ≡ false → ⊥
 clash e i = let z : _≡_ {A = ℕ} 0 1 = cc in omega arith
@@ -124,8 +148,8 @@ shows {z = z} stands p same = placeTaken-took (z .current) p ∙ ap (λ k. shown
 
 -- What the code does with the place p
 
-module _ {rows places facts : List ℕ} (M begun : List ℕ) {found : Way} {x at after n : ℕ} {o : Open} (h : Ranged o) {numbers bytes : List ℕ} {p : ℕ} (asked : Asked rows places facts found x (o .element .0) p) where
-  pub placed-nowhere : p ≡ 0 → Placed rows places facts M begun found x at after n o numbers bytes (record { «open» = o; events = n; number = 12 }) begun numbers bytes
+module _ {rows places facts : List ℕ} (M begun : List ℕ) {found : Way} {x at to n : ℕ} {o : Open} (h : Ranged o) {numbers bytes : List ℕ} {p : ℕ} (asked : Asked rows places facts found x (o .element .0) p) where
+  pub placed-nowhere : p ≡ 0 → Placed rows places facts M begun found x at to n o numbers bytes (record { «open» = o; events = n; number = 12 }) begun numbers bytes
   placed-nowhere z =
       record {
         ranged = h;
@@ -135,6 +159,8 @@ module _ {rows places facts : List ℕ} (M begun : List ℕ) {found : Way} {x at
         puts = puts-none numbers bytes n;
         counted = omega arith;
         few = omega arith;
+        opens = false;
+        taken = 0;
         written = λ e. absurd (omega arith);
         p = p;
         place = place-of asked M;
@@ -145,7 +171,7 @@ module _ {rows places facts : List ℕ} (M begun : List ℕ) {found : Way} {x at
       }
 
   module _ (some : p ≡ 0 → ⊥) {full : Bool} (fills : (x ≡ 0 → full ≡ false) × ((x ≡ 0 → ⊥) → full ≡ leb 24 (o .count))) where
-    pub placed-full : full ≡ true → Placed rows places facts M begun found x at after n o numbers bytes (record { «open» = o; events = n; number = 15 }) begun numbers bytes
+    pub placed-full : full ≡ true → Placed rows places facts M begun found x at to n o numbers bytes (record { «open» = o; events = n; number = 15 }) begun numbers bytes
     placed-full e =
         let element : x ≡ 0 → ⊥ = (λ z. clash e (fills .0 z)) in
         record {
@@ -156,37 +182,41 @@ module _ {rows places facts : List ℕ} (M begun : List ℕ) {found : Way} {x at
           puts = puts-none numbers bytes n;
           counted = omega arith;
           few = omega arith;
+          opens = false;
+          taken = 0;
           written = λ e. absurd (omega arith);
           p = p;
           place = place-of asked M;
           stuck = λ z. absurd (some z);
           taking = λ e. absurd (omega arith);
           room = λ e. absurd (omega arith);
-          notes = λ i s es tables z stands can most.
+          notes = λ i s es tables z stands can most after ends.
               let many = leb-true 24 (o .count) (sym (fills .1 element) ∙ e) in
-              subst (Becomes at 15 (Notes es x (takePlace p z) [])) (sym (noting-full es at after (takePlace p z) x element (omega (arith, stands-deep stands)))) (refl, omega arith, refl);
+              subst (Becomes at 15 (Notes es x (takePlace p z) (writtenOf x false 0 at after))) (sym (noting-full es at after (takePlace p z) x element (omega (arith, stands-deep stands)))) (refl, omega arith, refl);
         }
 
     pub placed-taken : full ≡ false → p ≤ 96 → {q : Open} {begun′ : List ℕ} → Taking rows M begun p o q begun′ → {v : ℕ} → v ≡ shown (o .element .0) p
-        → {m : ℕ} {numbers′ bytes′ : List ℕ} → Writes facts x v at after n numbers bytes m numbers′ bytes′
-        → Placed rows places facts M begun found x at after n o numbers bytes (record { «open» = q; events = m; number = 0 }) begun′ numbers′ bytes′
+        → {m : ℕ} {numbers′ bytes′ : List ℕ} → Writes facts x v at to n numbers bytes m numbers′ bytes′
+        → Placed rows places facts M begun found x at to n o numbers bytes (record { «open» = q; events = m; number = 0 }) begun′ numbers′ bytes′
     placed-taken roomy within took {v} same w =
         let less : (x ≡ 0 → ⊥) → o .count < 24 = room (fills .1) roomy in
         record {
           ranged = ranged-taking took h within;
           small = omega arith;
           whole = took .whole;
-          events = writtenOf x (w .b) v at after;
+          events = shownOf x (w .b) v at to;
           puts = w .puts;
           counted = w .counted;
-          few = written-few x (w .b) v at after;
-          written = λ e. (w .b, v, refl);
+          few = shown-few x (w .b) v at to;
+          opens = w .b;
+          taken = v;
+          written = λ e. refl;
           p = p;
           place = place-of asked M;
           stuck = λ z. absurd (some z);
           taking = λ e. took;
           room = λ e element. omega (arith, less element, took .count);
-          notes = λ i s es tables z stands can most.
+          notes = λ i s es tables z stands can most after ends.
               let y = takePlace p z in
               let deep = stands-deep stands in
               let model : (x ≡ 0 → ⊥) → (length (y .around) < 24) × (hasModel (contentOf es x) ≡ w .b) = (λ element. (omega (arith, deep, less element), model-is (w .opens) tables element most refl)) in
@@ -201,17 +231,18 @@ becomes-more at n (got y) f h = (h .0, f (h .0) y (h .1))
 
 -- What the caller does with an element that opens
 
-module _ {rows places facts M begun : List ℕ} {found : Way} {x at after n : ℕ} {o : Open} {numbers bytes : List ℕ} {r : Outcome} {begun′ numbers′ bytes′ : List ℕ}
-    (h : Placed rows places facts M begun found x at after n o numbers bytes r begun′ numbers′ bytes′) where
+module _ {rows places facts M begun : List ℕ} {found : Way} {x at to n : ℕ} {o : Open} {numbers bytes : List ℕ} {r : Outcome} {begun′ numbers′ bytes′ : List ℕ}
+    (h : Placed rows places facts M begun found x at to n o numbers bytes r begun′ numbers′ bytes′) where
   -- The token was refused.
-  pub places-refused : (r .number ≡ 0 → ⊥) → Places rows places facts M begun found x at after n o numbers bytes r (r .open) begun′ numbers′ bytes′
+  pub places-refused : (r .number ≡ 0 → ⊥) → Places rows places facts M begun found x at to n o numbers bytes r (r .open) begun′ numbers′ bytes′
   places-refused none =
       record {
         placed = h;
         ranged = h .ranged;
-        notes = λ some s es tables z stands can most.
-            becomes-more {P = Notes es x (takePlace (h .p) z) (h .events)} {Q = Follows es M begun′ (r .open) z (h .events)} at (r .number) (noting es x at after (takePlace (h .p) z)) (λ e. absurd (none e))
-            (h .notes some s es tables z stands can most);
+        notes = λ some s es tables z stands can most after ends.
+            let ev = writtenOf x (h .opens) (h .taken) at after in
+            becomes-more {P = Notes es x (takePlace (h .p) z) ev} {Q = Follows es M begun′ (r .open) z ev} at (r .number) (noting es x at after (takePlace (h .p) z)) (λ e. absurd (none e))
+            (h .notes some s es tables z stands can most after ends);
       }
 
   module _ (fine : r .number ≡ 0) (b : Bool) (none : x ≡ 0 → b ≡ false) {q : Open} (i : q ≡ openedBy rows x b (r .open)) where
@@ -240,14 +271,15 @@ module _ {rows places facts M begun : List ℕ} {found : Way} {x at after n : �
               rw (entering-model es y x element (model element)) (stands-opening there tables x (h .room fine element) (omega (arith, element)) most)
           by-flag false none model = rw (entering-none es y x model) there
 
-      pub opened-notes : (h .p ≡ 0 → ⊥) → Becomes at (r .number) (Follows es M begun′ q z (h .events)) (noting es x at after (takePlace (h .p) z))
-      opened-notes some =
+      pub opened-notes : (h .p ≡ 0 → ⊥) → (after : ℕ) → (1 ≤ x → after ≡ to) → Becomes at (r .number) (Follows es M begun′ q z (writtenOf x (h .opens) (h .taken) at after)) (noting es x at after (takePlace (h .p) z))
+      opened-notes some after ends =
           let y = takePlace (h .p) z in
-          becomes-more {P = Notes es x y (h .events)} {Q = Follows es M begun′ q z (h .events)} at (r .number) (noting es x at after y)
-          (λ e w is. (subst (Stands es M begun′ q) (sym is) (stands-noted opened-stands (y .events ++ h .events)), ap (λ (v : State). v .events) is)) (h .notes some s es tables z stands can most)
+          let ev = writtenOf x (h .opens) (h .taken) at after in
+          becomes-more {P = Notes es x y ev} {Q = Follows es M begun′ q z ev} at (r .number) (noting es x at after y)
+          (λ e w is. (subst (Stands es M begun′ q) (sym is) (stands-noted opened-stands (y .events ++ ev)), ap (λ (v : State). v .events) is)) (h .notes some s es tables z stands can most after ends)
 
   -- Whatever the tables hold: an element that opens by the table of facts was opened.
-  pub places-opened : r .number ≡ 0 → x ≤ 64 → (b : Bool) → Opens facts x b → {q : Open} → q ≡ openedBy rows x b (r .open) → Places rows places facts M begun found x at after n o numbers bytes r q begun′ numbers′ bytes′
+  pub places-opened : r .number ≡ 0 → x ≤ 64 → (b : Bool) → Opens facts x b → {q : Open} → q ≡ openedBy rows x b (r .open) → Places rows places facts M begun found x at to n o numbers bytes r q begun′ numbers′ bytes′
   places-opened fine small b opens i =
       record {
         placed = h;

@@ -1,3 +1,3 @@
 -- The search for a place that may come next.
-pub mod Means
-pub mod Laws
+pub mod Rows
+pub mod Search

@@ -14,7 +14,7 @@ ghost use mathlib.Core.Path.{_≡_};
 ghost use Prim.Native.Nat.{_+_, _*_, _/_, _%_, _≤_, _<_};
 ghost use lib.ListN.{getD};
 ghost use Rattle.layout.specs.Sizes.{POSITIONS};
-ghost use Rattle.row_search.specs.Means.{rowAt, nextBit, linkAt, Largest, LargestRaised, RowSays, BothSay};
+ghost use Rattle.row_search.specs.Rows.{rowAt, nextBit, linkAt, Largest, LargestRaised, RowSays, BothSay};
 
 // Where the row of the element e after the place u begins.
 pub fn row(e: ElementNo, u: Place) -> usize

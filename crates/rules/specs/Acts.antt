@@ -17,6 +17,7 @@ use Rattle.rules.specs.Elements.{contentOf, hasModel, endO}
 use Rattle.rules.specs.Decisions.{start, pcdata, Fits, Decisions}
 use Rattle.rules.specs.Events.{Event, startWritten, startInferred, endWritten, endInferred, dataRun, endOfEmpty, withData}
 use Rattle.rules.specs.Settling.{Open, State, nothingOpen, takePlace, placeTaken, enter, note, fitting, isComplete, requiredPlace, inferable, takeToken}
+use Rattle.rules.specs.Records.{Line, newLine, lineAfter}
 use Rattle.rules.specs.Reader.{Reached, pieceUnder, settlePiece}
 
 -- Acts
@@ -101,9 +102,10 @@ pub data Took (s : List ℕ) (es : List Element) (parent : Open) (e : Event) : T
 -- The states that reading comes to between pieces, and how many are open
 
 -- Reading the document d under the settings c, piece by piece, comes to `at` with the state z.
-pub data Passes (c : Settings) (s : List ℕ) (es : List Element) (D : Decisions) (d : List ℕ) : ℕ → State → Type 0 where
-  begins : Passes c s es D d 0 nothingOpen
-  goes : {at : ℕ} {z : State} {p : Piece} (r : Reached) → Passes c s es D d at z → at < length d → pieceUnder c s es d at ≡ got p → settlePiece s es D d p at z ≡ got r → Passes c s es D d (r .at) (r .state)
+pub data Passes (c : Settings) (s : List ℕ) (es : List Element) (D : Decisions) (d : List ℕ) : ℕ → Line → State → Type 0 where
+  begins : Passes c s es D d 0 newLine nothingOpen
+  goes : {at : ℕ} {l : Line} {z : State} {p : Piece} (r : Reached) → Passes c s es D d at l z → at < length d → pieceUnder c s es d at l (z .current) ≡ got p → settlePiece s es D d p at z ≡ got r
+      → Passes c s es D d (r .at) (lineAfter s es D d p at l z) (r .state)
 
 -- "TAGLVL 24 open elements": at most 24 stand around the current one, which is how many are open, since the outermost of them is the document itself.
 abbrev pub Few : State → Type 0

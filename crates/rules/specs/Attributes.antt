@@ -6,7 +6,6 @@ use mathlib.Core.List.{List, [], _∷_}
 use lib.ListN.{length, take, drop}
 use lib.Dec.{eqb, leb, ltb}
 use Rattle.rules.specs.Bytes.{byteAt, letter, digit, nameByte, span, sameText, TAB, RS, RE, LIT, RNI, AND, LITA}
-use Rattle.rules.specs.Settings.{Settings}
 use Rattle.rules.specs.Reading.{Reading, refused, got}
 
 -- A part of a text: where it begins and how long it is.
@@ -119,8 +118,8 @@ isOneOf s (p ∷ ps) v = (eqb (p .size) (length v) && sameText s (p .at) v 0 (le
 
 -- The value v, its bytes without quotes, "fits its declared value (a space fits CDATA only)", and does not hold "byte 9, 10 or 13"; NUMBER and
 -- NAME are "1 to 8 long", with the given length for 8 (request six).
-unfoldable pub fits : Settings → (s : List ℕ) → DeclaredValue → (v : List ℕ) → Bool
-fits c s cdata v = every (λ b. not (eqb b TAB || (eqb b RS || eqb b RE))) v
-fits c s number v = leb 1 (length v) && (leb (length v) (c .nameLength) && every digit v)
-fits c s name v = letter (byteAt v 0) && (leb (length v) (c .nameLength) && every nameByte v)
-fits c s (tokens at ps) v = isOneOf s ps v
+unfoldable pub fits : (long : ℕ) → (s : List ℕ) → DeclaredValue → (v : List ℕ) → Bool
+fits long s cdata v = every (λ b. not (eqb b TAB || (eqb b RS || eqb b RE))) v
+fits long s number v = leb 1 (length v) && (leb (length v) long && every digit v)
+fits long s name v = letter (byteAt v 0) && (leb (length v) long && every nameByte v)
+fits long s (tokens at ps) v = isOneOf s ps v

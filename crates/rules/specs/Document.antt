@@ -1,12 +1,11 @@
 -- The document's pieces: tags, comment declarations, what is skipped, and single bytes (paper 01, "The document"), with refusals 3, 4, 5 and 17.
--- c has the settings of the call. What a piece means for the open elements is in Settling.
+-- `long` is how long a name may be. What a piece means for the open elements is in Settling.
 use Prim.Native.Nat.{ℕ, zero, suc, _+_, _-_}
 use mathlib.Core.Bool.{Bool, true, false, _&&_, _||_}
 use mathlib.Core.List.{List, [], _∷_, _++_}
 use lib.ListN.{length}
 use lib.Dec.{eqb, leb, ltb}
 use Rattle.rules.specs.Bytes.{byteAt, letter, nameEnd, separatorsEnd, TAB, RS, RE, SPACE, EXCLAMATION, AND, SOLIDUS, STAGO, VI, MDC, OPT, DSO, DSC}
-use Rattle.rules.specs.Settings.{Settings}
 use Rattle.rules.specs.Reading.{Reading, refused, got, andThen}
 use Rattle.rules.specs.Attributes.{quote, isReference, literalEnd}
 use Rattle.rules.specs.TypeFile.{atDashes, commentDeclaration}
@@ -37,23 +36,23 @@ pub data Piece : Type 0 where
   dataByte : Piece
 
 -- An end tag: "name, separators, `>`." Within a tag 3 comes before 4. `at` is the name's first byte, a letter.
-unfoldable pub tag : Settings → List ℕ → ℕ → Reading Tag
-tag c d at =
+unfoldable pub tag : (long : ℕ) → List ℕ → ℕ → Reading Tag
+tag long d at =
     let e = nameEnd d at in
     let i = separatorsEnd d e in
-    elim (ltb (c .nameLength) (e - at)) [
+    elim (ltb long (e - at)) [
       | true ↦ refused 3 at
       | false ↦ elim (eqb (byteAt d i) MDC) [ true ↦ got (record { name = at; size = e - at; after = i + 1; written = [] }) | false ↦ refused 4 i ]
     ]
 
 -- An attribute in a start tag, whose name, a letter, stands at i: "written values are literals in either quote; separators may stand between name, `=` and
 -- literal".
-unfoldable pub specification : Settings → List ℕ → (i : ℕ) → Reading Written
-specification c d i =
+unfoldable pub specification : (long : ℕ) → List ℕ → (i : ℕ) → Reading Written
+specification long d i =
     let e = nameEnd d i in
     let j = separatorsEnd d e in
     let k = separatorsEnd d (j + 1) in
-    elim (ltb (c .nameLength) (e - i)) [
+    elim (ltb long (e - i)) [
       | true ↦ refused 3 i
       | false ↦ elim (eqb (byteAt d j) VI) [
         | true ↦ elim (quote (byteAt d k)) [
@@ -66,23 +65,23 @@ specification c d i =
 
 -- What follows the name of a start tag, from to e, or an attribute, at `at`: further attributes, "and none need follow a literal", then `>`. "In a tag 3,
 -- 4 and 5 come first, by position". Each turn but the last takes an attribute, so there are fewer turns than bytes.
-unfoldable pub specifications : Settings → (turns : ℕ) → List ℕ → (name e at : ℕ) → List Written → Reading Tag
-specifications c zero d name e at ws = refused 4 (length d)
-specifications c (suc turns) d name e at ws =
+unfoldable pub specifications : (long : ℕ) → (turns : ℕ) → List ℕ → (name e at : ℕ) → List Written → Reading Tag
+specifications long zero d name e at ws = refused 4 (length d)
+specifications long (suc turns) d name e at ws =
     let i = separatorsEnd d at in
     elim (eqb (byteAt d i) MDC) [
       | true ↦ got (record { name = name; size = e - name; after = i + 1; written = ws })
       | false ↦ elim (letter (byteAt d i)) [
-        | true ↦ andThen (specification c d i) λ w. specifications c turns d name e (w .quote + 1 + w .width + 1) (ws ++ w ∷ [])
+        | true ↦ andThen (specification long d i) λ w. specifications long turns d name e (w .quote + 1 + w .width + 1) (ws ++ w ∷ [])
         | false ↦ refused 4 i
       ]
     ]
 
 -- A start tag: name, attributes, separators, `>`. `at` is the name's first byte, a letter.
-unfoldable pub startTagAt : Settings → List ℕ → (at : ℕ) → Reading Tag
-startTagAt c d at =
+unfoldable pub startTagAt : (long : ℕ) → List ℕ → (at : ℕ) → Reading Tag
+startTagAt long d at =
     let e = nameEnd d at in
-    elim (ltb (c .nameLength) (e - at)) [ true ↦ refused 3 at | false ↦ specifications c (suc (length d)) d at e e [] ]
+    elim (ltb long (e - at)) [ true ↦ refused 3 at | false ↦ specifications long (suc (length d)) d at e e [] ]
 
 -- What is refused in a comment declaration is number 4 in a document: number 5 names no `%` there.
 abbrev pub malformed : {A : Type 0} → Reading A → Reading A
@@ -102,13 +101,13 @@ declarationPiece d i =
     ]
 
 -- `<` at i: "`<` then a letter starts a start tag, `</` then a letter an end tag". "`<?`" is number 5.
-unfoldable pub markupPiece : Settings → List ℕ → ℕ → Reading Piece
-markupPiece c d i =
+unfoldable pub markupPiece : (long : ℕ) → List ℕ → ℕ → Reading Piece
+markupPiece long d i =
     let b = byteAt d (i + 1) in
     elim (letter b) [
-      | true ↦ andThen (startTagAt c d (i + 1)) λ t. got (startTag t)
+      | true ↦ andThen (startTagAt long d (i + 1)) λ t. got (startTag t)
       | false ↦ elim (eqb b SOLIDUS && letter (byteAt d (i + 2))) [
-        | true ↦ andThen (tag c d (i + 2)) λ t. got (endTag t)
+        | true ↦ andThen (tag long d (i + 2)) λ t. got (endTag t)
         | false ↦ elim (eqb b EXCLAMATION) [
           | true ↦ declarationPiece d i
           | false ↦ elim (eqb b OPT) [ true ↦ refused 5 i | false ↦ got dataByte ]
@@ -131,10 +130,10 @@ bytePiece d i =
     ]
 
 -- What stands at i, where the document does not end.
-unfoldable pub piece : Settings → List ℕ → ℕ → Reading Piece
-piece c d i =
+unfoldable pub piece : (long : ℕ) → List ℕ → ℕ → Reading Piece
+piece long d i =
     elim (eqb (byteAt d i) STAGO) [
-      | true ↦ markupPiece c d i
+      | true ↦ markupPiece long d i
       | false ↦ elim (eqb (byteAt d i) AND && isReference d i) [
         | true ↦ refused 5 i
         | false ↦ elim (isSectionEnd d i) [ true ↦ refused 17 i | false ↦ bytePiece d i ]

@@ -6,7 +6,6 @@ use mathlib.Core.List.{List, [], _∷_, _++_}
 use lib.ListN.{length}
 use lib.Dec.{eqb, leb}
 use Rattle.rules.specs.Bytes.{sameText}
-use Rattle.rules.specs.Settings.{Settings}
 use Rattle.rules.specs.Reading.{Reading, refused, got, andThen}
 use Rattle.rules.specs.Attributes.{Part, bytesIn, Default, required, implied, literal, Attribute, isCalled, attributeOf, attributeAt, isRequired, fits}
 use Rattle.rules.specs.TypeFile.{Element, sameName}
@@ -35,11 +34,11 @@ allListed s xs d before (w ∷ ws) =
     ]
 
 -- Number 22, "value doesn't fit its declared value .. or holds byte 9, 10 or 13", at the opening quote: the first such of a tag.
-unfoldable pub allFit : Settings → (s : List ℕ) → List Attribute → (d : List ℕ) → List Written → Reading (Unit {0})
-allFit c s xs d [] = got tt
-allFit c s xs d (w ∷ ws) =
-    elim (fits c s (attributeAt xs (attributeOf s xs d (w .at) (w .size) - 1) .value) (bytesIn d (valuePart w))) [
-      | true ↦ allFit c s xs d ws
+unfoldable pub allFit : (long : ℕ) → (s : List ℕ) → List Attribute → (d : List ℕ) → List Written → Reading (Unit {0})
+allFit long s xs d [] = got tt
+allFit long s xs d (w ∷ ws) =
+    elim (fits long s (attributeAt xs (attributeOf s xs d (w .at) (w .size) - 1) .value) (bytesIn d (valuePart w))) [
+      | true ↦ allFit long s xs d ws
       | false ↦ refused 22 (w .quote)
     ]
 
@@ -58,21 +57,21 @@ noneMissing s [] d at ws = got tt
 noneMissing s (a ∷ xs) d at ws = elim (isMissing (a .default) (givenFor s a d ws)) [ true ↦ refused 21 at | false ↦ noneMissing s xs d at ws ]
 
 -- "Then 10, 20, 22, 21, the first of each": those behind 10, of a tag at `at` for an element with these attributes.
-unfoldable pub attributed : Settings → (s : List ℕ) → List Attribute → (d : List ℕ) → (at : ℕ) → List Written → Reading (Unit {0})
-attributed c s xs d at ws =
+unfoldable pub attributed : (long : ℕ) → (s : List ℕ) → List Attribute → (d : List ℕ) → (at : ℕ) → List Written → Reading (Unit {0})
+attributed long s xs d at ws =
     andThen (allListed s xs d [] ws) λ u.
-    andThen (allFit c s xs d ws) λ v.
+    andThen (allFit long s xs d ws) λ v.
     noneMissing s xs d at ws
 
 -- The same for any piece. A tag of an undeclared name has number 10, which comes before these; it is given where the piece is settled.
-unfoldable pub pieceAttributed : Settings → (s : List ℕ) → List Element → (d : List ℕ) → (at : ℕ) → Piece → Reading (Unit {0})
-pieceAttributed c s es d at (startTag t) =
+unfoldable pub pieceAttributed : (long : ℕ) → (s : List ℕ) → List Element → (d : List ℕ) → (at : ℕ) → Piece → Reading (Unit {0})
+pieceAttributed long s es d at (startTag t) =
     let k = numberOf s es d (t .name) (t .size) in
-    elim (leb 1 k) [ true ↦ attributed c s (elementAt es (k - 1) .attributes) d at (t .written) | false ↦ got tt ]
-pieceAttributed c s es d at (endTag t) = got tt
-pieceAttributed c s es d at (skipped after) = got tt
-pieceAttributed c s es d at blank = got tt
-pieceAttributed c s es d at dataByte = got tt
+    elim (leb 1 k) [ true ↦ attributed long s (elementAt es (k - 1) .attributes) d at (t .written) | false ↦ got tt ]
+pieceAttributed long s es d at (endTag t) = got tt
+pieceAttributed long s es d at (skipped after) = got tt
+pieceAttributed long s es d at blank = got tt
+pieceAttributed long s es d at dataByte = got tt
 
 -- Events
 
@@ -94,18 +93,18 @@ givenBy (refused n p) = []
 givenBy (got t) = t .written
 
 -- "Before a start event come attribute events": those before the event e. A start that is inferred has no tag, so that all are defaulted.
-unfoldable pub attributesBefore : Settings → (s : List ℕ) → List Element → (d : List ℕ) → Event → List Event
-attributesBefore c s es d e =
+unfoldable pub attributesBefore : (long : ℕ) → (s : List ℕ) → List Element → (d : List ℕ) → Event → List Event
+attributesBefore long s es d e =
     let xs = elementAt es (e .number - 1) .attributes in
     elim (eqb (e .kind) 1) [
-      | true ↦ attributeEvents 1 s xs d (givenBy (startTagAt c d (e .offset + 1)))
+      | true ↦ attributeEvents 1 s xs d (givenBy (startTagAt long d (e .offset + 1)))
       | false ↦ elim (eqb (e .kind) 2) [ true ↦ attributeEvents 1 s xs d [] | false ↦ [] ]
     ]
 
 -- These events, with attribute events before each start.
-unfoldable pub withAttributes : Settings → (s : List ℕ) → List Element → (d : List ℕ) → List Event → List Event
-withAttributes c s es d [] = []
-withAttributes c s es d (e ∷ ev) = attributesBefore c s es d e ++ (e ∷ withAttributes c s es d ev)
+unfoldable pub withAttributes : (long : ℕ) → (s : List ℕ) → List Element → (d : List ℕ) → List Event → List Event
+withAttributes long s es d [] = []
+withAttributes long s es d (e ∷ ev) = attributesBefore long s es d e ++ (e ∷ withAttributes long s es d ev)
 
 -- "The value without quotes, handed to the caller, is a part of the document if written and a part of the type file if defaulted": the bytes of an
 -- attribute event's value. A part that does not lie in its text is none.

@@ -87,15 +87,15 @@ pub data Refuses (c : Settings) (s : List ℕ) (room : ℕ) (a : Answer) : Type 
   notOffered : isOffered c ≡ false → a ≡ refusal 24 0 0 0 → Refuses c s room a
   tooLong : isOffered c ≡ true → typeLimit < length s → a ≡ refusal 1 0 0 0 → Refuses c s room a
   notAllowed : isOffered c ≡ true → length s ≤ typeLimit → span allowed s < length s → a ≡ refusal 2 (span allowed s) 0 0 → Refuses c s room a
-  malformed : Legible c s → (n k : ℕ) → typeFile c s ≡ refused n k → a ≡ refusal n k 0 0 → Refuses c s room a
-  repeated : Legible c s → (es : List Element) → typeFile c s ≡ got es → 1 ≤ firstRepeated es → a ≡ refusal 25 (firstRepeated es) 0 0 → Refuses c s room a
-  ambiguous : Legible c s → (es : List Element) → typeFile c s ≡ got es → firstRepeated es ≡ 0 → (k p q : ℕ) → FirstAmbiguous s k p q es → a ≡ refusal 9 k p q → Refuses c s room a
-  noRoom : Legible c s → (es : List Element) → typeFile c s ≡ got es → firstRepeated es ≡ 0 → AllUnambiguous s es → room < 6 * length es → a ≡ refusal 19 0 0 0 → Refuses c s room a
+  malformed : Legible c s → (n k : ℕ) → typeFile (c .nameLength) s ≡ refused n k → a ≡ refusal n k 0 0 → Refuses c s room a
+  repeated : Legible c s → (es : List Element) → typeFile (c .nameLength) s ≡ got es → 1 ≤ firstRepeated es → a ≡ refusal 25 (firstRepeated es) 0 0 → Refuses c s room a
+  ambiguous : Legible c s → (es : List Element) → typeFile (c .nameLength) s ≡ got es → firstRepeated es ≡ 0 → (k p q : ℕ) → FirstAmbiguous s k p q es → a ≡ refusal 9 k p q → Refuses c s room a
+  noRoom : Legible c s → (es : List Element) → typeFile (c .nameLength) s ≡ got es → firstRepeated es ≡ 0 → AllUnambiguous s es → room < 6 * length es → a ≡ refusal 19 0 0 0 → Refuses c s room a
 
 -- The type is accepted with these elements.
 pub record Accepts (c : Settings) (s : List ℕ) (es : List Element) : Type 0 where
   pub legible : Legible c s
-  pub elements : typeFile c s ≡ got es
+  pub elements : typeFile (c .nameLength) s ≡ got es
   pub unrepeated : firstRepeated es ≡ 0
   pub unambiguous : AllUnambiguous s es
 

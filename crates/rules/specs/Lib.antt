@@ -1,4 +1,4 @@
--- The rules of paper 01, in its order, and what paper 02 adds (Settings, Lookup, Attributes, Given, Listing, and the marks in Acts): read these files to know what is promised.
+-- The rules of paper 01, in its order, and what paper 02 adds (Settings, Lookup, Attributes, Given, Listing, Batch, and the marks in Acts): read these files to know what is promised.
 pub mod Lent
 pub mod Settings
 pub mod Bytes
@@ -15,8 +15,12 @@ pub mod Events
 pub mod Given
 pub mod Settling
 pub mod Lookup
+pub mod Records
 pub mod Reader
+pub mod PlainReading
 pub mod Acts
+pub mod RecordEnds
 pub mod Listing
 pub mod Calls
+pub mod Batch
 pub mod Printed

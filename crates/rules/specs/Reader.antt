@@ -16,7 +16,8 @@ use Rattle.rules.specs.Elements.{numberOf}
 use Rattle.rules.specs.Decisions.{Decisions, Means}
 use Rattle.rules.specs.Events.{Event, eventWidth}
 use Rattle.rules.specs.Given.{pieceAttributed, withAttributes}
-use Rattle.rules.specs.Settling.{State, nothingOpen, startElement, takeData, takeBlank, endElement, endDocument}
+use Rattle.rules.specs.Records.{Line, newLine, recordEnds, lineAfter, recordsSettled}
+use Rattle.rules.specs.Settling.{Open, State, nothingOpen, startElement, takeData, takeBlank, endElement, endDocument}
 
 -- Reading a document
 
@@ -46,26 +47,26 @@ module _ (s : List ℕ) (es : List Element) (D : Decisions) (d : List ℕ) where
 
 -- What stands at `at` in the document d under the type file s with the elements es: the piece, the attributes of a start tag held against the list of its
 -- element. "In a tag 3, 4 and 5 come first, by position, then 10, 20, 22, 21" (paper 02, request one), and all of them before 16, 12 and 15.
-unfoldable pub pieceUnder : Settings → (s : List ℕ) → List Element → (d : List ℕ) → (at : ℕ) → Reading Piece
-pieceUnder c s es d at = andThen (piece c d at) λ p. andThen (pieceAttributed c s es d at p) λ u. got p
+unfoldable pub pieceUnder : Settings → (s : List ℕ) → List Element → (d : List ℕ) → (at : ℕ) → Line → Open → Reading Piece
+pieceUnder c s es d at l o = andThen (piece (c .nameLength) d at) λ p. andThen (pieceAttributed (c .nameLength) s es d at p) λ u. got (recordEnds c d at l o p)
 
--- The same document under the settings c, which decide how long a name in a tag may be.
+-- The same document under the settings c, which decide how long a name in a tag may be and how record ends are read.
 module _ (c : Settings) (s : List ℕ) (es : List Element) (D : Decisions) (d : List ℕ) where
   -- "The document's tokens in turn", from `at` on. Each turn but the last takes a piece, so there are fewer turns than bytes.
-  unfoldable pub piecesWithin : ℕ → (at : ℕ) → State → Reading (List Event)
-  piecesWithin zero at z = refused 4 (length d)
-  piecesWithin (suc turns) at z =
+  unfoldable pub piecesWithin : ℕ → (at : ℕ) → Line → State → Reading (List Event)
+  piecesWithin zero at l z = refused 4 (length d)
+  piecesWithin (suc turns) at l z =
       elim (leb (length d) at) [
         | true ↦ endDocument s es D (length d) z
         | false ↦
-            andThen (pieceUnder c s es d at) λ p.
+            andThen (pieceUnder c s es d at l (z .current)) λ p.
             andThen (settlePiece s es D d p at z) λ y.
-            piecesWithin turns (y .at) (y .state)
+            piecesWithin turns (y .at) (lineAfter s es D d p at l z) (y .state)
       ]
 
   -- "Before a start event come attribute events in declaration order" (paper 02, request one). "Demand 2 reads with these events."
   unfoldable pub document : Reading (List Event)
-  document = andThen (piecesWithin (suc (length d)) 0 nothingOpen) λ ev. got (withAttributes c s es d ev)
+  document = andThen (piecesWithin (suc (length d)) 0 newLine nothingOpen) λ ev. got (withAttributes (c .nameLength) s es d (recordsSettled c d ev))
 
 -- The answer
 
@@ -96,16 +97,16 @@ pub record Reads (c : Settings) (s d : List ℕ) (es : List Element) (r : Readin
 -- The refusal that the order picks: "1 type, 1 document, 2 type, 2 document; the type file's 3 to 8 ..; 9; then the document's tokens in
 -- turn; 19 only where nothing else is wrong, and exactly if the numbers don't fit"; 25 is "looked for after 3 to 8 and before 9"
 -- (paper 02, request twelve); "19 names .. the document in the reader"; before all
--- of it 24, "in the type at 0" (paper 02, request six: "before even 23"). `room` is how many numbers the lent buffer holds.
+-- of it 24, "in the type at 0" (paper 02, requests six and eight: "before even 23"). `room` is how many numbers the lent buffer holds.
 pub data RefusesBoth (c : Settings) (s d : List ℕ) (room : ℕ) (a : Answer) : Type 0 where
   notOffered : isOffered c ≡ false → a ≡ refusal 24 0 0 0 → RefusesBoth c s d room a
   typeTooLong : isOffered c ≡ true → typeLimit < length s → a ≡ refusal 1 0 0 0 → RefusesBoth c s d room a
   documentTooLong : isOffered c ≡ true → length s ≤ typeLimit → documentLimit < length d → a ≡ documentRefusal 1 0 → RefusesBoth c s d room a
   typeNotAllowed : isOffered c ≡ true → length s ≤ typeLimit → length d ≤ documentLimit → span allowed s < length s → a ≡ refusal 2 (span allowed s) 0 0 → RefusesBoth c s d room a
   documentNotAllowed : Legible c s → length d ≤ documentLimit → span allowed d < length d → a ≡ documentRefusal 2 (span allowed d) → RefusesBoth c s d room a
-  malformed : BothLegible c s d → (n k : ℕ) → typeFile c s ≡ refused n k → a ≡ refusal n k 0 0 → RefusesBoth c s d room a
-  repeated : BothLegible c s d → (es : List Element) → typeFile c s ≡ got es → 1 ≤ firstRepeated es → a ≡ refusal 25 (firstRepeated es) 0 0 → RefusesBoth c s d room a
-  ambiguous : BothLegible c s d → (es : List Element) → typeFile c s ≡ got es → firstRepeated es ≡ 0 → (k p q : ℕ) → FirstAmbiguous s k p q es → a ≡ refusal 9 k p q → RefusesBoth c s d room a
+  malformed : BothLegible c s d → (n k : ℕ) → typeFile (c .nameLength) s ≡ refused n k → a ≡ refusal n k 0 0 → RefusesBoth c s d room a
+  repeated : BothLegible c s d → (es : List Element) → typeFile (c .nameLength) s ≡ got es → 1 ≤ firstRepeated es → a ≡ refusal 25 (firstRepeated es) 0 0 → RefusesBoth c s d room a
+  ambiguous : BothLegible c s d → (es : List Element) → typeFile (c .nameLength) s ≡ got es → firstRepeated es ≡ 0 → (k p q : ℕ) → FirstAmbiguous s k p q es → a ≡ refusal 9 k p q → RefusesBoth c s d room a
   unsettled : (es : List Element) (n k : ℕ) → Reads c s d es (refused n k) → a ≡ documentRefusal n k → RefusesBoth c s d room a
   noRoom : (es : List Element) (ev : List Event) → Reads c s d es (got ev) → room < eventWidth * length ev → a ≡ documentRefusal 19 0 → RefusesBoth c s d room a
 

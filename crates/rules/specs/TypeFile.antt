@@ -1,7 +1,7 @@
 -- The type file: declarations, parameters, comments and model groups (paper 01, "The type file"), with refusals 3 to 8, where the "&" of
 -- number 25 stands (paper 02, request twelve), and attribute definition lists with refusals 10, 20 and 22 (request one), which "take their
 -- turn among 3 to 8".
--- Numbers 3 and 5 read "with the given length for 8" (paper 02, request six): c has the settings of the call.
+-- Numbers 3 and 5 read "with the given length for 8" (paper 02, request six): `long` is that length.
 -- Reading goes from left to right and refuses at the first fault, the lower number first where two stand at one position.
 -- A byte at which no form goes on is the unfit one of number 4; past the end it is 0, so the position is then the length.
 use Prim.Native.Nat.{ℕ, zero, suc, _+_, _-_}
@@ -10,7 +10,6 @@ use mathlib.Core.List.{List, [], _∷_, _++_}
 use lib.ListN.{length, drop}
 use lib.Dec.{eqb, leb, ltb}
 use Rattle.rules.specs.Bytes.{byteAt, letter, nameEnd, separatorsEnd, sameText, GRPCNT, GRPLVL, GRPGTCNT, ATTCNT, elementLimit, EXCLAMATION, RNI, PERO, AND, GRPO, GRPC, REP, PLUS, SEQ, MINUS, STAGO, MDC, OPT, DSO, OR}
-use Rattle.rules.specs.Settings.{Settings}
 use Rattle.rules.specs.Reading.{Reading, refused, got, andThen}
 use Rattle.rules.specs.Walk.{Group, place, seq, alt, opt, plus, and, Members, one, also, star}
 use Rattle.rules.specs.Attributes.{Part, bytesIn, quote, literalEnd, DeclaredValue, cdata, number, name, tokens, Default, required, implied, literal, Attribute, AttList, attributeOf, fits}
@@ -143,10 +142,10 @@ abbrev pub newPlace : List Place → Group
 newPlace ps = place (suc (length ps))
 
 -- A name as content token. `full` says that the group or the model may have no further token.
-unfoldable pub nameToken : Settings → List ℕ → ℕ → Bool → List Place → ℕ → Reading Tokens
-nameToken c s at full ps n =
+unfoldable pub nameToken : (long : ℕ) → List ℕ → ℕ → Bool → List Place → ℕ → Reading Tokens
+nameToken long s at full ps n =
     let e = nameEnd s at in
-    elim (ltb (c .nameLength) (e - at)) [
+    elim (ltb long (e - at)) [
       | true ↦ refused 3 at
       | false ↦ elim full [
         | true ↦ refused 6 at
@@ -171,11 +170,11 @@ dataToken s at full ps n =
 
 -- A content token: "a name, a name with an indicator, `#PCDATA`, or a group with or without an indicator".
 -- `inner` reads a group one level further in, at its "(".
-unfoldable pub token : Settings → (ℕ → List Place → ℕ → Reading Tokens) → List ℕ → ℕ → Bool → List Place → ℕ → Reading Tokens
-token c inner s at full ps n =
+unfoldable pub token : (long : ℕ) → (ℕ → List Place → ℕ → Reading Tokens) → List ℕ → ℕ → Bool → List Place → ℕ → Reading Tokens
+token long inner s at full ps n =
     let b = byteAt s at in
     elim (letter b) [
-      | true ↦ nameToken c s at full ps n
+      | true ↦ nameToken long s at full ps n
       | false ↦ elim (eqb b RNI) [
         | true ↦ dataToken s at full ps n
         | false ↦ elim (eqb b GRPO) [
@@ -228,8 +227,8 @@ pub data Further : Type 0 where
   joined : (connector : ℕ) → Tokens → Further
 
 -- What follows when `t` was read of the group: k content tokens joined by the connector (0: none yet).
-unfoldable pub further : Settings → (ℕ → List Place → ℕ → Reading Tokens) → List ℕ → (k connector : ℕ) → Tokens → Reading Further
-further c inner s k connector t =
+unfoldable pub further : (long : ℕ) → (ℕ → List Place → ℕ → Reading Tokens) → List ℕ → (k connector : ℕ) → Tokens → Reading Further
+further long inner s k connector t =
     let i = separatorsEnd s (t .at) in
     let b = byteAt s i in
     elim (eqb b GRPC) [
@@ -238,7 +237,7 @@ further c inner s k connector t =
         | true ↦ refused 5 i
         | false ↦ elim (isConnector b && (eqb connector 0 || eqb connector b)) [
           | true ↦ andThen
-              (token c inner s (separatorsEnd s (i + 1)) (leb GRPCNT k || leb GRPGTCNT (t .tokens)) (t .places) (t .tokens))
+              (token long inner s (separatorsEnd s (i + 1)) (leb GRPCNT k || leb GRPGTCNT (t .tokens)) (t .places) (t .tokens))
               (λ u. got (joined b (joinTokens k b i t u)))
           | false ↦ refused 4 i
         ]
@@ -246,17 +245,17 @@ further c inner s k connector t =
     ]
 
 -- The rest of the group. `left` is how many more content tokens it may have; where it is 0 the token was refused already.
-unfoldable pub members : Settings → (ℕ → List Place → ℕ → Reading Tokens) → List ℕ → (left k connector : ℕ) → Tokens → Reading Tokens
-members c inner s zero k connector t = refused 6 (t .at)
-members c inner s (suc left) k connector t =
-    andThen (further c inner s k connector t) (elim [ closed u ↦ got u | joined b u ↦ members c inner s left (k + 1) b u ])
+unfoldable pub members : (long : ℕ) → (ℕ → List Place → ℕ → Reading Tokens) → List ℕ → (left k connector : ℕ) → Tokens → Reading Tokens
+members long inner s zero k connector t = refused 6 (t .at)
+members long inner s (suc left) k connector t =
+    andThen (further long inner s k connector t) (elim [ closed u ↦ got u | joined b u ↦ members long inner s left (k + 1) b u ])
 
 -- A group whose "(" stands at `at`, with `levels` group levels left.
-unfoldable pub group : Settings → (levels : ℕ) → List ℕ → ℕ → List Place → ℕ → Reading Tokens
-group c zero s at ps n = refused 6 at
-group c (suc levels) s at ps n =
-    andThen (token c (group c levels s) s (separatorsEnd s (at + 1)) (leb GRPGTCNT n) ps n)
-    (λ t. members c (group c levels s) s GRPCNT 1 0 t)
+unfoldable pub group : (long : ℕ) → (levels : ℕ) → List ℕ → ℕ → List Place → ℕ → Reading Tokens
+group long zero s at ps n = refused 6 at
+group long (suc levels) s at ps n =
+    andThen (token long (group long levels s) s (separatorsEnd s (at + 1)) (leb GRPGTCNT n) ps n)
+    (λ t. members long (group long levels s) s GRPCNT 1 0 t)
 
 -- Element declarations
 
@@ -286,11 +285,11 @@ abbrev pub unfit : {A : Type 0} → List ℕ → ℕ → Reading A
 unfit s i = elim (eqb (byteAt s i) MINUS && leb (length s) (i + 1)) [ true ↦ refused 4 (length s) | false ↦ refused 4 i ]
 
 -- The element's name, and where it ends. "A group as element name" is number 5.
-unfoldable pub elementName : Settings → List ℕ → ℕ → List Element → Reading ℕ
-elementName c s i es =
+unfoldable pub elementName : (long : ℕ) → List ℕ → ℕ → List Element → Reading ℕ
+elementName long s i es =
     let e = nameEnd s i in
     elim (letter (byteAt s i)) [
-      | true ↦ elim (ltb (c .nameLength) (e - i)) [
+      | true ↦ elim (ltb long (e - i)) [
         | true ↦ refused 3 i
         | false ↦ elim (isDeclared s es i (e - i)) [
           | true ↦ refused 7 i
@@ -306,13 +305,13 @@ pub record Word : Type 0 where
   pub value : ℕ
   pub at : ℕ
 
-unfoldable pub omission : Settings → List ℕ → (from : ℕ) → ℕ → Reading Word
-omission c s from i =
+unfoldable pub omission : (long : ℕ) → List ℕ → (from : ℕ) → ℕ → Reading Word
+omission long s from i =
     let e = nameEnd s i in
     elim (eqb (byteAt s i) MINUS && ltb from i) [
       | true ↦ got (record { value = 0; at = i + 1 })
       | false ↦ elim (letter (byteAt s i)) [
-        | true ↦ elim (ltb (c .nameLength) (e - i)) [
+        | true ↦ elim (ltb long (e - i)) [
           | true ↦ refused 3 i
           | false ↦ elim (ltb from i && isWord s i e O) [ true ↦ got (record { value = 1; at = e }) | false ↦ refused 4 i ]
         ]
@@ -329,19 +328,19 @@ pub record Head : Type 0 where
   pub at : ℕ
 
 -- The two words after the name from i to e.
-unfoldable pub words : Settings → List ℕ → (i e : ℕ) → Reading Head
-words c s i e =
+unfoldable pub words : (long : ℕ) → List ℕ → (i e : ℕ) → Reading Head
+words long s i e =
     andThen (gap s e) λ j.
-    andThen (omission c s e j) λ a.
+    andThen (omission long s e j) λ a.
     andThen (gap s (a .at)) λ k.
-    andThen (omission c s (a .at) k) λ b.
+    andThen (omission long s (a .at) k) λ b.
     got (record { name = i; size = e - i; start = a .value; end = b .value; at = b .at })
 
-unfoldable pub head : Settings → List ℕ → ℕ → List Element → Reading Head
-head c s at es =
+unfoldable pub head : (long : ℕ) → List ℕ → ℕ → List Element → Reading Head
+head long s at es =
     andThen (gap s at) λ i.
-    andThen (elementName c s i es) λ e.
-    words c s i e
+    andThen (elementName long s i es) λ e.
+    words long s i e
 
 -- What was read of the content and where it ends.
 pub record ContentEnd : Type 0 where
@@ -350,10 +349,10 @@ pub record ContentEnd : Type 0 where
   pub repeated : ℕ
 
 -- A word as content: EMPTY, or one of those that number 5 names.
-unfoldable pub contentWord : Settings → List ℕ → (from : ℕ) → ℕ → Reading ContentEnd
-contentWord c s from i =
+unfoldable pub contentWord : (long : ℕ) → List ℕ → (from : ℕ) → ℕ → Reading ContentEnd
+contentWord long s from i =
     let e = nameEnd s i in
-    elim (ltb (c .nameLength) (e - i)) [
+    elim (ltb long (e - i)) [
       | true ↦ refused 3 i
       | false ↦ elim (ltb from i && isWord s i e EMPTY) [
         | true ↦ got (record { content = empty; at = e; repeated = 0 })
@@ -365,17 +364,17 @@ contentWord c s from i =
     ]
 
 -- A model: "a group, which may have an indicator at once after it".
-unfoldable pub contentModel : Settings → List ℕ → ℕ → Reading ContentEnd
-contentModel c s i =
-    andThen (group c GRPLVL s i [] 0) λ t.
+unfoldable pub contentModel : (long : ℕ) → List ℕ → ℕ → Reading ContentEnd
+contentModel long s i =
+    andThen (group long GRPLVL s i [] 0) λ t.
     let u = occurrence s t in
     got (record { content = model (u .group) (u .places) (u .tokens); at = u .at; repeated = u .repeated })
 
-unfoldable pub content : Settings → List ℕ → (from : ℕ) → ℕ → Reading ContentEnd
-content c s from i =
+unfoldable pub content : (long : ℕ) → List ℕ → (from : ℕ) → ℕ → Reading ContentEnd
+content long s from i =
     elim (eqb (byteAt s i) GRPO) [
-      | true ↦ contentModel c s i
-      | false ↦ elim (letter (byteAt s i)) [ true ↦ contentWord c s from i | false ↦ unfit s i ]
+      | true ↦ contentModel long s i
+      | false ↦ elim (letter (byteAt s i)) [ true ↦ contentWord long s from i | false ↦ unfit s i ]
     ]
 
 -- The end of the declaration; "`-(` or `+(` after content" is number 5.
@@ -397,17 +396,17 @@ abbrev pub declare : Head → ContentEnd → Element
 declare h x = record { at = h .name; size = h .size; start = h .start; end = h .end; content = x .content; repeated = x .repeated; attributes = [] }
 
 -- What follows the head: the content and the end of the declaration.
-unfoldable pub rest : Settings → List ℕ → List Element → Head → Reading Declared
-rest c s es h =
+unfoldable pub rest : (long : ℕ) → List ℕ → List Element → Head → Reading Declared
+rest long s es h =
     andThen (gap s (h .at)) λ i.
-    andThen (content c s (h .at) i) λ x.
+    andThen (content long s (h .at) i) λ x.
     andThen (gap s (x .at)) λ j.
     andThen (close s j) λ k.
     got (record { elements = es ++ declare h x ∷ []; at = k })
 
 -- An element declaration whose keyword ends at `at`.
-unfoldable pub element : Settings → List ℕ → ℕ → List Element → Reading Declared
-element c s at es = andThen (head c s at es) (rest c s es)
+unfoldable pub element : (long : ℕ) → List ℕ → ℕ → List Element → Reading Declared
+element long s at es = andThen (head long s at es) (rest long s es)
 
 -- Name token groups
 
@@ -418,11 +417,11 @@ isToken s (p ∷ ps) at size = sameName s (p .at) (p .size) at size || isToken s
 
 -- A token at i: "letters, digits, "." and "-", 1 to 8 long, a longer one 3 at its first byte". `ps` are the tokens of the group before it, `seen`
 -- those of the list's groups before.
-unfoldable pub groupToken : Settings → List ℕ → (seen ps : List Part) → (i : ℕ) → Reading Part
-groupToken c s seen ps i =
+unfoldable pub groupToken : (long : ℕ) → List ℕ → (seen ps : List Part) → (i : ℕ) → Reading Part
+groupToken long s seen ps i =
     let e = nameEnd s i in
     elim (ltb i e) [
-      | true ↦ elim (ltb (c .nameLength) (e - i)) [
+      | true ↦ elim (ltb long (e - i)) [
         | true ↦ refused 3 i
         | false ↦ elim (leb GRPCNT (length ps)) [
           | true ↦ refused 6 i
@@ -443,10 +442,10 @@ isTokenConnector b = eqb b SEQ || (eqb b OR || eqb b AND)
 
 -- The rest of a group, "one connector" (0: none yet), from behind its "(" or a connector on. `left` is how many more tokens it may have; where it is 0
 -- the token was refused already.
-unfoldable pub groupTokens : Settings → List ℕ → (seen : List Part) → (left connector : ℕ) → (ps : List Part) → (at : ℕ) → Reading TokensEnd
-groupTokens c s seen zero connector ps at = refused 6 at
-groupTokens c s seen (suc left) connector ps at =
-    andThen (groupToken c s seen ps (separatorsEnd s at)) λ p.
+unfoldable pub groupTokens : (long : ℕ) → List ℕ → (seen : List Part) → (left connector : ℕ) → (ps : List Part) → (at : ℕ) → Reading TokensEnd
+groupTokens long s seen zero connector ps at = refused 6 at
+groupTokens long s seen (suc left) connector ps at =
+    andThen (groupToken long s seen ps (separatorsEnd s at)) λ p.
     let i = separatorsEnd s (p .at + p .size) in
     let b = byteAt s i in
     elim (eqb b GRPC) [
@@ -454,15 +453,15 @@ groupTokens c s seen (suc left) connector ps at =
       | false ↦ elim (eqb b PERO) [
         | true ↦ refused 5 i
         | false ↦ elim (isTokenConnector b && (eqb connector 0 || eqb connector b)) [
-          | true ↦ groupTokens c s seen left b (ps ++ p ∷ []) (i + 1)
+          | true ↦ groupTokens long s seen left b (ps ++ p ∷ []) (i + 1)
           | false ↦ refused 4 i
         ]
       ]
     ]
 
 -- The group whose "(" stands at `at`.
-unfoldable pub tokenGroup : Settings → List ℕ → (seen : List Part) → (at : ℕ) → Reading TokensEnd
-tokenGroup c s seen at = groupTokens c s seen (suc GRPCNT) 0 [] (at + 1)
+unfoldable pub tokenGroup : (long : ℕ) → List ℕ → (seen : List Part) → (at : ℕ) → Reading TokensEnd
+tokenGroup long s seen at = groupTokens long s seen (suc GRPCNT) 0 [] (at + 1)
 
 -- Attribute definitions
 
@@ -472,10 +471,10 @@ tokensOf [] = []
 tokensOf (a ∷ xs) = elim (a .value) [ cdata ↦ tokensOf xs | number ↦ tokensOf xs | name ↦ tokensOf xs | tokens i ps ↦ ps ++ tokensOf xs ]
 
 -- The attribute's name at i, a letter, and where it ends; the parameter before ended at `from`. "7 holds for a list's attributes too", and 20 for "a 41st".
-unfoldable pub attributeName : Settings → List ℕ → List Attribute → (from i : ℕ) → Reading ℕ
-attributeName c s xs from i =
+unfoldable pub attributeName : (long : ℕ) → List ℕ → List Attribute → (from i : ℕ) → Reading ℕ
+attributeName long s xs from i =
     let e = nameEnd s i in
-    elim (ltb (c .nameLength) (e - i)) [
+    elim (ltb long (e - i)) [
       | true ↦ refused 3 i
       | false ↦ elim (ltb from i) [
         | true ↦ elim (leb 1 (attributeOf s xs s i (e - i))) [
@@ -492,10 +491,10 @@ pub record ValueEnd : Type 0 where
   pub at : ℕ
 
 -- A word as declared value. Every word but three is a wrong one.
-unfoldable pub valueWord : Settings → List ℕ → (i : ℕ) → Reading ValueEnd
-valueWord c s i =
+unfoldable pub valueWord : (long : ℕ) → List ℕ → (i : ℕ) → Reading ValueEnd
+valueWord long s i =
     let e = nameEnd s i in
-    elim (ltb (c .nameLength) (e - i)) [
+    elim (ltb long (e - i)) [
       | true ↦ refused 3 i
       | false ↦ elim (isWord s i e CDATA) [
         | true ↦ got (record { value = cdata; at = e })
@@ -510,11 +509,11 @@ valueWord c s i =
     ]
 
 -- The declared value at i; `seen` are the tokens of the list so far. A name ends before a letter only where something parts them.
-unfoldable pub declaredValue : Settings → List ℕ → (seen : List Part) → (i : ℕ) → Reading ValueEnd
-declaredValue c s seen i =
+unfoldable pub declaredValue : (long : ℕ) → List ℕ → (seen : List Part) → (i : ℕ) → Reading ValueEnd
+declaredValue long s seen i =
     elim (eqb (byteAt s i) GRPO) [
-      | true ↦ andThen (tokenGroup c s seen i) λ t. got (record { value = tokens i (t .tokens); at = t .at })
-      | false ↦ elim (letter (byteAt s i)) [ true ↦ valueWord c s i | false ↦ unfit s i ]
+      | true ↦ andThen (tokenGroup long s seen i) λ t. got (record { value = tokens i (t .tokens); at = t .at })
+      | false ↦ elim (letter (byteAt s i)) [ true ↦ valueWord long s i | false ↦ unfit s i ]
     ]
 
 -- A default and where it ends.
@@ -538,11 +537,11 @@ defaultWord s i =
     ]
 
 -- A literal as default, from its opening quote at i: 22 stands there, "not for a literal with 4 or 5 in it".
-unfoldable pub defaultLiteral : Settings → List ℕ → DeclaredValue → (i : ℕ) → Reading DefaultEnd
-defaultLiteral c s x i =
+unfoldable pub defaultLiteral : (long : ℕ) → List ℕ → DeclaredValue → (i : ℕ) → Reading DefaultEnd
+defaultLiteral long s x i =
     andThen (literalEnd s i) λ e.
     let p : Part = record { at = i + 1; size = e - (i + 1) } in
-    elim (fits c s x (bytesIn s p)) [ true ↦ got (record { default = literal p; at = e + 1 }) | false ↦ refused 22 i ]
+    elim (fits long s x (bytesIn s p)) [ true ↦ got (record { default = literal p; at = e + 1 }) | false ↦ refused 22 i ]
 
 -- "A group needs none on either side": nothing need part the default from it.
 abbrev pub isGroup : DeclaredValue → Bool
@@ -552,12 +551,12 @@ isGroup name = false
 isGroup (tokens at ps) = true
 
 -- The default at i of an attribute with this declared value, which ended at `from`.
-unfoldable pub defaultValue : Settings → List ℕ → DeclaredValue → (from i : ℕ) → Reading DefaultEnd
-defaultValue c s x from i =
+unfoldable pub defaultValue : (long : ℕ) → List ℕ → DeclaredValue → (from i : ℕ) → Reading DefaultEnd
+defaultValue long s x from i =
     let b = byteAt s i in
     elim (eqb b RNI || quote b) [
       | true ↦ elim (isGroup x || ltb from i) [
-        | true ↦ elim (eqb b RNI) [ true ↦ defaultWord s i | false ↦ defaultLiteral c s x i ]
+        | true ↦ elim (eqb b RNI) [ true ↦ defaultWord s i | false ↦ defaultLiteral long s x i ]
         | false ↦ refused 4 i
       ]
       | false ↦ unfit s i
@@ -569,13 +568,13 @@ pub record Definition : Type 0 where
   pub at : ℕ
 
 -- The definition whose name, a letter, stands at i, after these attributes of the list; the parameter before ended at `from`.
-unfoldable pub definition : Settings → List ℕ → List Attribute → (from i : ℕ) → Reading Definition
-definition c s xs from i =
-    andThen (attributeName c s xs from i) λ e.
+unfoldable pub definition : (long : ℕ) → List ℕ → List Attribute → (from i : ℕ) → Reading Definition
+definition long s xs from i =
+    andThen (attributeName long s xs from i) λ e.
     andThen (gap s e) λ j.
-    andThen (declaredValue c s (tokensOf xs) j) λ v.
+    andThen (declaredValue long s (tokensOf xs) j) λ v.
     andThen (gap s (v .at)) λ k.
-    andThen (defaultValue c s (v .value) (v .at) k) λ f.
+    andThen (defaultValue long s (v .value) (v .at) k) λ f.
     got (record { attribute = record { at = i; size = e - i; value = v .value; default = f .default }; at = f .at })
 
 -- The attributes of a list and where its declaration ends.
@@ -585,21 +584,21 @@ pub record ListEnd : Type 0 where
 
 -- The definitions of a list, one or more, and the `>`; what was read ended at `from`. `left` is how many more definitions there may be; where it is 0
 -- the name was refused already.
-unfoldable pub definitions : Settings → List ℕ → (left : ℕ) → List Attribute → (from : ℕ) → Reading ListEnd
-definitions c s zero xs from = refused 20 from
-definitions c s (suc left) xs from =
+unfoldable pub definitions : (long : ℕ) → List ℕ → (left : ℕ) → List Attribute → (from : ℕ) → Reading ListEnd
+definitions long s zero xs from = refused 20 from
+definitions long s (suc left) xs from =
     andThen (gap s from) λ i.
     elim (eqb (byteAt s i) MDC && leb 1 (length xs)) [
       | true ↦ got (record { attributes = xs; at = i + 1 })
       | false ↦ elim (letter (byteAt s i)) [
-        | true ↦ andThen (definition c s xs from i) λ d. definitions c s left (xs ++ d .attribute ∷ []) (d .at)
+        | true ↦ andThen (definition long s xs from i) λ d. definitions long s left (xs ++ d .attribute ∷ []) (d .at)
         | false ↦ unfit s i
       ]
     ]
 
 -- The list whose element's name ends at `from`: this depends on nothing that was declared before.
-unfoldable pub listFrom : Settings → List ℕ → (from : ℕ) → Reading ListEnd
-listFrom c s from = definitions c s (suc ATTCNT) [] from
+unfoldable pub listFrom : (long : ℕ) → List ℕ → (from : ℕ) → Reading ListEnd
+listFrom long s from = definitions long s (suc ATTCNT) [] from
 
 -- Attribute definition lists
 
@@ -619,12 +618,12 @@ pub record Listed : Type 0 where
   pub at : ℕ
 
 -- "One list each, the element declared before it, else 10"; "a second list" is 20. "A group as element name" is number 5.
-unfoldable pub listedElement : Settings → List ℕ → List Element → List AttList → (i : ℕ) → Reading Listed
-listedElement c s es ls i =
+unfoldable pub listedElement : (long : ℕ) → List ℕ → List Element → List AttList → (i : ℕ) → Reading Listed
+listedElement long s es ls i =
     let e = nameEnd s i in
     let k = declaredFrom 1 s es i (e - i) in
     elim (letter (byteAt s i)) [
-      | true ↦ elim (ltb (c .nameLength) (e - i)) [
+      | true ↦ elim (ltb long (e - i)) [
         | true ↦ refused 3 i
         | false ↦ elim (leb 1 k) [
           | true ↦ elim (isListed ls k) [ true ↦ refused 20 i | false ↦ got (record { element = k; at = e }) ]
@@ -641,31 +640,31 @@ pub record Declarations : Type 0 where
   pub at : ℕ
 
 -- An attribute definition list declaration whose keyword ends at `at`.
-unfoldable pub attributeList : Settings → List ℕ → (at : ℕ) → List Element → List AttList → Reading Declarations
-attributeList c s at es ls =
+unfoldable pub attributeList : (long : ℕ) → List ℕ → (at : ℕ) → List Element → List AttList → Reading Declarations
+attributeList long s at es ls =
     andThen (gap s at) λ i.
-    andThen (listedElement c s es ls i) λ l.
-    andThen (listFrom c s (l .at)) λ x.
+    andThen (listedElement long s es ls i) λ l.
+    andThen (listFrom long s (l .at)) λ x.
     got (record { elements = es; lists = ls ++ record { element = l .element; attributes = x .attributes } ∷ []; at = x .at })
 
 -- The type file
 
 -- `<!` and a letter: "`<!` and a name of 1 to 8 other than ELEMENT" is number 5, and that too reads "with the given length for 8"; "ATTLIST leaves the
 -- list under 5".
-unfoldable pub keyword : Settings → List ℕ → ℕ → List Element → List AttList → Reading Declarations
-keyword c s i es ls =
+unfoldable pub keyword : (long : ℕ) → List ℕ → ℕ → List Element → List AttList → Reading Declarations
+keyword long s i es ls =
     let e = nameEnd s (i + 2) in
-    elim (ltb (c .nameLength) (e - (i + 2))) [
+    elim (ltb long (e - (i + 2))) [
       | true ↦ refused 3 (i + 2)
       | false ↦ elim (isWord s (i + 2) e ELEMENT) [
-        | true ↦ andThen (element c s e es) λ d. got (record { elements = d .elements; lists = ls; at = d .at })
-        | false ↦ elim (isWord s (i + 2) e ATTLIST) [ true ↦ attributeList c s e es ls | false ↦ refused 5 i ]
+        | true ↦ andThen (element long s e es) λ d. got (record { elements = d .elements; lists = ls; at = d .at })
+        | false ↦ elim (isWord s (i + 2) e ATTLIST) [ true ↦ attributeList long s e es ls | false ↦ refused 5 i ]
       ]
     ]
 
 -- `<!` at i: `<!>`, a comment declaration, `<![` (number 5) or a keyword. "No gap stands between `<!` and its keyword."
-unfoldable pub markup : Settings → List ℕ → ℕ → List Element → List AttList → Reading Declarations
-markup c s i es ls =
+unfoldable pub markup : (long : ℕ) → List ℕ → ℕ → List Element → List AttList → Reading Declarations
+markup long s i es ls =
     let b = byteAt s (i + 2) in
     elim (eqb b MDC) [
       | true ↦ got (record { elements = es; lists = ls; at = i + 3 })
@@ -674,29 +673,29 @@ markup c s i es ls =
           | true ↦ andThen (commentDeclaration s (i + 2)) λ j. got (record { elements = es; lists = ls; at = j })
           | false ↦ refused 4 (i + 3)
         ]
-        | false ↦ elim (eqb b DSO) [ true ↦ refused 5 i | false ↦ elim (letter b) [ true ↦ keyword c s i es ls | false ↦ refused 4 (i + 2) ] ]
+        | false ↦ elim (eqb b DSO) [ true ↦ refused 5 i | false ↦ elim (letter b) [ true ↦ keyword long s i es ls | false ↦ refused 4 (i + 2) ] ]
       ]
     ]
 
 -- What stands at i, where a declaration may begin and the input does not end.
-unfoldable pub declaration : Settings → List ℕ → ℕ → List Element → List AttList → Reading Declarations
-declaration c s i es ls =
+unfoldable pub declaration : (long : ℕ) → List ℕ → ℕ → List Element → List AttList → Reading Declarations
+declaration long s i es ls =
     let b = byteAt s i in
     let second = byteAt s (i + 1) in
     elim (eqb b STAGO) [
-      | true ↦ elim (eqb second EXCLAMATION) [ true ↦ markup c s i es ls | false ↦ elim (eqb second OPT) [ true ↦ refused 5 i | false ↦ refused 4 (i + 1) ] ]
+      | true ↦ elim (eqb second EXCLAMATION) [ true ↦ markup long s i es ls | false ↦ elim (eqb second OPT) [ true ↦ refused 5 i | false ↦ refused 4 (i + 1) ] ]
       | false ↦ elim (eqb b PERO) [ true ↦ refused 5 i | false ↦ refused 4 i ]
     ]
 
 -- "Separators, comment declarations, `<!>` and element declarations", and attribute lists, from `at` on. A type file with no element is number 8 at its length.
 -- Each turn but the last takes a declaration, so there are fewer turns than bytes.
-unfoldable pub declarationsWithin : Settings → ℕ → List ℕ → ℕ → List Element → List AttList → Reading Declarations
-declarationsWithin c zero s at es ls = refused 4 (length s)
-declarationsWithin c (suc turns) s at es ls =
+unfoldable pub declarationsWithin : (long : ℕ) → ℕ → List ℕ → ℕ → List Element → List AttList → Reading Declarations
+declarationsWithin long zero s at es ls = refused 4 (length s)
+declarationsWithin long (suc turns) s at es ls =
     let i = separatorsEnd s at in
     elim (leb (length s) i) [
       | true ↦ elim (eqb (length es) 0) [ true ↦ refused 8 (length s) | false ↦ got (record { elements = es; lists = ls; at = i }) ]
-      | false ↦ andThen (declaration c s i es ls) λ d. declarationsWithin c turns s (d .at) (d .elements) (d .lists)
+      | false ↦ andThen (declaration long s i es ls) λ d. declarationsWithin long turns s (d .at) (d .elements) (d .lists)
     ]
 
 -- The attributes of the list for the element with this number; none where there is no such list.
@@ -710,5 +709,5 @@ listed k ls [] = []
 listed k ls (e ∷ es) =
     record { at = e .at; size = e .size; start = e .start; end = e .end; content = e .content; repeated = e .repeated; attributes = attributesOf ls k } ∷ listed (k + 1) ls es
 
-unfoldable pub typeFile : Settings → List ℕ → Reading (List Element)
-typeFile c s = andThen (declarationsWithin c (suc (length s)) s 0 [] []) λ d. got (listed 1 (d .lists) (d .elements))
+unfoldable pub typeFile : (long : ℕ) → List ℕ → Reading (List Element)
+typeFile long s = andThen (declarationsWithin long (suc (length s)) s 0 [] []) λ d. got (listed 1 (d .lists) (d .elements))

@@ -2,7 +2,6 @@
 use Prim.Native.Nat.{ℕ, _+_, _-_}
 use mathlib.Core.Path.{_≡_, refl, sym, _∙_, ap, ap₂}
 use mathlib.Core.List.{List, [], _∷_, _++_, append-assoc}
-use Rattle.rules.specs.Settings.{Settings}
 use Rattle.rules.specs.Reading.{got}
 use Rattle.rules.specs.TypeFile.{Element}
 use Rattle.rules.specs.Document.{Tag, startTagAt}
@@ -10,17 +9,17 @@ use Rattle.rules.specs.Elements.{elementAt}
 use Rattle.rules.specs.Events.{Event, startWritten, startInferred, endWritten, endInferred, dataRun, endOfEmpty}
 use Rattle.rules.specs.Given.{attributeEvents, givenBy, attributesBefore, withAttributes}
 
-module _ (c : Settings) (s : List ℕ) (es : List Element) (d : List ℕ) where
+module _ (long : ℕ) (s : List ℕ) (es : List Element) (d : List ℕ) where
   abbrev With : List Event → List Event
-  With = withAttributes c s es d
+  With = withAttributes long s es d
 
   pub with-append : (a b : List Event) → With (a ++ b) ≡ With a ++ With b
   unfolding withAttributes
   with-append [] b = refl
-  with-append (e ∷ a) b = ap (λ (ev : List Event). attributesBefore c s es d e ++ e ∷ ev) (with-append a b) ∙ sym (append-assoc (attributesBefore c s es d e) (e ∷ With a) (With b))
+  with-append (e ∷ a) b = ap (λ (ev : List Event). attributesBefore long s es d e ++ e ∷ ev) (with-append a b) ∙ sym (append-assoc (attributesBefore long s es d e) (e ∷ With a) (With b))
 
   -- An event before which none comes.
-  alone : (e : Event) → attributesBefore c s es d e ≡ [] → With (e ∷ []) ≡ e ∷ []
+  alone : (e : Event) → attributesBefore long s es d e ≡ [] → With (e ∷ []) ≡ e ∷ []
   unfolding withAttributes
   alone e h = ap (λ (ev : List Event). ev ++ e ∷ []) h
 
@@ -46,13 +45,13 @@ module _ (c : Settings) (s : List ℕ) (es : List Element) (d : List ℕ) where
   with-start-inferred k at p = refl
 
   -- A start that is written, by the tag that stands there.
-  pub with-start-written : (k at after p : ℕ) {t : Tag} → startTagAt c d (at + 1) ≡ got t → With (startWritten k at after p ∷ []) ≡ attributeEvents 1 s (elementAt es (k - 1) .attributes) d (t .written) ++ startWritten k at after p ∷ []
+  pub with-start-written : (k at after p : ℕ) {t : Tag} → startTagAt long d (at + 1) ≡ got t → With (startWritten k at after p ∷ []) ≡ attributeEvents 1 s (elementAt es (k - 1) .attributes) d (t .written) ++ startWritten k at after p ∷ []
   unfolding attributesBefore withAttributes
   with-start-written k at after p e = ap (λ r. attributeEvents 1 s (elementAt es (k - 1) .attributes) d (givenBy r) ++ startWritten k at after p ∷ []) e
 
 -- Attribute events come before none of these.
 pub record Plain (ev : List Event) : Type 0 where
-  pub plain : (c : Settings) (s : List ℕ) (es : List Element) (d : List ℕ) → withAttributes c s es d ev ≡ ev
+  pub plain : (long : ℕ) (s : List ℕ) (es : List Element) (d : List ℕ) → withAttributes long s es d ev ≡ ev
 
 pub plain-none : Plain []
 unfolding withAttributes

@@ -9,12 +9,11 @@ use native.Mathlib.Omega.{arith}
 use lib.ListN.{length}
 use lib.Dec.{eqb, leb, ltb}
 use borrow.Author.Tests.{eqb-false, ltb-false, leb-false}
-use Rattle.rules.specs.Settings.{Settings}
 use Rattle.rules.specs.Bytes.{byteAt, letter, nameEnd, separatorsEnd, elementLimit}
 use Rattle.rules.specs.Reading.{refused, got}
 use Rattle.rules.specs.Attributes.{Attribute, AttList}
 use Rattle.rules.specs.TypeFile.{commentDeclaration, gap, isWord, O, ELEMENT, ATTLIST, ContentEnd, Element, isDeclared, elementName, Word, omission, Head, words, head, content, close, Declared, rest, element, declaredFrom, isListed, Listed, listedElement, Declarations, attributeList, keyword, markup, declaration, declarationsWithin, attributesOf, listed, typeFile, declare}
-use Rattle.text.specs.Laws.{test-in, letter-in, nameEnd-from, nameEnd-le, nameEnd-more, separatorsEnd-from, separatorsEnd-le}
+use Rattle.text.specs.Words.{test-in, letter-in, nameEnd-from, nameEnd-le, nameEnd-more, separatorsEnd-from, separatorsEnd-le}
 use Rattle.rules_laws.specs.Holds.{Holds, stops, reads, got-so, known, so, on, on-same, either, whichever}
 use Rattle.rules_laws.specs.In.{All, none, more, all-snoc, NameIn}
 use Rattle.rules_laws.specs.Groups.{InType, InFrom, unfit-holds, content-read, whatever-builds}
@@ -23,13 +22,13 @@ use Rattle.rules_laws.specs.Definitions.{InFile, in-file, at-file, early
 
 -- How the declaration of e was read behind the elements es: its keyword ends at `from`, it ends at `after`, and its content was read at
 -- `begun`, where the parameter before had ended at `before`.
-pub record Declares (c : Settings) (s : List ℕ) (es : List Element) (e : Element) : Type 0 where
+pub record Declares (long : ℕ) (s : List ℕ) (es : List Element) (e : Element) : Type 0 where
   pub from : ℕ
   pub after : ℕ
-  pub read : element c s from es ≡ got (record { elements = es ++ e ∷ []; at = after })
+  pub read : element long s from es ≡ got (record { elements = es ++ e ∷ []; at = after })
   pub begins : gap s from ≡ got (e .at)
   pub name : NameIn s (e .at) (e .size)
-  pub short : e .size ≤ c .nameLength
+  pub short : e .size ≤ long
   pub named : letter (byteAt s (e .at)) ≡ true
   pub fresh : isDeclared s es (e .at) (e .size) ≡ false
   pub room : length es < elementLimit
@@ -38,13 +37,13 @@ pub record Declares (c : Settings) (s : List ℕ) (es : List Element) (e : Eleme
   pub before : ℕ
   pub begun : ℕ
   pub ends : ℕ
-  pub contentRead : content c s before begun ≡ got (record { content = e .content; at = ends; repeated = e .repeated })
+  pub contentRead : content long s before begun ≡ got (record { content = e .content; at = ends; repeated = e .repeated })
   pub unlisted : e .attributes ≡ []
 
 -- What is known of a name from i to e, of one of the two words, of both, of a head, and of what follows it.
-pub record NameRead (c : Settings) (s : List ℕ) (es : List Element) (i e : ℕ) : Type 0 where
+pub record NameRead (long : ℕ) (s : List ℕ) (es : List Element) (i e : ℕ) : Type 0 where
   pub name : NameIn s i (e - i)
-  pub short : e - i ≤ c .nameLength
+  pub short : e - i ≤ long
   pub named : letter (byteAt s i) ≡ true
   pub fresh : isDeclared s es i (e - i) ≡ false
   pub room : length es < elementLimit
@@ -63,39 +62,39 @@ pub record WordsRead (s : List ℕ) (i e : ℕ) (h : Head) : Type 0 where
   pub from : e ≤ h .at
   pub inside : h .at ≤ length s
 
-record HeadRead (c : Settings) (s : List ℕ) (es : List Element) (at : ℕ) (h : Head) : Type 0 where
+record HeadRead (long : ℕ) (s : List ℕ) (es : List Element) (at : ℕ) (h : Head) : Type 0 where
   begins : gap s at ≡ got (h .name)
-  name : NameRead c s es (h .name) (h .name + h .size)
+  name : NameRead long s es (h .name) (h .name + h .size)
   start : h .start ≤ 1
   end : h .end ≤ 1
   from : at ≤ h .at
   inside : h .at ≤ length s
 
-record RestRead (c : Settings) (s : List ℕ) (es : List Element) (h : Head) (d : Declared) : Type 0 where
+record RestRead (long : ℕ) (s : List ℕ) (es : List Element) (h : Head) (d : Declared) : Type 0 where
   before : ℕ
   begun : ℕ
   inner : ContentEnd
-  contentRead : content c s before begun ≡ got inner
+  contentRead : content long s before begun ≡ got inner
   elements : d .elements ≡ es ++ declare h inner ∷ []
   from : h .at < d .at
   inside : d .at ≤ length s
 
 -- A declaration adds no element, or one.
-data Grows (c : Settings) (s : List ℕ) (es : List Element) : List Element → Type 0 where
-  same : Grows c s es es
-  one : (e : Element) → Declares c s es e → Grows c s es (es ++ e ∷ [])
+data Grows (long : ℕ) (s : List ℕ) (es : List Element) : List Element → Type 0 where
+  same : Grows long s es es
+  one : (e : Element) → Declares long s es e → Grows long s es (es ++ e ∷ [])
 
 -- An attribute list that was read; and the attributes of an element, if it has some.
-abbrev pub ListIn : Settings → List ℕ → AttList → Type 0
-ListIn c s l = ListRead c s (l .attributes)
+abbrev pub ListIn : ℕ → List ℕ → AttList → Type 0
+ListIn long s l = ListRead long s (l .attributes)
 
-abbrev pub ListedIn : Settings → List ℕ → List Attribute → Type 0
-ListedIn c s xs = (xs ≡ []) ⊎ ListRead c s xs
+abbrev pub ListedIn : ℕ → List ℕ → List Attribute → Type 0
+ListedIn long s xs = (xs ≡ []) ⊎ ListRead long s xs
 
 -- A declaration adds no list, or one.
-data Adds (c : Settings) (s : List ℕ) (ls : List AttList) : List AttList → Type 0 where
-  nothing : Adds c s ls ls
-  list : (l : AttList) → ListIn c s l → Adds c s ls (ls ++ l ∷ [])
+data Adds (long : ℕ) (s : List ℕ) (ls : List AttList) : List AttList → Type 0 where
+  nothing : Adds long s ls ls
+  list : (l : AttList) → ListIn long s l → Adds long s ls (ls ++ l ∷ [])
 
 -- An element without its attributes, as it is while the type file is read: they come with a list further on.
 abbrev pub bare : Element → Element
@@ -108,22 +107,22 @@ bares (e ∷ es) = bare e ∷ bares es
 abbrev Bare : Element → Type 0
 Bare e = e .attributes ≡ []
 
-record DeclaredRead (c : Settings) (s : List ℕ) (i : ℕ) (es : List Element) (d : Declared) : Type 0 where
+record DeclaredRead (long : ℕ) (s : List ℕ) (i : ℕ) (es : List Element) (d : Declared) : Type 0 where
   from : i < d .at
   inside : d .at ≤ length s
-  grows : Grows c s es (d .elements)
+  grows : Grows long s es (d .elements)
 
 -- What was read up to behind i, where these elements and lists were read before.
-record DeclarationsRead (c : Settings) (s : List ℕ) (i : ℕ) (es : List Element) (ls : List AttList) (d : Declarations) : Type 0 where
+record DeclarationsRead (long : ℕ) (s : List ℕ) (i : ℕ) (es : List Element) (ls : List AttList) (d : Declarations) : Type 0 where
   from : i < d .at
   inside : d .at ≤ length s
-  grows : Grows c s es (d .elements)
-  lists : Adds c s ls (d .lists)
+  grows : Grows long s es (d .elements)
+  lists : Adds long s ls (d .lists)
 
 bare-same : {e : Element} → Bare e → bare e ≡ e
 bare-same {e} h = ap (λ (xs : List Attribute). record { at = e .at; size = e .size; start = e .start; end = e .end; content = e .content; repeated = e .repeated; attributes = xs }) (sym h)
 
-bare-grown : {c : Settings} {s : List ℕ} {es ds : List Element} → Grows c s es ds → All Bare es → All Bare ds
+bare-grown : {long : ℕ} {s : List ℕ} {es ds : List Element} → Grows long s es ds → All Bare es → All Bare ds
 bare-grown same a = a
 bare-grown (one e d) a = all-snoc a (d .unlisted)
 
@@ -157,22 +156,22 @@ module _ (s : List ℕ) where
 
 -- Element declarations
 
-module _ (c : Settings) (s : List ℕ) where
-  pub elementName-read : (i : ℕ) (es : List Element) → i ≤ length s → Holds (InType s) (NameRead c s es i) (elementName c s i es)
+module _ (long : ℕ) (s : List ℕ) where
+  pub elementName-read : (i : ℕ) (es : List Element) → i ≤ length s → Holds (InType s) (NameRead long s es i) (elementName long s i es)
   unfolding elementName
   elementName-read i es h =
       let e = nameEnd s i in
       let l = nameEnd-le s i h in
       let f = nameEnd-from s i in
       either (letter (byteAt s i))
-      (λ x. either (ltb (c .nameLength) (e - i)) (λ y. stops (omega arith))
+      (λ x. either (ltb long (e - i)) (λ y. stops (omega arith))
       (λ y. either (isDeclared s es i (e - i)) (λ z. stops (omega arith))
       (λ z. either (leb elementLimit (length es)) (λ u. stops (omega arith))
       (λ u.
       reads (record { name = record { some = omega (arith, nameEnd-more s i x); ends = omega arith }; short = ltb-false _ _ y; named = x; fresh = z; room = leb-false _ _ u; inside = l })))))
       (λ x. either (eqb (byteAt s i) 40) (λ y. stops (omega arith)) (λ y. unfit-holds s i (λ n k r. r h)))
 
-  pub omission-read : (from i : ℕ) → Holds (InFrom s i) (WordRead s i) (omission c s from i)
+  pub omission-read : (from i : ℕ) → Holds (InFrom s i) (WordRead s i) (omission long s from i)
   unfolding omission
   omission-read from i =
       let e = nameEnd s i in
@@ -182,15 +181,15 @@ module _ (c : Settings) (s : List ℕ) where
       (λ x. either (letter b)
       (λ y.
       let l = letter-in s i y in
-      either (ltb (c .nameLength) (e - i)) (λ z. stops (λ h. omega arith))
+      either (ltb long (e - i)) (λ z. stops (λ h. omega arith))
       (λ z. either (ltb from i && isWord s i e O) (λ u. reads (record { value = omega arith; from = nameEnd-from s i; inside = nameEnd-le s i (omega arith) })) (λ u. stops (λ h. omega arith))))
       (λ y. stops (λ h. omega arith)))
 
   -- One of the words, at a position in the input.
-  omission-at : (from i : ℕ) → i ≤ length s → Holds (InType s) (WordRead s i) (omission c s from i)
+  omission-at : (from i : ℕ) → i ≤ length s → Holds (InType s) (WordRead s i) (omission long s from i)
   omission-at from i h = so (omission-read from i) (λ n k x. x h) (λ w x. x)
 
-  pub words-read : (i e : ℕ) → e ≤ length s → Holds (InType s) (WordsRead s i e) (words c s i e)
+  pub words-read : (i e : ℕ) → e ≤ length s → Holds (InType s) (WordsRead s i e) (words long s i e)
   unfolding words
   words-read i e h =
       on (gap-within s e h) λ j p.
@@ -199,7 +198,7 @@ module _ (c : Settings) (s : List ℕ) where
       on (omission-at (a .at) k (r .1)) λ b t.
       reads (record { name = refl; size = refl; start = q .value; end = t .value; from = omega (arith, p, q .from, r, t .from); inside = t .inside })
 
-  head-read : (at : ℕ) (es : List Element) → at ≤ length s → Holds (InType s) (HeadRead c s es at) (head c s at es)
+  head-read : (at : ℕ) (es : List Element) → at ≤ length s → Holds (InType s) (HeadRead long s es at) (head long s at es)
   unfolding head
   head-read at es h =
       on (known (gap-within s at h)) λ i p.
@@ -215,25 +214,25 @@ module _ (c : Settings) (s : List ℕ) where
         inside = w .inside;
       }
 
-  rest-read : (es : List Element) (h : Head) → h .at ≤ length s → Holds (InType s) (RestRead c s es h) (rest c s es h)
+  rest-read : (es : List Element) (h : Head) → h .at ≤ length s → Holds (InType s) (RestRead long s es h) (rest long s es h)
   unfolding rest
   rest-read es h l =
       on (gap-within s (h .at) l) λ i p.
-      on (so (known (content-read c s whatever-builds (h .at) i)) (λ n k x. x (p .1)) (λ y x. x)) λ y q.
+      on (so (known (content-read long s whatever-builds (h .at) i)) (λ n k x. x (p .1)) (λ y x. x)) λ y q.
       on (gap-within s (y .at) (q .1 .inside)) λ j r.
       on (so (close-read s j) (λ n k x. x (r .1)) (λ k x. x)) λ k t.
       reads (record { before = h .at; begun = i; inner = y; contentRead = q .0; elements = refl; from = omega (arith, p, q .1 .from, r, t); inside = t .1 })
 
-  element-parts : (at : ℕ) (es : List Element) → at ≤ length s → Holds (InType s) (λ (d : Declared). (h : Head) × HeadRead c s es at h × RestRead c s es h d) (element c s at es)
+  element-parts : (at : ℕ) (es : List Element) → at ≤ length s → Holds (InType s) (λ (d : Declared). (h : Head) × HeadRead long s es at h × RestRead long s es h d) (element long s at es)
   unfolding element
   element-parts at es l = on (head-read at es l) λ h w. so (rest-read es h (w .inside)) (λ n k x. x) (λ d a. (h, w, a))
 
-  declares : (at : ℕ) (es : List Element) (h : Head) (d : Declared) → element c s at es ≡ got d → HeadRead c s es at h → RestRead c s es h d → Grows c s es (d .elements)
+  declares : (at : ℕ) (es : List Element) (h : Head) (d : Declared) → element long s at es ≡ got d → HeadRead long s es at h → RestRead long s es h d → Grows long s es (d .elements)
   declares at es h d r w a =
       let e = declare h (a .inner) in
       let whole : d ≡ record { elements = es ++ e ∷ []; at = d .at } = ap (λ (l : List Element). record { elements = l; at = d .at }) (a .elements) in
       let z : h .name + h .size - h .name ≡ h .size = omega arith in
-      subst (Grows c s es) (sym (a .elements))
+      subst (Grows long s es) (sym (a .elements))
       (one e
       (record {
         from = at;
@@ -254,7 +253,7 @@ module _ (c : Settings) (s : List ℕ) where
         unlisted = refl;
       }))
 
-  element-read : (i at : ℕ) (es : List Element) → i < at → at ≤ length s → Holds (InType s) (DeclaredRead c s i es) (element c s at es)
+  element-read : (i at : ℕ) (es : List Element) → i < at → at ≤ length s → Holds (InType s) (DeclaredRead long s i es) (element long s at es)
   element-read i at es h l =
       so (known (element-parts at es l)) (λ n k x. x) λ d x.
       let (r, p) = x in
@@ -263,24 +262,24 @@ module _ (c : Settings) (s : List ℕ) where
 
   -- Attribute lists
 
-  pub listed-read : (i : ℕ) (es : List Element) (ls : List AttList) → i ≤ length s → Holds (InFile s) (λ (l : Listed). (i < l .at) × (l .at ≤ length s)) (listedElement c s es ls i)
+  pub listed-read : (i : ℕ) (es : List Element) (ls : List AttList) → i ≤ length s → Holds (InFile s) (λ (l : Listed). (i < l .at) × (l .at ≤ length s)) (listedElement long s es ls i)
   unfolding listedElement
   listed-read i es ls h =
       let e = nameEnd s i in
       let k = declaredFrom 1 s es i (e - i) in
       either (letter (byteAt s i))
-      (λ x. either (ltb (c .nameLength) (e - i)) (λ y. early s (omega arith))
+      (λ x. either (ltb long (e - i)) (λ y. early s (omega arith))
       (λ y. either (leb 1 k)
       (λ z. either (isListed ls k) (λ u. twice s h) (λ u. reads (nameEnd-more s i x, nameEnd-le s i h)))
       (λ z. undeclared s h)))
       (λ x. either (eqb (byteAt s i) 40) (λ y. early s (omega arith)) (λ y. unfit-holds s i (λ n k r. in-file s (r h))))
 
-  list-parts : (i at : ℕ) (es : List Element) (ls : List AttList) → i < at → at ≤ length s → Holds (InFile s) (DeclarationsRead c s i es ls) (attributeList c s at es ls)
+  list-parts : (i at : ℕ) (es : List Element) (ls : List AttList) → i < at → at ≤ length s → Holds (InFile s) (DeclarationsRead long s i es ls) (attributeList long s at es ls)
   unfolding attributeList
   list-parts i at es ls h l =
       on (at-file s (gap-within s at l)) λ j p.
       on (listed-read j es ls (p .1)) λ y q.
-      on (known (list-holds c s (λ xs. Unit {0}) (λ xs a x d. tt) (y .at) (q .1) tt)) λ z r.
+      on (known (list-holds long s (λ xs. Unit {0}) (λ xs a x d. tt) (y .at) (q .1) tt)) λ z r.
       reads
       (record {
         from = omega (arith, p, q, r .1 .from);
@@ -291,17 +290,17 @@ module _ (c : Settings) (s : List ℕ) where
 
   -- The type file
 
-  keyword-read : (i : ℕ) (es : List Element) (ls : List AttList) → i + 2 ≤ length s → Holds (InFile s) (DeclarationsRead c s i es ls) (keyword c s i es ls)
+  keyword-read : (i : ℕ) (es : List Element) (ls : List AttList) → i + 2 ≤ length s → Holds (InFile s) (DeclarationsRead long s i es ls) (keyword long s i es ls)
   unfolding keyword
   keyword-read i es ls h =
       let e = nameEnd s (i + 2) in
       let from : i < e = omega (arith, nameEnd-from s (i + 2)) in
-      either (ltb (c .nameLength) (e - (i + 2))) (λ x. early s (omega arith))
+      either (ltb long (e - (i + 2))) (λ x. early s (omega arith))
       (λ x. either (isWord s (i + 2) e ELEMENT)
       (λ y. on (at-file s (element-read i e es from (nameEnd-le s (i + 2) h))) (λ d r. reads (record { from = r .from; inside = r .inside; grows = r .grows; lists = nothing })))
       (λ y. either (isWord s (i + 2) e ATTLIST) (λ z. list-parts i e es ls from (nameEnd-le s (i + 2) h)) (λ z. early s (omega arith))))
 
-  markup-read : (i : ℕ) (es : List Element) (ls : List AttList) → i + 2 ≤ length s → Holds (InFile s) (DeclarationsRead c s i es ls) (markup c s i es ls)
+  markup-read : (i : ℕ) (es : List Element) (ls : List AttList) → i + 2 ≤ length s → Holds (InFile s) (DeclarationsRead long s i es ls) (markup long s i es ls)
   unfolding markup
   markup-read i es ls h =
       let b = byteAt s (i + 2) in
@@ -311,7 +310,7 @@ module _ (c : Settings) (s : List ℕ) where
       (λ z. early s (omega (arith, test-in (λ v. eqb v 45) refl s (i + 2) y))))
       (λ y. either (eqb b 91) (λ z. early s (omega arith)) (λ z. either (letter b) (λ u. keyword-read i es ls h) (λ u. early s (omega arith)))))
 
-  declaration-read : (i : ℕ) (es : List Element) (ls : List AttList) → i < length s → Holds (InFile s) (DeclarationsRead c s i es ls) (declaration c s i es ls)
+  declaration-read : (i : ℕ) (es : List Element) (ls : List AttList) → i < length s → Holds (InFile s) (DeclarationsRead long s i es ls) (declaration long s i es ls)
   unfolding declaration
   declaration-read i es ls h =
       let b = byteAt s i in
@@ -321,25 +320,25 @@ module _ (c : Settings) (s : List ℕ) where
       (λ y. either (eqb second 63) (λ z. early s (omega arith)) (λ z. early s (omega arith))))
       (λ x. either (eqb b 37) (λ y. early s (omega arith)) (λ y. early s (omega arith)))
 
-  listed-in : {ls ms : List AttList} → Adds c s ls ms → All (ListIn c s) ls → All (ListIn c s) ms
+  listed-in : {ls ms : List AttList} → Adds long s ls ms → All (ListIn long s) ls → All (ListIn long s) ms
   listed-in nothing a = a
   listed-in (list l r) a = all-snoc a r
 
   -- The attributes of an element were read as its list, or it has none.
-  attributes-in : {ls : List AttList} → All (ListIn c s) ls → (k : ℕ) → ListedIn c s (attributesOf ls k)
+  attributes-in : {ls : List AttList} → All (ListIn long s) ls → (k : ℕ) → ListedIn long s (attributesOf ls k)
   unfolding attributesOf
   attributes-in none k = inl refl
-  attributes-in (more {x = l} r a) k = whichever (ListedIn c s) (eqb (l .element) k) (λ e. inr r) (λ e. attributes-in a k)
+  attributes-in (more {x = l} r a) k = whichever (ListedIn long s) (eqb (l .element) k) (λ e. inr r) (λ e. attributes-in a k)
 
-  listed-each : {ls : List AttList} → All (ListIn c s) ls → (k : ℕ) (es : List Element) → All (λ (e : Element). ListedIn c s (e .attributes)) (listed k ls es)
+  listed-each : {ls : List AttList} → All (ListIn long s) ls → (k : ℕ) (es : List Element) → All (λ (e : Element). ListedIn long s (e .attributes)) (listed k ls es)
   unfolding listed
   listed-each a k [] = none
   listed-each a k (e ∷ es) = more (attributes-in a k) (listed-each a (k + 1) es)
 
   -- What holds where nothing is declared, and with a further element, holds of what is read, but for the attributes, which come behind. Those of each element are its
   -- list's.
-  module _ (I : List Element → Type 0) (further : (es : List Element) (e : Element) → I es → Declares c s es e → I (es ++ e ∷ [])) where
-    grown : {es ds : List Element} → Grows c s es ds → I es → I ds
+  module _ (I : List Element → Type 0) (further : (es : List Element) (e : Element) → I es → Declares long s es e → I (es ++ e ∷ [])) where
+    grown : {es ds : List Element} → Grows long s es ds → I es → I ds
     grown same x = x
     grown {es} (one e d) x = further es e x d
 
@@ -347,9 +346,9 @@ module _ (c : Settings) (s : List ℕ) where
       some : 1 ≤ length (d .elements)
       each : I (d .elements)
       bare : All Bare (d .elements)
-      lists : All (ListIn c s) (d .lists)
+      lists : All (ListIn long s) (d .lists)
 
-    declarations-hold : (turns at : ℕ) (es : List Element) (ls : List AttList) → at ≤ length s → I es → All Bare es → All (ListIn c s) ls → Holds (InFile s) Whole (declarationsWithin c turns s at es ls)
+    declarations-hold : (turns at : ℕ) (es : List Element) (ls : List AttList) → at ≤ length s → I es → All Bare es → All (ListIn long s) ls → Holds (InFile s) Whole (declarationsWithin long turns s at es ls)
     unfolding declarationsWithin
     declarations-hold zero at es ls h x y z = early s {n = 4} {k = length s} (omega arith)
     declarations-hold (suc turns) at es ls h x y z =
@@ -359,7 +358,7 @@ module _ (c : Settings) (s : List ℕ) where
         (λ u. on (declaration-read i es ls (leb-false _ _ u))
         (λ d r. declarations-hold turns (d .at) (d .elements) (d .lists) (r .inside) (grown (r .grows) x) (bare-grown (r .grows) y) (listed-in (r .lists) z)))
 
-    pub typeFile-holds : I [] → Holds (InFile s) (λ (es : List Element). (1 ≤ length es) × I (bares es) × All (λ (e : Element). ListedIn c s (e .attributes)) es) (typeFile c s)
+    pub typeFile-holds : I [] → Holds (InFile s) (λ (es : List Element). (1 ≤ length es) × I (bares es) × All (λ (e : Element). ListedIn long s (e .attributes)) es) (typeFile long s)
     unfolding typeFile
     typeFile-holds x =
         on (declarations-hold (suc (length s)) 0 [] [] (omega arith) x none none) λ d r.
@@ -370,7 +369,7 @@ module _ (c : Settings) (s : List ℕ) where
         )
 
   -- The bound on the turns is never reached: any two that are enough give the same.
-  pub declarations-enough : (m n at : ℕ) (es : List Element) (ls : List AttList) → at ≤ length s → length s - at < m → length s - at < n → declarationsWithin c m s at es ls ≡ declarationsWithin c n s at es ls
+  pub declarations-enough : (m n at : ℕ) (es : List Element) (ls : List AttList) → at ≤ length s → length s - at < m → length s - at < n → declarationsWithin long m s at es ls ≡ declarationsWithin long n s at es ls
   unfolding declarationsWithin
   declarations-enough zero n at es ls h i j = absurd (omega arith)
   declarations-enough (suc m) zero at es ls h i j = absurd (omega arith)
@@ -380,8 +379,8 @@ module _ (c : Settings) (s : List ℕ) where
       k = separatorsEnd s at
 
       go : (b : Bool) → leb (length s) k ≡ b
-          → ((d : Declarations) → DeclarationsRead c s k es ls d → length s - d .at < m → length s - d .at < n → declarationsWithin c m s (d .at) (d .elements) (d .lists) ≡ declarationsWithin c n s (d .at) (d .elements) (d .lists))
-          → declarationsWithin c (suc m) s at es ls ≡ declarationsWithin c (suc n) s at es ls
+          → ((d : Declarations) → DeclarationsRead long s k es ls d → length s - d .at < m → length s - d .at < n → declarationsWithin long m s (d .at) (d .elements) (d .lists) ≡ declarationsWithin long n s (d .at) (d .elements) (d .lists))
+          → declarationsWithin long (suc m) s at es ls ≡ declarationsWithin long (suc n) s at es ls
       go true e ih = rw (declarationsWithin, e)
       go false e ih =
           rw (declarationsWithin, e)
@@ -390,11 +389,11 @@ module _ (c : Settings) (s : List ℕ) where
 
 -- Where a word, the words and the end of a declaration lead.
 
-pub omission-range : (c : Settings) (s : List ℕ) (from i : ℕ) (w : Word) → i ≤ length s → omission c s from i ≡ got w → (i ≤ w .at) × (w .at ≤ length s)
-omission-range c s from i w h e = let r = got-so (omission-read c s from i) e in (r .from, r .inside)
+pub omission-range : (long : ℕ) (s : List ℕ) (from i : ℕ) (w : Word) → i ≤ length s → omission long s from i ≡ got w → (i ≤ w .at) × (w .at ≤ length s)
+omission-range long s from i w h e = let r = got-so (omission-read long s from i) e in (r .from, r .inside)
 
-pub words-range : (c : Settings) (s : List ℕ) (i e : ℕ) (h : Head) → e ≤ length s → words c s i e ≡ got h → (e ≤ h .at) × (h .at ≤ length s) × (h .name ≡ i) × (h .size ≡ e - i)
-words-range c s i e h l q = let r = got-so (words-read c s i e l) q in (r .from, r .inside, r .name, r .size)
+pub words-range : (long : ℕ) (s : List ℕ) (i e : ℕ) (h : Head) → e ≤ length s → words long s i e ≡ got h → (e ≤ h .at) × (h .at ≤ length s) × (h .name ≡ i) × (h .size ≡ e - i)
+words-range long s i e h l q = let r = got-so (words-read long s i e l) q in (r .from, r .inside, r .name, r .size)
 
 pub close-range : (s : List ℕ) (i k : ℕ) → close s i ≡ got k → (i < k) × (k ≤ length s)
 close-range s i k e = omega (arith, got-so (close-read s i) e)

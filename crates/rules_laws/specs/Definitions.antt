@@ -9,12 +9,11 @@ use native.Mathlib.Omega.{arith}
 use lib.ListN.{length, drop, length-append}
 use lib.Dec.{eqb, leb, ltb}
 use borrow.Author.Tests.{ltb-true, ltb-false, leb-true, leb-false}
-use Rattle.rules.specs.Settings.{Settings}
 use Rattle.rules.specs.Bytes.{byteAt, letter, nameEnd, separatorsEnd, GRPCNT, ATTCNT}
 use Rattle.rules.specs.Reading.{Reading, refused, got}
 use Rattle.rules.specs.Attributes.{Part, bytesIn, quote, inLiteral, literalEnd, DeclaredValue, cdata, number, name, tokens, Default, required, implied, literal, Attribute, attributeOf, fits}
 use Rattle.rules.specs.TypeFile.{gap, isWord, isCut, CDATA, NUMBER, NAME, REQUIRED, IMPLIED, unfit, isToken, groupToken, TokensEnd, isTokenConnector, groupTokens, tokenGroup, tokensOf, attributeName, ValueEnd, valueWord, declaredValue, DefaultEnd, defaultWord, defaultLiteral, isGroup, defaultValue, Definition, definition, ListEnd, definitions, listFrom}
-use Rattle.text.specs.Laws.{test-in, letter-in, nameEnd-from, nameEnd-le, nameEnd-more, separatorsEnd-from, separatorsEnd-le, second}
+use Rattle.text.specs.Words.{test-in, letter-in, nameEnd-from, nameEnd-le, nameEnd-more, separatorsEnd-from, separatorsEnd-le, second}
 use Rattle.rules_laws.specs.Holds.{Holds, stops, reads, known, so, on, either}
 use Rattle.rules_laws.specs.In.{All, none, more, all-snoc, NameIn}
 use Rattle.rules_laws.specs.Groups.{InType, InFrom, unfit-holds}
@@ -52,50 +51,50 @@ pub record PartIn (s : List ℕ) (p : Part) : Type 0 where
   pub ends : p .at + p .size ≤ length s
 
 -- The group at `at` was read with these tokens, behind some others of its list.
-pub record GroupRead (c : Settings) (s : List ℕ) (at : ℕ) (ps : List Part) : Type 0 where
+pub record GroupRead (long : ℕ) (s : List ℕ) (at : ℕ) (ps : List Part) : Type 0 where
   pub seen : List Part
   pub after : ℕ
-  pub read : tokenGroup c s seen at ≡ got (record { tokens = ps; at = after })
+  pub read : tokenGroup long s seen at ≡ got (record { tokens = ps; at = after })
   pub begins : at < length s
   pub few : length ps ≤ GRPCNT
   pub parts : All (PartIn s) ps
 
-abbrev pub ValueIn : Settings → List ℕ → DeclaredValue → Type 0
-ValueIn c s cdata = Unit {0}
-ValueIn c s number = Unit {0}
-ValueIn c s name = Unit {0}
-ValueIn c s (tokens at ps) = GroupRead c s at ps
+abbrev pub ValueIn : ℕ → List ℕ → DeclaredValue → Type 0
+ValueIn long s cdata = Unit {0}
+ValueIn long s number = Unit {0}
+ValueIn long s name = Unit {0}
+ValueIn long s (tokens at ps) = GroupRead long s at ps
 
 -- A default's value stands between its quotes and fits.
-pub record LiteralIn (c : Settings) (s : List ℕ) (x : DeclaredValue) (p : Part) : Type 0 where
+pub record LiteralIn (long : ℕ) (s : List ℕ) (x : DeclaredValue) (p : Part) : Type 0 where
   pub behind : 2 ≤ p .at
   pub ends : p .at + p .size < length s
-  pub right : fits c s x (bytesIn s p) ≡ true
+  pub right : fits long s x (bytesIn s p) ≡ true
 
-abbrev pub DefaultIn : Settings → List ℕ → DeclaredValue → Default → Type 0
-DefaultIn c s x required = Unit {0}
-DefaultIn c s x implied = Unit {0}
-DefaultIn c s x (literal p) = LiteralIn c s x p
+abbrev pub DefaultIn : ℕ → List ℕ → DeclaredValue → Default → Type 0
+DefaultIn long s x required = Unit {0}
+DefaultIn long s x implied = Unit {0}
+DefaultIn long s x (literal p) = LiteralIn long s x p
 
 -- How the definition of a was read behind the attributes xs of its list.
-pub record Defines (c : Settings) (s : List ℕ) (xs : List Attribute) (a : Attribute) : Type 0 where
+pub record Defines (long : ℕ) (s : List ℕ) (xs : List Attribute) (a : Attribute) : Type 0 where
   pub from : ℕ
   pub after : ℕ
-  pub read : definition c s xs from (a .at) ≡ got (record { attribute = a; at = after })
+  pub read : definition long s xs from (a .at) ≡ got (record { attribute = a; at = after })
   pub name : NameIn s (a .at) (a .size)
-  pub short : a .size ≤ c .nameLength
+  pub short : a .size ≤ long
   pub named : letter (byteAt s (a .at)) ≡ true
   pub fresh : attributeOf s xs s (a .at) (a .size) ≡ 0
   pub room : length xs < ATTCNT
-  pub value : ValueIn c s (a .value)
-  pub default : DefaultIn c s (a .value) (a .default)
+  pub value : ValueIn long s (a .value)
+  pub default : DefaultIn long s (a .value) (a .default)
 
 -- The attributes were read as a list whose element's name ends at `from`.
-pub record ListRead (c : Settings) (s : List ℕ) (xs : List Attribute) : Type 0 where
+pub record ListRead (long : ℕ) (s : List ℕ) (xs : List Attribute) : Type 0 where
   pub from : ℕ
   pub after : ℕ
   pub inside : from ≤ length s
-  pub read : listFrom c s from ≡ got (record { attributes = xs; at = after })
+  pub read : listFrom long s from ≡ got (record { attributes = xs; at = after })
 
 -- Literals
 
@@ -111,7 +110,7 @@ literal-holds s i =
 literal-in : (s : List ℕ) (i : ℕ) → Holds (InFile s) (λ (e : ℕ). (i < e) × (e < length s)) (literalEnd s i)
 literal-in s i = so (literal-holds s i) (λ n k x. in-file s (omega (arith, x))) (λ e x. x)
 
-module _ (c : Settings) (s : List ℕ) where
+module _ (long : ℕ) (s : List ℕ) where
   -- Name token groups
 
   record TokenRead (seen ps : List Part) (i : ℕ) (p : Part) : Type 0 where
@@ -119,13 +118,13 @@ module _ (c : Settings) (s : List ℕ) where
     part : PartIn s p
     few : length ps < GRPCNT
 
-  token-read : (seen ps : List Part) (i : ℕ) → i ≤ length s → Holds (InFile s) (TokenRead seen ps i) (groupToken c s seen ps i)
+  token-read : (seen ps : List Part) (i : ℕ) → i ≤ length s → Holds (InFile s) (TokenRead seen ps i) (groupToken long s seen ps i)
   unfolding groupToken
   token-read seen ps i h =
       let e = nameEnd s i in
       let l = nameEnd-le s i h in
       either (ltb i e)
-      (λ x. either (ltb (c .nameLength) (e - i)) (λ y. early s (omega arith))
+      (λ x. either (ltb long (e - i)) (λ y. early s (omega arith))
       (λ y. either (leb GRPCNT (length ps)) (λ z. early s (omega arith))
       (λ z. either (isToken s (seen ++ ps) i (e - i)) (λ u. twice s h)
       (λ u. reads (record { at = refl; part = record { some = omega (arith, ltb-true i e x); ends = omega (arith, ltb-true i e x) }; few = leb-false _ _ z })))))
@@ -137,7 +136,7 @@ module _ (c : Settings) (s : List ℕ) where
     few : length (t .tokens) ≤ GRPCNT
     parts : All (PartIn s) (t .tokens)
 
-  tokens-read : (seen : List Part) (left connector : ℕ) (ps : List Part) (at : ℕ) → at ≤ length s → All (PartIn s) ps → Holds (InFile s) (TokensRead at) (groupTokens c s seen left connector ps at)
+  tokens-read : (seen : List Part) (left connector : ℕ) (ps : List Part) (at : ℕ) → at ≤ length s → All (PartIn s) ps → Holds (InFile s) (TokensRead at) (groupTokens long s seen left connector ps at)
   unfolding groupTokens
   tokens-read seen zero connector ps at h a = early s {n = 6} {k = at} (omega arith)
   tokens-read seen (suc left) connector ps at h a =
@@ -161,7 +160,7 @@ module _ (c : Settings) (s : List ℕ) where
       (λ t w. record { from = omega (arith, w .from); inside = w .inside; few = w .few; parts = w .parts }))
       (λ z. early s (omega arith))))
 
-  group-read : (seen : List Part) (at : ℕ) → at < length s → Holds (InFile s) (λ (t : TokensEnd). (at < t .at) × (t .at ≤ length s) × GroupRead c s at (t .tokens)) (tokenGroup c s seen at)
+  group-read : (seen : List Part) (at : ℕ) → at < length s → Holds (InFile s) (λ (t : TokensEnd). (at < t .at) × (t .at ≤ length s) × GroupRead long s at (t .tokens)) (tokenGroup long s seen at)
   unfolding tokenGroup
   group-read seen at h =
       so (known (tokens-read seen (suc GRPCNT) 0 [] (at + 1) (omega arith) none)) (λ n k x. x)
@@ -171,20 +170,20 @@ module _ (c : Settings) (s : List ℕ) where
 
   record NameRead (xs : List Attribute) (i e : ℕ) : Type 0 where
     name : NameIn s i (e - i)
-    short : e - i ≤ c .nameLength
+    short : e - i ≤ long
     fresh : attributeOf s xs s i (e - i) ≡ 0
     room : length xs < ATTCNT
     from : i < e
     inside : e ≤ length s
 
-  name-read : (xs : List Attribute) (from i : ℕ) → letter (byteAt s i) ≡ true → Holds (InFile s) (NameRead xs i) (attributeName c s xs from i)
+  name-read : (xs : List Attribute) (from i : ℕ) → letter (byteAt s i) ≡ true → Holds (InFile s) (NameRead xs i) (attributeName long s xs from i)
   unfolding attributeName
   name-read xs from i l =
       let e = nameEnd s i in
       let h = letter-in s i l in
       let le = nameEnd-le s i (omega arith) in
       let some = nameEnd-more s i l in
-      either (ltb (c .nameLength) (e - i)) (λ x. early s (omega arith))
+      either (ltb long (e - i)) (λ x. early s (omega arith))
       (λ x. either (ltb from i)
       (λ y. either (leb 1 (attributeOf s xs s i (e - i))) (λ z. early s (omega arith))
       (λ z. either (leb ATTCNT (length xs)) (λ u. twice s (omega arith))
@@ -193,18 +192,18 @@ module _ (c : Settings) (s : List ℕ) where
       (λ y. early s (omega arith)))
 
   record ValueRead (i : ℕ) (v : ValueEnd) : Type 0 where
-    value : ValueIn c s (v .value)
+    value : ValueIn long s (v .value)
     from : i < v .at
     inside : v .at ≤ length s
 
-  word-read : (i : ℕ) → letter (byteAt s i) ≡ true → Holds (InFile s) (ValueRead i) (valueWord c s i)
+  word-read : (i : ℕ) → letter (byteAt s i) ≡ true → Holds (InFile s) (ValueRead i) (valueWord long s i)
   unfolding valueWord
   word-read i l =
       let e = nameEnd s i in
       let h = letter-in s i l in
       let le = nameEnd-le s i (omega arith) in
       let some = nameEnd-more s i l in
-      either (ltb (c .nameLength) (e - i)) (λ x. early s (omega arith))
+      either (ltb long (e - i)) (λ x. early s (omega arith))
       (λ x. either (isWord s i e CDATA) (λ y. reads (record { value = tt; from = some; inside = le }))
       (λ y. either (isWord s i e NUMBER) (λ z. reads (record { value = tt; from = some; inside = le }))
       (λ z. either (isWord s i e NAME) (λ u. reads (record { value = tt; from = some; inside = le }))
@@ -213,7 +212,7 @@ module _ (c : Settings) (s : List ℕ) where
   unfit-read : {A : Type 0} {P : A → Type 0} (i : ℕ) → i ≤ length s → Holds (InFile s) P (unfit s i)
   unfit-read i h = unfit-holds s i (λ n k r. in-file s (r h))
 
-  value-read : (seen : List Part) (i : ℕ) → i ≤ length s → Holds (InFile s) (ValueRead i) (declaredValue c s seen i)
+  value-read : (seen : List Part) (i : ℕ) → i ≤ length s → Holds (InFile s) (ValueRead i) (declaredValue long s seen i)
   unfolding declaredValue
   value-read seen i h =
       either (eqb (byteAt s i) 40)
@@ -221,7 +220,7 @@ module _ (c : Settings) (s : List ℕ) where
       (λ x. either (letter (byteAt s i)) (λ y. word-read i y) (λ y. unfit-read i h))
 
   record DefaultRead (x : DeclaredValue) (i : ℕ) (f : DefaultEnd) : Type 0 where
-    default : DefaultIn c s x (f .default)
+    default : DefaultIn long s x (f .default)
     from : i < f .at
     inside : f .at ≤ length s
 
@@ -237,16 +236,16 @@ module _ (c : Settings) (s : List ℕ) where
       (λ z. either (isCut s (i + 1) e REQUIRED || isCut s (i + 1) e IMPLIED) (λ u. early s (omega arith)) (λ u. early s (omega arith)))))
       (λ l. early s (omega arith))
 
-  defaultLiteral-read : (x : DeclaredValue) (i : ℕ) → 1 ≤ i → i ≤ length s → Holds (InFile s) (DefaultRead x i) (defaultLiteral c s x i)
+  defaultLiteral-read : (x : DeclaredValue) (i : ℕ) → 1 ≤ i → i ≤ length s → Holds (InFile s) (DefaultRead x i) (defaultLiteral long s x i)
   unfolding defaultLiteral
   defaultLiteral-read x i m h =
       on (literal-in s i) λ e r.
       let p : Part = record { at = i + 1; size = e - (i + 1) } in
-      either (fits c s x (bytesIn s p))
+      either (fits long s x (bytesIn s p))
       (λ y. reads (record { default = record { behind = omega arith; ends = omega (arith, r); right = y }; from = omega (arith, r); inside = omega (arith, r) }))
       (λ y. misfit s h)
 
-  default-read : (x : DeclaredValue) (from i : ℕ) → 1 ≤ i → i ≤ length s → Holds (InFile s) (DefaultRead x i) (defaultValue c s x from i)
+  default-read : (x : DeclaredValue) (from i : ℕ) → 1 ≤ i → i ≤ length s → Holds (InFile s) (DefaultRead x i) (defaultValue long s x from i)
   unfolding defaultValue
   default-read x from i m h =
       let b = byteAt s i in
@@ -261,15 +260,15 @@ module _ (c : Settings) (s : List ℕ) where
   record DefinitionRead (xs : List Attribute) (i : ℕ) (d : Definition) : Type 0 where
     at : d .attribute .at ≡ i
     name : NameIn s (d .attribute .at) (d .attribute .size)
-    short : d .attribute .size ≤ c .nameLength
+    short : d .attribute .size ≤ long
     fresh : attributeOf s xs s (d .attribute .at) (d .attribute .size) ≡ 0
     room : length xs < ATTCNT
-    value : ValueIn c s (d .attribute .value)
-    default : DefaultIn c s (d .attribute .value) (d .attribute .default)
+    value : ValueIn long s (d .attribute .value)
+    default : DefaultIn long s (d .attribute .value) (d .attribute .default)
     from : i < d .at
     inside : d .at ≤ length s
 
-  definition-parts : (xs : List Attribute) (from i : ℕ) → letter (byteAt s i) ≡ true → Holds (InFile s) (DefinitionRead xs i) (definition c s xs from i)
+  definition-parts : (xs : List Attribute) (from i : ℕ) → letter (byteAt s i) ≡ true → Holds (InFile s) (DefinitionRead xs i) (definition long s xs from i)
   unfolding definition
   definition-parts xs from i l =
       on (name-read xs from i l) λ e n.
@@ -290,7 +289,7 @@ module _ (c : Settings) (s : List ℕ) where
         inside = r .inside;
       })
 
-  definition-read : (xs : List Attribute) (from i : ℕ) → letter (byteAt s i) ≡ true → Holds (InFile s) (λ (d : Definition). (i < d .at) × (d .at ≤ length s) × Defines c s xs (d .attribute)) (definition c s xs from i)
+  definition-read : (xs : List Attribute) (from i : ℕ) → letter (byteAt s i) ≡ true → Holds (InFile s) (λ (d : Definition). (i < d .at) × (d .at ≤ length s) × Defines long s xs (d .attribute)) (definition long s xs from i)
   definition-read xs from i l =
       so (known (definition-parts xs from i l)) (λ n k x. x) λ d x.
       let (e, r) = x in (
@@ -299,7 +298,7 @@ module _ (c : Settings) (s : List ℕ) where
         record {
           from = from;
           after = d .at;
-          read = ap (definition c s xs from) (r .at) ∙ e;
+          read = ap (definition long s xs from) (r .at) ∙ e;
           name = r .name;
           short = r .short;
           named = rw (r .at) l;
@@ -311,14 +310,14 @@ module _ (c : Settings) (s : List ℕ) where
       )
 
   -- What holds of no attribute, and with a further one, holds of what is read.
-  module _ (I : List Attribute → Type 0) (further : (xs : List Attribute) (a : Attribute) → I xs → Defines c s xs a → I (xs ++ a ∷ [])) where
+  module _ (I : List Attribute → Type 0) (further : (xs : List Attribute) (a : Attribute) → I xs → Defines long s xs a → I (xs ++ a ∷ [])) where
     pub record EndRead (at : ℕ) (l : ListEnd) : Type 0 where
       pub some : 1 ≤ length (l .attributes)
       pub from : at < l .at
       pub inside : l .at ≤ length s
       pub each : I (l .attributes)
 
-    definitions-hold : (left : ℕ) (xs : List Attribute) (from : ℕ) → from ≤ length s → I xs → Holds (InFile s) (EndRead from) (definitions c s left xs from)
+    definitions-hold : (left : ℕ) (xs : List Attribute) (from : ℕ) → from ≤ length s → I xs → Holds (InFile s) (EndRead from) (definitions long s left xs from)
     unfolding definitions
     definitions-hold zero xs from h x = twice s {k = from} h
     definitions-hold (suc left) xs from h x =
@@ -333,6 +332,6 @@ module _ (c : Settings) (s : List ℕ) where
         (λ e w. record { some = w .some; from = omega (arith, p, r .0, w .from); inside = w .inside; each = w .each }))
         (λ l. unfit-read i (p .1)))
 
-    pub list-holds : (from : ℕ) → from ≤ length s → I [] → Holds (InFile s) (EndRead from) (listFrom c s from)
+    pub list-holds : (from : ℕ) → from ≤ length s → I [] → Holds (InFile s) (EndRead from) (listFrom long s from)
     unfolding listFrom
     list-holds from h x = definitions-hold (suc ATTCNT) [] from h x

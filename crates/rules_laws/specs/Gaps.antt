@@ -8,7 +8,7 @@ use lib.Dec.{eqb, ltb}
 use borrow.Author.Tests.{ltb-true}
 use Rattle.rules.specs.Bytes.{byteAt, separatorsEnd}
 use Rattle.rules.specs.TypeFile.{atDashes, beforeDashes, commentDeclaration, gapWithin, gap}
-use Rattle.text.specs.Laws.{test-in, separatorsEnd-le, dashes-end-in, gap-range}
+use Rattle.text.specs.Words.{test-in, separatorsEnd-le, dashes-end-in, gap-range}
 use Rattle.rules_laws.specs.Holds.{Holds, stops, reads, known, so, on, either}
 use Rattle.rules_laws.specs.In.{In}
 use Rattle.rules_laws.specs.Groups.{InType}

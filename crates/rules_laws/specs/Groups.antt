@@ -7,7 +7,6 @@ use native.Mathlib.Omega.{arith}
 use lib.ListN.{length}
 use lib.Dec.{eqb, leb, ltb}
 use borrow.Author.Tests.{eqb-true, eq-eqb, ltb-false, leb-false}
-use Rattle.rules.specs.Settings.{Settings}
 use Rattle.rules.specs.Bytes.{byteAt, letter, nameEnd, separatorsEnd, GRPCNT, GRPLVL, GRPGTCNT}
 use Rattle.rules.specs.Reading.{Reading, got, andThen}
 use Rattle.rules.specs.Walk.{Group, place, seq, alt, opt, plus, and, Members, one, also, star}
@@ -15,7 +14,7 @@ use Rattle.rules.specs.TypeFile.{isWord, isCut, PCDATA, EMPTY, ANY, CDATA, RCDA
 use Rattle.model_sets.specs.Bits.{and-left, not-both, bool-cases}
 use Rattle.and_laws.specs.Sets.{Plain}
 use Rattle.and_laws.specs.Numbers.{Guarded}
-use Rattle.text.specs.Laws.{test-in, letter-in, nameEnd-from, nameEnd-le, nameEnd-more, separatorsEnd-from, separatorsEnd-le}
+use Rattle.text.specs.Words.{test-in, letter-in, nameEnd-from, nameEnd-le, nameEnd-more, separatorsEnd-from, separatorsEnd-le}
 use Rattle.rules_laws.specs.Holds.{Holds, stops, reads, Gives, got-so, each, so, on, on-same, either, whichever}
 use Rattle.rules_laws.specs.In.{Fits, fits-none, fits-group, fits-place, ContentIn}
 
@@ -65,20 +64,20 @@ module _ {R : (number position : ℕ) → Type 0} (s : List ℕ) where
   pub unfit-holds : {A : Type 0} {P : A → Type 0} (i : ℕ) → ((n k : ℕ) → InFrom s i n k → R n k) → Holds R P (unfit s i)
   unfit-holds i stop = either (eqb (byteAt s i) 45 && leb (length s) (i + 1)) (λ y. stops (stop 4 (length s) (λ h. omega arith))) (λ y. stops (stop 4 i (λ h. omega arith)))
 
-  module _ (c : Settings) (inner : ℕ → List Place → ℕ → Reading Tokens) where
+  module _ (long : ℕ) (inner : ℕ → List Place → ℕ → Reading Tokens) where
     -- A content token: a name, `#PCDATA`, or a group; none where the group or the model is full.
     pub token-holds : {P : Tokens → Type 0} (at : ℕ) (full : Bool) (ps : List Place) (n : ℕ)
         → ((m k : ℕ) → InFrom s at m k → R m k)
-        → (full ≡ false → letter (byteAt s at) ≡ true → nameEnd s at - at ≤ c .nameLength → P (occurrence s (withPlace (newPlace ps) (nameEnd s at) (namePlace s at) ps n)))
+        → (full ≡ false → letter (byteAt s at) ≡ true → nameEnd s at - at ≤ long → P (occurrence s (withPlace (newPlace ps) (nameEnd s at) (namePlace s at) ps n)))
         → (full ≡ false → at < length s → P (withPlace (star (newPlace ps)) (nameEnd s (at + 1)) (dataPlace at) ps n))
         → (full ≡ false → at < length s → Holds R P (andThen (inner at ps (n + 1)) (λ t. got (occurrence s t))))
-        → Holds R P (token c inner s at full ps n)
+        → Holds R P (token long inner s at full ps n)
     unfolding token nameToken dataToken
     token-holds at full ps n stop name pcdata nested =
         let b = byteAt s at in
         let e = nameEnd s (at + 1) in
         either (letter b)
-        (λ x. either (ltb (c .nameLength) (nameEnd s at - at)) (λ y. stops (stop 3 at (λ h. omega arith)))
+        (λ x. either (ltb long (nameEnd s at - at)) (λ y. stops (stop 3 at (λ h. omega arith)))
         (λ y. either full (λ z. stops (stop 6 at (λ h. omega arith))) (λ z. reads (name z x (ltb-false _ _ y)))))
         (λ x. either (eqb b 35)
         (λ y.
@@ -97,8 +96,8 @@ module _ {R : (number position : ℕ) → Type 0} (s : List ℕ) where
         → ((m k : ℕ) → InFrom s (t .at) m k → R m k)
         → ((i : ℕ) → t .at ≤ i → i < length s → P (closed (grouped (t .group) (i + 1) (t .repeated) t)))
         → ((b i j : ℕ) → isConnector b ≡ true → b ≡ byteAt s i → t .at ≤ i → i < length s → t .at ≤ j → j ≤ length s
-        → Holds R P (andThen (token c inner s j (leb GRPCNT k || leb GRPGTCNT (t .tokens)) (t .places) (t .tokens)) (λ u. got (joined b (joinTokens k b i t u)))))
-        → Holds R P (further c inner s k joint t)
+        → Holds R P (andThen (token long inner s j (leb GRPCNT k || leb GRPGTCNT (t .tokens)) (t .places) (t .tokens)) (λ u. got (joined b (joinTokens k b i t u)))))
+        → Holds R P (further long inner s k joint t)
     unfolding further
     further-holds k joint t stop close next =
         let i = separatorsEnd s (t .at) in
@@ -115,33 +114,33 @@ module _ {R : (number position : ℕ) → Type 0} (s : List ℕ) where
 
 -- Room
 
-module _ (c : Settings) (inner : ℕ → List Place → ℕ → Reading Tokens) (s : List ℕ) where
+module _ (long : ℕ) (inner : ℕ → List Place → ℕ → Reading Tokens) (s : List ℕ) where
   -- A content token that is read had room.
-  pub token-room : (at : ℕ) (full : Bool) (ps : List Place) (n : ℕ) → Gives (λ (t : Tokens). full ≡ false) (token c inner s at full ps n)
+  pub token-room : (at : ℕ) (full : Bool) (ps : List Place) (n : ℕ) → Gives (λ (t : Tokens). full ≡ false) (token long inner s at full ps n)
   token-room at full ps n =
-      token-holds s c inner at full ps n (λ m k h. tt) (λ x l e. x) (λ x l. x) (λ x l. on (each (inner at ps (n + 1)) (λ m k e. tt) (λ t e. x)) (λ t y. reads y))
+      token-holds s long inner at full ps n (λ m k h. tt) (λ x l e. x) (λ x l. x) (λ x l. on (each (inner at ps (n + 1)) (λ m k e. tt) (λ t e. x)) (λ t y. reads y))
 
   abbrev Roomy : ℕ → Further → Type 0
   Roomy k (closed t) = Unit {0}
   Roomy k (joined b t) = k < GRPCNT
 
-  further-roomy : (k joint : ℕ) (t : Tokens) → Gives (Roomy k) (further c inner s k joint t)
+  further-roomy : (k joint : ℕ) (t : Tokens) → Gives (Roomy k) (further long inner s k joint t)
   further-roomy k joint t =
-      further-holds s c inner k joint t (λ m k h. tt) (λ i l h. tt)
+      further-holds s long inner k joint t (λ m k h. tt) (λ i l h. tt)
       (λ b i j q e f m l h. on (token-room j (leb GRPCNT k || leb GRPGTCNT (t .tokens)) (t .places) (t .tokens)) (λ u x. reads (leb-false GRPCNT k (or-none _ _ x .0))))
 
-  pub further-room : (k joint : ℕ) (t : Tokens) (b : ℕ) (u : Tokens) → further c inner s k joint t ≡ got (joined b u) → k < GRPCNT
+  pub further-room : (k joint : ℕ) (t : Tokens) (b : ℕ) (u : Tokens) → further long inner s k joint t ≡ got (joined b u) → k < GRPCNT
   further-room k joint t b u e = got-so (further-roomy k joint t) e
 
   -- The bound on the content tokens of a group is never reached: any two that are enough give the same.
-  pub members-enough : (m n k joint : ℕ) (t : Tokens) → k ≤ GRPCNT → GRPCNT < m + k → GRPCNT < n + k → members c inner s m k joint t ≡ members c inner s n k joint t
+  pub members-enough : (m n k joint : ℕ) (t : Tokens) → k ≤ GRPCNT → GRPCNT < m + k → GRPCNT < n + k → members long inner s m k joint t ≡ members long inner s n k joint t
   unfolding members
   members-enough zero n k joint t h i j = absurd (omega arith)
   members-enough (suc m) zero k joint t h i j = absurd (omega arith)
   members-enough (suc m) (suc n) k joint t h i j = on-same (further-roomy k joint t) (by-further (λ b u l. members-enough m n (k + 1) b u (omega arith) (omega arith) (omega arith)))
     where
-      by-further : ((b : ℕ) (u : Tokens) → k < GRPCNT → members c inner s m (k + 1) b u ≡ members c inner s n (k + 1) b u) → (x : Further) → Roomy k x
-          → _≡_ {A = Reading Tokens} (elim x [ closed u ↦ got u | joined b u ↦ members c inner s m (k + 1) b u ]) (elim x [ closed u ↦ got u | joined b u ↦ members c inner s n (k + 1) b u ])
+      by-further : ((b : ℕ) (u : Tokens) → k < GRPCNT → members long inner s m (k + 1) b u ≡ members long inner s n (k + 1) b u) → (x : Further) → Roomy k x
+          → _≡_ {A = Reading Tokens} (elim x [ closed u ↦ got u | joined b u ↦ members long inner s m (k + 1) b u ]) (elim x [ closed u ↦ got u | joined b u ↦ members long inner s n (k + 1) b u ])
       by-further ih (closed u) r = refl
       by-further ih (joined b u) r = ih b u r
 
@@ -237,7 +236,7 @@ join-plain k b i j g h c l e x y =
     and-only : eqb b 44 ≡ false → eqb b 124 ≡ false → ⊥
     and-only u v = let d : eqb b 38 ≡ true = rw (u, v) at c in omega (arith, told d)
 
-module _ (c : Settings) (s : List ℕ) {T : List Place → Group → List Place → Type 0} (build : Builds (c .nameLength) T) where
+module _ (long : ℕ) (s : List ℕ) {T : List Place → Group → List Place → Type 0} (build : Builds long T) where
   indicated : {t : Tokens} {h : Group} {n : ℕ} {ps qs : List Place} → Indicated t h n → T ps (t .group) qs → T ps h qs
   indicated optional x = build .optional x
   indicated repeated x = build .repeated x
@@ -270,9 +269,9 @@ module _ (c : Settings) (s : List ℕ) {T : List Place → Group → List Place 
   FurtherRead at ps (joined b t) = Read s T at ps t
 
   module _ (inner : ℕ → List Place → ℕ → Reading Tokens) (inner-read : InnerRead inner) where
-    token-read : (at : ℕ) (full : Bool) (ps : List Place) (n : ℕ) → at ≤ length s → Fits s ps n → (full ≡ false → n < GRPGTCNT) → Holds (InType s) (Read s T at ps) (token c inner s at full ps n)
+    token-read : (at : ℕ) (full : Bool) (ps : List Place) (n : ℕ) → at ≤ length s → Fits s ps n → (full ≡ false → n < GRPGTCNT) → Holds (InType s) (Read s T at ps) (token long inner s at full ps n)
     token-read at full ps n h f room =
-        token-holds s c inner at full ps n (λ m k i. i h)
+        token-holds s long inner at full ps n (λ m k i. i h)
         (λ x l e.
         let i = letter-in s at l in
         occurrence-read _
@@ -297,9 +296,9 @@ module _ (c : Settings) (s : List ℕ) {T : List Place → Group → List Place 
         })
         (λ x l. on (inner-read at ps (n + 1) l (fits-group f (room x))) (λ t r. reads (occurrence-read t r)))
 
-    further-read : {at : ℕ} {ps : List Place} (k joint : ℕ) (t : Tokens) → Read s T at ps t → Holds (InType s) (FurtherRead at ps) (further c inner s k joint t)
+    further-read : {at : ℕ} {ps : List Place} (k joint : ℕ) (t : Tokens) → Read s T at ps t → Holds (InType s) (FurtherRead at ps) (further long inner s k joint t)
     further-read {at} {ps} k joint t r =
-        further-holds s c inner k joint t (λ m k i. i (r .inside))
+        further-holds s long inner k joint t (λ m k i. i (r .inside))
         (λ i l h. record { from = omega (arith, r .from); inside = omega arith; fits = r .fits; built = r .built; some = omega arith; plain = r .plain; guarded = r .guarded })
         (λ b i j q e f m l h.
         on (token-read j (leb GRPCNT k || leb GRPGTCNT (t .tokens)) (t .places) (t .tokens) h (r .fits) (λ x. leb-false _ _ (or-none (leb GRPCNT k) _ x .1)))
@@ -313,46 +312,46 @@ module _ (c : Settings) (s : List ℕ) {T : List Place → Group → List Place 
           guarded = λ e. let (x, y) = earlier-none (t .repeated) (u .repeated) e in join-guarded k b (t .group) (u .group) (r .guarded x) (v .guarded y);
         })))
 
-    members-read : {at : ℕ} {ps : List Place} (left k joint : ℕ) (t : Tokens) → Read s T at ps t → Holds (InType s) (Read s T at ps) (members c inner s left k joint t)
+    members-read : {at : ℕ} {ps : List Place} (left k joint : ℕ) (t : Tokens) → Read s T at ps t → Holds (InType s) (Read s T at ps) (members long inner s left k joint t)
     unfolding members
     members-read zero k joint t r = stops {n = 6} {k = t .at} (omega (arith, r .inside))
     members-read {at} {ps} (suc left) k joint t r = on (further-read k joint t r) (by-further (λ b u v. members-read left (k + 1) b u v))
       where
-        by-further : ((b : ℕ) (u : Tokens) → Read s T at ps u → Holds (InType s) (Read s T at ps) (members c inner s left (k + 1) b u))
-            → (x : Further) → FurtherRead at ps x → Holds (InType s) (Read s T at ps) (elim x [ closed u ↦ got u | joined b u ↦ members c inner s left (k + 1) b u ])
+        by-further : ((b : ℕ) (u : Tokens) → Read s T at ps u → Holds (InType s) (Read s T at ps) (members long inner s left (k + 1) b u))
+            → (x : Further) → FurtherRead at ps x → Holds (InType s) (Read s T at ps) (elim x [ closed u ↦ got u | joined b u ↦ members long inner s left (k + 1) b u ])
         by-further ih (closed u) v = reads v
         by-further ih (joined b u) v = ih b u v
 
   from-before : {at i : ℕ} {ps : List Place} {t : Tokens} → at ≤ i → Read s T i ps t → Read s T at ps t
   from-before h r = record { from = omega (arith, r .from); inside = r .inside; fits = r .fits; built = r .built; some = r .some; plain = r .plain; guarded = r .guarded }
 
-  pub group-read : (levels : ℕ) → InnerRead (group c levels s)
+  pub group-read : (levels : ℕ) → InnerRead (group long levels s)
   unfolding group
   group-read zero at ps n h f = stops {n = 6} {k = at} (omega arith)
   group-read (suc levels) at ps n h f =
       let i = separatorsEnd s (at + 1) in
-      on (token-read (group c levels s) (group-read levels) i (leb GRPGTCNT n) ps n (separatorsEnd-le s (at + 1) (omega arith)) f (leb-false _ _))
-      (λ t r. members-read (group c levels s) (group-read levels) GRPCNT 1 0 t (from-before (omega (arith, separatorsEnd-from s (at + 1))) r))
+      on (token-read (group long levels s) (group-read levels) i (leb GRPGTCNT n) ps n (separatorsEnd-le s (at + 1) (omega arith)) f (leb-false _ _))
+      (λ t r. members-read (group long levels s) (group-read levels) GRPCNT 1 0 t (from-before (omega (arith, separatorsEnd-from s (at + 1))) r))
 
-  contentModel-read : (i : ℕ) → i < length s → Holds (InFrom s i) (ContentRead s T i) (contentModel c s i)
+  contentModel-read : (i : ℕ) → i < length s → Holds (InFrom s i) (ContentRead s T i) (contentModel long s i)
   unfolding contentModel
   contentModel-read i h =
       on (so (group-read GRPLVL i [] 0 h (fits-none s)) (λ n k x l. x) (λ t r. r)) λ t r.
       let v = occurrence-read t r in
       reads (record { from = v .from; inside = v .inside; content = v .fits; built = v .built; guarded = v .guarded })
 
-  contentWord-read : (from i : ℕ) → letter (byteAt s i) ≡ true → Holds (InFrom s i) (ContentRead s T i) (contentWord c s from i)
+  contentWord-read : (from i : ℕ) → letter (byteAt s i) ≡ true → Holds (InFrom s i) (ContentRead s T i) (contentWord long s from i)
   unfolding contentWord
   contentWord-read from i l =
       let e = nameEnd s i in
       let h = letter-in s i l in
-      either (ltb (c .nameLength) (e - i)) (λ x. stops (λ y. omega arith))
+      either (ltb long (e - i)) (λ x. stops (λ y. omega arith))
       (λ x. either (ltb from i && isWord s i e EMPTY) (λ y. reads (record { from = nameEnd-from s i; inside = nameEnd-le s i (omega arith); content = tt; built = tt; guarded = λ _. tt }))
       (λ y. either (isWord s i e ANY || isWord s i e CDATA || isWord s i e RCDATA) (λ z. stops (λ u. omega arith))
       (λ z. either (ltb from i && isCut s i e EMPTY) (λ u. stops (λ v. omega arith)) (λ u. stops (λ v. omega arith)))))
 
   -- The content of a declaration. Only a refusal asks that it begins in the input.
-  pub content-read : (from i : ℕ) → Holds (InFrom s i) (ContentRead s T i) (content c s from i)
+  pub content-read : (from i : ℕ) → Holds (InFrom s i) (ContentRead s T i) (content long s from i)
   unfolding content
   content-read from i =
       let b = byteAt s i in
@@ -367,5 +366,5 @@ pub whatever-builds : {long : ℕ} → Builds long Whatever
 whatever-builds = record { name = λ ps x l m. tt; pcdata = λ ps x e. tt; optional = λ x. tt; repeated = λ x. tt; sequence = λ x y. tt; choice = λ x y. tt; anyOrder = λ x y. tt; another = λ x y. tt }
 
 -- A content ends behind where it begins.
-pub content-from : (c : Settings) (s : List ℕ) (from i : ℕ) (x : ContentEnd) → content c s from i ≡ got x → i ≤ x .at
-content-from c s from i x e = got-so (content-read c s whatever-builds from i) e .from
+pub content-from : (long : ℕ) (s : List ℕ) (from i : ℕ) (x : ContentEnd) → content long s from i ≡ got x → i ≤ x .at
+content-from long s from i x e = got-so (content-read long s whatever-builds from i) e .from

@@ -10,7 +10,7 @@ use borrow.Author.Tests.{eq-eqb, eqb-true}
 use Rattle.rules.specs.Bytes.{sameText}
 use Rattle.rules.specs.TypeFile.{Place, sameName}
 use Rattle.rules.specs.Judge.{placeAt, samePlace}
-use Rattle.text.specs.Laws.{sameText-refl, sameText-sym}
+use Rattle.text.specs.Words.{sameText-refl, sameText-sym}
 
 -- A place of a list to which others are added: one of the list, or the next one.
 pub placeAt-append : (ps qs : List Place) (k : ℕ) → k < length ps → placeAt (ps ++ qs) k ≡ placeAt ps k

@@ -1,20 +1,19 @@
 -- The pieces of a document, walked once: where a piece stands, what its name is, and by which numbers and where it is refused.
 use Prim.Native.Nat.{ℕ, zero, suc, _+_, _-_, _≤_, _<_}
-use mathlib.Core.Path.{_≡_, refl}
+use mathlib.Core.Path.{_≡_, refl, _∙_, ap}
 use mathlib.Core.Bool.{true, _&&_, _||_}
 use mathlib.Core.Logic.{_⊎_, inl, inr}
 use mathlib.Core.List.{List, [], _∷_, _++_}
 use native.Mathlib.Omega.{arith}
 use lib.ListN.{length}
 use lib.Dec.{eqb, ltb}
-use borrow.Author.Tests.{ltb-false}
-use Rattle.rules.specs.Settings.{Settings}
-use Rattle.rules.specs.Bytes.{byteAt, letter, nameEnd, separatorsEnd}
+use borrow.Author.Tests.{ltb-false, eqb-true}
+use Rattle.rules.specs.Bytes.{byteAt, letter, nameEnd, separatorsEnd, MDC}
 use Rattle.rules.specs.Reading.{Reading, refused, got}
 use Rattle.rules.specs.TypeFile.{atDashes, commentDeclaration}
 use Rattle.rules.specs.Attributes.{quote, isReference, literalEnd}
 use Rattle.rules.specs.Document.{Written, Tag, Piece, startTag, endTag, skipped, blank, dataByte, tag, specification, specifications, startTagAt, malformed, declarationPiece, markupPiece, isSectionEnd, bytePiece, piece}
-use Rattle.text.specs.Laws.{test-in, letter-in, nameEnd-from, nameEnd-le, nameEnd-more, separatorsEnd-from, separatorsEnd-le, second, dashes-in}
+use Rattle.text.specs.Words.{test-in, letter-in, nameEnd-from, nameEnd-le, nameEnd-more, separatorsEnd-from, separatorsEnd-le, second, dashes-in}
 use Rattle.rules_laws.specs.Holds.{got-so, Holds, stops, reads, Gives, each, so, on, either}
 use Rattle.rules_laws.specs.Groups.{InType}
 use Rattle.rules_laws.specs.In.{All, none, more, all-snoc}
@@ -32,13 +31,14 @@ pub record WrittenIn (d : List ℕ) (after : ℕ) (w : Written) : Type 0 where
   pub parted : w .at + w .size < w .quote
   pub ends : w .quote + 1 + w .width + 1 < after
 
--- A tag behind i: its name begins behind i, with a letter, and ends before the tag does. How long it may be: `tag-short`.
+-- A tag behind i: its name begins behind i, with a letter, and ends before the tag does, which ends in `>`. How long it may be: `tag-short`.
 pub record TagRead (d : List ℕ) (i : ℕ) (t : Tag) : Type 0 where
   pub behind : i < t .name
   pub some : 1 ≤ t .size
   pub named : letter (byteAt d (t .name)) ≡ true
   pub ends : t .name + t .size < t .after
   pub inside : t .after ≤ length d
+  pub closes : byteAt d (t .after - 1) ≡ MDC
   pub given : All (WrittenIn d (t .after)) (t .written)
 
 abbrev pub PieceRead : List ℕ → (i : ℕ) → Piece → Type 0
@@ -98,8 +98,12 @@ module _ (d : List ℕ) (long : ℕ) where
       let b = byteAt d i in
       either (eqb b 10) (λ x. reads tt) (λ x. either (eqb b 9 || (eqb b 13 || eqb b 32)) (λ y. reads tt) (λ y. reads tt))
 
-module _ (c : Settings) (d : List ℕ) where
-  tag-read : (i at : ℕ) → i < at → letter (byteAt d at) ≡ true → Holds (InPiece d) (TagRead d i) (tag c d at)
+module _ (long : ℕ) (d : List ℕ) where
+  -- The byte before the end of what ends behind j.
+  closed-there : (j : ℕ) → eqb (byteAt d j) MDC ≡ true → byteAt d (j + 1 - 1) ≡ MDC
+  closed-there j y = let same : j + 1 - 1 ≡ j = omega arith in ap (byteAt d) same ∙ eqb-true (byteAt d j) MDC y
+
+  tag-read : (i at : ℕ) → i < at → letter (byteAt d at) ≡ true → Holds (InPiece d) (TagRead d i) (tag long d at)
   unfolding tag
   tag-read i at h l =
       let e = nameEnd d at in
@@ -108,10 +112,10 @@ module _ (c : Settings) (d : List ℕ) where
       let first = nameEnd-from d at in
       let after = separatorsEnd-from d e in
       let end = separatorsEnd-le d e (nameEnd-le d at (omega arith)) in
-      either (ltb (c .nameLength) (e - at)) (λ x. early d (omega arith))
+      either (ltb long (e - at)) (λ x. early d (omega arith))
       (λ x. either (eqb (byteAt d j) 62)
       (λ y.
-      reads (record { behind = h; some = omega (arith, nameEnd-more d at l); named = l; ends = omega arith; inside = omega (arith, test-in (λ v. eqb v 62) refl d j y); given = none }))
+      reads (record { behind = h; some = omega (arith, nameEnd-more d at l); named = l; ends = omega arith; inside = omega (arith, test-in (λ v. eqb v 62) refl d j y); closes = closed-there j y; given = none }))
       (λ y. early d (omega arith)))
 
   -- A start tag
@@ -126,7 +130,7 @@ module _ (c : Settings) (d : List ℕ) where
     pub parted : w .at + w .size < w .quote
     pub inside : w .quote + 1 + w .width < length d
 
-  pub specification-read : (i : ℕ) → letter (byteAt d i) ≡ true → Holds (InPiece d) (SpecificationRead i) (specification c d i)
+  pub specification-read : (i : ℕ) → letter (byteAt d i) ≡ true → Holds (InPiece d) (SpecificationRead i) (specification long d i)
   unfolding specification
   specification-read i l =
       let e = nameEnd d i in
@@ -138,7 +142,7 @@ module _ (c : Settings) (d : List ℕ) where
       let behind = separatorsEnd-from d e in
       let within = separatorsEnd-le d e le in
       let next = separatorsEnd-from d (j + 1) in
-      either (ltb (c .nameLength) (e - i)) (λ x. early d (omega arith))
+      either (ltb long (e - i)) (λ x. early d (omega arith))
       (λ x. either (eqb (byteAt d j) 61)
       (λ y.
       let last = separatorsEnd-le d (j + 1) (omega (arith, test-in (λ v. eqb v 61) refl d j y)) in
@@ -153,7 +157,7 @@ module _ (c : Settings) (d : List ℕ) where
   written-further from to h (more {x = w} {xs = ws} p a) = more {x = w} (record { some = p .some; named = p .named; parted = p .parted; ends = omega (arith, p .ends) }) (written-further from to h {ws = ws} a)
 
   specifications-read : (i turns name e at : ℕ) (ws : List Written) → i < name → 1 ≤ e - name → letter (byteAt d name) ≡ true → e ≤ at → at ≤ length d → All (WrittenIn d (at + 1)) ws
-      → Holds (InPiece d) (TagRead d i) (specifications c turns d name e at ws)
+      → Holds (InPiece d) (TagRead d i) (specifications long turns d name e at ws)
   unfolding specifications
   specifications-read i zero name e at ws h m l f g a = early d {n = 4} {k = length d} (omega arith)
   specifications-read i (suc turns) name e at ws h m l f g a =
@@ -163,7 +167,7 @@ module _ (c : Settings) (d : List ℕ) where
       either (eqb (byteAt d j) 62)
       (λ x.
       let inside = test-in (λ v. eqb v 62) refl d j x in
-      reads (record { behind = h; some = m; named = l; ends = omega arith; inside = omega arith; given = written-further (at + 1) (j + 1) (omega arith) a }))
+      reads (record { behind = h; some = m; named = l; ends = omega arith; inside = omega arith; closes = closed-there j x; given = written-further (at + 1) (j + 1) (omega arith) a }))
       (λ x. either (letter (byteAt d j))
       (λ y. on (specification-read j y) λ w r.
       let on-to = w .quote + 1 + w .width + 1 in
@@ -173,17 +177,17 @@ module _ (c : Settings) (d : List ℕ) where
       (all-snoc (written-further (at + 1) (on-to + 1) (omega arith) a) (record { some = r .some; named = rw begins y; parted = parted; ends = omega arith })))
       (λ y. early d (omega arith)))
 
-  start-read : (i at : ℕ) → i < at → letter (byteAt d at) ≡ true → Holds (InPiece d) (TagRead d i) (startTagAt c d at)
+  start-read : (i at : ℕ) → i < at → letter (byteAt d at) ≡ true → Holds (InPiece d) (TagRead d i) (startTagAt long d at)
   unfolding startTagAt
   start-read i at h l =
       let e = nameEnd d at in
       let inside = letter-in d at l in
       let le = nameEnd-le d at (omega arith) in
       let more = nameEnd-more d at l in
-      either (ltb (c .nameLength) (e - at)) (λ x. early d (omega arith))
+      either (ltb long (e - at)) (λ x. early d (omega arith))
       (λ x. specifications-read i (suc (length d)) at e e [] h (omega arith) l (omega arith) le none)
 
-  markup-read : (i : ℕ) → i < length d → Holds (InPiece d) (PieceRead d i) (markupPiece c d i)
+  markup-read : (i : ℕ) → i < length d → Holds (InPiece d) (PieceRead d i) (markupPiece long d i)
   unfolding markupPiece
   markup-read i h =
       let b = byteAt d (i + 1) in
@@ -191,60 +195,60 @@ module _ (c : Settings) (d : List ℕ) where
       (λ x. either (eqb b 47 && letter (byteAt d (i + 2))) (λ y. on (tag-read i (i + 2) (omega arith) (second (eqb b 47) (letter (byteAt d (i + 2))) y)) (λ t r. reads r))
       (λ y. either (eqb b 33) (λ z. declaration-read d i h) (λ z. either (eqb b 63) (λ u. early d (omega arith)) (λ u. reads tt))))
 
-  pub piece-read : (i : ℕ) → i < length d → Holds (InPiece d) (PieceRead d i) (piece c d i)
+  pub piece-read : (i : ℕ) → i < length d → Holds (InPiece d) (PieceRead d i) (piece long d i)
   unfolding piece
   piece-read i h =
       either (eqb (byteAt d i) 60) (λ x. markup-read i h)
       (λ x. either (eqb (byteAt d i) 38 && isReference d i) (λ y. early d (omega arith))
       (λ y. either (isSectionEnd d i) (λ z. stops (inr refl, omega arith)) (λ z. byte-read d i h)))
 
-  -- A tag that is read has a name that is no longer than the settings say.
-  tag-short : (at : ℕ) → Gives (λ (t : Tag). t .size ≤ c .nameLength) (tag c d at)
+  -- A tag that is read has a name that is no longer than `long` bytes.
+  tag-short : (at : ℕ) → Gives (λ (t : Tag). t .size ≤ long) (tag long d at)
   unfolding tag
   tag-short at =
       let e = nameEnd d at in
       let j = separatorsEnd d e in
-      either (ltb (c .nameLength) (e - at)) (λ x. stops tt) (λ x. either (eqb (byteAt d j) 62) (λ y. reads (ltb-false _ _ x)) (λ y. stops tt))
+      either (ltb long (e - at)) (λ x. stops tt) (λ x. either (eqb (byteAt d j) 62) (λ y. reads (ltb-false _ _ x)) (λ y. stops tt))
 
-  specifications-short : (turns name e at : ℕ) (ws : List Written) → e - name ≤ c .nameLength → Gives (λ (t : Tag). t .size ≤ c .nameLength) (specifications c turns d name e at ws)
+  specifications-short : (turns name e at : ℕ) (ws : List Written) → e - name ≤ long → Gives (λ (t : Tag). t .size ≤ long) (specifications long turns d name e at ws)
   unfolding specifications
   specifications-short zero name e at ws h = stops tt
   specifications-short (suc turns) name e at ws h =
       let j = separatorsEnd d at in
       either (eqb (byteAt d j) 62) (λ x. reads h)
       (λ x. either (letter (byteAt d j))
-      (λ y. on (each {P = λ (w : Written). Unit {0}} (specification c d j) (λ n k e. tt) (λ w e. tt)) (λ w r. specifications-short turns name e (w .quote + 1 + w .width + 1) (ws ++ w ∷ []) h))
+      (λ y. on (each {P = λ (w : Written). Unit {0}} (specification long d j) (λ n k e. tt) (λ w e. tt)) (λ w r. specifications-short turns name e (w .quote + 1 + w .width + 1) (ws ++ w ∷ []) h))
       (λ y. stops tt))
 
-  start-short : (at : ℕ) → Gives (λ (t : Tag). t .size ≤ c .nameLength) (startTagAt c d at)
+  start-short : (at : ℕ) → Gives (λ (t : Tag). t .size ≤ long) (startTagAt long d at)
   unfolding startTagAt
-  start-short at = let e = nameEnd d at in either (ltb (c .nameLength) (e - at)) (λ x. stops tt) (λ x. specifications-short (suc (length d)) at e e [] (ltb-false _ _ x))
+  start-short at = let e = nameEnd d at in either (ltb long (e - at)) (λ x. stops tt) (λ x. specifications-short (suc (length d)) at e e [] (ltb-false _ _ x))
 
-  markup-short : (i : ℕ) → Gives (ShortPiece (c .nameLength)) (markupPiece c d i)
+  markup-short : (i : ℕ) → Gives (ShortPiece long) (markupPiece long d i)
   unfolding markupPiece
   markup-short i =
       let b = byteAt d (i + 1) in
       either (letter b) (λ x. on (start-short (i + 1)) (λ t r. reads r))
       (λ x. either (eqb b 47 && letter (byteAt d (i + 2))) (λ y. on (tag-short (i + 2)) (λ t r. reads r))
-      (λ y. either (eqb b 33) (λ z. declaration-short d (c .nameLength) i) (λ z. either (eqb b 63) (λ u. stops tt) (λ u. reads tt))))
+      (λ y. either (eqb b 33) (λ z. declaration-short d long i) (λ z. either (eqb b 63) (λ u. stops tt) (λ u. reads tt))))
 
-  pub piece-short : (i : ℕ) → Gives (ShortPiece (c .nameLength)) (piece c d i)
+  pub piece-short : (i : ℕ) → Gives (ShortPiece long) (piece long d i)
   unfolding piece
   piece-short i =
       either (eqb (byteAt d i) 60) (λ x. markup-short i)
       (λ x. either (eqb (byteAt d i) 38 && isReference d i) (λ y. stops tt)
-      (λ y. either (isSectionEnd d i) (λ z. stops tt) (λ z. byte-short d (c .nameLength) i)))
+      (λ y. either (isSectionEnd d i) (λ z. stops tt) (λ z. byte-short d long i)))
 
 -- A start tag among the pieces is the one that is read behind its `<`.
-abbrev StartsAs : Settings → List ℕ → (i : ℕ) → Piece → Type 0
-StartsAs c d i (startTag t) = startTagAt c d (i + 1) ≡ got t
-StartsAs c d i (endTag t) = Unit {0}
-StartsAs c d i (skipped after) = Unit {0}
-StartsAs c d i blank = Unit {0}
-StartsAs c d i dataByte = Unit {0}
+abbrev StartsAs : ℕ → List ℕ → (i : ℕ) → Piece → Type 0
+StartsAs long d i (startTag t) = startTagAt long d (i + 1) ≡ got t
+StartsAs long d i (endTag t) = Unit {0}
+StartsAs long d i (skipped after) = Unit {0}
+StartsAs long d i blank = Unit {0}
+StartsAs long d i dataByte = Unit {0}
 
-module _ (c : Settings) (d : List ℕ) (i : ℕ) where
-  declaration-starts : Gives (StartsAs c d i) (declarationPiece d i)
+module _ (long : ℕ) (d : List ℕ) (i : ℕ) where
+  declaration-starts : Gives (StartsAs long d i) (declarationPiece d i)
   unfolding declarationPiece
   declaration-starts =
       let b = byteAt d (i + 2) in
@@ -252,26 +256,26 @@ module _ (c : Settings) (d : List ℕ) (i : ℕ) where
       (λ x. either (atDashes d (i + 2)) (λ y. on (each {P = λ (e : ℕ). Unit {0}} (malformed (commentDeclaration d (i + 2))) (λ n k e. tt) (λ k e. tt)) (λ k u. reads tt))
       (λ y. either (letter b || eqb b 91) (λ z. stops tt) (λ z. reads tt)))
 
-  byte-starts : Gives (StartsAs c d i) (bytePiece d i)
+  byte-starts : Gives (StartsAs long d i) (bytePiece d i)
   unfolding bytePiece
   byte-starts =
       let b = byteAt d i in
       either (eqb b 10) (λ x. reads tt) (λ x. either (eqb b 9 || (eqb b 13 || eqb b 32)) (λ y. reads tt) (λ y. reads tt))
 
-  markup-starts : Gives (StartsAs c d i) (markupPiece c d i)
+  markup-starts : Gives (StartsAs long d i) (markupPiece long d i)
   unfolding markupPiece
   markup-starts =
       let b = byteAt d (i + 1) in
-      either (letter b) (λ x. on (each {P = λ (t : Tag). startTagAt c d (i + 1) ≡ got t} (startTagAt c d (i + 1)) (λ n k e. tt) (λ t e. e)) (λ t r. reads r))
-      (λ x. either (eqb b 47 && letter (byteAt d (i + 2))) (λ y. on (each {P = λ (t : Tag). Unit {0}} (tag c d (i + 2)) (λ n k e. tt) (λ t e. tt)) (λ t r. reads tt))
+      either (letter b) (λ x. on (each {P = λ (t : Tag). startTagAt long d (i + 1) ≡ got t} (startTagAt long d (i + 1)) (λ n k e. tt) (λ t e. e)) (λ t r. reads r))
+      (λ x. either (eqb b 47 && letter (byteAt d (i + 2))) (λ y. on (each {P = λ (t : Tag). Unit {0}} (tag long d (i + 2)) (λ n k e. tt) (λ t e. tt)) (λ t r. reads tt))
       (λ y. either (eqb b 33) (λ z. declaration-starts) (λ z. either (eqb b 63) (λ u. stops tt) (λ u. reads tt))))
 
-  piece-starts : Gives (StartsAs c d i) (piece c d i)
+  piece-starts : Gives (StartsAs long d i) (piece long d i)
   unfolding piece
   piece-starts =
       either (eqb (byteAt d i) 60) (λ x. markup-starts)
       (λ x. either (eqb (byteAt d i) 38 && isReference d i) (λ y. stops tt)
       (λ y. either (isSectionEnd d i) (λ z. stops tt) (λ z. byte-starts)))
 
-  pub piece-start-tag : {t : Tag} → piece c d i ≡ got (startTag t) → startTagAt c d (i + 1) ≡ got t
+  pub piece-start-tag : {t : Tag} → piece long d i ≡ got (startTag t) → startTagAt long d (i + 1) ≡ got t
   piece-start-tag e = got-so piece-starts e

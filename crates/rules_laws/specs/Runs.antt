@@ -7,7 +7,7 @@ use native.Mathlib.Omega.{arith}
 use native.Mathlib.Nat.{add-zero, not-suc-le-zero}
 use lib.ListN.{length}
 use lib.Dec.{eqb}
-use Rattle.rules.specs.Settings.{Settings, settings, leastNameLength}
+use Rattle.rules.specs.Settings.{leastNameLength}
 use Rattle.rules.specs.Bytes.{byteAt, letter, SOLIDUS, STAGO}
 use Rattle.rules.specs.Reading.{Reading, refused, got, andThen}
 use Rattle.rules.specs.Document.{Tag, Piece, startTag, endTag, skipped, blank, dataByte, tag, startTagAt, markupPiece, piece}
@@ -21,12 +21,9 @@ isRun (got (skipped i)) = false
 isRun (got blank) = true
 isRun (got dataByte) = true
 
--- Some settings. What stands at i under them: whether it goes on a run is the same under all settings (`run-any`).
-abbrev pub anySettings : Settings
-anySettings = settings leastNameLength
-
+-- What stands at i, however long a name may be: whether it goes on a run is the same for all lengths (`run-any`).
 abbrev pub anyPiece : List ℕ → ℕ → Reading Piece
-anyPiece d i = piece anySettings d i
+anyPiece d i = piece leastNameLength d i
 
 -- How many of the n positions from i on stand in one run of data.
 unfoldable pub runs : ℕ → List ℕ → ℕ → ℕ
@@ -72,7 +69,7 @@ runs-each (suc n) s i k h = by-test (isRun (anyPiece s i)) refl k h (runs-each n
         rw l (ih k (omega (arith, runs-more n s i e)))
     by-test false e k h ih = absurd (not-suc-le-zero (rw (runs-none (suc n) s i e) at h))
 
--- The settings decide how long a name in a tag may be, and no tag goes on a run.
+-- No tag goes on a run, however long its name may be.
 pub start-stops : (r : Reading Tag) → isRun (andThen r (λ t. got (startTag t))) ≡ false
 start-stops (refused n k) = refl
 start-stops (got t) = refl
@@ -89,18 +86,18 @@ branch : {x y u v : Reading Piece} (b : Bool) → Alike x u → Alike y v → Al
 branch true f g = f
 branch false f g = g
 
-module _ (c e : Settings) (d : List ℕ) (i : ℕ) where
-  markup-alike : Alike (markupPiece c d i) (markupPiece e d i)
+module _ (long e : ℕ) (d : List ℕ) (i : ℕ) where
+  markup-alike : Alike (markupPiece long d i) (markupPiece e d i)
   unfolding markupPiece
   markup-alike =
       let b = byteAt d (i + 1) in
-      branch (letter b) (record { going = start-stops (startTagAt c d (i + 1)) ∙ sym (start-stops (startTagAt e d (i + 1))) })
-      (branch (eqb b SOLIDUS && letter (byteAt d (i + 2))) (record { going = end-stops (tag c d (i + 2)) ∙ sym (end-stops (tag e d (i + 2))) }) (record { going = refl }))
+      branch (letter b) (record { going = start-stops (startTagAt long d (i + 1)) ∙ sym (start-stops (startTagAt e d (i + 1))) })
+      (branch (eqb b SOLIDUS && letter (byteAt d (i + 2))) (record { going = end-stops (tag long d (i + 2)) ∙ sym (end-stops (tag e d (i + 2))) }) (record { going = refl }))
 
-  piece-alike : Alike (piece c d i) (piece e d i)
+  piece-alike : Alike (piece long d i) (piece e d i)
   unfolding piece
   piece-alike = branch (eqb (byteAt d i) STAGO) markup-alike (record { going = refl })
 
--- Whether a piece goes on a run does not ask the settings.
-pub run-any : (c : Settings) (d : List ℕ) (i : ℕ) → isRun (piece c d i) ≡ isRun (anyPiece d i)
-run-any c d i = piece-alike c anySettings d i .going
+-- Whether a piece goes on a run does not ask how long a name may be.
+pub run-any : (long : ℕ) (d : List ℕ) (i : ℕ) → isRun (piece long d i) ≡ isRun (anyPiece d i)
+run-any long d i = piece-alike long leastNameLength d i .going

@@ -1,2 +1,2 @@
 -- How places of the same name are found by their keys.
-pub mod Laws
+pub mod Keys

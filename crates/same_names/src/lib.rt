@@ -7,7 +7,7 @@ ghost use Prim.Native.Nat.{ℕ, suc, _+_, _-_, _≤_, _<_};
 ghost use lib.ListN.{getD};
 ghost use Rattle.rules.specs.Judge.{samePlace};
 ghost use Rattle.model_names.specs.Places.{placeIn, placesOf, keyOf};
-ghost use Rattle.same_names.specs.Laws.{anyKey};
+ghost use Rattle.same_names.specs.Keys.{anyKey};
 
 // The keys of the places of a model with n places, at their numbers. Number 0 and those past n are not decided.
 pub fn keys_of(s: &[u8], names: &[u32; NAMES], n: usize) -> [u32; POSITIONS]

@@ -7,9 +7,9 @@ use native.Mathlib.Omega.{arith}
 use lib.Dec.{eqb}
 use Rattle.open_elements.specs.declared.Open.{Open}
 use Rattle.open_elements.specs.declared.Outcome.{Outcome}
-use Rattle.open_elements.specs.Means.{Ranged}
-use Rattle.attribute_events.specs.Means.{PutsDefaults, PutsWritten}
-use Rattle.ways.specs.Means.{startsOf}
+use Rattle.open_elements.specs.Stands.{Ranged}
+use Rattle.attribute_events.specs.PutBefore.{PutsDefaults, PutsWritten}
+use Rattle.ways.specs.Asks.{startsOf}
 use Rattle.ways.specs.Ends.{over-says}
 use Rattle.inferring.specs.declared.Stop.{Stop}
 use Rattle.inferring.specs.Inferring.{Stops, Chooses, InfersStart}
@@ -27,28 +27,33 @@ pub data Starts (rows places facts M lists : List ℕ) (at m₀ : ℕ) (o₀ : O
       → Chooses places facts o e → PutsDefaults lists e m numbers bytes m₁ numbers₁ bytes₁ → InfersStart rows places facts M begun at m₁ o numbers₁ bytes₁ r begun′ numbers′ bytes′
       → Starts rows places facts M lists at m₀ o₀ begun₀ numbers₀ bytes₀ (k + 1) (m₁ + 1) r begun′ numbers′ bytes′
 
--- The start tag of x, or a run of data for 0, from `at` to `after`, which is not refused, as the loop of document_events settles it. The document is not over (`is_over`
--- of ways). Ends are inferred (`ends` of inferring), then so many starts as were found, for which there is room. The events of the tag's attributes are put, by their marks
--- (`put_written` of attribute_events). The token takes its place (`placed` of placing). Where it opens (`opens` of ways), its element is opened (`start` of open_elements).
-pub record Steps (rows places facts M lists marks : List ℕ) (x at after n : ℕ) (o : Open) (begun numbers bytes : List ℕ) (q : Open) (begun′ numbers′ bytes′ : List ℕ) : Type 0 where
+-- The start tag of x, or a run of data for 0, which is not refused, as the loop of document_events settles it; the tag stands from `at` to `shown`, the run is shown up to
+-- there. The document is not over (`is_over` of ways). Ends are inferred (`ends` of inferring), then so many starts as were found, for which there is room. Between, the
+-- run of data before may be put anew, by which the open elements stay as they are: so many events there are then, in these buffers. The events of the tag's attributes are
+-- put, by their marks (`put_written` of attribute_events). The token takes its place (`placed` of placing). Where it opens (`opens` of ways), its element is opened
+-- (`start` of open_elements).
+pub record Steps (rows places facts M lists marks : List ℕ) (x at shown n : ℕ) (o : Open) (begun numbers bytes : List ℕ) (q : Open) (begun′ numbers′ bytes′ : List ℕ) : Type 0 where
   pub on : eqb (o .element .0) 0 && o .complete ≡ false
   pub stop : Stop
   pub numbers-ended : List ℕ
   pub bytes-ended : List ℕ
   pub ends : Stops rows places facts M begun x at n o numbers bytes stop numbers-ended bytes-ended
   pub room : stop .open .count + startsOf (stop .found) ≤ 24
+  pub before : ℕ
+  pub numbers-before : List ℕ
+  pub bytes-before : List ℕ
   pub last : Open
   pub begun-last : List ℕ
   pub numbers-last : List ℕ
   pub bytes-last : List ℕ
   pub many : ℕ
-  pub starts : Starts rows places facts M lists at (stop .events) (stop .open) begun numbers-ended bytes-ended (startsOf (stop .found)) many last begun-last numbers-last bytes-last
+  pub starts : Starts rows places facts M lists at before (stop .open) begun numbers-before bytes-before (startsOf (stop .found)) many last begun-last numbers-last bytes-last
   pub with : ℕ
   pub numbers-given : List ℕ
   pub bytes-given : List ℕ
   pub given : PutsWritten lists marks x many numbers-last bytes-last with numbers-given bytes-given
   pub put : Outcome
-  pub placed : Placed rows places facts M begun-last (stop .found) x at after with last numbers-given bytes-given put begun′ numbers′ bytes′
+  pub placed : Placed rows places facts M begun-last (stop .found) x at shown with last numbers-given bytes-given put begun′ numbers′ bytes′
   pub fine : put .number ≡ 0
   pub opens : Bool
   pub told : Opens facts x opens
@@ -62,9 +67,9 @@ starts-along h starts room l (more before chooses defaults i) =
     along-next _ _ _ _ _ _ _ _ a (omega arith) (omega (arith, a .deep)) chooses defaults i
 
 -- What the steps make of the token is what the rules make of it.
-pub steps-settle : {rows places facts M lists marks : List ℕ} {x at after n : ℕ} {o : Open} {begun numbers bytes : List ℕ} {q : Open} {begun′ numbers′ bytes′ : List ℕ} → Ranged o → x ≤ 64
-    → (h : Steps rows places facts M lists marks x at after n o begun numbers bytes q begun′ numbers′ bytes′)
-    → Settles rows places facts M lists marks x at after n o begun numbers bytes (record { «open» = q; events = h .put .events; number = h .put .number }) begun′ numbers′ bytes′
-steps-settle {after = after} g small h =
-    settles-placed after (g .few) (λ s es z stands. sym (over-says s stands) ∙ h .on) (h .ends) refl (h .room) (starts-along (h .ends .turns .ranged) (startsOf (h .stop .found)) (h .room) (omega arith) (h .starts)) (omega arith) (h .given)
+pub steps-settle : {rows places facts M lists marks : List ℕ} {x at shown n : ℕ} {o : Open} {begun numbers bytes : List ℕ} {q : Open} {begun′ numbers′ bytes′ : List ℕ} → Ranged o → x ≤ 64
+    → (h : Steps rows places facts M lists marks x at shown n o begun numbers bytes q begun′ numbers′ bytes′)
+    → Settles rows places facts M lists marks x at shown o begun (h .ends .turns .events) (h .before) (h .numbers-before) (h .bytes-before) (record { «open» = q; events = h .put .events; number = h .put .number }) begun′ numbers′ bytes′
+steps-settle {shown = shown} g small h =
+    settles-placed shown (g .few) (λ s es z stands. sym (over-says s stands) ∙ h .on) (h .ends) refl (h .room) (starts-along (h .ends .turns .ranged) (startsOf (h .stop .found)) (h .room) (omega arith) (h .starts)) (omega arith) (h .given)
     (places-opened (h .placed) (h .fine) small (h .opens) (h .told) (h .opened))

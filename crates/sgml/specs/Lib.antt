@@ -1,3 +1,3 @@
 -- What the numbers behind the C calls mean in the rules' terms, and laws of them.
-pub mod Means
-pub mod Laws
+pub mod Fits
+pub mod AnswersFit

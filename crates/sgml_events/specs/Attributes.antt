@@ -8,7 +8,6 @@ use lib.ListN.{length, drop, getD, length-append}
 use lib.Seq.{drop-at, getD-drop, drop-drop}
 use lib.Dec.{eqb, ltb}
 use borrow.Author.Tests.{eq-eqb, ne-eqb, lt-ltb, le-ltb}
-use Rattle.rules.specs.Settings.{Settings}
 use Rattle.rules.specs.Attributes.{DeclaredValue, cdata, number, name, tokens, Default, required, implied, literal, Attribute, attributeAt}
 use Rattle.rules.specs.TypeFile.{Element}
 use Rattle.rules.specs.Elements.{elementAt}
@@ -16,7 +15,7 @@ use Rattle.rules.specs.Listing.{valueNumbers, defaultNumbers, attributeNumbers,
 use Rattle.rules.specs.Printed.{upper, attributeText}
 use Rattle.rules_laws.specs.Within.{All, none, more}
 use Rattle.type_laws.specs.Attributes.{AttributeIn, AttributesIn}
-use Rattle.event_names.specs.Means.{FitsAttributes, recordWithin, attributeIn}
+use Rattle.event_names.specs.Names.{FitsAttributes, recordWithin, attributeIn}
 
 -- A record: the attribute with this number in the list of the element with that number.
 record Listed : Type 0 where
@@ -195,11 +194,11 @@ module _ (table rest : List ℕ) where
         by-element false x d y ih = rw (recordWithin, nameOf, element-is i r rs q, x) (onward ih)
 
   -- Its names stand in the type file and are short.
-  module _ (c : Settings) (s : List ℕ) where
+  module _ (long : ℕ) (s : List ℕ) where
     NameAt : (k : ℕ) → Type 0
-    NameAt k = (getD table (attributeWidth * k + 3) 0 ≤ c .nameLength) × (getD table (attributeWidth * k + 2) 0 + getD table (attributeWidth * k + 3) 0 ≤ length s)
+    NameAt k = (getD table (attributeWidth * k + 3) 0 ≤ long) × (getD table (attributeWidth * k + 2) 0 + getD table (attributeWidth * k + 3) 0 ≤ length s)
 
-    names-stand : (i k : ℕ) (rs : List Listed) → Stands i rs → All (λ (r : Listed). AttributeIn c s (r .attribute)) rs → k < length rs → NameAt (i + k)
+    names-stand : (i k : ℕ) (rs : List Listed) → Stands i rs → All (λ (r : Listed). AttributeIn long s (r .attribute)) rs → k < length rs → NameAt (i + k)
     unfolding NameAt
     names-stand i k [] q all h = absurd (omega arith)
     names-stand i zero (r ∷ rs) q (more p all) h =
@@ -210,24 +209,24 @@ module _ (table rest : List ℕ) where
         rw z (names-stand (i + 1) k rs (next-stands i r rs q) all (omega arith))
 
 -- What is listed of an element's attributes is as they are.
-list-stand : (c : Settings) (s : List ℕ) (k a : ℕ) (xs : List Attribute) (rs : List Listed) → All (AttributeIn c s) xs → All (λ (r : Listed). AttributeIn c s (r .attribute)) rs
-    → All (λ (r : Listed). AttributeIn c s (r .attribute)) (listOf k a xs ++ rs)
+list-stand : (long : ℕ) (s : List ℕ) (k a : ℕ) (xs : List Attribute) (rs : List Listed) → All (AttributeIn long s) xs → All (λ (r : Listed). AttributeIn long s (r .attribute)) rs
+    → All (λ (r : Listed). AttributeIn long s (r .attribute)) (listOf k a xs ++ rs)
 unfolding listOf
-list-stand c s k a [] rs x y = y
-list-stand c s k a (v ∷ xs) rs (more p x) y = more p (list-stand c s k (a + 1) xs rs x y)
+list-stand long s k a [] rs x y = y
+list-stand long s k a (v ∷ xs) rs (more p x) y = more p (list-stand long s k (a + 1) xs rs x y)
 
-all-stand : (c : Settings) (s : List ℕ) (k : ℕ) (es : List Element) → All (λ (e : Element). AttributesIn c s (e .attributes)) es → All (λ (r : Listed). AttributeIn c s (r .attribute)) (allOf k es)
+all-stand : (long : ℕ) (s : List ℕ) (k : ℕ) (es : List Element) → All (λ (e : Element). AttributesIn long s (e .attributes)) es → All (λ (r : Listed). AttributeIn long s (r .attribute)) (allOf k es)
 unfolding allOf
-all-stand c s k [] x = none
-all-stand c s k (e ∷ es) (more p x) = list-stand c s k 1 (e .attributes) (allOf (k + 1) es) (p .each) (all-stand c s (k + 1) es x)
+all-stand long s k [] x = none
+all-stand long s k (e ∷ es) (more p x) = list-stand long s k 1 (e .attributes) (allOf (k + 1) es) (p .each) (all-stand long s (k + 1) es x)
 
 -- The table that begins with the numbers of all attributes.
-module _ (c : Settings) (s table rest : List ℕ) (es : List Element) (q : table ≡ listNumbers 1 es ++ rest) where
+module _ (long : ℕ) (s table rest : List ℕ) (es : List Element) (q : table ≡ listNumbers 1 es ++ rest) where
   stands : Stands table rest 0 (allOf 1 es)
   unfolding Stands
   stands = q ∙ ap (λ (l : List ℕ). l ++ rest) (all-numbers 1 es)
 
-  pub attributes-fit : c .nameLength ≡ 8 → All (λ (e : Element). AttributesIn c s (e .attributes)) es → FitsAttributes s table (attributeCount es)
+  pub attributes-fit : long ≡ 8 → All (λ (e : Element). AttributesIn long s (e .attributes)) es → FitsAttributes s table (attributeCount es)
   unfolding NameAt
   attributes-fit n x =
       record {
@@ -235,10 +234,10 @@ module _ (c : Settings) (s table rest : List ℕ) (es : List Element) (q : table
         inside = λ k h. at k h .1;
       }
     where
-      at : (k : ℕ) → k < attributeCount es → NameAt table rest c s k
+      at : (k : ℕ) → k < attributeCount es → NameAt table rest long s k
       at k h =
           let z : 0 + k ≡ k = omega arith in
-          rw z at (names-stand table rest c s 0 k (allOf 1 es) stands (all-stand c s 1 es x) (omega (arith, all-length 1 es)))
+          rw z at (names-stand table rest long s 0 k (allOf 1 es) stands (all-stand long s 1 es x) (omega (arith, all-length 1 es)))
 
   searched : (e a : ℕ) → attributeIn s table (attributeCount es) e a ≡ foundIn table s (recordWithin table (attributeCount es) 0 (e - 1 + 1) (a - 1 + 1)) (attributeCount es)
   unfolding attributeIn foundIn

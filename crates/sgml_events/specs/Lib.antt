@@ -1,5 +1,5 @@
 -- What the program prints, and laws that its functions go by.
-pub mod Means
+pub mod Prints
 pub mod Attributes
 pub mod Listed
 pub mod Table

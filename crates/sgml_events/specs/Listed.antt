@@ -14,7 +14,7 @@ use Rattle.rules.specs.Printed.{programSettings}
 use Rattle.rules_laws.specs.Within.{typeFile-count}
 use Rattle.type_laws.specs.Attributes.{typeFile-attributes, attributes-count}
 use Rattle.answer_laws.specs.Judge.{settled-one, refuses-some}
-use Rattle.sgml_events.specs.Means.{ListedIn}
+use Rattle.sgml_events.specs.Prints.{ListedIn}
 use Rattle.sgml_events.specs.Attributes.{attributes-fit, attributes-named}
 
 -- What was listed under the settings that the program gives.
@@ -31,8 +31,8 @@ same-elements {es = es} {fs} a b = go (a .elements) (b .elements)
 module _ (c : Settings) (s : List ℕ) (es : List Element) (accepted : Accepts c s es) where
   few : (6 * length es ≤ 384) × (attributeCount es ≤ 2560)
   few =
-      let n = typeFile-count c s es (accepted .elements) in
-      (omega arith, omega (arith, attributes-count c s es (typeFile-attributes c s es (accepted .elements))))
+      let n = typeFile-count (c .nameLength) s es (accepted .elements) in
+      (omega arith, omega (arith, attributes-count (c .nameLength) s es (typeFile-attributes (c .nameLength) s es (accepted .elements))))
 
   -- The type is not refused where all its elements have room.
   not-refused : (a : Answer) → Refuses c s 384 a → ⊥
@@ -55,8 +55,8 @@ module _ (s before : List ℕ) (lent : length before ≡ 23040) (es : List Eleme
   listed-in t e = rw (counted es accepted) (
       record {
         few = few programSettings s es accepted .1;
-        fits = attributes-fit programSettings s after _ es (listed-one programSettings s es accepted before a after lent l .1) refl (typeFile-attributes programSettings s es (accepted .elements));
-        named = λ ds b. rw (sym (counted es accepted) ∙ counted ds b) (attributes-named programSettings s after _ ds (listed-one programSettings s ds b before a after lent l .1));
+        fits = attributes-fit (programSettings .nameLength) s after _ es (listed-one programSettings s es accepted before a after lent l .1) refl (typeFile-attributes (programSettings .nameLength) s es (accepted .elements));
+        named = λ ds b. rw (sym (counted es accepted) ∙ counted ds b) (attributes-named (programSettings .nameLength) s after _ ds (listed-one programSettings s ds b before a after lent l .1));
       }
       )
     where

@@ -15,15 +15,15 @@ use Rattle.rules.specs.Judge.{Answer, records, Accepts, Judged, accepts}
 use Rattle.rules.specs.Elements.{elementAt}
 use Rattle.rules.specs.Events.{Event, eventWidth}
 use Rattle.rules.specs.Reader.{eventNumbers}
-use Rattle.numbers.specs.Laws.{records-length, lent-length}
+use Rattle.numbers.specs.Stores.{records-length, lent-length}
 use Rattle.rules_laws.specs.Within.{typeFile-count}
-use Rattle.element_reader.specs.Means.{Recorded}
-use Rattle.element_index.specs.Laws.{recorded-offset, recorded-size}
+use Rattle.element_reader.specs.Keeps.{Recorded}
+use Rattle.element_index.specs.Seeking.{recorded-offset, recorded-size}
 use Rattle.type_laws.specs.Again.{typeFile-sizes}
 use Rattle.answer_laws.specs.Judge.{settled-one}
 use Rattle.rules.specs.Printed.{programSettings, nameText, startsNext, attributeText, eventText, line, eventLines, eventsText}
-use Rattle.event_names.specs.Means.{Fits, nameIn, startsWithin, attributeIn, namedAt}
-use Rattle.event_lines.specs.Means.{lineAt, linesFrom, textOf}
+use Rattle.event_names.specs.Names.{Fits, nameIn, startsWithin, attributeIn, namedAt}
+use Rattle.event_lines.specs.TextOf.{lineAt, linesFrom, textOf}
 
 zero-at : (n i : ℕ) → _≡_ {A = ℕ} (getD (replicate n 0) i 0) 0
 zero-at n i = by-place (decLt i n)
@@ -45,7 +45,7 @@ element-past (e ∷ es) (suc k) h = element-past es k (omega arith)
 
 module _ (s : List ℕ) (es : List Element) (accepted : Accepts programSettings s es) (a : Answer) (before elements : List ℕ) (lent : before ≡ replicate 384 0) (judged : Judged numbers programSettings s before a elements) where
   few : 6 * length es ≤ 384
-  few = omega (arith, typeFile-count programSettings s es (accepted .elements))
+  few = omega (arith, typeFile-count (programSettings .nameLength) s es (accepted .elements))
 
   elements-are : elements ≡ filledWith (records es) before
   elements-are = settled-one judged (accepts es accepted (omega (arith, few, ap length lent, length-replicate {A = ℕ} 384 0)) refl refl) .1
@@ -77,7 +77,7 @@ module _ (s : List ℕ) (es : List Element) (accepted : Accepts programSettings 
   name-fits k = by-place (decLt k (length es))
     where
       by-place : Dec (k < length es) → (elementAt es k .size ≤ 8) × (elementAt es k .at + elementAt es k .size ≤ length s)
-      by-place (yes h) = let z = typeFile-sizes programSettings s es (accepted .elements) k h in (z .1, z .2)
+      by-place (yes h) = let z = typeFile-sizes (programSettings .nameLength) s es (accepted .elements) k h in (z .1, z .2)
       by-place (no h) = let z = element-past es k (omega arith) in (omega arith, omega arith)
 
   pub table-fits : Fits s elements

@@ -13,14 +13,17 @@ ghost use Prim.Native.Nat.{_≤_};
 ghost use lib.ListN.{length, take};
 ghost use Rattle.io.specs.Counts.{Counts};
 ghost use Rattle.rules.specs.Printed.{programSettings, Prints};
-ghost use Rattle.inputs.specs.Means.{settingsOf};
-ghost use Rattle.sgml_events.specs.Means.{Accepted, ListedIn, EventsPut, Whole};
+ghost use Rattle.inputs.specs.Checks.{settingsOf};
+ghost use Rattle.sgml_events.specs.Prints.{Accepted, ListedIn, EventsPut, Whole};
 
 // What the program gives: names of at most 8 bytes.
 fn given() -> Settings
     ensures { λ r. ⌜ settingsOf r ≡ programSettings ⌝ }
 {
-    Settings { name_length: 8 }
+    Settings {
+        name_length: 8,
+        edition: 1,
+    }
 }
 
 // How many attributes a type has that is accepted, and their records.

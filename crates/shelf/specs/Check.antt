@@ -7,7 +7,6 @@ use lib.Dec.{eqb}
 use borrow.Author.Tests.{eqb-true}
 use native.Mathlib.Omega.{arith}
 use Rattle.rules.specs.Reading.{got}
-use Rattle.rules.specs.Settings.{Settings}
 use Rattle.rules.specs.TypeFile.{Content, empty, model, Element, typeFile}
 use Rattle.rules.specs.Judge.{samePlace, placeAt, firstRepeated, Unambiguous, AllUnambiguous, PairStandsAt, FirstAmbiguous, here}
 use Rattle.model_sets.specs.Bits.{and-left, and-right}
@@ -62,10 +61,10 @@ module _ (s : List ℕ) (e : Element) where
 abbrev pub NamedSo : Example → List Element → Type 0
 NamedSo x es = Named (x .text) (x .first) (x .second) es
 
-pub named-so : (c : Settings) (x : Example) (es : List Element) → typeFile c (x .text) ≡ got es → readsAs x es ≡ true → NamedSo x es
+pub named-so : (long : ℕ) (x : Example) (es : List Element) → typeFile long (x .text) ≡ got es → readsAs x es ≡ true → NamedSo x es
 unfolding readsAs
-named-so c x [] is u = absurd (false≢true u)
-named-so c x (e ∷ []) is u =
+named-so long x [] is u = absurd (false≢true u)
+named-so long x (e ∷ []) is u =
     let r = eqb-true (firstRepeated (e ∷ [])) 0 (and-left (eqb (firstRepeated (e ∷ [])) 0) _ u) in
-    named-in (x .text) e (x .first) (x .second) (e .content) refl (typeFile-guarded c (x .text) (e ∷ []) is r .0) (and-right (eqb (firstRepeated (e ∷ [])) 0) _ u)
-named-so c x (e ∷ (f ∷ es)) is u = absurd (false≢true u)
+    named-in (x .text) e (x .first) (x .second) (e .content) refl (typeFile-guarded long (x .text) (e ∷ []) is r .0) (and-right (eqb (firstRepeated (e ∷ [])) 0) _ u)
+named-so long x (e ∷ (f ∷ es)) is u = absurd (false≢true u)

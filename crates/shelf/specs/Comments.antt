@@ -4,7 +4,6 @@ use Prim.Native.Nat.{ℕ}
 use Prim.Native.String.{String}
 use mathlib.Core.Path.{_≡_, refl}
 use mathlib.Core.List.{List, [], _∷_}
-use Rattle.rules.specs.Settings.{Settings}
 use Rattle.rules.specs.Bytes.{separator, letter, span, separatorsEnd}
 use Rattle.rules.specs.Reading.{Reading, refused, got, andThen}
 use Rattle.rules.specs.TypeFile.{beforeDashes, gapWithin, gap, commentDeclaration, markup}
@@ -19,9 +18,9 @@ pub record Example : Type 0 where
   pub inDocument : Reading ℕ
 
 -- The rules read it so.
-abbrev pub EndsSo : Settings → Example → Type 0
-EndsSo c x =
-    (markup c (x .text) 0 [] [] ≡ andThen (x .inType) (λ j. got (record { elements = []; lists = []; at = j }))) × (piece c (x .text) 0 ≡ andThen (x .inDocument) (λ e. got (skipped e)))
+abbrev pub EndsSo : ℕ → Example → Type 0
+EndsSo long x =
+    (markup long (x .text) 0 [] [] ≡ andThen (x .inType) (λ j. got (record { elements = []; lists = []; at = j }))) × (piece long (x .text) 0 ≡ andThen (x .inDocument) (λ e. got (skipped e)))
 
 pub both : String → Reading ℕ → Example
 both t r = record { text = ascii t; inType = r; inDocument = r }
@@ -48,9 +47,9 @@ comments =
     []
 
 -- They ask nothing of the settings.
-pub comments-right : (c : Settings) → All (EndsSo c) comments
+pub comments-right : (long : ℕ) → All (EndsSo long) comments
 unfolding ascii both comments separator letter span separatorsEnd beforeDashes gapWithin gap commentDeclaration markup declarationPiece markupPiece piece
-comments-right c =
+comments-right long =
     more (refl, refl)
     (more (refl, refl)
     (more (refl, refl)

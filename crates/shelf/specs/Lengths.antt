@@ -4,7 +4,6 @@ use Prim.Native.String.{String}
 use mathlib.Core.Path.{_≡_, refl}
 use mathlib.Core.List.{List, [], _∷_, _++_}
 use lib.ListN.{length}
-use Rattle.rules.specs.Settings.{settings}
 use Rattle.rules.specs.Bytes.{separator, letter, fold, nameByte, span, nameEnd, separatorsEnd, sameText}
 use Rattle.rules.specs.Reading.{Reading, refused, got, andThen}
 use Rattle.rules.specs.TypeFile.{beforeDashes, gapWithin, gap, occurrence, nameToken, dataToken, token, further, members, group}
@@ -21,7 +20,7 @@ pub record TypeExample : Type 0 where
   pub gives : Reading ℕ
 
 abbrev pub DeclaresSo : TypeExample → Type 0
-DeclaresSo x = andThen (typeFile (settings (x .long)) (x .text)) (λ es. got (length es)) ≡ x .gives
+DeclaresSo x = andThen (typeFile (x .long) (x .text)) (λ es. got (length es)) ≡ x .gives
 
 pub under : ℕ → String → Reading ℕ → TypeExample
 under n t r = record { long = n; text = ascii t; gives = r }
@@ -53,7 +52,7 @@ pub record TagExample : Type 0 where
   pub gives : Reading Piece
 
 abbrev pub TagSo : TagExample → Type 0
-TagSo x = piece (settings (x .long)) (x .text) 0 ≡ x .gives
+TagSo x = piece (x .long) (x .text) 0 ≡ x .gives
 
 pub tags : List TagExample
 tags =

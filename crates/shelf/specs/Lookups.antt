@@ -8,7 +8,6 @@ use mathlib.Core.List.{List, [], _∷_}
 use lib.ListN.{length}
 use lib.Dec.{eqb}
 use borrow.Author.Tests.{eqb-true}
-use Rattle.rules.specs.Settings.{Settings}
 use Rattle.rules.specs.Bytes.{separator, letter, fold, nameByte, span, nameEnd, separatorsEnd, sameText}
 use Rattle.rules.specs.Reading.{got}
 use Rattle.rules.specs.TypeFile.{beforeDashes, gapWithin, gap, occurrence, nameToken, dataToken, token, further, members, group}
@@ -39,9 +38,9 @@ unfoldable pub readsAs : Example → List Element → Bool
 readsAs x es =
     eqb (numberOf (x .type) es (x .name) 0 (length (x .name))) (x .number) && eqb (compared (x .type) es (x .name) 0 (length (x .name))) (x .count)
 
-pub looks-up : (c : Settings) (x : Example) (es : List Element) → typeFile c (x .type) ≡ got es → readsAs x es ≡ true → LooksUp x es
+pub looks-up : (long : ℕ) (x : Example) (es : List Element) → typeFile long (x .type) ≡ got es → readsAs x es ≡ true → LooksUp x es
 unfolding readsAs
-looks-up c x es is u =
+looks-up long x es is u =
     record { numbered = eqb-true _ _ (and-left _ _ u); counted = eqb-true _ _ (and-right (eqb (numberOf (x .type) es (x .name) 0 (length (x .name))) (x .number)) _ u) }
 
 -- Type T with NOTE, which is as long as NAME and begins with the same letter: LIST, ITEM, NAME, QTY, NOTE.
@@ -69,4 +68,4 @@ lookups =
 
 pub lookups-right : All (Right eight (λ (x : Example). x .type) LooksUp) lookups
 unfolding ascii T+ named lookups allPass passes readsAs numberFrom numberOf compared placeAt separator letter fold nameByte span nameEnd separatorsEnd sameText beforeDashes gapWithin gap occurrence nameToken dataToken token further members group isDeclared elementName omission words head contentWord contentModel content close rest element commentDeclaration keyword markup declaration declarationsWithin attributesOf listed typeFile
-lookups-right = all-right eight (λ (x : Example). x .type) readsAs (looks-up eight) lookups refl
+lookups-right = all-right eight (λ (x : Example). x .type) readsAs (looks-up (eight .nameLength)) lookups refl

@@ -42,4 +42,4 @@ shelf =
 
 pub shelf-right : All (Right eight (λ (x : Example). x .text) NamedSo) shelf
 unfolding shelf declared allPass passes readsAs ofContent isPair isNumbered areNumbered firstRepeated placeAt separator letter fold nameByte span nameEnd separatorsEnd sameText beforeDashes gapWithin gap occurrence nameToken dataToken token further members group isDeclared elementName omission words head contentWord contentModel content close rest element commentDeclaration keyword markup declaration declarationsWithin attributesOf listed typeFile
-shelf-right = all-right eight (λ (x : Example). x .text) readsAs (named-so eight) shelf refl
+shelf-right = all-right eight (λ (x : Example). x .text) readsAs (named-so (eight .nameLength)) shelf refl

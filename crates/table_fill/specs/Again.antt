@@ -7,12 +7,11 @@ use native.Mathlib.Nat.{not-suc-le-zero, le-of-suc-le-suc}
 use native.Mathlib.Omega.{arith}
 use lib.ListN.{length, getD, take, List·getD-append}
 use lib.Seq.{length-take-le, take-take, take-append-add, getD-append-add, getD-take}
-use Rattle.rules.specs.Settings.{Settings}
 use Rattle.rules.specs.Reading.{got}
 use Rattle.rules.specs.TypeFile.{Content, empty, model, Element, Declared, element, typeFile}
 use Rattle.rules.specs.Judge.{contentNumbers, records}
 use Rattle.rules.specs.Elements.{elementAt, contentOf, hasModel}
-use Rattle.element_reader.specs.Means.{Recorded, KeepsContent, MeetsElement}
+use Rattle.element_reader.specs.Keeps.{Recorded, KeepsContent, MeetsElement}
 use Rattle.element_reader.specs.declared.ElementRead.{ElementRead}
 use Rattle.element_reader.specs.declared.ElementRead.the-variants as elementRead
 use Rattle.rules_laws.specs.Declarations.{bare, bares, bares-length}
@@ -104,7 +103,7 @@ abbrev pub ReadsAs : (names table : List ℕ) → Content → ElementRead → Ty
 ReadsAs names table c (elementRead.Read d) = KeepsContent names table (d .kind) (d .tokens) (d .places) (d .code) (d .and) (d .repeated) c
 ReadsAs names table c (elementRead.Refused f) = ⊥
 
-module _ (c : Settings) (s elements : List ℕ) (es : List Element) (read : typeFile c s ≡ got es) (r : Recorded elements es) (e : ℕ) (from : 1 ≤ e) (to : e ≤ length es) (names table : List ℕ) where
+module _ (long : ℕ) (s elements : List ℕ) (es : List Element) (read : typeFile long s ≡ got es) (r : Recorded elements es) (e : ℕ) (from : 1 ≤ e) (to : e ≤ length es) (names table : List ℕ) where
   reads-declared : (at : ℕ) (fs : List Element) (d : Declared) → d .elements ≡ fs ++ bare (elementAt es (e - 1)) ∷ [] → (x : ElementRead) → MeetsElement (length s) at names table fs x (got d)
       → ReadsAs names table (contentOf es e) x
   reads-declared at fs d q (elementRead.Read y) m =
@@ -113,10 +112,10 @@ module _ (c : Settings) (s elements : List ℕ) (es : List Element) (read : type
   reads-declared at fs d q (elementRead.Refused f) m = m
 
   pub reads-again : (at : ℕ) (x : ElementRead) → at ≡ getD elements (6 * (e - 1)) 0
-      → ((fs : List Element) → length fs ≡ e - 1 → Recorded elements fs → MeetsElement (length s) at names table fs x (element c s at fs)) → ReadsAs names table (contentOf es e) x
+      → ((fs : List Element) → length fs ≡ e - 1 → Recorded elements fs → MeetsElement (length s) at names table fs x (element long s at fs)) → ReadsAs names table (contentOf es e) x
   reads-again at x q m =
       let k : ℕ = e - 1 in
-      let (d, g, w) = typeFile-again c s es read k (omega arith) in
+      let (d, g, w) = typeFile-again long s es read k (omega arith) in
       let stands : at ≡ elementAt es k .at = q ∙ recorded-name elements es r k (omega arith) in
       let before : List Element = take k (bares es) in
       let whole = bares-length es in

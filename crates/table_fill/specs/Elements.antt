@@ -9,7 +9,7 @@ use native.Mathlib.Omega.{arith}
 use lib.ListN.{length, getD, set, length-set}
 use lib.Seq.{getD-set-same, getD-set-other}
 use lib.Dec.{eqb}
-use Rattle.rules.specs.Settings.{Settings, mostNameLength}
+use Rattle.rules.specs.Settings.{settings, mostNameLength}
 use Rattle.rules.specs.Walk.{Group}
 use Rattle.rules.specs.Attributes.{Attribute, needsTag}
 use Rattle.rules.specs.TypeFile.{Place, Content, empty, model, Element, element}
@@ -22,9 +22,9 @@ use Rattle.rules_laws.specs.Groups.{GuardedIn}
 use Rattle.document_laws.specs.Decide.{content-guarded}
 use Rattle.document_laws.specs.Numbers.{typeFile-guarded}
 use Rattle.model_names.specs.Places.{placesOf}
-use Rattle.model_names.specs.Laws.{placeAt-placesOf}
+use Rattle.model_names.specs.Shared.{placeAt-placesOf}
 use Rattle.text.specs.declared.Fault.{Fault}
-use Rattle.element_reader.specs.Means.{Recorded, KeepsModel, KeepsContent, MeetsElement}
+use Rattle.element_reader.specs.Keeps.{Recorded, KeepsModel, KeepsContent, MeetsElement}
 use Rattle.element_reader.specs.declared as declared
 use Rattle.element_reader.specs.declared.ElementRead.{ElementRead}
 use Rattle.element_reader.specs.declared.ElementRead.the-variants as elementRead
@@ -35,10 +35,11 @@ use Rattle.type_laws.specs.Models.{ShortIn}
 use Rattle.type_laws.specs.Again.{typeFile-sizes}
 use Rattle.type_laws.specs.Members.{typeFile-members}
 use Rattle.type_laws.specs.Width.{typeFile-content, typeFile-places-short}
-use Rattle.element_index.specs.Means.{Indexed}
-use Rattle.list_table.specs.Means.{ListAt, Lists}
-use Rattle.type_tables.specs.Means.{rowAt, PlainIn}
+use Rattle.element_index.specs.Indexed.{Indexed}
+use Rattle.list_table.specs.Lists.{ListAt, Lists}
+use Rattle.type_tables.specs.Tables.{rowAt, PlainIn}
 use Rattle.member_table.specs.Filling.{filled}
+use Rattle.member_runs.specs.Linking.{Linked}
 use Rattle.model_rows.specs.Bits.{flag-most}
 use Rattle.model_rows.specs.Rows.{RowsDue, RowsPut}
 use Rattle.table_fill.specs.Places.{PlacesPut, places-none}
@@ -50,7 +51,7 @@ use Rattle.table_fill.specs.Names.{IsName, NamesFit, PlacesDue}
 
 -- What is kept of the start of the element e: 1 where it may be inferred, by its record and its list.
 pub record StartFact (elements lists : List ℕ) (e n : ℕ) : Type 0 where
-  pub is : (c : Settings) (s : List ℕ) (xs : List Attribute) → ListAt c s lists (201 * (e - 1)) xs → eqb n 1 ≡ (eqb (getD elements (6 * (e - 1) + 2) 0) 1 && not (needsTag xs))
+  pub is : (long : ℕ) (s : List ℕ) (xs : List Attribute) → ListAt long s lists (201 * (e - 1)) xs → eqb n 1 ≡ (eqb (getD elements (6 * (e - 1) + 2) 0) 1 && not (needsTag xs))
 
 -- That, and whether its end may be omitted and its content, from the record.
 pub record FactsPut (elements lists : List ℕ) (e : ℕ) (F G : List ℕ) : Type 0 where
@@ -58,12 +59,12 @@ pub record FactsPut (elements lists : List ℕ) (e : ℕ) (F G : List ℕ) : Typ
   pub fact : StartFact elements lists e start
   pub put : G ≡ set (set (set F (e * FACT + 65) start) (e * FACT + 66) (getD elements (6 * (e - 1) + 3) 0)) (e * FACT + 67) (getD elements (6 * (e - 1) + 4) 0)
 
-module _ (elements lists : List ℕ) (e : ℕ) {b : Bool} (says : (c : Settings) (s : List ℕ) (xs : List Attribute) → ListAt c s lists (201 * (e - 1)) xs → b ≡ needsTag xs) where
+module _ (elements lists : List ℕ) (e : ℕ) {b : Bool} (says : (long : ℕ) (s : List ℕ) (xs : List Attribute) → ListAt long s lists (201 * (e - 1)) xs → b ≡ needsTag xs) where
   pub start-required : b ≡ true → StartFact elements lists e 0
-  start-required t = record { is = λ c s xs l. sym (and-false (eqb (getD elements (6 * (e - 1) + 2) 0) 1)) ∙ ap (λ (r : Bool). eqb (getD elements (6 * (e - 1) + 2) 0) 1 && not r) (sym t ∙ says c s xs l) }
+  start-required t = record { is = λ long s xs l. sym (and-false (eqb (getD elements (6 * (e - 1) + 2) 0) 1)) ∙ ap (λ (r : Bool). eqb (getD elements (6 * (e - 1) + 2) 0) 1 && not r) (sym t ∙ says long s xs l) }
 
   pub start-recorded : b ≡ false → StartFact elements lists e (getD elements (6 * (e - 1) + 2) 0)
-  start-recorded t = record { is = λ c s xs l. sym (and-true (eqb (getD elements (6 * (e - 1) + 2) 0) 1)) ∙ ap (λ (r : Bool). eqb (getD elements (6 * (e - 1) + 2) 0) 1 && not r) (sym t ∙ says c s xs l) }
+  start-recorded t = record { is = λ long s xs l. sym (and-true (eqb (getD elements (6 * (e - 1) + 2) 0) 1)) ∙ ap (λ (r : Bool). eqb (getD elements (6 * (e - 1) + 2) 0) 1 && not r) (sym t ∙ says long s xs l) }
 
 -- The three numbers are 0 or 1.
 pub record Flags (elements : List ℕ) (e : ℕ) : Type 0 where
@@ -71,12 +72,13 @@ pub record Flags (elements : List ℕ) (e : ℕ) : Type 0 where
   pub end : getD elements (6 * (e - 1) + 3) 0 ≤ 1
   pub kind : getD elements (6 * (e - 1) + 4) 0 ≤ 1
 
--- What is asked for the element e to be put: the type is accepted under the settings c, by which its declaration is read again, indexed, and its lists are in their
+-- What is asked for the element e to be put: the type is accepted where names may have `long` bytes, as its declaration is read again, indexed, and its lists are in their
 -- table; the tables are filled up to e.
-pub record ElementDue (c : Settings) (s : List ℕ) (es : List Element) (elements lists index rows places facts members : List ℕ) (e : ℕ) : Type 0 where
-  pub accepted : Accepts c s es
+pub record ElementDue (long : ℕ) (s : List ℕ) (es : List Element) (elements lists index rows places facts members : List ℕ) (e : ℕ) : Type 0 where
+  pub edition : ℕ
+  pub accepted : Accepts (settings long edition) s es
   pub indexed : Indexed s es elements index
-  pub listed : Lists c s es lists
+  pub listed : Lists long s es lists
   pub from : 1 ≤ e
   pub to : e ≤ length es
   pub filled : Filled s es rows places facts members e
@@ -87,7 +89,7 @@ name-at s long most [] w u k h = absurd (not-suc-le-zero h)
 name-at s long most (x ∷ ps) (more p w) (more l u) zero h = (omega arith, p .ends)
 name-at s long most (x ∷ ps) (more p w) (more l u) (suc k) h = name-at s long most ps w u k (le-of-suc-le-suc h)
 
-module _ (c : Settings) (s : List ℕ) (es : List Element) (elements lists index R P F M : List ℕ) (e : ℕ) (due : ElementDue c s es elements lists index R P F M e) where
+module _ (long : ℕ) (s : List ℕ) (es : List Element) (elements lists index R P F M : List ℕ) (e : ℕ) (due : ElementDue long s es elements lists index R P F M e) where
   abbrev k : ℕ
   k = e - 1
 
@@ -101,7 +103,7 @@ module _ (c : Settings) (s : List ℕ) (es : List Element) (elements lists index
 
   pub flags : Flags elements e
   flags =
-      let (a, b, g, d, f) = typeFile-sizes c s es (due .accepted .elements) k k-in in
+      let (a, b, g, d, f) = typeFile-sizes long s es (due .accepted .elements) k k-in in
       record {
         start = omega (arith, recorded-start elements es (due .indexed .recorded) k k-in);
         end = omega (arith, recorded-end elements es (due .indexed .recorded) k k-in);
@@ -111,7 +113,7 @@ module _ (c : Settings) (s : List ℕ) (es : List Element) (elements lists index
   -- Where the name stands, and how long the type file is.
   pub name-in : (at : ℕ) → at ≡ getD elements (6 * (e - 1)) 0 → (at ≤ length s) × (length s ≤ 32768) × (e - 1 ≤ 64)
   name-in at q =
-      let (a, b, g, d, f) = typeFile-sizes c s es (due .accepted .elements) k k-in in
+      let (a, b, g, d, f) = typeFile-sizes long s es (due .accepted .elements) k k-in in
       (omega (arith, recorded-name elements es (due .indexed .recorded) k k-in), due .accepted .legible .short, omega (arith, few))
 
   tags-put : (G : List ℕ) → FactsPut elements lists e F G → TagsPut (elementAt es k) (contentOf es e) e F G
@@ -138,7 +140,7 @@ module _ (c : Settings) (s : List ℕ) (es : List Element) (elements lists index
         under = λ j h. else j (omega arith) (omega arith) (omega arith);
         over = λ j h. else j (omega arith) (omega arith) (omega arith);
         tags = λ h. record {
-          start = ap (λ (n : ℕ). eqb n 1) kept ∙ p .fact .is c s attributes (due .listed k k-in) ∙ ap (λ (n : ℕ). eqb n 1 && not (needsTag attributes)) (recorded-start elements es r k k-in);
+          start = ap (λ (n : ℕ). eqb n 1) kept ∙ p .fact .is long s attributes (due .listed k k-in) ∙ ap (λ (n : ℕ). eqb n 1 && not (needsTag attributes)) (recorded-start elements es r k k-in);
           end = getD-set-other F₂ z y d 0 (omega arith) ∙ getD-set-same F₁ y b 0 (omega arith) ∙ recorded-end elements es r k k-in;
           has = rw (content-at es e (due .from)) (getD-set-same F₂ z d 0 (omega arith) ∙ recorded-kind elements es r k k-in);
         };
@@ -147,9 +149,9 @@ module _ (c : Settings) (s : List ℕ) (es : List Element) (elements lists index
   -- The declaration, read again
 
   module _ (names table : List ℕ) (at : ℕ) (x : ElementRead) (stands : at ≡ getD elements (6 * (e - 1)) 0)
-      (met : (fs : List Element) → length fs ≡ e - 1 → Recorded elements fs → MeetsElement (length s) at names table fs x (element c s at fs)) where
+      (met : (fs : List Element) → length fs ≡ e - 1 → Recorded elements fs → MeetsElement (length s) at names table fs x (element long s at fs)) where
     again : ReadsAs names table (contentOf es e) x
-    again = reads-again c s elements es (due .accepted .elements) (due .indexed .recorded) e (due .from) (due .to) names table at x stands met
+    again = reads-again long s elements es (due .accepted .elements) (due .indexed .recorded) e (due .from) (due .to) names table at x stands met
 
     pub not-refused : (f : Fault) → x ≡ elementRead.Refused f → ⊥
     not-refused f q = rw q at again
@@ -166,14 +168,14 @@ module _ (c : Settings) (s : List ℕ) (es : List Element) (elements lists index
           by-content (model g ps n) w = w .3 .places-in
 
       names-fit : (d .kind ≡ 0 → ⊥) → NamesFit s names (d .places)
-      names-fit z = by-content (contentOf es e) keeps (typeFile-content c s es (due .accepted .elements) e) (typeFile-places-short c s es (due .accepted .elements) e)
+      names-fit z = by-content (contentOf es e) keeps (typeFile-content long s es (due .accepted .elements) e) (typeFile-places-short long s es (due .accepted .elements) e)
         where
-          by-content : (y : Content) → KeepsContent names table (d .kind) (d .tokens) (d .places) (d .code) (d .and) (d .repeated) y → ContentIn s y → ShortIn (c .nameLength) y → NamesFit s names (d .places)
+          by-content : (y : Content) → KeepsContent names table (d .kind) (d .tokens) (d .places) (d .code) (d .and) (d .repeated) y → ContentIn s y → ShortIn long y → NamesFit s names (d .places)
           by-content empty w y u p a b = absurd (z (w .0))
           by-content (model g ps n) w y u p a b =
               let m = w .3 in
               subst (IsName s) (placeAt-placesOf names (d .places) (p - 1) (omega arith))
-              (rw (m .names-hold) (name-at s (c .nameLength) (offered-range c (due .accepted .legible .offered) .1) ps (y .places) u (p - 1) (omega (arith, m .counted))))
+              (rw (m .names-hold) (name-at s long (offered-range _ (due .accepted .legible .offered) .1) ps (y .places) u (p - 1) (omega (arith, m .counted))))
 
       -- It is a model.
       is-model : (y : Content) → KeepsContent names table (d .kind) (d .tokens) (d .places) (d .code) (d .and) (d .repeated) y → (d .kind ≡ 0 → ⊥)
@@ -216,11 +218,11 @@ module _ (c : Settings) (s : List ℕ) (es : List Element) (elements lists index
         element-empty z i at =
             let h = due .filled in
             let q = is-empty (contentOf es e) keeps z in
-            rw at (filled-more c s es (due .accepted .elements) e false R P F M h (set R (rowAt e 0) 1) G P G G M
+            rw at (filled-more long s es (due .accepted .elements) e false R P F M h (set R (rowAt e 0) 1) G P G G M
             (subst (λ (y : Content). RowsFor y false e R (set R (rowAt e 0) 1)) q (rows-empty e R few (h .rows-len) (h .rows-rest)))
             tags
             (subst (λ (y : Content). PlacesPut s es (placesIn y) e P G P G (length (placesIn y) + 1)) q
-            (places-none c s es (due .accepted .elements) [] e P G (h .places-len) (tags .len) (λ j a b. tags .under j b ∙ h .facts-rest j a)))
+            (places-none long s es (due .accepted .elements) [] e P G (h .places-len) (tags .len) (λ j a b. tags .under j b ∙ h .facts-rest j a)))
             (largest-same e G (tags .len))
             (members-same s (contentOf es e) e M (h .lent) (subst PlainIn q tt)))
 
@@ -229,7 +231,7 @@ module _ (c : Settings) (s : List ℕ) (es : List Element) (elements lists index
             → LargestPut b e H F′ 65 → MembersPut s (contentOf es e) b e M M′ → Filled s es R′ P′ F′ M′ (e + 1)
         by-rows z b R′ P′ H F′ M′ r w f put =
             let (g, ps, n, q, m) = is-model (contentOf es e) keeps z in
-            filled-more c s es (due .accepted .elements) e b R P F M (due .filled) R′ G P′ H F′ M′
+            filled-more long s es (due .accepted .elements) e b R P F M (due .filled) R′ G P′ H F′ M′
             (subst (λ (y : Content). RowsFor y b e R R′) q (rows-model table g ps n e b R R′ (m .says) (m .sized ∙ m .counted) (omega (arith, m .sized, m .places-in)) (rw (← m .counted) r)))
             tags
             (subst (λ (y : Content). PlacesPut s es (placesIn y) e P G P′ H (length (placesIn y) + 1)) q (rw (← m .counted, ← m .names-hold) w))
@@ -242,17 +244,18 @@ module _ (c : Settings) (s : List ℕ) (es : List Element) (elements lists index
             let (g, ps, n, q, m) = is-model (contentOf es e) keeps z in
             by-rows z false R′ P′ F′ F′ M r w (largest-same e F′ (w .facts-len)) (members-same s (contentOf es e) e M (due .filled .lent) (subst PlainIn q (m .plain none)))
 
-        told : (d .kind ≡ 0 → ⊥) → (M′ : List ℕ) → length M′ ≡ length M → M′ ≡ filled M e table (d .code) → MembersPut s (contentOf es e) true e M M′
+        told : (d .kind ≡ 0 → ⊥) → (M′ : List ℕ) → length M′ ≡ length M → Linked (filled M e table (d .code)) e M′ → MembersPut s (contentOf es e) true e M M′
         told z M′ len is =
             let read = due .accepted .elements in
             let (g, ps, n, q, m) = is-model (contentOf es e) keeps z in
-            let guarded : Guarded g = subst GuardedIn (sym q) (content-guarded es (typeFile-guarded c s es read (due .accepted .unrepeated)) e) in
-            let (sized, total, plain) = typeFile-members c s es read e (sym q) in
+            let guarded : Guarded g = subst GuardedIn (sym q) (content-guarded es (typeFile-guarded long s es read (due .accepted .unrepeated)) e) in
+            let (sized, total, plain) = typeFile-members long s es read e (sym q) in
             let small : size g ≤ 96 = omega (arith, m .sized, m .places-in) in
             let put =
             members-put s M M′ table e (d .code) g (due .filled .lent) (omega (arith, few)) (due .filled .members-rest) (m .room) (m .spelled) (m .says .next) (m .numbered) guarded sized small total plain len is in
             record {
               lent = lent-still s M M′ len (due .filled .lent);
+              len = len;
               under = λ k l. put .others k (inl l);
               over = λ k l. put .others k (inr l);
               plain = λ x. absurd (true≢false x);
@@ -260,5 +263,5 @@ module _ (c : Settings) (s : List ℕ) (es : List Element) (elements lists index
             }
 
         pub element-among : (d .kind ≡ 0 → ⊥) → (R′ P′ H F′ M′ : List ℕ) → RowsPut table e 128 R R′ (d .places + 1) → PlacesPut s es (placesOf names (d .places)) e P G P′ H (d .places + 1)
-            → LargestPut true e H F′ 65 → length M′ ≡ length M → M′ ≡ filled M e table (d .code) → Filled s es R′ P′ F′ M′ (e + 1)
+            → LargestPut true e H F′ 65 → length M′ ≡ length M → Linked (filled M e table (d .code)) e M′ → Filled s es R′ P′ F′ M′ (e + 1)
         element-among z R′ P′ H F′ M′ r w f len is = by-rows z true R′ P′ H F′ M′ r w f (told z M′ len is)

@@ -20,8 +20,8 @@ use Rattle.layout.specs.Sizes.{POSITIONS, ROWS, PLACES, FACT, FACTS, MEMBER}
 use Rattle.document_laws.specs.Decide.{search}
 use Rattle.rules_laws.specs.Within.{typeFile-count}
 use Rattle.type_laws.specs.Width.{typeFile-width}
-use Rattle.type_tables.specs.Means.{width, nameNumber, Declares, rowAt, namedBy, raisedPlace, PlainIn, ToldIn, Tables}
-use Rattle.row_search.specs.Laws.{search-most}
+use Rattle.type_tables.specs.Tables.{width, nameNumber, Declares, rowAt, namedBy, raisedPlace, PlainIn, ToldIn, Tables}
+use Rattle.row_search.specs.Search.{search-most}
 use Rattle.model_rows.specs.Rows.{RowSays, row-says-still}
 use Rattle.table_fill.specs.Told.{TellsIn, tells-still, Lent}
 use Rattle.table_fill.specs.Places.{PlacesPut, number-few}
@@ -82,6 +82,7 @@ pub record LargestPut (b : Bool) (e : ℕ) (F G : List ℕ) (n : ℕ) : Type 0 w
 -- A model without "&" needs no members; those of one with "&" are put, and nothing else.
 pub record MembersPut (s : List ℕ) (c : Content) (b : Bool) (e : ℕ) (M S : List ℕ) : Type 0 where
   pub lent : Lent s S
+  pub len : length S ≡ length M
   pub under : (k : ℕ) → k < e * MEMBER → getD S k 0 ≡ getD M k 0
   pub over : (k : ℕ) → e * MEMBER + MEMBER ≤ k → getD S k 0 ≡ getD M k 0
   pub plain : b ≡ false → PlainIn c
@@ -113,30 +114,30 @@ module _ (e : ℕ) (F : List ℕ) where
       }
 
 pub members-same : (s : List ℕ) (c : Content) (e : ℕ) (M : List ℕ) → Lent s M → PlainIn c → MembersPut s c false e M M
-members-same s c e M lent p = record { lent = lent; under = λ k l. refl; over = λ k l. refl; plain = λ x. p; told = λ x. absurd (false≢true x) }
+members-same s c e M lent p = record { lent = lent; len = refl; under = λ k l. refl; over = λ k l. refl; plain = λ x. p; told = λ x. absurd (false≢true x) }
 
-width-few : (c : Settings) (s : List ℕ) (es : List Element) → typeFile c s ≡ got es → (e : ℕ) → width es e ≤ 96
-width-few c s es read e = by-content (contentOf es e) refl
+width-few : (long : ℕ) (s : List ℕ) (es : List Element) → typeFile long s ≡ got es → (e : ℕ) → width es e ≤ 96
+width-few long s es read e = by-content (contentOf es e) refl
   where
     by-content : (x : Content) → contentOf es e ≡ x → length (placesIn x) ≤ 96
     by-content empty q = omega arith
-    by-content (model g ps n) q = omega (arith, typeFile-width c s es read e q)
+    by-content (model g ps n) q = omega (arith, typeFile-width long s es read e q)
 
 told-in : (M : List ℕ) (e : ℕ) (c : Content) → TellsIn M e c → ToldIn M e c
 told-in M e empty h = tt
 told-in M e (model g ps n) h = h .0
 
-module _ (c : Settings) (s : List ℕ) (es : List Element) (read : typeFile c s ≡ got es) where
+module _ (long : ℕ) (s : List ℕ) (es : List Element) (read : typeFile long s ≡ got es) where
   -- What is said of an element stays so where its numbers stay.
   still : (e : ℕ) (b : Bool) (R P F M R′ P′ F′ M′ : List ℕ) → ((k : ℕ) → k < rowAt (e + 1) 0 → getD R′ k 0 ≡ getD R k 0) → ((k : ℕ) → k < (e + 1) * POSITIONS * 2 → getD P′ k 0 ≡ getD P k 0)
-      → ((k : ℕ) → k < (e + 1) * FACT → getD F′ k 0 ≡ getD F k 0) → ((k : ℕ) → k < (e + 1) * MEMBER → getD M′ k 0 ≡ getD M k 0) → ElementSays s es e b R P F M → ElementSays s es e b R′ P′ F′ M′
-  still e b R P F M R′ P′ F′ M′ rows places facts members h =
-      let w = width-few c s es read e in
+      → ((k : ℕ) → k < (e + 1) * FACT → getD F′ k 0 ≡ getD F k 0) → ((k : ℕ) → k < (e + 1) * MEMBER → getD M′ k 0 ≡ getD M k 0) → length M′ ≡ length M → ElementSays s es e b R P F M → ElementSays s es e b R′ P′ F′ M′
+  still e b R P F M R′ P′ F′ M′ rows places facts members len h =
+      let w = width-few long s es read e in
       record {
         rows-say = λ u l. row-says-still (contentOf es e) b e u R R′ (λ k a b. rows k (omega arith)) (h .rows-say u l);
         named = λ p a b. places ((e * POSITIONS + p) * 2) (omega arith) ∙ h .named p a b;
         smaller = λ p t a b d y. places ((e * POSITIONS + p) * 2 + 1) (omega arith) ∙ h .smaller p t a b d y;
-        largest = λ t d. facts (e * FACT + nameNumber t) (omega (arith, number-few es t (typeFile-count c s es read .1) d)) ∙ h .largest t d;
+        largest = λ t d. facts (e * FACT + nameNumber t) (omega (arith, number-few es t (typeFile-count long s es read .1) d)) ∙ h .largest t d;
         tags = λ l.
             let t = h .tags l in
             record {
@@ -145,7 +146,7 @@ module _ (c : Settings) (s : List ℕ) (es : List Element) (read : typeFile c s 
               has = facts (e * FACT + 67) (omega arith) ∙ t .has;
             };
         plain = h .plain;
-        told = λ x. tells-still M M′ e (λ k l. members (e * MEMBER + k) (omega arith)) (contentOf es e) (h .told x);
+        told = λ x. tells-still M M′ e (λ k l. members (e * MEMBER + k) (omega arith)) len (contentOf es e) (h .told x);
       }
 
   -- One more element is put.
@@ -161,7 +162,7 @@ module _ (c : Settings) (s : List ℕ) (es : List Element) (read : typeFile c s 
           largest = λ y d.
               let is = rw z at (w .largest y d) in
               let most = search-most (hasName s es (placesIn (contentOf es e)) y) (width es e) in
-              f .largest (nameNumber y) (omega (arith, number-few es y (typeFile-count c s es read .1) d)) (omega (arith, is, most, width-few c s es read e)) ∙ ap (raisedPlace b) is;
+              f .largest (nameNumber y) (omega (arith, number-few es y (typeFile-count long s es read .1) d)) (omega (arith, is, most, width-few long s es read e)) ∙ ap (raisedPlace b) is;
           tags = λ l.
               let x = t .tags l in
               record {
@@ -189,17 +190,17 @@ module _ (c : Settings) (s : List ℕ) (es : List Element) (read : typeFile c s 
               (λ i l.
               rw (ne-eqb i e (λ q. omega arith))
               (still i (h .raised i) R P F M R′ P′ F′ M′ (λ k a. r .under k (omega arith)) (λ k a. w .places-under k (omega arith))
-              (λ k a. f .under k (omega arith) ∙ w .facts-under k (omega arith) ∙ t .under k (omega arith)) (λ k a. m .under k (omega arith)) (h .says i l)))
+              (λ k a. f .under k (omega arith) ∙ w .facts-under k (omega arith) ∙ t .under k (omega arith)) (λ k a. m .under k (omega arith)) (m .len) (h .says i l)))
               (rw (eq-eqb e e refl) says-it);
         }
 
   -- All are put.
-  pub filled-all : (R P F M : List ℕ) → Accepts c s es → Filled s es R P F M (length es + 1) → Tables s es R P F M
-  filled-all R P F M a h =
+  pub filled-all : (c : Settings) (R P F M : List ℕ) → Accepts c s es → Filled s es R P F M (length es + 1) → Tables s es R P F M
+  filled-all c R P F M a h =
       record {
         settings = c;
         accepted = a;
-        few = typeFile-count c s es read .1;
+        few = typeFile-count long s es read .1;
         raised = h .raised;
         rows-say = record {
           next = λ e u p d l. h .says e (omega arith) .rows-say u l .next p;

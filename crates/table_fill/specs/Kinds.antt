@@ -12,7 +12,6 @@ use lib.ListN.{length, getD, set, replicate, length-set, length-replicate}
 use lib.Seq.{getD-set-same, getD-set-other}
 use lib.Dec.{eqb}
 use borrow.Author.Tests.{ne-eqb}
-use Rattle.rules.specs.Settings.{Settings}
 use Rattle.rules.specs.Reading.{got}
 use Rattle.rules.specs.Walk.{Group, place}
 use Rattle.rules.specs.TypeFile.{Place, empty, model, Element, typeFile}
@@ -20,12 +19,12 @@ use Rattle.rules.specs.Judge.{placeAt}
 use Rattle.rules.specs.Elements.{elementAt, contentOf, placesIn}
 use Rattle.layout.specs.Sizes.{ROWS, PLACES, FACTS}
 use Rattle.model_sets.specs.Sets.{size}
-use Rattle.model_table.specs.Means.{Says}
+use Rattle.model_table.specs.Shows.{Says}
 use Rattle.model_links.specs.Cells.{below-or-from}
 use Rattle.rules_laws.specs.Within.{typeFile-count}
 use Rattle.type_laws.specs.Names.{typeFile-element, typeFile-distinct, isNamed-join}
-use Rattle.text.specs.Laws.{sameText-refl}
-use Rattle.type_tables.specs.Means.{rowAt, bitOf, namedBy}
+use Rattle.text.specs.Words.{sameText-refl}
+use Rattle.type_tables.specs.Tables.{rowAt, bitOf, namedBy}
 use Rattle.model_rows.specs.Rows.{RowsPut, RowSays, row-says}
 use Rattle.table_fill.specs.Places.{PlacePut, places-none, places-more}
 use Rattle.table_fill.specs.Told.{NoMembers, none-lent, none-rest}
@@ -168,16 +167,16 @@ zeros-in zero k = refl
 zeros-in (suc n) zero = refl
 zeros-in (suc n) (suc k) = zeros-in n k
 
-module _ (c : Settings) (s : List ℕ) (es : List Element) (read : typeFile c s ≡ got es) where
+module _ (long : ℕ) (s : List ℕ) (es : List Element) (read : typeFile long s ≡ got es) where
   -- The document's one place names the first element.
   document-names : 1 ≡ namedBy s es (placesIn (contentOf es 0)) 1
   unfolding placeAt
   document-names =
       let x = elementAt es 0 in
-      let h = typeFile-count c s es read .0 in
-      let n = typeFile-element c s es read 0 h .name in
+      let h = typeFile-count long s es read .0 in
+      let n = typeFile-element long s es read 0 h .name in
       let i = isNamed-join s x s (x .at) (x .size) refl (sameText-refl s (x .at) (x .size)) in
-      rw (ne-eqb (x .size) 0 (λ z. omega (arith, n .some))) (sym (typeFile-distinct c s es read 0 h s (x .at) (x .size) i))
+      rw (ne-eqb (x .size) 0 (λ z. omega (arith, n .some))) (sym (typeFile-distinct long s es read 0 h s (x .at) (x .size) i))
 
   filled-none : (M : List ℕ) → NoMembers s M → Filled s es noRows noPlaces noFacts M 0
   filled-none M none =
@@ -198,9 +197,9 @@ module _ (c : Settings) (s : List ℕ) (es : List Element) (read : typeFile c s 
       let h = filled-none M none in
       let ps = placesIn (contentOf es 0) in
       let put =
-      places-more c s es read ps 0 noPlaces noFacts noPlaces noFacts 1 (omega arith) (omega arith)
-      (places-none c s es read ps 0 noPlaces noFacts (h .places-len) (h .facts-len) (λ k a b. zeros-in FACTS k)) 1 document-names P F w in
-      filled-more c s es read 0 false noRows noPlaces noFacts M h (documentRows noRows) noFacts P F F M
+      places-more long s es read ps 0 noPlaces noFacts noPlaces noFacts 1 (omega arith) (omega arith)
+      (places-none long s es read ps 0 noPlaces noFacts (h .places-len) (h .facts-len) (λ k a b. zeros-in FACTS k)) 1 document-names P F w in
+      filled-more long s es read 0 false noRows noPlaces noFacts M h (documentRows noRows) noFacts P F F M
       (rows-document noRows (h .rows-len) (λ k. zeros-in ROWS k) ps refl)
       (record { len = h .facts-len; under = λ k l. refl; over = λ k l. refl; tags = λ l. absurd (omega arith) })
       put

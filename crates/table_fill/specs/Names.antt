@@ -12,9 +12,9 @@ use Rattle.rules.specs.TypeFile.{Place, Element}
 use Rattle.rules.specs.Elements.{numberOf}
 use Rattle.layout.specs.Sizes.{PLACES, FACT, FACTS}
 use Rattle.model_names.specs.Places.{placeIn, placesOf}
-use Rattle.model_names.specs.Laws.{placeAt-placesOf}
-use Rattle.element_index.specs.Means.{Indexed}
-use Rattle.type_tables.specs.Means.{namedBy}
+use Rattle.model_names.specs.Shared.{placeAt-placesOf}
+use Rattle.element_index.specs.Indexed.{Indexed}
+use Rattle.type_tables.specs.Tables.{namedBy}
 use Rattle.table_fill.specs.Places.{slotOf, PlacePut, PlacesPut, places-more}
 
 -- What a place names: an element, 255 for `#PCDATA`, 0 if that is not declared.
@@ -54,4 +54,4 @@ module _ (s : List ℕ) (es : List Element) (elements index names P F : List ℕ
   pub place-filed : (Q G R H : List ℕ) → PlacesPut s es (placesOf names n) e P F Q G p → PlacePut e p v Q G R H → PlacesPut s es (placesOf names n) e P F R H (p + 1)
   place-filed Q G R H h w =
       let few = due .few in
-      places-more (indexed .settings) s es (indexed .accepted .elements) (placesOf names n) e P F Q G p from (omega arith) h v names-it R H w
+      places-more (indexed .settings .nameLength) s es (indexed .accepted .elements) (placesOf names n) e P F Q G p from (omega arith) h v names-it R H w

@@ -9,7 +9,6 @@ use lib.Seq.{getD-set-same, getD-set-other}
 use lib.Dec.{eqb}
 use borrow.Author.Count.{below-more}
 use borrow.Author.Tests.{eq-eqb, eqb-true, eqb-false, ne-eqb}
-use Rattle.rules.specs.Settings.{Settings}
 use Rattle.rules.specs.Reading.{got}
 use Rattle.rules.specs.TypeFile.{Place, Element, typeFile}
 use Rattle.rules.specs.Judge.{placeAt}
@@ -20,7 +19,7 @@ use Rattle.model_sets.specs.Bits.{not-both, bool-cases}
 use Rattle.document_laws.specs.Decide.{search}
 use Rattle.rules_laws.specs.Within.{typeFile-count}
 use Rattle.type_laws.specs.Names.{named-number, numberOf-range, numberOf-pcdata, pcdata-name}
-use Rattle.type_tables.specs.Means.{nameNumber, Declares, namedBy}
+use Rattle.type_tables.specs.Tables.{nameNumber, Declares, namedBy}
 
 -- By which number a place that names v is filed: that of the element, 0 for `#PCDATA`.
 abbrev pub slotOf : ℕ → ℕ
@@ -28,7 +27,7 @@ slotOf v = cond (eqb v 255) 0 v
 
 -- Names
 
-module _ (c : Settings) (s : List ℕ) (es : List Element) (read : typeFile c s ≡ got es) (ps : List Place) (p v : ℕ) (is : v ≡ namedBy s es ps p) where
+module _ (long : ℕ) (s : List ℕ) (es : List Element) (read : typeFile long s ≡ got es) (ps : List Place) (p v : ℕ) (is : v ≡ namedBy s es ps p) where
   abbrev at : ℕ
   at = placeAt ps (p - 1) .at
 
@@ -36,7 +35,7 @@ module _ (c : Settings) (s : List ℕ) (es : List Element) (read : typeFile c s 
   size = placeAt ps (p - 1) .size
 
   few : length es ≤ 64
-  few = typeFile-count c s es read .1
+  few = typeFile-count long s es read .1
 
   -- What the place names is an element or nothing, or `#PCDATA`.
   element-or-none : (size ≡ 0 → ⊥) → (v ≡ numberOf s es s at size) × (v ≤ 64) × (slotOf v ≡ v)
@@ -49,7 +48,7 @@ module _ (c : Settings) (s : List ℕ) (es : List Element) (read : typeFile c s 
   pcdata-there z = is ∙ rw (eq-eqb size 0 z)
 
   no-element : (k : ℕ) → 1 ≤ k → size ≡ 0 → numberOf s es s at size ≡ k → ⊥
-  no-element k l z q = let n : numberOf s es s at 0 ≡ k = rw z at q in omega (arith, numberOf-pcdata c s es read s at)
+  no-element k l z q = let n : numberOf s es s at 0 ≡ k = rw z at q in omega (arith, numberOf-pcdata long s es read s at)
 
   -- What the place names fits, and so does the number by which it is filed.
   named-fits : (v ≤ 255) × (slotOf v ≤ 64)
@@ -61,7 +60,7 @@ module _ (c : Settings) (s : List ℕ) (es : List Element) (read : typeFile c s 
   -- A token has the name of a place exactly if the place is filed by its number.
   filed : (t : Token) → Declares es t → hasName s es ps t p ≡ true → (1 ≤ v) × (slotOf v ≡ nameNumber t)
   filed (start k) (a, b) h =
-      let n = named-number c s es read ps k p a b .0 h in
+      let n = named-number long s es read ps k p a b .0 h in
       let (q, l, r) = element-or-none (λ z. no-element k a z n) in
       (omega arith, omega arith)
   filed pcdata d h =
@@ -72,7 +71,7 @@ module _ (c : Settings) (s : List ℕ) (es : List Element) (read : typeFile c s 
   filed-only (start k) (a, b) l e =
       bool-cases (eqb size 0)
       (λ z. let q = pcdata-there (eqb-true size 0 z) in let y : 0 ≡ k = rw q at e in absurd (omega arith))
-      (λ z. let (q, m, r) = element-or-none (eqb-false size 0 z) in named-number c s es read ps k p a b .1 (omega arith))
+      (λ z. let (q, m, r) = element-or-none (eqb-false size 0 z) in named-number long s es read ps k p a b .1 (omega arith))
   filed-only pcdata d l e =
       bool-cases (eqb size 0)
       (λ z. pcdata-name s es ps p ∙ z)
@@ -147,7 +146,7 @@ unfolding search
 search-miss f zero l h = absurd (omega arith)
 search-miss f (suc p) l h = let z : suc p - 1 ≡ p = omega arith in rw (z, h, search)
 
-module _ (c : Settings) (s : List ℕ) (es : List Element) (read : typeFile c s ≡ got es) (ps : List Place) (e : ℕ) (P F : List ℕ) where
+module _ (long : ℕ) (s : List ℕ) (es : List Element) (read : typeFile long s ≡ got es) (ps : List Place) (e : ℕ) (P F : List ℕ) where
   pub places-none : length P ≡ PLACES → length F ≡ FACTS → ((k : ℕ) → e * FACT ≤ k → k < e * FACT + 65 → getD F k 0 ≡ 0) → PlacesPut s es ps e P F P F 1
   unfolding search
   places-none l m blank =
@@ -159,24 +158,24 @@ module _ (c : Settings) (s : List ℕ) (es : List Element) (read : typeFile c s 
         facts-over = λ k h. refl;
         named = λ q a b. absurd (omega arith);
         smaller = λ q a b t d h. absurd (omega arith);
-        largest = λ t d. blank (e * FACT + nameNumber t) (omega arith) (omega (arith, number-few es t (typeFile-count c s es read .1) d));
+        largest = λ t d. blank (e * FACT + nameNumber t) (omega arith) (omega (arith, number-few es t (typeFile-count long s es read .1) d));
       }
 
   module _ (Q G : List ℕ) (p : ℕ) (from : 1 ≤ p) (to : p ≤ 96) (h : PlacesPut s es ps e P F Q G p) (v : ℕ) (is : v ≡ namedBy s es ps p) (R H : List ℕ) (w : PlacePut e p v Q G R H) where
     slot-in : slotOf v ≤ 64
-    slot-in = named-fits c s es read ps p v is .1
+    slot-in = named-fits long s es read ps p v is .1
 
     largest-more : (t : Token) → Declares es t → getD H (e * FACT + nameNumber t) 0 ≡ search (hasName s es ps t) p
     largest-more t d =
         bool-cases (hasName s es ps t p)
-        (λ y. let (l, q) = filed c s es read ps p v is t d y in (rw q at (w .largest l)) ∙ sym (search-hit _ p from y))
+        (λ y. let (l, q) = filed long s es read ps p v is t d y in (rw q at (w .largest l)) ∙ sym (search-hit _ p from y))
         (λ y.
-        w .others (e * FACT + nameNumber t) (λ l q. not-both y (filed-only c s es read ps p v is t d l (omega arith)))
+        w .others (e * FACT + nameNumber t) (λ l q. not-both y (filed-only long s es read ps p v is t d l (omega arith)))
         ∙ h .largest t d
         ∙ sym (search-miss _ p from y))
 
     smaller-more : 1 ≤ p → (t : Token) → Declares es t → hasName s es ps t p ≡ true → getD R ((e * POSITIONS + p) * 2 + 1) 0 ≡ search (hasName s es ps t) (p - 1)
-    smaller-more l t d y = let (a, q) = filed c s es read ps p v is t d y in w .smaller a ∙ rw q (h .largest t d)
+    smaller-more l t d y = let (a, q) = filed long s es read ps p v is t d y in w .smaller a ∙ rw q (h .largest t d)
 
     pub places-more : PlacesPut s es ps e P F R H (p + 1)
     places-more =

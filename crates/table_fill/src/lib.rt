@@ -17,17 +17,17 @@ use layout::ROW;
 use layout::ROWS;
 ghost use mathlib.Core.Path.{_≡_};
 ghost use mathlib.Core.List.{List};
-ghost use Prim.Native.Nat.{_+_, _-_, _*_, _≤_, _<_};
+ghost use Prim.Native.Nat.{ℕ, _+_, _-_, _*_, _≤_, _<_};
 ghost use lib.ListN.{length, replicate};
 ghost use Rattle.rules.specs.Settings.{settings};
 ghost use Rattle.rules.specs.TypeFile.{Element};
 ghost use Rattle.rules.specs.Judge.{Accepts};
 ghost use Rattle.layout.specs.Sizes.{ROWS, PLACES, FACTS};
 ghost use Rattle.model_names.specs.Places.{placeIn, placesOf};
-ghost use Rattle.element_reader.specs.Means.{Recorded};
-ghost use Rattle.element_index.specs.Means.{Judged, Indexed};
-ghost use Rattle.list_table.specs.Means.{Lists};
-ghost use Rattle.type_tables.specs.Means.{raisedPlace, Tables};
+ghost use Rattle.element_reader.specs.Keeps.{Recorded};
+ghost use Rattle.element_index.specs.Indexed.{Judged, Indexed};
+ghost use Rattle.list_table.specs.Lists.{Lists};
+ghost use Rattle.type_tables.specs.Tables.{raisedPlace, Tables};
 ghost use Rattle.table_fill.specs.Places.{slotOf, PlacePut, PlacesPut};
 ghost use mathlib.Core.Bool.{true};
 ghost use Rattle.table_fill.specs.Told.{NoMembers};
@@ -192,8 +192,8 @@ fn put_element(
     names: &mut [u32; NAMES],
     table: &mut [u8; MODEL],
 )
-    requires { ⌜ ElementDue (settings long) (now s) (elementsOf (settings long) (now s)) (now elements) (now lists) (now index) (now rows) (now places) (now facts) (now members) (e .0) ⌝ }
-    ensures { λ _. ⌜ Filled (now (s .entry)) (elementsOf (settings long) (now (s .entry))) (now (rows .exit)) (now (places .exit)) (now (facts .exit)) (now (members .exit)) (e .0 + 1) ⌝ }
+    requires { ⌜ ElementDue long (now s) (elementsOf long (now s)) (now elements) (now lists) (now index) (now rows) (now places) (now facts) (now members) (e .0) ⌝ }
+    ensures { λ _. ⌜ Filled (now (s .entry)) (elementsOf long (now (s .entry))) (now (rows .exit)) (now (places .exit)) (now (facts .exit)) (now (members .exit)) (e .0 + 1) ⌝ }
 {
     put_facts(facts, elements, lists, e);
     let r = element_reader::element_at(
@@ -221,7 +221,7 @@ fn put_element(
     }
     model_rows::put_rows(rows, e, table, n, 128);
     raise_facts(facts, e);
-    member_table::fill(members, e, table, d.code);
+    member_runs::fill(members, e, table, d.code);
 }
 
 // Fills the tables, which are all 0, from an accepted type file whose elements are recorded in `elements`. Where no "&" stands in it there need be no table
@@ -239,11 +239,11 @@ pub fn fill(
     facts: &mut [u8; FACTS],
     members: &mut [u8],
 )
-    requires { ⌜ Judged (settings long) (now s) (now elements) count ⌝ }
-    requires { ⌜ ((es : List Element) × Accepts (settings long) (now s) es × Indexed (now s) es (now elements) (now index) × Lists (settings long) (now s) es (now lists)) ⌝ }
+    requires { ⌜ ((edition : ℕ) × Judged (settings long edition) (now s) (now elements) count) ⌝ }
+    requires { ⌜ ((edition : ℕ) × (es : List Element) × Accepts (settings long edition) (now s) es × Indexed (now s) es (now elements) (now index) × Lists long (now s) es (now lists)) ⌝ }
     requires { ⌜ (now rows ≡ replicate ROWS 0) × (now places ≡ replicate PLACES 0) × (now facts ≡ replicate FACTS 0) ⌝ }
     requires { ⌜ NoMembers (now s) (now members) ⌝ }
-    ensures { λ _. ⌜ ((es : List Element) → Accepts (settings long) (now (s .entry)) es → length es ≡ count → Recorded (now (elements .entry)) es →
+    ensures { λ _. ⌜ ((edition : ℕ) (es : List Element) → Accepts (settings long edition) (now (s .entry)) es → length es ≡ count → Recorded (now (elements .entry)) es →
         Tables (now (s .entry)) es (now (rows .exit)) (now (places .exit)) (now (facts .exit)) (now (members .exit))) ⌝ }
 {
     let mut names = [0u32; NAMES];

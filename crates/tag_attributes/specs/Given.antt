@@ -6,7 +6,7 @@ use lib.ListN.{getD, take}
 use Rattle.rules.specs.Reading.{Reading, got}
 use Rattle.rules.specs.Document as rules
 use Rattle.text.specs.declared.Fault.{Fault}
-use Rattle.text.specs.Means.{refusalOf}
+use Rattle.text.specs.Refusal.{refusalOf}
 use Rattle.tag_attributes.specs.declared.Written.{Written}
 use Rattle.tag_attributes.specs.declared.WrittenRead.{WrittenRead}
 use Rattle.tag_attributes.specs.declared.WrittenRead.the-variants as writtenRead

@@ -8,9 +8,8 @@ ghost use mathlib.Core.Path.{_≡_};
 ghost use Prim.Native.Nat.{_≤_, _<_};
 ghost use lib.ListN.{length};
 ghost use Rattle.rules.specs.Bytes.{nameByte, nameEnd};
-ghost use Rattle.rules.specs.Settings.{settings};
 ghost use Rattle.rules.specs.Document.{specification};
-ghost use Rattle.delimiters.specs.Means.{Classes};
+ghost use Rattle.delimiters.specs.Classes.{Classes};
 ghost use Rattle.tag_attributes.specs.Given.{WrittenFits, Keeps, keptIn, writtenOf, writtenFault};
 
 // An attribute as a tag gives it: where its name stands and how long that is, where the literal's opening quote stands, and how long the
@@ -62,7 +61,7 @@ pub fn name_end(classes: &[u8; 256], s: &[u8], at: usize) -> usize
 // An attribute in a start tag, whose name, a letter, stands at i.
 pub fn specification_at(long: usize, classes: &[u8; 256], s: &[u8], i: usize) -> WrittenRead
     requires { ⌜ Classes (now classes) × (i ≤ length (now s)) ⌝ }
-    ensures { λ r. ⌜ writtenOf r ≡ specification (settings long) (now (s .entry)) i ⌝ }
+    ensures { λ r. ⌜ writtenOf r ≡ specification long (now (s .entry)) i ⌝ }
 {
     let e = name_end(classes, s, i);
     if long < e - i {

@@ -4,7 +4,7 @@ use mathlib.Core.Path.{_≡_}
 use mathlib.Core.List.{List}
 use Rattle.rules.specs.Reading.{Reading, got}
 use Rattle.rules.specs.Document as rules
-use Rattle.text.specs.Means.{refusalOf}
+use Rattle.text.specs.Refusal.{refusalOf}
 use Rattle.tag_attributes.specs.Given.{KeptAs, GivenIn}
 use Rattle.tags.specs.declared.TagRead.{TagRead}
 use Rattle.tags.specs.declared.TagRead.the-variants as tagRead

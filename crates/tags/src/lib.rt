@@ -6,9 +6,8 @@ ghost use mathlib.Core.Path.{_≡_};
 ghost use mathlib.Core.List.{[]};
 ghost use Prim.Native.Nat.{_≤_};
 ghost use lib.ListN.{length};
-ghost use Rattle.rules.specs.Settings.{settings};
 ghost use Rattle.rules.specs.Document.{tag, startTagAt};
-ghost use Rattle.delimiters.specs.Means.{Classes};
+ghost use Rattle.delimiters.specs.Classes.{Classes};
 ghost use Rattle.tags.specs.Tags.{tagOf};
 ghost use Rattle.tags.specs.Given.{MeetsTag};
 ghost use Rattle.tags.specs.Attributes.{specificationsOn};
@@ -29,7 +28,7 @@ pub enum TagRead {
 // An end tag: name, separators, `>`, where the name begins at i. A name that is too long is refused before what follows it.
 pub fn tag_at(long: usize, classes: &[u8; 256], s: &[u8], i: usize) -> TagRead
     requires { ⌜ Classes (now classes) × (i ≤ length (now s)) ⌝ }
-    ensures { λ r. ⌜ tagOf r ≡ tag (settings long) (now (s .entry)) i ⌝ }
+    ensures { λ r. ⌜ tagOf r ≡ tag long (now (s .entry)) i ⌝ }
 {
     let e = tag_attributes::name_end(classes, s, i);
     if long < e - i {
@@ -58,7 +57,7 @@ fn attributes_at(
     given: &mut [u16; GIVEN],
 ) -> TagRead
     requires { ⌜ Classes (now classes) × (i ≤ e) × (e ≤ first) × (first ≤ length (now s)) × (length (now s) ≤ 65535) ⌝ }
-    ensures { λ r. ⌜ MeetsTag (length (now (s .entry))) (now (given .exit)) r (specificationsOn (settings long) (length (now (s .entry))) (now (s .entry)) i e first []) ⌝ }
+    ensures { λ r. ⌜ MeetsTag (length (now (s .entry))) (now (given .exit)) r (specificationsOn long (length (now (s .entry))) (now (s .entry)) i e first []) ⌝ }
 {
     let mut n = 0;
     let mut j = first;
@@ -91,7 +90,7 @@ pub fn start_tag_at(
     given: &mut [u16; GIVEN],
 ) -> TagRead
     requires { ⌜ Classes (now classes) × (i ≤ length (now s)) × (length (now s) ≤ 65535) ⌝ }
-    ensures { λ r. ⌜ MeetsTag (length (now (s .entry))) (now (given .exit)) r (startTagAt (settings long) (now (s .entry)) i) ⌝ }
+    ensures { λ r. ⌜ MeetsTag (length (now (s .entry))) (now (given .exit)) r (startTagAt long (now (s .entry)) i) ⌝ }
 {
     let e = tag_attributes::name_end(classes, s, i);
     let size = e - i;

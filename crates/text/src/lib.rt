@@ -3,7 +3,7 @@ ghost use mathlib.Core.Path.{_≡_};
 ghost use Prim.Native.Nat.{_≤_, _<_};
 ghost use lib.ListN.{length};
 ghost use Rattle.rules.specs.Bytes.{byteAt, allowed, separator, letter, nameByte, fold, span, nameEnd, separatorsEnd};
-ghost use Rattle.text.specs.Means.{faultOf};
+ghost use Rattle.text.specs.Refusal.{faultOf};
 
 // A refusal by number and position.
 pub struct Fault {

@@ -1,34 +1,22 @@
 -- Where the place that was taken last is taken again, everything is decided as before: the last of the places taken and the set of them decide.
-use Prim.Native.Nat.{ℕ, zero, suc, _≤_}
+use Prim.Native.Nat.{ℕ, _≤_}
 use mathlib.Core.Path.{_≡_, refl, sym, _∙_, ap, ap₂, subst}
 use mathlib.Core.Bool.{Bool, true, false, _&&_, false≢true}
-use mathlib.Core.Logic.{inl, inr}
 use mathlib.Core.List.{List, [], _∷_, _++_}
 use lib.Dec.{eqb}
 use borrow.Author.Tests.{eqb-true}
-use Rattle.rules.specs.Walk.{lastFrom, lastOr0}
+use Rattle.rules.specs.Walk.{lastOr0}
 use Rattle.rules.specs.TypeFile.{Content, empty, model, Element}
 use Rattle.rules.specs.Elements.{contentOf}
 use Rattle.rules.specs.Decisions.{Token, hasName}
 use Rattle.rules.specs.Settling.{Open, fitting}
 use Rattle.model_sets.specs.Bits.{or-cases, not-true, not-both, bool-cases}
 use Rattle.model_sets.specs.Sets.{size}
-use Rattle.and_laws.specs.Base.{mem, mem-left, mem-cases, Ends}
+use Rattle.and_laws.specs.Base.{mem, mem-left, mem-cases}
 use Rattle.and_laws.specs.Taken.{nextFrom, completeFrom, requiredFrom, IsLast, last-taken}
-use Rattle.and_laws.specs.Begun.{lastOr0-snoc}
+use Rattle.and_laws.specs.Begun.{lastOr0-snoc, last-is}
 use Rattle.document_laws.specs.Decide.{search, fitsIn, isCompleteIn, requiredFor, decided}
-use Rattle.turn_laws.specs.Means.{took, Again}
-
--- The last place
-
-ends-from : (v : ℕ) (s : List ℕ) (u : ℕ) → Ends s u → lastFrom v s ≡ u
-ends-from v [] u e = absurd e
-ends-from v (p ∷ s) u (inl (n, e)) = rw n e
-ends-from v (p ∷ s) u (inr e) = ends-from p s u e
-
-pub last-is : (s : List ℕ) (u : ℕ) → IsLast s u → lastOr0 s ≡ u
-last-is s zero e = rw e
-last-is s (suc u) e = ends-from 0 s (suc u) e
+use Rattle.turn_laws.specs.RunAtOnce.{took, Again}
 
 -- A place that was taken is no new one.
 mem-again : (s : List ℕ) (p q : ℕ) → mem s p ≡ true → mem (s ++ p ∷ []) q ≡ mem s q

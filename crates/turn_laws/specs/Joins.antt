@@ -6,7 +6,7 @@ use mathlib.Core.List.{List, [], _∷_, _++_}
 use lib.Dec.{eqb}
 use borrow.Author.Tests.{eq-eqb}
 use Rattle.rules.specs.Events.{Event, dataRun, withData}
-use Rattle.turn_laws.specs.Means.{joins}
+use Rattle.turn_laws.specs.RunAtOnce.{joins}
 
 -- The last event decides.
 pub joins-snoc : (j : ℕ) (ev : List Event) (e : Event) → joins j (ev ++ e ∷ []) ≡ (eqb (e .kind) 5 && eqb (e .offset + e .size) j)

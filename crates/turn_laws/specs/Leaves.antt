@@ -2,16 +2,18 @@
 use Prim.Native.Nat.{ℕ, _≤_}
 use mathlib.Core.Path.{_≡_, refl, ap}
 use mathlib.Core.Bool.{false}
-use mathlib.Core.List.{List}
+use mathlib.Core.List.{List, [], _∷_}
 use Rattle.rules.specs.TypeFile.{Element}
 use Rattle.rules.specs.Decisions.{Token, Decisions, Means}
 use Rattle.rules.specs.Events.{Event}
 use Rattle.rules.specs.Settling.{Open, State, takePlace, enter, fitting, settle, startElement, endElement}
-use Rattle.rules_laws.specs.Holds.{Holds}
+use Rattle.rules.specs.Settings.{Settings}
+use Rattle.rules.specs.Records.{Line}
+use Rattle.rules_laws.specs.Holds.{Holds, got-so}
 use Rattle.rules_laws.specs.Both.{first}
-use Rattle.document_laws.specs.Moves.{parent-is, At, Closed, Moves, Itself, keeps-ends, answers-itself, any-moves, settle-both, startElement-both, endElement-both}
-use Rattle.document_laws.specs.Same.{Begun, AllBegun, begun-moves}
-use Rattle.turn_laws.specs.Means.{joins, took}
+use Rattle.document_laws.specs.Moves.{parent-is, At, Closed, Moves, Itself, keeps-ends, answers-itself, any-moves, withDatum, settle-both, startElement-both, endElement-both, settlePiece-both}
+use Rattle.document_laws.specs.Same.{Begun, AllBegun, begun-moves, Passes, begins, goes}
+use Rattle.turn_laws.specs.RunAtOnce.{joins, took}
 use Rattle.turn_laws.specs.Joins.{joins-other}
 
 -- The token t was settled, where `before` were the events: it is the last that the current element took, where the places taken began a walk, and no data
@@ -73,3 +75,35 @@ module _ (s : List ℕ) (es : List Element) (D : Decisions) where
 
   pub endElement-parted : (k at after : ℕ) (z : State) → Holds (At at) Parted (endElement s es D k at after z)
   endElement-parted k at after z = first (endElement-both (any-moves s es D .ends) k at after (refl, tt)) (λ x w r. closed-parted x (r .2))
+
+-- The outermost of the open elements is the document itself.
+
+abbrev pub bottom : Open → List Open → ℕ
+bottom o [] = o .number
+bottom o (u ∷ around) = bottom u around
+
+abbrev Bottomed : State → Type 0
+Bottomed z = bottom (z .current) (z .around) ≡ 0
+
+bottom-moves : (s : List ℕ) (es : List Element) (D : Decisions) → Moves s es D D (Itself Bottomed)
+bottom-moves s es D =
+    record {
+      ends =
+          keeps-ends
+          (record {
+            alike = λ {z} h. answers-itself s es D (z .current);
+            note = λ h e k. h;
+            leave = λ {z} h. parent-is Bottomed z h (λ u around e. rw e at h);
+          });
+      taking = λ {z} q p c. (ap (takePlace p) (q .0), took-bottom (z .current) p (z .around) (q .1));
+      enter = λ q k m. (ap (enter k) (q .0), q .1);
+    }
+  where
+    took-bottom : (o : Open) (p : ℕ) (around : List Open) → bottom o around ≡ 0 → bottom (took o p) around ≡ 0
+    took-bottom o p [] h = h
+    took-bottom o p (u ∷ around) h = h
+
+pub passes-bottom : {c : Settings} (s : List ℕ) (es : List Element) (D : Decisions) (d : List ℕ) {at : ℕ} {l : Line} {z : State} → Passes c s es D d at l z → bottom (z .current) (z .around) ≡ 0
+passes-bottom s es D d begins = refl
+passes-bottom s es D d (goes {at} {l} {z} {p} r h i e f) =
+    got-so (first (settlePiece-both (bottom-moves s es D) (λ at z y q. (ap (withDatum at) (q .0), q .1)) d p at (refl, passes-bottom s es D d h)) (λ r w a. a .keeps .1)) f

@@ -1,5 +1,5 @@
 -- The loop of a reader in the rules' own terms, and a run of data settled at once.
-pub mod Means
+pub mod RunAtOnce
 pub mod Again
 pub mod Joins
 pub mod Enough
@@ -8,3 +8,4 @@ pub mod Steps
 pub mod Run
 pub mod Turns
 pub mod Within
+pub mod Latest

@@ -16,7 +16,7 @@ use Rattle.rules.specs.Events.{Event, dataRun, withData}
 use Rattle.rules.specs.Settling.{Open, State, limited, fitting, takeToken, inward, settleFrom, settle, startElement, takeData, takeBlank, endElement}
 use Rattle.rules.specs.Reader.{goOn, tagged, settlePiece}
 use Rattle.document_laws.specs.Moves.{state}
-use Rattle.turn_laws.specs.Means.{takeRun}
+use Rattle.turn_laws.specs.RunAtOnce.{takeRun}
 
 module _ (s : List ℕ) (es : List Element) (D : Decisions) (d : List ℕ) (at : ℕ) where
   -- The element of a tag.

@@ -14,11 +14,10 @@ ghost use mathlib.Core.Path.{_≡_};
 ghost use mathlib.Core.List.{List};
 ghost use Prim.Native.Nat.{_+_, _≤_, _<_};
 ghost use lib.ListN.{length, replicate};
-ghost use Rattle.rules.specs.Settings.{settings};
 ghost use Rattle.rules.specs.TypeFile.{keyword, markup, declaration, typeFile};
 ghost use Rattle.rules.specs.TypeFile as rules;
 ghost use Rattle.rules.specs.Attributes.{AttList};
-ghost use Rattle.attribute_lists.specs.Means.{Headed};
+ghost use Rattle.attribute_lists.specs.Listed.{Headed};
 ghost use Rattle.element_records.specs.Progress.{KeepsProgress, InProgress};
 ghost use Rattle.type_file.specs.File.{MeetsDeclarations, MeetsFile};
 
@@ -44,8 +43,8 @@ fn keyword_at(
 ) -> Step
     requires { ⌜ (i + 2 ≤ length (now s)) × (length (now s) ≤ 32768) ⌝ }
     requires { ⌜ InProgress (now s) (now elements) p ⌝ }
-    ensures { λ r. ⌜ ((es : List rules.Element) (ls : List AttList) → KeepsProgress (now (s .entry)) (now (elements .entry)) p es → Headed (settings long) (now (s .entry)) (now (heads .entry)) ls →
-        MeetsDeclarations (settings long) (now (s .entry)) (now (elements .exit)) (now (heads .exit)) i r (keyword (settings long) (now (s .entry)) i es ls)) ⌝ }
+    ensures { λ r. ⌜ ((es : List rules.Element) (ls : List AttList) → KeepsProgress (now (s .entry)) (now (elements .entry)) p es → Headed long (now (s .entry)) (now (heads .entry)) ls →
+        MeetsDeclarations long (now (s .entry)) (now (elements .exit)) (now (heads .exit)) i r (keyword long (now (s .entry)) i es ls)) ⌝ }
 {
     let e = text::name_end(s, i + 2);
     if long < e - (i + 2) {
@@ -90,8 +89,8 @@ fn markup_at(
 ) -> Step
     requires { ⌜ (i + 2 ≤ length (now s)) × (length (now s) ≤ 32768) ⌝ }
     requires { ⌜ InProgress (now s) (now elements) p ⌝ }
-    ensures { λ r. ⌜ ((es : List rules.Element) (ls : List AttList) → KeepsProgress (now (s .entry)) (now (elements .entry)) p es → Headed (settings long) (now (s .entry)) (now (heads .entry)) ls →
-        MeetsDeclarations (settings long) (now (s .entry)) (now (elements .exit)) (now (heads .exit)) i r (markup (settings long) (now (s .entry)) i es ls)) ⌝ }
+    ensures { λ r. ⌜ ((es : List rules.Element) (ls : List AttList) → KeepsProgress (now (s .entry)) (now (elements .entry)) p es → Headed long (now (s .entry)) (now (heads .entry)) ls →
+        MeetsDeclarations long (now (s .entry)) (now (elements .exit)) (now (heads .exit)) i r (markup long (now (s .entry)) i es ls)) ⌝ }
 {
     let b = text::byte(s, i + 2);
     if b == b'>' {
@@ -129,8 +128,8 @@ fn declaration_at(
 ) -> Step
     requires { ⌜ (i < length (now s)) × (length (now s) ≤ 32768) ⌝ }
     requires { ⌜ InProgress (now s) (now elements) p ⌝ }
-    ensures { λ r. ⌜ ((es : List rules.Element) (ls : List AttList) → KeepsProgress (now (s .entry)) (now (elements .entry)) p es → Headed (settings long) (now (s .entry)) (now (heads .entry)) ls →
-        MeetsDeclarations (settings long) (now (s .entry)) (now (elements .exit)) (now (heads .exit)) i r (declaration (settings long) (now (s .entry)) i es ls)) ⌝ }
+    ensures { λ r. ⌜ ((es : List rules.Element) (ls : List AttList) → KeepsProgress (now (s .entry)) (now (elements .entry)) p es → Headed long (now (s .entry)) (now (heads .entry)) ls →
+        MeetsDeclarations long (now (s .entry)) (now (elements .exit)) (now (heads .exit)) i r (declaration long (now (s .entry)) i es ls)) ⌝ }
 {
     let b = text::byte(s, i);
     if b == b'<' {
@@ -158,7 +157,7 @@ pub fn file_read(
     heads: &mut [u16; ELEMENTS],
 ) -> Step
     requires { ⌜ (length (now s) ≤ 32768) × (now heads ≡ replicate 64 0) ⌝ }
-    ensures { λ r. ⌜ MeetsFile (settings long) (now (s .entry)) (now (elements .exit)) (now (heads .exit)) r (typeFile (settings long) (now (s .entry))) ⌝ }
+    ensures { λ r. ⌜ MeetsFile long (now (s .entry)) (now (elements .exit)) (now (heads .exit)) r (typeFile long (now (s .entry))) ⌝ }
 {
     let mut names = [0u32; NAMES];
     let mut table = [0u8; MODEL];

@@ -11,8 +11,8 @@ ghost use Prim.Native.Nat.{_≤_};
 ghost use lib.ListN.{length, replicate};
 ghost use Rattle.rules.specs.Lent.{numbers, bytes};
 ghost use Rattle.rules.specs.Judge.{Legible, Judged};
-ghost use Rattle.inputs.specs.Means.{settingsOf};
-ghost use Rattle.type_judge.specs.Means.{answerOf, Decides};
+ghost use Rattle.inputs.specs.Checks.{settingsOf};
+ghost use Rattle.type_judge.specs.Decides.{answerOf, Decides};
 
 // The judge's answer.
 pub enum Verdict {

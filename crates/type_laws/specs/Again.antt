@@ -7,13 +7,12 @@ use native.Mathlib.Omega.{arith}
 use lib.ListN.{length, take}
 use lib.Dec.{leb}
 use borrow.Author.Tests.{leb-true, ne-eqb}
-use Rattle.rules.specs.Settings.{Settings}
 use Rattle.rules.specs.Bytes.{byteAt, letter, separator, separatorsEnd}
 use Rattle.rules.specs.Reading.{got}
 use Rattle.rules.specs.TypeFile.{atDashes, gap, Element, head, Declared, element, typeFile}
 use Rattle.rules.specs.Elements.{elementAt}
 use Rattle.model_sets.specs.Bits.{or-cases, and-left}
-use Rattle.text.specs.Laws.{span-end, gapOn-end, gap-start}
+use Rattle.text.specs.Words.{span-end, gapOn-end, gap-start}
 use Rattle.rules_laws.specs.Declarations.{bare, bares}
 use Rattle.type_laws.specs.Made.{typeFile-made}
 use Rattle.type_laws.specs.Names.{typeFile-element}
@@ -38,18 +37,18 @@ gap-none s i e =
     sym (gap-start s i) ∙ rw (no-separators s i l) (gapOn-end (length s) s i d (λ z. omega arith))
 
 -- The gap before the name is passed, or there is none.
-element-again : (c : Settings) (s : List ℕ) (es : List Element) (from i : ℕ) → gap s from ≡ got i → letter (byteAt s i) ≡ true → element c s i es ≡ element c s from es
+element-again : (long : ℕ) (s : List ℕ) (es : List Element) (from i : ℕ) → gap s from ≡ got i → letter (byteAt s i) ≡ true → element long s i es ≡ element long s from es
 unfolding element head
-element-again c s es from i g l = rw (gap-none s i l, g)
+element-again long s es from i g l = rw (gap-none s i l, g)
 
-module _ (c : Settings) (s : List ℕ) (es : List Element) (read : typeFile c s ≡ got es) (k : ℕ) (few : k < length es) where
-  pub typeFile-again : (d : Declared) × (element c s (elementAt es k .at) (take k (bares es)) ≡ got d) × (d .elements ≡ take k (bares es) ++ bare (elementAt es k) ∷ [])
+module _ (long : ℕ) (s : List ℕ) (es : List Element) (read : typeFile long s ≡ got es) (k : ℕ) (few : k < length es) where
+  pub typeFile-again : (d : Declared) × (element long s (elementAt es k .at) (take k (bares es)) ≡ got d) × (d .elements ≡ take k (bares es) ++ bare (elementAt es k) ∷ [])
   typeFile-again =
-      let m = typeFile-made c s es read k few in
-      (_, element-again c s (take k (bares es)) (m .from) (elementAt es k .at) (m .begins) (m .named) ∙ m .read, refl)
+      let m = typeFile-made long s es read k few in
+      (_, element-again long s (take k (bares es)) (m .from) (elementAt es k .at) (m .begins) (m .named) ∙ m .read, refl)
 
   -- What its record may hold.
-  pub typeFile-sizes : (1 ≤ elementAt es k .size) × (elementAt es k .size ≤ c .nameLength) × (elementAt es k .at + elementAt es k .size ≤ length s) × (elementAt es k .start ≤ 1) × (elementAt es k .end ≤ 1)
+  pub typeFile-sizes : (1 ≤ elementAt es k .size) × (elementAt es k .size ≤ long) × (elementAt es k .at + elementAt es k .size ≤ length s) × (elementAt es k .start ≤ 1) × (elementAt es k .end ≤ 1)
   typeFile-sizes =
-      let e = typeFile-element c s es read k few in
-      (e .name .some, typeFile-made c s es read k few .short, e .name .ends, e .start, e .end)
+      let e = typeFile-element long s es read k few in
+      (e .name .some, typeFile-made long s es read k few .short, e .name .ends, e .start, e .end)

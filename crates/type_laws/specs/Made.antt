@@ -7,7 +7,6 @@ use native.Mathlib.Nat.{not-suc-le-zero, le-of-suc-le-suc}
 use native.Mathlib.Omega.{arith}
 use lib.ListN.{length, take, length-append}
 use lib.Seq.{take-append-le, take-append-seam}
-use Rattle.rules.specs.Settings.{Settings}
 use Rattle.rules.specs.Reading.{got}
 use Rattle.rules.specs.TypeFile.{Element, Content, empty, typeFile}
 use Rattle.rules.specs.Elements.{elementAt}
@@ -48,22 +47,22 @@ each-content P p [] f k = p
 each-content P p (e ∷ es) f zero = f 0 (omega arith)
 each-content P p (e ∷ es) f (suc k) = each-content P p es (λ j h. f (suc j) (omega arith)) k
 
-module _ (c : Settings) (s : List ℕ) where
+module _ (long : ℕ) (s : List ℕ) where
   -- Every element of the list was declared behind those before it.
   abbrev pub Made : List Element → Type 0
-  Made es = (k : ℕ) → k < length es → Declares c s (take k es) (elementAt es k)
+  Made es = (k : ℕ) → k < length es → Declares long s (take k es) (elementAt es k)
 
   made-none : Made []
   made-none k h = absurd (not-suc-le-zero h)
 
-  made-more : (es : List Element) (e : Element) → Made es → Declares c s es e → Made (es ++ e ∷ [])
+  made-more : (es : List Element) (e : Element) → Made es → Declares long s es e → Made (es ++ e ∷ [])
   made-more es e m d k h = go (decLt k (length es))
     where
-      go : Dec (k < length es) → Declares c s (take k (es ++ e ∷ [])) (elementAt (es ++ e ∷ []) k)
+      go : Dec (k < length es) → Declares long s (take k (es ++ e ∷ [])) (elementAt (es ++ e ∷ []) k)
       go (yes l) = rw (take-append-le k es (e ∷ []) (omega arith), elementAt-append es (e ∷ []) k l) (m k l)
       go (no l) =
           let z : k ≡ length es = omega (arith, length-append es (e ∷ [])) in
           rw (z, take-append-seam es (e ∷ []), elementAt-next es e []) d
 
-  pub typeFile-made : (es : List Element) → typeFile c s ≡ got es → (k : ℕ) → k < length es → Declares c s (take k (bares es)) (bare (elementAt es k))
-  typeFile-made es e k h = subst (Declares c s (take k (bares es))) (bares-at es k) (got-so (typeFile-holds c s Made made-more made-none) e .1 k (omega (arith, bares-length es)))
+  pub typeFile-made : (es : List Element) → typeFile long s ≡ got es → (k : ℕ) → k < length es → Declares long s (take k (bares es)) (bare (elementAt es k))
+  typeFile-made es e k h = subst (Declares long s (take k (bares es))) (bares-at es k) (got-so (typeFile-holds long s Made made-more made-none) e .1 k (omega (arith, bares-length es)))

@@ -8,7 +8,6 @@ use native.Mathlib.Omega.{arith}
 use lib.ListN.{length}
 use lib.Dec.{eqb, leb, ltb}
 use borrow.Author.Tests.{eqb-true, leb-true, leb-false}
-use Rattle.rules.specs.Settings.{Settings}
 use Rattle.rules.specs.Bytes.{byteAt, letter, nameEnd, GRPCNT, GRPLVL, GRPGTCNT, AND, SEQ, OR}
 use Rattle.rules.specs.Reading.{Reading, refused, got, andThen}
 use Rattle.rules.specs.Walk.{Group, place, seq, alt, opt, plus, and, Members, one, also}
@@ -160,7 +159,7 @@ or-first false b e = refl
 
 -- Groups
 
-module _ (c : Settings) (s : List ℕ) where
+module _ (long : ℕ) (s : List ℕ) where
   abbrev InnerCounts : (ℕ → List Place → ℕ → Reading Tokens) → Type 0
   InnerCounts inner = (at : ℕ) (ps : List Place) (n : ℕ) → Gives (Counts s n) (inner at ps n)
 
@@ -169,16 +168,16 @@ module _ (c : Settings) (s : List ℕ) where
   FurtherGrows n k (joined b t) = Growing s n (k + 1) t
 
   module _ (inner : ℕ → List Place → ℕ → Reading Tokens) (inner-counts : InnerCounts inner) where
-    token-counts : (at : ℕ) (full : Bool) (ps : List Place) (n : ℕ) → Gives (λ (t : Tokens). (full ≡ false) × Counts s (n + 1) t) (token c inner s at full ps n)
+    token-counts : (at : ℕ) (full : Bool) (ps : List Place) (n : ℕ) → Gives (λ (t : Tokens). (full ≡ false) × Counts s (n + 1) t) (token long inner s at full ps n)
     token-counts at full ps n =
-        token-holds s c inner at full ps n (λ m k h. tt)
+        token-holds s long inner at full ps n (λ m k h. tt)
         (λ x l e. (x, occurrence-counts (n + 1) s _ (refl, omega arith, λ w. refl, ((omega arith, λ v. absurd (omega arith)), (omega arith, λ v. absurd (omega arith)), λ v. absurd (omega arith), λ v. absurd (omega arith)))))
         (λ x l. (x, (refl, omega arith, λ w. refl, ((omega arith, λ v. absurd (omega arith)), (omega arith, λ v. absurd (omega arith)), λ v. absurd (omega arith), λ v. absurd (omega arith)))))
         (λ x l. on (inner-counts at ps (n + 1)) (λ t y. reads (x, occurrence-counts (n + 1) s t y)))
 
-    further-grows : (n k joint : ℕ) (t : Tokens) → 1 ≤ k → Growing s n k t → Gives (FurtherGrows n k) (further c inner s k joint t)
+    further-grows : (n k joint : ℕ) (t : Tokens) → 1 ≤ k → Growing s n k t → Gives (FurtherGrows n k) (further long inner s k joint t)
     further-grows n k joint t some grows =
-        further-holds s c inner k joint t (λ m k h. tt)
+        further-holds s long inner k joint t (λ m k h. tt)
         (λ i l h. (grows .sized, omega (arith, grows .counted), grows .plain, grows .within))
         (λ b i j q e f m l h. on (token-counts j (leb GRPCNT k || leb GRPGTCNT (t .tokens)) (t .places) (t .tokens))
         (λ u x.
@@ -186,23 +185,23 @@ module _ (c : Settings) (s : List ℕ) where
         let y = joined-by s n k t u grows some room (x .1) b in
         reads (record { sized = y .0; alone = λ l. absurd (omega arith); counted = y .1; few = λ l. y .2; plain = joined-plain s n k t u grows some room (x .1) b i q e m; within = joined-within s n k t u grows some room (x .1) b i e m })))
 
-    members-count : (n left k joint : ℕ) (t : Tokens) → 1 ≤ k → Growing s n k t → Gives (Counts s n) (members c inner s left k joint t)
+    members-count : (n left k joint : ℕ) (t : Tokens) → 1 ≤ k → Growing s n k t → Gives (Counts s n) (members long inner s left k joint t)
     unfolding members
     members-count n zero k joint t some grows = stops {n = 6} {k = t .at} tt
     members-count n (suc left) k joint t some grows = on (further-grows n k joint t some grows) (by-further (λ b u v. members-count n left (k + 1) b u (omega arith) v))
       where
-        by-further : ((b : ℕ) (u : Tokens) → Growing s n (k + 1) u → Gives (Counts s n) (members c inner s left (k + 1) b u))
-            → (x : Further) → FurtherGrows n k x → Gives (Counts s n) (elim x [ closed u ↦ got u | joined b u ↦ members c inner s left (k + 1) b u ])
+        by-further : ((b : ℕ) (u : Tokens) → Growing s n (k + 1) u → Gives (Counts s n) (members long inner s left (k + 1) b u))
+            → (x : Further) → FurtherGrows n k x → Gives (Counts s n) (elim x [ closed u ↦ got u | joined b u ↦ members long inner s left (k + 1) b u ])
         by-further ih (closed u) v = reads v
         by-further ih (joined b u) v = ih b u v
 
-  group-counts : (levels : ℕ) → InnerCounts (group c levels s)
+  group-counts : (levels : ℕ) → InnerCounts (group long levels s)
   unfolding group
   group-counts zero at ps n = stops {n = 6} {k = at} tt
   group-counts (suc levels) at ps n =
-      on (token-counts (group c levels s) (group-counts levels) _ (leb GRPGTCNT n) ps n)
+      on (token-counts (group long levels s) (group-counts levels) _ (leb GRPGTCNT n) ps n)
       (λ t x.
-      members-count (group c levels s) (group-counts levels) n GRPCNT 1 0 t (omega arith)
+      members-count (group long levels s) (group-counts levels) n GRPCNT 1 0 t (omega arith)
       (record { sized = x .1 .0; alone = λ l. x .1 .1; counted = omega (arith, x .1 .1, spare-one (t .group)); few = λ l. absurd (omega arith); plain = x .1 .2; within = x .1 .3 }))
 
   -- A content, read from i on.
@@ -210,47 +209,47 @@ module _ (c : Settings) (s : List ℕ) where
   CountedIn empty = Unit {0}
   CountedIn (model g ps n) = Sized g × (total g ≤ n) × (Without s → Plain g)
 
-  content-counts : (from i : ℕ) → Gives (λ (x : ContentEnd). CountedIn (x .content) × AndAt s (x .repeated) × (1 ≤ x .repeated → GuardedIn (x .content) → ⊥)) (content c s from i)
+  content-counts : (from i : ℕ) → Gives (λ (x : ContentEnd). CountedIn (x .content) × AndAt s (x .repeated) × (1 ≤ x .repeated → GuardedIn (x .content) → ⊥)) (content long s from i)
   unfolding content contentModel contentWord
   content-counts from i =
       either (eqb (byteAt s i) 40)
       (λ x. on (group-counts GRPLVL i [] 0) (λ t y. let (z, l, w, (a, r, p, g)) = occurrence-counts 0 s t y in reads ((z, omega (arith, l), w), r, g)))
       (λ x. either (letter (byteAt s i))
-      (λ y. either (ltb (c .nameLength) (nameEnd s i - i)) (λ z. stops tt)
+      (λ y. either (ltb long (nameEnd s i - i)) (λ z. stops tt)
       (λ z. either (ltb from i && isWord s i (nameEnd s i) EMPTY) (λ u. reads (tt, (omega arith, λ v. absurd (omega arith)), λ v. absurd (omega arith)))
       (λ u. either (isWord s i (nameEnd s i) ANY || isWord s i (nameEnd s i) CDATA || isWord s i (nameEnd s i) RCDATA) (λ v. stops tt)
       (λ v. either (ltb from i && isCut s i (nameEnd s i) EMPTY) (λ w. stops tt) (λ w. stops tt)))))
       (λ y. unfit-holds s i (λ n k h. tt)))
 
-  pub typeFile-members : (es : List Element) → typeFile c s ≡ got es → (k : ℕ) {g : Group} {ps : List Place} {n : ℕ} → contentOf es k ≡ model g ps n → Sized g × (total g ≤ 96) × (Without s → Plain g)
+  pub typeFile-members : (es : List Element) → typeFile long s ≡ got es → (k : ℕ) {g : Group} {ps : List Place} {n : ℕ} → contentOf es k ≡ model g ps n → Sized g × (total g ≤ 96) × (Without s → Plain g)
   typeFile-members es read k {g} {ps} {n} e =
       let x : Sized g × (total g ≤ n) × (Without s → Plain g) = subst CountedIn e (all k) in
-      let f : Fits s ps n = subst (ContentIn s) e (typeFile-content c s es read k) in
+      let f : Fits s ps n = subst (ContentIn s) e (typeFile-content long s es read k) in
       (x .0, omega (arith, x .1, f .few), x .2)
     where
       all : (k : ℕ) → CountedIn (contentOf es k)
       all zero = (refl, omega arith, λ w. refl)
-      all (suc k) = each-content CountedIn tt es (λ j h. let d = typeFile-made c s es read j h in got-so (content-counts (d .before) (d .begun)) (d .contentRead) .0) k
+      all (suc k) = each-content CountedIn tt es (λ j h. let d = typeFile-made long s es read j h in got-so (content-counts (d .before) (d .begun)) (d .contentRead) .0) k
 
   -- Where 25 stands is in the text, and an "&".
-  repeated-at : (es : List Element) → typeFile c s ≡ got es → AndAt s (firstRepeated es)
+  repeated-at : (es : List Element) → typeFile long s ≡ got es → AndAt s (firstRepeated es)
   unfolding firstRepeated elementAt
-  repeated-at es read = go es (λ k h. let d = typeFile-made c s es read k h in got-so (content-counts (d .before) (d .begun)) (d .contentRead) .1)
+  repeated-at es read = go es (λ k h. let d = typeFile-made long s es read k h in got-so (content-counts (d .before) (d .begun)) (d .contentRead) .1)
     where
       go : (fs : List Element) → ((k : ℕ) → k < length fs → AndAt s (elementAt fs k .repeated)) → AndAt s (firstRepeated fs)
       go [] f = (omega arith, λ l. absurd (omega arith))
       go (e ∷ fs) f = bool-cases (eqb (e .repeated) 0) (λ x. rw (x, firstRepeated) (go fs (λ k h. f (suc k) (omega arith)))) (λ x. rw (x, firstRepeated) (f 0 (omega arith)))
 
-  pub typeFile-repeated : (es : List Element) → typeFile c s ≡ got es → firstRepeated es ≤ length s
+  pub typeFile-repeated : (es : List Element) → typeFile long s ≡ got es → firstRepeated es ≤ length s
   typeFile-repeated es read = repeated-at es read .0
 
-  pub typeFile-ampersand : (es : List Element) → typeFile c s ≡ got es → 1 ≤ firstRepeated es → byteAt s (firstRepeated es) ≡ AND
+  pub typeFile-ampersand : (es : List Element) → typeFile long s ≡ got es → 1 ≤ firstRepeated es → byteAt s (firstRepeated es) ≡ AND
   typeFile-ampersand es read = repeated-at es read .1
 
   -- Under 25 some model has an "&" where none may stand.
-  pub typeFile-unguarded : (es : List Element) → typeFile c s ≡ got es → 1 ≤ firstRepeated es → (e : Element) × List·Memᴰ e es × (GuardedIn (e .content) → ⊥)
+  pub typeFile-unguarded : (es : List Element) → typeFile long s ≡ got es → 1 ≤ firstRepeated es → (e : Element) × List·Memᴰ e es × (GuardedIn (e .content) → ⊥)
   unfolding firstRepeated elementAt
-  typeFile-unguarded es read = go es (λ k h. let d = typeFile-made c s es read k h in got-so (content-counts (d .before) (d .begun)) (d .contentRead) .2)
+  typeFile-unguarded es read = go es (λ k h. let d = typeFile-made long s es read k h in got-so (content-counts (d .before) (d .begun)) (d .contentRead) .2)
     where
       go : (fs : List Element) → ((k : ℕ) → k < length fs → 1 ≤ elementAt fs k .repeated → GuardedIn (elementAt fs k .content) → ⊥) → 1 ≤ firstRepeated fs → (e : Element) × List·Memᴰ e fs × (GuardedIn (e .content) → ⊥)
       go [] f l = absurd (omega arith)

@@ -7,7 +7,6 @@ use native.Mathlib.Omega.{arith}
 use lib.ListN.{length}
 use lib.Dec.{eqb}
 use borrow.Author.Tests.{eqb-true}
-use Rattle.rules.specs.Settings.{Settings}
 use Rattle.rules.specs.Walk.{Group, place, seq, alt, opt, plus, and, one, also}
 use Rattle.rules.specs.TypeFile.{Place, Content, empty, model, Element}
 use Rattle.rules.specs.Judge.{placeAt}
@@ -100,10 +99,10 @@ built-whole empty x = tt
 built-whole (model g ps n) x = record { numbered = x .counting .numbered; counted = omega (arith, x .counting .counted); repeats = x .repeats }
 
 -- The content of a declaration that is read.
-pub declared-whole : {c : Settings} {s : List ℕ} {es : List Element} {e : Element} → Declares c s es e → WholeIn (e .content)
-declared-whole {c} {s} {es} {e} d = built-whole (e .content) (got-so (content-read c s grown-builds (d .before) (d .begun)) (d .contentRead) .built)
+pub declared-whole : {long : ℕ} {s : List ℕ} {es : List Element} {e : Element} → Declares long s es e → WholeIn (e .content)
+declared-whole {long} {s} {es} {e} d = built-whole (e .content) (got-so (content-read long s grown-builds (d .before) (d .begun)) (d .contentRead) .built)
 
--- The names of a model's places are no longer than the settings say.
+-- The names of a model's places are no longer than `long` bytes.
 abbrev Short : (long : ℕ) → List Place → Group → List Place → Type 0
 Short long ps g qs = All (λ (x : Place). x .size ≤ long) ps → All (λ (x : Place). x .size ≤ long) qs
 
@@ -128,5 +127,5 @@ built-short : (long : ℕ) (c : Content) → Built (Short long) c → ShortIn lo
 built-short long empty x = tt
 built-short long (model g ps n) x = x none
 
-pub declared-short : {c : Settings} {s : List ℕ} {es : List Element} {e : Element} → Declares c s es e → ShortIn (c .nameLength) (e .content)
-declared-short {c} {s} {es} {e} d = built-short (c .nameLength) (e .content) (got-so (content-read c s short-builds (d .before) (d .begun)) (d .contentRead) .built)
+pub declared-short : {long : ℕ} {s : List ℕ} {es : List Element} {e : Element} → Declares long s es e → ShortIn long (e .content)
+declared-short {long} {s} {es} {e} d = built-short long (e .content) (got-so (content-read long s short-builds (d .before) (d .begun)) (d .contentRead) .built)

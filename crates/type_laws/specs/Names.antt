@@ -10,7 +10,6 @@ use lib.ListN.{length, take}
 use lib.Seq.{length-take-le}
 use lib.Dec.{eqb, eqb·zero-suc, eqb·suc-zero}
 use borrow.Author.Tests.{eq-eqb, eqb-true, ne-eqb}
-use Rattle.rules.specs.Settings.{Settings}
 use Rattle.rules.specs.Bytes.{sameText}
 use Rattle.rules.specs.Reading.{got}
 use Rattle.rules.specs.TypeFile.{Place, Element, sameName, isDeclared, typeFile}
@@ -18,7 +17,7 @@ use Rattle.rules.specs.Judge.{placeAt}
 use Rattle.rules.specs.Elements.{elementAt, isNamed, numberFrom, numberOf}
 use Rattle.rules.specs.Decisions.{start, pcdata, hasName}
 use Rattle.model_sets.specs.Bits.{not-true, not-both, bool-cases}
-use Rattle.text.specs.Laws.{sameText-sym}
+use Rattle.text.specs.Words.{sameText-sym}
 use Rattle.document_laws.specs.Decide.{sameText-trans}
 use Rattle.document_laws.specs.Chain.{numberFrom-range}
 use Rattle.rules_laws.specs.Within.{All, more, ElementIn, typeFile-elements}
@@ -100,22 +99,22 @@ fresh-differs s (e ∷ es) at size f (suc k) h =
 
 -- A type file that was read
 
-pub typeFile-element : (c : Settings) (s : List ℕ) (es : List Element) → typeFile c s ≡ got es → (k : ℕ) → k < length es → ElementIn s (elementAt es k)
+pub typeFile-element : (long : ℕ) (s : List ℕ) (es : List Element) → typeFile long s ≡ got es → (k : ℕ) → k < length es → ElementIn s (elementAt es k)
 unfolding elementAt
-typeFile-element c s es r k h = at-each es (typeFile-elements c s es r .1 .each) k h
+typeFile-element long s es r k h = at-each es (typeFile-elements long s es r .1 .each) k h
   where
     at-each : (es : List Element) → All (ElementIn s) es → (k : ℕ) → k < length es → ElementIn s (elementAt es k)
     at-each [] a k h = absurd (not-suc-le-zero h)
     at-each (e ∷ es) (more p a) zero h = p
     at-each (e ∷ es) (more p a) (suc k) h = at-each es a k (le-of-suc-le-suc h)
 
-module _ (c : Settings) (s : List ℕ) (es : List Element) (read : typeFile c s ≡ got es) where
+module _ (long : ℕ) (s : List ℕ) (es : List Element) (read : typeFile long s ≡ got es) where
   -- An element has not the name of one before it.
   differs : (j k : ℕ) → j < k → k < length es → isNamed s (elementAt es j) s (elementAt es k .at) (elementAt es k .size) ≡ false
   differs j k l h =
       let whole = bares-length es in
       subst (λ (e : Element). isNamed s e s (elementAt es k .at) (elementAt es k .size) ≡ false) (elementAt-take (bares es) k j l ∙ bares-at es j)
-      (fresh-differs s (take k (bares es)) (elementAt es k .at) (elementAt es k .size) (typeFile-made c s es read k h .fresh) j (omega (arith, length-take-le k (bares es) (omega arith))))
+      (fresh-differs s (take k (bares es)) (elementAt es k .at) (elementAt es k .size) (typeFile-made long s es read k h .fresh) j (omega (arith, length-take-le k (bares es) (omega arith))))
 
   pub typeFile-distinct : (k : ℕ) → k < length es → (t : List ℕ) (at size : ℕ) → isNamed s (elementAt es k) t at size ≡ true → numberOf s es t at size ≡ k + 1
   unfolding numberOf
@@ -138,7 +137,7 @@ module _ (c : Settings) (s : List ℕ) (es : List Element) (read : typeFile c s 
 
   -- No element is named by nothing.
   pub numberOf-pcdata : (t : List ℕ) (at : ℕ) → numberOf s es t at 0 ≡ 0
-  numberOf-pcdata t at = numberOf-none s es t at 0 λ k h. rw (ne-eqb (elementAt es k .size) 0 (λ z. omega (arith, typeFile-element c s es read k h .name .some)), isNamed)
+  numberOf-pcdata t at = numberOf-none s es t at 0 λ k h. rw (ne-eqb (elementAt es k .size) 0 (λ z. omega (arith, typeFile-element long s es read k h .name .some)), isNamed)
 
 -- `#PCDATA` is the name of no size.
 pub pcdata-name : (s : List ℕ) (es : List Element) (ps : List Place) (p : ℕ) → hasName s es ps pcdata p ≡ eqb (placeAt ps (p - 1) .size) 0

@@ -21,7 +21,7 @@ use Rattle.and_laws.specs.Begun.{next-itself}
 use Rattle.rules_laws.specs.Groups.{GuardedIn}
 use Rattle.document_laws.specs.Decide.{fitsIn, decided, content-guarded}
 use Rattle.document_laws.specs.Numbers.{typeFile-guarded}
-use Rattle.document_laws.specs.Laws.{accepted-decided}
+use Rattle.document_laws.specs.OneReading.{accepted-decided}
 use Rattle.type_laws.specs.Models.{Whole, WholeIn}
 use Rattle.type_laws.specs.Width.{typeFile-whole}
 use Rattle.type_laws.specs.Names.{pcdata-name}
@@ -48,4 +48,4 @@ module _ {c : Settings} (s : List ℕ) (es : List Element) (accepted : Accepts c
 pub pcdata-stays : {c : Settings} (s : List ℕ) (es : List Element) → Accepts c s es → (k : ℕ) {g : Group} {ps : List Place} {n : ℕ} → contentOf es k ≡ model g ps n → (taken : List ℕ) → Begins g taken → 1 ≤ decided s es .fits k taken pcdata
     → decided s es .fits k (taken ++ decided s es .fits k taken pcdata ∷ []) pcdata ≡ decided s es .fits k taken pcdata
 pcdata-stays {c} s es a k {g} {ps} {n} is taken b h =
-    rw is (stays s es a k g ps n is (subst WholeIn is (typeFile-whole c s es (a .elements) k)) (subst GuardedIn is (content-guarded es (typeFile-guarded c s es (a .elements) (a .unrepeated)) k)) taken b (fitsIn s es (model g ps n) taken pcdata) refl (rw is at h))
+    rw is (stays s es a k g ps n is (subst WholeIn is (typeFile-whole (c .nameLength) s es (a .elements) k)) (subst GuardedIn is (content-guarded es (typeFile-guarded (c .nameLength) s es (a .elements) (a .unrepeated)) k)) taken b (fitsIn s es (model g ps n) taken pcdata) refl (rw is at h))

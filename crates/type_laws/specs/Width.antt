@@ -6,7 +6,6 @@ use mathlib.Core.List.{List, [], _∷_}
 use native.Mathlib.Omega.{arith}
 use lib.ListN.{length}
 use borrow.Author.Tests.{eqb-true}
-use Rattle.rules.specs.Settings.{Settings}
 use Rattle.rules.specs.Bytes.{byteAt, letter}
 use Rattle.rules.specs.Reading.{got}
 use Rattle.rules.specs.Walk.{Group, place}
@@ -34,23 +33,23 @@ document-fits : (s : List ℕ) (x : Place) → NameIn s (x .at) (x .size) → le
 document-fits s x n l =
     record { places = more {x = x} (record { begins = omega arith; ends = n .ends; named = λ _. l }) none; counted = omega arith; few = omega arith }
 
-module _ (c : Settings) (s : List ℕ) (es : List Element) (read : typeFile c s ≡ got es) where
+module _ (long : ℕ) (s : List ℕ) (es : List Element) (read : typeFile long s ≡ got es) where
   first-name : NameIn s (elementAt es 0 .at) (elementAt es 0 .size)
-  first-name = typeFile-element c s es read 0 (typeFile-count c s es read .0) .name
+  first-name = typeFile-element long s es read 0 (typeFile-count long s es read .0) .name
 
   -- Every content is whole, and stands in the input.
   pub typeFile-whole : (k : ℕ) → WholeIn (contentOf es k)
   typeFile-whole zero = document-whole _ (first-name .some)
-  typeFile-whole (suc k) = each-content WholeIn tt es (λ j h. declared-whole (typeFile-made c s es read j h)) k
+  typeFile-whole (suc k) = each-content WholeIn tt es (λ j h. declared-whole (typeFile-made long s es read j h)) k
 
   pub typeFile-content : (k : ℕ) → ContentIn s (contentOf es k)
-  typeFile-content zero = document-fits s _ first-name (typeFile-made c s es read 0 (typeFile-count c s es read .0) .named)
-  typeFile-content (suc k) = each-content (ContentIn s) tt es (λ j h. typeFile-element c s es read j h .content) k
+  typeFile-content zero = document-fits s _ first-name (typeFile-made long s es read 0 (typeFile-count long s es read .0) .named)
+  typeFile-content (suc k) = each-content (ContentIn s) tt es (λ j h. typeFile-element long s es read j h .content) k
 
-  -- No place of a content has a longer name than the settings say.
-  pub typeFile-places-short : (k : ℕ) → ShortIn (c .nameLength) (contentOf es k)
-  typeFile-places-short zero = more (typeFile-made c s es read 0 (typeFile-count c s es read .0) .short) none
-  typeFile-places-short (suc k) = each-content (ShortIn (c .nameLength)) tt es (λ j h. declared-short (typeFile-made c s es read j h)) k
+  -- No place of a content has a longer name than `long` bytes.
+  pub typeFile-places-short : (k : ℕ) → ShortIn long (contentOf es k)
+  typeFile-places-short zero = more (typeFile-made long s es read 0 (typeFile-count long s es read .0) .short) none
+  typeFile-places-short (suc k) = each-content (ShortIn long) tt es (λ j h. declared-short (typeFile-made long s es read j h)) k
 
   pub typeFile-width : (k : ℕ) {g : Group} {ps : List Place} {n : ℕ} → contentOf es k ≡ model g ps n → (size g ≡ length ps) × (size g ≤ 96) × Numbered g 1
   typeFile-width k {g} {ps} {n} e =

@@ -27,9 +27,9 @@ use Rattle.and_laws.specs.Begun.{nextOf, begins-none, last-is, is-taken}
 use Rattle.member_laws.specs.Members.{Standing}
 use Rattle.document_laws.specs.Decide.{search, search-passes, fitsIn, decided}
 use Rattle.type_laws.specs.Width.{typeFile-width}
-use Rattle.row_search.specs.Means.{nextBit, Linked, Largest, LargestRaised, RowSays, BothSay}
-use Rattle.row_search.specs.Laws.{search-most, search-none, search-both}
-use Rattle.type_tables.specs.Means.{width, nameNumber, Declares, nextRow, Lowered, raisedPlace, PlainIn, ToldIn, Tables, Entered}
+use Rattle.row_search.specs.Rows.{nextBit, Linked, Largest, LargestRaised, RowSays, BothSay}
+use Rattle.row_search.specs.Search.{search-most, search-none, search-both}
+use Rattle.type_tables.specs.Tables.{width, nameNumber, Declares, nextRow, Lowered, raisedPlace, PlainIn, ToldIn, Tables, Entered}
 use Rattle.type_tables.specs.Ranges.{Modelled, modelled, width-most}
 
 -- What may come next in a content after the places taken.
@@ -57,7 +57,7 @@ module _ {s : List ℕ} {es : List Element} {rows places facts M : List ℕ} (ta
     where
       go : (c : Content) → contentOf es e ≡ c → fitsIn s es c taken t ≡ search (λ p. hasName s es (placesIn c) t p && nextAfter c taken p) (length (placesIn c))
       go empty z = sym (search-none _)
-      go (model g ps n) z = ap (search (λ p. hasName s es ps t p && nextOf g taken p)) (typeFile-width (tables .settings) s es (tables .accepted .elements) e z .0)
+      go (model g ps n) z = ap (search (λ p. hasName s es ps t p && nextOf g taken p)) (typeFile-width (tables .settings .nameLength) s es (tables .accepted .elements) e z .0)
 
   linked : Linked places e named top
   linked =

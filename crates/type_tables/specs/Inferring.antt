@@ -16,7 +16,7 @@ use Rattle.layout.specs.Sizes.{POSITIONS}
 use Rattle.model_sets.specs.Bits.{bool-cases}
 use Rattle.document_laws.specs.Decide.{decided}
 use Rattle.type_laws.specs.Names.{numberOf-range, numberOf-pcdata}
-use Rattle.type_tables.specs.Means.{width, Declares, namedBy, Tables, Entered}
+use Rattle.type_tables.specs.Tables.{width, Declares, namedBy, Tables, Entered}
 use Rattle.type_tables.specs.Ranges.{width-most, required-most}
 
 -- The number k where the test holds, else 0.
@@ -87,7 +87,7 @@ module _ (rows places facts M : List ℕ) (e p : ℕ) (s : List ℕ) (es : List 
     data-required z = none-named (bool-cases (eqb (stands .size) 0) nameless other)
       where
         nameless : eqb (stands .size) 0 ≡ true → named ≡ 0
-        nameless x = rw (eqb-true (stands .size) 0 x) (numberOf-pcdata (tables .settings) s es (tables .accepted .elements) s (stands .at))
+        nameless x = rw (eqb-true (stands .size) 0 x) (numberOf-pcdata (tables .settings .nameLength) s es (tables .accepted .elements) s (stands .at))
 
         other : eqb (stands .size) 0 ≡ false → named ≡ 0
         other x = let y : k ≡ named = rw x at said in absurd (omega (arith, named-range, tables .few))

@@ -1,5 +1,5 @@
 -- What the tables of a type say, in the rules' terms.
-pub mod Means
+pub mod Tables
 pub mod Ranges
 pub mod Marks
 pub mod Fitting

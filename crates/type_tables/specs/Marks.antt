@@ -27,8 +27,8 @@ use Rattle.member_laws.specs.Inside.{EachLevel, plain-levels}
 use Rattle.member_laws.specs.Around.{numbered-small, chain-kept}
 use Rattle.document_laws.specs.Decide.{isCompleteIn, requiredFor, decided}
 use Rattle.document_laws.specs.Moves.{fresh}
-use Rattle.and_groups.specs.Means.{Elsewhere, Blocked, free, held, Takes}
-use Rattle.type_tables.specs.Means.{width, rowAt, raisedAt, completeRow, requiredRow, completeAt, requiredAt, PlainIn, ToldIn, Tables, Entered, CanTake}
+use Rattle.and_groups.specs.Takes.{Elsewhere, Blocked, free, held, Takes}
+use Rattle.type_tables.specs.Tables.{width, rowAt, raisedAt, completeRow, requiredRow, completeAt, requiredAt, PlainIn, ToldIn, Tables, Entered, CanTake}
 use Rattle.type_tables.specs.Ranges.{Modelled, modelled, width-most, required-most, start-complete, start-required}
 
 -- The open element with the place p taken.

@@ -19,7 +19,7 @@ use Rattle.rules_laws.specs.Groups.{GuardedIn}
 use Rattle.document_laws.specs.Decide.{requiredFor, isCompleteIn, content-guarded}
 use Rattle.document_laws.specs.Numbers.{typeFile-guarded}
 use Rattle.type_laws.specs.Width.{typeFile-width}
-use Rattle.type_tables.specs.Means.{width, rowAt, placeOr0, completeRow, requiredRow, completeAt, requiredAt, Rows}
+use Rattle.type_tables.specs.Tables.{width, rowAt, placeOr0, completeRow, requiredRow, completeAt, requiredAt, Rows}
 
 -- A test that is kept as a number.
 pub one-if : (b : Bool) → eqb (cond b 1 0) 1 ≡ b
@@ -38,10 +38,10 @@ pub record Modelled (es : List Element) (k : ℕ) (g : Group) : Type 0 where
 module _ {c : Settings} (s : List ℕ) (es : List Element) (accepted : Accepts c s es) (k : ℕ) where
   pub modelled : {g : Group} {ps : List Place} {n : ℕ} → contentOf es k ≡ model g ps n → Modelled es k g
   modelled {g} {ps} {n} e =
-      let (counted, few, numbered) = typeFile-width c s es (accepted .elements) k e in
+      let (counted, few, numbered) = typeFile-width (c .nameLength) s es (accepted .elements) k e in
       record {
         numbered = numbered;
-        guarded = subst GuardedIn e (content-guarded es (typeFile-guarded c s es (accepted .elements) (accepted .unrepeated)) k);
+        guarded = subst GuardedIn e (content-guarded es (typeFile-guarded (c .nameLength) s es (accepted .elements) (accepted .unrepeated)) k);
         few = few;
         wide = counted ∙ ap (λ (x : Content). length (placesIn x)) (sym e);
       }
@@ -51,7 +51,7 @@ module _ {c : Settings} (s : List ℕ) (es : List Element) (accepted : Accepts c
     where
       go : (x : Content) → contentOf es k ≡ x → length (placesIn x) ≤ 96
       go empty e = omega arith
-      go (model g ps n) e = omega (arith, typeFile-width c s es (accepted .elements) k e)
+      go (model g ps n) e = omega (arith, typeFile-width (c .nameLength) s es (accepted .elements) k e)
 
   -- What is required after a beginning is one of the model's places.
   pub required-most : (taken : List ℕ) → ((g : Group) (ps : List Place) (n : ℕ) → contentOf es k ≡ model g ps n → Begins g taken) → requiredFor (contentOf es k) taken ≤ width es k
@@ -61,7 +61,7 @@ module _ {c : Settings} (s : List ℕ) (es : List Element) (accepted : Accepts c
       go : (x : Content) → contentOf es k ≡ x → ((g : Group) (ps : List Place) (n : ℕ) → contentOf es k ≡ model g ps n → Begins g taken) → requiredFor x taken ≤ length (placesIn x)
       go empty e b = omega arith
       go (model g ps n) e b =
-          let (counted, few, numbered) = typeFile-width c s es (accepted .elements) k e in
+          let (counted, few, numbered) = typeFile-width (c .nameLength) s es (accepted .elements) k e in
           by (requiredOf g taken) refl numbered (modelled e .guarded) counted (b g ps n e)
         where
           by : (p : ℕ) → requiredOf g taken ≡ p → Numbered g 1 → Guarded g → size g ≡ length ps → Begins g taken → p ≤ length ps

@@ -38,7 +38,7 @@ ghost use Rattle.rules.specs.Decisions as decisions;
 ghost use Rattle.layout.specs.Sizes.{POSITIONS};
 ghost use Rattle.document_laws.specs.Decide.{decided};
 ghost use Rattle.document_laws.specs.Moves.{fresh};
-ghost use Rattle.type_tables.specs.Means.{nameNumber, rowAt, completeAt, requiredAt, Declares, Lowered, Facts, Tables, Entered};
+ghost use Rattle.type_tables.specs.Tables.{nameNumber, rowAt, completeAt, requiredAt, Declares, Lowered, Facts, Tables, Entered};
 
 // Whether the row of the element e after the place u has its content complete there.
 pub fn complete(rows: &[u8; ROWS], e: ElementNo, u: Place) -> bool

@@ -18,9 +18,9 @@ use Rattle.document_laws.specs.Moves.{fresh}
 use Rattle.document_laws.specs.Same.{link}
 use Rattle.document_laws.specs.Chain.{chain-leads, chain-shortest}
 use Rattle.type_laws.specs.Names.{numberOf-range}
-use Rattle.type_tables.specs.Means.{nameNumber, Declares, Tables, Entered}
+use Rattle.type_tables.specs.Tables.{nameNumber, Declares, Tables, Entered}
 use Rattle.ways.specs.declared.Way.the-variants.{Taken, Inferred, Stuck}
-use Rattle.ways.specs.Means.{wayOf, chained, Requires}
+use Rattle.ways.specs.Asks.{wayOf, chained, Requires}
 
 -- One turn of a chain
 

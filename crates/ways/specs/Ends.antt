@@ -12,11 +12,11 @@ use Rattle.rules.specs.Decisions.{start}
 use Rattle.rules.specs.Settling.{State, isOver}
 use Rattle.rules.specs.Settling as rules
 use Rattle.document_laws.specs.Decide.{isCompleteIn, decided}
-use Rattle.type_tables.specs.Means.{Declares}
+use Rattle.type_tables.specs.Tables.{Declares}
 use Rattle.open_elements.specs.declared.Open.{Open}
-use Rattle.open_elements.specs.Means.{ended, Stands}
-use Rattle.open_elements.specs.Laws.{stands-element, stands-around, stands-alone}
-use Rattle.ways.specs.Means.{mayEnd}
+use Rattle.open_elements.specs.Stands.{ended, Stands}
+use Rattle.open_elements.specs.Methods.{stands-element, stands-around, stands-alone}
+use Rattle.ways.specs.Asks.{mayEnd}
 
 -- By a parent, and by the number and the mark that are kept.
 ends-by : (s : List ℕ) (es : List Element) (v u : rules.Open) (us others : List rules.Open) {k j : ℕ} {b : Bool} → us ≡ u ∷ others → v .number ≡ k → u .number ≡ j → b ≡ isCompleteIn (contentOf es k) (v .taken)

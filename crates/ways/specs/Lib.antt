@@ -1,4 +1,4 @@
 -- What the current element has to say to a token.
-pub mod Means
+pub mod Asks
 pub mod Chains
 pub mod Ends

@@ -22,8 +22,8 @@ ghost use Rattle.rules.specs.Decisions.{Token};
 ghost use Rattle.rules.specs.Decisions as decisions;
 ghost use Rattle.rules.specs.Settling as rules;
 ghost use Rattle.document_laws.specs.Decide.{decided};
-ghost use Rattle.type_tables.specs.Means.{nameNumber, Declares, Facts, Tables, Entered};
-ghost use Rattle.ways.specs.Means.{wayOf, chained, startsOf, fitOf, placeOf, Requires, MayEnd};
+ghost use Rattle.type_tables.specs.Tables.{nameNumber, Declares, Facts, Tables, Entered};
+ghost use Rattle.ways.specs.Asks.{wayOf, chained, startsOf, fitOf, placeOf, Requires, MayEnd};
 
 // What the current element has to say to a start tag or a data byte.
 pub enum Way {

@@ -3,12 +3,11 @@ use mathlib.Core.Path.{sym, ap, _∙_}
 use native.Mathlib.Omega.{arith}
 use borrow.Author.Needs.{needs}
 use borrow.Author.Tests.{not-true, not-false}
-use Rattle.rules.specs.Settings.{settings}
 use Rattle.rules.specs.Attributes.{quote}
-use Rattle.text.specs.Means.{refusalOf}
-use Rattle.text.specs.Laws.{tested}
+use Rattle.text.specs.Refusal.{refusalOf}
+use Rattle.text.specs.Words.{tested}
 use Rattle.gaps.specs.Unfit.{unfit-is}
-use Rattle.attribute_defaults.specs.Laws.{hash-joined, hash-word, quote-none, quote-joined, quote-literal, hash-in, quote-in}
+use Rattle.attribute_defaults.specs.Ways.{hash-joined, hash-word, quote-none, quote-joined, quote-literal, hash-in, quote-in}
 use Rattle.attribute_defaults.proofs.default_at.Statement.{statement}
 use Rattle.attribute_defaults.proofs.default_at.Tie as tie
 
@@ -26,7 +25,7 @@ returns c =
     let j = c .before .before in
     let b = j .before .before in
     let a = b .before .before .args in
-    let o = settings (a .long) in
+    let o = a .long in
     rw (c .refusal .ensures) (λ y d. (hash-joined o (a .s .now) y (a .from) (a .i) (sym (b .byte .ensures) ∙ j .before .if1 .taken) (sym (j .is-joined .ensures o (a .s .now) y d) ∙ c .before .if2 .taken)), tt)
 
 word-at-requires : tie.Need-word-at-requires
@@ -40,7 +39,7 @@ returns-2 c =
     let j = c .before .before in
     let b = j .before .before in
     let a = b .before .before .args in
-    let o = settings (a .long) in
+    let o = a .long in
     (λ y d. c .word-at .ensures .0 ∙ hash-word o (a .s .now) y (a .from) (a .i) (sym (b .byte .ensures) ∙ j .before .if1 .taken) (sym (j .is-joined .ensures o (a .s .now) y d) ∙ c .before .if2 .left), c .word-at .ensures .1)
 
 is-quote-requires : tie.Need-is-quote-requires
@@ -56,7 +55,7 @@ returns-3 c =
     let a = b .before .before .args in (
       λ y d.
           ap refusalOf (c .unfit-at .ensures) ∙ unfit-is (a .s .now) (a .i)
-          ∙ sym (quote-none (settings (a .long)) (a .s .now) y (a .from) (a .i) (λ e. q .before .if1 .left (b .byte .ensures ∙ e)) (tested quote (b .byte .ensures) (q .is-quote .ensures) (not-true _ (c .before .if3 .taken)))),
+          ∙ sym (quote-none (a .long) (a .s .now) y (a .from) (a .i) (λ e. q .before .if1 .left (b .byte .ensures ∙ e)) (tested quote (b .byte .ensures) (q .is-quote .ensures) (not-true _ (c .before .if3 .taken)))),
       tt,
     )
 
@@ -72,7 +71,7 @@ returns-4 c =
     let q = j .before .before in
     let b = q .before .before in
     let a = b .before .before .args in
-    let o = settings (a .long) in
+    let o = a .long in
     rw (c .refusal2 .ensures) (
       λ y d. quote-joined o (a .s .now) y (a .from) (a .i) (λ e. q .before .if1 .left (b .byte .ensures ∙ e)) (tested quote (b .byte .ensures) (q .is-quote .ensures) (not-false _ (j .before .if3 .left)))
           (sym (j .is-joined2 .ensures o (a .s .now) y d) ∙ c .before .if4 .taken),
@@ -93,7 +92,7 @@ returns-5 c =
     let q = j .before .before in
     let b = q .before .before in
     let a = b .before .before .args in
-    let o = settings (a .long) in (
+    let o = a .long in (
       λ y d.
           c .literal-at .ensures .0 y d
           ∙ quote-literal o (a .s .now) y (a .from) (a .i) (λ e. q .before .if1 .left (b .byte .ensures ∙ e)) (tested quote (b .byte .ensures) (q .is-quote .ensures) (not-false _ (j .before .if3 .left)))

@@ -1,5 +1,5 @@
 -- `is_joined` meets its contract: a group's number is over 2.
-use Rattle.attribute_defaults.specs.Laws.{joined-group, joined-word, not-less}
+use Rattle.attribute_defaults.specs.Ways.{joined-group, joined-word, not-less}
 use Rattle.attribute_defaults.proofs.is_joined.Statement.{statement}
 use Rattle.attribute_defaults.proofs.is_joined.Tie as tie
 

@@ -2,11 +2,10 @@
 use mathlib.Core.Path.{sym}
 use native.Mathlib.Omega.{arith}
 use borrow.Author.Needs.{needs}
-use Rattle.rules.specs.Settings.{settings}
 use Rattle.rules_laws.specs.Holds.{got-so}
 use Rattle.rules_laws.specs.Definitions.{literal-holds}
-use Rattle.text.specs.Laws.{reached-got, reached-refused}
-use Rattle.attribute_defaults.specs.Laws.{literal-refused, literal-misfit, literal-fits}
+use Rattle.text.specs.Words.{reached-got, reached-refused}
+use Rattle.attribute_defaults.specs.Ways.{literal-refused, literal-misfit, literal-fits}
 use Rattle.attribute_defaults.proofs.literal_at.Statement.{statement}
 use Rattle.attribute_defaults.proofs.literal_at.Tie as tie
 
@@ -26,7 +25,7 @@ returns : tie.Need-returns
 returns c =
     let l = c .before .before .before in
     let a = l .before .before .args in
-    (λ y d. sym (literal-refused (settings (a .long)) (a .s .now) y (a .i) _ _ (reached-refused (l .literal-end .ensures) (c .before .enum-told .given .1) (c .fault-of .ensures))), tt)
+    (λ y d. sym (literal-refused (a .long) (a .s .now) y (a .i) _ _ (reached-refused (l .literal-end .ensures) (c .before .enum-told .given .1) (c .fault-of .ensures))), tt)
 
 add-size : tie.Need-add-size
 add-size c = search needs
@@ -63,7 +62,7 @@ returns-2 c =
     let a = l .before .before .args in
     let h = reached-got (l .literal-end .ensures) (k .before .l .given .1) in
     let r = got-so (literal-holds (a .s .now) (a .i)) h in
-    (λ y d. literal-fits (settings (a .long)) (a .s .now) y (a .i) _ h (r .0) (r .1) _ (c .before .before .value .ensures) (c .before .fits2 .ensures y d) (l .before .before .pre .0) (c .if1 .taken), omega (arith, r))
+    (λ y d. literal-fits (a .long) (a .s .now) y (a .i) _ h (r .0) (r .1) _ (c .before .before .value .ensures) (c .before .fits2 .ensures y d) (l .before .before .pre .0) (c .if1 .taken), omega (arith, r))
 
 refusal-requires : tie.Need-refusal-requires
 refusal-requires c κs = search needs
@@ -76,7 +75,7 @@ returns-3 c =
     let a = l .before .before .args in
     let h = reached-got (l .literal-end .ensures) (k .before .l .given .1) in
     let r = got-so (literal-holds (a .s .now) (a .i)) h in
-    rw (c .refusal .ensures) (λ y d. (literal-misfit (settings (a .long)) (a .s .now) y (a .i) _ h (r .0) (r .1) _ (e .before .before .value .ensures) (e .before .fits2 .ensures y d) (e .if1 .left)), tt)
+    rw (c .refusal .ensures) (λ y d. (literal-misfit (a .long) (a .s .now) y (a .i) _ h (r .0) (r .1) _ (e .before .before .value .ensures) (e .before .fits2 .ensures y d) (e .if1 .left)), tt)
 
 pub literal-at-spec : {M : Type 1} → statement M
 literal-at-spec =

@@ -7,8 +7,8 @@ use lib.ListN.{length}
 use borrow.Author.Needs.{needs}
 use borrow.Author.Tests.{not-true, not-false}
 use Rattle.rules.specs.Bytes.{byteAt, letter}
-use Rattle.text.specs.Laws.{tested, nameEnd-from, nameEnd-le}
-use Rattle.attribute_defaults.specs.Laws.{word-none, word-required, word-implied, word-cut, word-cut-too, word-wrong}
+use Rattle.text.specs.Words.{tested, nameEnd-from, nameEnd-le}
+use Rattle.attribute_defaults.specs.Ways.{word-none, word-required, word-implied, word-cut, word-cut-too, word-wrong}
 use Rattle.attribute_defaults.proofs.word_at.Statement.{statement}
 use Rattle.attribute_defaults.proofs.word_at.Tie as tie
 

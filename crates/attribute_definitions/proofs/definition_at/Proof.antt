@@ -4,11 +4,10 @@ use mathlib.Core.Path.{sym, ap, _∙_}
 use native.Mathlib.Omega.{arith}
 use lib.ListN.{length}
 use borrow.Author.Needs.{needs}
-use Rattle.rules.specs.Settings.{settings}
 use Rattle.rules.specs.TypeFile.{declaredValue}
-use Rattle.text.specs.Laws.{gap-range, reached-got, reached-refused}
-use Rattle.name_tokens.specs.Means.{partsOf}
-use Rattle.attribute_definitions.specs.Laws.{definition-name, definition-gap, definition-value, definition-between, definition-default, definition-row, value-got, value-stopped, default-got, default-stopped, name-within, value-within, default-within}
+use Rattle.text.specs.Words.{gap-range, reached-got, reached-refused}
+use Rattle.name_tokens.specs.Tokens.{partsOf}
+use Rattle.attribute_definitions.specs.Ways.{definition-name, definition-gap, definition-value, definition-between, definition-default, definition-row, value-got, value-stopped, default-got, default-stopped, name-within, value-within, default-within}
 use Rattle.attribute_definitions.proofs.definition_at.Statement.{statement}
 use Rattle.attribute_definitions.proofs.definition_at.Tie as tie
 
@@ -27,7 +26,7 @@ fault-of-requires c κs = search needs
 returns : tie.Need-returns
 returns c =
     let a = c .before .before .before .before .before .args in
-    (λ xs m l p. definition-name (settings (a .long)) (a .s .now) xs (a .from) (a .i) (reached-refused (c .before .before .before .name-at .ensures .0 xs m l) (c .before .enum-told .given .1) (c .fault-of .ensures)), tt)
+    (λ xs m l p. definition-name (a .long) (a .s .now) xs (a .from) (a .i) (reached-refused (c .before .before .before .name-at .ensures .0 xs m l) (c .before .enum-told .given .1) (c .fault-of .ensures)), tt)
 
 gap-end-requires : tie.Need-gap-end-requires
 gap-end-requires c κs = name-within (c .before .before .before .name-at .ensures .1) (c .before .a .given .1) .1
@@ -45,7 +44,7 @@ returns-2 : tie.Need-returns-2
 returns-2 c =
     let a = c .before .before .before .before .before .before .before .before .before .args in (
       λ xs m l p.
-          definition-gap (settings (a .long)) (a .s .now) xs (a .from) (a .i) (reached-got (c .before .before .before .before .before .before .before .name-at .ensures .0 xs m l) (c .before .before .before .before .before .a .given .1)) (reached-refused (c .before .before .before .gap-end .ensures) (c .before .enum-told2 .given .1) (c .fault-of2 .ensures)),
+          definition-gap (a .long) (a .s .now) xs (a .from) (a .i) (reached-got (c .before .before .before .before .before .before .before .name-at .ensures .0 xs m l) (c .before .before .before .before .before .a .given .1)) (reached-refused (c .before .before .before .gap-end .ensures) (c .before .enum-told2 .given .1) (c .fault-of2 .ensures)),
       tt,
     )
 
@@ -67,7 +66,7 @@ fault-of-value-requires c κs = search needs
 returns-3 : tie.Need-returns-3
 returns-3 c =
     let a = c .before .before .before .before .before .before .before .before .before .before .before .before .before .before .args in
-    let o = settings (a .long) in (
+    let o = a .long in (
       λ xs m l p.
           definition-value o (a .s .now) xs (a .from) (a .i) (reached-got (c .before .before .before .before .before .before .before .before .before .before .before .before .name-at .ensures .0 xs m l) (c .before .before .before .before .before .before .before .before .before .before .a .given .1)) (reached-got (c .before .before .before .before .before .before .before .before .gap-end .ensures) (c .before .before .before .before .before .before .g .given .1))
           (ap (λ ts. declaredValue o (a .s .now) ts (c .before .before .before .before .before .before .g .given .0 .0)) (sym p) ∙ value-stopped o (a .s .now) _ (partsOf (a .seen .now) (a .m)) _ _ (c .before .before .before .value-at .ensures .0) (c .before .enum-told3 .given .1) (c .fault-of-value .ensures)),
@@ -89,7 +88,7 @@ fault-of-requires-3 c κs = search needs
 returns-4 : tie.Need-returns-4
 returns-4 c =
     let a = c .before .before .before .before .before .before .before .before .before .before .before .before .before .before .before .before .before .before .args in
-    let o = settings (a .long) in (
+    let o = a .long in (
       λ xs m l p.
           let v = value-got o (a .s .now) _ (partsOf (a .seen .now) (a .m)) _ _ (c .before .before .before .before .before .before .before .value-at .ensures .0) (c .before .before .before .before .before .v .given .1) in
           definition-between o (a .s .now) xs (a .from) (a .i) (reached-got (c .before .before .before .before .before .before .before .before .before .before .before .before .before .before .before .before .name-at .ensures .0 xs m l) (c .before .before .before .before .before .before .before .before .before .before .before .before .before .before .a .given .1)) (reached-got (c .before .before .before .before .before .before .before .before .before .before .before .before .gap-end .ensures) (c .before .before .before .before .before .before .before .before .before .before .g .given .1))
@@ -116,7 +115,7 @@ fault-of-requires-4 c κs = search needs
 returns-5 : tie.Need-returns-5
 returns-5 c =
     let a = c .before .before .before .before .before .before .before .before .before .before .before .before .before .before .before .before .before .before .before .before .before .before .args in
-    let o = settings (a .long) in (
+    let o = a .long in (
       λ xs m l p.
           let v = value-got o (a .s .now) _ (partsOf (a .seen .now) (a .m)) _ _ (c .before .before .before .before .before .before .before .before .before .before .before .value-at .ensures .0) (c .before .before .before .before .before .before .before .before .before .v .given .1) in
           definition-default o (a .s .now) xs (a .from) (a .i) (reached-got (c .before .before .before .before .before .before .before .before .before .before .before .before .before .before .before .before .before .before .before .before .name-at .ensures .0 xs m l) (c .before .before .before .before .before .before .before .before .before .before .before .before .before .before .before .before .before .before .a .given .1)) (reached-got (c .before .before .before .before .before .before .before .before .before .before .before .before .before .before .before .before .gap-end .ensures) (c .before .before .before .before .before .before .before .before .before .before .before .before .before .before .g .given .1))
@@ -131,7 +130,7 @@ sub-t29 c = omega (arith, name-within (c .before .before .before .before .before
 returns-6 : tie.Need-returns-6
 returns-6 c =
     let a = c .before .before .before .before .before .before .before .before .before .before .before .before .before .before .before .before .before .before .before .before .before .before .args in
-    let o = settings (a .long) in
+    let o = a .long in
     let s = a .s .now in
     let n : (a .i ≤ c .before .before .before .before .before .before .before .before .before .before .before .before .before .before .before .before .before .before .a .given .0 .0) × (c .before .before .before .before .before .before .before .before .before .before .before .before .before .before .before .before .before .before .a .given .0 .0 ≤ length s) × (a .n < 40) = name-within (c .before .before .before .before .before .before .before .before .before .before .before .before .before .before .before .before .before .before .before .before .name-at .ensures .1) (c .before .before .before .before .before .before .before .before .before .before .before .before .before .before .before .before .before .before .a .given .1) in
     let w : (c .before .before .before .before .before .before .before .before .before .v .given .0 .0 ≤ length s) × (c .before .before .before .before .before .before .before .before .before .before .before .before .before .before .g .given .0 .0 ≤ c .before .before .before .before .before .before .before .before .before .v .given .0 .1 .1 .0) × (c .before .before .before .before .before .before .before .before .before .v .given .0 .1 .1 .0 ≤ length s) × (c .before .before .before .before .before .before .before .before .before .v .given .0 .1 .0 ≤ a .m + 32) = value-within (a .m) (c .before .before .before .before .before .before .before .before .before .before .before .value-at .ensures .1) (c .before .before .before .before .before .before .before .before .before .v .given .1) in

@@ -1,9 +1,8 @@
 -- `name_at` meets its contract: each way by the tests that led there.
 use native.Mathlib.Omega.{arith}
 use borrow.Author.Needs.{needs}
-use Rattle.rules.specs.Settings.{settings}
-use Rattle.text.specs.Laws.{nameEnd-from, nameEnd-le}
-use Rattle.attribute_definitions.specs.Laws.{name-long, name-joined, name-twice, name-full, name-got}
+use Rattle.text.specs.Words.{nameEnd-from, nameEnd-le}
+use Rattle.attribute_definitions.specs.Ways.{name-long, name-joined, name-twice, name-full, name-got}
 use Rattle.attribute_definitions.proofs.name_at.Statement.{statement}
 use Rattle.attribute_definitions.proofs.name_at.Tie as tie
 
@@ -16,12 +15,12 @@ sub-if1 c = omega (arith, nameEnd-from (c .before .before .args .s .now) (c .bef
 returns : tie.Need-returns
 returns c =
     let a = c .before .before .before .args in
-    (λ xs m l. name-long (settings (a .long)) (a .s .now) xs (a .from) (a .i) _ (c .before .name-end .ensures) (c .if1 .taken), tt)
+    (λ xs m l. name-long (a .long) (a .s .now) xs (a .from) (a .i) _ (c .before .name-end .ensures) (c .if1 .taken), tt)
 
 returns-2 : tie.Need-returns-2
 returns-2 c =
     let a = c .before .before .before .before .args in
-    (λ xs m l. name-joined (settings (a .long)) (a .s .now) xs (a .from) (a .i) _ (c .before .before .name-end .ensures) (c .before .if1 .left) (c .if2 .taken), tt)
+    (λ xs m l. name-joined (a .long) (a .s .now) xs (a .from) (a .i) _ (c .before .before .name-end .ensures) (c .before .if1 .left) (c .if2 .taken), tt)
 
 sub-find : tie.Need-sub-find
 sub-find c = omega (arith, nameEnd-from (c .before .before .before .before .before .args .s .now) (c .before .before .before .before .before .args .i), c .before .before .before .name-end .ensures)
@@ -34,17 +33,17 @@ find-requires c κs =
 returns-3 : tie.Need-returns-3
 returns-3 c =
     let a = c .before .before .before .before .before .before .before .args in
-    (λ xs m l. name-twice (settings (a .long)) (a .s .now) xs (a .from) (a .i) _ (c .before .before .before .before .before .name-end .ensures) (c .before .before .before .before .if1 .left) (c .before .before .before .if2 .left) (c .before .find .ensures .0 (settings (a .long)) xs l) (c .if3 .taken), tt)
+    (λ xs m l. name-twice (a .long) (a .s .now) xs (a .from) (a .i) _ (c .before .before .before .before .before .name-end .ensures) (c .before .before .before .before .if1 .left) (c .before .before .before .if2 .left) (c .before .find .ensures .0 (a .long) xs l) (c .if3 .taken), tt)
 
 returns-4 : tie.Need-returns-4
 returns-4 c =
     let a = c .before .before .before .before .before .before .before .before .args in
-    (λ xs m l. name-full (settings (a .long)) (a .s .now) xs (a .from) (a .i) _ (c .before .before .before .before .before .before .name-end .ensures) (c .before .before .before .before .before .if1 .left) (c .before .before .before .before .if2 .left) (c .before .before .find .ensures .0 (settings (a .long)) xs l) (c .before .if3 .left) (omega (arith, m, c .if4 .taken)), tt)
+    (λ xs m l. name-full (a .long) (a .s .now) xs (a .from) (a .i) _ (c .before .before .before .before .before .before .name-end .ensures) (c .before .before .before .before .before .if1 .left) (c .before .before .before .before .if2 .left) (c .before .before .find .ensures .0 (a .long) xs l) (c .before .if3 .left) (omega (arith, m, c .if4 .taken)), tt)
 
 returns-5 : tie.Need-returns-5
 returns-5 c =
     let a = c .before .before .before .before .before .before .before .before .args in (
-      λ xs m l. name-got (settings (a .long)) (a .s .now) xs (a .from) (a .i) _ (c .before .before .before .before .before .before .name-end .ensures) (c .before .before .before .before .before .if1 .left) (c .before .before .before .before .if2 .left) (c .before .before .find .ensures .0 (settings (a .long)) xs l) (c .before .if3 .left) (omega (arith, m, c .if4 .left)),
+      λ xs m l. name-got (a .long) (a .s .now) xs (a .from) (a .i) _ (c .before .before .before .before .before .before .name-end .ensures) (c .before .before .before .before .before .if1 .left) (c .before .before .before .before .if2 .left) (c .before .before .find .ensures .0 (a .long) xs l) (c .before .if3 .left) (omega (arith, m, c .if4 .left)),
       omega (arith, nameEnd-from (a .s .now) (a .i), nameEnd-le (a .s .now) (a .i) (omega arith), c .before .before .before .before .before .before .name-end .ensures, c .if4 .left),
     )
 

@@ -3,13 +3,12 @@ use mathlib.Core.Path.{sym, ap, _∙_}
 use native.Mathlib.Omega.{arith}
 use lib.ListN.{length}
 use borrow.Author.Needs.{needs}
-use Rattle.rules.specs.Settings.{settings}
 use Rattle.rules.specs.Bytes.{letter}
-use Rattle.text.specs.Means.{refusalOf}
-use Rattle.text.specs.Laws.{tested}
+use Rattle.text.specs.Refusal.{refusalOf}
+use Rattle.text.specs.Words.{tested}
 use Rattle.gaps.specs.Unfit.{unfit-is}
-use Rattle.name_tokens.specs.Means.{partsOf}
-use Rattle.attribute_definitions.specs.Laws.{parenthesis-in, value-refused, value-group, value-word, value-none, group-got, group-refused, group-within, word-meets, word-within}
+use Rattle.name_tokens.specs.Tokens.{partsOf}
+use Rattle.attribute_definitions.specs.Ways.{parenthesis-in, value-refused, value-group, value-word, value-none, group-got, group-refused, group-within, word-meets, word-within}
 use Rattle.attribute_definitions.proofs.value_at.Statement.{statement}
 use Rattle.attribute_definitions.proofs.value_at.Tie as tie
 
@@ -33,14 +32,14 @@ fault-of-requires c κs = search needs
 returns : tie.Need-returns
 returns c =
     let a = c .before .before .before .before .before .before .before .before .args in
-    let o = settings (a .long) in
+    let o = a .long in
     let ts = partsOf (a .seen .now) (a .m) in
     (value-refused o (a .s .now) ts (a .i) (sym (c .before .before .before .before .before .before .byte .ensures) ∙ c .before .before .before .before .before .if1 .taken) (group-refused _ _ ts _ _ (c .before .before .before .group-at .ensures .0) (c .before .enum-told .given .1) (c .fault-of .ensures)), tt)
 
 returns-2 : tie.Need-returns-2
 returns-2 c =
     let a = c .before .before .before .before .before .before .before .before .args in
-    let o = settings (a .long) in
+    let o = a .long in
     let ts = partsOf (a .seen .now) (a .m) in (
       value-group o (a .s .now) ts (a .i) (sym (c .before .before .before .before .before .before .byte .ensures) ∙ c .before .before .before .before .before .if1 .taken) _ (a .m) _ _ (omega arith) (group-got _ _ ts _ _ (c .before .before .before .group-at .ensures .0) (c .before .g .given .1)),
       omega (arith, group-within (c .before .before .before .group-at .ensures .1) (c .before .g .given .1)),
@@ -55,7 +54,7 @@ word-at-requires c κs = search needs
 returns-3 : tie.Need-returns-3
 returns-3 c =
     let a = c .before .before .before .before .before .before .args in
-    let o = settings (a .long) in
+    let o = a .long in
     let ts = partsOf (a .seen .now) (a .m) in (
       word-meets o (a .s .now) (a .seen .now) (a .m) (a .i) (c .word-at .result) (value-word o (a .s .now) ts (a .i) (λ e. c .before .before .before .if1 .left (c .before .before .before .before .byte .ensures ∙ e)) (tested letter (c .before .before .before .before .byte .ensures) (c .before .before .is-letter .ensures) (c .before .if2 .taken))) (c .word-at .ensures .0) (c .word-at .ensures .1),
       word-within {end = length (a .s .now)} (a .i) (a .m) (c .word-at .result) (omega arith) (c .word-at .ensures .1),
@@ -67,7 +66,7 @@ unfit-at-requires c κs = search needs
 returns-4 : tie.Need-returns-4
 returns-4 c =
     let a = c .before .before .before .before .before .before .args in
-    let o = settings (a .long) in
+    let o = a .long in
     let ts = partsOf (a .seen .now) (a .m) in
     (value-none o (a .s .now) ts (a .i) (λ e. c .before .before .before .if1 .left (c .before .before .before .before .byte .ensures ∙ e)) (tested letter (c .before .before .before .before .byte .ensures) (c .before .before .is-letter .ensures) (c .before .if2 .left)) ∙ sym (unfit-is (a .s .now) (a .i)) ∙ ap refusalOf (sym (c .unfit-at .ensures)), tt)
 

@@ -1,9 +1,8 @@
 -- `word_at` meets its contract: each way by the tests that led there.
 use native.Mathlib.Omega.{arith}
 use borrow.Author.Needs.{needs}
-use Rattle.rules.specs.Settings.{settings}
-use Rattle.text.specs.Laws.{nameEnd-from, nameEnd-le}
-use Rattle.attribute_definitions.specs.Laws.{word-long, word-cdata, word-number, word-name, word-cut, word-cut-2, word-cut-3, word-wrong}
+use Rattle.text.specs.Words.{nameEnd-from, nameEnd-le}
+use Rattle.attribute_definitions.specs.Ways.{word-long, word-cdata, word-number, word-name, word-cut, word-cut-2, word-cut-3, word-wrong}
 use Rattle.attribute_definitions.proofs.word_at.Statement.{statement}
 use Rattle.attribute_definitions.proofs.word_at.Tie as tie
 
@@ -19,7 +18,7 @@ refusal-requires c κs = search needs
 returns : tie.Need-returns
 returns c =
     let a = c .before .before .before .before .args in
-    rw (c .refusal .ensures) (word-long (settings (a .long)) (a .s .now) (a .i) _ (c .before .before .name-end .ensures) (c .before .if1 .taken), tt)
+    rw (c .refusal .ensures) (word-long (a .long) (a .s .now) (a .i) _ (c .before .before .name-end .ensures) (c .before .if1 .taken), tt)
 
 slice-aggregate-is-word : tie.Need-slice-aggregate-is-word
 slice-aggregate-is-word c = search needs
@@ -30,7 +29,7 @@ is-word-requires c κs = omega (arith, nameEnd-from (c .before .before .before .
 returns-2 : tie.Need-returns-2
 returns-2 c =
     let a = c .before .before .before .before .before .before .args in
-    (word-cdata (settings (a .long)) (a .s .now) (a .i) _ (c .before .before .before .before .name-end .ensures) (c .before .before .before .if1 .left) (c .before .is-word .ensures) (c .if2 .taken), omega (arith, nameEnd-from (a .s .now) (a .i), nameEnd-le (a .s .now) (a .i) (omega arith), c .before .before .before .before .name-end .ensures))
+    (word-cdata (a .long) (a .s .now) (a .i) _ (c .before .before .before .before .name-end .ensures) (c .before .before .before .if1 .left) (c .before .is-word .ensures) (c .if2 .taken), omega (arith, nameEnd-from (a .s .now) (a .i), nameEnd-le (a .s .now) (a .i) (omega arith), c .before .before .before .before .name-end .ensures))
 
 slice-aggregate-is-word-2 : tie.Need-slice-aggregate-is-word-2
 slice-aggregate-is-word-2 c = search needs
@@ -41,7 +40,7 @@ is-word-requires-2 c κs = omega (arith, nameEnd-from (c .before .before .before
 returns-3 : tie.Need-returns-3
 returns-3 c =
     let a = c .before .before .before .before .before .before .before .before .before .args in
-    (word-number (settings (a .long)) (a .s .now) (a .i) _ (c .before .before .before .before .before .before .before .name-end .ensures) (c .before .before .before .before .before .before .if1 .left) (c .before .before .before .before .is-word .ensures) (c .before .before .before .if2 .left) (c .before .is-word2 .ensures) (c .if3 .taken), omega (arith, nameEnd-from (a .s .now) (a .i), nameEnd-le (a .s .now) (a .i) (omega arith), c .before .before .before .before .before .before .before .name-end .ensures))
+    (word-number (a .long) (a .s .now) (a .i) _ (c .before .before .before .before .before .before .before .name-end .ensures) (c .before .before .before .before .before .before .if1 .left) (c .before .before .before .before .is-word .ensures) (c .before .before .before .if2 .left) (c .before .is-word2 .ensures) (c .if3 .taken), omega (arith, nameEnd-from (a .s .now) (a .i), nameEnd-le (a .s .now) (a .i) (omega arith), c .before .before .before .before .before .before .before .name-end .ensures))
 
 slice-aggregate-is-word-3 : tie.Need-slice-aggregate-is-word-3
 slice-aggregate-is-word-3 c = search needs
@@ -52,7 +51,7 @@ is-word-requires-3 c κs = omega (arith, nameEnd-from (c .before .before .before
 returns-4 : tie.Need-returns-4
 returns-4 c =
     let a = c .before .before .before .before .before .before .before .before .before .before .before .before .args in (
-      word-name (settings (a .long)) (a .s .now) (a .i) _ (c .before .before .before .before .before .before .before .before .before .before .name-end .ensures) (c .before .before .before .before .before .before .before .before .before .if1 .left) (c .before .before .before .before .before .before .before .is-word .ensures) (c .before .before .before .before .before .before .if2 .left) (c .before .before .before .before .is-word2 .ensures) (c .before .before .before .if3 .left) (c .before .is-word3 .ensures) (c .if4 .taken),
+      word-name (a .long) (a .s .now) (a .i) _ (c .before .before .before .before .before .before .before .before .before .before .name-end .ensures) (c .before .before .before .before .before .before .before .before .before .if1 .left) (c .before .before .before .before .before .before .before .is-word .ensures) (c .before .before .before .before .before .before .if2 .left) (c .before .before .before .before .is-word2 .ensures) (c .before .before .before .if3 .left) (c .before .is-word3 .ensures) (c .if4 .taken),
       omega (arith, nameEnd-from (a .s .now) (a .i), nameEnd-le (a .s .now) (a .i) (omega arith), c .before .before .before .before .before .before .before .before .before .before .name-end .ensures),
     )
 
@@ -69,7 +68,7 @@ returns-5 : tie.Need-returns-5
 returns-5 c =
     let a = c .before .before .before .before .before .before .before .before .before .before .before .before .before .before .before .before .args in
     rw (c .refusal2 .ensures)
-    (word-cut (settings (a .long)) (a .s .now) (a .i) _ (c .before .before .before .before .before .before .before .before .before .before .before .before .before .before .name-end .ensures) (c .before .before .before .before .before .before .before .before .before .before .before .before .before .if1 .left) (c .before .before .before .before .before .before .before .before .before .before .before .is-word .ensures) (c .before .before .before .before .before .before .before .before .before .before .if2 .left) (c .before .before .before .before .before .before .before .before .is-word2 .ensures) (c .before .before .before .before .before .before .before .if3 .left) (c .before .before .before .before .before .is-word3 .ensures) (c .before .before .before .before .if4 .left) (c .before .before .is-cut .ensures) (c .before .if5 .taken), tt)
+    (word-cut (a .long) (a .s .now) (a .i) _ (c .before .before .before .before .before .before .before .before .before .before .before .before .before .before .name-end .ensures) (c .before .before .before .before .before .before .before .before .before .before .before .before .before .if1 .left) (c .before .before .before .before .before .before .before .before .before .before .before .is-word .ensures) (c .before .before .before .before .before .before .before .before .before .before .if2 .left) (c .before .before .before .before .before .before .before .before .is-word2 .ensures) (c .before .before .before .before .before .before .before .if3 .left) (c .before .before .before .before .before .is-word3 .ensures) (c .before .before .before .before .if4 .left) (c .before .before .is-cut .ensures) (c .before .if5 .taken), tt)
 
 slice-aggregate-is-cut-2 : tie.Need-slice-aggregate-is-cut-2
 slice-aggregate-is-cut-2 c = search needs
@@ -84,7 +83,7 @@ returns-6 : tie.Need-returns-6
 returns-6 c =
     let a = c .before .before .before .before .before .before .before .before .before .before .before .before .before .before .before .before .before .before .before .args in
     rw (c .refusal3 .ensures) (
-      word-cut-2 (settings (a .long)) (a .s .now) (a .i) _ (c .before .before .before .before .before .before .before .before .before .before .before .before .before .before .before .before .before .name-end .ensures) (c .before .before .before .before .before .before .before .before .before .before .before .before .before .before .before .before .if1 .left) (c .before .before .before .before .before .before .before .before .before .before .before .before .before .before .is-word .ensures) (c .before .before .before .before .before .before .before .before .before .before .before .before .before .if2 .left) (c .before .before .before .before .before .before .before .before .before .before .before .is-word2 .ensures) (c .before .before .before .before .before .before .before .before .before .before .if3 .left) (c .before .before .before .before .before .before .before .before .is-word3 .ensures) (c .before .before .before .before .before .before .before .if4 .left) (c .before .before .before .before .before .is-cut .ensures) (c .before .before .before .before .if5 .left)
+      word-cut-2 (a .long) (a .s .now) (a .i) _ (c .before .before .before .before .before .before .before .before .before .before .before .before .before .before .before .before .before .name-end .ensures) (c .before .before .before .before .before .before .before .before .before .before .before .before .before .before .before .before .if1 .left) (c .before .before .before .before .before .before .before .before .before .before .before .before .before .before .is-word .ensures) (c .before .before .before .before .before .before .before .before .before .before .before .before .before .if2 .left) (c .before .before .before .before .before .before .before .before .before .before .before .is-word2 .ensures) (c .before .before .before .before .before .before .before .before .before .before .if3 .left) (c .before .before .before .before .before .before .before .before .is-word3 .ensures) (c .before .before .before .before .before .before .before .if4 .left) (c .before .before .before .before .before .is-cut .ensures) (c .before .before .before .before .if5 .left)
           (c .before .before .is-cut2 .ensures) (c .before .if6 .taken),
       tt,
     )
@@ -102,7 +101,7 @@ returns-7 : tie.Need-returns-7
 returns-7 c =
     let a = c .before .before .before .before .before .before .before .before .before .before .before .before .before .before .before .before .before .before .before .before .before .before .args in
     rw (c .refusal4 .ensures) (
-      word-cut-3 (settings (a .long)) (a .s .now) (a .i) _ (c .before .before .before .before .before .before .before .before .before .before .before .before .before .before .before .before .before .before .before .before .name-end .ensures) (c .before .before .before .before .before .before .before .before .before .before .before .before .before .before .before .before .before .before .before .if1 .left) (c .before .before .before .before .before .before .before .before .before .before .before .before .before .before .before .before .before .is-word .ensures) (c .before .before .before .before .before .before .before .before .before .before .before .before .before .before .before .before .if2 .left) (c .before .before .before .before .before .before .before .before .before .before .before .before .before .before .is-word2 .ensures) (c .before .before .before .before .before .before .before .before .before .before .before .before .before .if3 .left) (c .before .before .before .before .before .before .before .before .before .before .before .is-word3 .ensures) (c .before .before .before .before .before .before .before .before .before .before .if4 .left) (c .before .before .before .before .before .before .before .before .is-cut .ensures) (c .before .before .before .before .before .before .before .if5 .left)
+      word-cut-3 (a .long) (a .s .now) (a .i) _ (c .before .before .before .before .before .before .before .before .before .before .before .before .before .before .before .before .before .before .before .before .name-end .ensures) (c .before .before .before .before .before .before .before .before .before .before .before .before .before .before .before .before .before .before .before .if1 .left) (c .before .before .before .before .before .before .before .before .before .before .before .before .before .before .before .before .before .is-word .ensures) (c .before .before .before .before .before .before .before .before .before .before .before .before .before .before .before .before .if2 .left) (c .before .before .before .before .before .before .before .before .before .before .before .before .before .before .is-word2 .ensures) (c .before .before .before .before .before .before .before .before .before .before .before .before .before .if3 .left) (c .before .before .before .before .before .before .before .before .before .before .before .is-word3 .ensures) (c .before .before .before .before .before .before .before .before .before .before .if4 .left) (c .before .before .before .before .before .before .before .before .is-cut .ensures) (c .before .before .before .before .before .before .before .if5 .left)
           (c .before .before .before .before .before .is-cut2 .ensures) (c .before .before .before .before .if6 .left) (c .before .before .is-cut3 .ensures) (c .before .if7 .taken),
       tt,
     )
@@ -114,7 +113,7 @@ returns-8 : tie.Need-returns-8
 returns-8 c =
     let a = c .before .before .before .before .before .before .before .before .before .before .before .before .before .before .before .before .before .before .before .before .before .before .args in
     rw (c .refusal5 .ensures) (
-      word-wrong (settings (a .long)) (a .s .now) (a .i) _ (c .before .before .before .before .before .before .before .before .before .before .before .before .before .before .before .before .before .before .before .before .name-end .ensures) (c .before .before .before .before .before .before .before .before .before .before .before .before .before .before .before .before .before .before .before .if1 .left) (c .before .before .before .before .before .before .before .before .before .before .before .before .before .before .before .before .before .is-word .ensures) (c .before .before .before .before .before .before .before .before .before .before .before .before .before .before .before .before .if2 .left) (c .before .before .before .before .before .before .before .before .before .before .before .before .before .before .is-word2 .ensures) (c .before .before .before .before .before .before .before .before .before .before .before .before .before .if3 .left) (c .before .before .before .before .before .before .before .before .before .before .before .is-word3 .ensures) (c .before .before .before .before .before .before .before .before .before .before .if4 .left) (c .before .before .before .before .before .before .before .before .is-cut .ensures) (c .before .before .before .before .before .before .before .if5 .left)
+      word-wrong (a .long) (a .s .now) (a .i) _ (c .before .before .before .before .before .before .before .before .before .before .before .before .before .before .before .before .before .before .before .before .name-end .ensures) (c .before .before .before .before .before .before .before .before .before .before .before .before .before .before .before .before .before .before .before .if1 .left) (c .before .before .before .before .before .before .before .before .before .before .before .before .before .before .before .before .before .is-word .ensures) (c .before .before .before .before .before .before .before .before .before .before .before .before .before .before .before .before .if2 .left) (c .before .before .before .before .before .before .before .before .before .before .before .before .before .before .is-word2 .ensures) (c .before .before .before .before .before .before .before .before .before .before .before .before .before .if3 .left) (c .before .before .before .before .before .before .before .before .before .before .before .is-word3 .ensures) (c .before .before .before .before .before .before .before .before .before .before .if4 .left) (c .before .before .before .before .before .before .before .before .is-cut .ensures) (c .before .before .before .before .before .before .before .if5 .left)
           (c .before .before .before .before .before .is-cut2 .ensures) (c .before .before .before .before .if6 .left) (c .before .before .is-cut3 .ensures) (c .before .if7 .left),
       tt,
     )

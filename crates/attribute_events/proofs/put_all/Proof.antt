@@ -2,8 +2,8 @@
 use Prim.Native.Nat.{_-_, _≤_}
 use native.Mathlib.Omega.{arith}
 use borrow.Author.Needs.{needs}
-use Rattle.attribute_events.specs.Means.{PutsFirst}
-use Rattle.attribute_events.specs.Laws.{holds-some, first-none, first-more, first-all}
+use Rattle.attribute_events.specs.PutBefore.{PutsFirst}
+use Rattle.attribute_events.specs.OneByOne.{holds-some, first-none, first-more, first-all}
 use Rattle.attribute_events.proofs.put_all.Statement.{statement}
 use Rattle.attribute_events.proofs.put_all.Tie as tie
 

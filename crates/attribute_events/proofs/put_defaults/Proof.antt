@@ -1,6 +1,6 @@
 -- `put_defaults` meets its contract: nothing is marked, so that all are defaulted.
 use borrow.Author.Needs.{needs}
-use Rattle.attribute_events.specs.Laws.{defaults-none, defaults-unmarked}
+use Rattle.attribute_events.specs.OneByOne.{defaults-none, defaults-unmarked}
 use Rattle.attribute_events.proofs.put_defaults.Statement.{statement}
 use Rattle.attribute_events.proofs.put_defaults.Tie as tie
 

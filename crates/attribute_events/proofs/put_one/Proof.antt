@@ -1,7 +1,7 @@
 -- `put_one` meets its contract: a written value, none, or the default's.
 use native.Mathlib.Omega.{arith}
 use borrow.Author.Needs.{needs}
-use Rattle.attribute_events.specs.Laws.{one-written, one-none, one-defaulted}
+use Rattle.attribute_events.specs.OneByOne.{one-written, one-none, one-defaulted}
 use Rattle.attribute_events.proofs.put_one.Statement.{statement}
 use Rattle.attribute_events.proofs.put_one.Tie as tie
 

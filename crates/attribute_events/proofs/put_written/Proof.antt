@@ -1,7 +1,7 @@
 -- `put_written` meets its contract: where no element has a list there are none.
 use native.Mathlib.Omega.{arith}
 use borrow.Author.Needs.{needs}
-use Rattle.attribute_events.specs.Laws.{written-none}
+use Rattle.attribute_events.specs.OneByOne.{written-none}
 use Rattle.attribute_events.proofs.put_written.Statement.{statement}
 use Rattle.attribute_events.proofs.put_written.Tie as tie
 

@@ -7,7 +7,7 @@ use lib.ListN.{length}
 use borrow.Author.Needs.{needs}
 use Rattle.rules.specs.TypeFile as rules
 use Rattle.element_names.specs.Names.{Recorded}
-use Rattle.attribute_lists.specs.Laws.{Looks, looks-first, looks-none, looks-found, looks-turn}
+use Rattle.attribute_lists.specs.Lookup.{Looks, looks-first, looks-none, looks-found, looks-turn}
 use Rattle.attribute_lists.proofs.element_of.Statement.{statement}
 use Rattle.attribute_lists.proofs.element_of.Tie as tie
 

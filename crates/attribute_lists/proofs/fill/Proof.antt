@@ -4,19 +4,18 @@ use mathlib.Core.Path.{sym, _∙_, ap}
 use native.Mathlib.Omega.{arith}
 use lib.ListN.{length, length-replicate}
 use borrow.Author.Needs.{needs}
-use Rattle.rules.specs.Settings.{settings}
 use Rattle.attribute_lists.specs.Heads.{Fills, fills-none, fills-long, fills-turn, fills-all}
 use Rattle.attribute_lists.proofs.fill.Statement.{statement}
 use Rattle.attribute_lists.proofs.fill.Tie as tie
 
 abbrev Inv-loop : tie.InvT-loop
-Inv-loop long s heads n lists₀ k₀ lists k = (k ≤ n) × Fills (settings long) s heads lists k
+Inv-loop long s heads n lists₀ k₀ lists k = (k ≤ n) × Fills long s heads lists k
 
 abbrev μ-loop : tie.MeasureT-loop
 μ-loop long s heads n lists₀ k₀ lists k = n - k
 
 loop-holds : tie.Need-loop-holds Inv-loop μ-loop
-loop-holds c = (omega arith, fills-none (settings (c .before .before .args .long)) (c .before .before .args .s .now) (c .before .before .args .heads .now) (c .before .before .pre .2))
+loop-holds c = (omega arith, fills-none (c .before .before .args .long) (c .before .before .args .s .now) (c .before .before .args .heads .now) (c .before .before .pre .2))
 
 mul-short : tie.Need-mul-short Inv-loop μ-loop
 mul-short c = omega arith
@@ -28,7 +27,7 @@ short-requires : tie.Need-short-requires Inv-loop μ-loop
 short-requires c κs = search needs
 
 read-again-requires : tie.Need-read-again-requires Inv-loop μ-loop
-read-again-requires c κs = omega (arith, c .before .before .before .before .before .before .before .pre, c .before .before .before .loop-test .taken, fills-long (settings (c .before .before .before .before .before .before .before .args .long)) (c .before .before .before .before .before .before .before .args .s .now) (c .before .before .before .before .before .before .before .args .heads .now) (c .before .before .before .before .loop .inv .1))
+read-again-requires c κs = omega (arith, c .before .before .before .before .before .before .before .pre, c .before .before .before .loop-test .taken, fills-long (c .before .before .before .before .before .before .before .args .long) (c .before .before .before .before .before .before .before .args .s .now) (c .before .before .before .before .before .before .before .args .heads .now) (c .before .before .before .before .loop .inv .1))
 
 add-k : tie.Need-add-k Inv-loop μ-loop
 add-k c = omega arith
@@ -39,13 +38,13 @@ loop-less c = omega arith
 loop-again : tie.Need-loop-again Inv-loop μ-loop
 loop-again c =
     let a = c .before .before .before .before .before .before .before .before .before .before .args in
-    (omega arith, fills-turn (settings (a .long)) (a .s .now) (a .heads .now) (omega (arith, c .before .before .before .before .before .before .before .before .before .before .pre, c .before .before .before .before .before .before .loop-test .taken)) (c .before .before .before .before .before .before .before .loop .inv .1) (c .before .before .before .before .short .ensures .0) (c .before .before .read-again .ensures))
+    (omega arith, fills-turn (a .long) (a .s .now) (a .heads .now) (omega (arith, c .before .before .before .before .before .before .before .before .before .before .pre, c .before .before .before .before .before .before .loop-test .taken)) (c .before .before .before .before .before .before .before .loop .inv .1) (c .before .before .before .before .short .ensures .0) (c .before .before .read-again .ensures))
 
 same-length : tie.Need-same-length Inv-loop μ-loop
-same-length c = fills-long (settings (c .before .before .before .before .args .long)) (c .before .before .before .before .args .s .now) (c .before .before .before .before .args .heads .now) (c .before .loop .inv .1) ∙ sym (ap length (c .before .before .before .before .pre .2) ∙ length-replicate {A = ℕ} 12864 0)
+same-length c = fills-long (c .before .before .before .before .args .long) (c .before .before .before .before .args .s .now) (c .before .before .before .before .args .heads .now) (c .before .loop .inv .1) ∙ sym (ap length (c .before .before .before .before .pre .2) ∙ length-replicate {A = ℕ} 12864 0)
 
 returns : tie.Need-returns Inv-loop μ-loop
-returns c = fills-all (settings (c .before .before .before .before .args .long)) (c .before .before .before .before .args .s .now) (c .before .before .before .before .args .heads .now) (c .before .loop .inv .1) (omega arith)
+returns c = fills-all (c .before .before .before .before .args .long) (c .before .before .before .before .args .s .now) (c .before .before .before .before .args .heads .now) (c .before .loop .inv .1) (omega arith)
 
 pub fill-spec : {M : Type 1} → statement M
 fill-spec =

@@ -1,8 +1,7 @@
 -- `list_at` meets its contract: each way by what was read so far.
 use native.Mathlib.Omega.{arith}
 use borrow.Author.Needs.{needs}
-use Rattle.rules.specs.Settings.{settings}
-use Rattle.text.specs.Laws.{gap-range, reached-got, reached-refused}
+use Rattle.text.specs.Words.{gap-range, reached-got, reached-refused}
 use Rattle.attribute_lists.specs.Heads.{list-gap, list-unnamed, list-undefined, list-headed, listed-is, listed-refused, listed-within, defined-got, defined-refused, defined-within}
 use Rattle.attribute_lists.proofs.list_at.Statement.{statement}
 use Rattle.attribute_lists.proofs.list_at.Tie as tie
@@ -22,7 +21,7 @@ fault-of-requires c κs = search needs
 returns : tie.Need-returns
 returns c =
     let a = c .before .before .before .before .before .args in
-    (λ es ls n r h. list-gap (settings (a .long)) (a .s .now) (a .at) es ls (reached-refused (c .before .before .before .gap-end .ensures) (c .before .enum-told .given .1) (c .fault-of .ensures)), tt)
+    (λ es ls n r h. list-gap (a .long) (a .s .now) (a .at) es ls (reached-refused (c .before .before .before .gap-end .ensures) (c .before .enum-told .given .1) (c .fault-of .ensures)), tt)
 
 listed-at-requires : tie.Need-listed-at-requires
 listed-at-requires c κs = omega (arith, c .before .before .before .before .before .before .pre, gap-range (c .before .before .before .before .before .before .args .s .now) (c .before .before .before .before .before .before .args .at) _ (c .before .before .before .before .before .before .pre .1) (reached-got (c .before .before .before .before .gap-end .ensures) (c .before .before .g .given .1)))
@@ -40,7 +39,7 @@ returns-2 : tie.Need-returns-2
 returns-2 c =
     let a = c .before .before .before .before .before .before .before .before .before .before .args in (
       λ es ls n r h.
-          list-unnamed (settings (a .long)) (a .s .now) (a .at) es ls (reached-got (c .before .before .before .before .before .before .before .before .gap-end .ensures) (c .before .before .before .before .before .before .g .given .1))
+          list-unnamed (a .long) (a .s .now) (a .at) es ls (reached-got (c .before .before .before .before .before .before .before .before .gap-end .ensures) (c .before .before .before .before .before .before .g .given .1))
           (listed-refused (c .before .before .before .listed-at .ensures .0 es ls n r h) (c .before .enum-told2 .given .1) (c .fault-of-listed .ensures)),
       tt,
     )
@@ -62,8 +61,8 @@ returns-3 : tie.Need-returns-3
 returns-3 c =
     let a = c .before .before .before .before .before .before .before .before .before .before .before .before .before .before .before .args in (
       λ es ls n r h.
-          list-undefined (settings (a .long)) (a .s .now) (a .at) es ls (reached-got (c .before .before .before .before .before .before .before .before .before .before .before .before .before .gap-end .ensures) (c .before .before .before .before .before .before .before .before .before .before .before .g .given .1))
-          (listed-is (c .before .before .before .before .before .before .before .before .listed-at .ensures .0 es ls n r h) (c .before .before .before .before .before .before .l .given .1)) (defined-refused (settings (a .long)) (a .s .now) _ _ _ (c .before .before .before .definitions-at .ensures .0) (c .before .enum-told3 .given .1) (c .fault-of2 .ensures)),
+          list-undefined (a .long) (a .s .now) (a .at) es ls (reached-got (c .before .before .before .before .before .before .before .before .before .before .before .before .before .gap-end .ensures) (c .before .before .before .before .before .before .before .before .before .before .before .g .given .1))
+          (listed-is (c .before .before .before .before .before .before .before .before .listed-at .ensures .0 es ls n r h) (c .before .before .before .before .before .before .l .given .1)) (defined-refused (a .long) (a .s .now) _ _ _ (c .before .before .before .definitions-at .ensures .0) (c .before .enum-told3 .given .1) (c .fault-of2 .ensures)),
       tt,
     )
 
@@ -85,7 +84,7 @@ element-write-heads c = omega (arith, c .before .before .before .before .before 
 returns-4 : tie.Need-returns-4
 returns-4 c =
     let a = c .before .before .before .before .before .before .before .before .before .before .before .before .before .before .before .before .before .before .args in
-    let o = settings (a .long) in
+    let o = a .long in
     let g = reached-got (c .before .before .before .before .before .before .before .before .before .before .before .before .before .before .before .before .gap-end .ensures) (c .before .before .before .before .before .before .before .before .before .before .before .before .before .before .g .given .1) in
     let range = gap-range (a .s .now) (a .at) _ (c .before .before .before .before .before .before .before .before .before .before .before .before .before .before .before .before .before .before .pre .1) g in
     let w = listed-within (a .heads .now) (c .before .before .before .before .before .before .before .before .before .before .before .listed-at .ensures .1) (c .before .before .before .before .before .before .before .before .before .l .given .1) in (

@@ -4,12 +4,11 @@ use mathlib.Core.Bool.{not}
 use native.Mathlib.Omega.{arith}
 use borrow.Author.Needs.{needs}
 use borrow.Author.Tests.{eq-eqb, ne-eqb, not-true, not-false}
-use Rattle.rules.specs.Settings.{settings}
 use Rattle.rules.specs.Bytes.{letter}
-use Rattle.text.specs.Means.{refusalOf}
-use Rattle.text.specs.Laws.{tested, nameEnd-from, nameEnd-le}
+use Rattle.text.specs.Refusal.{refusalOf}
+use Rattle.text.specs.Words.{tested, nameEnd-from, nameEnd-le}
 use Rattle.gaps.specs.Unfit.{unfit-is}
-use Rattle.attribute_lists.specs.Laws.{listed-head, listed-group, listed-unfit, listed-long, listed-undeclared, listed-twice, listed-got}
+use Rattle.attribute_lists.specs.Lookup.{listed-head, listed-group, listed-unfit, listed-long, listed-undeclared, listed-twice, listed-got}
 use Rattle.attribute_lists.proofs.listed_at.Statement.{statement}
 use Rattle.attribute_lists.proofs.listed_at.Tie as tie
 
@@ -22,7 +21,7 @@ is-letter-requires c κs = search needs
 returns : tie.Need-returns
 returns c =
     let a = c .before .before .before .before .before .args in
-    (λ es ls n r h. listed-group (settings (a .long)) (a .s .now) es ls (a .i) (tested letter (c .before .before .before .byte .ensures) (c .before .before .is-letter .ensures) (not-true _ (c .before .if1 .taken))) (sym (c .before .before .before .byte .ensures) ∙ c .if2 .taken), tt)
+    (λ es ls n r h. listed-group (a .long) (a .s .now) es ls (a .i) (tested letter (c .before .before .before .byte .ensures) (c .before .before .is-letter .ensures) (not-true _ (c .before .if1 .taken))) (sym (c .before .before .before .byte .ensures) ∙ c .if2 .taken), tt)
 
 unfit-at-requires : tie.Need-unfit-at-requires
 unfit-at-requires c κs = search needs
@@ -32,7 +31,7 @@ returns-2 c =
     let a = c .before .before .before .before .before .before .args in (
       λ es ls n r h.
           ap refusalOf (c .unfit-at .ensures) ∙ unfit-is (a .s .now) (a .i)
-          ∙ sym (listed-unfit (settings (a .long)) (a .s .now) es ls (a .i) (tested letter (c .before .before .before .before .byte .ensures) (c .before .before .before .is-letter .ensures) (not-true _ (c .before .before .if1 .taken))) (λ e. c .before .if2 .left (c .before .before .before .before .byte .ensures ∙ e))),
+          ∙ sym (listed-unfit (a .long) (a .s .now) es ls (a .i) (tested letter (c .before .before .before .before .byte .ensures) (c .before .before .before .is-letter .ensures) (not-true _ (c .before .before .if1 .taken))) (λ e. c .before .if2 .left (c .before .before .before .before .byte .ensures ∙ e))),
       tt,
     )
 
@@ -45,7 +44,7 @@ sub-if3 c = omega (arith, nameEnd-from (c .before .before .before .before .befor
 returns-3 : tie.Need-returns-3
 returns-3 c =
     let a = c .before .before .before .before .before .before .args in
-    (λ es ls n r h. listed-long (settings (a .long)) (a .s .now) es ls (a .i) (tested letter (c .before .before .before .before .byte .ensures) (c .before .before .before .is-letter .ensures) (not-false _ (c .before .before .if1 .left))) _ (c .before .name-end .ensures) (c .if3 .taken), tt)
+    (λ es ls n r h. listed-long (a .long) (a .s .now) es ls (a .i) (tested letter (c .before .before .before .before .byte .ensures) (c .before .before .before .is-letter .ensures) (not-false _ (c .before .before .if1 .left))) _ (c .before .name-end .ensures) (c .if3 .taken), tt)
 
 sub-element-of : tie.Need-sub-element-of
 sub-element-of c = omega (arith, nameEnd-from (c .before .before .before .before .before .before .args .s .now) (c .before .before .before .before .before .before .args .i), c .before .name-end .ensures)
@@ -57,7 +56,7 @@ returns-4 : tie.Need-returns-4
 returns-4 c =
     let a = c .before .before .before .before .before .before .before .before .args in (
       λ es ls n r h.
-          listed-undeclared (settings (a .long)) (a .s .now) es ls (a .i) (tested letter (c .before .before .before .before .before .before .byte .ensures) (c .before .before .before .before .before .is-letter .ensures) (not-false _ (c .before .before .before .before .if1 .left))) _ (c .before .before .before .name-end .ensures) (c .before .before .if3 .left) (c .before .element-of .ensures .0 es n r) (c .if4 .taken),
+          listed-undeclared (a .long) (a .s .now) es ls (a .i) (tested letter (c .before .before .before .before .before .before .byte .ensures) (c .before .before .before .before .before .is-letter .ensures) (not-false _ (c .before .before .before .before .if1 .left))) _ (c .before .before .before .name-end .ensures) (c .before .before .if3 .left) (c .before .element-of .ensures .0 es n r) (c .if4 .taken),
       tt,
     )
 
@@ -74,8 +73,8 @@ returns-5 : tie.Need-returns-5
 returns-5 c =
     let a = c .before .before .before .before .before .before .before .before .before .before .args in (
       λ es ls n r h.
-          listed-twice (settings (a .long)) (a .s .now) es ls (a .i) (tested letter (c .before .before .before .before .before .before .before .before .byte .ensures) (c .before .before .before .before .before .before .before .is-letter .ensures) (not-false _ (c .before .before .before .before .before .before .if1 .left))) _ (c .before .before .before .before .before .name-end .ensures) (c .before .before .before .before .if3 .left) (c .before .before .before .element-of .ensures .0 es n r) (c .before .before .if4 .left)
-          (listed-head (settings (a .long)) (a .s .now) (a .heads .now) ls _ h (omega (arith, c .before .before .if4 .left)) (omega (arith, c .before .before .before .element-of .ensures .1, c .before .before .before .before .before .before .before .before .before .before .pre))) (ap not (ne-eqb _ _ (c .if5 .taken))),
+          listed-twice (a .long) (a .s .now) es ls (a .i) (tested letter (c .before .before .before .before .before .before .before .before .byte .ensures) (c .before .before .before .before .before .before .before .is-letter .ensures) (not-false _ (c .before .before .before .before .before .before .if1 .left))) _ (c .before .before .before .before .before .name-end .ensures) (c .before .before .before .before .if3 .left) (c .before .before .before .element-of .ensures .0 es n r) (c .before .before .if4 .left)
+          (listed-head (a .long) (a .s .now) (a .heads .now) ls _ h (omega (arith, c .before .before .if4 .left)) (omega (arith, c .before .before .before .element-of .ensures .1, c .before .before .before .before .before .before .before .before .before .before .pre))) (ap not (ne-eqb _ _ (c .if5 .taken))),
       tt,
     )
 
@@ -83,8 +82,8 @@ returns-6 : tie.Need-returns-6
 returns-6 c =
     let a = c .before .before .before .before .before .before .before .before .before .before .args in (
       λ es ls n r h.
-          listed-got (settings (a .long)) (a .s .now) es ls (a .i) (tested letter (c .before .before .before .before .before .before .before .before .byte .ensures) (c .before .before .before .before .before .before .before .is-letter .ensures) (not-false _ (c .before .before .before .before .before .before .if1 .left))) _ (c .before .before .before .before .before .name-end .ensures) (c .before .before .before .before .if3 .left) (c .before .before .before .element-of .ensures .0 es n r) (c .before .before .if4 .left)
-          (listed-head (settings (a .long)) (a .s .now) (a .heads .now) ls _ h (omega (arith, c .before .before .if4 .left)) (omega (arith, c .before .before .before .element-of .ensures .1, c .before .before .before .before .before .before .before .before .before .before .pre))) (ap not (eq-eqb _ _ (c .if5 .left))),
+          listed-got (a .long) (a .s .now) es ls (a .i) (tested letter (c .before .before .before .before .before .before .before .before .byte .ensures) (c .before .before .before .before .before .before .before .is-letter .ensures) (not-false _ (c .before .before .before .before .before .before .if1 .left))) _ (c .before .before .before .before .before .name-end .ensures) (c .before .before .before .before .if3 .left) (c .before .before .before .element-of .ensures .0 es n r) (c .before .before .if4 .left)
+          (listed-head (a .long) (a .s .now) (a .heads .now) ls _ h (omega (arith, c .before .before .if4 .left)) (omega (arith, c .before .before .before .element-of .ensures .1, c .before .before .before .before .before .before .before .before .before .before .pre))) (ap not (eq-eqb _ _ (c .if5 .left))),
       omega (arith, c .if5 .left, c .before .before .before .before .before .before .before .before .before .before .pre, c .before .before .if4 .left, c .before .before .before .element-of .ensures .1, nameEnd-from (a .s .now) (a .i), nameEnd-le (a .s .now) (a .i) (c .before .before .before .before .before .before .before .before .before .before .pre .0), c .before .before .before .before .before .name-end .ensures),
     )
 

@@ -1,7 +1,6 @@
 -- `read_again` meets its contract: each way by what was read again.
 use native.Mathlib.Omega.{arith}
 use borrow.Author.Needs.{needs}
-use Rattle.rules.specs.Settings.{settings}
 use Rattle.attribute_lists.specs.Heads.{again-outside, again-refused, again-put, defined-got, defined-not}
 use Rattle.attribute_lists.proofs.read_again.Statement.{statement}
 use Rattle.attribute_lists.proofs.read_again.Tie as tie
@@ -9,12 +8,12 @@ use Rattle.attribute_lists.proofs.read_again.Tie as tie
 returns : tie.Need-returns
 returns c =
     let a = c .before .before .before .args in
-    again-outside (settings (a .long)) (a .s .now) (a .from) (a .k) (a .lists .now) (λ x y. omega (arith, x, c .if1 .taken))
+    again-outside (a .long) (a .s .now) (a .from) (a .k) (a .lists .now) (λ x y. omega (arith, x, c .if1 .taken))
 
 returns-2 : tie.Need-returns-2
 returns-2 c =
     let a = c .before .before .before .before .args in
-    again-outside (settings (a .long)) (a .s .now) (a .from) (a .k) (a .lists .now) (λ x y. omega (arith, y, c .if2 .taken))
+    again-outside (a .long) (a .s .now) (a .from) (a .k) (a .lists .now) (λ x y. omega (arith, y, c .if2 .taken))
 
 definitions-at-requires : tie.Need-definitions-at-requires
 definitions-at-requires c κs = search needs
@@ -28,7 +27,7 @@ enum-told-2 c = search needs
 returns-3 : tie.Need-returns-3
 returns-3 c =
     let a = c .before .before .before .before .before .before .before .before .args in
-    again-refused (settings (a .long)) (a .s .now) (a .from) (a .k) (a .lists .now) (defined-not (settings (a .long)) (a .s .now) _ _ _ (c .before .before .definitions-at .ensures .0) (c .enum-told2 .given .1))
+    again-refused (a .long) (a .s .now) (a .from) (a .k) (a .lists .now) (defined-not (a .long) (a .s .now) _ _ _ (c .before .before .definitions-at .ensures .0) (c .enum-told2 .given .1))
 
 put-list-requires : tie.Need-put-list-requires
 put-list-requires c κs = search needs
@@ -39,7 +38,7 @@ same-length c = search needs
 returns-4 : tie.Need-returns-4
 returns-4 c =
     let a = c .before .before .before .before .before .before .before .before .before .before .before .before .before .args in
-    again-put (settings (a .long)) (a .s .now) (a .from) (a .k) (a .lists .now) _ _ _ (omega (arith, c .before .before .before .before .before .before .before .before .before .before .if1 .left)) (defined-got (settings (a .long)) (a .s .now) _ _ _ (c .before .before .before .before .before .before .before .definitions-at .ensures .0) (c .before .before .before .before .before .enum-told .given .1)) (c .before .before .put-list .ensures)
+    again-put (a .long) (a .s .now) (a .from) (a .k) (a .lists .now) _ _ _ (omega (arith, c .before .before .before .before .before .before .before .before .before .before .if1 .left)) (defined-got (a .long) (a .s .now) _ _ _ (c .before .before .before .before .before .before .before .definitions-at .ensures .0) (c .before .before .before .before .before .enum-told .given .1)) (c .before .before .put-list .ensures)
 
 pub read-again-spec : {M : Type 1} → statement M
 read-again-spec =

@@ -1,7 +1,6 @@
 -- `check` meets its contract.
 use native.Mathlib.Omega.{arith}
 use borrow.Author.Needs.{needs}
-use Rattle.rules.specs.Settings.{settings}
 use Rattle.attribute_marks.specs.Answers.{all-given, attributed-refused, attributed-missing, attributed-passed}
 use Rattle.attribute_marks.proofs.check.Statement.{statement}
 use Rattle.attribute_marks.proofs.check.Tie as tie
@@ -22,7 +21,7 @@ returns c =
     let counted = cleared .before .before in
     let a = counted .before .before .before .before .args in
     λ xs ws l u k.
-    let e = counted .count .ensures .0 (settings (a .long)) (a .s .now) xs (omega arith) l in
+    let e = counted .count .ensures .0 (a .long) (a .s .now) xs (omega arith) l in
     let given = all-given _ (a .s .now) xs (a .d .now) ws _ (a .lists .now) _ l (a .given .now) _ k _ (made .marked .ensures xs l u (λ j h. cleared .clear .ensures j (omega (arith, h, e)))) in
     attributed-refused _ (a .s .now) xs (a .d .now) ws _ (a .at) _ given (c .if1 .taken)
 
@@ -37,9 +36,9 @@ returns-2 c =
     let counted = cleared .before .before in
     let a = counted .before .before .before .before .args in
     λ xs ws l u k.
-    let e = counted .count .ensures .0 (settings (a .long)) (a .s .now) xs (omega arith) l in
+    let e = counted .count .ensures .0 (a .long) (a .s .now) xs (omega arith) l in
     let given = all-given _ (a .s .now) xs (a .d .now) ws _ (a .lists .now) _ l (a .given .now) _ k _ (made .marked .ensures xs l u (λ j h. cleared .clear .ensures j (omega (arith, h, e)))) in
-    attributed-missing _ (a .s .now) xs (a .d .now) ws _ (a .at) _ given (tested .if1 .left) _ (λ m. c .before .is-missing .ensures (settings (a .long)) (a .s .now) (a .d .now) xs ws l e m (a .at)) (c .if2 .taken)
+    attributed-missing _ (a .s .now) xs (a .d .now) ws _ (a .at) _ given (tested .if1 .left) _ (λ m. c .before .is-missing .ensures (a .long) (a .s .now) (a .d .now) xs ws l e m (a .at)) (c .if2 .taken)
 
 returns-3 : tie.Need-returns-3
 returns-3 c =
@@ -49,9 +48,9 @@ returns-3 c =
     let counted = cleared .before .before in
     let a = counted .before .before .before .before .args in
     λ xs ws l u k.
-    let e = counted .count .ensures .0 (settings (a .long)) (a .s .now) xs (omega arith) l in
+    let e = counted .count .ensures .0 (a .long) (a .s .now) xs (omega arith) l in
     let given = all-given _ (a .s .now) xs (a .d .now) ws _ (a .lists .now) _ l (a .given .now) _ k _ (made .marked .ensures xs l u (λ j h. cleared .clear .ensures j (omega (arith, h, e)))) in
-    attributed-passed _ (a .s .now) xs (a .d .now) ws _ (a .at) _ given (tested .if1 .left) _ (λ m. c .before .is-missing .ensures (settings (a .long)) (a .s .now) (a .d .now) xs ws l e m (a .at)) (c .if2 .left)
+    attributed-passed _ (a .s .now) xs (a .d .now) ws _ (a .at) _ given (tested .if1 .left) _ (λ m. c .before .is-missing .ensures (a .long) (a .s .now) (a .d .now) xs ws l e m (a .at)) (c .if2 .left)
 
 pub check-spec : {M : Type 1} → statement M
 check-spec =

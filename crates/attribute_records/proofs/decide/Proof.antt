@@ -2,8 +2,8 @@
 use native.Mathlib.Omega.{arith}
 use mathlib.Core.Path.{subst}
 use mathlib.Core.Logic.{⊎-elim}
-use Rattle.inputs.specs.Means.{settingsOf}
-use Rattle.type_judge.specs.Means.{Decides}
+use Rattle.inputs.specs.Checks.{settingsOf}
+use Rattle.type_judge.specs.Decides.{Decides}
 use Rattle.type_judge.specs.declared.Verdict.the-variants.{Accepted}
 use Rattle.attribute_records.specs.Decided.{decided-refused, decided-listed}
 use borrow.Author.Needs.{needs}

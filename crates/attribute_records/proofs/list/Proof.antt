@@ -2,7 +2,7 @@
 use native.Mathlib.Omega.{arith}
 use mathlib.Core.Logic.{⊎-elim}
 use Rattle.rules.specs.Lent.{numbers}
-use Rattle.inputs.specs.Means.{settingsOf}
+use Rattle.inputs.specs.Checks.{settingsOf}
 use Rattle.attribute_records.specs.Decided.{listed-accepts, listed-refuses, zeroed-kept}
 use borrow.Author.Needs.{needs}
 use Rattle.attribute_records.proofs.list.Statement.{statement}

@@ -1,6 +1,5 @@
 -- `listed` meets its contract: the table is filled, the records are put, and the room is looked at.
 use native.Mathlib.Omega.{arith}
-use Rattle.rules.specs.Settings.{settings}
 use Rattle.attribute_records.specs.Decided.{listed-full, listed-put}
 use borrow.Author.Needs.{needs}
 use Rattle.attribute_records.proofs.listed.Statement.{statement}
@@ -30,7 +29,7 @@ same-length-2 c = search needs
 returns : tie.Need-returns
 returns c =
     let a = c .before .before .before .before .before .before .before .before .before .before .before .before .before .before .before .args in
-    listed-full (settings (a .long)) (a .s .now) (a .heads .now) _ (a .n) (c .before .before .before .before .before .before .before .before .before .before .fill .ensures) _ _ _ _ (c .before .before .before .before .before .put-lists .ensures .0) (a .room) (omega arith)
+    listed-full (a .long) (a .s .now) (a .heads .now) _ (a .n) (c .before .before .before .before .before .before .before .before .before .before .fill .ensures) _ _ _ _ (c .before .before .before .before .before .put-lists .ensures .0) (a .room) (omega arith)
 
 same-length-3 : tie.Need-same-length-3
 same-length-3 c = search needs
@@ -41,7 +40,7 @@ same-length-4 c = search needs
 returns-2 : tie.Need-returns-2
 returns-2 c =
     let a = c .before .before .before .before .before .before .before .before .before .before .before .before .before .before .before .args in
-    listed-put (settings (a .long)) (a .s .now) (a .heads .now) _ (a .n) (c .before .before .before .before .before .before .before .before .before .before .fill .ensures) _ _ _ _ (c .before .before .before .before .before .put-lists .ensures .0) (a .room) (omega arith)
+    listed-put (a .long) (a .s .now) (a .heads .now) _ (a .n) (c .before .before .before .before .before .before .before .before .before .before .fill .ensures) _ _ _ _ (c .before .before .before .before .before .put-lists .ensures .0) (a .room) (omega arith)
 
 pub listed-spec : {M : Type 1} → statement M
 listed-spec =

@@ -1,6 +1,6 @@
 -- `note_bytes` puts the numbers of a record as bytes where they fit.
 use native.Mathlib.Omega.{arith}
-use Rattle.attribute_records.specs.Laws.{part-bytes, bytes-outside}
+use Rattle.attribute_records.specs.ListByList.{part-bytes, bytes-outside}
 use borrow.Author.Needs.{needs}
 use Rattle.attribute_records.proofs.note_bytes.Statement.{statement}
 use Rattle.attribute_records.proofs.note_bytes.Tie as tie

@@ -1,6 +1,6 @@
 -- `note_numbers` puts the numbers of a record where they fit.
 use native.Mathlib.Omega.{arith}
-use Rattle.attribute_records.specs.Laws.{part-numbers, numbers-outside}
+use Rattle.attribute_records.specs.ListByList.{part-numbers, numbers-outside}
 use borrow.Author.Needs.{needs}
 use Rattle.attribute_records.proofs.note_numbers.Statement.{statement}
 use Rattle.attribute_records.proofs.note_numbers.Tie as tie

@@ -1,6 +1,6 @@
 -- `put_list` puts the records of one list. The invariant: the first of them stand in the buffers.
 use Prim.Native.Nat.{_-_, _≤_}
-use Rattle.attribute_records.specs.Laws.{ListSoFar, list-first, list-turn, list-end}
+use Rattle.attribute_records.specs.ListByList.{ListSoFar, list-first, list-turn, list-end}
 use native.Mathlib.Omega.{arith}
 use Rattle.attribute_records.proofs.put_list.Statement.{statement}
 use Rattle.attribute_records.proofs.put_list.Tie as tie

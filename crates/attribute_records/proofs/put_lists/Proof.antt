@@ -1,7 +1,7 @@
 -- `put_lists` puts the records of all lists. The invariant: those of the first elements stand in the buffers.
 use Prim.Native.Nat.{_-_, _*_, _≤_}
 use native.Mathlib.Omega.{arith}
-use Rattle.attribute_records.specs.Laws.{ListsSoFar, lists-first, lists-turn, lists-end}
+use Rattle.attribute_records.specs.ListByList.{ListsSoFar, lists-first, lists-turn, lists-end}
 use Rattle.attribute_records.proofs.put_lists.Statement.{statement}
 use Rattle.attribute_records.proofs.put_lists.Tie as tie
 

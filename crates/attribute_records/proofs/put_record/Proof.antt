@@ -1,5 +1,5 @@
 -- `put_record` puts the nine numbers to each buffer.
-use Rattle.attribute_records.specs.Laws.{puts-record}
+use Rattle.attribute_records.specs.ListByList.{puts-record}
 use borrow.Author.Needs.{needs}
 use Rattle.attribute_records.proofs.put_record.Statement.{statement}
 use Rattle.attribute_records.proofs.put_record.Tie as tie

@@ -1,5 +1,5 @@
 -- `row_numbers` meets its contract, number by number.
-use Rattle.attribute_records.specs.Laws.{nine-are}
+use Rattle.attribute_records.specs.ListByList.{nine-are}
 use borrow.Author.Needs.{needs}
 use Rattle.attribute_records.proofs.row_numbers.Statement.{statement}
 use Rattle.attribute_records.proofs.row_numbers.Tie as tie

@@ -8,7 +8,7 @@ use lib.ListN.{length, drop}
 use lib.Dec.{eqb}
 use Rattle.rules.specs.Bytes.{span}
 use Rattle.rules.specs.Attributes.{fits}
-use Rattle.attribute_values.specs.Laws.{every-stop, every-all, every-turn}
+use Rattle.attribute_values.specs.Tests.{every-stop, every-all, every-turn}
 use Rattle.attribute_values.proofs.is_cdata.Statement.{statement}
 use Rattle.attribute_values.proofs.is_cdata.Tie as tie
 

@@ -6,17 +6,16 @@ use native.Mathlib.Omega.{arith}
 use borrow.Author.Needs.{needs}
 use borrow.Author.Tests.{not-true, not-false}
 use lib.ListN.{length}
-use Rattle.rules.specs.Settings.{Settings}
 use Rattle.rules.specs.Bytes.{separatorsEnd}
 use Rattle.rules.specs.Attributes.{Part}
-use Rattle.text.specs.Laws.{nameEnd-from, nameEnd-le, separatorsEnd-from, separatorsEnd-le}
-use Rattle.attribute_values.specs.Means.{GroupAt}
+use Rattle.text.specs.Words.{nameEnd-from, nameEnd-le, separatorsEnd-from, separatorsEnd-le}
+use Rattle.attribute_values.specs.Parts.{GroupAt}
 use Rattle.attribute_values.specs.Groups.{Rests, rests-first, group-has, group-lacks, group-on, group-inside, connector-in}
 use Rattle.attribute_values.proofs.is_in_group.Statement.{statement}
 use Rattle.attribute_values.proofs.is_in_group.Tie as tie
 
 abbrev Inv-loop : tie.InvT-loop
-Inv-loop s at v i₀ i = (i ≤ length s) × ((c : Settings) (ps : List Part) → GroupAt c s at ps → Rests s v ps i)
+Inv-loop s at v i₀ i = (i ≤ length s) × ((long : ℕ) (ps : List Part) → GroupAt long s at ps → Rests s v ps i)
 
 abbrev μ-loop : tie.MeasureT-loop
 μ-loop s at v i₀ i = length s - i

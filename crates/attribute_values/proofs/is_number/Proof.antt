@@ -6,8 +6,7 @@ use borrow.Author.Needs.{needs}
 use borrow.Author.Tests.{not-true, not-false}
 use lib.ListN.{length, drop}
 use Rattle.rules.specs.Bytes.{digit, span}
-use Rattle.rules.specs.Settings.{settings}
-use Rattle.attribute_values.specs.Laws.{every-stop, every-all, every-turn, number-empty, number-long, number-is}
+use Rattle.attribute_values.specs.Tests.{every-stop, every-all, every-turn, number-empty, number-long, number-is}
 use Rattle.attribute_values.proofs.is_number.Statement.{statement}
 use Rattle.attribute_values.proofs.is_number.Tie as tie
 
@@ -18,10 +17,10 @@ abbrev μ-loop : tie.MeasureT-loop
 μ-loop long v i₀ i = length v - i
 
 returns : tie.Need-returns Inv-loop μ-loop
-returns c = λ s. sym (number-empty (settings _) s _ (c .if1 .taken))
+returns c = λ s. sym (number-empty _ s _ (c .if1 .taken))
 
 returns-2 : tie.Need-returns-2 Inv-loop μ-loop
-returns-2 c = λ s. sym (number-long (settings _) s _ (omega arith) (c .if2 .taken))
+returns-2 c = λ s. sym (number-long _ s _ (omega arith) (c .if2 .taken))
 
 loop-holds : tie.Need-loop-holds Inv-loop μ-loop
 loop-holds c = (omega arith, omega arith, omega arith, omega arith)
@@ -35,7 +34,7 @@ is-digit-requires c κs = search needs
 returns-3 : tie.Need-returns-3 Inv-loop μ-loop
 returns-3 c =
     let z = c .before .before .before .before .loop in
-    λ s. sym (number-is (settings _) s _ (z .inv .0) (z .inv .1) ∙ every-stop digit _ _ (z .inv .3) (omega arith) (sym (c .before .is-digit .ensures) ∙ not-true _ (c .if3 .taken)))
+    λ s. sym (number-is _ s _ (z .inv .0) (z .inv .1) ∙ every-stop digit _ _ (z .inv .3) (omega arith) (sym (c .before .is-digit .ensures) ∙ not-true _ (c .if3 .taken)))
 
 add-i : tie.Need-add-i Inv-loop μ-loop
 add-i c = omega arith
@@ -51,7 +50,7 @@ loop-again c =
 returns-4 : tie.Need-returns-4 Inv-loop μ-loop
 returns-4 c =
     let z = c .before .loop in
-    λ s. sym (number-is (settings _) s _ (z .inv .0) (z .inv .1) ∙ every-all digit _ _ (z .inv .3) (c .loop-test .left) (z .inv .2))
+    λ s. sym (number-is _ s _ (z .inv .0) (z .inv .1) ∙ every-all digit _ _ (z .inv .3) (c .loop-test .left) (z .inv .2))
 
 pub is-number-spec : {M : Type 1} → statement M
 is-number-spec =

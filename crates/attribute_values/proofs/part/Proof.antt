@@ -2,7 +2,7 @@
 use mathlib.Core.Path.{sym}
 use native.Mathlib.Omega.{arith}
 use borrow.Author.Needs.{needs}
-use Rattle.attribute_values.specs.Laws.{part-out, part-to}
+use Rattle.attribute_values.specs.Tests.{part-out, part-to}
 use Rattle.attribute_values.proofs.part.Statement.{statement}
 use Rattle.attribute_values.proofs.part.Tie as tie
 

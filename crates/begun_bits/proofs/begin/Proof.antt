@@ -2,7 +2,7 @@
 use mathlib.Core.Path.{refl}
 use borrow.Author.Needs.{needs}
 use native.Mathlib.Omega.{arith}
-use Rattle.begun_bits.specs.Laws.{begins}
+use Rattle.begun_bits.specs.Stores.{begins}
 use Rattle.begun_bits.proofs.begin.Statement.{statement}
 use Rattle.begun_bits.proofs.begin.Tie as tie
 use Rattle.begun_bits.proofs.whole.Reads as whole-reads

@@ -1,7 +1,7 @@
 -- `clear` meets its contract: the three words of the level are written.
 use borrow.Author.Needs.{needs}
 use native.Mathlib.Omega.{arith}
-use Rattle.begun_bits.specs.Laws.{clears}
+use Rattle.begun_bits.specs.Stores.{clears}
 use Rattle.begun_bits.proofs.clear.Statement.{statement}
 use Rattle.begun_bits.proofs.clear.Tie as tie
 use Rattle.begun_bits.proofs.whole.Reads as whole-reads

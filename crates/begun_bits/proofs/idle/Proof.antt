@@ -1,7 +1,7 @@
 -- `idle` meets its contract: two words side by side, cut where the members begin.
 use borrow.Author.Needs.{needs}
 use native.Mathlib.Omega.{arith}
-use Rattle.begun_bits.specs.Laws.{idle-none, part-least, part-rest, idle-by}
+use Rattle.begun_bits.specs.Stores.{idle-none, part-least, part-rest, idle-by}
 use Rattle.begun_bits.proofs.idle.Statement.{statement}
 use Rattle.begun_bits.proofs.idle.Tie as tie
 use Rattle.numbers.proofs.widened.Reads as widened-reads

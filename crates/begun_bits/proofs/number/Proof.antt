@@ -1,8 +1,5 @@
--- `number` meets its contract: past the end there is none.
+-- `number` meets its contract.
 use borrow.Author.Needs.{needs}
-use mathlib.Core.Path.{sym}
-use native.Mathlib.Omega.{arith}
-use lib.ListN.{List·getD-eq-default}
 use Rattle.begun_bits.proofs.number.Statement.{statement}
 use Rattle.begun_bits.proofs.number.Tie as tie
 use Rattle.numbers.proofs.wide.Reads as wide-reads
@@ -16,8 +13,5 @@ wide-requires c κs = search needs
 returns : tie.Need-returns
 returns c = search needs
 
-returns-2 : tie.Need-returns-2
-returns-2 c = let a = c .before .before .args in (sym (List·getD-eq-default (a .members .now) 0 {n = a .i} (omega (arith, c .if1 .left))), omega arith)
-
 pub number-spec : {M : Type 1} → statement M
-number-spec = tie.close (tie.spec shared-slice-read-wide wide-requires returns returns-2)
+number-spec = tie.close (tie.spec shared-slice-read-wide wide-requires returns)

@@ -67,10 +67,10 @@ end-requires : tie.Need-end-requires
 end-requires c κs = search needs
 
 same-length-7 : tie.Need-same-length-7
-same-length-7 c = search needs
+same-length-7 c = c .before .before .before .before .before .put-event .ensures .1 .numbers-kept ∙ c .before .before .before .before .before .before .before .before .before .before .before .before .before .before .before .before .before .before .before .end-until .ensures .brings .puts .numbers-kept
 
 same-length-8 : tie.Need-same-length-8
-same-length-8 c = search needs
+same-length-8 c = c .before .before .before .before .before .put-event .ensures .1 .bytes-kept ∙ c .before .before .before .before .before .before .before .before .before .before .before .before .before .before .before .before .before .before .before .end-until .ensures .brings .puts .bytes-kept
 
 returns-5 : tie.Need-returns-5
 returns-5 c =

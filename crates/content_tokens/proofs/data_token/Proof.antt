@@ -6,7 +6,7 @@ use native.Mathlib.Omega.{arith}
 use borrow.Author.Needs.{needs}
 use borrow.Author.Tests.{not-true, not-false}
 use Rattle.rules.specs.Bytes.{letter, byteAt}
-use Rattle.text.specs.Laws.{nameEnd-from, nameEnd-le}
+use Rattle.text.specs.Words.{nameEnd-from, nameEnd-le}
 use Rattle.content_tokens.specs.Readings.{got-meets, refused-meets}
 use Rattle.content_tokens.specs.Tokens.{data-word, data-full, data-got, data-none, new-data}
 use Rattle.content_tokens.proofs.data_token.Statement.{statement}

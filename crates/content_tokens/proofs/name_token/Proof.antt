@@ -2,8 +2,7 @@
 use mathlib.Core.Path.{refl}
 use native.Mathlib.Omega.{arith}
 use borrow.Author.Needs.{needs}
-use Rattle.rules.specs.Settings.{settings}
-use Rattle.text.specs.Laws.{nameEnd-from, nameEnd-le}
+use Rattle.text.specs.Words.{nameEnd-from, nameEnd-le}
 use Rattle.content_tokens.specs.Readings.{got-meets, refused-meets}
 use Rattle.content_tokens.specs.Tokens.{name-long, name-full, name-got, new-place}
 use Rattle.content_tokens.proofs.name_token.Statement.{statement}
@@ -24,7 +23,7 @@ returns : tie.Need-returns
 returns c =
     let e = c .before .before .name-end in
     let x = c .before .before .before .before .args in
-    refused-meets _ _ _ _ _ 3 (x .at) _ (c .refusal .ensures) (name-long (settings (x .long)) (x .s .now) (x .at) (e .result) (x .full) _ (x .tokens) (e .ensures) (c .before .if1 .taken))
+    refused-meets _ _ _ _ _ 3 (x .at) _ (c .refusal .ensures) (name-long (x .long) (x .s .now) (x .at) (e .result) (x .full) _ (x .tokens) (e .ensures) (c .before .if1 .taken))
 
 refusal-requires-2 : tie.Need-refusal-requires-2
 refusal-requires-2 c κs = search needs
@@ -33,7 +32,7 @@ returns-2 : tie.Need-returns-2
 returns-2 c =
     let e = c .before .before .before .name-end in
     let x = c .before .before .before .before .before .args in
-    refused-meets _ _ _ _ _ 6 (x .at) _ (c .refusal2 .ensures) (name-full (settings (x .long)) (x .s .now) (x .at) (e .result) (x .full) _ (x .tokens) (e .ensures) (c .before .before .if1 .left) (c .before .if2 .taken))
+    refused-meets _ _ _ _ _ 6 (x .at) _ (c .refusal2 .ensures) (name-full (x .long) (x .s .now) (x .at) (e .result) (x .full) _ (x .tokens) (e .ensures) (c .before .before .if1 .left) (c .before .if2 .taken))
 
 put-name-requires : tie.Need-put-name-requires
 put-name-requires c κs =
@@ -66,7 +65,7 @@ returns-3 c =
     let pre = c .before .before .before .before .before .before .before .before .before .before .before .before .pre in
     let x = c .before .before .before .before .before .before .before .before .before .before .before .before .args in
     got-meets _ _ _ _ _ _ _ _ refl
-    (name-got (settings (x .long)) (x .s .now) (x .at) (e .result) (x .full) _ (x .tokens) (e .ensures) (c .before .before .before .before .before .before .before .before .before .if1 .left) (c .before .before .before .before .before .before .before .before .if2 .left))
+    (name-got (x .long) (x .s .now) (x .at) (e .result) (x .full) _ (x .tokens) (e .ensures) (c .before .before .before .before .before .before .before .before .before .if1 .left) (c .before .before .before .before .before .before .before .before .if2 .left))
     (c .with-occurrence .ensures _ _ _ _ _
     (new-place _ (x .at) (e .result) _ (x .places) (x .tokens) (x .code) (x .table .now) (x .names .now) _
     (omega (arith, nameEnd-le (x .s .now) (x .at) (pre .0 .0), e .ensures)) (pre .1 .0) (pre .1 .1 (c .before .before .before .before .before .before .before .before .if2 .left)) (c .before .before .before .before .before .before .put-name .ensures .0) _ (c .before .before .before .before .put-place .ensures .0) _ _ _ (c .before .before .before .before .put-place .ensures .1) (c .before .before .put .ensures .0) (c .before .before .put .ensures .1)))

@@ -5,8 +5,8 @@ use borrow.Author.Needs.{needs}
 use Rattle.rules.specs.TypeFile.{commentDeclaration}
 use Rattle.rules.specs.Document.{malformed}
 use Rattle.rules_laws.specs.Runs.{isRun}
-use Rattle.document_text.specs.Laws.{declaration-none, declaration-comment}
-use Rattle.data_runs.specs.Laws.{declaration-runs, skipped-stops}
+use Rattle.document_text.specs.Ways.{declaration-none, declaration-comment}
+use Rattle.data_runs.specs.Runs.{declaration-runs, skipped-stops}
 use Rattle.data_runs.proofs.declaration_runs_on.Statement.{statement}
 use Rattle.data_runs.proofs.declaration_runs_on.Tie as tie
 

@@ -3,9 +3,10 @@ use Prim.Native.Nat.{_+_}
 use mathlib.Core.Path.{refl, sym, ap, _∙_}
 use borrow.Author.Needs.{needs}
 use Rattle.rules.specs.Document.{tag, startTagAt}
-use Rattle.rules_laws.specs.Runs.{anySettings, isRun, start-stops, end-stops}
-use Rattle.document_text.specs.Laws.{markup-start, markup-end, markup-declaration}
-use Rattle.data_runs.specs.Laws.{markup-runs}
+use Rattle.rules.specs.Settings.{leastNameLength}
+use Rattle.rules_laws.specs.Runs.{isRun, start-stops, end-stops}
+use Rattle.document_text.specs.Ways.{markup-start, markup-end, markup-declaration}
+use Rattle.data_runs.specs.Runs.{markup-runs}
 use Rattle.data_runs.proofs.markup_runs_on.Statement.{statement}
 use Rattle.data_runs.proofs.markup_runs_on.Tie as tie
 
@@ -21,8 +22,8 @@ is-letter-requires c κs = search needs
 returns : tie.Need-returns
 returns c =
     let a = c .before .before .before .before .args in
-    let read = startTagAt anySettings (a .s .now) (a .i + 1) in
-    sym (start-stops read) ∙ ap isRun (markup-start anySettings (a .s .now) (a .i) _ (c .before .before .byte .ensures) (sym (c .before .is-letter .ensures) ∙ c .if1 .taken))
+    let read = startTagAt leastNameLength (a .s .now) (a .i + 1) in
+    sym (start-stops read) ∙ ap isRun (markup-start leastNameLength (a .s .now) (a .i) _ (c .before .before .byte .ensures) (sym (c .before .is-letter .ensures) ∙ c .if1 .taken))
 
 is-end-tag-requires : tie.Need-is-end-tag-requires
 is-end-tag-requires c κs = search needs
@@ -30,8 +31,8 @@ is-end-tag-requires c κs = search needs
 returns-2 : tie.Need-returns-2
 returns-2 c =
     let a = c .before .before .before .before .before .before .args in
-    let read = tag anySettings (a .s .now) (a .i + 2) in
-    sym (end-stops read) ∙ ap isRun (markup-end anySettings (a .s .now) (a .i) _ (c .before .before .before .before .byte .ensures) (sym (c .before .before .before .is-letter .ensures) ∙ c .before .before .if1 .left) (sym (c .before .is-end-tag .ensures) ∙ c .if2 .taken) read refl)
+    let read = tag leastNameLength (a .s .now) (a .i + 2) in
+    sym (end-stops read) ∙ ap isRun (markup-end leastNameLength (a .s .now) (a .i) _ (c .before .before .before .before .byte .ensures) (sym (c .before .before .before .is-letter .ensures) ∙ c .before .before .if1 .left) (sym (c .before .is-end-tag .ensures) ∙ c .if2 .taken) read refl)
 
 declaration-runs-on-requires : tie.Need-declaration-runs-on-requires
 declaration-runs-on-requires c κs = search needs
@@ -39,12 +40,12 @@ declaration-runs-on-requires c κs = search needs
 returns-3 : tie.Need-returns-3
 returns-3 c =
     let a = c .before .before .before .before .before .before .before .before .args in
-    c .declaration-runs-on .ensures ∙ ap isRun (markup-declaration anySettings (a .s .now) (a .i) _ (c .before .before .before .before .before .before .byte .ensures) (sym (c .before .before .before .before .before .is-letter .ensures) ∙ c .before .before .before .before .if1 .left) (sym (c .before .before .before .is-end-tag .ensures) ∙ c .before .before .if2 .left) (c .before .if3 .taken))
+    c .declaration-runs-on .ensures ∙ ap isRun (markup-declaration leastNameLength (a .s .now) (a .i) _ (c .before .before .before .before .before .before .byte .ensures) (sym (c .before .before .before .before .before .is-letter .ensures) ∙ c .before .before .before .before .if1 .left) (sym (c .before .before .before .is-end-tag .ensures) ∙ c .before .before .if2 .left) (c .before .if3 .taken))
 
 returns-4 : tie.Need-returns-4
 returns-4 c =
     let a = c .before .before .before .before .before .before .before .args in
-    markup-runs anySettings (a .s .now) (a .i) _ (c .before .before .before .before .before .byte .ensures) (sym (c .before .before .before .before .is-letter .ensures) ∙ c .before .before .before .if1 .left) (sym (c .before .before .is-end-tag .ensures) ∙ c .before .if2 .left) (c .if3 .left)
+    markup-runs leastNameLength (a .s .now) (a .i) _ (c .before .before .before .before .before .byte .ensures) (sym (c .before .before .before .before .is-letter .ensures) ∙ c .before .before .before .if1 .left) (sym (c .before .before .is-end-tag .ensures) ∙ c .before .if2 .left) (c .if3 .left)
 
 pub markup-runs-on-spec : {M : Type 1} → statement M
 markup-runs-on-spec =

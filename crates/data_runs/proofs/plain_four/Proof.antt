@@ -3,7 +3,7 @@ use Prim.Native.Nat.{_+_}
 use mathlib.Core.Path.{_≡_, refl, sym, ap, _∙_}
 use native.Mathlib.Omega.{arith}
 use Rattle.rules_laws.specs.Runs.{runEnd}
-use Rattle.data_runs.specs.Laws.{plain-turn}
+use Rattle.data_runs.specs.Runs.{plain-turn}
 use borrow.Author.Needs.{needs}
 use Rattle.data_runs.proofs.plain_four.Statement.{statement}
 use Rattle.data_runs.proofs.plain_four.Tie as tie

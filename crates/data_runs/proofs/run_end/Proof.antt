@@ -6,7 +6,7 @@ use lib.ListN.{length}
 use borrow.Author.Tests.{not-true, not-false}
 use borrow.Author.Needs.{needs}
 use Rattle.rules_laws.specs.Runs.{runEnd}
-use Rattle.data_runs.specs.Laws.{run-turn, run-stop, run-all}
+use Rattle.data_runs.specs.Runs.{run-turn, run-stop, run-all}
 use Rattle.data_runs.proofs.run_end.Statement.{statement}
 use Rattle.data_runs.proofs.run_end.Tie as tie
 

@@ -1,9 +1,10 @@
 -- `runs_on` meets its contract: each way by the tests that led there.
 use mathlib.Core.Path.{sym, ap, _∙_}
 use borrow.Author.Needs.{needs}
-use Rattle.rules_laws.specs.Runs.{anySettings, isRun}
-use Rattle.document_text.specs.Laws.{piece-markup, piece-reference, piece-section, piece-byte}
-use Rattle.data_runs.specs.Laws.{byte-runs}
+use Rattle.rules.specs.Settings.{leastNameLength}
+use Rattle.rules_laws.specs.Runs.{isRun}
+use Rattle.document_text.specs.Ways.{piece-markup, piece-reference, piece-section, piece-byte}
+use Rattle.data_runs.specs.Runs.{byte-runs}
 use Rattle.data_runs.proofs.runs_on.Statement.{statement}
 use Rattle.data_runs.proofs.runs_on.Tie as tie
 
@@ -16,7 +17,7 @@ markup-runs-on-requires c κs = search needs
 returns : tie.Need-returns
 returns c =
     let a = c .before .before .before .before .args in
-    c .markup-runs-on .ensures ∙ ap isRun (piece-markup anySettings (a .s .now) (a .i) (sym (c .before .before .byte .ensures) ∙ c .before .if1 .taken))
+    c .markup-runs-on .ensures ∙ ap isRun (piece-markup leastNameLength (a .s .now) (a .i) (sym (c .before .before .byte .ensures) ∙ c .before .if1 .taken))
 
 is-reference-requires : tie.Need-is-reference-requires
 is-reference-requires c κs = search needs
@@ -24,7 +25,7 @@ is-reference-requires c κs = search needs
 returns-2 : tie.Need-returns-2
 returns-2 c =
     let a = c .before .before .before .before .before .args in
-    ap isRun (piece-reference anySettings (a .s .now) (a .i) (λ e. c .before .before .if1 .left (c .before .before .before .byte .ensures ∙ e)) (sym (c .before .is-reference .ensures) ∙ c .if2 .taken))
+    ap isRun (piece-reference leastNameLength (a .s .now) (a .i) (λ e. c .before .before .if1 .left (c .before .before .before .byte .ensures ∙ e)) (sym (c .before .is-reference .ensures) ∙ c .if2 .taken))
 
 is-section-end-requires : tie.Need-is-section-end-requires
 is-section-end-requires c κs = search needs
@@ -32,13 +33,13 @@ is-section-end-requires c κs = search needs
 returns-3 : tie.Need-returns-3
 returns-3 c =
     let a = c .before .before .before .before .before .before .before .args in
-    ap isRun (piece-section anySettings (a .s .now) (a .i) (λ e. c .before .before .before .before .if1 .left (c .before .before .before .before .before .byte .ensures ∙ e)) (sym (c .before .before .before .is-reference .ensures) ∙ c .before .before .if2 .left) (sym (c .before .is-section-end .ensures) ∙ c .if3 .taken))
+    ap isRun (piece-section leastNameLength (a .s .now) (a .i) (λ e. c .before .before .before .before .if1 .left (c .before .before .before .before .before .byte .ensures ∙ e)) (sym (c .before .before .before .is-reference .ensures) ∙ c .before .before .if2 .left) (sym (c .before .is-section-end .ensures) ∙ c .if3 .taken))
 
 returns-4 : tie.Need-returns-4
 returns-4 c =
     let a = c .before .before .before .before .before .before .before .args in
     let b = c .before .before .before .before .before .byte .ensures in
-    byte-runs (a .s .now) (a .i) _ b ∙ ap isRun (piece-byte anySettings (a .s .now) (a .i) (λ e. c .before .before .before .before .if1 .left (b ∙ e)) (sym (c .before .before .before .is-reference .ensures) ∙ c .before .before .if2 .left) (sym (c .before .is-section-end .ensures) ∙ c .if3 .left))
+    byte-runs (a .s .now) (a .i) _ b ∙ ap isRun (piece-byte leastNameLength (a .s .now) (a .i) (λ e. c .before .before .before .before .if1 .left (b ∙ e)) (sym (c .before .before .before .is-reference .ensures) ∙ c .before .before .if2 .left) (sym (c .before .is-section-end .ensures) ∙ c .if3 .left))
 
 pub runs-on-spec : {M : Type 1} → statement M
 runs-on-spec =

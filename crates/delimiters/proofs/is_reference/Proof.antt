@@ -3,7 +3,7 @@ use mathlib.Core.Path.{sym, _∙_}
 use borrow.Author.Needs.{needs}
 use borrow.Author.Tests.{eq-eqb, ne-eqb}
 use Rattle.rules.specs.Bytes.{letter}
-use Rattle.text.specs.Laws.{tested}
+use Rattle.text.specs.Words.{tested}
 use Rattle.delimiters.proofs.is_reference.Statement.{statement}
 use Rattle.delimiters.proofs.is_reference.Tie as tie
 

@@ -5,6 +5,7 @@ use Prim.Native.Nat.{ℕ, _+_, _-_, _≤_, _<_}
 use mathlib.Core.Path.{_≡_, refl, sym, _∙_}
 use mathlib.Core.Bool.{true, false, false≢true}
 use mathlib.Core.List.{List}
+use mathlib.Core.Logic.{⊎-elim}
 use native.Mathlib.Omega.{arith}
 use lib.ListN.{length}
 use borrow.Author.Needs.{needs}
@@ -12,30 +13,32 @@ use Rattle.rules.specs.Settings.{settings}
 use Rattle.rules.specs.TypeFile.{Element}
 use Rattle.rules.specs.Settling.{State, isOver}
 use Rattle.document_laws.specs.Decide.{decided}
-use Rattle.open_elements.specs.Means.{Ranged, Stands}
+use Rattle.open_elements.specs.Stands.{Ranged, Stands}
 use Rattle.ways.specs.Ends.{over-says}
 use Rattle.inferring.specs.Starts.{Along, along-start, along-next}
 use Rattle.placing.specs.Places.{places-refused, places-opened}
 use Rattle.settling.specs.Tokens.{settles-over, settles-many, settles-placed}
-use Rattle.document_events.specs.Means.{Going}
+use Rattle.record_ends.specs.Held.{isHeld, shownEnd}
+use Rattle.document_events.specs.Loop.{Frees, Going}
+use Rattle.document_events.specs.Freeing.{frees-same, shown-range}
 use Rattle.document_events.specs.Turns.{going-start, Turn, piece-refuses, token-asked, token-range, token-refuses, going-token, end-asked, end-range, end-tag-refuses, going-end, passed-range, going-passed, finish-asked, end-refuses, end-counts}
 use Rattle.document_events.proofs.events_of.Statement.{statement}
 use Rattle.document_events.proofs.events_of.Tie as tie
 
 abbrev Inv-loop2 : tie.InvT-loop2
-Inv-loop2 long s elements index rows places facts members lists classes d numbers₀ bytes₀ at n o₀ begun₀ given marks x after found starts m₀ k₀ numbers bytes o begun m k =
+Inv-loop2 long edition s elements index rows places facts members lists classes d numbers₀ bytes₀ at n o₀ begun₀ given marks since mark from x after found starts m₀ k₀ numbers bytes o begun m k =
     Along rows places facts members lists at m₀ starts k o₀ begun₀ numbers₀ bytes₀ m o begun numbers bytes
 
 abbrev μ-loop2 : tie.MeasureT-loop2
-μ-loop2 long s elements index rows places facts members lists classes d numbers₀ bytes₀ at n o₀ begun₀ given marks x after found starts m₀ k₀ numbers bytes o begun m k =
+μ-loop2 long edition s elements index rows places facts members lists classes d numbers₀ bytes₀ at n o₀ begun₀ given marks since mark from x after found starts m₀ k₀ numbers bytes o begun m k =
     starts - k
 
 abbrev Inv-loop : tie.InvT-loop
-Inv-loop long s elements index rows places facts members lists classes d numbers₀ bytes₀ at₀ n₀ o₀ begun₀ given₀ marks₀ numbers bytes at n o begun given marks =
-    Going (settings long) s elements index rows places facts members lists d begun numbers₀ numbers bytes₀ bytes n at o
+Inv-loop long edition s elements index rows places facts members lists classes d numbers₀ bytes₀ at₀ n₀ o₀ begun₀ given₀ marks₀ since₀ mark₀ from₀ numbers bytes at n o begun given marks since mark from =
+    Going (settings long edition) s elements index rows places facts members lists d begun numbers₀ numbers bytes₀ bytes n at since mark from o
 
 abbrev μ-loop : tie.MeasureT-loop
-μ-loop long s elements index rows places facts members lists classes d numbers₀ bytes₀ at₀ n₀ o₀ begun₀ given₀ marks₀ numbers bytes at n o begun given marks =
+μ-loop long edition s elements index rows places facts members lists classes d numbers₀ bytes₀ at₀ n₀ o₀ begun₀ given₀ marks₀ since₀ mark₀ from₀ numbers bytes at n o begun given marks since mark from =
     length d - at
 
 -- Points of the program, each from a later one: the function's entry and the turn of the loop, then what stands at `at`, where it is known to be a token.
@@ -56,13 +59,13 @@ abbrev ended : tie.After-struct-known Inv-loop2 μ-loop2 Inv-loop μ-loop → ti
 ended c = c .before .before .before .before .before .before .before
 
 abbrev stopped : tie.At-loop2 Inv-loop2 μ-loop2 Inv-loop μ-loop → tie.After-ends Inv-loop2 μ-loop2 Inv-loop μ-loop
-stopped c = ended (c .before .before)
+stopped c = ended (c .before .before .before)
 
 abbrev inferred : tie.After-put-written Inv-loop2 μ-loop2 Inv-loop μ-loop → tie.After-loop2 Inv-loop2 μ-loop2 Inv-loop μ-loop
 inferred c = c .before .before .before .before
 
 abbrev written : tie.After-placed Inv-loop2 μ-loop2 Inv-loop μ-loop → tie.After-put-written Inv-loop2 μ-loop2 Inv-loop μ-loop
-written c = c .before .before .before .before .before .before .before .before
+written c = c .before .before .before .before .before .before .before .before .before
 
 abbrev placed : tie.After-struct-known2 Inv-loop2 μ-loop2 Inv-loop μ-loop → tie.After-placed Inv-loop2 μ-loop2 Inv-loop μ-loop
 placed c = c .before .before .before .before .before
@@ -95,18 +98,22 @@ over c = c .before .before .before
 
 -- What is left in `marks`, the last of what is handed over.
 abbrev marked : tie.After-piece-at Inv-loop2 μ-loop2 Inv-loop μ-loop → List ℕ
-marked c = c .piece-at .last .1 .1 .1 .1 .1 .1 .1 .1 .1 .1 .1 .1 .1 .1 .1 .1 .1 .0
+marked c = c .piece-at .last .1 .1 .1 .1 .1 .1 .1 .1 .1 .1 .1 .1 .1 .1 .1 .1 .1 .1 .1 .1 .0
 
 -- A turn of the loop.
 at-turn : (c : tie.After-piece-at Inv-loop2 μ-loop2 Inv-loop μ-loop) →
     let a = first (turn c .before) .args in
     let l = turn c .before .loop in
-    Turn (settings (a .long)) (a .s .now) (a .elements .now) (a .index .now) (a .rows .now) (a .places .now) (a .facts .now) (a .members .now) (a .lists .now) (a .d .now) (l .begun) (a .numbers .now) (l .numbers) (a .bytes .now) (l .bytes) (l .n) (l .at) (l .o) (c .piece-at .result) (marked c)
+    Turn (settings (a .long) (a .edition)) (a .s .now) (a .elements .now) (a .index .now) (a .rows .now) (a .places .now) (a .facts .now) (a .members .now) (a .lists .now) (a .d .now) (l .begun) (a .numbers .now) (l .numbers) (a .bytes .now) (l .bytes) (l .n) (l .at) (l .since) (l .mark) (l .from) (l .o) (c .piece-at .result) (marked c)
 at-turn c = record { going = turn c .before .loop .inv; inside = omega (arith, turn c .loop-test .taken); onward = c .piece-at .ensures .0; said = c .piece-at .ensures .1 }
 
 -- Where the token ends.
 abbrev after : tie.After-known-told Inv-loop2 μ-loop2 Inv-loop μ-loop → ℕ
 after c = c .before .p .given .0 .1 .0
+
+-- Where it ends as it is shown.
+abbrev whole-shown : tie.After-known-told Inv-loop2 μ-loop2 Inv-loop μ-loop → ℕ
+whole-shown c = let a = first (turn (piece c) .before) .args in shownEnd (a .edition) (a .d .now) (after c)
 
 -- What the steps of a token ask for.
 asked : (c : tie.After-known-told Inv-loop2 μ-loop2 Inv-loop μ-loop) →
@@ -126,17 +133,25 @@ on : (c : tie.After-ends Inv-loop2 μ-loop2 Inv-loop μ-loop) →
     (s : List ℕ) (es : List Element) (z : State) → Stands es (first (t .before) .args .members .now) (t .before .loop .begun) (t .before .loop .o) z → isOver s es (decided s es) z ≡ false
 on c s es z stands = sym (over-says s stands) ∙ sym (c .before .before .before .before .before .is-over .ensures) ∙ c .before .before .before .before .if1 .left
 
+-- A run that was held is freed, or stands, whichever way was taken.
+joined : (c : tie.Joined3 Inv-loop2 μ-loop2 Inv-loop μ-loop) →
+    let e = ended (c .before .before) in
+    let t = turn (piece (told e)) .before in
+    Frees (isHeld (first t .args .edition) (first t .args .d .now) (t .loop .since)) (t .loop .from) (t .loop .since) (t .loop .n) (e .ends .result .events) (e .ends .last .1 .1 .1 .1 .1 .1 .1 .1 .1 .0) (e .ends .last .1 .1 .1 .1 .1 .1 .1 .1 .1 .1 .0) (c .if3 .m) (c .if3 .numbers) (c .if3 .bytes)
+joined c = ⊎-elim (λ w. frees-same (w .3 .ensures) (w .8) (w .9) (w .10)) (λ w. frees-same (w .3 .ensures) (w .8) (w .9) (w .10)) (c .if3 .came)
+
 -- The events are so few that those of an element's attributes and those of the token can still be counted.
 room : (c : tie.At-loop2 Inv-loop2 μ-loop2 Inv-loop μ-loop) → c .loop2 .m + 90 < 4294967296
 room c =
     let s = stopped c in
     let f = s .ends .ensures .turns in
     let i = c .loop2 .inv in
-    omega (arith, i .counted, i .few, i .most, c .before .if2 .left, f .counted, f .deep, asked (told s) .0 .few, asked (told s) .4)
+    let h = joined (c .before) .few 24 (omega (arith, f .counted, f .deep, asked (told s) .0 .few)) (omega arith) in
+    omega (arith, i .counted, i .few, i .most, c .before .before .if2 .left, f .deep, asked (told s) .0 .few, asked (told s) .4)
 
 -- There is room for one more open element.
 less : (c : tie.In-loop2 Inv-loop2 μ-loop2 Inv-loop μ-loop) → c .before .loop2 .o .count < 24
-less c = omega (arith, c .before .loop2 .inv .deep, c .loop2-test .taken, c .before .before .if2 .left)
+less c = omega (arith, c .before .loop2 .inv .deep, c .loop2-test .taken, c .before .before .before .if2 .left)
 
 loop-holds : tie.Need-loop-holds Inv-loop2 μ-loop2 Inv-loop μ-loop
 loop-holds c = going-start _ _ _ _ _ _ _ _ _ _ _ _ _ (c .new .ensures)
@@ -146,7 +161,7 @@ piece-at-requires c κs =
     let t = c .before .before .before .before .before in
     let g = t .before .loop .inv in
     let p = first (t .before) .pre in
-    (p .0, p .1, g .ranged .few, g .ranged .element, g .ranged .place, omega (arith, t .loop-test .taken), p .2, p .3)
+    (p .0, p .1, g .ranged .few, g .ranged .element, g .ranged .place, omega (arith, t .loop-test .taken), p .2, p .3, g .since-inside)
 
 same-length : tie.Need-same-length Inv-loop2 μ-loop2 Inv-loop μ-loop
 same-length c = turn (piece (c .before .before .before)) .before .loop .inv .numbers-same
@@ -158,8 +173,8 @@ returns : tie.Need-returns Inv-loop2 μ-loop2 Inv-loop μ-loop
 returns c =
     let k = c .before .before .before in
     let t = at-turn (piece k) in
-    let s = settles-over _ _ _ _ _ _ _ _ _ _ _ _ _ _ (t .going .ranged) (λ s es z stands. sym (over-says s stands) ∙ sym (c .before .before .is-over .ensures) ∙ c .before .if1 .taken) in
-    token-refuses t (k .before .p .given .1) s (λ z. omega arith) (c .refusal .ensures)
+    let s = settles-over _ _ _ _ _ _ _ _ (whole-shown k) (turn (piece k) .before .loop .n) _ _ _ _ (t .going .ranged) (λ s es z stands. sym (over-says s stands) ∙ sym (c .before .before .is-over .ensures) ∙ c .before .if1 .taken) in
+    token-refuses t (k .before .p .given .1) refl s (λ z. omega arith) (c .refusal .ensures)
 
 ends-requires : tie.Need-ends-requires Inv-loop2 μ-loop2 Inv-loop μ-loop
 ends-requires c κs =
@@ -182,11 +197,27 @@ returns-2 c =
     let e = ended (c .before .before) in
     let k = told e in
     let t = at-turn (piece k) in
-    let s = settles-many (after k) (t .going .ranged .few) (on e) (e .ends .ensures) _ _ (omega (arith, c .before .if2 .taken, c .before .before .before .before .starts-of .ensures)) in
-    token-refuses t (k .before .p .given .1) s (λ z. omega arith) (c .refusal2 .ensures)
+    let s = settles-many (whole-shown k) (t .going .ranged .few) (on e) (e .ends .ensures) _ _ (omega (arith, c .before .if2 .taken, c .before .before .before .before .starts-of .ensures)) in
+    token-refuses t (k .before .p .given .1) refl s (λ z. omega arith) (c .refusal2 .ensures)
+
+-- What `freed` asks for.
+held-asked : (c : tie.After-known-told Inv-loop2 μ-loop2 Inv-loop μ-loop) →
+    let t = turn (piece c) in
+    let l = t .before .loop in
+    (l .since ≤ length (first (t .before) .args .d .now)) × (l .from ≤ l .since) × (l .since < 4294967296) × (l .n < 4294967296)
+held-asked c =
+    let t = turn (piece c) in
+    let g = t .before .loop .inv in
+    (omega (arith, g .since-inside, g .inside), g .from-inside, omega (arith, g .since-inside, g .inside, first (t .before) .pre .2), omega (arith, asked c .4))
+
+freed-requires : tie.Need-freed-requires Inv-loop2 μ-loop2 Inv-loop μ-loop
+freed-requires c κs = held-asked (told (ended (c .before .before .before .before)))
+
+freed-requires-2 : tie.Need-freed-requires-2 Inv-loop2 μ-loop2 Inv-loop μ-loop
+freed-requires-2 c κs = held-asked (told (ended (c .before .before .before .before)))
 
 loop2-holds : tie.Need-loop2-holds Inv-loop2 μ-loop2 Inv-loop μ-loop
-loop2-holds c = along-start _ _ _ _ _ _ _ _ _ _ _ _ (ended (c .before) .ends .ensures .turns .ranged)
+loop2-holds c = along-start _ _ _ _ _ _ _ _ _ _ _ _ (ended (c .before .before) .ends .ensures .turns .ranged)
 
 next-start-requires : tie.Need-next-start-requires Inv-loop2 μ-loop2 Inv-loop μ-loop
 next-start-requires c κs = c .before .loop2 .inv .ranged
@@ -211,7 +242,7 @@ add-m c =
 add-k : tie.Need-add-k Inv-loop2 μ-loop2 Inv-loop μ-loop
 add-k c =
     let l = next (defaulted (c .before .before .before .before .before)) .before in
-    omega (arith, l .loop2-test .taken, l .before .before .if2 .left)
+    omega (arith, l .loop2-test .taken, l .before .before .before .if2 .left)
 
 loop2-less : tie.Need-loop2-less Inv-loop2 μ-loop2 Inv-loop μ-loop
 loop2-less c = omega arith
@@ -228,14 +259,19 @@ put-written-requires c κs =
     let l = c .before .before .before .before in
     (asked (told (stopped l)) .1, omega (arith, room l))
 
+shown-end-requires : tie.Need-shown-end-requires Inv-loop2 μ-loop2 Inv-loop μ-loop
+shown-end-requires c κs = range (told (stopped (inferred (c .before .before .before .before) .before))) .1
+
 placed-requires : tie.Need-placed-requires Inv-loop2 μ-loop2 Inv-loop μ-loop
 placed-requires c κs =
-    let w = c .before .before .before .before .before .before .before in
+    let w = c .before .before .before .before .before .before .before .before in
     let l = inferred w .before in
     let e = stopped l in
     let a = asked (told e) in
     let f = w .put-written .ensures .few in
-    (l .loop2 .inv .ranged, e .ends .ensures .fits, a .1, a .2, a .3, omega (arith, room l, f .counted, f .few))
+    let b = first (turn (piece (told e)) .before) .args in
+    let h = shown-range (b .edition) (b .d .now) (range (told e) .0) (c .before .before .before .shown-end .ensures) in
+    (l .loop2 .inv .ranged, e .ends .ensures .fits, a .1, h .0, omega (arith, h .1, a .3), omega (arith, room l, f .counted, f .few))
 
 same-length-5 : tie.Need-same-length-5 Inv-loop2 μ-loop2 Inv-loop μ-loop
 same-length-5 c =
@@ -243,7 +279,7 @@ same-length-5 c =
     let w = written q in
     let l = inferred w .before in
     let e = stopped l in
-    q .placed .ensures .puts .numbers-kept ∙ w .put-written .ensures .few .puts .numbers-kept ∙ l .loop2 .inv .puts .numbers-kept ∙ e .ends .ensures .turns .puts .numbers-kept ∙ turn (piece (told e)) .before .loop .inv .numbers-same
+    q .placed .ensures .puts .numbers-kept ∙ w .put-written .ensures .few .puts .numbers-kept ∙ l .loop2 .inv .puts .numbers-kept ∙ joined (l .before) .numbers-kept ∙ e .ends .ensures .turns .puts .numbers-kept ∙ turn (piece (told e)) .before .loop .inv .numbers-same
 
 same-length-6 : tie.Need-same-length-6 Inv-loop2 μ-loop2 Inv-loop μ-loop
 same-length-6 c =
@@ -251,7 +287,7 @@ same-length-6 c =
     let w = written q in
     let l = inferred w .before in
     let e = stopped l in
-    q .placed .ensures .puts .bytes-kept ∙ w .put-written .ensures .few .puts .bytes-kept ∙ l .loop2 .inv .puts .bytes-kept ∙ e .ends .ensures .turns .puts .bytes-kept ∙ turn (piece (told e)) .before .loop .inv .bytes-same
+    q .placed .ensures .puts .bytes-kept ∙ w .put-written .ensures .few .puts .bytes-kept ∙ l .loop2 .inv .puts .bytes-kept ∙ joined (l .before) .bytes-kept ∙ e .ends .ensures .turns .puts .bytes-kept ∙ turn (piece (told e)) .before .loop .inv .bytes-same
 
 returns-3 : tie.Need-returns-3 Inv-loop2 μ-loop2 Inv-loop μ-loop
 returns-3 c =
@@ -262,8 +298,8 @@ returns-3 c =
     let e = stopped l in
     let k = told e in
     let t = at-turn (piece k) in
-    let s = settles-placed (after k) (t .going .ranged .few) (on e) (e .ends .ensures) (l .before .before .before .before .starts-of .ensures) (l .before .if2 .left) (l .loop2 .inv) (i .loop2-test .left) (w .put-written .ensures) (places-refused (q .placed .ensures) (c .before .if3 .taken)) in
-    token-refuses t (k .before .p .given .1) s (c .before .if3 .taken) (c .refusal3 .ensures)
+    let s = settles-placed (q .before .before .before .before .shown-end .result) (t .going .ranged .few) (on e) (e .ends .ensures) (l .before .before .before .before .before .starts-of .ensures) (l .before .before .if2 .left) (l .loop2 .inv) (i .loop2-test .left) (w .put-written .ensures) (places-refused (q .placed .ensures) (c .before .if4 .taken)) in
+    token-refuses t (k .before .p .given .1) (q .before .before .before .before .shown-end .ensures) s (c .before .if4 .taken) (c .refusal3 .ensures)
 
 opens-requires : tie.Need-opens-requires Inv-loop2 μ-loop2 Inv-loop μ-loop
 opens-requires c κs = asked (token (c .before .before)) .1
@@ -271,7 +307,7 @@ opens-requires c κs = asked (token (c .before .before)) .1
 start-requires : tie.Need-start-requires Inv-loop2 μ-loop2 Inv-loop μ-loop
 start-requires c κs =
     let h = placed (c .before .before .before .before) .placed .ensures in
-    (h .ranged, h .room (c .before .before .before .if3 .left) (λ z. false≢true (sym (c .before .opens .ensures .0 z) ∙ c .if4 .taken)), asked (token (c .before .before .before .before)) .1)
+    (h .ranged, h .room (c .before .before .before .if4 .left) (λ z. false≢true (sym (c .before .opens .ensures .0 z) ∙ c .if5 .taken)), asked (token (c .before .before .before .before)) .1)
 
 loop-less : tie.Need-loop-less Inv-loop2 μ-loop2 Inv-loop μ-loop
 loop-less c = omega (arith, range (token (c .before .before .before .before .before)))
@@ -285,8 +321,8 @@ loop-again c =
     let e = stopped l in
     let k = told e in
     let t = at-turn (piece k) in
-    let s = settles-placed (after k) (t .going .ranged .few) (on e) (e .ends .ensures) (l .before .before .before .before .starts-of .ensures) (l .before .if2 .left) (l .loop2 .inv) (i .loop2-test .left) (w .put-written .ensures) (places-opened (q .placed .ensures) (c .before .before .before .before .if3 .left) (asked k .1) true (rw (c .before .if4 .taken) at (c .before .before .opens .ensures)) (c .start .ensures)) in
-    going-token t (k .before .p .given .1) s (c .before .before .before .before .if3 .left)
+    let s = settles-placed (q .before .before .before .before .shown-end .result) (t .going .ranged .few) (on e) (e .ends .ensures) (l .before .before .before .before .before .starts-of .ensures) (l .before .before .if2 .left) (l .loop2 .inv) (i .loop2-test .left) (w .put-written .ensures) (places-opened (q .placed .ensures) (c .before .before .before .before .if4 .left) (asked k .1) true (rw (c .before .if5 .taken) at (c .before .before .opens .ensures)) (c .start .ensures)) in
+    going-token t (k .before .p .given .1) (q .before .before .before .before .shown-end .ensures) (e .ends .ensures) (joined (l .before)) s (c .before .before .before .before .if4 .left)
 
 loop-less-2 : tie.Need-loop-less-2 Inv-loop2 μ-loop2 Inv-loop μ-loop
 loop-less-2 c = omega (arith, range (token (c .before .before .before .before)))
@@ -300,8 +336,8 @@ loop-again-2 c =
     let e = stopped l in
     let k = told e in
     let t = at-turn (piece k) in
-    let s = settles-placed (after k) (t .going .ranged .few) (on e) (e .ends .ensures) (l .before .before .before .before .starts-of .ensures) (l .before .if2 .left) (l .loop2 .inv) (i .loop2-test .left) (w .put-written .ensures) (places-opened (q .placed .ensures) (c .before .before .before .if3 .left) (asked k .1) false (rw (c .if4 .left) at (c .before .opens .ensures)) refl) in
-    going-token t (k .before .p .given .1) s (c .before .before .before .if3 .left)
+    let s = settles-placed (q .before .before .before .before .shown-end .result) (t .going .ranged .few) (on e) (e .ends .ensures) (l .before .before .before .before .before .starts-of .ensures) (l .before .before .if2 .left) (l .loop2 .inv) (i .loop2-test .left) (w .put-written .ensures) (places-opened (q .placed .ensures) (c .before .before .before .if4 .left) (asked k .1) false (rw (c .if5 .left) at (c .before .opens .ensures)) refl) in
+    going-token t (k .before .p .given .1) (q .before .before .before .before .shown-end .ensures) (e .ends .ensures) (joined (l .before)) s (c .before .before .before .if4 .left)
 
 end-tag-requires : tie.Need-end-tag-requires Inv-loop2 μ-loop2 Inv-loop μ-loop
 end-tag-requires c κs =
@@ -321,7 +357,7 @@ returns-4 c =
     let tag = tagged (c .before .before) in
     let k = told-end tag in
     let t = at-turn (end-piece k) in
-    end-tag-refuses t (k .before .p2 .given .1) (tag .end-tag .ensures) (c .before .if5 .taken) (c .refusal4 .ensures)
+    end-tag-refuses t (k .before .p2 .given .1) (tag .end-tag .ensures) (c .before .if6 .taken) (c .refusal4 .ensures)
 
 loop-less-3 : tie.Need-loop-less-3 Inv-loop2 μ-loop2 Inv-loop μ-loop
 loop-less-3 c =
@@ -333,13 +369,16 @@ loop-again-3 c =
     let tag = tagged (c .before .before) in
     let k = told-end tag in
     let t = at-turn (end-piece k) in
-    going-end t (k .before .p2 .given .1) (tag .end-tag .ensures) (c .before .if5 .left)
+    going-end t (k .before .p2 .given .1) (tag .end-tag .ensures) (c .before .if6 .left)
+
+marked-requires : tie.Need-marked-requires Inv-loop2 μ-loop2 Inv-loop μ-loop
+marked-requires c κs = omega (arith, turn (c .before .before .before) .loop-test .taken)
 
 loop-less-4 : tie.Need-loop-less-4 Inv-loop2 μ-loop2 Inv-loop μ-loop
-loop-less-4 c = omega (arith, passed-range (at-turn (c .before .before .before)) (c .before .p3 .given .1))
+loop-less-4 c = omega (arith, passed-range (at-turn (c .before .before .before .before)) (c .before .before .p3 .given .1))
 
 loop-again-4 : tie.Need-loop-again-4 Inv-loop2 μ-loop2 Inv-loop μ-loop
-loop-again-4 c = going-passed (at-turn (c .before .before .before)) (c .before .p3 .given .1)
+loop-again-4 c = going-passed (at-turn (c .before .before .before .before)) (c .before .before .p3 .given .1) (c .marked .ensures)
 
 same-length-9 : tie.Need-same-length-9 Inv-loop2 μ-loop2 Inv-loop μ-loop
 same-length-9 c = turn (c .before .before .before) .before .loop .inv .numbers-same
@@ -364,7 +403,7 @@ same-length-12 c = finished (c .before .before) .finish .ensures .brings .puts .
 returns-6 : tie.Need-returns-6 Inv-loop2 μ-loop2 Inv-loop μ-loop
 returns-6 c =
     let f = finished (c .before .before) in
-    end-refuses (over f .before .loop .inv) (omega (arith, over f .loop-test .left)) (f .finish .ensures) (c .before .if6 .taken) (c .refusal5 .ensures)
+    end-refuses (over f .before .loop .inv) (omega (arith, over f .loop-test .left)) (f .finish .ensures) (c .before .if7 .taken) (c .refusal5 .ensures)
 
 same-length-13 : tie.Need-same-length-13 Inv-loop2 μ-loop2 Inv-loop μ-loop
 same-length-13 c = finished (c .before) .finish .ensures .brings .puts .numbers-kept ∙ over (finished (c .before)) .before .loop .inv .numbers-same
@@ -375,7 +414,7 @@ same-length-14 c = finished (c .before) .finish .ensures .brings .puts .bytes-ke
 returns-7 : tie.Need-returns-7 Inv-loop2 μ-loop2 Inv-loop μ-loop
 returns-7 c =
     let f = finished (c .before) in
-    end-counts (over f .before .loop .inv) (omega (arith, over f .loop-test .left)) (f .finish .ensures) (first (over f .before) .pre .2) (c .if6 .left)
+    end-counts (over f .before .loop .inv) (omega (arith, over f .loop-test .left)) (f .finish .ensures) (first (over f .before) .pre .2) (c .if7 .left)
 
 -- What is left out of the list by name asks for nothing, or for what the arm of the `match` says.
 pub events-of-spec : {M : Type 1} → statement M
@@ -402,6 +441,8 @@ events-of-spec =
     same-length-3
     same-length-4
     returns-2
+    freed-requires
+    freed-requires-2
     loop2-holds
     next-start-requires
     put-defaults-requires
@@ -411,6 +452,7 @@ events-of-spec =
     loop2-less
     loop2-again
     put-written-requires
+    shown-end-requires
     placed-requires
     (λ c κs. search needs)
     same-length-5
@@ -431,6 +473,7 @@ events-of-spec =
     loop-less-3
     loop-again-3
     (λ c. search needs)
+    marked-requires
     loop-less-4
     loop-again-4
     (λ c. search needs)

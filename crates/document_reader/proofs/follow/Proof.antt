@@ -1,22 +1,25 @@
--- `follow` meets its contract: the classes are those of the table.
-use Rattle.delimiters.specs.Table.{classes-right}
+-- `follow` meets its contract: the classes are those of the table, and no numbers are lent.
+use Rattle.document_reader.specs.Answering.{events-bytes}
 use borrow.Author.Needs.{needs}
 use Rattle.document_reader.proofs.follow.Statement.{statement}
 use Rattle.document_reader.proofs.follow.Tie as tie
 
+class-table-requires : tie.Need-class-table-requires
+class-table-requires c κs = search needs
+
+slice-aggregate-events-of : tie.Need-slice-aggregate-events-of
+slice-aggregate-events-of c = search needs
+
 events-of-requires : tie.Need-events-of-requires
 events-of-requires c κs =
     let pre = c .before .before .before .before .before .before .before .before .before .pre in
-    (classes-right, pre .0, pre .1, pre .2)
+    (c .before .before .before .class-table .ensures, pre .0, pre .1, pre .2)
 
 same-length : tie.Need-same-length
 same-length c = search needs
 
-same-length-2 : tie.Need-same-length-2
-same-length-2 c = search needs
-
 returns : tie.Need-returns
-returns c = c .before .before .before .before .events-of .ensures
+returns c es i t l = events-bytes _ _ es _ _ _ _ _ (c .before .before .before .events-of .result) (c .before .before .before .events-of .ensures es i t l)
 
 pub follow-spec : {M : Type 1} → statement M
-follow-spec = tie.close (tie.spec events-of-requires same-length same-length-2 returns)
+follow-spec = tie.close (tie.spec class-table-requires slice-aggregate-events-of events-of-requires same-length returns)

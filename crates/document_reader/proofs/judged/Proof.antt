@@ -1,84 +1,60 @@
--- `judged` meets its contract: each way by what both inputs are, and by the verdict on the type.
-use mathlib.Core.Path.{subst}
-use native.Mathlib.Omega.{arith}
-use Rattle.rules.specs.Reader.{BothLegible}
-use Rattle.inputs.specs.Means.{settingsOf, Checks}
-use Rattle.document_reader.specs.Laws.{judges-accepted, judges-malformed, judges-ambiguous}
+-- `judged` meets its contract: the type is judged, and the document put in its order with it.
+use Rattle.document_reader.specs.Answering.{judges-accepted, judges-malformed, judges-ambiguous, judges-document}
+use Rattle.inputs.specs.Checks.{settingsOf}
+use Rattle.type_stage.specs.Stages.{OrderedAs}
 use borrow.Author.Needs.{needs}
 use Rattle.document_reader.proofs.judged.Statement.{statement}
 use Rattle.document_reader.proofs.judged.Tie as tie
 
--- Neither input is too long, and every byte is allowed.
-legible : (c : tie.After-enum-told) →
-    let a = c .before .before .before .before .before .args in
-    BothLegible (settingsOf (a .c)) (a .s .now) (a .d .now)
-legible c =
-    let a = c .before .before .before .before .before .args in
-    subst (Checks (settingsOf (a .c)) (a .s .now) (a .d .now)) (c .enum-told .given .1) (c .before .before .check .ensures)
+judged-requires : tie.Need-judged-requires
+judged-requires c κs = c .before .before .before .before .pre
 
-check-requires : tie.Need-check-requires
-check-requires c κs = search needs
+in-order-requires : tie.Need-in-order-requires
+in-order-requires c κs = search needs
 
-enum-known-g : tie.Need-enum-known-g
-enum-known-g c = search needs
+enum-known-o : tie.Need-enum-known-o
+enum-known-o c = search needs
+
+enum-known-o-2 : tie.Need-enum-known-o-2
+enum-known-o-2 c = search needs
+
+enum-known-o-3 : tie.Need-enum-known-o-3
+enum-known-o-3 c = search needs
+
+enum-known-o-4 : tie.Need-enum-known-o-4
+enum-known-o-4 c = search needs
+
+-- The document in its order with the type.
+ordered : (c : tie.After-in-order) →
+    let a = c .before .before .before .before .before .before .args in
+    OrderedAs (settingsOf (a .c)) (a .s .now) (a .d .now) (c .before .judged .result) (c .in-order .result)
+ordered c =
+    let a = c .before .before .before .before .before .before .args in
+    c .in-order .ensures (settingsOf (a .c)) (a .s .now) (c .before .judged .last .1 .1 .0) (c .before .judged .last .1 .1 .1 .0) (c .before .judged .ensures)
 
 returns : tie.Need-returns
-returns c =
-    let a = c .before .before .before .before .before .before .args in
-    subst (Checks (settingsOf (a .c)) (a .s .now) (a .d .now)) (c .before .g .given .1) (c .before .before .before .check .ensures) .1
-
-enum-known-g-2 : tie.Need-enum-known-g-2
-enum-known-g-2 c = search needs
+returns c = judges-accepted _ _ _ (c .before .before .before .before .judged .last .1 .1 .0) (c .before .before .before .before .judged .last .1 .1 .1 .0) (c .before .before .before .before .judged .result) (c .before .before .before .in-order .result) (c .before .before .before .before .judged .ensures) (ordered (c .before .before .before)) _ (c .before .o .given .1)
 
 returns-2 : tie.Need-returns-2
-returns-2 c =
-    let a = c .before .before .before .before .before .before .args in
-    subst (Checks (settingsOf (a .c)) (a .s .now) (a .d .now)) (c .before .g2 .given .1) (c .before .before .before .check .ensures) .1
-
-enum-told : tie.Need-enum-told
-enum-told c = search needs
-
-decide-legible-requires : tie.Need-decide-legible-requires
-decide-legible-requires c κs = (omega (arith, legible (c .before .before) .type .short), c .before .before .before .before .before .before .before .pre)
-
-enum-known-v : tie.Need-enum-known-v
-enum-known-v c = search needs
-
-enum-known-v-2 : tie.Need-enum-known-v-2
-enum-known-v-2 c = search needs
-
-enum-known-v-3 : tie.Need-enum-known-v-3
-enum-known-v-3 c = search needs
+returns-2 c = judges-malformed _ _ _ (c .before .before .before .before .judged .last .1 .1 .0) (c .before .before .before .before .judged .last .1 .1 .1 .0) (c .before .before .before .before .judged .result) (c .before .before .before .in-order .result) (c .before .before .before .before .judged .ensures) (ordered (c .before .before .before)) _ (c .before .o2 .given .1)
 
 returns-3 : tie.Need-returns-3
-returns-3 c =
-    let w = c .before .before .before in
-    judges-accepted _ _ (legible (w .before .before .before)) (w .decide-legible .last .1 .1 .1 .0) (w .decide-legible .last .1 .1 .1 .1 .0) (w .decide-legible .result) (w .decide-legible .ensures) _ (c .before .v .given .1)
+returns-3 c = judges-ambiguous _ _ _ (c .before .before .before .before .judged .last .1 .1 .0) (c .before .before .before .before .judged .last .1 .1 .1 .0) (c .before .before .before .before .judged .result) (c .before .before .before .in-order .result) (c .before .before .before .before .judged .ensures) (ordered (c .before .before .before)) _ (c .before .o3 .given .1)
 
 returns-4 : tie.Need-returns-4
-returns-4 c =
-    let w = c .before .before .before in
-    judges-malformed _ _ (legible (w .before .before .before)) (w .decide-legible .last .1 .1 .1 .0) (w .decide-legible .last .1 .1 .1 .1 .0) (w .decide-legible .result) (w .decide-legible .ensures) _ (c .before .v2 .given .1)
-
-returns-5 : tie.Need-returns-5
-returns-5 c =
-    let w = c .before .before .before in
-    judges-ambiguous _ _ (legible (w .before .before .before)) (w .decide-legible .last .1 .1 .1 .0) (w .decide-legible .last .1 .1 .1 .1 .0) (w .decide-legible .result) (w .decide-legible .ensures) _ (c .before .v3 .given .1)
+returns-4 c = judges-document _ _ _ (c .before .before .before .before .judged .last .1 .1 .0) (c .before .before .before .before .judged .last .1 .1 .1 .0) (c .before .before .before .before .judged .result) (c .before .before .before .in-order .result) (c .before .before .before .before .judged .ensures) (ordered (c .before .before .before)) _ (c .before .o4 .given .1)
 
 pub judged-spec : {M : Type 1} → statement M
 judged-spec =
     tie.close
     (tie.spec
-    check-requires
-    enum-known-g
+    judged-requires
+    in-order-requires
+    enum-known-o
+    enum-known-o-2
+    enum-known-o-3
+    enum-known-o-4
     returns
-    enum-known-g-2
     returns-2
-    enum-told
-    decide-legible-requires
-    enum-known-v
-    enum-known-v-2
-    enum-known-v-3
     returns-3
-    returns-4
-    returns-5)
+    returns-4)

@@ -2,7 +2,7 @@
 use mathlib.Core.Path.{refl, sym, ap, _∙_}
 use native.Mathlib.Omega.{arith}
 use Rattle.rules_laws.specs.Within.{typeFile-count}
-use Rattle.attribute_lists.specs.Means.{anyIn}
+use Rattle.attribute_lists.specs.Listed.{anyIn}
 use Rattle.attribute_lists.specs.Heads.{lists-filled, lists-none}
 use borrow.Author.Needs.{needs}
 use Rattle.document_reader.proofs.read_under.Statement.{statement}
@@ -10,7 +10,7 @@ use Rattle.document_reader.proofs.read_under.Tie as tie
 
 has-any-requires : tie.Need-has-any-requires
 has-any-requires c κs =
-    let (es, a, k, w, h) = c .before .before .before .before .pre .0 in
+    let (es, a, k, w, h) = c .before .before .before .pre .0 in
     omega (arith, k, typeFile-count _ _ es (a .elements))
 
 slice-aggregate-fill : tie.Need-slice-aggregate-fill
@@ -18,7 +18,7 @@ slice-aggregate-fill c = search needs
 
 fill-requires : tie.Need-fill-requires
 fill-requires c κs =
-    let (es, a, k, w, h) = c .before .before .before .before .before .before .before .pre .0 in
+    let (es, a, k, w, h) = c .before .before .before .before .before .before .pre .0 in
     (omega (arith, k, typeFile-count _ _ es (a .elements)), a .legible .short, refl)
 
 slice-aggregate-read-listed : tie.Need-slice-aggregate-read-listed
@@ -26,39 +26,32 @@ slice-aggregate-read-listed c = search needs
 
 read-listed-requires : tie.Need-read-listed-requires
 read-listed-requires c κs =
-    let f = c .before .before .before .before in
-    let pre = f .before .before .before .before .before .before .before .before .pre in
+    let f = c .before .before .before .fill in
+    let pre = c .before .before .before .before .before .before .before .before .before .before .pre in
     let (es, a, k, w, h) = pre .0 in
-    ((es, a, k, w, lists-filled h _ (λ ls g j l. f .fill .ensures ls g j (omega (arith, k, l)))), pre .1)
+    ((es, a, k, w, lists-filled h _ (λ ls g j l. f .ensures ls g j (omega (arith, k, l)))), pre .1)
 
 same-length : tie.Need-same-length
 same-length c = search needs
 
-same-length-2 : tie.Need-same-length-2
-same-length-2 c = search needs
-
 returns : tie.Need-returns
-returns c = c .before .before .before .before .read-listed .ensures
+returns c = c .before .before .read-listed .ensures
 
 slice-aggregate-read-listed-2 : tie.Need-slice-aggregate-read-listed-2
 slice-aggregate-read-listed-2 c = search needs
 
 read-listed-requires-2 : tie.Need-read-listed-requires-2
 read-listed-requires-2 c κs =
-    let t = c .before .before .before in
-    let pre = t .before .before .before .before .before .before .pre in
+    let pre = c .before .before .before .before .before .before .before .pre in
     let (es, a, k, w, h) = pre .0 in
-    let none = ap (anyIn _) k ∙ sym (t .before .has-any .ensures) ∙ t .if1 .left in
+    let none = ap (anyIn _) k ∙ sym (c .before .before .before .has-any .ensures) ∙ c .before .before .if1 .left in
     ((es, a, k, w, lists-none h (typeFile-count _ _ es (a .elements) .1) none), pre .1)
 
-same-length-3 : tie.Need-same-length-3
-same-length-3 c = search needs
-
-same-length-4 : tie.Need-same-length-4
-same-length-4 c = search needs
+same-length-2 : tie.Need-same-length-2
+same-length-2 c = search needs
 
 returns-2 : tie.Need-returns-2
-returns-2 c = c .before .before .before .before .read-listed2 .ensures
+returns-2 c = c .before .before .read-listed2 .ensures
 
 pub read-under-spec : {M : Type 1} → statement M
 read-under-spec =
@@ -70,10 +63,8 @@ read-under-spec =
     slice-aggregate-read-listed
     read-listed-requires
     same-length
-    same-length-2
     returns
     slice-aggregate-read-listed-2
     read-listed-requires-2
-    same-length-3
-    same-length-4
+    same-length-2
     returns-2)

@@ -1,7 +1,7 @@
 -- `byte_at` meets its contract: each way by the tests that led there.
 use mathlib.Core.Path.{sym, _∙_}
 use borrow.Author.Needs.{needs}
-use Rattle.document_text.specs.Laws.{byte-skipped, byte-blank, byte-data}
+use Rattle.document_text.specs.Ways.{byte-skipped, byte-blank, byte-data}
 use Rattle.document_text.proofs.byte_at.Statement.{statement}
 use Rattle.document_text.proofs.byte_at.Tie as tie
 

@@ -1,7 +1,7 @@
 -- `declaration_at` meets its contract: each way by the tests that led there.
 use mathlib.Core.Path.{sym, _∙_}
 use borrow.Author.Needs.{needs}
-use Rattle.document_text.specs.Laws.{declaration-none, declaration-comment, declaration-out, declaration-data}
+use Rattle.document_text.specs.Ways.{declaration-none, declaration-comment, declaration-out, declaration-data}
 use Rattle.document_text.proofs.declaration_at.Statement.{statement}
 use Rattle.document_text.proofs.declaration_at.Tie as tie
 

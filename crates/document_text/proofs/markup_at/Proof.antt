@@ -6,11 +6,10 @@ use lib.ListN.{length}
 use lib.Dec.{eqb}
 use borrow.Author.Needs.{needs}
 use Rattle.rules.specs.Bytes.{byteAt}
-use Rattle.rules.specs.Settings.{settings}
 use Rattle.rules.specs.Document.{startTagAt}
-use Rattle.text.specs.Laws.{letter-in, second}
+use Rattle.text.specs.Words.{letter-in, second}
 use Rattle.tags.specs.Tags.{tagOf}
-use Rattle.document_text.specs.Laws.{markup-start, markup-end, markup-declaration, markup-out, markup-data, end-no-start, declaration-no-start, meets-other}
+use Rattle.document_text.specs.Ways.{markup-start, markup-end, markup-declaration, markup-out, markup-data, end-no-start, declaration-no-start, meets-other}
 use Rattle.document_text.proofs.markup_at.Statement.{statement}
 use Rattle.document_text.proofs.markup_at.Tie as tie
 
@@ -37,7 +36,7 @@ returns c =
     let t = c .before .before .before in
     let b = t .before .before in
     let a = b .before .before .args in
-    let o = settings (a .long) in
+    let o = a .long in
     rw (sym (markup-start o (a .s .now) (a .i) _ (b .byte .ensures) (sym (t .before .is-letter .ensures) ∙ t .if1 .taken)))
     (c .start-tag .ensures (length (a .s .now)) _ (startTagAt o (a .s .now) (a .i + 1)) (c .before .start-tag-at .ensures))
 
@@ -63,7 +62,7 @@ returns-2 c =
     let b = l .before .before in
     let a = b .before .before .args in
     meets-other (length (a .s .now)) (a .given .now) (c .end-tag .result) (c .end-tag .ensures) (end-no-start (tagOf (c .before .tag-at .result)))
-    (markup-end (settings (a .long)) (a .s .now) (a .i) _ (b .byte .ensures) (sym (l .before .is-letter .ensures) ∙ l .if1 .left) (sym (e .is-end-tag .ensures) ∙ c .before .before .if2 .taken) _ (c .before .tag-at .ensures))
+    (markup-end (a .long) (a .s .now) (a .i) _ (b .byte .ensures) (sym (l .before .is-letter .ensures) ∙ l .if1 .left) (sym (e .is-end-tag .ensures) ∙ c .before .before .if2 .taken) _ (c .before .tag-at .ensures))
 
 declaration-at-requires : tie.Need-declaration-at-requires
 declaration-at-requires c κs = search needs
@@ -75,7 +74,7 @@ returns-3 c =
     let b = l .before .before in
     let a = b .before .before .args in
     meets-other (length (a .s .now)) (a .given .now) (c .declaration-at .result) (c .declaration-at .ensures) (declaration-no-start (a .s .now) (a .i))
-    (markup-declaration (settings (a .long)) (a .s .now) (a .i) _ (b .byte .ensures) (sym (l .before .is-letter .ensures) ∙ l .if1 .left) (sym (t .before .is-end-tag .ensures) ∙ t .if2 .left) (c .before .if3 .taken))
+    (markup-declaration (a .long) (a .s .now) (a .i) _ (b .byte .ensures) (sym (l .before .is-letter .ensures) ∙ l .if1 .left) (sym (t .before .is-end-tag .ensures) ∙ t .if2 .left) (c .before .if3 .taken))
 
 returns-4 : tie.Need-returns-4
 returns-4 c =
@@ -84,7 +83,7 @@ returns-4 c =
     let b = l .before .before in
     let a = b .before .before .args in
     sym
-    (markup-out (settings (a .long)) (a .s .now) (a .i) _ (b .byte .ensures) (sym (l .before .is-letter .ensures) ∙ l .if1 .left) (sym (t .before .is-end-tag .ensures) ∙ t .if2 .left) (c .before .if3 .left) (c .if4 .taken))
+    (markup-out (a .long) (a .s .now) (a .i) _ (b .byte .ensures) (sym (l .before .is-letter .ensures) ∙ l .if1 .left) (sym (t .before .is-end-tag .ensures) ∙ t .if2 .left) (c .before .if3 .left) (c .if4 .taken))
 
 returns-5 : tie.Need-returns-5
 returns-5 c =
@@ -93,7 +92,7 @@ returns-5 c =
     let b = l .before .before in
     let a = b .before .before .args in
     sym
-    (markup-data (settings (a .long)) (a .s .now) (a .i) _ (b .byte .ensures) (sym (l .before .is-letter .ensures) ∙ l .if1 .left) (sym (t .before .is-end-tag .ensures) ∙ t .if2 .left) (c .before .if3 .left) (c .if4 .left))
+    (markup-data (a .long) (a .s .now) (a .i) _ (b .byte .ensures) (sym (l .before .is-letter .ensures) ∙ l .if1 .left) (sym (t .before .is-end-tag .ensures) ∙ t .if2 .left) (c .before .if3 .left) (c .if4 .left))
 
 pub markup-at-spec : {M : Type 1} → statement M
 markup-at-spec =

@@ -1,6 +1,6 @@
 -- `start_tag` meets its contract: the answer is the one that the match found.
 use borrow.Author.Needs.{needs}
-use Rattle.document_text.specs.Laws.{meets-start, meets-refused}
+use Rattle.document_text.specs.Ways.{meets-start, meets-refused}
 use Rattle.document_text.proofs.start_tag.Statement.{statement}
 use Rattle.document_text.proofs.start_tag.Tie as tie
 

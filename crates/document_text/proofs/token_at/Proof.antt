@@ -2,8 +2,7 @@
 use mathlib.Core.Path.{sym, _∙_}
 use lib.ListN.{length}
 use borrow.Author.Needs.{needs}
-use Rattle.rules.specs.Settings.{settings}
-use Rattle.document_text.specs.Laws.{piece-markup, piece-reference, piece-section, piece-byte, byte-no-start, meets-other}
+use Rattle.document_text.specs.Ways.{piece-markup, piece-reference, piece-section, piece-byte, byte-no-start, meets-other}
 use Rattle.document_text.proofs.token_at.Statement.{statement}
 use Rattle.document_text.proofs.token_at.Tie as tie
 
@@ -17,7 +16,7 @@ returns : tie.Need-returns
 returns c =
     let t = c .before .before in
     let a = t .before .before .before .args in
-    rw (sym (piece-markup (settings (a .long)) (a .s .now) (a .i) (sym (t .before .byte .ensures) ∙ t .if1 .taken))) (c .markup-at .ensures)
+    rw (sym (piece-markup (a .long) (a .s .now) (a .i) (sym (t .before .byte .ensures) ∙ t .if1 .taken))) (c .markup-at .ensures)
 
 is-reference-requires : tie.Need-is-reference-requires
 is-reference-requires c κs = search needs
@@ -27,7 +26,7 @@ returns-2 c =
     let l = c .before .before in
     let b = l .before in
     let a = b .before .before .args in
-    sym (piece-reference (settings (a .long)) (a .s .now) (a .i) (λ e. l .if1 .left (b .byte .ensures ∙ e)) (sym (c .before .is-reference .ensures) ∙ c .if2 .taken))
+    sym (piece-reference (a .long) (a .s .now) (a .i) (λ e. l .if1 .left (b .byte .ensures ∙ e)) (sym (c .before .is-reference .ensures) ∙ c .if2 .taken))
 
 is-section-end-requires : tie.Need-is-section-end-requires
 is-section-end-requires c κs = search needs
@@ -39,7 +38,7 @@ returns-3 c =
     let b = l .before in
     let a = b .before .before .args in
     sym
-    (piece-section (settings (a .long)) (a .s .now) (a .i) (λ e. l .if1 .left (b .byte .ensures ∙ e)) (sym (r .before .is-reference .ensures) ∙ r .if2 .left) (sym (c .before .is-section-end .ensures) ∙ c .if3 .taken))
+    (piece-section (a .long) (a .s .now) (a .i) (λ e. l .if1 .left (b .byte .ensures ∙ e)) (sym (r .before .is-reference .ensures) ∙ r .if2 .left) (sym (c .before .is-section-end .ensures) ∙ c .if3 .taken))
 
 byte-at-requires : tie.Need-byte-at-requires
 byte-at-requires c κs = search needs
@@ -52,7 +51,7 @@ returns-4 c =
     let b = l .before in
     let a = b .before .before .args in
     meets-other (length (a .s .now)) (a .given .now) (c .byte-at .result) (c .byte-at .ensures) (byte-no-start (a .s .now) (a .i))
-    (piece-byte (settings (a .long)) (a .s .now) (a .i) (λ x. l .if1 .left (b .byte .ensures ∙ x)) (sym (r .before .is-reference .ensures) ∙ r .if2 .left) (sym (e .before .is-section-end .ensures) ∙ e .if3 .left))
+    (piece-byte (a .long) (a .s .now) (a .i) (λ x. l .if1 .left (b .byte .ensures ∙ x)) (sym (r .before .is-reference .ensures) ∙ r .if2 .left) (sym (e .before .is-section-end .ensures) ∙ e .if3 .left))
 
 pub token-at-spec : {M : Type 1} → statement M
 token-at-spec =

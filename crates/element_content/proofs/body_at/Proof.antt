@@ -3,10 +3,9 @@ use mathlib.Core.Path.{_≡_, sym, ap, _∙_}
 use native.Mathlib.Omega.{arith}
 use lib.ListN.{length}
 use borrow.Author.Needs.{needs}
-use Rattle.rules.specs.Settings.{settings}
 use Rattle.rules.specs.Bytes.{byteAt, letter}
-use Rattle.text.specs.Means.{refusalOf}
-use Rattle.text.specs.Laws.{tested, byte-is-in}
+use Rattle.text.specs.Refusal.{refusalOf}
+use Rattle.text.specs.Words.{tested, byte-is-in}
 use Rattle.gaps.specs.Unfit.{unfit-is}
 use Rattle.element_content.specs.Contents.{content-model, content-word, content-unfit, body-refused}
 use Rattle.element_content.proofs.body_at.Statement.{statement}
@@ -30,7 +29,7 @@ body-model-requires c κs =
 returns : tie.Need-returns
 returns c =
     let a = c .before .before .before .before .before .before .args in
-    rw (content-model (settings (a .long)) (a .s .now) (a .from) (a .i) (opens (c .before .before .before))) (c .body-model .ensures)
+    rw (content-model (a .long) (a .s .now) (a .from) (a .i) (opens (c .before .before .before))) (c .body-model .ensures)
 
 is-letter-requires : tie.Need-is-letter-requires
 is-letter-requires c κs = search needs
@@ -43,7 +42,7 @@ returns-2 c =
     let read = c .before .before .before .before in
     let a = read .before .before .before .before .args in
     let letter-is = tested letter (read .before .before .byte .ensures) (read .is-letter .ensures) (c .before .before .before .if2 .taken) in
-    rw (content-word (settings (a .long)) (a .s .now) (a .from) (a .i) (no-open (read .before)) letter-is) (c .body-word .ensures)
+    rw (content-word (a .long) (a .s .now) (a .from) (a .i) (no-open (read .before)) letter-is) (c .body-word .ensures)
 
 unfit-at-requires : tie.Need-unfit-at-requires
 unfit-at-requires c κs = search needs
@@ -53,7 +52,7 @@ returns-3 c =
     let start = c .before .before .before .before .before .before in
     let a = start .args in
     let letter-is = tested letter (c .before .before .before .before .byte .ensures) (c .before .before .is-letter .ensures) (c .before .if2 .left) in
-    let unfit = content-unfit (settings (a .long)) (a .s .now) (a .from) (a .i) (no-open (c .before .before .before)) letter-is in
+    let unfit = content-unfit (a .long) (a .s .now) (a .from) (a .i) (no-open (c .before .before .before)) letter-is in
     body-refused (length (a .s .now)) (a .names .now) (a .table .now) (c .unfit-at .result) _
     (unfit ∙ sym (unfit-is (a .s .now) (a .i)) ∙ ap refusalOf (sym (c .unfit-at .ensures)))
 

@@ -4,7 +4,6 @@ use mathlib.Core.List.{[]}
 use native.Mathlib.Omega.{arith}
 use lib.ListN.{length}
 use borrow.Author.Needs.{needs}
-use Rattle.rules.specs.Settings.{settings}
 use Rattle.rules.specs.Bytes.{GRPLVL}
 use Rattle.rules.specs.Reading.{got}
 use Rattle.rules.specs.TypeFile.{Tokens, group}
@@ -18,7 +17,7 @@ use Rattle.element_content.proofs.body_model.Tie as tie
 -- The group was read.
 group-read : (c : tie.After-known-told)
     → (t : Tokens)
-    × (group (settings (c .before .before .before .before .before .before .before .before .before .args .long)) GRPLVL (c .before .before .before .before .before .before .before .before .before .args .s .now) (c .before .before .before .before .before .before .before .before .before .args .i) [] 0 ≡ got t)
+    × (group (c .before .before .before .before .before .before .before .before .before .args .long) GRPLVL (c .before .before .before .before .before .before .before .before .before .args .s .now) (c .before .before .before .before .before .before .before .before .before .args .i) [] 0 ≡ got t)
     × Keeps (length (c .before .before .before .before .before .before .before .before .before .args .s .now)) (begun 1 (c .before .before .before .before .before .before .clear .last .0) 0 2) 1 0 (c .before .before .before .group-at .last .1 .1 .1 .1 .1 .1 .1 .0) (c .before .before .before .group-at .last .1 .1 .1 .1 .1 .1 .1 .1 .0) (c .before .r .given .0 .0) t
 unfolding placesOf
 group-read c =
@@ -46,7 +45,7 @@ returns c =
     let a = c .before .before .before .before .before .before .before .before .before .args in
     let last = c .before .before .before .group-at .last .1 .1 .1 .1 .1 .1 .1 in
     body-refused (length (a .s .now)) (last .0) (last .1 .0) _ _
-    (model-refused (settings (a .long)) (a .s .now) (a .i)
+    (model-refused (a .long) (a .s .now) (a .i)
     (model-fault (length (a .s .now)) (begun 1 (c .before .before .before .before .before .before .clear .last .0) 0 2) (last .0) (last .1 .0) (c .before .before .before .group-at .result) _ (c .before .before .before .group-at .ensures) (c .before .enum-told .given .1) (c .fault-of .ensures)))
 
 with-occurrence-requires : tie.Need-with-occurrence-requires
@@ -72,8 +71,8 @@ returns-2 c =
     let names = c .before .before .before .before .before .before .before .before .before .before .before .group-at .last .1 .1 .1 .1 .1 .1 .1 .0 in
     let model = group-read (c .before .before .before .before .before .before .before .before) in
     let kept = c .before .before .before .before .before .before .with-occurrence .ensures _ names _ 0 (model .0) (model .2) in
-    body-meets (length (a .s .now)) names (c .before .before .before .finish .last .0) _ _ _ (model-got (settings (a .long)) (a .s .now) (a .i) (model .1))
-    (model-kept kept (model-plain (settings (a .long)) (a .s .now) (a .i) (c .before .before .before .before .before .before .before .before .before .before .before .before .before .before .before .before .before .pre .0) (model .0) (model .1)) (model-guarded (settings (a .long)) (a .s .now) (a .i) (c .before .before .before .before .before .before .before .before .before .before .before .before .before .before .before .before .before .pre .0) (model .0) (model .1)) (c .before .before .before .before .before .before .before .before .before .before .before .before .before .before .clear .ensures)
+    body-meets (length (a .s .now)) names (c .before .before .before .finish .last .0) _ _ _ (model-got (a .long) (a .s .now) (a .i) (model .1))
+    (model-kept kept (model-plain (a .long) (a .s .now) (a .i) (c .before .before .before .before .before .before .before .before .before .before .before .before .before .before .before .before .before .pre .0) (model .0) (model .1)) (model-guarded (a .long) (a .s .now) (a .i) (c .before .before .before .before .before .before .before .before .before .before .before .before .before .before .before .before .before .pre .0) (model .0) (model .1)) (c .before .before .before .before .before .before .before .before .before .before .before .before .before .before .clear .ensures)
     _ _ _ (c .before .before .before .finish .ensures) (c .before .before .short .ensures .0) (c .before .short2 .ensures .0) (c .short3 .ensures .0))
 
 pub body-model-spec : {M : Type 1} → statement M

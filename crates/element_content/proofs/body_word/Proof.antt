@@ -8,10 +8,9 @@ use lib.ListN.{length}
 use lib.Dec.{ltb}
 use borrow.Author.Needs.{needs}
 use borrow.Author.Tests.{lt-ltb, le-ltb}
-use Rattle.rules.specs.Settings.{settings}
 use Rattle.rules.specs.Bytes.{nameEnd}
 use Rattle.rules.specs.TypeFile.{isWord, EMPTY, ANY, CDATA, RCDATA}
-use Rattle.text.specs.Laws.{nameEnd-from, nameEnd-le}
+use Rattle.text.specs.Words.{nameEnd-from, nameEnd-le}
 use Rattle.element_content.specs.Contents.{word-long, word-empty, word-named, word-other, body-meets, body-refused, body-wrong}
 use Rattle.element_content.proofs.body_word.Statement.{statement}
 use Rattle.element_content.proofs.body_word.Tie as tie
@@ -33,7 +32,7 @@ sub-if1 c = from-in c
 returns : tie.Need-returns
 returns c =
     let a = c .before .before .before .args in
-    body-refused (length (a .s .now)) (a .names .now) (a .table .now) _ _ (word-long (settings (a .long)) (a .s .now) (a .from) (a .i) (omega arith))
+    body-refused (length (a .s .now)) (a .names .now) (a .table .now) _ _ (word-long (a .long) (a .s .now) (a .from) (a .i) (omega arith))
 
 slice-aggregate-is-word : tie.Need-slice-aggregate-is-word
 slice-aggregate-is-word c = search needs
@@ -50,7 +49,7 @@ returns-2 c =
     let passed : (ltb (a .from) (a .i) && isWord (a .s .now) (a .i) (nameEnd (a .s .now) (a .i)) EMPTY) ≡ true =
     rw (lt-ltb _ _ (c .before .before .before .if2 .taken), ← name .name-end .ensures) (sym (c .before .is-word .ensures) ∙ c .if3 .taken)
     in
-    body-meets (length (a .s .now)) (a .names .now) (a .table .now) _ _ _ (word-empty (settings (a .long)) (a .s .now) (a .from) (a .i) (omega arith) passed)
+    body-meets (length (a .s .now)) (a .names .now) (a .table .now) _ _ _ (word-empty (a .long) (a .s .now) (a .from) (a .i) (omega arith) passed)
     (record { at = name .name-end .ensures; at-in = rw (← name .name-end .ensures) (end-in name); repeated-at = refl; content = (refl, refl) })
 
 slice-aggregate-is-word-2 : tie.Need-slice-aggregate-is-word-2
@@ -94,7 +93,7 @@ returns-3 c =
     (c .if4 .came)
     in
     body-refused (length (a .s .now)) (a .names .now) (a .table .now) _ _
-    (word-named (settings (a .long)) (a .s .now) (a .from) (a .i) (omega arith) (no-empty (c .before .before .before)) (rw (name .name-end .ensures) at passed))
+    (word-named (a .long) (a .s .now) (a .from) (a .i) (omega arith) (no-empty (c .before .before .before)) (rw (name .name-end .ensures) at passed))
 
 wrong-word-requires : tie.Need-wrong-word-requires
 wrong-word-requires c κs =
@@ -111,7 +110,7 @@ returns-4 d =
     rw (← word .is-word2 .ensures, c .before .before .before .before .before .before .if4 .left, ← c .before .before .before .before .is-word3 .ensures, c .before .before .before .if5 .left, ← c .before .is-word4 .ensures, c .if6 .left)
     in
     body-wrong (length (a .s .now)) (a .names .now) (a .table .now) (a .s .now) (a .from) (a .i) (name .name-end .result) (d .wrong-word .result) _ (name .name-end .ensures) (d .wrong-word .ensures)
-    (word-other (settings (a .long)) (a .s .now) (a .from) (a .i) (omega arith) (no-empty (word .before .before)) (rw (name .name-end .ensures) at passed))
+    (word-other (a .long) (a .s .now) (a .from) (a .i) (omega arith) (no-empty (word .before .before)) (rw (name .name-end .ensures) at passed))
 
 pub body-word-spec : {M : Type 1} → statement M
 body-word-spec =

@@ -3,10 +3,9 @@ use Prim.Native.Nat.{_+_, _≤_, _<_}
 use mathlib.Core.Path.{_≡_, sym, _∙_}
 use lib.ListN.{length}
 use borrow.Author.Needs.{needs}
-use Rattle.rules.specs.Settings.{settings}
 use Rattle.rules.specs.Reading.{got}
 use Rattle.rules.specs.TypeFile.{gap}
-use Rattle.text.specs.Laws.{gap-range, reached-got, reached-refused}
+use Rattle.text.specs.Words.{gap-range, reached-got, reached-refused}
 use Rattle.element_head.specs.Words.{head-gap, head-name, head-words}
 use Rattle.element_head.specs.Ends.{name-in, head-in}
 use Rattle.element_head.proofs.head_at.Statement.{statement}
@@ -28,7 +27,7 @@ returns : tie.Need-returns
 returns c =
     let a = c .before .before .before .before .before .args in
     let refused = reached-refused (c .before .before .before .gap-end .ensures) (c .before .enum-told .given .1) (c .fault-of .ensures) in
-    (λ es n r. sym (head-gap (settings (a .long)) (a .s .now) (a .at) es refused), tt)
+    (λ es n r. sym (head-gap (a .long) (a .s .now) (a .at) es refused), tt)
 
 -- The gap was read.
 gap-read : (c : tie.After-known-told) → gap (c .before .before .before .before .before .args .s .now) (c .before .before .before .before .before .args .at) ≡ got (c .before .g .given .0 .0)
@@ -60,7 +59,7 @@ returns-2 c =
     let a = read .before .before .before .before .before .args in (
       λ es n r.
           sym
-          (head-name (settings (a .long)) (a .s .now) (a .at) es (gap-read read)
+          (head-name (a .long) (a .s .now) (a .at) es (gap-read read)
           (reached-refused (c .before .before .before .element-name .ensures .0 es n r) (c .before .enum-told2 .given .1) (c .fault-of2 .ensures))),
       tt,
     )
@@ -86,8 +85,8 @@ returns-3 c =
     let size = name-read name in (
       λ es n r.
           c .words-at .ensures
-          ∙ sym (head-words (settings (a .long)) (a .s .now) (a .at) es (gap-read read) (reached-got (name .before .before .before .element-name .ensures .0 es n r) (name .before .n .given .1))),
-      head-in (settings (a .long)) (a .s .now) _ _ (a .at) (a .count) (c .words-at .result) (c .words-at .ensures) (gap-in read .0) (size .0) (size .1) (size .2) (size .3),
+          ∙ sym (head-words (a .long) (a .s .now) (a .at) es (gap-read read) (reached-got (name .before .before .before .element-name .ensures .0 es n r) (name .before .n .given .1))),
+      head-in (a .long) (a .s .now) _ _ (a .at) (a .count) (c .words-at .result) (c .words-at .ensures) (gap-in read .0) (size .0) (size .1) (size .2) (size .3),
     )
 
 pub head-at-spec : {M : Type 1} → statement M

@@ -6,10 +6,9 @@ use native.Mathlib.Omega.{arith}
 use lib.Dec.{eqb, ltb}
 use borrow.Author.Needs.{needs}
 use borrow.Author.Tests.{ne-eqb, ltb-true, lt-ltb, le-ltb}
-use Rattle.rules.specs.Settings.{settings}
 use Rattle.rules.specs.Bytes.{byteAt, letter, nameEnd}
 use Rattle.rules.specs.TypeFile.{isWord, O}
-use Rattle.text.specs.Laws.{tested, nameEnd-from, nameEnd-le}
+use Rattle.text.specs.Words.{tested, nameEnd-from, nameEnd-le}
 use Rattle.element_head.specs.Words.{omission-dash, omission-other, omission-long, omission-o, omission-word}
 use Rattle.element_head.proofs.omission_at.Statement.{statement}
 use Rattle.element_head.proofs.omission_at.Tie as tie
@@ -23,7 +22,7 @@ add-t10 c = search needs
 returns : tie.Need-returns
 returns c =
     let a = c .before .before .before .before .args in
-    sym (omission-dash (settings (a .long)) (a .s .now) (a .from) (a .i) (sym (c .before .before .byte .ensures) ∙ c .before .if1 .taken) (ltb-true _ _ (c .if2 .taken)))
+    sym (omission-dash (a .long) (a .s .now) (a .from) (a .i) (sym (c .before .before .byte .ensures) ∙ c .before .if1 .taken) (ltb-true _ _ (c .if2 .taken)))
 
 -- No "-" that is parted from the parameter before stands there.
 no-dash : (c : tie.Joined1)
@@ -48,7 +47,7 @@ sub-if4 c =
 returns-2 : tie.Need-returns-2
 returns-2 c =
     let a = c .before .before .before .before .before .before .before .args in
-    sym (omission-long (settings (a .long)) (a .s .now) (a .from) (a .i) (no-dash (c .before .before .before .before)) (a-letter (c .before .before)) (omega arith))
+    sym (omission-long (a .long) (a .s .now) (a .from) (a .i) (no-dash (c .before .before .before .before)) (a-letter (c .before .before)) (omega arith))
 
 slice-aggregate-is-word : tie.Need-slice-aggregate-is-word
 slice-aggregate-is-word c = search needs
@@ -71,7 +70,7 @@ returns-3 c =
     let passed : (ltb (a .from) (a .i) && isWord (a .s .now) (a .i) (nameEnd (a .s .now) (a .i)) O) ≡ true =
     rw (lt-ltb _ _ (c .before .before .before .if5 .taken)) (sym (word (c .before)) ∙ c .if6 .taken)
     in
-    let got : _ = omission-o (settings (a .long)) (a .s .now) (a .from) (a .i) (no-dash (name .before .before .before)) (a-letter (name .before)) (omega arith) passed in
+    let got : _ = omission-o (a .long) (a .s .now) (a .from) (a .i) (no-dash (name .before .before .before)) (a-letter (name .before)) (omega arith) passed in
     rw (name .name-end .ensures) (sym got)
 
 -- The word is not parted from the parameter before, or another.
@@ -84,13 +83,13 @@ returns-4 : tie.Need-returns-4
 returns-4 c =
     let a = c .before .before .before .before .before .before .before .before .args in
     let name = c .before .before in
-    sym (omission-word (settings (a .long)) (a .s .now) (a .from) (a .i) (no-dash (name .before .before .before)) (a-letter (name .before)) (omega arith) (no-word c))
+    sym (omission-word (a .long) (a .s .now) (a .from) (a .i) (no-dash (name .before .before .before)) (a-letter (name .before)) (omega arith) (no-word c))
 
 returns-5 : tie.Need-returns-5
 returns-5 c =
     let a = c .before .before .before .before .before .args in
     sym
-    (omission-other (settings (a .long)) (a .s .now) (a .from) (a .i) (no-dash (c .before .before))
+    (omission-other (a .long) (a .s .now) (a .from) (a .i) (no-dash (c .before .before))
     (tested letter (c .before .before .before .byte .ensures) (c .before .is-letter .ensures) (c .if3 .left)))
 
 pub omission-at-spec : {M : Type 1} → statement M

@@ -3,10 +3,9 @@ use Prim.Native.Nat.{_≤_}
 use mathlib.Core.Path.{_≡_, sym}
 use lib.ListN.{length}
 use borrow.Author.Needs.{needs}
-use Rattle.rules.specs.Settings.{settings}
 use Rattle.rules.specs.Reading.{got}
 use Rattle.rules.specs.TypeFile.{gap, omission}
-use Rattle.text.specs.Laws.{gap-range, reached-got, reached-refused}
+use Rattle.text.specs.Words.{gap-range, reached-got, reached-refused}
 use Rattle.element_head.specs.Words.{word-got, word-refused, words-gap, words-start, words-between, words-end, words-got}
 use Rattle.rules_laws.specs.Declarations.{omission-range}
 use Rattle.element_head.proofs.words_at.Statement.{statement}
@@ -27,7 +26,7 @@ fault-of-requires c κs = search needs
 returns : tie.Need-returns
 returns c =
     let a = c .before .before .before .before .before .args in
-    sym (words-gap (settings (a .long)) (a .s .now) (a .i) (a .e) (reached-refused (c .before .before .before .gap-end .ensures) (c .before .enum-told .given .1) (c .fault-of .ensures)))
+    sym (words-gap (a .long) (a .s .now) (a .i) (a .e) (reached-refused (c .before .before .before .gap-end .ensures) (c .before .enum-told .given .1) (c .fault-of .ensures)))
 
 -- The first gap was read.
 gap-read : (c : tie.After-known-told) → gap (c .before .before .before .before .before .args .s .now) (c .before .before .before .before .before .args .e) ≡ got (c .before .g .given .0 .0)
@@ -55,12 +54,12 @@ returns-2 c =
     let read = c .before .before .before .before in
     let a = read .before .before .before .before .before .args in
     sym
-    (words-start (settings (a .long)) (a .s .now) (a .i) (a .e) (gap-read read)
+    (words-start (a .long) (a .s .now) (a .i) (a .e) (gap-read read)
     (word-refused (c .before .before .before .omission-at .ensures) (c .before .enum-told2 .given .1) (c .fault-of-omission .ensures)))
 
 -- The first word was read.
 start-read : (c : tie.After-known-told2)
-    → omission (settings (c .before .before .before .before .before .before .before .before .before .args .long)) (c .before .before .before .before .before .before .before .before .before .args .s .now) (c .before .before .before .before .before .before .before .before .before .args .e) (c .before .before .before .before .before .g .given .0 .0)
+    → omission (c .before .before .before .before .before .before .before .before .before .args .long) (c .before .before .before .before .before .before .before .before .before .args .s .now) (c .before .before .before .before .before .before .before .before .before .args .e) (c .before .before .before .before .before .g .given .0 .0)
     ≡ got (record { value = c .before .a .given .0 .0; at = c .before .a .given .0 .1 .0 })
 start-read c = word-got (c .before .before .before .omission-at .ensures) (c .before .a .given .1)
 
@@ -68,7 +67,7 @@ start-in : (c : tie.After-known-told2) → c .before .a .given .0 .1 .0 ≤ leng
 start-in c =
     let read = c .before .before .before .before in
     let a = read .before .before .before .before .before .args in
-    omission-range (settings (a .long)) (a .s .now) (a .e) _ _ (gap-in read) (start-read c) .1
+    omission-range (a .long) (a .s .now) (a .e) _ _ (gap-in read) (start-read c) .1
 
 gap-end-requires-2 : tie.Need-gap-end-requires-2
 gap-end-requires-2 c κs = start-in c
@@ -88,7 +87,7 @@ returns-3 c =
     let read = word .before .before .before .before in
     let a = read .before .before .before .before .before .args in
     sym
-    (words-between (settings (a .long)) (a .s .now) (a .i) (a .e) (gap-read read) (start-read word)
+    (words-between (a .long) (a .s .now) (a .i) (a .e) (gap-read read) (start-read word)
     (reached-refused (c .before .before .before .gap-end2 .ensures) (c .before .enum-told3 .given .1) (c .fault-of2 .ensures)))
 
 -- The second gap was read.
@@ -119,7 +118,7 @@ returns-4 c =
     let read = word .before .before .before .before in
     let a = read .before .before .before .before .before .args in
     sym
-    (words-end (settings (a .long)) (a .s .now) (a .i) (a .e) (gap-read read) (start-read word) (between-read between)
+    (words-end (a .long) (a .s .now) (a .i) (a .e) (gap-read read) (start-read word) (between-read between)
     (word-refused (c .before .before .before .omission-at2 .ensures) (c .before .enum-told4 .given .1) (c .fault-of-omission2 .ensures)))
 
 sub-t19 : tie.Need-sub-t19
@@ -132,7 +131,7 @@ returns-5 c =
     let read = word .before .before .before .before in
     let a = read .before .before .before .before .before .args in
     sym
-    (words-got (settings (a .long)) (a .s .now) (a .i) (a .e) (gap-read read) (start-read word) (between-read between)
+    (words-got (a .long) (a .s .now) (a .i) (a .e) (gap-read read) (start-read word) (between-read between)
     (word-got (c .before .before .before .omission-at2 .ensures) (c .before .b .given .1)))
 
 pub words-at-spec : {M : Type 1} → statement M

@@ -1,7 +1,7 @@
 -- `comes_next` meets its contract: its tests, one after the other.
 use borrow.Author.Needs.{needs}
 use native.Mathlib.Omega.{arith}
-use Rattle.element_index.specs.Laws.{follows-falls, follows-over, follows-by}
+use Rattle.element_index.specs.Seeking.{follows-falls, follows-over, follows-by}
 use Rattle.element_index.proofs.comes_next.Statement.{statement}
 use Rattle.element_index.proofs.comes_next.Tie as tie
 

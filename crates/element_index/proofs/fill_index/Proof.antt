@@ -8,8 +8,8 @@ use Rattle.rules.specs.Settings.{Settings}
 use Rattle.rules.specs.TypeFile.{Element}
 use Rattle.rules.specs.Judge.{Accepts}
 use Rattle.rules_laws.specs.Within.{typeFile-count}
-use Rattle.element_reader.specs.Means.{Recorded}
-use Rattle.element_index.specs.Laws.{Filled, filled-none, filled-more, filled-all, size-in}
+use Rattle.element_reader.specs.Keeps.{Recorded}
+use Rattle.element_index.specs.Seeking.{Filled, filled-none, filled-more, filled-all, size-in}
 use Rattle.element_index.proofs.fill_index.Statement.{statement}
 use Rattle.element_index.proofs.fill_index.Tie as tie
 
@@ -28,7 +28,7 @@ loop-holds c =
     let none = c .before .pre .1 in
     let (e, judged) = c .before .pre .0 in
     let (es, accepted, n, recorded) = judged in
-    let few = typeFile-count e (a .s .now) es (accepted .elements) in
+    let few = typeFile-count (e .nameLength) (a .s .now) es (accepted .elements) in
     (omega arith, omega arith, λ e es accepted n recorded. filled-none (a .s .now) es (a .index .now) (a .count) n none)
 
 put-index-requires : tie.Need-put-index-requires Inv-loop μ-loop

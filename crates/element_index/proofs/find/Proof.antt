@@ -10,8 +10,8 @@ use borrow.Author.Tests.{not-true, not-false}
 use lib.ListN.{length, getD}
 use Rattle.rules.specs.Bytes.{byteAt, letter}
 use Rattle.rules.specs.TypeFile.{Element}
-use Rattle.element_index.specs.Means.{Indexed}
-use Rattle.element_index.specs.Laws.{Seeks, bucket-read, letter-read, follows-true, none-found, seeks-start, seeks-end, seeks-found, seeks-next, seeks-counted}
+use Rattle.element_index.specs.Indexed.{Indexed}
+use Rattle.element_index.specs.Seeking.{Seeks, bucket-read, letter-read, follows-true, none-found, seeks-start, seeks-end, seeks-found, seeks-next, seeks-counted}
 use Rattle.element_index.proofs.find.Statement.{statement}
 use Rattle.element_index.proofs.find.Tie as tie
 

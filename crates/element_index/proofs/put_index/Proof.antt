@@ -1,6 +1,6 @@
 -- `put_index` meets its contract: what it reads of the record, one call after the other.
 use borrow.Author.Needs.{needs}
-use Rattle.element_index.specs.Laws.{put-read}
+use Rattle.element_index.specs.Seeking.{put-read}
 use Rattle.element_index.proofs.put_index.Statement.{statement}
 use Rattle.element_index.proofs.put_index.Tie as tie
 

@@ -7,7 +7,7 @@ use mathlib.Core.Logic.{⊎-elim}
 use native.Mathlib.Omega.{arith}
 use borrow.Author.Needs.{needs}
 use Rattle.rules.specs.Bytes.{byteAt, fold, sameText}
-use Rattle.text.specs.Laws.{sameText-start, sameText-turn, sameText-other, sameText-all}
+use Rattle.text.specs.Words.{sameText-start, sameText-turn, sameText-other, sameText-all}
 use Rattle.element_index.proofs.same_name.Statement.{statement}
 use Rattle.element_index.proofs.same_name.Tie as tie
 

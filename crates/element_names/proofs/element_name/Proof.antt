@@ -3,10 +3,9 @@ use mathlib.Core.Path.{_≡_, sym, ap, _∙_}
 use mathlib.Core.Bool.{true, false}
 use native.Mathlib.Omega.{arith}
 use borrow.Author.Needs.{needs}
-use Rattle.rules.specs.Settings.{settings}
 use Rattle.rules.specs.Bytes.{byteAt, letter}
-use Rattle.text.specs.Means.{refusalOf}
-use Rattle.text.specs.Laws.{tested, nameEnd-from, nameEnd-le, nameEnd-more}
+use Rattle.text.specs.Refusal.{refusalOf}
+use Rattle.text.specs.Words.{tested, nameEnd-from, nameEnd-le, nameEnd-more}
 use Rattle.gaps.specs.Unfit.{unfit-is}
 use Rattle.element_names.specs.Naming.{name-long, name-again, name-many, name-got, name-group, name-unfit}
 use Rattle.element_names.proofs.element_name.Statement.{statement}
@@ -35,7 +34,7 @@ sub-if2 c =
 returns : tie.Need-returns
 returns c =
     let a = c .before .before .before .before .before .before .args in
-    (λ es n r. sym (name-long (settings (a .long)) (a .s .now) (a .i) es (a-letter (c .before .before)) (omega arith)), tt)
+    (λ es n r. sym (name-long (a .long) (a .s .now) (a .i) es (a-letter (c .before .before)) (omega arith)), tt)
 
 sub-declared : tie.Need-sub-declared
 sub-declared c =
@@ -56,7 +55,7 @@ returns-2 : tie.Need-returns-2
 returns-2 c =
     let a = c .before .before .before .before .before .before .before .before .args in
     let name = c .before .before .before in (
-      λ es n r. sym (name-again (settings (a .long)) (a .s .now) (a .i) es (a-letter (name .before)) (omega arith) (rw (← name .name-end .ensures) (sym (c .before .declared .ensures .0 es n r .0) ∙ c .if3 .taken))),
+      λ es n r. sym (name-again (a .long) (a .s .now) (a .i) es (a-letter (name .before)) (omega arith) (rw (← name .name-end .ensures) (sym (c .before .declared .ensures .0 es n r .0) ∙ c .if3 .taken))),
       tt,
     )
 
@@ -64,7 +63,7 @@ returns-3 : tie.Need-returns-3
 returns-3 c =
     let a = c .before .before .before .before .before .before .before .before .before .args in
     let name = c .before .before .before .before in (
-      λ es n r. sym (name-many (settings (a .long)) (a .s .now) (a .i) es (a-letter (name .before)) (omega arith) (rw (← name .name-end .ensures) (sym (c .before .before .declared .ensures .0 es n r .0) ∙ c .before .if3 .left)) (omega arith)),
+      λ es n r. sym (name-many (a .long) (a .s .now) (a .i) es (a-letter (name .before)) (omega arith) (rw (← name .name-end .ensures) (sym (c .before .before .declared .ensures .0 es n r .0) ∙ c .before .if3 .left)) (omega arith)),
       tt,
     )
 
@@ -75,14 +74,14 @@ returns-4 c =
     let name = c .before .before .before .before in (
       λ es n r.
           rw (name .name-end .ensures)
-          (sym (name-got (settings (a .long)) (a .s .now) (a .i) es (a-letter (name .before)) (omega arith) (rw (← name .name-end .ensures) (sym (c .before .before .declared .ensures .0 es n r .0) ∙ c .before .if3 .left)) (omega arith))),
+          (sym (name-got (a .long) (a .s .now) (a .i) es (a-letter (name .before)) (omega arith) (rw (← name .name-end .ensures) (sym (c .before .before .declared .ensures .0 es n r .0) ∙ c .before .if3 .left)) (omega arith))),
       omega (arith, start .pre, nameEnd-from (a .s .now) (a .i), nameEnd-le (a .s .now) (a .i) (start .pre .0)),
     )
 
 returns-5 : tie.Need-returns-5
 returns-5 c =
     let a = c .before .before .before .before .before .args in
-    (λ es n r. sym (name-group (settings (a .long)) (a .s .now) (a .i) es (no-letter (c .before)) (sym (c .before .before .before .byte .ensures) ∙ c .if5 .taken)), tt)
+    (λ es n r. sym (name-group (a .long) (a .s .now) (a .i) es (no-letter (c .before)) (sym (c .before .before .before .byte .ensures) ∙ c .if5 .taken)), tt)
 
 unfit-at-requires : tie.Need-unfit-at-requires
 unfit-at-requires c κs = search needs
@@ -93,7 +92,7 @@ returns-6 c =
       λ es n r.
           ap refusalOf (c .unfit-at .ensures)
           ∙ unfit-is (a .s .now) (a .i)
-          ∙ sym (name-unfit (settings (a .long)) (a .s .now) (a .i) es (no-letter (c .before .before)) (λ e. c .before .if5 .left (c .before .before .before .before .byte .ensures ∙ e))),
+          ∙ sym (name-unfit (a .long) (a .s .now) (a .i) es (no-letter (c .before .before)) (λ e. c .before .if5 .left (c .before .before .before .before .byte .ensures ∙ e))),
       tt,
     )
 

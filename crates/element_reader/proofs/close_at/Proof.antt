@@ -7,9 +7,9 @@ use lib.Dec.{eqb}
 use borrow.Author.Needs.{needs}
 use borrow.Author.Tests.{eq-eqb, ne-eqb}
 use Rattle.rules.specs.Bytes.{byteAt}
-use Rattle.text.specs.Means.{refusalOf}
+use Rattle.text.specs.Refusal.{refusalOf}
 use Rattle.gaps.specs.Unfit.{unfit-is}
-use Rattle.element_reader.specs.Laws.{close-end, close-exception, close-unfit}
+use Rattle.element_reader.specs.Ways.{close-end, close-exception, close-unfit}
 use Rattle.element_reader.proofs.close_at.Statement.{statement}
 use Rattle.element_reader.proofs.close_at.Tie as tie
 

@@ -2,9 +2,8 @@
 use Prim.Native.Nat.{_≤_, _<_}
 use lib.ListN.{length}
 use borrow.Author.Needs.{needs}
-use Rattle.rules.specs.Settings.{settings}
 use Rattle.element_head.specs.Words.{head-got, head-refused}
-use Rattle.element_reader.specs.Laws.{element-head, element-rest, element-refused, element-from, element-room}
+use Rattle.element_reader.specs.Ways.{element-head, element-rest, element-refused, element-from, element-room}
 use Rattle.element_head.specs.Ends.{head-within}
 use Rattle.element_reader.proofs.element_at.Statement.{statement}
 use Rattle.element_reader.proofs.element_at.Tie as tie
@@ -26,7 +25,7 @@ returns c =
     let a = c .before .before .before .before .before .args in (
       λ es n r.
           element-refused (length (a .s .now)) (a .at) (a .names .now) (a .table .now) es _ _
-          (element-head (settings (a .long)) (a .s .now) (a .at) es
+          (element-head (a .long) (a .s .now) (a .at) es
           (head-refused (c .before .before .before .head-at .ensures .0 es n r) (c .before .enum-told .given .1) (c .fault-of-head .ensures))),
       tt,
     )
@@ -56,7 +55,7 @@ returns-2 c =
     let a = start read .args in
     let last = c .rest-at .last .1 .1 .1 in (
       λ es n r.
-          rw (element-rest (settings (a .long)) (a .s .now) (a .at) es (head-got (read .before .before .before .head-at .ensures .0 es n r) (read .before .r .given .1)))
+          rw (element-rest (a .long) (a .s .now) (a .at) es (head-got (read .before .before .before .head-at .ensures .0 es n r) (read .before .r .given .1)))
           (element-from (length (a .s .now)) (last .0) (last .1 .0) es (c .rest-at .result) _ (head-read read .0) (c .rest-at .ensures es)),
       element-room (a .count) (c .rest-at .result) (head-read read .4),
     )

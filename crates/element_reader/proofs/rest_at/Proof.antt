@@ -4,14 +4,13 @@ use mathlib.Core.Path.{_≡_, refl}
 use native.Mathlib.Omega.{arith}
 use lib.ListN.{length}
 use borrow.Author.Needs.{needs}
-use Rattle.rules.specs.Settings.{settings}
 use Rattle.rules.specs.Reading.{got}
 use Rattle.rules.specs.TypeFile.{ContentEnd, gap, content}
-use Rattle.text.specs.Laws.{gap-range, reached-got, reached-refused}
+use Rattle.text.specs.Words.{gap-range, reached-got, reached-refused}
 use Rattle.element_head.specs.Heads.{headIn}
 use Rattle.element_content.specs.Kept.{KeepsBody}
 use Rattle.element_content.specs.Contents.{body-read, body-fault}
-use Rattle.element_reader.specs.Laws.{rest-gap, rest-content, rest-between, rest-close, rest-got, element-meets, element-refused}
+use Rattle.element_reader.specs.Ways.{rest-gap, rest-content, rest-between, rest-close, rest-got, element-meets, element-refused}
 use Rattle.rules_laws.specs.Groups.{content-from}
 use Rattle.rules_laws.specs.Declarations.{close-range}
 use Rattle.element_reader.proofs.rest_at.Statement.{statement}
@@ -33,7 +32,7 @@ returns : tie.Need-returns
 returns c es =
     let a = c .before .before .before .before .before .args in
     element-refused (length (a .s .now)) (a .h .at) (a .names .now) (a .table .now) es _ _
-    (rest-gap (settings (a .long)) (a .s .now) es (headIn (a .h))
+    (rest-gap (a .long) (a .s .now) es (headIn (a .h))
     (reached-refused (c .before .before .before .gap-end .ensures) (c .before .enum-told .given .1) (c .fault-of .ensures)))
 
 -- The gap before the content was read.
@@ -66,7 +65,7 @@ returns-2 c es =
     let a = start read .args in
     let last = body .body-at .last .1 .1 .1 .1 in
     element-refused (length (a .s .now)) (a .h .at) (last .0) (last .1 .0) es _ _
-    (rest-content (settings (a .long)) (a .s .now) es (headIn (a .h)) (gap-read read)
+    (rest-content (a .long) (a .s .now) es (headIn (a .h)) (gap-read read)
     (body-fault (length (a .s .now)) (last .0) (last .1 .0) (body .body-at .result) _ (body .body-at .ensures) (c .before .enum-told2 .given .1) (c .fault-of-body .ensures)))
 
 -- The content was read.
@@ -76,7 +75,7 @@ gap-before c = c .before .before .before .before .before .before
 
 body-kept : (c : tie.After-known-told2)
     → (d : ContentEnd)
-    × (content (settings (start (gap-before c) .args .long)) (start (gap-before c) .args .s .now) (start (gap-before c) .args .h .at) (gap-before c .before .g .given .0 .0) ≡ got d)
+    × (content (start (gap-before c) .args .long) (start (gap-before c) .args .s .now) (start (gap-before c) .args .h .at) (gap-before c .before .g .given .0 .0) ≡ got d)
     × KeepsBody (length (start (gap-before c) .args .s .now)) (c .before .before .before .body-at .last .1 .1 .1 .1 .0) (c .before .before .before .body-at .last .1 .1 .1 .1 .1 .0) (c .before .c .given .0 .0) d
 body-kept c =
     let body = c .before .before .before in
@@ -104,7 +103,7 @@ returns-3 c es =
     let a = start (gap-before body) .args in
     let last = body .before .before .before .body-at .last .1 .1 .1 .1 in
     element-refused (length (a .s .now)) (a .h .at) (last .0) (last .1 .0) es _ _
-    (rest-between (settings (a .long)) (a .s .now) es (headIn (a .h)) (gap-read (gap-before body)) (kept .1)
+    (rest-between (a .long) (a .s .now) es (headIn (a .h)) (gap-read (gap-before body)) (kept .1)
     (rw (kept .2 .at) at (reached-refused (c .before .before .before .gap-end2 .ensures) (c .before .enum-told3 .given .1) (c .fault-of2 .ensures))))
 
 -- The gap before the end was read.
@@ -138,7 +137,7 @@ returns-4 c es =
     let a = start (gap-before body) .args in
     let last = body .before .before .before .body-at .last .1 .1 .1 .1 in
     element-refused (length (a .s .now)) (a .h .at) (last .0) (last .1 .0) es _ _
-    (rest-close (settings (a .long)) (a .s .now) es (headIn (a .h)) (gap-read (gap-before body)) (body-kept body .1) (between-read between)
+    (rest-close (a .long) (a .s .now) es (headIn (a .h)) (gap-read (gap-before body)) (body-kept body .1) (between-read between)
     (reached-refused (c .before .before .before .close-at .ensures) (c .before .enum-told4 .given .1) (c .fault-of3 .ensures)))
 
 returns-5 : tie.Need-returns-5
@@ -152,9 +151,9 @@ returns-5 c es =
     let kept = body-kept body in
     let closed = reached-got (c .before .before .before .close-at .ensures) (c .before .z .given .1) in
     let closed-in = close-range (a .s .now) _ _ closed in
-    let from = content-from (settings (a .long)) (a .s .now) (a .h .at) _ (kept .0) (kept .1) in
+    let from = content-from (a .long) (a .s .now) (a .h .at) _ (kept .0) (kept .1) in
     element-meets (length (a .s .now)) (a .h .at) (last .0) (last .1 .0) es _ _ _
-    (rest-got (settings (a .long)) (a .s .now) es (headIn (a .h)) (gap-read (gap-before body)) (kept .1) (between-read between) closed)
+    (rest-got (a .long) (a .s .now) es (headIn (a .h)) (gap-read (gap-before body)) (kept .1) (between-read between) closed)
     (record {
       element = _;
       grows = refl;

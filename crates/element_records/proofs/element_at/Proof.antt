@@ -7,10 +7,9 @@ use native.Mathlib.Omega.{arith}
 use lib.ListN.{length}
 use borrow.Author.Needs.{needs}
 use borrow.Author.Tests.{eq-eqb, ne-eqb}
-use Rattle.rules.specs.Settings.{settings}
 use Rattle.rules.specs.Reading.{got}
 use Rattle.rules.specs.TypeFile.{Element, Declared, element, earlier}
-use Rattle.element_reader.specs.Means.{KeepsElement, MeetsElement}
+use Rattle.element_reader.specs.Keeps.{KeepsElement, MeetsElement}
 use Rattle.element_records.specs.Progress.{KeepsProgress}
 use Rattle.element_records.specs.Declaration.{element-refused, element-kept, element-fits, element-places, element-step}
 use Rattle.element_records.proofs.element_at.Statement.{statement}
@@ -21,7 +20,7 @@ read : (c : tie.After-element-at) →
     let a = c .before .before .before .before .before .args in
     let l = c .element-at .last .1 .1 .1 .1 .1 in
     (es : List Element) → KeepsProgress (a .s .now) (a .elements .now) (a .p) es
-    → MeetsElement (length (a .s .now)) (a .at) (l .0) (l .1 .0) es (c .element-at .result) (element (settings (a .long)) (a .s .now) (a .at) es)
+    → MeetsElement (length (a .s .now)) (a .at) (l .0) (l .1 .0) es (c .element-at .result) (element (a .long) (a .s .now) (a .at) es)
 read c es k = c .element-at .ensures .0 es (sym (k .counted)) (k .recorded)
 
 -- What it keeps of the declaration that it read.
@@ -29,11 +28,11 @@ kept : (c : tie.After-r) →
     let a = c .before .before .before .before .before .before .before .args in
     let l = c .before .before .element-at .last .1 .1 .1 .1 .1 in
     (es : List Element) → KeepsProgress (a .s .now) (a .elements .now) (a .p) es
-    → (d : Declared) × (element (settings (a .long)) (a .s .now) (a .at) es ≡ got d) × KeepsElement (length (a .s .now)) (a .at) (l .0) (l .1 .0) es (c .r .given .0 .0) d
+    → (d : Declared) × (element (a .long) (a .s .now) (a .at) es ≡ got d) × KeepsElement (length (a .s .now)) (a .at) (l .0) (l .1 .0) es (c .r .given .0 .0) d
 kept c es k =
     let a = c .before .before .before .before .before .before .before .args in
     let l = c .before .before .element-at .last .1 .1 .1 .1 .1 in
-    element-kept (a .s .now) (a .at) (l .0) (l .1 .0) es (c .before .before .element-at .result) (element (settings (a .long)) (a .s .now) (a .at) es) (c .r .given .0 .0) (c .r .given .1) (read (c .before .before) es k)
+    element-kept (a .s .now) (a .at) (l .0) (l .1 .0) es (c .before .before .element-at .result) (element (a .long) (a .s .now) (a .at) es) (c .r .given .0 .0) (c .r .given .1) (read (c .before .before) es k)
 
 few : (c : tie.After-r) → c .before .before .before .before .before .before .before .args .p .count < 64
 few c = rw (c .r .given .1) at (c .before .before .element-at .ensures .1)
@@ -66,7 +65,7 @@ returns : tie.Need-returns
 returns c es k =
     let a = c .before .before .before .before .before .before .before .before .args in
     let l = c .before .before .before .element-at .last .1 .1 .1 .1 .1 in
-    element-refused (a .s .now) (a .at) (l .0) (l .1 .0) es (a .elements .now) (c .before .before .before .element-at .result) (element (settings (a .long)) (a .s .now) (a .at) es) _ _ (c .before .enum-told .given .1) (c .fault-of .ensures)
+    element-refused (a .s .now) (a .at) (l .0) (l .1 .0) es (a .elements .now) (c .before .before .before .element-at .result) (element (a .long) (a .s .now) (a .at) es) _ _ (c .before .enum-told .given .1) (c .fault-of .ensures)
     (read (c .before .before .before) es k)
 
 put-record-requires : tie.Need-put-record-requires
@@ -96,7 +95,7 @@ returns-2 c es k =
     let w = c .before .before .before .before .before .put-record in
     let r = c .before .before .before .before .before .before .before .before in
     let (d, q, m) = kept r es k in
-    element-step (a .s .now) (a .at) (l .0) (l .1 .0) es _ d m (a .elements .now) (w .last .0) (a .p) (c .clash-with .result) _ (element (settings (a .long)) (a .s .now) (a .at) es) q k (few r) (w .ensures)
+    element-step (a .s .now) (a .at) (l .0) (l .1 .0) es _ d m (a .elements .now) (w .last .0) (a .p) (c .clash-with .result) _ (element (a .long) (a .s .now) (a .at) es) q k (few r) (w .ensures)
     (first-is (c .before .before .before)) (λ y z. c .clash-with .ensures es (m .element .content) (k .pending y) (m .content) z)
 
 pub element-at-spec : {M : Type 1} → statement M

@@ -5,8 +5,8 @@ use mathlib.Core.List.{_∷_, []}
 use native.Mathlib.Omega.{arith}
 use Rattle.rules.specs.Lent.{bytesOf}
 use Rattle.rules.specs.Events.{eventWidth}
-use Rattle.numbers.specs.Laws.{written-not}
-use Rattle.event_buffer.specs.Laws.{five-numbers-stored}
+use Rattle.numbers.specs.Stores.{written-not}
+use Rattle.event_buffer.specs.EventByEvent.{five-numbers-stored}
 use borrow.Author.Needs.{needs}
 use Rattle.event_buffer.proofs.note_bytes.Statement.{statement}
 use Rattle.event_buffer.proofs.note_bytes.Tie as tie

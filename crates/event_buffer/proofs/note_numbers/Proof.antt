@@ -5,7 +5,7 @@ use mathlib.Core.List.{_∷_, []}
 use native.Mathlib.Omega.{arith}
 use lib.ListN.{length-set}
 use Rattle.rules.specs.Events.{eventWidth}
-use Rattle.numbers.specs.Laws.{five-stored, written-fits, written-not}
+use Rattle.numbers.specs.Stores.{five-stored, written-fits, written-not}
 use borrow.Author.Needs.{needs}
 use Rattle.event_buffer.proofs.note_numbers.Statement.{statement}
 use Rattle.event_buffer.proofs.note_numbers.Tie as tie

@@ -1,6 +1,6 @@
 -- `put_attribute` meets its contract: both buffers get the event's numbers behind those of n events.
 use mathlib.Core.Path.{refl}
-use Rattle.event_buffer.specs.Laws.{puts-noted}
+use Rattle.event_buffer.specs.EventByEvent.{puts-noted}
 use borrow.Author.Needs.{needs}
 use Rattle.event_buffer.proofs.put_attribute.Statement.{statement}
 use Rattle.event_buffer.proofs.put_attribute.Tie as tie

@@ -1,6 +1,6 @@
--- `put_event` meets its contract: both buffers get the event's numbers behind those of n events.
+-- `put_event` meets its contract: both buffers get the event's numbers behind those of n events, or over those of the last.
 use mathlib.Core.Path.{refl}
-use Rattle.event_buffer.specs.Laws.{puts-noted}
+use Rattle.event_buffer.specs.EventByEvent.{puts-noted, over-noted}
 use borrow.Author.Needs.{needs}
 use Rattle.event_buffer.proofs.put_event.Statement.{statement}
 use Rattle.event_buffer.proofs.put_event.Tie as tie
@@ -35,7 +35,12 @@ same-length-2 c = search needs
 returns : tie.Need-returns
 returns c =
     let a = c .before .before .before .before .before .before .before .before .before .before .before .before .args in
-    (refl, puts-noted (a .numbers .now) (a .bytes .now) (a .n) (a .kind) (a .element .0) (a .at) (a .size) (a .place .0) (c .before .before .before .before .before .before .note-numbers .ensures) (c .before .before .note-bytes .ensures))
+    let noted = c .before .before .before .before .before .before .note-numbers .ensures in
+    let stored = c .before .before .note-bytes .ensures in (
+      refl,
+      puts-noted (a .numbers .now) (a .bytes .now) (a .n) (a .kind) (a .element .0) (a .at) (a .size) (a .place .0) noted stored,
+      over-noted (a .numbers .now) (a .bytes .now) (a .n) (a .kind) (a .element .0) (a .at) (a .size) (a .place .0) noted stored,
+    )
 
 pub put-event-spec : {M : Type 1} → statement M
 put-event-spec =

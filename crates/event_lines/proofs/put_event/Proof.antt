@@ -1,7 +1,7 @@
 -- `event_lines::put_event` puts the line of one event.
 use native.Mathlib.Omega.{arith}
 use borrow.Author.Needs.{needs}
-use Rattle.event_lines.specs.Laws.{puts-line}
+use Rattle.event_lines.specs.LineByLine.{puts-line}
 use Rattle.event_lines.proofs.put_event.Statement.{statement}
 use Rattle.event_lines.proofs.put_event.Tie as tie
 

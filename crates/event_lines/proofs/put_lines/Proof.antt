@@ -1,7 +1,7 @@
 -- `event_lines::put_lines` puts the lines of all events. The invariant says what is left of them, and that each line took at most 72 bytes.
 use Prim.Native.Nat.{_+_, _*_, _-_, _≤_}
 use native.Mathlib.Omega.{arith}
-use Rattle.event_lines.specs.Laws.{Lines, linesLeft, allLines, lines-start, lines-turn, lines-end}
+use Rattle.event_lines.specs.LineByLine.{Lines, linesLeft, allLines, lines-start, lines-turn, lines-end}
 use Rattle.event_lines.proofs.put_lines.Statement.{statement}
 use Rattle.event_lines.proofs.put_lines.Tie as tie
 

@@ -1,6 +1,6 @@
 -- `event_lines::put_refusal` puts the text of a refusal.
 use borrow.Author.Needs.{needs}
-use Rattle.event_lines.specs.Laws.{puts-refusal}
+use Rattle.event_lines.specs.LineByLine.{puts-refusal}
 use Rattle.event_lines.proofs.put_refusal.Statement.{statement}
 use Rattle.event_lines.proofs.put_refusal.Tie as tie
 

@@ -1,7 +1,7 @@
 -- `event_names::put_attribute` puts the name that the table of attributes has for the numbers.
 use native.Mathlib.Omega.{arith}
 use borrow.Author.Needs.{needs}
-use Rattle.event_names.specs.Laws.{puts-name, puts-no-name, attribute-by, attribute-none}
+use Rattle.event_names.specs.Naming.{puts-name, puts-no-name, attribute-by, attribute-none}
 use Rattle.event_names.proofs.put_attribute.Statement.{statement}
 use Rattle.event_names.proofs.put_attribute.Tie as tie
 

@@ -2,7 +2,7 @@
 use Prim.Native.Nat.{_-_}
 use native.Mathlib.Omega.{arith}
 use borrow.Author.Needs.{needs}
-use Rattle.event_names.specs.Laws.{puts-name, puts-no-name, name-zero, name-by, name-none}
+use Rattle.event_names.specs.Naming.{puts-name, puts-no-name, name-zero, name-by, name-none}
 use Rattle.event_names.proofs.put_name.Statement.{statement}
 use Rattle.event_names.proofs.put_name.Tie as tie
 

@@ -1,6 +1,6 @@
 -- `event_names::put_named` puts the name of an attribute or of an element, as the kind says.
 use borrow.Author.Needs.{needs}
-use Rattle.event_names.specs.Laws.{named-attribute, named-element, puts-named}
+use Rattle.event_names.specs.Naming.{named-attribute, named-element, puts-named}
 use Rattle.event_names.proofs.put_named.Statement.{statement}
 use Rattle.event_names.proofs.put_named.Tie as tie
 

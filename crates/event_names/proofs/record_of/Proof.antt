@@ -2,8 +2,8 @@
 use Prim.Native.Nat.{_-_, _≤_}
 use mathlib.Core.Logic.{⊎-elim}
 use mathlib.Core.Path.{_≡_, _∙_}
-use Rattle.event_names.specs.Means.{recordOf}
-use Rattle.event_names.specs.Laws.{recordLeft, record-first, record-here, record-other, record-behind, record-none}
+use Rattle.event_names.specs.Names.{recordOf}
+use Rattle.event_names.specs.Naming.{recordLeft, record-first, record-here, record-other, record-behind, record-none}
 use native.Mathlib.Omega.{arith}
 use Rattle.event_names.proofs.record_of.Statement.{statement}
 use Rattle.event_names.proofs.record_of.Tie as tie

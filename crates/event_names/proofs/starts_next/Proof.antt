@@ -1,8 +1,8 @@
 -- `event_names::starts_next` finds the next start. The invariant: the events from j on give the answer.
 use Prim.Native.Nat.{_-_}
 use mathlib.Core.Path.{_≡_, refl, _∙_}
-use Rattle.event_names.specs.Means.{startsAt}
-use Rattle.event_names.specs.Laws.{starts-here, starts-behind, starts-none}
+use Rattle.event_names.specs.Names.{startsAt}
+use Rattle.event_names.specs.Naming.{starts-here, starts-behind, starts-none}
 use native.Mathlib.Omega.{arith}
 use Rattle.event_names.proofs.starts_next.Statement.{statement}
 use Rattle.event_names.proofs.starts_next.Tie as tie

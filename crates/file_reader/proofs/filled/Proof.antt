@@ -8,8 +8,8 @@ use native.Mathlib.Omega.{arith}
 use lib.ListN.{length}
 use borrow.Rule.Slice.PartMut.{midOf, mid-len}
 use borrow.Author.Needs.{needs}
-use Rattle.file_reader.specs.Means.{GivenIn}
-use Rattle.file_reader.specs.Laws.{given-in, loaded-of}
+use Rattle.file_reader.specs.Loaded.{GivenIn}
+use Rattle.file_reader.specs.Loading.{given-in, loaded-of}
 use Rattle.file_reader.specs.declared.Given.{Given}
 use Rattle.file_reader.specs.declared.Given.the-variants.{Bytes}
 use Rattle.file_reader.proofs.filled.Statement.{statement}

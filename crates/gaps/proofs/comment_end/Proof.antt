@@ -5,8 +5,8 @@ use native.Mathlib.Omega.{arith}
 use lib.ListN.{length}
 use borrow.Author.Needs.{needs}
 use Rattle.rules.specs.Reading.{refused, got}
-use Rattle.text.specs.Means.{reached}
-use Rattle.text.specs.Laws.{reached-got, dashes-in, gapOn, comment-cut, comment-closed, comment-unfit, comment-inside}
+use Rattle.text.specs.Refusal.{reached}
+use Rattle.text.specs.Words.{reached-got, dashes-in, gapOn, comment-cut, comment-closed, comment-unfit, comment-inside}
 use Rattle.gaps.proofs.comment_end.Statement.{statement}
 use Rattle.gaps.proofs.comment_end.Tie as tie
 

@@ -1,7 +1,7 @@
 -- `gap_end` meets its contract: the gap goes on where its first separators end.
 use mathlib.Core.Path.{_∙_}
 use native.Mathlib.Omega.{arith}
-use Rattle.text.specs.Laws.{separatorsEnd-le, gap-start}
+use Rattle.text.specs.Words.{separatorsEnd-le, gap-start}
 use Rattle.gaps.proofs.gap_end.Statement.{statement}
 use Rattle.gaps.proofs.gap_end.Tie as tie
 

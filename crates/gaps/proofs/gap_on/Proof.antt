@@ -7,8 +7,8 @@ use native.Mathlib.Omega.{arith}
 use lib.ListN.{length}
 use Rattle.rules.specs.Bytes.{separatorsEnd}
 use Rattle.rules.specs.TypeFile.{atDashes}
-use Rattle.text.specs.Laws.{separatorsEnd-from, separatorsEnd-le, dashes-in, dashes-end-in}
-use Rattle.text.specs.Laws.{gapOn, gapOn-open, gapOn-percent, gapOn-end, gap-turn}
+use Rattle.text.specs.Words.{separatorsEnd-from, separatorsEnd-le, dashes-in, dashes-end-in}
+use Rattle.text.specs.Words.{gapOn, gapOn-open, gapOn-percent, gapOn-end, gap-turn}
 use Rattle.gaps.proofs.gap_on.Statement.{statement}
 use Rattle.gaps.proofs.gap_on.Tie as tie
 

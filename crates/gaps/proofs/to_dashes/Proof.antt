@@ -4,7 +4,7 @@ use mathlib.Core.Path.{_≡_, refl, sym, _∙_}
 use native.Mathlib.Omega.{arith}
 use lib.ListN.{length, drop}
 use Rattle.rules.specs.TypeFile.{beforeDashes}
-use Rattle.text.specs.Laws.{before-dashes, before-turn, before-stop, before-all}
+use Rattle.text.specs.Words.{before-dashes, before-turn, before-stop, before-all}
 use Rattle.gaps.proofs.to_dashes.Statement.{statement}
 use Rattle.gaps.proofs.to_dashes.Tie as tie
 

@@ -1,6 +1,6 @@
 -- `infer_start` meets its contract: the required place is taken, the element opened there, and its start noted.
 use borrow.Author.Needs.{needs}
-use Rattle.open_elements.specs.Laws.{stands-required}
+use Rattle.open_elements.specs.Methods.{stands-required}
 use Rattle.inferring.proofs.infer_start.Statement.{statement}
 use Rattle.inferring.proofs.infer_start.Tie as tie
 

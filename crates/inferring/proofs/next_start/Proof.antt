@@ -1,6 +1,6 @@
 -- `next_start` meets its contract: it is what the tables answer.
 use borrow.Author.Needs.{needs}
-use Rattle.open_elements.specs.Laws.{stands-required}
+use Rattle.open_elements.specs.Methods.{stands-required}
 use Rattle.inferring.proofs.next_start.Statement.{statement}
 use Rattle.inferring.proofs.next_start.Tie as tie
 

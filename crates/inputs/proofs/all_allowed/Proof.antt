@@ -3,7 +3,7 @@ use Prim.Native.Nat.{_-_}
 use mathlib.Core.Logic.{⊎-elim, inl, inr}
 use native.Mathlib.Omega.{arith}
 use lib.ListN.{length}
-use Rattle.inputs.specs.Laws.{Looked, looked-none, looked-turn, looked-all}
+use Rattle.inputs.specs.Looking.{Looked, looked-none, looked-turn, looked-all}
 use Rattle.inputs.proofs.all_allowed.Statement.{statement}
 use Rattle.inputs.proofs.all_allowed.Tie as tie
 

@@ -1,4 +1,4 @@
--- `is_offered` meets its contract: both tests, the second where the first holds.
+-- `is_offered` meets its contract: each test where those before it hold.
 use borrow.Author.Tests.{le-leb, lt-leb}
 use Rattle.rules.specs.Settings.{isOffered}
 use Rattle.inputs.proofs.is_offered.Statement.{statement}
@@ -6,11 +6,19 @@ use Rattle.inputs.proofs.is_offered.Tie as tie
 
 returns : tie.Need-returns
 unfolding isOffered
-returns c = rw (le-leb _ _ (c .before .if1 .taken))
+returns c = rw (isOffered, lt-leb _ _ (c .if1 .taken))
 
 returns-2 : tie.Need-returns-2
 unfolding isOffered
-returns-2 c = rw (lt-leb _ _ (c .if1 .left))
+returns-2 c = rw (isOffered, le-leb _ _ (c .before .before .if1 .left), lt-leb _ _ (c .if2 .taken))
+
+returns-3 : tie.Need-returns-3
+unfolding isOffered
+returns-3 c = rw (isOffered, le-leb _ _ (c .before .before .before .before .before .if1 .left), le-leb _ _ (c .before .before .before .if2 .left), le-leb _ _ (c .before .if3 .taken))
+
+returns-4 : tie.Need-returns-4
+unfolding isOffered
+returns-4 c = rw (isOffered, le-leb _ _ (c .before .before .before .before .if1 .left), le-leb _ _ (c .before .before .if2 .left), lt-leb _ _ (c .if3 .left))
 
 pub is-offered-spec : {M : Type 1} → statement M
-is-offered-spec = tie.close (tie.spec returns returns-2)
+is-offered-spec = tie.close (tie.spec returns returns-2 returns-3 returns-4)

@@ -1,6 +1,6 @@
 -- `unfit` meets its contract: the test of the byte says which of the two it is.
 use mathlib.Core.Path.{sym, ap, _∙_}
-use Rattle.inputs.specs.Means.{failing}
+use Rattle.inputs.specs.Checks.{failing}
 use borrow.Author.Needs.{needs}
 use Rattle.inputs.proofs.unfit.Statement.{statement}
 use Rattle.inputs.proofs.unfit.Tie as tie

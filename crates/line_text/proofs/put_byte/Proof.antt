@@ -1,6 +1,6 @@
 -- `line_text::put_byte` puts one byte.
 use borrow.Author.Needs.{needs}
-use Rattle.line_text.specs.Laws.{put-one}
+use Rattle.line_text.specs.Words.{put-one}
 use Rattle.line_text.proofs.put_byte.Statement.{statement}
 use Rattle.line_text.proofs.put_byte.Tie as tie
 

@@ -5,7 +5,7 @@ use native.Mathlib.Omega.{arith}
 use native.Mathlib.Numerals.{add-one}
 use lib.ListN.{length, drop}
 use lib.Seq.{drop-cons}
-use Rattle.line_text.specs.Laws.{Puts, puts-start, puts-turn, puts-end}
+use Rattle.line_text.specs.Words.{Puts, puts-start, puts-turn, puts-end}
 use Rattle.line_text.proofs.put_bytes.Statement.{statement}
 use Rattle.line_text.proofs.put_bytes.Tie as tie
 

@@ -1,7 +1,7 @@
 -- `line_text::put_number` puts the number in decimal: the digits that `io::decimal` writes.
 use native.Mathlib.Omega.{arith}
 use borrow.Author.Needs.{needs}
-use Rattle.line_text.specs.Laws.{puts-number}
+use Rattle.line_text.specs.Words.{puts-number}
 use Rattle.line_text.proofs.put_number.Statement.{statement}
 use Rattle.line_text.proofs.put_number.Tie as tie
 

@@ -2,7 +2,7 @@
 use Prim.Native.Nat.{_+_, _-_}
 use native.Mathlib.Omega.{arith}
 use Rattle.rules.specs.Printed.{upper}
-use Rattle.line_text.specs.Laws.{Puts, puts-start, puts-turn, puts-end, upper-length, upper-start, upper-next}
+use Rattle.line_text.specs.Words.{Puts, puts-start, puts-turn, puts-end, upper-length, upper-start, upper-next}
 use Rattle.line_text.proofs.put_upper.Statement.{statement}
 use Rattle.line_text.proofs.put_upper.Tie as tie
 

@@ -1,5 +1,5 @@
 -- `closes` meets its contract.
-use Rattle.list_definitions.specs.Laws.{closes-other, closes-first}
+use Rattle.list_definitions.specs.OneByOne.{closes-other, closes-first}
 use Rattle.list_definitions.proofs.closes.Statement.{statement}
 use Rattle.list_definitions.proofs.closes.Tie as tie
 

@@ -5,17 +5,16 @@ use native.Mathlib.Omega.{arith}
 use lib.ListN.{length}
 use borrow.Author.Needs.{needs}
 use borrow.Author.Tests.{not-true, not-false}
-use Rattle.rules.specs.Settings.{settings}
 use Rattle.rules.specs.Bytes.{letter}
-use Rattle.text.specs.Means.{refusalOf}
-use Rattle.text.specs.Laws.{tested, gap-range, reached-got, reached-refused}
+use Rattle.text.specs.Refusal.{refusalOf}
+use Rattle.text.specs.Words.{tested, gap-range, reached-got, reached-refused}
 use Rattle.gaps.specs.Unfit.{unfit-is}
-use Rattle.list_definitions.specs.Laws.{Reads, reads-first, reads-gap, reads-end, closed-in, reads-unfit, reads-refused, reads-turn, defined-got, defined-refused, defined-within}
+use Rattle.list_definitions.specs.OneByOne.{Reads, reads-first, reads-gap, reads-end, closed-in, reads-unfit, reads-refused, reads-turn, defined-got, defined-refused, defined-within}
 use Rattle.list_definitions.proofs.definitions_at.Statement.{statement}
 use Rattle.list_definitions.proofs.definitions_at.Tie as tie
 
 abbrev Inv-loop : tie.InvT-loop
-Inv-loop long s from list₀ seen₀ n₀ m₀ at₀ list seen n m at = (3 ≤ from) × (from ≤ at) × (at ≤ length s) × (length s ≤ 32768) × (n ≤ 40) × (m ≤ 32 * n) × Reads (settings long) s from list seen n m at
+Inv-loop long s from list₀ seen₀ n₀ m₀ at₀ list seen n m at = (3 ≤ from) × (from ≤ at) × (at ≤ length s) × (length s ≤ 32768) × (n ≤ 40) × (m ≤ 32 * n) × Reads long s from list seen n m at
 
 abbrev μ-loop : tie.MeasureT-loop
 μ-loop long s from list₀ seen₀ n₀ m₀ at₀ list seen n m at = 41 - n
@@ -26,7 +25,7 @@ element-write-list c = omega arith
 loop-holds : tie.Need-loop-holds Inv-loop μ-loop
 loop-holds c =
     let a = c .before .args in
-    (omega arith, omega arith, omega arith, omega arith, omega arith, omega arith, reads-first (settings (a .long)) (a .s .now) (a .from) (a .list .now) _)
+    (omega arith, omega arith, omega arith, omega arith, omega arith, omega arith, reads-first (a .long) (a .s .now) (a .from) (a .list .now) _)
 
 gap-end-requires : tie.Need-gap-end-requires Inv-loop μ-loop
 gap-end-requires c κs = c .loop .inv .2
@@ -44,7 +43,7 @@ returns : tie.Need-returns Inv-loop μ-loop
 returns c =
     let a = c .before .before .before .before .before .before .args in
     let r = c .before .before .before .before .loop .inv .6 in
-    (reads-gap (settings (a .long)) (a .s .now) (a .from) _ _ _ _ _ r (reached-refused (c .before .before .before .gap-end .ensures) (c .before .enum-told .given .1) (c .fault-of .ensures)), tt)
+    (reads-gap (a .long) (a .s .now) (a .from) _ _ _ _ _ r (reached-refused (c .before .before .before .gap-end .ensures) (c .before .enum-told .given .1) (c .fault-of .ensures)), tt)
 
 byte-requires : tie.Need-byte-requires Inv-loop μ-loop
 byte-requires c κs = search needs
@@ -56,7 +55,7 @@ add-t20 : tie.Need-add-t20 Inv-loop μ-loop
 add-t20 c =
     let a = c .before .before .before .before .before .before .before .before .before .args in
     let g = reached-got (c .before .before .before .before .before .before .gap-end .ensures) (c .before .before .before .before .g .given .1) in
-    omega (arith, c .before .before .before .before .before .before .before .loop .inv .3, closed-in (settings (a .long)) (a .s .now) (a .from) _ _ _ _ _ (c .before .before .before .before .before .before .before .loop .inv .6) g (c .before .before .byte .ensures) (c .before .closes .ensures) (c .if1 .taken))
+    omega (arith, c .before .before .before .before .before .before .before .loop .inv .3, closed-in (a .long) (a .s .now) (a .from) _ _ _ _ _ (c .before .before .before .before .before .before .before .loop .inv .6) g (c .before .before .byte .ensures) (c .before .closes .ensures) (c .if1 .taken))
 
 returns-2 : tie.Need-returns-2 Inv-loop μ-loop
 returns-2 c =
@@ -64,8 +63,8 @@ returns-2 c =
     let r = c .before .before .before .before .before .before .before .loop .inv .6 in
     let g = reached-got (c .before .before .before .before .before .before .gap-end .ensures) (c .before .before .before .before .g .given .1) in
     let range : (c .before .before .before .before .before .before .before .loop .at ≤ c .before .before .before .before .g .given .0 .0) × (c .before .before .before .before .g .given .0 .0 ≤ length (a .s .now)) = gap-range (a .s .now) _ _ (c .before .before .before .before .before .before .before .loop .inv .2) g in (
-      reads-end (settings (a .long)) (a .s .now) (a .from) _ _ _ _ _ r g (c .before .before .byte .ensures) (c .before .closes .ensures) (c .if1 .taken),
-      omega (arith, c .before .before .before .before .before .before .before .loop .inv .1, range, closed-in (settings (a .long)) (a .s .now) (a .from) _ _ _ _ _ r g (c .before .before .byte .ensures) (c .before .closes .ensures) (c .if1 .taken)),
+      reads-end (a .long) (a .s .now) (a .from) _ _ _ _ _ r g (c .before .before .byte .ensures) (c .before .closes .ensures) (c .if1 .taken),
+      omega (arith, c .before .before .before .before .before .before .before .loop .inv .1, range, closed-in (a .long) (a .s .now) (a .from) _ _ _ _ _ r g (c .before .before .byte .ensures) (c .before .closes .ensures) (c .if1 .taken)),
     )
 
 is-letter-requires : tie.Need-is-letter-requires Inv-loop μ-loop
@@ -80,7 +79,7 @@ returns-3 : tie.Need-returns-3 Inv-loop μ-loop
 returns-3 c =
     let a = c .before .before .before .before .before .before .before .before .before .before .before .before .args in
     let g = reached-got (c .before .before .before .before .before .before .before .before .before .gap-end .ensures) (c .before .before .before .before .before .before .before .g .given .1) in (
-      reads-unfit (settings (a .long)) (a .s .now) (a .from) _ _ _ _ _ (c .before .before .before .before .before .before .before .before .before .before .loop .inv .6) g (c .before .before .before .before .before .byte .ensures) (c .before .before .before .before .closes .ensures) (c .before .before .before .if1 .left) (tested letter (c .before .before .before .before .before .byte .ensures) (c .before .before .is-letter .ensures) (not-true _ (c .before .if2 .taken)))
+      reads-unfit (a .long) (a .s .now) (a .from) _ _ _ _ _ (c .before .before .before .before .before .before .before .before .before .before .loop .inv .6) g (c .before .before .before .before .before .byte .ensures) (c .before .before .before .before .closes .ensures) (c .before .before .before .if1 .left) (tested letter (c .before .before .before .before .before .byte .ensures) (c .before .before .is-letter .ensures) (not-true _ (c .before .if2 .taken)))
           ∙ sym (unfit-is (a .s .now) (c .before .before .before .before .before .before .before .g .given .0 .0)) ∙ ap refusalOf (sym (c .unfit-at .ensures)),
       tt,
     )
@@ -104,7 +103,7 @@ fault-of-requires-2 c κs = search needs
 returns-4 : tie.Need-returns-4 Inv-loop μ-loop
 returns-4 c =
     let a = c .before .before .before .before .before .before .before .before .before .before .before .before .before .before .before .before .before .args in
-    let o = settings (a .long) in
+    let o = a .long in
     let r = c .before .before .before .before .before .before .before .before .before .before .before .before .before .before .before .loop .inv .6 in
     let g = reached-got (c .before .before .before .before .before .before .before .before .before .before .before .before .before .before .gap-end .ensures) (c .before .before .before .before .before .before .before .before .before .before .before .before .g .given .1) in (
       reads-refused o (a .s .now) (a .from) _ _ _ _ _ r g (c .before .before .before .before .before .before .before .before .before .before .byte .ensures) (c .before .before .before .before .before .before .before .before .before .closes .ensures) (c .before .before .before .before .before .before .before .before .if1 .left) (tested letter (c .before .before .before .before .before .before .before .before .before .before .byte .ensures) (c .before .before .before .before .before .before .before .is-letter .ensures) (not-false _ (c .before .before .before .before .before .before .if2 .left)))
@@ -126,7 +125,7 @@ loop-less c = omega (arith, c .before .before .before .before .before .before .b
 loop-again : tie.Need-loop-again Inv-loop μ-loop
 loop-again c =
     let a = c .before .before .before .before .before .before .before .before .before .before .before .before .before .before .before .before .before .before .before .args in
-    let o = settings (a .long) in
+    let o = a .long in
     let i = c .before .before .before .before .before .before .before .before .before .before .before .before .before .before .before .before .before .loop .inv in
     let r = c .before .before .before .before .before .before .before .before .before .before .before .before .before .before .before .before .before .loop .inv .6 in
     let g = reached-got (c .before .before .before .before .before .before .before .before .before .before .before .before .before .before .before .before .gap-end .ensures) (c .before .before .before .before .before .before .before .before .before .before .before .before .before .before .g .given .1) in

@@ -2,7 +2,7 @@
 use Prim.Native.Nat.{_*_, _-_, _≤_}
 use native.Mathlib.Omega.{arith}
 use borrow.Author.Needs.{needs}
-use Rattle.list_table.specs.Laws.{NoneNamed, named-first, named-turn, named-found, named-none}
+use Rattle.list_table.specs.Finds.{NoneNamed, named-first, named-turn, named-found, named-none}
 use Rattle.list_table.proofs.find.Statement.{statement}
 use Rattle.list_table.proofs.find.Tie as tie
 

@@ -2,7 +2,7 @@
 use Prim.Native.Nat.{_*_, _-_, _≤_}
 use native.Mathlib.Omega.{arith}
 use borrow.Author.Needs.{needs}
-use Rattle.list_table.specs.Laws.{NoneRequired, required-first, required-turn, required-found, required-none}
+use Rattle.list_table.specs.Finds.{NoneRequired, required-first, required-turn, required-found, required-none}
 use Rattle.list_table.proofs.needs_tag.Statement.{statement}
 use Rattle.list_table.proofs.needs_tag.Tie as tie
 

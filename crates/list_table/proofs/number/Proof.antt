@@ -1,7 +1,7 @@
 -- `number` meets its contract: past the end it is 0.
 use native.Mathlib.Omega.{arith}
 use borrow.Author.Needs.{needs}
-use Rattle.list_table.specs.Laws.{getD-past}
+use Rattle.list_table.specs.Finds.{getD-past}
 use Rattle.list_table.proofs.number.Statement.{statement}
 use Rattle.list_table.proofs.number.Tie as tie
 

@@ -1,7 +1,7 @@
 -- `put_attribute` meets its contract: the row is written behind those before, and the number of attributes.
 use native.Mathlib.Omega.{arith}
 use borrow.Author.Needs.{needs}
-use Rattle.list_table.specs.Laws.{list-put}
+use Rattle.list_table.specs.Finds.{list-put}
 use Rattle.list_table.proofs.put_attribute.Statement.{statement}
 use Rattle.list_table.proofs.put_attribute.Tie as tie
 

@@ -4,7 +4,7 @@ use mathlib.Core.Path.{_≡_, refl}
 use native.Mathlib.Omega.{arith}
 use lib.ListN.{length}
 use borrow.Author.Needs.{needs}
-use Rattle.list_table.specs.Laws.{Copying, copying-first, copying-turn, copied}
+use Rattle.list_table.specs.Finds.{Copying, copying-first, copying-turn, copied}
 use Rattle.list_table.proofs.put_list.Statement.{statement}
 use Rattle.list_table.proofs.put_list.Tie as tie
 

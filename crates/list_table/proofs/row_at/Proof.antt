@@ -1,6 +1,6 @@
 -- `row_at` meets its contract, number by number.
 use borrow.Author.Needs.{needs}
-use Rattle.list_table.specs.Laws.{row-is}
+use Rattle.list_table.specs.Finds.{row-is}
 use Rattle.list_table.proofs.row_at.Statement.{statement}
 use Rattle.list_table.proofs.row_at.Tie as tie
 

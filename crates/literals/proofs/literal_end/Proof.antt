@@ -7,8 +7,8 @@ use borrow.Author.Tests.{eq-eqb}
 use lib.ListN.{length, drop}
 use Rattle.rules.specs.Bytes.{byteAt}
 use Rattle.rules.specs.Attributes.{inLiteral}
-use Rattle.text.specs.Laws.{before-turn, before-stop, before-all}
-use Rattle.literals.specs.Laws.{in-literal, literal-closes, literal-refers, literal-cut, literal-other}
+use Rattle.text.specs.Words.{before-turn, before-stop, before-all}
+use Rattle.literals.specs.Ways.{in-literal, literal-closes, literal-refers, literal-cut, literal-other}
 use Rattle.literals.proofs.literal_end.Statement.{statement}
 use Rattle.literals.proofs.literal_end.Tie as tie
 

@@ -5,7 +5,7 @@ use mathlib.Core.Logic.{⊎-elim}
 use native.Mathlib.Omega.{arith}
 use borrow.Author.Needs.{needs}
 use borrow.Author.Tests.{ltb-true, ltb-false}
-use Rattle.model_code.specs.Laws.{Passed, passed-place, passed-full, passed-opt, passed-opt-none, passed-plus, passed-plus-none, passed-join, passed-join-none, passed-other, passed-all}
+use Rattle.model_code.specs.Stack.{Passed, passed-place, passed-full, passed-opt, passed-opt-none, passed-plus, passed-plus-none, passed-join, passed-join-none, passed-other, passed-all}
 use Rattle.model_code.proofs.clash.Statement.{statement}
 use Rattle.model_code.proofs.clash.Tie as tie
 

@@ -4,7 +4,7 @@ use mathlib.Core.Path.{_≡_, ap, _∙_, sym}
 use borrow.Author.Tests.{eq-eqb, ne-eqb}
 use borrow.Author.Needs.{needs}
 use Rattle.and_laws.specs.Code.{Six}
-use Rattle.model_code.specs.Means.{six, thenSix, eitherSix, addedSix, joinedSix}
+use Rattle.model_code.specs.Six.{six, thenSix, eitherSix, addedSix, joinedSix}
 use Rattle.model_code.proofs.joined.Statement.{statement}
 use Rattle.model_code.proofs.joined.Tie as tie
 

@@ -7,7 +7,7 @@ use lib.ListN.{set}
 use borrow.Author.Tests.{lt-ltb, le-ltb}
 use borrow.Author.Needs.{needs}
 use Rattle.layout.specs.Sizes.{MODEL-ROWS, CODE}
-use Rattle.model_code.specs.Means.{putCode, codeNext}
+use Rattle.model_code.specs.Six.{putCode, codeNext}
 use Rattle.model_code.proofs.put.Statement.{statement}
 use Rattle.model_code.proofs.put.Tie as tie
 

@@ -1,6 +1,6 @@
 -- `key` meets its contract: what it reads of the place, one call after the other.
 use mathlib.Core.Path.{sym, _∙_}
-use Rattle.model_names.specs.Laws.{key-none, key-some}
+use Rattle.model_names.specs.Shared.{key-none, key-some}
 use borrow.Author.Needs.{needs}
 use Rattle.model_names.proofs.key.Statement.{statement}
 use Rattle.model_names.proofs.key.Tie as tie

@@ -1,7 +1,7 @@
 -- `put_name` meets its contract: the table has room for the two numbers, and they are written behind those of the places before.
 use mathlib.Core.Path.{refl}
 use native.Mathlib.Omega.{arith}
-use Rattle.model_names.specs.Laws.{placesOf-put}
+use Rattle.model_names.specs.Shared.{placesOf-put}
 use borrow.Author.Needs.{needs}
 use Rattle.model_names.proofs.put_name.Statement.{statement}
 use Rattle.model_names.proofs.put_name.Tie as tie

@@ -1,6 +1,6 @@
 -- `same_place` meets its contract: by the two sizes.
 use mathlib.Core.Path.{refl}
-use Rattle.model_names.specs.Laws.{same-sizes, other-sizes}
+use Rattle.model_names.specs.Shared.{same-sizes, other-sizes}
 use borrow.Author.Needs.{needs}
 use Rattle.model_names.proofs.same_place.Statement.{statement}
 use Rattle.model_names.proofs.same_place.Tie as tie

@@ -6,7 +6,7 @@ use native.Mathlib.Omega.{arith}
 use borrow.Author.Needs.{needs}
 use borrow.Author.Tests.{eq-eqb, ne-eqb}
 use Rattle.model_pairs.specs.Rows.{isNext, rowIn}
-use Rattle.model_pairs.specs.Laws.{Beside, beside-none, beside-row, beside-skip, beside-end}
+use Rattle.model_pairs.specs.Seeks.{Beside, beside-none, beside-row, beside-skip, beside-end}
 use Rattle.model_pairs.proofs.beside.Statement.{statement}
 use Rattle.model_pairs.proofs.beside.Tie as tie
 

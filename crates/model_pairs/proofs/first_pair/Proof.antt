@@ -5,7 +5,7 @@ use mathlib.Core.Logic.{inl, inr, ⊎-elim}
 use mathlib.Core.Bool.{Bool}
 use native.Mathlib.Omega.{arith}
 use Rattle.model_pairs.specs.Rows.{Tells}
-use Rattle.model_pairs.specs.Laws.{SeeksPair, pairs-start, pairs-past, pairs-found, pairs-none}
+use Rattle.model_pairs.specs.Seeks.{SeeksPair, pairs-start, pairs-past, pairs-found, pairs-none}
 use Rattle.model_pairs.proofs.first_pair.Statement.{statement}
 use Rattle.model_pairs.proofs.first_pair.Tie as tie
 

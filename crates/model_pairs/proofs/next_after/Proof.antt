@@ -2,7 +2,7 @@
 use Prim.Native.Nat.{_≤_, _-_}
 use mathlib.Core.Path.{refl}
 use native.Mathlib.Omega.{arith}
-use Rattle.model_pairs.specs.Laws.{Copied, copied-one}
+use Rattle.model_pairs.specs.Seeks.{Copied, copied-one}
 use Rattle.model_pairs.proofs.next_after.Statement.{statement}
 use Rattle.model_pairs.proofs.next_after.Tie as tie
 

@@ -8,9 +8,9 @@ use borrow.Author.Needs.{needs}
 use borrow.Author.Tests.{not-true}
 use Rattle.rules.specs.Judge.{samePlace}
 use Rattle.model_names.specs.Places.{placesOf}
-use Rattle.same_names.specs.Laws.{unshared}
+use Rattle.same_names.specs.Keys.{unshared}
 use Rattle.model_pairs.specs.Rows.{Tells}
-use Rattle.model_pairs.specs.Laws.{Seeks, seeks-start, seeks-on, seeks-past, seeks-found, seeks-none, apart, at-fault, not-fault}
+use Rattle.model_pairs.specs.Seeks.{Seeks, seeks-start, seeks-on, seeks-past, seeks-found, seeks-none, apart, at-fault, not-fault}
 use Rattle.model_pairs.proofs.partner.Statement.{statement}
 use Rattle.model_pairs.proofs.partner.Tie as tie
 

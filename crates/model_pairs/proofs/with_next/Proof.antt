@@ -6,7 +6,7 @@ use borrow.Author.Needs.{needs}
 use borrow.Author.Tests.{eq-eqb, ne-eqb}
 use lib.ListN.{getD}
 use Rattle.model_pairs.specs.Rows.{isNext}
-use Rattle.model_pairs.specs.Laws.{Added, added-none, added-one, added-skip}
+use Rattle.model_pairs.specs.Seeks.{Added, added-none, added-one, added-skip}
 use Rattle.model_pairs.proofs.with_next.Statement.{statement}
 use Rattle.model_pairs.proofs.with_next.Tie as tie
 

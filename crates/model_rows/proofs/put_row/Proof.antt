@@ -2,7 +2,7 @@
 use mathlib.Core.Path.{_≡_, refl}
 use Prim.Native.Nat.{ℕ, _-_, _≤_}
 use native.Mathlib.Omega.{arith}
-use Rattle.type_tables.specs.Means.{rowAt}
+use Rattle.type_tables.specs.Tables.{rowAt}
 use Rattle.model_rows.specs.Rows.{BitsPut, bits-none, bits-more, row-put}
 use Rattle.model_rows.proofs.put_row.Statement.{statement}
 use Rattle.model_rows.proofs.put_row.Tie as tie

@@ -1,6 +1,6 @@
 -- `clear` meets its contract: no place is left in row 0 that can begin.
 use borrow.Author.Needs.{needs}
-use Rattle.model_table.specs.Means.{fresh-cleared}
+use Rattle.model_table.specs.Shows.{fresh-cleared}
 use Rattle.model_table.proofs.clear.Statement.{statement}
 use Rattle.model_table.proofs.clear.Tie as tie
 

@@ -5,18 +5,17 @@ use native.Mathlib.Omega.{arith}
 use lib.ListN.{length}
 use borrow.Author.Needs.{needs}
 use borrow.Author.Tests.{not-true, not-false}
-use Rattle.rules.specs.Settings.{settings}
 use Rattle.rules.specs.Bytes.{byteAt}
 use Rattle.rules.specs.TypeFile.{tokenGroup, isTokenConnector}
-use Rattle.text.specs.Laws.{test-in, byte-is-in, separatorsEnd-from, separatorsEnd-le}
-use Rattle.name_tokens.specs.Means.{partsOf}
-use Rattle.name_tokens.specs.Laws.{Goes, goes-first, goes-refused, goes-closed, goes-on, goes-percent, goes-unfit, joins-in, token-in, token-is, token-refused}
+use Rattle.text.specs.Words.{test-in, byte-is-in, separatorsEnd-from, separatorsEnd-le}
+use Rattle.name_tokens.specs.Tokens.{partsOf}
+use Rattle.name_tokens.specs.TokenByToken.{Goes, goes-first, goes-refused, goes-closed, goes-on, goes-percent, goes-unfit, joins-in, token-in, token-is, token-refused}
 use Rattle.name_tokens.proofs.group_at.Statement.{statement}
 use Rattle.name_tokens.proofs.group_at.Tie as tie
 
 abbrev Inv-loop : tie.InvT-loop
 Inv-loop long s at seen₀ n m₀ c₀ i₀ seen m c i =
-    (at < i) × (i ≤ length s) × (n ≤ m) × (m ≤ n + 32) × Goes (settings long) s (partsOf seen₀ n) (tokenGroup (settings long) s (partsOf seen₀ n) at) seen n m c i
+    (at < i) × (i ≤ length s) × (n ≤ m) × (m ≤ n + 32) × Goes long s (partsOf seen₀ n) (tokenGroup long s (partsOf seen₀ n) at) seen n m c i
 
 abbrev μ-loop : tie.MeasureT-loop
 μ-loop long s at seen₀ n m₀ c₀ i₀ seen m c i = length s - i
@@ -35,7 +34,7 @@ loop-holds c =
       omega (arith, separatorsEnd-le s (a .at + 1) (omega arith), c .separators-end .ensures),
       omega arith,
       omega arith,
-      goes-first (settings (a .long)) s (a .seen .now) (a .n) (a .at) _ (c .separators-end .ensures),
+      goes-first (a .long) s (a .seen .now) (a .n) (a .at) _ (c .separators-end .ensures),
     )
 
 sub-token-at : tie.Need-sub-token-at Inv-loop μ-loop

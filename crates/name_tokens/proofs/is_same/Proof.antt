@@ -1,6 +1,6 @@
 -- `is_same` meets its contract: the sizes are compared first.
 use borrow.Author.Needs.{needs}
-use Rattle.name_tokens.specs.Laws.{other-size, same-size}
+use Rattle.name_tokens.specs.TokenByToken.{other-size, same-size}
 use Rattle.name_tokens.proofs.is_same.Statement.{statement}
 use Rattle.name_tokens.proofs.is_same.Tie as tie
 

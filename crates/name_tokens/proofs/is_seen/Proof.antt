@@ -5,8 +5,8 @@ use mathlib.Core.Bool.{false}
 use native.Mathlib.Omega.{arith}
 use borrow.Author.Needs.{needs}
 use Rattle.rules.specs.TypeFile.{isToken}
-use Rattle.name_tokens.specs.Means.{partsOf}
-use Rattle.name_tokens.specs.Laws.{seen-none, seen-turn, seen-found}
+use Rattle.name_tokens.specs.Tokens.{partsOf}
+use Rattle.name_tokens.specs.TokenByToken.{seen-none, seen-turn, seen-found}
 use Rattle.name_tokens.proofs.is_seen.Statement.{statement}
 use Rattle.name_tokens.proofs.is_seen.Tie as tie
 

@@ -1,7 +1,7 @@
 -- `put_token` meets its contract: the table has room for the two numbers, and they are written behind those of the tokens before.
 use native.Mathlib.Omega.{arith}
 use borrow.Author.Needs.{needs}
-use Rattle.name_tokens.specs.Laws.{partsOf-put}
+use Rattle.name_tokens.specs.TokenByToken.{partsOf-put}
 use Rattle.name_tokens.proofs.put_token.Statement.{statement}
 use Rattle.name_tokens.proofs.put_token.Tie as tie
 

@@ -4,10 +4,9 @@ use mathlib.Core.Path.{_≡_, sym, _∙_, ap}
 use native.Mathlib.Omega.{arith}
 use lib.ListN.{length}
 use borrow.Author.Needs.{needs}
-use Rattle.rules.specs.Settings.{settings}
 use Rattle.rules.specs.TypeFile.{isToken}
-use Rattle.text.specs.Laws.{nameEnd-from, nameEnd-le}
-use Rattle.name_tokens.specs.Laws.{token-percent, token-none, token-long, token-full, token-twice, token-got}
+use Rattle.text.specs.Words.{nameEnd-from, nameEnd-le}
+use Rattle.name_tokens.specs.TokenByToken.{token-percent, token-none, token-long, token-full, token-twice, token-got}
 use Rattle.name_tokens.proofs.token_at.Statement.{statement}
 use Rattle.name_tokens.proofs.token_at.Tie as tie
 
@@ -21,13 +20,13 @@ returns : tie.Need-returns
 returns c =
     let w = c .before .before .before in
     let a = w .before .before .args in
-    (λ ts ps l q. sym (token-percent (settings (a .long)) (a .s .now) ts ps (a .i) _ (w .name-end .ensures) (c .before .before .if1 .taken) (sym (c .before .byte .ensures) ∙ c .if2 .taken)), tt)
+    (λ ts ps l q. sym (token-percent (a .long) (a .s .now) ts ps (a .i) _ (w .name-end .ensures) (c .before .before .if1 .taken) (sym (c .before .byte .ensures) ∙ c .if2 .taken)), tt)
 
 returns-2 : tie.Need-returns-2
 returns-2 c =
     let w = c .before .before .before in
     let a = w .before .before .args in
-    (λ ts ps l q. sym (token-none (settings (a .long)) (a .s .now) ts ps (a .i) _ (w .name-end .ensures) (c .before .before .if1 .taken) (λ e. c .if2 .left (c .before .byte .ensures ∙ e))), tt)
+    (λ ts ps l q. sym (token-none (a .long) (a .s .now) ts ps (a .i) _ (w .name-end .ensures) (c .before .before .if1 .taken) (λ e. c .if2 .left (c .before .byte .ensures ∙ e))), tt)
 
 -- The token has a byte, and ends in the text.
 some : (c : tie.Else1) → (c .before .before .before .args .i < c .before .name-end .result) × (c .before .name-end .result ≤ length (c .before .before .before .args .s .now))
@@ -42,13 +41,13 @@ returns-3 : tie.Need-returns-3
 returns-3 c =
     let e = c .before in
     let a = e .before .before .before .args in
-    (λ ts ps l q. sym (token-long (settings (a .long)) (a .s .now) ts ps (a .i) _ (e .before .name-end .ensures) (some e .0) (c .if3 .taken)), tt)
+    (λ ts ps l q. sym (token-long (a .long) (a .s .now) ts ps (a .i) _ (e .before .name-end .ensures) (some e .0) (c .if3 .taken)), tt)
 
 returns-4 : tie.Need-returns-4
 returns-4 c =
     let e = c .before .before in
     let a = e .before .before .before .args in
-    (λ ts ps l q. sym (token-full (settings (a .long)) (a .s .now) ts ps (a .i) _ (e .before .name-end .ensures) (some e .0) (c .before .if3 .left) (omega (arith, l, c .if4 .taken))), tt)
+    (λ ts ps l q. sym (token-full (a .long) (a .s .now) ts ps (a .i) _ (e .before .name-end .ensures) (some e .0) (c .before .if3 .left) (omega (arith, l, c .if4 .taken))), tt)
 
 sub-is-seen : tie.Need-sub-is-seen
 sub-is-seen c = omega (arith, some (c .before .before))
@@ -61,7 +60,7 @@ returns-5 c =
     let e = c .before .before .before .before in
     let a = e .before .before .before .args in (
       λ ts ps l q.
-          sym (token-twice (settings (a .long)) (a .s .now) ts ps (a .i) _ (e .before .name-end .ensures) (some e .0) (c .before .before .before .if3 .left) (omega (arith, l, c .before .before .if4 .left))
+          sym (token-twice (a .long) (a .s .now) ts ps (a .i) _ (e .before .name-end .ensures) (some e .0) (c .before .before .before .if3 .left) (omega (arith, l, c .before .before .if4 .left))
           (c .before .is-seen .ensures ∙ ap (λ r. isToken (a .s .now) r (a .i) (e .before .name-end .result - a .i)) q) (c .if5 .taken)),
       tt,
     )
@@ -71,7 +70,7 @@ returns-6 c =
     let e = c .before .before .before .before in
     let a = e .before .before .before .args in (
       λ ts ps l q.
-          sym (token-got (settings (a .long)) (a .s .now) ts ps (a .i) _ (e .before .name-end .ensures) (some e .0) (c .before .before .before .if3 .left) (omega (arith, l, c .before .before .if4 .left))
+          sym (token-got (a .long) (a .s .now) ts ps (a .i) _ (e .before .name-end .ensures) (some e .0) (c .before .before .before .if3 .left) (omega (arith, l, c .before .before .if4 .left))
           (c .before .is-seen .ensures ∙ ap (λ r. isToken (a .s .now) r (a .i) (e .before .name-end .result - a .i)) q) (c .if5 .left)),
       (some e .0, some e .1, c .before .before .if4 .left),
     )

@@ -4,7 +4,7 @@ use mathlib.Core.Path.{_≡_, refl, sym, _∙_}
 use native.Mathlib.Omega.{arith}
 use lib.ListN.{length, take, length-set}
 use Rattle.rules.specs.Lent.{bytesOf}
-use Rattle.numbers.specs.Laws.{spliced, splice-none, splice-first, bytes-turn}
+use Rattle.numbers.specs.Stores.{spliced, splice-none, splice-first, bytes-turn}
 use Rattle.numbers.proofs.put_bytes.Statement.{statement}
 use Rattle.numbers.proofs.put_bytes.Tie as tie
 

@@ -1,7 +1,7 @@
 -- `put_number` meets its contract: the four stores are the number's four bytes.
 use native.Mathlib.Omega.{arith}
 use lib.ListN.{length-set}
-use Rattle.numbers.specs.Laws.{number-stored}
+use Rattle.numbers.specs.Stores.{number-stored}
 use borrow.Author.Needs.{needs}
 use Rattle.numbers.proofs.put_number.Statement.{statement}
 use Rattle.numbers.proofs.put_number.Tie as tie

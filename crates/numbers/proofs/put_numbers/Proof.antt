@@ -3,7 +3,7 @@ use Prim.Native.Nat.{_≤_, _-_}
 use mathlib.Core.Path.{_≡_, refl, sym, _∙_}
 use native.Mathlib.Omega.{arith}
 use lib.ListN.{length, take, length-set}
-use Rattle.numbers.specs.Laws.{spliced, splice-none, splice-first, number-turn}
+use Rattle.numbers.specs.Stores.{spliced, splice-none, splice-first, number-turn}
 use Rattle.numbers.proofs.put_numbers.Statement.{statement}
 use Rattle.numbers.proofs.put_numbers.Tie as tie
 

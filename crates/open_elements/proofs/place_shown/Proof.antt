@@ -1,7 +1,7 @@
 -- `place_shown` meets its contract: the document itself has the number 0.
 use mathlib.Core.Path.{sym}
 use native.Mathlib.Omega.{arith}
-use Rattle.open_elements.specs.Laws.{shown-document, shown-other}
+use Rattle.open_elements.specs.Methods.{shown-document, shown-other}
 use Rattle.open_elements.proofs.place_shown.Statement.{statement}
 use Rattle.open_elements.proofs.place_shown.Tie as tie
 

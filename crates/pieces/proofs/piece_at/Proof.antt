@@ -1,5 +1,5 @@
 -- `piece_at` meets its contract: by the token that stands there.
-use mathlib.Core.Path.{_≡_, refl}
+use mathlib.Core.Path.{_≡_, refl, sym, _∙_}
 use mathlib.Core.Logic.{⊎-elim}
 use mathlib.Core.List.{List}
 use native.Mathlib.Omega.{arith}
@@ -10,19 +10,20 @@ use Rattle.rules.specs.Reading.{got}
 use Rattle.rules.specs.Document.{Written, startTag, endTag, piece}
 use Rattle.tags.specs.Tags.{tagIn, tagWith}
 use Rattle.tags.specs.Given.{ReadAs}
-use Rattle.document_text.specs.Laws.{token-start, token-end, token-skipped, token-blank, token-data, token-refused}
+use Rattle.document_text.specs.Ways.{token-start, token-end, token-skipped, token-blank, token-data, token-refused}
 use Rattle.document_laws.specs.Under.{under-skipped, under-refused}
-use Rattle.pieces.specs.Means.{skips, runs, malformed}
-use Rattle.pieces.specs.Pieces.{start-tag-asked, end-tag-asked, list-held, finds-start, finds-misgiven, marks-start, finds-end, finds-undeclared-start, finds-undeclared-end, finds-separator, finds-blank-run, finds-data-run, onward-start, onward-end, onward-skipped, onward-run, onward-refused}
+use Rattle.record_ends.specs.Held.{lineOf}
+use Rattle.pieces.specs.Finds.{skips, runs, malformed}
+use Rattle.pieces.specs.Pieces.{start-tag-asked, end-tag-asked, list-held, finds-start, finds-misgiven, marks-start, finds-end, finds-undeclared-start, finds-undeclared-end, finds-separator, since-last, finds-ignored, finds-blank-run, finds-data-run, onward-start, onward-end, onward-skipped, onward-run, onward-refused}
 use borrow.Author.Needs.{needs}
 use Rattle.pieces.proofs.piece_at.Statement.{statement}
 use Rattle.pieces.proofs.piece_at.Tie as tie
 
 -- A start tag stands there, which gives these attributes, or an end tag.
-start-stands : (c : tie.After-known-told) → (ws : List Written) × (piece (settings (c .before .before .before .before .before .before .before .before .before .args .long)) (c .before .before .before .before .before .before .before .before .before .args .d .now) (c .before .before .before .before .before .before .before .before .before .args .at) ≡ got (startTag (tagWith ws (c .before .t .given .0 .0)))) × ReadAs (length (c .before .before .before .before .before .before .before .before .before .args .d .now)) (c .before .before .before .token-at .last .1 .1 .1 .1 .0) (c .before .t .given .0 .0 .given) ws
+start-stands : (c : tie.After-known-told) → (ws : List Written) × (piece (c .before .before .before .before .before .before .before .before .before .args .long) (c .before .before .before .before .before .before .before .before .before .args .d .now) (c .before .before .before .before .before .before .before .before .before .args .at) ≡ got (startTag (tagWith ws (c .before .t .given .0 .0)))) × ReadAs (length (c .before .before .before .before .before .before .before .before .before .args .d .now)) (c .before .before .before .token-at .last .1 .1 .1 .1 .0) (c .before .t .given .0 .0 .given) ws
 start-stands c = token-start (length (c .before .before .before .before .before .before .before .before .before .args .d .now)) (c .before .before .before .token-at .last .1 .1 .1 .1 .0) (c .before .before .before .token-at .result) _ (c .before .before .before .token-at .ensures) (c .before .t .given .1)
 
-end-stands : (c : tie.After-known-told2) → piece (settings (c .before .before .before .before .before .before .before .before .before .args .long)) (c .before .before .before .before .before .before .before .before .before .args .d .now) (c .before .before .before .before .before .before .before .before .before .args .at) ≡ got (endTag (tagIn (c .before .t2 .given .0 .0)))
+end-stands : (c : tie.After-known-told2) → piece (c .before .before .before .before .before .before .before .before .before .args .long) (c .before .before .before .before .before .before .before .before .before .args .d .now) (c .before .before .before .before .before .before .before .before .before .args .at) ≡ got (endTag (tagIn (c .before .t2 .given .0 .0)))
 end-stands c = token-end (length (c .before .before .before .before .before .before .before .before .before .args .d .now)) (c .before .before .before .token-at .last .1 .1 .1 .1 .0) (c .before .before .before .token-at .result) _ (c .before .before .before .token-at .ensures) (c .before .t2 .given .1)
 
 token-at-requires : tie.Need-token-at-requires
@@ -34,7 +35,7 @@ enum-known-t c = search needs
 tagged-requires : tie.Need-tagged-requires
 tagged-requires c κs =
     let a = c .before .before .before .before .before .before .before .before .before .args in
-    start-tag-asked (settings (a .long)) (c .before .before .before .before .before .before .before .before .before .pre .1) (a .d .now) (a .at) (c .before .before .before .before .before .before .before .before .before .pre .5) (start-stands (c) .1)
+    start-tag-asked (a .long) (c .before .before .before .before .before .before .before .before .before .pre .1) (a .d .now) (a .at) (c .before .before .before .before .before .before .before .before .before .pre .5) (start-stands (c) .1)
 
 undeclared-requires : tie.Need-undeclared-requires
 undeclared-requires c κs = search needs
@@ -44,7 +45,7 @@ returns c =
     let a = c .before .before .before .before .before .before .before .before .before .before .before .before .before .args in
     let (ws, e, k) = start-stands (c .before .before .before .before) in (
       onward-refused (a .d .now) (a .at) (c .before .before .before .before .before .before .before .before .before .before .before .before .before .pre .5) (c .undeclared .ensures),
-      λ es i t l o r. finds-undeclared-start (settings (a .long)) (a .s .now) es (a .d .now) (a .at) (c .before .before .before .tagged .ensures .0 es i) o (c .before .if1 .taken) _ (c .undeclared .ensures) _ e,
+      λ es i t l o r n. finds-undeclared-start (settings (a .long) (a .edition)) (a .s .now) es (a .d .now) (a .at) (lineOf (a .since) (a .mark)) o (c .before .before .before .tagged .ensures .0 es i) (c .before .if1 .taken) _ (c .undeclared .ensures) _ e,
     )
 
 held-requires : tie.Need-held-requires
@@ -57,21 +58,21 @@ returns-2 c =
     let a = c .before .before .before .before .before .before .before .before .before .before .before .before .before .before .before .before .before .args in
     let (ws, e, k) = start-stands (c .before .before .before .before .before .before .before .before) in (
       tt,
-      λ es i t l o r.
+      λ es i t l o r n.
           let q = c .before .before .before .before .before .before .before .tagged .ensures .0 es i in
-          let held = list-held (settings (a .long)) (a .s .now) es (a .d .now) (a .at) q e (c .before .before .before .before .before .if1 .left) _ _ (a .lists .now) (c .before .before .before .before .before .before .before .before .before .before .before .token-at .last .1 .1 .1 .1 .0) _ i l (k .kept) (c .before .before .held .ensures) in
-          (finds-misgiven (settings (a .long)) (a .s .now) es (a .d .now) (a .at) q e (c .before .before .before .before .before .if1 .left) held o (c .if2 .taken), tt),
+          let held = list-held (settings (a .long) (a .edition)) (a .s .now) es (a .d .now) (a .at) (lineOf (a .since) (a .mark)) o q e (c .before .before .before .before .before .if1 .left) _ _ (a .lists .now) (c .before .before .before .before .before .before .before .before .before .before .before .token-at .last .1 .1 .1 .1 .0) _ i l (k .kept) (c .before .before .held .ensures) in
+          (finds-misgiven (settings (a .long) (a .edition)) (a .s .now) es (a .d .now) (a .at) (lineOf (a .since) (a .mark)) o q e (c .before .before .before .before .before .if1 .left) held (c .if2 .taken), tt),
     )
 
 returns-3 : tie.Need-returns-3
 returns-3 c =
     let a = c .before .before .before .before .before .before .before .before .before .before .before .before .before .before .before .before .before .args in
     let (ws, e, k) = start-stands (c .before .before .before .before .before .before .before .before) in (
-      onward-start (a .d .now) (a .at) (c .before .before .before .before .before .before .before .before .before .before .before .before .before .before .before .before .before .pre .5) (c .before .before .before .before .before .before .before .tagged .ensures .1) (settings (a .long)) e,
-      λ es i t l o r.
+      onward-start (a .d .now) (a .at) (c .before .before .before .before .before .before .before .before .before .before .before .before .before .before .before .before .before .pre .5) (c .before .before .before .before .before .before .before .tagged .ensures .1) (a .long) e,
+      λ es i t l o r n.
           let q = c .before .before .before .before .before .before .before .tagged .ensures .0 es i in
-          let held = list-held (settings (a .long)) (a .s .now) es (a .d .now) (a .at) q e (c .before .before .before .before .before .if1 .left) _ _ (a .lists .now) (c .before .before .before .before .before .before .before .before .before .before .before .token-at .last .1 .1 .1 .1 .0) _ i l (k .kept) (c .before .before .held .ensures) in
-          (finds-start (settings (a .long)) (a .s .now) es (a .d .now) (a .at) q e (c .before .before .before .before .before .if1 .left) held o (omega arith), λ some. marks-start (settings (a .long)) (a .s .now) es (a .d .now) (a .at) q e (c .before .before .before .before .before .if1 .left) held (omega arith)),
+          let held = list-held (settings (a .long) (a .edition)) (a .s .now) es (a .d .now) (a .at) (lineOf (a .since) (a .mark)) o q e (c .before .before .before .before .before .if1 .left) _ _ (a .lists .now) (c .before .before .before .before .before .before .before .before .before .before .before .token-at .last .1 .1 .1 .1 .0) _ i l (k .kept) (c .before .before .held .ensures) in
+          (finds-start (settings (a .long) (a .edition)) (a .s .now) es (a .d .now) (a .at) (lineOf (a .since) (a .mark)) o q e (c .before .before .before .before .before .if1 .left) held (omega arith), λ some. marks-start (settings (a .long) (a .edition)) (a .s .now) es (a .d .now) (a .at) (lineOf (a .since) (a .mark)) o q e (c .before .before .before .before .before .if1 .left) held (omega arith)),
     )
 
 enum-known-t-2 : tie.Need-enum-known-t-2
@@ -80,7 +81,7 @@ enum-known-t-2 c = search needs
 tagged-requires-2 : tie.Need-tagged-requires-2
 tagged-requires-2 c κs =
     let a = c .before .before .before .before .before .before .before .before .before .args in
-    end-tag-asked (settings (a .long)) (c .before .before .before .before .before .before .before .before .before .pre .1) (a .d .now) (a .at) (c .before .before .before .before .before .before .before .before .before .pre .5) (end-stands (c))
+    end-tag-asked (a .long) (c .before .before .before .before .before .before .before .before .before .pre .1) (a .d .now) (a .at) (c .before .before .before .before .before .before .before .before .before .pre .5) (end-stands (c))
 
 undeclared-requires-2 : tie.Need-undeclared-requires-2
 undeclared-requires-2 c κs = search needs
@@ -90,15 +91,15 @@ returns-4 c =
     let a = c .before .before .before .before .before .before .before .before .before .before .before .before .before .args in
     let e = end-stands (c .before .before .before .before) in (
       onward-refused (a .d .now) (a .at) (c .before .before .before .before .before .before .before .before .before .before .before .before .before .pre .5) (c .undeclared2 .ensures),
-      λ es i t l o r. finds-undeclared-end (settings (a .long)) (a .s .now) es (a .d .now) (a .at) (c .before .before .before .tagged2 .ensures .0 es i) o (c .before .if3 .taken) _ (c .undeclared2 .ensures) _ e,
+      λ es i t l o r n. finds-undeclared-end (settings (a .long) (a .edition)) (a .s .now) es (a .d .now) (a .at) (lineOf (a .since) (a .mark)) o (c .before .before .before .tagged2 .ensures .0 es i) (c .before .if3 .taken) _ (c .undeclared2 .ensures) _ e,
     )
 
 returns-5 : tie.Need-returns-5
 returns-5 c =
     let a = c .before .before .before .before .before .before .before .before .before .before .before .before .args in
     let e = end-stands (c .before .before .before) in (
-      onward-end (a .d .now) (a .at) (c .before .before .before .before .before .before .before .before .before .before .before .before .pre .5) (c .before .before .tagged2 .ensures .1) (settings (a .long)) e,
-      λ es i t l o r. (finds-end (settings (a .long)) (a .s .now) es (a .d .now) (a .at) (c .before .before .tagged2 .ensures .0 es i) e (c .if3 .left), tt),
+      onward-end (a .d .now) (a .at) (c .before .before .before .before .before .before .before .before .before .before .before .before .pre .5) (c .before .before .tagged2 .ensures .1) (a .long) e,
+      λ es i t l o r n. (finds-end (settings (a .long) (a .edition)) (a .s .now) es (a .d .now) (a .at) (lineOf (a .since) (a .mark)) o (c .before .before .tagged2 .ensures .0 es i) e (c .if3 .left), tt),
     )
 
 enum-known-t-3 : tie.Need-enum-known-t-3
@@ -108,7 +109,7 @@ returns-6 : tie.Need-returns-6
 returns-6 c =
     let a = c .before .before .before .before .before .before .before .before .before .args in
     let e = token-skipped (length (a .d .now)) (c .before .before .before .token-at .last .1 .1 .1 .1 .0) (c .before .before .before .token-at .result) _ (c .before .before .before .token-at .ensures) (c .before .t3 .given .1) in
-    (onward-skipped (a .d .now) (a .at) (c .before .before .before .before .before .before .before .before .before .pre .5) (settings (a .long)) e, λ es i t l o r. (skips (under-skipped (settings (a .long)) (a .s .now) es (a .d .now) (a .at) e), tt))
+    (onward-skipped (a .d .now) (a .at) (c .before .before .before .before .before .before .before .before .before .pre .5) (a .long) e, λ es i t l o r n. (skips (under-skipped (settings (a .long) (a .edition)) (a .s .now) es (a .d .now) (a .at) (lineOf (a .since) (a .mark)) o e), tt))
 
 enum-known-t-4 : tie.Need-enum-known-t-4
 enum-known-t-4 c = search needs
@@ -117,7 +118,7 @@ returns-7 : tie.Need-returns-7
 returns-7 c =
     let a = c .before .before .before .before .before .before .before .before .before .args in
     let e = token-refused (length (a .d .now)) (c .before .before .before .token-at .last .1 .1 .1 .1 .0) (c .before .before .before .token-at .result) _ (c .before .before .before .token-at .ensures) (c .before .t4 .given .1) in
-    (tt, λ es i t l o r. (malformed (under-refused (settings (a .long)) (a .s .now) es (a .d .now) (a .at) e), tt))
+    (tt, λ es i t l o r n. (malformed (under-refused (settings (a .long) (a .edition)) (a .s .now) es (a .d .now) (a .at) (lineOf (a .since) (a .mark)) o e), tt))
 
 enum-told : tie.Need-enum-told
 enum-told c = search needs
@@ -125,14 +126,35 @@ enum-told c = search needs
 takes-data-requires : tie.Need-takes-data-requires
 takes-data-requires c κs = search needs
 
-add-t35 : tie.Need-add-t35
-add-t35 c = search needs
+add-t38 : tie.Need-add-t38
+add-t38 c = search needs
 
 returns-8 : tie.Need-returns-8
 returns-8 c =
     let a = c .before .before .before .before .before .before .before .before .before .before .args in
-    let e = token-blank (length (a .d .now)) (c .before .before .before .before .token-at .last .1 .1 .1 .1 .0) (c .before .before .before .before .token-at .result) _ (c .before .before .before .before .token-at .ensures) (c .before .before .enum-told .given .1) in
-    ((omega arith, omega (arith, c .before .before .before .before .before .before .before .before .before .before .pre .5)), λ es i t l o r. (finds-separator o (r .number) (c .before .takes-data .ensures _ es t o r) e (not-true _ (c .if4 .taken)), tt))
+    let e = token-blank (length (a .d .now)) (c .before .before .before .before .token-at .last .1 .1 .1 .1 .0) (c .before .before .before .before .token-at .result) _ (c .before .before .before .before .token-at .ensures) (c .before .before .enum-told .given .1) in (
+      (omega arith, omega (arith, c .before .before .before .before .before .before .before .before .before .before .pre .5)),
+      λ es i t l o r n. (finds-separator (settings (a .long) (a .edition)) (a .s .now) es (a .d .now) _ _ _ _ _ (lineOf (a .since) (a .mark)) o (a .at) r (c .before .takes-data .ensures _ es t o r) e (not-true _ (c .if4 .taken)), tt),
+    )
+
+is-ignored-requires : tie.Need-is-ignored-requires
+is-ignored-requires c κs = search needs
+
+add-t40 : tie.Need-add-t40
+add-t40 c = search needs
+
+-- A byte 13 that is ignored at once.
+returns-9 : tie.Need-returns-9
+returns-9 c =
+    let asked = c .before .before .before in
+    let a = asked .before .before .before .before .before .before .before .before .before .args in
+    let e = token-blank (length (a .d .now)) (asked .before .before .before .token-at .last .1 .1 .1 .1 .0) (asked .before .before .before .token-at .result) _ (asked .before .before .before .token-at .ensures) (asked .before .enum-told .given .1) in (
+      (omega arith, omega (arith, asked .before .before .before .before .before .before .before .before .before .pre .5)),
+      λ es i t l o r n.
+          let q = asked .takes-data .ensures _ es t o r in
+          let so = since-last (settings (a .long) (a .edition)) (a .s .now) es (a .d .now) _ _ _ _ _ (lineOf (a .since) (a .mark)) o (a .at) r q e (not-false _ (c .before .before .if4 .left)) n in
+          (finds-ignored (settings (a .long) (a .edition)) (a .s .now) es (a .d .now) _ _ _ _ _ (lineOf (a .since) (a .mark)) o (a .at) r q e (sym (c .before .is-ignored .ensures (a .long) o so) ∙ c .if5 .taken), tt),
+    )
 
 enum-told-2 : tie.Need-enum-told-2
 enum-told-2 c = search needs
@@ -143,12 +165,16 @@ add-run-end c = search needs
 run-end-requires : tie.Need-run-end-requires
 run-end-requires c κs = search needs
 
-returns-9 : tie.Need-returns-9
-returns-9 c =
+returns-10 : tie.Need-returns-10
+returns-10 c =
     let a = c .before .before .before .before .before .before .before .before .args in (
       onward-run (a .d .now) (a .at) (c .before .before .before .before .before .before .before .before .pre .5) (c .run-end .ensures),
-      λ es i t l o r. (
-        ⊎-elim (λ w. runs refl (finds-blank-run o (r .number) (w .2 .ensures _ es t o r) (token-blank (length (a .d .now)) (c .before .before .token-at .last .1 .1 .1 .1 .0) (c .before .before .token-at .result) _ (c .before .before .token-at .ensures) (w .1 .given .1)) (not-false _ (w .3 .left)) (c .run-end .ensures)))
+      λ es i t l o r n. (
+        ⊎-elim (λ w.
+            let q = w .2 .ensures _ es t o r in
+            let e = token-blank (length (a .d .now)) (c .before .before .token-at .last .1 .1 .1 .1 .0) (c .before .before .token-at .result) _ (c .before .before .token-at .ensures) (w .1 .given .1) in
+            let so = since-last (settings (a .long) (a .edition)) (a .s .now) es (a .d .now) _ _ _ _ _ (lineOf (a .since) (a .mark)) o (a .at) r q e (not-false _ (w .3 .left)) n in
+            runs refl (finds-blank-run (settings (a .long) (a .edition)) (a .s .now) es (a .d .now) _ _ _ _ _ (lineOf (a .since) (a .mark)) o (a .at) r q e (not-false _ (w .3 .left)) (sym (w .4 .ensures (a .long) o so) ∙ w .5 .left) (c .run-end .ensures)))
             (λ w. runs refl (finds-data-run (token-data (length (a .d .now)) (c .before .before .token-at .last .1 .1 .1 .1 .0) (c .before .before .token-at .result) _ (c .before .before .token-at .ensures) (w .1 .given .1)) (c .run-end .ensures))) (c .before .match .came),
         λ some. absurd (omega arith),
       ),
@@ -177,9 +203,12 @@ piece-at-spec =
     returns-7
     enum-told
     takes-data-requires
-    add-t35
+    add-t38
     returns-8
+    is-ignored-requires
+    add-t40
+    returns-9
     enum-told-2
     add-run-end
     run-end-requires
-    returns-9)
+    returns-10)

@@ -3,8 +3,8 @@ use Prim.Native.Nat.{_≤_}
 use mathlib.Core.Path.{sym, _∙_}
 use native.Mathlib.Omega.{arith}
 use borrow.Author.Needs.{needs}
-use Rattle.row_search.specs.Means.{RowSays}
-use Rattle.row_search.specs.Laws.{Seeks, seeks-start, seeks-found, seeks-rising, seeks-next, seeks-none}
+use Rattle.row_search.specs.Rows.{RowSays}
+use Rattle.row_search.specs.Search.{Seeks, seeks-start, seeks-found, seeks-rising, seeks-next, seeks-none}
 use Rattle.row_search.proofs.largest.Statement.{statement}
 use Rattle.row_search.proofs.largest.Tie as tie
 

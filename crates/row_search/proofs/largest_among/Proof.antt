@@ -5,9 +5,9 @@ use mathlib.Core.Bool.{false}
 use mathlib.Core.Logic.{inl, inr, ⊎-elim}
 use native.Mathlib.Omega.{arith}
 use borrow.Author.Needs.{needs}
-use Rattle.and_groups.specs.Means.{Follows}
-use Rattle.row_search.specs.Means.{BothSay}
-use Rattle.row_search.specs.Laws.{Seeks, seeks-start, seeks-found, seeks-rising, seeks-next, seeks-none, raised-low, raised-high, raised-from}
+use Rattle.and_groups.specs.Takes.{Follows}
+use Rattle.row_search.specs.Rows.{BothSay}
+use Rattle.row_search.specs.Search.{Seeks, seeks-start, seeks-found, seeks-rising, seeks-next, seeks-none, raised-low, raised-high, raised-from}
 use Rattle.row_search.proofs.largest_among.Statement.{statement}
 use Rattle.row_search.proofs.largest_among.Tie as tie
 

@@ -2,7 +2,7 @@
 use Prim.Native.Nat.{_+_, _-_, _≤_}
 use mathlib.Core.Path.{refl}
 use native.Mathlib.Omega.{arith}
-use Rattle.same_names.specs.Laws.{Keyed, keyed-one}
+use Rattle.same_names.specs.Keys.{Keyed, keyed-one}
 use Rattle.same_names.proofs.keys_of.Statement.{statement}
 use Rattle.same_names.proofs.keys_of.Tie as tie
 

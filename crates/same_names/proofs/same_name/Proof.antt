@@ -3,7 +3,7 @@ use Prim.Native.Nat.{_+_, _-_, _≤_}
 use mathlib.Core.Logic.{⊎-elim}
 use mathlib.Core.Path.{sym, _∙_}
 use native.Mathlib.Omega.{arith}
-use Rattle.same_names.specs.Laws.{Unlike, unlike-name, unlike-key}
+use Rattle.same_names.specs.Keys.{Unlike, unlike-name, unlike-key}
 use Rattle.same_names.proofs.same_name.Statement.{statement}
 use Rattle.same_names.proofs.same_name.Tie as tie
 

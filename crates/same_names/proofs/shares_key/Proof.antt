@@ -3,7 +3,7 @@ use Prim.Native.Nat.{_+_, _-_}
 use mathlib.Core.Logic.{⊎-elim}
 use native.Mathlib.Omega.{arith}
 use lib.ListN.{getD}
-use Rattle.same_names.specs.Laws.{Shares, shares-start, shares-hit, shares-miss, shares-end}
+use Rattle.same_names.specs.Keys.{Shares, shares-start, shares-hit, shares-miss, shares-end}
 use Rattle.same_names.proofs.shares_key.Statement.{statement}
 use Rattle.same_names.proofs.shares_key.Tie as tie
 

@@ -2,8 +2,8 @@
 use mathlib.Core.Path.{sym, ap, subst}
 use native.Mathlib.Omega.{arith}
 use Rattle.rules.specs.Calls.{answerNumbers}
-use Rattle.type_judge.specs.Means.{answerOf}
-use Rattle.sgml.specs.Means.{VerdictFits}
+use Rattle.type_judge.specs.Decides.{answerOf}
+use Rattle.sgml.specs.Fits.{VerdictFits}
 use borrow.Author.Needs.{needs}
 use Rattle.sgml.proofs.numbers_of.Statement.{statement}
 use Rattle.sgml.proofs.numbers_of.Tie as tie

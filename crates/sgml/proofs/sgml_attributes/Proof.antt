@@ -8,8 +8,8 @@ use borrow.Author.Needs.{needs}
 use Rattle.rules.specs.Settings.{Settings}
 use Rattle.rules.specs.Lent.{bytes}
 use Rattle.rules.specs.Listing.{Lists}
-use Rattle.type_judge.specs.Means.{answerOf}
-use Rattle.sgml.specs.Laws.{listed-fits}
+use Rattle.type_judge.specs.Decides.{answerOf}
+use Rattle.sgml.specs.AnswersFit.{listed-fits}
 use Rattle.sgml.proofs.sgml_attributes.Statement.{statement}
 use Rattle.sgml.proofs.sgml_attributes.Tie as tie
 

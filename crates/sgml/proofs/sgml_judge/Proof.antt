@@ -8,8 +8,8 @@ use borrow.Author.Needs.{needs}
 use Rattle.rules.specs.Settings.{Settings}
 use Rattle.rules.specs.Lent.{bytes}
 use Rattle.rules.specs.Judge.{Judged}
-use Rattle.type_judge.specs.Means.{answerOf}
-use Rattle.sgml.specs.Laws.{verdict-fits}
+use Rattle.type_judge.specs.Decides.{answerOf}
+use Rattle.sgml.specs.AnswersFit.{verdict-fits}
 use Rattle.sgml.proofs.sgml_judge.Statement.{statement}
 use Rattle.sgml.proofs.sgml_judge.Tie as tie
 

@@ -1,7 +1,7 @@
 -- `sgml_events::listed` gives the records of the attributes: a type that is accepted is not refused here, and has room.
 use mathlib.Core.Path.{ap}
 use native.Mathlib.Omega.{arith}
-use Rattle.type_judge.specs.Means.{answerOf}
+use Rattle.type_judge.specs.Decides.{answerOf}
 use Rattle.sgml_events.specs.Listed.{listed-given, listed-in, listed-not}
 use borrow.Author.Needs.{needs}
 use Rattle.sgml_events.proofs.listed.Statement.{statement}

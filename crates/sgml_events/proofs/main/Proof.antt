@@ -2,7 +2,7 @@
 -- buffer, and reading ended where the file did or the buffer was full.
 use native.Mathlib.Omega.{arith}
 use borrow.Author.Needs.{needs}
-use Rattle.file_reader.specs.Laws.{loaded-in, loaded-whole}
+use Rattle.file_reader.specs.Loading.{loaded-in, loaded-whole}
 use Rattle.sgml_events.specs.Files.{whole-of}
 use Rattle.sgml_events.proofs.main.Statement.{statement}
 use Rattle.sgml_events.proofs.main.Tie as tie

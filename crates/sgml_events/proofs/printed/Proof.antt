@@ -2,9 +2,9 @@
 use mathlib.Core.Path.{refl, ap}
 use native.Mathlib.Omega.{arith}
 use borrow.Author.Needs.{needs}
-use Rattle.document_reader.specs.Means.{answerOf}
+use Rattle.document_reader.specs.Answer.{answerOf}
 use Rattle.rules.specs.Printed.{events}
-use Rattle.file_reader.specs.Laws.{counts-of}
+use Rattle.file_reader.specs.Loading.{counts-of}
 use Rattle.sgml_events.specs.Answers.{read-given, accepted-read, prints-refusal}
 use Rattle.sgml_events.proofs.printed.Statement.{statement}
 use Rattle.sgml_events.proofs.printed.Tie as tie

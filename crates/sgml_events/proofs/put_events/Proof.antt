@@ -5,7 +5,7 @@ use native.Mathlib.Omega.{arith}
 use lib.ListN.{length-replicate}
 use borrow.Author.Needs.{needs}
 use Rattle.sgml_events.specs.Table.{judged-given, table-fits, names-are, text-is}
-use Rattle.file_reader.specs.Laws.{counts-of}
+use Rattle.file_reader.specs.Loading.{counts-of}
 use Rattle.sgml_events.proofs.put_events.Statement.{statement}
 use Rattle.sgml_events.proofs.put_events.Tie as tie
 

@@ -3,7 +3,6 @@ use Prim.Native.Nat.{_+_, _-_, _≤_}
 use mathlib.Core.Path.{_≡_, refl, _∙_}
 use native.Mathlib.Omega.{arith}
 use lib.ListN.{length}
-use Rattle.rules.specs.Settings.{settings}
 use Rattle.table_fill.specs.Filled.{Filled}
 use Rattle.table_fill.specs.Own.{elementsOf, accepted-own, indexed-own, lists-own, counted-own, tables-own, blank-lengths, filled-own}
 use Rattle.table_fill.proofs.fill.Statement.{statement}
@@ -11,7 +10,7 @@ use Rattle.table_fill.proofs.fill.Tie as tie
 
 abbrev Inv-loop : tie.InvT-loop
 Inv-loop long s elements lists count index rows₀ places₀ facts₀ members₀ names₀ table₀ k₀ rows places facts members names table k =
-    (1 ≤ k) × (k ≤ count + 1) × (length members ≡ length members₀) × Filled s (elementsOf (settings long) s) rows places facts members k
+    (1 ≤ k) × (k ≤ count + 1) × (length members ≡ length members₀) × Filled s (elementsOf long s) rows places facts members k
 
 abbrev μ-loop : tie.MeasureT-loop
 μ-loop long s elements lists count index rows₀ places₀ facts₀ members₀ names₀ table₀ k₀ rows places facts members names table k =
@@ -30,11 +29,12 @@ put-element-requires c κs =
     let pre = c .before .before .before .before .before .before .before .before .before .before .before .before .before .before .before .pre in
     let inv = c .before .before .before .before .before .before .before .loop .inv in
     record {
+      edition = pre .1 .0 .0;
       accepted = accepted-own _ _ _ _ _ (pre .1 .0);
       indexed = indexed-own _ _ _ _ _ (pre .1 .0);
       listed = lists-own _ _ _ _ _ (pre .1 .0);
       from = inv .0;
-      to = omega (arith, counted-own _ _ _ _ (pre .0));
+      to = omega (arith, counted-own _ _ _ _ _ (pre .0 .1));
       filled = inv .3;
     }
 
@@ -42,7 +42,7 @@ add-k : tie.Need-add-k Inv-loop μ-loop
 add-k c =
     let pre = c .before .before .before .before .before .before .before .before .before .before .before .before .before .before .before .before .before .before .pre in
     let few = indexed-own _ _ _ _ _ (pre .1 .0) .few in
-    let counted = counted-own _ _ _ _ (pre .0) in
+    let counted = counted-own _ _ _ _ _ (pre .0 .1) in
     omega arith
 
 loop-less : tie.Need-loop-less Inv-loop μ-loop
@@ -55,10 +55,10 @@ same-length : tie.Need-same-length Inv-loop μ-loop
 same-length c = c .before .loop .inv .2
 
 returns : tie.Need-returns Inv-loop μ-loop
-returns c es a n r =
+returns c edition es a n r =
     let pre = c .before .before .before .before .before .before .before .before .before .pre in
-    let counted = counted-own _ _ _ _ (pre .0) in
-    tables-own _ _ _ _ _ _ _ (c .before .loop .inv .3) (omega arith) es a
+    let counted = counted-own _ _ _ _ _ (pre .0 .1) in
+    tables-own _ _ _ _ _ _ _ (c .before .loop .inv .3) (omega arith) edition es a
 
 pub fill-spec : {M : Type 1} → statement M
 fill-spec =

@@ -8,7 +8,7 @@ use Rattle.rules.specs.TypeFile.{Element}
 use Rattle.layout.specs.Sizes.{PLACES, FACTS}
 use Rattle.model_names.specs.Places.{placesOf}
 use Rattle.table_fill.specs.Places.{PlacesPut, places-none}
-use Rattle.element_index.specs.Means.{Indexed}
+use Rattle.element_index.specs.Indexed.{Indexed}
 use Rattle.table_fill.specs.Names.{place-filed}
 use Rattle.table_fill.proofs.put_places.Statement.{statement}
 use Rattle.table_fill.proofs.put_places.Tie as tie
@@ -27,7 +27,7 @@ abbrev μ-loop : tie.MeasureT-loop
 loop-holds : tie.Need-loop-holds Inv-loop μ-loop
 loop-holds c =
     let pre = c .before .pre in
-    (omega arith, omega arith, pre .places-len, pre .facts-len, λ es indexed. places-none (indexed .settings) _ es (indexed .accepted .elements) _ _ _ _ (pre .places-len) (pre .facts-len) (pre .blank))
+    (omega arith, omega arith, pre .places-len, pre .facts-len, λ es indexed. places-none (indexed .settings .nameLength) _ es (indexed .accepted .elements) _ _ _ _ (pre .places-len) (pre .facts-len) (pre .blank))
 
 name-requires : tie.Need-name-requires Inv-loop μ-loop
 name-requires c κs =

@@ -4,7 +4,7 @@ use mathlib.Core.Path.{_≡_, refl}
 use mathlib.Core.Bool.{true}
 use native.Mathlib.Omega.{arith}
 use borrow.Author.Needs.{needs}
-use Rattle.type_tables.specs.Means.{raisedPlace}
+use Rattle.type_tables.specs.Tables.{raisedPlace}
 use Rattle.table_fill.proofs.raised.Statement.{statement}
 use Rattle.table_fill.proofs.raised.Tie as tie
 

@@ -5,7 +5,7 @@ use native.Mathlib.Omega.{arith}
 use lib.ListN.{length, drop}
 use borrow.Author.Tests.{not-true, not-false}
 use Rattle.rules.specs.Bytes.{letter, nameByte, span, nameEnd}
-use Rattle.text.specs.Laws.{spanned, before-all, span-turn, span-end}
+use Rattle.text.specs.Words.{spanned, before-all, span-turn, span-end}
 use Rattle.tag_attributes.proofs.name_end.Statement.{statement}
 use Rattle.tag_attributes.proofs.name_end.Tie as tie
 

@@ -4,12 +4,11 @@ use mathlib.Core.Logic.{⊎-elim}
 use native.Mathlib.Omega.{arith}
 use borrow.Author.Needs.{needs}
 use borrow.Author.Tests.{not-true, not-false}
-use Rattle.rules.specs.Settings.{settings}
 use Rattle.rules.specs.Attributes.{quote}
 use Rattle.rules_laws.specs.Holds.{got-so}
 use Rattle.rules_laws.specs.Definitions.{literal-holds}
-use Rattle.text.specs.Laws.{tested, nameEnd-from, nameEnd-le, reached-got, reached-refused}
-use Rattle.tag_attributes.specs.Laws.{EqualsAt, equals-first, equals-then, equals-in, QuoteAt, quote-first, quote-then, quote-in, name-long, equals-missing, quote-missing, literal-refused, literal-read}
+use Rattle.text.specs.Words.{tested, nameEnd-from, nameEnd-le, reached-got, reached-refused}
+use Rattle.tag_attributes.specs.Ways.{EqualsAt, equals-first, equals-then, equals-in, QuoteAt, quote-first, quote-then, quote-in, name-long, equals-missing, quote-missing, literal-refused, literal-read}
 use Rattle.tag_attributes.proofs.specification_at.Statement.{statement}
 use Rattle.tag_attributes.proofs.specification_at.Tie as tie
 
@@ -25,7 +24,7 @@ returns : tie.Need-returns
 returns c =
     let n = c .before in
     let a = n .before .before .args in
-    name-long (settings (a .long)) (a .s .now) (a .i) _ (n .name-end .ensures) (omega arith)
+    name-long (a .long) (a .s .now) (a .i) _ (n .name-end .ensures) (omega arith)
 
 byte-requires : tie.Need-byte-requires
 byte-requires c κs = search needs
@@ -45,7 +44,7 @@ returns-2 c =
     let e = b .before in
     let n = e .before .before .before in
     let a = n .before .before .before .args in
-    equals-missing (settings (a .long)) (a .s .now) (a .i) _ (n .before .name-end .ensures) (n .if1 .left) _ (e .separators-end .ensures) (λ x. c .if3 .taken (b .byte2 .ensures ∙ x))
+    equals-missing (a .long) (a .s .now) (a .i) _ (n .before .name-end .ensures) (n .if1 .left) _ (e .separators-end .ensures) (λ x. c .if3 .taken (b .byte2 .ensures ∙ x))
 
 -- `=`, with or without separators before it, stands in the text.
 equals-at : (c : tie.Joined2) →
@@ -82,7 +81,7 @@ returns-3 c =
     let j = e .before .before .before .before .before in
     let n = j .before .before in
     let a = n .before .before .before .args in
-    quote-missing (settings (a .long)) (a .s .now) (a .i) _ (n .before .name-end .ensures) (n .if1 .left) _ (equals-at j) _ (e .separators-end2 .ensures) (tested quote (q .before .byte4 .ensures) (q .is-quote2 .ensures) (not-true _ (c .if5 .taken)))
+    quote-missing (a .long) (a .s .now) (a .i) _ (n .before .name-end .ensures) (n .if1 .left) _ (equals-at j) _ (e .separators-end2 .ensures) (tested quote (q .before .byte4 .ensures) (q .is-quote2 .ensures) (not-true _ (c .if5 .taken)))
 
 -- So does the quote.
 quote-at : (c : tie.Joined4) →
@@ -113,7 +112,7 @@ returns-4 c =
     let j = l .before .before .before .before .before in
     let n = j .before .before in
     let a = n .before .before .before .args in
-    literal-refused (settings (a .long)) (a .s .now) (a .i) _ (n .before .name-end .ensures) (n .if1 .left) _ (equals-at j) _ (quote-at (l .before)) _ _ (reached-refused (l .literal-end .ensures) (c .before .enum-told .given .1) (c .fault-of .ensures))
+    literal-refused (a .long) (a .s .now) (a .i) _ (n .before .name-end .ensures) (n .if1 .left) _ (equals-at j) _ (quote-at (l .before)) _ _ (reached-refused (l .literal-end .ensures) (c .before .enum-told .given .1) (c .fault-of .ensures))
 
 sub-t10 : tie.Need-sub-t10
 sub-t10 c =
@@ -136,7 +135,7 @@ returns-5 c =
     let j = l .before .before .before .before .before in
     let n = j .before .before in
     let a = n .before .before .before .args in
-    literal-read (settings (a .long)) (a .s .now) (a .i) _ (n .before .name-end .ensures) (n .if1 .left) _ (equals-at j) _ (quote-at (l .before)) _ (reached-got (l .literal-end .ensures) (c .before .before .l .given .1))
+    literal-read (a .long) (a .s .now) (a .i) _ (n .before .name-end .ensures) (n .if1 .left) _ (equals-at j) _ (quote-at (l .before)) _ (reached-got (l .literal-end .ensures) (c .before .before .l .given .1))
 
 pub specification-at-spec : {M : Type 1} → statement M
 specification-at-spec =

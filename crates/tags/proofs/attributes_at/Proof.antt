@@ -7,18 +7,17 @@ use native.Mathlib.Omega.{arith}
 use lib.ListN.{length}
 use borrow.Author.Needs.{needs}
 use Rattle.rules.specs.Bytes.{byteAt, letter}
-use Rattle.rules.specs.Settings.{settings}
 use Rattle.rules.specs.Reading.{got}
 use Rattle.rules.specs.Document.{specification}
-use Rattle.text.specs.Laws.{byte-is-in, tested, separatorsEnd-from}
+use Rattle.text.specs.Words.{byte-is-in, tested, separatorsEnd-from}
 use Rattle.tag_attributes.specs.Given.{writtenAs, WrittenIn}
-use Rattle.tag_attributes.specs.Laws.{written-got, written-refused}
+use Rattle.tag_attributes.specs.Ways.{written-got, written-refused}
 use Rattle.tags.specs.Attributes.{specificationsOn, Goes, goes-first, goes-turn, goes-refused, goes-ends, goes-wrong, written-in, written-on}
 use Rattle.tags.proofs.attributes_at.Statement.{statement}
 use Rattle.tags.proofs.attributes_at.Tie as tie
 
 abbrev Inv-loop : tie.InvT-loop
-Inv-loop long classes s i e first given₀ n₀ j₀ given n j = Goes (settings long) s i e (specificationsOn (settings long) (length s) s i e j₀ []) given n j
+Inv-loop long classes s i e first given₀ n₀ j₀ given n j = Goes long s i e (specificationsOn long (length s) s i e j₀ []) given n j
 
 abbrev μ-loop : tie.MeasureT-loop
 μ-loop long classes s i e first given₀ n₀ j₀ given n j = length s - j
@@ -26,7 +25,7 @@ abbrev μ-loop : tie.MeasureT-loop
 loop-holds : tie.Need-loop-holds Inv-loop μ-loop
 loop-holds c =
     let a = c .before .args in
-    goes-first (settings (a .long)) (a .s .now) (a .i) (a .e) (a .first) (a .given .now) (omega arith)
+    goes-first (a .long) (a .s .now) (a .i) (a .e) (a .first) (a .given .now) (omega arith)
 
 byte-requires : tie.Need-byte-requires Inv-loop μ-loop
 byte-requires c κs = search needs
@@ -60,12 +59,12 @@ returns c =
     let t = r .before in
     let l = t .before .before .before in
     let a = l .before .before .args in
-    goes-refused (settings (a .long)) (a .s .now) (a .i) (a .e) _ _ _ _ (l .loop .inv) (letter-at t) _ _ (written-refused (r .specification-at .ensures) (c .before .enum-told .given .1) (c .fault-of .ensures))
+    goes-refused (a .long) (a .s .now) (a .i) (a .e) _ _ _ _ (l .loop .inv) (letter-at t) _ _ (written-refused (r .specification-at .ensures) (c .before .enum-told .given .1) (c .fault-of .ensures))
 
 written-at : (c : tie.After-r Inv-loop μ-loop) →
     let l = c .before .before .before .before .before .before in
     let a = l .before .before .args in
-    specification (settings (a .long)) (a .s .now) (l .loop .j) ≡ got (writtenAs (c .r .given .0 .0))
+    specification (a .long) (a .s .now) (l .loop .j) ≡ got (writtenAs (c .r .given .0 .0))
 written-at c = written-got (c .before .before .specification-at .ensures) (c .r .given .1)
 
 inside : (c : tie.After-r Inv-loop μ-loop) → WrittenIn (length (c .before .before .before .before .before .before .before .before .args .s .now)) (c .r .given .0 .0)
@@ -73,7 +72,7 @@ inside c =
     let t = c .before .before .before in
     let l = t .before .before .before in
     let a = l .before .before .args in
-    written-in (settings (a .long)) (a .s .now) (a .i) (a .e) (l .loop .j) (letter-at t) (c .r .given .0 .0) (written-at c)
+    written-in (a .long) (a .s .now) (a .i) (a .e) (l .loop .j) (letter-at t) (c .r .given .0 .0) (written-at c)
 
 keep-requires : tie.Need-keep-requires Inv-loop μ-loop
 keep-requires c κs =
@@ -98,7 +97,7 @@ loop-less c =
     let l = t .before .before .before in
     let a = l .before .before .args in
     let w = r .r .given .0 .0 in
-    let on = written-on (settings (a .long)) (a .s .now) (a .i) (a .e) (l .loop .j) (letter-at t) w (written-at r) in
+    let on = written-on (a .long) (a .s .now) (a .i) (a .e) (l .loop .j) (letter-at t) w (written-at r) in
     omega (arith, inside r, separatorsEnd-from (a .s .now) (w .quote + w .width + 2), c .separators-end .ensures)
 
 loop-again : tie.Need-loop-again Inv-loop μ-loop
@@ -108,7 +107,7 @@ loop-again c =
     let t = r .before .before .before in
     let l = t .before .before .before in
     let a = l .before .before .args in
-    goes-turn (settings (a .long)) (a .s .now) (a .i) (a .e) _ _ _ _ (l .loop .inv) (letter-at t) (r .r .given .0 .0) (written-at r) _ _ _ (k .keep .ensures) (c .separators-end .ensures)
+    goes-turn (a .long) (a .s .now) (a .i) (a .e) _ _ _ _ (l .loop .inv) (letter-at t) (r .r .given .0 .0) (written-at r) _ _ _ (k .keep .ensures) (c .separators-end .ensures)
 
 byte-requires-2 : tie.Need-byte-requires-2 Inv-loop μ-loop
 byte-requires-2 c κs = search needs
@@ -126,14 +125,14 @@ returns-2 : tie.Need-returns-2 Inv-loop μ-loop
 returns-2 c =
     let l = c .before .before .before .before .before in
     let a = l .before .before .args in
-    goes-ends (settings (a .long)) (a .s .now) (a .i) (a .e) _ _ _ _ (l .loop .inv) (sym (c .before .byte2 .ensures) ∙ c .if2 .taken)
+    goes-ends (a .long) (a .s .now) (a .i) (a .e) _ _ _ _ (l .loop .inv) (sym (c .before .byte2 .ensures) ∙ c .if2 .taken)
 
 returns-3 : tie.Need-returns-3 Inv-loop μ-loop
 returns-3 c =
     let t = c .before .before .before in
     let l = t .before .before in
     let a = l .before .before .args in
-    goes-wrong (settings (a .long)) (a .s .now) (a .i) (a .e) _ _ _ _ (l .loop .inv) (tested letter (t .before .byte .ensures) (t .is-letter .ensures) (c .before .before .if1 .left)) (λ e. c .if2 .left (c .before .byte2 .ensures ∙ e))
+    goes-wrong (a .long) (a .s .now) (a .i) (a .e) _ _ _ _ (l .loop .inv) (tested letter (t .before .byte .ensures) (t .is-letter .ensures) (c .before .before .if1 .left)) (λ e. c .if2 .left (c .before .byte2 .ensures ∙ e))
 
 pub attributes-at-spec : {M : Type 1} → statement M
 attributes-at-spec =

@@ -4,8 +4,7 @@ use mathlib.Core.List.{[]}
 use native.Mathlib.Omega.{arith}
 use lib.ListN.{length}
 use borrow.Author.Needs.{needs}
-use Rattle.rules.specs.Settings.{settings}
-use Rattle.text.specs.Laws.{byte-is-in, nameEnd-from, nameEnd-le, separatorsEnd-from, separatorsEnd-le}
+use Rattle.text.specs.Words.{byte-is-in, nameEnd-from, nameEnd-le, separatorsEnd-from, separatorsEnd-le}
 use Rattle.tags.specs.Attributes.{start-long, start-on, start-ends, read-none}
 use Rattle.tags.proofs.start_tag_at.Statement.{statement}
 use Rattle.tags.proofs.start_tag_at.Tie as tie
@@ -21,7 +20,7 @@ sub-size c =
 returns : tie.Need-returns
 returns c =
     let a = c .before .before .before .args in
-    start-long (settings (a .long)) (a .s .now) (a .i) _ (c .before .name-end .ensures) (omega arith)
+    start-long (a .long) (a .s .now) (a .i) _ (c .before .name-end .ensures) (omega arith)
 
 separators-end-requires : tie.Need-separators-end-requires
 separators-end-requires c κs =
@@ -41,7 +40,7 @@ returns-2 c =
     let j = c .before .before in
     let n = j .before .before in
     let a = n .before .before .args in
-    ([], start-ends (settings (a .long)) (a .s .now) (a .i) _ (n .name-end .ensures) (omega arith) _ (j .separators-end .ensures) (sym (c .before .byte .ensures) ∙ c .if2 .taken), read-none (length (a .s .now)) (a .given .now))
+    ([], start-ends (a .long) (a .s .now) (a .i) _ (n .name-end .ensures) (omega arith) _ (j .separators-end .ensures) (sym (c .before .byte .ensures) ∙ c .if2 .taken), read-none (length (a .s .now)) (a .given .now))
 
 attributes-at-requires : tie.Need-attributes-at-requires
 attributes-at-requires c κs =
@@ -58,7 +57,7 @@ returns-3 c =
     let j = c .before .before .before .before in
     let n = j .before .before in
     let a = n .before .before .args in
-    rw (start-on (settings (a .long)) (a .s .now) (a .i) _ (n .name-end .ensures) (omega arith) _ (j .separators-end .ensures)) (c .attributes-at .ensures)
+    rw (start-on (a .long) (a .s .now) (a .i) _ (n .name-end .ensures) (omega arith) _ (j .separators-end .ensures)) (c .attributes-at .ensures)
 
 pub start-tag-at-spec : {M : Type 1} → statement M
 start-tag-at-spec =

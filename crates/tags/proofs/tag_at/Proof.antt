@@ -2,8 +2,7 @@
 use mathlib.Core.Path.{sym, _∙_}
 use native.Mathlib.Omega.{arith}
 use borrow.Author.Needs.{needs}
-use Rattle.rules.specs.Settings.{settings}
-use Rattle.text.specs.Laws.{byte-is-in, nameEnd-from, nameEnd-le}
+use Rattle.text.specs.Words.{byte-is-in, nameEnd-from, nameEnd-le}
 use Rattle.tags.specs.Tags.{tag-long, tag-read, tag-open}
 use Rattle.tags.proofs.tag_at.Statement.{statement}
 use Rattle.tags.proofs.tag_at.Tie as tie
@@ -19,7 +18,7 @@ sub-if1 c =
 returns : tie.Need-returns
 returns c =
     let a = c .before .before .before .args in
-    tag-long (settings (a .long)) (a .s .now) (a .i) _ (c .before .name-end .ensures) (omega arith)
+    tag-long (a .long) (a .s .now) (a .i) _ (c .before .name-end .ensures) (omega arith)
 
 separators-end-requires : tie.Need-separators-end-requires
 separators-end-requires c κs =
@@ -42,12 +41,12 @@ add-t12 c =
 returns-2 : tie.Need-returns-2
 returns-2 c =
     let a = c .before .before .before .before .before .before .args in
-    tag-read (settings (a .long)) (a .s .now) (a .i) _ (c .before .before .before .before .name-end .ensures) _ (c .before .before .separators-end .ensures) (omega arith) (sym (c .before .byte .ensures) ∙ c .if2 .taken)
+    tag-read (a .long) (a .s .now) (a .i) _ (c .before .before .before .before .name-end .ensures) _ (c .before .before .separators-end .ensures) (omega arith) (sym (c .before .byte .ensures) ∙ c .if2 .taken)
 
 returns-3 : tie.Need-returns-3
 returns-3 c =
     let a = c .before .before .before .before .before .before .args in
-    tag-open (settings (a .long)) (a .s .now) (a .i) _ (c .before .before .before .before .name-end .ensures) _ (c .before .before .separators-end .ensures) (omega arith) (λ e. c .if2 .left (c .before .byte .ensures ∙ e))
+    tag-open (a .long) (a .s .now) (a .i) _ (c .before .before .before .before .name-end .ensures) _ (c .before .before .separators-end .ensures) (omega arith) (λ e. c .if2 .left (c .before .byte .ensures ∙ e))
 
 pub tag-at-spec : {M : Type 1} → statement M
 tag-at-spec =

@@ -5,7 +5,7 @@ use mathlib.Core.Bool.{true, false}
 use native.Mathlib.Omega.{arith}
 use lib.ListN.{length, drop}
 use Rattle.rules.specs.Bytes.{byteAt, allowed, span}
-use Rattle.text.specs.Laws.{tested, allowed-in, span-turn, span-end}
+use Rattle.text.specs.Words.{tested, allowed-in, span-turn, span-end}
 use Rattle.text.proofs.allowed_end.Statement.{statement}
 use Rattle.text.proofs.allowed_end.Tie as tie
 

@@ -5,7 +5,7 @@ use mathlib.Core.Logic.{⊎-elim}
 use lib.Dec.{eqb}
 use borrow.Author.Tests.{eq-eqb, ne-eqb, le-leb, lt-leb}
 use Rattle.rules.specs.Bytes.{allowed}
-use Rattle.text.specs.Laws.{or-taken, or-left}
+use Rattle.text.specs.Words.{or-taken, or-left}
 use Rattle.text.proofs.is_allowed.Statement.{statement}
 use Rattle.text.proofs.is_allowed.Tie as tie
 

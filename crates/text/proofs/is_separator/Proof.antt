@@ -5,7 +5,7 @@ use mathlib.Core.Logic.{⊎-elim}
 use lib.Dec.{eqb}
 use borrow.Author.Tests.{eq-eqb, ne-eqb}
 use Rattle.rules.specs.Bytes.{separator}
-use Rattle.text.specs.Laws.{or-taken, or-left}
+use Rattle.text.specs.Words.{or-taken, or-left}
 use Rattle.text.proofs.is_separator.Statement.{statement}
 use Rattle.text.proofs.is_separator.Tie as tie
 

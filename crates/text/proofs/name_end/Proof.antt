@@ -5,7 +5,7 @@ use mathlib.Core.Bool.{true, false}
 use native.Mathlib.Omega.{arith}
 use lib.ListN.{length, drop}
 use Rattle.rules.specs.Bytes.{byteAt, nameByte, letter, span, nameEnd}
-use Rattle.text.specs.Laws.{tested, name-byte-in, span-turn, span-end}
+use Rattle.text.specs.Words.{tested, name-byte-in, span-turn, span-end}
 use Rattle.text.proofs.name_end.Statement.{statement}
 use Rattle.text.proofs.name_end.Tie as tie
 

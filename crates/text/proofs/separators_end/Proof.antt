@@ -5,7 +5,7 @@ use mathlib.Core.Bool.{true, false}
 use native.Mathlib.Omega.{arith}
 use lib.ListN.{length, drop}
 use Rattle.rules.specs.Bytes.{byteAt, separator, span, separatorsEnd}
-use Rattle.text.specs.Laws.{tested, separator-in, span-turn, span-end}
+use Rattle.text.specs.Words.{tested, separator-in, span-turn, span-end}
 use Rattle.text.proofs.separators_end.Statement.{statement}
 use Rattle.text.proofs.separators_end.Tie as tie
 

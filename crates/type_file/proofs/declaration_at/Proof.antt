@@ -2,8 +2,7 @@
 use Prim.Native.Nat.{_+_}
 use mathlib.Core.Path.{sym, _∙_}
 use native.Mathlib.Omega.{arith}
-use Rattle.rules.specs.Settings.{settings}
-use Rattle.text.specs.Laws.{byte-is-in}
+use Rattle.text.specs.Words.{byte-is-in}
 use Rattle.type_file.specs.Declarations.{step-refused, declaration-markup, declaration-instruction, declaration-tag, declaration-reference, declaration-other}
 use Rattle.type_file.proofs.declaration_at.Statement.{statement}
 use Rattle.type_file.proofs.declaration_at.Tie as tie
@@ -28,7 +27,7 @@ returns c es ls k h =
     let a = c .before .before .before .before .before .before .before .before .before .before .args in
     let b = c .before .before .before .before .before .before .before .before .byte .ensures in
     let d = c .before .before .before .before .before .before .byte2 .ensures in
-    rw (declaration-markup (settings (a .long)) (a .s .now) (a .i) _ es ls b _ d (c .before .before .before .before .before .before .before .if1 .taken) (c .before .before .before .before .before .if2 .taken)) (c .markup-at .ensures es ls k h)
+    rw (declaration-markup (a .long) (a .s .now) (a .i) _ es ls b _ d (c .before .before .before .before .before .before .before .if1 .taken) (c .before .before .before .before .before .if2 .taken)) (c .markup-at .ensures es ls k h)
 
 refusal-requires : tie.Need-refusal-requires
 refusal-requires c κs = tt
@@ -38,8 +37,8 @@ returns-2 c es ls k h =
     let a = c .before .before .before .before .before .before .before .args in
     let b = c .before .before .before .before .before .byte .ensures in
     let d = c .before .before .before .byte2 .ensures in
-    step-refused (settings (a .long)) (a .s .now) (a .elements .now) (a .heads .now) (a .i) 5 (a .i) _ _
-    (declaration-instruction (settings (a .long)) (a .s .now) (a .i) _ es ls b _ d (c .before .before .before .before .if1 .taken) (c .before .if3 .taken)) (c .refusal .ensures)
+    step-refused (a .long) (a .s .now) (a .elements .now) (a .heads .now) (a .i) 5 (a .i) _ _
+    (declaration-instruction (a .long) (a .s .now) (a .i) _ es ls b _ d (c .before .before .before .before .if1 .taken) (c .before .if3 .taken)) (c .refusal .ensures)
 
 add-refusal : tie.Need-add-refusal
 add-refusal c = omega arith
@@ -52,8 +51,8 @@ returns-3 c es ls k h =
     let a = c .before .before .before .before .before .before .before .args in
     let b = c .before .before .before .before .before .byte .ensures in
     let d = c .before .before .before .byte2 .ensures in
-    step-refused (settings (a .long)) (a .s .now) (a .elements .now) (a .heads .now) (a .i) 4 (a .i + 1) _ _
-    (declaration-tag (settings (a .long)) (a .s .now) (a .i) _ es ls b _ d (c .before .before .before .before .if1 .taken) (c .before .before .if2 .left) (c .before .if3 .left)) (c .refusal2 .ensures)
+    step-refused (a .long) (a .s .now) (a .elements .now) (a .heads .now) (a .i) 4 (a .i + 1) _ _
+    (declaration-tag (a .long) (a .s .now) (a .i) _ es ls b _ d (c .before .before .before .before .if1 .taken) (c .before .before .if2 .left) (c .before .if3 .left)) (c .refusal2 .ensures)
 
 refusal-requires-3 : tie.Need-refusal-requires-3
 refusal-requires-3 c κs = tt
@@ -62,8 +61,8 @@ returns-4 : tie.Need-returns-4
 returns-4 c es ls k h =
     let a = c .before .before .before .before .before .args in
     let b = c .before .before .before .byte .ensures in
-    step-refused (settings (a .long)) (a .s .now) (a .elements .now) (a .heads .now) (a .i) 5 (a .i) _ _
-    (declaration-reference (settings (a .long)) (a .s .now) (a .i) _ es ls b (c .before .if4 .taken)) (c .refusal3 .ensures)
+    step-refused (a .long) (a .s .now) (a .elements .now) (a .heads .now) (a .i) 5 (a .i) _ _
+    (declaration-reference (a .long) (a .s .now) (a .i) _ es ls b (c .before .if4 .taken)) (c .refusal3 .ensures)
 
 refusal-requires-4 : tie.Need-refusal-requires-4
 refusal-requires-4 c κs = tt
@@ -72,8 +71,8 @@ returns-5 : tie.Need-returns-5
 returns-5 c es ls k h =
     let a = c .before .before .before .before .before .args in
     let b = c .before .before .before .byte .ensures in
-    step-refused (settings (a .long)) (a .s .now) (a .elements .now) (a .heads .now) (a .i) 4 (a .i) _ _
-    (declaration-other (settings (a .long)) (a .s .now) (a .i) _ es ls b (c .before .before .if1 .left) (c .before .if4 .left)) (c .refusal4 .ensures)
+    step-refused (a .long) (a .s .now) (a .elements .now) (a .heads .now) (a .i) 4 (a .i) _ _
+    (declaration-other (a .long) (a .s .now) (a .i) _ es ls b (c .before .before .if1 .left) (c .before .if4 .left)) (c .refusal4 .ensures)
 
 pub declaration-at-spec : {M : Type 1} → statement M
 declaration-at-spec =

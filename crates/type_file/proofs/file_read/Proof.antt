@@ -3,7 +3,6 @@ use Prim.Native.Nat.{_≤_, _<_, _-_}
 use native.Mathlib.Omega.{arith}
 use lib.ListN.{length}
 use borrow.Author.Needs.{needs}
-use Rattle.rules.specs.Settings.{settings}
 use Rattle.rules.specs.TypeFile.{declaration}
 use Rattle.type_file.specs.File.{MeetsDeclarations}
 use Rattle.type_file.specs.Turns.{ReadsOn, reads-start, reads-none, reads-end, reads-refused, reads-turn}
@@ -11,7 +10,7 @@ use Rattle.type_file.proofs.file_read.Statement.{statement}
 use Rattle.type_file.proofs.file_read.Tie as tie
 
 abbrev Inv-loop : tie.InvT-loop
-Inv-loop long s elements₀ heads₀ names₀ table₀ p₀ elements heads names table p = (length s ≤ 32768) × ReadsOn (settings long) s elements heads p
+Inv-loop long s elements₀ heads₀ names₀ table₀ p₀ elements heads names table p = (length s ≤ 32768) × ReadsOn long s elements heads p
 
 abbrev μ-loop : tie.MeasureT-loop
 μ-loop long s elements₀ heads₀ names₀ table₀ p₀ elements heads names table p = length s - p .at
@@ -22,7 +21,7 @@ read : (c : tie.After-declaration-at Inv-loop μ-loop) →
     let i = c .before .before .before .before .before .before .before .loop .inv .1 in
     let at = c .before .before .before .before .before .before .separators-end .result in
     let d = c .declaration-at in
-    MeetsDeclarations (settings (x .long)) (x .s .now) (d .last .1 .1 .1 .1 .0) (d .last .1 .1 .1 .1 .1 .0) at (d .result) (declaration (settings (x .long)) (x .s .now) at (i .so-far) (i .lists))
+    MeetsDeclarations (x .long) (x .s .now) (d .last .1 .1 .1 .1 .0) (d .last .1 .1 .1 .1 .1 .0) at (d .result) (declaration (x .long) (x .s .now) at (i .so-far) (i .lists))
 read c =
     let i = c .before .before .before .before .before .before .before .loop .inv .1 in
     c .declaration-at .ensures (i .so-far) (i .lists) (i .keeps) (i .headed)
@@ -32,16 +31,16 @@ turned : (c : tie.After-r Inv-loop μ-loop) →
     let x = c .before .before .before .before .before .before .before .before .before .before .before .args in
     let q = c .r .given .0 .0 in
     let d = c .before .before .declaration-at in
-    ReadsOn (settings (x .long)) (x .s .now) (d .last .1 .1 .1 .1 .0) (d .last .1 .1 .1 .1 .1 .0) q × (c .before .before .before .before .before .before .before .before .before .loop .p .at < q .at) × (q .at ≤ length (x .s .now))
+    ReadsOn (x .long) (x .s .now) (d .last .1 .1 .1 .1 .0) (d .last .1 .1 .1 .1 .1 .0) q × (c .before .before .before .before .before .before .before .before .before .loop .p .at < q .at) × (q .at ≤ length (x .s .now))
 turned c =
     let x = c .before .before .before .before .before .before .before .before .before .before .before .args in
     let l = c .before .before .before .before .before .before .before .before .before .loop in
     let e = c .before .before .before .before .before .before .before .before .separators-end .ensures in
     let d = c .before .before .declaration-at in
-    reads-turn (settings (x .long)) (x .s .now) (l .elements) (l .heads) (l .p) (l .inv .1) _ e (c .before .before .before .before .before .before .before .if1 .left) (d .last .1 .1 .1 .1 .0) (d .last .1 .1 .1 .1 .1 .0) (d .result) _ (c .r .given .1) (read (c .before .before))
+    reads-turn (x .long) (x .s .now) (l .elements) (l .heads) (l .p) (l .inv .1) _ e (c .before .before .before .before .before .before .before .if1 .left) (d .last .1 .1 .1 .1 .0) (d .last .1 .1 .1 .1 .1 .0) (d .result) _ (c .r .given .1) (read (c .before .before))
 
 loop-holds : tie.Need-loop-holds Inv-loop μ-loop
-loop-holds c = (c .before .pre .0, reads-start (settings (c .before .args .long)) (c .before .args .s .now) (c .before .args .elements .now) (c .before .args .heads .now) (c .before .pre .1))
+loop-holds c = (c .before .pre .0, reads-start (c .before .args .long) (c .before .args .s .now) (c .before .args .elements .now) (c .before .args .heads .now) (c .before .pre .1))
 
 separators-end-requires : tie.Need-separators-end-requires Inv-loop μ-loop
 separators-end-requires c κs = c .loop .inv .1 .keeps .at-in
@@ -53,13 +52,13 @@ returns : tie.Need-returns Inv-loop μ-loop
 returns c =
     let x = c .before .before .before .before .before .before .before .args in
     let l = c .before .before .before .before .before .loop in
-    reads-none (settings (x .long)) (x .s .now) (l .elements) (l .heads) (l .p) (l .inv .1) _ _ (c .before .before .before .before .separators-end .ensures) (c .before .before .before .if1 .taken) (c .before .if2 .taken) (c .refusal .ensures)
+    reads-none (x .long) (x .s .now) (l .elements) (l .heads) (l .p) (l .inv .1) _ _ (c .before .before .before .before .separators-end .ensures) (c .before .before .before .if1 .taken) (c .before .if2 .taken) (c .refusal .ensures)
 
 returns-2 : tie.Need-returns-2 Inv-loop μ-loop
 returns-2 c =
     let x = c .before .before .before .before .before .before .args in
     let l = c .before .before .before .before .loop in
-    reads-end (settings (x .long)) (x .s .now) (l .elements) (l .heads) (l .p) (l .inv .1) _ (c .before .before .before .separators-end .ensures) (c .before .before .if1 .taken) (c .if2 .left)
+    reads-end (x .long) (x .s .now) (l .elements) (l .heads) (l .p) (l .inv .1) _ (c .before .before .before .separators-end .ensures) (c .before .before .if1 .taken) (c .if2 .left)
 
 declaration-at-requires : tie.Need-declaration-at-requires Inv-loop μ-loop
 declaration-at-requires c κs =
@@ -78,7 +77,7 @@ returns-3 c =
     let l = c .before .before .before .before .before .before .before .before .before .loop in
     let e = c .before .before .before .before .before .before .before .before .separators-end .ensures in
     let d = c .before .before .declaration-at in
-    reads-refused (settings (x .long)) (x .s .now) (l .elements) (l .heads) (l .p) (l .inv .1) _ e (c .before .before .before .before .before .before .before .if1 .left) (d .last .1 .1 .1 .1 .0) (d .last .1 .1 .1 .1 .1 .0) (d .result) _ (c .enum-told .given .1)
+    reads-refused (x .long) (x .s .now) (l .elements) (l .heads) (l .p) (l .inv .1) _ e (c .before .before .before .before .before .before .before .if1 .left) (d .last .1 .1 .1 .1 .0) (d .last .1 .1 .1 .1 .1 .0) (d .result) _ (c .enum-told .given .1)
     (read (c .before .before))
 
 loop-less : tie.Need-loop-less Inv-loop μ-loop

@@ -4,9 +4,8 @@ use mathlib.Core.Path.{_≡_, sym, _∙_}
 use native.Mathlib.Omega.{arith}
 use borrow.Author.Needs.{needs}
 use borrow.Author.Tests.{not-true, not-false}
-use Rattle.rules.specs.Settings.{settings}
 use Rattle.rules.specs.TypeFile.{element, attributeList}
-use Rattle.text.specs.Laws.{nameEnd-from, nameEnd-le}
+use Rattle.text.specs.Words.{nameEnd-from, nameEnd-le}
 use Rattle.attribute_lists.specs.Heads.{defined-within}
 use Rattle.type_file.specs.Declarations.{step-refused, step-element, list-refused, list-onward, keyword-long, keyword-element, keyword-list, keyword-other, list-word}
 use Rattle.type_file.proofs.keyword_at.Statement.{statement}
@@ -33,8 +32,8 @@ refusal-requires c κs = tt
 returns : tie.Need-returns
 returns c es ls k h =
     let a = c .before .before .before .before .args in
-    step-refused (settings (a .long)) (a .s .now) (a .elements .now) (a .heads .now) (a .i) 3 (a .i + 2) _ _
-    (keyword-long (settings (a .long)) (a .s .now) (a .i) _ es ls (c .before .before .name-end .ensures) (c .before .if1 .taken)) (c .refusal .ensures)
+    step-refused (a .long) (a .s .now) (a .elements .now) (a .heads .now) (a .i) 3 (a .i + 2) _ _
+    (keyword-long (a .long) (a .s .now) (a .i) _ es ls (c .before .before .name-end .ensures) (c .before .if1 .taken)) (c .refusal .ensures)
 
 add-is-word : tie.Need-add-is-word
 add-is-word c = omega arith
@@ -63,8 +62,8 @@ returns-2 c es ls k h =
     let r = c .element-at in
     let w = sym (c .before .before .before .before .before .is-word .ensures) ∙ c .before .before .before .before .if2 .taken in
     let from = nameEnd-from (a .s .now) (a .i + 2) in
-    rw (keyword-element (settings (a .long)) (a .s .now) (a .i) _ es ls (e .ensures) (c .before .before .before .before .before .before .before .if1 .left) w)
-    (step-element (settings (a .long)) (a .s .now) (r .last .1 .1 .1 .1 .0) (a .heads .now) (a .i) (e .result) ls (omega (arith, e .ensures)) h (r .result) (element (settings (a .long)) (a .s .now) (e .result) es) (r .ensures es k))
+    rw (keyword-element (a .long) (a .s .now) (a .i) _ es ls (e .ensures) (c .before .before .before .before .before .before .before .if1 .left) w)
+    (step-element (a .long) (a .s .now) (r .last .1 .1 .1 .1 .0) (a .heads .now) (a .i) (e .result) ls (omega (arith, e .ensures)) h (r .result) (element (a .long) (a .s .now) (e .result) es) (r .ensures es k))
 
 add-is-word-2 : tie.Need-add-is-word-2
 add-is-word-2 c = omega arith
@@ -87,8 +86,8 @@ returns-3 c es ls k h =
     let a = c .before .before .before .before .before .before .before .before .before .before .args in
     let w = sym (c .before .before .before .before .before .is-word .ensures) ∙ c .before .before .before .before .if2 .left in
     let v = sym (c .before .before .is-word2 .ensures) ∙ not-true _ (c .before .if3 .taken) in
-    step-refused (settings (a .long)) (a .s .now) (a .elements .now) (a .heads .now) (a .i) 5 (a .i) _ _
-    (keyword-other (settings (a .long)) (a .s .now) (a .i) _ es ls (c .before .before .before .before .before .before .before .before .name-end .ensures) (c .before .before .before .before .before .before .before .if1 .left) w v) (c .refusal2 .ensures)
+    step-refused (a .long) (a .s .now) (a .elements .now) (a .heads .now) (a .i) 5 (a .i) _ _
+    (keyword-other (a .long) (a .s .now) (a .i) _ es ls (c .before .before .before .before .before .before .before .before .name-end .ensures) (c .before .before .before .before .before .before .before .if1 .left) w v) (c .refusal2 .ensures)
 
 list-at-requires : tie.Need-list-at-requires
 list-at-requires c κs =
@@ -115,8 +114,8 @@ returns-4 c es ls k h =
     let r = c .before .before .before .list-at in
     let w = sym (c .before .before .before .before .before .before .before .before .before .before .is-word .ensures) ∙ c .before .before .before .before .before .before .before .before .before .if2 .left in
     let v = sym (c .before .before .before .before .before .before .before .is-word2 .ensures) ∙ not-false _ (c .before .before .before .before .before .before .if3 .left) in
-    rw (keyword-list (settings (a .long)) (a .s .now) (a .i) _ es ls (e .ensures) (c .before .before .before .before .before .before .before .before .before .before .before .before .if1 .left) w v)
-    (list-refused (settings (a .long)) (a .s .now) (a .elements .now) (r .last .1 .1 .1 .1 .1 .0) (a .i) (a .p) es (r .result) (attributeList (settings (a .long)) (a .s .now) (e .result) es ls) (r .ensures .0 es ls (sym (k .counted)) (k .recorded) h) _ _ (c .before .enum-told .given .1) (c .fault-of .ensures))
+    rw (keyword-list (a .long) (a .s .now) (a .i) _ es ls (e .ensures) (c .before .before .before .before .before .before .before .before .before .before .before .before .if1 .left) w v)
+    (list-refused (a .long) (a .s .now) (a .elements .now) (r .last .1 .1 .1 .1 .1 .0) (a .i) (a .p) es (r .result) (attributeList (a .long) (a .s .now) (e .result) es ls) (r .ensures .0 es ls (sym (k .counted)) (k .recorded) h) _ _ (c .before .enum-told .given .1) (c .fault-of .ensures))
 
 onward-requires : tie.Need-onward-requires
 onward-requires c κs = tt
@@ -131,8 +130,8 @@ returns-5 c es ls k h =
     let q = c .before .before .r .given .1 in
     let x = defined-within (r .ensures .1) q in
     let from = nameEnd-from (a .s .now) (a .i + 2) in
-    rw (keyword-list (settings (a .long)) (a .s .now) (a .i) _ es ls (e .ensures) (c .before .before .before .before .before .before .before .before .before .before .before .before .before .if1 .left) w v)
-    (list-onward (settings (a .long)) (a .s .now) (a .elements .now) (r .last .1 .1 .1 .1 .1 .0) (a .i) (a .p) es (r .result) (attributeList (settings (a .long)) (a .s .now) (e .result) es ls) (r .ensures .0 es ls (sym (k .counted)) (k .recorded) h) _ _ q k (c .onward .ensures) (omega (arith, e .ensures, from, x)) (x .1))
+    rw (keyword-list (a .long) (a .s .now) (a .i) _ es ls (e .ensures) (c .before .before .before .before .before .before .before .before .before .before .before .before .before .if1 .left) w v)
+    (list-onward (a .long) (a .s .now) (a .elements .now) (r .last .1 .1 .1 .1 .1 .0) (a .i) (a .p) es (r .result) (attributeList (a .long) (a .s .now) (e .result) es ls) (r .ensures .0 es ls (sym (k .counted)) (k .recorded) h) _ _ q k (c .onward .ensures) (omega (arith, e .ensures, from, x)) (x .1))
 
 pub keyword-at-spec : {M : Type 1} → statement M
 keyword-at-spec =

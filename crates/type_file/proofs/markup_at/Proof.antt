@@ -4,9 +4,8 @@ use mathlib.Core.Path.{_≡_, sym, _∙_}
 use mathlib.Core.Bool.{true}
 use native.Mathlib.Omega.{arith}
 use borrow.Author.Needs.{needs}
-use Rattle.rules.specs.Settings.{settings}
 use Rattle.rules.specs.TypeFile.{atDashes}
-use Rattle.text.specs.Laws.{byte-is-in}
+use Rattle.text.specs.Words.{byte-is-in}
 use Rattle.type_file.specs.Declarations.{step-refused, step-onward, markup-none, markup-dash, markup-comment, markup-section, markup-keyword, markup-other, comment-opens, comment-refused, comment-onward}
 use Rattle.type_file.proofs.markup_at.Statement.{statement}
 use Rattle.type_file.proofs.markup_at.Tie as tie
@@ -29,7 +28,7 @@ returns c es ls k h =
     let b = c .before .before .byte .ensures in
     let q = c .before .if1 .taken in
     let in-text = byte-is-in (a .s .now) (a .i + 2) 62 (sym b ∙ q) (omega arith) in
-    step-onward (settings (a .long)) (a .s .now) (a .elements .now) (a .heads .now) (a .i) (a .i + 3) (a .p) es ls _ _ k h (markup-none (settings (a .long)) (a .s .now) (a .i) _ es ls b q) (c .onward .ensures) (omega arith) (omega arith)
+    step-onward (a .long) (a .s .now) (a .elements .now) (a .heads .now) (a .i) (a .i + 3) (a .p) es ls _ _ k h (markup-none (a .long) (a .s .now) (a .i) _ es ls b q) (c .onward .ensures) (omega arith) (omega arith)
 
 add-byte-2 : tie.Need-add-byte-2
 add-byte-2 c = omega arith
@@ -48,8 +47,8 @@ returns-2 c es ls k h =
     let a = c .before .before .before .before .before .before .before .args in
     let b = c .before .before .before .before .before .byte .ensures in
     let d = c .before .before .byte2 .ensures in
-    step-refused (settings (a .long)) (a .s .now) (a .elements .now) (a .heads .now) (a .i) 4 (a .i + 3) _ _
-    (markup-dash (settings (a .long)) (a .s .now) (a .i) _ es ls b _ d (c .before .before .before .if2 .taken) (c .before .if3 .taken)) (c .refusal .ensures)
+    step-refused (a .long) (a .s .now) (a .elements .now) (a .heads .now) (a .i) 4 (a .i + 3) _ _
+    (markup-dash (a .long) (a .s .now) (a .i) _ es ls b _ d (c .before .before .before .if2 .taken) (c .before .if3 .taken)) (c .refusal .ensures)
 
 add-comment-end : tie.Need-add-comment-end
 add-comment-end c = omega arith
@@ -76,8 +75,8 @@ returns-3 c es ls k h =
     let a = c .before .before .before .before .before .before .before .before .before .before .args in
     let b = c .before .before .before .before .before .before .before .before .byte .ensures in
     let d = c .before .before .before .before .before .byte2 .ensures in
-    comment-refused (settings (a .long)) (a .s .now) (a .elements .now) (a .heads .now) (a .i) (a .p) es ls _ _
-    (markup-comment (settings (a .long)) (a .s .now) (a .i) _ es ls b _ d (c .before .before .before .before .before .before .if2 .taken) _ (c .before .before .before .before .if3 .left) (c .before .before .before .comment-end .ensures)) _ _
+    comment-refused (a .long) (a .s .now) (a .elements .now) (a .heads .now) (a .i) (a .p) es ls _ _
+    (markup-comment (a .long) (a .s .now) (a .i) _ es ls b _ d (c .before .before .before .before .before .before .if2 .taken) _ (c .before .before .before .before .if3 .left) (c .before .before .before .comment-end .ensures)) _ _
     (c .before .enum-told .given .1) (c .fault-of .ensures)
 
 onward-requires-2 : tie.Need-onward-requires-2
@@ -89,8 +88,8 @@ returns-4 c es ls k h =
     let b = c .before .before .before .before .before .before .before .before .before .byte .ensures in
     let d = c .before .before .before .before .before .before .byte2 .ensures in
     let e = c .before .before .before .before .comment-end .ensures in
-    comment-onward (settings (a .long)) (a .s .now) (a .elements .now) (a .heads .now) (a .i) (a .p) es ls _ _
-    (markup-comment (settings (a .long)) (a .s .now) (a .i) _ es ls b _ d (c .before .before .before .before .before .before .before .if2 .taken) _ (c .before .before .before .before .before .if3 .left) e) _ _ (opened (c .before .before .before .before .before)) (c .before .before .r .given .1) e k h (c .onward2 .ensures)
+    comment-onward (a .long) (a .s .now) (a .elements .now) (a .heads .now) (a .i) (a .p) es ls _ _
+    (markup-comment (a .long) (a .s .now) (a .i) _ es ls b _ d (c .before .before .before .before .before .before .before .if2 .taken) _ (c .before .before .before .before .before .if3 .left) e) _ _ (opened (c .before .before .before .before .before)) (c .before .before .r .given .1) e k h (c .onward2 .ensures)
 
 refusal-requires-2 : tie.Need-refusal-requires-2
 refusal-requires-2 c κs = tt
@@ -99,7 +98,7 @@ returns-5 : tie.Need-returns-5
 returns-5 c es ls k h =
     let a = c .before .before .before .before .before .before .args in
     let b = c .before .before .before .before .byte .ensures in
-    step-refused (settings (a .long)) (a .s .now) (a .elements .now) (a .heads .now) (a .i) 5 (a .i) _ _ (markup-section (settings (a .long)) (a .s .now) (a .i) _ es ls b (c .before .if4 .taken)) (c .refusal2 .ensures)
+    step-refused (a .long) (a .s .now) (a .elements .now) (a .heads .now) (a .i) 5 (a .i) _ _ (markup-section (a .long) (a .s .now) (a .i) _ es ls b (c .before .if4 .taken)) (c .refusal2 .ensures)
 
 is-letter-requires : tie.Need-is-letter-requires
 is-letter-requires c κs = tt
@@ -112,7 +111,7 @@ returns-6 c es ls k h =
     let a = c .before .before .before .before .before .before .before .before .before .before .before .before .args in
     let b = c .before .before .before .before .before .before .before .before .before .before .byte .ensures in
     let l = sym (c .before .before .before .before .before .before .is-letter .ensures) ∙ c .before .before .before .before .before .if5 .taken in
-    rw (markup-keyword (settings (a .long)) (a .s .now) (a .i) _ es ls b (c .before .before .before .before .before .before .before .before .before .if1 .left) (c .before .before .before .before .before .before .before .before .if2 .left) (c .before .before .before .before .before .before .before .if4 .left) l)
+    rw (markup-keyword (a .long) (a .s .now) (a .i) _ es ls b (c .before .before .before .before .before .before .before .before .before .if1 .left) (c .before .before .before .before .before .before .before .before .if2 .left) (c .before .before .before .before .before .before .before .if4 .left) l)
     (c .keyword-at .ensures es ls k h)
 
 add-refusal-2 : tie.Need-add-refusal-2
@@ -126,8 +125,8 @@ returns-7 c es ls k h =
     let a = c .before .before .before .before .before .before .before .before .args in
     let b = c .before .before .before .before .before .before .byte .ensures in
     let l = sym (c .before .before .is-letter .ensures) ∙ c .before .if5 .left in
-    step-refused (settings (a .long)) (a .s .now) (a .elements .now) (a .heads .now) (a .i) 4 (a .i + 2) _ _
-    (markup-other (settings (a .long)) (a .s .now) (a .i) _ es ls b (c .before .before .before .before .before .if1 .left) (c .before .before .before .before .if2 .left) (c .before .before .before .if4 .left) l) (c .refusal3 .ensures)
+    step-refused (a .long) (a .s .now) (a .elements .now) (a .heads .now) (a .i) 4 (a .i + 2) _ _
+    (markup-other (a .long) (a .s .now) (a .i) _ es ls b (c .before .before .before .before .before .if1 .left) (c .before .before .before .before .if2 .left) (c .before .before .before .if4 .left) l) (c .refusal3 .ensures)
 
 pub markup-at-spec : {M : Type 1} → statement M
 markup-at-spec =

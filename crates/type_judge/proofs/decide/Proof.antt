@@ -5,8 +5,8 @@ use native.Mathlib.Omega.{arith}
 use borrow.Author.Tests.{not-true, not-false}
 use Rattle.rules.specs.Settings.{isOffered}
 use Rattle.rules.specs.Judge.{Legible, notOffered, tooLong, notAllowed}
-use Rattle.inputs.specs.Means.{settingsOf}
-use Rattle.inputs.specs.Laws.{legible-type}
+use Rattle.inputs.specs.Checks.{settingsOf}
+use Rattle.inputs.specs.Looking.{legible-type}
 use borrow.Author.Needs.{needs}
 use Rattle.type_judge.proofs.decide.Statement.{statement}
 use Rattle.type_judge.proofs.decide.Tie as tie

@@ -4,11 +4,11 @@ use mathlib.Core.List.{List}
 use native.Mathlib.Omega.{arith}
 use Rattle.rules.specs.Reading.{got}
 use Rattle.rules.specs.TypeFile.{Element, typeFile}
-use Rattle.inputs.specs.Means.{settingsOf}
+use Rattle.inputs.specs.Checks.{settingsOf}
 use Rattle.element_records.specs.Progress.{KeepsProgress}
-use Rattle.attribute_lists.specs.Means.{HeadedAs}
+use Rattle.attribute_lists.specs.Listed.{HeadedAs}
 use Rattle.type_file.specs.Turns.{file-kept}
-use Rattle.type_judge.specs.Laws.{decides-malformed, decides-repeated, decides-ambiguous, decides-full, decides-accepted}
+use Rattle.type_judge.specs.Deciding.{decides-malformed, decides-repeated, decides-ambiguous, decides-full, decides-accepted}
 use borrow.Author.Needs.{needs}
 use Rattle.type_judge.proofs.decide_legible.Statement.{statement}
 use Rattle.type_judge.proofs.decide_legible.Tie as tie
@@ -17,11 +17,11 @@ use Rattle.type_judge.proofs.decide_legible.Tie as tie
 kept : (c : tie.After-r) →
     let f = c .before .before .file-read in
     let a = c .before .before .before .before .before .before .args in
-    (es : List Element) × (typeFile (settingsOf (a .c)) (a .s .now) ≡ got es) × KeepsProgress (a .s .now) (f .last .1 .1 .0) (c .r .given .0 .0) es × HeadedAs (settingsOf (a .c)) (a .s .now) (f .last .1 .1 .1 .0) es
+    (es : List Element) × (typeFile (settingsOf (a .c) .nameLength) (a .s .now) ≡ got es) × KeepsProgress (a .s .now) (f .last .1 .1 .0) (c .r .given .0 .0) es × HeadedAs (settingsOf (a .c) .nameLength) (a .s .now) (f .last .1 .1 .1 .0) es
 kept c =
     let f = c .before .before .file-read in
     let a = c .before .before .before .before .before .before .args in
-    file-kept (settingsOf (a .c)) (a .s .now) (f .last .1 .1 .0) (f .last .1 .1 .1 .0) (f .result) (f .ensures) (c .r .given .0 .0) (c .r .given .1)
+    file-kept (settingsOf (a .c) .nameLength) (a .s .now) (f .last .1 .1 .0) (f .last .1 .1 .1 .0) (f .result) (f .ensures) (c .r .given .0 .0) (c .r .given .1)
 
 file-read-requires : tie.Need-file-read-requires
 file-read-requires c κs = search needs

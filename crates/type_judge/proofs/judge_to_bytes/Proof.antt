@@ -4,8 +4,8 @@ use mathlib.Core.Logic.{⊎-elim}
 use native.Mathlib.Omega.{arith}
 use lib.ListN.{length}
 use Rattle.rules.specs.Lent.{bytes, room}
-use Rattle.inputs.specs.Means.{settingsOf}
-use Rattle.type_judge.specs.Laws.{accepted-fits, judged-accepts, judged-refuses}
+use Rattle.inputs.specs.Checks.{settingsOf}
+use Rattle.type_judge.specs.Deciding.{accepted-fits, judged-accepts, judged-refuses}
 use borrow.Author.Needs.{needs}
 use Rattle.type_judge.proofs.judge_to_bytes.Statement.{statement}
 use Rattle.type_judge.proofs.judge_to_bytes.Tie as tie

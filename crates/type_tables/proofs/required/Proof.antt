@@ -3,7 +3,7 @@ use Prim.Native.Nat.{ℕ, _+_}
 use mathlib.Core.Path.{sym, _∙_, ap}
 use lib.ListN.{getD}
 use borrow.Author.Needs.{needs}
-use Rattle.type_tables.specs.Means.{placeOr0}
+use Rattle.type_tables.specs.Tables.{placeOr0}
 use Rattle.type_tables.specs.Ranges.{kept-place, no-place}
 use Rattle.type_tables.proofs.required.Statement.{statement}
 use Rattle.type_tables.proofs.required.Tie as tie

@@ -4,7 +4,7 @@ use mathlib.Core.List.{[]}
 use native.Mathlib.Omega.{arith}
 use borrow.Author.Needs.{needs}
 use Rattle.document_laws.specs.Decide.{decided}
-use Rattle.ways.specs.Means.{placeOf}
+use Rattle.ways.specs.Asks.{placeOf}
 use Rattle.ways.proofs.place_of.Statement.{statement}
 use Rattle.ways.proofs.place_of.Tie as tie
 

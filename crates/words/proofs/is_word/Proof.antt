@@ -1,7 +1,7 @@
 -- `is_word` meets its contract: each way by the test that led there.
 use mathlib.Core.Path.{sym}
 use borrow.Author.Needs.{needs}
-use Rattle.text.specs.Laws.{isWord-same, isWord-other}
+use Rattle.text.specs.Words.{isWord-same, isWord-other}
 use Rattle.words.proofs.is_word.Statement.{statement}
 use Rattle.words.proofs.is_word.Tie as tie
 

@@ -6,7 +6,7 @@ use native.Mathlib.Omega.{arith}
 use lib.Dec.{eqb}
 use borrow.Author.Tests.{not-true, not-false, eqb-true, eqb-false}
 use Rattle.rules.specs.Bytes.{fold, sameText}
-use Rattle.text.specs.Laws.{sameText-start, sameText-turn, sameText-other, sameText-all}
+use Rattle.text.specs.Words.{sameText-start, sameText-turn, sameText-other, sameText-all}
 use Rattle.words.proofs.same_text.Statement.{statement}
 use Rattle.words.proofs.same_text.Tie as tie
 

@@ -4,7 +4,7 @@ use mathlib.Core.Path.{_≡_, sym, _∙_}
 use native.Mathlib.Omega.{arith}
 use borrow.Author.Tests.{not-true, not-false, eqb-true, eqb-false}
 use Rattle.rules.specs.Bytes.{sameText}
-use Rattle.text.specs.Laws.{sameText-start, sameText-turn, sameText-other, sameText-all}
+use Rattle.text.specs.Words.{sameText-start, sameText-turn, sameText-other, sameText-all}
 use Rattle.words.proofs.same_within.Statement.{statement}
 use Rattle.words.proofs.same_within.Tie as tie
 

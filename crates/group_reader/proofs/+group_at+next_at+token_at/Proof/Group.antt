@@ -7,10 +7,9 @@ use lib.ListN.{length}
 use lib.Dec.{leb}
 use borrow.Author.Needs.{needs}
 use borrow.Author.Tests.{leb-false}
-use Rattle.rules.specs.Settings.{settings}
 use Rattle.rules.specs.TypeFile.{Tokens, group, token, members}
 use Rattle.model_names.specs.Places.{placesOf}
-use Rattle.text.specs.Laws.{separatorsEnd-le}
+use Rattle.text.specs.Words.{separatorsEnd-le}
 use Rattle.connectors.specs.Kept.{begun, Keeps}
 use Rattle.content_tokens.specs.Readings.{refused-meets, refused-then}
 use Rattle.group_reader.specs.Groups.{group-none, group-some, group-begun, So, so-first, so-in, so-closed, so-unfit, so-joined}
@@ -19,7 +18,7 @@ use Rattle.group_reader.proofs.+group_at+next_at+token_at.Lts-group_at 
 use Rattle.group_reader.proofs.+group_at+next_at+token_at.Proof.Measures.{group-at-at, group-at-calls}
 
 abbrev pub Inv-loop : lts.InvT-loop
-Inv-loop long s at levels places tokens code names₀ table₀ i m₀ k₀ c₀ names table m k c = So (settings long) (group (settings long) (levels - 1) s) s (places + 1) names₀ table₀ m₀ names table m k c
+Inv-loop long s at levels places tokens code names₀ table₀ i m₀ k₀ c₀ names table m k c = So long (group long (levels - 1) s) s (places + 1) names₀ table₀ m₀ names table m k c
 
 abbrev pub μ-loop : lts.MeasureT-loop
 μ-loop long s at levels places tokens code names₀ table₀ i m₀ k₀ c₀ names table m k c = 33 - k
@@ -31,7 +30,7 @@ module _ (t : ℕ) where
   pub returns : lts.Need-returns (group-at-calls t) (group-at-at t) group-at.Post Inv-loop μ-loop
   returns c =
       let x = c .before .before .before .args in
-      refused-meets _ _ _ _ _ 6 (x .at) _ (c .refusal .ensures) (group-none (settings (x .long)) (x .levels) (x .s .now) (x .at) _ (x .tokens) (c .before .if1 .taken))
+      refused-meets _ _ _ _ _ 6 (x .at) _ (c .refusal .ensures) (group-none (x .long) (x .levels) (x .s .now) (x .at) _ (x .tokens) (c .before .if1 .taken))
 
   pub add-separators-end : lts.Need-add-separators-end (group-at-calls t) (group-at-at t) group-at.Post Inv-loop μ-loop
   add-separators-end c = omega (arith, c .before .before .pre .1)
@@ -65,8 +64,8 @@ module _ (t : ℕ) where
       let r = c .before .before in
       let i = r .before .before .before in
       let x = i .before .before .before .args in
-      refused-then _ _ _ _ (r .token-at .result) (token (settings (x .long)) (group (settings (x .long)) (x .levels - 1) (x .s .now)) (x .s .now) (i .separators-end .result) (leb 96 (x .tokens)) (placesOf (x .names .now) (x .places)) (x .tokens)) (r .token-at .ensures) _ _ _ _ (c .enum-told .given .1)
-      (group-some (settings (x .long)) (x .levels) (x .s .now) (x .at) (i .separators-end .result) _ (x .tokens) (i .before .if1 .left) (i .separators-end .ensures))
+      refused-then _ _ _ _ (r .token-at .result) (token (x .long) (group (x .long) (x .levels - 1) (x .s .now)) (x .s .now) (i .separators-end .result) (leb 96 (x .tokens)) (placesOf (x .names .now) (x .places)) (x .tokens)) (r .token-at .ensures) _ _ _ _ (c .enum-told .given .1)
+      (group-some (x .long) (x .levels) (x .s .now) (x .at) (i .separators-end .result) _ (x .tokens) (i .before .if1 .left) (i .separators-end .ensures))
 
   pub loop-holds : lts.Need-loop-holds (group-at-calls t) (group-at-at t) group-at.Post Inv-loop μ-loop
   loop-holds c = so-first _ _ _ _ _ _ _
@@ -78,12 +77,12 @@ module _ (t : ℕ) where
   -- the first token, as it was read
   first-read : (c : lts.At-loop (group-at-calls t) (group-at-at t) group-at.Post Inv-loop μ-loop)
       → (u : Tokens) × Keeps (length (start c .args .s .now)) (begun (start c .args .places + 1) (start c .args .table .now) (start c .args .code) (4 * start c .args .tokens + 2 + 1)) 1 0 (c .before .before .before .before .token-at .last .1 .1 .1 .1 .1 .1 .1 .1 .0) (c .before .before .before .before .token-at .last .1 .1 .1 .1 .1 .1 .1 .1 .1 .0) (c .before .before .r .given .0 .0) u
-      × (group (settings (start c .args .long)) (start c .args .levels) (start c .args .s .now) (start c .args .at) (placesOf (start c .args .names .now) (start c .args .places)) (start c .args .tokens) ≡ members (settings (start c .args .long)) (group (settings (start c .args .long)) (start c .args .levels - 1) (start c .args .s .now)) (start c .args .s .now) 32 1 0 u)
+      × (group (start c .args .long) (start c .args .levels) (start c .args .s .now) (start c .args .at) (placesOf (start c .args .names .now) (start c .args .places)) (start c .args .tokens) ≡ members (start c .args .long) (group (start c .args .long) (start c .args .levels - 1) (start c .args .s .now)) (start c .args .s .now) 32 1 0 u)
   first-read c =
       let r = c .before .before .before .before in
       let i = r .before .before .before in
       let x = start c .args in
-      group-begun (settings (x .long)) (x .levels) (x .s .now) (x .at) (i .separators-end .result) (placesOf (x .names .now) (x .places)) (x .tokens) (x .places + 1) (x .table .now) (x .code) _ _ (r .token-at .result) (c .before .before .r .given .0 .0)
+      group-begun (x .long) (x .levels) (x .s .now) (x .at) (i .separators-end .result) (placesOf (x .names .now) (x .places)) (x .tokens) (x .places + 1) (x .table .now) (x .code) _ _ (r .token-at .result) (c .before .before .r .given .0 .0)
       (r .token-at .ensures) (c .before .before .r .given .1) (i .before .if1 .left) (i .separators-end .ensures)
 
   pub sub-next-at : lts.Need-sub-next-at (group-at-calls t) (group-at-at t) group-at.Post Inv-loop μ-loop

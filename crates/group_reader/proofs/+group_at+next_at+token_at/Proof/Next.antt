@@ -8,10 +8,9 @@ use lib.ListN.{length}
 use lib.Dec.{leb}
 use borrow.Author.Needs.{needs}
 use borrow.Author.Tests.{le-leb, lt-leb, not-true, not-false}
-use Rattle.rules.specs.Settings.{settings}
 use Rattle.rules.specs.TypeFile.{group, token}
 use Rattle.model_names.specs.Places.{placesOf}
-use Rattle.text.specs.Laws.{separatorsEnd-le, or-taken, or-left}
+use Rattle.text.specs.Words.{separatorsEnd-le, or-taken, or-left}
 use Rattle.content_tokens.specs.Readings.{read-in}
 use Rattle.group_reader.specs.Groups.{or-other, connector-in, next-closed, next-unfit, next-other, next-refused, next-joined}
 use Rattle.group_reader.proofs.next_at.Reads as next-at
@@ -50,12 +49,12 @@ module _ (t : ℕ) where
   pub returns : lts.Need-returns (next-at-calls t) (next-at-at t) next-at.Post
   returns c T n d u K =
       let x = c .before .before .before .before .before .before .before .args in
-      next-closed (settings (x .long)) (group (settings (x .long)) (x .levels) (x .s .now)) (x .s .now) (x .lo) (x .k) (x .c) T n d _ _ (x .m) u K (c .before .before .before .before .before .separators-end .result) (c .before .before .before .before .byte .result) (c .before .before .before .before .before .separators-end .ensures) (c .before .before .before .before .byte .ensures) _ _ (c .before .before .before .if1 .taken) (c .closed-code .ensures .0) (c .closed-code .ensures .1)
+      next-closed (x .long) (group (x .long) (x .levels) (x .s .now)) (x .s .now) (x .lo) (x .k) (x .c) T n d _ _ (x .m) u K (c .before .before .before .before .before .separators-end .result) (c .before .before .before .before .byte .result) (c .before .before .before .before .before .separators-end .ensures) (c .before .before .before .before .byte .ensures) _ _ (c .before .before .before .if1 .taken) (c .closed-code .ensures .0) (c .closed-code .ensures .1)
 
   pub returns-2 : lts.Need-returns-2 (next-at-calls t) (next-at-at t) next-at.Post
   returns-2 c T n d u K =
       let x = c .before .before .before .before .before .args in
-      next-unfit (settings (x .long)) (group (settings (x .long)) (x .levels) (x .s .now)) (x .s .now) (x .lo) (x .k) (x .c) T n d _ _ (x .m) u K (c .before .before .before .separators-end .result) (c .before .before .byte .result) (c .before .before .before .separators-end .ensures) (c .before .before .byte .ensures) (c .before .if1 .left) (c .if2 .taken)
+      next-unfit (x .long) (group (x .long) (x .levels) (x .s .now)) (x .s .now) (x .lo) (x .k) (x .c) T n d _ _ (x .m) u K (c .before .before .before .separators-end .result) (c .before .before .byte .result) (c .before .before .before .separators-end .ensures) (c .before .before .byte .ensures) (c .before .if1 .left) (c .if2 .taken)
 
   pub is-connector-requires : lts.Need-is-connector-requires (next-at-calls t) (next-at-at t) next-at.Post
   is-connector-requires c κs = search needs
@@ -63,7 +62,7 @@ module _ (t : ℕ) where
   pub returns-3 : lts.Need-returns-3 (next-at-calls t) (next-at-at t) next-at.Post
   returns-3 c T n d u K =
       let x = c .before .before .before .before .before .before .before .args in
-      next-other (settings (x .long)) (group (settings (x .long)) (x .levels) (x .s .now)) (x .s .now) (x .lo) (x .k) (x .c) T n d _ _ (x .m) u K (c .before .before .before .before .before .separators-end .result) (c .before .before .before .before .byte .result) (c .before .before .before .before .before .separators-end .ensures) (c .before .before .before .before .byte .ensures) (c .before .before .before .if1 .left)
+      next-other (x .long) (group (x .long) (x .levels) (x .s .now)) (x .s .now) (x .lo) (x .k) (x .c) T n d _ _ (x .m) u K (c .before .before .before .before .before .separators-end .result) (c .before .before .before .before .byte .result) (c .before .before .before .before .before .separators-end .ensures) (c .before .before .before .before .byte .ensures) (c .before .before .before .if1 .left)
       (c .before .before .if2 .left) (c .before .is-connector .result) (c .before .is-connector .ensures) (not-true _ (c .if3 .taken))
 
   pub add-separators-end : lts.Need-add-separators-end (next-at-calls t) (next-at-at t) next-at.Post
@@ -94,18 +93,18 @@ module _ (t : ℕ) where
   pub returns-4 : lts.Need-returns-4 (next-at-calls t) (next-at-at t) next-at.Post
   returns-4 c T n d u K =
       let x = c .before .before .before .before .before .before .before .before .before .before .before .before .before .before .before .args in
-      next-refused (settings (x .long)) (group (settings (x .long)) (x .levels) (x .s .now)) (x .s .now) (x .lo) (x .k) (x .c) T n d _ _ (x .m) u K (c .before .before .before .before .before .before .before .before .before .before .before .before .before .separators-end .result) (c .before .before .before .before .before .before .before .before .before .before .before .before .byte .result) (c .before .before .before .before .before .before .before .before .before .before .before .before .before .separators-end .ensures) (c .before .before .before .before .before .before .before .before .before .before .before .before .byte .ensures) (c .before .before .before .before .before .before .before .before .before .before .before .if1 .left)
+      next-refused (x .long) (group (x .long) (x .levels) (x .s .now)) (x .s .now) (x .lo) (x .k) (x .c) T n d _ _ (x .m) u K (c .before .before .before .before .before .before .before .before .before .before .before .before .before .separators-end .result) (c .before .before .before .before .before .before .before .before .before .before .before .before .byte .result) (c .before .before .before .before .before .before .before .before .before .before .before .before .before .separators-end .ensures) (c .before .before .before .before .before .before .before .before .before .before .before .before .byte .ensures) (c .before .before .before .before .before .before .before .before .before .before .before .if1 .left)
       (c .before .before .before .before .before .before .before .before .before .before .if2 .left) (c .before .before .before .before .before .before .before .before .before .is-connector .result) (c .before .before .before .before .before .before .before .before .before .is-connector .ensures) (not-false _ (c .before .before .before .before .before .before .before .before .if3 .left))
       (c .before .before .before .before .before .before .before .separators-end2 .result) (c .before .before .before .before .before .before .if4 .full) (c .before .before .before .before .before .before .before .separators-end2 .ensures) (room (c .before .before .before .before .before .before)) _ _ (c .before .before .before .token-at .result) (c .before .before .before .token-at .ensures) _ _ (c .before .enum-told .given .1) (c .fault-of .ensures)
 
   pub joined-by-requires : lts.Need-joined-by-requires (next-at-calls t) (next-at-at t) next-at.Post
   joined-by-requires c κs =
       let x = c .before .before .before .before .before .before .before .before .before .before .before .before .before .before .before .before .args in
-      omega (arith, c .before .before .before .before .before .before .before .before .before .before .before .before .before .before .before .before .pre .1 .1, past (c .before .before .before .before .before .before .before .before .before), read-in _ _ _ _ (c .before .before .before .before .token-at .result) (token (settings (x .long)) (group (settings (x .long)) (x .levels) (x .s .now)) (x .s .now) (c .before .before .before .before .before .before .before .before .separators-end2 .result) (c .before .before .before .before .before .before .before .if4 .full) (placesOf (x .names .now) (x .m .places)) (x .m .tokens)) (c .before .before .before .before .token-at .ensures) (c .before .before .r .given .0 .0) (c .before .before .r .given .1))
+      omega (arith, c .before .before .before .before .before .before .before .before .before .before .before .before .before .before .before .before .pre .1 .1, past (c .before .before .before .before .before .before .before .before .before), read-in _ _ _ _ (c .before .before .before .before .token-at .result) (token (x .long) (group (x .long) (x .levels) (x .s .now)) (x .s .now) (c .before .before .before .before .before .before .before .before .separators-end2 .result) (c .before .before .before .before .before .before .before .if4 .full) (placesOf (x .names .now) (x .m .places)) (x .m .tokens)) (c .before .before .before .before .token-at .ensures) (c .before .before .r .given .0 .0) (c .before .before .r .given .1))
 
   pub returns-5 : lts.Need-returns-5 (next-at-calls t) (next-at-at t) next-at.Post
   returns-5 c T n d u K =
       let x = c .before .before .before .before .before .before .before .before .before .before .before .before .before .before .before .before .before .args in
-      next-joined (settings (x .long)) (group (settings (x .long)) (x .levels) (x .s .now)) (x .s .now) (x .lo) (x .k) (x .c) T n d _ _ (x .m) u K (c .before .before .before .before .before .before .before .before .before .before .before .before .before .before .before .separators-end .result) (c .before .before .before .before .before .before .before .before .before .before .before .before .before .before .byte .result) (c .before .before .before .before .before .before .before .before .before .before .before .before .before .before .before .separators-end .ensures) (c .before .before .before .before .before .before .before .before .before .before .before .before .before .before .byte .ensures) (c .before .before .before .before .before .before .before .before .before .before .before .before .before .if1 .left)
+      next-joined (x .long) (group (x .long) (x .levels) (x .s .now)) (x .s .now) (x .lo) (x .k) (x .c) T n d _ _ (x .m) u K (c .before .before .before .before .before .before .before .before .before .before .before .before .before .before .before .separators-end .result) (c .before .before .before .before .before .before .before .before .before .before .before .before .before .before .byte .result) (c .before .before .before .before .before .before .before .before .before .before .before .before .before .before .before .separators-end .ensures) (c .before .before .before .before .before .before .before .before .before .before .before .before .before .before .byte .ensures) (c .before .before .before .before .before .before .before .before .before .before .before .before .before .if1 .left)
       (c .before .before .before .before .before .before .before .before .before .before .before .before .if2 .left) (c .before .before .before .before .before .before .before .before .before .before .before .is-connector .result) (c .before .before .before .before .before .before .before .before .before .before .before .is-connector .ensures) (not-false _ (c .before .before .before .before .before .before .before .before .before .before .if3 .left))
       (c .before .before .before .before .before .before .before .before .before .separators-end2 .result) (c .before .before .before .before .before .before .before .before .if4 .full) (c .before .before .before .before .before .before .before .before .before .separators-end2 .ensures) (room (c .before .before .before .before .before .before .before .before)) _ _ (c .before .before .before .before .before .token-at .result) (c .before .before .before .before .before .token-at .ensures) (c .before .before .before .r .given .0 .0) (c .joined-by .result) _ (c .before .before .before .r .given .1) (c .joined-by .ensures .0) (c .joined-by .ensures .1)

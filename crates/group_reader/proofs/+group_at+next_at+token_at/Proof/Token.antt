@@ -5,10 +5,9 @@ use mathlib.Core.Logic.{⊎-elim}
 use native.Mathlib.Omega.{arith}
 use borrow.Author.Needs.{needs}
 use borrow.Author.Tests.{eq-eqb, ne-eqb}
-use Rattle.rules.specs.Settings.{settings}
 use Rattle.rules.specs.TypeFile.{group, occurrence}
 use Rattle.model_names.specs.Places.{placesOf}
-use Rattle.text.specs.Laws.{byte-is-in}
+use Rattle.text.specs.Words.{byte-is-in}
 use Rattle.connectors.specs.Grown.{keeps-less}
 use Rattle.content_tokens.specs.Readings.{refused-meets, read-in, refused-then, read-then}
 use Rattle.group_reader.specs.Groups.{or-first, or-second, token-name, token-data, token-full, token-group, token-unfit, token-other}
@@ -30,7 +29,7 @@ module _ (t : ℕ) where
   returns c =
       let l = c .before .before .before .before in
       let x = l .before .before .before .args in
-      rw (token-name (settings (x .long)) (group (settings (x .long)) (x .levels) (x .s .now)) (x .s .now) (x .at) (l .before .byte .result) (x .full) (l .is-letter .result) _ (x .tokens) (l .before .byte .ensures) (l .is-letter .ensures) (c .before .before .before .if1 .taken))
+      rw (token-name (x .long) (group (x .long) (x .levels) (x .s .now)) (x .s .now) (x .at) (l .before .byte .result) (x .full) (l .is-letter .result) _ (x .tokens) (l .before .byte .ensures) (l .is-letter .ensures) (c .before .before .before .if1 .taken))
       (c .name-token .ensures)
 
   pub data-token-requires : lts.Need-data-token-requires (token-at-calls t) (token-at-at t) token-at.Post
@@ -46,7 +45,7 @@ module _ (t : ℕ) where
       let d = c .before .before .before .before in
       let l = d .before in
       let x = l .before .before .before .args in
-      rw (token-data (settings (x .long)) (group (settings (x .long)) (x .levels) (x .s .now)) (x .s .now) (x .at) (l .before .byte .result) (x .full) (l .is-letter .result) _ (x .tokens) (l .before .byte .ensures) (l .is-letter .ensures) (d .if1 .left) (c .before .before .before .if2 .taken))
+      rw (token-data (x .long) (group (x .long) (x .levels) (x .s .now)) (x .s .now) (x .at) (l .before .byte .result) (x .full) (l .is-letter .result) _ (x .tokens) (l .before .byte .ensures) (l .is-letter .ensures) (d .if1 .left) (c .before .before .before .if2 .taken))
       (c .data-token .ensures)
 
   pub refusal-requires : lts.Need-refusal-requires (token-at-calls t) (token-at-at t) token-at.Post
@@ -59,7 +58,7 @@ module _ (t : ℕ) where
       let l = d .before in
       let x = l .before .before .before .args in
       refused-meets _ _ _ _ _ 6 (x .at) _ (c .refusal .ensures)
-      (token-full (settings (x .long)) (group (settings (x .long)) (x .levels) (x .s .now)) (x .s .now) (x .at) (l .before .byte .result) (x .full) (l .is-letter .result) _ (x .tokens) (l .before .byte .ensures) (l .is-letter .ensures) (d .if1 .left) (g .before .if2 .left) (g .if3 .taken) (c .before .if4 .taken))
+      (token-full (x .long) (group (x .long) (x .levels) (x .s .now)) (x .s .now) (x .at) (l .before .byte .result) (x .full) (l .is-letter .result) _ (x .tokens) (l .before .byte .ensures) (l .is-letter .ensures) (d .if1 .left) (g .before .if2 .left) (g .if3 .taken) (c .before .if4 .taken))
 
   pub add-group-at : lts.Need-add-group-at (token-at-calls t) (token-at-at t) token-at.Post
   add-group-at c =
@@ -89,8 +88,8 @@ module _ (t : ℕ) where
       let d = g .before .before in
       let l = d .before in
       let x = l .before .before .before .args in
-      refused-then _ _ _ _ (r .group-at .result) (group (settings (x .long)) (x .levels) (x .s .now) (x .at) (placesOf (x .names .now) (x .places)) (x .tokens + 1)) (r .group-at .ensures) _ _ _ _ (c .enum-told .given .1)
-      (token-group (settings (x .long)) (group (settings (x .long)) (x .levels) (x .s .now)) (x .s .now) (x .at) (l .before .byte .result) (x .full) (l .is-letter .result) _ (x .tokens) (l .before .byte .ensures) (l .is-letter .ensures) (d .if1 .left) (g .before .if2 .left) (g .if3 .taken) (f .if4 .left))
+      refused-then _ _ _ _ (r .group-at .result) (group (x .long) (x .levels) (x .s .now) (x .at) (placesOf (x .names .now) (x .places)) (x .tokens + 1)) (r .group-at .ensures) _ _ _ _ (c .enum-told .given .1)
+      (token-group (x .long) (group (x .long) (x .levels) (x .s .now)) (x .s .now) (x .at) (l .before .byte .result) (x .full) (l .is-letter .result) _ (x .tokens) (l .before .byte .ensures) (l .is-letter .ensures) (d .if1 .left) (g .before .if2 .left) (g .if3 .taken) (f .if4 .left))
 
   pub add-with-occurrence : lts.Need-add-with-occurrence (token-at-calls t) (token-at-at t) token-at.Post
   add-with-occurrence c =
@@ -103,7 +102,7 @@ module _ (t : ℕ) where
       let k = c .before .before in
       let r = k .before .before in
       let x = r .before .before .before .before .before .before .before .before .before .before .args in
-      omega (arith, read-in _ _ _ _ (r .group-at .result) (group (settings (x .long)) (x .levels) (x .s .now) (x .at) (placesOf (x .names .now) (x .places)) (x .tokens + 1)) (r .group-at .ensures) (k .r .given .0 .0) (k .r .given .1))
+      omega (arith, read-in _ _ _ _ (r .group-at .result) (group (x .long) (x .levels) (x .s .now) (x .at) (placesOf (x .names .now) (x .places)) (x .tokens + 1)) (r .group-at .ensures) (k .r .given .0 .0) (k .r .given .1))
 
   pub returns-5 : lts.Need-returns-5 (token-at-calls t) (token-at-at t) token-at.Post
   returns-5 c =
@@ -114,8 +113,8 @@ module _ (t : ℕ) where
       let d = g .before .before in
       let l = d .before in
       let x = l .before .before .before .args in
-      read-then _ _ _ _ (r .group-at .result) (group (settings (x .long)) (x .levels) (x .s .now) (x .at) (placesOf (x .names .now) (x .places)) (x .tokens + 1)) (r .group-at .ensures) (k .r .given .0 .0) (c .with-occurrence .result) _ _ (occurrence (x .s .now)) _ (k .r .given .1)
-      (token-group (settings (x .long)) (group (settings (x .long)) (x .levels) (x .s .now)) (x .s .now) (x .at) (l .before .byte .result) (x .full) (l .is-letter .result) _ (x .tokens) (l .before .byte .ensures) (l .is-letter .ensures) (d .if1 .left) (g .before .if2 .left) (g .if3 .taken) (f .if4 .left))
+      read-then _ _ _ _ (r .group-at .result) (group (x .long) (x .levels) (x .s .now) (x .at) (placesOf (x .names .now) (x .places)) (x .tokens + 1)) (r .group-at .ensures) (k .r .given .0 .0) (c .with-occurrence .result) _ _ (occurrence (x .s .now)) _ (k .r .given .1)
+      (token-group (x .long) (group (x .long) (x .levels) (x .s .now)) (x .s .now) (x .at) (l .before .byte .result) (x .full) (l .is-letter .result) _ (x .tokens) (l .before .byte .ensures) (l .is-letter .ensures) (d .if1 .left) (g .before .if2 .left) (g .if3 .taken) (f .if4 .left))
       (λ w K. c .with-occurrence .ensures _ _ _ (4 * x .tokens + 3) w (keeps-less _ _ _ _ (4 * (x .tokens + 1) + 2) (4 * x .tokens + 3 + 2) 1 0 _ _ _ w (omega arith) K))
 
   pub refusal-requires-2 : lts.Need-refusal-requires-2 (token-at-calls t) (token-at-at t) token-at.Post
@@ -129,7 +128,7 @@ module _ (t : ℕ) where
       let l = d .before in
       let x = l .before .before .before .args in
       refused-meets _ _ _ _ _ 5 (x .at) _ (c .refusal2 .ensures)
-      (token-unfit (settings (x .long)) (group (settings (x .long)) (x .levels) (x .s .now)) (x .s .now) (x .at) (l .before .byte .result) (x .full) (l .is-letter .result) _ (x .tokens) (l .before .byte .ensures) (l .is-letter .ensures) (d .if1 .left) (g .before .if2 .left) (g .if3 .left)
+      (token-unfit (x .long) (group (x .long) (x .levels) (x .s .now)) (x .s .now) (x .at) (l .before .byte .result) (x .full) (l .is-letter .result) _ (x .tokens) (l .before .byte .ensures) (l .is-letter .ensures) (d .if1 .left) (g .before .if2 .left) (g .if3 .left)
       (⊎-elim (λ w. or-first _ _ (eq-eqb _ _ (w .taken))) (λ w. or-second _ _ _ (ne-eqb _ _ (w .0 .left)) (w .1 .taken)) (j .if5 .came)))
 
   pub refusal-requires-3 : lts.Need-refusal-requires-3 (token-at-calls t) (token-at-at t) token-at.Post
@@ -143,5 +142,5 @@ module _ (t : ℕ) where
       let l = d .before in
       let x = l .before .before .before .args in
       refused-meets _ _ _ _ _ 4 (x .at) _ (c .refusal3 .ensures)
-      (token-other (settings (x .long)) (group (settings (x .long)) (x .levels) (x .s .now)) (x .s .now) (x .at) (l .before .byte .result) (x .full) (l .is-letter .result) _ (x .tokens) (l .before .byte .ensures) (l .is-letter .ensures) (d .if1 .left) (g .before .if2 .left) (g .if3 .left)
+      (token-other (x .long) (group (x .long) (x .levels) (x .s .now)) (x .s .now) (x .at) (l .before .byte .result) (x .full) (l .is-letter .result) _ (x .tokens) (l .before .byte .ensures) (l .is-letter .ensures) (d .if1 .left) (g .before .if2 .left) (g .if3 .left)
       (or-second _ _ _ (ne-eqb _ _ (e .if5 .left)) (c .before .if6 .left)))

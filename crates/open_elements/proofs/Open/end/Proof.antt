@@ -1,5 +1,5 @@
 -- `end` meets its contract: the parent is read as it was kept.
-use Rattle.open_elements.specs.Laws.{ended-by}
+use Rattle.open_elements.specs.Methods.{ended-by}
 use borrow.Author.Needs.{needs}
 use Rattle.open_elements.proofs.Open.end.Statement.{statement}
 use Rattle.open_elements.proofs.Open.end.Tie as tie

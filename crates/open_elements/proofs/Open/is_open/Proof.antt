@@ -4,8 +4,8 @@ use mathlib.Core.Path.{_≡_, refl, sym, _∙_}
 use native.Mathlib.Omega.{arith}
 use borrow.Author.Needs.{needs}
 use Rattle.rules.specs.Settling.{isOpen}
-use Rattle.open_elements.specs.Laws.{open-here, open-past, open-none, open-entry, open-further}
-use Rattle.open_elements.specs.Means.{aroundOf, bare}
+use Rattle.open_elements.specs.Methods.{open-here, open-past, open-none, open-entry, open-further}
+use Rattle.open_elements.specs.Stands.{aroundOf, bare}
 use Rattle.open_elements.proofs.Open.is_open.Statement.{statement}
 use Rattle.open_elements.proofs.Open.is_open.Tie as tie
 

@@ -4,8 +4,8 @@ use mathlib.Core.Logic.{⊎-elim}
 use native.Mathlib.Omega.{arith}
 use borrow.Author.Needs.{needs}
 use Rattle.layout.specs.declared.Place.{Place}
-use Rattle.open_elements.specs.Means.{Taking}
-use Rattle.open_elements.specs.Laws.{taking-by, ranged-taking}
+use Rattle.open_elements.specs.Stands.{Taking}
+use Rattle.open_elements.specs.Methods.{taking-by, ranged-taking}
 use Rattle.open_elements.specs.Taken.{marking-same, marking-plain, marking-among}
 use Rattle.open_elements.proofs.Open.start_required.Statement.{statement}
 use Rattle.open_elements.proofs.Open.start_required.Tie as tie

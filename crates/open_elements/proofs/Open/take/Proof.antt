@@ -3,7 +3,7 @@ use mathlib.Core.Path.{ap}
 use mathlib.Core.Logic.{⊎-elim}
 use borrow.Author.Needs.{needs}
 use Rattle.layout.specs.declared.Place.{Place}
-use Rattle.open_elements.specs.Laws.{taking-by}
+use Rattle.open_elements.specs.Methods.{taking-by}
 use Rattle.open_elements.specs.Taken.{marking-same, marking-plain, marking-among}
 use Rattle.open_elements.proofs.Open.take.Statement.{statement}
 use Rattle.open_elements.proofs.Open.take.Tie as tie

@@ -1,0 +1,101 @@
+-- `followed` meets its contract: the order's refusal, or the events under the tables of the type that is accepted.
+use mathlib.Core.Path.{subst}
+use mathlib.Core.List.{[]}
+use Rattle.rules.specs.Settings.{settings}
+use Rattle.rules_laws.specs.Offered.{offered-range}
+use Rattle.type_stage.specs.Stages.{OrderedAs}
+use Rattle.type_stage.specs.declared.Ordered.the-variants as ordered
+use Rattle.document_reader.specs.Answering.{answers-events, answers-unsettled}
+use Rattle.batch.specs.Ready.{follows-type, follows-ambiguous, follows-document, tables-full}
+use borrow.Author.Needs.{needs}
+use Rattle.batch.proofs.followed.Statement.{statement}
+use Rattle.batch.proofs.followed.Tie as tie
+
+-- The document in its order with the type.
+in-turn : (c : tie.After-in-order) →
+    let a = c .before .before .before .before .before .before .args in
+    OrderedAs (settings (a .long) (a .edition)) (a .s .now) (a .d .now) (a .g) (c .in-order .result)
+in-turn c =
+    let a = c .before .before .before .before .before .before .args in
+    c .in-order .ensures (settings (a .long) (a .edition)) (a .s .now) (a .elements .now) (c .before .before .before .before .before .before .pre .heads) (c .before .before .before .before .before .before .pre .staged)
+
+-- It is to be read.
+to-read : (c : tie.After-enum-told) →
+    let a = c .before .before .before .before .before .before .before .before .args in
+    OrderedAs (settings (a .long) (a .edition)) (a .s .now) (a .d .now) (a .g) (ordered.Read (c .enum-told .given .0 .0))
+to-read c =
+    let a = c .before .before .before .before .before .before .before .before .args in
+    subst (OrderedAs (settings (a .long) (a .edition)) (a .s .now) (a .d .now) (a .g)) (c .enum-told .given .1) (in-turn (c .before .before))
+
+in-order-requires : tie.Need-in-order-requires
+in-order-requires c κs = search needs
+
+enum-known-o : tie.Need-enum-known-o
+enum-known-o c = search needs
+
+returns : tie.Need-returns
+returns c = follows-type _ _ _ [] [] _ (c .before .before .before .in-order .result) (in-turn (c .before .before .before)) _ (c .before .o .given .1)
+
+enum-known-o-2 : tie.Need-enum-known-o-2
+enum-known-o-2 c = search needs
+
+returns-2 : tie.Need-returns-2
+returns-2 c = follows-ambiguous _ _ _ [] [] _ (c .before .before .before .in-order .result) (in-turn (c .before .before .before)) _ (c .before .o2 .given .1)
+
+enum-known-o-3 : tie.Need-enum-known-o-3
+enum-known-o-3 c = search needs
+
+returns-3 : tie.Need-returns-3
+returns-3 c = follows-document _ _ _ [] [] _ (c .before .before .before .in-order .result) (in-turn (c .before .before .before)) _ (c .before .o3 .given .1)
+
+enum-told : tie.Need-enum-told
+enum-told c = search needs
+
+follow-requires : tie.Need-follow-requires
+follow-requires c κs =
+    let (b, e) = to-read (c .before) in
+    (offered-range _ (b .type .offered) .1, b .short, b .type .short)
+
+enum-known-r : tie.Need-enum-known-r
+enum-known-r c = search needs
+
+enum-known-r-2 : tie.Need-enum-known-r-2
+enum-known-r-2 c = search needs
+
+same-length : tie.Need-same-length
+same-length c = search needs
+
+returns-4 : tie.Need-returns-4
+returns-4 c =
+    let (b, e) = to-read (c .before .before .before .before .before .before .before) in
+    let (es, a, i, t, l) = tables-full _ (c .before .before .before .before .before .before .before .before .before .before .before .before .before .before .before .pre) e in
+    answers-events _ _ _ _ _ _ _ es b a (c .before .before .before .before .before .follow .result) (c .before .before .before .before .before .follow .ensures es i t l) _ (c .before .r .given .1)
+
+same-length-2 : tie.Need-same-length-2
+same-length-2 c = search needs
+
+returns-5 : tie.Need-returns-5
+returns-5 c =
+    let (b, e) = to-read (c .before .before .before .before .before .before .before) in
+    let (es, a, i, t, l) = tables-full _ (c .before .before .before .before .before .before .before .before .before .before .before .before .before .before .before .pre) e in
+    answers-unsettled _ _ _ _ _ _ _ es b a (c .before .before .before .before .before .follow .result) (c .before .before .before .before .before .follow .ensures es i t l) _ (c .before .r2 .given .1)
+
+pub followed-spec : {M : Type 1} → statement M
+followed-spec =
+    tie.close
+    (tie.spec
+    in-order-requires
+    enum-known-o
+    returns
+    enum-known-o-2
+    returns-2
+    enum-known-o-3
+    returns-3
+    enum-told
+    follow-requires
+    enum-known-r
+    enum-known-r-2
+    same-length
+    returns-4
+    same-length-2
+    returns-5)

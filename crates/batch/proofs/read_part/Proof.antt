@@ -1,0 +1,71 @@
+-- `read_part` meets its contract: the part is read as the single call reads it, or is refused since it passes the string's end.
+use Prim.Native.Nat.{ℕ, _+_, _-_, _≤_}
+use mathlib.Core.Path.{_≡_, sym, _∙_}
+use native.Mathlib.Omega.{arith}
+use lib.ListN.{length, take, drop}
+use borrow.Author.Tests.{leb-true, leb-false, not-true, not-false}
+use Rattle.rules.specs.Settings.{settings}
+use Rattle.rules.specs.Lent.{Lent}
+use Rattle.rules.specs.Batch.{PartAs, stretch}
+use Rattle.answer_numbers.specs.Fits.{answer-fits, part-fits}
+use borrow.Author.Needs.{needs}
+use Rattle.batch.proofs.read_part.Statement.{statement}
+use Rattle.batch.proofs.read_part.Tie as tie
+
+ends-within-requires : tie.Need-ends-within-requires
+ends-within-requires c κs = search needs
+
+clear-bytes-requires : tie.Need-clear-bytes-requires
+clear-bytes-requires c κs = search needs
+
+passed-requires : tie.Need-passed-requires
+passed-requires c κs = search needs
+
+same-length : tie.Need-same-length
+same-length c = search needs
+
+returns : tie.Need-returns
+returns c =
+    let a = c .before .before .before .before .before .before .before .before .before .before .before .before .args in
+    let r = c .passed .ensures (settings (a .long) (a .edition)) (a .s .now) (a .elements .now) (c .before .before .before .before .before .before .before .before .before .before .before .before .pre .heads) (c .before .before .before .before .before .before .before .before .before .before .before .before .pre .staged) in
+    (PartAs.passes (leb-false _ _ (sym (c .before .before .before .before .before .before .ends-within .ensures) ∙ not-true _ (c .before .before .before .before .before .if1 .taken))) r (c .before .before .before .clear-bytes .ensures), part-fits _ _ (c .passed .result) r)
+
+-- The part ends within the string.
+within : (c : tie.Else1) → let a = c .before .before .before .before .before .before .before .args in a .start + a .size ≤ length (a .string .now)
+within c = leb-true _ _ (sym (c .before .ends-within .ensures) ∙ not-false _ (c .if1 .left))
+
+add-end : tie.Need-add-end
+add-end c = omega (arith, within c)
+
+sub-followed : tie.Need-sub-followed
+sub-followed c = search needs
+
+part-followed-start : tie.Need-part-followed-start
+part-followed-start c = search needs
+
+part-followed-end : tie.Need-part-followed-end
+part-followed-end c =
+    let h = within c in
+    search needs
+
+followed-requires : tie.Need-followed-requires
+followed-requires c κs = c .before .before .before .before .before .before .before .before .before .pre
+
+settled-requires : tie.Need-settled-requires
+settled-requires c κs = search needs
+
+same-length-2 : tie.Need-same-length-2
+same-length-2 c = search needs
+
+returns-2 : tie.Need-returns-2
+returns-2 c =
+    let a = c .before .before .before .before .before .before .before .before .before .before .before .before .before .before .before .before .args in
+    let w = c .before .before .before .before .before .before .followed in
+    let d = take (a .start + a .size - a .start) (drop (a .start) (a .string .now)) in
+    let (r, n) = c .before .before .settled .ensures (settings (a .long) (a .edition)) (a .s .now) d (a .bytes .now) (w .kept .1 .1 .1 .1 .1 .1 .1 .1 .1 .1 .1 .1 .0) (w .ensures) in
+    let whole : a .start + a .size - a .start ≡ a .size = omega arith in
+    let so = rw whole at r in
+    (PartAs.within (within (c .before .before .before .before .before .before .before .before .before)) so, answer-fits Lent.bytes _ _ d _ _ (c .before .before .settled .result) r n)
+
+pub read-part-spec : {M : Type 1} → statement M
+read-part-spec = tie.close (tie.spec ends-within-requires clear-bytes-requires passed-requires same-length returns add-end sub-followed part-followed-start part-followed-end followed-requires settled-requires same-length-2 returns-2)

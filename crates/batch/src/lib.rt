@@ -1,0 +1,315 @@
+// Many documents under one type in one call (paper 02, request five). The type is judged once, and its tables are filled once; then each document is put in its
+// order with what was judged, and read into its own stretch of the buffer.
+use document_events::Counted;
+use document_reader::Answer;
+use inputs::Settings;
+use layout::ELEMENTS;
+use layout::FACTS;
+use layout::INDEX;
+use layout::LISTS;
+use layout::MEMBERS;
+use layout::PLACES;
+use layout::RECORDS;
+use layout::ROWS;
+use text::Fault;
+use type_stage::Ordered;
+use type_stage::Stage;
+ghost use mathlib.Core.Path.{_≡_};
+ghost use mathlib.Core.List.{List, []};
+ghost use Prim.Native.Nat.{ℕ, _+_, _*_, _≤_, _<_};
+ghost use lib.ListN.{length};
+ghost use Rattle.rules.specs.Lent.{Lent};
+ghost use Rattle.rules.specs.Settings.{settings};
+ghost use Rattle.rules.specs.Settings as rules;
+ghost use Rattle.rules.specs.Batch.{PartAs, Unfit, AllRead, Batched};
+ghost use Rattle.rules.specs.Calls.{answerNumbers};
+ghost use Rattle.inputs.specs.Checks.{settingsOf};
+ghost use Rattle.stretches.specs.Fit.{batchOf};
+ghost use Rattle.document_reader.specs.Answer.{answerOf, Answers};
+ghost use Rattle.answer_numbers.specs.Fits.{AnswerFits};
+ghost use Rattle.type_stage.specs.Stages.{Staged};
+ghost use Rattle.batch.specs.Ready.{Ready, Passed};
+ghost use Rattle.batch.specs.Turns.{replaced};
+
+// What the document d comes to under a type that is judged, and whose tables are filled if it is accepted. A refusal zeroes nothing yet.
+fn followed(
+    g: Stage,
+    long: usize,
+    edition: usize,
+    s: &[u8],
+    d: &[u8],
+    elements: &[u32; RECORDS],
+    index: &[u8; INDEX],
+    rows: &[u8; ROWS],
+    places: &[u8; PLACES],
+    facts: &[u8; FACTS],
+    members: &[u8],
+    lists: &[u16],
+    bytes: &mut [u8],
+) -> Answer
+    requires { ⌜ Ready (settings long edition) (now s) (now elements) (now index) (now rows) (now places) (now facts) (now members) (now lists) g ⌝ }
+    ensures { λ r. ⌜ Answers (settings long edition) (now (s .entry)) (now (d .entry)) [] [] (now (bytes .entry)) (now (bytes .exit)) r ⌝ }
+{
+    let o = type_stage::in_order(g, d);
+    match o {
+        Ordered::InType(f) => return Answer::InType(f),
+        Ordered::Ambiguous(x) => return Answer::Ambiguous(x),
+        Ordered::InDocument(f) => return Answer::InDocument(f),
+        Ordered::Read(_) => {}
+    }
+    let r = document_reader::follow(
+        long,
+        edition,
+        s,
+        d,
+        elements,
+        index,
+        rows,
+        places,
+        facts,
+        members,
+        lists,
+        bytes,
+    );
+    match r {
+        Counted::Events(k) => Answer::Accepted(k),
+        Counted::Refused(f) => Answer::InDocument(f),
+    }
+}
+
+// The answer to a part that passes the string's end.
+fn passed(g: Stage) -> Answer
+    ensures { λ r. ⌜ ((c : rules.Settings) (s elements heads : List ℕ) → Staged c s elements heads g → Passed c s r) ⌝ }
+{
+    let o = type_stage::too_long(g);
+    match o {
+        Ordered::Read(n) => Answer::Accepted(n),
+        Ordered::InType(f) => Answer::InType(f),
+        Ordered::Ambiguous(x) => Answer::Ambiguous(x),
+        Ordered::InDocument(f) => Answer::InDocument(f),
+    }
+}
+
+// The part of the string that starts here and is so long, read into its stretch of the buffer.
+fn read_part(
+    g: Stage,
+    long: usize,
+    edition: usize,
+    s: &[u8],
+    string: &[u8],
+    start: usize,
+    size: usize,
+    elements: &[u32; RECORDS],
+    index: &[u8; INDEX],
+    rows: &[u8; ROWS],
+    places: &[u8; PLACES],
+    facts: &[u8; FACTS],
+    members: &[u8],
+    lists: &[u16],
+    bytes: &mut [u8],
+) -> Answer
+    requires { ⌜ Ready (settings long edition) (now s) (now elements) (now index) (now rows) (now places) (now facts) (now members) (now lists) g ⌝ }
+    ensures { λ r. ⌜ PartAs Lent.bytes (settings long edition) (now (s .entry)) (now (string .entry)) start size (now (bytes .entry)) (answerOf r) (now (bytes .exit)) ⌝ }
+    ensures { λ r. ⌜ AnswerFits r ⌝ }
+{
+    if !stretches::ends_within(start, size, string.len()) {
+        numbers::clear_bytes(bytes);
+        return passed(g);
+    }
+    let end = start + size;
+    let v = followed(
+        g,
+        long,
+        edition,
+        s,
+        &string[start..end],
+        elements,
+        index,
+        rows,
+        places,
+        facts,
+        members,
+        lists,
+        bytes,
+    );
+    document_reader::settled(v, bytes)
+}
+
+// The six numbers of the answer to the i-th document.
+fn put_answer(answers: &mut [u32], i: usize, a: Answer)
+    requires { ⌜ AnswerFits a × (i < 200) × (6 * i + 6 ≤ length (now answers)) ⌝ }
+    ensures { λ _. ⌜ now (answers .exit) ≡ replaced (now (answers .entry)) (answerNumbers (answerOf a)) (6 * i) 6 ⌝ }
+{
+    let six = answer_numbers::numbers_read(a);
+    let k = 6 * i;
+    let e = k + 6;
+    numbers::put_numbers(&mut answers[k..e], &six, 6);
+}
+
+// All documents in turn, by lists that are fit.
+fn read_parts(
+    g: Stage,
+    long: usize,
+    edition: usize,
+    s: &[u8],
+    string: &[u8],
+    starts: &[usize],
+    lengths: &[usize],
+    elements: &[u32; RECORDS],
+    index: &[u8; INDEX],
+    rows: &[u8; ROWS],
+    places: &[u8; PLACES],
+    facts: &[u8; FACTS],
+    members: &[u8],
+    lists: &[u16],
+    froms: &[usize],
+    sizes: &[usize],
+    bytes: &mut [u8],
+    answers: &mut [u32],
+)
+    requires { ⌜ Ready (settings long edition) (now s) (now elements) (now index) (now rows) (now places) (now facts) (now members) (now lists) g ⌝ }
+    requires { ⌜ (Unfit (batchOf (now starts) (now lengths) (now froms) (now sizes)) (length (now answers)) (length (now bytes)) → ⊥) ⌝ }
+    ensures { λ _. ⌜ AllRead Lent.bytes (settings long edition) (now (s .entry)) (now (string .entry)) (batchOf (now (starts .entry)) (now (lengths .entry)) (now (froms .entry)) (now (sizes .entry)))
+        (now (bytes .entry)) (now (answers .exit)) (now (bytes .exit)) ⌝ }
+{
+    let mut i = 0;
+    while i < starts.len() {
+        let from = froms[i];
+        let end = from + sizes[i];
+        let a = read_part(
+            g,
+            long,
+            edition,
+            s,
+            string,
+            starts[i],
+            lengths[i],
+            elements,
+            index,
+            rows,
+            places,
+            facts,
+            members,
+            lists,
+            &mut bytes[from..end],
+        );
+        put_answer(answers, i, a);
+        i += 1;
+    }
+}
+
+// The documents of a batch whose lists are fit: the type is judged, and where it is accepted its tables are filled, once for all of them.
+fn read_all(
+    c: Settings,
+    s: &[u8],
+    string: &[u8],
+    starts: &[usize],
+    lengths: &[usize],
+    froms: &[usize],
+    sizes: &[usize],
+    bytes: &mut [u8],
+    answers: &mut [u32],
+)
+    requires { ⌜ (Unfit (batchOf (now starts) (now lengths) (now froms) (now sizes)) (length (now answers)) (length (now bytes)) → ⊥) ⌝ }
+    ensures { λ _. ⌜ AllRead Lent.bytes (settingsOf c) (now (s .entry)) (now (string .entry)) (batchOf (now (starts .entry)) (now (lengths .entry)) (now (froms .entry)) (now (sizes .entry)))
+        (now (bytes .entry)) (now (answers .exit)) (now (bytes .exit)) ⌝ }
+{
+    let long = c.name_length;
+    let mut elements = [0u32; RECORDS];
+    let mut heads = [0u16; ELEMENTS];
+    let g = type_stage::judged(c, s, &mut elements, &mut heads);
+    let mut lists = [0u16; LISTS];
+    let mut index = [0u8; INDEX];
+    let mut rows = [0u8; ROWS];
+    let mut places = [0u8; PLACES];
+    let mut facts = [0u8; FACTS];
+    let mut members = [0u8; MEMBERS];
+    let Stage::Accepted(n) = g else {
+        read_parts(
+            g,
+            long,
+            c.edition,
+            s,
+            string,
+            starts,
+            lengths,
+            &elements,
+            &index,
+            &rows,
+            &places,
+            &facts,
+            &members,
+            &lists,
+            froms,
+            sizes,
+            bytes,
+            answers,
+        );
+        return;
+    };
+    full_tables::fill(
+        long,
+        s,
+        &elements,
+        &heads,
+        n,
+        &mut lists,
+        &mut index,
+        &mut rows,
+        &mut places,
+        &mut facts,
+        &mut members,
+    );
+    read_parts(
+        g,
+        long,
+        c.edition,
+        s,
+        string,
+        starts,
+        lengths,
+        &elements,
+        &index,
+        &rows,
+        &places,
+        &facts,
+        &members,
+        &lists,
+        froms,
+        sizes,
+        bytes,
+        answers,
+    );
+}
+
+// Reads the documents of a batch under a type file and the settings c: the parts of the string that start at `starts` and have these lengths, each into its
+// own stretch of the buffer. `answers` gets the six numbers of the answer to each. Where the lists are unfit the whole call is refused, and the buffer zeroed. Settings
+// that no call takes refuse the whole call too, beside each document.
+pub fn read_batch(
+    c: Settings,
+    s: &[u8],
+    string: &[u8],
+    starts: &[usize],
+    lengths: &[usize],
+    froms: &[usize],
+    sizes: &[usize],
+    bytes: &mut [u8],
+    answers: &mut [u32],
+) -> Answer
+    ensures { λ r. ⌜ Batched Lent.bytes (settingsOf c) (now (s .entry)) (now (string .entry)) (batchOf (now (starts .entry)) (now (lengths .entry)) (now (froms .entry)) (now (sizes .entry)))
+        (now (bytes .entry)) (now (answers .entry)) (answerOf r) (now (answers .exit)) (now (bytes .exit)) ⌝ }
+    ensures { λ r. ⌜ AnswerFits r ⌝ }
+{
+    if stretches::are_fit(starts, lengths, froms, sizes, answers.len(), bytes.len()) {
+        read_all(c, s, string, starts, lengths, froms, sizes, bytes, answers);
+        if inputs::is_offered(c) {
+            return Answer::Accepted(starts.len());
+        }
+        return Answer::InType(Fault { number: 24, at: 0 });
+    }
+    numbers::clear_bytes(bytes);
+    if inputs::is_offered(c) {
+        return Answer::InType(Fault { number: 23, at: 0 });
+    }
+    Answer::InType(Fault { number: 24, at: 0 })
+}

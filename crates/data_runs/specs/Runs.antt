@@ -1,0 +1,89 @@
+-- What goes on a run of data, and the loops that pass one.
+use Prim.Native.Nat.{ℕ, suc, _+_, _-_, _≤_, _<_}
+use mathlib.Core.Path.{_≡_, refl, sym, ap}
+use mathlib.Core.Bool.{Bool, true, false, not, _&&_, _||_, true≢false}
+use mathlib.Core.List.{List}
+use native.Mathlib.Omega.{arith}
+use lib.ListN.{length}
+use lib.Dec.{eqb}
+use borrow.Author.Tests.{eqb-true, eqb-false}
+use Rattle.rules.specs.Bytes.{byteAt, letter}
+use Rattle.rules.specs.Reading.{Reading, refused, got}
+use Rattle.rules.specs.TypeFile.{atDashes}
+use Rattle.rules.specs.Document.{blank, dataByte, declarationPiece, markupPiece, bytePiece, piece}
+use Rattle.delimiters.specs.Classes.{special}
+use Rattle.rules_laws.specs.Runs.{anyPiece, isRun, runs, runEnd, runs-more, runs-none}
+use Rattle.document_text.specs.PieceOf.{asSkipped}
+use Rattle.document_text.specs.Ways.{declaration-out, declaration-data, markup-out, markup-data, byte-skipped, byte-blank, byte-data}
+
+neither : (a b : Bool) → (a || b) ≡ false → (a ≡ false) × (b ≡ false)
+neither true b e = absurd (true≢false e)
+neither false b e = (refl, e)
+
+-- What was read as a comment ends a run, refused or not.
+pub skipped-stops : (r : Reading ℕ) → isRun (asSkipped r) ≡ false
+skipped-stops (refused n k) = refl
+skipped-stops (got e) = refl
+
+-- `<!` and `<` that begin no tag, no comment and no `<!>` go on a run, unless the form is one that is left out.
+pub declaration-runs : (s : List ℕ) (i b : ℕ) → b ≡ byteAt s (i + 2) → (b ≡ 62 → ⊥) → atDashes s (i + 2) ≡ false → (w : Bool) → w ≡ (letter b || eqb b 91) → not w ≡ isRun (declarationPiece s i)
+declaration-runs s i b q h d true e = ap isRun (declaration-out s i b q h d (sym e))
+declaration-runs s i b q h d false e = ap isRun (declaration-data s i b q h d (sym e))
+
+pub markup-runs : (long : ℕ) (s : List ℕ) (i b : ℕ) → b ≡ byteAt s (i + 1) → letter b ≡ false → (eqb (byteAt s (i + 1)) 47 && letter (byteAt s (i + 2))) ≡ false → (b ≡ 33 → ⊥) → not (eqb b 63) ≡ isRun (markupPiece long s i)
+markup-runs long s i b q l t n = by-test (eqb b 63) refl
+  where
+    by-test : (w : Bool) → eqb b 63 ≡ w → not w ≡ isRun (markupPiece long s i)
+    by-test true e = ap isRun (markup-out long s i b q l t n (eqb-true b 63 e))
+    by-test false e = ap isRun (markup-data long s i b q l t n (eqb-false b 63 e))
+
+-- A byte by itself goes on a run, unless it is byte 10.
+pub byte-runs : (s : List ℕ) (i b : ℕ) → b ≡ byteAt s i → not (eqb b 10) ≡ isRun (bytePiece s i)
+byte-runs s i b q = by-test (eqb b 10) refl
+  where
+    by-blank : (b ≡ 10 → ⊥) → (w : Bool) → (eqb b 9 || (eqb b 13 || eqb b 32)) ≡ w → true ≡ isRun (bytePiece s i)
+    by-blank h true e = ap isRun (byte-blank s i b q h e)
+    by-blank h false e = ap isRun (byte-data s i b q h e)
+
+    by-test : (w : Bool) → eqb b 10 ≡ w → not w ≡ isRun (bytePiece s i)
+    by-test true e = ap isRun (byte-skipped s i b q (eqb-true b 10 e))
+    by-test false e = by-blank (eqb-false b 10 e) (eqb b 9 || (eqb b 13 || eqb b 32)) refl
+
+-- A byte that is not special goes on a run.
+pub plain-runs : (s : List ℕ) (i b : ℕ) → b ≡ byteAt s i → special b ≡ false → isRun (anyPiece s i) ≡ true
+unfolding piece bytePiece
+plain-runs s i b q e = rw (piece, bytePiece, less .0, and .0, section .0, section .1) (by-blank (eqb (byteAt s i) 9 || (eqb (byteAt s i) 13 || eqb (byteAt s i) 32)))
+  where
+    less : (eqb (byteAt s i) 60 ≡ false) × ((eqb (byteAt s i) 38 || (eqb (byteAt s i) 93 || eqb (byteAt s i) 10)) ≡ false)
+    less = neither _ _ (rw q at e)
+
+    and : (eqb (byteAt s i) 38 ≡ false) × ((eqb (byteAt s i) 93 || eqb (byteAt s i) 10) ≡ false)
+    and = neither _ _ (less .1)
+
+    section : (eqb (byteAt s i) 93 ≡ false) × (eqb (byteAt s i) 10 ≡ false)
+    section = neither _ _ (and .1)
+
+    by-blank : (w : Bool) → isRun (elim w [ true ↦ got blank | false ↦ got dataByte ]) ≡ true
+    by-blank true = refl
+    by-blank false = refl
+
+-- The loop that passes a run: a turn of it, and its two ends.
+pub run-turn : (s : List ℕ) (i e : ℕ) → i < length s → isRun (anyPiece s i) ≡ true → runEnd s i ≡ e → runEnd s (i + 1) ≡ e
+run-turn s i e h q r =
+    let l : length s - i ≡ suc (length s - (i + 1)) = omega arith in
+    let m : runs (length s - i) s i ≡ suc (runs (length s - (i + 1)) s (i + 1)) = rw l (runs-more (length s - (i + 1)) s i q) in
+    omega (arith, m)
+
+pub run-stop : (s : List ℕ) (i e : ℕ) → isRun (anyPiece s i) ≡ false → runEnd s i ≡ e → i ≡ e
+run-stop s i e q r = omega (arith, runs-none (length s - i) s i q)
+
+pub run-all : (s : List ℕ) (i e : ℕ) → length s ≤ i → runEnd s i ≡ e → i ≡ e
+unfolding runs
+run-all s i e h r =
+    let l : length s - i ≡ 0 = omega arith in
+    let m : runs (length s - i) s i ≡ 0 = rw l in
+    omega (arith, m)
+
+-- A byte that is not special is passed: j is the next position.
+pub plain-turn : (s : List ℕ) (i j e : ℕ) → j ≡ i + 1 → i < length s → special (byteAt s i) ≡ false → runEnd s i ≡ e → runEnd s j ≡ e
+plain-turn s i j e n h q r = rw n (run-turn s i e h (plain-runs s i _ refl q) r)

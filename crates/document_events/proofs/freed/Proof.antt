@@ -1,0 +1,34 @@
+-- `freed` meets its contract: nothing is done unless no end came and a run is held.
+use mathlib.Core.Path.{sym, _∙_}
+use native.Mathlib.Omega.{arith}
+use borrow.Author.Needs.{needs}
+use borrow.Author.Tests.{not-true, not-false}
+use Rattle.document_events.specs.Freeing.{frees-free, frees-behind, frees-whole}
+use Rattle.document_events.proofs.freed.Statement.{statement}
+use Rattle.document_events.proofs.freed.Tie as tie
+
+is-held-requires : tie.Need-is-held-requires
+is-held-requires c κs = search needs
+
+returns : tie.Need-returns
+returns c = frees-free (sym (c .before .is-held .ensures) ∙ not-true _ (c .if1 .taken))
+
+returns-2 : tie.Need-returns-2
+returns-2 c = frees-behind (λ e. omega (arith, c .if2 .taken))
+
+put-held-requires : tie.Need-put-held-requires
+put-held-requires c κs = search needs
+
+same-length : tie.Need-same-length
+same-length c = c .before .before .before .before .put-held .ensures .numbers-kept
+
+same-length-2 : tie.Need-same-length-2
+same-length-2 c = c .before .before .before .before .put-held .ensures .bytes-kept
+
+returns-3 : tie.Need-returns-3
+returns-3 c =
+    frees-whole (sym (c .before .before .before .before .before .before .before .before .before .is-held .ensures) ∙ not-false _ (c .before .before .before .before .before .before .before .before .if1 .left))
+    (omega (arith, c .before .before .before .before .before .before .before .if2 .left)) (c .before .before .before .before .put-held .ensures)
+
+pub freed-spec : {M : Type 1} → statement M
+freed-spec = tie.close (tie.spec is-held-requires returns returns-2 put-held-requires same-length same-length-2 returns-3)

@@ -1,0 +1,35 @@
+-- `settled` meets its contract: what was answered and fits is in the buffer, and a refusal clears it.
+use mathlib.Core.Path.{sym, _∙_}
+use mathlib.Core.List.{[]}
+use Rattle.rules.specs.Lent.{Lent}
+use Rattle.document_reader.specs.Answering.{count-fits, read-accepted, read-refused}
+use borrow.Author.Needs.{needs}
+use Rattle.document_reader.proofs.settled.Statement.{statement}
+use Rattle.document_reader.proofs.settled.Tie as tie
+
+fitted-requires : tie.Need-fitted-requires
+fitted-requires c κs = search needs
+
+refuses-requires : tie.Need-refuses-requires
+refuses-requires c κs = search needs
+
+clear-bytes-requires : tie.Need-clear-bytes-requires
+clear-bytes-requires c κs = search needs
+
+same-length : tie.Need-same-length
+same-length c = search needs
+
+returns : tie.Need-returns
+returns c settings s d before same h =
+    let a = c .before .before .before .before .before .before .before .before .args in
+    let g = sym (c .before .before .before .before .before .refuses .ensures) ∙ c .before .before .before .before .if1 .taken in
+    (read-refused Lent.bytes settings s d [] [] before (a .buffer .now) (a .a) (c .before .before .before .before .before .before .fitted .result) h same (c .before .before .before .before .before .before .fitted .ensures) _ g (c .before .before .clear-bytes .ensures), count-fits settings s d [] [] before (a .buffer .now) _ (a .a) h (c .before .before .before .before .before .before .fitted .ensures))
+
+returns-2 : tie.Need-returns-2
+returns-2 c settings s d before same h =
+    let a = c .before .before .before .before .args in
+    let g = sym (c .before .refuses .ensures) ∙ c .if1 .left in
+    (read-accepted Lent.bytes settings s d [] [] before (a .buffer .now) (a .a) (c .before .before .fitted .result) h same (c .before .before .fitted .ensures) g, count-fits settings s d [] [] before (a .buffer .now) _ (a .a) h (c .before .before .fitted .ensures))
+
+pub settled-spec : {M : Type 1} → statement M
+settled-spec = tie.close (tie.spec fitted-requires refuses-requires clear-bytes-requires same-length returns returns-2)

@@ -1,0 +1,44 @@
+-- `fill` meets its contract: the lists are read again from their heads, and the tables are those of the elements that are recorded.
+use mathlib.Core.Logic.{inl}
+use native.Mathlib.Omega.{arith}
+use Rattle.rules_laws.specs.Within.{typeFile-count}
+use Rattle.attribute_lists.specs.Heads.{lists-filled}
+use borrow.Author.Needs.{needs}
+use Rattle.full_tables.proofs.fill.Statement.{statement}
+use Rattle.full_tables.proofs.fill.Tie as tie
+
+fill-requires : tie.Need-fill-requires
+fill-requires c κs =
+    let pre = c .before .before .before .before .pre in
+    let (es, a, k, w, h) = pre .0 .1 in
+    (omega (arith, k, typeFile-count _ _ es (a .elements)), a .legible .short, pre .1 .0 .0)
+
+fill-index-requires : tie.Need-fill-index-requires
+fill-index-requires c κs =
+    let pre = c .before .before .before .before .before .before .before .before .pre in
+    let (es, a, k, w, h) = pre .0 .1 in
+    ((_, (es, a, k, w)), pre .1 .0 .1)
+
+fill-requires-2 : tie.Need-fill-requires-2
+fill-requires-2 c κs =
+    let pre = c .before .before .before .before .before .before .before .before .before .before .before .before .before .before .before .pre in
+    let (es, a, k, w, h) = pre .0 .1 in
+    let index = c .before .before .before .before .before .before .fill-index in
+    let lists = c .before .before .before .before .before .before .before .before .before .before .fill in
+    ((_, (es, a, k, w)), ((_, es, a, index .ensures _ es a k w, lists-filled h _ (λ ls g j l. lists .ensures ls g j (omega (arith, k, l)))), (pre .1 .1, inl (pre .1 .0 .2))))
+
+same-length : tie.Need-same-length
+same-length c = search needs
+
+same-length-2 : tie.Need-same-length-2
+same-length-2 c = search needs
+
+returns : tie.Need-returns
+returns c =
+    λ edition (es, a, k, w, h).
+    let index = c .before .before .before .before .before .before .before .before .before .fill-index in
+    let lists = c .before .before .before .before .before .before .before .before .before .before .before .before .before .fill in
+    (es, a, index .ensures _ es a k w, c .before .before .fill2 .ensures _ es a k w, lists-filled h _ (λ ls g j l. lists .ensures ls g j (omega (arith, k, l))))
+
+pub fill-spec : {M : Type 1} → statement M
+fill-spec = tie.close (tie.spec fill-requires fill-index-requires fill-requires-2 same-length same-length-2 returns)

@@ -1,0 +1,3 @@
+-- What the tables of an accepted type hold.
+pub mod Full
+pub mod And

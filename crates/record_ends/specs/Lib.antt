@@ -1,0 +1,4 @@
+-- Record ends in the code: what is held, and laws of it.
+pub mod Held
+pub mod Ignoring
+pub mod Whole

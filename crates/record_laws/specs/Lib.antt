@@ -1,0 +1,22 @@
+-- That reading by a line is the paper's three cases of record ends.
+pub mod Marks
+pub mod Cases
+pub mod Tracks
+pub mod Counts
+pub mod Pieces
+pub mod Moves
+pub mod Turns
+pub mod AtOnce
+pub mod FirstEdition
+pub mod Counted
+pub mod Places
+pub mod Kept
+pub mod InEvents
+pub mod Ground
+pub mod NoneLeftOut
+pub mod ThreeCases
+pub mod WhoTakes
+pub mod Passed
+pub mod Fresh
+pub mod EveryDocument
+pub mod Outside
