@@ -169,6 +169,11 @@ module _ (lists : List ℕ) (e n : ℕ) (numbers bytes : List ℕ) where
         are = λ long s d xs o l. events-none s xs d [] (sym (counts long s xs o l) ∙ z);
       }
 
+-- The same where the two ways of a branch come together.
+pub written-same : {lists marks : List ℕ} {e n : ℕ} {numbers bytes : List ℕ} {r q : ℕ} {numbers′ bytes′ numbers″ bytes″ : List ℕ} → PutsWritten lists marks e n numbers bytes r numbers′ bytes′ → numbers″ ≡ numbers′ → bytes″ ≡ bytes′ → q ≡ r
+    → PutsWritten lists marks e n numbers bytes q numbers″ bytes″
+written-same h i j k = rw (i, j, k) h
+
 -- Where nothing is marked all are defaulted.
 pub defaults-unmarked : (lists : List ℕ) (e n : ℕ) (numbers bytes : List ℕ) {r : ℕ} {numbers′ bytes′ : List ℕ} → PutsWritten lists (replicate 80 0) e n numbers bytes r numbers′ bytes′ → PutsDefaults lists e n numbers bytes r numbers′ bytes′
 unfolding givenFor

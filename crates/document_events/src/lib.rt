@@ -151,15 +151,15 @@ pub fn events_of(
                 let starts = ways::starts_of(found);
                 let mut m = f.events;
                 o = f.open;
-                // Number 15: so many starts would be too many.
-                if 24 < o.count + starts {
-                    return refusal(15, at);
-                }
                 // A run of data that is held is put whole where more of its element follows. Whether starts are inferred is asked first: with one call for both the compiler
                 // takes 7 % more instructions.
                 if starts == 0 {
                     m = freed(edition, d, from, since, n, m, numbers, bytes);
                 } else {
+                    // Number 15: so many starts would be too many.
+                    if 24 < o.count + starts {
+                        return refusal(15, at);
+                    }
                     m = freed(edition, d, from, since, n, m, numbers, bytes);
                 }
                 // Step 2: the starts are inferred, one in the other.
@@ -182,8 +182,10 @@ pub fn events_of(
                     m += 1;
                     k += 1;
                 }
-                // The attribute events of a start tag come before its own.
-                m = attribute_events::put_written(lists, &marks, x, m, numbers, bytes);
+                // The attribute events of a start tag come before its own. A type without attributes is told here, where it costs least.
+                if lists.len() != 0 {
+                    m = attribute_events::put_written(lists, &marks, x, m, numbers, bytes);
+                }
                 let shown = record_ends::shown_end(edition, d, after);
                 // The token takes its place, and its events are put; where it is stuck, or no room is left for its element, it is refused.
                 let r = placing::placed(

@@ -310,8 +310,11 @@ module _ {s : List ℕ} {es : List Element} {elements index : List ℕ} (t : Lis
       alike = in-alike (k - 1) stands (seeks .inside more)
 
       -- What the code's test of its text says.
-      named-is : {o : ℕ} {r v : Bool} → o ≡ getD elements (6 * (k - 1)) 0 → r ≡ sameText s o t at size → r ≡ v → isNamed s (elementAt es (k - 1)) t at size ≡ v
-      named-is f g e = rw (and-left (eqb (elementAt es (k - 1) .size) size) _ alike, isNamed, ← offset-is, ← f, ← g) e
+      named-is : {o : ℕ} {r v : Bool} → o ≡ getD elements (6 * (k - 1)) 0 → (fold (byteAt s o) ≡ fold (byteAt t at) → r ≡ sameText s o t at size) → r ≡ v → isNamed s (elementAt es (k - 1)) t at size ≡ v
+      named-is {o} f g e =
+          let z : o ≡ elementAt es (k - 1) .at = f ∙ offset-is in
+          let first : fold (byteAt s o) ≡ fold (byteAt t at) = rw z (eqb-true _ _ (and-right (eqb (elementAt es (k - 1) .size) size) _ alike)) in
+          rw (and-left (eqb (elementAt es (k - 1) .size) size) _ alike, isNamed, ← offset-is, ← f, ← (g first)) e
 
       answer-is : answerFrom s es t at size (k - 1) ≡ numberOf s es t at size
       answer-is = sym (due-some (answerFrom s es t at size) k more) ∙ seeks .answer
@@ -325,7 +328,7 @@ module _ {s : List ℕ} {es : List Element} {elements index : List ℕ} (t : Lis
           let z = eqb-true (elementAt es (k - 1) .size) size (and-left _ _ alike) in
           omega (arith, offset-is, typeFile-sizes (x .settings .nameLength) s es (x .accepted .elements) (k - 1) stands .2)
 
-      module _ {o : ℕ} {r : Bool} (f : o ≡ getD elements (6 * (k - 1)) 0) (g : r ≡ sameText s o t at size) where
+      module _ {o : ℕ} {r : Bool} (f : o ≡ getD elements (6 * (k - 1)) 0) (g : fold (byteAt s o) ≡ fold (byteAt t at) → r ≡ sameText s o t at size) where
         pub seeks-found : r ≡ true → (k ≡ numberOf s es t at size) × (n + 1 ≡ compared s es t at size)
         seeks-found e =
             let y = named-is f g e in (

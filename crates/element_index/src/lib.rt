@@ -9,7 +9,7 @@ ghost use mathlib.Core.Path.{_≡_};
 ghost use mathlib.Core.List.{List};
 ghost use Prim.Native.Nat.{_+_, _-_, _*_, _≤_, _<_};
 ghost use lib.ListN.{length, getD, replicate};
-ghost use Rattle.rules.specs.Bytes.{byteAt, sameText};
+ghost use Rattle.rules.specs.Bytes.{byteAt, fold, sameText};
 ghost use Rattle.rules.specs.Settings.{Settings, mostNameLength};
 ghost use Rattle.rules.specs.TypeFile.{Element};
 ghost use Rattle.rules.specs.Judge.{Accepts};
@@ -35,13 +35,13 @@ pub fn offset(elements: &[u32; RECORDS], k: ElementNo) -> usize
     numbers::widened(elements[6 * (k.0 - 1)])
 }
 
-// Whether n bytes of s from a and n bytes of t from b are equal, folded. All of them are there, so that none is asked whether it still is
-// within, as `words::same_text` does. Most that are equal are so as they stand.
+// Whether n bytes of s from a and n bytes of t from b are equal, folded, where the first ones are: they have one bucket. Where these are not, what it answers is
+// not decided. All of the bytes are there, so that none is asked whether it still is within, as `words::same_text` does. Most that are equal are so as they stand.
 fn same_name(s: &[u8], a: usize, t: &[u8], b: usize, n: usize) -> bool
-    requires { ⌜ (a + n ≤ length (now s)) × (b + n ≤ length (now t)) ⌝ }
-    ensures { λ r. ⌜ r ≡ sameText (now (s .entry)) a (now (t .entry)) b n ⌝ }
+    requires { ⌜ (1 ≤ n) × (a + n ≤ length (now s)) × (b + n ≤ length (now t)) ⌝ }
+    ensures { λ r. ⌜ (fold (byteAt (now (s .entry)) a) ≡ fold (byteAt (now (t .entry)) b) → r ≡ sameText (now (s .entry)) a (now (t .entry)) b n) ⌝ }
 {
-    let mut i = 0;
+    let mut i = 1;
     while i < n {
         let x = s[a + i];
         let y = t[b + i];

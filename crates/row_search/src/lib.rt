@@ -41,11 +41,15 @@ fn smaller(places: &[u8; PLACES], e: ElementNo, p: Place) -> Place
     Place(numbers::wide(places[(e.0 * POSITIONS + p.0) * LINK + 1]))
 }
 
-// The largest of the place p and the smaller ones of its name that the row of the element e after the place u has, or 0. They are linked downwards.
+// The largest of the place p and the smaller ones of its name that the row of the element e after the place u has, or 0. They are linked downwards. Where there is no
+// such place it is told at once, before the row is looked for.
 pub fn largest(rows: &[u8; ROWS], places: &[u8; PLACES], e: ElementNo, u: Place, p: Place) -> Place
     requires { ⌜ (e .0 ≤ 64) × (u .0 ≤ 96) × (p .0 ≤ 96) ⌝ }
     ensures { λ r. ⌜ Largest (RowSays (now (rows .entry)) (e .0) (u .0)) (now (places .entry)) (e .0) (p .0) (r .0) ⌝ }
 {
+    if p.0 == 0 {
+        return Place(0);
+    }
     let mut q = p;
     while q.0 != 0 {
         if bit(rows, e, u, q) {

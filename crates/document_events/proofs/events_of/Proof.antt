@@ -13,6 +13,8 @@ use Rattle.rules.specs.Settings.{settings}
 use Rattle.rules.specs.TypeFile.{Element}
 use Rattle.rules.specs.Settling.{State, isOver}
 use Rattle.document_laws.specs.Decide.{decided}
+use Rattle.attribute_events.specs.PutBefore.{PutsWritten}
+use Rattle.attribute_events.specs.OneByOne.{written-none, written-same}
 use Rattle.open_elements.specs.Stands.{Ranged, Stands}
 use Rattle.ways.specs.Ends.{over-says}
 use Rattle.inferring.specs.Starts.{Along, along-start, along-next}
@@ -55,23 +57,20 @@ piece c = c .before .before .before
 abbrev told : tie.After-ends Inv-loop2 μ-loop2 Inv-loop μ-loop → tie.After-known-told Inv-loop2 μ-loop2 Inv-loop μ-loop
 told c = c .before .before .before .before .before .before
 
-abbrev ended : tie.After-struct-known Inv-loop2 μ-loop2 Inv-loop μ-loop → tie.After-ends Inv-loop2 μ-loop2 Inv-loop μ-loop
-ended c = c .before .before .before .before .before .before .before
+abbrev ended : tie.After-o Inv-loop2 μ-loop2 Inv-loop μ-loop → tie.After-ends Inv-loop2 μ-loop2 Inv-loop μ-loop
+ended c = c .before .before .before .before .before .before
 
 abbrev stopped : tie.At-loop2 Inv-loop2 μ-loop2 Inv-loop μ-loop → tie.After-ends Inv-loop2 μ-loop2 Inv-loop μ-loop
-stopped c = ended (c .before .before .before)
+stopped c = ended (c .before .before)
 
-abbrev inferred : tie.After-put-written Inv-loop2 μ-loop2 Inv-loop μ-loop → tie.After-loop2 Inv-loop2 μ-loop2 Inv-loop μ-loop
-inferred c = c .before .before .before .before
-
-abbrev written : tie.After-placed Inv-loop2 μ-loop2 Inv-loop μ-loop → tie.After-put-written Inv-loop2 μ-loop2 Inv-loop μ-loop
-written c = c .before .before .before .before .before .before .before .before .before
+abbrev written : tie.After-placed Inv-loop2 μ-loop2 Inv-loop μ-loop → tie.Joined4 Inv-loop2 μ-loop2 Inv-loop μ-loop
+written c = c .before .before .before .before .before
 
 abbrev placed : tie.After-struct-known2 Inv-loop2 μ-loop2 Inv-loop μ-loop → tie.After-placed Inv-loop2 μ-loop2 Inv-loop μ-loop
 placed c = c .before .before .before .before .before
 
 abbrev token : tie.After-struct-known2 Inv-loop2 μ-loop2 Inv-loop μ-loop → tie.After-known-told Inv-loop2 μ-loop2 Inv-loop μ-loop
-token c = told (stopped (inferred (written (placed c)) .before))
+token c = told (stopped (written (placed c) .before .before))
 
 -- A start that is inferred: its attribute events, and the turn before them.
 abbrev defaulted : tie.After-infer-start-arg2 Inv-loop2 μ-loop2 Inv-loop μ-loop → tie.After-put-defaults Inv-loop2 μ-loop2 Inv-loop μ-loop
@@ -134,11 +133,15 @@ on : (c : tie.After-ends Inv-loop2 μ-loop2 Inv-loop μ-loop) →
 on c s es z stands = sym (over-says s stands) ∙ sym (c .before .before .before .before .before .is-over .ensures) ∙ c .before .before .before .before .if1 .left
 
 -- A run that was held is freed, or stands, whichever way was taken.
-joined : (c : tie.Joined3 Inv-loop2 μ-loop2 Inv-loop μ-loop) →
-    let e = ended (c .before .before) in
+joined : (c : tie.Joined2 Inv-loop2 μ-loop2 Inv-loop μ-loop) →
+    let e = ended (c .before) in
     let t = turn (piece (told e)) .before in
-    Frees (isHeld (first t .args .edition) (first t .args .d .now) (t .loop .since)) (t .loop .from) (t .loop .since) (t .loop .n) (e .ends .result .events) (e .ends .last .1 .1 .1 .1 .1 .1 .1 .1 .1 .0) (e .ends .last .1 .1 .1 .1 .1 .1 .1 .1 .1 .1 .0) (c .if3 .m) (c .if3 .numbers) (c .if3 .bytes)
-joined c = ⊎-elim (λ w. frees-same (w .3 .ensures) (w .8) (w .9) (w .10)) (λ w. frees-same (w .3 .ensures) (w .8) (w .9) (w .10)) (c .if3 .came)
+    Frees (isHeld (first t .args .edition) (first t .args .d .now) (t .loop .since)) (t .loop .from) (t .loop .since) (t .loop .n) (e .ends .result .events) (e .ends .last .1 .1 .1 .1 .1 .1 .1 .1 .1 .0) (e .ends .last .1 .1 .1 .1 .1 .1 .1 .1 .1 .1 .0) (c .if2 .m) (c .if2 .numbers) (c .if2 .bytes)
+joined c = ⊎-elim (λ w. frees-same (w .3 .ensures) (w .8) (w .9) (w .10)) (λ w. frees-same (w .5 .ensures) (w .10) (w .11) (w .12)) (c .if2 .came)
+
+-- There is room for the starts, whichever way was taken: where there are none it is known.
+limit : (c : tie.Joined2 Inv-loop2 μ-loop2 Inv-loop μ-loop) → ended (c .before) .ends .result .open .count + c .before .before .starts-of .result ≤ 24
+limit c = ⊎-elim (λ w. omega (arith, w .0 .taken, ended (c .before) .ends .ensures .turns .ranged .few)) (λ w. omega (arith, w .2 .left)) (c .if2 .came)
 
 -- The events are so few that those of an element's attributes and those of the token can still be counted.
 room : (c : tie.At-loop2 Inv-loop2 μ-loop2 Inv-loop μ-loop) → c .loop2 .m + 90 < 4294967296
@@ -147,11 +150,11 @@ room c =
     let f = s .ends .ensures .turns in
     let i = c .loop2 .inv in
     let h = joined (c .before) .few 24 (omega (arith, f .counted, f .deep, asked (told s) .0 .few)) (omega arith) in
-    omega (arith, i .counted, i .few, i .most, c .before .before .if2 .left, f .deep, asked (told s) .0 .few, asked (told s) .4)
+    omega (arith, i .counted, i .few, i .most, limit (c .before), f .deep, asked (told s) .0 .few, asked (told s) .4)
 
 -- There is room for one more open element.
 less : (c : tie.In-loop2 Inv-loop2 μ-loop2 Inv-loop μ-loop) → c .before .loop2 .o .count < 24
-less c = omega (arith, c .before .loop2 .inv .deep, c .loop2-test .taken, c .before .before .before .if2 .left)
+less c = omega (arith, c .before .loop2 .inv .deep, c .loop2-test .taken, limit (c .before .before))
 
 loop-holds : tie.Need-loop-holds Inv-loop2 μ-loop2 Inv-loop μ-loop
 loop-holds c = going-start _ _ _ _ _ _ _ _ _ _ _ _ _ (c .new .ensures)
@@ -181,23 +184,25 @@ ends-requires c κs =
     let a = asked (c .before .before .before .before .before) in
     (a .0, a .1, omega (arith, a .2, a .3), omega (arith, a .4))
 
-add-if2 : tie.Need-add-if2 Inv-loop2 μ-loop2 Inv-loop μ-loop
-add-if2 c =
-    let f = ended c .ends .ensures in
-    omega (arith, f .starts, c .before .before .starts-of .ensures, f .turns .ranged .few)
+add-if3 : tie.Need-add-if3 Inv-loop2 μ-loop2 Inv-loop μ-loop
+add-if3 c =
+    let o = c .before .before in
+    let f = ended o .ends .ensures in
+    omega (arith, f .starts, o .before .starts-of .ensures, f .turns .ranged .few)
 
 same-length-3 : tie.Need-same-length-3 Inv-loop2 μ-loop2 Inv-loop μ-loop
-same-length-3 c = ended (c .before .before) .ends .ensures .turns .puts .numbers-kept ∙ turn (piece (told (ended (c .before .before)))) .before .loop .inv .numbers-same
+same-length-3 c = let e = ended (c .before .before .before .before) in e .ends .ensures .turns .puts .numbers-kept ∙ turn (piece (told e)) .before .loop .inv .numbers-same
 
 same-length-4 : tie.Need-same-length-4 Inv-loop2 μ-loop2 Inv-loop μ-loop
-same-length-4 c = ended (c .before .before) .ends .ensures .turns .puts .bytes-kept ∙ turn (piece (told (ended (c .before .before)))) .before .loop .inv .bytes-same
+same-length-4 c = let e = ended (c .before .before .before .before) in e .ends .ensures .turns .puts .bytes-kept ∙ turn (piece (told e)) .before .loop .inv .bytes-same
 
 returns-2 : tie.Need-returns-2 Inv-loop2 μ-loop2 Inv-loop μ-loop
 returns-2 c =
-    let e = ended (c .before .before) in
+    let o = c .before .before .before .before in
+    let e = ended o in
     let k = told e in
     let t = at-turn (piece k) in
-    let s = settles-many (whole-shown k) (t .going .ranged .few) (on e) (e .ends .ensures) _ _ (omega (arith, c .before .if2 .taken, c .before .before .before .before .starts-of .ensures)) in
+    let s = settles-many (whole-shown k) (t .going .ranged .few) (on e) (e .ends .ensures) _ _ (omega (arith, c .before .if3 .taken, o .before .starts-of .ensures)) in
     token-refuses t (k .before .p .given .1) refl s (λ z. omega arith) (c .refusal2 .ensures)
 
 -- What `freed` asks for.
@@ -211,13 +216,13 @@ held-asked c =
     (omega (arith, g .since-inside, g .inside), g .from-inside, omega (arith, g .since-inside, g .inside, first (t .before) .pre .2), omega (arith, asked c .4))
 
 freed-requires : tie.Need-freed-requires Inv-loop2 μ-loop2 Inv-loop μ-loop
-freed-requires c κs = held-asked (told (ended (c .before .before .before .before)))
+freed-requires c κs = held-asked (told (ended (c .before .before .before)))
 
 freed-requires-2 : tie.Need-freed-requires-2 Inv-loop2 μ-loop2 Inv-loop μ-loop
-freed-requires-2 c κs = held-asked (told (ended (c .before .before .before .before)))
+freed-requires-2 c κs = held-asked (told (ended (c .before .before .before .before .before)))
 
 loop2-holds : tie.Need-loop2-holds Inv-loop2 μ-loop2 Inv-loop μ-loop
-loop2-holds c = along-start _ _ _ _ _ _ _ _ _ _ _ _ (ended (c .before .before) .ends .ensures .turns .ranged)
+loop2-holds c = along-start _ _ _ _ _ _ _ _ _ _ _ _ (ended (c .before) .ends .ensures .turns .ranged)
 
 next-start-requires : tie.Need-next-start-requires Inv-loop2 μ-loop2 Inv-loop μ-loop
 next-start-requires c κs = c .before .loop2 .inv .ranged
@@ -242,7 +247,7 @@ add-m c =
 add-k : tie.Need-add-k Inv-loop2 μ-loop2 Inv-loop μ-loop
 add-k c =
     let l = next (defaulted (c .before .before .before .before .before)) .before in
-    omega (arith, l .loop2-test .taken, l .before .before .before .if2 .left)
+    omega (arith, l .loop2-test .taken, limit (l .before .before))
 
 loop2-less : tie.Need-loop2-less Inv-loop2 μ-loop2 Inv-loop μ-loop
 loop2-less c = omega arith
@@ -256,19 +261,26 @@ loop2-again c =
 
 put-written-requires : tie.Need-put-written-requires Inv-loop2 μ-loop2 Inv-loop μ-loop
 put-written-requires c κs =
-    let l = c .before .before .before .before in
+    let l = c .before .before .before .before .before in
     (asked (told (stopped l)) .1, omega (arith, room l))
 
+-- The attribute events of the tag, if the type has any.
+attributed : (c : tie.Joined4 Inv-loop2 μ-loop2 Inv-loop μ-loop) →
+    let l = c .before .before in
+    let k = told (stopped l) in
+    PutsWritten (first (turn (piece k) .before) .args .lists .now) (marked (piece k)) (k .before .p .given .0 .0 .0) (l .loop2 .m) (l .loop2 .numbers) (l .loop2 .bytes) (c .if4 .m) (c .if4 .numbers) (c .if4 .bytes)
+attributed c = ⊎-elim (λ w. written-same (w .4 .ensures) (w .9) (w .10) (w .11)) (λ w. written-same (written-none _ _ _ _ _ _ (omega (arith, w .0 .left))) (w .1) (w .2) (w .3)) (c .if4 .came)
+
 shown-end-requires : tie.Need-shown-end-requires Inv-loop2 μ-loop2 Inv-loop μ-loop
-shown-end-requires c κs = range (told (stopped (inferred (c .before .before .before .before) .before))) .1
+shown-end-requires c κs = range (told (stopped (c .before .before))) .1
 
 placed-requires : tie.Need-placed-requires Inv-loop2 μ-loop2 Inv-loop μ-loop
 placed-requires c κs =
-    let w = c .before .before .before .before .before .before .before .before in
-    let l = inferred w .before in
+    let w = c .before .before .before .before in
+    let l = w .before .before in
     let e = stopped l in
     let a = asked (told e) in
-    let f = w .put-written .ensures .few in
+    let f = attributed w .few in
     let b = first (turn (piece (told e)) .before) .args in
     let h = shown-range (b .edition) (b .d .now) (range (told e) .0) (c .before .before .before .shown-end .ensures) in
     (l .loop2 .inv .ranged, e .ends .ensures .fits, a .1, h .0, omega (arith, h .1, a .3), omega (arith, room l, f .counted, f .few))
@@ -277,29 +289,29 @@ same-length-5 : tie.Need-same-length-5 Inv-loop2 μ-loop2 Inv-loop μ-loop
 same-length-5 c =
     let q = placed (c .before .before) in
     let w = written q in
-    let l = inferred w .before in
+    let l = w .before .before in
     let e = stopped l in
-    q .placed .ensures .puts .numbers-kept ∙ w .put-written .ensures .few .puts .numbers-kept ∙ l .loop2 .inv .puts .numbers-kept ∙ joined (l .before) .numbers-kept ∙ e .ends .ensures .turns .puts .numbers-kept ∙ turn (piece (told e)) .before .loop .inv .numbers-same
+    q .placed .ensures .puts .numbers-kept ∙ attributed w .few .puts .numbers-kept ∙ l .loop2 .inv .puts .numbers-kept ∙ joined (l .before) .numbers-kept ∙ e .ends .ensures .turns .puts .numbers-kept ∙ turn (piece (told e)) .before .loop .inv .numbers-same
 
 same-length-6 : tie.Need-same-length-6 Inv-loop2 μ-loop2 Inv-loop μ-loop
 same-length-6 c =
     let q = placed (c .before .before) in
     let w = written q in
-    let l = inferred w .before in
+    let l = w .before .before in
     let e = stopped l in
-    q .placed .ensures .puts .bytes-kept ∙ w .put-written .ensures .few .puts .bytes-kept ∙ l .loop2 .inv .puts .bytes-kept ∙ joined (l .before) .bytes-kept ∙ e .ends .ensures .turns .puts .bytes-kept ∙ turn (piece (told e)) .before .loop .inv .bytes-same
+    q .placed .ensures .puts .bytes-kept ∙ attributed w .few .puts .bytes-kept ∙ l .loop2 .inv .puts .bytes-kept ∙ joined (l .before) .bytes-kept ∙ e .ends .ensures .turns .puts .bytes-kept ∙ turn (piece (told e)) .before .loop .inv .bytes-same
 
 returns-3 : tie.Need-returns-3 Inv-loop2 μ-loop2 Inv-loop μ-loop
 returns-3 c =
     let q = placed (c .before .before) in
     let w = written q in
-    let i = inferred w in
+    let i = w .before in
     let l = i .before in
     let e = stopped l in
     let k = told e in
     let t = at-turn (piece k) in
-    let s = settles-placed (q .before .before .before .before .shown-end .result) (t .going .ranged .few) (on e) (e .ends .ensures) (l .before .before .before .before .before .starts-of .ensures) (l .before .before .if2 .left) (l .loop2 .inv) (i .loop2-test .left) (w .put-written .ensures) (places-refused (q .placed .ensures) (c .before .if4 .taken)) in
-    token-refuses t (k .before .p .given .1) (q .before .before .before .before .shown-end .ensures) s (c .before .if4 .taken) (c .refusal3 .ensures)
+    let s = settles-placed (q .before .before .before .before .shown-end .result) (t .going .ranged .few) (on e) (e .ends .ensures) (l .before .before .before .starts-of .ensures) (limit (l .before)) (l .loop2 .inv) (i .loop2-test .left) (attributed w) (places-refused (q .placed .ensures) (c .before .if5 .taken)) in
+    token-refuses t (k .before .p .given .1) (q .before .before .before .before .shown-end .ensures) s (c .before .if5 .taken) (c .refusal3 .ensures)
 
 opens-requires : tie.Need-opens-requires Inv-loop2 μ-loop2 Inv-loop μ-loop
 opens-requires c κs = asked (token (c .before .before)) .1
@@ -307,7 +319,7 @@ opens-requires c κs = asked (token (c .before .before)) .1
 start-requires : tie.Need-start-requires Inv-loop2 μ-loop2 Inv-loop μ-loop
 start-requires c κs =
     let h = placed (c .before .before .before .before) .placed .ensures in
-    (h .ranged, h .room (c .before .before .before .if4 .left) (λ z. false≢true (sym (c .before .opens .ensures .0 z) ∙ c .if5 .taken)), asked (token (c .before .before .before .before)) .1)
+    (h .ranged, h .room (c .before .before .before .if5 .left) (λ z. false≢true (sym (c .before .opens .ensures .0 z) ∙ c .if6 .taken)), asked (token (c .before .before .before .before)) .1)
 
 loop-less : tie.Need-loop-less Inv-loop2 μ-loop2 Inv-loop μ-loop
 loop-less c = omega (arith, range (token (c .before .before .before .before .before)))
@@ -316,13 +328,13 @@ loop-again : tie.Need-loop-again Inv-loop2 μ-loop2 Inv-loop μ-loop
 loop-again c =
     let q = placed (c .before .before .before .before .before) in
     let w = written q in
-    let i = inferred w in
+    let i = w .before in
     let l = i .before in
     let e = stopped l in
     let k = told e in
     let t = at-turn (piece k) in
-    let s = settles-placed (q .before .before .before .before .shown-end .result) (t .going .ranged .few) (on e) (e .ends .ensures) (l .before .before .before .before .before .starts-of .ensures) (l .before .before .if2 .left) (l .loop2 .inv) (i .loop2-test .left) (w .put-written .ensures) (places-opened (q .placed .ensures) (c .before .before .before .before .if4 .left) (asked k .1) true (rw (c .before .if5 .taken) at (c .before .before .opens .ensures)) (c .start .ensures)) in
-    going-token t (k .before .p .given .1) (q .before .before .before .before .shown-end .ensures) (e .ends .ensures) (joined (l .before)) s (c .before .before .before .before .if4 .left)
+    let s = settles-placed (q .before .before .before .before .shown-end .result) (t .going .ranged .few) (on e) (e .ends .ensures) (l .before .before .before .starts-of .ensures) (limit (l .before)) (l .loop2 .inv) (i .loop2-test .left) (attributed w) (places-opened (q .placed .ensures) (c .before .before .before .before .if5 .left) (asked k .1) true (rw (c .before .if6 .taken) at (c .before .before .opens .ensures)) (c .start .ensures)) in
+    going-token t (k .before .p .given .1) (q .before .before .before .before .shown-end .ensures) (e .ends .ensures) (joined (l .before)) s (c .before .before .before .before .if5 .left)
 
 loop-less-2 : tie.Need-loop-less-2 Inv-loop2 μ-loop2 Inv-loop μ-loop
 loop-less-2 c = omega (arith, range (token (c .before .before .before .before)))
@@ -331,13 +343,13 @@ loop-again-2 : tie.Need-loop-again-2 Inv-loop2 μ-loop2 Inv-loop μ-loop
 loop-again-2 c =
     let q = placed (c .before .before .before .before) in
     let w = written q in
-    let i = inferred w in
+    let i = w .before in
     let l = i .before in
     let e = stopped l in
     let k = told e in
     let t = at-turn (piece k) in
-    let s = settles-placed (q .before .before .before .before .shown-end .result) (t .going .ranged .few) (on e) (e .ends .ensures) (l .before .before .before .before .before .starts-of .ensures) (l .before .before .if2 .left) (l .loop2 .inv) (i .loop2-test .left) (w .put-written .ensures) (places-opened (q .placed .ensures) (c .before .before .before .if4 .left) (asked k .1) false (rw (c .if5 .left) at (c .before .opens .ensures)) refl) in
-    going-token t (k .before .p .given .1) (q .before .before .before .before .shown-end .ensures) (e .ends .ensures) (joined (l .before)) s (c .before .before .before .if4 .left)
+    let s = settles-placed (q .before .before .before .before .shown-end .result) (t .going .ranged .few) (on e) (e .ends .ensures) (l .before .before .before .starts-of .ensures) (limit (l .before)) (l .loop2 .inv) (i .loop2-test .left) (attributed w) (places-opened (q .placed .ensures) (c .before .before .before .if5 .left) (asked k .1) false (rw (c .if6 .left) at (c .before .opens .ensures)) refl) in
+    going-token t (k .before .p .given .1) (q .before .before .before .before .shown-end .ensures) (e .ends .ensures) (joined (l .before)) s (c .before .before .before .if5 .left)
 
 end-tag-requires : tie.Need-end-tag-requires Inv-loop2 μ-loop2 Inv-loop μ-loop
 end-tag-requires c κs =
@@ -357,7 +369,7 @@ returns-4 c =
     let tag = tagged (c .before .before) in
     let k = told-end tag in
     let t = at-turn (end-piece k) in
-    end-tag-refuses t (k .before .p2 .given .1) (tag .end-tag .ensures) (c .before .if6 .taken) (c .refusal4 .ensures)
+    end-tag-refuses t (k .before .p2 .given .1) (tag .end-tag .ensures) (c .before .if7 .taken) (c .refusal4 .ensures)
 
 loop-less-3 : tie.Need-loop-less-3 Inv-loop2 μ-loop2 Inv-loop μ-loop
 loop-less-3 c =
@@ -369,7 +381,7 @@ loop-again-3 c =
     let tag = tagged (c .before .before) in
     let k = told-end tag in
     let t = at-turn (end-piece k) in
-    going-end t (k .before .p2 .given .1) (tag .end-tag .ensures) (c .before .if6 .left)
+    going-end t (k .before .p2 .given .1) (tag .end-tag .ensures) (c .before .if7 .left)
 
 marked-requires : tie.Need-marked-requires Inv-loop2 μ-loop2 Inv-loop μ-loop
 marked-requires c κs = omega (arith, turn (c .before .before .before) .loop-test .taken)
@@ -403,7 +415,7 @@ same-length-12 c = finished (c .before .before) .finish .ensures .brings .puts .
 returns-6 : tie.Need-returns-6 Inv-loop2 μ-loop2 Inv-loop μ-loop
 returns-6 c =
     let f = finished (c .before .before) in
-    end-refuses (over f .before .loop .inv) (omega (arith, over f .loop-test .left)) (f .finish .ensures) (c .before .if7 .taken) (c .refusal5 .ensures)
+    end-refuses (over f .before .loop .inv) (omega (arith, over f .loop-test .left)) (f .finish .ensures) (c .before .if8 .taken) (c .refusal5 .ensures)
 
 same-length-13 : tie.Need-same-length-13 Inv-loop2 μ-loop2 Inv-loop μ-loop
 same-length-13 c = finished (c .before) .finish .ensures .brings .puts .numbers-kept ∙ over (finished (c .before)) .before .loop .inv .numbers-same
@@ -414,7 +426,7 @@ same-length-14 c = finished (c .before) .finish .ensures .brings .puts .bytes-ke
 returns-7 : tie.Need-returns-7 Inv-loop2 μ-loop2 Inv-loop μ-loop
 returns-7 c =
     let f = finished (c .before) in
-    end-counts (over f .before .loop .inv) (omega (arith, over f .loop-test .left)) (f .finish .ensures) (first (over f .before) .pre .2) (c .if7 .left)
+    end-counts (over f .before .loop .inv) (omega (arith, over f .loop-test .left)) (f .finish .ensures) (first (over f .before) .pre .2) (c .if8 .left)
 
 -- What is left out of the list by name asks for nothing, or for what the arm of the `match` says.
 pub events-of-spec : {M : Type 1} → statement M
@@ -436,12 +448,12 @@ events-of-spec =
     returns
     ends-requires
     (λ c κs. search needs)
-    add-if2
+    freed-requires
+    add-if3
     (λ c κs. search needs)
     same-length-3
     same-length-4
     returns-2
-    freed-requires
     freed-requires-2
     loop2-holds
     next-start-requires

@@ -79,7 +79,7 @@ offset-requires : tie.Need-offset-requires Inv-loop μ-loop
 offset-requires c κs = let (risen, few, inside) = standing c in (omega arith, omega arith)
 
 same-name-requires : tie.Need-same-name-requires Inv-loop μ-loop
-same-name-requires c κs = let (risen, few, inside) = standing (c .before) in (omega arith, omega arith)
+same-name-requires c κs = let (risen, few, inside) = standing (c .before) in (begun (c .before) .pre .0, omega arith, omega arith)
 
 add-t23 : tie.Need-add-t23 Inv-loop μ-loop
 add-t23 c = let (risen, few, inside) = standing (c .before .before .before) in omega arith

@@ -1,9 +1,10 @@
--- `same_name` meets its contract. The invariant: what is left to compare is the same as the whole was.
-use Prim.Native.Nat.{ℕ, _+_, _-_}
+-- `same_name` meets its contract. The invariant: where the first bytes are the same, what is left to compare is the same as the whole was.
+use Prim.Native.Nat.{ℕ, _+_, _-_, _≤_}
 use mathlib.Core.Path.{_≡_, sym, ap, _∙_}
 use mathlib.Core.Bool.{Bool}
 use mathlib.Core.List.{List}
 use mathlib.Core.Logic.{⊎-elim}
+use native.Mathlib.Nat.{add-zero}
 use native.Mathlib.Omega.{arith}
 use borrow.Author.Needs.{needs}
 use Rattle.rules.specs.Bytes.{byteAt, fold, sameText}
@@ -16,8 +17,14 @@ further : (s : List ℕ) (a : ℕ) (t : List ℕ) (b n i j : ℕ) {v : Bool} →
     → sameText s (a + j) t (b + j) (n - j) ≡ v
 further s a t b n i j e w = rw e w
 
+-- The first bytes are compared.
+first-same : (s : List ℕ) (a : ℕ) (t : List ℕ) (b n : ℕ) → 1 ≤ n → fold (byteAt s a) ≡ fold (byteAt t b) → sameText s (a + 1) t (b + 1) (n - 1) ≡ sameText s a t b n
+first-same s a t b n some e =
+    let x : fold (byteAt s (a + 0)) ≡ fold (byteAt t (b + 0)) = rw (add-zero a, add-zero b) e in
+    further s a t b n 0 1 (omega arith) (sameText-turn s a t b n 0 (omega arith) x ∙ sameText-start s a t b n)
+
 abbrev Inv-loop : tie.InvT-loop
-Inv-loop s a t b n i₀ i = sameText s (a + i) t (b + i) (n - i) ≡ sameText s a t b n
+Inv-loop s a t b n i₀ i = fold (byteAt s a) ≡ fold (byteAt t b) → sameText s (a + i) t (b + i) (n - i) ≡ sameText s a t b n
 
 abbrev μ-loop : tie.MeasureT-loop
 μ-loop s a t b n i₀ i = n - i
@@ -25,7 +32,7 @@ abbrev μ-loop : tie.MeasureT-loop
 loop-holds : tie.Need-loop-holds Inv-loop μ-loop
 loop-holds c =
     let a = c .before .before .args in
-    sameText-start (a .s .now) (a .a) (a .t .now) (a .b) (a .n)
+    first-same (a .s .now) (a .a) (a .t .now) (a .b) (a .n) (omega arith)
 
 add-x : tie.Need-add-x Inv-loop μ-loop
 add-x c = omega arith
@@ -51,7 +58,7 @@ returns c =
     let a = in-loop .before .before .before .before .args in
     let i = in-loop .before .loop .i in
     let other : fold (byteAt (a .s .now) (a .a + i)) ≡ fold (byteAt (a .t .now) (a .b + i)) → ⊥ = λ e. c .if2 .taken (omega (arith, c .before .before .folded .ensures, c .before .folded2 .ensures)) in
-    sym (sameText-other (a .s .now) (a .a) (a .t .now) (a .b) _ _ (in-loop .loop-test .taken) other) ∙ in-loop .before .loop .inv
+    λ h. sym (sameText-other (a .s .now) (a .a) (a .t .now) (a .b) _ _ (in-loop .loop-test .taken) other) ∙ in-loop .before .loop .inv h
 
 add-i : tie.Need-add-i Inv-loop μ-loop
 add-i c = omega arith
@@ -67,13 +74,13 @@ loop-again c =
     let x = byteAt (a .s .now) (a .a + i) in
     let y = byteAt (a .t .now) (a .b + i) in
     let same : fold x ≡ fold y = ⊎-elim (λ w. omega (arith, w .1 .ensures, w .2 .ensures)) (λ w. let e : x ≡ y = omega arith in ap fold e) (c .if1 .came) in
-    further (a .s .now) (a .a) (a .t .now) (a .b) (a .n) i _ (omega arith)
-    (sameText-turn (a .s .now) (a .a) (a .t .now) (a .b) (a .n) i (in-loop .loop-test .taken) same ∙ in-loop .before .loop .inv)
+    λ h. further (a .s .now) (a .a) (a .t .now) (a .b) (a .n) i _ (omega arith)
+    (sameText-turn (a .s .now) (a .a) (a .t .now) (a .b) (a .n) i (in-loop .loop-test .taken) same ∙ in-loop .before .loop .inv h)
 
 returns-2 : tie.Need-returns-2 Inv-loop μ-loop
 returns-2 c =
     let a = c .before .before .before .before .args in
-    sym (sameText-all (a .s .now) (a .a) (a .t .now) (a .b) _ _ (c .loop-test .left)) ∙ c .before .loop .inv
+    λ h. sym (sameText-all (a .s .now) (a .a) (a .t .now) (a .b) _ _ (c .loop-test .left)) ∙ c .before .loop .inv h
 
 pub same-name-spec : {M : Type 1} → statement M
 same-name-spec =

@@ -14,25 +14,28 @@ Inv-loop rows places e u q₀ q = (q .0 ≤ 96) × Seeks (RowSays rows (e .0) (u
 abbrev μ-loop : tie.MeasureT-loop
 μ-loop rows places e u q₀ q = q .0
 
+returns : tie.Need-returns Inv-loop μ-loop
+returns c = seeks-none _ _ _ _ _ (seeks-start _ _ _ _) (c .if1 .taken)
+
 loop-holds : tie.Need-loop-holds Inv-loop μ-loop
 loop-holds c = (omega arith, seeks-start _ _ _ _)
 
 bit-requires : tie.Need-bit-requires Inv-loop μ-loop
 bit-requires c κs = search needs
 
-returns : tie.Need-returns Inv-loop μ-loop
-returns c =
+returns-2 : tie.Need-returns-2 Inv-loop μ-loop
+returns-2 c =
     let tested = c .before in
     let looped = tested .before .before .before in
-    seeks-found _ _ _ _ _ (looped .loop .inv .1) (tested .before .if1 .taken) (looped .loop .inv .0) (sym (c .if2 .taken) ∙ tested .bit .ensures)
+    seeks-found _ _ _ _ _ (looped .loop .inv .1) (tested .before .if2 .taken) (looped .loop .inv .0) (sym (c .if3 .taken) ∙ tested .bit .ensures)
 
 smaller-requires : tie.Need-smaller-requires Inv-loop μ-loop
 smaller-requires c κs = search needs
 
-returns-2 : tie.Need-returns-2 Inv-loop μ-loop
-returns-2 c =
+returns-3 : tie.Need-returns-3 Inv-loop μ-loop
+returns-3 c =
     let inside = c .before .before .before .before .before .before in
-    seeks-rising _ _ _ _ _ (inside .before .before .loop .inv .1) (inside .if1 .taken) _ (c .before .before .before .smaller .ensures) (c .if3 .taken)
+    seeks-rising _ _ _ _ _ (inside .before .before .loop .inv .1) (inside .if2 .taken) _ (c .before .before .before .smaller .ensures) (c .if4 .taken)
 
 loop-less : tie.Need-loop-less Inv-loop μ-loop
 loop-less c = omega arith
@@ -41,10 +44,10 @@ loop-again : tie.Need-loop-again Inv-loop μ-loop
 loop-again c =
     let tested = c .before .before .before .before .before in
     let inside = tested .before in
-    (omega arith, seeks-next _ _ _ _ _ (inside .before .before .loop .inv .1) (inside .if1 .taken) (sym (c .before .before .before .before .if2 .left) ∙ tested .bit .ensures) _ (c .before .before .before .smaller .ensures) (omega arith))
+    (omega arith, seeks-next _ _ _ _ _ (inside .before .before .loop .inv .1) (inside .if2 .taken) (sym (c .before .before .before .before .if3 .left) ∙ tested .bit .ensures) _ (c .before .before .before .smaller .ensures) (omega arith))
 
-returns-3 : tie.Need-returns-3 Inv-loop μ-loop
-returns-3 c = seeks-none _ _ _ _ _ (c .before .before .loop .inv .1) (c .if1 .left)
+returns-4 : tie.Need-returns-4 Inv-loop μ-loop
+returns-4 c = seeks-none _ _ _ _ _ (c .before .before .loop .inv .1) (c .if2 .left)
 
 pub largest-spec : {M : Type 1} → statement M
 largest-spec =
@@ -52,11 +55,12 @@ largest-spec =
     (tie.spec
     Inv-loop
     μ-loop
+    returns
     loop-holds
     bit-requires
-    returns
-    smaller-requires
     returns-2
+    smaller-requires
+    returns-3
     loop-less
     loop-again
-    returns-3)
+    returns-4)
