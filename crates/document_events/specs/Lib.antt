@@ -1,6 +1,5 @@
 -- What the events of a document are, in the rules' terms, and the laws of the loop that reads them.
 pub mod Loop
-pub mod Freeing
 pub mod Again
 pub mod Turns
 pub mod Marks

@@ -1,7 +1,6 @@
 -- What the events of a document are, and what the loop over its tokens leaves, in the rules' terms.
 use Prim.Native.Nat.{ℕ, _+_, _*_, _≤_, _<_}
 use mathlib.Core.Path.{_≡_}
-use mathlib.Core.Bool.{Bool, true}
 use mathlib.Core.List.{List}
 use lib.ListN.{length}
 use Rattle.rules.specs.Settings.{Settings}
@@ -18,7 +17,7 @@ use Rattle.document_laws.specs.Decide.{decided}
 use Rattle.record_due.specs.Due.{due}
 use Rattle.turn_laws.specs.Turns.{Reaches}
 use Rattle.turn_laws.specs.Latest.{Latest}
-use Rattle.record_ends.specs.Held.{lineOf, PutsWhole}
+use Rattle.record_ends.specs.Held.{lineOf}
 use Rattle.element_index.specs.Indexed.{Indexed}
 use Rattle.list_table.specs.Lists.{Lists}
 use Rattle.type_tables.specs.Tables.{Tables}
@@ -36,15 +35,6 @@ EventsOf c s es d numbers numbersAfter bytes bytesAfter (counted.Events n) =
     (ev : List Event) × (document c s es (decided s es) d ≡ got ev) × (n ≡ length ev) × Written numbers numbersAfter (eventNumbers ev) ×
     Written bytes bytesAfter (bytesOf (eventNumbers ev)) × (n < 4294967296)
 EventsOf c s es d numbers numbersAfter bytes bytesAfter (counted.Refused f) = document c s es (decided s es) d ≡ refused (f .number) (f .at)
-
--- Behind m events, n of them before the ends that a token infers: where there are no such ends and a run of data is held, from `from` to `since`, that is put whole,
--- else nothing is done.
-pub record Frees (held : Bool) (from since n m : ℕ) (numbers bytes : List ℕ) (r : ℕ) (numbers′ bytes′ : List ℕ) : Type 0 where
-  pub numbers-kept : length numbers′ ≡ length numbers
-  pub bytes-kept : length bytes′ ≡ length bytes
-  pub few : (k : ℕ) → m ≤ n + k → 1 ≤ k → r ≤ n + k
-  pub puts : held ≡ true → m ≡ n → PutsWhole numbers bytes n from since r numbers′ bytes′
-  pub stays : (held ≡ true → m ≡ n → ⊥) → (r ≡ m) × (numbers′ ≡ numbers) × (bytes′ ≡ bytes)
 
 -- What a token that stands at `at`, up to `after`, has come to: reading goes on behind it with a state for which the open elements stand, by what has begun, and
 -- which has these events, or the document is refused there. The last run of data began at `from`, and where a byte 10 or 13 was ignored before is marked.

@@ -50,7 +50,7 @@ use Rattle.open_elements.specs.Methods.{stands-fresh, ranged-fresh}
 use Rattle.inferring.specs.declared.Stop.{Stop}
 use Rattle.inferring.specs.Inferring.{Stops}
 use Rattle.placing.specs.Noting.{writtenOf, shownOf}
-use Rattle.record_ends.specs.Held.{lineOf, isHeld, shownEnd}
+use Rattle.record_ends.specs.Held.{lineOf, isHeld, shownEnd, Frees}
 use Rattle.record_ends.specs.Ignoring.{shown-short, shown-whole, shown-tag}
 use Rattle.token_due.specs.Shown.{ends-are, starts-are, due-token}
 use Rattle.token_due.specs.Freed.{Has, has-behind, freed}
@@ -62,7 +62,7 @@ use Rattle.pieces.specs.declared.Piece.the-variants as found
 use Rattle.pieces.specs.Finds.{skips, separates, malformed, undeclaredStart, undeclaredEnd, ToSettle, runs, starts, Finds, MarksAt, Onward}
 use Rattle.document_events.specs.declared.Counted.{Counted}
 use Rattle.document_events.specs.declared.Counted.the-variants as counted
-use Rattle.document_events.specs.Loop.{EventsOf, Frees, Turned, Going}
+use Rattle.document_events.specs.Loop.{EventsOf, Turned, Going}
 use Rattle.document_events.specs.Again.{stands-again}
 
 -- A start tag

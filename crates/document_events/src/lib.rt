@@ -23,8 +23,7 @@ ghost use Rattle.delimiters.specs.Classes.{Classes};
 ghost use Rattle.element_index.specs.Indexed.{Indexed};
 ghost use Rattle.list_table.specs.Lists.{Lists};
 ghost use Rattle.type_tables.specs.Tables.{Tables};
-ghost use Rattle.record_ends.specs.Held.{isHeld};
-ghost use Rattle.document_events.specs.Loop.{EventsOf, Frees};
+ghost use Rattle.document_events.specs.Loop.{EventsOf};
 
 // How many events a document has, or its refusal.
 pub enum Counted {
@@ -39,30 +38,6 @@ fn refusal(number: u32, at: usize) -> Counted
         number: number,
         at: at,
     })
-}
-
-// How many events there are behind the m that stand behind the ends which a token infers, n being those before these. Where no end came first, more of the element
-// follows the run of data that ended at `since`: if its last byte is held, it is data, and the run is put whole.
-fn freed(
-    edition: usize,
-    d: &[u8],
-    from: usize,
-    since: usize,
-    n: usize,
-    m: usize,
-    numbers: &mut [u32],
-    bytes: &mut [u8],
-) -> usize
-    requires { ⌜ (since ≤ length (now d)) × (from ≤ since) × (since < 4294967296) × (n < 4294967296) ⌝ }
-    ensures { λ r. ⌜ Frees (isHeld edition (now (d .entry)) since) from since n m (now (numbers .entry)) (now (bytes .entry)) r (now (numbers .exit)) (now (bytes .exit)) ⌝ }
-{
-    if !record_ends::is_held(edition, d, since) {
-        return m;
-    }
-    if m != n {
-        return m;
-    }
-    record_ends::put_held(numbers, bytes, n, from, since)
 }
 
 // The document d under a type. Its events go to a buffer of numbers and to one of bytes, each as far as they fit. What a buffer holds
@@ -154,13 +129,13 @@ pub fn events_of(
                 // A run of data that is held is put whole where more of its element follows. Whether starts are inferred is asked first: with one call for both the compiler
                 // takes 7 % more instructions.
                 if starts == 0 {
-                    m = freed(edition, d, from, since, n, m, numbers, bytes);
+                    m = record_ends::freed(edition, d, from, since, n, m, numbers, bytes);
                 } else {
                     // Number 15: so many starts would be too many.
                     if 24 < o.count + starts {
                         return refusal(15, at);
                     }
-                    m = freed(edition, d, from, since, n, m, numbers, bytes);
+                    m = record_ends::freed(edition, d, from, since, n, m, numbers, bytes);
                 }
                 // Step 2: the starts are inferred, one in the other.
                 let mut k = 0;

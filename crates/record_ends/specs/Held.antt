@@ -37,3 +37,12 @@ pub record PutsWhole (numbers bytes : List ℕ) (n from since r : ℕ) (numbers�
   pub counted : from < since → (before : List Event) → n ≡ length (before ++ dueRun from (since - from - 1)) → r ≡ length (before ++ dataRun from (since - from) ∷ [])
   pub whole : from < since → (numbers₀ bytes₀ : List ℕ) (before : List Event) → n ≡ length (before ++ dueRun from (since - from - 1)) → Holds numbers₀ bytes₀ numbers bytes (before ++ dueRun from (since - from - 1))
       → Holds numbers₀ bytes₀ numbers′ bytes′ (before ++ dataRun from (since - from) ∷ [])
+
+-- Behind m events, n of them before the ends that a token infers: where there are no such ends and a run of data is held, from `from` to `since`, that is put whole,
+-- else nothing is done.
+pub record Frees (held : Bool) (from since n m : ℕ) (numbers bytes : List ℕ) (r : ℕ) (numbers′ bytes′ : List ℕ) : Type 0 where
+  pub numbers-kept : length numbers′ ≡ length numbers
+  pub bytes-kept : length bytes′ ≡ length bytes
+  pub few : (k : ℕ) → m ≤ n + k → 1 ≤ k → r ≤ n + k
+  pub puts : held ≡ true → m ≡ n → PutsWhole numbers bytes n from since r numbers′ bytes′
+  pub stays : (held ≡ true → m ≡ n → ⊥) → (r ≡ m) × (numbers′ ≡ numbers) × (bytes′ ≡ bytes)

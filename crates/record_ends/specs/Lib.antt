@@ -2,3 +2,4 @@
 pub mod Held
 pub mod Ignoring
 pub mod Whole
+pub mod Freeing

@@ -10,7 +10,7 @@ ghost use lib.ListN.{length};
 ghost use Rattle.rules.specs.Settings.{settings};
 ghost use Rattle.rules.specs.Settling as rules;
 ghost use Rattle.rules.specs.Records.{isIgnored, markBehind};
-ghost use Rattle.record_ends.specs.Held.{lineOf, isHeld, shownEnd, Since, PutsWhole};
+ghost use Rattle.record_ends.specs.Held.{lineOf, isHeld, shownEnd, Since, PutsWhole, Frees};
 
 const RE: u8 = 13;
 
@@ -96,4 +96,28 @@ pub fn put_held(numbers: &mut [u32], bytes: &mut [u8], n: usize, from: usize, si
         }
     }
     event_buffer::put_event(numbers, bytes, k, 5, data, from, size, none)
+}
+
+// How many events there are behind the m that stand behind the ends which a token infers, n being those before these. Where no end came first, more of the element
+// follows the run of data that ended at `since`: if its last byte is held, it is data, and the run is put whole.
+pub fn freed(
+    edition: usize,
+    d: &[u8],
+    from: usize,
+    since: usize,
+    n: usize,
+    m: usize,
+    numbers: &mut [u32],
+    bytes: &mut [u8],
+) -> usize
+    requires { ⌜ (since ≤ length (now d)) × (from ≤ since) × (since < 4294967296) × (n < 4294967296) ⌝ }
+    ensures { λ r. ⌜ Frees (isHeld edition (now (d .entry)) since) from since n m (now (numbers .entry)) (now (bytes .entry)) r (now (numbers .exit)) (now (bytes .exit)) ⌝ }
+{
+    if !is_held(edition, d, since) {
+        return m;
+    }
+    if m != n {
+        return m;
+    }
+    put_held(numbers, bytes, n, from, since)
 }

@@ -20,9 +20,9 @@ use Rattle.ways.specs.Ends.{over-says}
 use Rattle.inferring.specs.Starts.{Along, along-start, along-next}
 use Rattle.placing.specs.Places.{places-refused, places-opened}
 use Rattle.settling.specs.Tokens.{settles-over, settles-many, settles-placed}
-use Rattle.record_ends.specs.Held.{isHeld, shownEnd}
-use Rattle.document_events.specs.Loop.{Frees, Going}
-use Rattle.document_events.specs.Freeing.{frees-same, shown-range}
+use Rattle.record_ends.specs.Held.{isHeld, shownEnd, Frees}
+use Rattle.record_ends.specs.Freeing.{frees-same, shown-range}
+use Rattle.document_events.specs.Loop.{Going}
 use Rattle.document_events.specs.Turns.{going-start, Turn, piece-refuses, token-asked, token-range, token-refuses, going-token, end-asked, end-range, end-tag-refuses, going-end, passed-range, going-passed, finish-asked, end-refuses, end-counts}
 use Rattle.document_events.proofs.events_of.Statement.{statement}
 use Rattle.document_events.proofs.events_of.Tie as tie

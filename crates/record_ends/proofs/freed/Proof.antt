@@ -3,9 +3,9 @@ use mathlib.Core.Path.{sym, _∙_}
 use native.Mathlib.Omega.{arith}
 use borrow.Author.Needs.{needs}
 use borrow.Author.Tests.{not-true, not-false}
-use Rattle.document_events.specs.Freeing.{frees-free, frees-behind, frees-whole}
-use Rattle.document_events.proofs.freed.Statement.{statement}
-use Rattle.document_events.proofs.freed.Tie as tie
+use Rattle.record_ends.specs.Freeing.{frees-free, frees-behind, frees-whole}
+use Rattle.record_ends.proofs.freed.Statement.{statement}
+use Rattle.record_ends.proofs.freed.Tie as tie
 
 is-held-requires : tie.Need-is-held-requires
 is-held-requires c κs = search needs

@@ -4,8 +4,7 @@ use mathlib.Core.Path.{_≡_, refl, sym, _∙_}
 use mathlib.Core.Bool.{Bool, true, false, false≢true}
 use mathlib.Core.List.{List}
 use native.Mathlib.Omega.{arith}
-use Rattle.record_ends.specs.Held.{isHeld, shownEnd, PutsWhole}
-use Rattle.document_events.specs.Loop.{Frees}
+use Rattle.record_ends.specs.Held.{isHeld, shownEnd, PutsWhole, Frees}
 
 module _ {held : Bool} {from since n m : ℕ} {numbers bytes : List ℕ} where
   -- Nothing is held.
