@@ -10,7 +10,7 @@ use list_table::Row;
 use text::Fault;
 use type_judge::Verdict;
 ghost use mathlib.Core.Path.{_≡_};
-ghost use Prim.Native.Nat.{_+_, _*_, _≤_, _<_};
+ghost use Prim.Native.Nat.{_+_, _*_, _-_, _≤_, _<_};
 ghost use lib.ListN.{length};
 ghost use Rattle.rules.specs.Bytes.{ATTCNT, elementLimit};
 ghost use Rattle.rules.specs.Lent.{numbers, bytes, bytesOf};
@@ -88,7 +88,7 @@ fn put_record(numbers: &mut [u32], bytes: &mut [u8], n: usize, e: usize, a: usiz
 
 // The records of the attributes of the element e, behind n records; how many there are then.
 fn put_list(lists: &[u16], e: usize, n: usize, numbers: &mut [u32], bytes: &mut [u8]) -> usize
-    requires { ⌜ (1 ≤ e) × (e ≤ 64) × (n ≤ 2520) ⌝ }
+    requires { ⌜ (1 ≤ e) × (e ≤ 64) × (n ≤ ATTCNT * (elementLimit - 1)) ⌝ }
     ensures { λ r. ⌜ PutsList (now (lists .entry)) e (now (numbers .entry)) (now (bytes .entry)) n (now (numbers .exit)) (now (bytes .exit)) r × (r ≤ n + ATTCNT) ⌝ }
 {
     let count = list_table::count(lists, ElementNo(e));
