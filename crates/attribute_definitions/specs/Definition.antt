@@ -4,6 +4,7 @@ use mathlib.Core.Path.{_≡_}
 use mathlib.Core.Bool.{true, false}
 use mathlib.Core.List.{List, [], _∷_, _++_}
 use lib.Dec.{eqb}
+use Rattle.rules.specs.Bytes.{ATTCNT}
 use Rattle.rules.specs.Reading.{Reading, got}
 use Rattle.rules.specs.Attributes.{Part, DeclaredValue, cdata, number, name, tokens, Attribute}
 use Rattle.rules.specs.TypeFile.{tokensOf, ValueEnd, Definition}
@@ -32,7 +33,7 @@ definitionFault (definitions.Refused f) = f
 
 -- Names: whatever the list holds, one that is read ends in the text, and the list has room.
 abbrev pub NameFits : (end i n : ℕ) → Reached → Type 0
-NameFits end i n (reached.At e) = (i ≤ e) × (e ≤ end) × (n < 40)
+NameFits end i n (reached.At e) = (i ≤ e) × (e ≤ end) × (n < ATTCNT)
 NameFits end i n (reached.Refused f) = Unit {0}
 
 -- Declared values
@@ -88,5 +89,5 @@ MeetsDefinition long s seen xs (definitions.Refused f) y = y ≡ refusalOf f
 
 -- Whatever the tables hold.
 abbrev pub DefinitionFits : (end i n m : ℕ) → DefinitionRead → Type 0
-DefinitionFits end i n m (definitions.Read r k e) = Short r × (n < 40) × (i ≤ e) × (e ≤ end) × (k ≤ m + 32)
+DefinitionFits end i n m (definitions.Read r k e) = Short r × (n < ATTCNT) × (i ≤ e) × (e ≤ end) × (k ≤ m + 32)
 DefinitionFits end i n m (definitions.Refused f) = Unit {0}

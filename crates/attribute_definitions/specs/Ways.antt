@@ -7,7 +7,7 @@ use native.Mathlib.Omega.{arith}
 use lib.ListN.{length}
 use lib.Dec.{eqb}
 use borrow.Author.Tests.{eq-eqb, ne-eqb, lt-ltb, le-ltb, le-leb, lt-leb}
-use Rattle.rules.specs.Bytes.{byteAt, letter, nameEnd}
+use Rattle.rules.specs.Bytes.{byteAt, letter, nameEnd, ATTCNT}
 use Rattle.rules.specs.Reading.{Reading, refused, got, andThen}
 use Rattle.rules.specs.Attributes.{Part, DeclaredValue, cdata, number, name, tokens, Default, Attribute, attributeOf}
 use Rattle.rules.specs.TypeFile.{gap, isWord, isCut, CDATA, NUMBER, NAME, unfit, TokensEnd, tokenGroup, tokensOf, attributeName, ValueEnd, valueWord, declaredValue, DefaultEnd, defaultValue, Definition, definition}
@@ -45,13 +45,13 @@ module _ (long : ℕ) (s : List ℕ) (xs : List Attribute) (from i e : ℕ) (end
       name-twice n = rw (attributeName, ← ends, le-ltb _ _ short, lt-ltb from i parted, ← ends, ← found, le-leb 1 k (omega (arith, n)))
 
       module _ (fresh : k ≡ 0) where
-        pub name-full : 40 ≤ length xs → refused 20 i ≡ attributeName long s xs from i
+        pub name-full : ATTCNT ≤ length xs → refused 20 i ≡ attributeName long s xs from i
         unfolding attributeName
-        name-full f = rw (attributeName, ← ends, le-ltb _ _ short, lt-ltb from i parted, ← ends, ← found, lt-leb 1 k (omega (arith, fresh)), le-leb 40 (length xs) f)
+        name-full f = rw (attributeName, ← ends, le-ltb _ _ short, lt-ltb from i parted, ← ends, ← found, lt-leb 1 k (omega (arith, fresh)), le-leb ATTCNT (length xs) f)
 
-        pub name-got : length xs < 40 → got e ≡ attributeName long s xs from i
+        pub name-got : length xs < ATTCNT → got e ≡ attributeName long s xs from i
         unfolding attributeName
-        name-got f = rw (attributeName, ← ends, le-ltb _ _ short, lt-ltb from i parted, ← ends, ← found, lt-leb 1 k (omega (arith, fresh)), lt-leb 40 (length xs) f, ends)
+        name-got f = rw (attributeName, ← ends, le-ltb _ _ short, lt-ltb from i parted, ← ends, ← found, lt-leb 1 k (omega (arith, fresh)), lt-leb ATTCNT (length xs) f, ends)
 
 -- Words
 
@@ -226,7 +226,7 @@ pub word-within : {end : ℕ} (i m : ℕ) (r : ValueRead) → 2 ≤ end → Word
 word-within i m (values.Read y k e) l w = omega (arith, w, l)
 word-within i m (values.Refused f) l w = tt
 
-pub name-within : {end i n e : ℕ} {r : Reached} → NameFits end i n r → r ≡ reached.At e → (i ≤ e) × (e ≤ end) × (n < 40)
+pub name-within : {end i n e : ℕ} {r : Reached} → NameFits end i n r → r ≡ reached.At e → (i ≤ e) × (e ≤ end) × (n < ATTCNT)
 name-within h q = rw q at h
 
 pub value-within : (m : ℕ) {end i x k e : ℕ} {r : ValueRead} → ValueFits end i m r → r ≡ values.Read x k e → (x ≤ end) × (i ≤ e) × (e ≤ end) × (k ≤ m + 32)

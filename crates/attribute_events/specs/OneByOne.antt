@@ -8,10 +8,12 @@ use native.Mathlib.Omega.{arith}
 use lib.ListN.{length, getD, take, replicate, length-append, getD-replicate, List·getD-eq-default}
 use lib.Seq.{take-all}
 use borrow.Author.Tests.{eq-eqb, ne-eqb}
+use Rattle.rules.specs.Bytes.{ATTCNT}
 use Rattle.rules.specs.Attributes.{Default, Attribute, attributeAt}
 use Rattle.rules.specs.Document.{Written}
 use Rattle.rules.specs.Events.{Event}
 use Rattle.rules.specs.Given.{givenFor, attributeEvent, attributeEvents}
+use Rattle.layout.specs.Sizes.{ATTRIBUTE, LIST, MARKS}
 use Rattle.attribute_defaults.specs.DefaultOf.{defaultIs}
 use Rattle.event_buffer.specs.Buffers.{noted, Puts}
 use Rattle.event_buffer.specs.EventByEvent.{puts-none, puts-then}
@@ -49,9 +51,9 @@ module _ (lists : List ℕ) (e k at size n : ℕ) (numbers bytes : List ℕ) (so
   pub one-written : {r : ℕ} {numbers′ bytes′ : List ℕ} → (at ≡ 0 → ⊥) → (r ≡ n + 1) × Puts numbers bytes n (noted 7 (k + 1) at size 0 ∷ []) numbers′ bytes′ → PutsOne lists e k at size n numbers bytes r numbers′ bytes′
   one-written h p = record { events = noted 7 (k + 1) at size 0 ∷ []; few = single p; are = λ long s xs ws l i m. event-written (k + 1) at size _ ws h m }
 
-  module _ (z : at ≡ 0) (row : Row) (o : row ≡ rowIn lists (201 * (e - 1) + 1 + 5 * k)) where
+  module _ (z : at ≡ 0) (row : Row) (o : row ≡ rowIn lists (LIST * (e - 1) + 1 + ATTRIBUTE * k)) where
     -- What the rules have for it is what its default brings.
-    defaulted : (long : ℕ) (s : List ℕ) (xs : List Attribute) (ws : List Written) → ListAt long s lists (201 * (e - 1)) xs → k < length xs → MarkedWith at size ws
+    defaulted : (long : ℕ) (s : List ℕ) (xs : List Attribute) (ws : List Written) → ListAt long s lists (LIST * (e - 1)) xs → k < length xs → MarkedWith at size ws
         → attributeEvent (k + 1) (defaultIs (row .default) (row .width)) [] ≡ attributeEvent (k + 1) (attributeAt xs k .default) ws
     defaulted long s xs ws l i m =
         ap (λ (x : Row). attributeEvent (k + 1) (defaultIs (x .default) (x .width)) []) o ∙ ap (λ f. attributeEvent (k + 1) f []) (l .rows k i .default)
@@ -130,7 +132,7 @@ module _ (lists marks : List ℕ) (e n : ℕ) (numbers bytes : List ℕ) where
       }
 
   -- All of them, of which there are so many.
-  pub first-all : (k count : ℕ) {r : ℕ} {numbers′ bytes′ : List ℕ} → k ≤ count → count ≤ k → count ≤ 40 → ((long : ℕ) (s : List ℕ) (xs : List Attribute) → 1 ≤ e → ListAt long s lists (201 * (e - 1)) xs → count ≡ length xs)
+  pub first-all : (k count : ℕ) {r : ℕ} {numbers′ bytes′ : List ℕ} → k ≤ count → count ≤ k → count ≤ ATTCNT → ((long : ℕ) (s : List ℕ) (xs : List Attribute) → 1 ≤ e → ListAt long s lists (LIST * (e - 1)) xs → count ≡ length xs)
       → PutsFirst lists marks e k n numbers bytes r numbers′ bytes′ → PutsWritten lists marks e n numbers bytes r numbers′ bytes′
   first-all k count a b f counts p =
       record {
@@ -149,7 +151,7 @@ events-none s [] d ws h = refl
 events-none s (a ∷ xs) d ws h = absurd (omega (arith, h))
 
 module _ (lists : List ℕ) (e n : ℕ) (numbers bytes : List ℕ) where
-  put-nothing : PutsFew 40 e n numbers bytes n numbers bytes []
+  put-nothing : PutsFew ATTCNT e n numbers bytes n numbers bytes []
   put-nothing = record { puts = puts-none numbers bytes n; counted = omega arith; few = omega arith; nothing = λ z. refl }
 
   -- Nor has any where no element has a list.
@@ -161,7 +163,7 @@ module _ (lists : List ℕ) (e n : ℕ) (numbers bytes : List ℕ) where
         are = λ long s d xs ws o l m. events-none s xs d ws (sym (l .counted) ∙ List·getD-eq-default lists 0 (omega arith));
       }
 
-  pub defaults-none : (count : ℕ) → count ≡ 0 → ((long : ℕ) (s : List ℕ) (xs : List Attribute) → 1 ≤ e → ListAt long s lists (201 * (e - 1)) xs → count ≡ length xs) → PutsDefaults lists e n numbers bytes n numbers bytes
+  pub defaults-none : (count : ℕ) → count ≡ 0 → ((long : ℕ) (s : List ℕ) (xs : List Attribute) → 1 ≤ e → ListAt long s lists (LIST * (e - 1)) xs → count ≡ length xs) → PutsDefaults lists e n numbers bytes n numbers bytes
   defaults-none count z counts =
       record {
         events = [];
@@ -175,11 +177,11 @@ pub written-same : {lists marks : List ℕ} {e n : ℕ} {numbers bytes : List �
 written-same h i j k = rw (i, j, k) h
 
 -- Where nothing is marked all are defaulted.
-pub defaults-unmarked : (lists : List ℕ) (e n : ℕ) (numbers bytes : List ℕ) {r : ℕ} {numbers′ bytes′ : List ℕ} → PutsWritten lists (replicate 80 0) e n numbers bytes r numbers′ bytes′ → PutsDefaults lists e n numbers bytes r numbers′ bytes′
+pub defaults-unmarked : (lists : List ℕ) (e n : ℕ) (numbers bytes : List ℕ) {r : ℕ} {numbers′ bytes′ : List ℕ} → PutsWritten lists (replicate MARKS 0) e n numbers bytes r numbers′ bytes′ → PutsDefaults lists e n numbers bytes r numbers′ bytes′
 unfolding givenFor
 defaults-unmarked lists e n numbers bytes p =
     record {
       events = p .events;
       few = p .few;
-      are = λ c s d xs o l. p .are c s d xs [] o l (λ k h. getD-replicate 80 (2 * k) 0 0 (omega (arith, h, l .few)));
+      are = λ c s d xs o l. p .are c s d xs [] o l (λ k h. getD-replicate MARKS (2 * k) 0 0 (omega (arith, h, l .few)));
     }

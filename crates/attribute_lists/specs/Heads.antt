@@ -19,6 +19,7 @@ use Rattle.text.specs.declared.Fault.{Fault}
 use Rattle.text.specs.declared.Reached.{Reached}
 use Rattle.text.specs.declared.Reached.the-variants as reached
 use Rattle.text.specs.Refusal.{refusalOf, faultOf}
+use Rattle.layout.specs.Sizes.{LIST, LISTS}
 use Rattle.layout.specs.declared.ElementNo.{ElementNo}
 use Rattle.list_table.specs.Lists.{ListAt, Lists, Copied}
 use Rattle.list_definitions.specs.ListAs.{ListAs, MeetsList, ListIn}
@@ -196,12 +197,12 @@ module _ (long : ℕ) (s : List ℕ) (from k : ℕ) (lists : List ℕ) where
       never : {l : ListEnd} → listFrom long s from ≡ got l → ⊥
       never e = let z : _≡_ {A = ℕ} 0 1 = cc in omega arith
 
-  pub again-put : (list after : List ℕ) (e : ℕ) → 3 ≤ from → ListAs long s list e (listFrom long s from) → Copied list (201 * k) lists after → Again long s from k lists after
+  pub again-put : (list after : List ℕ) (e : ℕ) → 3 ≤ from → ListAs long s list e (listFrom long s from) → Copied list (LIST * k) lists after → Again long s from k lists after
   again-put list after e begins r put =
       record {
         as-long = put .long;
         none = λ z. absurd (omega (arith, begins, z));
-        there = λ ls h. subst (ListAt long s after (201 * k)) (same (r .attributes) (attributesOf ls (k + 1)) e (h .after) (r .read) (h .read)) (put .there long s (r .attributes) (r .listed));
+        there = λ ls h. subst (ListAt long s after (LIST * k)) (same (r .attributes) (attributesOf ls (k + 1)) e (h .after) (r .read) (h .read)) (put .there long s (r .attributes) (r .listed));
         others = λ b xs o l. put .others long s b xs o l;
       }
     where
@@ -210,47 +211,47 @@ module _ (long : ℕ) (s : List ℕ) (from k : ℕ) (lists : List ℕ) where
 
 -- The first k lists are in the table, and the others are empty.
 pub record Fills (long : ℕ) (s heads lists : List ℕ) (k : ℕ) : Type 0 where
-  as-long : length lists ≡ 12864
-  done : (ls : List AttList) → Headed long s heads ls → (j : ℕ) → j < k → ListAt long s lists (201 * j) (attributesOf ls (j + 1))
-  rest : (j : ℕ) → k ≤ j → j < 64 → ListAt long s lists (201 * j) []
+  as-long : length lists ≡ LISTS
+  done : (ls : List AttList) → Headed long s heads ls → (j : ℕ) → j < k → ListAt long s lists (LIST * j) (attributesOf ls (j + 1))
+  rest : (j : ℕ) → k ≤ j → j < 64 → ListAt long s lists (LIST * j) []
 
 module _ (long : ℕ) (s heads : List ℕ) where
-  pub fills-none : {lists : List ℕ} → lists ≡ replicate 12864 0 → Fills long s heads lists 0
+  pub fills-none : {lists : List ℕ} → lists ≡ replicate LISTS 0 → Fills long s heads lists 0
   fills-none e =
       record {
-        as-long = rw e (length-replicate {A = ℕ} 12864 0);
+        as-long = rw e (length-replicate {A = ℕ} LISTS 0);
         done = λ ls h j l. absurd (omega (arith, l));
-        rest = λ j l m. record { counted = rw e (getD-replicate 12864 (201 * j) 0 0 (omega (arith, m))); few = omega arith; rows = λ i x. absurd (omega (arith, x)) };
+        rest = λ j l m. record { counted = rw e (getD-replicate LISTS (LIST * j) 0 0 (omega (arith, m))); few = omega arith; rows = λ i x. absurd (omega (arith, x)) };
       }
 
-  pub fills-long : {lists : List ℕ} {k : ℕ} → Fills long s heads lists k → length lists ≡ 12864
+  pub fills-long : {lists : List ℕ} {k : ℕ} → Fills long s heads lists k → length lists ≡ LISTS
   fills-long f = f .as-long
 
-  pub fills-all : {lists : List ℕ} {k n : ℕ} → Fills long s heads lists k → n ≤ k → (ls : List AttList) → Headed long s heads ls → (j : ℕ) → j < n → ListAt long s lists (201 * j) (attributesOf ls (j + 1))
+  pub fills-all : {lists : List ℕ} {k n : ℕ} → Fills long s heads lists k → n ≤ k → (ls : List AttList) → Headed long s heads ls → (j : ℕ) → j < n → ListAt long s lists (LIST * j) (attributesOf ls (j + 1))
   fills-all f l ls h j m = f .done ls h j (omega (arith, l, m))
 
   module _ {lists after : List ℕ} {k : ℕ} (m : k < 64) (f : Fills long s heads lists k) {from : ℕ} (head : from ≡ getD heads k 0) (a : Again long s from k lists after) where
-    put : (ls : List AttList) → Headed long s heads ls → Dec (getD heads k 0 ≡ 0) → ListAt long s after (201 * k) (attributesOf ls (k + 1))
+    put : (ls : List AttList) → Headed long s heads ls → Dec (getD heads k 0 ≡ 0) → ListAt long s after (LIST * k) (attributesOf ls (k + 1))
     put ls h (yes z) =
         let e : attributesOf ls (k + 1) ≡ [] = attributes-none (k + 1) ls (h .has k m ∙ ap not (eq-eqb _ _ z)) in
         rw (a .none (head ∙ z), e) (f .rest k (omega arith) m)
     put ls h (no z) = a .there ls (rw head (h .reads k m z))
 
-    done-next : (ls : List AttList) → Headed long s heads ls → (j : ℕ) → j < k + 1 → Dec (j ≡ k) → ListAt long s after (201 * j) (attributesOf ls (j + 1))
+    done-next : (ls : List AttList) → Headed long s heads ls → (j : ℕ) → j < k + 1 → Dec (j ≡ k) → ListAt long s after (LIST * j) (attributesOf ls (j + 1))
     done-next ls h j l (yes q) = rw q (put ls h (ℕ-discrete (getD heads k 0) 0))
-    done-next ls h j l (no q) = a .others (201 * j) (attributesOf ls (j + 1)) (inl (omega (arith, l, q))) (f .done ls h j (omega (arith, l, q)))
+    done-next ls h j l (no q) = a .others (LIST * j) (attributesOf ls (j + 1)) (inl (omega (arith, l, q))) (f .done ls h j (omega (arith, l, q)))
 
     pub fills-turn : Fills long s heads after (k + 1)
     fills-turn =
         record {
           as-long = a .as-long ∙ f .as-long;
           done = λ ls h j l. done-next ls h j l (ℕ-discrete j k);
-          rest = λ j l n. a .others (201 * j) [] (inr (omega (arith, l))) (f .rest j (omega (arith, l)) n);
+          rest = λ j l n. a .others (LIST * j) [] (inr (omega (arith, l))) (f .rest j (omega (arith, l)) n);
         }
 
 -- The table of a type's lists: filled, or empty where no element has a list.
 module _ {long : ℕ} {s heads : List ℕ} {es : List rules.Element} (h : HeadedAs long s heads es) where
-  pub lists-filled : (lists : List ℕ) → ((ls : List AttList) → Headed long s heads ls → (k : ℕ) → k < length es → ListAt long s lists (201 * k) (attributesOf ls (k + 1))) → Lists long s es lists
+  pub lists-filled : (lists : List ℕ) → ((ls : List AttList) → Headed long s heads ls → (k : ℕ) → k < length es → ListAt long s lists (LIST * k) (attributesOf ls (k + 1))) → Lists long s es lists
   lists-filled lists f k l = rw (h .each k l) (f (h .lists) (h .headed) k l)
 
   pub lists-none : length es ≤ 64 → anyIn heads (length es) ≡ false → Lists long s es []

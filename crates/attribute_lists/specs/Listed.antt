@@ -15,6 +15,7 @@ use Rattle.text.specs.declared.Fault.{Fault}
 use Rattle.text.specs.declared.Reached.{Reached}
 use Rattle.text.specs.declared.Reached.the-variants as reached
 use Rattle.text.specs.Refusal.{refusalOf}
+use Rattle.layout.specs.Sizes.{LIST}
 use Rattle.list_table.specs.Lists.{ListAt}
 use Rattle.attribute_lists.specs.declared.ListedRead.{ListedRead}
 use Rattle.attribute_lists.specs.declared.ListedRead.the-variants as listed
@@ -69,5 +70,5 @@ MeetsLists long s heads es (reached.Refused f) x = x ≡ refusalOf f
 pub record Again (long : ℕ) (s : List ℕ) (from k : ℕ) (before after : List ℕ) : Type 0 where
   pub as-long : length after ≡ length before
   pub none : from ≡ 0 → after ≡ before
-  pub there : (ls : List AttList) → HeadRead long s from ls k → ListAt long s after (201 * k) (attributesOf ls (k + 1))
-  pub others : (b : ℕ) (xs : List Attribute) → (b + 201 ≤ 201 * k) ⊎ (201 * k + 201 ≤ b) → ListAt long s before b xs → ListAt long s after b xs
+  pub there : (ls : List AttList) → HeadRead long s from ls k → ListAt long s after (LIST * k) (attributesOf ls (k + 1))
+  pub others : (b : ℕ) (xs : List Attribute) → (b + LIST ≤ LIST * k) ⊎ (LIST * k + LIST ≤ b) → ListAt long s before b xs → ListAt long s after b xs

@@ -14,6 +14,7 @@ ghost use lib.ListN.{length, replicate};
 ghost use Rattle.rules.specs.Attributes.{AttList};
 ghost use Rattle.rules.specs.TypeFile.{sameName, declaredFrom, listedElement, attributeList, attributesOf};
 ghost use Rattle.rules.specs.TypeFile as rules;
+ghost use Rattle.layout.specs.Sizes.{LIST, LISTS};
 ghost use Rattle.element_names.specs.Names.{Recorded, nameAt};
 ghost use Rattle.list_table.specs.Lists.{ListAt};
 ghost use Rattle.list_definitions.specs.ListAs.{ListIn};
@@ -150,7 +151,7 @@ pub fn has_any(heads: &[u16; ELEMENTS], n: usize) -> bool
 
 // Puts the list of the k-th element, from 0, whose head is `from`, into the table. A head that is no place behind a keyword is no type's.
 fn read_again(long: usize, s: &[u8], from: usize, k: usize, lists: &mut [u16])
-    requires { ⌜ (k < 64) × (length (now s) ≤ 32768) × (length (now lists) ≡ 12864) ⌝ }
+    requires { ⌜ (k < 64) × (length (now s) ≤ 32768) × (length (now lists) ≡ LISTS) ⌝ }
     ensures { λ _. ⌜ Again long (now (s .entry)) from k (now (lists .entry)) (now (lists .exit)) ⌝ }
 {
     if from < 3 {
@@ -169,8 +170,8 @@ fn read_again(long: usize, s: &[u8], from: usize, k: usize, lists: &mut [u16])
 
 // Fills the table, which is all 0, with the lists of a type of n elements, each read again from its head on.
 pub fn fill(long: usize, s: &[u8], heads: &[u16; ELEMENTS], n: usize, lists: &mut [u16])
-    requires { ⌜ (n ≤ 64) × (length (now s) ≤ 32768) × (now lists ≡ replicate 12864 0) ⌝ }
-    ensures { λ _. ⌜ ((ls : List AttList) → Headed long (now (s .entry)) (now (heads .entry)) ls → (k : ℕ) → k < n → ListAt long (now (s .entry)) (now (lists .exit)) (201 * k) (attributesOf ls (k + 1))) ⌝ }
+    requires { ⌜ (n ≤ 64) × (length (now s) ≤ 32768) × (now lists ≡ replicate LISTS 0) ⌝ }
+    ensures { λ _. ⌜ ((ls : List AttList) → Headed long (now (s .entry)) (now (heads .entry)) ls → (k : ℕ) → k < n → ListAt long (now (s .entry)) (now (lists .exit)) (LIST * k) (attributesOf ls (k + 1))) ⌝ }
 {
     let mut k = 0;
     while k < n {

@@ -7,12 +7,14 @@ use native.Mathlib.Omega.{arith}
 use lib.ListN.{length, getD, take}
 use lib.Dec.{leb}
 use borrow.Author.Tests.{le-leb}
+use Rattle.rules.specs.Bytes.{ATTCNT}
 use Rattle.rules.specs.Reading.{refused, got}
 use Rattle.rules.specs.Attributes.{DeclaredValue, Attribute, bytesIn, attributeOf, attributeAt, fits}
 use Rattle.rules.specs.Document.{Written}
 use Rattle.rules.specs.Given.{valuePart, valueBytes, isGivenIn, givenFor, noneMissing, attributed}
 use Rattle.text.specs.declared.Fault.{Fault}
 use Rattle.text.specs.Refusal.{refusalOf}
+use Rattle.layout.specs.Sizes.{ATTRIBUTE, MARKS}
 use Rattle.attribute_values.specs.Parts.{DeclaredAs}
 use Rattle.list_table.specs.declared.Row.{Row}
 use Rattle.list_table.specs.Lists.{rowIn, ListAt}
@@ -43,7 +45,7 @@ module _ (long : ℕ) (s l : List ℕ) (b : ℕ) (d : List ℕ) (w : Written) (m
         let g : isGivenIn d before w ≡ true = given ∙ mark-some marks (n - 1) (givenFor s (attributeAt xs (n - 1)) d before) (m (n - 1) (of-some s d (w .at) (w .size) xs n e z .0)) x in
         unlisted (rw g (and-false (leb 1 (attributeOf s xs d (w .at) (w .size)))))
 
-    module _ (whole : length marks ≡ 80) (x : getD marks (2 * (n - 1)) 0 ≡ 0) (row : Row) (q : row ≡ rowIn l (b + 1 + 5 * (n - 1))) where
+    module _ (whole : length marks ≡ MARKS) (x : getD marks (2 * (n - 1)) 0 ≡ 0) (row : Row) (q : row ≡ rowIn l (b + 1 + ATTRIBUTE * (n - 1))) where
       new : isNew s xs d before w ≡ true
       new =
           let g : isGivenIn d before w ≡ false = given ∙ mark-none marks (n - 1) (givenFor s (attributeAt xs (n - 1)) d before) (m (n - 1) (of-some s d (w .at) (w .size) xs n e z .0)) x in
@@ -72,7 +74,7 @@ module _ (long : ℕ) (s l : List ℕ) (b : ℕ) (d : List ℕ) (w : Written) (m
 -- All of a tag.
 module _ (long : ℕ) (s : List ℕ) (xs : List Attribute) (d : List ℕ) (ws : List Written) (marks : List ℕ) where
   -- What is answered of those that are kept is so of all.
-  kept-given : (few : length xs ≤ 40) (f : Fault) → Given long s xs d (take 41 ws) marks f → Given long s xs d ws marks f
+  kept-given : (few : length xs ≤ ATTCNT) (f : Fault) → Given long s xs d (take (ATTCNT + 1) ws) marks f → Given long s xs d ws marks f
   kept-given few f (unlisted at e) = unlisted at (kept-refused s xs d ws e)
   kept-given few f (unfitting at e g) = subst (λ (vs : List Written). Given long s xs d vs marks (record { number = 22; at = at })) (kept-all s xs d ws few e) (unfitting at e g)
   kept-given few f (fitting e g m) = subst (λ (vs : List Written). Given long s xs d vs marks (record { number = 0; at = 0 })) (kept-all s xs d ws few e) (fitting e g m)

@@ -9,6 +9,7 @@ use lib.ListN.{length, take, drop, take-append-drop}
 use lib.Seq.{take-all, length-take-le}
 use lib.Dec.{leb}
 use borrow.Author.Tests.{leb-true}
+use Rattle.rules.specs.Bytes.{ATTCNT}
 use Rattle.rules.specs.Reading.{Reading, refused, got, andThen}
 use Rattle.rules.specs.Attributes.{Attribute, isCalled, attributeFrom, attributeOf}
 use Rattle.rules.specs.TypeFile.{sameName}
@@ -148,13 +149,13 @@ module _ (s : List ℕ) (xs : List Attribute) (d : List ℕ) where
       omega (arith, counted-more s d bs w 1 xs (leb-true _ _ l) (not-true (isGivenIn d bs w) g), listed-counted (w ∷ bs) ws (rw (allListed, n) at e)))
       (λ n. absurd (refused≢got (rw (allListed, n) at e)))
 
-  -- Of the attributes of a tag that has more than a list may have, the first 41 are refused as all are; otherwise they are all.
-  pub kept-all : (ws : List Written) → length xs ≤ 40 → allListed s xs d [] (take 41 ws) ≡ got tt → take 41 ws ≡ ws
-  kept-all ws few e = by-length (decLe (length ws) 41)
+  -- Of the attributes of a tag that has more than a list may have, the first ATTCNT + 1 are refused as all are; otherwise they are all.
+  pub kept-all : (ws : List Written) → length xs ≤ ATTCNT → allListed s xs d [] (take (ATTCNT + 1) ws) ≡ got tt → take (ATTCNT + 1) ws ≡ ws
+  kept-all ws few e = by-length (decLe (length ws) (ATTCNT + 1))
     where
-      by-length : Dec (length ws ≤ 41) → take 41 ws ≡ ws
-      by-length (yes h) = take-all 41 ws h
-      by-length (no h) = absurd (omega (arith, h, length-take-le 41 ws (omega arith), listed-counted [] (take 41 ws) e, few))
+      by-length : Dec (length ws ≤ ATTCNT + 1) → take (ATTCNT + 1) ws ≡ ws
+      by-length (yes h) = take-all (ATTCNT + 1) ws h
+      by-length (no h) = absurd (omega (arith, h, length-take-le (ATTCNT + 1) ws (omega arith), listed-counted [] (take (ATTCNT + 1) ws) e, few))
 
-  pub kept-refused : (ws : List Written) {n p : ℕ} → allListed s xs d [] (take 41 ws) ≡ refused n p → allListed s xs d [] ws ≡ refused n p
-  kept-refused ws e = ap (allListed s xs d []) (sym (take-append-drop 41 ws)) ∙ listed-refused s xs d (take 41 ws) (drop 41 ws) e
+  pub kept-refused : (ws : List Written) {n p : ℕ} → allListed s xs d [] (take (ATTCNT + 1) ws) ≡ refused n p → allListed s xs d [] ws ≡ refused n p
+  kept-refused ws e = ap (allListed s xs d []) (sym (take-append-drop (ATTCNT + 1) ws)) ∙ listed-refused s xs d (take (ATTCNT + 1) ws) (drop (ATTCNT + 1) ws) e

@@ -7,10 +7,12 @@ use native.Mathlib.Decide.{ℕ-discrete}
 use native.Mathlib.Omega.{arith}
 use lib.ListN.{length, getD, set, length-set}
 use lib.Seq.{getD-set-same, getD-set-other}
+use Rattle.rules.specs.Bytes.{ATTCNT}
 use Rattle.rules.specs.Attributes.{Attribute, isCalled, attributeAt}
 use Rattle.rules.specs.Document.{Written}
 use Rattle.rules.specs.Given.{isGivenIn, givenFor}
 use Rattle.model_sets.specs.Bits.{bool-cases}
+use Rattle.layout.specs.Sizes.{MARKS}
 use Rattle.attribute_marks.specs.Called.{called-alike}
 use Rattle.attribute_marks.specs.Differ.{NamesDiffer, called-once}
 use Rattle.attribute_marks.specs.Marks.{MarkedAs, Marked}
@@ -62,7 +64,7 @@ as-other marks after k [] e f m = e ∙ m
 as-other marks after k (w ∷ ws) e f m = (e ∙ m .0, f ∙ m .1)
 
 -- One more is marked, which is called like the k-th attribute, of which there was none.
-pub marked-more : (s : List ℕ) (xs : List Attribute) (d : List ℕ) (before : List Written) (w : Written) (marks : List ℕ) (k : ℕ) → length marks ≡ 80 → length xs ≤ 40 → NamesDiffer s xs → Marked s xs d before marks
+pub marked-more : (s : List ℕ) (xs : List Attribute) (d : List ℕ) (before : List Written) (w : Written) (marks : List ℕ) (k : ℕ) → length marks ≡ MARKS → length xs ≤ ATTCNT → NamesDiffer s xs → Marked s xs d before marks
     → k < length xs → isCalled s (attributeAt xs k) d (w .at) (w .size) ≡ true → getD marks (2 * k) 0 ≡ 0 → Marked s xs d (before ++ w ∷ []) (putMark marks k (w .quote + 1) (w .width))
 marked-more s xs d before w marks k long few n m h y z j g = by-same (ℕ-discrete j k)
   where
@@ -87,13 +89,13 @@ marked-more s xs d before w marks k long few n m h y z j g = by-same (ℕ-discre
 
 -- None of the first n attributes is marked.
 pub record Cleared (marks : List ℕ) (n : ℕ) : Type 0 where
-  pub long : length marks ≡ 80
+  pub long : length marks ≡ MARKS
   pub none : (k : ℕ) → k < n → getD marks (2 * k) 0 ≡ 0
 
-pub cleared-first : (marks : List ℕ) → length marks ≡ 80 → Cleared marks 0
+pub cleared-first : (marks : List ℕ) → length marks ≡ MARKS → Cleared marks 0
 cleared-first marks e = record { long = e; none = λ k h. absurd (omega (arith, h)) }
 
-pub cleared-turn : (marks : List ℕ) (n : ℕ) → n < 40 → Cleared marks n → Cleared (set marks (2 * n) 0) (n + 1)
+pub cleared-turn : (marks : List ℕ) (n : ℕ) → n < ATTCNT → Cleared marks n → Cleared (set marks (2 * n) 0) (n + 1)
 cleared-turn marks n l c = record { long = length-set marks (2 * n) 0 ∙ c .long; none = λ k h. by-last k h (ℕ-discrete k n) }
   where
     by-last : (k : ℕ) → k < n + 1 → Dec (k ≡ n) → getD (set marks (2 * n) 0) (2 * k) 0 ≡ 0

@@ -11,6 +11,7 @@ use Rattle.rules.specs.Attributes.{Default, Attribute, attributeAt, isRequired}
 use Rattle.rules.specs.Document.{Written}
 use Rattle.rules.specs.Given.{givenFor, isMissing, noneMissing}
 use Rattle.model_sets.specs.Bits.{bool-cases}
+use Rattle.layout.specs.Sizes.{ATTRIBUTE}
 use Rattle.list_table.specs.declared.Row.{Row}
 use Rattle.list_table.specs.Lists.{rowIn, ListAt}
 use Rattle.list_table.specs.Finds.{required-is, required-not}
@@ -46,21 +47,21 @@ module _ (s d : List ℕ) (at : ℕ) (ws : List Written) where
 
 -- None of the first k attributes of the list at b is required and not marked.
 pub record NoneMissing (l : List ℕ) (b : ℕ) (marks : List ℕ) (k : ℕ) : Type 0 where
-  none : (j : ℕ) → j < k → getD marks (2 * j) 0 ≡ 0 → rowIn l (b + 1 + 5 * j) .default ≡ 0 → ⊥
+  none : (j : ℕ) → j < k → getD marks (2 * j) 0 ≡ 0 → rowIn l (b + 1 + ATTRIBUTE * j) .default ≡ 0 → ⊥
 
 module _ (l : List ℕ) (b : ℕ) (marks : List ℕ) where
   pub missing-first : NoneMissing l b marks 0
   missing-first = record { none = λ j h. absurd (omega (arith, h)) }
 
-  pub missing-turn : (k : ℕ) → NoneMissing l b marks k → (getD marks (2 * k) 0 ≡ 0 → rowIn l (b + 1 + 5 * k) .default ≡ 0 → ⊥) → NoneMissing l b marks (k + 1)
+  pub missing-turn : (k : ℕ) → NoneMissing l b marks k → (getD marks (2 * k) 0 ≡ 0 → rowIn l (b + 1 + ATTRIBUTE * k) .default ≡ 0 → ⊥) → NoneMissing l b marks (k + 1)
   missing-turn k w n = record { none = λ j h. by-last j h (ℕ-discrete j k) }
     where
-      by-last : (j : ℕ) → j < k + 1 → Dec (j ≡ k) → getD marks (2 * j) 0 ≡ 0 → rowIn l (b + 1 + 5 * j) .default ≡ 0 → ⊥
-      by-last j h (yes q) x y = n (ap (λ m. getD marks (2 * m) 0) (sym q) ∙ x) (ap (λ m. rowIn l (b + 1 + 5 * m) .default) (sym q) ∙ y)
+      by-last : (j : ℕ) → j < k + 1 → Dec (j ≡ k) → getD marks (2 * j) 0 ≡ 0 → rowIn l (b + 1 + ATTRIBUTE * j) .default ≡ 0 → ⊥
+      by-last j h (yes q) x y = n (ap (λ m. getD marks (2 * m) 0) (sym q) ∙ x) (ap (λ m. rowIn l (b + 1 + ATTRIBUTE * m) .default) (sym q) ∙ y)
       by-last j h (no q) x y = w .none j (omega (arith, h, q)) x y
 
   module _ (long : ℕ) (s d : List ℕ) (xs : List Attribute) (ws : List Written) (a : ListAt long s l b xs) (m : Marked s xs d ws marks) (at : ℕ) where
-    pub missing-found : (k n : ℕ) (r : Row) → n ≡ length xs → k < n → getD marks (2 * k) 0 ≡ 0 → r ≡ rowIn l (b + 1 + 5 * k) → r .default ≡ 0 → noneMissing s xs d at ws ≡ refused 21 at
+    pub missing-found : (k n : ℕ) (r : Row) → n ≡ length xs → k < n → getD marks (2 * k) 0 ≡ 0 → r ≡ rowIn l (b + 1 + ATTRIBUTE * k) → r .default ≡ 0 → noneMissing s xs d at ws ≡ refused 21 at
     missing-found k n r e h x q z =
         let i : k < length xs = omega (arith, h, e) in
         one-missing s d at ws xs k i

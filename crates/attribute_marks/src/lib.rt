@@ -12,10 +12,12 @@ ghost use mathlib.Core.Bool.{true, false};
 ghost use mathlib.Core.List.{List};
 ghost use Prim.Native.Nat.{ℕ, _+_, _*_, _-_, _≤_, _<_};
 ghost use lib.ListN.{length, getD};
+ghost use Rattle.rules.specs.Bytes.{ATTCNT};
 ghost use Rattle.rules.specs.Reading.{refused, got};
 ghost use Rattle.rules.specs.Attributes.{Attribute};
 ghost use Rattle.rules.specs.Document as rules;
 ghost use Rattle.rules.specs.Given.{attributed, noneMissing};
+ghost use Rattle.layout.specs.Sizes.{LIST, MARKS};
 ghost use Rattle.list_table.specs.Lists.{ListAt};
 ghost use Rattle.tag_attributes.specs.Given.{writtenAs, keptOf, KeptAs, WrittenIn, GivenIn};
 ghost use Rattle.attribute_marks.specs.Differ.{NamesDiffer};
@@ -24,12 +26,12 @@ ghost use Rattle.attribute_marks.specs.Each.{Marks, Given};
 
 // The marks have room for so many numbers.
 fn whole(marks: [u16; MARKS])
-    ensures { λ _. ⌜ length marks ≡ 80 ⌝ }
+    ensures { λ _. ⌜ length marks ≡ MARKS ⌝ }
 {}
 
 // None of the first n attributes is written.
 fn clear(marks: &mut [u16; MARKS], n: usize)
-    requires { ⌜ n ≤ 40 ⌝ }
+    requires { ⌜ n ≤ ATTCNT ⌝ }
     ensures { λ _. ⌜ ((k : ℕ) → k < n → getD (now (marks .exit)) (2 * k) 0 ≡ 0) ⌝ }
 {
     whole(*marks);
@@ -51,7 +53,7 @@ fn mark(
     marks: &mut [u16; MARKS],
 ) -> u32
     requires { ⌜ (1 ≤ e .0) × (e .0 ≤ 64) × (length (now s) ≤ 32768) × (length (now d) ≤ 65535) × WrittenIn (length (now d)) w ⌝ }
-    ensures { λ r. ⌜ ((xs : List Attribute) (before : List rules.Written) → ListAt long (now (s .entry)) (now (lists .entry)) (201 * (e .0 - 1)) xs → NamesDiffer (now (s .entry)) xs → Marked (now (s .entry)) xs (now (d .entry)) before (now (marks .entry)) →
+    ensures { λ r. ⌜ ((xs : List Attribute) (before : List rules.Written) → ListAt long (now (s .entry)) (now (lists .entry)) (LIST * (e .0 - 1)) xs → NamesDiffer (now (s .entry)) xs → Marked (now (s .entry)) xs (now (d .entry)) before (now (marks .entry)) →
         Marks long (now (s .entry)) xs (now (d .entry)) before (writtenAs w) (now (marks .exit)) r) ⌝ }
 {
     let a = list_table::find(s, lists, e, d, w.name, w.size);
@@ -87,8 +89,8 @@ fn marked(
     n: usize,
     marks: &mut [u16; MARKS],
 ) -> Fault
-    requires { ⌜ (1 ≤ e .0) × (e .0 ≤ 64) × (n ≤ 41) × GivenIn (length (now d)) (now given) n × (length (now s) ≤ 32768) × (length (now d) ≤ 65535) ⌝ }
-    ensures { λ r. ⌜ ((xs : List Attribute) → ListAt long (now (s .entry)) (now (lists .entry)) (201 * (e .0 - 1)) xs → NamesDiffer (now (s .entry)) xs → ((k : ℕ) → k < length xs → getD (now (marks .entry)) (2 * k) 0 ≡ 0) →
+    requires { ⌜ (1 ≤ e .0) × (e .0 ≤ 64) × (n ≤ ATTCNT + 1) × GivenIn (length (now d)) (now given) n × (length (now s) ≤ 32768) × (length (now d) ≤ 65535) ⌝ }
+    ensures { λ r. ⌜ ((xs : List Attribute) → ListAt long (now (s .entry)) (now (lists .entry)) (LIST * (e .0 - 1)) xs → NamesDiffer (now (s .entry)) xs → ((k : ℕ) → k < length xs → getD (now (marks .entry)) (2 * k) 0 ≡ 0) →
         Given long (now (s .entry)) xs (now (d .entry)) (keptOf (now (given .entry)) n) (now (marks .exit)) r) ⌝ }
 {
     let mut misfit = 0;
@@ -120,8 +122,8 @@ fn marked(
 
 // Whether an attribute of the element e is required and not marked.
 fn is_missing(lists: &[u16], e: ElementNo, n: usize, marks: &[u16; MARKS]) -> bool
-    requires { ⌜ (1 ≤ e .0) × (e .0 ≤ 64) × (n ≤ 40) ⌝ }
-    ensures { λ r. ⌜ ((long : ℕ) (s d : List ℕ) (xs : List Attribute) (ws : List rules.Written) → ListAt long s (now (lists .entry)) (201 * (e .0 - 1)) xs → n ≡ length xs → Marked s xs d ws (now (marks .entry)) →
+    requires { ⌜ (1 ≤ e .0) × (e .0 ≤ 64) × (n ≤ ATTCNT) ⌝ }
+    ensures { λ r. ⌜ ((long : ℕ) (s d : List ℕ) (xs : List Attribute) (ws : List rules.Written) → ListAt long s (now (lists .entry)) (LIST * (e .0 - 1)) xs → n ≡ length xs → Marked s xs d ws (now (marks .entry)) →
         (at : ℕ) → noneMissing s xs d at ws ≡ elim r [ true ↦ refused 21 at | false ↦ got tt ]) ⌝ }
 {
     let mut k = 0;
@@ -149,8 +151,8 @@ pub fn check(
     at: usize,
     marks: &mut [u16; MARKS],
 ) -> Fault
-    requires { ⌜ (1 ≤ e .0) × (e .0 ≤ 64) × (g ≤ 41) × GivenIn (length (now d)) (now given) g × (length (now s) ≤ 32768) × (length (now d) ≤ 65535) ⌝ }
-    ensures { λ r. ⌜ ((xs : List Attribute) (ws : List rules.Written) → ListAt long (now (s .entry)) (now (lists .entry)) (201 * (e .0 - 1)) xs → NamesDiffer (now (s .entry)) xs → KeptAs (now (given .entry)) g ws →
+    requires { ⌜ (1 ≤ e .0) × (e .0 ≤ 64) × (g ≤ ATTCNT + 1) × GivenIn (length (now d)) (now given) g × (length (now s) ≤ 32768) × (length (now d) ≤ 65535) ⌝ }
+    ensures { λ r. ⌜ ((xs : List Attribute) (ws : List rules.Written) → ListAt long (now (s .entry)) (now (lists .entry)) (LIST * (e .0 - 1)) xs → NamesDiffer (now (s .entry)) xs → KeptAs (now (given .entry)) g ws →
         Attributed (now (s .entry)) xs (now (d .entry)) ws (now (marks .exit)) r (attributed long (now (s .entry)) xs (now (d .entry)) at ws)) ⌝ }
 {
     let n = list_table::count(lists, e);

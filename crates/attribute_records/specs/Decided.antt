@@ -12,6 +12,7 @@ use Rattle.rules.specs.Attributes.{AttList}
 use Rattle.rules.specs.TypeFile.{Element, attributesOf}
 use Rattle.rules.specs.Judge.{Answer, acceptance}
 use Rattle.rules.specs.Listing.{attributeWidth, Lists, refuses, noRoom, accepts}
+use Rattle.layout.specs.Sizes.{LIST}
 use Rattle.numbers.specs.Stores.{standing-fits}
 use Rattle.list_table.specs.Lists.{ListAt}
 use Rattle.list_table.specs.Lists as table
@@ -25,7 +26,7 @@ use Rattle.attribute_records.specs.Recorded.{Holds, PutsLists, ListsUnde
 use Rattle.attribute_records.specs.Numbers.{lists-length}
 
 -- The records of all lists were put, from the table that was filled.
-module _ (long : ℕ) (s heads lists : List ℕ) (n : ℕ) (filled : (ls : List AttList) → Headed long s heads ls → (k : ℕ) → k < n → ListAt long s lists (201 * k) (attributesOf ls (k + 1)))
+module _ (long : ℕ) (s heads lists : List ℕ) (n : ℕ) (filled : (ls : List AttList) → Headed long s heads ls → (k : ℕ) → k < n → ListAt long s lists (LIST * k) (attributesOf ls (k + 1)))
     (numbers bytes numbers′ bytes′ : List ℕ) {r : ℕ} (put : PutsLists lists n numbers bytes numbers′ bytes′ r) (room : ℕ) where
   filled-lists : (es : List Element) → length es ≡ n → HeadedAs long s heads es → table.Lists long s es lists
   filled-lists es e u = lists-filled u lists (λ ls h k l. filled ls h k (omega arith))

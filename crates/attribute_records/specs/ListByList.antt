@@ -10,6 +10,7 @@ use Rattle.rules.specs.Attributes.{Attribute}
 use Rattle.rules.specs.TypeFile.{Element}
 use Rattle.rules.specs.Elements.{elementAt}
 use Rattle.rules.specs.Listing.{attributeNumbers, attributeWidth, listNumbers, attributeCount}
+use Rattle.layout.specs.Sizes.{ATTRIBUTE, LIST}
 use Rattle.numbers.specs.Written.{written}
 use Rattle.numbers.specs.Stores.{bytesOf-append, bytesOf-length, written-fits, written-not, written-keeps, written-none, written-more}
 use Rattle.list_table.specs.declared.Row.{Row}
@@ -88,7 +89,7 @@ puts-then {n = n} {m} {xs} {ys} p e q =
 pub record ListSoFar (lists : List ℕ) (e : ℕ) (numbers bytes : List ℕ) (n : ℕ) (numbers′ bytes′ : List ℕ) (a : ℕ) : Type 0 where
   pub numbers-kept : length numbers′ ≡ length numbers
   pub bytes-kept : length bytes′ ≡ length bytes
-  pub puts : (long : ℕ) (s : List ℕ) (xs : List Attribute) → ListAt long s lists (201 * (e - 1)) xs → a ≤ length xs → Puts numbers bytes n (attributeNumbers e 1 (take a xs)) numbers′ bytes′
+  pub puts : (long : ℕ) (s : List ℕ) (xs : List Attribute) → ListAt long s lists (LIST * (e - 1)) xs → a ≤ length xs → Puts numbers bytes n (attributeNumbers e 1 (take a xs)) numbers′ bytes′
 
 module _ (lists : List ℕ) (e : ℕ) (numbers bytes : List ℕ) (n : ℕ) where
   pub list-first : ListSoFar lists e numbers bytes n numbers bytes 0
@@ -96,7 +97,7 @@ module _ (lists : List ℕ) (e : ℕ) (numbers bytes : List ℕ) (n : ℕ) where
   list-first = record { numbers-kept = refl; bytes-kept = refl; puts = λ long s xs l h. none-put numbers bytes n }
 
   module _ {now now-bytes : List ℕ} {a : ℕ} (w : ListSoFar lists e numbers bytes n now now-bytes a) where
-    pub list-turn : (r : Row) {next next-bytes : List ℕ} → r ≡ rowIn lists (201 * (e - 1) + 1 + 5 * a) → Puts now now-bytes (n + a) (rowNumbers e (a + 1) r) next next-bytes
+    pub list-turn : (r : Row) {next next-bytes : List ℕ} → r ≡ rowIn lists (LIST * (e - 1) + 1 + ATTRIBUTE * a) → Puts now now-bytes (n + a) (rowNumbers e (a + 1) r) next next-bytes
         → ListSoFar lists e numbers bytes n next next-bytes (a + 1)
     list-turn r {next} {next-bytes} i p =
         record {
@@ -110,7 +111,7 @@ module _ (lists : List ℕ) (e : ℕ) (numbers bytes : List ℕ) (n : ℕ) where
               rw more (puts-then so-far (omega arith) p);
         }
 
-    pub list-end : {count : ℕ} → ((long : ℕ) (s : List ℕ) (xs : List Attribute) → 1 ≤ e → ListAt long s lists (201 * (e - 1)) xs → count ≡ length xs) → 1 ≤ e → a ≤ count → count ≤ a → PutsList lists e numbers bytes n now now-bytes (n + a)
+    pub list-end : {count : ℕ} → ((long : ℕ) (s : List ℕ) (xs : List Attribute) → 1 ≤ e → ListAt long s lists (LIST * (e - 1)) xs → count ≡ length xs) → 1 ≤ e → a ≤ count → count ≤ a → PutsList lists e numbers bytes n now now-bytes (n + a)
     list-end {count} counted h i j long s xs l =
         let size = counted long s xs h l in
         (omega arith, rw (take-all a xs (omega arith)) at (w .puts long s xs l (omega arith)))
@@ -148,7 +149,7 @@ module _ (lists numbers bytes : List ℕ) where
       where
         put : (long : ℕ) (s : List ℕ) (es : List Element) → Lists long s es lists → k + 1 ≤ length es → (r ≡ m + length (elementAt es k .attributes)) × Puts now now-bytes m (attributeNumbers (k + 1) 1 (elementAt es k .attributes)) next next-bytes
         put long s es l h =
-            let z : 201 * (k + 1 - 1) ≡ 201 * k = omega arith in
+            let z : LIST * (k + 1 - 1) ≡ LIST * k = omega arith in
             p long s (elementAt es k .attributes) (rw z (l k (omega arith)))
 
     pub lists-end : {n : ℕ} → k ≤ n → n ≤ k → PutsLists lists n numbers bytes now now-bytes m

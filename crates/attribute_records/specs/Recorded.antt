@@ -13,6 +13,7 @@ use Rattle.rules.specs.Attributes.{Attribute}
 use Rattle.rules.specs.TypeFile.{Element}
 use Rattle.rules.specs.Judge.{Answer, refusal, Refuses, Accepts}
 use Rattle.rules.specs.Listing.{attributeNumbers, attributeWidth, listNumbers, attributeCount}
+use Rattle.layout.specs.Sizes.{LIST}
 use Rattle.numbers.specs.Written.{Written}
 use Rattle.list_table.specs.declared.Row.{Row}
 use Rattle.list_table.specs.Lists as table
@@ -50,7 +51,7 @@ pub record Puts (numbers bytes : List ℕ) (n : ℕ) (xs numbers′ bytes′ : L
 -- The records of the list of the element e are put behind n records; there are r then.
 abbrev pub PutsList : (lists : List ℕ) (e : ℕ) (numbers bytes : List ℕ) (n : ℕ) (numbers′ bytes′ : List ℕ) (r : ℕ) → Type 0
 PutsList lists e numbers bytes n numbers′ bytes′ r =
-    (long : ℕ) (s : List ℕ) (xs : List Attribute) → table.ListAt long s lists (201 * (e - 1)) xs → (r ≡ n + length xs) × Puts numbers bytes n (attributeNumbers e 1 xs) numbers′ bytes′
+    (long : ℕ) (s : List ℕ) (xs : List Attribute) → table.ListAt long s lists (LIST * (e - 1)) xs → (r ≡ n + length xs) × Puts numbers bytes n (attributeNumbers e 1 xs) numbers′ bytes′
 
 -- The records of all lists are put, r of them.
 abbrev pub PutsLists : (lists : List ℕ) (n : ℕ) (numbers bytes numbers′ bytes′ : List ℕ) (r : ℕ) → Type 0

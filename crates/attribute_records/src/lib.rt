@@ -10,8 +10,9 @@ use list_table::Row;
 use text::Fault;
 use type_judge::Verdict;
 ghost use mathlib.Core.Path.{_≡_};
-ghost use Prim.Native.Nat.{_+_, _*_, _≤_, _<_};
+ghost use Prim.Native.Nat.{_+_, _*_, _-_, _≤_, _<_};
 ghost use lib.ListN.{length};
+ghost use Rattle.rules.specs.Bytes.{ATTCNT, elementLimit};
 ghost use Rattle.rules.specs.Lent.{numbers, bytes, bytesOf};
 ghost use Rattle.rules.specs.Listing.{attributeWidth, Lists};
 ghost use Rattle.inputs.specs.Checks.{settingsOf};
@@ -38,7 +39,7 @@ fn detail(x: usize, m: usize, y: usize) -> u32
 
 // The nine numbers of the attribute a of the element e.
 fn row_numbers(e: usize, a: usize, r: Row) -> [u32; ATTRIBUTE_RECORD]
-    requires { ⌜ (e ≤ 64) × (a ≤ 40) × Short r ⌝ }
+    requires { ⌜ (e ≤ 64) × (a ≤ ATTCNT) × Short r ⌝ }
     ensures { λ x. ⌜ x ≡ rowNumbers e a r ⌝ }
 {
     [
@@ -76,7 +77,7 @@ fn note_bytes(buffer: &mut [u8], i: usize, row: &[u32])
 
 // The record of the attribute a of the element e, behind n records, to each buffer that it fits. What a buffer holds that is too small for all records is not decided.
 fn put_record(numbers: &mut [u32], bytes: &mut [u8], n: usize, e: usize, a: usize, r: Row)
-    requires { ⌜ (n < 2560) × (e ≤ 64) × (a ≤ 40) × Short r ⌝ }
+    requires { ⌜ (n < ATTCNT * elementLimit) × (e ≤ 64) × (a ≤ ATTCNT) × Short r ⌝ }
     ensures { λ _. ⌜ Puts (now (numbers .entry)) (now (bytes .entry)) n (rowNumbers e a r) (now (numbers .exit)) (now (bytes .exit)) ⌝ }
 {
     let row = row_numbers(e, a, r);
@@ -87,8 +88,8 @@ fn put_record(numbers: &mut [u32], bytes: &mut [u8], n: usize, e: usize, a: usiz
 
 // The records of the attributes of the element e, behind n records; how many there are then.
 fn put_list(lists: &[u16], e: usize, n: usize, numbers: &mut [u32], bytes: &mut [u8]) -> usize
-    requires { ⌜ (1 ≤ e) × (e ≤ 64) × (n ≤ 2520) ⌝ }
-    ensures { λ r. ⌜ PutsList (now (lists .entry)) e (now (numbers .entry)) (now (bytes .entry)) n (now (numbers .exit)) (now (bytes .exit)) r × (r ≤ n + 40) ⌝ }
+    requires { ⌜ (1 ≤ e) × (e ≤ 64) × (n ≤ ATTCNT * (elementLimit - 1)) ⌝ }
+    ensures { λ r. ⌜ PutsList (now (lists .entry)) e (now (numbers .entry)) (now (bytes .entry)) n (now (numbers .exit)) (now (bytes .exit)) r × (r ≤ n + ATTCNT) ⌝ }
 {
     let count = list_table::count(lists, ElementNo(e));
     let mut a = 0;
@@ -103,7 +104,7 @@ fn put_list(lists: &[u16], e: usize, n: usize, numbers: &mut [u32], bytes: &mut 
 // The records of all attributes of the first n elements; how many there are.
 fn put_lists(lists: &[u16], n: usize, numbers: &mut [u32], bytes: &mut [u8]) -> usize
     requires { ⌜ n ≤ 64 ⌝ }
-    ensures { λ r. ⌜ PutsLists (now (lists .entry)) n (now (numbers .entry)) (now (bytes .entry)) (now (numbers .exit)) (now (bytes .exit)) r × (r ≤ 2560) ⌝ }
+    ensures { λ r. ⌜ PutsLists (now (lists .entry)) n (now (numbers .entry)) (now (bytes .entry)) (now (numbers .exit)) (now (bytes .exit)) r × (r ≤ ATTCNT * elementLimit) ⌝ }
 {
     let mut m = 0;
     let mut k = 0;

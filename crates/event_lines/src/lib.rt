@@ -8,6 +8,7 @@ use layout::RECORDS;
 ghost use mathlib.Core.Path.{_≡_};
 ghost use Prim.Native.Nat.{_+_, _*_, _≤_, _<_};
 ghost use lib.ListN.{length, take};
+ghost use Rattle.rules.specs.Bytes.{ATTCNT, elementLimit};
 ghost use Rattle.rules.specs.Printed.{refusedText};
 ghost use Rattle.line_text.specs.Adds.{Adds};
 ghost use Rattle.event_names.specs.Names.{Fits, FitsAttributes};
@@ -25,7 +26,7 @@ fn put_event(
     k: usize,
     n: usize,
 ) -> usize
-    requires { ⌜ (at + 72 ≤ length (now out)) × Fits (now s) (now elements) × (k < n) × (n ≤ 4096) × (total ≤ 2560) × FitsAttributes (now s) (now attributes) total ⌝ }
+    requires { ⌜ (at + 72 ≤ length (now out)) × Fits (now s) (now elements) × (k < n) × (n ≤ 4096) × (total ≤ ATTCNT * elementLimit) × FitsAttributes (now s) (now attributes) total ⌝ }
     ensures { λ r. ⌜ Adds (now (out .entry)) at (now (out .exit)) r (lineAt (now (s .entry)) (now (elements .entry)) (now (attributes .entry)) total (now (numbers .entry)) k n) × (r ≤ at + 72) ⌝ }
 {
     let i = EVENT * k;
@@ -46,7 +47,7 @@ fn put_lines(
     numbers: &[u32; PROGRAM_ROOM],
     n: usize,
 ) -> usize
-    requires { ⌜ (at + 72 * n ≤ length (now out)) × Fits (now s) (now elements) × (n ≤ 4096) × (total ≤ 2560) × FitsAttributes (now s) (now attributes) total ⌝ }
+    requires { ⌜ (at + 72 * n ≤ length (now out)) × Fits (now s) (now elements) × (n ≤ 4096) × (total ≤ ATTCNT * elementLimit) × FitsAttributes (now s) (now attributes) total ⌝ }
     ensures { λ r. ⌜ Adds (now (out .entry)) at (now (out .exit)) r (linesFrom (now (s .entry)) (now (elements .entry)) (now (attributes .entry)) total (now (numbers .entry)) n 0) ⌝ }
 {
     let mut end = at;
@@ -68,7 +69,7 @@ pub fn put_events(
     numbers: &[u32; PROGRAM_ROOM],
     n: usize,
 ) -> usize
-    requires { ⌜ (294984 ≤ length (now out)) × Fits (now s) (now elements) × (n ≤ 4096) × (total ≤ 2560) × FitsAttributes (now s) (now attributes) total ⌝ }
+    requires { ⌜ (294984 ≤ length (now out)) × Fits (now s) (now elements) × (n ≤ 4096) × (total ≤ ATTCNT * elementLimit) × FitsAttributes (now s) (now attributes) total ⌝ }
     ensures { λ r. ⌜ (r ≤ length (now (out .exit))) × (take r (now (out .exit)) ≡ textOf (now (s .entry)) (now (elements .entry)) (now (attributes .entry)) total (now (numbers .entry)) n) ⌝ }
 {
     let a = line_text::put_bytes(out, 0, b"events ");

@@ -8,9 +8,10 @@ use layout::PROGRAM_ROOM;
 use layout::RECORDS;
 ghost use mathlib.Core.Path.{_≡_};
 ghost use mathlib.Core.Bool.{_||_};
-ghost use Prim.Native.Nat.{_+_, _-_, _≤_, _<_};
+ghost use Prim.Native.Nat.{_+_, _-_, _≤_, _<_, _*_};
 ghost use lib.ListN.{length};
 ghost use lib.Dec.{eqb};
+ghost use Rattle.rules.specs.Bytes.{ATTCNT, elementLimit};
 ghost use Rattle.rules.specs.Printed.{word};
 ghost use Rattle.line_text.specs.Adds.{Adds};
 ghost use Rattle.event_names.specs.Names.{Fits, FitsAttributes, nameIn, startsAt, recordOf, attributeIn, namedAt};
@@ -63,7 +64,7 @@ fn starts_next(numbers: &[u32; PROGRAM_ROOM], k: usize, n: usize) -> u32
 
 // The record of the attribute a of the element e; `total` if there is none.
 fn record_of(attributes: &[u32; ATTRIBUTE_RECORDS], total: usize, e: u32, a: u32) -> usize
-    requires { ⌜ total ≤ 2560 ⌝ }
+    requires { ⌜ total ≤ ATTCNT * elementLimit ⌝ }
     ensures { λ r. ⌜ (r ≡ recordOf (now (attributes .entry)) total e a) × (r ≤ total) ⌝ }
 {
     let mut k = 0;
@@ -96,7 +97,7 @@ fn put_attribute(
     e: u32,
     a: u32,
 ) -> usize
-    requires { ⌜ (at + 9 ≤ length (now out)) × (total ≤ 2560) × FitsAttributes (now s) (now attributes) total ⌝ }
+    requires { ⌜ (at + 9 ≤ length (now out)) × (total ≤ ATTCNT * elementLimit) × FitsAttributes (now s) (now attributes) total ⌝ }
     ensures { λ r. ⌜ Adds (now (out .entry)) at (now (out .exit)) r (word (attributeIn (now (s .entry)) (now (attributes .entry)) total e a) 32) × (r ≤ at + 9) ⌝ }
 {
     let k = record_of(attributes, total, counted(e), counted(a));
@@ -122,7 +123,7 @@ pub fn put_named(
     k: usize,
     n: usize,
 ) -> usize
-    requires { ⌜ (at + 9 ≤ length (now out)) × Fits (now s) (now elements) × (k < n) × (n ≤ 4096) × (total ≤ 2560) × FitsAttributes (now s) (now attributes) total ⌝ }
+    requires { ⌜ (at + 9 ≤ length (now out)) × Fits (now s) (now elements) × (k < n) × (n ≤ 4096) × (total ≤ ATTCNT * elementLimit) × FitsAttributes (now s) (now attributes) total ⌝ }
     ensures { λ r. ⌜ Adds (now (out .entry)) at (now (out .exit)) r (word (namedAt (now (s .entry)) (now (elements .entry)) (now (attributes .entry)) total (now (numbers .entry)) k n) 32) × (r ≤ at + 9) ⌝ }
 {
     let i = EVENT * k;

@@ -10,7 +10,7 @@ ghost use mathlib.Core.Path.{_≡_};
 ghost use Prim.Native.Nat.{ℕ};
 ghost use lib.ListN.{length, replicate};
 ghost use Rattle.rules.specs.Settings.{settings};
-ghost use Rattle.layout.specs.Sizes.{INDEX, ROWS, PLACES, FACTS, MEMBERS};
+ghost use Rattle.layout.specs.Sizes.{INDEX, ROWS, PLACES, FACTS, MEMBERS, LISTS};
 ghost use Rattle.type_stage.specs.Stages.{JudgedHeads};
 ghost use Rattle.full_tables.specs.And.{Tells};
 ghost use Rattle.full_tables.specs.Full.{Full};
@@ -45,7 +45,7 @@ pub fn fill(
     members: &mut [u8],
 )
     requires { ⌜ ((edition : ℕ) × JudgedHeads (settings long edition) (now s) (now elements) (now heads) n) ⌝ }
-    requires { ⌜ (now lists ≡ replicate 12864 0) × (now index ≡ replicate INDEX 0) × (now members ≡ replicate MEMBERS 0) ⌝ }
+    requires { ⌜ (now lists ≡ replicate LISTS 0) × (now index ≡ replicate INDEX 0) × (now members ≡ replicate MEMBERS 0) ⌝ }
     requires { ⌜ (now rows ≡ replicate ROWS 0) × (now places ≡ replicate PLACES 0) × (now facts ≡ replicate FACTS 0) ⌝ }
     ensures { λ _. ⌜ ((edition : ℕ) → JudgedHeads (settings long edition) (now (s .entry)) (now (elements .entry)) (now (heads .entry)) n →
         Full (settings long edition) (now (s .entry)) (now (elements .entry)) (now (index .exit)) (now (rows .exit)) (now (places .exit)) (now (facts .exit)) (now (members .exit)) (now (lists .exit))) ⌝ }

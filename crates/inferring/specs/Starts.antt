@@ -5,6 +5,7 @@ use mathlib.Core.List.{List, [], _∷_, _++_, append-assoc, append-nil}
 use native.Mathlib.Omega.{arith}
 use lib.ListN.{length, length-append}
 use borrow.Author.Tests.{le-leb, leb-true}
+use Rattle.rules.specs.Bytes.{ATTCNT}
 use Rattle.rules.specs.TypeFile.{Element}
 use Rattle.rules.specs.Elements.{elementAt}
 use Rattle.rules.specs.Given.{attributeEvents, withAttributes}
@@ -99,7 +100,7 @@ module _ {rows places facts M before : List ℕ} {at n : ℕ} {o : Open} {number
 -- Many starts
 
 -- k of the starts are inferred, and what is left to infer comes to the same as all of them from the first state. What is put are their events, with the
--- attribute events before each: at most 41 for a start.
+-- attribute events before each: at most ATTCNT + 1 for a start.
 pub record Along (rows places facts M lists : List ℕ) (at m₀ starts k : ℕ) (o₀ : Open) (begun₀ numbers₀ bytes₀ : List ℕ) (m : ℕ) (o : Open) (begun numbers bytes : List ℕ) : Type 0 where
   pub most : k ≤ starts
   pub events : List Event
@@ -107,7 +108,7 @@ pub record Along (rows places facts M lists : List ℕ) (at m₀ starts k : ℕ)
   pub written : List Event
   pub puts : Puts numbers₀ bytes₀ m₀ written numbers bytes
   pub counted : m ≡ m₀ + length written
-  pub few : length written ≤ 41 * k
+  pub few : length written ≤ (ATTCNT + 1) * k
   pub deep : o .count ≡ o₀ .count + k
   pub whole : length begun ≡ length begun₀
   pub ranged : Ranged o

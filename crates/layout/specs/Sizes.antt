@@ -1,8 +1,9 @@
 -- The sizes of the tables, by the names that the code has for them.
 use Prim.Native.Nat.{ℕ, _+_, _*_}
 use Rattle.rules.specs.Settings.{mostNameLength}
-use Rattle.rules.specs.Bytes.{GRPGTCNT, elementLimit}
+use Rattle.rules.specs.Bytes.{GRPCNT, GRPGTCNT, ATTCNT, elementLimit}
 use Rattle.rules.specs.Events.{eventWidth}
+use Rattle.rules.specs.Listing.{attributeWidth}
 use Rattle.rules.specs.Printed.{programRoom}
 
 -- Where one can stand in a content model: at its start, or after one of its places.
@@ -78,3 +79,33 @@ BEGUN-WORDS = 3
 
 abbrev pub BEGUN : ℕ
 BEGUN = 25 * BEGUN-WORDS + 1
+
+-- The attributes of an element: how many there are, and five numbers for each.
+abbrev pub ATTRIBUTE : ℕ
+ATTRIBUTE = 5
+
+abbrev pub LIST : ℕ
+LIST = 1 + ATTCNT * ATTRIBUTE
+
+-- Those of all elements.
+abbrev pub LISTS : ℕ
+LISTS = elementLimit * LIST
+
+-- The tokens of the name token groups of one list: of each where it stands and how long it is.
+abbrev pub TOKENS : ℕ
+TOKENS = 2 * GRPCNT * ATTCNT
+
+-- The attributes that a start tag gives, as they are read: four numbers for each of at most one more than a list has.
+abbrev pub WRITTEN : ℕ
+WRITTEN = 4
+
+abbrev pub GIVEN : ℕ
+GIVEN = WRITTEN * (ATTCNT + 1)
+
+-- What a tag gives of the attributes of its element: of each where the value begins and how long it is.
+abbrev pub MARKS : ℕ
+MARKS = 2 * ATTCNT
+
+-- The records of a type's attributes, for a caller.
+abbrev pub ATTRIBUTE-RECORDS : ℕ
+ATTRIBUTE-RECORDS = attributeWidth * ATTCNT * elementLimit

@@ -75,7 +75,7 @@ pub const BEGUN_WORDS: usize = 3;
 
 pub const BEGUN: usize = 25 * BEGUN_WORDS + 1;
 
-// The attributes of an element: how many there are, and five numbers for each of at most 40. All positions of a type file fit 16 bits.
+// The attributes of an element: how many there are, and five numbers for each of at most ATTCNT. All positions of a type file fit 16 bits.
 pub const ATTCNT: usize = 40;
 
 pub const ATTRIBUTE: usize = 5;

@@ -7,7 +7,7 @@ use native.Mathlib.Omega.{arith}
 use lib.ListN.{length, getD, set, length-append}
 use lib.Dec.{eqb, leb}
 use borrow.Author.Tests.{eq-eqb, ne-eqb}
-use Rattle.rules.specs.Bytes.{byteAt, letter}
+use Rattle.rules.specs.Bytes.{byteAt, letter, ATTCNT}
 use Rattle.rules.specs.Reading.{Reading, got, andThen}
 use Rattle.rules.specs.Attributes.{Attribute}
 use Rattle.rules.specs.TypeFile.{gap, unfit, tokensOf, Definition, definition, ListEnd, definitions, listFrom}
@@ -34,7 +34,7 @@ pub record Reads (long : ℕ) (s : List ℕ) (from : ℕ) (list seen : List ℕ)
   pub counted : length xs ≡ n
   pub listed : ListAt long s list 0 xs
   pub parts : partsOf seen m ≡ tokensOf xs
-  due : definitions long s (suc (40 - n)) xs at ≡ listFrom long s from
+  due : definitions long s (suc (ATTCNT - n)) xs at ≡ listFrom long s from
 
 counted-none : (l : List ℕ) → getD (set l 0 0) 0 0 ≡ 0
 counted-none [] = refl
@@ -49,7 +49,7 @@ module _ (long : ℕ) (s : List ℕ) (from : ℕ) (list seen : List ℕ) (n m at
   pub reads-gap : {f : Fault} → gap s at ≡ refusalOf f → listFrom long s from ≡ refusalOf f
   unfolding definitions
   reads-gap {f} q =
-      let e : definitions long s (suc (40 - n)) (r .xs) at ≡ refusalOf f = rw (definitions, q) in
+      let e : definitions long s (suc (ATTCNT - n)) (r .xs) at ≡ refusalOf f = rw (definitions, q) in
       sym (r .due) ∙ e
 
   module _ {i : ℕ} (g : gap s at ≡ got i) {b : ℕ} (byte : b ≡ byteAt s i) {k : Bool} (closed : k ≡ (eqb b 62 && leb 1 n)) where
@@ -59,7 +59,7 @@ module _ (long : ℕ) (s : List ℕ) (from : ℕ) (list seen : List ℕ) (n m at
     pub reads-end : k ≡ true → ListAs long s list (i + 1) (listFrom long s from)
     unfolding definitions
     reads-end h =
-        let e : definitions long s (suc (40 - n)) (r .xs) at ≡ got (record { attributes = r .xs; at = i + 1 }) = rw (definitions, g, andThen, here ∙ h) in
+        let e : definitions long s (suc (ATTCNT - n)) (r .xs) at ≡ got (record { attributes = r .xs; at = i + 1 }) = rw (definitions, g, andThen, here ∙ h) in
         record { attributes = r .xs; read = sym (r .due) ∙ e; listed = r .listed }
 
     pub closed-in : k ≡ true → i < length s
@@ -69,24 +69,24 @@ module _ (long : ℕ) (s : List ℕ) (from : ℕ) (list seen : List ℕ) (n m at
       pub reads-unfit : letter (byteAt s i) ≡ false → listFrom long s from ≡ unfit s i
       unfolding definitions
       reads-unfit l =
-          let e : definitions long s (suc (40 - n)) (r .xs) at ≡ unfit s i = rw (definitions, g, andThen, here ∙ on, l) in
+          let e : definitions long s (suc (ATTCNT - n)) (r .xs) at ≡ unfit s i = rw (definitions, g, andThen, here ∙ on, l) in
           sym (r .due) ∙ e
 
       module _ (l : letter (byteAt s i) ≡ true) where
         pub reads-refused : {f : Fault} → definition long s (r .xs) at i ≡ refusalOf f → listFrom long s from ≡ refusalOf f
         unfolding definitions
         reads-refused {f} q =
-            let e : definitions long s (suc (40 - n)) (r .xs) at ≡ refusalOf f = rw (definitions, g, andThen, here ∙ on, l, q) in
+            let e : definitions long s (suc (ATTCNT - n)) (r .xs) at ≡ refusalOf f = rw (definitions, g, andThen, here ∙ on, l, q) in
             sym (r .due) ∙ e
 
-        pub reads-turn : (now after : List ℕ) (row : Row) (j e : ℕ) → n < 40 → DefinedAs long s after row j e (r .xs) (definition long s (r .xs) at i)
+        pub reads-turn : (now after : List ℕ) (row : Row) (j e : ℕ) → n < ATTCNT → DefinedAs long s after row j e (r .xs) (definition long s (r .xs) at i)
             → ((o : ℕ) (t : List ℕ) (xs : List Attribute) (x : Attribute) → length xs ≡ n → ListAt o t list 0 xs → RowOf o t row x → ListAt o t now 0 (xs ++ x ∷ []))
             → Reads long s from now after (n + 1) j e
         unfolding definitions
         reads-turn now after row j e room d put =
             let a = d .attribute in
-            let left : suc (40 - (n + 1)) ≡ 40 - n = omega (arith, room) in
-            let turn : definitions long s (suc (40 - n)) (r .xs) at ≡ definitions long s (40 - n) (r .xs ++ a ∷ []) e = rw (definitions, g, andThen, here ∙ on, l, d .read) in
+            let left : suc (ATTCNT - (n + 1)) ≡ ATTCNT - n = omega (arith, room) in
+            let turn : definitions long s (suc (ATTCNT - n)) (r .xs) at ≡ definitions long s (ATTCNT - n) (r .xs ++ a ∷ []) e = rw (definitions, g, andThen, here ∙ on, l, d .read) in
             record {
               xs = r .xs ++ a ∷ [];
               counted = length-append (r .xs) (a ∷ []) ∙ ap (λ y. y + 1) (r .counted);
@@ -104,5 +104,5 @@ module _ (long : ℕ) (s seen : List ℕ) (xs : List Attribute) (r : DefinitionR
   pub defined-refused : {f g : Fault} → r ≡ answers.Refused f → g ≡ definitionFault r → x ≡ refusalOf g
   defined-refused q e = (rw q at h) ∙ ap refusalOf (sym (e ∙ ap definitionFault q))
 
-pub defined-within : (m : ℕ) {end i n k e : ℕ} {row : Row} {r : DefinitionRead} → DefinitionFits end i n m r → r ≡ answers.Read row k e → Short row × (n < 40) × (i ≤ e) × (e ≤ end) × (k ≤ m + 32)
+pub defined-within : (m : ℕ) {end i n k e : ℕ} {row : Row} {r : DefinitionRead} → DefinitionFits end i n m r → r ≡ answers.Read row k e → Short row × (n < ATTCNT) × (i ≤ e) × (e ≤ end) × (k ≤ m + 32)
 defined-within m h q = rw q at h

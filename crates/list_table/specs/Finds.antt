@@ -10,8 +10,9 @@ use lib.ListN.{length, getD, set, length-append, length-set}
 use lib.Seq.{getD-set-same, getD-set-other}
 use lib.Dec.{eqb, leb}
 use borrow.Author.Tests.{eq-eqb, ne-eqb, le-leb, lt-leb}
-use Rattle.rules.specs.Bytes.{sameText}
+use Rattle.rules.specs.Bytes.{sameText, ATTCNT}
 use Rattle.rules.specs.Attributes.{Default, required, implied, literal, Attribute, isCalled, attributeFrom, attributeOf, attributeAt, isRequired, needsTag}
+use Rattle.layout.specs.Sizes.{ATTRIBUTE, LIST}
 use Rattle.attribute_defaults.specs.DefaultOf.{defaultIs}
 use Rattle.list_table.specs.declared.Row.{Row}
 use Rattle.list_table.specs.Lists.{rowIn, Short, RowOf, isNamed, ListAt, Copied}
@@ -69,21 +70,21 @@ needs-none (a ∷ xs) f = ap (λ b. b || needsTag xs) (f 0 (omega arith)) ∙ ne
 
 -- None of the first k attributes of the list at b is required.
 pub record NoneRequired (l : List ℕ) (b k : ℕ) : Type 0 where
-  none : (j : ℕ) → j < k → rowIn l (b + 1 + 5 * j) .default ≡ 0 → ⊥
+  none : (j : ℕ) → j < k → rowIn l (b + 1 + ATTRIBUTE * j) .default ≡ 0 → ⊥
 
 module _ (l : List ℕ) (b : ℕ) where
   pub required-first : NoneRequired l b 0
   required-first = record { none = λ j h e. absurd (omega (arith, h)) }
 
-  pub required-turn : (k : ℕ) (r : Row) → NoneRequired l b k → r ≡ rowIn l (b + 1 + 5 * k) → (r .default ≡ 0 → ⊥) → NoneRequired l b (k + 1)
+  pub required-turn : (k : ℕ) (r : Row) → NoneRequired l b k → r ≡ rowIn l (b + 1 + ATTRIBUTE * k) → (r .default ≡ 0 → ⊥) → NoneRequired l b (k + 1)
   required-turn k r w e n = record { none = λ j h. by-last j h (ℕ-discrete j k) }
     where
-      by-last : (j : ℕ) → j < k + 1 → Dec (j ≡ k) → rowIn l (b + 1 + 5 * j) .default ≡ 0 → ⊥
-      by-last j h (yes q) z = n (ap Row.default e ∙ ap (λ m. rowIn l (b + 1 + 5 * m) .default) (sym q) ∙ z)
+      by-last : (j : ℕ) → j < k + 1 → Dec (j ≡ k) → rowIn l (b + 1 + ATTRIBUTE * j) .default ≡ 0 → ⊥
+      by-last j h (yes q) z = n (ap Row.default e ∙ ap (λ m. rowIn l (b + 1 + ATTRIBUTE * m) .default) (sym q) ∙ z)
       by-last j h (no q) z = w .none j (omega (arith, h, q)) z
 
   module _ (long : ℕ) (s : List ℕ) (xs : List Attribute) (a : ListAt long s l b xs) where
-    pub required-found : (k n : ℕ) (r : Row) → n ≡ length xs → k < n → r ≡ rowIn l (b + 1 + 5 * k) → r .default ≡ 0 → true ≡ needsTag xs
+    pub required-found : (k n : ℕ) (r : Row) → n ≡ length xs → k < n → r ≡ rowIn l (b + 1 + ATTRIBUTE * k) → r .default ≡ 0 → true ≡ needsTag xs
     required-found k n r m h e z =
         let o = a .rows k (omega (arith, h, m)) in
         sym (needs-found xs k (omega (arith, h, m)) (ap isRequired (sym (o .default)) ∙ required-is _ _ (sym (ap Row.default e) ∙ z)))
@@ -119,24 +120,24 @@ module _ (s t : List ℕ) (at size : ℕ) where
 
   -- None of the first k rows of the list at b is called so.
   pub record NoneNamed (l : List ℕ) (b k : ℕ) : Type 0 where
-    none : (j : ℕ) → j < k → isNamed s (rowIn l (b + 1 + 5 * j)) t at size ≡ false
+    none : (j : ℕ) → j < k → isNamed s (rowIn l (b + 1 + ATTRIBUTE * j)) t at size ≡ false
 
   module _ (l : List ℕ) (b : ℕ) where
     pub named-first : NoneNamed l b 0
     named-first = record { none = λ j h. absurd (omega (arith, h)) }
 
-    pub named-turn : (k : ℕ) (r : Row) {v : Bool} → NoneNamed l b k → r ≡ rowIn l (b + 1 + 5 * k) → v ≡ isNamed s r t at size → v ≡ false → NoneNamed l b (k + 1)
+    pub named-turn : (k : ℕ) (r : Row) {v : Bool} → NoneNamed l b k → r ≡ rowIn l (b + 1 + ATTRIBUTE * k) → v ≡ isNamed s r t at size → v ≡ false → NoneNamed l b (k + 1)
     named-turn k r w e n z = record { none = λ j h. by-last j h (ℕ-discrete j k) }
       where
-        by-last : (j : ℕ) → j < k + 1 → Dec (j ≡ k) → isNamed s (rowIn l (b + 1 + 5 * j)) t at size ≡ false
-        by-last j h (yes q) = ap (λ m. isNamed s (rowIn l (b + 1 + 5 * m)) t at size) q ∙ ap (λ (x : Row). isNamed s x t at size) (sym e) ∙ sym n ∙ z
+        by-last : (j : ℕ) → j < k + 1 → Dec (j ≡ k) → isNamed s (rowIn l (b + 1 + ATTRIBUTE * j)) t at size ≡ false
+        by-last j h (yes q) = ap (λ m. isNamed s (rowIn l (b + 1 + ATTRIBUTE * m)) t at size) q ∙ ap (λ (x : Row). isNamed s x t at size) (sym e) ∙ sym n ∙ z
         by-last j h (no q) = w .none j (omega (arith, h, q))
 
     module _ (long : ℕ) (xs : List Attribute) (a : ListAt long s l b xs) where
       before : (k : ℕ) → k ≤ length xs → NoneNamed l b k → (j : ℕ) → j < k → isCalled s (attributeAt xs j) t at size ≡ false
       before k h w j g = sym (named-row long _ _ (a .rows j (omega (arith, g, h)))) ∙ w .none j g
 
-      pub named-found : (k n : ℕ) (r : Row) {v : Bool} → n ≡ length xs → k < n → NoneNamed l b k → r ≡ rowIn l (b + 1 + 5 * k) → v ≡ isNamed s r t at size → v ≡ true → k + 1 ≡ attributeOf s xs t at size
+      pub named-found : (k n : ℕ) (r : Row) {v : Bool} → n ≡ length xs → k < n → NoneNamed l b k → r ≡ rowIn l (b + 1 + ATTRIBUTE * k) → v ≡ isNamed s r t at size → v ≡ true → k + 1 ≡ attributeOf s xs t at size
       unfolding attributeOf
       named-found k n r m h w o f z =
           let here : isCalled s (attributeAt xs k) t at size ≡ true = sym (named-row long _ _ (a .rows k (omega (arith, h, m)))) ∙ ap (λ (x : Row). isNamed s x t at size) (sym o) ∙ sym f ∙ z in
@@ -224,11 +225,11 @@ row-alike l m i j f =
     sym (row-is m j (sym first) (sym (f 1 (omega arith))) (sym (f 2 (omega arith))) (sym (f 3 (omega arith))) (sym (f 4 (omega arith))))
 
 -- A further attribute is put behind those of a list.
-pub list-put : (l : List ℕ) (k : ℕ) (r : Row) → length l ≡ 201 → k < 40 → (long : ℕ) (s : List ℕ) (xs : List Attribute) (x : Attribute) → length xs ≡ k → ListAt long s l 0 xs → RowOf long s r x
-    → ListAt long s (set (putRow l (1 + 5 * k) r) 0 (k + 1)) 0 (xs ++ x ∷ [])
+pub list-put : (l : List ℕ) (k : ℕ) (r : Row) → length l ≡ LIST → k < ATTCNT → (long : ℕ) (s : List ℕ) (xs : List Attribute) (x : Attribute) → length xs ≡ k → ListAt long s l 0 xs → RowOf long s r x
+    → ListAt long s (set (putRow l (1 + ATTRIBUTE * k) r) 0 (k + 1)) 0 (xs ++ x ∷ [])
 list-put l k r full room long s xs x m a o =
     record {
-      counted = getD-set-same (putRow l (1 + 5 * k) r) 0 (k + 1) 0 (omega (arith, put-length l (1 + 5 * k) r, full)) ∙ sym (more ∙ omega (arith, m));
+      counted = getD-set-same (putRow l (1 + ATTRIBUTE * k) r) 0 (k + 1) 0 (omega (arith, put-length l (1 + ATTRIBUTE * k) r, full)) ∙ sym (more ∙ omega (arith, m));
       few = omega (arith, more, m, room);
       rows = λ j h. by-last j (omega (arith, h, more, m)) (ℕ-discrete j k);
     }
@@ -237,17 +238,17 @@ list-put l k r full room long s xs x m a o =
     more = length-append xs (x ∷ [])
 
     now : List ℕ
-    now = set (putRow l (1 + 5 * k) r) 0 (k + 1)
+    now = set (putRow l (1 + ATTRIBUTE * k) r) 0 (k + 1)
 
-    by-last : (j : ℕ) → j ≤ k → Dec (j ≡ k) → RowOf long s (rowIn now (1 + 5 * j)) (attributeAt (xs ++ x ∷ []) j)
+    by-last : (j : ℕ) → j ≤ k → Dec (j ≡ k) → RowOf long s (rowIn now (1 + ATTRIBUTE * j)) (attributeAt (xs ++ x ∷ []) j)
     by-last j h (yes q) =
-        let row : rowIn now (1 + 5 * j) ≡ r = ap (λ n. rowIn now (1 + 5 * n)) q ∙ put-row l (1 + 5 * k) r (k + 1) (omega arith) (omega (arith, full, room)) in
+        let row : rowIn now (1 + ATTRIBUTE * j) ≡ r = ap (λ n. rowIn now (1 + ATTRIBUTE * n)) q ∙ put-row l (1 + ATTRIBUTE * k) r (k + 1) (omega arith) (omega (arith, full, room)) in
         let last : attributeAt (xs ++ x ∷ []) j ≡ x = ap (attributeAt (xs ++ x ∷ [])) (q ∙ sym m) ∙ at-last xs x in
-        subst (λ (y : Attribute). RowOf long s (rowIn now (1 + 5 * j)) y) (sym last) (subst (λ (y : Row). RowOf long s y x) (sym row) o)
+        subst (λ (y : Attribute). RowOf long s (rowIn now (1 + ATTRIBUTE * j)) y) (sym last) (subst (λ (y : Row). RowOf long s y x) (sym row) o)
     by-last j h (no q) =
-        let same : rowIn now (1 + 5 * j) ≡ rowIn l (1 + 5 * j) =
-        row-alike l now (1 + 5 * j) (1 + 5 * j) (λ y g. getD-set-other (putRow l (1 + 5 * k) r) 0 (1 + 5 * j + y) (k + 1) 0 (omega arith) ∙ put-before l (1 + 5 * k) r (1 + 5 * j + y) (omega (arith, g, h, q))) in
-        subst (λ (y : Attribute). RowOf long s (rowIn now (1 + 5 * j)) y) (sym (at-before xs x j (omega (arith, h, q, m))))
+        let same : rowIn now (1 + ATTRIBUTE * j) ≡ rowIn l (1 + ATTRIBUTE * j) =
+        row-alike l now (1 + ATTRIBUTE * j) (1 + ATTRIBUTE * j) (λ y g. getD-set-other (putRow l (1 + ATTRIBUTE * k) r) 0 (1 + ATTRIBUTE * j + y) (k + 1) 0 (omega arith) ∙ put-before l (1 + ATTRIBUTE * k) r (1 + ATTRIBUTE * j + y) (omega (arith, g, h, q))) in
+        subst (λ (y : Attribute). RowOf long s (rowIn now (1 + ATTRIBUTE * j)) y) (sym (at-before xs x j (omega (arith, h, q, m))))
         (subst (λ (y : Row). RowOf long s y (attributeAt xs j)) (sym same) (a .rows j (omega (arith, h, q, m))))
 
 -- Lists copied
@@ -277,7 +278,7 @@ module _ (list : List ℕ) (from : ℕ) (before : List ℕ) where
       by-last j g (no q) = getD-set-other after (from + i) (from + j) x 0 (omega (arith, g, q)) ∙ w .there j (omega (arith, g, q))
 
 -- A list that is copied as far as its rows go.
-pub copied : (list : List ℕ) (from : ℕ) (before after : List ℕ) (i n : ℕ) → Copying list from before after i → i ≤ 201 → 1 + 5 * n ≤ i → ((long : ℕ) (s : List ℕ) (xs : List Attribute) → ListAt long s list 0 xs → n ≡ length xs)
+pub copied : (list : List ℕ) (from : ℕ) (before after : List ℕ) (i n : ℕ) → Copying list from before after i → i ≤ LIST → 1 + ATTRIBUTE * n ≤ i → ((long : ℕ) (s : List ℕ) (xs : List Attribute) → ListAt long s list 0 xs → n ≡ length xs)
     → Copied list from before after
 copied list from before after i n w room end counts = record { long = w .long; there = there; others = others }
   where
@@ -290,21 +291,21 @@ copied list from before after i n w room end counts = record { long = w .long; t
           few = a .few;
           rows = λ k h.
               subst (λ (y : Row). RowOf long s y (attributeAt xs k))
-              (sym (row-alike list after (1 + 5 * k) (from + 1 + 5 * k) (λ q g. ap (λ x. getD after x 0) (omega arith) ∙ w .there (1 + 5 * k + q) (omega (arith, g, h, m, end)))))
+              (sym (row-alike list after (1 + ATTRIBUTE * k) (from + 1 + ATTRIBUTE * k) (λ q g. ap (λ x. getD after x 0) (omega arith) ∙ w .there (1 + ATTRIBUTE * k + q) (omega (arith, g, h, m, end)))))
               (a .rows k h);
         }
 
-    others : (long : ℕ) (s : List ℕ) (b : ℕ) (xs : List Attribute) → (b + 201 ≤ from) ⊎ (from + 201 ≤ b) → ListAt long s before b xs → ListAt long s after b xs
+    others : (long : ℕ) (s : List ℕ) (b : ℕ) (xs : List Attribute) → (b + LIST ≤ from) ⊎ (from + LIST ≤ b) → ListAt long s before b xs → ListAt long s after b xs
     others long s b xs o a =
         record {
           counted = same b (omega arith) (omega arith) o ∙ a .counted;
           few = a .few;
           rows = λ k h.
               subst (λ (y : Row). RowOf long s y (attributeAt xs k))
-              (sym (row-alike before after (b + 1 + 5 * k) (b + 1 + 5 * k) (λ q g. same (b + 1 + 5 * k + q) (omega arith) (omega (arith, g, h, a .few)) o)))
+              (sym (row-alike before after (b + 1 + ATTRIBUTE * k) (b + 1 + ATTRIBUTE * k) (λ q g. same (b + 1 + ATTRIBUTE * k + q) (omega arith) (omega (arith, g, h, a .few)) o)))
               (a .rows k h);
         }
       where
-        same : (j : ℕ) → b ≤ j → j < b + 201 → (b + 201 ≤ from) ⊎ (from + 201 ≤ b) → getD after j 0 ≡ getD before j 0
+        same : (j : ℕ) → b ≤ j → j < b + LIST → (b + LIST ≤ from) ⊎ (from + LIST ≤ b) → getD after j 0 ≡ getD before j 0
         same j l h (inl p) = w .below j (omega (arith, h, p))
         same j l h (inr p) = w .above j (omega (arith, l, p, room))

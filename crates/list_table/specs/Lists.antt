@@ -1,4 +1,4 @@
--- The attribute lists of a type as the table holds them: of each element 201 numbers.
+-- The attribute lists of a type as the table holds them: of each element LIST numbers.
 use Prim.Native.Nat.{ℕ, _+_, _*_, _≤_, _<_}
 use mathlib.Core.Path.{_≡_}
 use mathlib.Core.Bool.{Bool, true, false}
@@ -6,10 +6,11 @@ use mathlib.Core.Logic.{_⊎_}
 use mathlib.Core.List.{List}
 use lib.ListN.{length, getD}
 use lib.Dec.{eqb, leb}
-use Rattle.rules.specs.Bytes.{sameText}
+use Rattle.rules.specs.Bytes.{sameText, ATTCNT}
 use Rattle.rules.specs.Attributes.{Attribute, attributeAt}
 use Rattle.rules.specs.TypeFile.{Element}
 use Rattle.rules.specs.Elements.{elementAt}
+use Rattle.layout.specs.Sizes.{ATTRIBUTE, LIST}
 use Rattle.attribute_values.specs.Parts.{DeclaredAs}
 use Rattle.attribute_defaults.specs.DefaultOf.{defaultIs}
 use Rattle.list_table.specs.declared.Row.{Row}
@@ -37,15 +38,15 @@ isNamed s r t at size = elim (eqb (r .size) size) [ true ↦ elim (leb (r .name 
 -- The list that begins at b: how many attributes there are, then a row for each.
 pub record ListAt (long : ℕ) (s l : List ℕ) (b : ℕ) (xs : List Attribute) : Type 0 where
   pub counted : getD l b 0 ≡ length xs
-  pub few : length xs ≤ 40
-  pub rows : (k : ℕ) → k < length xs → RowOf long s (rowIn l (b + 1 + 5 * k)) (attributeAt xs k)
+  pub few : length xs ≤ ATTCNT
+  pub rows : (k : ℕ) → k < length xs → RowOf long s (rowIn l (b + 1 + ATTRIBUTE * k)) (attributeAt xs k)
 
 -- The lists of all elements. An empty table is that of a type in which no element has attributes.
 abbrev pub Lists : ℕ → (s : List ℕ) → List Element → (l : List ℕ) → Type 0
-Lists long s es l = (k : ℕ) → k < length es → ListAt long s l (201 * k) (elementAt es k .attributes)
+Lists long s es l = (k : ℕ) → k < length es → ListAt long s l (LIST * k) (elementAt es k .attributes)
 
 -- One list was put where that of an element stands: what was a list by itself is one there, and all other lists are what they were.
 pub record Copied (list : List ℕ) (from : ℕ) (before after : List ℕ) : Type 0 where
   pub long : length after ≡ length before
   pub there : (long : ℕ) (s : List ℕ) (xs : List Attribute) → ListAt long s list 0 xs → ListAt long s after from xs
-  pub others : (long : ℕ) (s : List ℕ) (b : ℕ) (xs : List Attribute) → (b + 201 ≤ from) ⊎ (from + 201 ≤ b) → ListAt long s before b xs → ListAt long s after b xs
+  pub others : (long : ℕ) (s : List ℕ) (b : ℕ) (xs : List Attribute) → (b + LIST ≤ from) ⊎ (from + LIST ≤ b) → ListAt long s before b xs → ListAt long s after b xs

@@ -24,6 +24,7 @@ use Rattle.document_laws.specs.Decide.{fitsIn, decided}
 use Rattle.document_laws.specs.Under.{under-end, under-blank, under-ignored, under-data, under-undeclared, under-start, under-misgiven}
 use Rattle.type_laws.specs.Names.{numberOf-range}
 use Rattle.text.specs.declared.Fault.{Fault}
+use Rattle.layout.specs.Sizes.{LIST}
 use Rattle.rules_laws.specs.Holds.{got-so}
 use Rattle.rules_laws.specs.Pieces.{TagRead, piece-read, piece-short}
 use Rattle.rules_laws.specs.Runs.{isRun, runEnd, runEnd-in}
@@ -73,7 +74,7 @@ module _ (c : Settings) (s : List ℕ) (es : List Element) (d : List ℕ) (at : 
 
     -- Its list is in the table, and the names in it differ, as in every type.
     pub list-held : (elements index lists given : List ℕ) (n : ℕ) → Indexed s es elements index → Lists (c .nameLength) s es lists → KeptAs given n (t .written) → {marks : List ℕ} {f : Fault}
-        → ((xs : List Attribute) (ws : List Written) → ListAt (c .nameLength) s lists (201 * (x - 1)) xs → NamesDiffer s xs → KeptAs given n ws → Attributed s xs d ws marks f (attributed (c .nameLength) s xs d at ws))
+        → ((xs : List Attribute) (ws : List Written) → ListAt (c .nameLength) s lists (LIST * (x - 1)) xs → NamesDiffer s xs → KeptAs given n ws → Attributed s xs d ws marks f (attributed (c .nameLength) s xs d at ws))
         → Attributed s (elementAt es (x - 1) .attributes) d (t .written) marks f (attributed (c .nameLength) s (elementAt es (x - 1) .attributes) d at (t .written))
     list-held elements index lists given n i l k said =
         let declared : x - 1 < length es = omega (arith, q, numberOf-range s es d (t .name) (t .size)) in

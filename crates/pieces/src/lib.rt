@@ -23,6 +23,7 @@ ghost use mathlib.Core.List.{List};
 ghost use Prim.Native.Nat.{_+_, _*_, _-_, _≤_, _<_};
 ghost use lib.ListN.{length};
 ghost use Rattle.rules.specs.Settings.{settings, mostNameLength};
+ghost use Rattle.rules.specs.Bytes.{ATTCNT};
 ghost use Rattle.rules.specs.TypeFile.{Element};
 ghost use Rattle.rules.specs.Attributes.{Attribute};
 ghost use Rattle.rules.specs.Document as document;
@@ -30,6 +31,7 @@ ghost use Rattle.rules.specs.Elements.{numberOf};
 ghost use Rattle.rules.specs.Given.{attributed};
 ghost use Rattle.rules.specs.Settling as rules;
 ghost use Rattle.rules.specs.Records.{isFresh};
+ghost use Rattle.layout.specs.Sizes.{LIST};
 ghost use Rattle.delimiters.specs.Classes.{Classes};
 ghost use Rattle.tag_attributes.specs.Given.{KeptAs, GivenIn};
 ghost use Rattle.element_index.specs.Indexed.{Indexed};
@@ -80,8 +82,8 @@ fn held(
     at: usize,
     marks: &mut [u16; MARKS],
 ) -> Fault
-    requires { ⌜ (1 ≤ x .0) × (x .0 ≤ 64) × (n ≤ 41) × GivenIn (length (now d)) (now given) n × (length (now s) ≤ 32768) × (length (now d) ≤ 65535) ⌝ }
-    ensures { λ r. ⌜ ((xs : List Attribute) (ws : List document.Written) → ListAt long (now (s .entry)) (now (lists .entry)) (201 * (x .0 - 1)) xs → NamesDiffer (now (s .entry)) xs → KeptAs (now (given .entry)) n ws →
+    requires { ⌜ (1 ≤ x .0) × (x .0 ≤ 64) × (n ≤ ATTCNT + 1) × GivenIn (length (now d)) (now given) n × (length (now s) ≤ 32768) × (length (now d) ≤ 65535) ⌝ }
+    ensures { λ r. ⌜ ((xs : List Attribute) (ws : List document.Written) → ListAt long (now (s .entry)) (now (lists .entry)) (LIST * (x .0 - 1)) xs → NamesDiffer (now (s .entry)) xs → KeptAs (now (given .entry)) n ws →
         Attributed (now (s .entry)) xs (now (d .entry)) ws (now (marks .exit)) r (attributed long (now (s .entry)) xs (now (d .entry)) at ws)) ⌝ }
 {
     if n == 0 {

@@ -1,9 +1,10 @@
 -- Laws of an answer: its numbers are 32-bit numbers.
-use Prim.Native.Nat.{ℕ, _≤_}
+use Prim.Native.Nat.{ℕ, _≤_, _*_}
 use mathlib.Core.Path.{_≡_, ap}
 use mathlib.Core.List.{List}
 use native.Mathlib.Omega.{arith}
 use Rattle.rules.specs.Settings.{Settings}
+use Rattle.rules.specs.Bytes.{ATTCNT, elementLimit}
 use Rattle.rules.specs.Lent.{Lent}
 use Rattle.rules.specs.TypeFile.{Element}
 use Rattle.rules.specs.Judge.{Answer, refusal, acceptance, Refuses, notOffered, tooLong, notAllowed, malformed, repeated, ambiguous, noRoom, Judged}
@@ -50,7 +51,7 @@ verdict-fits l c s before after (Malformed f) h = let i = judged-in h in omega a
 verdict-fits l c s before after (Ambiguous x) h = tt
 
 -- The same for the list of attributes.
-listed-count : {l : Lent} {c : Settings} {s before after : List ℕ} {n : ℕ} → Lists l c s before (acceptance n) after → n ≤ 2560
+listed-count : {l : Lent} {c : Settings} {s before after : List ℕ} {n : ℕ} → Lists l c s before (acceptance n) after → n ≤ ATTCNT * elementLimit
 listed-count (Lists.refuses r z) = absurd (omega (arith, refuses-input r))
 listed-count (Lists.noRoom es w h e z) = absurd (omega (arith, ap (λ (a : Answer). a .input) e))
 listed-count {l} {c} {s} (Lists.accepts es w f e z) =

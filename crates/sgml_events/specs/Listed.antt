@@ -5,12 +5,14 @@ use mathlib.Core.List.{List}
 use native.Mathlib.Omega.{arith}
 use lib.ListN.{length, replicate, length-replicate}
 use Rattle.rules.specs.Settings.{Settings}
+use Rattle.rules.specs.Bytes.{ATTCNT, elementLimit}
 use Rattle.rules.specs.Lent.{numbers, filledWith, zeroed}
 use Rattle.rules.specs.Reading.{Reading, got}
 use Rattle.rules.specs.TypeFile.{Element}
 use Rattle.rules.specs.Judge.{Answer, acceptance, records, Refuses, Accepts, Judged}
 use Rattle.rules.specs.Listing.{attributeCount, listNumbers, Lists}
 use Rattle.rules.specs.Printed.{programSettings}
+use Rattle.layout.specs.Sizes.{ATTRIBUTE-RECORDS}
 use Rattle.rules_laws.specs.Within.{typeFile-count}
 use Rattle.type_laws.specs.Attributes.{typeFile-attributes, attributes-count}
 use Rattle.answer_laws.specs.Judge.{settled-one, refuses-some}
@@ -29,7 +31,7 @@ same-elements {es = es} {fs} a b = go (a .elements) (b .elements)
     go p q = cc
 
 module _ (c : Settings) (s : List ℕ) (es : List Element) (accepted : Accepts c s es) where
-  few : (6 * length es ≤ 384) × (attributeCount es ≤ 2560)
+  few : (6 * length es ≤ 384) × (attributeCount es ≤ ATTCNT * elementLimit)
   few =
       let n = typeFile-count (c .nameLength) s es (accepted .elements) in
       (omega arith, omega (arith, attributes-count (c .nameLength) s es (typeFile-attributes (c .nameLength) s es (accepted .elements))))
@@ -43,14 +45,14 @@ module _ (c : Settings) (s : List ℕ) (es : List Element) (accepted : Accepts c
       let other : Judged numbers c s zeros (acceptance (length es)) (filledWith (records es) zeros) = Judged.accepts es accepted (omega (arith, room, few)) refl refl in
       refuses-some r (ap (λ (x : Answer). x .number) (settled-one judged other .0))
 
-  pub listed-one : (before : List ℕ) (a : Answer) (after : List ℕ) → length before ≡ 23040 → Lists numbers c s before a after → (a ≡ acceptance (attributeCount es)) × (after ≡ filledWith (listNumbers 1 es) before)
+  pub listed-one : (before : List ℕ) (a : Answer) (after : List ℕ) → length before ≡ ATTRIBUTE-RECORDS → Lists numbers c s before a after → (a ≡ acceptance (attributeCount es)) × (after ≡ filledWith (listNumbers 1 es) before)
   listed-one before a after h (Lists.refuses r z) = absurd (not-refused a r)
   listed-one before a after h (Lists.noRoom ds w l e z) = absurd (omega (arith, few, ap attributeCount (same-elements w accepted)))
   listed-one before a after h (Lists.accepts ds w f e z) =
       let same = same-elements w accepted in
       (e ∙ ap (λ (l : List Element). acceptance (attributeCount l)) same, z ∙ ap (λ (l : List Element). filledWith (listNumbers 1 l) before) same)
 
-module _ (s before : List ℕ) (lent : length before ≡ 23040) (es : List Element) (accepted : Accepts programSettings s es) {a : Answer} {after : List ℕ} (l : Lists numbers programSettings s before a after) where
+module _ (s before : List ℕ) (lent : length before ≡ ATTRIBUTE-RECORDS) (es : List Element) (accepted : Accepts programSettings s es) {a : Answer} {after : List ℕ} (l : Lists numbers programSettings s before a after) where
   pub listed-in : (t : ℕ) → a ≡ acceptance t → ListedIn s after t
   listed-in t e = rw (counted es accepted) (
       record {

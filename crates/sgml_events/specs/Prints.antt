@@ -1,9 +1,10 @@
 -- What is put for a document that is accepted, and which inputs are printed for.
-use Prim.Native.Nat.{ℕ, _≤_, _<_}
+use Prim.Native.Nat.{ℕ, _≤_, _<_, _*_}
 use mathlib.Core.Path.{_≡_}
 use mathlib.Core.List.{List, _++_}
 use mathlib.Core.Logic.{_⊎_}
 use lib.ListN.{length}
+use Rattle.rules.specs.Bytes.{ATTCNT, elementLimit}
 use Rattle.rules.specs.TypeFile.{Element}
 use Rattle.rules.specs.Judge.{Accepts}
 use Rattle.rules.specs.Events.{Event}
@@ -17,7 +18,7 @@ Accepted s = (es : List Element) × Accepts programSettings s es
 
 -- The table begins with the records of the attributes, so many, and gives their names.
 pub record ListedIn (s attributes : List ℕ) (total : ℕ) : Type 0 where
-  pub few : total ≤ 2560
+  pub few : total ≤ ATTCNT * elementLimit
   pub fits : FitsAttributes s attributes total
   pub named : (es : List Element) → Accepts programSettings s es → (e a : ℕ) → attributeIn s attributes total e a ≡ attributeText s es e a
 

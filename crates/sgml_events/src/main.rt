@@ -13,6 +13,7 @@ ghost use Prim.Native.Nat.{_≤_};
 ghost use lib.ListN.{length, take};
 ghost use Rattle.io.specs.Counts.{Counts};
 ghost use Rattle.rules.specs.Printed.{programSettings, Prints};
+ghost use Rattle.layout.specs.Sizes.{ATTRIBUTE-RECORDS};
 ghost use Rattle.inputs.specs.Checks.{settingsOf};
 ghost use Rattle.sgml_events.specs.Prints.{Accepted, ListedIn, EventsPut, Whole};
 
@@ -28,7 +29,7 @@ fn given() -> Settings
 
 // How many attributes a type has that is accepted, and their records.
 fn listed(s: &[u8], attributes: &mut [u32; ATTRIBUTE_RECORDS]) -> usize
-    requires { ⌜ Accepted (now s) × (length (now attributes) ≡ 23040) ⌝ }
+    requires { ⌜ Accepted (now s) × (length (now attributes) ≡ ATTRIBUTE-RECORDS) ⌝ }
     ensures { λ r. ⌜ ListedIn (now (s .entry)) (now (attributes .exit)) r ⌝ }
 {
     let v = attribute_records::list(given(), s, attributes);

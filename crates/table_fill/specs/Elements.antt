@@ -15,7 +15,7 @@ use Rattle.rules.specs.Attributes.{Attribute, needsTag}
 use Rattle.rules.specs.TypeFile.{Place, Content, empty, model, Element, element}
 use Rattle.rules.specs.Judge.{Accepts, placeAt}
 use Rattle.rules.specs.Elements.{elementAt, contentOf, placesIn, hasModel}
-use Rattle.layout.specs.Sizes.{FACT, FACTS}
+use Rattle.layout.specs.Sizes.{FACT, FACTS, LIST}
 use Rattle.model_sets.specs.Sets.{size}
 use Rattle.and_laws.specs.Numbers.{Guarded, has-range}
 use Rattle.rules_laws.specs.Groups.{GuardedIn}
@@ -51,7 +51,7 @@ use Rattle.table_fill.specs.Names.{IsName, NamesFit, PlacesDue}
 
 -- What is kept of the start of the element e: 1 where it may be inferred, by its record and its list.
 pub record StartFact (elements lists : List ℕ) (e n : ℕ) : Type 0 where
-  pub is : (long : ℕ) (s : List ℕ) (xs : List Attribute) → ListAt long s lists (201 * (e - 1)) xs → eqb n 1 ≡ (eqb (getD elements (6 * (e - 1) + 2) 0) 1 && not (needsTag xs))
+  pub is : (long : ℕ) (s : List ℕ) (xs : List Attribute) → ListAt long s lists (LIST * (e - 1)) xs → eqb n 1 ≡ (eqb (getD elements (6 * (e - 1) + 2) 0) 1 && not (needsTag xs))
 
 -- That, and whether its end may be omitted and its content, from the record.
 pub record FactsPut (elements lists : List ℕ) (e : ℕ) (F G : List ℕ) : Type 0 where
@@ -59,7 +59,7 @@ pub record FactsPut (elements lists : List ℕ) (e : ℕ) (F G : List ℕ) : Typ
   pub fact : StartFact elements lists e start
   pub put : G ≡ set (set (set F (e * FACT + 65) start) (e * FACT + 66) (getD elements (6 * (e - 1) + 3) 0)) (e * FACT + 67) (getD elements (6 * (e - 1) + 4) 0)
 
-module _ (elements lists : List ℕ) (e : ℕ) {b : Bool} (says : (long : ℕ) (s : List ℕ) (xs : List Attribute) → ListAt long s lists (201 * (e - 1)) xs → b ≡ needsTag xs) where
+module _ (elements lists : List ℕ) (e : ℕ) {b : Bool} (says : (long : ℕ) (s : List ℕ) (xs : List Attribute) → ListAt long s lists (LIST * (e - 1)) xs → b ≡ needsTag xs) where
   pub start-required : b ≡ true → StartFact elements lists e 0
   start-required t = record { is = λ long s xs l. sym (and-false (eqb (getD elements (6 * (e - 1) + 2) 0) 1)) ∙ ap (λ (r : Bool). eqb (getD elements (6 * (e - 1) + 2) 0) 1 && not r) (sym t ∙ says long s xs l) }
 

@@ -1,12 +1,14 @@
--- The attributes that a start tag gives, as the code keeps them: the first 41, four numbers each.
+-- The attributes that a start tag gives, as the code keeps them: the first ATTCNT + 1, four numbers each.
 use Prim.Native.Nat.{ℕ, zero, suc, _+_, _*_, _≤_, _<_}
 use mathlib.Core.Path.{_≡_}
 use mathlib.Core.List.{List, [], _∷_, _++_}
 use lib.ListN.{getD, take}
+use Rattle.rules.specs.Bytes.{ATTCNT}
 use Rattle.rules.specs.Reading.{Reading, got}
 use Rattle.rules.specs.Document as rules
 use Rattle.text.specs.declared.Fault.{Fault}
 use Rattle.text.specs.Refusal.{refusalOf}
+use Rattle.layout.specs.Sizes.{WRITTEN}
 use Rattle.tag_attributes.specs.declared.Written.{Written}
 use Rattle.tag_attributes.specs.declared.WrittenRead.{WrittenRead}
 use Rattle.tag_attributes.specs.declared.WrittenRead.the-variants as writtenRead
@@ -25,7 +27,7 @@ writtenFault (writtenRead.Refused f) = f
 
 -- The four numbers of the n-th, from 0.
 abbrev pub keptIn : List ℕ → (n : ℕ) → Written
-keptIn g n = record { name = getD g (4 * n) 0; size = getD g (4 * n + 1) 0; quote = getD g (4 * n + 2) 0; width = getD g (4 * n + 3) 0 }
+keptIn g n = record { name = getD g (WRITTEN * n) 0; size = getD g (WRITTEN * n + 1) 0; quote = getD g (WRITTEN * n + 2) 0; width = getD g (WRITTEN * n + 3) 0 }
 
 -- Each of them fits 16 bits.
 abbrev pub WrittenFits : Written → Type 0
@@ -36,10 +38,10 @@ unfoldable pub keptOf : List ℕ → (n : ℕ) → List rules.Written
 keptOf g zero = []
 keptOf g (suc n) = keptOf g n ++ writtenAs (keptIn g n) ∷ []
 
--- Of the attributes ws of a tag the first 41 are kept, or all.
+-- Of the attributes ws of a tag the first ATTCNT + 1 are kept, or all.
 pub record KeptAs (g : List ℕ) (n : ℕ) (ws : List rules.Written) : Type 0 where
-  pub few : n ≤ 41
-  pub kept : keptOf g n ≡ take 41 ws
+  pub few : n ≤ ATTCNT + 1
+  pub kept : keptOf g n ≡ take (ATTCNT + 1) ws
 
 -- Name and literal of an attribute stand within so many bytes.
 abbrev pub WrittenIn : (end : ℕ) → Written → Type 0
@@ -49,7 +51,7 @@ WrittenIn end w = (w .name + w .size ≤ end) × (w .quote + w .width + 1 < end)
 abbrev pub GivenIn : (end : ℕ) → List ℕ → (n : ℕ) → Type 0
 GivenIn end g n = (k : ℕ) → k < n → WrittenIn end (keptIn g k)
 
--- One more is kept, behind n others, unless 41 are.
+-- One more is kept, behind n others, unless ATTCNT + 1 are.
 pub record Keeps (g : List ℕ) (n : ℕ) (w : Written) (g′ : List ℕ) (m : ℕ) : Type 0 where
-  pub more : n ≤ 40 → (m ≡ n + 1) × (keptIn g′ n ≡ w) × ((k : ℕ) → k < n → keptIn g′ k ≡ keptIn g k)
-  pub enough : 40 < n → (m ≡ n) × (g′ ≡ g)
+  pub more : n ≤ ATTCNT → (m ≡ n + 1) × (keptIn g′ n ≡ w) × ((k : ℕ) → k < n → keptIn g′ k ≡ keptIn g k)
+  pub enough : ATTCNT < n → (m ≡ n) × (g′ ≡ g)

@@ -10,7 +10,9 @@ use lib.ListN.{length, getD, set, take, length-set, length-append}
 use lib.Seq.{getD-set-same, getD-set-other, take-all, take-append-le, length-take-le}
 use lib.Dec.{ltb}
 use borrow.Author.Tests.{ltb-true, ltb-false}
+use Rattle.rules.specs.Bytes.{ATTCNT}
 use Rattle.rules.specs.Document as rules
+use Rattle.layout.specs.Sizes.{WRITTEN, GIVEN}
 use Rattle.tag_attributes.specs.declared.Written.{Written}
 use Rattle.tag_attributes.specs.Given.{writtenAs, keptIn, keptOf, KeptAs, WrittenIn, GivenIn, Keeps}
 
@@ -62,20 +64,20 @@ module _ (g : List ℕ) (i : ℕ) (w : Written) where
     put-length = getD-set-same g3 (i + 3) (w .width) 0 (omega (arith, room, long3))
 
 module _ (g : List ℕ) (n : ℕ) (w : Written) where
-  pub keeps-more : length g ≡ 164 → n ≤ 40 → Keeps g n w (putWritten g (4 * n) w) (n + 1)
+  pub keeps-more : length g ≡ GIVEN → n ≤ ATTCNT → Keeps g n w (putWritten g (WRITTEN * n) w) (n + 1)
   keeps-more long h =
-      let room : 4 * n + 3 < length g = omega arith in
+      let room : WRITTEN * n + 3 < length g = omega arith in
       record {
         more = λ x. (
           refl,
-          written-is w (put-name g (4 * n) w room) (put-size g (4 * n) w room) (put-quote g (4 * n) w room) (put-length g (4 * n) w room),
-          λ k l. written-is (keptIn g k) (put-before g (4 * n) w (4 * k) (omega (arith, l))) (put-before g (4 * n) w (4 * k + 1) (omega (arith, l))) (put-before g (4 * n) w (4 * k + 2) (omega (arith, l)))
-              (put-before g (4 * n) w (4 * k + 3) (omega (arith, l))),
+          written-is w (put-name g (WRITTEN * n) w room) (put-size g (WRITTEN * n) w room) (put-quote g (WRITTEN * n) w room) (put-length g (WRITTEN * n) w room),
+          λ k l. written-is (keptIn g k) (put-before g (WRITTEN * n) w (WRITTEN * k) (omega (arith, l))) (put-before g (WRITTEN * n) w (WRITTEN * k + 1) (omega (arith, l))) (put-before g (WRITTEN * n) w (WRITTEN * k + 2) (omega (arith, l)))
+              (put-before g (WRITTEN * n) w (WRITTEN * k + 3) (omega (arith, l))),
         );
         enough = λ x. absurd (omega (arith, h, x));
       }
 
-  pub keeps-all : 40 < n → Keeps g n w g n
+  pub keeps-all : ATTCNT < n → Keeps g n w g n
   keeps-all h = record { more = λ x. absurd (omega (arith, h, x)); enough = λ x. (refl, refl) }
 
 -- None yet.
@@ -102,33 +104,33 @@ kept-alike g g′ (suc n) f =
     cc
 
 -- What so many of a list tell of its length.
-take-few : (ws : List rules.Written) → length (take 41 ws) ≤ 40 → take 41 ws ≡ ws
-take-few ws h = by-test (ltb 41 (length ws)) refl
+take-few : (ws : List rules.Written) → length (take (ATTCNT + 1) ws) ≤ ATTCNT → take (ATTCNT + 1) ws ≡ ws
+take-few ws h = by-test (ltb (ATTCNT + 1) (length ws)) refl
   where
-    by-test : (b : Bool) → ltb 41 (length ws) ≡ b → take 41 ws ≡ ws
-    by-test true e = absurd (omega (arith, h, length-take-le 41 ws (omega (arith, ltb-true 41 (length ws) e))))
-    by-test false e = take-all 41 ws (ltb-false 41 (length ws) e)
+    by-test : (b : Bool) → ltb (ATTCNT + 1) (length ws) ≡ b → take (ATTCNT + 1) ws ≡ ws
+    by-test true e = absurd (omega (arith, h, length-take-le (ATTCNT + 1) ws (omega (arith, ltb-true (ATTCNT + 1) (length ws) e))))
+    by-test false e = take-all (ATTCNT + 1) ws (ltb-false (ATTCNT + 1) (length ws) e)
 
-take-many : (ws : List rules.Written) → 40 < length (take 41 ws) → 41 ≤ length ws
-take-many ws h = by-test (ltb (length ws) 41) refl
+take-many : (ws : List rules.Written) → ATTCNT < length (take (ATTCNT + 1) ws) → ATTCNT + 1 ≤ length ws
+take-many ws h = by-test (ltb (length ws) (ATTCNT + 1)) refl
   where
-    by-test : (b : Bool) → ltb (length ws) 41 ≡ b → 41 ≤ length ws
-    by-test true e = omega (arith, h, ap length (take-all 41 ws (omega (arith, ltb-true (length ws) 41 e))), ltb-true (length ws) 41 e)
-    by-test false e = ltb-false (length ws) 41 e
+    by-test : (b : Bool) → ltb (length ws) (ATTCNT + 1) ≡ b → ATTCNT + 1 ≤ length ws
+    by-test true e = omega (arith, h, ap length (take-all (ATTCNT + 1) ws (omega (arith, ltb-true (length ws) (ATTCNT + 1) e))), ltb-true (length ws) (ATTCNT + 1) e)
+    by-test false e = ltb-false (length ws) (ATTCNT + 1) e
 
 -- One more attribute of a tag, which had ws before.
 module _ (g : List ℕ) (n : ℕ) (w : Written) (g′ : List ℕ) (m : ℕ) (x : Keeps g n w g′ m) where
-  by-room : {P : Type 0} → (n ≤ 40 → P) → (40 < n → P) → P
-  by-room {P} f h = by-test (ltb 40 n) refl
+  by-room : {P : Type 0} → (n ≤ ATTCNT → P) → (ATTCNT < n → P) → P
+  by-room {P} f h = by-test (ltb ATTCNT n) refl
     where
-      by-test : (b : Bool) → ltb 40 n ≡ b → P
-      by-test true e = h (ltb-true 40 n e)
-      by-test false e = f (ltb-false 40 n e)
+      by-test : (b : Bool) → ltb ATTCNT n ≡ b → P
+      by-test true e = h (ltb-true ATTCNT n e)
+      by-test false e = f (ltb-false ATTCNT n e)
 
   pub given-more : (end : ℕ) → WrittenIn end w → GivenIn end g n → GivenIn end g′ m
   given-more end i a = by-room (λ h k l. by-last h k (omega (arith, l, x .more h .0)) (ℕ-discrete k n)) (λ h k l. rw (x .enough h .1) (a k (omega (arith, l, x .enough h .0))))
     where
-      by-last : n ≤ 40 → (k : ℕ) → k ≤ n → Dec (k ≡ n) → WrittenIn end (keptIn g′ k)
+      by-last : n ≤ ATTCNT → (k : ℕ) → k ≤ n → Dec (k ≡ n) → WrittenIn end (keptIn g′ k)
       by-last h k l (yes q) = subst (WrittenIn end) (sym (ap (keptIn g′) q ∙ x .more h .1)) i
       by-last h k l (no q) = subst (WrittenIn end) (sym (x .more h .2 k (omega (arith, l, q)))) (a k (omega (arith, l, q)))
 
@@ -136,22 +138,22 @@ module _ (g : List ℕ) (n : ℕ) (w : Written) (g′ : List ℕ) (m : ℕ) (x :
   unfolding keptOf
   kept-more ws a = by-room room full
     where
-      room : n ≤ 40 → KeptAs g′ m (ws ++ writtenAs w ∷ [])
+      room : n ≤ ATTCNT → KeptAs g′ m (ws ++ writtenAs w ∷ [])
       room h =
-          let e : keptOf g n ≡ take 41 ws = a .kept in
-          let all : take 41 ws ≡ ws = take-few ws (omega (arith, kept-length g n, ap length e)) in
+          let e : keptOf g n ≡ take (ATTCNT + 1) ws = a .kept in
+          let all : take (ATTCNT + 1) ws ≡ ws = take-few ws (omega (arith, kept-length g n, ap length e)) in
           let more : length (ws ++ writtenAs w ∷ []) ≡ length ws + 1 = length-append ws (writtenAs w ∷ []) in
           let before : keptOf g′ n ≡ ws = kept-alike g g′ n (x .more h .2) ∙ e ∙ all in
           let last : writtenAs (keptIn g′ n) ≡ writtenAs w = ap writtenAs (x .more h .1) in
           let now : keptOf g′ (suc n) ≡ ws ++ writtenAs w ∷ [] = cc in
-          let short : length (ws ++ writtenAs w ∷ []) ≤ 41 = omega (arith, more, kept-length g n, ap length (e ∙ all)) in
+          let short : length (ws ++ writtenAs w ∷ []) ≤ ATTCNT + 1 = omega (arith, more, kept-length g n, ap length (e ∙ all)) in
           let count : m ≡ suc n = x .more h .0 ∙ add-one n in
-          record { few = omega (arith, count, h); kept = ap (keptOf g′) count ∙ now ∙ sym (take-all 41 (ws ++ writtenAs w ∷ []) short) }
+          record { few = omega (arith, count, h); kept = ap (keptOf g′) count ∙ now ∙ sym (take-all (ATTCNT + 1) (ws ++ writtenAs w ∷ []) short) }
 
-      full : 40 < n → KeptAs g′ m (ws ++ writtenAs w ∷ [])
+      full : ATTCNT < n → KeptAs g′ m (ws ++ writtenAs w ∷ [])
       full h =
-          let e : keptOf g n ≡ take 41 ws = a .kept in
-          let many : 41 ≤ length ws = take-many ws (omega (arith, kept-length g n, ap length e, h)) in
+          let e : keptOf g n ≡ take (ATTCNT + 1) ws = a .kept in
+          let many : ATTCNT + 1 ≤ length ws = take-many ws (omega (arith, kept-length g n, ap length e, h)) in
           let count : m ≡ n = x .enough h .0 in
           let same : g′ ≡ g = x .enough h .1 in
-          record { few = omega (arith, count, a .few); kept = ap (keptOf g′) count ∙ ap (λ (l : List ℕ). keptOf l n) same ∙ e ∙ sym (take-append-le 41 ws (writtenAs w ∷ []) many) }
+          record { few = omega (arith, count, a .few); kept = ap (keptOf g′) count ∙ ap (λ (l : List ℕ). keptOf l n) same ∙ e ∙ sym (take-append-le (ATTCNT + 1) ws (writtenAs w ∷ []) many) }

@@ -5,10 +5,11 @@ use layout::WRITTEN;
 use text::Fault;
 use text::Reached;
 ghost use mathlib.Core.Path.{_≡_};
-ghost use Prim.Native.Nat.{_≤_, _<_};
+ghost use Prim.Native.Nat.{_≤_, _<_, _+_};
 ghost use lib.ListN.{length};
-ghost use Rattle.rules.specs.Bytes.{nameByte, nameEnd};
+ghost use Rattle.rules.specs.Bytes.{nameByte, nameEnd, ATTCNT};
 ghost use Rattle.rules.specs.Document.{specification};
+ghost use Rattle.layout.specs.Sizes.{GIVEN};
 ghost use Rattle.delimiters.specs.Classes.{Classes};
 ghost use Rattle.tag_attributes.specs.Given.{WrittenFits, Keeps, keptIn, writtenOf, writtenFault};
 
@@ -95,12 +96,12 @@ pub fn specification_at(long: usize, classes: &[u8; 256], s: &[u8], i: usize) ->
 
 // There is room for so many numbers.
 fn whole(given: [u16; GIVEN])
-    ensures { λ _. ⌜ length given ≡ 164 ⌝ }
+    ensures { λ _. ⌜ length given ≡ GIVEN ⌝ }
 {}
 
 // The attribute is kept as the n-th of its tag, from 0, unless there are as many as can be told apart.
 pub fn keep(given: &mut [u16; GIVEN], n: usize, w: Written) -> usize
-    requires { ⌜ (n ≤ 41) × WrittenFits w ⌝ }
+    requires { ⌜ (n ≤ ATTCNT + 1) × WrittenFits w ⌝ }
     ensures { λ r. ⌜ Keeps (now (given .entry)) n w (now (given .exit)) r ⌝ }
 {
     if ATTCNT < n {
@@ -117,7 +118,7 @@ pub fn keep(given: &mut [u16; GIVEN], n: usize, w: Written) -> usize
 
 // The n-th attribute that is kept, from 0.
 pub fn kept(given: &[u16; GIVEN], n: usize) -> Written
-    requires { ⌜ n < 41 ⌝ }
+    requires { ⌜ n < ATTCNT + 1 ⌝ }
     ensures { λ r. ⌜ r ≡ keptIn (now (given .entry)) n ⌝ }
 {
     let i = WRITTEN * n;

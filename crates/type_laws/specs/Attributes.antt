@@ -1,4 +1,4 @@
--- The attributes of a type file that was read: at most 40 in a list, with names that stand in the file and are no longer than `long` bytes.
+-- The attributes of a type file that was read: at most ATTCNT in a list, with names that stand in the file and are no longer than `long` bytes.
 use Prim.Native.Nat.{ℕ, _+_, _*_, _≤_}
 use mathlib.Core.Path.{_≡_}
 use mathlib.Core.Logic.{inl, inr}
@@ -42,7 +42,7 @@ module _ (long : ℕ) (s : List ℕ) where
       go [] none = none
       go (d ∷ ds) (more p a) = more (listed-in (d .attributes) p) (go ds a)
 
-  -- All of them are 40 for each element at most.
+  -- All of them are ATTCNT for each element at most.
   pub attributes-count : (es : List Element) → All (λ (e : Element). AttributesIn long s (e .attributes)) es → attributeCount es ≤ ATTCNT * length es
   unfolding attributeCount
   attributes-count [] none = omega arith

@@ -4,6 +4,7 @@ use mathlib.Core.Path.{sym, ap, _∙_}
 use native.Mathlib.Omega.{arith}
 use lib.ListN.{length}
 use borrow.Author.Needs.{needs}
+use Rattle.rules.specs.Bytes.{ATTCNT}
 use Rattle.rules.specs.TypeFile.{declaredValue}
 use Rattle.text.specs.Words.{gap-range, reached-got, reached-refused}
 use Rattle.name_tokens.specs.Tokens.{partsOf}
@@ -132,7 +133,7 @@ returns-6 c =
     let a = c .before .before .before .before .before .before .before .before .before .before .before .before .before .before .before .before .before .before .before .before .before .before .args in
     let o = a .long in
     let s = a .s .now in
-    let n : (a .i ≤ c .before .before .before .before .before .before .before .before .before .before .before .before .before .before .before .before .before .before .a .given .0 .0) × (c .before .before .before .before .before .before .before .before .before .before .before .before .before .before .before .before .before .before .a .given .0 .0 ≤ length s) × (a .n < 40) = name-within (c .before .before .before .before .before .before .before .before .before .before .before .before .before .before .before .before .before .before .before .before .name-at .ensures .1) (c .before .before .before .before .before .before .before .before .before .before .before .before .before .before .before .before .before .before .a .given .1) in
+    let n : (a .i ≤ c .before .before .before .before .before .before .before .before .before .before .before .before .before .before .before .before .before .before .a .given .0 .0) × (c .before .before .before .before .before .before .before .before .before .before .before .before .before .before .before .before .before .before .a .given .0 .0 ≤ length s) × (a .n < ATTCNT) = name-within (c .before .before .before .before .before .before .before .before .before .before .before .before .before .before .before .before .before .before .before .before .name-at .ensures .1) (c .before .before .before .before .before .before .before .before .before .before .before .before .before .before .before .before .before .before .a .given .1) in
     let w : (c .before .before .before .before .before .before .before .before .before .v .given .0 .0 ≤ length s) × (c .before .before .before .before .before .before .before .before .before .before .before .before .before .before .g .given .0 .0 ≤ c .before .before .before .before .before .before .before .before .before .v .given .0 .1 .1 .0) × (c .before .before .before .before .before .before .before .before .before .v .given .0 .1 .1 .0 ≤ length s) × (c .before .before .before .before .before .before .before .before .before .v .given .0 .1 .0 ≤ a .m + 32) = value-within (a .m) (c .before .before .before .before .before .before .before .before .before .before .before .value-at .ensures .1) (c .before .before .before .before .before .before .before .before .before .v .given .1) in
     let d : (c .before .d .given .0 .0 + c .before .d .given .0 .1 .0 ≤ length s) × (c .before .before .before .before .before .h .given .0 .0 < c .before .d .given .0 .1 .1 .0) × (c .before .d .given .0 .1 .1 .0 ≤ length s) = default-within (c .before .before .before .default-at .ensures .1) (c .before .d .given .1) in
     let first : (c .before .before .before .before .before .before .before .before .before .before .before .before .before .before .before .before .before .before .a .given .0 .0 ≤ c .before .before .before .before .before .before .before .before .before .before .before .before .before .before .g .given .0 .0) × (c .before .before .before .before .before .before .before .before .before .before .before .before .before .before .g .given .0 .0 ≤ length s) = gap-range s _ _ (n .1) (reached-got (c .before .before .before .before .before .before .before .before .before .before .before .before .before .before .before .before .gap-end .ensures) (c .before .before .before .before .before .before .before .before .before .before .before .before .before .before .g .given .1)) in

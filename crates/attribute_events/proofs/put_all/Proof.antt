@@ -2,13 +2,14 @@
 use Prim.Native.Nat.{_-_, _≤_}
 use native.Mathlib.Omega.{arith}
 use borrow.Author.Needs.{needs}
+use Rattle.rules.specs.Bytes.{ATTCNT}
 use Rattle.attribute_events.specs.PutBefore.{PutsFirst}
 use Rattle.attribute_events.specs.OneByOne.{holds-some, first-none, first-more, first-all}
 use Rattle.attribute_events.proofs.put_all.Statement.{statement}
 use Rattle.attribute_events.proofs.put_all.Tie as tie
 
 abbrev Inv-loop : tie.InvT-loop
-Inv-loop lists marks e n numbers₀ bytes₀ count m₀ k₀ numbers bytes m k = (k ≤ count) × (count ≤ 40) × PutsFirst lists marks (e .0) k n numbers₀ bytes₀ m numbers bytes
+Inv-loop lists marks e n numbers₀ bytes₀ count m₀ k₀ numbers bytes m k = (k ≤ count) × (count ≤ ATTCNT) × PutsFirst lists marks (e .0) k n numbers₀ bytes₀ m numbers bytes
 
 abbrev μ-loop : tie.MeasureT-loop
 μ-loop lists marks e n numbers₀ bytes₀ count m₀ k₀ numbers bytes m k = count - k

@@ -4,6 +4,7 @@ use mathlib.Core.Path.{sym, _∙_, ap}
 use native.Mathlib.Omega.{arith}
 use lib.ListN.{length, length-replicate}
 use borrow.Author.Needs.{needs}
+use Rattle.layout.specs.Sizes.{LISTS}
 use Rattle.attribute_lists.specs.Heads.{Fills, fills-none, fills-long, fills-turn, fills-all}
 use Rattle.attribute_lists.proofs.fill.Statement.{statement}
 use Rattle.attribute_lists.proofs.fill.Tie as tie
@@ -41,7 +42,7 @@ loop-again c =
     (omega arith, fills-turn (a .long) (a .s .now) (a .heads .now) (omega (arith, c .before .before .before .before .before .before .before .before .before .before .pre, c .before .before .before .before .before .before .loop-test .taken)) (c .before .before .before .before .before .before .before .loop .inv .1) (c .before .before .before .before .short .ensures .0) (c .before .before .read-again .ensures))
 
 same-length : tie.Need-same-length Inv-loop μ-loop
-same-length c = fills-long (c .before .before .before .before .args .long) (c .before .before .before .before .args .s .now) (c .before .before .before .before .args .heads .now) (c .before .loop .inv .1) ∙ sym (ap length (c .before .before .before .before .pre .2) ∙ length-replicate {A = ℕ} 12864 0)
+same-length c = fills-long (c .before .before .before .before .args .long) (c .before .before .before .before .args .s .now) (c .before .before .before .before .args .heads .now) (c .before .loop .inv .1) ∙ sym (ap length (c .before .before .before .before .pre .2) ∙ length-replicate {A = ℕ} LISTS 0)
 
 returns : tie.Need-returns Inv-loop μ-loop
 returns c = fills-all (c .before .before .before .before .args .long) (c .before .before .before .before .args .s .now) (c .before .before .before .before .args .heads .now) (c .before .loop .inv .1) (omega arith)

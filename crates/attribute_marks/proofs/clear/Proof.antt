@@ -2,12 +2,13 @@
 use Prim.Native.Nat.{_-_, _≤_}
 use native.Mathlib.Omega.{arith}
 use borrow.Author.Needs.{needs}
+use Rattle.rules.specs.Bytes.{ATTCNT}
 use Rattle.attribute_marks.specs.Marking.{Cleared, cleared-first, cleared-turn}
 use Rattle.attribute_marks.proofs.clear.Statement.{statement}
 use Rattle.attribute_marks.proofs.clear.Tie as tie
 
 abbrev Inv-loop : tie.InvT-loop
-Inv-loop marks₀ n k₀ marks k = (k ≤ n) × (n ≤ 40) × Cleared marks k
+Inv-loop marks₀ n k₀ marks k = (k ≤ n) × (n ≤ ATTCNT) × Cleared marks k
 
 abbrev μ-loop : tie.MeasureT-loop
 μ-loop marks₀ n k₀ marks k = n - k

@@ -3,13 +3,15 @@ use Prim.Native.Nat.{_*_, _-_, _≤_}
 use mathlib.Core.Logic.{⊎-elim}
 use mathlib.Core.Path.{ap, _∙_}
 use native.Mathlib.Omega.{arith}
+use Rattle.rules.specs.Bytes.{ATTCNT}
+use Rattle.layout.specs.Sizes.{LIST}
 use Rattle.list_table.specs.declared.Row.{Row}
 use Rattle.attribute_marks.specs.Missing.{NoneMissing, missing-first, missing-turn, missing-found, missing-none}
 use Rattle.attribute_marks.proofs.is_missing.Statement.{statement}
 use Rattle.attribute_marks.proofs.is_missing.Tie as tie
 
 abbrev Inv-loop : tie.InvT-loop
-Inv-loop lists e n marks k₀ k = (k ≤ n) × (n ≤ 40) × NoneMissing lists (201 * (e .0 - 1)) marks k
+Inv-loop lists e n marks k₀ k = (k ≤ n) × (n ≤ ATTCNT) × NoneMissing lists (LIST * (e .0 - 1)) marks k
 
 abbrev μ-loop : tie.MeasureT-loop
 μ-loop lists e n marks k₀ k = n - k

@@ -1,14 +1,16 @@
 -- `marked` meets its contract. The invariant: the first k attributes are listed and marked, and the first misfit among them is remembered.
-use Prim.Native.Nat.{_*_, _-_, _≤_}
+use Prim.Native.Nat.{_*_, _-_, _≤_, _+_}
 use mathlib.Core.Logic.{⊎-elim}
 use native.Mathlib.Omega.{arith}
 use lib.ListN.{length}
+use Rattle.rules.specs.Bytes.{ATTCNT}
+use Rattle.layout.specs.Sizes.{LIST}
 use Rattle.attribute_marks.specs.Turns.{right, later, first, kept-in, Going, going-first, going-turn, going-stop, going-misfit, going-end}
 use Rattle.attribute_marks.proofs.marked.Statement.{statement}
 use Rattle.attribute_marks.proofs.marked.Tie as tie
 
 abbrev Inv-loop : tie.InvT-loop
-Inv-loop long s lists d e given n marks₀ misfit₀ k₀ marks misfit k = (k ≤ n) × (n ≤ 41) × Going long s lists (201 * (e .0 - 1)) d given marks₀ k marks misfit
+Inv-loop long s lists d e given n marks₀ misfit₀ k₀ marks misfit k = (k ≤ n) × (n ≤ ATTCNT + 1) × Going long s lists (LIST * (e .0 - 1)) d given marks₀ k marks misfit
 
 abbrev μ-loop : tie.MeasureT-loop
 μ-loop long s lists d e given n marks₀ misfit₀ k₀ marks misfit k = n - k

@@ -1,12 +1,13 @@
 -- `put_lists` puts the records of all lists. The invariant: those of the first elements stand in the buffers.
 use Prim.Native.Nat.{_-_, _*_, _≤_}
 use native.Mathlib.Omega.{arith}
+use Rattle.rules.specs.Bytes.{ATTCNT}
 use Rattle.attribute_records.specs.ListByList.{ListsSoFar, lists-first, lists-turn, lists-end}
 use Rattle.attribute_records.proofs.put_lists.Statement.{statement}
 use Rattle.attribute_records.proofs.put_lists.Tie as tie
 
 abbrev Inv-loop : tie.InvT-loop
-Inv-loop lists n numbers₀ bytes₀ m₀ k₀ numbers bytes m k = ListsSoFar lists numbers₀ bytes₀ numbers bytes k m × (k ≤ n) × (m ≤ 40 * k)
+Inv-loop lists n numbers₀ bytes₀ m₀ k₀ numbers bytes m k = ListsSoFar lists numbers₀ bytes₀ numbers bytes k m × (k ≤ n) × (m ≤ ATTCNT * k)
 
 abbrev μ-loop : tie.MeasureT-loop
 μ-loop lists n numbers₀ bytes₀ m₀ k₀ numbers bytes m k = n - k

@@ -5,7 +5,7 @@ use native.Mathlib.Omega.{arith}
 use lib.ListN.{length}
 use borrow.Author.Needs.{needs}
 use borrow.Author.Tests.{not-true, not-false}
-use Rattle.rules.specs.Bytes.{letter}
+use Rattle.rules.specs.Bytes.{letter, ATTCNT}
 use Rattle.text.specs.Refusal.{refusalOf}
 use Rattle.text.specs.Words.{tested, gap-range, reached-got, reached-refused}
 use Rattle.gaps.specs.Unfit.{unfit-is}
@@ -14,10 +14,10 @@ use Rattle.list_definitions.proofs.definitions_at.Statement.{statement}
 use Rattle.list_definitions.proofs.definitions_at.Tie as tie
 
 abbrev Inv-loop : tie.InvT-loop
-Inv-loop long s from list₀ seen₀ n₀ m₀ at₀ list seen n m at = (3 ≤ from) × (from ≤ at) × (at ≤ length s) × (length s ≤ 32768) × (n ≤ 40) × (m ≤ 32 * n) × Reads long s from list seen n m at
+Inv-loop long s from list₀ seen₀ n₀ m₀ at₀ list seen n m at = (3 ≤ from) × (from ≤ at) × (at ≤ length s) × (length s ≤ 32768) × (n ≤ ATTCNT) × (m ≤ 32 * n) × Reads long s from list seen n m at
 
 abbrev μ-loop : tie.MeasureT-loop
-μ-loop long s from list₀ seen₀ n₀ m₀ at₀ list seen n m at = 41 - n
+μ-loop long s from list₀ seen₀ n₀ m₀ at₀ list seen n m at = ATTCNT + 1 - n
 
 element-write-list : tie.Need-element-write-list Inv-loop μ-loop
 element-write-list c = omega arith
@@ -132,7 +132,7 @@ loop-again c =
     let range : (c .before .before .before .before .before .before .before .before .before .before .before .before .before .before .before .before .before .loop .at ≤ c .before .before .before .before .before .before .before .before .before .before .before .before .before .before .g .given .0 .0) × (c .before .before .before .before .before .before .before .before .before .before .before .before .before .before .g .given .0 .0 ≤ length (a .s .now)) = gap-range (a .s .now) _ _ (c .before .before .before .before .before .before .before .before .before .before .before .before .before .before .before .before .before .loop .inv .2) g in
     let w = defined-within (c .before .before .before .before .before .before .before .before .before .before .before .before .before .before .before .before .before .loop .m) (c .before .before .before .before .before .definition-at .ensures .1) (c .before .before .before .d .given .1) in
     let ends : (c .before .before .before .before .before .before .before .before .before .before .before .before .before .before .g .given .0 .0 ≤ c .before .before .before .d .given .0 .1 .1 .0) × (c .before .before .before .d .given .0 .1 .1 .0 ≤ length (a .s .now)) = (w .2, w .3) in
-    let room : c .before .before .before .before .before .before .before .before .before .before .before .before .before .before .before .before .before .loop .n < 40 = w .1 in
+    let room : c .before .before .before .before .before .before .before .before .before .before .before .before .before .before .before .before .before .loop .n < ATTCNT = w .1 in
     let more : c .before .before .before .d .given .0 .1 .0 ≤ c .before .before .before .before .before .before .before .before .before .before .before .before .before .before .before .before .before .loop .m + 32 = w .4 in (
       i .0,
       omega (arith, i .1, range, ends),

@@ -1,4 +1,4 @@
--- `count` meets its contract: a list has at most 40 attributes.
+-- `count` meets its contract: a list has at most ATTCNT attributes.
 use mathlib.Core.Path.{refl, _∙_}
 use native.Mathlib.Omega.{arith}
 use borrow.Author.Needs.{needs}

@@ -2,12 +2,14 @@
 use Prim.Native.Nat.{_*_, _-_, _≤_}
 use native.Mathlib.Omega.{arith}
 use borrow.Author.Needs.{needs}
+use Rattle.rules.specs.Bytes.{ATTCNT}
+use Rattle.layout.specs.Sizes.{LIST}
 use Rattle.list_table.specs.Finds.{NoneNamed, named-first, named-turn, named-found, named-none}
 use Rattle.list_table.proofs.find.Statement.{statement}
 use Rattle.list_table.proofs.find.Tie as tie
 
 abbrev Inv-loop : tie.InvT-loop
-Inv-loop s lists e t at size n k₀ k = (k ≤ n) × (n ≤ 40) × NoneNamed s t at size lists (201 * (e .0 - 1)) k
+Inv-loop s lists e t at size n k₀ k = (k ≤ n) × (n ≤ ATTCNT) × NoneNamed s t at size lists (LIST * (e .0 - 1)) k
 
 abbrev μ-loop : tie.MeasureT-loop
 μ-loop s lists e t at size n k₀ k = n - k

@@ -2,12 +2,14 @@
 use Prim.Native.Nat.{_*_, _-_, _≤_}
 use native.Mathlib.Omega.{arith}
 use borrow.Author.Needs.{needs}
+use Rattle.rules.specs.Bytes.{ATTCNT}
+use Rattle.layout.specs.Sizes.{LIST}
 use Rattle.list_table.specs.Finds.{NoneRequired, required-first, required-turn, required-found, required-none}
 use Rattle.list_table.proofs.needs_tag.Statement.{statement}
 use Rattle.list_table.proofs.needs_tag.Tie as tie
 
 abbrev Inv-loop : tie.InvT-loop
-Inv-loop lists e n k₀ k = (k ≤ n) × (n ≤ 40) × NoneRequired lists (201 * (e .0 - 1)) k
+Inv-loop lists e n k₀ k = (k ≤ n) × (n ≤ ATTCNT) × NoneRequired lists (LIST * (e .0 - 1)) k
 
 abbrev μ-loop : tie.MeasureT-loop
 μ-loop lists e n k₀ k = n - k

@@ -4,12 +4,13 @@ use mathlib.Core.Path.{_≡_, refl}
 use native.Mathlib.Omega.{arith}
 use lib.ListN.{length}
 use borrow.Author.Needs.{needs}
+use Rattle.layout.specs.Sizes.{LIST, LISTS}
 use Rattle.list_table.specs.Finds.{Copying, copying-first, copying-turn, copied}
 use Rattle.list_table.proofs.put_list.Statement.{statement}
 use Rattle.list_table.proofs.put_list.Tie as tie
 
 abbrev Inv-loop : tie.InvT-loop
-Inv-loop lists₀ k list from end i₀ lists i = (i ≤ end) × (end ≤ 201) × (length lists₀ ≡ 12864) × (from + 201 ≤ 12864) × Copying list from lists₀ lists i
+Inv-loop lists₀ k list from end i₀ lists i = (i ≤ end) × (end ≤ LIST) × (length lists₀ ≡ LISTS) × (from + LIST ≤ LISTS) × Copying list from lists₀ lists i
 
 abbrev μ-loop : tie.MeasureT-loop
 μ-loop lists₀ k list from end i₀ lists i = end - i
@@ -62,7 +63,7 @@ same-length c = c .before .loop .inv .4 .long
 returns : tie.Need-returns Inv-loop μ-loop
 returns c =
     let a = c .before .before .before .before .before .before .before .args in
-    copied (a .list .now) (201 * a .k) (a .lists .now) (c .before .loop .lists) (c .before .loop .i) (c .before .before .count .result) (c .before .loop .inv .4) (omega (arith, c .before .loop .inv .0, c .before .loop .inv .1)) (omega (arith, c .loop-test .left))
+    copied (a .list .now) (LIST * a .k) (a .lists .now) (c .before .loop .lists) (c .before .loop .i) (c .before .before .count .result) (c .before .loop .inv .4) (omega (arith, c .before .loop .inv .0, c .before .loop .inv .1)) (omega (arith, c .loop-test .left))
     (λ o s xs l. c .before .before .count .ensures .0 o s xs (omega arith) l)
 
 pub put-list-spec : {M : Type 1} → statement M

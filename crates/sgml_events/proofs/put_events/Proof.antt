@@ -4,6 +4,7 @@ use mathlib.Core.Path.{refl}
 use native.Mathlib.Omega.{arith}
 use lib.ListN.{length-replicate}
 use borrow.Author.Needs.{needs}
+use Rattle.layout.specs.Sizes.{ATTRIBUTE-RECORDS}
 use Rattle.sgml_events.specs.Table.{judged-given, table-fits, names-are, text-is}
 use Rattle.file_reader.specs.Loading.{counts-of}
 use Rattle.sgml_events.proofs.put_events.Statement.{statement}
@@ -19,7 +20,7 @@ judge-requires : tie.Need-judge-requires
 judge-requires c κs = search needs
 
 listed-requires : tie.Need-listed-requires
-listed-requires c κs = (c .before .before .before .before .before .before .before .pre .1, length-replicate {A = ℕ} 23040 0)
+listed-requires c κs = (c .before .before .before .before .before .before .before .pre .1, length-replicate {A = ℕ} ATTRIBUTE-RECORDS 0)
 
 put-events-requires : tie.Need-put-events-requires
 put-events-requires c κs =
