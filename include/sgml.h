@@ -64,7 +64,7 @@
  * Time.  Every call ends, for any bytes.
  * Threads.  Calls share nothing, so any number may run at once, each with a buffer and an answer of its own. A call may interrupt
  *     another, as from a handler of a signal. It calls nothing of the caller's.
- * Stack.  A call takes at most SGML_STACK_BYTES of stack, whatever its inputs are; sgml_read takes the most.
+ * Stack.  A call takes at most SGML_STACK_BYTES of stack, whatever its inputs are; sgml_read_batch takes the most.
  * Platform.  The library is built for x86-64 with the System V calling convention, and for no other processor today. It needs
  *     memcpy and memset, and no other function of the C library. This header assumes nothing of the byte order.
  * Versions.  The numbers of refusals, fields and kinds stay what they are. A later version may add refusals, kinds of event and
