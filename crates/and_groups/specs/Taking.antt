@@ -1,27 +1,28 @@
 -- A place is taken: the members around it have begun besides those that had, and what blocks is found by the bits after it.
 use Prim.Native.Nat.{ℕ, zero, suc, _+_, _%_, _≤_, _<_}
 use mathlib.Core.Path.{_≡_, refl, sym, _∙_, ap, subst}
-use mathlib.Core.Bool.{Bool, true, _||_}
+use mathlib.Core.Bool.{Bool, true, false, _&&_, _||_, not}
 use mathlib.Core.Logic.{_⊎_, inl, inr}
 use mathlib.Core.List.{List, [], _∷_, _++_}
 use native.Mathlib.Omega.{arith}
 use lib.ListN.{length}
 use Rattle.rules.specs.Walk.{Group, Members}
 use Rattle.layout.specs.Sizes.{MEMBERS}
-use Rattle.model_sets.specs.Sets.{Numbered, size, has, hasM}
+use Rattle.model_sets.specs.Sets.{Numbered, size, has, hasM, lastM}
 use Rattle.and_laws.specs.Base.{mem, mem-right, mem-head}
 use Rattle.and_laws.specs.Sets.{meets, Good}
 use Rattle.and_laws.specs.Numbers.{Guarded, has-range, numbered-good}
 use Rattle.and_laws.specs.Req.{restReq}
+use Rattle.and_laws.specs.Rows.{and-no}
 use Rattle.and_laws.specs.Levels.{blocksIn, loneIn}
 use Rattle.and_laws.specs.Ranked.{count, Level, levels, groupsOf, levels-around, levels-rise, mayBy, may-by}
 use Rattle.and_laws.specs.Taken.{IsLast, last-taken}
-use Rattle.member_laws.specs.Members.{holderAt, Grouped, Chain, Told, begunAt, Marked, AllMarked, Standing, Elsewhere}
+use Rattle.member_laws.specs.Members.{holderAt, AllNoted, Grouped, Chain, Told, begunAt, Marked, AllMarked, AllBegun, Standing, Elsewhere}
 use Rattle.member_laws.specs.Own.{OwnOr0, rest-own}
 use Rattle.member_laws.specs.Numbered.{at-each, each-at}
 use Rattle.member_laws.specs.Inside.{level-has, EachLevel, each-level, IsAround, levels-are, levels-nest}
 use Rattle.member_laws.specs.Around.{isHolder, numbered-small, chain-kept, closed-by, is-holder, meets-more, meets-none}
-use Rattle.member_laws.specs.Running.{taken-begun}
+use Rattle.member_laws.specs.Running.{taken-begun, begun-fine}
 use Rattle.begun_bits.specs.Levels.{Clears}
 use Rattle.and_groups.specs.Takes.{Takes, Follows, Blocked, free, held}
 use Rattle.and_groups.specs.Walks as walks
@@ -94,36 +95,48 @@ rest-small g numbered few p l (i, x) S = go (rest-own (l .members) S)
 
 -- The place is taken
 module _ (M : List ℕ) (level e u p : ℕ) (before now after : List ℕ) (h : ℕ) (ready : Ready M level e u before now) (read : h ≡ holderAt M e p) (enters : Enters M level e (h % 128) now after) where
+  stood : (g : Group) → Numbered g 1 → Guarded g → Told M e g → (taken : List ℕ) → Standing before level M e g u taken → has g p ≡ true → AllStand M after level e g (taken ++ p ∷ [])
+  stood g numbered guarded told taken standing here = stand-more M level e h p now after read enters g (numbered-good g 1 numbered guarded) told taken (ready .stand g told taken standing) here
+
   stands : (g : Group) → Numbered g 1 → Guarded g → Told M e g → (taken : List ℕ) → Standing before level M e g u taken → has g p ≡ true → Standing after level M e g p (taken ++ p ∷ [])
-  stands g numbered guarded told taken standing here =
-      let all = stand-more M level e h p now after read enters g (numbered-good g 1 numbered guarded) told taken (ready .stand g told taken standing) here in
-      record { last = last-taken taken p (has-range g 1 numbered p here .0); marked = λ a. all .marked }
+  stands g numbered guarded told taken standing here = record { last = last-taken taken p (has-range g 1 numbered p here .0); marked = λ a. stood g numbered guarded told taken standing here .marked }
+
+  taken-by : (r : ℕ) → (r ≡ 255) ⊎ (r ≤ 96) → ((g : Group) → Numbered g 1 → Guarded g → size g ≤ 96 → Told M e g → (taken : List ℕ) → Standing before level M e g u taken → has g p ≡ true → Blocked g p (mem (taken ++ p ∷ [])) r) → Takes M level e u p before after r
+  taken-by r small f = record { whole = enters .whole ∙ ready .whole; elsewhere = λ k j x l. enters .elsewhere k j x l ∙ ready .elsewhere k j x l; small = small; stands = stands; blocked = f }
+
+  -- Where every member has begun that cannot be nothing, no group blocks.
+  pub takes-all : AllBegun after level M e → Takes M level e u p before after 255
+  takes-all all =
+      taken-by 255 (inl refl)
+      (λ g numbered guarded few told taken standing here.
+      let S : ℕ → Bool = mem (taken ++ p ∷ []) in
+      free refl (ap (λ (ms : List Members). blocksIn ms p S) (sym (levels-around g 0 p)) ∙ none (told .noted) S (levels g 0 p) (chain-kept M e p true _ (levels g 0 p) (told .places p here)) (stood g numbered guarded told taken standing here .marked p here)))
+    where
+      none : AllNoted M e → (S : ℕ → Bool) (ls : List Level) → EachLevel (Grouped M e) ls → AllMarked after level M e S ls → blocksIn (groupsOf ls) p S ≡ false
+      none noted S [] k m = refl
+      none noted S (l ∷ ls) (k, ks) (m, ms) =
+          ap (λ (b : Bool). lastM (l .members) p && (not b || blocksIn (groupsOf ls) p S)) (begun-fine M e after level S noted all l k m)
+          ∙ ap (λ (b : Bool). lastM (l .members) p && b) (none noted S ls ks ms)
+          ∙ and-no (lastM (l .members) p)
 
   module _ (b : ℕ) (blocks : Blocks M after level e h b) where
     at-block : (g : Group) → Numbered g 1 → Guarded g → Told M e g → (taken : List ℕ) → Standing before level M e g u taken → has g p ≡ true → Blocking M after level e g p (mem (taken ++ p ∷ [])) (levels g 0 p) b
     at-block g numbered guarded told taken standing here =
-        let all = stand-more M level e h p now after read enters g (numbered-good g 1 numbered guarded) told taken (ready .stand g told taken standing) here in
-        blocks .says (told .runs) g p (mem (taken ++ p ∷ [])) (levels g 0 p) (0 + count g) (subst (λ (x : ℕ). Chain M e p true x (levels g 0 p)) (sym read) (told .places p here)) (levels-rise g 0 p) (levels-are g 0 p here) (all .marked p here) (taken-begun M e after level (mem (taken ++ p ∷ [])) g p (mem-right taken (p ∷ []) p (mem-head p [])) (levels g 0 p) (levels-are g 0 p here) (all .marked p here))
+        let marked = stood g numbered guarded told taken standing here .marked p here in
+        blocks .says (told .runs) g p (mem (taken ++ p ∷ [])) (levels g 0 p) (0 + count g) (subst (λ (x : ℕ). Chain M e p true x (levels g 0 p)) (sym read) (told .places p here)) (levels-rise g 0 p) (levels-are g 0 p here) marked (taken-begun M e after level (mem (taken ++ p ∷ [])) g p (mem-right taken (p ∷ []) p (mem-head p [])) (levels g 0 p) (levels-are g 0 p here) marked)
 
-    taken-by : (r : ℕ) → (r ≡ 255) ⊎ (r ≤ 96) → ((g : Group) → Numbered g 1 → size g ≤ 96 → (S : ℕ → Bool) → Blocking M after level e g p S (levels g 0 p) b → Blocked g p S r) → Takes M level e u p before after r
-    taken-by r small f =
-        record {
-          whole = enters .whole ∙ ready .whole;
-          elsewhere = λ k j x l. enters .elsewhere k j x l ∙ ready .elsewhere k j x l;
-          small = small;
-          stands = stands;
-          blocked = λ g numbered guarded few told taken standing here. f g numbered few (mem (taken ++ p ∷ [])) (at-block g numbered guarded told taken standing here);
-        }
+    walked : (r : ℕ) → (r ≡ 255) ⊎ (r ≤ 96) → ((g : Group) → Numbered g 1 → size g ≤ 96 → (S : ℕ → Bool) → Blocking M after level e g p S (levels g 0 p) b → Blocked g p S r) → Takes M level e u p before after r
+    walked r small f = taken-by r small (λ g numbered guarded few told taken standing here. f g numbered few (mem (taken ++ p ∷ [])) (at-block g numbered guarded told taken standing here))
 
     pub takes-free : b ≡ 0 → Takes M level e u p before after 255
-    takes-free z = taken-by 255 (inl refl) (λ g numbered few S. go g S)
+    takes-free z = walked 255 (inl refl) (λ g numbered few S. go g S)
       where
         go : (g : Group) (S : ℕ → Bool) → Blocking M after level e g p S (levels g 0 p) b → Blocked g p S 255
         go g S (walks.free x y) = free refl (ap (λ (ms : List Members). blocksIn ms p S) (sym (levels-around g 0 p)) ∙ y)
         go g S (walks.held some l i kept marked is x y) = absurd (omega arith)
 
     pub takes-held : (b ≡ 0 → ⊥) → (r : ℕ) → Due M after level e b r → Takes M level e u p before after r
-    takes-held n r due = taken-by r (inr (due .small)) (λ g numbered few S. go g numbered few S)
+    takes-held n r due = walked r (inr (due .small)) (λ g numbered few S. go g numbered few S)
       where
         go : (g : Group) → Numbered g 1 → size g ≤ 96 → (S : ℕ → Bool) → Blocking M after level e g p S (levels g 0 p) b → Blocked g p S r
         go g numbered few S (walks.free x y) = absurd (n x)

@@ -2,9 +2,9 @@
 // which place is required.
 //
 // A walk outwards goes on only to a group of a higher number, so that it ends whatever the table holds: groups count in the order of their ")". It goes past a
-// run of groups at once, each of which is in the next: all of them are entered, or lack nothing. Where the
-// table tells no model, or the bits are not those of the places taken in it, what `take` and `may_follow` answer is not decided, but that `take` answers 255 or
-// at most 96 and leaves the bits of every other level.
+// run of groups at once, each of which is in the next: all of them are entered, or lack nothing. Where every member has begun that cannot be nothing, no group
+// lacks anything, and `take` walks through none to find that out. Where the table tells no model, or the bits are not those of the places taken in it, what
+// `take` and `may_follow` answer is not decided, but that `take` answers 255 or at most 96 and leaves the bits of every other level.
 use layout::BEGUN;
 use layout::ElementNo;
 use layout::MEMBERS;
@@ -189,6 +189,9 @@ pub fn take(
     }
     let h = begun_bits::holder(members, e, p);
     enter(members, begun, level, e, h % 128);
+    if needed_bits::all_begun(members, begun, level, e) {
+        return 255;
+    }
     let g = blocking(members, begun, level, e, h);
     if g == 0 {
         return 255;

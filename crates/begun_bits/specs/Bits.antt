@@ -76,26 +76,28 @@ mod-bit n k j l =
     ∙ ap (λ (m : ℕ). n / 2 ^ j % 2 ^ m % 2) d
     ∙ mod-mod-pow (n / 2 ^ j) (k - j - 1) 1
 
+-- Two numbers side by side, the lower one of w bits.
+module _ (w lo hi : ℕ) (small : lo < 2 ^ w) where
+  pub low-bit : (t : ℕ) → t < w → (hi * 2 ^ w + lo) / 2 ^ t % 2 ≡ lo / 2 ^ t % 2
+  low-bit t l = sym (mod-bit (hi * 2 ^ w + lo) w t l) ∙ ap (λ (n : ℕ). n / 2 ^ t % 2) (low hi w small)
+
+  pub high-bit : (t : ℕ) → (hi * 2 ^ w + lo) / 2 ^ (w + t) % 2 ≡ hi / 2 ^ t % 2
+  high-bit t = ap (λ (n : ℕ). n % 2) (sym (shr-shr (hi * 2 ^ w + lo) w t) ∙ ap (λ (n : ℕ). n / 2 ^ t) (high hi w small))
+
 -- Two words side by side.
 module _ (lo hi : ℕ) (small : lo < 4294967296) where
   abbrev whole : ℕ
   whole = hi * 4294967296 + lo
-
-  low-bit : (t : ℕ) → t < 32 → whole / 2 ^ t % 2 ≡ lo / 2 ^ t % 2
-  low-bit t l = sym (mod-bit whole 32 t l) ∙ ap (λ (n : ℕ). n / 2 ^ t % 2) (low hi 32 small)
-
-  high-bit : (t : ℕ) → whole / 2 ^ (32 + t) % 2 ≡ hi / 2 ^ t % 2
-  high-bit t = ap (λ (n : ℕ). n % 2) (sym (shr-shr whole 32 t) ∙ ap (λ (n : ℕ). n / 2 ^ t) (high hi 32 small))
 
   -- a bit of the part from the bit s on
   part-bit : (s k j : ℕ) → j < k → whole / 2 ^ s % 2 ^ k / 2 ^ j % 2 ≡ whole / 2 ^ (s + j) % 2
   part-bit s k j l = mod-bit (whole / 2 ^ s) k j l ∙ ap (λ (n : ℕ). n % 2) (shr-shr whole s j)
 
   pub part-low : (s k j : ℕ) → j < k → s + j < 32 → whole / 2 ^ s % 2 ^ k / 2 ^ j % 2 ≡ lo / 2 ^ (s + j) % 2
-  part-low s k j l h = part-bit s k j l ∙ low-bit (s + j) h
+  part-low s k j l h = part-bit s k j l ∙ low-bit 32 lo hi small (s + j) h
 
   pub part-high : (s k j : ℕ) → j < k → 32 ≤ s + j → whole / 2 ^ s % 2 ^ k / 2 ^ j % 2 ≡ hi / 2 ^ (s + j - 32) % 2
-  part-high s k j l h = let e : s + j ≡ 32 + (s + j - 32) = omega arith in part-bit s k j l ∙ ap (λ (n : ℕ). whole / 2 ^ n % 2) e ∙ high-bit (s + j - 32)
+  part-high s k j l h = let e : s + j ≡ 32 + (s + j - 32) = omega arith in part-bit s k j l ∙ ap (λ (n : ℕ). whole / 2 ^ n % 2) e ∙ high-bit 32 lo hi small (s + j - 32)
 
 -- The bits that are not set
 

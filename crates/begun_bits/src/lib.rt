@@ -1,7 +1,8 @@
 // The table of the members of "&" groups, number by number, and the bits of those that have begun.
 //
 // `members` is that of the crate member_runs. `begun` has three numbers for each level, the document's first, then those of the open elements: a bit for
-// each member, from the first.
+// each member, from the first. The bits that the table has of the members that cannot be nothing are the crate needed_bits's, in the same order, so that 32 of
+// them are held at once against those that have begun.
 use layout::BEGUN;
 use layout::BEGUN_WORDS;
 use layout::ElementNo;
@@ -23,7 +24,7 @@ fn whole(begun: [u32; BEGUN])
 {}
 
 // A number of the table.
-fn number(members: &[u8], i: usize) -> usize
+pub fn number(members: &[u8], i: usize) -> usize
     requires { ⌜ i < length (now members) ⌝ }
     ensures { λ r. ⌜ (r ≡ getD (now (members .entry)) i 0) × (r ≤ 255) ⌝ }
 {

@@ -57,7 +57,7 @@ abbrev pub FACTS : ℕ
 FACTS = CONTENTS * FACT
 
 -- The members of "&" groups: of each content a number for each position and two for each member, four for each group, and behind these one for each group.
--- Behind the last content is room for two.
+-- Behind these stands a bit for each member, eight in a number, which is set where the member cannot be nothing. Behind the last content is room for two.
 abbrev pub GROUP : ℕ
 GROUP = 4
 
@@ -67,8 +67,11 @@ AND-GROUPS = 48
 abbrev pub RUNS : ℕ
 RUNS = 3 * POSITIONS + GROUP * (AND-GROUPS + 1)
 
+abbrev pub NEEDED : ℕ
+NEEDED = RUNS + AND-GROUPS + 1
+
 abbrev pub MEMBER : ℕ
-MEMBER = RUNS + AND-GROUPS + 1
+MEMBER = NEEDED + 12
 
 abbrev pub MEMBERS : ℕ
 MEMBERS = (CONTENTS + 2) * MEMBER

@@ -9,7 +9,7 @@ use lib.ListN.{length, getD}
 use lib.Dec.{eqb}
 use Rattle.rules.specs.Bytes.{GRPCNT}
 use Rattle.rules.specs.Walk.{Group, place, seq, alt, opt, plus, and, Members, one, also}
-use Rattle.layout.specs.Sizes.{POSITIONS, AND-GROUPS, GROUP, RUNS, MEMBER, MEMBERS, BEGUN-WORDS}
+use Rattle.layout.specs.Sizes.{POSITIONS, AND-GROUPS, GROUP, RUNS, NEEDED, MEMBER, MEMBERS, BEGUN-WORDS}
 use Rattle.model_sets.specs.Sets.{has, nullable, lastM, must}
 use Rattle.and_laws.specs.Base.{mem}
 use Rattle.and_laws.specs.Sets.{meets}
@@ -128,6 +128,17 @@ module _ (M : List ℕ) (e : ℕ) where
   abbrev pub AllRuns : Type 0
   AllRuns = (n : ℕ) → n ≤ AND-GROUPS → Runs n (runAt n)
 
+  -- Whether the bit of the member h is set among those of the members that cannot be nothing.
+  abbrev pub isNeeded : ℕ → Bool
+  isNeeded h = eqb (getD M (e * MEMBER + NEEDED + (h - 1) / 8) 0 / 2 ^ ((h - 1) % 8) % 2) 1
+
+  -- It is set of each member of the group n that cannot be nothing. That others are set too is not ruled out: only time hangs on it.
+  pub record Noted (n : ℕ) : Type 0 where
+    pub bits : (j : ℕ) → j < neededAt n → 1 ≤ firstAt n + j → firstAt n + j < POSITIONS → isNeeded (firstAt n + j) ≡ true
+
+  abbrev pub AllNoted : Type 0
+  AllNoted = (n : ℕ) → n ≤ AND-GROUPS → Noted n
+
   -- What is kept of a group and of its members.
   pub record Grouped (l : Level) : Type 0 where
     pub within : l .number ≤ AND-GROUPS
@@ -153,6 +164,7 @@ module _ (M : List ℕ) (e : ℕ) where
     pub start : holderAt 0 ≡ 0
     pub places : (u : ℕ) → has g u ≡ true → Chain u true (holderAt u) (levels g 0 u)
     pub runs : AllRuns
+    pub noted : AllNoted
     pub whole : (u : ℕ) → has g u ≡ true → (levels g 0 u ≡ []) ⊎ (MEMBERS ≤ length M)
 
 -- What has begun
@@ -174,6 +186,10 @@ module _ (begun : List ℕ) (level : ℕ) where
     abbrev pub AllMarked : List Level → Type 0
     AllMarked [] = true ≡ true
     AllMarked (l ∷ ls) = Marked l × AllMarked ls
+
+  -- Every member of the element e has begun whose bit is set among those that cannot be nothing.
+  pub record AllBegun (M : List ℕ) (e : ℕ) : Type 0 where
+    pub bits : (h : ℕ) → 1 ≤ h → h < POSITIONS → isNeeded M e h ≡ true → begunAt h ≡ true
 
   -- The bits of the level are those of the places taken in the element e, whose model is g, after the place u. At its start they are anything.
   pub record Standing (M : List ℕ) (e : ℕ) (g : Group) (u : ℕ) (taken : List ℕ) : Type 0 where

@@ -1,4 +1,4 @@
--- Groups in each other that a walk outwards goes past at once.
+-- Groups in each other that a walk outwards goes past at once, and the members that cannot be nothing of all groups.
 use Prim.Native.Nat.{ℕ, _+_, _*_, _/_, _%_, _≤_, _<_}
 use mathlib.Core.Path.{_≡_, refl, sym, _∙_, ap, subst}
 use mathlib.Core.Bool.{Bool, true}
@@ -12,8 +12,8 @@ use Rattle.and_laws.specs.Sets.{common-meets}
 use Rattle.and_laws.specs.Rest.{allM}
 use Rattle.and_laws.specs.Rows.{fine}
 use Rattle.and_laws.specs.Ranked.{Level}
-use Rattle.member_laws.specs.Members.{needs, groupAt, dueAt, firstAt, neededAt, outerAt, runAt, Next, Passed, Runs, AllRuns, Grouped, begunAt, Marked, AllMarked}
-use Rattle.member_laws.specs.Numbered.{none-lacks}
+use Rattle.member_laws.specs.Members.{needs, groupAt, dueAt, firstAt, neededAt, outerAt, runAt, Next, Passed, Runs, AllRuns, isNeeded, Noted, AllNoted, Grouped, begunAt, Marked, AllMarked, AllBegun}
+use Rattle.member_laws.specs.Numbered.{amount-both, none-lacks}
 use Rattle.member_laws.specs.Inside.{EachLevel, IsAround}
 use Rattle.member_laws.specs.Around.{memberAt, held, member-begun, numbered-due}
 
@@ -47,6 +47,12 @@ module _ (M S : List ℕ) (e : ℕ) (same : (k : ℕ) → k < RUNS → getD S (e
   pub runs-same : ((n : ℕ) → n ≤ AND-GROUPS → runAt S e n ≡ runAt M e n) → AllRuns M e → AllRuns S e
   runs-same same-far all n l = subst (Runs S e n) (sym (same-far n l)) (run-same n (runAt M e n) (all n l))
 
+  pub noted-same : ((h : ℕ) → 1 ≤ h → h < POSITIONS → isNeeded M e h ≡ true → isNeeded S e h ≡ true) → (n : ℕ) → n ≤ AND-GROUPS → Noted M e n → Noted S e n
+  noted-same keeps n l h =
+      let needed : neededAt S e n ≡ neededAt M e n = at _ (3 * POSITIONS + n * GROUP + 1) (omega arith) (omega arith) in
+      let first : firstAt S e n ≡ firstAt M e n = at _ (3 * POSITIONS + n * GROUP) (omega arith) (omega arith) in
+      record { bits = rw (needed, first) (λ j i a b. keeps (firstAt M e n + j) a b (h .bits j i a b)) }
+
 module _ (M : List ℕ) (e : ℕ) (begun : List ℕ) (level : ℕ) (S : ℕ → Bool) where
   -- The members around a place that was taken have begun.
   pub taken-begun : (g : Group) (p : ℕ) → S p ≡ true → (ls : List Level) → EachLevel (IsAround g 0 p) ls → AllMarked begun level M e S ls → EachLevel (λ (l : Level). begunAt begun level (memberAt M e p l) ≡ true) ls
@@ -60,3 +66,13 @@ module _ (M : List ℕ) (e : ℕ) (begun : List ℕ) (level : ℕ) (S : ℕ → 
       go : (j : ℕ) → j < needs (l .members) → (neededAt M e (l .number) ≡ 0) ⊎ ((neededAt M e (l .number) ≡ 1) × (firstAt M e (l .number) ≡ n)) → begunAt begun level (firstAt M e (l .number) + j) ≡ true
       go j h (inl z) = absurd (omega (arith, kept .needed))
       go j h (inr (z, f)) = let is : firstAt M e (l .number) + j ≡ n = omega (arith, kept .needed) in ap (begunAt begun level) is ∙ b
+
+  -- A group lacks nothing where every member has begun that cannot be nothing.
+  pub begun-fine : AllNoted M e → AllBegun begun level M e → (l : Level) → Grouped M e l → Marked begun level M e S l → allM (fine S) (l .members) ≡ true
+  begun-fine noted all l kept marked = none-lacks (firstAt M e (l .number)) (l .members) S (begunAt begun level) (dueAt M e) marked (numbered-due M e l kept) go
+    where
+      go : (j : ℕ) → j < needs (l .members) → begunAt begun level (firstAt M e (l .number) + j) ≡ true
+      go j h =
+          let some : 1 ≤ firstAt M e (l .number) + j = omega (arith, kept .some) in
+          let few : firstAt M e (l .number) + j < POSITIONS = omega (arith, kept .room, amount-both (l .members)) in
+          all .bits (firstAt M e (l .number) + j) some few (noted (l .number) (kept .within) .bits j (omega (arith, kept .needed)) some few)

@@ -10,10 +10,11 @@ use lib.ListN.{length, getD, set, length-set}
 use lib.Seq.{getD-set-same, getD-set-other}
 use lib.Dec.{eqb}
 use borrow.Author.Tests.{eqb-true}
-use Rattle.layout.specs.Sizes.{AND-GROUPS, RUNS, MEMBER, MEMBERS}
-use Rattle.member_laws.specs.Members.{groupAt, recordAt, runAt, Next, Passed, Runs, AllRuns}
-use Rattle.member_laws.specs.Running.{run-same}
+use Rattle.layout.specs.Sizes.{AND-GROUPS, RUNS, NEEDED, MEMBER, MEMBERS}
+use Rattle.member_laws.specs.Members.{groupAt, recordAt, runAt, Next, Passed, Runs, AllRuns, AllNoted}
+use Rattle.member_laws.specs.Running.{run-same, runs-same}
 use Rattle.begun_bits.specs.Levels.{Grouping}
+use Rattle.needed_bits.specs.Needed.{SetsAll}
 
 -- What is read of the group g
 
@@ -101,14 +102,26 @@ linking-on M e g h S T w is few put =
     go n a b (yes z) = subst (λ (x : ℕ). Runs T e x (runAt T e x)) (sym z) (kept h (runAt T e h) (put .runs (λ l. w .runs (h + 1) (omega arith) (omega arith))))
     go n a b (no z) = subst (Runs T e n) (sym (put .others (e * MEMBER + RUNS + n) (λ x. z (omega arith)))) (kept n (runAt S e n) (w .runs n a (omega arith)))
 
--- The runs of all groups are put behind what M has of the element e.
+-- The runs of all groups are put behind what M has of the element e, and behind these the bits of the members that cannot be nothing.
 pub record Linked (M : List ℕ) (e : ℕ) (S : List ℕ) : Type 0 where
   pub len : length S ≡ length M
   pub others : (k : ℕ) → (k < e * MEMBER + RUNS) ⊎ (e * MEMBER + MEMBER ≤ k) → getD S k 0 ≡ getD M k 0
   pub runs : MEMBERS ≤ length M → AllRuns S e
+  pub noted : MEMBERS ≤ length M → AllNoted S e
 
-pub linked-all : (M N : List ℕ) (e g : ℕ) (S : List ℕ) → M ≡ N → g ≡ 0 → Linking M e g S → Linked N e S
-linked-all M N e g S is z w = subst (λ (x : List ℕ). Linked x e S) is (record { len = w .len; others = w .others; runs = λ long n l. w .runs n l (omega arith) })
+pub linked-all : (M N : List ℕ) (e g : ℕ) (S T : List ℕ) → M ≡ N → g ≡ 0 → Linking M e g S → SetsAll S e T → Linked N e T
+linked-all M N e g S T is z w all =
+    subst (λ (x : List ℕ). Linked x e T) is
+    (record {
+      len = all .sets .len ∙ w .len;
+      others = λ k l. all .sets .others k (wider k l) ∙ w .others k l;
+      runs = λ long. runs-same S T e (λ k l. all .sets .others (e * MEMBER + k) (inl (omega arith))) (λ n l. all .sets .others (e * MEMBER + RUNS + n) (inl (omega arith))) (λ n l. w .runs n l (omega arith));
+      noted = λ long. all .noted;
+    })
+  where
+    wider : (k : ℕ) → (k < e * MEMBER + RUNS) ⊎ (e * MEMBER + MEMBER ≤ k) → (k < e * MEMBER + NEEDED) ⊎ (e * MEMBER + MEMBER ≤ k)
+    wider k (inl l) = inl (omega arith)
+    wider k (inr l) = inr l
 
 pub linked-short : (M N : List ℕ) (e : ℕ) → M ≡ N → length M < MEMBERS → Linked N e M
-linked-short M N e is short = subst (λ (x : List ℕ). Linked x e M) is (record { len = refl; others = λ k l. refl; runs = λ long. absurd (omega arith) })
+linked-short M N e is short = subst (λ (x : List ℕ). Linked x e M) is (record { len = refl; others = λ k l. refl; runs = λ long. absurd (omega arith); noted = λ long. absurd (omega arith) })

@@ -1,18 +1,20 @@
--- The table that is filled from a model's code and rows tells the members of its "&" groups and their runs; what it tells stays where its numbers stay.
-use Prim.Native.Nat.{ℕ, _+_, _*_, _≤_, _<_}
-use mathlib.Core.Path.{_≡_, sym, _∙_, subst}
+-- The table that is filled from a model's code and rows tells the members of its "&" groups, their runs and which members cannot be nothing; what it tells stays
+-- where its numbers stay.
+use Prim.Native.Nat.{ℕ, _+_, _-_, _*_, _/_, _%_, _^_, _≤_, _<_}
+use mathlib.Core.Path.{_≡_, sym, _∙_, ap, subst}
 use mathlib.Core.Bool.{Bool, true, _&&_}
 use mathlib.Core.Logic.{_⊎_, inl, inr}
 use mathlib.Core.List.{List, [], _∷_}
 use native.Mathlib.Omega.{arith}
 use lib.ListN.{length, getD}
+use lib.Dec.{eqb}
 use Rattle.rules.specs.Walk.{Group, Members}
-use Rattle.layout.specs.Sizes.{POSITIONS, GROUP, RUNS, MEMBER, MEMBERS}
+use Rattle.layout.specs.Sizes.{POSITIONS, GROUP, RUNS, NEEDED, MEMBER, MEMBERS}
 use Rattle.model_sets.specs.Sets.{has, must}
 use Rattle.and_laws.specs.Ranked.{Level, levels}
-use Rattle.member_laws.specs.Members.{amount, needs, holderAt, groupAt, dueAt, firstAt, runAt, Grouped, Chain, Told}
+use Rattle.member_laws.specs.Members.{amount, needs, holderAt, groupAt, dueAt, firstAt, runAt, isNeeded, Grouped, Chain, Told}
 use Rattle.member_laws.specs.Numbered.{amount-both, each-at, at-each, Ranged, needed, spare, numbered-range}
-use Rattle.member_laws.specs.Running.{runs-same}
+use Rattle.member_laws.specs.Running.{runs-same, noted-same}
 use Rattle.member_table.specs.Tells as tells
 use Rattle.member_runs.specs.Linking.{Linked}
 
@@ -72,11 +74,15 @@ told-still M S e same len g few h =
       start = start-still M S e early (h .start);
       places = places-still M S e early g few (h .places);
       runs = runs-same M S e early (λ n l. run-at n l) (h .runs);
+      noted = λ n l. noted-same M S e early (λ m a b i. bit-at m a b ∙ i) n l (h .noted n l);
       whole = λ u i. subst (λ (n : ℕ). (levels g 0 u ≡ []) ⊎ (MEMBERS ≤ n)) (sym len) (h .whole u i);
     }
   where
     run-at : (n : ℕ) → n ≤ 48 → runAt S e n ≡ runAt M e n
     run-at n l = let z : e * MEMBER + RUNS + n ≡ e * MEMBER + (RUNS + n) = omega arith in rw z (same (RUNS + n) (omega arith))
+
+    bit-at : (m : ℕ) → 1 ≤ m → m < POSITIONS → isNeeded S e m ≡ isNeeded M e m
+    bit-at m a b = let z : e * MEMBER + NEEDED + (m - 1) / 8 ≡ e * MEMBER + (NEEDED + (m - 1) / 8) = omega arith in ap (λ (x : ℕ). eqb (x / 2 ^ ((m - 1) % 8) % 2) 1) (rw z (same (NEEDED + (m - 1) / 8) (omega arith)))
 
 -- What comes of M for the element e, whose model is g: its part tells the members, and nothing else has changed.
 pub record Filled (M : List ℕ) (e : ℕ) (g : Group) (S : List ℕ) : Type 0 where
@@ -94,6 +100,7 @@ filled-linked M S T e g long few filled linked =
             start = start-still S T e early (filled .start);
             places = places-still S T e early g few (filled .places);
             runs = linked .runs whole;
+            noted = linked .noted whole;
             whole = λ u i. inr (omega (arith, linked .len));
           };
       len = linked .len ∙ filled .len;

@@ -1,4 +1,5 @@
-// How far the walks outwards through a model's "&" groups go at once, which the crate and_groups asks besides what the crate member_table has put.
+// How far the walks outwards through a model's "&" groups go at once, which the crate and_groups asks besides what the crate member_table has put; and behind
+// it, by the crate needed_bits, which members cannot be nothing.
 //
 // From each group 16 times as many as are entered with it, each of which is in the next, and as many as lack nothing once it has begun: the member that
 // holds it can end with it, and no other member of its group must come. Each is 15 at most.
@@ -91,8 +92,9 @@ fn put_run(members: &mut [u8], e: ElementNo, g: usize)
     members[e.0 * MEMBER + RUNS + g] = x as u8;
 }
 
-// The members of the element e, whose model has its table in `table` with n numbers of code, and the runs of its groups, from the outermost inwards. They are
-// all 0 before. A table that is not whole gets no runs: it is one of no member. How long a run is, is not promised: only time hangs on it.
+// The members of the element e, whose model has its table in `table` with n numbers of code, the runs of its groups, from the outermost inwards, and the bits of
+// the members that cannot be nothing. They are all 0 before. A table that is not whole gets neither: it is one of no member. How long a run is, is not promised,
+// nor that no other bit is set: only time hangs on it.
 pub fn fill(members: &mut [u8], e: ElementNo, table: &[u8; MODEL], n: usize)
     requires { ⌜ e .0 < 65 ⌝ }
     ensures { λ _. ⌜ Linked (filled (now (members .entry)) (e .0) (now (table .entry)) n) (e .0) (now (members .exit)) ⌝ }
@@ -106,4 +108,5 @@ pub fn fill(members: &mut [u8], e: ElementNo, table: &[u8; MODEL], n: usize)
         g -= 1;
         put_run(members, e, g);
     }
+    needed_bits::fill(members, e);
 }

@@ -12,7 +12,7 @@ use Rattle.layout.specs.Sizes.{RUNS, MEMBER, MEMBERS, CODE, CONTENTS}
 use Rattle.model_sets.specs.Sets.{has, size, Numbered}
 use Rattle.and_laws.specs.Sets.{Plain}
 use Rattle.and_laws.specs.Numbers.{Guarded, has-range}
-use Rattle.member_laws.specs.Members.{total, Sized, Runs, Told}
+use Rattle.member_laws.specs.Members.{recordAt, total, Sized, Runs, Told}
 use Rattle.member_laws.specs.Inside.{plain-levels}
 use Rattle.model_code.specs.Spelled.{codes, codeIn}
 use Rattle.member_table.specs.Filling.{filled}
@@ -73,6 +73,7 @@ members-put s M S T e n g lent within free room spelled rows numbered guarded si
             start = none (e * MEMBER + 0);
             places = λ u i. rw (plain-levels g (plain (z .1)) 0 u) (none (e * MEMBER + u));
             runs = λ m l. subst (Runs S e m) (sym (none (e * MEMBER + RUNS + m))) (far-none S e m);
+            noted = λ m l. record { bits = λ j i. absurd (omega (arith, none (recordAt S e m + 1))) };
             whole = λ u i. inl (plain-levels g (plain (z .1)) 0 u);
           };
       len = len;

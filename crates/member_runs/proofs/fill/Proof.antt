@@ -41,11 +41,20 @@ loop-again c =
     let i = c .before .before .before .before .before .loop .inv in
     (omega arith, i .1, linking-on _ _ _ _ _ _ (i .2) (omega arith) (omega arith) (c .before .before .put-run .ensures))
 
+fill-requires-2 : tie.Need-fill-requires-2 Inv-loop μ-loop
+fill-requires-2 c κs = (omega (arith, c .before .before .loop .inv .2 .len), omega arith)
+
 same-length-2 : tie.Need-same-length-2 Inv-loop μ-loop
-same-length-2 c = c .before .loop .inv .2 .len ∙ c .before .before .before .before .before .fill .kept .0
+same-length-2 c =
+    let put = c .before .before in
+    let looped = put .before .before in
+    put .fill2 .ensures .sets .len ∙ looped .before .loop .inv .2 .len ∙ looped .before .before .before .before .before .fill .kept .0
 
 returns-2 : tie.Need-returns-2 Inv-loop μ-loop
-returns-2 c = linked-all _ _ _ _ _ (c .before .before .before .before .before .fill .ensures) (omega arith) (c .before .loop .inv .2)
+returns-2 c =
+    let put = c .before .before in
+    let looped = put .before .before in
+    linked-all _ _ _ _ _ _ (looped .before .before .before .before .before .fill .ensures) (omega arith) (looped .before .loop .inv .2) (put .fill2 .ensures)
 
 pub fill-spec : {M : Type 1} → statement M
 fill-spec =
@@ -61,5 +70,6 @@ fill-spec =
     put-run-requires
     loop-less
     loop-again
+    fill-requires-2
     same-length-2
     returns-2)
