@@ -35,7 +35,7 @@ fn has_all(w: usize, x: u32) -> bool
     w & numbers::widened(x) == w
 }
 
-// Whether every member of the element e that cannot be nothing has begun at the level.
+// Whether every member of the element e that cannot be nothing has begun at the level. That it says so wherever it is so is not promised: only time hangs on it.
 pub fn all_begun(members: &[u8], begun: &[u32; BEGUN], level: usize, e: ElementNo) -> bool
     requires { ⌜ MEMBERS ≤ length (now members) ⌝ }
     requires { ⌜ (level ≤ 24) × (e .0 ≤ 64) ⌝ }
