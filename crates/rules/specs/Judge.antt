@@ -81,8 +81,8 @@ pub record Legible (c : Settings) (s : List ℕ) : Type 0 where
   pub clean : span allowed s ≡ length s
 
 -- The refusal that the order picks: "1 type, .. 2 type, ..; the type file's 3 to 8 ..; 9; ..; 19 only where nothing else is wrong,
--- and exactly if the numbers don't fit"; 25 is "looked for after 3 to 8 and before 9" (paper 02, request twelve); before all of it 24, "in the type at 0" (paper 02, request six: "before even 23"). `room` is how many
--- numbers the lent buffer holds.
+-- and exactly if the numbers don't fit"; 25 is "looked for after 3 to 8 and before 9" (paper 02, request twelve); before all of it 24,
+-- "in the type at 0, before even 23" (paper 02, request six), which request eight has for other editions too. `room` is how many numbers the lent buffer holds.
 pub data Refuses (c : Settings) (s : List ℕ) (room : ℕ) (a : Answer) : Type 0 where
   notOffered : isOffered c ≡ false → a ≡ refusal 24 0 0 0 → Refuses c s room a
   tooLong : isOffered c ≡ true → typeLimit < length s → a ≡ refusal 1 0 0 0 → Refuses c s room a

@@ -97,7 +97,7 @@ pub record Reads (c : Settings) (s d : List ℕ) (es : List Element) (r : Readin
 -- The refusal that the order picks: "1 type, 1 document, 2 type, 2 document; the type file's 3 to 8 ..; 9; then the document's tokens in
 -- turn; 19 only where nothing else is wrong, and exactly if the numbers don't fit"; 25 is "looked for after 3 to 8 and before 9"
 -- (paper 02, request twelve); "19 names .. the document in the reader"; before all
--- of it 24, "in the type at 0" (paper 02, requests six and eight: "before even 23"). `room` is how many numbers the lent buffer holds.
+-- of it 24, "in the type at 0, before even 23" (paper 02, request six), which request eight has for other editions too. `room` is how many numbers the lent buffer holds.
 pub data RefusesBoth (c : Settings) (s d : List ℕ) (room : ℕ) (a : Answer) : Type 0 where
   notOffered : isOffered c ≡ false → a ≡ refusal 24 0 0 0 → RefusesBoth c s d room a
   typeTooLong : isOffered c ≡ true → typeLimit < length s → a ≡ refusal 1 0 0 0 → RefusesBoth c s d room a
