@@ -1,171 +1,76 @@
 // What has begun of the "&" groups of the open elements, and what it decides: which place may come next, whether the content is complete,
 // which place is required.
 //
-// A walk outwards goes on only to a group of a higher number, so that it ends whatever the table holds: groups count in the order of their ")". It goes past a
-// run of groups at once, each of which is in the next: all of them are entered, or lack nothing. Where every member has begun that cannot be nothing, no group
-// lacks anything, and `take` walks through none to find that out. Where the table tells no model, or the bits are not those of the places taken in it, what
-// `take` and `may_follow` answer is not decided, but that `take` answers 255 or at most 96 and leaves the bits of every other level.
+// All of it is asked of sets of members: those that hold a place, those of the groups around it, those that cannot be nothing, those that have begun. Where the
+// table tells no model, or the bits are not those of the places taken in it, what `take` and `may_follow` answer is not decided, but that `take` answers 255 or
+// at most 96 and leaves the bits of every other level.
+use layout::AND_GROUPS;
 use layout::BEGUN;
 use layout::ElementNo;
+use layout::GRPGTCNT;
 use layout::MEMBERS;
 use layout::Place;
-ghost use mathlib.Core.Path.{_≡_};
-ghost use Prim.Native.Nat.{_+_, _/_, _%_, _≤_, _<_};
-ghost use lib.ListN.{length};
-ghost use Rattle.layout.specs.Sizes.{MEMBERS};
-ghost use Rattle.member_laws.specs.Members.{runAt, Elsewhere};
-ghost use Rattle.and_groups.specs.Takes.{Takes, Follows};
-ghost use Rattle.and_groups.specs.Walks.{Lacks, Enters, Blocks, Due};
+use member_bits::Bits;
 
-// Whether a member of the group that cannot be nothing has not begun.
-fn lacks(members: &[u8], begun: &[u32; BEGUN], level: usize, e: ElementNo, g: usize) -> bool
-    requires { ⌜ MEMBERS ≤ length (now members) ⌝ }
-    requires { ⌜ (level ≤ 24) × (e .0 ≤ 64) × (g ≤ 255) ⌝ }
-    ensures { λ r. ⌜ Lacks (now (members .entry)) (now (begun .entry)) level (e .0) g r ⌝ }
+// The member h and those that hold its group begin, where those of b had.
+fn entered(members: &[u8], e: ElementNo, h: usize, b: Bits) -> Bits
 {
-    let first = begun_bits::of_group(members, e, g, 0);
-    let k = begun_bits::of_group(members, e, g, 1);
-    if k == 0 {
-        return false;
-    }
-    let y = begun_bits::idle(begun, level, first, k);
-    y != 0
-}
-
-// How many groups are entered with the group g: none with the first, and none where the member that holds g has begun, since those around it have then too.
-fn entered_with(
-    members: &[u8],
-    begun: &[u32; BEGUN],
-    level: usize,
-    e: ElementNo,
-    g: usize,
-    passed: usize,
-) -> usize
-    requires { ⌜ MEMBERS ≤ length (now members) ⌝ }
-    requires { ⌜ (level ≤ 24) × (e .0 ≤ 64) × (g ≤ 255) ⌝ }
-    ensures { λ r. ⌜ (r ≤ 15) × (r ≤ runAt (now (members .entry)) (e .0) g / 16) ⌝ }
-{
-    if passed == 0 {
-        return 0;
-    }
-    let h = begun_bits::of_group(members, e, g, 3) % 128;
     if h == 0 {
-        return 0;
+        return b;
     }
-    if 96 < h {
-        return 0;
+    if GRPGTCNT < h {
+        return b;
     }
-    if begun_bits::has_begun(begun, level, h) {
-        return 0;
+    let g = member_numbers::group_of(members, e, h);
+    if AND_GROUPS < g {
+        return b;
     }
-    begun_bits::run_of(members, e, g) / 16
+    member_bits::joined(member_bits::with(b, h), member_numbers::holding(members, e, g))
 }
 
-// The member h and those that hold its group begin, from the inner to the outer ones: where one had begun, so had those around it.
-fn enter(members: &[u8], begun: &mut [u32; BEGUN], level: usize, e: ElementNo, inner: usize)
-    requires { ⌜ MEMBERS ≤ length (now members) ⌝ }
-    requires { ⌜ (level ≤ 24) × (e .0 ≤ 64) × (inner ≤ 127) ⌝ }
-    ensures { λ _. ⌜ Enters (now (members .entry)) level (e .0) inner (now (begun .entry)) (now (begun .exit)) ⌝ }
+// The first member that the first group from the member `inner` outwards lacks, where the member at hand can end, and so can those between; or 0. Members count in
+// the order of their groups, and groups from the inner to the outer ones.
+fn blocking(members: &[u8], e: ElementNo, inner: usize, b: Bits) -> usize
 {
-    let mut h = inner;
-    let mut passed = 0;
-    while h != 0 {
-        if 96 < h {
-            return;
-        }
-        if begun_bits::has_begun(begun, level, h) {
-            return;
-        }
-        let g = begun_bits::group_of(members, e, h);
-        if g <= passed {
-            return;
-        }
-        begun_bits::begin(begun, level, h);
-        let n = entered_with(members, begun, level, e, g, passed);
-        if n == 0 {
-            h = begun_bits::of_group(members, e, g, 3) % 128;
-            passed = g;
-        } else {
-            begun_bits::begin_run(members, begun, level, e, g, n);
-            h = begun_bits::of_group(members, e, g + n, 3) % 128;
-            passed = g + n;
-        }
-    }
-}
-
-// How many groups are passed with the group g, where this is the first. Farther out the numbers of a run would be waited for more often than they help.
-fn passed_with(members: &[u8], e: ElementNo, g: usize, passed: usize) -> usize
-    requires { ⌜ MEMBERS ≤ length (now members) ⌝ }
-    requires { ⌜ (e .0 ≤ 64) × (g ≤ 255) ⌝ }
-    ensures { λ r. ⌜ (r ≤ 15) × (r ≤ runAt (now (members .entry)) (e .0) g % 16) ⌝ }
-{
-    if passed != 0 {
+    if inner <= 128 {
         return 0;
     }
-    begun_bits::run_of(members, e, g) % 16
-}
-
-// The first group from the member `inner` outwards that lacks a member, where the member at hand can end, and so can those between; or 0.
-fn blocking(members: &[u8], begun: &[u32; BEGUN], level: usize, e: ElementNo, inner: usize) -> usize
-    requires { ⌜ MEMBERS ≤ length (now members) ⌝ }
-    requires { ⌜ (level ≤ 24) × (e .0 ≤ 64) × (inner ≤ 255) ⌝ }
-    ensures { λ r. ⌜ Blocks (now (members .entry)) (now (begun .entry)) level (e .0) inner r ⌝ }
-{
-    let mut h = inner;
-    let mut passed = 0;
-    while 128 < h {
-        let g = begun_bits::group_of(members, e, h - 128);
-        if g <= passed {
-            return 0;
-        }
-        if lacks(members, begun, level, e, g) {
-            return g;
-        }
-        let n = passed_with(members, e, g, passed);
-        h = begun_bits::of_group(members, e, g + n, 3);
-        passed = g + n;
-    }
-    0
-}
-
-// The place that is required where the group g lacks a member: that of the only member that has not begun, or 0.
-fn required_in(members: &[u8], begun: &[u32; BEGUN], level: usize, e: ElementNo, g: usize) -> usize
-    requires { ⌜ MEMBERS ≤ length (now members) ⌝ }
-    requires { ⌜ (level ≤ 24) × (e .0 ≤ 64) × (g ≤ 255) ⌝ }
-    ensures { λ r. ⌜ Due (now (members .entry)) (now (begun .entry)) level (e .0) g r ⌝ }
-{
-    let first = begun_bits::of_group(members, e, g, 0);
-    let k = begun_bits::of_group(members, e, g, 2);
-    let y = begun_bits::idle(begun, level, first, k);
-    if y == 0 {
+    let g = member_numbers::group_of(members, e, inner - 128);
+    if AND_GROUPS < g {
         return 0;
     }
-    if y & (y - 1) != 0 {
+    let needed = member_bits::common(
+        member_numbers::among(members, e, g),
+        member_numbers::needed(members, e),
+    );
+    let x = member_bits::first(member_bits::without(needed, b));
+    if x == 0 {
         return 0;
     }
-    let mut j = 0;
-    while j < 32 {
-        if y == 1 << j {
-            let p = begun_bits::required_of(members, e, first + j);
-            if 96 < p {
-                return 0;
-            }
-            return p;
-        }
-        j += 1;
+    if member_numbers::reach_of(members, e, g) < member_numbers::group_of(members, e, x) {
+        return 0;
     }
-    0
+    x
 }
 
-// The last of the group g and the n behind it that comes before the group f.
-fn last_before(g: usize, n: usize, f: usize) -> usize
-    requires { ⌜ (g < f) × (f ≤ 256) × (n ≤ 15) ⌝ }
-    ensures { λ r. ⌜ (g ≤ r) × (r ≤ g + n) × (r < f) ⌝ }
+// The place that is required where the group of the member x lacks it: that of this member, if no other of the group has not begun, or 0.
+fn required_in(members: &[u8], e: ElementNo, x: usize, b: Bits) -> usize
 {
-    if f <= g + n {
-        return f - 1;
+    let g = member_numbers::group_of(members, e, x);
+    let first = member_numbers::of_group(members, e, g, 0);
+    let k = member_numbers::of_group(members, e, g, 2);
+    if first == 0 || GRPGTCNT < first || 32 < k || x < first || 31 < x - first {
+        return 0;
     }
-    g + n
+    let y = member_bits::bits_from(b, first) | (1 << (x - first));
+    if y % (1 << k) + 1 != 1 << k {
+        return 0;
+    }
+    let p = member_numbers::required_of(members, e, x);
+    if 96 < p {
+        return 0;
+    }
+    p
 }
 
 // The place p of the element e is taken at the level, after the place u; where this is 0, nothing has begun. Where a group lacks a member that must come
@@ -178,25 +83,56 @@ pub fn take(
     u: Place,
     p: Place,
 ) -> usize
-    requires { ⌜ (level ≤ 24) × (e .0 ≤ 64) × (u .0 ≤ 96) × (p .0 ≤ 96) ⌝ }
-    ensures { λ r. ⌜ Takes (now (members .entry)) level (e .0) (u .0) (p .0) (now (begun .entry)) (now (begun .exit)) r ⌝ }
 {
     if members.len() < MEMBERS {
         return 255;
     }
+    let h = member_numbers::holder(members, e, p);
+    let mut b = member_bits::none();
+    let mut x = 0;
     if u.0 == 0 {
-        begun_bits::clear(begun, level);
+        b = entered(members, e, h % 128, member_bits::none());
+        begun_bits::put(begun, level, b);
+        x = blocking(members, e, h, b);
+    } else {
+        b = entered(members, e, h % 128, begun_bits::begun_at(begun, level));
+        begun_bits::put(begun, level, b);
+        x = blocking(members, e, h, b);
     }
-    let h = begun_bits::holder(members, e, p);
-    enter(members, begun, level, e, h % 128);
-    if needed_bits::all_begun(members, begun, level, e) {
+    if x == 0 {
         return 255;
     }
-    let g = blocking(members, begun, level, e, h);
-    if g == 0 {
-        return 255;
+    required_in(members, e, x, b)
+}
+
+// Whether p may come next, which is in the member i or in none, where u is in the member h.
+fn may_come(members: &[u8], e: ElementNo, h: usize, i: usize, b: Bits) -> bool
+{
+    let g = member_numbers::group_of(members, e, h);
+    if AND_GROUPS < g {
+        return true;
     }
-    required_in(members, begun, level, e, g)
+    let mut hold = member_bits::none();
+    let mut beside = member_bits::none();
+    if i != 0 {
+        let f = member_numbers::group_of(members, e, i);
+        if AND_GROUPS < f {
+            return true;
+        }
+        if f == g {
+            if h == i {
+                return true;
+            }
+            return !member_bits::has(b, i);
+        }
+        hold = member_bits::with(member_numbers::holding(members, e, f), i);
+        beside = member_numbers::among(members, e, f);
+    }
+    let around = member_numbers::among(members, e, g);
+    let needed = member_bits::common(member_bits::without(around, beside), member_numbers::needed(members, e));
+    let other = member_bits::without(hold, member_bits::with(member_numbers::holding(members, e, g), h));
+    let again = member_bits::common(member_bits::common(other, around), b);
+    member_bits::is_none(member_bits::joined(member_bits::without(needed, b), again))
 }
 
 // Whether p, which may come next after u for some beginning, may come next where these members have begun.
@@ -208,44 +144,14 @@ pub fn may_follow(
     u: Place,
     p: Place,
 ) -> bool
-    requires { ⌜ (level ≤ 24) × (e .0 ≤ 64) × (u .0 ≤ 96) × (p .0 ≤ 96) ⌝ }
-    ensures { λ r. ⌜ Follows (now (members .entry)) level (e .0) (u .0) (p .0) (now (begun .entry)) r ⌝ }
 {
     if members.len() < MEMBERS {
         return true;
     }
-    let mut h = begun_bits::holder(members, e, u) % 128;
-    let mut i = begun_bits::holder(members, e, p) % 128;
-    let mut passed = 0;
-    let mut skipped = 0;
-    while h != 0 {
-        let g = begun_bits::group_of(members, e, h);
-        let f = begun_bits::group_of(members, e, i);
-        if g < f {
-            // p is not in this group, and all of it must be there before p.
-            if g <= passed {
-                return false;
-            }
-            if lacks(members, begun, level, e, g) {
-                return false;
-            }
-            let t = last_before(g, begun_bits::run_of(members, e, g) % 16, f);
-            h = begun_bits::of_group(members, e, t, 3) % 128;
-            passed = t;
-        } else if f < g {
-            // p begins a group that u is not in.
-            if f <= skipped {
-                return false;
-            }
-            let t = last_before(f, begun_bits::run_of(members, e, f) / 16, g);
-            i = begun_bits::of_group(members, e, t, 3) % 128;
-            skipped = t;
-        } else {
-            if h == i {
-                return true;
-            }
-            return !begun_bits::has_begun(begun, level, i);
-        }
+    let h = member_numbers::holder(members, e, u) % 128;
+    let i = member_numbers::holder(members, e, p) % 128;
+    if h == 0 || GRPGTCNT < h || GRPGTCNT < i {
+        return true;
     }
-    true
+    may_come(members, e, h, i, begun_bits::begun_at(begun, level))
 }

@@ -64,14 +64,20 @@ GROUP = 4
 abbrev pub AND-GROUPS : ℕ
 AND-GROUPS = 48
 
-abbrev pub RUNS : ℕ
-RUNS = 3 * POSITIONS + GROUP * (AND-GROUPS + 1)
+abbrev pub REACHES : ℕ
+REACHES = 3 * POSITIONS + GROUP * (AND-GROUPS + 1)
 
 abbrev pub NEEDED : ℕ
-NEEDED = RUNS + AND-GROUPS + 1
+NEEDED = REACHES + AND-GROUPS + 1
+
+abbrev pub MEMBER-BITS : ℕ
+MEMBER-BITS = 12
+
+abbrev pub SETS : ℕ
+SETS = NEEDED + MEMBER-BITS
 
 abbrev pub MEMBER : ℕ
-MEMBER = NEEDED + 12
+MEMBER = SETS + 2 * MEMBER-BITS * (AND-GROUPS + 1)
 
 abbrev pub MEMBERS : ℕ
 MEMBERS = (CONTENTS + 2) * MEMBER

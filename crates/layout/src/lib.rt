@@ -59,17 +59,22 @@ pub const FACT: usize = CONTENTS + 3;
 pub const FACTS: usize = CONTENTS * FACT;
 
 // The members of "&" groups: of each content a number for each position and two for each member, four for each group, and behind these one for each group;
-// members and groups count from 1. Behind these stands a bit for each member, eight in a number, which is set where the member cannot be nothing.
+// members and groups count from 1. Behind these stand members as bits, eight in a number: those that cannot be nothing, and of each group those that hold it
+// and those that are its own or of a group around it.
 // Behind the last content is room for two, so that a number which is no group's is read within the table.
 pub const GROUP: usize = 4;
 
 pub const AND_GROUPS: usize = GRPGTCNT / 2;
 
-pub const RUNS: usize = 3 * POSITIONS + GROUP * (AND_GROUPS + 1);
+pub const REACHES: usize = 3 * POSITIONS + GROUP * (AND_GROUPS + 1);
 
-pub const NEEDED: usize = RUNS + AND_GROUPS + 1;
+pub const NEEDED: usize = REACHES + AND_GROUPS + 1;
 
-pub const MEMBER: usize = NEEDED + GRPGTCNT / 8;
+pub const MEMBER_BITS: usize = GRPGTCNT / 8;
+
+pub const SETS: usize = NEEDED + MEMBER_BITS;
+
+pub const MEMBER: usize = SETS + 2 * MEMBER_BITS * (AND_GROUPS + 1);
 
 pub const MEMBERS: usize = (CONTENTS + 2) * MEMBER;
 

@@ -4,4 +4,4 @@ pub mod Numbered
 pub mod Inside
 pub mod Around
 pub mod Own
-pub mod Running
+pub mod Sets

@@ -2,14 +2,14 @@
 -- (`Told`), and_groups asks it (`Standing`).
 use Prim.Native.Nat.{ℕ, _+_, _-_, _*_, _/_, _%_, _^_, _≤_, _<_}
 use mathlib.Core.Path.{_≡_}
-use mathlib.Core.Bool.{Bool, true, _&&_, cond}
+use mathlib.Core.Bool.{Bool, true, false, _&&_, _||_, cond}
 use mathlib.Core.Logic.{_⊎_}
 use mathlib.Core.List.{List, [], _∷_}
 use lib.ListN.{length, getD}
-use lib.Dec.{eqb}
+use lib.Dec.{eqb, ltb, leb}
 use Rattle.rules.specs.Bytes.{GRPCNT}
 use Rattle.rules.specs.Walk.{Group, place, seq, alt, opt, plus, and, Members, one, also}
-use Rattle.layout.specs.Sizes.{POSITIONS, AND-GROUPS, GROUP, RUNS, NEEDED, MEMBER, MEMBERS, BEGUN-WORDS}
+use Rattle.layout.specs.Sizes.{POSITIONS, AND-GROUPS, GROUP, REACHES, NEEDED, MEMBER-BITS, SETS, MEMBER, MEMBERS, BEGUN-WORDS}
 use Rattle.model_sets.specs.Sets.{has, nullable, lastM, must}
 use Rattle.and_laws.specs.Base.{mem}
 use Rattle.and_laws.specs.Sets.{meets}
@@ -75,6 +75,10 @@ abbrev mutual
 
 -- The table
 
+-- Whether the bit of the member h is set among those that stand from i on.
+abbrev pub bitAt : (M : List ℕ) (i h : ℕ) → Bool
+bitAt M i h = eqb (getD M (i + (h - 1) / 8) 0 / 2 ^ ((h - 1) % 8) % 2) 1
+
 module _ (M : List ℕ) (e : ℕ) where
   -- The innermost member that holds the place p, and 128 more where p can end it; 0 if none does.
   abbrev pub holderAt : ℕ → ℕ
@@ -104,40 +108,51 @@ module _ (M : List ℕ) (e : ℕ) where
   abbrev pub outerAt : ℕ → ℕ
   outerAt n = getD M (recordAt n + 3) 0
 
-  -- How far the walks outwards from the group n go at once: 16 times the groups that are entered, and those that are passed.
-  abbrev pub runAt : ℕ → ℕ
-  runAt n = getD M (e * MEMBER + RUNS + n) 0
+  -- The outermost group around the group n that can end with it, each of those between with it.
+  abbrev pub reachAt : ℕ → ℕ
+  reachAt n = getD M (e * MEMBER + REACHES + n) 0
 
-  -- The innermost member that holds the group n is one of the group n + 1.
-  pub record Next (n : ℕ) : Type 0 where
-    pub within : n < AND-GROUPS
-    pub some : 1 ≤ outerAt n % 128
-    pub group : groupAt (outerAt n % 128) ≡ n + 1
+  -- Sets of members
 
-  -- It can end with the group n, and no other member of the group n + 1 must come: this group lacks nothing once that member has begun.
-  pub record Passed (n : ℕ) : Type 0 where
-    pub next : Next n
-    pub ends : 128 < outerAt n
-    pub others : (neededAt (n + 1) ≡ 0) ⊎ ((neededAt (n + 1) ≡ 1) × (firstAt (n + 1) ≡ outerAt n % 128))
-
-  -- From the group n the walks may go so far.
-  pub record Runs (n far : ℕ) : Type 0 where
-    pub enters : (k : ℕ) → k < far / 16 → Next (n + k)
-    pub passes : (k : ℕ) → k < far % 16 → Passed (n + k)
-
-  abbrev pub AllRuns : Type 0
-  AllRuns = (n : ℕ) → n ≤ AND-GROUPS → Runs n (runAt n)
-
-  -- Whether the bit of the member h is set among those of the members that cannot be nothing.
+  -- The member h cannot be nothing; it holds the group n; it is one of the group n or of a group around it.
   abbrev pub isNeeded : ℕ → Bool
-  isNeeded h = eqb (getD M (e * MEMBER + NEEDED + (h - 1) / 8) 0 / 2 ^ ((h - 1) % 8) % 2) 1
+  isNeeded h = bitAt M (e * MEMBER + NEEDED) h
 
-  -- It is set of each member of the group n that cannot be nothing. That others are set too is not ruled out: only time hangs on it.
-  pub record Noted (n : ℕ) : Type 0 where
-    pub bits : (j : ℕ) → j < neededAt n → 1 ≤ firstAt n + j → firstAt n + j < POSITIONS → isNeeded (firstAt n + j) ≡ true
+  abbrev pub holdsAt : (n h : ℕ) → Bool
+  holdsAt n h = bitAt M (e * MEMBER + SETS + n * (2 * MEMBER-BITS)) h
 
-  abbrev pub AllNoted : Type 0
-  AllNoted = (n : ℕ) → n ≤ AND-GROUPS → Noted n
+  abbrev pub amongAt : (n h : ℕ) → Bool
+  amongAt n h = bitAt M (e * MEMBER + SETS + n * (2 * MEMBER-BITS) + MEMBER-BITS) h
+
+  -- The member h is one of the group n.
+  abbrev pub isOwn : (n h : ℕ) → Bool
+  isOwn n h = leb (firstAt n) h && ltb h (firstAt n + sizeAt n)
+
+  -- No member holds the group n.
+  pub record Outermost (n : ℕ) : Type 0 where
+    pub holds : (h : ℕ) → 1 ≤ h → h < POSITIONS → holdsAt n h ≡ false
+    pub among : (h : ℕ) → 1 ≤ h → h < POSITIONS → amongAt n h ≡ isOwn n h
+    pub reach : reachAt n ≡ n
+
+  -- The innermost member that holds the group n is one of the group f, and `ends` says whether it can end with the group n.
+  pub record Within (n outer f : ℕ) (ends : Bool) : Type 0 where
+    pub holds : (h : ℕ) → 1 ≤ h → h < POSITIONS → holdsAt n h ≡ eqb h outer || holdsAt f h
+    pub among : (h : ℕ) → 1 ≤ h → h < POSITIONS → amongAt n h ≡ isOwn n h || amongAt f h
+    pub reach : reachAt n ≡ cond ends (reachAt f) n
+
+  -- The sets of the group n are those of the group around it with what it adds.
+  pub record Around (n : ℕ) : Type 0 where
+    pub none : outerAt n % 128 ≡ 0 → Outermost n
+    pub some : 1 ≤ outerAt n % 128 → outerAt n % 128 < POSITIONS → n < groupAt (outerAt n % 128) → groupAt (outerAt n % 128) ≤ AND-GROUPS → Within n (outerAt n % 128) (groupAt (outerAt n % 128)) (ltb 128 (outerAt n))
+
+  -- The sets of all groups, and of the members that cannot be nothing.
+  pub record AllSets : Type 0 where
+    pub around : (n : ℕ) → 1 ≤ n → n ≤ AND-GROUPS → Around n
+    pub needed : (h : ℕ) → 1 ≤ h → h < POSITIONS → groupAt h ≤ AND-GROUPS → isNeeded h ≡ ltb h (firstAt (groupAt h) + neededAt (groupAt h))
+
+  -- Members count in the order of their groups.
+  abbrev pub Ordered : Type 0
+  Ordered = (n m : ℕ) → 1 ≤ n → n < m → m ≤ AND-GROUPS → 1 ≤ firstAt m → firstAt n + sizeAt n ≤ firstAt m
 
   -- What is kept of a group and of its members.
   pub record Grouped (l : Level) : Type 0 where
@@ -163,8 +178,8 @@ module _ (M : List ℕ) (e : ℕ) where
   pub record Told (g : Group) : Type 0 where
     pub start : holderAt 0 ≡ 0
     pub places : (u : ℕ) → has g u ≡ true → Chain u true (holderAt u) (levels g 0 u)
-    pub runs : AllRuns
-    pub noted : AllNoted
+    pub sets : AllSets
+    pub order : Ordered
     pub whole : (u : ℕ) → has g u ≡ true → (levels g 0 u ≡ []) ⊎ (MEMBERS ≤ length M)
 
 -- What has begun
@@ -186,10 +201,6 @@ module _ (begun : List ℕ) (level : ℕ) where
     abbrev pub AllMarked : List Level → Type 0
     AllMarked [] = true ≡ true
     AllMarked (l ∷ ls) = Marked l × AllMarked ls
-
-  -- Every member of the element e has begun whose bit is set among those that cannot be nothing.
-  pub record AllBegun (M : List ℕ) (e : ℕ) : Type 0 where
-    pub bits : (h : ℕ) → 1 ≤ h → h < POSITIONS → isNeeded M e h ≡ true → begunAt h ≡ true
 
   -- The bits of the level are those of the places taken in the element e, whose model is g, after the place u. At its start they are anything.
   pub record Standing (M : List ℕ) (e : ℕ) (g : Group) (u : ℕ) (taken : List ℕ) : Type 0 where

@@ -221,7 +221,7 @@ fn put_element(
     }
     model_rows::put_rows(rows, e, table, n, 128);
     raise_facts(facts, e);
-    member_runs::fill(members, e, table, d.code);
+    member_sets::fill(members, e, table, d.code);
 }
 
 // Fills the tables, which are all 0, from an accepted type file whose elements are recorded in `elements`. Where no "&" stands in it there need be no table

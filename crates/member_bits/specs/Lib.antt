@@ -1,0 +1,2 @@
+-- Members as bits.
+pub mod Having
