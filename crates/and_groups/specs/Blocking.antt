@@ -1,188 +1,229 @@
--- The walk that looks for the first group that blocks: what is left of the groups around p blocks exactly if all do.
-use Prim.Native.Nat.{ℕ, zero, suc, _+_, _-_, _%_, _≤_, _<_}
+-- The first group that blocks is that of the first member which must come and has not begun, if the groups up to it can end.
+use Prim.Native.Nat.{ℕ, _+_, _-_, _%_, _≤_, _<_}
 use mathlib.Core.Path.{_≡_, refl, sym, _∙_, ap, subst}
 use mathlib.Core.Bool.{Bool, true, false, _&&_, _||_, not, cond, false≢true}
-use mathlib.Core.Logic.{_⊎_}
 use mathlib.Core.List.{List, [], _∷_}
+use native.Mathlib.Decide.{decLt}
 use native.Mathlib.Omega.{arith}
-use lib.ListN.{getD}
+use lib.Dec.{ltb}
+use borrow.Author.Tests.{ltb-true, ltb-false}
 use Rattle.rules.specs.Walk.{Group}
-use Rattle.layout.specs.Sizes.{AND-GROUPS}
-use Rattle.model_sets.specs.Sets.{lastM}
+use Rattle.layout.specs.Sizes.{POSITIONS, AND-GROUPS}
+use Rattle.model_sets.specs.Bits.{and-both, and-left, and-right, or-left, or-cases, not-true, bool-cases}
+use Rattle.model_sets.specs.Sets.{hasM, lastM}
 use Rattle.and_laws.specs.Rest.{allM}
 use Rattle.and_laws.specs.Req.{restReq}
 use Rattle.and_laws.specs.Rows.{fine}
 use Rattle.and_laws.specs.Levels.{blocksIn, loneIn}
 use Rattle.and_laws.specs.Ranked.{Level, groupsOf, Rising}
-use Rattle.member_laws.specs.Members.{groupAt, recordAt, firstAt, neededAt, outerAt, runAt, Passed, AllRuns, Grouped, Chain, begunAt, Marked, AllMarked}
-use Rattle.member_laws.specs.Inside.{EachLevel, IsAround}
-use Rattle.member_laws.specs.Around.{memberAt, member-group, member-small}
-use Rattle.member_laws.specs.Running.{passed-fine}
-use Rattle.and_groups.specs.Walks.{Lacks, Blocking, free, held, Blocks}
+use Rattle.member_laws.specs.Members.{amount, groupAt, firstAt, sizeAt, outerAt, reachAt, isNeeded, amongAt, isOwn, AllSets, Ordered, Grouped, Chain, begunAt, Marked, AllMarked}
+use Rattle.member_laws.specs.Inside.{EachLevel, each-level, IsAround}
+use Rattle.member_laws.specs.Around.{memberAt, member-small, chain-kept}
+use Rattle.member_laws.specs.Sets.{anyOwn, own-range, own-group, begun-fine, fine-begun, outermost, within-next, among-outward, own-above}
+use Rattle.member_bits.specs.declared.Bits.{Bits}
+use Rattle.member_bits.specs.Having as having
+use Rattle.member_bits.specs.Having.{Has}
+use Rattle.and_groups.specs.Walks.{Blocking, free, held, Blocks}
+use Rattle.and_groups.specs.Entering.{First, first-of, has-same}
 
-pub record Left (M begun : List ℕ) (level e h passed : ℕ) (g : Group) (p c : ℕ) (S : ℕ → Bool) (blocks : Bool) (due : ℕ) : Type 0 where
-  pub groups : List Level
-  pub chain : Chain M e p true h groups
-  pub rising : Rising passed c groups
-  pub around : EachLevel (IsAround g 0 p) groups
-  pub marked : AllMarked begun level M e S groups
-  pub taken : EachLevel (λ (l : Level). begunAt begun level (memberAt M e p l) ≡ true) groups
-  pub same : blocksIn (groupsOf groups) p S ≡ blocks
-  pub lone : blocks ≡ true → loneIn (groupsOf groups) S ≡ due
+module _ (M : List ℕ) (e : ℕ) (sets : AllSets M e) (order : Ordered M e) (begun : List ℕ) (level : ℕ) (g : Group) (p : ℕ) (S : ℕ → Bool) where
+  abbrev Around : List Level → Type 0
+  Around ls = EachLevel (IsAround g 0 p) ls
 
-pub record Seeking (M begun : List ℕ) (level e inner h passed : ℕ) : Type 0 where
-  pub left : AllRuns M e → (g : Group) (p : ℕ) (S : ℕ → Bool) (ls : List Level) (c : ℕ) → Chain M e p true inner ls → Rising 0 c ls → EachLevel (IsAround g 0 p) ls → AllMarked begun level M e S ls → EachLevel (λ (l : Level). begunAt begun level (memberAt M e p l) ≡ true) ls → Left M begun level e h passed g p c S (blocksIn (groupsOf ls) p S) (loneIn (groupsOf ls) S)
+  have : (ls : List Level) → Around ls → EachLevel (λ (l : Level). hasM (l .members) p ≡ true) ls
+  have = each-level (IsAround g 0 p) (λ (l : Level). hasM (l .members) p ≡ true) (λ l a. a .1)
 
-pub seeking-start : (M begun : List ℕ) (level e inner : ℕ) → Seeking M begun level e inner inner 0
-seeking-start M begun level e inner = record { left = λ runs g p S ls c chain rising around marked taken. record { groups = ls; chain = chain; rising = rising; around = around; marked = marked; taken = taken; same = refl; lone = λ b. refl } }
+  -- The member n must come in one of these groups and has not begun.
+  abbrev lacking : List Level → ℕ → Bool
+  lacking ls n = (anyOwn M e n ls && isNeeded M e n) && not (begunAt begun level n)
 
-module _ (M begun : List ℕ) (level e h passed : ℕ) (g : Group) (p c : ℕ) (S : ℕ → Bool) (blocks : Bool) (due : ℕ) where
+  -- x is the first that does, or 0.
+  abbrev FirstOf : List Level → ℕ → Type 0
+  FirstOf ls x = having.First (lacking ls) x
+
+  -- A group reaches itself at least.
+  reach-least : (a c : ℕ) (ends : Bool) (h : ℕ) (l : Level) (ls : List Level) → Chain M e p ends h (l ∷ ls) → Rising a c (l ∷ ls) → Around (l ∷ ls) → l .number ≤ reachAt M e (l .number)
+  reach-least a c ends h l [] (kept, flag, is, says, chain) (r, rs) (i, j) = omega (arith, outermost M e sets p l kept (omega arith) chain .reach)
+  reach-least a c ends h l (k ∷ ks) (kept, flag, is, says, chain) (r, rs) (i, j) =
+      let w = within-next M e sets p l kept (omega arith) _ k ks chain (j .0 .1) (rs .0) in
+      bool-cases (ltb 128 (outerAt M e (l .number)))
+      (λ b. omega (arith, w .reach ∙ ap (λ (t : Bool). cond t (reachAt M e (k .number)) (l .number)) b, reach-least (l .number) c _ _ k ks chain rs j, rs .0))
+      (λ b. omega (arith, w .reach ∙ ap (λ (t : Bool). cond t (reachAt M e (k .number)) (l .number)) b))
+
+  -- What a group adds comes before what those around it have.
+  own-before : (l : Level) → Grouped M e l → 1 ≤ l .number → (c : ℕ) (ls : List Level) → EachLevel (Grouped M e) ls → Rising (l .number) c ls → (m n : ℕ) → isOwn M e (l .number) m ≡ true → anyOwn M e n ls ≡ true → m < n
+  own-before l kept some c [] ks rs m n x y = absurd (false≢true y)
+  own-before l kept some c (k ∷ ls) (q, ks) (r, rs) m n x y =
+      or-cases (isOwn M e (k .number) n) (anyOwn M e n ls)
+      (λ z. omega (arith, own-range M e l kept m x, own-range M e k q n z, order (l .number) (k .number) some r (q .within) (q .some), kept .size))
+      (λ z. own-before l kept some c ls ks (later c ls (omega arith) rs) m n x z) y
+    where
+      later : (c : ℕ) (ls : List Level) → l .number ≤ k .number → Rising (k .number) c ls → Rising (l .number) c ls
+      later c [] z r = omega arith
+      later c (j ∷ ls) z (r, rs) = (omega arith, rs)
+
+  -- Where the group lacks nothing, the first that is lacking is lacking farther out.
+  module _ (l : Level) (kept : Grouped M e l) (marked : Marked begun level M e S l) (ls : List Level) (all : allM (fine S) (l .members) ≡ true) where
+    same-lacking : (n : ℕ) → lacking (l ∷ ls) n ≡ lacking ls n
+    same-lacking n = bool-cases (isOwn M e (l .number) n)
+        (λ o. bool-cases (isNeeded M e n)
+        (λ m. rw (fine-begun M e l kept sets begun level S marked all n o m, m, o) (sym (no-and (anyOwn M e n ls && true))))
+        (λ m. rw (m, o) (sym (ap (λ (t : Bool). t && not (begunAt begun level n)) (no-and (anyOwn M e n ls))))))
+        (λ o. rw o)
+      where
+        no-and : (t : Bool) → t && false ≡ false
+        no-and true = refl
+        no-and false = refl
+
+    first-outward : (x : ℕ) → FirstOf (l ∷ ls) x → FirstOf ls x
+    first-outward x (having.none z f) = having.none z (λ n a b. sym (same-lacking n) ∙ f n a b)
+    first-outward x (having.some a b y f) = having.some a b (sym (same-lacking x) ∙ y) (λ n c d. sym (same-lacking n) ∙ f n c d)
+
+  -- The first group lacks a member: the first that is lacking is its own.
+  first-own : (l : Level) (kept : Grouped M e l) → Marked begun level M e S l → 1 ≤ l .number → (c : ℕ) (ls : List Level) → EachLevel (Grouped M e) ls → Rising (l .number) c ls → allM (fine S) (l .members) ≡ false → (x : ℕ) → FirstOf (l ∷ ls) x → (1 ≤ x) × (isOwn M e (l .number) x ≡ true) × (begunAt begun level x ≡ false)
+  first-own l kept marked some c ls ks rs lacks x (having.none z f) =
+      absurd (false≢true (sym lacks ∙ begun-fine M e l kept sets begun level S marked (λ n o m. let r = own-range M e l kept n o in nothing n o m (f n (omega (arith, kept .some)) (omega (arith, kept .room))))))
+    where
+      nothing : (n : ℕ) → isOwn M e (l .number) n ≡ true → isNeeded M e n ≡ true → lacking (l ∷ ls) n ≡ false → begunAt begun level n ≡ true
+      nothing n o m q = bool-cases (begunAt begun level n) (λ b. b) (λ b. absurd (false≢true (sym q ∙ rw (o, m, b))))
+  first-own l kept marked some c ls ks rs lacks x (having.some a b y f) =
+      (a, bool-cases (isOwn M e (l .number) x) (λ o. o) (λ o. absurd (false≢true (sym lacks ∙ begun-fine M e l kept sets begun level S marked (λ n i m. bool-cases (begunAt begun level n) (λ t. t) (λ t. absurd (false≢true (sym (f n (omega (arith, own-range M e l kept n i, kept .some)) (own-before l kept some c ls ks rs n x i (outer o))) ∙ rw (i, m, t)))))))), not-begun (begunAt begun level x) (and-right (anyOwn M e x (l ∷ ls) && isNeeded M e x) _ y))
+    where
+      not-begun : (t : Bool) → not t ≡ true → t ≡ false
+      not-begun true q = absurd (false≢true q)
+      not-begun false q = refl
+
+      outer : isOwn M e (l .number) x ≡ false → anyOwn M e x ls ≡ true
+      outer o = rw o at (and-left (anyOwn M e x (l ∷ ls)) _ (and-left (anyOwn M e x (l ∷ ls) && isNeeded M e x) _ y))
+
+  -- Whether the first that is lacking is within reach decides whether a group blocks.
+  data Found (l : Level) (ls : List Level) (x : ℕ) : Type 0 where
+    beyond : (1 ≤ x → reachAt M e (l .number) < groupAt M e x) → blocksIn (groupsOf (l ∷ ls)) p S ≡ false → Found l ls x
+    within : 1 ≤ x → groupAt M e x ≤ reachAt M e (l .number) → Blocking M begun level e g p S (l ∷ ls) x → Found l ls x
+
+  -- The group at hand can end.
+  module _ (a c h : ℕ) (l : Level) (kept : Grouped M e l) (is : h ≡ memberAt M e p l + 128) (says : true ≡ true → true ≡ lastM (l .members) p) (i : IsAround g 0 p l) (m : Marked begun level M e S l) (r : a < l .number) (x : ℕ) where
+    ends : lastM (l .members) p ≡ true
+    ends = sym (says refl)
+
+    found-lacks : (ls : List Level) → Chain M e p (true && lastM (l .members) p) (outerAt M e (l .number)) ls → Rising (l .number) c ls → Around ls → FirstOf (l ∷ ls) x → allM (fine S) (l .members) ≡ false → Found l ls x
+    found-lacks ls chain rs j f z =
+        let (some, own, idle) = first-own l kept m (omega arith) c ls (chain-kept M e p _ _ ls chain) rs z x f in
+        within some (omega (arith, own-group M e l kept x own, reach-least a c true h l ls (kept, true, is, says, chain) (r, rs) (i, j))) (held some l own idle kept m i (rw (ends, z)) (rw z))
+
+    found-last : FirstOf (l ∷ []) x → allM (fine S) (l .members) ≡ true → Found l [] x
+    found-last f z = go (first-outward l kept m [] z x f)
+      where
+        go : FirstOf [] x → Found l [] x
+        go (having.none y n) = beyond (λ s. absurd (omega arith)) (rw (ends, z))
+        go (having.some s t y n) = absurd (false≢true y)
+
+    found-on : (k : Level) (ks : List Level) → Chain M e p (true && lastM (l .members) p) (outerAt M e (l .number)) (k ∷ ks) → Rising (l .number) c (k ∷ ks) → Around (k ∷ ks) → FirstOf (l ∷ k ∷ ks) x → allM (fine S) (l .members) ≡ true → (Chain M e p true (outerAt M e (l .number)) (k ∷ ks) → 128 < outerAt M e (l .number) → FirstOf (k ∷ ks) x → Found k ks x) → Found l (k ∷ ks) x
+    found-on k ks q (t, ts) (v, vs) f z farther = bool-cases (ltb 128 (outerAt M e (l .number))) onward stops
+      where
+        next : Chain M e p true (outerAt M e (l .number)) (k ∷ ks)
+        next = subst (λ (b : Bool). Chain M e p b (outerAt M e (l .number)) (k ∷ ks)) ends q
+
+        reach : reachAt M e (l .number) ≡ cond (ltb 128 (outerAt M e (l .number))) (reachAt M e (k .number)) (l .number)
+        reach = within-next M e sets p l kept (omega arith) _ k ks q (v .1) t .reach
+
+        rest : FirstOf (k ∷ ks) x
+        rest = first-outward l kept m (k ∷ ks) z x f
+
+        onward : ltb 128 (outerAt M e (l .number)) ≡ true → Found l (k ∷ ks) x
+        onward b = go (farther next (ltb-true 128 (outerAt M e (l .number)) b) rest)
+          where
+            far : reachAt M e (l .number) ≡ reachAt M e (k .number)
+            far = reach ∙ ap (λ (y : Bool). cond y (reachAt M e (k .number)) (l .number)) b
+
+            wider : Blocking M begun level e g p S (k ∷ ks) x → Blocking M begun level e g p S (l ∷ k ∷ ks) x
+            wider (free y n) = free y (rw (ends, z) n)
+            wider (held s o own idle kept marked is blocks lone) = held s o own idle kept marked is (rw (ends, z) blocks) (rw z lone)
+
+            go : Found k ks x → Found l (k ∷ ks) x
+            go (beyond y n) = beyond (λ s. omega (arith, far, y s)) (rw (ends, z) n)
+            go (within s y n) = within s (omega (arith, far)) (wider n)
+
+        stops : ltb 128 (outerAt M e (l .number)) ≡ false → Found l (k ∷ ks) x
+        stops b = beyond (λ s. omega (arith, reach ∙ ap (λ (y : Bool). cond y (reachAt M e (k .number)) (l .number)) b, above s rest)) (rw (ends, z) (last next))
+          where
+            last : Chain M e p true (outerAt M e (l .number)) (k ∷ ks) → blocksIn (groupsOf (k ∷ ks)) p S ≡ false
+            last (kept, true, is, says, chain) = absurd (omega (arith, member-small M e k kept p (v .1), ltb-false 128 (outerAt M e (l .number)) b))
+            last (kept, false, is, says, chain) = ap (λ (y : Bool). y && (not (allM (fine S) (k .members)) || blocksIn (groupsOf ks) p S)) (sym (says refl))
+
+            above : 1 ≤ x → FirstOf (k ∷ ks) x → l .number < groupAt M e x
+            above s (having.none y n) = absurd (omega arith)
+            above s (having.some a d y n) = own-above M e sets p (l .number) c (k ∷ ks) (chain-kept M e p _ _ (k ∷ ks) next) (t, ts) x (and-left (anyOwn M e x (k ∷ ks)) _ (and-left (anyOwn M e x (k ∷ ks) && isNeeded M e x) _ y))
+
+  -- The member at hand can end.
+  can-end : (h : ℕ) (l : Level) (ls : List Level) → Chain M e p true h (l ∷ ls) → 128 < h → hasM (l .members) p ≡ true → (h ≡ memberAt M e p l + 128) × (true ≡ true → true ≡ lastM (l .members) p)
+  can-end h l ls (kept, true, is, says, chain) large i = (is, says)
+  can-end h l ls (kept, false, is, says, chain) large i = absurd (omega (arith, member-small M e l kept p i))
+
+  found : (a c h : ℕ) (l : Level) (ls : List Level) → Chain M e p true h (l ∷ ls) → 128 < h → Rising a c (l ∷ ls) → Around (l ∷ ls) → AllMarked begun level M e S (l ∷ ls) → (x : ℕ) → FirstOf (l ∷ ls) x → Found l ls x
+  found a c h l [] chain large (r, rs) (i, j) (m, ms) x f =
+      let (is, says) = can-end h l [] chain large (i .1) in
+      bool-cases (allM (fine S) (l .members)) (found-last a c h l (chain .0) is says i m r x f) (found-lacks a c h l (chain .0) is says i m r x [] (chain .4) rs j f)
+  found a c h l (k ∷ ks) chain large (r, rs) (i, j) (m, ms) x f =
+      let (is, says) = can-end h l (k ∷ ks) chain large (i .1) in
+      bool-cases (allM (fine S) (l .members))
+      (λ z. found-on a c h l (chain .0) is says i m r x k ks (chain .4) rs j f z (λ next big rest. found (l .number) c (outerAt M e (l .number)) k ks next big rs j ms x rest))
+      (found-lacks a c h l (chain .0) is says i m r x (k ∷ ks) (chain .4) rs j f)
+
+-- What is read of the sets
+module _ (M : List ℕ) (e inner : ℕ) (b : Bits) where
   -- The member at hand cannot end, or there is none.
-  left-free : h ≤ 128 → Left M begun level e h passed g p c S blocks due → blocks ≡ false
-  left-free z w = sym (w .same) ∙ go (w .groups) (w .chain) (w .around)
+  pub blocks-none : inner ≤ 128 → Blocks M e inner b 0
+  blocks-none z = record { small = omega arith; says = λ sets order begun level has g p S ls c chain rising around marked. free refl (go g p S ls chain around) }
     where
-      go : (ls : List Level) → Chain M e p true h ls → EachLevel (IsAround g 0 p) ls → blocksIn (groupsOf ls) p S ≡ false
-      go [] k a = refl
-      go (l ∷ ls) (k, true, x, y, r) (a, b) = absurd (omega (arith, member-small M e l k p (a .1)))
-      go (l ∷ ls) (k, false, x, y, r) (a, b) = ap (λ (t : Bool). t && (not (allM (fine S) (l .members)) || blocksIn (groupsOf ls) p S)) (sym (y refl))
+      go : (g : Group) (p : ℕ) (S : ℕ → Bool) (ls : List Level) → Chain M e p true inner ls → EachLevel (IsAround g 0 p) ls → blocksIn (groupsOf ls) p S ≡ false
+      go g p S [] chain around = refl
+      go g p S (l ∷ ls) (kept, true, is, says, chain) (i, j) = absurd (omega (arith, member-small M e l kept p (i .1)))
+      go g p S (l ∷ ls) (kept, false, is, says, chain) (i, j) = ap (λ (y : Bool). y && (not (allM (fine S) (l .members)) || blocksIn (groupsOf ls) p S)) (sym (says refl))
 
-  -- The member at hand can end: its group is the first that is left.
-  record First (w : Left M begun level e h passed g p c S blocks due) : Type 0 where
-    pub level-at : Level
-    pub rest : List Level
-    pub kept : Grouped M e level-at
-    pub number : groupAt M e (h - 128) ≡ level-at .number
-    pub above : passed < level-at .number
-    pub is : IsAround g 0 p level-at
-    pub marks : Marked begun level M e S level-at
-    pub chain : Chain M e p true (outerAt M e (level-at .number)) rest
-    pub rising : Rising (level-at .number) c rest
-    pub around : EachLevel (IsAround g 0 p) rest
-    pub marked : AllMarked begun level M e S rest
-    pub member : h - 128 ≡ memberAt M e p level-at
-    pub large : 1 ≤ h - 128
-    pub here : begunAt begun level (memberAt M e p level-at) ≡ true
-    pub taken : EachLevel (λ (l : Level). begunAt begun level (memberAt M e p l) ≡ true) rest
-    pub same : not (allM (fine S) (level-at .members)) || blocksIn (groupsOf rest) p S ≡ blocks
-    pub lone : blocks ≡ true → cond (allM (fine S) (level-at .members)) (loneIn (groupsOf rest) S) (restReq (level-at .members) S) ≡ due
+  module _ (ends : 128 < inner) (h : ℕ) (lower : h ≡ inner - 128) (n : ℕ) (at : n ≡ groupAt M e h) where
+    -- The member at hand is one of the first group.
+    first-at : (g : Group) (p : ℕ) (l : Level) (ls : List Level) → Chain M e p true inner (l ∷ ls) → IsAround g 0 p l → First M e h p l
+    first-at g p l ls (kept, true, is, says, chain) i = first-of M e h p true inner l ls (omega (arith, member-small M e l kept p (i .1))) (kept, true, is, says, chain) (i .1)
+    first-at g p l ls (kept, false, is, says, chain) i = absurd (omega (arith, member-small M e l kept p (i .1)))
 
-  first : 128 < h → (w : Left M begun level e h passed g p c S blocks due) → First w
-  first z w = go (w .groups) (w .chain) (w .rising) (w .around) (w .marked) (w .taken) (w .same) (w .lone)
-    where
-      go : (ls : List Level) → Chain M e p true h ls → Rising passed c ls → EachLevel (IsAround g 0 p) ls → AllMarked begun level M e S ls → EachLevel (λ (l : Level). begunAt begun level (memberAt M e p l) ≡ true) ls → blocksIn (groupsOf ls) p S ≡ blocks → (blocks ≡ true → loneIn (groupsOf ls) S ≡ due) → First w
-      go [] k r a m t s o = absurd (omega arith)
-      go (l ∷ ls) (k, false, x, y, q) r (a, b) m t s o = absurd (omega (arith, member-small M e l k p (a .1)))
-      go (l ∷ ls) (k, true, x, y, q) (v, r) (a, b) (m, n) (t, ts) s o =
-          let ends : lastM (l .members) p ≡ true = sym (y refl) in
-          let is : h - 128 ≡ memberAt M e p l = omega arith in
-          record {
-            level-at = l;
-            rest = ls;
-            kept = k;
-            number = ap (groupAt M e) is ∙ member-group M e l k p (a .1);
-            above = v;
-            is = a;
-            marks = m;
-            chain = subst (λ (t : Bool). Chain M e p t (outerAt M e (l .number)) ls) ends q;
-            rising = r;
-            around = b;
-            marked = n;
-            member = is;
-            large = omega (arith, member-small M e l k p (a .1));
-            here = t;
-            taken = ts;
-            same = ap (λ (t : Bool). t && (not (allM (fine S) (l .members)) || blocksIn (groupsOf ls) p S)) (sym ends) ∙ s;
-            lone = o;
-          }
+    blocks-by : (r : ℕ) → r ≤ 128 → ((g : Group) (p : ℕ) (S : ℕ → Bool) (l : Level) (ls : List Level) (c : ℕ) → AllSets M e → Ordered M e → (begun : List ℕ) (level : ℕ) → Has b (begunAt begun level) → Chain M e p true inner (l ∷ ls) → Rising 0 c (l ∷ ls) → EachLevel (IsAround g 0 p) (l ∷ ls) → AllMarked begun level M e S (l ∷ ls) → First M e h p l → Blocking M begun level e g p S (l ∷ ls) r) → Blocks M e inner b r
+    blocks-by r small f = record { small = small; says = λ sets order begun level has g p S ls c chain rising around marked. go sets order begun level has g p S ls c chain rising around marked }
+      where
+        go : AllSets M e → Ordered M e → (begun : List ℕ) (level : ℕ) → Has b (begunAt begun level) → (g : Group) (p : ℕ) (S : ℕ → Bool) (ls : List Level) (c : ℕ) → Chain M e p true inner ls → Rising 0 c ls → EachLevel (IsAround g 0 p) ls → AllMarked begun level M e S ls → Blocking M begun level e g p S ls r
+        go sets order begun level has g p S [] c chain rising around marked = absurd (omega arith)
+        go sets order begun level has g p S (l ∷ ls) c chain rising around marked = f g p S l ls c sets order begun level has chain rising around marked (first-at g p l ls chain (around .0))
 
-  left-stuck : 128 < h → groupAt M e (h - 128) ≤ passed → Left M begun level e h passed g p c S blocks due → ⊥
-  left-stuck z y w = let f = first z w in omega (arith, f .number, f .above)
+    pub blocks-far : AND-GROUPS < n → Blocks M e inner b 0
+    blocks-far z = blocks-by 0 (omega arith) (λ g p S l ls c sets order begun level has chain rising around marked f. absurd (omega (arith, f .within)))
 
-  -- The first group lacks nothing: the others say the same.
-  left-past : (ends : 128 < h) (w : Left M begun level e h passed g p c S blocks due) (n : ℕ) → n ≡ groupAt M e (h - 128) → allM (fine S) (first ends w .level-at .members) ≡ true → Left M begun level e (outerAt M e n) n g p c S blocks due
-  left-past ends w n read all =
-      let f = first ends w in
-      let at : n ≡ f .level-at .number = read ∙ f .number in
-      record {
-        groups = f .rest;
-        chain = subst (λ (x : ℕ). Chain M e p true (outerAt M e x) (f .rest)) (sym at) (f .chain);
-        rising = subst (λ (x : ℕ). Rising x c (f .rest)) (sym at) (f .rising);
-        around = f .around;
-        marked = f .marked;
-        taken = f .taken;
-        same = ap (λ (t : Bool). not t || blocksIn (groupsOf (f .rest)) p S) (sym all) ∙ f .same;
-        lone = λ b. ap (λ (t : Bool). cond t (loneIn (groupsOf (f .rest)) S) (restReq (f .level-at .members) S)) (sym all) ∙ f .lone b;
-      }
+    module _ (among needed common without : Bits) (is-among : Has among (amongAt M e n)) (is-needed : Has needed (isNeeded M e)) (is-common : (f k : ℕ → Bool) → Has among f → Has needed k → Has common (λ (x : ℕ). f x && k x)) (is-without : (f k : ℕ → Bool) → Has common f → Has b k → Has without (λ (x : ℕ). f x && not (k x))) (x : ℕ) (few : x ≤ 128) (is-first : (f : ℕ → Bool) → Has without f → having.First f x) where
+      found-at : (g : Group) (p : ℕ) (S : ℕ → Bool) (l : Level) (ls : List Level) (c : ℕ) (sets : AllSets M e) (order : Ordered M e) (begun : List ℕ) (level : ℕ) → Has b (begunAt begun level) → Chain M e p true inner (l ∷ ls) → Rising 0 c (l ∷ ls) → (around : EachLevel (IsAround g 0 p) (l ∷ ls)) → AllMarked begun level M e S (l ∷ ls) → First M e h p l → Found M e sets order begun level g p S l ls x
+      found-at g p S l ls c sets order begun level has chain rising around marked f =
+          found M e sets order begun level g p S 0 c inner l ls chain ends rising around marked x
+          (is-first _
+          (has-same without _ _
+          (λ m y z. ap (λ (q : Bool). (q && isNeeded M e m) && not (begunAt begun level m)) (ap (λ (k : ℕ). amongAt M e k m) (at ∙ f .group) ∙ among-outward M e sets p 0 c true inner l ls chain rising (each-level (IsAround g 0 p) (λ (l : Level). hasM (l .members) p ≡ true) (λ l a. a .1) (l ∷ ls) around) m y z))
+          (is-without _ _ (is-common _ _ is-among is-needed) has)))
 
--- A group in which no other member must come lacks nothing.
-left-next : (M begun : List ℕ) (level e n : ℕ) (g : Group) (p c : ℕ) (S : ℕ → Bool) (blocks : Bool) (due : ℕ) → Passed M e n → Left M begun level e (outerAt M e n) n g p c S blocks due → Left M begun level e (outerAt M e (n + 1)) (n + 1) g p c S blocks due
-left-next M begun level e n g p c S blocks due at v = left-past M begun level e (outerAt M e n) n g p c S blocks due (at .ends) v (n + 1) read (passed-fine M e begun level S l (d .kept) (d .marks) (memberAt M e p l) (d .here) others)
-  where
-    d : First M begun level e (outerAt M e n) n g p c S blocks due v
-    d = first M begun level e (outerAt M e n) n g p c S blocks due (at .ends) v
-
-    l : Level
-    l = d .level-at
-
-    -- 128 is all that it has more
-    lower : outerAt M e n % 128 ≡ outerAt M e n - 128
-    lower = omega (arith, at .ends, d .member, member-small M e l (d .kept) p (d .is .1))
-
-    read : n + 1 ≡ groupAt M e (outerAt M e n - 128)
-    read = sym (at .next .group) ∙ ap (groupAt M e) lower
-
-    number : l .number ≡ n + 1
-    number = sym (d .number) ∙ sym read
-
-    others : (neededAt M e (l .number) ≡ 0) ⊎ ((neededAt M e (l .number) ≡ 1) × (firstAt M e (l .number) ≡ memberAt M e p l))
-    others = subst (λ (x : ℕ). (neededAt M e x ≡ 0) ⊎ ((neededAt M e x ≡ 1) × (firstAt M e x ≡ memberAt M e p l))) (sym number) (subst (λ (y : ℕ). (neededAt M e (n + 1) ≡ 0) ⊎ ((neededAt M e (n + 1) ≡ 1) × (firstAt M e (n + 1) ≡ y))) (lower ∙ d .member) (at .others))
-
-left-run : (M begun : List ℕ) (level e n : ℕ) (g : Group) (p c : ℕ) (S : ℕ → Bool) (blocks : Bool) (due k : ℕ) → ((j : ℕ) → j < k → Passed M e (n + j)) → Left M begun level e (outerAt M e n) n g p c S blocks due → Left M begun level e (outerAt M e (n + k)) (n + k) g p c S blocks due
-left-run M begun level e n g p c S blocks due zero f w = let z : n ≡ n + 0 = omega arith in subst (λ (x : ℕ). Left M begun level e (outerAt M e x) x g p c S blocks due) z w
-left-run M begun level e n g p c S blocks due (suc k) f w =
-    let more : n + k + 1 ≡ n + suc k = omega arith in
-    subst (λ (x : ℕ). Left M begun level e (outerAt M e x) x g p c S blocks due) more (left-next M begun level e (n + k) g p c S blocks due (f k (omega arith)) (left-run M begun level e n g p c S blocks due k (λ j l. f j (omega arith)) w))
-
-module _ (M begun : List ℕ) (level e inner h passed : ℕ) (w : Seeking M begun level e inner h passed) where
-  pub blocks-free : h ≤ 128 → Blocks M begun level e inner 0
-  blocks-free z = record { small = omega arith; says = λ runs g p S ls c k r a m t. free refl (left-free M begun level e h passed g p c S _ _ z (w .left runs g p S ls c k r a m t)) }
-
-  module _ (ends : 128 < h) (n : ℕ) (read : n ≡ groupAt M e (h - 128)) where
-    pub blocks-stuck : n ≤ passed → Blocks M begun level e inner 0
-    blocks-stuck z = record { small = omega arith; says = λ runs g p S ls c k r a m t. absurd (left-stuck M begun level e h passed g p c S _ _ ends (omega arith) (w .left runs g p S ls c k r a m t)) }
-
-    module _ (lacks : Bool) (tells : Lacks M begun level e n lacks) where
-      pub blocks-held : n ≤ 255 → lacks ≡ true → Blocks M begun level e inner n
-      blocks-held few z = record { small = few; says = λ runs g p S ls c k r a m t. go g p S ls c (w .left runs g p S ls c k r a m t) }
+      pub blocks-free : x ≡ 0 → Blocks M e inner b 0
+      blocks-free z = blocks-by 0 (omega arith) (λ g p S l ls c sets order begun level has chain rising around marked f. go g p S l ls c sets order begun level (found-at g p S l ls c sets order begun level has chain rising around marked f))
         where
-          go : (g : Group) (p : ℕ) (S : ℕ → Bool) (ls : List Level) (c : ℕ) → Left M begun level e h passed g p c S (blocksIn (groupsOf ls) p S) (loneIn (groupsOf ls) S) → Blocking M begun level e g p S ls n
-          go g p S ls c v =
-              let f = first M begun level e h passed g p c S _ _ ends v in
-              let l = f .level-at in
-              let at : n ≡ l .number = read ∙ f .number in
-              let idle : not (allM (fine S) (l .members)) ≡ true = sym (tells .says l S at (f .kept) (f .marks)) ∙ z in
-              let blocks : blocksIn (groupsOf ls) p S ≡ true = sym (f .same) ∙ ap (λ (t : Bool). t || blocksIn (groupsOf (f .rest)) p S) idle in
-              held (omega (arith, f .above)) l at (f .kept) (f .marks) (f .is) blocks (sym (f .lone blocks) ∙ ap (λ (t : Bool). cond t (loneIn (groupsOf (f .rest)) S) (restReq (l .members) S)) (no (allM (fine S) (l .members)) idle))
-            where
-              no : (t : Bool) → not t ≡ true → t ≡ false
-              no true x = absurd (false≢true x)
-              no false x = refl
+          go : (g : Group) (p : ℕ) (S : ℕ → Bool) (l : Level) (ls : List Level) (c : ℕ) (sets : AllSets M e) (order : Ordered M e) (begun : List ℕ) (level : ℕ) → Found M e sets order begun level g p S l ls x → Blocking M begun level e g p S (l ∷ ls) 0
+          go g p S l ls c sets order begun level (beyond y w) = free refl w
+          go g p S l ls c sets order begun level (within s y w) = absurd (omega arith)
 
-      -- It lacks nothing, and neither do those of its run.
-      pub seeking-on : lacks ≡ false → (k : ℕ) → k ≤ runAt M e n % 16 → (outer : ℕ) → outer ≡ getD M (recordAt M e (n + k) + 3) 0 → Seeking M begun level e inner outer (n + k)
-      seeking-on z k far outer o = record { left = λ runs g p S ls c q r a m t. go runs g p S ls c (w .left runs g p S ls c q r a m t) }
-        where
-          yes-of : (t : Bool) → not t ≡ false → t ≡ true
-          yes-of true x = refl
-          yes-of false x = absurd (false≢true (sym x))
+      module _ (some : x ≡ 0 → ⊥) (reach group : ℕ) (is-reach : reach ≡ reachAt M e n) (is-group : group ≡ groupAt M e x) where
+        pub blocks-beyond : reach < group → Blocks M e inner b 0
+        blocks-beyond z = blocks-by 0 (omega arith) (λ g p S l ls c sets order begun level has chain rising around marked f. go g p S l ls sets order begun level f (found-at g p S l ls c sets order begun level has chain rising around marked f))
+          where
+            go : (g : Group) (p : ℕ) (S : ℕ → Bool) (l : Level) (ls : List Level) (sets : AllSets M e) (order : Ordered M e) (begun : List ℕ) (level : ℕ) → First M e h p l → Found M e sets order begun level g p S l ls x → Blocking M begun level e g p S (l ∷ ls) 0
+            go g p S l ls sets order begun level f (beyond y w) = free refl w
+            go g p S l ls sets order begun level f (within s y w) = absurd (omega (arith, is-reach ∙ ap (reachAt M e) (at ∙ f .group)))
 
-          go : AllRuns M e → (g : Group) (p : ℕ) (S : ℕ → Bool) (ls : List Level) (c : ℕ) → Left M begun level e h passed g p c S (blocksIn (groupsOf ls) p S) (loneIn (groupsOf ls) S) → Left M begun level e outer (n + k) g p c S (blocksIn (groupsOf ls) p S) (loneIn (groupsOf ls) S)
-          go runs g p S ls c v =
-              let f = first M begun level e h passed g p c S _ _ ends v in
-              let l = f .level-at in
-              let at : n ≡ l .number = read ∙ f .number in
-              let all : allM (fine S) (l .members) ≡ true = yes-of (allM (fine S) (l .members)) (sym (tells .says l S at (f .kept) (f .marks)) ∙ z) in
-              let small : n ≤ AND-GROUPS = omega (arith, f .kept .within) in
-              subst (λ (x : ℕ). Left M begun level e x (n + k) g p c S (blocksIn (groupsOf ls) p S) (loneIn (groupsOf ls) S)) (sym o)
-              (left-run M begun level e n g p c S _ _ k (λ j i. runs n small .passes j (omega arith))
-              (left-past M begun level e h passed g p c S _ _ ends v n read all))
+        pub blocks-held : group ≤ reach → Blocks M e inner b x
+        blocks-held z = blocks-by x few (λ g p S l ls c sets order begun level has chain rising around marked f. go g p S l ls sets order begun level f (found-at g p S l ls c sets order begun level has chain rising around marked f))
+          where
+            go : (g : Group) (p : ℕ) (S : ℕ → Bool) (l : Level) (ls : List Level) (sets : AllSets M e) (order : Ordered M e) (begun : List ℕ) (level : ℕ) → First M e h p l → Found M e sets order begun level g p S l ls x → Blocking M begun level e g p S (l ∷ ls) x
+            go g p S l ls sets order begun level f (beyond y w) = absurd (omega (arith, is-reach ∙ ap (reachAt M e) (at ∙ f .group), y (omega arith)))
+            go g p S l ls sets order begun level f (within s y w) = w

@@ -1,8 +1,5 @@
 -- What is decided by the members that have begun.
 pub mod Takes
 pub mod Walks
-pub mod Lacking
 pub mod Entering
 pub mod Blocking
-pub mod Following
-pub mod Taking

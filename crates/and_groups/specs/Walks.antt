@@ -1,42 +1,60 @@
--- What the walks outwards give, in the terms of the groups around a place and of the table that has them.
-use Prim.Native.Nat.{ℕ, _%_, _≤_, _<_}
+-- What is asked of the sets, in the terms of the groups around a place and of the table that has them.
+use Prim.Native.Nat.{ℕ, _+_, _/_, _%_, _^_, _≤_, _<_}
 use mathlib.Core.Path.{_≡_}
-use mathlib.Core.Bool.{Bool, true, false, _||_, not}
+use mathlib.Core.Bool.{Bool, true, false, _&&_, _||_, not, cond}
 use mathlib.Core.List.{List}
-use lib.ListN.{length}
+use lib.Dec.{eqb}
+use Rattle.rules.specs.Bytes.{GRPCNT}
 use Rattle.rules.specs.Walk.{Group}
 use Rattle.layout.specs.Sizes.{POSITIONS}
 use Rattle.model_sets.specs.Sets.{hasM}
-use Rattle.and_laws.specs.Rest.{allM}
+use Rattle.and_laws.specs.Sets.{Good}
 use Rattle.and_laws.specs.Req.{restReq}
-use Rattle.and_laws.specs.Rows.{fine}
-use Rattle.and_laws.specs.Levels.{blocksIn, loneIn}
-use Rattle.and_laws.specs.Ranked.{Level, groupsOf, Rising}
-use Rattle.member_laws.specs.Members.{AllRuns, Grouped, Chain, begunAt, Marked, AllMarked, Elsewhere}
+use Rattle.and_laws.specs.Levels.{blocksIn, loneIn, mayIn}
+use Rattle.and_laws.specs.Ranked.{Level, groupsOf, Rising, levels}
+use Rattle.member_laws.specs.Members.{isNeeded, holdsAt, amongAt, isOwn, AllSets, Ordered, Grouped, Chain, begunAt, Marked, AllMarked}
 use Rattle.member_laws.specs.Inside.{EachLevel, IsAround}
-use Rattle.member_laws.specs.Around.{memberAt, isHolder, Closed}
-
--- Whether the group number n lacks a member.
-pub record Lacks (M begun : List ℕ) (level e n : ℕ) (r : Bool) : Type 0 where
-  pub says : (l : Level) (S : ℕ → Bool) → n ≡ l .number → Grouped M e l → Marked begun level M e S l → r ≡ not (allM (fine S) (l .members))
-
--- The place that the only member of the group number n requires that has not begun.
-pub record Due (M begun : List ℕ) (level e n r : ℕ) : Type 0 where
-  pub small : r ≤ 96
-  pub says : (l : Level) (S : ℕ → Bool) → n ≡ l .number → Grouped M e l → Marked begun level M e S l → restReq (l .members) S ≤ 96 → r ≡ restReq (l .members) S
+use Rattle.member_laws.specs.Around.{isHolder}
+use Rattle.member_bits.specs.declared.Bits.{Bits}
+use Rattle.member_bits.specs.Having.{Has}
 
 -- The members around the place u, from the holder on, have begun besides those that had.
-pub record Enters (M : List ℕ) (level e inner : ℕ) (before after : List ℕ) : Type 0 where
-  pub whole : length after ≡ length before
-  pub elsewhere : Elsewhere level before after
-  pub bits : AllRuns M e → (u : ℕ) (ends : Bool) (h c : ℕ) (ls : List Level) → inner ≡ h % 128 → Chain M e u ends h ls → Rising 0 c ls → EachLevel (λ (l : Level). hasM (l .members) u ≡ true) ls → Closed M e (begunAt before level) u ls → (n : ℕ) → 1 ≤ n → n < POSITIONS → begunAt after level n ≡ begunAt before level n || isHolder M e u n ls
+pub record Enters (M : List ℕ) (e h : ℕ) (before after : Bits) : Type 0 where
+  pub bits : AllSets M e → (B : ℕ → Bool) → Has before B → (u : ℕ) (ends : Bool) (x c : ℕ) (ls : List Level) → h ≡ x % 128 → Chain M e u ends x ls → Rising 0 c ls → EachLevel (λ (l : Level). hasM (l .members) u ≡ true) ls → Has after (λ (n : ℕ). B n || isHolder M e u n ls)
 
--- Which of the groups around p blocks: none, or the first that lacks a member.
+-- A member that has not begun of the first group around p that lacks one, where there is such a group.
 pub data Blocking (M begun : List ℕ) (level e : ℕ) (g : Group) (p : ℕ) (S : ℕ → Bool) (ls : List Level) (r : ℕ) : Type 0 where
   free : r ≡ 0 → blocksIn (groupsOf ls) p S ≡ false → Blocking M begun level e g p S ls r
-  held : 1 ≤ r → (l : Level) → r ≡ l .number → Grouped M e l → Marked begun level M e S l → IsAround g 0 p l → blocksIn (groupsOf ls) p S ≡ true → loneIn (groupsOf ls) S ≡ restReq (l .members) S → Blocking M begun level e g p S ls r
+  held : 1 ≤ r → (l : Level) → isOwn M e (l .number) r ≡ true → begunAt begun level r ≡ false → Grouped M e l → Marked begun level M e S l → IsAround g 0 p l → blocksIn (groupsOf ls) p S ≡ true → loneIn (groupsOf ls) S ≡ restReq (l .members) S → Blocking M begun level e g p S ls r
 
--- The members around p have begun.
-pub record Blocks (M begun : List ℕ) (level e inner r : ℕ) : Type 0 where
-  pub small : r ≤ 255
-  pub says : AllRuns M e → (g : Group) (p : ℕ) (S : ℕ → Bool) (ls : List Level) (c : ℕ) → Chain M e p true inner ls → Rising 0 c ls → EachLevel (IsAround g 0 p) ls → AllMarked begun level M e S ls → EachLevel (λ (l : Level). begunAt begun level (memberAt M e p l) ≡ true) ls → Blocking M begun level e g p S ls r
+pub record Blocks (M : List ℕ) (e inner : ℕ) (b : Bits) (r : ℕ) : Type 0 where
+  pub small : r ≤ 128
+  pub says : AllSets M e → Ordered M e → (begun : List ℕ) (level : ℕ) → Has b (begunAt begun level) → (g : Group) (p : ℕ) (S : ℕ → Bool) (ls : List Level) (c : ℕ) → Chain M e p true inner ls → Rising 0 c ls → EachLevel (IsAround g 0 p) ls → AllMarked begun level M e S ls → Blocking M begun level e g p S ls r
+
+-- The bits of the k members from `first` on that have not begun.
+pub record Idle (b : Bits) (first k r : ℕ) : Type 0 where
+  pub below : 1 ≤ first → first + k ≤ POSITIONS → k ≤ GRPCNT → r < 2 ^ k
+  pub bits : (B : ℕ → Bool) → Has b B → 1 ≤ first → first + k ≤ POSITIONS → k ≤ GRPCNT → (j : ℕ) → j < k → r / 2 ^ j % 2 ≡ cond (B (first + j)) 0 1
+
+-- The place that the member x requires, where it is the only one of its group that has not begun, or 0.
+pub record Due (M : List ℕ) (e x : ℕ) (b : Bits) (r : ℕ) : Type 0 where
+  pub small : r ≤ 96
+  pub says : (begun : List ℕ) (level : ℕ) → Has b (begunAt begun level) → (l : Level) (S : ℕ → Bool) → isOwn M e (l .number) x ≡ true → begunAt begun level x ≡ false → Grouped M e l → Marked begun level M e S l → restReq (l .members) S ≤ 96 → r ≡ restReq (l .members) S
+
+-- The group n and those around it lack nothing.
+pub record IsFull (M : List ℕ) (e n : ℕ) (b : Bits) (r : Bool) : Type 0 where
+  pub none : r ≡ true → (B : ℕ → Bool) → Has b B → (m : ℕ) → 1 ≤ m → m < POSITIONS → (amongAt M e n m && isNeeded M e m) && not (B m) ≡ false
+  pub some : r ≡ false → (B : ℕ → Bool) → Has b B → (m : ℕ) × (1 ≤ m) × (m < POSITIONS) × ((amongAt M e n m && isNeeded M e m) && not (B m) ≡ true)
+
+-- The member m must come in a group of u, which has the members `around`, that p is not in, and has not begun; or it holds p in a group of u, not u, and has.
+abbrev pub bad : (around beside needed begun hold held : ℕ → Bool) → ℕ → Bool
+bad around beside needed begun hold held m = (((around m && not (beside m)) && needed m) && not (begun m)) || (((hold m && not (held m)) && around m) && begun m)
+
+-- There is none such, where u is in the member h of the group n and p in the member i of the group q.
+pub record IsLeft (M : List ℕ) (e h n i q : ℕ) (b : Bits) (r : Bool) : Type 0 where
+  pub none : r ≡ true → (B : ℕ → Bool) → Has b B → (m : ℕ) → 1 ≤ m → m < POSITIONS → bad (amongAt M e n) (amongAt M e q) (isNeeded M e) B (λ (x : ℕ). holdsAt M e q x || eqb x i) (λ (x : ℕ). holdsAt M e n x || eqb x h) m ≡ false
+  pub some : r ≡ false → (B : ℕ → Bool) → Has b B → (m : ℕ) × (1 ≤ m) × (m < POSITIONS) × (bad (amongAt M e n) (amongAt M e q) (isNeeded M e) B (λ (x : ℕ). holdsAt M e q x || eqb x i) (λ (x : ℕ). holdsAt M e n x || eqb x h) m ≡ true)
+
+-- Whether p may come next, from the holders of u and p.
+pub record Comes (M : List ℕ) (e h i : ℕ) (b : Bits) (r : Bool) : Type 0 where
+  pub says : AllSets M e → (begun : List ℕ) (level : ℕ) → Has b (begunAt begun level) → (g : Group) → Good g → (u p : ℕ) (S : ℕ → Bool) (x y c d : ℕ) (us : List Level) → h ≡ x % 128 → i ≡ y % 128 → Chain M e u true x us → Chain M e p true y (levels g 0 p) → Rising 0 c us → Rising 0 d (levels g 0 p) → EachLevel (IsAround g 0 u) us → EachLevel (IsAround g 0 p) (levels g 0 p) → AllMarked begun level M e S us → r ≡ mayIn (groupsOf us) u S p

@@ -11,9 +11,19 @@ use layout::GRPGTCNT;
 use layout::MEMBERS;
 use layout::Place;
 use member_bits::Bits;
+ghost use mathlib.Core.Path.{_≡_};
+ghost use Prim.Native.Nat.{_+_, _%_, _≤_, _<_};
+ghost use lib.ListN.{length};
+ghost use Rattle.layout.specs.Sizes.{MEMBERS};
+ghost use Rattle.member_laws.specs.Members.{groupAt};
+ghost use Rattle.and_groups.specs.Takes.{Takes, Follows};
+ghost use Rattle.and_groups.specs.Walks.{Enters, Blocks, Idle, Due, IsFull, IsLeft, Comes};
 
 // The member h and those that hold its group begin, where those of b had.
 fn entered(members: &[u8], e: ElementNo, h: usize, b: Bits) -> Bits
+    requires { ⌜ MEMBERS ≤ length (now members) ⌝ }
+    requires { ⌜ (e .0 ≤ 64) × (h ≤ 127) ⌝ }
+    ensures { λ r. ⌜ Enters (now (members .entry)) (e .0) h b r ⌝ }
 {
     if h == 0 {
         return b;
@@ -25,12 +35,18 @@ fn entered(members: &[u8], e: ElementNo, h: usize, b: Bits) -> Bits
     if AND_GROUPS < g {
         return b;
     }
-    member_bits::joined(member_bits::with(b, h), member_numbers::holding(members, e, g))
+    member_bits::joined(
+        member_bits::with(b, h),
+        member_numbers::holding(members, e, g),
+    )
 }
 
 // The first member that the first group from the member `inner` outwards lacks, where the member at hand can end, and so can those between; or 0. Members count in
 // the order of their groups, and groups from the inner to the outer ones.
 fn blocking(members: &[u8], e: ElementNo, inner: usize, b: Bits) -> usize
+    requires { ⌜ MEMBERS ≤ length (now members) ⌝ }
+    requires { ⌜ (e .0 ≤ 64) × (inner ≤ 255) ⌝ }
+    ensures { λ r. ⌜ Blocks (now (members .entry)) (e .0) inner b r ⌝ }
 {
     if inner <= 128 {
         return 0;
@@ -53,17 +69,38 @@ fn blocking(members: &[u8], e: ElementNo, inner: usize, b: Bits) -> usize
     x
 }
 
+// Of the k members from `first` on those that have not begun, as bits. Where the table has no such members, what it answers is not decided.
+fn idle(b: Bits, first: usize, k: usize) -> usize
+    ensures { λ r. ⌜ Idle b first k r ⌝ }
+{
+    if first == 0 {
+        return 0;
+    }
+    if GRPGTCNT < first {
+        return 0;
+    }
+    if 32 < k {
+        return 0;
+    }
+    (1 << k) - 1 - member_bits::bits_from(b, first) % (1 << k)
+}
+
 // The place that is required where the group of the member x lacks it: that of this member, if no other of the group has not begun, or 0.
 fn required_in(members: &[u8], e: ElementNo, x: usize, b: Bits) -> usize
+    requires { ⌜ MEMBERS ≤ length (now members) ⌝ }
+    requires { ⌜ (e .0 ≤ 64) × (x ≤ 128) ⌝ }
+    ensures { λ r. ⌜ Due (now (members .entry)) (e .0) x b r ⌝ }
 {
     let g = member_numbers::group_of(members, e, x);
     let first = member_numbers::of_group(members, e, g, 0);
-    let k = member_numbers::of_group(members, e, g, 2);
-    if first == 0 || GRPGTCNT < first || 32 < k || x < first || 31 < x - first {
+    let y = idle(b, first, member_numbers::of_group(members, e, g, 2));
+    if x < first {
         return 0;
     }
-    let y = member_bits::bits_from(b, first) | (1 << (x - first));
-    if y % (1 << k) + 1 != 1 << k {
+    if 31 < x - first {
+        return 0;
+    }
+    if y != 1 << (x - first) {
         return 0;
     }
     let p = member_numbers::required_of(members, e, x);
@@ -74,7 +111,8 @@ fn required_in(members: &[u8], e: ElementNo, x: usize, b: Bits) -> usize
 }
 
 // The place p of the element e is taken at the level, after the place u; where this is 0, nothing has begun. Where a group lacks a member that must come
-// before anything behind the group, the place that is required there, or 0; 255 where no group does.
+// before anything behind the group, the place that is required there, or 0; 255 where no group does. What follows is written for both cases: so large it stays out
+// of the loop over tokens, where it would cost documents of types without "&" a tenth of their time.
 pub fn take(
     members: &[u8],
     begun: &mut [u32; BEGUN],
@@ -83,56 +121,88 @@ pub fn take(
     u: Place,
     p: Place,
 ) -> usize
+    requires { ⌜ (level ≤ 24) × (e .0 ≤ 64) × (u .0 ≤ 96) × (p .0 ≤ 96) ⌝ }
+    ensures { λ r. ⌜ Takes (now (members .entry)) level (e .0) (u .0) (p .0) (now (begun .entry)) (now (begun .exit)) r ⌝ }
 {
     if members.len() < MEMBERS {
         return 255;
     }
     let h = member_numbers::holder(members, e, p);
-    let mut b = member_bits::none();
-    let mut x = 0;
     if u.0 == 0 {
-        b = entered(members, e, h % 128, member_bits::none());
-        begun_bits::put(begun, level, b);
-        x = blocking(members, e, h, b);
-    } else {
-        b = entered(members, e, h % 128, begun_bits::begun_at(begun, level));
-        begun_bits::put(begun, level, b);
-        x = blocking(members, e, h, b);
+        let first = entered(members, e, h % 128, member_bits::none());
+        begun_bits::put(begun, level, first);
+        let x = blocking(members, e, h, first);
+        if x == 0 {
+            return 255;
+        }
+        return required_in(members, e, x, first);
     }
-    if x == 0 {
+    let now = entered(members, e, h % 128, begun_bits::begun_at(begun, level));
+    begun_bits::put(begun, level, now);
+    let y = blocking(members, e, h, now);
+    if y == 0 {
         return 255;
     }
-    required_in(members, e, x, b)
+    required_in(members, e, y, now)
 }
 
-// Whether p may come next, which is in the member i or in none, where u is in the member h.
+// Whether no group from the group g outwards lacks a member.
+fn is_full(members: &[u8], e: ElementNo, g: usize, b: Bits) -> bool
+    requires { ⌜ MEMBERS ≤ length (now members) ⌝ }
+    requires { ⌜ (e .0 ≤ 64) × (g ≤ 48) ⌝ }
+    ensures { λ r. ⌜ IsFull (now (members .entry)) (e .0) g b r ⌝ }
+{
+    let needed = member_bits::common(
+        member_numbers::among(members, e, g),
+        member_numbers::needed(members, e),
+    );
+    member_bits::is_none(member_bits::without(needed, b))
+}
+
+// Whether p may come next, in the member i of the group f, where u is in the member h of the group g: the groups around u that p is not in lack nothing, and in
+// the first that p is in its member is that of u or has not begun.
+fn is_left(members: &[u8], e: ElementNo, h: usize, g: usize, i: usize, f: usize, b: Bits) -> bool
+    requires { ⌜ MEMBERS ≤ length (now members) ⌝ }
+    requires { ⌜ (e .0 ≤ 64) × (1 ≤ h) × (h ≤ 96) × (1 ≤ i) × (i ≤ 96) × (g ≤ 48) × (f ≤ 48) ⌝ }
+    ensures { λ r. ⌜ IsLeft (now (members .entry)) (e .0) h g i f b r ⌝ }
+{
+    let around = member_numbers::among(members, e, g);
+    let beside = member_bits::without(around, member_numbers::among(members, e, f));
+    let needed = member_bits::common(beside, member_numbers::needed(members, e));
+    let lacking = member_bits::without(needed, b);
+    let hold = member_bits::with(member_numbers::holding(members, e, f), i);
+    let other = member_bits::without(
+        hold,
+        member_bits::with(member_numbers::holding(members, e, g), h),
+    );
+    let again = member_bits::common(member_bits::common(other, around), b);
+    member_bits::is_none(member_bits::joined(lacking, again))
+}
+
+// Whether p may come next, of which i is the innermost member that holds it, or 0, and h that of u.
 fn may_come(members: &[u8], e: ElementNo, h: usize, i: usize, b: Bits) -> bool
+    requires { ⌜ MEMBERS ≤ length (now members) ⌝ }
+    requires { ⌜ (e .0 ≤ 64) × (1 ≤ h) × (h ≤ 96) × (i ≤ 96) ⌝ }
+    ensures { λ r. ⌜ Comes (now (members .entry)) (e .0) h i b r ⌝ }
 {
     let g = member_numbers::group_of(members, e, h);
     if AND_GROUPS < g {
         return true;
     }
-    let mut hold = member_bits::none();
-    let mut beside = member_bits::none();
-    if i != 0 {
-        let f = member_numbers::group_of(members, e, i);
-        if AND_GROUPS < f {
+    if i == 0 {
+        return is_full(members, e, g, b);
+    }
+    let f = member_numbers::group_of(members, e, i);
+    if f == g {
+        if h == i {
             return true;
         }
-        if f == g {
-            if h == i {
-                return true;
-            }
-            return !member_bits::has(b, i);
-        }
-        hold = member_bits::with(member_numbers::holding(members, e, f), i);
-        beside = member_numbers::among(members, e, f);
+        return !member_bits::has(b, i);
     }
-    let around = member_numbers::among(members, e, g);
-    let needed = member_bits::common(member_bits::without(around, beside), member_numbers::needed(members, e));
-    let other = member_bits::without(hold, member_bits::with(member_numbers::holding(members, e, g), h));
-    let again = member_bits::common(member_bits::common(other, around), b);
-    member_bits::is_none(member_bits::joined(member_bits::without(needed, b), again))
+    if AND_GROUPS < f {
+        return true;
+    }
+    is_left(members, e, h, g, i, f, b)
 }
 
 // Whether p, which may come next after u for some beginning, may come next where these members have begun.
@@ -144,13 +214,21 @@ pub fn may_follow(
     u: Place,
     p: Place,
 ) -> bool
+    requires { ⌜ (level ≤ 24) × (e .0 ≤ 64) × (u .0 ≤ 96) × (p .0 ≤ 96) ⌝ }
+    ensures { λ r. ⌜ Follows (now (members .entry)) level (e .0) (u .0) (p .0) (now (begun .entry)) r ⌝ }
 {
     if members.len() < MEMBERS {
         return true;
     }
     let h = member_numbers::holder(members, e, u) % 128;
     let i = member_numbers::holder(members, e, p) % 128;
-    if h == 0 || GRPGTCNT < h || GRPGTCNT < i {
+    if h == 0 {
+        return true;
+    }
+    if GRPGTCNT < h {
+        return true;
+    }
+    if GRPGTCNT < i {
         return true;
     }
     may_come(members, e, h, i, begun_bits::begun_at(begun, level))
