@@ -120,5 +120,8 @@ pub fn among(members: &[u8], e: ElementNo, g: usize) -> Bits
     requires { ⌜ (e .0 ≤ 64) × (g ≤ 48) ⌝ }
     ensures { λ r. ⌜ Has r (amongAt (now (members .entry)) (e .0) g) ⌝ }
 {
-    bits_at(members, e.0 * MEMBER + SETS + g * (2 * MEMBER_BITS) + MEMBER_BITS)
+    bits_at(
+        members,
+        e.0 * MEMBER + SETS + g * (2 * MEMBER_BITS) + MEMBER_BITS,
+    )
 }
