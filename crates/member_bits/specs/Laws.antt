@@ -311,3 +311,24 @@ ranged-past from k out w = has-same (λ n l m. no-other from n k (λ e. out (ome
 
 pub ranged-as : {b x : Bits} (from k n : ℕ) → x ≡ b → n ≡ k → Ranged b from k → Ranged x from n
 ranged-as from k n e d w = rw (e, d) w
+
+-- Three words of 32 members each
+
+module _ (a b c : ℕ) (f : ℕ → Bool) (few-a : a < 4294967296) (few-b : b < 4294967296) (few-c : c < 4294967296) (in-a : (k : ℕ) → k < 32 → eqb (a / 2 ^ k % 2) 1 ≡ f (k + 1)) (in-b : (k : ℕ) → k < 32 → eqb (b / 2 ^ k % 2) 1 ≡ f (k + 33)) (in-c : (k : ℕ) → k < 32 → eqb (c / 2 ^ k % 2) 1 ≡ f (k + 65)) where
+  side : a + b * 4294967296 ≡ b * 2 ^ 32 + a
+  side = omega arith
+
+  word-bit : (n : ℕ) → 1 ≤ n → n ≤ 96 → Dec (n ≤ 32) → Dec (n ≤ 64) → bitIn (a + b * 4294967296) c (n - 1) ≡ f n
+  word-bit n l m (yes x) y =
+      let e : n - 1 + 1 ≡ n = omega arith in
+      bit-low (a + b * 4294967296) c (n - 1) (omega arith) ∙ ap (λ (z : ℕ). eqb (z / 2 ^ (n - 1) % 2) 1) side ∙ ap (λ (z : ℕ). eqb z 1) (low-bit 32 a b few-a (n - 1) (omega arith)) ∙ in-a (n - 1) (omega arith) ∙ ap f e
+  word-bit n l m (no x) (yes y) =
+      let e : n - 33 + 33 ≡ n = omega arith in
+      let d : n - 1 ≡ 32 + (n - 33) = omega arith in
+      bit-low (a + b * 4294967296) c (n - 1) (omega arith) ∙ ap₂ (λ (z k : ℕ). eqb (z / 2 ^ k % 2) 1) side d ∙ ap (λ (z : ℕ). eqb z 1) (high-bit 32 a b few-a (n - 33)) ∙ in-b (n - 33) (omega arith) ∙ ap f e
+  word-bit n l m (no x) (no y) =
+      let e : n - 1 - 64 + 65 ≡ n = omega arith in
+      bit-high (a + b * 4294967296) c (n - 1) (omega arith) ∙ in-c (n - 1 - 64) (omega arith) ∙ ap f e
+
+  pub has-words : Has (bits (a + b * 4294967296) c) f
+  has-words = record { low = omega arith; high = few-c; bits = λ n l m. word-bit n l (omega arith) (decLe n 32) (decLe n 64) }
