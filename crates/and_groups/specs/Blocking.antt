@@ -23,8 +23,9 @@ use Rattle.member_laws.specs.Sets.{anyOwn, own-range, own-group, begun-fine, fi
 use Rattle.member_bits.specs.declared.Bits.{Bits}
 use Rattle.member_bits.specs.Having as having
 use Rattle.member_bits.specs.Having.{Has}
+use Rattle.member_bits.specs.Laws.{has-same}
 use Rattle.and_groups.specs.Walks.{Blocking, free, held, Blocks}
-use Rattle.and_groups.specs.Entering.{First, first-of, has-same}
+use Rattle.and_groups.specs.Entering.{First, first-of}
 
 module _ (M : List ℕ) (e : ℕ) (sets : AllSets M e) (order : Ordered M e) (begun : List ℕ) (level : ℕ) (g : Group) (p : ℕ) (S : ℕ → Bool) where
   abbrev Around : List Level → Type 0
@@ -202,7 +203,7 @@ module _ (M : List ℕ) (e inner : ℕ) (b : Bits) where
       found-at g p S l ls c sets order begun level has chain rising around marked f =
           found M e sets order begun level g p S 0 c inner l ls chain ends rising around marked x
           (is-first _
-          (has-same without _ _
+          (has-same
           (λ m y z. ap (λ (q : Bool). (q && isNeeded M e m) && not (begunAt begun level m)) (ap (λ (k : ℕ). amongAt M e k m) (at ∙ f .group) ∙ among-outward M e sets p 0 c true inner l ls chain rising (each-level (IsAround g 0 p) (λ (l : Level). hasM (l .members) p ≡ true) (λ l a. a .1) (l ∷ ls) around) m y z))
           (is-without _ _ (is-common _ _ is-among is-needed) has)))
 

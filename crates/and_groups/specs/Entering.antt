@@ -15,11 +15,8 @@ use Rattle.member_laws.specs.Around.{memberAt, isHolder, member-group, member-s
 use Rattle.member_laws.specs.Sets.{holds-outward}
 use Rattle.member_bits.specs.declared.Bits.{Bits}
 use Rattle.member_bits.specs.Having.{Has}
+use Rattle.member_bits.specs.Laws.{has-same}
 use Rattle.and_groups.specs.Walks.{Enters}
-
--- The same members.
-pub has-same : (b : Bits) (f k : ℕ → Bool) → ((n : ℕ) → 1 ≤ n → n < POSITIONS → f n ≡ k n) → Has b f → Has b k
-has-same b f k same has = record { low = has .low; high = has .high; bits = λ n x y. has .bits n x y ∙ same n x y }
 
 abbrev Have : ℕ → List Level → Type 0
 Have u ls = EachLevel (λ (l : Level). hasM (l .members) u ≡ true) ls
@@ -48,7 +45,7 @@ module _ (M : List ℕ) (e h : ℕ) where
   enters-without b none = record { bits = λ sets B has u ends x c ls read chain rising have. go B has u ends x ls read chain have }
     where
       go : (B : ℕ → Bool) → Has b B → (u : ℕ) (ends : Bool) (x : ℕ) (ls : List Level) → h ≡ x % 128 → Chain M e u ends x ls → Have u ls → Has b (λ (n : ℕ). B n || isHolder M e u n ls)
-      go B has u ends x [] read chain have = has-same b B _ (λ n y z. sym (or-no (B n))) has
+      go B has u ends x [] read chain have = has-same (λ n y z. sym (or-no (B n))) has
       go B has u ends x (l ∷ ls) read chain have = absurd (none u l (first-of u ends x l ls read chain (have .0)))
 
   pub enters-none : (b : Bits) → h ≡ 0 → Enters M e h b b
@@ -72,7 +69,7 @@ module _ (M : List ℕ) (e h : ℕ) where
       go sets B has u ends x c [] read chain rising have = absurd (some (read ∙ ap (λ (y : ℕ). y % 128) chain))
       go sets B has u ends x c (l ∷ ls) read chain rising have =
           let f = first-of u ends x l ls read chain (have .0) in
-          has-same r _ _
+          has-same
           (λ n y z.
           ap (λ (q : Bool). (B n || eqb n h) || q) (ap (λ (q : ℕ). holdsAt M e q n) (at ∙ f .group) ∙ holds-outward M e sets u 0 c ends x l ls chain rising have n y z)
           ∙ grouped (B n) (eqb n h) (isHolder M e u n ls)

@@ -3,3 +3,5 @@ pub mod Takes
 pub mod Walks
 pub mod Entering
 pub mod Blocking
+pub mod Lacking
+pub mod Following

@@ -47,8 +47,8 @@ pub record IsFull (M : List ℕ) (e n : ℕ) (b : Bits) (r : Bool) : Type 0 wher
   pub some : r ≡ false → (B : ℕ → Bool) → Has b B → (m : ℕ) × (1 ≤ m) × (m < POSITIONS) × ((amongAt M e n m && isNeeded M e m) && not (B m) ≡ true)
 
 -- The member m must come in a group of u, which has the members `around`, that p is not in, and has not begun; or it holds p in a group of u, not u, and has.
-abbrev pub bad : (around beside needed begun hold held : ℕ → Bool) → ℕ → Bool
-bad around beside needed begun hold held m = (((around m && not (beside m)) && needed m) && not (begun m)) || (((hold m && not (held m)) && around m) && begun m)
+abbrev pub bad : (around beside needed begun hold own : ℕ → Bool) → ℕ → Bool
+bad around beside needed begun hold own m = (((around m && not (beside m)) && needed m) && not (begun m)) || (((hold m && not (own m)) && around m) && begun m)
 
 -- There is none such, where u is in the member h of the group n and p in the member i of the group q.
 pub record IsLeft (M : List ℕ) (e h n i q : ℕ) (b : Bits) (r : Bool) : Type 0 where

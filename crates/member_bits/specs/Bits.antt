@@ -110,6 +110,25 @@ module _ (w lo hi : ℕ) (small : lo < 2 ^ w) where
   pub high-bit : (t : ℕ) → (hi * 2 ^ w + lo) / 2 ^ (w + t) % 2 ≡ hi / 2 ^ t % 2
   high-bit t = ap (λ (n : ℕ). n % 2) (sym (shr-shr (hi * 2 ^ w + lo) w t) ∙ ap (λ (n : ℕ). n / 2 ^ t) (high hi w small))
 
+-- The bits that are not set
+
+pub others-bit : (k n j : ℕ) → n < 2 ^ k → j < k → (2 ^ k - 1 - n) / 2 ^ j % 2 ≡ cond (eqb (n / 2 ^ j % 2) 1) 0 1
+others-bit zero n j l h = absurd (omega arith)
+others-bit (suc k) n zero l h = other (2 ^ k) (2 ^ suc k) (n / 2 ^ 0 % 2) (pow-suc 2 k) l refl
+  where
+    other : (p q b : ℕ) → q ≡ p * 2 → n < q → n / 1 % 2 ≡ b → (q - 1 - n) / 1 % 2 ≡ cond (eqb b 1) 0 1
+    other p q zero e l x = omega arith
+    other p q (suc zero) e l x = omega arith
+    other p q (suc (suc b)) e l x = absurd (omega arith)
+others-bit (suc k) n (suc j) l h =
+    let (a, b) = half (2 ^ k) (2 ^ suc k) (pow-suc 2 k) l in
+    ap (λ (m : ℕ). m % 2) (half-shift (2 ^ suc k - 1 - n) j ∙ ap (λ (m : ℕ). m / 2 ^ j) a)
+    ∙ others-bit k (n / 2) j b (omega arith)
+    ∙ ap (λ (m : ℕ). cond (eqb (m % 2) 1) 0 1) (sym (half-shift n j))
+  where
+    half : (p q : ℕ) → q ≡ p * 2 → n < q → ((q - 1 - n) / 2 ≡ p - 1 - n / 2) × (n / 2 < p)
+    half p q e l = (omega arith, omega arith)
+
 -- How many bits are set
 
 half-less : (k y : ℕ) → y < 2 ^ suc k → y / 2 < 2 ^ k
