@@ -17,8 +17,8 @@ use Rattle.and_laws.specs.Base.{mem, ends-mem}
 use Rattle.and_laws.specs.Sets.{meets, Good, GoodM}
 use Rattle.and_laws.specs.Numbers.{Guarded, numbered-good}
 use Rattle.and_laws.specs.Rest.{allM, anyM}
-use Rattle.and_laws.specs.Rows.{fine, unbegun, and-no}
-use Rattle.and_laws.specs.Levels.{together, within, mayIn}
+use Rattle.and_laws.specs.Rows.{fine, unbegun}
+use Rattle.and_laws.specs.Levels.{around, together, within, mayIn}
 use Rattle.and_laws.specs.Ranked.{count, Level, levels, groupsOf, levels-rise, levels-around, Rising}
 use Rattle.and_laws.specs.Taken.{groupsAt}
 use Rattle.member_laws.specs.Members.{needs, numberIn, groupAt, firstAt, isNeeded, holdsAt, amongAt, isOwn, AllSets, Grouped, Chain, Told, holderAt, begunAt, Marked, AllMarked, Standing}
@@ -29,7 +29,7 @@ use Rattle.member_laws.specs.Sets.{anyOwn, own-range, own-group, member-own, be
 use Rattle.member_bits.specs.declared.Bits.{Bits}
 use Rattle.member_bits.specs.Having.{Has}
 use Rattle.and_groups.specs.Takes.{Follows}
-use Rattle.and_groups.specs.Walks.{bad, IsFull, IsLeft, Comes}
+use Rattle.and_groups.specs.Walks.{bad, IsFull, IsLeft, Pair, Comes}
 use Rattle.and_groups.specs.Entering.{First, first-of}
 
 -- One group that has both
@@ -118,6 +118,10 @@ module _ (M : List ℕ) (e : ℕ) (sets : AllSets M e) (g : Group) (p : ℕ) (l 
       go (k ∷ ks) (inl x) = inl (ap (λ (v : ℕ). numberIn (firstAt M e v) (needs (l .members)) (l .members) p) (sym (x .0)) ∙ ap (λ (m : Members). numberIn (firstAt M e (k .number)) (needs m) m p) (sym (x .1)))
       go (k ∷ ks) (inr x) = inr (go ks x)
 
+none-and : (x y : Bool) → (x && false) && y ≡ false
+none-and true y = refl
+none-and false y = refl
+
 -- The groups around both
 module _
     (M : List ℕ) (e : ℕ) (sets : AllSets M e) (begun : List ℕ) (level : ℕ) (g : Group) (good : Good g) (u p : ℕ) (S : ℕ → Bool)
@@ -172,7 +176,7 @@ module _
           rw (o, x)
 
       own-none : (n : ℕ) → isOwn M e (l .number) n ≡ true → badIn us n ≡ false
-      own-none n o = rw (own-once n o) (and-no (isHolder M e p n ps && not (isHolder M e u n us)) && false)
+      own-none n o = rw (own-once n o) (none-and (isHolder M e p n ps && not (isHolder M e u n us)) (B n))
 
       may-apart : ((n : ℕ) → 1 ≤ n → n < POSITIONS → badIn (l ∷ us) n ≡ false) → (((n : ℕ) → 1 ≤ n → n < POSITIONS → badIn us n ≡ false) → mayIn (groupsOf us) u S p ≡ true) → mayIn (groupsOf (l ∷ us)) u S p ≡ true
       may-apart f outer = rw apart (and-both all (outer rest))
@@ -266,8 +270,202 @@ module _
       (λ z. may-apart a c ends h l us chain rising around (marked .0) z f (may-none (l .number) c _ _ us (chain .4) (rising .1) (around .1) (marked .1)))
 
   none-may : (a c : ℕ) (ends : Bool) (h : ℕ) (us : List Level) → Chain M e u ends h us → Rising a c us → EachLevel (IsAround g 0 u) us → AllMarked begun level M e S us → mayIn (groupsOf us) u S p ≡ true → (n : ℕ) → 1 ≤ n → n < POSITIONS → badIn us n ≡ false
-  none-may a c ends h [] chain rising around marked t n x w = and-no (isHolder M e p n ps && true && false)
+  none-may a c ends h [] chain rising around marked t = λ n x w. none-and (isHolder M e p n ps && true) (B n)
   none-may a c ends h (l ∷ us) chain rising around marked t =
       bool-cases (hasM (l .members) p)
       (λ z. none-within a c ends h l us chain rising around (marked .0) z (rw z at t))
       (λ z. apart-may a c ends h l us chain rising around (marked .0) z t (none-may (l .number) c _ _ us (chain .4) (rising .1) (around .1) (marked .1)))
+
+-- What is read of the sets
+
+-- The first of the groups around a place is that of the member that holds it.
+module _ (M : List ℕ) (e : ℕ) (sets : AllSets M e) (v c : ℕ) (ends : Bool) (z : ℕ) where
+  module _ (h n : ℕ) (some : 1 ≤ h) (at : n ≡ groupAt M e h) where
+    set-of : (ks : List Level) → h ≡ z % 128 → Chain M e v ends z ks → Rising 0 c ks → EachLevel (λ (k : Level). hasM (k .members) v ≡ true) ks → (m : ℕ) → 1 ≤ m → m < POSITIONS → (amongAt M e n m ≡ anyOwn M e m ks) × (holdsAt M e n m || eqb m h ≡ isHolder M e v m ks)
+    set-of [] read chain rising have m x y = absurd (omega (arith, ap (λ (q : ℕ). q % 128) chain))
+    set-of (k ∷ ks) read chain rising have m x y =
+        let f = first-of M e h v ends z k ks read chain (have .0) in
+        let is : n ≡ k .number = at ∙ f .group in (
+          ap (λ (q : ℕ). amongAt M e q m) is ∙ among-outward M e sets v 0 c ends z k ks chain rising have m x y,
+          ap (λ (q : ℕ). holdsAt M e q m || eqb m h) is ∙ ap (λ (t : Bool). t || eqb m h) (holds-outward M e sets v 0 c ends z k ks chain rising have m x y) ∙ turned (isHolder M e v m ks) (eqb m h) ∙ ap (λ (q : ℕ). eqb m q || isHolder M e v m ks) (f .is),
+        )
+      where
+        turned : (s t : Bool) → s || t ≡ t || s
+        turned true true = refl
+        turned true false = refl
+        turned false true = refl
+        turned false false = refl
+
+  -- There is a first one, where there is such a member.
+  first-there : (h : ℕ) → 1 ≤ h → (ks : List Level) → h ≡ z % 128 → Chain M e v ends z ks → EachLevel (λ (k : Level). hasM (k .members) v ≡ true) ks → (k : Level) × First M e h v k
+  first-there h some [] read chain have = absurd (omega (arith, ap (λ (q : ℕ). q % 128) chain))
+  first-there h some (k ∷ ks) read chain have = (k, first-of M e h v ends z k ks read chain (have .0))
+
+bad-same : (a a′ p p′ k t q q′ o o′ : Bool) → a ≡ a′ → p ≡ p′ → q ≡ q′ → o ≡ o′ → (((a && not p) && k) && not t) || (((q && not o) && a) && t) ≡ (((a′ && not p′) && k) && not t) || (((q′ && not o′) && a′) && t)
+bad-same a a′ p p′ k t q q′ o o′ w x y z = rw (w, x, y, z)
+
+module _ (M : List ℕ) (e h i : ℕ) (b : Bits) where
+  u-have : (w : Pair M e h i b) → EachLevel (λ (l : Level). hasM (l .members) (w .u) ≡ true) (w .us)
+  u-have w = each-level (IsAround (w .model) 0 (w .u)) (λ (l : Level). hasM (l .members) (w .u) ≡ true) (λ l a. a .1) (w .us) (w .u-around)
+
+  p-have : (w : Pair M e h i b) → EachLevel (λ (l : Level). hasM (l .members) (w .p) ≡ true) (levels (w .model) 0 (w .p))
+  p-have w = each-level (IsAround (w .model) 0 (w .p)) (λ (l : Level). hasM (l .members) (w .p) ≡ true) (λ l a. a .1) (levels (w .model) 0 (w .p)) (w .p-around)
+
+  abbrev forbids : Pair M e h i b → ℕ → Bool
+  forbids w = badIn M e (w .sets) (w .begun) (w .level) (w .model) (w .good) (w .u) (w .p) (w .S) (w .y) (w .d) (w .p-chain) (w .p-rising) (w .p-around) (w .us)
+
+  -- The answer, by a test that says whether a member forbids p.
+  comes-by : (r : Bool) (f : Pair M e h i b → ℕ → Bool) → ((w : Pair M e h i b) (m : ℕ) → 1 ≤ m → m < POSITIONS → forbids w m ≡ f w m) → (r ≡ true → (w : Pair M e h i b) (m : ℕ) → 1 ≤ m → m < POSITIONS → f w m ≡ false) → (r ≡ false → (w : Pair M e h i b) → (m : ℕ) × (1 ≤ m) × (m < POSITIONS) × (f w m ≡ true)) → Comes M e h i b r
+  comes-by true f same none some = record { says = λ w. sym (may-none M e (w .sets) (w .begun) (w .level) (w .model) (w .good) (w .u) (w .p) (w .S) (w .y) (w .d) (w .p-chain) (w .p-rising) (w .p-around) 0 (w .c) true (w .x) (w .us) (w .u-chain) (w .u-rising) (w .u-around) (w .marked) (λ m x y. same w m x y ∙ none refl w m x y)) }
+  comes-by false f same none some =
+      record {
+        says = λ w.
+            sym (not-true (mayIn (groupsOf (w .us)) (w .u) (w .S) (w .p))
+            (λ t.
+            let (m, x, y, z) = some refl w in
+            false≢true (sym (none-may M e (w .sets) (w .begun) (w .level) (w .model) (w .good) (w .u) (w .p) (w .S) (w .y) (w .d) (w .p-chain) (w .p-rising) (w .p-around) 0 (w .c) true (w .x) (w .us) (w .u-chain) (w .u-rising) (w .u-around) (w .marked) t m x y) ∙ same w m x y ∙ z)));
+      }
+
+  module _ (some : 1 ≤ h) (n : ℕ) (at-n : n ≡ groupAt M e h) where
+    u-sets : (w : Pair M e h i b) (m : ℕ) → 1 ≤ m → m < POSITIONS → (amongAt M e n m ≡ anyOwn M e m (w .us)) × (holdsAt M e n m || eqb m h ≡ isHolder M e (w .u) m (w .us))
+    u-sets w = set-of M e (w .sets) (w .u) (w .c) true (w .x) h n some at-n (w .us) (w .u-read) (w .u-chain) (w .u-rising) (u-have w)
+
+    u-first : (w : Pair M e h i b) → (l : Level) × First M e h (w .u) l
+    u-first w = first-there M e (w .sets) (w .u) (w .c) true (w .x) h some (w .us) (w .u-read) (w .u-chain) (u-have w)
+
+    pub comes-far : AND-GROUPS < n → (r : Bool) → Comes M e h i b r
+    comes-far z r = record { says = λ w. let (l, f) = u-first w in absurd (omega (arith, f .within)) }
+
+    -- p is in no group.
+    pub comes-full : i ≡ 0 → (r : Bool) → IsFull M e n b r → Comes M e h i b r
+    comes-full z r full = comes-by r (λ w m. (amongAt M e n m && isNeeded M e m) && not (begunAt (w .begun) (w .level) m)) same (λ t w. full .none t (begunAt (w .begun) (w .level)) (w .has)) (λ t w. full .some t (begunAt (w .begun) (w .level)) (w .has))
+      where
+        same : (w : Pair M e h i b) (m : ℕ) → 1 ≤ m → m < POSITIONS → forbids w m ≡ (amongAt M e n m && isNeeded M e m) && not (begunAt (w .begun) (w .level) m)
+        same w m x y =
+            let empty = chain-none M e (w .p) true (w .y) (levels (w .model) 0 (w .p)) (w .p-chain) (p-have w) (sym (w .p-read) ∙ z) in
+            go (levels (w .model) 0 (w .p)) empty
+          where
+            go : (ps : List Level) → ps ≡ [] → bad (λ (q : ℕ). anyOwn M e q (w .us)) (λ (q : ℕ). anyOwn M e q ps) (isNeeded M e) (begunAt (w .begun) (w .level)) (λ (q : ℕ). isHolder M e (w .p) q ps) (λ (q : ℕ). isHolder M e (w .u) q (w .us)) m ≡ (amongAt M e n m && isNeeded M e m) && not (begunAt (w .begun) (w .level) m)
+            go ps none = rw (none, sym (u-sets w m x y .0)) (first (amongAt M e n m) (isNeeded M e m) (begunAt (w .begun) (w .level) m) (isHolder M e (w .u) m (w .us)))
+              where
+                first : (a k t o : Bool) → (((a && true) && k) && not t) || (((false && not o) && a) && t) ≡ (a && k) && not t
+                first true true true o = refl
+                first true true false o = refl
+                first true false t o = refl
+                first false k t o = refl
+
+    -- p is in a group.
+    module _ (inner : 1 ≤ i) (q : ℕ) (at-q : q ≡ groupAt M e i) where
+      p-sets : (w : Pair M e h i b) (m : ℕ) → 1 ≤ m → m < POSITIONS → (amongAt M e q m ≡ anyOwn M e m (levels (w .model) 0 (w .p))) × (holdsAt M e q m || eqb m i ≡ isHolder M e (w .p) m (levels (w .model) 0 (w .p)))
+      p-sets w = set-of M e (w .sets) (w .p) (w .d) true (w .y) i q inner at-q (levels (w .model) 0 (w .p)) (w .p-read) (w .p-chain) (w .p-rising) (p-have w)
+
+      pub comes-beside : AND-GROUPS < q → (r : Bool) → Comes M e h i b r
+      comes-beside z r = record { says = λ w. let (k, f) = first-there M e (w .sets) (w .p) (w .d) true (w .y) i inner (levels (w .model) 0 (w .p)) (w .p-read) (w .p-chain) (p-have w) in absurd (omega (arith, f .within)) }
+
+      pub comes-left : (r : Bool) → IsLeft M e h n i q b r → Comes M e h i b r
+      comes-left r left =
+          comes-by r
+          (λ w. bad (amongAt M e n) (amongAt M e q) (isNeeded M e) (begunAt (w .begun) (w .level)) (λ (x : ℕ). holdsAt M e q x || eqb x i) (λ (x : ℕ). holdsAt M e n x || eqb x h))
+          (λ w m x y. bad-same _ _ _ _ (isNeeded M e m) (begunAt (w .begun) (w .level) m) _ _ _ _ (sym (u-sets w m x y .0)) (sym (p-sets w m x y .0)) (sym (p-sets w m x y .1)) (sym (u-sets w m x y .1)))
+          (λ t w. left .none t (begunAt (w .begun) (w .level)) (w .has))
+          (λ t w. left .some t (begunAt (w .begun) (w .level)) (w .has))
+
+      -- Both are in one group: in one member, or in two.
+      module _ (same : q ≡ n) where
+        meet : (w : Pair M e h i b) → (l : Level) × IsAround (w .model) 0 (w .u) l × (hasM (l .members) (w .p) ≡ true) × Marked (w .begun) (w .level) M e (w .S) l × (h ≡ memberAt M e (w .u) l) × (i ≡ memberAt M e (w .p) l) × (mayIn (groupsOf (w .us)) (w .u) (w .S) (w .p) ≡ within (l .members) (w .u) (w .S) (w .p))
+        meet w = go (w .us) (levels (w .model) 0 (w .p)) (w .u-chain) (w .p-chain) (w .u-around) (w .p-around) (w .marked)
+          where
+            go : (us ps : List Level) → Chain M e (w .u) true (w .x) us → Chain M e (w .p) true (w .y) ps → EachLevel (IsAround (w .model) 0 (w .u)) us → EachLevel (IsAround (w .model) 0 (w .p)) ps → AllMarked (w .begun) (w .level) M e (w .S) us → (l : Level) × IsAround (w .model) 0 (w .u) l × (hasM (l .members) (w .p) ≡ true) × Marked (w .begun) (w .level) M e (w .S) l × (h ≡ memberAt M e (w .u) l) × (i ≡ memberAt M e (w .p) l) × (mayIn (groupsOf us) (w .u) (w .S) (w .p) ≡ within (l .members) (w .u) (w .S) (w .p))
+            go [] ps u-chain p-chain u-around p-around marked = absurd (omega (arith, w .u-read ∙ ap (λ (v : ℕ). v % 128) u-chain))
+            go (l ∷ us) [] u-chain p-chain u-around p-around marked = absurd (omega (arith, w .p-read ∙ ap (λ (v : ℕ). v % 128) p-chain))
+            go (l ∷ us) (k ∷ ks) u-chain p-chain u-around p-around marked =
+                let f = first-of M e h (w .u) true (w .x) l us (w .u-read) u-chain (u-around .0 .1) in
+                let d = first-of M e i (w .p) true (w .y) k ks (w .p-read) p-chain (p-around .0 .1) in
+                let number : l .number ≡ k .number = sym (f .group) ∙ sym at-n ∙ sym same ∙ at-q ∙ d .group in
+                let members : l .members ≡ k .members = level-once (w .model) 0 l k (u-around .0 .0) (p-around .0 .0) number in
+                let both : hasM (l .members) (w .p) ≡ true = subst (λ (m : Members). hasM m (w .p) ≡ true) (sym members) (p-around .0 .1) in
+                (l, u-around .0, both, marked .0, f .is, d .is ∙ sym (ap (λ (v : ℕ). numberIn (firstAt M e v) (needs (l .members)) (l .members) (w .p)) number ∙ ap (λ (m : Members). numberIn (firstAt M e (k .number)) (needs m) m (w .p)) members), rw both)
+
+        pub comes-one : h ≡ i → Comes M e h i b true
+        comes-one z = record { says = λ w. let (l, a, both, marked, x, y, t) = meet w in sym (t ∙ within-same M (w .begun) (w .level) e (w .S) l (level-good (w .model) 0 l (a .0) (w .good)) marked (w .u) (w .p) (a .1) both (sym x ∙ z ∙ y)) }
+
+        pub comes-other : (h ≡ i → ⊥) → (r : Bool) → ((f : ℕ → Bool) → Has b f → r ≡ f i) → Comes M e h i b (not r)
+        comes-other z r says =
+            record {
+              says = λ w.
+                  let (l, a, both, marked, x, y, t) = meet w in
+                  ap not (says (begunAt (w .begun) (w .level)) (w .has) ∙ ap (begunAt (w .begun) (w .level)) y)
+                  ∙ sym (t ∙ within-other M (w .begun) (w .level) e (w .S) l (level-good (w .model) 0 l (a .0) (w .good)) marked (w .u) (w .p) (a .1) both (λ v. z (x ∙ v ∙ sym y)));
+            }
+
+-- The member that holds a place is one of the table's.
+holder-few : (M : List ℕ) (e v h : ℕ) → h ≡ holderAt M e v % 128 → (g : Group) → Told M e g → has g v ≡ true → h ≤ 96
+holder-few M e v h at g told here = go (levels g 0 v) (told .places v here) (levels-are g 0 v here)
+  where
+    go : (ls : List Level) → Chain M e v true (holderAt M e v) ls → EachLevel (IsAround g 0 v) ls → h ≤ 96
+    go [] chain around = omega (arith, at ∙ ap (λ (x : ℕ). x % 128) chain)
+    go (l ∷ ls) chain around = first-of M e h v true (holderAt M e v) l ls at chain (around .0 .1) .small .1
+
+-- The places
+module _ (M begun : List ℕ) (level e u p h i : ℕ) (at-h : h ≡ holderAt M e u % 128) (at-i : i ≡ holderAt M e p % 128) where
+  -- The last place is in no group.
+  pub follows-none : h ≡ 0 → Follows M level e u p begun true
+  follows-none z g numbered guarded told taken stands has-u has-p = go u refl
+    where
+      go : (v : ℕ) → u ≡ v → true ≡ mayIn (groupsAt g v) u (mem taken) p
+      go zero q = refl
+      go (suc v) q =
+          let here : has g (suc v) ≡ true = subst (λ (x : ℕ). has g x ≡ true) q (has-u (omega arith)) in
+          let empty = chain-none M e (suc v) true (holderAt M e (suc v)) (levels g 0 (suc v)) (told .places (suc v) here) (each-level (IsAround g 0 (suc v)) (λ (l : Level). hasM (l .members) (suc v) ≡ true) (λ l a. a .1) (levels g 0 (suc v)) (levels-are g 0 (suc v) here)) (ap (λ (x : ℕ). holderAt M e x % 128) (sym q) ∙ sym at-h ∙ z) in
+          ap (λ (ls : List Level). mayIn (groupsOf ls) u (mem taken) p) (sym empty) ∙ ap (λ (ms : List Members). mayIn ms u (mem taken) p) (levels-around g 0 (suc v))
+
+  module _ (some : 1 ≤ h) where
+    -- There is a last place, and it is in a group.
+    pair-of : (b : Bits) → Has b (begunAt begun level) → (g : Group) → Numbered g 1 → Guarded g → Told M e g → (taken : List ℕ) → Standing begun level M e g u taken → (1 ≤ u → has g u ≡ true) → has g p ≡ true → (w : Pair M e h i b) × (mayIn (groupsOf (w .us)) (w .u) (w .S) (w .p) ≡ mayIn (groupsAt g u) u (mem taken) p)
+    pair-of b says g numbered guarded told taken stands has-u has-p = go u refl
+      where
+        go : (v : ℕ) → u ≡ v → (w : Pair M e h i b) × (mayIn (groupsOf (w .us)) (w .u) (w .S) (w .p) ≡ mayIn (groupsAt g v) u (mem taken) p)
+        go zero q = absurd (omega (arith, at-h ∙ ap (λ (x : ℕ). holderAt M e x % 128) q ∙ ap (λ (x : ℕ). x % 128) (told .start)))
+        go (suc v) q =
+            let here : has g u ≡ true = has-u (omega arith) in (
+              record {
+                sets = told .sets;
+                begun = begun;
+                level = level;
+                has = says;
+                model = g;
+                good = numbered-good g 1 numbered guarded;
+                u = u;
+                p = p;
+                S = mem taken;
+                x = holderAt M e u;
+                y = holderAt M e p;
+                c = 0 + count g;
+                d = 0 + count g;
+                us = levels g 0 u;
+                u-read = at-h;
+                p-read = at-i;
+                u-chain = told .places u here;
+                p-chain = told .places p has-p;
+                u-rising = levels-rise g 0 u;
+                p-rising = levels-rise g 0 p;
+                u-around = levels-are g 0 u here;
+                p-around = levels-are g 0 p has-p;
+                marked = stands .marked (omega arith) u here;
+              },
+              ap (λ (ms : List Members). mayIn ms u (mem taken) p) (levels-around g 0 u ∙ ap (around g) q),
+            )
+
+    pub follows-by : (b : Bits) → Has b (begunAt begun level) → (r : Bool) → Comes M e h i b r → Follows M level e u p begun r
+    follows-by b says r comes g numbered guarded told taken stands has-u has-p = let (w, t) = pair-of b says g numbered guarded told taken stands has-u has-p in comes .says w ∙ t
+
+    -- The holders are members of the table.
+    pub follows-large : 96 < h → Follows M level e u p begun true
+    follows-large z g numbered guarded told taken stands has-u has-p = go u refl
+      where
+        go : (v : ℕ) → u ≡ v → true ≡ mayIn (groupsAt g v) u (mem taken) p
+        go zero q = refl
+        go (suc v) q = absurd (omega (arith, holder-few M e u h at-h g told (has-u (omega arith))))
+
+    pub follows-beside : 96 < i → Follows M level e u p begun true
+    follows-beside z g numbered guarded told taken stands has-u has-p = absurd (omega (arith, holder-few M e p i at-i g told has-p))

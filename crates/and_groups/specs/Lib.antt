@@ -5,3 +5,4 @@ pub mod Entering
 pub mod Blocking
 pub mod Lacking
 pub mod Following
+pub mod Taking

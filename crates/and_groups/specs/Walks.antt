@@ -55,6 +55,32 @@ pub record IsLeft (M : List ℕ) (e h n i q : ℕ) (b : Bits) (r : Bool) : Type 
   pub none : r ≡ true → (B : ℕ → Bool) → Has b B → (m : ℕ) → 1 ≤ m → m < POSITIONS → bad (amongAt M e n) (amongAt M e q) (isNeeded M e) B (λ (x : ℕ). holdsAt M e q x || eqb x i) (λ (x : ℕ). holdsAt M e n x || eqb x h) m ≡ false
   pub some : r ≡ false → (B : ℕ → Bool) → Has b B → (m : ℕ) × (1 ≤ m) × (m < POSITIONS) × (bad (amongAt M e n) (amongAt M e q) (isNeeded M e) B (λ (x : ℕ). holdsAt M e q x || eqb x i) (λ (x : ℕ). holdsAt M e n x || eqb x h) m ≡ true)
 
--- Whether p may come next, from the holders of u and p.
+-- The last place u of a model and another, p, which the members h and i hold, and what has begun.
+pub record Pair (M : List ℕ) (e h i : ℕ) (b : Bits) : Type 0 where
+  pub sets : AllSets M e
+  pub begun : List ℕ
+  pub level : ℕ
+  pub has : Has b (begunAt begun level)
+  pub model : Group
+  pub good : Good model
+  pub u : ℕ
+  pub p : ℕ
+  pub S : ℕ → Bool
+  pub x : ℕ
+  pub y : ℕ
+  pub c : ℕ
+  pub d : ℕ
+  pub us : List Level
+  pub u-read : h ≡ x % 128
+  pub p-read : i ≡ y % 128
+  pub u-chain : Chain M e u true x us
+  pub p-chain : Chain M e p true y (levels model 0 p)
+  pub u-rising : Rising 0 c us
+  pub p-rising : Rising 0 d (levels model 0 p)
+  pub u-around : EachLevel (IsAround model 0 u) us
+  pub p-around : EachLevel (IsAround model 0 p) (levels model 0 p)
+  pub marked : AllMarked begun level M e S us
+
+-- Whether p may come next.
 pub record Comes (M : List ℕ) (e h i : ℕ) (b : Bits) (r : Bool) : Type 0 where
-  pub says : AllSets M e → (begun : List ℕ) (level : ℕ) → Has b (begunAt begun level) → (g : Group) → Good g → (u p : ℕ) (S : ℕ → Bool) (x y c d : ℕ) (us : List Level) → h ≡ x % 128 → i ≡ y % 128 → Chain M e u true x us → Chain M e p true y (levels g 0 p) → Rising 0 c us → Rising 0 d (levels g 0 p) → EachLevel (IsAround g 0 u) us → EachLevel (IsAround g 0 p) (levels g 0 p) → AllMarked begun level M e S us → r ≡ mayIn (groupsOf us) u S p
+  pub says : (w : Pair M e h i b) → r ≡ mayIn (groupsOf (w .us)) (w .u) (w .S) (w .p)
