@@ -26,8 +26,8 @@ use Rattle.and_groups.specs.Walks.{Idle, Due}
 -- The bits that are not set
 module _ (b : Bits) (first k : ℕ) where
   -- There are no such members.
-  pub idle-none : (1 ≤ first → first + k ≤ POSITIONS → k ≤ GRPCNT → ⊥) → Idle b first k 0
-  idle-none f = record { below = λ x y z. pow-pos k; bits = λ B has x y z. absurd (f x y z) }
+  pub idle-none : (1 ≤ first → first + k ≤ POSITIONS → k ≤ GRPCNT → k ≡ 0) → Idle b first k 0
+  idle-none f = record { below = λ x y z. pow-pos k; bits = λ B has x y z j l. absurd (omega (arith, f x y z)) }
 
   idle-all : (v : ℕ) → From b first v → Idle b first k (2 ^ k - 1 - v % 2 ^ k)
   idle-all v from =
