@@ -4,8 +4,8 @@ use layout::AND_GROUPS;
 use layout::ElementNo;
 use layout::GRPGTCNT;
 use layout::MEMBER;
-use layout::MEMBERS;
 use layout::MEMBER_BITS;
+use layout::MEMBERS;
 use layout::MODEL;
 use layout::NEEDED;
 use layout::POSITIONS;
@@ -14,8 +14,7 @@ use layout::SETS;
 use member_bits::Bits;
 
 // The numbers from i on become the bits of the members b.
-fn put_bits(members: &mut [u8], i: usize, b: Bits)
-{
+fn put_bits(members: &mut [u8], i: usize, b: Bits) {
     for j in 0..8 {
         members[i + j] = ((b.low >> (8 * j)) % 256) as u8;
     }
@@ -32,8 +31,7 @@ struct Around {
 }
 
 // What is to be put of the group g, by what has been put of the group around it.
-fn around(members: &[u8], e: ElementNo, g: usize) -> Around
-{
+fn around(members: &[u8], e: ElementNo, g: usize) -> Around {
     let own = member_bits::range(
         member_numbers::of_group(members, e, g, 0),
         member_numbers::of_group(members, e, g, 2),
@@ -59,8 +57,7 @@ fn around(members: &[u8], e: ElementNo, g: usize) -> Around
     }
 }
 
-fn put_group(members: &mut [u8], e: ElementNo, g: usize)
-{
+fn put_group(members: &mut [u8], e: ElementNo, g: usize) {
     let a = around(members, e, g);
     let i = e.0 * MEMBER + SETS + g * (2 * MEMBER_BITS);
     put_bits(members, i, a.holding);
@@ -69,15 +66,13 @@ fn put_group(members: &mut [u8], e: ElementNo, g: usize)
 }
 
 // Whether the member h cannot be nothing.
-fn is_needed(members: &[u8], e: ElementNo, h: usize) -> bool
-{
+fn is_needed(members: &[u8], e: ElementNo, h: usize) -> bool {
     let g = member_numbers::group_of(members, e, h);
     h < member_numbers::of_group(members, e, g, 0) + member_numbers::of_group(members, e, g, 1)
 }
 
 // The members that cannot be nothing.
-fn needed_of(members: &[u8], e: ElementNo) -> Bits
-{
+fn needed_of(members: &[u8], e: ElementNo) -> Bits {
     let mut b = member_bits::none();
     for h in 1..POSITIONS {
         if is_needed(members, e, h) {
@@ -89,8 +84,7 @@ fn needed_of(members: &[u8], e: ElementNo) -> Bits
 
 // The members of the element e, whose model has its table in `table` with n numbers of code, and the sets of its groups, from the outermost inwards. They are
 // all 0 before. A table that is not whole gets none: it is one of no member.
-pub fn fill(members: &mut [u8], e: ElementNo, table: &[u8; MODEL], n: usize)
-{
+pub fn fill(members: &mut [u8], e: ElementNo, table: &[u8; MODEL], n: usize) {
     member_table::fill(members, e, table, n);
     if members.len() < MEMBERS {
         return;
