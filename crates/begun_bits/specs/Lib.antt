@@ -1,5 +1,3 @@
--- What is read of the table of members, and of the bits of those that have begun.
+-- What is read and put of the bits of the members that have begun.
 pub mod Levels
-pub mod Bits
 pub mod Stores
-pub mod Gathering

@@ -30,3 +30,8 @@ pub data First (f : ℕ → Bool) (r : ℕ) : Type 0 where
 -- The bits of r, from 0 on, are those of the members from `from` on.
 pub record From (b : Bits) (from r : ℕ) : Type 0 where
   pub bits : (f : ℕ → Bool) → Has b f → (j : ℕ) → j < GRPCNT → from + j < POSITIONS → r / 2 ^ j % 2 ≡ cond (f (from + j)) 1 0
+
+-- r is the lowest bit of y that is set.
+pub record Lowest (y r : ℕ) : Type 0 where
+  pub set : y / 2 ^ r % 2 ≡ 1
+  pub lower : (j : ℕ) → j < r → y / 2 ^ j % 2 ≡ 0

@@ -1,2 +1,4 @@
 -- Members as bits.
 pub mod Having
+pub mod Bits
+pub mod Laws

@@ -4,7 +4,7 @@ ghost use mathlib.Core.Path.{_≡_};
 ghost use mathlib.Core.Bool.{Bool, false, _&&_, _||_, not};
 ghost use Prim.Native.Nat.{ℕ, _+_, _≤_, _<_};
 ghost use lib.Dec.{eqb, ltb, leb};
-ghost use Rattle.member_bits.specs.Having.{Has, IsNone, First, From};
+ghost use Rattle.member_bits.specs.Having.{Has, IsNone, First, From, Lowest};
 
 pub struct Bits {
     pub low: usize,
@@ -21,7 +21,7 @@ pub fn none() -> Bits
 // The member h too.
 pub fn with(b: Bits, h: usize) -> Bits
     requires { ⌜ (1 ≤ h) × (h ≤ 96) ⌝ }
-    ensures { λ r. ⌜ (f : ℕ → Bool) → Has b f → Has r (λ (n : ℕ). f n || eqb n h) ⌝ }
+    ensures { λ r. ⌜ ((f : ℕ → Bool) → Has b f → Has r (λ (n : ℕ). f n || eqb n h)) ⌝ }
 {
     if h <= 64 {
         return Bits {
@@ -37,7 +37,7 @@ pub fn with(b: Bits, h: usize) -> Bits
 
 // Those of either.
 pub fn joined(a: Bits, b: Bits) -> Bits
-    ensures { λ r. ⌜ (f k : ℕ → Bool) → Has a f → Has b k → Has r (λ (n : ℕ). f n || k n) ⌝ }
+    ensures { λ r. ⌜ ((f k : ℕ → Bool) → Has a f → Has b k → Has r (λ (n : ℕ). f n || k n)) ⌝ }
 {
     Bits {
         low: a.low | b.low,
@@ -47,7 +47,7 @@ pub fn joined(a: Bits, b: Bits) -> Bits
 
 // Those of both.
 pub fn common(a: Bits, b: Bits) -> Bits
-    ensures { λ r. ⌜ (f k : ℕ → Bool) → Has a f → Has b k → Has r (λ (n : ℕ). f n && k n) ⌝ }
+    ensures { λ r. ⌜ ((f k : ℕ → Bool) → Has a f → Has b k → Has r (λ (n : ℕ). f n && k n)) ⌝ }
 {
     Bits {
         low: a.low & b.low,
@@ -57,7 +57,7 @@ pub fn common(a: Bits, b: Bits) -> Bits
 
 // Those of a that are not of b.
 pub fn without(a: Bits, b: Bits) -> Bits
-    ensures { λ r. ⌜ (f k : ℕ → Bool) → Has a f → Has b k → Has r (λ (n : ℕ). f n && not (k n)) ⌝ }
+    ensures { λ r. ⌜ ((f k : ℕ → Bool) → Has a f → Has b k → Has r (λ (n : ℕ). f n && not (k n))) ⌝ }
 {
     Bits {
         low: a.low & (a.low ^ b.low),
@@ -68,7 +68,7 @@ pub fn without(a: Bits, b: Bits) -> Bits
 // Whether the member h is one.
 pub fn has(b: Bits, h: usize) -> bool
     requires { ⌜ (1 ≤ h) × (h ≤ 96) ⌝ }
-    ensures { λ r. ⌜ (f : ℕ → Bool) → Has b f → r ≡ f h ⌝ }
+    ensures { λ r. ⌜ ((f : ℕ → Bool) → Has b f → r ≡ f h) ⌝ }
 {
     if h <= 64 {
         return (b.low >> (h - 1)) % 2 == 1;

@@ -15,6 +15,7 @@ ghost use lib.ListN.{length, getD};
 ghost use Rattle.layout.specs.Sizes.{MEMBERS};
 ghost use Rattle.member_laws.specs.Members.{holderAt, groupAt, dueAt, recordAt, reachAt, bitAt, isNeeded, holdsAt, amongAt};
 ghost use Rattle.member_bits.specs.Having.{Has};
+ghost use Rattle.member_numbers.specs.Words.{Word};
 
 // A number of the table.
 fn number(members: &[u8], i: usize) -> usize
@@ -84,7 +85,7 @@ fn word(members: &[u8], i: usize) -> usize
 
 // The members whose bits stand from i on.
 fn bits_at(members: &[u8], i: usize) -> Bits
-    requires { ⌜ (i + 12 ≤ length (now members)) × (i < 131072) ⌝ }
+    requires { ⌜ i + 12 ≤ length (now members) ⌝ }
     ensures { λ r. ⌜ Has r (bitAt (now (members .entry)) i) ⌝ }
 {
     let a = word(members, i);
@@ -120,5 +121,8 @@ pub fn among(members: &[u8], e: ElementNo, g: usize) -> Bits
     requires { ⌜ (e .0 ≤ 64) × (g ≤ 48) ⌝ }
     ensures { λ r. ⌜ Has r (amongAt (now (members .entry)) (e .0) g) ⌝ }
 {
-    bits_at(members, e.0 * MEMBER + SETS + g * (2 * MEMBER_BITS) + MEMBER_BITS)
+    bits_at(
+        members,
+        e.0 * MEMBER + SETS + g * (2 * MEMBER_BITS) + MEMBER_BITS,
+    )
 }

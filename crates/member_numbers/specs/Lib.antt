@@ -1,0 +1,2 @@
+-- What is read of the table of the members of "&" groups.
+pub mod Words
