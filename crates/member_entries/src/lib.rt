@@ -59,7 +59,7 @@ fn put_places(
     w: usize,
     h: usize,
 )
-    requires { ⌜ base < 65536 ⌝ }
+    requires { ⌜ base < 131072 ⌝ }
     requires { ⌜ hi ≤ 256 ⌝ }
     requires { ⌜ w < 256 ⌝ }
     requires { ⌜ h < 97 ⌝ }
@@ -82,7 +82,7 @@ fn put_outer(
     last: usize,
     g: usize,
 )
-    requires { ⌜ base < 65536 ⌝ }
+    requires { ⌜ base < 131072 ⌝ }
     requires { ⌜ w < 256 ⌝ }
     requires { ⌜ h < 97 ⌝ }
     requires { ⌜ last < 256 ⌝ }
@@ -112,7 +112,7 @@ fn put_outers(
     lasts: [u8; 49],
     groups: usize,
 )
-    requires { ⌜ base < 65536 ⌝ }
+    requires { ⌜ base < 131072 ⌝ }
     requires { ⌜ w < 256 ⌝ }
     requires { ⌜ h < 97 ⌝ }
     requires { ⌜ groups ≤ 48 ⌝ }
@@ -147,7 +147,7 @@ pub fn put_member(
     hi: usize,
     required: u8,
 )
-    requires { ⌜ base < 65536 ⌝ }
+    requires { ⌜ base < 131072 ⌝ }
     requires { ⌜ groups < 48 ⌝ }
     requires { ⌜ w < 256 ⌝ }
     requires { ⌜ h < 97 ⌝ }
@@ -170,7 +170,7 @@ pub fn put_record(
     needed: usize,
     k: usize,
 )
-    requires { ⌜ base < 65536 ⌝ }
+    requires { ⌜ base < 131072 ⌝ }
     requires { ⌜ groups < 48 ⌝ }
     requires { ⌜ own < 256 ⌝ }
     requires { ⌜ needed < 256 ⌝ }

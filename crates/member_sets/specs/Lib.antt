@@ -1,3 +1,4 @@
--- How far the walks outwards through the "&" groups of a model go at once, as it is put behind what the table tells of them.
+-- The sets of members of the groups of a model, as they are put behind what the table tells of them.
+pub mod Storing
 pub mod Linking
 pub mod Telling

@@ -12,67 +12,152 @@ use layout::POSITIONS;
 use layout::REACHES;
 use layout::SETS;
 use member_bits::Bits;
+ghost use mathlib.Core.Path.{_≡_};
+ghost use Prim.Native.Nat.{_+_, _*_, _/_, _%_, _^_, _≤_, _<_};
+ghost use lib.ListN.{length, set};
+ghost use Rattle.layout.specs.Sizes.{REACHES, MEMBER, MEMBERS};
+ghost use Rattle.member_laws.specs.Members.{reachAt};
+ghost use Rattle.member_bits.specs.Having.{Has};
+ghost use Rattle.member_table.specs.Filling.{filled};
+ghost use Rattle.member_sets.specs.Storing.{Stored, PutBits};
+ghost use Rattle.member_sets.specs.Linking.{isDue, Found, PutGroup, Linked};
+
+// The byte j of x, from the lowest on.
+fn byte_of(x: usize, j: usize) -> u8
+    requires { ⌜ j < 8 ⌝ }
+    ensures { λ r. ⌜ r ≡ x / 2 ^ (8 * j) % 256 ⌝ }
+{
+    ((x >> (8 * j)) % 256) as u8
+}
+
+// The n lowest bytes of x are put from i on, the lowest first.
+fn put_bytes(members: &mut [u8], i: usize, x: usize, n: usize)
+    requires { ⌜ i + n ≤ length (now members) ⌝ }
+    requires { ⌜ (i < 131072) × (n ≤ 8) ⌝ }
+    ensures { λ _. ⌜ Stored (now (members .entry)) i x n (now (members .exit)) ⌝ }
+{
+    for j in 0..n {
+        members[i + j] = byte_of(x, j);
+    }
+}
 
 // The numbers from i on become the bits of the members b.
-fn put_bits(members: &mut [u8], i: usize, b: Bits) {
-    for j in 0..8 {
-        members[i + j] = ((b.low >> (8 * j)) % 256) as u8;
-    }
-    for k in 0..4 {
-        members[i + 8 + k] = ((b.high >> (8 * k)) % 256) as u8;
-    }
+fn put_bits(members: &mut [u8], i: usize, b: Bits)
+    requires { ⌜ i + 12 ≤ length (now members) ⌝ }
+    requires { ⌜ i < 131000 ⌝ }
+    ensures { λ _. ⌜ PutBits (now (members .entry)) i b (now (members .exit)) ⌝ }
+{
+    put_bytes(members, i, b.low, 8);
+    put_bytes(members, i + 8, b.high, 4);
 }
 
 // What is put of a group: the members that hold it, those of the group and of those around it, and how far out these can end with it.
-struct Around {
-    holding: Bits,
-    among: Bits,
-    reach: usize,
+pub struct Sets {
+    pub holding: Bits,
+    pub among: Bits,
+    pub reach: usize,
+}
+
+// The group f of the member h, if this is one and f is a group around the group g; or 0.
+fn around_of(g: usize, h: usize, f: usize) -> usize
+    ensures { λ r. ⌜ (1 ≤ r → (r ≡ f) × (1 ≤ h) × (h < 97) × (g < f) × (f ≤ 48)) × (1 ≤ h → h < 97 → g < f → f ≤ 48 → 1 ≤ r) ⌝ }
+{
+    if h == 0 {
+        return 0;
+    }
+    if GRPGTCNT < h {
+        return 0;
+    }
+    if f <= g {
+        return 0;
+    }
+    if AND_GROUPS < f {
+        return 0;
+    }
+    f
+}
+
+// How far out the groups can end with the group g: where the member that holds it can, as far as from the group f of that member.
+fn reach_from(members: &[u8], e: ElementNo, g: usize, outer: usize, f: usize) -> usize
+    requires { ⌜ MEMBERS ≤ length (now members) ⌝ }
+    requires { ⌜ (e .0 ≤ 64) × (g ≤ 48) × (f ≤ 48) ⌝ }
+    ensures { λ r. ⌜ (128 < outer → r ≡ reachAt (now (members .entry)) (e .0) f) × (outer ≤ 128 → r ≡ g) × (r ≤ 255) ⌝ }
+{
+    if 128 < outer {
+        return member_numbers::reach_of(members, e, f);
+    }
+    g
 }
 
 // What is to be put of the group g, by what has been put of the group around it.
-fn around(members: &[u8], e: ElementNo, g: usize) -> Around {
-    let own = member_bits::range(
-        member_numbers::of_group(members, e, g, 0),
-        member_numbers::of_group(members, e, g, 2),
-    );
+fn around(members: &[u8], e: ElementNo, g: usize) -> Sets
+    requires { ⌜ MEMBERS ≤ length (now members) ⌝ }
+    requires { ⌜ (e .0 ≤ 64) × (g ≤ 48) ⌝ }
+    ensures { λ r. ⌜ Found (now (members .entry)) (e .0) g r ⌝ }
+{
+    let first = member_numbers::of_group(members, e, g, 0);
+    let size = member_numbers::of_group(members, e, g, 2);
+    let own = member_bits::range(first, size);
     let outer = member_numbers::of_group(members, e, g, 3);
     let h = outer % 128;
-    let f = member_numbers::group_of(members, e, h);
-    if h == 0 || GRPGTCNT < h || f <= g || AND_GROUPS < f {
-        return Around {
-            holding: member_bits::none(),
+    let f = around_of(g, h, member_numbers::group_of(members, e, h));
+    if f == 0 {
+        let none = member_bits::none();
+        return Sets {
+            holding: none,
             among: own,
             reach: g,
         };
     }
-    let mut reach = g;
-    if 128 < outer {
-        reach = member_numbers::reach_of(members, e, f);
-    }
-    Around {
-        holding: member_bits::with(member_numbers::holding(members, e, f), h),
-        among: member_bits::joined(own, member_numbers::among(members, e, f)),
+    let reach = reach_from(members, e, g, outer, f);
+    let holding = member_bits::with(member_numbers::holding(members, e, f), h);
+    let among = member_bits::joined(own, member_numbers::among(members, e, f));
+    Sets {
+        holding: holding,
+        among: among,
         reach: reach,
     }
 }
 
-fn put_group(members: &mut [u8], e: ElementNo, g: usize) {
+fn put_reach(members: &mut [u8], e: ElementNo, g: usize, reach: usize)
+    requires { ⌜ MEMBERS ≤ length (now members) ⌝ }
+    requires { ⌜ (e .0 ≤ 64) × (g ≤ 48) × (reach ≤ 255) ⌝ }
+    ensures { λ _. ⌜ now (members .exit) ≡ set (now (members .entry)) (e .0 * MEMBER + REACHES + g) reach ⌝ }
+{
+    members[e.0 * MEMBER + REACHES + g] = reach as u8;
+}
+
+fn put_group(members: &mut [u8], e: ElementNo, g: usize)
+    requires { ⌜ MEMBERS ≤ length (now members) ⌝ }
+    requires { ⌜ (e .0 ≤ 64) × (g ≤ 48) ⌝ }
+    ensures { λ _. ⌜ PutGroup (now (members .entry)) (e .0) g (now (members .exit)) ⌝ }
+{
     let a = around(members, e, g);
+    let holding = a.holding;
+    let among = a.among;
+    let reach = a.reach;
     let i = e.0 * MEMBER + SETS + g * (2 * MEMBER_BITS);
-    put_bits(members, i, a.holding);
-    put_bits(members, i + MEMBER_BITS, a.among);
-    members[e.0 * MEMBER + REACHES + g] = a.reach as u8;
+    put_bits(members, i, holding);
+    put_bits(members, i + MEMBER_BITS, among);
+    put_reach(members, e, g, reach);
 }
 
 // Whether the member h cannot be nothing.
-fn is_needed(members: &[u8], e: ElementNo, h: usize) -> bool {
+fn is_needed(members: &[u8], e: ElementNo, h: usize) -> bool
+    requires { ⌜ MEMBERS ≤ length (now members) ⌝ }
+    requires { ⌜ (e .0 ≤ 64) × (h ≤ 255) ⌝ }
+    ensures { λ r. ⌜ r ≡ isDue (now (members .entry)) (e .0) h ⌝ }
+{
     let g = member_numbers::group_of(members, e, h);
     h < member_numbers::of_group(members, e, g, 0) + member_numbers::of_group(members, e, g, 1)
 }
 
 // The members that cannot be nothing.
-fn needed_of(members: &[u8], e: ElementNo) -> Bits {
+fn needed_of(members: &[u8], e: ElementNo) -> Bits
+    requires { ⌜ MEMBERS ≤ length (now members) ⌝ }
+    requires { ⌜ e .0 ≤ 64 ⌝ }
+    ensures { λ r. ⌜ Has r (isDue (now (members .entry)) (e .0)) ⌝ }
+{
     let mut b = member_bits::none();
     for h in 1..POSITIONS {
         if is_needed(members, e, h) {
@@ -84,7 +169,10 @@ fn needed_of(members: &[u8], e: ElementNo) -> Bits {
 
 // The members of the element e, whose model has its table in `table` with n numbers of code, and the sets of its groups, from the outermost inwards. They are
 // all 0 before. A table that is not whole gets none: it is one of no member.
-pub fn fill(members: &mut [u8], e: ElementNo, table: &[u8; MODEL], n: usize) {
+pub fn fill(members: &mut [u8], e: ElementNo, table: &[u8; MODEL], n: usize)
+    requires { ⌜ e .0 < 65 ⌝ }
+    ensures { λ _. ⌜ Linked (filled (now (members .entry)) (e .0) (now (table .entry)) n) (e .0) (now (members .exit)) ⌝ }
+{
     member_table::fill(members, e, table, n);
     if members.len() < MEMBERS {
         return;

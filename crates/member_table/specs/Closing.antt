@@ -27,6 +27,7 @@ use Rattle.member_table.specs.Beside.{RowsM, second, marks, lastM-end}
 use Rattle.member_table.specs.Joined.{pieceOf, Pieces, needed-is, each-map, rowsOf, Joined, joins}
 use Rattle.member_table.specs.Chains.{baseOf, Keeps, Closes}
 use Rattle.member_table.specs.States.{Common}
+use Rattle.member_table.specs.Order.{InOrder, order-more}
 
 -- The last number of the code
 
@@ -267,6 +268,18 @@ module _
         members = rw new-first (each-map (t .count + 1) (needs all) all (λ n x r p. (p .0 ∙ next, p .1)) (J .each));
       }
 
+  later-first : (n : ℕ) → t .groups + 1 < n → firstAt closedMembers e n ≡ firstAt (t .members) e n
+  later-first n l =
+      let z : recordFrom (baseOf e) n + 0 ≡ recordFrom (baseOf e) n = omega arith in
+      rw z at (in-record n 0 (omega arith) ∙ before (recordFrom (baseOf e) n + 0) (λ x. omega arith) (λ x. omega arith) (λ x. omega arith))
+
+  new-order : InOrder e (t .members) (t .groups) (t .count) → InOrder e closedMembers (t .groups + 1) (t .count + amount all)
+  new-order =
+      order-more e (t .members) closedMembers (t .groups) (t .count) (amount all) (keeps-old .first) (keeps-old .size)
+      (subst (λ (n : ℕ). firstAt closedMembers e n ≡ t .count + 1) (sym next) new-first)
+      (subst (λ (n : ℕ). sizeAt closedMembers e n ≡ amount all) (sym next) (new-grouped .size))
+      later-first
+
   new-agree : (n : ℕ) → n ≤ t .groups → getD closedLasts n 0 ≡ getD (t .lasts) n 0
   new-agree n l = getD-set-other (t .lasts) (t .groups + 1) n (lo + sizeM all - 1) 0 (λ x. omega arith)
 
@@ -296,4 +309,5 @@ module _
         keeps = keeps-old;
         later = λ n l. new-outer n (omega arith);
         outside = new-outside;
+        order = new-order;
       }

@@ -6,6 +6,7 @@ pub mod Steps
 pub mod Beside
 pub mod Joined
 pub mod Chains
+pub mod Order
 pub mod States
 pub mod Closing
 pub mod Fills

@@ -20,6 +20,7 @@ use Rattle.member_table.specs.declared.Piece.{Piece}
 use Rattle.member_table.specs.Filling.{State, pieceAt, nonePiece, placePiece, optPiece, joinedPiece, stacked, closeGroup, stepFill, startFill, runFill}
 use Rattle.member_table.specs.Beside.{not-right}
 use Rattle.member_table.specs.Chains.{baseOf, Spells, spells-map, Keeps, spells-keep}
+use Rattle.member_table.specs.Order.{InOrder}
 
 -- Numbers one after the other
 
@@ -105,6 +106,7 @@ pub record Common (e : ℕ) (D : ℕ → Bool) (cnt tot : ℕ) (s t : State) : T
   pub keeps : Keeps e (s .lasts) (s .groups) (s .count) D (s .members) (t .members)
   pub later : (n : ℕ) → t .groups < n → outerAt (t .members) e n ≡ outerAt (s .members) e n
   pub outside : (k : ℕ) → (k < baseOf e) ⊎ (baseOf e + MEMBER ≤ k) → getD (t .members) k 0 ≡ getD (s .members) k 0
+  pub order : InOrder e (s .members) (s .groups) (s .count) → InOrder e (t .members) (t .groups) (t .count)
 
 -- What a group asks for: no place of D has a member, no later group has one.
 pub record Ready (e : ℕ) (D : ℕ → Bool) (s : State) : Type 0 where
@@ -142,6 +144,7 @@ common-none e D s k a =
       keeps = keeps-none e D (s .lasts) (s .groups) (s .count) (s .members);
       later = λ n h. refl;
       outside = λ j h. refl;
+      order = λ so. so;
     }
 
 pub common-stack : (e : ℕ) (D : ℕ → Bool) (cnt tot : ℕ) (s t : State) → Common e D cnt tot s t → (k : ℕ) (a : Piece) → Common e D cnt tot s (stacked t k a)
@@ -155,6 +158,7 @@ common-stack e D cnt tot s t c k a =
       keeps = c .keeps;
       later = c .later;
       outside = c .outside;
+      order = c .order;
     }
 
 -- One after the other.
@@ -186,6 +190,7 @@ module _ (e : ℕ) (D₁ D₂ D : ℕ → Bool) (n₁ m₁ n₂ m₂ : ℕ) (s t
         keeps = keeps-both;
         later = λ n l. q .later n l ∙ p .later n (omega (arith, q .groups));
         outside = λ k o. q .outside k o ∙ p .outside k o;
+        order = λ so. q .order (p .order so);
       }
 
 -- What is left free is free for what comes after.

@@ -14,7 +14,7 @@ use Rattle.model_sets.specs.Sets.{has, size, Numbered, follow, nextIn}
 use Rattle.and_laws.specs.Numbers.{Guarded, numbered-good, has-range}
 use Rattle.and_laws.specs.Ranked.{count, countM, levels}
 use Rattle.model_code.specs.Spelled.{codes, codeIn}
-use Rattle.member_laws.specs.Members.{total, totalM, Sized, SizedM, holderAt, Chain}
+use Rattle.member_laws.specs.Members.{total, totalM, Sized, SizedM, holderAt, firstAt, Ordered, Chain}
 use Rattle.member_table.specs.declared.Piece.{Piece}
 use Rattle.member_table.specs.Filling.{State, nonePiece, startFill, filled}
 use Rattle.member_table.specs.Beside.{Rows, and-rows}
@@ -22,6 +22,7 @@ use Rattle.member_table.specs.Joined.{rowsOf}
 use Rattle.member_table.specs.Chains.{baseOf, spells-chain}
 use Rattle.member_table.specs.States.{runOps, run-in, Ready}
 use Rattle.member_table.specs.Fills.{Ran, runs, InPart}
+use Rattle.member_table.specs.Order.{order-start, order-all}
 
 -- Every group has two members or more.
 mutual
@@ -52,12 +53,13 @@ rows-of T g n few f (suc u) w i j =
     let b = has-range g 1 n w j in
     ap (λ (x : ℕ). eqb x 1) (f (suc u) w (omega (arith, a .1)) (b .0) (omega (arith, b .1))) ∙ is-bit (follow g (suc u) w)
 
--- What comes of M for the element e, whose model is g: its part tells the members, but for the runs, and nothing else has changed.
+-- What comes of M for the element e, whose model is g: its part tells the members, but for the sets, and nothing else has changed.
 pub record Filled (M : List ℕ) (e : ℕ) (g : Group) (S : List ℕ) : Type 0 where
   pub start : holderAt S e 0 ≡ 0
   pub places : (u : ℕ) → has g u ≡ true → Chain S e u true (holderAt S e u) (levels g 0 u)
   pub len : length S ≡ length M
   pub others : (k : ℕ) → (k < e * MEMBER) ⊎ (e * MEMBER + MEMBER ≤ k) → getD S k 0 ≡ getD M k 0
+  pub order : Ordered S e
 
 module _
     (M T : List ℕ) (e n : ℕ) (g : Group) (long : length M ≡ MEMBERS) (within : e < CONTENTS)
@@ -79,6 +81,9 @@ module _
       let good = numbered-good g 1 numbered guarded in
       runs e T g 1 numbered good sized (and-rows (rowsOf T) g good (rows-of T g numbered few rows)) (omega arith) (startFill M) ready (omega arith) (omega (arith, count-few g sized)) (omega arith)
 
+  none : (n : ℕ) → n ≤ 48 → firstAt M e n ≡ 0
+  none n l = let is : e * MEMBER + (3 * POSITIONS + n * 4) ≡ e * MEMBER + 3 * POSITIONS + n * 4 = omega arith in rw is at (free (3 * POSITIONS + n * 4) (omega arith))
+
   pub fills : Filled M e g (filled M e T n)
   fills =
       let end = runOps (baseOf e) T (codes g) (startFill M) in
@@ -89,4 +94,5 @@ module _
         places = λ u i. spells-chain e (end .members) (end .lasts) (end .groups) (end .count) (InPart g u) u true (baseOf e + u) u (levels g 0 u) (ran .chains u i);
         len = ran .common .len;
         others = ran .common .outside;
+        order = order-all e (end .members) (end .groups) (end .count) (ran .common .order (order-start e M none));
       })

@@ -49,7 +49,7 @@ fn put_one(
     needed: usize,
     j: usize,
 )
-    requires { ⌜ base < 65536 ⌝ }
+    requires { ⌜ base < 131072 ⌝ }
     requires { ⌜ groups < 48 ⌝ }
     requires { ⌜ first < 96 ⌝ }
     requires { ⌜ first + j < 97 ⌝ }
@@ -98,7 +98,7 @@ fn put_group(
     needed: usize,
     k: usize,
 )
-    requires { ⌜ base < 65536 ⌝ }
+    requires { ⌜ base < 131072 ⌝ }
     requires { ⌜ groups < 48 ⌝ }
     requires { ⌜ 2 ≤ k ⌝ }
     requires { ⌜ first + k ≤ 97 ⌝ }
