@@ -145,9 +145,9 @@ module _ (M : List ℕ) (e : ℕ) where
     pub none : outerAt n % 128 ≡ 0 → Outermost n
     pub some : 1 ≤ outerAt n % 128 → outerAt n % 128 < POSITIONS → n < groupAt (outerAt n % 128) → groupAt (outerAt n % 128) ≤ AND-GROUPS → Within n (outerAt n % 128) (groupAt (outerAt n % 128)) (ltb 128 (outerAt n))
 
-  -- The sets of all groups, and of the members that cannot be nothing.
+  -- The sets of all groups that have members, and of the members that cannot be nothing.
   pub record AllSets : Type 0 where
-    pub around : (n : ℕ) → 1 ≤ n → n ≤ AND-GROUPS → Around n
+    pub around : (n : ℕ) → 1 ≤ n → n ≤ AND-GROUPS → 1 ≤ firstAt n → Around n
     pub needed : (h : ℕ) → 1 ≤ h → h < POSITIONS → groupAt h ≤ AND-GROUPS → isNeeded h ≡ ltb h (firstAt (groupAt h) + neededAt (groupAt h))
 
   -- Members count in the order of their groups.

@@ -342,7 +342,7 @@ linked-all M N e g b S T is has put z w =
       others = others;
       sets = λ long.
           record {
-            around = λ n a c. w .around n (omega arith) c;
+            around = λ n a c some. w .around n (omega arith) c;
             needed = λ h a c few.
                 bit-same S T (e * MEMBER + NEEDED) (λ k x y. w .bits k x (omega arith)) h a c
                 ∙ put .bits (isDue M e) has h a c

@@ -1,16 +1,19 @@
 -- The table that is filled from a model's code and rows tells the members of its "&" groups and their sets; what it tells stays where its numbers stay.
-use Prim.Native.Nat.{ℕ, _+_, _-_, _*_, _≤_, _<_}
-use mathlib.Core.Path.{_≡_, sym, _∙_, subst}
-use mathlib.Core.Bool.{Bool, true, _&&_}
+use Prim.Native.Nat.{ℕ, _+_, _-_, _*_, _/_, _%_, _^_, _≤_, _<_}
+use mathlib.Core.Path.{_≡_, sym, _∙_, ap, subst}
+use mathlib.Core.Bool.{Bool, true, false, _&&_}
 use mathlib.Core.Logic.{_⊎_, inl, inr}
 use mathlib.Core.List.{List, [], _∷_}
 use native.Mathlib.Omega.{arith}
+use lib.Dec.{eqb}
 use lib.ListN.{length, getD}
+use lib.Pow.{shr-le}
+use borrow.Author.Tests.{le-ltb}
 use Rattle.rules.specs.Walk.{Group, Members}
 use Rattle.layout.specs.Sizes.{POSITIONS, AND-GROUPS, REACHES, NEEDED, MEMBER, MEMBERS}
 use Rattle.model_sets.specs.Sets.{has, must}
 use Rattle.and_laws.specs.Ranked.{Level, levels}
-use Rattle.member_laws.specs.Members.{amount, needs, holderAt, groupAt, dueAt, firstAt, AllSets, Ordered, Grouped, Chain, Told}
+use Rattle.member_laws.specs.Members.{amount, needs, bitAt, holderAt, groupAt, dueAt, recordAt, firstAt, neededAt, AllSets, Ordered, Grouped, Chain, Told}
 use Rattle.member_laws.specs.Numbered.{amount-both, each-at, at-each, Ranged, needed, spare, numbered-range}
 use Rattle.member_table.specs.Tells as tells
 use Rattle.member_sets.specs.Storing.{bit-same}
@@ -79,7 +82,9 @@ module _ (M S : List ℕ) (e : ℕ) (same : (k : ℕ) → k < MEMBER → getD S 
   sets-still : AllSets M e → AllSets S e
   sets-still h =
       record {
-        around = λ n a b. around-same M S e early n b (λ m x y. same-sets M S e m (λ k p q. from k (omega arith) (omega arith)) (from (e * MEMBER + REACHES + m) (omega arith) (omega arith))) (h .around n a b);
+        around = λ n a b some.
+            around-same M S e early n b (λ m x y. same-sets M S e m (λ k p q. from k (omega arith) (omega arith)) (from (e * MEMBER + REACHES + m) (omega arith) (omega arith)))
+            (h .around n a b (subst (λ (x : ℕ). 1 ≤ x) (first-same M S e early n b) some));
         needed = λ n a b few.
             bit-same M S (e * MEMBER + NEEDED) (λ k x y. from k (omega arith) (omega arith)) n a b
             ∙ h .needed n a b (subst (λ (x : ℕ). x ≤ AND-GROUPS) (group-same M S e early n b) few)
@@ -94,6 +99,29 @@ module _ (M S : List ℕ) (e : ℕ) (same : (k : ℕ) → k < MEMBER → getD S 
         sets = sets-still (h .sets);
         order = order-still M S e early (h .order);
         whole = λ u i. subst (λ (n : ℕ). (levels g 0 u ≡ []) ⊎ (MEMBERS ≤ n)) (sym len) (h .whole u i);
+      }
+
+-- A table of nothing but 0 tells a model without "&".
+module _ (S : List ℕ) (e : ℕ) (none : (k : ℕ) → getD S k 0 ≡ 0) where
+  none-set : (i h : ℕ) → bitAt S i h ≡ false
+  none-set i h =
+      let z : 0 / 2 ^ ((h - 1) % 8) ≡ 0 = omega (arith, shr-le 0 ((h - 1) % 8)) in
+      ap (λ (x : ℕ). eqb (x / 2 ^ ((h - 1) % 8) % 2) 1) (none (i + (h - 1) / 8)) ∙ ap (λ (x : ℕ). eqb (x % 2) 1) z
+
+  pub told-none : (g : Group) → ((u : ℕ) → levels g 0 u ≡ []) → Told S e g
+  told-none g empty =
+      record {
+        start = none (e * MEMBER + 0);
+        places = λ u i. rw (empty u) (none (e * MEMBER + u));
+        sets =
+            record {
+              around = λ n a b some. absurd (omega (arith, none (recordAt S e n)));
+              needed = λ h a b few.
+                  let n = groupAt S e h in
+                  none-set (e * MEMBER + NEEDED) h ∙ sym (le-ltb h (firstAt S e n + neededAt S e n) (omega (arith, none (recordAt S e n), none (recordAt S e n + 1))));
+            };
+        order = λ n m a b c some. absurd (omega (arith, none (recordAt S e m)));
+        whole = λ u i. inl (empty u);
       }
 
 -- What comes of M for the element e, whose model is g: its part tells the members, and nothing else has changed.

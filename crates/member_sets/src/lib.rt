@@ -119,6 +119,7 @@ fn around(members: &[u8], e: ElementNo, g: usize) -> Sets
     }
 }
 
+// How far out the groups can end with the group g is put.
 fn put_reach(members: &mut [u8], e: ElementNo, g: usize, reach: usize)
     requires { ⌜ MEMBERS ≤ length (now members) ⌝ }
     requires { ⌜ (e .0 ≤ 64) × (g ≤ 48) × (reach ≤ 255) ⌝ }
@@ -127,6 +128,7 @@ fn put_reach(members: &mut [u8], e: ElementNo, g: usize, reach: usize)
     members[e.0 * MEMBER + REACHES + g] = reach as u8;
 }
 
+// What is to be put of the group g is put.
 fn put_group(members: &mut [u8], e: ElementNo, g: usize)
     requires { ⌜ MEMBERS ≤ length (now members) ⌝ }
     requires { ⌜ (e .0 ≤ 64) × (g ≤ 48) ⌝ }

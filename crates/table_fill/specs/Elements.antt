@@ -39,7 +39,7 @@ use Rattle.element_index.specs.Indexed.{Indexed}
 use Rattle.list_table.specs.Lists.{ListAt, Lists}
 use Rattle.type_tables.specs.Tables.{rowAt, PlainIn}
 use Rattle.member_table.specs.Filling.{filled}
-use Rattle.member_runs.specs.Linking.{Linked}
+use Rattle.member_sets.specs.Linking.{Linked}
 use Rattle.model_rows.specs.Bits.{flag-most}
 use Rattle.model_rows.specs.Rows.{RowsDue, RowsPut}
 use Rattle.table_fill.specs.Places.{PlacesPut, places-none}

@@ -1,6 +1,6 @@
 -- The part of an element in the table of members: it still tells what it told where its numbers are as they were, and a model without "&" is told by none.
 use Prim.Native.Nat.{ℕ, zero, suc, _+_, _*_, _≤_, _<_}
-use mathlib.Core.Path.{_≡_, refl, sym, subst, _∙_}
+use mathlib.Core.Path.{_≡_, refl, sym, _∙_}
 use mathlib.Core.Bool.{true}
 use mathlib.Core.Logic.{_⊎_, inl, inr, ⊎-elim}
 use mathlib.Core.List.{List, []}
@@ -8,17 +8,17 @@ use native.Mathlib.Omega.{arith}
 use lib.ListN.{length, getD, replicate, length-replicate, List·getD-eq-default}
 use Rattle.rules.specs.Walk.{Group}
 use Rattle.rules.specs.TypeFile.{Content, empty, model}
-use Rattle.layout.specs.Sizes.{RUNS, MEMBER, MEMBERS, CODE, CONTENTS}
+use Rattle.layout.specs.Sizes.{MEMBER, MEMBERS, CODE, CONTENTS}
 use Rattle.model_sets.specs.Sets.{has, size, Numbered}
 use Rattle.and_laws.specs.Sets.{Plain}
 use Rattle.and_laws.specs.Numbers.{Guarded, has-range}
-use Rattle.member_laws.specs.Members.{recordAt, total, Sized, Runs, Told}
+use Rattle.member_laws.specs.Members.{total, Sized, Told}
 use Rattle.member_laws.specs.Inside.{plain-levels}
 use Rattle.model_code.specs.Spelled.{codes, codeIn}
 use Rattle.member_table.specs.Filling.{filled}
 use Rattle.member_table.specs.Tells.{HasRows, fills}
-use Rattle.member_runs.specs.Linking.{far-none, Linked}
-use Rattle.member_runs.specs.Telling.{told-still, Filled, filled-linked}
+use Rattle.member_sets.specs.Linking.{Linked}
+use Rattle.member_sets.specs.Telling.{told-still, told-none, Filled, filled-linked}
 use Rattle.type_laws.specs.Members.{Without}
 
 -- The content of an element is told; its places are 96 at most.
@@ -68,14 +68,7 @@ members-put s M S T e n g lent within free room spelled rows numbered guarded si
     (λ (z : (length M ≡ 0) × Without s).
     let none : (k : ℕ) → getD S k 0 ≡ 0 = none-in S (len ∙ z .0) in
     record {
-      told =
-          record {
-            start = none (e * MEMBER + 0);
-            places = λ u i. rw (plain-levels g (plain (z .1)) 0 u) (none (e * MEMBER + u));
-            runs = λ m l. subst (Runs S e m) (sym (none (e * MEMBER + RUNS + m))) (far-none S e m);
-            noted = λ m l. record { bits = λ j i. absurd (omega (arith, none (recordAt S e m + 1))) };
-            whole = λ u i. inl (plain-levels g (plain (z .1)) 0 u);
-          };
+      told = told-none S e none g (plain-levels g (plain (z .1)) 0);
       len = len;
       others = λ k l. none k ∙ sym (none-in M (z .0) k);
     })
