@@ -70,7 +70,7 @@ module _ (M : List ℕ) (e : ℕ) where
     Have ls = EachLevel (λ (l : Level). hasM (l .members) u ≡ true) ls
 
     pub outermost : (l : Level) → Grouped M e l → 1 ≤ l .number → outerAt M e (l .number) ≡ 0 → Outermost M e (l .number)
-    outermost l kept some z = sets .around (l .number) some (kept .within) .none (ap (λ (x : ℕ). x % 128) z)
+    outermost l kept some z = sets .around (l .number) some (kept .within) (kept .some) .none (ap (λ (x : ℕ). x % 128) z)
 
     pub within-next : (l : Level) → Grouped M e l → 1 ≤ l .number → (ends : Bool) (k : Level) (ks : List Level) → Chain M e u ends (outerAt M e (l .number)) (k ∷ ks) → hasM (k .members) u ≡ true → l .number < k .number → Within M e (l .number) (memberAt M e u k) (k .number) (ltb 128 (outerAt M e (l .number)))
     within-next l kept some ends k ks chain i less =
@@ -78,7 +78,7 @@ module _ (M : List ℕ) (e : ℕ) where
         let group : groupAt M e (outerAt M e (l .number) % 128) ≡ k .number = ap (groupAt M e) is ∙ member-group M e k (chain .0) u i in
         subst (λ (g : ℕ). Within M e (l .number) (memberAt M e u k) g (ltb 128 (outerAt M e (l .number)))) group
         (subst (λ (h : ℕ). Within M e (l .number) h (groupAt M e (outerAt M e (l .number) % 128)) (ltb 128 (outerAt M e (l .number)))) is
-        (sets .around (l .number) some (kept .within) .some (omega (arith, is, member-small M e k (chain .0) u i)) (omega (arith, is, member-small M e k (chain .0) u i)) (omega (arith, group)) (omega (arith, group, chain .0 .within))))
+        (sets .around (l .number) some (kept .within) (kept .some) .some (omega (arith, is, member-small M e k (chain .0) u i)) (omega (arith, is, member-small M e k (chain .0) u i)) (omega (arith, group)) (omega (arith, group, chain .0 .within))))
 
     -- The members that hold the first of these groups are those that hold u in the others.
     pub holds-outward : (a c : ℕ) (ends : Bool) (h : ℕ) (l : Level) (ls : List Level) → Chain M e u ends h (l ∷ ls) → Rising a c (l ∷ ls) → Have (l ∷ ls) → (n : ℕ) → 1 ≤ n → n < POSITIONS → holdsAt M e (l .number) n ≡ isHolder M e u n ls
