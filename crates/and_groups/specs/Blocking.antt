@@ -9,22 +9,22 @@ use lib.Dec.{ltb}
 use borrow.Author.Tests.{ltb-true, ltb-false}
 use Rattle.rules.specs.Walk.{Group}
 use Rattle.layout.specs.Sizes.{POSITIONS, AND-GROUPS}
-use Rattle.model_sets.specs.Bits.{and-both, and-left, and-right, or-left, or-cases, not-true, bool-cases}
+use Rattle.model_sets.specs.Bits.{and-both, and-left, and-right, or-left, or-right, or-cases, not-true, bool-cases}
 use Rattle.model_sets.specs.Sets.{hasM, lastM}
 use Rattle.and_laws.specs.Rest.{allM}
 use Rattle.and_laws.specs.Req.{restReq}
 use Rattle.and_laws.specs.Rows.{fine}
 use Rattle.and_laws.specs.Levels.{blocksIn, loneIn}
 use Rattle.and_laws.specs.Ranked.{Level, groupsOf, Rising}
-use Rattle.member_laws.specs.Members.{amount, groupAt, firstAt, sizeAt, outerAt, reachAt, isNeeded, amongAt, isOwn, AllSets, Ordered, Grouped, Chain, begunAt, Marked, AllMarked}
+use Rattle.member_laws.specs.Members.{needs, amount, groupAt, firstAt, sizeAt, outerAt, reachAt, isNeeded, amongAt, isOwn, AllSets, Ordered, Grouped, Chain, begunAt, Marked, AllMarked}
 use Rattle.member_laws.specs.Inside.{EachLevel, each-level, IsAround}
 use Rattle.member_laws.specs.Around.{memberAt, member-small, chain-kept}
-use Rattle.member_laws.specs.Sets.{anyOwn, own-range, own-group, begun-fine, fine-begun, outermost, within-next, among-outward, own-above}
+use Rattle.member_laws.specs.Sets.{anyOwn, own-range, own-group, needed-own, begun-fine, fine-begun, outermost, within-next, among-outward, own-above}
 use Rattle.member_bits.specs.declared.Bits.{Bits}
 use Rattle.member_bits.specs.Having as having
 use Rattle.member_bits.specs.Having.{Has}
 use Rattle.member_bits.specs.Laws.{has-same}
-use Rattle.and_groups.specs.Walks.{Blocking, free, held, Blocks}
+use Rattle.and_groups.specs.Walks.{Awaits, Blocking, free, held, Blocks}
 use Rattle.and_groups.specs.Entering.{First, first-of}
 
 module _ (M : List ℕ) (e : ℕ) (sets : AllSets M e) (order : Ordered M e) (begun : List ℕ) (level : ℕ) (g : Group) (p : ℕ) (S : ℕ → Bool) where
@@ -81,21 +81,35 @@ module _ (M : List ℕ) (e : ℕ) (sets : AllSets M e) (order : Ordered M e) (be
     first-outward x (having.some a b y f) = having.some a b (sym (same-lacking x) ∙ y) (λ n c d. sym (same-lacking n) ∙ f n c d)
 
   -- The first group lacks a member: the first that is lacking is its own.
-  first-own : (l : Level) (kept : Grouped M e l) → Marked begun level M e S l → 1 ≤ l .number → (c : ℕ) (ls : List Level) → EachLevel (Grouped M e) ls → Rising (l .number) c ls → allM (fine S) (l .members) ≡ false → (x : ℕ) → FirstOf (l ∷ ls) x → (1 ≤ x) × (isOwn M e (l .number) x ≡ true) × (begunAt begun level x ≡ false)
+  first-own : (l : Level) (kept : Grouped M e l) → Marked begun level M e S l → 1 ≤ l .number → (c : ℕ) (ls : List Level) → EachLevel (Grouped M e) ls → Rising (l .number) c ls → allM (fine S) (l .members) ≡ false → (x : ℕ) → FirstOf (l ∷ ls) x → (1 ≤ x) × Awaits M begun level e (l ∷ ls) l x
   first-own l kept marked some c ls ks rs lacks x (having.none z f) =
       absurd (false≢true (sym lacks ∙ begun-fine M e l kept sets begun level S marked (λ n o m. let r = own-range M e l kept n o in nothing n o m (f n (omega (arith, kept .some)) (omega (arith, kept .room))))))
     where
       nothing : (n : ℕ) → isOwn M e (l .number) n ≡ true → isNeeded M e n ≡ true → lacking (l ∷ ls) n ≡ false → begunAt begun level n ≡ true
       nothing n o m q = bool-cases (begunAt begun level n) (λ b. b) (λ b. absurd (false≢true (sym q ∙ rw (o, m, b))))
-  first-own l kept marked some c ls ks rs lacks x (having.some a b y f) =
-      (a, bool-cases (isOwn M e (l .number) x) (λ o. o) (λ o. absurd (false≢true (sym lacks ∙ begun-fine M e l kept sets begun level S marked (λ n i m. bool-cases (begunAt begun level n) (λ t. t) (λ t. absurd (false≢true (sym (f n (omega (arith, own-range M e l kept n i, kept .some)) (own-before l kept some c ls ks rs n x i (outer o))) ∙ rw (i, m, t)))))))), not-begun (begunAt begun level x) (and-right (anyOwn M e x (l ∷ ls) && isNeeded M e x) _ y))
+  first-own l kept marked some c ls ks rs lacks x (having.some a b y f) = (a, record { own = own; unset = not-begun (begunAt begun level x) (and-right (anyOwn M e x (l ∷ ls) && isNeeded M e x) _ y); before = before; inside = λ n o. or-left _ o })
     where
       not-begun : (t : Bool) → not t ≡ true → t ≡ false
       not-begun true q = absurd (false≢true q)
       not-begun false q = refl
 
+      -- a member of the group that is needed and comes before x has begun
+      earlier : (n : ℕ) → isOwn M e (l .number) n ≡ true → isNeeded M e n ≡ true → n < x → begunAt begun level n ≡ true
+      earlier n i m d = bool-cases (begunAt begun level n) (λ t. t) (λ t. absurd (false≢true (sym (f n (omega (arith, own-range M e l kept n i, kept .some)) d) ∙ rw (i, m, t))))
+
       outer : isOwn M e (l .number) x ≡ false → anyOwn M e x ls ≡ true
       outer o = rw o at (and-left (anyOwn M e x (l ∷ ls)) _ (and-left (anyOwn M e x (l ∷ ls) && isNeeded M e x) _ y))
+
+      own : isOwn M e (l .number) x ≡ true
+      own = bool-cases (isOwn M e (l .number) x) (λ o. o) (λ o. absurd (false≢true (sym lacks ∙ begun-fine M e l kept sets begun level S marked (λ n i m. earlier n i m (own-before l kept some c ls ks rs n x i (outer o))))))
+
+      before : (n : ℕ) → isOwn M e (l .number) n ≡ true → n < x → begunAt begun level n ≡ true
+      before n i d = bool-cases (isNeeded M e n) (λ m. earlier n i m d) later
+        where
+          later : isNeeded M e n ≡ false → begunAt begun level n ≡ true
+          later m =
+              let low = ltb-true x (firstAt M e (l .number) + needs (l .members)) (sym (needed-own M e l kept sets x own) ∙ and-right (anyOwn M e x (l ∷ ls)) _ (and-left (anyOwn M e x (l ∷ ls) && isNeeded M e x) _ y)) in
+              absurd (omega (arith, low, ltb-false n (firstAt M e (l .number) + needs (l .members)) (sym (needed-own M e l kept sets n i) ∙ m)))
 
   -- Whether the first that is lacking is within reach decides whether a group blocks.
   data Found (l : Level) (ls : List Level) (x : ℕ) : Type 0 where
@@ -109,8 +123,8 @@ module _ (M : List ℕ) (e : ℕ) (sets : AllSets M e) (order : Ordered M e) (be
 
     found-lacks : (ls : List Level) → Chain M e p (true && lastM (l .members) p) (outerAt M e (l .number)) ls → Rising (l .number) c ls → Around ls → FirstOf (l ∷ ls) x → allM (fine S) (l .members) ≡ false → Found l ls x
     found-lacks ls chain rs j f z =
-        let (some, own, idle) = first-own l kept m (omega arith) c ls (chain-kept M e p _ _ ls chain) rs z x f in
-        within some (omega (arith, own-group M e l kept x own, reach-least a c true h l ls (kept, true, is, says, chain) (r, rs) (i, j))) (held some l own idle kept m i (rw (ends, z)) (rw z))
+        let (some, waits) = first-own l kept m (omega arith) c ls (chain-kept M e p _ _ ls chain) rs z x f in
+        within some (omega (arith, own-group M e l kept x (waits .own), reach-least a c true h l ls (kept, true, is, says, chain) (r, rs) (i, j))) (held some l waits kept m i (rw (ends, z)) (rw z))
 
     found-last : FirstOf (l ∷ []) x → allM (fine S) (l .members) ≡ true → Found l [] x
     found-last f z = go (first-outward l kept m [] z x f)
@@ -139,7 +153,7 @@ module _ (M : List ℕ) (e : ℕ) (sets : AllSets M e) (order : Ordered M e) (be
 
             wider : Blocking M begun level e g p S (k ∷ ks) x → Blocking M begun level e g p S (l ∷ k ∷ ks) x
             wider (free y n) = free y (rw (ends, z) n)
-            wider (held s o own idle kept marked is blocks lone) = held s o own idle kept marked is (rw (ends, z) blocks) (rw z lone)
+            wider (held s o waits kept marked is blocks lone) = held s o (record { own = waits .own; unset = waits .unset; before = waits .before; inside = λ n y. or-right (isOwn M e (l .number) n) (waits .inside n y) }) kept marked is (rw (ends, z) blocks) (rw z lone)
 
             go : Found k ks x → Found l (k ∷ ks) x
             go (beyond y n) = beyond (λ s. omega (arith, far, y s)) (rw (ends, z) n)
@@ -175,7 +189,7 @@ module _ (M : List ℕ) (e : ℕ) (sets : AllSets M e) (order : Ordered M e) (be
 module _ (M : List ℕ) (e inner : ℕ) (b : Bits) where
   -- The member at hand cannot end, or there is none.
   pub blocks-none : inner ≤ 128 → Blocks M e inner b 0
-  blocks-none z = record { small = omega arith; says = λ sets order begun level has g p S ls c chain rising around marked. free refl (go g p S ls chain around) }
+  blocks-none z = record { small = omega arith; ends = λ s. absurd (omega arith); group = λ s. absurd (omega arith); says = λ sets order begun level has g p S ls c chain rising around marked. free refl (go g p S ls chain around) }
     where
       go : (g : Group) (p : ℕ) (S : ℕ → Bool) (ls : List Level) → Chain M e p true inner ls → EachLevel (IsAround g 0 p) ls → blocksIn (groupsOf ls) p S ≡ false
       go g p S [] chain around = refl
@@ -188,15 +202,15 @@ module _ (M : List ℕ) (e inner : ℕ) (b : Bits) where
     first-at g p l ls (kept, true, is, says, chain) i = first-of M e h p true inner l ls (omega (arith, member-small M e l kept p (i .1))) (kept, true, is, says, chain) (i .1)
     first-at g p l ls (kept, false, is, says, chain) i = absurd (omega (arith, member-small M e l kept p (i .1)))
 
-    blocks-by : (r : ℕ) → r ≤ 128 → ((g : Group) (p : ℕ) (S : ℕ → Bool) (l : Level) (ls : List Level) (c : ℕ) → AllSets M e → Ordered M e → (begun : List ℕ) (level : ℕ) → Has b (begunAt begun level) → Chain M e p true inner (l ∷ ls) → Rising 0 c (l ∷ ls) → EachLevel (IsAround g 0 p) (l ∷ ls) → AllMarked begun level M e S (l ∷ ls) → First M e h p l → Blocking M begun level e g p S (l ∷ ls) r) → Blocks M e inner b r
-    blocks-by r small f = record { small = small; says = λ sets order begun level has g p S ls c chain rising around marked. go sets order begun level has g p S ls c chain rising around marked }
+    blocks-by : (r : ℕ) → r ≤ 128 → (1 ≤ r → n ≤ AND-GROUPS) → ((g : Group) (p : ℕ) (S : ℕ → Bool) (l : Level) (ls : List Level) (c : ℕ) → AllSets M e → Ordered M e → (begun : List ℕ) (level : ℕ) → Has b (begunAt begun level) → Chain M e p true inner (l ∷ ls) → Rising 0 c (l ∷ ls) → EachLevel (IsAround g 0 p) (l ∷ ls) → AllMarked begun level M e S (l ∷ ls) → First M e h p l → Blocking M begun level e g p S (l ∷ ls) r) → Blocks M e inner b r
+    blocks-by r small near f = record { small = small; ends = λ s. ends; group = λ s. omega (arith, near s, at, ap (groupAt M e) lower); says = λ sets order begun level has g p S ls c chain rising around marked. go sets order begun level has g p S ls c chain rising around marked }
       where
         go : AllSets M e → Ordered M e → (begun : List ℕ) (level : ℕ) → Has b (begunAt begun level) → (g : Group) (p : ℕ) (S : ℕ → Bool) (ls : List Level) (c : ℕ) → Chain M e p true inner ls → Rising 0 c ls → EachLevel (IsAround g 0 p) ls → AllMarked begun level M e S ls → Blocking M begun level e g p S ls r
         go sets order begun level has g p S [] c chain rising around marked = absurd (omega arith)
         go sets order begun level has g p S (l ∷ ls) c chain rising around marked = f g p S l ls c sets order begun level has chain rising around marked (first-at g p l ls chain (around .0))
 
     pub blocks-far : AND-GROUPS < n → Blocks M e inner b 0
-    blocks-far z = blocks-by 0 (omega arith) (λ g p S l ls c sets order begun level has chain rising around marked f. absurd (omega (arith, f .within)))
+    blocks-far z = blocks-by 0 (omega arith) (λ s. absurd (omega arith)) (λ g p S l ls c sets order begun level has chain rising around marked f. absurd (omega (arith, f .within)))
 
     module _ (among needed common without : Bits) (is-among : Has among (amongAt M e n)) (is-needed : Has needed (isNeeded M e)) (is-common : (f k : ℕ → Bool) → Has among f → Has needed k → Has common (λ (x : ℕ). f x && k x)) (is-without : (f k : ℕ → Bool) → Has common f → Has b k → Has without (λ (x : ℕ). f x && not (k x))) (x : ℕ) (few : x ≤ 128) (is-first : (f : ℕ → Bool) → Has without f → having.First f x) where
       found-at : (g : Group) (p : ℕ) (S : ℕ → Bool) (l : Level) (ls : List Level) (c : ℕ) (sets : AllSets M e) (order : Ordered M e) (begun : List ℕ) (level : ℕ) → Has b (begunAt begun level) → Chain M e p true inner (l ∷ ls) → Rising 0 c (l ∷ ls) → (around : EachLevel (IsAround g 0 p) (l ∷ ls)) → AllMarked begun level M e S (l ∷ ls) → First M e h p l → Found M e sets order begun level g p S l ls x
@@ -208,7 +222,7 @@ module _ (M : List ℕ) (e inner : ℕ) (b : Bits) where
           (is-without _ _ (is-common _ _ is-among is-needed) has)))
 
       pub blocks-free : x ≡ 0 → Blocks M e inner b 0
-      blocks-free z = blocks-by 0 (omega arith) (λ g p S l ls c sets order begun level has chain rising around marked f. go g p S l ls c sets order begun level (found-at g p S l ls c sets order begun level has chain rising around marked f))
+      blocks-free z = blocks-by 0 (omega arith) (λ s. absurd (omega arith)) (λ g p S l ls c sets order begun level has chain rising around marked f. go g p S l ls c sets order begun level (found-at g p S l ls c sets order begun level has chain rising around marked f))
         where
           go : (g : Group) (p : ℕ) (S : ℕ → Bool) (l : Level) (ls : List Level) (c : ℕ) (sets : AllSets M e) (order : Ordered M e) (begun : List ℕ) (level : ℕ) → Found M e sets order begun level g p S l ls x → Blocking M begun level e g p S (l ∷ ls) 0
           go g p S l ls c sets order begun level (beyond y w) = free refl w
@@ -216,14 +230,14 @@ module _ (M : List ℕ) (e inner : ℕ) (b : Bits) where
 
       module _ (some : x ≡ 0 → ⊥) (reach group : ℕ) (is-reach : reach ≡ reachAt M e n) (is-group : group ≡ groupAt M e x) where
         pub blocks-beyond : reach < group → Blocks M e inner b 0
-        blocks-beyond z = blocks-by 0 (omega arith) (λ g p S l ls c sets order begun level has chain rising around marked f. go g p S l ls sets order begun level f (found-at g p S l ls c sets order begun level has chain rising around marked f))
+        blocks-beyond z = blocks-by 0 (omega arith) (λ s. absurd (omega arith)) (λ g p S l ls c sets order begun level has chain rising around marked f. go g p S l ls sets order begun level f (found-at g p S l ls c sets order begun level has chain rising around marked f))
           where
             go : (g : Group) (p : ℕ) (S : ℕ → Bool) (l : Level) (ls : List Level) (sets : AllSets M e) (order : Ordered M e) (begun : List ℕ) (level : ℕ) → First M e h p l → Found M e sets order begun level g p S l ls x → Blocking M begun level e g p S (l ∷ ls) 0
             go g p S l ls sets order begun level f (beyond y w) = free refl w
             go g p S l ls sets order begun level f (within s y w) = absurd (omega (arith, is-reach ∙ ap (reachAt M e) (at ∙ f .group)))
 
-        pub blocks-held : group ≤ reach → Blocks M e inner b x
-        blocks-held z = blocks-by x few (λ g p S l ls c sets order begun level has chain rising around marked f. go g p S l ls sets order begun level f (found-at g p S l ls c sets order begun level has chain rising around marked f))
+        pub blocks-held : n ≤ AND-GROUPS → group ≤ reach → Blocks M e inner b x
+        blocks-held near z = blocks-by x few (λ s. near) (λ g p S l ls c sets order begun level has chain rising around marked f. go g p S l ls sets order begun level f (found-at g p S l ls c sets order begun level has chain rising around marked f))
           where
             go : (g : Group) (p : ℕ) (S : ℕ → Bool) (l : Level) (ls : List Level) (sets : AllSets M e) (order : Ordered M e) (begun : List ℕ) (level : ℕ) → First M e h p l → Found M e sets order begun level g p S l ls x → Blocking M begun level e g p S (l ∷ ls) x
             go g p S l ls sets order begun level f (beyond y w) = absurd (omega (arith, is-reach ∙ ap (reachAt M e) (at ∙ f .group), y (omega arith)))

@@ -1,128 +1,140 @@
--- One group: which place its only member requires that has not begun, from the bits.
-use Prim.Native.Nat.{ℕ, _+_, _-_, _*_, _/_, _%_, _^_, _≤_, _<_}
+-- The place that a group requires which lacks a member: that of the first that it lacks, if no other of its members has not begun. One that has not is above it, and
+-- the next above it, of all groups around, is then one of the same group.
+use Prim.Native.Nat.{ℕ, _+_, _-_, _%_, _≤_, _<_}
 use mathlib.Core.Path.{_≡_, refl, sym, _∙_, ap, subst}
-use mathlib.Core.Bool.{Bool, true, false, cond}
-use mathlib.Core.List.{List}
-use native.Mathlib.Decide.{ℕ-discrete}
-use native.Mathlib.Nat.{mod-lt}
+use mathlib.Core.Bool.{Bool, true, false, _&&_, not, false≢true}
+use mathlib.Core.List.{List, [], _∷_}
+use native.Mathlib.Decide.{ℕ-discrete, decLt}
 use native.Mathlib.Omega.{arith}
-use lib.ListN.{getD}
-use lib.Dec.{eqb}
-use lib.Pow.{pow-pos, ones-sub-lt}
-use Rattle.rules.specs.Bytes.{GRPCNT}
-use Rattle.layout.specs.Sizes.{POSITIONS}
-use Rattle.model_sets.specs.Bits.{bool-cases}
+use lib.Dec.{eqb, ltb}
+use borrow.Author.Tests.{eqb-true, eqb-false, lt-ltb, ltb-true}
+use Rattle.model_sets.specs.Bits.{and-left, and-right, bool-cases}
+use Rattle.model_sets.specs.Sets.{hasM}
 use Rattle.and_laws.specs.Req.{restReq}
-use Rattle.and_laws.specs.Ranked.{Level}
-use Rattle.member_laws.specs.Members.{amount, groupAt, recordAt, firstAt, sizeAt, dueAt, isOwn, Grouped, begunAt, Marked}
+use Rattle.and_laws.specs.Ranked.{Level, Rising}
+use Rattle.member_laws.specs.Members.{amount, groupAt, firstAt, dueAt, amongAt, isOwn, AllSets, Grouped, Chain, begunAt, Marked}
 use Rattle.member_laws.specs.Numbered.{rest-one, rest-two}
-use Rattle.member_laws.specs.Around.{numbered-due}
-use Rattle.member_laws.specs.Sets.{own-range, own-group}
+use Rattle.member_laws.specs.Inside.{EachLevel}
+use Rattle.member_laws.specs.Around.{numbered-due, member-small, chain-kept}
+use Rattle.member_laws.specs.Sets.{anyOwn, own-range, range-own, own-group, own-its, among-outward}
 use Rattle.member_bits.specs.declared.Bits.{Bits}
-use Rattle.member_bits.specs.Having.{Has, From}
-use Rattle.member_bits.specs.Bits.{mod-bit, others-bit, shifted-wide, zero-bit, Sets, none, lone, more, sets, pow-only, pow-set}
-use Rattle.and_groups.specs.Walks.{Idle, Due}
+use Rattle.member_bits.specs.Having as having
+use Rattle.member_bits.specs.Having.{Has}
+use Rattle.member_bits.specs.Laws.{has-same}
+use Rattle.and_groups.specs.Walks.{Awaits, Alone, Due}
+use Rattle.and_groups.specs.Entering.{first-of}
 
--- The bits that are not set
-module _ (b : Bits) (first k : ℕ) where
-  -- There are no such members.
-  pub idle-none : (1 ≤ first → first + k ≤ POSITIONS → k ≤ GRPCNT → k ≡ 0) → Idle b first k 0
-  idle-none f = record { below = λ x y z. pow-pos k; bits = λ B has x y z j l. absurd (omega (arith, f x y z)) }
-
-  idle-all : (v : ℕ) → From b first v → Idle b first k (2 ^ k - 1 - v % 2 ^ k)
-  idle-all v from =
-      record {
-        below = λ x y z. ones-sub-lt k (v % 2 ^ k);
-        bits = λ B has x y z j l.
-            others-bit k (v % 2 ^ k) j (mod-lt v (pow-pos k)) l
-            ∙ ap (λ (n : ℕ). cond (eqb n 1) 0 1) (mod-bit v k j l ∙ from .bits B has j (omega arith) (omega arith))
-            ∙ bool-cases (B (first + j)) (λ t. rw t) (λ t. rw t);
-      }
-
-  -- As the code has it, the power as a shift.
-  pub idle-by : (v : ℕ) → From b first v → k ≤ 32 → Idle b first k (1 * 2 ^ k % 2 ^ 64 - 1 - v % (1 * 2 ^ k % 2 ^ 64))
-  idle-by v from few = subst (λ (q : ℕ). Idle b first k (q - 1 - v % q)) (sym (shifted-wide k (omega arith))) (idle-all v from)
-
--- so the subtractions stay above 0
-pub part-least : (k : ℕ) → k ≤ 32 → 1 ≤ 1 * 2 ^ k % 2 ^ 64
-part-least k l = omega (arith, shifted-wide k (omega arith), pow-pos k)
-
-pub part-rest : (n k : ℕ) → k ≤ 32 → n % (1 * 2 ^ k % 2 ^ 64) ≤ 1 * 2 ^ k % 2 ^ 64 - 1
-part-rest n k l = subst (λ (q : ℕ). n % q ≤ q - 1) (sym (shifted-wide k (omega arith))) (omega (arith, mod-lt n (pow-pos k)))
-
-one-unset : (b : Bool) (n : ℕ) → n ≡ cond b 0 1 → n ≡ 1 → b ≡ false
-one-unset true n e z = absurd (omega arith)
-one-unset false n e z = refl
-
-unset-one : (b : Bool) (n : ℕ) → n ≡ cond b 0 1 → b ≡ false → n ≡ 1
-unset-one b n e z = rw z at e
-
--- What the group requires, where x is one of its members and has not begun
-module _ (M begun : List ℕ) (level e : ℕ) (l : Level) (kept : Grouped M e l) (S : ℕ → Bool) (marked : Marked begun level M e S l) (x : ℕ) (own : isOwn M e (l .number) x ≡ true) (unset : begunAt begun level x ≡ false) (b : Bits) (has : Has b (begunAt begun level)) (y : ℕ) (idle : Idle b (firstAt M e (l .number)) (amount (l .members)) y) where
+-- One group
+module _ (M begun : List ℕ) (level e : ℕ) (ls : List Level) (l : Level) (kept : Grouped M e l) (S : ℕ → Bool) (marked : Marked begun level M e S l) (x : ℕ) (waits : Awaits M begun level e ls l x) where
   abbrev first : ℕ
   first = firstAt M e (l .number)
 
   abbrev B : ℕ → Bool
   B n = begunAt begun level n
 
-  bits : (j : ℕ) → j < amount (l .members) → y / 2 ^ j % 2 ≡ cond (B (first + j)) 0 1
-  bits = idle .bits B has (kept .some) (kept .room) (kept .few)
+  -- a member by how far it is from the first
+  at : (n : ℕ) → isOwn M e (l .number) n ≡ true → first + (n - first) ≡ n
+  at n o = omega (arith, own-range M e l kept n o)
 
-  below : y < 2 ^ amount (l .members)
-  below = idle .below (kept .some) (kept .room) (kept .few)
+  inside : (n : ℕ) → isOwn M e (l .number) n ≡ true → n - first < amount (l .members)
+  inside n o = omega (arith, own-range M e l kept n o)
 
-  -- its own bit
-  at : first + (x - first) ≡ x
-  at = omega (arith, own-range M e l kept x own)
-
-  inside : x - first < amount (l .members)
-  inside = omega (arith, own-range M e l kept x own)
-
-  here : y / 2 ^ (x - first) % 2 ≡ 1
-  here = unset-one (B (first + (x - first))) _ (bits (x - first) inside) (ap B at ∙ unset)
-
-  rest-alone : y ≡ 2 ^ (x - first) → restReq (l .members) S ≡ dueAt M e x
-  rest-alone z =
-      rest-one first (l .members) S B (dueAt M e) marked (numbered-due M e l kept) (x - first) inside (ap B at ∙ unset)
-      (λ i h t. pow-only (x - first) i (sym (ap (λ (n : ℕ). n / 2 ^ i % 2) z) ∙ unset-one (B (first + i)) (y / 2 ^ i % 2) (bits i h) t))
-      ∙ ap (dueAt M e) at
-
-  rest-others : (y ≡ 2 ^ (x - first) → ⊥) → restReq (l .members) S ≡ 0
-  rest-others n = go (sets (amount (l .members)) y below)
+  rest-alone : ((n : ℕ) → isOwn M e (l .number) n ≡ true → x < n → B n ≡ true) → restReq (l .members) S ≡ dueAt M e x
+  rest-alone f =
+      rest-one first (l .members) S B (dueAt M e) marked (numbered-due M e l kept) (x - first) (inside x (waits .own)) (ap B (at x (waits .own)) ∙ waits .unset) only
+      ∙ ap (dueAt M e) (at x (waits .own))
     where
-      go : Sets (amount (l .members)) y → restReq (l .members) S ≡ 0
-      go (none z) = absurd (omega (arith, sym here ∙ ap (λ (v : ℕ). v / 2 ^ (x - first) % 2) z ∙ ap (λ (v : ℕ). v % 2) (zero-bit (x - first))))
-      go (lone j h z) = absurd (n (z ∙ ap (λ (v : ℕ). 2 ^ v) (sym (pow-only j (x - first) (sym (ap (λ (v : ℕ). v / 2 ^ (x - first) % 2) z) ∙ here)))))
-      go (more i j d h k v w) = rest-two first (l .members) S B (dueAt M e) marked (numbered-due M e l kept) i j d h k (one-unset (B (first + i)) (y / 2 ^ i % 2) (bits i h) v) (one-unset (B (first + j)) (y / 2 ^ j % 2) (bits j k) w)
+      only : (i : ℕ) → i < amount (l .members) → B (first + i) ≡ false → i ≡ x - first
+      only i h t = go (ℕ-discrete (first + i) x) (decLt (first + i) x)
+        where
+          own : isOwn M e (l .number) (first + i) ≡ true
+          own = range-own M e l kept (first + i) (omega arith) (omega arith)
 
--- What is read of the group of the member x
-module _ (M : List ℕ) (e x : ℕ) (b : Bits) (n first k y : ℕ) (at-n : n ≡ groupAt M e x) (at-first : first ≡ getD M (recordAt M e n + 0) 0) (at-k : k ≡ getD M (recordAt M e n + 2) 0) (idle : Idle b first k y) where
-  first-is : (l : Level) → groupAt M e x ≡ l .number → first ≡ firstAt M e (l .number)
-  first-is l z = let d : recordAt M e n + 0 ≡ recordAt M e n = omega arith in at-first ∙ ap (λ (i : ℕ). getD M i 0) d ∙ ap (firstAt M e) (at-n ∙ z)
+          go : Dec (first + i ≡ x) → Dec (first + i < x) → i ≡ x - first
+          go (yes z) d = omega arith
+          go (no z) (yes d) = absurd (false≢true (sym t ∙ waits .before (first + i) own d))
+          go (no z) (no d) = absurd (false≢true (sym t ∙ f (first + i) own (omega arith)))
 
-  idle-is : (l : Level) → Grouped M e l → groupAt M e x ≡ l .number → Idle b (firstAt M e (l .number)) (amount (l .members)) y
-  idle-is l kept z = subst (λ (f : ℕ). Idle b f (amount (l .members)) y) (first-is l z) (subst (λ (q : ℕ). Idle b first q y) (at-k ∙ ap (sizeAt M e) (at-n ∙ z) ∙ kept .size) idle)
+  rest-other : (n : ℕ) → isOwn M e (l .number) n ≡ true → x < n → B n ≡ false → restReq (l .members) S ≡ 0
+  rest-other n own less t =
+      rest-two first (l .members) S B (dueAt M e) marked (numbered-due M e l kept) (x - first) (n - first) (λ z. omega (arith, at n own, at x (waits .own))) (inside x (waits .own)) (inside n own) (ap B (at x (waits .own)) ∙ waits .unset) (ap B (at n own) ∙ t)
 
-  -- x is none of the group's members.
-  pub due-below : x < first → Due M e x b 0
-  due-below z = record { small = omega arith; says = λ begun level has l S own unset kept marked few. absurd (omega (arith, own-range M e l kept x own, first-is l (own-group M e l kept x own))) }
+-- What is read of the sets
+module _ (M : List ℕ) (e inner x : ℕ) (b : Bits) (ends : 128 < inner) where
+  due-by : (r : ℕ) → r ≤ 96 → ((sets : AllSets M e) (begun : List ℕ) (level : ℕ) → Has b (begunAt begun level) → (p c : ℕ) (k : Level) (ks : List Level) → Chain M e p true inner (k ∷ ks) → Rising 0 c (k ∷ ks) → EachLevel (λ (l : Level). hasM (l .members) p ≡ true) (k ∷ ks) → (l : Level) (S : ℕ → Bool) → Awaits M begun level e (k ∷ ks) l x → Grouped M e l → Marked begun level M e S l → restReq (l .members) S ≤ 96 → r ≡ restReq (l .members) S) → Due M e inner x b r
+  due-by r small f = record { small = small; says = λ sets begun level has p S c ls chain rising have l waits kept marked few. go sets begun level has p c ls chain rising have l S waits kept marked few }
+    where
+      go : (sets : AllSets M e) (begun : List ℕ) (level : ℕ) → Has b (begunAt begun level) → (p c : ℕ) (ls : List Level) → Chain M e p true inner ls → Rising 0 c ls → EachLevel (λ (l : Level). hasM (l .members) p ≡ true) ls → (l : Level) (S : ℕ → Bool) → Awaits M begun level e ls l x → Grouped M e l → Marked begun level M e S l → restReq (l .members) S ≤ 96 → r ≡ restReq (l .members) S
+      go sets begun level has p c [] chain rising have l S waits kept marked few = absurd (omega arith)
+      go sets begun level has p c (k ∷ ks) chain rising have l S waits kept marked few = f sets begun level has p c k ks chain rising have l S waits kept marked few
 
-  pub due-above : 31 < x - first → Due M e x b 0
-  due-above z = record { small = omega arith; says = λ begun level has l S own unset kept marked few. absurd (omega (arith, own-range M e l kept x own, first-is l (own-group M e l kept x own), kept .few)) }
+  -- x is no member.
+  pub due-large : 96 < x → Due M e inner x b 0
+  due-large z = due-by 0 (omega arith) (λ sets begun level has p c k ks chain rising have l S waits kept marked few. absurd (omega (arith, own-range M e l kept x (waits .own), kept .room)))
 
-  module _ (small : x - first ≤ 31) where
-    power : (l : Level) → groupAt M e x ≡ l .number → 1 * 2 ^ (x - first) % 2 ^ 64 ≡ 2 ^ (x - firstAt M e (l .number))
-    power l z = shifted-wide (x - first) (omega arith) ∙ ap (λ (f : ℕ). 2 ^ (x - f)) (first-is l z)
+  module _ (h : ℕ) (lower : h ≡ inner - 128) (n : ℕ) (at : n ≡ groupAt M e h) (among idle above : Bits) (is-among : Has among (amongAt M e n)) (is-idle : (f k : ℕ → Bool) → Has among f → Has b k → Has idle (λ (m : ℕ). f m && not (k m))) (is-above : (f : ℕ → Bool) → Has idle f → Has above (λ (m : ℕ). f m && ltb x m)) (y : ℕ) (is-first : (f : ℕ → Bool) → Has above f → having.First f y) (r : Bool) (alone : Alone M e x y r) where
+    -- the members above x that have not begun
+    abbrev waiting : (begun : List ℕ) (level : ℕ) → List Level → ℕ → Bool
+    waiting begun level ls m = (anyOwn M e m ls && not (begunAt begun level m)) && ltb x m
 
-    pub due-others : (y ≡ 1 * 2 ^ (x - first) % 2 ^ 64 → ⊥) → Due M e x b 0
-    due-others f = record { small = omega arith; says = λ begun level has l S own unset kept marked few. let z = own-group M e l kept x own in sym (rest-others M begun level e l kept S marked x own unset b has y (idle-is l kept z) (λ w. f (w ∙ sym (power l z)))) }
+    next : AllSets M e → (begun : List ℕ) (level : ℕ) → Has b (begunAt begun level) → (p c : ℕ) (k : Level) (ks : List Level) → Chain M e p true inner (k ∷ ks) → Rising 0 c (k ∷ ks) → EachLevel (λ (l : Level). hasM (l .members) p ≡ true) (k ∷ ks) → having.First (waiting begun level (k ∷ ks)) y
+    next sets begun level has p c k ks chain rising have =
+        is-first _
+        (has-same
+        (λ m u v. ap (λ (t : Bool). (t && not (begunAt begun level m)) && ltb x m) (ap (λ (g : ℕ). amongAt M e g m) (at ∙ group chain) ∙ among-outward M e sets p 0 c true inner k ks chain rising have m u v))
+        (is-above _ (is-idle _ _ is-among has)))
+      where
+        group : Chain M e p true inner (k ∷ ks) → groupAt M e h ≡ k .number
+        group (kept, true, is, says, q) = first-of M e h p true inner k ks (omega (arith, member-small M e k kept p (have .0))) (kept, true, is, says, q) (have .0) .group
+        group (kept, false, is, says, q) = absurd (omega (arith, member-small M e k kept p (have .0)))
 
-    module _ (p : ℕ) (read : p ≡ dueAt M e x) (alone : y ≡ 1 * 2 ^ (x - first) % 2 ^ 64) where
-      is-due : (begun : List ℕ) (level : ℕ) → Has b (begunAt begun level) → (l : Level) (S : ℕ → Bool) → isOwn M e (l .number) x ≡ true → begunAt begun level x ≡ false → Grouped M e l → Marked begun level M e S l → p ≡ restReq (l .members) S
-      is-due begun level has l S own unset kept marked = let z = own-group M e l kept x own in read ∙ sym (rest-alone M begun level e l kept S marked x own unset b has y (idle-is l kept z) (alone ∙ power l z))
+    -- Another of the group has not begun.
+    pub due-other : r ≡ false → Due M e inner x b 0
+    due-other z = due-by 0 (omega arith) (λ sets begun level has p c k ks chain rising have l S waits kept marked few. sym (go begun level (k ∷ ks) l S (chain-kept M e p true inner (k ∷ ks) chain) waits kept marked (next sets begun level has p c k ks chain rising have)))
+      where
+        go : (begun : List ℕ) (level : ℕ) (ls : List Level) (l : Level) (S : ℕ → Bool) → EachLevel (Grouped M e) ls → Awaits M begun level e ls l x → Grouped M e l → Marked begun level M e S l → having.First (waiting begun level ls) y → restReq (l .members) S ≡ 0
+        go begun level ls l S all waits kept marked (having.none w f) = absurd (omega (arith, alone .no z))
+        go begun level ls l S all waits kept marked (having.some u v w f) =
+            let i = and-left (anyOwn M e y ls && not (begunAt begun level y)) _ w in
+            rest-other M begun level e ls l kept S marked x waits y
+            (subst (λ (g : ℕ). isOwn M e g y ≡ true) (alone .no z .1 ∙ own-group M e l kept x (waits .own)) (own-its M e ls all y (and-left (anyOwn M e y ls) _ i)))
+            (ltb-true x y (and-right (anyOwn M e y ls && not (begunAt begun level y)) _ w))
+            (unset (begunAt begun level y) (and-right (anyOwn M e y ls) _ i))
+          where
+            unset : (t : Bool) → not t ≡ true → t ≡ false
+            unset true q = absurd (false≢true q)
+            unset false q = refl
 
-      pub due-lone : p ≤ 96 → Due M e x b p
-      due-lone few = record { small = few; says = λ begun level has l S own unset kept marked small. is-due begun level has l S own unset kept marked }
+    -- No other has.
+    module _ (q : ℕ) (read : q ≡ dueAt M e x) (z : r ≡ true) where
+      is-due : (begun : List ℕ) (level : ℕ) (ls : List Level) (l : Level) (S : ℕ → Bool) → Awaits M begun level e ls l x → Grouped M e l → Marked begun level M e S l → having.First (waiting begun level ls) y → q ≡ restReq (l .members) S
+      is-due begun level ls l S waits kept marked found = read ∙ sym (rest-alone M begun level e ls l kept S marked x waits (λ m own less. bool-cases (begunAt begun level m) (λ t. t) (λ t. absurd (go m own less t found))))
+        where
+          go : (m : ℕ) → isOwn M e (l .number) m ≡ true → x < m → begunAt begun level m ≡ false → having.First (waiting begun level ls) y → ⊥
+          go m own less t (having.none w f) = false≢true (sym (f m (omega arith) (omega (arith, own-range M e l kept m own, kept .room))) ∙ rw (waits .inside m own, t, lt-ltb x m less))
+          go m own less t (having.some u v w f) = alone .yes z u (own-group M e l kept y here ∙ sym (own-group M e l kept x (waits .own)))
+            where
+              least : Dec (m < y) → y ≤ m
+              least (yes d) = absurd (false≢true (sym (f m (omega arith) d) ∙ rw (waits .inside m own, t, lt-ltb x m less)))
+              least (no d) = omega arith
 
-      pub due-large : 96 < p → Due M e x b 0
-      due-large large = record { small = omega arith; says = λ begun level has l S own unset kept marked small. absurd (omega (arith, is-due begun level has l S own unset kept marked)) }
+              here : isOwn M e (l .number) y ≡ true
+              here = range-own M e l kept y (omega (arith, own-range M e l kept x (waits .own), ltb-true x y (and-right (anyOwn M e y ls && not (begunAt begun level y)) _ w))) (omega (arith, own-range M e l kept m own, least (decLt m y)))
+
+      pub due-lone : q ≤ 96 → Due M e inner x b q
+      due-lone few = due-by q few (λ sets begun level has p c k ks chain rising have l S waits kept marked small. is-due begun level (k ∷ ks) l S waits kept marked (next sets begun level has p c k ks chain rising have))
+
+      pub due-more : 96 < q → Due M e inner x b 0
+      due-more large = due-by 0 (omega arith) (λ sets begun level has p c k ks chain rising have l S waits kept marked small. absurd (omega (arith, is-due begun level (k ∷ ks) l S waits kept marked (next sets begun level has p c k ks chain rising have))))
+
+-- The group of the next
+module _ (M : List ℕ) (e x y : ℕ) where
+  pub alone-none : y ≡ 0 → Alone M e x y true
+  alone-none z = record { yes = λ t some same. omega arith; no = λ t. absurd (false≢true (sym t)) }
+
+  pub alone-by : (y ≡ 0 → ⊥) → (f g : ℕ) → f ≡ groupAt M e y → g ≡ groupAt M e x → Alone M e x y (not (eqb f g))
+  alone-by some f g at-f at-g = go (eqb f g) refl
+    where
+      go : (t : Bool) → eqb f g ≡ t → Alone M e x y (not t)
+      go true z = record { yes = λ t. absurd (false≢true t); no = λ t. (omega arith, sym at-f ∙ eqb-true f g z ∙ at-g) }
+      go false z = record { yes = λ t s same. eqb-false f g z (at-f ∙ same ∙ sym at-g); no = λ t. absurd (false≢true (sym t)) }

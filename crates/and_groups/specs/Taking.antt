@@ -100,31 +100,33 @@ module _ (M : List ℕ) (level e u p : ℕ) (before after : List ℕ) (h : ℕ) 
         let good = numbered-good g 1 numbered guarded in
         blocks .says (told .sets) (told .order) after level (has-now g good told taken standing here) g p (mem (taken ++ p ∷ [])) (levels g 0 p) (0 + count g) (subst (λ (y : ℕ). Chain M e p true y (levels g 0 p)) (sym read) (told .places p here)) (levels-rise g 0 p) (levels-are g 0 p here) (marked-all g good told taken standing here p here)
 
-    taken-by : (r : ℕ) → (r ≡ 255) ⊎ (r ≤ 96) → ((g : Group) → Numbered g 1 → size g ≤ 96 → (S : ℕ → Bool) → Has now (begunAt after level) → Blocking M after level e g p S (levels g 0 p) x → Blocked g p S r) → Takes M level e u p before after r
+    taken-by : (r : ℕ) → (r ≡ 255) ⊎ (r ≤ 96) → ((g : Group) → Numbered g 1 → size g ≤ 96 → (told : Told M e g) (S : ℕ → Bool) → has g p ≡ true → Has now (begunAt after level) → Blocking M after level e g p S (levels g 0 p) x → Blocked g p S r) → Takes M level e u p before after r
     taken-by r small f =
         record {
           whole = puts .whole;
           elsewhere = puts .elsewhere;
           small = small;
           stands = stands;
-          blocked = λ g numbered guarded few told taken standing here. f g numbered few (mem (taken ++ p ∷ [])) (has-now g (numbered-good g 1 numbered guarded) told taken standing here) (at-block g numbered guarded told taken standing here);
+          blocked = λ g numbered guarded few told taken standing here. f g numbered few told (mem (taken ++ p ∷ [])) here (has-now g (numbered-good g 1 numbered guarded) told taken standing here) (at-block g numbered guarded told taken standing here);
         }
 
     pub takes-free : x ≡ 0 → Takes M level e u p before after 255
-    takes-free z = taken-by 255 (inl refl) (λ g numbered few S is. go g S)
+    takes-free z = taken-by 255 (inl refl) (λ g numbered few told S here is. go g S)
       where
         go : (g : Group) (S : ℕ → Bool) → Blocking M after level e g p S (levels g 0 p) x → Blocked g p S 255
         go g S (walks.free y w) = free refl (ap (λ (ms : List Members). blocksIn ms p S) (sym (levels-around g 0 p)) ∙ w)
-        go g S (walks.held some l own unset kept marked is y w) = absurd (omega arith)
+        go g S (walks.held some l waits kept marked is y w) = absurd (omega arith)
 
-    pub takes-held : (x ≡ 0 → ⊥) → (r : ℕ) → Due M e x now r → Takes M level e u p before after r
-    takes-held n r due = taken-by r (inr (due .small)) (λ g numbered few S is. go g numbered few S is)
+    pub takes-held : (x ≡ 0 → ⊥) → (r : ℕ) → Due M e h x now r → Takes M level e u p before after r
+    takes-held n r due = taken-by r (inr (due .small)) go
       where
-        go : (g : Group) → Numbered g 1 → size g ≤ 96 → (S : ℕ → Bool) → Has now (begunAt after level) → Blocking M after level e g p S (levels g 0 p) x → Blocked g p S r
-        go g numbered few S is (walks.free y w) = absurd (n y)
-        go g numbered few S is (walks.held some l own unset kept marked a y w) =
+        go : (g : Group) → Numbered g 1 → size g ≤ 96 → (told : Told M e g) (S : ℕ → Bool) → has g p ≡ true → Has now (begunAt after level) → Blocking M after level e g p S (levels g 0 p) x → Blocked g p S r
+        go g numbered few told S here is (walks.free y w) = absurd (n y)
+        go g numbered few told S here is (walks.held some l waits kept marked a y w) =
             held
-            (due .says after level is l S own unset kept marked (rest-small g numbered few p l a S) ∙ sym w ∙ ap (λ (ms : List Members). loneIn ms S) (levels-around g 0 p))
+            (due .says (told .sets) after level is p S (0 + count g) (levels g 0 p) (subst (λ (y : ℕ). Chain M e p true y (levels g 0 p)) (sym read) (told .places p here)) (levels-rise g 0 p) (each-level (IsAround g 0 p) (λ (l : Level). hasM (l .members) p ≡ true) (λ l x. x .1) (levels g 0 p) (levels-are g 0 p here)) l waits kept marked (rest-small g numbered few p l a S)
+            ∙ sym w
+            ∙ ap (λ (ms : List Members). loneIn ms S) (levels-around g 0 p))
             (due .small)
             (ap (λ (ms : List Members). blocksIn ms p S) (sym (levels-around g 0 p)) ∙ y)
 

@@ -1,20 +1,20 @@
 -- What is asked of the sets, in the terms of the groups around a place and of the table that has them.
-use Prim.Native.Nat.{ℕ, _+_, _/_, _%_, _^_, _≤_, _<_}
+use Prim.Native.Nat.{ℕ, _-_, _%_, _≤_, _<_}
 use mathlib.Core.Path.{_≡_}
-use mathlib.Core.Bool.{Bool, true, false, _&&_, _||_, not, cond}
+use mathlib.Core.Bool.{Bool, true, false, _&&_, _||_, not}
 use mathlib.Core.List.{List}
 use lib.Dec.{eqb}
-use Rattle.rules.specs.Bytes.{GRPCNT}
 use Rattle.rules.specs.Walk.{Group}
-use Rattle.layout.specs.Sizes.{POSITIONS}
+use Rattle.layout.specs.Sizes.{POSITIONS, AND-GROUPS}
 use Rattle.model_sets.specs.Sets.{hasM}
 use Rattle.and_laws.specs.Sets.{Good}
 use Rattle.and_laws.specs.Req.{restReq}
 use Rattle.and_laws.specs.Levels.{blocksIn, loneIn, mayIn}
 use Rattle.and_laws.specs.Ranked.{Level, groupsOf, Rising, levels}
-use Rattle.member_laws.specs.Members.{isNeeded, holdsAt, amongAt, isOwn, AllSets, Ordered, Grouped, Chain, begunAt, Marked, AllMarked}
+use Rattle.member_laws.specs.Members.{groupAt, isNeeded, holdsAt, amongAt, isOwn, AllSets, Ordered, Grouped, Chain, begunAt, Marked, AllMarked}
 use Rattle.member_laws.specs.Inside.{EachLevel, IsAround}
 use Rattle.member_laws.specs.Around.{isHolder}
+use Rattle.member_laws.specs.Sets.{anyOwn}
 use Rattle.member_bits.specs.declared.Bits.{Bits}
 use Rattle.member_bits.specs.Having.{Has}
 
@@ -22,24 +22,33 @@ use Rattle.member_bits.specs.Having.{Has}
 pub record Enters (M : List ℕ) (e h : ℕ) (before after : Bits) : Type 0 where
   pub bits : AllSets M e → (B : ℕ → Bool) → Has before B → (u : ℕ) (ends : Bool) (x c : ℕ) (ls : List Level) → h ≡ x % 128 → Chain M e u ends x ls → Rising 0 c ls → EachLevel (λ (l : Level). hasM (l .members) u ≡ true) ls → Has after (λ (n : ℕ). B n || isHolder M e u n ls)
 
--- A member that has not begun of the first group around p that lacks one, where there is such a group.
+-- x is the first member of the group l, one of the groups ls, that must come and has not begun.
+pub record Awaits (M begun : List ℕ) (level e : ℕ) (ls : List Level) (l : Level) (x : ℕ) : Type 0 where
+  pub own : isOwn M e (l .number) x ≡ true
+  pub unset : begunAt begun level x ≡ false
+  pub before : (n : ℕ) → isOwn M e (l .number) n ≡ true → n < x → begunAt begun level n ≡ true
+  pub inside : (n : ℕ) → isOwn M e (l .number) n ≡ true → anyOwn M e n ls ≡ true
+
+-- Which of the groups around p blocks: none, or the first that lacks a member, and then r is the first that it lacks.
 pub data Blocking (M begun : List ℕ) (level e : ℕ) (g : Group) (p : ℕ) (S : ℕ → Bool) (ls : List Level) (r : ℕ) : Type 0 where
   free : r ≡ 0 → blocksIn (groupsOf ls) p S ≡ false → Blocking M begun level e g p S ls r
-  held : 1 ≤ r → (l : Level) → isOwn M e (l .number) r ≡ true → begunAt begun level r ≡ false → Grouped M e l → Marked begun level M e S l → IsAround g 0 p l → blocksIn (groupsOf ls) p S ≡ true → loneIn (groupsOf ls) S ≡ restReq (l .members) S → Blocking M begun level e g p S ls r
+  held : 1 ≤ r → (l : Level) → Awaits M begun level e ls l r → Grouped M e l → Marked begun level M e S l → IsAround g 0 p l → blocksIn (groupsOf ls) p S ≡ true → loneIn (groupsOf ls) S ≡ restReq (l .members) S → Blocking M begun level e g p S ls r
 
 pub record Blocks (M : List ℕ) (e inner : ℕ) (b : Bits) (r : ℕ) : Type 0 where
   pub small : r ≤ 128
+  pub ends : 1 ≤ r → 128 < inner
+  pub group : 1 ≤ r → groupAt M e (inner - 128) ≤ AND-GROUPS
   pub says : AllSets M e → Ordered M e → (begun : List ℕ) (level : ℕ) → Has b (begunAt begun level) → (g : Group) (p : ℕ) (S : ℕ → Bool) (ls : List Level) (c : ℕ) → Chain M e p true inner ls → Rising 0 c ls → EachLevel (IsAround g 0 p) ls → AllMarked begun level M e S ls → Blocking M begun level e g p S ls r
 
--- The bits of the k members from `first` on that have not begun.
-pub record Idle (b : Bits) (first k r : ℕ) : Type 0 where
-  pub below : 1 ≤ first → first + k ≤ POSITIONS → k ≤ GRPCNT → r < 2 ^ k
-  pub bits : (B : ℕ → Bool) → Has b B → 1 ≤ first → first + k ≤ POSITIONS → k ≤ GRPCNT → (j : ℕ) → j < k → r / 2 ^ j % 2 ≡ cond (B (first + j)) 0 1
+-- The member y, or 0, is none of the group of x.
+pub record Alone (M : List ℕ) (e x y : ℕ) (r : Bool) : Type 0 where
+  pub yes : r ≡ true → 1 ≤ y → groupAt M e y ≡ groupAt M e x → ⊥
+  pub no : r ≡ false → (1 ≤ y) × (groupAt M e y ≡ groupAt M e x)
 
--- The place that the member x requires, where it is the only one of its group that has not begun, or 0.
-pub record Due (M : List ℕ) (e x : ℕ) (b : Bits) (r : ℕ) : Type 0 where
+-- The place that the member x requires, for which a group around p waits, where it is the only one of its group that has not begun, or 0.
+pub record Due (M : List ℕ) (e inner x : ℕ) (b : Bits) (r : ℕ) : Type 0 where
   pub small : r ≤ 96
-  pub says : (begun : List ℕ) (level : ℕ) → Has b (begunAt begun level) → (l : Level) (S : ℕ → Bool) → isOwn M e (l .number) x ≡ true → begunAt begun level x ≡ false → Grouped M e l → Marked begun level M e S l → restReq (l .members) S ≤ 96 → r ≡ restReq (l .members) S
+  pub says : AllSets M e → (begun : List ℕ) (level : ℕ) → Has b (begunAt begun level) → (p : ℕ) (S : ℕ → Bool) (c : ℕ) (ls : List Level) → Chain M e p true inner ls → Rising 0 c ls → EachLevel (λ (l : Level). hasM (l .members) p ≡ true) ls → (l : Level) → Awaits M begun level e ls l x → Grouped M e l → Marked begun level M e S l → restReq (l .members) S ≤ 96 → r ≡ restReq (l .members) S
 
 -- The group n and those around it lack nothing.
 pub record IsFull (M : List ℕ) (e n : ℕ) (b : Bits) (r : Bool) : Type 0 where

@@ -12,12 +12,12 @@ use layout::MEMBERS;
 use layout::Place;
 use member_bits::Bits;
 ghost use mathlib.Core.Path.{_≡_};
-ghost use Prim.Native.Nat.{_+_, _%_, _≤_, _<_};
+ghost use Prim.Native.Nat.{_-_, _≤_, _<_};
 ghost use lib.ListN.{length};
 ghost use Rattle.layout.specs.Sizes.{MEMBERS};
 ghost use Rattle.member_laws.specs.Members.{groupAt};
 ghost use Rattle.and_groups.specs.Takes.{Takes, Follows};
-ghost use Rattle.and_groups.specs.Walks.{Enters, Blocks, Idle, Due, IsFull, IsLeft, Comes};
+ghost use Rattle.and_groups.specs.Walks.{Enters, Blocks, Alone, Due, IsFull, IsLeft, Comes};
 
 // The member h and those that hold its group begin, where those of b had.
 fn entered(members: &[u8], e: ElementNo, h: usize, b: Bits) -> Bits
@@ -69,38 +69,35 @@ fn blocking(members: &[u8], e: ElementNo, inner: usize, b: Bits) -> usize
     x
 }
 
-// Of the k members from `first` on those that have not begun, as bits. Where the table has no such members, what it answers is not decided.
-fn idle(b: Bits, first: usize, k: usize) -> usize
-    ensures { λ r. ⌜ Idle b first k r ⌝ }
+// Whether the member `next`, or 0, is none of the group of the member x.
+fn is_alone(members: &[u8], e: ElementNo, x: usize, next: usize) -> bool
+    requires { ⌜ MEMBERS ≤ length (now members) ⌝ }
+    requires { ⌜ (e .0 ≤ 64) × (x ≤ 128) × (next ≤ 128) ⌝ }
+    ensures { λ r. ⌜ Alone (now (members .entry)) (e .0) x next r ⌝ }
 {
-    if first == 0 {
-        return 0;
+    if next == 0 {
+        return true;
     }
-    if GRPGTCNT < first {
-        return 0;
-    }
-    if 32 < k {
-        return 0;
-    }
-    (1 << k) - 1 - member_bits::bits_from(b, first) % (1 << k)
+    let f = member_numbers::group_of(members, e, next);
+    let g = member_numbers::group_of(members, e, x);
+    f != g
 }
 
-// The place that is required where the group of the member x lacks it: that of this member, if no other of the group has not begun, or 0.
-fn required_in(members: &[u8], e: ElementNo, x: usize, b: Bits) -> usize
+// The place that is required where the first group from the member `inner` outwards that lacks a member lacks x first: that of x, if no other of its group has not
+// begun, or 0. Those of its group that come before it have.
+fn required_in(members: &[u8], e: ElementNo, inner: usize, x: usize, b: Bits) -> usize
     requires { ⌜ MEMBERS ≤ length (now members) ⌝ }
-    requires { ⌜ (e .0 ≤ 64) × (x ≤ 128) ⌝ }
-    ensures { λ r. ⌜ Due (now (members .entry)) (e .0) x b r ⌝ }
+    requires { ⌜ (e .0 ≤ 64) × (128 < inner) × (inner ≤ 255) × (x ≤ 128) ⌝ }
+    requires { ⌜ groupAt (now members) (e .0) (inner - 128) ≤ 48 ⌝ }
+    ensures { λ r. ⌜ Due (now (members .entry)) (e .0) inner x b r ⌝ }
 {
-    let g = member_numbers::group_of(members, e, x);
-    let first = member_numbers::of_group(members, e, g, 0);
-    let y = idle(b, first, member_numbers::of_group(members, e, g, 2));
-    if x < first {
+    if GRPGTCNT < x {
         return 0;
     }
-    if 31 < x - first {
-        return 0;
-    }
-    if y != 1 << (x - first) {
+    let g = member_numbers::group_of(members, e, inner - 128);
+    let idle = member_bits::without(member_numbers::among(members, e, g), b);
+    let y = member_bits::first(member_bits::above(idle, x));
+    if !is_alone(members, e, x, y) {
         return 0;
     }
     let p = member_numbers::required_of(members, e, x);
@@ -135,7 +132,7 @@ pub fn take(
         if x == 0 {
             return 255;
         }
-        return required_in(members, e, x, first);
+        return required_in(members, e, h, x, first);
     }
     let now = entered(members, e, h % 128, begun_bits::begun_at(begun, level));
     begun_bits::put(begun, level, now);
@@ -143,7 +140,7 @@ pub fn take(
     if y == 0 {
         return 255;
     }
-    required_in(members, e, y, now)
+    required_in(members, e, h, y, now)
 }
 
 // Whether no group from the group g outwards lacks a member.

@@ -3,7 +3,6 @@ use Prim.Native.Nat.{ℕ, _+_, _-_, _/_, _%_, _^_, _≤_, _<_}
 use mathlib.Core.Path.{_≡_}
 use mathlib.Core.Bool.{Bool, true, false, cond}
 use lib.Dec.{eqb, ltb}
-use Rattle.rules.specs.Bytes.{GRPCNT}
 use Rattle.layout.specs.Sizes.{POSITIONS}
 use Rattle.member_bits.specs.declared.Bits.{Bits}
 
@@ -26,10 +25,6 @@ pub record IsNone (b : Bits) (r : Bool) : Type 0 where
 pub data First (f : ℕ → Bool) (r : ℕ) : Type 0 where
   none : r ≡ 0 → ((n : ℕ) → 1 ≤ n → n < POSITIONS → f n ≡ false) → First f r
   some : 1 ≤ r → r < POSITIONS → f r ≡ true → ((n : ℕ) → 1 ≤ n → n < r → f n ≡ false) → First f r
-
--- The bits of r, from 0 on, are those of the members from `from` on.
-pub record From (b : Bits) (from r : ℕ) : Type 0 where
-  pub bits : (f : ℕ → Bool) → Has b f → (j : ℕ) → j < GRPCNT → from + j < POSITIONS → r / 2 ^ j % 2 ≡ cond (f (from + j)) 1 0
 
 -- r is the lowest bit of y that is set.
 pub record Lowest (y r : ℕ) : Type 0 where

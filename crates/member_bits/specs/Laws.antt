@@ -6,12 +6,12 @@ use native.Mathlib.Decide.{ℕ-discrete, decLt, decLe}
 use native.Mathlib.Nat.{mod-lt, add-zero}
 use native.Mathlib.Omega.{arith}
 use lib.Dec.{eqb, ltb, leb}
-use lib.Pow.{shr-shr, pow-pos, pow-lt}
+use lib.Pow.{shr-shr, shr-lt, shl-exact, split, pow-pos, pow-lt}
 use lib.Bits.{bitAnd, bitOr, bitXor, or-lt, and-le-l, and-le-r, or-add-and}
 use borrow.Author.Tests.{eqb-true, eqb-false, eq-eqb, ne-eqb, lt-ltb, le-ltb, le-leb, lt-leb}
 use Rattle.layout.specs.Sizes.{POSITIONS}
 use Rattle.member_bits.specs.declared.Bits.{Bits}
-use Rattle.member_bits.specs.Having.{bitIn, Has, IsNone, First, none, some, From, Lowest}
+use Rattle.member_bits.specs.Having.{bitIn, Has, IsNone, First, none, some, Lowest}
 use Rattle.member_bits.specs.Bits.{zero-bit, or-either, and-both, differs, xor-one, or-bit, shifted-wide, above-bit, mod-bit, low-bit, high-bit, pow-only, pow-set, ends, bit-below}
 
 or-no : (a : Bool) → a || false ≡ a
@@ -216,54 +216,78 @@ is-none b =
     go f w n (yes d) (no y) = let v = ends (b .high) (b .high) (omega arith) (omega arith) in found f (v .bit + 65) (omega arith) (first-high b f w (v .bit) d _ refl (v .lowest))
     go f w n (yes d) (yes y) = absurd (n (ap₂ bitOr d y))
 
--- From a member on
+-- Those above a member
 
-told : (x : ℕ) (c : Bool) → x < 2 → eqb x 1 ≡ c → x ≡ cond c 1 0
-told zero c l e = ap (λ (b : Bool). cond b 1 0) e
-told (suc zero) c l e = ap (λ (b : Bool). cond b 1 0) e
-told (suc (suc x)) c l e = absurd (omega arith)
+cut-le : (y s : ℕ) → y / 2 ^ s * 2 ^ s ≤ y
+cut-le y s = part (y / 2 ^ s * 2 ^ s) (y % 2 ^ s) y (split y s)
+  where
+    part : (a r n : ℕ) → a + r ≡ n → a ≤ n
+    part a r n e = omega arith
 
-from-by : (b : Bits) (from r : ℕ) → ((f : ℕ → Bool) → Has b f → (j : ℕ) → j < 32 → from + j < 97 → eqb (r / 2 ^ j % 2) 1 ≡ f (from + j)) → From b from r
-from-by b from r e = record { bits = λ f w j l m. told (r / 2 ^ j % 2) (f (from + j)) (mod-lt (r / 2 ^ j) (omega arith)) (e f w j l m) }
+-- Cut off below and shifted back, a number keeps its bits from there on.
+cut-bit : (y s j : ℕ) → eqb (y / 2 ^ s * 2 ^ s / 2 ^ j % 2) 1 ≡ eqb (y / 2 ^ j % 2) 1 && leb s j
+cut-bit y s j = ap (λ (n : ℕ). eqb (n / 2 ^ j % 2) 1) (sym (add-zero (y / 2 ^ s * 2 ^ s))) ∙ go (decLt j s)
+  where
+    and-no : (t : Bool) → t && false ≡ false
+    and-no true = refl
+    and-no false = refl
 
-pub from-one : (b : Bits) (from : ℕ) → from ≡ 1 → From b from (b .low)
-from-one b from one = from-by b from (b .low) (λ f w j l m. let e : j ≡ from + j - 1 = omega arith in ap (λ (k : ℕ). eqb (b .low / 2 ^ k % 2) 1) e ∙ has-low b f w (from + j) (omega arith) (omega arith))
+    and-yes : (t : Bool) → t ≡ t && true
+    and-yes true = refl
+    and-yes false = refl
 
-pub from-high : (b : Bits) (from : ℕ) → 64 < from → From b from (b .high / 2 ^ (from - 65))
-from-high b from d =
-    from-by b from (b .high / 2 ^ (from - 65))
-    (λ f w j l m. let e : from - 65 + j ≡ from + j - 65 = omega arith in ap (λ (k : ℕ). eqb (k % 2) 1) (shr-shr (b .high) (from - 65) j) ∙ ap (λ (k : ℕ). eqb (b .high / 2 ^ k % 2) 1) e ∙ has-high b f w (from + j) (omega arith) (omega arith))
+    go : Dec (j < s) → eqb ((y / 2 ^ s * 2 ^ s + 0) / 2 ^ j % 2) 1 ≡ eqb (y / 2 ^ j % 2) 1 && leb s j
+    go (yes l) = ap (λ (n : ℕ). eqb n 1) (low-bit s 0 (y / 2 ^ s) (pow-pos s) j l ∙ ap (λ (n : ℕ). n % 2) (zero-bit j)) ∙ sym (ap (λ (t : Bool). eqb (y / 2 ^ j % 2) 1 && t) (lt-leb s j l) ∙ and-no (eqb (y / 2 ^ j % 2) 1))
+    go (no l) =
+        let e : s + (j - s) ≡ j = omega arith in
+        ap (λ (n : ℕ). eqb ((y / 2 ^ s * 2 ^ s + 0) / 2 ^ n % 2) 1) (sym e)
+        ∙ ap (λ (n : ℕ). eqb n 1) (high-bit s 0 (y / 2 ^ s) (pow-pos s) (j - s) ∙ ap (λ (n : ℕ). n % 2) (shr-shr y s (j - s)))
+        ∙ ap (λ (n : ℕ). eqb (y / 2 ^ n % 2) 1) e
+        ∙ and-yes (eqb (y / 2 ^ j % 2) 1)
+        ∙ ap (λ (t : Bool). eqb (y / 2 ^ j % 2) 1 && t) (sym (le-leb s j (omega arith)))
 
-module _ (b : Bits) (from : ℕ) (d : 1 ≤ from) (h : from ≤ 64) where
-  abbrev lows : ℕ
-  lows = b .low / 2 ^ (from - 1)
+cut-exact : (y s w : ℕ) → y < 2 ^ w → s ≤ w → w ≤ 64 → y / 2 ^ s * 2 ^ s % 2 ^ 64 ≡ y / 2 ^ s * 2 ^ s
+cut-exact y s w small l m = let e : w ≡ (w - s) + s = omega arith in shl-exact {a = y / 2 ^ s} (w - s) s 64 (shr-lt {n = y} (w - s) s (subst (λ (n : ℕ). y < 2 ^ n) e small)) (omega arith)
 
-  abbrev s : ℕ
-  s = 65 - from
+module _ (b : Bits) (f : ℕ → Bool) (w : Has b f) (x : ℕ) where
+  same-test : (n s i : ℕ) → (s ≤ i → x < n) → (x < n → s ≤ i) → leb s i ≡ ltb x n
+  same-test n s i to from = go (decLe s i)
+    where
+      go : Dec (s ≤ i) → leb s i ≡ ltb x n
+      go (yes l) = le-leb s i l ∙ sym (lt-ltb x n (to l))
+      go (no l) = lt-leb s i (omega arith) ∙ sym (le-ltb x n (not-less (decLt x n)))
+        where
+          not-less : Dec (x < n) → n ≤ x
+          not-less (yes m) = absurd (l (from m))
+          not-less (no m) = omega arith
 
-  abbrev highs : ℕ
-  highs = b .high * 2 ^ s % 2 ^ 64
+  pub above-low : x < 64 → Has (bits (b .low / 2 ^ x * 2 ^ x % 2 ^ 64) (b .high)) (λ (n : ℕ). f n && ltb x n)
+  above-low few = rw (cut-exact (b .low) x 64 (w .low) (omega arith) (omega arith)) (record { low = omega (arith, cut-le (b .low) x, w .low); high = w .high; bits = λ n l m. go n l m (decLe n 64) })
+    where
+      go : (n : ℕ) → 1 ≤ n → n < POSITIONS → Dec (n ≤ 64) → bitIn (b .low / 2 ^ x * 2 ^ x) (b .high) (n - 1) ≡ f n && ltb x n
+      go n l m (yes d) = bit-low _ (b .high) (n - 1) (omega arith) ∙ cut-bit (b .low) x (n - 1) ∙ ap (λ (t : Bool). t && leb x (n - 1)) (has-low b f w n l d) ∙ ap (λ (t : Bool). f n && t) (same-test n x (n - 1) (λ i. omega arith) (λ i. omega arith))
+      go n l m (no d) = let e : n - 1 - 64 ≡ n - 65 = omega arith in bit-high (b .low / 2 ^ x * 2 ^ x) (b .high) (n - 1) (omega arith) ∙ ap (λ (k : ℕ). eqb (b .high / 2 ^ k % 2) 1) e ∙ has-high b f w n (omega arith) (omega arith) ∙ all (f n) ∙ ap (λ (t : Bool). f n && t) (sym (lt-ltb x n (omega arith)))
+        where
+          all : (t : Bool) → t ≡ t && true
+          all true = refl
+          all false = refl
 
-  low-at : (j : ℕ) → lows / 2 ^ j % 2 ≡ b .low / 2 ^ (from + j - 1) % 2
-  low-at j = let e : from - 1 + j ≡ from + j - 1 = omega arith in ap (λ (k : ℕ). k % 2) (shr-shr (b .low) (from - 1) j) ∙ ap (λ (k : ℕ). b .low / 2 ^ k % 2) e
-
-  whole : b .high * 2 ^ s ≡ b .high * 2 ^ s + 0
-  whole = sym (add-zero (b .high * 2 ^ s))
-
-  high-off : (j : ℕ) → j < 32 → j < s → highs / 2 ^ j % 2 ≡ 0
-  high-off j l m = mod-bit (b .high * 2 ^ s) 64 j (omega arith) ∙ ap (λ (k : ℕ). k / 2 ^ j % 2) whole ∙ low-bit s 0 (b .high) (pow-pos s) j m ∙ ap (λ (k : ℕ). k % 2) (zero-bit j)
-
-  high-at : (j : ℕ) → j < 32 → s ≤ j → highs / 2 ^ j % 2 ≡ b .high / 2 ^ (from + j - 65) % 2
-  high-at j l m =
-      let e : j ≡ s + (from + j - 65) = omega arith in
-      mod-bit (b .high * 2 ^ s) 64 j (omega arith) ∙ ap (λ (k : ℕ). k / 2 ^ j % 2) whole ∙ ap (λ (k : ℕ). (b .high * 2 ^ s + 0) / 2 ^ k % 2) e ∙ high-bit s 0 (b .high) (pow-pos s) (from + j - 65)
-
-  go : (f : ℕ → Bool) → Has b f → (j : ℕ) → j < 32 → from + j < 97 → Dec (from + j ≤ 64) → eqb (lows / 2 ^ j % 2) 1 || eqb (highs / 2 ^ j % 2) 1 ≡ f (from + j)
-  go f w j l m (yes i) = ap₂ (λ (p q : ℕ). eqb p 1 || eqb q 1) (low-at j) (high-off j l (omega arith)) ∙ or-no (eqb (b .low / 2 ^ (from + j - 1) % 2) 1) ∙ has-low b f w (from + j) (omega arith) i
-  go f w j l m (no i) = ap₂ (λ (p q : ℕ). eqb p 1 || eqb q 1) (low-at j ∙ above-bit 64 (b .low) (from + j - 1) (w .low) (omega arith)) (high-at j l (omega arith)) ∙ has-high b f w (from + j) (omega arith) (omega arith)
-
-  pub from-low : From b from (bitOr (b .low / 2 ^ (from - 1)) (b .high * 2 ^ (65 - from) % 2 ^ 64))
-  from-low = from-by b from (bitOr lows highs) (λ f w j l m. or-either lows highs j ∙ go f w j l m (decLe (from + j) 64))
+  pub above-high : 64 ≤ x → x ≤ 96 → (s : ℕ) → s ≡ x - 64 → Has (bits 0 (b .high / 2 ^ s * 2 ^ s % 2 ^ 64)) (λ (n : ℕ). f n && ltb x n)
+  above-high many few s is = rw (cut-exact (b .high) s 32 (w .high) (omega arith) (omega arith)) (record { low = omega arith; high = omega (arith, cut-le (b .high) s, w .high); bits = λ n l m. go n l m (decLe n 64) })
+    where
+      go : (n : ℕ) → 1 ≤ n → n < POSITIONS → Dec (n ≤ 64) → bitIn 0 (b .high / 2 ^ s * 2 ^ s) (n - 1) ≡ f n && ltb x n
+      go n l m (yes d) = bit-low 0 (b .high / 2 ^ s * 2 ^ s) (n - 1) (omega arith) ∙ ap (λ (k : ℕ). eqb (k % 2) 1) (zero-bit (n - 1)) ∙ none-of (f n) ∙ ap (λ (t : Bool). f n && t) (sym (le-ltb x n (omega arith)))
+        where
+          none-of : (t : Bool) → false ≡ t && false
+          none-of true = refl
+          none-of false = refl
+      go n l m (no d) =
+          let e : n - 1 - 64 ≡ n - 65 = omega arith in
+          bit-high 0 (b .high / 2 ^ s * 2 ^ s) (n - 1) (omega arith)
+          ∙ ap (λ (k : ℕ). eqb (b .high / 2 ^ s * 2 ^ s / 2 ^ k % 2) 1) e
+          ∙ cut-bit (b .high) s (n - 65)
+          ∙ ap (λ (t : Bool). t && leb s (n - 65)) (has-high b f w n (omega arith) (omega arith))
+          ∙ ap (λ (t : Bool). f n && t) (same-test n s (n - 65) (λ i. omega arith) (λ i. omega arith))
 
 -- Members one after another
 

@@ -4,7 +4,7 @@ ghost use mathlib.Core.Path.{_≡_};
 ghost use mathlib.Core.Bool.{Bool, false, _&&_, _||_, not};
 ghost use Prim.Native.Nat.{ℕ, _+_, _≤_, _<_};
 ghost use lib.Dec.{eqb, ltb, leb};
-ghost use Rattle.member_bits.specs.Having.{Has, IsNone, First, From, Lowest};
+ghost use Rattle.member_bits.specs.Having.{Has, IsNone, First, Lowest};
 
 pub struct Bits {
     pub low: usize,
@@ -112,18 +112,21 @@ pub fn first(b: Bits) -> usize
     0
 }
 
-// Those from the member `from` on, as bits from 0 on, 32 of them.
-pub fn bits_from(b: Bits, from: usize) -> usize
-    requires { ⌜ (1 ≤ from) × (from ≤ 96) ⌝ }
-    ensures { λ r. ⌜ From b from r ⌝ }
+// Those above the member x.
+pub fn above(b: Bits, x: usize) -> Bits
+    requires { ⌜ x ≤ 96 ⌝ }
+    ensures { λ r. ⌜ ((f : ℕ → Bool) → Has b f → Has r (λ (n : ℕ). f n && ltb x n)) ⌝ }
 {
-    if from == 1 {
-        return b.low;
+    if x < 64 {
+        return Bits {
+            low: (b.low >> x) << x,
+            high: b.high,
+        };
     }
-    if from <= 64 {
-        return (b.low >> (from - 1)) | (b.high << (65 - from));
+    Bits {
+        low: 0,
+        high: (b.high >> (x - 64)) << (x - 64),
     }
-    b.high >> (from - 65)
 }
 
 // The k members from the member `from` on, as far as there are so many.

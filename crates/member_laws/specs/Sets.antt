@@ -44,25 +44,31 @@ module _ (M : List ℕ) (e : ℕ) where
         go (needed a b c) = range-own (memberAt M e u l) b (omega (arith, amount-both (l .members)))
         go (spare a b c) = range-own (memberAt M e u l) (omega arith) (omega (arith, amount-both (l .members)))
 
+    -- Those that cannot be nothing are numbered first.
+    pub needed-own : AllSets M e → (n : ℕ) → isOwn M e (l .number) n ≡ true → isNeeded M e n ≡ ltb n (firstAt M e (l .number) + needs (l .members))
+    needed-own sets n i =
+        let (a, b) = own-range n i in
+        let group = own-group n i in
+        sets .needed n (omega (arith, kept .some)) (omega (arith, kept .room)) (omega (arith, group, kept .within))
+        ∙ ap (λ (g : ℕ). ltb n (firstAt M e g + neededAt M e g)) group
+        ∙ ap (λ (k : ℕ). ltb n (firstAt M e (l .number) + k)) (kept .needed)
+
     -- It lacks nothing exactly if each of its members has begun that cannot be nothing.
     module _ (sets : AllSets M e) (begun : List ℕ) (level : ℕ) (S : ℕ → Bool) (marked : Marked begun level M e S l) where
-      needed-own : (n : ℕ) → isOwn M e (l .number) n ≡ true → isNeeded M e n ≡ ltb n (firstAt M e (l .number) + needs (l .members))
-      needed-own n i =
-          let (a, b) = own-range n i in
-          let group = own-group n i in
-          sets .needed n (omega (arith, kept .some)) (omega (arith, kept .room)) (omega (arith, group, kept .within))
-          ∙ ap (λ (g : ℕ). ltb n (firstAt M e g + neededAt M e g)) group
-          ∙ ap (λ (k : ℕ). ltb n (firstAt M e (l .number) + k)) (kept .needed)
-
       pub begun-fine : ((n : ℕ) → isOwn M e (l .number) n ≡ true → isNeeded M e n ≡ true → begunAt begun level n ≡ true) → allM (fine S) (l .members) ≡ true
-      begun-fine f = none-lacks (firstAt M e (l .number)) (l .members) S (begunAt begun level) (dueAt M e) marked (numbered-due M e l kept) (λ j h. let own = range-own (firstAt M e (l .number) + j) (omega arith) (omega (arith, amount-both (l .members))) in f (firstAt M e (l .number) + j) own (needed-own (firstAt M e (l .number) + j) own ∙ lt-ltb (firstAt M e (l .number) + j) (firstAt M e (l .number) + needs (l .members)) (omega arith)))
+      begun-fine f = none-lacks (firstAt M e (l .number)) (l .members) S (begunAt begun level) (dueAt M e) marked (numbered-due M e l kept) (λ j h. let own = range-own (firstAt M e (l .number) + j) (omega arith) (omega (arith, amount-both (l .members))) in f (firstAt M e (l .number) + j) own (needed-own sets (firstAt M e (l .number) + j) own ∙ lt-ltb (firstAt M e (l .number) + j) (firstAt M e (l .number) + needs (l .members)) (omega arith)))
 
       pub fine-begun : allM (fine S) (l .members) ≡ true → (n : ℕ) → isOwn M e (l .number) n ≡ true → isNeeded M e n ≡ true → begunAt begun level n ≡ true
       fine-begun all n own must =
           let (a, b) = own-range n own in
-          let low = ltb-true n (firstAt M e (l .number) + needs (l .members)) (sym (needed-own n own) ∙ must) in
+          let low = ltb-true n (firstAt M e (l .number) + needs (l .members)) (sym (needed-own sets n own) ∙ must) in
           let is : firstAt M e (l .number) + (n - firstAt M e (l .number)) ≡ n = omega arith in
           subst (λ (x : ℕ). begunAt begun level x ≡ true) is (lacks-none (firstAt M e (l .number)) (l .members) S (begunAt begun level) (dueAt M e) marked (numbered-due M e l kept) all (n - firstAt M e (l .number)) (omega arith))
+
+  -- A member of one of these groups is one of the group that the table has for it.
+  pub own-its : (ls : List Level) → EachLevel (Grouped M e) ls → (n : ℕ) → anyOwn n ls ≡ true → isOwn M e (groupAt M e n) n ≡ true
+  own-its [] k n i = absurd (false≢true i)
+  own-its (l ∷ ls) (k, ks) n i = or-cases (isOwn M e (l .number) n) (anyOwn n ls) (λ x. subst (λ (g : ℕ). isOwn M e g n ≡ true) (sym (own-group l k n x)) x) (own-its ls ks n) i
 
   -- The groups around a place
   module _ (sets : AllSets M e) (u : ℕ) where

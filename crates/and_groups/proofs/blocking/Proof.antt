@@ -61,7 +61,7 @@ returns-5 c =
     let common = found .before .before in
     let among = common .before .before in
     let grouped = among .before .before in
-    blocks-held _ _ _ _ (grouped .before .if1 .left) _ refl _ (grouped .group-of .ensures .0) _ _ _ _ (among .among .ensures) (common .before .needed .ensures) (common .common .ensures) (found .before .without .ensures) _ (found .first .ensures .0) (found .first .ensures .1) (c .before .before .before .if3 .left) _ _ (c .before .before .reach-of .ensures .0) (c .before .group-of2 .ensures .0) (omega (arith, c .if4 .left))
+    blocks-held _ _ _ _ (grouped .before .if1 .left) _ refl _ (grouped .group-of .ensures .0) _ _ _ _ (among .among .ensures) (common .before .needed .ensures) (common .common .ensures) (found .before .without .ensures) _ (found .first .ensures .0) (found .first .ensures .1) (c .before .before .before .if3 .left) _ _ (c .before .before .reach-of .ensures .0) (c .before .group-of2 .ensures .0) (among .before .if2 .left) (omega (arith, c .if4 .left))
 
 pub blocking-spec : {M : Type 1} → statement M
 blocking-spec =

@@ -1,77 +1,90 @@
--- `required_in` meets its contract: the only bit that is set is that of the member.
+-- `required_in` meets its contract: the next that has not begun above the member is of another group.
+use mathlib.Core.Path.{_≡_, refl, sym}
+use mathlib.Core.Bool.{Bool, true, false, not, false≢true}
 use native.Mathlib.Omega.{arith}
-use Rattle.and_groups.specs.Lacking.{due-below, due-above, due-others, due-lone, due-large}
+use Rattle.and_groups.specs.Lacking.{due-large, due-other, due-lone, due-more}
 use borrow.Author.Needs.{needs}
 use Rattle.and_groups.proofs.required_in.Statement.{statement}
 use Rattle.and_groups.proofs.required_in.Tie as tie
 
+yes-of : (t : Bool) → not t ≡ false → t ≡ true
+yes-of true z = refl
+yes-of false z = absurd (false≢true (sym z))
+
+no-of : (t : Bool) → not t ≡ true → t ≡ false
+no-of true z = absurd (false≢true z)
+no-of false z = refl
+
+returns : tie.Need-returns
+returns c = due-large _ _ _ _ _ (omega arith) (c .if1 .taken)
+
+sub-group-of : tie.Need-sub-group-of
+sub-group-of c = search needs
+
 group-of-requires : tie.Need-group-of-requires
 group-of-requires c κs = search needs
 
-of-group-requires : tie.Need-of-group-requires
-of-group-requires c κs = search needs
+among-requires : tie.Need-among-requires
+among-requires c κs = search needs
 
-of-group-requires-2 : tie.Need-of-group-requires-2
-of-group-requires-2 c κs = search needs
+without-requires : tie.Need-without-requires
+without-requires c κs = search needs
 
-idle-requires : tie.Need-idle-requires
-idle-requires c κs = search needs
+above-requires : tie.Need-above-requires
+above-requires c κs = search needs
 
-returns : tie.Need-returns
-returns c =
-    let idle = c .before in
-    let sized = idle .before in
-    let first = sized .before in
-    due-below _ _ _ _ _ _ _ _ (first .before .group-of .ensures .0) (first .of-group .ensures .0) (sized .of-group2 .ensures .0) (idle .idle .ensures) (c .if1 .taken)
+first-requires : tie.Need-first-requires
+first-requires c κs = search needs
+
+is-alone-requires : tie.Need-is-alone-requires
+is-alone-requires c κs = search needs
 
 returns-2 : tie.Need-returns-2
 returns-2 c =
-    let idle = c .before .before in
-    let sized = idle .before in
-    let first = sized .before in
-    due-above _ _ _ _ _ _ _ _ (first .before .group-of .ensures .0) (first .of-group .ensures .0) (sized .of-group2 .ensures .0) (idle .idle .ensures) (c .if2 .taken)
-
-shl-if3 : tie.Need-shl-if3
-shl-if3 c = search needs
-
-returns-3 : tie.Need-returns-3
-returns-3 c =
-    let idle = c .before .before .before in
-    let sized = idle .before in
-    let first = sized .before in
-    due-others _ _ _ _ _ _ _ _ (first .before .group-of .ensures .0) (first .of-group .ensures .0) (sized .of-group2 .ensures .0) (idle .idle .ensures) (c .before .if2 .left) (c .if3 .taken)
+    let alone = c .before in
+    let found = alone .before in
+    let cut = found .before in
+    let idle = cut .before in
+    let among = idle .before in
+    let group = among .before in
+    due-other _ _ _ _ _ (omega (arith, group .before .before .before .pre)) _ refl _ (group .group-of .ensures .0) _ _ _ (among .among .ensures) (idle .without .ensures) (cut .above .ensures) _ (found .first .ensures .1) _ (alone .is-alone .ensures) (no-of _ (c .if2 .taken))
 
 required-of-requires : tie.Need-required-of-requires
 required-of-requires c κs = search needs
 
+returns-3 : tie.Need-returns-3
+returns-3 c =
+    let alone = c .before .before .before in
+    let found = alone .before in
+    let cut = found .before in
+    let idle = cut .before in
+    let among = idle .before in
+    let group = among .before in
+    due-more _ _ _ _ _ (omega (arith, group .before .before .before .pre)) _ refl _ (group .group-of .ensures .0) _ _ _ (among .among .ensures) (idle .without .ensures) (cut .above .ensures) _ (found .first .ensures .1) _ (alone .is-alone .ensures) _ (c .before .required-of .ensures .0) (yes-of _ (c .before .before .if2 .left)) (c .if3 .taken)
+
 returns-4 : tie.Need-returns-4
 returns-4 c =
-    let alone = c .before .before in
-    let idle = alone .before .before .before in
-    let sized = idle .before in
-    let first = sized .before in
-    due-large _ _ _ _ _ _ _ _ (first .before .group-of .ensures .0) (first .of-group .ensures .0) (sized .of-group2 .ensures .0) (idle .idle .ensures) (alone .before .if2 .left) _ (c .before .required-of .ensures .0) (alone .if3 .left) (c .if4 .taken)
-
-returns-5 : tie.Need-returns-5
-returns-5 c =
-    let alone = c .before .before in
-    let idle = alone .before .before .before in
-    let sized = idle .before in
-    let first = sized .before in
-    due-lone _ _ _ _ _ _ _ _ (first .before .group-of .ensures .0) (first .of-group .ensures .0) (sized .of-group2 .ensures .0) (idle .idle .ensures) (alone .before .if2 .left) _ (c .before .required-of .ensures .0) (alone .if3 .left) (c .if4 .left)
+    let alone = c .before .before .before in
+    let found = alone .before in
+    let cut = found .before in
+    let idle = cut .before in
+    let among = idle .before in
+    let group = among .before in
+    due-lone _ _ _ _ _ (omega (arith, group .before .before .before .pre)) _ refl _ (group .group-of .ensures .0) _ _ _ (among .among .ensures) (idle .without .ensures) (cut .above .ensures) _ (found .first .ensures .1) _ (alone .is-alone .ensures) _ (c .before .required-of .ensures .0) (yes-of _ (c .before .before .if2 .left)) (c .if3 .left)
 
 pub required-in-spec : {M : Type 1} → statement M
 required-in-spec =
     tie.close
     (tie.spec
-    group-of-requires
-    of-group-requires
-    of-group-requires-2
-    idle-requires
     returns
+    sub-group-of
+    group-of-requires
+    among-requires
+    without-requires
+    above-requires
+    first-requires
+    is-alone-requires
     returns-2
-    shl-if3
-    returns-3
     required-of-requires
-    returns-4
-    returns-5)
+    returns-3
+    returns-4)

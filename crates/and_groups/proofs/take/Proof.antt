@@ -1,4 +1,5 @@
 -- `take` meets its contract: the members that have begun are those of the places before, or none; then those around the place are too.
+use Prim.Native.Nat.{_≤_}
 use native.Mathlib.Omega.{arith}
 use Rattle.and_groups.specs.Taking.{ready-start, ready-on, takes-free, takes-held, takes-short}
 use borrow.Author.Needs.{needs}
@@ -32,7 +33,10 @@ returns-2 c =
     takes-free _ _ _ _ _ _ _ _ _ _ (ready-start _ _ _ _ _ _ (started .before .if2 .taken) (started .none .ensures)) (held .holder .ensures .0) (entered .entered .ensures) (blocked .before .put .ensures) _ (blocked .blocking .ensures) (c .if3 .taken)
 
 required-in-requires : tie.Need-required-in-requires
-required-in-requires c κs = search needs
+required-in-requires c κs =
+    let blocked = c .before .blocking .ensures in
+    let some : 1 ≤ c .before .blocking .result = omega (arith, c .if3 .left) in
+    (omega arith, ((omega arith, blocked .ends some, omega (arith, c .before .before .before .before .before .before .before .before .holder .ensures), blocked .small), blocked .group some))
 
 returns-3 : tie.Need-returns-3
 returns-3 c =
@@ -64,7 +68,10 @@ returns-4 c =
     takes-free _ _ _ _ _ _ _ _ _ _ (ready-on _ _ _ _ _ _ (went .if2 .left) (begun .begun-at .ensures)) (held .holder .ensures .0) (entered .entered2 .ensures) (blocked .before .put2 .ensures) _ (blocked .blocking2 .ensures) (c .if4 .taken)
 
 required-in-requires-2 : tie.Need-required-in-requires-2
-required-in-requires-2 c κs = search needs
+required-in-requires-2 c κs =
+    let blocked = c .before .blocking2 .ensures in
+    let some : 1 ≤ c .before .blocking2 .result = omega (arith, c .if4 .left) in
+    (omega arith, ((omega arith, blocked .ends some, omega (arith, c .before .before .before .before .before .before .before .before .before .holder .ensures), blocked .small), blocked .group some))
 
 returns-5 : tie.Need-returns-5
 returns-5 c =
