@@ -103,12 +103,12 @@ write("par", "".join("<ITEM%s%s<QTY>%s" % item for item in items), ".sgm")
 write("par", "<LIST>" + "".join("<ITEM%s<NAME>%s</NAME><QTY>%s</QTY></ITEM>" % item for item in items) + "</LIST>", ".xml")
 
 # The same documents under "," groups and under "&" groups: small groups, groups of 32, and groups in groups.
-def supply(name, model_of, item, children):
-    """Types with the model joined by "," and by "&", and a document of items that both accept."""
+def supply(name, model_of, item, children, size=36000):
+    """Types with the model joined by "," and by "&", and a document of items that both accept, of so many bytes."""
     for connector, kind in ((",", "sequence"), ("&", "and")):
         head = "<!ELEMENT LIST O O (ITEM+)>\n<!ELEMENT ITEM - O %s>\n" % model_of(connector)
         write("supply-%s-%s" % (name, kind), head + children, ".dtd")
-    write("supply-" + name, item * (36000 // len(item)), ".sgm")
+    write("supply-" + name, item * (size // len(item)), ".sgm")
 
 
 def empty(n):
@@ -157,3 +157,36 @@ def spare(n):
 supply("spare-06", spare(6), "<ITEM><N0>", empty(6))
 supply("spare-16", spare(16), "<ITEM><N0>", empty(16))
 supply("spare-far", spare(16), "<ITEM><N0><N15>", empty(16))
+
+
+# A member far out that is awaited while optional ones are taken from the inside outwards; and groups that each have a further group behind them, of which the
+# innermost and the outermost member are taken. Names have one letter: these take the most time beside "," of all that were tried.
+LETTERS = "ABCDEFGHIJKLMNOPQRSTUVWXYZ"
+
+
+def lettered(names):
+    return "".join("<!ELEMENT %s - O EMPTY>\n" % n for n in names)
+
+
+def awaited(n):
+    def model_of(c):
+        group = "A?"
+        for k in range(1, n):
+            group = "(%s%s%s?)" % (group, c, LETTERS[k])
+        return "(%s%sZ)" % (group, c)
+    return model_of
+
+
+def beside(n):
+    def model_of(c):
+        group = "(A?%sB?)" % c
+        for k in range(1, n):
+            group = "(%s%s(%s?%s%s?))" % (group, c, LETTERS[2 * k], c, LETTERS[2 * k + 1])
+        return group
+    return model_of
+
+
+for n in (5, 14):
+    names = LETTERS[:n] + "Z"
+    supply("awaited-%02d" % n, awaited(n), "<ITEM>" + "".join("<%s>" % k for k in names), lettered(names), 24000)
+supply("beside", beside(12), "<ITEM><A><X>", lettered(LETTERS[:24]), 24000)

@@ -81,8 +81,8 @@
 #include <stddef.h>
 #include <stdint.h>
 
-#define SGML_VERSION "0.8.0"
-#define SGML_VERSION_NUMBER 800 /* 10000 times the major version, 100 times the minor one and the patch */
+#define SGML_VERSION "0.8.1"
+#define SGML_VERSION_NUMBER 801 /* 10000 times the major version, 100 times the minor one and the patch */
 
 #ifdef __cplusplus
 extern "C" {
