@@ -1,31 +1,28 @@
 -- The first group that blocks is that of the first member which must come and has not begun, if the groups up to it can end.
-use Prim.Native.Nat.{ℕ, _+_, _-_, _%_, _≤_, _<_}
+use Prim.Native.Nat.{ℕ, _+_, _-_, _≤_, _<_}
 use mathlib.Core.Path.{_≡_, refl, sym, _∙_, ap, subst}
 use mathlib.Core.Bool.{Bool, true, false, _&&_, _||_, not, cond, false≢true}
 use mathlib.Core.List.{List, [], _∷_}
-use native.Mathlib.Decide.{decLt}
 use native.Mathlib.Omega.{arith}
 use lib.Dec.{ltb}
 use borrow.Author.Tests.{ltb-true, ltb-false}
 use Rattle.rules.specs.Walk.{Group}
-use Rattle.layout.specs.Sizes.{POSITIONS, AND-GROUPS}
-use Rattle.model_sets.specs.Bits.{and-both, and-left, and-right, or-left, or-right, or-cases, not-true, bool-cases}
+use Rattle.layout.specs.Sizes.{AND-GROUPS}
+use Rattle.model_sets.specs.Bits.{and-left, and-right, or-left, or-right, or-cases, bool-cases}
 use Rattle.model_sets.specs.Sets.{hasM, lastM}
 use Rattle.and_laws.specs.Rest.{allM}
-use Rattle.and_laws.specs.Req.{restReq}
 use Rattle.and_laws.specs.Rows.{fine}
-use Rattle.and_laws.specs.Levels.{blocksIn, loneIn}
+use Rattle.and_laws.specs.Levels.{blocksIn}
 use Rattle.and_laws.specs.Ranked.{Level, groupsOf, Rising}
-use Rattle.member_laws.specs.Members.{needs, amount, groupAt, firstAt, sizeAt, outerAt, reachAt, isNeeded, amongAt, isOwn, AllSets, Ordered, Grouped, Chain, begunAt, Marked, AllMarked}
+use Rattle.member_laws.specs.Members.{needs, groupAt, firstAt, outerAt, reachAt, isNeeded, amongAt, isOwn, AllSets, Ordered, Grouped, Chain, begunAt, Marked, AllMarked}
 use Rattle.member_laws.specs.Inside.{EachLevel, each-level, IsAround}
 use Rattle.member_laws.specs.Around.{memberAt, member-small, chain-kept}
-use Rattle.member_laws.specs.Sets.{anyOwn, own-range, own-group, needed-own, begun-fine, fine-begun, outermost, within-next, among-outward, own-above}
+use Rattle.member_laws.specs.Sets.{First, first-of, anyOwn, own-range, own-group, needed-own, begun-fine, fine-begun, outermost, within-next, among-outward, own-above}
 use Rattle.member_bits.specs.declared.Bits.{Bits}
 use Rattle.member_bits.specs.Having as having
 use Rattle.member_bits.specs.Having.{Has}
 use Rattle.member_bits.specs.Laws.{has-same}
-use Rattle.and_groups.specs.Walks.{Awaits, Blocking, free, held, Blocks}
-use Rattle.and_groups.specs.Entering.{First, first-of}
+use Rattle.and_groups.specs.Asked.{Awaits, Blocking, free, held, Blocks}
 
 module _ (M : List ℕ) (e : ℕ) (sets : AllSets M e) (order : Ordered M e) (begun : List ℕ) (level : ℕ) (g : Group) (p : ℕ) (S : ℕ → Bool) where
   abbrev Around : List Level → Type 0

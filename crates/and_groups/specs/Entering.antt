@@ -1,52 +1,34 @@
 -- The members around a place have begun besides those that had: the innermost that holds it, and those that hold its group.
-use Prim.Native.Nat.{ℕ, _%_, _≤_, _<_}
-use mathlib.Core.Path.{_≡_, refl, sym, _∙_, ap, subst}
+use Prim.Native.Nat.{ℕ, _%_, _<_}
+use mathlib.Core.Path.{_≡_, refl, sym, _∙_, ap}
 use mathlib.Core.Bool.{Bool, true, false, _||_}
 use mathlib.Core.List.{List, [], _∷_}
 use native.Mathlib.Omega.{arith}
 use lib.Dec.{eqb}
-use Rattle.layout.specs.Sizes.{POSITIONS, AND-GROUPS}
+use Rattle.layout.specs.Sizes.{AND-GROUPS}
 use Rattle.model_sets.specs.Sets.{hasM}
 use Rattle.and_laws.specs.Rows.{or-no}
 use Rattle.and_laws.specs.Ranked.{Level, Rising}
 use Rattle.member_laws.specs.Members.{groupAt, holdsAt, AllSets, Chain}
 use Rattle.member_laws.specs.Inside.{EachLevel}
-use Rattle.member_laws.specs.Around.{memberAt, isHolder, member-group, member-small, chain-none, chain-first}
-use Rattle.member_laws.specs.Sets.{holds-outward}
+use Rattle.member_laws.specs.Around.{isHolder}
+use Rattle.member_laws.specs.Sets.{First, first-of, holds-outward}
 use Rattle.member_bits.specs.declared.Bits.{Bits}
 use Rattle.member_bits.specs.Having.{Has}
 use Rattle.member_bits.specs.Laws.{has-same}
-use Rattle.and_groups.specs.Walks.{Enters}
+use Rattle.and_groups.specs.Asked.{Enters}
 
 abbrev Have : ℕ → List Level → Type 0
 Have u ls = EachLevel (λ (l : Level). hasM (l .members) u ≡ true) ls
 
 module _ (M : List ℕ) (e h : ℕ) where
-  -- The member that holds u is one of the first group.
-  pub record First (u : ℕ) (l : Level) : Type 0 where
-    pub is : h ≡ memberAt M e u l
-    pub small : (1 ≤ h) × (h ≤ 96)
-    pub group : groupAt M e h ≡ l .number
-    pub within : groupAt M e h ≤ AND-GROUPS
-
-  pub first-of : (u : ℕ) (ends : Bool) (x : ℕ) (l : Level) (ls : List Level) → h ≡ x % 128 → Chain M e u ends x (l ∷ ls) → hasM (l .members) u ≡ true → First u l
-  first-of u ends x l ls read chain i =
-      let is : h ≡ memberAt M e u l = read ∙ chain-first M e u ends x l ls chain i in
-      let group : groupAt M e h ≡ l .number = ap (groupAt M e) is ∙ member-group M e l (chain .0) u i in
-      record {
-        is = is;
-        small = omega (arith, member-small M e l (chain .0) u i);
-        group = group;
-        within = omega (arith, chain .0 .within);
-      }
-
   -- Where the holder is none of the table's members, there is no group.
-  enters-without : (b : Bits) → ((u : ℕ) (l : Level) → First u l → ⊥) → Enters M e h b b
+  enters-without : (b : Bits) → ((u : ℕ) (l : Level) → First M e h u l → ⊥) → Enters M e h b b
   enters-without b none = record { bits = λ sets B has u ends x c ls read chain rising have. go B has u ends x ls read chain have }
     where
       go : (B : ℕ → Bool) → Has b B → (u : ℕ) (ends : Bool) (x : ℕ) (ls : List Level) → h ≡ x % 128 → Chain M e u ends x ls → Have u ls → Has b (λ (n : ℕ). B n || isHolder M e u n ls)
       go B has u ends x [] read chain have = has-same (λ n y z. sym (or-no (B n))) has
-      go B has u ends x (l ∷ ls) read chain have = absurd (none u l (first-of u ends x l ls read chain (have .0)))
+      go B has u ends x (l ∷ ls) read chain have = absurd (none u l (first-of M e h u ends x l ls read chain (have .0)))
 
   pub enters-none : (b : Bits) → h ≡ 0 → Enters M e h b b
   enters-none b z = enters-without b (λ u l f. omega (arith, f .small))
@@ -68,7 +50,7 @@ module _ (M : List ℕ) (e h : ℕ) where
       go : AllSets M e → (B : ℕ → Bool) → Has b B → (u : ℕ) (ends : Bool) (x c : ℕ) (ls : List Level) → h ≡ x % 128 → Chain M e u ends x ls → Rising 0 c ls → Have u ls → Has r (λ (n : ℕ). B n || isHolder M e u n ls)
       go sets B has u ends x c [] read chain rising have = absurd (some (read ∙ ap (λ (y : ℕ). y % 128) chain))
       go sets B has u ends x c (l ∷ ls) read chain rising have =
-          let f = first-of u ends x l ls read chain (have .0) in
+          let f = first-of M e h u ends x l ls read chain (have .0) in
           has-same
           (λ n y z.
           ap (λ (q : Bool). (B n || eqb n h) || q) (ap (λ (q : ℕ). holdsAt M e q n) (at ∙ f .group) ∙ holds-outward M e sets u 0 c ends x l ls chain rising have n y z)

@@ -1,6 +1,6 @@
 -- The place that a group requires which lacks a member: that of the first that it lacks, if no other of its members has not begun. One that has not is above it, and
 -- the next above it, of all groups around, is then one of the same group.
-use Prim.Native.Nat.{ℕ, _+_, _-_, _%_, _≤_, _<_}
+use Prim.Native.Nat.{ℕ, _+_, _-_, _≤_, _<_}
 use mathlib.Core.Path.{_≡_, refl, sym, _∙_, ap, subst}
 use mathlib.Core.Bool.{Bool, true, false, _&&_, not, false≢true}
 use mathlib.Core.List.{List, [], _∷_}
@@ -16,13 +16,12 @@ use Rattle.member_laws.specs.Members.{amount, groupAt, firstAt, dueAt, amongAt,
 use Rattle.member_laws.specs.Numbered.{rest-one, rest-two}
 use Rattle.member_laws.specs.Inside.{EachLevel}
 use Rattle.member_laws.specs.Around.{numbered-due, member-small, chain-kept}
-use Rattle.member_laws.specs.Sets.{anyOwn, own-range, range-own, own-group, own-its, among-outward}
+use Rattle.member_laws.specs.Sets.{first-of, anyOwn, own-range, range-own, own-group, own-its, among-outward}
 use Rattle.member_bits.specs.declared.Bits.{Bits}
 use Rattle.member_bits.specs.Having as having
 use Rattle.member_bits.specs.Having.{Has}
 use Rattle.member_bits.specs.Laws.{has-same}
-use Rattle.and_groups.specs.Walks.{Awaits, Alone, Due}
-use Rattle.and_groups.specs.Entering.{first-of}
+use Rattle.and_groups.specs.Asked.{Awaits, Alone, Due}
 
 -- One group
 module _ (M begun : List ℕ) (level e : ℕ) (ls : List Level) (l : Level) (kept : Grouped M e l) (S : ℕ → Bool) (marked : Marked begun level M e S l) (x : ℕ) (waits : Awaits M begun level e ls l x) where

@@ -1,8 +1,7 @@
--- What is decided by the members that have begun.
+-- What is decided by the members that have begun when a place is taken.
 pub mod Takes
-pub mod Walks
+pub mod Asked
 pub mod Entering
 pub mod Blocking
 pub mod Lacking
-pub mod Following
 pub mod Taking

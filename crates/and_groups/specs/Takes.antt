@@ -9,8 +9,7 @@ use Rattle.rules.specs.Walk.{Group}
 use Rattle.model_sets.specs.Sets.{size, Numbered, has}
 use Rattle.and_laws.specs.Base.{mem}
 use Rattle.and_laws.specs.Numbers.{Guarded}
-use Rattle.and_laws.specs.Levels.{around, blocksIn, loneIn, mayIn}
-use Rattle.and_laws.specs.Taken.{groupsAt}
+use Rattle.and_laws.specs.Levels.{around, blocksIn, loneIn}
 use Rattle.member_laws.specs.Members.{Told, Standing}
 pub use Rattle.member_laws.specs.Members.{Elsewhere}
 
@@ -26,8 +25,3 @@ pub record Takes (M : List ℕ) (level e u p : ℕ) (before after : List ℕ) (r
   pub small : (r ≡ 255) ⊎ (r ≤ 96)
   pub stands : (g : Group) → Numbered g 1 → Guarded g → Told M e g → (taken : List ℕ) → Standing before level M e g u taken → has g p ≡ true → Standing after level M e g p (taken ++ p ∷ [])
   pub blocked : (g : Group) → Numbered g 1 → Guarded g → size g ≤ 96 → Told M e g → (taken : List ℕ) → Standing before level M e g u taken → has g p ≡ true → Blocked g p (mem (taken ++ p ∷ [])) r
-
--- p is left by what has begun after the place u, 0 at the start.
-abbrev pub Follows : (M : List ℕ) (level e u p : ℕ) (begun : List ℕ) → Bool → Type 0
-Follows M level e u p begun r =
-    (g : Group) → Numbered g 1 → Guarded g → Told M e g → (taken : List ℕ) → Standing begun level M e g u taken → ((1 ≤ u) → has g u ≡ true) → has g p ≡ true → r ≡ mayIn (groupsAt g u) u (mem taken) p

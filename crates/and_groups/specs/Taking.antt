@@ -1,5 +1,5 @@
 -- A place is taken: the members around it have begun besides those that had, and what blocks is found by the bits after it.
-use Prim.Native.Nat.{ℕ, zero, suc, _+_, _%_, _≤_, _<_}
+use Prim.Native.Nat.{ℕ, _+_, _%_, _≤_, _<_}
 use mathlib.Core.Path.{_≡_, refl, sym, _∙_, ap, subst}
 use mathlib.Core.Bool.{Bool, true, false, _||_}
 use mathlib.Core.Logic.{_⊎_, inl, inr}
@@ -13,7 +13,7 @@ use Rattle.and_laws.specs.Base.{mem}
 use Rattle.and_laws.specs.Sets.{meets, Good}
 use Rattle.and_laws.specs.Numbers.{Guarded, has-range, numbered-good}
 use Rattle.and_laws.specs.Req.{restReq}
-use Rattle.and_laws.specs.Levels.{blocksIn, loneIn, mayIn}
+use Rattle.and_laws.specs.Levels.{blocksIn, loneIn}
 use Rattle.and_laws.specs.Ranked.{count, Level, levels, groupsOf, levels-around, levels-rise}
 use Rattle.and_laws.specs.Taken.{IsLast, last-taken}
 use Rattle.member_laws.specs.Members.{Each, needs, firstAt, holderAt, Grouped, Chain, Told, begunAt, Marked, AllMarked, Standing}
@@ -21,13 +21,14 @@ use Rattle.member_laws.specs.Own.{OwnOr0, rest-own}
 use Rattle.member_laws.specs.Numbered.{at-each, each-at}
 use Rattle.member_laws.specs.Inside.{level-has, EachLevel, each-level, IsAround, levels-are}
 use Rattle.member_laws.specs.Around.{isHolder, numbered-small, chain-kept, marked-each, is-holder, meets-more, meets-none}
+use Rattle.member_laws.specs.Sets.{short-none}
 use Rattle.member_bits.specs.declared.Bits.{Bits}
 use Rattle.member_bits.specs.Having.{Has}
 use Rattle.member_bits.specs.Laws.{has-same}
 use Rattle.begun_bits.specs.Levels.{Puts}
-use Rattle.and_groups.specs.Takes.{Takes, Follows, Blocked, free, held}
-use Rattle.and_groups.specs.Walks as walks
-use Rattle.and_groups.specs.Walks.{Enters, Blocks, Blocking, Due}
+use Rattle.and_groups.specs.Takes.{Takes, Blocked, free, held}
+use Rattle.and_groups.specs.Asked as asked
+use Rattle.and_groups.specs.Asked.{Enters, Blocks, Blocking, Due}
 
 -- The members B of the group are those of which a place was taken.
 abbrev MarkedBy : (M : List ℕ) (e : ℕ) (B S : ℕ → Bool) → Level → Type 0
@@ -114,29 +115,21 @@ module _ (M : List ℕ) (level e u p : ℕ) (before after : List ℕ) (h : ℕ) 
     takes-free z = taken-by 255 (inl refl) (λ g numbered few told S here is. go g S)
       where
         go : (g : Group) (S : ℕ → Bool) → Blocking M after level e g p S (levels g 0 p) x → Blocked g p S 255
-        go g S (walks.free y w) = free refl (ap (λ (ms : List Members). blocksIn ms p S) (sym (levels-around g 0 p)) ∙ w)
-        go g S (walks.held some l waits kept marked is y w) = absurd (omega arith)
+        go g S (asked.free y w) = free refl (ap (λ (ms : List Members). blocksIn ms p S) (sym (levels-around g 0 p)) ∙ w)
+        go g S (asked.held some l waits kept marked is y w) = absurd (omega arith)
 
     pub takes-held : (x ≡ 0 → ⊥) → (r : ℕ) → Due M e h x now r → Takes M level e u p before after r
     takes-held n r due = taken-by r (inr (due .small)) go
       where
         go : (g : Group) → Numbered g 1 → size g ≤ 96 → (told : Told M e g) (S : ℕ → Bool) → has g p ≡ true → Has now (begunAt after level) → Blocking M after level e g p S (levels g 0 p) x → Blocked g p S r
-        go g numbered few told S here is (walks.free y w) = absurd (n y)
-        go g numbered few told S here is (walks.held some l waits kept marked a y w) =
+        go g numbered few told S here is (asked.free y w) = absurd (n y)
+        go g numbered few told S here is (asked.held some l waits kept marked a y w) =
             held
             (due .says (told .sets) after level is p S (0 + count g) (levels g 0 p) (subst (λ (y : ℕ). Chain M e p true y (levels g 0 p)) (sym read) (told .places p here)) (levels-rise g 0 p) (each-level (IsAround g 0 p) (λ (l : Level). hasM (l .members) p ≡ true) (λ l x. x .1) (levels g 0 p) (levels-are g 0 p here)) l waits kept marked (rest-small g numbered few p l a S)
             ∙ sym w
             ∙ ap (λ (ms : List Members). loneIn ms S) (levels-around g 0 p))
             (due .small)
             (ap (λ (ms : List Members). blocksIn ms p S) (sym (levels-around g 0 p)) ∙ y)
-
--- A table that is not whole tells no member.
-short-none : (M : List ℕ) (e : ℕ) (g : Group) → length M < MEMBERS → Told M e g → (q : ℕ) → has g q ≡ true → levels g 0 q ≡ []
-short-none M e g short told q i = go (told .whole q i)
-  where
-    go : (levels g 0 q ≡ []) ⊎ (MEMBERS ≤ length M) → levels g 0 q ≡ []
-    go (inl z) = z
-    go (inr z) = absurd (omega arith)
 
 pub takes-short : (M : List ℕ) (level e u p : ℕ) (before : List ℕ) → length M < MEMBERS → Takes M level e u p before before 255
 takes-short M level e u p before short =
@@ -152,9 +145,3 @@ takes-short M level e u p before short =
       blocked = λ g numbered guarded few told taken standing here.
           free refl (ap (λ (ms : List Members). blocksIn ms p (mem (taken ++ p ∷ []))) (sym (levels-around g 0 p)) ∙ ap (λ (ls : List Level). blocksIn (groupsOf ls) p (mem (taken ++ p ∷ []))) (short-none M e g short told p here));
     }
-
-pub follows-short : (M : List ℕ) (level e u p : ℕ) (begun : List ℕ) → length M < MEMBERS → Follows M level e u p begun true
-follows-short M level e zero p begun short g numbered guarded told taken stands has-u has-p = refl
-follows-short M level e (suc v) p begun short g numbered guarded told taken stands has-u has-p =
-    let here = has-u (omega arith) in
-    ap (λ (ls : List Level). mayIn (groupsOf ls) (suc v) (mem taken) p) (sym (short-none M e g short told (suc v) here)) ∙ ap (λ (ms : List Members). mayIn ms (suc v) (mem taken) p) (levels-around g 0 (suc v))

@@ -1,6 +1,5 @@
 -- What holds of the walks of content models with "&" groups (paper 02, request twelve): what may remain after a beginning, which pairs of places are at
 -- fault, what may come next, is complete, is required; each as a computed test that says of the walks what the rules mean.
-pub mod Words
 pub mod Base
 pub mod Sets
 pub mod Numbers

@@ -1,9 +1,9 @@
 -- What the functions make of the members, over plain numbers.
-use Prim.Native.Nat.{ℕ, zero, suc, _+_, _-_, _*_, _/_, _%_, _^_, _≤_, _<_}
+use Prim.Native.Nat.{ℕ, _+_, _-_, _*_, _/_, _%_, _^_, _≤_, _<_}
 use mathlib.Core.Path.{_≡_, refl, sym, _∙_, ap, ap₂, subst}
 use mathlib.Core.Bool.{Bool, true, false, _&&_, _||_, not, cond}
 use native.Mathlib.Decide.{ℕ-discrete, decLt, decLe}
-use native.Mathlib.Nat.{mod-lt, add-zero}
+use native.Mathlib.Nat.{add-zero}
 use native.Mathlib.Omega.{arith}
 use lib.Dec.{eqb, ltb, leb}
 use lib.Pow.{shr-shr, shr-lt, shl-exact, split, pow-pos, pow-lt}
@@ -12,7 +12,7 @@ use borrow.Author.Tests.{eqb-true, eqb-false, eq-eqb, ne-eqb, lt-ltb, le-ltb, le
 use Rattle.layout.specs.Sizes.{POSITIONS}
 use Rattle.member_bits.specs.declared.Bits.{Bits}
 use Rattle.member_bits.specs.Having.{bitIn, Has, IsNone, First, none, some, Lowest}
-use Rattle.member_bits.specs.Bits.{zero-bit, or-either, and-both, differs, xor-one, or-bit, shifted-wide, above-bit, mod-bit, low-bit, high-bit, pow-only, pow-set, ends, bit-below}
+use Rattle.member_bits.specs.Bits.{zero-bit, or-either, and-both, differs, xor-one, or-bit, shifted-wide, low-bit, high-bit, pow-only, pow-set, ends, bit-below}
 
 or-no : (a : Bool) → a || false ≡ a
 or-no true = refl

@@ -2,22 +2,21 @@
 -- an inner one are.
 use Prim.Native.Nat.{ℕ, _%_, _≤_}
 use mathlib.Core.Path.{_≡_, refl, sym, _∙_, ap, subst}
-use mathlib.Core.Bool.{Bool, true, false, _&&_, _||_, false≢true}
+use mathlib.Core.Bool.{Bool, true, false, _||_, false≢true}
 use mathlib.Core.Logic.{inl, inr}
 use mathlib.Core.List.{List, [], _∷_, _++_}
 use native.Mathlib.Omega.{arith}
 use lib.Dec.{eqb}
 use borrow.Author.Tests.{eqb-true, eq-eqb}
 use Rattle.rules.specs.Walk.{Group, Members}
-use Rattle.model_sets.specs.Bits.{or-left, or-right, or-cases, and-left, and-right, not-true}
+use Rattle.model_sets.specs.Bits.{or-left, or-right, or-cases, not-true}
 use Rattle.model_sets.specs.Sets.{has, hasM, must}
 use Rattle.and_laws.specs.Base.{mem, mem-left, mem-right, mem-cases, mem-head}
-use Rattle.and_laws.specs.Sets.{meets, Good, GoodM, meets-common, common-meets}
-use Rattle.and_laws.specs.Levels.{together}
+use Rattle.and_laws.specs.Sets.{meets, Good, meets-common, common-meets}
 use Rattle.and_laws.specs.Ranked.{Level, levels}
 use Rattle.member_laws.specs.Members.{needs, numberIn, Each, groupAt, dueAt, firstAt, Grouped, Chain, begunAt, Marked, AllMarked}
-use Rattle.member_laws.specs.Numbered.{both-tests, amount-both, IsNumbered, any-numbered, each-at, at-each, numbered-has, place-numbered, numbered-place, numbered-range, numbered-once, Ranged, needed, spare}
-use Rattle.member_laws.specs.Inside.{IsLevel, level-once, level-good, level-around, EachLevel, AnyLevel, IsSame, IsAround, levels-are, Nested}
+use Rattle.member_laws.specs.Numbered.{both-tests, amount-both, IsNumbered, each-at, at-each, numbered-has, place-numbered, numbered-place, numbered-range, numbered-once, Ranged, needed, spare}
+use Rattle.member_laws.specs.Inside.{IsLevel, level-once, level-good, level-around, EachLevel, AnyLevel, IsSame, IsAround, levels-are}
 
 module _ (M : List ℕ) (e : ℕ) where
   -- the number of the member of the group that holds u
@@ -80,52 +79,19 @@ module _ (M : List ℕ) (e : ℕ) where
 
   -- The members around u
 
-  -- where one has begun, so have those around it
-  abbrev pub Closed : (B : ℕ → Bool) → ℕ → List Level → Type 0
-  Closed B u [] = true ≡ true
-  Closed B u (l ∷ ls) = (B (memberAt u l) ≡ true → EachLevel (λ (k : Level). B (memberAt u k) ≡ true) ls) × Closed B u ls
-
-  pub holder-each : (B : ℕ → Bool) (u n : ℕ) (ls : List Level) → EachLevel (λ (k : Level). B (memberAt u k) ≡ true) ls → isHolder u n ls ≡ true → B n ≡ true
-  holder-each B u n [] x i = absurd (false≢true i)
-  holder-each B u n (l ∷ ls) (x, y) i = or-cases (eqb n (memberAt u l)) (isHolder u n ls) (λ z. subst (λ (k : ℕ). B k ≡ true) (sym (eqb-true n (memberAt u l) z)) x) (λ z. holder-each B u n ls y z) i
-
   pub any-holder : (u n : ℕ) (ls : List Level) → AnyLevel (λ (k : Level). n ≡ memberAt u k) ls → isHolder u n ls ≡ true
   any-holder u n [] x = absurd x
   any-holder u n (l ∷ ls) (inl x) = or-left _ (eq-eqb n (memberAt u l) x)
   any-holder u n (l ∷ ls) (inr x) = or-right (eqb n (memberAt u l)) (any-holder u n ls x)
-
-  -- the member that holds u and q has its bit set where q was taken
-  together-begun : (B S : ℕ → Bool) (l : Level) → GoodM (l .members) → Each (λ (n : ℕ) (g : Group). B n ≡ meets g S) (firstAt M e (l .number)) (needs (l .members)) (l .members) → (u q : ℕ) → hasM (l .members) u ≡ true → together (l .members) u q ≡ true → S q ≡ true → B (memberAt u l) ≡ true
-  together-begun B S l d marked u q i t s =
-      let (n, k, j, x) = any-numbered _ _ (λ (g : Group). has g u && has g q) (l .members) t in
-      ap B (numbered-place _ _ (l .members) d n k j u (and-left (has k u) _ x)) ∙ each-at _ _ (λ (n : ℕ) (g : Group). B n ≡ meets g S) (l .members) marked n k j ∙ common-meets k S q (and-right (has k u) _ x) s
 
   module _ (begun : List ℕ) (level : ℕ) (S : ℕ → Bool) where
     pub marked-each : (ls : List Level) → AllMarked begun level M e S ls → EachLevel (Marked begun level M e S) ls
     marked-each [] x = refl
     marked-each (l ∷ ls) (x, y) = (x, marked-each ls y)
 
-    pub each-marked : (ls : List Level) → EachLevel (Marked begun level M e S) ls → AllMarked begun level M e S ls
-    each-marked [] x = refl
-    each-marked (l ∷ ls) (x, y) = (x, each-marked ls y)
-
     -- The number of a member that has a place has its bit set exactly if a place of it was taken.
     pub member-begun : (l : Level) → Marked begun level M e S l → (u : ℕ) → (i : hasM (l .members) u ≡ true) → begunAt begun level (memberAt u l) ≡ meets (held u l i .member) S
     member-begun l marked u i = each-at _ _ (λ (n : ℕ) (g : Group). begunAt begun level n ≡ meets g S) (l .members) marked (memberAt u l) (held u l i .member) (held u l i .numbered)
-
-    begun-outer : (g : Group) → Good g → (u q : ℕ) → S q ≡ true → (ls : List Level) → EachLevel (IsAround g 0 u) ls → AllMarked begun level M e S ls → EachLevel (λ (k : Level). together (k .members) u q ≡ true) ls → EachLevel (λ (k : Level). begunAt begun level (memberAt u k) ≡ true) ls
-    begun-outer g d u q s [] a x t = refl
-    begun-outer g d u q s (l ∷ ls) ((i, h), a) (x, y) (t, z) = (together-begun (begunAt begun level) S l (level-good g 0 l i d) x u q h t s, begun-outer g d u q s ls a y z)
-
-    pub closed-by : (g : Group) → Good g → (u : ℕ) → (ls : List Level) → EachLevel (IsAround g 0 u) ls → Nested u ls → AllMarked begun level M e S ls → Closed (begunAt begun level) u ls
-    closed-by g d u [] a n x = refl
-    closed-by g d u (l ∷ ls) ((i, h), a) (n, m) (x, y) = (inner, closed-by g d u ls a m y)
-      where
-        inner : begunAt begun level (memberAt u l) ≡ true → EachLevel (λ (k : Level). begunAt begun level (memberAt u k) ≡ true) ls
-        inner z =
-            let k = held u l h .member in
-            let (q, v, w) = meets-common k S (sym (member-begun l x u h) ∙ z) in
-            begun-outer g d u q w ls a y (n q (numbered-has _ _ (l .members) (memberAt u l) k (held u l h .numbered) q v))
 
   -- One place more
 

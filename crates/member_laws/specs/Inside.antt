@@ -6,11 +6,10 @@ use mathlib.Core.Logic.{_⊎_, inl, inr}
 use mathlib.Core.List.{List, [], _∷_, _++_}
 use native.Mathlib.Omega.{arith}
 use Rattle.rules.specs.Walk.{Group, place, seq, alt, opt, plus, and, Members, one, also}
-use Rattle.model_sets.specs.Bits.{or-left, or-right, and-both, not-true, bool-cases}
+use Rattle.model_sets.specs.Bits.{or-left, or-right, not-true, bool-cases}
 use Rattle.model_sets.specs.Sets.{has, hasM}
 use Rattle.and_laws.specs.Sets.{Plain, Good, GoodM}
 use Rattle.and_laws.specs.Decide.{or-only}
-use Rattle.and_laws.specs.Levels.{together}
 use Rattle.and_laws.specs.Ranked.{count, countM, Level, levels, levelsM}
 
 -- The group is one of the model's, where b groups come before.
@@ -154,40 +153,6 @@ mutual
       (has g u)
       (λ j. rw j (each-level (IsAround g (b + countM m) u) (λ (l : Level). IsLevelM (also m g) b l × (hasM (l .members) u ≡ true)) (λ l x. (inr (x .0), x .1)) (levels g (b + countM m) u) (levels-are g (b + countM m) u j)))
       (λ j. rw j (each-level (λ (l : Level). IsLevelM m b l × (hasM (l .members) u ≡ true)) (λ (l : Level). IsLevelM (also m g) b l × (hasM (l .members) u ≡ true)) (λ l x. (inl (x .0), x .1)) (levelsM m b u) (levelsM-are m b u (or-only (hasM m u) (has g u) j i))))
-
--- Each place of an inner group is in the member of an outer one that holds u.
-abbrev pub Nested : ℕ → List Level → Type 0
-Nested u [] = true ≡ true
-Nested u (l ∷ ls) = ((q : ℕ) → hasM (l .members) q ≡ true → EachLevel (λ (k : Level). together (k .members) u q ≡ true) ls) × Nested u ls
-
--- its places are in the member of m that holds u
-abbrev IsWithin : Members → ℕ → Level → Type 0
-IsWithin m u l = (q : ℕ) → hasM (l .members) q ≡ true → together m u q ≡ true
-
-nested-append : (u : ℕ) (ls : List Level) (l : Level) → Nested u ls → EachLevel (IsWithin (l .members) u) ls → Nested u (ls ++ l ∷ [])
-nested-append u [] l n w = (λ q i. refl, refl)
-nested-append u (k ∷ ls) l (x, n) (y, w) = (λ q i. each-append (λ (k : Level). together (k .members) u q ≡ true) ls l (x q i) (y q i), nested-append u ls l n w)
-
-levelsM-within : (m : Members) (b u : ℕ) → hasM m u ≡ true → EachLevel (IsWithin m u) (levelsM m b u)
-levelsM-within (one g) b u i = each-level (IsAround g b u) (IsWithin (one g) u) (λ l x q h. and-both i (level-has g b l (x .0) q h)) (levels g b u) (levels-are g b u i)
-levelsM-within (also m g) b u i =
-    bool-cases
-    (has g u)
-    (λ j. rw j (each-level (IsAround g (b + countM m) u) (IsWithin (also m g) u) (λ l x q h. or-right (together m u q) (and-both j (level-has g (b + countM m) l (x .0) q h))) (levels g (b + countM m) u) (levels-are g (b + countM m) u j)))
-    (λ j. rw j (each-level (IsWithin m u) (IsWithin (also m g) u) (λ l x q h. or-left _ (x q h)) (levelsM m b u) (levelsM-within m b u (or-only (hasM m u) (has g u) j i))))
-
-mutual
-  pub levels-nest : (g : Group) (b u : ℕ) → has g u ≡ true → Nested u (levels g b u)
-  levels-nest (place n) b u i = refl
-  levels-nest (seq g h) b u i = bool-cases (has h u) (λ j. rw j (levels-nest h (b + count g) u j)) (λ j. rw j (levels-nest g b u (or-only (has g u) (has h u) j i)))
-  levels-nest (alt g h) b u i = bool-cases (has h u) (λ j. rw j (levels-nest h (b + count g) u j)) (λ j. rw j (levels-nest g b u (or-only (has g u) (has h u) j i)))
-  levels-nest (opt g) b u i = levels-nest g b u i
-  levels-nest (plus g) b u i = refl
-  levels-nest (and m) b u i = nested-append u (levelsM m b u) (record { number = suc (b + countM m); members = m }) (levelsM-nest m b u i) (levelsM-within m b u i)
-
-  levelsM-nest : (m : Members) (b u : ℕ) → hasM m u ≡ true → Nested u (levelsM m b u)
-  levelsM-nest (one g) b u i = levels-nest g b u i
-  levelsM-nest (also m g) b u i = bool-cases (has g u) (λ j. rw j (levels-nest g (b + countM m) u j)) (λ j. rw j (levelsM-nest m b u (or-only (hasM m u) (has g u) j i)))
 
 -- Without "&" there is none.
 pub plain-levels : (g : Group) → Plain g → (b u : ℕ) → levels g b u ≡ []

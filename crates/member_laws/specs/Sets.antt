@@ -1,18 +1,21 @@
 -- The sets of the groups around a place: who holds them, which members they have, which of these must come, and how far out they can end.
 use Prim.Native.Nat.{ℕ, _+_, _-_, _%_, _≤_, _<_}
-use mathlib.Core.Path.{_≡_, refl, sym, _∙_, ap, subst}
+use mathlib.Core.Path.{_≡_, sym, _∙_, ap, subst}
 use mathlib.Core.Bool.{Bool, true, false, _||_, false≢true}
+use mathlib.Core.Logic.{_⊎_, inl, inr}
 use mathlib.Core.List.{List, [], _∷_}
 use native.Mathlib.Omega.{arith}
+use lib.ListN.{length}
 use lib.Dec.{eqb, leb, ltb}
 use borrow.Author.Tests.{eqb-true, lt-ltb, le-leb, ltb-true, leb-true}
-use Rattle.layout.specs.Sizes.{POSITIONS, AND-GROUPS}
+use Rattle.rules.specs.Walk.{Group}
+use Rattle.layout.specs.Sizes.{POSITIONS, AND-GROUPS, MEMBERS}
 use Rattle.model_sets.specs.Bits.{and-both, and-left, and-right, or-cases}
-use Rattle.model_sets.specs.Sets.{hasM}
+use Rattle.model_sets.specs.Sets.{has, hasM}
 use Rattle.and_laws.specs.Rest.{allM}
 use Rattle.and_laws.specs.Rows.{fine, or-no}
-use Rattle.and_laws.specs.Ranked.{Level, Rising}
-use Rattle.member_laws.specs.Members.{amount, needs, groupAt, dueAt, firstAt, neededAt, sizeAt, outerAt, reachAt, isNeeded, holdsAt, amongAt, isOwn, Outermost, Within, AllSets, Grouped, Chain, begunAt, Marked}
+use Rattle.and_laws.specs.Ranked.{Level, levels, Rising}
+use Rattle.member_laws.specs.Members.{amount, needs, groupAt, dueAt, firstAt, neededAt, sizeAt, outerAt, isNeeded, holdsAt, amongAt, isOwn, Outermost, Within, AllSets, Grouped, Chain, Told, begunAt, Marked}
 use Rattle.member_laws.specs.Numbered.{amount-both, mem-numbered, range-numbers, numbered-range, Ranged, needed, spare, none-lacks, lacks-none}
 use Rattle.member_laws.specs.Inside.{EachLevel}
 use Rattle.member_laws.specs.Around.{memberAt, isHolder, held, numbered-group, numbered-due, member-group, member-small, chain-first}
@@ -69,6 +72,32 @@ module _ (M : List ℕ) (e : ℕ) where
   pub own-its : (ls : List Level) → EachLevel (Grouped M e) ls → (n : ℕ) → anyOwn n ls ≡ true → isOwn M e (groupAt M e n) n ≡ true
   own-its [] k n i = absurd (false≢true i)
   own-its (l ∷ ls) (k, ks) n i = or-cases (isOwn M e (l .number) n) (anyOwn n ls) (λ x. subst (λ (g : ℕ). isOwn M e g n ≡ true) (sym (own-group l k n x)) x) (own-its ls ks n) i
+
+  -- The member that holds a place is one of the first group around it.
+  pub record First (h u : ℕ) (l : Level) : Type 0 where
+    pub is : h ≡ memberAt M e u l
+    pub small : (1 ≤ h) × (h ≤ 96)
+    pub group : groupAt M e h ≡ l .number
+    pub within : groupAt M e h ≤ AND-GROUPS
+
+  pub first-of : (h u : ℕ) (ends : Bool) (x : ℕ) (l : Level) (ls : List Level) → h ≡ x % 128 → Chain M e u ends x (l ∷ ls) → hasM (l .members) u ≡ true → First h u l
+  first-of h u ends x l ls read chain i =
+      let is : h ≡ memberAt M e u l = read ∙ chain-first M e u ends x l ls chain i in
+      let group : groupAt M e h ≡ l .number = ap (groupAt M e) is ∙ member-group M e l (chain .0) u i in
+      record {
+        is = is;
+        small = omega (arith, member-small M e l (chain .0) u i);
+        group = group;
+        within = omega (arith, chain .0 .within);
+      }
+
+  -- A table that is not whole tells no member.
+  pub short-none : (g : Group) → length M < MEMBERS → Told M e g → (q : ℕ) → has g q ≡ true → levels g 0 q ≡ []
+  short-none g short told q i = go (told .whole q i)
+    where
+      go : (levels g 0 q ≡ []) ⊎ (MEMBERS ≤ length M) → levels g 0 q ≡ []
+      go (inl z) = z
+      go (inr z) = absurd (omega arith)
 
   -- The groups around a place
   module _ (sets : AllSets M e) (u : ℕ) where

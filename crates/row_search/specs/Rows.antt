@@ -8,7 +8,7 @@ use lib.ListN.{getD}
 use lib.Dec.{eqb}
 use Rattle.layout.specs.Sizes.{POSITIONS, ROW}
 use Rattle.document_laws.specs.Decide.{search}
-use Rattle.and_groups.specs.Takes.{Follows}
+use Rattle.and_next.specs.Follows.{Follows}
 
 -- Where the row of the element e after the place u begins.
 abbrev pub rowAt : (e u : ℕ) → ℕ

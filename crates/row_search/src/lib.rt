@@ -88,7 +88,7 @@ pub fn largest_among(
     }
     while q.0 != 0 {
         if bit(rows, e, u, q) {
-            if and_groups::may_follow(members, begun, level, e, u, q) {
+            if and_next::may_follow(members, begun, level, e, u, q) {
                 return q;
             }
         }

@@ -5,7 +5,7 @@ use mathlib.Core.Bool.{false}
 use mathlib.Core.Logic.{inl, inr, ⊎-elim}
 use native.Mathlib.Omega.{arith}
 use borrow.Author.Needs.{needs}
-use Rattle.and_groups.specs.Takes.{Follows}
+use Rattle.and_next.specs.Follows.{Follows}
 use Rattle.row_search.specs.Rows.{BothSay}
 use Rattle.row_search.specs.Search.{Seeks, seeks-start, seeks-found, seeks-rising, seeks-next, seeks-none, raised-low, raised-high, raised-from}
 use Rattle.row_search.proofs.largest_among.Statement.{statement}

@@ -2,11 +2,10 @@
 use Prim.Native.Nat.{ℕ, _%_}
 use mathlib.Core.Path.{ap}
 use native.Mathlib.Omega.{arith}
-use Rattle.and_groups.specs.Following.{follows-none, follows-large, follows-beside, follows-by}
-use Rattle.and_groups.specs.Taking.{follows-short}
+use Rattle.and_next.specs.Following.{follows-none, follows-large, follows-beside, follows-by, follows-short}
 use borrow.Author.Needs.{needs}
-use Rattle.and_groups.proofs.may_follow.Statement.{statement}
-use Rattle.and_groups.proofs.may_follow.Tie as tie
+use Rattle.and_next.proofs.may_follow.Statement.{statement}
+use Rattle.and_next.proofs.may_follow.Tie as tie
 
 returns : tie.Need-returns
 returns c = follows-short _ _ _ _ _ _ (omega (arith, c .if1 .taken))

@@ -1,8 +1,8 @@
 -- `is_left` meets its contract: it asks for none of the members that forbid the place.
 use native.Mathlib.Omega.{arith}
 use borrow.Author.Needs.{needs}
-use Rattle.and_groups.proofs.is_left.Statement.{statement}
-use Rattle.and_groups.proofs.is_left.Tie as tie
+use Rattle.and_next.proofs.is_left.Statement.{statement}
+use Rattle.and_next.proofs.is_left.Tie as tie
 
 among-requires : tie.Need-among-requires
 among-requires c κs = search needs

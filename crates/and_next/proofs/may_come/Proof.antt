@@ -1,9 +1,9 @@
 -- `may_come` meets its contract: p is in no group, in that of u, or in another.
 use native.Mathlib.Omega.{arith}
-use Rattle.and_groups.specs.Following.{comes-far, comes-full, comes-beside, comes-left, comes-one, comes-other}
+use Rattle.and_next.specs.Following.{comes-far, comes-full, comes-beside, comes-left, comes-one, comes-other}
 use borrow.Author.Needs.{needs}
-use Rattle.and_groups.proofs.may_come.Statement.{statement}
-use Rattle.and_groups.proofs.may_come.Tie as tie
+use Rattle.and_next.proofs.may_come.Statement.{statement}
+use Rattle.and_next.proofs.may_come.Tie as tie
 
 group-of-requires : tie.Need-group-of-requires
 group-of-requires c κs = search needs

@@ -1,8 +1,8 @@
 -- `is_full` meets its contract: there is no member that must come and has not begun.
 
 use borrow.Author.Needs.{needs}
-use Rattle.and_groups.proofs.is_full.Statement.{statement}
-use Rattle.and_groups.proofs.is_full.Tie as tie
+use Rattle.and_next.proofs.is_full.Statement.{statement}
+use Rattle.and_next.proofs.is_full.Tie as tie
 
 among-requires : tie.Need-among-requires
 among-requires c κs = search needs

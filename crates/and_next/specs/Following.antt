@@ -2,18 +2,19 @@
 -- lack nothing, and in the first that has it its member is that of the last place or has not begun.
 use Prim.Native.Nat.{ℕ, zero, suc, _+_, _%_, _≤_, _<_}
 use mathlib.Core.Path.{_≡_, refl, sym, _∙_, ap, subst}
-use mathlib.Core.Bool.{Bool, true, false, _&&_, _||_, not, cond, false≢true}
-use mathlib.Core.Logic.{_⊎_, inl, inr}
+use mathlib.Core.Bool.{Bool, true, false, _&&_, _||_, not, false≢true}
+use mathlib.Core.Logic.{inl, inr}
 use mathlib.Core.List.{List, [], _∷_}
 use native.Mathlib.Decide.{ℕ-discrete}
 use native.Mathlib.Omega.{arith}
+use lib.ListN.{length}
 use lib.Dec.{eqb}
 use borrow.Author.Tests.{eqb-true, eq-eqb, ne-eqb}
 use Rattle.rules.specs.Walk.{Group, Members}
-use Rattle.layout.specs.Sizes.{POSITIONS, AND-GROUPS}
+use Rattle.layout.specs.Sizes.{POSITIONS, AND-GROUPS, MEMBERS}
 use Rattle.model_sets.specs.Bits.{and-left, and-right, and-both, or-left, or-right, or-cases, not-true, bool-cases}
 use Rattle.model_sets.specs.Sets.{Numbered, has, hasM}
-use Rattle.and_laws.specs.Base.{mem, ends-mem}
+use Rattle.and_laws.specs.Base.{mem}
 use Rattle.and_laws.specs.Sets.{meets, Good, GoodM}
 use Rattle.and_laws.specs.Numbers.{Guarded, numbered-good}
 use Rattle.and_laws.specs.Rest.{allM, anyM}
@@ -25,12 +26,11 @@ use Rattle.member_laws.specs.Members.{needs, numberIn, groupAt, firstAt, isNeed
 use Rattle.member_laws.specs.Numbered.{both-tests, any-numbered, numbered-any, numbered-place, numbered-once}
 use Rattle.member_laws.specs.Inside.{IsLevel, level-once, level-good, level-around, EachLevel, each-level, AnyLevel, IsSame, IsAround, levels-are}
 use Rattle.member_laws.specs.Around.{memberAt, isHolder, NumberedAt, held, member-group, member-small, member-begun, chain-kept, chain-none, any-holder}
-use Rattle.member_laws.specs.Sets.{anyOwn, own-range, own-group, member-own, begun-fine, fine-begun, holds-outward, among-outward, own-above, holder-above}
+use Rattle.member_laws.specs.Sets.{First, first-of, short-none, anyOwn, own-range, own-group, member-own, begun-fine, fine-begun, holds-outward, among-outward, own-above, holder-above}
 use Rattle.member_bits.specs.declared.Bits.{Bits}
 use Rattle.member_bits.specs.Having.{Has}
-use Rattle.and_groups.specs.Takes.{Follows}
-use Rattle.and_groups.specs.Walks.{bad, IsFull, IsLeft, Pair, Comes}
-use Rattle.and_groups.specs.Entering.{First, first-of}
+use Rattle.and_next.specs.Follows.{Follows}
+use Rattle.and_next.specs.Forbidding.{bad, IsFull, IsLeft, Pair, Comes}
 
 -- One group that has both
 
@@ -469,3 +469,10 @@ module _ (M begun : List ℕ) (level e u p h i : ℕ) (at-h : h ≡ holderAt M e
 
     pub follows-beside : 96 < i → Follows M level e u p begun true
     follows-beside z g numbered guarded told taken stands has-u has-p = absurd (omega (arith, holder-few M e p i at-i g told has-p))
+
+-- A table that is not whole tells no group.
+pub follows-short : (M : List ℕ) (level e u p : ℕ) (begun : List ℕ) → length M < MEMBERS → Follows M level e u p begun true
+follows-short M level e zero p begun short g numbered guarded told taken stands has-u has-p = refl
+follows-short M level e (suc v) p begun short g numbered guarded told taken stands has-u has-p =
+    let here = has-u (omega arith) in
+    ap (λ (ls : List Level). mayIn (groupsOf ls) (suc v) (mem taken) p) (sym (short-none M e g short told (suc v) here)) ∙ ap (λ (ms : List Members). mayIn ms (suc v) (mem taken) p) (levels-around g 0 (suc v))
