@@ -12,6 +12,16 @@ use Rattle.attribute_definitions.specs.Ways.{parenthesis-in, value-refus
 use Rattle.attribute_definitions.proofs.value_at.Statement.{statement}
 use Rattle.attribute_definitions.proofs.value_at.Tie as tie
 
+-- The points that the needs go back to.
+abbrev at-start : (c : tie.Then1) → tie.Start
+at-start c = c .before .before .before
+
+abbrev at-start-2 : (c : tie.After-is-letter) → tie.Start
+at-start-2 c = c .before .before .before .before
+
+abbrev at-then1 : (c : tie.After-group-at) → tie.Then1
+at-then1 c = c .before .before
+
 byte-requires : tie.Need-byte-requires
 byte-requires c κs = search needs
 
@@ -31,17 +41,19 @@ fault-of-requires c κs = search needs
 
 returns : tie.Need-returns
 returns c =
-    let a = c .before .before .before .before .before .before .before .before .args in
+    let then1 = at-then1 (c .before .before .before) in
+    let a = at-start then1 .args in
     let o = a .long in
     let ts = partsOf (a .seen .now) (a .m) in
-    (value-refused o (a .s .now) ts (a .i) (sym (c .before .before .before .before .before .before .byte .ensures) ∙ c .before .before .before .before .before .if1 .taken) (group-refused _ _ ts _ _ (c .before .before .before .group-at .ensures .0) (c .before .enum-told .given .1) (c .fault-of .ensures)), tt)
+    (value-refused o (a .s .now) ts (a .i) (sym (then1 .before .byte .ensures) ∙ then1 .if1 .taken) (group-refused _ _ ts _ _ (c .before .before .before .group-at .ensures .0) (c .before .enum-told .given .1) (c .fault-of .ensures)), tt)
 
 returns-2 : tie.Need-returns-2
 returns-2 c =
-    let a = c .before .before .before .before .before .before .before .before .args in
+    let then1 = at-then1 (c .before .before .before) in
+    let a = at-start then1 .args in
     let o = a .long in
     let ts = partsOf (a .seen .now) (a .m) in (
-      value-group o (a .s .now) ts (a .i) (sym (c .before .before .before .before .before .before .byte .ensures) ∙ c .before .before .before .before .before .if1 .taken) _ (a .m) _ _ (omega arith) (group-got _ _ ts _ _ (c .before .before .before .group-at .ensures .0) (c .before .g .given .1)),
+      value-group o (a .s .now) ts (a .i) (sym (then1 .before .byte .ensures) ∙ then1 .if1 .taken) _ (a .m) _ _ (omega arith) (group-got _ _ ts _ _ (c .before .before .before .group-at .ensures .0) (c .before .g .given .1)),
       omega (arith, group-within (c .before .before .before .group-at .ensures .1) (c .before .g .given .1)),
     )
 
@@ -53,7 +65,7 @@ word-at-requires c κs = search needs
 
 returns-3 : tie.Need-returns-3
 returns-3 c =
-    let a = c .before .before .before .before .before .before .args in
+    let a = at-start-2 (c .before .before) .args in
     let o = a .long in
     let ts = partsOf (a .seen .now) (a .m) in (
       word-meets o (a .s .now) (a .seen .now) (a .m) (a .i) (c .word-at .result) (value-word o (a .s .now) ts (a .i) (λ e. c .before .before .before .if1 .left (c .before .before .before .before .byte .ensures ∙ e)) (tested letter (c .before .before .before .before .byte .ensures) (c .before .before .is-letter .ensures) (c .before .if2 .taken))) (c .word-at .ensures .0) (c .word-at .ensures .1),
@@ -65,7 +77,7 @@ unfit-at-requires c κs = search needs
 
 returns-4 : tie.Need-returns-4
 returns-4 c =
-    let a = c .before .before .before .before .before .before .args in
+    let a = at-start-2 (c .before .before) .args in
     let o = a .long in
     let ts = partsOf (a .seen .now) (a .m) in
     (value-none o (a .s .now) ts (a .i) (λ e. c .before .before .before .if1 .left (c .before .before .before .before .byte .ensures ∙ e)) (tested letter (c .before .before .before .before .byte .ensures) (c .before .before .is-letter .ensures) (c .before .if2 .left)) ∙ sym (unfit-is (a .s .now) (a .i)) ∙ ap refusalOf (sym (c .unfit-at .ensures)), tt)

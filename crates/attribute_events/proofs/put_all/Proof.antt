@@ -14,6 +14,13 @@ Inv-loop lists marks e n numbers₀ bytes₀ count m₀ k₀ numbers bytes m k =
 abbrev μ-loop : tie.MeasureT-loop
 μ-loop lists marks e n numbers₀ bytes₀ count m₀ k₀ numbers bytes m k = count - k
 
+-- The points that the needs go back to.
+abbrev at-loop-turn : (c : tie.After-short2 Inv-loop μ-loop) → tie.In-loop Inv-loop μ-loop
+at-loop-turn c = c .before .before .before .before
+
+abbrev at-short2 : (c : tie.After-numbers Inv-loop μ-loop) → tie.After-short2 Inv-loop μ-loop
+at-short2 c = c .before .before .before .before
+
 count-requires : tie.Need-count-requires Inv-loop μ-loop
 count-requires c κs = omega arith
 
@@ -48,7 +55,9 @@ short-requires-2 : tie.Need-short-requires-2 Inv-loop μ-loop
 short-requires-2 c κs = search needs
 
 put-one-requires : tie.Need-put-one-requires Inv-loop μ-loop
-put-one-requires c κs = (holds-some _ _ (c .before .before .before .before .before .before .before .before .count .ensures .2) (c .before .before .before .before .before .before .loop-test .taken), omega arith, omega arith, omega arith, omega arith, omega (arith, c .before .before .before .before .before .before .before .loop .inv .2 .few .counted, c .before .before .before .before .before .before .before .loop .inv .2 .few .few))
+put-one-requires c κs =
+    let loop-turn = at-loop-turn (c .before .before) in
+    (holds-some _ _ (loop-turn .before .before .count .ensures .2) (loop-turn .loop-test .taken), omega arith, omega arith, omega arith, omega arith, omega (arith, loop-turn .before .loop .inv .2 .few .counted, loop-turn .before .loop .inv .2 .few .few))
 
 add-k : tie.Need-add-k Inv-loop μ-loop
 add-k c = omega arith
@@ -57,7 +66,10 @@ loop-less : tie.Need-loop-less Inv-loop μ-loop
 loop-less c = omega arith
 
 loop-again : tie.Need-loop-again Inv-loop μ-loop
-loop-again c = (omega arith, omega arith, first-more _ _ _ _ _ _ _ (holds-some _ _ (c .before .before .before .before .before .before .before .before .before .before .before .before .before .count .ensures .2) (c .before .before .before .before .before .before .before .before .before .before .before .loop-test .taken)) (c .before .before .before .before .before .before .before .before .before .short .ensures .0) (c .before .before .before .before .before .before .before .short2 .ensures .0) (c .before .before .before .before .before .before .before .before .before .before .before .before .loop .inv .2) (c .before .before .before .before .put-one .ensures))
+loop-again c =
+    let short2 = at-short2 (c .before .before .before) in
+    let loop-turn = at-loop-turn short2 in
+    (omega arith, omega arith, first-more _ _ _ _ _ _ _ (holds-some _ _ (loop-turn .before .before .count .ensures .2) (loop-turn .loop-test .taken)) (short2 .before .before .short .ensures .0) (short2 .short2 .ensures .0) (loop-turn .before .loop .inv .2) (c .before .before .before .before .put-one .ensures))
 
 same-length : tie.Need-same-length Inv-loop μ-loop
 same-length c = c .before .loop .inv .2 .few .puts .numbers-kept

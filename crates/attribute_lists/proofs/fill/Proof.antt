@@ -15,6 +15,13 @@ Inv-loop long s heads n lists₀ k₀ lists k = (k ≤ n) × Fills long s heads 
 abbrev μ-loop : tie.MeasureT-loop
 μ-loop long s heads n lists₀ k₀ lists k = n - k
 
+-- The points that the needs go back to.
+abbrev at-start : (c : tie.In-loop Inv-loop μ-loop) → tie.Start Inv-loop μ-loop
+at-start c = c .before .before .before .before
+
+abbrev at-loop-turn : (c : tie.After-read-again Inv-loop μ-loop) → tie.In-loop Inv-loop μ-loop
+at-loop-turn c = c .before .before .before .before
+
 loop-holds : tie.Need-loop-holds Inv-loop μ-loop
 loop-holds c = (omega arith, fills-none (c .before .before .args .long) (c .before .before .args .s .now) (c .before .before .args .heads .now) (c .before .before .pre .2))
 
@@ -28,7 +35,10 @@ short-requires : tie.Need-short-requires Inv-loop μ-loop
 short-requires c κs = search needs
 
 read-again-requires : tie.Need-read-again-requires Inv-loop μ-loop
-read-again-requires c κs = omega (arith, c .before .before .before .before .before .before .before .pre, c .before .before .before .loop-test .taken, fills-long (c .before .before .before .before .before .before .before .args .long) (c .before .before .before .before .before .before .before .args .s .now) (c .before .before .before .before .before .before .before .args .heads .now) (c .before .before .before .before .loop .inv .1))
+read-again-requires c κs =
+    let loop-turn = c .before .before .before in
+    let start = at-start loop-turn in
+    omega (arith, start .pre, loop-turn .loop-test .taken, fills-long (start .args .long) (start .args .s .now) (start .args .heads .now) (loop-turn .before .loop .inv .1))
 
 add-k : tie.Need-add-k Inv-loop μ-loop
 add-k c = omega arith
@@ -38,8 +48,10 @@ loop-less c = omega arith
 
 loop-again : tie.Need-loop-again Inv-loop μ-loop
 loop-again c =
-    let a = c .before .before .before .before .before .before .before .before .before .before .args in
-    (omega arith, fills-turn (a .long) (a .s .now) (a .heads .now) (omega (arith, c .before .before .before .before .before .before .before .before .before .before .pre, c .before .before .before .before .before .before .loop-test .taken)) (c .before .before .before .before .before .before .before .loop .inv .1) (c .before .before .before .before .short .ensures .0) (c .before .before .read-again .ensures))
+    let loop-turn = at-loop-turn (c .before .before) in
+    let start = at-start loop-turn in
+    let a = start .args in
+    (omega arith, fills-turn (a .long) (a .s .now) (a .heads .now) (omega (arith, start .pre, loop-turn .loop-test .taken)) (loop-turn .before .loop .inv .1) (c .before .before .before .before .short .ensures .0) (c .before .before .read-again .ensures))
 
 same-length : tie.Need-same-length Inv-loop μ-loop
 same-length c = fills-long (c .before .before .before .before .args .long) (c .before .before .before .before .args .s .now) (c .before .before .before .before .args .heads .now) (c .before .loop .inv .1) ∙ sym (ap length (c .before .before .before .before .pre .2) ∙ length-replicate {A = ℕ} LISTS 0)

@@ -5,6 +5,10 @@ use Rattle.attribute_lists.specs.Lookup.{other-size, same-size}
 use Rattle.attribute_lists.proofs.is_same.Statement.{statement}
 use Rattle.attribute_lists.proofs.is_same.Tie as tie
 
+-- The points that the needs go back to.
+abbrev at-start : (c : tie.After-widened) → tie.Start
+at-start c = c .before .before .before
+
 mul-widened : tie.Need-mul-widened
 mul-widened c = search needs
 
@@ -42,7 +46,7 @@ same-text-requires c κs = search needs
 
 returns-2 : tie.Need-returns-2
 returns-2 c =
-    let a = c .before .before .before .before .before .before .before .args in
+    let a = at-start (c .before .before .before .before) .args in
     same-size (a .s .now) (a .elements .now) (a .k) (a .at) (a .size) _ (c .before .before .before .before .widened .ensures .0) (c .before .before .before .if1 .left) _ (c .before .widened2 .ensures .0) (c .same-text .ensures)
 
 pub is-same-spec : {M : Type 1} → statement M

@@ -8,6 +8,19 @@ use borrow.Author.Needs.{needs}
 use Rattle.attribute_records.proofs.list_to_bytes.Statement.{statement}
 use Rattle.attribute_records.proofs.list_to_bytes.Tie as tie
 
+-- The points that the needs go back to.
+abbrev at-start-2 : (c : tie.After-none) → tie.Start
+at-start-2 c = c .before .before .before
+
+abbrev at-start : (c : tie.After-decide) → tie.Start
+at-start c = at-start-2 (c .before .before)
+
+abbrev at-decide : (c : tie.At-match-keys1) → tie.After-decide
+at-decide c = c .before .before .before .before
+
+abbrev at-decide-2 : (c : tie.At-match-keys2) → tie.After-decide
+at-decide-2 c = c .before .before .before .before
+
 slice-aggregate-decide : tie.Need-slice-aggregate-decide
 slice-aggregate-decide c = search needs
 
@@ -22,8 +35,9 @@ same-length c = search needs
 
 returns : tie.Need-returns
 returns c =
-    let a = c .before .before .before .before .before .before .before .before .before .before .args in
-    let d = c .before .before .before .before .before .decide in
+    let decide = at-decide (c .before) in
+    let a = at-start decide .args in
+    let d = decide .decide in
     listed-accepts bytes (settingsOf (a .c)) (a .s .now) _ _ _ _ (d .result) (d .ensures) _ (c .enum-told .given .1)
 
 clear-bytes-requires : tie.Need-clear-bytes-requires
@@ -34,8 +48,9 @@ same-length-2 c = search needs
 
 returns-2 : tie.Need-returns-2
 returns-2 c =
-    let a = c .before .before .before .before .before .before .before .before .before .before .before .before .before .args in
-    let d = c .before .before .before .before .before .before .before .before .decide in
+    let decide = at-decide-2 (c .before .before .before .before) in
+    let a = at-start decide .args in
+    let d = decide .decide in
     listed-refuses bytes (settingsOf (a .c)) (a .s .now) _ _ _ _ (d .result) (d .ensures) _ (λ n e. ⊎-elim (λ z. omega arith) (λ z. omega arith) (rw e at (c .before .before .before .before .match .keys2))) (zeroed-kept (a .buffer .now) (d .last .1 .1 .1 .1 .0) (d .kept .1 .1 .1 .1 .0) (c .before .before .clear-bytes .ensures))
 
 pub list-to-bytes-spec : {M : Type 1} → statement M

@@ -5,6 +5,22 @@ use borrow.Author.Needs.{needs}
 use Rattle.attribute_records.proofs.listed.Statement.{statement}
 use Rattle.attribute_records.proofs.listed.Tie as tie
 
+-- The points that the needs go back to.
+abbrev at-start-2 : (c : tie.After-lists) → tie.Start
+at-start-2 c = c .before .before .before .before
+
+abbrev at-start : (c : tie.After-fill) → tie.Start
+at-start c = at-start-2 (c .before)
+
+abbrev at-fill-2 : (c : tie.After-lists3) → tie.After-fill
+at-fill-2 c = c .before .before
+
+abbrev at-fill : (c : tie.After-put-lists) → tie.After-fill
+at-fill c = at-fill-2 (c .before .before .before)
+
+abbrev at-put-lists : (c : tie.After-bytes) → tie.After-put-lists
+at-put-lists c = c .before .before .before
+
 slice-aggregate-fill : tie.Need-slice-aggregate-fill
 slice-aggregate-fill c = search needs
 
@@ -28,8 +44,10 @@ same-length-2 c = search needs
 
 returns : tie.Need-returns
 returns c =
-    let a = c .before .before .before .before .before .before .before .before .before .before .before .before .before .before .before .args in
-    listed-full (a .long) (a .s .now) (a .heads .now) _ (a .n) (c .before .before .before .before .before .before .before .before .before .before .fill .ensures) _ _ _ _ (c .before .before .before .before .before .put-lists .ensures .0) (a .room) (omega arith)
+    let put-lists = at-put-lists (c .before .before) in
+    let fill = at-fill put-lists in
+    let a = at-start fill .args in
+    listed-full (a .long) (a .s .now) (a .heads .now) _ (a .n) (fill .fill .ensures) _ _ _ _ (put-lists .put-lists .ensures .0) (a .room) (omega arith)
 
 same-length-3 : tie.Need-same-length-3
 same-length-3 c = search needs
@@ -39,8 +57,10 @@ same-length-4 c = search needs
 
 returns-2 : tie.Need-returns-2
 returns-2 c =
-    let a = c .before .before .before .before .before .before .before .before .before .before .before .before .before .before .before .args in
-    listed-put (a .long) (a .s .now) (a .heads .now) _ (a .n) (c .before .before .before .before .before .before .before .before .before .before .fill .ensures) _ _ _ _ (c .before .before .before .before .before .put-lists .ensures .0) (a .room) (omega arith)
+    let put-lists = at-put-lists (c .before .before) in
+    let fill = at-fill put-lists in
+    let a = at-start fill .args in
+    listed-put (a .long) (a .s .now) (a .heads .now) _ (a .n) (fill .fill .ensures) _ _ _ _ (put-lists .put-lists .ensures .0) (a .room) (omega arith)
 
 pub listed-spec : {M : Type 1} → statement M
 listed-spec =

@@ -5,6 +5,10 @@ use borrow.Author.Needs.{needs}
 use Rattle.attribute_records.proofs.note_bytes.Statement.{statement}
 use Rattle.attribute_records.proofs.note_bytes.Tie as tie
 
+-- The points that the needs go back to.
+abbrev at-start : (c : tie.After-put-bytes-arg) → tie.Start
+at-start c = c .before .before .before .before
+
 mul-if1 : tie.Need-mul-if1
 mul-if1 c = search needs
 
@@ -27,7 +31,7 @@ same-length : tie.Need-same-length
 same-length c = search needs
 
 returns : tie.Need-returns
-returns c = part-bytes _ _ _ (c .before .before .before .before .before .before .before .pre .1) (omega arith) (c .before .before .put-bytes .ensures)
+returns c = part-bytes _ _ _ (at-start (c .before .before .before) .pre .1) (omega arith) (c .before .before .put-bytes .ensures)
 
 returns-2 : tie.Need-returns-2
 returns-2 c = bytes-outside _ _ _ (c .before .before .before .pre .1) (omega arith)

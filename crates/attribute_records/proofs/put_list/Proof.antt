@@ -11,6 +11,10 @@ Inv-loop lists e n numbers₀ bytes₀ count a₀ numbers bytes a = ListSoFar li
 abbrev μ-loop : tie.MeasureT-loop
 μ-loop lists e n numbers₀ bytes₀ count a₀ numbers bytes a = count - a
 
+-- The points that the needs go back to.
+abbrev at-attribute : (c : tie.After-numbers Inv-loop μ-loop) → tie.After-attribute Inv-loop μ-loop
+at-attribute c = c .before .before .before .before
+
 count-requires : tie.Need-count-requires Inv-loop μ-loop
 count-requires c κs = omega arith
 
@@ -36,7 +40,9 @@ loop-less : tie.Need-loop-less Inv-loop μ-loop
 loop-less c = omega arith
 
 loop-again : tie.Need-loop-again Inv-loop μ-loop
-loop-again c = (list-turn _ _ _ _ _ (c .before .before .before .before .before .before .before .before .before .loop .inv .0) (c .before .before .before .before .before .before .before .attribute .result) (c .before .before .before .before .before .before .before .attribute .ensures .0) (c .before .before .before .before .put-record .ensures), omega arith)
+loop-again c =
+    let attribute = at-attribute (c .before .before .before) in
+    (list-turn _ _ _ _ _ (attribute .before .before .loop .inv .0) (attribute .attribute .result) (attribute .attribute .ensures .0) (c .before .before .before .before .put-record .ensures), omega arith)
 
 add-result : tie.Need-add-result Inv-loop μ-loop
 add-result c = omega arith

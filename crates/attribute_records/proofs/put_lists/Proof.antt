@@ -12,6 +12,10 @@ Inv-loop lists n numbers₀ bytes₀ m₀ k₀ numbers bytes m k = ListsSoFar li
 abbrev μ-loop : tie.MeasureT-loop
 μ-loop lists n numbers₀ bytes₀ m₀ k₀ numbers bytes m k = n - k
 
+-- The points that the needs go back to.
+abbrev at-loop : (c : tie.After-put-list Inv-loop μ-loop) → tie.At-loop Inv-loop μ-loop
+at-loop c = c .before .before .before .before
+
 loop-holds : tie.Need-loop-holds Inv-loop μ-loop
 loop-holds c = (lists-first _ _ _, omega arith, omega arith)
 
@@ -28,7 +32,7 @@ loop-less : tie.Need-loop-less Inv-loop μ-loop
 loop-less c = omega arith
 
 loop-again : tie.Need-loop-again Inv-loop μ-loop
-loop-again c = (lists-turn _ _ _ (c .before .before .before .before .before .before .before .before .loop .inv .0) (c .before .before .before .before .put-list .kept .1 .1 .1 .0) (c .before .before .before .before .put-list .kept .1 .1 .1 .1 .0) (c .before .before .before .before .put-list .ensures .0), omega arith, omega arith)
+loop-again c = (lists-turn _ _ _ (at-loop (c .before .before .before .before) .loop .inv .0) (c .before .before .before .before .put-list .kept .1 .1 .1 .0) (c .before .before .before .before .put-list .kept .1 .1 .1 .1 .0) (c .before .before .before .before .put-list .ensures .0), omega arith, omega arith)
 
 same-length : tie.Need-same-length Inv-loop μ-loop
 same-length c = c .before .loop .inv .0 .numbers-kept

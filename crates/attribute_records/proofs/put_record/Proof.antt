@@ -4,6 +4,10 @@ use borrow.Author.Needs.{needs}
 use Rattle.attribute_records.proofs.put_record.Statement.{statement}
 use Rattle.attribute_records.proofs.put_record.Tie as tie
 
+-- The points that the needs go back to.
+abbrev at-note-numbers : (c : tie.After-row2) → tie.After-note-numbers
+at-note-numbers c = c .before .before .before .before
+
 row-numbers-requires : tie.Need-row-numbers-requires
 row-numbers-requires c κs = search needs
 
@@ -32,7 +36,9 @@ same-length-2 : tie.Need-same-length-2
 same-length-2 c = search needs
 
 returns : tie.Need-returns
-returns c = puts-record _ _ _ _ (c .before .before .before .before .before .before .before .before .before .before .row-numbers .ensures) (c .before .before .before .before .before .before .before .note-numbers .ensures) (c .before .before .note-bytes .ensures)
+returns c =
+    let note-numbers = at-note-numbers (c .before .before .before) in
+    puts-record _ _ _ _ (note-numbers .before .before .before .row-numbers .ensures) (note-numbers .note-numbers .ensures) (c .before .before .note-bytes .ensures)
 
 pub put-record-spec : {M : Type 1} → statement M
 put-record-spec =

@@ -8,12 +8,31 @@ use borrow.Author.Needs.{needs}
 use Rattle.document_reader.proofs.answered.Statement.{statement}
 use Rattle.document_reader.proofs.answered.Tie as tie
 
+-- The points that the needs go back to.
+abbrev at-start-2 : (c : tie.After-elements) → tie.Start
+at-start-2 c = c .before .before .before .before
+
+abbrev at-start-3 : (c : tie.After-judged) → tie.Start
+at-start-3 c = at-start-2 (c .before .before)
+
+abbrev at-start : (c : tie.After-known-told) → tie.Start
+at-start c = at-start-3 (c .before .before .before)
+
+abbrev at-known-told : (c : tie.After-read-under) → tie.After-known-told
+at-known-told c = c .before .before .before .before
+
+abbrev at-read-under : (c : tie.After-r) → tie.After-read-under
+at-read-under c = c .before .before .before .before
+
+abbrev at-read-under-2 : (c : tie.After-r2) → tie.After-read-under
+at-read-under-2 c = c .before .before .before .before
+
 -- The type is accepted.
 accepted : (c : tie.After-known-told) →
-    let a = c .before .before .before .before .before .before .before .before .before .args in
+    let a = at-start c .args in
     Judges (settingsOf (a .c)) (a .s .now) (a .d .now) (c .before .before .before .judged .last .1 .1 .1 .0) (c .before .before .before .judged .last .1 .1 .1 .1 .0) (Accepted (c .before .v .given .0 .0))
 accepted c =
-    let a = c .before .before .before .before .before .before .before .before .before .args in
+    let a = at-start c .args in
     subst (Judges (settingsOf (a .c)) (a .s .now) (a .d .now) (c .before .before .before .judged .last .1 .1 .1 .0) (c .before .before .before .judged .last .1 .1 .1 .1 .0)) (c .before .v .given .1) (c .before .before .before .judged .ensures)
 
 judged-requires : tie.Need-judged-requires
@@ -43,18 +62,20 @@ same-length c = search needs
 
 returns-2 : tie.Need-returns-2
 returns-2 c =
-    let (b, t) = accepted (c .before .before .before .before .before .before .before .before .before) in
-    let (es, a, h) = c .before .before .before .before .before .read-under .ensures in
-    answers-events _ _ _ _ _ _ _ es b a (c .before .before .before .before .before .read-under .result) h _ (c .before .r .given .1)
+    let read-under = at-read-under (c .before) in
+    let (b, t) = accepted (at-known-told read-under) in
+    let (es, a, h) = read-under .read-under .ensures in
+    answers-events _ _ _ _ _ _ _ es b a (read-under .read-under .result) h _ (c .before .r .given .1)
 
 same-length-2 : tie.Need-same-length-2
 same-length-2 c = search needs
 
 returns-3 : tie.Need-returns-3
 returns-3 c =
-    let (b, t) = accepted (c .before .before .before .before .before .before .before .before .before) in
-    let (es, a, h) = c .before .before .before .before .before .read-under .ensures in
-    answers-unsettled _ _ _ _ _ _ _ es b a (c .before .before .before .before .before .read-under .result) h _ (c .before .r2 .given .1)
+    let read-under = at-read-under-2 (c .before) in
+    let (b, t) = accepted (at-known-told read-under) in
+    let (es, a, h) = read-under .read-under .ensures in
+    answers-unsettled _ _ _ _ _ _ _ es b a (read-under .read-under .result) h _ (c .before .r2 .given .1)
 
 pub answered-spec : {M : Type 1} → statement M
 answered-spec =

@@ -4,6 +4,13 @@ use borrow.Author.Needs.{needs}
 use Rattle.document_reader.proofs.follow.Statement.{statement}
 use Rattle.document_reader.proofs.follow.Tie as tie
 
+-- The points that the needs go back to.
+abbrev at-start-2 : (c : tie.After-shared-slice-known4) → tie.Start
+at-start-2 c = c .before .before .before .before
+
+abbrev at-start : (c : tie.After-none) → tie.Start
+at-start c = at-start-2 (c .before .before .before .before)
+
 class-table-requires : tie.Need-class-table-requires
 class-table-requires c κs = search needs
 
@@ -12,7 +19,7 @@ slice-aggregate-events-of c = search needs
 
 events-of-requires : tie.Need-events-of-requires
 events-of-requires c κs =
-    let pre = c .before .before .before .before .before .before .before .before .before .pre in
+    let pre = at-start (c .before) .pre in
     (c .before .before .before .class-table .ensures, pre .0, pre .1, pre .2)
 
 same-length : tie.Need-same-length

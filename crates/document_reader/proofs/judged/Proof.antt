@@ -6,6 +6,10 @@ use borrow.Author.Needs.{needs}
 use Rattle.document_reader.proofs.judged.Statement.{statement}
 use Rattle.document_reader.proofs.judged.Tie as tie
 
+-- The points that the needs go back to.
+abbrev at-start : (c : tie.After-judged-arg2) → tie.Start
+at-start c = c .before .before .before .before
+
 judged-requires : tie.Need-judged-requires
 judged-requires c κs = c .before .before .before .before .pre
 
@@ -26,10 +30,10 @@ enum-known-o-4 c = search needs
 
 -- The document in its order with the type.
 ordered : (c : tie.After-in-order) →
-    let a = c .before .before .before .before .before .before .args in
+    let a = at-start (c .before .before) .args in
     OrderedAs (settingsOf (a .c)) (a .s .now) (a .d .now) (c .before .judged .result) (c .in-order .result)
 ordered c =
-    let a = c .before .before .before .before .before .before .args in
+    let a = at-start (c .before .before) .args in
     c .in-order .ensures (settingsOf (a .c)) (a .s .now) (c .before .judged .last .1 .1 .0) (c .before .judged .last .1 .1 .1 .0) (c .before .judged .ensures)
 
 returns : tie.Need-returns

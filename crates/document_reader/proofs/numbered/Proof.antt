@@ -9,12 +9,43 @@ use borrow.Author.Needs.{needs}
 use Rattle.document_reader.proofs.numbered.Statement.{statement}
 use Rattle.document_reader.proofs.numbered.Tie as tie
 
+-- The points that the needs go back to.
+abbrev at-start-2 : (c : tie.After-elements) → tie.Start
+at-start-2 c = c .before .before .before .before
+
+abbrev at-start-3 : (c : tie.After-judged) → tie.Start
+at-start-3 c = at-start-2 (c .before .before)
+
+abbrev at-start : (c : tie.After-known-told) → tie.Start
+at-start c = at-start-3 (c .before .before .before)
+
+abbrev at-known-told-2 : (c : tie.After-index) → tie.After-known-told
+at-known-told-2 c = c .before .before .before .before
+
+abbrev at-known-told-3 : (c : tie.After-members) → tie.After-known-told
+at-known-told-3 c = at-known-told-2 (c .before .before .before .before)
+
+abbrev at-known-told : (c : tie.After-class-table) → tie.After-known-told
+at-known-told c = at-known-told-3 (c .before .before .before .before)
+
+abbrev at-class-table-3 : (c : tie.After-places2) → tie.After-class-table
+at-class-table-3 c = c .before .before .before .before
+
+abbrev at-class-table-2 : (c : tie.After-classes) → tie.After-class-table
+at-class-table-2 c = at-class-table-3 (c .before .before .before .before)
+
+abbrev at-class-table : (c : tie.After-events-of) → tie.After-class-table
+at-class-table c = at-class-table-2 (c .before .before .before)
+
+abbrev at-events-of : (c : tie.After-none2) → tie.After-events-of
+at-events-of c = c .before .before .before
+
 -- The type is accepted.
 accepted : (c : tie.After-known-told) →
-    let a = c .before .before .before .before .before .before .before .before .before .args in
+    let a = at-start c .args in
     Judges (settingsOf (a .c)) (a .s .now) (a .d .now) (c .before .before .before .judged .last .1 .1 .1 .0) (c .before .before .before .judged .last .1 .1 .1 .1 .0) (Accepted (c .before .v .given .0 .0))
 accepted c =
-    let a = c .before .before .before .before .before .before .before .before .before .args in
+    let a = at-start c .args in
     subst (Judges (settingsOf (a .c)) (a .s .now) (a .d .now) (c .before .before .before .judged .last .1 .1 .1 .0) (c .before .before .before .judged .last .1 .1 .1 .1 .0)) (c .before .v .given .1) (c .before .before .before .judged .ensures)
 
 judged-requires : tie.Need-judged-requires
@@ -36,7 +67,7 @@ slice-aggregate-fill-2 c = search needs
 
 fill-requires : tie.Need-fill-requires
 fill-requires c κs =
-    let (b, t) = accepted (c .before .before .before .before .before .before .before .before) in
+    let (b, t) = accepted (at-known-told-2 (c .before .before .before .before)) in
     ((_, t), ((refl, refl, refl), (refl, refl, refl)))
 
 class-table-requires : tie.Need-class-table-requires
@@ -53,8 +84,9 @@ slice-aggregate-events-of-3 c = search needs
 
 events-of-requires : tie.Need-events-of-requires
 events-of-requires c κs =
-    let (b, t) = accepted (c .before .before .before .before .before .before .before .before .before .before .before .before .before .before .before .before .before .before .before .before .before .before) in
-    (c .before .before .before .before .before .before .before .before .before .before .class-table .ensures, offered-range _ (b .type .offered) .1, b .short, b .type .short)
+    let class-table = at-class-table-2 (c .before .before) in
+    let (b, t) = accepted (at-known-told class-table) in
+    (class-table .class-table .ensures, offered-range _ (b .type .offered) .1, b .short, b .type .short)
 
 enum-known-r : tie.Need-enum-known-r
 enum-known-r c = search needs
@@ -67,20 +99,24 @@ same-length c = search needs
 
 returns-2 : tie.Need-returns-2
 returns-2 c =
-    let (b, t) = accepted (c .before .before .before .before .before .before .before .before .before .before .before .before .before .before .before .before .before .before .before .before .before .before .before .before .before .before .before .before .before) in
-    let (es, a, i, tables, l) = c .before .before .before .before .before .before .before .before .before .before .before .before .before .before .before .before .before .before .before .before .fill .ensures _ t in
-    let h = events-numbers _ _ es _ _ _ _ _ (c .before .before .before .before .before .before .events-of .result) (c .before .before .before .before .before .before .events-of .ensures es i tables l) in
-    answers-events _ _ _ _ _ _ _ es b a (c .before .before .before .before .before .before .events-of .result) h _ (c .before .r .given .1)
+    let events-of = at-events-of (c .before .before .before) in
+    let class-table = at-class-table events-of in
+    let (b, t) = accepted (at-known-told class-table) in
+    let (es, a, i, tables, l) = class-table .before .before .before .fill .ensures _ t in
+    let h = events-numbers _ _ es _ _ _ _ _ (events-of .events-of .result) (events-of .events-of .ensures es i tables l) in
+    answers-events _ _ _ _ _ _ _ es b a (events-of .events-of .result) h _ (c .before .r .given .1)
 
 same-length-2 : tie.Need-same-length-2
 same-length-2 c = search needs
 
 returns-3 : tie.Need-returns-3
 returns-3 c =
-    let (b, t) = accepted (c .before .before .before .before .before .before .before .before .before .before .before .before .before .before .before .before .before .before .before .before .before .before .before .before .before .before .before .before .before) in
-    let (es, a, i, tables, l) = c .before .before .before .before .before .before .before .before .before .before .before .before .before .before .before .before .before .before .before .before .fill .ensures _ t in
-    let h = events-numbers _ _ es _ _ _ _ _ (c .before .before .before .before .before .before .events-of .result) (c .before .before .before .before .before .before .events-of .ensures es i tables l) in
-    answers-unsettled _ _ _ _ _ _ _ es b a (c .before .before .before .before .before .before .events-of .result) h _ (c .before .r2 .given .1)
+    let events-of = at-events-of (c .before .before .before) in
+    let class-table = at-class-table events-of in
+    let (b, t) = accepted (at-known-told class-table) in
+    let (es, a, i, tables, l) = class-table .before .before .before .fill .ensures _ t in
+    let h = events-numbers _ _ es _ _ _ _ _ (events-of .events-of .result) (events-of .events-of .ensures es i tables l) in
+    answers-unsettled _ _ _ _ _ _ _ es b a (events-of .events-of .result) h _ (c .before .r2 .given .1)
 
 pub numbered-spec : {M : Type 1} → statement M
 numbered-spec =

@@ -8,6 +8,13 @@ use borrow.Author.Needs.{needs}
 use Rattle.document_reader.proofs.read_under.Statement.{statement}
 use Rattle.document_reader.proofs.read_under.Tie as tie
 
+-- The points that the needs go back to.
+abbrev at-start : (c : tie.After-has-any) → tie.Start
+at-start c = c .before .before .before .before
+
+abbrev at-start-2 : (c : tie.After-lists2) → tie.Start
+at-start-2 c = at-start (c .before .before .before .before)
+
 has-any-requires : tie.Need-has-any-requires
 has-any-requires c κs =
     let (es, a, k, w, h) = c .before .before .before .pre .0 in
@@ -18,7 +25,7 @@ slice-aggregate-fill c = search needs
 
 fill-requires : tie.Need-fill-requires
 fill-requires c κs =
-    let (es, a, k, w, h) = c .before .before .before .before .before .before .pre .0 in
+    let (es, a, k, w, h) = at-start (c .before .before) .pre .0 in
     (omega (arith, k, typeFile-count _ _ es (a .elements)), a .legible .short, refl)
 
 slice-aggregate-read-listed : tie.Need-slice-aggregate-read-listed
@@ -27,7 +34,7 @@ slice-aggregate-read-listed c = search needs
 read-listed-requires : tie.Need-read-listed-requires
 read-listed-requires c κs =
     let f = c .before .before .before .fill in
-    let pre = c .before .before .before .before .before .before .before .before .before .before .pre in
+    let pre = at-start-2 (c .before .before) .pre in
     let (es, a, k, w, h) = pre .0 in
     ((es, a, k, w, lists-filled h _ (λ ls g j l. f .ensures ls g j (omega (arith, k, l)))), pre .1)
 
@@ -42,7 +49,7 @@ slice-aggregate-read-listed-2 c = search needs
 
 read-listed-requires-2 : tie.Need-read-listed-requires-2
 read-listed-requires-2 c κs =
-    let pre = c .before .before .before .before .before .before .before .pre in
+    let pre = at-start (c .before .before .before) .pre in
     let (es, a, k, w, h) = pre .0 in
     let none = ap (anyIn _) k ∙ sym (c .before .before .before .has-any .ensures) ∙ c .before .before .if1 .left in
     ((es, a, k, w, lists-none h (typeFile-count _ _ es (a .elements) .1) none), pre .1)

@@ -7,6 +7,10 @@ use borrow.Author.Needs.{needs}
 use Rattle.document_reader.proofs.settled.Statement.{statement}
 use Rattle.document_reader.proofs.settled.Tie as tie
 
+-- The points that the needs go back to.
+abbrev at-refuses : (c : tie.After-buffer) → tie.After-refuses
+at-refuses c = c .before .before .before .before
+
 fitted-requires : tie.Need-fitted-requires
 fitted-requires c κs = search needs
 
@@ -21,9 +25,10 @@ same-length c = search needs
 
 returns : tie.Need-returns
 returns c settings s d before same h =
-    let a = c .before .before .before .before .before .before .before .before .args in
-    let g = sym (c .before .before .before .before .before .refuses .ensures) ∙ c .before .before .before .before .if1 .taken in
-    (read-refused Lent.bytes settings s d [] [] before (a .buffer .now) (a .a) (c .before .before .before .before .before .before .fitted .result) h same (c .before .before .before .before .before .before .fitted .ensures) _ g (c .before .before .clear-bytes .ensures), count-fits settings s d [] [] before (a .buffer .now) _ (a .a) h (c .before .before .before .before .before .before .fitted .ensures))
+    let refuses = at-refuses (c .before) in
+    let a = refuses .before .before .before .args in
+    let g = sym (refuses .refuses .ensures) ∙ c .before .before .before .before .if1 .taken in
+    (read-refused Lent.bytes settings s d [] [] before (a .buffer .now) (a .a) (refuses .before .fitted .result) h same (refuses .before .fitted .ensures) _ g (c .before .before .clear-bytes .ensures), count-fits settings s d [] [] before (a .buffer .now) _ (a .a) h (refuses .before .fitted .ensures))
 
 returns-2 : tie.Need-returns-2
 returns-2 c settings s d before same h =

@@ -5,6 +5,10 @@ use Rattle.element_index.specs.Seeking.{follows-falls, follows-over, fol
 use Rattle.element_index.proofs.comes_next.Statement.{statement}
 use Rattle.element_index.proofs.comes_next.Tie as tie
 
+-- The points that the needs go back to.
+abbrev at-start : (c : tie.After-struct-known2) → tie.Start
+at-start c = c .before .before .before
+
 returns : tie.Need-returns
 returns c =
     let a = c .before .before .before .before .args in
@@ -12,7 +16,7 @@ returns c =
 
 returns-2 : tie.Need-returns-2
 returns-2 c =
-    let a = c .before .before .before .before .before .before .args in
+    let a = at-start (c .before .before .before) .args in
     follows-over (a .s .now) (a .elements .now) (a .before .0) (a .k .0) (a .size) (omega arith) (omega arith)
 
 offset-requires : tie.Need-offset-requires
@@ -23,7 +27,7 @@ add-result c = search needs
 
 returns-3 : tie.Need-returns-3
 returns-3 c =
-    let a = c .before .before .before .before .before .before .before .args in
+    let a = at-start (c .before .before .before .before) .args in
     follows-by (a .s .now) (a .elements .now) (a .before .0) (a .k .0) (a .size) (omega arith) (omega arith) (c .offset .ensures .0)
 
 pub comes-next-spec : {M : Type 1} → statement M

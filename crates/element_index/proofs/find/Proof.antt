@@ -25,6 +25,19 @@ Inv-loop s elements index t at size first none before₀ k₀ n₀ before k n =
 abbrev μ-loop : tie.MeasureT-loop
 μ-loop s elements index t at size first none before₀ k₀ n₀ before k n = 64 - before .0
 
+-- The points that the needs go back to.
+abbrev at-start-3 : (c : tie.After-is-letter Inv-loop μ-loop) → tie.Start Inv-loop μ-loop
+at-start-3 c = c .before .before .before .before
+
+abbrev at-start : (c : tie.After-wide Inv-loop μ-loop) → tie.Start Inv-loop μ-loop
+at-start c = at-start-3 (c .before .before .before .before)
+
+abbrev at-start-2 : (c : tie.Then2 Inv-loop μ-loop) → tie.Start Inv-loop μ-loop
+at-start-2 c = at-start (c .before .before .before)
+
+abbrev at-then2 : (c : tie.After-same-name Inv-loop μ-loop) → tie.Then2 Inv-loop μ-loop
+at-then2 c = c .before .before
+
 byte-requires : tie.Need-byte-requires Inv-loop μ-loop
 byte-requires c κs = search needs
 
@@ -68,7 +81,7 @@ module _ (c : tie.Then2 Inv-loop μ-loop) where
   turn = c .before .before
 
   abbrev begun : tie.Start Inv-loop μ-loop
-  begun = turn .before .before .before .before .before .before .before .before .before
+  begun = at-start-2 c
 
   standing : (turn .loop .before .0 < turn .loop .k .0) × (turn .loop .k .0 ≤ 64) × (getD (begun .args .elements .now) (6 * (turn .loop .k .0 - 1)) 0 + begun .args .size ≤ length (begun .args .s .now))
   standing =
@@ -109,7 +122,7 @@ wide-requires-2 : tie.Need-wide-requires-2 Inv-loop μ-loop
 wide-requires-2 c κs = search needs
 
 loop-less : tie.Need-loop-less Inv-loop μ-loop
-loop-less c = let (risen, few, inside) = standing (c .before .before .before .before .before) in omega arith
+loop-less c = let (risen, few, inside) = standing (at-then2 (c .before .before .before)) in omega arith
 
 loop-again : tie.Need-loop-again Inv-loop μ-loop
 loop-again c =
@@ -128,7 +141,7 @@ loop-again c =
 returns-3 : tie.Need-returns-3 Inv-loop μ-loop
 returns-3 c =
     let turn = c .before .before in
-    let begun = turn .before .before .before .before .before .before .before .before .before in
+    let begun = at-start (turn .before) in
     let a = begun .args in
     let (few, to, first, seeks) = turn .loop .inv in
     (λ es x. seeks-end (a .t .now) (a .at) (a .size) x (begun .pre .0) first (seeks es x) (c .before .comes-next .ensures) (c .if2 .left), (omega arith, omega arith))

@@ -29,6 +29,10 @@ Inv-loop s a t b n i₀ i = fold (byteAt s a) ≡ fold (byteAt t b) → sameText
 abbrev μ-loop : tie.MeasureT-loop
 μ-loop s a t b n i₀ i = n - i
 
+-- The points that the needs go back to.
+abbrev at-loop-turn : (c : tie.After-folded Inv-loop μ-loop) → tie.In-loop Inv-loop μ-loop
+at-loop-turn c = c .before .before .before .before
+
 loop-holds : tie.Need-loop-holds Inv-loop μ-loop
 loop-holds c =
     let a = c .before .before .args in
@@ -54,7 +58,7 @@ folded-requires-2 c κs = search needs
 
 returns : tie.Need-returns Inv-loop μ-loop
 returns c =
-    let in-loop = c .before .before .before .before .before .before in
+    let in-loop = at-loop-turn (c .before .before) in
     let a = in-loop .before .before .before .before .args in
     let i = in-loop .before .loop .i in
     let other : fold (byteAt (a .s .now) (a .a + i)) ≡ fold (byteAt (a .t .now) (a .b + i)) → ⊥ = λ e. c .if2 .taken (omega (arith, c .before .before .folded .ensures, c .before .folded2 .ensures)) in

@@ -14,6 +14,13 @@ Inv-loop s lists e t at size n k₀ k = (k ≤ n) × (n ≤ ATTCNT) × NoneNamed
 abbrev μ-loop : tie.MeasureT-loop
 μ-loop s lists e t at size n k₀ k = n - k
 
+-- The points that the needs go back to.
+abbrev at-start : (c : tie.After-count Inv-loop μ-loop) → tie.Start Inv-loop μ-loop
+at-start c = c .before .before .before .before
+
+abbrev at-count : (c : tie.After-is-named Inv-loop μ-loop) → tie.After-count Inv-loop μ-loop
+at-count c = c .before .before .before .before
+
 count-requires : tie.Need-count-requires Inv-loop μ-loop
 count-requires c κs = omega arith
 
@@ -33,8 +40,9 @@ add-result c = omega arith
 
 returns : tie.Need-returns Inv-loop μ-loop
 returns c =
-    let a = c .before .before .before .before .before .before .before .before .before .args in (
-      λ o xs l. named-found (a .s .now) (a .t .now) (a .at) (a .size) _ _ o xs l _ _ _ (c .before .before .before .before .before .count .ensures .0 o (a .s .now) xs (omega arith) l) (omega arith) (c .before .before .before .before .loop .inv .2) (c .before .before .attribute .ensures .0) (c .before .is-named .ensures) (c .if1 .taken),
+    let count = at-count (c .before) in
+    let a = at-start count .args in (
+      λ o xs l. named-found (a .s .now) (a .t .now) (a .at) (a .size) _ _ o xs l _ _ _ (count .count .ensures .0 o (a .s .now) xs (omega arith) l) (omega arith) (c .before .before .before .before .loop .inv .2) (c .before .before .attribute .ensures .0) (c .before .is-named .ensures) (c .if1 .taken),
       omega (arith, c .before .before .before .before .loop .inv .1),
     )
 
@@ -46,12 +54,12 @@ loop-less c = omega arith
 
 loop-again : tie.Need-loop-again Inv-loop μ-loop
 loop-again c =
-    let a = c .before .before .before .before .before .before .before .before .before .args in
+    let a = at-start (at-count (c .before)) .args in
     (omega arith, omega arith, named-turn (a .s .now) (a .t .now) (a .at) (a .size) _ _ _ _ (c .before .before .before .before .loop .inv .2) (c .before .before .attribute .ensures .0) (c .before .is-named .ensures) (c .if1 .left))
 
 returns-2 : tie.Need-returns-2 Inv-loop μ-loop
 returns-2 c =
-    let a = c .before .before .before .before .before .before .args in
+    let a = at-start (c .before .before) .args in
     (λ o xs l. named-none (a .s .now) (a .t .now) (a .at) (a .size) _ _ o xs l _ _ (c .before .before .count .ensures .0 o (a .s .now) xs (omega arith) l) (c .before .loop .inv .0) (c .loop-test .left) (c .before .loop .inv .2), omega arith)
 
 pub find-spec : {M : Type 1} → statement M

@@ -5,6 +5,10 @@ use Rattle.list_table.specs.Finds.{list-put}
 use Rattle.list_table.proofs.put_attribute.Statement.{statement}
 use Rattle.list_table.proofs.put_attribute.Tie as tie
 
+-- The points that the needs go back to.
+abbrev at-whole : (c : tie.After-struct-known4) → tie.After-whole
+at-whole c = c .before .before .before .before
+
 whole-requires : tie.Need-whole-requires
 whole-requires c κs = search needs
 
@@ -82,8 +86,9 @@ element-write-list-6 c = search needs
 
 returns : tie.Need-returns
 returns c =
-    let a = c .before .before .before .before .before .before .before .args in
-    list-put (a .list .now) (a .k) (a .r) (c .before .before .before .before .before .whole .ensures) (omega arith)
+    let whole = at-whole (c .before) in
+    let a = whole .before .before .args in
+    list-put (a .list .now) (a .k) (a .r) (whole .whole .ensures) (omega arith)
 
 pub put-attribute-spec : {M : Type 1} → statement M
 put-attribute-spec =

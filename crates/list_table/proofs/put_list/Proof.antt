@@ -15,6 +15,10 @@ Inv-loop lists₀ k list from end i₀ lists i = (i ≤ end) × (end ≤ LIST) �
 abbrev μ-loop : tie.MeasureT-loop
 μ-loop lists₀ k list from end i₀ lists i = end - i
 
+-- The points that the needs go back to.
+abbrev at-start : (c : tie.After-whole Inv-loop μ-loop) → tie.Start Inv-loop μ-loop
+at-start c = c .before .before .before
+
 whole-requires : tie.Need-whole-requires Inv-loop μ-loop
 whole-requires c κs = search needs
 
@@ -62,7 +66,7 @@ same-length c = c .before .loop .inv .4 .long
 
 returns : tie.Need-returns Inv-loop μ-loop
 returns c =
-    let a = c .before .before .before .before .before .before .before .args in
+    let a = at-start (c .before .before .before .before) .args in
     copied (a .list .now) (LIST * a .k) (a .lists .now) (c .before .loop .lists) (c .before .loop .i) (c .before .before .count .result) (c .before .loop .inv .4) (omega (arith, c .before .loop .inv .0, c .before .loop .inv .1)) (omega (arith, c .loop-test .left))
     (λ o s xs l. c .before .before .count .ensures .0 o s xs (omega arith) l)
 

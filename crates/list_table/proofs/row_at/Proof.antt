@@ -4,6 +4,10 @@ use Rattle.list_table.specs.Finds.{row-is}
 use Rattle.list_table.proofs.row_at.Statement.{statement}
 use Rattle.list_table.proofs.row_at.Tie as tie
 
+-- The points that the needs go back to.
+abbrev at-start : (c : tie.After-number3) → tie.Start
+at-start c = c .before .before .before .before
+
 number-requires : tie.Need-number-requires
 number-requires c κs = search needs
 
@@ -33,7 +37,7 @@ number-requires-5 c κs = search needs
 
 returns : tie.Need-returns
 returns c =
-    let a = c .before .before .before .before .before .before .args in
+    let a = at-start (c .before .before) .args in
     let p = c .before .before .before .before .number .ensures in
     let q = c .before .before .before .number2 .ensures in
     let v = c .before .before .number3 .ensures in

@@ -13,6 +13,10 @@ use Rattle.sgml.specs.AnswersFit.{listed-fits}
 use Rattle.sgml.proofs.sgml_attributes.Statement.{statement}
 use Rattle.sgml.proofs.sgml_attributes.Tie as tie
 
+-- The points that the needs go back to.
+abbrev at-chosen : (c : tie.After-buffer) → tie.After-chosen
+at-chosen c = c .before .before .before
+
 chosen-requires : tie.Need-chosen-requires
 chosen-requires c κs = search needs
 
@@ -33,9 +37,10 @@ same-length c = c .before .before .before .list-to-bytes .kept .1 .1 .0
 
 returns : tie.Need-returns
 returns c =
-    let a = c .before .before .before .before .before .before .before .before .args in
+    let chosen = at-chosen (c .before .before) in
+    let a = chosen .before .before .before .args in
     let r = c .before .before .before .list-to-bytes in
-    let so = subst (λ (given : Settings). Lists bytes given (a .type-file .now) (a .buffer .now) (answerOf (r .result)) (r .last .1 .1 .0)) (c .before .before .before .before .before .chosen .ensures) (r .ensures) in
+    let so = subst (λ (given : Settings). Lists bytes given (a .type-file .now) (a .buffer .now) (answerOf (r .result)) (r .last .1 .1 .0)) (chosen .chosen .ensures) (r .ensures) in
     (answerOf (r .result), ap (λ (six : List ℕ). getD six 0 0) (c .numbers-of .ensures), c .numbers-of .ensures, so)
 
 pub sgml-attributes-spec : {M : Type 1} → statement M

@@ -13,6 +13,13 @@ use Rattle.answer_numbers.specs.Fits.{answer-fits}
 use Rattle.sgml.proofs.sgml_read.Statement.{statement}
 use Rattle.sgml.proofs.sgml_read.Tie as tie
 
+-- The points that the needs go back to.
+abbrev at-start : (c : tie.After-chosen) → tie.Start
+at-start c = c .before .before .before .before
+
+abbrev at-chosen : (c : tie.After-buffer) → tie.After-chosen
+at-chosen c = c .before .before .before
+
 chosen-requires : tie.Need-chosen-requires
 chosen-requires c κs = search needs
 
@@ -21,7 +28,7 @@ read-to-bytes-requires c κs = search needs
 
 numbers-read-requires : tie.Need-numbers-read-requires
 numbers-read-requires c κs =
-    let a = c .before .before .before .before .before .before .before .before .args in
+    let a = at-start (c .before .before .before .before) .args in
     let r = c .before .before .read-to-bytes in
     answer-fits bytes _ (a .type-file .now) (a .document .now) (a .buffer .now) (r .last .1 .1 .1 .0) (r .result) (r .ensures .0) (r .ensures .1)
 
@@ -33,9 +40,10 @@ same-length c = c .before .before .before .read-to-bytes .kept .1 .1 .1 .0
 
 returns : tie.Need-returns
 returns c =
-    let a = c .before .before .before .before .before .before .before .before .before .args in
+    let chosen = at-chosen (c .before .before) in
+    let a = at-start chosen .args in
     let r = c .before .before .before .read-to-bytes in
-    let so = subst (λ (given : Settings). ReadAs bytes given (a .type-file .now) (a .document .now) (a .buffer .now) (answerOf (r .result)) (r .last .1 .1 .1 .0)) (c .before .before .before .before .before .chosen .ensures) (r .ensures .0) in
+    let so = subst (λ (given : Settings). ReadAs bytes given (a .type-file .now) (a .document .now) (a .buffer .now) (answerOf (r .result)) (r .last .1 .1 .1 .0)) (chosen .chosen .ensures) (r .ensures .0) in
     (answerOf (r .result), ap (λ (six : List ℕ). getD six 0 0) (c .numbers-read .ensures), c .numbers-read .ensures, so)
 
 pub sgml-read-spec : {M : Type 1} → statement M

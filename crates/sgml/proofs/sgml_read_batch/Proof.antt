@@ -13,6 +13,19 @@ use Rattle.document_reader.specs.Answer.{answerOf}
 use Rattle.sgml.proofs.sgml_read_batch.Statement.{statement}
 use Rattle.sgml.proofs.sgml_read_batch.Tie as tie
 
+-- The points that the needs go back to.
+abbrev at-start-2 : (c : tie.After-shared-slice-known4) → tie.Start
+at-start-2 c = c .before .before .before .before
+
+abbrev at-start-3 : (c : tie.After-slice-known2) → tie.Start
+at-start-3 c = at-start-2 (c .before .before .before .before)
+
+abbrev at-start : (c : tie.After-read-batch) → tie.Start
+at-start c = at-start-3 (c .before .before .before .before)
+
+abbrev at-read-batch : (c : tie.After-answers) → tie.After-read-batch
+at-read-batch c = c .before .before .before
+
 chosen-requires : tie.Need-chosen-requires
 chosen-requires c κs = search needs
 
@@ -33,10 +46,11 @@ same-length-2 c = search needs
 
 returns : tie.Need-returns
 returns c =
-    let a = c .before .before .before .before .before .before .before .before .before .before .before .before .before .before .before .before .before .args in
-    let r = c .before .before .before .before .before .read-batch in
+    let read-batch = at-read-batch (c .before .before) in
+    let a = at-start read-batch .args in
+    let r = read-batch .read-batch in
     let b = batchOf (a .starts .now) (a .lengths .now) (a .froms .now) (a .sizes .now) in
-    let so = subst (λ (given : Settings). Batched bytes given (a .type-file .now) (a .string .now) b (a .buffer .now) (a .answers .now) (answerOf (r .result)) (r .last .1 .1 .1 .1 .1 .1 .1 .1 .0) (r .last .1 .1 .1 .1 .1 .1 .1 .0)) (c .before .before .before .before .before .before .before .before .chosen .ensures) (r .ensures .0) in
+    let so = subst (λ (given : Settings). Batched bytes given (a .type-file .now) (a .string .now) b (a .buffer .now) (a .answers .now) (answerOf (r .result)) (r .last .1 .1 .1 .1 .1 .1 .1 .1 .0) (r .last .1 .1 .1 .1 .1 .1 .1 .0)) (read-batch .before .before .before .chosen .ensures) (r .ensures .0) in
     (answerOf (r .result), ap (λ (six : List ℕ). getD six 0 0) (c .numbers-read .ensures), c .numbers-read .ensures, so)
 
 pub sgml-read-batch-spec : {M : Type 1} → statement M

@@ -16,6 +16,10 @@ Inv-loop froms sizes i₀ i = (i ≤ length froms) × AllApart froms sizes i tru
 abbrev μ-loop : tie.MeasureT-loop
 μ-loop froms sizes i₀ i = length froms - i
 
+-- The points that the needs go back to.
+abbrev at-start : (c : tie.At-loop Inv-loop μ-loop) → tie.Start Inv-loop μ-loop
+at-start c = c .before .before .before
+
 loop-holds : tie.Need-loop-holds Inv-loop μ-loop
 loop-holds c = (omega arith, λ i j k h. absurd (omega arith))
 
@@ -24,7 +28,7 @@ is-apart-requires c κs = (omega arith, omega arith)
 
 returns : tie.Need-returns Inv-loop μ-loop
 returns c =
-    let a = c .before .before .before .before .before .before .args in
+    let a = at-start (c .before .before .before) .args in
     let i = c .before .before .before .loop .i in
     let (j, k, h, e) = subst (ApartFrom (a .froms .now) (a .sizes .now) i i) (not-true (c .before .is-apart .result) (c .if1 .taken)) (c .before .is-apart .ensures) in
     (i, j, k, omega arith, h, e)
@@ -37,7 +41,7 @@ loop-less c = omega arith
 
 loop-again : tie.Need-loop-again Inv-loop μ-loop
 loop-again c =
-    let a = c .before .before .before .before .before .before .args in
+    let a = at-start (c .before .before .before) .args in
     let l = c .before .before .before .loop in
     let so = subst (ApartFrom (a .froms .now) (a .sizes .now) (l .i) (l .i)) (not-false (c .before .is-apart .result) (c .if1 .left)) (c .before .is-apart .ensures) in
     (omega arith, all-turn (a .froms .now) (a .sizes .now) (l .i) (l .inv .1) so)

@@ -16,6 +16,10 @@ Inv-loop froms sizes room i₀ i = (i ≤ length froms) × AllWithin froms sizes
 abbrev μ-loop : tie.MeasureT-loop
 μ-loop froms sizes room i₀ i = length froms - i
 
+-- The points that the needs go back to.
+abbrev at-loop : (c : tie.After-ends-within Inv-loop μ-loop) → tie.At-loop Inv-loop μ-loop
+at-loop c = c .before .before .before .before
+
 loop-holds : tie.Need-loop-holds Inv-loop μ-loop
 loop-holds c = (omega arith, λ i h. absurd (omega arith))
 
@@ -35,7 +39,7 @@ ends-within-requires : tie.Need-ends-within-requires Inv-loop μ-loop
 ends-within-requires c κs = tt
 
 returns : tie.Need-returns Inv-loop μ-loop
-returns c = (c .before .before .before .before .before .loop .i, omega arith, leb-false _ _ (sym (c .before .ends-within .ensures) ∙ not-true _ (c .if1 .taken)))
+returns c = (at-loop (c .before) .loop .i, omega arith, leb-false _ _ (sym (c .before .ends-within .ensures) ∙ not-true _ (c .if1 .taken)))
 
 add-i : tie.Need-add-i Inv-loop μ-loop
 add-i c = omega arith
@@ -45,8 +49,9 @@ loop-less c = omega arith
 
 loop-again : tie.Need-loop-again Inv-loop μ-loop
 loop-again c =
-    let a = c .before .before .before .before .before .before .before .before .args in
-    let l = c .before .before .before .before .before .loop in
+    let loop = at-loop (c .before) in
+    let a = loop .before .before .before .args in
+    let l = loop .loop in
     (omega arith, within-turn (a .froms .now) (a .sizes .now) (a .room) (l .i) (l .inv .1) (leb-true _ _ (sym (c .before .ends-within .ensures) ∙ not-false _ (c .if1 .left))))
 
 returns-2 : tie.Need-returns-2 Inv-loop μ-loop

@@ -10,6 +10,16 @@ use Rattle.stretches.specs.Tests.{fits-whole, fits-passing}
 use Rattle.stretches.proofs.are_fit.Statement.{statement}
 use Rattle.stretches.proofs.are_fit.Tie as tie
 
+-- The points that the needs go back to.
+abbrev at-start-2 : (c : tie.After-shared-slice-known4) → tie.Start
+at-start-2 c = c .before .before .before .before
+
+abbrev at-start : (c : tie.Else3) → tie.Start
+at-start c = at-start-2 (c .before .before .before)
+
+abbrev at-else3 : (c : tie.After-all-within) → tie.Else3
+at-else3 c = c .before .before .before
+
 returns : tie.Need-returns
 returns c = Unfit.tooMany (omega arith)
 
@@ -33,22 +43,24 @@ all-within-requires c κs = search needs
 
 returns-6 : tie.Need-returns-6
 returns-6 c =
-    let a = c .before .before .before .before .before .before .before .before .before .before .before .args in
+    let else3 = c .before .before .before .before in
+    let a = at-start else3 .args in
     let w = c .before .all-within in
     let so = subst (AllWithin (a .froms .now) (a .sizes .now) (a .room) (length (a .froms .now))) (not-true (w .result) (c .if6 .taken)) (w .ensures) in
-    fits-passing (a .starts .now) (a .lengths .now) (a .froms .now) (a .sizes .now) (a .answers) (a .room) (c .before .before .before .before .if3 .left) so
+    fits-passing (a .starts .now) (a .lengths .now) (a .froms .now) (a .sizes .now) (a .answers) (a .room) (else3 .if3 .left) so
 
 all-apart-requires : tie.Need-all-apart-requires
 all-apart-requires c κs = search needs
 
 returns-7 : tie.Need-returns-7
 returns-7 c =
-    let a = c .before .before .before .before .before .before .before .before .before .before .before .before .args in
+    let else3 = at-else3 (c .before .before) in
+    let a = at-start else3 .args in
     let w = c .before .before .all-within in
     let so = subst (AllWithin (a .froms .now) (a .sizes .now) (a .room) (length (a .froms .now))) (not-false (w .result) (c .before .if6 .left)) (w .ensures) in
     let q : Equal (batchOf (a .starts .now) (a .lengths .now) (a .froms .now) (a .sizes .now)) (a .answers) = record {
-      lengths-equal = omega (arith, c .before .before .before .before .before .before .if2 .left);
-      froms-equal = omega (arith, c .before .before .before .before .before .if3 .left);
+      lengths-equal = omega (arith, else3 .before .if2 .left);
+      froms-equal = omega (arith, else3 .if3 .left);
       sizes-equal = omega (arith, c .before .before .before .before .if4 .left);
       answers-equal = omega (arith, c .before .before .before .if5 .left);
     } in

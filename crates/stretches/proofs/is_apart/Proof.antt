@@ -16,6 +16,10 @@ Inv-loop froms sizes i j₀ j = (j ≤ i) × ApartFrom froms sizes i j true
 abbrev μ-loop : tie.MeasureT-loop
 μ-loop froms sizes i j₀ j = i - j
 
+-- The points that the needs go back to.
+abbrev at-loop : (c : tie.After-shared-slice-known5 Inv-loop μ-loop) → tie.At-loop Inv-loop μ-loop
+at-loop c = c .before .before .before .before
+
 loop-holds : tie.Need-loop-holds Inv-loop μ-loop
 loop-holds c = (omega arith, λ j k h. absurd (omega arith))
 
@@ -48,8 +52,9 @@ are-apart-requires c κs = tt
 
 returns : tie.Need-returns Inv-loop μ-loop
 returns c =
-    let a = c .before .before .before .before .before .before .before .before .before .before .args in
-    let j = c .before .before .before .before .before .before .before .loop .j in
+    let loop = at-loop (c .before .before .before) in
+    let a = loop .before .before .before .args in
+    let j = loop .loop .j in
     let e = not-true (c .before .are-apart .result) (c .if1 .taken) in
     let (k, x, y) = subst (Apart (getD (a .froms .now) j 0) (getD (a .sizes .now) j 0) (getD (a .froms .now) (a .i) 0) (getD (a .sizes .now) (a .i) 0)) e (c .before .are-apart .ensures) in
     (j, k, omega arith, (x, y))
@@ -62,8 +67,9 @@ loop-less c = omega arith
 
 loop-again : tie.Need-loop-again Inv-loop μ-loop
 loop-again c =
-    let a = c .before .before .before .before .before .before .before .before .before .before .args in
-    let l = c .before .before .before .before .before .before .before .loop in
+    let loop = at-loop (c .before .before .before) in
+    let a = loop .before .before .before .args in
+    let l = loop .loop in
     let e = not-false (c .before .are-apart .result) (c .if1 .left) in
     let so = subst (Apart (getD (a .froms .now) (l .j) 0) (getD (a .sizes .now) (l .j) 0) (getD (a .froms .now) (a .i) 0) (getD (a .sizes .now) (a .i) 0)) e (c .before .are-apart .ensures) in
     (omega arith, apart-turn (a .froms .now) (a .sizes .now) (a .i) (l .j) (l .inv .1) so)

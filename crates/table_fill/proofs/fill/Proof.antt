@@ -16,18 +16,32 @@ abbrev μ-loop : tie.MeasureT-loop
 μ-loop long s elements lists count index rows₀ places₀ facts₀ members₀ names₀ table₀ k₀ rows places facts members names table k =
     count + 1 - k
 
+-- The points that the needs go back to.
+abbrev at-start-2 : (c : tie.After-put-document-arg Inv-loop μ-loop) → tie.Start Inv-loop μ-loop
+at-start-2 c = c .before .before .before .before
+
+abbrev at-start : (c : tie.At-loop Inv-loop μ-loop) → tie.Start Inv-loop μ-loop
+at-start c = at-start-2 (c .before .before .before .before)
+
+abbrev at-loop-2 : (c : tie.After-put-element-arg3 Inv-loop μ-loop) → tie.At-loop Inv-loop μ-loop
+at-loop-2 c = c .before .before .before .before
+
+abbrev at-loop : (c : tie.After-put-element Inv-loop μ-loop) → tie.At-loop Inv-loop μ-loop
+at-loop c = at-loop-2 (c .before .before .before .before)
+
 put-document-requires : tie.Need-put-document-requires Inv-loop μ-loop
-put-document-requires c κs = blank-lengths (c .before .before .before .before .before .before .pre .1 .1 .0)
+put-document-requires c κs = blank-lengths (at-start-2 (c .before .before) .pre .1 .1 .0)
 
 loop-holds : tie.Need-loop-holds Inv-loop μ-loop
 loop-holds c =
-    let pre = c .before .before .before .before .before .before .before .pre in
+    let pre = at-start-2 (c .before .before .before) .pre in
     (omega arith, omega arith, refl, filled-own _ _ _ _ _ _ _ _ _ _ _ _ (pre .1 .0) (pre .1 .1 .0) (pre .1 .1 .1) (c .put-document .ensures .0) (c .put-document .ensures .1))
 
 put-element-requires : tie.Need-put-element-requires Inv-loop μ-loop
 put-element-requires c κs =
-    let pre = c .before .before .before .before .before .before .before .before .before .before .before .before .before .before .before .pre in
-    let inv = c .before .before .before .before .before .before .before .loop .inv in
+    let loop = at-loop-2 (c .before .before .before) in
+    let pre = at-start loop .pre in
+    let inv = loop .loop .inv in
     record {
       edition = pre .1 .0 .0;
       accepted = accepted-own _ _ _ _ _ (pre .1 .0);
@@ -40,7 +54,7 @@ put-element-requires c κs =
 
 add-k : tie.Need-add-k Inv-loop μ-loop
 add-k c =
-    let pre = c .before .before .before .before .before .before .before .before .before .before .before .before .before .before .before .before .before .before .pre in
+    let pre = at-start (at-loop (c .before .before)) .pre in
     let few = indexed-own _ _ _ _ _ (pre .1 .0) .few in
     let counted = counted-own _ _ _ _ _ (pre .0 .1) in
     omega arith
@@ -49,14 +63,14 @@ loop-less : tie.Need-loop-less Inv-loop μ-loop
 loop-less c = omega arith
 
 loop-again : tie.Need-loop-again Inv-loop μ-loop
-loop-again c = (omega arith, omega arith, c .before .before .put-element .kept .1 .1 .1 .1 .1 .1 .1 .1 .0 ∙ c .before .before .before .before .before .before .before .before .before .before .loop .inv .2, c .before .before .put-element .ensures)
+loop-again c = (omega arith, omega arith, c .before .before .put-element .kept .1 .1 .1 .1 .1 .1 .1 .1 .0 ∙ at-loop (c .before .before) .loop .inv .2, c .before .before .put-element .ensures)
 
 same-length : tie.Need-same-length Inv-loop μ-loop
 same-length c = c .before .loop .inv .2
 
 returns : tie.Need-returns Inv-loop μ-loop
 returns c edition es a n r =
-    let pre = c .before .before .before .before .before .before .before .before .before .pre in
+    let pre = at-start (c .before) .pre in
     let counted = counted-own _ _ _ _ _ (pre .0 .1) in
     tables-own _ _ _ _ _ _ _ (c .before .loop .inv .3) (omega arith) edition es a
 

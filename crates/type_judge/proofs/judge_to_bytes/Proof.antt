@@ -10,13 +10,29 @@ use borrow.Author.Needs.{needs}
 use Rattle.type_judge.proofs.judge_to_bytes.Statement.{statement}
 use Rattle.type_judge.proofs.judge_to_bytes.Tie as tie
 
+-- The points that the needs go back to.
+abbrev at-start-2 : (c : tie.After-heads) → tie.Start
+at-start-2 c = c .before .before .before .before
+
+abbrev at-start : (c : tie.After-decide) → tie.Start
+at-start c = at-start-2 (c .before)
+
+abbrev at-decide : (c : tie.After-v) → tie.After-decide
+at-decide c = c .before .before
+
+abbrev at-decide-2 : (c : tie.After-buffer2) → tie.After-decide
+at-decide-2 c = c .before .before .before .before
+
+abbrev at-v : (c : tie.After-elements2) → tie.After-v
+at-v c = c .before .before .before .before
+
 -- The records fit the table and the buffer.
 fits : (c : tie.After-v) →
-    let b = c .before .before .before .before .before .before .before .args .buffer .now in
+    let b = at-start (at-decide c) .args .buffer .now in
     let n = c .v .given .0 .0 in
     (n ≤ 64) × (6 * n ≤ room bytes b) × (6 * n ≤ length (c .before .before .decide .last .1 .1 .1 .0))
 fits c =
-    let a = c .before .before .before .before .before .before .before .args in
+    let a = at-start (at-decide c) .args in
     let d = c .before .before .decide in
     accepted-fits bytes (settingsOf (a .c)) (a .s .now) (a .buffer .now) (d .last .1 .1 .1 .0) (d .last .1 .1 .1 .1 .0) (d .result) (d .ensures) (c .v .given .0 .0) (c .v .given .1)
 
@@ -46,17 +62,20 @@ same-length c = search needs
 
 returns : tie.Need-returns
 returns c =
-    let a = c .before .before .before .before .before .before .before .before .before .before .before .before .before .before .args in
-    let d = c .before .before .before .before .before .before .before .before .before .decide in
-    judged-accepts bytes (settingsOf (a .c)) (a .s .now) (a .buffer .now) (d .last .1 .1 .1 .0) (d .last .1 .1 .1 .1 .0) (d .result) (d .ensures) _ _ (c .before .before .before .before .before .before .before .v .given .1) (c .before .before .put-bytes .ensures)
+    let v = at-v (c .before .before .before) in
+    let decide = at-decide v in
+    let a = at-start decide .args in
+    let d = decide .decide in
+    judged-accepts bytes (settingsOf (a .c)) (a .s .now) (a .buffer .now) (d .last .1 .1 .1 .0) (d .last .1 .1 .1 .1 .0) (d .result) (d .ensures) _ _ (v .v .given .1) (c .before .before .put-bytes .ensures)
 
 same-length-2 : tie.Need-same-length-2
 same-length-2 c = search needs
 
 returns-2 : tie.Need-returns-2
 returns-2 c =
-    let a = c .before .before .before .before .before .before .before .before .before .before .args in
-    let d = c .before .before .before .before .before .decide in
+    let decide = at-decide-2 (c .before) in
+    let a = at-start decide .args in
+    let d = decide .decide in
     judged-refuses bytes (settingsOf (a .c)) (a .s .now) (a .buffer .now) (d .last .1 .1 .1 .0) (d .last .1 .1 .1 .1 .0) (d .result) (d .ensures) _
     (λ n e. ⊎-elim (λ z. omega arith) (λ z. omega arith) (rw e at (c .before .before .before .before .match .keys2))) (c .before .before .clear-bytes .ensures)
 

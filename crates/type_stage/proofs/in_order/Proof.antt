@@ -8,6 +8,10 @@ use borrow.Author.Needs.{needs}
 use Rattle.type_stage.proofs.in_order.Statement.{statement}
 use Rattle.type_stage.proofs.in_order.Tie as tie
 
+-- The points that the needs go back to.
+abbrev at-else1 : (c : tie.After-all-allowed) → tie.Else1
+at-else1 c = c .before .before .before
+
 too-long-requires : tie.Need-too-long-requires
 too-long-requires c κs = search needs
 
@@ -24,10 +28,11 @@ type-alone-requires c κs = search needs
 
 returns-2 : tie.Need-returns-2
 returns-2 c settings s elements heads h =
-    let a = c .before .before .before .before .before .args in
+    let else1 = c .before .before .before in
+    let a = else1 .before .before .args in
     let unclean = sym (c .before .before .is-unclean .ensures) ∙ c .before .if2 .taken in
     subst (OrderedAs settings s (a .d .now) (a .g)) (sym (c .type-alone .ensures))
-    (unclean-alone settings s elements heads (a .d .now) (a .g) unclean h (c .before .before .before .if1 .left))
+    (unclean-alone settings s elements heads (a .d .now) (a .g) unclean h (else1 .if1 .left))
 
 all-allowed-requires : tie.Need-all-allowed-requires
 all-allowed-requires c κs = search needs
@@ -37,9 +42,10 @@ allowed-end-requires c κs = search needs
 
 returns-3 : tie.Need-returns-3
 returns-3 c settings s elements heads h =
-    let a = c .before .before .before .before .before .before .before .args in
+    let else1 = at-else1 (c .before .before) in
+    let a = else1 .before .before .args in
     let clean = sym (c .before .before .before .before .is-unclean .ensures) ∙ c .before .before .before .if2 .left in
-    document-unclean settings s (a .d .now) (staged-legible settings s elements heads (a .g) clean h) (c .before .before .before .before .before .if1 .left)
+    document-unclean settings s (a .d .now) (staged-legible settings s elements heads (a .g) clean h) (else1 .if1 .left)
     (sym (c .before .before .all-allowed .ensures) ∙ not-true _ (c .before .if3 .taken)) _ (c .allowed-end .ensures)
 
 type-alone-requires-2 : tie.Need-type-alone-requires-2
@@ -47,9 +53,10 @@ type-alone-requires-2 c κs = search needs
 
 returns-4 : tie.Need-returns-4
 returns-4 c settings s elements heads h =
-    let a = c .before .before .before .before .before .before .before .args in
+    let else1 = at-else1 (c .before .before) in
+    let a = else1 .before .before .args in
     let clean = sym (c .before .before .before .before .is-unclean .ensures) ∙ c .before .before .before .if2 .left in
-    let both = legible-both settings s (a .d .now) (staged-legible settings s elements heads (a .g) clean h) (c .before .before .before .before .before .if1 .left)
+    let both = legible-both settings s (a .d .now) (staged-legible settings s elements heads (a .g) clean h) (else1 .if1 .left)
     (sym (c .before .before .all-allowed .ensures) ∙ not-false _ (c .before .if3 .left)) in
     subst (OrderedAs settings s (a .d .now) (a .g)) (sym (c .type-alone2 .ensures)) (legible-alone settings s elements heads (a .d .now) both (a .g) clean h)
 

@@ -12,6 +12,13 @@ use borrow.Author.Needs.{needs}
 use Rattle.type_stage.proofs.judged.Statement.{statement}
 use Rattle.type_stage.proofs.judged.Tie as tie
 
+-- The points that the needs go back to.
+abbrev at-start : (c : tie.Else2) → tie.Start
+at-start c = c .before .before .before .before
+
+abbrev at-else2 : (c : tie.After-allowed-end) → tie.Else2
+at-else2 c = c .before
+
 is-offered-requires : tie.Need-is-offered-requires
 is-offered-requires c κs = search needs
 
@@ -34,13 +41,16 @@ returns-3 c =
     (offered (c .before .before .before), c .before .before .if2 .left, rw e at (c .if3 .taken), refl, e)
 
 -- Nothing but the type file's own faults is left.
-legible : (c : tie.After-decide-legible) → let a = c .before .before .before .before .before .before .before .before .before .args in Legible (settingsOf (a .c)) (a .s .now)
+legible : (c : tie.After-decide-legible) → let a = at-start (at-else2 (c .before .before .before .before)) .args in Legible (settingsOf (a .c)) (a .s .now)
 legible c =
-    let a = c .before .before .before .before .before .before .before .before .before .args in
-    legible-type (settingsOf (a .c)) (a .s .now) _ (offered (c .before .before .before .before .before .before)) (c .before .before .before .before .before .if2 .left) (c .before .before .before .before .allowed-end .ensures) (c .before .before .before .if3 .left)
+    let else2 = at-else2 (c .before .before .before .before) in
+    let a = at-start else2 .args in
+    legible-type (settingsOf (a .c)) (a .s .now) _ (offered (else2 .before)) (else2 .if2 .left) (c .before .before .before .before .allowed-end .ensures) (c .before .before .before .if3 .left)
 
 decide-legible-requires : tie.Need-decide-legible-requires
-decide-legible-requires c κs = (c .before .before .before .before .if2 .left, c .before .before .before .before .before .before .before .before .pre)
+decide-legible-requires c κs =
+    let else2 = c .before .before .before .before in
+    (else2 .if2 .left, at-start else2 .pre)
 
 enum-known-v : tie.Need-enum-known-v
 enum-known-v c = search needs
