@@ -90,7 +90,7 @@ module _ (M : List ℕ) (e : ℕ) (sets : AllSets M e) (order : Ordered M e) (be
       not-begun true q = absurd (false≢true q)
       not-begun false q = refl
 
-      -- a member of the group that is needed and comes before x has begun
+      -- A member of the group that is needed and comes before x has begun.
       earlier : (n : ℕ) → isOwn M e (l .number) n ≡ true → isNeeded M e n ≡ true → n < x → begunAt begun level n ≡ true
       earlier n i m d = bool-cases (begunAt begun level n) (λ t. t) (λ t. absurd (false≢true (sym (f n (omega (arith, own-range M e l kept n i, kept .some)) d) ∙ rw (i, m, t))))
 

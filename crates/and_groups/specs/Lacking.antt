@@ -31,7 +31,7 @@ module _ (M begun : List ℕ) (level e : ℕ) (ls : List Level) (l : Level) (kep
   abbrev B : ℕ → Bool
   B n = begunAt begun level n
 
-  -- a member by how far it is from the first
+  -- A member is told by how far it is from the first.
   at : (n : ℕ) → isOwn M e (l .number) n ≡ true → first + (n - first) ≡ n
   at n o = omega (arith, own-range M e l kept n o)
 
@@ -72,7 +72,7 @@ module _ (M : List ℕ) (e inner x : ℕ) (b : Bits) (ends : 128 < inner) where
   due-large z = due-by 0 (omega arith) (λ sets begun level has p c k ks chain rising have l S waits kept marked few. absurd (omega (arith, own-range M e l kept x (waits .own), kept .room)))
 
   module _ (h : ℕ) (lower : h ≡ inner - 128) (n : ℕ) (at : n ≡ groupAt M e h) (among idle above : Bits) (is-among : Has among (amongAt M e n)) (is-idle : (f k : ℕ → Bool) → Has among f → Has b k → Has idle (λ (m : ℕ). f m && not (k m))) (is-above : (f : ℕ → Bool) → Has idle f → Has above (λ (m : ℕ). f m && ltb x m)) (y : ℕ) (is-first : (f : ℕ → Bool) → Has above f → having.First f y) (r : Bool) (alone : Alone M e x y r) where
-    -- the members above x that have not begun
+    -- These are the members above x that have not begun.
     abbrev waiting : (begun : List ℕ) (level : ℕ) → List Level → ℕ → Bool
     waiting begun level ls m = (anyOwn M e m ls && not (begunAt begun level m)) && ltb x m
 

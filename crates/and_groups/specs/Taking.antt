@@ -71,7 +71,7 @@ module _ (M : List ℕ) (level e u p : ℕ) (before after : List ℕ) (h : ℕ) 
         enters .bits (told .sets) (ready .B) (ready .bits) p true (holderAt M e p) (0 + count g) (levels g 0 p) (ap (λ (x : ℕ). x % 128) read) (told .places p here) (levels-rise g 0 p)
         (each-level (IsAround g 0 p) (λ (l : Level). hasM (l .members) p ≡ true) (λ l x. x .1) (levels g 0 p) (levels-are g 0 p here))
 
-    -- what has begun after it
+    -- These members have begun after it.
     has-now : Has now (begunAt after level)
     has-now = has-same (λ n x y. sym (puts .bits _ entered n x y)) entered
 

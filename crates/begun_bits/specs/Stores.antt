@@ -9,6 +9,7 @@ use lib.ListN.{length, getD, set, length-set}
 use lib.Seq.{getD-set-same, getD-set-other}
 use lib.Dec.{eqb}
 use lib.Pow.{shr-shr}
+use Rattle.layout.specs.Sizes.{BEGUN}
 use Rattle.member_laws.specs.Members.{wordAt, begunAt, Elsewhere}
 use Rattle.member_bits.specs.declared.Bits.{Bits}
 use Rattle.member_bits.specs.Having.{Has}
@@ -40,7 +41,7 @@ module _ (before : List ℕ) (level w i v : ℕ) (there : i ≡ level * 3 + w) (
   stored-beside j n = getD-set-other before i (level * 3 + j) v 0 (λ e. n (omega arith))
 
 -- The three words of the level are written one after another.
-module _ (before : List ℕ) (level i j k x y z : ℕ) (b : Bits) (a : level ≤ 24) (whole : length before ≡ 76) (at-i : i ≡ level * 3) (at-j : j ≡ level * 3 + 1) (at-k : k ≡ level * 3 + 2) (is-x : x ≡ b .low % 4294967296) (is-y : y ≡ b .low / 4294967296 % 4294967296) (is-z : z ≡ b .high % 4294967296) where
+module _ (before : List ℕ) (level i j k x y z : ℕ) (b : Bits) (a : level ≤ 24) (whole : length before ≡ BEGUN) (at-i : i ≡ level * 3) (at-j : j ≡ level * 3 + 1) (at-k : k ≡ level * 3 + 2) (is-x : x ≡ b .low % 4294967296) (is-y : y ≡ b .low / 4294967296 % 4294967296) (is-z : z ≡ b .high % 4294967296) where
   abbrev one : List ℕ
   one = set before i x
 

@@ -7,13 +7,14 @@ use member_bits::Bits;
 ghost use mathlib.Core.Path.{_≡_};
 ghost use Prim.Native.Nat.{_≤_};
 ghost use lib.ListN.{length};
+ghost use Rattle.layout.specs.Sizes.{BEGUN};
 ghost use Rattle.member_laws.specs.Members.{begunAt};
 ghost use Rattle.member_bits.specs.Having.{Has};
 ghost use Rattle.begun_bits.specs.Levels.{Puts};
 
 // All the bits are there: of an array behind a reference this is known by a call only.
 fn whole(begun: [u32; BEGUN])
-    ensures { λ _. ⌜ length begun ≡ 76 ⌝ }
+    ensures { λ _. ⌜ length begun ≡ BEGUN ⌝ }
 {}
 
 // The members of the level that have begun.

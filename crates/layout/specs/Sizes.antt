@@ -57,7 +57,8 @@ abbrev pub FACTS : ℕ
 FACTS = CONTENTS * FACT
 
 -- The members of "&" groups: of each content a number for each position and two for each member, four for each group, and behind these one for each group.
--- Behind these stands a bit for each member, eight in a number, which is set where the member cannot be nothing. Behind the last content is room for two.
+-- Behind these stand members as bits, eight in a number: those that cannot be nothing, and of each group those that hold it and those that are its own or of a
+-- group around it.
 abbrev pub GROUP : ℕ
 GROUP = 4
 
@@ -80,14 +81,14 @@ abbrev pub MEMBER : ℕ
 MEMBER = SETS + 2 * MEMBER-BITS * (AND-GROUPS + 1)
 
 abbrev pub MEMBERS : ℕ
-MEMBERS = (CONTENTS + 2) * MEMBER
+MEMBERS = CONTENTS * MEMBER
 
 -- Which members have begun: of the document and of each of the 24 open elements 96 bits, three numbers; and one number more.
 abbrev pub BEGUN-WORDS : ℕ
 BEGUN-WORDS = 3
 
 abbrev pub BEGUN : ℕ
-BEGUN = 25 * BEGUN-WORDS + 1
+BEGUN = 25 * BEGUN-WORDS
 
 -- The attributes of an element: how many there are, and five numbers for each.
 abbrev pub ATTRIBUTE : ℕ

@@ -60,8 +60,7 @@ pub const FACTS: usize = CONTENTS * FACT;
 
 // The members of "&" groups: of each content a number for each position and two for each member, four for each group, and behind these one for each group;
 // members and groups count from 1. Behind these stand members as bits, eight in a number: those that cannot be nothing, and of each group those that hold it
-// and those that are its own or of a group around it.
-// Behind the last content is room for two, so that a number which is no group's is read within the table.
+// and those that are its own or of a group around it. A content is so large that a number which is no group's is read within it.
 pub const GROUP: usize = 4;
 
 pub const AND_GROUPS: usize = GRPGTCNT / 2;
@@ -76,12 +75,12 @@ pub const SETS: usize = NEEDED + MEMBER_BITS;
 
 pub const MEMBER: usize = SETS + 2 * MEMBER_BITS * (AND_GROUPS + 1);
 
-pub const MEMBERS: usize = (CONTENTS + 2) * MEMBER;
+pub const MEMBERS: usize = CONTENTS * MEMBER;
 
-// Which members have begun: of the document and of each of the 24 open elements 96 bits, three numbers; and one number more.
+// Which members have begun: of the document and of each of the 24 open elements 96 bits, three numbers.
 pub const BEGUN_WORDS: usize = 3;
 
-pub const BEGUN: usize = 25 * BEGUN_WORDS + 1;
+pub const BEGUN: usize = 25 * BEGUN_WORDS;
 
 // The attributes of an element: how many there are, and five numbers for each of at most ATTCNT. All positions of a type file fit 16 bits.
 pub const ATTCNT: usize = 40;

@@ -1,5 +1,4 @@
--- The groups around a place as the table has them: the number of the member that holds the place in each, and that the bits of an outer member are set where those of
--- an inner one are.
+-- The groups around a place as the table has them: the number of the member that holds the place in each, and whether its bit is set.
 use Prim.Native.Nat.{ℕ, _%_, _≤_}
 use mathlib.Core.Path.{_≡_, refl, sym, _∙_, ap, subst}
 use mathlib.Core.Bool.{Bool, true, false, _||_, false≢true}

@@ -1,4 +1,4 @@
--- The "&" groups of a model: a number has one group, and a member that holds a place holds the groups between it and the place.
+-- The "&" groups of a model: a number has one group, and a group that has a place is one of those around it.
 use Prim.Native.Nat.{ℕ, suc, _+_, _≤_, _<_}
 use mathlib.Core.Path.{_≡_, refl, sym, _∙_, subst}
 use mathlib.Core.Bool.{true, false}

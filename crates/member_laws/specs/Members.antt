@@ -1,5 +1,5 @@
--- The members of a model's "&" groups by number, as the table of a type has them, and which of them have begun. The crate member_table fills the table
--- (`Told`), and_groups asks it (`Standing`).
+-- The members of a model's "&" groups by number, as the table of a type has them (`Told`), and which of them have begun (`Standing`). The crates member_table and
+-- member_sets fill the table, and_groups and and_next ask it.
 use Prim.Native.Nat.{ℕ, _+_, _-_, _*_, _/_, _%_, _^_, _≤_, _<_}
 use mathlib.Core.Path.{_≡_}
 use mathlib.Core.Bool.{Bool, true, false, _&&_, _||_, cond}
@@ -128,13 +128,14 @@ module _ (M : List ℕ) (e : ℕ) where
   abbrev pub isOwn : (n h : ℕ) → Bool
   isOwn n h = leb (firstAt n) h && ltb h (firstAt n + sizeAt n)
 
-  -- No member holds the group n.
+  -- No member holds the group n: it has its own members, and reaches itself.
   pub record Outermost (n : ℕ) : Type 0 where
     pub holds : (h : ℕ) → 1 ≤ h → h < POSITIONS → holdsAt n h ≡ false
     pub among : (h : ℕ) → 1 ≤ h → h < POSITIONS → amongAt n h ≡ isOwn n h
     pub reach : reachAt n ≡ n
 
-  -- The innermost member that holds the group n is one of the group f, and `ends` says whether it can end with the group n.
+  -- The innermost member that holds the group n, `outer`, is one of the group f: it holds n besides those that hold f, the members of n come to those around f, and n
+  -- reaches as far as f does where `ends` says that this member can end with n, else itself.
   pub record Within (n outer f : ℕ) (ends : Bool) : Type 0 where
     pub holds : (h : ℕ) → 1 ≤ h → h < POSITIONS → holdsAt n h ≡ eqb h outer || holdsAt f h
     pub among : (h : ℕ) → 1 ≤ h → h < POSITIONS → amongAt n h ≡ isOwn n h || amongAt f h

@@ -263,8 +263,3 @@ module _ (first : ℕ) (m : Members) where
     rest-two i j n k l x y =
         filed-rest S B null r m (numbersOf first (needs m) m) filed
         ∙ lone-two B r (numbersOf first (needs m) m) (first + i) (first + j) (λ e. n (omega arith)) (among i k) (among j l) x y
-
-    pub rest-none : ((j : ℕ) → j < amount m → B (first + j) ≡ true) → restReq m S ≡ 0
-    rest-none f =
-        filed-rest S B null r m (numbersOf first (needs m) m) filed
-        ∙ lone-none B r (numbersOf first (needs m) m) (λ n i. let (k, v, w) = behind n i in rw w (f k v))

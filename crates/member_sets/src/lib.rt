@@ -1,4 +1,4 @@
-// What the crate and_groups asks of the groups around a group, besides what the crate member_table has put: the members that hold it, those of the groups around
+// What the crates and_groups and and_next ask of the groups around a group, besides what the crate member_table has put: the members that hold it, those of the groups around
 // it, how far out these can end with it; and which members cannot be nothing.
 use layout::AND_GROUPS;
 use layout::ElementNo;
@@ -170,7 +170,7 @@ fn needed_of(members: &[u8], e: ElementNo) -> Bits
 }
 
 // The members of the element e, whose model has its table in `table` with n numbers of code, and the sets of its groups, from the outermost inwards. They are
-// all 0 before. A table that is not whole gets none: it is one of no member.
+// told of the model where all was 0 before (`filled-linked`). A table that is not whole gets none: a type without "&" lends none.
 pub fn fill(members: &mut [u8], e: ElementNo, table: &[u8; MODEL], n: usize)
     requires { ⌜ e .0 < 65 ⌝ }
     ensures { λ _. ⌜ Linked (filled (now (members .entry)) (e .0) (now (table .entry)) n) (e .0) (now (members .exit)) ⌝ }

@@ -1,4 +1,4 @@
-// The members of a model's "&" groups, from its code: what the crate and_groups asks.
+// The members of a model's "&" groups, from its code: what the crates and_groups and and_next ask, but for the sets, which the crate member_sets puts.
 //
 // Groups count from 1 in the order of their ")", so that an inner one comes before those around it; members count from 1, group after group, in each those that
 // cannot be nothing first. What is kept of each says the crate member_entries.
@@ -164,7 +164,7 @@ fn joined(op: u8, a: Piece, b: Piece) -> Piece
     }
 }
 
-// The members of the element e, whose model has its table in `table` with n numbers of code. They are all 0 before.
+// The members of the element e, whose model has its table in `table` with n numbers of code. Where they are all 0 before, the table tells the model then (`fills`).
 pub fn fill(members: &mut [u8], e: ElementNo, table: &[u8; MODEL], n: usize)
     requires { ⌜ e .0 < 65 ⌝ }
     ensures { λ _. ⌜ now (members .exit) ≡ filled (now (members .entry)) (e .0) (now (table .entry)) n ⌝ }
