@@ -169,8 +169,8 @@ fn needed_of(members: &[u8], e: ElementNo) -> Bits
     b
 }
 
-// The members of the element e, whose model has its table in `table` with n numbers of code, and the sets of its groups, from the outermost inwards. They are
-// told of the model where all was 0 before (`filled-linked`). A table that is not whole gets none: a type without "&" lends none.
+// The members of the element e, whose model has its table in `table` with n numbers of code, and the sets of its groups, from the outermost inwards. Where
+// all was 0 before, the table tells the model then (`filled-linked`). One that is not whole gets none: a type without "&" lends none.
 pub fn fill(members: &mut [u8], e: ElementNo, table: &[u8; MODEL], n: usize)
     requires { ⌜ e .0 < 65 ⌝ }
     ensures { λ _. ⌜ Linked (filled (now (members .entry)) (e .0) (now (table .entry)) n) (e .0) (now (members .exit)) ⌝ }
