@@ -110,7 +110,7 @@ enum {
     SGML_ATTCNT = 40,            /* attributes of an element */
     SGML_TAGLVL = 24,            /* open elements */
     SGML_BATCH_LIMIT = 200,      /* documents in one call */
-    SGML_STACK_BYTES = 272 * 1024 /* of stack that a call takes at most; measured, not proved */
+    SGML_STACK_BYTES = 268 * 1024 /* of stack that a call takes at most; measured, not proved */
 };
 
 /* How large things are: in 32-bit numbers, and as bytes of a lent buffer, four to a number. */
