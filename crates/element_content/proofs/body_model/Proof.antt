@@ -14,22 +14,6 @@ use Rattle.element_content.specs.Contents.{model-fault, model-refused, m
 use Rattle.element_content.proofs.body_model.Statement.{statement}
 use Rattle.element_content.proofs.body_model.Tie as tie
 
--- The points that the needs go back to.
-abbrev at-start : (c : tie.After-clear) → tie.Start
-at-start c = c .before .before .before
-
-abbrev at-clear : (c : tie.After-group-at) → tie.After-clear
-at-clear c = c .before .before .before
-
-abbrev at-group-at-2 : (c : tie.After-r) → tie.After-group-at
-at-group-at-2 c = c .before .before
-
-abbrev at-group-at : (c : tie.After-with-occurrence) → tie.After-group-at
-at-group-at c = at-group-at-2 (c .before .before .before)
-
-abbrev at-with-occurrence : (c : tie.After-short) → tie.After-with-occurrence
-at-with-occurrence c = c .before .before .before .before
-
 -- The group was read.
 group-read : (c : tie.After-known-told)
     → (t : Tokens)
@@ -83,16 +67,12 @@ short-requires-3 c κs = search needs
 
 returns-2 : tie.Need-returns-2
 returns-2 c =
-    let with-occurrence = at-with-occurrence (c .before .before) in
-    let group-at = at-group-at with-occurrence in
-    let clear = at-clear group-at in
-    let start = at-start clear in
-    let a = start .args in
-    let names = group-at .group-at .last .1 .1 .1 .1 .1 .1 .1 .0 in
-    let model = group-read (with-occurrence .before .before) in
-    let kept = with-occurrence .with-occurrence .ensures _ names _ 0 (model .0) (model .2) in
+    let a = c .before .before .before .before .before .before .before .before .before .before .before .before .before .before .before .before .before .args in
+    let names = c .before .before .before .before .before .before .before .before .before .before .before .group-at .last .1 .1 .1 .1 .1 .1 .1 .0 in
+    let model = group-read (c .before .before .before .before .before .before .before .before) in
+    let kept = c .before .before .before .before .before .before .with-occurrence .ensures _ names _ 0 (model .0) (model .2) in
     body-meets (length (a .s .now)) names (c .before .before .before .finish .last .0) _ _ _ (model-got (a .long) (a .s .now) (a .i) (model .1))
-    (model-kept kept (model-plain (a .long) (a .s .now) (a .i) (start .pre .0) (model .0) (model .1)) (model-guarded (a .long) (a .s .now) (a .i) (start .pre .0) (model .0) (model .1)) (clear .clear .ensures)
+    (model-kept kept (model-plain (a .long) (a .s .now) (a .i) (c .before .before .before .before .before .before .before .before .before .before .before .before .before .before .before .before .before .pre .0) (model .0) (model .1)) (model-guarded (a .long) (a .s .now) (a .i) (c .before .before .before .before .before .before .before .before .before .before .before .before .before .before .before .before .before .pre .0) (model .0) (model .1)) (c .before .before .before .before .before .before .before .before .before .before .before .before .before .before .clear .ensures)
     _ _ _ (c .before .before .before .finish .ensures) (c .before .before .short .ensures .0) (c .before .short2 .ensures .0) (c .short3 .ensures .0))
 
 pub body-model-spec : {M : Type 1} → statement M
