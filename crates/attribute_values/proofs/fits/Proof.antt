@@ -6,6 +6,13 @@ use Rattle.attribute_values.specs.Groups.{declared-cdata, declared-numbe
 use Rattle.attribute_values.proofs.fits.Statement.{statement}
 use Rattle.attribute_values.proofs.fits.Tie as tie
 
+-- The points that the needs go back to.
+abbrev at-start-2 : (c : tie.Else1) → tie.Start
+at-start-2 c = c .before .before .before
+
+abbrev at-start : (c : tie.Else2) → tie.Start
+at-start c = c .before .before .before .before
+
 is-cdata-requires : tie.Need-is-cdata-requires
 is-cdata-requires c κs = search needs
 
@@ -20,7 +27,7 @@ is-number-requires c κs = search needs
 
 returns-2 : tie.Need-returns-2
 returns-2 c =
-    let a = c .before .before .before .before .before .args in
+    let a = at-start-2 (c .before .before) .args in
     let o = a .long in
     λ y d. c .is-number .ensures (a .s .now) ∙ ap (λ x. fits o (a .s .now) x (a .v .now)) (sym (declared-number o (a .s .now) d (c .before .if2 .taken)))
 
@@ -29,7 +36,7 @@ is-name-requires c κs = search needs
 
 returns-3 : tie.Need-returns-3
 returns-3 c =
-    let a = c .before .before .before .before .before .before .args in
+    let a = at-start (c .before .before) .args in
     let o = a .long in
     λ y d. c .is-name .ensures (a .s .now) ∙ ap (λ x. fits o (a .s .now) x (a .v .now)) (sym (declared-name o (a .s .now) d (c .before .if3 .taken)))
 
@@ -38,7 +45,7 @@ is-in-group-requires c κs = search needs
 
 returns-4 : tie.Need-returns-4
 returns-4 c =
-    let a = c .before .before .before .before .before .before .args in
+    let a = at-start (c .before .before) .args in
     λ y d. declared-tokens (a .long) (a .s .now) (a .v .now) d (c .before .before .before .if1 .left) (c .before .before .if2 .left) (c .before .if3 .left) (c .is-in-group .ensures)
 
 pub fits-spec : {M : Type 1} → statement M

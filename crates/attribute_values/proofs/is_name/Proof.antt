@@ -10,6 +10,10 @@ use Rattle.attribute_values.specs.Tests.{name-other, name-long, name-is}
 use Rattle.attribute_values.proofs.is_name.Statement.{statement}
 use Rattle.attribute_values.proofs.is_name.Tie as tie
 
+-- The points that the needs go back to.
+abbrev at-start : (c : tie.After-is-letter) → tie.Start
+at-start c = c .before .before .before
+
 byte-requires : tie.Need-byte-requires
 byte-requires c κs = search needs
 
@@ -27,7 +31,7 @@ name-end-requires c κs = search needs
 
 returns-3 : tie.Need-returns-3
 returns-3 c =
-    let v = c .before .before .before .before .before .before .args .v .now in
+    let v = at-start (c .before .before .before) .args .v .now in
     let is-letter = tested letter (c .before .before .before .before .byte .ensures) (c .before .before .before .is-letter .ensures) (not-false _ (c .before .before .if1 .left)) in
     λ s. ap (λ n. eqb n (length v)) (c .name-end .ensures) ∙ sym (name-is _ s v is-letter (c .before .if2 .left))
 
