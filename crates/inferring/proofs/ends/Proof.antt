@@ -18,6 +18,13 @@ Inv-loop rows places facts members begun x at n numbers₀ bytes₀ o₀ m₀ nu
 abbrev μ-loop : tie.MeasureT-loop
 μ-loop rows places facts members begun x at n numbers₀ bytes₀ o₀ m₀ numbers bytes o m = o .count
 
+-- The points that the needs go back to.
+abbrev at-loop : (c : tie.After-way-at Inv-loop μ-loop) → tie.At-loop Inv-loop μ-loop
+at-loop c = c .before .before .before .before
+
+abbrev at-put-event : (c : tie.After-bytes Inv-loop μ-loop) → tie.After-put-event Inv-loop μ-loop
+at-put-event c = c .before .before .before
+
 loop-holds : tie.Need-loop-holds Inv-loop μ-loop
 loop-holds c = turns-start _ _ _ _ _ _ _ _ _ _ _ (c .before .before .before .pre .0)
 
@@ -35,29 +42,30 @@ first c = c .before .before .before .before
 
 -- an end is inferred: something is open, and its content complete
 goes-on : (c : tie.Else1 Inv-loop μ-loop) →
-    let o = c .before .before .before .before .before .before .before .before .loop .o in
+    let o = at-loop (c .before .before .before .before) .loop .o in
     (1 < o .count) × (o .complete ≡ true)
 goes-on c = c .before .may-end .ensures .1 (not-false _ (c .if1 .left))
 
 put-event-requires : tie.Need-put-event-requires Inv-loop μ-loop
 put-event-requires c κs =
     let ends = c .before .before in
-    let looped = ends .before .before .before .before .before .before .before .before in
+    let looped = at-loop (ends .before .before .before .before) in
     (omega (arith, looped .loop .inv .counted, looped .loop .inv .deep, first looped .pre .3, first looped .pre .0 .few), omega (arith, looped .loop .inv .ranged .element), omega (arith, first looped .pre .2), omega arith, omega arith)
 
 infer-end-requires : tie.Need-infer-end-requires Inv-loop μ-loop
 infer-end-requires c κs =
-    let ends = c .before .before .before .before .before .before .before in
-    (ends .before .before .before .before .before .before .before .before .loop .inv .ranged, omega (arith, goes-on ends .0), goes-on ends .1)
+    let put-event = c .before .before .before .before in
+    let ends = put-event .before .before .before in
+    (at-loop (ends .before .before .before .before) .loop .inv .ranged, omega (arith, goes-on ends .0), goes-on ends .1)
 
 loop-less : tie.Need-loop-less Inv-loop μ-loop
 loop-less c =
-    let ends = c .before .before .before .before .before .before .before .before in
+    let ends = at-put-event (c .before .before) .before .before .before in
     omega (arith, ap (λ (o : Open). o .count) (c .infer-end .ensures), goes-on ends .0)
 
 loop-again : tie.Need-loop-again Inv-loop μ-loop
 loop-again c =
-    let put = c .before .before .before .before .before in
+    let put = at-put-event (c .before .before) in
     let ends = put .before .before .before in
     let told = ends .before .before in
     let way = told .before .before in
@@ -65,10 +73,10 @@ loop-again c =
     (put .put-event .ensures .1) (c .infer-end .ensures) (put .put-event .ensures .0)
 
 same-length : tie.Need-same-length Inv-loop μ-loop
-same-length c = c .before .before .before .before .before .loop .inv .puts .numbers-kept
+same-length c = at-loop (c .before) .loop .inv .puts .numbers-kept
 
 same-length-2 : tie.Need-same-length-2 Inv-loop μ-loop
-same-length-2 c = c .before .before .before .before .before .loop .inv .puts .bytes-kept
+same-length-2 c = at-loop (c .before) .loop .inv .puts .bytes-kept
 
 returns : tie.Need-returns Inv-loop μ-loop
 returns c =
@@ -82,10 +90,10 @@ returns c =
     }
 
 same-length-3 : tie.Need-same-length-3 Inv-loop μ-loop
-same-length-3 c = c .before .before .before .before .before .before .before .before .loop .inv .puts .numbers-kept
+same-length-3 c = at-loop (c .before .before .before .before) .loop .inv .puts .numbers-kept
 
 same-length-4 : tie.Need-same-length-4 Inv-loop μ-loop
-same-length-4 c = c .before .before .before .before .before .before .before .before .loop .inv .puts .bytes-kept
+same-length-4 c = at-loop (c .before .before .before .before) .loop .inv .puts .bytes-kept
 
 returns-2 : tie.Need-returns-2 Inv-loop μ-loop
 returns-2 c =
