@@ -11,20 +11,37 @@ use borrow.Author.Needs.{needs}
 use Rattle.batch.proofs.followed.Statement.{statement}
 use Rattle.batch.proofs.followed.Tie as tie
 
+-- The points that the needs go back to.
+abbrev at-start-2 : (c : tie.After-shared-slice-known4) → tie.Start
+at-start-2 c = c .before .before .before .before
+
+abbrev at-start : (c : tie.After-enum-told) → tie.Start
+at-start c = at-start-2 (c .before .before .before .before)
+
+abbrev at-enum-told : (c : tie.After-follow) → tie.After-enum-told
+at-enum-told c = c .before .before
+
+abbrev at-follow : (c : tie.After-r) → tie.After-follow
+at-follow c = c .before .before .before .before
+
+abbrev at-follow-2 : (c : tie.After-r2) → tie.After-follow
+at-follow-2 c = c .before .before .before .before
+
 -- The document in its order with the type.
 in-turn : (c : tie.After-in-order) →
-    let a = c .before .before .before .before .before .before .args in
+    let a = at-start-2 (c .before .before) .args in
     OrderedAs (settings (a .long) (a .edition)) (a .s .now) (a .d .now) (a .g) (c .in-order .result)
 in-turn c =
-    let a = c .before .before .before .before .before .before .args in
-    c .in-order .ensures (settings (a .long) (a .edition)) (a .s .now) (a .elements .now) (c .before .before .before .before .before .before .pre .heads) (c .before .before .before .before .before .before .pre .staged)
+    let start = at-start-2 (c .before .before) in
+    let a = start .args in
+    c .in-order .ensures (settings (a .long) (a .edition)) (a .s .now) (a .elements .now) (start .pre .heads) (start .pre .staged)
 
 -- It is to be read.
 to-read : (c : tie.After-enum-told) →
-    let a = c .before .before .before .before .before .before .before .before .args in
+    let a = at-start c .args in
     OrderedAs (settings (a .long) (a .edition)) (a .s .now) (a .d .now) (a .g) (ordered.Read (c .enum-told .given .0 .0))
 to-read c =
-    let a = c .before .before .before .before .before .before .before .before .args in
+    let a = at-start c .args in
     subst (OrderedAs (settings (a .long) (a .edition)) (a .s .now) (a .d .now) (a .g)) (c .enum-told .given .1) (in-turn (c .before .before))
 
 in-order-requires : tie.Need-in-order-requires
@@ -67,18 +84,22 @@ same-length c = search needs
 
 returns-4 : tie.Need-returns-4
 returns-4 c =
-    let (b, e) = to-read (c .before .before .before .before .before .before .before) in
-    let (es, a, i, t, l) = tables-full _ (c .before .before .before .before .before .before .before .before .before .before .before .before .before .before .before .pre) e in
-    answers-events _ _ _ _ _ _ _ es b a (c .before .before .before .before .before .follow .result) (c .before .before .before .before .before .follow .ensures es i t l) _ (c .before .r .given .1)
+    let follow = at-follow (c .before) in
+    let enum-told-point = at-enum-told follow in
+    let (b, e) = to-read enum-told-point in
+    let (es, a, i, t, l) = tables-full _ (at-start enum-told-point .pre) e in
+    answers-events _ _ _ _ _ _ _ es b a (follow .follow .result) (follow .follow .ensures es i t l) _ (c .before .r .given .1)
 
 same-length-2 : tie.Need-same-length-2
 same-length-2 c = search needs
 
 returns-5 : tie.Need-returns-5
 returns-5 c =
-    let (b, e) = to-read (c .before .before .before .before .before .before .before) in
-    let (es, a, i, t, l) = tables-full _ (c .before .before .before .before .before .before .before .before .before .before .before .before .before .before .before .pre) e in
-    answers-unsettled _ _ _ _ _ _ _ es b a (c .before .before .before .before .before .follow .result) (c .before .before .before .before .before .follow .ensures es i t l) _ (c .before .r2 .given .1)
+    let follow = at-follow-2 (c .before) in
+    let enum-told-point = at-enum-told follow in
+    let (b, e) = to-read enum-told-point in
+    let (es, a, i, t, l) = tables-full _ (at-start enum-told-point .pre) e in
+    answers-unsettled _ _ _ _ _ _ _ es b a (follow .follow .result) (follow .follow .ensures es i t l) _ (c .before .r2 .given .1)
 
 pub followed-spec : {M : Type 1} → statement M
 followed-spec =

@@ -4,6 +4,10 @@ use borrow.Author.Needs.{needs}
 use Rattle.batch.proofs.put_answer.Statement.{statement}
 use Rattle.batch.proofs.put_answer.Tie as tie
 
+-- The points that the needs go back to.
+abbrev at-numbers-read : (c : tie.After-answers) → tie.After-numbers-read
+at-numbers-read c = c .before .before .before .before
+
 numbers-read-requires : tie.Need-numbers-read-requires
 numbers-read-requires c κs = search needs
 
@@ -35,7 +39,9 @@ same-length : tie.Need-same-length
 same-length c = search needs
 
 returns : tie.Need-returns
-returns c = six-put _ (c .before .before .before .before .before .numbers-read .result) _ _ _ (c .before .before .before .before .before .before .before .pre .2) (c .before .before .before .before .before .numbers-read .ensures) (c .before .before .put-numbers .ensures)
+returns c =
+    let numbers-read = at-numbers-read (c .before) in
+    six-put _ (numbers-read .numbers-read .result) _ _ _ (numbers-read .before .before .pre .2) (numbers-read .numbers-read .ensures) (c .before .before .put-numbers .ensures)
 
 pub put-answer-spec : {M : Type 1} → statement M
 put-answer-spec =

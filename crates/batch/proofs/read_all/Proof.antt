@@ -7,6 +7,43 @@ use borrow.Author.Needs.{needs}
 use Rattle.batch.proofs.read_all.Statement.{statement}
 use Rattle.batch.proofs.read_all.Tie as tie
 
+-- The points that the needs go back to.
+abbrev at-start-2 : (c : tie.After-shared-slice-known4) → tie.Start
+at-start-2 c = c .before .before .before .before
+
+abbrev at-start-3 : (c : tie.After-slice-known2) → tie.Start
+at-start-3 c = at-start-2 (c .before .before .before .before)
+
+abbrev at-start : (c : tie.After-judged) → tie.Start
+at-start c = at-start-3 (c .before .before .before)
+
+abbrev at-judged-2 : (c : tie.At-match-keys2) → tie.After-judged
+at-judged-2 c = c .before
+
+abbrev at-judged : (c : tie.After-g) → tie.After-judged
+at-judged c = c .before .before
+
+abbrev at-match-keys2-2 : (c : tie.After-places) → tie.At-match-keys2
+at-match-keys2-2 c = c .before .before .before .before
+
+abbrev at-match-keys2 : (c : tie.After-lists) → tie.At-match-keys2
+at-match-keys2 c = at-match-keys2-2 (c .before .before .before)
+
+abbrev at-g-3 : (c : tie.After-lists2) → tie.After-g
+at-g-3 c = c .before .before .before .before
+
+abbrev at-g : (c : tie.After-facts2) → tie.After-g
+at-g c = at-g-3 (c .before .before .before .before)
+
+abbrev at-g-2 : (c : tie.After-fill) → tie.After-g
+at-g-2 c = at-g (c .before .before)
+
+abbrev at-fill-2 : (c : tie.After-index3) → tie.After-fill
+at-fill-2 c = c .before .before .before .before
+
+abbrev at-fill : (c : tie.After-members4) → tie.After-fill
+at-fill c = at-fill-2 (c .before .before .before .before)
+
 judged-requires : tie.Need-judged-requires
 judged-requires c κs = search needs
 
@@ -21,8 +58,10 @@ slice-aggregate-read-parts-2 c = search needs
 
 read-parts-requires : tie.Need-read-parts-requires
 read-parts-requires c κs =
-    let none = tables-none _ _ _ _ _ _ _ _ _ (c .before .before .before .before .before .before .before .before .before .before .judged .result) (λ n e. not-last (rw e at (c .before .before .before .before .before .before .before .before .before .match .keys2))) in
-    (record { heads = c .before .before .before .before .before .before .before .before .before .before .judged .last .1 .1 .1 .0; staged = c .before .before .before .before .before .before .before .before .before .before .judged .ensures; tables = none }, c .before .before .before .before .before .before .before .before .before .before .before .before .before .before .before .before .before .before .before .before .before .pre)
+    let match-keys2 = at-match-keys2 (c .before .before) in
+    let judged = at-judged-2 match-keys2 in
+    let none = tables-none _ _ _ _ _ _ _ _ _ (judged .judged .result) (λ n e. not-last (rw e at (match-keys2 .match .keys2))) in
+    (record { heads = judged .judged .last .1 .1 .1 .0; staged = judged .judged .ensures; tables = none }, at-start judged .pre)
 
 same-length : tie.Need-same-length
 same-length c = search needs
@@ -41,8 +80,10 @@ slice-aggregate-fill-2 c = search needs
 
 fill-requires : tie.Need-fill-requires
 fill-requires c κs =
-    let a = c .before .before .before .before .before .before .before .before .before .before .before .before .before .before .before .before .before .before .before .before .before .before .args in
-    let so = subst (Staged (settingsOf (a .c)) (a .s .now) (c .before .before .before .before .before .before .before .before .before .before .before .judged .last .1 .1 .0) (c .before .before .before .before .before .before .before .before .before .before .before .judged .last .1 .1 .1 .0)) (c .before .before .before .before .before .before .before .before .before .g .given .1) (c .before .before .before .before .before .before .before .before .before .before .before .judged .ensures) in
+    let g = at-g (c .before) in
+    let judged = at-judged g in
+    let a = at-start judged .args in
+    let so = subst (Staged (settingsOf (a .c)) (a .s .now) (judged .judged .last .1 .1 .0) (judged .judged .last .1 .1 .1 .0)) (g .g .given .1) (judged .judged .ensures) in
     ((_, so), ((refl, refl, refl), (refl, refl, refl)))
 
 slice-aggregate-read-parts-3 : tie.Need-slice-aggregate-read-parts-3
@@ -53,9 +94,13 @@ slice-aggregate-read-parts-4 c = search needs
 
 read-parts-requires-2 : tie.Need-read-parts-requires-2
 read-parts-requires-2 c κs =
-    let a = c .before .before .before .before .before .before .before .before .before .before .before .before .before .before .before .before .before .before .before .before .before .before .before .before .before .before .before .before .before .before .before .before .before .before .args in
-    let so = subst (Staged (settingsOf (a .c)) (a .s .now) (c .before .before .before .before .before .before .before .before .before .before .before .before .before .before .before .before .before .before .before .before .before .before .before .judged .last .1 .1 .0) (c .before .before .before .before .before .before .before .before .before .before .before .before .before .before .before .before .before .before .before .before .before .before .before .judged .last .1 .1 .1 .0)) (c .before .before .before .before .before .before .before .before .before .before .before .before .before .before .before .before .before .before .before .before .before .g .given .1) (c .before .before .before .before .before .before .before .before .before .before .before .before .before .before .before .before .before .before .before .before .before .before .before .judged .ensures) in
-    (record { heads = c .before .before .before .before .before .before .before .before .before .before .before .before .before .before .before .before .before .before .before .before .before .before .before .judged .last .1 .1 .1 .0; staged = so; tables = c .before .before .before .before .before .before .before .before .before .before .before .fill .ensures _ so }, c .before .before .before .before .before .before .before .before .before .before .before .before .before .before .before .before .before .before .before .before .before .before .before .before .before .before .before .before .before .before .before .before .before .before .pre)
+    let fill = at-fill (c .before .before .before) in
+    let g = at-g-2 fill in
+    let judged = at-judged g in
+    let start = at-start judged in
+    let a = start .args in
+    let so = subst (Staged (settingsOf (a .c)) (a .s .now) (judged .judged .last .1 .1 .0) (judged .judged .last .1 .1 .1 .0)) (g .g .given .1) (judged .judged .ensures) in
+    (record { heads = judged .judged .last .1 .1 .1 .0; staged = so; tables = fill .fill .ensures _ so }, start .pre)
 
 same-length-3 : tie.Need-same-length-3
 same-length-3 c = search needs

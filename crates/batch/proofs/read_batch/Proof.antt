@@ -10,14 +10,27 @@ use borrow.Author.Needs.{needs}
 use Rattle.batch.proofs.read_batch.Statement.{statement}
 use Rattle.batch.proofs.read_batch.Tie as tie
 
+-- The points that the needs go back to.
+abbrev at-start-2 : (c : tie.After-shared-slice-known4) → tie.Start
+at-start-2 c = c .before .before .before .before
+
+abbrev at-start : (c : tie.After-slice-known2) → tie.Start
+at-start c = at-start-2 (c .before .before .before .before)
+
+abbrev at-else1 : (c : tie.After-bytes2) → tie.Else1
+at-else1 c = c .before .before .before
+
+abbrev at-read-all : (c : tie.After-answers) → tie.After-read-all
+at-read-all c = c .before .before .before
+
 abbrev read : tie.After-is-offered → tie.After-read-all
-read c = c .before .before .before .before .before
+read c = at-read-all (c .before .before)
 
 abbrev asked : tie.After-read-all → tie.After-are-fit
 asked c = c .before .before .before .before
 
 abbrev first : tie.After-are-fit → tie.Start
-first c = c .before .before .before .before .before .before .before .before .before
+first c = at-start (c .before)
 
 -- What the test of the lists says.
 abbrev says : tie.After-are-fit → Bool → Type 0
@@ -60,8 +73,10 @@ returns-2 c =
     (Batched.noneOffered (fit r) (sym (c .before .is-offered .ensures) ∙ c .if2 .left) refl (r .read-all .ensures), omega arith)
 
 -- Where they are not.
-unfit : (c : tie.After-is-offered2) → says (c .before .before .before .before .before .before) false
-unfit c = subst (says (c .before .before .before .before .before .before)) (c .before .before .before .before .before .if1 .left) (c .before .before .before .before .before .before .are-fit .ensures)
+unfit : (c : tie.After-is-offered2) → says (at-else1 (c .before .before) .before) false
+unfit c =
+    let else1 = at-else1 (c .before .before) in
+    subst (says (else1 .before)) (else1 .if1 .left) (else1 .before .are-fit .ensures)
 
 clear-bytes-requires : tie.Need-clear-bytes-requires
 clear-bytes-requires c κs = search needs

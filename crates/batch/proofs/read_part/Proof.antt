@@ -12,6 +12,25 @@ use borrow.Author.Needs.{needs}
 use Rattle.batch.proofs.read_part.Statement.{statement}
 use Rattle.batch.proofs.read_part.Tie as tie
 
+-- The points that the needs go back to.
+abbrev at-start : (c : tie.After-shared-slice-known4) → tie.Start
+at-start c = c .before .before .before .before
+
+abbrev at-start-2 : (c : tie.After-ends-within) → tie.Start
+at-start-2 c = at-start (c .before .before)
+
+abbrev at-start-3 : (c : tie.Then1) → tie.Start
+at-start-3 c = at-start (c .before .before .before)
+
+abbrev at-start-4 : (c : tie.After-followed) → tie.Start
+at-start-4 c = at-start-2 (c .before .before .before .before)
+
+abbrev at-then1 : (c : tie.After-bytes) → tie.Then1
+at-then1 c = c .before .before .before
+
+abbrev at-followed : (c : tie.After-settled) → tie.After-followed
+at-followed c = c .before .before .before .before
+
 ends-within-requires : tie.Need-ends-within-requires
 ends-within-requires c κs = search needs
 
@@ -26,12 +45,14 @@ same-length c = search needs
 
 returns : tie.Need-returns
 returns c =
-    let a = c .before .before .before .before .before .before .before .before .before .before .before .before .args in
-    let r = c .passed .ensures (settings (a .long) (a .edition)) (a .s .now) (a .elements .now) (c .before .before .before .before .before .before .before .before .before .before .before .before .pre .heads) (c .before .before .before .before .before .before .before .before .before .before .before .before .pre .staged) in
-    (PartAs.passes (leb-false _ _ (sym (c .before .before .before .before .before .before .ends-within .ensures) ∙ not-true _ (c .before .before .before .before .before .if1 .taken))) r (c .before .before .before .clear-bytes .ensures), part-fits _ _ (c .passed .result) r)
+    let then1 = at-then1 (c .before .before) in
+    let start = at-start-3 then1 in
+    let a = start .args in
+    let r = c .passed .ensures (settings (a .long) (a .edition)) (a .s .now) (a .elements .now) (start .pre .heads) (start .pre .staged) in
+    (PartAs.passes (leb-false _ _ (sym (then1 .before .ends-within .ensures) ∙ not-true _ (then1 .if1 .taken))) r (c .before .before .before .clear-bytes .ensures), part-fits _ _ (c .passed .result) r)
 
 -- The part ends within the string.
-within : (c : tie.Else1) → let a = c .before .before .before .before .before .before .before .args in a .start + a .size ≤ length (a .string .now)
+within : (c : tie.Else1) → let a = at-start (c .before .before .before) .args in a .start + a .size ≤ length (a .string .now)
 within c = leb-true _ _ (sym (c .before .ends-within .ensures) ∙ not-false _ (c .if1 .left))
 
 add-end : tie.Need-add-end
@@ -49,7 +70,7 @@ part-followed-end c =
     search needs
 
 followed-requires : tie.Need-followed-requires
-followed-requires c κs = c .before .before .before .before .before .before .before .before .before .pre
+followed-requires c κs = at-start-2 (c .before .before .before) .pre
 
 settled-requires : tie.Need-settled-requires
 settled-requires c κs = search needs
@@ -59,13 +80,14 @@ same-length-2 c = search needs
 
 returns-2 : tie.Need-returns-2
 returns-2 c =
-    let a = c .before .before .before .before .before .before .before .before .before .before .before .before .before .before .before .before .args in
-    let w = c .before .before .before .before .before .before .followed in
+    let followed = at-followed (c .before .before) in
+    let a = at-start-4 followed .args in
+    let w = followed .followed in
     let d = take (a .start + a .size - a .start) (drop (a .start) (a .string .now)) in
     let (r, n) = c .before .before .settled .ensures (settings (a .long) (a .edition)) (a .s .now) d (a .bytes .now) (w .kept .1 .1 .1 .1 .1 .1 .1 .1 .1 .1 .1 .1 .0) (w .ensures) in
     let whole : a .start + a .size - a .start ≡ a .size = omega arith in
     let so = rw whole at r in
-    (PartAs.within (within (c .before .before .before .before .before .before .before .before .before)) so, answer-fits Lent.bytes _ _ d _ _ (c .before .before .settled .result) r n)
+    (PartAs.within (within (followed .before .before .before)) so, answer-fits Lent.bytes _ _ d _ _ (c .before .before .settled .result) r n)
 
 pub read-part-spec : {M : Type 1} → statement M
 read-part-spec = tie.close (tie.spec ends-within-requires clear-bytes-requires passed-requires same-length returns add-end sub-followed part-followed-start part-followed-end followed-requires settled-requires same-length-2 returns-2)

@@ -18,28 +18,50 @@ Inv-loop g long edition s string starts lengths elements index rows places facts
 abbrev μ-loop : tie.MeasureT-loop
 μ-loop g long edition s string starts lengths elements index rows places facts members lists froms sizes bytes₀ answers₀ i₀ bytes answers i = length starts - i
 
+-- The points that the needs go back to.
+abbrev at-start-3 : (c : tie.After-shared-slice-known4 Inv-loop μ-loop) → tie.Start Inv-loop μ-loop
+at-start-3 c = c .before .before .before .before
+
+abbrev at-start-2 : (c : tie.After-shared-slice-known8 Inv-loop μ-loop) → tie.Start Inv-loop μ-loop
+at-start-2 c = at-start-3 (c .before .before .before .before)
+
+abbrev at-start : (c : tie.In-loop Inv-loop μ-loop) → tie.Start Inv-loop μ-loop
+at-start c = at-start-2 (c .before .before .before .before)
+
+abbrev at-loop-turn-2 : (c : tie.After-shared-slice-known12 Inv-loop μ-loop) → tie.In-loop Inv-loop μ-loop
+at-loop-turn-2 c = c .before .before .before .before
+
+abbrev at-loop-turn : (c : tie.After-read-part Inv-loop μ-loop) → tie.In-loop Inv-loop μ-loop
+at-loop-turn c = at-loop-turn-2 (c .before .before)
+
+abbrev at-read-part : (c : tie.After-put-answer Inv-loop μ-loop) → tie.After-read-part Inv-loop μ-loop
+at-read-part c = c .before .before .before .before
+
 -- The lists have an entry for each document.
-equal : (c : tie.In-loop Inv-loop μ-loop) → let a = c .before .before .before .before .before .before .before .before .before .before .before .before .args in Equal (batchOf (a .starts .now) (a .lengths .now) (a .froms .now) (a .sizes .now)) (length (a .answers .now))
+equal : (c : tie.In-loop Inv-loop μ-loop) → let a = at-start c .args in Equal (batchOf (a .starts .now) (a .lengths .now) (a .froms .now) (a .sizes .now)) (length (a .answers .now))
 equal c =
-    let a = c .before .before .before .before .before .before .before .before .before .before .before .before .args in
-    fit-equal (batchOf (a .starts .now) (a .lengths .now) (a .froms .now) (a .sizes .now)) (length (a .answers .now)) (length (a .bytes .now)) (c .before .before .before .before .before .before .before .before .before .before .before .before .pre .1)
+    let start = at-start c in
+    let a = start .args in
+    fit-equal (batchOf (a .starts .now) (a .lengths .now) (a .froms .now) (a .sizes .now)) (length (a .answers .now)) (length (a .bytes .now)) (start .pre .1)
 
 -- There are at most 200.
 soon : (c : tie.In-loop Inv-loop μ-loop) → c .before .loop .i < 200
 soon c =
-    let a = c .before .before .before .before .before .before .before .before .before .before .before .before .args in
-    omega (arith, fit-few (batchOf (a .starts .now) (a .lengths .now) (a .froms .now) (a .sizes .now)) (length (a .answers .now)) (length (a .bytes .now)) (c .before .before .before .before .before .before .before .before .before .before .before .before .pre .1), c .loop-test .taken)
+    let start = at-start c in
+    let a = start .args in
+    omega (arith, fit-few (batchOf (a .starts .now) (a .lengths .now) (a .froms .now) (a .sizes .now)) (length (a .answers .now)) (length (a .bytes .now)) (start .pre .1), c .loop-test .taken)
 
 -- The document's stretch ends within the buffer.
-ends : (c : tie.In-loop Inv-loop μ-loop) → let a = c .before .before .before .before .before .before .before .before .before .before .before .before .args in getD (a .froms .now) (c .before .loop .i) 0 + getD (a .sizes .now) (c .before .loop .i) 0 ≤ length (c .before .loop .bytes)
+ends : (c : tie.In-loop Inv-loop μ-loop) → let a = at-start c .args in getD (a .froms .now) (c .before .loop .i) 0 + getD (a .sizes .now) (c .before .loop .i) 0 ≤ length (c .before .loop .bytes)
 ends c =
-    let a = c .before .before .before .before .before .before .before .before .before .before .before .before .args in
-    let within = fit-within (batchOf (a .starts .now) (a .lengths .now) (a .froms .now) (a .sizes .now)) (length (a .answers .now)) (length (a .bytes .now)) (c .before .before .before .before .before .before .before .before .before .before .before .before .pre .1) (c .before .loop .i) (c .loop-test .taken) in
+    let start = at-start c in
+    let a = start .args in
+    let within = fit-within (batchOf (a .starts .now) (a .lengths .now) (a .froms .now) (a .sizes .now)) (length (a .answers .now)) (length (a .bytes .now)) (start .pre .1) (c .before .loop .i) (c .loop-test .taken) in
     omega (arith, within, c .before .loop .inv .same)
 
 loop-holds : tie.Need-loop-holds Inv-loop μ-loop
 loop-holds c =
-    let a = c .before .before .before .before .before .before .before .before .before .before .args in
+    let a = at-start-2 (c .before .before) .args in
     done-none Lent.bytes (settings (a .long) (a .edition)) (a .s .now) (a .string .now) (batchOf (a .starts .now) (a .lengths .now) (a .froms .now) (a .sizes .now)) (a .bytes .now) (a .answers .now)
 
 mul-from : tie.Need-mul-from Inv-loop μ-loop
@@ -81,26 +103,30 @@ part-read-part-end c =
     search needs
 
 read-part-requires : tie.Need-read-part-requires Inv-loop μ-loop
-read-part-requires c κs = c .before .before .before .before .before .before .before .before .before .before .before .before .before .before .before .before .before .pre .0
+read-part-requires c κs = at-start (at-loop-turn-2 (c .before)) .pre .0
 
 put-answer-requires : tie.Need-put-answer-requires Inv-loop μ-loop
 put-answer-requires c κs =
-    (c .before .before .before .read-part .ensures .1, soon (c .before .before .before .before .before .before .before .before .before), omega (arith, equal (c .before .before .before .before .before .before .before .before .before) .answers-equal, c .before .before .before .before .before .before .before .before .before .before .loop .inv .answers-same))
+    let loop-turn = at-loop-turn (c .before .before .before) in
+    (c .before .before .before .read-part .ensures .1, soon loop-turn, omega (arith, equal loop-turn .answers-equal, loop-turn .before .loop .inv .answers-same))
 
 add-i : tie.Need-add-i Inv-loop μ-loop
-add-i c = omega (arith, soon (c .before .before .before .before .before .before .before .before .before .before .before .before))
+add-i c = omega (arith, soon (at-loop-turn (at-read-part (c .before .before))))
 
 loop-less : tie.Need-loop-less Inv-loop μ-loop
 loop-less c = omega arith
 
 loop-again : tie.Need-loop-again Inv-loop μ-loop
 loop-again c =
-    let a = c .before .before .before .before .before .before .before .before .before .before .before .before .before .before .before .before .before .before .before .before .before .before .before .before .args in
-    let i = c .before .before .before .before .before .before .before .before .before .before .before .before .before .loop .i in
-    let r = c .before .before .before .before .before .before .read-part in
-    done-again Lent.bytes (settings (a .long) (a .edition)) (a .s .now) (a .string .now) (batchOf (a .starts .now) (a .lengths .now) (a .froms .now) (a .sizes .now)) (a .bytes .now) (a .answers .now) (c .before .before .before .before .before .before .before .before .before .before .before .before .before .before .before .before .before .before .before .before .before .before .before .before .pre .1) i (c .before .before .before .before .before .before .before .before .before .before .before .before .before .loop .bytes) (c .before .before .before .before .before .before .before .before .before .before .before .before .before .loop .answers) (c .before .before .before .before .before .before .before .before .before .before .before .before .before .loop .inv) (omega arith)
+    let read-part = at-read-part (c .before .before) in
+    let loop-turn = at-loop-turn read-part in
+    let start = at-start loop-turn in
+    let a = start .args in
+    let i = loop-turn .before .loop .i in
+    let r = read-part .read-part in
+    done-again Lent.bytes (settings (a .long) (a .edition)) (a .s .now) (a .string .now) (batchOf (a .starts .now) (a .lengths .now) (a .froms .now) (a .sizes .now)) (a .bytes .now) (a .answers .now) (start .pre .1) i (loop-turn .before .loop .bytes) (loop-turn .before .loop .answers) (loop-turn .before .loop .inv) (omega arith)
     (getD (a .froms .now) i 0 + getD (a .sizes .now) i 0 - getD (a .froms .now) i 0) (answerOf (r .result)) _ _ (omega arith) (r .kept .1 .1 .1 .1 .1 .1 .1 .1 .1 .1 .1 .1 .1 .1 .0) (r .ensures .0)
-    (omega (arith, equal (c .before .before .before .before .before .before .before .before .before .before .before .before) .answers-equal, c .before .before .before .before .before .before .before .before .before .before .before .before .before .loop .inv .answers-same)) (c .before .before .put-answer .ensures)
+    (omega (arith, equal loop-turn .answers-equal, loop-turn .before .loop .inv .answers-same)) (c .before .before .put-answer .ensures)
 
 same-length : tie.Need-same-length Inv-loop μ-loop
 same-length c = c .before .loop .inv .same
@@ -110,7 +136,7 @@ same-length-2 c = c .before .loop .inv .answers-same
 
 returns : tie.Need-returns Inv-loop μ-loop
 returns c =
-    let first = c .before .before .before .before .before .before .before .before .before .before .before .before in
+    let first = at-start-2 (c .before .before .before .before) in
     let a = first .args in
     done-all (c .before .loop .inv) (omega (arith, c .before .loop .inv .few)) (fit-equal (batchOf (a .starts .now) (a .lengths .now) (a .froms .now) (a .sizes .now)) (length (a .answers .now)) (length (a .bytes .now)) (first .pre .1) .answers-equal)
 
