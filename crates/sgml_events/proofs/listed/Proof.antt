@@ -7,6 +7,13 @@ use borrow.Author.Needs.{needs}
 use Rattle.sgml_events.proofs.listed.Statement.{statement}
 use Rattle.sgml_events.proofs.listed.Tie as tie
 
+-- The points that the needs go back to.
+abbrev at-start : (c : tie.After-given) → tie.Start
+at-start c = c .before .before
+
+abbrev at-given : (c : tie.After-list) → tie.After-given
+at-given c = c .before .before
+
 given-requires : tie.Need-given-requires
 given-requires c κs = search needs
 
@@ -24,18 +31,24 @@ enum-told-2 c = search needs
 
 returns : tie.Need-returns
 returns c =
-    let (es, accepted) = c .before .before .before .before .before .before .before .pre .0 in
-    listed-in _ _ (c .before .before .before .before .before .before .before .pre .1) es accepted (listed-given (c .before .before .before .before .before .given .ensures) (c .before .before .before .list .ensures)) _ (ap answerOf (c .before .v .given .1))
+    let given = at-given (c .before .before .before) in
+    let start = at-start given in
+    let (es, accepted) = start .pre .0 in
+    listed-in _ _ (start .pre .1) es accepted (listed-given (given .given .ensures) (c .before .before .before .list .ensures)) _ (ap answerOf (c .before .v .given .1))
 
 returns-2 : tie.Need-returns-2
 returns-2 c =
-    let (es, accepted) = c .before .before .before .before .before .before .pre .0 in
-    absurd (listed-not _ _ (c .before .before .before .before .before .before .pre .1) es accepted (listed-given (c .before .before .before .before .given .ensures) (c .before .before .list .ensures)) (ap answerOf (c .enum-told .given .1)) (omega arith))
+    let given = c .before .before .before .before in
+    let start = at-start given in
+    let (es, accepted) = start .pre .0 in
+    absurd (listed-not _ _ (start .pre .1) es accepted (listed-given (given .given .ensures) (c .before .before .list .ensures)) (ap answerOf (c .enum-told .given .1)) (omega arith))
 
 returns-3 : tie.Need-returns-3
 returns-3 c =
-    let (es, accepted) = c .before .before .before .before .before .before .pre .0 in
-    absurd (listed-not _ _ (c .before .before .before .before .before .before .pre .1) es accepted (listed-given (c .before .before .before .before .given .ensures) (c .before .before .list .ensures)) (ap answerOf (c .enum-told2 .given .1)) (omega arith))
+    let given = c .before .before .before .before in
+    let start = at-start given in
+    let (es, accepted) = start .pre .0 in
+    absurd (listed-not _ _ (start .pre .1) es accepted (listed-given (given .given .ensures) (c .before .before .list .ensures)) (ap answerOf (c .enum-told2 .given .1)) (omega arith))
 
 pub listed-spec : {M : Type 1} → statement M
 listed-spec =

@@ -7,6 +7,13 @@ use Rattle.sgml_events.specs.Files.{whole-of}
 use Rattle.sgml_events.proofs.main.Statement.{statement}
 use Rattle.sgml_events.proofs.main.Tie as tie
 
+-- The points that the needs go back to.
+abbrev at-a : (c : tie.After-first-bytes2) → tie.After-a
+at-a c = c .before .before .before .before
+
+abbrev at-a-2 : (c : tie.After-d2) → tie.After-a
+at-a-2 c = at-a (c .before)
+
 slice-aggregate-first-bytes : tie.Need-slice-aggregate-first-bytes
 slice-aggregate-first-bytes c = search needs
 
@@ -45,13 +52,13 @@ returns-2 c = search needs
 
 array-share-prefix-s : tie.Need-array-share-prefix-s
 array-share-prefix-s c =
-    let a = c .before .before .before .before .before .before .before .before in
+    let a = at-a (c .before .before .before .before) in
     let read = a .before .before .before .first-bytes in
     loaded-in (read .last .1 .0) (a .a .given .1) (read .ensures) .0
 
 slice-aggregate-print : tie.Need-slice-aggregate-print
 slice-aggregate-print c =
-    let a = c .before .before .before .before .before .before .before .before .before in
+    let a = at-a-2 (c .before .before .before .before) in
     let read = a .before .before .before .first-bytes in
     loaded-in (read .last .1 .0) (a .a .given .1) (read .ensures) .1
 
@@ -70,7 +77,7 @@ slice-aggregate-print-2 c =
 print-requires : tie.Need-print-requires
 print-requires c κs =
     let b = c .before .before .before in
-    let a = b .before .before .before .before .before .before .before in
+    let a = at-a (b .before .before .before) in
     let type = a .before .before .before .first-bytes in
     let document = b .before .before .before .first-bytes2 in (
       whole-of 32768 (type .last .1 .0) (loaded-in (type .last .1 .0) (a .a .given .1) (type .ensures)) (loaded-whole (type .last .1 .0) (a .a .given .1) (type .ensures)) (omega (arith, a .before .before .s2 .given)),

@@ -10,6 +10,19 @@ use Rattle.file_reader.specs.Loading.{counts-of}
 use Rattle.sgml_events.proofs.put_events.Statement.{statement}
 use Rattle.sgml_events.proofs.put_events.Tie as tie
 
+-- The points that the needs go back to.
+abbrev at-start-2 : (c : tie.After-elements) → tie.Start
+at-start-2 c = c .before .before .before .before
+
+abbrev at-start : (c : tie.After-judge) → tie.Start
+at-start c = at-start-2 (c .before)
+
+abbrev at-judge : (c : tie.After-listed) → tie.After-judge
+at-judge c = c .before .before .before
+
+abbrev at-listed : (c : tie.After-put-events) → tie.After-listed
+at-listed c = c .before .before .before .before
+
 slice-aggregate-judge : tie.Need-slice-aggregate-judge
 slice-aggregate-judge c = search needs
 
@@ -20,22 +33,25 @@ judge-requires : tie.Need-judge-requires
 judge-requires c κs = search needs
 
 listed-requires : tie.Need-listed-requires
-listed-requires c κs = (c .before .before .before .before .before .before .before .pre .1, length-replicate {A = ℕ} ATTRIBUTE-RECORDS 0)
+listed-requires c κs = (at-start (c .before .before) .pre .1, length-replicate {A = ℕ} ATTRIBUTE-RECORDS 0)
 
 put-events-requires : tie.Need-put-events-requires
 put-events-requires c κs =
-    let (es, accepted) = c .before .before .before .before .before .before .before .before .before .before .before .pre .1 in
+    let judge = at-judge (c .before .before .before) in
+    let (es, accepted) = at-start judge .pre .1 in
     let listed = c .before .before .before .listed .ensures in
-    (omega arith, table-fits _ es accepted _ _ _ refl (judged-given (c .before .before .before .before .before .before .before .before .given .ensures) (c .before .before .before .before .before .before .judge .ensures)), omega arith, listed .few, listed .fits)
+    (omega arith, table-fits _ es accepted _ _ _ refl (judged-given (judge .before .before .given .ensures) (judge .judge .ensures)), omega arith, listed .few, listed .fits)
 
 same-length : tie.Need-same-length
 same-length c = search needs
 
 returns : tie.Need-returns
 returns c =
+    let listed = at-listed (c .before .before) in
+    let judge = at-judge listed in
     let said = c .before .before .put-events .ensures in
-    let judged = judged-given (c .before .before .before .before .before .before .before .before .before .before .before .given .ensures) (c .before .before .before .before .before .before .before .before .before .judge .ensures) in
-    (counts-of _ _ (said .0), λ es ev rest accepted q count. text-is _ _ _ _ _ _ (said .1) es ev rest (names-are _ es accepted _ _ _ refl judged) (c .before .before .before .before .before .before .listed .ensures .named es accepted) q count)
+    let judged = judged-given (judge .before .before .given .ensures) (judge .judge .ensures) in
+    (counts-of _ _ (said .0), λ es ev rest accepted q count. text-is _ _ _ _ _ _ (said .1) es ev rest (names-are _ es accepted _ _ _ refl judged) (listed .listed .ensures .named es accepted) q count)
 
 pub put-events-spec : {M : Type 1} → statement M
 put-events-spec = tie.close (tie.spec given-requires slice-aggregate-judge judge-requires listed-requires put-events-requires same-length returns)
