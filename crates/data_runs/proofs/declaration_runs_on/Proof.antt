@@ -10,7 +10,7 @@ use Rattle.data_runs.specs.Runs.{declaration-runs, skipped-stops}
 use Rattle.data_runs.proofs.declaration_runs_on.Statement.{statement}
 use Rattle.data_runs.proofs.declaration_runs_on.Tie as tie
 
--- The points that the needs go back to.
+-- The point that the needs go back to.
 abbrev at-start : (c : tie.After-dashes-at) → tie.Start
 at-start c = c .before .before .before .before
 

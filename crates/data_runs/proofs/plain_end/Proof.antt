@@ -20,7 +20,7 @@ Inv-loop2 classes s at i₀ i = (at ≤ i) × (i ≤ length s) × (runEnd s i �
 abbrev μ-loop2 : tie.MeasureT-loop2
 μ-loop2 classes s at i₀ i = length s - i
 
--- The points that the needs go back to.
+-- The point that the needs go back to.
 abbrev at-start : (c : tie.At-loop2 Inv-loop μ-loop Inv-loop2 μ-loop2) → tie.Start Inv-loop μ-loop Inv-loop2 μ-loop2
 at-start c = c .before .before .before .before
 

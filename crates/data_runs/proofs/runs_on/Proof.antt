@@ -8,7 +8,7 @@ use Rattle.data_runs.specs.Runs.{byte-runs}
 use Rattle.data_runs.proofs.runs_on.Statement.{statement}
 use Rattle.data_runs.proofs.runs_on.Tie as tie
 
--- The points that the needs go back to.
+-- The point that the needs go back to.
 abbrev at-byte : (c : tie.After-is-section-end) → tie.After-byte
 at-byte c = c .before .before .before .before
 

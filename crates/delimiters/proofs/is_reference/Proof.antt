@@ -7,7 +7,7 @@ use Rattle.text.specs.Words.{tested}
 use Rattle.delimiters.proofs.is_reference.Statement.{statement}
 use Rattle.delimiters.proofs.is_reference.Tie as tie
 
--- The points that the needs go back to.
+-- The point that the needs go back to.
 abbrev at-byte2 : (c : tie.After-is-letter) → tie.After-byte2
 at-byte2 c = c .before
 

@@ -13,7 +13,7 @@ use Rattle.document_text.specs.Ways.{markup-start, markup-end, markup-de
 use Rattle.document_text.proofs.markup_at.Statement.{statement}
 use Rattle.document_text.proofs.markup_at.Tie as tie
 
--- The points that the needs go back to.
+-- The point that the needs go back to.
 abbrev at-start : (c : tie.After-is-letter) → tie.Start
 at-start c = c .before .before .before
 

@@ -13,7 +13,7 @@ use Rattle.element_reader.specs.Ways.{close-end, close-exception, close-
 use Rattle.element_reader.proofs.close_at.Statement.{statement}
 use Rattle.element_reader.proofs.close_at.Tie as tie
 
--- The points that the needs go back to.
+-- The point that the needs go back to.
 abbrev at-start : (c : tie.After-byte) → tie.Start
 at-start c = c .before .before
 

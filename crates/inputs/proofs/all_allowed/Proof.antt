@@ -13,7 +13,7 @@ Inv-loop d bad₀ i₀ bad i = Looked d bad i
 abbrev μ-loop : tie.MeasureT-loop
 μ-loop d bad₀ i₀ bad i = length d - i
 
--- The points that the needs go back to.
+-- The point that the needs go back to.
 abbrev at-start : (c : tie.At-loop Inv-loop μ-loop) → tie.Start Inv-loop μ-loop
 at-start c = c .before .before
 

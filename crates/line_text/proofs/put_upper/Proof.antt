@@ -12,7 +12,7 @@ Inv-loop out₀ at s from size i₀ out i = Puts out₀ at out i (upper s (from 
 abbrev μ-loop : tie.MeasureT-loop
 μ-loop out₀ at s from size i₀ out i = size - i
 
--- The points that the needs go back to.
+-- The point that the needs go back to.
 abbrev at-start : (c : tie.At-loop Inv-loop μ-loop) → tie.Start Inv-loop μ-loop
 at-start c = c .before .before .before
 

@@ -7,7 +7,7 @@ use Rattle.member_sets.specs.Linking.{found-alone, found-within}
 use Rattle.member_sets.proofs.around.Statement.{statement}
 use Rattle.member_sets.proofs.around.Tie as tie
 
--- The points that the needs go back to.
+-- The point that the needs go back to.
 abbrev at-start : (c : tie.After-range) → tie.Start
 at-start c = c .before .before .before .before
 

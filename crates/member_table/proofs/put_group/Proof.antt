@@ -16,7 +16,7 @@ Inv-loop members₀ base table lasts groups own stack first needed k j₀ member
 abbrev μ-loop : tie.MeasureT-loop
 μ-loop members₀ base table lasts groups own stack first needed k j₀ members j = k - j
 
--- The points that the needs go back to.
+-- The point that the needs go back to.
 abbrev at-start : (c : tie.After-members Inv-loop μ-loop) → tie.Start Inv-loop μ-loop
 at-start c = c .before .before .before .before
 

@@ -14,7 +14,7 @@ Inv-loop buffer₀ table n k₀ buffer k = (k ≤ n) × (length buffer ≡ lengt
 abbrev μ-loop : tie.MeasureT-loop
 μ-loop buffer₀ table n k₀ buffer k = n - k
 
--- The points that the needs go back to.
+-- The point that the needs go back to.
 abbrev at-loop : (c : tie.After-put-number Inv-loop μ-loop) → tie.At-loop Inv-loop μ-loop
 at-loop c = c .before .before .before .before
 

@@ -7,7 +7,7 @@ use Rattle.record_ends.specs.Freeing.{frees-free, frees-behind, frees-wh
 use Rattle.record_ends.proofs.freed.Statement.{statement}
 use Rattle.record_ends.proofs.freed.Tie as tie
 
--- The points that the needs go back to.
+-- The point that the needs go back to.
 abbrev at-else2 : (c : tie.After-numbers) → tie.Else2
 at-else2 c = c .before .before .before .before
 

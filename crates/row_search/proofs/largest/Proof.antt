@@ -14,7 +14,7 @@ Inv-loop rows places e u q₀ q = (q .0 ≤ 96) × Seeks (RowSays rows (e .0) (u
 abbrev μ-loop : tie.MeasureT-loop
 μ-loop rows places e u q₀ q = q .0
 
--- The points that the needs go back to.
+-- The point that the needs go back to.
 abbrev at-bit : (c : tie.After-smaller Inv-loop μ-loop) → tie.After-bit Inv-loop μ-loop
 at-bit c = c .before .before
 

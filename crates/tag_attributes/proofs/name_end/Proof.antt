@@ -15,7 +15,7 @@ Inv-loop classes s at i₀ i = (i ≤ length s) × (i + span nameByte (drop i s)
 abbrev μ-loop : tie.MeasureT-loop
 μ-loop classes s at i₀ i = length s - i
 
--- The points that the needs go back to.
+-- The point that the needs go back to.
 abbrev at-start : (c : tie.At-loop Inv-loop μ-loop) → tie.Start Inv-loop μ-loop
 at-start c = c .before .before
 

@@ -9,7 +9,7 @@ use Rattle.tags.specs.Attributes.{start-long, start-on, start-ends, read
 use Rattle.tags.proofs.start_tag_at.Statement.{statement}
 use Rattle.tags.proofs.start_tag_at.Tie as tie
 
--- The points that the needs go back to.
+-- The point that the needs go back to.
 abbrev at-start : (c : tie.After-name-end) → tie.Start
 at-start c = c .before .before
 

@@ -7,7 +7,7 @@ use Rattle.tags.specs.Tags.{tag-long, tag-read, tag-open}
 use Rattle.tags.proofs.tag_at.Statement.{statement}
 use Rattle.tags.proofs.tag_at.Tie as tie
 
--- The points that the needs go back to.
+-- The point that the needs go back to.
 abbrev at-start : (c : tie.After-name-end) → tie.Start
 at-start c = c .before .before
 

@@ -7,7 +7,7 @@ use Rattle.type_tables.specs.Inferring.{infers-by, none-required, large-
 use Rattle.type_tables.proofs.startable.Statement.{statement}
 use Rattle.type_tables.proofs.startable.Tie as tie
 
--- The points that the needs go back to.
+-- The point that the needs go back to.
 abbrev at-else1 : (c : tie.After-struct-known4) → tie.Else1
 at-else1 c = c .before .before .before .before
 

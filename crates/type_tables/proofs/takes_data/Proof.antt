@@ -8,7 +8,7 @@ use Rattle.type_tables.specs.Fitting.{fits-low, fits-high, some-found, r
 use Rattle.type_tables.proofs.takes_data.Statement.{statement}
 use Rattle.type_tables.proofs.takes_data.Tie as tie
 
--- The points that the needs go back to.
+-- The point that the needs go back to.
 abbrev at-start : (c : tie.After-wide) → tie.Start
 at-start c = c .before .before .before .before
 

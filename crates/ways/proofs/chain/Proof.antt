@@ -14,7 +14,7 @@ Inv-loop rows places facts x c₀ n₀ c n = (1 ≤ n) × (c .0 ≤ 64) × Carri
 abbrev μ-loop : tie.MeasureT-loop
 μ-loop rows places facts x c₀ n₀ c n = 65 - n
 
--- The points that the needs go back to.
+-- The point that the needs go back to.
 abbrev at-loop-turn : (c : tie.After-fitting-first Inv-loop μ-loop) → tie.In-loop Inv-loop μ-loop
 at-loop-turn c = c .before .before .before
 

@@ -14,7 +14,7 @@ Inv-loop s a t b n k₀ k = sameText s (a + k) t (b + k) (n - k) ≡ sameText s 
 abbrev μ-loop : tie.MeasureT-loop
 μ-loop s a t b n k₀ k = n - k
 
--- The points that the needs go back to.
+-- The point that the needs go back to.
 abbrev at-start : (c : tie.In-loop Inv-loop μ-loop) → tie.Start Inv-loop μ-loop
 at-start c = c .before .before .before .before
 

@@ -4,7 +4,7 @@ use borrow.Author.Needs.{needs}
 use Rattle.open_elements.proofs.Open.end.Statement.{statement}
 use Rattle.open_elements.proofs.Open.end.Tie as tie
 
--- The points that the needs go back to.
+-- The point that the needs go back to.
 abbrev at-start : (c : tie.After-wide) → tie.Start
 at-start c = c .before .before .before .before
 

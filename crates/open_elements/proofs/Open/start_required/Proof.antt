@@ -10,7 +10,7 @@ use Rattle.open_elements.specs.Taken.{marking-same, marking-plain, marki
 use Rattle.open_elements.proofs.Open.start_required.Statement.{statement}
 use Rattle.open_elements.proofs.Open.start_required.Tie as tie
 
--- The points that the needs go back to.
+-- The point that the needs go back to.
 abbrev at-start : (c : tie.After-place) → tie.Start
 at-start c = c .before .before .before .before
 
