@@ -4,6 +4,13 @@ use borrow.Author.Needs.{needs}
 use Rattle.and_next.proofs.is_left.Statement.{statement}
 use Rattle.and_next.proofs.is_left.Tie as tie
 
+-- The points that the needs go back to.
+abbrev at-start-2 : (c : tie.After-without) → tie.Start
+at-start-2 c = c .before .before .before .before
+
+abbrev at-start : (c : tie.After-holding) → tie.Start
+at-start c = at-start-2 (c .before .before .before .before)
+
 among-requires : tie.Need-among-requires
 among-requires c κs = search needs
 
@@ -29,10 +36,10 @@ with-requires : tie.Need-with-requires
 with-requires c κs = search needs
 
 holding-requires-2 : tie.Need-holding-requires-2
-holding-requires-2 c κs = let start = c .before .before .before .before .before .before .before .before .before in (omega (arith, start .pre), (omega (arith, start .pre), omega (arith, start .pre)))
+holding-requires-2 c κs = let start = at-start (c .before) in (omega (arith, start .pre), (omega (arith, start .pre), omega (arith, start .pre)))
 
 with-requires-2 : tie.Need-with-requires-2
-with-requires-2 c κs = let start = c .before .before .before .before .before .before .before .before .before .before in (omega (arith, start .pre), omega (arith, start .pre))
+with-requires-2 c κs = let start = at-start (c .before .before) in (omega (arith, start .pre), omega (arith, start .pre))
 
 without-requires-3 : tie.Need-without-requires-3
 without-requires-3 c κs = search needs

@@ -19,17 +19,11 @@ at-start-2 c = c .before .before .before
 abbrev at-start : (c : tie.After-name-end) → tie.Start
 at-start c = at-start-2 (c .before .before)
 
-abbrev at-name-end-3 : (c : tie.After-is-word) → tie.After-name-end
-at-name-end-3 c = c .before .before
+abbrev at-name-end : (c : tie.After-is-word-arg2) → tie.After-name-end
+at-name-end c = c .before .before .before .before
 
-abbrev at-name-end-4 : (c : tie.After-is-word-arg2) → tie.After-name-end
-at-name-end-4 c = c .before .before .before .before
-
-abbrev at-name-end : (c : tie.After-is-cut) → tie.After-name-end
-at-name-end c = at-name-end-4 (c .before .before .before .before)
-
-abbrev at-name-end-2 : (c : tie.After-is-cut2) → tie.After-name-end
-at-name-end-2 c = at-name-end (c .before .before .before)
+abbrev at-name-end-2 : (c : tie.After-is-cut) → tie.After-name-end
+at-name-end-2 c = at-name-end (c .before .before .before .before)
 
 add-byte : tie.Need-add-byte
 add-byte c = search needs
@@ -81,7 +75,7 @@ is-word-requires c κs = omega (arith, inside (c .before))
 returns-2 : tie.Need-returns-2
 returns-2 c =
     let n = c .before .before .before in
-    let a = at-start (c .before .before .before) .args in
+    let a = at-start n .args in
     (word-required (a .s .now) (a .i) (named (n .before)) _ (n .name-end .ensures) (c .before .is-word .ensures) (c .if2 .taken), omega (arith, inside n))
 
 add-is-word-2 : tie.Need-add-is-word-2
@@ -97,7 +91,7 @@ returns-3 : tie.Need-returns-3
 returns-3 c =
     let e = c .before .before .before in
     let n = e .before .before .before in
-    let a = at-start (at-name-end-3 (c .before .before .before .before)) .args in
+    let a = at-start n .args in
     (word-implied (a .s .now) (a .i) (named (n .before)) _ (n .name-end .ensures) (e .before .is-word .ensures) (e .if2 .left) (c .before .is-word2 .ensures) (c .if3 .taken), omega (arith, inside n))
 
 add-is-cut : tie.Need-add-is-cut
@@ -107,7 +101,7 @@ slice-aggregate-is-cut : tie.Need-slice-aggregate-is-cut
 slice-aggregate-is-cut c = search needs
 
 is-cut-requires : tie.Need-is-cut-requires
-is-cut-requires c κs = omega (arith, inside (at-name-end-4 (c .before .before .before)))
+is-cut-requires c κs = omega (arith, inside (at-name-end (c .before .before .before)))
 
 refusal-requires-2 : tie.Need-refusal-requires-2
 refusal-requires-2 c κs = search needs
@@ -118,7 +112,7 @@ returns-4 c =
     let f = t .before .before .before in
     let e = f .before .before .before in
     let n = e .before .before .before in
-    let a = at-start (at-name-end (c .before .before)) .args in
+    let a = at-start n .args in
     rw (c .refusal2 .ensures)
     (word-cut (a .s .now) (a .i) (named (n .before)) _ (n .name-end .ensures) (e .before .is-word .ensures) (e .if2 .left) (f .before .is-word2 .ensures) (f .if3 .left) (t .before .is-cut .ensures) (t .if4 .taken), tt)
 
@@ -129,7 +123,7 @@ slice-aggregate-is-cut-2 : tie.Need-slice-aggregate-is-cut-2
 slice-aggregate-is-cut-2 c = search needs
 
 is-cut-requires-2 : tie.Need-is-cut-requires-2
-is-cut-requires-2 c κs = omega (arith, inside (at-name-end (c .before .before)))
+is-cut-requires-2 c κs = omega (arith, inside (at-name-end-2 (c .before .before)))
 
 refusal-requires-3 : tie.Need-refusal-requires-3
 refusal-requires-3 c κs = search needs
@@ -141,7 +135,7 @@ returns-5 c =
     let f = g .before .before .before in
     let e = f .before .before .before in
     let n = e .before .before .before in
-    let a = at-start (at-name-end-2 (c .before .before)) .args in
+    let a = at-start n .args in
     rw (c .refusal3 .ensures) (
       word-cut-too (a .s .now) (a .i) (named (n .before)) _ (n .name-end .ensures) (e .before .is-word .ensures) (e .if2 .left) (f .before .is-word2 .ensures) (f .if3 .left) (g .before .is-cut .ensures) (g .if4 .left)
           (t .before .is-cut2 .ensures) (t .if5 .taken),
@@ -158,7 +152,7 @@ returns-6 c =
     let f = g .before .before .before in
     let e = f .before .before .before in
     let n = e .before .before .before in
-    let a = at-start (at-name-end-2 (c .before .before)) .args in
+    let a = at-start n .args in
     rw (c .refusal4 .ensures) (
       word-wrong (a .s .now) (a .i) (named (n .before)) _ (n .name-end .ensures) (e .before .is-word .ensures) (e .if2 .left) (f .before .is-word2 .ensures) (f .if3 .left) (g .before .is-cut .ensures) (g .if4 .left)
           (t .before .is-cut2 .ensures) (t .if5 .left),

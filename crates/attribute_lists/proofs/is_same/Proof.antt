@@ -5,7 +5,7 @@ use Rattle.attribute_lists.specs.Lookup.{other-size, same-size}
 use Rattle.attribute_lists.proofs.is_same.Statement.{statement}
 use Rattle.attribute_lists.proofs.is_same.Tie as tie
 
--- The points that the needs go back to.
+-- The point that the needs go back to.
 abbrev at-start : (c : tie.After-widened) → tie.Start
 at-start c = c .before .before .before
 

@@ -15,6 +15,16 @@ Inv-loop long s lists d e given n marks₀ misfit₀ k₀ marks misfit k = (k �
 abbrev μ-loop : tie.MeasureT-loop
 μ-loop long s lists d e given n marks₀ misfit₀ k₀ marks misfit k = n - k
 
+-- The points that the needs go back to.
+abbrev at-start-2 : (c : tie.At-loop Inv-loop μ-loop) → tie.Start Inv-loop μ-loop
+at-start-2 c = c .before .before .before .before
+
+abbrev at-start : (c : tie.After-kept Inv-loop μ-loop) → tie.Start Inv-loop μ-loop
+at-start c = at-start-2 (c .before .before)
+
+abbrev at-kept : (c : tie.After-mark Inv-loop μ-loop) → tie.After-kept Inv-loop μ-loop
+at-kept c = c .before .before
+
 loop-holds : tie.Need-loop-holds Inv-loop μ-loop
 loop-holds c = (omega arith, omega arith, going-first _ _ _ _ _ _ _)
 
@@ -24,7 +34,7 @@ kept-requires c κs = omega arith
 mark-requires : tie.Need-mark-requires Inv-loop μ-loop
 mark-requires c κs =
     let kept = c .before in
-    let start = kept .before .before .before .before .before .before in
+    let start = at-start kept in
     (omega arith, omega arith, omega arith, omega arith, kept-in (length (start .args .d .now)) (start .args .given .now) (start .args .n) (start .pre .3) _ (omega arith) (kept .kept .result) (kept .kept .ensures))
 
 returns : tie.Need-returns Inv-loop μ-loop
@@ -37,8 +47,8 @@ returns c =
 
 add-misfit : tie.Need-add-misfit Inv-loop μ-loop
 add-misfit c =
-    let kept = c .before .before .before .before .before .before in
-    let start = kept .before .before .before .before .before .before in
+    let kept = at-kept (c .before .before .before .before) in
+    let start = at-start kept in
     omega (arith, kept-in (length (start .args .d .now)) (start .args .given .now) (start .args .n) (start .pre .3) (kept .before .before .loop .k) (omega arith) (kept .kept .result) (kept .kept .ensures))
 
 add-k : tie.Need-add-k Inv-loop μ-loop

@@ -5,7 +5,7 @@ use borrow.Author.Needs.{needs}
 use Rattle.attribute_records.proofs.note_numbers.Statement.{statement}
 use Rattle.attribute_records.proofs.note_numbers.Tie as tie
 
--- The points that the needs go back to.
+-- The point that the needs go back to.
 abbrev at-start : (c : tie.After-put-numbers-arg) → tie.Start
 at-start c = c .before .before .before .before
 

@@ -11,7 +11,7 @@ Inv-loop lists e n numbers₀ bytes₀ count a₀ numbers bytes a = ListSoFar li
 abbrev μ-loop : tie.MeasureT-loop
 μ-loop lists e n numbers₀ bytes₀ count a₀ numbers bytes a = count - a
 
--- The points that the needs go back to.
+-- The point that the needs go back to.
 abbrev at-attribute : (c : tie.After-numbers Inv-loop μ-loop) → tie.After-attribute Inv-loop μ-loop
 at-attribute c = c .before .before .before .before
 

@@ -12,7 +12,7 @@ Inv-loop lists n numbers₀ bytes₀ m₀ k₀ numbers bytes m k = ListsSoFar li
 abbrev μ-loop : tie.MeasureT-loop
 μ-loop lists n numbers₀ bytes₀ m₀ k₀ numbers bytes m k = n - k
 
--- The points that the needs go back to.
+-- The point that the needs go back to.
 abbrev at-loop : (c : tie.After-put-list Inv-loop μ-loop) → tie.At-loop Inv-loop μ-loop
 at-loop c = c .before .before .before .before
 

@@ -4,7 +4,7 @@ use borrow.Author.Needs.{needs}
 use Rattle.attribute_records.proofs.put_record.Statement.{statement}
 use Rattle.attribute_records.proofs.put_record.Tie as tie
 
--- The points that the needs go back to.
+-- The point that the needs go back to.
 abbrev at-note-numbers : (c : tie.After-row2) → tie.After-note-numbers
 at-note-numbers c = c .before .before .before .before
 

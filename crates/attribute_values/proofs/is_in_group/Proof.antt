@@ -24,14 +24,8 @@ abbrev μ-loop : tie.MeasureT-loop
 abbrev at-start : (c : tie.After-separators-end Inv-loop μ-loop) → tie.Start Inv-loop μ-loop
 at-start c = c .before .before .before .before
 
-abbrev at-start-4 : (c : tie.After-is-token Inv-loop μ-loop) → tie.Start Inv-loop μ-loop
-at-start-4 c = at-start (c .before .before .before)
-
-abbrev at-start-2 : (c : tie.Else2 Inv-loop μ-loop) → tie.Start Inv-loop μ-loop
-at-start-2 c = at-start (c .before .before .before .before)
-
-abbrev at-start-3 : (c : tie.After-is-connector Inv-loop μ-loop) → tie.Start Inv-loop μ-loop
-at-start-3 c = at-start-4 (c .before .before .before .before)
+abbrev at-start-2 : (c : tie.After-is-token Inv-loop μ-loop) → tie.Start Inv-loop μ-loop
+at-start-2 c = at-start (c .before .before .before)
 
 returns : tie.Need-returns Inv-loop μ-loop
 returns c =
@@ -63,13 +57,13 @@ is-token-requires c κs =
 returns-2 : tie.Need-returns-2 Inv-loop μ-loop
 returns-2 c =
     let z = c .before .before .before in
-    let a = at-start (c .before .before .before .before) .args in
+    let a = at-start (z .before) .args in
     λ d ps g. sym (group-has (a .s .now) (a .v .now) ps (z .loop .i) (z .loop .inv .1 d ps g) _ (c .before .before .name-end .ensures) (c .before .is-token .ensures) (c .if2 .taken))
 
 separators-end-requires-2 : tie.Need-separators-end-requires-2 Inv-loop μ-loop
 separators-end-requires-2 c κs =
     let z = c .before .before .before in
-    let s = at-start (c .before .before .before .before) .args .s .now in
+    let s = at-start (z .before) .args .s .now in
     omega (arith, nameEnd-le s (z .loop .i) (z .loop .inv .0))
 
 byte-requires : tie.Need-byte-requires Inv-loop μ-loop
@@ -83,7 +77,7 @@ returns-3 c =
     let w = c .before .before .before in
     let f = w .before .before in
     let z = f .before .before in
-    let a = at-start-2 (c .before .before .before .before) .args in
+    let a = at-start (z .before) .args in
     λ d ps g.
     sym (group-lacks (a .s .now) (a .v .now) ps (z .loop .i) (z .loop .inv .1 d ps g) _ (f .before .name-end .ensures) (f .is-token .ensures) (w .before .if2 .left)
     _ (w .separators-end2 .ensures) _ (c .before .before .byte .ensures) (c .before .is-connector .ensures) (not-true _ (c .if3 .taken)))
@@ -91,20 +85,20 @@ returns-3 c =
 add-separators-end-2 : tie.Need-add-separators-end-2 Inv-loop μ-loop
 add-separators-end-2 c =
     let w = c .before .before .before in
-    let s = at-start-2 (c .before .before .before .before) .args .s .now in
+    let s = at-start-2 (w .before .before) .args .s .now in
     omega (arith, connector-in s (w .separators-end2 .result) _ (c .before .before .byte .ensures) (c .before .is-connector .ensures) (not-false _ (c .if3 .left)))
 
 separators-end-requires-3 : tie.Need-separators-end-requires-3 Inv-loop μ-loop
 separators-end-requires-3 c κs =
     let w = c .before .before .before in
-    let s = at-start-2 (c .before .before .before .before) .args .s .now in
+    let s = at-start-2 (w .before .before) .args .s .now in
     omega (arith, connector-in s (w .separators-end2 .result) _ (c .before .before .byte .ensures) (c .before .is-connector .ensures) (not-false _ (c .if3 .left)))
 
 loop-less : tie.Need-loop-less Inv-loop μ-loop
 loop-less c =
     let w = c .before .before .before .before in
     let z = w .before .before .before .before in
-    let s = at-start-3 (c .before .before) .args .s .now in
+    let s = at-start (z .before) .args .s .now in
     let j = w .separators-end2 .result in
     omega (
       arith,
@@ -119,7 +113,7 @@ loop-again c =
     let w = c .before .before .before .before in
     let f = w .before .before in
     let z = f .before .before in
-    let a = at-start-3 (c .before .before) .args in
+    let a = at-start (z .before) .args in
     let j = w .separators-end2 .result in
     let inside = connector-in (a .s .now) j _ (c .before .before .before .byte .ensures) (c .before .before .is-connector .ensures) (not-false _ (c .before .if3 .left)) in (
       omega (arith, separatorsEnd-le (a .s .now) (j + 1) (omega (arith, inside))),

@@ -10,7 +10,7 @@ use Rattle.attribute_values.specs.Tests.{name-other, name-long, name-is}
 use Rattle.attribute_values.proofs.is_name.Statement.{statement}
 use Rattle.attribute_values.proofs.is_name.Tie as tie
 
--- The points that the needs go back to.
+-- The point that the needs go back to.
 abbrev at-start : (c : tie.After-is-letter) → tie.Start
 at-start c = c .before .before .before
 

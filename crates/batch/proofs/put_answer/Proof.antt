@@ -4,7 +4,7 @@ use borrow.Author.Needs.{needs}
 use Rattle.batch.proofs.put_answer.Statement.{statement}
 use Rattle.batch.proofs.put_answer.Tie as tie
 
--- The points that the needs go back to.
+-- The point that the needs go back to.
 abbrev at-numbers-read : (c : tie.After-answers) → tie.After-numbers-read
 at-numbers-read c = c .before .before .before .before
 

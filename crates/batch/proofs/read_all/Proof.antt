@@ -26,11 +26,11 @@ at-judged c = c .before .before
 abbrev at-match-keys2-2 : (c : tie.After-places) → tie.At-match-keys2
 at-match-keys2-2 c = c .before .before .before .before
 
-abbrev at-g-3 : (c : tie.After-lists2) → tie.After-g
-at-g-3 c = c .before .before .before .before
-
 abbrev at-match-keys2 : (c : tie.After-lists) → tie.At-match-keys2
 at-match-keys2 c = at-match-keys2-2 (c .before .before .before)
+
+abbrev at-g-3 : (c : tie.After-lists2) → tie.After-g
+at-g-3 c = c .before .before .before .before
 
 abbrev at-g : (c : tie.After-facts2) → tie.After-g
 at-g c = at-g-3 (c .before .before .before .before)

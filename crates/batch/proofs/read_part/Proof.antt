@@ -22,11 +22,11 @@ at-start-2 c = at-start (c .before .before)
 abbrev at-start-3 : (c : tie.Then1) → tie.Start
 at-start-3 c = at-start (c .before .before .before)
 
-abbrev at-then1 : (c : tie.After-bytes) → tie.Then1
-at-then1 c = c .before .before .before
-
 abbrev at-start-4 : (c : tie.After-followed) → tie.Start
 at-start-4 c = at-start-2 (c .before .before .before .before)
+
+abbrev at-then1 : (c : tie.After-bytes) → tie.Then1
+at-then1 c = c .before .before .before
 
 abbrev at-followed : (c : tie.After-settled) → tie.After-followed
 at-followed c = c .before .before .before .before

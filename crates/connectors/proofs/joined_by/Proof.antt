@@ -6,6 +6,22 @@ use Rattle.connectors.specs.Grown.{by-seq, by-and, by-alt}
 use Rattle.connectors.proofs.joined_by.Statement.{statement}
 use Rattle.connectors.proofs.joined_by.Tie as tie
 
+-- The points that the needs go back to.
+abbrev at-earlier2 : (c : tie.Then1) → tie.After-earlier2
+at-earlier2 c = c .before
+
+abbrev at-earlier2-2 : (c : tie.Then2) → tie.After-earlier2
+at-earlier2-2 c = c .before .before
+
+abbrev at-earlier2-3 : (c : tie.After-join-alt) → tie.After-earlier2
+at-earlier2-3 c = c .before .before .before
+
+abbrev at-then1 : (c : tie.After-join-seq) → tie.Then1
+at-then1 c = c .before .before .before
+
+abbrev at-then2 : (c : tie.After-join-and) → tie.Then2
+at-then2 c = c .before .before .before
+
 earlier-requires : tie.Need-earlier-requires
 earlier-requires c κs = search needs
 
@@ -26,8 +42,10 @@ put-requires c κs = search needs
 
 returns : tie.Need-returns
 returns c =
-    let x = c .before .before .before .before .before .before .before .before .args in
-    by-seq (x .b) (x .i) (x .lo) (x .m) (x .u) _ _ _ _ _ _ _ (c .put .ensures .1) (c .before .before .before .before .before .before .earlier2 .ensures) (c .before .before .before .before .before .if1 .taken) (c .before .before .join-seq .ensures .1) (c .before .before .join-seq .ensures .0) (c .put .ensures .0) (c .before .before .before .before .before .before .before .earlier .ensures)
+    let then1 = at-then1 (c .before .before) in
+    let earlier2 = at-earlier2 then1 in
+    let x = earlier2 .before .before .args in
+    by-seq (x .b) (x .i) (x .lo) (x .m) (x .u) _ _ _ _ _ _ _ (c .put .ensures .1) (earlier2 .earlier2 .ensures) (then1 .if1 .taken) (c .before .before .join-seq .ensures .1) (c .before .before .join-seq .ensures .0) (c .put .ensures .0) (earlier2 .before .earlier .ensures)
 
 add-join-and : tie.Need-add-join-and
 add-join-and c = search needs
@@ -49,8 +67,10 @@ earlier-requires-3 c κs = search needs
 
 returns-2 : tie.Need-returns-2
 returns-2 c =
-    let x = c .before .before .before .before .before .before .before .before .before .before .args in
-    by-and (x .b) (x .i) (x .lo) (x .m) (x .u) _ _ _ _ _ _ _ (c .before .put2 .ensures .1) (c .before .before .before .before .before .before .before .before .earlier2 .ensures) (c .before .before .before .before .before .before .if2 .taken) (c .before .before .before .join-and .ensures .1) (c .before .before .before .join-and .ensures .0) (c .before .put2 .ensures .0) (c .earlier3 .ensures)
+    let then2 = at-then2 (c .before .before .before) in
+    let earlier2 = at-earlier2-2 then2 in
+    let x = earlier2 .before .before .args in
+    by-and (x .b) (x .i) (x .lo) (x .m) (x .u) _ _ _ _ _ _ _ (c .before .put2 .ensures .1) (earlier2 .earlier2 .ensures) (then2 .if2 .taken) (c .before .before .before .join-and .ensures .1) (c .before .before .before .join-and .ensures .0) (c .before .put2 .ensures .0) (c .earlier3 .ensures)
 
 join-alt-requires : tie.Need-join-alt-requires
 join-alt-requires c κs = search needs
@@ -60,8 +80,9 @@ put-requires-3 c κs = search needs
 
 returns-3 : tie.Need-returns-3
 returns-3 c =
-    let x = c .before .before .before .before .before .before .before .args in
-    by-alt (x .b) (x .i) (x .lo) (x .m) (x .u) _ _ _ _ _ _ _ (c .put3 .ensures .1) (c .before .before .before .before .before .earlier2 .ensures) (c .before .before .before .before .if1 .left) (c .before .before .before .if2 .left) (c .before .before .join-alt .ensures) refl (c .put3 .ensures .0) (c .before .before .before .before .before .before .earlier .ensures)
+    let earlier2 = at-earlier2-3 (c .before .before) in
+    let x = earlier2 .before .before .args in
+    by-alt (x .b) (x .i) (x .lo) (x .m) (x .u) _ _ _ _ _ _ _ (c .put3 .ensures .1) (earlier2 .earlier2 .ensures) (c .before .before .before .before .if1 .left) (c .before .before .before .if2 .left) (c .before .before .join-alt .ensures) refl (c .put3 .ensures .0) (earlier2 .before .earlier .ensures)
 
 pub joined-by-spec : {M : Type 1} → statement M
 joined-by-spec =

@@ -4,6 +4,22 @@ use Rattle.connectors.specs.Grown.{occurs-opt, occurs-plus, occurs-star,
 use Rattle.connectors.proofs.with_occurrence.Statement.{statement}
 use Rattle.connectors.proofs.with_occurrence.Tie as tie
 
+-- The points that the needs go back to.
+abbrev at-start-2 : (c : tie.After-byte) → tie.Start
+at-start-2 c = c .before .before .before
+
+abbrev at-start : (c : tie.Else1) → tie.Start
+at-start c = c .before .before .before .before
+
+abbrev at-else1 : (c : tie.After-repeat) → tie.Else1
+at-else1 c = c .before .before .before
+
+abbrev at-else1-2 : (c : tie.After-repeat2) → tie.Else1
+at-else1-2 c = c .before .before .before .before
+
+abbrev at-repeat2 : (c : tie.After-optional2) → tie.After-repeat2
+at-repeat2 c = c .before .before .before
+
 byte-requires : tie.Need-byte-requires
 byte-requires c κs = search needs
 
@@ -18,7 +34,7 @@ put-requires c κs = search needs
 
 returns : tie.Need-returns
 returns c T names n d t K =
-    let x = c .before .before .before .before .before .before .before .args in
+    let x = at-start-2 (c .before .before .before .before) .args in
     occurs-opt (x .s .now) (x .lo) T n d names _ (x .m) t K (c .before .before .before .before .byte .result) (c .before .before .before .before .byte .ensures) _ _ _ (c .before .before .before .if1 .taken) (c .before .before .optional .ensures) (c .put .ensures .0) (c .put .ensures .1)
 
 add-repeat : tie.Need-add-repeat
@@ -35,8 +51,9 @@ put-requires-2 c κs = search needs
 
 returns-2 : tie.Need-returns-2
 returns-2 c T names n d t K =
-    let x = c .before .before .before .before .before .before .before .before .before .args in
-    occurs-plus (x .s .now) (x .lo) T n d names _ (x .m) t K (c .before .before .before .before .before .before .byte .result) (c .before .before .before .before .before .before .byte .ensures) _ (c .before .before .before .before .before .if1 .left) (c .before .before .repeat .ensures) _ _ (c .before .before .before .before .if2 .taken) (c .put2 .ensures .0) (c .put2 .ensures .1)
+    let else1 = at-else1 (c .before .before) in
+    let x = at-start else1 .args in
+    occurs-plus (x .s .now) (x .lo) T n d names _ (x .m) t K (else1 .before .byte .result) (else1 .before .byte .ensures) _ (else1 .if1 .left) (c .before .before .repeat .ensures) _ _ (c .before .before .before .before .if2 .taken) (c .put2 .ensures .0) (c .put2 .ensures .1)
 
 add-repeat-2 : tie.Need-add-repeat-2
 add-repeat-2 c = search needs
@@ -58,12 +75,14 @@ put-requires-4 c κs = search needs
 
 returns-3 : tie.Need-returns-3
 returns-3 c T names n d t K =
-    let x = c .before .before .before .before .before .before .before .before .before .before .before .before .before .args in
-    occurs-star (x .s .now) (x .lo) T n d names _ (x .m) t K (c .before .before .before .before .before .before .before .before .before .before .byte .result) (c .before .before .before .before .before .before .before .before .before .before .byte .ensures) _ (c .before .before .before .before .before .before .before .before .before .if1 .left) (c .before .before .before .before .before .repeat2 .ensures) _ _ _ _ _ (c .before .before .before .before .before .before .before .before .if2 .left) (c .before .before .before .before .before .before .before .if3 .taken) (c .before .before .optional2 .ensures) (c .before .before .before .put3 .ensures .0) (c .before .before .before .put3 .ensures .1) (c .put4 .ensures .0) (c .put4 .ensures .1)
+    let repeat2 = at-repeat2 (c .before .before) in
+    let else1 = at-else1-2 repeat2 in
+    let x = at-start else1 .args in
+    occurs-star (x .s .now) (x .lo) T n d names _ (x .m) t K (else1 .before .byte .result) (else1 .before .byte .ensures) _ (else1 .if1 .left) (repeat2 .repeat2 .ensures) _ _ _ _ _ (repeat2 .before .before .before .if2 .left) (repeat2 .before .before .if3 .taken) (c .before .before .optional2 .ensures) (c .before .before .before .put3 .ensures .0) (c .before .before .before .put3 .ensures .1) (c .put4 .ensures .0) (c .put4 .ensures .1)
 
 returns-4 : tie.Need-returns-4
 returns-4 c T names n d t K =
-    let x = c .before .before .before .before .before .before .args in
+    let x = at-start (c .before .before) .args in
     occurs-not (x .s .now) (x .lo) T n d names _ (x .m) t K (c .before .before .before .byte .result) (c .before .before .before .byte .ensures) (c .before .before .if1 .left) (c .before .if2 .left) (c .if3 .left)
 
 pub with-occurrence-spec : {M : Type 1} → statement M

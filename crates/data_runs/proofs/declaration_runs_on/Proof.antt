@@ -10,6 +10,10 @@ use Rattle.data_runs.specs.Runs.{declaration-runs, skipped-stops}
 use Rattle.data_runs.proofs.declaration_runs_on.Statement.{statement}
 use Rattle.data_runs.proofs.declaration_runs_on.Tie as tie
 
+-- The point that the needs go back to.
+abbrev at-start : (c : tie.After-dashes-at) → tie.Start
+at-start c = c .before .before .before .before
+
 add-byte : tie.Need-add-byte
 add-byte c = search needs
 
@@ -26,7 +30,7 @@ dashes-at-requires c κs = search needs
 
 returns-2 : tie.Need-returns-2
 returns-2 c =
-    let a = c .before .before .before .before .before .args in
+    let a = at-start (c .before) .args in
     let comment = commentDeclaration (a .s .now) (a .i + 2) in
     sym (skipped-stops (malformed comment)) ∙ ap isRun (declaration-comment (a .s .now) (a .i) _ (c .before .before .before .byte .ensures) (c .before .before .if1 .left) comment refl (sym (c .before .dashes-at .ensures) ∙ c .if2 .taken))
 
@@ -35,7 +39,7 @@ is-left-out-requires c κs = search needs
 
 returns-3 : tie.Need-returns-3
 returns-3 c =
-    let a = c .before .before .before .before .before .before .args in
+    let a = at-start (c .before .before) .args in
     declaration-runs (a .s .now) (a .i) _ (c .before .before .before .before .byte .ensures) (c .before .before .before .if1 .left) (sym (c .before .before .dashes-at .ensures) ∙ c .before .if2 .left) _ (c .is-left-out .ensures)
 
 pub declaration-runs-on-spec : {M : Type 1} → statement M

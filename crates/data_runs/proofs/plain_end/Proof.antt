@@ -20,6 +20,10 @@ Inv-loop2 classes s at i₀ i = (at ≤ i) × (i ≤ length s) × (runEnd s i �
 abbrev μ-loop2 : tie.MeasureT-loop2
 μ-loop2 classes s at i₀ i = length s - i
 
+-- The point that the needs go back to.
+abbrev at-start : (c : tie.At-loop2 Inv-loop μ-loop Inv-loop2 μ-loop2) → tie.Start Inv-loop μ-loop Inv-loop2 μ-loop2
+at-start c = c .before .before .before .before
+
 loop-holds : tie.Need-loop-holds Inv-loop μ-loop Inv-loop2 μ-loop2
 loop-holds c = (omega arith, c .before .pre .1, refl)
 
@@ -49,7 +53,7 @@ shared-slice-read-is-special :
 shared-slice-read-is-special c = omega arith
 
 is-special-requires : tie.Need-is-special-requires Inv-loop μ-loop Inv-loop2 μ-loop2
-is-special-requires c κs = c .before .before .before .before .before .before .pre .0
+is-special-requires c κs = at-start (c .before .before) .pre .0
 
 returns-2 : tie.Need-returns-2 Inv-loop μ-loop Inv-loop2 μ-loop2
 returns-2 c = c .before .before .before .before .loop2 .inv
@@ -62,7 +66,7 @@ loop2-less c = omega arith
 
 loop2-again : tie.Need-loop2-again Inv-loop μ-loop Inv-loop2 μ-loop2
 loop2-again c =
-    let s = c .before .before .before .before .before .before .before .before .args .s .now in
+    let s = at-start (c .before .before .before .before) .args .s .now in
     (omega arith, omega arith, plain-turn s _ _ _ refl (c .before .before .before .loop2-test .taken) (sym (c .before .is-special .ensures) ∙ c .if2 .left) (c .before .before .before .before .loop2 .inv .2))
 
 returns-3 : tie.Need-returns-3 Inv-loop μ-loop Inv-loop2 μ-loop2

@@ -8,20 +8,36 @@ use borrow.Author.Needs.{needs}
 use Rattle.data_runs.proofs.plain_four.Statement.{statement}
 use Rattle.data_runs.proofs.plain_four.Tie as tie
 
+-- The points that the needs go back to.
+abbrev at-start : (c : tie.After-is-special) → tie.Start
+at-start c = c .before .before .before
+
+abbrev at-start-4 : (c : tie.Else1) → tie.Start
+at-start-4 c = c .before .before .before .before
+
+abbrev at-start-2 : (c : tie.After-is-special2) → tie.Start
+at-start-2 c = at-start (c .before .before .before)
+
+abbrev at-start-5 : (c : tie.After-shared-slice-known4) → tie.Start
+at-start-5 c = at-start-4 (c .before .before .before .before)
+
+abbrev at-start-3 : (c : tie.After-is-special4) → tie.Start
+at-start-3 c = at-start-5 (c .before .before .before .before)
+
 -- one byte is passed, two are, three are
 one : (c : tie.Else1) → let a = c .before .before .before .before .args in runEnd (a .s .now) (a .i + 1) ≡ runEnd (a .s .now) (a .i)
 one c =
     let a = c .before .before .before .before .args in
     plain-turn (a .s .now) (a .i) (a .i + 1) _ (omega arith) (omega arith) (sym (c .before .is-special .ensures) ∙ c .if1 .left) refl
 
-two : (c : tie.Else2) → let a = c .before .before .before .before .before .before .before .args in runEnd (a .s .now) (a .i + 2) ≡ runEnd (a .s .now) (a .i)
+two : (c : tie.Else2) → let a = at-start (c .before .before .before .before) .args in runEnd (a .s .now) (a .i + 2) ≡ runEnd (a .s .now) (a .i)
 two c =
-    let a = c .before .before .before .before .before .before .before .args in
+    let a = at-start (c .before .before .before .before) .args in
     plain-turn (a .s .now) (a .i + 1) (a .i + 2) _ (omega arith) (omega arith) (sym (c .before .is-special2 .ensures) ∙ c .if2 .left) (one (c .before .before .before))
 
-three : (c : tie.Else3) → let a = c .before .before .before .before .before .before .before .before .before .before .args in runEnd (a .s .now) (a .i + 3) ≡ runEnd (a .s .now) (a .i)
+three : (c : tie.Else3) → let a = at-start-2 (c .before .before .before .before) .args in runEnd (a .s .now) (a .i + 3) ≡ runEnd (a .s .now) (a .i)
 three c =
-    let a = c .before .before .before .before .before .before .before .before .before .before .args in
+    let a = at-start-2 (c .before .before .before .before) .args in
     plain-turn (a .s .now) (a .i + 2) (a .i + 3) _ (omega arith) (omega arith) (sym (c .before .is-special3 .ensures) ∙ c .if3 .left) (two (c .before .before .before))
 
 shared-slice-read-is-special : tie.Need-shared-slice-read-is-special
@@ -74,7 +90,7 @@ returns-4 c = (omega arith, three (c .before .before .before))
 
 returns-5 : tie.Need-returns-5
 returns-5 c =
-    let a = c .before .before .before .before .before .before .before .before .before .before .before .before .before .args in
+    let a = at-start-3 (c .before) .args in
     (omega arith, plain-turn (a .s .now) (a .i + 3) (a .i + 4) _ (omega arith) (omega arith) (sym (c .before .is-special4 .ensures) ∙ c .if4 .left) (three (c .before .before .before)))
 
 pub plain-four-spec : {M : Type 1} → statement M

@@ -16,6 +16,10 @@ Inv-loop classes s at i₀ i = (i ≤ length s) × (runEnd s i ≡ runEnd s at)
 abbrev μ-loop : tie.MeasureT-loop
 μ-loop classes s at i₀ i = length s - i
 
+-- The point that the needs go back to.
+abbrev at-start : (c : tie.At-loop Inv-loop μ-loop) → tie.Start Inv-loop μ-loop
+at-start c = c .before .before .before
+
 plain-end-requires : tie.Need-plain-end-requires Inv-loop μ-loop
 plain-end-requires c κs = search needs
 
@@ -27,7 +31,7 @@ runs-on-requires c κs = omega arith
 
 returns : tie.Need-returns Inv-loop μ-loop
 returns c =
-    let s = c .before .before .before .before .before .before .args .s .now in
+    let s = at-start (c .before .before .before) .args .s .now in
     run-stop s _ _ (sym (c .before .runs-on .ensures) ∙ not-true _ (c .if1 .taken)) (c .before .before .before .loop .inv .1)
 
 add-plain-end : tie.Need-add-plain-end Inv-loop μ-loop
@@ -41,7 +45,7 @@ loop-less c = omega (arith, c .plain-end2 .ensures .0)
 
 loop-again : tie.Need-loop-again Inv-loop μ-loop
 loop-again c =
-    let s = c .before .before .before .before .before .before .before .args .s .now in
+    let s = at-start (c .before .before .before .before) .args .s .now in
     let turn = run-turn s _ _ (c .before .before .before .loop-test .taken) (sym (c .before .before .runs-on .ensures) ∙ not-false _ (c .before .if1 .left)) (c .before .before .before .before .loop .inv .1) in
     (c .plain-end2 .ensures .1, c .plain-end2 .ensures .2 ∙ turn)
 

@@ -8,6 +8,10 @@ use Rattle.data_runs.specs.Runs.{byte-runs}
 use Rattle.data_runs.proofs.runs_on.Statement.{statement}
 use Rattle.data_runs.proofs.runs_on.Tie as tie
 
+-- The point that the needs go back to.
+abbrev at-byte : (c : tie.After-is-section-end) → tie.After-byte
+at-byte c = c .before .before .before .before
+
 byte-requires : tie.Need-byte-requires
 byte-requires c κs = search needs
 
@@ -24,21 +28,24 @@ is-reference-requires c κs = search needs
 
 returns-2 : tie.Need-returns-2
 returns-2 c =
-    let a = c .before .before .before .before .before .args in
-    ap isRun (piece-reference leastNameLength (a .s .now) (a .i) (λ e. c .before .before .if1 .left (c .before .before .before .byte .ensures ∙ e)) (sym (c .before .is-reference .ensures) ∙ c .if2 .taken))
+    let byte = c .before .before .before in
+    let a = byte .before .before .args in
+    ap isRun (piece-reference leastNameLength (a .s .now) (a .i) (λ e. c .before .before .if1 .left (byte .byte .ensures ∙ e)) (sym (c .before .is-reference .ensures) ∙ c .if2 .taken))
 
 is-section-end-requires : tie.Need-is-section-end-requires
 is-section-end-requires c κs = search needs
 
 returns-3 : tie.Need-returns-3
 returns-3 c =
-    let a = c .before .before .before .before .before .before .before .args in
-    ap isRun (piece-section leastNameLength (a .s .now) (a .i) (λ e. c .before .before .before .before .if1 .left (c .before .before .before .before .before .byte .ensures ∙ e)) (sym (c .before .before .before .is-reference .ensures) ∙ c .before .before .if2 .left) (sym (c .before .is-section-end .ensures) ∙ c .if3 .taken))
+    let byte = at-byte (c .before) in
+    let a = byte .before .before .args in
+    ap isRun (piece-section leastNameLength (a .s .now) (a .i) (λ e. c .before .before .before .before .if1 .left (byte .byte .ensures ∙ e)) (sym (c .before .before .before .is-reference .ensures) ∙ c .before .before .if2 .left) (sym (c .before .is-section-end .ensures) ∙ c .if3 .taken))
 
 returns-4 : tie.Need-returns-4
 returns-4 c =
-    let a = c .before .before .before .before .before .before .before .args in
-    let b = c .before .before .before .before .before .byte .ensures in
+    let byte = at-byte (c .before) in
+    let a = byte .before .before .args in
+    let b = byte .byte .ensures in
     byte-runs (a .s .now) (a .i) _ b ∙ ap isRun (piece-byte leastNameLength (a .s .now) (a .i) (λ e. c .before .before .before .before .if1 .left (b ∙ e)) (sym (c .before .before .before .is-reference .ensures) ∙ c .before .before .if2 .left) (sym (c .before .is-section-end .ensures) ∙ c .if3 .left))
 
 pub runs-on-spec : {M : Type 1} → statement M

@@ -7,6 +7,10 @@ use Rattle.text.specs.Words.{tested}
 use Rattle.delimiters.proofs.is_reference.Statement.{statement}
 use Rattle.delimiters.proofs.is_reference.Tie as tie
 
+-- The point that the needs go back to.
+abbrev at-byte2 : (c : tie.After-is-letter) → tie.After-byte2
+at-byte2 c = c .before
+
 byte-requires : tie.Need-byte-requires
 byte-requires c κs = search needs
 
@@ -26,7 +30,9 @@ returns-2 : tie.Need-returns-2
 returns-2 c = simp (eq-eqb _ _ (sym (c .before .before .before .before .byte .ensures) ∙ c .before .before .before .if1 .left), tested letter (c .before .before .byte2 .ensures) (c .before .is-letter .ensures) (c .if2 .taken))
 
 returns-3 : tie.Need-returns-3
-returns-3 c = simp (eq-eqb _ _ (sym (c .before .before .before .before .before .byte .ensures) ∙ c .before .before .before .before .if1 .left), tested letter (c .before .before .before .byte2 .ensures) (c .before .before .is-letter .ensures) (c .before .if2 .left), ne-eqb _ _ (λ e. c .if3 .taken (c .before .before .before .byte2 .ensures ∙ e)))
+returns-3 c =
+    let byte2 = c .before .before .before in
+    simp (eq-eqb _ _ (sym (byte2 .before .before .byte .ensures) ∙ byte2 .before .if1 .left), tested letter (byte2 .byte2 .ensures) (c .before .before .is-letter .ensures) (c .before .if2 .left), ne-eqb _ _ (λ e. c .if3 .taken (byte2 .byte2 .ensures ∙ e)))
 
 add-byte-2 : tie.Need-add-byte-2
 add-byte-2 c = search needs
@@ -38,7 +44,9 @@ is-letter-or-digit-requires : tie.Need-is-letter-or-digit-requires
 is-letter-or-digit-requires c κs = search needs
 
 returns-4 : tie.Need-returns-4
-returns-4 c = simp (c .is-letter-or-digit .ensures, c .before .byte3 .ensures, eq-eqb _ _ (sym (c .before .before .before .before .before .before .before .byte .ensures) ∙ c .before .before .before .before .before .before .if1 .left), tested letter (c .before .before .before .before .before .byte2 .ensures) (c .before .before .before .before .is-letter .ensures) (c .before .before .before .if2 .left), eq-eqb _ _ (sym (c .before .before .before .before .before .byte2 .ensures) ∙ c .before .before .if3 .left))
+returns-4 c =
+    let byte2 = at-byte2 (c .before .before .before .before) in
+    simp (c .is-letter-or-digit .ensures, c .before .byte3 .ensures, eq-eqb _ _ (sym (byte2 .before .before .byte .ensures) ∙ byte2 .before .if1 .left), tested letter (byte2 .byte2 .ensures) (c .before .before .before .before .is-letter .ensures) (c .before .before .before .if2 .left), eq-eqb _ _ (sym (byte2 .byte2 .ensures) ∙ c .before .before .if3 .left))
 
 pub is-reference-spec : {M : Type 1} → statement M
 is-reference-spec =

@@ -6,7 +6,7 @@ use borrow.Author.Needs.{needs}
 use Rattle.document_reader.proofs.judged.Statement.{statement}
 use Rattle.document_reader.proofs.judged.Tie as tie
 
--- The points that the needs go back to.
+-- The point that the needs go back to.
 abbrev at-start : (c : tie.After-judged-arg2) → tie.Start
 at-start c = c .before .before .before .before
 

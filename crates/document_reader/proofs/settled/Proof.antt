@@ -7,7 +7,7 @@ use borrow.Author.Needs.{needs}
 use Rattle.document_reader.proofs.settled.Statement.{statement}
 use Rattle.document_reader.proofs.settled.Tie as tie
 
--- The points that the needs go back to.
+-- The point that the needs go back to.
 abbrev at-refuses : (c : tie.After-buffer) → tie.After-refuses
 at-refuses c = c .before .before .before .before
 

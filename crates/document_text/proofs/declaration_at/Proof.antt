@@ -5,6 +5,13 @@ use Rattle.document_text.specs.Ways.{declaration-none, declaration-comme
 use Rattle.document_text.proofs.declaration_at.Statement.{statement}
 use Rattle.document_text.proofs.declaration_at.Tie as tie
 
+-- The points that the needs go back to.
+abbrev at-byte-2 : (c : tie.After-dashes-at) → tie.After-byte
+at-byte-2 c = c .before .before
+
+abbrev at-byte : (c : tie.After-is-left-out) → tie.After-byte
+at-byte c = c .before .before .before .before
+
 add-byte : tie.Need-add-byte
 add-byte c = search needs
 
@@ -33,21 +40,24 @@ comment-requires c κs = search needs
 
 returns-2 : tie.Need-returns-2
 returns-2 c =
-    let a = c .before .before .before .before .before .before .before .args in
-    c .comment .ensures ∙ declaration-comment (a .s .now) (a .i) _ (c .before .before .before .before .before .byte .ensures) (c .before .before .before .before .if1 .left) _ (c .before .comment-end .ensures) (sym (c .before .before .before .dashes-at .ensures) ∙ c .before .before .if2 .taken)
+    let byte = at-byte-2 (c .before .before .before) in
+    let a = byte .before .before .args in
+    c .comment .ensures ∙ declaration-comment (a .s .now) (a .i) _ (byte .byte .ensures) (c .before .before .before .before .if1 .left) _ (c .before .comment-end .ensures) (sym (c .before .before .before .dashes-at .ensures) ∙ c .before .before .if2 .taken)
 
 is-left-out-requires : tie.Need-is-left-out-requires
 is-left-out-requires c κs = search needs
 
 returns-3 : tie.Need-returns-3
 returns-3 c =
-    let a = c .before .before .before .before .before .before .before .args in
-    declaration-out (a .s .now) (a .i) _ (c .before .before .before .before .before .byte .ensures) (c .before .before .before .before .if1 .left) (sym (c .before .before .before .dashes-at .ensures) ∙ c .before .before .if2 .left) (sym (c .before .is-left-out .ensures) ∙ c .if3 .taken)
+    let byte = at-byte (c .before) in
+    let a = byte .before .before .args in
+    declaration-out (a .s .now) (a .i) _ (byte .byte .ensures) (c .before .before .before .before .if1 .left) (sym (c .before .before .before .dashes-at .ensures) ∙ c .before .before .if2 .left) (sym (c .before .is-left-out .ensures) ∙ c .if3 .taken)
 
 returns-4 : tie.Need-returns-4
 returns-4 c =
-    let a = c .before .before .before .before .before .before .before .args in
-    declaration-data (a .s .now) (a .i) _ (c .before .before .before .before .before .byte .ensures) (c .before .before .before .before .if1 .left) (sym (c .before .before .before .dashes-at .ensures) ∙ c .before .before .if2 .left) (sym (c .before .is-left-out .ensures) ∙ c .if3 .left)
+    let byte = at-byte (c .before) in
+    let a = byte .before .before .args in
+    declaration-data (a .s .now) (a .i) _ (byte .byte .ensures) (c .before .before .before .before .if1 .left) (sym (c .before .before .before .dashes-at .ensures) ∙ c .before .before .if2 .left) (sym (c .before .is-left-out .ensures) ∙ c .if3 .left)
 
 pub declaration-at-spec : {M : Type 1} → statement M
 declaration-at-spec =

@@ -13,6 +13,10 @@ use Rattle.document_text.specs.Ways.{markup-start, markup-end, markup-de
 use Rattle.document_text.proofs.markup_at.Statement.{statement}
 use Rattle.document_text.proofs.markup_at.Tie as tie
 
+-- The point that the needs go back to.
+abbrev at-start : (c : tie.After-is-letter) → tie.Start
+at-start c = c .before .before .before
+
 add-byte : tie.Need-add-byte
 add-byte c = search needs
 
@@ -48,7 +52,7 @@ add-tag-at c = search needs
 
 tag-at-requires : tie.Need-tag-at-requires
 tag-at-requires c κs =
-    let p = c .before .before .before .before .before .before in
+    let p = at-start (c .before .before .before) in
     let a = p .args in
     (p .pre .0, omega (arith, letter-in (a .s .now) (a .i + 2) (second (eqb (byteAt (a .s .now) (a .i + 1)) 47) _ (sym (c .before .is-end-tag .ensures) ∙ c .if2 .taken))))
 

@@ -11,6 +11,13 @@ use Rattle.element_content.specs.Contents.{content-model, content-word, 
 use Rattle.element_content.proofs.body_at.Statement.{statement}
 use Rattle.element_content.proofs.body_at.Tie as tie
 
+-- The points that the needs go back to.
+abbrev at-start : (c : tie.After-byte) → tie.Start
+at-start c = c .before .before
+
+abbrev at-start-2 : (c : tie.After-is-letter) → tie.Start
+at-start-2 c = c .before .before .before .before
+
 byte-requires : tie.Need-byte-requires
 byte-requires c κs = search needs
 
@@ -23,12 +30,12 @@ no-open c e = c .if1 .left (c .before .byte .ensures ∙ e)
 
 body-model-requires : tie.Need-body-model-requires
 body-model-requires c κs =
-    let a = c .before .before .before .before .before .args in
+    let a = at-start (c .before .before .before) .args in
     omega (arith, byte-is-in (a .s .now) (a .i) 40 (opens (c .before .before)) (omega arith))
 
 returns : tie.Need-returns
 returns c =
-    let a = c .before .before .before .before .before .before .args in
+    let a = at-start (c .before .before .before .before) .args in
     rw (content-model (a .long) (a .s .now) (a .from) (a .i) (opens (c .before .before .before))) (c .body-model .ensures)
 
 is-letter-requires : tie.Need-is-letter-requires
@@ -49,7 +56,7 @@ unfit-at-requires c κs = search needs
 
 returns-3 : tie.Need-returns-3
 returns-3 c =
-    let start = c .before .before .before .before .before .before in
+    let start = at-start-2 (c .before .before) in
     let a = start .args in
     let letter-is = tested letter (c .before .before .before .before .byte .ensures) (c .before .before .is-letter .ensures) (c .before .if2 .left) in
     let unfit = content-unfit (a .long) (a .s .now) (a .from) (a .i) (no-open (c .before .before .before)) letter-is in

@@ -14,15 +14,34 @@ use Rattle.element_content.specs.Contents.{model-fault, model-refused, m
 use Rattle.element_content.proofs.body_model.Statement.{statement}
 use Rattle.element_content.proofs.body_model.Tie as tie
 
+-- The points that the needs go back to.
+abbrev at-start : (c : tie.After-clear) → tie.Start
+at-start c = c .before .before .before
+
+abbrev at-clear-2 : (c : tie.After-group-at) → tie.After-clear
+at-clear-2 c = c .before .before .before
+
+abbrev at-clear : (c : tie.After-known-told) → tie.After-clear
+at-clear c = at-clear-2 (c .before .before .before)
+
+abbrev at-known-told : (c : tie.After-with-occurrence) → tie.After-known-told
+at-known-told c = c .before .before
+
+abbrev at-with-occurrence : (c : tie.After-short) → tie.After-with-occurrence
+at-with-occurrence c = c .before .before .before .before
+
 -- The group was read.
-group-read : (c : tie.After-known-told)
-    → (t : Tokens)
-    × (group (c .before .before .before .before .before .before .before .before .before .args .long) GRPLVL (c .before .before .before .before .before .before .before .before .before .args .s .now) (c .before .before .before .before .before .before .before .before .before .args .i) [] 0 ≡ got t)
-    × Keeps (length (c .before .before .before .before .before .before .before .before .before .args .s .now)) (begun 1 (c .before .before .before .before .before .before .clear .last .0) 0 2) 1 0 (c .before .before .before .group-at .last .1 .1 .1 .1 .1 .1 .1 .0) (c .before .before .before .group-at .last .1 .1 .1 .1 .1 .1 .1 .1 .0) (c .before .r .given .0 .0) t
+group-read : (c : tie.After-known-told) →
+    let clear = at-clear c in
+    let start = at-start clear in
+    (t : Tokens)
+    × (group (start .args .long) GRPLVL (start .args .s .now) (start .args .i) [] 0 ≡ got t)
+    × Keeps (length (start .args .s .now)) (begun 1 (clear .clear .last .0) 0 2) 1 0 (c .before .before .before .group-at .last .1 .1 .1 .1 .1 .1 .1 .0) (c .before .before .before .group-at .last .1 .1 .1 .1 .1 .1 .1 .1 .0) (c .before .r .given .0 .0) t
 unfolding placesOf
 group-read c =
+    let clear = at-clear c in
     let last = c .before .before .before .group-at .last .1 .1 .1 .1 .1 .1 .1 in
-    read-got (length (c .before .before .before .before .before .before .before .before .before .args .s .now)) (begun 1 (c .before .before .before .before .before .before .clear .last .0) 0 2) (last .0) (last .1 .0) (c .before .r .given .0 .0) _ (rw (c .before .r .given .1) at (c .before .before .before .group-at .ensures))
+    read-got (length (at-start clear .args .s .now)) (begun 1 (clear .clear .last .0) 0 2) (last .0) (last .1 .0) (c .before .r .given .0 .0) _ (rw (c .before .r .given .1) at (c .before .before .before .group-at .ensures))
 
 clear-requires : tie.Need-clear-requires
 clear-requires c κs = search needs
@@ -42,11 +61,12 @@ fault-of-requires c κs = search needs
 returns : tie.Need-returns
 unfolding placesOf
 returns c =
-    let a = c .before .before .before .before .before .before .before .before .before .args in
+    let clear = at-clear-2 (c .before .before .before) in
+    let a = at-start clear .args in
     let last = c .before .before .before .group-at .last .1 .1 .1 .1 .1 .1 .1 in
     body-refused (length (a .s .now)) (last .0) (last .1 .0) _ _
     (model-refused (a .long) (a .s .now) (a .i)
-    (model-fault (length (a .s .now)) (begun 1 (c .before .before .before .before .before .before .clear .last .0) 0 2) (last .0) (last .1 .0) (c .before .before .before .group-at .result) _ (c .before .before .before .group-at .ensures) (c .before .enum-told .given .1) (c .fault-of .ensures)))
+    (model-fault (length (a .s .now)) (begun 1 (clear .clear .last .0) 0 2) (last .0) (last .1 .0) (c .before .before .before .group-at .result) _ (c .before .before .before .group-at .ensures) (c .before .enum-told .given .1) (c .fault-of .ensures)))
 
 with-occurrence-requires : tie.Need-with-occurrence-requires
 with-occurrence-requires c κs =
@@ -67,12 +87,16 @@ short-requires-3 c κs = search needs
 
 returns-2 : tie.Need-returns-2
 returns-2 c =
-    let a = c .before .before .before .before .before .before .before .before .before .before .before .before .before .before .before .before .before .args in
-    let names = c .before .before .before .before .before .before .before .before .before .before .before .group-at .last .1 .1 .1 .1 .1 .1 .1 .0 in
-    let model = group-read (c .before .before .before .before .before .before .before .before) in
-    let kept = c .before .before .before .before .before .before .with-occurrence .ensures _ names _ 0 (model .0) (model .2) in
+    let with-occurrence = at-with-occurrence (c .before .before) in
+    let known-told = at-known-told with-occurrence in
+    let clear = at-clear known-told in
+    let start = at-start clear in
+    let a = start .args in
+    let names = known-told .before .before .before .group-at .last .1 .1 .1 .1 .1 .1 .1 .0 in
+    let model = group-read known-told in
+    let kept = with-occurrence .with-occurrence .ensures _ names _ 0 (model .0) (model .2) in
     body-meets (length (a .s .now)) names (c .before .before .before .finish .last .0) _ _ _ (model-got (a .long) (a .s .now) (a .i) (model .1))
-    (model-kept kept (model-plain (a .long) (a .s .now) (a .i) (c .before .before .before .before .before .before .before .before .before .before .before .before .before .before .before .before .before .pre .0) (model .0) (model .1)) (model-guarded (a .long) (a .s .now) (a .i) (c .before .before .before .before .before .before .before .before .before .before .before .before .before .before .before .before .before .pre .0) (model .0) (model .1)) (c .before .before .before .before .before .before .before .before .before .before .before .before .before .before .clear .ensures)
+    (model-kept kept (model-plain (a .long) (a .s .now) (a .i) (start .pre .0) (model .0) (model .1)) (model-guarded (a .long) (a .s .now) (a .i) (start .pre .0) (model .0) (model .1)) (clear .clear .ensures)
     _ _ _ (c .before .before .before .finish .ensures) (c .before .before .short .ensures .0) (c .before .short2 .ensures .0) (c .short3 .ensures .0))
 
 pub body-model-spec : {M : Type 1} → statement M

@@ -11,6 +11,16 @@ use Rattle.element_head.specs.Ends.{name-in, head-in}
 use Rattle.element_head.proofs.head_at.Statement.{statement}
 use Rattle.element_head.proofs.head_at.Tie as tie
 
+-- The points that the needs go back to.
+abbrev at-start-2 : (c : tie.After-gap-end) → tie.Start
+at-start-2 c = c .before .before
+
+abbrev at-start : (c : tie.After-g) → tie.Start
+at-start c = c .before .before .before .before
+
+abbrev at-g : (c : tie.After-element-name) → tie.After-g
+at-g c = c .before .before
+
 gap-end-requires : tie.Need-gap-end-requires
 gap-end-requires c κs = search needs
 
@@ -25,23 +35,27 @@ fault-of-requires c κs = search needs
 
 returns : tie.Need-returns
 returns c =
-    let a = c .before .before .before .before .before .args in
+    let a = at-start-2 (c .before .before .before) .args in
     let refused = reached-refused (c .before .before .before .gap-end .ensures) (c .before .enum-told .given .1) (c .fault-of .ensures) in
     (λ es n r. sym (head-gap (a .long) (a .s .now) (a .at) es refused), tt)
 
 -- The gap was read.
-gap-read : (c : tie.After-known-told) → gap (c .before .before .before .before .before .args .s .now) (c .before .before .before .before .before .args .at) ≡ got (c .before .g .given .0 .0)
+gap-read : (c : tie.After-known-told) →
+    let start = at-start (c .before) in
+    gap (start .args .s .now) (start .args .at) ≡ got (c .before .g .given .0 .0)
 gap-read c = reached-got (c .before .before .before .gap-end .ensures) (c .before .g .given .1)
 
 gap-in : (c : tie.After-known-told)
-    → (c .before .before .before .before .before .args .at ≤ c .before .g .given .0 .0) × (c .before .g .given .0 .0 ≤ length (c .before .before .before .before .before .args .s .now))
+    →
+    let start-point = at-start (c .before) in
+    (start-point .args .at ≤ c .before .g .given .0 .0) × (c .before .g .given .0 .0 ≤ length (start-point .args .s .now))
 gap-in c =
-    let start = c .before .before .before .before .before in
+    let start = at-start (c .before) in
     gap-range (start .args .s .now) (start .args .at) _ (start .pre .0) (gap-read c)
 
 element-name-requires : tie.Need-element-name-requires
 element-name-requires c κs =
-    let start = c .before .before .before .before .before in
+    let start = at-start (c .before) in
     (gap-in c .1, start .pre .1, start .pre .2)
 
 enum-known-n : tie.Need-enum-known-n
@@ -56,7 +70,7 @@ fault-of-requires-2 c κs = search needs
 returns-2 : tie.Need-returns-2
 returns-2 c =
     let read = c .before .before .before .before in
-    let a = read .before .before .before .before .before .args in (
+    let a = at-start (read .before) .args in (
       λ es n r.
           sym
           (head-name (a .long) (a .s .now) (a .at) es (gap-read read)
@@ -66,22 +80,25 @@ returns-2 c =
 
 -- The name was read.
 name-read : (c : tie.After-known-told2)
-    → (c .before .before .before .before .before .g .given .0 .0 ≤ c .before .n .given .0 .0)
-    × (c .before .n .given .0 .0 ≤ length (c .before .before .before .before .before .before .before .before .before .args .s .now))
-    × (c .before .before .before .before .before .before .before .before .before .args .count < 64)
-    × (c .before .n .given .0 .0 ≤ c .before .before .before .before .before .g .given .0 .0 + c .before .before .before .before .before .before .before .before .before .args .long)
+    →
+    let g = at-g (c .before .before .before) in
+    let start = at-start g in
+    (g .g .given .0 .0 ≤ c .before .n .given .0 .0)
+    × (c .before .n .given .0 .0 ≤ length (start .args .s .now))
+    × (start .args .count < 64)
+    × (c .before .n .given .0 .0 ≤ g .g .given .0 .0 + start .args .long)
 name-read c = name-in _ (c .before .before .before .element-name .ensures .1) (c .before .n .given .1)
 
 words-at-requires : tie.Need-words-at-requires
 words-at-requires c κs =
     let name = name-read c in
-    (name .0, name .1, c .before .before .before .before .before .before .before .before .before .pre .1)
+    (name .0, name .1, at-start (at-g (c .before .before .before)) .pre .1)
 
 returns-3 : tie.Need-returns-3
 returns-3 c =
     let name = c .before in
     let read = name .before .before .before .before in
-    let a = read .before .before .before .before .before .args in
+    let a = at-start (read .before) .args in
     let size = name-read name in (
       λ es n r.
           c .words-at .ensures

@@ -11,6 +11,19 @@ use Rattle.rules_laws.specs.Declarations.{omission-range}
 use Rattle.element_head.proofs.words_at.Statement.{statement}
 use Rattle.element_head.proofs.words_at.Tie as tie
 
+-- The points that the needs go back to.
+abbrev at-start-2 : (c : tie.After-gap-end) → tie.Start
+at-start-2 c = c .before .before
+
+abbrev at-start : (c : tie.After-g) → tie.Start
+at-start c = c .before .before .before .before
+
+abbrev at-g : (c : tie.After-a) → tie.After-g
+at-g c = c .before .before .before .before
+
+abbrev at-a : (c : tie.After-gap-end2) → tie.After-a
+at-a c = c .before .before
+
 gap-end-requires : tie.Need-gap-end-requires
 gap-end-requires c κs = search needs
 
@@ -25,20 +38,22 @@ fault-of-requires c κs = search needs
 
 returns : tie.Need-returns
 returns c =
-    let a = c .before .before .before .before .before .args in
+    let a = at-start-2 (c .before .before .before) .args in
     sym (words-gap (a .long) (a .s .now) (a .i) (a .e) (reached-refused (c .before .before .before .gap-end .ensures) (c .before .enum-told .given .1) (c .fault-of .ensures)))
 
 -- The first gap was read.
-gap-read : (c : tie.After-known-told) → gap (c .before .before .before .before .before .args .s .now) (c .before .before .before .before .before .args .e) ≡ got (c .before .g .given .0 .0)
+gap-read : (c : tie.After-known-told) →
+    let start = at-start (c .before) in
+    gap (start .args .s .now) (start .args .e) ≡ got (c .before .g .given .0 .0)
 gap-read c = reached-got (c .before .before .before .gap-end .ensures) (c .before .g .given .1)
 
-gap-in : (c : tie.After-known-told) → c .before .g .given .0 .0 ≤ length (c .before .before .before .before .before .args .s .now)
+gap-in : (c : tie.After-known-told) → c .before .g .given .0 .0 ≤ length (at-start (c .before) .args .s .now)
 gap-in c =
-    let start = c .before .before .before .before .before in
+    let start = at-start (c .before) in
     gap-range (start .args .s .now) (start .args .e) _ (start .pre .1) (gap-read c) .1
 
 omission-at-requires : tie.Need-omission-at-requires
-omission-at-requires c κs = (gap-in c, c .before .before .before .before .before .pre .2)
+omission-at-requires c κs = (gap-in c, at-start (c .before) .pre .2)
 
 enum-known-a : tie.Need-enum-known-a
 enum-known-a c = search needs
@@ -52,21 +67,24 @@ fault-of-omission-requires c κs = search needs
 returns-2 : tie.Need-returns-2
 returns-2 c =
     let read = c .before .before .before .before in
-    let a = read .before .before .before .before .before .args in
+    let a = at-start (read .before) .args in
     sym
     (words-start (a .long) (a .s .now) (a .i) (a .e) (gap-read read)
     (word-refused (c .before .before .before .omission-at .ensures) (c .before .enum-told2 .given .1) (c .fault-of-omission .ensures)))
 
 -- The first word was read.
 start-read : (c : tie.After-known-told2)
-    → omission (c .before .before .before .before .before .before .before .before .before .args .long) (c .before .before .before .before .before .before .before .before .before .args .s .now) (c .before .before .before .before .before .before .before .before .before .args .e) (c .before .before .before .before .before .g .given .0 .0)
+    →
+    let g = at-g (c .before) in
+    let start = at-start g in
+    omission (start .args .long) (start .args .s .now) (start .args .e) (g .g .given .0 .0)
     ≡ got (record { value = c .before .a .given .0 .0; at = c .before .a .given .0 .1 .0 })
 start-read c = word-got (c .before .before .before .omission-at .ensures) (c .before .a .given .1)
 
-start-in : (c : tie.After-known-told2) → c .before .a .given .0 .1 .0 ≤ length (c .before .before .before .before .before .before .before .before .before .args .s .now)
+start-in : (c : tie.After-known-told2) → c .before .a .given .0 .1 .0 ≤ length (at-start (at-g (c .before)) .args .s .now)
 start-in c =
     let read = c .before .before .before .before in
-    let a = read .before .before .before .before .before .args in
+    let a = at-start (read .before) .args in
     omission-range (a .long) (a .s .now) (a .e) _ _ (gap-in read) (start-read c) .1
 
 gap-end-requires-2 : tie.Need-gap-end-requires-2
@@ -85,21 +103,23 @@ returns-3 : tie.Need-returns-3
 returns-3 c =
     let word = c .before .before .before .before in
     let read = word .before .before .before .before in
-    let a = read .before .before .before .before .before .args in
+    let a = at-start (read .before) .args in
     sym
     (words-between (a .long) (a .s .now) (a .i) (a .e) (gap-read read) (start-read word)
     (reached-refused (c .before .before .before .gap-end2 .ensures) (c .before .enum-told3 .given .1) (c .fault-of2 .ensures)))
 
 -- The second gap was read.
 between-read : (c : tie.After-known-told3)
-    → gap (c .before .before .before .before .before .before .before .before .before .before .before .before .before .args .s .now) (c .before .before .before .before .before .a .given .0 .1 .0)
+    →
+    let a = at-a (c .before .before .before) in
+    gap (at-start (at-g a) .args .s .now) (a .a .given .0 .1 .0)
     ≡ got (c .before .h .given .0 .0)
 between-read c = reached-got (c .before .before .before .gap-end2 .ensures) (c .before .h .given .1)
 
 omission-at-requires-2 : tie.Need-omission-at-requires-2
 omission-at-requires-2 c κs =
     let word = c .before .before .before .before in
-    let start = word .before .before .before .before .before .before .before .before .before in
+    let start = at-start (at-g (word .before)) in
     (gap-range (start .args .s .now) _ _ (start-in word) (between-read c) .1, start .pre .2)
 
 enum-known-b : tie.Need-enum-known-b
@@ -116,7 +136,7 @@ returns-4 c =
     let between = c .before .before .before .before in
     let word = between .before .before .before .before in
     let read = word .before .before .before .before in
-    let a = read .before .before .before .before .before .args in
+    let a = at-start (read .before) .args in
     sym
     (words-end (a .long) (a .s .now) (a .i) (a .e) (gap-read read) (start-read word) (between-read between)
     (word-refused (c .before .before .before .omission-at2 .ensures) (c .before .enum-told4 .given .1) (c .fault-of-omission2 .ensures)))
@@ -129,7 +149,7 @@ returns-5 c =
     let between = c .before .before .before .before in
     let word = between .before .before .before .before in
     let read = word .before .before .before .before in
-    let a = read .before .before .before .before .before .args in
+    let a = at-start (read .before) .args in
     sym
     (words-got (a .long) (a .s .now) (a .i) (a .e) (gap-read read) (start-read word) (between-read between)
     (word-got (c .before .before .before .omission-at2 .ensures) (c .before .b .given .1)))

@@ -5,7 +5,7 @@ use Rattle.element_index.specs.Seeking.{follows-falls, follows-over, fol
 use Rattle.element_index.proofs.comes_next.Statement.{statement}
 use Rattle.element_index.proofs.comes_next.Tie as tie
 
--- The points that the needs go back to.
+-- The point that the needs go back to.
 abbrev at-start : (c : tie.After-struct-known2) → tie.Start
 at-start c = c .before .before .before
 

@@ -29,7 +29,7 @@ Inv-loop s a t b n i₀ i = fold (byteAt s a) ≡ fold (byteAt t b) → sameText
 abbrev μ-loop : tie.MeasureT-loop
 μ-loop s a t b n i₀ i = n - i
 
--- The points that the needs go back to.
+-- The point that the needs go back to.
 abbrev at-loop-turn : (c : tie.After-folded Inv-loop μ-loop) → tie.In-loop Inv-loop μ-loop
 at-loop-turn c = c .before .before .before .before
 

@@ -11,6 +11,16 @@ use Rattle.element_names.specs.Naming.{name-long, name-again, name-many,
 use Rattle.element_names.proofs.element_name.Statement.{statement}
 use Rattle.element_names.proofs.element_name.Tie as tie
 
+-- The points that the needs go back to.
+abbrev at-start : (c : tie.After-is-letter) → tie.Start
+at-start c = c .before .before .before
+
+abbrev at-start-3 : (c : tie.Then1) → tie.Start
+at-start-3 c = c .before .before .before .before
+
+abbrev at-start-2 : (c : tie.After-declared) → tie.Start
+at-start-2 c = at-start (c .before .before .before .before)
+
 byte-requires : tie.Need-byte-requires
 byte-requires c κs = search needs
 
@@ -28,22 +38,22 @@ no-letter c = tested letter (c .before .before .byte .ensures) (c .before .is-le
 
 sub-if2 : tie.Need-sub-if2
 sub-if2 c =
-    let a = c .before .before .before .before .before .args in
+    let a = at-start (c .before .before) .args in
     omega (arith, nameEnd-from (a .s .now) (a .i))
 
 returns : tie.Need-returns
 returns c =
-    let a = c .before .before .before .before .before .before .args in
+    let a = at-start (c .before .before .before) .args in
     (λ es n r. sym (name-long (a .long) (a .s .now) (a .i) es (a-letter (c .before .before)) (omega arith)), tt)
 
 sub-declared : tie.Need-sub-declared
 sub-declared c =
-    let a = c .before .before .before .before .before .before .args in
+    let a = at-start (c .before .before .before) .args in
     omega (arith, nameEnd-from (a .s .now) (a .i))
 
 declared-requires : tie.Need-declared-requires
 declared-requires c κs =
-    let start = c .before .before .before .before .before .before in
+    let start = at-start (c .before .before .before) in
     let a = start .args in (
       omega arith,
       omega arith,
@@ -53,7 +63,7 @@ declared-requires c κs =
 
 returns-2 : tie.Need-returns-2
 returns-2 c =
-    let a = c .before .before .before .before .before .before .before .before .args in
+    let a = at-start-3 (c .before .before .before .before) .args in
     let name = c .before .before .before in (
       λ es n r. sym (name-again (a .long) (a .s .now) (a .i) es (a-letter (name .before)) (omega arith) (rw (← name .name-end .ensures) (sym (c .before .declared .ensures .0 es n r .0) ∙ c .if3 .taken))),
       tt,
@@ -61,7 +71,7 @@ returns-2 c =
 
 returns-3 : tie.Need-returns-3
 returns-3 c =
-    let a = c .before .before .before .before .before .before .before .before .before .args in
+    let a = at-start-2 (c .before .before) .args in
     let name = c .before .before .before .before in (
       λ es n r. sym (name-many (a .long) (a .s .now) (a .i) es (a-letter (name .before)) (omega arith) (rw (← name .name-end .ensures) (sym (c .before .before .declared .ensures .0 es n r .0) ∙ c .before .if3 .left)) (omega arith)),
       tt,
@@ -69,7 +79,7 @@ returns-3 c =
 
 returns-4 : tie.Need-returns-4
 returns-4 c =
-    let start = c .before .before .before .before .before .before .before .before .before in
+    let start = at-start-2 (c .before .before) in
     let a = start .args in
     let name = c .before .before .before .before in (
       λ es n r.
@@ -80,7 +90,7 @@ returns-4 c =
 
 returns-5 : tie.Need-returns-5
 returns-5 c =
-    let a = c .before .before .before .before .before .args in
+    let a = at-start (c .before .before) .args in
     (λ es n r. sym (name-group (a .long) (a .s .now) (a .i) es (no-letter (c .before)) (sym (c .before .before .before .byte .ensures) ∙ c .if5 .taken)), tt)
 
 unfit-at-requires : tie.Need-unfit-at-requires
@@ -88,7 +98,7 @@ unfit-at-requires c κs = search needs
 
 returns-6 : tie.Need-returns-6
 returns-6 c =
-    let a = c .before .before .before .before .before .before .args in (
+    let a = at-start (c .before .before .before) .args in (
       λ es n r.
           ap refusalOf (c .unfit-at .ensures)
           ∙ unfit-is (a .s .now) (a .i)

@@ -13,6 +13,10 @@ use Rattle.element_reader.specs.Ways.{close-end, close-exception, close-
 use Rattle.element_reader.proofs.close_at.Statement.{statement}
 use Rattle.element_reader.proofs.close_at.Tie as tie
 
+-- The point that the needs go back to.
+abbrev at-start : (c : tie.After-byte) → tie.Start
+at-start c = c .before .before
+
 byte-requires : tie.Need-byte-requires
 byte-requires c κs = search needs
 
@@ -37,7 +41,7 @@ sign c =
 
 returns-2 : tie.Need-returns-2
 returns-2 c =
-    let s = c .before .before .before .before .before .before .args .s .now in
+    let s = at-start (c .before .before .before .before) .args .s .now in
     sym
     (close-exception s _ (λ e. c .before .before .before .if1 .left (c .before .before .before .before .byte .ensures ∙ e))
     (rw (sign (c .before .before)) (eq-eqb _ _ (sym (c .before .byte2 .ensures) ∙ c .if4 .taken))))
@@ -54,7 +58,7 @@ other c =
 
 returns-3 : tie.Need-returns-3
 returns-3 c =
-    let s = c .before .before .before .before .before .args .s .now in
+    let s = at-start (c .before .before .before) .args .s .now in
     let unfit = close-unfit s _ (λ e. c .before .before .if1 .left (c .before .before .before .byte .ensures ∙ e)) (other (c .before)) in
     ap refusalOf (c .unfit-at .ensures) ∙ unfit-is s _ ∙ sym unfit
 

@@ -16,6 +16,13 @@ use Rattle.rules_laws.specs.Declarations.{close-range}
 use Rattle.element_reader.proofs.rest_at.Statement.{statement}
 use Rattle.element_reader.proofs.rest_at.Tie as tie
 
+-- The points that the needs go back to.
+abbrev at-start : (c : tie.After-gap-end) → tie.Start
+at-start c = c .before .before
+
+abbrev at-known-told : (c : tie.After-body-at) → tie.After-known-told
+at-known-told c = c .before .before .before
+
 gap-end-requires : tie.Need-gap-end-requires
 gap-end-requires c κs = search needs
 
@@ -30,7 +37,7 @@ fault-of-requires c κs = search needs
 
 returns : tie.Need-returns
 returns c es =
-    let a = c .before .before .before .before .before .args in
+    let a = at-start (c .before .before .before) .args in
     element-refused (length (a .s .now)) (a .h .at) (a .names .now) (a .table .now) es _ _
     (rest-gap (a .long) (a .s .now) es (headIn (a .h))
     (reached-refused (c .before .before .before .gap-end .ensures) (c .before .enum-told .given .1) (c .fault-of .ensures)))
@@ -38,7 +45,7 @@ returns c es =
 -- The gap before the content was read.
 
 abbrev start : tie.After-known-told → tie.Start
-start c = c .before .before .before .before .before
+start c = at-start (c .before .before .before)
 
 gap-read : (c : tie.After-known-told) → gap (start c .args .s .now) (start c .args .h .at) ≡ got (c .before .g .given .0 .0)
 gap-read c = reached-got (c .before .before .before .gap-end .ensures) (c .before .g .given .1)
@@ -71,7 +78,7 @@ returns-2 c es =
 -- The content was read.
 
 abbrev gap-before : tie.After-known-told2 → tie.After-known-told
-gap-before c = c .before .before .before .before .before .before
+gap-before c = at-known-told (c .before .before .before)
 
 body-kept : (c : tie.After-known-told2)
     → (d : ContentEnd)

@@ -11,6 +11,22 @@ use borrow.Author.Needs.{needs}
 use Rattle.event_buffer.proofs.note_bytes.Statement.{statement}
 use Rattle.event_buffer.proofs.note_bytes.Tie as tie
 
+-- The points that the needs go back to.
+abbrev at-start : (c : tie.After-put-number) → tie.Start
+at-start c = c .before .before .before .before
+
+abbrev at-put-number : (c : tie.After-put-number2) → tie.After-put-number
+at-put-number c = c .before .before .before .before
+
+abbrev at-put-number2 : (c : tie.After-put-number3) → tie.After-put-number2
+at-put-number2 c = c .before .before .before .before
+
+abbrev at-put-number3 : (c : tie.After-put-number4) → tie.After-put-number3
+at-put-number3 c = c .before .before .before .before
+
+abbrev at-put-number4 : (c : tie.After-put-number5) → tie.After-put-number4
+at-put-number4 c = c .before .before .before .before
+
 mul-i : tie.Need-mul-i
 mul-i c = search needs
 
@@ -55,9 +71,13 @@ same-length c = search needs
 
 returns : tie.Need-returns
 returns c =
-    let a = c .before .before .before .before .before .before .before .before .before .before .before .before .before .before .before .before .before .before .before .before .before .before .args in
+    let put-number4 = at-put-number4 (c .before .before) in
+    let put-number3 = at-put-number3 put-number4 in
+    let put-number2 = at-put-number2 put-number3 in
+    let put-number = at-put-number put-number2 in
+    let a = at-start put-number .args in
     five-numbers-stored (a .buffer .now) (4 * eventWidth * a .n) (a .kind) (a .element) (a .at) (a .size) (a .place) (omega arith)
-    (c .before .before .before .before .before .before .before .before .before .before .before .before .before .before .before .before .before .before .put-number .ensures) (c .before .before .before .before .before .before .before .before .before .before .before .before .before .before .put-number2 .ensures) (c .before .before .before .before .before .before .before .before .before .before .put-number3 .ensures) (c .before .before .before .before .before .before .put-number4 .ensures) (c .before .before .put-number5 .ensures)
+    (put-number .put-number .ensures) (put-number2 .put-number2 .ensures) (put-number3 .put-number3 .ensures) (put-number4 .put-number4 .ensures) (c .before .before .put-number5 .ensures)
 
 returns-2 : tie.Need-returns-2
 unfolding bytesOf

@@ -5,6 +5,16 @@ use borrow.Author.Needs.{needs}
 use Rattle.event_buffer.proofs.put_attribute.Statement.{statement}
 use Rattle.event_buffer.proofs.put_attribute.Tie as tie
 
+-- The points that the needs go back to.
+abbrev at-start-2 : (c : tie.After-note-numbers-arg) → tie.Start
+at-start-2 c = c .before .before .before .before
+
+abbrev at-start : (c : tie.After-note-numbers) → tie.Start
+at-start c = at-start-2 (c .before)
+
+abbrev at-note-numbers : (c : tie.After-note-bytes) → tie.After-note-numbers
+at-note-numbers c = c .before .before .before .before
+
 cast-a : tie.Need-cast-a
 cast-a c = search needs
 
@@ -31,8 +41,9 @@ same-length-2 c = search needs
 
 returns : tie.Need-returns
 returns c =
-    let a = c .before .before .before .before .before .before .before .before .before .before .before .args in
-    (refl, puts-noted (a .numbers .now) (a .bytes .now) (a .n) (a .kind) (a .attribute .0) (a .at) (a .size) 0 (c .before .before .before .before .before .before .note-numbers .ensures) (c .before .before .note-bytes .ensures))
+    let note-numbers = at-note-numbers (c .before .before) in
+    let a = at-start note-numbers .args in
+    (refl, puts-noted (a .numbers .now) (a .bytes .now) (a .n) (a .kind) (a .attribute .0) (a .at) (a .size) 0 (note-numbers .note-numbers .ensures) (c .before .before .note-bytes .ensures))
 
 pub put-attribute-spec : {M : Type 1} → statement M
 put-attribute-spec =

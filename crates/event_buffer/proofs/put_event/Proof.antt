@@ -5,6 +5,16 @@ use borrow.Author.Needs.{needs}
 use Rattle.event_buffer.proofs.put_event.Statement.{statement}
 use Rattle.event_buffer.proofs.put_event.Tie as tie
 
+-- The points that the needs go back to.
+abbrev at-start-2 : (c : tie.After-struct-known2) → tie.Start
+at-start-2 c = c .before .before .before .before
+
+abbrev at-start : (c : tie.After-note-numbers) → tie.Start
+at-start c = at-start-2 (c .before .before)
+
+abbrev at-note-numbers : (c : tie.After-note-bytes) → tie.After-note-numbers
+at-note-numbers c = c .before .before .before .before
+
 cast-e : tie.Need-cast-e
 cast-e c = search needs
 
@@ -34,8 +44,9 @@ same-length-2 c = search needs
 
 returns : tie.Need-returns
 returns c =
-    let a = c .before .before .before .before .before .before .before .before .before .before .before .before .args in
-    let noted = c .before .before .before .before .before .before .note-numbers .ensures in
+    let note-numbers = at-note-numbers (c .before .before) in
+    let a = at-start note-numbers .args in
+    let noted = note-numbers .note-numbers .ensures in
     let stored = c .before .before .note-bytes .ensures in (
       refl,
       puts-noted (a .numbers .now) (a .bytes .now) (a .n) (a .kind) (a .element .0) (a .at) (a .size) (a .place .0) noted stored,

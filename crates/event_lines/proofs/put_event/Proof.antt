@@ -5,6 +5,25 @@ use Rattle.event_lines.specs.LineByLine.{puts-line}
 use Rattle.event_lines.proofs.put_event.Statement.{statement}
 use Rattle.event_lines.proofs.put_event.Tie as tie
 
+-- The points that the needs go back to.
+abbrev at-start-2 : (c : tie.After-put-short-arg2) → tie.Start
+at-start-2 c = c .before .before .before .before
+
+abbrev at-start : (c : tie.After-put-short) → tie.Start
+at-start c = at-start-2 (c .before)
+
+abbrev at-put-short : (c : tie.After-put-named) → tie.After-put-short
+at-put-short c = c .before .before .before .before
+
+abbrev at-put-named-2 : (c : tie.After-out2) → tie.After-put-named
+at-put-named-2 c = c .before
+
+abbrev at-put-named : (c : tie.After-put-short2) → tie.After-put-named
+at-put-named c = at-put-named-2 (c .before .before .before .before)
+
+abbrev at-put-short2 : (c : tie.After-put-short-arg6) → tie.After-put-short2
+at-put-short2 c = c .before .before .before .before
+
 mul-i : tie.Need-mul-i
 mul-i c = search needs
 
@@ -49,8 +68,11 @@ same-length c = search needs
 
 returns : tie.Need-returns
 returns c =
-    let a = c .before .before .before .before .before .before .before .before .before .before .before .before .before .before .before .before .before .before .before .before .before .args in
-    (puts-line _ _ _ _ (a .numbers .now) (a .k) (a .n) (c .before .before .before .before .before .before .before .before .before .before .before .before .before .before .before .before .put-short .ensures .0) (c .before .before .before .before .before .before .before .before .before .before .before .before .put-named .ensures .0) (c .before .before .before .before .before .before .before .put-short2 .ensures .0) (c .before .before .put-short3 .ensures .0), omega arith)
+    let put-short2 = at-put-short2 (c .before .before .before) in
+    let put-named = at-put-named put-short2 in
+    let put-short = at-put-short put-named in
+    let a = at-start put-short .args in
+    (puts-line _ _ _ _ (a .numbers .now) (a .k) (a .n) (put-short .put-short .ensures .0) (put-named .put-named .ensures .0) (put-short2 .put-short2 .ensures .0) (c .before .before .put-short3 .ensures .0), omega arith)
 
 pub put-event-spec : {M : Type 1} → statement M
 put-event-spec =

@@ -5,6 +5,13 @@ use Rattle.event_lines.specs.LineByLine.{puts-events}
 use Rattle.event_lines.proofs.put_events.Statement.{statement}
 use Rattle.event_lines.proofs.put_events.Tie as tie
 
+-- The points that the needs go back to.
+abbrev at-put-bytes : (c : tie.After-put-number) → tie.After-put-bytes
+at-put-bytes c = c .before .before .before .before
+
+abbrev at-put-number : (c : tie.After-put-lines) → tie.After-put-number
+at-put-number c = c .before .before .before .before
+
 slice-aggregate-put-bytes : tie.Need-slice-aggregate-put-bytes
 slice-aggregate-put-bytes c = search needs
 
@@ -22,7 +29,8 @@ same-length c = search needs
 
 returns : tie.Need-returns
 returns c =
-    puts-events _ _ _ _ _ _ (c .before .before .before .before .before .before .before .before .before .before .put-bytes .ensures) (c .before .before .before .before .before .before .put-number .ensures .0) (c .before .before .put-lines .ensures)
+    let put-number = at-put-number (c .before .before) in
+    puts-events _ _ _ _ _ _ (at-put-bytes put-number .put-bytes .ensures) (put-number .put-number .ensures .0) (c .before .before .put-lines .ensures)
 
 pub put-events-spec : {M : Type 1} → statement M
 put-events-spec =

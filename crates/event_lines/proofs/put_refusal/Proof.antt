@@ -4,6 +4,16 @@ use Rattle.event_lines.specs.LineByLine.{puts-refusal}
 use Rattle.event_lines.proofs.put_refusal.Statement.{statement}
 use Rattle.event_lines.proofs.put_refusal.Tie as tie
 
+-- The points that the needs go back to.
+abbrev at-put-bytes : (c : tie.After-put-short) → tie.After-put-bytes
+at-put-bytes c = c .before .before .before .before
+
+abbrev at-put-short : (c : tie.After-put-bytes2) → tie.After-put-short
+at-put-short c = c .before .before .before .before
+
+abbrev at-put-bytes2 : (c : tie.After-put-number) → tie.After-put-bytes2
+at-put-bytes2 c = c .before .before .before .before
+
 slice-aggregate-put-bytes : tie.Need-slice-aggregate-put-bytes
 slice-aggregate-put-bytes c = search needs
 
@@ -24,7 +34,9 @@ same-length c = search needs
 
 returns : tie.Need-returns
 returns c =
-    puts-refusal _ _ _ (c .before .before .before .before .before .before .before .before .before .before .before .before .before .before .put-bytes .ensures) (c .before .before .before .before .before .before .before .before .before .before .put-short .ensures .0) (c .before .before .before .before .before .before .put-bytes2 .ensures) (c .before .before .put-number .ensures .0)
+    let put-bytes2 = at-put-bytes2 (c .before .before) in
+    let put-short = at-put-short put-bytes2 in
+    puts-refusal _ _ _ (at-put-bytes put-short .put-bytes .ensures) (put-short .put-short .ensures .0) (put-bytes2 .put-bytes2 .ensures) (c .before .before .put-number .ensures .0)
 
 pub put-refusal-spec : {M : Type 1} → statement M
 put-refusal-spec =

@@ -5,6 +5,25 @@ use Rattle.event_names.specs.Naming.{puts-name, puts-no-name, attribute-
 use Rattle.event_names.proofs.put_attribute.Statement.{statement}
 use Rattle.event_names.proofs.put_attribute.Tie as tie
 
+-- The points that the needs go back to.
+abbrev at-start-2 : (c : tie.After-counted2) → tie.Start
+at-start-2 c = c .before .before .before .before
+
+abbrev at-start : (c : tie.After-record-of) → tie.Start
+at-start c = at-start-2 (c .before)
+
+abbrev at-record-of : (c : tie.After-widened) → tie.After-record-of
+at-record-of c = c .before .before .before
+
+abbrev at-record-of-2 : (c : tie.After-out) → tie.After-record-of
+at-record-of-2 c = c .before .before .before .before
+
+abbrev at-widened : (c : tie.After-put-upper) → tie.After-widened
+at-widened c = c .before .before .before .before
+
+abbrev at-put-upper : (c : tie.After-put-byte2) → tie.After-put-upper
+at-put-upper c = c .before .before .before .before
+
 counted-requires : tie.Need-counted-requires
 counted-requires c κs = search needs
 
@@ -22,7 +41,8 @@ same-length c = search needs
 
 returns : tie.Need-returns
 returns c =
-    let none = attribute-none _ _ _ _ _ (c .before .before .before .before .before .before .before .counted .ensures) (c .before .before .before .before .before .before .counted2 .ensures) (c .before .before .before .before .before .record-of .ensures .0) (omega arith) in
+    let record-of = at-record-of-2 (c .before) in
+    let none = attribute-none _ _ _ _ _ (record-of .before .before .counted .ensures) (record-of .before .counted2 .ensures) (record-of .record-of .ensures .0) (omega arith) in
     (puts-no-name none (c .before .before .put-byte .ensures), omega arith)
 
 mul-i : tie.Need-mul-i
@@ -54,24 +74,29 @@ widened-requires-2 c κs = search needs
 
 put-upper-requires : tie.Need-put-upper-requires
 put-upper-requires c κs =
-    let fits = c .before .before .before .before .before .before .before .before .before .before .before .pre .2 in
-    let k = c .before .before .before .before .before .before .record-of .result in
-    let within = c .before .before .before .before .before .before .record-of .ensures .1 in
+    let record-of = at-record-of (c .before .before .before) in
+    let fits = at-start record-of .pre .2 in
+    let k = record-of .record-of .result in
+    let within = record-of .record-of .ensures .1 in
     (omega (arith, fits .short k (omega arith)), omega (arith, fits .inside k (omega arith)))
 
 put-byte-requires-2 : tie.Need-put-byte-requires-2
 put-byte-requires-2 c κs =
-    let within = c .before .before .before .before .before .before .before .before .before .before .record-of .ensures .1 in
-    omega (arith, c .before .before .before .before .before .before .before .before .before .before .before .before .before .before .before .pre .2 .short (c .before .before .before .before .before .before .before .before .before .before .record-of .result) (omega arith))
+    let record-of = at-record-of (at-widened (c .before .before .before)) in
+    let within = record-of .record-of .ensures .1 in
+    omega (arith, at-start record-of .pre .2 .short (record-of .record-of .result) (omega arith))
 
 same-length-2 : tie.Need-same-length-2
 same-length-2 c = search needs
 
 returns-2 : tie.Need-returns-2
 returns-2 c =
-    let within = c .before .before .before .before .before .before .before .before .before .before .before .before .before .record-of .ensures .1 in
-    let named = attribute-by _ _ _ _ _ (c .before .before .before .before .before .before .before .before .before .before .before .before .before .before .before .counted .ensures) (c .before .before .before .before .before .before .before .before .before .before .before .before .before .before .counted2 .ensures) (c .before .before .before .before .before .before .before .before .before .before .before .before .before .record-of .ensures .0) _ _ (omega arith) (c .before .before .before .before .before .before .before .before .before .before .widened .ensures .0) (c .before .before .before .before .before .before .before .before .widened2 .ensures .0) in
-    (puts-name named (c .before .before .before .before .before .before .put-upper .ensures .0) (c .before .before .put-byte2 .ensures), omega (arith, c .before .before .before .before .before .before .before .before .before .before .before .before .before .before .before .before .before .before .pre .2 .short (c .before .before .before .before .before .before .before .before .before .before .before .before .before .record-of .result) (omega arith)))
+    let put-upper = at-put-upper (c .before .before) in
+    let widened = at-widened put-upper in
+    let record-of = at-record-of widened in
+    let within = record-of .record-of .ensures .1 in
+    let named = attribute-by _ _ _ _ _ (record-of .before .before .counted .ensures) (record-of .before .counted2 .ensures) (record-of .record-of .ensures .0) _ _ (omega arith) (widened .widened .ensures .0) (put-upper .before .before .widened2 .ensures .0) in
+    (puts-name named (put-upper .put-upper .ensures .0) (c .before .before .put-byte2 .ensures), omega (arith, at-start record-of .pre .2 .short (record-of .record-of .result) (omega arith)))
 
 pub put-attribute-spec : {M : Type 1} → statement M
 put-attribute-spec =

@@ -6,6 +6,28 @@ use Rattle.event_names.specs.Naming.{puts-name, puts-no-name, name-zero,
 use Rattle.event_names.proofs.put_name.Statement.{statement}
 use Rattle.event_names.proofs.put_name.Tie as tie
 
+-- The points that the needs go back to.
+abbrev at-start-3 : (c : tie.Else1) → tie.Start
+at-start-3 c = c .before .before .before
+
+abbrev at-start-2 : (c : tie.Then2) → tie.Start
+at-start-2 c = c .before .before .before .before
+
+abbrev at-start : (c : tie.After-widened) → tie.Start
+at-start c = at-start-3 (c .before .before)
+
+abbrev at-put-byte : (c : tie.After-put-byte2) → tie.After-put-byte
+at-put-byte c = c .before .before .before .before
+
+abbrev at-widened : (c : tie.After-widened3) → tie.After-widened
+at-widened c = c .before .before .before .before
+
+abbrev at-widened3 : (c : tie.After-put-upper) → tie.After-widened3
+at-widened3 c = c .before .before
+
+abbrev at-put-upper : (c : tie.After-put-byte4) → tie.After-put-upper
+at-put-upper c = c .before .before .before .before
+
 put-byte-requires : tie.Need-put-byte-requires
 put-byte-requires c κs = search needs
 
@@ -17,7 +39,8 @@ same-length c = search needs
 
 returns : tie.Need-returns
 returns c =
-    (puts-name (name-zero _ _ _ (c .before .before .before .before .before .before .before .before .if1 .taken)) (c .before .before .before .before .before .before .put-byte .ensures) (c .before .before .put-byte2 .ensures), omega arith)
+    let put-byte = at-put-byte (c .before .before) in
+    (puts-name (name-zero _ _ _ (put-byte .before .before .if1 .taken)) (put-byte .put-byte .ensures) (c .before .before .put-byte2 .ensures), omega arith)
 
 put-byte-requires-3 : tie.Need-put-byte-requires-3
 put-byte-requires-3 c κs = search needs
@@ -27,7 +50,7 @@ same-length-2 c = search needs
 
 returns-2 : tie.Need-returns-2
 returns-2 c =
-    let a = c .before .before .before .before .before .before .before .before in
+    let a = at-start-2 (c .before .before .before .before) in
     (puts-no-name (name-none _ _ (a .pre .1) (a .args .x) (omega arith)) (c .before .before .put-byte3 .ensures), omega arith)
 
 widened-requires : tie.Need-widened-requires
@@ -62,24 +85,29 @@ widened-requires-3 c κs = search needs
 
 put-upper-requires : tie.Need-put-upper-requires
 put-upper-requires c κs =
-    let fits = c .before .before .before .before .before .before .before .before .before .before .pre .1 in
-    let k = c .before .before .before .before .before .widened .result - 1 in
+    let widened = at-widened (c .before) in
+    let fits = at-start widened .pre .1 in
+    let k = widened .widened .result - 1 in
     (omega (arith, fits .short k), omega (arith, fits .inside k))
 
 put-byte-requires-4 : tie.Need-put-byte-requires-4
 put-byte-requires-4 c κs =
-    let fits = c .before .before .before .before .before .before .before .before .before .before .before .before .before .before .pre .1 in
-    omega (arith, fits .short (c .before .before .before .before .before .before .before .before .before .widened .result - 1))
+    let widened = at-widened (at-widened3 (c .before .before .before)) in
+    let fits = at-start widened .pre .1 in
+    omega (arith, fits .short (widened .widened .result - 1))
 
 same-length-3 : tie.Need-same-length-3
 same-length-3 c = search needs
 
 returns-3 : tie.Need-returns-3
 returns-3 c =
-    let fits = c .before .before .before .before .before .before .before .before .before .before .before .before .before .before .before .before .before .pre .1 in
-    let number = c .before .before .before .before .before .before .before .before .before .before .before .before .widened in
-    let named = name-by _ _ fits _ (number .result) _ _ (number .ensures .0) (omega arith) (c .before .before .before .before .before .before .before .before .before .before .widened2 .ensures .0) (c .before .before .before .before .before .before .before .before .widened3 .ensures .0) in
-    (puts-name named (c .before .before .before .before .before .before .put-upper .ensures .0) (c .before .before .put-byte4 .ensures), omega (arith, fits .short (number .result - 1)))
+    let put-upper = at-put-upper (c .before .before) in
+    let widened3 = at-widened3 put-upper in
+    let widened = at-widened widened3 in
+    let fits = at-start widened .pre .1 in
+    let number = widened .widened in
+    let named = name-by _ _ fits _ (number .result) _ _ (number .ensures .0) (omega arith) (widened3 .before .before .widened2 .ensures .0) (widened3 .widened3 .ensures .0) in
+    (puts-name named (put-upper .put-upper .ensures .0) (c .before .before .put-byte4 .ensures), omega (arith, fits .short (number .result - 1)))
 
 pub put-name-spec : {M : Type 1} → statement M
 put-name-spec =

@@ -4,6 +4,16 @@ use Rattle.event_names.specs.Naming.{named-attribute, named-element, put
 use Rattle.event_names.proofs.put_named.Statement.{statement}
 use Rattle.event_names.proofs.put_named.Tie as tie
 
+-- The points that the needs go back to.
+abbrev at-is-either : (c : tie.Then1) → tie.After-is-either
+at-is-either c = c .before
+
+abbrev at-is-either-2 : (c : tie.After-out2) → tie.After-is-either
+at-is-either-2 c = c .before .before .before .before
+
+abbrev at-then1 : (c : tie.After-out) → tie.Then1
+at-then1 c = c .before .before .before .before
+
 mul-i : tie.Need-mul-i
 mul-i c = search needs
 
@@ -39,8 +49,9 @@ same-length c = search needs
 
 returns : tie.Need-returns
 returns c =
+    let then1 = at-then1 (c .before) in
     let put = c .before .before .put-attribute .ensures in
-    (puts-named (named-attribute _ _ _ _ _ _ _ (c .before .before .before .before .before .before .is-either .ensures) (c .before .before .before .before .before .if1 .taken) (c .before .before .before .before .starts-next .ensures)) (put .0), put .1)
+    (puts-named (named-attribute _ _ _ _ _ _ _ (at-is-either then1 .is-either .ensures) (then1 .if1 .taken) (c .before .before .before .before .starts-next .ensures)) (put .0), put .1)
 
 put-name-requires : tie.Need-put-name-requires
 put-name-requires c κs = search needs
@@ -51,7 +62,7 @@ same-length-2 c = search needs
 returns-2 : tie.Need-returns-2
 returns-2 c =
     let put = c .before .before .put-name .ensures in
-    (puts-named (named-element _ _ _ _ _ _ _ (c .before .before .before .before .before .is-either .ensures) (c .before .before .before .before .if1 .left)) (put .0), put .1)
+    (puts-named (named-element _ _ _ _ _ _ _ (at-is-either-2 (c .before) .is-either .ensures) (c .before .before .before .before .if1 .left)) (put .0), put .1)
 
 pub put-named-spec : {M : Type 1} → statement M
 put-named-spec =

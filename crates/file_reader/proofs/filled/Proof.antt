@@ -25,6 +25,13 @@ Inv-loop fd path buf₀ at₀ last₀ buf at last = (at ≤ length buf) × (leng
 abbrev μ-loop : tie.MeasureT-loop
 μ-loop fd path buf₀ at₀ last₀ buf at last = length buf - at
 
+-- The points that the needs go back to.
+abbrev at-loop : (c : tie.After-buf Inv-loop μ-loop) → tie.At-loop Inv-loop μ-loop
+at-loop c = c .before .before .before .before
+
+abbrev at-buf : (c : tie.After-r Inv-loop μ-loop) → tie.After-buf Inv-loop μ-loop
+at-buf c = c .before .before .before
+
 loop-holds : tie.Need-loop-holds Inv-loop μ-loop
 loop-holds c = (omega arith, refl)
 
@@ -54,25 +61,28 @@ returns c = tt
 
 add-at : tie.Need-add-at Inv-loop μ-loop
 add-at c =
-    let turn = c .before .before .before .before .before .before .before .before .before .loop in
-    let part = c .before .before .before .before .before .before .read-some in
-    let back = c .before .before .before .before .before .buf .given in
+    let buf = at-buf (c .before .before) in
+    let turn = at-loop buf .loop in
+    let part = buf .before .read-some in
+    let back = buf .buf .given in
     omega (arith, part-in (turn .buf) (part .last .1 .1 .0) (turn .at) (turn .inv .0) (back .0) (c .before .before .r .given .1) (part .ensures))
 
 loop-less : tie.Need-loop-less Inv-loop μ-loop
 loop-less c =
-    let turn = c .before .before .before .before .before .before .before .before .before .loop in
-    let part = c .before .before .before .before .before .before .read-some in
-    let back = c .before .before .before .before .before .buf .given in
+    let buf = at-buf (c .before .before) in
+    let turn = at-loop buf .loop in
+    let part = buf .before .read-some in
+    let back = buf .buf .given in
     let same = back .1 in
     let more = part-in (turn .buf) (part .last .1 .1 .0) (turn .at) (turn .inv .0) (back .0) (c .before .before .r .given .1) (part .ensures) in
     omega arith
 
 loop-again : tie.Need-loop-again Inv-loop μ-loop
 loop-again c =
-    let turn = c .before .before .before .before .before .before .before .before .before .loop in
-    let part = c .before .before .before .before .before .before .read-some in
-    let back = c .before .before .before .before .before .buf .given in
+    let buf = at-buf (c .before .before) in
+    let turn = at-loop buf .loop in
+    let part = buf .before .read-some in
+    let back = buf .buf .given in
     let same = back .1 in
     let more = part-in (turn .buf) (part .last .1 .1 .0) (turn .at) (turn .inv .0) (back .0) (c .before .before .r .given .1) (part .ensures) in
     (omega arith, same ∙ turn .inv .1)
@@ -88,9 +98,10 @@ same-length-3 c = search needs
 
 returns-3 : tie.Need-returns-3 Inv-loop μ-loop
 returns-3 c =
-    let turn = c .before .before .before .before .before .before .before .before .before .loop in
-    let part = c .before .before .before .before .before .before .read-some in
-    let back = c .before .before .before .before .before .buf .given in
+    let buf = at-buf (c .before .before) in
+    let turn = at-loop buf .loop in
+    let part = buf .before .read-some in
+    let back = buf .buf .given in
     let same = back .1 in
     let more = part-in (turn .buf) (part .last .1 .1 .0) (turn .at) (turn .inv .0) (back .0) (c .before .before .r .given .1) (part .ensures) in
     loaded-of _ _ (omega arith) (inl (omega arith))

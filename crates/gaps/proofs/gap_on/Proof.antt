@@ -18,6 +18,13 @@ Inv-loop s at i₀ i = (i ≤ length s) × (gapOn (length s) s i ≡ gapOn (leng
 abbrev μ-loop : tie.MeasureT-loop
 μ-loop s at i₀ i = length s - i
 
+-- The points that the needs go back to.
+abbrev at-start : (c : tie.At-loop Inv-loop μ-loop) → tie.Start Inv-loop μ-loop
+at-start c = c .before .before
+
+abbrev at-loop : (c : tie.After-to-dashes Inv-loop μ-loop) → tie.At-loop Inv-loop μ-loop
+at-loop c = c .before .before .before
+
 loop-holds : tie.Need-loop-holds Inv-loop μ-loop
 loop-holds c = (c .before .pre, refl)
 
@@ -38,12 +45,14 @@ to-dashes-requires c κs = opened c
 
 returns : tie.Need-returns Inv-loop μ-loop
 returns c =
-    let s = c .before .before .before .before .before .before .args .s .now in
-    sym (gapOn-open (length s) s _ _ (dashed (c .before .before)) (c .before .to-dashes .ensures) (c .if2 .taken)) ∙ c .before .before .before .before .loop .inv .1
+    let loop = c .before .before .before .before in
+    let s = at-start loop .args .s .now in
+    sym (gapOn-open (length s) s _ _ (dashed (c .before .before)) (c .before .to-dashes .ensures) (c .if2 .taken)) ∙ loop .loop .inv .1
 
-closed : (c : tie.Else2 Inv-loop μ-loop) → c .before .to-dashes .result + 2 ≤ length (c .before .before .before .before .before .before .args .s .now)
+closed : (c : tie.Else2 Inv-loop μ-loop) → c .before .to-dashes .result + 2 ≤ length (at-start (c .before .before .before .before) .args .s .now)
 closed c =
-    dashes-end-in (c .before .before .before .before .before .before .args .s .now) (c .before .before .before .before .loop .i + 2) _ (c .before .to-dashes .ensures) (c .if2 .left)
+    let loop = c .before .before .before .before in
+    dashes-end-in (at-start loop .args .s .now) (loop .loop .i + 2) _ (c .before .to-dashes .ensures) (c .if2 .left)
 
 add-after : tie.Need-add-after Inv-loop μ-loop
 add-after c = omega (arith, closed c)
@@ -57,16 +66,17 @@ ends-in s {at} e h = omega (arith, separatorsEnd-from s at, separatorsEnd-le s a
 
 loop-less : tie.Need-loop-less Inv-loop μ-loop
 loop-less c =
-    let s = c .before .before .before .before .before .before .before .args .s .now in
+    let s = at-start (at-loop (c .before .before)) .args .s .now in
     let r = ends-in s (c .separators-end .ensures) (omega (arith, closed (c .before))) in
     omega (arith, closed (c .before), r, c .before .before .to-dashes .ensures)
 
 loop-again : tie.Need-loop-again Inv-loop μ-loop
 loop-again c =
-    let s = c .before .before .before .before .before .before .before .args .s .now in
+    let loop = at-loop (c .before .before) in
+    let s = at-start loop .args .s .now in
     let e = c .before .before .to-dashes .result in (
       omega (arith, closed (c .before), ends-in s (c .separators-end .ensures) (omega (arith, closed (c .before)))),
-      gap-turn s _ e _ (dashed (c .before .before .before)) (c .before .before .to-dashes .ensures) (c .before .if2 .left) (c .separators-end .ensures) ∙ c .before .before .before .before .before .loop .inv .1,
+      gap-turn s _ e _ (dashed (c .before .before .before)) (c .before .before .to-dashes .ensures) (c .before .if2 .left) (c .separators-end .ensures) ∙ loop .loop .inv .1,
     )
 
 byte-requires : tie.Need-byte-requires Inv-loop μ-loop
@@ -77,13 +87,15 @@ ended c = sym (c .before .at-dashes .ensures) ∙ c .if1 .left
 
 returns-2 : tie.Need-returns-2 Inv-loop μ-loop
 returns-2 c =
-    let s = c .before .before .before .before .before .before .args .s .now in
-    sym (gapOn-percent (length s) s _ (ended (c .before .before)) (sym (c .before .byte .ensures) ∙ c .if3 .taken)) ∙ c .before .before .before .before .loop .inv .1
+    let loop = c .before .before .before .before in
+    let s = at-start loop .args .s .now in
+    sym (gapOn-percent (length s) s _ (ended (c .before .before)) (sym (c .before .byte .ensures) ∙ c .if3 .taken)) ∙ loop .loop .inv .1
 
 returns-3 : tie.Need-returns-3 Inv-loop μ-loop
 returns-3 c =
-    let s = c .before .before .before .before .before .before .args .s .now in
-    sym (gapOn-end (length s) s _ (ended (c .before .before)) (λ e. c .if3 .left (c .before .byte .ensures ∙ e))) ∙ c .before .before .before .before .loop .inv .1
+    let loop = c .before .before .before .before in
+    let s = at-start loop .args .s .now in
+    sym (gapOn-end (length s) s _ (ended (c .before .before)) (λ e. c .if3 .left (c .before .byte .ensures ∙ e))) ∙ loop .loop .inv .1
 
 pub gap-on-spec : {M : Type 1} → statement M
 gap-on-spec =

@@ -22,12 +22,6 @@ abbrev μ-loop : tie.MeasureT-loop
 abbrev at-loop : (c : tie.After-way-at Inv-loop μ-loop) → tie.At-loop Inv-loop μ-loop
 at-loop c = c .before .before .before .before
 
-abbrev at-loop-2 : (c : tie.Else1 Inv-loop μ-loop) → tie.At-loop Inv-loop μ-loop
-at-loop-2 c = at-loop (c .before .before .before .before)
-
-abbrev at-else1 : (c : tie.After-put-event Inv-loop μ-loop) → tie.Else1 Inv-loop μ-loop
-at-else1 c = c .before .before .before
-
 abbrev at-put-event : (c : tie.After-bytes Inv-loop μ-loop) → tie.After-put-event Inv-loop μ-loop
 at-put-event c = c .before .before .before
 
@@ -48,24 +42,25 @@ first c = c .before .before .before .before
 
 -- an end is inferred: something is open, and its content complete
 goes-on : (c : tie.Else1 Inv-loop μ-loop) →
-    let o = at-loop-2 c .loop .o in
+    let o = at-loop (c .before .before .before .before) .loop .o in
     (1 < o .count) × (o .complete ≡ true)
 goes-on c = c .before .may-end .ensures .1 (not-false _ (c .if1 .left))
 
 put-event-requires : tie.Need-put-event-requires Inv-loop μ-loop
 put-event-requires c κs =
     let ends = c .before .before in
-    let looped = at-loop-2 (c .before .before) in
+    let looped = at-loop (ends .before .before .before .before) in
     (omega (arith, looped .loop .inv .counted, looped .loop .inv .deep, first looped .pre .3, first looped .pre .0 .few), omega (arith, looped .loop .inv .ranged .element), omega (arith, first looped .pre .2), omega arith, omega arith)
 
 infer-end-requires : tie.Need-infer-end-requires Inv-loop μ-loop
 infer-end-requires c κs =
-    let ends = at-else1 (c .before .before .before .before) in
-    (at-loop-2 ends .loop .inv .ranged, omega (arith, goes-on ends .0), goes-on ends .1)
+    let put-event = c .before .before .before .before in
+    let ends = put-event .before .before .before in
+    (at-loop (ends .before .before .before .before) .loop .inv .ranged, omega (arith, goes-on ends .0), goes-on ends .1)
 
 loop-less : tie.Need-loop-less Inv-loop μ-loop
 loop-less c =
-    let ends = at-else1 (at-put-event (c .before .before)) in
+    let ends = at-put-event (c .before .before) .before .before .before in
     omega (arith, ap (λ (o : Open). o .count) (c .infer-end .ensures), goes-on ends .0)
 
 loop-again : tie.Need-loop-again Inv-loop μ-loop

@@ -13,6 +13,10 @@ Inv-loop d bad₀ i₀ bad i = Looked d bad i
 abbrev μ-loop : tie.MeasureT-loop
 μ-loop d bad₀ i₀ bad i = length d - i
 
+-- The point that the needs go back to.
+abbrev at-start : (c : tie.At-loop Inv-loop μ-loop) → tie.Start Inv-loop μ-loop
+at-start c = c .before .before
+
 loop-holds : tie.Need-loop-holds Inv-loop μ-loop
 loop-holds c = looked-none _
 
@@ -30,7 +34,7 @@ loop-less c = omega arith
 
 loop-again : tie.Need-loop-again Inv-loop μ-loop
 loop-again c =
-    let d = c .before .before .before .before .before .before .args .d .now in
+    let d = at-start (c .before .before .before .before) .args .d .now in
     let l = c .before .before .before .before .loop in
     looked-turn d (l .bad) (l .i) (c .before .unfit .result) (c .if1 .bad) (l .inv) (omega arith) (c .before .unfit .ensures)
     (⊎-elim (λ w. inl (omega arith)) (λ w. inr (omega arith)) (c .if1 .came))

@@ -5,6 +5,13 @@ use Rattle.line_text.specs.Words.{puts-number}
 use Rattle.line_text.proofs.put_number.Statement.{statement}
 use Rattle.line_text.proofs.put_number.Tie as tie
 
+-- The points that the needs go back to.
+abbrev at-decimal : (c : tie.After-put-bytes) → tie.After-decimal
+at-decimal c = c .before .before .before .before
+
+abbrev at-put-bytes : (c : tie.After-put-byte) → tie.After-put-bytes
+at-put-bytes c = c .before .before .before .before
+
 decimal-requires : tie.Need-decimal-requires
 decimal-requires c κs = search needs
 
@@ -28,9 +35,11 @@ same-length c = search needs
 
 returns : tie.Need-returns
 returns c =
-    let written = c .before .before .before .before .before .before .before .before .before .before .decimal .last .1 .0 in
-    let spelt = c .before .before .before .before .before .before .before .before .before .before .decimal .ensures in
-    (puts-number written _ _ _ (spelt .1 .0) (spelt .1 .1) (c .before .before .before .before .before .before .put-bytes .ensures) (c .before .before .put-byte .ensures), omega arith)
+    let put-bytes = at-put-bytes (c .before .before) in
+    let decimal = at-decimal put-bytes in
+    let written = decimal .decimal .last .1 .0 in
+    let spelt = decimal .decimal .ensures in
+    (puts-number written _ _ _ (spelt .1 .0) (spelt .1 .1) (put-bytes .put-bytes .ensures) (c .before .before .put-byte .ensures), omega arith)
 
 pub put-number-spec : {M : Type 1} → statement M
 put-number-spec =

@@ -12,6 +12,10 @@ Inv-loop out₀ at s from size i₀ out i = Puts out₀ at out i (upper s (from 
 abbrev μ-loop : tie.MeasureT-loop
 μ-loop out₀ at s from size i₀ out i = size - i
 
+-- The point that the needs go back to.
+abbrev at-start : (c : tie.At-loop Inv-loop μ-loop) → tie.Start Inv-loop μ-loop
+at-start c = c .before .before .before
+
 loop-holds : tie.Need-loop-holds Inv-loop μ-loop
 loop-holds c = puts-start _ _ _ _ (upper-start _ _ _)
 
@@ -38,9 +42,10 @@ loop-less c = omega arith
 
 loop-again : tie.Need-loop-again Inv-loop μ-loop
 loop-again c =
-    let s = c .before .before .before .before .before .before .args .s .now in
-    let from = c .before .before .before .before .before .before .args .from in
-    let size = c .before .before .before .before .before .before .args .size in
+    let start = at-start (c .before .before .before) in
+    let s = start .args .s .now in
+    let from = start .args .from in
+    let size = start .args .size in
     puts-turn (c .before .before .before .loop .inv) (omega (arith, upper-length s from size))
     (upper-next s from size (c .before .before .before .loop .i) _ (omega arith) (omega (arith, c .folded .ensures)))
 

@@ -5,7 +5,7 @@ use Rattle.list_table.specs.Finds.{named-size, named-outside, named-text
 use Rattle.list_table.proofs.is_named.Statement.{statement}
 use Rattle.list_table.proofs.is_named.Tie as tie
 
--- The points that the needs go back to.
+-- The point that the needs go back to.
 abbrev at-start : (c : tie.After-struct-known) → tie.Start
 at-start c = c .before .before .before
 

@@ -5,7 +5,7 @@ use Rattle.list_table.specs.Finds.{list-put}
 use Rattle.list_table.proofs.put_attribute.Statement.{statement}
 use Rattle.list_table.proofs.put_attribute.Tie as tie
 
--- The points that the needs go back to.
+-- The point that the needs go back to.
 abbrev at-whole : (c : tie.After-struct-known4) → tie.After-whole
 at-whole c = c .before .before .before .before
 

@@ -15,7 +15,7 @@ Inv-loop lists₀ k list from end i₀ lists i = (i ≤ end) × (end ≤ LIST) �
 abbrev μ-loop : tie.MeasureT-loop
 μ-loop lists₀ k list from end i₀ lists i = end - i
 
--- The points that the needs go back to.
+-- The point that the needs go back to.
 abbrev at-start : (c : tie.After-whole Inv-loop μ-loop) → tie.Start Inv-loop μ-loop
 at-start c = c .before .before .before
 

@@ -4,7 +4,7 @@ use Rattle.list_table.specs.Finds.{row-is}
 use Rattle.list_table.proofs.row_at.Statement.{statement}
 use Rattle.list_table.proofs.row_at.Tie as tie
 
--- The points that the needs go back to.
+-- The point that the needs go back to.
 abbrev at-start : (c : tie.After-number3) → tie.Start
 at-start c = c .before .before .before .before
 

@@ -18,6 +18,13 @@ Inv-loop s i q e₀ e = (e ≤ length s) × (q ≡ byteAt s i) × (e + inLiteral
 abbrev μ-loop : tie.MeasureT-loop
 μ-loop s i q e₀ e = length s - e
 
+-- The points that the needs go back to.
+abbrev at-start : (c : tie.At-loop Inv-loop μ-loop) → tie.Start Inv-loop μ-loop
+at-start c = c .before .before .before
+
+abbrev at-loop : (c : tie.After-is-reference Inv-loop μ-loop) → tie.At-loop Inv-loop μ-loop
+at-loop c = c .before .before .before .before
+
 byte-requires : tie.Need-byte-requires Inv-loop μ-loop
 byte-requires c κs = search needs
 
@@ -32,7 +39,7 @@ shared-slice-read-if1 c = omega arith
 
 returns : tie.Need-returns Inv-loop μ-loop
 returns c =
-    let s = c .before .before .before .before .before .before .args .s .now in
+    let s = at-start (c .before .before .before) .args .s .now in
     let z = c .before .before .before .loop in
     let b = c .if1 .taken ∙ z .inv .1 in
     sym (literal-closes s _ _ (before-stop _ _ (in-literal _) s _ _ (rw (eq-eqb _ _ b)) (z .inv .2)) (omega arith) b)
@@ -42,9 +49,11 @@ is-reference-requires c κs = omega arith
 
 returns-2 : tie.Need-returns-2 Inv-loop μ-loop
 returns-2 c =
-    let s = c .before .before .before .before .before .before .before .before .args .s .now in
-    let z = c .before .before .before .before .before .loop in
-    let other : byteAt s (z .e) ≡ byteAt s (c .before .before .before .before .before .before .before .before .args .i) → ⊥ = λ e. c .before .before .if1 .left (e ∙ sym (z .inv .1)) in
+    let loop = at-loop (c .before) in
+    let start = at-start loop in
+    let s = start .args .s .now in
+    let z = loop .loop in
+    let other : byteAt s (z .e) ≡ byteAt s (start .args .i) → ⊥ = λ e. c .before .before .if1 .left (e ∙ sym (z .inv .1)) in
     let found = literal-other s _ _ other ∙ sym (c .before .is-reference .ensures) ∙ c .if2 .taken in
     sym (literal-refers s _ _ (before-stop _ _ (in-literal _) s _ _ found (z .inv .2)) (omega arith) other)
 
@@ -56,9 +65,11 @@ loop-less c = omega arith
 
 loop-again : tie.Need-loop-again Inv-loop μ-loop
 loop-again c =
-    let s = c .before .before .before .before .before .before .before .before .args .s .now in
-    let z = c .before .before .before .before .before .loop in
-    let other : byteAt s (z .e) ≡ byteAt s (c .before .before .before .before .before .before .before .before .args .i) → ⊥ = λ e. c .before .before .if1 .left (e ∙ sym (z .inv .1)) in
+    let loop = at-loop (c .before) in
+    let start = at-start loop in
+    let s = start .args .s .now in
+    let z = loop .loop in
+    let other : byteAt s (z .e) ≡ byteAt s (start .args .i) → ⊥ = λ e. c .before .before .if1 .left (e ∙ sym (z .inv .1)) in
     (omega arith, z .inv .1, before-turn _ _ (in-literal _) s _ _ (omega arith) (literal-other s _ _ other ∙ sym (c .before .is-reference .ensures) ∙ c .if2 .left) (z .inv .2))
 
 returns-3 : tie.Need-returns-3 Inv-loop μ-loop

@@ -7,12 +7,16 @@ use Rattle.member_sets.specs.Linking.{found-alone, found-within}
 use Rattle.member_sets.proofs.around.Statement.{statement}
 use Rattle.member_sets.proofs.around.Tie as tie
 
+-- The point that the needs go back to.
+abbrev at-start : (c : tie.After-range) → tie.Start
+at-start c = c .before .before .before .before
+
 -- The member that holds the group, and its group, are what they should be.
 told : (c : tie.Else1) →
     let group = c .before .before in
     let h = group .before .of-group3 .result % 128 in
     let f = group .group-of .result in
-    (c .before .around-of .result ≡ f) × (1 ≤ h) × (h < 97) × (group .before .before .before .before .before .before .args .g < f) × (f ≤ 48)
+    (c .before .around-of .result ≡ f) × (1 ≤ h) × (h < 97) × (at-start (group .before .before) .args .g < f) × (f ≤ 48)
 told c = c .before .around-of .ensures .0 (omega (arith, c .if1 .left))
 
 of-group-requires : tie.Need-of-group-requires
@@ -63,7 +67,7 @@ with-requires c κs = let t = told (c .before .before) in (omega (arith, t .1), 
 among-requires : tie.Need-among-requires
 among-requires c κs =
     let asked = c .before .before .before in
-    let start = asked .before .before .before .before .before .before .before .before in
+    let start = at-start (asked .before .before .before .before) in
     let t = told asked in
     (start .pre .0, (start .pre .1 .0, omega (arith, t .0, t .4)))
 

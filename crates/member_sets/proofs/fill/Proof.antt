@@ -15,6 +15,13 @@ Inv-loop members₀ e table n g₀ members g = (g ≤ 48) × (MEMBERS ≤ length
 abbrev μ-loop : tie.MeasureT-loop
 μ-loop members₀ e table n g₀ members g = g
 
+-- The points that the needs go back to.
+abbrev at-fill : (c : tie.After-members Inv-loop μ-loop) → tie.After-fill Inv-loop μ-loop
+at-fill c = c .before
+
+abbrev at-fill-2 : (c : tie.After-needed-of-arg Inv-loop μ-loop) → tie.After-fill Inv-loop μ-loop
+at-fill-2 c = c .before .before .before .before
+
 fill-requires : tie.Need-fill-requires Inv-loop μ-loop
 fill-requires c κs = search needs
 
@@ -54,13 +61,13 @@ loop-again c =
 same-length-2 : tie.Need-same-length-2 Inv-loop μ-loop
 same-length-2 c =
     let put = c .before .before .before .before in
-    c .before .loop .inv .2 .len ∙ put .put-bits .ensures .len ∙ put .before .before .before .before .before .before .before .before .fill .kept .0
+    c .before .loop .inv .2 .len ∙ put .put-bits .ensures .len ∙ at-fill-2 (put .before .before .before .before) .fill .kept .0
 
 returns-2 : tie.Need-returns-2 Inv-loop μ-loop
 returns-2 c =
     let put = c .before .before .before .before in
     let needed = put .before .before .before in
-    linked-all _ _ _ _ _ _ _ (needed .before .before .before .before .before .fill .ensures) (needed .needed-of .ensures) (put .put-bits .ensures) (omega arith) (c .before .loop .inv .2)
+    linked-all _ _ _ _ _ _ _ (at-fill (needed .before .before .before .before) .fill .ensures) (needed .needed-of .ensures) (put .put-bits .ensures) (omega arith) (c .before .loop .inv .2)
 
 pub fill-spec : {M : Type 1} → statement M
 fill-spec =

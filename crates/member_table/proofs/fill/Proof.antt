@@ -16,6 +16,19 @@ Inv-loop members₀ table n base stack₀ lasts₀ groups₀ count₀ top₀ i�
 abbrev μ-loop : tie.MeasureT-loop
 μ-loop members₀ table n base stack₀ lasts₀ groups₀ count₀ top₀ i₀ members stack lasts groups count top i = n - i
 
+-- The points that the needs go back to.
+abbrev at-loop-2 : (c : tie.Else2 Inv-loop μ-loop) → tie.At-loop Inv-loop μ-loop
+at-loop-2 c = c .before .before .before .before
+
+abbrev at-loop-3 : (c : tie.After-wide Inv-loop μ-loop) → tie.At-loop Inv-loop μ-loop
+at-loop-3 c = at-loop-2 (c .before .before .before .before)
+
+abbrev at-loop : (c : tie.Then9 Inv-loop μ-loop) → tie.At-loop Inv-loop μ-loop
+at-loop c = at-loop-3 (c .before .before)
+
+abbrev at-then9 : (c : tie.After-members Inv-loop μ-loop) → tie.Then9 Inv-loop μ-loop
+at-then9 c = c .before .before .before .before
+
 mul-base : tie.Need-mul-base Inv-loop μ-loop
 mul-base c = omega arith
 
@@ -29,9 +42,9 @@ inside c = ltb-true _ _ (c .if1 .taken)
 -- A group that fits is on the stack, and there is room for it.
 told :
     (c : tie.Then9 Inv-loop μ-loop) →
-    let i = c .before .before .before .before .before .before .before .before .before .before .loop in let k = c .before .before .wide .result - 128 in (2 ≤ k) × (k ≤ i .top) × (i .groups < 48) × (i .count + k < 97)
+    let i = at-loop c .loop in let k = c .before .before .wide .result - 128 in (2 ≤ k) × (k ≤ i .top) × (i .groups < 48) × (i .count + k < 97)
 told c =
-    let i = c .before .before .before .before .before .before .before .before .before .before .loop in
+    let i = at-loop c .loop in
     fits-told (c .before .before .wide .result - 128) (i .top) (i .groups) (i .count) (sym (c .before .fits2 .ensures) ∙ c .if9 .taken)
 
 add-op : tie.Need-add-op Inv-loop μ-loop
@@ -118,7 +131,7 @@ array-copy-out-a-2 : tie.Need-array-copy-out-a-2 Inv-loop μ-loop
 array-copy-out-a-2 c = omega arith
 
 sub-b : tie.Need-sub-b Inv-loop μ-loop
-sub-b c = omega (arith, told (c .before .before .before .before .before .before))
+sub-b c = omega (arith, told (at-then9 (c .before .before)))
 
 mul-b : tie.Need-mul-b Inv-loop μ-loop
 mul-b c = omega arith
@@ -139,7 +152,7 @@ add-count : tie.Need-add-count Inv-loop μ-loop
 add-count c = omega arith
 
 array-write-lasts : tie.Need-array-write-lasts Inv-loop μ-loop
-array-write-lasts c = omega (arith, told (c .before .before .before .before .before .before .before))
+array-write-lasts c = omega (arith, told (at-then9 (c .before .before .before)))
 
 add-top-2 : tie.Need-add-top-2 Inv-loop μ-loop
 add-top-2 c = omega arith

@@ -16,6 +16,10 @@ Inv-loop members₀ base table lasts groups own stack first needed k j₀ member
 abbrev μ-loop : tie.MeasureT-loop
 μ-loop members₀ base table lasts groups own stack first needed k j₀ members j = k - j
 
+-- The point that the needs go back to.
+abbrev at-start : (c : tie.After-members Inv-loop μ-loop) → tie.Start Inv-loop μ-loop
+at-start c = c .before .before .before .before
+
 put-record-requires : tie.Need-put-record-requires Inv-loop μ-loop
 put-record-requires c κs =
     let x = c .before .before in
@@ -27,7 +31,7 @@ loop-holds c = (refl, refl)
 put-one-requires : tie.Need-put-one-requires Inv-loop μ-loop
 put-one-requires c κs =
     let i = c .before .before .loop in
-    let x = c .before .before .before .before .before .before .before .before in
+    let x = at-start (c .before .before .before .before) in
     let needed = x .pre .1 .1 .1 .1 .1 in
     let few = needed-small (x .args .stack) (x .args .first) (x .args .needed) (x .args .k) needed in
     let number = number-small (x .args .stack) (x .args .first) (x .args .own) (x .args .needed) (i .j) (x .args .k) needed (omega arith) (omega arith) in

@@ -10,6 +10,16 @@ use Rattle.member_table.specs.Putting.{other-second, other-first, one-pu
 use Rattle.member_table.proofs.put_one.Statement.{statement}
 use Rattle.member_table.proofs.put_one.Tie as tie
 
+-- The points that the needs go back to.
+abbrev at-start-2 : (c : tie.Joined1) → tie.Start
+at-start-2 c = c .before .before .before .before
+
+abbrev at-start : (c : tie.Joined2) → tie.Start
+at-start c = at-start-2 (c .before)
+
+abbrev at-joined2 : (c : tie.After-wide2) → tie.Joined2
+at-joined2 c = c .before .before .before .before
+
 -- The member's number, and that it is small.
 is-number : (c : tie.Joined1) → let x = c .before .before .before .before .args in c .if1 .h ≡ numberAt (x .t7) (x .first) (x .own) (x .needed) (x .j)
 is-number c =
@@ -24,9 +34,9 @@ small : (c : tie.Joined1) → c .if1 .h < 97
 small c = rw (is-number c) (c .before .before .before .before .pre .1 .1 .1 .1 .1)
 
 -- A place that begins another member, and that the piece is on the stack.
-is-other : (c : tie.Joined2) → let x = c .before .before .before .before .before .args in (pieceAt (x .t7) (c .if2 .o) .lo ≡ otherAt (x .t7) (x .first) (x .j)) × (c .if2 .o < 97)
+is-other : (c : tie.Joined2) → let x = at-start c .args in (pieceAt (x .t7) (c .if2 .o) .lo ≡ otherAt (x .t7) (x .first) (x .j)) × (c .if2 .o < 97)
 is-other c =
-    let x = c .before .before .before .before .before .args in
+    let x = at-start c .args in
     ⊎-elim
     (λ w. (other-second (x .t7) (x .first) (x .j) _ (w .0 .taken) (w .1), omega (arith, w .1)))
     (λ w. (other-first (x .t7) (x .first) (x .j) _ (w .0 .left) (w .1), omega (arith, w .1)))
@@ -78,7 +88,7 @@ add-hi : tie.Need-add-hi
 add-hi c = search needs
 
 put-member-requires : tie.Need-put-member-requires
-put-member-requires c κs = omega (arith, small (c .before .before .before .before .before .before .before))
+put-member-requires c κs = omega (arith, small (at-joined2 (c .before .before) .before))
 
 same-length : tie.Need-same-length
 same-length c = search needs
@@ -87,8 +97,8 @@ returns : tie.Need-returns
 returns c =
     let put = c .before .before in
     let got = put .before .before in
-    let known = got .before .before .before .before .before in
-    let x = known .before .before .before .before .before .args in
+    let known = at-joined2 (got .before) in
+    let x = at-start known .args in
     one-put (x .members .now) (x .base) (x .table .now) (x .lasts) (x .groups) (x .own) (x .t7) (x .first) (x .needed) (x .j) _ _ _ _
     (is-number (known .before)) (got .before .before .wide .ensures .0 ∙ is-other known .0) (got .before .wide2 .ensures .0) (got .wide3 .ensures .0) _ (put .put-member .ensures)
 

@@ -3,6 +3,19 @@ use borrow.Author.Needs.{needs}
 use Rattle.model_code.proofs.in_choice.Statement.{statement}
 use Rattle.model_code.proofs.in_choice.Tie as tie
 
+-- The points that the needs go back to.
+abbrev at-one-of4 : (c : tie.After-both2) → tie.After-one-of4
+at-one-of4 c = c .before .before
+
+abbrev at-both2 : (c : tie.After-one-of7) → tie.After-both2
+at-both2 c = c .before .before .before
+
+abbrev at-one-of7 : (c : tie.After-one-of9) → tie.After-one-of7
+at-one-of7 c = c .before .before .before .before
+
+abbrev at-one-of9 : (c : tie.After-one-of11) → tie.After-one-of9
+at-one-of9 c = c .before .before .before .before
+
 one-of-requires : tie.Need-one-of-requires
 one-of-requires c κs = search needs
 
@@ -58,7 +71,12 @@ one-of-requires-12 : tie.Need-one-of-requires-12
 one-of-requires-12 c κs = search needs
 
 returns : tie.Need-returns
-returns c = cc (c .one-of12 .ensures, c .before .one-of11 .ensures, c .before .before .both6 .ensures, c .before .before .before .both5 .ensures, c .before .before .before .before .one-of10 .ensures, c .before .before .before .before .before .one-of9 .ensures, c .before .before .before .before .before .before .one-of8 .ensures, c .before .before .before .before .before .before .before .both4 .ensures, c .before .before .before .before .before .before .before .before .both3 .ensures, c .before .before .before .before .before .before .before .before .before .one-of7 .ensures, c .before .before .before .before .before .before .before .before .before .before .one-of6 .ensures, c .before .before .before .before .before .before .before .before .before .before .before .one-of5 .ensures, c .before .before .before .before .before .before .before .before .before .before .before .before .both2 .ensures, c .before .before .before .before .before .before .before .before .before .before .before .before .before .both .ensures, c .before .before .before .before .before .before .before .before .before .before .before .before .before .before .one-of4 .ensures, c .before .before .before .before .before .before .before .before .before .before .before .before .before .before .before .one-of3 .ensures, c .before .before .before .before .before .before .before .before .before .before .before .before .before .before .before .before .one-of2 .ensures, c .before .before .before .before .before .before .before .before .before .before .before .before .before .before .before .before .before .one-of .ensures)
+returns c =
+    let one-of9 = at-one-of9 (c .before) in
+    let one-of7 = at-one-of7 one-of9 in
+    let both2 = at-both2 one-of7 in
+    let one-of4 = at-one-of4 both2 in
+    cc (c .one-of12 .ensures, c .before .one-of11 .ensures, c .before .before .both6 .ensures, c .before .before .before .both5 .ensures, c .before .before .before .before .one-of10 .ensures, one-of9 .one-of9 .ensures, one-of9 .before .one-of8 .ensures, one-of9 .before .before .both4 .ensures, one-of9 .before .before .before .both3 .ensures, one-of7 .one-of7 .ensures, one-of7 .before .one-of6 .ensures, one-of7 .before .before .one-of5 .ensures, both2 .both2 .ensures, both2 .before .both .ensures, one-of4 .one-of4 .ensures, one-of4 .before .one-of3 .ensures, one-of4 .before .before .one-of2 .ensures, one-of4 .before .before .before .one-of .ensures)
 
 pub in-choice-spec : {M : Type 1} → statement M
 in-choice-spec =

@@ -20,6 +20,13 @@ Inv-loop s names table keys n code and p q₀ near q = ((F : ℕ → ℕ → Boo
 abbrev μ-loop : tie.MeasureT-loop
 μ-loop s names table keys n code and p q₀ near q = n + 1 - q
 
+-- The points that the needs go back to.
+abbrev at-start-2 : (c : tie.After-same-name Inv-loop μ-loop) → tie.Start Inv-loop μ-loop
+at-start-2 c = c .before .before .before .before
+
+abbrev at-start : (c : tie.In-loop Inv-loop μ-loop) → tie.Start Inv-loop μ-loop
+at-start c = at-start-2 (c .before .before .before .before)
+
 shares-key-requires : tie.Need-shares-key-requires Inv-loop μ-loop
 shares-key-requires c κs = omega arith
 
@@ -83,7 +90,7 @@ add-same-name-2 : tie.Need-add-same-name-2 Inv-loop μ-loop
 add-same-name-2 c = omega arith
 
 same-name-requires-2 : tie.Need-same-name-requires-2 Inv-loop μ-loop
-same-name-requires-2 c κs = (omega arith, c .before .before .before .before .before .before .before .before .before .pre .1)
+same-name-requires-2 c κs = (omega arith, at-start (c .before) .pre .1)
 
 loop-less : tie.Need-loop-less Inv-loop μ-loop
 loop-less c = omega arith

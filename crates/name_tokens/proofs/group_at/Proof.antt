@@ -24,8 +24,8 @@ abbrev μ-loop : tie.MeasureT-loop
 abbrev at-start : (c : tie.At-loop Inv-loop μ-loop) → tie.Start Inv-loop μ-loop
 at-start c = c .before .before .before
 
-abbrev at-loop-2 : (c : tie.After-token-at Inv-loop μ-loop) → tie.At-loop Inv-loop μ-loop
-at-loop-2 c = c .before .before
+abbrev at-loop : (c : tie.After-token-at Inv-loop μ-loop) → tie.At-loop Inv-loop μ-loop
+at-loop c = c .before .before
 
 abbrev at-loop-3 : (c : tie.After-t Inv-loop μ-loop) → tie.At-loop Inv-loop μ-loop
 at-loop-3 c = c .before .before .before .before
@@ -33,8 +33,8 @@ at-loop-3 c = c .before .before .before .before
 abbrev at-loop-4 : (c : tie.After-separators-end2 Inv-loop μ-loop) → tie.At-loop Inv-loop μ-loop
 at-loop-4 c = at-loop-3 (c .before .before .before .before)
 
-abbrev at-loop : (c : tie.After-byte Inv-loop μ-loop) → tie.At-loop Inv-loop μ-loop
-at-loop c = at-loop-4 (c .before)
+abbrev at-loop-2 : (c : tie.After-byte Inv-loop μ-loop) → tie.At-loop Inv-loop μ-loop
+at-loop-2 c = at-loop-4 (c .before)
 
 abbrev at-byte : (c : tie.After-joins Inv-loop μ-loop) → tie.After-byte Inv-loop μ-loop
 at-byte c = c .before .before .before
@@ -80,7 +80,7 @@ returns c =
 
 -- The token that was read: it has a byte, ends in the text, and its group has room for it.
 read : (c : tie.After-known-told Inv-loop μ-loop) →
-    let z = at-loop-2 (c .before .before .before) in
+    let z = at-loop (c .before .before .before) in
     let e = c .before .t .given .0 .0 in
     (z .loop .i < e) × (e ≤ length (z .before .before .before .args .s .now)) × (z .loop .m - z .before .before .before .args .n < 32)
 read c = token-in (c .before .before .before .token-at .ensures .1) (c .before .t .given .1)
@@ -89,7 +89,7 @@ sub-put-token : tie.Need-sub-put-token Inv-loop μ-loop
 sub-put-token c = omega (arith, read (c .before))
 
 put-token-requires : tie.Need-put-token-requires Inv-loop μ-loop
-put-token-requires c κs = omega (arith, read (c .before), at-loop-2 (c .before .before .before .before) .loop .inv .2)
+put-token-requires c κs = omega (arith, read (c .before), at-loop (c .before .before .before .before) .loop .inv .2)
 
 add-m : tie.Need-add-m Inv-loop μ-loop
 add-m c = omega (arith, at-loop-3 (c .before .before .before) .loop .inv .3)
@@ -103,7 +103,7 @@ byte-requires c κs = search needs
 add-t20 : tie.Need-add-t20 Inv-loop μ-loop
 add-t20 c =
     let b = c .before in
-    let z = at-loop (c .before) in
+    let z = at-loop-2 b in
     let s = z .before .before .before .args .s .now in
     omega (arith, byte-is-in s (b .before .separators-end2 .result) 41 (sym (b .byte .ensures) ∙ c .if1 .taken) (omega arith))
 
@@ -112,7 +112,7 @@ returns-2 c =
     let b = c .before in
     let p = b .before .before in
     let k = p .before .before in
-    let z = at-loop (c .before) in
+    let z = at-loop (k .before .before .before) in
     let a = z .before .before .before .args in
     let s = a .s .now in
     let g = z .loop .inv .4 in
@@ -134,7 +134,7 @@ returns-3 c =
     let b = c .before .before in
     let p = b .before .before in
     let k = p .before .before in
-    let z = at-loop (c .before .before) in
+    let z = at-loop (k .before .before .before) in
     let s = z .before .before .before .args .s .now in
     let g = z .loop .inv .4 in
     let r = read k in (
@@ -153,7 +153,7 @@ returns-4 c =
     let b = e .before .before in
     let p = b .before .before in
     let k = p .before .before in
-    let z = at-loop (c .before .before .before .before) in
+    let z = at-loop (k .before .before .before) in
     let s = z .before .before .before .args .s .now in
     let g = z .loop .inv .4 in
     let r = read k in (
@@ -166,11 +166,10 @@ returns-4 c =
 -- The connector stands in the text.
 joined : (c : tie.Else3 Inv-loop μ-loop) →
     let b = c .before .before .before .before in
-    b .before .separators-end2 .result < length (at-start (at-loop b) .args .s .now)
+    b .before .separators-end2 .result < length (at-start (at-loop-2 b) .args .s .now)
 joined c =
     let b = c .before .before .before .before in
-    let loop = at-loop b in
-    joins-in (at-start loop .args .s .now) (b .before .separators-end2 .result) (b .byte .result) (loop .loop .c) (b .byte .ensures) (c .before .joins .ensures) (not-false _ (c .if3 .left))
+    joins-in (at-start (at-loop-2 b) .args .s .now) (b .before .separators-end2 .result) (b .byte .result) (at-loop-2 b .loop .c) (b .byte .ensures) (c .before .joins .ensures) (not-false _ (c .if3 .left))
 
 add-separators-end-2 : tie.Need-add-separators-end-2 Inv-loop μ-loop
 add-separators-end-2 c = omega (arith, joined c)
@@ -182,7 +181,7 @@ loop-less : tie.Need-loop-less Inv-loop μ-loop
 loop-less c =
     let b = at-byte (c .before .before) in
     let k = b .before .before .before .before in
-    let s = at-start (at-loop b) .args .s .now in
+    let s = at-start (at-loop (k .before .before .before)) .args .s .now in
     let j = b .before .separators-end2 .result in
     omega (arith, joined (c .before), read k, separatorsEnd-from s (k .before .t .given .0 .0), b .before .separators-end2 .ensures, separatorsEnd-from s (j + 1), c .separators-end3 .ensures)
 
@@ -193,7 +192,7 @@ loop-again c =
     let b = e .before .before in
     let p = b .before .before in
     let k = p .before .before in
-    let z = at-loop (at-byte (c .before .before)) in
+    let z = at-loop (k .before .before .before) in
     let s = z .before .before .before .args .s .now in
     let g = z .loop .inv .4 in
     let r = read k in

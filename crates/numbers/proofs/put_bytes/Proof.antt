@@ -14,6 +14,10 @@ Inv-loop buffer₀ table n k₀ buffer k = (k ≤ n) × (length buffer ≡ lengt
 abbrev μ-loop : tie.MeasureT-loop
 μ-loop buffer₀ table n k₀ buffer k = n - k
 
+-- The point that the needs go back to.
+abbrev at-loop : (c : tie.After-put-number Inv-loop μ-loop) → tie.At-loop Inv-loop μ-loop
+at-loop c = c .before .before .before .before
+
 loop-holds : tie.Need-loop-holds Inv-loop μ-loop
 unfolding bytesOf
 loop-holds c =
@@ -40,8 +44,9 @@ loop-less c = omega arith
 
 loop-again : tie.Need-loop-again Inv-loop μ-loop
 loop-again c =
-    let a = c .before .before .before .before .before .before .before .before .before .args in
-    let i = c .before .before .before .before .before .before .loop in
+    let loop = at-loop (c .before .before) in
+    let a = loop .before .before .before .args in
+    let i = loop .loop in
     let h = i .inv in
     let p = c .before .before .put-number in (
       omega arith,

@@ -23,20 +23,17 @@ use Rattle.pieces.proofs.piece_at.Tie as tie
 abbrev at-start-3 : (c : tie.After-shared-slice-known4) → tie.Start
 at-start-3 c = c .before .before .before .before
 
-abbrev at-start-2 : (c : tie.After-token-at) → tie.Start
-at-start-2 c = at-start-3 (c .before .before)
+abbrev at-start : (c : tie.After-token-at) → tie.Start
+at-start c = at-start-3 (c .before .before)
 
-abbrev at-start-4 : (c : tie.After-enum-told) → tie.Start
+abbrev at-start-4 : (c : tie.After-t2) → tie.Start
 at-start-4 c = at-start-3 (c .before .before .before .before)
 
-abbrev at-start-5 : (c : tie.After-t2) → tie.Start
-at-start-5 c = at-start-3 (c .before .before .before .before)
+abbrev at-start-2 : (c : tie.After-known-told) → tie.Start
+at-start-2 c = at-start (c .before .before .before)
 
-abbrev at-start : (c : tie.After-known-told) → tie.Start
-at-start c = at-start-2 (c .before .before .before)
-
-abbrev at-start-6 : (c : tie.After-tagged2) → tie.Start
-at-start-6 c = at-start-2 (c .before .before .before .before)
+abbrev at-start-5 : (c : tie.After-tagged2) → tie.Start
+at-start-5 c = at-start (c .before .before .before .before)
 
 abbrev at-known-told : (c : tie.Else1) → tie.After-known-told
 at-known-told c = c .before .before .before
@@ -46,14 +43,14 @@ at-else1 c = c .before .before .before
 
 -- A start tag stands there, which gives these attributes, or an end tag.
 start-stands : (c : tie.After-known-told) →
-    let start = at-start c in
+    let start = at-start-2 c in
     (ws : List Written) × (piece (start .args .long) (start .args .d .now) (start .args .at) ≡ got (startTag (tagWith ws (c .before .t .given .0 .0)))) × ReadAs (length (start .args .d .now)) (c .before .before .before .token-at .last .1 .1 .1 .1 .0) (c .before .t .given .0 .0 .given) ws
-start-stands c = token-start (length (at-start c .args .d .now)) (c .before .before .before .token-at .last .1 .1 .1 .1 .0) (c .before .before .before .token-at .result) _ (c .before .before .before .token-at .ensures) (c .before .t .given .1)
+start-stands c = token-start (length (at-start-2 c .args .d .now)) (c .before .before .before .token-at .last .1 .1 .1 .1 .0) (c .before .before .before .token-at .result) _ (c .before .before .before .token-at .ensures) (c .before .t .given .1)
 
 end-stands : (c : tie.After-known-told2) →
-    let start = at-start-2 (c .before .before .before) in
+    let start = at-start (c .before .before .before) in
     piece (start .args .long) (start .args .d .now) (start .args .at) ≡ got (endTag (tagIn (c .before .t2 .given .0 .0)))
-end-stands c = token-end (length (at-start-2 (c .before .before .before) .args .d .now)) (c .before .before .before .token-at .last .1 .1 .1 .1 .0) (c .before .before .before .token-at .result) _ (c .before .before .before .token-at .ensures) (c .before .t2 .given .1)
+end-stands c = token-end (length (at-start (c .before .before .before) .args .d .now)) (c .before .before .before .token-at .last .1 .1 .1 .1 .0) (c .before .before .before .token-at .result) _ (c .before .before .before .token-at .ensures) (c .before .t2 .given .1)
 
 token-at-requires : tie.Need-token-at-requires
 token-at-requires c κs = search needs
@@ -63,7 +60,7 @@ enum-known-t c = search needs
 
 tagged-requires : tie.Need-tagged-requires
 tagged-requires c κs =
-    let start = at-start c in
+    let start = at-start-2 c in
     let a = start .args in
     start-tag-asked (a .long) (start .pre .1) (a .d .now) (a .at) (start .pre .5) (start-stands (c) .1)
 
@@ -73,7 +70,7 @@ undeclared-requires c κs = search needs
 returns : tie.Need-returns
 returns c =
     let known-told = c .before .before .before .before in
-    let start = at-start known-told in
+    let start = at-start-2 known-told in
     let a = start .args in
     let (ws, e, k) = start-stands known-told in (
       onward-refused (a .d .now) (a .at) (start .pre .5) (c .undeclared .ensures),
@@ -83,7 +80,7 @@ returns c =
 held-requires : tie.Need-held-requires
 held-requires c κs =
     let known-told = at-known-told (c .before .before) in
-    let start = at-start known-told in
+    let start = at-start-2 known-told in
     let k = start-stands known-told .2 in
     (omega (arith, c .before .before .if1 .left), c .before .before .before .before .tagged .ensures .1, k .kept .few, k .inside, start .pre .7, start .pre .6)
 
@@ -91,7 +88,7 @@ returns-2 : tie.Need-returns-2
 returns-2 c =
     let else1 = at-else1 (c .before .before) in
     let known-told = at-known-told else1 in
-    let a = at-start known-told .args in
+    let a = at-start-2 known-told .args in
     let (ws, e, k) = start-stands known-told in (
       tt,
       λ es i t l o r n.
@@ -104,7 +101,7 @@ returns-3 : tie.Need-returns-3
 returns-3 c =
     let else1 = at-else1 (c .before .before) in
     let known-told = at-known-told else1 in
-    let start = at-start known-told in
+    let start = at-start-2 known-told in
     let a = start .args in
     let (ws, e, k) = start-stands known-told in (
       onward-start (a .d .now) (a .at) (start .pre .5) (else1 .before .before .tagged .ensures .1) (a .long) e,
@@ -119,7 +116,7 @@ enum-known-t-2 c = search needs
 
 tagged-requires-2 : tie.Need-tagged-requires-2
 tagged-requires-2 c κs =
-    let start = at-start-2 (c .before .before .before) in
+    let start = at-start (c .before .before .before) in
     let a = start .args in
     end-tag-asked (a .long) (start .pre .1) (a .d .now) (a .at) (start .pre .5) (end-stands (c))
 
@@ -128,7 +125,7 @@ undeclared-requires-2 c κs = search needs
 
 returns-4 : tie.Need-returns-4
 returns-4 c =
-    let start = at-start-6 (c .before .before .before) in
+    let start = at-start-5 (c .before .before .before) in
     let a = start .args in
     let e = end-stands (c .before .before .before .before) in (
       onward-refused (a .d .now) (a .at) (start .pre .5) (c .undeclared2 .ensures),
@@ -137,7 +134,7 @@ returns-4 c =
 
 returns-5 : tie.Need-returns-5
 returns-5 c =
-    let start = at-start-5 (c .before .before .before .before) in
+    let start = at-start-4 (c .before .before .before .before) in
     let a = start .args in
     let e = end-stands (c .before .before .before) in (
       onward-end (a .d .now) (a .at) (start .pre .5) (c .before .before .tagged2 .ensures .1) (a .long) e,
@@ -149,7 +146,7 @@ enum-known-t-3 c = search needs
 
 returns-6 : tie.Need-returns-6
 returns-6 c =
-    let start = at-start-2 (c .before .before .before) in
+    let start = at-start (c .before .before .before) in
     let a = start .args in
     let e = token-skipped (length (a .d .now)) (c .before .before .before .token-at .last .1 .1 .1 .1 .0) (c .before .before .before .token-at .result) _ (c .before .before .before .token-at .ensures) (c .before .t3 .given .1) in
     (onward-skipped (a .d .now) (a .at) (start .pre .5) (a .long) e, λ es i t l o r n. (skips (under-skipped (settings (a .long) (a .edition)) (a .s .now) es (a .d .now) (a .at) (lineOf (a .since) (a .mark)) o e), tt))
@@ -159,7 +156,7 @@ enum-known-t-4 c = search needs
 
 returns-7 : tie.Need-returns-7
 returns-7 c =
-    let a = at-start-2 (c .before .before .before) .args in
+    let a = at-start (c .before .before .before) .args in
     let e = token-refused (length (a .d .now)) (c .before .before .before .token-at .last .1 .1 .1 .1 .0) (c .before .before .before .token-at .result) _ (c .before .before .before .token-at .ensures) (c .before .t4 .given .1) in
     (tt, λ es i t l o r n. (malformed (under-refused (settings (a .long) (a .edition)) (a .s .now) es (a .d .now) (a .at) (lineOf (a .since) (a .mark)) o e), tt))
 
@@ -174,7 +171,7 @@ add-t38 c = search needs
 
 returns-8 : tie.Need-returns-8
 returns-8 c =
-    let start = at-start-2 (c .before .before .before .before) in
+    let start = at-start (c .before .before .before .before) in
     let a = start .args in
     let e = token-blank (length (a .d .now)) (c .before .before .before .before .token-at .last .1 .1 .1 .1 .0) (c .before .before .before .before .token-at .result) _ (c .before .before .before .before .token-at .ensures) (c .before .before .enum-told .given .1) in (
       (omega arith, omega (arith, start .pre .5)),
@@ -190,11 +187,10 @@ add-t40 c = search needs
 -- A byte 13 that is ignored at once.
 returns-9 : tie.Need-returns-9
 returns-9 c =
-    let start = at-start-4 (c .before .before .before .before) in
     let asked = c .before .before .before in
-    let a = start .args in
+    let a = at-start (asked .before .before .before) .args in
     let e = token-blank (length (a .d .now)) (asked .before .before .before .token-at .last .1 .1 .1 .1 .0) (asked .before .before .before .token-at .result) _ (asked .before .before .before .token-at .ensures) (asked .before .enum-told .given .1) in (
-      (omega arith, omega (arith, start .pre .5)),
+      (omega arith, omega (arith, at-start (asked .before .before .before) .pre .5)),
       λ es i t l o r n.
           let q = asked .takes-data .ensures _ es t o r in
           let so = since-last (settings (a .long) (a .edition)) (a .s .now) es (a .d .now) _ _ _ _ _ (lineOf (a .since) (a .mark)) o (a .at) r q e (not-false _ (c .before .before .if4 .left)) n in

@@ -7,6 +7,10 @@ use Rattle.record_ends.specs.Freeing.{frees-free, frees-behind, frees-wh
 use Rattle.record_ends.proofs.freed.Statement.{statement}
 use Rattle.record_ends.proofs.freed.Tie as tie
 
+-- The point that the needs go back to.
+abbrev at-else2 : (c : tie.After-numbers) → tie.Else2
+at-else2 c = c .before .before .before .before
+
 is-held-requires : tie.Need-is-held-requires
 is-held-requires c κs = search needs
 
@@ -27,8 +31,9 @@ same-length-2 c = c .before .before .before .before .put-held .ensures .bytes-ke
 
 returns-3 : tie.Need-returns-3
 returns-3 c =
-    frees-whole (sym (c .before .before .before .before .before .before .before .before .before .is-held .ensures) ∙ not-false _ (c .before .before .before .before .before .before .before .before .if1 .left))
-    (omega (arith, c .before .before .before .before .before .before .before .if2 .left)) (c .before .before .before .before .put-held .ensures)
+    let else2 = at-else2 (c .before .before .before) in
+    frees-whole (sym (else2 .before .before .is-held .ensures) ∙ not-false _ (else2 .before .if1 .left))
+    (omega (arith, else2 .if2 .left)) (c .before .before .before .before .put-held .ensures)
 
 pub freed-spec : {M : Type 1} → statement M
 freed-spec = tie.close (tie.spec is-held-requires returns returns-2 put-held-requires same-length same-length-2 returns-3)

@@ -14,6 +14,10 @@ Inv-loop rows places e u q₀ q = (q .0 ≤ 96) × Seeks (RowSays rows (e .0) (u
 abbrev μ-loop : tie.MeasureT-loop
 μ-loop rows places e u q₀ q = q .0
 
+-- The point that the needs go back to.
+abbrev at-bit : (c : tie.After-smaller Inv-loop μ-loop) → tie.After-bit Inv-loop μ-loop
+at-bit c = c .before .before
+
 returns : tie.Need-returns Inv-loop μ-loop
 returns c = seeks-none _ _ _ _ _ (seeks-start _ _ _ _) (c .if1 .taken)
 
@@ -34,7 +38,7 @@ smaller-requires c κs = search needs
 
 returns-3 : tie.Need-returns-3 Inv-loop μ-loop
 returns-3 c =
-    let inside = c .before .before .before .before .before .before in
+    let inside = at-bit (c .before .before .before) .before in
     seeks-rising _ _ _ _ _ (inside .before .before .loop .inv .1) (inside .if2 .taken) _ (c .before .before .before .smaller .ensures) (c .if4 .taken)
 
 loop-less : tie.Need-loop-less Inv-loop μ-loop
@@ -42,7 +46,7 @@ loop-less c = omega arith
 
 loop-again : tie.Need-loop-again Inv-loop μ-loop
 loop-again c =
-    let tested = c .before .before .before .before .before in
+    let tested = at-bit (c .before .before .before) in
     let inside = tested .before in
     (omega arith, seeks-next _ _ _ _ _ (inside .before .before .loop .inv .1) (inside .if2 .taken) (sym (c .before .before .before .before .if3 .left) ∙ tested .bit .ensures) _ (c .before .before .before .smaller .ensures) (omega arith))
 

@@ -17,10 +17,17 @@ Inv-loop rows places members begun level e u p q₀ q = (q .0 ≤ 96) × Seeks (
 abbrev μ-loop : tie.MeasureT-loop
 μ-loop rows places members begun level e u p q₀ q = q .0
 
+-- The points that the needs go back to.
+abbrev at-start : (c : tie.After-struct-known Inv-loop μ-loop) → tie.Start Inv-loop μ-loop
+at-start c = c .before .before .before
+
+abbrev at-then3 : (c : tie.After-smaller Inv-loop μ-loop) → tie.Then3 Inv-loop μ-loop
+at-then3 c = c .before .before .before
+
 -- the row does not have the place, or what has begun does not leave it
 misses : (c : tie.Joined4 Inv-loop μ-loop) →
     let looped = c .before .before .before .before in
-    let a = looped .before .before .before .before .before .args in
+    let a = at-start (looped .before .before) .args in
     BothSay (a .rows .now) (a .members .now) (a .begun .now) (a .level) (a .e .0) (a .u .0) (looped .loop .q .0) false
 misses c =
     let read = c .before .bit .ensures in
@@ -53,7 +60,7 @@ smaller-requires c κs = search needs
 
 returns-4 : tie.Need-returns-4 Inv-loop μ-loop
 returns-4 c =
-    let inside = c .before .before .before .before .before .before in
+    let inside = at-then3 (c .before .before .before) in
     raised-from _ _ _ _ _ (omega arith) (seeks-rising _ _ _ _ _ (inside .before .before .loop .inv .1) (inside .if3 .taken) _ (c .before .before .before .smaller .ensures) (c .if6 .taken))
 
 loop-less : tie.Need-loop-less Inv-loop μ-loop

@@ -14,6 +14,9 @@ use Rattle.sgml.proofs.sgml_attributes.Statement.{statement}
 use Rattle.sgml.proofs.sgml_attributes.Tie as tie
 
 -- The points that the needs go back to.
+abbrev at-start : (c : tie.After-chosen) → tie.Start
+at-start c = c .before .before .before
+
 abbrev at-chosen : (c : tie.After-buffer) → tie.After-chosen
 at-chosen c = c .before .before .before
 
@@ -25,7 +28,7 @@ list-to-bytes-requires c κs = search needs
 
 numbers-of-requires : tie.Need-numbers-of-requires
 numbers-of-requires c κs =
-    let a = c .before .before .before .before .before .before .before .args in
+    let a = at-start (c .before .before .before .before) .args in
     let r = c .before .before .list-to-bytes in
     listed-fits bytes _ (a .type-file .now) (a .buffer .now) (r .last .1 .1 .0) (r .result) (r .ensures)
 
@@ -38,7 +41,7 @@ same-length c = c .before .before .before .list-to-bytes .kept .1 .1 .0
 returns : tie.Need-returns
 returns c =
     let chosen = at-chosen (c .before .before) in
-    let a = chosen .before .before .before .args in
+    let a = at-start chosen .args in
     let r = c .before .before .before .list-to-bytes in
     let so = subst (λ (given : Settings). Lists bytes given (a .type-file .now) (a .buffer .now) (answerOf (r .result)) (r .last .1 .1 .0)) (chosen .chosen .ensures) (r .ensures) in
     (answerOf (r .result), ap (λ (six : List ℕ). getD six 0 0) (c .numbers-of .ensures), c .numbers-of .ensures, so)

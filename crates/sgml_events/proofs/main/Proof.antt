@@ -14,9 +14,6 @@ at-a c = c .before .before .before .before
 abbrev at-a-2 : (c : tie.After-d2) → tie.After-a
 at-a-2 c = at-a (c .before)
 
-abbrev at-a-3 : (c : tie.After-b) → tie.After-a
-at-a-3 c = at-a (c .before .before .before)
-
 slice-aggregate-first-bytes : tie.Need-slice-aggregate-first-bytes
 slice-aggregate-first-bytes c = search needs
 
@@ -80,7 +77,7 @@ slice-aggregate-print-2 c =
 print-requires : tie.Need-print-requires
 print-requires c κs =
     let b = c .before .before .before in
-    let a = at-a-3 (c .before .before .before) in
+    let a = at-a (b .before .before .before) in
     let type = a .before .before .before .first-bytes in
     let document = b .before .before .before .first-bytes2 in (
       whole-of 32768 (type .last .1 .0) (loaded-in (type .last .1 .0) (a .a .given .1) (type .ensures)) (loaded-whole (type .last .1 .0) (a .a .given .1) (type .ensures)) (omega (arith, a .before .before .s2 .given)),

@@ -28,11 +28,11 @@ at-a c = c .before .before .before .before
 abbrev at-a2 : (c : tie.After-put-refusal) → tie.After-a2
 at-a2 c = c .before .before .before .before
 
-abbrev at-a4 : (c : tie.After-put-refusal3) → tie.After-a4
-at-a4 c = c .before .before .before .before
-
 abbrev at-a3 : (c : tie.After-struct-known) → tie.After-a3
 at-a3 c = c .before .before .before .before
+
+abbrev at-a4 : (c : tie.After-put-refusal3) → tie.After-a4
+at-a4 c = c .before .before .before .before
 
 slice-aggregate-read : tie.Need-slice-aggregate-read
 slice-aggregate-read c = search needs

@@ -16,7 +16,7 @@ Inv-loop froms sizes i₀ i = (i ≤ length froms) × AllApart froms sizes i tru
 abbrev μ-loop : tie.MeasureT-loop
 μ-loop froms sizes i₀ i = length froms - i
 
--- The points that the needs go back to.
+-- The point that the needs go back to.
 abbrev at-start : (c : tie.At-loop Inv-loop μ-loop) → tie.Start Inv-loop μ-loop
 at-start c = c .before .before .before
 

@@ -16,7 +16,7 @@ Inv-loop froms sizes room i₀ i = (i ≤ length froms) × AllWithin froms sizes
 abbrev μ-loop : tie.MeasureT-loop
 μ-loop froms sizes room i₀ i = length froms - i
 
--- The points that the needs go back to.
+-- The point that the needs go back to.
 abbrev at-loop : (c : tie.After-ends-within Inv-loop μ-loop) → tie.At-loop Inv-loop μ-loop
 at-loop c = c .before .before .before .before
 

@@ -16,7 +16,7 @@ Inv-loop froms sizes i j₀ j = (j ≤ i) × ApartFrom froms sizes i j true
 abbrev μ-loop : tie.MeasureT-loop
 μ-loop froms sizes i j₀ j = i - j
 
--- The points that the needs go back to.
+-- The point that the needs go back to.
 abbrev at-loop : (c : tie.After-shared-slice-known5 Inv-loop μ-loop) → tie.At-loop Inv-loop μ-loop
 at-loop c = c .before .before .before .before
 

@@ -15,6 +15,10 @@ Inv-loop classes s at i₀ i = (i ≤ length s) × (i + span nameByte (drop i s)
 abbrev μ-loop : tie.MeasureT-loop
 μ-loop classes s at i₀ i = length s - i
 
+-- The point that the needs go back to.
+abbrev at-start : (c : tie.At-loop Inv-loop μ-loop) → tie.Start Inv-loop μ-loop
+at-start c = c .before .before
+
 loop-holds : tie.Need-loop-holds Inv-loop μ-loop
 loop-holds c = (omega arith, refl)
 
@@ -27,7 +31,7 @@ is-name-byte-requires c κs = c .before .before .before .before .pre .0
 returns : tie.Need-returns Inv-loop μ-loop
 unfolding nameEnd
 returns c =
-    let s = c .before .before .before .before .before .before .args .s .now in
+    let s = at-start (c .before .before .before .before) .args .s .now in
     span-end nameByte s _ _ (sym (c .before .is-name-byte .ensures) ∙ not-true _ (c .if1 .taken)) (c .before .before .before .before .loop .inv .1)
 
 add-i : tie.Need-add-i Inv-loop μ-loop
@@ -39,7 +43,7 @@ loop-less c = omega arith
 loop-again : tie.Need-loop-again Inv-loop μ-loop
 unfolding nameByte letter
 loop-again c =
-    let s = c .before .before .before .before .before .before .args .s .now in
+    let s = at-start (c .before .before .before .before) .args .s .now in
     (omega arith, span-turn nameByte refl s _ _ (sym (c .before .is-name-byte .ensures) ∙ not-false _ (c .if1 .left)) (c .before .before .before .before .loop .inv .1))
 
 returns-2 : tie.Need-returns-2 Inv-loop μ-loop

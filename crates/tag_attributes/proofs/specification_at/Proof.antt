@@ -12,6 +12,19 @@ use Rattle.tag_attributes.specs.Ways.{EqualsAt, equals-first, equals-the
 use Rattle.tag_attributes.proofs.specification_at.Statement.{statement}
 use Rattle.tag_attributes.proofs.specification_at.Tie as tie
 
+-- The points that the needs go back to.
+abbrev at-name-end : (c : tie.Joined2) → tie.After-name-end
+at-name-end c = c .before .before .before
+
+abbrev at-joined2-2 : (c : tie.After-is-quote) → tie.Joined2
+at-joined2-2 c = c .before .before .before
+
+abbrev at-joined2 : (c : tie.Joined4) → tie.Joined2
+at-joined2 c = c .before .before .before .before
+
+abbrev at-joined4 : (c : tie.After-literal-end) → tie.Joined4
+at-joined4 c = c .before
+
 name-end-requires : tie.Need-name-end-requires
 name-end-requires c κs = search needs
 
@@ -78,7 +91,7 @@ returns-3 : tie.Need-returns-3
 returns-3 c =
     let q = c .before in
     let e = q .before .before in
-    let j = e .before .before .before .before .before in
+    let j = at-joined2-2 (e .before .before) in
     let n = j .before .before in
     let a = n .before .before .before .args in
     quote-missing (a .long) (a .s .now) (a .i) _ (n .before .name-end .ensures) (n .if1 .left) _ (equals-at j) _ (e .separators-end2 .ensures) (tested quote (q .before .byte4 .ensures) (q .is-quote2 .ensures) (not-true _ (c .if5 .taken)))
@@ -86,11 +99,11 @@ returns-3 c =
 -- So does the quote.
 quote-at : (c : tie.Joined4) →
     let j = c .before .before .before .before in
-    QuoteAt (j .before .before .before .before .before .args .s .now) (j .if2 .j) (c .if4 .k)
+    QuoteAt (at-name-end j .before .before .args .s .now) (j .if2 .j) (c .if4 .k)
 quote-at c =
     let b = c .before .before in
     let j = b .before .before in
-    let s = j .before .before .before .before .before .args .s .now in
+    let s = at-name-end j .before .before .args .s .now in
     ⊎-elim (λ w. quote-then s (j .if2 .j) (w .1 .ensures) (tested quote (w .2 .ensures) (w .3 .ensures) (not-false _ (w .4 .left))) (w .5))
     (λ w. quote-first s (j .if2 .j) (tested quote (b .byte3 .ensures) (c .before .is-quote .ensures) (not-false _ (w .0 .left))) (w .1)) (c .if4 .came)
 
@@ -109,30 +122,30 @@ fault-of-requires c κs = search needs
 returns-4 : tie.Need-returns-4
 returns-4 c =
     let l = c .before .before .before in
-    let j = l .before .before .before .before .before in
+    let j = at-joined2 (l .before) in
     let n = j .before .before in
     let a = n .before .before .before .args in
     literal-refused (a .long) (a .s .now) (a .i) _ (n .before .name-end .ensures) (n .if1 .left) _ (equals-at j) _ (quote-at (l .before)) _ _ (reached-refused (l .literal-end .ensures) (c .before .enum-told .given .1) (c .fault-of .ensures))
 
 sub-t10 : tie.Need-sub-t10
 sub-t10 c =
-    let n = c .before .before .before .before .before .before .before .before .before .before .before in
+    let n = at-name-end (at-joined2 (c .before .before .before .before)) in
     let a = n .before .before .args in
     omega (arith, nameEnd-from (a .s .now) (a .i), n .name-end .ensures)
 
 add-t23 : tie.Need-add-t23
-add-t23 c = omega (arith, quote-in (quote-at (c .before .before .before .before .before)))
+add-t23 c = omega (arith, quote-in (quote-at (at-joined4 (c .before .before .before .before))))
 
 sub-t24 : tie.Need-sub-t24
 sub-t24 c =
     let l = c .before .before .before .before in
-    let s = l .before .before .before .before .before .before .before .before .before .before .args .s .now in
+    let s = at-name-end (at-joined2 (l .before)) .before .before .args .s .now in
     omega (arith, got-so (literal-holds s (l .before .if4 .k)) (reached-got (l .literal-end .ensures) (c .before .before .l .given .1)))
 
 returns-5 : tie.Need-returns-5
 returns-5 c =
     let l = c .before .before .before .before in
-    let j = l .before .before .before .before .before in
+    let j = at-joined2 (l .before) in
     let n = j .before .before in
     let a = n .before .before .before .args in
     literal-read (a .long) (a .s .now) (a .i) _ (n .before .name-end .ensures) (n .if1 .left) _ (equals-at j) _ (quote-at (l .before)) _ (reached-got (l .literal-end .ensures) (c .before .before .l .given .1))

@@ -22,6 +22,19 @@ Inv-loop long classes s i e first given₀ n₀ j₀ given n j = Goes long s i e
 abbrev μ-loop : tie.MeasureT-loop
 μ-loop long classes s i e first given₀ n₀ j₀ given n j = length s - j
 
+-- The points that the needs go back to.
+abbrev at-loop-2 : (c : tie.After-byte2 Inv-loop μ-loop) → tie.At-loop Inv-loop μ-loop
+at-loop-2 c = c .before .before .before .before
+
+abbrev at-loop-3 : (c : tie.After-specification-at Inv-loop μ-loop) → tie.At-loop Inv-loop μ-loop
+at-loop-3 c = c .before .before .before .before
+
+abbrev at-loop : (c : tie.After-r Inv-loop μ-loop) → tie.At-loop Inv-loop μ-loop
+at-loop c = at-loop-3 (c .before .before)
+
+abbrev at-r : (c : tie.After-keep Inv-loop μ-loop) → tie.After-r Inv-loop μ-loop
+at-r c = c .before .before .before
+
 loop-holds : tie.Need-loop-holds Inv-loop μ-loop
 loop-holds c =
     let a = c .before .args in
@@ -62,12 +75,12 @@ returns c =
     goes-refused (a .long) (a .s .now) (a .i) (a .e) _ _ _ _ (l .loop .inv) (letter-at t) _ _ (written-refused (r .specification-at .ensures) (c .before .enum-told .given .1) (c .fault-of .ensures))
 
 written-at : (c : tie.After-r Inv-loop μ-loop) →
-    let l = c .before .before .before .before .before .before in
+    let l = at-loop c in
     let a = l .before .before .args in
     specification (a .long) (a .s .now) (l .loop .j) ≡ got (writtenAs (c .r .given .0 .0))
 written-at c = written-got (c .before .before .specification-at .ensures) (c .r .given .1)
 
-inside : (c : tie.After-r Inv-loop μ-loop) → WrittenIn (length (c .before .before .before .before .before .before .before .before .args .s .now)) (c .r .given .0 .0)
+inside : (c : tie.After-r Inv-loop μ-loop) → WrittenIn (length (at-loop c .before .before .args .s .now)) (c .r .given .0 .0)
 inside c =
     let t = c .before .before .before in
     let l = t .before .before .before in
@@ -77,7 +90,7 @@ inside c =
 keep-requires : tie.Need-keep-requires Inv-loop μ-loop
 keep-requires c κs =
     let r = c .before .before in
-    let l = r .before .before .before .before .before .before in
+    let l = at-loop r in
     let h = inside r in
     (l .loop .inv .read .kept .few, (omega arith, omega arith, omega arith, omega arith))
 
@@ -92,7 +105,7 @@ separators-end-requires c κs = omega (arith, inside (c .before .before .before 
 
 loop-less : tie.Need-loop-less Inv-loop μ-loop
 loop-less c =
-    let r = c .before .before .before .before .before in
+    let r = at-r (c .before .before) in
     let t = r .before .before .before in
     let l = t .before .before .before in
     let a = l .before .before .args in
@@ -117,13 +130,13 @@ sub-t20 c = search needs
 
 add-t21 : tie.Need-add-t21 Inv-loop μ-loop
 add-t21 c =
-    let l = c .before .before .before .before .before in
+    let l = at-loop-2 (c .before) in
     let a = l .before .before .args in
     omega (arith, byte-is-in (a .s .now) (l .loop .j) 62 (sym (c .before .byte2 .ensures) ∙ c .if2 .taken) (omega arith))
 
 returns-2 : tie.Need-returns-2 Inv-loop μ-loop
 returns-2 c =
-    let l = c .before .before .before .before .before in
+    let l = at-loop-2 (c .before) in
     let a = l .before .before .args in
     goes-ends (a .long) (a .s .now) (a .i) (a .e) _ _ _ _ (l .loop .inv) (sym (c .before .byte2 .ensures) ∙ c .if2 .taken)
 

@@ -9,6 +9,10 @@ use Rattle.tags.specs.Attributes.{start-long, start-on, start-ends, read
 use Rattle.tags.proofs.start_tag_at.Statement.{statement}
 use Rattle.tags.proofs.start_tag_at.Tie as tie
 
+-- The point that the needs go back to.
+abbrev at-start : (c : tie.After-name-end) → tie.Start
+at-start c = c .before .before
+
 name-end-requires : tie.Need-name-end-requires
 name-end-requires c κs = search needs
 
@@ -32,7 +36,7 @@ byte-requires c κs = search needs
 
 add-t12 : tie.Need-add-t12
 add-t12 c =
-    let a = c .before .before .before .before .before .before .args in
+    let a = at-start (c .before .before .before .before) .args in
     omega (arith, byte-is-in (a .s .now) (c .before .before .separators-end .result) 62 (sym (c .before .byte .ensures) ∙ c .if2 .taken) (omega arith))
 
 returns-2 : tie.Need-returns-2

@@ -7,6 +7,10 @@ use Rattle.tags.specs.Tags.{tag-long, tag-read, tag-open}
 use Rattle.tags.proofs.tag_at.Statement.{statement}
 use Rattle.tags.proofs.tag_at.Tie as tie
 
+-- The point that the needs go back to.
+abbrev at-start : (c : tie.After-name-end) → tie.Start
+at-start c = c .before .before
+
 name-end-requires : tie.Need-name-end-requires
 name-end-requires c κs = search needs
 
@@ -30,22 +34,22 @@ byte-requires c κs = search needs
 
 sub-t11 : tie.Need-sub-t11
 sub-t11 c =
-    let a = c .before .before .before .before .before .before .args in
+    let a = at-start (c .before .before .before .before) .args in
     omega (arith, nameEnd-from (a .s .now) (a .i))
 
 add-t12 : tie.Need-add-t12
 add-t12 c =
-    let a = c .before .before .before .before .before .before .args in
+    let a = at-start (c .before .before .before .before) .args in
     omega (arith, byte-is-in (a .s .now) (c .before .before .separators-end .result) 62 (sym (c .before .byte .ensures) ∙ c .if2 .taken) (omega arith))
 
 returns-2 : tie.Need-returns-2
 returns-2 c =
-    let a = c .before .before .before .before .before .before .args in
+    let a = at-start (c .before .before .before .before) .args in
     tag-read (a .long) (a .s .now) (a .i) _ (c .before .before .before .before .name-end .ensures) _ (c .before .before .separators-end .ensures) (omega arith) (sym (c .before .byte .ensures) ∙ c .if2 .taken)
 
 returns-3 : tie.Need-returns-3
 returns-3 c =
-    let a = c .before .before .before .before .before .before .args in
+    let a = at-start (c .before .before .before .before) .args in
     tag-open (a .long) (a .s .now) (a .i) _ (c .before .before .before .before .name-end .ensures) _ (c .before .before .separators-end .ensures) (omega arith) (λ e. c .if2 .left (c .before .byte .ensures ∙ e))
 
 pub tag-at-spec : {M : Type 1} → statement M

@@ -8,7 +8,7 @@ use borrow.Author.Needs.{needs}
 use Rattle.type_stage.proofs.in_order.Statement.{statement}
 use Rattle.type_stage.proofs.in_order.Tie as tie
 
--- The points that the needs go back to.
+-- The point that the needs go back to.
 abbrev at-else1 : (c : tie.After-all-allowed) → tie.Else1
 at-else1 c = c .before .before .before
 

@@ -7,14 +7,18 @@ use Rattle.type_tables.specs.Inferring.{infers-by, none-required, large-
 use Rattle.type_tables.proofs.startable.Statement.{statement}
 use Rattle.type_tables.proofs.startable.Tie as tie
 
+-- The point that the needs go back to.
+abbrev at-else1 : (c : tie.After-struct-known4) → tie.Else1
+at-else1 c = c .before .before .before .before
+
 names : (c : tie.Else4) →
     let read = c .before .before .before .before in
-    let a = read .before .before .before .before .before .before .before .before .args in
+    let a = at-else1 (read .before .before) .before .before .args in
     Names (a .places .now) (a .e .0) (a .p .0) (read .wide .result)
 names c =
     let read = c .before .before .before .before in
     record {
-      some = read .before .before .before .before .before .before .if1 .left;
+      some = at-else1 (read .before .before) .if1 .left;
       read = read .wide .ensures .0;
       declared = c .before .before .if3 .left;
       element = omega (arith, c .if4 .left);
@@ -44,14 +48,14 @@ wide-requires c κs = search needs
 returns-3 : tie.Need-returns-3
 returns-3 c =
     let read = c .before .before in (
-      infers-by _ _ _ _ _ (λ s es rows M taken tables requires. none-declared _ _ _ _ _ _ s es taken tables requires (read .before .before .before .before .before .before .if1 .left) _ (read .wide .ensures .0) (c .if3 .taken)),
+      infers-by _ _ _ _ _ (λ s es rows M taken tables requires. none-declared _ _ _ _ _ _ s es taken tables requires (at-else1 (read .before .before) .if1 .left) _ (read .wide .ensures .0) (c .if3 .taken)),
       omega arith,
     )
 
 returns-4 : tie.Need-returns-4
 returns-4 c =
     let read = c .before .before .before .before in (
-      infers-by _ _ _ _ _ (λ s es rows M taken tables requires. data-required _ _ _ _ _ _ s es taken tables requires (read .before .before .before .before .before .before .if1 .left) _ (read .wide .ensures .0) (c .if4 .taken)),
+      infers-by _ _ _ _ _ (λ s es rows M taken tables requires. data-required _ _ _ _ _ _ s es taken tables requires (at-else1 (read .before .before) .if1 .left) _ (read .wide .ensures .0) (c .if4 .taken)),
       omega arith,
     )
 

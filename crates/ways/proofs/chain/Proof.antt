@@ -14,6 +14,10 @@ Inv-loop rows places facts x c₀ n₀ c n = (1 ≤ n) × (c .0 ≤ 64) × Carri
 abbrev μ-loop : tie.MeasureT-loop
 μ-loop rows places facts x c₀ n₀ c n = 65 - n
 
+-- The point that the needs go back to.
+abbrev at-loop-turn : (c : tie.After-fitting-first Inv-loop μ-loop) → tie.In-loop Inv-loop μ-loop
+at-loop-turn c = c .before .before .before
+
 -- what is still to be looked for
 looks : (p : tie.At-loop Inv-loop μ-loop) →
     let a = p .before .before .args in
@@ -35,7 +39,7 @@ fitting-first-requires c κs = search needs
 
 returns : tie.Need-returns Inv-loop μ-loop
 returns c =
-    let inside = c .before .before .before .before .before in
+    let inside = at-loop-turn (c .before .before) in
     let inv = inside .before .loop .inv in
     (looks-found _ _ _ _ _ _ _ _ (looks (inside .before)) (inv .0) (inside .loop-test .taken) (there (c .before .before .before)) _ (c .before .before .fitting-first .ensures .0) (λ z. omega (arith, c .if2 .taken)), inside .loop-test .taken)
 
@@ -50,7 +54,7 @@ loop-less c = omega arith
 
 loop-again : tie.Need-loop-again Inv-loop μ-loop
 loop-again c =
-    let inside = c .before .before .before .before .before .before in
+    let inside = at-loop-turn (c .before .before .before) in
     let inv = inside .before .loop .inv in (
       omega arith,
       c .inferable .ensures .1,

@@ -14,6 +14,10 @@ Inv-loop s a t b n k₀ k = sameText s (a + k) t (b + k) (n - k) ≡ sameText s 
 abbrev μ-loop : tie.MeasureT-loop
 μ-loop s a t b n k₀ k = n - k
 
+-- The point that the needs go back to.
+abbrev at-start : (c : tie.In-loop Inv-loop μ-loop) → tie.Start Inv-loop μ-loop
+at-start c = c .before .before .before .before
+
 loop-holds : tie.Need-loop-holds Inv-loop μ-loop
 loop-holds c =
     let args = c .before .before .args in
@@ -36,7 +40,7 @@ is-same-requires c κs = tt
 
 returns : tie.Need-returns Inv-loop μ-loop
 returns c =
-    let args = c .before .before .before .before .before .before .before .before .args in
+    let args = at-start (c .before .before .before .before) .args in
     let in-loop = c .before .before .before .before in
     let differ = sym (c .before .is-same .ensures) ∙ not-true _ (c .if1 .taken) in
     sym (sameText-other (args .s .now) (args .a) (args .t .now) (args .b) _ _ (in-loop .loop-test .taken) (eqb-false _ _ differ)) ∙ in-loop .before .loop .inv
@@ -49,7 +53,7 @@ loop-less c = omega arith
 
 loop-again : tie.Need-loop-again Inv-loop μ-loop
 loop-again c =
-    let args = c .before .before .before .before .before .before .before .before .args in
+    let args = at-start (c .before .before .before .before) .args in
     let in-loop = c .before .before .before .before in
     let same = sym (c .before .is-same .ensures) ∙ not-false _ (c .if1 .left) in
     sameText-turn (args .s .now) (args .a) (args .t .now) (args .b) _ _ (in-loop .loop-test .taken) (eqb-true _ _ same) ∙ in-loop .before .loop .inv

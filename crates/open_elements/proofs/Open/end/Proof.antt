@@ -4,6 +4,10 @@ use borrow.Author.Needs.{needs}
 use Rattle.open_elements.proofs.Open.end.Statement.{statement}
 use Rattle.open_elements.proofs.Open.end.Tie as tie
 
+-- The point that the needs go back to.
+abbrev at-start : (c : tie.After-wide) → tie.Start
+at-start c = c .before .before .before .before
+
 sub-n : tie.Need-sub-n
 sub-n c = search needs
 
@@ -24,7 +28,7 @@ number-requires c κs = search needs
 
 returns : tie.Need-returns
 returns c =
-    let a = c .before .before .before .before .before .before .args in
+    let a = at-start (c .before .before) .args in
     ended-by (a .self) (c .number .ensures) (c .before .before .wide .ensures .0) (c .before .wide2 .ensures .0)
 
 pub end-spec : {M : Type 1} → statement M

@@ -15,9 +15,19 @@ Inv-loop x around i₀ i = (i ≤ i₀) × (isOpen (x .0) (aroundOf around i₀)
 abbrev μ-loop : tie.MeasureT-loop
 μ-loop x around i₀ i = i
 
+-- The points that the needs go back to.
+abbrev at-start-2 : (c : tie.After-struct-known2 Inv-loop μ-loop) → tie.Start Inv-loop μ-loop
+at-start-2 c = c .before .before .before
+
+abbrev at-start : (c : tie.At-loop Inv-loop μ-loop) → tie.Start Inv-loop μ-loop
+at-start c = at-start-2 (c .before .before .before)
+
+abbrev at-loop : (c : tie.After-number Inv-loop μ-loop) → tie.At-loop Inv-loop μ-loop
+at-loop c = c .before .before .before
+
 -- the current element is another
 past : (p : tie.At-loop Inv-loop μ-loop) →
-    let a = p .before .before .before .before .before .before .args in
+    let a = at-start p .args in
     isOpen (a .x .0) (bare (a .self)) ≡ isOpen (a .x .0) (aroundOf (a .self .around) (p .loop .i))
 past p = open-past _ _ _ (p .before .before .if1 .left) ∙ p .loop .inv .1
 
@@ -41,8 +51,8 @@ number-requires c κs = search needs
 
 returns-2 : tie.Need-returns-2 Inv-loop μ-loop
 returns-2 c =
-    let p = c .before .before .before .before .before .before in
-    let a = p .before .before .before .before .before .before .args in
+    let p = at-loop (c .before .before .before) in
+    let a = at-start p .args in
     sym (past p ∙ open-entry (a .x .0) (a .self .around) (p .loop .i) (omega arith) (sym (c .before .before .before .number .ensures) ∙ c .if2 .taken))
 
 loop-less : tie.Need-loop-less Inv-loop μ-loop
@@ -50,14 +60,14 @@ loop-less c = search needs
 
 loop-again : tie.Need-loop-again Inv-loop μ-loop
 loop-again c =
-    let p = c .before .before .before .before .before .before in
-    let a = p .before .before .before .before .before .before .args in
+    let p = at-loop (c .before .before .before) in
+    let a = at-start p .args in
     (omega arith, p .loop .inv .1 ∙ open-further (a .x .0) (a .self .around) (p .loop .i) (omega arith) (λ e. c .if2 .left (c .before .before .before .number .ensures ∙ e)))
 
 returns-3 : tie.Need-returns-3 Inv-loop μ-loop
 returns-3 c =
     let p = c .before in
-    let a = p .before .before .before .before .before .before .args in
+    let a = at-start p .args in
     let e : p .loop .i ≡ 0 = omega arith in
     sym (past p ∙ rw (e, open-none))
 

@@ -4,6 +4,10 @@ use borrow.Author.Needs.{needs}
 use Rattle.open_elements.proofs.Open.start.Statement.{statement}
 use Rattle.open_elements.proofs.Open.start.Tie as tie
 
+-- The point that the needs go back to.
+abbrev at-start : (c : tie.After-of) → tie.Start
+at-start c = c .before .before .before .before
+
 of-requires : tie.Need-of-requires
 of-requires c κs = search needs
 
@@ -24,7 +28,7 @@ required-requires c κs = search needs
 
 returns : tie.Need-returns
 returns c =
-    let a = c .before .before .before .before .before .before .before .args in
+    let a = at-start (c .before .before .before) .args in
     opening-by (a .rows .now) (a .element) (a .self) (c .before .before .before .of .ensures) (c .before .complete .ensures) (c .required .ensures)
 
 pub start-spec : {M : Type 1} → statement M

@@ -10,6 +10,10 @@ use Rattle.open_elements.specs.Taken.{marking-same, marking-plain, marki
 use Rattle.open_elements.proofs.Open.start_required.Statement.{statement}
 use Rattle.open_elements.proofs.Open.start_required.Tie as tie
 
+-- The point that the needs go back to.
+abbrev at-start : (c : tie.After-place) → tie.Start
+at-start c = c .before .before .before .before
+
 kept-requires : tie.Need-kept-requires
 kept-requires c κs = search needs
 
@@ -24,13 +28,13 @@ weighed-requires c κs = search needs
 
 -- the place is taken
 took : (c : tie.Joined1) →
-    let a = c .before .before .before .before .before .before .before .args in
+    let a = at-start (c .before .before .before) .args in
     Taking (a .rows .now) (a .members .now) (a .begun .now) (a .self .required .0) (a .self)
     (record { around = a .self .around; count = a .self .count; element = a .self .element; place = a .self .required; complete = c .if1 .complete; required = c .if1 .required })
     (c .if1 .begun)
 took c =
     let b = c .before in
-    let a = b .before .before .before .before .before .before .args in
+    let a = at-start (b .before .before) .args in
     taking-by (a .self)
     (⊎-elim
     (λ w. marking-same (w .5) (w .6) (ap (λ (p : Place). p .0) (w .7)) (marking-among (b .before .kept .ensures .0) (b .complete .ensures) (w .0 .taken) (w .2 .ensures) (w .3 .ensures)))
@@ -39,7 +43,7 @@ took c =
 
 start-requires : tie.Need-start-requires
 start-requires c κs =
-    let pre = c .before .before .before .before .before .before .before .pre in
+    let pre = at-start (c .before .before .before) .pre in
     (ranged-taking (took c) (pre .0) (omega (arith, pre .0 .required)), pre .1, pre .2)
 
 returns : tie.Need-returns
