@@ -40,18 +40,6 @@ at-v c = c .before .before .before .before
 abbrev at-h : (c : tie.After-default-at) → tie.After-h
 at-h c = c .before .before
 
-name-at-requires : tie.Need-name-at-requires
-name-at-requires c κs = search needs
-
-enum-known-a : tie.Need-enum-known-a
-enum-known-a c = search needs
-
-enum-told : tie.Need-enum-told
-enum-told c = search needs
-
-fault-of-requires : tie.Need-fault-of-requires
-fault-of-requires c κs = search needs
-
 returns : tie.Need-returns
 returns c =
     let a = at-start-2 (c .before .before .before) .args in
@@ -59,15 +47,6 @@ returns c =
 
 gap-end-requires : tie.Need-gap-end-requires
 gap-end-requires c κs = name-within (c .before .before .before .name-at .ensures .1) (c .before .a .given .1) .1
-
-enum-known-g : tie.Need-enum-known-g
-enum-known-g c = search needs
-
-enum-told-2 : tie.Need-enum-told-2
-enum-told-2 c = search needs
-
-fault-of-requires-2 : tie.Need-fault-of-requires-2
-fault-of-requires-2 c κs = search needs
 
 returns-2 : tie.Need-returns-2
 returns-2 c =
@@ -85,15 +64,6 @@ value-at-requires c κs =
     let n = name-within (a-point .before .before .name-at .ensures .1) (a-point .a .given .1) in
     omega (arith, n, gap-range (a .s .now) _ _ (n .1) (reached-got (c .before .before .before .before .gap-end .ensures) (c .before .before .g .given .1)))
 
-enum-known-v : tie.Need-enum-known-v
-enum-known-v c = search needs
-
-enum-told-3 : tie.Need-enum-told-3
-enum-told-3 c = search needs
-
-fault-of-value-requires : tie.Need-fault-of-value-requires
-fault-of-value-requires c κs = search needs
-
 returns-3 : tie.Need-returns-3
 returns-3 c =
     let g = at-g-2 (c .before .before .before) in
@@ -108,15 +78,6 @@ returns-3 c =
 
 gap-end-requires-2 : tie.Need-gap-end-requires-2
 gap-end-requires-2 c κs = value-within (at-start (at-a (at-g (c .before))) .args .m) (c .before .before .before .value-at .ensures .1) (c .before .v .given .1) .2
-
-enum-known-h : tie.Need-enum-known-h
-enum-known-h c = search needs
-
-enum-told-4 : tie.Need-enum-told-4
-enum-told-4 c = search needs
-
-fault-of-requires-3 : tie.Need-fault-of-requires-3
-fault-of-requires-3 c κs = search needs
 
 returns-4 : tie.Need-returns-4
 returns-4 c =
@@ -142,15 +103,6 @@ default-at-requires c κs =
     let n = name-within (a-point .before .before .name-at .ensures .1) (a-point .a .given .1) in
     let v = value-within (start .args .m) (v-point .before .before .value-at .ensures .1) (v-point .v .given .1) in
     omega (arith, n, v, gap-range (a .s .now) _ _ (n .1) (reached-got (g .before .before .gap-end .ensures) (g .g .given .1)), gap-range (a .s .now) _ _ (v .2) (reached-got (c .before .before .before .gap-end2 .ensures) (c .before .h .given .1)))
-
-enum-known-d : tie.Need-enum-known-d
-enum-known-d c = search needs
-
-enum-told-5 : tie.Need-enum-told-5
-enum-told-5 c = search needs
-
-fault-of-requires-4 : tie.Need-fault-of-requires-4
-fault-of-requires-4 c κs = search needs
 
 returns-5 : tie.Need-returns-5
 returns-5 c =
@@ -199,30 +151,30 @@ pub definition-at-spec : {M : Type 1} → statement M
 definition-at-spec =
     tie.close
     (tie.spec
-    name-at-requires
-    enum-known-a
-    enum-told
-    fault-of-requires
+    (λ c κs. search needs)
+    (λ c. search needs)
+    (λ c. search needs)
+    (λ c κs. search needs)
     returns
     gap-end-requires
-    enum-known-g
-    enum-told-2
-    fault-of-requires-2
+    (λ c. search needs)
+    (λ c. search needs)
+    (λ c κs. search needs)
     returns-2
     value-at-requires
-    enum-known-v
-    enum-told-3
-    fault-of-value-requires
+    (λ c. search needs)
+    (λ c. search needs)
+    (λ c κs. search needs)
     returns-3
     gap-end-requires-2
-    enum-known-h
-    enum-told-4
-    fault-of-requires-3
+    (λ c. search needs)
+    (λ c. search needs)
+    (λ c κs. search needs)
     returns-4
     default-at-requires
-    enum-known-d
-    enum-told-5
-    fault-of-requires-4
+    (λ c. search needs)
+    (λ c. search needs)
+    (λ c κs. search needs)
     returns-5
     sub-t29
     returns-6)

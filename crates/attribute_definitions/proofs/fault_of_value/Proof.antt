@@ -3,17 +3,8 @@ use borrow.Author.Needs.{needs}
 use Rattle.attribute_definitions.proofs.fault_of_value.Statement.{statement}
 use Rattle.attribute_definitions.proofs.fault_of_value.Tie as tie
 
-enum-told : tie.Need-enum-told
-enum-told c = search needs
-
-enum-known-r : tie.Need-enum-known-r
-enum-known-r c = search needs
-
 returns : tie.Need-returns
 returns c = cc
 
-returns-2 : tie.Need-returns-2
-returns-2 c = search needs
-
 pub fault-of-value-spec : {M : Type 1} → statement M
-fault-of-value-spec = tie.close (tie.spec enum-told enum-known-r returns returns-2)
+fault-of-value-spec = tie.close (tie.spec (λ c. search needs) (λ c. search needs) returns (λ c. search needs))

@@ -13,9 +13,6 @@ at-start c = c .before .before .before
 abbrev at-else1 : (c : tie.After-find) → tie.Else1
 at-else1 c = c .before .before .before
 
-name-end-requires : tie.Need-name-end-requires
-name-end-requires c κs = search needs
-
 sub-if1 : tie.Need-sub-if1
 sub-if1 c = omega (arith, nameEnd-from (c .before .before .args .s .now) (c .before .before .args .i), c .name-end .ensures)
 
@@ -63,7 +60,7 @@ pub name-at-spec : {M : Type 1} → statement M
 name-at-spec =
     tie.close
     (tie.spec
-    name-end-requires
+    (λ c κs. search needs)
     sub-if1
     returns
     returns-2

@@ -28,22 +28,13 @@ at-else5 c = c .before .before
 abbrev at-is-cut2 : (c : tie.After-is-cut3) → tie.After-is-cut2
 at-is-cut2 c = c .before .before .before
 
-name-end-requires : tie.Need-name-end-requires
-name-end-requires c κs = search needs
-
 sub-if1 : tie.Need-sub-if1
 sub-if1 c = omega (arith, nameEnd-from (c .before .before .args .s .now) (c .before .before .args .i), c .name-end .ensures)
-
-refusal-requires : tie.Need-refusal-requires
-refusal-requires c κs = search needs
 
 returns : tie.Need-returns
 returns c =
     let a = c .before .before .before .before .args in
     rw (c .refusal .ensures) (word-long (a .long) (a .s .now) (a .i) _ (c .before .before .name-end .ensures) (c .before .if1 .taken), tt)
-
-slice-aggregate-is-word : tie.Need-slice-aggregate-is-word
-slice-aggregate-is-word c = search needs
 
 is-word-requires : tie.Need-is-word-requires
 is-word-requires c κs = omega (arith, nameEnd-from (c .before .before .before .before .args .s .now) (c .before .before .before .before .args .i), nameEnd-le (c .before .before .before .before .args .s .now) (c .before .before .before .before .args .i) (omega arith), c .before .before .name-end .ensures)
@@ -53,9 +44,6 @@ returns-2 c =
     let else1 = c .before .before .before in
     let a = at-start else1 .args in
     (word-cdata (a .long) (a .s .now) (a .i) _ (else1 .before .name-end .ensures) (else1 .if1 .left) (c .before .is-word .ensures) (c .if2 .taken), omega (arith, nameEnd-from (a .s .now) (a .i), nameEnd-le (a .s .now) (a .i) (omega arith), else1 .before .name-end .ensures))
-
-slice-aggregate-is-word-2 : tie.Need-slice-aggregate-is-word-2
-slice-aggregate-is-word-2 c = search needs
 
 is-word-requires-2 : tie.Need-is-word-requires-2
 is-word-requires-2 c κs =
@@ -69,9 +57,6 @@ returns-3 c =
     let else1 = at-else1 else2 in
     let a = at-start else1 .args in
     (word-number (a .long) (a .s .now) (a .i) _ (else1 .before .name-end .ensures) (else1 .if1 .left) (else2 .before .is-word .ensures) (else2 .if2 .left) (c .before .is-word2 .ensures) (c .if3 .taken), omega (arith, nameEnd-from (a .s .now) (a .i), nameEnd-le (a .s .now) (a .i) (omega arith), else1 .before .name-end .ensures))
-
-slice-aggregate-is-word-3 : tie.Need-slice-aggregate-is-word-3
-slice-aggregate-is-word-3 c = search needs
 
 is-word-requires-3 : tie.Need-is-word-requires-3
 is-word-requires-3 c κs =
@@ -89,17 +74,11 @@ returns-4 c =
       omega (arith, nameEnd-from (a .s .now) (a .i), nameEnd-le (a .s .now) (a .i) (omega arith), else1 .before .name-end .ensures),
     )
 
-slice-aggregate-is-cut : tie.Need-slice-aggregate-is-cut
-slice-aggregate-is-cut c = search needs
-
 is-cut-requires : tie.Need-is-cut-requires
 is-cut-requires c κs =
     let else1 = at-else1 (at-else2 (at-else3 (c .before))) in
     let start = at-start else1 in
     omega (arith, nameEnd-from (start .args .s .now) (start .args .i), nameEnd-le (start .args .s .now) (start .args .i) (omega arith), else1 .before .name-end .ensures)
-
-refusal-requires-2 : tie.Need-refusal-requires-2
-refusal-requires-2 c κs = search needs
 
 returns-5 : tie.Need-returns-5
 returns-5 c =
@@ -111,17 +90,11 @@ returns-5 c =
     rw (c .refusal2 .ensures)
     (word-cut (a .long) (a .s .now) (a .i) _ (else1 .before .name-end .ensures) (else1 .if1 .left) (else2 .before .is-word .ensures) (else2 .if2 .left) (else3 .before .is-word2 .ensures) (else3 .if3 .left) (else4 .before .is-word3 .ensures) (else4 .if4 .left) (c .before .before .is-cut .ensures) (c .before .if5 .taken), tt)
 
-slice-aggregate-is-cut-2 : tie.Need-slice-aggregate-is-cut-2
-slice-aggregate-is-cut-2 c = search needs
-
 is-cut-requires-2 : tie.Need-is-cut-requires-2
 is-cut-requires-2 c κs =
     let else1 = at-else1 (at-else2 (at-else3 (at-else4 (c .before)))) in
     let start = at-start else1 in
     omega (arith, nameEnd-from (start .args .s .now) (start .args .i), nameEnd-le (start .args .s .now) (start .args .i) (omega arith), else1 .before .name-end .ensures)
-
-refusal-requires-3 : tie.Need-refusal-requires-3
-refusal-requires-3 c κs = search needs
 
 returns-6 : tie.Need-returns-6
 returns-6 c =
@@ -137,17 +110,11 @@ returns-6 c =
       tt,
     )
 
-slice-aggregate-is-cut-3 : tie.Need-slice-aggregate-is-cut-3
-slice-aggregate-is-cut-3 c = search needs
-
 is-cut-requires-3 : tie.Need-is-cut-requires-3
 is-cut-requires-3 c κs =
     let else1 = at-else1 (at-else2 (at-else3 (at-else4 (at-else5 (c .before .before))))) in
     let start = at-start else1 in
     omega (arith, nameEnd-from (start .args .s .now) (start .args .i), nameEnd-le (start .args .s .now) (start .args .i) (omega arith), else1 .before .name-end .ensures)
-
-refusal-requires-4 : tie.Need-refusal-requires-4
-refusal-requires-4 c κs = search needs
 
 returns-7 : tie.Need-returns-7
 returns-7 c =
@@ -163,9 +130,6 @@ returns-7 c =
           (is-cut2 .is-cut2 .ensures) (c .before .before .before .before .if6 .left) (c .before .before .is-cut3 .ensures) (c .before .if7 .taken),
       tt,
     )
-
-refusal-requires-5 : tie.Need-refusal-requires-5
-refusal-requires-5 c κs = search needs
 
 returns-8 : tie.Need-returns-8
 returns-8 c =
@@ -186,30 +150,30 @@ pub word-at-spec : {M : Type 1} → statement M
 word-at-spec =
     tie.close
     (tie.spec
-    name-end-requires
+    (λ c κs. search needs)
     sub-if1
-    refusal-requires
+    (λ c κs. search needs)
     returns
-    slice-aggregate-is-word
+    (λ c. search needs)
     is-word-requires
     returns-2
-    slice-aggregate-is-word-2
+    (λ c. search needs)
     is-word-requires-2
     returns-3
-    slice-aggregate-is-word-3
+    (λ c. search needs)
     is-word-requires-3
     returns-4
-    slice-aggregate-is-cut
+    (λ c. search needs)
     is-cut-requires
-    refusal-requires-2
+    (λ c κs. search needs)
     returns-5
-    slice-aggregate-is-cut-2
+    (λ c. search needs)
     is-cut-requires-2
-    refusal-requires-3
+    (λ c κs. search needs)
     returns-6
-    slice-aggregate-is-cut-3
+    (λ c. search needs)
     is-cut-requires-3
-    refusal-requires-4
+    (λ c κs. search needs)
     returns-7
-    refusal-requires-5
+    (λ c κs. search needs)
     returns-8)

@@ -31,9 +31,6 @@ mul-short c = omega arith
 element-copy-out-short : tie.Need-element-copy-out-short Inv-loop μ-loop
 element-copy-out-short c = omega arith
 
-short-requires : tie.Need-short-requires Inv-loop μ-loop
-short-requires c κs = search needs
-
 read-again-requires : tie.Need-read-again-requires Inv-loop μ-loop
 read-again-requires c κs =
     let loop-turn = c .before .before .before in
@@ -68,7 +65,7 @@ fill-spec =
     loop-holds
     mul-short
     element-copy-out-short
-    short-requires
+    (λ c κs. search needs)
     read-again-requires
     add-k
     loop-less

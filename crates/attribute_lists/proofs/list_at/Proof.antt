@@ -25,18 +25,6 @@ at-l c = c .before .before .before
 abbrev at-definitions-at : (c : tie.After-r) → tie.After-definitions-at
 at-definitions-at c = c .before .before
 
-gap-end-requires : tie.Need-gap-end-requires
-gap-end-requires c κs = search needs
-
-enum-known-g : tie.Need-enum-known-g
-enum-known-g c = search needs
-
-enum-told : tie.Need-enum-told
-enum-told c = search needs
-
-fault-of-requires : tie.Need-fault-of-requires
-fault-of-requires c κs = search needs
-
 returns : tie.Need-returns
 returns c =
     let a = at-start-2 (c .before .before .before) .args in
@@ -46,15 +34,6 @@ listed-at-requires : tie.Need-listed-at-requires
 listed-at-requires c κs =
     let start = at-start (c .before .before) in
     omega (arith, start .pre, gap-range (start .args .s .now) (start .args .at) _ (start .pre .1) (reached-got (c .before .before .before .before .gap-end .ensures) (c .before .before .g .given .1)))
-
-enum-known-l : tie.Need-enum-known-l
-enum-known-l c = search needs
-
-enum-told-2 : tie.Need-enum-told-2
-enum-told-2 c = search needs
-
-fault-of-listed-requires : tie.Need-fault-of-listed-requires
-fault-of-listed-requires c κs = search needs
 
 returns-2 : tie.Need-returns-2
 returns-2 c =
@@ -73,15 +52,6 @@ definitions-at-requires c κs =
     let start = at-start g in
     omega (arith, start .pre, listed-within (start .args .heads .now) (listed-at .listed-at .ensures .1) (c .before .before .l .given .1), gap-range (start .args .s .now) (start .args .at) _ (start .pre .1) (reached-got (g .before .before .gap-end .ensures) (g .g .given .1)))
 
-enum-known-r : tie.Need-enum-known-r
-enum-known-r c = search needs
-
-enum-told-3 : tie.Need-enum-told-3
-enum-told-3 c = search needs
-
-fault-of-requires-2 : tie.Need-fault-of-requires-2
-fault-of-requires-2 c κs = search needs
-
 returns-3 : tie.Need-returns-3
 returns-3 c =
     let l = at-l (c .before .before .before) in
@@ -93,9 +63,6 @@ returns-3 c =
           (listed-is (listed-at .listed-at .ensures .0 es ls n r h) (l .l .given .1)) (defined-refused (a .long) (a .s .now) _ _ _ (c .before .before .before .definitions-at .ensures .0) (c .before .enum-told3 .given .1) (c .fault-of2 .ensures)),
       tt,
     )
-
-whole-requires : tie.Need-whole-requires
-whole-requires c κs = search needs
 
 sub-h : tie.Need-sub-h
 sub-h c =
@@ -146,22 +113,22 @@ pub list-at-spec : {M : Type 1} → statement M
 list-at-spec =
     tie.close
     (tie.spec
-    gap-end-requires
-    enum-known-g
-    enum-told
-    fault-of-requires
+    (λ c κs. search needs)
+    (λ c. search needs)
+    (λ c. search needs)
+    (λ c κs. search needs)
     returns
     listed-at-requires
-    enum-known-l
-    enum-told-2
-    fault-of-listed-requires
+    (λ c. search needs)
+    (λ c. search needs)
+    (λ c κs. search needs)
     returns-2
     definitions-at-requires
-    enum-known-r
-    enum-told-3
-    fault-of-requires-2
+    (λ c. search needs)
+    (λ c. search needs)
+    (λ c κs. search needs)
     returns-3
-    whole-requires
+    (λ c κs. search needs)
     sub-h
     cast-heads
     mul-heads

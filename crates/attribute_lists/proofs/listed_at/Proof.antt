@@ -22,19 +22,10 @@ at-start c = at-start-2 (c .before .before)
 abbrev at-name-end : (c : tie.After-if52) → tie.After-name-end
 at-name-end c = c .before .before .before .before
 
-byte-requires : tie.Need-byte-requires
-byte-requires c κs = search needs
-
-is-letter-requires : tie.Need-is-letter-requires
-is-letter-requires c κs = search needs
-
 returns : tie.Need-returns
 returns c =
     let a = at-start-2 (c .before .before) .args in
     (λ es ls n r h. listed-group (a .long) (a .s .now) es ls (a .i) (tested letter (c .before .before .before .byte .ensures) (c .before .before .is-letter .ensures) (not-true _ (c .before .if1 .taken))) (sym (c .before .before .before .byte .ensures) ∙ c .if2 .taken), tt)
-
-unfit-at-requires : tie.Need-unfit-at-requires
-unfit-at-requires c κs = search needs
 
 returns-2 : tie.Need-returns-2
 returns-2 c =
@@ -44,9 +35,6 @@ returns-2 c =
           ∙ sym (listed-unfit (a .long) (a .s .now) es ls (a .i) (tested letter (c .before .before .before .before .byte .ensures) (c .before .before .before .is-letter .ensures) (not-true _ (c .before .before .if1 .taken))) (λ e. c .before .if2 .left (c .before .before .before .before .byte .ensures ∙ e))),
       tt,
     )
-
-name-end-requires : tie.Need-name-end-requires
-name-end-requires c κs = search needs
 
 sub-if3 : tie.Need-sub-if3
 sub-if3 c =
@@ -77,15 +65,6 @@ returns-4 c =
       tt,
     )
 
-sub-if5 : tie.Need-sub-if5
-sub-if5 c = search needs
-
-mul-if5 : tie.Need-mul-if5
-mul-if5 c = search needs
-
-element-copy-out-if5 : tie.Need-element-copy-out-if5
-element-copy-out-if5 c = search needs
-
 returns-5 : tie.Need-returns-5
 returns-5 c =
     let name-end = at-name-end (c .before) in
@@ -112,19 +91,19 @@ pub listed-at-spec : {M : Type 1} → statement M
 listed-at-spec =
     tie.close
     (tie.spec
-    byte-requires
-    is-letter-requires
+    (λ c κs. search needs)
+    (λ c κs. search needs)
     returns
-    unfit-at-requires
+    (λ c κs. search needs)
     returns-2
-    name-end-requires
+    (λ c κs. search needs)
     sub-if3
     returns-3
     sub-element-of
     element-of-requires
     returns-4
-    sub-if5
-    mul-if5
-    element-copy-out-if5
+    (λ c. search needs)
+    (λ c. search needs)
+    (λ c. search needs)
     returns-5
     returns-6)

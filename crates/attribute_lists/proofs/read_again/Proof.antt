@@ -28,25 +28,10 @@ returns-2 c =
     let a = c .before .before .before .before .args in
     again-outside (a .long) (a .s .now) (a .from) (a .k) (a .lists .now) (λ x y. omega (arith, y, c .if2 .taken))
 
-definitions-at-requires : tie.Need-definitions-at-requires
-definitions-at-requires c κs = search needs
-
-enum-told : tie.Need-enum-told
-enum-told c = search needs
-
-enum-told-2 : tie.Need-enum-told-2
-enum-told-2 c = search needs
-
 returns-3 : tie.Need-returns-3
 returns-3 c =
     let a = at-start (c .before .before) .args in
     again-refused (a .long) (a .s .now) (a .from) (a .k) (a .lists .now) (defined-not (a .long) (a .s .now) _ _ _ (c .before .before .definitions-at .ensures .0) (c .enum-told2 .given .1))
-
-put-list-requires : tie.Need-put-list-requires
-put-list-requires c κs = search needs
-
-same-length : tie.Need-same-length
-same-length c = search needs
 
 returns-4 : tie.Need-returns-4
 returns-4 c =
@@ -61,10 +46,10 @@ read-again-spec =
     (tie.spec
     returns
     returns-2
-    definitions-at-requires
-    enum-told
-    enum-told-2
+    (λ c κs. search needs)
+    (λ c. search needs)
+    (λ c. search needs)
     returns-3
-    put-list-requires
-    same-length
+    (λ c κs. search needs)
+    (λ c. search needs)
     returns-4)

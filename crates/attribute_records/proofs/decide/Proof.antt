@@ -23,12 +23,6 @@ at-start c = at-start-3 (c .before .before .before)
 abbrev at-known-told : (c : tie.After-listed) → tie.After-known-told
 at-known-told c = c .before .before .before .before
 
-decide-requires : tie.Need-decide-requires
-decide-requires c κs = search needs
-
-enum-known-v : tie.Need-enum-known-v
-enum-known-v c = search needs
-
 -- The type is accepted.
 accepted : (c : tie.After-known-told) → let a = at-start c .args in let d = c .before .before .before .decide in Decides (settingsOf (a .c)) (a .s .now) 384 (d .last .1 .1 .1 .0) (d .last .1 .1 .1 .1 .0) (Accepted (c .before .v .given .0 .0))
 accepted c = let a = at-start c .args in let d = c .before .before .before .decide in subst (Decides (settingsOf (a .c)) (a .s .now) 384 (d .last .1 .1 .1 .0) (d .last .1 .1 .1 .1 .0)) (c .before .v .given .1) (d .ensures)
@@ -44,12 +38,6 @@ listed-requires c κs =
     let (es, a, count, fits, few, recorded, u) = accepted (c .before .before .before) in
     (omega arith, omega (arith, a .legible .short))
 
-same-length : tie.Need-same-length
-same-length c = search needs
-
-same-length-2 : tie.Need-same-length-2
-same-length-2 c = search needs
-
 returns-2 : tie.Need-returns-2
 returns-2 c =
     let known-told = at-known-told (c .before .before .before .before) in
@@ -61,10 +49,10 @@ pub decide-spec : {M : Type 1} → statement M
 decide-spec =
     tie.close
     (tie.spec
-    decide-requires
-    enum-known-v
+    (λ c κs. search needs)
+    (λ c. search needs)
     returns
     listed-requires
-    same-length
-    same-length-2
+    (λ c. search needs)
+    (λ c. search needs)
     returns-2)

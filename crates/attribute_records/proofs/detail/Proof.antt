@@ -5,9 +5,6 @@ use borrow.Author.Needs.{needs}
 use Rattle.attribute_records.proofs.detail.Statement.{statement}
 use Rattle.attribute_records.proofs.detail.Tie as tie
 
-cast-result : tie.Need-cast-result
-cast-result c = search needs
-
 returns : tie.Need-returns
 returns c = let a = c .before .args in detail-below (a .m) (a .x) (a .y) (omega arith)
 
@@ -15,4 +12,4 @@ returns-2 : tie.Need-returns-2
 returns-2 c = let a = c .before .args in detail-last (a .m) (a .x) (a .y) (omega arith)
 
 pub detail-spec : {M : Type 1} → statement M
-detail-spec = tie.close (tie.spec cast-result returns returns-2)
+detail-spec = tie.close (tie.spec (λ c. search needs) returns returns-2)

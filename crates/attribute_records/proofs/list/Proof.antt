@@ -21,30 +21,12 @@ at-decide c = c .before .before .before
 abbrev at-decide-2 : (c : tie.At-match-keys2) → tie.After-decide
 at-decide-2 c = c .before .before .before .before
 
-slice-aggregate-decide : tie.Need-slice-aggregate-decide
-slice-aggregate-decide c = search needs
-
-decide-requires : tie.Need-decide-requires
-decide-requires c κs = search needs
-
-enum-told : tie.Need-enum-told
-enum-told c = search needs
-
-same-length : tie.Need-same-length
-same-length c = search needs
-
 returns : tie.Need-returns
 returns c =
     let decide = at-decide (c .before .before) in
     let a = at-start decide .args in
     let d = decide .decide in
     listed-accepts numbers (settingsOf (a .c)) (a .s .now) _ _ _ _ (d .result) (d .ensures) _ (c .enum-told .given .1)
-
-clear-numbers-requires : tie.Need-clear-numbers-requires
-clear-numbers-requires c κs = search needs
-
-same-length-2 : tie.Need-same-length-2
-same-length-2 c = search needs
 
 returns-2 : tie.Need-returns-2
 returns-2 c =
@@ -57,11 +39,11 @@ pub list-spec : {M : Type 1} → statement M
 list-spec =
     tie.close
     (tie.spec
-    slice-aggregate-decide
-    decide-requires
-    enum-told
-    same-length
+    (λ c. search needs)
+    (λ c κs. search needs)
+    (λ c. search needs)
+    (λ c. search needs)
     returns
-    clear-numbers-requires
-    same-length-2
+    (λ c κs. search needs)
+    (λ c. search needs)
     returns-2)

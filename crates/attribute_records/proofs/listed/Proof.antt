@@ -21,39 +21,12 @@ at-fill c = at-fill-2 (c .before .before .before)
 abbrev at-put-lists : (c : tie.After-bytes) → tie.After-put-lists
 at-put-lists c = c .before .before .before
 
-slice-aggregate-fill : tie.Need-slice-aggregate-fill
-slice-aggregate-fill c = search needs
-
-fill-requires : tie.Need-fill-requires
-fill-requires c κs = search needs
-
-slice-aggregate-put-lists : tie.Need-slice-aggregate-put-lists
-slice-aggregate-put-lists c = search needs
-
-put-lists-requires : tie.Need-put-lists-requires
-put-lists-requires c κs = search needs
-
-mul-if1 : tie.Need-mul-if1
-mul-if1 c = search needs
-
-same-length : tie.Need-same-length
-same-length c = search needs
-
-same-length-2 : tie.Need-same-length-2
-same-length-2 c = search needs
-
 returns : tie.Need-returns
 returns c =
     let put-lists = at-put-lists (c .before .before) in
     let fill = at-fill put-lists in
     let a = at-start fill .args in
     listed-full (a .long) (a .s .now) (a .heads .now) _ (a .n) (fill .fill .ensures) _ _ _ _ (put-lists .put-lists .ensures .0) (a .room) (omega arith)
-
-same-length-3 : tie.Need-same-length-3
-same-length-3 c = search needs
-
-same-length-4 : tie.Need-same-length-4
-same-length-4 c = search needs
 
 returns-2 : tie.Need-returns-2
 returns-2 c =
@@ -66,14 +39,14 @@ pub listed-spec : {M : Type 1} → statement M
 listed-spec =
     tie.close
     (tie.spec
-    slice-aggregate-fill
-    fill-requires
-    slice-aggregate-put-lists
-    put-lists-requires
-    mul-if1
-    same-length
-    same-length-2
+    (λ c. search needs)
+    (λ c κs. search needs)
+    (λ c. search needs)
+    (λ c κs. search needs)
+    (λ c. search needs)
+    (λ c. search needs)
+    (λ c. search needs)
     returns
-    same-length-3
-    same-length-4
+    (λ c. search needs)
+    (λ c. search needs)
     returns-2)

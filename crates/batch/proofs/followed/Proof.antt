@@ -44,23 +44,11 @@ to-read c =
     let a = at-start c .args in
     subst (OrderedAs (settings (a .long) (a .edition)) (a .s .now) (a .d .now) (a .g)) (c .enum-told .given .1) (in-turn (c .before .before))
 
-in-order-requires : tie.Need-in-order-requires
-in-order-requires c κs = search needs
-
-enum-known-o : tie.Need-enum-known-o
-enum-known-o c = search needs
-
 returns : tie.Need-returns
 returns c = follows-type _ _ _ [] [] _ (c .before .before .before .in-order .result) (in-turn (c .before .before .before)) _ (c .before .o .given .1)
 
-enum-known-o-2 : tie.Need-enum-known-o-2
-enum-known-o-2 c = search needs
-
 returns-2 : tie.Need-returns-2
 returns-2 c = follows-ambiguous _ _ _ [] [] _ (c .before .before .before .in-order .result) (in-turn (c .before .before .before)) _ (c .before .o2 .given .1)
-
-enum-known-o-3 : tie.Need-enum-known-o-3
-enum-known-o-3 c = search needs
 
 returns-3 : tie.Need-returns-3
 returns-3 c = follows-document _ _ _ [] [] _ (c .before .before .before .in-order .result) (in-turn (c .before .before .before)) _ (c .before .o3 .given .1)
@@ -73,15 +61,6 @@ follow-requires c κs =
     let (b, e) = to-read (c .before) in
     (offered-range _ (b .type .offered) .1, b .short, b .type .short)
 
-enum-known-r : tie.Need-enum-known-r
-enum-known-r c = search needs
-
-enum-known-r-2 : tie.Need-enum-known-r-2
-enum-known-r-2 c = search needs
-
-same-length : tie.Need-same-length
-same-length c = search needs
-
 returns-4 : tie.Need-returns-4
 returns-4 c =
     let follow = at-follow (c .before) in
@@ -89,9 +68,6 @@ returns-4 c =
     let (b, e) = to-read enum-told-point in
     let (es, a, i, t, l) = tables-full _ (at-start enum-told-point .pre) e in
     answers-events _ _ _ _ _ _ _ es b a (follow .follow .result) (follow .follow .ensures es i t l) _ (c .before .r .given .1)
-
-same-length-2 : tie.Need-same-length-2
-same-length-2 c = search needs
 
 returns-5 : tie.Need-returns-5
 returns-5 c =
@@ -105,18 +81,18 @@ pub followed-spec : {M : Type 1} → statement M
 followed-spec =
     tie.close
     (tie.spec
-    in-order-requires
-    enum-known-o
+    (λ c κs. search needs)
+    (λ c. search needs)
     returns
-    enum-known-o-2
+    (λ c. search needs)
     returns-2
-    enum-known-o-3
+    (λ c. search needs)
     returns-3
     enum-told
     follow-requires
-    enum-known-r
-    enum-known-r-2
-    same-length
+    (λ c. search needs)
+    (λ c. search needs)
+    (λ c. search needs)
     returns-4
-    same-length-2
+    (λ c. search needs)
     returns-5)

@@ -4,21 +4,6 @@ use borrow.Author.Needs.{needs}
 use Rattle.batch.proofs.passed.Statement.{statement}
 use Rattle.batch.proofs.passed.Tie as tie
 
-too-long-requires : tie.Need-too-long-requires
-too-long-requires c κs = search needs
-
-enum-known-o : tie.Need-enum-known-o
-enum-known-o c = search needs
-
-enum-known-o-2 : tie.Need-enum-known-o-2
-enum-known-o-2 c = search needs
-
-enum-known-o-3 : tie.Need-enum-known-o-3
-enum-known-o-3 c = search needs
-
-enum-known-o-4 : tie.Need-enum-known-o-4
-enum-known-o-4 c = search needs
-
 returns : tie.Need-returns
 returns c settings s elements heads h = passed-read settings s (c .before .before .before .too-long .result) (c .before .before .before .too-long .ensures settings s elements heads h) _ (c .before .o .given .1)
 
@@ -34,4 +19,4 @@ returns-4 c settings s elements heads h = passed-document settings s (c .before 
 pub passed-spec : {M : Type 1} → statement M
 passed-spec =
     tie.close
-    (tie.spec too-long-requires enum-known-o enum-known-o-2 enum-known-o-3 enum-known-o-4 returns returns-2 returns-3 returns-4)
+    (tie.spec (λ c κs. search needs) (λ c. search needs) (λ c. search needs) (λ c. search needs) (λ c. search needs) returns returns-2 returns-3 returns-4)

@@ -44,18 +44,6 @@ at-fill-2 c = c .before .before .before .before
 abbrev at-fill : (c : tie.After-members4) → tie.After-fill
 at-fill c = at-fill-2 (c .before .before .before .before)
 
-judged-requires : tie.Need-judged-requires
-judged-requires c κs = search needs
-
-enum-known-g : tie.Need-enum-known-g
-enum-known-g c = search needs
-
-slice-aggregate-read-parts : tie.Need-slice-aggregate-read-parts
-slice-aggregate-read-parts c = search needs
-
-slice-aggregate-read-parts-2 : tie.Need-slice-aggregate-read-parts-2
-slice-aggregate-read-parts-2 c = search needs
-
 read-parts-requires : tie.Need-read-parts-requires
 read-parts-requires c κs =
     let match-keys2 = at-match-keys2 (c .before .before) in
@@ -63,20 +51,8 @@ read-parts-requires c κs =
     let none = tables-none _ _ _ _ _ _ _ _ _ (judged .judged .result) (λ n e. not-last (rw e at (match-keys2 .match .keys2))) in
     (record { heads = judged .judged .last .1 .1 .1 .0; staged = judged .judged .ensures; tables = none }, at-start judged .pre)
 
-same-length : tie.Need-same-length
-same-length c = search needs
-
-same-length-2 : tie.Need-same-length-2
-same-length-2 c = search needs
-
 returns : tie.Need-returns
 returns c = c .before .before .before .before .read-parts .ensures
-
-slice-aggregate-fill : tie.Need-slice-aggregate-fill
-slice-aggregate-fill c = search needs
-
-slice-aggregate-fill-2 : tie.Need-slice-aggregate-fill-2
-slice-aggregate-fill-2 c = search needs
 
 fill-requires : tie.Need-fill-requires
 fill-requires c κs =
@@ -85,12 +61,6 @@ fill-requires c κs =
     let a = at-start judged .args in
     let so = subst (Staged (settingsOf (a .c)) (a .s .now) (judged .judged .last .1 .1 .0) (judged .judged .last .1 .1 .1 .0)) (g .g .given .1) (judged .judged .ensures) in
     ((_, so), ((refl, refl, refl), (refl, refl, refl)))
-
-slice-aggregate-read-parts-3 : tie.Need-slice-aggregate-read-parts-3
-slice-aggregate-read-parts-3 c = search needs
-
-slice-aggregate-read-parts-4 : tie.Need-slice-aggregate-read-parts-4
-slice-aggregate-read-parts-4 c = search needs
 
 read-parts-requires-2 : tie.Need-read-parts-requires-2
 read-parts-requires-2 c κs =
@@ -102,12 +72,6 @@ read-parts-requires-2 c κs =
     let so = subst (Staged (settingsOf (a .c)) (a .s .now) (judged .judged .last .1 .1 .0) (judged .judged .last .1 .1 .1 .0)) (g .g .given .1) (judged .judged .ensures) in
     (record { heads = judged .judged .last .1 .1 .1 .0; staged = so; tables = fill .fill .ensures _ so }, start .pre)
 
-same-length-3 : tie.Need-same-length-3
-same-length-3 c = search needs
-
-same-length-4 : tie.Need-same-length-4
-same-length-4 c = search needs
-
 returns-2 : tie.Need-returns-2
 returns-2 c = c .before .before .before .before .read-parts2 .ensures
 
@@ -115,20 +79,20 @@ pub read-all-spec : {M : Type 1} → statement M
 read-all-spec =
     tie.close
     (tie.spec
-    judged-requires
-    enum-known-g
-    slice-aggregate-read-parts
-    slice-aggregate-read-parts-2
+    (λ c κs. search needs)
+    (λ c. search needs)
+    (λ c. search needs)
+    (λ c. search needs)
     read-parts-requires
-    same-length
-    same-length-2
+    (λ c. search needs)
+    (λ c. search needs)
     returns
-    slice-aggregate-fill
-    slice-aggregate-fill-2
+    (λ c. search needs)
+    (λ c. search needs)
     fill-requires
-    slice-aggregate-read-parts-3
-    slice-aggregate-read-parts-4
+    (λ c. search needs)
+    (λ c. search needs)
     read-parts-requires-2
-    same-length-3
-    same-length-4
+    (λ c. search needs)
+    (λ c. search needs)
     returns-2)

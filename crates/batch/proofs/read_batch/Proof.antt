@@ -36,9 +36,6 @@ first c = at-start (c .before)
 abbrev says : tie.After-are-fit → Bool → Type 0
 says c = let a = first c .args in Fits (a .starts .now) (a .lengths .now) (a .froms .now) (a .sizes .now) (length (a .answers .now)) (length (a .bytes .now))
 
-are-fit-requires : tie.Need-are-fit-requires
-are-fit-requires c κs = search needs
-
 read-all-requires : tie.Need-read-all-requires
 read-all-requires c κs = subst (says (c .before .before .before)) (c .before .before .if1 .taken) (c .before .before .before .are-fit .ensures)
 
@@ -46,26 +43,11 @@ read-all-requires c κs = subst (says (c .before .before .before)) (c .before .b
 fit : (c : tie.After-read-all) → says (asked c) true
 fit c = subst (says (asked c)) (c .before .before .before .if1 .taken) (asked c .are-fit .ensures)
 
-is-offered-requires : tie.Need-is-offered-requires
-is-offered-requires c κs = search needs
-
-same-length : tie.Need-same-length
-same-length c = search needs
-
-same-length-2 : tie.Need-same-length-2
-same-length-2 c = search needs
-
 returns : tie.Need-returns
 returns c =
     let r = read (c .before) in
     let few = fit-few _ _ _ (fit r) in
     (Batched.reads (fit r) (sym (c .before .is-offered .ensures) ∙ c .if2 .taken) refl (r .read-all .ensures), omega (arith, few))
-
-same-length-3 : tie.Need-same-length-3
-same-length-3 c = search needs
-
-same-length-4 : tie.Need-same-length-4
-same-length-4 c = search needs
 
 returns-2 : tie.Need-returns-2
 returns-2 c =
@@ -78,20 +60,8 @@ unfit c =
     let else1 = at-else1 (c .before .before) in
     subst (says (else1 .before)) (else1 .if1 .left) (else1 .before .are-fit .ensures)
 
-clear-bytes-requires : tie.Need-clear-bytes-requires
-clear-bytes-requires c κs = search needs
-
-is-offered-requires-2 : tie.Need-is-offered-requires-2
-is-offered-requires-2 c κs = search needs
-
-same-length-5 : tie.Need-same-length-5
-same-length-5 c = search needs
-
 returns-3 : tie.Need-returns-3
 returns-3 c = (Batched.unfit (unfit (c .before)) (sym (c .before .is-offered2 .ensures) ∙ c .if3 .taken) refl refl (c .before .before .before .before .clear-bytes .ensures), omega arith)
-
-same-length-6 : tie.Need-same-length-6
-same-length-6 c = search needs
 
 returns-4 : tie.Need-returns-4
 returns-4 c = (Batched.notOffered (unfit (c .before)) (sym (c .before .is-offered2 .ensures) ∙ c .if3 .left) refl refl (c .before .before .before .before .clear-bytes .ensures), omega arith)
@@ -100,18 +70,18 @@ pub read-batch-spec : {M : Type 1} → statement M
 read-batch-spec =
     tie.close
     (tie.spec
-    are-fit-requires
+    (λ c κs. search needs)
     read-all-requires
-    is-offered-requires
-    same-length
-    same-length-2
+    (λ c κs. search needs)
+    (λ c. search needs)
+    (λ c. search needs)
     returns
-    same-length-3
-    same-length-4
+    (λ c. search needs)
+    (λ c. search needs)
     returns-2
-    clear-bytes-requires
-    is-offered-requires-2
-    same-length-5
+    (λ c κs. search needs)
+    (λ c κs. search needs)
+    (λ c. search needs)
     returns-3
-    same-length-6
+    (λ c. search needs)
     returns-4)

@@ -31,18 +31,6 @@ at-then1 c = c .before .before .before
 abbrev at-followed : (c : tie.After-settled) → tie.After-followed
 at-followed c = c .before .before .before .before
 
-ends-within-requires : tie.Need-ends-within-requires
-ends-within-requires c κs = search needs
-
-clear-bytes-requires : tie.Need-clear-bytes-requires
-clear-bytes-requires c κs = search needs
-
-passed-requires : tie.Need-passed-requires
-passed-requires c κs = search needs
-
-same-length : tie.Need-same-length
-same-length c = search needs
-
 returns : tie.Need-returns
 returns c =
     let then1 = at-then1 (c .before .before) in
@@ -58,12 +46,6 @@ within c = leb-true _ _ (sym (c .before .ends-within .ensures) ∙ not-false _ (
 add-end : tie.Need-add-end
 add-end c = omega (arith, within c)
 
-sub-followed : tie.Need-sub-followed
-sub-followed c = search needs
-
-part-followed-start : tie.Need-part-followed-start
-part-followed-start c = search needs
-
 part-followed-end : tie.Need-part-followed-end
 part-followed-end c =
     let h = within c in
@@ -71,12 +53,6 @@ part-followed-end c =
 
 followed-requires : tie.Need-followed-requires
 followed-requires c κs = at-start-2 (c .before .before .before) .pre
-
-settled-requires : tie.Need-settled-requires
-settled-requires c κs = search needs
-
-same-length-2 : tie.Need-same-length-2
-same-length-2 c = search needs
 
 returns-2 : tie.Need-returns-2
 returns-2 c =
@@ -90,4 +66,4 @@ returns-2 c =
     (PartAs.within (within (followed .before .before .before)) so, answer-fits Lent.bytes _ _ d _ _ (c .before .before .settled .result) r n)
 
 pub read-part-spec : {M : Type 1} → statement M
-read-part-spec = tie.close (tie.spec ends-within-requires clear-bytes-requires passed-requires same-length returns add-end sub-followed part-followed-start part-followed-end followed-requires settled-requires same-length-2 returns-2)
+read-part-spec = tie.close (tie.spec (λ c κs. search needs) (λ c κs. search needs) (λ c κs. search needs) (λ c. search needs) returns add-end (λ c. search needs) (λ c. search needs) part-followed-end followed-requires (λ c κs. search needs) (λ c. search needs) returns-2)

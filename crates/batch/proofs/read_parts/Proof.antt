@@ -94,9 +94,6 @@ shared-slice-read-read-part-2 c = omega (arith, equal (c .before .before .before
 sub-read-part : tie.Need-sub-read-part Inv-loop μ-loop
 sub-read-part c = omega arith
 
-part-read-part-start : tie.Need-part-read-part-start Inv-loop μ-loop
-part-read-part-start c = search needs
-
 part-read-part-end : tie.Need-part-read-part-end Inv-loop μ-loop
 part-read-part-end c =
     let h = ends (c .before .before .before .before) in
@@ -157,7 +154,7 @@ read-parts-spec =
     mul-read-part-2
     shared-slice-read-read-part-2
     sub-read-part
-    part-read-part-start
+    (λ c. search needs)
     part-read-part-end
     read-part-requires
     put-answer-requires

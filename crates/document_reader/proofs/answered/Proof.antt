@@ -35,12 +35,6 @@ accepted c =
     let a = at-start c .args in
     subst (Judges (settingsOf (a .c)) (a .s .now) (a .d .now) (c .before .before .before .judged .last .1 .1 .1 .0) (c .before .before .before .judged .last .1 .1 .1 .1 .0)) (c .before .v .given .1) (c .before .before .before .judged .ensures)
 
-judged-requires : tie.Need-judged-requires
-judged-requires c κs = search needs
-
-enum-known-v : tie.Need-enum-known-v
-enum-known-v c = search needs
-
 returns : tie.Need-returns
 returns c =
     answers-refused _ _ _ _ _ _ _ (c .before .judged .last .1 .1 .1 .0) (c .before .judged .last .1 .1 .1 .1 .0) (c .before .judged .result) (c .before .judged .ensures)
@@ -51,24 +45,12 @@ read-under-requires c κs =
     let (b, t) = accepted (c .before .before .before) in
     (t, b .short)
 
-enum-known-r : tie.Need-enum-known-r
-enum-known-r c = search needs
-
-enum-known-r-2 : tie.Need-enum-known-r-2
-enum-known-r-2 c = search needs
-
-same-length : tie.Need-same-length
-same-length c = search needs
-
 returns-2 : tie.Need-returns-2
 returns-2 c =
     let read-under = at-read-under (c .before) in
     let (b, t) = accepted (at-known-told read-under) in
     let (es, a, h) = read-under .read-under .ensures in
     answers-events _ _ _ _ _ _ _ es b a (read-under .read-under .result) h _ (c .before .r .given .1)
-
-same-length-2 : tie.Need-same-length-2
-same-length-2 c = search needs
 
 returns-3 : tie.Need-returns-3
 returns-3 c =
@@ -81,13 +63,13 @@ pub answered-spec : {M : Type 1} → statement M
 answered-spec =
     tie.close
     (tie.spec
-    judged-requires
-    enum-known-v
+    (λ c κs. search needs)
+    (λ c. search needs)
     returns
     read-under-requires
-    enum-known-r
-    enum-known-r-2
-    same-length
+    (λ c. search needs)
+    (λ c. search needs)
+    (λ c. search needs)
     returns-2
-    same-length-2
+    (λ c. search needs)
     returns-3)

@@ -5,9 +5,6 @@ use borrow.Author.Needs.{needs}
 use Rattle.document_reader.proofs.fitted.Statement.{statement}
 use Rattle.document_reader.proofs.fitted.Tie as tie
 
-enum-known-a : tie.Need-enum-known-a
-enum-known-a c = search needs
-
 returns : tie.Need-returns
 returns c = fitted-other (c .before .args .a) (c .before .args .room)
     (λ n e. not-first (rw e at (c .match .keys2)))
@@ -24,4 +21,4 @@ returns-3 c =
     sym e ∙ fitted-all (a .a) (a .room) _ e (c .if1 .left)
 
 pub fitted-spec : {M : Type 1} → statement M
-fitted-spec = tie.close (tie.spec enum-known-a returns returns-2 returns-3)
+fitted-spec = tie.close (tie.spec (λ c. search needs) returns returns-2 returns-3)

@@ -13,21 +13,6 @@ at-start c = c .before .before .before .before
 judged-requires : tie.Need-judged-requires
 judged-requires c κs = c .before .before .before .before .pre
 
-in-order-requires : tie.Need-in-order-requires
-in-order-requires c κs = search needs
-
-enum-known-o : tie.Need-enum-known-o
-enum-known-o c = search needs
-
-enum-known-o-2 : tie.Need-enum-known-o-2
-enum-known-o-2 c = search needs
-
-enum-known-o-3 : tie.Need-enum-known-o-3
-enum-known-o-3 c = search needs
-
-enum-known-o-4 : tie.Need-enum-known-o-4
-enum-known-o-4 c = search needs
-
 -- The document in its order with the type.
 ordered : (c : tie.After-in-order) →
     let a = at-start (c .before .before) .args in
@@ -53,11 +38,11 @@ judged-spec =
     tie.close
     (tie.spec
     judged-requires
-    in-order-requires
-    enum-known-o
-    enum-known-o-2
-    enum-known-o-3
-    enum-known-o-4
+    (λ c κs. search needs)
+    (λ c. search needs)
+    (λ c. search needs)
+    (λ c. search needs)
+    (λ c. search needs)
     returns
     returns-2
     returns-3

@@ -14,30 +14,12 @@ at-numbered c = c .before .before .before .before
 abbrev at-refuses : (c : tie.After-buffer2) → tie.After-refuses
 at-refuses c = c .before .before .before .before
 
-numbered-requires : tie.Need-numbered-requires
-numbered-requires c κs = search needs
-
-fitted-requires : tie.Need-fitted-requires
-fitted-requires c κs = search needs
-
-refuses-requires : tie.Need-refuses-requires
-refuses-requires c κs = search needs
-
-clear-numbers-requires : tie.Need-clear-numbers-requires
-clear-numbers-requires c κs = search needs
-
-same-length : tie.Need-same-length
-same-length c = search needs
-
 returns : tie.Need-returns
 returns c =
     let refuses = at-refuses (c .before) in
     let w = at-numbered refuses .numbered in
     let g = sym (refuses .refuses .ensures) ∙ c .before .before .before .before .if1 .taken in
     (read-refused Lent.numbers _ _ _ _ _ [] [] (w .result) (refuses .before .fitted .result) (w .ensures) (w .kept .1 .1 .1 .0) (refuses .before .fitted .ensures) _ g (c .before .before .clear-numbers .ensures), count-fits _ _ _ _ _ [] [] _ (w .result) (w .ensures) (refuses .before .fitted .ensures))
-
-same-length-2 : tie.Need-same-length-2
-same-length-2 c = search needs
 
 returns-2 : tie.Need-returns-2
 returns-2 c =
@@ -49,11 +31,11 @@ pub read-spec : {M : Type 1} → statement M
 read-spec =
     tie.close
     (tie.spec
-    numbered-requires
-    fitted-requires
-    refuses-requires
-    clear-numbers-requires
-    same-length
+    (λ c κs. search needs)
+    (λ c κs. search needs)
+    (λ c κs. search needs)
+    (λ c κs. search needs)
+    (λ c. search needs)
     returns
-    same-length-2
+    (λ c. search needs)
     returns-2)

@@ -47,20 +47,11 @@ fill-index-requires c κs =
     let (es, a, k, w, l) = at-start-2 (c .before) .pre .0 in
     ((_, (es, a, k, w)), refl)
 
-holds-and-requires : tie.Need-holds-and-requires
-holds-and-requires c κs = search needs
-
-slice-aggregate-fill : tie.Need-slice-aggregate-fill
-slice-aggregate-fill c = search needs
-
 fill-requires : tie.Need-fill-requires
 fill-requires c κs =
     let fill-index = at-fill-index-3 (c .before .before .before) in
     let (es, a, k, w, l) = at-start fill-index .pre .0 in
     ((_, (es, a, k, w)), ((_, es, a, fill-index .fill-index .ensures _ es a k w, l), ((refl, refl, refl), inl refl)))
-
-slice-aggregate-follow : tie.Need-slice-aggregate-follow
-slice-aggregate-follow c = search needs
 
 follow-requires : tie.Need-follow-requires
 follow-requires c κs =
@@ -68,18 +59,12 @@ follow-requires c κs =
     let (es, a, k, w, l) = pre .0 in
     (offered-range _ (a .legible .offered) .1, pre .1, a .legible .short)
 
-same-length : tie.Need-same-length
-same-length c = search needs
-
 returns : tie.Need-returns
 returns c =
     let fill = at-fill-2 (c .before .before) in
     let fill-index = at-fill-index-2 fill in
     let (es, a, k, w, l) = at-start fill-index .pre .0 in
     (es, a, c .before .before .follow .ensures es (fill-index .fill-index .ensures _ es a k w) (fill .fill .ensures _ es a k w) l)
-
-slice-aggregate-fill-2 : tie.Need-slice-aggregate-fill-2
-slice-aggregate-fill-2 c = search needs
 
 fill-requires-2 : tie.Need-fill-requires-2
 fill-requires-2 c κs =
@@ -91,17 +76,11 @@ fill-requires-2 c κs =
     let none = subst (Tells s (length s)) (else1 .if1 .left) (else1 .before .holds-and .ensures) in
     ((_, (es, a, k, w)), ((_, es, a, fill-index .fill-index .ensures _ es a k w, l), ((refl, refl, refl), inr (refl, none))))
 
-slice-aggregate-follow-2 : tie.Need-slice-aggregate-follow-2
-slice-aggregate-follow-2 c = search needs
-
 follow-requires-2 : tie.Need-follow-requires-2
 follow-requires-2 c κs =
     let pre = at-start (at-fill-index (at-else1 (at-fill2 (c .before .before .before)))) .pre in
     let (es, a, k, w, l) = pre .0 in
     (offered-range _ (a .legible .offered) .1, pre .1, a .legible .short)
-
-same-length-2 : tie.Need-same-length-2
-same-length-2 c = search needs
 
 returns-2 : tie.Need-returns-2
 returns-2 c =
@@ -115,16 +94,16 @@ read-listed-spec =
     tie.close
     (tie.spec
     fill-index-requires
-    holds-and-requires
-    slice-aggregate-fill
+    (λ c κs. search needs)
+    (λ c. search needs)
     fill-requires
-    slice-aggregate-follow
+    (λ c. search needs)
     follow-requires
-    same-length
+    (λ c. search needs)
     returns
-    slice-aggregate-fill-2
+    (λ c. search needs)
     fill-requires-2
-    slice-aggregate-follow-2
+    (λ c. search needs)
     follow-requires-2
-    same-length-2
+    (λ c. search needs)
     returns-2)

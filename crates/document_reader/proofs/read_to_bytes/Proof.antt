@@ -14,15 +14,6 @@ at-start c = at-start-2 (c .before)
 abbrev at-answered : (c : tie.After-settled) → tie.After-answered
 at-answered c = c .before .before .before .before
 
-answered-requires : tie.Need-answered-requires
-answered-requires c κs = search needs
-
-settled-requires : tie.Need-settled-requires
-settled-requires c κs = search needs
-
-same-length : tie.Need-same-length
-same-length c = search needs
-
 returns : tie.Need-returns
 returns c =
     let answered = at-answered (c .before .before) in
@@ -31,4 +22,4 @@ returns c =
     c .before .before .settled .ensures (settingsOf (a .c)) (a .s .now) (a .d .now) (a .buffer .now) (w .kept .1 .1 .1 .0) (w .ensures)
 
 pub read-to-bytes-spec : {M : Type 1} → statement M
-read-to-bytes-spec = tie.close (tie.spec answered-requires settled-requires same-length returns)
+read-to-bytes-spec = tie.close (tie.spec (λ c κs. search needs) (λ c κs. search needs) (λ c. search needs) returns)

@@ -20,16 +20,10 @@ has-any-requires c κs =
     let (es, a, k, w, h) = c .before .before .before .pre .0 in
     omega (arith, k, typeFile-count _ _ es (a .elements))
 
-slice-aggregate-fill : tie.Need-slice-aggregate-fill
-slice-aggregate-fill c = search needs
-
 fill-requires : tie.Need-fill-requires
 fill-requires c κs =
     let (es, a, k, w, h) = at-start (c .before .before) .pre .0 in
     (omega (arith, k, typeFile-count _ _ es (a .elements)), a .legible .short, refl)
-
-slice-aggregate-read-listed : tie.Need-slice-aggregate-read-listed
-slice-aggregate-read-listed c = search needs
 
 read-listed-requires : tie.Need-read-listed-requires
 read-listed-requires c κs =
@@ -38,14 +32,8 @@ read-listed-requires c κs =
     let (es, a, k, w, h) = pre .0 in
     ((es, a, k, w, lists-filled h _ (λ ls g j l. f .ensures ls g j (omega (arith, k, l)))), pre .1)
 
-same-length : tie.Need-same-length
-same-length c = search needs
-
 returns : tie.Need-returns
 returns c = c .before .before .read-listed .ensures
-
-slice-aggregate-read-listed-2 : tie.Need-slice-aggregate-read-listed-2
-slice-aggregate-read-listed-2 c = search needs
 
 read-listed-requires-2 : tie.Need-read-listed-requires-2
 read-listed-requires-2 c κs =
@@ -53,9 +41,6 @@ read-listed-requires-2 c κs =
     let (es, a, k, w, h) = pre .0 in
     let none = ap (anyIn _) k ∙ sym (c .before .before .before .has-any .ensures) ∙ c .before .before .if1 .left in
     ((es, a, k, w, lists-none h (typeFile-count _ _ es (a .elements) .1) none), pre .1)
-
-same-length-2 : tie.Need-same-length-2
-same-length-2 c = search needs
 
 returns-2 : tie.Need-returns-2
 returns-2 c = c .before .before .read-listed2 .ensures
@@ -65,13 +50,13 @@ read-under-spec =
     tie.close
     (tie.spec
     has-any-requires
-    slice-aggregate-fill
+    (λ c. search needs)
     fill-requires
-    slice-aggregate-read-listed
+    (λ c. search needs)
     read-listed-requires
-    same-length
+    (λ c. search needs)
     returns
-    slice-aggregate-read-listed-2
+    (λ c. search needs)
     read-listed-requires-2
-    same-length-2
+    (λ c. search needs)
     returns-2)

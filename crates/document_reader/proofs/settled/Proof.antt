@@ -11,18 +11,6 @@ use Rattle.document_reader.proofs.settled.Tie as tie
 abbrev at-refuses : (c : tie.After-buffer) → tie.After-refuses
 at-refuses c = c .before .before .before .before
 
-fitted-requires : tie.Need-fitted-requires
-fitted-requires c κs = search needs
-
-refuses-requires : tie.Need-refuses-requires
-refuses-requires c κs = search needs
-
-clear-bytes-requires : tie.Need-clear-bytes-requires
-clear-bytes-requires c κs = search needs
-
-same-length : tie.Need-same-length
-same-length c = search needs
-
 returns : tie.Need-returns
 returns c settings s d before same h =
     let refuses = at-refuses (c .before) in
@@ -37,4 +25,4 @@ returns-2 c settings s d before same h =
     (read-accepted Lent.bytes settings s d [] [] before (a .buffer .now) (a .a) (c .before .before .fitted .result) h same (c .before .before .fitted .ensures) g, count-fits settings s d [] [] before (a .buffer .now) _ (a .a) h (c .before .before .fitted .ensures))
 
 pub settled-spec : {M : Type 1} → statement M
-settled-spec = tie.close (tie.spec fitted-requires refuses-requires clear-bytes-requires same-length returns returns-2)
+settled-spec = tie.close (tie.spec (λ c κs. search needs) (λ c κs. search needs) (λ c κs. search needs) (λ c. search needs) returns returns-2)

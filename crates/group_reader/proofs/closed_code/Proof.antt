@@ -14,15 +14,6 @@ returns-2 c =
     let x = c .before .before .args in
     closed-many (x .k) (x .c) (x .code) _ (c .before .if1 .left) (c .if2 .taken)
 
-cast-put : tie.Need-cast-put
-cast-put c = search needs
-
-add-put : tie.Need-add-put
-add-put c = search needs
-
-put-requires : tie.Need-put-requires
-put-requires c κs = search needs
-
 returns-3 : tie.Need-returns-3
 returns-3 c =
     let x = c .before .before .before .before .args in
@@ -34,7 +25,7 @@ closed-code-spec =
     (tie.spec
     returns
     returns-2
-    cast-put
-    add-put
-    put-requires
+    (λ c. search needs)
+    (λ c. search needs)
+    (λ c κs. search needs)
     returns-3)

@@ -31,9 +31,6 @@ element-copy-out-op c = omega (arith, inside c)
 cast-at-place : tie.Need-cast-at-place Inv-loop μ-loop
 cast-at-place c = omega arith
 
-at-place-requires : tie.Need-at-place-requires Inv-loop μ-loop
-at-place-requires c κs = search needs
-
 mul-stack : tie.Need-mul-stack Inv-loop μ-loop
 mul-stack c = omega arith
 
@@ -49,9 +46,6 @@ mul-made-optional c = omega arith
 array-copy-out-made-optional : tie.Need-array-copy-out-made-optional Inv-loop μ-loop
 array-copy-out-made-optional c = omega arith
 
-made-optional-requires : tie.Need-made-optional-requires Inv-loop μ-loop
-made-optional-requires c κs = search needs
-
 mul-stack-2 : tie.Need-mul-stack-2 Inv-loop μ-loop
 mul-stack-2 c = omega arith
 
@@ -63,9 +57,6 @@ mul-made-repeated c = omega arith
 
 array-copy-out-made-repeated : tie.Need-array-copy-out-made-repeated Inv-loop μ-loop
 array-copy-out-made-repeated c = omega arith
-
-made-repeated-requires : tie.Need-made-repeated-requires Inv-loop μ-loop
-made-repeated-requires c κs = search needs
 
 mul-stack-3 : tie.Need-mul-stack-3 Inv-loop μ-loop
 mul-stack-3 c = omega arith
@@ -87,9 +78,6 @@ mul-joined-2 c = omega arith
 
 array-copy-out-joined-2 : tie.Need-array-copy-out-joined-2 Inv-loop μ-loop
 array-copy-out-joined-2 c = omega arith
-
-joined-requires : tie.Need-joined-requires Inv-loop μ-loop
-joined-requires c κs = search needs
 
 mul-stack-4 : tie.Need-mul-stack-4 Inv-loop μ-loop
 mul-stack-4 c = omega arith
@@ -157,18 +145,18 @@ clash-spec =
     add-op
     element-copy-out-op
     cast-at-place
-    at-place-requires
+    (λ c κs. search needs)
     mul-stack
     array-set-from-stack
     add-top
     mul-made-optional
     array-copy-out-made-optional
-    made-optional-requires
+    (λ c κs. search needs)
     mul-stack-2
     array-set-from-stack-2
     mul-made-repeated
     array-copy-out-made-repeated
-    made-repeated-requires
+    (λ c κs. search needs)
     mul-stack-3
     array-set-from-stack-3
     mul-joined
@@ -176,7 +164,7 @@ clash-spec =
     sub-joined
     mul-joined-2
     array-copy-out-joined-2
-    joined-requires
+    (λ c κs. search needs)
     mul-stack-4
     array-set-from-stack-4
     sub-top

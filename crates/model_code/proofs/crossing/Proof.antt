@@ -3,21 +3,9 @@ use borrow.Author.Needs.{needs}
 use Rattle.model_code.proofs.crossing.Statement.{statement}
 use Rattle.model_code.proofs.crossing.Tie as tie
 
-one-of-requires : tie.Need-one-of-requires
-one-of-requires c κs = search needs
-
-both-requires : tie.Need-both-requires
-both-requires c κs = search needs
-
-both-requires-2 : tie.Need-both-requires-2
-both-requires-2 c κs = search needs
-
-one-of-requires-2 : tie.Need-one-of-requires-2
-one-of-requires-2 c κs = search needs
-
 returns : tie.Need-returns
 returns c = cc (c .one-of2 .ensures, c .before .both2 .ensures, c .before .before .both .ensures, c .before .before .before .one-of .ensures)
 
 pub crossing-spec : {M : Type 1} → statement M
 crossing-spec =
-    tie.close (tie.spec one-of-requires both-requires both-requires-2 one-of-requires-2 returns)
+    tie.close (tie.spec (λ c κs. search needs) (λ c κs. search needs) (λ c κs. search needs) (λ c κs. search needs) returns)

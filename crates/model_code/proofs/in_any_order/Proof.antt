@@ -10,36 +10,6 @@ at-one-of c = c .before .before .before
 abbrev at-one-of4 : (c : tie.After-one-of6) → tie.After-one-of4
 at-one-of4 c = c .before .before .before .before
 
-both-requires : tie.Need-both-requires
-both-requires c κs = search needs
-
-one-of-requires : tie.Need-one-of-requires
-one-of-requires c κs = search needs
-
-one-of-requires-2 : tie.Need-one-of-requires-2
-one-of-requires-2 c κs = search needs
-
-one-of-requires-3 : tie.Need-one-of-requires-3
-one-of-requires-3 c κs = search needs
-
-one-of-requires-4 : tie.Need-one-of-requires-4
-one-of-requires-4 c κs = search needs
-
-one-of-requires-5 : tie.Need-one-of-requires-5
-one-of-requires-5 c κs = search needs
-
-crossing-requires : tie.Need-crossing-requires
-crossing-requires c κs = search needs
-
-crossing-requires-2 : tie.Need-crossing-requires-2
-crossing-requires-2 c κs = search needs
-
-one-of-requires-6 : tie.Need-one-of-requires-6
-one-of-requires-6 c κs = search needs
-
-one-of-requires-7 : tie.Need-one-of-requires-7
-one-of-requires-7 c κs = search needs
-
 returns : tie.Need-returns
 returns c =
     let one-of4 = at-one-of4 (c .before) in
@@ -50,14 +20,14 @@ pub in-any-order-spec : {M : Type 1} → statement M
 in-any-order-spec =
     tie.close
     (tie.spec
-    both-requires
-    one-of-requires
-    one-of-requires-2
-    one-of-requires-3
-    one-of-requires-4
-    one-of-requires-5
-    crossing-requires
-    crossing-requires-2
-    one-of-requires-6
-    one-of-requires-7
+    (λ c κs. search needs)
+    (λ c κs. search needs)
+    (λ c κs. search needs)
+    (λ c κs. search needs)
+    (λ c κs. search needs)
+    (λ c κs. search needs)
+    (λ c κs. search needs)
+    (λ c κs. search needs)
+    (λ c κs. search needs)
+    (λ c κs. search needs)
     returns)

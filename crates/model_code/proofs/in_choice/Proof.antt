@@ -16,60 +16,6 @@ at-one-of7 c = c .before .before .before .before
 abbrev at-one-of9 : (c : tie.After-one-of11) → tie.After-one-of9
 at-one-of9 c = c .before .before .before .before
 
-one-of-requires : tie.Need-one-of-requires
-one-of-requires c κs = search needs
-
-one-of-requires-2 : tie.Need-one-of-requires-2
-one-of-requires-2 c κs = search needs
-
-one-of-requires-3 : tie.Need-one-of-requires-3
-one-of-requires-3 c κs = search needs
-
-one-of-requires-4 : tie.Need-one-of-requires-4
-one-of-requires-4 c κs = search needs
-
-both-requires : tie.Need-both-requires
-both-requires c κs = search needs
-
-both-requires-2 : tie.Need-both-requires-2
-both-requires-2 c κs = search needs
-
-one-of-requires-5 : tie.Need-one-of-requires-5
-one-of-requires-5 c κs = search needs
-
-one-of-requires-6 : tie.Need-one-of-requires-6
-one-of-requires-6 c κs = search needs
-
-one-of-requires-7 : tie.Need-one-of-requires-7
-one-of-requires-7 c κs = search needs
-
-both-requires-3 : tie.Need-both-requires-3
-both-requires-3 c κs = search needs
-
-both-requires-4 : tie.Need-both-requires-4
-both-requires-4 c κs = search needs
-
-one-of-requires-8 : tie.Need-one-of-requires-8
-one-of-requires-8 c κs = search needs
-
-one-of-requires-9 : tie.Need-one-of-requires-9
-one-of-requires-9 c κs = search needs
-
-one-of-requires-10 : tie.Need-one-of-requires-10
-one-of-requires-10 c κs = search needs
-
-both-requires-5 : tie.Need-both-requires-5
-both-requires-5 c κs = search needs
-
-both-requires-6 : tie.Need-both-requires-6
-both-requires-6 c κs = search needs
-
-one-of-requires-11 : tie.Need-one-of-requires-11
-one-of-requires-11 c κs = search needs
-
-one-of-requires-12 : tie.Need-one-of-requires-12
-one-of-requires-12 c κs = search needs
-
 returns : tie.Need-returns
 returns c =
     let one-of9 = at-one-of9 (c .before) in
@@ -82,22 +28,22 @@ pub in-choice-spec : {M : Type 1} → statement M
 in-choice-spec =
     tie.close
     (tie.spec
-    one-of-requires
-    one-of-requires-2
-    one-of-requires-3
-    one-of-requires-4
-    both-requires
-    both-requires-2
-    one-of-requires-5
-    one-of-requires-6
-    one-of-requires-7
-    both-requires-3
-    both-requires-4
-    one-of-requires-8
-    one-of-requires-9
-    one-of-requires-10
-    both-requires-5
-    both-requires-6
-    one-of-requires-11
-    one-of-requires-12
+    (λ c κs. search needs)
+    (λ c κs. search needs)
+    (λ c κs. search needs)
+    (λ c κs. search needs)
+    (λ c κs. search needs)
+    (λ c κs. search needs)
+    (λ c κs. search needs)
+    (λ c κs. search needs)
+    (λ c κs. search needs)
+    (λ c κs. search needs)
+    (λ c κs. search needs)
+    (λ c κs. search needs)
+    (λ c κs. search needs)
+    (λ c κs. search needs)
+    (λ c κs. search needs)
+    (λ c κs. search needs)
+    (λ c κs. search needs)
+    (λ c κs. search needs)
     returns)

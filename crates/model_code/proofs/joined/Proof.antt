@@ -17,24 +17,15 @@ by-alt op a b r d e is = rw (ne-eqb op 97 d, eq-eqb op 98 e) is
 by-also : (op : ℕ) (a b r : Six) → (op ≡ 97 → ⊥) → (op ≡ 98 → ⊥) → r ≡ addedSix a b → r ≡ joinedSix op a b
 by-also op a b r d e is = rw (ne-eqb op 97 d, ne-eqb op 98 e) is
 
-in-sequence-requires : tie.Need-in-sequence-requires
-in-sequence-requires c κs = search needs
-
 returns : tie.Need-returns
 returns c =
     let x = c .before .before .args in
     by-seq (x .op) (six (x .a)) (six (x .b)) _ (c .before .if1 .taken) (c .in-sequence .ensures)
 
-in-choice-requires : tie.Need-in-choice-requires
-in-choice-requires c κs = search needs
-
 returns-2 : tie.Need-returns-2
 returns-2 c =
     let x = c .before .before .before .args in
     by-alt (x .op) (six (x .a)) (six (x .b)) _ (c .before .before .if1 .left) (c .before .if2 .taken) (c .in-choice .ensures)
-
-in-any-order-requires : tie.Need-in-any-order-requires
-in-any-order-requires c κs = search needs
 
 returns-3 : tie.Need-returns-3
 returns-3 c =
@@ -45,9 +36,9 @@ pub joined-spec : {M : Type 1} → statement M
 joined-spec =
     tie.close
     (tie.spec
-    in-sequence-requires
+    (λ c κs. search needs)
     returns
-    in-choice-requires
+    (λ c κs. search needs)
     returns-2
-    in-any-order-requires
+    (λ c κs. search needs)
     returns-3)

@@ -17,22 +17,10 @@ skipped T n op i e h = let x = le-ltb n CODE (omega arith) in (rw x, rw x)
 written : (T : List ℕ) (n op i : ℕ) → i ≡ n → i < CODE → (set T (MODEL-ROWS + i) op ≡ putCode T n op) × (n + 1 ≡ codeNext n)
 written T n op i e h = let x = lt-ltb n CODE (omega arith) in (rw x (ap (λ (k : ℕ). set T (MODEL-ROWS + k) op) e), rw x)
 
-short-requires : tie.Need-short-requires
-short-requires c κs = search needs
-
 returns : tie.Need-returns
 returns c =
     let x = c .before .before .args in
     skipped _ (x .n) (x .op) _ (c .before .short .ensures .0) (c .if1 .taken)
-
-add-table : tie.Need-add-table
-add-table c = search needs
-
-element-write-table : tie.Need-element-write-table
-element-write-table c = search needs
-
-add-result : tie.Need-add-result
-add-result c = search needs
 
 returns-2 : tie.Need-returns-2
 returns-2 c =
@@ -40,4 +28,4 @@ returns-2 c =
     written (x .table .now) (x .n) (x .op) _ (c .before .short .ensures .0) (omega (arith, c .if1 .left))
 
 pub put-spec : {M : Type 1} → statement M
-put-spec = tie.close (tie.spec short-requires returns add-table element-write-table add-result returns-2)
+put-spec = tie.close (tie.spec (λ c κs. search needs) returns (λ c. search needs) (λ c. search needs) (λ c. search needs) returns-2)

@@ -7,29 +7,8 @@ use Rattle.table_fill.specs.Names.{name-some, name-fits}
 use Rattle.table_fill.proofs.name.Statement.{statement}
 use Rattle.table_fill.proofs.name.Tie as tie
 
-sub-widened : tie.Need-sub-widened
-sub-widened c = search needs
-
-mul-widened : tie.Need-mul-widened
-mul-widened c = search needs
-
-add-widened : tie.Need-add-widened
-add-widened c = search needs
-
-mul-widened-2 : tie.Need-mul-widened-2
-mul-widened-2 c = search needs
-
-element-copy-out-widened : tie.Need-element-copy-out-widened
-element-copy-out-widened c = search needs
-
-widened-requires : tie.Need-widened-requires
-widened-requires c κs = search needs
-
 returns : tie.Need-returns
 returns c = (λ es indexed. simp (eq-eqb _ _ (sym (c .before .widened .ensures .0) ∙ c .if1 .taken)), (omega arith, omega arith))
-
-place-at-requires : tie.Need-place-at-requires
-place-at-requires c κs = search needs
 
 find-requires : tie.Need-find-requires
 find-requires c κs = (omega arith, omega arith, omega arith)
@@ -45,13 +24,13 @@ pub name-spec : {M : Type 1} → statement M
 name-spec =
     tie.close
     (tie.spec
-    sub-widened
-    mul-widened
-    add-widened
-    mul-widened-2
-    element-copy-out-widened
-    widened-requires
+    (λ c. search needs)
+    (λ c. search needs)
+    (λ c. search needs)
+    (λ c. search needs)
+    (λ c. search needs)
+    (λ c κs. search needs)
     returns
-    place-at-requires
+    (λ c κs. search needs)
     find-requires
     returns-2)

@@ -46,17 +46,8 @@ offset-requires c κs =
     let due = at-start-2 (c .before) .pre in
     (due .from, few _ _ _ _ _ _ _ _ _ _ _ due)
 
-sub-element-at : tie.Need-sub-element-at
-sub-element-at c = search needs
-
 element-at-requires : tie.Need-element-at-requires
 element-at-requires c κs = name-in _ _ _ _ _ _ _ _ _ _ _ (at-start (c .before .before .before) .pre) _ (c .before .before .before .offset .ensures .0)
-
-enum-known-r : tie.Need-enum-known-r
-enum-known-r c = search needs
-
-enum-told : tie.Need-enum-told
-enum-told c = search needs
 
 returns : tie.Need-returns
 returns c =
@@ -133,10 +124,10 @@ put-element-spec =
     (tie.spec
     put-facts-requires
     offset-requires
-    sub-element-at
+    (λ c. search needs)
     element-at-requires
-    enum-known-r
-    enum-told
+    (λ c. search needs)
+    (λ c. search needs)
     returns
     row-requires
     element-write-rows

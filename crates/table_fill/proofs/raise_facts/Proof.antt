@@ -27,9 +27,6 @@ add-raised c = omega arith
 element-copy-out-raised : tie.Need-element-copy-out-raised Inv-loop μ-loop
 element-copy-out-raised c = omega arith
 
-raised-requires : tie.Need-raised-requires Inv-loop μ-loop
-raised-requires c κs = search needs
-
 add-facts : tie.Need-add-facts Inv-loop μ-loop
 add-facts c = omega arith
 
@@ -64,7 +61,7 @@ raise-facts-spec =
     loop-holds
     add-raised
     element-copy-out-raised
-    raised-requires
+    (λ c κs. search needs)
     add-facts
     element-write-facts
     add-x

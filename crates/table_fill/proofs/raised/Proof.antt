@@ -18,11 +18,8 @@ returns c l = rw (c .if1 .taken)
 returns-2 : tie.Need-returns-2
 returns-2 c l = absurd (omega arith)
 
-add-result : tie.Need-add-result
-add-result c = search needs
-
 returns-3 : tie.Need-returns-3
 returns-3 c l = raises _ (c .before .if1 .left)
 
 pub raised-spec : {M : Type 1} → statement M
-raised-spec = tie.close (tie.spec returns returns-2 add-result returns-3)
+raised-spec = tie.close (tie.spec returns returns-2 (λ c. search needs) returns-3)

@@ -8,17 +8,8 @@ use Rattle.type_file.proofs.declaration_at.Statement.{statement}
 use Rattle.type_file.proofs.declaration_at.Tie as tie
 
 -- The points that the needs go back to.
-abbrev at-start : (c : tie.After-byte) → tie.Start
-at-start c = c .before .before
-
-abbrev at-byte : (c : tie.After-byte2) → tie.After-byte
-at-byte c = c .before .before
-
-abbrev at-byte-2 : (c : tie.Then2) → tie.After-byte
-at-byte-2 c = c .before .before .before
-
-abbrev at-then2 : (c : tie.After-markup-at-arg4) → tie.Then2
-at-then2 c = c .before .before .before .before
+abbrev at-start : (c : tie.After-byte2) → tie.Start
+at-start c = c .before .before .before .before
 
 byte-requires : tie.Need-byte-requires
 byte-requires c κs = tt
@@ -31,29 +22,25 @@ byte-requires-2 c κs = tt
 
 markup-at-requires : tie.Need-markup-at-requires
 markup-at-requires c κs =
-    let then2 = c .before .before .before .before in
-    let start = at-start (at-byte-2 then2) in
+    let start = at-start (c .before .before .before .before .before) in
     let a = start .args in
-    let in-text = byte-is-in (a .s .now) (a .i + 1) 33 (sym (then2 .before .byte2 .ensures) ∙ then2 .if2 .taken) (omega arith) in
+    let in-text = byte-is-in (a .s .now) (a .i + 1) 33 (sym (c .before .before .before .before .before .byte2 .ensures) ∙ c .before .before .before .before .if2 .taken) (omega arith) in
     ((omega arith, start .pre .0 .1), start .pre .1)
 
 returns : tie.Need-returns
 returns c es ls k h =
-    let then2 = at-then2 (c .before) in
-    let byte = at-byte-2 then2 in
-    let a = at-start byte .args in
-    let b = byte .byte .ensures in
-    let d = then2 .before .byte2 .ensures in
-    rw (declaration-markup (a .long) (a .s .now) (a .i) _ es ls b _ d (then2 .before .before .if1 .taken) (then2 .if2 .taken)) (c .markup-at .ensures es ls k h)
+    let a = at-start (c .before .before .before .before .before .before) .args in
+    let b = c .before .before .before .before .before .before .before .before .byte .ensures in
+    let d = c .before .before .before .before .before .before .byte2 .ensures in
+    rw (declaration-markup (a .long) (a .s .now) (a .i) _ es ls b _ d (c .before .before .before .before .before .before .before .if1 .taken) (c .before .before .before .before .before .if2 .taken)) (c .markup-at .ensures es ls k h)
 
 refusal-requires : tie.Need-refusal-requires
 refusal-requires c κs = tt
 
 returns-2 : tie.Need-returns-2
 returns-2 c es ls k h =
-    let byte = at-byte (c .before .before .before) in
-    let a = at-start byte .args in
-    let b = byte .byte .ensures in
+    let a = c .before .before .before .before .before .before .before .args in
+    let b = c .before .before .before .before .before .byte .ensures in
     let d = c .before .before .before .byte2 .ensures in
     step-refused (a .long) (a .s .now) (a .elements .now) (a .heads .now) (a .i) 5 (a .i) _ _
     (declaration-instruction (a .long) (a .s .now) (a .i) _ es ls b _ d (c .before .before .before .before .if1 .taken) (c .before .if3 .taken)) (c .refusal .ensures)
@@ -66,9 +53,8 @@ refusal-requires-2 c κs = tt
 
 returns-3 : tie.Need-returns-3
 returns-3 c es ls k h =
-    let byte = at-byte (c .before .before .before) in
-    let a = at-start byte .args in
-    let b = byte .byte .ensures in
+    let a = c .before .before .before .before .before .before .before .args in
+    let b = c .before .before .before .before .before .byte .ensures in
     let d = c .before .before .before .byte2 .ensures in
     step-refused (a .long) (a .s .now) (a .elements .now) (a .heads .now) (a .i) 4 (a .i + 1) _ _
     (declaration-tag (a .long) (a .s .now) (a .i) _ es ls b _ d (c .before .before .before .before .if1 .taken) (c .before .before .if2 .left) (c .before .if3 .left)) (c .refusal2 .ensures)
@@ -78,7 +64,7 @@ refusal-requires-3 c κs = tt
 
 returns-4 : tie.Need-returns-4
 returns-4 c es ls k h =
-    let a = at-start (c .before .before .before) .args in
+    let a = c .before .before .before .before .before .args in
     let b = c .before .before .before .byte .ensures in
     step-refused (a .long) (a .s .now) (a .elements .now) (a .heads .now) (a .i) 5 (a .i) _ _
     (declaration-reference (a .long) (a .s .now) (a .i) _ es ls b (c .before .if4 .taken)) (c .refusal3 .ensures)
@@ -88,7 +74,7 @@ refusal-requires-4 c κs = tt
 
 returns-5 : tie.Need-returns-5
 returns-5 c es ls k h =
-    let a = at-start (c .before .before .before) .args in
+    let a = c .before .before .before .before .before .args in
     let b = c .before .before .before .byte .ensures in
     step-refused (a .long) (a .s .now) (a .elements .now) (a .heads .now) (a .i) 4 (a .i) _ _
     (declaration-other (a .long) (a .s .now) (a .i) _ es ls b (c .before .before .if1 .left) (c .before .if4 .left)) (c .refusal4 .ensures)

@@ -16,43 +16,38 @@ abbrev μ-loop : tie.MeasureT-loop
 μ-loop long s elements₀ heads₀ names₀ table₀ p₀ elements heads names table p = length s - p .at
 
 -- The points that the needs go back to.
-abbrev at-loop-2 : (c : tie.After-separators-end Inv-loop μ-loop) → tie.At-loop Inv-loop μ-loop
-at-loop-2 c = c .before
+abbrev at-start : (c : tie.After-separators-end Inv-loop μ-loop) → tie.Start Inv-loop μ-loop
+at-start c = c .before .before .before
 
-abbrev at-loop : (c : tie.Else1 Inv-loop μ-loop) → tie.At-loop Inv-loop μ-loop
-at-loop c = c .before .before
-
-abbrev at-else1 : (c : tie.After-table Inv-loop μ-loop) → tie.Else1 Inv-loop μ-loop
-at-else1 c = c .before .before .before .before
+abbrev at-separators-end : (c : tie.After-declaration-at Inv-loop μ-loop) → tie.After-separators-end Inv-loop μ-loop
+at-separators-end c = c .before .before .before .before .before .before
 
 -- What a declaration comes to, after those read so far.
 read : (c : tie.After-declaration-at Inv-loop μ-loop) →
-    let else1 = at-else1 (c .before) in
-    let loop = at-loop else1 in
-    let x = loop .before .before .args in
-    let i = loop .loop .inv .1 in
-    let at = else1 .before .separators-end .result in
+    let separators-end = c .before .before .before .before .before .before in
+    let x = at-start separators-end .args in
+    let i = separators-end .before .loop .inv .1 in
+    let at = separators-end .separators-end .result in
     let d = c .declaration-at in
     MeetsDeclarations (x .long) (x .s .now) (d .last .1 .1 .1 .1 .0) (d .last .1 .1 .1 .1 .1 .0) at (d .result) (declaration (x .long) (x .s .now) at (i .so-far) (i .lists))
 read c =
-    let i = at-loop (at-else1 (c .before)) .loop .inv .1 in
+    let i = c .before .before .before .before .before .before .before .loop .inv .1 in
     c .declaration-at .ensures (i .so-far) (i .lists) (i .keeps) (i .headed)
 
 -- A turn that read a declaration.
 turned : (c : tie.After-r Inv-loop μ-loop) →
-    let loop = at-loop (at-else1 (c .before .before .before)) in
-    let x = loop .before .before .args in
+    let separators-end = at-separators-end (c .before .before) in
+    let x = at-start separators-end .args in
     let q = c .r .given .0 .0 in
     let d = c .before .before .declaration-at in
-    ReadsOn (x .long) (x .s .now) (d .last .1 .1 .1 .1 .0) (d .last .1 .1 .1 .1 .1 .0) q × (loop .loop .p .at < q .at) × (q .at ≤ length (x .s .now))
+    ReadsOn (x .long) (x .s .now) (d .last .1 .1 .1 .1 .0) (d .last .1 .1 .1 .1 .1 .0) q × (separators-end .before .loop .p .at < q .at) × (q .at ≤ length (x .s .now))
 turned c =
-    let else1 = at-else1 (c .before .before .before) in
-    let loop = at-loop else1 in
-    let x = loop .before .before .args in
-    let l = loop .loop in
-    let e = else1 .before .separators-end .ensures in
+    let separators-end = at-separators-end (c .before .before) in
+    let x = at-start separators-end .args in
+    let l = separators-end .before .loop in
+    let e = separators-end .separators-end .ensures in
     let d = c .before .before .declaration-at in
-    reads-turn (x .long) (x .s .now) (l .elements) (l .heads) (l .p) (l .inv .1) _ e (else1 .if1 .left) (d .last .1 .1 .1 .1 .0) (d .last .1 .1 .1 .1 .1 .0) (d .result) _ (c .r .given .1) (read (c .before .before))
+    reads-turn (x .long) (x .s .now) (l .elements) (l .heads) (l .p) (l .inv .1) _ e (c .before .before .before .before .before .before .before .if1 .left) (d .last .1 .1 .1 .1 .0) (d .last .1 .1 .1 .1 .1 .0) (d .result) _ (c .r .given .1) (read (c .before .before))
 
 loop-holds : tie.Need-loop-holds Inv-loop μ-loop
 loop-holds c = (c .before .pre .0, reads-start (c .before .args .long) (c .before .args .s .now) (c .before .args .elements .now) (c .before .args .heads .now) (c .before .pre .1))
@@ -65,39 +60,29 @@ refusal-requires c κs = tt
 
 returns : tie.Need-returns Inv-loop μ-loop
 returns c =
-    let loop = at-loop-2 (c .before .before .before .before) in
-    let x = loop .before .before .args in
-    let l = loop .loop in
+    let x = c .before .before .before .before .before .before .before .args in
+    let l = c .before .before .before .before .before .loop in
     reads-none (x .long) (x .s .now) (l .elements) (l .heads) (l .p) (l .inv .1) _ _ (c .before .before .before .before .separators-end .ensures) (c .before .before .before .if1 .taken) (c .before .if2 .taken) (c .refusal .ensures)
 
 returns-2 : tie.Need-returns-2 Inv-loop μ-loop
 returns-2 c =
-    let loop = c .before .before .before .before in
-    let x = loop .before .before .args in
-    let l = loop .loop in
+    let x = c .before .before .before .before .before .before .args in
+    let l = c .before .before .before .before .loop in
     reads-end (x .long) (x .s .now) (l .elements) (l .heads) (l .p) (l .inv .1) _ (c .before .before .before .separators-end .ensures) (c .before .before .if1 .taken) (c .if2 .left)
 
 declaration-at-requires : tie.Need-declaration-at-requires Inv-loop μ-loop
 declaration-at-requires c κs =
-    let else1 = c .before .before .before .before in
-    let i = at-loop else1 .loop .inv in
-    ((else1 .if1 .left, i .0), (i .1 .so-far, i .1 .keeps))
-
-enum-known-r : tie.Need-enum-known-r Inv-loop μ-loop
-enum-known-r c = search needs
-
-enum-told : tie.Need-enum-told Inv-loop μ-loop
-enum-told c = search needs
+    let i = c .before .before .before .before .before .before .loop .inv in
+    ((c .before .before .before .before .if1 .left, i .0), (i .1 .so-far, i .1 .keeps))
 
 returns-3 : tie.Need-returns-3 Inv-loop μ-loop
 returns-3 c =
-    let else1 = at-else1 (c .before .before .before) in
-    let loop = at-loop else1 in
-    let x = loop .before .before .args in
-    let l = loop .loop in
-    let e = else1 .before .separators-end .ensures in
+    let separators-end = at-separators-end (c .before .before) in
+    let x = at-start separators-end .args in
+    let l = separators-end .before .loop in
+    let e = separators-end .separators-end .ensures in
     let d = c .before .before .declaration-at in
-    reads-refused (x .long) (x .s .now) (l .elements) (l .heads) (l .p) (l .inv .1) _ e (else1 .if1 .left) (d .last .1 .1 .1 .1 .0) (d .last .1 .1 .1 .1 .1 .0) (d .result) _ (c .enum-told .given .1)
+    reads-refused (x .long) (x .s .now) (l .elements) (l .heads) (l .p) (l .inv .1) _ e (c .before .before .before .before .before .before .before .if1 .left) (d .last .1 .1 .1 .1 .0) (d .last .1 .1 .1 .1 .1 .0) (d .result) _ (c .enum-told .given .1)
     (read (c .before .before))
 
 loop-less : tie.Need-loop-less Inv-loop μ-loop
@@ -106,7 +91,7 @@ loop-less c =
     omega arith
 
 loop-again : tie.Need-loop-again Inv-loop μ-loop
-loop-again c = (at-loop (at-else1 (c .before .before .before .before)) .loop .inv .0, turned (c .before) .0)
+loop-again c = (at-separators-end (c .before .before .before) .before .loop .inv .0, turned (c .before) .0)
 
 pub file-read-spec : {M : Type 1} → statement M
 file-read-spec =
@@ -120,8 +105,8 @@ file-read-spec =
     returns
     returns-2
     declaration-at-requires
-    enum-known-r
-    enum-told
+    (λ c. search needs)
+    (λ c. search needs)
     returns-3
     loop-less
     loop-again)

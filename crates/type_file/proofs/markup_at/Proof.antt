@@ -10,25 +10,6 @@ use Rattle.type_file.specs.Declarations.{step-refused, step-onward, mark
 use Rattle.type_file.proofs.markup_at.Statement.{statement}
 use Rattle.type_file.proofs.markup_at.Tie as tie
 
--- The points that the needs go back to.
-abbrev at-byte : (c : tie.Else2) → tie.After-byte
-at-byte c = c .before .before
-
-abbrev at-byte-3 : (c : tie.After-byte2) → tie.After-byte
-at-byte-3 c = c .before .before .before
-
-abbrev at-byte-2 : (c : tie.Else3) → tie.After-byte
-at-byte-2 c = c .before .before .before .before
-
-abbrev at-else2 : (c : tie.Then5) → tie.Else2
-at-else2 c = c .before .before .before
-
-abbrev at-else3 : (c : tie.After-comment-end) → tie.Else3
-at-else3 c = c .before
-
-abbrev at-then5 : (c : tie.After-keyword-at-arg4) → tie.Then5
-at-then5 c = c .before .before .before .before
-
 add-byte : tie.Need-add-byte
 add-byte c = omega arith
 
@@ -63,9 +44,8 @@ refusal-requires c κs = tt
 
 returns-2 : tie.Need-returns-2
 returns-2 c es ls k h =
-    let byte = at-byte-3 (c .before .before) in
-    let a = byte .before .before .args in
-    let b = byte .byte .ensures in
+    let a = c .before .before .before .before .before .before .before .args in
+    let b = c .before .before .before .before .before .byte .ensures in
     let d = c .before .before .byte2 .ensures in
     step-refused (a .long) (a .s .now) (a .elements .now) (a .heads .now) (a .i) 4 (a .i + 3) _ _
     (markup-dash (a .long) (a .s .now) (a .i) _ es ls b _ d (c .before .before .before .if2 .taken) (c .before .if3 .taken)) (c .refusal .ensures)
@@ -73,35 +53,24 @@ returns-2 c es ls k h =
 add-comment-end : tie.Need-add-comment-end
 add-comment-end c = omega arith
 
-opened : (c : tie.Else3) →
-    let byte = at-byte-2 c in
-    atDashes (byte .before .before .args .s .now) (byte .before .before .args .i + 2) ≡ true
+opened : (c : tie.Else3) → atDashes (c .before .before .before .before .before .before .args .s .now) (c .before .before .before .before .before .before .args .i + 2) ≡ true
 opened c =
-    let byte = at-byte-2 c in
-    let a = byte .before .before .args in
-    comment-opens (a .s .now) (a .i) (sym (byte .byte .ensures) ∙ c .before .before .if2 .taken) (sym (c .before .byte2 .ensures) ∙ c .if3 .left)
+    let a = c .before .before .before .before .before .before .args in
+    comment-opens (a .s .now) (a .i) (sym (c .before .before .before .before .byte .ensures) ∙ c .before .before .if2 .taken) (sym (c .before .byte2 .ensures) ∙ c .if3 .left)
 
 comment-end-requires : tie.Need-comment-end-requires
 comment-end-requires c κs = opened c
-
-enum-known-r : tie.Need-enum-known-r
-enum-known-r c = search needs
-
-enum-told : tie.Need-enum-told
-enum-told c = search needs
 
 fault-of-requires : tie.Need-fault-of-requires
 fault-of-requires c κs = tt
 
 returns-3 : tie.Need-returns-3
 returns-3 c es ls k h =
-    let else3 = c .before .before .before .before in
-    let byte = at-byte-2 else3 in
-    let a = byte .before .before .args in
-    let b = byte .byte .ensures in
-    let d = else3 .before .byte2 .ensures in
+    let a = c .before .before .before .before .before .before .before .before .before .before .args in
+    let b = c .before .before .before .before .before .before .before .before .byte .ensures in
+    let d = c .before .before .before .before .before .byte2 .ensures in
     comment-refused (a .long) (a .s .now) (a .elements .now) (a .heads .now) (a .i) (a .p) es ls _ _
-    (markup-comment (a .long) (a .s .now) (a .i) _ es ls b _ d (else3 .before .before .if2 .taken) _ (else3 .if3 .left) (c .before .before .before .comment-end .ensures)) _ _
+    (markup-comment (a .long) (a .s .now) (a .i) _ es ls b _ d (c .before .before .before .before .before .before .if2 .taken) _ (c .before .before .before .before .if3 .left) (c .before .before .before .comment-end .ensures)) _ _
     (c .before .enum-told .given .1) (c .fault-of .ensures)
 
 onward-requires-2 : tie.Need-onward-requires-2
@@ -109,40 +78,34 @@ onward-requires-2 c κs = tt
 
 returns-4 : tie.Need-returns-4
 returns-4 c es ls k h =
-    let else3 = at-else3 (c .before .before .before .before) in
-    let byte = at-byte-2 else3 in
-    let a = byte .before .before .args in
-    let b = byte .byte .ensures in
-    let d = else3 .before .byte2 .ensures in
+    let a = c .before .before .before .before .before .before .before .before .before .before .before .args in
+    let b = c .before .before .before .before .before .before .before .before .before .byte .ensures in
+    let d = c .before .before .before .before .before .before .byte2 .ensures in
     let e = c .before .before .before .before .comment-end .ensures in
     comment-onward (a .long) (a .s .now) (a .elements .now) (a .heads .now) (a .i) (a .p) es ls _ _
-    (markup-comment (a .long) (a .s .now) (a .i) _ es ls b _ d (else3 .before .before .if2 .taken) _ (else3 .if3 .left) e) _ _ (opened else3) (c .before .before .r .given .1) e k h (c .onward2 .ensures)
+    (markup-comment (a .long) (a .s .now) (a .i) _ es ls b _ d (c .before .before .before .before .before .before .before .if2 .taken) _ (c .before .before .before .before .before .if3 .left) e) _ _ (opened (c .before .before .before .before .before)) (c .before .before .r .given .1) e k h (c .onward2 .ensures)
 
 refusal-requires-2 : tie.Need-refusal-requires-2
 refusal-requires-2 c κs = tt
 
 returns-5 : tie.Need-returns-5
 returns-5 c es ls k h =
-    let byte = at-byte (c .before .before) in
-    let a = byte .before .before .args in
-    let b = byte .byte .ensures in
+    let a = c .before .before .before .before .before .before .args in
+    let b = c .before .before .before .before .byte .ensures in
     step-refused (a .long) (a .s .now) (a .elements .now) (a .heads .now) (a .i) 5 (a .i) _ _ (markup-section (a .long) (a .s .now) (a .i) _ es ls b (c .before .if4 .taken)) (c .refusal2 .ensures)
 
 is-letter-requires : tie.Need-is-letter-requires
 is-letter-requires c κs = tt
 
 keyword-at-requires : tie.Need-keyword-at-requires
-keyword-at-requires c κs = at-byte (at-else2 (c .before .before .before .before)) .before .before .pre
+keyword-at-requires c κs = c .before .before .before .before .before .before .before .before .before .before .before .pre
 
 returns-6 : tie.Need-returns-6
 returns-6 c es ls k h =
-    let then5 = at-then5 (c .before) in
-    let else2 = at-else2 then5 in
-    let byte = at-byte else2 in
-    let a = byte .before .before .args in
-    let b = byte .byte .ensures in
-    let l = sym (then5 .before .is-letter .ensures) ∙ then5 .if5 .taken in
-    rw (markup-keyword (a .long) (a .s .now) (a .i) _ es ls b (else2 .before .if1 .left) (else2 .if2 .left) (then5 .before .before .if4 .left) l)
+    let a = c .before .before .before .before .before .before .before .before .before .before .before .before .args in
+    let b = c .before .before .before .before .before .before .before .before .before .before .byte .ensures in
+    let l = sym (c .before .before .before .before .before .before .is-letter .ensures) ∙ c .before .before .before .before .before .if5 .taken in
+    rw (markup-keyword (a .long) (a .s .now) (a .i) _ es ls b (c .before .before .before .before .before .before .before .before .before .if1 .left) (c .before .before .before .before .before .before .before .before .if2 .left) (c .before .before .before .before .before .before .before .if4 .left) l)
     (c .keyword-at .ensures es ls k h)
 
 add-refusal-2 : tie.Need-add-refusal-2
@@ -153,13 +116,11 @@ refusal-requires-3 c κs = tt
 
 returns-7 : tie.Need-returns-7
 returns-7 c es ls k h =
-    let else2 = c .before .before .before .before in
-    let byte = at-byte else2 in
-    let a = byte .before .before .args in
-    let b = byte .byte .ensures in
+    let a = c .before .before .before .before .before .before .before .before .args in
+    let b = c .before .before .before .before .before .before .byte .ensures in
     let l = sym (c .before .before .is-letter .ensures) ∙ c .before .if5 .left in
     step-refused (a .long) (a .s .now) (a .elements .now) (a .heads .now) (a .i) 4 (a .i + 2) _ _
-    (markup-other (a .long) (a .s .now) (a .i) _ es ls b (else2 .before .if1 .left) (else2 .if2 .left) (c .before .before .before .if4 .left) l) (c .refusal3 .ensures)
+    (markup-other (a .long) (a .s .now) (a .i) _ es ls b (c .before .before .before .before .before .if1 .left) (c .before .before .before .before .if2 .left) (c .before .before .before .if4 .left) l) (c .refusal3 .ensures)
 
 pub markup-at-spec : {M : Type 1} → statement M
 markup-at-spec =
@@ -177,8 +138,8 @@ markup-at-spec =
     returns-2
     add-comment-end
     comment-end-requires
-    enum-known-r
-    enum-told
+    (λ c. search needs)
+    (λ c. search needs)
     fault-of-requires
     returns-3
     onward-requires-2

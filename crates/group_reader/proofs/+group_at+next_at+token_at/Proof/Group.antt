@@ -25,14 +25,8 @@ abbrev pub μ-loop : lts.MeasureT-loop
 
 module _ (t : ℕ) where
   -- The points that the needs go back to.
-  abbrev at-else1-2 : (c : lts.After-token-at (group-at-calls t) (group-at-at t) group-at.Post Inv-loop μ-loop) → lts.Else1 (group-at-calls t) (group-at-at t) group-at.Post Inv-loop μ-loop
-  at-else1-2 c = c .before .before .before .before
-
-  abbrev at-else1 : (c : lts.At-loop (group-at-calls t) (group-at-at t) group-at.Post Inv-loop μ-loop) → lts.Else1 (group-at-calls t) (group-at-at t) group-at.Post Inv-loop μ-loop
-  at-else1 c = at-else1-2 (c .before .before .before .before)
-
-  abbrev at-loop : (c : lts.After-next-at (group-at-calls t) (group-at-at t) group-at.Post Inv-loop μ-loop) → lts.At-loop (group-at-calls t) (group-at-at t) group-at.Post Inv-loop μ-loop
-  at-loop c = c .before .before .before
+  abbrev at-else1 : (c : lts.After-token-at (group-at-calls t) (group-at-at t) group-at.Post Inv-loop μ-loop) → lts.Else1 (group-at-calls t) (group-at-at t) group-at.Post Inv-loop μ-loop
+  at-else1 c = c .before .before .before .before
 
   pub refusal-requires : lts.Need-refusal-requires (group-at-calls t) (group-at-at t) group-at.Post Inv-loop μ-loop
   refusal-requires c κs = search needs
@@ -82,7 +76,7 @@ module _ (t : ℕ) where
 
   -- where the function began, at the loop
   abbrev start : lts.At-loop (group-at-calls t) (group-at-at t) group-at.Post Inv-loop μ-loop → lts.Start (group-at-calls t) (group-at-at t) group-at.Post Inv-loop μ-loop
-  start c = at-else1 c .before .before
+  start c = at-else1 (c .before .before .before .before) .before .before
 
   -- the first token, as it was read
   first-read : (c : lts.At-loop (group-at-calls t) (group-at-at t) group-at.Post Inv-loop μ-loop)
@@ -96,17 +90,17 @@ module _ (t : ℕ) where
       (r .token-at .ensures) (c .before .before .r .given .1) (i .before .if1 .left) (i .separators-end .ensures)
 
   pub sub-next-at : lts.Need-sub-next-at (group-at-calls t) (group-at-at t) group-at.Post Inv-loop μ-loop
-  sub-next-at c = omega (arith, at-else1 c .if1 .left)
+  sub-next-at c = omega (arith, at-else1 (c .before .before .before .before) .if1 .left)
 
   pub add-next-at : lts.Need-add-next-at (group-at-calls t) (group-at-at t) group-at.Post Inv-loop μ-loop
-  add-next-at c = omega (arith, at-else1 c .before .before .pre .1)
+  add-next-at c = omega (arith, at-else1 (c .before .before .before .before) .before .before .pre .1)
 
   pub next-at-requires : lts.Need-next-at-requires (group-at-calls t) (group-at-at t) group-at.Post Inv-loop μ-loop
   next-at-requires c κs =
       let l = c .before .before in
       let a = start l in
       let b = first-read l in
-      omega (arith, a .pre, at-else1 l .if1 .left, so-in _ _ _ _ _ _ _ _ _ _ _ _ (l .loop .inv) _ _ _ (b .0) (b .1))
+      omega (arith, a .pre, at-else1 (l .before .before .before .before) .if1 .left, so-in _ _ _ _ _ _ _ _ _ _ _ _ (l .loop .inv) _ _ _ (b .0) (b .1))
 
   pub enum-known-n : lts.Need-enum-known-n (group-at-calls t) (group-at-at t) group-at.Post Inv-loop μ-loop
   enum-known-n c = search needs
@@ -132,10 +126,10 @@ module _ (t : ℕ) where
   enum-known-n-3 c = search needs
 
   pub add-k : lts.Need-add-k (group-at-calls t) (group-at-at t) group-at.Post Inv-loop μ-loop
-  add-k c = omega (arith, at-loop (c .before .before .before) .loop .inv .few)
+  add-k c = omega (arith, c .before .before .before .before .before .before .loop .inv .few)
 
   pub loop-less : lts.Need-loop-less (group-at-calls t) (group-at-at t) group-at.Post Inv-loop μ-loop
-  loop-less c = omega (arith, at-loop (c .before .before .before) .loop .inv .few)
+  loop-less c = omega (arith, c .before .before .before .before .before .before .loop .inv .few)
 
   pub loop-again : lts.Need-loop-again (group-at-calls t) (group-at-at t) group-at.Post Inv-loop μ-loop
   loop-again c =

@@ -19,20 +19,11 @@ use Rattle.group_reader.proofs.+group_at+next_at+token_at.Proof.Measure
 
 module _ (t : ℕ) where
   -- The points that the needs go back to.
-  abbrev at-start : (c : lts.After-byte (next-at-calls t) (next-at-at t) next-at.Post) → lts.Start (next-at-calls t) (next-at-at t) next-at.Post
-  at-start c = c .before .before .before
+  abbrev at-separators-end : (c : lts.Else1 (next-at-calls t) (next-at-at t) next-at.Post) → lts.After-separators-end (next-at-calls t) (next-at-at t) next-at.Post
+  at-separators-end c = c .before .before
 
-  abbrev at-byte : (c : lts.After-is-connector (next-at-calls t) (next-at-at t) next-at.Post) → lts.After-byte (next-at-calls t) (next-at-at t) next-at.Post
-  at-byte c = c .before .before .before
-
-  abbrev at-is-connector : (c : lts.Joined4 (next-at-calls t) (next-at-at t) next-at.Post) → lts.After-is-connector (next-at-calls t) (next-at-at t) next-at.Post
-  at-is-connector c = c .before .before .before
-
-  abbrev at-joined4 : (c : lts.After-token-at (next-at-calls t) (next-at-at t) next-at.Post) → lts.Joined4 (next-at-calls t) (next-at-at t) next-at.Post
-  at-joined4 c = c .before .before .before
-
-  abbrev at-token-at : (c : lts.After-r (next-at-calls t) (next-at-at t) next-at.Post) → lts.After-token-at (next-at-calls t) (next-at-at t) next-at.Post
-  at-token-at c = c .before .before
+  abbrev at-else1 : (c : lts.After-separators-end2 (next-at-calls t) (next-at-at t) next-at.Post) → lts.Else1 (next-at-calls t) (next-at-at t) next-at.Post
+  at-else1 c = c .before .before .before .before
 
   -- the separators end in the input
   here : (c : lts.After-separators-end (next-at-calls t) (next-at-at t) next-at.Post) → (c .separators-end .result ≤ length (c .before .before .args .s .now)) × (length (c .before .before .args .s .now) ≤ 32768)
@@ -41,19 +32,13 @@ module _ (t : ℕ) where
       omega (arith, c .before .before .pre .1, separatorsEnd-le (x .s .now) (x .m .at) (c .before .before .pre .1 .0 .0), c .separators-end .ensures)
 
   -- and so does the connector
-  past : (c : lts.Else3 (next-at-calls t) (next-at-at t) next-at.Post) →
-      let byte = at-byte (c .before) in
-      let start = at-start byte in
-      (byte .before .separators-end .result < length (start .args .s .now)) × (length (start .args .s .now) ≤ 32768)
+  past : (c : lts.Else3 (next-at-calls t) (next-at-at t) next-at.Post) → (c .before .before .before .before .before .separators-end .result < length (c .before .before .before .before .before .before .before .args .s .now)) × (length (c .before .before .before .before .before .before .before .args .s .now) ≤ 32768)
   past c =
-      let byte = at-byte (c .before) in
-      let x = at-start byte .args in
-      (connector-in (x .s .now) (byte .before .separators-end .result) (byte .byte .result) (x .c) (c .before .is-connector .result) (byte .byte .ensures) (c .before .is-connector .ensures) (not-false _ (c .if3 .left)), here (byte .before) .1)
+      let x = c .before .before .before .before .before .before .before .args in
+      (connector-in (x .s .now) (c .before .before .before .before .before .separators-end .result) (c .before .before .before .before .byte .result) (x .c) (c .before .is-connector .result) (c .before .before .before .before .byte .ensures) (c .before .is-connector .ensures) (not-false _ (c .if3 .left)), here (c .before .before .before .before .before) .1)
 
   -- what the flag says of the room for one more token
-  room : (c : lts.Joined4 (next-at-calls t) (next-at-at t) next-at.Post) →
-      let start = at-start (at-byte (at-is-connector c)) in
-      c .if4 .full ≡ (leb 32 (start .args .k) || leb 96 (start .args .m .tokens))
+  room : (c : lts.Joined4 (next-at-calls t) (next-at-at t) next-at.Post) → c .if4 .full ≡ (leb 32 (c .before .before .before .before .before .before .before .before .before .args .k) || leb 96 (c .before .before .before .before .before .before .before .before .before .args .m .tokens))
   room c = ⊎-elim (λ w. or-taken _ _ _ (le-leb _ _ (w .0 .taken)) (w .1)) (λ w. or-left _ _ _ (lt-leb _ _ (w .0 .left)) (w .1)) (c .if4 .came)
 
   pub separators-end-requires : lts.Need-separators-end-requires (next-at-calls t) (next-at-at t) next-at.Post
@@ -70,13 +55,12 @@ module _ (t : ℕ) where
 
   pub returns : lts.Need-returns (next-at-calls t) (next-at-at t) next-at.Post
   returns c T n d u K =
-      let byte = c .before .before .before .before in
-      let x = at-start byte .args in
-      next-closed (x .long) (group (x .long) (x .levels) (x .s .now)) (x .s .now) (x .lo) (x .k) (x .c) T n d _ _ (x .m) u K (byte .before .separators-end .result) (byte .byte .result) (byte .before .separators-end .ensures) (byte .byte .ensures) _ _ (c .before .before .before .if1 .taken) (c .closed-code .ensures .0) (c .closed-code .ensures .1)
+      let x = c .before .before .before .before .before .before .before .args in
+      next-closed (x .long) (group (x .long) (x .levels) (x .s .now)) (x .s .now) (x .lo) (x .k) (x .c) T n d _ _ (x .m) u K (c .before .before .before .before .before .separators-end .result) (c .before .before .before .before .byte .result) (c .before .before .before .before .before .separators-end .ensures) (c .before .before .before .before .byte .ensures) _ _ (c .before .before .before .if1 .taken) (c .closed-code .ensures .0) (c .closed-code .ensures .1)
 
   pub returns-2 : lts.Need-returns-2 (next-at-calls t) (next-at-at t) next-at.Post
   returns-2 c T n d u K =
-      let x = at-start (c .before .before) .args in
+      let x = c .before .before .before .before .before .args in
       next-unfit (x .long) (group (x .long) (x .levels) (x .s .now)) (x .s .now) (x .lo) (x .k) (x .c) T n d _ _ (x .m) u K (c .before .before .before .separators-end .result) (c .before .before .byte .result) (c .before .before .before .separators-end .ensures) (c .before .before .byte .ensures) (c .before .if1 .left) (c .if2 .taken)
 
   pub is-connector-requires : lts.Need-is-connector-requires (next-at-calls t) (next-at-at t) next-at.Post
@@ -84,9 +68,8 @@ module _ (t : ℕ) where
 
   pub returns-3 : lts.Need-returns-3 (next-at-calls t) (next-at-at t) next-at.Post
   returns-3 c T n d u K =
-      let byte = at-byte (c .before) in
-      let x = at-start byte .args in
-      next-other (x .long) (group (x .long) (x .levels) (x .s .now)) (x .s .now) (x .lo) (x .k) (x .c) T n d _ _ (x .m) u K (byte .before .separators-end .result) (byte .byte .result) (byte .before .separators-end .ensures) (byte .byte .ensures) (c .before .before .before .if1 .left)
+      let x = c .before .before .before .before .before .before .before .args in
+      next-other (x .long) (group (x .long) (x .levels) (x .s .now)) (x .s .now) (x .lo) (x .k) (x .c) T n d _ _ (x .m) u K (c .before .before .before .before .before .separators-end .result) (c .before .before .before .before .byte .result) (c .before .before .before .before .before .separators-end .ensures) (c .before .before .before .before .byte .ensures) (c .before .before .before .if1 .left)
       (c .before .before .if2 .left) (c .before .is-connector .result) (c .before .is-connector .ensures) (not-true _ (c .if3 .taken))
 
   pub add-separators-end : lts.Need-add-separators-end (next-at-calls t) (next-at-at t) next-at.Post
@@ -97,13 +80,11 @@ module _ (t : ℕ) where
 
   pub token-at-requires : lts.Need-token-at-requires (next-at-calls t) (next-at-at t) next-at.Post
   token-at-requires c κs =
-      let byte = at-byte (at-is-connector (c .before .before)) in
-      let start = at-start byte in
-      let p = byte .before .separators-end .result in (
-        omega (arith, start .pre .0),
+      let p = c .before .before .before .before .before .before .before .before .before .separators-end .result in (
+        omega (arith, c .before .before .before .before .before .before .before .before .before .before .before .pre .0),
         (
-          (omega (arith, separatorsEnd-le (start .args .s .now) (p + 1) (omega (arith, past (c .before .before .before .before))), c .before .before .before .separators-end2 .ensures), start .pre .1 .0 .1),
-          (start .pre .1 .1 .0, or-other (leb 32 (start .args .k)) _ _ (room (c .before .before))),
+          (omega (arith, separatorsEnd-le (c .before .before .before .before .before .before .before .before .before .before .before .args .s .now) (p + 1) (omega (arith, past (c .before .before .before .before))), c .before .before .before .separators-end2 .ensures), c .before .before .before .before .before .before .before .before .before .before .before .pre .1 .0 .1),
+          (c .before .before .before .before .before .before .before .before .before .before .before .pre .1 .1 .0, or-other (leb 32 (c .before .before .before .before .before .before .before .before .before .before .before .args .k)) _ _ (room (c .before .before))),
         ),
       )
 
@@ -118,29 +99,24 @@ module _ (t : ℕ) where
 
   pub returns-4 : lts.Need-returns-4 (next-at-calls t) (next-at-at t) next-at.Post
   returns-4 c T n d u K =
-      let joined4 = at-joined4 (c .before .before .before) in
-      let is-connector = at-is-connector joined4 in
-      let byte = at-byte is-connector in
-      let x = at-start byte .args in
-      next-refused (x .long) (group (x .long) (x .levels) (x .s .now)) (x .s .now) (x .lo) (x .k) (x .c) T n d _ _ (x .m) u K (byte .before .separators-end .result) (byte .byte .result) (byte .before .separators-end .ensures) (byte .byte .ensures) (is-connector .before .before .if1 .left)
-      (is-connector .before .if2 .left) (is-connector .is-connector .result) (is-connector .is-connector .ensures) (not-false _ (joined4 .before .before .if3 .left))
-      (joined4 .before .separators-end2 .result) (joined4 .if4 .full) (joined4 .before .separators-end2 .ensures) (room joined4) _ _ (c .before .before .before .token-at .result) (c .before .before .before .token-at .ensures) _ _ (c .before .enum-told .given .1) (c .fault-of .ensures)
+      let else1 = c .before .before .before .before .before .before .before .before .before .before .before in
+      let separators-end = at-separators-end else1 in
+      let x = separators-end .before .before .args in
+      next-refused (x .long) (group (x .long) (x .levels) (x .s .now)) (x .s .now) (x .lo) (x .k) (x .c) T n d _ _ (x .m) u K (separators-end .separators-end .result) (else1 .before .byte .result) (separators-end .separators-end .ensures) (else1 .before .byte .ensures) (else1 .if1 .left)
+      (c .before .before .before .before .before .before .before .before .before .before .if2 .left) (c .before .before .before .before .before .before .before .before .before .is-connector .result) (c .before .before .before .before .before .before .before .before .before .is-connector .ensures) (not-false _ (c .before .before .before .before .before .before .before .before .if3 .left))
+      (c .before .before .before .before .before .before .before .separators-end2 .result) (c .before .before .before .before .before .before .if4 .full) (c .before .before .before .before .before .before .before .separators-end2 .ensures) (room (c .before .before .before .before .before .before)) _ _ (c .before .before .before .token-at .result) (c .before .before .before .token-at .ensures) _ _ (c .before .enum-told .given .1) (c .fault-of .ensures)
 
   pub joined-by-requires : lts.Need-joined-by-requires (next-at-calls t) (next-at-at t) next-at.Post
   joined-by-requires c κs =
-      let token-at = c .before .before .before .before in
-      let joined4 = at-joined4 token-at in
-      let start = at-start (at-byte (at-is-connector joined4)) in
-      let x = start .args in
-      omega (arith, start .pre .1 .1, past (joined4 .before .before), read-in _ _ _ _ (token-at .token-at .result) (token (x .long) (group (x .long) (x .levels) (x .s .now)) (x .s .now) (joined4 .before .separators-end2 .result) (joined4 .if4 .full) (placesOf (x .names .now) (x .m .places)) (x .m .tokens)) (token-at .token-at .ensures) (c .before .before .r .given .0 .0) (c .before .before .r .given .1))
+      let separators-end = at-separators-end (c .before .before .before .before .before .before .before .before .before .before .before .before) in
+      let x = separators-end .before .before .args in
+      omega (arith, separators-end .before .before .pre .1 .1, past (c .before .before .before .before .before .before .before .before .before), read-in _ _ _ _ (c .before .before .before .before .token-at .result) (token (x .long) (group (x .long) (x .levels) (x .s .now)) (x .s .now) (c .before .before .before .before .before .before .before .before .separators-end2 .result) (c .before .before .before .before .before .before .before .if4 .full) (placesOf (x .names .now) (x .m .places)) (x .m .tokens)) (c .before .before .before .before .token-at .ensures) (c .before .before .r .given .0 .0) (c .before .before .r .given .1))
 
   pub returns-5 : lts.Need-returns-5 (next-at-calls t) (next-at-at t) next-at.Post
   returns-5 c T n d u K =
-      let token-at = at-token-at (c .before .before .before) in
-      let joined4 = at-joined4 token-at in
-      let is-connector = at-is-connector joined4 in
-      let byte = at-byte is-connector in
-      let x = at-start byte .args in
-      next-joined (x .long) (group (x .long) (x .levels) (x .s .now)) (x .s .now) (x .lo) (x .k) (x .c) T n d _ _ (x .m) u K (byte .before .separators-end .result) (byte .byte .result) (byte .before .separators-end .ensures) (byte .byte .ensures) (is-connector .before .before .if1 .left)
-      (is-connector .before .if2 .left) (is-connector .is-connector .result) (is-connector .is-connector .ensures) (not-false _ (joined4 .before .before .if3 .left))
-      (joined4 .before .separators-end2 .result) (joined4 .if4 .full) (joined4 .before .separators-end2 .ensures) (room joined4) _ _ (token-at .token-at .result) (token-at .token-at .ensures) (c .before .before .before .r .given .0 .0) (c .joined-by .result) _ (c .before .before .before .r .given .1) (c .joined-by .ensures .0) (c .joined-by .ensures .1)
+      let else1 = at-else1 (c .before .before .before .before .before .before .before .before .before) in
+      let separators-end = at-separators-end else1 in
+      let x = separators-end .before .before .args in
+      next-joined (x .long) (group (x .long) (x .levels) (x .s .now)) (x .s .now) (x .lo) (x .k) (x .c) T n d _ _ (x .m) u K (separators-end .separators-end .result) (else1 .before .byte .result) (separators-end .separators-end .ensures) (else1 .before .byte .ensures) (else1 .if1 .left)
+      (c .before .before .before .before .before .before .before .before .before .before .before .before .if2 .left) (c .before .before .before .before .before .before .before .before .before .before .before .is-connector .result) (c .before .before .before .before .before .before .before .before .before .before .before .is-connector .ensures) (not-false _ (c .before .before .before .before .before .before .before .before .before .before .if3 .left))
+      (c .before .before .before .before .before .before .before .before .before .separators-end2 .result) (c .before .before .before .before .before .before .before .before .if4 .full) (c .before .before .before .before .before .before .before .before .before .separators-end2 .ensures) (room (c .before .before .before .before .before .before .before .before)) _ _ (c .before .before .before .before .before .token-at .result) (c .before .before .before .before .before .token-at .ensures) (c .before .before .before .r .given .0 .0) (c .joined-by .result) _ (c .before .before .before .r .given .1) (c .joined-by .ensures .0) (c .joined-by .ensures .1)

@@ -16,16 +16,6 @@ use Rattle.group_reader.proofs.+group_at+next_at+token_at.Lts-token_at 
 use Rattle.group_reader.proofs.+group_at+next_at+token_at.Proof.Measures.{token-at-at, token-at-calls}
 
 module _ (t : ℕ) where
-  -- The points that the needs go back to.
-  abbrev at-start-2 : (c : lts.After-is-letter (token-at-calls t) (token-at-at t) token-at.Post) → lts.Start (token-at-calls t) (token-at-at t) token-at.Post
-  at-start-2 c = c .before .before .before
-
-  abbrev at-start : (c : lts.Else4 (token-at-calls t) (token-at-at t) token-at.Post) → lts.Start (token-at-calls t) (token-at-at t) token-at.Post
-  at-start c = at-start-2 (c .before .before .before .before)
-
-  abbrev at-else4 : (c : lts.After-group-at (token-at-calls t) (token-at-at t) token-at.Post) → lts.Else4 (token-at-calls t) (token-at-at t) token-at.Post
-  at-else4 c = c .before .before .before
-
   pub byte-requires : lts.Need-byte-requires (token-at-calls t) (token-at-at t) token-at.Post
   byte-requires c κs = search needs
 
@@ -33,7 +23,7 @@ module _ (t : ℕ) where
   is-letter-requires c κs = search needs
 
   pub name-token-requires : lts.Need-name-token-requires (token-at-calls t) (token-at-at t) token-at.Post
-  name-token-requires c κs = at-start-2 (c .before .before .before) .pre .1
+  name-token-requires c κs = c .before .before .before .before .before .before .pre .1
 
   pub returns : lts.Need-returns (token-at-calls t) (token-at-at t) token-at.Post
   returns c =
@@ -72,7 +62,7 @@ module _ (t : ℕ) where
 
   pub add-group-at : lts.Need-add-group-at (token-at-calls t) (token-at-at t) token-at.Post
   add-group-at c =
-      let a = at-start c in
+      let a = c .before .before .before .before .before .before .before in
       omega (arith, a .pre .1 .1 .1 (c .if4 .left))
 
   pub group-at-requires : lts.Need-group-at-requires (token-at-calls t) (token-at-at t) token-at.Post
@@ -103,15 +93,15 @@ module _ (t : ℕ) where
 
   pub add-with-occurrence : lts.Need-add-with-occurrence (token-at-calls t) (token-at-at t) token-at.Post
   add-with-occurrence c =
-      let f = at-else4 (c .before .before .before .before) in
-      let a = at-start f in
+      let f = c .before .before .before .before .before .before .before in
+      let a = f .before .before .before .before .before .before .before in
       omega (arith, a .pre, a .pre .1 .1 .1 (f .if4 .left))
 
   pub with-occurrence-requires : lts.Need-with-occurrence-requires (token-at-calls t) (token-at-at t) token-at.Post
   with-occurrence-requires c κs =
       let k = c .before .before in
       let r = k .before .before in
-      let x = at-start (r .before .before .before) .args in
+      let x = r .before .before .before .before .before .before .before .before .before .before .args in
       omega (arith, read-in _ _ _ _ (r .group-at .result) (group (x .long) (x .levels) (x .s .now) (x .at) (placesOf (x .names .now) (x .places)) (x .tokens + 1)) (r .group-at .ensures) (k .r .given .0 .0) (k .r .given .1))
 
   pub returns-5 : lts.Need-returns-5 (token-at-calls t) (token-at-at t) token-at.Post
