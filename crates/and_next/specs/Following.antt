@@ -181,14 +181,14 @@ module _
       may-apart : ((n : ℕ) → 1 ≤ n → n < POSITIONS → badIn (l ∷ us) n ≡ false) → (((n : ℕ) → 1 ≤ n → n < POSITIONS → badIn us n ≡ false) → mayIn (groupsOf us) u S p ≡ true) → mayIn (groupsOf (l ∷ us)) u S p ≡ true
       may-apart f outer = rw apart (and-both all (outer rest))
         where
-          set : (t : Bool) → not t ≡ false → t ≡ true
-          set true q = refl
-          set false q = absurd (false≢true (sym q))
+          yes-of : (t : Bool) → not t ≡ false → t ≡ true
+          yes-of true q = refl
+          yes-of false q = absurd (false≢true (sym q))
 
           all : allM (fine S) (l .members) ≡ true
           all =
               begun-fine M e l kept sets begun level S marked
-              (λ n o m. let r = own-range M e l kept n o in set (B n) (sym (bad-own n o ∙ ap (λ (t : Bool). t && not (B n)) m) ∙ f n (omega (arith, kept .some)) (omega (arith, kept .room))))
+              (λ n o m. let r = own-range M e l kept n o in yes-of (B n) (sym (bad-own n o ∙ ap (λ (t : Bool). t && not (B n)) m) ∙ f n (omega (arith, kept .some)) (omega (arith, kept .room))))
 
           rest : (n : ℕ) → 1 ≤ n → n < POSITIONS → badIn us n ≡ false
           rest n x w = bool-cases (isOwn M e (l .number) n) (own-none n) (λ o. sym (bad-other n o) ∙ f n x w)

@@ -152,10 +152,10 @@ ends (suc k) y l m = go (y % 2) refl (λ i j. ends k (y / 2) i j)
         let w = half (omega arith) (omega arith) in
         record {
           bit = suc (w .bit);
-          lowest = record { set = up (w .bit) ∙ w .lowest .set; lower = lower (w .bit) e (w .lowest) };
+          lowest = record { here = up (w .bit) ∙ w .lowest .here; lower = lower (w .bit) e (w .lowest) };
           alone = even e (w .bit) (2 ^ w .bit) (2 ^ suc (w .bit)) (pow-suc 2 (w .bit)) (w .alone);
         }
-    go (suc zero) e half = record { bit = 0; lowest = record { set = let d : y / 1 % 2 ≡ 1 = omega arith in d; lower = λ j h. absurd (omega arith) }; alone = odd e }
+    go (suc zero) e half = record { bit = 0; lowest = record { here = let d : y / 1 % 2 ≡ 1 = omega arith in d; lower = λ j h. absurd (omega arith) }; alone = odd e }
     go (suc (suc b)) e half = absurd (omega arith)
 
 -- The bit of a number below 2 ^ w is below w.

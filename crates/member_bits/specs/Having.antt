@@ -28,5 +28,5 @@ pub data First (f : ℕ → Bool) (r : ℕ) : Type 0 where
 
 -- r is the lowest bit of y that is set.
 pub record Lowest (y r : ℕ) : Type 0 where
-  pub set : y / 2 ^ r % 2 ≡ 1
+  pub here : y / 2 ^ r % 2 ≡ 1
   pub lower : (j : ℕ) → j < r → y / 2 ^ j % 2 ≡ 0

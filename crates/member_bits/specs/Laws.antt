@@ -150,7 +150,7 @@ pub record Seeks (y b j : ℕ) : Type 0 where
   pub few : bit < 64
 
 pub seeks-start : (y : ℕ) → 1 ≤ y → y < 2 ^ 64 → Seeks y (y - bitAnd y (y - 1)) 0
-seeks-start y l m = let w = ends y y (omega arith) l in record { bit = w .bit; lowest = w .lowest; alone = omega (arith, w .alone); ahead = omega arith; few = bit-below 64 y (w .bit) m (w .lowest .set) }
+seeks-start y l m = let w = ends y y (omega arith) l in record { bit = w .bit; lowest = w .lowest; alone = omega (arith, w .alone); ahead = omega arith; few = bit-below 64 y (w .bit) m (w .lowest .here) }
 
 pub seeks-found : {y b j : ℕ} → Seeks y b j → b ≡ 1 * 2 ^ j % 2 ^ 64 → j < 64 → Lowest y j
 seeks-found {y} {b} {j} w e l =
@@ -173,7 +173,7 @@ module _ (b : Bits) (f : ℕ → Bool) (w : Has b f) (r : ℕ) where
   from-first : Lowest (b .low) r → r < 64 → First f (r + 1)
   from-first v l =
       let e : r + 1 - 1 ≡ r = omega arith in
-      some (omega arith) (omega arith) (member-low b f w (r + 1) (omega arith) (omega arith) ∙ ap (λ (k : ℕ). eqb (b .low / 2 ^ k % 2) 1) e ∙ ap (λ (k : ℕ). eqb k 1) (v .set)) (λ n i j. member-low b f w n i (omega arith) ∙ unset (v .lower (n - 1) (omega arith)))
+      some (omega arith) (omega arith) (member-low b f w (r + 1) (omega arith) (omega arith) ∙ ap (λ (k : ℕ). eqb (b .low / 2 ^ k % 2) 1) e ∙ ap (λ (k : ℕ). eqb k 1) (v .here)) (λ n i j. member-low b f w n i (omega arith) ∙ unset (v .lower (n - 1) (omega arith)))
 
   pub first-low : (q : ℕ) → q ≡ r + 1 → Lowest (b .low) r → r < 64 → First f q
   first-low q e v l = rw e (from-first v l)
@@ -184,9 +184,9 @@ module _ (b : Bits) (f : ℕ → Bool) (w : Has b f) (r : ℕ) where
 
     from-second : Lowest (b .high) r → First f (r + 65)
     from-second v =
-        let l : r < 32 = bit-below 32 (b .high) r (w .high) (v .set) in
+        let l : r < 32 = bit-below 32 (b .high) r (w .high) (v .here) in
         let e : r + 65 - 65 ≡ r = omega arith in
-        some (omega arith) (omega arith) (member-high b f w (r + 65) (omega arith) (omega arith) ∙ ap (λ (k : ℕ). eqb (b .high / 2 ^ k % 2) 1) e ∙ ap (λ (k : ℕ). eqb k 1) (v .set)) (λ n i j. go n i (omega arith) (omega arith) (decLe n 64))
+        some (omega arith) (omega arith) (member-high b f w (r + 65) (omega arith) (omega arith) ∙ ap (λ (k : ℕ). eqb (b .high / 2 ^ k % 2) 1) e ∙ ap (λ (k : ℕ). eqb k 1) (v .here)) (λ n i j. go n i (omega arith) (omega arith) (decLe n 64))
       where
         go : (n : ℕ) → 1 ≤ n → n < r + 65 → n ≤ 96 → Dec (n ≤ 64) → f n ≡ false
         go n i j m (yes d) = low-none n i d
@@ -212,7 +212,7 @@ is-none b =
     found f r l (some a c e d) = (r, a, c, e)
 
     go : (f : ℕ → Bool) → Has b f → (bitOr (b .low) (b .high) ≡ 0 → ⊥) → Dec (b .low ≡ 0) → Dec (b .high ≡ 0) → (n : ℕ) × (1 ≤ n) × (n < POSITIONS) × (f n ≡ true)
-    go f w n (no d) y = let v = ends (b .low) (b .low) (omega arith) (omega arith) in found f (v .bit + 1) (omega arith) (first-low b f w (v .bit) _ refl (v .lowest) (bit-below 64 (b .low) (v .bit) (w .low) (v .lowest .set)))
+    go f w n (no d) y = let v = ends (b .low) (b .low) (omega arith) (omega arith) in found f (v .bit + 1) (omega arith) (first-low b f w (v .bit) _ refl (v .lowest) (bit-below 64 (b .low) (v .bit) (w .low) (v .lowest .here)))
     go f w n (yes d) (no y) = let v = ends (b .high) (b .high) (omega arith) (omega arith) in found f (v .bit + 65) (omega arith) (first-high b f w (v .bit) d _ refl (v .lowest))
     go f w n (yes d) (yes y) = absurd (n (ap₂ bitOr d y))
 
