@@ -4,7 +4,8 @@ use mathlib.Core.Path.{_≡_}
 use mathlib.Core.Bool.{Bool, true, false, _||_, not}
 use mathlib.Core.List.{List}
 use Rattle.rules.specs.Walk.{Group}
-use Rattle.layout.specs.Sizes.{AND-GROUPS}
+use Rattle.rules.specs.Bytes.{GRPGTCNT}
+use Rattle.layout.specs.Sizes.{AND-GROUPS, ENDING}
 use Rattle.model_sets.specs.Sets.{hasM}
 use Rattle.and_laws.specs.Req.{restReq}
 use Rattle.and_laws.specs.Levels.{blocksIn, loneIn}
@@ -18,7 +19,7 @@ use Rattle.member_bits.specs.Having.{Has}
 
 -- The members around the place u, from the holder on, have begun besides those that had.
 pub record Enters (M : List ℕ) (e h : ℕ) (before after : Bits) : Type 0 where
-  pub bits : AllSets M e → (B : ℕ → Bool) → Has before B → (u : ℕ) (ends : Bool) (x c : ℕ) (ls : List Level) → h ≡ x % 128 → Chain M e u ends x ls → Rising 0 c ls → EachLevel (λ (l : Level). hasM (l .members) u ≡ true) ls → Has after (λ (n : ℕ). B n || isHolder M e u n ls)
+  pub bits : AllSets M e → (B : ℕ → Bool) → Has before B → (u : ℕ) (ends : Bool) (x c : ℕ) (ls : List Level) → h ≡ x % ENDING → Chain M e u ends x ls → Rising 0 c ls → EachLevel (λ (l : Level). hasM (l .members) u ≡ true) ls → Has after (λ (n : ℕ). B n || isHolder M e u n ls)
 
 -- x is the first member of the group l, one of the groups ls, that must come and has not begun.
 pub record Awaits (M begun : List ℕ) (level e : ℕ) (ls : List Level) (l : Level) (x : ℕ) : Type 0 where
@@ -34,8 +35,8 @@ pub data Blocking (M begun : List ℕ) (level e : ℕ) (g : Group) (p : ℕ) (S 
 
 pub record Blocks (M : List ℕ) (e inner : ℕ) (b : Bits) (r : ℕ) : Type 0 where
   pub small : r ≤ 128
-  pub ends : 1 ≤ r → 128 < inner
-  pub group : 1 ≤ r → groupAt M e (inner - 128) ≤ AND-GROUPS
+  pub ends : 1 ≤ r → ENDING < inner
+  pub group : 1 ≤ r → groupAt M e (inner - ENDING) ≤ AND-GROUPS
   pub says : AllSets M e → Ordered M e → (begun : List ℕ) (level : ℕ) → Has b (begunAt begun level) → (g : Group) (p : ℕ) (S : ℕ → Bool) (ls : List Level) (c : ℕ) → Chain M e p true inner ls → Rising 0 c ls → EachLevel (IsAround g 0 p) ls → AllMarked begun level M e S ls → Blocking M begun level e g p S ls r
 
 -- The member y, or 0, is none of the group of x.
@@ -45,5 +46,5 @@ pub record Alone (M : List ℕ) (e x y : ℕ) (r : Bool) : Type 0 where
 
 -- The place that the member x requires, for which a group around p waits, where it is the only one of its group that has not begun, or 0.
 pub record Due (M : List ℕ) (e inner x : ℕ) (b : Bits) (r : ℕ) : Type 0 where
-  pub small : r ≤ 96
-  pub says : AllSets M e → (begun : List ℕ) (level : ℕ) → Has b (begunAt begun level) → (p : ℕ) (S : ℕ → Bool) (c : ℕ) (ls : List Level) → Chain M e p true inner ls → Rising 0 c ls → EachLevel (λ (l : Level). hasM (l .members) p ≡ true) ls → (l : Level) → Awaits M begun level e ls l x → Grouped M e l → Marked begun level M e S l → restReq (l .members) S ≤ 96 → r ≡ restReq (l .members) S
+  pub small : r ≤ GRPGTCNT
+  pub says : AllSets M e → (begun : List ℕ) (level : ℕ) → Has b (begunAt begun level) → (p : ℕ) (S : ℕ → Bool) (c : ℕ) (ls : List Level) → Chain M e p true inner ls → Rising 0 c ls → EachLevel (λ (l : Level). hasM (l .members) p ≡ true) ls → (l : Level) → Awaits M begun level e ls l x → Grouped M e l → Marked begun level M e S l → restReq (l .members) S ≤ GRPGTCNT → r ≡ restReq (l .members) S

@@ -7,7 +7,7 @@ use native.Mathlib.Omega.{arith}
 use lib.Dec.{ltb}
 use borrow.Author.Tests.{ltb-true, ltb-false}
 use Rattle.rules.specs.Walk.{Group}
-use Rattle.layout.specs.Sizes.{AND-GROUPS}
+use Rattle.layout.specs.Sizes.{AND-GROUPS, ENDING}
 use Rattle.model_sets.specs.Bits.{and-left, and-right, or-left, or-right, or-cases, bool-cases}
 use Rattle.model_sets.specs.Sets.{hasM, lastM}
 use Rattle.and_laws.specs.Rest.{allM}
@@ -44,7 +44,7 @@ module _ (M : List ℕ) (e : ℕ) (sets : AllSets M e) (order : Ordered M e) (be
   reach-least a c ends h l [] (kept, flag, is, says, chain) (r, rs) (i, j) = omega (arith, outermost M e sets p l kept (omega arith) chain .reach)
   reach-least a c ends h l (k ∷ ks) (kept, flag, is, says, chain) (r, rs) (i, j) =
       let w = within-next M e sets p l kept (omega arith) _ k ks chain (j .0 .1) (rs .0) in
-      bool-cases (ltb 128 (outerAt M e (l .number)))
+      bool-cases (ltb ENDING (outerAt M e (l .number)))
       (λ b. omega (arith, w .reach ∙ ap (λ (t : Bool). cond t (reachAt M e (k .number)) (l .number)) b, reach-least (l .number) c _ _ k ks chain rs j, rs .0))
       (λ b. omega (arith, w .reach ∙ ap (λ (t : Bool). cond t (reachAt M e (k .number)) (l .number)) b))
 
@@ -114,7 +114,7 @@ module _ (M : List ℕ) (e : ℕ) (sets : AllSets M e) (order : Ordered M e) (be
     within : 1 ≤ x → groupAt M e x ≤ reachAt M e (l .number) → Blocking M begun level e g p S (l ∷ ls) x → Found l ls x
 
   -- The group at hand can end.
-  module _ (a c h : ℕ) (l : Level) (kept : Grouped M e l) (is : h ≡ memberAt M e p l + 128) (says : true ≡ true → true ≡ lastM (l .members) p) (i : IsAround g 0 p l) (m : Marked begun level M e S l) (r : a < l .number) (x : ℕ) where
+  module _ (a c h : ℕ) (l : Level) (kept : Grouped M e l) (is : h ≡ memberAt M e p l + ENDING) (says : true ≡ true → true ≡ lastM (l .members) p) (i : IsAround g 0 p l) (m : Marked begun level M e S l) (r : a < l .number) (x : ℕ) where
     ends : lastM (l .members) p ≡ true
     ends = sym (says refl)
 
@@ -130,20 +130,20 @@ module _ (M : List ℕ) (e : ℕ) (sets : AllSets M e) (order : Ordered M e) (be
         go (having.none y n) = beyond (λ s. absurd (omega arith)) (rw (ends, z))
         go (having.some s t y n) = absurd (false≢true y)
 
-    found-on : (k : Level) (ks : List Level) → Chain M e p (true && lastM (l .members) p) (outerAt M e (l .number)) (k ∷ ks) → Rising (l .number) c (k ∷ ks) → Around (k ∷ ks) → FirstOf (l ∷ k ∷ ks) x → allM (fine S) (l .members) ≡ true → (Chain M e p true (outerAt M e (l .number)) (k ∷ ks) → 128 < outerAt M e (l .number) → FirstOf (k ∷ ks) x → Found k ks x) → Found l (k ∷ ks) x
-    found-on k ks q (t, ts) (v, vs) f z farther = bool-cases (ltb 128 (outerAt M e (l .number))) onward stops
+    found-on : (k : Level) (ks : List Level) → Chain M e p (true && lastM (l .members) p) (outerAt M e (l .number)) (k ∷ ks) → Rising (l .number) c (k ∷ ks) → Around (k ∷ ks) → FirstOf (l ∷ k ∷ ks) x → allM (fine S) (l .members) ≡ true → (Chain M e p true (outerAt M e (l .number)) (k ∷ ks) → ENDING < outerAt M e (l .number) → FirstOf (k ∷ ks) x → Found k ks x) → Found l (k ∷ ks) x
+    found-on k ks q (t, ts) (v, vs) f z farther = bool-cases (ltb ENDING (outerAt M e (l .number))) onward stops
       where
         next : Chain M e p true (outerAt M e (l .number)) (k ∷ ks)
         next = subst (λ (b : Bool). Chain M e p b (outerAt M e (l .number)) (k ∷ ks)) ends q
 
-        reach : reachAt M e (l .number) ≡ cond (ltb 128 (outerAt M e (l .number))) (reachAt M e (k .number)) (l .number)
+        reach : reachAt M e (l .number) ≡ cond (ltb ENDING (outerAt M e (l .number))) (reachAt M e (k .number)) (l .number)
         reach = within-next M e sets p l kept (omega arith) _ k ks q (v .1) t .reach
 
         rest : FirstOf (k ∷ ks) x
         rest = first-outward l kept m (k ∷ ks) z x f
 
-        onward : ltb 128 (outerAt M e (l .number)) ≡ true → Found l (k ∷ ks) x
-        onward b = go (farther next (ltb-true 128 (outerAt M e (l .number)) b) rest)
+        onward : ltb ENDING (outerAt M e (l .number)) ≡ true → Found l (k ∷ ks) x
+        onward b = go (farther next (ltb-true ENDING (outerAt M e (l .number)) b) rest)
           where
             far : reachAt M e (l .number) ≡ reachAt M e (k .number)
             far = reach ∙ ap (λ (y : Bool). cond y (reachAt M e (k .number)) (l .number)) b
@@ -156,11 +156,11 @@ module _ (M : List ℕ) (e : ℕ) (sets : AllSets M e) (order : Ordered M e) (be
             go (beyond y n) = beyond (λ s. omega (arith, far, y s)) (rw (ends, z) n)
             go (within s y n) = within s (omega (arith, far)) (wider n)
 
-        stops : ltb 128 (outerAt M e (l .number)) ≡ false → Found l (k ∷ ks) x
+        stops : ltb ENDING (outerAt M e (l .number)) ≡ false → Found l (k ∷ ks) x
         stops b = beyond (λ s. omega (arith, reach ∙ ap (λ (y : Bool). cond y (reachAt M e (k .number)) (l .number)) b, above s rest)) (rw (ends, z) (last next))
           where
             last : Chain M e p true (outerAt M e (l .number)) (k ∷ ks) → blocksIn (groupsOf (k ∷ ks)) p S ≡ false
-            last (kept, true, is, says, chain) = absurd (omega (arith, member-small M e k kept p (v .1), ltb-false 128 (outerAt M e (l .number)) b))
+            last (kept, true, is, says, chain) = absurd (omega (arith, member-small M e k kept p (v .1), ltb-false ENDING (outerAt M e (l .number)) b))
             last (kept, false, is, says, chain) = ap (λ (y : Bool). y && (not (allM (fine S) (k .members)) || blocksIn (groupsOf ks) p S)) (sym (says refl))
 
             above : 1 ≤ x → FirstOf (k ∷ ks) x → l .number < groupAt M e x
@@ -168,11 +168,11 @@ module _ (M : List ℕ) (e : ℕ) (sets : AllSets M e) (order : Ordered M e) (be
             above s (having.some a d y n) = own-above M e sets p (l .number) c (k ∷ ks) (chain-kept M e p _ _ (k ∷ ks) next) (t, ts) x (and-left (anyOwn M e x (k ∷ ks)) _ (and-left (anyOwn M e x (k ∷ ks) && isNeeded M e x) _ y))
 
   -- The member at hand can end.
-  can-end : (h : ℕ) (l : Level) (ls : List Level) → Chain M e p true h (l ∷ ls) → 128 < h → hasM (l .members) p ≡ true → (h ≡ memberAt M e p l + 128) × (true ≡ true → true ≡ lastM (l .members) p)
+  can-end : (h : ℕ) (l : Level) (ls : List Level) → Chain M e p true h (l ∷ ls) → ENDING < h → hasM (l .members) p ≡ true → (h ≡ memberAt M e p l + ENDING) × (true ≡ true → true ≡ lastM (l .members) p)
   can-end h l ls (kept, true, is, says, chain) large i = (is, says)
   can-end h l ls (kept, false, is, says, chain) large i = absurd (omega (arith, member-small M e l kept p i))
 
-  found : (a c h : ℕ) (l : Level) (ls : List Level) → Chain M e p true h (l ∷ ls) → 128 < h → Rising a c (l ∷ ls) → Around (l ∷ ls) → AllMarked begun level M e S (l ∷ ls) → (x : ℕ) → FirstOf (l ∷ ls) x → Found l ls x
+  found : (a c h : ℕ) (l : Level) (ls : List Level) → Chain M e p true h (l ∷ ls) → ENDING < h → Rising a c (l ∷ ls) → Around (l ∷ ls) → AllMarked begun level M e S (l ∷ ls) → (x : ℕ) → FirstOf (l ∷ ls) x → Found l ls x
   found a c h l [] chain large (r, rs) (i, j) (m, ms) x f =
       let (is, says) = can-end h l [] chain large (i .1) in
       bool-cases (allM (fine S) (l .members)) (found-last a c h l (chain .0) is says i m r x f) (found-lacks a c h l (chain .0) is says i m r x [] (chain .4) rs j f)
@@ -185,7 +185,7 @@ module _ (M : List ℕ) (e : ℕ) (sets : AllSets M e) (order : Ordered M e) (be
 -- What is read of the sets
 module _ (M : List ℕ) (e inner : ℕ) (b : Bits) where
   -- The member at hand cannot end, or there is none.
-  pub blocks-none : inner ≤ 128 → Blocks M e inner b 0
+  pub blocks-none : inner ≤ ENDING → Blocks M e inner b 0
   blocks-none z = record { small = omega arith; ends = λ s. absurd (omega arith); group = λ s. absurd (omega arith); says = λ sets order begun level has g p S ls c chain rising around marked. free refl (go g p S ls chain around) }
     where
       go : (g : Group) (p : ℕ) (S : ℕ → Bool) (ls : List Level) → Chain M e p true inner ls → EachLevel (IsAround g 0 p) ls → blocksIn (groupsOf ls) p S ≡ false
@@ -193,7 +193,7 @@ module _ (M : List ℕ) (e inner : ℕ) (b : Bits) where
       go g p S (l ∷ ls) (kept, true, is, says, chain) (i, j) = absurd (omega (arith, member-small M e l kept p (i .1)))
       go g p S (l ∷ ls) (kept, false, is, says, chain) (i, j) = ap (λ (y : Bool). y && (not (allM (fine S) (l .members)) || blocksIn (groupsOf ls) p S)) (sym (says refl))
 
-  module _ (ends : 128 < inner) (h : ℕ) (lower : h ≡ inner - 128) (n : ℕ) (at : n ≡ groupAt M e h) where
+  module _ (ends : ENDING < inner) (h : ℕ) (lower : h ≡ inner - ENDING) (n : ℕ) (at : n ≡ groupAt M e h) where
     -- The member at hand is one of the first group.
     first-at : (g : Group) (p : ℕ) (l : Level) (ls : List Level) → Chain M e p true inner (l ∷ ls) → IsAround g 0 p l → First M e h p l
     first-at g p l ls (kept, true, is, says, chain) i = first-of M e h p true inner l ls (omega (arith, member-small M e l kept p (i .1))) (kept, true, is, says, chain) (i .1)

@@ -5,7 +5,8 @@ use mathlib.Core.Bool.{Bool, true, false, _||_}
 use mathlib.Core.List.{List, [], _∷_}
 use native.Mathlib.Omega.{arith}
 use lib.Dec.{eqb}
-use Rattle.layout.specs.Sizes.{AND-GROUPS}
+use Rattle.rules.specs.Bytes.{GRPGTCNT}
+use Rattle.layout.specs.Sizes.{AND-GROUPS, ENDING}
 use Rattle.model_sets.specs.Sets.{hasM}
 use Rattle.and_laws.specs.Rows.{or-no}
 use Rattle.and_laws.specs.Ranked.{Level, Rising}
@@ -26,14 +27,14 @@ module _ (M : List ℕ) (e h : ℕ) where
   enters-without : (b : Bits) → ((u : ℕ) (l : Level) → First M e h u l → ⊥) → Enters M e h b b
   enters-without b none = record { bits = λ sets B has u ends x c ls read chain rising have. go B has u ends x ls read chain have }
     where
-      go : (B : ℕ → Bool) → Has b B → (u : ℕ) (ends : Bool) (x : ℕ) (ls : List Level) → h ≡ x % 128 → Chain M e u ends x ls → Have u ls → Has b (λ (n : ℕ). B n || isHolder M e u n ls)
+      go : (B : ℕ → Bool) → Has b B → (u : ℕ) (ends : Bool) (x : ℕ) (ls : List Level) → h ≡ x % ENDING → Chain M e u ends x ls → Have u ls → Has b (λ (n : ℕ). B n || isHolder M e u n ls)
       go B has u ends x [] read chain have = has-same (λ n y z. sym (or-no (B n))) has
       go B has u ends x (l ∷ ls) read chain have = absurd (none u l (first-of M e h u ends x l ls read chain (have .0)))
 
   pub enters-none : (b : Bits) → h ≡ 0 → Enters M e h b b
   enters-none b z = enters-without b (λ u l f. omega (arith, f .small))
 
-  pub enters-large : (b : Bits) → 96 < h → Enters M e h b b
+  pub enters-large : (b : Bits) → GRPGTCNT < h → Enters M e h b b
   enters-large b z = enters-without b (λ u l f. omega (arith, f .small))
 
   pub enters-far : (b : Bits) → (g : ℕ) → g ≡ groupAt M e h → AND-GROUPS < g → Enters M e h b b
@@ -47,8 +48,8 @@ module _ (M : List ℕ) (e h : ℕ) where
       grouped true y z = refl
       grouped false y z = refl
 
-      go : AllSets M e → (B : ℕ → Bool) → Has b B → (u : ℕ) (ends : Bool) (x c : ℕ) (ls : List Level) → h ≡ x % 128 → Chain M e u ends x ls → Rising 0 c ls → Have u ls → Has r (λ (n : ℕ). B n || isHolder M e u n ls)
-      go sets B has u ends x c [] read chain rising have = absurd (some (read ∙ ap (λ (y : ℕ). y % 128) chain))
+      go : AllSets M e → (B : ℕ → Bool) → Has b B → (u : ℕ) (ends : Bool) (x c : ℕ) (ls : List Level) → h ≡ x % ENDING → Chain M e u ends x ls → Rising 0 c ls → Have u ls → Has r (λ (n : ℕ). B n || isHolder M e u n ls)
+      go sets B has u ends x c [] read chain rising have = absurd (some (read ∙ ap (λ (y : ℕ). y % ENDING) chain))
       go sets B has u ends x c (l ∷ ls) read chain rising have =
           let f = first-of M e h u ends x l ls read chain (have .0) in
           has-same

@@ -8,6 +8,8 @@ use native.Mathlib.Decide.{ℕ-discrete, decLt}
 use native.Mathlib.Omega.{arith}
 use lib.Dec.{eqb, ltb}
 use borrow.Author.Tests.{eqb-true, eqb-false, lt-ltb, ltb-true}
+use Rattle.rules.specs.Bytes.{GRPGTCNT}
+use Rattle.layout.specs.Sizes.{ENDING}
 use Rattle.model_sets.specs.Bits.{and-left, and-right, bool-cases}
 use Rattle.model_sets.specs.Sets.{hasM}
 use Rattle.and_laws.specs.Req.{restReq}
@@ -59,19 +61,19 @@ module _ (M begun : List ℕ) (level e : ℕ) (ls : List Level) (l : Level) (kep
       rest-two first (l .members) S B (dueAt M e) marked (numbered-due M e l kept) (x - first) (n - first) (λ z. omega (arith, at n own, at x (waits .own))) (inside x (waits .own)) (inside n own) (ap B (at x (waits .own)) ∙ waits .unset) (ap B (at n own) ∙ t)
 
 -- What is read of the sets
-module _ (M : List ℕ) (e inner x : ℕ) (b : Bits) (ends : 128 < inner) where
-  due-by : (r : ℕ) → r ≤ 96 → ((sets : AllSets M e) (begun : List ℕ) (level : ℕ) → Has b (begunAt begun level) → (p c : ℕ) (k : Level) (ks : List Level) → Chain M e p true inner (k ∷ ks) → Rising 0 c (k ∷ ks) → EachLevel (λ (l : Level). hasM (l .members) p ≡ true) (k ∷ ks) → (l : Level) (S : ℕ → Bool) → Awaits M begun level e (k ∷ ks) l x → Grouped M e l → Marked begun level M e S l → restReq (l .members) S ≤ 96 → r ≡ restReq (l .members) S) → Due M e inner x b r
+module _ (M : List ℕ) (e inner x : ℕ) (b : Bits) (ends : ENDING < inner) where
+  due-by : (r : ℕ) → r ≤ GRPGTCNT → ((sets : AllSets M e) (begun : List ℕ) (level : ℕ) → Has b (begunAt begun level) → (p c : ℕ) (k : Level) (ks : List Level) → Chain M e p true inner (k ∷ ks) → Rising 0 c (k ∷ ks) → EachLevel (λ (l : Level). hasM (l .members) p ≡ true) (k ∷ ks) → (l : Level) (S : ℕ → Bool) → Awaits M begun level e (k ∷ ks) l x → Grouped M e l → Marked begun level M e S l → restReq (l .members) S ≤ GRPGTCNT → r ≡ restReq (l .members) S) → Due M e inner x b r
   due-by r small f = record { small = small; says = λ sets begun level has p S c ls chain rising have l waits kept marked few. go sets begun level has p c ls chain rising have l S waits kept marked few }
     where
-      go : (sets : AllSets M e) (begun : List ℕ) (level : ℕ) → Has b (begunAt begun level) → (p c : ℕ) (ls : List Level) → Chain M e p true inner ls → Rising 0 c ls → EachLevel (λ (l : Level). hasM (l .members) p ≡ true) ls → (l : Level) (S : ℕ → Bool) → Awaits M begun level e ls l x → Grouped M e l → Marked begun level M e S l → restReq (l .members) S ≤ 96 → r ≡ restReq (l .members) S
+      go : (sets : AllSets M e) (begun : List ℕ) (level : ℕ) → Has b (begunAt begun level) → (p c : ℕ) (ls : List Level) → Chain M e p true inner ls → Rising 0 c ls → EachLevel (λ (l : Level). hasM (l .members) p ≡ true) ls → (l : Level) (S : ℕ → Bool) → Awaits M begun level e ls l x → Grouped M e l → Marked begun level M e S l → restReq (l .members) S ≤ GRPGTCNT → r ≡ restReq (l .members) S
       go sets begun level has p c [] chain rising have l S waits kept marked few = absurd (omega arith)
       go sets begun level has p c (k ∷ ks) chain rising have l S waits kept marked few = f sets begun level has p c k ks chain rising have l S waits kept marked few
 
   -- x is no member.
-  pub due-large : 96 < x → Due M e inner x b 0
+  pub due-large : GRPGTCNT < x → Due M e inner x b 0
   due-large z = due-by 0 (omega arith) (λ sets begun level has p c k ks chain rising have l S waits kept marked few. absurd (omega (arith, own-range M e l kept x (waits .own), kept .room)))
 
-  module _ (h : ℕ) (lower : h ≡ inner - 128) (n : ℕ) (at : n ≡ groupAt M e h) (among idle above : Bits) (is-among : Has among (amongAt M e n)) (is-idle : (f k : ℕ → Bool) → Has among f → Has b k → Has idle (λ (m : ℕ). f m && not (k m))) (is-above : (f : ℕ → Bool) → Has idle f → Has above (λ (m : ℕ). f m && ltb x m)) (y : ℕ) (is-first : (f : ℕ → Bool) → Has above f → having.First f y) (r : Bool) (alone : Alone M e x y r) where
+  module _ (h : ℕ) (lower : h ≡ inner - ENDING) (n : ℕ) (at : n ≡ groupAt M e h) (among idle above : Bits) (is-among : Has among (amongAt M e n)) (is-idle : (f k : ℕ → Bool) → Has among f → Has b k → Has idle (λ (m : ℕ). f m && not (k m))) (is-above : (f : ℕ → Bool) → Has idle f → Has above (λ (m : ℕ). f m && ltb x m)) (y : ℕ) (is-first : (f : ℕ → Bool) → Has above f → having.First f y) (r : Bool) (alone : Alone M e x y r) where
     -- These are the members above x that have not begun.
     abbrev waiting : (begun : List ℕ) (level : ℕ) → List Level → ℕ → Bool
     waiting begun level ls m = (anyOwn M e m ls && not (begunAt begun level m)) && ltb x m
@@ -120,10 +122,10 @@ module _ (M : List ℕ) (e inner x : ℕ) (b : Bits) (ends : 128 < inner) where
               here : isOwn M e (l .number) y ≡ true
               here = range-own M e l kept y (omega (arith, own-range M e l kept x (waits .own), ltb-true x y (and-right (anyOwn M e y ls && not (begunAt begun level y)) _ w))) (omega (arith, own-range M e l kept m own, least (decLt m y)))
 
-      pub due-lone : q ≤ 96 → Due M e inner x b q
+      pub due-lone : q ≤ GRPGTCNT → Due M e inner x b q
       due-lone few = due-by q few (λ sets begun level has p c k ks chain rising have l S waits kept marked small. is-due begun level (k ∷ ks) l S waits kept marked (next sets begun level has p c k ks chain rising have))
 
-      pub due-more : 96 < q → Due M e inner x b 0
+      pub due-more : GRPGTCNT < q → Due M e inner x b 0
       due-more large = due-by 0 (omega arith) (λ sets begun level has p c k ks chain rising have l S waits kept marked small. absurd (omega (arith, is-due begun level (k ∷ ks) l S waits kept marked (next sets begun level has p c k ks chain rising have))))
 
 -- The group of the next

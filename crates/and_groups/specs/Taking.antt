@@ -6,7 +6,8 @@ use mathlib.Core.Logic.{_⊎_, inl, inr}
 use mathlib.Core.List.{List, [], _∷_, _++_}
 use native.Mathlib.Omega.{arith}
 use Rattle.rules.specs.Walk.{Group, Members}
-use Rattle.layout.specs.Sizes.{MEMBERS}
+use Rattle.rules.specs.Bytes.{GRPGTCNT}
+use Rattle.layout.specs.Sizes.{MEMBERS, ENDING}
 use lib.ListN.{length}
 use Rattle.model_sets.specs.Sets.{Numbered, size, has, hasM}
 use Rattle.and_laws.specs.Base.{mem}
@@ -26,7 +27,7 @@ use Rattle.member_bits.specs.declared.Bits.{Bits}
 use Rattle.member_bits.specs.Having.{Has}
 use Rattle.member_bits.specs.Laws.{has-same}
 use Rattle.begun_bits.specs.Levels.{Puts}
-use Rattle.and_groups.specs.Takes.{Takes, Blocked, free, held}
+use Rattle.and_groups.specs.Takes.{Takes, Blocked, free, held, FREE}
 use Rattle.and_groups.specs.Asked as asked
 use Rattle.and_groups.specs.Asked.{Enters, Blocks, Blocking, Due}
 
@@ -53,22 +54,22 @@ ready-start M level e u before b z is = record { B = λ (n : ℕ). false; bits =
     each taken y (l ∷ ls) = (at-each _ _ (λ (n : ℕ) (k : Group). false ≡ meets k (mem taken)) (l .members) (λ n k i. sym (ap (λ (s : List ℕ). meets k (mem s)) y ∙ meets-none k)), each taken y ls)
 
 -- The place that a group requires is one of the model's.
-rest-small : (g : Group) → Numbered g 1 → size g ≤ 96 → (p : ℕ) (l : Level) → IsAround g 0 p l → (S : ℕ → Bool) → restReq (l .members) S ≤ 96
+rest-small : (g : Group) → Numbered g 1 → size g ≤ GRPGTCNT → (p : ℕ) (l : Level) → IsAround g 0 p l → (S : ℕ → Bool) → restReq (l .members) S ≤ GRPGTCNT
 rest-small g numbered few p l (i, x) S = go (rest-own (l .members) S)
   where
-    go : OwnOr0 (hasM (l .members)) (restReq (l .members) S) → restReq (l .members) S ≤ 96
+    go : OwnOr0 (hasM (l .members)) (restReq (l .members) S) → restReq (l .members) S ≤ GRPGTCNT
     go (inl z) = omega arith
     go (inr y) = omega (arith, has-range g 1 numbered (restReq (l .members) S) (level-has g 0 l i (restReq (l .members) S) y))
 
 -- The place is taken
-module _ (M : List ℕ) (level e u p : ℕ) (before after : List ℕ) (h : ℕ) (b now : Bits) (ready : Ready M level e u before b) (read : h ≡ holderAt M e p) (enters : Enters M e (h % 128) b now) (puts : Puts level now before after) where
+module _ (M : List ℕ) (level e u p : ℕ) (before after : List ℕ) (h : ℕ) (b now : Bits) (ready : Ready M level e u before b) (read : h ≡ holderAt M e p) (enters : Enters M e (h % ENDING) b now) (puts : Puts level now before after) where
   module _ (g : Group) (good : Good g) (told : Told M e g) (taken : List ℕ) (standing : Standing before level M e g u taken) (here : has g p ≡ true) where
     kept-at : (q : ℕ) → has g q ≡ true → EachLevel (Grouped M e) (levels g 0 q)
     kept-at q i = chain-kept M e q true _ (levels g 0 q) (told .places q i)
 
     entered : Has now (λ (n : ℕ). ready .B n || isHolder M e p n (levels g 0 p))
     entered =
-        enters .bits (told .sets) (ready .B) (ready .bits) p true (holderAt M e p) (0 + count g) (levels g 0 p) (ap (λ (x : ℕ). x % 128) read) (told .places p here) (levels-rise g 0 p)
+        enters .bits (told .sets) (ready .B) (ready .bits) p true (holderAt M e p) (0 + count g) (levels g 0 p) (ap (λ (x : ℕ). x % ENDING) read) (told .places p here) (levels-rise g 0 p)
         (each-level (IsAround g 0 p) (λ (l : Level). hasM (l .members) p ≡ true) (λ l x. x .1) (levels g 0 p) (levels-are g 0 p here))
 
     -- These members have begun after it.
@@ -101,7 +102,7 @@ module _ (M : List ℕ) (level e u p : ℕ) (before after : List ℕ) (h : ℕ) 
         let good = numbered-good g 1 numbered guarded in
         blocks .says (told .sets) (told .order) after level (has-now g good told taken standing here) g p (mem (taken ++ p ∷ [])) (levels g 0 p) (0 + count g) (subst (λ (y : ℕ). Chain M e p true y (levels g 0 p)) (sym read) (told .places p here)) (levels-rise g 0 p) (levels-are g 0 p here) (marked-all g good told taken standing here p here)
 
-    taken-by : (r : ℕ) → (r ≡ 255) ⊎ (r ≤ 96) → ((g : Group) → Numbered g 1 → size g ≤ 96 → (told : Told M e g) (S : ℕ → Bool) → has g p ≡ true → Has now (begunAt after level) → Blocking M after level e g p S (levels g 0 p) x → Blocked g p S r) → Takes M level e u p before after r
+    taken-by : (r : ℕ) → (r ≡ FREE) ⊎ (r ≤ GRPGTCNT) → ((g : Group) → Numbered g 1 → size g ≤ GRPGTCNT → (told : Told M e g) (S : ℕ → Bool) → has g p ≡ true → Has now (begunAt after level) → Blocking M after level e g p S (levels g 0 p) x → Blocked g p S r) → Takes M level e u p before after r
     taken-by r small f =
         record {
           whole = puts .whole;
@@ -111,17 +112,17 @@ module _ (M : List ℕ) (level e u p : ℕ) (before after : List ℕ) (h : ℕ) 
           blocked = λ g numbered guarded few told taken standing here. f g numbered few told (mem (taken ++ p ∷ [])) here (has-now g (numbered-good g 1 numbered guarded) told taken standing here) (at-block g numbered guarded told taken standing here);
         }
 
-    pub takes-free : x ≡ 0 → Takes M level e u p before after 255
-    takes-free z = taken-by 255 (inl refl) (λ g numbered few told S here is. go g S)
+    pub takes-free : x ≡ 0 → Takes M level e u p before after FREE
+    takes-free z = taken-by FREE (inl refl) (λ g numbered few told S here is. go g S)
       where
-        go : (g : Group) (S : ℕ → Bool) → Blocking M after level e g p S (levels g 0 p) x → Blocked g p S 255
+        go : (g : Group) (S : ℕ → Bool) → Blocking M after level e g p S (levels g 0 p) x → Blocked g p S FREE
         go g S (asked.free y w) = free refl (ap (λ (ms : List Members). blocksIn ms p S) (sym (levels-around g 0 p)) ∙ w)
         go g S (asked.held some l waits kept marked is y w) = absurd (omega arith)
 
     pub takes-held : (x ≡ 0 → ⊥) → (r : ℕ) → Due M e h x now r → Takes M level e u p before after r
     takes-held n r due = taken-by r (inr (due .small)) go
       where
-        go : (g : Group) → Numbered g 1 → size g ≤ 96 → (told : Told M e g) (S : ℕ → Bool) → has g p ≡ true → Has now (begunAt after level) → Blocking M after level e g p S (levels g 0 p) x → Blocked g p S r
+        go : (g : Group) → Numbered g 1 → size g ≤ GRPGTCNT → (told : Told M e g) (S : ℕ → Bool) → has g p ≡ true → Has now (begunAt after level) → Blocking M after level e g p S (levels g 0 p) x → Blocked g p S r
         go g numbered few told S here is (asked.free y w) = absurd (n y)
         go g numbered few told S here is (asked.held some l waits kept marked a y w) =
             held
@@ -131,7 +132,7 @@ module _ (M : List ℕ) (level e u p : ℕ) (before after : List ℕ) (h : ℕ) 
             (due .small)
             (ap (λ (ms : List Members). blocksIn ms p S) (sym (levels-around g 0 p)) ∙ y)
 
-pub takes-short : (M : List ℕ) (level e u p : ℕ) (before : List ℕ) → length M < MEMBERS → Takes M level e u p before before 255
+pub takes-short : (M : List ℕ) (level e u p : ℕ) (before : List ℕ) → length M < MEMBERS → Takes M level e u p before before FREE
 takes-short M level e u p before short =
     record {
       whole = refl;

@@ -11,7 +11,8 @@ use lib.ListN.{length}
 use lib.Dec.{eqb}
 use borrow.Author.Tests.{eqb-true, eq-eqb, ne-eqb}
 use Rattle.rules.specs.Walk.{Group, Members}
-use Rattle.layout.specs.Sizes.{POSITIONS, AND-GROUPS, MEMBERS}
+use Rattle.rules.specs.Bytes.{GRPGTCNT}
+use Rattle.layout.specs.Sizes.{POSITIONS, AND-GROUPS, MEMBERS, ENDING}
 use Rattle.model_sets.specs.Bits.{and-left, and-right, and-both, or-left, or-right, or-cases, not-true, bool-cases}
 use Rattle.model_sets.specs.Sets.{Numbered, has, hasM}
 use Rattle.and_laws.specs.Base.{mem}
@@ -281,8 +282,8 @@ module _
 -- The first of the groups around a place is that of the member that holds it.
 module _ (M : List ℕ) (e : ℕ) (sets : AllSets M e) (v c : ℕ) (ends : Bool) (z : ℕ) where
   module _ (h n : ℕ) (some : 1 ≤ h) (at : n ≡ groupAt M e h) where
-    set-of : (ks : List Level) → h ≡ z % 128 → Chain M e v ends z ks → Rising 0 c ks → EachLevel (λ (k : Level). hasM (k .members) v ≡ true) ks → (m : ℕ) → 1 ≤ m → m < POSITIONS → (amongAt M e n m ≡ anyOwn M e m ks) × (holdsAt M e n m || eqb m h ≡ isHolder M e v m ks)
-    set-of [] read chain rising have m x y = absurd (omega (arith, ap (λ (q : ℕ). q % 128) chain))
+    set-of : (ks : List Level) → h ≡ z % ENDING → Chain M e v ends z ks → Rising 0 c ks → EachLevel (λ (k : Level). hasM (k .members) v ≡ true) ks → (m : ℕ) → 1 ≤ m → m < POSITIONS → (amongAt M e n m ≡ anyOwn M e m ks) × (holdsAt M e n m || eqb m h ≡ isHolder M e v m ks)
+    set-of [] read chain rising have m x y = absurd (omega (arith, ap (λ (q : ℕ). q % ENDING) chain))
     set-of (k ∷ ks) read chain rising have m x y =
         let f = first-of M e h v ends z k ks read chain (have .0) in
         let is : n ≡ k .number = at ∙ f .group in (
@@ -297,8 +298,8 @@ module _ (M : List ℕ) (e : ℕ) (sets : AllSets M e) (v c : ℕ) (ends : Bool)
         turned false false = refl
 
   -- There is a first one, where there is such a member.
-  first-there : (h : ℕ) → 1 ≤ h → (ks : List Level) → h ≡ z % 128 → Chain M e v ends z ks → EachLevel (λ (k : Level). hasM (k .members) v ≡ true) ks → (k : Level) × First M e h v k
-  first-there h some [] read chain have = absurd (omega (arith, ap (λ (q : ℕ). q % 128) chain))
+  first-there : (h : ℕ) → 1 ≤ h → (ks : List Level) → h ≡ z % ENDING → Chain M e v ends z ks → EachLevel (λ (k : Level). hasM (k .members) v ≡ true) ks → (k : Level) × First M e h v k
+  first-there h some [] read chain have = absurd (omega (arith, ap (λ (q : ℕ). q % ENDING) chain))
   first-there h some (k ∷ ks) read chain have = (k, first-of M e h v ends z k ks read chain (have .0))
 
 bad-same : (a a′ p p′ k t q q′ o o′ : Bool) → a ≡ a′ → p ≡ p′ → q ≡ q′ → o ≡ o′ → (((a && not p) && k) && not t) || (((q && not o) && a) && t) ≡ (((a′ && not p′) && k) && not t) || (((q′ && not o′) && a′) && t)
@@ -376,8 +377,8 @@ module _ (M : List ℕ) (e h i : ℕ) (b : Bits) where
         meet w = go (w .us) (levels (w .model) 0 (w .p)) (w .u-chain) (w .p-chain) (w .u-around) (w .p-around) (w .marked)
           where
             go : (us ps : List Level) → Chain M e (w .u) true (w .x) us → Chain M e (w .p) true (w .y) ps → EachLevel (IsAround (w .model) 0 (w .u)) us → EachLevel (IsAround (w .model) 0 (w .p)) ps → AllMarked (w .begun) (w .level) M e (w .S) us → (l : Level) × IsAround (w .model) 0 (w .u) l × (hasM (l .members) (w .p) ≡ true) × Marked (w .begun) (w .level) M e (w .S) l × (h ≡ memberAt M e (w .u) l) × (i ≡ memberAt M e (w .p) l) × (mayIn (groupsOf us) (w .u) (w .S) (w .p) ≡ within (l .members) (w .u) (w .S) (w .p))
-            go [] ps u-chain p-chain u-around p-around marked = absurd (omega (arith, w .u-read ∙ ap (λ (v : ℕ). v % 128) u-chain))
-            go (l ∷ us) [] u-chain p-chain u-around p-around marked = absurd (omega (arith, w .p-read ∙ ap (λ (v : ℕ). v % 128) p-chain))
+            go [] ps u-chain p-chain u-around p-around marked = absurd (omega (arith, w .u-read ∙ ap (λ (v : ℕ). v % ENDING) u-chain))
+            go (l ∷ us) [] u-chain p-chain u-around p-around marked = absurd (omega (arith, w .p-read ∙ ap (λ (v : ℕ). v % ENDING) p-chain))
             go (l ∷ us) (k ∷ ks) u-chain p-chain u-around p-around marked =
                 let f = first-of M e h (w .u) true (w .x) l us (w .u-read) u-chain (u-around .0 .1) in
                 let d = first-of M e i (w .p) true (w .y) k ks (w .p-read) p-chain (p-around .0 .1) in
@@ -399,15 +400,15 @@ module _ (M : List ℕ) (e h i : ℕ) (b : Bits) where
             }
 
 -- The member that holds a place is one of the table's.
-holder-few : (M : List ℕ) (e v h : ℕ) → h ≡ holderAt M e v % 128 → (g : Group) → Told M e g → has g v ≡ true → h ≤ 96
+holder-few : (M : List ℕ) (e v h : ℕ) → h ≡ holderAt M e v % ENDING → (g : Group) → Told M e g → has g v ≡ true → h ≤ GRPGTCNT
 holder-few M e v h at g told here = go (levels g 0 v) (told .places v here) (levels-are g 0 v here)
   where
-    go : (ls : List Level) → Chain M e v true (holderAt M e v) ls → EachLevel (IsAround g 0 v) ls → h ≤ 96
-    go [] chain around = omega (arith, at ∙ ap (λ (x : ℕ). x % 128) chain)
+    go : (ls : List Level) → Chain M e v true (holderAt M e v) ls → EachLevel (IsAround g 0 v) ls → h ≤ GRPGTCNT
+    go [] chain around = omega (arith, at ∙ ap (λ (x : ℕ). x % ENDING) chain)
     go (l ∷ ls) chain around = first-of M e h v true (holderAt M e v) l ls at chain (around .0 .1) .small .1
 
 -- The places
-module _ (M begun : List ℕ) (level e u p h i : ℕ) (at-h : h ≡ holderAt M e u % 128) (at-i : i ≡ holderAt M e p % 128) where
+module _ (M begun : List ℕ) (level e u p h i : ℕ) (at-h : h ≡ holderAt M e u % ENDING) (at-i : i ≡ holderAt M e p % ENDING) where
   -- The last place is in no group.
   pub follows-none : h ≡ 0 → Follows M level e u p begun true
   follows-none z g numbered guarded told taken stands has-u has-p = go u refl
@@ -416,7 +417,7 @@ module _ (M begun : List ℕ) (level e u p h i : ℕ) (at-h : h ≡ holderAt M e
       go zero q = refl
       go (suc v) q =
           let here : has g (suc v) ≡ true = subst (λ (x : ℕ). has g x ≡ true) q (has-u (omega arith)) in
-          let empty = chain-none M e (suc v) true (holderAt M e (suc v)) (levels g 0 (suc v)) (told .places (suc v) here) (each-level (IsAround g 0 (suc v)) (λ (l : Level). hasM (l .members) (suc v) ≡ true) (λ l a. a .1) (levels g 0 (suc v)) (levels-are g 0 (suc v) here)) (ap (λ (x : ℕ). holderAt M e x % 128) (sym q) ∙ sym at-h ∙ z) in
+          let empty = chain-none M e (suc v) true (holderAt M e (suc v)) (levels g 0 (suc v)) (told .places (suc v) here) (each-level (IsAround g 0 (suc v)) (λ (l : Level). hasM (l .members) (suc v) ≡ true) (λ l a. a .1) (levels g 0 (suc v)) (levels-are g 0 (suc v) here)) (ap (λ (x : ℕ). holderAt M e x % ENDING) (sym q) ∙ sym at-h ∙ z) in
           ap (λ (ls : List Level). mayIn (groupsOf ls) u (mem taken) p) (sym empty) ∙ ap (λ (ms : List Members). mayIn ms u (mem taken) p) (levels-around g 0 (suc v))
 
   module _ (some : 1 ≤ h) where
@@ -425,7 +426,7 @@ module _ (M begun : List ℕ) (level e u p h i : ℕ) (at-h : h ≡ holderAt M e
     pair-of b says g numbered guarded told taken stands has-u has-p = go u refl
       where
         go : (v : ℕ) → u ≡ v → (w : Pair M e h i b) × (mayIn (groupsOf (w .us)) (w .u) (w .S) (w .p) ≡ mayIn (groupsAt g v) u (mem taken) p)
-        go zero q = absurd (omega (arith, at-h ∙ ap (λ (x : ℕ). holderAt M e x % 128) q ∙ ap (λ (x : ℕ). x % 128) (told .start)))
+        go zero q = absurd (omega (arith, at-h ∙ ap (λ (x : ℕ). holderAt M e x % ENDING) q ∙ ap (λ (x : ℕ). x % ENDING) (told .start)))
         go (suc v) q =
             let here : has g u ≡ true = has-u (omega arith) in (
               record {
@@ -460,14 +461,14 @@ module _ (M begun : List ℕ) (level e u p h i : ℕ) (at-h : h ≡ holderAt M e
     follows-by b says r comes g numbered guarded told taken stands has-u has-p = let (w, t) = pair-of b says g numbered guarded told taken stands has-u has-p in comes .says w ∙ t
 
     -- The holders are members of the table.
-    pub follows-large : 96 < h → Follows M level e u p begun true
+    pub follows-large : GRPGTCNT < h → Follows M level e u p begun true
     follows-large z g numbered guarded told taken stands has-u has-p = go u refl
       where
         go : (v : ℕ) → u ≡ v → true ≡ mayIn (groupsAt g v) u (mem taken) p
         go zero q = refl
         go (suc v) q = absurd (omega (arith, holder-few M e u h at-h g told (has-u (omega arith))))
 
-    pub follows-beside : 96 < i → Follows M level e u p begun true
+    pub follows-beside : GRPGTCNT < i → Follows M level e u p begun true
     follows-beside z g numbered guarded told taken stands has-u has-p = absurd (omega (arith, holder-few M e p i at-i g told has-p))
 
 -- A table that is not whole tells no group.

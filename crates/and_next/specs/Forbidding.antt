@@ -5,7 +5,7 @@ use mathlib.Core.Bool.{Bool, true, false, _&&_, _||_, not}
 use mathlib.Core.List.{List}
 use lib.Dec.{eqb}
 use Rattle.rules.specs.Walk.{Group}
-use Rattle.layout.specs.Sizes.{POSITIONS}
+use Rattle.layout.specs.Sizes.{POSITIONS, ENDING}
 use Rattle.and_laws.specs.Sets.{Good}
 use Rattle.and_laws.specs.Levels.{mayIn}
 use Rattle.and_laws.specs.Ranked.{Level, groupsOf, Rising, levels}
@@ -44,8 +44,8 @@ pub record Pair (M : List ℕ) (e h i : ℕ) (b : Bits) : Type 0 where
   pub c : ℕ
   pub d : ℕ
   pub us : List Level
-  pub u-read : h ≡ x % 128
-  pub p-read : i ≡ y % 128
+  pub u-read : h ≡ x % ENDING
+  pub p-read : i ≡ y % ENDING
   pub u-chain : Chain M e u true x us
   pub p-chain : Chain M e p true y (levels model 0 p)
   pub u-rising : Rising 0 c us

@@ -4,6 +4,7 @@
 // the table tells no model, or the bits are not those of the places taken in it, what `may_follow` answers is not decided.
 use layout::AND_GROUPS;
 use layout::BEGUN;
+use layout::ENDING;
 use layout::ElementNo;
 use layout::GRPGTCNT;
 use layout::MEMBERS;
@@ -11,14 +12,15 @@ use layout::Place;
 use member_bits::Bits;
 ghost use Prim.Native.Nat.{_≤_, _<_};
 ghost use lib.ListN.{length};
-ghost use Rattle.layout.specs.Sizes.{MEMBERS};
+ghost use Rattle.rules.specs.Bytes.{GRPGTCNT, TAGLVL, elementLimit};
+ghost use Rattle.layout.specs.Sizes.{MEMBERS, AND-GROUPS};
 ghost use Rattle.and_next.specs.Follows.{Follows};
 ghost use Rattle.and_next.specs.Forbidding.{IsFull, IsLeft, Comes};
 
 // Whether no group from the group g outwards lacks a member.
 fn is_full(members: &[u8], e: ElementNo, g: usize, b: Bits) -> bool
     requires { ⌜ MEMBERS ≤ length (now members) ⌝ }
-    requires { ⌜ (e .0 ≤ 64) × (g ≤ 48) ⌝ }
+    requires { ⌜ (e .0 ≤ elementLimit) × (g ≤ AND-GROUPS) ⌝ }
     ensures { λ r. ⌜ IsFull (now (members .entry)) (e .0) g b r ⌝ }
 {
     let needed = member_bits::common(
@@ -32,7 +34,7 @@ fn is_full(members: &[u8], e: ElementNo, g: usize, b: Bits) -> bool
 // the first that p is in its member is that of u or has not begun.
 fn is_left(members: &[u8], e: ElementNo, h: usize, g: usize, i: usize, f: usize, b: Bits) -> bool
     requires { ⌜ MEMBERS ≤ length (now members) ⌝ }
-    requires { ⌜ (e .0 ≤ 64) × (1 ≤ h) × (h ≤ 96) × (1 ≤ i) × (i ≤ 96) × (g ≤ 48) × (f ≤ 48) ⌝ }
+    requires { ⌜ (e .0 ≤ elementLimit) × (1 ≤ h) × (h ≤ GRPGTCNT) × (1 ≤ i) × (i ≤ GRPGTCNT) × (g ≤ AND-GROUPS) × (f ≤ AND-GROUPS) ⌝ }
     ensures { λ r. ⌜ IsLeft (now (members .entry)) (e .0) h g i f b r ⌝ }
 {
     let around = member_numbers::among(members, e, g);
@@ -51,7 +53,7 @@ fn is_left(members: &[u8], e: ElementNo, h: usize, g: usize, i: usize, f: usize,
 // Whether p may come next, of which i is the innermost member that holds it, or 0, and h that of u.
 fn may_come(members: &[u8], e: ElementNo, h: usize, i: usize, b: Bits) -> bool
     requires { ⌜ MEMBERS ≤ length (now members) ⌝ }
-    requires { ⌜ (e .0 ≤ 64) × (1 ≤ h) × (h ≤ 96) × (i ≤ 96) ⌝ }
+    requires { ⌜ (e .0 ≤ elementLimit) × (1 ≤ h) × (h ≤ GRPGTCNT) × (i ≤ GRPGTCNT) ⌝ }
     ensures { λ r. ⌜ Comes (now (members .entry)) (e .0) h i b r ⌝ }
 {
     let g = member_numbers::group_of(members, e, h);
@@ -83,14 +85,14 @@ pub fn may_follow(
     u: Place,
     p: Place,
 ) -> bool
-    requires { ⌜ (level ≤ 24) × (e .0 ≤ 64) × (u .0 ≤ 96) × (p .0 ≤ 96) ⌝ }
+    requires { ⌜ (level ≤ TAGLVL) × (e .0 ≤ elementLimit) × (u .0 ≤ GRPGTCNT) × (p .0 ≤ GRPGTCNT) ⌝ }
     ensures { λ r. ⌜ Follows (now (members .entry)) level (e .0) (u .0) (p .0) (now (begun .entry)) r ⌝ }
 {
     if members.len() < MEMBERS {
         return true;
     }
-    let h = member_numbers::holder(members, e, u) % 128;
-    let i = member_numbers::holder(members, e, p) % 128;
+    let h = member_numbers::holder(members, e, u) % ENDING;
+    let i = member_numbers::holder(members, e, p) % ENDING;
     if h == 0 {
         return true;
     }

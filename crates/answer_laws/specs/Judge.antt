@@ -13,7 +13,7 @@ use Rattle.rules.specs.Reading.{Reading, refused, got}
 use Rattle.rules.specs.Walk.{Group, Begins}
 use Rattle.rules.specs.Ambiguity.{SpellSame, Ambiguous, PairAtFault, FirstPair}
 use Rattle.rules.specs.TypeFile.{Place, Content, empty, model, Element, typeFile}
-use Rattle.rules.specs.Judge.{placeAt, samePlace, Answer, refusal, acceptance, Unambiguous, AllUnambiguous, PairStandsAt, FirstAmbiguous, here, later, firstRepeated, records, Legible, Refuses, notOffered, tooLong, notAllowed, malformed, repeated, ambiguous, noRoom, Accepts, Judged, refuses, accepts}
+use Rattle.rules.specs.Judge.{placeAt, samePlace, Answer, refusal, acceptance, Unambiguous, AllUnambiguous, PairStandsAt, FirstAmbiguous, here, later, firstRepeated, records, Legible, Refuses, notOffered, tooLong, notAllowed, malformed, repeated, ambiguous, noRoom, Accepts, Judged, refuses, accepts, recordWidth}
 use Rattle.numbers.specs.Stores.{records-length, lent-length}
 use Rattle.rules_laws.specs.Definitions.{IsFileNumber}
 use Rattle.rules_laws.specs.Within.{ContentIn, all-mem, placeAt-in, typeFile-within, typeFile-elements}
@@ -100,8 +100,8 @@ data Read (l : Lent) (s before : List ℕ) (a : Answer) (after : List ℕ) : Rea
   bad : {n k : ℕ} → a ≡ refusal n k 0 0 → after ≡ zeroed before → Read l s before a after (refused n k)
   again : {es : List Element} → 1 ≤ firstRepeated es → a ≡ refusal 25 (firstRepeated es) 0 0 → after ≡ zeroed before → Read l s before a after (got es)
   clash : {es : List Element} → firstRepeated es ≡ 0 → (k p q : ℕ) → FirstAmbiguous s k p q es → a ≡ refusal 9 k p q → after ≡ zeroed before → Read l s before a after (got es)
-  tight : {es : List Element} → firstRepeated es ≡ 0 → AllUnambiguous s es → room l before < 6 * length es → a ≡ refusal 19 0 0 0 → after ≡ zeroed before → Read l s before a after (got es)
-  enough : {es : List Element} → firstRepeated es ≡ 0 → AllUnambiguous s es → 6 * length es ≤ room l before → a ≡ acceptance (length es) → after ≡ filledWith (standing l (records es)) before → Read l s before a after (got es)
+  tight : {es : List Element} → firstRepeated es ≡ 0 → AllUnambiguous s es → room l before < recordWidth * length es → a ≡ refusal 19 0 0 0 → after ≡ zeroed before → Read l s before a after (got es)
+  enough : {es : List Element} → firstRepeated es ≡ 0 → AllUnambiguous s es → recordWidth * length es ≤ room l before → a ≡ acceptance (length es) → after ≡ filledWith (standing l (records es)) before → Read l s before a after (got es)
 
 both : {a b c : Answer} {x y z : List ℕ} → (a ≡ c) × (x ≡ z) → (b ≡ c) × (y ≡ z) → (a ≡ b) × (x ≡ y)
 both (e, f) (g, h) = (e ∙ sym g, f ∙ sym h)
@@ -259,7 +259,7 @@ module _ {c : Settings} {s : List ℕ} {room : ℕ} {a : Answer} where
   refuses-nine (ambiguous l es r v k p q f e) h = rw e (l, es, r, v, f)
   refuses-nine (noRoom l es r v u f e) h = absurd (omega (arith, rw e at h))
 
-  refuses-nineteen : Refuses c s room a → a .number ≡ 19 → (es : List Element) × Accepts c s es × (room < 6 * length es)
+  refuses-nineteen : Refuses c s room a → a .number ≡ 19 → (es : List Element) × Accepts c s es × (room < recordWidth * length es)
   refuses-nineteen (notOffered o e) h = absurd (omega (arith, rw e at h))
   refuses-nineteen (tooLong o l e) h = absurd (omega (arith, rw e at h))
   refuses-nineteen (notAllowed o l d e) h = absurd (omega (arith, rw e at h))
@@ -275,7 +275,7 @@ read-fair {c} {s} {ds} {es} w r =
     rw e at (w .unambiguous)
 
 module _ {l : Lent} {c : Settings} {s before : List ℕ} {a : Answer} {after : List ℕ} where
-  pub settled-accepts : Judged l c s before a after → a .number ≡ 0 → (es : List Element) × Accepts c s es × (6 * length es ≤ room l before) × (a ≡ acceptance (length es)) × (after ≡ filledWith (standing l (records es)) before)
+  pub settled-accepts : Judged l c s before a after → a .number ≡ 0 → (es : List Element) × Accepts c s es × (recordWidth * length es ≤ room l before) × (a ≡ acceptance (length es)) × (after ≡ filledWith (standing l (records es)) before)
   settled-accepts (refuses r z) h = absurd (refuses-some r h)
   settled-accepts (accepts es w f e z) h = (es, w, f, e, z)
 
@@ -288,7 +288,7 @@ module _ {l : Lent} {c : Settings} {s before : List ℕ} {a : Answer} {after : L
   pub settled-nine : Judged l c s before a after → a .number ≡ 9 → Legible c s × (es : List Element) × (typeFile (c .nameLength) s ≡ got es) × (firstRepeated es ≡ 0) × FirstAmbiguous s (a .position) (a .first) (a .second) es
   settled-nine x h = refuses-nine (settled-refuses x (λ z. omega arith) .0) h
 
-  pub settled-nineteen : Judged l c s before a after → a .number ≡ 19 → (es : List Element) × Accepts c s es × (room l before < 6 * length es)
+  pub settled-nineteen : Judged l c s before a after → a .number ≡ 19 → (es : List Element) × Accepts c s es × (room l before < recordWidth * length es)
   settled-nineteen x h = refuses-nineteen (settled-refuses x (λ z. omega arith) .0) h
 
   -- Under 25 an "&" stands where none may; else none does.

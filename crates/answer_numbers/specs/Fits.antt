@@ -10,6 +10,7 @@ use Rattle.rules.specs.Judge.{Answer, PairStandsAt, FirstAmbiguous, here, later
 use Rattle.rules.specs.Reader.{RefusesBoth, ReadAs}
 use Rattle.rules.specs.Batch.{RefusesPart}
 use Rattle.rules_laws.specs.Within.{typeFile-within}
+use Rattle.rules.specs.Bytes.{documentLimit}
 use Rattle.type_laws.specs.Members.{typeFile-repeated}
 use Rattle.turn_laws.specs.Within.{document-within}
 use Rattle.document_reader.specs.declared.Answer as reader
@@ -36,7 +37,7 @@ ambiguous-ordered (later u h) = ambiguous-ordered h
 position : {a b : Answer} → a ≡ b → a .position ≡ b .position
 position e = ap (λ (x : Answer). x .position) e
 
-refused-in : {c : Settings} {s d : List ℕ} {room n i k : ℕ} → RefusesBoth c s d room (record { number = n; input = i; position = k; first = 0; second = 0; count = 0 }) → k ≤ 65535
+refused-in : {c : Settings} {s d : List ℕ} {room n i k : ℕ} → RefusesBoth c s d room (record { number = n; input = i; position = k; first = 0; second = 0; count = 0 }) → k ≤ documentLimit
 refused-in (RefusesBoth.notOffered o e) = omega (arith, position e)
 refused-in (RefusesBoth.typeTooLong o l e) = omega (arith, position e)
 refused-in (RefusesBoth.documentTooLong o l m e) = omega (arith, position e)
@@ -48,7 +49,7 @@ refused-in (RefusesBoth.ambiguous l es r v j p q f e) = absurd (omega (arith, am
 refused-in {c} {s} {d} (RefusesBoth.unsettled es m j x e) = omega (arith, x .legible .short, document-within c s es (x .decisions) d m j (x .reading) .1, position e)
 refused-in (RefusesBoth.noRoom es ev x l e) = omega (arith, position e)
 
-read-in : {l : Lent} {c : Settings} {s d before after : List ℕ} {n i k : ℕ} → 1 ≤ i → ReadAs l c s d before (record { number = n; input = i; position = k; first = 0; second = 0; count = 0 }) after → k ≤ 65535
+read-in : {l : Lent} {c : Settings} {s d before after : List ℕ} {n i k : ℕ} → 1 ≤ i → ReadAs l c s d before (record { number = n; input = i; position = k; first = 0; second = 0; count = 0 }) after → k ≤ documentLimit
 read-in h (ReadAs.refuses r z) = refused-in r
 read-in h (ReadAs.accepts es ev x f e z) = absurd (omega (arith, ap (λ (a : Answer). a .input) e))
 

@@ -1,12 +1,13 @@
 // The reader's answer as the six numbers that C gets.
 use document_reader::Answer;
+use layout::ANSWER;
 ghost use mathlib.Core.Path.{_≡_};
 ghost use Rattle.rules.specs.Calls.{answerNumbers};
 ghost use Rattle.document_reader.specs.Answer.{answerOf};
 ghost use Rattle.answer_numbers.specs.Fits.{AnswerFits};
 
 // The six numbers of the reader's answer.
-pub fn numbers_read(a: Answer) -> [u32; 6]
+pub fn numbers_read(a: Answer) -> [u32; ANSWER]
     requires { ⌜ AnswerFits a ⌝ }
     ensures { λ r. ⌜ r ≡ answerNumbers (answerOf a) ⌝ }
 {

@@ -7,7 +7,7 @@ use native.Mathlib.Omega.{arith}
 use lib.ListN.{length}
 use lib.Dec.{eqb, leb, ltb}
 use borrow.Author.Tests.{eq-eqb, ne-eqb, le-leb, lt-leb, ltb-true, ltb-false, not-true, not-false}
-use Rattle.rules.specs.Bytes.{byteAt, letter, nameEnd}
+use Rattle.rules.specs.Bytes.{byteAt, letter, nameEnd, RNI}
 use Rattle.rules.specs.Reading.{Reading, refused, got, andThen}
 use Rattle.rules.specs.Attributes.{Part, bytesIn, quote, literalEnd, DeclaredValue, Default, required, implied, literal, fits}
 use Rattle.rules.specs.Given.{valueBytes}
@@ -100,7 +100,7 @@ not-less i from = by-test (ltb from i) refl
 
 -- Which of these it is: `#` first, then a quote, and nothing else.
 module _ (long : ℕ) (s : List ℕ) (y : DeclaredValue) (from i : ℕ) where
-  module _ (h : byteAt s i ≡ 35) where
+  module _ (h : byteAt s i ≡ RNI) where
     pub hash-joined : isJoined y from i ≡ true → refused 4 i ≡ defaultValue long s y from i
     unfolding defaultValue
     hash-joined j = rw (defaultValue, h, not-true (isGroup y || ltb from i) j)
@@ -109,7 +109,7 @@ module _ (long : ℕ) (s : List ℕ) (y : DeclaredValue) (from i : ℕ) where
     unfolding defaultValue
     hash-word j = rw (defaultValue, h, not-false (isGroup y || ltb from i) j, h)
 
-  module _ (n : byteAt s i ≡ 35 → ⊥) where
+  module _ (n : byteAt s i ≡ RNI → ⊥) where
     pub quote-none : quote (byteAt s i) ≡ false → defaultValue long s y from i ≡ unfit s i
     unfolding defaultValue
     quote-none q = rw (defaultValue, ne-eqb _ _ n, q)
@@ -123,8 +123,8 @@ module _ (long : ℕ) (s : List ℕ) (y : DeclaredValue) (from i : ℕ) where
     quote-literal q j = rw (defaultValue, ne-eqb _ _ n, q, not-false (isGroup y || ltb from i) j, ne-eqb _ _ n)
 
 -- A `#` or a quote stands in the text.
-pub hash-in : (s : List ℕ) (i : ℕ) → byteAt s i ≡ 35 → i < length s
-hash-in s i h = test-in (λ b. eqb b 35) refl s i (eq-eqb _ _ h)
+pub hash-in : (s : List ℕ) (i : ℕ) → byteAt s i ≡ RNI → i < length s
+hash-in s i h = test-in (λ b. eqb b RNI) refl s i (eq-eqb _ _ h)
 
 pub quote-in : (s : List ℕ) (i : ℕ) → quote (byteAt s i) ≡ true → i < length s
 quote-in s i q = test-in quote refl s i q

@@ -9,6 +9,7 @@ ghost use Prim.Native.Nat.{ℕ, _+_, _≤_, _<_};
 ghost use lib.ListN.{length};
 ghost use Rattle.rules.specs.Attributes.{DeclaredValue};
 ghost use Rattle.rules.specs.TypeFile.{defaultWord, defaultLiteral, defaultValue};
+ghost use Rattle.rules.specs.Bytes.{typeLimit};
 ghost use Rattle.attribute_values.specs.Parts.{DeclaredAs};
 ghost use Rattle.attribute_defaults.specs.DefaultOf.{defaultOf, defaultFault, DefaultFits};
 ghost use Rattle.attribute_defaults.specs.Ways.{isJoined};
@@ -41,7 +42,7 @@ fn refusal(number: u32, at: usize) -> DefaultRead
 
 // `#REQUIRED` or `#IMPLIED`, from its `#` at i.
 fn word_at(s: &[u8], i: usize) -> DefaultRead
-    requires { ⌜ (i < length (now s)) × (length (now s) ≤ 32768) ⌝ }
+    requires { ⌜ (i < length (now s)) × (length (now s) ≤ typeLimit) ⌝ }
     ensures { λ r. ⌜ (defaultOf r ≡ defaultWord (now (s .entry)) i) × DefaultFits (length (now (s .entry))) i r ⌝ }
 {
     if !text::is_letter(text::byte(s, i + 1)) {
@@ -65,7 +66,7 @@ fn word_at(s: &[u8], i: usize) -> DefaultRead
 
 // A literal, from its opening quote at i, for the declared value x.
 fn literal_at(long: usize, s: &[u8], x: usize, i: usize) -> DefaultRead
-    requires { ⌜ (1 ≤ i) × (i < length (now s)) × (length (now s) ≤ 32768) ⌝ }
+    requires { ⌜ (1 ≤ i) × (i < length (now s)) × (length (now s) ≤ typeLimit) ⌝ }
     ensures { λ r. ⌜ ((y : DeclaredValue) → DeclaredAs long (now (s .entry)) x y → defaultOf r ≡ defaultLiteral long (now (s .entry)) y i) × DefaultFits (length (now (s .entry))) i r ⌝ }
 {
     let l = literals::literal_end(s, i);
@@ -92,7 +93,7 @@ fn is_joined(x: usize, from: usize, i: usize) -> bool
 
 // The default at i of an attribute with the declared value x, which ended at `from`.
 pub fn default_at(long: usize, s: &[u8], x: usize, from: usize, i: usize) -> DefaultRead
-    requires { ⌜ (1 ≤ i) × (i ≤ length (now s)) × (length (now s) ≤ 32768) ⌝ }
+    requires { ⌜ (1 ≤ i) × (i ≤ length (now s)) × (length (now s) ≤ typeLimit) ⌝ }
     ensures { λ r. ⌜ ((y : DeclaredValue) → DeclaredAs long (now (s .entry)) x y → defaultOf r ≡ defaultValue long (now (s .entry)) y from i) × DefaultFits (length (now (s .entry))) i r ⌝ }
 {
     let b = text::byte(s, i);

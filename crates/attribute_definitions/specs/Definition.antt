@@ -4,7 +4,7 @@ use mathlib.Core.Path.{_≡_}
 use mathlib.Core.Bool.{true, false}
 use mathlib.Core.List.{List, [], _∷_, _++_}
 use lib.Dec.{eqb}
-use Rattle.rules.specs.Bytes.{ATTCNT}
+use Rattle.rules.specs.Bytes.{ATTCNT, GRPCNT}
 use Rattle.rules.specs.Reading.{Reading, got}
 use Rattle.rules.specs.Attributes.{Part, DeclaredValue, cdata, number, name, tokens, Attribute}
 use Rattle.rules.specs.TypeFile.{tokensOf, ValueEnd, Definition}
@@ -71,7 +71,7 @@ MeetsValue long s seen ts (values.Refused f) y = y ≡ refusalOf f
 
 -- Whatever the table of tokens holds.
 abbrev pub ValueFits : (end i m : ℕ) → ValueRead → Type 0
-ValueFits end i m (values.Read x k e) = (x ≤ end) × (i ≤ e) × (e ≤ end) × (k ≤ m + 32)
+ValueFits end i m (values.Read x k e) = (x ≤ end) × (i ≤ e) × (e ≤ end) × (k ≤ m + GRPCNT)
 ValueFits end i m (values.Refused f) = Unit {0}
 
 -- Definitions
@@ -89,5 +89,5 @@ MeetsDefinition long s seen xs (definitions.Refused f) y = y ≡ refusalOf f
 
 -- Whatever the tables hold.
 abbrev pub DefinitionFits : (end i n m : ℕ) → DefinitionRead → Type 0
-DefinitionFits end i n m (definitions.Read r k e) = Short r × (n < ATTCNT) × (i ≤ e) × (e ≤ end) × (k ≤ m + 32)
+DefinitionFits end i n m (definitions.Read r k e) = Short r × (n < ATTCNT) × (i ≤ e) × (e ≤ end) × (k ≤ m + GRPCNT)
 DefinitionFits end i n m (definitions.Refused f) = Unit {0}

@@ -7,7 +7,7 @@ use native.Mathlib.Omega.{arith}
 use lib.ListN.{length}
 use lib.Dec.{eqb}
 use borrow.Author.Tests.{eq-eqb, ne-eqb, lt-ltb, le-ltb, le-leb, lt-leb}
-use Rattle.rules.specs.Bytes.{byteAt, letter, nameEnd, ATTCNT}
+use Rattle.rules.specs.Bytes.{byteAt, letter, nameEnd, ATTCNT, GRPCNT, GRPO}
 use Rattle.rules.specs.Reading.{Reading, refused, got, andThen}
 use Rattle.rules.specs.Attributes.{Part, DeclaredValue, cdata, number, name, tokens, Default, Attribute, attributeOf}
 use Rattle.rules.specs.TypeFile.{gap, isWord, isCut, CDATA, NUMBER, NAME, unfit, TokensEnd, tokenGroup, tokensOf, attributeName, ValueEnd, valueWord, declaredValue, DefaultEnd, defaultValue, Definition, definition}
@@ -108,7 +108,7 @@ word-value long s seen (suc (suc zero)) k m e h q r = record { value = name; rea
 word-value long s seen (suc (suc (suc x))) k m e h q r = absurd (omega (arith, h))
 
 module _ (long : ℕ) (s : List ℕ) (ts : List Part) (i : ℕ) where
-  module _ (h : byteAt s i ≡ 40) where
+  module _ (h : byteAt s i ≡ GRPO) where
     pub value-refused : {f : Fault} → tokenGroup long s ts i ≡ refusalOf f → declaredValue long s ts i ≡ refusalOf f
     unfolding declaredValue
     value-refused g = rw (declaredValue, h, g)
@@ -123,7 +123,7 @@ module _ (long : ℕ) (s : List ℕ) (ts : List Part) (i : ℕ) where
           parts = g .parts;
         }
 
-  module _ (n : byteAt s i ≡ 40 → ⊥) where
+  module _ (n : byteAt s i ≡ GRPO → ⊥) where
     pub value-word : letter (byteAt s i) ≡ true → declaredValue long s ts i ≡ valueWord long s i
     unfolding declaredValue
     value-word l = rw (declaredValue, ne-eqb _ _ n, l)
@@ -211,11 +211,11 @@ module _ (r : DefaultRead) (x : Reading DefaultEnd) (h : defaultOf r ≡ x) wher
   pub default-stopped : {f g : Fault} → r ≡ defaults.Refused f → g ≡ defaultFault r → x ≡ refusalOf g
   default-stopped q e = sym h ∙ ap defaultOf q ∙ ap refusalOf (sym (e ∙ ap defaultFault q))
 
-pub group-within : {end at n k e : ℕ} {r : GroupRead} → GroupIn end at n r → r ≡ groups.Read k e → (at < e) × (e ≤ end) × (n < k) × (k ≤ n + 32)
+pub group-within : {end at n k e : ℕ} {r : GroupRead} → GroupIn end at n r → r ≡ groups.Read k e → (at < e) × (e ≤ end) × (n < k) × (k ≤ n + GRPCNT)
 group-within h q = rw q at h
 
-pub parenthesis-in : (s : List ℕ) (i : ℕ) → byteAt s i ≡ 40 → i < length s
-parenthesis-in s i h = test-in (λ b. eqb b 40) refl s i (eq-eqb _ _ h)
+pub parenthesis-in : (s : List ℕ) (i : ℕ) → byteAt s i ≡ GRPO → i < length s
+parenthesis-in s i h = test-in (λ b. eqb b GRPO) refl s i (eq-eqb _ _ h)
 
 -- A word that is read as declared value, and one that is refused.
 pub word-meets : (long : ℕ) (s seen : List ℕ) (m i : ℕ) (r : ValueRead) {x : Reading ValueEnd} → x ≡ valueWord long s i → wordOf r ≡ valueWord long s i → WordFits (length s) i m r → MeetsValue long s seen (partsOf seen m) r x
@@ -229,7 +229,7 @@ word-within i m (values.Refused f) l w = tt
 pub name-within : {end i n e : ℕ} {r : Reached} → NameFits end i n r → r ≡ reached.At e → (i ≤ e) × (e ≤ end) × (n < ATTCNT)
 name-within h q = rw q at h
 
-pub value-within : (m : ℕ) {end i x k e : ℕ} {r : ValueRead} → ValueFits end i m r → r ≡ values.Read x k e → (x ≤ end) × (i ≤ e) × (e ≤ end) × (k ≤ m + 32)
+pub value-within : (m : ℕ) {end i x k e : ℕ} {r : ValueRead} → ValueFits end i m r → r ≡ values.Read x k e → (x ≤ end) × (i ≤ e) × (e ≤ end) × (k ≤ m + GRPCNT)
 value-within m h q = rw q at h
 
 pub default-within : {end i x n e : ℕ} {r : DefaultRead} → DefaultFits end i r → r ≡ defaults.Read x n e → (x + n ≤ end) × (i < e) × (e ≤ end)

@@ -14,7 +14,7 @@ ghost use mathlib.Core.Path.{_≡_};
 ghost use mathlib.Core.List.{List};
 ghost use Prim.Native.Nat.{_+_, _*_, _≤_, _<_};
 ghost use lib.ListN.{length};
-ghost use Rattle.rules.specs.Bytes.{ATTCNT};
+ghost use Rattle.rules.specs.Bytes.{ATTCNT, GRPCNT, typeLimit};
 ghost use Rattle.rules.specs.Attributes.{Attribute};
 ghost use Rattle.rules.specs.TypeFile.{tokensOf, attributeName, valueWord, declaredValue, definition};
 ghost use Rattle.text.specs.Refusal.{reached};
@@ -65,7 +65,7 @@ pub fn fault_of(r: DefinitionRead) -> Fault
 
 // The name at i, a letter, after n attributes of the list, and where it ends. The parameter before ended at `from`.
 fn name_at(long: usize, s: &[u8], list: &[u16; LIST], n: usize, from: usize, i: usize) -> Reached
-    requires { ⌜ (i ≤ length (now s)) × (length (now s) ≤ 32768) × (n ≤ ATTCNT) ⌝ }
+    requires { ⌜ (i ≤ length (now s)) × (length (now s) ≤ typeLimit) × (n ≤ ATTCNT) ⌝ }
     ensures { λ r. ⌜ ((xs : List Attribute) → length xs ≡ n → ListAt long (now (s .entry)) (now (list .entry)) 0 xs → reached r ≡ attributeName long (now (s .entry)) xs from i) ⌝ }
     ensures { λ r. ⌜ NameFits (length (now (s .entry))) i n r ⌝ }
 {
@@ -88,7 +88,7 @@ fn name_at(long: usize, s: &[u8], list: &[u16; LIST], n: usize, from: usize, i: 
 
 // A word as declared value, in a list that has m tokens so far.
 fn word_at(long: usize, s: &[u8], i: usize, m: usize) -> ValueRead
-    requires { ⌜ (i ≤ length (now s)) × (length (now s) ≤ 32768) ⌝ }
+    requires { ⌜ (i ≤ length (now s)) × (length (now s) ≤ typeLimit) ⌝ }
     ensures { λ r. ⌜ (wordOf r ≡ valueWord long (now (s .entry)) i) × WordFits (length (now (s .entry))) i m r ⌝ }
 {
     let e = text::name_end(s, i);
@@ -118,7 +118,7 @@ fn word_at(long: usize, s: &[u8], i: usize, m: usize) -> ValueRead
 
 // The declared value at i, in a list that has m tokens so far.
 fn value_at(long: usize, s: &[u8], i: usize, seen: &mut [u16; TOKENS], m: usize) -> ValueRead
-    requires { ⌜ (3 ≤ i) × (i ≤ length (now s)) × (length (now s) ≤ 32768) × (m + 32 ≤ 32 * ATTCNT) ⌝ }
+    requires { ⌜ (3 ≤ i) × (i ≤ length (now s)) × (length (now s) ≤ typeLimit) × (m + GRPCNT ≤ GRPCNT * ATTCNT) ⌝ }
     ensures { λ r. ⌜ MeetsValue long (now (s .entry)) (now (seen .exit)) (partsOf (now (seen .entry)) m) r (declaredValue long (now (s .entry)) (partsOf (now (seen .entry)) m) i) ⌝ }
     ensures { λ r. ⌜ ValueFits (length (now (s .entry))) i m r ⌝ }
 {
@@ -148,7 +148,7 @@ pub fn definition_at(
     seen: &mut [u16; TOKENS],
     m: usize,
 ) -> DefinitionRead
-    requires { ⌜ (3 ≤ i) × (i ≤ length (now s)) × (length (now s) ≤ 32768) × (n ≤ ATTCNT) × (m ≤ 32 * n) ⌝ }
+    requires { ⌜ (3 ≤ i) × (i ≤ length (now s)) × (length (now s) ≤ typeLimit) × (n ≤ ATTCNT) × (m ≤ GRPCNT * n) ⌝ }
     ensures { λ r. ⌜ ((xs : List Attribute) → length xs ≡ n → ListAt long (now (s .entry)) (now (list .entry)) 0 xs → partsOf (now (seen .entry)) m ≡ tokensOf xs →
         MeetsDefinition long (now (s .entry)) (now (seen .exit)) xs r (definition long (now (s .entry)) xs from i)) ⌝ }
     ensures { λ r. ⌜ DefinitionFits (length (now (s .entry))) i n m r ⌝ }

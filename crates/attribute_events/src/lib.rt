@@ -6,7 +6,7 @@ use layout::AttributeNo;
 use layout::ElementNo;
 use layout::MARKS;
 ghost use Prim.Native.Nat.{_+_, _≤_, _<_};
-ghost use Rattle.rules.specs.Bytes.{ATTCNT};
+ghost use Rattle.rules.specs.Bytes.{ATTCNT, elementLimit};
 ghost use Rattle.attribute_events.specs.PutBefore.{PutsOne, PutsWritten, PutsDefaults};
 
 // The event of the attribute k of the element e, from 0, of which the marks say how it is written: none where it is not and is required or implied.
@@ -20,7 +20,7 @@ fn put_one(
     numbers: &mut [u32],
     bytes: &mut [u8],
 ) -> usize
-    requires { ⌜ (1 ≤ e .0) × (e .0 ≤ 64) × (k < ATTCNT) × (at < 4294967296) × (size < 4294967296) × (n < 4294967296) ⌝ }
+    requires { ⌜ (1 ≤ e .0) × (e .0 ≤ elementLimit) × (k < ATTCNT) × (at < 4294967296) × (size < 4294967296) × (n < 4294967296) ⌝ }
     ensures { λ r. ⌜ PutsOne (now (lists .entry)) (e .0) k at size n (now (numbers .entry)) (now (bytes .entry)) r (now (numbers .exit)) (now (bytes .exit)) ⌝ }
 {
     let a = AttributeNo(k + 1);
@@ -43,7 +43,7 @@ fn put_all(
     numbers: &mut [u32],
     bytes: &mut [u8],
 ) -> usize
-    requires { ⌜ (e .0 ≤ 64) × (n + ATTCNT < 4294967296) ⌝ }
+    requires { ⌜ (e .0 ≤ elementLimit) × (n + ATTCNT < 4294967296) ⌝ }
     ensures { λ r. ⌜ PutsWritten (now (lists .entry)) (now (marks .entry)) (e .0) n (now (numbers .entry)) (now (bytes .entry)) r (now (numbers .exit)) (now (bytes .exit)) ⌝ }
 {
     let count = list_table::count(lists, e);
@@ -68,7 +68,7 @@ pub fn put_written(
     numbers: &mut [u32],
     bytes: &mut [u8],
 ) -> usize
-    requires { ⌜ (e .0 ≤ 64) × (n + ATTCNT < 4294967296) ⌝ }
+    requires { ⌜ (e .0 ≤ elementLimit) × (n + ATTCNT < 4294967296) ⌝ }
     ensures { λ r. ⌜ PutsWritten (now (lists .entry)) (now (marks .entry)) (e .0) n (now (numbers .entry)) (now (bytes .entry)) r (now (numbers .exit)) (now (bytes .exit)) ⌝ }
 {
     if lists.len() == 0 {
@@ -85,7 +85,7 @@ pub fn put_defaults(
     numbers: &mut [u32],
     bytes: &mut [u8],
 ) -> usize
-    requires { ⌜ (e .0 ≤ 64) × (n + ATTCNT < 4294967296) ⌝ }
+    requires { ⌜ (e .0 ≤ elementLimit) × (n + ATTCNT < 4294967296) ⌝ }
     ensures { λ r. ⌜ PutsDefaults (now (lists .entry)) (e .0) n (now (numbers .entry)) (now (bytes .entry)) r (now (numbers .exit)) (now (bytes .exit)) ⌝ }
 {
     if list_table::count(lists, e) == 0 {

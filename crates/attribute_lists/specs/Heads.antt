@@ -15,6 +15,7 @@ use Rattle.rules.specs.Attributes.{Attribute, AttList}
 use Rattle.rules.specs.TypeFile.{gap, ListEnd, listFrom, isListed, Listed, listedElement, attributeList, attributesOf, listed}
 use Rattle.rules.specs.TypeFile as rules
 use Rattle.rules.specs.Elements.{elementAt}
+use Rattle.rules.specs.Bytes.{elementLimit}
 use Rattle.text.specs.declared.Fault.{Fault}
 use Rattle.text.specs.declared.Reached.{Reached}
 use Rattle.text.specs.declared.Reached.the-variants as reached
@@ -66,7 +67,7 @@ module _ (l : AttList) (k : ℕ) where
     attributes-others (x ∷ ls) = ap (λ (a : List Attribute). elim (eqb (x .element) k) [ true ↦ x .attributes | false ↦ a ]) (attributes-others ls)
 
 -- Its head is written.
-module _ (long : ℕ) (s heads : List ℕ) (ls : List AttList) (h : Headed long s heads ls) (k from e : ℕ) (xs : List Attribute) (sized : length heads ≡ 64) (least : 1 ≤ k) (most : k ≤ 64)
+module _ (long : ℕ) (s heads : List ℕ) (ls : List AttList) (h : Headed long s heads ls) (k from e : ℕ) (xs : List Attribute) (sized : length heads ≡ elementLimit) (least : 1 ≤ k) (most : k ≤ elementLimit)
     (begins : 3 ≤ from) (inside : from ≤ length s) (free : getD heads (k - 1) 0 ≡ 0) (read : listFrom long s from ≡ got (record { attributes = xs; at = e })) where
   abbrev one : AttList
   one = record { element = k; attributes = xs }
@@ -93,7 +94,7 @@ module _ (long : ℕ) (s heads : List ℕ) (ls : List AttList) (h : Headed long 
         read = read ∙ ap (λ (a : List Attribute). got (record { attributes = a; at = e })) (sym (attributes-same one (k - 1 + 1) ls unlisted (sym number)));
       })
 
-  module _ (j : ℕ) (m : j < 64) (other : j ≡ k - 1 → ⊥) where
+  module _ (j : ℕ) (m : j < elementLimit) (other : j ≡ k - 1 → ⊥) where
     kept : getD (set heads (k - 1) from) j 0 ≡ getD heads j 0
     kept = getD-set-other heads (k - 1) j from 0 other
 
@@ -121,21 +122,21 @@ module _ (long : ℕ) (s heads : List ℕ) (ls : List AttList) (h : Headed long 
         reads = λ j m f. by-reads j m f (ℕ-discrete j (k - 1));
       }
     where
-      by-has : (j : ℕ) → j < 64 → Dec (j ≡ k - 1) → isListed (ls ++ one ∷ []) (j + 1) ≡ not (eqb (getD (set heads (k - 1) from) j 0) 0)
+      by-has : (j : ℕ) → j < elementLimit → Dec (j ≡ k - 1) → isListed (ls ++ one ∷ []) (j + 1) ≡ not (eqb (getD (set heads (k - 1) from) j 0) 0)
       by-has j m (yes q) = rw q has-same
       by-has j m (no q) = has-other j m q
 
-      by-reads : (j : ℕ) → j < 64 → (getD (set heads (k - 1) from) j 0 ≡ 0 → ⊥) → Dec (j ≡ k - 1) → HeadRead long s (getD (set heads (k - 1) from) j 0) (ls ++ one ∷ []) j
+      by-reads : (j : ℕ) → j < elementLimit → (getD (set heads (k - 1) from) j 0 ≡ 0 → ⊥) → Dec (j ≡ k - 1) → HeadRead long s (getD (set heads (k - 1) from) j 0) (ls ++ one ∷ []) j
       by-reads j m f (yes q) = rw q reads-same
       by-reads j m f (no q) = reads-other j m q f
 
 -- Where no list was read no element has a head.
-pub headed-none : (long : ℕ) (s : List ℕ) {heads : List ℕ} → heads ≡ replicate 64 0 → Headed long s heads []
+pub headed-none : (long : ℕ) (s : List ℕ) {heads : List ℕ} → heads ≡ replicate elementLimit 0 → Headed long s heads []
 unfolding isListed
 headed-none long s {heads} e = record { has = λ k h. sym (ap not (eq-eqb _ _ (free k h))); reads = λ k h f. absurd (f (free k h)) }
   where
-    free : (k : ℕ) → k < 64 → getD heads k 0 ≡ 0
-    free k h = rw e (getD-replicate 64 k 0 0 h)
+    free : (k : ℕ) → k < elementLimit → getD heads k 0 ≡ 0
+    free k h = rw e (getD-replicate elementLimit k 0 0 h)
 
 -- Where all were read each element gets the attributes of its list.
 pub headed-all : {long : ℕ} {s heads : List ℕ} {ls : List AttList} → Headed long s heads ls → (es : List rules.Element) → HeadedAs long s heads (listed 1 ls es)
@@ -168,7 +169,7 @@ module _ (long : ℕ) (s : List ℕ) (at : ℕ) (es : List rules.Element) (ls : 
       unfolding attributeList
       list-read q = rw (attributeList, g, andThen, l, andThen, q)
 
-      pub list-headed : (heads list : List ℕ) (e : ℕ) → Headed long s heads ls → length heads ≡ 64 → 3 ≤ from → from ≤ length s → 1 ≤ k → k ≤ 64 → getD heads (k - 1) 0 ≡ 0 → ListAs long s list e (listFrom long s from)
+      pub list-headed : (heads list : List ℕ) (e : ℕ) → Headed long s heads ls → length heads ≡ elementLimit → 3 ≤ from → from ≤ length s → 1 ≤ k → k ≤ elementLimit → getD heads (k - 1) 0 ≡ 0 → ListAs long s list e (listFrom long s from)
           → ListsAs long s (set heads (k - 1) from) es e (attributeList long s at es ls)
       list-headed heads list e h sized begins inside least most free d =
           record {
@@ -213,7 +214,7 @@ module _ (long : ℕ) (s : List ℕ) (from k : ℕ) (lists : List ℕ) where
 pub record Fills (long : ℕ) (s heads lists : List ℕ) (k : ℕ) : Type 0 where
   as-long : length lists ≡ LISTS
   done : (ls : List AttList) → Headed long s heads ls → (j : ℕ) → j < k → ListAt long s lists (LIST * j) (attributesOf ls (j + 1))
-  rest : (j : ℕ) → k ≤ j → j < 64 → ListAt long s lists (LIST * j) []
+  rest : (j : ℕ) → k ≤ j → j < elementLimit → ListAt long s lists (LIST * j) []
 
 module _ (long : ℕ) (s heads : List ℕ) where
   pub fills-none : {lists : List ℕ} → lists ≡ replicate LISTS 0 → Fills long s heads lists 0
@@ -230,7 +231,7 @@ module _ (long : ℕ) (s heads : List ℕ) where
   pub fills-all : {lists : List ℕ} {k n : ℕ} → Fills long s heads lists k → n ≤ k → (ls : List AttList) → Headed long s heads ls → (j : ℕ) → j < n → ListAt long s lists (LIST * j) (attributesOf ls (j + 1))
   fills-all f l ls h j m = f .done ls h j (omega (arith, l, m))
 
-  module _ {lists after : List ℕ} {k : ℕ} (m : k < 64) (f : Fills long s heads lists k) {from : ℕ} (head : from ≡ getD heads k 0) (a : Again long s from k lists after) where
+  module _ {lists after : List ℕ} {k : ℕ} (m : k < elementLimit) (f : Fills long s heads lists k) {from : ℕ} (head : from ≡ getD heads k 0) (a : Again long s from k lists after) where
     put : (ls : List AttList) → Headed long s heads ls → Dec (getD heads k 0 ≡ 0) → ListAt long s after (LIST * k) (attributesOf ls (k + 1))
     put ls h (yes z) =
         let e : attributesOf ls (k + 1) ≡ [] = attributes-none (k + 1) ls (h .has k m ∙ ap not (eq-eqb _ _ z)) in
@@ -254,7 +255,7 @@ module _ {long : ℕ} {s heads : List ℕ} {es : List rules.Element} (h : Headed
   pub lists-filled : (lists : List ℕ) → ((ls : List AttList) → Headed long s heads ls → (k : ℕ) → k < length es → ListAt long s lists (LIST * k) (attributesOf ls (k + 1))) → Lists long s es lists
   lists-filled lists f k l = rw (h .each k l) (f (h .lists) (h .headed) k l)
 
-  pub lists-none : length es ≤ 64 → anyIn heads (length es) ≡ false → Lists long s es []
+  pub lists-none : length es ≤ elementLimit → anyIn heads (length es) ≡ false → Lists long s es []
   lists-none few none k l = rw (h .each k l, attributes-none (k + 1) (h .lists) unlisted) (record { counted = refl; few = omega arith; rows = λ i x. absurd (omega (arith, x)) })
     where
       unlisted : isListed (h .lists) (k + 1) ≡ false

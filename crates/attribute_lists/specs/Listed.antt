@@ -11,6 +11,7 @@ use Rattle.rules.specs.Attributes.{Attribute, AttList}
 use Rattle.rules.specs.TypeFile.{listFrom, isListed, Listed, Declarations, attributesOf}
 use Rattle.rules.specs.TypeFile as rules
 use Rattle.rules.specs.Elements.{elementAt}
+use Rattle.rules.specs.Bytes.{elementLimit}
 use Rattle.text.specs.declared.Fault.{Fault}
 use Rattle.text.specs.declared.Reached.{Reached}
 use Rattle.text.specs.declared.Reached.the-variants as reached
@@ -28,8 +29,8 @@ pub record HeadRead (long : ℕ) (s : List ℕ) (from : ℕ) (ls : List AttList)
   pub read : listFrom long s from ≡ got (record { attributes = attributesOf ls (k + 1); at = after })
 
 pub record Headed (long : ℕ) (s heads : List ℕ) (ls : List AttList) : Type 0 where
-  pub has : (k : ℕ) → k < 64 → isListed ls (k + 1) ≡ not (eqb (getD heads k 0) 0)
-  pub reads : (k : ℕ) → k < 64 → (getD heads k 0 ≡ 0 → ⊥) → HeadRead long s (getD heads k 0) ls k
+  pub has : (k : ℕ) → k < elementLimit → isListed ls (k + 1) ≡ not (eqb (getD heads k 0) 0)
+  pub reads : (k : ℕ) → k < elementLimit → (getD heads k 0 ≡ 0 → ⊥) → HeadRead long s (getD heads k 0) ls k
 
 -- The elements es have the attributes of the lists at these heads.
 pub record HeadedAs (long : ℕ) (s heads : List ℕ) (es : List rules.Element) : Type 0 where

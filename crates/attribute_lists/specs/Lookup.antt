@@ -9,21 +9,22 @@ use native.Mathlib.Omega.{arith}
 use lib.ListN.{length, getD, drop}
 use lib.Dec.{eqb}
 use borrow.Author.Tests.{eq-eqb, ne-eqb, lt-ltb, le-ltb, le-leb, lt-leb}
-use Rattle.rules.specs.Bytes.{byteAt, letter, nameEnd, sameText}
+use Rattle.rules.specs.Bytes.{byteAt, letter, nameEnd, sameText, GRPO, elementLimit}
 use Rattle.rules.specs.Reading.{refused, got}
 use Rattle.rules.specs.Attributes.{AttList}
 use Rattle.rules.specs.TypeFile.{sameName, unfit, declaredFrom, isListed, listedElement}
 use Rattle.rules.specs.TypeFile as rules
+use Rattle.rules.specs.Judge.{recordWidth}
 use Rattle.element_names.specs.Names.{Recorded, nameAt}
 use Rattle.element_names.specs.Records.{RecordAt, recorded-at}
 use Rattle.attribute_lists.specs.Listed.{Headed, anyIn}
 
 -- A name of the table and another, by what is read of it.
-module _ (s elements : List ℕ) (k at size m : ℕ) (sized : m ≡ getD elements (6 * k + 1) 0) where
+module _ (s elements : List ℕ) (k at size m : ℕ) (sized : m ≡ getD elements (recordWidth * k + 1) 0) where
   pub other-size : (m ≡ size → ⊥) → false ≡ sameName s (nameAt elements k .at) (nameAt elements k .size) at size
   other-size ne = rw (sameName, ← sized, ne-eqb m size ne)
 
-  pub same-size : m ≡ size → (a : ℕ) → a ≡ getD elements (6 * k) 0 → {r : Bool} → r ≡ sameText s a s at size → r ≡ sameName s (nameAt elements k .at) (nameAt elements k .size) at size
+  pub same-size : m ≡ size → (a : ℕ) → a ≡ getD elements (recordWidth * k) 0 → {r : Bool} → r ≡ sameText s a s at size → r ≡ sameName s (nameAt elements k .at) (nameAt elements k .size) at size
   same-size e a h q = rw (sameName, ← sized, eq-eqb m size e, ← h) q
 
 -- What is still to be looked through gives the answer.
@@ -68,18 +69,18 @@ module _ (s elements : List ℕ) (at size : ℕ) (es : List rules.Element) where
 
 -- The element of a list, by the tests that the code makes.
 
-pub listed-head : (long : ℕ) (s heads : List ℕ) (ls : List AttList) (k : ℕ) → Headed long s heads ls → 1 ≤ k → k ≤ 64 → isListed ls k ≡ not (eqb (getD heads (k - 1) 0) 0)
+pub listed-head : (long : ℕ) (s heads : List ℕ) (ls : List AttList) (k : ℕ) → Headed long s heads ls → 1 ≤ k → k ≤ elementLimit → isListed ls k ≡ not (eqb (getD heads (k - 1) 0) 0)
 listed-head long s heads ls k h l m =
     let e : k - 1 + 1 ≡ k = omega (arith, l) in
     ap (isListed ls) (sym e) ∙ h .has (k - 1) (omega (arith, l, m))
 
 module _ (long : ℕ) (s : List ℕ) (es : List rules.Element) (ls : List AttList) (i : ℕ) where
   module _ (l : letter (byteAt s i) ≡ false) where
-    pub listed-group : byteAt s i ≡ 40 → refused 5 i ≡ listedElement long s es ls i
+    pub listed-group : byteAt s i ≡ GRPO → refused 5 i ≡ listedElement long s es ls i
     unfolding listedElement
     listed-group b = rw (listedElement, l, eq-eqb _ _ b)
 
-    pub listed-unfit : (byteAt s i ≡ 40 → ⊥) → listedElement long s es ls i ≡ unfit s i
+    pub listed-unfit : (byteAt s i ≡ GRPO → ⊥) → listedElement long s es ls i ≡ unfit s i
     unfolding listedElement
     listed-unfit b = rw (listedElement, l, ne-eqb _ _ b)
 

@@ -4,6 +4,7 @@
 use layout::ELEMENTS;
 use layout::ElementNo;
 use layout::LIST;
+use layout::RECORD;
 use layout::RECORDS;
 use text::Fault;
 use text::Reached;
@@ -14,6 +15,7 @@ ghost use lib.ListN.{length, replicate};
 ghost use Rattle.rules.specs.Attributes.{AttList};
 ghost use Rattle.rules.specs.TypeFile.{sameName, declaredFrom, listedElement, attributeList, attributesOf};
 ghost use Rattle.rules.specs.TypeFile as rules;
+ghost use Rattle.rules.specs.Bytes.{elementLimit, typeLimit};
 ghost use Rattle.layout.specs.Sizes.{LIST, LISTS};
 ghost use Rattle.element_names.specs.Names.{Recorded, nameAt};
 ghost use Rattle.list_table.specs.Lists.{ListAt};
@@ -37,19 +39,19 @@ fn fault_of_listed(r: ListedRead) -> Fault
 
 // Whether the k-th element, from 0, has the name of this size at `at`, folded.
 fn is_same(s: &[u8], elements: &[u32; RECORDS], k: usize, at: usize, size: usize) -> bool
-    requires { ⌜ (k < 64) × (at < 4294967296) × (size < 4294967296) ⌝ }
+    requires { ⌜ (k < elementLimit) × (at < 4294967296) × (size < 4294967296) ⌝ }
     ensures { λ r. ⌜ r ≡ sameName (now (s .entry)) (nameAt (now (elements .entry)) k .at) (nameAt (now (elements .entry)) k .size) at size ⌝ }
 {
-    let m = numbers::widened(elements[6 * k + 1]);
+    let m = numbers::widened(elements[RECORD * k + 1]);
     if m != size {
         return false;
     }
-    words::same_text(s, numbers::widened(elements[6 * k]), s, at, size)
+    words::same_text(s, numbers::widened(elements[RECORD * k]), s, at, size)
 }
 
 // The number of the element with the name of this size at `at`, or 0.
 fn element_of(s: &[u8], elements: &[u32; RECORDS], count: usize, at: usize, size: usize) -> usize
-    requires { ⌜ (count ≤ 64) × (at < 4294967296) × (size < 4294967296) ⌝ }
+    requires { ⌜ (count ≤ elementLimit) × (at < 4294967296) × (size < 4294967296) ⌝ }
     ensures { λ r. ⌜ ((es : List rules.Element) → length es ≡ count → Recorded (now (elements .entry)) es → r ≡ declaredFrom 1 (now (s .entry)) es at size) × (r ≤ count) ⌝ }
 {
     let mut k = 0;
@@ -71,7 +73,7 @@ fn listed_at(
     count: usize,
     heads: &[u16; ELEMENTS],
 ) -> ListedRead
-    requires { ⌜ (i ≤ length (now s)) × (length (now s) ≤ 32768) × (count ≤ 64) ⌝ }
+    requires { ⌜ (i ≤ length (now s)) × (length (now s) ≤ typeLimit) × (count ≤ elementLimit) ⌝ }
     ensures { λ r. ⌜ ((es : List rules.Element) (ls : List AttList) → length es ≡ count → Recorded (now (elements .entry)) es → Headed long (now (s .entry)) (now (heads .entry)) ls →
         listedOf r ≡ listedElement long (now (s .entry)) es ls i) × ListedFits (length (now (s .entry))) i count (now (heads .entry)) r ⌝ }
 {
@@ -98,7 +100,7 @@ fn listed_at(
 
 // There is a head for each element.
 fn whole(heads: [u16; ELEMENTS])
-    ensures { λ _. ⌜ length heads ≡ 64 ⌝ }
+    ensures { λ _. ⌜ length heads ≡ elementLimit ⌝ }
 {}
 
 // An attribute definition list declaration whose keyword ends at `at`, after the elements recorded in `elements` and the lists in `heads`, and where it ends. Where it is
@@ -111,7 +113,7 @@ pub fn list_at(
     count: usize,
     heads: &mut [u16; ELEMENTS],
 ) -> Reached
-    requires { ⌜ (3 ≤ at) × (at ≤ length (now s)) × (length (now s) ≤ 32768) × (count ≤ 64) ⌝ }
+    requires { ⌜ (3 ≤ at) × (at ≤ length (now s)) × (length (now s) ≤ typeLimit) × (count ≤ elementLimit) ⌝ }
     ensures { λ r. ⌜ ((es : List rules.Element) (ls : List AttList) → length es ≡ count → Recorded (now (elements .entry)) es → Headed long (now (s .entry)) (now (heads .entry)) ls →
         MeetsLists long (now (s .entry)) (now (heads .exit)) es r (attributeList long (now (s .entry)) at es ls)) × ListIn (length (now (s .entry))) at r ⌝ }
 {
@@ -136,7 +138,7 @@ pub fn list_at(
 
 // Whether one of the first n elements has a list.
 pub fn has_any(heads: &[u16; ELEMENTS], n: usize) -> bool
-    requires { ⌜ n ≤ 64 ⌝ }
+    requires { ⌜ n ≤ elementLimit ⌝ }
     ensures { λ r. ⌜ r ≡ anyIn (now (heads .entry)) n ⌝ }
 {
     let mut k = 0;
@@ -151,7 +153,7 @@ pub fn has_any(heads: &[u16; ELEMENTS], n: usize) -> bool
 
 // Puts the list of the k-th element, from 0, whose head is `from`, into the table. A head that is no place behind a keyword is no type's.
 fn read_again(long: usize, s: &[u8], from: usize, k: usize, lists: &mut [u16])
-    requires { ⌜ (k < 64) × (length (now s) ≤ 32768) × (length (now lists) ≡ LISTS) ⌝ }
+    requires { ⌜ (k < elementLimit) × (length (now s) ≤ typeLimit) × (length (now lists) ≡ LISTS) ⌝ }
     ensures { λ _. ⌜ Again long (now (s .entry)) from k (now (lists .entry)) (now (lists .exit)) ⌝ }
 {
     if from < 3 {
@@ -170,7 +172,7 @@ fn read_again(long: usize, s: &[u8], from: usize, k: usize, lists: &mut [u16])
 
 // Fills the table, which is all 0, with the lists of a type of n elements, each read again from its head on.
 pub fn fill(long: usize, s: &[u8], heads: &[u16; ELEMENTS], n: usize, lists: &mut [u16])
-    requires { ⌜ (n ≤ 64) × (length (now s) ≤ 32768) × (now lists ≡ replicate LISTS 0) ⌝ }
+    requires { ⌜ (n ≤ elementLimit) × (length (now s) ≤ typeLimit) × (now lists ≡ replicate LISTS 0) ⌝ }
     ensures { λ _. ⌜ ((ls : List AttList) → Headed long (now (s .entry)) (now (heads .entry)) ls → (k : ℕ) → k < n → ListAt long (now (s .entry)) (now (lists .exit)) (LIST * k) (attributesOf ls (k + 1))) ⌝ }
 {
     let mut k = 0;

@@ -12,7 +12,7 @@ ghost use mathlib.Core.Bool.{true, false};
 ghost use mathlib.Core.List.{List};
 ghost use Prim.Native.Nat.{ℕ, _+_, _*_, _-_, _≤_, _<_};
 ghost use lib.ListN.{length, getD};
-ghost use Rattle.rules.specs.Bytes.{ATTCNT};
+ghost use Rattle.rules.specs.Bytes.{ATTCNT, documentLimit, elementLimit, typeLimit};
 ghost use Rattle.rules.specs.Reading.{refused, got};
 ghost use Rattle.rules.specs.Attributes.{Attribute};
 ghost use Rattle.rules.specs.Document as rules;
@@ -52,7 +52,7 @@ fn mark(
     w: Written,
     marks: &mut [u16; MARKS],
 ) -> u32
-    requires { ⌜ (1 ≤ e .0) × (e .0 ≤ 64) × (length (now s) ≤ 32768) × (length (now d) ≤ 65535) × WrittenIn (length (now d)) w ⌝ }
+    requires { ⌜ (1 ≤ e .0) × (e .0 ≤ elementLimit) × (length (now s) ≤ typeLimit) × (length (now d) ≤ documentLimit) × WrittenIn (length (now d)) w ⌝ }
     ensures { λ r. ⌜ ((xs : List Attribute) (before : List rules.Written) → ListAt long (now (s .entry)) (now (lists .entry)) (LIST * (e .0 - 1)) xs → NamesDiffer (now (s .entry)) xs → Marked (now (s .entry)) xs (now (d .entry)) before (now (marks .entry)) →
         Marks long (now (s .entry)) xs (now (d .entry)) before (writtenAs w) (now (marks .exit)) r) ⌝ }
 {
@@ -89,7 +89,7 @@ fn marked(
     n: usize,
     marks: &mut [u16; MARKS],
 ) -> Fault
-    requires { ⌜ (1 ≤ e .0) × (e .0 ≤ 64) × (n ≤ ATTCNT + 1) × GivenIn (length (now d)) (now given) n × (length (now s) ≤ 32768) × (length (now d) ≤ 65535) ⌝ }
+    requires { ⌜ (1 ≤ e .0) × (e .0 ≤ elementLimit) × (n ≤ ATTCNT + 1) × GivenIn (length (now d)) (now given) n × (length (now s) ≤ typeLimit) × (length (now d) ≤ documentLimit) ⌝ }
     ensures { λ r. ⌜ ((xs : List Attribute) → ListAt long (now (s .entry)) (now (lists .entry)) (LIST * (e .0 - 1)) xs → NamesDiffer (now (s .entry)) xs → ((k : ℕ) → k < length xs → getD (now (marks .entry)) (2 * k) 0 ≡ 0) →
         Given long (now (s .entry)) xs (now (d .entry)) (keptOf (now (given .entry)) n) (now (marks .exit)) r) ⌝ }
 {
@@ -122,7 +122,7 @@ fn marked(
 
 // Whether an attribute of the element e is required and not marked.
 fn is_missing(lists: &[u16], e: ElementNo, n: usize, marks: &[u16; MARKS]) -> bool
-    requires { ⌜ (1 ≤ e .0) × (e .0 ≤ 64) × (n ≤ ATTCNT) ⌝ }
+    requires { ⌜ (1 ≤ e .0) × (e .0 ≤ elementLimit) × (n ≤ ATTCNT) ⌝ }
     ensures { λ r. ⌜ ((long : ℕ) (s d : List ℕ) (xs : List Attribute) (ws : List rules.Written) → ListAt long s (now (lists .entry)) (LIST * (e .0 - 1)) xs → n ≡ length xs → Marked s xs d ws (now (marks .entry)) →
         (at : ℕ) → noneMissing s xs d at ws ≡ elim r [ true ↦ refused 21 at | false ↦ got tt ]) ⌝ }
 {
@@ -151,7 +151,7 @@ pub fn check(
     at: usize,
     marks: &mut [u16; MARKS],
 ) -> Fault
-    requires { ⌜ (1 ≤ e .0) × (e .0 ≤ 64) × (g ≤ ATTCNT + 1) × GivenIn (length (now d)) (now given) g × (length (now s) ≤ 32768) × (length (now d) ≤ 65535) ⌝ }
+    requires { ⌜ (1 ≤ e .0) × (e .0 ≤ elementLimit) × (g ≤ ATTCNT + 1) × GivenIn (length (now d)) (now given) g × (length (now s) ≤ typeLimit) × (length (now d) ≤ documentLimit) ⌝ }
     ensures { λ r. ⌜ ((xs : List Attribute) (ws : List rules.Written) → ListAt long (now (s .entry)) (now (lists .entry)) (LIST * (e .0 - 1)) xs → NamesDiffer (now (s .entry)) xs → KeptAs (now (given .entry)) g ws →
         Attributed (now (s .entry)) xs (now (d .entry)) ws (now (marks .exit)) r (attributed long (now (s .entry)) xs (now (d .entry)) at ws)) ⌝ }
 {

@@ -12,9 +12,10 @@ use type_judge::Verdict;
 ghost use mathlib.Core.Path.{_≡_};
 ghost use Prim.Native.Nat.{_+_, _*_, _-_, _≤_, _<_};
 ghost use lib.ListN.{length};
-ghost use Rattle.rules.specs.Bytes.{ATTCNT, elementLimit};
+ghost use Rattle.rules.specs.Bytes.{ATTCNT, elementLimit, typeLimit};
 ghost use Rattle.rules.specs.Lent.{numbers, bytes, bytesOf};
 ghost use Rattle.rules.specs.Listing.{attributeWidth, Lists};
+ghost use Rattle.layout.specs.Sizes.{ATTRIBUTE-RECORDS};
 ghost use Rattle.inputs.specs.Checks.{settingsOf};
 ghost use Rattle.numbers.specs.Written.{written};
 ghost use Rattle.list_table.specs.Lists.{Short};
@@ -39,7 +40,7 @@ fn detail(x: usize, m: usize, y: usize) -> u32
 
 // The nine numbers of the attribute a of the element e.
 fn row_numbers(e: usize, a: usize, r: Row) -> [u32; ATTRIBUTE_RECORD]
-    requires { ⌜ (e ≤ 64) × (a ≤ ATTCNT) × Short r ⌝ }
+    requires { ⌜ (e ≤ elementLimit) × (a ≤ ATTCNT) × Short r ⌝ }
     ensures { λ x. ⌜ x ≡ rowNumbers e a r ⌝ }
 {
     [
@@ -67,7 +68,7 @@ fn note_numbers(buffer: &mut [u32], i: usize, row: &[u32])
 
 // The same as four bytes each, low byte first, from the i-th byte on.
 fn note_bytes(buffer: &mut [u8], i: usize, row: &[u32])
-    requires { ⌜ (i < 262144) × (length (now row) ≡ attributeWidth) ⌝ }
+    requires { ⌜ (i < 4 * ATTRIBUTE-RECORDS) × (length (now row) ≡ attributeWidth) ⌝ }
     ensures { λ _. ⌜ now (buffer .exit) ≡ written (now (buffer .entry)) i (bytesOf (now (row .entry))) ⌝ }
 {
     if i + NUMBER * ATTRIBUTE_RECORD <= buffer.len() {
@@ -77,7 +78,7 @@ fn note_bytes(buffer: &mut [u8], i: usize, row: &[u32])
 
 // The record of the attribute a of the element e, behind n records, to each buffer that it fits. What a buffer holds that is too small for all records is not decided.
 fn put_record(numbers: &mut [u32], bytes: &mut [u8], n: usize, e: usize, a: usize, r: Row)
-    requires { ⌜ (n < ATTCNT * elementLimit) × (e ≤ 64) × (a ≤ ATTCNT) × Short r ⌝ }
+    requires { ⌜ (n < ATTCNT * elementLimit) × (e ≤ elementLimit) × (a ≤ ATTCNT) × Short r ⌝ }
     ensures { λ _. ⌜ Puts (now (numbers .entry)) (now (bytes .entry)) n (rowNumbers e a r) (now (numbers .exit)) (now (bytes .exit)) ⌝ }
 {
     let row = row_numbers(e, a, r);
@@ -88,7 +89,7 @@ fn put_record(numbers: &mut [u32], bytes: &mut [u8], n: usize, e: usize, a: usiz
 
 // The records of the attributes of the element e, behind n records; how many there are then.
 fn put_list(lists: &[u16], e: usize, n: usize, numbers: &mut [u32], bytes: &mut [u8]) -> usize
-    requires { ⌜ (1 ≤ e) × (e ≤ 64) × (n ≤ ATTCNT * (elementLimit - 1)) ⌝ }
+    requires { ⌜ (1 ≤ e) × (e ≤ elementLimit) × (n ≤ ATTCNT * (elementLimit - 1)) ⌝ }
     ensures { λ r. ⌜ PutsList (now (lists .entry)) e (now (numbers .entry)) (now (bytes .entry)) n (now (numbers .exit)) (now (bytes .exit)) r × (r ≤ n + ATTCNT) ⌝ }
 {
     let count = list_table::count(lists, ElementNo(e));
@@ -103,7 +104,7 @@ fn put_list(lists: &[u16], e: usize, n: usize, numbers: &mut [u32], bytes: &mut 
 
 // The records of all attributes of the first n elements; how many there are.
 fn put_lists(lists: &[u16], n: usize, numbers: &mut [u32], bytes: &mut [u8]) -> usize
-    requires { ⌜ n ≤ 64 ⌝ }
+    requires { ⌜ n ≤ elementLimit ⌝ }
     ensures { λ r. ⌜ PutsLists (now (lists .entry)) n (now (numbers .entry)) (now (bytes .entry)) (now (numbers .exit)) (now (bytes .exit)) r × (r ≤ ATTCNT * elementLimit) ⌝ }
 {
     let mut m = 0;
@@ -125,7 +126,7 @@ fn listed(
     numbers: &mut [u32],
     bytes: &mut [u8],
 ) -> Verdict
-    requires { ⌜ (n ≤ 64) × (length (now s) ≤ 32768) ⌝ }
+    requires { ⌜ (n ≤ elementLimit) × (length (now s) ≤ typeLimit) ⌝ }
     ensures { λ r. ⌜ ListsUnder long (now (s .entry)) (now (heads .entry)) n room (now (numbers .entry)) (now (bytes .entry)) (now (numbers .exit)) (now (bytes .exit)) r ⌝ }
 {
     let mut lists = [0u16; LISTS];

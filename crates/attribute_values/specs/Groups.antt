@@ -8,7 +8,7 @@ use native.Mathlib.Omega.{arith}
 use lib.ListN.{length, drop}
 use lib.Dec.{eqb, leb, ltb}
 use borrow.Author.Tests.{eqb-true, ltb-true, ltb-false}
-use Rattle.rules.specs.Bytes.{byteAt, nameByte, nameEnd, separatorsEnd, sameText, GRPCNT}
+use Rattle.rules.specs.Bytes.{byteAt, nameByte, nameEnd, separatorsEnd, sameText, GRPCNT, GRPC, PERO}
 use Rattle.rules.specs.Reading.{Reading, got, refused}
 use Rattle.rules.specs.Attributes.{Part, DeclaredValue, cdata, number, name, isOneOf, fits}
 use Rattle.rules.specs.TypeFile.{isToken, groupToken, TokensEnd, isTokenConnector, groupTokens, tokenGroup}
@@ -65,7 +65,7 @@ module _ (long : ℕ) (s : List ℕ) (seen : List Part) where
       (λ x. either (ltb long (e - i)) (λ y. stops tt)
       (λ y. either (leb GRPCNT (length ps)) (λ z. stops tt)
       (λ z. either (isToken s (seen ++ ps) i (e - i)) (λ u. stops tt) (λ u. reads (ltb-true i e x, refl)))))
-      (λ x. either (eqb (byteAt s i) 37) (λ y. stops tt) (λ y. stops tt))
+      (λ x. either (eqb (byteAt s i) PERO) (λ y. stops tt) (λ y. stops tt))
 
   -- What one turn gives: the group ends behind the token at i, or goes on behind a connector.
   data Step (left : ℕ) (ps : List Part) (i : ℕ) (t : TokensEnd) : Type 0 where
@@ -78,9 +78,9 @@ module _ (long : ℕ) (s : List ℕ) (seen : List Part) where
   turn left connector ps p n =
       let j = separatorsEnd s n in
       let b = byteAt s j in
-      elim (eqb b 41) [
+      elim (eqb b GRPC) [
         | true ↦ got (record { tokens = ps ++ p ∷ []; at = j + 1 })
-        | false ↦ elim (eqb b 37) [
+        | false ↦ elim (eqb b PERO) [
           | true ↦ refused 5 j
           | false ↦ elim (isTokenConnector b && (eqb connector 0 || eqb connector b)) [
             | true ↦ groupTokens long s seen left b (ps ++ p ∷ []) (j + 1)
@@ -93,8 +93,8 @@ module _ (long : ℕ) (s : List ℕ) (seen : List Part) where
   turn-known left connector ps i h =
       let j = separatorsEnd s (nameEnd s i) in
       let b = byteAt s j in
-      either (eqb b 41) (λ x. reads (closes h (ap isTokenConnector (eqb-true b 41 x)) refl))
-      (λ x. either (eqb b 37) (λ y. stops tt)
+      either (eqb b GRPC) (λ x. reads (closes h (ap isTokenConnector (eqb-true b GRPC x)) refl))
+      (λ x. either (eqb b PERO) (λ y. stops tt)
       (λ y. either (isTokenConnector b && (eqb connector 0 || eqb connector b))
       (λ z.
       so (whatever (groupTokens long s seen left b (ps ++ tokenAt i ∷ []) (j + 1))) (λ n k e. tt)

@@ -7,7 +7,7 @@ ghost use mathlib.Core.List.{List};
 ghost use Prim.Native.Nat.{ℕ, _+_, _-_, _≤_, _<_};
 ghost use lib.ListN.{length};
 ghost use lib.Dec.{eqb};
-ghost use Rattle.rules.specs.Bytes.{digit};
+ghost use Rattle.rules.specs.Bytes.{digit, RE, RS, TAB, typeLimit};
 ghost use Rattle.rules.specs.Attributes.{Part, DeclaredValue, cdata, number, name, isOneOf};
 ghost use Rattle.rules.specs.Attributes as rules;
 ghost use Rattle.rules.specs.Given.{valueBytes};
@@ -40,15 +40,15 @@ pub fn value<'a>(s: &'a [u8], d: &'a [u8], is_written: bool, at: usize, size: us
 
 // Whether it is byte 9, 10 or 13.
 fn is_break(b: u8) -> bool
-    ensures { λ r. ⌜ r ≡ (eqb b 9 || (eqb b 10 || eqb b 13)) ⌝ }
+    ensures { λ r. ⌜ r ≡ (eqb b TAB || (eqb b RS || eqb b RE)) ⌝ }
 {
-    if b == 9 {
+    if b == b'\t' {
         return true;
     }
-    if b == 10 {
+    if b == b'\n' {
         return true;
     }
-    b == 13
+    b == b'\r'
 }
 
 // Whether no byte 9, 10 or 13 is in it.
@@ -68,10 +68,10 @@ fn is_cdata(v: &[u8]) -> bool
 fn is_digit(b: u8) -> bool
     ensures { λ r. ⌜ r ≡ digit b ⌝ }
 {
-    if b < 48 {
+    if b < b'0' {
         return false;
     }
-    b <= 57
+    b <= b'9'
 }
 
 // Whether it is 1 to `long` digits.
@@ -133,7 +133,7 @@ fn is_token(s: &[u8], i: usize, e: usize, v: &[u8]) -> bool
 
 // Whether it is one of the tokens of the group whose "(" stands at `at`, folded. Where no group stands there the answer is not decided.
 fn is_in_group(s: &[u8], at: usize, v: &[u8]) -> bool
-    requires { ⌜ length (now s) ≤ 32768 ⌝ }
+    requires { ⌜ length (now s) ≤ typeLimit ⌝ }
     ensures { λ r. ⌜ ((long : ℕ) (ps : List Part) → GroupAt long (now (s .entry)) at ps → r ≡ isOneOf (now (s .entry)) ps (now (v .entry))) ⌝ }
 {
     if s.len() <= at {
@@ -155,7 +155,7 @@ fn is_in_group(s: &[u8], at: usize, v: &[u8]) -> bool
 
 // Whether the value fits the declared value x of the type file s. Where that is none's the answer is not decided.
 pub fn fits(long: usize, s: &[u8], x: usize, v: &[u8]) -> bool
-    requires { ⌜ length (now s) ≤ 32768 ⌝ }
+    requires { ⌜ length (now s) ≤ typeLimit ⌝ }
     ensures { λ r. ⌜ ((y : DeclaredValue) → DeclaredAs long (now (s .entry)) x y → r ≡ rules.fits long (now (s .entry)) y (now (v .entry))) ⌝ }
 {
     if x == 0 {

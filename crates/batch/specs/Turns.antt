@@ -13,7 +13,7 @@ use Rattle.rules.specs.Settings.{Settings}
 use Rattle.rules.specs.Lent.{Lent, filledWith}
 use Rattle.rules.specs.Judge.{Answer}
 use Rattle.rules.specs.Calls.{answerNumbers}
-use Rattle.rules.specs.Batch.{Batch, answerWidth, stretch, InStretch, Has, Equal, Unfit, PartAs, AllRead}
+use Rattle.rules.specs.Batch.{Batch, answerWidth, stretch, InStretch, Has, Equal, Unfit, PartAs, AllRead, batchLimit}
 
 -- How long a stretch is that ends within.
 pub stretch-length : (from size : ℕ) (l : List ℕ) → from + size ≤ length l → length (stretch from size l) ≡ size
@@ -79,10 +79,10 @@ module _ (l part : List ℕ) (from size : ℕ) (within : from + size ≤ length 
           rw e (behind-at (k - from - size))
 
 -- The six numbers of an answer, put at the start of a stretch of six.
-pub six-put : (l six part : List ℕ) (x : Answer) (k : ℕ) → k + 6 ≤ length l → six ≡ answerNumbers x → part ≡ filledWith (take 6 six) (take (k + 6 - k) (drop k l)) → take k l ++ (part ++ drop (k + 6 - k) (drop k l)) ≡ replaced l (answerNumbers x) k 6
+pub six-put : (l six part : List ℕ) (x : Answer) (k : ℕ) → k + answerWidth ≤ length l → six ≡ answerNumbers x → part ≡ filledWith (take answerWidth six) (take (k + answerWidth - k) (drop k l)) → take k l ++ (part ++ drop (k + answerWidth - k) (drop k l)) ≡ replaced l (answerNumbers x) k answerWidth
 six-put l six part x k h e p =
-    let whole : k + 6 - k ≡ 6 = omega arith in
-    let none : drop 6 (take 6 (drop k l)) ≡ [] = drop-of-length-le (take 6 (drop k l)) {i = 6} (omega (arith, stretch-length k 6 l h)) in
+    let whole : k + answerWidth - k ≡ answerWidth = omega arith in
+    let none : drop answerWidth (take answerWidth (drop k l)) ≡ [] = drop-of-length-le (take answerWidth (drop k l)) {i = answerWidth} (omega (arith, stretch-length k answerWidth l h)) in
     rw (p, whole, e, none)
 
 -- What is known of the first n documents of a batch: each is answered in its own stretch, and the rest of the buffer is as it was.
@@ -90,7 +90,7 @@ pub record Done (l : Lent) (c : Settings) (s string : List ℕ) (b : Batch) (bef
   pub few : n ≤ length (b .starts)
   pub same : length now ≡ length before
   pub answers-same : length answers ≡ length given
-  pub each : (i : ℕ) → i < n → (x : Answer) × (stretch (6 * i) 6 answers ≡ answerNumbers x)
+  pub each : (i : ℕ) → i < n → (x : Answer) × (stretch (answerWidth * i) answerWidth answers ≡ answerNumbers x)
       × PartAs l c s string (getD (b .starts) i 0) (getD (b .lengths) i 0) (stretch (getD (b .froms) i 0) (getD (b .sizes) i 0) before) x (stretch (getD (b .froms) i 0) (getD (b .sizes) i 0) now)
   pub rest : (k : ℕ) → ((i : ℕ) → i < n → Has b i k → ⊥) → getD now k 0 ≡ getD before k 0
 
@@ -109,10 +109,10 @@ done-all d e g = record { each = λ i h. d .each i (omega arith); rest = λ k h.
 
 -- The lists are fit: what that says of them, and of each document.
 module _ (b : Batch) (answers room : ℕ) (fit : Unfit b answers room → ⊥) where
-  pub fit-few : length (b .starts) ≤ 200
-  fit-few = by-test (leb (length (b .starts)) 200) refl
+  pub fit-few : length (b .starts) ≤ batchLimit
+  fit-few = by-test (leb (length (b .starts)) batchLimit) refl
     where
-      by-test : (t : Bool) → leb (length (b .starts)) 200 ≡ t → length (b .starts) ≤ 200
+      by-test : (t : Bool) → leb (length (b .starts)) batchLimit ≡ t → length (b .starts) ≤ batchLimit
       by-test true e = leb-true _ _ e
       by-test false e = absurd (fit (Unfit.tooMany (leb-false _ _ e)))
 
@@ -162,29 +162,29 @@ module _ (l : Lent) (c : Settings) (s string : List ℕ) (b : Batch) (before giv
       d .rest k λ i z x. fit-apart b (length given) (length before) fit i n k z more x h
 
   module _ (x : Answer) (part : List ℕ) (whole : length part ≡ size) (read : PartAs l c s string (getD (b .starts) n 0) (getD (b .lengths) n 0) (stretch from size now) x part)
-      (room : 6 * n + 6 ≤ length answers) where
+      (room : answerWidth * n + answerWidth ≤ length answers) where
     abbrev next : List ℕ
     next = changed now part from size ends whole
 
     abbrev put : List ℕ
-    put = changed answers (answerNumbers x) (6 * n) 6 room refl
+    put = changed answers (answerNumbers x) (answerWidth * n) answerWidth room refl
 
-    each-next : (i : ℕ) → i < n + 1 → (y : Answer) × (stretch (6 * i) 6 put ≡ answerNumbers y)
+    each-next : (i : ℕ) → i < n + 1 → (y : Answer) × (stretch (answerWidth * i) answerWidth put ≡ answerNumbers y)
         × PartAs l c s string (getD (b .starts) i 0) (getD (b .lengths) i 0) (stretch (getD (b .froms) i 0) (getD (b .sizes) i 0) before) y (stretch (getD (b .froms) i 0) (getD (b .sizes) i 0) next)
     each-next i h = by-place (ℕ-discrete i n)
       where
-        by-place : Dec (i ≡ n) → (y : Answer) × (stretch (6 * i) 6 put ≡ answerNumbers y)
+        by-place : Dec (i ≡ n) → (y : Answer) × (stretch (answerWidth * i) answerWidth put ≡ answerNumbers y)
             × PartAs l c s string (getD (b .starts) i 0) (getD (b .lengths) i 0) (stretch (getD (b .froms) i 0) (getD (b .sizes) i 0) before) y (stretch (getD (b .froms) i 0) (getD (b .sizes) i 0) next)
         by-place (yes z) =
-            rw z (x, changed-inside answers (answerNumbers x) (6 * n) 6 room refl, rw (← done-stretch, changed-inside now part from size ends whole) read)
+            rw z (x, changed-inside answers (answerNumbers x) (answerWidth * n) answerWidth room refl, rw (← done-stretch, changed-inside now part from size ends whole) read)
         by-place (no z) =
             let lower : i < n = omega arith in
             let (y, e, p) = d .each i lower in
             let mine = fit-within b (length given) (length before) fit i (omega arith) in
             let kept = stretch-same (getD (b .froms) i 0) (getD (b .sizes) i 0) now next (omega (arith, mine, d .same)) (changed-length now part from size ends whole)
             (λ k w. changed-outside now part from size ends whole k (λ v. fit-apart b (length given) (length before) fit i n k lower more w v)) in
-            let told = stretch-same (6 * i) 6 answers put (omega arith) (changed-length answers (answerNumbers x) (6 * n) 6 room refl)
-            (λ k w. changed-outside answers (answerNumbers x) (6 * n) 6 room refl k (λ v. omega (arith, w .1, v .0))) in
+            let told = stretch-same (answerWidth * i) answerWidth answers put (omega arith) (changed-length answers (answerNumbers x) (answerWidth * n) answerWidth room refl)
+            (λ k w. changed-outside answers (answerNumbers x) (answerWidth * n) answerWidth room refl k (λ v. omega (arith, w .1, v .0))) in
             (y, told ∙ e, rw kept p)
 
     pub done-turn : Done l c s string b before given (n + 1) next put
@@ -192,7 +192,7 @@ module _ (l : Lent) (c : Settings) (s string : List ℕ) (b : Batch) (before giv
         record {
           few = omega arith;
           same = changed-length now part from size ends whole ∙ d .same;
-          answers-same = changed-length answers (answerNumbers x) (6 * n) 6 room refl ∙ d .answers-same;
+          answers-same = changed-length answers (answerNumbers x) (answerWidth * n) answerWidth room refl ∙ d .answers-same;
           each = each-next;
           rest = λ k h.
               changed-outside now part from size ends whole k (h n (omega arith)) ∙ d .rest k (λ i z. h i (omega arith));
@@ -200,7 +200,7 @@ module _ (l : Lent) (c : Settings) (s string : List ℕ) (b : Batch) (before giv
 
   -- The same as the code has it: the stretch is what lies between its start and its end, and keeps its length.
   pub done-again : (m : ℕ) (x : Answer) (part put : List ℕ) → m ≡ size → length part ≡ length (take m (drop from now))
-      → PartAs l c s string (getD (b .starts) n 0) (getD (b .lengths) n 0) (take m (drop from now)) x part → 6 * n + 6 ≤ length answers → put ≡ replaced answers (answerNumbers x) (6 * n) 6
+      → PartAs l c s string (getD (b .starts) n 0) (getD (b .lengths) n 0) (take m (drop from now)) x part → answerWidth * n + answerWidth ≤ length answers → put ≡ replaced answers (answerNumbers x) (answerWidth * n) answerWidth
       → Done l c s string b before given (n + 1) (take from now ++ (part ++ drop m (drop from now))) put
   done-again m x part put e w p room a =
       rw (a, e) (done-turn x part (rw e at w ∙ stretch-length from size now ends) (rw e at p) room)

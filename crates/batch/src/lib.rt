@@ -3,6 +3,7 @@
 use document_events::Counted;
 use document_reader::Answer;
 use inputs::Settings;
+use layout::ANSWER;
 use layout::ELEMENTS;
 use layout::FACTS;
 use layout::INDEX;
@@ -21,7 +22,7 @@ ghost use lib.ListN.{length};
 ghost use Rattle.rules.specs.Lent.{Lent};
 ghost use Rattle.rules.specs.Settings.{settings};
 ghost use Rattle.rules.specs.Settings as rules;
-ghost use Rattle.rules.specs.Batch.{PartAs, Unfit, AllRead, Batched};
+ghost use Rattle.rules.specs.Batch.{PartAs, Unfit, AllRead, Batched, answerWidth, batchLimit};
 ghost use Rattle.rules.specs.Calls.{answerNumbers};
 ghost use Rattle.inputs.specs.Checks.{settingsOf};
 ghost use Rattle.stretches.specs.Fit.{batchOf};
@@ -137,13 +138,13 @@ fn read_part(
 
 // The six numbers of the answer to the i-th document.
 fn put_answer(answers: &mut [u32], i: usize, a: Answer)
-    requires { ⌜ AnswerFits a × (i < 200) × (6 * i + 6 ≤ length (now answers)) ⌝ }
-    ensures { λ _. ⌜ now (answers .exit) ≡ replaced (now (answers .entry)) (answerNumbers (answerOf a)) (6 * i) 6 ⌝ }
+    requires { ⌜ AnswerFits a × (i < batchLimit) × (answerWidth * i + answerWidth ≤ length (now answers)) ⌝ }
+    ensures { λ _. ⌜ now (answers .exit) ≡ replaced (now (answers .entry)) (answerNumbers (answerOf a)) (answerWidth * i) answerWidth ⌝ }
 {
     let six = answer_numbers::numbers_read(a);
-    let k = 6 * i;
-    let e = k + 6;
-    numbers::put_numbers(&mut answers[k..e], &six, 6);
+    let k = ANSWER * i;
+    let e = k + ANSWER;
+    numbers::put_numbers(&mut answers[k..e], &six, ANSWER);
 }
 
 // All documents in turn, by lists that are fit.

@@ -7,6 +7,7 @@ use member_bits::Bits;
 ghost use mathlib.Core.Path.{_≡_};
 ghost use Prim.Native.Nat.{_≤_};
 ghost use lib.ListN.{length};
+ghost use Rattle.rules.specs.Bytes.{TAGLVL};
 ghost use Rattle.layout.specs.Sizes.{BEGUN};
 ghost use Rattle.member_laws.specs.Members.{begunAt};
 ghost use Rattle.member_bits.specs.Having.{Has};
@@ -19,7 +20,7 @@ fn whole(begun: [u32; BEGUN])
 
 // The members of the level that have begun.
 pub fn begun_at(begun: &[u32; BEGUN], level: usize) -> Bits
-    requires { ⌜ level ≤ 24 ⌝ }
+    requires { ⌜ level ≤ TAGLVL ⌝ }
     ensures { λ r. ⌜ Has r (begunAt (now (begun .entry)) level) ⌝ }
 {
     let i = level * BEGUN_WORDS;
@@ -34,7 +35,7 @@ pub fn begun_at(begun: &[u32; BEGUN], level: usize) -> Bits
 
 // The members b of the level have begun, and no others.
 pub fn put(begun: &mut [u32; BEGUN], level: usize, b: Bits)
-    requires { ⌜ level ≤ 24 ⌝ }
+    requires { ⌜ level ≤ TAGLVL ⌝ }
     ensures { λ _. ⌜ Puts level b (now (begun .entry)) (now (begun .exit)) ⌝ }
 {
     whole(*begun);

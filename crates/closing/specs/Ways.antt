@@ -11,6 +11,7 @@ use Rattle.rules.specs.Events.{Event, endWritten}
 use Rattle.rules.specs.Settling.{State, isOpen, closeFrom, endElement, endFrom, endDocument}
 use Rattle.rules.specs.Settling as rules
 use Rattle.rules_laws.specs.BeforeStarts.{plain-none, plain-then, plain-end-written}
+use Rattle.rules.specs.Bytes.{TAGLVL}
 use Rattle.document_laws.specs.Decide.{decided}
 use Rattle.type_tables.specs.Tables.{Facts}
 use Rattle.event_buffer.specs.Buffers.{noted, Puts}
@@ -39,7 +40,7 @@ tag-unopened facts x at after n o numbers bytes h i =
 -- An end tag of an open element, as the loop leaves it.
 pub record Sought (facts : List ℕ) (x at n : ℕ) (o : Open) (numbers bytes : List ℕ) (r : Outcome) (numbers′ bytes′ : List ℕ) : Type 0 where
   pub until : Until facts x at n o numbers bytes r numbers′ bytes′
-  pub few : o .count ≤ 24
+  pub few : o .count ≤ TAGLVL
   pub there : isOpen x (bare o) ≡ true
 
 pub sought : {facts : List ℕ} {x at n : ℕ} {o : Open} {numbers bytes : List ℕ} {r : Outcome} {numbers′ bytes′ : List ℕ} → Until facts x at n o numbers bytes r numbers′ bytes′ → Ranged o → isOpen x (bare o) ≡ true → Sought facts x at n o numbers bytes r numbers′ bytes′
@@ -49,7 +50,7 @@ module _ {facts : List ℕ} {x at : ℕ} (after : ℕ) {n : ℕ} {o : Open} {num
   abbrev events : List Event
   events = k .until .brings .events
 
-  fewer : length events ≤ 24
+  fewer : length events ≤ TAGLVL
   fewer = omega (arith, k .until .few, k .few)
 
   -- It goes on from there.
@@ -142,11 +143,11 @@ none-there (suc n) h = absurd (h (omega arith))
 abbrev Are : List Event → List Event → Type 0
 Are ev x = x ≡ ev
 
-module _ {facts : List ℕ} {at n : ℕ} {o : Open} {numbers bytes : List ℕ} {r : Outcome} {numbers′ bytes′ : List ℕ} (u : Until facts 0 at n o numbers bytes r numbers′ bytes′) (few : o .count ≤ 24) where
+module _ {facts : List ℕ} {at n : ℕ} {o : Open} {numbers bytes : List ℕ} {r : Outcome} {numbers′ bytes′ : List ℕ} (u : Until facts 0 at n o numbers bytes r numbers′ bytes′) (few : o .count ≤ TAGLVL) where
   abbrev put : List Event
   put = u .brings .events
 
-  fewest : length put ≤ 24
+  fewest : length put ≤ TAGLVL
   fewest = omega (arith, u .few)
 
   end-on : (s : List ℕ) (es : List Element) {M begun : List ℕ} (z : State) → Stands es M begun o z → endDocument s es (decided s es) at z ≡ andThen (inferredFrom s es (decided s es) 0 at z) (endOn s es (decided s es) at)

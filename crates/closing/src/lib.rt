@@ -10,6 +10,8 @@ use layout::Place;
 use open_elements::Open;
 use open_elements::Outcome;
 ghost use Prim.Native.Nat.{_+_, _≤_, _<_};
+ghost use Rattle.rules.specs.Bytes.{elementLimit};
+ghost use Rattle.layout.specs.Sizes.{TOKEN-EVENTS};
 ghost use Rattle.open_elements.specs.Stands.{Ranged};
 ghost use Rattle.closing.specs.Closed.{Tagged, Finished};
 
@@ -25,7 +27,7 @@ pub fn end_tag(
     numbers: &mut [u32],
     bytes: &mut [u8],
 ) -> Outcome
-    requires { ⌜ Ranged state × (at ≤ after) × (after < 4294967296) × (x .0 ≤ 64) × (n + 50 < 4294967296) ⌝ }
+    requires { ⌜ Ranged state × (at ≤ after) × (after < 4294967296) × (x .0 ≤ elementLimit) × (n + TOKEN-EVENTS < 4294967296) ⌝ }
     ensures { λ r. ⌜ Tagged (now (facts .entry)) (x .0) at after n state (now (numbers .entry)) (now (bytes .entry)) r (now (numbers .exit)) (now (bytes .exit)) ⌝ }
 {
     if !state.is_open(x) {
@@ -73,7 +75,7 @@ pub fn finish(
     numbers: &mut [u32],
     bytes: &mut [u8],
 ) -> Outcome
-    requires { ⌜ Ranged state × (at < 4294967296) × (n + 50 < 4294967296) ⌝ }
+    requires { ⌜ Ranged state × (at < 4294967296) × (n + TOKEN-EVENTS < 4294967296) ⌝ }
     ensures { λ r. ⌜ Finished (now (facts .entry)) at n state (now (numbers .entry)) (now (bytes .entry)) r (now (numbers .exit)) (now (bytes .exit)) ⌝ }
 {
     let document = ElementNo(0);

@@ -6,8 +6,9 @@ use mathlib.Core.List.{List, [], _∷_, _++_, append-assoc}
 use native.Mathlib.Omega.{arith}
 use lib.ListN.{length}
 use borrow.Author.Tests.{eq-eqb, ne-eqb}
-use Rattle.layout.specs.Sizes.{CODE}
-use Rattle.rules.specs.Bytes.{byteAt}
+use Rattle.model_code.specs.Codes.{ALSO-CODE, ALT-CODE, OPT-CODE, PLUS-CODE, SEQ-CODE}
+use Rattle.layout.specs.Sizes.{CODE, POSITIONS}
+use Rattle.rules.specs.Bytes.{byteAt, AND, GRPGTCNT, OPT, PLUS, REP, SEQ}
 use Rattle.rules.specs.Walk.{Group, opt, plus, star}
 use Rattle.rules.specs.TypeFile.{Tokens, occurrence, earlier}
 use Rattle.text.specs.Words.{byte-is-in}
@@ -36,7 +37,7 @@ module _ (lo : ℕ) (T : List ℕ) (n : ℕ) where
   tabled-less h x = record { filled = x .filled; code-holds = x .code-holds; room = omega (arith, x .room) }
 
   -- one number more in the code, behind a table that says g
-  pub tabled-put : (d τ c op : ℕ) (g : Group) (own S : List ℕ) → Ready (begun lo T n d) → lo + size g ≤ 97 → τ ≤ 96
+  pub tabled-put : (d τ c op : ℕ) (g : Group) (own S : List ℕ) → Ready (begun lo T n d) → lo + size g ≤ POSITIONS → τ ≤ GRPGTCNT
       → Filled g lo T S → codeIn S c ≡ codeIn T n ++ own → c + (d + 1) ≤ n + 2 + 4 * τ → Tabled (begun lo T n d) g (own ++ op ∷ []) τ (putCode S c op) (codeNext c)
   tabled-put d τ c op g own S ready to few f h r =
       let room : c < CODE = omega (arith, ready .owed) in
@@ -48,7 +49,7 @@ module _ (lo : ℕ) (T : List ℕ) (n : ℕ) where
       }
 
   -- the same where the rows were changed before
-  pub tabled-on : (d τ c op : ℕ) (g : Group) (own R S : List ℕ) → Ready (begun lo T n d) → lo + size g ≤ 97 → τ ≤ 96
+  pub tabled-on : (d τ c op : ℕ) (g : Group) (own R S : List ℕ) → Ready (begun lo T n d) → lo + size g ≤ POSITIONS → τ ≤ GRPGTCNT
       → Filled g lo T S → Behind R S → codeIn R c ≡ codeIn T n ++ own → c + (d + 1) ≤ n + 2 + 4 * τ → Tabled (begun lo T n d) g (own ++ op ∷ []) τ (putCode S c op) (codeNext c)
   tabled-on d τ c op g own R S ready to few f b h r = tabled-put d τ c op g own S ready to few f (code-same R S (b .same) c ∙ h) r
 
@@ -58,19 +59,19 @@ abbrev pub grouped : Group → (at repeated : ℕ) → Tokens → Tokens
 grouped g at n t = record { group = g; at = at; places = t .places; tokens = t .tokens; and = t .and; repeated = n }
 
 module _ (s : List ℕ) (t : Tokens) where
-  occurrence-opt : byteAt s (t .at) ≡ 63 → occurrence s t ≡ grouped (opt (t .group)) (t .at + 1) (t .repeated) t
+  occurrence-opt : byteAt s (t .at) ≡ OPT → occurrence s t ≡ grouped (opt (t .group)) (t .at + 1) (t .repeated) t
   unfolding occurrence
   occurrence-opt e = rw (eq-eqb _ _ e, occurrence)
 
-  occurrence-plus : (byteAt s (t .at) ≡ 63 → ⊥) → byteAt s (t .at) ≡ 43 → occurrence s t ≡ grouped (plus (t .group)) (t .at + 1) (t .and) t
+  occurrence-plus : (byteAt s (t .at) ≡ OPT → ⊥) → byteAt s (t .at) ≡ PLUS → occurrence s t ≡ grouped (plus (t .group)) (t .at + 1) (t .and) t
   unfolding occurrence
   occurrence-plus d e = rw (ne-eqb _ _ d, eq-eqb _ _ e, occurrence)
 
-  occurrence-star : (byteAt s (t .at) ≡ 63 → ⊥) → (byteAt s (t .at) ≡ 43 → ⊥) → byteAt s (t .at) ≡ 42 → occurrence s t ≡ grouped (star (t .group)) (t .at + 1) (t .and) t
+  occurrence-star : (byteAt s (t .at) ≡ OPT → ⊥) → (byteAt s (t .at) ≡ PLUS → ⊥) → byteAt s (t .at) ≡ REP → occurrence s t ≡ grouped (star (t .group)) (t .at + 1) (t .and) t
   unfolding occurrence
   occurrence-star c d e = rw (ne-eqb _ _ c, ne-eqb _ _ d, eq-eqb _ _ e, occurrence)
 
-  occurrence-none : (byteAt s (t .at) ≡ 63 → ⊥) → (byteAt s (t .at) ≡ 43 → ⊥) → (byteAt s (t .at) ≡ 42 → ⊥) → occurrence s t ≡ t
+  occurrence-none : (byteAt s (t .at) ≡ OPT → ⊥) → (byteAt s (t .at) ≡ PLUS → ⊥) → (byteAt s (t .at) ≡ REP → ⊥) → occurrence s t ≡ t
   unfolding occurrence
   occurrence-none c d e = rw (ne-eqb _ _ c, ne-eqb _ _ d, ne-eqb _ _ e, occurrence)
 
@@ -101,7 +102,7 @@ module _ (end lo : ℕ) (T : List ℕ) (n d k joint : ℕ) (names table table' :
     tokens-in = K .tokens-in;
   }
 
-  pub last-place : lo + size (t .group) ≤ 97
+  pub last-place : lo + size (t .group) ≤ POSITIONS
   last-place = omega (arith, K .counted, K .places-in, K .tokens-in)
 
   next-place : m .places + 1 ≡ lo + size (t .group)
@@ -128,15 +129,15 @@ keeps-less end lo T n d e k joint names table m t h K = record {
 }
 
 -- The group repeated.
-module _ (lo : ℕ) (T : List ℕ) (n d τ c : ℕ) (table table' : List ℕ) (g : Group) (from : 1 ≤ lo) (to : lo + size g ≤ 97) (few : τ ≤ 96) (gn : Numbered g lo) (hi : ℕ) (H : hi ≡ lo + size g) (r : table' ≡ repeated table lo hi)
+module _ (lo : ℕ) (T : List ℕ) (n d τ c : ℕ) (table table' : List ℕ) (g : Group) (from : 1 ≤ lo) (to : lo + size g ≤ POSITIONS) (few : τ ≤ GRPGTCNT) (gn : Numbered g lo) (hi : ℕ) (H : hi ≡ lo + size g) (r : table' ≡ repeated table lo hi)
     (ready : Ready (begun lo T n d)) where
   again : Filled g lo T table → Filled (plus g) lo T table'
   again f = rw (r, H) (means.repeats g lo from to gn T table f)
 
-  pub tabled-plus : Tabled (begun lo T n (d + 1)) g (codes g) τ table c → Tabled (begun lo T n d) (plus g) (codes (plus g)) τ (putCode table' c 100) (codeNext c)
+  pub tabled-plus : Tabled (begun lo T n (d + 1)) g (codes g) τ table c → Tabled (begun lo T n d) (plus g) (codes (plus g)) τ (putCode table' c PLUS-CODE) (codeNext c)
   tabled-plus x =
       let b : Behind table table' = rw (r, H) (repeated-behind table lo (lo + size g) (omega arith) to) in
-      tabled-on lo T n d τ c 100 (plus g) (codes g) table table' ready to few (again (x .filled)) b (x .code-holds) (x .room)
+      tabled-on lo T n d τ c PLUS-CODE (plus g) (codes g) table table' ready to few (again (x .filled)) b (x .code-holds) (x .room)
 
 -- So an occurrence indicator, or none, at the byte b.
 module _ (s : List ℕ) (lo : ℕ) (T : List ℕ) (n d : ℕ) (names table : List ℕ) (m : Model) (t : Tokens) (K : Keeps (length s) (begun lo T n (d + 2)) 1 0 names table m t) (b : ℕ) (B : b ≡ byteAt s (m .at)) where
@@ -155,39 +156,39 @@ module _ (s : List ℕ) (lo : ℕ) (T : List ℕ) (n d : ℕ) (names table : Lis
   before : Ready (begun lo T n d) → Tabled (begun lo T n (d + 2)) (t .group) (codes (t .group)) (t .tokens) table (m .code)
   before r = K .tabled (ready-more lo T n (omega arith) r)
 
-  pub occurs-opt : (p : Part) (table' : List ℕ) (c : ℕ) → b ≡ 63 → p ≡ part true 0 → table' ≡ putCode table (m .code) 99 → c ≡ codeNext (m .code)
+  pub occurs-opt : (p : Part) (table' : List ℕ) (c : ℕ) → b ≡ OPT → p ≡ part true 0 → table' ≡ putCode table (m .code) OPT-CODE → c ≡ codeNext (m .code)
       → Keeps (length s) (begun lo T n d) 1 0 names table' (goneOn m (m .at + 1) p c (m .repeated)) (occurrence s t)
   occurs-opt p table' c e q f g =
-      rw (occurrence-opt s t (is 63 e), f, g)
-      (keeps-on _ lo T n (d + 2) 1 0 names table (putCode table (m .code) 99) m t K d (opt (t .group)) _ _ p _ _ _ (ap (λ (n : ℕ). n + 1) (K .at)) (at-after 63 e (omega arith)) q (K .repeated-at)
-      (λ r. let x = before r in tabled-put lo T n d (t .tokens) (m .code) 99 (opt (t .group)) (codes (t .group)) table r (last-place _ lo T n (d + 2) 1 0 names table table m t K) (K .tokens-in) (x .filled) (x .code-holds) (omega (arith, x .room)))
+      rw (occurrence-opt s t (is OPT e), f, g)
+      (keeps-on _ lo T n (d + 2) 1 0 names table (putCode table (m .code) OPT-CODE) m t K d (opt (t .group)) _ _ p _ _ _ (ap (λ (n : ℕ). n + 1) (K .at)) (at-after OPT e (omega arith)) q (K .repeated-at)
+      (λ r. let x = before r in tabled-put lo T n d (t .tokens) (m .code) OPT-CODE (opt (t .group)) (codes (t .group)) table r (last-place _ lo T n (d + 2) 1 0 names table table m t K) (K .tokens-in) (x .filled) (x .code-holds) (omega (arith, x .room)))
       (K .numbered) refl)
 
-  module _ (table' : List ℕ) (x : b ≡ 63 → ⊥) (r : table' ≡ repeated table lo (m .places + 1)) where
-    plus-tabled : (e : ℕ) → e + 1 ≤ d + 2 → Ready (begun lo T n d) → Ready (begun lo T n e) → Tabled (begun lo T n e) (plus (t .group)) (codes (plus (t .group))) (t .tokens) (putCode table' (m .code) 100) (codeNext (m .code))
+  module _ (table' : List ℕ) (x : b ≡ OPT → ⊥) (r : table' ≡ repeated table lo (m .places + 1)) where
+    plus-tabled : (e : ℕ) → e + 1 ≤ d + 2 → Ready (begun lo T n d) → Ready (begun lo T n e) → Tabled (begun lo T n e) (plus (t .group)) (codes (plus (t .group))) (t .tokens) (putCode table' (m .code) PLUS-CODE) (codeNext (m .code))
     plus-tabled e h a i =
         tabled-plus lo T n e (t .tokens) (m .code) table table' (t .group) (K .from) (last-place _ lo T n (d + 2) 1 0 names table table m t K) (K .tokens-in) (K .numbered) (m .places + 1) (next-place _ lo T n (d + 2) 1 0 names table table m t K) r i (tabled-less lo T n h (before a))
 
-    pub occurs-plus : (table″ : List ℕ) (c : ℕ) → b ≡ 43 → table″ ≡ putCode table' (m .code) 100 → c ≡ codeNext (m .code)
+    pub occurs-plus : (table″ : List ℕ) (c : ℕ) → b ≡ PLUS → table″ ≡ putCode table' (m .code) PLUS-CODE → c ≡ codeNext (m .code)
         → Keeps (length s) (begun lo T n d) 1 0 names table″ (goneOn m (m .at + 1) (m .part) c (m .and)) (occurrence s t)
     occurs-plus table″ c e f g =
-        rw (occurrence-plus s t (not 63 x) (is 43 e), f, g)
-        (keeps-on _ lo T n (d + 2) 1 0 names table (putCode table' (m .code) 100) m t K d (plus (t .group)) _ _ _ _ _ _ (ap (λ (n : ℕ). n + 1) (K .at)) (at-after 43 e (omega arith)) (K .part) (K .and-at)
+        rw (occurrence-plus s t (not OPT x) (is PLUS e), f, g)
+        (keeps-on _ lo T n (d + 2) 1 0 names table (putCode table' (m .code) PLUS-CODE) m t K d (plus (t .group)) _ _ _ _ _ _ (ap (λ (n : ℕ). n + 1) (K .at)) (at-after PLUS e (omega arith)) (K .part) (K .and-at)
         (λ a. plus-tabled d (omega arith) a a) (K .numbered) refl)
 
-    pub occurs-star : (p : Part) (once table″ : List ℕ) (c c' : ℕ) → (b ≡ 43 → ⊥) → b ≡ 42 → p ≡ part true 0 → once ≡ putCode table' (m .code) 100 → c ≡ codeNext (m .code) → table″ ≡ putCode once c 99 → c' ≡ codeNext c
+    pub occurs-star : (p : Part) (once table″ : List ℕ) (c c' : ℕ) → (b ≡ PLUS → ⊥) → b ≡ REP → p ≡ part true 0 → once ≡ putCode table' (m .code) PLUS-CODE → c ≡ codeNext (m .code) → table″ ≡ putCode once c OPT-CODE → c' ≡ codeNext c
         → Keeps (length s) (begun lo T n d) 1 0 names table″ (goneOn m (m .at + 1) p c' (m .and)) (occurrence s t)
     occurs-star p once table″ c c' y e q f g h i =
-        let S : List ℕ = putCode table' (m .code) 100 in
-        rw (occurrence-star s t (not 63 x) (not 43 y) (is 42 e), h, i, f, g)
-        (keeps-on _ lo T n (d + 2) 1 0 names table (putCode S (codeNext (m .code)) 99) m t K d (star (t .group)) _ _ p _ _ _ (ap (λ (n : ℕ). n + 1) (K .at)) (at-after 42 e (omega arith)) q (K .and-at)
+        let S : List ℕ = putCode table' (m .code) PLUS-CODE in
+        rw (occurrence-star s t (not OPT x) (not PLUS y) (is REP e), h, i, f, g)
+        (keeps-on _ lo T n (d + 2) 1 0 names table (putCode S (codeNext (m .code)) OPT-CODE) m t K d (star (t .group)) _ _ p _ _ _ (ap (λ (n : ℕ). n + 1) (K .at)) (at-after REP e (omega arith)) q (K .and-at)
         (λ a.
         let z = plus-tabled (d + 1) (omega arith) a (ready-more lo T n (omega arith) a) in
-        tabled-put lo T n d (t .tokens) (codeNext (m .code)) 99 (star (t .group)) (codes (plus (t .group))) S a (last-place _ lo T n (d + 2) 1 0 names table table m t K) (K .tokens-in) (z .filled) (z .code-holds) (z .room))
+        tabled-put lo T n d (t .tokens) (codeNext (m .code)) OPT-CODE (star (t .group)) (codes (plus (t .group))) S a (last-place _ lo T n (d + 2) 1 0 names table table m t K) (K .tokens-in) (z .filled) (z .code-holds) (z .room))
         (K .numbered) refl)
 
-  pub occurs-not : (b ≡ 63 → ⊥) → (b ≡ 43 → ⊥) → (b ≡ 42 → ⊥) → Keeps (length s) (begun lo T n d) 1 0 names table m (occurrence s t)
-  occurs-not x y z = rw (occurrence-none s t (not 63 x) (not 43 y) (not 42 z)) (keeps-less (length s) lo T n (d + 2) d 1 0 names table m t (omega arith) K)
+  pub occurs-not : (b ≡ OPT → ⊥) → (b ≡ PLUS → ⊥) → (b ≡ REP → ⊥) → Keeps (length s) (begun lo T n d) 1 0 names table m (occurrence s t)
+  occurs-not x y z = rw (occurrence-none s t (not OPT x) (not PLUS y) (not REP z)) (keeps-less (length s) lo T n (d + 2) d 1 0 names table m t (omega arith) K)
 
 -- Two groups joined by a connector.
 
@@ -196,14 +197,14 @@ abbrev pub bothKept : Model → Part → (code and repeated : ℕ) → Model
 bothKept u p c a r = record { at = u .at; places = u .places; tokens = u .tokens; part = p; code = c; and = a; repeated = r }
 
 module _ (b i lo : ℕ) (m u : Model) (p : Part) (T R S : List ℕ) (c a r : ℕ) (C : c ≡ codeNext (u .code)) (X : r ≡ earlier (m .repeated) (u .repeated)) where
-  pub by-seq : b ≡ 44 → p ≡ partSeq (m .part) (u .part) → R ≡ joinSeq T lo (m .places + 1) (u .places + 1) (m .part) (u .part) → S ≡ putCode R (u .code) 97 → a ≡ earlier (m .and) (u .and)
+  pub by-seq : b ≡ SEQ → p ≡ partSeq (m .part) (u .part) → R ≡ joinSeq T lo (m .places + 1) (u .places + 1) (m .part) (u .part) → S ≡ putCode R (u .code) SEQ-CODE → a ≡ earlier (m .and) (u .and)
       → (bothKept u p c a r ≡ joinModel b i m u) × (S ≡ joinTable b lo m u T)
   by-seq e q f g h = (rw e (cc), rw (e, g, f))
 
-  pub by-and : b ≡ 38 → p ≡ partAnd (m .part) (u .part) → R ≡ joinAnd T lo (m .places + 1) (u .places + 1) → S ≡ putCode R (u .code) 101 → a ≡ earlier (m .and) i
+  pub by-and : b ≡ AND → p ≡ partAnd (m .part) (u .part) → R ≡ joinAnd T lo (m .places + 1) (u .places + 1) → S ≡ putCode R (u .code) ALSO-CODE → a ≡ earlier (m .and) i
       → (bothKept u p c a r ≡ joinModel b i m u) × (S ≡ joinTable b lo m u T)
   by-and e q f g h = (rw e (cc), rw (e, g, f))
 
-  pub by-alt : (b ≡ 44 → ⊥) → (b ≡ 38 → ⊥) → p ≡ partAlt (m .part) (u .part) → R ≡ T → S ≡ putCode R (u .code) 98 → a ≡ earlier (m .and) (u .and)
+  pub by-alt : (b ≡ SEQ → ⊥) → (b ≡ AND → ⊥) → p ≡ partAlt (m .part) (u .part) → R ≡ T → S ≡ putCode R (u .code) ALT-CODE → a ≡ earlier (m .and) (u .and)
       → (bothKept u p c a r ≡ joinModel b i m u) × (S ≡ joinTable b lo m u T)
-  by-alt d e q f g h = (rw (ne-eqb b 44 d, ne-eqb b 38 e) (cc), rw (ne-eqb b 44 d, ne-eqb b 38 e, g, f))
+  by-alt d e q f g h = (rw (ne-eqb b SEQ d, ne-eqb b AND e) (cc), rw (ne-eqb b SEQ d, ne-eqb b AND e, g, f))

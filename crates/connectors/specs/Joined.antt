@@ -7,8 +7,11 @@ use mathlib.Core.List.{List, [], _∷_, _++_, append-assoc}
 use native.Mathlib.Omega.{arith}
 use lib.Dec.{eqb, leb}
 use borrow.Author.Tests.{eqb-true, ne-eqb, le-leb, lt-leb}
+use Rattle.model_code.specs.Codes.{ALSO-CODE, ALT-CODE, SEQ-CODE}
 use Rattle.rules.specs.Walk.{Group, seq, alt, and, Members, one, also}
 use Rattle.rules.specs.TypeFile.{Tokens, isConnector, membersOf, earlier, joinTokens}
+use Rattle.rules.specs.Bytes.{AND, GRPCNT, OR, SEQ}
+use Rattle.layout.specs.Sizes.{POSITIONS}
 use Rattle.model_sets.specs.Bits.{or-cases}
 use Rattle.model_sets.specs.Sets.{size, sizeM, Numbered, NumberedM}
 use Rattle.model_links.specs.Behind.{Behind, behind-none}
@@ -23,11 +26,11 @@ use Rattle.connectors.specs.Kept.{begun, Ready, Tabled, spelt, Joins, Ke
 use Rattle.connectors.specs.Grown.{tabled-on}
 
 -- Which connectors there are.
-pub connector-is : (b : ℕ) → isConnector b ≡ true → (b ≡ 44) ⊎ ((b ≡ 124) ⊎ (b ≡ 38))
+pub connector-is : (b : ℕ) → isConnector b ≡ true → (b ≡ SEQ) ⊎ ((b ≡ OR) ⊎ (b ≡ AND))
 connector-is b e =
-    or-cases (eqb b 44 || eqb b 124) (eqb b 38)
-    (or-cases (eqb b 44) (eqb b 124) (λ x. inl (eqb-true b 44 x)) (λ x. inr (inl (eqb-true b 124 x))))
-    (λ x. inr (inr (eqb-true b 38 x))) e
+    or-cases (eqb b SEQ || eqb b OR) (eqb b AND)
+    (or-cases (eqb b SEQ) (eqb b OR) (λ x. inl (eqb-true b SEQ x)) (λ x. inr (inl (eqb-true b OR x))))
+    (λ x. inr (inr (eqb-true b AND x))) e
 
 -- The members M are what the "&" group that goes on has so far, where the group g of k content tokens was read.
 record Whole (lo k joint : ℕ) (T table : List ℕ) (g : Group) (M : Members) : Type 0 where
@@ -42,7 +45,7 @@ module _ (lo k joint : ℕ) (T table : List ℕ) (g : Group) (gn : Numbered g lo
   whole-one : joint ≡ 0 → Whole lo k joint T table g (one g)
   whole-one z = record { numbered = gn; filled = λ f. f; sized = refl; parted = refl; spelled = rw z; counted = sym (j .alone z) }
 
-  whole-more : joint ≡ 38 → Whole lo k joint T table g (membersOf g)
+  whole-more : joint ≡ AND → Whole lo k joint T table g (membersOf g)
   whole-more z =
       let e = j .whole z in
       record {
@@ -55,14 +58,14 @@ module _ (lo k joint : ℕ) (T table : List ℕ) (g : Group) (gn : Numbered g lo
       }
 
 module _ (end lo : ℕ) (T : List ℕ) (n d k joint : ℕ) (names table names' table' : List ℕ) (m u : Model) (t w : Tokens)
-    (K : Keeps end (begun lo T n d) k joint names table m t) (L : Keeps end (begun (m .places + 1) table (m .code) (4 * m .tokens + 3)) 1 0 names' table' u w) (few : k < 32) where
+    (K : Keeps end (begun lo T n d) k joint names table m t) (L : Keeps end (begun (m .places + 1) table (m .code) (4 * m .tokens + 3)) 1 0 names' table' u w) (few : k < GRPCNT) where
   mid : m .places + 1 ≡ lo + size (t .group)
   mid = omega (arith, K .places, K .counted)
 
   hi : u .places + 1 ≡ lo + size (t .group) + size (w .group)
   hi = omega (arith, mid, L .places, L .counted)
 
-  to : lo + size (t .group) + size (w .group) ≤ 97
+  to : lo + size (t .group) + size (w .group) ≤ POSITIONS
   to = omega (arith, hi, L .places, L .places-in, L .tokens-in)
 
   second : Numbered (w .group) (lo + size (t .group))
@@ -89,7 +92,7 @@ module _ (end lo : ℕ) (T : List ℕ) (n d k joint : ℕ) (names table names' t
     both-code : codeIn table' (u .code) ≡ codeIn T n ++ (spelt joint (t .group) ++ codes (w .group))
     both-code = second-tabled .code-holds ∙ ap (λ (l : List ℕ). l ++ codes (w .group)) (first-tabled .code-holds) ∙ append-assoc (codeIn T n) (spelt joint (t .group)) (codes (w .group))
 
-    joined-tabled : (j : Group) (R own : List ℕ) (op : ℕ) → lo + size j ≤ 97 → spelt joint (t .group) ≡ own → Filled j lo T R → Behind table' R
+    joined-tabled : (j : Group) (R own : List ℕ) (op : ℕ) → lo + size j ≤ POSITIONS → spelt joint (t .group) ≡ own → Filled j lo T R → Behind table' R
         → Tabled (begun lo T n d) j (own ++ (codes (w .group) ++ op ∷ [])) (w .tokens) (putCode R (u .code) op) (codeNext (u .code))
     joined-tabled j R own op l e f b =
         subst (λ (os : List ℕ). Tabled (begun lo T n d) j os (w .tokens) (putCode R (u .code) op) (codeNext (u .code)))
@@ -121,46 +124,46 @@ module _ (end lo : ℕ) (T : List ℕ) (n d k joint : ℕ) (names table names' t
     tokens-in = L .tokens-in;
   }
 
-  joins-other : (b : ℕ) (j : Group) → (b ≡ 0 → ⊥) → (b ≡ 38 → ⊥) → Joins (k + 1) b j
+  joins-other : (b : ℕ) (j : Group) → (b ≡ 0 → ⊥) → (b ≡ AND → ⊥) → Joins (k + 1) b j
   joins-other b j x y = record { few = omega arith; alone = λ e. absurd (x e); some = λ e. absurd (y e); whole = λ e. absurd (y e); members = λ e. absurd (y e) }
 
   ands : earlier (m .and) (u .and) ≡ earlier (t .and) (w .and)
   ands = rw (K .and-at, L .and-at)
 
-  join-seq : (i : ℕ) → spelt joint (t .group) ≡ codes (t .group) → Keeps end (begun lo T n d) (k + 1) 44 names' (joinTable 44 lo m u table') (joinModel 44 i m u) (joinTokens k 44 i t w)
+  join-seq : (i : ℕ) → spelt joint (t .group) ≡ codes (t .group) → Keeps end (begun lo T n d) (k + 1) SEQ names' (joinTable SEQ lo m u table') (joinModel SEQ i m u) (joinTokens k SEQ i t w)
   join-seq i e =
       let R : List ℕ = joinSeq table' lo (m .places + 1) (u .places + 1) (m .part) (u .part) in
       let is : R ≡ joinSeq table' lo (lo + size (t .group)) (lo + size (t .group) + size (w .group)) (partOf (t .group)) (partOf (w .group)) = rw (mid, hi, K .part, L .part) in
-      whole 44 (seq (t .group) (w .group)) (partSeq (m .part) (u .part)) (putCode R (u .code) 97) _ _ (rw (K .part, L .part)) ands (K .numbered, second) refl (joins-other 44 _ (λ x. omega arith) (λ x. omega arith))
+      whole SEQ (seq (t .group) (w .group)) (partSeq (m .part) (u .part)) (putCode R (u .code) SEQ-CODE) _ _ (rw (K .part, L .part)) ands (K .numbered, second) refl (joins-other SEQ _ (λ x. omega arith) (λ x. omega arith))
       (λ ready.
-      joined-tabled ready (seq (t .group) (w .group)) R (codes (t .group)) 97 (omega (arith, to)) e
+      joined-tabled ready (seq (t .group) (w .group)) R (codes (t .group)) SEQ-CODE (omega (arith, to)) e
       (rw is
       (sequence (t .group) (w .group) lo (K .from) to (K .numbered) second T table'
       (both (t .group) (w .group) lo (K .from) to (K .numbered) second T table table' (first-tabled ready .filled) (second-filled ready))))
       (rw is (seq-behind table' lo (lo + size (t .group)) (lo + size (t .group) + size (w .group)) (omega arith) (omega arith) to (partOf (t .group)) (partOf (w .group)))))
 
-  join-alt : (i : ℕ) → spelt joint (t .group) ≡ codes (t .group) → Keeps end (begun lo T n d) (k + 1) 124 names' (joinTable 124 lo m u table') (joinModel 124 i m u) (joinTokens k 124 i t w)
+  join-alt : (i : ℕ) → spelt joint (t .group) ≡ codes (t .group) → Keeps end (begun lo T n d) (k + 1) OR names' (joinTable OR lo m u table') (joinModel OR i m u) (joinTokens k OR i t w)
   join-alt i e =
-      whole 124 (alt (t .group) (w .group)) (partAlt (m .part) (u .part)) (putCode table' (u .code) 98) _ _ (rw (K .part, L .part)) ands (K .numbered, second) refl (joins-other 124 _ (λ x. omega arith) (λ x. omega arith))
+      whole OR (alt (t .group) (w .group)) (partAlt (m .part) (u .part)) (putCode table' (u .code) ALT-CODE) _ _ (rw (K .part, L .part)) ands (K .numbered, second) refl (joins-other OR _ (λ x. omega arith) (λ x. omega arith))
       (λ ready.
-      joined-tabled ready (alt (t .group) (w .group)) table' (codes (t .group)) 98 (omega (arith, to)) e
+      joined-tabled ready (alt (t .group) (w .group)) table' (codes (t .group)) ALT-CODE (omega (arith, to)) e
       (both (t .group) (w .group) lo (K .from) to (K .numbered) second T table table' (first-tabled ready .filled) (second-filled ready))
       behind-none)
 
   -- one member more
   join-and : (i : ℕ) (M : Members) → Whole lo k joint T table (t .group) M
-      → Keeps end (begun lo T n d) (k + 1) 38 names' (joinTable 38 lo m u table') (joinModel 38 i m u)
+      → Keeps end (begun lo T n d) (k + 1) AND names' (joinTable AND lo m u table') (joinModel AND i m u)
       (record { group = and (also M (w .group)); at = w .at; places = w .places; tokens = w .tokens; and = earlier (t .and) i; repeated = earlier (t .repeated) (w .repeated) })
   join-and i M h =
       let R : List ℕ = joinAnd table' lo (m .places + 1) (u .places + 1) in
       let z = h .sized in
       let is : R ≡ joinAnd table' lo (lo + sizeM M) (lo + sizeM M + size (w .group)) = rw (z, mid, hi) in
       let hn : Numbered (w .group) (lo + sizeM M) = rw z second in
-      let last : lo + sizeM M + size (w .group) ≤ 97 = omega (arith, to) in
-      whole 38 (and (also M (w .group))) (partAnd (m .part) (u .part)) (putCode R (u .code) 101) _ _ (ap₂ partAnd (K .part ∙ sym (h .parted)) (L .part)) (rw (K .and-at)) (h .numbered, hn) (omega arith)
+      let last : lo + sizeM M + size (w .group) ≤ POSITIONS = omega (arith, to) in
+      whole AND (and (also M (w .group))) (partAnd (m .part) (u .part)) (putCode R (u .code) ALSO-CODE) _ _ (ap₂ partAnd (K .part ∙ sym (h .parted)) (L .part)) (rw (K .and-at)) (h .numbered, hn) (omega arith)
       (record { few = omega arith; alone = λ e. absurd (omega arith); some = λ e. omega (arith, members-some M, h .counted); whole = λ e. refl; members = λ e. omega (arith, h .counted) })
       (λ ready.
-      joined-tabled ready (and (also M (w .group))) R (codesM M) 101 (omega arith) (h .spelled)
+      joined-tabled ready (and (also M (w .group))) R (codesM M) ALSO-CODE (omega arith) (h .spelled)
       (rw is
       (any-order (and M) (w .group) lo (K .from) last (h .numbered) hn T table'
       (both (and M) (w .group) lo (K .from) last (h .numbered) hn T table table' (h .filled (first-tabled ready .filled)) (rw z (second-filled ready)))))
@@ -174,22 +177,22 @@ module _ (end lo : ℕ) (T : List ℕ) (n d k joint : ℕ) (names table names' t
   pub join-kept : (b i : ℕ) → isConnector b ≡ true → (eqb joint 0 || eqb joint b) ≡ true → Keeps end (begun lo T n d) (k + 1) b names' (joinTable b lo m u table') (joinModel b i m u) (joinTokens k b i t w)
   join-kept b i c j = ⊎-elim by-seq (λ x. ⊎-elim by-alt by-and x) (connector-is b c)
     where
-      other : (x : ℕ) → b ≡ x → (x ≡ 38 → ⊥) → spelt joint (t .group) ≡ codes (t .group)
-      other x e ne = or-cases (eqb joint 0) (eqb joint b) (λ y. rw (eqb-true joint 0 y)) (λ y. rw (eqb-true joint b y, e, ne-eqb x 38 ne)) j
+      other : (x : ℕ) → b ≡ x → (x ≡ AND → ⊥) → spelt joint (t .group) ≡ codes (t .group)
+      other x e ne = or-cases (eqb joint 0) (eqb joint b) (λ y. rw (eqb-true joint 0 y)) (λ y. rw (eqb-true joint b y, e, ne-eqb x AND ne)) j
 
-      by-seq : b ≡ 44 → Keeps end (begun lo T n d) (k + 1) b names' (joinTable b lo m u table') (joinModel b i m u) (joinTokens k b i t w)
-      by-seq e = rw e (join-seq i (other 44 e (λ x. omega arith)))
+      by-seq : b ≡ SEQ → Keeps end (begun lo T n d) (k + 1) b names' (joinTable b lo m u table') (joinModel b i m u) (joinTokens k b i t w)
+      by-seq e = rw e (join-seq i (other SEQ e (λ x. omega arith)))
 
-      by-alt : b ≡ 124 → Keeps end (begun lo T n d) (k + 1) b names' (joinTable b lo m u table') (joinModel b i m u) (joinTokens k b i t w)
-      by-alt e = rw e (join-alt i (other 124 e (λ x. omega arith)))
+      by-alt : b ≡ OR → Keeps end (begun lo T n d) (k + 1) b names' (joinTable b lo m u table') (joinModel b i m u) (joinTokens k b i t w)
+      by-alt e = rw e (join-alt i (other OR e (λ x. omega arith)))
 
-      by-and : b ≡ 38 → Keeps end (begun lo T n d) (k + 1) b names' (joinTable b lo m u table') (joinModel b i m u) (joinTokens k b i t w)
+      by-and : b ≡ AND → Keeps end (begun lo T n d) (k + 1) b names' (joinTable b lo m u table') (joinModel b i m u) (joinTokens k b i t w)
       by-and e =
           or-cases (eqb joint 0) (eqb joint b)
           (λ y.
           let z = eqb-true joint 0 y in
           rw (e, le-leb k 1 (omega (arith, K .joins .alone z))) (join-and i (one (t .group)) (whole-one lo k joint T table (t .group) (K .numbered) (K .joins) z)))
           (λ y.
-          let z : joint ≡ 38 = eqb-true joint b y ∙ e in
+          let z : joint ≡ AND = eqb-true joint b y ∙ e in
           rw (e, lt-leb k 1 (omega (arith, K .joins .some z))) (join-and i (membersOf (t .group)) (whole-more lo k joint T table (t .group) (K .numbered) (K .joins) z)))
           j

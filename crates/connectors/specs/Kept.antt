@@ -5,8 +5,10 @@ use mathlib.Core.Bool.{true, false, cond}
 use mathlib.Core.List.{List, _++_}
 use lib.ListN.{length}
 use lib.Dec.{eqb}
+use Rattle.model_code.specs.Codes.{ALSO-CODE, ALT-CODE, SEQ-CODE}
 use Rattle.rules.specs.Walk.{Group, and}
 use Rattle.rules.specs.TypeFile.{Tokens, membersOf, earlier}
+use Rattle.rules.specs.Bytes.{AND, GRPCNT, GRPGTCNT, SEQ}
 use Rattle.layout.specs.Sizes.{MODEL}
 use Rattle.model_sets.specs.Sets.{size, Numbered}
 use Rattle.model_table.specs.declared.Part.{Part}
@@ -41,15 +43,15 @@ pub record Tabled (B : Begun) (g : Group) (spelled : List ℕ) (tokens : ℕ) (t
 
 -- The code of a group up to which the connector is known, 0 if it has one token so far: an "&" group says how many members it has at its ")".
 abbrev pub spelt : (joint : ℕ) → Group → List ℕ
-spelt joint g = cond (eqb joint 38) (codesM (membersOf g)) (codes g)
+spelt joint g = cond (eqb joint AND) (codesM (membersOf g)) (codes g)
 
 -- The group g is that of k content tokens joined by the connector; 0 is that of one.
 pub record Joins (k joint : ℕ) (g : Group) : Type 0 where
-  pub few : k ≤ 32
+  pub few : k ≤ GRPCNT
   pub alone : joint ≡ 0 → k ≡ 1
-  pub some : joint ≡ 38 → 2 ≤ k
-  pub whole : joint ≡ 38 → g ≡ and (membersOf g)
-  pub members : joint ≡ 38 → count (membersOf g) ≡ k
+  pub some : joint ≡ AND → 2 ≤ k
+  pub whole : joint ≡ AND → g ≡ and (membersOf g)
+  pub members : joint ≡ AND → count (membersOf g) ≡ k
 
 -- m is what the code keeps of t beside its two tables, of an input of `end` bytes: t is the group of k content tokens joined by the connector.
 pub record Keeps (end : ℕ) (B : Begun) (k joint : ℕ) (names table : List ℕ) (m : Model) (t : Tokens) : Type 0 where
@@ -68,11 +70,11 @@ pub record Keeps (end : ℕ) (B : Begun) (k joint : ℕ) (names table : List ℕ
   pub counted : length (t .places) + 1 ≡ B .lo + size (t .group)
   pub at-in : t .at ≤ end
   pub places-in : length (t .places) ≤ t .tokens
-  pub tokens-in : t .tokens ≤ 96
+  pub tokens-in : t .tokens ≤ GRPGTCNT
 
 -- Two groups of a model joined by the connector b at i, as the code does it.
 abbrev pub joinPart : ℕ → Part → Part → Part
-joinPart b p q = cond (eqb b 44) (partSeq p q) (cond (eqb b 38) (partAnd p q) (partAlt p q))
+joinPart b p q = cond (eqb b SEQ) (partSeq p q) (cond (eqb b AND) (partAnd p q) (partAlt p q))
 
 abbrev pub joinModel : (b i : ℕ) → Model → Model → Model
 joinModel b i m u =
@@ -82,16 +84,16 @@ joinModel b i m u =
       tokens = u .tokens;
       part = joinPart b (m .part) (u .part);
       code = codeNext (u .code);
-      and = earlier (m .and) (elim (eqb b 38) [ true ↦ i | false ↦ u .and ]);
+      and = earlier (m .and) (elim (eqb b AND) [ true ↦ i | false ↦ u .and ]);
       repeated = earlier (m .repeated) (u .repeated);
     }
 
 abbrev pub joinRows : ℕ → ℕ → Model → Model → List ℕ → List ℕ
 joinRows b lo m u T =
-    cond (eqb b 44) (joinSeq T lo (m .places + 1) (u .places + 1) (m .part) (u .part)) (cond (eqb b 38) (joinAnd T lo (m .places + 1) (u .places + 1)) T)
+    cond (eqb b SEQ) (joinSeq T lo (m .places + 1) (u .places + 1) (m .part) (u .part)) (cond (eqb b AND) (joinAnd T lo (m .places + 1) (u .places + 1)) T)
 
 abbrev pub joinNumber : ℕ → ℕ
-joinNumber b = cond (eqb b 44) 97 (cond (eqb b 38) 101 98)
+joinNumber b = cond (eqb b SEQ) SEQ-CODE (cond (eqb b AND) ALSO-CODE ALT-CODE)
 
 abbrev pub joinTable : ℕ → ℕ → Model → Model → List ℕ → List ℕ
 joinTable b lo m u T = putCode (joinRows b lo m u T) (u .code) (joinNumber b)

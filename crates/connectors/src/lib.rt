@@ -8,6 +8,7 @@ ghost use lib.Dec.{eqb};
 ghost use Prim.Native.Nat.{ℕ, _+_, _≤_};
 ghost use lib.ListN.{length};
 ghost use Rattle.rules.specs.TypeFile.{Tokens, occurrence, isConnector, earlier};
+ghost use Rattle.rules.specs.Bytes.{GRPGTCNT, typeLimit};
 ghost use Rattle.connectors.specs.Kept.{begun, Keeps, joinModel, joinTable};
 
 // What is kept of a model while it is read: where it ends so far, how many places and content tokens it has, what
@@ -26,7 +27,7 @@ pub struct Model {
 // such group is not decided.
 pub fn with_occurrence(s: &[u8], table: &mut [u8; MODEL], lo: usize, m: Model) -> Model
     requires { ⌜ m .at ≤ length (now s) ⌝ }
-    requires { ⌜ m .places ≤ 96 ⌝ }
+    requires { ⌜ m .places ≤ GRPGTCNT ⌝ }
     ensures { λ r. ⌜ ((T names : List ℕ) (n d : ℕ) (t : Tokens) → Keeps (length (now (s .entry))) (begun lo T n (d + 2)) 1 0 names (now (table .entry)) m t →
         Keeps (length (now (s .entry))) (begun lo T n d) 1 0 names (now (table .exit)) r (occurrence (now (s .entry)) t)) ⌝ }
 {
@@ -43,7 +44,7 @@ pub fn with_occurrence(s: &[u8], table: &mut [u8; MODEL], lo: usize, m: Model) -
             places: places,
             tokens: tokens,
             part: model_table::optional(part),
-            code: model_code::put(table, code, model_code::OPT),
+            code: model_code::put(table, code, model_code::OPT_CODE),
             and: and,
             repeated: m.repeated,
         };
@@ -55,20 +56,20 @@ pub fn with_occurrence(s: &[u8], table: &mut [u8; MODEL], lo: usize, m: Model) -
             places: places,
             tokens: tokens,
             part: part,
-            code: model_code::put(table, code, model_code::PLUS),
+            code: model_code::put(table, code, model_code::PLUS_CODE),
             and: and,
             repeated: and,
         };
     }
     if b == b'*' {
         model_table::repeat(table, lo, places + 1);
-        let once = model_code::put(table, code, model_code::PLUS);
+        let once = model_code::put(table, code, model_code::PLUS_CODE);
         return Model {
             at: at + 1,
             places: places,
             tokens: tokens,
             part: model_table::optional(part),
-            code: model_code::put(table, once, model_code::OPT),
+            code: model_code::put(table, once, model_code::OPT_CODE),
             and: and,
             repeated: and,
         };
@@ -96,7 +97,7 @@ fn earlier(i: u16, j: u16) -> u16
 
 // The group m, whose first place is `lo`, and the token u after it, joined by the connector b at i; any byte but "," and "&" joins as "|" does.
 pub fn joined_by(table: &mut [u8; MODEL], b: u8, i: usize, lo: usize, m: Model, u: Model) -> Model
-    requires { ⌜ (m .places ≤ 96) × (u .places ≤ 96) × (i ≤ 32768) ⌝ }
+    requires { ⌜ (m .places ≤ GRPGTCNT) × (u .places ≤ GRPGTCNT) × (i ≤ typeLimit) ⌝ }
     ensures { λ r. ⌜ r ≡ joinModel b i m u ⌝ }
     ensures { λ _. ⌜ now (table .exit) ≡ joinTable b lo m u (now (table .entry)) ⌝ }
 {
@@ -113,7 +114,7 @@ pub fn joined_by(table: &mut [u8; MODEL], b: u8, i: usize, lo: usize, m: Model, 
             places: places,
             tokens: tokens,
             part: part,
-            code: model_code::put(table, code, model_code::SEQ),
+            code: model_code::put(table, code, model_code::SEQ_CODE),
             and: and,
             repeated: repeated,
         };
@@ -125,7 +126,7 @@ pub fn joined_by(table: &mut [u8; MODEL], b: u8, i: usize, lo: usize, m: Model, 
             places: places,
             tokens: tokens,
             part: part,
-            code: model_code::put(table, code, model_code::ALSO),
+            code: model_code::put(table, code, model_code::ALSO_CODE),
             and: earlier(m.and, i as u16),
             repeated: repeated,
         };
@@ -135,7 +136,7 @@ pub fn joined_by(table: &mut [u8; MODEL], b: u8, i: usize, lo: usize, m: Model, 
         places: places,
         tokens: tokens,
         part: model_table::join_alt(m.part, u.part),
-        code: model_code::put(table, code, model_code::ALT),
+        code: model_code::put(table, code, model_code::ALT_CODE),
         and: and,
         repeated: repeated,
     }

@@ -5,6 +5,7 @@ use mathlib.Core.List.{List}
 use native.Mathlib.Omega.{arith}
 use Rattle.rules.specs.Reading.{Reading, refused, got, andThen}
 use Rattle.rules.specs.TypeFile.{Tokens}
+use Rattle.rules.specs.Bytes.{GRPGTCNT}
 use Rattle.text.specs.declared.Fault.{Fault}
 use Rattle.connectors.specs.declared.Model.{Model}
 use Rattle.connectors.specs.Kept.{Begun, Keeps}
@@ -29,7 +30,7 @@ module _ (end : ℕ) (B : Begun) (names table : List ℕ) where
 
 module _ (end : ℕ) (B : Begun) (names table : List ℕ) (r : ModelRead) (x : Reading Tokens) (M : Meets end B names table r x) where
   -- what was read lies within its bounds
-  pub read-in : (m : Model) → r ≡ Read m → (m .at ≤ end) × (m .places ≤ m .tokens) × (m .tokens ≤ 96)
+  pub read-in : (m : Model) → r ≡ Read m → (m .at ≤ end) × (m .places ≤ m .tokens) × (m .tokens ≤ GRPGTCNT)
   read-in m e =
       let w = read-got end B names table m x (rw e at M) in
       omega (arith, w .2)

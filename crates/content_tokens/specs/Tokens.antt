@@ -6,7 +6,8 @@ use mathlib.Core.List.{List, [], _∷_, _++_, append-nil}
 use native.Mathlib.Omega.{arith}
 use lib.ListN.{length}
 use borrow.Author.Tests.{lt-ltb, le-ltb}
-use Rattle.rules.specs.Bytes.{byteAt, letter, nameEnd}
+use Rattle.model_code.specs.Codes.{OPT-CODE, PLUS-CODE}
+use Rattle.rules.specs.Bytes.{byteAt, letter, nameEnd, GRPGTCNT}
 use Rattle.rules.specs.Reading.{refused, got}
 use Rattle.rules.specs.Walk.{Group, place, plus, star}
 use Rattle.rules.specs.TypeFile.{Place, Tokens, occurrence, newPlace, nameToken, dataToken, isWord, isCut, PCDATA}
@@ -32,7 +33,7 @@ use Rattle.content_tokens.specs.Meets.{wrongData}
 
 -- A new place.
 
-module _ (end at at' size places tokens n : ℕ) (T names₀ names : List ℕ) (h : at' ≤ end) (i : places ≤ tokens) (j : tokens < 96)
+module _ (end at at' size places tokens n : ℕ) (T names₀ names : List ℕ) (h : at' ≤ end) (i : places ≤ tokens) (j : tokens < GRPGTCNT)
     (e : placesOf names (places + 1) ≡ placesOf names₀ places ++ record { at = at; size = size } ∷ []) where
   abbrev pub newTokens : Group → Tokens
   newTokens g = record { group = g; at = at'; places = placesOf names₀ places ++ record { at = at; size = size } ∷ []; tokens = tokens + 1; and = 0; repeated = 0 }
@@ -85,7 +86,7 @@ module _ (end at at' size places tokens n : ℕ) (T names₀ names : List ℕ) (
 
     -- `#PCDATA`, which repeats or is left out
     pub new-data : (p : Part) (Q S₁ S₂ S : List ℕ) (c₁ c₂ c : ℕ) → p ≡ part true 0 → Q ≡ repeated R (places + 1) (places + 1 + 1) → S₁ ≡ putCode Q n (places + 1) → c₁ ≡ codeNext n
-        → S₂ ≡ putCode S₁ c₁ 100 → c₂ ≡ codeNext c₁ → S ≡ putCode S₂ c₂ 99 → c ≡ codeNext c₂
+        → S₂ ≡ putCode S₁ c₁ PLUS-CODE → c₂ ≡ codeNext c₁ → S ≡ putCode S₂ c₂ OPT-CODE → c ≡ codeNext c₂
         → Keeps end (begun (places + 1) T n (4 * tokens + 3)) 1 0 names S (newModel p c) (newTokens (star (newPlace (placesOf names₀ places))))
     new-data p Q S₁ S₂ S c₁ c₂ c q r s₁ k₁ s₂ k₂ s k =
         new-keeps (4 * tokens + 3) c (λ x. star (place x)) p S q refl refl
@@ -98,8 +99,8 @@ module _ (end at at' size places tokens n : ℕ) (T names₀ names : List ℕ) (
         let x₁ : Tabled (begun lo T n (d + 1 + 1)) (plus g) (lo ∷ []) (tokens + 1) S₁ c₁ =
         rw (s₁, k₁) (tabled-on lo T n (d + 1 + 1) (tokens + 1) n lo (plus g) [] T Q (ready-more lo T n (omega arith) ready) (omega arith) (omega arith) filled on (sym (append-nil (codeIn T n))) (omega arith)) in
         let x₂ : Tabled (begun lo T n (d + 1)) (plus g) (codes (plus g)) (tokens + 1) S₂ c₂ =
-        rw (s₂, k₂) (tabled-put lo T n (d + 1) (tokens + 1) c₁ 100 (plus g) (lo ∷ []) S₁ (ready-more lo T n (omega arith) ready) (omega arith) (omega arith) (x₁ .filled) (x₁ .code-holds) (x₁ .room)) in
-        rw (s, k) (tabled-put lo T n d (tokens + 1) c₂ 99 (star g) (codes (plus g)) S₂ ready (omega arith) (omega arith) (x₂ .filled) (x₂ .code-holds) (x₂ .room)))
+        rw (s₂, k₂) (tabled-put lo T n (d + 1) (tokens + 1) c₁ PLUS-CODE (plus g) (lo ∷ []) S₁ (ready-more lo T n (omega arith) ready) (omega arith) (omega arith) (x₁ .filled) (x₁ .code-holds) (x₁ .room)) in
+        rw (s, k) (tabled-put lo T n d (tokens + 1) c₂ OPT-CODE (star g) (codes (plus g)) S₂ ready (omega arith) (omega arith) (x₂ .filled) (x₂ .code-holds) (x₂ .room)))
 
 -- A name.
 

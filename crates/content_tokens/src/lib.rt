@@ -8,6 +8,7 @@ ghost use mathlib.Core.Bool.{false};
 ghost use Prim.Native.Nat.{_+_, _*_, _≤_, _<_};
 ghost use lib.ListN.{length};
 ghost use Rattle.rules.specs.TypeFile.{nameToken, dataToken};
+ghost use Rattle.rules.specs.Bytes.{GRPGTCNT, typeLimit};
 ghost use Rattle.model_names.specs.Places.{placesOf};
 ghost use Rattle.connectors.specs.Kept.{begun};
 ghost use Rattle.content_tokens.specs.Meets.{wrongData, Meets, modelFault};
@@ -50,8 +51,8 @@ pub fn name_token(
     names: &mut [u32; NAMES],
     table: &mut [u8; MODEL],
 ) -> ModelRead
-    requires { ⌜ (at ≤ length (now s)) × (length (now s) ≤ 32768) ⌝ }
-    requires { ⌜ (places ≤ tokens) × (full ≡ false → tokens < 96) ⌝ }
+    requires { ⌜ (at ≤ length (now s)) × (length (now s) ≤ typeLimit) ⌝ }
+    requires { ⌜ (places ≤ tokens) × (full ≡ false → tokens < GRPGTCNT) ⌝ }
     ensures { λ r. ⌜ Meets (length (now (s .entry))) (begun (places + 1) (now (table .entry)) code (4 * tokens + 3)) (now (names .exit)) (now (table .exit)) r
         (nameToken long (now (s .entry)) at full (placesOf (now (names .entry)) places) tokens) ⌝ }
 {
@@ -81,7 +82,7 @@ pub fn name_token(
 
 // A word after the `#` at `at` that ends at e and is not PCDATA: at the `#`, or where the input ends within it.
 fn wrong_data(s: &[u8], at: usize, e: usize) -> ModelRead
-    requires { ⌜ (at < e) × (e ≤ length (now s)) × (length (now s) ≤ 32768) ⌝ }
+    requires { ⌜ (at < e) × (e ≤ length (now s)) × (length (now s) ≤ typeLimit) ⌝ }
     ensures { λ r. ⌜ r ≡ ModelRead.Refused (record { number = 4; at = wrongData (now (s .entry)) at e }) ⌝ }
 {
     if words::is_cut(s, at + 1, e, b"PCDATA") {
@@ -101,8 +102,8 @@ pub fn data_token(
     names: &mut [u32; NAMES],
     table: &mut [u8; MODEL],
 ) -> ModelRead
-    requires { ⌜ (at < length (now s)) × (length (now s) ≤ 32768) ⌝ }
-    requires { ⌜ (places ≤ tokens) × (full ≡ false → tokens < 96) ⌝ }
+    requires { ⌜ (at < length (now s)) × (length (now s) ≤ typeLimit) ⌝ }
+    requires { ⌜ (places ≤ tokens) × (full ≡ false → tokens < GRPGTCNT) ⌝ }
     ensures { λ r. ⌜ Meets (length (now (s .entry))) (begun (places + 1) (now (table .entry)) code (4 * tokens + 3)) (now (names .exit)) (now (table .exit)) r
         (dataToken (now (s .entry)) at full (placesOf (now (names .entry)) places) tokens) ⌝ }
 {
@@ -120,13 +121,13 @@ pub fn data_token(
         let part = model_table::put_place(table, p);
         model_table::repeat(table, p, p + 1);
         let one = model_code::put(table, code, p as u8);
-        let many = model_code::put(table, one, model_code::PLUS);
+        let many = model_code::put(table, one, model_code::PLUS_CODE);
         return ModelRead::Read(Model {
             at: e,
             places: p,
             tokens: tokens + 1,
             part: model_table::optional(part),
-            code: model_code::put(table, many, model_code::OPT),
+            code: model_code::put(table, many, model_code::OPT_CODE),
             and: 0,
             repeated: 0,
         });

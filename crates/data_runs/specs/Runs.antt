@@ -7,7 +7,7 @@ use native.Mathlib.Omega.{arith}
 use lib.ListN.{length}
 use lib.Dec.{eqb}
 use borrow.Author.Tests.{eqb-true, eqb-false}
-use Rattle.rules.specs.Bytes.{byteAt, letter}
+use Rattle.rules.specs.Bytes.{byteAt, letter, AND, DSC, DSO, EXCLAMATION, MDC, OPT, RE, RS, SOLIDUS, SPACE, STAGO, TAB}
 use Rattle.rules.specs.Reading.{Reading, refused, got}
 use Rattle.rules.specs.TypeFile.{atDashes}
 use Rattle.rules.specs.Document.{blank, dataByte, declarationPiece, markupPiece, bytePiece, piece}
@@ -26,41 +26,41 @@ skipped-stops (refused n k) = refl
 skipped-stops (got e) = refl
 
 -- `<!` and `<` that begin no tag, no comment and no `<!>` go on a run, unless the form is one that is left out.
-pub declaration-runs : (s : List ℕ) (i b : ℕ) → b ≡ byteAt s (i + 2) → (b ≡ 62 → ⊥) → atDashes s (i + 2) ≡ false → (w : Bool) → w ≡ (letter b || eqb b 91) → not w ≡ isRun (declarationPiece s i)
+pub declaration-runs : (s : List ℕ) (i b : ℕ) → b ≡ byteAt s (i + 2) → (b ≡ MDC → ⊥) → atDashes s (i + 2) ≡ false → (w : Bool) → w ≡ (letter b || eqb b DSO) → not w ≡ isRun (declarationPiece s i)
 declaration-runs s i b q h d true e = ap isRun (declaration-out s i b q h d (sym e))
 declaration-runs s i b q h d false e = ap isRun (declaration-data s i b q h d (sym e))
 
-pub markup-runs : (long : ℕ) (s : List ℕ) (i b : ℕ) → b ≡ byteAt s (i + 1) → letter b ≡ false → (eqb (byteAt s (i + 1)) 47 && letter (byteAt s (i + 2))) ≡ false → (b ≡ 33 → ⊥) → not (eqb b 63) ≡ isRun (markupPiece long s i)
-markup-runs long s i b q l t n = by-test (eqb b 63) refl
+pub markup-runs : (long : ℕ) (s : List ℕ) (i b : ℕ) → b ≡ byteAt s (i + 1) → letter b ≡ false → (eqb (byteAt s (i + 1)) SOLIDUS && letter (byteAt s (i + 2))) ≡ false → (b ≡ EXCLAMATION → ⊥) → not (eqb b OPT) ≡ isRun (markupPiece long s i)
+markup-runs long s i b q l t n = by-test (eqb b OPT) refl
   where
-    by-test : (w : Bool) → eqb b 63 ≡ w → not w ≡ isRun (markupPiece long s i)
-    by-test true e = ap isRun (markup-out long s i b q l t n (eqb-true b 63 e))
-    by-test false e = ap isRun (markup-data long s i b q l t n (eqb-false b 63 e))
+    by-test : (w : Bool) → eqb b OPT ≡ w → not w ≡ isRun (markupPiece long s i)
+    by-test true e = ap isRun (markup-out long s i b q l t n (eqb-true b OPT e))
+    by-test false e = ap isRun (markup-data long s i b q l t n (eqb-false b OPT e))
 
 -- A byte by itself goes on a run, unless it is byte 10.
-pub byte-runs : (s : List ℕ) (i b : ℕ) → b ≡ byteAt s i → not (eqb b 10) ≡ isRun (bytePiece s i)
-byte-runs s i b q = by-test (eqb b 10) refl
+pub byte-runs : (s : List ℕ) (i b : ℕ) → b ≡ byteAt s i → not (eqb b RS) ≡ isRun (bytePiece s i)
+byte-runs s i b q = by-test (eqb b RS) refl
   where
-    by-blank : (b ≡ 10 → ⊥) → (w : Bool) → (eqb b 9 || (eqb b 13 || eqb b 32)) ≡ w → true ≡ isRun (bytePiece s i)
+    by-blank : (b ≡ RS → ⊥) → (w : Bool) → (eqb b TAB || (eqb b RE || eqb b SPACE)) ≡ w → true ≡ isRun (bytePiece s i)
     by-blank h true e = ap isRun (byte-blank s i b q h e)
     by-blank h false e = ap isRun (byte-data s i b q h e)
 
-    by-test : (w : Bool) → eqb b 10 ≡ w → not w ≡ isRun (bytePiece s i)
-    by-test true e = ap isRun (byte-skipped s i b q (eqb-true b 10 e))
-    by-test false e = by-blank (eqb-false b 10 e) (eqb b 9 || (eqb b 13 || eqb b 32)) refl
+    by-test : (w : Bool) → eqb b RS ≡ w → not w ≡ isRun (bytePiece s i)
+    by-test true e = ap isRun (byte-skipped s i b q (eqb-true b RS e))
+    by-test false e = by-blank (eqb-false b RS e) (eqb b TAB || (eqb b RE || eqb b SPACE)) refl
 
 -- A byte that is not special goes on a run.
 pub plain-runs : (s : List ℕ) (i b : ℕ) → b ≡ byteAt s i → special b ≡ false → isRun (anyPiece s i) ≡ true
 unfolding piece bytePiece
-plain-runs s i b q e = rw (piece, bytePiece, less .0, and .0, section .0, section .1) (by-blank (eqb (byteAt s i) 9 || (eqb (byteAt s i) 13 || eqb (byteAt s i) 32)))
+plain-runs s i b q e = rw (piece, bytePiece, less .0, and .0, section .0, section .1) (by-blank (eqb (byteAt s i) TAB || (eqb (byteAt s i) RE || eqb (byteAt s i) SPACE)))
   where
-    less : (eqb (byteAt s i) 60 ≡ false) × ((eqb (byteAt s i) 38 || (eqb (byteAt s i) 93 || eqb (byteAt s i) 10)) ≡ false)
+    less : (eqb (byteAt s i) STAGO ≡ false) × ((eqb (byteAt s i) AND || (eqb (byteAt s i) DSC || eqb (byteAt s i) RS)) ≡ false)
     less = neither _ _ (rw q at e)
 
-    and : (eqb (byteAt s i) 38 ≡ false) × ((eqb (byteAt s i) 93 || eqb (byteAt s i) 10) ≡ false)
+    and : (eqb (byteAt s i) AND ≡ false) × ((eqb (byteAt s i) DSC || eqb (byteAt s i) RS) ≡ false)
     and = neither _ _ (less .1)
 
-    section : (eqb (byteAt s i) 93 ≡ false) × (eqb (byteAt s i) 10 ≡ false)
+    section : (eqb (byteAt s i) DSC ≡ false) × (eqb (byteAt s i) RS ≡ false)
     section = neither _ _ (and .1)
 
     by-blank : (w : Bool) → isRun (elim w [ true ↦ got blank | false ↦ got dataByte ]) ≡ true

@@ -63,7 +63,7 @@ fn runs_on(s: &[u8], i: usize) -> bool
     if delimiters::is_section_end(s, i) {
         return false;
     }
-    b != 10
+    b != b'\n'
 }
 
 // How many of the four bytes at i stand before a special one.

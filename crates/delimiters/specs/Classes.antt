@@ -5,11 +5,11 @@ use mathlib.Core.Bool.{Bool, _||_}
 use mathlib.Core.List.{List}
 use lib.ListN.{getD}
 use lib.Dec.{eqb}
-use Rattle.rules.specs.Bytes.{nameByte}
+use Rattle.rules.specs.Bytes.{nameByte, AND, DSC, RS, STAGO}
 
 -- A byte that may begin something else than data: `<`, `&`, `]`, or byte 10.
 abbrev pub special : ℕ → Bool
-special b = eqb b 60 || (eqb b 38 || (eqb b 93 || eqb b 10))
+special b = eqb b STAGO || (eqb b AND || (eqb b DSC || eqb b RS))
 
 -- x is the class of the byte b: 1 if it is special, and 2 more if it may go on a name.
 pub record ClassOf (b x : ℕ) : Type 0 where

@@ -6,7 +6,7 @@ ghost use mathlib.Core.Bool.{_&&_, _||_};
 ghost use Prim.Native.Nat.{_+_, _<_};
 ghost use lib.ListN.{length};
 ghost use lib.Dec.{eqb, leb};
-ghost use Rattle.rules.specs.Bytes.{byteAt, letter};
+ghost use Rattle.rules.specs.Bytes.{byteAt, letter, AND, DSO, SOLIDUS};
 ghost use Rattle.rules.specs.TypeFile.{atDashes};
 ghost use Rattle.rules.specs.Attributes.{isReference};
 ghost use Rattle.rules.specs.Document.{isSectionEnd};
@@ -15,7 +15,7 @@ ghost use Rattle.delimiters.specs.Classes.{Classes};
 // Whether `/` and a letter stand behind `<` at i.
 pub fn is_end_tag(s: &[u8], i: usize) -> bool
     requires { ⌜ i < length (now s) ⌝ }
-    ensures { λ r. ⌜ r ≡ (eqb (byteAt (now (s .entry)) (i + 1)) 47 && letter (byteAt (now (s .entry)) (i + 2))) ⌝ }
+    ensures { λ r. ⌜ r ≡ (eqb (byteAt (now (s .entry)) (i + 1)) SOLIDUS && letter (byteAt (now (s .entry)) (i + 2))) ⌝ }
 {
     if text::byte(s, i + 1) != b'/' {
         return false;
@@ -36,7 +36,7 @@ pub fn dashes_at(s: &[u8], i: usize) -> bool
 
 // Whether `<!` before the byte b is a form that is left out.
 pub fn is_left_out(b: u8) -> bool
-    ensures { λ r. ⌜ r ≡ (letter b || eqb b 91) ⌝ }
+    ensures { λ r. ⌜ r ≡ (letter b || eqb b DSO) ⌝ }
 {
     if text::is_letter(b) {
         return true;
@@ -50,13 +50,13 @@ fn is_letter_or_digit(b: u8) -> bool
     if text::is_letter(b) {
         return true;
     }
-    48 <= b && b <= 57
+    b'0' <= b && b <= b'9'
 }
 
 // Whether an entity or character reference stands at i.
 pub fn is_reference(s: &[u8], i: usize) -> bool
     requires { ⌜ i < length (now s) ⌝ }
-    ensures { λ r. ⌜ r ≡ (eqb (byteAt (now (s .entry)) i) 38 && isReference (now (s .entry)) i) ⌝ }
+    ensures { λ r. ⌜ r ≡ (eqb (byteAt (now (s .entry)) i) AND && isReference (now (s .entry)) i) ⌝ }
 {
     if text::byte(s, i) != b'&' {
         return false;

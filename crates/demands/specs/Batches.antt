@@ -12,7 +12,7 @@ use Rattle.rules.specs.Lent.{Lent, zeroed}
 use Rattle.rules.specs.Judge.{Answer, refusal, acceptance}
 use Rattle.rules.specs.Reader.{documentRefusal, ReadAs}
 use Rattle.rules.specs.Calls.{answerNumbers}
-use Rattle.rules.specs.Batch.{Batch, stretch, Has, Unfit, RefusesPart, PartAs, AllRead, Batched}
+use Rattle.rules.specs.Batch.{Batch, stretch, Has, Unfit, RefusesPart, PartAs, AllRead, Batched, answerWidth}
 use Rattle.answer_laws.specs.Reader.{given-one}
 
 -- A call, lent `before` and `given` for the answers, answers a as a whole to the batch b of parts of the string under the type file s and the settings c, and
@@ -29,13 +29,13 @@ pub record BatchKeeps (l : Lent) (c : Settings) (s string : List ℕ) (b : Batch
   -- leaves there, 24 among it.
   pub as-single : (Unfit b (length given) (length before) → ⊥) → (i : ℕ) → i < length (b .starts) → getD (b .starts) i 0 + getD (b .lengths) i 0 ≤ length string → (x : Answer) (left : List ℕ)
       → ReadAs l c s (stretch (getD (b .starts) i 0) (getD (b .lengths) i 0) string) (stretch (getD (b .froms) i 0) (getD (b .sizes) i 0) before) x left
-      → (stretch (6 * i) 6 answers ≡ answerNumbers x) × (stretch (getD (b .froms) i 0) (getD (b .sizes) i 0) after ≡ left)
+      → (stretch (answerWidth * i) answerWidth answers ≡ answerNumbers x) × (stretch (getD (b .froms) i 0) (getD (b .sizes) i 0) after ≡ left)
   -- "A part whose start plus length passes the string's end is number 1 for that document only".
   pub as-passing : (Unfit b (length given) (length before) → ⊥) → (i : ℕ) → i < length (b .starts) → length string < getD (b .starts) i 0 + getD (b .lengths) i 0 → isOffered c ≡ true → length s ≤ typeLimit
-      → (stretch (6 * i) 6 answers ≡ answerNumbers (documentRefusal 1 0)) × (stretch (getD (b .froms) i 0) (getD (b .sizes) i 0) after ≡ zeroed (stretch (getD (b .froms) i 0) (getD (b .sizes) i 0) before))
+      → (stretch (answerWidth * i) answerWidth answers ≡ answerNumbers (documentRefusal 1 0)) × (stretch (getD (b .froms) i 0) (getD (b .sizes) i 0) after ≡ zeroed (stretch (getD (b .froms) i 0) (getD (b .sizes) i 0) before))
   -- "Each document's own given stretch of the buffer is its lent buffer; the rest stays."
   pub rest-stays : (Unfit b (length given) (length before) → ⊥) → (length after ≡ length before) × ((k : ℕ) → ((i : ℕ) → i < length (b .starts) → Has b i k → ⊥) → getD after k 0 ≡ getD before k 0)
-  pub answers-stay : (Unfit b (length given) (length before) → ⊥) → length answers ≡ 6 * length (b .starts)
+  pub answers-stay : (Unfit b (length given) (length before) → ⊥) → length answers ≡ answerWidth * length (b .starts)
 
 number : {a b : Answer} → a ≡ b → a .number ≡ b .number
 number e = ap (λ (x : Answer). x .number) e

@@ -19,7 +19,7 @@ use Rattle.rules.specs.Reading.{Reading, got}
 use Rattle.rules.specs.Walk.{Group}
 use Rattle.rules.specs.Ambiguity.{Ambiguous, PairAtFault}
 use Rattle.rules.specs.TypeFile.{Place, Element, typeFile}
-use Rattle.rules.specs.Judge.{samePlace, Answer, refusal, firstRepeated, Legible, Refuses, Accepts, Judged}
+use Rattle.rules.specs.Judge.{samePlace, Answer, refusal, firstRepeated, Legible, Refuses, Accepts, Judged, recordWidth}
 use Rattle.rules.specs.Events.{Event, eventWidth}
 use Rattle.rules.specs.Attributes.{needsTag}
 use Rattle.rules.specs.Elements.{elementAt}
@@ -77,11 +77,11 @@ pub record JudgeKeeps (l : Lent) (c : Settings) (s before : List ℕ) (a : Answe
   pub same-length : length after ≡ length before
   -- Demand 2: accepted exactly when the rules accept it, with exactly their records; every refusal is the one that the stated order picks;
   -- "19 only where nothing else is wrong, and exactly if the numbers don't fit".
-  pub accepted-exactly : (a .number ≡ 0) ↔ ((es : List Element) × Accepts c s es × (6 * length es ≤ room l before))
+  pub accepted-exactly : (a .number ≡ 0) ↔ ((es : List Element) × Accepts c s es × (recordWidth * length es ≤ room l before))
   pub acceptance-whole : a .number ≡ 0 → Acceptance l c s before a after
   pub refused-exactly : (a .number ≡ 0 → ⊥) ↔ Refuses c s (room l before) a
   pub order-picks : (b : Answer) → Refuses c s (room l before) b → a ≡ b
-  pub too-small-exactly : (a .number ≡ 19) ↔ ((es : List Element) × Accepts c s es × (room l before < 6 * length es))
+  pub too-small-exactly : (a .number ≡ 19) ↔ ((es : List Element) × Accepts c s es × (room l before < recordWidth * length es))
   -- Paper 02, request six: "another is 24, in the type at 0", before anything else, and only that is.
   pub not-offered : isOffered c ≡ false → a ≡ refusal 24 0 0 0
   pub not-offered-exactly : (a .number ≡ 24) ↔ (isOffered c ≡ false)

@@ -12,7 +12,7 @@ use Rattle.rules.specs.Bytes.{allowed, span, typeLimit, documentLimit}
 use Rattle.rules.specs.Lent.{Lent, standing, room, filledWith, zeroed}
 use Rattle.rules.specs.Reading.{Reading, refused, got}
 use Rattle.rules.specs.TypeFile.{Element, typeFile}
-use Rattle.rules.specs.Judge.{Answer, refusal, acceptance, AllUnambiguous, firstRepeated, records, Legible, Refuses, Accepts, Judged}
+use Rattle.rules.specs.Judge.{Answer, refusal, acceptance, AllUnambiguous, firstRepeated, records, Legible, Refuses, Accepts, Judged, recordWidth}
 use Rattle.rules.specs.Events.{Event, eventWidth}
 use Rattle.rules.specs.Reader.{eventNumbers, documentRefusal, BothLegible, Reads, RefusesBoth, ReadAs}
 use Rattle.model_sets.specs.Bits.{bool-cases}
@@ -35,9 +35,9 @@ module _ (l : Lent) (c : Settings) (s before : List ℕ) where
   judge-refuses a r = (a, zeroed before, Judged.refuses r refl)
 
   judge-accepted : (es : List Element) → Accepts c s es → SomeJudged
-  judge-accepted es w = go (decLt (room l before) (6 * length es))
+  judge-accepted es w = go (decLt (room l before) (recordWidth * length es))
     where
-      go : Dec (room l before < 6 * length es) → SomeJudged
+      go : Dec (room l before < recordWidth * length es) → SomeJudged
       go (yes h) = judge-refuses (refusal 19 0 0 0) (Refuses.noRoom (w .legible) es (w .elements) (w .unrepeated) (w .unambiguous) h refl)
       go (no h) = (acceptance (length es), filledWith (standing l (records es)) before, Judged.accepts es w (omega arith) refl refl)
 

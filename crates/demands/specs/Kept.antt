@@ -15,7 +15,7 @@ use Rattle.rules.specs.Reading.{got}
 use Rattle.rules.specs.Walk.{Group}
 use Rattle.rules.specs.Ambiguity.{Ambiguous, PairAtFault}
 use Rattle.rules.specs.TypeFile.{Place, Element, typeFile}
-use Rattle.rules.specs.Judge.{samePlace, Answer, refusal, firstRepeated, Legible, Refuses, noRoom, Accepts, Judged, refuses, accepts}
+use Rattle.rules.specs.Judge.{samePlace, Answer, refusal, firstRepeated, Legible, Refuses, noRoom, Accepts, Judged, refuses, accepts, recordWidth}
 use Rattle.rules.specs.Events.{Event, eventWidth}
 use Rattle.rules.specs.Attributes.{needsTag}
 use Rattle.rules.specs.Elements.{elementAt, contentOf, hasModel, startO}
@@ -53,7 +53,7 @@ module _ (l : Lent) (c : Settings) (s before : List ℕ) (a : Answer) (after : L
 
   -- Demand 2: the type is accepted exactly when the rules accept it and the numbers fit, and then with exactly their records.
 
-  pub accepted-exactly : (a .number ≡ 0) ↔ ((es : List Element) × Accepts c s es × (6 * length es ≤ room l before))
+  pub accepted-exactly : (a .number ≡ 0) ↔ ((es : List Element) × Accepts c s es × (recordWidth * length es ≤ room l before))
   accepted-exactly = (
     λ h. let (es, w, f, e, z) = settled-accepts promised h in (es, w, f),
     λ (es, w, f). rw (settled-one promised (accepts es w f refl refl) .0),
@@ -72,7 +72,7 @@ module _ (l : Lent) (c : Settings) (s before : List ℕ) (a : Answer) (after : L
   order-picks b r = settled-one promised (refuses r refl) .0
 
   -- "19 only where nothing else is wrong, and exactly if the numbers don't fit."
-  pub too-small-exactly : (a .number ≡ 19) ↔ ((es : List Element) × Accepts c s es × (room l before < 6 * length es))
+  pub too-small-exactly : (a .number ≡ 19) ↔ ((es : List Element) × Accepts c s es × (room l before < recordWidth * length es))
   too-small-exactly = (
     settled-nineteen promised,
     λ (es, w, f). rw (order-picks _ (noRoom (w .legible) es (w .elements) (w .unrepeated) (w .unambiguous) f refl)),

@@ -26,6 +26,7 @@ use Rattle.rules.specs.Settling as rules
 use Rattle.rules.specs.Acts.{Declared, Act, MarksMean, Passes, Few}
 use Rattle.rules.specs.Records.{Line, recordsSettled}
 use Rattle.rules.specs.Reader.{Reads}
+use Rattle.rules.specs.Bytes.{TAGLVL}
 use Rattle.document_laws.specs.Decide.{decided}
 use Rattle.document_laws.specs.Moves.{fits, required}
 use Rattle.turn_laws.specs.Turns.{Reaches}
@@ -86,7 +87,7 @@ use Rattle.moments.specs.Steps.{stops-lead, infers-start-does, placed-moment, p
 
 -- Demand 1, "keeps between 0 and 24 elements open", and what is kept of them lies in the array of 24 entries.
 abbrev pub KeepsFew : Open → Type 0
-KeepsFew o = (o .count ≤ 24) × (length (o .around) ≡ 24)
+KeepsFew o = (o .count ≤ TAGLVL) × (length (o .around) ≡ 24)
 
 keeps-few : {o : Open} → Ranged o → KeepsFew o
 keeps-few h = (h .few, h .whole)
@@ -105,7 +106,7 @@ start-few κs a r e asked made = (keeps-few (asked .0), keeps-few (subst Ranged 
 pub start-required-few : (κs : Lfts 3) (a : ArgsD start-required.signature κs) (r : Open) (e : AtExit start-required.ended κs) → start-required-reads.Asked κs a → start-required-reads.Learnt κs a r e → KeepsFew (a .0) × KeepsFew r
 start-required-few κs a r e asked made =
     let taken = ranged-taking (made .taking) (asked .0) (asked .0 .required) in
-    let less : made .taken .count < 24 = omega (arith, made .taking .count, asked .1) in
+    let less : made .taken .count < TAGLVL = omega (arith, made .taking .count, asked .1) in
     (keeps-few (asked .0), keeps-few (subst Ranged (sym (made .opens)) (ranged-opening (now (a .1 .0)) (a .1 .1 .1 .1 .0 .0) taken less (asked .2))))
 
 pub infer-end-few : (κs : Lfts 0) (a : ArgsD infer-end.signature κs) (r : Open) (e : AtExit infer-end.ended κs) → infer-end-reads.Asked κs a → infer-end-reads.Learnt κs a r e → KeepsFew (a .0) × KeepsFew r
@@ -122,7 +123,7 @@ pub infer-start-few : (κs : Lfts 7) (a : ArgsD infer-start.signature κs) (r : 
 infer-start-few κs a r e asked infers =
     let made = infers .starting in
     let taken = ranged-taking (made .taking) (asked .0) (asked .0 .required) in
-    let less : made .taken .count < 24 = omega (arith, made .taking .count, asked .1) in
+    let less : made .taken .count < TAGLVL = omega (arith, made .taking .count, asked .1) in
     (keeps-few (asked .0), keeps-few (subst Ranged (sym (made .opens)) (ranged-opening (now (a .0)) (infers .k) taken less (infers .few))))
 
 pub placed-few : (κs : Lfts 7) (a : ArgsD place.signature κs) (r : Outcome) (e : AtExit place.ended κs) → place-reads.Asked κs a → place-reads.Learnt κs a r e → KeepsFew (a .1 .1 .1 .1 .1 .0) × KeepsFew (r .open)

@@ -10,7 +10,7 @@ use Rattle.rules.specs.Reading.{got}
 use Rattle.rules.specs.Walk.{Group, Guarded, Begins}
 use Rattle.rules.specs.Ambiguity.{SpellSame, Ambiguous, FirstPair}
 use Rattle.rules.specs.TypeFile.{Place, model, Element, typeFile}
-use Rattle.rules.specs.Judge.{placeAt, samePlace, Answer, acceptance, records, Accepts}
+use Rattle.rules.specs.Judge.{placeAt, samePlace, Answer, acceptance, records, Accepts, recordWidth}
 use Rattle.rules.specs.Events.{Event, eventWidth}
 use Rattle.rules.specs.Reader.{eventNumbers, Reads}
 
@@ -34,7 +34,7 @@ pub record Refusal (s before : List ℕ) (a : Answer) (after : List ℕ) : Type 
 pub record Acceptance (l : Lent) (c : Settings) (s before : List ℕ) (a : Answer) (after : List ℕ) : Type 0 where
   pub elements : List Element
   pub accepted : Accepts c s elements
-  pub fits : 6 * length elements ≤ room l before
+  pub fits : recordWidth * length elements ≤ room l before
   pub answer : a ≡ acceptance (length elements)
   pub written : after ≡ filledWith (standing l (records elements)) before
 

@@ -12,6 +12,7 @@ use Rattle.rules.specs.Given.{withAttributes}
 use Rattle.rules.specs.Settling.{State}
 use Rattle.rules.specs.Records.{Line}
 use Rattle.rules.specs.Reader.{document, eventNumbers}
+use Rattle.layout.specs.Sizes.{MOST-EVENTS}
 use Rattle.numbers.specs.Written.{Written}
 use Rattle.document_laws.specs.Decide.{decided}
 use Rattle.record_due.specs.Due.{due}
@@ -57,7 +58,7 @@ pub record Going (c : Settings) (s elements index rows places facts M lists d be
   pub inside : at ≤ length d
   pub since-inside : since ≤ at
   pub from-inside : from ≤ since
-  pub few : n ≤ 1050 * at
+  pub few : n ≤ MOST-EVENTS * at
   pub ranged : Ranged o
   pub numbers-same : length numbersNow ≡ length numbers
   pub bytes-same : length bytesNow ≡ length bytes

@@ -6,7 +6,7 @@ use mathlib.Core.List.{List, [], _++_}
 use native.Mathlib.Omega.{arith}
 use lib.ListN.{length, length-append}
 use Rattle.rules.specs.Settings.{Settings}
-use Rattle.rules.specs.Bytes.{byteAt, MDC}
+use Rattle.rules.specs.Bytes.{byteAt, MDC, TAGLVL, documentLimit, elementLimit}
 use Rattle.rules.specs.Reading.{Reading, refused, got}
 use Rattle.rules.specs.TypeFile.{Element}
 use Rattle.rules.specs.Lent.{bytesOf}
@@ -28,6 +28,7 @@ use Rattle.rules_laws.specs.Holds.{got-so}
 use Rattle.rules_laws.specs.Runs.{isRun, runEnd}
 use Rattle.rules_laws.specs.BeforeStarts.{with-append}
 use Rattle.rules_laws.specs.Pieces.{piece-start-tag, piece-read}
+use Rattle.layout.specs.Sizes.{MOST-EVENTS}
 use Rattle.document_laws.specs.Decide.{decided}
 use Rattle.document_laws.specs.OneReading.{accepted-decided}
 use Rattle.document_laws.specs.Moves.{state}
@@ -184,7 +185,7 @@ going-start c s elements index rows places facts M lists d begun numbers bytes q
 -- All is read.
 module _ {c : Settings} {s elements index rows places facts M lists d begun numbers numbersNow bytes bytesNow : List ℕ} {n at since mark from : ℕ} {o : Open}
     (g : Going c s elements index rows places facts M lists d begun numbers numbersNow bytes bytesNow n at since mark from o) (over : length d ≤ at) where
-  pub finish-asked : length d ≤ 65535 → Ranged o × (at < 4294967296) × (n + 1100 < 4294967296)
+  pub finish-asked : length d ≤ documentLimit → Ranged o × (at < 4294967296) × (n + MOST-EVENTS < 4294967296)
   finish-asked small = (g .ranged, omega (arith, g .inside), omega (arith, g .inside, g .few))
 
   module _ {r : Outcome} {numbers′ bytes′ : List ℕ} (t : Finished facts at n o numbersNow bytesNow r numbers′ bytes′) where
@@ -205,7 +206,7 @@ module _ {c : Settings} {s elements index rows places facts M lists d begun numb
         let z = g .any es i u l .state in
         rw q (reaches-end (g .any es i u l .reaches) whole (was-refused at (λ (ev : List Event). ev ≡ z .events ++ t .brings .events) (endDocument s es (decided s es) (length d) z) (ends es i u l) (omega arith)))
 
-    pub end-counts : length d ≤ 65535 → r .number ≡ 0 → (es : List Element) → Indexed s es elements index → Tables s es rows places facts M → Lists (c .nameLength) s es lists → EventsOf c s es d numbers numbers′ bytes bytes′ (counted.Events (r .events))
+    pub end-counts : length d ≤ documentLimit → r .number ≡ 0 → (es : List Element) → Indexed s es elements index → Tables s es rows places facts M → Lists (c .nameLength) s es lists → EventsOf c s es d numbers numbers′ bytes bytes′ (counted.Events (r .events))
     end-counts small nothing es i u l =
         let came = g .any es i u l in
         let z = came .state in
@@ -249,10 +250,10 @@ module _ {c : Settings} {s elements index rows places facts M lists d begun numb
 
   -- Each moves on within the document.
   pub token-range : {x : ElementNo} {after : ℕ} → p ≡ found.Token x after → (at < after) × (after ≤ length d)
-  token-range {x} {after} q = let (f, k, m) : (x .0 ≤ 64) × (at < after) × (after ≤ length d) = rw q at (turn .onward) in (k, m)
+  token-range {x} {after} q = let (f, k, m) : (x .0 ≤ elementLimit) × (at < after) × (after ≤ length d) = rw q at (turn .onward) in (k, m)
 
   pub end-range : {x : ElementNo} {after : ℕ} → p ≡ found.End x after → (at < after) × (after ≤ length d)
-  end-range {x} {after} q = let (f, k, m) : (x .0 ≤ 64) × (at < after) × (after ≤ length d) = rw q at (turn .onward) in (k, m)
+  end-range {x} {after} q = let (f, k, m) : (x .0 ≤ elementLimit) × (at < after) × (after ≤ length d) = rw q at (turn .onward) in (k, m)
 
   pub passed-range : {after : ℕ} → p ≡ found.Passed after → (at < after) × (after ≤ length d)
   passed-range q = rw q at (turn .onward)
@@ -284,14 +285,14 @@ module _ {c : Settings} {s elements index rows places facts M lists d begun numb
       by-kind es z reach (skips e) = reaches-skipped reach (turn .inside) e
       by-kind es z reach (separates e n a) = rw a (reaches-blank reach (turn .inside) e n)
 
-  module _ (small : length d ≤ 65535) {x : ElementNo} {after : ℕ} where
-    asked : (x .0 ≤ 64) × (at < after) × (after ≤ length d) → (x .0 ≤ 64) × (at ≤ after) × (after < 4294967296) × (n + 1100 < 4294967296)
+  module _ (small : length d ≤ documentLimit) {x : ElementNo} {after : ℕ} where
+    asked : (x .0 ≤ elementLimit) × (at < after) × (after ≤ length d) → (x .0 ≤ elementLimit) × (at ≤ after) × (after < 4294967296) × (n + MOST-EVENTS < 4294967296)
     asked (f, k, m) = (f, omega arith, omega arith, omega (arith, turn .going .few))
 
-    pub token-asked : p ≡ found.Token x after → Ranged o × (x .0 ≤ 64) × (at ≤ after) × (after < 4294967296) × (n + 1100 < 4294967296)
+    pub token-asked : p ≡ found.Token x after → Ranged o × (x .0 ≤ elementLimit) × (at ≤ after) × (after < 4294967296) × (n + MOST-EVENTS < 4294967296)
     token-asked q = let (a, b, c, e) = asked (rw q at (turn .onward)) in (turn .going .ranged, a, b, c, e)
 
-    pub end-asked : p ≡ found.End x after → Ranged o × (at ≤ after) × (after < 4294967296) × (x .0 ≤ 64) × (n + 1100 < 4294967296)
+    pub end-asked : p ≡ found.End x after → Ranged o × (at ≤ after) × (after < 4294967296) × (x .0 ≤ elementLimit) × (n + MOST-EVENTS < 4294967296)
     end-asked q = let (a, b, c, e) = asked (rw q at (turn .onward)) in (turn .going .ranged, b, c, a, e)
 
   module _ {x : ElementNo} {after : ℕ} {r : Outcome} {numbers′ bytes′ : List ℕ} where
@@ -362,7 +363,7 @@ module _ {c : Settings} {s elements index rows places facts M lists d begun numb
             inside = token-range q .1;
             since-inside = omega arith;
             from-inside = omega (arith, token-range q);
-            few = omega (arith, turn .going .few, token-range q, t .counted, t .few, frees .few 24 (omega (arith, stops .turns .counted, stops .turns .deep, turn .going .ranged .few)) (omega arith));
+            few = omega (arith, turn .going .few, token-range q, t .counted, t .few, frees .few TAGLVL (omega (arith, stops .turns .counted, stops .turns .deep, turn .going .ranged .few)) (omega arith));
             ranged = t .ranged;
             numbers-same = t .puts .numbers-kept ∙ frees .numbers-kept ∙ stops .turns .puts .numbers-kept ∙ turn .going .numbers-same;
             bytes-same = t .puts .bytes-kept ∙ frees .bytes-kept ∙ stops .turns .puts .bytes-kept ∙ turn .going .bytes-same;

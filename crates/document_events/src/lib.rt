@@ -10,6 +10,7 @@ use layout::MARKS;
 use layout::PLACES;
 use layout::RECORDS;
 use layout::ROWS;
+use layout::TAGLVL;
 use open_elements::Open;
 use pieces::Piece;
 use text::Fault;
@@ -19,6 +20,7 @@ ghost use Prim.Native.Nat.{_≤_, _<_};
 ghost use lib.ListN.{length};
 ghost use Rattle.rules.specs.Settings.{settings, mostNameLength};
 ghost use Rattle.rules.specs.TypeFile.{Element};
+ghost use Rattle.rules.specs.Bytes.{documentLimit, typeLimit};
 ghost use Rattle.delimiters.specs.Classes.{Classes};
 ghost use Rattle.element_index.specs.Indexed.{Indexed};
 ghost use Rattle.list_table.specs.Lists.{Lists};
@@ -61,7 +63,7 @@ pub fn events_of(
     numbers: &mut [u32],
     bytes: &mut [u8],
 ) -> Counted
-    requires { ⌜ Classes (now classes) × (long ≤ mostNameLength) × (length (now d) ≤ 65535) × (length (now s) ≤ 32768) ⌝ }
+    requires { ⌜ Classes (now classes) × (long ≤ mostNameLength) × (length (now d) ≤ documentLimit) × (length (now s) ≤ typeLimit) ⌝ }
     ensures { λ r. ⌜ ((es : List Element) → Indexed (now (s .entry)) es (now (elements .entry)) (now (index .entry)) → Tables (now (s .entry)) es (now (rows .entry)) (now (places .entry)) (now (facts .entry)) (now (members .entry)) → Lists long (now (s .entry)) es (now (lists .entry)) →
         EventsOf (settings long edition) (now (s .entry)) es (now (d .entry)) (now (numbers .entry)) (now (numbers .exit)) (now (bytes .entry)) (now (bytes .exit)) r) ⌝ }
 {
@@ -132,7 +134,7 @@ pub fn events_of(
                     m = record_ends::freed(edition, d, from, since, n, m, numbers, bytes);
                 } else {
                     // Number 15: so many starts would be too many.
-                    if 24 < o.count + starts {
+                    if TAGLVL < o.count + starts {
                         return refusal(15, at);
                     }
                     m = record_ends::freed(edition, d, from, since, n, m, numbers, bytes);

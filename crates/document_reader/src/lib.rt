@@ -23,6 +23,7 @@ ghost use Rattle.rules.specs.Settings.{settings, mostNameLength};
 ghost use Rattle.rules.specs.Settings as rules;
 ghost use Rattle.rules.specs.TypeFile.{Element};
 ghost use Rattle.rules.specs.Reader.{ReadAs};
+ghost use Rattle.rules.specs.Bytes.{documentLimit, elementLimit, typeLimit};
 ghost use Rattle.inputs.specs.Checks.{settingsOf};
 ghost use Rattle.element_index.specs.Indexed.{Indexed};
 ghost use Rattle.list_table.specs.Lists.{Lists};
@@ -49,7 +50,7 @@ fn judged(
     elements: &mut [u32; RECORDS],
     heads: &mut [u16; ELEMENTS],
 ) -> Answer
-    requires { ⌜ now heads ≡ replicate 64 0 ⌝ }
+    requires { ⌜ now heads ≡ replicate elementLimit 0 ⌝ }
     ensures { λ r. ⌜ Judges (settingsOf c) (now (s .entry)) (now (d .entry)) (now (elements .exit)) (now (heads .exit)) r ⌝ }
 {
     let g = type_stage::judged(c, s, elements, heads);
@@ -78,7 +79,7 @@ pub fn follow(
     lists: &[u16],
     bytes: &mut [u8],
 ) -> Counted
-    requires { ⌜ (long ≤ mostNameLength) × (length (now d) ≤ 65535) × (length (now s) ≤ 32768) ⌝ }
+    requires { ⌜ (long ≤ mostNameLength) × (length (now d) ≤ documentLimit) × (length (now s) ≤ typeLimit) ⌝ }
     ensures { λ r. ⌜ ((es : List Element) → Indexed (now (s .entry)) es (now (elements .entry)) (now (index .entry)) → Tables (now (s .entry)) es (now (rows .entry)) (now (places .entry)) (now (facts .entry)) (now (members .entry)) →
         Lists long (now (s .entry)) es (now (lists .entry)) →
         EventsOf (settings long edition) (now (s .entry)) es (now (d .entry)) [] [] (now (bytes .entry)) (now (bytes .exit)) r) ⌝ }
@@ -116,7 +117,7 @@ fn read_listed(
     n: usize,
     bytes: &mut [u8],
 ) -> Counted
-    requires { ⌜ JudgedLists (settings long edition) (now s) (now elements) (now lists) n × (length (now d) ≤ 65535) ⌝ }
+    requires { ⌜ JudgedLists (settings long edition) (now s) (now elements) (now lists) n × (length (now d) ≤ documentLimit) ⌝ }
     ensures { λ r. ⌜ Followed (settings long edition) (now (s .entry)) (now (d .entry)) [] [] (now (bytes .entry)) (now (bytes .exit)) r ⌝ }
 {
     let mut index = [0u8; INDEX];
@@ -193,7 +194,7 @@ fn read_under(
     n: usize,
     bytes: &mut [u8],
 ) -> Counted
-    requires { ⌜ JudgedHeads (settings long edition) (now s) (now elements) (now heads) n × (length (now d) ≤ 65535) ⌝ }
+    requires { ⌜ JudgedHeads (settings long edition) (now s) (now elements) (now heads) n × (length (now d) ≤ documentLimit) ⌝ }
     ensures { λ r. ⌜ Followed (settings long edition) (now (s .entry)) (now (d .entry)) [] [] (now (bytes .entry)) (now (bytes .exit)) r ⌝ }
 {
     if attribute_lists::has_any(heads, n) {

@@ -5,7 +5,7 @@ use mathlib.Core.Bool.{Bool, true, false, _&&_, _||_, true≢false}
 use mathlib.Core.List.{List}
 use lib.Dec.{eqb}
 use borrow.Author.Tests.{eq-eqb, ne-eqb}
-use Rattle.rules.specs.Bytes.{byteAt, letter}
+use Rattle.rules.specs.Bytes.{byteAt, letter, AND, DSO, EXCLAMATION, MDC, OPT, RE, RS, SOLIDUS, SPACE, STAGO, TAB}
 use Rattle.rules.specs.Reading.{Reading, refused, got}
 use Rattle.rules.specs.Attributes.{isReference}
 use Rattle.rules.specs.TypeFile.{atDashes, commentDeclaration}
@@ -23,20 +23,20 @@ use Rattle.document_text.specs.declared.Token.the-variants as token
 
 -- `<!` at i, before the byte b.
 module _ (s : List ℕ) (i b : ℕ) (q : b ≡ byteAt s (i + 2)) where
-  pub declaration-none : b ≡ 62 → got (skipped (i + 3)) ≡ declarationPiece s i
+  pub declaration-none : b ≡ MDC → got (skipped (i + 3)) ≡ declarationPiece s i
   unfolding declarationPiece
   declaration-none h = rw (declarationPiece, eq-eqb _ _ (sym q ∙ h))
 
-  module _ (h : b ≡ 62 → ⊥) where
+  module _ (h : b ≡ MDC → ⊥) where
     pub declaration-comment : (r : Reading ℕ) → r ≡ commentDeclaration s (i + 2) → atDashes s (i + 2) ≡ true → asSkipped (malformed r) ≡ declarationPiece s i
     unfolding declarationPiece
     declaration-comment r e d = rw (e, declarationPiece, ne-eqb _ _ (λ x. h (q ∙ x)), d)
 
-    pub declaration-out : atDashes s (i + 2) ≡ false → (letter b || eqb b 91) ≡ true → refused 5 i ≡ declarationPiece s i
+    pub declaration-out : atDashes s (i + 2) ≡ false → (letter b || eqb b DSO) ≡ true → refused 5 i ≡ declarationPiece s i
     unfolding declarationPiece
     declaration-out d l = rw (declarationPiece, ne-eqb _ _ (λ x. h (q ∙ x)), d, rw q at l)
 
-    pub declaration-data : atDashes s (i + 2) ≡ false → (letter b || eqb b 91) ≡ false → got dataByte ≡ declarationPiece s i
+    pub declaration-data : atDashes s (i + 2) ≡ false → (letter b || eqb b DSO) ≡ false → got dataByte ≡ declarationPiece s i
     unfolding declarationPiece
     declaration-data d l = rw (declarationPiece, ne-eqb _ _ (λ x. h (q ∙ x)), d, rw q at l)
 
@@ -47,50 +47,50 @@ module _ (long : ℕ) (s : List ℕ) (i b : ℕ) (q : b ≡ byteAt s (i + 1)) wh
   markup-start l = rw (markupPiece, rw q at l)
 
   module _ (l : letter b ≡ false) where
-    pub markup-end : (eqb (byteAt s (i + 1)) 47 && letter (byteAt s (i + 2))) ≡ true → (r : Reading Tag) → r ≡ tag long s (i + 2) → asEndTag r ≡ markupPiece long s i
+    pub markup-end : (eqb (byteAt s (i + 1)) SOLIDUS && letter (byteAt s (i + 2))) ≡ true → (r : Reading Tag) → r ≡ tag long s (i + 2) → asEndTag r ≡ markupPiece long s i
     unfolding markupPiece
     markup-end t r e = rw (e, markupPiece, rw q at l, t)
 
-    module _ (t : (eqb (byteAt s (i + 1)) 47 && letter (byteAt s (i + 2))) ≡ false) where
-      pub markup-declaration : b ≡ 33 → declarationPiece s i ≡ markupPiece long s i
+    module _ (t : (eqb (byteAt s (i + 1)) SOLIDUS && letter (byteAt s (i + 2))) ≡ false) where
+      pub markup-declaration : b ≡ EXCLAMATION → declarationPiece s i ≡ markupPiece long s i
       unfolding markupPiece
       markup-declaration h = rw (markupPiece, rw q at l, t, eq-eqb _ _ (sym q ∙ h))
 
-      pub markup-out : (b ≡ 33 → ⊥) → b ≡ 63 → refused 5 i ≡ markupPiece long s i
+      pub markup-out : (b ≡ EXCLAMATION → ⊥) → b ≡ OPT → refused 5 i ≡ markupPiece long s i
       unfolding markupPiece
       markup-out n h = rw (markupPiece, rw q at l, t, ne-eqb _ _ (λ x. n (q ∙ x)), eq-eqb _ _ (sym q ∙ h))
 
-      pub markup-data : (b ≡ 33 → ⊥) → (b ≡ 63 → ⊥) → got dataByte ≡ markupPiece long s i
+      pub markup-data : (b ≡ EXCLAMATION → ⊥) → (b ≡ OPT → ⊥) → got dataByte ≡ markupPiece long s i
       unfolding markupPiece
       markup-data n h = rw (markupPiece, rw q at l, t, ne-eqb _ _ (λ x. n (q ∙ x)), ne-eqb _ _ (λ x. h (q ∙ x)))
 
 -- The byte b at i by itself.
 module _ (s : List ℕ) (i b : ℕ) (q : b ≡ byteAt s i) where
-  pub byte-skipped : b ≡ 10 → got (skipped (i + 1)) ≡ bytePiece s i
+  pub byte-skipped : b ≡ RS → got (skipped (i + 1)) ≡ bytePiece s i
   unfolding bytePiece
   byte-skipped h = rw (bytePiece, eq-eqb _ _ (sym q ∙ h))
 
-  module _ (h : b ≡ 10 → ⊥) where
-    pub byte-blank : (eqb b 9 || (eqb b 13 || eqb b 32)) ≡ true → got blank ≡ bytePiece s i
+  module _ (h : b ≡ RS → ⊥) where
+    pub byte-blank : (eqb b TAB || (eqb b RE || eqb b SPACE)) ≡ true → got blank ≡ bytePiece s i
     unfolding bytePiece
     byte-blank l = rw (bytePiece, ne-eqb _ _ (λ x. h (q ∙ x)), rw q at l)
 
-    pub byte-data : (eqb b 9 || (eqb b 13 || eqb b 32)) ≡ false → got dataByte ≡ bytePiece s i
+    pub byte-data : (eqb b TAB || (eqb b RE || eqb b SPACE)) ≡ false → got dataByte ≡ bytePiece s i
     unfolding bytePiece
     byte-data l = rw (bytePiece, ne-eqb _ _ (λ x. h (q ∙ x)), rw q at l)
 
 -- What stands at i where names may have `long` bytes.
 module _ (long : ℕ) (s : List ℕ) (i : ℕ) where
-  pub piece-markup : byteAt s i ≡ 60 → markupPiece long s i ≡ piece long s i
+  pub piece-markup : byteAt s i ≡ STAGO → markupPiece long s i ≡ piece long s i
   unfolding piece
   piece-markup h = rw (piece, eq-eqb _ _ h)
 
-  module _ (h : byteAt s i ≡ 60 → ⊥) where
-    pub piece-reference : (eqb (byteAt s i) 38 && isReference s i) ≡ true → refused 5 i ≡ piece long s i
+  module _ (h : byteAt s i ≡ STAGO → ⊥) where
+    pub piece-reference : (eqb (byteAt s i) AND && isReference s i) ≡ true → refused 5 i ≡ piece long s i
     unfolding piece
     piece-reference r = rw (piece, ne-eqb _ _ h, r)
 
-    module _ (r : (eqb (byteAt s i) 38 && isReference s i) ≡ false) where
+    module _ (r : (eqb (byteAt s i) AND && isReference s i) ≡ false) where
       pub piece-section : isSectionEnd s i ≡ true → refused 17 i ≡ piece long s i
       unfolding piece
       piece-section e = rw (piece, ne-eqb _ _ h, r, e)
@@ -138,14 +138,14 @@ pub declaration-no-start : (s : List ℕ) (i : ℕ) → NoStart (declarationPiec
 unfolding declarationPiece
 declaration-no-start s i =
     let b = byteAt s (i + 2) in
-    either-no-start (eqb b 62) (record { no = refl })
-    (either-no-start (atDashes s (i + 2)) (skipped-no-start (malformed (commentDeclaration s (i + 2)))) (either-no-start (letter b || eqb b 91) (record { no = refl }) (record { no = refl })))
+    either-no-start (eqb b MDC) (record { no = refl })
+    (either-no-start (atDashes s (i + 2)) (skipped-no-start (malformed (commentDeclaration s (i + 2)))) (either-no-start (letter b || eqb b DSO) (record { no = refl }) (record { no = refl })))
 
 pub byte-no-start : (s : List ℕ) (i : ℕ) → NoStart (bytePiece s i)
 unfolding bytePiece
 byte-no-start s i =
     let b = byteAt s i in
-    either-no-start (eqb b 10) (record { no = refl }) (either-no-start (eqb b 9 || (eqb b 13 || eqb b 32)) (record { no = refl }) (record { no = refl }))
+    either-no-start (eqb b RS) (record { no = refl }) (either-no-start (eqb b TAB || (eqb b RE || eqb b SPACE)) (record { no = refl }) (record { no = refl }))
 
 -- A token that stands for what is no start tag: nothing is kept of attributes. It is what the rules read, x.
 pub meets-other : (end : ℕ) (g : List ℕ) (r : Token) {x y : Reading Piece} → pieceOf r ≡ y → NoStart y → y ≡ x → MeetsPiece end g r x

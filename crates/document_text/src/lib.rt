@@ -13,6 +13,7 @@ ghost use lib.Dec.{eqb};
 ghost use Rattle.rules.specs.Reading.{Reading};
 ghost use Rattle.rules.specs.Document as rules;
 ghost use Rattle.rules.specs.Document.{malformed, declarationPiece, markupPiece, bytePiece, piece};
+ghost use Rattle.rules.specs.Bytes.{RE, SPACE, TAB, documentLimit};
 ghost use Rattle.text.specs.Refusal.{reached};
 ghost use Rattle.delimiters.specs.Classes.{Classes};
 ghost use Rattle.tags.specs.Tags.{tagOf};
@@ -88,7 +89,7 @@ fn markup_at(
     i: usize,
     given: &mut [u16; GIVEN],
 ) -> Token
-    requires { ⌜ Classes (now classes) × (i < length (now s)) × (length (now s) ≤ 65535) ⌝ }
+    requires { ⌜ Classes (now classes) × (i < length (now s)) × (length (now s) ≤ documentLimit) ⌝ }
     ensures { λ r. ⌜ MeetsPiece (length (now (s .entry))) (now (given .exit)) r (markupPiece long (now (s .entry)) i) ⌝ }
 {
     let b = text::byte(s, i + 1);
@@ -108,15 +109,15 @@ fn markup_at(
 }
 
 fn is_blank(b: u8) -> bool
-    ensures { λ r. ⌜ r ≡ (eqb b 9 || (eqb b 13 || eqb b 32)) ⌝ }
+    ensures { λ r. ⌜ r ≡ (eqb b TAB || (eqb b RE || eqb b SPACE)) ⌝ }
 {
-    if b == 9 {
+    if b == b'\t' {
         return true;
     }
-    if b == 13 {
+    if b == b'\r' {
         return true;
     }
-    b == 32
+    b == b' '
 }
 
 // What the byte at i is by itself.
@@ -125,7 +126,7 @@ fn byte_at(s: &[u8], i: usize) -> Token
     ensures { λ r. ⌜ pieceOf r ≡ bytePiece (now (s .entry)) i ⌝ }
 {
     let b = text::byte(s, i);
-    if b == 10 {
+    if b == b'\n' {
         return Token::Skipped(i + 1);
     }
     if is_blank(b) {
@@ -142,7 +143,7 @@ pub fn token_at(
     i: usize,
     given: &mut [u16; GIVEN],
 ) -> Token
-    requires { ⌜ Classes (now classes) × (i < length (now s)) × (length (now s) ≤ 65535) ⌝ }
+    requires { ⌜ Classes (now classes) × (i < length (now s)) × (length (now s) ≤ documentLimit) ⌝ }
     ensures { λ r. ⌜ MeetsPiece (length (now (s .entry))) (now (given .exit)) r (piece long (now (s .entry)) i) ⌝ }
 {
     if text::byte(s, i) == b'<' {

@@ -7,7 +7,7 @@ use native.Mathlib.Omega.{arith}
 use lib.ListN.{length}
 use lib.Dec.{ltb}
 use borrow.Author.Tests.{eq-eqb, ne-eqb, lt-ltb, le-ltb}
-use Rattle.rules.specs.Bytes.{byteAt, letter, nameEnd, GRPLVL}
+use Rattle.rules.specs.Bytes.{byteAt, letter, nameEnd, GRPLVL, GRPO}
 use Rattle.rules.specs.Reading.{Reading, refused, got}
 use Rattle.rules.specs.TypeFile.{empty, model, ContentEnd, isWord, isCut, EMPTY, ANY, CDATA, RCDATA, unfit, contentWord, contentModel, content, Tokens, group, occurrence}
 use Rattle.text.specs.Words.{cut-or}
@@ -113,15 +113,15 @@ module _ {end : ℕ} {names T table : List ℕ} {m : Model} {t : Tokens} (k : Ke
 
 -- The content.
 module _ (long : ℕ) (s : List ℕ) (from i : ℕ) where
-  pub content-model : byteAt s i ≡ 40 → content long s from i ≡ contentModel long s i
+  pub content-model : byteAt s i ≡ GRPO → content long s from i ≡ contentModel long s i
   unfolding content
   content-model b = rw (eq-eqb _ _ b, content)
 
-  pub content-word : (byteAt s i ≡ 40 → ⊥) → letter (byteAt s i) ≡ true → content long s from i ≡ contentWord long s from i
+  pub content-word : (byteAt s i ≡ GRPO → ⊥) → letter (byteAt s i) ≡ true → content long s from i ≡ contentWord long s from i
   unfolding content
   content-word b l = rw (ne-eqb _ _ b, l, content)
 
-  pub content-unfit : (byteAt s i ≡ 40 → ⊥) → letter (byteAt s i) ≡ false → content long s from i ≡ unfit s i
+  pub content-unfit : (byteAt s i ≡ GRPO → ⊥) → letter (byteAt s i) ≡ false → content long s from i ≡ unfit s i
   unfolding content
   content-unfit b l = rw (ne-eqb _ _ b, l, content)
 

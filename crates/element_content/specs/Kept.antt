@@ -9,6 +9,7 @@ use Rattle.rules.specs.Reading.{Reading, refused, got}
 use Rattle.rules.specs.TypeFile.{Content, empty, model, ContentEnd, isCut, EMPTY}
 use Rattle.rules.specs.TypeFile as rules
 use Rattle.rules.specs.Walk.{Group}
+use Rattle.rules.specs.Bytes.{GRPGTCNT}
 use Rattle.model_sets.specs.Sets.{size, Numbered}
 use Rattle.layout.specs.Sizes.{CODE}
 use Rattle.and_laws.specs.Sets.{Plain}
@@ -37,12 +38,12 @@ pub record KeepsModel (names table : List ℕ) (places code and repeated : ℕ) 
   pub guarded : repeated ≡ 0 → Guarded g
   pub numbered : Numbered g 1
   pub sized : size g ≡ places
-  pub places-in : places ≤ 96
+  pub places-in : places ≤ GRPGTCNT
 
 -- The content's kind, content tokens and model.
 abbrev pub KeepsContent : (names table : List ℕ) (kind tokens places code and repeated : ℕ) → Content → Type 0
 KeepsContent names table kind tokens places code a r empty = (kind ≡ 0) × (tokens ≡ 0)
-KeepsContent names table kind tokens places code a r (model g ps n) = (kind ≡ 1) × (tokens ≡ n) × (n ≤ 96) × KeepsModel names table places code a r g ps
+KeepsContent names table kind tokens places code a r (model g ps n) = (kind ≡ 1) × (tokens ≡ n) × (n ≤ GRPGTCNT) × KeepsModel names table places code a r g ps
 
 -- What is kept of the content of an input of `end` bytes.
 pub record KeepsBody (end : ℕ) (names table : List ℕ) (b : Body) (c : ContentEnd) : Type 0 where

@@ -1,5 +1,6 @@
 // The content of an element: EMPTY, or a model group with its names and its table.
 use content_tokens::ModelRead;
+use layout::GRPLVL;
 use layout::MODEL;
 use layout::NAMES;
 use text::Fault;
@@ -7,6 +8,7 @@ ghost use mathlib.Core.Path.{_≡_};
 ghost use Prim.Native.Nat.{_≤_, _<_};
 ghost use lib.ListN.{length};
 ghost use Rattle.rules.specs.TypeFile.{contentWord, contentModel, content};
+ghost use Rattle.rules.specs.Bytes.{typeLimit};
 ghost use Rattle.element_content.specs.Kept.{wrongWord, MeetsBody, bodyFault};
 
 // The content: EMPTY (0) or a model (1), its content tokens and places, how many numbers its code has, where its first "&" stands, and the
@@ -38,7 +40,7 @@ pub fn fault_of_body(r: BodyRead) -> Fault
 
 // A word from i to e that is no content: at its first byte, or where the input ends within EMPTY.
 fn wrong_word(s: &[u8], from: usize, i: usize, e: usize) -> Fault
-    requires { ⌜ (i ≤ e) × (e ≤ length (now s)) × (length (now s) ≤ 32768) ⌝ }
+    requires { ⌜ (i ≤ e) × (e ≤ length (now s)) × (length (now s) ≤ typeLimit) ⌝ }
     ensures { λ r. ⌜ r ≡ record { number = 4; at = wrongWord (now (s .entry)) from i e } ⌝ }
 {
     if i <= from {
@@ -62,7 +64,7 @@ fn body_word(
     names: &[u32; NAMES],
     table: &[u8; MODEL],
 ) -> BodyRead
-    requires { ⌜ (i ≤ length (now s)) × (length (now s) ≤ 32768) ⌝ }
+    requires { ⌜ (i ≤ length (now s)) × (length (now s) ≤ typeLimit) ⌝ }
     ensures { λ r. ⌜ MeetsBody (length (now (s .entry))) (now (names .entry)) (now (table .entry)) r (contentWord long (now (s .entry)) from i) ⌝ }
 {
     let e = text::name_end(s, i);
@@ -97,11 +99,11 @@ fn body_model(
     names: &mut [u32; NAMES],
     table: &mut [u8; MODEL],
 ) -> BodyRead
-    requires { ⌜ (i < length (now s)) × (length (now s) ≤ 32768) ⌝ }
+    requires { ⌜ (i < length (now s)) × (length (now s) ≤ typeLimit) ⌝ }
     ensures { λ r. ⌜ MeetsBody (length (now (s .entry))) (now (names .exit)) (now (table .exit)) r (contentModel long (now (s .entry)) i) ⌝ }
 {
     model_table::clear(table);
-    let r = group_reader::group_at(long, s, i, 16, 0, 0, 0, names, table);
+    let r = group_reader::group_at(long, s, i, GRPLVL, 0, 0, 0, names, table);
     let ModelRead::Read(g) = r else {
         return BodyRead::Refused(content_tokens::fault_of(r));
     };
@@ -129,7 +131,7 @@ pub fn body_at(
     names: &mut [u32; NAMES],
     table: &mut [u8; MODEL],
 ) -> BodyRead
-    requires { ⌜ (i ≤ length (now s)) × (length (now s) ≤ 32768) ⌝ }
+    requires { ⌜ (i ≤ length (now s)) × (length (now s) ≤ typeLimit) ⌝ }
     ensures { λ r. ⌜ MeetsBody (length (now (s .entry))) (now (names .exit)) (now (table .exit)) r (content long (now (s .entry)) from i) ⌝ }
 {
     let b = text::byte(s, i);

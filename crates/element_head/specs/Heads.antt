@@ -2,6 +2,7 @@
 use Prim.Native.Nat.{ℕ, _≤_, _<_}
 use Rattle.rules.specs.Reading.{Reading, got}
 use Rattle.rules.specs.TypeFile as rules
+use Rattle.rules.specs.Bytes.{elementLimit}
 use Rattle.text.specs.Refusal.{refusalOf}
 use Rattle.text.specs.declared.Fault.{Fault}
 use Rattle.element_head.specs.declared.Omission.{Omission}
@@ -30,5 +31,5 @@ headFault (headRead.Read h) = record { number = 0; at = 0 }
 headFault (headRead.Refused f) = f
 
 abbrev pub HeadIn : (long end from count : ℕ) → HeadRead → Type 0
-HeadIn long end from count (headRead.Read h) = (from ≤ h .at) × (h .at ≤ end) × (h .offset ≤ end) × (h .size ≤ end) × (count < 64) × (h .size ≤ long)
+HeadIn long end from count (headRead.Read h) = (from ≤ h .at) × (h .at ≤ end) × (h .offset ≤ end) × (h .size ≤ end) × (count < elementLimit) × (h .size ≤ long)
 HeadIn long end from count (headRead.Refused f) = Unit {0}

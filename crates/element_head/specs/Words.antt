@@ -5,7 +5,7 @@ use mathlib.Core.Bool.{true, false, _&&_}
 use mathlib.Core.List.{List}
 use lib.Dec.{eqb, ltb}
 use borrow.Author.Tests.{eq-eqb, lt-ltb, le-ltb}
-use Rattle.rules.specs.Bytes.{byteAt, letter, nameEnd}
+use Rattle.rules.specs.Bytes.{byteAt, letter, nameEnd, MINUS}
 use Rattle.rules.specs.Reading.{Reading, refused, got}
 use Rattle.rules.specs.TypeFile.{Head, Word, gap, isWord, O, elementName, omission, words, head}
 use Rattle.rules.specs.TypeFile as rules
@@ -20,11 +20,11 @@ use Rattle.element_head.specs.Heads.{omissionOf, omissionFault, headIn, 
 
 -- A word of omitted tag minimization.
 module _ (long : ℕ) (s : List ℕ) (from i : ℕ) where
-  pub omission-dash : byteAt s i ≡ 45 → from < i → omission long s from i ≡ got (record { value = 0; at = i + 1 })
+  pub omission-dash : byteAt s i ≡ MINUS → from < i → omission long s from i ≡ got (record { value = 0; at = i + 1 })
   unfolding omission
   omission-dash b h = rw (eq-eqb _ _ b, lt-ltb _ _ h, omission)
 
-  module _ (d : (eqb (byteAt s i) 45 && ltb from i) ≡ false) where
+  module _ (d : (eqb (byteAt s i) MINUS && ltb from i) ≡ false) where
     pub omission-other : letter (byteAt s i) ≡ false → omission long s from i ≡ refused 4 i
     unfolding omission
     omission-other l = rw (d, l, omission)

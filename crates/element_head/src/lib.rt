@@ -8,6 +8,7 @@ ghost use Prim.Native.Nat.{_≤_, _<_};
 ghost use lib.ListN.{length};
 ghost use Rattle.rules.specs.TypeFile.{omission, words, head};
 ghost use Rattle.rules.specs.TypeFile as rules;
+ghost use Rattle.rules.specs.Bytes.{elementLimit, typeLimit};
 ghost use Rattle.element_names.specs.Names.{Recorded};
 ghost use Rattle.element_head.specs.Heads.{omissionOf, omissionFault, headOf, headFault, HeadIn};
 
@@ -52,7 +53,7 @@ pub fn fault_of_head(r: HeadRead) -> Fault
 
 // A word "-" or "O" at i, where the parameter before ended at `from`.
 fn omission_at(long: usize, s: &[u8], from: usize, i: usize) -> Omission
-    requires { ⌜ (i ≤ length (now s)) × (length (now s) ≤ 32768) ⌝ }
+    requires { ⌜ (i ≤ length (now s)) × (length (now s) ≤ typeLimit) ⌝ }
     ensures { λ r. ⌜ omissionOf r ≡ omission long (now (s .entry)) from i ⌝ }
 {
     let b = text::byte(s, i);
@@ -79,7 +80,7 @@ pub fn head_at(
     elements: &[u32; RECORDS],
     count: usize,
 ) -> HeadRead
-    requires { ⌜ (at ≤ length (now s)) × (length (now s) ≤ 32768) × (count ≤ 64) ⌝ }
+    requires { ⌜ (at ≤ length (now s)) × (length (now s) ≤ typeLimit) × (count ≤ elementLimit) ⌝ }
     ensures { λ r. ⌜ ((es : List rules.Element) → length es ≡ count → Recorded (now (elements .entry)) es →
         headOf r ≡ head long (now (s .entry)) at es) ⌝ }
     ensures { λ r. ⌜ HeadIn long (length (now (s .entry))) at count r ⌝ }
@@ -97,7 +98,7 @@ pub fn head_at(
 
 // The two words after the name from i to e.
 fn words_at(long: usize, s: &[u8], i: usize, e: usize) -> HeadRead
-    requires { ⌜ (i ≤ e) × (e ≤ length (now s)) × (length (now s) ≤ 32768) ⌝ }
+    requires { ⌜ (i ≤ e) × (e ≤ length (now s)) × (length (now s) ≤ typeLimit) ⌝ }
     ensures { λ r. ⌜ headOf r ≡ words long (now (s .entry)) i e ⌝ }
 {
     let g = gaps::gap_end(s, e);

@@ -6,10 +6,11 @@ use mathlib.Core.List.{List}
 use lib.ListN.{length, getD, set}
 use lib.Dec.{eqb, leb, ltb}
 use Rattle.rules.specs.Settings.{Settings, mostNameLength}
-use Rattle.rules.specs.Bytes.{byteAt}
+use Rattle.rules.specs.Bytes.{byteAt, elementLimit}
 use Rattle.rules.specs.TypeFile.{Element}
-use Rattle.rules.specs.Judge.{Accepts}
+use Rattle.rules.specs.Judge.{Accepts, recordWidth}
 use Rattle.rules.specs.Elements.{elementAt}
+use Rattle.layout.specs.Sizes.{CONTENTS, LETTERS}
 use Rattle.element_reader.specs.Keeps.{Recorded}
 
 -- A type that is accepted under the settings c, whose elements are recorded.
@@ -18,10 +19,10 @@ Judged c s elements count = (es : List Element) × Accepts c s es × (length es 
 
 -- The bucket of a name by its first byte and its size, and how many buckets there are.
 abbrev pub bucketOf : (first size : ℕ) → ℕ
-bucketOf first size = (size - 1) * 32 + first % 32
+bucketOf first size = (size - 1) * LETTERS + first % LETTERS
 
 abbrev pub BUCKETS : ℕ
-BUCKETS = mostNameLength * 32
+BUCKETS = mostNameLength * LETTERS
 
 -- The element number k is in the bucket b.
 abbrev pub isIn : List ℕ → List Element → (b k : ℕ) → Bool
@@ -37,17 +38,17 @@ nextFrom f (suc left) k = elim (f (k + 1)) [ true ↦ k + 1 | false ↦ nextFrom
 pub record Indexed (s : List ℕ) (es : List Element) (elements index : List ℕ) : Type 0 where
   pub settings : Settings
   pub accepted : Accepts settings s es
-  pub few : length es ≤ 64
+  pub few : length es ≤ elementLimit
   pub recorded : Recorded elements es
-  pub smallest : (b : ℕ) → b < BUCKETS → getD index (65 + b) 0 ≡ nextFrom (isIn s es b) (length es) 0
+  pub smallest : (b : ℕ) → b < BUCKETS → getD index (CONTENTS + b) 0 ≡ nextFrom (isIn s es b) (length es) 0
   pub larger : (b k : ℕ) → 1 ≤ k → k ≤ length es → isIn s es b k ≡ true → getD index k 0 ≡ nextFrom (isIn s es b) (length es - k) k
   pub none : getD index 0 0 ≡ 0
-  pub behind : (k : ℕ) → length es < k → k ≤ 64 → getD index k 0 ≡ 0
+  pub behind : (k : ℕ) → length es < k → k ≤ elementLimit → getD index k 0 ≡ 0
 
 -- The element number k is larger than the one before it, and a name of this size stands in s where its record says.
 abbrev pub follows : (s elements : List ℕ) (before k size : ℕ) → Bool
-follows s elements before k size = ltb before k && (leb k 64 && leb (getD elements (6 * (k - 1)) 0 + size) (length s))
+follows s elements before k size = ltb before k && (leb k elementLimit && leb (getD elements (recordWidth * (k - 1)) 0 + size) (length s))
 
 -- The index with k before the elements of the bucket b.
 abbrev pub putIn : (index : List ℕ) (b k : ℕ) → List ℕ
-putIn index b k = set (set index k (getD index (65 + b) 0)) (65 + b) k
+putIn index b k = set (set index k (getD index (CONTENTS + b) 0)) (CONTENTS + b) k

@@ -12,12 +12,12 @@ use lib.Seq.{drop-length, getD-set-same, getD-set-other}
 use lib.Dec.{eqb, leb, ltb}
 use borrow.Author.Tests.{eq-eqb, eqb-true, ne-eqb, leb-true, ltb-true, lt-ltb, le-ltb, le-leb, lt-leb}
 use Rattle.rules.specs.Settings.{Settings, mostNameLength}
-use Rattle.rules.specs.Bytes.{byteAt, letter, fold, sameText}
+use Rattle.rules.specs.Bytes.{byteAt, letter, fold, sameText, elementLimit}
 use Rattle.rules.specs.TypeFile.{Element}
-use Rattle.rules.specs.Judge.{Accepts}
+use Rattle.rules.specs.Judge.{Accepts, recordWidth}
 use Rattle.rules.specs.Elements.{elementAt, isNamed, numberFrom, numberOf}
 use Rattle.rules.specs.Lookup.{isAlike, compared}
-use Rattle.layout.specs.Sizes.{INDEX}
+use Rattle.layout.specs.Sizes.{INDEX, CONTENTS}
 use Rattle.model_sets.specs.Bits.{or-left, or-right, or-cases, and-left, and-right, and-both, not-true, not-both, bool-cases}
 use Rattle.rules_laws.specs.Offered.{offered-range}
 use Rattle.rules_laws.specs.Within.{typeFile-count}
@@ -126,12 +126,12 @@ elementAt-drop (x ∷ es) zero e fs q = cc
 elementAt-drop (x ∷ es) (suc k) e fs q = elementAt-drop es k e fs q
 
 module _ (elements : List ℕ) (es : List Element) (r : Recorded elements es) (k : ℕ) (h : k < length es) where
-  pub recorded-offset : getD elements (6 * k) 0 ≡ elementAt es k .at
+  pub recorded-offset : getD elements (recordWidth * k) 0 ≡ elementAt es k .at
   recorded-offset =
       let x = recorded-at elements es k r h in
       rw (elementAt-drop es k (x .element) _ (x .stands)) (x .at)
 
-  pub recorded-size : getD elements (6 * k + 1) 0 ≡ elementAt es k .size
+  pub recorded-size : getD elements (recordWidth * k + 1) 0 ≡ elementAt es k .size
   recorded-size =
       let x = recorded-at elements es k r h in
       rw (elementAt-drop es k (x .element) _ (x .stands)) (x .size)
@@ -194,8 +194,8 @@ abbrev pub bucketAt : List ℕ → (at size : ℕ) → ℕ
 bucketAt t at size = bucketOf (byteAt t at) size
 
 -- What the code reads of the bucket of a name.
-pub bucket-read : (index t : List ℕ) (at size first to k : ℕ) → first ≡ byteAt t at → to ≡ 65 + bucketOf first size → k ≡ getD index to 0
-    → k ≡ getD index (65 + bucketAt t at size) 0
+pub bucket-read : (index t : List ℕ) (at size first to k : ℕ) → first ≡ byteAt t at → to ≡ CONTENTS + bucketOf first size → k ≡ getD index to 0
+    → k ≡ getD index (CONTENTS + bucketAt t at size) 0
 bucket-read index t at size first to k f b e = rw (b, f) at e
 
 -- What it reads of the first byte.
@@ -218,17 +218,17 @@ module _ (s elements : List ℕ) (before k size : ℕ) where
   pub follows-falls : k ≤ before → false ≡ follows s elements before k size
   follows-falls h = rw (le-ltb before k h)
 
-  pub follows-over : before < k → 64 < k → false ≡ follows s elements before k size
-  follows-over h l = rw (lt-ltb before k h, lt-leb k 64 l)
+  pub follows-over : before < k → elementLimit < k → false ≡ follows s elements before k size
+  follows-over h l = rw (lt-ltb before k h, lt-leb k elementLimit l)
 
-  pub follows-by : before < k → k ≤ 64 → {o : ℕ} → o ≡ getD elements (6 * (k - 1)) 0 → leb (o + size) (length s) ≡ follows s elements before k size
-  follows-by h l e = rw (e, lt-ltb before k h, le-leb k 64 l)
+  pub follows-by : before < k → k ≤ elementLimit → {o : ℕ} → o ≡ getD elements (recordWidth * (k - 1)) 0 → leb (o + size) (length s) ≡ follows s elements before k size
+  follows-by h l e = rw (e, lt-ltb before k h, le-leb k elementLimit l)
 
-  pub follows-true : {r : Bool} → r ≡ follows s elements before k size → r ≡ true → (before < k) × (k ≤ 64) × (getD elements (6 * (k - 1)) 0 + size ≤ length s)
+  pub follows-true : {r : Bool} → r ≡ follows s elements before k size → r ≡ true → (before < k) × (k ≤ elementLimit) × (getD elements (recordWidth * (k - 1)) 0 + size ≤ length s)
   follows-true e q =
       let w = rw q at e in
       let z = and-right (ltb before k) _ (sym w) in
-      (ltb-true before k (and-left _ _ (sym w)), leb-true k 64 (and-left _ _ z), leb-true _ _ (and-right (leb k 64) _ z))
+      (ltb-true before k (and-left _ _ (sym w)), leb-true k elementLimit (and-left _ _ z), leb-true _ _ (and-right (leb k elementLimit) _ z))
 
 -- No element between j and k is alike, nor any behind j where k is 0.
 record Leads (s : List ℕ) (es : List Element) (t : List ℕ) (at size j k : ℕ) : Type 0 where
@@ -292,7 +292,7 @@ module _ {s : List ℕ} {es : List Element} {elements index : List ℕ} (t : Lis
       let w = leads (length es - j) j (omega arith) in
       rw e (record { within = w .within; rises = w .rises; inside = w .inside; answer = w .answer ∙ a; count = ap (λ (m : ℕ). n + m) (w .count) ∙ c })
 
-  pub seeks-start : size ≤ mostNameLength → {k : ℕ} → k ≡ getD index (65 + bucketAt t at size) 0 → Seeks s es t at size 0 k 0
+  pub seeks-start : size ≤ mostNameLength → {k : ℕ} → k ≡ getD index (CONTENTS + bucketAt t at size) 0 → Seeks s es t at size 0 k 0
   unfolding numberOf
   seeks-start short e =
       let z : length es - 0 ≡ length es = omega arith in
@@ -303,14 +303,14 @@ module _ {s : List ℕ} {es : List Element} {elements index : List ℕ} (t : Lis
       stands : k - 1 < length es
       stands = let w = seeks .within in omega arith
 
-      offset-is : getD elements (6 * (k - 1)) 0 ≡ elementAt es (k - 1) .at
+      offset-is : getD elements (recordWidth * (k - 1)) 0 ≡ elementAt es (k - 1) .at
       offset-is = recorded-offset elements es (x .recorded) (k - 1) stands
 
       alike : isAlike s (elementAt es (k - 1)) t at size ≡ true
       alike = in-alike (k - 1) stands (seeks .inside more)
 
       -- What the code's test of its text says.
-      named-is : {o : ℕ} {r v : Bool} → o ≡ getD elements (6 * (k - 1)) 0 → (fold (byteAt s o) ≡ fold (byteAt t at) → r ≡ sameText s o t at size) → r ≡ v → isNamed s (elementAt es (k - 1)) t at size ≡ v
+      named-is : {o : ℕ} {r v : Bool} → o ≡ getD elements (recordWidth * (k - 1)) 0 → (fold (byteAt s o) ≡ fold (byteAt t at) → r ≡ sameText s o t at size) → r ≡ v → isNamed s (elementAt es (k - 1)) t at size ≡ v
       named-is {o} f g e =
           let z : o ≡ elementAt es (k - 1) .at = f ∙ offset-is in
           let first : fold (byteAt s o) ≡ fold (byteAt t at) = rw z (eqb-true _ _ (and-right (eqb (elementAt es (k - 1) .size) size) _ alike)) in
@@ -323,12 +323,12 @@ module _ {s : List ℕ} {es : List Element} {elements index : List ℕ} (t : Lis
       count-is = rw (due-some (countFrom s es t at size) k more) at (seeks .count)
 
       -- The element's own name, which has the same size, lies within the type file.
-      pub seeks-within : {o : ℕ} → o ≡ getD elements (6 * (k - 1)) 0 → o + size ≤ length s
+      pub seeks-within : {o : ℕ} → o ≡ getD elements (recordWidth * (k - 1)) 0 → o + size ≤ length s
       seeks-within f =
           let z = eqb-true (elementAt es (k - 1) .size) size (and-left _ _ alike) in
           omega (arith, offset-is, typeFile-sizes (x .settings .nameLength) s es (x .accepted .elements) (k - 1) stands .2)
 
-      module _ {o : ℕ} {r : Bool} (f : o ≡ getD elements (6 * (k - 1)) 0) (g : fold (byteAt s o) ≡ fold (byteAt t at) → r ≡ sameText s o t at size) where
+      module _ {o : ℕ} {r : Bool} (f : o ≡ getD elements (recordWidth * (k - 1)) 0) (g : fold (byteAt s o) ≡ fold (byteAt t at) → r ≡ sameText s o t at size) where
         pub seeks-found : r ≡ true → (k ≡ numberOf s es t at size) × (n + 1 ≡ compared s es t at size)
         seeks-found e =
             let y = named-is f g e in (
@@ -356,7 +356,7 @@ module _ {s : List ℕ} {es : List Element} {elements index : List ℕ} (t : Lis
             let w = seeks .within in
             let few = x .few in
             absurd (not-both (sym f ∙ e)
-            (and-both (lt-ltb before k (seeks .rises more)) (and-both (le-leb k 64 (omega arith)) (le-leb _ _ (seeks-within more refl)))))
+            (and-both (lt-ltb before k (seeks .rises more)) (and-both (le-leb k elementLimit (omega arith)) (le-leb _ _ (seeks-within more refl)))))
 
 -- A name that begins with no letter is compared with none, and no element has it.
 module _ {s : List ℕ} {es : List Element} {elements index : List ℕ} (t : List ℕ) (at size : ℕ) (x : Indexed s es elements index) (some : 1 ≤ size)
@@ -383,10 +383,10 @@ module _ {s : List ℕ} {es : List Element} {elements index : List ℕ} (t : Lis
 -- The elements above k are indexed.
 pub record Filled (s : List ℕ) (es : List Element) (index : List ℕ) (k : ℕ) : Type 0 where
   pub len : length index ≡ INDEX
-  pub smallest : (b : ℕ) → b < BUCKETS → getD index (65 + b) 0 ≡ nextFrom (isIn s es b) (length es - k) k
+  pub smallest : (b : ℕ) → b < BUCKETS → getD index (CONTENTS + b) 0 ≡ nextFrom (isIn s es b) (length es - k) k
   pub larger : (b j : ℕ) → k < j → j ≤ length es → isIn s es b j ≡ true → getD index j 0 ≡ nextFrom (isIn s es b) (length es - j) j
-  pub spare : (j : ℕ) → j ≤ k → j ≤ 64 → getD index j 0 ≡ 0
-  pub behind : (j : ℕ) → length es < j → j ≤ 64 → getD index j 0 ≡ 0
+  pub spare : (j : ℕ) → j ≤ k → j ≤ elementLimit → getD index j 0 ≡ 0
+  pub behind : (j : ℕ) → length es < j → j ≤ elementLimit → getD index j 0 ≡ 0
 
 pub filled-none : (s : List ℕ) (es : List Element) (index : List ℕ) (k : ℕ) → length es ≡ k → index ≡ replicate INDEX 0 → Filled s es index k
 unfolding nextFrom
@@ -394,53 +394,53 @@ filled-none s es index k n e =
     let z : length es - k ≡ 0 = omega arith in
     record {
       len = rw e (length-replicate {A = ℕ} INDEX 0);
-      smallest = λ b h. rw (e, z) (getD-replicate INDEX (65 + b) 0 0 (omega arith));
+      smallest = λ b h. rw (e, z) (getD-replicate INDEX (CONTENTS + b) 0 0 (omega arith));
       larger = λ b j l h x. absurd (omega arith);
       spare = λ j l h. rw e (getD-replicate INDEX j 0 0 (omega arith));
       behind = λ j l h. rw e (getD-replicate INDEX j 0 0 (omega arith));
     }
 
 putIn-length : (index : List ℕ) (b k : ℕ) → length (putIn index b k) ≡ length index
-putIn-length index b k = length-set (set index k (getD index (65 + b) 0)) (65 + b) k ∙ length-set index k (getD index (65 + b) 0)
+putIn-length index b k = length-set (set index k (getD index (CONTENTS + b) 0)) (CONTENTS + b) k ∙ length-set index k (getD index (CONTENTS + b) 0)
 
 -- What the code puts into the index, from what it reads of the record.
-pub put-read : (index s : List ℕ) (k to first size at A Z : ℕ) → to ≡ 65 + bucketOf first size → first ≡ byteAt s at → at ≡ A → size ≡ Z
+pub put-read : (index s : List ℕ) (k to first size at A Z : ℕ) → to ≡ CONTENTS + bucketOf first size → first ≡ byteAt s at → at ≡ A → size ≡ Z
     → set (set index k (getD index to 0)) to k ≡ putIn index (bucketOf (byteAt s A) Z) k
 put-read index s k to first size at A Z b f a z = rw (b, f, a, z)
 
 -- The index after an element is put into it: at the bucket, at the element, and elsewhere.
-module _ (index : List ℕ) (len : length index ≡ INDEX) (b k : ℕ) (in-range : b < BUCKETS) (few : k ≤ 64) where
-  put-bucket : getD (putIn index b k) (65 + b) 0 ≡ k
+module _ (index : List ℕ) (len : length index ≡ INDEX) (b k : ℕ) (in-range : b < BUCKETS) (few : k ≤ elementLimit) where
+  put-bucket : getD (putIn index b k) (CONTENTS + b) 0 ≡ k
   put-bucket =
-      let l = length-set index k (getD index (65 + b) 0) in
-      getD-set-same (set index k (getD index (65 + b) 0)) (65 + b) k 0 (omega arith)
+      let l = length-set index k (getD index (CONTENTS + b) 0) in
+      getD-set-same (set index k (getD index (CONTENTS + b) 0)) (CONTENTS + b) k 0 (omega arith)
 
-  put-element : getD (putIn index b k) k 0 ≡ getD index (65 + b) 0
+  put-element : getD (putIn index b k) k 0 ≡ getD index (CONTENTS + b) 0
   put-element =
-      getD-set-other (set index k (getD index (65 + b) 0)) (65 + b) k k 0 (omega arith)
-      ∙ getD-set-same index k (getD index (65 + b) 0) 0 (omega arith)
+      getD-set-other (set index k (getD index (CONTENTS + b) 0)) (CONTENTS + b) k k 0 (omega arith)
+      ∙ getD-set-same index k (getD index (CONTENTS + b) 0) 0 (omega arith)
 
-  put-elsewhere : (j : ℕ) → (j ≡ 65 + b → ⊥) → (j ≡ k → ⊥) → getD (putIn index b k) j 0 ≡ getD index j 0
+  put-elsewhere : (j : ℕ) → (j ≡ CONTENTS + b → ⊥) → (j ≡ k → ⊥) → getD (putIn index b k) j 0 ≡ getD index j 0
   put-elsewhere j n m =
-      getD-set-other (set index k (getD index (65 + b) 0)) (65 + b) j k 0 n ∙ getD-set-other index k j (getD index (65 + b) 0) 0 m
+      getD-set-other (set index k (getD index (CONTENTS + b) 0)) (CONTENTS + b) j k 0 n ∙ getD-set-other index k j (getD index (CONTENTS + b) 0) 0 m
 
 -- The bucket of the element k.
 abbrev bucketIn : List ℕ → List Element → ℕ → ℕ
 bucketIn s es k = bucketOf (byteAt s (elementAt es (k - 1) .at)) (elementAt es (k - 1) .size)
 
-module _ (s : List ℕ) (es : List Element) (index : List ℕ) (k : ℕ) (in-range : bucketIn s es k < BUCKETS) (from : 1 ≤ k) (to : k ≤ length es) (few : length es ≤ 64)
+module _ (s : List ℕ) (es : List Element) (index : List ℕ) (k : ℕ) (in-range : bucketIn s es k < BUCKETS) (from : 1 ≤ k) (to : k ≤ length es) (few : length es ≤ elementLimit)
     (done : Filled s es index k) where
   abbrev put : List ℕ
   put = putIn index (bucketIn s es k) k
 
-  smallest-after : (b : ℕ) → b < BUCKETS → Dec (bucketIn s es k ≡ b) → getD put (65 + b) 0 ≡ nextFrom (isIn s es b) (length es - (k - 1)) (k - 1)
+  smallest-after : (b : ℕ) → b < BUCKETS → Dec (bucketIn s es k ≡ b) → getD put (CONTENTS + b) 0 ≡ nextFrom (isIn s es b) (length es - (k - 1)) (k - 1)
   smallest-after b h (yes e) =
-      put-at (65 + b) (ap (λ (i : ℕ). 65 + i) (sym e)) ∙ sym (next-here (isIn s es b) (length es) k from to (eq-eqb (bucketIn s es k) b e))
+      put-at (CONTENTS + b) (ap (λ (i : ℕ). 65 + i) (sym e)) ∙ sym (next-here (isIn s es b) (length es) k from to (eq-eqb (bucketIn s es k) b e))
     where
-      put-at : (i : ℕ) → i ≡ 65 + bucketIn s es k → getD put i 0 ≡ k
+      put-at : (i : ℕ) → i ≡ CONTENTS + bucketIn s es k → getD put i 0 ≡ k
       put-at i z = rw z (put-bucket index (done .len) (bucketIn s es k) k in-range (omega arith))
   smallest-after b h (no ne) =
-      put-elsewhere index (done .len) (bucketIn s es k) k in-range (omega arith) (65 + b) (λ e. ne (omega arith)) (omega arith)
+      put-elsewhere index (done .len) (bucketIn s es k) k in-range (omega arith) (CONTENTS + b) (λ e. ne (omega arith)) (omega arith)
       ∙ done .smallest b h
       ∙ sym (next-above (isIn s es b) (length es) k from to (ne-eqb _ _ ne))
 
@@ -463,24 +463,24 @@ module _ (s : List ℕ) (es : List Element) (index : List ℕ) (k : ℕ) (in-ran
 
 -- The element k is put into the bucket of the name that its record says.
 module _ {c : Settings} (s : List ℕ) (es : List Element) (elements : List ℕ) (k : ℕ) (accepted : Accepts c s es) (recorded : Recorded elements es) (from : 1 ≤ k) (to : k ≤ length es) where
-  few : length es ≤ 64
+  few : length es ≤ elementLimit
   few = typeFile-count (c .nameLength) s es (accepted .elements) .1
 
-  pub size-in : (1 ≤ getD elements (6 * (k - 1) + 1) 0) × (getD elements (6 * (k - 1) + 1) 0 ≤ mostNameLength)
+  pub size-in : (1 ≤ getD elements (recordWidth * (k - 1) + 1) 0) × (getD elements (recordWidth * (k - 1) + 1) 0 ≤ mostNameLength)
   size-in =
       let z = typeFile-sizes (c .nameLength) s es (accepted .elements) (k - 1) (omega arith) in
       let most = offered-range c (accepted .legible .offered) .1 in
       let e = recorded-size elements es recorded (k - 1) (omega arith) in
       (omega arith, omega arith)
 
-  bucket-is : bucketOf (byteAt s (getD elements (6 * (k - 1)) 0)) (getD elements (6 * (k - 1) + 1) 0) ≡ bucketIn s es k
+  bucket-is : bucketOf (byteAt s (getD elements (recordWidth * (k - 1)) 0)) (getD elements (recordWidth * (k - 1) + 1) 0) ≡ bucketIn s es k
   bucket-is = rw (recorded-offset elements es recorded (k - 1) (omega arith), recorded-size elements es recorded (k - 1) (omega arith))
 
   bucket-in : bucketIn s es k < BUCKETS
-  bucket-in = omega (arith, bucket-is, bucket-range (byteAt s (getD elements (6 * (k - 1)) 0)) (getD elements (6 * (k - 1) + 1) 0) (size-in .0) (size-in .1))
+  bucket-in = omega (arith, bucket-is, bucket-range (byteAt s (getD elements (recordWidth * (k - 1)) 0)) (getD elements (recordWidth * (k - 1) + 1) 0) (size-in .0) (size-in .1))
 
   pub filled-more : (index : List ℕ) → Filled s es index k → {after : List ℕ}
-      → after ≡ putIn index (bucketOf (byteAt s (getD elements (6 * (k - 1)) 0)) (getD elements (6 * (k - 1) + 1) 0)) k → Filled s es after (k - 1)
+      → after ≡ putIn index (bucketOf (byteAt s (getD elements (recordWidth * (k - 1)) 0)) (getD elements (recordWidth * (k - 1) + 1) 0)) k → Filled s es after (k - 1)
   filled-more index done e = rw (e, bucket-is) (filled-put s es index k bucket-in from to few done)
 
 pub filled-all : {c : Settings} (s : List ℕ) (es : List Element) (elements index : List ℕ) (k : ℕ) → Accepts c s es → Recorded elements es → k ≡ 0 → Filled s es index k → Indexed s es elements index

@@ -2,37 +2,43 @@
 //
 // `index`: number k is the next larger element whose name has the same length and first letter as that of k, or 0.
 // Number 65 + b is the smallest element of the bucket b. `elements` are the records of the type's elements.
+use layout::CONTENTS;
+use layout::ELEMENTS;
 use layout::ElementNo;
 use layout::INDEX;
+use layout::LETTERS;
+use layout::RECORD;
 use layout::RECORDS;
 ghost use mathlib.Core.Path.{_≡_};
 ghost use mathlib.Core.List.{List};
 ghost use Prim.Native.Nat.{_+_, _-_, _*_, _≤_, _<_};
 ghost use lib.ListN.{length, getD, replicate};
-ghost use Rattle.rules.specs.Bytes.{byteAt, fold, sameText};
+ghost use Rattle.rules.specs.Bytes.{byteAt, fold, sameText, elementLimit};
 ghost use Rattle.rules.specs.Settings.{Settings, mostNameLength};
 ghost use Rattle.rules.specs.TypeFile.{Element};
-ghost use Rattle.rules.specs.Judge.{Accepts};
+ghost use Rattle.rules.specs.Judge.{Accepts, recordWidth};
 ghost use Rattle.rules.specs.Elements.{numberOf};
 ghost use Rattle.rules.specs.Lookup.{compared};
-ghost use Rattle.layout.specs.Sizes.{INDEX};
+ghost use Rattle.layout.specs.Sizes.{INDEX, CONTENTS};
 ghost use Rattle.element_reader.specs.Keeps.{Recorded};
 ghost use Rattle.element_index.specs.Indexed.{Judged, bucketOf, follows, Indexed, putIn};
 
-// The bucket of a name by its first byte and its length, 1 to 32. Letters that fold to one another are in the same.
+const LETTER: u8 = LETTERS as u8;
+
+// The bucket of a name by its first byte and its length. Letters that fold to one another are in the same.
 fn bucket(first: u8, size: usize) -> usize
     requires { ⌜ (1 ≤ size) × (size ≤ mostNameLength) ⌝ }
-    ensures { λ r. ⌜ (r ≡ 65 + bucketOf first size) × (r < INDEX) ⌝ }
+    ensures { λ r. ⌜ (r ≡ CONTENTS + bucketOf first size) × (r < INDEX) ⌝ }
 {
-    65 + (size - 1) * 32 + numbers::wide(first % 32)
+    CONTENTS + (size - 1) * LETTERS + numbers::wide(first % LETTER)
 }
 
 // Where the name of the element k stands in the type file.
 pub fn offset(elements: &[u32; RECORDS], k: ElementNo) -> usize
-    requires { ⌜ (1 ≤ k .0) × (k .0 ≤ 64) ⌝ }
-    ensures { λ r. ⌜ (r ≡ getD (now (elements .entry)) (6 * (k .0 - 1)) 0) × (r < 4294967296) ⌝ }
+    requires { ⌜ (1 ≤ k .0) × (k .0 ≤ elementLimit) ⌝ }
+    ensures { λ r. ⌜ (r ≡ getD (now (elements .entry)) (recordWidth * (k .0 - 1)) 0) × (r < 4294967296) ⌝ }
 {
-    numbers::widened(elements[6 * (k.0 - 1)])
+    numbers::widened(elements[RECORD * (k.0 - 1)])
 }
 
 // Whether n bytes of s from a and n bytes of t from b are equal, folded, where the first ones are: they have one bucket. Where these are not, what it answers is
@@ -76,7 +82,7 @@ fn comes_next(
     if k.0 <= before.0 {
         return false;
     }
-    if 64 < k.0 {
+    if ELEMENTS < k.0 {
         return false;
     }
     offset(elements, k) + size <= s.len()
@@ -96,7 +102,7 @@ pub fn find(
     requires { ⌜ (1 ≤ size) × (size ≤ mostNameLength) × (at + size ≤ length (now t)) ⌝ }
     ensures { λ r. ⌜ ((es : List Element) → Indexed (now (s .entry)) es (now (elements .entry)) (now (index .entry)) →
         (r .element .0 ≡ numberOf (now (s .entry)) es (now (t .entry)) at size) × (r .compared ≡ compared (now (s .entry)) es (now (t .entry)) at size)) ⌝ }
-    ensures { λ r. ⌜ (r .element .0 ≤ 64) × (r .compared ≤ 64) ⌝ }
+    ensures { λ r. ⌜ (r .element .0 ≤ elementLimit) × (r .compared ≤ elementLimit) ⌝ }
 {
     let first = text::byte(t, at);
     let none = ElementNo(0);
@@ -129,12 +135,12 @@ pub fn find(
 
 // The element k comes before those of its bucket that are there.
 fn put_index(s: &[u8], elements: &[u32; RECORDS], index: &mut [u8; INDEX], k: ElementNo)
-    requires { ⌜ (1 ≤ k .0) × (k .0 ≤ 64) × (1 ≤ getD (now elements) (6 * (k .0 - 1) + 1) 0) × (getD (now elements) (6 * (k .0 - 1) + 1) 0 ≤ mostNameLength) ⌝ }
+    requires { ⌜ (1 ≤ k .0) × (k .0 ≤ elementLimit) × (1 ≤ getD (now elements) (recordWidth * (k .0 - 1) + 1) 0) × (getD (now elements) (recordWidth * (k .0 - 1) + 1) 0 ≤ mostNameLength) ⌝ }
     ensures { λ _. ⌜ now (index .exit) ≡ putIn (now (index .entry))
-        (bucketOf (byteAt (now (s .entry)) (getD (now (elements .entry)) (6 * (k .0 - 1)) 0)) (getD (now (elements .entry)) (6 * (k .0 - 1) + 1) 0)) (k .0) ⌝ }
+        (bucketOf (byteAt (now (s .entry)) (getD (now (elements .entry)) (recordWidth * (k .0 - 1)) 0)) (getD (now (elements .entry)) (recordWidth * (k .0 - 1) + 1) 0)) (k .0) ⌝ }
 {
     let i = k.0;
-    let size = numbers::widened(elements[6 * (i - 1) + 1]);
+    let size = numbers::widened(elements[RECORD * (i - 1) + 1]);
     let b = bucket(text::byte(s, offset(elements, k)), size);
     index[i] = index[b];
     index[b] = i as u8;

@@ -12,7 +12,7 @@ use borrow.Author.Tests.{eq-eqb, ne-eqb}
 use Rattle.rules.specs.Bytes.{byteAt, fold, sameText}
 use Rattle.rules.specs.TypeFile.{Content, empty, model, isDeclared}
 use Rattle.rules.specs.TypeFile as rules
-use Rattle.rules.specs.Judge.{records}
+use Rattle.rules.specs.Judge.{records, recordWidth}
 use Rattle.rules.specs.Elements.{isNamed}
 use Rattle.rules.specs.Lookup.{isAlike, compared}
 use Rattle.element_names.specs.Names.{Recorded, nameAt}
@@ -21,22 +21,22 @@ use Rattle.element_names.specs.Names.{Recorded, nameAt}
 pub record RecordAt (numbers : List ℕ) (es : List rules.Element) (k : ℕ) : Type 0 where
   pub element : rules.Element
   pub stands : drop k es ≡ element ∷ drop (k + 1) es
-  pub at : getD numbers (6 * k) 0 ≡ element .at
-  pub size : getD numbers (6 * k + 1) 0 ≡ element .size
+  pub at : getD numbers (recordWidth * k) 0 ≡ element .at
+  pub size : getD numbers (recordWidth * k + 1) 0 ≡ element .size
 
 records-first : (e : rules.Element) (es : List rules.Element) → RecordAt (records (e ∷ es)) (e ∷ es) zero
 unfolding records
 records-first e es = record { element = e; stands = refl; at = refl; size = refl }
 
 -- What stands behind the first record.
-records-later : (e : rules.Element) (es : List rules.Element) (j : ℕ) → getD (records (e ∷ es)) (6 + j) 0 ≡ getD (records es) j 0
+records-later : (e : rules.Element) (es : List rules.Element) (j : ℕ) → getD (records (e ∷ es)) (recordWidth + j) 0 ≡ getD (records es) j 0
 unfolding records
 records-later e es j = by-content (e .content) refl
   where
-    six : 6 + j ≡ suc (suc (suc (suc (suc (suc j)))))
+    six : recordWidth + j ≡ suc (suc (suc (suc (suc (suc j)))))
     six = omega arith
 
-    by-content : (c : Content) → e .content ≡ c → getD (records (e ∷ es)) (6 + j) 0 ≡ getD (records es) j 0
+    by-content : (c : Content) → e .content ≡ c → getD (records (e ∷ es)) (recordWidth + j) 0 ≡ getD (records es) j 0
     by-content empty q = rw (six, q)
     by-content (model g ps n) q = rw (six, q)
 
@@ -45,30 +45,30 @@ records-at [] k h = absurd (not-suc-le-zero h)
 records-at (e ∷ es) zero h = records-first e es
 records-at (e ∷ es) (suc k) h = later (records-at es k (le-of-suc-le-suc h))
   where
-    at-is : 6 * suc k ≡ 6 + 6 * k
+    at-is : recordWidth * suc k ≡ recordWidth + recordWidth * k
     at-is = omega arith
 
-    size-is : 6 * suc k + 1 ≡ 6 + (6 * k + 1)
+    size-is : recordWidth * suc k + 1 ≡ recordWidth + (recordWidth * k + 1)
     size-is = omega arith
 
     later : RecordAt (records es) es k → RecordAt (records (e ∷ es)) (e ∷ es) (suc k)
     later r = record {
       element = r .element;
       stands = rw (suc-add k 1) (r .stands);
-      at = rw (at-is, records-later e es (6 * k)) (r .at);
-      size = rw (size-is, records-later e es (6 * k + 1)) (r .size);
+      at = rw (at-is, records-later e es (recordWidth * k)) (r .at);
+      size = rw (size-is, records-later e es (recordWidth * k + 1)) (r .size);
     }
 
 -- Records at the start of a longer table.
 pub recorded-at : (elements : List ℕ) (es : List rules.Element) (k : ℕ) → Recorded elements es → k < length es → RecordAt elements es k
 recorded-at elements es k r h =
     let x = records-at es k h in
-    let numbers : (j : ℕ) → j < 6 * length es → getD elements j 0 ≡ getD (records es) j 0 = λ j l. sym (getD-take (6 * length es) elements j 0 l) ∙ ap (λ (l : List ℕ). getD l j 0) r in
+    let numbers : (j : ℕ) → j < recordWidth * length es → getD elements j 0 ≡ getD (records es) j 0 = λ j l. sym (getD-take (recordWidth * length es) elements j 0 l) ∙ ap (λ (l : List ℕ). getD l j 0) r in
     record {
       element = x .element;
       stands = x .stands;
-      at = numbers (6 * k) (omega arith) ∙ x .at;
-      size = numbers (6 * k + 1) (omega arith) ∙ x .size;
+      at = numbers (recordWidth * k) (omega arith) ∙ x .at;
+      size = numbers (recordWidth * k + 1) (omega arith) ∙ x .size;
     }
 
 -- A name of another length or first letter is another name.
@@ -82,11 +82,11 @@ unlike-other s e t at (suc n) l q = by-size (eqb (e .size) (suc n)) refl
     by-size true z = rw (z, isNamed, sameText, rw z at q)
 
 -- What the code tests of a record, one after the other.
-module _ (s elements : List ℕ) (k at size : ℕ) {m : ℕ} (read : m ≡ getD elements (6 * k + 1) 0) where
+module _ (s elements : List ℕ) (k at size : ℕ) {m : ℕ} (read : m ≡ getD elements (recordWidth * k + 1) 0) where
   pub alike-size : (m ≡ size → ⊥) → false ≡ isAlike s (nameAt elements k) s at size
   alike-size n = rw (← read, ne-eqb _ _ n)
 
-  pub alike-first : m ≡ size → {o b c f g : ℕ} → o ≡ getD elements (6 * k) 0 → b ≡ byteAt s o → f ≡ fold b → c ≡ byteAt s at → g ≡ fold c
+  pub alike-first : m ≡ size → {o b c f g : ℕ} → o ≡ getD elements (recordWidth * k) 0 → b ≡ byteAt s o → f ≡ fold b → c ≡ byteAt s at → g ≡ fold c
       → eqb f g ≡ isAlike s (nameAt elements k) s at size
   alike-first e o b f c g = rw (f, b, o, g, c, ← read, eq-eqb _ _ e)
 
@@ -129,21 +129,21 @@ module _ (s : List ℕ) (at size : ℕ) where
     alike-is : {v : Bool} → isAlike s (nameAt elements k) s at size ≡ v → isAlike s (x .element) s at size ≡ v
     alike-is a = rw (← x .at, ← x .size) a
 
-    named-is : isAlike s (nameAt elements k) s at size ≡ true → {v : Bool} → sameText s (getD elements (6 * k) 0) s at size ≡ v → isNamed s (x .element) s at size ≡ v
+    named-is : isAlike s (nameAt elements k) s at size ≡ true → {v : Bool} → sameText s (getD elements (recordWidth * k) 0) s at size ≡ v → isNamed s (x .element) s at size ≡ v
     named-is a {v} q = by-size (eqb (x .element .size) size) refl
       where
         by-size : (b : Bool) → eqb (x .element .size) size ≡ b → isNamed s (x .element) s at size ≡ v
         by-size true z = rw (z, isNamed, ← x .at) q
         by-size false z = absurd (false≢true (rw z at (alike-is a)))
 
-    pub seeks-found : isAlike s (nameAt elements k) s at size ≡ true → sameText s (getD elements (6 * k) 0) s at size ≡ true → {m : ℕ} → m ≡ n + 1
+    pub seeks-found : isAlike s (nameAt elements k) s at size ≡ true → sameText s (getD elements (recordWidth * k) 0) s at size ≡ true → {m : ℕ} → m ≡ n + 1
         → (true ≡ isDeclared s es at size) × (m ≡ compared s es s at size)
     seeks-found a q e =
         let w = named-is a q in
         let c : compared s (drop k es) s at size ≡ 1 = rw (x .stands) (here-count (x .element) (drop (k + 1) es) (alike-is a) w) in
         (sym (rw (x .stands) (here-answer (x .element) (drop (k + 1) es) w)) ∙ seeks .answer, omega (arith, seeks .count))
 
-    pub seeks-other : isAlike s (nameAt elements k) s at size ≡ true → sameText s (getD elements (6 * k) 0) s at size ≡ false → {m : ℕ} → m ≡ n + 1 → Seeks s es at size (k + 1) m
+    pub seeks-other : isAlike s (nameAt elements k) s at size ≡ true → sameText s (getD elements (recordWidth * k) 0) s at size ≡ false → {m : ℕ} → m ≡ n + 1 → Seeks s es at size (k + 1) m
     seeks-other a q e =
         let w = named-is a q in
         let d : isDeclared s (drop k es) at size ≡ isDeclared s (drop (k + 1) es) at size = rw (x .stands) (later-answer (x .element) (drop (k + 1) es) w) in

@@ -1,4 +1,6 @@
 // The name of an element that is declared: at most as long as the caller says, declared for the first time, and at most the 64th.
+use layout::ELEMENTS;
+use layout::RECORD;
 use layout::RECORDS;
 use text::Fault;
 use text::Reached;
@@ -9,12 +11,14 @@ ghost use lib.ListN.{length, getD};
 ghost use Rattle.rules.specs.TypeFile.{isDeclared, elementName};
 ghost use Rattle.rules.specs.TypeFile as rules;
 ghost use Rattle.rules.specs.Lookup.{isAlike, compared};
+ghost use Rattle.rules.specs.Bytes.{elementLimit, typeLimit};
+ghost use Rattle.layout.specs.Sizes.{RECORDS};
 ghost use Rattle.text.specs.Refusal.{reached};
 ghost use Rattle.element_names.specs.Names.{Recorded, nameAt, NameIn};
 
 // A number of the table of elements.
 fn number(elements: &[u32; RECORDS], k: usize) -> usize
-    requires { ⌜ k < 384 ⌝ }
+    requires { ⌜ k < RECORDS ⌝ }
     ensures { λ r. ⌜ (r ≡ getD (now (elements .entry)) k 0) × (r < 4294967296) ⌝ }
 {
     numbers::widened(elements[k])
@@ -22,13 +26,13 @@ fn number(elements: &[u32; RECORDS], k: usize) -> usize
 
 // Whether the name of the k-th record is of this size and begins with the letter at `at`, folded.
 fn is_alike(s: &[u8], elements: &[u32; RECORDS], k: usize, at: usize, size: usize) -> bool
-    requires { ⌜ k < 64 ⌝ }
+    requires { ⌜ k < elementLimit ⌝ }
     ensures { λ r. ⌜ r ≡ isAlike (now (s .entry)) (nameAt (now (elements .entry)) k) (now (s .entry)) at size ⌝ }
 {
-    if number(elements, 6 * k + 1) != size {
+    if number(elements, RECORD * k + 1) != size {
         return false;
     }
-    let first = text::byte(s, number(elements, 6 * k));
+    let first = text::byte(s, number(elements, RECORD * k));
     text::folded(first) == text::folded(text::byte(s, at))
 }
 
@@ -42,7 +46,7 @@ pub struct Lookup {
 // compared, in declaration order, up to the one that is found. Where the table holds no records of elements the answer is not decided, but
 // that at most `count` names are compared.
 pub fn declared(s: &[u8], elements: &[u32; RECORDS], count: usize, at: usize, size: usize) -> Lookup
-    requires { ⌜ (count ≤ 64) × (at < 4294967296) × (1 ≤ size) × (size < 4294967296) ⌝ }
+    requires { ⌜ (count ≤ elementLimit) × (at < 4294967296) × (1 ≤ size) × (size < 4294967296) ⌝ }
     ensures { λ r. ⌜ ((es : List rules.Element) → length es ≡ count → Recorded (now (elements .entry)) es →
         (r .found ≡ isDeclared (now (s .entry)) es at size) × (r .compared ≡ compared (now (s .entry)) es (now (s .entry)) at size)) ⌝ }
     ensures { λ r. ⌜ r .compared ≤ count ⌝ }
@@ -51,7 +55,7 @@ pub fn declared(s: &[u8], elements: &[u32; RECORDS], count: usize, at: usize, si
     let mut k = 0;
     while k < count {
         if is_alike(s, elements, k, at, size) {
-            if words::same_text(s, number(elements, 6 * k), s, at, size) {
+            if words::same_text(s, number(elements, RECORD * k), s, at, size) {
                 return Lookup {
                     found: true,
                     compared: n + 1,
@@ -76,7 +80,7 @@ pub fn element_name(
     elements: &[u32; RECORDS],
     count: usize,
 ) -> Reached
-    requires { ⌜ (i ≤ length (now s)) × (length (now s) ≤ 32768) × (count ≤ 64) ⌝ }
+    requires { ⌜ (i ≤ length (now s)) × (length (now s) ≤ typeLimit) × (count ≤ elementLimit) ⌝ }
     ensures { λ r. ⌜ ((es : List rules.Element) → length es ≡ count → Recorded (now (elements .entry)) es →
         reached r ≡ elementName long (now (s .entry)) i es) ⌝ }
     ensures { λ r. ⌜ NameIn long (length (now (s .entry))) i count r ⌝ }
@@ -90,7 +94,7 @@ pub fn element_name(
         if declared(s, elements, count, i, e - i).found {
             return Reached::Refused(Fault { number: 7, at: i });
         }
-        if 64 <= count {
+        if ELEMENTS <= count {
             return Reached::Refused(Fault { number: 8, at: i });
         }
         return Reached::At(e);

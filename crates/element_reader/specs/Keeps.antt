@@ -5,6 +5,7 @@ use mathlib.Core.List.{List, [], _∷_, _++_}
 use Rattle.rules.specs.Reading.{Reading, refused, got}
 use Rattle.rules.specs.TypeFile.{Declared}
 use Rattle.rules.specs.TypeFile as rules
+use Rattle.rules.specs.Bytes.{elementLimit}
 use Rattle.text.specs.declared.Fault.{Fault}
 use Rattle.element_reader.specs.declared.Element.{Element}
 use Rattle.element_reader.specs.declared.ElementRead.{ElementRead}
@@ -37,7 +38,7 @@ MeetsElement end from names table es (elementRead.Refused f) (refused n k) = (f 
 
 -- Whatever was declared before, one more element has room.
 abbrev pub ElementIn : (count : ℕ) → ElementRead → Type 0
-ElementIn count (elementRead.Read e) = count < 64
+ElementIn count (elementRead.Read e) = count < elementLimit
 ElementIn count (elementRead.Refused f) = Unit {0}
 
 abbrev pub elementFault : ElementRead → Fault

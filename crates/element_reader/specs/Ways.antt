@@ -6,7 +6,7 @@ use mathlib.Core.List.{List, [], _∷_, _++_}
 use native.Mathlib.Omega.{arith}
 use lib.Dec.{eqb}
 use borrow.Author.Tests.{eq-eqb, ne-eqb}
-use Rattle.rules.specs.Bytes.{byteAt}
+use Rattle.rules.specs.Bytes.{byteAt, GRPO, MDC, MINUS, PLUS, elementLimit}
 use Rattle.rules.specs.Reading.{Reading, refused, got}
 use Rattle.rules.specs.TypeFile.{Head, Declared, ContentEnd, gap, unfit, head, close, content, rest, element, declare}
 use Rattle.rules.specs.TypeFile as rules
@@ -20,15 +20,15 @@ pub use Rattle.element_names.specs.Records.{recorded-at}
 
 -- The end of the declaration.
 module _ (s : List ℕ) (i : ℕ) where
-  pub close-end : byteAt s i ≡ 62 → close s i ≡ got (i + 1)
+  pub close-end : byteAt s i ≡ MDC → close s i ≡ got (i + 1)
   unfolding close
   close-end b = rw (eq-eqb _ _ b, close)
 
-  pub close-exception : (byteAt s i ≡ 62 → ⊥) → ((eqb (byteAt s i) 45 || eqb (byteAt s i) 43) && eqb (byteAt s (i + 1)) 40) ≡ true → close s i ≡ refused 5 i
+  pub close-exception : (byteAt s i ≡ MDC → ⊥) → ((eqb (byteAt s i) MINUS || eqb (byteAt s i) PLUS) && eqb (byteAt s (i + 1)) GRPO) ≡ true → close s i ≡ refused 5 i
   unfolding close
   close-exception b q = rw (ne-eqb _ _ b, q, close)
 
-  pub close-unfit : (byteAt s i ≡ 62 → ⊥) → ((eqb (byteAt s i) 45 || eqb (byteAt s i) 43) && eqb (byteAt s (i + 1)) 40) ≡ false → close s i ≡ unfit s i
+  pub close-unfit : (byteAt s i ≡ MDC → ⊥) → ((eqb (byteAt s i) MINUS || eqb (byteAt s i) PLUS) && eqb (byteAt s (i + 1)) GRPO) ≡ false → close s i ≡ unfit s i
   unfolding close
   close-unfit b q = rw (ne-eqb _ _ b, q, close)
 
@@ -99,6 +99,6 @@ element-from {from} {later} end names table es (elementRead.Read e) (got d) l h 
 element-from end names table es (elementRead.Refused f) (refused n k) l h = h
 element-from end names table es (elementRead.Refused f) (got d) l h = h
 
-pub element-room : (count : ℕ) (r : ElementRead) → count < 64 → ElementIn count r
+pub element-room : (count : ℕ) (r : ElementRead) → count < elementLimit → ElementIn count r
 element-room count (elementRead.Read e) h = h
 element-room count (elementRead.Refused f) h = tt

@@ -13,6 +13,7 @@ ghost use Prim.Native.Nat.{_≤_};
 ghost use lib.ListN.{length};
 ghost use Rattle.rules.specs.TypeFile.{close, rest, element};
 ghost use Rattle.rules.specs.TypeFile as rules;
+ghost use Rattle.rules.specs.Bytes.{elementLimit, typeLimit};
 ghost use Rattle.text.specs.Refusal.{reached};
 ghost use Rattle.element_names.specs.Names.{Recorded};
 ghost use Rattle.element_head.specs.Heads.{headIn};
@@ -73,7 +74,7 @@ fn rest_at(
     names: &mut [u32; NAMES],
     table: &mut [u8; MODEL],
 ) -> ElementRead
-    requires { ⌜ (h .at ≤ length (now s)) × (length (now s) ≤ 32768) × (h .offset ≤ length (now s)) × (h .size ≤ length (now s)) ⌝ }
+    requires { ⌜ (h .at ≤ length (now s)) × (length (now s) ≤ typeLimit) × (h .offset ≤ length (now s)) × (h .size ≤ length (now s)) ⌝ }
     ensures { λ r. ⌜ ((es : List rules.Element) → MeetsElement (length (now (s .entry))) (h .at) (now (names .exit)) (now (table .exit)) es r
         (rest long (now (s .entry)) es (headIn h))) ⌝ }
 {
@@ -121,7 +122,7 @@ pub fn element_at(
     names: &mut [u32; NAMES],
     table: &mut [u8; MODEL],
 ) -> ElementRead
-    requires { ⌜ (at ≤ length (now s)) × (length (now s) ≤ 32768) × (count ≤ 64) ⌝ }
+    requires { ⌜ (at ≤ length (now s)) × (length (now s) ≤ typeLimit) × (count ≤ elementLimit) ⌝ }
     ensures { λ r. ⌜ ((es : List rules.Element) → length es ≡ count → Recorded (now (elements .entry)) es →
         MeetsElement (length (now (s .entry))) at (now (names .exit)) (now (table .exit)) es r (element long (now (s .entry)) at es)) ⌝ }
     ensures { λ r. ⌜ ElementIn count r ⌝ }

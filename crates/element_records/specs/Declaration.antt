@@ -6,8 +6,9 @@ use native.Mathlib.Omega.{arith}
 use lib.ListN.{length, take}
 use Rattle.rules.specs.Reading.{Reading, refused, got}
 use Rattle.rules.specs.TypeFile.{Content, empty, model, Element, Declared, earlier}
-use Rattle.rules.specs.Judge.{firstRepeated}
+use Rattle.rules.specs.Judge.{firstRepeated, recordWidth}
 use Rattle.rules_laws.specs.Groups.{earlier-none}
+use Rattle.rules.specs.Bytes.{GRPGTCNT, elementLimit, typeLimit}
 use Rattle.text.specs.declared.Fault.{Fault}
 use Rattle.element_content.specs.Kept.{KeepsContent}
 use Rattle.element_reader.specs.Keeps.{KeepsElement, MeetsElement, elementFault}
@@ -40,7 +41,7 @@ module _ (s : List ℕ) (from : ℕ) (names table : List ℕ) (es : List Element
 
   module _ (e : declared.Element.Element) (d : Declared) (k : KeepsElement (length s) from names table es e d) where
     -- Its numbers fit, and so do its places.
-    pub element-fits : length s ≤ 32768 → (e .offset < 4294967296) × (e .size < 4294967296) × (e .tokens < 4294967296)
+    pub element-fits : length s ≤ typeLimit → (e .offset < 4294967296) × (e .size < 4294967296) × (e .tokens < 4294967296)
     element-fits h =
         (omega (arith, k .name, k .name-in), omega (arith, k .size, k .size-in), by-content (k .element .content) (k .content))
       where
@@ -48,15 +49,15 @@ module _ (s : List ℕ) (from : ℕ) (names table : List ℕ) (es : List Element
         by-content empty m = omega (arith, m .1)
         by-content (model g ps n) m = omega (arith, m .1, m .2)
 
-    pub element-places : (e .kind ≡ 0 → ⊥) → e .places ≤ 96
+    pub element-places : (e .kind ≡ 0 → ⊥) → e .places ≤ GRPGTCNT
     element-places z = by-content (k .element .content) (k .content)
       where
-        by-content : (c : Content) → KeepsContent names table (e .kind) (e .tokens) (e .places) (e .code) (e .and) (e .repeated) c → e .places ≤ 96
+        by-content : (c : Content) → KeepsContent names table (e .kind) (e .tokens) (e .places) (e .code) (e .and) (e .repeated) c → e .places ≤ GRPGTCNT
         by-content empty m = absurd (z (m .0))
         by-content (model g ps n) m = m .3 .places-in
 
-    pub element-step : (before after : List ℕ) (p : Progress) (c : Clash) (first : ℕ) (x : Reading Declared) → x ≡ got d → KeepsProgress s before p es → p .count < 64
-        → take (6 * (p .count + 1)) after ≡ take (6 * p .count) before ++ numbersOf e → first ≡ earlier (p .repeated) (e .repeated)
+    pub element-step : (before after : List ℕ) (p : Progress) (c : Clash) (first : ℕ) (x : Reading Declared) → x ≡ got d → KeepsProgress s before p es → p .count < elementLimit
+        → take (recordWidth * (p .count + 1)) after ≡ take (recordWidth * p .count) before ++ numbersOf e → first ≡ earlier (p .repeated) (e .repeated)
         → (firstRepeated es ≡ 0 → e .repeated ≡ 0 → PendingWith s c es (k .element .content))
         → MeetsStep s after from (Read (record { at = e .at; count = p .count + 1; clash = c; repeated = first })) x
     element-step before after p c first x y h few w o q =

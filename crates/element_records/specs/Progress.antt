@@ -7,6 +7,7 @@ use lib.ListN.{length}
 use Rattle.rules.specs.Reading.{Reading, refused, got}
 use Rattle.rules.specs.TypeFile.{Content, Element, Declared}
 use Rattle.rules.specs.Judge.{AllUnambiguous, FirstAmbiguous, firstRepeated}
+use Rattle.rules.specs.Bytes.{elementLimit}
 use Rattle.text.specs.declared.Fault.{Fault}
 use Rattle.element_names.specs.Names.{Recorded}
 use Rattle.element_reader.specs.declared as declared
@@ -30,7 +31,7 @@ PendingWith s c es x = (e : Element) → e .content ≡ x → Pending s c (es ++
 -- What is kept of the elements es, read up to p .at. Where an "&" is refused no pair is asked for.
 pub record KeepsProgress (s elements : List ℕ) (p : Progress) (es : List Element) : Type 0 where
   pub counted : p .count ≡ length es
-  pub room : length es ≤ 64
+  pub room : length es ≤ elementLimit
   pub recorded : Recorded elements es
   pub at-in : p .at ≤ length s
   pub repeated-at : p .repeated ≡ firstRepeated es

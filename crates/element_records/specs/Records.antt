@@ -10,7 +10,7 @@ use lib.Seq.{take-suc-set}
 use lib.Dec.{eqb}
 use borrow.Author.Tests.{eqb-true}
 use Rattle.rules.specs.TypeFile.{Content, empty, model, Element, earlier}
-use Rattle.rules.specs.Judge.{records, contentNumbers, firstRepeated}
+use Rattle.rules.specs.Judge.{records, contentNumbers, firstRepeated, recordWidth}
 use Rattle.model_sets.specs.Bits.{bool-cases}
 use Rattle.element_names.specs.Names.{Recorded}
 use Rattle.element_content.specs.Kept.{KeepsContent}
@@ -52,7 +52,7 @@ module _ (names table : List ℕ) (e : declared.Element.Element) (x : Element) w
   numbers-kept a b c d k = rw (a, b, c, d) (ap (λ (l : List ℕ). x .at ∷ x .size ∷ x .start ∷ x .end ∷ l) (content-kept (x .content) k))
 
 pub recorded-more : (before after : List ℕ) (k : ℕ) (e : declared.Element.Element) (es : List Element) (x : Element) → k ≡ length es → Recorded before es
-    → take (6 * (k + 1)) after ≡ take (6 * k) before ++ numbersOf e → numbersOf e ≡ recordOf x → Recorded after (es ++ x ∷ [])
+    → take (recordWidth * (k + 1)) after ≡ take (recordWidth * k) before ++ numbersOf e → numbersOf e ≡ recordOf x → Recorded after (es ++ x ∷ [])
 recorded-more before after k e es x c r w q =
     rw (length-more es x, records-more es x, ← r, ← q, ← c) w
 
@@ -60,7 +60,7 @@ recorded-more before after k e es x c r w q =
 put-one : (l : List ℕ) (i j a : ℕ) → j ≡ i + 1 → i < length l → take j (set l i a) ≡ take i l ++ a ∷ []
 put-one l i j a e h = rw (e, add-one i) (take-suc-set l i a h)
 
-pub put-six : (l : List ℕ) (n m a b c d e f : ℕ) → m ≡ n + 6 → m ≤ length l
+pub put-six : (l : List ℕ) (n m a b c d e f : ℕ) → m ≡ n + recordWidth → m ≤ length l
     → take m (set (set (set (set (set (set l n a) (n + 1) b) (n + 2) c) (n + 3) d) (n + 4) e) (n + 5) f) ≡ take n l ++ a ∷ b ∷ c ∷ d ∷ e ∷ f ∷ []
 put-six l n m a b c d e f q h =
     let l₁ : List ℕ = set l n a in

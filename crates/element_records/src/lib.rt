@@ -3,6 +3,7 @@ use element_reader::Element;
 use element_reader::ElementRead;
 use layout::MODEL;
 use layout::NAMES;
+use layout::RECORD;
 use layout::RECORDS;
 use text::Fault;
 ghost use mathlib.Core.Path.{_≡_};
@@ -10,6 +11,9 @@ ghost use mathlib.Core.List.{List, _++_};
 ghost use Prim.Native.Nat.{_+_, _*_, _≤_, _<_};
 ghost use lib.ListN.{length, take};
 ghost use Rattle.rules.specs.TypeFile as rules;
+ghost use Rattle.rules.specs.Bytes.{GRPGTCNT, elementLimit, typeLimit};
+ghost use Rattle.rules.specs.Judge.{recordWidth};
+ghost use Rattle.layout.specs.Sizes.{RECORDS};
 ghost use Rattle.element_content.specs.Kept.{KeepsContent};
 ghost use Rattle.element_records.specs.Progress.{numbersOf, Pending, PendingWith, KeepsProgress, InProgress, MeetsStep, stepFault};
 
@@ -45,27 +49,27 @@ pub fn fault_of(r: Step) -> Fault
 
 // The table has as many numbers as its type says. Nothing is read of the copy, so no code is left of a call.
 pub fn whole(elements: [u32; RECORDS])
-    ensures { λ _. ⌜ length elements ≡ 384 ⌝ }
+    ensures { λ _. ⌜ length elements ≡ RECORDS ⌝ }
 {}
 
 // The record of the element that was declared after k others.
 fn put_record(elements: &mut [u32; RECORDS], k: usize, e: Element)
-    requires { ⌜ (k < 64) × (e .offset < 4294967296) × (e .size < 4294967296) × (e .tokens < 4294967296) ⌝ }
-    ensures { λ _. ⌜ take (6 * (k + 1)) (now (elements .exit)) ≡ take (6 * k) (now (elements .entry)) ++ numbersOf e ⌝ }
+    requires { ⌜ (k < elementLimit) × (e .offset < 4294967296) × (e .size < 4294967296) × (e .tokens < 4294967296) ⌝ }
+    ensures { λ _. ⌜ take (recordWidth * (k + 1)) (now (elements .exit)) ≡ take (recordWidth * k) (now (elements .entry)) ++ numbersOf e ⌝ }
 {
     whole(*elements);
-    elements[6 * k] = e.offset as u32;
-    elements[6 * k + 1] = e.size as u32;
-    elements[6 * k + 2] = e.start;
-    elements[6 * k + 3] = e.end;
-    elements[6 * k + 4] = e.kind;
-    elements[6 * k + 5] = e.tokens as u32;
+    elements[RECORD * k] = e.offset as u32;
+    elements[RECORD * k + 1] = e.size as u32;
+    elements[RECORD * k + 2] = e.start;
+    elements[RECORD * k + 3] = e.end;
+    elements[RECORD * k + 4] = e.kind;
+    elements[RECORD * k + 5] = e.tokens as u32;
 }
 
 // The first pair at fault so far, where the element e, read last, has its model in `names` and `table`. Where an "&" of the model is refused, it is
 // not decided.
 fn clash_with(s: &[u8], c: Clash, e: Element, names: &[u32; NAMES], table: &[u8; MODEL]) -> Clash
-    requires { ⌜ ((e .kind ≡ 0 → ⊥) → e .places ≤ 96) ⌝ }
+    requires { ⌜ ((e .kind ≡ 0 → ⊥) → e .places ≤ GRPGTCNT) ⌝ }
     ensures { λ r. ⌜ ((es : List rules.Element) (x : rules.Content) → Pending (now (s .entry)) c es →
         KeepsContent (now (names .entry)) (now (table .entry)) (e .kind) (e .tokens) (e .places) (e .code) (e .and) (e .repeated) x → e .repeated ≡ 0 → PendingWith (now (s .entry)) r es x) ⌝ }
 {
@@ -103,7 +107,7 @@ pub fn element_at(
     names: &mut [u32; NAMES],
     table: &mut [u8; MODEL],
 ) -> Step
-    requires { ⌜ (at ≤ length (now s)) × (length (now s) ≤ 32768) ⌝ }
+    requires { ⌜ (at ≤ length (now s)) × (length (now s) ≤ typeLimit) ⌝ }
     requires { ⌜ InProgress (now s) (now elements) p ⌝ }
     ensures { λ r. ⌜ ((es : List rules.Element) → KeepsProgress (now (s .entry)) (now (elements .entry)) p es →
         MeetsStep (now (s .entry)) (now (elements .exit)) at r (rules.element long (now (s .entry)) at es)) ⌝ }

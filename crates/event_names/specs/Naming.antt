@@ -10,36 +10,38 @@ use borrow.Author.Tests.{eq-eqb, ne-eqb, lt-ltb, le-ltb}
 use Rattle.rules.specs.Events.{eventWidth}
 use Rattle.rules.specs.Listing.{attributeWidth}
 use Rattle.rules.specs.Printed.{word, upper}
+use Rattle.rules.specs.Bytes.{MINUS, SPACE, elementLimit}
+use Rattle.rules.specs.Judge.{recordWidth}
 use Rattle.line_text.specs.Adds.{Adds}
 use Rattle.line_text.specs.Words.{puts-both}
 use Rattle.event_names.specs.Names.{Fits, nameIn, startsWithin, startsAt, recordWithin, recordOf, attributeIn, namedAt}
 
 -- A name and the space after it.
-pub puts-name : {before middle after : List ℕ} {at q r : ℕ} {x name : List ℕ} → x ≡ name → Adds before at middle q x → Adds middle q after r (32 ∷ []) → Adds before at after r (word name 32)
+pub puts-name : {before middle after : List ℕ} {at q r : ℕ} {x name : List ℕ} → x ≡ name → Adds before at middle q x → Adds middle q after r (SPACE ∷ []) → Adds before at after r (word name SPACE)
 unfolding word
 puts-name e a b = rw (← e) (puts-both a b)
 
-pub puts-no-name : {before after : List ℕ} {at r : ℕ} {name : List ℕ} → name ≡ [] → Adds before at after r (32 ∷ []) → Adds before at after r (word name 32)
+pub puts-no-name : {before after : List ℕ} {at r : ℕ} {name : List ℕ} → name ≡ [] → Adds before at after r (SPACE ∷ []) → Adds before at after r (word name SPACE)
 unfolding word
 puts-no-name e a = rw e a
 
-pub name-zero : (s elements : List ℕ) (number : ℕ) → number ≡ 0 → 45 ∷ [] ≡ nameIn s elements number
+pub name-zero : (s elements : List ℕ) (number : ℕ) → number ≡ 0 → MINUS ∷ [] ≡ nameIn s elements number
 name-zero s elements number e = rw e
 
 module _ (s elements : List ℕ) (fits : Fits s elements) where
   -- An element by its number, above 0.
-  name-of : (number : ℕ) → 0 < number → nameIn s elements number ≡ upper s (getD elements (6 * (number - 1)) 0) (getD elements (6 * (number - 1) + 1) 0)
+  name-of : (number : ℕ) → 0 < number → nameIn s elements number ≡ upper s (getD elements (recordWidth * (number - 1)) 0) (getD elements (recordWidth * (number - 1) + 1) 0)
   name-of zero h = absurd (omega arith)
   name-of (suc k) h = let z : suc k - 1 ≡ k = omega arith in rw z
 
-  pub name-by : (x number from size : ℕ) → number ≡ x → 0 < number → from ≡ getD elements (6 * (number - 1)) 0 → size ≡ getD elements (6 * (number - 1) + 1) 0 → upper s from size ≡ nameIn s elements x
+  pub name-by : (x number from size : ℕ) → number ≡ x → 0 < number → from ≡ getD elements (recordWidth * (number - 1)) 0 → size ≡ getD elements (recordWidth * (number - 1) + 1) 0 → upper s from size ≡ nameIn s elements x
   name-by x number from size e h f z = rw (f, z, ← e, name-of number h)
 
   -- None has a number above 64.
-  pub name-none : (number : ℕ) → 64 < number → nameIn s elements number ≡ []
+  pub name-none : (number : ℕ) → elementLimit < number → nameIn s elements number ≡ []
   unfolding upper
   name-none zero h = absurd (omega arith)
-  name-none (suc k) h = rw (List·getD-eq-default elements 0 {n = 6 * k + 1} (omega (arith, fits .whole)))
+  name-none (suc k) h = rw (List·getD-eq-default elements 0 {n = recordWidth * k + 1} (omega (arith, fits .whole)))
 
 -- The element that starts next: at the event j, or behind it.
 module _ (numbers : List ℕ) (j n : ℕ) (h : j < n) {b : Bool} (test : b ≡ (eqb (getD numbers (eventWidth * j) 0) 1 || eqb (getD numbers (eventWidth * j) 0) 2)) where
@@ -119,5 +121,5 @@ module _ (s elements attributes : List ℕ) (total : ℕ) (numbers : List ℕ) (
   unfolding namedAt
   named-element h = rw (namedAt, ← test, h)
 
-pub puts-named : {before after : List ℕ} {at r : ℕ} {x name : List ℕ} → x ≡ name → Adds before at after r (word x 32) → Adds before at after r (word name 32)
+pub puts-named : {before after : List ℕ} {at r : ℕ} {x name : List ℕ} → x ≡ name → Adds before at after r (word x SPACE) → Adds before at after r (word name SPACE)
 puts-named e a = rw (← e) a

@@ -5,31 +5,36 @@ use layout::ATTRIBUTE_RECORD;
 use layout::ATTRIBUTE_RECORDS;
 use layout::EVENT;
 use layout::PROGRAM_ROOM;
+use layout::RECORD;
 use layout::RECORDS;
 ghost use mathlib.Core.Path.{_≡_};
 ghost use mathlib.Core.Bool.{_||_};
 ghost use Prim.Native.Nat.{_+_, _-_, _≤_, _<_, _*_};
 ghost use lib.ListN.{length};
 ghost use lib.Dec.{eqb};
-ghost use Rattle.rules.specs.Bytes.{ATTCNT, elementLimit};
+ghost use Rattle.rules.specs.Settings.{leastNameLength};
+ghost use Rattle.rules.specs.Bytes.{ATTCNT, elementLimit, SPACE};
 ghost use Rattle.rules.specs.Printed.{word};
+ghost use Rattle.layout.specs.Sizes.{PROGRAM-EVENTS};
 ghost use Rattle.line_text.specs.Adds.{Adds};
 ghost use Rattle.event_names.specs.Names.{Fits, FitsAttributes, nameIn, startsAt, recordOf, attributeIn, namedAt};
 
+const ELEMENTS: u32 = layout::ELEMENTS as u32;
+
 // The name of the element with the number x, `-` for 0, and a space after it.
 fn put_name(out: &mut [u8], at: usize, s: &[u8], elements: &[u32; RECORDS], x: u32) -> usize
-    requires { ⌜ (at + 9 ≤ length (now out)) × Fits (now s) (now elements) ⌝ }
-    ensures { λ r. ⌜ Adds (now (out .entry)) at (now (out .exit)) r (word (nameIn (now (s .entry)) (now (elements .entry)) x) 32) × (r ≤ at + 9) ⌝ }
+    requires { ⌜ (at + leastNameLength + 1 ≤ length (now out)) × Fits (now s) (now elements) ⌝ }
+    ensures { λ r. ⌜ Adds (now (out .entry)) at (now (out .exit)) r (word (nameIn (now (s .entry)) (now (elements .entry)) x) SPACE) × (r ≤ at + leastNameLength + 1) ⌝ }
 {
     if x == 0 {
         let dash = line_text::put_byte(out, at, b'-');
         return line_text::put_byte(out, dash, b' ');
     }
-    if 64 < x {
+    if ELEMENTS < x {
         return line_text::put_byte(out, at, b' ');
     }
     let number = numbers::widened(x);
-    let k = 6 * (number - 1);
+    let k = RECORD * (number - 1);
     let from = numbers::widened(elements[k]);
     let size = numbers::widened(elements[k + 1]);
     let end = line_text::put_upper(out, at, s, from, size);
@@ -48,7 +53,7 @@ fn is_either(x: u32, a: u32, b: u32) -> bool
 
 // The number of the element that starts next, at the event k or behind it, among n; 0 if none does.
 fn starts_next(numbers: &[u32; PROGRAM_ROOM], k: usize, n: usize) -> u32
-    requires { ⌜ n ≤ 4096 ⌝ }
+    requires { ⌜ n ≤ PROGRAM-EVENTS ⌝ }
     ensures { λ r. ⌜ r ≡ startsAt (now (numbers .entry)) k n ⌝ }
 {
     let mut j = k;
@@ -97,8 +102,8 @@ fn put_attribute(
     e: u32,
     a: u32,
 ) -> usize
-    requires { ⌜ (at + 9 ≤ length (now out)) × (total ≤ ATTCNT * elementLimit) × FitsAttributes (now s) (now attributes) total ⌝ }
-    ensures { λ r. ⌜ Adds (now (out .entry)) at (now (out .exit)) r (word (attributeIn (now (s .entry)) (now (attributes .entry)) total e a) 32) × (r ≤ at + 9) ⌝ }
+    requires { ⌜ (at + leastNameLength + 1 ≤ length (now out)) × (total ≤ ATTCNT * elementLimit) × FitsAttributes (now s) (now attributes) total ⌝ }
+    ensures { λ r. ⌜ Adds (now (out .entry)) at (now (out .exit)) r (word (attributeIn (now (s .entry)) (now (attributes .entry)) total e a) SPACE) × (r ≤ at + leastNameLength + 1) ⌝ }
 {
     let k = record_of(attributes, total, counted(e), counted(a));
     if k == total {
@@ -123,8 +128,8 @@ pub fn put_named(
     k: usize,
     n: usize,
 ) -> usize
-    requires { ⌜ (at + 9 ≤ length (now out)) × Fits (now s) (now elements) × (k < n) × (n ≤ 4096) × (total ≤ ATTCNT * elementLimit) × FitsAttributes (now s) (now attributes) total ⌝ }
-    ensures { λ r. ⌜ Adds (now (out .entry)) at (now (out .exit)) r (word (namedAt (now (s .entry)) (now (elements .entry)) (now (attributes .entry)) total (now (numbers .entry)) k n) 32) × (r ≤ at + 9) ⌝ }
+    requires { ⌜ (at + leastNameLength + 1 ≤ length (now out)) × Fits (now s) (now elements) × (k < n) × (n ≤ PROGRAM-EVENTS) × (total ≤ ATTCNT * elementLimit) × FitsAttributes (now s) (now attributes) total ⌝ }
+    ensures { λ r. ⌜ Adds (now (out .entry)) at (now (out .exit)) r (word (namedAt (now (s .entry)) (now (elements .entry)) (now (attributes .entry)) total (now (numbers .entry)) k n) SPACE) × (r ≤ at + leastNameLength + 1) ⌝ }
 {
     let i = EVENT * k;
     let x = numbers[i + 1];

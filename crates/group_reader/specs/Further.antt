@@ -5,8 +5,10 @@ use mathlib.Core.Bool.{_&&_, cond}
 use mathlib.Core.List.{List}
 use lib.Dec.{eqb, leb}
 use borrow.Author.Tests.{eq-eqb, ne-eqb, le-leb, lt-leb}
+use Rattle.model_code.specs.Codes.{AND-CODE}
 use Rattle.rules.specs.Reading.{Reading, refused, got}
 use Rattle.rules.specs.TypeFile.{Further, closed, joined}
+use Rattle.rules.specs.Bytes.{AND, GRPCNT}
 use Rattle.model_code.specs.Six.{putCode, codeNext}
 use Rattle.group_reader.specs.declared.Next.{Next}
 use Rattle.group_reader.specs.declared.Next.the-variants.{Closed, Joined, Unfit}
@@ -29,18 +31,18 @@ MeetsFurther end B k names table (Unfit f) (refused n p) = (f .number ≡ n) × 
 
 -- The code where a group of k content tokens joined by the connector ends.
 abbrev pub closedTable : (k joint n : ℕ) → List ℕ → List ℕ
-closedTable k joint n T = cond (eqb joint 38 && leb k 32) (putCode T n (128 + k)) T
+closedTable k joint n T = cond (eqb joint AND && leb k GRPCNT) (putCode T n (AND-CODE + k)) T
 
 abbrev pub closedCode : (k joint n : ℕ) → ℕ
-closedCode k joint n = cond (eqb joint 38 && leb k 32) (codeNext n) n
+closedCode k joint n = cond (eqb joint AND && leb k GRPCNT) (codeNext n) n
 
 -- Another group leaves both as they are, and so does one that is too large; else the number is put.
 module _ (k joint n : ℕ) (T : List ℕ) where
-  pub closed-other : (joint ≡ 38 → ⊥) → (T ≡ closedTable k joint n T) × (n ≡ closedCode k joint n)
-  closed-other e = let x = ne-eqb joint 38 e in (rw x, rw x)
+  pub closed-other : (joint ≡ AND → ⊥) → (T ≡ closedTable k joint n T) × (n ≡ closedCode k joint n)
+  closed-other e = let x = ne-eqb joint AND e in (rw x, rw x)
 
-  pub closed-many : joint ≡ 38 → 32 < k → (T ≡ closedTable k joint n T) × (n ≡ closedCode k joint n)
-  closed-many e h = let x = eq-eqb joint 38 e in let y = lt-leb k 32 h in (rw (x, y), rw (x, y))
+  pub closed-many : joint ≡ AND → GRPCNT < k → (T ≡ closedTable k joint n T) × (n ≡ closedCode k joint n)
+  closed-many e h = let x = eq-eqb joint AND e in let y = lt-leb k GRPCNT h in (rw (x, y), rw (x, y))
 
-  pub closed-few : joint ≡ 38 → k ≤ 32 → (S : List ℕ) (r : ℕ) → (S ≡ putCode T n (128 + k)) × (r ≡ codeNext n) → (S ≡ closedTable k joint n T) × (r ≡ closedCode k joint n)
-  closed-few e h S r p = let x = eq-eqb joint 38 e in let y = le-leb k 32 h in (rw (x, y) (p .0), rw (x, y) (p .1))
+  pub closed-few : joint ≡ AND → k ≤ GRPCNT → (S : List ℕ) (r : ℕ) → (S ≡ putCode T n (AND-CODE + k)) × (r ≡ codeNext n) → (S ≡ closedTable k joint n T) × (r ≡ closedCode k joint n)
+  closed-few e h S r p = let x = eq-eqb joint AND e in let y = le-leb k GRPCNT h in (rw (x, y) (p .0), rw (x, y) (p .1))

@@ -1,6 +1,8 @@
 // The recursive reader of model groups: bytes in, the model's places and its table out.
 use connectors::Model;
 use content_tokens::ModelRead;
+use layout::GRPCNT;
+use layout::GRPGTCNT;
 use layout::MODEL;
 use layout::NAMES;
 use text::Fault;
@@ -10,6 +12,7 @@ ghost use mathlib.Core.List.{List};
 ghost use Prim.Native.Nat.{ℕ, _+_, _*_, _≤_, _<_};
 ghost use lib.ListN.{length};
 ghost use Rattle.rules.specs.TypeFile.{Tokens, token, further, group};
+ghost use Rattle.rules.specs.Bytes.{GRPGTCNT, typeLimit};
 ghost use Rattle.model_names.specs.Places.{placesOf};
 ghost use Rattle.connectors.specs.Kept.{begun, Keeps};
 ghost use Rattle.content_tokens.specs.Meets.{Meets};
@@ -29,10 +32,10 @@ fn closed_code(table: &mut [u8; MODEL], code: u16, k: usize, c: u8) -> u16
     if c != b'&' {
         return code;
     }
-    if 32 < k {
+    if GRPCNT < k {
         return code;
     }
-    model_code::put(table, code, model_code::AND + k as u8)
+    model_code::put(table, code, model_code::AND_CODE + k as u8)
 }
 
 // A content token that begins at `at`.
@@ -48,8 +51,8 @@ fn token_at(
     names: &mut [u32; NAMES],
     table: &mut [u8; MODEL],
 ) -> ModelRead
-    requires { ⌜ (at ≤ length (now s)) × (length (now s) ≤ 32768) ⌝ }
-    requires { ⌜ (places ≤ tokens) × (full ≡ false → tokens < 96) ⌝ }
+    requires { ⌜ (at ≤ length (now s)) × (length (now s) ≤ typeLimit) ⌝ }
+    requires { ⌜ (places ≤ tokens) × (full ≡ false → tokens < GRPGTCNT) ⌝ }
     ensures { λ r. ⌜ Meets (length (now (s .entry))) (begun (places + 1) (now (table .entry)) code (4 * tokens + 3)) (now (names .exit)) (now (table .exit)) r
         (token long (group long levels (now (s .entry))) (now (s .entry)) at full (placesOf (now (names .entry)) places) tokens) ⌝ }
 {
@@ -88,8 +91,8 @@ fn next_at(
     names: &mut [u32; NAMES],
     table: &mut [u8; MODEL],
 ) -> Next
-    requires { ⌜ (m .at ≤ length (now s)) × (length (now s) ≤ 32768) ⌝ }
-    requires { ⌜ (m .places ≤ m .tokens) × (m .tokens ≤ 96) ⌝ }
+    requires { ⌜ (m .at ≤ length (now s)) × (length (now s) ≤ typeLimit) ⌝ }
+    requires { ⌜ (m .places ≤ m .tokens) × (m .tokens ≤ GRPGTCNT) ⌝ }
     ensures { λ r. ⌜ ((T : List ℕ) (n d : ℕ) (t : Tokens) → Keeps (length (now (s .entry))) (begun lo T n (d + 1)) k c (now (names .entry)) (now (table .entry)) m t →
         MeetsFurther (length (now (s .entry))) (begun lo T n d) k (now (names .exit)) (now (table .exit)) r
         (further long (group long levels (now (s .entry))) (now (s .entry)) k c t)) ⌝ }
@@ -118,7 +121,7 @@ fn next_at(
         return Next::Unfit(Fault { number: 4, at: i });
     }
     let j = text::separators_end(s, i + 1);
-    let full = 32 <= k || 96 <= tokens;
+    let full = GRPCNT <= k || GRPGTCNT <= tokens;
     let r = token_at(long, s, j, levels, full, places, tokens, code, names, table);
     let ModelRead::Read(u) = r else {
         return Next::Unfit(content_tokens::fault_of(r));
@@ -139,8 +142,8 @@ pub fn group_at(
     names: &mut [u32; NAMES],
     table: &mut [u8; MODEL],
 ) -> ModelRead
-    requires { ⌜ (at < length (now s)) × (length (now s) ≤ 32768) ⌝ }
-    requires { ⌜ (places ≤ tokens) × (tokens ≤ 96) ⌝ }
+    requires { ⌜ (at < length (now s)) × (length (now s) ≤ typeLimit) ⌝ }
+    requires { ⌜ (places ≤ tokens) × (tokens ≤ GRPGTCNT) ⌝ }
     ensures { λ r. ⌜ Meets (length (now (s .entry))) (begun (places + 1) (now (table .entry)) code (4 * tokens + 2)) (now (names .exit)) (now (table .exit)) r
         (group long levels (now (s .entry)) at (placesOf (now (names .entry)) places) tokens) ⌝ }
 {
@@ -153,7 +156,7 @@ pub fn group_at(
         s,
         i,
         levels - 1,
-        96 <= tokens,
+        GRPGTCNT <= tokens,
         places,
         tokens,
         code,

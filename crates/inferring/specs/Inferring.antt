@@ -10,6 +10,7 @@ use Rattle.rules.specs.Events.{startInferred, endInferred, Event}
 use Rattle.rules.specs.Settling.{State, takePlace, shown, placeTaken, enter, note, fitting, requiredPlace, inferable, settleFrom}
 use Rattle.rules.specs.Settling as rules
 use Rattle.rules_laws.specs.BeforeStarts.{Plain}
+use Rattle.rules.specs.Bytes.{GRPGTCNT, elementLimit}
 use Rattle.document_laws.specs.Decide.{decided}
 use Rattle.document_laws.specs.Moves.{state, fresh}
 use Rattle.type_tables.specs.Tables.{nameNumber, Declares, Tables, Entered}
@@ -62,8 +63,8 @@ Finds rows places facts M begun x o w =
 -- No more ends are inferred.
 pub record Stops (rows places facts M begun : List ℕ) (x at n : ℕ) (o₀ : Open) (numbers₀ bytes₀ : List ℕ) (r : Stop) (numbers bytes : List ℕ) : Type 0 where
   pub turns : Turns rows places facts M begun x at n o₀ numbers₀ bytes₀ (r .open) (r .events) numbers bytes
-  pub fits : fitOf (r .found) ≤ 96
-  pub starts : startsOf (r .found) ≤ 64
+  pub fits : fitOf (r .found) ≤ GRPGTCNT
+  pub starts : startsOf (r .found) ≤ elementLimit
   pub finds : Finds rows places facts M begun x (r .open) (r .found)
   pub stays : r .found ≡ Stuck → MayEnd facts (r .open) false
 
@@ -109,7 +110,7 @@ Chooses places facts o k =
 -- inferred.
 pub record InfersStart (rows places facts M before : List ℕ) (at n : ℕ) (o : Open) (numbers bytes : List ℕ) (r : Open) (after numbers′ bytes′ : List ℕ) : Type 0 where
   pub k : ℕ
-  pub few : k ≤ 64
+  pub few : k ≤ elementLimit
   pub starting : Starting rows M before k o r after
   pub puts : Puts numbers bytes n (startInferred k at (shown (o .element .0) (o .required .0)) ∷ []) numbers′ bytes′
   pub chosen : (s : List ℕ) (es : List Element) → Tables s es rows places facts M → (z : State) → Stands es M before o z → k ≡ inferable s es (decided s es) (z .current)

@@ -5,7 +5,7 @@ use mathlib.Core.List.{List, [], _∷_, _++_, append-assoc, append-nil}
 use native.Mathlib.Omega.{arith}
 use lib.ListN.{length, length-append}
 use borrow.Author.Tests.{le-leb, leb-true}
-use Rattle.rules.specs.Bytes.{ATTCNT}
+use Rattle.rules.specs.Bytes.{ATTCNT, TAGLVL}
 use Rattle.rules.specs.TypeFile.{Element}
 use Rattle.rules.specs.Elements.{elementAt}
 use Rattle.rules.specs.Given.{attributeEvents, withAttributes}
@@ -61,7 +61,7 @@ module _ (s : List ℕ) (es : List Element) (D : Decisions) where
 -- One start
 
 module _ {rows places facts M before : List ℕ} {at n : ℕ} {o : Open} {numbers bytes : List ℕ} {r : Open} {after numbers′ bytes′ : List ℕ}
-    (i : InfersStart rows places facts M before at n o numbers bytes r after numbers′ bytes′) (less : o .count < 24) where
+    (i : InfersStart rows places facts M before at n o numbers bytes r after numbers′ bytes′) (less : o .count < TAGLVL) where
   -- its event, with the place that it took
   abbrev started : Event
   started = startInferred (i .k) at (shown (o .element .0) (o .required .0))
@@ -140,7 +140,7 @@ module _ (rows places facts M lists : List ℕ) (at m₀ starts : ℕ) where
 
   module _ {k : ℕ} {o₀ : Open} {begun₀ numbers₀ bytes₀ : List ℕ} {m : ℕ} {o : Open} {begun numbers bytes : List ℕ} (h : Along rows places facts M lists at m₀ starts k o₀ begun₀ numbers₀ bytes₀ m o begun numbers bytes) where
     -- A turn of the loop: one start more is inferred, behind the events of the attributes of its element.
-    module _ (l : k < starts) (less : o .count < 24) {e : ℕ} (chooses : Chooses places facts o e) {m₁ : ℕ} {numbers₁ bytes₁ : List ℕ} (before : PutsDefaults lists e m numbers bytes m₁ numbers₁ bytes₁)
+    module _ (l : k < starts) (less : o .count < TAGLVL) {e : ℕ} (chooses : Chooses places facts o e) {m₁ : ℕ} {numbers₁ bytes₁ : List ℕ} (before : PutsDefaults lists e m numbers bytes m₁ numbers₁ bytes₁)
         {r : Open} {begun′ numbers′ bytes′ : List ℕ} (i : InfersStart rows places facts M begun at m₁ o numbers₁ bytes₁ r begun′ numbers′ bytes′) where
       left : starts - k ≡ suc (starts - (k + 1))
       left = omega arith

@@ -13,6 +13,8 @@ use layout::ROWS;
 use open_elements::Open;
 use ways::Way;
 ghost use Prim.Native.Nat.{_+_, _≤_, _<_};
+ghost use Rattle.rules.specs.Bytes.{TAGLVL, elementLimit};
+ghost use Rattle.layout.specs.Sizes.{TOKEN-EVENTS};
 ghost use Rattle.open_elements.specs.Stands.{Ranged};
 ghost use Rattle.inferring.specs.Inferring.{Stops, Chooses, InfersStart};
 
@@ -38,7 +40,7 @@ pub fn ends(
     numbers: &mut [u32],
     bytes: &mut [u8],
 ) -> Stop
-    requires { ⌜ Ranged state × (x .0 ≤ 64) × (at < 4294967296) × (n + 50 < 4294967296) ⌝ }
+    requires { ⌜ Ranged state × (x .0 ≤ elementLimit) × (at < 4294967296) × (n + TOKEN-EVENTS < 4294967296) ⌝ }
     ensures { λ r. ⌜ Stops (now (rows .entry)) (now (places .entry)) (now (facts .entry)) (now (members .entry)) (now (begun .entry)) (x .0) at n state (now (numbers .entry)) (now (bytes .entry)) r (now (numbers .exit)) (now (bytes .exit)) ⌝ }
 {
     let mut o = state;
@@ -69,7 +71,7 @@ pub fn ends(
 // The element whose start is inferred next: its attribute events come before it.
 pub fn next_start(places: &[u8; PLACES], facts: &[u8; FACTS], state: Open) -> ElementNo
     requires { ⌜ Ranged state ⌝ }
-    ensures { λ r. ⌜ Chooses (now (places .entry)) (now (facts .entry)) state (r .0) × (r .0 ≤ 64) ⌝ }
+    ensures { λ r. ⌜ Chooses (now (places .entry)) (now (facts .entry)) state (r .0) × (r .0 ≤ elementLimit) ⌝ }
 {
     let e = state.element;
     let q = state.required;
@@ -89,7 +91,7 @@ pub fn infer_start(
     numbers: &mut [u32],
     bytes: &mut [u8],
 ) -> Open
-    requires { ⌜ Ranged state × (state .count < 24) × (at < 4294967296) × (n < 4294967296) ⌝ }
+    requires { ⌜ Ranged state × (state .count < TAGLVL) × (at < 4294967296) × (n < 4294967296) ⌝ }
     ensures { λ r. ⌜ InfersStart (now (rows .entry)) (now (places .entry)) (now (facts .entry)) (now (members .entry)) (now (begun .entry)) at n state (now (numbers .entry)) (now (bytes .entry)) r (now (begun .exit)) (now (numbers .exit)) (now (bytes .exit)) ⌝ }
 {
     let e = state.element;

@@ -9,7 +9,7 @@ use lib.ListN.{length, drop}
 use lib.Dec.{eqb}
 use borrow.Author.Tests.{eq-eqb, ne-eqb, eqb-true, eqb-false}
 use Rattle.rules.specs.Settings.{Settings, isOffered}
-use Rattle.rules.specs.Bytes.{byteAt, allowed, span}
+use Rattle.rules.specs.Bytes.{byteAt, allowed, span, documentLimit, typeLimit}
 use Rattle.rules.specs.Judge.{Legible}
 use Rattle.rules.specs.Reader.{documentRefusal, BothLegible, RefusesBoth}
 use Rattle.text.specs.Words.{spanned, before-all, span-turn, span-end, span-in}
@@ -61,13 +61,13 @@ looked-all d bad i l h = by-bad bad refl
         ne-eqb bad 0 (λ e. omega arith) ∙ sym (ne-eqb (span allowed d) (length d) (λ e. omega (arith, l .some (omega arith))))
 
 -- The type's bytes are allowed where none was found that is not.
-pub legible-type : (c : Settings) (s : List ℕ) (a : ℕ) → isOffered c ≡ true → length s ≤ 32768 → a ≡ span allowed s → length s ≤ a → Legible c s
+pub legible-type : (c : Settings) (s : List ℕ) (a : ℕ) → isOffered c ≡ true → length s ≤ typeLimit → a ≡ span allowed s → length s ≤ a → Legible c s
 legible-type c s a o h e l = record { offered = o; short = h; clean = omega (arith, span-in allowed s 0 (omega arith)) }
 
 module _ (c : Settings) (s d : List ℕ) where
-  pub legible-both : Legible c s → length d ≤ 65535 → isClean d ≡ true → BothLegible c s d
+  pub legible-both : Legible c s → length d ≤ documentLimit → isClean d ≡ true → BothLegible c s d
   legible-both t l e = record { type = t; short = l; clean = eqb-true (span allowed d) (length d) e }
 
-  pub document-unclean : Legible c s → length d ≤ 65535 → isClean d ≡ false → (a : ℕ) → a ≡ span allowed d → RefusesAlways c s d (documentRefusal 2 a)
+  pub document-unclean : Legible c s → length d ≤ documentLimit → isClean d ≡ false → (a : ℕ) → a ≡ span allowed d → RefusesAlways c s d (documentRefusal 2 a)
   document-unclean t l f a e room =
       RefusesBoth.documentNotAllowed t l (omega (arith, span-in allowed d 0 (omega arith), eqb-false (span allowed d) (length d) f)) (ap (documentRefusal 2) e)

@@ -1,5 +1,7 @@
 // What a call is given, before it is read: the settings are among those that the paper names, neither input is too long, and every byte
 // is allowed.
+use layout::LEAST_NAME_LENGTH;
+use layout::MOST_NAME_LENGTH;
 ghost use mathlib.Core.Path.{_≡_};
 ghost use Rattle.rules.specs.Bytes.{allowed};
 ghost use Rattle.rules.specs.Settings.{isOffered};
@@ -15,10 +17,10 @@ pub struct Settings {
 pub fn is_offered(c: Settings) -> bool
     ensures { λ r. ⌜ r ≡ isOffered (settingsOf c) ⌝ }
 {
-    if c.name_length < 8 {
+    if c.name_length < LEAST_NAME_LENGTH {
         return false;
     }
-    if 32 < c.name_length {
+    if MOST_NAME_LENGTH < c.name_length {
         return false;
     }
     1 <= c.edition && c.edition <= 2

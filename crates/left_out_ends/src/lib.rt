@@ -10,6 +10,7 @@ use layout::Place;
 use open_elements::Open;
 use open_elements::Outcome;
 ghost use Prim.Native.Nat.{_+_, _<_};
+ghost use Rattle.layout.specs.Sizes.{TOKEN-EVENTS};
 ghost use Rattle.open_elements.specs.Stands.{Ranged};
 ghost use Rattle.left_out_ends.specs.Until.{Judges, Until};
 
@@ -41,7 +42,7 @@ pub fn end_until(
     numbers: &mut [u32],
     bytes: &mut [u8],
 ) -> Outcome
-    requires { ⌜ Ranged state × (at < 4294967296) × (n + 50 < 4294967296) ⌝ }
+    requires { ⌜ Ranged state × (at < 4294967296) × (n + TOKEN-EVENTS < 4294967296) ⌝ }
     ensures { λ r. ⌜ Until (now (facts .entry)) (x .0) at n state (now (numbers .entry)) (now (bytes .entry)) r (now (numbers .exit)) (now (bytes .exit)) ⌝ }
 {
     let mut o = state;

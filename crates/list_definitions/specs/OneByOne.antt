@@ -7,7 +7,7 @@ use native.Mathlib.Omega.{arith}
 use lib.ListN.{length, getD, set, length-append}
 use lib.Dec.{eqb, leb}
 use borrow.Author.Tests.{eq-eqb, ne-eqb}
-use Rattle.rules.specs.Bytes.{byteAt, letter, ATTCNT}
+use Rattle.rules.specs.Bytes.{byteAt, letter, ATTCNT, GRPCNT, MDC}
 use Rattle.rules.specs.Reading.{Reading, got, andThen}
 use Rattle.rules.specs.Attributes.{Attribute}
 use Rattle.rules.specs.TypeFile.{gap, unfit, tokensOf, Definition, definition, ListEnd, definitions, listFrom}
@@ -22,10 +22,10 @@ use Rattle.attribute_definitions.specs.declared.DefinitionRead.the-variants as 
 use Rattle.attribute_definitions.specs.Definition.{definitionFault, DefinedAs, MeetsDefinition, DefinitionFits}
 use Rattle.list_definitions.specs.ListAs.{ListAs}
 
-pub closes-other : (b n : ℕ) → (b ≡ 62 → ⊥) → false ≡ (eqb b 62 && leb 1 n)
+pub closes-other : (b n : ℕ) → (b ≡ MDC → ⊥) → false ≡ (eqb b MDC && leb 1 n)
 closes-other b n h = rw (ne-eqb _ _ h)
 
-pub closes-first : (b n : ℕ) → b ≡ 62 → leb 1 n ≡ (eqb b 62 && leb 1 n)
+pub closes-first : (b n : ℕ) → b ≡ MDC → leb 1 n ≡ (eqb b MDC && leb 1 n)
 closes-first b n h = rw (eq-eqb _ _ h)
 
 -- What was read so far: the attributes are in the list, their tokens in the table, and the rest is still to be read.
@@ -52,9 +52,9 @@ module _ (long : ℕ) (s : List ℕ) (from : ℕ) (list seen : List ℕ) (n m at
       let e : definitions long s (suc (ATTCNT - n)) (r .xs) at ≡ refusalOf f = rw (definitions, q) in
       sym (r .due) ∙ e
 
-  module _ {i : ℕ} (g : gap s at ≡ got i) {b : ℕ} (byte : b ≡ byteAt s i) {k : Bool} (closed : k ≡ (eqb b 62 && leb 1 n)) where
-    here : (eqb (byteAt s i) 62 && leb 1 (length (r .xs))) ≡ k
-    here = ap (λ l. eqb (byteAt s i) 62 && leb 1 l) (r .counted) ∙ ap (λ y. eqb y 62 && leb 1 n) (sym byte) ∙ sym closed
+  module _ {i : ℕ} (g : gap s at ≡ got i) {b : ℕ} (byte : b ≡ byteAt s i) {k : Bool} (closed : k ≡ (eqb b MDC && leb 1 n)) where
+    here : (eqb (byteAt s i) MDC && leb 1 (length (r .xs))) ≡ k
+    here = ap (λ l. eqb (byteAt s i) MDC && leb 1 l) (r .counted) ∙ ap (λ y. eqb y MDC && leb 1 n) (sym byte) ∙ sym closed
 
     pub reads-end : k ≡ true → ListAs long s list (i + 1) (listFrom long s from)
     unfolding definitions
@@ -63,7 +63,7 @@ module _ (long : ℕ) (s : List ℕ) (from : ℕ) (list seen : List ℕ) (n m at
         record { attributes = r .xs; read = sym (r .due) ∙ e; listed = r .listed }
 
     pub closed-in : k ≡ true → i < length s
-    closed-in h = test-in (λ y. eqb y 62 && leb 1 n) refl s i (ap (λ y. eqb y 62 && leb 1 n) (sym byte) ∙ sym closed ∙ h)
+    closed-in h = test-in (λ y. eqb y MDC && leb 1 n) refl s i (ap (λ y. eqb y MDC && leb 1 n) (sym byte) ∙ sym closed ∙ h)
 
     module _ (on : k ≡ false) where
       pub reads-unfit : letter (byteAt s i) ≡ false → listFrom long s from ≡ unfit s i
@@ -104,5 +104,5 @@ module _ (long : ℕ) (s seen : List ℕ) (xs : List Attribute) (r : DefinitionR
   pub defined-refused : {f g : Fault} → r ≡ answers.Refused f → g ≡ definitionFault r → x ≡ refusalOf g
   defined-refused q e = (rw q at h) ∙ ap refusalOf (sym (e ∙ ap definitionFault q))
 
-pub defined-within : (m : ℕ) {end i n k e : ℕ} {row : Row} {r : DefinitionRead} → DefinitionFits end i n m r → r ≡ answers.Read row k e → Short row × (n < ATTCNT) × (i ≤ e) × (e ≤ end) × (k ≤ m + 32)
+pub defined-within : (m : ℕ) {end i n k e : ℕ} {row : Row} {r : DefinitionRead} → DefinitionFits end i n m r → r ≡ answers.Read row k e → Short row × (n < ATTCNT) × (i ≤ e) × (e ≤ end) × (k ≤ m + GRPCNT)
 defined-within m h q = rw q at h

@@ -9,11 +9,12 @@ ghost use Prim.Native.Nat.{_+_, _≤_, _<_};
 ghost use lib.ListN.{length};
 ghost use lib.Dec.{eqb, leb};
 ghost use Rattle.rules.specs.TypeFile.{listFrom};
+ghost use Rattle.rules.specs.Bytes.{MDC, typeLimit};
 ghost use Rattle.list_definitions.specs.ListAs.{MeetsList, ListIn};
 
 // Whether the byte b closes a list that has n attributes so far.
 fn closes(b: u8, n: usize) -> bool
-    ensures { λ r. ⌜ r ≡ (eqb b 62 && leb 1 n) ⌝ }
+    ensures { λ r. ⌜ r ≡ (eqb b MDC && leb 1 n) ⌝ }
 {
     if b != b'>' {
         return false;
@@ -23,7 +24,7 @@ fn closes(b: u8, n: usize) -> bool
 
 // The definitions of a list, one or more, from the end of its element's name on. What stands in `list` behind their rows, and in all of it on refusal, is not decided.
 pub fn definitions_at(long: usize, s: &[u8], from: usize, list: &mut [u16; LIST]) -> Reached
-    requires { ⌜ (3 ≤ from) × (from ≤ length (now s)) × (length (now s) ≤ 32768) ⌝ }
+    requires { ⌜ (3 ≤ from) × (from ≤ length (now s)) × (length (now s) ≤ typeLimit) ⌝ }
     ensures { λ r. ⌜ MeetsList long (now (s .entry)) (now (list .exit)) r (listFrom long (now (s .entry)) from) ⌝ }
     ensures { λ r. ⌜ ListIn (length (now (s .entry))) from r ⌝ }
 {

@@ -13,7 +13,7 @@ ghost use mathlib.Core.Path.{_≡_};
 ghost use mathlib.Core.List.{List, [], _∷_, _++_};
 ghost use Prim.Native.Nat.{ℕ, _+_, _*_, _-_, _≤_, _<_};
 ghost use lib.ListN.{length, getD};
-ghost use Rattle.rules.specs.Bytes.{ATTCNT};
+ghost use Rattle.rules.specs.Bytes.{ATTCNT, elementLimit};
 ghost use Rattle.rules.specs.Attributes.{Attribute, attributeAt, attributeOf, needsTag};
 ghost use Rattle.layout.specs.Sizes.{ATTRIBUTE, LIST, LISTS};
 ghost use Rattle.list_table.specs.Lists.{rowIn, Short, RowOf, isNamed, ListAt, Copied};
@@ -53,7 +53,7 @@ fn row_at(lists: &[u16], i: usize) -> Row
 
 // How many attributes the element e has, at most ATTCNT; data, for which e is 0, has none.
 pub fn count(lists: &[u16], e: ElementNo) -> usize
-    requires { ⌜ e .0 ≤ 64 ⌝ }
+    requires { ⌜ e .0 ≤ elementLimit ⌝ }
     ensures { λ r. ⌜ ((long : ℕ) (s : List ℕ) (xs : List Attribute) → 1 ≤ e .0 → ListAt long s (now (lists .entry)) (LIST * (e .0 - 1)) xs → r ≡ length xs) × (r ≤ ATTCNT) × (e .0 ≡ 0 → r ≡ 0) ⌝ }
 {
     if e.0 == 0 {
@@ -68,7 +68,7 @@ pub fn count(lists: &[u16], e: ElementNo) -> usize
 
 // The attribute k of the element e, from 0.
 pub fn attribute(lists: &[u16], e: ElementNo, k: usize) -> Row
-    requires { ⌜ (1 ≤ e .0) × (e .0 ≤ 64) × (k < ATTCNT) ⌝ }
+    requires { ⌜ (1 ≤ e .0) × (e .0 ≤ elementLimit) × (k < ATTCNT) ⌝ }
     ensures { λ r. ⌜ (r ≡ rowIn (now (lists .entry)) (LIST * (e .0 - 1) + 1 + ATTRIBUTE * k)) × Short r ⌝ }
 {
     row_at(lists, LIST * (e.0 - 1) + 1 + ATTRIBUTE * k)
@@ -96,7 +96,7 @@ pub fn put_attribute(list: &mut [u16; LIST], k: usize, r: Row)
 
 // A list by itself as that of the element k + 1: its rows are copied, and nothing else changes.
 pub fn put_list(lists: &mut [u16], k: usize, list: &[u16; LIST])
-    requires { ⌜ (k < 64) × (length (now lists) ≡ LISTS) ⌝ }
+    requires { ⌜ (k < elementLimit) × (length (now lists) ≡ LISTS) ⌝ }
     ensures { λ _. ⌜ Copied (now (list .entry)) (LIST * k) (now (lists .entry)) (now (lists .exit)) ⌝ }
 {
     whole(*list);
@@ -112,7 +112,7 @@ pub fn put_list(lists: &mut [u16], k: usize, list: &[u16; LIST])
 
 // Whether one of the element's attributes is required: its start tag is never inferred.
 pub fn needs_tag(lists: &[u16], e: ElementNo) -> bool
-    requires { ⌜ (1 ≤ e .0) × (e .0 ≤ 64) ⌝ }
+    requires { ⌜ (1 ≤ e .0) × (e .0 ≤ elementLimit) ⌝ }
     ensures { λ r. ⌜ ((long : ℕ) (s : List ℕ) (xs : List Attribute) → ListAt long s (now (lists .entry)) (LIST * (e .0 - 1)) xs → r ≡ needsTag xs) ⌝ }
 {
     let n = count(lists, e);
@@ -142,7 +142,7 @@ fn is_named(s: &[u8], r: Row, t: &[u8], at: usize, size: usize) -> bool
 
 // The number of the attribute of the element e that has the name of this size at `at` in the text t, from 1; 0 if none has.
 pub fn find(s: &[u8], lists: &[u16], e: ElementNo, t: &[u8], at: usize, size: usize) -> usize
-    requires { ⌜ (1 ≤ e .0) × (e .0 ≤ 64) × (at + size ≤ length (now t)) × (length (now t) < 4294967296) ⌝ }
+    requires { ⌜ (1 ≤ e .0) × (e .0 ≤ elementLimit) × (at + size ≤ length (now t)) × (length (now t) < 4294967296) ⌝ }
     ensures { λ r. ⌜ ((long : ℕ) (xs : List Attribute) → ListAt long (now (s .entry)) (now (lists .entry)) (LIST * (e .0 - 1)) xs → r ≡ attributeOf (now (s .entry)) xs (now (t .entry)) at size) × (r ≤ ATTCNT) ⌝ }
 {
     let n = count(lists, e);

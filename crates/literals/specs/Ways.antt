@@ -7,7 +7,7 @@ use native.Mathlib.Nat.{suc-add}
 use lib.ListN.{length, drop}
 use lib.Dec.{eqb}
 use borrow.Author.Tests.{eq-eqb, ne-eqb, lt-ltb, le-ltb}
-use Rattle.rules.specs.Bytes.{byteAt}
+use Rattle.rules.specs.Bytes.{byteAt, AND}
 use Rattle.rules.specs.Reading.{refused, got}
 use Rattle.rules.specs.Attributes.{isReference, endsLiteral, inLiteral, literalEnd}
 use Rattle.text.specs.Words.{Before, before-turn, before-stop, before-all}
@@ -35,5 +35,5 @@ unfolding literalEnd
 literal-cut t i e q h = rw (literalEnd, le-ltb _ _ (rw q at h))
 
 -- Whether a literal ends at a byte that is not its quote: where a reference stands.
-pub literal-other : (t : List ℕ) (q e : ℕ) → (byteAt t e ≡ q → ⊥) → endsLiteral q t e ≡ (eqb (byteAt t e) 38 && isReference t e)
+pub literal-other : (t : List ℕ) (q e : ℕ) → (byteAt t e ≡ q → ⊥) → endsLiteral q t e ≡ (eqb (byteAt t e) AND && isReference t e)
 literal-other t q e n = rw (ne-eqb _ _ n)

@@ -9,6 +9,7 @@ use lib.Dec.{eqb, ltb, leb}
 use lib.Pow.{shr-shr, shr-lt, shl-exact, split, pow-pos, pow-lt}
 use lib.Bits.{bitAnd, bitOr, bitXor, or-lt, and-le-l, and-le-r, or-add-and}
 use borrow.Author.Tests.{eqb-true, eqb-false, eq-eqb, ne-eqb, lt-ltb, le-ltb, le-leb, lt-leb}
+use Rattle.rules.specs.Bytes.{GRPGTCNT}
 use Rattle.layout.specs.Sizes.{POSITIONS}
 use Rattle.member_bits.specs.declared.Bits.{Bits}
 use Rattle.member_bits.specs.Having.{bitIn, Has, IsNone, First, none, some, Lowest}
@@ -33,7 +34,7 @@ module _ (b : Bits) (f : ℕ → Bool) (w : Has b f) where
   member-low : (n : ℕ) → 1 ≤ n → n ≤ 64 → f n ≡ eqb (b .low / 2 ^ (n - 1) % 2) 1
   member-low n l m = sym (w .bits n l (omega arith)) ∙ bit-low (b .low) (b .high) (n - 1) (omega arith)
 
-  member-high : (n : ℕ) → 65 ≤ n → n ≤ 96 → f n ≡ eqb (b .high / 2 ^ (n - 65) % 2) 1
+  member-high : (n : ℕ) → 65 ≤ n → n ≤ GRPGTCNT → f n ≡ eqb (b .high / 2 ^ (n - 65) % 2) 1
   member-high n l m =
       let e : n - 1 - 64 ≡ n - 65 = omega arith in
       sym (w .bits n (omega arith) (omega arith)) ∙ bit-high (b .low) (b .high) (n - 1) (omega arith) ∙ ap (λ (k : ℕ). eqb (b .high / 2 ^ k % 2) 1) e
@@ -41,7 +42,7 @@ module _ (b : Bits) (f : ℕ → Bool) (w : Has b f) where
   pub has-low : (h : ℕ) → 1 ≤ h → h ≤ 64 → eqb (b .low / 2 ^ (h - 1) % 2) 1 ≡ f h
   has-low h l m = sym (member-low h l m)
 
-  pub has-high : (h : ℕ) → 64 < h → h ≤ 96 → eqb (b .high / 2 ^ (h - 65) % 2) 1 ≡ f h
+  pub has-high : (h : ℕ) → 64 < h → h ≤ GRPGTCNT → eqb (b .high / 2 ^ (h - 65) % 2) 1 ≡ f h
   has-high h l m = sym (member-high h (omega arith) m)
 
 -- The same members, told otherwise.
@@ -133,7 +134,7 @@ module _ (b : Bits) (h : ℕ) (f : ℕ → Bool) (w : Has b f) (l : 1 ≤ h) whe
       rw (shifted-wide k (omega arith), e)
       (with-bit (bitOr (b .low) (2 ^ (h - 1))) (b .high) (or-lt 64 (b .low) (2 ^ (h - 1)) (w .low) (pow-lt {j = 64} (omega arith))) (w .high) (λ j. more-low (b .low) (b .high) (h - 1) j (omega arith)))
 
-  pub with-high : (k : ℕ) → k ≡ h - 65 → 64 < h → h ≤ 96 → Has (bits (b .low) (bitOr (b .high) (1 * 2 ^ k % 2 ^ 64))) (λ (n : ℕ). f n || eqb n h)
+  pub with-high : (k : ℕ) → k ≡ h - 65 → 64 < h → h ≤ GRPGTCNT → Has (bits (b .low) (bitOr (b .high) (1 * 2 ^ k % 2 ^ 64))) (λ (n : ℕ). f n || eqb n h)
   with-high k e d m =
       let i : k ≡ h - 1 - 64 = omega arith in
       rw (shifted-wide k (omega arith), i)
@@ -188,7 +189,7 @@ module _ (b : Bits) (f : ℕ → Bool) (w : Has b f) (r : ℕ) where
         let e : r + 65 - 65 ≡ r = omega arith in
         some (omega arith) (omega arith) (member-high b f w (r + 65) (omega arith) (omega arith) ∙ ap (λ (k : ℕ). eqb (b .high / 2 ^ k % 2) 1) e ∙ ap (λ (k : ℕ). eqb k 1) (v .here)) (λ n i j. go n i (omega arith) (omega arith) (decLe n 64))
       where
-        go : (n : ℕ) → 1 ≤ n → n < r + 65 → n ≤ 96 → Dec (n ≤ 64) → f n ≡ false
+        go : (n : ℕ) → 1 ≤ n → n < r + 65 → n ≤ GRPGTCNT → Dec (n ≤ 64) → f n ≡ false
         go n i j m (yes d) = low-none n i d
         go n i j m (no d) = member-high b f w n (omega arith) m ∙ unset (v .lower (n - 65) (omega arith))
 
@@ -272,7 +273,7 @@ module _ (b : Bits) (f : ℕ → Bool) (w : Has b f) (x : ℕ) where
           all true = refl
           all false = refl
 
-  pub above-high : 64 ≤ x → x ≤ 96 → (s : ℕ) → s ≡ x - 64 → Has (bits 0 (b .high / 2 ^ s * 2 ^ s % 2 ^ 64)) (λ (n : ℕ). f n && ltb x n)
+  pub above-high : 64 ≤ x → x ≤ GRPGTCNT → (s : ℕ) → s ≡ x - 64 → Has (bits 0 (b .high / 2 ^ s * 2 ^ s % 2 ^ 64)) (λ (n : ℕ). f n && ltb x n)
   above-high many few s is = rw (cut-exact (b .high) s 32 (w .high) (omega arith) (omega arith)) (record { low = omega arith; high = omega (arith, cut-le (b .high) s, w .high); bits = λ n l m. go n l m (decLe n 64) })
     where
       go : (n : ℕ) → 1 ≤ n → n < POSITIONS → Dec (n ≤ 64) → bitIn 0 (b .high / 2 ^ s * 2 ^ s) (n - 1) ≡ f n && ltb x n
@@ -330,7 +331,7 @@ ranged-none from w = has-same (λ n l m. sym (go n (decLe from n))) w
 pub ranged-more : {b : Bits} (from k : ℕ) → Has b (λ (n : ℕ). (leb from n && ltb n (from + k)) || eqb n (from + k)) → Ranged b from (k + 1)
 ranged-more from k w = has-same (λ n l m. another from n k (decLe from n) (decLt n (from + k)) (ℕ-discrete n (from + k))) w
 
-pub ranged-past : {b : Bits} (from k : ℕ) → (1 ≤ from + k → from + k ≤ 96 → ⊥) → Ranged b from k → Ranged b from (k + 1)
+pub ranged-past : {b : Bits} (from k : ℕ) → (1 ≤ from + k → from + k ≤ GRPGTCNT → ⊥) → Ranged b from k → Ranged b from (k + 1)
 ranged-past from k out w = has-same (λ n l m. no-other from n k (λ e. out (omega arith) (omega arith)) (decLe from n) (decLt n (from + k))) w
 
 pub ranged-as : {b x : Bits} (from k n : ℕ) → x ≡ b → n ≡ k → Ranged b from k → Ranged x from n
@@ -342,7 +343,7 @@ module _ (a b c : ℕ) (f : ℕ → Bool) (few-a : a < 4294967296) (few-b : b < 
   side : a + b * 4294967296 ≡ b * 2 ^ 32 + a
   side = omega arith
 
-  word-bit : (n : ℕ) → 1 ≤ n → n ≤ 96 → Dec (n ≤ 32) → Dec (n ≤ 64) → bitIn (a + b * 4294967296) c (n - 1) ≡ f n
+  word-bit : (n : ℕ) → 1 ≤ n → n ≤ GRPGTCNT → Dec (n ≤ 32) → Dec (n ≤ 64) → bitIn (a + b * 4294967296) c (n - 1) ≡ f n
   word-bit n l m (yes x) y =
       let e : n - 1 + 1 ≡ n = omega arith in
       bit-low (a + b * 4294967296) c (n - 1) (omega arith) ∙ ap (λ (z : ℕ). eqb (z / 2 ^ (n - 1) % 2) 1) side ∙ ap (λ (z : ℕ). eqb z 1) (low-bit 32 a b few-a (n - 1) (omega arith)) ∙ in-a (n - 1) (omega arith) ∙ ap f e

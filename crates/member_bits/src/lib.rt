@@ -4,6 +4,7 @@ ghost use mathlib.Core.Path.{_≡_};
 ghost use mathlib.Core.Bool.{Bool, false, _&&_, _||_, not};
 ghost use Prim.Native.Nat.{ℕ, _+_, _≤_, _<_};
 ghost use lib.Dec.{eqb, ltb, leb};
+ghost use Rattle.rules.specs.Bytes.{GRPGTCNT};
 ghost use Rattle.member_bits.specs.Having.{Has, IsNone, First, Lowest};
 
 pub struct Bits {
@@ -20,7 +21,7 @@ pub fn none() -> Bits
 
 // The member h too.
 pub fn with(b: Bits, h: usize) -> Bits
-    requires { ⌜ (1 ≤ h) × (h ≤ 96) ⌝ }
+    requires { ⌜ (1 ≤ h) × (h ≤ GRPGTCNT) ⌝ }
     ensures { λ r. ⌜ ((f : ℕ → Bool) → Has b f → Has r (λ (n : ℕ). f n || eqb n h)) ⌝ }
 {
     if h <= 64 {
@@ -67,7 +68,7 @@ pub fn without(a: Bits, b: Bits) -> Bits
 
 // Whether the member h is one.
 pub fn has(b: Bits, h: usize) -> bool
-    requires { ⌜ (1 ≤ h) × (h ≤ 96) ⌝ }
+    requires { ⌜ (1 ≤ h) × (h ≤ GRPGTCNT) ⌝ }
     ensures { λ r. ⌜ ((f : ℕ → Bool) → Has b f → r ≡ f h) ⌝ }
 {
     if h <= 64 {
@@ -114,7 +115,7 @@ pub fn first(b: Bits) -> usize
 
 // Those above the member x.
 pub fn above(b: Bits, x: usize) -> Bits
-    requires { ⌜ x ≤ 96 ⌝ }
+    requires { ⌜ x ≤ GRPGTCNT ⌝ }
     ensures { λ r. ⌜ ((f : ℕ → Bool) → Has b f → Has r (λ (n : ℕ). f n && ltb x n)) ⌝ }
 {
     if x < 64 {

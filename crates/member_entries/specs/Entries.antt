@@ -4,7 +4,7 @@ use mathlib.Core.Bool.{_&&_, cond}
 use mathlib.Core.List.{List}
 use lib.ListN.{getD, set}
 use lib.Dec.{ltb, leb, eqb}
-use Rattle.layout.specs.Sizes.{POSITIONS, MODEL-ROW, GROUP}
+use Rattle.layout.specs.Sizes.{POSITIONS, MODEL-ROW, GROUP, ENDING}
 use Rattle.model_links.specs.Each.{each}
 
 -- A number is put where none is yet.
@@ -13,7 +13,7 @@ putFree M i x = cond (eqb (getD M i 0) 0) (set M i x) M
 
 -- The member h, and 128 more if the table has w after u.
 abbrev pub marked : List ℕ → (u w h : ℕ) → ℕ
-marked T u w h = h + cond (eqb (getD T (u * MODEL-ROW + w) 0) 1) 128 0
+marked T u w h = h + cond (eqb (getD T (u * MODEL-ROW + w) 0) 1) ENDING 0
 
 -- Where what is kept of a group begins.
 abbrev pub recordFrom : (base g : ℕ) → ℕ

@@ -10,7 +10,8 @@ use lib.Dec.{leb, ltb}
 use lib.ListN.{length, getD, set, length-set}
 use lib.Seq.{getD-set-same, getD-set-other}
 use borrow.Author.Tests.{lt-ltb, le-leb, leb-true, ltb-true}
-use Rattle.layout.specs.Sizes.{POSITIONS}
+use Rattle.rules.specs.Bytes.{GRPGTCNT}
+use Rattle.layout.specs.Sizes.{POSITIONS, AND-GROUPS, REACHES}
 use Rattle.model_sets.specs.Bits.{and-left, and-right, bool-cases}
 use Rattle.model_links.specs.Each.{each, each-keeps}
 use Rattle.member_entries.specs.Entries.{putFree, marked, recordFrom, putPlaces, putOuter, putOuters, putMember}
@@ -65,7 +66,7 @@ module _ (t : ℕ → Bool) (at x : ℕ → ℕ) (apart : (i j : ℕ) → at i �
 
 -- Where the member is kept that holds the place v, or the group that ends with v.
 abbrev pub Slot : (base : ℕ) (lasts : List ℕ) (groups s v : ℕ) → Type 0
-Slot base lasts groups s v = ((v ≤ 96) × (s ≡ base + v)) ⊎ ((n : ℕ) × (1 ≤ n) × (n ≤ groups) × (s ≡ recordFrom base n + 3) × (v ≡ getD lasts n 0))
+Slot base lasts groups s v = ((v ≤ GRPGTCNT) × (s ≡ base + v)) ⊎ ((n : ℕ) × (1 ≤ n) × (n ≤ groups) × (s ≡ recordFrom base n + 3) × (v ≡ getD lasts n 0))
 
 -- What was there in M is there in S.
 abbrev pub Kept : (base : ℕ) (lasts : List ℕ) (groups : ℕ) (M S : List ℕ) → Type 0
@@ -81,13 +82,13 @@ pub record Put (base : ℕ) (T lasts : List ℕ) (groups w h lo hi required : �
   pub due : getD S (base + 2 * POSITIONS + h) 0 ≡ required
   pub rest :
       (k : ℕ)
-      → ((u : ℕ) → u ≤ 96 → k ≡ base + u → ⊥)
+      → ((u : ℕ) → u ≤ GRPGTCNT → k ≡ base + u → ⊥)
       → ((n : ℕ) → 1 ≤ n → n ≤ groups → k ≡ recordFrom base n + 3 → ⊥)
       → (k ≡ base + POSITIONS + h → ⊥)
       → (k ≡ base + 2 * POSITIONS + h → ⊥)
       → getD S k 0 ≡ getD M k 0
 
-module _ (base : ℕ) (T lasts : List ℕ) (groups w h lo hi required : ℕ) (M : List ℕ) (room : base + 487 ≤ length M) (few : groups ≤ 48) (h-to : h ≤ 96) (le : lo ≤ hi) (hi-to : hi ≤ 97) where
+module _ (base : ℕ) (T lasts : List ℕ) (groups w h lo hi required : ℕ) (M : List ℕ) (room : base + REACHES ≤ length M) (few : groups ≤ AND-GROUPS) (h-to : h ≤ GRPGTCNT) (le : lo ≤ hi) (hi-to : hi ≤ POSITIONS) where
   abbrev here : ℕ → Bool
   here n = leb lo (getD lasts n 0) && ltb (getD lasts n 0) hi
 
@@ -144,7 +145,7 @@ module _ (base : ℕ) (T lasts : List ℕ) (groups w h lo hi required : ℕ) (M 
   in-here : (n : ℕ) → lo ≤ getD lasts n 0 → getD lasts n 0 < hi → here n ≡ true
   in-here n a b = rw (le-leb lo (getD lasts n 0) a, lt-ltb (getD lasts n 0) hi b)
 
-  at-place : (v : ℕ) → v ≤ 96 → getD Q (base + v) 0 ≡ getD P (base + v) 0
+  at-place : (v : ℕ) → v ≤ GRPGTCNT → getD Q (base + v) 0 ≡ getD P (base + v) 0
   at-place v l = each-other here outerAt markOuter apart-outers P 1 (groups + 1) (omega arith) (base + v) (λ i f t o e. omega arith)
 
   at-outer : (n : ℕ) → getD P (recordFrom base n + 3) 0 ≡ getD M (recordFrom base n + 3) 0

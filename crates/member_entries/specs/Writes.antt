@@ -8,6 +8,7 @@ use lib.Dec.{eqb}
 use lib.ListN.{length, getD, set, length-set, List·getD-eq-default}
 use lib.Seq.{set-out, getD-set-same, getD-set-other}
 use borrow.Author.Tests.{eq-eqb, ne-eqb, le-leb, lt-leb, lt-ltb, le-ltb}
+use Rattle.layout.specs.Sizes.{ENDING, MODEL, MODEL-ROW, POSITIONS}
 use Rattle.model_sets.specs.Bits.{bool-cases}
 use Rattle.model_links.specs.Each.{each-turn, each-end}
 use Rattle.member_entries.specs.Entries.{putFree, marked, recordFrom, putPlace, putPlaces, putOuter, putOuters, putMember, putRecord}
@@ -48,13 +49,13 @@ module _ (M : List ℕ) (i x : ℕ) where
 
 -- The mark that says where a member can end, by the number of the table that was read.
 module _ (T : List ℕ) (u w h i : ℕ) where
-  pub marked-one : getD T i 0 ≡ 1 → i ≡ u * 98 + w → h + 128 ≡ marked T u w h
+  pub marked-one : getD T i 0 ≡ 1 → i ≡ u * MODEL-ROW + w → h + ENDING ≡ marked T u w h
   marked-one e is = rw (sym is, eq-eqb _ _ e)
 
-  pub marked-other : (getD T i 0 ≡ 1 → ⊥) → i ≡ u * 98 + w → h ≡ marked T u w h
+  pub marked-other : (getD T i 0 ≡ 1 → ⊥) → i ≡ u * MODEL-ROW + w → h ≡ marked T u w h
   marked-other d is = rw (sym is, ne-eqb _ _ d) (omega arith)
 
-  pub marked-past : length T ≡ 9893 → 9893 ≤ i → i ≡ u * 98 + w → h ≡ marked T u w h
+  pub marked-past : length T ≡ MODEL → MODEL ≤ i → i ≡ u * MODEL-ROW + w → h ≡ marked T u w h
   marked-past len l is =
       let none : getD T i 0 ≡ 0 = List·getD-eq-default T 0 (omega (arith, len)) in
       marked-other (λ e. omega (arith, none, e)) is
@@ -98,7 +99,7 @@ module _ (M : List ℕ) (base : ℕ) (T : List ℕ) (w h : ℕ) where
 module _ (M : List ℕ) (base : ℕ) (T lasts : List ℕ) (groups w h lo hi required : ℕ) where
   pub member-put :
       (S₁ S₂ S₃ S₄ : List ℕ) (end : ℕ) → S₁ ≡ putPlaces M base T w h lo hi → S₂ ≡ putOuters S₁ base T w h lo hi lasts 1 end → end ≡ groups + 1 →
-      S₃ ≡ set S₂ (base + 97 + h) (groups + 1) → S₄ ≡ set S₃ (base + 194 + h) required → S₄ ≡ putMember M base T lasts groups w h lo hi required
+      S₃ ≡ set S₂ (base + POSITIONS + h) (groups + 1) → S₄ ≡ set S₃ (base + 2 * POSITIONS + h) required → S₄ ≡ putMember M base T lasts groups w h lo hi required
   unfolding putMember
   member-put S₁ S₂ S₃ S₄ end e₁ e₂ all e₃ e₄ = rw (e₄, e₃, e₂, e₁, all)
 

@@ -3,13 +3,16 @@
 // Of each content: for each position the innermost member that holds the place, or 0, and 128 more where the place can end that member; for each member its
 // group; for each member the place that it requires at its start, or 0; for each group its first member, how many of its members cannot be nothing, how many
 // there are, and the innermost member that holds it, or 0, and 128 more where that member can end with this group.
+use layout::ENDING;
 use layout::GROUP;
+use layout::LASTS;
 use layout::MODEL;
 use layout::MODEL_ROW;
 use layout::POSITIONS;
 ghost use mathlib.Core.Path.{_≡_};
 ghost use Prim.Native.Nat.{_+_, _≤_, _<_};
 ghost use lib.ListN.{set};
+ghost use Rattle.layout.specs.Sizes.{AND-GROUPS, MEMBERS, POSITIONS};
 ghost use Rattle.member_entries.specs.Entries.{putFree, marked, putPlaces, putOuter, putOuters, putMember, putRecord};
 
 // A number of the table; nothing is put past its end.
@@ -36,14 +39,14 @@ fn put_free(members: &mut [u8], i: usize, x: u8)
 fn mark(table: &[u8; MODEL], u: usize, w: usize, h: usize) -> u8
     requires { ⌜ u < 256 ⌝ }
     requires { ⌜ w < 256 ⌝ }
-    requires { ⌜ h < 97 ⌝ }
+    requires { ⌜ h < POSITIONS ⌝ }
     ensures { λ r. ⌜ r ≡ marked (now (table .entry)) u w h ⌝ }
 {
     model_links::whole(*table);
     let i = u * MODEL_ROW + w;
     if i < MODEL {
         if table[i] == 1 {
-            return (h + 128) as u8;
+            return (h + ENDING) as u8;
         }
     }
     h as u8
@@ -59,10 +62,10 @@ fn put_places(
     w: usize,
     h: usize,
 )
-    requires { ⌜ base < 131072 ⌝ }
+    requires { ⌜ base < MEMBERS ⌝ }
     requires { ⌜ hi ≤ 256 ⌝ }
     requires { ⌜ w < 256 ⌝ }
-    requires { ⌜ h < 97 ⌝ }
+    requires { ⌜ h < POSITIONS ⌝ }
     ensures { λ _. ⌜ now (members .exit) ≡ putPlaces (now (members .entry)) base (now (table .entry)) w h lo hi ⌝ }
 {
     for u in lo..hi {
@@ -82,11 +85,11 @@ fn put_outer(
     last: usize,
     g: usize,
 )
-    requires { ⌜ base < 131072 ⌝ }
+    requires { ⌜ base < MEMBERS ⌝ }
     requires { ⌜ w < 256 ⌝ }
-    requires { ⌜ h < 97 ⌝ }
+    requires { ⌜ h < POSITIONS ⌝ }
     requires { ⌜ last < 256 ⌝ }
-    requires { ⌜ g ≤ 48 ⌝ }
+    requires { ⌜ g ≤ AND-GROUPS ⌝ }
     ensures { λ _. ⌜ now (members .exit) ≡ putOuter (now (members .entry)) base (now (table .entry)) w h lo hi last g ⌝ }
 {
     if lo <= last {
@@ -109,13 +112,13 @@ fn put_outers(
     hi: usize,
     w: usize,
     h: usize,
-    lasts: [u8; 49],
+    lasts: [u8; LASTS],
     groups: usize,
 )
-    requires { ⌜ base < 131072 ⌝ }
+    requires { ⌜ base < MEMBERS ⌝ }
     requires { ⌜ w < 256 ⌝ }
-    requires { ⌜ h < 97 ⌝ }
-    requires { ⌜ groups ≤ 48 ⌝ }
+    requires { ⌜ h < POSITIONS ⌝ }
+    requires { ⌜ groups ≤ AND-GROUPS ⌝ }
     ensures { λ _. ⌜ now (members .exit) ≡ putOuters (now (members .entry)) base (now (table .entry)) w h lo hi lasts 1 (groups + 1) ⌝ }
 {
     let end = groups + 1;
@@ -139,7 +142,7 @@ pub fn put_member(
     members: &mut [u8],
     base: usize,
     table: &[u8; MODEL],
-    lasts: [u8; 49],
+    lasts: [u8; LASTS],
     groups: usize,
     w: usize,
     h: usize,
@@ -147,10 +150,10 @@ pub fn put_member(
     hi: usize,
     required: u8,
 )
-    requires { ⌜ base < 131072 ⌝ }
-    requires { ⌜ groups < 48 ⌝ }
+    requires { ⌜ base < MEMBERS ⌝ }
+    requires { ⌜ groups < AND-GROUPS ⌝ }
     requires { ⌜ w < 256 ⌝ }
-    requires { ⌜ h < 97 ⌝ }
+    requires { ⌜ h < POSITIONS ⌝ }
     requires { ⌜ hi ≤ 256 ⌝ }
     ensures { λ _. ⌜ now (members .exit) ≡ putMember (now (members .entry)) base (now (table .entry)) lasts groups w h lo hi required ⌝ }
 {
@@ -170,8 +173,8 @@ pub fn put_record(
     needed: usize,
     k: usize,
 )
-    requires { ⌜ base < 131072 ⌝ }
-    requires { ⌜ groups < 48 ⌝ }
+    requires { ⌜ base < MEMBERS ⌝ }
+    requires { ⌜ groups < AND-GROUPS ⌝ }
     requires { ⌜ own < 256 ⌝ }
     requires { ⌜ needed < 256 ⌝ }
     requires { ⌜ k < 256 ⌝ }

@@ -8,6 +8,8 @@ use native.Mathlib.Omega.{arith}
 use lib.Dec.{eqb}
 use borrow.Author.Tests.{eqb-true, eq-eqb}
 use Rattle.rules.specs.Walk.{Group, Members}
+use Rattle.rules.specs.Bytes.{GRPGTCNT}
+use Rattle.layout.specs.Sizes.{ENDING}
 use Rattle.model_sets.specs.Bits.{or-left, or-right, or-cases, not-true}
 use Rattle.model_sets.specs.Sets.{has, hasM, must}
 use Rattle.and_laws.specs.Base.{mem, mem-left, mem-right, mem-cases, mem-head}
@@ -43,10 +45,10 @@ module _ (M : List ℕ) (e : ℕ) where
     pub numbered-group : (n : ℕ) (k : Group) → NumberedAt l n k → groupAt M e n ≡ l .number
     numbered-group n k i = each-at _ _ (λ (n : ℕ) (g : Group). (groupAt M e n ≡ l .number) × (dueAt M e n ≡ must g)) (l .members) (kept .members) n k i .0
 
-    pub numbered-small : (n : ℕ) (k : Group) → NumberedAt l n k → (1 ≤ n) × (n ≤ 96)
+    pub numbered-small : (n : ℕ) (k : Group) → NumberedAt l n k → (1 ≤ n) × (n ≤ GRPGTCNT)
     numbered-small n k i = go (numbered-range _ _ (l .members) n k i)
       where
-        go : Ranged (firstAt M e (l .number)) (needs (l .members)) (l .members) n k → (1 ≤ n) × (n ≤ 96)
+        go : Ranged (firstAt M e (l .number)) (needs (l .members)) (l .members) n k → (1 ≤ n) × (n ≤ GRPGTCNT)
         go (needed a b c) = omega (arith, amount-both (l .members), kept .some, kept .room)
         go (spare a b c) = omega (arith, amount-both (l .members), kept .some, kept .room)
 
@@ -57,7 +59,7 @@ module _ (M : List ℕ) (e : ℕ) where
       pub member-group : groupAt M e (memberAt u l) ≡ l .number
       member-group = let h = held u l i in numbered-group (memberAt u l) (h .member) (h .numbered)
 
-      pub member-small : (1 ≤ memberAt u l) × (memberAt u l ≤ 96)
+      pub member-small : (1 ≤ memberAt u l) × (memberAt u l ≤ GRPGTCNT)
       member-small = let h = held u l i in numbered-small (memberAt u l) (h .member) (h .numbered)
 
   -- What a chain has
@@ -67,12 +69,12 @@ module _ (M : List ℕ) (e : ℕ) where
   chain-kept u ends h (l ∷ ls) (k, f, x, y, c) = (k, chain-kept u _ _ ls c)
 
   -- The holder is none, or the member of the first group, with 128 more where it can end.
-  pub chain-none : (u : ℕ) (ends : Bool) (h : ℕ) (ls : List Level) → Chain M e u ends h ls → EachLevel (λ (l : Level). hasM (l .members) u ≡ true) ls → h % 128 ≡ 0 → ls ≡ []
+  pub chain-none : (u : ℕ) (ends : Bool) (h : ℕ) (ls : List Level) → Chain M e u ends h ls → EachLevel (λ (l : Level). hasM (l .members) u ≡ true) ls → h % ENDING ≡ 0 → ls ≡ []
   chain-none u ends h [] c i z = refl
   chain-none u ends h (l ∷ ls) (k, true, x, y, c) (i, j) z = absurd (omega (arith, member-small l k u i))
   chain-none u ends h (l ∷ ls) (k, false, x, y, c) (i, j) z = absurd (omega (arith, member-small l k u i))
 
-  pub chain-first : (u : ℕ) (ends : Bool) (h : ℕ) (l : Level) (ls : List Level) → Chain M e u ends h (l ∷ ls) → hasM (l .members) u ≡ true → h % 128 ≡ memberAt u l
+  pub chain-first : (u : ℕ) (ends : Bool) (h : ℕ) (l : Level) (ls : List Level) → Chain M e u ends h (l ∷ ls) → hasM (l .members) u ≡ true → h % ENDING ≡ memberAt u l
   chain-first u ends h l ls (k, true, x, y, c) i = omega (arith, member-small l k u i)
   chain-first u ends h l ls (k, false, x, y, c) i = omega (arith, member-small l k u i)
 

@@ -9,7 +9,7 @@ use lib.ListN.{length, getD}
 use lib.Dec.{eqb, ltb, leb}
 use Rattle.rules.specs.Bytes.{GRPCNT}
 use Rattle.rules.specs.Walk.{Group, place, seq, alt, opt, plus, and, Members, one, also}
-use Rattle.layout.specs.Sizes.{POSITIONS, AND-GROUPS, GROUP, REACHES, NEEDED, MEMBER-BITS, SETS, MEMBER, MEMBERS, BEGUN-WORDS}
+use Rattle.layout.specs.Sizes.{POSITIONS, AND-GROUPS, GROUP, REACHES, NEEDED, MEMBER-BITS, SETS, MEMBER, MEMBERS, BEGUN-WORDS, ENDING}
 use Rattle.model_sets.specs.Sets.{has, nullable, lastM, must}
 use Rattle.and_laws.specs.Base.{mem}
 use Rattle.and_laws.specs.Sets.{meets}
@@ -143,8 +143,8 @@ module _ (M : List ℕ) (e : ℕ) where
 
   -- The sets of the group n are those of the group around it with what it adds.
   pub record Around (n : ℕ) : Type 0 where
-    pub none : outerAt n % 128 ≡ 0 → Outermost n
-    pub some : 1 ≤ outerAt n % 128 → outerAt n % 128 < POSITIONS → n < groupAt (outerAt n % 128) → groupAt (outerAt n % 128) ≤ AND-GROUPS → Within n (outerAt n % 128) (groupAt (outerAt n % 128)) (ltb 128 (outerAt n))
+    pub none : outerAt n % ENDING ≡ 0 → Outermost n
+    pub some : 1 ≤ outerAt n % ENDING → outerAt n % ENDING < POSITIONS → n < groupAt (outerAt n % ENDING) → groupAt (outerAt n % ENDING) ≤ AND-GROUPS → Within n (outerAt n % ENDING) (groupAt (outerAt n % ENDING)) (ltb ENDING (outerAt n))
 
   -- The sets of all groups that have members, and of the members that cannot be nothing.
   pub record AllSets : Type 0 where
@@ -171,7 +171,7 @@ module _ (M : List ℕ) (e : ℕ) where
   Chain u ends h (l ∷ ls) =
       Grouped l
       × (flag : Bool)
-      × (h ≡ numberIn (firstAt (l .number)) (needs (l .members)) (l .members) u + cond flag 128 0)
+      × (h ≡ numberIn (firstAt (l .number)) (needs (l .members)) (l .members) u + cond flag ENDING 0)
       × (ends ≡ true → flag ≡ lastM (l .members) u)
       × Chain u (ends && lastM (l .members) u) (outerAt (l .number)) ls
 

@@ -9,7 +9,8 @@ use lib.ListN.{length}
 use lib.Dec.{eqb, leb, ltb}
 use borrow.Author.Tests.{eqb-true, lt-ltb, le-leb, ltb-true, leb-true}
 use Rattle.rules.specs.Walk.{Group}
-use Rattle.layout.specs.Sizes.{POSITIONS, AND-GROUPS, MEMBERS}
+use Rattle.rules.specs.Bytes.{GRPGTCNT}
+use Rattle.layout.specs.Sizes.{POSITIONS, AND-GROUPS, MEMBERS, ENDING}
 use Rattle.model_sets.specs.Bits.{and-both, and-left, and-right, or-cases}
 use Rattle.model_sets.specs.Sets.{has, hasM}
 use Rattle.and_laws.specs.Rest.{allM}
@@ -76,11 +77,11 @@ module _ (M : List ℕ) (e : ℕ) where
   -- The member that holds a place is one of the first group around it.
   pub record First (h u : ℕ) (l : Level) : Type 0 where
     pub is : h ≡ memberAt M e u l
-    pub small : (1 ≤ h) × (h ≤ 96)
+    pub small : (1 ≤ h) × (h ≤ GRPGTCNT)
     pub group : groupAt M e h ≡ l .number
     pub within : groupAt M e h ≤ AND-GROUPS
 
-  pub first-of : (h u : ℕ) (ends : Bool) (x : ℕ) (l : Level) (ls : List Level) → h ≡ x % 128 → Chain M e u ends x (l ∷ ls) → hasM (l .members) u ≡ true → First h u l
+  pub first-of : (h u : ℕ) (ends : Bool) (x : ℕ) (l : Level) (ls : List Level) → h ≡ x % ENDING → Chain M e u ends x (l ∷ ls) → hasM (l .members) u ≡ true → First h u l
   first-of h u ends x l ls read chain i =
       let is : h ≡ memberAt M e u l = read ∙ chain-first M e u ends x l ls chain i in
       let group : groupAt M e h ≡ l .number = ap (groupAt M e) is ∙ member-group M e l (chain .0) u i in
@@ -105,14 +106,14 @@ module _ (M : List ℕ) (e : ℕ) where
     Have ls = EachLevel (λ (l : Level). hasM (l .members) u ≡ true) ls
 
     pub outermost : (l : Level) → Grouped M e l → 1 ≤ l .number → outerAt M e (l .number) ≡ 0 → Outermost M e (l .number)
-    outermost l kept some z = sets .around (l .number) some (kept .within) (kept .some) .none (ap (λ (x : ℕ). x % 128) z)
+    outermost l kept some z = sets .around (l .number) some (kept .within) (kept .some) .none (ap (λ (x : ℕ). x % ENDING) z)
 
-    pub within-next : (l : Level) → Grouped M e l → 1 ≤ l .number → (ends : Bool) (k : Level) (ks : List Level) → Chain M e u ends (outerAt M e (l .number)) (k ∷ ks) → hasM (k .members) u ≡ true → l .number < k .number → Within M e (l .number) (memberAt M e u k) (k .number) (ltb 128 (outerAt M e (l .number)))
+    pub within-next : (l : Level) → Grouped M e l → 1 ≤ l .number → (ends : Bool) (k : Level) (ks : List Level) → Chain M e u ends (outerAt M e (l .number)) (k ∷ ks) → hasM (k .members) u ≡ true → l .number < k .number → Within M e (l .number) (memberAt M e u k) (k .number) (ltb ENDING (outerAt M e (l .number)))
     within-next l kept some ends k ks chain i less =
-        let is : outerAt M e (l .number) % 128 ≡ memberAt M e u k = chain-first M e u ends (outerAt M e (l .number)) k ks chain i in
-        let group : groupAt M e (outerAt M e (l .number) % 128) ≡ k .number = ap (groupAt M e) is ∙ member-group M e k (chain .0) u i in
-        subst (λ (g : ℕ). Within M e (l .number) (memberAt M e u k) g (ltb 128 (outerAt M e (l .number)))) group
-        (subst (λ (h : ℕ). Within M e (l .number) h (groupAt M e (outerAt M e (l .number) % 128)) (ltb 128 (outerAt M e (l .number)))) is
+        let is : outerAt M e (l .number) % ENDING ≡ memberAt M e u k = chain-first M e u ends (outerAt M e (l .number)) k ks chain i in
+        let group : groupAt M e (outerAt M e (l .number) % ENDING) ≡ k .number = ap (groupAt M e) is ∙ member-group M e k (chain .0) u i in
+        subst (λ (g : ℕ). Within M e (l .number) (memberAt M e u k) g (ltb ENDING (outerAt M e (l .number)))) group
+        (subst (λ (h : ℕ). Within M e (l .number) h (groupAt M e (outerAt M e (l .number) % ENDING)) (ltb ENDING (outerAt M e (l .number)))) is
         (sets .around (l .number) some (kept .within) (kept .some) .some (omega (arith, is, member-small M e k (chain .0) u i)) (omega (arith, is, member-small M e k (chain .0) u i)) (omega (arith, group)) (omega (arith, group, chain .0 .within))))
 
     -- The members that hold the first of these groups are those that hold u in the others.

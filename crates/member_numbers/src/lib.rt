@@ -12,7 +12,8 @@ use member_bits::Bits;
 ghost use mathlib.Core.Path.{_≡_};
 ghost use Prim.Native.Nat.{_+_, _≤_, _<_};
 ghost use lib.ListN.{length, getD};
-ghost use Rattle.layout.specs.Sizes.{MEMBERS};
+ghost use Rattle.rules.specs.Bytes.{GRPGTCNT, elementLimit};
+ghost use Rattle.layout.specs.Sizes.{MEMBERS, AND-GROUPS, MEMBER-BITS};
 ghost use Rattle.member_laws.specs.Members.{holderAt, groupAt, dueAt, recordAt, reachAt, bitAt, isNeeded, holdsAt, amongAt};
 ghost use Rattle.member_bits.specs.Having.{Has};
 ghost use Rattle.member_numbers.specs.Words.{Word};
@@ -28,7 +29,7 @@ fn number(members: &[u8], i: usize) -> usize
 // The innermost member that holds the place p of the element e, and 128 more where p can end it; or 0.
 pub fn holder(members: &[u8], e: ElementNo, p: Place) -> usize
     requires { ⌜ MEMBERS ≤ length (now members) ⌝ }
-    requires { ⌜ (e .0 ≤ 64) × (p .0 ≤ 96) ⌝ }
+    requires { ⌜ (e .0 ≤ elementLimit) × (p .0 ≤ GRPGTCNT) ⌝ }
     ensures { λ r. ⌜ (r ≡ holderAt (now (members .entry)) (e .0) (p .0)) × (r ≤ 255) ⌝ }
 {
     number(members, e.0 * MEMBER + p.0)
@@ -37,7 +38,7 @@ pub fn holder(members: &[u8], e: ElementNo, p: Place) -> usize
 // The group of the member h.
 pub fn group_of(members: &[u8], e: ElementNo, h: usize) -> usize
     requires { ⌜ MEMBERS ≤ length (now members) ⌝ }
-    requires { ⌜ (e .0 ≤ 64) × (h ≤ 255) ⌝ }
+    requires { ⌜ (e .0 ≤ elementLimit) × (h ≤ 255) ⌝ }
     ensures { λ r. ⌜ (r ≡ groupAt (now (members .entry)) (e .0) h) × (r ≤ 255) ⌝ }
 {
     number(members, e.0 * MEMBER + POSITIONS + h)
@@ -46,7 +47,7 @@ pub fn group_of(members: &[u8], e: ElementNo, h: usize) -> usize
 // The place that the member h requires at its start, or 0.
 pub fn required_of(members: &[u8], e: ElementNo, h: usize) -> usize
     requires { ⌜ MEMBERS ≤ length (now members) ⌝ }
-    requires { ⌜ (e .0 ≤ 64) × (h ≤ 255) ⌝ }
+    requires { ⌜ (e .0 ≤ elementLimit) × (h ≤ 255) ⌝ }
     ensures { λ r. ⌜ (r ≡ dueAt (now (members .entry)) (e .0) h) × (r ≤ 255) ⌝ }
 {
     number(members, e.0 * MEMBER + 2 * POSITIONS + h)
@@ -56,7 +57,7 @@ pub fn required_of(members: &[u8], e: ElementNo, h: usize) -> usize
 // innermost member that holds the group, and 128 more where it can end with the group, or 0.
 pub fn of_group(members: &[u8], e: ElementNo, g: usize, which: usize) -> usize
     requires { ⌜ MEMBERS ≤ length (now members) ⌝ }
-    requires { ⌜ (e .0 ≤ 64) × (g ≤ 255) × (which ≤ 3) ⌝ }
+    requires { ⌜ (e .0 ≤ elementLimit) × (g ≤ 255) × (which ≤ 3) ⌝ }
     ensures { λ r. ⌜ (r ≡ getD (now (members .entry)) (recordAt (now (members .entry)) (e .0) g + which) 0) × (r ≤ 255) ⌝ }
 {
     number(members, e.0 * MEMBER + 3 * POSITIONS + g * GROUP + which)
@@ -65,7 +66,7 @@ pub fn of_group(members: &[u8], e: ElementNo, g: usize, which: usize) -> usize
 // The outermost group around the group g that can end with it, each of those between with it.
 pub fn reach_of(members: &[u8], e: ElementNo, g: usize) -> usize
     requires { ⌜ MEMBERS ≤ length (now members) ⌝ }
-    requires { ⌜ (e .0 ≤ 64) × (g ≤ 255) ⌝ }
+    requires { ⌜ (e .0 ≤ elementLimit) × (g ≤ 255) ⌝ }
     ensures { λ r. ⌜ (r ≡ reachAt (now (members .entry)) (e .0) g) × (r ≤ 255) ⌝ }
 {
     number(members, e.0 * MEMBER + REACHES + g)
@@ -85,7 +86,7 @@ fn word(members: &[u8], i: usize) -> usize
 
 // The members whose bits stand from i on.
 fn bits_at(members: &[u8], i: usize) -> Bits
-    requires { ⌜ i + 12 ≤ length (now members) ⌝ }
+    requires { ⌜ i + MEMBER-BITS ≤ length (now members) ⌝ }
     ensures { λ r. ⌜ Has r (bitAt (now (members .entry)) i) ⌝ }
 {
     let a = word(members, i);
@@ -100,7 +101,7 @@ fn bits_at(members: &[u8], i: usize) -> Bits
 // The members of the element e that cannot be nothing.
 pub fn needed(members: &[u8], e: ElementNo) -> Bits
     requires { ⌜ MEMBERS ≤ length (now members) ⌝ }
-    requires { ⌜ e .0 ≤ 64 ⌝ }
+    requires { ⌜ e .0 ≤ elementLimit ⌝ }
     ensures { λ r. ⌜ Has r (isNeeded (now (members .entry)) (e .0)) ⌝ }
 {
     bits_at(members, e.0 * MEMBER + NEEDED)
@@ -109,7 +110,7 @@ pub fn needed(members: &[u8], e: ElementNo) -> Bits
 // The members that hold the group g, from the innermost to the outermost.
 pub fn holding(members: &[u8], e: ElementNo, g: usize) -> Bits
     requires { ⌜ MEMBERS ≤ length (now members) ⌝ }
-    requires { ⌜ (e .0 ≤ 64) × (g ≤ 48) ⌝ }
+    requires { ⌜ (e .0 ≤ elementLimit) × (g ≤ AND-GROUPS) ⌝ }
     ensures { λ r. ⌜ Has r (holdsAt (now (members .entry)) (e .0) g) ⌝ }
 {
     bits_at(members, e.0 * MEMBER + SETS + g * (2 * MEMBER_BITS))
@@ -118,7 +119,7 @@ pub fn holding(members: &[u8], e: ElementNo, g: usize) -> Bits
 // The members of the group g and of those around it.
 pub fn among(members: &[u8], e: ElementNo, g: usize) -> Bits
     requires { ⌜ MEMBERS ≤ length (now members) ⌝ }
-    requires { ⌜ (e .0 ≤ 64) × (g ≤ 48) ⌝ }
+    requires { ⌜ (e .0 ≤ elementLimit) × (g ≤ AND-GROUPS) ⌝ }
     ensures { λ r. ⌜ Has r (amongAt (now (members .entry)) (e .0) g) ⌝ }
 {
     bits_at(

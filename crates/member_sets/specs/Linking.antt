@@ -10,7 +10,8 @@ use lib.Dec.{eqb, ltb, leb}
 use lib.ListN.{length, getD, set, length-set}
 use lib.Seq.{getD-set-same, getD-set-other}
 use borrow.Author.Tests.{lt-ltb, le-ltb, eq-eqb, ne-eqb}
-use Rattle.layout.specs.Sizes.{POSITIONS, AND-GROUPS, GROUP, REACHES, NEEDED, MEMBER-BITS, SETS, MEMBER, MEMBERS}
+use Rattle.rules.specs.Bytes.{elementLimit}
+use Rattle.layout.specs.Sizes.{POSITIONS, AND-GROUPS, GROUP, REACHES, NEEDED, MEMBER-BITS, SETS, MEMBER, MEMBERS, ENDING}
 use Rattle.model_sets.specs.Bits.{or-right}
 use Rattle.and_laws.specs.Rows.{and-no, or-no}
 use Rattle.member_laws.specs.Members.{groupAt, recordAt, firstAt, neededAt, sizeAt, outerAt, reachAt, holdsAt, amongAt, isNeeded, isOwn, Outermost, Within, Around, AllSets}
@@ -29,18 +30,18 @@ module _ (M : List ℕ) (e n : ℕ) where
   -- The innermost member that holds the group n is one of a group around it, and W holds of the member, of that group and of whether the member can end here.
   abbrev pub Inner : (ℕ → ℕ → Bool → Type 0) → Type 0
   Inner W =
-      1 ≤ outerAt M e n % 128 → outerAt M e n % 128 < POSITIONS → n < groupAt M e (outerAt M e n % 128) → groupAt M e (outerAt M e n % 128) ≤ AND-GROUPS →
-      W (outerAt M e n % 128) (groupAt M e (outerAt M e n % 128)) (ltb 128 (outerAt M e n))
+      1 ≤ outerAt M e n % ENDING → outerAt M e n % ENDING < POSITIONS → n < groupAt M e (outerAt M e n % ENDING) → groupAt M e (outerAt M e n % ENDING) ≤ AND-GROUPS →
+      W (outerAt M e n % ENDING) (groupAt M e (outerAt M e n % ENDING)) (ltb ENDING (outerAt M e n))
 
   abbrev Read : (ℕ → ℕ → Bool → Type 0) → (outer f : ℕ) → Type 0
-  Read W outer f = 1 ≤ outer % 128 → outer % 128 < POSITIONS → n < f → f ≤ AND-GROUPS → W (outer % 128) f (ltb 128 outer)
+  Read W outer f = 1 ≤ outer % ENDING → outer % ENDING < POSITIONS → n < f → f ≤ AND-GROUPS → W (outer % ENDING) f (ltb ENDING outer)
 
-  inner-read : (W : ℕ → ℕ → Bool → Type 0) → Inner W → (outer f : ℕ) → outer ≡ outerAt M e n → f ≡ groupAt M e (outer % 128) → Read W outer f
+  inner-read : (W : ℕ → ℕ → Bool → Type 0) → Inner W → (outer f : ℕ) → outer ≡ outerAt M e n → f ≡ groupAt M e (outer % ENDING) → Read W outer f
   inner-read W h outer f o g =
-      subst (Read W outer) (sym g) (subst (λ (x : ℕ). Read W x (groupAt M e (x % 128))) (sym o) h)
+      subst (Read W outer) (sym g) (subst (λ (x : ℕ). Read W x (groupAt M e (x % ENDING))) (sym o) h)
 
-  read-inner : (W : ℕ → ℕ → Bool → Type 0) (outer f : ℕ) → outer ≡ outerAt M e n → f ≡ groupAt M e (outer % 128) → Read W outer f → Inner W
-  read-inner W outer f o g h = subst (λ (x : ℕ). Read W x (groupAt M e (x % 128))) o (subst (Read W outer) g h)
+  read-inner : (W : ℕ → ℕ → Bool → Type 0) (outer f : ℕ) → outer ≡ outerAt M e n → f ≡ groupAt M e (outer % ENDING) → Read W outer f → Inner W
+  read-inner W outer f o g h = subst (λ (x : ℕ). Read W x (groupAt M e (x % ENDING))) o (subst (Read W outer) g h)
 
 -- What is to be put of the group g.
 
@@ -56,13 +57,13 @@ pub record Joining (M : List ℕ) (e g : ℕ) (a : Sets) (outer f : ℕ) (ends :
 
 pub record Found (M : List ℕ) (e g : ℕ) (a : Sets) : Type 0 where
   pub small : a .reach ≤ 255
-  pub none : outerAt M e g % 128 ≡ 0 → Alone M e g a
+  pub none : outerAt M e g % ENDING ≡ 0 → Alone M e g a
   pub some : Inner M e g (Joining M e g a)
 
 module _
     (M : List ℕ) (e g first size outer : ℕ) (own : Bits) (few : g ≤ AND-GROUPS)
     (first-is : first ≡ getD M (recordAt M e g + 0) 0) (size-is : size ≡ getD M (recordAt M e g + 2) 0) (outer-is : outer ≡ getD M (recordAt M e g + 3) 0)
-    (has-own : Has own (λ (n : ℕ). leb first n && ltb n (first + size))) (f : ℕ) (f-is : f ≡ groupAt M e (outer % 128)) where
+    (has-own : Has own (λ (n : ℕ). leb first n && ltb n (first + size))) (f : ℕ) (f-is : f ≡ groupAt M e (outer % ENDING)) where
   own-read : Has own (isOwn M e g)
   own-read =
       let z : recordAt M e g + 0 ≡ recordAt M e g = omega arith in
@@ -70,7 +71,7 @@ module _
       (subst (λ (x : ℕ). Has own (λ (n : ℕ). leb first n && ltb n (first + x))) size-is has-own)
 
   pub found-alone :
-      (1 ≤ outer % 128 → outer % 128 < POSITIONS → g < f → f ≤ AND-GROUPS → ⊥) → (holding : Bits) → Has holding (λ (n : ℕ). false)
+      (1 ≤ outer % ENDING → outer % ENDING < POSITIONS → g < f → f ≤ AND-GROUPS → ⊥) → (holding : Bits) → Has holding (λ (n : ℕ). false)
       → Found M e g (record { holding = holding; among = own; reach = g })
   found-alone out holding has-none =
       record {
@@ -80,22 +81,22 @@ module _
       }
 
   pub found-within :
-      1 ≤ outer % 128 → (holding among : Bits) (reach : ℕ)
-      → Has holding (λ (n : ℕ). holdsAt M e f n || eqb n (outer % 128))
+      1 ≤ outer % ENDING → (holding among : Bits) (reach : ℕ)
+      → Has holding (λ (n : ℕ). holdsAt M e f n || eqb n (outer % ENDING))
       → ((k : ℕ → Bool) → Has own k → Has among (λ (n : ℕ). k n || amongAt M e f n))
-      → (128 < outer → reach ≡ reachAt M e f) × (outer ≤ 128 → reach ≡ g) × (reach ≤ 255)
+      → (ENDING < outer → reach ≡ reachAt M e f) × (outer ≤ ENDING → reach ≡ g) × (reach ≤ 255)
       → Found M e g (record { holding = holding; among = among; reach = reach })
   found-within held holding among reach has-holding has-among (far, near, small) =
       let a : Sets = record { holding = holding; among = among; reach = reach } in
       record {
         small = small;
         none = λ z. absurd (omega (arith, outer-is));
-        some = read-inner M e g (Joining M e g a) outer f outer-is f-is (λ p q r s. record { holding = has-holding; among = has-among (isOwn M e g) own-read; reach = go (decLt 128 outer) });
+        some = read-inner M e g (Joining M e g a) outer f outer-is f-is (λ p q r s. record { holding = has-holding; among = has-among (isOwn M e g) own-read; reach = go (decLt ENDING outer) });
       }
     where
-      go : Dec (128 < outer) → reach ≡ cond (ltb 128 outer) (reachAt M e f) g
-      go (yes l) = rw (lt-ltb 128 outer l) (far l)
-      go (no l) = rw (le-ltb 128 outer (omega arith)) (near (omega arith))
+      go : Dec (ENDING < outer) → reach ≡ cond (ltb ENDING outer) (reachAt M e f) g
+      go (yes l) = rw (lt-ltb ENDING outer l) (far l)
+      go (no l) = rw (le-ltb ENDING outer (omega arith)) (near (omega arith))
 
 -- Which members cannot be nothing, one after the other
 
@@ -158,7 +159,7 @@ pub same-sets : (M S : List ℕ) (e n : ℕ) → ((k : ℕ) → setsFrom e n ≤
 same-sets M S e n same reach =
     record {
       holds = bit-same M S (setsFrom e n) (λ k a b. same k a (omega arith));
-      among = bit-same M S (setsFrom e n + 12) (λ k a b. same k (omega arith) (omega arith));
+      among = bit-same M S (setsFrom e n + MEMBER-BITS) (λ k a b. same k (omega arith) (omega arith));
       reach = reach;
     }
 
@@ -189,14 +190,14 @@ module _ (M S : List ℕ) (e : ℕ) (low : Low M S e) where
     outer-same = record-same n 3 few (omega arith)
 
     -- what S has around the group n, by what M says of it
-    around-by : (W : ℕ → ℕ → Bool → Type 0) → Inner M e n W → (outerAt M e n % 128 ≡ 0 → Outermost S e n)
+    around-by : (W : ℕ → ℕ → Bool → Type 0) → Inner M e n W → (outerAt M e n % ENDING ≡ 0 → Outermost S e n)
         → ((outer f : ℕ) (ends : Bool) → n < f → f ≤ AND-GROUPS → W outer f ends → Within S e n outer f ends) → Around S e n
     around-by W inner none some =
         record {
-          none = λ z. none (subst (λ (x : ℕ). x % 128 ≡ 0) outer-same z);
+          none = λ z. none (subst (λ (x : ℕ). x % ENDING ≡ 0) outer-same z);
           some = λ a b c d.
               some _ _ _ c d
-              (inner-read M e n W inner (outerAt S e n) (groupAt S e (outerAt S e n % 128)) outer-same (group-same (outerAt S e n % 128) b) a b c d);
+              (inner-read M e n W inner (outerAt S e n) (groupAt S e (outerAt S e n % ENDING)) outer-same (group-same (outerAt S e n % ENDING) b) a b c d);
         }
 
     pub around-same : ((m : ℕ) → n ≤ m → m ≤ AND-GROUPS → Same M S e m) → Around M e n → Around S e n
@@ -242,12 +243,12 @@ module _
   put-same : (m : ℕ) → m ≤ AND-GROUPS → (m ≡ g → ⊥) → Same M S e m
   put-same m l ne = same-sets M S e m (λ k a b. others k (away k a b (decLt m g)) (λ z. omega arith)) (others (e * MEMBER + REACHES + m) (inl (omega arith)) (λ z. ne (omega arith)))
     where
-      away : (k : ℕ) → setsFrom e m ≤ k → k < setsFrom e m + 24 → Dec (m < g) → (k < setsFrom e g) ⊎ (setsFrom e g + 24 ≤ k)
+      away : (k : ℕ) → setsFrom e m ≤ k → k < setsFrom e m + 2 * MEMBER-BITS → Dec (m < g) → (k < setsFrom e g) ⊎ (setsFrom e g + 2 * MEMBER-BITS ≤ k)
       away k a b (yes x) = inl (omega arith)
       away k a b (no x) = inr (omega arith)
 
 module _
-    (M : List ℕ) (e g : ℕ) (a : Sets) (near : e ≤ 64) (few : g ≤ AND-GROUPS) (long : MEMBERS ≤ length M) (found : Found M e g a)
+    (M : List ℕ) (e g : ℕ) (a : Sets) (near : e ≤ elementLimit) (few : g ≤ AND-GROUPS) (long : MEMBERS ≤ length M) (found : Found M e g a)
     (A B : List ℕ) (first : PutBits M (setsFrom e g) (a .holding) A) (second : PutBits A (setsFrom e g + MEMBER-BITS) (a .among) B) where
   abbrev at : ℕ
   at = e * MEMBER + REACHES + g
@@ -265,7 +266,7 @@ module _
       ∙ first .bits f has h i j
 
   put-among : (f : ℕ → Bool) → Has (a .among) f → (h : ℕ) → 1 ≤ h → h < POSITIONS → amongAt S e g h ≡ f h
-  put-among f has h i j = bit-same B S (setsFrom e g + 12) (λ k x y. getD-set-other B at k (a .reach) 0 (λ z. omega arith)) h i j ∙ second .bits f has h i j
+  put-among f has h i j = bit-same B S (setsFrom e g + MEMBER-BITS) (λ k x y. getD-set-other B at k (a .reach) 0 (λ z. omega arith)) h i j ∙ second .bits f has h i j
 
   put-reach : reachAt S e g ≡ a .reach
   put-reach = getD-set-same B at (a .reach) 0 (omega (arith, second .len, first .len))
@@ -304,10 +305,10 @@ pub record Linking (M : List ℕ) (e g : ℕ) (S : List ℕ) : Type 0 where
   pub bits : (k : ℕ) → e * MEMBER + NEEDED ≤ k → k < e * MEMBER + SETS → getD S k 0 ≡ getD M k 0
   pub around : (n : ℕ) → g < n → n ≤ AND-GROUPS → Around S e n
 
-pub linking-start : (M : List ℕ) (e : ℕ) → Linking M e 48 M
+pub linking-start : (M : List ℕ) (e : ℕ) → Linking M e AND-GROUPS M
 linking-start M e = record { len = refl; others = λ k l. refl; bits = λ k a b. refl; around = λ n a b. absurd (omega arith) }
 
-pub linking-on : (M : List ℕ) (e g h : ℕ) (S T : List ℕ) → Linking M e g S → g ≡ h + 1 → g ≤ 48 → PutGroup S e g T → Linking M e h T
+pub linking-on : (M : List ℕ) (e g h : ℕ) (S T : List ℕ) → Linking M e g S → g ≡ h + 1 → g ≤ AND-GROUPS → PutGroup S e g T → Linking M e h T
 linking-on M e g h S T w is few put =
     record {
       len = put .len ∙ w .len;
@@ -316,7 +317,7 @@ linking-on M e g h S T w is few put =
       around = λ n a b. go n a b (ℕ-discrete n g);
     }
   where
-    apart : (k : ℕ) → (k < e * MEMBER + REACHES) ⊎ (e * MEMBER + MEMBER ≤ k) → (k < setsFrom e g) ⊎ (setsFrom e g + 24 ≤ k)
+    apart : (k : ℕ) → (k < e * MEMBER + REACHES) ⊎ (e * MEMBER + MEMBER ≤ k) → (k < setsFrom e g) ⊎ (setsFrom e g + 2 * MEMBER-BITS ≤ k)
     apart k (inl l) = inl (omega arith)
     apart k (inr l) = inr (omega arith)
 

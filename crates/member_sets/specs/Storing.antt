@@ -72,14 +72,14 @@ bits-put M i b S T v w =
       bits = λ f has h a z. bool-cases (ltb (h - 1) 64) (λ e. early h (ltb-true (h - 1) 64 e) ∙ (rw e at (has .bits h a z))) (λ e. late h z (ltb-false (h - 1) 64 e) ∙ (rw e at (has .bits h a z)));
     }
   where
-    others : (k : ℕ) → (k < i) ⊎ (i + 12 ≤ k) → getD T k 0 ≡ getD M k 0
+    others : (k : ℕ) → (k < i) ⊎ (i + MEMBER-BITS ≤ k) → getD T k 0 ≡ getD M k 0
     others k (inl l) = w .others k (inl (omega arith)) ∙ v .others k (inl l)
     others k (inr l) = w .others k (inr (omega arith)) ∙ v .others k (inr (omega arith))
 
     early : (h : ℕ) → h - 1 < 64 → bitAt T i h ≡ eqb (b .low / 2 ^ (h - 1) % 2) 1
     early h l = bit-of T i (b .low) 8 (λ j m. w .others (i + j) (inl (omega arith)) ∙ v .bytes j m) (h - 1) (omega arith)
 
-    late : (h : ℕ) → h < 97 → 64 ≤ h - 1 → bitAt T i h ≡ eqb (b .high / 2 ^ (h - 1 - 64) % 2) 1
+    late : (h : ℕ) → h < POSITIONS → 64 ≤ h - 1 → bitAt T i h ≡ eqb (b .high / 2 ^ (h - 1 - 64) % 2) 1
     late h l m =
         let at : i + (h - 1) / 8 ≡ i + 8 + (h - 1 - 64) / 8 = omega arith in
         let bit : (h - 1) % 8 ≡ (h - 1 - 64) % 8 = omega arith in

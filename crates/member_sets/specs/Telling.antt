@@ -10,6 +10,7 @@ use lib.ListN.{length, getD}
 use lib.Pow.{shr-le}
 use borrow.Author.Tests.{le-ltb}
 use Rattle.rules.specs.Walk.{Group, Members}
+use Rattle.rules.specs.Bytes.{GRPGTCNT}
 use Rattle.layout.specs.Sizes.{POSITIONS, AND-GROUPS, REACHES, NEEDED, MEMBER, MEMBERS}
 use Rattle.model_sets.specs.Sets.{has, must}
 use Rattle.and_laws.specs.Ranked.{Level, levels}
@@ -62,7 +63,7 @@ module _ (M S : List ℕ) (e : ℕ) (same : Low M S e) where
   start-still : holderAt M e 0 ≡ 0 → holderAt S e 0 ≡ 0
   start-still z = at _ 0 (omega arith) (omega arith) ∙ z
 
-  places-still : (g : Group) → ((u : ℕ) → has g u ≡ true → u ≤ 96) → ((u : ℕ) → has g u ≡ true → Chain M e u true (holderAt M e u) (levels g 0 u)) → (u : ℕ) → has g u ≡ true → Chain S e u true (holderAt S e u) (levels g 0 u)
+  places-still : (g : Group) → ((u : ℕ) → has g u ≡ true → u ≤ GRPGTCNT) → ((u : ℕ) → has g u ≡ true → Chain M e u true (holderAt M e u) (levels g 0 u)) → (u : ℕ) → has g u ≡ true → Chain S e u true (holderAt S e u) (levels g 0 u)
   places-still g few h u i = chain-still u (levels g 0 u) true _ _ (at _ u (omega arith) (omega (arith, few u i))) (h u i)
 
   order-still : Ordered M e → Ordered S e
@@ -91,7 +92,7 @@ module _ (M S : List ℕ) (e : ℕ) (same : (k : ℕ) → k < MEMBER → getD S 
             ∙ sym (due-same M S e early n b few);
       }
 
-  pub told-still : length S ≡ length M → (g : Group) → ((u : ℕ) → has g u ≡ true → u ≤ 96) → Told M e g → Told S e g
+  pub told-still : length S ≡ length M → (g : Group) → ((u : ℕ) → has g u ≡ true → u ≤ GRPGTCNT) → Told M e g → Told S e g
   told-still len g few h =
       record {
         start = start-still M S e early (h .start);
@@ -130,7 +131,7 @@ pub record Filled (M : List ℕ) (e : ℕ) (g : Group) (S : List ℕ) : Type 0 w
   pub len : length S ≡ length M
   pub others : (k : ℕ) → (k < e * MEMBER) ⊎ (e * MEMBER + MEMBER ≤ k) → getD S k 0 ≡ getD M k 0
 
-pub filled-linked : (M S T : List ℕ) (e : ℕ) (g : Group) → length M ≡ MEMBERS → ((u : ℕ) → has g u ≡ true → u ≤ 96) → tells.Filled M e g S → Linked S e T → Filled M e g T
+pub filled-linked : (M S T : List ℕ) (e : ℕ) (g : Group) → length M ≡ MEMBERS → ((u : ℕ) → has g u ≡ true → u ≤ GRPGTCNT) → tells.Filled M e g S → Linked S e T → Filled M e g T
 filled-linked M S T e g long few filled linked =
     let low : Low S T e = λ k l. linked .others (e * MEMBER + k) (inl (omega arith)) in
     let whole : MEMBERS ≤ length S = omega (arith, filled .len) in

@@ -7,7 +7,7 @@ use mathlib.Core.List.{List, [], _∷_, _++_}
 use native.Mathlib.Omega.{arith}
 use lib.ListN.{getD}
 use Rattle.rules.specs.Walk.{Group, Members, one, also}
-use Rattle.layout.specs.Sizes.{MEMBER}
+use Rattle.layout.specs.Sizes.{MEMBER, ENDING}
 use Rattle.model_sets.specs.Bits.{or-left, or-right, or-cases, and-left, and-right, bool-cases}
 use Rattle.model_sets.specs.Sets.{has, hasM, nullable, lastM}
 use Rattle.and_laws.specs.Sets.{GoodM}
@@ -62,7 +62,7 @@ module _ (e : ℕ) where
       Among M b c l
       × Grouped M e l
       × (flag : Bool)
-      × (getD M s 0 ≡ numberIn (firstAt M e (l .number)) (needs (l .members)) (l .members) u + cond flag 128 0)
+      × (getD M s 0 ≡ numberIn (firstAt M e (l .number)) (needs (l .members)) (l .members) u + cond flag ENDING 0)
       × (ends ≡ true → flag ≡ lastM (l .members) u)
       × Spells M lasts b c A u (ends && lastM (l .members) u) (recordAt M e (l .number) + 3) (getD lasts (l .number) 0) ls
 
@@ -113,12 +113,12 @@ module _ (e : ℕ) where
     among-keep b' c' x y l (from, to, high) = (from, omega arith, omega (arith, K .first (l .number) to))
 
     value-keep : (l : Level) → Among M b c l → Grouped M e l → (u s v : ℕ) → Slot baseOf lasts b s v → (flag : Bool)
-        → getD M s 0 ≡ numberIn (firstAt M e (l .number)) (needs (l .members)) (l .members) u + cond flag 128 0
-        → getD S s 0 ≡ numberIn (firstAt S e (l .number)) (needs (l .members)) (l .members) u + cond flag 128 0
+        → getD M s 0 ≡ numberIn (firstAt M e (l .number)) (needs (l .members)) (l .members) u + cond flag ENDING 0
+        → getD S s 0 ≡ numberIn (firstAt S e (l .number)) (needs (l .members)) (l .members) u + cond flag ENDING 0
     value-keep l (from, to, high) g u s v is flag e' =
         K .kept s v is (omega (arith, e', g .some, number-least (firstAt M e (l .number)) (needs (l .members)) (l .members) u))
         ∙ e'
-        ∙ ap (λ (f : ℕ). numberIn f (needs (l .members)) (l .members) u + cond flag 128 0) (sym (K .first (l .number) to))
+        ∙ ap (λ (f : ℕ). numberIn f (needs (l .members)) (l .members) u + cond flag ENDING 0) (sym (K .first (l .number) to))
 
     next-slot : (l : Level) → Among M b c l → Slot baseOf lasts b (recordAt M e (l .number) + 3) (getD lasts (l .number) 0)
     next-slot l (from, to, high) = inr (l .number, from, to, refl, refl)
@@ -150,7 +150,7 @@ module _ (e : ℕ) where
   -- The group of m is put after b groups and c members.
   pub record Closes (lasts lasts' : List ℕ) (b c : ℕ) (m : Members) (M S : List ℕ) : Type 0 where
     pub keeps : Keeps lasts b c (hasM m) M S
-    pub put : (s v : ℕ) → Slot baseOf lasts b s v → hasM m v ≡ true → getD M s 0 ≡ 0 → getD S s 0 ≡ numberIn (c + 1) (needs m) m v + cond (lastM m v) 128 0
+    pub put : (s v : ℕ) → Slot baseOf lasts b s v → hasM m v ≡ true → getD M s 0 ≡ 0 → getD S s 0 ≡ numberIn (c + 1) (needs m) m v + cond (lastM m v) ENDING 0
     pub grouped : Grouped S e (record { number = suc b; members = m })
     pub first : firstAt S e (suc b) ≡ c + 1
     pub outer : outerAt S e (suc b) ≡ 0
@@ -166,8 +166,8 @@ module _ (e : ℕ) where
       C .grouped,
       lastM m v,
       C .put s v is (together-right m u v t) z
-          ∙ ap (λ (n : ℕ). n + cond (lastM m v) 128 0) (number-together (c + 1) (needs m) m good u v t)
-          ∙ ap (λ (f : ℕ). numberIn f (needs m) m u + cond (lastM m v) 128 0) (sym (C .first)),
+          ∙ ap (λ (n : ℕ). n + cond (lastM m v) ENDING 0) (number-together (c + 1) (needs m) m good u v t)
+          ∙ ap (λ (f : ℕ). numberIn f (needs m) m u + cond (lastM m v) ENDING 0) (sym (C .first)),
       le,
       (C .outer, (lastM-has m (getD lasts' (suc b) 0) (C .ends), λ i. C .ends ∙ sym (and-right ends (lastM m u) i))),
     )

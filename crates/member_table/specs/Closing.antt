@@ -9,9 +9,10 @@ use lib.Dec.{eqb}
 use lib.ListN.{length, getD, set, length-set}
 use lib.Seq.{getD-set-same, getD-set-other}
 use borrow.Author.Tests.{ne-eqb}
-use Rattle.rules.specs.Bytes.{GRPCNT}
+use Rattle.model_code.specs.Codes.{AND-CODE}
+use Rattle.rules.specs.Bytes.{GRPCNT, GRPGTCNT}
 use Rattle.rules.specs.Walk.{Group, and, Members, one, also}
-use Rattle.layout.specs.Sizes.{MEMBER, POSITIONS}
+use Rattle.layout.specs.Sizes.{MEMBER, POSITIONS, AND-GROUPS, LASTS, REACHES}
 use Rattle.model_sets.specs.Bits.{bool-cases}
 use Rattle.model_sets.specs.Sets.{hasM, size, sizeM, NumberedM, nullable, nullableM}
 use Rattle.and_laws.specs.Sets.{GoodM}
@@ -42,18 +43,18 @@ last-append [] x = refl
 last-append (y ∷ []) x = refl
 last-append (y ∷ (z ∷ xs)) x = last-append (z ∷ xs) x
 
-one-more : (x y : ℕ) → 128 + x ≡ 128 + y → 128 + (x + 1) ≡ 128 + (y + 1)
+one-more : (x y : ℕ) → AND-CODE + x ≡ AND-CODE + y → AND-CODE + (x + 1) ≡ AND-CODE + (y + 1)
 one-more x y e = omega arith
 
-close-number : (m : Members) → lastOf (codes (and m)) ≡ 128 + amount m
-close-number (one g) = last-append (codesM (one g)) 129
+close-number : (m : Members) → lastOf (codes (and m)) ≡ AND-CODE + amount m
+close-number (one g) = last-append (codesM (one g)) (AND-CODE + 1)
 close-number (also m g) = last-append (codesM (also m g)) _ ∙ one-more _ _ (sym (last-append (codesM m) _) ∙ close-number m)
 
 same-last : (xs : List ℕ) (x y : ℕ) → lastOf (xs ++ x ∷ []) ≡ y → xs ++ x ∷ [] ≡ xs ++ y ∷ []
 same-last xs x y e = ap (λ (z : ℕ). xs ++ z ∷ []) (sym (last-append xs x) ∙ e)
 
-pub codes-and : (m : Members) → codes (and m) ≡ codesM m ++ (128 + amount m) ∷ []
-codes-and m = same-last (codesM m) _ (128 + amount m) (close-number m)
+pub codes-and : (m : Members) → codes (and m) ≡ codesM m ++ (AND-CODE + amount m) ∷ []
+codes-and m = same-last (codesM m) _ (AND-CODE + amount m) (close-number m)
 
 -- Pieces of the members
 
@@ -91,7 +92,7 @@ closed-is stack first m g lo p =
 
 -- The numbers of the group itself
 
-module _ (base groups own needed k : ℕ) (M : List ℕ) (room : base + 487 ≤ length M) (few : groups < 48) where
+module _ (base groups own needed k : ℕ) (M : List ℕ) (room : base + REACHES ≤ length M) (few : groups < AND-GROUPS) where
   abbrev at : ℕ
   at = recordFrom base (groups + 1)
 
@@ -127,9 +128,9 @@ module _ (base groups own needed k : ℕ) (M : List ℕ) (room : base + 487 ≤ 
 module _
     (e : ℕ) (T : List ℕ) (m : Members) (g : Group) (lo first : ℕ) (t : State)
     (numbered : NumberedM (also m g) lo) (good : GoodM (also m g)) (rows : RowsM (rowsOf T) (also m g))
-    (pieces : Pieces (t .stack) first (also m g) lo) (top : t .top ≡ first + amount (also m g)) (high : lo + sizeM (also m g) ≤ 97)
-    (few : t .groups < 48) (least : t .count + amount (also m g) ≤ 96) (most : amount (also m g) ≤ GRPCNT)
-    (lasts-len : length (t .lasts) ≡ 49) (room : baseOf e + 487 ≤ length (t .members)) (free : outerAt (t .members) e (suc (t .groups)) ≡ 0) where
+    (pieces : Pieces (t .stack) first (also m g) lo) (top : t .top ≡ first + amount (also m g)) (high : lo + sizeM (also m g) ≤ POSITIONS)
+    (few : t .groups < AND-GROUPS) (least : t .count + amount (also m g) ≤ GRPGTCNT) (most : amount (also m g) ≤ GRPCNT)
+    (lasts-len : length (t .lasts) ≡ LASTS) (room : baseOf e + REACHES ≤ length (t .members)) (free : outerAt (t .members) e (suc (t .groups)) ≡ 0) where
   abbrev all : Members
   all = also m g
 
@@ -192,10 +193,10 @@ module _
   -- a number that is none of a member, a place or a group before
   apart :
       (k : ℕ)
-      → ((u : ℕ) → u ≤ 96 → k ≡ baseOf e + u → ⊥)
+      → ((u : ℕ) → u ≤ GRPGTCNT → k ≡ baseOf e + u → ⊥)
       → ((n : ℕ) → 1 ≤ n → n ≤ t .groups → k ≡ recordFrom (baseOf e) n + 3 → ⊥)
-      → ((n : ℕ) → t .count + 1 ≤ n → n ≤ 96 → k ≡ baseOf e + POSITIONS + n → ⊥)
-      → ((n : ℕ) → t .count + 1 ≤ n → n ≤ 96 → k ≡ baseOf e + 2 * POSITIONS + n → ⊥)
+      → ((n : ℕ) → t .count + 1 ≤ n → n ≤ GRPGTCNT → k ≡ baseOf e + POSITIONS + n → ⊥)
+      → ((n : ℕ) → t .count + 1 ≤ n → n ≤ GRPGTCNT → k ≡ baseOf e + 2 * POSITIONS + n → ⊥)
       → getD closedMembers k 0 ≡ getD begun k 0
   apart = J .rest
 

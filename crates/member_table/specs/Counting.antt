@@ -4,6 +4,7 @@ use mathlib.Core.Path.{_≡_, sym, subst}
 use mathlib.Core.Bool.{Bool, true, false, cond}
 use mathlib.Core.List.{List}
 use native.Mathlib.Omega.{arith}
+use Rattle.layout.specs.Sizes.{POSITIONS}
 use Rattle.model_sets.specs.Bits.{bool-cases}
 use Rattle.member_table.specs.declared.Piece.{Piece}
 use Rattle.member_table.specs.Filling.{pieceAt, neededIn, numberAt}
@@ -50,7 +51,7 @@ module _ (stack : List Piece) (first own needed j n : ℕ) (so : n ≡ neededIn 
   number-needed e h is = rw (e, sym so) is
 
 -- The number of a member of a group that has room is small, and so is how many cannot be nothing.
-pub number-small : (stack : List Piece) (first own needed j k : ℕ) → needed ≡ neededIn stack first k → j < k → own + k ≤ 97 → numberAt stack first own needed j < 97
+pub number-small : (stack : List Piece) (first own needed j k : ℕ) → needed ≡ neededIn stack first k → j < k → own + k ≤ POSITIONS → numberAt stack first own needed j < POSITIONS
 number-small stack first own needed j k e l room = let less = number-below stack first own j k l in rw e (omega (arith, less))
 
 pub needed-small : (stack : List Piece) (first needed k : ℕ) → needed ≡ neededIn stack first k → needed ≤ k

@@ -4,6 +4,7 @@ use mathlib.Core.Bool.{Bool, true, false, _&&_, _||_, cond}
 use mathlib.Core.List.{List}
 use lib.ListN.{getD, set, replicate}
 use lib.Dec.{ltb, leb, eqb}
+use Rattle.model_code.specs.Codes.{AND-CODE, OPT-CODE, PLUS-CODE, SEQ-CODE}
 use Rattle.layout.specs.Sizes.{POSITIONS, MODEL-ROWS, CODE, AND-GROUPS, MEMBER}
 use Rattle.model_links.specs.Each.{each}
 use Rattle.member_entries.specs.Entries.{putMember, putRecord}
@@ -26,7 +27,7 @@ optPiece a = record { lo = a .lo; last = a .last; null = true; required = 0 }
 abbrev pub joinedPiece : ℕ → Piece → Piece → Piece
 joinedPiece op a b =
     cond
-    (eqb op 97)
+    (eqb op SEQ-CODE)
     (record { lo = a .lo; last = b .last; null = a .null && b .null; required = cond (a .null) (b .required) (a .required) })
     (record { lo = a .lo; last = b .last; null = a .null || b .null; required = 0 })
 
@@ -119,15 +120,15 @@ closeGroup base T k s =
 abbrev pub stepFill : (base : ℕ) (T : List ℕ) → State → (op : ℕ) → State
 stepFill base T s op =
     cond
-    (ltb op 97)
+    (ltb op SEQ-CODE)
     (cond (ltb (s .top) POSITIONS) (stacked s (s .top) (placePiece op)) s)
     (cond
-    (eqb op 99)
+    (eqb op OPT-CODE)
     (cond (leb 1 (s .top)) (stacked s (s .top - 1) (optPiece (pieceAt (s .stack) (s .top - 1)))) s)
     (cond
-    (ltb op 100)
+    (ltb op PLUS-CODE)
     (cond (leb 2 (s .top)) (stacked s (s .top - 2) (joinedPiece op (pieceAt (s .stack) (s .top - 2)) (pieceAt (s .stack) (s .top - 1)))) s)
-    (cond (ltb 128 op) (cond (fits (op - 128) (s .top) (s .groups) (s .count)) (closeGroup base T (op - 128) s) s) s)))
+    (cond (ltb AND-CODE op) (cond (fits (op - AND-CODE) (s .top) (s .groups) (s .count)) (closeGroup base T (op - AND-CODE) s) s) s)))
 
 abbrev pub startFill : List ℕ → State
 startFill M = record { members = M; stack = replicate POSITIONS nonePiece; top = 0; lasts = replicate (AND-GROUPS + 1) 0; groups = 0; count = 0 }

@@ -7,7 +7,10 @@ use mathlib.Core.List.{List, [], _∷_, _++_}
 use native.Mathlib.Omega.{arith}
 use lib.ListN.{length, set, length-set}
 use lib.Seq.{getD-set-same, getD-set-other}
+use Rattle.model_code.specs.Codes.{ALSO-CODE, ALT-CODE, AND-CODE, OPT-CODE, PLUS-CODE, SEQ-CODE}
 use Rattle.rules.specs.Walk.{Group, place, seq, alt, opt, plus, and, Members, one, also}
+use Rattle.rules.specs.Bytes.{GRPCNT, GRPGTCNT}
+use Rattle.layout.specs.Sizes.{AND-GROUPS, LASTS, POSITIONS, REACHES}
 use Rattle.model_sets.specs.Bits.{or-left, or-right, and-both, bool-cases}
 use Rattle.model_sets.specs.Sets.{has, hasM, size, sizeM, Numbered, NumberedM, nullable, last, lastM}
 use Rattle.and_laws.specs.Base.{Apart}
@@ -71,7 +74,7 @@ pieces-same a b first (one g) lo f p = f (first + 0) (omega arith) ∙ p
 pieces-same a b first (also m g) lo f (p, q) = (pieces-same a b first m lo (λ j l. f j (omega arith)) p, f (first + amount m) (omega arith) ∙ q)
 
 -- Two groups, one after the other.
-module _ (e : ℕ) (g h : Group) (lo : ℕ) (apart : Apart (has g) (has h)) (numbered : Numbered g lo) (high : lo + size g ≤ 97) (s t r : State) (P : Ran e g lo s t) (Q : Ran e h (lo + size g) t r) where
+module _ (e : ℕ) (g h : Group) (lo : ℕ) (apart : Apart (has g) (has h)) (numbered : Numbered g lo) (high : lo + size g ≤ POSITIONS) (s t r : State) (P : Ran e g lo s t) (Q : Ran e h (lo + size g) t r) where
   pair-first : pieceAt (r .stack) (r .top - 2) ≡ pieceOf g lo
   pair-first =
       let f : r .top - 2 ≡ s .top = omega (arith, P .upon .top, Q .upon .top) in
@@ -83,7 +86,7 @@ module _ (e : ℕ) (g h : Group) (lo : ℕ) (apart : Apart (has g) (has h)) (num
   pair-upon : (a : Piece) → Upon 1 s (stacked r (s .top) a)
   pair-upon a = upon-one (1 + 1) s r (upon-both 1 1 s t r (P .upon) (Q .upon)) (s .top) a refl
 
-  pair-piece : (a : Piece) → length (s .stack) ≡ 97 → s .top < 97 → pieceAt (set (r .stack) (s .top) a) (s .top) ≡ a
+  pair-piece : (a : Piece) → length (s .stack) ≡ POSITIONS → s .top < POSITIONS → pieceAt (set (r .stack) (s .top) a) (s .top) ≡ a
   pair-piece a n l = getD-set-same (r .stack) (s .top) a nonePiece (omega (arith, P .upon .len, Q .upon .len))
 
   pair-common : (a : Piece) → Common e (λ (v : ℕ). has g v || has h v) (count g + count h) (total g + total h) s (stacked r (s .top) a)
@@ -106,10 +109,10 @@ module _ (e : ℕ) (g h : Group) (lo : ℕ) (apart : Apart (has g) (has h)) (num
       (λ u i. subst (λ (b : ℕ). Spells e (r .members) (r .lasts) (r .groups) (r .count) (InPart h u) u true (baseOf e + u) u (levels h b u)) (P .common .groups) (Q .chains u i))
 
 -- what joins two groups makes of their pieces
-seq-is : (g h : Group) (lo : ℕ) (a b : Piece) → a ≡ pieceOf g lo → b ≡ pieceOf h (lo + size g) → joinedPiece 97 a b ≡ pieceOf (seq g h) lo
+seq-is : (g h : Group) (lo : ℕ) (a b : Piece) → a ≡ pieceOf g lo → b ≡ pieceOf h (lo + size g) → joinedPiece SEQ-CODE a b ≡ pieceOf (seq g h) lo
 seq-is g h lo a b p q = let d : lo + size g + size h - 1 ≡ lo + (size g + size h) - 1 = omega arith in rw (p, q, d)
 
-alt-is : (g h : Group) (lo : ℕ) (a b : Piece) → a ≡ pieceOf g lo → b ≡ pieceOf h (lo + size g) → joinedPiece 98 a b ≡ pieceOf (alt g h) lo
+alt-is : (g h : Group) (lo : ℕ) (a b : Piece) → a ≡ pieceOf g lo → b ≡ pieceOf h (lo + size g) → joinedPiece ALT-CODE a b ≡ pieceOf (alt g h) lo
 alt-is g h lo a b p q = let d : lo + size g + size h - 1 ≡ lo + (size g + size h) - 1 = omega arith in rw (p, q, d)
 
 place-is : (n lo : ℕ) → n ≡ lo → placePiece n ≡ pieceOf (place n) lo
@@ -124,23 +127,23 @@ module _ (e : ℕ) (T : List ℕ) (m : Members) (g : Group) (lo : ℕ) where
   group = and (also m g)
 
   ran-closed :
-      NumberedM (also m g) lo → GoodM (also m g) → SizedM (also m g) × (2 ≤ amount (also m g)) × (amount (also m g) ≤ 32) → AndRows (rowsOf T) group → lo + size group ≤ 97
-      → (s t : State) → Ready e (has group) s → s .top + size group ≤ 97 → s .groups + count group ≤ 48 → s .count + total group ≤ 96
+      NumberedM (also m g) lo → GoodM (also m g) → SizedM (also m g) × (2 ≤ amount (also m g)) × (amount (also m g) ≤ GRPCNT) → AndRows (rowsOf T) group → lo + size group ≤ POSITIONS
+      → (s t : State) → Ready e (has group) s → s .top + size group ≤ POSITIONS → s .groups + count group ≤ AND-GROUPS → s .count + total group ≤ GRPGTCNT
       → RanAll e (also m g) lo s t
-      → (q : State) → q ≡ runOps (baseOf e) T ((128 + amount (also m g)) ∷ []) t
+      → (q : State) → q ≡ runOps (baseOf e) T ((AND-CODE + amount (also m g)) ∷ []) t
       → Ran e group lo s q
   ran-closed n d z rows high s t R top-to groups-to count-to P q is =
       let all = also m g in
       let C = P .common in
-      let few : t .groups < 48 = omega (arith, C .groups) in
-      let least : t .count + amount all ≤ 96 = omega (arith, C .count) in
-      let lasts-len : length (t .lasts) ≡ 49 = C .lasts-len ∙ R .lasts in
-      let room : baseOf e + 487 ≤ length (t .members) = omega (arith, C .len, R .room) in
+      let few : t .groups < AND-GROUPS = omega (arith, C .groups) in
+      let least : t .count + amount all ≤ GRPGTCNT = omega (arith, C .count) in
+      let lasts-len : length (t .lasts) ≡ LASTS = C .lasts-len ∙ R .lasts in
+      let room : baseOf e + REACHES ≤ length (t .members) = omega (arith, C .len, R .room) in
       let free : outerAt (t .members) e (suc (t .groups)) ≡ 0 = C .later (suc (t .groups)) (omega arith) ∙ R .outers (suc (t .groups)) (omega (arith, C .groups)) (omega arith) in
       let at = closedState e T m g lo (s .top) t n d (rows .0) (P .pieces) (P .upon .top) high few least (z .2) lasts-len room free in
       let ends : q ≡ at =
       is
-      ∙ run-one (baseOf e) T (128 + amount all) t
+      ∙ run-one (baseOf e) T (AND-CODE + amount all) t
       ∙ step-close (baseOf e) T t (amount all) (z .1) (omega (arith, P .upon .top)) few (omega arith)
       ∙ close-is e T m g lo (s .top) t n d (rows .0) (P .pieces) (P .upon .top) high few least (z .2) lasts-len room free in
       let close = closes e T m g lo (s .top) t n d (rows .0) (P .pieces) (P .upon .top) high few least (z .2) lasts-len room free in
@@ -167,10 +170,10 @@ module _ (e : ℕ) (T : List ℕ) (m : Members) (g : Group) (lo : ℕ) where
 
 ran-and :
     (e : ℕ) (T : List ℕ) (m : Members) (lo : ℕ)
-    → NumberedM m lo → GoodM m → SizedM m × (2 ≤ amount m) × (amount m ≤ 32) → AndRows (rowsOf T) (and m) → lo + sizeM m ≤ 97
-    → (s t : State) → Ready e (hasM m) s → s .top + sizeM m ≤ 97 → s .groups + count (and m) ≤ 48 → s .count + total (and m) ≤ 96
+    → NumberedM m lo → GoodM m → SizedM m × (2 ≤ amount m) × (amount m ≤ GRPCNT) → AndRows (rowsOf T) (and m) → lo + sizeM m ≤ POSITIONS
+    → (s t : State) → Ready e (hasM m) s → s .top + sizeM m ≤ POSITIONS → s .groups + count (and m) ≤ AND-GROUPS → s .count + total (and m) ≤ GRPGTCNT
     → RanAll e m lo s t
-    → (q : State) → q ≡ runOps (baseOf e) T ((128 + amount m) ∷ []) t
+    → (q : State) → q ≡ runOps (baseOf e) T ((AND-CODE + amount m) ∷ []) t
     → Ran e (and m) lo s q
 ran-and e T (one g) lo n d (y, l, h) rows high s t R top-to groups-to count-to P q is = absurd (omega arith)
 ran-and e T (also m g) lo n d z rows high s t R top-to groups-to count-to P q is = ran-closed e T m g lo n d z rows high s t R top-to groups-to count-to P q is
@@ -187,14 +190,14 @@ module _ (e : ℕ) (T : List ℕ) where
   first-ready : (g h : Group) (s : State) → Ready e (λ (v : ℕ). has g v || has h v) s → Ready e (has g) s
   first-ready g h s R = ready-part e (λ (v : ℕ). has g v || has h v) (has g) s R (λ u i. or-left _ i)
 
-  second-ready : (g h : Group) (lo : ℕ) → Apart (has g) (has h) → Numbered h lo → lo + size h ≤ 97 → (k : ℕ) (s t : State) → Ready e (λ (v : ℕ). has g v || has h v) s → Ran e g k s t → Ready e (has h) t
+  second-ready : (g h : Group) (lo : ℕ) → Apart (has g) (has h) → Numbered h lo → lo + size h ≤ POSITIONS → (k : ℕ) (s t : State) → Ready e (λ (v : ℕ). has g v || has h v) s → Ran e g k s t → Ready e (has h) t
   second-ready g h lo a n high k s t R P =
       ready-after e (λ (v : ℕ). has g v || has h v) (has g) (has h) (count g) (total g) 1 s t R (P .upon) (P .common) (λ u i. (or-right (has g u) i, not-left a i, omega (arith, has-range h lo n u i)))
 
   mutual
     pub runs :
-        (g : Group) (lo : ℕ) → Numbered g lo → Good g → Sized g → AndRows (rowsOf T) g → lo + size g ≤ 97
-        → (s : State) → Ready e (has g) s → s .top + size g ≤ 97 → s .groups + count g ≤ 48 → s .count + total g ≤ 96
+        (g : Group) (lo : ℕ) → Numbered g lo → Good g → Sized g → AndRows (rowsOf T) g → lo + size g ≤ POSITIONS
+        → (s : State) → Ready e (has g) s → s .top + size g ≤ POSITIONS → s .groups + count g ≤ AND-GROUPS → s .count + total g ≤ GRPGTCNT
         → Ran e g lo s (run (codes g) s)
     runs (place n) lo d k z rows high s R top-to groups-to count-to =
         let is = run-one (baseOf e) T n s ∙ step-place (baseOf e) T s n (omega arith) (omega arith) in
@@ -211,7 +214,7 @@ module _ (e : ℕ) (T : List ℕ) where
         let q = run (codes h) t in
         let Q = runs h (lo + size g) o k z r (omega arith) t (second-ready g h (lo + size g) a o (omega arith) lo s t R P) (omega (arith, P .upon .top, size-one g)) (omega (arith, P .common .groups)) (omega (arith, P .common .count)) in
         let b : Piece = pieceOf (seq g h) lo in
-        let is = run-two (codes g) (codes h) 97 s ∙ run-one (baseOf e) T 97 q ∙ step-seq (baseOf e) T q (omega (arith, P .upon .top, Q .upon .top)) ∙ stacked-is q (q .top - 2) (s .top) _ b (omega (arith, P .upon .top, Q .upon .top)) (seq-is g h lo _ _ (pair-first e g h lo a n (omega arith) s t q P Q) (pair-second e g h lo a n (omega arith) s t q P Q)) in
+        let is = run-two (codes g) (codes h) SEQ-CODE s ∙ run-one (baseOf e) T SEQ-CODE q ∙ step-seq (baseOf e) T q (omega (arith, P .upon .top, Q .upon .top)) ∙ stacked-is q (q .top - 2) (s .top) _ b (omega (arith, P .upon .top, Q .upon .top)) (seq-is g h lo _ _ (pair-first e g h lo a n (omega arith) s t q P Q) (pair-second e g h lo a n (omega arith) s t q P Q)) in
         subst (λ (x : State). Ran e (seq g h) lo s x) (sym is)
         (record {
           upon = pair-upon e g h lo a n (omega arith) s t q P Q b;
@@ -228,7 +231,7 @@ module _ (e : ℕ) (T : List ℕ) where
         let q = run (codes h) t in
         let Q = runs h (lo + size g) o k z r (omega arith) t (second-ready g h (lo + size g) a o (omega arith) lo s t R P) (omega (arith, P .upon .top, size-one g)) (omega (arith, P .common .groups)) (omega (arith, P .common .count)) in
         let b : Piece = pieceOf (alt g h) lo in
-        let is = run-two (codes g) (codes h) 98 s ∙ run-one (baseOf e) T 98 q ∙ step-alt (baseOf e) T q (omega (arith, P .upon .top, Q .upon .top)) ∙ stacked-is q (q .top - 2) (s .top) _ b (omega (arith, P .upon .top, Q .upon .top)) (alt-is g h lo _ _ (pair-first e g h lo a n (omega arith) s t q P Q) (pair-second e g h lo a n (omega arith) s t q P Q)) in
+        let is = run-two (codes g) (codes h) ALT-CODE s ∙ run-one (baseOf e) T ALT-CODE q ∙ step-alt (baseOf e) T q (omega (arith, P .upon .top, Q .upon .top)) ∙ stacked-is q (q .top - 2) (s .top) _ b (omega (arith, P .upon .top, Q .upon .top)) (alt-is g h lo _ _ (pair-first e g h lo a n (omega arith) s t q P Q) (pair-second e g h lo a n (omega arith) s t q P Q)) in
         subst (λ (x : State). Ran e (alt g h) lo s x) (sym is)
         (record {
           upon = pair-upon e g h lo a n (omega arith) s t q P Q b;
@@ -244,7 +247,7 @@ module _ (e : ℕ) (T : List ℕ) where
         let P = runs g lo n d z f high s R top-to groups-to count-to in
         let b : Piece = pieceOf (opt g) lo in
         let at : t .top - 1 ≡ s .top = omega (arith, P .upon .top) in
-        let is = run-append (baseOf e) T (codes g) (99 ∷ []) s ∙ run-one (baseOf e) T 99 t ∙ step-opt (baseOf e) T t (omega (arith, P .upon .top)) ∙ stacked-is t (t .top - 1) (s .top) _ b at (ap optPiece (ap (pieceAt (t .stack)) at ∙ P .piece)) in
+        let is = run-append (baseOf e) T (codes g) (OPT-CODE ∷ []) s ∙ run-one (baseOf e) T OPT-CODE t ∙ step-opt (baseOf e) T t (omega (arith, P .upon .top)) ∙ stacked-is t (t .top - 1) (s .top) _ b at (ap optPiece (ap (pieceAt (t .stack)) at ∙ P .piece)) in
         subst (λ (x : State). Ran e (opt g) lo s x) (sym is)
         (record {
           upon = upon-one 1 s t (P .upon) (s .top) b refl;
@@ -256,7 +259,7 @@ module _ (e : ℕ) (T : List ℕ) where
         let t = run (codes g) s in
         let none = plain-count g p in
         let P = runs g lo n d z f high s R top-to (omega (arith, none)) count-to in
-        let is = run-append (baseOf e) T (codes g) (100 ∷ []) s ∙ run-one (baseOf e) T 100 t ∙ step-plus (baseOf e) T t in
+        let is = run-append (baseOf e) T (codes g) (PLUS-CODE ∷ []) s ∙ run-one (baseOf e) T PLUS-CODE t ∙ step-plus (baseOf e) T t in
         subst (λ (x : State). Ran e (plus g) lo s x) (sym is)
         (record {
           upon = P .upon;
@@ -268,11 +271,11 @@ module _ (e : ℕ) (T : List ℕ) where
         let t = run (codesM m) s in
         let P = runsM m lo n d (z .0) (f .1) high s R top-to (omega arith) (omega arith) in
         ran-and e T m lo n d z f high s t R top-to groups-to count-to P (run (codes (and m)) s)
-        (ap (λ (os : List ℕ). run os s) (codes-and m) ∙ run-append (baseOf e) T (codesM m) ((128 + amount m) ∷ []) s)
+        (ap (λ (os : List ℕ). run os s) (codes-and m) ∙ run-append (baseOf e) T (codesM m) ((AND-CODE + amount m) ∷ []) s)
 
     runsM :
-        (m : Members) (lo : ℕ) → NumberedM m lo → GoodM m → SizedM m → AndRowsM (rowsOf T) m → lo + sizeM m ≤ 97
-        → (s : State) → Ready e (hasM m) s → s .top + sizeM m ≤ 97 → s .groups + countM m ≤ 48 → s .count + totalM m ≤ 96
+        (m : Members) (lo : ℕ) → NumberedM m lo → GoodM m → SizedM m → AndRowsM (rowsOf T) m → lo + sizeM m ≤ POSITIONS
+        → (s : State) → Ready e (hasM m) s → s .top + sizeM m ≤ POSITIONS → s .groups + countM m ≤ AND-GROUPS → s .count + totalM m ≤ GRPGTCNT
         → RanAll e m lo s (run (codesM m) s)
     runsM (one g) lo n d z f high s R top-to groups-to count-to =
         let t = run (codes g) s in
@@ -291,7 +294,7 @@ module _ (e : ℕ) (T : List ℕ) where
         let Q = runs g (lo + sizeM m) o k z r (omega arith) t
         (ready-after e (hasM (also m g)) (hasM m) (has g) (countM m) (totalM m) (amount m) s t R (P .upon) (P .common) (λ u i. (or-right (hasM m u) i, not-left a i, omega (arith, has-range g (lo + sizeM m) o u i))))
         (omega (arith, P .upon .top, amount-size m)) (omega (arith, P .common .groups)) (omega (arith, P .common .count)) in
-        let is = run-two (codesM m) (codes g) 101 s ∙ run-one (baseOf e) T 101 q ∙ step-also (baseOf e) T q in
+        let is = run-two (codesM m) (codes g) ALSO-CODE s ∙ run-one (baseOf e) T ALSO-CODE q ∙ step-also (baseOf e) T q in
         subst (λ (x : State). RanAll e (also m g) lo s x) (sym is)
         (record {
           upon = upon-both (amount m) 1 s t q (P .upon) (Q .upon);

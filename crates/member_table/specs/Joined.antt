@@ -9,7 +9,8 @@ use lib.Dec.{eqb}
 use lib.ListN.{length, getD}
 use borrow.Author.Tests.{eq-eqb, ne-eqb}
 use Rattle.rules.specs.Walk.{Group, place, seq, alt, opt, plus, and, Members, one, also}
-use Rattle.layout.specs.Sizes.{POSITIONS, MODEL-ROW}
+use Rattle.rules.specs.Bytes.{GRPGTCNT}
+use Rattle.layout.specs.Sizes.{POSITIONS, MODEL-ROW, AND-GROUPS, ENDING, REACHES}
 use Rattle.model_sets.specs.Bits.{or-left, or-right, bool-cases, not-both}
 use Rattle.model_sets.specs.Sets.{has, hasM, size, sizeM, Numbered, NumberedM, nullable, last, lastM, must}
 use Rattle.and_laws.specs.Base.{Apart}
@@ -121,7 +122,7 @@ number-new own needed a b g n l (inr (i, j)) = bool-cases (nullable g) (λ e. rw
 number-from : (own needed a b : ℕ) (g : Group) → own ≤ numberFor own needed a b g
 number-from own needed a b g = bool-cases (nullable g) (λ e. rw e (omega arith)) (λ e. rw e (omega arith))
 
-number-to : (own needed a b : ℕ) (g : Group) → a + cond (nullable g) 0 1 ≤ needed → own + needed + (b + cond (nullable g) 1 0) ≤ 97 → numberFor own needed a b g ≤ 96
+number-to : (own needed a b : ℕ) (g : Group) → a + cond (nullable g) 0 1 ≤ needed → own + needed + (b + cond (nullable g) 1 0) ≤ POSITIONS → numberFor own needed a b g ≤ GRPGTCNT
 number-to own needed a b g l r = bool-cases (nullable g) (λ e. rw e (omega (arith, (rw e at r)))) (λ e. rw e (omega (arith, (rw e at l), (rw e at r))))
 
 -- A table in which the members have been put
@@ -132,16 +133,16 @@ rowsOf T u w = eqb (getD T (u * MODEL-ROW + w) 0) 1
 
 pub record Joined (base : ℕ) (lasts : List ℕ) (groups own needed : ℕ) (m : Members) (M S : List ℕ) : Type 0 where
   pub len : length S ≡ length M
-  pub put : (s v : ℕ) → Slot base lasts groups s v → hasM m v ≡ true → getD M s 0 ≡ 0 → getD S s 0 ≡ numberIn own needed m v + cond (lastM m v) 128 0
+  pub put : (s v : ℕ) → Slot base lasts groups s v → hasM m v ≡ true → getD M s 0 ≡ 0 → getD S s 0 ≡ numberIn own needed m v + cond (lastM m v) ENDING 0
   pub other : (s v : ℕ) → Slot base lasts groups s v → hasM m v ≡ false → getD S s 0 ≡ getD M s 0
   pub kept : Kept base lasts groups M S
   pub each : Each (λ (n : ℕ) (g : Group). (getD S (base + POSITIONS + n) 0 ≡ groups + 1) × (getD S (base + 2 * POSITIONS + n) 0 ≡ must g)) own needed m
   pub rest :
       (k : ℕ)
-      → ((u : ℕ) → u ≤ 96 → k ≡ base + u → ⊥)
+      → ((u : ℕ) → u ≤ GRPGTCNT → k ≡ base + u → ⊥)
       → ((n : ℕ) → 1 ≤ n → n ≤ groups → k ≡ recordFrom base n + 3 → ⊥)
-      → ((n : ℕ) → own ≤ n → n ≤ 96 → k ≡ base + POSITIONS + n → ⊥)
-      → ((n : ℕ) → own ≤ n → n ≤ 96 → k ≡ base + 2 * POSITIONS + n → ⊥)
+      → ((n : ℕ) → own ≤ n → n ≤ GRPGTCNT → k ≡ base + POSITIONS + n → ⊥)
+      → ((n : ℕ) → own ≤ n → n ≤ GRPGTCNT → k ≡ base + 2 * POSITIONS + n → ⊥)
       → getD S k 0 ≡ getD M k 0
 
 module _ (base : ℕ) (T lasts : List ℕ) (groups own needed : ℕ) where
@@ -150,7 +151,7 @@ module _ (base : ℕ) (T lasts : List ℕ) (groups own needed : ℕ) where
       (g : Group) (lo w : ℕ)
       → Numbered g lo
       → Marks (rowsOf T) w g
-      → numberFor own needed 0 0 g ≤ 96
+      → numberFor own needed 0 0 g ≤ GRPGTCNT
       → (M S : List ℕ)
       → Put base T lasts groups w (numberFor own needed 0 0 g) lo (lo + size g) (must g) M S
       → Joined base lasts groups own needed (one g) M S
@@ -159,7 +160,7 @@ module _ (base : ℕ) (T lasts : List ℕ) (groups own needed : ℕ) where
         len = p .len;
         put = λ s v is i z.
             let r = has-range g lo n v i in
-            p .taken s v is (r .0) (r .1) z ∙ ap (λ (b : Bool). numberFor own needed 0 0 g + cond b 128 0) (marks v i);
+            p .taken s v is (r .0) (r .1) z ∙ ap (λ (b : Bool). numberFor own needed 0 0 g + cond b ENDING 0) (marks v i);
         other = λ s v is i. p .other s v is (λ a b. not-both i (range-has g lo n v a b));
         kept = p .kept;
         each = (p .group, p .due);
@@ -173,7 +174,7 @@ module _ (base : ℕ) (T lasts : List ℕ) (groups own needed : ℕ) where
       → Apart (hasM m) (has g)
       → Marks (rowsOf T) w g
       → needs m + cond (nullable g) 0 1 ≤ needed
-      → own + needed + (spares m + cond (nullable g) 1 0) ≤ 97
+      → own + needed + (spares m + cond (nullable g) 1 0) ≤ POSITIONS
       → (M R S : List ℕ)
       → Joined base lasts groups own needed m M R
       → Put base T lasts groups w (numberFor own needed (needs m) (spares m) g) lo (lo + size g) (must g) R S
@@ -188,7 +189,7 @@ module _ (base : ℕ) (T lasts : List ℕ) (groups own needed : ℕ) where
             (λ y.
             let r = has-range g lo n v y in
             rw (y, without (lastM-has m v) (not-left a y))
-            (p .taken s v is (r .0) (r .1) (j .other s v is (not-left a y) ∙ z) ∙ ap (λ (b : Bool). numberFor own needed (needs m) (spares m) g + cond b 128 0) (marks v y)))
+            (p .taken s v is (r .0) (r .1) (j .other s v is (not-left a y) ∙ z) ∙ ap (λ (b : Bool). numberFor own needed (needs m) (spares m) g + cond b ENDING 0) (marks v y)))
             (λ y.
             let x = or-only (hasM m v) (has g v) y i in
             rw (y, without (last-has g v) y, or-no (lastM m v))
@@ -209,26 +210,26 @@ module _ (base : ℕ) (T lasts : List ℕ) (groups own needed : ℕ) where
       range-low (inl (x, y)) = x
       range-low (inr (x, y)) = omega arith
 
-      range-high : {k : ℕ} → InRange own needed (needs m) (spares m) k → k ≤ 96
+      range-high : {k : ℕ} → InRange own needed (needs m) (spares m) k → k ≤ GRPGTCNT
       range-high (inl (x, y)) = omega arith
       range-high (inr (x, y)) = omega arith
 
-      away : (k : ℕ) → own ≤ k → k ≤ 96 → (k ≡ numberFor own needed (needs m) (spares m) g → ⊥) → (getD S (base + POSITIONS + k) 0 ≡ getD R (base + POSITIONS + k) 0) × (getD S (base + 2 * POSITIONS + k) 0 ≡ getD R (base + 2 * POSITIONS + k) 0)
+      away : (k : ℕ) → own ≤ k → k ≤ GRPGTCNT → (k ≡ numberFor own needed (needs m) (spares m) g → ⊥) → (getD S (base + POSITIONS + k) 0 ≡ getD R (base + POSITIONS + k) 0) × (getD S (base + 2 * POSITIONS + k) 0 ≡ getD R (base + 2 * POSITIONS + k) 0)
       away k low high ne =
           let to = number-to own needed (needs m) (spares m) g l room in (
             p .rest (base + POSITIONS + k) (λ u x y. omega arith) (λ q x y z. omega arith) (λ x. ne (omega arith)) (λ x. omega arith),
             p .rest (base + 2 * POSITIONS + k) (λ u x y. omega arith) (λ q x y z. omega arith) (λ x. omega arith) (λ x. ne (omega arith)),
           )
 
-  module _ (stack : List Piece) (first : ℕ) (few : groups ≤ 48) where
+  module _ (stack : List Piece) (first : ℕ) (few : groups ≤ AND-GROUPS) where
     one-put :
-        (S : List ℕ) → base + 487 ≤ length S
+        (S : List ℕ) → base + REACHES ≤ length S
         → (j w h : ℕ) (g : Group) (lo : ℕ)
         → pieceAt stack (first + j) ≡ pieceOf g lo
         → otherAt stack first j ≡ w
         → numberAt stack first own needed j ≡ h
-        → h ≤ 96
-        → lo + size g ≤ 97
+        → h ≤ GRPGTCNT
+        → lo + size g ≤ POSITIONS
         → Put base T lasts groups w h lo (lo + size g) (must g) S (putOne S base T lasts groups own stack first needed j)
     unfolding putOne
     one-put S room j w h g lo is other number to high =
@@ -239,13 +240,13 @@ module _ (base : ℕ) (T lasts : List ℕ) (groups own needed : ℕ) where
         (m : Members) (lo : ℕ)
         → NumberedM m lo
         → GoodM m
-        → lo + sizeM m ≤ 97
+        → lo + sizeM m ≤ POSITIONS
         → Pieces stack first m lo
         → EachMarks (rowsOf T) (pieceAt stack first .lo) (pieceAt stack (first + 1) .lo) m
         → needs m ≤ needed
-        → own + needed + spares m ≤ 97
+        → own + needed + spares m ≤ POSITIONS
         → (M : List ℕ)
-        → base + 487 ≤ length M
+        → base + REACHES ≤ length M
         → Joined base lasts groups own needed m M (putOnes M base T lasts groups own stack first needed 0 (amount m))
     joins (one g) lo n d high p marks l r M room =
         let to = number-to own needed 0 0 g (omega arith) (omega arith) in

@@ -8,7 +8,9 @@ use native.Mathlib.Omega.{arith}
 use lib.ListN.{length, getD, length-set}
 use lib.Seq.{getD-set-other}
 use borrow.Author.Tests.{lt-ltb, le-leb, le-ltb, ne-eqb}
-use Rattle.layout.specs.Sizes.{MEMBER, MODEL-ROWS, CODE}
+use Rattle.rules.specs.Bytes.{GRPGTCNT}
+use Rattle.model_code.specs.Codes.{ALSO-CODE, ALT-CODE, AND-CODE, OPT-CODE, PLUS-CODE, SEQ-CODE}
+use Rattle.layout.specs.Sizes.{MEMBER, MODEL-ROWS, CODE, AND-GROUPS, LASTS, POSITIONS, REACHES}
 use Rattle.model_sets.specs.Bits.{bool-cases}
 use Rattle.and_laws.specs.Base.{Apart}
 use Rattle.and_laws.specs.Decide.{or-only}
@@ -48,28 +50,28 @@ module _ (base : ℕ) (T : List ℕ) where
 
   -- One number
 
-  pub step-place : (s : State) (p : ℕ) → p < 97 → s .top < 97 → stepFill base T s p ≡ stacked s (s .top) (placePiece p)
-  step-place s p small room = rw (lt-ltb p 97 small, lt-ltb (s .top) 97 room)
+  pub step-place : (s : State) (p : ℕ) → p < POSITIONS → s .top < POSITIONS → stepFill base T s p ≡ stacked s (s .top) (placePiece p)
+  step-place s p small room = rw (lt-ltb p POSITIONS small, lt-ltb (s .top) POSITIONS room)
 
-  pub step-opt : (s : State) → 1 ≤ s .top → stepFill base T s 99 ≡ stacked s (s .top - 1) (optPiece (pieceAt (s .stack) (s .top - 1)))
+  pub step-opt : (s : State) → 1 ≤ s .top → stepFill base T s OPT-CODE ≡ stacked s (s .top - 1) (optPiece (pieceAt (s .stack) (s .top - 1)))
   step-opt s l = rw (le-leb 1 (s .top) l)
 
-  pub step-seq : (s : State) → 2 ≤ s .top → stepFill base T s 97 ≡ stacked s (s .top - 2) (joinedPiece 97 (pieceAt (s .stack) (s .top - 2)) (pieceAt (s .stack) (s .top - 1)))
+  pub step-seq : (s : State) → 2 ≤ s .top → stepFill base T s SEQ-CODE ≡ stacked s (s .top - 2) (joinedPiece SEQ-CODE (pieceAt (s .stack) (s .top - 2)) (pieceAt (s .stack) (s .top - 1)))
   step-seq s l = rw (le-leb 2 (s .top) l)
 
-  pub step-alt : (s : State) → 2 ≤ s .top → stepFill base T s 98 ≡ stacked s (s .top - 2) (joinedPiece 98 (pieceAt (s .stack) (s .top - 2)) (pieceAt (s .stack) (s .top - 1)))
+  pub step-alt : (s : State) → 2 ≤ s .top → stepFill base T s ALT-CODE ≡ stacked s (s .top - 2) (joinedPiece ALT-CODE (pieceAt (s .stack) (s .top - 2)) (pieceAt (s .stack) (s .top - 1)))
   step-alt s l = rw (le-leb 2 (s .top) l)
 
-  pub step-plus : (s : State) → stepFill base T s 100 ≡ s
+  pub step-plus : (s : State) → stepFill base T s PLUS-CODE ≡ s
   step-plus s = refl
 
-  pub step-also : (s : State) → stepFill base T s 101 ≡ s
+  pub step-also : (s : State) → stepFill base T s ALSO-CODE ≡ s
   step-also s = refl
 
-  pub step-close : (s : State) (k : ℕ) → 2 ≤ k → k ≤ s .top → s .groups < 48 → s .count + k < 97 → stepFill base T s (128 + k) ≡ closeGroup base T k s
+  pub step-close : (s : State) (k : ℕ) → 2 ≤ k → k ≤ s .top → s .groups < AND-GROUPS → s .count + k < POSITIONS → stepFill base T s (AND-CODE + k) ≡ closeGroup base T k s
   step-close s k a b c d =
-      let e : 128 + k - 128 ≡ k = omega arith in
-      rw (le-ltb (128 + k) 97 (omega arith), ne-eqb (128 + k) 99 (λ x. omega arith), le-ltb (128 + k) 100 (omega arith), lt-ltb 128 (128 + k) (omega arith), e, le-leb 2 k a, le-leb k (s .top) b, lt-ltb (s .groups) 48 c, lt-ltb (s .count + k) 97 d)
+      let e : AND-CODE + k - AND-CODE ≡ k = omega arith in
+      rw (le-ltb (AND-CODE + k) SEQ-CODE (omega arith), ne-eqb (AND-CODE + k) OPT-CODE (λ x. omega arith), le-ltb (AND-CODE + k) PLUS-CODE (omega arith), lt-ltb AND-CODE (AND-CODE + k) (omega arith), e, le-leb 2 k a, le-leb k (s .top) b, lt-ltb (s .groups) AND-GROUPS c, lt-ltb (s .count + k) POSITIONS d)
 
 -- What is kept
 
@@ -110,11 +112,11 @@ pub record Common (e : ℕ) (D : ℕ → Bool) (cnt tot : ℕ) (s t : State) : T
 
 -- What a group asks for: no place of D has a member, no later group has one.
 pub record Ready (e : ℕ) (D : ℕ → Bool) (s : State) : Type 0 where
-  pub stack : length (s .stack) ≡ 97
-  pub lasts : length (s .lasts) ≡ 49
-  pub room : baseOf e + 487 ≤ length (s .members)
+  pub stack : length (s .stack) ≡ POSITIONS
+  pub lasts : length (s .lasts) ≡ LASTS
+  pub room : baseOf e + REACHES ≤ length (s .members)
   pub places : (u : ℕ) → D u ≡ true → getD (s .members) (baseOf e + u) 0 ≡ 0
-  pub outers : (n : ℕ) → s .groups < n → n ≤ 48 → outerAt (s .members) e n ≡ 0
+  pub outers : (n : ℕ) → s .groups < n → n ≤ AND-GROUPS → outerAt (s .members) e n ≡ 0
 
 slot-on : (e : ℕ) (D : ℕ → Bool) (cnt tot : ℕ) (s t : State) → Common e D cnt tot s t → (p v : ℕ) → Slot (baseOf e) (s .lasts) (s .groups) p v → Slot (baseOf e) (t .lasts) (t .groups) p v
 slot-on e D cnt tot s t c p v (inl x) = inl x
@@ -195,7 +197,7 @@ module _ (e : ℕ) (D₁ D₂ D : ℕ → Bool) (n₁ m₁ n₂ m₂ : ℕ) (s t
 
 -- What is left free is free for what comes after.
 pub ready-after : (e : ℕ) (D D₁ D₂ : ℕ → Bool) (cnt tot k : ℕ) (s t : State) → Ready e D s → Upon k s t → Common e D₁ cnt tot s t
-    → ((u : ℕ) → D₂ u ≡ true → (D u ≡ true) × (D₁ u ≡ false) × (u ≤ 96)) → Ready e D₂ t
+    → ((u : ℕ) → D₂ u ≡ true → (D u ≡ true) × (D₁ u ≡ false) × (u ≤ GRPGTCNT)) → Ready e D₂ t
 ready-after e D D₁ D₂ cnt tot k s t R p c f =
     record {
       stack = p .len ∙ R .stack;
@@ -211,7 +213,7 @@ ready-part e D D₁ s R f = record { stack = R .stack; lasts = R .lasts; room = 
 -- The chains of the places of two parts, one after the other.
 pub chains-both :
     (e : ℕ) (D₁ D₂ : ℕ → Bool) → Apart D₁ D₂
-    → ((u : ℕ) → D₁ u ≡ true → u ≤ 96)
+    → ((u : ℕ) → D₁ u ≡ true → u ≤ GRPGTCNT)
     → (cnt tot : ℕ) (t r : State) → Common e D₂ cnt tot t r
     → (A₁ A₂ A : ℕ → Bool → ℕ → Type 0)
     → ((u : ℕ) (ends : Bool) (v : ℕ) → A₁ u ends v → D₁ v ≡ true)

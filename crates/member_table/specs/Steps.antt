@@ -7,8 +7,9 @@ use mathlib.Core.List.{List}
 use native.Mathlib.Omega.{arith}
 use lib.ListN.{length, getD, set}
 use borrow.Author.Tests.{eq-eqb, ne-eqb, lt-ltb, le-ltb, le-leb, lt-leb, ltb-true, leb-true}
+use Rattle.model_code.specs.Codes.{AND-CODE, OPT-CODE, PLUS-CODE, SEQ-CODE}
 use Rattle.model_sets.specs.Bits.{and-left, and-right}
-use Rattle.layout.specs.Sizes.{MODEL-ROWS, CODE}
+use Rattle.layout.specs.Sizes.{MODEL-ROWS, CODE, AND-GROUPS, POSITIONS}
 use Rattle.member_table.specs.declared.Piece.{Piece}
 use Rattle.member_table.specs.Filling.{State, pieceAt, placePiece, optPiece, joinedPiece, closedPiece, neededIn, putGroup, fits, closeGroup, stepFill, startFill, runFill}
 
@@ -18,9 +19,9 @@ stateOf M stack top lasts groups count = record { members = M; stack = stack; to
 -- The state when the first i numbers of the code of T have been run upon M₀.
 pub record Running (T : List ℕ) (base : ℕ) (M₀ : List ℕ) (i : ℕ) (M : List ℕ) (stack : List Piece) (top : ℕ) (lasts : List ℕ) (groups count : ℕ) : Type 0 where
   pub long : length M ≡ length M₀
-  pub low : top ≤ 97
-  pub few : groups ≤ 48
-  pub fewer : count < 97
+  pub low : top ≤ POSITIONS
+  pub few : groups ≤ AND-GROUPS
+  pub fewer : count < POSITIONS
   pub is : stateOf M stack top lasts groups count ≡ runFill M₀ base T i
 
 pub run-start : (T : List ℕ) (base : ℕ) (M : List ℕ) → startFill M ≡ runFill M base T 0
@@ -38,14 +39,14 @@ pub run-by :
 run-by a b c d e f r = rw (a, b, c, d, e, f) r
 
 -- A group that fits has two members or more on the stack, and there is room for the group and for them.
-pub fits-told : (k top groups count : ℕ) → fits k top groups count ≡ true → (2 ≤ k) × (k ≤ top) × (groups < 48) × (count + k < 97)
+pub fits-told : (k top groups count : ℕ) → fits k top groups count ≡ true → (2 ≤ k) × (k ≤ top) × (groups < AND-GROUPS) × (count + k < POSITIONS)
 fits-told k top groups count e =
-    let tail = and-right (leb 2 k) (leb k top && (ltb groups 48 && ltb (count + k) 97)) e in
-    let end = and-right (leb k top) (ltb groups 48 && ltb (count + k) 97) tail in (
-      leb-true 2 k (and-left (leb 2 k) (leb k top && (ltb groups 48 && ltb (count + k) 97)) e),
-      leb-true k top (and-left (leb k top) (ltb groups 48 && ltb (count + k) 97) tail),
-      ltb-true groups 48 (and-left (ltb groups 48) (ltb (count + k) 97) end),
-      ltb-true (count + k) 97 (and-right (ltb groups 48) (ltb (count + k) 97) end),
+    let tail = and-right (leb 2 k) (leb k top && (ltb groups AND-GROUPS && ltb (count + k) POSITIONS)) e in
+    let end = and-right (leb k top) (ltb groups AND-GROUPS && ltb (count + k) POSITIONS) tail in (
+      leb-true 2 k (and-left (leb 2 k) (leb k top && (ltb groups AND-GROUPS && ltb (count + k) POSITIONS)) e),
+      leb-true k top (and-left (leb k top) (ltb groups AND-GROUPS && ltb (count + k) POSITIONS) tail),
+      ltb-true groups AND-GROUPS (and-left (ltb groups AND-GROUPS) (ltb (count + k) POSITIONS) end),
+      ltb-true (count + k) POSITIONS (and-right (ltb groups AND-GROUPS) (ltb (count + k) POSITIONS) end),
     )
 
 -- One number more.
@@ -57,55 +58,55 @@ module _ (T : List ℕ) (base : ℕ) (M₀ : List ℕ) (i : ℕ) (M : List ℕ) 
   stays : stateOf M stack top lasts groups count ≡ stepFill base T (stateOf M stack top lasts groups count) op → Running T base M₀ (i + 1) M stack top lasts groups count
   stays e = record { long = so .long; low = so .low; few = so .few; fewer = so .fewer; is = stepped (stateOf M stack top lasts groups count) e }
 
-  stacks : (k : ℕ) (x : Piece) (up : ℕ) → up ≡ k + 1 → up ≤ 97 → stateOf M (set stack k x) (k + 1) lasts groups count ≡ stepFill base T (stateOf M stack top lasts groups count) op → Running T base M₀ (i + 1) M (set stack k x) up lasts groups count
+  stacks : (k : ℕ) (x : Piece) (up : ℕ) → up ≡ k + 1 → up ≤ POSITIONS → stateOf M (set stack k x) (k + 1) lasts groups count ≡ stepFill base T (stateOf M stack top lasts groups count) op → Running T base M₀ (i + 1) M (set stack k x) up lasts groups count
   stacks k x up u l e =
       record { long = so .long; low = l; few = so .few; fewer = so .fewer; is = ap (λ (n : ℕ). stateOf M (set stack k x) n lasts groups count) u ∙ stepped (stateOf M (set stack k x) (k + 1) lasts groups count) e }
 
-  pub runs-place : op < 97 → top < 97 → Running T base M₀ (i + 1) M (set stack top (placePiece op)) (top + 1) lasts groups count
-  runs-place small l = stacks top (placePiece op) (top + 1) refl (omega arith) (rw (lt-ltb op 97 small, lt-ltb top 97 l))
+  pub runs-place : op < SEQ-CODE → top < POSITIONS → Running T base M₀ (i + 1) M (set stack top (placePiece op)) (top + 1) lasts groups count
+  runs-place small l = stacks top (placePiece op) (top + 1) refl (omega arith) (rw (lt-ltb op SEQ-CODE small, lt-ltb top POSITIONS l))
 
-  pub runs-full : op < 97 → 97 ≤ top → Running T base M₀ (i + 1) M stack top lasts groups count
-  runs-full small l = stays (rw (lt-ltb op 97 small, le-ltb top 97 l))
+  pub runs-full : op < SEQ-CODE → POSITIONS ≤ top → Running T base M₀ (i + 1) M stack top lasts groups count
+  runs-full small l = stays (rw (lt-ltb op SEQ-CODE small, le-ltb top POSITIONS l))
 
-  pub runs-opt : op ≡ 99 → 1 ≤ top → Running T base M₀ (i + 1) M (set stack (top - 1) (optPiece (pieceAt stack (top - 1)))) top lasts groups count
-  runs-opt is l = stacks (top - 1) (optPiece (pieceAt stack (top - 1))) top (omega arith) (so .low) (rw (le-ltb op 97 (omega arith), eq-eqb op 99 is, le-leb 1 top l))
+  pub runs-opt : op ≡ OPT-CODE → 1 ≤ top → Running T base M₀ (i + 1) M (set stack (top - 1) (optPiece (pieceAt stack (top - 1)))) top lasts groups count
+  runs-opt is l = stacks (top - 1) (optPiece (pieceAt stack (top - 1))) top (omega arith) (so .low) (rw (le-ltb op SEQ-CODE (omega arith), eq-eqb op OPT-CODE is, le-leb 1 top l))
 
-  pub runs-opt-none : op ≡ 99 → top < 1 → Running T base M₀ (i + 1) M stack top lasts groups count
-  runs-opt-none is l = stays (rw (le-ltb op 97 (omega arith), eq-eqb op 99 is, lt-leb 1 top l))
+  pub runs-opt-none : op ≡ OPT-CODE → top < 1 → Running T base M₀ (i + 1) M stack top lasts groups count
+  runs-opt-none is l = stays (rw (le-ltb op SEQ-CODE (omega arith), eq-eqb op OPT-CODE is, lt-leb 1 top l))
 
-  pub runs-join : 97 ≤ op → (op ≡ 99 → ⊥) → op < 100 → 2 ≤ top → (x : Piece) → x ≡ joinedPiece op (pieceAt stack (top - 2)) (pieceAt stack (top - 1)) → Running T base M₀ (i + 1) M (set stack (top - 2) x) (top - 1) lasts groups count
+  pub runs-join : SEQ-CODE ≤ op → (op ≡ OPT-CODE → ⊥) → op < PLUS-CODE → 2 ≤ top → (x : Piece) → x ≡ joinedPiece op (pieceAt stack (top - 2)) (pieceAt stack (top - 1)) → Running T base M₀ (i + 1) M (set stack (top - 2) x) (top - 1) lasts groups count
   runs-join n₁ n₂ n₃ l x e =
       rw e
       (stacks (top - 2) (joinedPiece op (pieceAt stack (top - 2)) (pieceAt stack (top - 1))) (top - 1) (omega arith) (omega (arith, so .low))
-      (rw (le-ltb op 97 n₁, ne-eqb op 99 n₂, lt-ltb op 100 n₃, le-leb 2 top l)))
+      (rw (le-ltb op SEQ-CODE n₁, ne-eqb op OPT-CODE n₂, lt-ltb op PLUS-CODE n₃, le-leb 2 top l)))
 
-  pub runs-join-none : 97 ≤ op → (op ≡ 99 → ⊥) → op < 100 → top < 2 → Running T base M₀ (i + 1) M stack top lasts groups count
-  runs-join-none n₁ n₂ n₃ l = stays (rw (le-ltb op 97 n₁, ne-eqb op 99 n₂, lt-ltb op 100 n₃, lt-leb 2 top l))
+  pub runs-join-none : SEQ-CODE ≤ op → (op ≡ OPT-CODE → ⊥) → op < PLUS-CODE → top < 2 → Running T base M₀ (i + 1) M stack top lasts groups count
+  runs-join-none n₁ n₂ n₃ l = stays (rw (le-ltb op SEQ-CODE n₁, ne-eqb op OPT-CODE n₂, lt-ltb op PLUS-CODE n₃, lt-leb 2 top l))
 
-  pub runs-other : 100 ≤ op → op ≤ 128 → Running T base M₀ (i + 1) M stack top lasts groups count
-  runs-other n₃ n₄ = stays (rw (le-ltb op 97 (omega arith), ne-eqb op 99 (λ (e : op ≡ 99). omega arith), le-ltb op 100 n₃, le-ltb 128 op n₄))
+  pub runs-other : PLUS-CODE ≤ op → op ≤ AND-CODE → Running T base M₀ (i + 1) M stack top lasts groups count
+  runs-other n₃ n₄ = stays (rw (le-ltb op SEQ-CODE (omega arith), ne-eqb op OPT-CODE (λ (e : op ≡ OPT-CODE). omega arith), le-ltb op PLUS-CODE n₃, le-ltb AND-CODE op n₄))
 
-  pub runs-unfit : 128 < op → (wide : ℕ) → wide ≡ op → fits (wide - 128) top groups count ≡ false → Running T base M₀ (i + 1) M stack top lasts groups count
+  pub runs-unfit : AND-CODE < op → (wide : ℕ) → wide ≡ op → fits (wide - AND-CODE) top groups count ≡ false → Running T base M₀ (i + 1) M stack top lasts groups count
   runs-unfit n wide e f =
-      let g : fits (op - 128) top groups count ≡ false = rw e at f in
-      stays (rw (le-ltb op 97 (omega arith), ne-eqb op 99 (λ (d : op ≡ 99). omega arith), le-ltb op 100 (omega arith), lt-ltb 128 op n, g))
+      let g : fits (op - AND-CODE) top groups count ≡ false = rw e at f in
+      stays (rw (le-ltb op SEQ-CODE (omega arith), ne-eqb op OPT-CODE (λ (d : op ≡ OPT-CODE). omega arith), le-ltb op PLUS-CODE (omega arith), lt-ltb AND-CODE op n, g))
 
   -- A group ends: its members are on the stack, and there is room for them.
   pub runs-close :
-      128 < op → (wide : ℕ) → wide ≡ op → fits (wide - 128) top groups count ≡ true → (needed : ℕ) → needed ≡ neededIn stack (top - (wide - 128)) (wide - 128) →
-      (M₁ : List ℕ) → length M₁ ≡ length M → M₁ ≡ putGroup M base T lasts groups (count + 1) stack (top - (wide - 128)) needed (wide - 128) →
-      Running T base M₀ (i + 1) M₁ (set stack (top - (wide - 128)) (closedPiece needed (pieceAt stack (top - (wide - 128))) (pieceAt stack (top - 1)))) (top - (wide - 128) + 1)
-      (set lasts (groups + 1) (pieceAt stack (top - 1) .last)) (groups + 1) (count + (wide - 128))
+      AND-CODE < op → (wide : ℕ) → wide ≡ op → fits (wide - AND-CODE) top groups count ≡ true → (needed : ℕ) → needed ≡ neededIn stack (top - (wide - AND-CODE)) (wide - AND-CODE) →
+      (M₁ : List ℕ) → length M₁ ≡ length M → M₁ ≡ putGroup M base T lasts groups (count + 1) stack (top - (wide - AND-CODE)) needed (wide - AND-CODE) →
+      Running T base M₀ (i + 1) M₁ (set stack (top - (wide - AND-CODE)) (closedPiece needed (pieceAt stack (top - (wide - AND-CODE))) (pieceAt stack (top - 1)))) (top - (wide - AND-CODE) + 1)
+      (set lasts (groups + 1) (pieceAt stack (top - 1) .last)) (groups + 1) (count + (wide - AND-CODE))
   runs-close n wide e f needed is M₁ len puts =
-      let told = fits-told (wide - 128) top groups count f in
-      let g : fits (op - 128) top groups count ≡ true = rw e at f in
-      let closed : stateOf M₁ (set stack (top - (wide - 128)) (closedPiece needed (pieceAt stack (top - (wide - 128))) (pieceAt stack (top - 1)))) (top - (wide - 128) + 1) (set lasts (groups + 1) (pieceAt stack (top - 1) .last)) (groups + 1) (count + (wide - 128)) ≡ closeGroup base T (op - 128) (stateOf M stack top lasts groups count) = rw (puts, is, e) in
+      let told = fits-told (wide - AND-CODE) top groups count f in
+      let g : fits (op - AND-CODE) top groups count ≡ true = rw e at f in
+      let closed : stateOf M₁ (set stack (top - (wide - AND-CODE)) (closedPiece needed (pieceAt stack (top - (wide - AND-CODE))) (pieceAt stack (top - 1)))) (top - (wide - AND-CODE) + 1) (set lasts (groups + 1) (pieceAt stack (top - 1) .last)) (groups + 1) (count + (wide - AND-CODE)) ≡ closeGroup base T (op - AND-CODE) (stateOf M stack top lasts groups count) = rw (puts, is, e) in
       record {
         long = len ∙ so .long;
         low = omega (arith, told .0, so .low);
         few = omega (arith, told .2);
         fewer = omega (arith, told .3);
-        is = closed ∙ stepped (closeGroup base T (op - 128) (stateOf M stack top lasts groups count)) (rw (le-ltb op 97 (omega arith), ne-eqb op 99 (λ (d : op ≡ 99). omega arith), le-ltb op 100 (omega arith), lt-ltb 128 op n, g));
+        is = closed ∙ stepped (closeGroup base T (op - AND-CODE) (stateOf M stack top lasts groups count)) (rw (le-ltb op SEQ-CODE (omega arith), ne-eqb op OPT-CODE (λ (d : op ≡ OPT-CODE). omega arith), le-ltb op PLUS-CODE (omega arith), lt-ltb AND-CODE op n, g));
       }
 
 run-stays : (T : List ℕ) (base : ℕ) (M : List ℕ) (i d n : ℕ) → CODE ≤ i → n ≡ d + i → runFill M base T i ≡ runFill M base T n

@@ -8,7 +8,8 @@ use native.Mathlib.Omega.{arith}
 use lib.Dec.{eqb}
 use lib.ListN.{length, getD, length-replicate}
 use Rattle.rules.specs.Walk.{Group, place, seq, alt, opt, plus, and, Members, one, also}
-use Rattle.layout.specs.Sizes.{POSITIONS, MODEL-ROW, CODE, MEMBER, MEMBERS, CONTENTS}
+use Rattle.rules.specs.Bytes.{GRPGTCNT}
+use Rattle.layout.specs.Sizes.{POSITIONS, MODEL-ROW, CODE, MEMBER, MEMBERS, CONTENTS, AND-GROUPS, LASTS}
 use Rattle.model_sets.specs.Bits.{not-true}
 use Rattle.model_sets.specs.Sets.{has, size, Numbered, follow, nextIn}
 use Rattle.and_laws.specs.Numbers.{Guarded, numbered-good, has-range}
@@ -44,9 +45,9 @@ is-bit false = refl
 
 -- The rows of the table are those of the model.
 abbrev pub HasRows : List ℕ → Group → Type 0
-HasRows T g = (u w : ℕ) → u ≤ size g → 1 ≤ w → w ≤ 96 → getD T (u * MODEL-ROW + w) 0 ≡ cond (nextIn g u w) 1 0
+HasRows T g = (u w : ℕ) → u ≤ size g → 1 ≤ w → w ≤ GRPGTCNT → getD T (u * MODEL-ROW + w) 0 ≡ cond (nextIn g u w) 1 0
 
-rows-of : (T : List ℕ) (g : Group) → Numbered g 1 → size g ≤ 96 → HasRows T g → Rows (rowsOf T) g
+rows-of : (T : List ℕ) (g : Group) → Numbered g 1 → size g ≤ GRPGTCNT → HasRows T g → Rows (rowsOf T) g
 rows-of T g n few f zero w i j = let r = has-range g 1 n 0 i in absurd (omega (arith, r .0))
 rows-of T g n few f (suc u) w i j =
     let a = has-range g 1 n (suc u) i in
@@ -65,12 +66,12 @@ module _
     (M T : List ℕ) (e n : ℕ) (g : Group) (long : length M ≡ MEMBERS) (within : e < CONTENTS)
     (free : (k : ℕ) → k < MEMBER → getD M (e * MEMBER + k) 0 ≡ 0)
     (code : n ≤ CODE) (spelled : codeIn T n ≡ codes g) (rows : HasRows T g)
-    (numbered : Numbered g 1) (guarded : Guarded g) (sized : Sized g) (few : size g ≤ 96) (members : total g ≤ 96) where
+    (numbered : Numbered g 1) (guarded : Guarded g) (sized : Sized g) (few : size g ≤ GRPGTCNT) (members : total g ≤ GRPGTCNT) where
   ready : Ready e (has g) (startFill M)
   ready =
       record {
-        stack = length-replicate {A = Piece} 97 nonePiece;
-        lasts = length-replicate {A = ℕ} 49 0;
+        stack = length-replicate {A = Piece} POSITIONS nonePiece;
+        lasts = length-replicate {A = ℕ} LASTS 0;
         room = omega (arith, long);
         places = λ u i. let r = has-range g 1 numbered u i in free u (omega (arith, r .1));
         outers = λ j l h. let is : e * MEMBER + (3 * POSITIONS + j * 4 + 3) ≡ e * MEMBER + 3 * POSITIONS + j * 4 + 3 = omega arith in rw is at (free (3 * POSITIONS + j * 4 + 3) (omega arith));
@@ -81,7 +82,7 @@ module _
       let good = numbered-good g 1 numbered guarded in
       runs e T g 1 numbered good sized (and-rows (rowsOf T) g good (rows-of T g numbered few rows)) (omega arith) (startFill M) ready (omega arith) (omega (arith, count-few g sized)) (omega arith)
 
-  none : (n : ℕ) → n ≤ 48 → firstAt M e n ≡ 0
+  none : (n : ℕ) → n ≤ AND-GROUPS → firstAt M e n ≡ 0
   none n l = let is : e * MEMBER + (3 * POSITIONS + n * 4) ≡ e * MEMBER + 3 * POSITIONS + n * 4 = omega arith in rw is at (free (3 * POSITIONS + n * 4) (omega arith))
 
   pub fills : Filled M e g (filled M e T n)

@@ -5,13 +5,18 @@
 use layout::AND_GROUPS;
 use layout::CODE;
 use layout::ElementNo;
+use layout::LASTS;
 use layout::MEMBER;
 use layout::MODEL;
 use layout::MODEL_ROWS;
 use layout::POSITIONS;
 ghost use mathlib.Core.Path.{_≡_};
 ghost use Prim.Native.Nat.{_+_, _*_, _≤_, _<_};
+ghost use Rattle.rules.specs.Bytes.{GRPGTCNT};
+ghost use Rattle.layout.specs.Sizes.{AND-GROUPS, CONTENTS, MEMBERS, POSITIONS};
 ghost use Rattle.member_table.specs.Filling.{neededIn, numberAt, putOne, putGroup, fits, joinedPiece, filled};
+
+const AND_CODE: usize = model_code::AND_CODE as usize;
 
 // A group on the stack: its places are those from `lo` to `last`; whether it can be nothing, and the place that it requires at its start, or 0.
 pub struct Piece {
@@ -23,7 +28,7 @@ pub struct Piece {
 
 // How many of the k pieces of the stack from `first` on cannot be nothing.
 fn needed_in(stack: [Piece; POSITIONS], first: usize, k: usize) -> usize
-    requires { ⌜ first + k ≤ 97 ⌝ }
+    requires { ⌜ first + k ≤ POSITIONS ⌝ }
     ensures { λ r. ⌜ (r ≡ neededIn stack first k) × (r ≤ k) ⌝ }
 {
     let mut n = 0;
@@ -41,7 +46,7 @@ fn put_one(
     members: &mut [u8],
     base: usize,
     table: &[u8; MODEL],
-    lasts: [u8; 49],
+    lasts: [u8; LASTS],
     groups: usize,
     own: usize,
     stack: [Piece; POSITIONS],
@@ -49,12 +54,12 @@ fn put_one(
     needed: usize,
     j: usize,
 )
-    requires { ⌜ base < 131072 ⌝ }
-    requires { ⌜ groups < 48 ⌝ }
-    requires { ⌜ first < 96 ⌝ }
-    requires { ⌜ first + j < 97 ⌝ }
-    requires { ⌜ (own < 97) × (needed ≤ 97) ⌝ }
-    requires { ⌜ numberAt stack first own needed j < 97 ⌝ }
+    requires { ⌜ base < MEMBERS ⌝ }
+    requires { ⌜ groups < AND-GROUPS ⌝ }
+    requires { ⌜ first < GRPGTCNT ⌝ }
+    requires { ⌜ first + j < POSITIONS ⌝ }
+    requires { ⌜ (own < POSITIONS) × (needed ≤ POSITIONS) ⌝ }
+    requires { ⌜ numberAt stack first own needed j < POSITIONS ⌝ }
     ensures { λ _. ⌜ now (members .exit) ≡ putOne (now (members .entry)) base (now (table .entry)) lasts groups own stack first needed j ⌝ }
 {
     let m = stack[first + j];
@@ -90,7 +95,7 @@ fn put_group(
     members: &mut [u8],
     base: usize,
     table: &[u8; MODEL],
-    lasts: [u8; 49],
+    lasts: [u8; LASTS],
     groups: usize,
     own: usize,
     stack: [Piece; POSITIONS],
@@ -98,11 +103,11 @@ fn put_group(
     needed: usize,
     k: usize,
 )
-    requires { ⌜ base < 131072 ⌝ }
-    requires { ⌜ groups < 48 ⌝ }
+    requires { ⌜ base < MEMBERS ⌝ }
+    requires { ⌜ groups < AND-GROUPS ⌝ }
     requires { ⌜ 2 ≤ k ⌝ }
-    requires { ⌜ first + k ≤ 97 ⌝ }
-    requires { ⌜ own + k ≤ 97 ⌝ }
+    requires { ⌜ first + k ≤ POSITIONS ⌝ }
+    requires { ⌜ own + k ≤ POSITIONS ⌝ }
     requires { ⌜ needed ≡ neededIn stack first k ⌝ }
     ensures { λ _. ⌜ now (members .exit) ≡ putGroup (now (members .entry)) base (now (table .entry)) lasts groups own stack first needed k ⌝ }
 {
@@ -126,7 +131,7 @@ fn put_group(
 // Whether a group of k members can be put, where so many pieces are on the stack and so many groups and members are put.
 fn fits(k: usize, top: usize, groups: usize, count: usize) -> bool
     requires { ⌜ k < 256 ⌝ }
-    requires { ⌜ count < 97 ⌝ }
+    requires { ⌜ count < POSITIONS ⌝ }
     ensures { λ r. ⌜ r ≡ fits k top groups count ⌝ }
 {
     if k < 2 {
@@ -147,7 +152,7 @@ fn joined(op: u8, a: Piece, b: Piece) -> Piece
 {
     let mut null = a.null;
     let mut required: u8 = 0;
-    if op == model_code::SEQ {
+    if op == model_code::SEQ_CODE {
         required = a.required;
         if a.null {
             null = b.null;
@@ -166,7 +171,7 @@ fn joined(op: u8, a: Piece, b: Piece) -> Piece
 
 // The members of the element e, whose model has its table in `table` with n numbers of code. Where they are all 0 before, the table tells the model then (`fills`).
 pub fn fill(members: &mut [u8], e: ElementNo, table: &[u8; MODEL], n: usize)
-    requires { ⌜ e .0 < 65 ⌝ }
+    requires { ⌜ e .0 < CONTENTS ⌝ }
     ensures { λ _. ⌜ now (members .exit) ≡ filled (now (members .entry)) (e .0) (now (table .entry)) n ⌝ }
 {
     let base = e.0 * MEMBER;
@@ -176,14 +181,14 @@ pub fn fill(members: &mut [u8], e: ElementNo, table: &[u8; MODEL], n: usize)
         null: false,
         required: 0,
     }; POSITIONS];
-    let mut lasts = [0u8; 49];
+    let mut lasts = [0u8; LASTS];
     let mut groups = 0;
     let mut count = 0;
     let mut top = 0;
     let mut i = 0;
     while i < n && i < CODE {
         let op = table[MODEL_ROWS + i];
-        if op < model_code::SEQ {
+        if op < model_code::SEQ_CODE {
             if top < POSITIONS {
                 stack[top] = Piece {
                     lo: op,
@@ -193,7 +198,7 @@ pub fn fill(members: &mut [u8], e: ElementNo, table: &[u8; MODEL], n: usize)
                 };
                 top += 1;
             }
-        } else if op == model_code::OPT {
+        } else if op == model_code::OPT_CODE {
             if 1 <= top {
                 let a = stack[top - 1];
                 stack[top - 1] = Piece {
@@ -203,13 +208,13 @@ pub fn fill(members: &mut [u8], e: ElementNo, table: &[u8; MODEL], n: usize)
                     required: 0,
                 };
             }
-        } else if op < model_code::PLUS {
+        } else if op < model_code::PLUS_CODE {
             if 2 <= top {
                 stack[top - 2] = joined(op, stack[top - 2], stack[top - 1]);
                 top -= 1;
             }
-        } else if model_code::AND < op {
-            let k = numbers::wide(op) - 128;
+        } else if model_code::AND_CODE < op {
+            let k = numbers::wide(op) - AND_CODE;
             if fits(k, top, groups, count) {
                 let first = top - k;
                 let needed = needed_in(stack, first, k);

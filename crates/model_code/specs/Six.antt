@@ -5,6 +5,7 @@ use mathlib.Core.Bool.{Bool, false, cond}
 use mathlib.Core.List.{List, [], _∷_}
 use lib.ListN.{length, getD, set}
 use lib.Dec.{ltb, eqb}
+use Rattle.model_code.specs.Codes.{ALT-CODE, AND-CODE, OPT-CODE, PLUS-CODE, SEQ-CODE}
 use Rattle.layout.specs.Sizes.{MODEL-ROWS, CODE, POSITIONS}
 use Rattle.and_laws.specs.Code.{Six, sixes}
 use Rattle.model_code.specs.declared.Pairing.{Pairing}
@@ -47,14 +48,14 @@ ofTwo f (v ∷ []) = v ∷ []
 ofTwo f (v ∷ (w ∷ st)) = f w v ∷ st
 
 abbrev pub joinedSix : ℕ → Six → Six → Six
-joinedSix op a b = cond (eqb op 97) (thenSix a b) (cond (eqb op 98) (eitherSix a b) (addedSix a b))
+joinedSix op a b = cond (eqb op SEQ-CODE) (thenSix a b) (cond (eqb op ALT-CODE) (eitherSix a b) (addedSix a b))
 
 abbrev pub stepCode : (p q op : ℕ) → List Six → List Six
 stepCode p q op st =
     cond
-    (ltb op 97)
+    (ltb op SEQ-CODE)
     (cond (ltb (length st) POSITIONS) (sixes p q .at op ∷ st) st)
-    (cond (eqb op 99) (ofTop maybeSix st) (cond (eqb op 100) (ofTop manySix st) (cond (ltb op 128) (ofTwo (joinedSix op) st) st)))
+    (cond (eqb op OPT-CODE) (ofTop maybeSix st) (cond (eqb op PLUS-CODE) (ofTop manySix st) (cond (ltb op AND-CODE) (ofTwo (joinedSix op) st) st)))
 
 -- The first numbers of the code behind the rows, one after the other; fewer than CODE.
 abbrev pub runCode : List ℕ → (p q n : ℕ) → List Six

@@ -8,8 +8,10 @@ use native.Mathlib.Numerals.{add-one}
 use lib.ListN.{length, getD, set, length-set}
 use lib.Seq.{getD-set-same, getD-set-other}
 use borrow.Author.Tests.{ne-eqb, lt-ltb, le-ltb}
-use Rattle.layout.specs.Sizes.{MODEL-ROWS, CODE, MODEL}
+use Rattle.model_code.specs.Codes.{ALSO-CODE, ALT-CODE, AND-CODE, OPT-CODE, PLUS-CODE, SEQ-CODE}
+use Rattle.layout.specs.Sizes.{MODEL-ROWS, CODE, MODEL, POSITIONS}
 use Rattle.rules.specs.Walk.{Group, place, seq, alt, opt, plus, and, Members, one, also}
+use Rattle.rules.specs.Bytes.{GRPGTCNT}
 use Rattle.model_sets.specs.Sets.{size, sizeM, Numbered, NumberedM}
 use Rattle.and_laws.specs.Fold.{clash}
 use Rattle.and_laws.specs.Code.{Six, sixes, eval, evalM, six-eval}
@@ -23,15 +25,15 @@ count (also m g) = count m + 1
 abbrev mutual
   pub codes : Group → List ℕ
   codes (place n) = n ∷ []
-  codes (seq g h) = codes g ++ (codes h ++ 97 ∷ [])
-  codes (alt g h) = codes g ++ (codes h ++ 98 ∷ [])
-  codes (opt g) = codes g ++ 99 ∷ []
-  codes (plus g) = codes g ++ 100 ∷ []
-  codes (and m) = codesM m ++ (128 + count m) ∷ []
+  codes (seq g h) = codes g ++ (codes h ++ SEQ-CODE ∷ [])
+  codes (alt g h) = codes g ++ (codes h ++ ALT-CODE ∷ [])
+  codes (opt g) = codes g ++ OPT-CODE ∷ []
+  codes (plus g) = codes g ++ PLUS-CODE ∷ []
+  codes (and m) = codesM m ++ (AND-CODE + count m) ∷ []
 
   pub codesM : Members → List ℕ
   codesM (one g) = codes g
-  codesM (also m g) = codesM m ++ (codes g ++ 101 ∷ [])
+  codesM (also m g) = codesM m ++ (codes g ++ ALSO-CODE ∷ [])
 
 -- The first n numbers of the code in a table.
 abbrev pub codeIn : List ℕ → ℕ → List ℕ
@@ -94,12 +96,12 @@ module _ (p q : ℕ) where
   run-in T (suc n) l =
       rw (lt-ltb n CODE (omega arith), run-in T n (omega arith)) (sym (run-append (codeIn T n) (getD T (MODEL-ROWS + n) 0 ∷ []) []))
 
-  at-number : (n : ℕ) (st : List Six) → n < 97 → length st < 97 → stepCode p q n st ≡ sixes p q .at n ∷ st
-  at-number n st small room = rw (lt-ltb n 97 small, lt-ltb (length st) 97 room)
+  at-number : (n : ℕ) (st : List Six) → n < POSITIONS → length st < POSITIONS → stepCode p q n st ≡ sixes p q .at n ∷ st
+  at-number n st small room = rw (lt-ltb n SEQ-CODE small, lt-ltb (length st) POSITIONS room)
 
-  at-close : (k : ℕ) (st : List Six) → stepCode p q (128 + k) st ≡ st
+  at-close : (k : ℕ) (st : List Six) → stepCode p q (AND-CODE + k) st ≡ st
   at-close k st =
-      rw (le-ltb (128 + k) 97 (omega arith), ne-eqb (128 + k) 99 (λ (e : 128 + k ≡ 99). omega arith), ne-eqb (128 + k) 100 (λ (e : 128 + k ≡ 100). omega arith), le-ltb (128 + k) 128 (omega arith))
+      rw (le-ltb (AND-CODE + k) SEQ-CODE (omega arith), ne-eqb (AND-CODE + k) OPT-CODE (λ (e : AND-CODE + k ≡ OPT-CODE). omega arith), ne-eqb (AND-CODE + k) PLUS-CODE (λ (e : AND-CODE + k ≡ PLUS-CODE). omega arith), le-ltb (AND-CODE + k) AND-CODE (omega arith))
 
   -- two groups, and what joins them
   two : (a b : List ℕ) (o : ℕ) (v w : Six) (st : List Six) → runNumbers p q a st ≡ v ∷ st → runNumbers p q b (v ∷ st) ≡ w ∷ (v ∷ st) → runNumbers p q (a ++ (b ++ o ∷ [])) st ≡ stepCode p q o (w ∷ (v ∷ st))
@@ -115,25 +117,25 @@ module _ (p q : ℕ) where
   valueM m = evalM (sixes p q) m
 
   mutual
-    spelled : (g : Group) (lo : ℕ) → Numbered g lo → lo + size g ≤ 97 → (st : List Six) → length st + size g ≤ 97 → runNumbers p q (codes g) st ≡ value g ∷ st
+    spelled : (g : Group) (lo : ℕ) → Numbered g lo → lo + size g ≤ POSITIONS → (st : List Six) → length st + size g ≤ POSITIONS → runNumbers p q (codes g) st ≡ value g ∷ st
     spelled (place n) lo d l st h = at-number n st (omega (arith, d)) (omega arith)
     spelled (seq g h) lo d l st r =
-        two (codes g) (codes h) 97 (value g) (value h) st (spelled g lo (d .0) (omega arith) st (omega arith))
+        two (codes g) (codes h) SEQ-CODE (value g) (value h) st (spelled g lo (d .0) (omega arith) st (omega arith))
         (spelled h (lo + size g) (d .1) (omega arith) (value g ∷ st) (omega (arith, size-one g)))
     spelled (alt g h) lo d l st r =
-        two (codes g) (codes h) 98 (value g) (value h) st (spelled g lo (d .0) (omega arith) st (omega arith))
+        two (codes g) (codes h) ALT-CODE (value g) (value h) st (spelled g lo (d .0) (omega arith) st (omega arith))
         (spelled h (lo + size g) (d .1) (omega arith) (value g ∷ st) (omega (arith, size-one g)))
-    spelled (opt g) lo d l st r = after (codes g) 99 (value g) st (spelled g lo d l st r)
-    spelled (plus g) lo d l st r = after (codes g) 100 (value g) st (spelled g lo d l st r)
-    spelled (and m) lo d l st r = after (codesM m) (128 + count m) (valueM m) st (spelledM m lo d l st r) ∙ at-close (count m) (valueM m ∷ st)
+    spelled (opt g) lo d l st r = after (codes g) OPT-CODE (value g) st (spelled g lo d l st r)
+    spelled (plus g) lo d l st r = after (codes g) PLUS-CODE (value g) st (spelled g lo d l st r)
+    spelled (and m) lo d l st r = after (codesM m) (AND-CODE + count m) (valueM m) st (spelledM m lo d l st r) ∙ at-close (count m) (valueM m ∷ st)
 
-    spelledM : (m : Members) (lo : ℕ) → NumberedM m lo → lo + sizeM m ≤ 97 → (st : List Six) → length st + sizeM m ≤ 97 → runNumbers p q (codesM m) st ≡ valueM m ∷ st
+    spelledM : (m : Members) (lo : ℕ) → NumberedM m lo → lo + sizeM m ≤ POSITIONS → (st : List Six) → length st + sizeM m ≤ POSITIONS → runNumbers p q (codesM m) st ≡ valueM m ∷ st
     spelledM (one g) lo d l st r = spelled g lo d l st r
     spelledM (also m g) lo d l st r =
-        two (codesM m) (codes g) 101 (valueM m) (value g) st (spelledM m lo (d .0) (omega arith) st (omega arith))
+        two (codesM m) (codes g) ALSO-CODE (valueM m) (value g) st (spelledM m lo (d .0) (omega arith) st (omega arith))
         (spelled g (lo + sizeM m) (d .1) (omega arith) (valueM m ∷ st) (omega (arith, size-oneM m)))
 
   -- What the pass tells of a table in which the code of g is spelled.
-  pub told-clash : (T : List ℕ) (n : ℕ) (g : Group) → n ≤ CODE → codeIn T n ≡ codes g → Numbered g 1 → size g ≤ 96 → (r : Bool) → Told T p q n r → r ≡ clash g p q
+  pub told-clash : (T : List ℕ) (n : ℕ) (g : Group) → n ≤ CODE → codeIn T n ≡ codes g → Numbered g 1 → size g ≤ GRPGTCNT → (r : Bool) → Told T p q n r → r ≡ clash g p q
   told-clash T n g l is d small r told =
       told (value g) (run-in T n l ∙ ap (λ (os : List ℕ). runNumbers p q os []) is ∙ spelled g 1 d (omega arith) [] (omega arith)) ∙ ap (λ (v : Six). v .pq) (six-eval p q g)

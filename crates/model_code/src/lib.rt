@@ -1,7 +1,7 @@
 // A content model as postfix code, behind the rows of its table, and what a pass over it with a stack says of two places.
 //
-// A place stands as its number, 1 to 96; then come the numbers below, each behind the groups that it joins or changes. A group of k
-// members joined by "&" ends with 128 + k.
+// A place stands as its number; the numbers below are none of a place, and stand each behind the groups that it joins or changes. A group of k
+// members joined by "&" ends with `AND_CODE` + k.
 use layout::CODE;
 use layout::MODEL;
 use layout::MODEL_ROWS;
@@ -13,17 +13,17 @@ ghost use Rattle.and_laws.specs.Fold.{cross};
 ghost use Rattle.and_laws.specs.Code.{sixes};
 ghost use Rattle.model_code.specs.Six.{putCode, codeNext, six, thenSix, eitherSix, addedSix, maybeSix, manySix, joinedSix, Told};
 
-pub const SEQ: u8 = 97;
+pub const SEQ_CODE: u8 = POSITIONS as u8;
 
-pub const ALT: u8 = 98;
+pub const ALT_CODE: u8 = SEQ_CODE + 1;
 
-pub const OPT: u8 = 99;
+pub const OPT_CODE: u8 = SEQ_CODE + 2;
 
-pub const PLUS: u8 = 100;
+pub const PLUS_CODE: u8 = SEQ_CODE + 3;
 
-pub const ALSO: u8 = 101;
+pub const ALSO_CODE: u8 = SEQ_CODE + 4;
 
-pub const AND: u8 = 128;
+pub const AND_CODE: u8 = 128;
 
 // A number is put behind the n numbers of the code; how many there are now. Where there is no room for it nothing is put.
 pub fn put(table: &mut [u8; MODEL], n: u16, op: u8) -> u16
@@ -181,10 +181,10 @@ fn made_repeated(a: Pairing) -> Pairing
 fn joined(op: u8, a: Pairing, b: Pairing) -> Pairing
     ensures { λ r. ⌜ six r ≡ joinedSix op (six a) (six b) ⌝ }
 {
-    if op == SEQ {
+    if op == SEQ_CODE {
         return in_sequence(a, b);
     }
-    if op == ALT {
+    if op == ALT_CODE {
         return in_choice(a, b);
     }
     in_any_order(a, b)
@@ -206,20 +206,20 @@ pub fn clash(table: &[u8; MODEL], n: usize, p: usize, q: usize) -> bool
     let mut i = 0;
     while i < n && i < CODE {
         let op = table[MODEL_ROWS + i];
-        if op < SEQ {
+        if op < SEQ_CODE {
             if top < POSITIONS {
                 stack[top] = at_place(op as usize, p, q);
                 top += 1;
             }
-        } else if op == OPT {
+        } else if op == OPT_CODE {
             if 1 <= top {
                 stack[top - 1] = made_optional(stack[top - 1]);
             }
-        } else if op == PLUS {
+        } else if op == PLUS_CODE {
             if 1 <= top {
                 stack[top - 1] = made_repeated(stack[top - 1]);
             }
-        } else if op < AND {
+        } else if op < AND_CODE {
             if 2 <= top {
                 stack[top - 2] = joined(op, stack[top - 2], stack[top - 1]);
                 top -= 1;

@@ -7,7 +7,7 @@ use native.Mathlib.Omega.{arith}
 use lib.ListN.{getD, set}
 use lib.Seq.{getD-set-other}
 use lib.Dec.{eqb}
-use Rattle.layout.specs.Sizes.{MODEL-ROW, MODEL-ROWS}
+use Rattle.layout.specs.Sizes.{MODEL-ROW, MODEL-ROWS, POSITIONS}
 use Rattle.model_links.specs.Each.{each-keeps}
 use Rattle.model_links.specs.Links.{linkCell, linkRow, linkFrom, link, settleRow, settle, clearCell, clearRow, unbeginCell, unbegin}
 
@@ -28,19 +28,19 @@ pub behind-if : (b : Bool) {T R S : List ℕ} → Behind T R → Behind T S → 
 behind-if true x y = x
 behind-if false x y = y
 
-row-behind : (T : List ℕ) (u c d : ℕ) → u < 97 → c ≤ d → d ≤ 97 → Behind T (linkRow T u c d)
+row-behind : (T : List ℕ) (u c d : ℕ) → u < POSITIONS → c ≤ d → d ≤ POSITIONS → Behind T (linkRow T u c d)
 unfolding linkCell
 row-behind T u c d h c-to d-to =
     each-keeps (linkCell u) c d (λ R i. Behind T R)
     (λ R i from to x. behind-on x (behind-if (eqb (getD R i 0) 1) (behind-set R (u * MODEL-ROW + i) 1 (omega arith)) behind-none)) T c-to behind-none
 
-pub clear-behind : (T : List ℕ) (u : ℕ) → u < 97 → Behind T (clearRow T u)
+pub clear-behind : (T : List ℕ) (u : ℕ) → u < POSITIONS → Behind T (clearRow T u)
 unfolding clearCell
 clear-behind T u h =
     each-keeps (clearCell u) 0 MODEL-ROW (λ R i. Behind T R) (λ R i from to x. behind-on x (behind-set R (u * MODEL-ROW + i) 0 (omega arith))) T (omega arith) behind-none
 
-module _ (T : List ℕ) (a b : ℕ) (a-to : a ≤ b) (b-to : b ≤ 97) where
-  pub link-behind : (c d : ℕ) → c ≤ d → d ≤ 97 → Behind T (link T a b c d)
+module _ (T : List ℕ) (a b : ℕ) (a-to : a ≤ b) (b-to : b ≤ POSITIONS) where
+  pub link-behind : (c d : ℕ) → c ≤ d → d ≤ POSITIONS → Behind T (link T a b c d)
   unfolding linkFrom
   link-behind c d c-to d-to =
       each-keeps (linkFrom c d) a b (λ R i. Behind T R)
@@ -53,7 +53,7 @@ module _ (T : List ℕ) (a b : ℕ) (a-to : a ≤ b) (b-to : b ≤ 97) where
       (λ R i from to x.
       behind-on x
       (behind-if (eqb (getD R (i * MODEL-ROW) 0) 1)
-      (behind-on (behind-set R (i * MODEL-ROW) 0 (omega arith)) (behind-set (set R (i * MODEL-ROW) 0) (i * MODEL-ROW + 97) r (omega arith))) behind-none)) T a-to behind-none
+      (behind-on (behind-set R (i * MODEL-ROW) 0 (omega arith)) (behind-set (set R (i * MODEL-ROW) 0) (i * MODEL-ROW + POSITIONS) r (omega arith))) behind-none)) T a-to behind-none
 
   pub unbegin-behind : Behind T (unbegin T a b)
   unfolding unbeginCell

@@ -10,7 +10,8 @@ use lib.ListN.{length, getD, set, length-set}
 use lib.Seq.{getD-set-same, getD-set-other}
 use lib.Dec.{eqb}
 use borrow.Author.Count.{below-more}
-use Rattle.layout.specs.Sizes.{MODEL-ROW, MODEL}
+use Rattle.rules.specs.Bytes.{GRPGTCNT}
+use Rattle.layout.specs.Sizes.{MODEL-ROW, MODEL, POSITIONS}
 use Rattle.model_links.specs.Each.{each-keeps}
 use Rattle.model_links.specs.Links.{linkCell, linkRow, linkFrom, link, settleRow, settle, clearCell, clearRow, unbeginCell, unbegin}
 
@@ -52,7 +53,7 @@ record Passed (starts : ℕ → Bool) (T : List ℕ) (u : ℕ) (S : List ℕ) (i
   ahead : (k : ℕ) → u * MODEL-ROW + i ≤ k → getD S k 0 ≡ getD T k 0
   done : (p : ℕ) → p < i → getD S (u * MODEL-ROW + p) 0 ≡ cond (starts p) 1 (getD T (u * MODEL-ROW + p) 0)
 
-module _ (starts : ℕ → Bool) (T : List ℕ) (u c d : ℕ) (u-from : 1 ≤ u) (u-to : u ≤ 96) (d-to : d ≤ 97)
+module _ (starts : ℕ → Bool) (T : List ℕ) (u c d : ℕ) (u-from : 1 ≤ u) (u-to : u ≤ GRPGTCNT) (d-to : d ≤ POSITIONS)
     (row-0 : (p : ℕ) → c ≤ p → p < d → getD T p 0 ≡ bit (starts p)) where
   pass-if : (S : List ℕ) (i : ℕ) → i < d → Passed starts T u S i → Passed starts T u (setIf (starts i) S (u * MODEL-ROW + i) 1) (i + 1)
   pass-if S i to h =
@@ -78,8 +79,8 @@ module _ (starts : ℕ → Bool) (T : List ℕ) (u c d : ℕ) (u-from : 1 ≤ u)
 record Row (starts : ℕ → Bool) (T : List ℕ) (u : ℕ) (S : List ℕ) : Type 0 where
   len : length S ≡ MODEL
   rows-before : (k : ℕ) → k < u * MODEL-ROW → getD S k 0 ≡ getD T k 0
-  rows-after : (k : ℕ) → u * MODEL-ROW + 98 ≤ k → getD S k 0 ≡ getD T k 0
-  row : (p : ℕ) → p < 98 → getD S (u * MODEL-ROW + p) 0 ≡ cond (starts p) 1 (getD T (u * MODEL-ROW + p) 0)
+  rows-after : (k : ℕ) → u * MODEL-ROW + MODEL-ROW ≤ k → getD S k 0 ≡ getD T k 0
+  row : (p : ℕ) → p < MODEL-ROW → getD S (u * MODEL-ROW + p) 0 ≡ cond (starts p) 1 (getD T (u * MODEL-ROW + p) 0)
 
 row-if : (starts : ℕ → Bool) (T : List ℕ) (u : ℕ) (S : List ℕ) (b : Bool)
     → length T ≡ MODEL → Row starts T u S → Row (λ p. b && starts p) T u (cond b S T)
@@ -91,11 +92,11 @@ pub record Linked (starts ends : ℕ → Bool) (T : List ℕ) (a : ℕ) (S : Lis
   pub len : length S ≡ MODEL
   pub rows-before : (k : ℕ) → k < a * MODEL-ROW → getD S k 0 ≡ getD T k 0
   pub rows-after : (k : ℕ) → i * MODEL-ROW ≤ k → getD S k 0 ≡ getD T k 0
-  pub row : (u p : ℕ) → a ≤ u → u < i → p < 98 → getD S (u * MODEL-ROW + p) 0 ≡ cond (ends u && starts p) 1 (getD T (u * MODEL-ROW + p) 0)
+  pub row : (u p : ℕ) → a ≤ u → u < i → p < MODEL-ROW → getD S (u * MODEL-ROW + p) 0 ≡ cond (ends u && starts p) 1 (getD T (u * MODEL-ROW + p) 0)
 
-module _ (starts : ℕ → Bool) (c d : ℕ) (c-to : c ≤ d) (d-to : d ≤ 97)
+module _ (starts : ℕ → Bool) (c d : ℕ) (c-to : c ≤ d) (d-to : d ≤ POSITIONS)
     (starts-from : (p : ℕ) → p < c → starts p ≡ false) (starts-to : (p : ℕ) → d ≤ p → starts p ≡ false) where
-  module _ (T : List ℕ) (u : ℕ) (l : length T ≡ MODEL) (u-from : 1 ≤ u) (u-to : u ≤ 96)
+  module _ (T : List ℕ) (u : ℕ) (l : length T ≡ MODEL) (u-from : 1 ≤ u) (u-to : u ≤ GRPGTCNT)
       (row-0 : (p : ℕ) → c ≤ p → p < d → getD T p 0 ≡ bit (starts p)) where
     none-passed : Passed starts T u T c
     none-passed = record { len = l; rows-before = λ k lt. refl; ahead = λ k le. refl; done = λ p lt. rw (starts-from p lt) }
@@ -119,7 +120,7 @@ module _ (starts : ℕ → Bool) (c d : ℕ) (c-to : c ≤ d) (d-to : d ≤ 97)
         }
 
   -- After `link` of [a, b) with [c, d), where `ends` is what column 0 says in [a, b) and `starts` what row 0 says in [c, d).
-  module _ (ends : ℕ → Bool) (T : List ℕ) (a b : ℕ) (l : length T ≡ MODEL) (a-from : 1 ≤ a) (a-to : a ≤ b) (b-to : b ≤ 97)
+  module _ (ends : ℕ → Bool) (T : List ℕ) (a b : ℕ) (l : length T ≡ MODEL) (a-from : 1 ≤ a) (a-to : a ≤ b) (b-to : b ≤ POSITIONS)
       (row-0 : (p : ℕ) → c ≤ p → p < d → getD T p 0 ≡ bit (starts p))
       (column-0 : (u : ℕ) → a ≤ u → u < b → getD T (u * MODEL-ROW) 0 ≡ bit (ends u)) where
     link-one : (S : List ℕ) (i : ℕ) → a ≤ i → i < b → Linked starts ends T a S i → Linked starts ends T a (linkFrom c d S i) (i + 1)
@@ -153,7 +154,7 @@ cond-and-false true c x y e = rw e
 cond-and-false false c x y e = refl
 
 module _ (starts ends : ℕ → Bool) (T : List ℕ) (a : ℕ) (S : List ℕ) (i : ℕ) (h : Linked starts ends T a S i) where
-  pub linked-same : (u p : ℕ) → a ≤ u → u < i → p < 98 → starts p ≡ false → getD S (u * MODEL-ROW + p) 0 ≡ getD T (u * MODEL-ROW + p) 0
+  pub linked-same : (u p : ℕ) → a ≤ u → u < i → p < MODEL-ROW → starts p ≡ false → getD S (u * MODEL-ROW + p) 0 ≡ getD T (u * MODEL-ROW + p) 0
   linked-same u p ge lt p-to e = h .row u p ge lt p-to ∙ cond-and-false (ends u) (starts p) 1 (getD T (u * MODEL-ROW + p) 0) e
 
   pub linked-end : (u : ℕ) → a ≤ u → u < i → starts 0 ≡ false → getD S (u * MODEL-ROW) 0 ≡ getD T (u * MODEL-ROW) 0
@@ -165,25 +166,25 @@ module _ (starts ends : ℕ → Bool) (T : List ℕ) (a : ℕ) (S : List ℕ) (i
 record SettledRow (b : Bool) (r : ℕ) (T : List ℕ) (u : ℕ) (S : List ℕ) : Type 0 where
   len : length S ≡ MODEL
   rows-before : (k : ℕ) → k < u * MODEL-ROW → getD S k 0 ≡ getD T k 0
-  rows-after : (k : ℕ) → u * MODEL-ROW + 98 ≤ k → getD S k 0 ≡ getD T k 0
+  rows-after : (k : ℕ) → u * MODEL-ROW + MODEL-ROW ≤ k → getD S k 0 ≡ getD T k 0
   end : getD S (u * MODEL-ROW) 0 ≡ cond b 0 (getD T (u * MODEL-ROW) 0)
-  row : (p : ℕ) → 1 ≤ p → p < 97 → getD S (u * MODEL-ROW + p) 0 ≡ getD T (u * MODEL-ROW + p) 0
-  required : getD S (u * MODEL-ROW + 97) 0 ≡ cond b r (getD T (u * MODEL-ROW + 97) 0)
+  row : (p : ℕ) → 1 ≤ p → p < POSITIONS → getD S (u * MODEL-ROW + p) 0 ≡ getD T (u * MODEL-ROW + p) 0
+  required : getD S (u * MODEL-ROW + POSITIONS) 0 ≡ cond b r (getD T (u * MODEL-ROW + POSITIONS) 0)
 
-settled-row : (b : Bool) (r : ℕ) (T : List ℕ) (u : ℕ) → length T ≡ MODEL → u ≤ 96
-    → SettledRow b r T u (cond b (set (set T (u * MODEL-ROW) 0) (u * MODEL-ROW + 97) r) T)
+settled-row : (b : Bool) (r : ℕ) (T : List ℕ) (u : ℕ) → length T ≡ MODEL → u ≤ GRPGTCNT
+    → SettledRow b r T u (cond b (set (set T (u * MODEL-ROW) 0) (u * MODEL-ROW + POSITIONS) r) T)
 settled-row true r T u l to =
     let S : List ℕ = set T (u * MODEL-ROW) 0 in
     let m : length S ≡ MODEL = length-set T (u * MODEL-ROW) 0 ∙ l in
-    let else : (k : ℕ) → k ≢ u * MODEL-ROW → k ≢ u * MODEL-ROW + 97 → getD (set S (u * MODEL-ROW + 97) r) k 0 ≡ getD T k 0 =
-    λ k x y. getD-set-other S (u * MODEL-ROW + 97) k r 0 y ∙ getD-set-other T (u * MODEL-ROW) k 0 0 x in
+    let else : (k : ℕ) → k ≢ u * MODEL-ROW → k ≢ u * MODEL-ROW + POSITIONS → getD (set S (u * MODEL-ROW + POSITIONS) r) k 0 ≡ getD T k 0 =
+    λ k x y. getD-set-other S (u * MODEL-ROW + POSITIONS) k r 0 y ∙ getD-set-other T (u * MODEL-ROW) k 0 0 x in
     record {
-      len = length-set S (u * MODEL-ROW + 97) r ∙ m;
+      len = length-set S (u * MODEL-ROW + POSITIONS) r ∙ m;
       rows-before = λ k lt. else k (omega arith) (omega arith);
       rows-after = λ k le. else k (omega arith) (omega arith);
-      end = getD-set-other S (u * MODEL-ROW + 97) (u * MODEL-ROW) r 0 (omega arith) ∙ getD-set-same T (u * MODEL-ROW) 0 0 (omega arith);
+      end = getD-set-other S (u * MODEL-ROW + POSITIONS) (u * MODEL-ROW) r 0 (omega arith) ∙ getD-set-same T (u * MODEL-ROW) 0 0 (omega arith);
       row = λ p ge lt. else (u * MODEL-ROW + p) (omega arith) (omega arith);
-      required = getD-set-same S (u * MODEL-ROW + 97) r 0 (omega arith);
+      required = getD-set-same S (u * MODEL-ROW + POSITIONS) r 0 (omega arith);
     }
 settled-row false r T u l to =
     record { len = l; rows-before = λ k lt. refl; rows-after = λ k le. refl; end = refl; row = λ p ge lt. refl; required = refl }
@@ -194,22 +195,22 @@ pub record Settled (ends : ℕ → Bool) (r : ℕ) (T : List ℕ) (a : ℕ) (S :
   pub rows-before : (k : ℕ) → k < a * MODEL-ROW → getD S k 0 ≡ getD T k 0
   pub rows-after : (k : ℕ) → i * MODEL-ROW ≤ k → getD S k 0 ≡ getD T k 0
   pub end : (u : ℕ) → a ≤ u → u < i → getD S (u * MODEL-ROW) 0 ≡ 0
-  pub row : (u p : ℕ) → a ≤ u → u < i → 1 ≤ p → p < 97 → getD S (u * MODEL-ROW + p) 0 ≡ getD T (u * MODEL-ROW + p) 0
-  pub required : (u : ℕ) → a ≤ u → u < i → getD S (u * MODEL-ROW + 97) 0 ≡ cond (ends u) r (getD T (u * MODEL-ROW + 97) 0)
+  pub row : (u p : ℕ) → a ≤ u → u < i → 1 ≤ p → p < POSITIONS → getD S (u * MODEL-ROW + p) 0 ≡ getD T (u * MODEL-ROW + p) 0
+  pub required : (u : ℕ) → a ≤ u → u < i → getD S (u * MODEL-ROW + POSITIONS) 0 ≡ cond (ends u) r (getD T (u * MODEL-ROW + POSITIONS) 0)
 
 -- a flag that is put out where it is on
 cond-off : (b : Bool) → cond b 0 (bit b) ≡ 0
 cond-off true = refl
 cond-off false = refl
 
-module _ (ends : ℕ → Bool) (r : ℕ) (T : List ℕ) (a b : ℕ) (l : length T ≡ MODEL) (a-to : a ≤ b) (b-to : b ≤ 97)
+module _ (ends : ℕ → Bool) (r : ℕ) (T : List ℕ) (a b : ℕ) (l : length T ≡ MODEL) (a-to : a ≤ b) (b-to : b ≤ POSITIONS)
     (column-0 : (u : ℕ) → a ≤ u → u < b → getD T (u * MODEL-ROW) 0 ≡ bit (ends u)) where
   settle-one : (S : List ℕ) (i : ℕ) → a ≤ i → i < b → Settled ends r T a S i → Settled ends r T a (settleRow r S i) (i + 1)
   unfolding settleRow
   settle-one S i from to h =
       let was : getD S (i * MODEL-ROW) 0 ≡ bit (ends i) = h .rows-after (i * MODEL-ROW) (omega arith) ∙ column-0 i from to in
       let e : eqb (getD S (i * MODEL-ROW) 0) 1 ≡ ends i = ap (λ (x : ℕ). eqb x 1) was ∙ eqb-bit (ends i) in
-      let N : List ℕ = cond (ends i) (set (set S (i * MODEL-ROW) 0) (i * MODEL-ROW + 97) r) S in
+      let N : List ℕ = cond (ends i) (set (set S (i * MODEL-ROW) 0) (i * MODEL-ROW + POSITIONS) r) S in
       let n : SettledRow (ends i) r S i N = settled-row (ends i) r S i (h .len) (omega arith) in
       rw e record {
         len = n .len;
@@ -229,9 +230,9 @@ module _ (ends : ℕ → Bool) (r : ℕ) (T : List ℕ) (a b : ℕ) (l : length 
             u lt ge;
         required =
             λ u ge lt.
-            below-more (λ (v : ℕ). a ≤ v → getD N (v * MODEL-ROW + 97) 0 ≡ cond (ends v) r (getD T (v * MODEL-ROW + 97) 0)) i
-            (λ v vt g. n .rows-before (v * MODEL-ROW + 97) (omega arith) ∙ h .required v g vt)
-            (λ g. n .required ∙ ap (λ (x : ℕ). cond (ends i) r x) (h .rows-after (i * MODEL-ROW + 97) (omega arith)))
+            below-more (λ (v : ℕ). a ≤ v → getD N (v * MODEL-ROW + POSITIONS) 0 ≡ cond (ends v) r (getD T (v * MODEL-ROW + POSITIONS) 0)) i
+            (λ v vt g. n .rows-before (v * MODEL-ROW + POSITIONS) (omega arith) ∙ h .required v g vt)
+            (λ g. n .required ∙ ap (λ (x : ℕ). cond (ends i) r x) (h .rows-after (i * MODEL-ROW + POSITIONS) (omega arith)))
             u lt ge;
       }
 
@@ -272,15 +273,15 @@ cleared-one T a S i from to h =
           k lt ge;
     }
 
-pub unbegun : (T : List ℕ) (a b : ℕ) → length T ≡ MODEL → a ≤ b → b ≤ 97 → Cleared T a (unbegin T a b) b
+pub unbegun : (T : List ℕ) (a b : ℕ) → length T ≡ MODEL → a ≤ b → b ≤ POSITIONS → Cleared T a (unbegin T a b) b
 unfolding unbeginCell
 unbegun T a b l a-to b-to =
     each-keeps unbeginCell a b (Cleared T a) (λ S i from to h. cleared-one T a S i from (omega arith) h) T a-to (cleared-none T a l)
 
-pub cleared-row : (T : List ℕ) (u : ℕ) → length T ≡ MODEL → u ≤ 96 → Cleared T (u * MODEL-ROW) (clearRow T u) (u * MODEL-ROW + 98)
+pub cleared-row : (T : List ℕ) (u : ℕ) → length T ≡ MODEL → u ≤ GRPGTCNT → Cleared T (u * MODEL-ROW) (clearRow T u) (u * MODEL-ROW + MODEL-ROW)
 unfolding clearCell
 cleared-row T u l u-to =
-    each-keeps (clearCell u) 0 98 (λ S i. Cleared T (u * MODEL-ROW) S (u * MODEL-ROW + i))
+    each-keeps (clearCell u) 0 MODEL-ROW (λ S i. Cleared T (u * MODEL-ROW) S (u * MODEL-ROW + i))
     (λ S i from to h.
     let e : u * MODEL-ROW + i + 1 ≡ u * MODEL-ROW + (i + 1) = omega arith in
     rw e at (cleared-one T (u * MODEL-ROW) S (u * MODEL-ROW + i) (omega arith) (omega arith) h))

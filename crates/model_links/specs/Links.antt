@@ -4,7 +4,7 @@ use mathlib.Core.Bool.{cond}
 use mathlib.Core.List.{List}
 use lib.ListN.{getD, set}
 use lib.Dec.{eqb}
-use Rattle.layout.specs.Sizes.{MODEL-ROW}
+use Rattle.layout.specs.Sizes.{MODEL-ROW, POSITIONS}
 use Rattle.model_links.specs.Each.{each}
 
 -- p may come after u if it can begin the group
@@ -25,7 +25,7 @@ link T a b c d = each (linkFrom c d) T a b
 
 -- u can no longer end its group: the place r is required after it
 unfoldable pub settleRow : ℕ → List ℕ → ℕ → List ℕ
-settleRow r T u = cond (eqb (getD T (u * MODEL-ROW) 0) 1) (set (set T (u * MODEL-ROW) 0) (u * MODEL-ROW + 97) r) T
+settleRow r T u = cond (eqb (getD T (u * MODEL-ROW) 0) 1) (set (set T (u * MODEL-ROW) 0) (u * MODEL-ROW + POSITIONS) r) T
 
 abbrev pub settle : List ℕ → ℕ → ℕ → ℕ → List ℕ
 settle T lo mid r = each (settleRow r) T lo mid

@@ -8,17 +8,18 @@ use layout::POSITIONS;
 ghost use mathlib.Core.Path.{_≡_};
 ghost use Prim.Native.Nat.{_≤_, _<_};
 ghost use lib.ListN.{length};
+ghost use Rattle.layout.specs.Sizes.{MODEL, POSITIONS};
 ghost use Rattle.model_links.specs.Links.{linkCell, linkRow, linkFrom, link, settleRow, settle, clearRow, unbegin};
 
 // A table has this many numbers, which a reference to it does not say.
 pub fn whole(table: [u8; MODEL])
-    ensures { λ _. ⌜ length table ≡ 9893 ⌝ }
+    ensures { λ _. ⌜ length table ≡ MODEL ⌝ }
 {}
 
 // p may come after u if it can begin the group.
 fn link_cell(table: &mut [u8; MODEL], u: usize, p: usize)
-    requires { ⌜ u < 97 ⌝ }
-    requires { ⌜ p < 97 ⌝ }
+    requires { ⌜ u < POSITIONS ⌝ }
+    requires { ⌜ p < POSITIONS ⌝ }
     ensures { λ _. ⌜ now (table .exit) ≡ linkCell u (now (table .entry)) p ⌝ }
 {
     if table[p] == 1 {
@@ -28,8 +29,8 @@ fn link_cell(table: &mut [u8; MODEL], u: usize, p: usize)
 
 // Each place of [c, d) that can begin its group may come after u.
 fn link_row(table: &mut [u8; MODEL], u: usize, c: usize, d: usize)
-    requires { ⌜ u < 97 ⌝ }
-    requires { ⌜ d ≤ 97 ⌝ }
+    requires { ⌜ u < POSITIONS ⌝ }
+    requires { ⌜ d ≤ POSITIONS ⌝ }
     ensures { λ _. ⌜ now (table .exit) ≡ linkRow (now (table .entry)) u c d ⌝ }
 {
     for p in c..d {
@@ -39,8 +40,8 @@ fn link_row(table: &mut [u8; MODEL], u: usize, c: usize, d: usize)
 
 // If u can end its group, each place of [c, d) that can begin its own may come after it.
 fn link_from(table: &mut [u8; MODEL], u: usize, c: usize, d: usize)
-    requires { ⌜ u < 97 ⌝ }
-    requires { ⌜ d ≤ 97 ⌝ }
+    requires { ⌜ u < POSITIONS ⌝ }
+    requires { ⌜ d ≤ POSITIONS ⌝ }
     ensures { λ _. ⌜ now (table .exit) ≡ linkFrom c d (now (table .entry)) u ⌝ }
 {
     if table[u * MODEL_ROW] == 1 {
@@ -50,8 +51,8 @@ fn link_from(table: &mut [u8; MODEL], u: usize, c: usize, d: usize)
 
 // After each place of [a, b) that can end its group, each of [c, d) that can begin its own.
 pub fn link(table: &mut [u8; MODEL], a: usize, b: usize, c: usize, d: usize)
-    requires { ⌜ b ≤ 97 ⌝ }
-    requires { ⌜ d ≤ 97 ⌝ }
+    requires { ⌜ b ≤ POSITIONS ⌝ }
+    requires { ⌜ d ≤ POSITIONS ⌝ }
     ensures { λ _. ⌜ now (table .exit) ≡ link (now (table .entry)) a b c d ⌝ }
 {
     for u in a..b {
@@ -61,7 +62,7 @@ pub fn link(table: &mut [u8; MODEL], a: usize, b: usize, c: usize, d: usize)
 
 // u can no longer end its group: what is required comes after it.
 fn settle_row(table: &mut [u8; MODEL], u: usize, required: u8)
-    requires { ⌜ u < 97 ⌝ }
+    requires { ⌜ u < POSITIONS ⌝ }
     ensures { λ _. ⌜ now (table .exit) ≡ settleRow required (now (table .entry)) u ⌝ }
 {
     if table[u * MODEL_ROW] == 1 {
@@ -72,7 +73,7 @@ fn settle_row(table: &mut [u8; MODEL], u: usize, required: u8)
 
 // No place of [lo, mid) can end its group any more: after those that could, what is required comes.
 pub fn settle(table: &mut [u8; MODEL], lo: usize, mid: usize, required: u8)
-    requires { ⌜ mid ≤ 97 ⌝ }
+    requires { ⌜ mid ≤ POSITIONS ⌝ }
     ensures { λ _. ⌜ now (table .exit) ≡ settle (now (table .entry)) lo mid required ⌝ }
 {
     for u in lo..mid {
@@ -82,7 +83,7 @@ pub fn settle(table: &mut [u8; MODEL], lo: usize, mid: usize, required: u8)
 
 // Nothing is said of the place u any more: every number of its row is 0.
 pub fn clear_row(table: &mut [u8; MODEL], u: usize)
-    requires { ⌜ u < 97 ⌝ }
+    requires { ⌜ u < POSITIONS ⌝ }
     ensures { λ _. ⌜ now (table .exit) ≡ clearRow (now (table .entry)) u ⌝ }
 {
     for c in 0..MODEL_ROW {
@@ -92,7 +93,7 @@ pub fn clear_row(table: &mut [u8; MODEL], u: usize)
 
 // No place of [mid, hi) can begin any more.
 pub fn unbegin(table: &mut [u8; MODEL], mid: usize, hi: usize)
-    requires { ⌜ hi ≤ 97 ⌝ }
+    requires { ⌜ hi ≤ POSITIONS ⌝ }
     ensures { λ _. ⌜ now (table .exit) ≡ unbegin (now (table .entry)) mid hi ⌝ }
 {
     for p in mid..hi {

@@ -4,18 +4,19 @@ ghost use mathlib.Core.Path.{_≡_};
 ghost use mathlib.Core.List.{[], _∷_, _++_};
 ghost use Prim.Native.Nat.{ℕ, _+_, _*_, _-_, _≤_, _<_};
 ghost use lib.ListN.{length, getD, set};
-ghost use Rattle.rules.specs.Bytes.{byteAt, fold};
+ghost use Rattle.rules.specs.Bytes.{byteAt, fold, GRPGTCNT};
 ghost use Rattle.rules.specs.Judge.{samePlace};
+ghost use Rattle.layout.specs.Sizes.{NAMES};
 ghost use Rattle.model_names.specs.Places.{placeIn, placesOf, keyOf};
 
 // The table has as many numbers as its type says. Nothing is read of the copy, so no code is left of a call.
 fn whole(names: [u32; NAMES])
-    ensures { λ _. ⌜ length names ≡ 192 ⌝ }
+    ensures { λ _. ⌜ length names ≡ NAMES ⌝ }
 {}
 
 // The next place is written down: where its name stands and how long it is, 0 for `#PCDATA`.
 pub fn put_name(names: &mut [u32; NAMES], places: usize, at: usize, size: usize)
-    requires { ⌜ (places < 96) × (at < 4294967296) × (size < 4294967296) ⌝ }
+    requires { ⌜ (places < GRPGTCNT) × (at < 4294967296) × (size < 4294967296) ⌝ }
     ensures { λ _. ⌜ (placesOf (now (names .exit)) (places + 1) ≡ placesOf (now (names .entry)) places ++ record { at = at; size = size } ∷ [])
         × (now (names .exit) ≡ set (set (now (names .entry)) (2 * places) at) (2 * places + 1) size) ⌝ }
 {
@@ -26,7 +27,7 @@ pub fn put_name(names: &mut [u32; NAMES], places: usize, at: usize, size: usize)
 
 // A number of the table.
 fn number(names: &[u32; NAMES], k: usize) -> usize
-    requires { ⌜ k < 192 ⌝ }
+    requires { ⌜ k < NAMES ⌝ }
     ensures { λ r. ⌜ (r ≡ getD (now (names .entry)) k 0) × (r < 4294967296) ⌝ }
 {
     numbers::widened(names[k])
@@ -34,7 +35,7 @@ fn number(names: &[u32; NAMES], k: usize) -> usize
 
 // Where the place p stands.
 pub fn place_at(names: &[u32; NAMES], p: usize) -> usize
-    requires { ⌜ (1 ≤ p) × (p ≤ 96) ⌝ }
+    requires { ⌜ (1 ≤ p) × (p ≤ GRPGTCNT) ⌝ }
     ensures { λ r. ⌜ (r ≡ placeIn (now (names .entry)) (p - 1) .at) × (r < 4294967296) ⌝ }
 {
     number(names, 2 * (p - 1))
@@ -42,7 +43,7 @@ pub fn place_at(names: &[u32; NAMES], p: usize) -> usize
 
 // How long the name of the place p is.
 fn place_size(names: &[u32; NAMES], p: usize) -> usize
-    requires { ⌜ (1 ≤ p) × (p ≤ 96) ⌝ }
+    requires { ⌜ (1 ≤ p) × (p ≤ GRPGTCNT) ⌝ }
     ensures { λ r. ⌜ (r ≡ placeIn (now (names .entry)) (p - 1) .size) × (r < 4294967296) ⌝ }
 {
     number(names, 2 * (p - 1) + 1)
@@ -50,7 +51,7 @@ fn place_size(names: &[u32; NAMES], p: usize) -> usize
 
 // Whether the places p and q of a model with n places have the same name.
 pub fn same_place(s: &[u8], names: &[u32; NAMES], p: usize, q: usize) -> bool
-    requires { ⌜ (1 ≤ p) × (p ≤ 96) × (1 ≤ q) × (q ≤ 96) ⌝ }
+    requires { ⌜ (1 ≤ p) × (p ≤ GRPGTCNT) × (1 ≤ q) × (q ≤ GRPGTCNT) ⌝ }
     ensures { λ r. ⌜ ((n : ℕ) → p ≤ n → q ≤ n → r ≡ samePlace (now (s .entry)) (placesOf (now (names .entry)) n) p q) ⌝ }
 {
     let n = place_size(names, p);
@@ -63,7 +64,7 @@ pub fn same_place(s: &[u8], names: &[u32; NAMES], p: usize, q: usize) -> bool
 
 // A number that places of the same name share: most others are told apart by it.
 pub fn key(s: &[u8], names: &[u32; NAMES], p: usize) -> u32
-    requires { ⌜ (1 ≤ p) × (p ≤ 96) ⌝ }
+    requires { ⌜ (1 ≤ p) × (p ≤ GRPGTCNT) ⌝ }
     ensures { λ r. ⌜ r ≡ keyOf (now (s .entry)) (placeIn (now (names .entry)) (p - 1)) ⌝ }
 {
     let n = place_size(names, p);

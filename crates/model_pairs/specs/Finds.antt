@@ -11,6 +11,7 @@ use borrow.Author.Tests.{eqb-true}
 use Rattle.rules.specs.Walk.{Group, place, seq, alt, opt, plus, and, once, Walk, Begins, lastOr0}
 use Rattle.rules.specs.Ambiguity.{PairAtFault, FirstPair}
 use Rattle.rules.specs.Judge.{samePlace}
+use Rattle.rules.specs.Bytes.{GRPGTCNT}
 use Rattle.layout.specs.Sizes.{CODE}
 use Rattle.model_sets.specs.Bits.{and-left, and-right, and-both, or-cases, or-left, or-right}
 use Rattle.model_sets.specs.Sets.{size, Numbered, has, follow, nextIn}
@@ -100,7 +101,7 @@ pub record Holds (table : List ℕ) (g : Group) (n code : ℕ) (has-and : Bool) 
   pub numbered : Numbered g 1
   pub guarded : Guarded g
   pub sized : size g ≡ n
-  pub few : n ≤ 96
+  pub few : n ≤ GRPGTCNT
   pub says : Says g table
   pub room : code ≤ CODE
   pub spelled : codeIn table code ≡ codes g

@@ -10,7 +10,7 @@ use borrow.Author.Count.{below-more}
 use lib.ListN.{length, getD, set, replicate, length-set}
 use lib.Seq.{getD-set-same, getD-set-other}
 use Rattle.rules.specs.Judge.{samePlace}
-use Rattle.layout.specs.Sizes.{MODEL-ROW}
+use Rattle.layout.specs.Sizes.{MODEL-ROW, POSITIONS}
 use Rattle.model_sets.specs.Bits.{not-true, and-left}
 use Rattle.model_sets.specs.Search.{findFrom, pairOr, pairFrom, searchPair}
 use Rattle.model_code.specs.Six.{Told}
@@ -19,15 +19,15 @@ use Rattle.model_pairs.specs.Rows.{isNext, rowIn, clashIn, Tells, faultI
 
 -- A set of 97 to which the numbers below i that pass a test are added.
 pub record Added (f : ℕ → Bool) (start set : List Bool) (i : ℕ) : Type 0 where
-  pub len : length set ≡ 97
+  pub len : length set ≡ POSITIONS
   pub done : (k : ℕ) → k < i → getD set k false ≡ (getD start k false || f k)
   pub rest : (k : ℕ) → i ≤ k → getD set k false ≡ getD start k false
 
-pub added-none : (f : ℕ → Bool) (start : List Bool) → length start ≡ 97 → Added f start start 0
+pub added-none : (f : ℕ → Bool) (start : List Bool) → length start ≡ POSITIONS → Added f start start 0
 added-none f start l = record { len = l; done = λ k h. absurd (omega arith); rest = λ k h. refl }
 
 module _ (f : ℕ → Bool) (start old : List Bool) (i : ℕ) (a : Added f start old i) where
-  pub added-one : i < 97 → f i ≡ true → Added f start (set old i true) (i + 1)
+  pub added-one : i < POSITIONS → f i ≡ true → Added f start (set old i true) (i + 1)
   added-one h e =
       record {
         len = length-set old i true ∙ a .len;
@@ -50,8 +50,8 @@ module _ (f : ℕ → Bool) (start old : List Bool) (i : ℕ) (a : Added f start
 
 -- A set holds the places that may come next in some row before u where p may.
 pub record Beside (next : ℕ → ℕ → Bool) (p u : ℕ) (set : List Bool) : Type 0 where
-  pub none : u ≡ 0 → (q : ℕ) → q < 97 → getD set q false ≡ false
-  pub has : 1 ≤ u → (q : ℕ) → q < 97 → getD set q false ≡ clashIn next (u - 1) p q
+  pub none : u ≡ 0 → (q : ℕ) → q < POSITIONS → getD set q false ≡ false
+  pub has : 1 ≤ u → (q : ℕ) → q < POSITIONS → getD set q false ≡ clashIn next (u - 1) p q
 
 clash-row : (next : ℕ → ℕ → Bool) (u p q : ℕ) (b : Bool) → (u ≡ 0 → b ≡ false) → (1 ≤ u → b ≡ clashIn next (u - 1) p q) → (b || (next u p && next u q)) ≡ clashIn next u p q
 clash-row next zero p q b none has = rw (none refl)
@@ -62,32 +62,32 @@ falses zero k = refl
 falses (suc n) zero = refl
 falses (suc n) (suc k) = falses n k
 
-pub beside-none : (next : ℕ → ℕ → Bool) (p : ℕ) → Beside next p 0 (replicate 97 false)
-beside-none next p = record { none = λ z q h. falses 97 q; has = λ l. absurd (omega arith) }
+pub beside-none : (next : ℕ → ℕ → Bool) (p : ℕ) → Beside next p 0 (replicate POSITIONS false)
+beside-none next p = record { none = λ z q h. falses POSITIONS q; has = λ l. absurd (omega arith) }
 
 module _ (next : ℕ → ℕ → Bool) (p u : ℕ) (set : List Bool) (b : Beside next p u set) where
-  more : (q : ℕ) → q < 97 → (getD set q false || (next u p && next u q)) ≡ clashIn next (u + 1 - 1) p q
+  more : (q : ℕ) → q < POSITIONS → (getD set q false || (next u p && next u q)) ≡ clashIn next (u + 1 - 1) p q
   more q h =
       let z : u + 1 - 1 ≡ u = omega arith in
       rw z (clash-row next u p q (getD set q false) (λ e. b .none e q h) (λ l. b .has l q h))
 
-  pub beside-row : (row : List ℕ) (after : List Bool) → next u p ≡ true → ((q : ℕ) → q < 97 → isNext (getD row q 0) ≡ next u q)
-      → ((q : ℕ) → q < 97 → getD after q false ≡ (getD set q false || isNext (getD row q 0))) → Beside next p (u + 1) after
+  pub beside-row : (row : List ℕ) (after : List Bool) → next u p ≡ true → ((q : ℕ) → q < POSITIONS → isNext (getD row q 0) ≡ next u q)
+      → ((q : ℕ) → q < POSITIONS → getD after q false ≡ (getD set q false || isNext (getD row q 0))) → Beside next p (u + 1) after
   beside-row row after e r m =
       record { none = λ z. absurd (omega arith); has = λ l q h. m q h ∙ rw (r q h) (rw e at (more q h)) }
 
   pub beside-skip : next u p ≡ false → Beside next p (u + 1) set
   beside-skip e = record { none = λ z. absurd (omega arith); has = λ l q h. sym (or-false (getD set q false)) ∙ (rw e at (more q h)) }
 
-  pub beside-end : (n q : ℕ) → u ≡ n + 1 → q < 97 → getD set q false ≡ clashIn next n p q
+  pub beside-end : (n q : ℕ) → u ≡ n + 1 → q < POSITIONS → getD set q false ≡ clashIn next n p q
   beside-end n q e h = let z : u - 1 ≡ n = omega arith in rw z at (b .has (omega arith) q h)
 
 -- The row is copied below i.
 pub record Copied (table : List ℕ) (u : ℕ) (row : List ℕ) (i : ℕ) : Type 0 where
-  pub len : length row ≡ 97
+  pub len : length row ≡ POSITIONS
   pub same : (q : ℕ) → q < i → getD row q 0 ≡ getD table (u * MODEL-ROW + q) 0
 
-pub copied-one : (table : List ℕ) (u : ℕ) (row : List ℕ) (i v : ℕ) → Copied table u row i → i < 97 → v ≡ getD table (u * MODEL-ROW + i) 0 → Copied table u (set row i v) (i + 1)
+pub copied-one : (table : List ℕ) (u : ℕ) (row : List ℕ) (i v : ℕ) → Copied table u row i → i < POSITIONS → v ≡ getD table (u * MODEL-ROW + i) 0 → Copied table u (set row i v) (i + 1)
 copied-one table u row i v a h e =
     record {
       len = length-set row i v ∙ a .len;

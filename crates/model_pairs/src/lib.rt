@@ -8,7 +8,8 @@ ghost use mathlib.Core.Bool.{Bool, true, false, _||_};
 ghost use mathlib.Core.Logic.{_⊎_};
 ghost use Prim.Native.Nat.{ℕ, suc, _+_, _-_, _*_, _≤_, _<_};
 ghost use lib.ListN.{getD};
-ghost use Rattle.layout.specs.Sizes.{MODEL-ROW};
+ghost use Rattle.rules.specs.Bytes.{GRPGTCNT};
+ghost use Rattle.layout.specs.Sizes.{MODEL-ROW, POSITIONS};
 ghost use Rattle.model_sets.specs.Search.{findFrom, searchPair};
 ghost use Rattle.model_code.specs.Six.{Told};
 ghost use Rattle.model_names.specs.Places.{placeIn, keyOf};
@@ -22,8 +23,8 @@ pub struct Pair {
 
 // The places that may come next after u, or at the start where u is 0: 1 at their numbers.
 fn next_after(table: &[u8; MODEL], u: usize) -> [u8; POSITIONS]
-    requires { ⌜ u ≤ 96 ⌝ }
-    ensures { λ r. ⌜ ((q : ℕ) → q < 97 → getD r q 0 ≡ getD (now (table .entry)) (u * MODEL-ROW + q) 0) ⌝ }
+    requires { ⌜ u ≤ GRPGTCNT ⌝ }
+    ensures { λ r. ⌜ ((q : ℕ) → q < POSITIONS → getD r q 0 ≡ getD (now (table .entry)) (u * MODEL-ROW + q) 0) ⌝ }
 {
     let mut next = [0u8; POSITIONS];
     let mut q = 0;
@@ -36,7 +37,7 @@ fn next_after(table: &[u8; MODEL], u: usize) -> [u8; POSITIONS]
 
 // The set with the places of `next` in it.
 fn with_next(next: [u8; POSITIONS], set: [bool; POSITIONS]) -> [bool; POSITIONS]
-    ensures { λ r. ⌜ ((q : ℕ) → q < 97 → getD r q false ≡ getD set q false || isNext (getD next q 0)) ⌝ }
+    ensures { λ r. ⌜ ((q : ℕ) → q < POSITIONS → getD r q false ≡ getD set q false || isNext (getD next q 0)) ⌝ }
 {
     let mut more = set;
     let mut q = 0;
@@ -51,8 +52,8 @@ fn with_next(next: [u8; POSITIONS], set: [bool; POSITIONS]) -> [bool; POSITIONS]
 
 // The places that may come next somewhere where p may, in a model with n places.
 fn beside(table: &[u8; MODEL], n: usize, p: usize) -> [bool; POSITIONS]
-    requires { ⌜ (n ≤ 96) × (p ≤ 96) ⌝ }
-    ensures { λ r. ⌜ ((q : ℕ) → q < 97 → getD r q false ≡ clashIn (rowIn (now (table .entry))) n p q) ⌝ }
+    requires { ⌜ (n ≤ GRPGTCNT) × (p ≤ GRPGTCNT) ⌝ }
+    ensures { λ r. ⌜ ((q : ℕ) → q < POSITIONS → getD r q false ≡ clashIn (rowIn (now (table .entry))) n p q) ⌝ }
 {
     let mut set = [false; POSITIONS];
     let mut u = 0;
@@ -88,7 +89,7 @@ fn partner(
     and: bool,
     p: usize,
 ) -> usize
-    requires { ⌜ (n ≤ 96) × (1 ≤ p) × (p ≤ n) ⌝ }
+    requires { ⌜ (n ≤ GRPGTCNT) × (1 ≤ p) × (p ≤ n) ⌝ }
     requires { ⌜ ((x : ℕ) → 1 ≤ x → x ≤ n → getD (now keys) x 0 ≡ keyOf (now s) (placeIn (now names) (x - 1))) ⌝ }
     ensures { λ r. ⌜ ((F : ℕ → ℕ → Bool) → Tells (now (table .entry)) n code and F → r ≡ findFrom (faultIn (now (s .entry)) (now (names .entry)) F n p) (n - p) (suc p)) ⌝ }
     ensures { λ r. ⌜ (r ≡ 0) ⊎ ((p < r) × (r ≤ n)) ⌝ }
@@ -122,7 +123,7 @@ pub fn first_pair(
     code: usize,
     and: bool,
 ) -> Pair
-    requires { ⌜ n ≤ 96 ⌝ }
+    requires { ⌜ n ≤ GRPGTCNT ⌝ }
     ensures { λ r. ⌜ ((F : ℕ → ℕ → Bool) → Tells (now (table .entry)) n code and F → (r .first, r .second) ≡ searchPair (faultIn (now (s .entry)) (now (names .entry)) F n) n) ⌝ }
     ensures { λ r. ⌜ ((r .first ≡ 0) × (r .second ≡ 0)) ⊎ ((1 ≤ r .first) × (r .first < r .second) × (r .second ≤ n)) ⌝ }
 {

@@ -11,7 +11,8 @@ use lib.Dec.{eqb}
 use borrow.Author.Count.{below-more}
 use Rattle.rules.specs.Walk.{Group}
 use Rattle.rules.specs.TypeFile.{Place, Content, model}
-use Rattle.layout.specs.Sizes.{MODEL-ROW, ROWS}
+use Rattle.rules.specs.Bytes.{GRPGTCNT, elementLimit}
+use Rattle.layout.specs.Sizes.{MODEL-ROW, ROWS, LAST-BITS, POSITIONS, RAISE, REQUIRED, ROW}
 use Rattle.model_sets.specs.Sets.{size, nextIn, completeIn, requiredIn}
 use Rattle.model_links.specs.Cells.{below-or-from}
 use Rattle.model_table.specs.Shows.{Says}
@@ -31,16 +32,16 @@ lifted-later raise (suc u) l = refl
 
 -- What is asked of a model's table of `count` places for its rows to be put: each required place is one, or 0.
 pub record RowsDue (table : List ℕ) (e count : ℕ) (rows : List ℕ) : Type 0 where
-  pub element : e ≤ 64
-  pub few : count ≤ 96
+  pub element : e ≤ elementLimit
+  pub few : count ≤ GRPGTCNT
   pub len : length rows ≡ ROWS
-  pub required : (u : ℕ) → u ≤ count → getD table (u * MODEL-ROW + 97) 0 ≤ 96
+  pub required : (u : ℕ) → u ≤ count → getD table (u * MODEL-ROW + POSITIONS) 0 ≤ GRPGTCNT
 
 -- The row of the element e after the place u holds the row u of a model's table, the required place `raise` higher.
 pub record RowHas (table : List ℕ) (e u raise : ℕ) (S : List ℕ) : Type 0 where
-  pub bits : (j : ℕ) → j < 12 → getD S (rowAt e u + j) 0 ≡ packedOf table (u * MODEL-ROW + 8 * j)
-  pub last : getD S (rowAt e u + 12) 0 ≡ cellOf table (u * MODEL-ROW + 96)
-  pub required : getD S (rowAt e u + 13) 0 ≡ getD table (u * MODEL-ROW + 97) 0 + raise
+  pub bits : (j : ℕ) → j < LAST-BITS → getD S (rowAt e u + j) 0 ≡ packedOf table (u * MODEL-ROW + 8 * j)
+  pub last : getD S (rowAt e u + LAST-BITS) 0 ≡ cellOf table (u * MODEL-ROW + GRPGTCNT)
+  pub required : getD S (rowAt e u + REQUIRED) 0 ≡ getD table (u * MODEL-ROW + POSITIONS) 0 + raise
 
 -- The first j numbers of that row, and nothing else, are put into T.
 pub record BitsPut (table : List ℕ) (e u : ℕ) (T S : List ℕ) (j : ℕ) : Type 0 where
@@ -53,7 +54,7 @@ pub record BitsPut (table : List ℕ) (e u : ℕ) (T S : List ℕ) (j : ℕ) : T
 pub record RowPut (table : List ℕ) (e u raise : ℕ) (T S : List ℕ) : Type 0 where
   pub len : length S ≡ ROWS
   pub under : (k : ℕ) → k < rowAt e u → getD S k 0 ≡ getD T k 0
-  pub over : (k : ℕ) → rowAt e u + 14 ≤ k → getD S k 0 ≡ getD T k 0
+  pub over : (k : ℕ) → rowAt e u + ROW ≤ k → getD S k 0 ≡ getD T k 0
   pub has : RowHas table e u raise S
 
 -- The first n rows of e, and nothing else, are put into T.
@@ -64,19 +65,19 @@ pub record RowsPut (table : List ℕ) (e raise : ℕ) (T S : List ℕ) (n : ℕ)
   pub has : (u : ℕ) → u < n → RowHas table e u (lifted raise u) S
 
 -- A row is as it was where its numbers are.
-row-has-still : (table : List ℕ) (e u raise : ℕ) (T S : List ℕ) → ((k : ℕ) → rowAt e u ≤ k → k < rowAt e u + 14 → getD S k 0 ≡ getD T k 0) → RowHas table e u raise T → RowHas table e u raise S
+row-has-still : (table : List ℕ) (e u raise : ℕ) (T S : List ℕ) → ((k : ℕ) → rowAt e u ≤ k → k < rowAt e u + ROW → getD S k 0 ≡ getD T k 0) → RowHas table e u raise T → RowHas table e u raise S
 row-has-still table e u raise T S same h =
     record {
       bits = λ j l. same (rowAt e u + j) (omega arith) (omega arith) ∙ h .bits j l;
-      last = same (rowAt e u + 12) (omega arith) (omega arith) ∙ h .last;
-      required = same (rowAt e u + 13) (omega arith) (omega arith) ∙ h .required;
+      last = same (rowAt e u + LAST-BITS) (omega arith) (omega arith) ∙ h .last;
+      required = same (rowAt e u + REQUIRED) (omega arith) (omega arith) ∙ h .required;
     }
 
-module _ (table : List ℕ) (e u : ℕ) (T : List ℕ) (e-to : e ≤ 64) (u-to : u ≤ 96) where
+module _ (table : List ℕ) (e u : ℕ) (T : List ℕ) (e-to : e ≤ elementLimit) (u-to : u ≤ GRPGTCNT) where
   pub bits-none : length T ≡ ROWS → BitsPut table e u T T 0
   bits-none l = record { len = l; under = λ k h. refl; over = λ k h. refl; bits = λ i h. absurd (omega arith) }
 
-  pub bits-more : (S : List ℕ) (j at v : ℕ) → BitsPut table e u T S j → j < 12 → at ≡ rowAt e u + j → v ≡ packedOf table (u * MODEL-ROW + 8 * j) → BitsPut table e u T (set S at v) (j + 1)
+  pub bits-more : (S : List ℕ) (j at v : ℕ) → BitsPut table e u T S j → j < LAST-BITS → at ≡ rowAt e u + j → v ≡ packedOf table (u * MODEL-ROW + 8 * j) → BitsPut table e u T (set S at v) (j + 1)
   bits-more S j at v h l w q =
       let m = h .len in
       record {
@@ -90,7 +91,7 @@ module _ (table : List ℕ) (e u : ℕ) (T : List ℕ) (e-to : e ≤ 64) (u-to :
       }
 
   -- The last two numbers are put.
-  pub row-put : (raise : ℕ) (S : List ℕ) (i j a b : ℕ) → BitsPut table e u T S 12 → i ≡ rowAt e u + 12 → j ≡ rowAt e u + 13 → a ≡ cellOf table (u * MODEL-ROW + 96) → b ≡ getD table (u * MODEL-ROW + 97) 0 + raise
+  pub row-put : (raise : ℕ) (S : List ℕ) (i j a b : ℕ) → BitsPut table e u T S LAST-BITS → i ≡ rowAt e u + LAST-BITS → j ≡ rowAt e u + REQUIRED → a ≡ cellOf table (u * MODEL-ROW + GRPGTCNT) → b ≡ getD table (u * MODEL-ROW + POSITIONS) 0 + raise
       → RowPut table e u raise T (set (set S i a) j b)
   row-put raise S i j a b h w y p q =
       let m = h .len in
@@ -135,47 +136,47 @@ module _ (table : List ℕ) (e raise : ℕ) (T : List ℕ) where
 
 -- What the row of the element e after the place u is to say of the content; `b` says whether its numbers are raised.
 pub record RowSays (c : Content) (b : Bool) (e u : ℕ) (rows : List ℕ) : Type 0 where
-  pub next : (p : ℕ) → 1 ≤ p → p ≤ 96 → bitOf (getD rows (rowAt e u + p / 8) 0) (p % 8) ≡ nextRow c u p
+  pub next : (p : ℕ) → 1 ≤ p → p ≤ GRPGTCNT → bitOf (getD rows (rowAt e u + p / 8) 0) (p % 8) ≡ nextRow c u p
   pub complete : completeAt rows e u ≡ completeRow c u
-  pub required : getD rows (rowAt e u + 13) 0 ≡ raisedAt b u (requiredRow c u)
+  pub required : getD rows (rowAt e u + REQUIRED) 0 ≡ raisedAt b u (requiredRow c u)
 
-pub row-says-still : (c : Content) (b : Bool) (e u : ℕ) (T S : List ℕ) → ((k : ℕ) → rowAt e u ≤ k → k < rowAt e u + 14 → getD S k 0 ≡ getD T k 0) → RowSays c b e u T → RowSays c b e u S
+pub row-says-still : (c : Content) (b : Bool) (e u : ℕ) (T S : List ℕ) → ((k : ℕ) → rowAt e u ≤ k → k < rowAt e u + ROW → getD S k 0 ≡ getD T k 0) → RowSays c b e u T → RowSays c b e u S
 row-says-still c b e u T S same h =
     record {
       next = λ p x y. ap (λ (v : ℕ). bitOf v (p % 8)) (same (rowAt e u + p / 8) (omega arith) (omega arith)) ∙ h .next p x y;
       complete = ap (λ (x : ℕ). eqb (x % 2) 1) (same (rowAt e u) (omega arith) (omega arith)) ∙ h .complete;
-      required = same (rowAt e u + 13) (omega arith) (omega arith) ∙ h .required;
+      required = same (rowAt e u + REQUIRED) (omega arith) (omega arith) ∙ h .required;
     }
 
 module _ (table : List ℕ) (e u raise : ℕ) (S : List ℕ) (h : RowHas table e u raise S) where
   -- The bit p of the row is the number p of the table's row.
-  bit-at : (p : ℕ) → p ≤ 96 → bitOf (getD S (rowAt e u + p / 8) 0) (p % 8) ≡ eqb (getD table (u * MODEL-ROW + p) 0) 1
-  bit-at p l = ⊎-elim inside end (below-or-from (p / 8) 12)
+  bit-at : (p : ℕ) → p ≤ GRPGTCNT → bitOf (getD S (rowAt e u + p / 8) 0) (p % 8) ≡ eqb (getD table (u * MODEL-ROW + p) 0) 1
+  bit-at p l = ⊎-elim inside end (below-or-from (p / 8) LAST-BITS)
     where
-      inside : p / 8 < 12 → bitOf (getD S (rowAt e u + p / 8) 0) (p % 8) ≡ eqb (getD table (u * MODEL-ROW + p) 0) 1
+      inside : p / 8 < LAST-BITS → bitOf (getD S (rowAt e u + p / 8) 0) (p % 8) ≡ eqb (getD table (u * MODEL-ROW + p) 0) 1
       inside k =
           let z : u * MODEL-ROW + 8 * (p / 8) + p % 8 ≡ u * MODEL-ROW + p = omega arith in
           ap (λ (x : ℕ). bitOf x (p % 8)) (h .bits (p / 8) k)
           ∙ packed-bit table (u * MODEL-ROW + 8 * (p / 8)) (p % 8) (omega arith)
           ∙ ap (λ (i : ℕ). eqb (getD table i 0) 1) z
 
-      end : 12 ≤ p / 8 → bitOf (getD S (rowAt e u + p / 8) 0) (p % 8) ≡ eqb (getD table (u * MODEL-ROW + p) 0) 1
+      end : LAST-BITS ≤ p / 8 → bitOf (getD S (rowAt e u + p / 8) 0) (p % 8) ≡ eqb (getD table (u * MODEL-ROW + p) 0) 1
       end k =
-          let a : p / 8 ≡ 12 = omega arith in
+          let a : p / 8 ≡ LAST-BITS = omega arith in
           let b : p % 8 ≡ 0 = omega arith in
-          let z : p ≡ 96 = omega arith in
-          rw (a, b, z) (single-bit table (u * MODEL-ROW + 96) _ (h .last))
+          let z : p ≡ GRPGTCNT = omega arith in
+          rw (a, b, z) (single-bit table (u * MODEL-ROW + GRPGTCNT) _ (h .last))
 
 -- A number raised as the table of a type has it.
-raised-by : (b : Bool) (u n : ℕ) → n + lifted (cond b 128 0) u ≡ raisedAt b u n
+raised-by : (b : Bool) (u n : ℕ) → n + lifted (cond b RAISE 0) u ≡ raisedAt b u n
 raised-by b zero n = omega arith
 raised-by true (suc u) n = omega arith
 raised-by false (suc u) n = omega arith
 
 -- A row of a model's table says what is computed of the model.
-pub row-says : (table : List ℕ) (g : Group) (ps : List Place) (n e u : ℕ) (b : Bool) (S : List ℕ) → Says g table → u ≤ size g → RowHas table e u (lifted (cond b 128 0) u) S → RowSays (model g ps n) b e u S
+pub row-says : (table : List ℕ) (g : Group) (ps : List Place) (n e u : ℕ) (b : Bool) (S : List ℕ) → Says g table → u ≤ size g → RowHas table e u (lifted (cond b RAISE 0) u) S → RowSays (model g ps n) b e u S
 row-says table g ps n e u b S t l h =
-    let raise : ℕ = lifted (cond b 128 0) u in
+    let raise : ℕ = lifted (cond b RAISE 0) u in
     let y : u * MODEL-ROW + 0 ≡ u * MODEL-ROW = omega arith in
     let z : rowAt e u + 0 / 8 ≡ rowAt e u = omega arith in
     record {

@@ -4,24 +4,24 @@ use mathlib.Core.Bool.{cond}
 use mathlib.Core.List.{List}
 use native.Mathlib.Omega.{arith}
 use lib.ListN.{set}
-use Rattle.layout.specs.Sizes.{MODEL-ROW}
+use Rattle.layout.specs.Sizes.{MODEL-ROW, POSITIONS}
 use Rattle.model_links.specs.Links.{link, clearRow}
 use Rattle.model_links.specs.Behind.{Behind, behind-none, behind-on, behind-set, behind-if, link-behind, settle-behind, clear-behind, unbegin-behind}
 use Rattle.model_table.specs.declared.Part.{Part}
 use Rattle.model_table.specs.Fill.{putPlace, closeEnds, closeStarts, joinSeq, joinAnd, repeated, finished}
 
-pub place-behind : (T : List ℕ) (p : ℕ) → p < 97 → Behind T (putPlace T p)
+pub place-behind : (T : List ℕ) (p : ℕ) → p < POSITIONS → Behind T (putPlace T p)
 place-behind T p h =
     let R : List ℕ = clearRow T p in
     behind-on (behind-on (clear-behind T p h) (behind-set R p 1 (omega arith))) (behind-set (set R p 1) (p * MODEL-ROW) 1 (omega arith))
 
 pub finished-behind : (T : List ℕ) (g : Part) → Behind T (finished T g)
-finished-behind T g = behind-on (behind-set T 0 (cond (g .nullable) 1 0) (omega arith)) (behind-set (set T 0 (cond (g .nullable) 1 0)) 97 (g .required) (omega arith))
+finished-behind T g = behind-on (behind-set T 0 (cond (g .nullable) 1 0) (omega arith)) (behind-set (set T 0 (cond (g .nullable) 1 0)) POSITIONS (g .required) (omega arith))
 
-pub repeated-behind : (T : List ℕ) (lo hi : ℕ) → lo ≤ hi → hi ≤ 97 → Behind T (repeated T lo hi)
+pub repeated-behind : (T : List ℕ) (lo hi : ℕ) → lo ≤ hi → hi ≤ POSITIONS → Behind T (repeated T lo hi)
 repeated-behind T lo hi l h = link-behind T lo hi l h lo hi l h
 
-module _ (T : List ℕ) (lo mid hi : ℕ) (lo-to : lo ≤ mid) (mid-to : mid ≤ hi) (hi-to : hi ≤ 97) where
+module _ (T : List ℕ) (lo mid hi : ℕ) (lo-to : lo ≤ mid) (mid-to : mid ≤ hi) (hi-to : hi ≤ POSITIONS) where
   pub seq-behind : (g h : Part) → Behind T (joinSeq T lo mid hi g h)
   unfolding closeEnds closeStarts
   seq-behind g h =

@@ -7,7 +7,7 @@ use mathlib.Core.Bool.{Bool, _&&_, _||_, cond}
 use mathlib.Core.List.{List}
 use lib.ListN.{set}
 use Rattle.rules.specs.Walk.{Group}
-use Rattle.layout.specs.Sizes.{MODEL-ROW}
+use Rattle.layout.specs.Sizes.{MODEL-ROW, POSITIONS}
 use Rattle.model_sets.specs.Sets.{nullable, must}
 use Rattle.model_links.specs.Links.{link, settle, clearRow, unbegin}
 use Rattle.model_table.specs.declared.Part.{Part}
@@ -54,7 +54,7 @@ repeated T lo hi = link T lo hi lo hi
 
 -- row 0 gets its two columns: whether the whole model can be empty, and which place it requires
 abbrev pub finished : List ℕ → Part → List ℕ
-finished T g = set (set T 0 (cond (g .nullable) 1 0)) 97 (g .required)
+finished T g = set (set T 0 (cond (g .nullable) 1 0)) POSITIONS (g .required)
 
 -- what is kept of a group
 abbrev pub partOf : Group → Part

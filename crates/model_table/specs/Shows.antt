@@ -9,7 +9,8 @@ use lib.ListN.{length, getD, set, length-set}
 use lib.Seq.{getD-set-same, getD-set-other}
 use borrow.Author.Tests.{eq-eqb}
 use Rattle.rules.specs.Walk.{Group, place, seq, alt, plus}
-use Rattle.layout.specs.Sizes.{MODEL-ROW, MODEL-ROWS, MODEL}
+use Rattle.rules.specs.Bytes.{GRPGTCNT}
+use Rattle.layout.specs.Sizes.{MODEL-ROW, MODEL-ROWS, MODEL, POSITIONS}
 use Rattle.model_sets.specs.Sets.{size, Numbered, has, nullable, first, last, follow, must, mustAfter, nextIn, completeIn, requiredIn}
 use Rattle.model_links.specs.Links.{link, settle, clearRow, unbegin}
 use Rattle.model_table.specs.Fill.{putPlace, closeEnds, closeStarts, joinSeq, joinAnd, partOf, finished}
@@ -24,15 +25,15 @@ pub record Shows (lo hi : ℕ) (T S : List ℕ) (F L : ℕ → Bool) (N : ℕ �
   pub between : (k : ℕ) → hi ≤ k → k < lo * MODEL-ROW → getD S k 0 ≡ getD T k 0
   pub begins : (p : ℕ) → lo ≤ p → p < hi → getD S p 0 ≡ bit (F p)
   pub ends : (u : ℕ) → lo ≤ u → u < hi → getD S (u * MODEL-ROW) 0 ≡ bit (L u)
-  pub follows : (u p : ℕ) → lo ≤ u → u < hi → 1 ≤ p → p < 97 → getD S (u * MODEL-ROW + p) 0 ≡ bit (N u p)
-  pub requires : (u : ℕ) → lo ≤ u → u < hi → getD S (u * MODEL-ROW + 97) 0 ≡ M u
+  pub follows : (u p : ℕ) → lo ≤ u → u < hi → 1 ≤ p → p < POSITIONS → getD S (u * MODEL-ROW + p) 0 ≡ bit (N u p)
+  pub requires : (u : ℕ) → lo ≤ u → u < hi → getD S (u * MODEL-ROW + POSITIONS) 0 ≡ M u
 
 -- S says of the places of g what is computed of g.
 abbrev pub Filled : Group → ℕ → List ℕ → List ℕ → Type 0
 Filled g lo T S = Shows lo (lo + size g) T S (first g) (last g) (follow g) (mustAfter g)
 
 -- What S says, R says too, if its rows are those of S.
-pub shows-same : {lo hi : ℕ} {T S : List ℕ} {F L : ℕ → Bool} {N : ℕ → ℕ → Bool} {M : ℕ → ℕ} (R : List ℕ) → lo ≤ 97 → hi ≤ 97 → length R ≡ MODEL → ((k : ℕ) → k < MODEL-ROWS → getD R k 0 ≡ getD S k 0)
+pub shows-same : {lo hi : ℕ} {T S : List ℕ} {F L : ℕ → Bool} {N : ℕ → ℕ → Bool} {M : ℕ → ℕ} (R : List ℕ) → lo ≤ POSITIONS → hi ≤ POSITIONS → length R ≡ MODEL → ((k : ℕ) → k < MODEL-ROWS → getD R k 0 ≡ getD S k 0)
     → Shows lo hi T S F L N M → Shows lo hi T R F L N M
 shows-same R lo-to hi-to l same s =
     record {
@@ -42,14 +43,14 @@ shows-same R lo-to hi-to l same s =
       begins = λ p ge lt. same p (omega arith) ∙ s .begins p ge lt;
       ends = λ u ge lt. same (u * MODEL-ROW) (omega arith) ∙ s .ends u ge lt;
       follows = λ u p ge lt p-from p-to. same (u * MODEL-ROW + p) (omega arith) ∙ s .follows u p ge lt p-from p-to;
-      requires = λ u ge lt. same (u * MODEL-ROW + 97) (omega arith) ∙ s .requires u ge lt;
+      requires = λ u ge lt. same (u * MODEL-ROW + POSITIONS) (omega arith) ∙ s .requires u ge lt;
     }
 
 -- a place alone
-pub placed : (n lo : ℕ) (T : List ℕ) → 1 ≤ lo → lo + 1 ≤ 97 → n ≡ lo → length T ≡ MODEL → Filled (place n) lo T (putPlace T n)
+pub placed : (n lo : ℕ) (T : List ℕ) → 1 ≤ lo → lo + 1 ≤ POSITIONS → n ≡ lo → length T ≡ MODEL → Filled (place n) lo T (putPlace T n)
 placed n lo T from to e l =
     let R : List ℕ = clearRow T n in
-    let r : Cleared T (n * MODEL-ROW) R (n * MODEL-ROW + 98) = cleared-row T n l (omega arith) in
+    let r : Cleared T (n * MODEL-ROW) R (n * MODEL-ROW + MODEL-ROW) = cleared-row T n l (omega arith) in
     let S : List ℕ = set R n 1 in
     let m : length S ≡ MODEL = length-set R n 1 ∙ r .len in
     let else : (k : ℕ) → (k ≡ n → ⊥) → (k ≡ n * MODEL-ROW → ⊥) → getD (set S (n * MODEL-ROW) 1) k 0 ≡ getD R k 0 =
@@ -67,7 +68,7 @@ placed n lo T from to e l =
           let q : u ≡ n = omega arith in
           rw (q, eq-eqb n n refl) (getD-set-same S (n * MODEL-ROW) 1 0 (omega arith));
       follows = λ u p ge lt p-from p-to. else (u * MODEL-ROW + p) (omega arith) (omega arith) ∙ r .none (u * MODEL-ROW + p) (omega arith) (omega arith);
-      requires = λ u ge lt. else (u * MODEL-ROW + 97) (omega arith) (omega arith) ∙ r .none (u * MODEL-ROW + 97) (omega arith) (omega arith);
+      requires = λ u ge lt. else (u * MODEL-ROW + POSITIONS) (omega arith) (omega arith) ∙ r .none (u * MODEL-ROW + POSITIONS) (omega arith) (omega arith);
     }
 
 only-left : (a b : Bool) → b ≡ false → a ≡ (a || b)
@@ -93,7 +94,7 @@ or-and-false true b c e = refl
 or-and-false false b c e = rw e
 
 -- A group g of [lo, mid) and a group h of [mid, hi), one after the other.
-module _ (g h : Group) (lo : ℕ) (from : 1 ≤ lo) (to : lo + size g + size h ≤ 97) (gn : Numbered g lo) (hn : Numbered h (lo + size g)) where
+module _ (g h : Group) (lo : ℕ) (from : 1 ≤ lo) (to : lo + size g + size h ≤ POSITIONS) (gn : Numbered g lo) (hn : Numbered h (lo + size g)) where
   no-g : (p : ℕ) → lo + size g ≤ p → has g p ≡ false
   no-g p ge = has-over g lo p gn ge
 
@@ -135,8 +136,8 @@ module _ (g h : Group) (lo : ℕ) (from : 1 ≤ lo) (to : lo + size g + size h �
             (λ v ve vt. fh .follows v p ve vt p-from p-to ∙ ap bit (only-right (follow g v p) (follow h v p) (none-follow g v p (no-g v ve))))
             u ge lt;
         requires =
-            on-both (λ (u : ℕ). getD S (u * MODEL-ROW + 97) 0 ≡ cond (has h u) (mustAfter h u) (mustAfter g u))
-            (λ u ge lt. rw (no-h u lt) (fh .between (u * MODEL-ROW + 97) (omega arith) (omega arith) ∙ fg .requires u ge lt))
+            on-both (λ (u : ℕ). getD S (u * MODEL-ROW + POSITIONS) 0 ≡ cond (has h u) (mustAfter h u) (mustAfter g u))
+            (λ u ge lt. rw (no-h u lt) (fh .between (u * MODEL-ROW + POSITIONS) (omega arith) (omega arith) ∙ fg .requires u ge lt))
             (λ u ge lt. rw (has-inside h (lo + size g) u hn ge lt) (fh .requires u ge lt));
       }
 
@@ -162,8 +163,8 @@ module _ (g h : Group) (lo : ℕ) (from : 1 ≤ lo) (to : lo + size g + size h �
     first-h-0 : first h 0 ≡ false
     first-h-0 = none-first h 0 (no-h 0 (omega arith))
 
-    first-h-97 : first h 97 ≡ false
-    first-h-97 = none-first h 97 (has-over h (lo + size g) 97 hn to)
+    first-h-97 : first h POSITIONS ≡ false
+    first-h-97 = none-first h POSITIONS (has-over h (lo + size g) POSITIONS hn to)
 
     in-sequence : Shows lo (lo + (size g + size h)) T R (first (alt g h)) (last (alt g h)) (follow (seq g h)) (mustAfter (alt g h))
     in-sequence =
@@ -192,8 +193,8 @@ module _ (g h : Group) (lo : ℕ) (from : 1 ≤ lo) (to : lo + size g + size h �
               (below-or-from u (lo + size g));
           requires =
               λ u ge lt.
-              ⊎-elim (λ (x : u < lo + size g). linked-same (first h) (last g) S lo R (lo + size g) r u 97 ge x (omega arith) first-h-97 ∙ s .requires u ge lt)
-              (λ (x : lo + size g ≤ u). r .rows-after (u * MODEL-ROW + 97) (omega arith) ∙ s .requires u ge lt)
+              ⊎-elim (λ (x : u < lo + size g). linked-same (first h) (last g) S lo R (lo + size g) r u POSITIONS ge x (omega arith) first-h-97 ∙ s .requires u ge lt)
+              (λ (x : lo + size g ≤ u). r .rows-after (u * MODEL-ROW + POSITIONS) (omega arith) ∙ s .requires u ge lt)
               (below-or-from u (lo + size g));
         }
 
@@ -220,8 +221,8 @@ module _ (g h : Group) (lo : ℕ) (from : 1 ≤ lo) (to : lo + size g + size h �
     first-g-0 : first g 0 ≡ false
     first-g-0 = none-first g 0 (has-under g lo 0 gn from)
 
-    first-g-97 : first g 97 ≡ false
-    first-g-97 = none-first g 97 (no-g 97 (omega arith))
+    first-g-97 : first g POSITIONS ≡ false
+    first-g-97 = none-first g POSITIONS (no-g POSITIONS (omega arith))
 
     -- the four ways in which p can follow u, of which those that ask for the other's end are not
     from-g : (a b x y z : Bool) → z ≡ false → (a || (b || x)) ≡ ((a || b) || (x || (z && y)))
@@ -269,8 +270,8 @@ module _ (g h : Group) (lo : ℕ) (from : 1 ≤ lo) (to : lo + size g + size h �
               (below-or-from u (lo + size g));
           requires =
               λ u ge lt.
-              ⊎-elim (λ (x : u < lo + size g). q .rows-before (u * MODEL-ROW + 97) (omega arith) ∙ s .requires u ge lt)
-              (λ (x : lo + size g ≤ u). linked-same (first g) (last h) R (lo + size g) Q (lo + size g + size h) q u 97 x (omega arith) (omega arith) first-g-97 ∙ s .requires u ge lt)
+              ⊎-elim (λ (x : u < lo + size g). q .rows-before (u * MODEL-ROW + POSITIONS) (omega arith) ∙ s .requires u ge lt)
+              (λ (x : lo + size g ≤ u). linked-same (first g) (last h) R (lo + size g) Q (lo + size g + size h) q u POSITIONS x (omega arith) (omega arith) first-g-97 ∙ s .requires u ge lt)
               (below-or-from u (lo + size g));
         }
 
@@ -322,11 +323,11 @@ module _ (g h : Group) (lo : ℕ) (from : 1 ≤ lo) (to : lo + size g + size h �
               λ u ge lt.
               ⊎-elim
               (λ (x : u < lo + size g).
-              let was : getD R (u * MODEL-ROW + 97) 0 ≡ mustAfter g u = rw (no-h u x) at (s .requires u ge lt) in
+              let was : getD R (u * MODEL-ROW + POSITIONS) 0 ≡ mustAfter g u = rw (no-h u x) at (s .requires u ge lt) in
               rw (no-h u x, and-true (last g u)) (r .required u ge x ∙ ap (λ (y : ℕ). cond (last g u) (must h) y) was))
               (λ (x : lo + size g ≤ u).
               let is-h : has h u ≡ true = has-inside h (lo + size g) u hn x (omega arith) in
-              rw is-h (r .rows-after (u * MODEL-ROW + 97) (omega arith) ∙ (rw is-h at (s .requires u ge lt))))
+              rw is-h (r .rows-after (u * MODEL-ROW + POSITIONS) (omega arith) ∙ (rw is-h at (s .requires u ge lt))))
               (below-or-from u (lo + size g));
         }
 
@@ -359,7 +360,7 @@ module _ (g h : Group) (lo : ℕ) (from : 1 ≤ lo) (to : lo + size g + size h �
             (below-or-from p (lo + size g));
         ends = λ u ge lt. r .over (u * MODEL-ROW) (omega arith) ∙ s .ends u ge lt;
         follows = λ u p ge lt p-from p-to. r .over (u * MODEL-ROW + p) (omega arith) ∙ s .follows u p ge lt p-from p-to;
-        requires = λ u ge lt. r .over (u * MODEL-ROW + 97) (omega arith) ∙ s .requires u ge lt;
+        requires = λ u ge lt. r .over (u * MODEL-ROW + POSITIONS) (omega arith) ∙ s .requires u ge lt;
       }
 
   -- the two in sequence
@@ -380,7 +381,7 @@ module _ (g h : Group) (lo : ℕ) (from : 1 ≤ lo) (to : lo + size g + size h �
   any-order T S s = in-any-order T (R T S s) (in-sequence T S s)
 
 -- one group once or more: where it can end, it can begin again
-module _ (g : Group) (lo : ℕ) (from : 1 ≤ lo) (to : lo + size g ≤ 97) (gn : Numbered g lo) (T S : List ℕ) (s : Filled g lo T S) where
+module _ (g : Group) (lo : ℕ) (from : 1 ≤ lo) (to : lo + size g ≤ POSITIONS) (gn : Numbered g lo) (T S : List ℕ) (s : Filled g lo T S) where
   again : Linked (first g) (last g) S lo (link S lo (lo + size g) lo (lo + size g)) (lo + size g)
   again =
       linked (first g) lo (lo + size g) (omega arith) to
@@ -406,29 +407,29 @@ module _ (g : Group) (lo : ℕ) (from : 1 ≤ lo) (to : lo + size g ≤ 97) (gn 
             ∙ cond-or (last g u && first g p) (follow g u p);
         requires =
             λ u ge lt.
-            linked-same (first g) (last g) S lo R (lo + size g) r u 97 ge lt (omega arith) (none-first g 97 (has-over g lo 97 gn to))
+            linked-same (first g) (last g) S lo R (lo + size g) r u POSITIONS ge lt (omega arith) (none-first g POSITIONS (has-over g lo POSITIONS gn to))
             ∙ s .requires u ge lt;
       }
 
 -- No place can begin the model yet.
 pub record Fresh (T : List ℕ) : Type 0 where
   pub len : length T ≡ MODEL
-  pub none : (p : ℕ) → 1 ≤ p → p < 97 → getD T p 0 ≡ 0
+  pub none : (p : ℕ) → 1 ≤ p → p < POSITIONS → getD T p 0 ≡ 0
 
-pub fresh-cleared : (T S : List ℕ) → length T ≡ MODEL → S ≡ unbegin T 1 97 → Fresh S
+pub fresh-cleared : (T S : List ℕ) → length T ≡ MODEL → S ≡ unbegin T 1 POSITIONS → Fresh S
 fresh-cleared T S l e =
-    let r = unbegun T 1 97 l (omega arith) (omega arith) in
+    let r = unbegun T 1 POSITIONS l (omega arith) (omega arith) in
     rw e (record { len = r .len; none = r .none })
 
 -- What is read in a table of the model g: in row u what may come next, whether the content is complete and what is required, once u was
 -- the last place taken, or at the start where u is 0.
 pub record Says (g : Group) (T : List ℕ) : Type 0 where
   pub len : length T ≡ MODEL
-  pub next : (u p : ℕ) → u ≤ size g → 1 ≤ p → p ≤ 96 → getD T (u * MODEL-ROW + p) 0 ≡ cond (nextIn g u p) 1 0
+  pub next : (u p : ℕ) → u ≤ size g → 1 ≤ p → p ≤ GRPGTCNT → getD T (u * MODEL-ROW + p) 0 ≡ cond (nextIn g u p) 1 0
   pub complete : (u : ℕ) → u ≤ size g → getD T (u * MODEL-ROW) 0 ≡ cond (completeIn g u) 1 0
-  pub required : (u : ℕ) → u ≤ size g → getD T (u * MODEL-ROW + 97) 0 ≡ requiredIn g u
+  pub required : (u : ℕ) → u ≤ size g → getD T (u * MODEL-ROW + POSITIONS) 0 ≡ requiredIn g u
 
-module _ (g : Group) (gn : Numbered g 1) (to : size g ≤ 96) (T F : List ℕ) (t : Fresh T) (f : Filled g 1 T F) where
+module _ (g : Group) (gn : Numbered g 1) (to : size g ≤ GRPGTCNT) (T F : List ℕ) (t : Fresh T) (f : Filled g 1 T F) where
   Z : List ℕ
   Z = set F 0 (cond (nullable g) 1 0)
 
@@ -437,42 +438,42 @@ module _ (g : Group) (gn : Numbered g 1) (to : size g ≤ 96) (T F : List ℕ) (
   len-Z = length-set F 0 (cond (nullable g) 1 0) ∙ f .len
 
   -- all but the first number and that of column 97 of row 0 are as they were
-  as-filled : (k : ℕ) → 1 ≤ k → (k ≡ 97 → ⊥) → getD (set Z 97 (must g)) k 0 ≡ getD F k 0
+  as-filled : (k : ℕ) → 1 ≤ k → (k ≡ POSITIONS → ⊥) → getD (set Z POSITIONS (must g)) k 0 ≡ getD F k 0
   unfolding Z
-  as-filled k ge ne = getD-set-other Z 97 k (must g) 0 ne ∙ getD-set-other F 0 k (cond (nullable g) 1 0) 0 (omega arith)
+  as-filled k ge ne = getD-set-other Z POSITIONS k (must g) 0 ne ∙ getD-set-other F 0 k (cond (nullable g) 1 0) 0 (omega arith)
 
-  begin : (p : ℕ) → 1 ≤ p → p ≤ 96 → getD F p 0 ≡ bit (first g p)
+  begin : (p : ℕ) → 1 ≤ p → p ≤ GRPGTCNT → getD F p 0 ≡ bit (first g p)
   begin p ge le =
       ⊎-elim (λ (x : p < 1 + size g). f .begins p ge x)
       (λ (x : 1 + size g ≤ p). rw (none-first g p (has-over g 1 p gn x)) (f .between p x (omega arith) ∙ t .none p ge (omega arith)))
       (below-or-from p (1 + size g))
 
-  next-in : (u p : ℕ) → u ≤ size g → 1 ≤ p → p ≤ 96 → getD (set Z 97 (must g)) (u * MODEL-ROW + p) 0 ≡ cond (nextIn g u p) 1 0
+  next-in : (u p : ℕ) → u ≤ size g → 1 ≤ p → p ≤ GRPGTCNT → getD (set Z POSITIONS (must g)) (u * MODEL-ROW + p) 0 ≡ cond (nextIn g u p) 1 0
   next-in zero p le p-from p-to =
       let e : 0 * MODEL-ROW + p ≡ p = omega arith in
       rw e (as-filled p p-from (omega arith) ∙ begin p p-from p-to)
   next-in (suc u) p le p-from p-to =
       as-filled (suc u * MODEL-ROW + p) (omega arith) (omega arith) ∙ f .follows (suc u) p (omega arith) (omega arith) p-from (omega arith)
 
-  complete-in : (u : ℕ) → u ≤ size g → getD (set Z 97 (must g)) (u * MODEL-ROW) 0 ≡ cond (completeIn g u) 1 0
+  complete-in : (u : ℕ) → u ≤ size g → getD (set Z POSITIONS (must g)) (u * MODEL-ROW) 0 ≡ cond (completeIn g u) 1 0
   unfolding Z
   complete-in zero le =
       let l = f .len in
-      getD-set-other Z 97 0 (must g) 0 (omega arith) ∙ getD-set-same F 0 (cond (nullable g) 1 0) 0 (omega arith)
+      getD-set-other Z POSITIONS 0 (must g) 0 (omega arith) ∙ getD-set-same F 0 (cond (nullable g) 1 0) 0 (omega arith)
   complete-in (suc u) le = as-filled (suc u * MODEL-ROW) (omega arith) (omega arith) ∙ f .ends (suc u) (omega arith) (omega arith)
 
-  required-in : (u : ℕ) → u ≤ size g → getD (set Z 97 (must g)) (u * MODEL-ROW + 97) 0 ≡ requiredIn g u
+  required-in : (u : ℕ) → u ≤ size g → getD (set Z POSITIONS (must g)) (u * MODEL-ROW + POSITIONS) 0 ≡ requiredIn g u
   required-in zero le =
       let l = len-Z in
-      getD-set-same Z 97 (must g) 0 (omega arith)
-  required-in (suc u) le = as-filled (suc u * MODEL-ROW + 97) (omega arith) (omega arith) ∙ f .requires (suc u) (omega arith) (omega arith)
+      getD-set-same Z POSITIONS (must g) 0 (omega arith)
+  required-in (suc u) le = as-filled (suc u * MODEL-ROW + POSITIONS) (omega arith) (omega arith) ∙ f .requires (suc u) (omega arith) (omega arith)
 
   -- The table that was filled while a model was read says, once row 0 has its two columns, what is computed of the model.
   pub says : Says g (finished F (partOf g))
   unfolding Z
   says =
       record {
-        len = length-set Z 97 (must g) ∙ len-Z;
+        len = length-set Z POSITIONS (must g) ∙ len-Z;
         next = next-in;
         complete = complete-in;
         required = required-in;

@@ -11,6 +11,7 @@ use layout::POSITIONS;
 ghost use mathlib.Core.Path.{_≡_};
 ghost use Prim.Native.Nat.{_≤_, _<_};
 ghost use mathlib.Core.Bool.{true, false};
+ghost use Rattle.layout.specs.Sizes.{POSITIONS};
 ghost use Rattle.model_table.specs.Fill.{putPlace, part, partSeq, partAlt, closeEnds, closeStarts, joinSeq, joinAnd, partAnd, repeated, finished};
 ghost use Rattle.model_table.specs.Shows.{Fresh};
 
@@ -30,7 +31,7 @@ pub fn clear(table: &mut [u8; MODEL])
 
 // A new place p, after which nothing comes yet.
 pub fn put_place(table: &mut [u8; MODEL], p: usize) -> Part
-    requires { ⌜ p < 97 ⌝ }
+    requires { ⌜ p < POSITIONS ⌝ }
     ensures { λ r. ⌜ (now (table .exit) ≡ putPlace (now (table .entry)) p) × (r ≡ part false p) ⌝ }
 {
     model_links::clear_row(table, p);
@@ -44,7 +45,7 @@ pub fn put_place(table: &mut [u8; MODEL], p: usize) -> Part
 
 // The ends of a first group stay ends only if the second can be empty.
 fn close_ends(table: &mut [u8; MODEL], lo: usize, mid: usize, h: Part)
-    requires { ⌜ mid ≤ 97 ⌝ }
+    requires { ⌜ mid ≤ POSITIONS ⌝ }
     ensures { λ _. ⌜ now (table .exit) ≡ closeEnds (now (table .entry)) lo mid h ⌝ }
 {
     if !h.nullable {
@@ -54,7 +55,7 @@ fn close_ends(table: &mut [u8; MODEL], lo: usize, mid: usize, h: Part)
 
 // The starts of a second group stay starts only if the first can be empty.
 fn close_starts(table: &mut [u8; MODEL], mid: usize, hi: usize, g: Part)
-    requires { ⌜ hi ≤ 97 ⌝ }
+    requires { ⌜ hi ≤ POSITIONS ⌝ }
     ensures { λ _. ⌜ now (table .exit) ≡ closeStarts (now (table .entry)) mid hi g ⌝ }
 {
     if !g.nullable {
@@ -81,8 +82,8 @@ fn part_seq(g: Part, h: Part) -> Part
 
 // The group g of [lo, mid), then the group h of [mid, hi).
 pub fn join_seq(table: &mut [u8; MODEL], lo: usize, mid: usize, hi: usize, g: Part, h: Part) -> Part
-    requires { ⌜ mid ≤ 97 ⌝ }
-    requires { ⌜ hi ≤ 97 ⌝ }
+    requires { ⌜ mid ≤ POSITIONS ⌝ }
+    requires { ⌜ hi ≤ POSITIONS ⌝ }
     ensures { λ r. ⌜ (now (table .exit) ≡ joinSeq (now (table .entry)) lo mid hi g h) × (r ≡ partSeq g h) ⌝ }
 {
     model_links::link(table, lo, mid, mid, hi);
@@ -128,8 +129,8 @@ fn part_and(g: Part, h: Part) -> Part
 // The group g of [lo, mid) and the group h of [mid, hi), in any order. What either can begin or end with, both can; which of their
 // members must still come is not in the table.
 pub fn join_and(table: &mut [u8; MODEL], lo: usize, mid: usize, hi: usize, g: Part, h: Part) -> Part
-    requires { ⌜ mid ≤ 97 ⌝ }
-    requires { ⌜ hi ≤ 97 ⌝ }
+    requires { ⌜ mid ≤ POSITIONS ⌝ }
+    requires { ⌜ hi ≤ POSITIONS ⌝ }
     ensures { λ r. ⌜ (now (table .exit) ≡ joinAnd (now (table .entry)) lo mid hi) × (r ≡ partAnd g h) ⌝ }
 {
     model_links::link(table, lo, mid, mid, hi);
@@ -149,7 +150,7 @@ pub fn optional(g: Part) -> Part
 
 // The group of [lo, hi), once or more.
 pub fn repeat(table: &mut [u8; MODEL], lo: usize, hi: usize)
-    requires { ⌜ hi ≤ 97 ⌝ }
+    requires { ⌜ hi ≤ POSITIONS ⌝ }
     ensures { λ _. ⌜ now (table .exit) ≡ repeated (now (table .entry)) lo hi ⌝ }
 {
     model_links::link(table, lo, hi, lo, hi);

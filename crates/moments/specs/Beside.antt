@@ -16,6 +16,7 @@ use Rattle.rules.specs.Acts.{Declared, Act, starts, empties, infers, data-byte,
 use Rattle.rules.specs.Acts as act
 use Rattle.rules.specs.Settings.{Settings}
 use Rattle.rules.specs.Judge.{Accepts}
+use Rattle.rules.specs.Bytes.{GRPGTCNT, TAGLVL}
 use Rattle.document_laws.specs.Decide.{decided}
 use Rattle.document_laws.specs.OneReading.{accepted-decided}
 use Rattle.document_laws.specs.Chain.{inferable-may}
@@ -77,7 +78,7 @@ module _ {c : Settings} (s : List ℕ) (es : List Element) (accepted : Accepts c
 
 module _ {s : List ℕ} {es : List Element} {rows places facts M : List ℕ} (tables : Tables s es rows places facts M) where
   -- An element that has a model is opened in the current one.
-  pub moment-entered : {bits : List ℕ} {z : State} {o : Open} → Moment es M bits z o → (k : ℕ) → Declared es k → hasModel (contentOf es k) ≡ true → o .count < 24 → Moment es M bits (enter k z) (opening rows k o)
+  pub moment-entered : {bits : List ℕ} {z : State} {o : Open} → Moment es M bits z o → (k : ℕ) → Declared es k → hasModel (contentOf es k) ≡ true → o .count < TAGLVL → Moment es M bits (enter k z) (opening rows k o)
   moment-entered m k d h less =
       let means = accepted-decided s es (tables .accepted) in
       moment s es (tables .accepted) (ranged-opening rows k (m .ranged) less (omega (arith, d .1, tables .few))) (stands-opening (m .stands) tables k less (d .0) (d .1))
@@ -89,7 +90,7 @@ module _ {s : List ℕ} {es : List Element} {rows places facts M : List ℕ} (ta
       can : CanTake es (z .current) p
       can = can-take s es (tables .accepted) m D means c
 
-      pub place-small : p ≤ 96
+      pub place-small : p ≤ GRPGTCNT
       place-small = can-range tables (m .stands .current .entered) can .1
 
       pub moment-took : {r : Open} {bits′ : List ℕ} → Taking rows M bits p o r bits′ → Moment es M bits′ (takePlace p z) r
@@ -98,7 +99,7 @@ module _ {s : List ℕ} {es : List Element} {rows places facts M : List ℕ} (ta
           (begun-moves s es D D means means .taking (refl, m .begun) p c .1)
 
     -- The required place is taken, and the element that is named there opened.
-    pub moment-started : {bits bits′ : List ℕ} {z : State} {o q : Open} → Moment es M bits z o → (k : ℕ) → rules.inferable s es D (z .current) ≡ k → 1 ≤ k → o .count < 24 → Starting rows M bits k o q bits′
+    pub moment-started : {bits bits′ : List ℕ} {z : State} {o q : Open} → Moment es M bits z o → (k : ℕ) → rules.inferable s es D (z .current) ≡ k → 1 ≤ k → o .count < TAGLVL → Starting rows M bits k o q bits′
         → Moment es M bits′ (enter k (takePlace (requiredPlace s es D (z .current)) z)) q
     moment-started {bits} {bits′} {z} {o} m k e l less h =
         let i = inferable-may s es D (z .current) (rw e (le-leb 1 k l)) in

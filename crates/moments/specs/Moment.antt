@@ -9,6 +9,7 @@ use Rattle.rules.specs.Decisions.{start, pcdata, Decisions}
 use Rattle.rules.specs.Settling.{State, fitting}
 use Rattle.rules.specs.Acts.{Act, starts, empties, infers, data-byte, infers-end, ends, Acts, Few}
 use Rattle.rules.specs.Acts as act
+use Rattle.rules.specs.Bytes.{GRPGTCNT, TAGLVL, elementLimit}
 use Rattle.document_laws.specs.Same.{AllBegun}
 use Rattle.open_elements.specs.declared.Open.{Open}
 use Rattle.open_elements.specs.Stands.{none, opening, ended, Ranged, Stands, Taking, Starting}
@@ -39,10 +40,10 @@ module _ (s : List ℕ) (es : List Element) (D : Decisions) (rows M : List ℕ) 
 
   -- What they ask for, so that they may be called.
   abbrev pub Asks : {z y : State} → Act s es D z y → Open → Type 0
-  Asks {z} (starts k at after d f m) o = Ranged o × (fitting s es D (z .current) (start k) ≤ 96) × (o .count < 24) × (k ≤ 64)
-  Asks {z} (empties k at after d f m l) o = Ranged o × (fitting s es D (z .current) (start k) ≤ 96)
-  Asks {z} (infers k at e l) o = Ranged o × (o .count < 24) × (k ≤ 64)
-  Asks {z} (data-byte at f) o = Ranged o × (fitting s es D (z .current) pcdata ≤ 96)
+  Asks {z} (starts k at after d f m) o = Ranged o × (fitting s es D (z .current) (start k) ≤ GRPGTCNT) × (o .count < TAGLVL) × (k ≤ elementLimit)
+  Asks {z} (empties k at after d f m l) o = Ranged o × (fitting s es D (z .current) (start k) ≤ GRPGTCNT)
+  Asks {z} (infers k at e l) o = Ranged o × (o .count < TAGLVL) × (k ≤ elementLimit)
+  Asks {z} (data-byte at f) o = Ranged o × (fitting s es D (z .current) pcdata ≤ GRPGTCNT)
   Asks {z} (infers-end u us at e c l) o = Ranged o × (1 ≤ o .count) × (o .complete ≡ true)
   Asks {z} (ends u us at after e c) o = Ranged o × (1 ≤ o .count)
 

@@ -126,7 +126,7 @@ module _ {s : List ℕ} {es : List Element} {rows places facts M : List ℕ} (ta
 
   -- One start that is inferred (`infer_start` of inferring) is one act, where there is one to infer.
   pub infers-start-does : {bits : List ℕ} {at n : ℕ} {o : Open} {numbers bytes : List ℕ} {r : Open} {bits′ numbers′ bytes′ : List ℕ}
-      → InfersStart rows places facts M bits at n o numbers bytes r bits′ numbers′ bytes′ → o .count < 24 → (z : State) → Moment es M bits z o → 1 ≤ inferable s es (D s es) (z .current)
+      → InfersStart rows places facts M bits at n o numbers bytes r bits′ numbers′ bytes′ → o .count < TAGLVL → (z : State) → Moment es M bits z o → 1 ≤ inferable s es (D s es) (z .current)
       → Act s es (D s es) z (inferOne s es (D s es) at z) × Moment es M bits′ (inferOne s es (D s es) at z) r
   infers-start-does {bits} {at} {o = o} {r = r} {bits′} h less z m some =
       let a : Act s es (D s es) z (inferOne s es (D s es) at z) = infers (inferable s es (D s es) (z .current)) at refl some in

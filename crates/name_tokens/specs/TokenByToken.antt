@@ -10,7 +10,7 @@ use lib.ListN.{length, getD, set, length-append, length-set}
 use lib.Seq.{getD-set-same, getD-set-other}
 use lib.Dec.{eqb, leb, ltb}
 use borrow.Author.Tests.{eq-eqb, ne-eqb, lt-ltb, le-ltb, le-leb, lt-leb}
-use Rattle.rules.specs.Bytes.{byteAt, nameEnd, separatorsEnd, sameText, GRPCNT}
+use Rattle.rules.specs.Bytes.{byteAt, nameEnd, separatorsEnd, sameText, GRPCNT, GRPC, PERO}
 use Rattle.rules.specs.Reading.{Reading, refused, got, andThen}
 use Rattle.rules.specs.Attributes.{Part}
 use Rattle.rules.specs.TypeFile.{sameName, isToken, groupToken, TokensEnd, isTokenConnector, groupTokens, tokenGroup}
@@ -96,11 +96,11 @@ module _ (s seen : List ℕ) (k at size m : ℕ) (sized : m ≡ getD seen (2 * k
 -- A token by the tests that the code makes
 
 module _ (long : ℕ) (s : List ℕ) (ts ps : List Part) (i e : ℕ) (ends : e ≡ nameEnd s i) where
-  pub token-percent : e ≡ i → byteAt s i ≡ 37 → groupToken long s ts ps i ≡ refused 5 i
+  pub token-percent : e ≡ i → byteAt s i ≡ PERO → groupToken long s ts ps i ≡ refused 5 i
   unfolding groupToken
   token-percent h b = rw (groupToken, ← ends, le-ltb i e (omega arith), eq-eqb _ _ b)
 
-  pub token-none : e ≡ i → (byteAt s i ≡ 37 → ⊥) → groupToken long s ts ps i ≡ refused 4 i
+  pub token-none : e ≡ i → (byteAt s i ≡ PERO → ⊥) → groupToken long s ts ps i ≡ refused 4 i
   unfolding groupToken
   token-none h b = rw (groupToken, ← ends, le-ltb i e (omega arith), ne-eqb _ _ b)
 
@@ -110,11 +110,11 @@ module _ (long : ℕ) (s : List ℕ) (ts ps : List Part) (i e : ℕ) (ends : e �
     token-long l = rw (groupToken, ← ends, lt-ltb i e some, ← ends, lt-ltb _ _ l)
 
     module _ (short : e - i ≤ long) where
-      pub token-full : 32 ≤ length ps → groupToken long s ts ps i ≡ refused 6 i
+      pub token-full : GRPCNT ≤ length ps → groupToken long s ts ps i ≡ refused 6 i
       unfolding groupToken
       token-full f = rw (groupToken, ← ends, lt-ltb i e some, ← ends, le-ltb _ _ short, le-leb _ _ f)
 
-      module _ (room : length ps < 32) {b : Bool} (seen : b ≡ isToken s (ts ++ ps) i (e - i)) where
+      module _ (room : length ps < GRPCNT) {b : Bool} (seen : b ≡ isToken s (ts ++ ps) i (e - i)) where
         pub token-twice : b ≡ true → groupToken long s ts ps i ≡ refused 20 i
         unfolding groupToken
         token-twice h = rw (groupToken, ← ends, lt-ltb i e some, ← ends, le-ltb _ _ short, lt-leb _ _ room, ← ends, ← seen, h)
@@ -133,9 +133,9 @@ pub record Goes (long : ℕ) (s : List ℕ) (ts : List Part) (x : Reading Tokens
   from : ℕ
   begins : i ≡ separatorsEnd s from
   pub counted : m ≡ n + length ps
-  pub few : length ps ≤ 32
+  pub few : length ps ≤ GRPCNT
   pub parts : partsOf seen m ≡ ts ++ ps
-  due : groupTokens long s ts (suc (32 - length ps)) connector ps from ≡ x
+  due : groupTokens long s ts (suc (GRPCNT - length ps)) connector ps from ≡ x
 
 pub goes-first : (long : ℕ) (s : List ℕ) (seen : List ℕ) (n at i : ℕ) → i ≡ separatorsEnd s (at + 1) → Goes long s (partsOf seen n) (tokenGroup long s (partsOf seen n) at) seen n n 0 i
 unfolding tokenGroup
@@ -149,12 +149,12 @@ module _ (long : ℕ) (s : List ℕ) (ts : List Part) (x : Reading TokensEnd) (s
   -- The rest of a turn: behind the token p stands the byte b at j.
   abbrev turn : Part → (j b : ℕ) → Reading TokensEnd
   turn p j b =
-      elim (eqb b 41) [
+      elim (eqb b GRPC) [
         | true ↦ got (record { tokens = g .ps ++ p ∷ []; at = j + 1 })
-        | false ↦ elim (eqb b 37) [
+        | false ↦ elim (eqb b PERO) [
           | true ↦ refused 5 j
           | false ↦ elim (isTokenConnector b && (eqb connector 0 || eqb connector b)) [
-            | true ↦ groupTokens long s ts (32 - length (g .ps)) b (g .ps ++ p ∷ []) (j + 1)
+            | true ↦ groupTokens long s ts (GRPCNT - length (g .ps)) b (g .ps ++ p ∷ []) (j + 1)
             | false ↦ refused 4 j
           ]
         ]
@@ -171,7 +171,7 @@ module _ (long : ℕ) (s : List ℕ) (ts : List Part) (x : Reading TokensEnd) (s
   goes-refused a b e = sym step ∙ ap (λ r. andThen r behindToken) e
 
   -- Behind the token, which ends at e, stands the byte b at j.
-  module _ (e : ℕ) (some : i < e) (room : length (g .ps) < 32) (read : groupToken long s ts (g .ps) i ≡ got (record { at = i; size = e - i })) (j : ℕ) (behind : j ≡ separatorsEnd s e) (b : ℕ) (byte : b ≡ byteAt s j) where
+  module _ (e : ℕ) (some : i < e) (room : length (g .ps) < GRPCNT) (read : groupToken long s ts (g .ps) i ≡ got (record { at = i; size = e - i })) (j : ℕ) (behind : j ≡ separatorsEnd s e) (b : ℕ) (byte : b ≡ byteAt s j) where
     abbrev token : Part
     token = record { at = i; size = e - i }
 
@@ -186,7 +186,7 @@ module _ (long : ℕ) (s : List ℕ) (ts : List Part) (x : Reading TokensEnd) (s
       longer : partsOf seen′ m′ ≡ ts ++ (g .ps ++ token ∷ [])
       longer = put ∙ ap (λ l. l ++ token ∷ []) (g .parts) ∙ append-assoc ts (g .ps) (token ∷ [])
 
-      pub goes-closed : b ≡ 41 → ReadAs seen′ n m′ (j + 1) ts x
+      pub goes-closed : b ≡ GRPC → ReadAs seen′ n m′ (j + 1) ts x
       goes-closed q =
           record {
             end = record { tokens = g .ps ++ token ∷ []; at = j + 1 };
@@ -198,12 +198,12 @@ module _ (long : ℕ) (s : List ℕ) (ts : List Part) (x : Reading TokensEnd) (s
           }
         where
           closed : turn token j b ≡ got (record { tokens = g .ps ++ token ∷ []; at = j + 1 })
-          closed = rw (turn, eq-eqb b 41 q)
+          closed = rw (turn, eq-eqb b GRPC q)
 
-      module _ (goes : b ≡ 41 → ⊥) (plain : b ≡ 37 → ⊥) {k : Bool} (joins : k ≡ (isTokenConnector b && (eqb connector 0 || eqb connector b))) where
+      module _ (goes : b ≡ GRPC → ⊥) (plain : b ≡ PERO → ⊥) {k : Bool} (joins : k ≡ (isTokenConnector b && (eqb connector 0 || eqb connector b))) where
         pub goes-on : k ≡ true → (l : ℕ) → l ≡ separatorsEnd s (j + 1) → Goes long s ts x seen′ n m′ b l
         goes-on h l q =
-            let z : 32 - length (g .ps) ≡ suc (32 - length (g .ps ++ token ∷ [])) = omega (arith, length-append (g .ps) (token ∷ [])) in
+            let z : GRPCNT - length (g .ps) ≡ suc (GRPCNT - length (g .ps ++ token ∷ [])) = omega (arith, length-append (g .ps) (token ∷ [])) in
             record {
               ps = g .ps ++ token ∷ [];
               from = j + 1;
@@ -214,23 +214,23 @@ module _ (long : ℕ) (s : List ℕ) (ts : List Part) (x : Reading TokensEnd) (s
               due = subst (λ r. groupTokens long s ts r b (g .ps ++ token ∷ []) (j + 1) ≡ x) z (sym joined ∙ went);
             }
           where
-            joined : turn token j b ≡ groupTokens long s ts (32 - length (g .ps)) b (g .ps ++ token ∷ []) (j + 1)
-            joined = rw (turn, ne-eqb b 41 goes, ne-eqb b 37 plain, ← joins, h)
+            joined : turn token j b ≡ groupTokens long s ts (GRPCNT - length (g .ps)) b (g .ps ++ token ∷ []) (j + 1)
+            joined = rw (turn, ne-eqb b GRPC goes, ne-eqb b PERO plain, ← joins, h)
 
-    pub goes-percent : (b ≡ 41 → ⊥) → b ≡ 37 → x ≡ refused 5 j
+    pub goes-percent : (b ≡ GRPC → ⊥) → b ≡ PERO → x ≡ refused 5 j
     goes-percent ne q = sym went ∙ stopped
       where
         stopped : turn token j b ≡ refused 5 j
-        stopped = rw (turn, ne-eqb b 41 ne, eq-eqb b 37 q)
+        stopped = rw (turn, ne-eqb b GRPC ne, eq-eqb b PERO q)
 
-    pub goes-unfit : (b ≡ 41 → ⊥) → (b ≡ 37 → ⊥) → {k : Bool} → k ≡ (isTokenConnector b && (eqb connector 0 || eqb connector b)) → k ≡ false → x ≡ refused 4 j
+    pub goes-unfit : (b ≡ GRPC → ⊥) → (b ≡ PERO → ⊥) → {k : Bool} → k ≡ (isTokenConnector b && (eqb connector 0 || eqb connector b)) → k ≡ false → x ≡ refused 4 j
     goes-unfit goes plain {k} joins h = sym went ∙ stopped
       where
         stopped : turn token j b ≡ refused 4 j
-        stopped = rw (turn, ne-eqb b 41 goes, ne-eqb b 37 plain, ← joins, h)
+        stopped = rw (turn, ne-eqb b GRPC goes, ne-eqb b PERO plain, ← joins, h)
 
 -- What the answer of `token_at` says, by the way that it went.
-pub token-in : {end i k e : ℕ} {t : Reached} → TokenIn end i k t → t ≡ At e → (i < e) × (e ≤ end) × (k < 32)
+pub token-in : {end i k e : ℕ} {t : Reached} → TokenIn end i k t → t ≡ At e → (i < e) × (e ≤ end) × (k < GRPCNT)
 token-in {end} {i} {k} h q = subst (TokenIn end i k) q h
 
 pub token-is : {i e : ℕ} {t : Reached} {x : Reading Part} → tokenOf i t ≡ x → t ≡ At e → x ≡ got (record { at = i; size = e - i })

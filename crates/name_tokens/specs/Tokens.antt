@@ -6,6 +6,7 @@ use lib.ListN.{length, getD}
 use Rattle.rules.specs.Reading.{Reading, refused, got}
 use Rattle.rules.specs.Attributes.{Part}
 use Rattle.rules.specs.TypeFile.{TokensEnd}
+use Rattle.rules.specs.Bytes.{GRPCNT}
 use Rattle.text.specs.declared.Fault.{Fault}
 use Rattle.text.specs.declared.Reached.{Reached}
 use Rattle.text.specs.declared.Reached.the-variants as reached
@@ -39,7 +40,7 @@ pub record ReadAs (seen : List ℕ) (n m e : ℕ) (ts : List Part) (x : Reading 
   pub ends : e ≡ end .at
   pub parts : partsOf seen m ≡ ts ++ end .tokens
   pub counted : m ≡ n + length (end .tokens)
-  pub few : length (end .tokens) ≤ 32
+  pub few : length (end .tokens) ≤ GRPCNT
 
 abbrev pub MeetsGroup : (seen : List ℕ) (n : ℕ) (ts : List Part) → GroupRead → Reading TokensEnd → Type 0
 MeetsGroup seen n ts (Read m e) x = ReadAs seen n m e ts x
@@ -47,9 +48,9 @@ MeetsGroup seen n ts (Refused f) x = x ≡ refusalOf f
 
 -- Whatever the table holds: a token is some of the text, and its group has room for it; a group that is read ends in the text, and has at most 32 tokens.
 abbrev pub TokenIn : (end i k : ℕ) → Reached → Type 0
-TokenIn end i k (reached.At e) = (i < e) × (e ≤ end) × (k < 32)
+TokenIn end i k (reached.At e) = (i < e) × (e ≤ end) × (k < GRPCNT)
 TokenIn end i k (reached.Refused f) = Unit {0}
 
 abbrev pub GroupIn : (end at n : ℕ) → GroupRead → Type 0
-GroupIn end at n (Read m e) = (at < e) × (e ≤ end) × (n < m) × (m ≤ n + 32)
+GroupIn end at n (Read m e) = (at < e) × (e ≤ end) × (n < m) × (m ≤ n + GRPCNT)
 GroupIn end at n (Refused f) = Unit {0}

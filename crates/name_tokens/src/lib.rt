@@ -1,6 +1,7 @@
 // Name token groups: tokens joined by one connector, each for the first time in its list.
 //
 // `seen` has the tokens of a list so far: of each where it stands and how long it is.
+use layout::GRPCNT;
 use layout::TOKENS;
 use text::Fault;
 use text::Reached;
@@ -10,7 +11,7 @@ ghost use mathlib.Core.List.{List, [], _∷_, _++_};
 ghost use Prim.Native.Nat.{_+_, _≤_, _<_, _*_};
 ghost use lib.ListN.{length};
 ghost use lib.Dec.{eqb};
-ghost use Rattle.rules.specs.Bytes.{ATTCNT};
+ghost use Rattle.rules.specs.Bytes.{ATTCNT, GRPCNT, typeLimit};
 ghost use Rattle.rules.specs.Attributes.{Part};
 ghost use Rattle.rules.specs.TypeFile.{sameName, isToken, isTokenConnector, groupToken, tokenGroup};
 ghost use Rattle.layout.specs.Sizes.{TOKENS};
@@ -39,7 +40,7 @@ fn whole(seen: [u16; TOKENS])
 
 // Whether the k-th token, from 0, is the one of this size at `at`, folded.
 fn is_same(s: &[u8], seen: &[u16; TOKENS], k: usize, at: usize, size: usize) -> bool
-    requires { ⌜ (k < 32 * ATTCNT) × (at < 4294967296) × (size < 4294967296) ⌝ }
+    requires { ⌜ (k < GRPCNT * ATTCNT) × (at < 4294967296) × (size < 4294967296) ⌝ }
     ensures { λ r. ⌜ r ≡ sameName (now (s .entry)) (partIn (now (seen .entry)) k .at) (partIn (now (seen .entry)) k .size) at size ⌝ }
 {
     let m = numbers::short(seen[2 * k + 1]);
@@ -51,7 +52,7 @@ fn is_same(s: &[u8], seen: &[u16; TOKENS], k: usize, at: usize, size: usize) -> 
 
 // Whether one of the first n tokens is the one of this size at `at`, folded.
 fn is_seen(s: &[u8], seen: &[u16; TOKENS], n: usize, at: usize, size: usize) -> bool
-    requires { ⌜ (n ≤ 32 * ATTCNT) × (at < 4294967296) × (size < 4294967296) ⌝ }
+    requires { ⌜ (n ≤ GRPCNT * ATTCNT) × (at < 4294967296) × (size < 4294967296) ⌝ }
     ensures { λ r. ⌜ r ≡ isToken (now (s .entry)) (partsOf (now (seen .entry)) n) at size ⌝ }
 {
     let mut k = 0;
@@ -66,7 +67,7 @@ fn is_seen(s: &[u8], seen: &[u16; TOKENS], n: usize, at: usize, size: usize) -> 
 
 // The token at i, the k-th of its group from 0, after n of the list, and where it ends.
 fn token_at(long: usize, s: &[u8], i: usize, k: usize, seen: &[u16; TOKENS], n: usize) -> Reached
-    requires { ⌜ (i ≤ length (now s)) × (length (now s) ≤ 32768) × (n ≤ 32 * ATTCNT) ⌝ }
+    requires { ⌜ (i ≤ length (now s)) × (length (now s) ≤ typeLimit) × (n ≤ GRPCNT * ATTCNT) ⌝ }
     ensures { λ r. ⌜ ((ts ps : List Part) → length ps ≡ k → partsOf (now (seen .entry)) n ≡ ts ++ ps → tokenOf i r ≡ groupToken long (now (s .entry)) ts ps i) ⌝ }
     ensures { λ r. ⌜ TokenIn (length (now (s .entry))) i k r ⌝ }
 {
@@ -80,7 +81,7 @@ fn token_at(long: usize, s: &[u8], i: usize, k: usize, seen: &[u16; TOKENS], n: 
     if long < e - i {
         return Reached::Refused(Fault { number: 3, at: i });
     }
-    if 32 <= k {
+    if GRPCNT <= k {
         return Reached::Refused(Fault { number: 6, at: i });
     }
     if is_seen(s, seen, n, i, e - i) {
@@ -116,7 +117,7 @@ fn joins(c: u8, b: u8) -> bool
 
 // The token of this size at `at` is the n-th of the list, from 0.
 fn put_token(seen: &mut [u16; TOKENS], n: usize, at: usize, size: usize)
-    requires { ⌜ (n < 32 * ATTCNT) × (at < 65536) × (size < 65536) ⌝ }
+    requires { ⌜ (n < GRPCNT * ATTCNT) × (at < 65536) × (size < 65536) ⌝ }
     ensures { λ _. ⌜ partsOf (now (seen .exit)) (n + 1) ≡ partsOf (now (seen .entry)) n ++ record { at = at; size = size } ∷ [] ⌝ }
 {
     whole(*seen);
@@ -126,7 +127,7 @@ fn put_token(seen: &mut [u16; TOKENS], n: usize, at: usize, size: usize)
 
 // The group whose "(" stands at `at`, in a list that has n tokens so far. Where it is refused, what `seen` holds is not decided.
 pub fn group_at(long: usize, s: &[u8], at: usize, seen: &mut [u16; TOKENS], n: usize) -> GroupRead
-    requires { ⌜ (at < length (now s)) × (length (now s) ≤ 32768) × (n + 32 ≤ 32 * ATTCNT) ⌝ }
+    requires { ⌜ (at < length (now s)) × (length (now s) ≤ typeLimit) × (n + GRPCNT ≤ GRPCNT * ATTCNT) ⌝ }
     ensures { λ r. ⌜ MeetsGroup (now (seen .exit)) n (partsOf (now (seen .entry)) n) r (tokenGroup long (now (s .entry)) (partsOf (now (seen .entry)) n) at) ⌝ }
     ensures { λ r. ⌜ GroupIn (length (now (s .entry))) at n r ⌝ }
 {

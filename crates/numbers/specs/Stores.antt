@@ -11,7 +11,7 @@ use lib.Dec.{leb}
 use borrow.Author.Tests.{le-leb, lt-leb, leb-true, leb-false}
 use Rattle.rules.specs.Lent.{Lent, numbers, bytes, bytesOf, standing, room, filledWith}
 use Rattle.rules.specs.TypeFile.{Content, empty, model, Element}
-use Rattle.rules.specs.Judge.{contentNumbers, records}
+use Rattle.rules.specs.Judge.{contentNumbers, records, recordWidth}
 use Rattle.rules.specs.Events.{Event, eventWidth}
 use Rattle.rules.specs.Reader.{eventNumbers}
 use Rattle.numbers.specs.Written.{written, Written}
@@ -21,7 +21,7 @@ content-length : (c : Content) → length (contentNumbers c) ≡ 2
 content-length empty = refl
 content-length (model g ps n) = refl
 
-pub records-length : (es : List Element) → length (records es) ≡ 6 * length es
+pub records-length : (es : List Element) → length (records es) ≡ recordWidth * length es
 unfolding records
 records-length [] = refl
 records-length (e ∷ es) = omega (arith, length-append (contentNumbers (e .content)) (records es), content-length (e .content), records-length es)

@@ -14,6 +14,7 @@ use Rattle.rules.specs.TypeFile.{Element}
 use Rattle.rules.specs.Events.{Event}
 use Rattle.rules.specs.Settling.{State, nothingOpen, enter, shown, isOpen}
 use Rattle.rules.specs.Settling as rules
+use Rattle.rules.specs.Bytes.{GRPGTCNT, TAGLVL, elementLimit}
 use Rattle.layout.specs.declared.Place.{Place}
 use Rattle.layout.specs.declared.ElementNo.{ElementNo}
 use Rattle.layout.specs.Typed.{placeNo, elementNo}
@@ -176,7 +177,7 @@ module _ {es : List Element} {M begun : List ℕ} {o : Open} {z : State} (h : St
   stands-noted ev = record { whole = h .whole; few = h .few; current = h .current; around = h .around }
 
   -- An element is opened in the current one.
-  pub stands-opening : {s rows places facts : List ℕ} → Tables s es rows places facts M → (k : ℕ) → o .count < 24 → 1 ≤ k → k ≤ length es → Stands es M begun (opening rows k o) (enter k z)
+  pub stands-opening : {s rows places facts : List ℕ} → Tables s es rows places facts M → (k : ℕ) → o .count < TAGLVL → 1 ≤ k → k ≤ length es → Stands es M begun (opening rows k o) (enter k z)
   stands-opening {rows = rows} tables k l some there =
       record {
         whole = simp length-set (h .whole);
@@ -223,7 +224,7 @@ pub stands-fresh : (es : List Element) (M begun : List ℕ) → Stands es M begu
 unfolding isCompleteIn requiredFor
 stands-fresh es M begun =
     record {
-      whole = length-replicate 24 none;
+      whole = length-replicate TAGLVL none;
       few = omega arith;
       current = record { entered = entered-fresh (omega arith); complete = refl; required = refl; document = λ e. refl; inner = λ l. absurd (omega arith) };
       around = tt;
@@ -234,7 +235,7 @@ stands-fresh es M begun =
 pub ranged-fresh : Ranged fresh
 ranged-fresh =
     record {
-      whole = length-replicate 24 none;
+      whole = length-replicate TAGLVL none;
       few = omega arith;
       element = omega arith;
       place = omega arith;
@@ -242,7 +243,7 @@ ranged-fresh =
       kept = λ k l. absurd (omega arith);
     }
 
-pub ranged-taking : {rows M before after : List ℕ} {p : ℕ} {o r : Open} → Taking rows M before p o r after → Ranged o → p ≤ 96 → Ranged r
+pub ranged-taking : {rows M before after : List ℕ} {p : ℕ} {o r : Open} → Taking rows M before p o r after → Ranged o → p ≤ GRPGTCNT → Ranged r
 ranged-taking t h l =
     record {
       whole = rw (t .around) (h .whole);
@@ -261,7 +262,7 @@ within-set a n x l m h k i = by-place (ℕ-discrete k n)
     by-place (yes e) = rw (e, getD-set-same a n x none l) m
     by-place (no e) = rw (getD-set-other a n k x none e) (h k (omega arith))
 
-pub ranged-opening : (rows : List ℕ) (k : ℕ) {o : Open} → Ranged o → o .count < 24 → k ≤ 64 → Ranged (opening rows k o)
+pub ranged-opening : (rows : List ℕ) (k : ℕ) {o : Open} → Ranged o → o .count < TAGLVL → k ≤ elementLimit → Ranged (opening rows k o)
 ranged-opening rows k {o} h l few =
     record {
       whole = simp length-set (h .whole);

@@ -9,12 +9,14 @@ use Rattle.rules.specs.TypeFile.{Element}
 use Rattle.rules.specs.Elements.{contentOf}
 use Rattle.rules.specs.Settling.{State, takePlace}
 use Rattle.rules.specs.Settling as rules
+use Rattle.rules.specs.Bytes.{GRPGTCNT, TAGLVL, elementLimit}
+use Rattle.layout.specs.Sizes.{RAISE}
 use Rattle.layout.specs.Typed.{placeNo, elementNo}
 use Rattle.document_laws.specs.Decide.{isCompleteIn, requiredFor}
 use Rattle.document_laws.specs.Moves as moves
 use Rattle.type_tables.specs.Tables.{completeAt, requiredAt, Tables, Entered, CanTake}
 use Rattle.type_tables.specs.Marks.{taking}
-use Rattle.and_groups.specs.Takes.{Elsewhere}
+use Rattle.and_groups.specs.Takes.{Elsewhere, FREE}
 use Rattle.open_elements.specs.declared.Entry.{Entry}
 use Rattle.open_elements.specs.declared.Open.{Open}
 
@@ -28,7 +30,7 @@ abbrev pub none : Entry
 none = entry 0 0 false 0
 
 abbrev pub fresh : Open
-fresh = record { around = replicate 24 none; count = 0; element = elementNo 0; place = placeNo 0; complete = false; required = placeNo 1 }
+fresh = record { around = replicate TAGLVL none; count = 0; element = elementNo 0; place = placeNo 0; complete = false; required = placeNo 1 }
 
 -- What is kept of the current element where another is opened in it.
 abbrev pub covered : Open → Entry
@@ -78,17 +80,17 @@ Becomes at n P (got x) = (n ≡ 0) × P x
 
 -- The numbers of an open element are ones that the tables have room for.
 pub record Within (x : Entry) : Type 0 where
-  pub element : x .element ≤ 64
-  pub place : x .place ≤ 96
-  pub required : x .required ≤ 96
+  pub element : x .element ≤ elementLimit
+  pub place : x .place ≤ GRPGTCNT
+  pub required : x .required ≤ GRPGTCNT
 
 -- At most 24 are open, for which the array has room, and all their numbers are such.
 pub record Ranged (o : Open) : Type 0 where
-  pub whole : length (o .around) ≡ 24
-  pub few : o .count ≤ 24
-  pub element : o .element .0 ≤ 64
-  pub place : o .place .0 ≤ 96
-  pub required : o .required .0 ≤ 96
+  pub whole : length (o .around) ≡ TAGLVL
+  pub few : o .count ≤ TAGLVL
+  pub element : o .element .0 ≤ elementLimit
+  pub place : o .place .0 ≤ GRPGTCNT
+  pub required : o .required .0 ≤ GRPGTCNT
   pub kept : (k : ℕ) → k < o .count → Within (getD (o .around) k none)
 
 -- What holds from token to token, by the tables of a type
@@ -112,20 +114,20 @@ AllKept es M begun a (suc n) (o ∷ os) = Kept es M begun n (getD a n none) o ×
 -- The open elements of the code, with the bits of what has begun, stand for the state z of the rules, which has all places taken. At most 24 are open, and the
 -- array has room for as many.
 pub record Stands (es : List Element) (M begun : List ℕ) (o : Open) (z : State) : Type 0 where
-  pub whole : length (o .around) ≡ 24
-  pub few : o .count ≤ 24
+  pub whole : length (o .around) ≡ TAGLVL
+  pub few : o .count ≤ TAGLVL
   pub current : Kept es M begun (o .count) (covered o) (z .current)
   pub around : AllKept es M begun (o .around) (o .count) (z .around)
 
 -- The marks that are left of those of a row, by what the groups around the place answer: 255 where none lacks a member.
 pub record Weighs (m : ℕ) (row : Bool) (kept : ℕ) (complete : Bool) (required : ℕ) : Type 0 where
-  pub held : (m ≡ 255 → ⊥) → (complete ≡ false) × (required ≡ m)
-  pub free : m ≡ 255 → (complete ≡ row) × (required ≤ 96) × (96 < kept → kept ≤ 224 → required ≡ kept - 128)
+  pub held : (m ≡ FREE → ⊥) → (complete ≡ false) × (required ≡ m)
+  pub free : m ≡ FREE → (complete ≡ row) × (required ≤ GRPGTCNT) × (GRPGTCNT < kept → kept ≤ RAISE + GRPGTCNT → required ≡ kept - RAISE)
 
 -- The place p is taken at the level in the element e, after the place u, and these are its marks. The bits of the other levels are as they were; by the tables
 -- of a type the marks are what the definition says of the places taken.
 pub record Marking (rows M before : List ℕ) (level e u p : ℕ) (after : List ℕ) (complete : Bool) (required : ℕ) : Type 0 where
-  pub small : required ≤ 96
+  pub small : required ≤ GRPGTCNT
   pub whole : length after ≡ length before
   pub elsewhere : Elsewhere level before after
   pub marks : (s : List ℕ) (es : List Element) (places facts : List ℕ) → Tables s es rows places facts M → (o : rules.Open) → Entered es M before level e u o → CanTake es o p
@@ -138,7 +140,7 @@ pub record Taking (rows M before : List ℕ) (p : ℕ) (o r : Open) (after : Lis
   pub count : r .count ≡ o .count
   pub element : r .element ≡ o .element
   pub place : r .place .0 ≡ p
-  pub small : r .required .0 ≤ 96
+  pub small : r .required .0 ≤ GRPGTCNT
   pub whole : length after ≡ length before
   pub elsewhere : Elsewhere (o .count) before after
   pub stands : (s : List ℕ) (es : List Element) (places facts : List ℕ) → Tables s es rows places facts M → (z : State) → Stands es M before o z → CanTake es (z .current) p → Stands es M after r (takePlace p z)

@@ -12,10 +12,12 @@ use Rattle.rules.specs.TypeFile.{Content, empty, model, Element}
 use Rattle.rules.specs.Elements.{contentOf}
 use Rattle.rules.specs.Decisions.{Token}
 use Rattle.rules.specs.Settling as rules
+use Rattle.rules.specs.Bytes.{GRPGTCNT}
+use Rattle.layout.specs.Sizes.{REQUIRED}
 use Rattle.layout.specs.declared.Place.{Place}
 use Rattle.document_laws.specs.Decide.{fitsIn, requiredFor, decided}
 use Rattle.document_laws.specs.OneReading.{accepted-decided}
-use Rattle.and_groups.specs.Takes.{Takes}
+use Rattle.and_groups.specs.Takes.{Takes, FREE}
 use Rattle.type_tables.specs.Tables.{rowAt, completeAt, Tables, Entered, CanTake}
 use Rattle.type_tables.specs.Marks.{took-plain, took-among, entered-required}
 use Rattle.open_elements.specs.Stands.{Weighs, Marking}
@@ -59,9 +61,9 @@ pub marking-same : {rows M before : List ℕ} {level e u p : ℕ} {after begun :
     → Marking rows M before level e u p after c q → Marking rows M before level e u p begun d (r .0)
 marking-same i j k m = rw (i, j, k) m
 
-module _ {rows M before : List ℕ} {level e u p kept : ℕ} (read : kept ≡ getD rows (rowAt e p + 13) 0) {c : Bool} (row : c ≡ completeAt rows e p) where
+module _ {rows M before : List ℕ} {level e u p kept : ℕ} (read : kept ≡ getD rows (rowAt e p + REQUIRED) 0) {c : Bool} (row : c ≡ completeAt rows e p) where
   -- A model without "&": the row has them.
-  pub marking-plain : kept ≤ 96 → Marking rows M before level e u p before c kept
+  pub marking-plain : kept ≤ GRPGTCNT → Marking rows M before level e u p before c kept
   marking-plain l =
       record {
         small = l;
@@ -73,10 +75,10 @@ module _ {rows M before : List ℕ} {level e u p kept : ℕ} (read : kept ≡ ge
       }
 
   -- A model with "&": what its groups leave of them.
-  pub marking-among : 96 < kept → {after : List ℕ} {r : ℕ} → Takes M level e u p before after r → {d : Bool} {q : ℕ} → Weighs r c kept d q → Marking rows M before level e u p after d q
-  marking-among large {after} {r} takes {d} {q} w = by-answer (ℕ-discrete r 255)
+  pub marking-among : GRPGTCNT < kept → {after : List ℕ} {r : ℕ} → Takes M level e u p before after r → {d : Bool} {q : ℕ} → Weighs r c kept d q → Marking rows M before level e u p after d q
+  marking-among large {after} {r} takes {d} {q} w = by-answer (ℕ-discrete r FREE)
     where
-      by-answer : Dec (r ≡ 255) → Marking rows M before level e u p after d q
+      by-answer : Dec (r ≡ FREE) → Marking rows M before level e u p after d q
       by-answer (no n) =
           let (marked, due) = w .held n in
           record {
@@ -85,7 +87,7 @@ module _ {rows M before : List ℕ} {level e u p kept : ℕ} (read : kept ≡ ge
             elsewhere = takes .elsewhere;
             marks = λ s es places facts tables o entered can.
                 let (there, complete, required) = took-among tables entered can read large takes in
-                (there, marked ∙ (rw (ne-eqb r 255 n) at complete), due ∙ (rw (ne-eqb r 255 n) at required));
+                (there, marked ∙ (rw (ne-eqb r FREE n) at complete), due ∙ (rw (ne-eqb r FREE n) at required));
           }
       by-answer (yes i) =
           let (marked, small, low) = w .free i in
@@ -95,6 +97,6 @@ module _ {rows M before : List ℕ} {level e u p kept : ℕ} (read : kept ≡ ge
             elsewhere = takes .elsewhere;
             marks = λ s es places facts tables o entered can.
                 let (there, complete, required) = took-among tables entered can read large takes in
-                let due = rw (eq-eqb r 255 i) at required in
-                (there, marked ∙ row ∙ (rw (eq-eqb r 255 i) at complete), low large (omega (arith, due, entered-required tables there)) ∙ due);
+                let due = rw (eq-eqb r FREE i) at required in
+                (there, marked ∙ row ∙ (rw (eq-eqb r FREE i) at complete), low large (omega (arith, due, entered-required tables there)) ∙ due);
           }

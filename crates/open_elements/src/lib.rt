@@ -1,12 +1,18 @@
 // The open elements from token to token: what is taken, opened and ended in them.
+use and_groups::FREE;
 use layout::BEGUN;
 use layout::ElementNo;
+use layout::GRPGTCNT;
 use layout::Place;
+use layout::RAISE;
 use layout::ROWS;
+use layout::TAGLVL;
 ghost use mathlib.Core.Path.{_≡_};
 ghost use mathlib.Core.Bool.{true};
-ghost use Prim.Native.Nat.{_-_, _≤_, _<_};
+ghost use Prim.Native.Nat.{_+_, _-_, _≤_, _<_};
 ghost use Rattle.rules.specs.Settling.{shown, isOpen};
+ghost use Rattle.rules.specs.Bytes.{GRPGTCNT, TAGLVL, elementLimit};
+ghost use Rattle.layout.specs.Sizes.{RAISE};
 ghost use Rattle.open_elements.specs.Stands.{entry, fresh, opening, ended, bare, Ranged, Weighs, Taking, Starting};
 
 // An open element, the place that was taken last in it, or 0, and its marks: whether its content is complete there, and
@@ -24,7 +30,7 @@ pub struct Entry {
 //
 // A method that reaches into the array copies it to a local and puts it back: so it stays in one place.
 pub struct Open {
-    pub around: [Entry; 24],
+    pub around: [Entry; TAGLVL],
     pub count: usize,
     pub element: ElementNo,
     pub place: Place,
@@ -48,8 +54,8 @@ struct Marks {
 // The place as the event of a start has it, which took it in this parent: the document itself stands in no model, so that the document element
 // has 0.
 pub fn place_shown(parent: ElementNo, place: Place) -> Place
-    requires { ⌜ place .0 ≤ 96 ⌝ }
-    ensures { λ r. ⌜ (r .0 ≡ shown (parent .0) (place .0)) × (r .0 ≤ 96) ⌝ }
+    requires { ⌜ place .0 ≤ GRPGTCNT ⌝ }
+    ensures { λ r. ⌜ (r .0 ≡ shown (parent .0) (place .0)) × (r .0 ≤ GRPGTCNT) ⌝ }
 {
     if parent.0 == 0 {
         return Place(0);
@@ -62,7 +68,7 @@ pub fn place_shown(parent: ElementNo, place: Place) -> Place
 fn weighed(m: usize, complete: bool, kept: usize) -> Marks
     ensures { λ r. ⌜ Weighs m complete kept (r .complete) (r .required .0) ⌝ }
 {
-    if m != 255 {
+    if m != FREE {
         let due = Place(m);
         return Marks {
             complete: false,
@@ -78,10 +84,10 @@ fn weighed(m: usize, complete: bool, kept: usize) -> Marks
 
 // The place that is kept 128 higher, or 0. Of a number that is not kept so the answer is not decided, but that it is at most 96.
 fn lowered(kept: usize) -> Place
-    ensures { λ r. ⌜ (r .0 ≤ 96) × (96 < kept → kept ≤ 224 → r .0 ≡ kept - 128) ⌝ }
+    ensures { λ r. ⌜ (r .0 ≤ GRPGTCNT) × (GRPGTCNT < kept → kept ≤ RAISE + GRPGTCNT → r .0 ≡ kept - RAISE) ⌝ }
 {
-    let n = kept % 128;
-    if 96 < n {
+    let n = kept % RAISE;
+    if GRPGTCNT < n {
         return Place(0);
     }
     Place(n)
@@ -90,7 +96,7 @@ fn lowered(kept: usize) -> Place
 impl Entry {
     // What is kept of an open element.
     fn of(element: ElementNo, place: Place, complete: bool, required: Place) -> Self
-        requires { ⌜ (element .0 ≤ 64) × (place .0 ≤ 96) × (required .0 ≤ 96) ⌝ }
+        requires { ⌜ (element .0 ≤ elementLimit) × (place .0 ≤ GRPGTCNT) × (required .0 ≤ GRPGTCNT) ⌝ }
         ensures { λ r. ⌜ r ≡ entry (element .0) (place .0) complete (required .0) ⌝ }
     {
         Entry {
@@ -123,7 +129,7 @@ impl Open {
                 place: 0,
                 complete: false,
                 required: 0,
-            }; 24],
+            }; TAGLVL],
             count: 0,
             element: document,
             place: none,
@@ -140,7 +146,7 @@ impl Open {
         begun: &mut [u32; BEGUN],
         place: Place,
     ) -> Self
-        requires { ⌜ Ranged self × (place .0 ≤ 96) ⌝ }
+        requires { ⌜ Ranged self × (place .0 ≤ GRPGTCNT) ⌝ }
         ensures { λ r. ⌜ Taking (now (rows .entry)) (now (members .entry)) (now (begun .entry)) (place .0) self r (now (begun .exit)) ⌝ }
     {
         let n = self.count;
@@ -149,7 +155,7 @@ impl Open {
         let kept = type_tables::kept(rows, e, place);
         let mut complete = type_tables::complete(rows, e, place);
         let mut required = Place(kept);
-        if 96 < kept {
+        if GRPGTCNT < kept {
             let m = and_groups::take(members, begun, n, e, u, place);
             let marks = weighed(m, complete, kept);
             complete = marks.complete;
@@ -163,7 +169,7 @@ impl Open {
 
     // The element is opened in the current one, which is kept; its marks are those of its start.
     pub fn start(mut self, rows: &[u8; ROWS], element: ElementNo) -> Self
-        requires { ⌜ Ranged self × (self .count < 24) × (element .0 ≤ 64) ⌝ }
+        requires { ⌜ Ranged self × (self .count < TAGLVL) × (element .0 ≤ elementLimit) ⌝ }
         ensures { λ r. ⌜ r ≡ opening (now (rows .entry)) (element .0) self ⌝ }
     {
         let n = self.count;
@@ -191,7 +197,7 @@ impl Open {
         begun: &mut [u32; BEGUN],
         element: ElementNo,
     ) -> Self
-        requires { ⌜ Ranged self × (self .count < 24) × (element .0 ≤ 64) ⌝ }
+        requires { ⌜ Ranged self × (self .count < TAGLVL) × (element .0 ≤ elementLimit) ⌝ }
         ensures { λ r. ⌜ Starting (now (rows .entry)) (now (members .entry)) (now (begun .entry)) (element .0) self r (now (begun .exit)) ⌝ }
     {
         let n = self.count;
@@ -201,7 +207,7 @@ impl Open {
         let kept = type_tables::kept(rows, e, place);
         let mut complete = type_tables::complete(rows, e, place);
         let mut required = Place(kept);
-        if 96 < kept {
+        if GRPGTCNT < kept {
             let m = and_groups::take(members, begun, n, e, u, place);
             let marks = weighed(m, complete, kept);
             complete = marks.complete;

@@ -15,6 +15,7 @@ use Rattle.rules.specs.Records.{Line}
 use Rattle.rules.specs.Reader.{pieceUnder}
 use Rattle.document_laws.specs.Decide.{decided}
 use Rattle.rules_laws.specs.Runs.{isRun, runEnd}
+use Rattle.rules.specs.Bytes.{elementLimit}
 use Rattle.attribute_marks.specs.Marks.{Marked}
 use Rattle.pieces.specs.declared.Piece.{Piece}
 use Rattle.pieces.specs.declared.Piece.the-variants as found
@@ -66,7 +67,7 @@ MarksAt c s es d at (found.Refused f) marks = Unit {0}
 -- What is found moves on and stays within the document, which is `len` bytes long, and names an element that the tables have room for,
 -- whatever they hold.
 abbrev pub Onward : (len at : ℕ) → Piece → Type 0
-Onward len at (found.Token x after) = (x .0 ≤ 64) × (at < after) × (after ≤ len)
-Onward len at (found.End x after) = (x .0 ≤ 64) × (at < after) × (after ≤ len)
+Onward len at (found.Token x after) = (x .0 ≤ elementLimit) × (at < after) × (after ≤ len)
+Onward len at (found.End x after) = (x .0 ≤ elementLimit) × (at < after) × (after ≤ len)
 Onward len at (found.Passed after) = (at < after) × (after ≤ len)
 Onward len at (found.Refused f) = Unit {0}

@@ -28,6 +28,7 @@ use Rattle.layout.specs.Sizes.{LIST}
 use Rattle.rules_laws.specs.Holds.{got-so}
 use Rattle.rules_laws.specs.Pieces.{TagRead, piece-read, piece-short}
 use Rattle.rules_laws.specs.Runs.{isRun, runEnd, runEnd-in}
+use Rattle.rules.specs.Bytes.{elementLimit}
 use Rattle.tag_attributes.specs.Given.{keptOf, KeptAs}
 use Rattle.element_index.specs.Indexed.{Indexed}
 use Rattle.list_table.specs.Lists.{ListAt, Lists}
@@ -167,8 +168,8 @@ module _ (d : List ℕ) (at : ℕ) (h : at < length d) where
   pub onward-refused : {p : Piece} {f : Fault} → p ≡ found.Refused f → Onward (length d) at p
   onward-refused e = rw e tt
 
-  module _ {t : Tag} {x : ElementNo} (few : x .0 ≤ 64) where
-    onward-tag : TagRead d at t → (x .0 ≤ 64) × (at < t .after) × (t .after ≤ length d)
+  module _ {t : Tag} {x : ElementNo} (few : x .0 ≤ elementLimit) where
+    onward-tag : TagRead d at t → (x .0 ≤ elementLimit) × (at < t .after) × (t .after ≤ length d)
     onward-tag r = (few, omega (arith, r .behind, r .ends), r .inside)
 
     pub onward-start : (long : ℕ) → piece long d at ≡ got (startTag t) → Onward (length d) at (found.Token x (t .after))

@@ -23,7 +23,7 @@ ghost use mathlib.Core.List.{List};
 ghost use Prim.Native.Nat.{_+_, _*_, _-_, _≤_, _<_};
 ghost use lib.ListN.{length};
 ghost use Rattle.rules.specs.Settings.{settings, mostNameLength};
-ghost use Rattle.rules.specs.Bytes.{ATTCNT};
+ghost use Rattle.rules.specs.Bytes.{ATTCNT, GRPGTCNT, TAGLVL, documentLimit, elementLimit, typeLimit};
 ghost use Rattle.rules.specs.TypeFile.{Element};
 ghost use Rattle.rules.specs.Attributes.{Attribute};
 ghost use Rattle.rules.specs.Document as document;
@@ -63,7 +63,7 @@ fn undeclared(at: usize) -> Piece
 fn tagged(s: &[u8], elements: &[u32; RECORDS], index: &[u8; INDEX], d: &[u8], t: Tag) -> ElementNo
     requires { ⌜ (1 ≤ t .size) × (t .size ≤ mostNameLength) × (t .name + t .size ≤ length (now d)) ⌝ }
     ensures { λ r. ⌜ ((es : List Element) → Indexed (now (s .entry)) es (now (elements .entry)) (now (index .entry)) →
-        r .0 ≡ numberOf (now (s .entry)) es (now (d .entry)) (t .name) (t .size)) × (r .0 ≤ 64) ⌝ }
+        r .0 ≡ numberOf (now (s .entry)) es (now (d .entry)) (t .name) (t .size)) × (r .0 ≤ elementLimit) ⌝ }
 {
     let f = element_index::find(s, elements, index, d, t.name, t.size);
     f.element
@@ -82,7 +82,7 @@ fn held(
     at: usize,
     marks: &mut [u16; MARKS],
 ) -> Fault
-    requires { ⌜ (1 ≤ x .0) × (x .0 ≤ 64) × (n ≤ ATTCNT + 1) × GivenIn (length (now d)) (now given) n × (length (now s) ≤ 32768) × (length (now d) ≤ 65535) ⌝ }
+    requires { ⌜ (1 ≤ x .0) × (x .0 ≤ elementLimit) × (n ≤ ATTCNT + 1) × GivenIn (length (now d)) (now given) n × (length (now s) ≤ typeLimit) × (length (now d) ≤ documentLimit) ⌝ }
     ensures { λ r. ⌜ ((xs : List Attribute) (ws : List document.Written) → ListAt long (now (s .entry)) (now (lists .entry)) (LIST * (x .0 - 1)) xs → NamesDiffer (now (s .entry)) xs → KeptAs (now (given .entry)) n ws →
         Attributed (now (s .entry)) xs (now (d .entry)) ws (now (marks .exit)) r (attributed long (now (s .entry)) xs (now (d .entry)) at ws)) ⌝ }
 {
@@ -119,7 +119,7 @@ pub fn piece_at(
     given: &mut [u16; GIVEN],
     marks: &mut [u16; MARKS],
 ) -> Piece
-    requires { ⌜ Classes (now classes) × (long ≤ mostNameLength) × (level ≤ 24) × (e .0 ≤ 64) × (u .0 ≤ 96) × (at < length (now d)) × (length (now d) ≤ 65535) × (length (now s) ≤ 32768) × (since ≤ at) ⌝ }
+    requires { ⌜ Classes (now classes) × (long ≤ mostNameLength) × (level ≤ TAGLVL) × (e .0 ≤ elementLimit) × (u .0 ≤ GRPGTCNT) × (at < length (now d)) × (length (now d) ≤ documentLimit) × (length (now s) ≤ typeLimit) × (since ≤ at) ⌝ }
     ensures { λ r. ⌜ Onward (length (now (d .entry))) at r ⌝ }
     ensures { λ r. ⌜ ((es : List Element) → Indexed (now (s .entry)) es (now (elements .entry)) (now (index .entry)) → Tables (now (s .entry)) es (now (rows .entry)) (now (places .entry)) (now (facts .entry)) (now (members .entry)) →
         Lists long (now (s .entry)) es (now (lists .entry)) →

@@ -11,6 +11,7 @@ use Rattle.rules.specs.Decisions.{start}
 use Rattle.rules.specs.Events.{startWritten, endOfEmpty, dataRun, Event}
 use Rattle.rules.specs.Settling.{State, takePlace, placeTaken, enter, note, limited}
 use Rattle.rules.specs.Records.{dueRun}
+use Rattle.rules.specs.Bytes.{TAGLVL}
 use Rattle.document_laws.specs.Decide.{decided}
 use Rattle.document_laws.specs.Moves.{state}
 use Rattle.type_tables.specs.Tables.{Declares, Facts, Tables, CanTake}
@@ -85,7 +86,7 @@ pub record Placed (rows places facts M begun : List ℕ) (found : Way) (x at sho
   pub place : (s : List ℕ) (es : List Element) → Tables s es rows places facts M → o .element .0 ≤ length es → x ≤ length es → p ≡ placeOf (decided s es .fits (o .element .0) [] (tokenOf x)) found
   pub stuck : p ≡ 0 → r .number ≡ 12
   pub taking : r .number ≡ 0 → Taking rows M begun p o (r .open) begun′
-  pub room : r .number ≡ 0 → (x ≡ 0 → ⊥) → r .open .count < 24
+  pub room : r .number ≡ 0 → (x ≡ 0 → ⊥) → r .open .count < TAGLVL
   pub notes : (p ≡ 0 → ⊥) → (s : List ℕ) (es : List Element) → Tables s es rows places facts M → (z : State) → Stands es M begun o z → CanTake es (z .current) p → x ≤ length es
       → (after : ℕ) → (1 ≤ x → after ≡ shown) → Becomes at (r .number) (Notes es x (takePlace p z) (writtenOf x opens taken at after)) (noting es x at after (takePlace p z))
 

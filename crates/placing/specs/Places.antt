@@ -14,6 +14,7 @@ use Rattle.rules.specs.Decisions.{Token}
 use Rattle.rules.specs.Events.{Event, startWritten, dataRun, endOfEmpty}
 use Rattle.rules.specs.Settling.{State, takePlace, shown, placeTaken, enter, limited}
 use Rattle.rules.specs.Records.{dueRun}
+use Rattle.rules.specs.Bytes.{GRPGTCNT, TAGLVL, elementLimit}
 use Rattle.document_laws.specs.Decide.{decided}
 use Rattle.document_laws.specs.Moves.{state, placeTaken-took}
 use Rattle.type_tables.specs.Tables.{nameNumber, Declares, Tables, CanTake}
@@ -29,27 +30,27 @@ use Rattle.placing.specs.Noting.{noting, Opens, writtenOf, shownOf, Writ
 
 -- The limit of 24
 
-pub limited-few : (at : ℕ) (z : State) → length (z .around) ≤ 24 → limited at z ≡ got z
+pub limited-few : (at : ℕ) (z : State) → length (z .around) ≤ TAGLVL → limited at z ≡ got z
 unfolding limited
-limited-few at z l = rw (le-ltb 24 (length (z .around)) l, limited)
+limited-few at z l = rw (le-ltb TAGLVL (length (z .around)) l, limited)
 
-limited-many : (at : ℕ) (z : State) → 24 < length (z .around) → limited at z ≡ refused 15 at
+limited-many : (at : ℕ) (z : State) → TAGLVL < length (z .around) → limited at z ≡ refused 15 at
 unfolding limited
-limited-many at z l = rw (lt-ltb 24 (length (z .around)) l, limited)
+limited-many at z l = rw (lt-ltb TAGLVL (length (z .around)) l, limited)
 
 -- What the rules make of the token in the state y
 
 module _ (es : List Element) (at after : ℕ) (y : State) where
   -- The limit refuses one more wherever it refuses those that are open.
-  pub noting-many : (x : ℕ) → 24 < length (y .around) → noting es x at after y ≡ refused 15 at
+  pub noting-many : (x : ℕ) → TAGLVL < length (y .around) → noting es x at after y ≡ refused 15 at
   noting-many zero l = rw (limited-many at y l)
   noting-many (suc k) l = rw (limited-many at (enter (suc k) y) (omega arith))
 
-  noting-full : (x : ℕ) → (x ≡ 0 → ⊥) → 24 ≤ length (y .around) → noting es x at after y ≡ refused 15 at
+  noting-full : (x : ℕ) → (x ≡ 0 → ⊥) → TAGLVL ≤ length (y .around) → noting es x at after y ≡ refused 15 at
   noting-full zero some l = absurd (some refl)
   noting-full (suc k) some l = rw (limited-many at (enter (suc k) y) (omega arith))
 
-  noting-notes : (x : ℕ) (b : Bool) → length (y .around) ≤ 24 → ((x ≡ 0 → ⊥) → (length (y .around) < 24) × (hasModel (contentOf es x) ≡ b))
+  noting-notes : (x : ℕ) (b : Bool) → length (y .around) ≤ TAGLVL → ((x ≡ 0 → ⊥) → (length (y .around) < TAGLVL) × (hasModel (contentOf es x) ≡ b))
       → noting es x at after y ≡ got (state (entering es x y .current) (entering es x y .around) (y .events ++ writtenOf x b (placeTaken (y .current)) at after))
   noting-notes zero b l some = rw (limited-few at y l)
   noting-notes (suc k) true l some =
@@ -135,8 +136,8 @@ place-of : {rows places facts : List ℕ} {found : Way} {x e p : ℕ} → Asked 
 place-of {x = x} asked M s es tables declared most = asked .answers s es M tables declared (tokenOf x) (tokenOf-number x) (tokenOf-declared es x most)
 
 -- Where it is not full there is room for an element.
-room : {x c : ℕ} {full : Bool} → ((x ≡ 0 → ⊥) → full ≡ leb 24 c) → full ≡ false → (x ≡ 0 → ⊥) → c < 24
-room {c = c} fills roomy i = leb-false 24 c (sym (fills i) ∙ roomy)
+room : {x c : ℕ} {full : Bool} → ((x ≡ 0 → ⊥) → full ≡ leb TAGLVL c) → full ≡ false → (x ≡ 0 → ⊥) → c < TAGLVL
+room {c = c} fills roomy i = leb-false TAGLVL c (sym (fills i) ∙ roomy)
 
 -- What the table of facts says is whether the element has a model.
 model-is : {rows places facts M : List ℕ} {x : ℕ} {b : Bool} → Opens facts x b → {s : List ℕ} {es : List Element} → Tables s es rows places facts M → (x ≡ 0 → ⊥) → x ≤ length es → {c : Bool} → b ≡ c → hasModel (contentOf es x) ≡ c
@@ -170,7 +171,7 @@ module _ {rows places facts : List ℕ} (M begun : List ℕ) {found : Way} {x at
         notes = λ some. absurd (some z);
       }
 
-  module _ (some : p ≡ 0 → ⊥) {full : Bool} (fills : (x ≡ 0 → full ≡ false) × ((x ≡ 0 → ⊥) → full ≡ leb 24 (o .count))) where
+  module _ (some : p ≡ 0 → ⊥) {full : Bool} (fills : (x ≡ 0 → full ≡ false) × ((x ≡ 0 → ⊥) → full ≡ leb TAGLVL (o .count))) where
     pub placed-full : full ≡ true → Placed rows places facts M begun found x at to n o numbers bytes (record { «open» = o; events = n; number = 15 }) begun numbers bytes
     placed-full e =
         let element : x ≡ 0 → ⊥ = (λ z. clash e (fills .0 z)) in
@@ -191,15 +192,15 @@ module _ {rows places facts : List ℕ} (M begun : List ℕ) {found : Way} {x at
           taking = λ e. absurd (omega arith);
           room = λ e. absurd (omega arith);
           notes = λ i s es tables z stands can most after ends.
-              let many = leb-true 24 (o .count) (sym (fills .1 element) ∙ e) in
+              let many = leb-true TAGLVL (o .count) (sym (fills .1 element) ∙ e) in
               subst (Becomes at 15 (Notes es x (takePlace p z) (writtenOf x false 0 at after))) (sym (noting-full es at after (takePlace p z) x element (omega (arith, stands-deep stands)))) (refl, omega arith, refl);
         }
 
-    pub placed-taken : full ≡ false → p ≤ 96 → {q : Open} {begun′ : List ℕ} → Taking rows M begun p o q begun′ → {v : ℕ} → v ≡ shown (o .element .0) p
+    pub placed-taken : full ≡ false → p ≤ GRPGTCNT → {q : Open} {begun′ : List ℕ} → Taking rows M begun p o q begun′ → {v : ℕ} → v ≡ shown (o .element .0) p
         → {m : ℕ} {numbers′ bytes′ : List ℕ} → Writes facts x v at to n numbers bytes m numbers′ bytes′
         → Placed rows places facts M begun found x at to n o numbers bytes (record { «open» = q; events = m; number = 0 }) begun′ numbers′ bytes′
     placed-taken roomy within took {v} same w =
-        let less : (x ≡ 0 → ⊥) → o .count < 24 = room (fills .1) roomy in
+        let less : (x ≡ 0 → ⊥) → o .count < TAGLVL = room (fills .1) roomy in
         record {
           ranged = ranged-taking took h within;
           small = omega arith;
@@ -219,7 +220,7 @@ module _ {rows places facts : List ℕ} (M begun : List ℕ) {found : Way} {x at
           notes = λ i s es tables z stands can most after ends.
               let y = takePlace p z in
               let deep = stands-deep stands in
-              let model : (x ≡ 0 → ⊥) → (length (y .around) < 24) × (hasModel (contentOf es x) ≡ w .b) = (λ element. (omega (arith, deep, less element), model-is (w .opens) tables element most refl)) in
+              let model : (x ≡ 0 → ⊥) → (length (y .around) < TAGLVL) × (hasModel (contentOf es x) ≡ w .b) = (λ element. (omega (arith, deep, less element), model-is (w .opens) tables element most refl)) in
               let noted = noting-notes es at after y x (w .b) (omega (arith, deep, stands .few)) model ∙ ap (λ (k : ℕ). got (state (entering es x y .current) (entering es x y .around) (y .events ++ writtenOf x (w .b) k at after))) (shows stands p same) in
               subst (Becomes at 0 (Notes es x y (writtenOf x (w .b) v at after))) (sym noted) (refl, refl);
         }
@@ -246,7 +247,7 @@ module _ {rows places facts M begun : List ℕ} {found : Way} {x at to n : ℕ} 
       }
 
   module _ (fine : r .number ≡ 0) (b : Bool) (none : x ≡ 0 → b ≡ false) {q : Open} (i : q ≡ openedBy rows x b (r .open)) where
-    pub opened-ranged : x ≤ 64 → Ranged q
+    pub opened-ranged : x ≤ elementLimit → Ranged q
     opened-ranged small = rw i (by-flag b none)
       where
         by-flag : (b : Bool) → (x ≡ 0 → b ≡ false) → Ranged (openedBy rows x b (r .open))
@@ -279,7 +280,7 @@ module _ {rows places facts M begun : List ℕ} {found : Way} {x at to n : ℕ} 
           (λ e w is. (subst (Stands es M begun′ q) (sym is) (stands-noted opened-stands (y .events ++ ev)), ap (λ (v : State). v .events) is)) (h .notes some s es tables z stands can most after ends)
 
   -- Whatever the tables hold: an element that opens by the table of facts was opened.
-  pub places-opened : r .number ≡ 0 → x ≤ 64 → (b : Bool) → Opens facts x b → {q : Open} → q ≡ openedBy rows x b (r .open) → Places rows places facts M begun found x at to n o numbers bytes r q begun′ numbers′ bytes′
+  pub places-opened : r .number ≡ 0 → x ≤ elementLimit → (b : Bool) → Opens facts x b → {q : Open} → q ≡ openedBy rows x b (r .open) → Places rows places facts M begun found x at to n o numbers bytes r q begun′ numbers′ bytes′
   places-opened fine small b opens i =
       record {
         placed = h;

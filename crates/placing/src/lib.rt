@@ -15,6 +15,7 @@ use open_elements::Open;
 use open_elements::Outcome;
 use ways::Way;
 ghost use Prim.Native.Nat.{_+_, _≤_, _<_};
+ghost use Rattle.rules.specs.Bytes.{GRPGTCNT, elementLimit};
 ghost use Rattle.open_elements.specs.Stands.{Ranged};
 ghost use Rattle.ways.specs.Asks.{fitOf};
 ghost use Rattle.placing.specs.Noting.{Writes, Placed};
@@ -30,7 +31,7 @@ fn put_written(
     numbers: &mut [u32],
     bytes: &mut [u8],
 ) -> usize
-    requires { ⌜ (x .0 ≤ 64) × (taken .0 ≤ 96) × (at ≤ shown) × (shown < 4294967296) × (n + 2 < 4294967296) ⌝ }
+    requires { ⌜ (x .0 ≤ elementLimit) × (taken .0 ≤ GRPGTCNT) × (at ≤ shown) × (shown < 4294967296) × (n + 2 < 4294967296) ⌝ }
     ensures { λ r. ⌜ Writes (now (facts .entry)) (x .0) (taken .0) at shown n (now (numbers .entry)) (now (bytes .entry)) r (now (numbers .exit)) (now (bytes .exit)) ⌝ }
 {
     let none = Place(0);
@@ -64,7 +65,7 @@ pub fn placed(
     numbers: &mut [u32],
     bytes: &mut [u8],
 ) -> Outcome
-    requires { ⌜ Ranged state × (fitOf found ≤ 96) × (x .0 ≤ 64) × (at ≤ shown) × (shown < 4294967296) × (n + 2 < 4294967296) ⌝ }
+    requires { ⌜ Ranged state × (fitOf found ≤ GRPGTCNT) × (x .0 ≤ elementLimit) × (at ≤ shown) × (shown < 4294967296) × (n + 2 < 4294967296) ⌝ }
     ensures { λ r. ⌜ Placed (now (rows .entry)) (now (places .entry)) (now (facts .entry)) (now (members .entry)) (now (begun .entry)) found (x .0) at shown n state (now (numbers .entry)) (now (bytes .entry)) r (now (begun .exit)) (now (numbers .exit)) (now (bytes .exit)) ⌝ }
 {
     let e = state.element;

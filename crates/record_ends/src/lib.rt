@@ -12,9 +12,9 @@ ghost use Rattle.rules.specs.Settling as rules;
 ghost use Rattle.rules.specs.Records.{isIgnored, markBehind};
 ghost use Rattle.record_ends.specs.Held.{lineOf, isHeld, shownEnd, Since, PutsWhole, Frees};
 
-const RE: u8 = 13;
+const RE: u8 = b'\r';
 
-const RS: u8 = 10;
+const RS: u8 = b'\n';
 
 // Whether the byte at `at`, which would be data, is a byte 13 that is ignored by what came before it. u is the last place taken in the current element.
 // Where a place was taken though neither a tag nor data came, what it answers is not decided: no reading comes there.

@@ -6,7 +6,8 @@ use mathlib.Core.Logic.{_⊎_}
 use mathlib.Core.List.{List}
 use lib.ListN.{getD}
 use lib.Dec.{eqb}
-use Rattle.layout.specs.Sizes.{POSITIONS, ROW}
+use Rattle.rules.specs.Bytes.{GRPGTCNT}
+use Rattle.layout.specs.Sizes.{POSITIONS, ROW, RAISE}
 use Rattle.document_laws.specs.Decide.{search}
 use Rattle.and_next.specs.Follows.{Follows}
 
@@ -33,7 +34,7 @@ pub record Linked (places : List ℕ) (e : ℕ) (f : ℕ → Bool) (n : ℕ) : T
 
 -- r is the largest of the linked places from n on of which it is said that they may come next, whichever they are, or 0.
 pub record Largest (Says : ℕ → Bool → Type 0) (places : List ℕ) (e n r : ℕ) : Type 0 where
-  pub small : r ≤ 96
+  pub small : r ≤ GRPGTCNT
   pub finds : (f next : ℕ → Bool) → Linked places e f n → ((q : ℕ) (b : Bool) → 1 ≤ q → q ≤ n → Says q b → b ≡ next q) → r ≡ search (λ q. f q && next q) n
 
 -- The row says it.
@@ -46,5 +47,5 @@ BothSay rows M begun level e u q b = ((nextBit rows e u q ≡ false) × (b ≡ f
 
 -- The same from a number that is 128 higher.
 pub record LargestRaised (Says : ℕ → Bool → Type 0) (places : List ℕ) (e p r : ℕ) : Type 0 where
-  pub small : r ≤ 96
-  pub finds : (n : ℕ) → p ≡ 128 + n → n ≤ 96 → Largest Says places e n r
+  pub small : r ≤ GRPGTCNT
+  pub finds : (n : ℕ) → p ≡ RAISE + n → n ≤ GRPGTCNT → Largest Says places e n r

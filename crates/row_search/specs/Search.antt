@@ -5,6 +5,8 @@ use mathlib.Core.Path.{_≡_, refl, sym, _∙_, ap, subst}
 use mathlib.Core.Bool.{Bool, true, false, _&&_}
 use mathlib.Core.List.{List}
 use native.Mathlib.Omega.{arith}
+use Rattle.rules.specs.Bytes.{GRPGTCNT}
+use Rattle.layout.specs.Sizes.{RAISE}
 use Rattle.model_sets.specs.Bits.{and-both, bool-cases}
 use Rattle.and_laws.specs.Rows.{and-no}
 use Rattle.document_laws.specs.Decide.{search, search-passes}
@@ -60,7 +62,7 @@ module _ (Says : ℕ → Bool → Type 0) (places : List ℕ) (e n : ℕ) where
     seeks-none z = record { small = omega arith; finds = λ f next linked says. sym (seeks .left f next linked says .still ∙ ap (search (λ p. f p && next p)) z ∙ search-none (λ p. f p && next p)) }
 
     module _ (some : q ≡ 0 → ⊥) where
-      pub seeks-found : q ≤ 96 → Says q true → Largest Says places e n q
+      pub seeks-found : q ≤ GRPGTCNT → Says q true → Largest Says places e n q
       seeks-found few s =
           record {
             small = few;
@@ -94,11 +96,11 @@ module _ (Says : ℕ → Bool → Type 0) (places : List ℕ) (e n : ℕ) where
 
 -- A number that is raised
 module _ (Says : ℕ → Bool → Type 0) (places : List ℕ) (e p : ℕ) where
-  pub raised-low : p < 128 → LargestRaised Says places e p 0
+  pub raised-low : p < RAISE → LargestRaised Says places e p 0
   raised-low l = record { small = omega arith; finds = λ n z few. absurd (omega arith) }
 
-  pub raised-high : 96 < p - 128 → LargestRaised Says places e p 0
+  pub raised-high : GRPGTCNT < p - RAISE → LargestRaised Says places e p 0
   raised-high l = record { small = omega arith; finds = λ n z few. absurd (omega arith) }
 
-  pub raised-from : (r : ℕ) → 128 ≤ p → Largest Says places e (p - 128) r → LargestRaised Says places e p r
-  raised-from r l found = record { small = found .small; finds = λ n z few. let d : p - 128 ≡ n = omega arith in subst (λ (m : ℕ). Largest Says places e m r) d found }
+  pub raised-from : (r : ℕ) → RAISE ≤ p → Largest Says places e (p - RAISE) r → LargestRaised Says places e p r
+  raised-from r l found = record { small = found .small; finds = λ n z few. let d : p - RAISE ≡ n = omega arith in subst (λ (m : ℕ). Largest Says places e m r) d found }

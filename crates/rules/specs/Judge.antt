@@ -70,6 +70,10 @@ abbrev pub contentNumbers : Content → List ℕ
 contentNumbers empty = 0 ∷ 0 ∷ []
 contentNumbers (model g ps n) = 1 ∷ n ∷ []
 
+-- How many numbers an element has there.
+abbrev pub recordWidth : ℕ
+recordWidth = 6
+
 unfoldable pub records : List Element → List ℕ
 records [] = []
 records (e ∷ es) = e .at ∷ e .size ∷ e .start ∷ e .end ∷ (contentNumbers (e .content) ++ records es)
@@ -90,7 +94,7 @@ pub data Refuses (c : Settings) (s : List ℕ) (room : ℕ) (a : Answer) : Type 
   malformed : Legible c s → (n k : ℕ) → typeFile (c .nameLength) s ≡ refused n k → a ≡ refusal n k 0 0 → Refuses c s room a
   repeated : Legible c s → (es : List Element) → typeFile (c .nameLength) s ≡ got es → 1 ≤ firstRepeated es → a ≡ refusal 25 (firstRepeated es) 0 0 → Refuses c s room a
   ambiguous : Legible c s → (es : List Element) → typeFile (c .nameLength) s ≡ got es → firstRepeated es ≡ 0 → (k p q : ℕ) → FirstAmbiguous s k p q es → a ≡ refusal 9 k p q → Refuses c s room a
-  noRoom : Legible c s → (es : List Element) → typeFile (c .nameLength) s ≡ got es → firstRepeated es ≡ 0 → AllUnambiguous s es → room < 6 * length es → a ≡ refusal 19 0 0 0 → Refuses c s room a
+  noRoom : Legible c s → (es : List Element) → typeFile (c .nameLength) s ≡ got es → firstRepeated es ≡ 0 → AllUnambiguous s es → room < recordWidth * length es → a ≡ refusal 19 0 0 0 → Refuses c s room a
 
 -- The type is accepted with these elements.
 pub record Accepts (c : Settings) (s : List ℕ) (es : List Element) : Type 0 where
@@ -103,4 +107,4 @@ pub record Accepts (c : Settings) (s : List ℕ) (es : List Element) : Type 0 wh
 -- "What lies behind the last number written stays as it was; on refusal the whole buffer is zero and the count is 0."
 pub data Judged (l : Lent) (c : Settings) (s before : List ℕ) (a : Answer) (after : List ℕ) : Type 0 where
   refuses : Refuses c s (room l before) a → after ≡ zeroed before → Judged l c s before a after
-  accepts : (es : List Element) → Accepts c s es → 6 * length es ≤ room l before → a ≡ acceptance (length es) → after ≡ filledWith (standing l (records es)) before → Judged l c s before a after
+  accepts : (es : List Element) → Accepts c s es → recordWidth * length es ≤ room l before → a ≡ acceptance (length es) → after ≡ filledWith (standing l (records es)) before → Judged l c s before a after

@@ -9,7 +9,7 @@ use Rattle.rules.specs.Bytes.{elementLimit}
 use Rattle.rules.specs.Lent.{Lent, standing, room, filledWith, zeroed}
 use Rattle.rules.specs.Attributes.{DeclaredValue, cdata, number, name, tokens, Default, required, implied, literal, Attribute}
 use Rattle.rules.specs.TypeFile.{Element}
-use Rattle.rules.specs.Judge.{Answer, refusal, acceptance, Refuses, Accepts}
+use Rattle.rules.specs.Judge.{Answer, refusal, acceptance, Refuses, Accepts, recordWidth}
 
 -- A declared value as two numbers: 0 CDATA, 1 NUMBER, 2 NAME, 3 a name token group, and where the group stands, else 0.
 abbrev pub valueNumbers : DeclaredValue → List ℕ
@@ -45,6 +45,6 @@ attributeCount (e ∷ es) = length (e .attributes) + attributeCount es
 -- What the call answers to a type file under the settings c, and what the lent buffer, `before` the call, holds after it: as the judge refuses where it has
 -- room for all records, it refuses; 19 "only where nothing else is wrong, and exactly if the numbers don't fit".
 pub data Lists (l : Lent) (c : Settings) (s before : List ℕ) (a : Answer) (after : List ℕ) : Type 0 where
-  refuses : Refuses c s (6 * elementLimit) a → after ≡ zeroed before → Lists l c s before a after
+  refuses : Refuses c s (recordWidth * elementLimit) a → after ≡ zeroed before → Lists l c s before a after
   noRoom : (es : List Element) → Accepts c s es → room l before < attributeWidth * attributeCount es → a ≡ refusal 19 0 0 0 → after ≡ zeroed before → Lists l c s before a after
   accepts : (es : List Element) → Accepts c s es → attributeWidth * attributeCount es ≤ room l before → a ≡ acceptance (attributeCount es) → after ≡ filledWith (standing l (listNumbers 1 es)) before → Lists l c s before a after

@@ -7,8 +7,8 @@ use mathlib.Core.Bool.{true, false, _||_}
 use mathlib.Core.List.{List, [], _∷_, _++_}
 use lib.ListN.{length}
 use lib.Dec.{eqb, leb}
-use Rattle.rules.specs.Settings.{Settings, settings, firstEdition}
-use Rattle.rules.specs.Bytes.{byteAt, fold}
+use Rattle.rules.specs.Settings.{Settings, settings, leastNameLength, firstEdition}
+use Rattle.rules.specs.Bytes.{byteAt, fold, MINUS}
 use Rattle.rules.specs.Reading.{got}
 use Rattle.rules.specs.Attributes.{attributeAt}
 use Rattle.rules.specs.TypeFile.{Element}
@@ -41,7 +41,7 @@ upper s at (suc n) = fold (byteAt s at) ∷ upper s (at + 1) n
 
 -- The "element name in upper case or `-`".
 abbrev pub nameText : List ℕ → List Element → ℕ → List ℕ
-nameText s es zero = 45 ∷ []
+nameText s es zero = MINUS ∷ []
 nameText s es (suc k) = upper s (elementAt es k .at) (elementAt es k .size)
 
 -- The number of the element that starts next.
@@ -100,7 +100,7 @@ programRoom = 20480
 
 -- "The small program gives 8" (paper 02, request six).
 abbrev pub programSettings : Settings
-programSettings = settings 8 firstEdition
+programSettings = settings leastNameLength firstEdition
 
 -- The text for the type file s and the document d, read under these settings with that many numbers lent.
 pub data Prints (s d text : List ℕ) : Type 0 where

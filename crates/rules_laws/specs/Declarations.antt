@@ -9,7 +9,7 @@ use native.Mathlib.Omega.{arith}
 use lib.ListN.{length}
 use lib.Dec.{eqb, leb, ltb}
 use borrow.Author.Tests.{eqb-false, ltb-false, leb-false}
-use Rattle.rules.specs.Bytes.{byteAt, letter, nameEnd, separatorsEnd, elementLimit}
+use Rattle.rules.specs.Bytes.{byteAt, letter, nameEnd, separatorsEnd, elementLimit, DSO, EXCLAMATION, GRPO, MDC, MINUS, OPT, PERO, PLUS, STAGO}
 use Rattle.rules.specs.Reading.{refused, got}
 use Rattle.rules.specs.Attributes.{Attribute, AttList}
 use Rattle.rules.specs.TypeFile.{commentDeclaration, gap, isWord, O, ELEMENT, ATTLIST, ContentEnd, Element, isDeclared, elementName, Word, omission, Head, words, head, content, close, Declared, rest, element, declaredFrom, isListed, Listed, listedElement, Declarations, attributeList, keyword, markup, declaration, declarationsWithin, attributesOf, listed, typeFile, declare}
@@ -151,8 +151,8 @@ module _ (s : List ℕ) where
   unfolding close
   close-read i =
       let b = byteAt s i in
-      either (eqb b 62) (λ x. reads (omega arith, omega (arith, test-in (λ v. eqb v 62) refl s i x)))
-      (λ x. either ((eqb b 45 || eqb b 43) && eqb (byteAt s (i + 1)) 40) (λ y. stops (λ h. omega arith)) (λ y. unfit-holds s i (λ n k r. r)))
+      either (eqb b MDC) (λ x. reads (omega arith, omega (arith, test-in (λ v. eqb v MDC) refl s i x)))
+      (λ x. either ((eqb b MINUS || eqb b PLUS) && eqb (byteAt s (i + 1)) GRPO) (λ y. stops (λ h. omega arith)) (λ y. unfit-holds s i (λ n k r. r)))
 
 -- Element declarations
 
@@ -169,15 +169,15 @@ module _ (long : ℕ) (s : List ℕ) where
       (λ z. either (leb elementLimit (length es)) (λ u. stops (omega arith))
       (λ u.
       reads (record { name = record { some = omega (arith, nameEnd-more s i x); ends = omega arith }; short = ltb-false _ _ y; named = x; fresh = z; room = leb-false _ _ u; inside = l })))))
-      (λ x. either (eqb (byteAt s i) 40) (λ y. stops (omega arith)) (λ y. unfit-holds s i (λ n k r. r h)))
+      (λ x. either (eqb (byteAt s i) GRPO) (λ y. stops (omega arith)) (λ y. unfit-holds s i (λ n k r. r h)))
 
   pub omission-read : (from i : ℕ) → Holds (InFrom s i) (WordRead s i) (omission long s from i)
   unfolding omission
   omission-read from i =
       let e = nameEnd s i in
       let b = byteAt s i in
-      either (eqb b 45 && ltb from i)
-      (λ x. reads (record { value = omega arith; from = omega arith; inside = omega (arith, test-in (λ v. eqb v 45 && ltb from i) refl s i x) }))
+      either (eqb b MINUS && ltb from i)
+      (λ x. reads (record { value = omega arith; from = omega arith; inside = omega (arith, test-in (λ v. eqb v MINUS && ltb from i) refl s i x) }))
       (λ x. either (letter b)
       (λ y.
       let l = letter-in s i y in
@@ -272,7 +272,7 @@ module _ (long : ℕ) (s : List ℕ) where
       (λ y. either (leb 1 k)
       (λ z. either (isListed ls k) (λ u. twice s h) (λ u. reads (nameEnd-more s i x, nameEnd-le s i h)))
       (λ z. undeclared s h)))
-      (λ x. either (eqb (byteAt s i) 40) (λ y. early s (omega arith)) (λ y. unfit-holds s i (λ n k r. in-file s (r h))))
+      (λ x. either (eqb (byteAt s i) GRPO) (λ y. early s (omega arith)) (λ y. unfit-holds s i (λ n k r. in-file s (r h))))
 
   list-parts : (i at : ℕ) (es : List Element) (ls : List AttList) → i < at → at ≤ length s → Holds (InFile s) (DeclarationsRead long s i es ls) (attributeList long s at es ls)
   unfolding attributeList
@@ -304,21 +304,21 @@ module _ (long : ℕ) (s : List ℕ) where
   unfolding markup
   markup-read i es ls h =
       let b = byteAt s (i + 2) in
-      either (eqb b 62) (λ x. reads (record { from = omega arith; inside = omega (arith, test-in (λ v. eqb v 62) refl s (i + 2) x); grows = same; lists = nothing }))
-      (λ x. either (eqb b 45)
-      (λ y. either (eqb (byteAt s (i + 3)) 45) (λ z. on (at-file s (comment-within s (i + 2) h)) (λ j l. reads (record { from = omega (arith, l); inside = l .1; grows = same; lists = nothing })))
-      (λ z. early s (omega (arith, test-in (λ v. eqb v 45) refl s (i + 2) y))))
-      (λ y. either (eqb b 91) (λ z. early s (omega arith)) (λ z. either (letter b) (λ u. keyword-read i es ls h) (λ u. early s (omega arith)))))
+      either (eqb b MDC) (λ x. reads (record { from = omega arith; inside = omega (arith, test-in (λ v. eqb v MDC) refl s (i + 2) x); grows = same; lists = nothing }))
+      (λ x. either (eqb b MINUS)
+      (λ y. either (eqb (byteAt s (i + 3)) MINUS) (λ z. on (at-file s (comment-within s (i + 2) h)) (λ j l. reads (record { from = omega (arith, l); inside = l .1; grows = same; lists = nothing })))
+      (λ z. early s (omega (arith, test-in (λ v. eqb v MINUS) refl s (i + 2) y))))
+      (λ y. either (eqb b DSO) (λ z. early s (omega arith)) (λ z. either (letter b) (λ u. keyword-read i es ls h) (λ u. early s (omega arith)))))
 
   declaration-read : (i : ℕ) (es : List Element) (ls : List AttList) → i < length s → Holds (InFile s) (DeclarationsRead long s i es ls) (declaration long s i es ls)
   unfolding declaration
   declaration-read i es ls h =
       let b = byteAt s i in
       let second = byteAt s (i + 1) in
-      either (eqb b 60)
-      (λ x. either (eqb second 33) (λ y. markup-read i es ls (omega (arith, test-in (λ v. eqb v 33) refl s (i + 1) y)))
-      (λ y. either (eqb second 63) (λ z. early s (omega arith)) (λ z. early s (omega arith))))
-      (λ x. either (eqb b 37) (λ y. early s (omega arith)) (λ y. early s (omega arith)))
+      either (eqb b STAGO)
+      (λ x. either (eqb second EXCLAMATION) (λ y. markup-read i es ls (omega (arith, test-in (λ v. eqb v EXCLAMATION) refl s (i + 1) y)))
+      (λ y. either (eqb second OPT) (λ z. early s (omega arith)) (λ z. early s (omega arith))))
+      (λ x. either (eqb b PERO) (λ y. early s (omega arith)) (λ y. early s (omega arith)))
 
   listed-in : {ls ms : List AttList} → Adds long s ls ms → All (ListIn long s) ls → All (ListIn long s) ms
   listed-in nothing a = a

@@ -9,7 +9,7 @@ use native.Mathlib.Omega.{arith}
 use lib.ListN.{length, drop, length-append}
 use lib.Dec.{eqb, leb, ltb}
 use borrow.Author.Tests.{ltb-true, ltb-false, leb-true, leb-false}
-use Rattle.rules.specs.Bytes.{byteAt, letter, nameEnd, separatorsEnd, GRPCNT, ATTCNT}
+use Rattle.rules.specs.Bytes.{byteAt, letter, nameEnd, separatorsEnd, GRPCNT, ATTCNT, GRPC, GRPO, MDC, PERO, RNI}
 use Rattle.rules.specs.Reading.{Reading, refused, got}
 use Rattle.rules.specs.Attributes.{Part, bytesIn, quote, inLiteral, literalEnd, DeclaredValue, cdata, number, name, tokens, Default, required, implied, literal, Attribute, attributeOf, fits}
 use Rattle.rules.specs.TypeFile.{gap, isWord, isCut, CDATA, NUMBER, NAME, REQUIRED, IMPLIED, unfit, isToken, groupToken, TokensEnd, isTokenConnector, groupTokens, tokenGroup, tokensOf, attributeName, ValueEnd, valueWord, declaredValue, DefaultEnd, defaultWord, defaultLiteral, isGroup, defaultValue, Definition, definition, ListEnd, definitions, listFrom}
@@ -128,7 +128,7 @@ module _ (long : ℕ) (s : List ℕ) where
       (λ y. either (leb GRPCNT (length ps)) (λ z. early s (omega arith))
       (λ z. either (isToken s (seen ++ ps) i (e - i)) (λ u. twice s h)
       (λ u. reads (record { at = refl; part = record { some = omega (arith, ltb-true i e x); ends = omega (arith, ltb-true i e x) }; few = leb-false _ _ z })))))
-      (λ x. either (eqb (byteAt s i) 37) (λ y. early s (omega arith)) (λ y. early s (omega arith)))
+      (λ x. either (eqb (byteAt s i) PERO) (λ y. early s (omega arith)) (λ y. early s (omega arith)))
 
   record TokensRead (at : ℕ) (t : TokensEnd) : Type 0 where
     from : at < t .at
@@ -148,11 +148,11 @@ module _ (long : ℕ) (s : List ℕ) where
       let from = separatorsEnd-from s (p .at + p .size) in
       let before = separatorsEnd-from s at in
       let start = r .at in
-      either (eqb b 41)
+      either (eqb b GRPC)
       (λ x.
-      let inside = test-in (λ v. eqb v 41) refl s i x in
+      let inside = test-in (λ v. eqb v GRPC) refl s i x in
       reads (record { from = omega arith; inside = omega arith; few = omega (arith, length-append ps (p ∷ []), r .few); parts = all-snoc a (r .part) }))
-      (λ x. either (eqb b 37) (λ y. early s (omega arith))
+      (λ x. either (eqb b PERO) (λ y. early s (omega arith))
       (λ y. either (isTokenConnector b && (eqb connector 0 || eqb connector b))
       (λ z.
       let inside = test-in (λ v. isTokenConnector v && (eqb connector 0 || eqb connector v)) refl s i z in
@@ -215,8 +215,8 @@ module _ (long : ℕ) (s : List ℕ) where
   value-read : (seen : List Part) (i : ℕ) → i ≤ length s → Holds (InFile s) (ValueRead i) (declaredValue long s seen i)
   unfolding declaredValue
   value-read seen i h =
-      either (eqb (byteAt s i) 40)
-      (λ x. on (group-read seen i (test-in (λ v. eqb v 40) refl s i x)) (λ t w. reads (record { value = w .2; from = w .0; inside = w .1 })))
+      either (eqb (byteAt s i) GRPO)
+      (λ x. on (group-read seen i (test-in (λ v. eqb v GRPO) refl s i x)) (λ t w. reads (record { value = w .2; from = w .0; inside = w .1 })))
       (λ x. either (letter (byteAt s i)) (λ y. word-read i y) (λ y. unfit-read i h))
 
   record DefaultRead (x : DeclaredValue) (i : ℕ) (f : DefaultEnd) : Type 0 where
@@ -249,9 +249,9 @@ module _ (long : ℕ) (s : List ℕ) where
   unfolding defaultValue
   default-read x from i m h =
       let b = byteAt s i in
-      either (eqb b 35 || quote b)
+      either (eqb b RNI || quote b)
       (λ y. either (isGroup x || ltb from i)
-      (λ z. either (eqb b 35) (λ u. defaultWord-read x i (test-in (λ v. eqb v 35) refl s i u)) (λ u. defaultLiteral-read x i m h))
+      (λ z. either (eqb b RNI) (λ u. defaultWord-read x i (test-in (λ v. eqb v RNI) refl s i u)) (λ u. defaultLiteral-read x i m h))
       (λ z. early s (omega arith)))
       (λ y. unfit-read i h)
 
@@ -322,10 +322,10 @@ module _ (long : ℕ) (s : List ℕ) where
     definitions-hold zero xs from h x = twice s {k = from} h
     definitions-hold (suc left) xs from h x =
         on (at-file s (gap-within s from h)) λ i p.
-        either (eqb (byteAt s i) 62 && leb 1 (length xs))
+        either (eqb (byteAt s i) MDC && leb 1 (length xs))
         (λ y.
-        let inside = test-in (λ v. eqb v 62 && leb 1 (length xs)) refl s i y in
-        reads (record { some = leb-true 1 (length xs) (second (eqb (byteAt s i) 62) (leb 1 (length xs)) y); from = omega (arith, p); inside = omega arith; each = x }))
+        let inside = test-in (λ v. eqb v MDC && leb 1 (length xs)) refl s i y in
+        reads (record { some = leb-true 1 (length xs) (second (eqb (byteAt s i) MDC) (leb 1 (length xs)) y); from = omega (arith, p); inside = omega arith; each = x }))
         (λ y. either (letter (byteAt s i))
         (λ l. on (definition-read xs from i l) λ d r.
         so (definitions-hold left (xs ++ d .attribute ∷ []) (d .at) (r .1) (further xs (d .attribute) x (r .2))) (λ n k z. z)

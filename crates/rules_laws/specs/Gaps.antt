@@ -6,7 +6,7 @@ use native.Mathlib.Omega.{arith}
 use lib.ListN.{length, drop}
 use lib.Dec.{eqb, ltb}
 use borrow.Author.Tests.{ltb-true}
-use Rattle.rules.specs.Bytes.{byteAt, separatorsEnd}
+use Rattle.rules.specs.Bytes.{byteAt, separatorsEnd, MDC, MINUS, PERO}
 use Rattle.rules.specs.TypeFile.{atDashes, beforeDashes, commentDeclaration, gapWithin, gap}
 use Rattle.text.specs.Words.{test-in, separatorsEnd-le, dashes-end-in, gap-range}
 use Rattle.rules_laws.specs.Holds.{Holds, stops, reads, known, so, on, either}
@@ -27,7 +27,7 @@ module _ (s : List ℕ) where
       let e = i + 2 + beforeDashes (drop (i + 2) s) in
       either (atDashes s i)
       (λ d. either (ltb e (length s)) (λ y. gapWithin-within turns (e + 2) (dashes-end-in s (i + 2) e refl (ltb-true _ _ y))) (λ y. stops (omega arith)))
-      (λ d. either (eqb (byteAt s i) 37) (λ y. stops (omega arith)) (λ y. reads l))
+      (λ d. either (eqb (byteAt s i) PERO) (λ y. stops (omega arith)) (λ y. reads l))
 
   pub gap-within : (at : ℕ) → at ≤ length s → Holds (InType s) (Onward s at) (gap s at)
   unfolding gap
@@ -37,5 +37,5 @@ module _ (s : List ℕ) where
   unfolding commentDeclaration
   comment-within at h =
       on (gap-within at h)
-      (λ i r. either (eqb (byteAt s i) 62) (λ x. reads (omega (arith, r, test-in (λ v. eqb v 62) refl s i x)))
-      (λ x. either (eqb (byteAt s i) 45) (λ y. stops (omega (arith, test-in (λ v. eqb v 45) refl s i y))) (λ y. stops (omega (arith, r)))))
+      (λ i r. either (eqb (byteAt s i) MDC) (λ x. reads (omega (arith, r, test-in (λ v. eqb v MDC) refl s i x)))
+      (λ x. either (eqb (byteAt s i) MINUS) (λ y. stops (omega (arith, test-in (λ v. eqb v MINUS) refl s i y))) (λ y. stops (omega (arith, r)))))

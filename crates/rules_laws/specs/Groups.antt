@@ -7,7 +7,7 @@ use native.Mathlib.Omega.{arith}
 use lib.ListN.{length}
 use lib.Dec.{eqb, leb, ltb}
 use borrow.Author.Tests.{eqb-true, eq-eqb, ltb-false, leb-false}
-use Rattle.rules.specs.Bytes.{byteAt, letter, nameEnd, separatorsEnd, GRPCNT, GRPLVL, GRPGTCNT}
+use Rattle.rules.specs.Bytes.{byteAt, letter, nameEnd, separatorsEnd, GRPCNT, GRPLVL, GRPGTCNT, AND, DSO, GRPC, GRPO, MINUS, OPT, OR, PERO, PLUS, REP, RNI, SEQ}
 use Rattle.rules.specs.Reading.{Reading, got, andThen}
 use Rattle.rules.specs.Walk.{Group, place, seq, alt, opt, plus, and, Members, one, also, star}
 use Rattle.rules.specs.TypeFile.{isWord, isCut, PCDATA, EMPTY, ANY, CDATA, RCDATA, Place, Tokens, occurrence, newPlace, isConnector, membersOf, oneMore, join, earlier, joinTokens, nameToken, dataToken, token, Further, closed, joined, further, members, group, Content, empty, model, unfit, ContentEnd, contentWord, contentModel, content}
@@ -56,13 +56,13 @@ pub occurrence-holds : (P : Tokens → Type 0) (s : List ℕ) (t : Tokens) → P
 unfolding occurrence
 occurrence-holds P s t p f =
     let b = byteAt s (t .at) in
-    whichever P (eqb b 63) (λ x. f _ _ optional (test-in (λ v. eqb v 63) refl s (t .at) x))
-    (λ x. whichever P (eqb b 43) (λ y. f _ _ repeated (test-in (λ v. eqb v 43) refl s (t .at) y))
-    (λ y. whichever P (eqb b 42) (λ z. f _ _ any (test-in (λ v. eqb v 42) refl s (t .at) z)) (λ z. p)))
+    whichever P (eqb b OPT) (λ x. f _ _ optional (test-in (λ v. eqb v OPT) refl s (t .at) x))
+    (λ x. whichever P (eqb b PLUS) (λ y. f _ _ repeated (test-in (λ v. eqb v PLUS) refl s (t .at) y))
+    (λ y. whichever P (eqb b REP) (λ z. f _ _ any (test-in (λ v. eqb v REP) refl s (t .at) z)) (λ z. p)))
 
 module _ {R : (number position : ℕ) → Type 0} (s : List ℕ) where
   pub unfit-holds : {A : Type 0} {P : A → Type 0} (i : ℕ) → ((n k : ℕ) → InFrom s i n k → R n k) → Holds R P (unfit s i)
-  unfit-holds i stop = either (eqb (byteAt s i) 45 && leb (length s) (i + 1)) (λ y. stops (stop 4 (length s) (λ h. omega arith))) (λ y. stops (stop 4 i (λ h. omega arith)))
+  unfit-holds i stop = either (eqb (byteAt s i) MINUS && leb (length s) (i + 1)) (λ y. stops (stop 4 (length s) (λ h. omega arith))) (λ y. stops (stop 4 i (λ h. omega arith)))
 
   module _ (long : ℕ) (inner : ℕ → List Place → ℕ → Reading Tokens) where
     -- A content token: a name, `#PCDATA`, or a group; none where the group or the model is full.
@@ -79,17 +79,17 @@ module _ {R : (number position : ℕ) → Type 0} (s : List ℕ) where
         either (letter b)
         (λ x. either (ltb long (nameEnd s at - at)) (λ y. stops (stop 3 at (λ h. omega arith)))
         (λ y. either full (λ z. stops (stop 6 at (λ h. omega arith))) (λ z. reads (name z x (ltb-false _ _ y)))))
-        (λ x. either (eqb b 35)
+        (λ x. either (eqb b RNI)
         (λ y.
-        let i = test-in (λ v. eqb v 35) refl s at y in
+        let i = test-in (λ v. eqb v RNI) refl s at y in
         either (letter (byteAt s (at + 1)))
         (λ z. either (isWord s (at + 1) e PCDATA)
         (λ u. either full (λ v. stops (stop 6 at (λ h. omega arith))) (λ v. reads (pcdata v i)))
         (λ u. either (isCut s (at + 1) e PCDATA) (λ v. stops (stop 4 (length s) (λ h. omega arith))) (λ v. stops (stop 4 at (λ h. omega arith)))))
         (λ z. stops (stop 4 (at + 1) (λ h. omega arith))))
-        (λ y. either (eqb b 40)
-        (λ z. either full (λ u. stops (stop 6 at (λ h. omega arith))) (λ u. nested u (test-in (λ v. eqb v 40) refl s at z)))
-        (λ z. either (eqb b 91 || eqb b 37) (λ u. stops (stop 5 at (λ h. omega arith))) (λ u. stops (stop 4 at (λ h. omega arith))))))
+        (λ y. either (eqb b GRPO)
+        (λ z. either full (λ u. stops (stop 6 at (λ h. omega arith))) (λ u. nested u (test-in (λ v. eqb v GRPO) refl s at z)))
+        (λ z. either (eqb b DSO || eqb b PERO) (λ u. stops (stop 5 at (λ h. omega arith))) (λ u. stops (stop 4 at (λ h. omega arith))))))
 
     -- What follows: the end of the group, or a connector and a further token.
     pub further-holds : {P : Further → Type 0} (k joint : ℕ) (t : Tokens)
@@ -104,8 +104,8 @@ module _ {R : (number position : ℕ) → Type 0} (s : List ℕ) where
         let from = separatorsEnd-from s (t .at) in
         let b = byteAt s i in
         let inside : t .at ≤ length s → i ≤ length s = separatorsEnd-le s (t .at) in
-        either (eqb b 41) (λ x. reads (close i from (test-in (λ v. eqb v 41) refl s i x)))
-        (λ x. either (eqb b 37) (λ y. stops (stop 5 i (λ h. omega (arith, inside h))))
+        either (eqb b GRPC) (λ x. reads (close i from (test-in (λ v. eqb v GRPC) refl s i x)))
+        (λ x. either (eqb b PERO) (λ y. stops (stop 5 i (λ h. omega (arith, inside h))))
         (λ y. either (isConnector b && (eqb joint 0 || eqb joint b))
         (λ z.
         let l = test-in (λ v. isConnector v && (eqb joint 0 || eqb joint v)) refl s i z in
@@ -211,30 +211,30 @@ member-guarded (and m) h x y = (x, y)
 
 join-guarded : (k b : ℕ) (g h : Group) → Guarded g → Guarded h → Guarded (join k b g h)
 join-guarded k b g h x y =
-    whichever Guarded (eqb b 44) (λ e. (x, y))
-    (λ e. whichever Guarded (eqb b 124) (λ f. (x, y)) (λ f. whichever (λ (z : Members). Guarded (and (also z h))) (leb k 1) (λ i. (x, y)) (λ i. member-guarded g h x y)))
+    whichever Guarded (eqb b SEQ) (λ e. (x, y))
+    (λ e. whichever Guarded (eqb b OR) (λ f. (x, y)) (λ f. whichever (λ (z : Members). Guarded (and (also z h))) (leb k 1) (λ i. (x, y)) (λ i. member-guarded g h x y)))
 
 -- Where the first "&" stands that a connector at i and what follows it bring.
 abbrev andAt : (b i j : ℕ) → ℕ
-andAt b i j = elim (eqb b 38) [ true ↦ i | false ↦ j ]
+andAt b i j = elim (eqb b AND) [ true ↦ i | false ↦ j ]
 
 -- "&" joins to a group that has one, and tells where.
 join-plain : (k b i j : ℕ) (g h : Group) → isConnector b ≡ true → 1 ≤ i → andAt b i j ≡ 0 → Plain g → (j ≡ 0 → Plain h) → Plain (join k b g h)
 join-plain k b i j g h c l e x y =
-    whichever Plain (eqb b 44) (λ u. (x, y (other u)))
-    (λ u. whichever Plain (eqb b 124) (λ v. (x, y (choice v))) (λ v. absurd (and-only u v)))
+    whichever Plain (eqb b SEQ) (λ u. (x, y (other u)))
+    (λ u. whichever Plain (eqb b OR) (λ v. (x, y (choice v))) (λ v. absurd (and-only u v)))
   where
-    other : eqb b 44 ≡ true → j ≡ 0
-    other u = subst (λ (v : ℕ). andAt v i j ≡ 0) (eqb-true b 44 u) e
+    other : eqb b SEQ ≡ true → j ≡ 0
+    other u = subst (λ (v : ℕ). andAt v i j ≡ 0) (eqb-true b SEQ u) e
 
-    choice : eqb b 124 ≡ true → j ≡ 0
-    choice v = subst (λ (w : ℕ). andAt w i j ≡ 0) (eqb-true b 124 v) e
+    choice : eqb b OR ≡ true → j ≡ 0
+    choice v = subst (λ (w : ℕ). andAt w i j ≡ 0) (eqb-true b OR v) e
 
-    told : eqb b 38 ≡ true → i ≡ 0
-    told d = subst (λ (v : ℕ). andAt v i j ≡ 0) (eqb-true b 38 d) e
+    told : eqb b AND ≡ true → i ≡ 0
+    told d = subst (λ (v : ℕ). andAt v i j ≡ 0) (eqb-true b AND d) e
 
-    and-only : eqb b 44 ≡ false → eqb b 124 ≡ false → ⊥
-    and-only u v = let d : eqb b 38 ≡ true = rw (u, v) at c in omega (arith, told d)
+    and-only : eqb b SEQ ≡ false → eqb b OR ≡ false → ⊥
+    and-only u v = let d : eqb b AND ≡ true = rw (u, v) at c in omega (arith, told d)
 
 module _ (long : ℕ) (s : List ℕ) {T : List Place → Group → List Place → Type 0} (build : Builds long T) where
   indicated : {t : Tokens} {h : Group} {n : ℕ} {ps qs : List Place} → Indicated t h n → T ps (t .group) qs → T ps h qs
@@ -252,8 +252,8 @@ module _ (long : ℕ) (s : List ℕ) {T : List Place → Group → List Place �
 
   connected : (k b : ℕ) {g h : Group} {ps qs rs : List Place} → T ps g qs → T qs h rs → T ps (join k b g h) rs
   connected k b {g} {h} {ps} {qs} {rs} x y =
-      whichever (λ (z : Group). T ps z rs) (eqb b 44) (λ e. build .sequence x y)
-      (λ e. whichever (λ (z : Group). T ps z rs) (eqb b 124) (λ f. build .choice x y)
+      whichever (λ (z : Group). T ps z rs) (eqb b SEQ) (λ e. build .sequence x y)
+      (λ e. whichever (λ (z : Group). T ps z rs) (eqb b OR) (λ f. build .choice x y)
       (λ f. whichever (λ (z : Members). T ps (and (also z h)) rs) (leb k 1) (λ i. build .anyOrder x y) (λ i. member-more g x y)))
 
   pub occurrence-read : {at : ℕ} {ps : List Place} (t : Tokens) → Read s T at ps t → Read s T at ps (occurrence s t)
@@ -355,7 +355,7 @@ module _ (long : ℕ) (s : List ℕ) {T : List Place → Group → List Place �
   unfolding content
   content-read from i =
       let b = byteAt s i in
-      either (eqb b 40) (λ x. contentModel-read i (test-in (λ v. eqb v 40) refl s i x))
+      either (eqb b GRPO) (λ x. contentModel-read i (test-in (λ v. eqb v GRPO) refl s i x))
       (λ x. either (letter b) (λ y. contentWord-read from i y) (λ y. unfit-holds s i (λ n k h. h)))
 
 -- Where nothing is asked of the group.

@@ -8,7 +8,7 @@ use native.Mathlib.Omega.{arith}
 use lib.ListN.{length}
 use lib.Dec.{eqb, ltb}
 use borrow.Author.Tests.{ltb-false, eqb-true}
-use Rattle.rules.specs.Bytes.{byteAt, letter, nameEnd, separatorsEnd, MDC}
+use Rattle.rules.specs.Bytes.{byteAt, letter, nameEnd, separatorsEnd, MDC, AND, DSO, EXCLAMATION, OPT, RE, RS, SOLIDUS, SPACE, STAGO, TAB, VI}
 use Rattle.rules.specs.Reading.{Reading, refused, got}
 use Rattle.rules.specs.TypeFile.{atDashes, commentDeclaration}
 use Rattle.rules.specs.Attributes.{quote, isReference, literalEnd}
@@ -64,16 +64,16 @@ module _ (d : List ℕ) where
   unfolding declarationPiece
   declaration-read i h =
       let b = byteAt d (i + 2) in
-      either (eqb b 62) (λ x. reads (omega arith, omega (arith, test-in (λ v. eqb v 62) refl d (i + 2) x)))
+      either (eqb b MDC) (λ x. reads (omega arith, omega (arith, test-in (λ v. eqb v MDC) refl d (i + 2) x)))
       (λ x. either (atDashes d (i + 2))
       (λ y. on (comment-read (i + 2) (omega (arith, dashes-in d (i + 2) y))) (λ e r. reads (omega (arith, r), r .1)))
-      (λ y. either (letter b || eqb b 91) (λ z. early (omega arith)) (λ z. reads tt)))
+      (λ y. either (letter b || eqb b DSO) (λ z. early (omega arith)) (λ z. reads tt)))
 
   byte-read : (i : ℕ) → i < length d → Holds (InPiece d) (PieceRead d i) (bytePiece d i)
   unfolding bytePiece
   byte-read i h =
       let b = byteAt d i in
-      either (eqb b 10) (λ x. reads (omega arith, omega arith)) (λ x. either (eqb b 9 || (eqb b 13 || eqb b 32)) (λ y. reads tt) (λ y. reads tt))
+      either (eqb b RS) (λ x. reads (omega arith, omega arith)) (λ x. either (eqb b TAB || (eqb b RE || eqb b SPACE)) (λ y. reads tt) (λ y. reads tt))
 
 -- Its name, where it is a tag, has at most so many bytes.
 abbrev pub ShortPiece : (long : ℕ) → Piece → Type 0
@@ -88,15 +88,15 @@ module _ (d : List ℕ) (long : ℕ) where
   unfolding declarationPiece
   declaration-short i =
       let b = byteAt d (i + 2) in
-      either (eqb b 62) (λ x. reads tt)
+      either (eqb b MDC) (λ x. reads tt)
       (λ x. either (atDashes d (i + 2)) (λ y. on (each {P = λ (e : ℕ). Unit {0}} (malformed (commentDeclaration d (i + 2))) (λ n k e. tt) (λ a e. tt)) (λ e r. reads tt))
-      (λ y. either (letter b || eqb b 91) (λ z. stops tt) (λ z. reads tt)))
+      (λ y. either (letter b || eqb b DSO) (λ z. stops tt) (λ z. reads tt)))
 
   byte-short : (i : ℕ) → Gives (ShortPiece long) (bytePiece d i)
   unfolding bytePiece
   byte-short i =
       let b = byteAt d i in
-      either (eqb b 10) (λ x. reads tt) (λ x. either (eqb b 9 || (eqb b 13 || eqb b 32)) (λ y. reads tt) (λ y. reads tt))
+      either (eqb b RS) (λ x. reads tt) (λ x. either (eqb b TAB || (eqb b RE || eqb b SPACE)) (λ y. reads tt) (λ y. reads tt))
 
 module _ (long : ℕ) (d : List ℕ) where
   -- The byte before the end of what ends behind j.
@@ -113,9 +113,9 @@ module _ (long : ℕ) (d : List ℕ) where
       let after = separatorsEnd-from d e in
       let end = separatorsEnd-le d e (nameEnd-le d at (omega arith)) in
       either (ltb long (e - at)) (λ x. early d (omega arith))
-      (λ x. either (eqb (byteAt d j) 62)
+      (λ x. either (eqb (byteAt d j) MDC)
       (λ y.
-      reads (record { behind = h; some = omega (arith, nameEnd-more d at l); named = l; ends = omega arith; inside = omega (arith, test-in (λ v. eqb v 62) refl d j y); closes = closed-there j y; given = none }))
+      reads (record { behind = h; some = omega (arith, nameEnd-more d at l); named = l; ends = omega arith; inside = omega (arith, test-in (λ v. eqb v MDC) refl d j y); closes = closed-there j y; given = none }))
       (λ y. early d (omega arith)))
 
   -- A start tag
@@ -143,9 +143,9 @@ module _ (long : ℕ) (d : List ℕ) where
       let within = separatorsEnd-le d e le in
       let next = separatorsEnd-from d (j + 1) in
       either (ltb long (e - i)) (λ x. early d (omega arith))
-      (λ x. either (eqb (byteAt d j) 61)
+      (λ x. either (eqb (byteAt d j) VI)
       (λ y.
-      let last = separatorsEnd-le d (j + 1) (omega (arith, test-in (λ v. eqb v 61) refl d j y)) in
+      let last = separatorsEnd-le d (j + 1) (omega (arith, test-in (λ v. eqb v VI) refl d j y)) in
       either (quote (byteAt d k))
       (λ z. on (literal-piece k) (λ q r. reads (record { at = refl; some = omega arith; parted = omega arith; inside = omega (arith, r) })))
       (λ z. early d (omega arith)))
@@ -164,9 +164,9 @@ module _ (long : ℕ) (d : List ℕ) where
       let j = separatorsEnd d at in
       let from = separatorsEnd-from d at in
       let le = separatorsEnd-le d at g in
-      either (eqb (byteAt d j) 62)
+      either (eqb (byteAt d j) MDC)
       (λ x.
-      let inside = test-in (λ v. eqb v 62) refl d j x in
+      let inside = test-in (λ v. eqb v MDC) refl d j x in
       reads (record { behind = h; some = m; named = l; ends = omega arith; inside = omega arith; closes = closed-there j x; given = written-further (at + 1) (j + 1) (omega arith) a }))
       (λ x. either (letter (byteAt d j))
       (λ y. on (specification-read j y) λ w r.
@@ -192,14 +192,14 @@ module _ (long : ℕ) (d : List ℕ) where
   markup-read i h =
       let b = byteAt d (i + 1) in
       either (letter b) (λ x. on (start-read i (i + 1) (omega arith) x) (λ t r. reads r))
-      (λ x. either (eqb b 47 && letter (byteAt d (i + 2))) (λ y. on (tag-read i (i + 2) (omega arith) (second (eqb b 47) (letter (byteAt d (i + 2))) y)) (λ t r. reads r))
-      (λ y. either (eqb b 33) (λ z. declaration-read d i h) (λ z. either (eqb b 63) (λ u. early d (omega arith)) (λ u. reads tt))))
+      (λ x. either (eqb b SOLIDUS && letter (byteAt d (i + 2))) (λ y. on (tag-read i (i + 2) (omega arith) (second (eqb b SOLIDUS) (letter (byteAt d (i + 2))) y)) (λ t r. reads r))
+      (λ y. either (eqb b EXCLAMATION) (λ z. declaration-read d i h) (λ z. either (eqb b OPT) (λ u. early d (omega arith)) (λ u. reads tt))))
 
   pub piece-read : (i : ℕ) → i < length d → Holds (InPiece d) (PieceRead d i) (piece long d i)
   unfolding piece
   piece-read i h =
-      either (eqb (byteAt d i) 60) (λ x. markup-read i h)
-      (λ x. either (eqb (byteAt d i) 38 && isReference d i) (λ y. early d (omega arith))
+      either (eqb (byteAt d i) STAGO) (λ x. markup-read i h)
+      (λ x. either (eqb (byteAt d i) AND && isReference d i) (λ y. early d (omega arith))
       (λ y. either (isSectionEnd d i) (λ z. stops (inr refl, omega arith)) (λ z. byte-read d i h)))
 
   -- A tag that is read has a name that is no longer than `long` bytes.
@@ -208,14 +208,14 @@ module _ (long : ℕ) (d : List ℕ) where
   tag-short at =
       let e = nameEnd d at in
       let j = separatorsEnd d e in
-      either (ltb long (e - at)) (λ x. stops tt) (λ x. either (eqb (byteAt d j) 62) (λ y. reads (ltb-false _ _ x)) (λ y. stops tt))
+      either (ltb long (e - at)) (λ x. stops tt) (λ x. either (eqb (byteAt d j) MDC) (λ y. reads (ltb-false _ _ x)) (λ y. stops tt))
 
   specifications-short : (turns name e at : ℕ) (ws : List Written) → e - name ≤ long → Gives (λ (t : Tag). t .size ≤ long) (specifications long turns d name e at ws)
   unfolding specifications
   specifications-short zero name e at ws h = stops tt
   specifications-short (suc turns) name e at ws h =
       let j = separatorsEnd d at in
-      either (eqb (byteAt d j) 62) (λ x. reads h)
+      either (eqb (byteAt d j) MDC) (λ x. reads h)
       (λ x. either (letter (byteAt d j))
       (λ y. on (each {P = λ (w : Written). Unit {0}} (specification long d j) (λ n k e. tt) (λ w e. tt)) (λ w r. specifications-short turns name e (w .quote + 1 + w .width + 1) (ws ++ w ∷ []) h))
       (λ y. stops tt))
@@ -229,14 +229,14 @@ module _ (long : ℕ) (d : List ℕ) where
   markup-short i =
       let b = byteAt d (i + 1) in
       either (letter b) (λ x. on (start-short (i + 1)) (λ t r. reads r))
-      (λ x. either (eqb b 47 && letter (byteAt d (i + 2))) (λ y. on (tag-short (i + 2)) (λ t r. reads r))
-      (λ y. either (eqb b 33) (λ z. declaration-short d long i) (λ z. either (eqb b 63) (λ u. stops tt) (λ u. reads tt))))
+      (λ x. either (eqb b SOLIDUS && letter (byteAt d (i + 2))) (λ y. on (tag-short (i + 2)) (λ t r. reads r))
+      (λ y. either (eqb b EXCLAMATION) (λ z. declaration-short d long i) (λ z. either (eqb b OPT) (λ u. stops tt) (λ u. reads tt))))
 
   pub piece-short : (i : ℕ) → Gives (ShortPiece long) (piece long d i)
   unfolding piece
   piece-short i =
-      either (eqb (byteAt d i) 60) (λ x. markup-short i)
-      (λ x. either (eqb (byteAt d i) 38 && isReference d i) (λ y. stops tt)
+      either (eqb (byteAt d i) STAGO) (λ x. markup-short i)
+      (λ x. either (eqb (byteAt d i) AND && isReference d i) (λ y. stops tt)
       (λ y. either (isSectionEnd d i) (λ z. stops tt) (λ z. byte-short d long i)))
 
 -- A start tag among the pieces is the one that is read behind its `<`.
@@ -252,29 +252,29 @@ module _ (long : ℕ) (d : List ℕ) (i : ℕ) where
   unfolding declarationPiece
   declaration-starts =
       let b = byteAt d (i + 2) in
-      either (eqb b 62) (λ x. reads tt)
+      either (eqb b MDC) (λ x. reads tt)
       (λ x. either (atDashes d (i + 2)) (λ y. on (each {P = λ (e : ℕ). Unit {0}} (malformed (commentDeclaration d (i + 2))) (λ n k e. tt) (λ k e. tt)) (λ k u. reads tt))
-      (λ y. either (letter b || eqb b 91) (λ z. stops tt) (λ z. reads tt)))
+      (λ y. either (letter b || eqb b DSO) (λ z. stops tt) (λ z. reads tt)))
 
   byte-starts : Gives (StartsAs long d i) (bytePiece d i)
   unfolding bytePiece
   byte-starts =
       let b = byteAt d i in
-      either (eqb b 10) (λ x. reads tt) (λ x. either (eqb b 9 || (eqb b 13 || eqb b 32)) (λ y. reads tt) (λ y. reads tt))
+      either (eqb b RS) (λ x. reads tt) (λ x. either (eqb b TAB || (eqb b RE || eqb b SPACE)) (λ y. reads tt) (λ y. reads tt))
 
   markup-starts : Gives (StartsAs long d i) (markupPiece long d i)
   unfolding markupPiece
   markup-starts =
       let b = byteAt d (i + 1) in
       either (letter b) (λ x. on (each {P = λ (t : Tag). startTagAt long d (i + 1) ≡ got t} (startTagAt long d (i + 1)) (λ n k e. tt) (λ t e. e)) (λ t r. reads r))
-      (λ x. either (eqb b 47 && letter (byteAt d (i + 2))) (λ y. on (each {P = λ (t : Tag). Unit {0}} (tag long d (i + 2)) (λ n k e. tt) (λ t e. tt)) (λ t r. reads tt))
-      (λ y. either (eqb b 33) (λ z. declaration-starts) (λ z. either (eqb b 63) (λ u. stops tt) (λ u. reads tt))))
+      (λ x. either (eqb b SOLIDUS && letter (byteAt d (i + 2))) (λ y. on (each {P = λ (t : Tag). Unit {0}} (tag long d (i + 2)) (λ n k e. tt) (λ t e. tt)) (λ t r. reads tt))
+      (λ y. either (eqb b EXCLAMATION) (λ z. declaration-starts) (λ z. either (eqb b OPT) (λ u. stops tt) (λ u. reads tt))))
 
   piece-starts : Gives (StartsAs long d i) (piece long d i)
   unfolding piece
   piece-starts =
-      either (eqb (byteAt d i) 60) (λ x. markup-starts)
-      (λ x. either (eqb (byteAt d i) 38 && isReference d i) (λ y. stops tt)
+      either (eqb (byteAt d i) STAGO) (λ x. markup-starts)
+      (λ x. either (eqb (byteAt d i) AND && isReference d i) (λ y. stops tt)
       (λ y. either (isSectionEnd d i) (λ z. stops tt) (λ z. byte-starts)))
 
   pub piece-start-tag : {t : Tag} → piece long d i ≡ got (startTag t) → startTagAt long d (i + 1) ≡ got t

@@ -12,6 +12,7 @@ use borrow.Author.Count.{below-more}
 use lib.ListN.{length, getD, set, length-set}
 use lib.Seq.{getD-set-same, getD-set-other}
 use Rattle.rules.specs.Judge.{samePlace}
+use Rattle.layout.specs.Sizes.{POSITIONS}
 use Rattle.model_sets.specs.Bits.{not-true, or-left, or-right, not-both}
 use Rattle.model_names.specs.Places.{placeIn, placesOf, keyOf}
 use Rattle.model_names.specs.Shared.{key-differs}
@@ -23,10 +24,10 @@ anyKey keys key (suc n) q = eqb (getD keys q 0) key || anyKey keys key n (suc q)
 
 -- The keys of the places before p are known.
 pub record Keyed (s names keys : List ℕ) (p : ℕ) : Type 0 where
-  pub len : length keys ≡ 97
+  pub len : length keys ≡ POSITIONS
   pub known : (x : ℕ) → 1 ≤ x → x < p → getD keys x 0 ≡ keyOf s (placeIn names (x - 1))
 
-pub keyed-one : (s names keys : List ℕ) (p v : ℕ) → Keyed s names keys p → p < 97 → v ≡ keyOf s (placeIn names (p - 1)) → Keyed s names (set keys p v) (p + 1)
+pub keyed-one : (s names keys : List ℕ) (p v : ℕ) → Keyed s names keys p → p < POSITIONS → v ≡ keyOf s (placeIn names (p - 1)) → Keyed s names (set keys p v) (p + 1)
 keyed-one s names keys p v a h e =
     record {
       len = length-set keys p v ∙ a .len;

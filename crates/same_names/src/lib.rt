@@ -6,12 +6,13 @@ ghost use mathlib.Core.Bool.{true};
 ghost use Prim.Native.Nat.{ℕ, suc, _+_, _-_, _≤_, _<_};
 ghost use lib.ListN.{getD};
 ghost use Rattle.rules.specs.Judge.{samePlace};
+ghost use Rattle.rules.specs.Bytes.{GRPGTCNT};
 ghost use Rattle.model_names.specs.Places.{placeIn, placesOf, keyOf};
 ghost use Rattle.same_names.specs.Keys.{anyKey};
 
 // The keys of the places of a model with n places, at their numbers. Number 0 and those past n are not decided.
 pub fn keys_of(s: &[u8], names: &[u32; NAMES], n: usize) -> [u32; POSITIONS]
-    requires { ⌜ n ≤ 96 ⌝ }
+    requires { ⌜ n ≤ GRPGTCNT ⌝ }
     ensures { λ r. ⌜ ((p : ℕ) → 1 ≤ p → p ≤ n → getD r p 0 ≡ keyOf (now (s .entry)) (placeIn (now (names .entry)) (p - 1))) ⌝ }
 {
     let mut keys = [0u32; POSITIONS];
@@ -32,7 +33,7 @@ pub fn same_name(
     p: usize,
     q: usize,
 ) -> usize
-    requires { ⌜ (n ≤ 96) × (1 ≤ p) × (p ≤ n) × (1 ≤ q) × (q ≤ n + 1) ⌝ }
+    requires { ⌜ (n ≤ GRPGTCNT) × (1 ≤ p) × (p ≤ n) × (1 ≤ q) × (q ≤ n + 1) ⌝ }
     requires { ⌜ ((x : ℕ) → 1 ≤ x → x ≤ n → getD (now keys) x 0 ≡ keyOf (now s) (placeIn (now names) (x - 1))) ⌝ }
     ensures { λ r. ⌜ (q ≤ r) × (r ≤ n + 1)
         × ((x : ℕ) → q ≤ x → x < r → samePlace (now (s .entry)) (placesOf (now (names .entry)) n) p x ≡ true → ⊥)
@@ -53,7 +54,7 @@ pub fn same_name(
 
 // Whether a place after p shares its key. The loop has no way out, so that it goes by several keys at a time.
 pub fn shares_key(keys: &[u32; POSITIONS], n: usize, p: usize) -> bool
-    requires { ⌜ (n ≤ 96) × (p ≤ n) ⌝ }
+    requires { ⌜ (n ≤ GRPGTCNT) × (p ≤ n) ⌝ }
     ensures { λ r. ⌜ r ≡ anyKey (now (keys .entry)) (getD (now (keys .entry)) p 0) (n - p) (suc p) ⌝ }
 {
     let key = keys[p];

@@ -11,6 +11,7 @@ use Rattle.rules.specs.Elements.{elementAt}
 use Rattle.rules.specs.Events.{Event}
 use Rattle.rules.specs.Given.{withAttributes}
 use Rattle.rules.specs.Settling.{State, startElement}
+use Rattle.rules.specs.Bytes.{TAGLVL, ATTCNT}
 use Rattle.document_laws.specs.Decide.{decided}
 use Rattle.turn_laws.specs.RunAtOnce.{takeRun}
 use Rattle.list_table.specs.Lists.{Lists}
@@ -53,7 +54,7 @@ pub record Settles (rows places facts M lists marks : List ℕ) (x at shown : �
   pub written : List Event
   pub puts : Puts numbers bytes m written numbers′ bytes′
   pub counted : r .events ≡ m + length written
-  pub few : length written ≤ 1026
+  pub few : length written ≤ TAGLVL * (ATTCNT + 1) + ATTCNT + 2
   pub settles : (s : List ℕ) (es : List Element) → Tables s es rows places facts M → (z : State) → Stands es M begun o z → x ≤ length es → (after : ℕ) → (1 ≤ x → after ≡ shown)
       → Becomes at (r .number) (StandsWith es M begun′ (r .open) (((z .events ++ ends) ++ starts) ++ writtenOf x opens taken at after)) (takes s es x at after z)
   pub adds : r .number ≡ 0 → (s : List ℕ) (es : List Element) → Tables s es rows places facts M → (z : State) → Stands es M begun o z → x ≤ length es

@@ -5,6 +5,7 @@ use mathlib.Core.Bool.{Bool, false, _&&_}
 use mathlib.Core.List.{List}
 use native.Mathlib.Omega.{arith}
 use lib.Dec.{eqb}
+use Rattle.rules.specs.Bytes.{TAGLVL, elementLimit}
 use Rattle.open_elements.specs.declared.Open.{Open}
 use Rattle.open_elements.specs.declared.Outcome.{Outcome}
 use Rattle.open_elements.specs.Stands.{Ranged}
@@ -38,7 +39,7 @@ pub record Steps (rows places facts M lists marks : List ℕ) (x at shown n : �
   pub numbers-ended : List ℕ
   pub bytes-ended : List ℕ
   pub ends : Stops rows places facts M begun x at n o numbers bytes stop numbers-ended bytes-ended
-  pub room : stop .open .count + startsOf (stop .found) ≤ 24
+  pub room : stop .open .count + startsOf (stop .found) ≤ TAGLVL
   pub before : ℕ
   pub numbers-before : List ℕ
   pub bytes-before : List ℕ
@@ -59,7 +60,7 @@ pub record Steps (rows places facts M lists marks : List ℕ) (x at shown n : �
   pub told : Opens facts x opens
   pub opened : q ≡ openedBy rows x opens (put .open)
 
-starts-along : {rows places facts M lists : List ℕ} {at m₀ : ℕ} {o₀ : Open} {begun₀ numbers₀ bytes₀ : List ℕ} {k m : ℕ} {o : Open} {begun numbers bytes : List ℕ} → Ranged o₀ → (starts : ℕ) → o₀ .count + starts ≤ 24 → k ≤ starts
+starts-along : {rows places facts M lists : List ℕ} {at m₀ : ℕ} {o₀ : Open} {begun₀ numbers₀ bytes₀ : List ℕ} {k m : ℕ} {o : Open} {begun numbers bytes : List ℕ} → Ranged o₀ → (starts : ℕ) → o₀ .count + starts ≤ TAGLVL → k ≤ starts
     → Starts rows places facts M lists at m₀ o₀ begun₀ numbers₀ bytes₀ k m o begun numbers bytes → Along rows places facts M lists at m₀ starts k o₀ begun₀ numbers₀ bytes₀ m o begun numbers bytes
 starts-along h starts room l none = along-start _ _ _ _ _ _ _ _ _ _ _ _ h
 starts-along h starts room l (more before chooses defaults i) =
@@ -67,7 +68,7 @@ starts-along h starts room l (more before chooses defaults i) =
     along-next _ _ _ _ _ _ _ _ a (omega arith) (omega (arith, a .deep)) chooses defaults i
 
 -- What the steps make of the token is what the rules make of it.
-pub steps-settle : {rows places facts M lists marks : List ℕ} {x at shown n : ℕ} {o : Open} {begun numbers bytes : List ℕ} {q : Open} {begun′ numbers′ bytes′ : List ℕ} → Ranged o → x ≤ 64
+pub steps-settle : {rows places facts M lists marks : List ℕ} {x at shown n : ℕ} {o : Open} {begun numbers bytes : List ℕ} {q : Open} {begun′ numbers′ bytes′ : List ℕ} → Ranged o → x ≤ elementLimit
     → (h : Steps rows places facts M lists marks x at shown n o begun numbers bytes q begun′ numbers′ bytes′)
     → Settles rows places facts M lists marks x at shown o begun (h .ends .turns .events) (h .before) (h .numbers-before) (h .bytes-before) (record { «open» = q; events = h .put .events; number = h .put .number }) begun′ numbers′ bytes′
 steps-settle {shown = shown} g small h =

@@ -15,6 +15,7 @@ use Rattle.rules.specs.Given.{attributeEvents, withAttributes}
 use Rattle.rules.specs.Settling.{State, takePlace, fitting, takeToken, isOver, settleFrom, settle, startElement}
 use Rattle.rules.specs.Records.{dueRun}
 use Rattle.rules_laws.specs.BeforeStarts.{Plain, with-append, with-start-written, plain-none, plain-data, plain-end-of-empty}
+use Rattle.rules.specs.Bytes.{TAGLVL}
 use Rattle.document_laws.specs.Decide.{decided}
 use Rattle.turn_laws.specs.RunAtOnce.{takeRun}
 use Rattle.list_table.specs.Lists.{Lists}
@@ -101,7 +102,7 @@ settles-over rows places facts M lists marks x at shown n o begun numbers bytes 
           (takes-noting s es x at after z ∙ ap (λ q. andThen q (noting es x at after)) (settle-over s es (decided s es) (tokenOf x) at z (over s es z stands)));
     }
 
-module _ {rows places facts M begun : List ℕ} {x at n : ℕ} {o₀ : Open} {numbers₀ bytes₀ : List ℕ} {f : Stop} {numbers bytes : List ℕ} (shown : ℕ) (most₀ : o₀ .count ≤ 24)
+module _ {rows places facts M begun : List ℕ} {x at n : ℕ} {o₀ : Open} {numbers₀ bytes₀ : List ℕ} {f : Stop} {numbers bytes : List ℕ} (shown : ℕ) (most₀ : o₀ .count ≤ TAGLVL)
     (on : (s : List ℕ) (es : List Element) (z : State) → Stands es M begun o₀ z → isOver s es (decided s es) z ≡ false)
     (h : Stops rows places facts M begun x at n o₀ numbers₀ bytes₀ f numbers bytes) where
   module _ (s : List ℕ) (es : List Element) (tables : Tables s es rows places facts M) (z : State) (stands : Stands es M begun o₀ z) (most : x ≤ length es) where
@@ -123,13 +124,13 @@ module _ {rows places facts M begun : List ℕ} {x at n : ℕ} {o₀ : Open} {nu
     from-there after q e = takes-noting s es x at after z ∙ ap (λ r. andThen r (noting es x at after)) (settle-on s es (decided s es) t at z (on s es z stands) ∙ sym (come .same) ∙ e)
 
     -- so many starts would be too many
-    many : (after k : ℕ) → f .found ≡ Inferred k → 24 < f .open .count + k → takes s es x at after z ≡ refused 15 at
+    many : (after k : ℕ) → f .found ≡ Inferred k → TAGLVL < f .open .count + k → takes s es x at after z ≡ refused 15 at
     many after k e l =
         let y = takeToken s es (decided s es) t (inferMany s es (decided s es) at k there) in
         from-there after (got y) (found-settled s es (decided s es) t at there (Inferred k) (sym e ∙ found) _ refl)
         ∙ noting-many es at after y x (omega (arith, infer-deeper s es (decided s es) at k there, stands-deep (come .stands)))
 
-  pub settles-many : (lists marks : List ℕ) → 24 < f .open .count + startsOf (f .found) → Settles rows places facts M lists marks x at shown o₀ begun (h .turns .events) (f .events) numbers bytes (record { «open» = f .open; events = f .events; number = 15 }) begun numbers bytes
+  pub settles-many : (lists marks : List ℕ) → TAGLVL < f .open .count + startsOf (f .found) → Settles rows places facts M lists marks x at shown o₀ begun (h .turns .events) (f .events) numbers bytes (record { «open» = f .open; events = f .events; number = 15 }) begun numbers bytes
   settles-many lists marks l =
       record {
         ranged = h .turns .ranged;
@@ -156,7 +157,7 @@ module _ {rows places facts M begun : List ℕ} {x at n : ℕ} {o₀ : Open} {nu
 
   -- Behind m₀ events the starts are inferred, each behind its attribute events, those of a tag are put, the token takes its place, and an element with a model is
   -- opened.
-  module _ {lists marks : List ℕ} {starts k m₀ m : ℕ} {o : Open} {numbersFrom bytesFrom begun₁ numbers₁ bytes₁ : List ℕ} (counted : starts ≡ startsOf (f .found)) (few : f .open .count + starts ≤ 24)
+  module _ {lists marks : List ℕ} {starts k m₀ m : ℕ} {o : Open} {numbersFrom bytesFrom begun₁ numbers₁ bytes₁ : List ℕ} (counted : starts ≡ startsOf (f .found)) (few : f .open .count + starts ≤ TAGLVL)
       (a : Along rows places facts M lists at m₀ starts k (f .open) begun numbersFrom bytesFrom m o begun₁ numbers₁ bytes₁) (all : starts ≤ k)
       {m₁ : ℕ} {numbers₂ bytes₂ : List ℕ} (given : PutsWritten lists marks x m numbers₁ bytes₁ m₁ numbers₂ bytes₂)
       {r : Outcome} {q : Open} {begun′ numbers′ bytes′ : List ℕ} (opened : Places rows places facts M begun₁ (f .found) x at shown m₁ o numbers₂ bytes₂ r q begun′ numbers′ bytes′) where

@@ -4,7 +4,7 @@ use mathlib.Core.Path.{_≡_, ap}
 use mathlib.Core.List.{List}
 use native.Mathlib.Omega.{arith}
 use Rattle.rules.specs.Settings.{Settings}
-use Rattle.rules.specs.Bytes.{ATTCNT, elementLimit}
+use Rattle.rules.specs.Bytes.{ATTCNT, elementLimit, typeLimit}
 use Rattle.rules.specs.Lent.{Lent}
 use Rattle.rules.specs.TypeFile.{Element}
 use Rattle.rules.specs.Judge.{Answer, refusal, acceptance, Refuses, notOffered, tooLong, notAllowed, malformed, repeated, ambiguous, noRoom, Judged}
@@ -18,7 +18,7 @@ use Rattle.type_judge.specs.declared.Verdict.{Verdict}
 use Rattle.type_judge.specs.declared.Verdict.the-variants.{Accepted, Malformed, Ambiguous}
 use Rattle.sgml.specs.Fits.{VerdictFits}
 
-malformed-in : (c : Settings) (s : List ℕ) (room n k : ℕ) → Refuses c s room (refusal n k 0 0) → k ≤ 32768
+malformed-in : (c : Settings) (s : List ℕ) (room n k : ℕ) → Refuses c s room (refusal n k 0 0) → k ≤ typeLimit
 malformed-in c s room n k (notOffered o e) = omega (arith, ap (λ (a : Answer). a .position) e)
 malformed-in c s room n k (tooLong o l e) = omega (arith, ap (λ (a : Answer). a .position) e)
 malformed-in c s room n k (notAllowed o l m e) = omega (arith, ap (λ (a : Answer). a .position) e)
@@ -37,11 +37,11 @@ refuses-input (repeated l es r v e) = rw e
 refuses-input (ambiguous l es r v k p q f e) = rw e
 refuses-input (noRoom l es r v u m e) = rw e
 
-judged-count : {l : Lent} {c : Settings} {s before after : List ℕ} {n : ℕ} → Judged l c s before (acceptance n) after → n ≤ 64
+judged-count : {l : Lent} {c : Settings} {s before after : List ℕ} {n : ℕ} → Judged l c s before (acceptance n) after → n ≤ elementLimit
 judged-count (Judged.refuses r z) = absurd (omega (arith, refuses-input r))
 judged-count {l} {c} {s} (Judged.accepts es w f e z) = omega (arith, typeFile-count (c .nameLength) s es (w .elements), ap (λ (a : Answer). a .count) e)
 
-judged-in : {l : Lent} {c : Settings} {s before after : List ℕ} {n k : ℕ} → Judged l c s before (refusal n k 0 0) after → k ≤ 32768
+judged-in : {l : Lent} {c : Settings} {s before after : List ℕ} {n k : ℕ} → Judged l c s before (refusal n k 0 0) after → k ≤ typeLimit
 judged-in {l} {c} {s} {n = n} {k} (Judged.refuses r z) = malformed-in c s _ n k r
 judged-in (Judged.accepts es w f e z) = absurd (omega (arith, ap (λ (a : Answer). a .input) e))
 
@@ -58,7 +58,7 @@ listed-count {l} {c} {s} (Lists.accepts es w f e z) =
     let all = attributes-count (c .nameLength) s es (typeFile-attributes (c .nameLength) s es (w .elements)) in
     omega (arith, typeFile-count (c .nameLength) s es (w .elements), ap (λ (a : Answer). a .count) e)
 
-listed-in : {l : Lent} {c : Settings} {s before after : List ℕ} {n k : ℕ} → Lists l c s before (refusal n k 0 0) after → k ≤ 32768
+listed-in : {l : Lent} {c : Settings} {s before after : List ℕ} {n k : ℕ} → Lists l c s before (refusal n k 0 0) after → k ≤ typeLimit
 listed-in {l} {c} {s} {n = n} {k} (Lists.refuses r z) = malformed-in c s _ n k r
 listed-in (Lists.noRoom es w h e z) = omega (arith, ap (λ (a : Answer). a .position) e)
 listed-in (Lists.accepts es w f e z) = absurd (omega (arith, ap (λ (a : Answer). a .input) e))

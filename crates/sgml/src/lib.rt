@@ -1,5 +1,6 @@
 // The calls for C: numbers and byte slices.
 use inputs::Settings;
+use layout::ANSWER;
 use type_judge::Verdict;
 ghost use mathlib.Core.Path.{_≡_};
 ghost use Rattle.rules.specs.Settings.{settings};
@@ -21,7 +22,7 @@ fn chosen(name_length: u32, edition: u32) -> Settings
 }
 
 // The six numbers of the judge's answer.
-fn numbers_of(v: Verdict) -> [u32; 6]
+fn numbers_of(v: Verdict) -> [u32; ANSWER]
     requires { ⌜ VerdictFits v ⌝ }
     ensures { λ r. ⌜ r ≡ answerNumbers (answerOf v) ⌝ }
 {
@@ -39,7 +40,7 @@ fn numbers_of(v: Verdict) -> [u32; 6]
 pub extern "C" fn sgml_judge(
     type_file: &[u8],
     buffer: &mut [u8],
-    answer: &mut [u32; 6],
+    answer: &mut [u32; ANSWER],
     name_length: u32,
     edition: u32,
 ) -> u32
@@ -59,7 +60,7 @@ pub extern "C" fn sgml_read(
     type_file: &[u8],
     document: &[u8],
     buffer: &mut [u8],
-    answer: &mut [u32; 6],
+    answer: &mut [u32; ANSWER],
     name_length: u32,
     edition: u32,
 ) -> u32
@@ -83,7 +84,7 @@ pub extern "C" fn sgml_read(
 pub extern "C" fn sgml_attributes(
     type_file: &[u8],
     buffer: &mut [u8],
-    answer: &mut [u32; 6],
+    answer: &mut [u32; ANSWER],
     name_length: u32,
     edition: u32,
 ) -> u32
@@ -108,7 +109,7 @@ pub extern "C" fn sgml_read_batch(
     froms: &[usize],
     sizes: &[usize],
     answers: &mut [u32],
-    answer: &mut [u32; 6],
+    answer: &mut [u32; ANSWER],
     name_length: u32,
     edition: u32,
 ) -> u32

@@ -9,10 +9,10 @@ use Rattle.rules.specs.Bytes.{ATTCNT, elementLimit}
 use Rattle.rules.specs.Lent.{numbers, filledWith, zeroed}
 use Rattle.rules.specs.Reading.{Reading, got}
 use Rattle.rules.specs.TypeFile.{Element}
-use Rattle.rules.specs.Judge.{Answer, acceptance, records, Refuses, Accepts, Judged}
+use Rattle.rules.specs.Judge.{Answer, acceptance, records, Refuses, Accepts, Judged, recordWidth}
 use Rattle.rules.specs.Listing.{attributeCount, listNumbers, Lists}
 use Rattle.rules.specs.Printed.{programSettings}
-use Rattle.layout.specs.Sizes.{ATTRIBUTE-RECORDS}
+use Rattle.layout.specs.Sizes.{ATTRIBUTE-RECORDS, RECORDS}
 use Rattle.rules_laws.specs.Within.{typeFile-count}
 use Rattle.type_laws.specs.Attributes.{typeFile-attributes, attributes-count}
 use Rattle.answer_laws.specs.Judge.{settled-one, refuses-some}
@@ -31,16 +31,16 @@ same-elements {es = es} {fs} a b = go (a .elements) (b .elements)
     go p q = cc
 
 module _ (c : Settings) (s : List ℕ) (es : List Element) (accepted : Accepts c s es) where
-  few : (6 * length es ≤ 384) × (attributeCount es ≤ ATTCNT * elementLimit)
+  few : (recordWidth * length es ≤ RECORDS) × (attributeCount es ≤ ATTCNT * elementLimit)
   few =
       let n = typeFile-count (c .nameLength) s es (accepted .elements) in
       (omega arith, omega (arith, attributes-count (c .nameLength) s es (typeFile-attributes (c .nameLength) s es (accepted .elements))))
 
   -- The type is not refused where all its elements have room.
-  not-refused : (a : Answer) → Refuses c s 384 a → ⊥
+  not-refused : (a : Answer) → Refuses c s RECORDS a → ⊥
   not-refused a r =
-      let zeros : List ℕ = replicate 384 0 in
-      let room : length zeros ≡ 384 = length-replicate {A = ℕ} 384 0 in
+      let zeros : List ℕ = replicate RECORDS 0 in
+      let room : length zeros ≡ RECORDS = length-replicate {A = ℕ} RECORDS 0 in
       let judged : Judged numbers c s zeros a (zeroed zeros) = Judged.refuses (rw room r) refl in
       let other : Judged numbers c s zeros (acceptance (length es)) (filledWith (records es) zeros) = Judged.accepts es accepted (omega (arith, room, few)) refl refl in
       refuses-some r (ap (λ (x : Answer). x .number) (settled-one judged other .0))

@@ -8,10 +8,10 @@ use native.Mathlib.Decide.{decLt}
 use lib.ListN.{length, drop, getD, replicate, length-replicate, getD-replicate, List·getD-eq-default}
 use lib.Dec.{eqb}
 use lib.Seq.{take-at, getD-append-add, getD-drop, drop-drop}
-use Rattle.rules.specs.Settings.{Settings}
+use Rattle.rules.specs.Settings.{Settings, leastNameLength}
 use Rattle.rules.specs.Lent.{numbers, filledWith}
 use Rattle.rules.specs.TypeFile.{Element}
-use Rattle.rules.specs.Judge.{Answer, records, Accepts, Judged, accepts}
+use Rattle.rules.specs.Judge.{Answer, records, Accepts, Judged, accepts, recordWidth}
 use Rattle.rules.specs.Elements.{elementAt}
 use Rattle.rules.specs.Events.{Event, eventWidth}
 use Rattle.rules.specs.Reader.{eventNumbers}
@@ -22,6 +22,7 @@ use Rattle.element_index.specs.Seeking.{recorded-offset, recorded-size}
 use Rattle.type_laws.specs.Again.{typeFile-sizes}
 use Rattle.answer_laws.specs.Judge.{settled-one}
 use Rattle.rules.specs.Printed.{programSettings, nameText, startsNext, attributeText, eventText, line, eventLines, eventsText}
+use Rattle.layout.specs.Sizes.{RECORDS}
 use Rattle.event_names.specs.Names.{Fits, nameIn, startsWithin, attributeIn, namedAt}
 use Rattle.event_lines.specs.TextOf.{lineAt, linesFrom, textOf}
 
@@ -43,47 +44,47 @@ element-past [] k h = (refl, refl)
 element-past (e ∷ es) zero h = absurd (omega arith)
 element-past (e ∷ es) (suc k) h = element-past es k (omega arith)
 
-module _ (s : List ℕ) (es : List Element) (accepted : Accepts programSettings s es) (a : Answer) (before elements : List ℕ) (lent : before ≡ replicate 384 0) (judged : Judged numbers programSettings s before a elements) where
-  few : 6 * length es ≤ 384
+module _ (s : List ℕ) (es : List Element) (accepted : Accepts programSettings s es) (a : Answer) (before elements : List ℕ) (lent : before ≡ replicate RECORDS 0) (judged : Judged numbers programSettings s before a elements) where
+  few : recordWidth * length es ≤ RECORDS
   few = omega (arith, typeFile-count (programSettings .nameLength) s es (accepted .elements))
 
   elements-are : elements ≡ filledWith (records es) before
-  elements-are = settled-one judged (accepts es accepted (omega (arith, few, ap length lent, length-replicate {A = ℕ} 384 0)) refl refl) .1
+  elements-are = settled-one judged (accepts es accepted (omega (arith, few, ap length lent, length-replicate {A = ℕ} RECORDS 0)) refl refl) .1
 
   recorded : Recorded elements es
-  recorded = rw elements-are (take-at (records es) (drop (length (records es)) before) (6 * length es) (records-length es))
+  recorded = rw elements-are (take-at (records es) (drop (length (records es)) before) (recordWidth * length es) (records-length es))
 
   -- Behind the records the table is as it was lent.
-  behind : (j : ℕ) → 6 * length es ≤ j → getD elements j 0 ≡ 0
+  behind : (j : ℕ) → recordWidth * length es ≤ j → getD elements j 0 ≡ 0
   behind j h =
-      let z : j ≡ length (records es) + (j - 6 * length es) = omega (arith, records-length es) in
+      let z : j ≡ length (records es) + (j - recordWidth * length es) = omega (arith, records-length es) in
       rw (elements-are, z, getD-append-add, getD-drop, lent, zero-at)
 
-  at-is : (k : ℕ) → getD elements (6 * k) 0 ≡ elementAt es k .at
+  at-is : (k : ℕ) → getD elements (recordWidth * k) 0 ≡ elementAt es k .at
   at-is k = by-place (decLt k (length es))
     where
-      by-place : Dec (k < length es) → getD elements (6 * k) 0 ≡ elementAt es k .at
+      by-place : Dec (k < length es) → getD elements (recordWidth * k) 0 ≡ elementAt es k .at
       by-place (yes h) = recorded-offset elements es recorded k h
-      by-place (no h) = behind (6 * k) (omega arith) ∙ sym (element-past es k (omega arith) .0)
+      by-place (no h) = behind (recordWidth * k) (omega arith) ∙ sym (element-past es k (omega arith) .0)
 
-  size-is : (k : ℕ) → getD elements (6 * k + 1) 0 ≡ elementAt es k .size
+  size-is : (k : ℕ) → getD elements (recordWidth * k + 1) 0 ≡ elementAt es k .size
   size-is k = by-place (decLt k (length es))
     where
-      by-place : Dec (k < length es) → getD elements (6 * k + 1) 0 ≡ elementAt es k .size
+      by-place : Dec (k < length es) → getD elements (recordWidth * k + 1) 0 ≡ elementAt es k .size
       by-place (yes h) = recorded-size elements es recorded k h
-      by-place (no h) = behind (6 * k + 1) (omega arith) ∙ sym (element-past es k (omega arith) .1)
+      by-place (no h) = behind (recordWidth * k + 1) (omega arith) ∙ sym (element-past es k (omega arith) .1)
 
-  name-fits : (k : ℕ) → (elementAt es k .size ≤ 8) × (elementAt es k .at + elementAt es k .size ≤ length s)
+  name-fits : (k : ℕ) → (elementAt es k .size ≤ leastNameLength) × (elementAt es k .at + elementAt es k .size ≤ length s)
   name-fits k = by-place (decLt k (length es))
     where
-      by-place : Dec (k < length es) → (elementAt es k .size ≤ 8) × (elementAt es k .at + elementAt es k .size ≤ length s)
+      by-place : Dec (k < length es) → (elementAt es k .size ≤ leastNameLength) × (elementAt es k .at + elementAt es k .size ≤ length s)
       by-place (yes h) = let z = typeFile-sizes (programSettings .nameLength) s es (accepted .elements) k h in (z .1, z .2)
       by-place (no h) = let z = element-past es k (omega arith) in (omega arith, omega arith)
 
   pub table-fits : Fits s elements
   table-fits =
       record {
-        whole = ap length elements-are ∙ lent-length numbers (records es) before (omega (arith, few, records-length es, ap length lent, length-replicate {A = ℕ} 384 0)) ∙ ap length lent ∙ length-replicate {A = ℕ} 384 0;
+        whole = ap length elements-are ∙ lent-length numbers (records es) before (omega (arith, few, records-length es, ap length lent, length-replicate {A = ℕ} RECORDS 0)) ∙ ap length lent ∙ length-replicate {A = ℕ} RECORDS 0;
         short = λ k. rw (size-is k) (name-fits k .0);
         inside = λ k. rw (at-is k, size-is k) (name-fits k .1);
       }

@@ -4,8 +4,12 @@ use document_reader::Answer;
 use file_reader::Loaded;
 use inputs::Settings;
 use layout::ATTRIBUTE_RECORDS;
+use layout::DOCUMENT_LIMIT;
+use layout::LEAST_NAME_LENGTH;
 use layout::PROGRAM_ROOM;
+use layout::PROGRAM_TEXT;
 use layout::RECORDS;
+use layout::TYPE_LIMIT;
 use libc::STDOUT_FILENO;
 use type_judge::Verdict;
 ghost use mathlib.Core.Path.{_≡_};
@@ -13,7 +17,8 @@ ghost use Prim.Native.Nat.{_≤_};
 ghost use lib.ListN.{length, take};
 ghost use Rattle.io.specs.Counts.{Counts};
 ghost use Rattle.rules.specs.Printed.{programSettings, Prints};
-ghost use Rattle.layout.specs.Sizes.{ATTRIBUTE-RECORDS};
+ghost use Rattle.rules.specs.Bytes.{documentLimit, typeLimit};
+ghost use Rattle.layout.specs.Sizes.{ATTRIBUTE-RECORDS, PROGRAM-EVENTS, PROGRAM-TEXT};
 ghost use Rattle.inputs.specs.Checks.{settingsOf};
 ghost use Rattle.sgml_events.specs.Prints.{Accepted, ListedIn, EventsPut, Whole};
 
@@ -22,7 +27,7 @@ fn given() -> Settings
     ensures { λ r. ⌜ settingsOf r ≡ programSettings ⌝ }
 {
     Settings {
-        name_length: 8,
+        name_length: LEAST_NAME_LENGTH,
         edition: 1,
     }
 }
@@ -43,7 +48,7 @@ fn listed(s: &[u8], attributes: &mut [u32; ATTRIBUTE_RECORDS]) -> usize
 // The text of n events of a document whose type is accepted; the judge gives where its elements' names stand, and the list of attributes where theirs do. What out holds behind the text
 // is decided neither here nor below.
 fn put_events(out: &mut [u8], s: &[u8], numbers: &[u32; PROGRAM_ROOM], n: usize) -> usize
-    requires { ⌜ (294984 ≤ length (now out)) × Accepted (now s) × (n ≤ 4096) ⌝ }
+    requires { ⌜ (PROGRAM-TEXT ≤ length (now out)) × Accepted (now s) × (n ≤ PROGRAM-EVENTS) ⌝ }
     ensures { λ r. ⌜ Counts r (now (out .exit)) × EventsPut (now (s .entry)) (now (numbers .entry)) n (take r (now (out .exit))) ⌝ }
 {
     let mut elements = [0u32; RECORDS];
@@ -55,7 +60,7 @@ fn put_events(out: &mut [u8], s: &[u8], numbers: &[u32; PROGRAM_ROOM], n: usize)
 
 // The text that is printed for a type file and a document, at the start of out.
 fn printed(s: &[u8], d: &[u8], out: &mut [u8]) -> usize
-    requires { ⌜ 294984 ≤ length (now out) ⌝ }
+    requires { ⌜ PROGRAM-TEXT ≤ length (now out) ⌝ }
     ensures { λ r. ⌜ Counts r (now (out .exit)) × Prints (now (s .entry)) (now (d .entry)) (take r (now (out .exit))) ⌝ }
 {
     let mut numbers = [0u32; PROGRAM_ROOM];
@@ -78,10 +83,10 @@ fn written(s: &[u8], d: &[u8], text: &[u8]) -> bool
 
 // Prints what is printed for a type file and a document, of which the last read gave so many bytes.
 fn print(s: &[u8], s_last: usize, d: &[u8], d_last: usize)
-    requires { ⌜ Whole 32768 (now s) «s_last» × Whole 65535 (now d) «d_last» ⌝ }
+    requires { ⌜ Whole typeLimit (now s) «s_last» × Whole documentLimit (now d) «d_last» ⌝ }
 {
     // The first line and each of at most 4,096 events take 72 bytes at most.
-    let mut out = [0u8; 294984];
+    let mut out = [0u8; PROGRAM_TEXT];
     let k = printed(s, d, &mut out);
     if !written(s, d, &out[..k]) {
         os::fail(b"standard output");
@@ -90,8 +95,8 @@ fn print(s: &[u8], s_last: usize, d: &[u8], d_last: usize)
 
 fn main() {
     // Each buffer holds one byte more than the reader takes, so that it refuses what is longer.
-    let mut s = [0u8; 32769];
-    let mut d = [0u8; 65536];
+    let mut s = [0u8; TYPE_LIMIT + 1];
+    let mut d = [0u8; DOCUMENT_LIMIT + 1];
     let a = file_reader::first_bytes(b"type.sgm", &mut s);
     let Loaded::Bytes(x) = a else {
         return;

@@ -8,7 +8,7 @@ use native.Mathlib.Decide.{ℕ-discrete}
 use lib.ListN.{length, getD}
 use lib.Dec.{leb}
 use borrow.Author.Tests.{le-leb, lt-leb, leb-true, leb-false}
-use Rattle.rules.specs.Batch.{InStretch, Equal, Unfit}
+use Rattle.rules.specs.Batch.{InStretch, Equal, Unfit, batchLimit}
 use Rattle.stretches.specs.Fit.{Apart, AllWithin, Shared, ApartFrom, AllApart, batchOf, Fits}
 
 -- What is left behind the start is as much as the stretch has.
@@ -60,7 +60,7 @@ all-turn froms sizes n h a i j k l m = go (ℕ-discrete i n)
 
 -- The whole.
 module _ (starts lengths froms sizes : List ℕ) (answers room : ℕ) where
-  pub fits-whole : (b : Bool) → length starts ≤ 200 → Equal (batchOf starts lengths froms sizes) answers → AllWithin froms sizes room (length froms) true → AllApart froms sizes (length froms) b → Fits starts lengths froms sizes answers room b
+  pub fits-whole : (b : Bool) → length starts ≤ batchLimit → Equal (batchOf starts lengths froms sizes) answers → AllWithin froms sizes room (length froms) true → AllApart froms sizes (length froms) b → Fits starts lengths froms sizes answers room b
   fits-whole true few q w a = go
     where
       go : Unfit (batchOf starts lengths froms sizes) answers room → ⊥

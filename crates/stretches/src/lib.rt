@@ -2,6 +2,8 @@
 // lists of a batch can be read by.
 //
 // No sum of a start and a length is made before it is known to be within: it may be larger than a number can be.
+use layout::ANSWER;
+use layout::DOCUMENTS;
 ghost use mathlib.Core.Path.{_≡_};
 ghost use Prim.Native.Nat.{_+_, _≤_, _<_};
 ghost use lib.Dec.{leb};
@@ -91,7 +93,7 @@ pub fn are_fit(
     ensures { λ r. ⌜ Fits (now (starts .entry)) (now (lengths .entry)) (now (froms .entry)) (now (sizes .entry)) answers room r ⌝ }
 {
     let n = starts.len();
-    if 200 < n {
+    if DOCUMENTS < n {
         return false;
     }
     if lengths.len() != n {
@@ -103,7 +105,7 @@ pub fn are_fit(
     if sizes.len() != n {
         return false;
     }
-    if answers != 6 * n {
+    if answers != ANSWER * n {
         return false;
     }
     if !all_within(froms, sizes, room) {

@@ -13,9 +13,9 @@ use Rattle.rules.specs.Settings.{settings, mostNameLength}
 use Rattle.rules.specs.Walk.{Group}
 use Rattle.rules.specs.Attributes.{Attribute, needsTag}
 use Rattle.rules.specs.TypeFile.{Place, Content, empty, model, Element, element}
-use Rattle.rules.specs.Judge.{Accepts, placeAt}
+use Rattle.rules.specs.Judge.{Accepts, placeAt, recordWidth}
 use Rattle.rules.specs.Elements.{elementAt, contentOf, placesIn, hasModel}
-use Rattle.layout.specs.Sizes.{FACT, FACTS, LIST}
+use Rattle.layout.specs.Sizes.{FACT, FACTS, LIST, CONTENTS, END-OMITTED, HAS-MODEL, RAISE, START-OMITTED}
 use Rattle.model_sets.specs.Sets.{size}
 use Rattle.and_laws.specs.Numbers.{Guarded, has-range}
 use Rattle.rules_laws.specs.Groups.{GuardedIn}
@@ -30,6 +30,7 @@ use Rattle.element_reader.specs.declared.ElementRead.{ElementRead}
 use Rattle.element_reader.specs.declared.ElementRead.the-variants as elementRead
 use Rattle.rules_laws.specs.Offered.{offered-range}
 use Rattle.rules_laws.specs.Within.{All, more, PlaceIn, ContentIn}
+use Rattle.rules.specs.Bytes.{GRPGTCNT, elementLimit, typeLimit}
 use Rattle.member_laws.specs.Own.{required-size}
 use Rattle.type_laws.specs.Models.{ShortIn}
 use Rattle.type_laws.specs.Again.{typeFile-sizes}
@@ -51,26 +52,26 @@ use Rattle.table_fill.specs.Names.{IsName, NamesFit, PlacesDue}
 
 -- What is kept of the start of the element e: 1 where it may be inferred, by its record and its list.
 pub record StartFact (elements lists : List ℕ) (e n : ℕ) : Type 0 where
-  pub is : (long : ℕ) (s : List ℕ) (xs : List Attribute) → ListAt long s lists (LIST * (e - 1)) xs → eqb n 1 ≡ (eqb (getD elements (6 * (e - 1) + 2) 0) 1 && not (needsTag xs))
+  pub is : (long : ℕ) (s : List ℕ) (xs : List Attribute) → ListAt long s lists (LIST * (e - 1)) xs → eqb n 1 ≡ (eqb (getD elements (recordWidth * (e - 1) + 2) 0) 1 && not (needsTag xs))
 
 -- That, and whether its end may be omitted and its content, from the record.
 pub record FactsPut (elements lists : List ℕ) (e : ℕ) (F G : List ℕ) : Type 0 where
   pub start : ℕ
   pub fact : StartFact elements lists e start
-  pub put : G ≡ set (set (set F (e * FACT + 65) start) (e * FACT + 66) (getD elements (6 * (e - 1) + 3) 0)) (e * FACT + 67) (getD elements (6 * (e - 1) + 4) 0)
+  pub put : G ≡ set (set (set F (e * FACT + START-OMITTED) start) (e * FACT + END-OMITTED) (getD elements (recordWidth * (e - 1) + 3) 0)) (e * FACT + HAS-MODEL) (getD elements (recordWidth * (e - 1) + 4) 0)
 
 module _ (elements lists : List ℕ) (e : ℕ) {b : Bool} (says : (long : ℕ) (s : List ℕ) (xs : List Attribute) → ListAt long s lists (LIST * (e - 1)) xs → b ≡ needsTag xs) where
   pub start-required : b ≡ true → StartFact elements lists e 0
-  start-required t = record { is = λ long s xs l. sym (and-false (eqb (getD elements (6 * (e - 1) + 2) 0) 1)) ∙ ap (λ (r : Bool). eqb (getD elements (6 * (e - 1) + 2) 0) 1 && not r) (sym t ∙ says long s xs l) }
+  start-required t = record { is = λ long s xs l. sym (and-false (eqb (getD elements (recordWidth * (e - 1) + 2) 0) 1)) ∙ ap (λ (r : Bool). eqb (getD elements (recordWidth * (e - 1) + 2) 0) 1 && not r) (sym t ∙ says long s xs l) }
 
-  pub start-recorded : b ≡ false → StartFact elements lists e (getD elements (6 * (e - 1) + 2) 0)
-  start-recorded t = record { is = λ long s xs l. sym (and-true (eqb (getD elements (6 * (e - 1) + 2) 0) 1)) ∙ ap (λ (r : Bool). eqb (getD elements (6 * (e - 1) + 2) 0) 1 && not r) (sym t ∙ says long s xs l) }
+  pub start-recorded : b ≡ false → StartFact elements lists e (getD elements (recordWidth * (e - 1) + 2) 0)
+  start-recorded t = record { is = λ long s xs l. sym (and-true (eqb (getD elements (recordWidth * (e - 1) + 2) 0) 1)) ∙ ap (λ (r : Bool). eqb (getD elements (recordWidth * (e - 1) + 2) 0) 1 && not r) (sym t ∙ says long s xs l) }
 
 -- The three numbers are 0 or 1.
 pub record Flags (elements : List ℕ) (e : ℕ) : Type 0 where
-  pub start : getD elements (6 * (e - 1) + 2) 0 ≤ 1
-  pub end : getD elements (6 * (e - 1) + 3) 0 ≤ 1
-  pub kind : getD elements (6 * (e - 1) + 4) 0 ≤ 1
+  pub start : getD elements (recordWidth * (e - 1) + 2) 0 ≤ 1
+  pub end : getD elements (recordWidth * (e - 1) + 3) 0 ≤ 1
+  pub kind : getD elements (recordWidth * (e - 1) + 4) 0 ≤ 1
 
 -- What is asked for the element e to be put: the type is accepted where names may have `long` bytes, as its declaration is read again, indexed, and its lists are in their
 -- table; the tables are filled up to e.
@@ -96,7 +97,7 @@ module _ (long : ℕ) (s : List ℕ) (es : List Element) (elements lists index R
   k-in : k < length es
   k-in = let a = due .from in let b = due .to in omega arith
 
-  pub few : e ≤ 64
+  pub few : e ≤ elementLimit
   few = omega (arith, due .to, due .indexed .few)
 
   -- The record
@@ -111,21 +112,21 @@ module _ (long : ℕ) (s : List ℕ) (es : List Element) (elements lists index R
       }
 
   -- Where the name stands, and how long the type file is.
-  pub name-in : (at : ℕ) → at ≡ getD elements (6 * (e - 1)) 0 → (at ≤ length s) × (length s ≤ 32768) × (e - 1 ≤ 64)
+  pub name-in : (at : ℕ) → at ≡ getD elements (recordWidth * (e - 1)) 0 → (at ≤ length s) × (length s ≤ typeLimit) × (e - 1 ≤ elementLimit)
   name-in at q =
       let (a, b, g, d, f) = typeFile-sizes long s es (due .accepted .elements) k k-in in
       (omega (arith, recorded-name elements es (due .indexed .recorded) k k-in), due .accepted .legible .short, omega (arith, few))
 
   tags-put : (G : List ℕ) → FactsPut elements lists e F G → TagsPut (elementAt es k) (contentOf es e) e F G
   tags-put G p =
-      let most : e ≤ 64 = few in
+      let most : e ≤ elementLimit = few in
       let r = due .indexed .recorded in
-      let x : ℕ = e * FACT + 65 in
-      let y : ℕ = e * FACT + 66 in
-      let z : ℕ = e * FACT + 67 in
+      let x : ℕ = e * FACT + START-OMITTED in
+      let y : ℕ = e * FACT + END-OMITTED in
+      let z : ℕ = e * FACT + HAS-MODEL in
       let a : ℕ = p .start in
-      let b : ℕ = getD elements (6 * (e - 1) + 3) 0 in
-      let d : ℕ = getD elements (6 * (e - 1) + 4) 0 in
+      let b : ℕ = getD elements (recordWidth * (e - 1) + 3) 0 in
+      let d : ℕ = getD elements (recordWidth * (e - 1) + 4) 0 in
       let F₁ : List ℕ = set F x a in
       let F₂ : List ℕ = set F₁ y b in
       let l : length F ≡ FACTS = due .filled .facts-len in
@@ -148,7 +149,7 @@ module _ (long : ℕ) (s : List ℕ) (es : List Element) (elements lists index R
 
   -- The declaration, read again
 
-  module _ (names table : List ℕ) (at : ℕ) (x : ElementRead) (stands : at ≡ getD elements (6 * (e - 1)) 0)
+  module _ (names table : List ℕ) (at : ℕ) (x : ElementRead) (stands : at ≡ getD elements (recordWidth * (e - 1)) 0)
       (met : (fs : List Element) → length fs ≡ e - 1 → Recorded elements fs → MeetsElement (length s) at names table fs x (element long s at fs)) where
     again : ReadsAs names table (contentOf es e) x
     again = reads-again long s elements es (due .accepted .elements) (due .indexed .recorded) e (due .from) (due .to) names table at x stands met
@@ -160,10 +161,10 @@ module _ (long : ℕ) (s : List ℕ) (es : List Element) (elements lists index R
       keeps : KeepsContent names table (d .kind) (d .tokens) (d .places) (d .code) (d .and) (d .repeated) (contentOf es e)
       keeps = rw is at again
 
-      pub places-few : (d .kind ≡ 0 → ⊥) → d .places ≤ 96
+      pub places-few : (d .kind ≡ 0 → ⊥) → d .places ≤ GRPGTCNT
       places-few z = by-content (contentOf es e) keeps
         where
-          by-content : (y : Content) → KeepsContent names table (d .kind) (d .tokens) (d .places) (d .code) (d .and) (d .repeated) y → d .places ≤ 96
+          by-content : (y : Content) → KeepsContent names table (d .kind) (d .tokens) (d .places) (d .code) (d .and) (d .repeated) y → d .places ≤ GRPGTCNT
           by-content empty w = absurd (z (w .0))
           by-content (model g ps n) w = w .3 .places-in
 
@@ -227,8 +228,8 @@ module _ (long : ℕ) (s : List ℕ) (es : List Element) (elements lists index R
             (members-same s (contentOf es e) e M (h .lent) (subst PlainIn q tt)))
 
         -- A model, without "&" or with.
-        by-rows : (d .kind ≡ 0 → ⊥) → (b : Bool) (R′ P′ H F′ M′ : List ℕ) → RowsPut table e (cond b 128 0) R R′ (d .places + 1) → PlacesPut s es (placesOf names (d .places)) e P G P′ H (d .places + 1)
-            → LargestPut b e H F′ 65 → MembersPut s (contentOf es e) b e M M′ → Filled s es R′ P′ F′ M′ (e + 1)
+        by-rows : (d .kind ≡ 0 → ⊥) → (b : Bool) (R′ P′ H F′ M′ : List ℕ) → RowsPut table e (cond b RAISE 0) R R′ (d .places + 1) → PlacesPut s es (placesOf names (d .places)) e P G P′ H (d .places + 1)
+            → LargestPut b e H F′ CONTENTS → MembersPut s (contentOf es e) b e M M′ → Filled s es R′ P′ F′ M′ (e + 1)
         by-rows z b R′ P′ H F′ M′ r w f put =
             let (g, ps, n, q, m) = is-model (contentOf es e) keeps z in
             filled-more long s es (due .accepted .elements) e b R P F M (due .filled) R′ G P′ H F′ M′
@@ -250,7 +251,7 @@ module _ (long : ℕ) (s : List ℕ) (es : List Element) (elements lists index R
             let (g, ps, n, q, m) = is-model (contentOf es e) keeps z in
             let guarded : Guarded g = subst GuardedIn (sym q) (content-guarded es (typeFile-guarded long s es read (due .accepted .unrepeated)) e) in
             let (sized, total, plain) = typeFile-members long s es read e (sym q) in
-            let small : size g ≤ 96 = omega (arith, m .sized, m .places-in) in
+            let small : size g ≤ GRPGTCNT = omega (arith, m .sized, m .places-in) in
             let put =
             members-put s M M′ table e (d .code) g (due .filled .lent) (omega (arith, few)) (due .filled .members-rest) (m .room) (m .spelled) (m .says .next) (m .numbered) guarded sized small total plain len is in
             record {
@@ -262,6 +263,6 @@ module _ (long : ℕ) (s : List ℕ) (es : List Element) (elements lists index R
               told = λ x. subst (TellsIn M′ e) q (put .told, λ u i. let range = has-range g 1 (m .numbered) u i in omega (arith, range .1));
             }
 
-        pub element-among : (d .kind ≡ 0 → ⊥) → (R′ P′ H F′ M′ : List ℕ) → RowsPut table e 128 R R′ (d .places + 1) → PlacesPut s es (placesOf names (d .places)) e P G P′ H (d .places + 1)
-            → LargestPut true e H F′ 65 → length M′ ≡ length M → Linked (filled M e table (d .code)) e M′ → Filled s es R′ P′ F′ M′ (e + 1)
+        pub element-among : (d .kind ≡ 0 → ⊥) → (R′ P′ H F′ M′ : List ℕ) → RowsPut table e RAISE R R′ (d .places + 1) → PlacesPut s es (placesOf names (d .places)) e P G P′ H (d .places + 1)
+            → LargestPut true e H F′ CONTENTS → length M′ ≡ length M → Linked (filled M e table (d .code)) e M′ → Filled s es R′ P′ F′ M′ (e + 1)
         element-among z R′ P′ H F′ M′ r w f len is = by-rows z true R′ P′ H F′ M′ r w f (told z M′ len is)

@@ -16,9 +16,10 @@ use Rattle.rules.specs.TypeFile.{Content, empty, model, Element, typeFile}
 use Rattle.rules.specs.Judge.{Accepts}
 use Rattle.rules.specs.Elements.{elementAt, contentOf, placesIn, hasModel}
 use Rattle.rules.specs.Decisions.{Token, hasName}
-use Rattle.layout.specs.Sizes.{POSITIONS, ROWS, PLACES, FACT, FACTS, MEMBER}
+use Rattle.layout.specs.Sizes.{POSITIONS, ROWS, PLACES, FACT, FACTS, MEMBER, CONTENTS, END-OMITTED, HAS-MODEL, START-OMITTED}
 use Rattle.document_laws.specs.Decide.{search}
 use Rattle.rules_laws.specs.Within.{typeFile-count}
+use Rattle.rules.specs.Bytes.{GRPGTCNT, elementLimit}
 use Rattle.type_laws.specs.Width.{typeFile-width}
 use Rattle.type_tables.specs.Tables.{width, nameNumber, Declares, rowAt, namedBy, raisedPlace, PlainIn, ToldIn, Tables}
 use Rattle.row_search.specs.Search.{search-most}
@@ -30,9 +31,9 @@ use Rattle.table_fill.specs.Places.{PlacesPut, number-few}
 
 -- Of its omissions and its content: whether its start may be inferred, whether its end tag may be left out.
 pub record TagsSay (x : Element) (c : Content) (e : ℕ) (facts : List ℕ) : Type 0 where
-  pub start : eqb (getD facts (e * FACT + 65) 0) 1 ≡ (eqb (x .start) 1 && not (needsTag (x .attributes)))
-  pub end : getD facts (e * FACT + 66) 0 ≡ x .end
-  pub has : getD facts (e * FACT + 67) 0 ≡ cond (hasModel c) 1 0
+  pub start : eqb (getD facts (e * FACT + START-OMITTED) 0) 1 ≡ (eqb (x .start) 1 && not (needsTag (x .attributes)))
+  pub end : getD facts (e * FACT + END-OMITTED) 0 ≡ x .end
+  pub has : getD facts (e * FACT + HAS-MODEL) 0 ≡ cond (hasModel c) 1 0
 
 -- `b` says whether its numbers are raised.
 pub record ElementSays (s : List ℕ) (es : List Element) (e : ℕ) (b : Bool) (rows places facts members : List ℕ) : Type 0 where
@@ -68,8 +69,8 @@ pub record RowsFor (c : Content) (b : Bool) (e : ℕ) (T S : List ℕ) : Type 0 
 -- Its omissions and its content, and nothing else; the document itself has none.
 pub record TagsPut (x : Element) (c : Content) (e : ℕ) (F G : List ℕ) : Type 0 where
   pub len : length G ≡ FACTS
-  pub under : (k : ℕ) → k < e * FACT + 65 → getD G k 0 ≡ getD F k 0
-  pub over : (k : ℕ) → e * FACT + 68 ≤ k → getD G k 0 ≡ getD F k 0
+  pub under : (k : ℕ) → k < e * FACT + START-OMITTED → getD G k 0 ≡ getD F k 0
+  pub over : (k : ℕ) → e * FACT + FACT ≤ k → getD G k 0 ≡ getD F k 0
   pub tags : 1 ≤ e → TagsSay x c e G
 
 -- The largest places of the first n names are raised or not, and nothing else.
@@ -77,7 +78,7 @@ pub record LargestPut (b : Bool) (e : ℕ) (F G : List ℕ) (n : ℕ) : Type 0 w
   pub len : length G ≡ FACTS
   pub under : (k : ℕ) → k < e * FACT → getD G k 0 ≡ getD F k 0
   pub over : (k : ℕ) → e * FACT + n ≤ k → getD G k 0 ≡ getD F k 0
-  pub largest : (x : ℕ) → x < n → getD F (e * FACT + x) 0 ≤ 96 → getD G (e * FACT + x) 0 ≡ raisedPlace b (getD F (e * FACT + x) 0)
+  pub largest : (x : ℕ) → x < n → getD F (e * FACT + x) 0 ≤ GRPGTCNT → getD G (e * FACT + x) 0 ≡ raisedPlace b (getD F (e * FACT + x) 0)
 
 -- A model without "&" needs no members; those of one with "&" are put, and nothing else.
 pub record MembersPut (s : List ℕ) (c : Content) (b : Bool) (e : ℕ) (M S : List ℕ) : Type 0 where
@@ -92,14 +93,14 @@ same-place : (n : ℕ) → n ≡ raisedPlace false n
 same-place zero = refl
 same-place (suc n) = refl
 
-pub largest-same : (e : ℕ) (F : List ℕ) → length F ≡ FACTS → LargestPut false e F F 65
+pub largest-same : (e : ℕ) (F : List ℕ) → length F ≡ FACTS → LargestPut false e F F CONTENTS
 largest-same e F len = record { len = len; under = λ k l. refl; over = λ k l. refl; largest = λ x l m. same-place (getD F (e * FACT + x) 0) }
 
 module _ (e : ℕ) (F : List ℕ) where
   pub raise-none : length F ≡ FACTS → LargestPut true e F F 0
   raise-none len = record { len = len; under = λ k l. refl; over = λ k l. refl; largest = λ x l m. absurd (omega arith) }
 
-  pub raise-more : (G : List ℕ) (x i v : ℕ) → e ≤ 64 → x < 65 → LargestPut true e F G x → i ≡ e * FACT + x → (getD G i 0 ≤ 96 → v ≡ raisedPlace true (getD G i 0)) → LargestPut true e F (set G i v) (x + 1)
+  pub raise-more : (G : List ℕ) (x i v : ℕ) → e ≤ elementLimit → x < CONTENTS → LargestPut true e F G x → i ≡ e * FACT + x → (getD G i 0 ≤ GRPGTCNT → v ≡ raisedPlace true (getD G i 0)) → LargestPut true e F (set G i v) (x + 1)
   raise-more G x i v e-to x-to h w is =
       let l : length G ≡ FACTS = h .len in
       let q : getD G i 0 ≡ getD F (e * FACT + x) 0 = ap (λ (k : ℕ). getD G k 0) w ∙ h .over (e * FACT + x) (omega arith) in
@@ -108,7 +109,7 @@ module _ (e : ℕ) (F : List ℕ) where
         under = λ k a. getD-set-other G i k v 0 (omega arith) ∙ h .under k a;
         over = λ k a. getD-set-other G i k v 0 (omega arith) ∙ h .over k (omega arith);
         largest =
-            below-more (λ (y : ℕ). getD F (e * FACT + y) 0 ≤ 96 → getD (set G i v) (e * FACT + y) 0 ≡ raisedPlace true (getD F (e * FACT + y) 0)) x
+            below-more (λ (y : ℕ). getD F (e * FACT + y) 0 ≤ GRPGTCNT → getD (set G i v) (e * FACT + y) 0 ≡ raisedPlace true (getD F (e * FACT + y) 0)) x
             (λ y a m. getD-set-other G i (e * FACT + y) v 0 (omega arith) ∙ h .largest y a m)
             (λ m. rw (← w) (getD-set-same G i v 0 (omega arith)) ∙ is (omega arith) ∙ ap (raisedPlace true) q);
       }
@@ -116,10 +117,10 @@ module _ (e : ℕ) (F : List ℕ) where
 pub members-same : (s : List ℕ) (c : Content) (e : ℕ) (M : List ℕ) → Lent s M → PlainIn c → MembersPut s c false e M M
 members-same s c e M lent p = record { lent = lent; len = refl; under = λ k l. refl; over = λ k l. refl; plain = λ x. p; told = λ x. absurd (false≢true x) }
 
-width-few : (long : ℕ) (s : List ℕ) (es : List Element) → typeFile long s ≡ got es → (e : ℕ) → width es e ≤ 96
+width-few : (long : ℕ) (s : List ℕ) (es : List Element) → typeFile long s ≡ got es → (e : ℕ) → width es e ≤ GRPGTCNT
 width-few long s es read e = by-content (contentOf es e) refl
   where
-    by-content : (x : Content) → contentOf es e ≡ x → length (placesIn x) ≤ 96
+    by-content : (x : Content) → contentOf es e ≡ x → length (placesIn x) ≤ GRPGTCNT
     by-content empty q = omega arith
     by-content (model g ps n) q = omega (arith, typeFile-width long s es read e q)
 
@@ -141,9 +142,9 @@ module _ (long : ℕ) (s : List ℕ) (es : List Element) (read : typeFile long s
         tags = λ l.
             let t = h .tags l in
             record {
-              start = ap (λ (n : ℕ). eqb n 1) (facts (e * FACT + 65) (omega arith)) ∙ t .start;
-              end = facts (e * FACT + 66) (omega arith) ∙ t .end;
-              has = facts (e * FACT + 67) (omega arith) ∙ t .has;
+              start = ap (λ (n : ℕ). eqb n 1) (facts (e * FACT + START-OMITTED) (omega arith)) ∙ t .start;
+              end = facts (e * FACT + END-OMITTED) (omega arith) ∙ t .end;
+              has = facts (e * FACT + HAS-MODEL) (omega arith) ∙ t .has;
             };
         plain = h .plain;
         told = λ x. tells-still M M′ e (λ k l. members (e * MEMBER + k) (omega arith)) len (contentOf es e) (h .told x);
@@ -151,7 +152,7 @@ module _ (long : ℕ) (s : List ℕ) (es : List Element) (read : typeFile long s
 
   -- One more element is put.
   module _ (e : ℕ) (b : Bool) (R P F M : List ℕ) (h : Filled s es R P F M e) (R′ G P′ H F′ M′ : List ℕ) (r : RowsFor (contentOf es e) b e R R′) (t : TagsPut (elementAt es (e - 1)) (contentOf es e) e F G)
-      (w : PlacesPut s es (placesIn (contentOf es e)) e P G P′ H (width es e + 1)) (f : LargestPut b e H F′ 65) (m : MembersPut s (contentOf es e) b e M M′) where
+      (w : PlacesPut s es (placesIn (contentOf es e)) e P G P′ H (width es e + 1)) (f : LargestPut b e H F′ CONTENTS) (m : MembersPut s (contentOf es e) b e M M′) where
     says-it : ElementSays s es e b R′ P′ F′ M′
     says-it =
         let z : width es e + 1 - 1 ≡ width es e = omega arith in
@@ -166,9 +167,9 @@ module _ (long : ℕ) (s : List ℕ) (es : List Element) (read : typeFile long s
           tags = λ l.
               let x = t .tags l in
               record {
-                start = ap (λ (n : ℕ). eqb n 1) (f .over (e * FACT + 65) (omega arith) ∙ w .facts-over (e * FACT + 65) (omega arith)) ∙ x .start;
-                end = f .over (e * FACT + 66) (omega arith) ∙ w .facts-over (e * FACT + 66) (omega arith) ∙ x .end;
-                has = f .over (e * FACT + 67) (omega arith) ∙ w .facts-over (e * FACT + 67) (omega arith) ∙ x .has;
+                start = ap (λ (n : ℕ). eqb n 1) (f .over (e * FACT + START-OMITTED) (omega arith) ∙ w .facts-over (e * FACT + START-OMITTED) (omega arith)) ∙ x .start;
+                end = f .over (e * FACT + END-OMITTED) (omega arith) ∙ w .facts-over (e * FACT + END-OMITTED) (omega arith) ∙ x .end;
+                has = f .over (e * FACT + HAS-MODEL) (omega arith) ∙ w .facts-over (e * FACT + HAS-MODEL) (omega arith) ∙ x .has;
               };
           plain = m .plain;
           told = m .told;

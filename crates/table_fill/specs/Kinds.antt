@@ -17,11 +17,12 @@ use Rattle.rules.specs.Walk.{Group, place}
 use Rattle.rules.specs.TypeFile.{Place, empty, model, Element, typeFile}
 use Rattle.rules.specs.Judge.{placeAt}
 use Rattle.rules.specs.Elements.{elementAt, contentOf, placesIn}
-use Rattle.layout.specs.Sizes.{ROWS, PLACES, FACTS}
+use Rattle.layout.specs.Sizes.{ROWS, PLACES, FACTS, RAISE, REQUIRED, ROW}
 use Rattle.model_sets.specs.Sets.{size}
 use Rattle.model_table.specs.Shows.{Says}
 use Rattle.model_links.specs.Cells.{below-or-from}
 use Rattle.rules_laws.specs.Within.{typeFile-count}
+use Rattle.rules.specs.Bytes.{GRPGTCNT, elementLimit}
 use Rattle.type_laws.specs.Names.{typeFile-element, typeFile-distinct, isNamed-join}
 use Rattle.text.specs.Words.{sameText-refl}
 use Rattle.type_tables.specs.Tables.{rowAt, bitOf, namedBy}
@@ -31,7 +32,7 @@ use Rattle.table_fill.specs.Told.{NoMembers, none-lent, none-rest}
 use Rattle.table_fill.specs.Filled.{Filled, RowsFor, largest-same, members-same, filled-more}
 
 -- A model: its table row by row.
-pub rows-model : (table : List ℕ) (g : Group) (ps : List Place) (n e : ℕ) (b : Bool) (T S : List ℕ) → Says g table → size g ≡ length ps → size g ≤ 96 → RowsPut table e (cond b 128 0) T S (length ps + 1) → RowsFor (model g ps n) b e T S
+pub rows-model : (table : List ℕ) (g : Group) (ps : List Place) (n e : ℕ) (b : Bool) (T S : List ℕ) → Says g table → size g ≡ length ps → size g ≤ GRPGTCNT → RowsPut table e (cond b RAISE 0) T S (length ps + 1) → RowsFor (model g ps n) b e T S
 rows-model table g ps n e b T S says counted few h =
     record {
       len = h .len;
@@ -52,8 +53,8 @@ high-bit x k l =
     rw (div-eq-of-lt h)
 
 -- No place from x on may come next where the first number of the row is x and the others are 0.
-module _ (e u : ℕ) (S : List ℕ) (x : ℕ) (first : getD S (rowAt e u) 0 ≡ x) (others : (j : ℕ) → 1 ≤ j → j < 13 → getD S (rowAt e u + j) 0 ≡ 0) where
-  no-place : (p : ℕ) → x ≤ p → p ≤ 96 → bitOf (getD S (rowAt e u + p / 8) 0) (p % 8) ≡ false
+module _ (e u : ℕ) (S : List ℕ) (x : ℕ) (first : getD S (rowAt e u) 0 ≡ x) (others : (j : ℕ) → 1 ≤ j → j < REQUIRED → getD S (rowAt e u + j) 0 ≡ 0) where
+  no-place : (p : ℕ) → x ≤ p → p ≤ GRPGTCNT → bitOf (getD S (rowAt e u + p / 8) 0) (p % 8) ≡ false
   no-place p l h = ⊎-elim low high (below-or-from p 8)
     where
       low : p < 8 → bitOf (getD S (rowAt e u + p / 8) 0) (p % 8) ≡ false
@@ -66,7 +67,7 @@ module _ (e u : ℕ) (S : List ℕ) (x : ℕ) (first : getD S (rowAt e u) 0 ≡ 
       high b = rw (others (p / 8) (omega arith) (omega arith)) (high-bit 0 (p % 8) (omega arith))
 
 -- EMPTY: the content is complete at the start.
-pub rows-empty : (e : ℕ) (T : List ℕ) → e ≤ 64 → length T ≡ ROWS → ((k : ℕ) → rowAt e 0 ≤ k → getD T k 0 ≡ 0) → RowsFor empty false e T (set T (rowAt e 0) 1)
+pub rows-empty : (e : ℕ) (T : List ℕ) → e ≤ elementLimit → length T ≡ ROWS → ((k : ℕ) → rowAt e 0 ≤ k → getD T k 0 ≡ 0) → RowsFor empty false e T (set T (rowAt e 0) 1)
 rows-empty e T e-to l rest =
     let S : List ℕ = set T (rowAt e 0) 1 in
     let first : getD S (rowAt e 0) 0 ≡ 1 = getD-set-same T (rowAt e 0) 1 0 (omega arith) in
@@ -81,7 +82,7 @@ rows-empty e T e-to l rest =
           rw z record {
             next = λ p a b. no-place e 0 S 1 first (λ j c d. others j c) p a b;
             complete = rw first;
-            required = others 13 (omega arith);
+            required = others REQUIRED (omega arith);
           };
     }
 
@@ -89,14 +90,14 @@ rows-empty e T e-to l rest =
 
 -- The document element is required at the start, and completes the document.
 abbrev pub documentRows : List ℕ → List ℕ
-documentRows T = set (set (set T 0 2) 13 1) 14 1
+documentRows T = set (set (set T 0 2) REQUIRED 1) ROW 1
 
 module _ (T : List ℕ) (l : length T ≡ ROWS) (zeros : (k : ℕ) → getD T k 0 ≡ 0) (ps : List Place) (counted : length ps ≡ 1) where
   abbrev T₁ : List ℕ
   T₁ = set T 0 2
 
   abbrev T₂ : List ℕ
-  T₂ = set T₁ 13 1
+  T₂ = set T₁ REQUIRED 1
 
   abbrev S : List ℕ
   S = documentRows T
@@ -105,42 +106,42 @@ module _ (T : List ℕ) (l : length T ≡ ROWS) (zeros : (k : ℕ) → getD T k 
   len₁ = length-set T 0 2 ∙ l
 
   len₂ : length T₂ ≡ ROWS
-  len₂ = length-set T₁ 13 1 ∙ len₁
+  len₂ = length-set T₁ REQUIRED 1 ∙ len₁
 
   at-0 : getD S 0 0 ≡ 2
-  at-0 = getD-set-other T₂ 14 0 1 0 (omega arith) ∙ getD-set-other T₁ 13 0 1 0 (omega arith) ∙ getD-set-same T 0 2 0 (omega arith)
+  at-0 = getD-set-other T₂ ROW 0 1 0 (omega arith) ∙ getD-set-other T₁ REQUIRED 0 1 0 (omega arith) ∙ getD-set-same T 0 2 0 (omega arith)
 
-  at-13 : getD S 13 0 ≡ 1
-  at-13 = getD-set-other T₂ 14 13 1 0 (omega arith) ∙ getD-set-same T₁ 13 1 0 (omega (arith, len₁))
+  at-required : getD S REQUIRED 0 ≡ 1
+  at-required = getD-set-other T₂ ROW REQUIRED 1 0 (omega arith) ∙ getD-set-same T₁ REQUIRED 1 0 (omega (arith, len₁))
 
-  at-14 : getD S 14 0 ≡ 1
-  at-14 = getD-set-same T₂ 14 1 0 (omega (arith, len₂))
+  at-second : getD S ROW 0 ≡ 1
+  at-second = getD-set-same T₂ ROW 1 0 (omega (arith, len₂))
 
-  kept : (k : ℕ) → 15 ≤ k → getD S k 0 ≡ getD T k 0
-  kept k h = getD-set-other T₂ 14 k 1 0 (omega arith) ∙ getD-set-other T₁ 13 k 1 0 (omega arith) ∙ getD-set-other T 0 k 2 0 (omega arith)
+  kept : (k : ℕ) → ROW < k → getD S k 0 ≡ getD T k 0
+  kept k h = getD-set-other T₂ ROW k 1 0 (omega arith) ∙ getD-set-other T₁ REQUIRED k 1 0 (omega arith) ∙ getD-set-other T 0 k 2 0 (omega arith)
 
-  between : (k : ℕ) → 1 ≤ k → k < 13 → getD S k 0 ≡ 0
-  between k a b = getD-set-other T₂ 14 k 1 0 (omega arith) ∙ getD-set-other T₁ 13 k 1 0 (omega arith) ∙ getD-set-other T 0 k 2 0 (omega arith) ∙ zeros k
+  between : (k : ℕ) → 1 ≤ k → k < REQUIRED → getD S k 0 ≡ 0
+  between k a b = getD-set-other T₂ ROW k 1 0 (omega arith) ∙ getD-set-other T₁ REQUIRED k 1 0 (omega arith) ∙ getD-set-other T 0 k 2 0 (omega arith) ∙ zeros k
 
   at-start : RowSays (model (place 1) ps 1) false 0 0 S
-  at-start = record { next = λ p a b. by-place p (ℕ-discrete p 1) a b; complete = rw at-0; required = at-13 }
+  at-start = record { next = λ p a b. by-place p (ℕ-discrete p 1) a b; complete = rw at-0; required = at-required }
     where
-      by-place : (p : ℕ) → Dec (p ≡ 1) → 1 ≤ p → p ≤ 96 → bitOf (getD S (rowAt 0 0 + p / 8) 0) (p % 8) ≡ eqb 1 p
+      by-place : (p : ℕ) → Dec (p ≡ 1) → 1 ≤ p → p ≤ GRPGTCNT → bitOf (getD S (rowAt 0 0 + p / 8) 0) (p % 8) ≡ eqb 1 p
       by-place p (yes z) a b = rw (z, at-0)
       by-place p (no z) a b = no-place 0 0 S 2 at-0 (λ j c d. between (0 + j) (omega arith) (omega arith)) p (omega arith) b ∙ sym (ne-eqb 1 p (λ y. omega arith))
 
   after-it : RowSays (model (place 1) ps 1) false 0 1 S
   after-it =
       record {
-        next = λ p a b. no-place 0 1 S 1 at-14 (λ j c d. kept (14 + j) (omega arith) ∙ zeros (14 + j)) p a b;
-        complete = rw at-14;
-        required = kept 27 (omega arith) ∙ zeros 27;
+        next = λ p a b. no-place 0 1 S 1 at-second (λ j c d. kept (ROW + j) (omega arith) ∙ zeros (ROW + j)) p a b;
+        complete = rw at-second;
+        required = kept (ROW + REQUIRED) (omega arith) ∙ zeros (ROW + REQUIRED);
       }
 
   rows-document : RowsFor (model (place 1) ps 1) false 0 T S
   rows-document =
       record {
-        len = length-set T₂ 14 1 ∙ len₂;
+        len = length-set T₂ ROW 1 ∙ len₂;
         under = λ k h. absurd (omega arith);
         over = λ k h. kept k (omega arith);
         says = by-row;

@@ -10,7 +10,8 @@ use borrow.Author.Tests.{ne-eqb}
 use Rattle.rules.specs.Settings.{mostNameLength}
 use Rattle.rules.specs.TypeFile.{Place, Element}
 use Rattle.rules.specs.Elements.{numberOf}
-use Rattle.layout.specs.Sizes.{PLACES, FACT, FACTS}
+use Rattle.rules.specs.Bytes.{GRPGTCNT, elementLimit}
+use Rattle.layout.specs.Sizes.{PLACES, FACT, FACTS, PCDATA, START-OMITTED}
 use Rattle.model_names.specs.Places.{placeIn, placesOf}
 use Rattle.model_names.specs.Shared.{placeAt-placesOf}
 use Rattle.element_index.specs.Indexed.{Indexed}
@@ -19,14 +20,14 @@ use Rattle.table_fill.specs.Places.{slotOf, PlacePut, PlacesPut, places-
 
 -- What a place names: an element, 255 for `#PCDATA`, 0 if that is not declared.
 abbrev pub nameOf : List ℕ → List Element → Place → ℕ
-nameOf s es x = cond (eqb (x .size) 0) 255 (numberOf s es s (x .at) (x .size))
+nameOf s es x = cond (eqb (x .size) 0) PCDATA (numberOf s es s (x .at) (x .size))
 
 pub name-some : (s : List ℕ) (es : List Element) (x : Place) (size at v : ℕ) → size ≡ x .size → at ≡ x .at → (size ≡ 0 → ⊥) → v ≡ numberOf s es s at size → v ≡ nameOf s es x
 name-some s es x size at v p q z n = rw (← p, ← q, ne-eqb size 0 z) n
 
 -- The number of an element, or 0, fits, and so does the number by which it is filed.
-pub name-fits : (v : ℕ) → v ≤ 64 → (v ≤ 255) × (slotOf v ≤ 64)
-name-fits v l = (omega arith, rw (ne-eqb v 255 (λ e. omega arith)) l)
+pub name-fits : (v : ℕ) → v ≤ elementLimit → (v ≤ 255) × (slotOf v ≤ elementLimit)
+name-fits v l = (omega arith, rw (ne-eqb v PCDATA (λ e. omega arith)) l)
 
 -- A name of as many bytes as any settings allow at most, within the type file; `#PCDATA` has the size 0.
 abbrev pub IsName : List ℕ → Place → Type 0
@@ -38,12 +39,12 @@ NamesFit s names n = (p : ℕ) → 1 ≤ p → p ≤ n → IsName s (placeIn nam
 
 -- What is asked for the n places of the element e to be filed: their names are such, and no place of e is filed yet.
 pub record PlacesDue (s names places facts : List ℕ) (e n : ℕ) : Type 0 where
-  pub element : e ≤ 64
-  pub few : n ≤ 96
+  pub element : e ≤ elementLimit
+  pub few : n ≤ GRPGTCNT
   pub fit : NamesFit s names n
   pub places-len : length places ≡ PLACES
   pub facts-len : length facts ≡ FACTS
-  pub blank : (k : ℕ) → e * FACT ≤ k → k < e * FACT + 65 → getD facts k 0 ≡ 0
+  pub blank : (k : ℕ) → e * FACT ≤ k → k < e * FACT + START-OMITTED → getD facts k 0 ≡ 0
 
 -- A turn of the loop that files them, in an indexed type.
 module _ (s : List ℕ) (es : List Element) (elements index names P F : List ℕ) (indexed : Indexed s es elements index) (e n : ℕ) (due : PlacesDue s names P F e n)

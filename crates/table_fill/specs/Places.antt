@@ -14,16 +14,17 @@ use Rattle.rules.specs.TypeFile.{Place, Element, typeFile}
 use Rattle.rules.specs.Judge.{placeAt}
 use Rattle.rules.specs.Elements.{numberOf}
 use Rattle.rules.specs.Decisions.{Token, start, pcdata, hasName}
-use Rattle.layout.specs.Sizes.{POSITIONS, PLACES, FACT, FACTS}
+use Rattle.layout.specs.Sizes.{POSITIONS, PLACES, FACT, FACTS, PCDATA, START-OMITTED}
 use Rattle.model_sets.specs.Bits.{not-both, bool-cases}
 use Rattle.document_laws.specs.Decide.{search}
 use Rattle.rules_laws.specs.Within.{typeFile-count}
+use Rattle.rules.specs.Bytes.{GRPGTCNT, elementLimit}
 use Rattle.type_laws.specs.Names.{named-number, numberOf-range, numberOf-pcdata, pcdata-name}
 use Rattle.type_tables.specs.Tables.{nameNumber, Declares, namedBy}
 
 -- By which number a place that names v is filed: that of the element, 0 for `#PCDATA`.
 abbrev pub slotOf : ℕ → ℕ
-slotOf v = cond (eqb v 255) 0 v
+slotOf v = cond (eqb v PCDATA) 0 v
 
 -- Names
 
@@ -34,24 +35,24 @@ module _ (long : ℕ) (s : List ℕ) (es : List Element) (read : typeFile long s
   abbrev size : ℕ
   size = placeAt ps (p - 1) .size
 
-  few : length es ≤ 64
+  few : length es ≤ elementLimit
   few = typeFile-count long s es read .1
 
   -- What the place names is an element or nothing, or `#PCDATA`.
-  element-or-none : (size ≡ 0 → ⊥) → (v ≡ numberOf s es s at size) × (v ≤ 64) × (slotOf v ≡ v)
+  element-or-none : (size ≡ 0 → ⊥) → (v ≡ numberOf s es s at size) × (v ≤ elementLimit) × (slotOf v ≡ v)
   element-or-none z =
       let q : v ≡ numberOf s es s at size = is ∙ rw (ne-eqb size 0 z) in
-      let l : v ≤ 64 = omega (arith, numberOf-range s es s at size, few) in
-      (q, l, rw (ne-eqb v 255 (λ y. omega arith)))
+      let l : v ≤ elementLimit = omega (arith, numberOf-range s es s at size, few) in
+      (q, l, rw (ne-eqb v PCDATA (λ y. omega arith)))
 
-  pcdata-there : size ≡ 0 → v ≡ 255
+  pcdata-there : size ≡ 0 → v ≡ PCDATA
   pcdata-there z = is ∙ rw (eq-eqb size 0 z)
 
   no-element : (k : ℕ) → 1 ≤ k → size ≡ 0 → numberOf s es s at size ≡ k → ⊥
   no-element k l z q = let n : numberOf s es s at 0 ≡ k = rw z at q in omega (arith, numberOf-pcdata long s es read s at)
 
   -- What the place names fits, and so does the number by which it is filed.
-  named-fits : (v ≤ 255) × (slotOf v ≤ 64)
+  named-fits : (v ≤ 255) × (slotOf v ≤ elementLimit)
   named-fits =
       bool-cases (eqb size 0)
       (λ z. let q = pcdata-there (eqb-true size 0 z) in rw q (omega arith))
@@ -89,7 +90,7 @@ pub record PlacePut (e p v : ℕ) (P F P′ F′ : List ℕ) : Type 0 where
   pub largest : 1 ≤ v → getD F′ (e * FACT + slotOf v) 0 ≡ p
   pub others : (k : ℕ) → (1 ≤ v → k ≡ e * FACT + slotOf v → ⊥) → getD F′ k 0 ≡ getD F k 0
 
-module _ (e p v : ℕ) (P F : List ℕ) (e-to : e ≤ 64) (p-to : p ≤ 96) (l : length P ≡ PLACES) (m : length F ≡ FACTS) where
+module _ (e p v : ℕ) (P F : List ℕ) (e-to : e ≤ elementLimit) (p-to : p ≤ GRPGTCNT) (l : length P ≡ PLACES) (m : length F ≡ FACTS) where
   pub place-none : v ≡ 0 → PlacePut e p v P F (set P ((e * POSITIONS + p) * 2) v) F
   place-none z =
       let q : ℕ = (e * POSITIONS + p) * 2 in
@@ -103,7 +104,7 @@ module _ (e p v : ℕ) (P F : List ℕ) (e-to : e ≤ 64) (p-to : p ≤ 96) (l :
         others = λ k h. refl;
       }
 
-  pub place-some : (f a : ℕ) → 1 ≤ v → slotOf v ≤ 64 → f ≡ e * FACT + slotOf v → a ≡ getD F f 0 → PlacePut e p v P F (set (set P ((e * POSITIONS + p) * 2) v) ((e * POSITIONS + p) * 2 + 1) a) (set F f p)
+  pub place-some : (f a : ℕ) → 1 ≤ v → slotOf v ≤ elementLimit → f ≡ e * FACT + slotOf v → a ≡ getD F f 0 → PlacePut e p v P F (set (set P ((e * POSITIONS + p) * 2) v) ((e * POSITIONS + p) * 2 + 1) a) (set F f p)
   place-some f a some s-to is has =
       let q : ℕ = (e * POSITIONS + p) * 2 in
       let R : List ℕ = set P q v in
@@ -126,12 +127,12 @@ pub record PlacesPut (s : List ℕ) (es : List Element) (ps : List Place) (e : �
   pub facts-len : length F′ ≡ FACTS
   pub places-under : (k : ℕ) → k < e * POSITIONS * 2 → getD P′ k 0 ≡ getD P k 0
   pub facts-under : (k : ℕ) → k < e * FACT → getD F′ k 0 ≡ getD F k 0
-  pub facts-over : (k : ℕ) → e * FACT + 65 ≤ k → getD F′ k 0 ≡ getD F k 0
+  pub facts-over : (k : ℕ) → e * FACT + START-OMITTED ≤ k → getD F′ k 0 ≡ getD F k 0
   pub named : (q : ℕ) → q < p → 1 ≤ q → getD P′ ((e * POSITIONS + q) * 2) 0 ≡ namedBy s es ps q
   pub smaller : (q : ℕ) → q < p → 1 ≤ q → (t : Token) → Declares es t → hasName s es ps t q ≡ true → getD P′ ((e * POSITIONS + q) * 2 + 1) 0 ≡ search (hasName s es ps t) (q - 1)
   pub largest : (t : Token) → Declares es t → getD F′ (e * FACT + nameNumber t) 0 ≡ search (hasName s es ps t) (p - 1)
 
-pub number-few : (es : List Element) (t : Token) → length es ≤ 64 → Declares es t → nameNumber t ≤ 64
+pub number-few : (es : List Element) (t : Token) → length es ≤ elementLimit → Declares es t → nameNumber t ≤ elementLimit
 number-few es (start k) l d = omega arith
 number-few es pcdata l d = omega arith
 
@@ -147,7 +148,7 @@ search-miss f zero l h = absurd (omega arith)
 search-miss f (suc p) l h = let z : suc p - 1 ≡ p = omega arith in rw (z, h, search)
 
 module _ (long : ℕ) (s : List ℕ) (es : List Element) (read : typeFile long s ≡ got es) (ps : List Place) (e : ℕ) (P F : List ℕ) where
-  pub places-none : length P ≡ PLACES → length F ≡ FACTS → ((k : ℕ) → e * FACT ≤ k → k < e * FACT + 65 → getD F k 0 ≡ 0) → PlacesPut s es ps e P F P F 1
+  pub places-none : length P ≡ PLACES → length F ≡ FACTS → ((k : ℕ) → e * FACT ≤ k → k < e * FACT + START-OMITTED → getD F k 0 ≡ 0) → PlacesPut s es ps e P F P F 1
   unfolding search
   places-none l m blank =
       record {
@@ -161,8 +162,8 @@ module _ (long : ℕ) (s : List ℕ) (es : List Element) (read : typeFile long s
         largest = λ t d. blank (e * FACT + nameNumber t) (omega arith) (omega (arith, number-few es t (typeFile-count long s es read .1) d));
       }
 
-  module _ (Q G : List ℕ) (p : ℕ) (from : 1 ≤ p) (to : p ≤ 96) (h : PlacesPut s es ps e P F Q G p) (v : ℕ) (is : v ≡ namedBy s es ps p) (R H : List ℕ) (w : PlacePut e p v Q G R H) where
-    slot-in : slotOf v ≤ 64
+  module _ (Q G : List ℕ) (p : ℕ) (from : 1 ≤ p) (to : p ≤ GRPGTCNT) (h : PlacesPut s es ps e P F Q G p) (v : ℕ) (is : v ≡ namedBy s es ps p) (R H : List ℕ) (w : PlacePut e p v Q G R H) where
+    slot-in : slotOf v ≤ elementLimit
     slot-in = named-fits long s es read ps p v is .1
 
     largest-more : (t : Token) → Declares es t → getD H (e * FACT + nameNumber t) 0 ≡ search (hasName s es ps t) p

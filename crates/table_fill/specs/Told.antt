@@ -8,6 +8,7 @@ use native.Mathlib.Omega.{arith}
 use lib.ListN.{length, getD, replicate, length-replicate, List·getD-eq-default}
 use Rattle.rules.specs.Walk.{Group}
 use Rattle.rules.specs.TypeFile.{Content, empty, model}
+use Rattle.rules.specs.Bytes.{GRPGTCNT}
 use Rattle.layout.specs.Sizes.{MEMBER, MEMBERS, CODE, CONTENTS}
 use Rattle.model_sets.specs.Sets.{has, size, Numbered}
 use Rattle.and_laws.specs.Sets.{Plain}
@@ -24,7 +25,7 @@ use Rattle.type_laws.specs.Members.{Without}
 -- The content of an element is told; its places are 96 at most.
 abbrev pub TellsIn : (M : List ℕ) (e : ℕ) → Content → Type 0
 TellsIn M e empty = Unit {0}
-TellsIn M e (model g ps n) = Told M e g × ((u : ℕ) → has g u ≡ true → u ≤ 96)
+TellsIn M e (model g ps n) = Told M e g × ((u : ℕ) → has g u ≡ true → u ≤ GRPGTCNT)
 
 pub tells-still : (M S : List ℕ) (e : ℕ) → ((k : ℕ) → k < MEMBER → getD S (e * MEMBER + k) 0 ≡ getD M (e * MEMBER + k) 0) → length S ≡ length M → (c : Content) → TellsIn M e c → TellsIn S e c
 tells-still M S e same len empty h = tt
@@ -60,7 +61,7 @@ lent-still s M S len (inr (e, w)) = inr (len ∙ e, w)
 -- What comes of M for the element e, whose model is g.
 pub members-put :
     (s M S T : List ℕ) (e n : ℕ) (g : Group) → Lent s M → e < CONTENTS → ((k : ℕ) → e * MEMBER ≤ k → getD M k 0 ≡ 0) → n ≤ CODE → codeIn T n ≡ codes g → HasRows T g →
-    Numbered g 1 → Guarded g → Sized g → size g ≤ 96 → total g ≤ 96 → (Without s → Plain g) → length S ≡ length M → Linked (filled M e T n) e S → Filled M e g S
+    Numbered g 1 → Guarded g → Sized g → size g ≤ GRPGTCNT → total g ≤ GRPGTCNT → (Without s → Plain g) → length S ≡ length M → Linked (filled M e T n) e S → Filled M e g S
 members-put s M S T e n g lent within free room spelled rows numbered guarded sized few members plain len is =
     ⊎-elim
     (λ (long : length M ≡ MEMBERS).

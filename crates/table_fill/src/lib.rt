@@ -2,19 +2,27 @@
 //
 // The layout is that of the crate type_tables.
 use element_reader::ElementRead;
+use layout::CONTENTS;
+use layout::END_OMITTED;
 use layout::ElementNo;
 use layout::FACT;
 use layout::FACTS;
+use layout::HAS_MODEL;
 use layout::INDEX;
 use layout::LINK;
 use layout::MODEL;
 use layout::NAMES;
+use layout::PCDATA;
 use layout::PLACES;
 use layout::POSITIONS;
 use layout::Place;
+use layout::RAISE;
+use layout::RECORD;
 use layout::RECORDS;
+use layout::REQUIRED;
 use layout::ROW;
 use layout::ROWS;
+use layout::START_OMITTED;
 ghost use mathlib.Core.Path.{_≡_};
 ghost use mathlib.Core.List.{List};
 ghost use Prim.Native.Nat.{ℕ, _+_, _-_, _*_, _≤_, _<_};
@@ -22,7 +30,8 @@ ghost use lib.ListN.{length, replicate};
 ghost use Rattle.rules.specs.Settings.{settings};
 ghost use Rattle.rules.specs.TypeFile.{Element};
 ghost use Rattle.rules.specs.Judge.{Accepts};
-ghost use Rattle.layout.specs.Sizes.{ROWS, PLACES, FACTS};
+ghost use Rattle.rules.specs.Bytes.{GRPGTCNT, elementLimit};
+ghost use Rattle.layout.specs.Sizes.{ROWS, PLACES, FACTS, CONTENTS};
 ghost use Rattle.model_names.specs.Places.{placeIn, placesOf};
 ghost use Rattle.element_reader.specs.Keeps.{Recorded};
 ghost use Rattle.element_index.specs.Indexed.{Judged, Indexed};
@@ -37,11 +46,13 @@ ghost use Rattle.table_fill.specs.Names.{nameOf, IsName, PlacesDue};
 ghost use Rattle.table_fill.specs.Own.{elementsOf};
 ghost use Rattle.table_fill.specs.Elements.{Flags, StartFact, FactsPut, ElementDue};
 
+const RAISED: u8 = RAISE as u8;
+
 // By which number a place that names v is filed: that of the element, 0 for `#PCDATA`.
 fn slot(v: ElementNo) -> usize
     ensures { λ r. ⌜ r ≡ slotOf (v .0) ⌝ }
 {
-    if v.0 == 255 { 0 } else { v.0 }
+    if v.0 == PCDATA { 0 } else { v.0 }
 }
 
 // The place p of the element e names v: it comes before those of that name that are there.
@@ -52,7 +63,7 @@ fn put_place(
     p: Place,
     v: ElementNo,
 )
-    requires { ⌜ (e .0 ≤ 64) × (p .0 ≤ 96) × (v .0 ≤ 255) × (slotOf (v .0) ≤ 64) × (length (now places) ≡ PLACES) × (length (now facts) ≡ FACTS) ⌝ }
+    requires { ⌜ (e .0 ≤ elementLimit) × (p .0 ≤ GRPGTCNT) × (v .0 ≤ 255) × (slotOf (v .0) ≤ elementLimit) × (length (now places) ≡ PLACES) × (length (now facts) ≡ FACTS) ⌝ }
     ensures { λ _. ⌜ PlacePut (e .0) (p .0) (v .0) (now (places .entry)) (now (facts .entry)) (now (places .exit)) (now (facts .exit)) ⌝ }
 {
     let q = (e.0 * POSITIONS + p.0) * LINK;
@@ -73,7 +84,7 @@ fn put_document(rows: &mut [u8; ROWS], places: &mut [u8; PLACES], facts: &mut [u
         × PlacePut 0 1 1 (now (places .entry)) (now (facts .entry)) (now (places .exit)) (now (facts .exit)) ⌝ }
 {
     rows[0] = 2;
-    rows[13] = 1;
+    rows[REQUIRED] = 1;
     rows[ROW] = 1;
     let document = ElementNo(0);
     let first = Place(1);
@@ -89,14 +100,14 @@ fn name(
     names: &[u32; NAMES],
     p: Place,
 ) -> ElementNo
-    requires { ⌜ (1 ≤ p .0) × (p .0 ≤ 96) × IsName (now s) (placeIn (now names) (p .0 - 1)) ⌝ }
+    requires { ⌜ (1 ≤ p .0) × (p .0 ≤ GRPGTCNT) × IsName (now s) (placeIn (now names) (p .0 - 1)) ⌝ }
     ensures { λ r. ⌜ ((es : List Element) → Indexed (now (s .entry)) es (now (elements .entry)) (now (index .entry)) →
         r .0 ≡ nameOf (now (s .entry)) es (placeIn (now (names .entry)) (p .0 - 1))) ⌝ }
-    ensures { λ r. ⌜ (r .0 ≤ 255) × (slotOf (r .0) ≤ 64) ⌝ }
+    ensures { λ r. ⌜ (r .0 ≤ 255) × (slotOf (r .0) ≤ elementLimit) ⌝ }
 {
     let size = numbers::widened(names[2 * (p.0 - 1) + 1]);
     if size == 0 {
-        return ElementNo(255);
+        return ElementNo(PCDATA);
     }
     let at = model_names::place_at(names, p.0);
     let f = element_index::find(s, elements, index, s, at, size);
@@ -131,47 +142,47 @@ fn put_places(
 
 // Whether the start of the element e may be inferred, by its record and its list: "O", and none of its attributes is required.
 fn start_fact(elements: &[u32; RECORDS], lists: &[u16], e: ElementNo) -> u8
-    requires { ⌜ (1 ≤ e .0) × (e .0 ≤ 64) × Flags (now elements) (e .0) ⌝ }
+    requires { ⌜ (1 ≤ e .0) × (e .0 ≤ elementLimit) × Flags (now elements) (e .0) ⌝ }
     ensures { λ r. ⌜ StartFact (now (elements .entry)) (now (lists .entry)) (e .0) r ⌝ }
 {
     if list_table::needs_tag(lists, e) {
         return 0;
     }
-    elements[6 * (e.0 - 1) + 2] as u8
+    elements[RECORD * (e.0 - 1) + 2] as u8
 }
 
 // Whether the start of the element e may be inferred, whether its end may be omitted, and its content.
 fn put_facts(facts: &mut [u8; FACTS], elements: &[u32; RECORDS], lists: &[u16], e: ElementNo)
-    requires { ⌜ (1 ≤ e .0) × (e .0 ≤ 64) × Flags (now elements) (e .0) ⌝ }
+    requires { ⌜ (1 ≤ e .0) × (e .0 ≤ elementLimit) × Flags (now elements) (e .0) ⌝ }
     ensures { λ _. ⌜ FactsPut (now (elements .entry)) (now (lists .entry)) (e .0) (now (facts .entry)) (now (facts .exit)) ⌝ }
 {
-    let k = 6 * (e.0 - 1);
-    facts[e.0 * FACT + 65] = start_fact(elements, lists, e);
-    facts[e.0 * FACT + 66] = elements[k + 3] as u8;
-    facts[e.0 * FACT + 67] = elements[k + 4] as u8;
+    let k = RECORD * (e.0 - 1);
+    facts[e.0 * FACT + START_OMITTED] = start_fact(elements, lists, e);
+    facts[e.0 * FACT + END_OMITTED] = elements[k + 3] as u8;
+    facts[e.0 * FACT + HAS_MODEL] = elements[k + 4] as u8;
 }
 
 // The largest place of a name as it is kept where the model has an "&": 128 higher, if there is one.
 fn raised(p: u8) -> u8
-    ensures { λ r. ⌜ (p ≤ 96 → r ≡ raisedPlace true p) ⌝ }
+    ensures { λ r. ⌜ (p ≤ GRPGTCNT → r ≡ raisedPlace true p) ⌝ }
 {
     if p == 0 {
         return 0;
     }
-    if 128 <= p {
+    if RAISED <= p {
         return p;
     }
-    p + 128
+    p + RAISED
 }
 
 // The largest places of the element e are kept higher: its model has an "&".
 fn raise_facts(facts: &mut [u8; FACTS], e: ElementNo)
-    requires { ⌜ (e .0 ≤ 64) × (length (now facts) ≡ FACTS) ⌝ }
-    ensures { λ _. ⌜ LargestPut true (e .0) (now (facts .entry)) (now (facts .exit)) 65 ⌝ }
+    requires { ⌜ (e .0 ≤ elementLimit) × (length (now facts) ≡ FACTS) ⌝ }
+    ensures { λ _. ⌜ LargestPut true (e .0) (now (facts .entry)) (now (facts .exit)) CONTENTS ⌝ }
 {
     let f = e.0 * FACT;
     let mut x = 0;
-    while x < 65 {
+    while x < CONTENTS {
         facts[f + x] = raised(facts[f + x]);
         x += 1;
     }
@@ -219,7 +230,7 @@ fn put_element(
         model_rows::put_rows(rows, e, table, n, 0);
         return;
     }
-    model_rows::put_rows(rows, e, table, n, 128);
+    model_rows::put_rows(rows, e, table, n, RAISED);
     raise_facts(facts, e);
     member_sets::fill(members, e, table, d.code);
 }

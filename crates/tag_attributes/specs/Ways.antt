@@ -7,7 +7,7 @@ use native.Mathlib.Omega.{arith}
 use lib.ListN.{length}
 use lib.Dec.{eqb}
 use borrow.Author.Tests.{eq-eqb, ne-eqb, eqb-true, lt-ltb, le-ltb}
-use Rattle.rules.specs.Bytes.{byteAt, separator, nameEnd, separatorsEnd}
+use Rattle.rules.specs.Bytes.{byteAt, separator, nameEnd, separatorsEnd, LIT, LITA, VI}
 use Rattle.rules.specs.Reading.{Reading, refused, got, andThen}
 use Rattle.rules.specs.Attributes.{quote, literalEnd}
 use Rattle.rules.specs.Document.{Written, specification}
@@ -27,31 +27,31 @@ separators-none s i e = span-end separator s i _ e refl
 -- A quote is no separator.
 quote-parts : (b : ℕ) → quote b ≡ true → separator b ≡ false
 unfolding separator
-quote-parts b = by-test (eqb b 34) refl (eqb b 39) refl
+quote-parts b = by-test (eqb b LIT) refl (eqb b LITA) refl
   where
-    by-test : (x : Bool) → eqb b 34 ≡ x → (y : Bool) → eqb b 39 ≡ y → (x || y) ≡ true → separator b ≡ false
-    by-test true e y f q = rw (eqb-true b 34 e)
-    by-test false e true f q = rw (eqb-true b 39 f)
+    by-test : (x : Bool) → eqb b LIT ≡ x → (y : Bool) → eqb b LITA ≡ y → (x || y) ≡ true → separator b ≡ false
+    by-test true e y f q = rw (eqb-true b LIT e)
+    by-test false e true f q = rw (eqb-true b LITA f)
     by-test false e false f q = absurd (true≢false (sym q))
 
 -- `=` behind a name that ends at e stands at j.
 pub record EqualsAt (s : List ℕ) (e j : ℕ) : Type 0 where
   pub behind : j ≡ separatorsEnd s e
-  pub here : byteAt s j ≡ 61
+  pub here : byteAt s j ≡ VI
 
 -- Nothing parts the two, or separators do.
-pub equals-first : (s : List ℕ) (e : ℕ) {b j : ℕ} → b ≡ byteAt s e → b ≡ 61 → j ≡ e → EqualsAt s e j
+pub equals-first : (s : List ℕ) (e : ℕ) {b j : ℕ} → b ≡ byteAt s e → b ≡ VI → j ≡ e → EqualsAt s e j
 unfolding separator
 equals-first s e q h p =
-    let x : byteAt s e ≡ 61 = sym q ∙ h in
+    let x : byteAt s e ≡ VI = sym q ∙ h in
     let n : separator (byteAt s e) ≡ false = rw x in
     record { behind = p ∙ separators-none s e n; here = ap (byteAt s) p ∙ x }
 
-pub equals-then : (s : List ℕ) (e : ℕ) {b i j : ℕ} → i ≡ separatorsEnd s e → b ≡ byteAt s i → b ≡ 61 → j ≡ i → EqualsAt s e j
+pub equals-then : (s : List ℕ) (e : ℕ) {b i j : ℕ} → i ≡ separatorsEnd s e → b ≡ byteAt s i → b ≡ VI → j ≡ i → EqualsAt s e j
 equals-then s e r q h p = record { behind = p ∙ r; here = ap (byteAt s) p ∙ sym q ∙ h }
 
 pub equals-in : {s : List ℕ} {e j : ℕ} → EqualsAt s e j → j < length s
-equals-in {s} {e} {j} x = byte-is-in s j 61 (x .here) (omega arith)
+equals-in {s} {e} {j} x = byte-is-in s j VI (x .here) (omega arith)
 
 -- The opening quote of a literal behind a `=` that stands at j: it stands at k.
 pub record QuoteAt (s : List ℕ) (j k : ℕ) : Type 0 where
@@ -74,7 +74,7 @@ module _ (long : ℕ) (s : List ℕ) (i e : ℕ) (q : e ≡ nameEnd s i) where
   name-long h = rw (specification, lt-ltb _ _ (rw q at h))
 
   module _ (h : e - i ≤ long) where
-    pub equals-missing : (j : ℕ) → j ≡ separatorsEnd s e → (byteAt s j ≡ 61 → ⊥) → refused 4 j ≡ specification long s i
+    pub equals-missing : (j : ℕ) → j ≡ separatorsEnd s e → (byteAt s j ≡ VI → ⊥) → refused 4 j ≡ specification long s i
     unfolding specification
     equals-missing j p n = rw (p, q, specification, le-ltb _ _ (rw q at h), ne-eqb _ _ (rw (p, q) at n))
 

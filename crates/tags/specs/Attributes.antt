@@ -7,7 +7,7 @@ use native.Mathlib.Omega.{arith}
 use lib.ListN.{length}
 use lib.Dec.{eqb}
 use borrow.Author.Tests.{eq-eqb, ne-eqb, lt-ltb, le-ltb}
-use Rattle.rules.specs.Bytes.{byteAt, letter, nameEnd, separatorsEnd}
+use Rattle.rules.specs.Bytes.{byteAt, letter, nameEnd, separatorsEnd, MDC}
 use Rattle.rules.specs.Reading.{Reading, refused, got, andThen}
 use Rattle.rules.specs.Document.{Written, Tag, specification, specifications, startTagAt}
 use Rattle.text.specs.Words.{letter-in, separatorsEnd-from, separatorsEnd-le}
@@ -21,7 +21,7 @@ use Rattle.tags.specs.Given.{ReadAs}
 -- What comes of the attributes ws and of those that follow at i, where separators are passed: in so many turns more.
 unfoldable pub specificationsOn : ℕ → (turns : ℕ) → List ℕ → (name e i : ℕ) → List Written → Reading Tag
 specificationsOn long turns d name e i ws =
-    elim (eqb (byteAt d i) 62) [
+    elim (eqb (byteAt d i) MDC) [
       | true ↦ got (record { name = name; size = e - name; after = i + 1; written = ws })
       | false ↦ elim (letter (byteAt d i)) [
         | true ↦ andThen (specification long d i) λ w. specifications long turns d name e (w .quote + 1 + w .width + 1) (ws ++ w ∷ [])
@@ -33,7 +33,7 @@ specifications-on : (long : ℕ) (turns : ℕ) (d : List ℕ) (name e at : ℕ) 
 unfolding specifications specificationsOn
 specifications-on long turns d name e at ws = refl
 
-letter-no-close : (b : ℕ) → letter b ≡ true → b ≡ 62 → ⊥
+letter-no-close : (b : ℕ) → letter b ≡ true → b ≡ MDC → ⊥
 unfolding letter
 letter-no-close b l e = true≢false (sym l ∙ rw e)
 
@@ -49,7 +49,7 @@ module _ (long : ℕ) (s : List ℕ) (i e : ℕ) (q : e ≡ nameEnd s i) where
     start-on = rw (p, q, startTagAt, le-ltb _ _ (rw q at h)) (specifications-on long (length s) s i (nameEnd s i) (nameEnd s i) [])
 
     -- It gives no attributes.
-    pub start-ends : byteAt s j ≡ 62 → startTagAt long s i ≡ got (record { name = i; size = e - i; after = j + 1; written = [] })
+    pub start-ends : byteAt s j ≡ MDC → startTagAt long s i ≡ got (record { name = i; size = e - i; after = j + 1; written = [] })
     unfolding specificationsOn
     start-ends g = start-on ∙ rw (specificationsOn, eq-eqb _ _ g)
 
@@ -121,10 +121,10 @@ module _ (long : ℕ) (s : List ℕ) (i e : ℕ) where
     unfolding specificationsOn
     goes-refused l number at r = sym (a .due) ∙ rw (specificationsOn, ne-eqb _ _ (letter-no-close _ l), l, r)
 
-    pub goes-ends : byteAt s j ≡ 62 → (ws : List Written) × (x ≡ got (record { name = i; size = e - i; after = j + 1; written = ws })) × ReadAs (length s) g n ws
+    pub goes-ends : byteAt s j ≡ MDC → (ws : List Written) × (x ≡ got (record { name = i; size = e - i; after = j + 1; written = ws })) × ReadAs (length s) g n ws
     unfolding specificationsOn
     goes-ends h = (a .ws, sym (a .due) ∙ rw (specificationsOn, eq-eqb _ _ h), a .read)
 
-    pub goes-wrong : letter (byteAt s j) ≡ false → (byteAt s j ≡ 62 → ⊥) → x ≡ refused 4 j
+    pub goes-wrong : letter (byteAt s j) ≡ false → (byteAt s j ≡ MDC → ⊥) → x ≡ refused 4 j
     unfolding specificationsOn
     goes-wrong l h = sym (a .due) ∙ rw (specificationsOn, ne-eqb _ _ h, l)

@@ -3,7 +3,7 @@ use Prim.Native.Nat.{ℕ, _+_, _-_, _≤_, _<_}
 use mathlib.Core.Path.{_≡_}
 use mathlib.Core.List.{List, []}
 use borrow.Author.Tests.{eq-eqb, ne-eqb, lt-ltb, le-ltb}
-use Rattle.rules.specs.Bytes.{byteAt, nameEnd, separatorsEnd}
+use Rattle.rules.specs.Bytes.{byteAt, nameEnd, separatorsEnd, MDC}
 use Rattle.rules.specs.Reading.{Reading, refused, got}
 use Rattle.rules.specs.Document.{tag, Written}
 use Rattle.rules.specs.Document as rules
@@ -31,10 +31,10 @@ module _ (long : ℕ) (s : List ℕ) (at e : ℕ) (q : e ≡ nameEnd s at) where
   tag-long h = rw (tag, lt-ltb _ _ (rw q at h))
 
   module _ (j : ℕ) (p : j ≡ separatorsEnd s e) (h : e - at ≤ long) where
-    pub tag-read : byteAt s j ≡ 62 → got (record { name = at; size = e - at; after = j + 1; written = [] }) ≡ tag long s at
+    pub tag-read : byteAt s j ≡ MDC → got (record { name = at; size = e - at; after = j + 1; written = [] }) ≡ tag long s at
     unfolding tag
     tag-read g = rw (p, q, tag, le-ltb _ _ (rw q at h), eq-eqb _ _ (rw (p, q) at g))
 
-    pub tag-open : (byteAt s j ≡ 62 → ⊥) → refused 4 j ≡ tag long s at
+    pub tag-open : (byteAt s j ≡ MDC → ⊥) → refused 4 j ≡ tag long s at
     unfolding tag
     tag-open g = rw (p, q, tag, le-ltb _ _ (rw q at h), ne-eqb _ _ (rw (p, q) at g))

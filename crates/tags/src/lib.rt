@@ -7,6 +7,7 @@ ghost use mathlib.Core.List.{[]};
 ghost use Prim.Native.Nat.{_≤_};
 ghost use lib.ListN.{length};
 ghost use Rattle.rules.specs.Document.{tag, startTagAt};
+ghost use Rattle.rules.specs.Bytes.{documentLimit};
 ghost use Rattle.delimiters.specs.Classes.{Classes};
 ghost use Rattle.tags.specs.Tags.{tagOf};
 ghost use Rattle.tags.specs.Given.{MeetsTag};
@@ -56,7 +57,7 @@ fn attributes_at(
     first: usize,
     given: &mut [u16; GIVEN],
 ) -> TagRead
-    requires { ⌜ Classes (now classes) × (i ≤ e) × (e ≤ first) × (first ≤ length (now s)) × (length (now s) ≤ 65535) ⌝ }
+    requires { ⌜ Classes (now classes) × (i ≤ e) × (e ≤ first) × (first ≤ length (now s)) × (length (now s) ≤ documentLimit) ⌝ }
     ensures { λ r. ⌜ MeetsTag (length (now (s .entry))) (now (given .exit)) r (specificationsOn long (length (now (s .entry))) (now (s .entry)) i e first []) ⌝ }
 {
     let mut n = 0;
@@ -89,7 +90,7 @@ pub fn start_tag_at(
     i: usize,
     given: &mut [u16; GIVEN],
 ) -> TagRead
-    requires { ⌜ Classes (now classes) × (i ≤ length (now s)) × (length (now s) ≤ 65535) ⌝ }
+    requires { ⌜ Classes (now classes) × (i ≤ length (now s)) × (length (now s) ≤ documentLimit) ⌝ }
     ensures { λ r. ⌜ MeetsTag (length (now (s .entry))) (now (given .exit)) r (startTagAt long (now (s .entry)) i) ⌝ }
 {
     let e = tag_attributes::name_end(classes, s, i);

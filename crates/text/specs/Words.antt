@@ -10,7 +10,7 @@ use lib.ListN.{length, drop, length-drop, drop-of-length-le}
 use lib.Dec.{eqb, ltb}
 use borrow.Author.Tests.{not-true, not-false, eq-eqb, eqb-true, lt-ltb, le-ltb, ltb-true, ltb-false, eqb-false, ne-eqb}
 use Rattle.rules.specs.Reading.{Reading, refused, got}
-use Rattle.rules.specs.Bytes.{byteAt, allowed, separator, letter, nameByte, fold, span, nameEnd, separatorsEnd, sameText}
+use Rattle.rules.specs.Bytes.{byteAt, allowed, separator, letter, nameByte, fold, span, nameEnd, separatorsEnd, sameText, MDC, MINUS, PERO}
 use Rattle.rules.specs.TypeFile.{atDashes, beforeDashes, gapWithin, gap, commentClose, commentDeclaration, isWord}
 use Rattle.text.specs.Refusal.{refusalOf, reached, faultOf}
 use Rattle.text.specs.declared.Fault.{Fault}
@@ -198,7 +198,7 @@ before-dashes = record {
 
 -- `--` stands in the input.
 pub dashes-in : (s : List ℕ) (i : ℕ) → atDashes s i ≡ true → i + 2 ≤ length s
-dashes-in s i e = omega (arith, byte-is-in s (i + 1) 45 (eqb-true _ _ (second (eqb (byteAt s i) 45) _ e)) (omega arith))
+dashes-in s i e = omega (arith, byte-is-in s (i + 1) MINUS (eqb-true _ _ (second (eqb (byteAt s i) MINUS) _ e)) (omega arith))
 
 -- Where `--` ends a comment from `at` on, it stands in the input.
 pub dashes-end-in : (s : List ℕ) (at e : ℕ) → e ≡ at + beforeDashes (drop at s) → e < length s → e + 2 ≤ length s
@@ -212,7 +212,7 @@ gapOn turns s i =
     let e = i + 2 + beforeDashes (drop (i + 2) s) in
     elim (atDashes s i) [
       | true ↦ elim (ltb e (length s)) [ true ↦ gapWithin turns s (e + 2) | false ↦ refused 4 (length s) ]
-      | false ↦ elim (eqb (byteAt s i) 37) [ true ↦ refused 5 i | false ↦ got i ]
+      | false ↦ elim (eqb (byteAt s i) PERO) [ true ↦ refused 5 i | false ↦ got i ]
     ]
 
 pub gap-on : (turns : ℕ) (s : List ℕ) (at : ℕ) → gapWithin (suc turns) s at ≡ gapOn turns s (separatorsEnd s at)
@@ -228,11 +228,11 @@ pub gapOn-open : (turns : ℕ) (s : List ℕ) (i e : ℕ) → atDashes s i ≡ t
 unfolding gapOn
 gapOn-open turns s i e d q h = rw (d, gapOn, le-ltb _ _ (rw q at h))
 
-pub gapOn-percent : (turns : ℕ) (s : List ℕ) (i : ℕ) → atDashes s i ≡ false → byteAt s i ≡ 37 → gapOn turns s i ≡ refused 5 i
+pub gapOn-percent : (turns : ℕ) (s : List ℕ) (i : ℕ) → atDashes s i ≡ false → byteAt s i ≡ PERO → gapOn turns s i ≡ refused 5 i
 unfolding gapOn
 gapOn-percent turns s i d q = rw (d, gapOn, eq-eqb _ _ q)
 
-pub gapOn-end : (turns : ℕ) (s : List ℕ) (i : ℕ) → atDashes s i ≡ false → (byteAt s i ≡ 37 → ⊥) → gapOn turns s i ≡ got i
+pub gapOn-end : (turns : ℕ) (s : List ℕ) (i : ℕ) → atDashes s i ≡ false → (byteAt s i ≡ PERO → ⊥) → gapOn turns s i ≡ got i
 unfolding gapOn
 gapOn-end turns s i d q = rw (d, gapOn, ne-eqb _ _ q)
 
@@ -258,13 +258,13 @@ next s i = by-dashes (atDashes s i) refl
         on (e + 2) (omega arith) (dashes-end-in s (i + 2) e refl h) (λ turns. gapOn-comment turns s i e d refl h)
     by-end d false q = ends (refused 4 (length s)) (not-got 4 (length s) i) (λ turns. gapOn-open turns s i e d refl (ltb-false e (length s) q))
 
-    by-percent : atDashes s i ≡ false → (b : Bool) → eqb (byteAt s i) 37 ≡ b → Next s i
-    by-percent d true q = ends (refused 5 i) (not-got 5 i i) (λ turns. gapOn-percent turns s i d (eqb-true (byteAt s i) 37 q))
-    by-percent d false q = ends (got i) (λ j r. cc) (λ turns. gapOn-end turns s i d (eqb-false (byteAt s i) 37 q))
+    by-percent : atDashes s i ≡ false → (b : Bool) → eqb (byteAt s i) PERO ≡ b → Next s i
+    by-percent d true q = ends (refused 5 i) (not-got 5 i i) (λ turns. gapOn-percent turns s i d (eqb-true (byteAt s i) PERO q))
+    by-percent d false q = ends (got i) (λ j r. cc) (λ turns. gapOn-end turns s i d (eqb-false (byteAt s i) PERO q))
 
     by-dashes : (b : Bool) → atDashes s i ≡ b → Next s i
     by-dashes true d = by-end d (ltb e (length s)) refl
-    by-dashes false d = by-percent d (eqb (byteAt s i) 37) refl
+    by-dashes false d = by-percent d (eqb (byteAt s i) PERO) refl
 
 -- More turns than bytes are enough turns.
 pub gap-enough : (m n : ℕ) (s : List ℕ) (at : ℕ) → length s - at < m → length s - at < n → gapWithin m s at ≡ gapWithin n s at
@@ -310,7 +310,7 @@ gap-turn s i e j d q h p =
 gap-dashes : (s : List ℕ) (at : ℕ) → atDashes s at ≡ true → gapOn (length s) s at ≡ gap s at
 unfolding separatorsEnd separator
 gap-dashes s at d =
-    let b : byteAt s at ≡ 45 = eqb-true _ _ (first (eqb (byteAt s at) 45) _ d) in
+    let b : byteAt s at ≡ MINUS = eqb-true _ _ (first (eqb (byteAt s at) MINUS) _ d) in
     let here : separator (byteAt s at) ≡ false = rw b in
     let stays : at ≡ separatorsEnd s at = span-end separator s at _ here refl in
     ap (gapOn (length s) s) stays ∙ gap-start s at
@@ -319,7 +319,7 @@ gap-dashes s at d =
 
 -- Where the unfit byte stands, if no `>` follows the comments: behind a "-", which could only open a further one.
 abbrev pub behindDash : List ℕ → ℕ → ℕ
-behindDash s i = cond (eqb (byteAt s i) 45) (i + 1) i
+behindDash s i = cond (eqb (byteAt s i) MINUS) (i + 1) i
 
 -- Each way on from where the comments and separators end, of which the first `--` stands at `at`.
 module _ (s : List ℕ) (at : ℕ) (d : atDashes s at ≡ true) where
@@ -332,11 +332,11 @@ module _ (s : List ℕ) (at : ℕ) (d : atDashes s at ≡ true) where
     unfolding commentDeclaration
     comment-on = rw (commentDeclaration, sym (gap-dashes s at d) ∙ g)
 
-    pub comment-closed : byteAt s i ≡ 62 → commentDeclaration s at ≡ got (i + 1)
+    pub comment-closed : byteAt s i ≡ MDC → commentDeclaration s at ≡ got (i + 1)
     comment-closed e = comment-on ∙ rw (eq-eqb _ _ e, commentClose)
 
-    pub comment-unfit : (byteAt s i ≡ 62 → ⊥) → commentDeclaration s at ≡ refused 4 (behindDash s i)
-    comment-unfit m = comment-on ∙ rw (ne-eqb _ _ m, commentClose) (sym (cut-or (eqb (byteAt s i) 45) (i + 1) i))
+    pub comment-unfit : (byteAt s i ≡ MDC → ⊥) → commentDeclaration s at ≡ refused 4 (behindDash s i)
+    comment-unfit m = comment-on ∙ rw (ne-eqb _ _ m, commentClose) (sym (cut-or (eqb (byteAt s i) MINUS) (i + 1) i))
 
     pub comment-inside : i ≤ length s
     comment-inside = gap-range s at i (omega (arith, dashes-in s at d)) (sym (gap-dashes s at d) ∙ g) .1
@@ -344,20 +344,20 @@ module _ (s : List ℕ) (at : ℕ) (d : atDashes s at ≡ true) where
   pub comment-range : (j : ℕ) → commentDeclaration s at ≡ got j → (at < j) × (j ≤ length s)
   comment-range j r = by-gap (gapOn (length s) s at) refl
     where
-      by-close : (i : ℕ) → gapOn (length s) s at ≡ got i → (b : Bool) → eqb (byteAt s i) 62 ≡ b → (at < j) × (j ≤ length s)
+      by-close : (i : ℕ) → gapOn (length s) s at ≡ got i → (b : Bool) → eqb (byteAt s i) MDC ≡ b → (at < j) × (j ≤ length s)
       by-close i g true q =
-          let e = eqb-true (byteAt s i) 62 q in
+          let e = eqb-true (byteAt s i) MDC q in
           let n : i + 1 ≡ j = cc (comment-closed i g e) in
-          omega (arith, gap-range s at i (omega (arith, dashes-in s at d)) (sym (gap-dashes s at d) ∙ g), byte-is-in s i 62 e (omega arith))
+          omega (arith, gap-range s at i (omega (arith, dashes-in s at d)) (sym (gap-dashes s at d) ∙ g), byte-is-in s i MDC e (omega arith))
       by-close i g false q =
-          let z : _≡_ {A = ℕ} 0 1 = cc (comment-unfit i g (eqb-false (byteAt s i) 62 q)) in
+          let z : _≡_ {A = ℕ} 0 1 = cc (comment-unfit i g (eqb-false (byteAt s i) MDC q)) in
           omega arith
 
       by-gap : (x : Reading ℕ) → gapOn (length s) s at ≡ x → (at < j) × (j ≤ length s)
       by-gap (refused n k) g =
           let z : _≡_ {A = ℕ} 0 1 = cc (comment-cut n k g) in
           omega arith
-      by-gap (got i) g = by-close i g (eqb (byteAt s i) 62) refl
+      by-gap (got i) g = by-close i g (eqb (byteAt s i) MDC) refl
 
 -- Words.
 

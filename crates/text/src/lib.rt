@@ -37,26 +37,26 @@ pub fn byte(s: &[u8], at: usize) -> u8
 pub fn is_allowed(b: u8) -> bool
     ensures { λ r. ⌜ r ≡ allowed b ⌝ }
 {
-    if b == 9 || b == 10 || b == 13 {
+    if b == b'\t' || b == b'\n' || b == b'\r' {
         true
     } else {
-        32 <= b && b <= 126
+        b' ' <= b && b <= b'~'
     }
 }
 
 pub fn is_separator(b: u8) -> bool
     ensures { λ r. ⌜ r ≡ separator b ⌝ }
 {
-    b == 9 || b == 10 || b == 13 || b == 32
+    b == b'\t' || b == b'\n' || b == b'\r' || b == b' '
 }
 
 pub fn is_letter(b: u8) -> bool
     ensures { λ r. ⌜ r ≡ letter b ⌝ }
 {
-    if 97 <= b {
-        b <= 122
+    if b'a' <= b {
+        b <= b'z'
     } else {
-        65 <= b && b <= 90
+        b'A' <= b && b <= b'Z'
     }
 }
 
@@ -64,26 +64,26 @@ pub fn is_letter(b: u8) -> bool
 pub fn is_name_byte(b: u8) -> bool
     ensures { λ r. ⌜ r ≡ nameByte b ⌝ }
 {
-    if 97 <= b {
-        return b <= 122;
+    if b'a' <= b {
+        return b <= b'z';
     }
-    if 65 <= b {
-        return b <= 90;
+    if b'A' <= b {
+        return b <= b'Z';
     }
-    if 48 <= b {
-        return b <= 57;
+    if b'0' <= b {
+        return b <= b'9';
     }
-    if b == 46 {
+    if b == b'.' {
         return true;
     }
-    b == 45
+    b == b'-'
 }
 
 // Letters fold to upper case.
 pub fn folded(b: u8) -> u8
     ensures { λ r. ⌜ r ≡ fold b ⌝ }
 {
-    if 97 <= b && b <= 122 { b - 32 } else { b }
+    if b'a' <= b && b <= b'z' { b - 32 } else { b }
 }
 
 // Where the name or word that begins at `at` ends.

@@ -7,7 +7,7 @@ use native.Mathlib.Decide.{ℕ-discrete}
 use native.Mathlib.Omega.{arith}
 use lib.ListN.{length}
 use borrow.Author.Tests.{ne-eqb, lt-ltb, le-ltb}
-use Rattle.rules.specs.Bytes.{byteAt, letter, nameEnd}
+use Rattle.rules.specs.Bytes.{byteAt, letter, nameEnd, DSO, EXCLAMATION, MDC, MINUS, OPT, PERO, STAGO}
 use Rattle.rules.specs.Reading.{Reading, refused, got, andThen}
 use Rattle.rules.specs.Attributes.{AttList}
 use Rattle.rules.specs.TypeFile.{Element, Declared, Declarations, atDashes, isWord, ELEMENT, ATTLIST, commentDeclaration, element, attributeList, keyword, markup, declaration}
@@ -81,30 +81,30 @@ list-word s i e w = by-size (ℕ-discrete (e - i) 7)
 
 -- What stands behind `<!`, where the byte b follows.
 module _ (long : ℕ) (s : List ℕ) (i b : ℕ) (es : List Element) (ls : List AttList) (read : b ≡ byteAt s (i + 2)) where
-  pub markup-none : b ≡ 62 → markup long s i es ls ≡ got (record { elements = es; lists = ls; at = i + 3 })
+  pub markup-none : b ≡ MDC → markup long s i es ls ≡ got (record { elements = es; lists = ls; at = i + 3 })
   unfolding markup
   markup-none q = rw (rw read at q, markup)
 
-  module _ (d : ℕ) (then : d ≡ byteAt s (i + 3)) (q : b ≡ 45) where
-    pub markup-dash : (d ≡ 45 → ⊥) → markup long s i es ls ≡ refused 4 (i + 3)
+  module _ (d : ℕ) (then : d ≡ byteAt s (i + 3)) (q : b ≡ MINUS) where
+    pub markup-dash : (d ≡ MINUS → ⊥) → markup long s i es ls ≡ refused 4 (i + 3)
     unfolding markup
     markup-dash o =
         let m = rw read at q in
         rw (m, m, ne-eqb _ _ (rw then at o), markup)
 
-    pub markup-comment : (x : Reading ℕ) → d ≡ 45 → x ≡ commentDeclaration s (i + 2) → markup long s i es ls ≡ andThen x (λ j. got (record { elements = es; lists = ls; at = j }))
+    pub markup-comment : (x : Reading ℕ) → d ≡ MINUS → x ≡ commentDeclaration s (i + 2) → markup long s i es ls ≡ andThen x (λ j. got (record { elements = es; lists = ls; at = j }))
     unfolding markup
     markup-comment x o w =
         let m = rw read at q in
         rw (m, m, rw then at o, ← w, markup)
 
-  pub markup-section : b ≡ 91 → markup long s i es ls ≡ refused 5 i
+  pub markup-section : b ≡ DSO → markup long s i es ls ≡ refused 5 i
   unfolding markup
   markup-section q =
       let m = rw read at q in
       rw (m, m, m, markup)
 
-  module _ (none : b ≡ 62 → ⊥) (dash : b ≡ 45 → ⊥) (section : b ≡ 91 → ⊥) where
+  module _ (none : b ≡ MDC → ⊥) (dash : b ≡ MINUS → ⊥) (section : b ≡ DSO → ⊥) where
     pub markup-keyword : letter b ≡ true → markup long s i es ls ≡ keyword long s i es ls
     unfolding markup
     markup-keyword l = rw (ne-eqb _ _ (rw read at none), ne-eqb _ _ (rw read at dash), ne-eqb _ _ (rw read at section), rw read at l, markup)
@@ -114,7 +114,7 @@ module _ (long : ℕ) (s : List ℕ) (i b : ℕ) (es : List Element) (ls : List 
     markup-other l = rw (ne-eqb _ _ (rw read at none), ne-eqb _ _ (rw read at dash), ne-eqb _ _ (rw read at section), rw read at l, markup)
 
 -- A comment declaration, from its first `--` to its end.
-pub comment-opens : (s : List ℕ) (i : ℕ) → byteAt s (i + 2) ≡ 45 → byteAt s (i + 3) ≡ 45 → atDashes s (i + 2) ≡ true
+pub comment-opens : (s : List ℕ) (i : ℕ) → byteAt s (i + 2) ≡ MINUS → byteAt s (i + 3) ≡ MINUS → atDashes s (i + 2) ≡ true
 comment-opens s i b d =
     let n : i + 2 + 1 ≡ i + 3 = omega arith in
     rw (b, n, d)
@@ -132,27 +132,27 @@ module _ (long : ℕ) (s elements heads : List ℕ) (i : ℕ) (p : Progress) (es
 
 -- What stands at i, where a declaration may begin: the byte b.
 module _ (long : ℕ) (s : List ℕ) (i b : ℕ) (es : List Element) (ls : List AttList) (read : b ≡ byteAt s i) where
-  module _ (d : ℕ) (then : d ≡ byteAt s (i + 1)) (q : b ≡ 60) where
-    pub declaration-markup : d ≡ 33 → declaration long s i es ls ≡ markup long s i es ls
+  module _ (d : ℕ) (then : d ≡ byteAt s (i + 1)) (q : b ≡ STAGO) where
+    pub declaration-markup : d ≡ EXCLAMATION → declaration long s i es ls ≡ markup long s i es ls
     unfolding declaration
     declaration-markup o = rw (rw read at q, rw then at o, declaration)
 
-    pub declaration-instruction : d ≡ 63 → declaration long s i es ls ≡ refused 5 i
+    pub declaration-instruction : d ≡ OPT → declaration long s i es ls ≡ refused 5 i
     unfolding declaration
     declaration-instruction o =
         let m = rw then at o in
         rw (rw read at q, m, m, declaration)
 
-    pub declaration-tag : (d ≡ 33 → ⊥) → (d ≡ 63 → ⊥) → declaration long s i es ls ≡ refused 4 (i + 1)
+    pub declaration-tag : (d ≡ EXCLAMATION → ⊥) → (d ≡ OPT → ⊥) → declaration long s i es ls ≡ refused 4 (i + 1)
     unfolding declaration
     declaration-tag m o = rw (rw read at q, ne-eqb _ _ (rw then at m), ne-eqb _ _ (rw then at o), declaration)
 
-  pub declaration-reference : b ≡ 37 → declaration long s i es ls ≡ refused 5 i
+  pub declaration-reference : b ≡ PERO → declaration long s i es ls ≡ refused 5 i
   unfolding declaration
   declaration-reference q =
       let m = rw read at q in
       rw (m, m, declaration)
 
-  pub declaration-other : (b ≡ 60 → ⊥) → (b ≡ 37 → ⊥) → declaration long s i es ls ≡ refused 4 i
+  pub declaration-other : (b ≡ STAGO → ⊥) → (b ≡ PERO → ⊥) → declaration long s i es ls ≡ refused 4 i
   unfolding declaration
   declaration-other m o = rw (ne-eqb _ _ (rw read at m), ne-eqb _ _ (rw read at o), declaration)

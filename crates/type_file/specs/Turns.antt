@@ -8,11 +8,11 @@ use native.Mathlib.Omega.{arith}
 use lib.ListN.{length, take, replicate}
 use lib.Dec.{eqb}
 use borrow.Author.Tests.{eq-eqb, ne-eqb, le-leb, lt-leb}
-use Rattle.rules.specs.Bytes.{separatorsEnd}
+use Rattle.rules.specs.Bytes.{separatorsEnd, elementLimit}
 use Rattle.rules.specs.Reading.{Reading, refused, got, andThen}
 use Rattle.rules.specs.Attributes.{AttList}
 use Rattle.rules.specs.TypeFile.{Element, Declarations, declaration, declarationsWithin, listed, typeFile}
-use Rattle.rules.specs.Judge.{AllUnambiguous, FirstAmbiguous, here, later, contentNumbers, records, firstRepeated}
+use Rattle.rules.specs.Judge.{AllUnambiguous, FirstAmbiguous, here, later, contentNumbers, records, firstRepeated, recordWidth}
 use Rattle.text.specs.Words.{separatorsEnd-from}
 use Rattle.text.specs.declared.Fault.{Fault}
 use Rattle.element_records.specs.declared.Clash.{Clash}
@@ -62,7 +62,7 @@ module _ (ls : List AttList) where
         record {
           counted = k .counted ∙ sym n;
           room = omega (arith, k .room);
-          recorded = ap (λ (m : ℕ). take (6 * m) elements) n ∙ k .recorded ∙ sym (listed-records 1 es);
+          recorded = ap (λ (m : ℕ). take (recordWidth * m) elements) n ∙ k .recorded ∙ sym (listed-records 1 es);
           at-in = k .at-in;
           repeated-at = k .repeated-at ∙ sym (listed-repeated 1 es);
           pending = λ z. listed-pending (p .clash) es (k .pending (sym (listed-repeated 1 es) ∙ z));
@@ -96,7 +96,7 @@ pub record ReadsOn (long : ℕ) (s elements heads : List ℕ) (p : Progress) : T
   pub still : elementsOf (declarationsWithin long (suc turns) s (p .at) so-far lists) ≡ typeFile long s
   pub enough : length s ≤ turns + p .at
 
-pub reads-start : (long : ℕ) (s elements heads : List ℕ) → heads ≡ replicate 64 0 → ReadsOn long s elements heads (record { at = 0; count = 0; clash = record { at = 0; first = 0; second = 0 }; repeated = 0 })
+pub reads-start : (long : ℕ) (s elements heads : List ℕ) → heads ≡ replicate elementLimit 0 → ReadsOn long s elements heads (record { at = 0; count = 0; clash = record { at = 0; first = 0; second = 0 }; repeated = 0 })
 unfolding typeFile records firstRepeated
 reads-start long s elements heads e =
     record {

@@ -17,6 +17,7 @@ ghost use lib.ListN.{length, replicate};
 ghost use Rattle.rules.specs.TypeFile.{keyword, markup, declaration, typeFile};
 ghost use Rattle.rules.specs.TypeFile as rules;
 ghost use Rattle.rules.specs.Attributes.{AttList};
+ghost use Rattle.rules.specs.Bytes.{elementLimit, typeLimit};
 ghost use Rattle.attribute_lists.specs.Listed.{Headed};
 ghost use Rattle.element_records.specs.Progress.{KeepsProgress, InProgress};
 ghost use Rattle.type_file.specs.File.{MeetsDeclarations, MeetsFile};
@@ -41,7 +42,7 @@ fn keyword_at(
     names: &mut [u32; NAMES],
     table: &mut [u8; MODEL],
 ) -> Step
-    requires { ⌜ (i + 2 ≤ length (now s)) × (length (now s) ≤ 32768) ⌝ }
+    requires { ⌜ (i + 2 ≤ length (now s)) × (length (now s) ≤ typeLimit) ⌝ }
     requires { ⌜ InProgress (now s) (now elements) p ⌝ }
     ensures { λ r. ⌜ ((es : List rules.Element) (ls : List AttList) → KeepsProgress (now (s .entry)) (now (elements .entry)) p es → Headed long (now (s .entry)) (now (heads .entry)) ls →
         MeetsDeclarations long (now (s .entry)) (now (elements .exit)) (now (heads .exit)) i r (keyword long (now (s .entry)) i es ls)) ⌝ }
@@ -87,7 +88,7 @@ fn markup_at(
     names: &mut [u32; NAMES],
     table: &mut [u8; MODEL],
 ) -> Step
-    requires { ⌜ (i + 2 ≤ length (now s)) × (length (now s) ≤ 32768) ⌝ }
+    requires { ⌜ (i + 2 ≤ length (now s)) × (length (now s) ≤ typeLimit) ⌝ }
     requires { ⌜ InProgress (now s) (now elements) p ⌝ }
     ensures { λ r. ⌜ ((es : List rules.Element) (ls : List AttList) → KeepsProgress (now (s .entry)) (now (elements .entry)) p es → Headed long (now (s .entry)) (now (heads .entry)) ls →
         MeetsDeclarations long (now (s .entry)) (now (elements .exit)) (now (heads .exit)) i r (markup long (now (s .entry)) i es ls)) ⌝ }
@@ -126,7 +127,7 @@ fn declaration_at(
     names: &mut [u32; NAMES],
     table: &mut [u8; MODEL],
 ) -> Step
-    requires { ⌜ (i < length (now s)) × (length (now s) ≤ 32768) ⌝ }
+    requires { ⌜ (i < length (now s)) × (length (now s) ≤ typeLimit) ⌝ }
     requires { ⌜ InProgress (now s) (now elements) p ⌝ }
     ensures { λ r. ⌜ ((es : List rules.Element) (ls : List AttList) → KeepsProgress (now (s .entry)) (now (elements .entry)) p es → Headed long (now (s .entry)) (now (heads .entry)) ls →
         MeetsDeclarations long (now (s .entry)) (now (elements .exit)) (now (heads .exit)) i r (declaration long (now (s .entry)) i es ls)) ⌝ }
@@ -156,7 +157,7 @@ pub fn file_read(
     elements: &mut [u32; RECORDS],
     heads: &mut [u16; ELEMENTS],
 ) -> Step
-    requires { ⌜ (length (now s) ≤ 32768) × (now heads ≡ replicate 64 0) ⌝ }
+    requires { ⌜ (length (now s) ≤ typeLimit) × (now heads ≡ replicate elementLimit 0) ⌝ }
     ensures { λ r. ⌜ MeetsFile long (now (s .entry)) (now (elements .exit)) (now (heads .exit)) r (typeFile long (now (s .entry))) ⌝ }
 {
     let mut names = [0u32; NAMES];

@@ -5,7 +5,8 @@ use mathlib.Core.List.{List}
 use lib.ListN.{length}
 use Rattle.rules.specs.Settings.{Settings}
 use Rattle.rules.specs.TypeFile.{Element}
-use Rattle.rules.specs.Judge.{Answer, refusal, acceptance, Refuses, Accepts}
+use Rattle.rules.specs.Judge.{Answer, refusal, acceptance, Refuses, Accepts, recordWidth}
+use Rattle.rules.specs.Bytes.{elementLimit}
 use Rattle.element_names.specs.Names.{Recorded}
 use Rattle.attribute_lists.specs.Listed.{HeadedAs}
 use Rattle.type_judge.specs.declared.Verdict.{Verdict}
@@ -21,6 +22,6 @@ answerOf (Ambiguous c) = refusal 9 (c .at) (c .first) (c .second)
 -- lists have their heads, or refused.
 abbrev pub Decides : Settings → (s : List ℕ) (room : ℕ) (elements heads : List ℕ) → Verdict → Type 0
 Decides c s room elements heads (Accepted n) =
-    (es : List Element) × Accepts c s es × (n ≡ length es) × (6 * length es ≤ room) × (length es ≤ 64) × Recorded elements es × HeadedAs (c .nameLength) s heads es
+    (es : List Element) × Accepts c s es × (n ≡ length es) × (recordWidth * length es ≤ room) × (length es ≤ elementLimit) × Recorded elements es × HeadedAs (c .nameLength) s heads es
 Decides c s room elements heads (Malformed f) = Refuses c s room (answerOf (Malformed f))
 Decides c s room elements heads (Ambiguous x) = Refuses c s room (answerOf (Ambiguous x))

@@ -9,7 +9,8 @@ use Rattle.rules.specs.Settings.{Settings}
 use Rattle.rules.specs.Lent.{Lent, standing, room, filledWith, zeroed}
 use Rattle.rules.specs.Reading.{Reading, refused, got}
 use Rattle.rules.specs.TypeFile.{Element, typeFile}
-use Rattle.rules.specs.Judge.{firstRepeated, Legible, Refuses, Accepts, malformed, repeated, ambiguous, noRoom, Judged, refuses, accepts, refusal, acceptance}
+use Rattle.rules.specs.Judge.{firstRepeated, Legible, Refuses, Accepts, malformed, repeated, ambiguous, noRoom, Judged, refuses, accepts, refusal, acceptance, recordWidth}
+use Rattle.rules.specs.Bytes.{elementLimit}
 use Rattle.numbers.specs.Stores.{records-length}
 use Rattle.text.specs.declared.Fault.{Fault}
 use Rattle.element_records.specs.declared.Clash.{Clash}
@@ -43,10 +44,10 @@ module _ (c : Settings) (s : List ℕ) (room : ℕ) (legible : Legible c s) wher
     decides-ambiguous (inr h) z = ambiguous legible es y none (x .at) (x .first) (x .second) (h .1) refl
 
     module _ (h : Pending s x es) (z : x .second ≡ 0) where
-      pub decides-full : (n : ℕ) → n ≡ length es → room < 6 * n → Refuses c s room (refusal 19 0 0 0)
+      pub decides-full : (n : ℕ) → n ≡ length es → room < recordWidth * n → Refuses c s room (refusal 19 0 0 0)
       decides-full n e l = noRoom legible es y none (none-so-far s x es z h) (rw e at l) refl
 
-      pub decides-accepted : (elements heads : List ℕ) (p : Progress) → KeepsProgress s elements p es → HeadedAs (c .nameLength) s heads es → 6 * p .count ≤ room → Decides c s room elements heads (Accepted (p .count))
+      pub decides-accepted : (elements heads : List ℕ) (p : Progress) → KeepsProgress s elements p es → HeadedAs (c .nameLength) s heads es → recordWidth * p .count ≤ room → Decides c s room elements heads (Accepted (p .count))
       decides-accepted elements heads p k u l =
           let all : Accepts c s es = record { legible = legible; elements = y; unrepeated = none; unambiguous = none-so-far s x es z h } in
           (es, all, k .counted, rw (k .counted) at l, k .room, k .recorded, u)
@@ -54,13 +55,13 @@ module _ (c : Settings) (s : List ℕ) (room : ℕ) (legible : Legible c s) wher
 -- What the lent buffer holds after the verdict.
 module _ (l : Lent) (c : Settings) (s before elements heads : List ℕ) (v : Verdict) (d : Decides c s (room l before) elements heads v) where
   -- The records stand in the table, and fit the buffer.
-  pub accepted-fits : (n : ℕ) → v ≡ Accepted n → (n ≤ 64) × (6 * n ≤ room l before) × (6 * n ≤ length elements)
+  pub accepted-fits : (n : ℕ) → v ≡ Accepted n → (n ≤ elementLimit) × (recordWidth * n ≤ room l before) × (recordWidth * n ≤ length elements)
   accepted-fits n e =
       let (es, a, count, fits, few, w, u) = rw e at d in
-      let whole = ap length (take-append-drop (6 * length es) elements) in
-      (omega arith, omega arith, omega (arith, length-append (take (6 * length es) elements) (drop (6 * length es) elements), ap length w, records-length es))
+      let whole = ap length (take-append-drop (recordWidth * length es) elements) in
+      (omega arith, omega arith, omega (arith, length-append (take (recordWidth * length es) elements) (drop (recordWidth * length es) elements), ap length w, records-length es))
 
-  pub judged-accepts : (n : ℕ) (after : List ℕ) → v ≡ Accepted n → after ≡ filledWith (standing l (take (6 * n) elements)) before → Judged l c s before (answerOf (Accepted n)) after
+  pub judged-accepts : (n : ℕ) (after : List ℕ) → v ≡ Accepted n → after ≡ filledWith (standing l (take (recordWidth * n) elements)) before → Judged l c s before (answerOf (Accepted n)) after
   judged-accepts n after e q =
       let (es, a, count, fits, few, w, u) = rw e at d in
       accepts es a fits (ap acceptance count) (rw (q, count, w))

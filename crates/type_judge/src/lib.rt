@@ -4,13 +4,16 @@ use element_records::Step;
 use inputs::Settings;
 use layout::ELEMENTS;
 use layout::NUMBER;
+use layout::RECORD;
 use layout::RECORDS;
+use layout::TYPE_LIMIT;
 use text::Fault;
 ghost use mathlib.Core.Path.{_≡_};
 ghost use Prim.Native.Nat.{_≤_};
 ghost use lib.ListN.{length, replicate};
 ghost use Rattle.rules.specs.Lent.{numbers, bytes};
 ghost use Rattle.rules.specs.Judge.{Legible, Judged};
+ghost use Rattle.rules.specs.Bytes.{elementLimit, typeLimit};
 ghost use Rattle.inputs.specs.Checks.{settingsOf};
 ghost use Rattle.type_judge.specs.Decides.{answerOf, Decides};
 
@@ -32,7 +35,7 @@ pub fn decide_legible(
     elements: &mut [u32; RECORDS],
     heads: &mut [u16; ELEMENTS],
 ) -> Verdict
-    requires { ⌜ (length (now s) ≤ 32768) × (now heads ≡ replicate 64 0) ⌝ }
+    requires { ⌜ (length (now s) ≤ typeLimit) × (now heads ≡ replicate elementLimit 0) ⌝ }
     ensures { λ r. ⌜ (Legible (settingsOf c) (now (s .entry)) → Decides (settingsOf c) (now (s .entry)) room (now (elements .exit)) (now (heads .exit)) r) ⌝ }
 {
     let r = type_file::file_read(c.name_length, s, elements, heads);
@@ -41,7 +44,7 @@ pub fn decide_legible(
     };
     let clash = p.clash;
     let second = clash.second;
-    let numbers = 6 * p.count;
+    let numbers = RECORD * p.count;
     let at = p.repeated;
     if at != 0 {
         return Verdict::Malformed(Fault { number: 25, at: at });
@@ -64,13 +67,13 @@ pub fn decide(
     elements: &mut [u32; RECORDS],
     heads: &mut [u16; ELEMENTS],
 ) -> Verdict
-    requires { ⌜ now heads ≡ replicate 64 0 ⌝ }
+    requires { ⌜ now heads ≡ replicate elementLimit 0 ⌝ }
     ensures { λ r. ⌜ Decides (settingsOf c) (now (s .entry)) room (now (elements .exit)) (now (heads .exit)) r ⌝ }
 {
     if !inputs::is_offered(c) {
         return Verdict::Malformed(Fault { number: 24, at: 0 });
     }
-    if 32768 < s.len() {
+    if TYPE_LIMIT < s.len() {
         return Verdict::Malformed(Fault { number: 1, at: 0 });
     }
     let a = text::allowed_end(s);
@@ -89,7 +92,7 @@ pub fn judge(c: Settings, s: &[u8], buffer: &mut [u32]) -> Verdict
     let v = decide(c, s, buffer.len(), &mut elements, &mut heads);
     if let Verdict::Accepted(n) = v {
         element_records::whole(elements);
-        numbers::put_numbers(buffer, &elements, 6 * n);
+        numbers::put_numbers(buffer, &elements, RECORD * n);
     } else {
         numbers::clear_numbers(buffer);
     }
@@ -105,7 +108,7 @@ pub fn judge_to_bytes(c: Settings, s: &[u8], buffer: &mut [u8]) -> Verdict
     let v = decide(c, s, buffer.len() / NUMBER, &mut elements, &mut heads);
     if let Verdict::Accepted(n) = v {
         element_records::whole(elements);
-        numbers::put_bytes(buffer, &elements, 6 * n);
+        numbers::put_bytes(buffer, &elements, RECORD * n);
     } else {
         numbers::clear_bytes(buffer);
     }

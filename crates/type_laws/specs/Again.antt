@@ -7,7 +7,7 @@ use native.Mathlib.Omega.{arith}
 use lib.ListN.{length, take}
 use lib.Dec.{leb}
 use borrow.Author.Tests.{leb-true, ne-eqb}
-use Rattle.rules.specs.Bytes.{byteAt, letter, separator, separatorsEnd}
+use Rattle.rules.specs.Bytes.{byteAt, letter, separator, separatorsEnd, MINUS, RE, RS, SPACE, TAB}
 use Rattle.rules.specs.Reading.{got}
 use Rattle.rules.specs.TypeFile.{atDashes, gap, Element, head, Declared, element, typeFile}
 use Rattle.rules.specs.Elements.{elementAt}
@@ -24,7 +24,7 @@ letter-least b e =
 
 not-separator : (b : ℕ) → 65 ≤ b → separator b ≡ false
 unfolding separator
-not-separator b l = rw (ne-eqb b 9 (λ e. omega arith), ne-eqb b 10 (λ e. omega arith), ne-eqb b 13 (λ e. omega arith), ne-eqb b 32 (λ e. omega arith))
+not-separator b l = rw (ne-eqb b TAB (λ e. omega arith), ne-eqb b RS (λ e. omega arith), ne-eqb b RE (λ e. omega arith), ne-eqb b SPACE (λ e. omega arith))
 
 no-separators : (s : List ℕ) (i : ℕ) → 65 ≤ byteAt s i → separatorsEnd s i ≡ i
 unfolding separatorsEnd
@@ -33,7 +33,7 @@ no-separators s i l = sym (span-end separator s i _ (not-separator (byteAt s i) 
 gap-none : (s : List ℕ) (i : ℕ) → letter (byteAt s i) ≡ true → gap s i ≡ got i
 gap-none s i e =
     let l = letter-least (byteAt s i) e in
-    let d : atDashes s i ≡ false = rw (ne-eqb (byteAt s i) 45 (λ z. omega arith)) in
+    let d : atDashes s i ≡ false = rw (ne-eqb (byteAt s i) MINUS (λ z. omega arith)) in
     sym (gap-start s i) ∙ rw (no-separators s i l) (gapOn-end (length s) s i d (λ z. omega arith))
 
 -- The gap before the name is passed, or there is none.

@@ -8,7 +8,7 @@ use native.Mathlib.Omega.{arith}
 use lib.ListN.{length}
 use lib.Dec.{eqb, leb, ltb}
 use borrow.Author.Tests.{eqb-true, leb-true, leb-false}
-use Rattle.rules.specs.Bytes.{byteAt, letter, nameEnd, GRPCNT, GRPLVL, GRPGTCNT, AND, SEQ, OR}
+use Rattle.rules.specs.Bytes.{byteAt, letter, nameEnd, GRPCNT, GRPLVL, GRPGTCNT, AND, SEQ, OR, GRPO}
 use Rattle.rules.specs.Reading.{Reading, refused, got, andThen}
 use Rattle.rules.specs.Walk.{Group, place, seq, alt, opt, plus, and, Members, one, also}
 use Rattle.rules.specs.TypeFile.{isWord, isCut, EMPTY, ANY, CDATA, RCDATA, Place, Tokens, occurrence, isConnector, membersOf, join, oneMore, joinTokens, token, Further, closed, joined, further, members, group, Content, empty, model, ContentEnd, contentModel, contentWord, content, Element, typeFile}
@@ -105,8 +105,8 @@ module _ (s : List ℕ) (n k : ℕ) (t u : Tokens) (grows : Growing s n k t) (so
 
   joined-by : (b : ℕ) → Joined (join k b (t .group) (u .group))
   joined-by b =
-      whichever Joined (eqb b 44) (λ e. ((grows .sized, counts .0), omega (arith, counts .1, grows .counted), omega arith))
-      (λ e. whichever Joined (eqb b 124) (λ f. ((grows .sized, counts .0), omega (arith, counts .1, grows .counted), omega arith))
+      whichever Joined (eqb b SEQ) (λ e. ((grows .sized, counts .0), omega (arith, counts .1, grows .counted), omega arith))
+      (λ e. whichever Joined (eqb b OR) (λ f. ((grows .sized, counts .0), omega (arith, counts .1, grows .counted), omega arith))
       (λ f. whichever (λ (z : Members). Joined (and (also z (u .group)))) (leb k 1) (λ i. joined-first (leb-true k 1 i)) (λ i. joined-further (leb-false k 1 i))))
 
   -- Without "&" it is joined by another connector.
@@ -212,7 +212,7 @@ module _ (long : ℕ) (s : List ℕ) where
   content-counts : (from i : ℕ) → Gives (λ (x : ContentEnd). CountedIn (x .content) × AndAt s (x .repeated) × (1 ≤ x .repeated → GuardedIn (x .content) → ⊥)) (content long s from i)
   unfolding content contentModel contentWord
   content-counts from i =
-      either (eqb (byteAt s i) 40)
+      either (eqb (byteAt s i) GRPO)
       (λ x. on (group-counts GRPLVL i [] 0) (λ t y. let (z, l, w, (a, r, p, g)) = occurrence-counts 0 s t y in reads ((z, omega (arith, l), w), r, g)))
       (λ x. either (letter (byteAt s i))
       (λ y. either (ltb long (nameEnd s i - i)) (λ z. stops tt)
@@ -221,7 +221,7 @@ module _ (long : ℕ) (s : List ℕ) where
       (λ v. either (ltb from i && isCut s i (nameEnd s i) EMPTY) (λ w. stops tt) (λ w. stops tt)))))
       (λ y. unfit-holds s i (λ n k h. tt)))
 
-  pub typeFile-members : (es : List Element) → typeFile long s ≡ got es → (k : ℕ) {g : Group} {ps : List Place} {n : ℕ} → contentOf es k ≡ model g ps n → Sized g × (total g ≤ 96) × (Without s → Plain g)
+  pub typeFile-members : (es : List Element) → typeFile long s ≡ got es → (k : ℕ) {g : Group} {ps : List Place} {n : ℕ} → contentOf es k ≡ model g ps n → Sized g × (total g ≤ GRPGTCNT) × (Without s → Plain g)
   typeFile-members es read k {g} {ps} {n} e =
       let x : Sized g × (total g ≤ n) × (Without s → Plain g) = subst CountedIn e (all k) in
       let f : Fits s ps n = subst (ContentIn s) e (typeFile-content long s es read k) in

@@ -6,7 +6,7 @@ use mathlib.Core.List.{List, [], _∷_}
 use native.Mathlib.Omega.{arith}
 use lib.ListN.{length}
 use borrow.Author.Tests.{eqb-true}
-use Rattle.rules.specs.Bytes.{byteAt, letter}
+use Rattle.rules.specs.Bytes.{byteAt, letter, GRPGTCNT}
 use Rattle.rules.specs.Reading.{got}
 use Rattle.rules.specs.Walk.{Group, place}
 use Rattle.rules.specs.TypeFile.{Place, model, Element, typeFile}
@@ -51,7 +51,7 @@ module _ (long : ℕ) (s : List ℕ) (es : List Element) (read : typeFile long s
   typeFile-places-short zero = more (typeFile-made long s es read 0 (typeFile-count long s es read .0) .short) none
   typeFile-places-short (suc k) = each-content (ShortIn long) tt es (λ j h. declared-short (typeFile-made long s es read j h)) k
 
-  pub typeFile-width : (k : ℕ) {g : Group} {ps : List Place} {n : ℕ} → contentOf es k ≡ model g ps n → (size g ≡ length ps) × (size g ≤ 96) × Numbered g 1
+  pub typeFile-width : (k : ℕ) {g : Group} {ps : List Place} {n : ℕ} → contentOf es k ≡ model g ps n → (size g ≡ length ps) × (size g ≤ GRPGTCNT) × Numbered g 1
   typeFile-width k {g} {ps} {n} e =
       let w : Whole g ps = subst WholeIn e (typeFile-whole k) in
       let f : Fits s ps n = subst (ContentIn s) e (typeFile-content k) in

@@ -12,6 +12,7 @@ use Rattle.rules.specs.Judge.{Answer, refusal, Legible, Refuses}
 use Rattle.rules.specs.Reader.{documentRefusal, BothLegible, RefusesBoth}
 use Rattle.rules.specs.Batch.{RefusesPart, notOffered, typeTooLong, passesEnd}
 use Rattle.rules_laws.specs.Within.{typeFile-count}
+use Rattle.layout.specs.Sizes.{RECORDS}
 use Rattle.text.specs.declared.Fault.{Fault}
 use Rattle.inputs.specs.Checks.{RefusesAlways}
 use Rattle.element_records.specs.declared.Clash.{Clash}
@@ -32,8 +33,8 @@ not-first (inr (inr (inl e))) = omega arith
 not-first (inr (inr (inr e))) = omega arith
 
 -- The verdict on a legible type is its stage.
-module _ {c : Settings} {s : List ℕ} (elements heads : List ℕ) (t : Legible c s) (v : Verdict) (decided : Legible c s → Decides c s 384 elements heads v) where
-  verdict-is : Decides c s 384 elements heads v
+module _ {c : Settings} {s : List ℕ} (elements heads : List ℕ) (t : Legible c s) (v : Verdict) (decided : Legible c s → Decides c s RECORDS elements heads v) where
+  verdict-is : Decides c s RECORDS elements heads v
   verdict-is = decided t
 
   pub staged-accepted : (n : ℕ) → v ≡ verdict.Accepted n → Staged c s elements heads (stage.Accepted n)
@@ -90,7 +91,7 @@ module _ (c : Settings) (s elements heads : List ℕ) where
     unclean-alone (stage.Accepted n) e h l = absurd (true≢false (sym e))
 
     module _ (b : BothLegible c s d) where
-      type-refused : (a : Answer) → Refuses c s 384 a → RefusesAlways c s d a
+      type-refused : (a : Answer) → Refuses c s RECORDS a → RefusesAlways c s d a
       type-refused a (Refuses.notOffered o e) room = absurd (true≢false (sym (b .type .offered) ∙ o))
       type-refused a (Refuses.tooLong o l e) room = absurd (omega (arith, b .type .short))
       type-refused a (Refuses.notAllowed o l m e) room = absurd (omega (arith, b .type .clean))

@@ -10,6 +10,7 @@ use Rattle.rules.specs.TypeFile.{Element}
 use Rattle.rules.specs.Judge.{refusal, Legible, Refuses, Accepts}
 use Rattle.rules.specs.Reader.{documentRefusal, BothLegible}
 use Rattle.rules.specs.Batch.{RefusesPart}
+use Rattle.layout.specs.Sizes.{RECORDS}
 use Rattle.inputs.specs.Checks.{RefusesAlways}
 use Rattle.element_names.specs.Names.{Recorded}
 use Rattle.attribute_lists.specs.Listed.{HeadedAs}
@@ -27,8 +28,8 @@ JudgedHeads c s elements heads n = (es : List Element) × Accepts c s es × (len
 abbrev pub Staged : Settings → (s elements heads : List ℕ) → Stage → Type 0
 Staged c s elements heads (stage.Unread f) = RefusesPart c s (refusal (f .number) (f .at) 0 0)
 Staged c s elements heads (stage.Unclean f) = (isOffered c ≡ true) × (length s ≤ typeLimit) × (span allowed s < length s) × (f .number ≡ 2) × (f .at ≡ span allowed s)
-Staged c s elements heads (stage.Malformed f) = Legible c s × Refuses c s 384 (refusal (f .number) (f .at) 0 0)
-Staged c s elements heads (stage.Ambiguous x) = Legible c s × Refuses c s 384 (refusal 9 (x .at) (x .first) (x .second))
+Staged c s elements heads (stage.Malformed f) = Legible c s × Refuses c s RECORDS (refusal (f .number) (f .at) 0 0)
+Staged c s elements heads (stage.Ambiguous x) = Legible c s × Refuses c s RECORDS (refusal 9 (x .at) (x .first) (x .second))
 Staged c s elements heads (stage.Accepted n) = JudgedHeads c s elements heads n
 
 -- A document in its order with a type at that stage: it is to be read under the elements that are accepted, or one of the two is refused, whatever room is lent.

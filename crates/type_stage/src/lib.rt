@@ -4,8 +4,10 @@
 // refused for. So the type's refusal is kept with the stage at which it came, and each document is put in order with it.
 use element_records::Clash;
 use inputs::Settings;
+use layout::DOCUMENT_LIMIT;
 use layout::ELEMENTS;
 use layout::RECORDS;
+use layout::TYPE_LIMIT;
 use text::Fault;
 use type_judge::Verdict;
 ghost use mathlib.Core.Path.{_≡_};
@@ -13,6 +15,7 @@ ghost use mathlib.Core.List.{List};
 ghost use Prim.Native.Nat.{ℕ};
 ghost use lib.ListN.{replicate};
 ghost use Rattle.rules.specs.Settings as rules;
+ghost use Rattle.rules.specs.Bytes.{elementLimit};
 ghost use Rattle.inputs.specs.Checks.{settingsOf};
 ghost use Rattle.type_stage.specs.Stages.{Staged, PartRefused, OrderedAs, aloneOf, isUnclean};
 
@@ -38,13 +41,13 @@ pub fn judged(
     elements: &mut [u32; RECORDS],
     heads: &mut [u16; ELEMENTS],
 ) -> Stage
-    requires { ⌜ now heads ≡ replicate 64 0 ⌝ }
+    requires { ⌜ now heads ≡ replicate elementLimit 0 ⌝ }
     ensures { λ r. ⌜ Staged (settingsOf c) (now (s .entry)) (now (elements .exit)) (now (heads .exit)) r ⌝ }
 {
     if !inputs::is_offered(c) {
         return Stage::Unread(Fault { number: 24, at: 0 });
     }
-    if 32768 < s.len() {
+    if TYPE_LIMIT < s.len() {
         return Stage::Unread(Fault { number: 1, at: 0 });
     }
     let a = text::allowed_end(s);
@@ -107,7 +110,7 @@ fn is_unclean(g: Stage) -> bool
 pub fn in_order(g: Stage, d: &[u8]) -> Ordered
     ensures { λ r. ⌜ ((c : rules.Settings) (s elements heads : List ℕ) → Staged c s elements heads g → OrderedAs c s (now (d .entry)) g r) ⌝ }
 {
-    if 65535 < d.len() {
+    if DOCUMENT_LIMIT < d.len() {
         return too_long(g);
     }
     if is_unclean(g) {

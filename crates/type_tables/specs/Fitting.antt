@@ -14,7 +14,8 @@ use Rattle.rules.specs.TypeFile.{Place, Content, empty, model, Element}
 use Rattle.rules.specs.Elements.{contentOf, placesIn}
 use Rattle.rules.specs.Decisions.{Token, hasName}
 use Rattle.rules.specs.Settling.{Open}
-use Rattle.layout.specs.Sizes.{FACT}
+use Rattle.rules.specs.Bytes.{GRPGTCNT}
+use Rattle.layout.specs.Sizes.{FACT, RAISE}
 use Rattle.model_sets.specs.Sets.{has, nextIn}
 use Rattle.and_laws.specs.Base.{mem}
 use Rattle.and_laws.specs.Sets.{Plain}
@@ -48,7 +49,7 @@ module _ {s : List ℕ} {es : List Element} {rows places facts M : List ℕ} (ta
   abbrev top : ℕ
   top = search named (width es e)
 
-  top-few : (top ≤ width es e) × (top ≤ 96)
+  top-few : (top ≤ width es e) × (top ≤ GRPGTCNT)
   top-few = omega (arith, search-most named (width es e), width-most s es (tables .accepted) e)
 
   fits-search : decided s es .fits e taken t ≡ search (λ p. named p && next p) top
@@ -72,7 +73,7 @@ module _ {s : List ℕ} {es : List Element} {rows places facts M : List ℕ} (ta
 
   -- The number that is kept
 
-  read-low : (p : ℕ) → p ≡ getD facts (e * FACT + nameNumber t) 0 → p ≤ 96 → (p ≡ top) × ((tables .raised e ≡ false) ⊎ (top ≡ 0))
+  read-low : (p : ℕ) → p ≡ getD facts (e * FACT + nameNumber t) 0 → p ≤ GRPGTCNT → (p ≡ top) × ((tables .raised e ≡ false) ⊎ (top ≡ 0))
   read-low p z l = go top refl (tables .raised e) refl (z ∙ tables .facts-say .largest e t declared known)
     where
       go : (n : ℕ) → top ≡ n → (b : Bool) → tables .raised e ≡ b → p ≡ raisedPlace b n → (p ≡ top) × ((tables .raised e ≡ false) ⊎ (top ≡ 0))
@@ -80,10 +81,10 @@ module _ {s : List ℕ} {es : List Element} {rows places facts M : List ℕ} (ta
       go (suc n) x true y w = absurd (omega arith)
       go (suc n) x false y w = (omega arith, inl y)
 
-  read-high : (p : ℕ) → p ≡ getD facts (e * FACT + nameNumber t) 0 → 96 < p → (p ≡ 128 + top) × (tables .raised e ≡ true)
+  read-high : (p : ℕ) → p ≡ getD facts (e * FACT + nameNumber t) 0 → GRPGTCNT < p → (p ≡ RAISE + top) × (tables .raised e ≡ true)
   read-high p z l = go top refl (tables .raised e) refl (z ∙ tables .facts-say .largest e t declared known)
     where
-      go : (n : ℕ) → top ≡ n → (b : Bool) → tables .raised e ≡ b → p ≡ raisedPlace b n → (p ≡ 128 + top) × (tables .raised e ≡ true)
+      go : (n : ℕ) → top ≡ n → (b : Bool) → tables .raised e ≡ b → p ≡ raisedPlace b n → (p ≡ RAISE + top) × (tables .raised e ≡ true)
       go zero x b y w = absurd (omega arith)
       go (suc n) x true y w = (omega arith, y)
       go (suc n) x false y w = absurd (omega (arith, top-few))
@@ -150,7 +151,7 @@ module _ {s : List ℕ} {es : List Element} {rows places facts M begun : List �
   read-name : p ≡ getD facts (e * FACT + nameNumber t) 0
   read-name = read ∙ ap (λ (y : ℕ). getD facts (e * FACT + y) 0) (sym name)
 
-  pub fits-low : p ≤ 96 → Largest (RowSays rows e u) places e p r → r ≡ decided s es .fits e (o .taken) t
+  pub fits-low : p ≤ GRPGTCNT → Largest (RowSays rows e u) places e p r → r ≡ decided s es .fits e (o .taken) t
   fits-low l found =
       let (z, way) = read-low tables e (entered .declared) (o .taken) t known p read-name l in
       fits-by tables e (entered .declared) (o .taken) t known (RowSays rows e u) (says way) p r z found
@@ -159,7 +160,7 @@ module _ {s : List ℕ} {es : List Element} {rows places facts M begun : List �
       says (inl y) q b k h = row-next tables e (entered .declared) (o .taken) t known u (entered .place) begun-with (inl (tables .plain e (entered .declared) y)) q b k (omega (arith, top-few tables e (entered .declared) (o .taken) t known))
       says (inr y) q b k h = absurd (omega arith)
 
-  pub fits-high : 96 < p → LargestRaised (BothSay rows M begun level e u) places e p r → r ≡ decided s es .fits e (o .taken) t
+  pub fits-high : GRPGTCNT < p → LargestRaised (BothSay rows M begun level e u) places e p r → r ≡ decided s es .fits e (o .taken) t
   fits-high l found =
       let (z, y) = read-high tables e (entered .declared) (o .taken) t known p read-name l in
       fits-by tables e (entered .declared) (o .taken) t known (BothSay rows M begun level e u)
@@ -171,12 +172,12 @@ pub fits-start : {s : List ℕ} {es : List Element} {rows places facts M : List 
 fits-start {s} {es} {rows} {places} {facts} {M} tables e declared t known x p q r name read lowered found =
     fits-by tables e declared [] t known (RowSays rows e 0)
     (λ q b k h. row-next tables e declared [] t known 0 (omega arith) (λ g ps n c. (begins-none g, refl)) (inr refl) q b k (omega (arith, top-few tables e declared [] t known)))
-    q r (go (decLt 96 p)) found
+    q r (go (decLt GRPGTCNT p)) found
   where
     at : p ≡ getD facts (e * FACT + nameNumber t) 0
     at = read ∙ ap (λ (y : ℕ). getD facts (e * FACT + y) 0) (sym name)
 
-    go : Dec (96 < p) → q ≡ top tables e declared [] t known
+    go : Dec (GRPGTCNT < p) → q ≡ top tables e declared [] t known
     go (yes l) = let (z, y) = read-high tables e declared [] t known p at l in lowered .high _ z (omega (arith, top-few tables e declared [] t known))
     go (no l) = let (z, y) = read-low tables e declared [] t known p at (omega arith) in lowered .low (omega arith) ∙ z
 

@@ -12,7 +12,8 @@ use Rattle.rules.specs.Judge.{placeAt}
 use Rattle.rules.specs.Elements.{contentOf, placesIn, hasModel, startO}
 use Rattle.rules.specs.Decisions.{start}
 use Rattle.rules.specs.Settling.{Open, elementOf, requiredPlace, inferable}
-use Rattle.layout.specs.Sizes.{POSITIONS}
+use Rattle.rules.specs.Bytes.{GRPGTCNT, elementLimit}
+use Rattle.layout.specs.Sizes.{POSITIONS, PCDATA}
 use Rattle.model_sets.specs.Bits.{bool-cases}
 use Rattle.document_laws.specs.Decide.{decided}
 use Rattle.type_laws.specs.Names.{numberOf-range, numberOf-pcdata}
@@ -62,7 +63,7 @@ module _ (rows places facts M : List ℕ) (e p : ℕ) (s : List ℕ) (es : List 
   inferred = rw (requires .required)
 
   -- No type requires so large a place.
-  pub large-required : 96 < p → 0 ≡ inferable s es (decided s es) (opened e taken)
+  pub large-required : GRPGTCNT < p → 0 ≡ inferable s es (decided s es) (opened e taken)
   large-required l = absurd (omega (arith, required-within, width-most s es (tables .accepted) e))
 
   pub none-required : p ≡ 0 → 0 ≡ inferable s es (decided s es) (opened e taken)
@@ -83,7 +84,7 @@ module _ (rows places facts M : List ℕ) (e p : ℕ) (s : List ℕ) (es : List 
     named-range = numberOf-range s es s (stands .at) (stands .size)
 
     -- A number above 64 is no element's: the place is `#PCDATA`.
-    pub data-required : 64 < k → 0 ≡ inferable s es (decided s es) (opened e taken)
+    pub data-required : elementLimit < k → 0 ≡ inferable s es (decided s es) (opened e taken)
     data-required z = none-named (bool-cases (eqb (stands .size) 0) nameless other)
       where
         nameless : eqb (stands .size) 0 ≡ true → named ≡ 0
@@ -92,8 +93,8 @@ module _ (rows places facts M : List ℕ) (e p : ℕ) (s : List ℕ) (es : List 
         other : eqb (stands .size) 0 ≡ false → named ≡ 0
         other x = let y : k ≡ named = rw x at said in absurd (omega (arith, named-range, tables .few))
 
-    element-named : k ≤ 64 → named ≡ k
-    element-named l = bool-cases (eqb (stands .size) 0) (λ x. absurd (let y : k ≡ 255 = rw x at said in omega arith)) (λ x. sym (rw x at said))
+    element-named : k ≤ elementLimit → named ≡ k
+    element-named l = bool-cases (eqb (stands .size) 0) (λ x. absurd (let y : k ≡ PCDATA = rw x at said in omega arith)) (λ x. sym (rw x at said))
 
     pub none-declared : k ≡ 0 → 0 ≡ inferable s es (decided s es) (opened e taken)
     none-declared z = none-named (element-named (omega arith) ∙ z)
@@ -103,7 +104,7 @@ pub record Names (places : List ℕ) (e p k : ℕ) : Type 0 where
   pub some : p ≡ 0 → ⊥
   pub read : k ≡ getD places ((e * POSITIONS + p) * 2) 0
   pub declared : k ≡ 0 → ⊥
-  pub element : k ≤ 64
+  pub element : k ≤ elementLimit
 
 module _ (rows places facts M : List ℕ) (e p k : ℕ) (names : Names places e p k) (s : List ℕ) (es : List Element) (taken : List ℕ) (tables : Tables s es rows places facts M) (requires : Requires s es e p taken) where
   is-named : elementOf s es (opened e taken) p ≡ k

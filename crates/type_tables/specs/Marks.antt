@@ -12,6 +12,8 @@ use Rattle.rules.specs.Walk.{Group, Members, Begins}
 use Rattle.rules.specs.TypeFile.{Place, Content, model, Element}
 use Rattle.rules.specs.Elements.{contentOf}
 use Rattle.rules.specs.Settling.{Open}
+use Rattle.rules.specs.Bytes.{GRPGTCNT}
+use Rattle.layout.specs.Sizes.{RAISE, REQUIRED}
 use Rattle.model_sets.specs.Sets.{size, has, completeIn, requiredIn}
 use Rattle.and_laws.specs.Base.{mem}
 use Rattle.and_laws.specs.Sets.{Plain, Good, meets}
@@ -27,7 +29,7 @@ use Rattle.member_laws.specs.Inside.{EachLevel, plain-levels}
 use Rattle.member_laws.specs.Around.{numbered-small, chain-kept}
 use Rattle.document_laws.specs.Decide.{isCompleteIn, requiredFor, decided}
 use Rattle.document_laws.specs.Moves.{fresh}
-use Rattle.and_groups.specs.Takes.{Elsewhere, Blocked, free, held, Takes}
+use Rattle.and_groups.specs.Takes.{Elsewhere, Blocked, free, held, Takes, FREE}
 use Rattle.type_tables.specs.Tables.{width, rowAt, raisedAt, completeRow, requiredRow, completeAt, requiredAt, PlainIn, ToldIn, Tables, Entered, CanTake}
 use Rattle.type_tables.specs.Ranges.{Modelled, modelled, width-most, required-most, start-complete, start-required}
 
@@ -37,10 +39,10 @@ taking p o = record { number = o .number; taken = o .taken ++ p ∷ [] }
 
 -- The marks as they are kept where `take` of and_groups answers r: 255 where no group blocks.
 abbrev pub completeBy : (r : ℕ) → Bool → Bool
-completeBy r b = cond (eqb r 255) b false
+completeBy r b = cond (eqb r FREE) b false
 
 abbrev pub requiredBy : (r kept : ℕ) → ℕ
-requiredBy r kept = cond (eqb r 255) (kept - 128) r
+requiredBy r kept = cond (eqb r FREE) (kept - RAISE) r
 
 -- An element whose model is g
 
@@ -111,10 +113,10 @@ module _ {s : List ℕ} {es : List Element} {rows places facts M before : List �
   complete-read : completeAt rows e p ≡ completeIn g p
   complete-read = tables .rows-say .complete e p (entered .declared) within ∙ ap (λ (x : Content). completeRow x p) is-model
 
-  required-read : (kept : ℕ) → kept ≡ getD rows (rowAt e p + 13) 0 → kept ≡ cond (tables .raised e) (128 + requiredIn g p) (requiredIn g p)
-  required-read kept z = z ∙ tables .rows-say .required e p (entered .declared) within ∙ go p (range .0) ∙ ap (λ (x : Content). cond (tables .raised e) (128 + requiredRow x p) (requiredRow x p)) is-model
+  required-read : (kept : ℕ) → kept ≡ getD rows (rowAt e p + REQUIRED) 0 → kept ≡ cond (tables .raised e) (RAISE + requiredIn g p) (requiredIn g p)
+  required-read kept z = z ∙ tables .rows-say .required e p (entered .declared) within ∙ go p (range .0) ∙ ap (λ (x : Content). cond (tables .raised e) (RAISE + requiredRow x p) (requiredRow x p)) is-model
     where
-      go : (p : ℕ) → 1 ≤ p → raisedAt (tables .raised e) p (requiredRow (contentOf es e) p) ≡ cond (tables .raised e) (128 + requiredRow (contentOf es e) p) (requiredRow (contentOf es e) p)
+      go : (p : ℕ) → 1 ≤ p → raisedAt (tables .raised e) p (requiredRow (contentOf es e) p) ≡ cond (tables .raised e) (RAISE + requiredRow (contentOf es e) p) (requiredRow (contentOf es e) p)
       go zero l = absurd (omega arith)
       go (suc p) l = refl
 
@@ -138,29 +140,29 @@ module _ {s : List ℕ} {es : List Element} {rows places facts M before : List �
   after-is after stands = entered-by es M after level e p (taking p o) is-model (entered .number) (entered .declared) within (can .next) stands
 
   -- What is required is a place of the model.
-  required-place : requiredFrom g p (mem after-p) ≤ 96
+  required-place : requiredFrom g p (mem after-p) ≤ GRPGTCNT
   required-place = omega (arith, required-is, required-most s es (tables .accepted) e after-p (λ h qs k c. subst (λ (x : Group). Begins x after-p) (same h qs k c) (can .next)), width-most s es (tables .accepted) e)
     where
       same : (h : Group) (qs : List Place) (k : ℕ) → contentOf es e ≡ model h qs k → can .group ≡ h
       same h qs k c = let m = is-model in cc
 
   -- The number tells whether the model has an "&".
-  module _ {kept : ℕ} (read : kept ≡ getD rows (rowAt e p + 13) 0) where
-    plain-kept : kept ≤ 96 → (tables .raised e ≡ false) × (kept ≡ requiredIn g p)
+  module _ {kept : ℕ} (read : kept ≡ getD rows (rowAt e p + REQUIRED) 0) where
+    plain-kept : kept ≤ GRPGTCNT → (tables .raised e ≡ false) × (kept ≡ requiredIn g p)
     plain-kept l = go (tables .raised e) refl (required-read kept read)
       where
-        go : (b : Bool) → tables .raised e ≡ b → kept ≡ cond b (128 + requiredIn g p) (requiredIn g p) → (tables .raised e ≡ false) × (kept ≡ requiredIn g p)
+        go : (b : Bool) → tables .raised e ≡ b → kept ≡ cond b (RAISE + requiredIn g p) (requiredIn g p) → (tables .raised e ≡ false) × (kept ≡ requiredIn g p)
         go true x z = absurd (omega arith)
         go false x z = (x, z)
 
-    among-kept : 96 < kept → (tables .raised e ≡ true) × (kept - 128 ≡ requiredIn g p)
+    among-kept : GRPGTCNT < kept → (tables .raised e ≡ true) × (kept - RAISE ≡ requiredIn g p)
     among-kept l = go (tables .raised e) refl (required-read kept read)
       where
-        go : (b : Bool) → tables .raised e ≡ b → kept ≡ cond b (128 + requiredIn g p) (requiredIn g p) → (tables .raised e ≡ true) × (kept - 128 ≡ requiredIn g p)
+        go : (b : Bool) → tables .raised e ≡ b → kept ≡ cond b (RAISE + requiredIn g p) (requiredIn g p) → (tables .raised e ≡ true) × (kept - RAISE ≡ requiredIn g p)
         go true x z = (x, omega arith)
         go false x z = absurd (omega (arith, plain-required x, required-place))
 
-    pub took-plain : kept ≤ 96 → Entered es M before level e p (taking p o) × (completeAt rows e p ≡ decided s es .complete e (o .taken ++ p ∷ [])) × (kept ≡ decided s es .required e (o .taken ++ p ∷ []))
+    pub took-plain : kept ≤ GRPGTCNT → Entered es M before level e p (taking p o) × (completeAt rows e p ≡ decided s es .complete e (o .taken ++ p ∷ [])) × (kept ≡ decided s es .required e (o .taken ++ p ∷ []))
     took-plain small =
         let (x, z) = plain-kept small in (
           after-is before (plain-stands M before level e g (plain-of x) p (o .taken) (range .0)),
@@ -168,7 +170,7 @@ module _ {s : List ℕ} {es : List Element} {rows places facts M before : List �
           z ∙ plain-required x ∙ sym required-is,
         )
 
-    pub took-among : {after : List ℕ} {r : ℕ} → 96 < kept → Takes M level e u p before after r → Entered es M after level e p (taking p o) × (completeBy r (completeAt rows e p) ≡ decided s es .complete e (o .taken ++ p ∷ [])) × (requiredBy r kept ≡ decided s es .required e (o .taken ++ p ∷ []))
+    pub took-among : {after : List ℕ} {r : ℕ} → GRPGTCNT < kept → Takes M level e u p before after r → Entered es M after level e p (taking p o) × (completeBy r (completeAt rows e p) ≡ decided s es .complete e (o .taken ++ p ∷ [])) × (requiredBy r kept ≡ decided s es .required e (o .taken ++ p ∷ []))
     took-among {after} {r} large takes =
         let (x, z) = among-kept large in
         let told = told-of x in
@@ -188,24 +190,24 @@ module _ {s : List ℕ} {es : List Element} {rows places facts M before : List �
         required-by : (b : Bool) → blocksIn (around g p) p S ≡ b → requiredFrom g p S ≡ cond b (loneIn (around g p) S) (requiredIn g p)
         required-by b y = required-around g good S p taken-p ∙ ap (λ (ms : List Members). cond (blocksIn ms p S) (loneIn ms S) (requiredIn g p)) around-p ∙ ap (λ (t : Bool). cond t (loneIn (around g p) S) (requiredIn g p)) y
 
-        go : kept - 128 ≡ requiredIn g p → Blocked g p S r → (completeBy r (completeAt rows e p) ≡ completeFrom g p S) × (requiredBy r kept ≡ requiredFrom g p S)
+        go : kept - RAISE ≡ requiredIn g p → Blocked g p S r → (completeBy r (completeAt rows e p) ≡ completeFrom g p S) × (requiredBy r kept ≡ requiredFrom g p S)
         go z (free y f) =
-            let t : eqb r 255 ≡ true = eq-eqb r 255 y in (
+            let t : eqb r FREE ≡ true = eq-eqb r FREE y in (
               ap (λ (b : Bool). cond b (completeAt rows e p) false) t ∙ complete-read ∙ sym (complete-by false f ∙ and-yes (completeIn g p)),
-              ap (λ (b : Bool). cond b (kept - 128) r) t ∙ z ∙ sym (required-by false f),
+              ap (λ (b : Bool). cond b (kept - RAISE) r) t ∙ z ∙ sym (required-by false f),
             )
         go z (held y few f) =
-            let t : eqb r 255 ≡ false = ne-eqb r 255 (λ x. omega arith) in (
+            let t : eqb r FREE ≡ false = ne-eqb r FREE (λ x. omega arith) in (
               ap (λ (b : Bool). cond b (completeAt rows e p) false) t ∙ sym (complete-by true f ∙ and-no (completeIn g p)),
-              ap (λ (b : Bool). cond b (kept - 128) r) t ∙ y ∙ sym (required-by true f),
+              ap (λ (b : Bool). cond b (kept - RAISE) r) t ∙ y ∙ sym (required-by true f),
             )
 
 -- Other levels, and the start
 
-same-bits : (before after : List ℕ) (k level : ℕ) → Elsewhere level before after → (k ≡ level → ⊥) → (n : ℕ) → 1 ≤ n → n ≤ 96 → begunAt after k n ≡ begunAt before k n
+same-bits : (before after : List ℕ) (k level : ℕ) → Elsewhere level before after → (k ≡ level → ⊥) → (n : ℕ) → 1 ≤ n → n ≤ GRPGTCNT → begunAt after k n ≡ begunAt before k n
 same-bits before after k level elsewhere other n a b = ap (λ (w : ℕ). eqb (w / 2 ^ ((n - 1) % 32) % 2) 1) (elsewhere k ((n - 1) / 32) other (omega arith))
 
-module _ (M before after : List ℕ) (k e : ℕ) (same : (n : ℕ) → 1 ≤ n → n ≤ 96 → begunAt after k n ≡ begunAt before k n) (S : ℕ → Bool) where
+module _ (M before after : List ℕ) (k e : ℕ) (same : (n : ℕ) → 1 ≤ n → n ≤ GRPGTCNT → begunAt after k n ≡ begunAt before k n) (S : ℕ → Bool) where
   same-marked : (l : Level) → Grouped M e l → Marked before k M e S l → Marked after k M e S l
   same-marked l kept marked =
       at-each _ _ (λ (n : ℕ) (g : Group). begunAt after k n ≡ meets g S) (l .members)
@@ -251,8 +253,8 @@ module _ {s : List ℕ} {es : List Element} {rows places facts M : List ℕ} {e 
   fresh-required tables declared = start-required s es (tables .accepted) (tables .raised) rows (tables .rows-say) e declared
 
   -- What is required is a place or 0, and what can be taken is a place.
-  pub entered-required : {begun : List ℕ} {level u : ℕ} {o : Open} → Tables s es rows places facts M → Entered es M begun level e u o → decided s es .required e (o .taken) ≤ 96
+  pub entered-required : {begun : List ℕ} {level u : ℕ} {o : Open} → Tables s es rows places facts M → Entered es M begun level e u o → decided s es .required e (o .taken) ≤ GRPGTCNT
   entered-required {begun} {level} {u} {o} tables entered = omega (arith, required-most s es (tables .accepted) e (o .taken) (λ g ps n c. entered .begins c), width-most s es (tables .accepted) e)
 
-  pub can-range : {begun : List ℕ} {level u p : ℕ} {o : Open} → Tables s es rows places facts M → Entered es M begun level e u o → CanTake es o p → (1 ≤ p) × (p ≤ 96)
+  pub can-range : {begun : List ℕ} {level u p : ℕ} {o : Open} → Tables s es rows places facts M → Entered es M begun level e u o → CanTake es o p → (1 ≤ p) × (p ≤ GRPGTCNT)
   can-range tables entered can = let x = range tables entered can in omega (arith, of-model tables entered can .few)

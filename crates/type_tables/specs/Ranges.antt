@@ -16,6 +16,8 @@ use Rattle.model_sets.specs.Sets.{size, Numbered}
 use Rattle.and_laws.specs.Numbers.{Guarded}
 use Rattle.and_laws.specs.Begun.{requiredOf, required-of, next-range, begins-none}
 use Rattle.rules_laws.specs.Groups.{GuardedIn}
+use Rattle.rules.specs.Bytes.{GRPGTCNT}
+use Rattle.layout.specs.Sizes.{REQUIRED}
 use Rattle.document_laws.specs.Decide.{requiredFor, isCompleteIn, content-guarded}
 use Rattle.document_laws.specs.Numbers.{typeFile-guarded}
 use Rattle.type_laws.specs.Width.{typeFile-width}
@@ -32,7 +34,7 @@ one-if false = refl
 pub record Modelled (es : List Element) (k : ℕ) (g : Group) : Type 0 where
   pub numbered : Numbered g 1
   pub guarded : Guarded g
-  pub few : size g ≤ 96
+  pub few : size g ≤ GRPGTCNT
   pub wide : size g ≡ width es k
 
 module _ {c : Settings} (s : List ℕ) (es : List Element) (accepted : Accepts c s es) (k : ℕ) where
@@ -46,10 +48,10 @@ module _ {c : Settings} (s : List ℕ) (es : List Element) (accepted : Accepts c
         wide = counted ∙ ap (λ (x : Content). length (placesIn x)) (sym e);
       }
 
-  pub width-most : width es k ≤ 96
+  pub width-most : width es k ≤ GRPGTCNT
   width-most = go (contentOf es k) refl
     where
-      go : (x : Content) → contentOf es k ≡ x → length (placesIn x) ≤ 96
+      go : (x : Content) → contentOf es k ≡ x → length (placesIn x) ≤ GRPGTCNT
       go empty e = omega arith
       go (model g ps n) e = omega (arith, typeFile-width (c .nameLength) s es (accepted .elements) k e)
 
@@ -70,22 +72,22 @@ module _ {c : Settings} (s : List ℕ) (es : List Element) (accepted : Accepts c
 
 -- The number that is kept as a place
 
-pub kept-place : (n : ℕ) → n ≤ 96 → placeOr0 n ≡ n
-kept-place n l = rw (le-leb n 96 l, placeOr0)
+pub kept-place : (n : ℕ) → n ≤ GRPGTCNT → placeOr0 n ≡ n
+kept-place n l = rw (le-leb n GRPGTCNT l, placeOr0)
 
-pub no-place : (n : ℕ) → 96 < n → placeOr0 n ≡ 0
-no-place n l = rw (lt-leb n 96 l, placeOr0)
+pub no-place : (n : ℕ) → GRPGTCNT < n → placeOr0 n ≡ 0
+no-place n l = rw (lt-leb n GRPGTCNT l, placeOr0)
 
-place-most : (n : ℕ) → placeOr0 n ≤ 96
-place-most n = by-test (leb n 96) refl
+place-most : (n : ℕ) → placeOr0 n ≤ GRPGTCNT
+place-most n = by-test (leb n GRPGTCNT) refl
   where
-    by-test : (b : Bool) → leb n 96 ≡ b → elim b [ true ↦ n | false ↦ 0 ] ≤ 96
-    by-test true e = leb-true n 96 e
+    by-test : (b : Bool) → leb n GRPGTCNT ≡ b → elim b [ true ↦ n | false ↦ 0 ] ≤ GRPGTCNT
+    by-test true e = leb-true n GRPGTCNT e
     by-test false e = omega arith
 
 -- Whatever the rows hold, what is required is a place or 0.
-pub required-small : (rows : List ℕ) (e u : ℕ) → requiredAt rows e u ≤ 96
-required-small rows e u = place-most (getD rows (rowAt e u + 13) 0)
+pub required-small : (rows : List ℕ) (e u : ℕ) → requiredAt rows e u ≤ GRPGTCNT
+required-small rows e u = place-most (getD rows (rowAt e u + REQUIRED) 0)
 
 -- At the start the rows decide.
 module _ {c : Settings} (s : List ℕ) (es : List Element) (accepted : Accepts c s es) (raised : ℕ → Bool) (rows : List ℕ) (said : Rows es raised rows) (e : ℕ) (declared : e ≤ length es) where
@@ -101,7 +103,7 @@ module _ {c : Settings} (s : List ℕ) (es : List Element) (accepted : Accepts c
   unfolding requiredFor
   start-required =
       let read = said .required e 0 declared (omega arith) ∙ go (contentOf es e) in
-      kept-place (getD rows (rowAt e 0 + 13) 0) (omega (arith, read, required-most s es accepted e [] (λ g ps n z. begins-none g), width-most s es accepted e)) ∙ read
+      kept-place (getD rows (rowAt e 0 + REQUIRED) 0) (omega (arith, read, required-most s es accepted e [] (λ g ps n z. begins-none g), width-most s es accepted e)) ∙ read
     where
       go : (x : Content) → requiredRow x 0 ≡ requiredFor x []
       go empty = refl

@@ -12,7 +12,8 @@ use Rattle.rules.specs.Judge.{Accepts, placeAt}
 use Rattle.rules.specs.Elements.{elementAt, numberOf, startO, contentOf, placesIn, hasModel}
 use Rattle.rules.specs.Decisions.{Token, start, pcdata, hasName}
 use Rattle.rules.specs.Settling.{Open}
-use Rattle.layout.specs.Sizes.{POSITIONS, FACT}
+use Rattle.rules.specs.Bytes.{GRPGTCNT, elementLimit}
+use Rattle.layout.specs.Sizes.{POSITIONS, FACT, END-OMITTED, HAS-MODEL, PCDATA, RAISE, REQUIRED, START-OMITTED}
 use Rattle.model_sets.specs.Sets.{nextIn, completeIn, requiredIn}
 use Rattle.and_laws.specs.Sets.{Plain}
 use Rattle.member_laws.specs.Members.{Told, Standing}
@@ -37,14 +38,14 @@ Declares es pcdata = Unit {0}
 
 -- A number that is a place, or 0: in the tables of a type no other stands where a place is kept.
 abbrev pub placeOr0 : ℕ → ℕ
-placeOr0 n = elim (leb n 96) [ true ↦ n | false ↦ 0 ]
+placeOr0 n = elim (leb n GRPGTCNT) [ true ↦ n | false ↦ 0 ]
 
 -- What the row of the element e after the place u has for "complete", and for the required place.
 abbrev pub completeAt : List ℕ → (e u : ℕ) → Bool
 completeAt rows e u = eqb (getD rows (rowAt e u) 0 % 2) 1
 
 abbrev pub requiredAt : List ℕ → (e u : ℕ) → ℕ
-requiredAt rows e u = placeOr0 (getD rows (rowAt e u + 13) 0)
+requiredAt rows e u = placeOr0 (getD rows (rowAt e u + REQUIRED) 0)
 
 -- What the rows of a model have: the place p may come next after the place u, for some beginning that ends there; the content may be complete there; the
 -- place that is then required.
@@ -63,27 +64,27 @@ requiredRow (model g ps n) u = requiredIn g u
 -- A number of a model with an "&" is kept 128 higher: the required place after a place, and the largest place of a name.
 abbrev pub raisedAt : Bool → (u n : ℕ) → ℕ
 raisedAt b zero n = n
-raisedAt b (suc u) n = cond b (128 + n) n
+raisedAt b (suc u) n = cond b (RAISE + n) n
 
 abbrev pub raisedPlace : Bool → ℕ → ℕ
 raisedPlace b zero = 0
-raisedPlace b (suc p) = cond b (128 + suc p) (suc p)
+raisedPlace b (suc p) = cond b (RAISE + suc p) (suc p)
 
 -- q is the place that a number is which may be raised; 0 where it is none.
 pub record Lowered (p q : ℕ) : Type 0 where
-  pub small : q ≤ 96
-  pub low : p ≤ 96 → q ≡ p
-  pub high : (n : ℕ) → p ≡ 128 + n → n ≤ 96 → q ≡ n
+  pub small : q ≤ GRPGTCNT
+  pub low : p ≤ GRPGTCNT → q ≡ p
+  pub high : (n : ℕ) → p ≡ RAISE + n → n ≤ GRPGTCNT → q ≡ n
 
 -- `raised` says of which elements the numbers are raised.
 pub record Rows (es : List Element) (raised : ℕ → Bool) (rows : List ℕ) : Type 0 where
-  pub next : (e u p : ℕ) → e ≤ length es → u ≤ width es e → 1 ≤ p → p ≤ 96 → bitOf (getD rows (rowAt e u + p / 8) 0) (p % 8) ≡ nextRow (contentOf es e) u p
+  pub next : (e u p : ℕ) → e ≤ length es → u ≤ width es e → 1 ≤ p → p ≤ GRPGTCNT → bitOf (getD rows (rowAt e u + p / 8) 0) (p % 8) ≡ nextRow (contentOf es e) u p
   pub complete : (e u : ℕ) → e ≤ length es → u ≤ width es e → completeAt rows e u ≡ completeRow (contentOf es e) u
-  pub required : (e u : ℕ) → e ≤ length es → u ≤ width es e → getD rows (rowAt e u + 13) 0 ≡ raisedAt (raised e) u (requiredRow (contentOf es e) u)
+  pub required : (e u : ℕ) → e ≤ length es → u ≤ width es e → getD rows (rowAt e u + REQUIRED) 0 ≡ raisedAt (raised e) u (requiredRow (contentOf es e) u)
 
 -- What the place p of a model names: an element, 255 for `#PCDATA`, 0 if that is not declared.
 abbrev pub namedBy : List ℕ → List Element → List Place → ℕ → ℕ
-namedBy s es ps p = cond (eqb (placeAt ps (p - 1) .size) 0) 255 (numberOf s es s (placeAt ps (p - 1) .at) (placeAt ps (p - 1) .size))
+namedBy s es ps p = cond (eqb (placeAt ps (p - 1) .size) 0) PCDATA (numberOf s es s (placeAt ps (p - 1) .at) (placeAt ps (p - 1) .size))
 
 pub record Places (s : List ℕ) (es : List Element) (places : List ℕ) : Type 0 where
   pub named : (e p : ℕ) → e ≤ length es → 1 ≤ p → p ≤ width es e → getD places ((e * POSITIONS + p) * 2) 0 ≡ namedBy s es (placesIn (contentOf es e)) p
@@ -91,9 +92,9 @@ pub record Places (s : List ℕ) (es : List Element) (places : List ℕ) : Type 
 
 pub record Facts (s : List ℕ) (es : List Element) (raised : ℕ → Bool) (facts : List ℕ) : Type 0 where
   pub largest : (e : ℕ) (t : Token) → e ≤ length es → Declares es t → getD facts (e * FACT + nameNumber t) 0 ≡ raisedPlace (raised e) (search (hasName s es (placesIn (contentOf es e)) t) (width es e))
-  pub start : (e : ℕ) → 1 ≤ e → e ≤ length es → eqb (getD facts (e * FACT + 65) 0) 1 ≡ startO es e
-  pub end : (e : ℕ) → 1 ≤ e → e ≤ length es → getD facts (e * FACT + 66) 0 ≡ elementAt es (e - 1) .end
-  pub has : (e : ℕ) → 1 ≤ e → e ≤ length es → getD facts (e * FACT + 67) 0 ≡ cond (hasModel (contentOf es e)) 1 0
+  pub start : (e : ℕ) → 1 ≤ e → e ≤ length es → eqb (getD facts (e * FACT + START-OMITTED) 0) 1 ≡ startO es e
+  pub end : (e : ℕ) → 1 ≤ e → e ≤ length es → getD facts (e * FACT + END-OMITTED) 0 ≡ elementAt es (e - 1) .end
+  pub has : (e : ℕ) → 1 ≤ e → e ≤ length es → getD facts (e * FACT + HAS-MODEL) 0 ≡ cond (hasModel (contentOf es e)) 1 0
 
 -- A model without "&", and one whose members the table M tells.
 abbrev pub PlainIn : Content → Type 0
@@ -108,7 +109,7 @@ ToldIn M e (model g ps n) = Told M e g
 pub record Tables (s : List ℕ) (es : List Element) (rows places facts M : List ℕ) : Type 0 where
   pub settings : Settings
   pub accepted : Accepts settings s es
-  pub few : length es ≤ 64
+  pub few : length es ≤ elementLimit
   pub raised : ℕ → Bool
   pub rows-say : Rows es raised rows
   pub places-say : Places s es places

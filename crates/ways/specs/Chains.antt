@@ -11,6 +11,8 @@ use Rattle.rules.specs.TypeFile.{Element}
 use Rattle.rules.specs.Elements.{contentOf, hasModel, startO}
 use Rattle.rules.specs.Decisions.{Token, Decisions}
 use Rattle.rules.specs.Settling.{Open, elementOf, fitting, requiredPlace, inferable, chain}
+use Rattle.rules.specs.Bytes.{elementLimit}
+use Rattle.layout.specs.Sizes.{CONTENTS}
 use Rattle.layout.specs.declared.Place.{Place}
 use Rattle.layout.specs.Typed.{placeNo}
 use Rattle.document_laws.specs.Decide.{decided}
@@ -125,14 +127,14 @@ module _ (s : List ℕ) (es : List Element) (D : Decisions) where
 -- The loop: what is still to be looked for, from the element c on after n - 1 others, gives the chain.
 pub record Ahead (s : List ℕ) (es : List Element) (D : Decisions) (t : Token) (o : Open) (c n : ℕ) : Type 0 where
   pub within : c ≤ length es
-  pub still : chained s es D t o ≡ past (n - 1) (chainFrom s es D t (65 - n) c)
+  pub still : chained s es D t o ≡ past (n - 1) (chainFrom s es D t (CONTENTS - n) c)
 
-module _ (s : List ℕ) (es : List Element) (D : Decisions) (t : Token) (o : Open) (few : length es ≤ 64) where
+module _ (s : List ℕ) (es : List Element) (D : Decisions) (t : Token) (o : Open) (few : length es ≤ elementLimit) where
   ahead-start : (c : ℕ) → c ≡ inferable s es D o → Ahead s es D t o c 1
   ahead-start c e =
       record {
         within = rw e (inferable-most s es D o);
-        still = ap length (sym (chain-enough s es D t 64 few o) ∙ chain-from s es D t 64 o) ∙ past-all (chainFrom s es D t 64 (inferable s es D o)) ∙ ap (λ k. past 0 (chainFrom s es D t 64 k)) (sym e);
+        still = ap length (sym (chain-enough s es D t elementLimit few o) ∙ chain-from s es D t elementLimit o) ∙ past-all (chainFrom s es D t elementLimit (inferable s es D o)) ∙ ap (λ k. past 0 (chainFrom s es D t elementLimit k)) (sym e);
       }
     where
       past-all : (l : List ℕ) → length l ≡ past 0 l
@@ -140,25 +142,25 @@ module _ (s : List ℕ) (es : List Element) (D : Decisions) (t : Token) (o : Ope
       past-all (j ∷ js) = omega arith
 
 module _ (s : List ℕ) (es : List Element) (D : Decisions) (t : Token) (o : Open) (c n : ℕ) (some : 1 ≤ n) (h : Ahead s es D t o c n) where
-  ahead-over : 64 < n → 0 ≡ chained s es D t o
+  ahead-over : elementLimit < n → 0 ≡ chained s es D t o
   unfolding chainFrom
-  ahead-over l = let e : 65 - n ≡ 0 = omega arith in sym (h .still ∙ rw (e, chainFrom))
+  ahead-over l = let e : CONTENTS - n ≡ 0 = omega arith in sym (h .still ∙ rw (e, chainFrom))
 
   -- one turn, where there is one
-  turn : (l : ℕ) → l ≡ 65 - n → 1 ≤ l → chained s es D t o ≡ past (n - 1) (link c (fitting s es D (fresh c) t) (chainFrom s es D t (65 - (n + 1)) (inferable s es D (fresh c))))
+  turn : (l : ℕ) → l ≡ CONTENTS - n → 1 ≤ l → chained s es D t o ≡ past (n - 1) (link c (fitting s es D (fresh c) t) (chainFrom s es D t (CONTENTS - (n + 1)) (inferable s es D (fresh c))))
   unfolding chainFrom
   turn zero e i = absurd (omega arith)
   turn (suc l) e i =
-      let f : l ≡ 65 - (n + 1) = omega arith in
+      let f : l ≡ CONTENTS - (n + 1) = omega arith in
       h .still ∙ rw (← e, chainFrom, f)
 
-  ahead-none : n ≤ 64 → c ≡ 0 → 0 ≡ chained s es D t o
+  ahead-none : n ≤ elementLimit → c ≡ 0 → 0 ≡ chained s es D t o
   ahead-none l e = sym (turn _ refl (omega arith) ∙ rw e (past-none (n - 1) _ _))
 
-  ahead-found : n ≤ 64 → (c ≡ 0 → ⊥) → (fitting s es D (fresh c) t ≡ 0 → ⊥) → n ≡ chained s es D t o
+  ahead-found : n ≤ elementLimit → (c ≡ 0 → ⊥) → (fitting s es D (fresh c) t ≡ 0 → ⊥) → n ≡ chained s es D t o
   ahead-found l i j = let e : (n - 1) + 1 ≡ n = omega arith in sym (turn _ refl (omega arith) ∙ past-found (n - 1) c _ _ (omega arith) (omega arith) ∙ e)
 
-  ahead-next : n ≤ 64 → (c ≡ 0 → ⊥) → fitting s es D (fresh c) t ≡ 0 → (k : ℕ) → k ≡ inferable s es D (fresh c) → Ahead s es D t o k (n + 1)
+  ahead-next : n ≤ elementLimit → (c ≡ 0 → ⊥) → fitting s es D (fresh c) t ≡ 0 → (k : ℕ) → k ≡ inferable s es D (fresh c) → Ahead s es D t o k (n + 1)
   ahead-next l i f k e =
       let m : (n - 1) + 1 ≡ n + 1 - 1 = omega arith in
       record {
@@ -193,10 +195,10 @@ module _ (rows places facts : List ℕ) (e q x : ℕ) where
       record { left = λ s es M tables o h t i d. ahead-start s es (decided s es) t o (tables .few) c (found s es rows M tables o (h .begun) (h .level) (h .place) (h .entered) (h .required)) }
 
   module _ (c n : ℕ) (h : Looks rows places facts e q x c n) where
-    pub looks-over : 1 ≤ n → 64 < n → Counts rows places facts e q x 0
+    pub looks-over : 1 ≤ n → elementLimit < n → Counts rows places facts e q x 0
     looks-over some l s es M tables o requires t i d = ahead-over s es (decided s es) t o c n some (h .left s es M tables o requires t i d) l
 
-    module _ (some : 1 ≤ n) (most : n ≤ 64) where
+    module _ (some : 1 ≤ n) (most : n ≤ elementLimit) where
       pub looks-none : c ≡ 0 → Counts rows places facts e q x 0
       looks-none z s es M tables o requires t i d = ahead-none s es (decided s es) t o c n some (h .left s es M tables o requires t i d) most z
 

@@ -4,11 +4,13 @@
 // `rows`, `places` and `facts` are the tables of the type (crate type_tables). x is the element that starts, or 0 for data.
 // Where the tables are no type's, an answer is not decided, but for the range that its contract has.
 use layout::BEGUN;
+use layout::ELEMENTS;
 use layout::ElementNo;
 use layout::FACTS;
 use layout::PLACES;
 use layout::Place;
 use layout::ROWS;
+use layout::TAGLVL;
 use open_elements::Open;
 ghost use mathlib.Core.Path.{_≡_};
 ghost use mathlib.Core.Bool.{Bool, true, false, _&&_};
@@ -21,6 +23,7 @@ ghost use Rattle.rules.specs.Elements.{contentOf, hasModel};
 ghost use Rattle.rules.specs.Decisions.{Token};
 ghost use Rattle.rules.specs.Decisions as decisions;
 ghost use Rattle.rules.specs.Settling as rules;
+ghost use Rattle.rules.specs.Bytes.{GRPGTCNT, TAGLVL, elementLimit};
 ghost use Rattle.document_laws.specs.Decide.{decided};
 ghost use Rattle.type_tables.specs.Tables.{nameNumber, Declares, Facts, Tables, Entered};
 ghost use Rattle.ways.specs.Asks.{wayOf, chained, startsOf, fitOf, placeOf, Requires, MayEnd};
@@ -44,14 +47,14 @@ fn chain(
     q: Place,
     x: ElementNo,
 ) -> usize
-    requires { ⌜ (e .0 ≤ 64) × (x .0 ≤ 64) ⌝ }
+    requires { ⌜ (e .0 ≤ elementLimit) × (x .0 ≤ elementLimit) ⌝ }
     ensures { λ r. ⌜ ((s : List ℕ) (es : List Element) (M : List ℕ) → Tables s es (now (rows .entry)) (now (places .entry)) (now (facts .entry)) M →
         (o : rules.Open) → Requires s es M (e .0) (q .0) o → (t : Token) → nameNumber t ≡ x .0 → Declares es t → r ≡ chained s es (decided s es) t o) ⌝ }
-    ensures { λ r. ⌜ r ≤ 64 ⌝ }
+    ensures { λ r. ⌜ r ≤ elementLimit ⌝ }
 {
     let mut c = type_tables::startable(places, facts, e, q);
     let mut n = 1;
-    while n <= 64 && c.0 != 0 {
+    while n <= ELEMENTS && c.0 != 0 {
         let p = type_tables::fitting_first(rows, places, facts, c, x);
         if p.0 != 0 {
             return n;
@@ -75,11 +78,11 @@ pub fn way_at(
     q: Place,
     x: ElementNo,
 ) -> Way
-    requires { ⌜ (level ≤ 24) × (e .0 ≤ 64) × (u .0 ≤ 96) × (x .0 ≤ 64) ⌝ }
+    requires { ⌜ (level ≤ TAGLVL) × (e .0 ≤ elementLimit) × (u .0 ≤ GRPGTCNT) × (x .0 ≤ elementLimit) ⌝ }
     ensures { λ r. ⌜ ((s : List ℕ) (es : List Element) → Tables s es (now (rows .entry)) (now (places .entry)) (now (facts .entry)) (now (members .entry)) →
         (o : rules.Open) → Entered es (now (members .entry)) (now (begun .entry)) level (e .0) (u .0) o → q .0 ≡ rules.requiredPlace s es (decided s es) o →
         (t : Token) → nameNumber t ≡ x .0 → Declares es t → r ≡ wayOf (rules.fitting s es (decided s es) o t) (chained s es (decided s es) t o)) ⌝ }
-    ensures { λ r. ⌜ (fitOf r ≤ 96) × (startsOf r ≤ 64) ⌝ }
+    ensures { λ r. ⌜ (fitOf r ≤ GRPGTCNT) × (startsOf r ≤ elementLimit) ⌝ }
 {
     let p = type_tables::fitting(rows, places, facts, members, begun, level, e, u, x);
     if p.0 != 0 {
@@ -95,7 +98,7 @@ pub fn way_at(
 // Whether step 3 infers the current element's end: its content is complete, its end is "O" and it is not the document
 // element. The document alone lies around the document element.
 pub fn may_end(facts: &[u8; FACTS], o: Open) -> bool
-    requires { ⌜ o .element .0 ≤ 64 ⌝ }
+    requires { ⌜ o .element .0 ≤ elementLimit ⌝ }
     ensures { λ r. ⌜ MayEnd (now (facts .entry)) o r ⌝ }
     ensures { λ r. ⌜ (r ≡ true → (1 < o .count) × (o .complete ≡ true)) ⌝ }
 {
@@ -130,10 +133,10 @@ pub fn place_of(
     found: Way,
     x: ElementNo,
 ) -> Place
-    requires { ⌜ (e .0 ≤ 64) × (x .0 ≤ 64) × (fitOf found ≤ 96) ⌝ }
+    requires { ⌜ (e .0 ≤ elementLimit) × (x .0 ≤ elementLimit) × (fitOf found ≤ GRPGTCNT) ⌝ }
     ensures { λ r. ⌜ ((s : List ℕ) (es : List Element) (M : List ℕ) → Tables s es (now (rows .entry)) (now (places .entry)) (now (facts .entry)) M → e .0 ≤ length es →
         (t : Token) → nameNumber t ≡ x .0 → Declares es t → r .0 ≡ placeOf (decided s es .fits (e .0) [] t) found) ⌝ }
-    ensures { λ r. ⌜ r .0 ≤ 96 ⌝ }
+    ensures { λ r. ⌜ r .0 ≤ GRPGTCNT ⌝ }
 {
     match found {
         Way::Taken(p) => p,
@@ -144,17 +147,17 @@ pub fn place_of(
 
 // Whether x is an element for which there is no room among so many.
 pub fn is_full(count: usize, x: ElementNo) -> bool
-    ensures { λ r. ⌜ (x .0 ≡ 0 → r ≡ false) × ((x .0 ≡ 0 → ⊥) → r ≡ leb 24 count) ⌝ }
+    ensures { λ r. ⌜ (x .0 ≡ 0 → r ≡ false) × ((x .0 ≡ 0 → ⊥) → r ≡ leb TAGLVL count) ⌝ }
 {
     if x.0 == 0 {
         return false;
     }
-    24 <= count
+    TAGLVL <= count
 }
 
 // Whether x is an element with a model: it is open once it has started.
 pub fn opens(facts: &[u8; FACTS], x: ElementNo) -> bool
-    requires { ⌜ x .0 ≤ 64 ⌝ }
+    requires { ⌜ x .0 ≤ elementLimit ⌝ }
     ensures { λ r. ⌜ (x .0 ≡ 0 → r ≡ false) × ((s : List ℕ) (es : List Element) (raised : ℕ → Bool) → Facts s es raised (now (facts .entry)) → Declares es (decisions.start (x .0)) → r ≡ hasModel (contentOf es (x .0))) ⌝ }
 {
     if x.0 == 0 {

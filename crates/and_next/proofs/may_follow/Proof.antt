@@ -4,6 +4,7 @@ use mathlib.Core.Path.{ap}
 use native.Mathlib.Omega.{arith}
 use Rattle.and_next.specs.Following.{follows-none, follows-large, follows-beside, follows-by, follows-short}
 use borrow.Author.Needs.{needs}
+use Rattle.layout.specs.Sizes.{ENDING}
 use Rattle.and_next.proofs.may_follow.Statement.{statement}
 use Rattle.and_next.proofs.may_follow.Tie as tie
 
@@ -19,17 +20,17 @@ holder-requires-2 c κs = search needs
 returns-2 : tie.Need-returns-2
 returns-2 c =
     let both = c .before in
-    follows-none _ _ _ _ _ _ _ _ (ap (λ (x : ℕ). x % 128) (both .before .holder .ensures .0)) (ap (λ (x : ℕ). x % 128) (both .holder2 .ensures .0)) (c .if2 .taken)
+    follows-none _ _ _ _ _ _ _ _ (ap (λ (x : ℕ). x % ENDING) (both .before .holder .ensures .0)) (ap (λ (x : ℕ). x % ENDING) (both .holder2 .ensures .0)) (c .if2 .taken)
 
 returns-3 : tie.Need-returns-3
 returns-3 c =
     let both = c .before .before in
-    follows-large _ _ _ _ _ _ _ _ (ap (λ (x : ℕ). x % 128) (both .before .holder .ensures .0)) (ap (λ (x : ℕ). x % 128) (both .holder2 .ensures .0)) (omega (arith, c .before .if2 .left)) (c .if3 .taken)
+    follows-large _ _ _ _ _ _ _ _ (ap (λ (x : ℕ). x % ENDING) (both .before .holder .ensures .0)) (ap (λ (x : ℕ). x % ENDING) (both .holder2 .ensures .0)) (omega (arith, c .before .if2 .left)) (c .if3 .taken)
 
 returns-4 : tie.Need-returns-4
 returns-4 c =
     let both = c .before .before .before in
-    follows-beside _ _ _ _ _ _ _ _ (ap (λ (x : ℕ). x % 128) (both .before .holder .ensures .0)) (ap (λ (x : ℕ). x % 128) (both .holder2 .ensures .0)) (omega (arith, c .before .before .if2 .left)) (c .if4 .taken)
+    follows-beside _ _ _ _ _ _ _ _ (ap (λ (x : ℕ). x % ENDING) (both .before .holder .ensures .0)) (ap (λ (x : ℕ). x % ENDING) (both .holder2 .ensures .0)) (omega (arith, c .before .before .if2 .left)) (c .if4 .taken)
 
 begun-at-requires : tie.Need-begun-at-requires
 begun-at-requires c κs = search needs
@@ -40,7 +41,7 @@ may-come-requires c κs = search needs
 returns-5 : tie.Need-returns-5
 returns-5 c =
     let both = c .before .before .before .before .before in
-    follows-by _ _ _ _ _ _ _ _ (ap (λ (x : ℕ). x % 128) (both .before .holder .ensures .0)) (ap (λ (x : ℕ). x % 128) (both .holder2 .ensures .0)) (omega (arith, c .before .before .before .before .if2 .left)) _ (c .before .begun-at .ensures) _ (c .may-come .ensures)
+    follows-by _ _ _ _ _ _ _ _ (ap (λ (x : ℕ). x % ENDING) (both .before .holder .ensures .0)) (ap (λ (x : ℕ). x % ENDING) (both .holder2 .ensures .0)) (omega (arith, c .before .before .before .before .if2 .left)) _ (c .before .begun-at .ensures) _ (c .may-come .ensures)
 
 pub may-follow-spec : {M : Type 1} → statement M
 may-follow-spec =

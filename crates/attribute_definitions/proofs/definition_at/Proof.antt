@@ -4,7 +4,7 @@ use mathlib.Core.Path.{sym, ap, _∙_}
 use native.Mathlib.Omega.{arith}
 use lib.ListN.{length}
 use borrow.Author.Needs.{needs}
-use Rattle.rules.specs.Bytes.{ATTCNT}
+use Rattle.rules.specs.Bytes.{ATTCNT, GRPCNT}
 use Rattle.rules.specs.TypeFile.{declaredValue}
 use Rattle.text.specs.Words.{gap-range, reached-got, reached-refused}
 use Rattle.name_tokens.specs.Tokens.{partsOf}
@@ -136,7 +136,7 @@ returns-6 c =
     let o = a .long in
     let s = a .s .now in
     let n : (a .i ≤ a-point .a .given .0 .0) × (a-point .a .given .0 .0 ≤ length s) × (a .n < ATTCNT) = name-within (a-point .before .before .name-at .ensures .1) (a-point .a .given .1) in
-    let w : (v-point .v .given .0 .0 ≤ length s) × (g .g .given .0 .0 ≤ v-point .v .given .0 .1 .1 .0) × (v-point .v .given .0 .1 .1 .0 ≤ length s) × (v-point .v .given .0 .1 .0 ≤ a .m + 32) = value-within (a .m) (v-point .before .before .value-at .ensures .1) (v-point .v .given .1) in
+    let w : (v-point .v .given .0 .0 ≤ length s) × (g .g .given .0 .0 ≤ v-point .v .given .0 .1 .1 .0) × (v-point .v .given .0 .1 .1 .0 ≤ length s) × (v-point .v .given .0 .1 .0 ≤ a .m + GRPCNT) = value-within (a .m) (v-point .before .before .value-at .ensures .1) (v-point .v .given .1) in
     let d : (c .before .d .given .0 .0 + c .before .d .given .0 .1 .0 ≤ length s) × (h .h .given .0 .0 < c .before .d .given .0 .1 .1 .0) × (c .before .d .given .0 .1 .1 .0 ≤ length s) = default-within (c .before .before .before .default-at .ensures .1) (c .before .d .given .1) in
     let first : (a-point .a .given .0 .0 ≤ g .g .given .0 .0) × (g .g .given .0 .0 ≤ length s) = gap-range s _ _ (n .1) (reached-got (g .before .before .gap-end .ensures) (g .g .given .1)) in
     let second : (v-point .v .given .0 .1 .1 .0 ≤ h .h .given .0 .0) × (h .h .given .0 .0 ≤ length s) = gap-range s _ _ (w .2) (reached-got (h .before .before .gap-end2 .ensures) (h .h .given .1)) in (

@@ -7,6 +7,7 @@ use Rattle.type_judge.specs.Decides.{Decides}
 use Rattle.type_judge.specs.declared.Verdict.the-variants.{Accepted}
 use Rattle.attribute_records.specs.Decided.{decided-refused, decided-listed}
 use borrow.Author.Needs.{needs}
+use Rattle.layout.specs.Sizes.{RECORDS}
 use Rattle.attribute_records.proofs.decide.Statement.{statement}
 use Rattle.attribute_records.proofs.decide.Tie as tie
 
@@ -24,8 +25,8 @@ abbrev at-known-told : (c : tie.After-listed) → tie.After-known-told
 at-known-told c = c .before .before .before .before
 
 -- The type is accepted.
-accepted : (c : tie.After-known-told) → let a = at-start c .args in let d = c .before .before .before .decide in Decides (settingsOf (a .c)) (a .s .now) 384 (d .last .1 .1 .1 .0) (d .last .1 .1 .1 .1 .0) (Accepted (c .before .v .given .0 .0))
-accepted c = let a = at-start c .args in let d = c .before .before .before .decide in subst (Decides (settingsOf (a .c)) (a .s .now) 384 (d .last .1 .1 .1 .0) (d .last .1 .1 .1 .1 .0)) (c .before .v .given .1) (d .ensures)
+accepted : (c : tie.After-known-told) → let a = at-start c .args in let d = c .before .before .before .decide in Decides (settingsOf (a .c)) (a .s .now) RECORDS (d .last .1 .1 .1 .0) (d .last .1 .1 .1 .1 .0) (Accepted (c .before .v .given .0 .0))
+accepted c = let a = at-start c .args in let d = c .before .before .before .decide in subst (Decides (settingsOf (a .c)) (a .s .now) RECORDS (d .last .1 .1 .1 .0) (d .last .1 .1 .1 .1 .0)) (c .before .v .given .1) (d .ensures)
 
 returns : tie.Need-returns
 returns c =

@@ -6,7 +6,7 @@ use native.Mathlib.Omega.{arith}
 use borrow.Author.Needs.{needs}
 use lib.ListN.{length, drop}
 use lib.Dec.{eqb}
-use Rattle.rules.specs.Bytes.{span}
+use Rattle.rules.specs.Bytes.{span, RE, RS, TAB}
 use Rattle.rules.specs.Attributes.{fits}
 use Rattle.attribute_values.specs.Tests.{every-stop, every-all, every-turn}
 use Rattle.attribute_values.proofs.is_cdata.Statement.{statement}
@@ -14,7 +14,7 @@ use Rattle.attribute_values.proofs.is_cdata.Tie as tie
 
 -- What passes.
 abbrev plain : ℕ → Bool
-plain b = not (eqb b 9 || (eqb b 10 || eqb b 13))
+plain b = not (eqb b TAB || (eqb b RS || eqb b RE))
 
 abbrev Inv-loop : tie.InvT-loop
 Inv-loop v i₀ i = (i ≤ length v) × (i + span plain (drop i v) ≡ span plain v)

@@ -4,7 +4,7 @@ use native.Mathlib.Omega.{arith}
 use lib.ListN.{length, getD}
 use Rattle.rules.specs.Lent.{Lent}
 use Rattle.rules.specs.Settings.{settings}
-use Rattle.rules.specs.Batch.{Equal}
+use Rattle.rules.specs.Batch.{Equal, batchLimit}
 use Rattle.document_reader.specs.Answer.{answerOf}
 use Rattle.stretches.specs.Fit.{batchOf}
 use Rattle.batch.specs.Turns.{Done, done-none, done-again, done-all, fit-few, fit-equal, fit-within}
@@ -45,7 +45,7 @@ equal c =
     fit-equal (batchOf (a .starts .now) (a .lengths .now) (a .froms .now) (a .sizes .now)) (length (a .answers .now)) (length (a .bytes .now)) (start .pre .1)
 
 -- There are at most 200.
-soon : (c : tie.In-loop Inv-loop μ-loop) → c .before .loop .i < 200
+soon : (c : tie.In-loop Inv-loop μ-loop) → c .before .loop .i < batchLimit
 soon c =
     let start = at-start c in
     let a = start .args in

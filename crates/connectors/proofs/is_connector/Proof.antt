@@ -5,10 +5,11 @@ use mathlib.Core.Logic.{⊎-elim}
 use lib.Dec.{eqb}
 use borrow.Author.Tests.{eq-eqb, ne-eqb}
 use Rattle.rules.specs.TypeFile.{isConnector}
+use Rattle.rules.specs.Bytes.{OR, SEQ}
 use Rattle.connectors.proofs.is_connector.Statement.{statement}
 use Rattle.connectors.proofs.is_connector.Tie as tie
 
-first-two : (c : tie.Joined1) → c .if1 .if2 ≡ (eqb (c .before .args .b) 44 || eqb (c .before .args .b) 124)
+first-two : (c : tie.Joined1) → c .if1 .if2 ≡ (eqb (c .before .args .b) SEQ || eqb (c .before .args .b) OR)
 first-two c = ⊎-elim (λ w. cc (eq-eqb _ _ (w .0 .taken))) (λ w. cc (ne-eqb _ _ (w .0 .left))) (c .if1 .came)
 
 kinds : (c : tie.Joined2) → c .if2 .if3 ≡ isConnector (c .before .before .args .b)

@@ -5,7 +5,7 @@ use mathlib.Core.Bool.{true, false}
 use native.Mathlib.Omega.{arith}
 use borrow.Author.Needs.{needs}
 use borrow.Author.Tests.{not-true, not-false}
-use Rattle.rules.specs.Bytes.{letter, byteAt}
+use Rattle.rules.specs.Bytes.{letter, byteAt, GRPGTCNT}
 use Rattle.text.specs.Words.{nameEnd-from, nameEnd-le}
 use Rattle.content_tokens.specs.Readings.{got-meets, refused-meets}
 use Rattle.content_tokens.specs.Tokens.{data-word, data-full, data-got, data-none, new-data}
@@ -44,7 +44,7 @@ is-none c = ap letter (sym (c .before .before .byte .ensures)) ∙ sym (c .befor
 -- room for one more token
 room : (c : tie.Else3) →
     let start = at-start (at-name-end c) in
-    (start .args .places ≤ start .args .tokens) × (start .args .tokens < 96)
+    (start .args .places ≤ start .args .tokens) × (start .args .tokens < GRPGTCNT)
 room c =
     let start = at-start (at-name-end c) in
     (start .pre .1 .0, start .pre .1 .1 (c .if3 .left))

@@ -12,6 +12,8 @@ use borrow.Author.Needs.{needs}
 use Rattle.rules.specs.Settings.{settings}
 use Rattle.rules.specs.TypeFile.{Element}
 use Rattle.rules.specs.Settling.{State, isOver}
+use Rattle.rules.specs.Bytes.{TAGLVL, elementLimit, ATTCNT}
+use Rattle.layout.specs.Sizes.{MOST-EVENTS}
 use Rattle.document_laws.specs.Decide.{decided}
 use Rattle.attribute_events.specs.PutBefore.{PutsWritten}
 use Rattle.attribute_events.specs.OneByOne.{written-none, written-same}
@@ -117,7 +119,7 @@ whole-shown c = let a = first (turn (piece c) .before) .args in shownEnd (a .edi
 -- What the steps of a token ask for.
 asked : (c : tie.After-known-told Inv-loop2 μ-loop2 Inv-loop μ-loop) →
     let l = turn (piece c) .before .loop in
-    Ranged (l .o) × (c .before .p .given .0 .0 .0 ≤ 64) × (l .at ≤ after c) × (after c < 4294967296) × (l .n + 1100 < 4294967296)
+    Ranged (l .o) × (c .before .p .given .0 .0 .0 ≤ elementLimit) × (l .at ≤ after c) × (after c < 4294967296) × (l .n + MOST-EVENTS < 4294967296)
 asked c = token-asked (at-turn (piece c)) (first (turn (piece c) .before) .pre .2) (c .before .p .given .1)
 
 -- It ends behind where it begins, and within the document.
@@ -140,20 +142,20 @@ joined : (c : tie.Joined2 Inv-loop2 μ-loop2 Inv-loop μ-loop) →
 joined c = ⊎-elim (λ w. frees-same (w .3 .ensures) (w .8) (w .9) (w .10)) (λ w. frees-same (w .5 .ensures) (w .10) (w .11) (w .12)) (c .if2 .came)
 
 -- There is room for the starts, whichever way was taken: where there are none it is known.
-limit : (c : tie.Joined2 Inv-loop2 μ-loop2 Inv-loop μ-loop) → ended (c .before) .ends .result .open .count + c .before .before .starts-of .result ≤ 24
+limit : (c : tie.Joined2 Inv-loop2 μ-loop2 Inv-loop μ-loop) → ended (c .before) .ends .result .open .count + c .before .before .starts-of .result ≤ TAGLVL
 limit c = ⊎-elim (λ w. omega (arith, w .0 .taken, ended (c .before) .ends .ensures .turns .ranged .few)) (λ w. omega (arith, w .2 .left)) (c .if2 .came)
 
 -- The events are so few that those of an element's attributes and those of the token can still be counted.
-room : (c : tie.At-loop2 Inv-loop2 μ-loop2 Inv-loop μ-loop) → c .loop2 .m + 90 < 4294967296
+room : (c : tie.At-loop2 Inv-loop2 μ-loop2 Inv-loop μ-loop) → c .loop2 .m + (ATTCNT + 2) < 4294967296
 room c =
     let s = stopped c in
     let f = s .ends .ensures .turns in
     let i = c .loop2 .inv in
-    let h = joined (c .before) .few 24 (omega (arith, f .counted, f .deep, asked (told s) .0 .few)) (omega arith) in
+    let h = joined (c .before) .few TAGLVL (omega (arith, f .counted, f .deep, asked (told s) .0 .few)) (omega arith) in
     omega (arith, i .counted, i .few, i .most, limit (c .before), f .deep, asked (told s) .0 .few, asked (told s) .4)
 
 -- There is room for one more open element.
-less : (c : tie.In-loop2 Inv-loop2 μ-loop2 Inv-loop μ-loop) → c .before .loop2 .o .count < 24
+less : (c : tie.In-loop2 Inv-loop2 μ-loop2 Inv-loop μ-loop) → c .before .loop2 .o .count < TAGLVL
 less c = omega (arith, c .before .loop2 .inv .deep, c .loop2-test .taken, limit (c .before .before))
 
 loop-holds : tie.Need-loop-holds Inv-loop2 μ-loop2 Inv-loop μ-loop

@@ -5,7 +5,7 @@ use native.Mathlib.Omega.{arith}
 use lib.ListN.{length}
 use lib.Dec.{eqb}
 use borrow.Author.Needs.{needs}
-use Rattle.rules.specs.Bytes.{byteAt}
+use Rattle.rules.specs.Bytes.{byteAt, SOLIDUS}
 use Rattle.rules.specs.Document.{startTagAt}
 use Rattle.text.specs.Words.{letter-in, second}
 use Rattle.tags.specs.Tags.{tagOf}
@@ -54,7 +54,7 @@ tag-at-requires : tie.Need-tag-at-requires
 tag-at-requires c κs =
     let p = at-start (c .before .before .before) in
     let a = p .args in
-    (p .pre .0, omega (arith, letter-in (a .s .now) (a .i + 2) (second (eqb (byteAt (a .s .now) (a .i + 1)) 47) _ (sym (c .before .is-end-tag .ensures) ∙ c .if2 .taken))))
+    (p .pre .0, omega (arith, letter-in (a .s .now) (a .i + 2) (second (eqb (byteAt (a .s .now) (a .i + 1)) SOLIDUS) _ (sym (c .before .is-end-tag .ensures) ∙ c .if2 .taken))))
 
 end-tag-requires : tie.Need-end-tag-requires
 end-tag-requires c κs = search needs

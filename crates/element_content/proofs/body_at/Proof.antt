@@ -3,7 +3,7 @@ use mathlib.Core.Path.{_≡_, sym, ap, _∙_}
 use native.Mathlib.Omega.{arith}
 use lib.ListN.{length}
 use borrow.Author.Needs.{needs}
-use Rattle.rules.specs.Bytes.{byteAt, letter}
+use Rattle.rules.specs.Bytes.{byteAt, letter, GRPO}
 use Rattle.text.specs.Refusal.{refusalOf}
 use Rattle.text.specs.Words.{tested, byte-is-in}
 use Rattle.gaps.specs.Unfit.{unfit-is}
@@ -22,16 +22,16 @@ byte-requires : tie.Need-byte-requires
 byte-requires c κs = search needs
 
 -- A "(" stands there, or does not.
-opens : (c : tie.Then1) → byteAt (c .before .before .before .args .s .now) (c .before .before .before .args .i) ≡ 40
+opens : (c : tie.Then1) → byteAt (c .before .before .before .args .s .now) (c .before .before .before .args .i) ≡ GRPO
 opens c = sym (c .before .byte .ensures) ∙ c .if1 .taken
 
-no-open : (c : tie.Else1) → byteAt (c .before .before .before .args .s .now) (c .before .before .before .args .i) ≡ 40 → ⊥
+no-open : (c : tie.Else1) → byteAt (c .before .before .before .args .s .now) (c .before .before .before .args .i) ≡ GRPO → ⊥
 no-open c e = c .if1 .left (c .before .byte .ensures ∙ e)
 
 body-model-requires : tie.Need-body-model-requires
 body-model-requires c κs =
     let a = at-start (c .before .before .before) .args in
-    omega (arith, byte-is-in (a .s .now) (a .i) 40 (opens (c .before .before)) (omega arith))
+    omega (arith, byte-is-in (a .s .now) (a .i) GRPO (opens (c .before .before)) (omega arith))
 
 returns : tie.Need-returns
 returns c =

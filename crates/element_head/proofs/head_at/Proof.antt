@@ -5,6 +5,7 @@ use lib.ListN.{length}
 use borrow.Author.Needs.{needs}
 use Rattle.rules.specs.Reading.{got}
 use Rattle.rules.specs.TypeFile.{gap}
+use Rattle.rules.specs.Bytes.{elementLimit}
 use Rattle.text.specs.Words.{gap-range, reached-got, reached-refused}
 use Rattle.element_head.specs.Words.{head-gap, head-name, head-words}
 use Rattle.element_head.specs.Ends.{name-in, head-in}
@@ -85,7 +86,7 @@ name-read : (c : tie.After-known-told2)
     let start = at-start g in
     (g .g .given .0 .0 ≤ c .before .n .given .0 .0)
     × (c .before .n .given .0 .0 ≤ length (start .args .s .now))
-    × (start .args .count < 64)
+    × (start .args .count < elementLimit)
     × (c .before .n .given .0 .0 ≤ g .g .given .0 .0 + start .args .long)
 name-read c = name-in _ (c .before .before .before .element-name .ensures .1) (c .before .n .given .1)
 

@@ -6,7 +6,7 @@ use native.Mathlib.Omega.{arith}
 use lib.Dec.{eqb, ltb}
 use borrow.Author.Needs.{needs}
 use borrow.Author.Tests.{ne-eqb, ltb-true, lt-ltb, le-ltb}
-use Rattle.rules.specs.Bytes.{byteAt, letter, nameEnd}
+use Rattle.rules.specs.Bytes.{byteAt, letter, nameEnd, MINUS}
 use Rattle.rules.specs.TypeFile.{isWord, O}
 use Rattle.text.specs.Words.{tested, nameEnd-from, nameEnd-le}
 use Rattle.element_head.specs.Words.{omission-dash, omission-other, omission-long, omission-o, omission-word}
@@ -36,7 +36,7 @@ returns c =
 
 -- No "-" that is parted from the parameter before stands there.
 no-dash : (c : tie.Joined1)
-    → (eqb (byteAt (c .before .before .before .args .s .now) (c .before .before .before .args .i)) 45 && ltb (c .before .before .before .args .from) (c .before .before .before .args .i)) ≡ false
+    → (eqb (byteAt (c .before .before .before .args .s .now) (c .before .before .before .args .i)) MINUS && ltb (c .before .before .before .args .from) (c .before .before .before .args .i)) ≡ false
 no-dash c = ⊎-elim (λ w. rw (w .1 .left, and-false)) (λ w. rw (ne-eqb _ _ (λ e. w .left (c .before .byte .ensures ∙ e)))) (c .if1 .came)
 
 is-letter-requires : tie.Need-is-letter-requires

@@ -8,6 +8,7 @@ use Rattle.rules.specs.Settings.{Settings}
 use Rattle.rules.specs.TypeFile.{Element}
 use Rattle.rules.specs.Judge.{Accepts}
 use Rattle.rules_laws.specs.Within.{typeFile-count}
+use Rattle.rules.specs.Bytes.{elementLimit}
 use Rattle.element_reader.specs.Keeps.{Recorded}
 use Rattle.element_index.specs.Seeking.{Filled, filled-none, filled-more, filled-all, size-in}
 use Rattle.element_index.proofs.fill_index.Statement.{statement}
@@ -16,7 +17,7 @@ use Rattle.element_index.proofs.fill_index.Tie as tie
 abbrev Inv-loop : tie.InvT-loop
 Inv-loop s elements count index₀ k₀ index k =
     (k ≤ count)
-    × (count ≤ 64)
+    × (count ≤ elementLimit)
     × ((e : Settings) (es : List Element) → Accepts e s es → length es ≡ count → Recorded elements es → Filled s es index k)
 
 abbrev μ-loop : tie.MeasureT-loop

@@ -8,8 +8,9 @@ use native.Mathlib.Omega.{arith}
 use borrow.Author.Needs.{needs}
 use borrow.Author.Tests.{not-true, not-false}
 use lib.ListN.{length, getD}
-use Rattle.rules.specs.Bytes.{byteAt, letter}
+use Rattle.rules.specs.Bytes.{byteAt, letter, elementLimit}
 use Rattle.rules.specs.TypeFile.{Element}
+use Rattle.rules.specs.Judge.{recordWidth}
 use Rattle.element_index.specs.Indexed.{Indexed}
 use Rattle.element_index.specs.Seeking.{Seeks, bucket-read, letter-read, follows-true, none-found, seeks-start, seeks-end, seeks-found, seeks-next, seeks-counted}
 use Rattle.element_index.proofs.find.Statement.{statement}
@@ -18,12 +19,12 @@ use Rattle.element_index.proofs.find.Tie as tie
 abbrev Inv-loop : tie.InvT-loop
 Inv-loop s elements index t at size first none before₀ k₀ n₀ before k n =
     (n ≤ before .0)
-    × (before .0 ≤ 64)
+    × (before .0 ≤ elementLimit)
     × (letter (byteAt t at) ≡ true)
     × ((es : List Element) → Indexed s es elements index → Seeks s es t at size (before .0) (k .0) n)
 
 abbrev μ-loop : tie.MeasureT-loop
-μ-loop s elements index t at size first none before₀ k₀ n₀ before k n = 64 - before .0
+μ-loop s elements index t at size first none before₀ k₀ n₀ before k n = elementLimit - before .0
 
 -- The points that the needs go back to.
 abbrev at-start-3 : (c : tie.After-is-letter Inv-loop μ-loop) → tie.Start Inv-loop μ-loop
@@ -83,7 +84,7 @@ module _ (c : tie.Then2 Inv-loop μ-loop) where
   abbrev begun : tie.Start Inv-loop μ-loop
   begun = at-start-2 c
 
-  standing : (turn .loop .before .0 < turn .loop .k .0) × (turn .loop .k .0 ≤ 64) × (getD (begun .args .elements .now) (6 * (turn .loop .k .0 - 1)) 0 + begun .args .size ≤ length (begun .args .s .now))
+  standing : (turn .loop .before .0 < turn .loop .k .0) × (turn .loop .k .0 ≤ elementLimit) × (getD (begun .args .elements .now) (recordWidth * (turn .loop .k .0 - 1)) 0 + begun .args .size ≤ length (begun .args .s .now))
   standing =
       let a = begun .args in
       follows-true (a .s .now) (a .elements .now) (turn .loop .before .0) (turn .loop .k .0) (a .size) (c .before .comes-next .ensures) (c .if2 .taken)

@@ -6,7 +6,7 @@ use mathlib.Core.Logic.{⊎-elim}
 use lib.Dec.{eqb}
 use borrow.Author.Needs.{needs}
 use borrow.Author.Tests.{eq-eqb, ne-eqb}
-use Rattle.rules.specs.Bytes.{byteAt}
+use Rattle.rules.specs.Bytes.{byteAt, GRPO, MINUS, PLUS}
 use Rattle.text.specs.Refusal.{refusalOf}
 use Rattle.gaps.specs.Unfit.{unfit-is}
 use Rattle.element_reader.specs.Ways.{close-end, close-exception, close-unfit}
@@ -34,7 +34,7 @@ byte-requires-2 c κs = search needs
 
 -- A "-" or a "+" stands there.
 sign : (c : tie.Joined2)
-    → (eqb (byteAt (c .before .before .before .before .args .s .now) (c .before .before .before .before .args .i)) 45 || eqb (byteAt (c .before .before .before .before .args .s .now) (c .before .before .before .before .args .i)) 43) ≡ true
+    → (eqb (byteAt (c .before .before .before .before .args .s .now) (c .before .before .before .before .args .i)) MINUS || eqb (byteAt (c .before .before .before .before .args .s .now) (c .before .before .before .before .args .i)) PLUS) ≡ true
 sign c =
     let b = c .before .before .byte .ensures in
     ⊎-elim (λ w. rw (eq-eqb _ _ (sym b ∙ w .taken))) (λ w. rw (ne-eqb _ _ (λ e. w .0 .left (b ∙ e)), ← b) (w .1 .taken)) (c .if2 .came)
@@ -51,7 +51,7 @@ unfit-at-requires c κs = search needs
 
 -- Neither `-(` nor `+(` stands there.
 other : (c : tie.Joined2-2)
-    → ((eqb (byteAt (c .before .before .before .before .args .s .now) (c .before .before .before .before .args .i)) 45 || eqb (byteAt (c .before .before .before .before .args .s .now) (c .before .before .before .before .args .i)) 43) && eqb (byteAt (c .before .before .before .before .args .s .now) (c .before .before .before .before .args .i + 1)) 40) ≡ false
+    → ((eqb (byteAt (c .before .before .before .before .args .s .now) (c .before .before .before .before .args .i)) MINUS || eqb (byteAt (c .before .before .before .before .args .s .now) (c .before .before .before .before .args .i)) PLUS) && eqb (byteAt (c .before .before .before .before .args .s .now) (c .before .before .before .before .args .i + 1)) GRPO) ≡ false
 other c =
     let b = c .before .before .byte .ensures in
     ⊎-elim (λ w. rw (ne-eqb _ _ (λ e. w .2 .left (w .1 .ensures ∙ e)), and-false)) (λ w. rw (ne-eqb _ _ (λ e. w .0 .left (b ∙ e)), ← b, w .1 .left)) (c .if2 .came)

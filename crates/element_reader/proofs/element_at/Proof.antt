@@ -2,6 +2,7 @@
 use Prim.Native.Nat.{_≤_, _<_}
 use lib.ListN.{length}
 use borrow.Author.Needs.{needs}
+use Rattle.rules.specs.Bytes.{elementLimit}
 use Rattle.element_head.specs.Words.{head-got, head-refused}
 use Rattle.element_reader.specs.Ways.{element-head, element-rest, element-refused, element-from, element-room}
 use Rattle.element_head.specs.Ends.{head-within}
@@ -40,7 +41,7 @@ head-read : (c : tie.After-known-told)
     × (c .before .r .given .0 .0 .at ≤ length (start c .args .s .now))
     × (c .before .r .given .0 .0 .offset ≤ length (start c .args .s .now))
     × (c .before .r .given .0 .0 .size ≤ length (start c .args .s .now))
-    × (start c .args .count < 64)
+    × (start c .args .count < elementLimit)
     × (c .before .r .given .0 .0 .size ≤ start c .args .long)
 head-read c = head-within _ (c .before .before .before .head-at .ensures .1) (c .before .r .given .1)
 

@@ -3,6 +3,7 @@ use Prim.Native.Nat.{_≤_, _<_}
 use mathlib.Core.Logic.{⊎-elim}
 use native.Mathlib.Omega.{arith}
 use borrow.Author.Tests.{not-false, eqb-true}
+use Rattle.rules.specs.Bytes.{GRPGTCNT}
 use Rattle.element_records.specs.Clashes.{pending-kept, pending-clear, pending-first, content-empty, content-none, content-pair}
 use Rattle.element_records.proofs.clash_with.Statement.{statement}
 use Rattle.element_records.proofs.clash_with.Tie as tie
@@ -18,7 +19,7 @@ abbrev at-else2 : (c : tie.After-first-pair) → tie.Else2
 at-else2 c = c .before .before .before .before
 
 -- Where a pair is found, its places are those of the model.
-places-in : (c : tie.Else4) → (1 ≤ c .before .first-pair .result .first) × (c .before .first-pair .result .first < c .before .first-pair .result .second) × (c .before .first-pair .result .second ≤ 96)
+places-in : (c : tie.Else4) → (1 ≤ c .before .first-pair .result .first) × (c .before .first-pair .result .first < c .before .first-pair .result .second) × (c .before .first-pair .result .second ≤ GRPGTCNT)
 places-in c =
     let else2 = at-else2 (c .before) in
     ⊎-elim (λ z. absurd (c .if4 .left (z .1))) (λ w. omega (arith, w, at-start else2 .pre (else2 .if2 .left))) (c .before .first-pair .ensures .1)

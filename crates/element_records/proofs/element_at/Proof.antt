@@ -9,6 +9,7 @@ use borrow.Author.Needs.{needs}
 use borrow.Author.Tests.{eq-eqb, ne-eqb}
 use Rattle.rules.specs.Reading.{got}
 use Rattle.rules.specs.TypeFile.{Element, Declared, element, earlier}
+use Rattle.rules.specs.Bytes.{elementLimit}
 use Rattle.element_reader.specs.Keeps.{KeepsElement, MeetsElement}
 use Rattle.element_records.specs.Progress.{KeepsProgress}
 use Rattle.element_records.specs.Declaration.{element-refused, element-kept, element-fits, element-places, element-step}
@@ -47,7 +48,7 @@ kept c es k =
     let l = c .before .before .element-at .last .1 .1 .1 .1 .1 in
     element-kept (a .s .now) (a .at) (l .0) (l .1 .0) es (c .before .before .element-at .result) (element (a .long) (a .s .now) (a .at) es) (c .r .given .0 .0) (c .r .given .1) (read (c .before .before) es k)
 
-few : (c : tie.After-r) → at-start c .args .p .count < 64
+few : (c : tie.After-r) → at-start c .args .p .count < elementLimit
 few c = rw (c .r .given .1) at (c .before .before .element-at .ensures .1)
 
 -- The first "&" that is refused.

@@ -3,6 +3,7 @@ use Prim.Native.Nat.{_+_, _*_}
 use native.Mathlib.Omega.{arith}
 use Rattle.element_records.specs.Records.{put-six}
 use borrow.Author.Needs.{needs}
+use Rattle.rules.specs.Judge.{recordWidth}
 use Rattle.element_records.proofs.put_record.Statement.{statement}
 use Rattle.element_records.proofs.put_record.Tie as tie
 
@@ -90,7 +91,7 @@ element-write-elements-6 c = search needs
 returns : tie.Need-returns
 returns c =
     let a = c .before .before .before .before .before .args in
-    put-six (a .elements .now) (6 * a .k) (6 * (a .k + 1)) _ _ _ _ _ _ (omega arith) (omega (arith, c .before .before .before .whole .ensures))
+    put-six (a .elements .now) (recordWidth * a .k) (recordWidth * (a .k + 1)) _ _ _ _ _ _ (omega arith) (omega (arith, c .before .before .before .whole .ensures))
 
 pub put-record-spec : {M : Type 1} → statement M
 put-record-spec =

@@ -4,10 +4,11 @@ use native.Mathlib.Omega.{arith}
 use Rattle.event_lines.specs.LineByLine.{Lines, linesLeft, allLines, lines-start, lines-turn, lines-end}
 use Rattle.event_lines.proofs.put_lines.Statement.{statement}
 use Rattle.event_lines.proofs.put_lines.Tie as tie
+use Rattle.layout.specs.Sizes.{LINE}
 
 abbrev Inv-loop : tie.InvT-loop
 Inv-loop out₀ at s elements attributes total numbers n end₀ i₀ out end i =
-    Lines out₀ at out end (linesLeft s elements attributes total numbers n i) (allLines s elements attributes total numbers n) × (end ≤ at + 72 * i) × (i ≤ n)
+    Lines out₀ at out end (linesLeft s elements attributes total numbers n i) (allLines s elements attributes total numbers n) × (end ≤ at + LINE * i) × (i ≤ n)
 
 abbrev μ-loop : tie.MeasureT-loop
 μ-loop out₀ at s elements attributes total numbers n end₀ i₀ out end i = n - i

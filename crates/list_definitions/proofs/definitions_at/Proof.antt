@@ -5,7 +5,7 @@ use native.Mathlib.Omega.{arith}
 use lib.ListN.{length}
 use borrow.Author.Needs.{needs}
 use borrow.Author.Tests.{not-true, not-false}
-use Rattle.rules.specs.Bytes.{letter, ATTCNT}
+use Rattle.rules.specs.Bytes.{letter, ATTCNT, GRPCNT, typeLimit}
 use Rattle.text.specs.Refusal.{refusalOf}
 use Rattle.text.specs.Words.{tested, gap-range, reached-got, reached-refused}
 use Rattle.gaps.specs.Unfit.{unfit-is}
@@ -14,7 +14,7 @@ use Rattle.list_definitions.proofs.definitions_at.Statement.{statement}
 use Rattle.list_definitions.proofs.definitions_at.Tie as tie
 
 abbrev Inv-loop : tie.InvT-loop
-Inv-loop long s from list₀ seen₀ n₀ m₀ at₀ list seen n m at = (3 ≤ from) × (from ≤ at) × (at ≤ length s) × (length s ≤ 32768) × (n ≤ ATTCNT) × (m ≤ 32 * n) × Reads long s from list seen n m at
+Inv-loop long s from list₀ seen₀ n₀ m₀ at₀ list seen n m at = (3 ≤ from) × (from ≤ at) × (at ≤ length s) × (length s ≤ typeLimit) × (n ≤ ATTCNT) × (m ≤ GRPCNT * n) × Reads long s from list seen n m at
 
 abbrev μ-loop : tie.MeasureT-loop
 μ-loop long s from list₀ seen₀ n₀ m₀ at₀ list seen n m at = ATTCNT + 1 - n
@@ -171,7 +171,7 @@ loop-again c =
     let w = defined-within (loop .loop .m) (definition-at .definition-at .ensures .1) (c .before .before .before .d .given .1) in
     let ends : (g-point .g .given .0 .0 ≤ c .before .before .before .d .given .0 .1 .1 .0) × (c .before .before .before .d .given .0 .1 .1 .0 ≤ length (a .s .now)) = (w .2, w .3) in
     let room : loop .loop .n < ATTCNT = w .1 in
-    let more : c .before .before .before .d .given .0 .1 .0 ≤ loop .loop .m + 32 = w .4 in (
+    let more : c .before .before .before .d .given .0 .1 .0 ≤ loop .loop .m + GRPCNT = w .4 in (
       i .0,
       omega (arith, i .1, range, ends),
       ends .1,

@@ -3,6 +3,7 @@ use Prim.Native.Nat.{_%_, _≤_, _<_}
 use mathlib.Core.Path.{_≡_, _∙_}
 use native.Mathlib.Omega.{arith}
 use borrow.Author.Needs.{needs}
+use Rattle.layout.specs.Sizes.{AND-GROUPS, ENDING, POSITIONS}
 use Rattle.member_sets.specs.Linking.{found-alone, found-within}
 use Rattle.member_sets.proofs.around.Statement.{statement}
 use Rattle.member_sets.proofs.around.Tie as tie
@@ -14,9 +15,9 @@ at-start c = c .before .before .before .before
 -- The member that holds the group, and its group, are what they should be.
 told : (c : tie.Else1) →
     let group = c .before .before in
-    let h = group .before .of-group3 .result % 128 in
+    let h = group .before .of-group3 .result % ENDING in
     let f = group .group-of .result in
-    (c .before .around-of .result ≡ f) × (1 ≤ h) × (h < 97) × (at-start (group .before .before) .args .g < f) × (f ≤ 48)
+    (c .before .around-of .result ≡ f) × (1 ≤ h) × (h < POSITIONS) × (at-start (group .before .before) .args .g < f) × (f ≤ AND-GROUPS)
 told c = c .before .around-of .ensures .0 (omega (arith, c .if1 .left))
 
 of-group-requires : tie.Need-of-group-requires

@@ -4,13 +4,13 @@ use mathlib.Core.Path.{_∙_}
 use native.Mathlib.Omega.{arith}
 use lib.ListN.{length}
 use borrow.Author.Needs.{needs}
-use Rattle.layout.specs.Sizes.{MEMBERS}
+use Rattle.layout.specs.Sizes.{MEMBERS, AND-GROUPS}
 use Rattle.member_sets.specs.Linking.{Linking, linking-start, linking-on, linked-all, linked-short}
 use Rattle.member_sets.proofs.fill.Statement.{statement}
 use Rattle.member_sets.proofs.fill.Tie as tie
 
 abbrev Inv-loop : tie.InvT-loop
-Inv-loop members₀ e table n g₀ members g = (g ≤ 48) × (MEMBERS ≤ length members₀) × Linking members₀ (e .0) g members
+Inv-loop members₀ e table n g₀ members g = (g ≤ AND-GROUPS) × (MEMBERS ≤ length members₀) × Linking members₀ (e .0) g members
 
 abbrev μ-loop : tie.MeasureT-loop
 μ-loop members₀ e table n g₀ members g = g

@@ -4,6 +4,7 @@ use mathlib.Core.Path.{sym, _∙_}
 use mathlib.Core.Logic.{⊎-elim}
 use native.Mathlib.Omega.{arith}
 use borrow.Author.Needs.{needs}
+use Rattle.layout.specs.Sizes.{POSITIONS}
 use Rattle.member_bits.specs.Having.{Has}
 use Rattle.member_sets.specs.Linking.{isDue, Before, before-none, before-pass, before-with, before-all}
 use Rattle.member_sets.proofs.needed_of.Statement.{statement}
@@ -13,7 +14,7 @@ abbrev Inv-loop : tie.InvT-loop
 Inv-loop members e b₀ h₀ b h = (1 ≤ h) × Has b (Before (isDue members (e .0)) h)
 
 abbrev μ-loop : tie.MeasureT-loop
-μ-loop members e b₀ h₀ b h = 97 - h
+μ-loop members e b₀ h₀ b h = POSITIONS - h
 
 none-requires : tie.Need-none-requires Inv-loop μ-loop
 none-requires c κs = search needs

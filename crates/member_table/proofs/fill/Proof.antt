@@ -5,6 +5,8 @@ use mathlib.Core.Logic.{⊎-elim}
 use native.Mathlib.Omega.{arith}
 use borrow.Author.Needs.{needs}
 use borrow.Author.Tests.{ltb-true, ltb-false}
+use Rattle.layout.specs.Sizes.{AND-GROUPS, CODE, POSITIONS}
+use Rattle.model_code.specs.Codes.{AND-CODE}
 use Rattle.member_table.specs.Steps.{Running, run-start, run-by, fits-told, runs-place, runs-full, runs-opt, runs-opt-none, runs-join, runs-join-none, runs-other, runs-unfit, runs-close, ran-all, ran-full}
 use Rattle.member_table.proofs.fill.Statement.{statement}
 use Rattle.member_table.proofs.fill.Tie as tie
@@ -36,16 +38,16 @@ loop-holds : tie.Need-loop-holds Inv-loop μ-loop
 loop-holds c = (omega arith, record { long = refl; low = omega arith; few = omega arith; fewer = omega arith; is = run-start _ _ _ })
 
 -- there is room for the number
-inside : (c : tie.Then1 Inv-loop μ-loop) → c .before .before .loop .i < 387
+inside : (c : tie.Then1 Inv-loop μ-loop) → c .before .before .loop .i < CODE
 inside c = ltb-true _ _ (c .if1 .taken)
 
 -- A group that fits is on the stack, and there is room for it.
 told :
     (c : tie.Then9 Inv-loop μ-loop) →
-    let i = at-loop c .loop in let k = c .before .before .wide .result - 128 in (2 ≤ k) × (k ≤ i .top) × (i .groups < 48) × (i .count + k < 97)
+    let i = at-loop c .loop in let k = c .before .before .wide .result - AND-CODE in (2 ≤ k) × (k ≤ i .top) × (i .groups < AND-GROUPS) × (i .count + k < POSITIONS)
 told c =
     let i = at-loop c .loop in
-    fits-told (c .before .before .wide .result - 128) (i .top) (i .groups) (i .count) (sym (c .before .fits2 .ensures) ∙ c .if9 .taken)
+    fits-told (c .before .before .wide .result - AND-CODE) (i .top) (i .groups) (i .count) (sym (c .before .fits2 .ensures) ∙ c .if9 .taken)
 
 add-op : tie.Need-add-op Inv-loop μ-loop
 add-op c = omega (arith, inside c)

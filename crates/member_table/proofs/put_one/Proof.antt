@@ -4,6 +4,7 @@ use mathlib.Core.Logic.{⊎-elim}
 use Prim.Native.Nat.{_<_}
 use native.Mathlib.Omega.{arith}
 use borrow.Author.Needs.{needs}
+use Rattle.layout.specs.Sizes.{POSITIONS}
 use Rattle.member_table.specs.Filling.{numberAt, otherAt, pieceAt}
 use Rattle.member_table.specs.Counting.{number-null, number-needed}
 use Rattle.member_table.specs.Putting.{other-second, other-first, one-put}
@@ -30,11 +31,11 @@ is-number c =
     (λ w. number-needed (x .t7) (x .first) (x .own) (x .needed) (x .j) _ n (w .0 .left) _ (omega (arith, w .1)))
     (c .if1 .came)
 
-small : (c : tie.Joined1) → c .if1 .h < 97
+small : (c : tie.Joined1) → c .if1 .h < POSITIONS
 small c = rw (is-number c) (c .before .before .before .before .pre .1 .1 .1 .1 .1)
 
 -- A place that begins another member, and that the piece is on the stack.
-is-other : (c : tie.Joined2) → let x = at-start c .args in (pieceAt (x .t7) (c .if2 .o) .lo ≡ otherAt (x .t7) (x .first) (x .j)) × (c .if2 .o < 97)
+is-other : (c : tie.Joined2) → let x = at-start c .args in (pieceAt (x .t7) (c .if2 .o) .lo ≡ otherAt (x .t7) (x .first) (x .j)) × (c .if2 .o < POSITIONS)
 is-other c =
     let x = at-start c .args in
     ⊎-elim

@@ -5,12 +5,13 @@ use mathlib.Core.Logic.{⊎-elim}
 use native.Mathlib.Omega.{arith}
 use borrow.Author.Needs.{needs}
 use borrow.Author.Tests.{ltb-true, ltb-false}
+use Rattle.layout.specs.Sizes.{CODE}
 use Rattle.model_code.specs.Stack.{Passed, passed-place, passed-full, passed-opt, passed-opt-none, passed-plus, passed-plus-none, passed-join, passed-join-none, passed-other, passed-all}
 use Rattle.model_code.proofs.clash.Statement.{statement}
 use Rattle.model_code.proofs.clash.Tie as tie
 
 abbrev Inv-loop : tie.InvT-loop
-Inv-loop table n p q stack₀ top₀ i₀ stack top i = (i ≤ n) × (i ≤ 387) × Passed table p q i stack top
+Inv-loop table n p q stack₀ top₀ i₀ stack top i = (i ≤ n) × (i ≤ CODE) × Passed table p q i stack top
 
 abbrev μ-loop : tie.MeasureT-loop
 μ-loop table n p q stack₀ top₀ i₀ stack top i = n - i
@@ -19,7 +20,7 @@ loop-holds : tie.Need-loop-holds Inv-loop μ-loop
 loop-holds c = (omega arith, omega arith, record { len = refl; low = omega arith; is = refl })
 
 -- there is room for the number
-inside : (c : tie.Then1 Inv-loop μ-loop) → c .before .before .loop .i < 387
+inside : (c : tie.Then1 Inv-loop μ-loop) → c .before .before .loop .i < CODE
 inside c = ltb-true _ _ (c .if1 .taken)
 
 add-op : tie.Need-add-op Inv-loop μ-loop
@@ -125,10 +126,10 @@ element-copy-out-result : tie.Need-element-copy-out-result Inv-loop μ-loop
 element-copy-out-result c = omega arith
 
 -- no number is left, or no room
-over : (c : tie.Left-loop Inv-loop μ-loop) → c .before .loop .i < c .before .before .args .n → c .before .loop .i < 387 → ⊥
+over : (c : tie.Left-loop Inv-loop μ-loop) → c .before .loop .i < c .before .before .args .n → c .before .loop .i < CODE → ⊥
 over c few room =
     ⊎-elim
-    (λ w. let past : 387 ≤ c .before .loop .i = ltb-false _ _ (w .1 .left) in omega arith)
+    (λ w. let past : CODE ≤ c .before .loop .i = ltb-false _ _ (w .1 .left) in omega arith)
     (λ w. let past : c .before .before .args .n ≤ c .before .loop .i = w .left in omega arith)
     (c .loop-test .came)
 

@@ -3,19 +3,20 @@ use Prim.Native.Nat.{ℕ}
 use mathlib.Core.Path.{_≡_, ap, _∙_, sym}
 use borrow.Author.Tests.{eq-eqb, ne-eqb}
 use borrow.Author.Needs.{needs}
+use Rattle.model_code.specs.Codes.{ALT-CODE, SEQ-CODE}
 use Rattle.and_laws.specs.Code.{Six}
 use Rattle.model_code.specs.Six.{six, thenSix, eitherSix, addedSix, joinedSix}
 use Rattle.model_code.proofs.joined.Statement.{statement}
 use Rattle.model_code.proofs.joined.Tie as tie
 
-by-seq : (op : ℕ) (a b r : Six) → op ≡ 97 → r ≡ thenSix a b → r ≡ joinedSix op a b
-by-seq op a b r e is = rw (eq-eqb op 97 e) is
+by-seq : (op : ℕ) (a b r : Six) → op ≡ SEQ-CODE → r ≡ thenSix a b → r ≡ joinedSix op a b
+by-seq op a b r e is = rw (eq-eqb op SEQ-CODE e) is
 
-by-alt : (op : ℕ) (a b r : Six) → (op ≡ 97 → ⊥) → op ≡ 98 → r ≡ eitherSix a b → r ≡ joinedSix op a b
-by-alt op a b r d e is = rw (ne-eqb op 97 d, eq-eqb op 98 e) is
+by-alt : (op : ℕ) (a b r : Six) → (op ≡ SEQ-CODE → ⊥) → op ≡ ALT-CODE → r ≡ eitherSix a b → r ≡ joinedSix op a b
+by-alt op a b r d e is = rw (ne-eqb op SEQ-CODE d, eq-eqb op ALT-CODE e) is
 
-by-also : (op : ℕ) (a b r : Six) → (op ≡ 97 → ⊥) → (op ≡ 98 → ⊥) → r ≡ addedSix a b → r ≡ joinedSix op a b
-by-also op a b r d e is = rw (ne-eqb op 97 d, ne-eqb op 98 e) is
+by-also : (op : ℕ) (a b r : Six) → (op ≡ SEQ-CODE → ⊥) → (op ≡ ALT-CODE → ⊥) → r ≡ addedSix a b → r ≡ joinedSix op a b
+by-also op a b r d e is = rw (ne-eqb op SEQ-CODE d, ne-eqb op ALT-CODE e) is
 
 returns : tie.Need-returns
 returns c =

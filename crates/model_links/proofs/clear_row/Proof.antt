@@ -12,7 +12,7 @@ abbrev Inv-loop : tie.InvT-loop
 Inv-loop table₀ u c₀ table c = each (clearCell u) table c MODEL-ROW ≡ clearRow table₀ u
 
 abbrev μ-loop : tie.MeasureT-loop
-μ-loop table₀ u c₀ table c = 98 - c
+μ-loop table₀ u c₀ table c = MODEL-ROW - c
 
 loop-holds : tie.Need-loop-holds Inv-loop μ-loop
 loop-holds c = refl

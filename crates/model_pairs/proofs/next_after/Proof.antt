@@ -2,15 +2,16 @@
 use Prim.Native.Nat.{_≤_, _-_}
 use mathlib.Core.Path.{refl}
 use native.Mathlib.Omega.{arith}
+use Rattle.layout.specs.Sizes.{POSITIONS}
 use Rattle.model_pairs.specs.Seeks.{Copied, copied-one}
 use Rattle.model_pairs.proofs.next_after.Statement.{statement}
 use Rattle.model_pairs.proofs.next_after.Tie as tie
 
 abbrev Inv-loop : tie.InvT-loop
-Inv-loop table u next₀ q₀ next q = (q ≤ 97) × Copied table u next q
+Inv-loop table u next₀ q₀ next q = (q ≤ POSITIONS) × Copied table u next q
 
 abbrev μ-loop : tie.MeasureT-loop
-μ-loop table u next₀ q₀ next q = 97 - q
+μ-loop table u next₀ q₀ next q = POSITIONS - q
 
 loop-holds : tie.Need-loop-holds Inv-loop μ-loop
 loop-holds c = (omega arith, record { len = refl; same = λ q h. absurd (omega arith) })

@@ -7,6 +7,7 @@ use native.Mathlib.Omega.{arith}
 use borrow.Author.Needs.{needs}
 use borrow.Author.Tests.{not-true}
 use Rattle.rules.specs.Judge.{samePlace}
+use Rattle.rules.specs.Bytes.{GRPGTCNT}
 use Rattle.model_names.specs.Places.{placesOf}
 use Rattle.same_names.specs.Keys.{unshared}
 use Rattle.model_pairs.specs.Rows.{Tells}
@@ -15,7 +16,7 @@ use Rattle.model_pairs.proofs.partner.Statement.{statement}
 use Rattle.model_pairs.proofs.partner.Tie as tie
 
 abbrev Inv-loop : tie.InvT-loop
-Inv-loop s names table keys n code and p q₀ near q = ((F : ℕ → ℕ → Bool) → Tells table n code and F → Seeks s names F n p q) × (p < q) × (q ≤ n + 1) × (q ≤ n → samePlace s (placesOf names n) p q ≡ true) × (1 ≤ p) × (n ≤ 96)
+Inv-loop s names table keys n code and p q₀ near q = ((F : ℕ → ℕ → Bool) → Tells table n code and F → Seeks s names F n p q) × (p < q) × (q ≤ n + 1) × (q ≤ n → samePlace s (placesOf names n) p q ≡ true) × (1 ≤ p) × (n ≤ GRPGTCNT)
 
 abbrev μ-loop : tie.MeasureT-loop
 μ-loop s names table keys n code and p q₀ near q = n + 1 - q

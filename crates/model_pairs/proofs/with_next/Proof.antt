@@ -5,16 +5,17 @@ use native.Mathlib.Omega.{arith}
 use borrow.Author.Needs.{needs}
 use borrow.Author.Tests.{eq-eqb, ne-eqb}
 use lib.ListN.{getD}
+use Rattle.layout.specs.Sizes.{POSITIONS}
 use Rattle.model_pairs.specs.Rows.{isNext}
 use Rattle.model_pairs.specs.Seeks.{Added, added-none, added-one, added-skip}
 use Rattle.model_pairs.proofs.with_next.Statement.{statement}
 use Rattle.model_pairs.proofs.with_next.Tie as tie
 
 abbrev Inv-loop : tie.InvT-loop
-Inv-loop next more₀ q₀ more q = (q ≤ 97) × Added (λ (k : ℕ). isNext (getD next k 0)) more₀ more q
+Inv-loop next more₀ q₀ more q = (q ≤ POSITIONS) × Added (λ (k : ℕ). isNext (getD next k 0)) more₀ more q
 
 abbrev μ-loop : tie.MeasureT-loop
-μ-loop next more₀ q₀ more q = 97 - q
+μ-loop next more₀ q₀ more q = POSITIONS - q
 
 loop-holds : tie.Need-loop-holds Inv-loop μ-loop
 loop-holds c = (omega arith, added-none _ _ (search needs))

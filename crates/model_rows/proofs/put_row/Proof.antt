@@ -2,16 +2,18 @@
 use mathlib.Core.Path.{_≡_, refl}
 use Prim.Native.Nat.{ℕ, _-_, _≤_}
 use native.Mathlib.Omega.{arith}
+use Rattle.rules.specs.Bytes.{elementLimit}
+use Rattle.layout.specs.Sizes.{LAST-BITS}
 use Rattle.type_tables.specs.Tables.{rowAt}
 use Rattle.model_rows.specs.Rows.{BitsPut, bits-none, bits-more, row-put}
 use Rattle.model_rows.proofs.put_row.Statement.{statement}
 use Rattle.model_rows.proofs.put_row.Tie as tie
 
 abbrev Inv-loop : tie.InvT-loop
-Inv-loop rows₀ table u raise r j₀ rows j = (j ≤ 12) × ((e : ℕ) → e ≤ 64 → r ≡ rowAt e (u .0) → BitsPut table e (u .0) rows₀ rows j)
+Inv-loop rows₀ table u raise r j₀ rows j = (j ≤ LAST-BITS) × ((e : ℕ) → e ≤ elementLimit → r ≡ rowAt e (u .0) → BitsPut table e (u .0) rows₀ rows j)
 
 abbrev μ-loop : tie.MeasureT-loop
-μ-loop rows₀ table u raise r j₀ rows j = 12 - j
+μ-loop rows₀ table u raise r j₀ rows j = LAST-BITS - j
 
 row-requires : tie.Need-row-requires Inv-loop μ-loop
 row-requires c κs = omega arith
@@ -83,7 +85,7 @@ returns : tie.Need-returns Inv-loop μ-loop
 returns c =
     let looped = c .before .before .before .before .before in
     let first = looped .before .before in
-    let full : looped .loop .j ≡ 12 = omega arith in
+    let full : looped .loop .j ≡ LAST-BITS = omega arith in
     row-put _ _ _ _ (omega arith) (omega arith) _ _ _ _ _ _ (rw full at (looped .loop .inv .1 (first .args .e .0) (first .pre .0) (looped .before .row .ensures))) (omega arith) (omega arith) (c .before .before .cell .ensures .0) refl
 
 pub put-row-spec : {M : Type 1} → statement M

@@ -4,6 +4,7 @@ use lib.ListN.{set}
 use Prim.Native.Nat.{ℕ, _*_}
 use mathlib.Core.List.{List}
 use borrow.Author.Needs.{needs}
+use Rattle.layout.specs.Sizes.{MODEL-ROW}
 use Rattle.model_table.proofs.put_place.Statement.{statement}
 use Rattle.model_table.proofs.put_place.Tie as tie
 
@@ -25,7 +26,7 @@ cast-t10 c = search needs
 returns : tie.Need-returns
 returns c =
     let p = c .before .before .args .p in
-    (ap (λ (T : List ℕ). set (set T p 1) (p * 98) 1) (c .clear-row .ensures), refl)
+    (ap (λ (T : List ℕ). set (set T p 1) (p * MODEL-ROW) 1) (c .clear-row .ensures), refl)
 
 pub put-place-spec : {M : Type 1} → statement M
 put-place-spec =

@@ -5,7 +5,7 @@ use native.Mathlib.Omega.{arith}
 use lib.ListN.{length}
 use borrow.Author.Needs.{needs}
 use borrow.Author.Tests.{not-true, not-false}
-use Rattle.rules.specs.Bytes.{byteAt}
+use Rattle.rules.specs.Bytes.{byteAt, GRPC, GRPCNT}
 use Rattle.rules.specs.TypeFile.{tokenGroup, isTokenConnector}
 use Rattle.text.specs.Words.{test-in, byte-is-in, separatorsEnd-from, separatorsEnd-le}
 use Rattle.name_tokens.specs.Tokens.{partsOf}
@@ -15,7 +15,7 @@ use Rattle.name_tokens.proofs.group_at.Tie as tie
 
 abbrev Inv-loop : tie.InvT-loop
 Inv-loop long s at seen₀ n m₀ c₀ i₀ seen m c i =
-    (at < i) × (i ≤ length s) × (n ≤ m) × (m ≤ n + 32) × Goes long s (partsOf seen₀ n) (tokenGroup long s (partsOf seen₀ n) at) seen n m c i
+    (at < i) × (i ≤ length s) × (n ≤ m) × (m ≤ n + GRPCNT) × Goes long s (partsOf seen₀ n) (tokenGroup long s (partsOf seen₀ n) at) seen n m c i
 
 abbrev μ-loop : tie.MeasureT-loop
 μ-loop long s at seen₀ n m₀ c₀ i₀ seen m c i = length s - i
@@ -82,7 +82,7 @@ returns c =
 read : (c : tie.After-known-told Inv-loop μ-loop) →
     let z = at-loop (c .before .before .before) in
     let e = c .before .t .given .0 .0 in
-    (z .loop .i < e) × (e ≤ length (z .before .before .before .args .s .now)) × (z .loop .m - z .before .before .before .args .n < 32)
+    (z .loop .i < e) × (e ≤ length (z .before .before .before .args .s .now)) × (z .loop .m - z .before .before .before .args .n < GRPCNT)
 read c = token-in (c .before .before .before .token-at .ensures .1) (c .before .t .given .1)
 
 sub-put-token : tie.Need-sub-put-token Inv-loop μ-loop
@@ -105,7 +105,7 @@ add-t20 c =
     let b = c .before in
     let z = at-loop-2 b in
     let s = z .before .before .before .args .s .now in
-    omega (arith, byte-is-in s (b .before .separators-end2 .result) 41 (sym (b .byte .ensures) ∙ c .if1 .taken) (omega arith))
+    omega (arith, byte-is-in s (b .before .separators-end2 .result) GRPC (sym (b .byte .ensures) ∙ c .if1 .taken) (omega arith))
 
 returns-2 : tie.Need-returns-2 Inv-loop μ-loop
 returns-2 c =
@@ -123,7 +123,7 @@ returns-2 c =
           j (b .before .separators-end2 .ensures) _ (b .byte .ensures) _ _ refl (p .put-token .ensures) (c .if1 .taken),
       (
         omega (arith, z .loop .inv .0, r .0, separatorsEnd-from s (k .before .t .given .0 .0), b .before .separators-end2 .ensures),
-        omega (arith, byte-is-in s j 41 (sym (b .byte .ensures) ∙ c .if1 .taken) (omega arith)),
+        omega (arith, byte-is-in s j GRPC (sym (b .byte .ensures) ∙ c .if1 .taken) (omega arith)),
         omega (arith, z .loop .inv .2),
         omega (arith, r .2, z .loop .inv .2),
       ),

@@ -3,13 +3,14 @@ use Prim.Native.Nat.{_≤_}
 use mathlib.Core.Path.{sym, _∙_}
 use native.Mathlib.Omega.{arith}
 use borrow.Author.Needs.{needs}
+use Rattle.rules.specs.Bytes.{GRPGTCNT}
 use Rattle.row_search.specs.Rows.{RowSays}
 use Rattle.row_search.specs.Search.{Seeks, seeks-start, seeks-found, seeks-rising, seeks-next, seeks-none}
 use Rattle.row_search.proofs.largest.Statement.{statement}
 use Rattle.row_search.proofs.largest.Tie as tie
 
 abbrev Inv-loop : tie.InvT-loop
-Inv-loop rows places e u q₀ q = (q .0 ≤ 96) × Seeks (RowSays rows (e .0) (u .0)) places (e .0) (q₀ .0) (q .0)
+Inv-loop rows places e u q₀ q = (q .0 ≤ GRPGTCNT) × Seeks (RowSays rows (e .0) (u .0)) places (e .0) (q₀ .0) (q .0)
 
 abbrev μ-loop : tie.MeasureT-loop
 μ-loop rows places e u q₀ q = q .0

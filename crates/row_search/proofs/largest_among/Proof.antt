@@ -5,6 +5,7 @@ use mathlib.Core.Bool.{false}
 use mathlib.Core.Logic.{inl, inr, ⊎-elim}
 use native.Mathlib.Omega.{arith}
 use borrow.Author.Needs.{needs}
+use Rattle.rules.specs.Bytes.{GRPGTCNT}
 use Rattle.and_next.specs.Follows.{Follows}
 use Rattle.row_search.specs.Rows.{BothSay}
 use Rattle.row_search.specs.Search.{Seeks, seeks-start, seeks-found, seeks-rising, seeks-next, seeks-none, raised-low, raised-high, raised-from}
@@ -12,7 +13,7 @@ use Rattle.row_search.proofs.largest_among.Statement.{statement}
 use Rattle.row_search.proofs.largest_among.Tie as tie
 
 abbrev Inv-loop : tie.InvT-loop
-Inv-loop rows places members begun level e u p q₀ q = (q .0 ≤ 96) × Seeks (BothSay rows members begun level (e .0) (u .0)) places (e .0) (q₀ .0) (q .0)
+Inv-loop rows places members begun level e u p q₀ q = (q .0 ≤ GRPGTCNT) × Seeks (BothSay rows members begun level (e .0) (u .0)) places (e .0) (q₀ .0) (q .0)
 
 abbrev μ-loop : tie.MeasureT-loop
 μ-loop rows places members begun level e u p q₀ q = q .0

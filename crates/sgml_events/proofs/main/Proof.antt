@@ -2,6 +2,7 @@
 -- buffer, and reading ended where the file did or the buffer was full.
 use native.Mathlib.Omega.{arith}
 use borrow.Author.Needs.{needs}
+use Rattle.rules.specs.Bytes.{documentLimit, typeLimit}
 use Rattle.file_reader.specs.Loading.{loaded-in, loaded-whole}
 use Rattle.sgml_events.specs.Files.{whole-of}
 use Rattle.sgml_events.proofs.main.Statement.{statement}
@@ -80,8 +81,8 @@ print-requires c κs =
     let a = at-a (b .before .before .before) in
     let type = a .before .before .before .first-bytes in
     let document = b .before .before .before .first-bytes2 in (
-      whole-of 32768 (type .last .1 .0) (loaded-in (type .last .1 .0) (a .a .given .1) (type .ensures)) (loaded-whole (type .last .1 .0) (a .a .given .1) (type .ensures)) (omega (arith, a .before .before .s2 .given)),
-      whole-of 65535 (document .last .1 .0) (loaded-in (document .last .1 .0) (b .b .given .1) (document .ensures)) (loaded-whole (document .last .1 .0) (b .b .given .1) (document .ensures)) (omega (arith, b .before .before .d2 .given)),
+      whole-of typeLimit (type .last .1 .0) (loaded-in (type .last .1 .0) (a .a .given .1) (type .ensures)) (loaded-whole (type .last .1 .0) (a .a .given .1) (type .ensures)) (omega (arith, a .before .before .s2 .given)),
+      whole-of documentLimit (document .last .1 .0) (loaded-in (document .last .1 .0) (b .b .given .1) (document .ensures)) (loaded-whole (document .last .1 .0) (b .b .given .1) (document .ensures)) (omega (arith, b .before .before .d2 .given)),
     )
 
 returns-3 : tie.Need-returns-3

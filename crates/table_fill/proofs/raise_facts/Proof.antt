@@ -4,16 +4,17 @@ use mathlib.Core.Path.{_≡_, refl}
 use mathlib.Core.Bool.{true}
 use native.Mathlib.Omega.{arith}
 use borrow.Author.Needs.{needs}
-use Rattle.layout.specs.Sizes.{FACT}
+use Rattle.rules.specs.Bytes.{elementLimit}
+use Rattle.layout.specs.Sizes.{FACT, CONTENTS}
 use Rattle.table_fill.specs.Filled.{LargestPut, raise-none, raise-more}
 use Rattle.table_fill.proofs.raise_facts.Statement.{statement}
 use Rattle.table_fill.proofs.raise_facts.Tie as tie
 
 abbrev Inv-loop : tie.InvT-loop
-Inv-loop facts₀ f x₀ facts x = (x ≤ 65) × ((e : ℕ) → e ≤ 64 → f ≡ e * FACT → LargestPut true e facts₀ facts x)
+Inv-loop facts₀ f x₀ facts x = (x ≤ CONTENTS) × ((e : ℕ) → e ≤ elementLimit → f ≡ e * FACT → LargestPut true e facts₀ facts x)
 
 abbrev μ-loop : tie.MeasureT-loop
-μ-loop facts₀ f x₀ facts x = 65 - x
+μ-loop facts₀ f x₀ facts x = CONTENTS - x
 
 mul-f : tie.Need-mul-f Inv-loop μ-loop
 mul-f c = omega arith
@@ -48,7 +49,7 @@ returns : tie.Need-returns Inv-loop μ-loop
 returns c =
     let i = c .before .loop in
     let x = c .before .before .before in
-    let full : i .x ≡ 65 = omega arith in
+    let full : i .x ≡ CONTENTS = omega arith in
     rw full at (i .inv .1 (x .args .e .0) (x .pre .0) refl)
 
 pub raise-facts-spec : {M : Type 1} → statement M

@@ -4,11 +4,12 @@ use mathlib.Core.Path.{_≡_, refl}
 use mathlib.Core.Bool.{true}
 use native.Mathlib.Omega.{arith}
 use borrow.Author.Needs.{needs}
+use Rattle.layout.specs.Sizes.{RAISE}
 use Rattle.type_tables.specs.Tables.{raisedPlace}
 use Rattle.table_fill.proofs.raised.Statement.{statement}
 use Rattle.table_fill.proofs.raised.Tie as tie
 
-raises : (p : ℕ) → (p ≡ 0 → ⊥) → p + 128 ≡ raisedPlace true p
+raises : (p : ℕ) → (p ≡ 0 → ⊥) → p + RAISE ≡ raisedPlace true p
 raises zero z = absurd (z refl)
 raises (suc p) z = omega arith
 

@@ -6,7 +6,7 @@ use mathlib.Core.List.{[]}
 use native.Mathlib.Omega.{arith}
 use lib.ListN.{length}
 use borrow.Author.Needs.{needs}
-use Rattle.rules.specs.Bytes.{byteAt, letter}
+use Rattle.rules.specs.Bytes.{byteAt, letter, MDC}
 use Rattle.rules.specs.Reading.{got}
 use Rattle.rules.specs.Document.{specification}
 use Rattle.text.specs.Words.{byte-is-in, tested, separatorsEnd-from}
@@ -132,7 +132,7 @@ add-t21 : tie.Need-add-t21 Inv-loop μ-loop
 add-t21 c =
     let l = at-loop-2 (c .before) in
     let a = l .before .before .args in
-    omega (arith, byte-is-in (a .s .now) (l .loop .j) 62 (sym (c .before .byte2 .ensures) ∙ c .if2 .taken) (omega arith))
+    omega (arith, byte-is-in (a .s .now) (l .loop .j) MDC (sym (c .before .byte2 .ensures) ∙ c .if2 .taken) (omega arith))
 
 returns-2 : tie.Need-returns-2 Inv-loop μ-loop
 returns-2 c =

@@ -4,6 +4,7 @@ use mathlib.Core.List.{[]}
 use native.Mathlib.Omega.{arith}
 use lib.ListN.{length}
 use borrow.Author.Needs.{needs}
+use Rattle.rules.specs.Bytes.{MDC}
 use Rattle.text.specs.Words.{byte-is-in, nameEnd-from, nameEnd-le, separatorsEnd-from, separatorsEnd-le}
 use Rattle.tags.specs.Attributes.{start-long, start-on, start-ends, read-none}
 use Rattle.tags.proofs.start_tag_at.Statement.{statement}
@@ -37,7 +38,7 @@ byte-requires c κs = search needs
 add-t12 : tie.Need-add-t12
 add-t12 c =
     let a = at-start (c .before .before .before .before) .args in
-    omega (arith, byte-is-in (a .s .now) (c .before .before .separators-end .result) 62 (sym (c .before .byte .ensures) ∙ c .if2 .taken) (omega arith))
+    omega (arith, byte-is-in (a .s .now) (c .before .before .separators-end .result) MDC (sym (c .before .byte .ensures) ∙ c .if2 .taken) (omega arith))
 
 returns-2 : tie.Need-returns-2
 returns-2 c =

@@ -2,6 +2,7 @@
 use mathlib.Core.Path.{sym, _∙_}
 use native.Mathlib.Omega.{arith}
 use borrow.Author.Needs.{needs}
+use Rattle.rules.specs.Bytes.{MDC}
 use Rattle.text.specs.Words.{byte-is-in, nameEnd-from, nameEnd-le}
 use Rattle.tags.specs.Tags.{tag-long, tag-read, tag-open}
 use Rattle.tags.proofs.tag_at.Statement.{statement}
@@ -40,7 +41,7 @@ sub-t11 c =
 add-t12 : tie.Need-add-t12
 add-t12 c =
     let a = at-start (c .before .before .before .before) .args in
-    omega (arith, byte-is-in (a .s .now) (c .before .before .separators-end .result) 62 (sym (c .before .byte .ensures) ∙ c .if2 .taken) (omega arith))
+    omega (arith, byte-is-in (a .s .now) (c .before .before .separators-end .result) MDC (sym (c .before .byte .ensures) ∙ c .if2 .taken) (omega arith))
 
 returns-2 : tie.Need-returns-2
 returns-2 c =

@@ -2,6 +2,7 @@
 use Prim.Native.Nat.{_+_}
 use mathlib.Core.Path.{sym, _∙_}
 use native.Mathlib.Omega.{arith}
+use Rattle.rules.specs.Bytes.{EXCLAMATION}
 use Rattle.text.specs.Words.{byte-is-in}
 use Rattle.type_file.specs.Declarations.{step-refused, declaration-markup, declaration-instruction, declaration-tag, declaration-reference, declaration-other}
 use Rattle.type_file.proofs.declaration_at.Statement.{statement}
@@ -24,7 +25,7 @@ markup-at-requires : tie.Need-markup-at-requires
 markup-at-requires c κs =
     let start = at-start (c .before .before .before .before .before) in
     let a = start .args in
-    let in-text = byte-is-in (a .s .now) (a .i + 1) 33 (sym (c .before .before .before .before .before .byte2 .ensures) ∙ c .before .before .before .before .if2 .taken) (omega arith) in
+    let in-text = byte-is-in (a .s .now) (a .i + 1) EXCLAMATION (sym (c .before .before .before .before .before .byte2 .ensures) ∙ c .before .before .before .before .if2 .taken) (omega arith) in
     ((omega arith, start .pre .0 .1), start .pre .1)
 
 returns : tie.Need-returns

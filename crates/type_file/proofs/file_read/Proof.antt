@@ -4,13 +4,14 @@ use native.Mathlib.Omega.{arith}
 use lib.ListN.{length}
 use borrow.Author.Needs.{needs}
 use Rattle.rules.specs.TypeFile.{declaration}
+use Rattle.rules.specs.Bytes.{typeLimit}
 use Rattle.type_file.specs.File.{MeetsDeclarations}
 use Rattle.type_file.specs.Turns.{ReadsOn, reads-start, reads-none, reads-end, reads-refused, reads-turn}
 use Rattle.type_file.proofs.file_read.Statement.{statement}
 use Rattle.type_file.proofs.file_read.Tie as tie
 
 abbrev Inv-loop : tie.InvT-loop
-Inv-loop long s elements₀ heads₀ names₀ table₀ p₀ elements heads names table p = (length s ≤ 32768) × ReadsOn long s elements heads p
+Inv-loop long s elements₀ heads₀ names₀ table₀ p₀ elements heads names table p = (length s ≤ typeLimit) × ReadsOn long s elements heads p
 
 abbrev μ-loop : tie.MeasureT-loop
 μ-loop long s elements₀ heads₀ names₀ table₀ p₀ elements heads names table p = length s - p .at

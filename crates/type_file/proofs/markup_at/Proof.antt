@@ -5,6 +5,7 @@ use mathlib.Core.Bool.{true}
 use native.Mathlib.Omega.{arith}
 use borrow.Author.Needs.{needs}
 use Rattle.rules.specs.TypeFile.{atDashes}
+use Rattle.rules.specs.Bytes.{MDC}
 use Rattle.text.specs.Words.{byte-is-in}
 use Rattle.type_file.specs.Declarations.{step-refused, step-onward, markup-none, markup-dash, markup-comment, markup-section, markup-keyword, markup-other, comment-opens, comment-refused, comment-onward}
 use Rattle.type_file.proofs.markup_at.Statement.{statement}
@@ -27,7 +28,7 @@ returns c es ls k h =
     let a = c .before .before .before .before .args in
     let b = c .before .before .byte .ensures in
     let q = c .before .if1 .taken in
-    let in-text = byte-is-in (a .s .now) (a .i + 2) 62 (sym b ∙ q) (omega arith) in
+    let in-text = byte-is-in (a .s .now) (a .i + 2) MDC (sym b ∙ q) (omega arith) in
     step-onward (a .long) (a .s .now) (a .elements .now) (a .heads .now) (a .i) (a .i + 3) (a .p) es ls _ _ k h (markup-none (a .long) (a .s .now) (a .i) _ es ls b q) (c .onward .ensures) (omega arith) (omega arith)
 
 add-byte-2 : tie.Need-add-byte-2

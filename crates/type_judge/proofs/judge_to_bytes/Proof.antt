@@ -4,6 +4,8 @@ use mathlib.Core.Logic.{⊎-elim}
 use native.Mathlib.Omega.{arith}
 use lib.ListN.{length}
 use Rattle.rules.specs.Lent.{bytes, room}
+use Rattle.rules.specs.Bytes.{elementLimit}
+use Rattle.rules.specs.Judge.{recordWidth}
 use Rattle.inputs.specs.Checks.{settingsOf}
 use Rattle.type_judge.specs.Deciding.{accepted-fits, judged-accepts, judged-refuses}
 use borrow.Author.Needs.{needs}
@@ -30,7 +32,7 @@ at-v c = c .before .before .before .before
 fits : (c : tie.After-v) →
     let b = at-start (at-decide c) .args .buffer .now in
     let n = c .v .given .0 .0 in
-    (n ≤ 64) × (6 * n ≤ room bytes b) × (6 * n ≤ length (c .before .before .decide .last .1 .1 .1 .0))
+    (n ≤ elementLimit) × (recordWidth * n ≤ room bytes b) × (recordWidth * n ≤ length (c .before .before .decide .last .1 .1 .1 .0))
 fits c =
     let a = at-start (at-decide c) .args in
     let d = c .before .before .decide in

@@ -4,6 +4,7 @@ use mathlib.Core.Path.{_∙_, ap}
 use native.Mathlib.Omega.{arith}
 use lib.ListN.{getD}
 use borrow.Author.Needs.{needs}
+use Rattle.layout.specs.Sizes.{REQUIRED}
 use Rattle.type_tables.proofs.kept.Statement.{statement}
 use Rattle.type_tables.proofs.kept.Tie as tie
 
@@ -20,7 +21,7 @@ wide-requires : tie.Need-wide-requires
 wide-requires c κs = search needs
 
 returns : tie.Need-returns
-returns c = let a = c .before .before .before .args in (c .wide .ensures .0 ∙ ap (λ (i : ℕ). getD (a .rows .now) (i + 13) 0) (c .before .before .row .ensures), omega (arith, c .wide .ensures .1))
+returns c = let a = c .before .before .before .args in (c .wide .ensures .0 ∙ ap (λ (i : ℕ). getD (a .rows .now) (i + REQUIRED) 0) (c .before .before .row .ensures), omega (arith, c .wide .ensures .1))
 
 pub kept-spec : {M : Type 1} → statement M
 kept-spec = tie.close (tie.spec row-requires add-wide element-copy-out-wide wide-requires returns)

@@ -4,15 +4,17 @@ use mathlib.Core.Path.{_≡_}
 use native.Mathlib.Omega.{arith}
 use borrow.Author.Needs.{needs}
 use borrow.Author.Tests.{eqb-true, eqb-false, not-true, not-false}
+use Rattle.rules.specs.Bytes.{elementLimit}
+use Rattle.layout.specs.Sizes.{CONTENTS}
 use Rattle.ways.specs.Chains.{Looks, Carries, looks-start, looks-found, looks-next, looks-none, looks-over}
 use Rattle.ways.proofs.chain.Statement.{statement}
 use Rattle.ways.proofs.chain.Tie as tie
 
 abbrev Inv-loop : tie.InvT-loop
-Inv-loop rows places facts x c₀ n₀ c n = (1 ≤ n) × (c .0 ≤ 64) × Carries rows places facts (x .0) (c₀ .0) (c .0) n
+Inv-loop rows places facts x c₀ n₀ c n = (1 ≤ n) × (c .0 ≤ elementLimit) × Carries rows places facts (x .0) (c₀ .0) (c .0) n
 
 abbrev μ-loop : tie.MeasureT-loop
-μ-loop rows places facts x c₀ n₀ c n = 65 - n
+μ-loop rows places facts x c₀ n₀ c n = CONTENTS - n
 
 -- The point that the needs go back to.
 abbrev at-loop-turn : (c : tie.After-fitting-first Inv-loop μ-loop) → tie.In-loop Inv-loop μ-loop

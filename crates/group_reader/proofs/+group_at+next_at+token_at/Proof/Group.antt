@@ -8,6 +8,7 @@ use lib.Dec.{leb}
 use borrow.Author.Needs.{needs}
 use borrow.Author.Tests.{leb-false}
 use Rattle.rules.specs.TypeFile.{Tokens, group, token, members}
+use Rattle.rules.specs.Bytes.{GRPCNT, GRPGTCNT}
 use Rattle.model_names.specs.Places.{placesOf}
 use Rattle.text.specs.Words.{separatorsEnd-le}
 use Rattle.connectors.specs.Kept.{begun, Keeps}
@@ -21,7 +22,7 @@ abbrev pub Inv-loop : lts.InvT-loop
 Inv-loop long s at levels places tokens code names₀ table₀ i m₀ k₀ c₀ names table m k c = So long (group long (levels - 1) s) s (places + 1) names₀ table₀ m₀ names table m k c
 
 abbrev pub μ-loop : lts.MeasureT-loop
-μ-loop long s at levels places tokens code names₀ table₀ i m₀ k₀ c₀ names table m k c = 33 - k
+μ-loop long s at levels places tokens code names₀ table₀ i m₀ k₀ c₀ names table m k c = (GRPCNT + 1) - k
 
 module _ (t : ℕ) where
   -- The points that the needs go back to.
@@ -53,7 +54,7 @@ module _ (t : ℕ) where
         omega (arith, a .pre .0),
         (
           (omega (arith, separatorsEnd-le (a .args .s .now) (a .args .at + 1) (omega (arith, a .pre .1)), i .separators-end .ensures), a .pre .1 .0 .1),
-          (a .pre .1 .1 .0, leb-false 96 _),
+          (a .pre .1 .1 .0, leb-false GRPGTCNT _),
         ),
       )
 
@@ -68,7 +69,7 @@ module _ (t : ℕ) where
       let r = c .before .before in
       let i = r .before .before .before in
       let x = i .before .before .before .args in
-      refused-then _ _ _ _ (r .token-at .result) (token (x .long) (group (x .long) (x .levels - 1) (x .s .now)) (x .s .now) (i .separators-end .result) (leb 96 (x .tokens)) (placesOf (x .names .now) (x .places)) (x .tokens)) (r .token-at .ensures) _ _ _ _ (c .enum-told .given .1)
+      refused-then _ _ _ _ (r .token-at .result) (token (x .long) (group (x .long) (x .levels - 1) (x .s .now)) (x .s .now) (i .separators-end .result) (leb GRPGTCNT (x .tokens)) (placesOf (x .names .now) (x .places)) (x .tokens)) (r .token-at .ensures) _ _ _ _ (c .enum-told .given .1)
       (group-some (x .long) (x .levels) (x .s .now) (x .at) (i .separators-end .result) _ (x .tokens) (i .before .if1 .left) (i .separators-end .ensures))
 
   pub loop-holds : lts.Need-loop-holds (group-at-calls t) (group-at-at t) group-at.Post Inv-loop μ-loop
@@ -81,7 +82,7 @@ module _ (t : ℕ) where
   -- the first token, as it was read
   first-read : (c : lts.At-loop (group-at-calls t) (group-at-at t) group-at.Post Inv-loop μ-loop)
       → (u : Tokens) × Keeps (length (start c .args .s .now)) (begun (start c .args .places + 1) (start c .args .table .now) (start c .args .code) (4 * start c .args .tokens + 2 + 1)) 1 0 (c .before .before .before .before .token-at .last .1 .1 .1 .1 .1 .1 .1 .1 .0) (c .before .before .before .before .token-at .last .1 .1 .1 .1 .1 .1 .1 .1 .1 .0) (c .before .before .r .given .0 .0) u
-      × (group (start c .args .long) (start c .args .levels) (start c .args .s .now) (start c .args .at) (placesOf (start c .args .names .now) (start c .args .places)) (start c .args .tokens) ≡ members (start c .args .long) (group (start c .args .long) (start c .args .levels - 1) (start c .args .s .now)) (start c .args .s .now) 32 1 0 u)
+      × (group (start c .args .long) (start c .args .levels) (start c .args .s .now) (start c .args .at) (placesOf (start c .args .names .now) (start c .args .places)) (start c .args .tokens) ≡ members (start c .args .long) (group (start c .args .long) (start c .args .levels - 1) (start c .args .s .now)) (start c .args .s .now) GRPCNT 1 0 u)
   first-read c =
       let r = c .before .before .before .before in
       let i = r .before .before .before in

@@ -9,6 +9,7 @@ use lib.Dec.{leb}
 use borrow.Author.Needs.{needs}
 use borrow.Author.Tests.{le-leb, lt-leb, not-true, not-false}
 use Rattle.rules.specs.TypeFile.{group, token}
+use Rattle.rules.specs.Bytes.{GRPCNT, GRPGTCNT, typeLimit}
 use Rattle.model_names.specs.Places.{placesOf}
 use Rattle.text.specs.Words.{separatorsEnd-le, or-taken, or-left}
 use Rattle.content_tokens.specs.Readings.{read-in}
@@ -26,19 +27,19 @@ module _ (t : ℕ) where
   at-else1 c = c .before .before .before .before
 
   -- the separators end in the input
-  here : (c : lts.After-separators-end (next-at-calls t) (next-at-at t) next-at.Post) → (c .separators-end .result ≤ length (c .before .before .args .s .now)) × (length (c .before .before .args .s .now) ≤ 32768)
+  here : (c : lts.After-separators-end (next-at-calls t) (next-at-at t) next-at.Post) → (c .separators-end .result ≤ length (c .before .before .args .s .now)) × (length (c .before .before .args .s .now) ≤ typeLimit)
   here c =
       let x = c .before .before .args in
       omega (arith, c .before .before .pre .1, separatorsEnd-le (x .s .now) (x .m .at) (c .before .before .pre .1 .0 .0), c .separators-end .ensures)
 
   -- and so does the connector
-  past : (c : lts.Else3 (next-at-calls t) (next-at-at t) next-at.Post) → (c .before .before .before .before .before .separators-end .result < length (c .before .before .before .before .before .before .before .args .s .now)) × (length (c .before .before .before .before .before .before .before .args .s .now) ≤ 32768)
+  past : (c : lts.Else3 (next-at-calls t) (next-at-at t) next-at.Post) → (c .before .before .before .before .before .separators-end .result < length (c .before .before .before .before .before .before .before .args .s .now)) × (length (c .before .before .before .before .before .before .before .args .s .now) ≤ typeLimit)
   past c =
       let x = c .before .before .before .before .before .before .before .args in
       (connector-in (x .s .now) (c .before .before .before .before .before .separators-end .result) (c .before .before .before .before .byte .result) (x .c) (c .before .is-connector .result) (c .before .before .before .before .byte .ensures) (c .before .is-connector .ensures) (not-false _ (c .if3 .left)), here (c .before .before .before .before .before) .1)
 
   -- what the flag says of the room for one more token
-  room : (c : lts.Joined4 (next-at-calls t) (next-at-at t) next-at.Post) → c .if4 .full ≡ (leb 32 (c .before .before .before .before .before .before .before .before .before .args .k) || leb 96 (c .before .before .before .before .before .before .before .before .before .args .m .tokens))
+  room : (c : lts.Joined4 (next-at-calls t) (next-at-at t) next-at.Post) → c .if4 .full ≡ (leb GRPCNT (c .before .before .before .before .before .before .before .before .before .args .k) || leb GRPGTCNT (c .before .before .before .before .before .before .before .before .before .args .m .tokens))
   room c = ⊎-elim (λ w. or-taken _ _ _ (le-leb _ _ (w .0 .taken)) (w .1)) (λ w. or-left _ _ _ (lt-leb _ _ (w .0 .left)) (w .1)) (c .if4 .came)
 
   pub separators-end-requires : lts.Need-separators-end-requires (next-at-calls t) (next-at-at t) next-at.Post
@@ -84,7 +85,7 @@ module _ (t : ℕ) where
         omega (arith, c .before .before .before .before .before .before .before .before .before .before .before .pre .0),
         (
           (omega (arith, separatorsEnd-le (c .before .before .before .before .before .before .before .before .before .before .before .args .s .now) (p + 1) (omega (arith, past (c .before .before .before .before))), c .before .before .before .separators-end2 .ensures), c .before .before .before .before .before .before .before .before .before .before .before .pre .1 .0 .1),
-          (c .before .before .before .before .before .before .before .before .before .before .before .pre .1 .1 .0, or-other (leb 32 (c .before .before .before .before .before .before .before .before .before .before .before .args .k)) _ _ (room (c .before .before))),
+          (c .before .before .before .before .before .before .before .before .before .before .before .pre .1 .1 .0, or-other (leb GRPCNT (c .before .before .before .before .before .before .before .before .before .before .before .args .k)) _ _ (room (c .before .before))),
         ),
       )
 

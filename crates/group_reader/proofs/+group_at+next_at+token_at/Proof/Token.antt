@@ -6,6 +6,7 @@ use native.Mathlib.Omega.{arith}
 use borrow.Author.Needs.{needs}
 use borrow.Author.Tests.{eq-eqb, ne-eqb}
 use Rattle.rules.specs.TypeFile.{group, occurrence}
+use Rattle.rules.specs.Bytes.{GRPO, RNI}
 use Rattle.model_names.specs.Places.{placesOf}
 use Rattle.text.specs.Words.{byte-is-in}
 use Rattle.connectors.specs.Grown.{keeps-less}
@@ -37,7 +38,7 @@ module _ (t : ℕ) where
       let d = c .before .before in
       let l = d .before .before in
       let a = l .before .before .before in
-      let i = byte-is-in (a .args .s .now) (a .args .at) 35 (sym (l .before .byte .ensures) ∙ d .if2 .taken) (omega arith) in
+      let i = byte-is-in (a .args .s .now) (a .args .at) RNI (sym (l .before .byte .ensures) ∙ d .if2 .taken) (omega arith) in
       ((i, a .pre .1 .0 .1), a .pre .1 .1)
 
   pub returns-2 : lts.Need-returns-2 (token-at-calls t) (token-at-at t) token-at.Post
@@ -71,7 +72,7 @@ module _ (t : ℕ) where
       let g = f .before in
       let l = g .before .before .before in
       let a = l .before .before .before in
-      let i = byte-is-in (a .args .s .now) (a .args .at) 40 (sym (l .before .byte .ensures) ∙ g .if3 .taken) (omega arith) in
+      let i = byte-is-in (a .args .s .now) (a .args .at) GRPO (sym (l .before .byte .ensures) ∙ g .if3 .taken) (omega arith) in
       omega (arith, a .pre, a .pre .1 .1 .1 (f .if4 .left))
 
   pub enum-known-r : lts.Need-enum-known-r (token-at-calls t) (token-at-at t) token-at.Post
