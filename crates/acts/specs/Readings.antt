@@ -21,7 +21,7 @@ use Rattle.rules.specs.Records.{Line, newLine, lineAfter, recordsSettled}
 use Rattle.rules.specs.Reader.{Reached, tagged, settlePiece, pieceUnder, piecesWithin, document}
 use Rattle.rules.specs.Acts.{Declared, starts, empties, infers, data-byte, infers-end, ends, Acts, still, next, Passes, begins, goes, Few}
 use Rattle.rules_laws.specs.Holds.{stops, reads, Gives, each, so, on, either, got-so}
-use Rattle.model_sets.specs.Bits.{and-left, and-right}
+use Rattle.basic_laws.specs.Truth.{and-left, and-right}
 use Rattle.document_laws.specs.Chain.{numberFrom-range, Leads, chain-leads}
 use Rattle.document_laws.specs.Moves.{state, withDatum}
 use Rattle.acts.specs.Sequences.{acts-then, acts-last}

@@ -8,7 +8,7 @@ use lib.Dec.{ltb}
 use borrow.Author.Tests.{ltb-true, ltb-false}
 use Rattle.rules.specs.Walk.{Group}
 use Rattle.layout.specs.Sizes.{AND-GROUPS, ENDING}
-use Rattle.model_sets.specs.Bits.{and-left, and-right, or-left, or-right, or-cases, bool-cases}
+use Rattle.basic_laws.specs.Truth.{and-left, and-right, or-left, or-right, or-cases, bool-cases}
 use Rattle.model_sets.specs.Sets.{hasM, lastM}
 use Rattle.and_laws.specs.Rest.{allM}
 use Rattle.and_laws.specs.Rows.{fine}

@@ -10,7 +10,7 @@ use lib.Dec.{eqb, ltb}
 use borrow.Author.Tests.{eqb-true, eqb-false, lt-ltb, ltb-true}
 use Rattle.rules.specs.Bytes.{GRPGTCNT}
 use Rattle.layout.specs.Sizes.{ENDING}
-use Rattle.model_sets.specs.Bits.{and-left, and-right, bool-cases}
+use Rattle.basic_laws.specs.Truth.{and-left, and-right, bool-cases}
 use Rattle.model_sets.specs.Sets.{hasM}
 use Rattle.and_laws.specs.Req.{restReq}
 use Rattle.and_laws.specs.Ranked.{Level, Rising}

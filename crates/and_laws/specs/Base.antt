@@ -6,7 +6,7 @@ use mathlib.Core.Logic.{_⊎_, inl, inr}
 use mathlib.Core.List.{List, [], _∷_, _++_, append-assoc, append-nil, nil≢cons, cons≢nil, head-eq-of-cons-eq, tail-eq-of-cons-eq}
 use lib.Dec.{eqb}
 use borrow.Author.Tests.{eqb-true, eq-eqb}
-use Rattle.model_sets.specs.Bits.{or-left, or-right, or-cases}
+use Rattle.basic_laws.specs.Truth.{or-left, or-right, or-cases}
 use Rattle.rules.specs.Walk.{joined}
 
 abbrev pub mem : List ℕ → ℕ → Bool

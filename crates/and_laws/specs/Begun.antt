@@ -5,7 +5,7 @@ use mathlib.Core.Bool.{Bool, true, _&&_}
 use mathlib.Core.Logic.{_⊎_, inl, inr, _↔_}
 use mathlib.Core.List.{List, [], _∷_, _++_, cons≢nil}
 use native.Mathlib.Omega.{arith}
-use Rattle.model_sets.specs.Bits.{bool-cases}
+use Rattle.basic_laws.specs.Truth.{bool-cases}
 use Rattle.model_sets.specs.Sets.{size, Numbered, has, follow, nextIn, completeIn, requiredIn}
 use Rattle.rules.specs.Walk.{Group, Begins, lastFrom, lastOr0, MayComeNext, Complete, Required}
 use Rattle.and_laws.specs.Base.{mem, mem-left, mem-right, Ends, ends-mem}

@@ -5,7 +5,7 @@ use mathlib.Core.Bool.{Bool, true, false, _&&_, _||_}
 use mathlib.Core.Logic.{_⊎_, inl, inr}
 use mathlib.Core.List.{List, [], _∷_, _++_}
 use native.Mathlib.Omega.{arith}
-use Rattle.model_sets.specs.Bits.{and-left, and-right, and-both}
+use Rattle.basic_laws.specs.Truth.{and-left, and-right, and-both}
 use Rattle.model_sets.specs.Sets.{has, size, Numbered, nextIn}
 use Rattle.model_sets.specs.Search.{searchPair, NoPair, IsFirst, searchPair-none, searchPair-some}
 use Rattle.rules.specs.Walk.{Group, Begins, MayComeNext}

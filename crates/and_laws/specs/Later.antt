@@ -4,7 +4,7 @@ use mathlib.Core.Path.{_≡_, refl, sym, _∙_, ap, subst}
 use mathlib.Core.Bool.{Bool, true, false, false≢true}
 use mathlib.Core.Logic.{_⊎_, inl, inr}
 use mathlib.Core.List.{List, [], _∷_, _++_, append-assoc, append-nil, nil≢cons, cons≢nil}
-use Rattle.model_sets.specs.Bits.{or-left, or-right, not-true, not-both, bool-cases}
+use Rattle.basic_laws.specs.Truth.{or-left, or-right, not-true, not-both, bool-cases}
 use Rattle.model_sets.specs.Sets.{has, hasM}
 use Rattle.rules.specs.Walk.{Group, and, Members, one, also, joined, Walk}
 use Rattle.and_laws.specs.Base.{mem, mem-left, mem-right, mem-cases, mem-head, In, Apart, joined-append}

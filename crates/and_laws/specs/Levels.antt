@@ -3,7 +3,7 @@ use Prim.Native.Nat.{ℕ}
 use mathlib.Core.Path.{_≡_, refl, sym, _∙_, ap}
 use mathlib.Core.Bool.{Bool, true, false, _&&_, _||_, not, cond, false≢true}
 use mathlib.Core.List.{List, [], _∷_, _++_, append-nil}
-use Rattle.model_sets.specs.Bits.{or-left, or-right, or-cases, and-left, and-right, and-both, not-true, not-both, bool-cases}
+use Rattle.basic_laws.specs.Truth.{or-left, or-right, or-cases, and-left, and-right, and-both, not-true, not-both, bool-cases}
 use Rattle.model_sets.specs.Sets.{has, hasM, nullable, first, last, lastM, follow, followM}
 use Rattle.rules.specs.Walk.{Group, place, seq, alt, opt, plus, and, Members, one, also}
 use Rattle.and_laws.specs.Sets.{meets, Good, GoodM}

@@ -5,7 +5,7 @@ use mathlib.Core.Bool.{true, false}
 use mathlib.Core.Logic.{_⊎_, inl, inr, _↔_}
 use mathlib.Core.List.{List, List·Memᴰ}
 use borrow.Author.Tests.{eqb-true, eq-eqb}
-use Rattle.model_sets.specs.Bits.{or-left, or-right, or-cases, not-true, not-both}
+use Rattle.basic_laws.specs.Truth.{or-left, or-right, or-cases, not-true, not-both}
 use Rattle.model_sets.specs.Sets.{has, hasM}
 use Rattle.rules.specs.Walk.{Group, place, seq, alt, opt, plus, and, Members, one, also, MayComeNext, HasPlace, SomeHasPlace, IsMember, IsOther, IsOtherOf, MayBegin, Required}
 use Rattle.and_laws.specs.Base.{mem}

@@ -6,7 +6,7 @@ use mathlib.Core.Logic.{_⊎_, inl, inr, _↔_}
 use mathlib.Core.List.{List, [], _∷_, _++_}
 use lib.Dec.{eqb}
 use borrow.Author.Tests.{eqb-true, eq-eqb}
-use Rattle.model_sets.specs.Bits.{or-left, or-right, or-cases, and-left, and-right, and-both}
+use Rattle.basic_laws.specs.Truth.{or-left, or-right, or-cases, and-left, and-right, and-both}
 use Rattle.model_sets.specs.Sets.{has, first, must}
 use Rattle.rules.specs.Walk.{Group, Walk, Begins, MayComeNext}
 use Rattle.and_laws.specs.Base.{mem, mem-left, mem-right, mem-cases, Ends, ends-mem}

@@ -4,7 +4,7 @@ use mathlib.Core.Path.{_≡_, refl, sym, _∙_, ap, subst}
 use mathlib.Core.Bool.{Bool, true, false, _&&_, _||_, false≢true, cond}
 use mathlib.Core.Logic.{_⊎_, inl, inr}
 use mathlib.Core.List.{List, [], _∷_, _++_, append-assoc, append-nil, nil≢cons, cons≢nil, head-eq-of-cons-eq, tail-eq-of-cons-eq}
-use Rattle.model_sets.specs.Bits.{or-left, or-right, not-true}
+use Rattle.basic_laws.specs.Truth.{or-left, or-right, not-true}
 use Rattle.model_sets.specs.Sets.{has, hasM}
 use Rattle.rules.specs.Walk.{Group, place, seq, alt, opt, plus, and, Members, one, also, Runs, once, more, joined, Walk, Begins}
 use Rattle.and_laws.specs.Base.{mem, mem-left, mem-right, mem-cases, mem-head, In, Apart, in-append, Ends, ends-snoc, ends-append, ends-split, ends-mem, ends-some, Cuts, cuts, joined-append, Inside, inside}

@@ -6,7 +6,7 @@ use mathlib.Core.Bool.{Bool, true, false, _&&_, _||_, not, cond, false≢true}
 use mathlib.Core.Logic.{_⊎_, inl, inr, _↔_}
 use mathlib.Core.List.{List, [], _∷_, _++_}
 use native.Mathlib.Omega.{arith}
-use Rattle.model_sets.specs.Bits.{and-both, not-true, bool-cases}
+use Rattle.basic_laws.specs.Truth.{and-both, not-true, bool-cases}
 use Rattle.model_sets.specs.Sets.{has, nullable, first, last, follow, must, mustAfter, nextIn, completeIn, requiredIn}
 use Rattle.rules.specs.Walk.{Group, Members, Begins, MayComeNext, Complete, Required}
 use Rattle.and_laws.specs.Base.{mem, mem-left, Ends, ends-snoc, ends-mem}

@@ -13,7 +13,7 @@ use borrow.Author.Tests.{eqb-true, eq-eqb, ne-eqb}
 use Rattle.rules.specs.Walk.{Group, Members}
 use Rattle.rules.specs.Bytes.{GRPGTCNT}
 use Rattle.layout.specs.Sizes.{POSITIONS, AND-GROUPS, MEMBERS, ENDING}
-use Rattle.model_sets.specs.Bits.{and-left, and-right, and-both, or-left, or-right, or-cases, not-true, bool-cases}
+use Rattle.basic_laws.specs.Truth.{and-left, and-right, and-both, or-left, or-right, or-cases, not-true, bool-cases}
 use Rattle.model_sets.specs.Sets.{Numbered, has, hasM}
 use Rattle.and_laws.specs.Base.{mem}
 use Rattle.and_laws.specs.Sets.{meets, Good, GoodM}

@@ -10,7 +10,7 @@ use Rattle.rules.specs.Attributes.{Attribute, isCalled}
 use Rattle.rules.specs.TypeFile.{sameName}
 use Rattle.rules.specs.Document.{Written}
 use Rattle.text.specs.Words.{sameText-more, sameText-split, sameText-sym}
-use Rattle.model_sets.specs.Bits.{bool-cases}
+use Rattle.basic_laws.specs.Truth.{bool-cases}
 use Rattle.rules_laws.specs.Names.{sameName-split, sameName-join}
 
 -- Two texts that are the same as a third are the same.

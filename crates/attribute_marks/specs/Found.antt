@@ -6,7 +6,7 @@ use mathlib.Core.List.{List, [], _∷_}
 use native.Mathlib.Omega.{arith}
 use lib.ListN.{length}
 use Rattle.rules.specs.Attributes.{Attribute, isCalled, attributeFrom, attributeOf, attributeAt}
-use Rattle.model_sets.specs.Bits.{bool-cases}
+use Rattle.basic_laws.specs.Truth.{bool-cases}
 
 module _ (s t : List ℕ) (at size : ℕ) where
   -- One of them has the name: the k-th, from 0.

@@ -15,7 +15,7 @@ use Rattle.rules.specs.Attributes.{Attribute, isCalled, attributeFrom, attribut
 use Rattle.rules.specs.TypeFile.{sameName}
 use Rattle.rules.specs.Document.{Written}
 use Rattle.rules.specs.Given.{isGivenIn, allListed, allFit, givenFor}
-use Rattle.model_sets.specs.Bits.{bool-cases}
+use Rattle.basic_laws.specs.Truth.{bool-cases}
 use Rattle.attribute_marks.specs.Each.{isNew, isFitting}
 use Rattle.attribute_marks.specs.Marking.{some-none, given-in}
 

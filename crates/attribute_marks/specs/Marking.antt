@@ -11,7 +11,7 @@ use Rattle.rules.specs.Bytes.{ATTCNT}
 use Rattle.rules.specs.Attributes.{Attribute, isCalled, attributeAt}
 use Rattle.rules.specs.Document.{Written}
 use Rattle.rules.specs.Given.{isGivenIn, givenFor}
-use Rattle.model_sets.specs.Bits.{bool-cases}
+use Rattle.basic_laws.specs.Truth.{bool-cases}
 use Rattle.layout.specs.Sizes.{MARKS}
 use Rattle.attribute_marks.specs.Called.{called-alike}
 use Rattle.attribute_marks.specs.Differ.{NamesDiffer, called-once}

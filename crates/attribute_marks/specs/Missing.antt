@@ -10,7 +10,7 @@ use Rattle.rules.specs.Reading.{refused, got}
 use Rattle.rules.specs.Attributes.{Default, Attribute, attributeAt, isRequired}
 use Rattle.rules.specs.Document.{Written}
 use Rattle.rules.specs.Given.{givenFor, isMissing, noneMissing}
-use Rattle.model_sets.specs.Bits.{bool-cases}
+use Rattle.basic_laws.specs.Truth.{bool-cases}
 use Rattle.layout.specs.Sizes.{ATTRIBUTE}
 use Rattle.list_table.specs.declared.Row.{Row}
 use Rattle.list_table.specs.Lists.{rowIn, ListAt}

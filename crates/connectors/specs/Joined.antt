@@ -12,7 +12,7 @@ use Rattle.rules.specs.Walk.{Group, seq, alt, and, Members, one, also}
 use Rattle.rules.specs.TypeFile.{Tokens, isConnector, membersOf, earlier, joinTokens}
 use Rattle.rules.specs.Bytes.{AND, GRPCNT, OR, SEQ}
 use Rattle.layout.specs.Sizes.{POSITIONS}
-use Rattle.model_sets.specs.Bits.{or-cases}
+use Rattle.basic_laws.specs.Truth.{or-cases}
 use Rattle.model_sets.specs.Sets.{size, sizeM, Numbered, NumberedM}
 use Rattle.model_links.specs.Behind.{Behind, behind-none}
 use Rattle.model_table.specs.declared.Part.{Part}

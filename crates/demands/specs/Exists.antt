@@ -15,7 +15,7 @@ use Rattle.rules.specs.TypeFile.{Element, typeFile}
 use Rattle.rules.specs.Judge.{Answer, refusal, acceptance, AllUnambiguous, firstRepeated, records, Legible, Refuses, Accepts, Judged, recordWidth}
 use Rattle.rules.specs.Events.{Event, eventWidth}
 use Rattle.rules.specs.Reader.{eventNumbers, documentRefusal, BothLegible, Reads, RefusesBoth, ReadAs}
-use Rattle.model_sets.specs.Bits.{bool-cases}
+use Rattle.basic_laws.specs.Truth.{bool-cases}
 use Rattle.text.specs.Words.{span-in}
 use Rattle.document_laws.specs.Numbers.{typeFile-guarded}
 use Rattle.document_laws.specs.OneReading.{reads-some}

@@ -29,7 +29,7 @@ use Rattle.demands.specs.Words.{Refusal, Acceptance, ModelOf, SomeRepeat
 use Rattle.answer_laws.specs.Judge.{settled-one, settled-refuses, settled-accepts, settled-fair, settled-faulty, refuses-named, refuses-some, settled-twenty-four, settled-twenty-five, settled-repeated, settled-nine, settled-nineteen, first-model, model-exactly, not-ambiguous, names-alone, settled-length}
 use Rattle.demands.specs.Models.{pair-in, names-first, some-repeated, repeated-some, unrepeated-none, none-repeated}
 use Rattle.document_laws.specs.OneReading.{same-elements}
-use Rattle.model_sets.specs.Bits.{and-left, and-right}
+use Rattle.basic_laws.specs.Truth.{and-left, and-right}
 use Rattle.type_laws.specs.Members.{typeFile-ampersand}
 use Rattle.record_due.specs.Due.{to-other}
 use Rattle.record_due.specs.Among.{Among, cut-run, stands, among}

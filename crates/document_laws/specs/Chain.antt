@@ -14,7 +14,7 @@ use Rattle.rules.specs.Elements.{contentOf, placesIn, hasModel, startO, numberF
 use Rattle.rules.specs.Decisions.{Token, Decisions}
 use Rattle.rules.specs.Settling.{Open, elementOf, fitting, requiredPlace, inferable, chain}
 use Rattle.rules.specs.Judge.{placeAt}
-use Rattle.model_sets.specs.Bits.{and-left, and-right, bool-cases}
+use Rattle.basic_laws.specs.Truth.{and-left, and-right, bool-cases}
 
 -- Lists without a number twice
 

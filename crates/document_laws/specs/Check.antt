@@ -15,7 +15,7 @@ use Rattle.rules.specs.Judge.{samePlace, firstRepeated, Unambiguous, AllUnambig
 use Rattle.rules.specs.Events.{Event}
 use Rattle.rules.specs.Reader.{document, Reads}
 use Rattle.rules_laws.specs.In.{All, none, more}
-use Rattle.model_sets.specs.Bits.{and-left, and-right}
+use Rattle.basic_laws.specs.Truth.{and-left, and-right}
 use Rattle.model_sets.specs.Sets.{size, sizeM, Numbered, NumberedM}
 use Rattle.and_laws.specs.First.{firstPairOf, firstPairOf-none}
 use Rattle.rules_laws.specs.Groups.{GuardedIn}

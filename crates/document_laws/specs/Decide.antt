@@ -14,7 +14,7 @@ use Rattle.rules.specs.TypeFile.{Place, Content, empty, model, Element}
 use Rattle.rules.specs.Judge.{placeAt, samePlace, Unambiguous, AllUnambiguous}
 use Rattle.rules.specs.Elements.{elementAt, contentOf}
 use Rattle.rules.specs.Decisions.{Token, tokenName, hasName, Fits, IsThe, Decisions, MeansAt, Means}
-use Rattle.model_sets.specs.Bits.{and-left, and-right, and-both, not-both, bool-cases}
+use Rattle.basic_laws.specs.Truth.{and-left, and-right, and-both, not-both, bool-cases}
 use Rattle.model_sets.specs.Sets.{size, Numbered}
 use Rattle.and_laws.specs.Numbers.{Guarded}
 use Rattle.and_laws.specs.Begun.{nextOf, completeOf, requiredOf, next-of, complete-of, required-of, next-range, required-one}

@@ -15,7 +15,7 @@ use Rattle.rules_laws.specs.Groups.{Builds, Built, GuardedIn, whatever-builds, 
 use Rattle.rules_laws.specs.Declarations.{Declares, bares, typeFile-holds}
 use Rattle.model_sets.specs.Sets.{size, Numbered}
 use Rattle.rules.specs.Judge.{firstRepeated}
-use Rattle.model_sets.specs.Bits.{bool-cases, not-both}
+use Rattle.basic_laws.specs.Truth.{bool-cases, not-both}
 use Rattle.document_laws.specs.Decide.{NumberedIn, AllNumbered, AllGuarded}
 
 -- The group g has the places behind ps, and qs are the places with them.

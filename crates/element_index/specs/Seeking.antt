@@ -18,7 +18,7 @@ use Rattle.rules.specs.Judge.{Accepts, recordWidth}
 use Rattle.rules.specs.Elements.{elementAt, isNamed, numberFrom, numberOf}
 use Rattle.rules.specs.Lookup.{isAlike, compared}
 use Rattle.layout.specs.Sizes.{INDEX, CONTENTS}
-use Rattle.model_sets.specs.Bits.{or-left, or-right, or-cases, and-left, and-right, and-both, not-true, not-both, bool-cases}
+use Rattle.basic_laws.specs.Truth.{or-left, or-right, or-cases, and-left, and-right, and-both, not-true, not-both, bool-cases}
 use Rattle.rules_laws.specs.Offered.{offered-range}
 use Rattle.rules_laws.specs.Within.{typeFile-count}
 use Rattle.element_names.specs.Records.{unlike-other}

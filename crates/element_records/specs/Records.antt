@@ -11,7 +11,7 @@ use lib.Dec.{eqb}
 use borrow.Author.Tests.{eqb-true}
 use Rattle.rules.specs.TypeFile.{Content, empty, model, Element, earlier}
 use Rattle.rules.specs.Judge.{records, contentNumbers, firstRepeated, recordWidth}
-use Rattle.model_sets.specs.Bits.{bool-cases}
+use Rattle.basic_laws.specs.Truth.{bool-cases}
 use Rattle.element_names.specs.Names.{Recorded}
 use Rattle.element_content.specs.Kept.{KeepsContent}
 use Rattle.element_reader.specs.declared as declared

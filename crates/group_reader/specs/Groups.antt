@@ -14,7 +14,7 @@ use Rattle.rules.specs.Walk.{Group}
 use Rattle.rules.specs.TypeFile.{Place, Tokens, Further, closed, joined, occurrence, nameToken, dataToken, token, isConnector, membersOf, joinTokens, further, members, group}
 use Rattle.text.specs.declared.Fault.{Fault}
 use Rattle.text.specs.Words.{byte-is-in}
-use Rattle.model_sets.specs.Bits.{and-left, and-right, bool-cases}
+use Rattle.basic_laws.specs.Truth.{and-left, and-right, bool-cases}
 use Rattle.model_sets.specs.Sets.{size}
 use Rattle.model_code.specs.Six.{putCode, codeNext}
 use Rattle.model_code.specs.Spelled.{codes, codesM}

@@ -12,7 +12,7 @@ use lib.Seq.{getD-set-same, getD-set-other}
 use borrow.Author.Tests.{lt-ltb, le-leb, leb-true, ltb-true}
 use Rattle.rules.specs.Bytes.{GRPGTCNT}
 use Rattle.layout.specs.Sizes.{POSITIONS, AND-GROUPS, REACHES}
-use Rattle.model_sets.specs.Bits.{and-left, and-right, bool-cases}
+use Rattle.basic_laws.specs.Truth.{and-left, and-right, bool-cases}
 use Rattle.model_links.specs.Each.{each, each-keeps}
 use Rattle.member_entries.specs.Entries.{putFree, marked, recordFrom, putPlaces, putOuter, putOuters, putMember}
 use Rattle.member_entries.specs.Writes.{free-length, free-other, free-put, free-kept}

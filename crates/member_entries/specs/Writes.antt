@@ -9,7 +9,7 @@ use lib.ListN.{length, getD, set, length-set, List·getD-eq-default}
 use lib.Seq.{set-out, getD-set-same, getD-set-other}
 use borrow.Author.Tests.{eq-eqb, ne-eqb, le-leb, lt-leb, lt-ltb, le-ltb}
 use Rattle.layout.specs.Sizes.{ENDING, MODEL, MODEL-ROW, POSITIONS}
-use Rattle.model_sets.specs.Bits.{bool-cases}
+use Rattle.basic_laws.specs.Truth.{bool-cases}
 use Rattle.model_links.specs.Each.{each-turn, each-end}
 use Rattle.member_entries.specs.Entries.{putFree, marked, recordFrom, putPlace, putPlaces, putOuter, putOuters, putMember, putRecord}
 

@@ -10,7 +10,7 @@ use borrow.Author.Tests.{eqb-true, eq-eqb}
 use Rattle.rules.specs.Walk.{Group, Members}
 use Rattle.rules.specs.Bytes.{GRPGTCNT}
 use Rattle.layout.specs.Sizes.{ENDING}
-use Rattle.model_sets.specs.Bits.{or-left, or-right, or-cases, not-true}
+use Rattle.basic_laws.specs.Truth.{or-left, or-right, or-cases, not-true}
 use Rattle.model_sets.specs.Sets.{has, hasM, must}
 use Rattle.and_laws.specs.Base.{mem, mem-left, mem-right, mem-cases, mem-head}
 use Rattle.and_laws.specs.Sets.{meets, Good, meets-common, common-meets}

@@ -6,7 +6,7 @@ use mathlib.Core.Logic.{_⊎_, inl, inr}
 use mathlib.Core.List.{List, [], _∷_, _++_}
 use native.Mathlib.Omega.{arith}
 use Rattle.rules.specs.Walk.{Group, place, seq, alt, opt, plus, and, Members, one, also}
-use Rattle.model_sets.specs.Bits.{or-left, or-right, not-true, bool-cases}
+use Rattle.basic_laws.specs.Truth.{or-left, or-right, not-true, bool-cases}
 use Rattle.model_sets.specs.Sets.{has, hasM}
 use Rattle.and_laws.specs.Sets.{Plain, Good, GoodM}
 use Rattle.and_laws.specs.Decide.{or-only}

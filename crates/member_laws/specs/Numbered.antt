@@ -10,7 +10,7 @@ use native.Mathlib.Omega.{arith}
 use lib.Dec.{eqb, leb}
 use borrow.Author.Tests.{eqb-true, eq-eqb, le-leb, lt-leb}
 use Rattle.rules.specs.Walk.{Group, Members, one, also}
-use Rattle.model_sets.specs.Bits.{or-left, or-right, or-cases, not-true, not-both, bool-cases}
+use Rattle.basic_laws.specs.Truth.{or-left, or-right, or-cases, not-true, not-both, bool-cases}
 use Rattle.model_sets.specs.Sets.{has, hasM, nullable, must}
 use Rattle.and_laws.specs.Base.{mem}
 use Rattle.and_laws.specs.Sets.{meets, GoodM}

@@ -6,7 +6,7 @@ use mathlib.Core.Logic.{_⊎_, inl, inr}
 use native.Mathlib.Omega.{arith}
 use borrow.Author.Tests.{eq-eqb}
 use Rattle.rules.specs.Walk.{Group, place, seq, alt, opt, plus, and, Members, one, also}
-use Rattle.model_sets.specs.Bits.{or-left, or-right, bool-cases}
+use Rattle.basic_laws.specs.Truth.{or-left, or-right, bool-cases}
 use Rattle.model_sets.specs.Sets.{size, Numbered, has, hasM, nullable, last, must, mustM, mustAfter, mustAfterM, requiredIn}
 use Rattle.and_laws.specs.Sets.{meets}
 use Rattle.and_laws.specs.Numbers.{has-range}

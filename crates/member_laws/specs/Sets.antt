@@ -11,7 +11,7 @@ use borrow.Author.Tests.{eqb-true, lt-ltb, le-leb, ltb-true, leb-true}
 use Rattle.rules.specs.Walk.{Group}
 use Rattle.rules.specs.Bytes.{GRPGTCNT}
 use Rattle.layout.specs.Sizes.{POSITIONS, AND-GROUPS, MEMBERS, ENDING}
-use Rattle.model_sets.specs.Bits.{and-both, and-left, and-right, or-cases}
+use Rattle.basic_laws.specs.Truth.{and-both, and-left, and-right, or-cases}
 use Rattle.model_sets.specs.Sets.{has, hasM}
 use Rattle.and_laws.specs.Rest.{allM}
 use Rattle.and_laws.specs.Rows.{fine, or-no}

@@ -12,7 +12,7 @@ use lib.Seq.{getD-set-same, getD-set-other}
 use borrow.Author.Tests.{lt-ltb, le-ltb, eq-eqb, ne-eqb}
 use Rattle.rules.specs.Bytes.{elementLimit}
 use Rattle.layout.specs.Sizes.{POSITIONS, AND-GROUPS, GROUP, REACHES, NEEDED, MEMBER-BITS, SETS, MEMBER, MEMBERS, ENDING}
-use Rattle.model_sets.specs.Bits.{or-right}
+use Rattle.basic_laws.specs.Truth.{or-right}
 use Rattle.and_laws.specs.Rows.{and-no, or-no}
 use Rattle.member_laws.specs.Members.{groupAt, recordAt, firstAt, neededAt, sizeAt, outerAt, reachAt, holdsAt, amongAt, isNeeded, isOwn, Outermost, Within, Around, AllSets}
 use Rattle.member_bits.specs.declared.Bits.{Bits}

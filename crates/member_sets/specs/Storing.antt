@@ -12,7 +12,7 @@ use lib.Pow.{shr-shr, field, mod-mod-pow}
 use lib.Seq.{getD-set-same, getD-set-other}
 use borrow.Author.Tests.{ltb-true, ltb-false}
 use Rattle.layout.specs.Sizes.{POSITIONS, MEMBER-BITS}
-use Rattle.model_sets.specs.Bits.{bool-cases}
+use Rattle.basic_laws.specs.Truth.{bool-cases}
 use Rattle.member_laws.specs.Members.{bitAt}
 use Rattle.member_bits.specs.declared.Bits.{Bits}
 use Rattle.member_bits.specs.Having.{Has}

@@ -8,7 +8,7 @@ use native.Mathlib.Omega.{arith}
 use lib.ListN.{getD}
 use Rattle.rules.specs.Walk.{Group, Members, one, also}
 use Rattle.layout.specs.Sizes.{MEMBER, ENDING}
-use Rattle.model_sets.specs.Bits.{or-left, or-right, or-cases, and-left, and-right, bool-cases}
+use Rattle.basic_laws.specs.Truth.{or-left, or-right, or-cases, and-left, and-right, bool-cases}
 use Rattle.model_sets.specs.Sets.{has, hasM, nullable, lastM}
 use Rattle.and_laws.specs.Sets.{GoodM}
 use Rattle.and_laws.specs.Levels.{together}

@@ -13,7 +13,7 @@ use Rattle.model_code.specs.Codes.{AND-CODE}
 use Rattle.rules.specs.Bytes.{GRPCNT, GRPGTCNT}
 use Rattle.rules.specs.Walk.{Group, and, Members, one, also}
 use Rattle.layout.specs.Sizes.{MEMBER, POSITIONS, AND-GROUPS, LASTS, REACHES}
-use Rattle.model_sets.specs.Bits.{bool-cases}
+use Rattle.basic_laws.specs.Truth.{bool-cases}
 use Rattle.model_sets.specs.Sets.{hasM, size, sizeM, NumberedM, nullable, nullableM}
 use Rattle.and_laws.specs.Sets.{GoodM}
 use Rattle.and_laws.specs.Rows.{and-no, and-yes}

@@ -11,7 +11,7 @@ use Rattle.model_code.specs.Codes.{ALSO-CODE, ALT-CODE, AND-CODE, OPT-CODE, PLU
 use Rattle.rules.specs.Walk.{Group, place, seq, alt, opt, plus, and, Members, one, also}
 use Rattle.rules.specs.Bytes.{GRPCNT, GRPGTCNT}
 use Rattle.layout.specs.Sizes.{AND-GROUPS, LASTS, POSITIONS, REACHES}
-use Rattle.model_sets.specs.Bits.{or-left, or-right, and-both, bool-cases}
+use Rattle.basic_laws.specs.Truth.{or-left, or-right, and-both, bool-cases}
 use Rattle.model_sets.specs.Sets.{has, hasM, size, sizeM, Numbered, NumberedM, nullable, last, lastM}
 use Rattle.and_laws.specs.Base.{Apart}
 use Rattle.and_laws.specs.Sets.{Good, GoodM, Plain}

@@ -11,7 +11,7 @@ use borrow.Author.Tests.{eq-eqb, ne-eqb}
 use Rattle.rules.specs.Walk.{Group, place, seq, alt, opt, plus, and, Members, one, also}
 use Rattle.rules.specs.Bytes.{GRPGTCNT}
 use Rattle.layout.specs.Sizes.{POSITIONS, MODEL-ROW, AND-GROUPS, ENDING, REACHES}
-use Rattle.model_sets.specs.Bits.{or-left, or-right, bool-cases, not-both}
+use Rattle.basic_laws.specs.Truth.{or-left, or-right, bool-cases, not-both}
 use Rattle.model_sets.specs.Sets.{has, hasM, size, sizeM, Numbered, NumberedM, nullable, last, lastM, must}
 use Rattle.and_laws.specs.Base.{Apart}
 use Rattle.and_laws.specs.Sets.{GoodM}

@@ -11,7 +11,7 @@ use borrow.Author.Tests.{lt-ltb, le-leb, le-ltb, ne-eqb}
 use Rattle.rules.specs.Bytes.{GRPGTCNT}
 use Rattle.model_code.specs.Codes.{ALSO-CODE, ALT-CODE, AND-CODE, OPT-CODE, PLUS-CODE, SEQ-CODE}
 use Rattle.layout.specs.Sizes.{MEMBER, MODEL-ROWS, CODE, AND-GROUPS, LASTS, POSITIONS, REACHES}
-use Rattle.model_sets.specs.Bits.{bool-cases}
+use Rattle.basic_laws.specs.Truth.{bool-cases}
 use Rattle.and_laws.specs.Base.{Apart}
 use Rattle.and_laws.specs.Decide.{or-only}
 use Rattle.and_laws.specs.Ranked.{Level}

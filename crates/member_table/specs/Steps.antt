@@ -8,7 +8,7 @@ use native.Mathlib.Omega.{arith}
 use lib.ListN.{length, getD, set}
 use borrow.Author.Tests.{eq-eqb, ne-eqb, lt-ltb, le-ltb, le-leb, lt-leb, ltb-true, leb-true}
 use Rattle.model_code.specs.Codes.{AND-CODE, OPT-CODE, PLUS-CODE, SEQ-CODE}
-use Rattle.model_sets.specs.Bits.{and-left, and-right}
+use Rattle.basic_laws.specs.Truth.{and-left, and-right}
 use Rattle.layout.specs.Sizes.{MODEL-ROWS, CODE, AND-GROUPS, POSITIONS}
 use Rattle.member_table.specs.declared.Piece.{Piece}
 use Rattle.member_table.specs.Filling.{State, pieceAt, placePiece, optPiece, joinedPiece, closedPiece, neededIn, putGroup, fits, closeGroup, stepFill, startFill, runFill}

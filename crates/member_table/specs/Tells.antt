@@ -10,7 +10,7 @@ use lib.ListN.{length, getD, length-replicate}
 use Rattle.rules.specs.Walk.{Group, place, seq, alt, opt, plus, and, Members, one, also}
 use Rattle.rules.specs.Bytes.{GRPGTCNT}
 use Rattle.layout.specs.Sizes.{POSITIONS, MODEL-ROW, CODE, MEMBER, MEMBERS, CONTENTS, AND-GROUPS, LASTS}
-use Rattle.model_sets.specs.Bits.{not-true}
+use Rattle.basic_laws.specs.Truth.{not-true}
 use Rattle.model_sets.specs.Sets.{has, size, Numbered, follow, nextIn}
 use Rattle.and_laws.specs.Numbers.{Guarded, numbered-good, has-range}
 use Rattle.and_laws.specs.Ranked.{count, countM, levels}

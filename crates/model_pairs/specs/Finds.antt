@@ -13,7 +13,7 @@ use Rattle.rules.specs.Ambiguity.{PairAtFault, FirstPair}
 use Rattle.rules.specs.Judge.{samePlace}
 use Rattle.rules.specs.Bytes.{GRPGTCNT}
 use Rattle.layout.specs.Sizes.{CODE}
-use Rattle.model_sets.specs.Bits.{and-left, and-right, and-both, or-cases, or-left, or-right}
+use Rattle.basic_laws.specs.Truth.{and-left, and-right, and-both, or-cases, or-left, or-right}
 use Rattle.model_sets.specs.Sets.{size, Numbered, has, follow, nextIn}
 use Rattle.model_sets.specs.Search.{searchPair}
 use Rattle.and_laws.specs.Sets.{Plain}

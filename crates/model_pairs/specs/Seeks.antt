@@ -11,7 +11,7 @@ use lib.ListN.{length, getD, set, replicate, length-set}
 use lib.Seq.{getD-set-same, getD-set-other}
 use Rattle.rules.specs.Judge.{samePlace}
 use Rattle.layout.specs.Sizes.{MODEL-ROW, POSITIONS}
-use Rattle.model_sets.specs.Bits.{not-true, and-left}
+use Rattle.basic_laws.specs.Truth.{not-true, and-left}
 use Rattle.model_sets.specs.Search.{findFrom, pairOr, pairFrom, searchPair}
 use Rattle.model_code.specs.Six.{Told}
 use Rattle.model_names.specs.Places.{placesOf}

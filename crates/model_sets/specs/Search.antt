@@ -5,7 +5,7 @@ use mathlib.Core.Bool.{Bool, true, false, cond}
 use mathlib.Core.Logic.{_⊎_, inl, inr, ⊎-elim}
 use native.Mathlib.Decide.{ℕ-discrete}
 use native.Mathlib.Omega.{arith}
-use Rattle.model_sets.specs.Bits.{not-both}
+use Rattle.basic_laws.specs.Truth.{not-both}
 
 -- two pairs neither of which comes after the other are equal
 pub least-unique : (p q a b : ℕ) → (p < a) ⊎ ((p ≡ a) × (q ≤ b)) → (a < p) ⊎ ((a ≡ p) × (b ≤ q)) → (p ≡ a) × (q ≡ b)

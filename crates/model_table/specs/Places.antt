@@ -6,7 +6,7 @@ use mathlib.Core.Bool.{Bool, true, false, _&&_, _||_, not, cond}
 use native.Mathlib.Omega.{arith}
 use borrow.Author.Tests.{eq-eqb, ne-eqb}
 use Rattle.rules.specs.Walk.{Group, place, seq, alt, opt, plus, and, Members, one, also}
-use Rattle.model_sets.specs.Bits.{or-left, or-right}
+use Rattle.basic_laws.specs.Truth.{or-left, or-right}
 use Rattle.model_sets.specs.Sets.{size, sizeM, Numbered, NumberedM, has, hasM, nullable, first, firstM, last, lastM, follow, followM, must, mustM, mustAfter, mustAfterM}
 use Rattle.model_links.specs.Cells.{below-or-from}
 

@@ -20,7 +20,7 @@ use Rattle.rules.specs.Acts as act
 use Rattle.layout.specs.declared.Place.{Place}
 use Rattle.layout.specs.Typed.{placeNo}
 use Rattle.rules_laws.specs.Holds.{Gives, reads, so, on, either, got-so}
-use Rattle.model_sets.specs.Bits.{and-left, and-right}
+use Rattle.basic_laws.specs.Truth.{and-left, and-right}
 use Rattle.document_laws.specs.Decide.{decided}
 use Rattle.document_laws.specs.OneReading.{accepted-decided}
 use Rattle.document_laws.specs.Chain.{chain-leads}

@@ -20,7 +20,7 @@ use Rattle.rules.specs.Settling.{Open, State, nothingOpen, takePlace, shown, pl
 use Rattle.rules.specs.Acts.{Declared, dataTaken, Deed, opened, passed, inferred, fitted, inferred-end, closed, Deeds, nothing, then, IsStart, Took, document-element, in-model}
 use Rattle.text.specs.Words.{sameText-refl}
 use Rattle.rules_laws.specs.Names.{samePlace-refl}
-use Rattle.model_sets.specs.Bits.{and-left, and-right}
+use Rattle.basic_laws.specs.Truth.{and-left, and-right}
 use Rattle.and_laws.specs.Begun.{lastOr0-snoc, next-range}
 use Rattle.rules_laws.specs.Groups.{GuardedIn}
 use Rattle.document_laws.specs.Decide.{names-same, content-guarded}

@@ -6,7 +6,7 @@ use mathlib.Core.Bool.{Bool, true, false, _&&_, _||_, false≢true}
 use mathlib.Core.Logic.{_↔_, _⊎_, inl, inr}
 use mathlib.Core.List.{List, [], _∷_, _++_, append-assoc, append-nil, head-eq-of-cons-eq, tail-eq-of-cons-eq, nil≢cons, List·Memᴰ, List·Memᴰ·head, List·Memᴰ·tail, List·Memᴰ·not-nil, List·Memᴰ·cases-cons}
 use Rattle.rules.specs.RecordEnds.{Thing, markup, boundary, recordEnd, datum, subelement, First, Last, IsRecord, AfterMarkup, Ignored, TakesNoPlace}
-use Rattle.model_sets.specs.Bits.{or-left, or-right, or-cases, and-left, and-right, and-both}
+use Rattle.basic_laws.specs.Truth.{or-left, or-right, or-cases, and-left, and-right, and-both}
 use Rattle.record_laws.specs.Marks.{isMarkup, isRecord, all, isFirst, isSome, isAfterMarkup, isOnce}
 
 or-either : (a b : Bool) → (a || b) ≡ true → (a ≡ true) ⊎ (b ≡ true)

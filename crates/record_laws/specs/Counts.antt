@@ -11,7 +11,7 @@ use borrow.Author.Tests.{eqb-true}
 use Rattle.rules.specs.Bytes.{byteAt, RE}
 use Rattle.rules.specs.Events.{Event, dataRun, withData}
 use Rattle.rules.specs.Records.{isEnd, dueRun, cut, cutBeforeEnds}
-use Rattle.model_sets.specs.Bits.{and-left, and-right}
+use Rattle.basic_laws.specs.Truth.{and-left, and-right}
 use Rattle.record_laws.specs.Tracks.{Held, nothing, one, due}
 
 -- 1 if p is q, else 0.

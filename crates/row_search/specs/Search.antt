@@ -7,7 +7,7 @@ use mathlib.Core.List.{List}
 use native.Mathlib.Omega.{arith}
 use Rattle.rules.specs.Bytes.{GRPGTCNT}
 use Rattle.layout.specs.Sizes.{RAISE}
-use Rattle.model_sets.specs.Bits.{and-both, bool-cases}
+use Rattle.basic_laws.specs.Truth.{and-both, bool-cases}
 use Rattle.and_laws.specs.Rows.{and-no}
 use Rattle.document_laws.specs.Decide.{search, search-passes}
 use Rattle.row_search.specs.Rows.{linkAt, Linked, Largest, LargestRaised}

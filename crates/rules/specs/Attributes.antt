@@ -116,7 +116,7 @@ unfoldable pub isOneOf : List ℕ → List Part → (v : List ℕ) → Bool
 isOneOf s [] v = false
 isOneOf s (p ∷ ps) v = (eqb (p .size) (length v) && sameText s (p .at) v 0 (length v)) || isOneOf s ps v
 
--- The value v, its bytes without quotes, "fits its declared value (a space fits CDATA only)", and does not hold "byte 9, 10 or 13"; NUMBER and
+-- The value v, its bytes without quotes, does "fit its declared value (a space fits CDATA only)", and does not hold "byte 9, 10 or 13"; NUMBER and
 -- NAME are "1 to 8 long", with the given length for 8 (request six).
 unfoldable pub fits : (long : ℕ) → (s : List ℕ) → DeclaredValue → (v : List ℕ) → Bool
 fits long s cdata v = every (λ b. not (eqb b TAB || (eqb b RS || eqb b RE))) v

@@ -63,7 +63,7 @@ attributed long s xs d at ws =
     andThen (allFit long s xs d ws) λ v.
     noneMissing s xs d at ws
 
--- The same for any piece. A tag of an undeclared name has number 10, which comes before these; it is given where the piece is settled.
+-- The attributes of a piece that is a start tag are held against the list of its element; other pieces have none. A tag of an undeclared name has number 10, which comes before these; it is given where the piece is settled.
 unfoldable pub pieceAttributed : (long : ℕ) → (s : List ℕ) → List Element → (d : List ℕ) → (at : ℕ) → Piece → Reading (Unit {0})
 pieceAttributed long s es d at (startTag t) =
     let k = numberOf s es d (t .name) (t .size) in
@@ -101,7 +101,7 @@ attributesBefore long s es d e =
       | false ↦ elim (eqb (e .kind) 2) [ true ↦ attributeEvents 1 s xs d [] | false ↦ [] ]
     ]
 
--- These events, with attribute events before each start.
+-- The events of a document, with attribute events before each start.
 unfoldable pub withAttributes : (long : ℕ) → (s : List ℕ) → List Element → (d : List ℕ) → List Event → List Event
 withAttributes long s es d [] = []
 withAttributes long s es d (e ∷ ev) = attributesBefore long s es d e ++ (e ∷ withAttributes long s es d ev)

@@ -29,10 +29,11 @@ unfoldable pub attributeNumbers : (k a : ℕ) → List Attribute → List ℕ
 attributeNumbers k a [] = []
 attributeNumbers k a (x ∷ xs) = k ∷ a ∷ x .at ∷ x .size ∷ (valueNumbers (x .value) ++ (defaultNumbers (x .default) ++ attributeNumbers k (a + 1) xs))
 
+-- How many numbers an attribute has there.
 abbrev pub attributeWidth : ℕ
 attributeWidth = 9
 
--- Those of all elements, in the order of the elements. The first of these has the number k.
+-- The numbers of the attributes of all elements, in the order of the elements, the first of which has the number k.
 unfoldable pub listNumbers : (k : ℕ) → List Element → List ℕ
 listNumbers k [] = []
 listNumbers k (e ∷ es) = attributeNumbers k 1 (e .attributes) ++ listNumbers (k + 1) es

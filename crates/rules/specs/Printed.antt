@@ -8,7 +8,7 @@ use mathlib.Core.List.{List, [], _∷_, _++_}
 use lib.ListN.{length}
 use lib.Dec.{eqb, leb}
 use Rattle.rules.specs.Settings.{Settings, settings, leastNameLength, firstEdition}
-use Rattle.rules.specs.Bytes.{byteAt, fold, MINUS}
+use Rattle.rules.specs.Bytes.{byteAt, fold, MINUS, SPACE, RS}
 use Rattle.rules.specs.Reading.{got}
 use Rattle.rules.specs.Attributes.{attributeAt}
 use Rattle.rules.specs.TypeFile.{Element}
@@ -28,7 +28,7 @@ decimalWithin (suc k) n = elim (leb 10 n) [ true ↦ decimalWithin k (n / 10) ++
 unfoldable pub decimal : ℕ → List ℕ
 decimal n = decimalWithin n n
 
--- A word and the byte after it: a space (32) or the end of the line (10).
+-- A word and the byte after it: SPACE, or RS at the end of the line.
 unfoldable pub word : List ℕ → ℕ → List ℕ
 word x b = x ++ b ∷ []
 
@@ -60,7 +60,7 @@ eventText s es e ev =
 
 -- The line of an event: "kind, element name in upper case or `-`, offset, length, one space between."
 unfoldable pub line : (kind : ℕ) → (name : List ℕ) → (offset size : ℕ) → List ℕ
-line k x o n = word (decimal k) 32 ++ (word x 32 ++ (word (decimal o) 32 ++ word (decimal n) 10))
+line k x o n = word (decimal k) SPACE ++ (word x SPACE ++ (word (decimal o) SPACE ++ word (decimal n) RS))
 
 unfoldable pub eventLines : List ℕ → List Element → List Event → List ℕ
 eventLines s es [] = []
@@ -71,7 +71,7 @@ abbrev pub eventsWord : List ℕ
 eventsWord = 101 ∷ 118 ∷ 101 ∷ 110 ∷ 116 ∷ 115 ∷ 32 ∷ []
 
 unfoldable pub eventsText : List ℕ → List Element → List Event → List ℕ
-eventsText s es ev = eventsWord ++ (word (decimal (length ev)) 10 ++ eventLines s es ev)
+eventsText s es ev = eventsWord ++ (word (decimal (length ev)) RS ++ eventLines s es ev)
 
 -- A refusal
 
@@ -86,7 +86,7 @@ abbrev pub inDocument : List ℕ
 inDocument = 105 ∷ 110 ∷ 32 ∷ 100 ∷ 111 ∷ 99 ∷ 117 ∷ 109 ∷ 101 ∷ 110 ∷ 116 ∷ 32 ∷ 97 ∷ 116 ∷ 32 ∷ []
 
 unfoldable pub refusedText : (number : ℕ) → (input : List ℕ) → (position : ℕ) → List ℕ
-refusedText n x k = refusedWord ++ (word (decimal n) 32 ++ (x ++ word (decimal k) 10))
+refusedText n x k = refusedWord ++ (word (decimal n) SPACE ++ (x ++ word (decimal k) RS))
 
 -- "input 1 is the type, 2 the document."
 abbrev pub inputText : ℕ → List ℕ

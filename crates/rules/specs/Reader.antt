@@ -50,7 +50,7 @@ module _ (s : List ℕ) (es : List Element) (D : Decisions) (d : List ℕ) where
 unfoldable pub pieceUnder : Settings → (s : List ℕ) → List Element → (d : List ℕ) → (at : ℕ) → Line → Open → Reading Piece
 pieceUnder c s es d at l o = andThen (piece (c .nameLength) d at) λ p. andThen (pieceAttributed (c .nameLength) s es d at p) λ u. got (recordEnds c d at l o p)
 
--- The same document under the settings c, which decide how long a name in a tag may be and how record ends are read.
+-- A document under the settings c, which decide how long a name in a tag may be and how record ends are read.
 module _ (c : Settings) (s : List ℕ) (es : List Element) (D : Decisions) (d : List ℕ) where
   -- "The document's tokens in turn", from `at` on. Each turn but the last takes a piece, so there are fewer turns than bytes.
   unfoldable pub piecesWithin : ℕ → (at : ℕ) → Line → State → Reading (List Event)

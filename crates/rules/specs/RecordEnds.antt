@@ -67,7 +67,7 @@ pub record AfterMarkup (before : List Thing) : Type 0 where
 abbrev pub TakesNoPlace : (before : List Thing) → Type 0
 TakesNoPlace before = First before ⊎ AfterMarkup before
 
--- "It is the last and no data or subelement follows." `upTo` is what stands before it in its element, and itself; `after` is what follows. It is the last of
+-- "It is the last and no data or subelement follows". Here `upTo` is what stands before it in its element, and itself; `after` is what follows. It is the last of
 -- those that are left: a byte 13 that follows is ignored already by what stands before that one. By the letter a byte that is ignored would still be the last; the
 -- papers leave it open, and docs/DECISIONS.md says why it is read so.
 pub record Last (upTo after : List Thing) : Type 0 where
@@ -206,9 +206,9 @@ pub record SecondEdition (c : Settings) (s : List ℕ) (es : List Element) (D : 
   pub events : List Event
   pub contents : Contents
   pub filled : Filled c s es D d events contents
-  -- These are given, with record ends settled and attributes added.
+  -- What is given are these events, with record ends settled and attributes added.
   pub gives : given ≡ withAttributes (c .nameLength) s es d (recordsSettled c d events)
-  -- They are those of the three cases.
+  -- The events that are given are those of the three cases.
   pub by-cases : ByThreeCases given (contents .ended)
   -- Wherever reading stands at a byte 13 and `#PCDATA` may come next, that byte is a thing of one of the elements.
   pub none-left-out : (p : ℕ) (l : Line) (z : State) (k : Contents) → Fills c s es D d p l z k → p < length d → byteAt d p ≡ RE → 1 ≤ fitting s es D (z .current) pcdata

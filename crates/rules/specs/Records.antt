@@ -39,7 +39,7 @@ atOnce d at l o =
 unfoldable pub isIgnored : Settings → (d : List ℕ) → (at : ℕ) → Line → Open → Bool
 isIgnored c d at l o = isSecond c && (eqb (byteAt d at) RE && atOnce d at l o)
 
--- Such a byte is passed over, so that it takes no place. Where `#PCDATA` may not come next it is ignored all the same.
+-- A byte that is ignored at once is passed over, so that it takes no place. Where `#PCDATA` may not come next it is ignored all the same.
 unfoldable pub recordEnds : Settings → (d : List ℕ) → (at : ℕ) → Line → Open → Piece → Piece
 recordEnds c d at l o (startTag t) = startTag t
 recordEnds c d at l o (endTag t) = endTag t

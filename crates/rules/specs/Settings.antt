@@ -14,7 +14,7 @@ pub record Settings : Type 0 where
 abbrev pub settings : (nameLength edition : ℕ) → Settings
 settings n e = record { nameLength = n; edition = e }
 
--- It is "a number from 8 to 32".
+-- The length that the caller gives is "a number from 8 to 32".
 abbrev pub leastNameLength : ℕ
 leastNameLength = 8
 

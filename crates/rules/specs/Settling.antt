@@ -101,7 +101,7 @@ module _ (s : List ℕ) (es : List Element) (D : Decisions) where
         | false ↦ []
       ]
 
-  -- Those starts are inferred, one in the other.
+  -- The starts of a chain are inferred, one in the other.
   unfoldable pub inferStarts : (at : ℕ) → List ℕ → State → State
   inferStarts at [] z = z
   inferStarts at (k ∷ ks) z =

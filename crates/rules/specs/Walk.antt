@@ -69,7 +69,7 @@ abbrev mutual
   Walk (plus g) w = Runs (Walk g) w
   Walk (and m) w = (ws : List (List ℕ)) × (w ≡ joined ws) × Orders m ws
 
-  -- These are a walk of each member, in any order: that of the last member stands anywhere among those of the members before.
+  -- The lists of places are a walk of each member, in any order: that of the last member stands anywhere among those of the members before.
   pub Orders : Members → List (List ℕ) → Type 0
   Orders (one g) ws = (w : List ℕ) × (ws ≡ w ∷ []) × Walk g w
   Orders (also m g) ws = (a : List (List ℕ)) × (b : List (List ℕ)) × (w : List ℕ) × (ws ≡ a ++ w ∷ b) × Orders m (a ++ b) × Walk g w

@@ -11,7 +11,7 @@ use Rattle.rules.specs.Bytes.{byteAt, letter, nameEnd, separatorsEnd, GRPCNT, G
 use Rattle.rules.specs.Reading.{Reading, got, andThen}
 use Rattle.rules.specs.Walk.{Group, place, seq, alt, opt, plus, and, Members, one, also, star}
 use Rattle.rules.specs.TypeFile.{isWord, isCut, PCDATA, EMPTY, ANY, CDATA, RCDATA, Place, Tokens, occurrence, newPlace, isConnector, membersOf, oneMore, join, earlier, joinTokens, nameToken, dataToken, token, Further, closed, joined, further, members, group, Content, empty, model, unfit, ContentEnd, contentWord, contentModel, content}
-use Rattle.model_sets.specs.Bits.{and-left, not-both, bool-cases}
+use Rattle.basic_laws.specs.Truth.{and-left, not-both, bool-cases}
 use Rattle.and_laws.specs.Sets.{Plain}
 use Rattle.and_laws.specs.Numbers.{Guarded}
 use Rattle.text.specs.Words.{test-in, letter-in, nameEnd-from, nameEnd-le, nameEnd-more, separatorsEnd-from, separatorsEnd-le}

@@ -13,7 +13,7 @@ use lib.ListN.{length, getD, set, length-set}
 use lib.Seq.{getD-set-same, getD-set-other}
 use Rattle.rules.specs.Judge.{samePlace}
 use Rattle.layout.specs.Sizes.{POSITIONS}
-use Rattle.model_sets.specs.Bits.{not-true, or-left, or-right, not-both}
+use Rattle.basic_laws.specs.Truth.{not-true, or-left, or-right, not-both}
 use Rattle.model_names.specs.Places.{placeIn, placesOf, keyOf}
 use Rattle.model_names.specs.Shared.{key-differs}
 

@@ -9,7 +9,7 @@ use native.Mathlib.Omega.{arith}
 use Rattle.rules.specs.Reading.{got}
 use Rattle.rules.specs.TypeFile.{Content, empty, model, Element, typeFile}
 use Rattle.rules.specs.Judge.{samePlace, placeAt, firstRepeated, Unambiguous, AllUnambiguous, PairStandsAt, FirstAmbiguous, here}
-use Rattle.model_sets.specs.Bits.{and-left, and-right}
+use Rattle.basic_laws.specs.Truth.{and-left, and-right}
 use Rattle.and_laws.specs.First.{firstPairOf, firstPairOf-none, firstPairOf-is}
 use Rattle.rules_laws.specs.Groups.{GuardedIn}
 use Rattle.document_laws.specs.Check.{isNumbered, numbered}

@@ -16,7 +16,7 @@ use Rattle.rules.specs.TypeFile.{commentDeclaration, keyword, markup, declarati
 use Rattle.rules.specs.Judge.{placeAt}
 use Rattle.rules.specs.Elements.{numberFrom, numberOf}
 use Rattle.rules.specs.Lookup.{compared}
-use Rattle.model_sets.specs.Bits.{and-left, and-right}
+use Rattle.basic_laws.specs.Truth.{and-left, and-right}
 use Rattle.document_laws.specs.Ascii.{ascii}
 use Rattle.document_laws.specs.Shelf.{eight}
 use Rattle.document_laws.specs.Check.{Right, passes, allPass, all-right}

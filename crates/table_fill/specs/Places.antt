@@ -15,7 +15,7 @@ use Rattle.rules.specs.Judge.{placeAt}
 use Rattle.rules.specs.Elements.{numberOf}
 use Rattle.rules.specs.Decisions.{Token, start, pcdata, hasName}
 use Rattle.layout.specs.Sizes.{POSITIONS, PLACES, FACT, FACTS, PCDATA, START-OMITTED}
-use Rattle.model_sets.specs.Bits.{not-both, bool-cases}
+use Rattle.basic_laws.specs.Truth.{not-both, bool-cases}
 use Rattle.document_laws.specs.Decide.{search}
 use Rattle.rules_laws.specs.Within.{typeFile-count}
 use Rattle.rules.specs.Bytes.{GRPGTCNT, elementLimit}

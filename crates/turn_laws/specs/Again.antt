@@ -10,7 +10,7 @@ use Rattle.rules.specs.TypeFile.{Content, empty, model, Element}
 use Rattle.rules.specs.Elements.{contentOf}
 use Rattle.rules.specs.Decisions.{Token, hasName}
 use Rattle.rules.specs.Settling.{Open, fitting}
-use Rattle.model_sets.specs.Bits.{or-cases, not-true, not-both, bool-cases}
+use Rattle.basic_laws.specs.Truth.{or-cases, not-true, not-both, bool-cases}
 use Rattle.model_sets.specs.Sets.{size}
 use Rattle.and_laws.specs.Base.{mem, mem-left, mem-cases}
 use Rattle.and_laws.specs.Taken.{nextFrom, completeFrom, requiredFrom, IsLast, last-taken}

@@ -17,7 +17,7 @@ use Rattle.rules.specs.Reader.{Reached, settlePiece, pieceUnder, piecesWithin, 
 use Rattle.rules_laws.specs.Holds.{Holds, got-so, each, so, on-same}
 use Rattle.rules_laws.specs.Both.{first}
 use Rattle.rules_laws.specs.Pieces.{PieceRead, piece-read}
-use Rattle.model_sets.specs.Bits.{bool-cases}
+use Rattle.basic_laws.specs.Truth.{bool-cases}
 use Rattle.document_laws.specs.Moves.{At, pieceEnd, any-moves, any-datum, settlePiece-both}
 use Rattle.document_laws.specs.Under.{Stands, unchanged, ignored, stands, under-text}
 use Rattle.document_laws.specs.Same.{Passes, begins, goes}

@@ -11,7 +11,7 @@ use Rattle.rules.specs.Bytes.{byteAt, letter, separator, separatorsEnd, MINUS, 
 use Rattle.rules.specs.Reading.{got}
 use Rattle.rules.specs.TypeFile.{atDashes, gap, Element, head, Declared, element, typeFile}
 use Rattle.rules.specs.Elements.{elementAt}
-use Rattle.model_sets.specs.Bits.{or-cases, and-left}
+use Rattle.basic_laws.specs.Truth.{or-cases, and-left}
 use Rattle.text.specs.Words.{span-end, gapOn-end, gap-start}
 use Rattle.rules_laws.specs.Declarations.{bare, bares}
 use Rattle.type_laws.specs.Made.{typeFile-made}

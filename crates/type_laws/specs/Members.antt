@@ -14,7 +14,7 @@ use Rattle.rules.specs.Walk.{Group, place, seq, alt, opt, plus, and, Members, o
 use Rattle.rules.specs.TypeFile.{isWord, isCut, EMPTY, ANY, CDATA, RCDATA, Place, Tokens, occurrence, isConnector, membersOf, join, oneMore, joinTokens, token, Further, closed, joined, further, members, group, Content, empty, model, ContentEnd, contentModel, contentWord, content, Element, typeFile}
 use Rattle.rules.specs.Judge.{firstRepeated}
 use Rattle.rules.specs.Elements.{elementAt, contentOf}
-use Rattle.model_sets.specs.Bits.{bool-cases}
+use Rattle.basic_laws.specs.Truth.{bool-cases}
 use Rattle.and_laws.specs.Sets.{Plain}
 use Rattle.and_laws.specs.Numbers.{Guarded, GuardedM}
 use Rattle.member_laws.specs.Members.{amount, total, totalM, Sized, SizedM}

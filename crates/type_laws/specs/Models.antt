@@ -15,7 +15,7 @@ use Rattle.rules_laws.specs.Groups.{Builds, Built, content-read}
 use Rattle.rules_laws.specs.Declarations.{Declares}
 use Rattle.rules_laws.specs.In.{All, none, all-snoc}
 use Rattle.rules_laws.specs.Names.{placeAt-append, placeAt-next}
-use Rattle.model_sets.specs.Bits.{or-left, or-right, or-cases, and-both}
+use Rattle.basic_laws.specs.Truth.{or-left, or-right, or-cases, and-both}
 use Rattle.model_sets.specs.Sets.{size, Numbered, has, follow}
 use Rattle.and_laws.specs.Numbers.{has-range}
 use Rattle.document_laws.specs.Numbers.{Counted, counted-builds}

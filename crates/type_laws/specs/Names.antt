@@ -16,7 +16,7 @@ use Rattle.rules.specs.TypeFile.{Place, Element, sameName, isDeclared, typeFile
 use Rattle.rules.specs.Judge.{placeAt}
 use Rattle.rules.specs.Elements.{elementAt, isNamed, numberFrom, numberOf}
 use Rattle.rules.specs.Decisions.{start, pcdata, hasName}
-use Rattle.model_sets.specs.Bits.{not-true, not-both, bool-cases}
+use Rattle.basic_laws.specs.Truth.{not-true, not-both, bool-cases}
 use Rattle.text.specs.Words.{sameText-sym}
 use Rattle.document_laws.specs.Decide.{sameText-trans}
 use Rattle.document_laws.specs.Chain.{numberFrom-range}

@@ -14,7 +14,7 @@ use Rattle.rules.specs.Decisions.{start}
 use Rattle.rules.specs.Settling.{Open, elementOf, requiredPlace, inferable}
 use Rattle.rules.specs.Bytes.{GRPGTCNT, elementLimit}
 use Rattle.layout.specs.Sizes.{POSITIONS, PCDATA}
-use Rattle.model_sets.specs.Bits.{bool-cases}
+use Rattle.basic_laws.specs.Truth.{bool-cases}
 use Rattle.document_laws.specs.Decide.{decided}
 use Rattle.type_laws.specs.Names.{numberOf-range, numberOf-pcdata}
 use Rattle.type_tables.specs.Tables.{width, Declares, namedBy, Tables, Entered}
