@@ -4,6 +4,7 @@ use mathlib.Core.Path.{_≡_, refl, sym, ap, _∙_}
 use mathlib.Core.List.{List, [], _++_, append-assoc, append-nil}
 use native.Mathlib.Omega.{arith}
 use lib.ListN.{length, take, getD, length-append}
+use Rattle.rules.specs.Bytes.{SPACE, RS}
 use Rattle.rules.specs.Events.{eventWidth}
 use Rattle.rules.specs.Printed.{decimal, word, line, eventsWord, refusedWord, refusedText}
 use Rattle.line_text.specs.Adds.{Adds}
@@ -13,9 +14,9 @@ use Rattle.event_lines.specs.TextOf.{lineAt, linesFrom, textOf}
 
 -- The line of an event.
 pub puts-line : {before first second third after : List ℕ} {at a b c r : ℕ} (s elements attributes : List ℕ) (total : ℕ) (numbers : List ℕ) (k n : ℕ)
-    → Adds before at first a (word (decimal (getD numbers (eventWidth * k) 0)) 32)
-    → Adds first a second b (word (namedAt s elements attributes total numbers k n) 32) → Adds second b third c (word (decimal (getD numbers (eventWidth * k + 2) 0)) 32)
-    → Adds third c after r (word (decimal (getD numbers (eventWidth * k + 3) 0)) 10) → Adds before at after r (lineAt s elements attributes total numbers k n)
+    → Adds before at first a (word (decimal (getD numbers (eventWidth * k) 0)) SPACE)
+    → Adds first a second b (word (namedAt s elements attributes total numbers k n) SPACE) → Adds second b third c (word (decimal (getD numbers (eventWidth * k + 2) 0)) SPACE)
+    → Adds third c after r (word (decimal (getD numbers (eventWidth * k + 3) 0)) RS) → Adds before at after r (lineAt s elements attributes total numbers k n)
 unfolding lineAt line
 puts-line s elements attributes total numbers k n x y v w = puts-both x (puts-both y (puts-both v w))
 
@@ -72,7 +73,7 @@ module _ (s elements attributes : List ℕ) (total : ℕ) (numbers : List ℕ) (
 
 -- The whole text of events.
 pub puts-events : {before first second after : List ℕ} {b c r : ℕ} (s elements attributes : List ℕ) (total : ℕ) (numbers : List ℕ) (n : ℕ) → Adds before 0 first b eventsWord
-    → Adds first b second c (word (decimal n) 10) → Adds second c after r (linesFrom s elements attributes total numbers n 0)
+    → Adds first b second c (word (decimal n) RS) → Adds second c after r (linesFrom s elements attributes total numbers n 0)
     → (r ≤ length after) × (take r after ≡ textOf s elements attributes total numbers n)
 unfolding textOf
 puts-events s elements attributes total numbers n x y z =
@@ -81,7 +82,7 @@ puts-events s elements attributes total numbers n x y z =
 
 -- The whole text of a refusal.
 pub puts-refusal : {before first second third after : List ℕ} {a b c r : ℕ} (number position : ℕ) (place : List ℕ) → Adds before 0 first a refusedWord
-    → Adds first a second b (word (decimal number) 32) → Adds second b third c place → Adds third c after r (word (decimal position) 10)
+    → Adds first a second b (word (decimal number) SPACE) → Adds second b third c place → Adds third c after r (word (decimal position) RS)
     → (r ≤ length after) × (take r after ≡ refusedText number place position)
 unfolding refusedText
 puts-refusal number position place x y z w =

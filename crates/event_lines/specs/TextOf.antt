@@ -2,6 +2,7 @@
 use Prim.Native.Nat.{ℕ, zero, suc, _+_, _*_}
 use mathlib.Core.List.{List, [], _++_}
 use lib.ListN.{getD}
+use Rattle.rules.specs.Bytes.{RS}
 use Rattle.rules.specs.Events.{eventWidth}
 use Rattle.rules.specs.Printed.{decimal, word, line, eventsWord}
 use Rattle.event_names.specs.Names.{namedAt}
@@ -19,4 +20,4 @@ linesFrom s elements attributes total numbers (suc left) k =
 
 -- `events N`, and the lines of n events.
 unfoldable pub textOf : (s elements attributes : List ℕ) (total : ℕ) (numbers : List ℕ) → ℕ → List ℕ
-textOf s elements attributes total numbers n = eventsWord ++ (word (decimal n) 10 ++ linesFrom s elements attributes total numbers n 0)
+textOf s elements attributes total numbers n = eventsWord ++ (word (decimal n) RS ++ linesFrom s elements attributes total numbers n 0)

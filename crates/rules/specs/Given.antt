@@ -63,7 +63,8 @@ attributed long s xs d at ws =
     andThen (allFit long s xs d ws) λ v.
     noneMissing s xs d at ws
 
--- The attributes of a piece that is a start tag are held against the list of its element; other pieces have none. A tag of an undeclared name has number 10, which comes before these; it is given where the piece is settled.
+-- The attributes of a piece that is a start tag are held against the list of its element; other pieces have none. A tag of
+-- an undeclared name has number 10, which comes before these; it is given where the piece is settled.
 unfoldable pub pieceAttributed : (long : ℕ) → (s : List ℕ) → List Element → (d : List ℕ) → (at : ℕ) → Piece → Reading (Unit {0})
 pieceAttributed long s es d at (startTag t) =
     let k = numberOf s es d (t .name) (t .size) in
