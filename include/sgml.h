@@ -19,7 +19,7 @@
  * Names.  All calls take how long a name may be: SGML_NAMELEN, which is 8, where nothing else is agreed, and up to
  *     SGML_MOST_NAMELEN, which is 32, for suppliers who declare a longer NAMELEN. Another number is SGML_ERR_SETTINGS, before anything
  *     else is looked at. Before 0.4.0 the calls did not take it, and 8 was what they went by: so a program that was written for 0.3.0
- *     passes SGML_NAMELEN as the last argument of both calls, and nothing else changes for it. What was compiled for 0.3.0 is
+ *     passes SGML_NAMELEN behind the arguments that it had, before the edition (see below), in both calls that it knew. What was compiled for 0.3.0 is
  *     compiled anew: it passes no length, and what a call takes for one is then not decided.
  * Record ends.  All calls take last the edition, since 0.8.0: by which rule a byte 13, the record end, is data. SGML_FIRST_EDITION has it as
  *     before, data where #PCDATA may come next and ignored elsewhere. SGML_SECOND_EDITION follows clause 7.6.1 of ISO 8879: of the bytes 13 that
