@@ -13,9 +13,9 @@ use Rattle.rules_laws.specs.Within.{typeFile-within}
 use Rattle.rules.specs.Bytes.{documentLimit}
 use Rattle.type_laws.specs.Members.{typeFile-repeated}
 use Rattle.turn_laws.specs.Within.{document-within}
-use Rattle.document_reader.specs.declared.Answer as reader
-use Rattle.document_reader.specs.declared.Answer.the-variants as answer
-use Rattle.document_reader.specs.Answer as means
+use Rattle.one_document.specs.declared.Answer as reader
+use Rattle.one_document.specs.declared.Answer.the-variants as answer
+use Rattle.one_document.specs.Answer as means
 
 -- The numbers of the reader's answer are 32-bit numbers.
 abbrev pub AnswerFits : reader.Answer → Type 0

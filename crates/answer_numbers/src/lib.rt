@@ -1,9 +1,9 @@
 // The reader's answer as the six numbers that C gets.
-use document_reader::Answer;
 use layout::ANSWER;
+use one_document::Answer;
 ghost use mathlib.Core.Path.{_≡_};
 ghost use Rattle.rules.specs.Calls.{answerNumbers};
-ghost use Rattle.document_reader.specs.Answer.{answerOf};
+ghost use Rattle.one_document.specs.Answer.{answerOf};
 ghost use Rattle.answer_numbers.specs.Fits.{AnswerFits};
 
 // The six numbers of the reader's answer.

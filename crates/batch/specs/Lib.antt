@@ -1,3 +1,2 @@
 -- What a type is ready for once it is judged, and laws of a batch.
-pub mod Ready
 pub mod Turns

@@ -49,8 +49,8 @@ use Rattle.type_judge.proofs.judge as judge-call
 use Rattle.type_judge.proofs.judge.Reads as judge-reads
 use Rattle.type_judge.proofs.judge_to_bytes as judge-bytes
 use Rattle.type_judge.proofs.judge_to_bytes.Reads as judge-bytes-reads
-use Rattle.document_reader.specs.declared.Answer as reader
-use Rattle.document_reader.specs.Answer as means
+use Rattle.one_document.specs.declared.Answer as reader
+use Rattle.one_document.specs.Answer as means
 use Rattle.document_reader.proofs.read as read-call
 use Rattle.document_reader.proofs.read.Reads as read-reads
 use Rattle.document_reader.proofs.read_to_bytes as read-bytes

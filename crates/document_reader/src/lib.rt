@@ -1,6 +1,5 @@
 // The document reader: a type file, a document and a lent buffer in, events or one refusal out.
 use document_events::Counted;
-use element_records::Clash;
 use inputs::Settings;
 use layout::ELEMENTS;
 use layout::EVENT;
@@ -8,11 +7,10 @@ use layout::FACTS;
 use layout::INDEX;
 use layout::LISTS;
 use layout::MEMBERS;
-use layout::NUMBER;
 use layout::PLACES;
 use layout::RECORDS;
 use layout::ROWS;
-use text::Fault;
+use one_document::Answer;
 use type_stage::Ordered;
 ghost use mathlib.Core.Path.{_≡_};
 ghost use mathlib.Core.List.{List, []};
@@ -30,16 +28,7 @@ ghost use Rattle.list_table.specs.Lists.{Lists};
 ghost use Rattle.type_tables.specs.Tables.{Tables};
 ghost use Rattle.document_events.specs.Loop.{EventsOf};
 ghost use Rattle.type_stage.specs.Stages.{JudgedHeads};
-ghost use Rattle.document_reader.specs.Answer.{answerOf, CountFits, Judges, JudgedLists, Followed, Answers, fittedTo, isRefusal};
-
-// The reader's answer.
-pub enum Answer {
-    // It has so many events.
-    Accepted(usize),
-    InType(Fault),
-    Ambiguous(Clash),
-    InDocument(Fault),
-}
+ghost use Rattle.one_document.specs.Answer.{answerOf, CountFits, Judges, JudgedLists, Followed, Answers};
 
 // Number 24 of the settings, numbers 1 and 2 of both inputs, then the type: accepted with so many elements in `elements`, the heads of their lists in `heads`,
 // which is all 0 before, or refused. On refusal what both hold is not decided.
@@ -61,47 +50,6 @@ fn judged(
         Ordered::Ambiguous(x) => Answer::Ambiguous(x),
         Ordered::InDocument(f) => Answer::InDocument(f),
     }
-}
-
-// The events of the document under a type whose tables are filled, as bytes. No numbers are lent: that there are none is seen here, where the single call and
-// the batch both come by, so that the loop writes bytes alone.
-pub fn follow(
-    long: usize,
-    edition: usize,
-    s: &[u8],
-    d: &[u8],
-    elements: &[u32; RECORDS],
-    index: &[u8; INDEX],
-    rows: &[u8; ROWS],
-    places: &[u8; PLACES],
-    facts: &[u8; FACTS],
-    members: &[u8],
-    lists: &[u16],
-    bytes: &mut [u8],
-) -> Counted
-    requires { ⌜ (long ≤ mostNameLength) × (length (now d) ≤ documentLimit) × (length (now s) ≤ typeLimit) ⌝ }
-    ensures { λ r. ⌜ ((es : List Element) → Indexed (now (s .entry)) es (now (elements .entry)) (now (index .entry)) → Tables (now (s .entry)) es (now (rows .entry)) (now (places .entry)) (now (facts .entry)) (now (members .entry)) →
-        Lists long (now (s .entry)) es (now (lists .entry)) →
-        EventsOf (settings long edition) (now (s .entry)) es (now (d .entry)) [] [] (now (bytes .entry)) (now (bytes .exit)) r) ⌝ }
-{
-    let classes = delimiters::class_table();
-    let mut none = [0u32; 0];
-    document_events::events_of(
-        long,
-        edition,
-        s,
-        elements,
-        index,
-        rows,
-        places,
-        facts,
-        members,
-        lists,
-        &classes,
-        d,
-        &mut none,
-        bytes,
-    )
 }
 
 // Reads the document under an accepted type, whose n elements are recorded and whose attributes are in `lists`. A type without "&" needs no table of members.
@@ -139,7 +87,7 @@ fn read_listed(
             &mut facts,
             &mut members,
         );
-        return follow(
+        return one_document::follow(
             long,
             edition,
             s,
@@ -167,7 +115,7 @@ fn read_listed(
         &mut facts,
         &mut none,
     );
-    follow(
+    one_document::follow(
         long,
         edition,
         s,
@@ -278,51 +226,14 @@ fn numbered(c: Settings, s: &[u8], d: &[u8], numbers: &mut [u32]) -> Answer
     }
 }
 
-// The answer where so many events fit.
-fn fitted(a: Answer, room: usize) -> Answer
-    ensures { λ r. ⌜ r ≡ fittedTo room a ⌝ }
-{
-    let Answer::Accepted(count) = a else {
-        return a;
-    };
-    if room < count {
-        return Answer::InDocument(Fault { number: 19, at: 0 });
-    }
-    a
-}
-
-// Whether the answer refuses one of the inputs.
-fn refuses(a: Answer) -> bool
-    ensures { λ r. ⌜ r ≡ isRefusal a ⌝ }
-{
-    match a {
-        Answer::Accepted(_) => false,
-        Answer::InType(_) => true,
-        Answer::Ambiguous(_) => true,
-        Answer::InDocument(_) => true,
-    }
-}
-
-// The answer that was found, once the events fit the buffer of bytes; a refusal zeroes it. Of an answer that is not that of what the buffer holds nothing is decided.
-pub fn settled(a: Answer, buffer: &mut [u8]) -> Answer
-    ensures { λ r. ⌜ ((c : rules.Settings) (s d before : List ℕ) → length (now (buffer .entry)) ≡ length before → Answers c s d [] [] before (now (buffer .entry)) a →
-        ReadAs Lent.bytes c s d before (answerOf r) (now (buffer .exit)) × CountFits r) ⌝ }
-{
-    let b = fitted(a, buffer.len() / NUMBER / EVENT);
-    if refuses(b) {
-        numbers::clear_bytes(buffer);
-    }
-    b
-}
-
 // Reads a document under a type file and the settings c. The buffer gets five numbers for each event, or is zeroed.
 pub fn read(c: Settings, s: &[u8], d: &[u8], buffer: &mut [u32]) -> Answer
     ensures { λ r. ⌜ ReadAs Lent.numbers (settingsOf c) (now (s .entry)) (now (d .entry)) (now (buffer .entry)) (answerOf r) (now (buffer .exit)) ⌝ }
     ensures { λ r. ⌜ CountFits r ⌝ }
 {
     let v = numbered(c, s, d, buffer);
-    let a = fitted(v, buffer.len() / EVENT);
-    if refuses(a) {
+    let a = one_document::fitted(v, buffer.len() / EVENT);
+    if one_document::refuses(a) {
         numbers::clear_numbers(buffer);
     }
     a
@@ -334,5 +245,5 @@ pub fn read_to_bytes(c: Settings, s: &[u8], d: &[u8], buffer: &mut [u8]) -> Answ
     ensures { λ r. ⌜ CountFits r ⌝ }
 {
     let v = answered(c, s, d, buffer);
-    settled(v, buffer)
+    one_document::settled(v, buffer)
 }

@@ -1,6 +1,5 @@
 // Reads the type file `type.sgm` and the document `doc.sgm` of the folder that it runs in, and prints the document's
 // events or the one refusal.
-use document_reader::Answer;
 use file_reader::Loaded;
 use inputs::Settings;
 use layout::ATTRIBUTE_RECORDS;
@@ -11,6 +10,7 @@ use layout::PROGRAM_TEXT;
 use layout::RECORDS;
 use layout::TYPE_LIMIT;
 use libc::STDOUT_FILENO;
+use one_document::Answer;
 use type_judge::Verdict;
 ghost use mathlib.Core.Path.{_≡_};
 ghost use Prim.Native.Nat.{_≤_};

@@ -2,7 +2,7 @@
 use mathlib.Core.Path.{sym, ap, subst}
 use native.Mathlib.Omega.{arith}
 use Rattle.rules.specs.Calls.{answerNumbers}
-use Rattle.document_reader.specs.Answer.{answerOf}
+use Rattle.one_document.specs.Answer.{answerOf}
 use Rattle.answer_numbers.specs.Fits.{AnswerFits}
 use borrow.Author.Needs.{needs}
 use Rattle.answer_numbers.proofs.numbers_read.Statement.{statement}

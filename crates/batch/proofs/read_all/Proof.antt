@@ -2,7 +2,7 @@
 use mathlib.Core.Path.{refl, subst}
 use Rattle.inputs.specs.Checks.{settingsOf}
 use Rattle.type_stage.specs.Stages.{Staged}
-use Rattle.batch.specs.Ready.{tables-none, not-last}
+use Rattle.batch_parts.specs.Ready.{tables-none, not-last}
 use borrow.Author.Needs.{needs}
 use Rattle.batch.proofs.read_all.Statement.{statement}
 use Rattle.batch.proofs.read_all.Tie as tie

@@ -5,7 +5,7 @@ use lib.ListN.{length, getD}
 use Rattle.rules.specs.Lent.{Lent}
 use Rattle.rules.specs.Settings.{settings}
 use Rattle.rules.specs.Batch.{Equal, batchLimit}
-use Rattle.document_reader.specs.Answer.{answerOf}
+use Rattle.one_document.specs.Answer.{answerOf}
 use Rattle.stretches.specs.Fit.{batchOf}
 use Rattle.batch.specs.Turns.{Done, done-none, done-again, done-all, fit-few, fit-equal, fit-within}
 use borrow.Author.Needs.{needs}

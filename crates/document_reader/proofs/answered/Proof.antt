@@ -1,9 +1,9 @@
 -- `answered` meets its contract: the document is read under the elements that were judged.
 use mathlib.Core.Path.{subst}
 use Rattle.inputs.specs.Checks.{settingsOf}
-use Rattle.document_reader.specs.Answer.{Judges}
-use Rattle.document_reader.specs.Answering.{not-first, answers-refused, answers-events, answers-unsettled}
-use Rattle.document_reader.specs.declared.Answer.the-variants.{Accepted}
+use Rattle.one_document.specs.Answer.{Judges}
+use Rattle.one_document.specs.Answering.{not-first, answers-refused, answers-events, answers-unsettled}
+use Rattle.one_document.specs.declared.Answer.the-variants.{Accepted}
 use borrow.Author.Needs.{needs}
 use Rattle.document_reader.proofs.answered.Statement.{statement}
 use Rattle.document_reader.proofs.answered.Tie as tie

@@ -1,5 +1,5 @@
 -- `judged` meets its contract: the type is judged, and the document put in its order with it.
-use Rattle.document_reader.specs.Answering.{judges-accepted, judges-malformed, judges-ambiguous, judges-document}
+use Rattle.one_document.specs.Answering.{judges-accepted, judges-malformed, judges-ambiguous, judges-document}
 use Rattle.inputs.specs.Checks.{settingsOf}
 use Rattle.type_stage.specs.Stages.{OrderedAs}
 use borrow.Author.Needs.{needs}

@@ -2,9 +2,9 @@
 use mathlib.Core.Path.{refl, subst}
 use Rattle.rules_laws.specs.Offered.{offered-range}
 use Rattle.inputs.specs.Checks.{settingsOf}
-use Rattle.document_reader.specs.Answer.{Judges}
-use Rattle.document_reader.specs.Answering.{events-numbers, not-first, answers-refused, answers-events, answers-unsettled}
-use Rattle.document_reader.specs.declared.Answer.the-variants.{Accepted}
+use Rattle.one_document.specs.Answer.{Judges}
+use Rattle.one_document.specs.Answering.{events-numbers, not-first, answers-refused, answers-events, answers-unsettled}
+use Rattle.one_document.specs.declared.Answer.the-variants.{Accepted}
 use borrow.Author.Needs.{needs}
 use Rattle.document_reader.proofs.numbered.Statement.{statement}
 use Rattle.document_reader.proofs.numbered.Tie as tie

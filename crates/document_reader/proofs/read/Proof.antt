@@ -2,7 +2,7 @@
 use mathlib.Core.Path.{sym, _∙_}
 use mathlib.Core.List.{[]}
 use Rattle.rules.specs.Lent.{Lent}
-use Rattle.document_reader.specs.Answering.{count-fits, read-accepted, read-refused}
+use Rattle.one_document.specs.Answering.{count-fits, read-accepted, read-refused}
 use borrow.Author.Needs.{needs}
 use Rattle.document_reader.proofs.read.Statement.{statement}
 use Rattle.document_reader.proofs.read.Tie as tie

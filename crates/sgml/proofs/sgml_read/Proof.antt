@@ -8,7 +8,7 @@ use borrow.Author.Needs.{needs}
 use Rattle.rules.specs.Settings.{Settings}
 use Rattle.rules.specs.Lent.{bytes}
 use Rattle.rules.specs.Reader.{ReadAs}
-use Rattle.document_reader.specs.Answer.{answerOf}
+use Rattle.one_document.specs.Answer.{answerOf}
 use Rattle.answer_numbers.specs.Fits.{answer-fits}
 use Rattle.sgml.proofs.sgml_read.Statement.{statement}
 use Rattle.sgml.proofs.sgml_read.Tie as tie

@@ -9,7 +9,7 @@ use Rattle.rules.specs.Settings.{Settings}
 use Rattle.rules.specs.Lent.{bytes}
 use Rattle.rules.specs.Batch.{Batched}
 use Rattle.stretches.specs.Fit.{batchOf}
-use Rattle.document_reader.specs.Answer.{answerOf}
+use Rattle.one_document.specs.Answer.{answerOf}
 use Rattle.sgml.proofs.sgml_read_batch.Statement.{statement}
 use Rattle.sgml.proofs.sgml_read_batch.Tie as tie
 

@@ -2,7 +2,7 @@
 use mathlib.Core.Path.{refl, ap}
 use native.Mathlib.Omega.{arith}
 use borrow.Author.Needs.{needs}
-use Rattle.document_reader.specs.Answer.{answerOf}
+use Rattle.one_document.specs.Answer.{answerOf}
 use Rattle.rules.specs.Printed.{events}
 use Rattle.file_reader.specs.Loading.{counts-of}
 use Rattle.sgml_events.specs.Answers.{read-given, accepted-read, prints-refusal}

@@ -28,9 +28,9 @@ use Rattle.document_laws.specs.OneReading.{accepted-decided}
 use Rattle.document_events.specs.Loop.{EventsOf}
 use Rattle.document_events.specs.declared.Counted.{Counted}
 use Rattle.document_events.specs.declared.Counted.the-variants as counted
-use Rattle.document_reader.specs.Answer.{answerOf, CountFits, Judges, lentOf, Counts, Answers, unlessFull, fittedTo, isRefusal}
-use Rattle.document_reader.specs.declared.Answer.{Answer}
-use Rattle.document_reader.specs.declared.Answer.the-variants as answer
+use Rattle.one_document.specs.Answer.{answerOf, CountFits, Judges, lentOf, Counts, Answers, unlessFull, fittedTo, isRefusal}
+use Rattle.one_document.specs.declared.Answer.{Answer}
+use Rattle.one_document.specs.declared.Answer.the-variants as answer
 
 -- One buffer alone
 

@@ -1,8 +1,8 @@
 -- `follow` meets its contract: the classes are those of the table, and no numbers are lent.
-use Rattle.document_reader.specs.Answering.{events-bytes}
+use Rattle.one_document.specs.Answering.{events-bytes}
 use borrow.Author.Needs.{needs}
-use Rattle.document_reader.proofs.follow.Statement.{statement}
-use Rattle.document_reader.proofs.follow.Tie as tie
+use Rattle.one_document.proofs.follow.Statement.{statement}
+use Rattle.one_document.proofs.follow.Tie as tie
 
 -- The points that the needs go back to.
 abbrev at-start-2 : (c : tie.After-shared-slice-known4) → tie.Start

@@ -5,11 +5,11 @@ use Rattle.rules.specs.Settings.{settings}
 use Rattle.rules_laws.specs.Offered.{offered-range}
 use Rattle.type_stage.specs.Stages.{OrderedAs}
 use Rattle.type_stage.specs.declared.Ordered.the-variants as ordered
-use Rattle.document_reader.specs.Answering.{answers-events, answers-unsettled}
-use Rattle.batch.specs.Ready.{follows-type, follows-ambiguous, follows-document, tables-full}
+use Rattle.one_document.specs.Answering.{answers-events, answers-unsettled}
+use Rattle.batch_parts.specs.Ready.{follows-type, follows-ambiguous, follows-document, tables-full}
 use borrow.Author.Needs.{needs}
-use Rattle.batch.proofs.followed.Statement.{statement}
-use Rattle.batch.proofs.followed.Tie as tie
+use Rattle.batch_parts.proofs.followed.Statement.{statement}
+use Rattle.batch_parts.proofs.followed.Tie as tie
 
 -- The points that the needs go back to.
 abbrev at-start-2 : (c : tie.After-shared-slice-known4) → tie.Start

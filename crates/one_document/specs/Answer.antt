@@ -20,8 +20,8 @@ use Rattle.list_table.specs.Lists.{Lists}
 use Rattle.type_stage.specs.Stages.{JudgedHeads}
 use Rattle.document_events.specs.declared.Counted.{Counted}
 use Rattle.document_events.specs.Loop.{EventsOf}
-use Rattle.document_reader.specs.declared.Answer.{Answer}
-use Rattle.document_reader.specs.declared.Answer.the-variants as answer
+use Rattle.one_document.specs.declared.Answer.{Answer}
+use Rattle.one_document.specs.declared.Answer.the-variants as answer
 
 -- The paper's numbers for each answer of the reader.
 abbrev pub answerOf : Answer → rules.Answer

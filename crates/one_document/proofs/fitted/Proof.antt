@@ -1,9 +1,9 @@
 -- `fitted` meets its contract: each way by what is known of the answer there.
 use mathlib.Core.Path.{sym, _∙_}
-use Rattle.document_reader.specs.Answering.{not-first, fitted-none, fitted-all, fitted-other}
+use Rattle.one_document.specs.Answering.{not-first, fitted-none, fitted-all, fitted-other}
 use borrow.Author.Needs.{needs}
-use Rattle.document_reader.proofs.fitted.Statement.{statement}
-use Rattle.document_reader.proofs.fitted.Tie as tie
+use Rattle.one_document.proofs.fitted.Statement.{statement}
+use Rattle.one_document.proofs.fitted.Tie as tie
 
 returns : tie.Need-returns
 returns c = fitted-other (c .before .args .a) (c .before .args .room)

@@ -17,9 +17,9 @@ use Rattle.type_stage.specs.declared.Stage.the-variants as stage
 use Rattle.type_stage.specs.declared.Ordered.{Ordered}
 use Rattle.type_stage.specs.declared.Ordered.the-variants as ordered
 use Rattle.full_tables.specs.Full.{Full}
-use Rattle.document_reader.specs.Answer.{answerOf, Answers}
-use Rattle.document_reader.specs.declared.Answer.{Answer}
-use Rattle.document_reader.specs.declared.Answer.the-variants as answer
+use Rattle.one_document.specs.Answer.{answerOf, Answers}
+use Rattle.one_document.specs.declared.Answer.{Answer}
+use Rattle.one_document.specs.declared.Answer.the-variants as answer
 
 -- Where the type is accepted, these are its tables.
 abbrev pub TablesFor : Settings → (s elements index rows places facts members lists : List ℕ) → Stage → Type 0

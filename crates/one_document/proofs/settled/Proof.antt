@@ -2,10 +2,10 @@
 use mathlib.Core.Path.{sym, _∙_}
 use mathlib.Core.List.{[]}
 use Rattle.rules.specs.Lent.{Lent}
-use Rattle.document_reader.specs.Answering.{count-fits, read-accepted, read-refused}
+use Rattle.one_document.specs.Answering.{count-fits, read-accepted, read-refused}
 use borrow.Author.Needs.{needs}
-use Rattle.document_reader.proofs.settled.Statement.{statement}
-use Rattle.document_reader.proofs.settled.Tie as tie
+use Rattle.one_document.proofs.settled.Statement.{statement}
+use Rattle.one_document.proofs.settled.Tie as tie
 
 -- The point that the needs go back to.
 abbrev at-refuses : (c : tie.After-buffer) → tie.After-refuses

@@ -1,8 +1,8 @@
 -- `passed` meets its contract: the refusal is known in each arm.
-use Rattle.batch.specs.Ready.{passed-read, passed-type, passed-ambiguous, passed-document}
+use Rattle.batch_parts.specs.Ready.{passed-read, passed-type, passed-ambiguous, passed-document}
 use borrow.Author.Needs.{needs}
-use Rattle.batch.proofs.passed.Statement.{statement}
-use Rattle.batch.proofs.passed.Tie as tie
+use Rattle.batch_parts.proofs.passed.Statement.{statement}
+use Rattle.batch_parts.proofs.passed.Tie as tie
 
 returns : tie.Need-returns
 returns c settings s elements heads h = passed-read settings s (c .before .before .before .too-long .result) (c .before .before .before .too-long .ensures settings s elements heads h) _ (c .before .o .given .1)

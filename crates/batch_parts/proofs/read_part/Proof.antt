@@ -9,8 +9,8 @@ use Rattle.rules.specs.Lent.{Lent}
 use Rattle.rules.specs.Batch.{PartAs, stretch}
 use Rattle.answer_numbers.specs.Fits.{answer-fits, part-fits}
 use borrow.Author.Needs.{needs}
-use Rattle.batch.proofs.read_part.Statement.{statement}
-use Rattle.batch.proofs.read_part.Tie as tie
+use Rattle.batch_parts.proofs.read_part.Statement.{statement}
+use Rattle.batch_parts.proofs.read_part.Tie as tie
 
 -- The points that the needs go back to.
 abbrev at-start : (c : tie.After-shared-slice-known4) → tie.Start
