@@ -1,7 +1,2 @@
--- What the program prints, and laws that its functions go by.
-pub mod Prints
-pub mod Attributes
-pub mod Listed
-pub mod Table
-pub mod Answers
+-- Which inputs the program prints for.
 pub mod Files

@@ -1,8 +1,7 @@
--- What is put for a document that is accepted, and which inputs are printed for.
-use Prim.Native.Nat.{ℕ, _≤_, _<_, _*_}
+-- What is put for a document that is accepted.
+use Prim.Native.Nat.{ℕ, _≤_, _*_}
 use mathlib.Core.Path.{_≡_}
 use mathlib.Core.List.{List, _++_}
-use mathlib.Core.Logic.{_⊎_}
 use lib.ListN.{length}
 use Rattle.rules.specs.Bytes.{ATTCNT, elementLimit}
 use Rattle.rules.specs.TypeFile.{Element}
@@ -25,7 +24,3 @@ pub record ListedIn (s attributes : List ℕ) (total : ℕ) : Type 0 where
 -- The text is that of the n events whose numbers stand at the start of the buffer.
 abbrev pub EventsPut : (s numbers : List ℕ) (n : ℕ) (text : List ℕ) → Type 0
 EventsPut s numbers n text = (es : List Element) (ev : List Event) (rest : List ℕ) → Accepts programSettings s es → numbers ≡ eventNumbers ev ++ rest → n ≡ length ev → text ≡ eventsText s es ev
-
--- The input is all of a file, since the last read gave nothing, or longer than its limit.
-abbrev pub Whole : (limit : ℕ) → List ℕ → (last : ℕ) → Type 0
-Whole limit input last = (last ≡ 0) ⊎ (limit < length input)

@@ -1,14 +1,14 @@
--- `sgml_events::put_events` puts the text of the events: the table of elements that the judge leaves has their names, and that of attributes theirs.
+-- `printed_text::put_events` puts the text of the events: the table of elements that the judge leaves has their names, and that of attributes theirs.
 use Prim.Native.Nat.{ℕ}
 use mathlib.Core.Path.{refl}
 use native.Mathlib.Omega.{arith}
 use lib.ListN.{length-replicate}
 use borrow.Author.Needs.{needs}
 use Rattle.layout.specs.Sizes.{ATTRIBUTE-RECORDS}
-use Rattle.sgml_events.specs.Table.{judged-given, table-fits, names-are, text-is}
+use Rattle.printed_text.specs.Table.{judged-given, table-fits, names-are, text-is}
 use Rattle.file_reader.specs.Loading.{counts-of}
-use Rattle.sgml_events.proofs.put_events.Statement.{statement}
-use Rattle.sgml_events.proofs.put_events.Tie as tie
+use Rattle.printed_text.proofs.put_events.Statement.{statement}
+use Rattle.printed_text.proofs.put_events.Tie as tie
 
 -- The points that the needs go back to.
 abbrev at-start-2 : (c : tie.After-elements) → tie.Start

@@ -16,8 +16,8 @@ use Rattle.layout.specs.Sizes.{ATTRIBUTE-RECORDS, RECORDS}
 use Rattle.rules_laws.specs.Within.{typeFile-count}
 use Rattle.type_laws.specs.Attributes.{typeFile-attributes, attributes-count}
 use Rattle.answer_laws.specs.Judge.{settled-one, refuses-some}
-use Rattle.sgml_events.specs.Prints.{ListedIn}
-use Rattle.sgml_events.specs.Attributes.{attributes-fit, attributes-named}
+use Rattle.printed_text.specs.Accepted.{ListedIn}
+use Rattle.printed_text.specs.Attributes.{attributes-fit, attributes-named}
 
 -- What was listed under the settings that the program gives.
 pub listed-given : {c : Settings} {s before : List ℕ} {a : Answer} {after : List ℕ} → c ≡ programSettings → Lists numbers c s before a after → Lists numbers programSettings s before a after

@@ -1,11 +1,11 @@
--- `sgml_events::listed` gives the records of the attributes: a type that is accepted is not refused here, and has room.
+-- `printed_text::listed` gives the records of the attributes: a type that is accepted is not refused here, and has room.
 use mathlib.Core.Path.{ap}
 use native.Mathlib.Omega.{arith}
 use Rattle.type_judge.specs.Decides.{answerOf}
-use Rattle.sgml_events.specs.Listed.{listed-given, listed-in, listed-not}
+use Rattle.printed_text.specs.Listed.{listed-given, listed-in, listed-not}
 use borrow.Author.Needs.{needs}
-use Rattle.sgml_events.proofs.listed.Statement.{statement}
-use Rattle.sgml_events.proofs.listed.Tie as tie
+use Rattle.printed_text.proofs.listed.Statement.{statement}
+use Rattle.printed_text.proofs.listed.Tie as tie
 
 -- The points that the needs go back to.
 abbrev at-start : (c : tie.After-given) → tie.Start

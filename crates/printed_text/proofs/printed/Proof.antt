@@ -1,13 +1,13 @@
--- `sgml_events::printed` puts the text that the rules decide into the buffer: that of the events, or of the refusal.
+-- `printed_text::printed` puts the text that the rules decide into the buffer: that of the events, or of the refusal.
 use mathlib.Core.Path.{refl, ap}
 use native.Mathlib.Omega.{arith}
 use borrow.Author.Needs.{needs}
 use Rattle.one_document.specs.Answer.{answerOf}
 use Rattle.rules.specs.Printed.{events}
 use Rattle.file_reader.specs.Loading.{counts-of}
-use Rattle.sgml_events.specs.Answers.{read-given, accepted-read, prints-refusal}
-use Rattle.sgml_events.proofs.printed.Statement.{statement}
-use Rattle.sgml_events.proofs.printed.Tie as tie
+use Rattle.printed_text.specs.Answers.{read-given, accepted-read, prints-refusal}
+use Rattle.printed_text.proofs.printed.Statement.{statement}
+use Rattle.printed_text.proofs.printed.Tie as tie
 
 -- The points that the needs go back to.
 abbrev at-read : (c : tie.After-a) → tie.After-read
