@@ -15,7 +15,7 @@ mod onsgmls;
 #[allow(dead_code)] // Only what a separator is, is asked of it.
 mod oracle;
 
-use departures::{plain_document, plain_type, without_comments, Kind, Kinds};
+use departures::{attributes_of, plain_document, plain_type, without_comments, Kind, Kinds};
 use generate::Random;
 use onsgmls::{add_data, clashes, Event, Onsgmls};
 use oracle::Settings;
@@ -24,13 +24,12 @@ use std::{env, io, process};
 
 /// Five numbers of four bytes.
 const EVENT_BYTES: usize = 4 * oracle::NUMBERS_PER_EVENT;
-/// Nine numbers of four bytes, of an attribute.
-const LIST_BYTES: usize = 4 * 9;
 const SHOWN_DIFFERENCES: usize = 3;
 
-/// Of each kind of departure but `House` inputs that show it: type file and document, or a type file.
+/// Of each kind of departure inputs that show it: type file and document, or a type file. (`long_examples` has others; of `House`
+/// there is none.)
 #[rustfmt::skip]
-const EXAMPLES: [(Kind, &str, Option<&str>); 14] = [
+const EXAMPLES: [(Kind, &str, Option<&str>); 22] = [
     // Refused by onsgmls alone, by the reader alone, and accepted by both with other text.
     (Kind::Separator, "<!ELEMENT A - O (#PCDATA,B)><!ELEMENT B - O EMPTY>", Some("<A>x<B> </A>")),
     (Kind::Separator, "<!ELEMENT A - O (B,#PCDATA,A?)><!ELEMENT B O O (#PCDATA)>", Some("<A> <A>x")),
@@ -43,10 +42,35 @@ const EXAMPLES: [(Kind, &str, Option<&str>); 14] = [
     (Kind::Later, "<!ELEMENT A O O (B)><!ATTLIST B X CDATA #IMPLIED><!ELEMENT B O O EMPTY>", None),
     (Kind::Net, "<!ELEMENT A - O (#PCDATA)>", Some("<A/x")),
     (Kind::Parted, "<!ELEMENT A -O EMPTY>", None),
+    (Kind::Parted, "<!ELEMENT A O O EMPTY><!ATTLIST A X CDATA'a' Y NUMBER#IMPLIED>", None),
+    (Kind::Parted, "<!ELEMENT A O O EMPTY><!ATTLIST A X CDATA 'a'Y CDATA 'b'>", None),
+    (Kind::Unquoted, "<!ELEMENT A O O EMPTY><!ATTLIST A X NUMBER 40>", None),
+    (Kind::Unquoted, "<!ELEMENT A O O EMPTY><!ATTLIST A X(a|b)b Y CDATA -a-- Z NAME #IMPLIED>", None),
+    (Kind::OtherWord, "<!ELEMENT A O O EMPTY><!ATTLIST A X ID #IMPLIED>", None),
+    (Kind::OtherWord, "<!ELEMENT A O O EMPTY><!ATTLIST A X CDATA#FIXED 'a'>", None),
+    (Kind::Mixed, "<!ELEMENT A O O EMPTY><!ATTLIST A X (a|b,c&d) #IMPLIED>", None),
+    (Kind::Twice, "<!ELEMENT A O O EMPTY><!ATTLIST A A0 NAME #IMPLIED X NAME 'a' X NUMBER '1'>", None),
     (Kind::Rank, "<!ELEMENT A - O EMPTY><!ELEMENT H 1 - O EMPTY>", None),
     (Kind::LastMember, "<!ELEMENT A - O (B&C)><!ELEMENT B - O EMPTY><!ELEMENT C O O (#PCDATA)>", Some("<A><B>x")),
     (Kind::Repeated, "<!ELEMENT A - O ((B&C)*,D)+>", None),
 ];
+
+/// Of kinds that are about numbers: 41 names and name tokens in a list, 40 once its last group is none, and values of 239 bytes.
+fn long_examples() -> [(Kind, String, Option<String>); 4] {
+    let element = "<!ELEMENT A O O EMPTY>";
+    let tokens: Vec<String> = (1..=32).map(|number| format!("T{number}")).collect();
+    let tokens = tokens.join("|");
+    let many = format!("{element}<!ATTLIST A X({tokens})'T1' Y(a|b|c|d|e)'a' Z(f)'f'>");
+    let value = "a".repeat(239);
+    let defaulted = format!("{element}<!ATTLIST A X CDATA '{value}'>");
+    let written = format!("{element}<!ATTLIST A X CDATA #IMPLIED>");
+    [
+        (Kind::Tokens, many.clone(), None),
+        (Kind::Tokens, many, Some("<A X='T32'>".to_string())),
+        (Kind::Long, defaulted, None),
+        (Kind::Long, written, Some(format!("<A X='{value}'>"))),
+    ]
+}
 
 /// Types in which a byte 13 is data wherever an element has `#PCDATA`, so that no departure bears on record ends.
 const RECORD_TYPES: [&str; 6] = [
@@ -79,7 +103,10 @@ fn main() -> io::Result<()> {
         name_length: length as u32,
     };
     let (mut passed, mut failed) = (0, 0);
-    for (kind, type_file, document) in EXAMPLES {
+    let owned = |(kind, type_file, document): (Kind, &str, Option<&str>)| {
+        (kind, type_file.to_string(), document.map(str::to_string))
+    };
+    for (kind, type_file, document) in EXAMPLES.map(owned).into_iter().chain(long_examples()) {
         match shows(&beside, kind, type_file, document)? {
             true => passed += 1,
             false => failed += 1,
@@ -110,13 +137,12 @@ fn main() -> io::Result<()> {
 fn shows(
     beside: &Onsgmls,
     kind: Kind,
-    type_file: &str,
-    document: Option<&str>,
+    type_file: String,
+    document: Option<String>,
 ) -> io::Result<bool> {
-    let type_file = type_file.as_bytes().to_vec();
     let compared = match document {
-        Some(document) => compare_document(beside, type_file, document.as_bytes().to_vec()),
-        None => compare_type(beside, type_file),
+        Some(document) => compare_document(beside, type_file.into(), document.into()),
+        None => compare_type(beside, type_file.into()),
     }?;
     let alike_anew = compared.difference_anew.is_none();
     let shown = compared.difference.is_some() && alike_anew && compared.kinds == [kind].into();
@@ -249,20 +275,20 @@ fn compare_document(
     document: Vec<u8>,
 ) -> io::Result<Compared> {
     let difference = document_difference(beside, &type_file, &document)?;
-    let (plain, kinds) = plain_document(beside.name_length, &type_file, &document);
+    let (plain_type, plain, kinds) = plain_document(beside.name_length, &type_file, &document);
     let settings = Settings::first(beside.name_length);
     let read = |document: &[u8]| reading(settings, &type_file, document);
     let reading = read(&document);
-    // Of some, only the beginning is left.
-    let cut = [Kind::LeftOut, Kind::Value, Kind::Net, Kind::House]
+    // Of some, or of a value in them, only the beginning is left.
+    let cut = [Kind::LeftOut, Kind::Value, Kind::Net, Kind::House, Kind::Long]
         .iter()
         .any(|kind| kinds.contains(kind));
     let difference_anew = if kinds.is_empty() {
         difference.clone()
-    } else if !cut && !alike_anew(&kinds, &reading, &read(&plain)) {
+    } else if !cut && plain_type == type_file && !alike_anew(&kinds, &reading, &read(&plain)) {
         Some("  the library reads it otherwise once written anew".to_string())
     } else {
-        document_difference(beside, &type_file, &plain)?
+        document_difference(beside, &plain_type, &plain)?
     };
     Ok(Compared {
         type_file,
@@ -317,9 +343,7 @@ fn without_record_ends(random: &mut Random, document: &[u8]) -> Vec<u8> {
 fn reading(settings: Settings, type_file: &[u8], document: &[u8]) -> Read {
     let (mut answer, mut records) = ([0; 6], [0; 6 * 4 * 64]);
     library::judge(settings, type_file, &mut records, &mut answer);
-    let mut lists = vec![0; LIST_BYTES * 40 * 64];
-    library::attributes(settings, type_file, &mut lists, &mut answer);
-    lists.truncate(LIST_BYTES * answer[5] as usize);
+    let attributes = attributes_of(settings, type_file);
     // No token brings more than 50 events and 24 times 40 attributes, and a token has at least one byte.
     let mut buffer = vec![0; EVENT_BYTES * 1010 * (document.len() + 1)];
     library::read(settings, type_file, document, &mut buffer, &mut answer);
@@ -345,9 +369,7 @@ fn reading(settings: Settings, type_file: &[u8], document: &[u8]) -> Read {
         }
         if kind == 1 || kind == 2 {
             // All attributes of its list, an implied one too.
-            for list in lists.chunks_exact(LIST_BYTES) {
-                let [of, number, name, size, declared] =
-                    [0, 1, 2, 3, 4].map(|index| number(list, index));
+            for &[of, number, name, size, declared, ..] in &attributes {
                 if of == element {
                     let name = &type_file[name..name + size];
                     let value = given.get(&number).copied();

@@ -101,6 +101,8 @@ pub struct Noted {
     /// Starts that were inferred in a member of an "&" group that had not begun, where another had:
     /// the token's offset, and the tags as they could have been written there.
     pub last_members: Vec<(usize, String)>,
+    /// Offset and length of each value that a tag gave: "CDATA (any length)".
+    pub values: Vec<(usize, usize)>,
 }
 
 /// The type file is an accepted one. (`opensp.rs` alone asks for this.)
@@ -1642,6 +1644,7 @@ impl<'a> DocumentReader<'a> {
     fn start_tag(&mut self, at: usize) -> Result<usize, Fault> {
         let (element, given, after) = self.tag(at, at + 1, true)?;
         self.check_attributes(at, element, &given)?;
+        self.noted.values.extend(given.iter().map(|one| one.value));
         let place = self.settle(Token::Start(element), at)?;
         // This element counts too, an EMPTY one as well: it is open for an instant.
         if self.open_elements() + 1 > TAGLVL {
