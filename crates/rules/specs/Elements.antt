@@ -6,11 +6,11 @@ use lib.Dec.{eqb}
 use Rattle.rules.specs.Bytes.{sameText}
 use Rattle.rules.specs.Walk.{place}
 use Rattle.rules.specs.Attributes.{needsTag}
-use Rattle.rules.specs.TypeFile.{Place, Content, empty, model, Element}
+use Rattle.rules.specs.TypeFile.{Place, Content, empty, model, Element, elementWith}
 
 -- The k-th element of the type, from 0.
 unfoldable pub elementAt : List Element → ℕ → Element
-elementAt [] k = record { at = 0; size = 0; start = 0; end = 0; content = empty; repeated = 0; attributes = [] }
+elementAt [] k = elementWith 0 0 0 0 empty 0 []
 elementAt (e ∷ es) zero = e
 elementAt (e ∷ es) (suc k) = elementAt es k
 

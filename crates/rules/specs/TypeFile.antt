@@ -275,6 +275,16 @@ pub record Element : Type 0 where
   pub repeated : ℕ
   pub attributes : List Attribute
 
+-- An element is made here alone: where its name stands and how long it is, its start and end tag, its content, where the first "&" stands that is refused in
+-- it, and its attributes.
+abbrev pub elementWith : (at size start end : ℕ) → Content → (repeated : ℕ) → List Attribute → Element
+elementWith at size start end content repeated attributes =
+    record { at = at; size = size; start = start; end = end; content = content; repeated = repeated; attributes = attributes }
+
+-- The element with these attributes.
+abbrev pub withList : Element → List Attribute → Element
+withList e xs = elementWith (e .at) (e .size) (e .start) (e .end) (e .content) (e .repeated) xs
+
 -- An element declared before has the name of this size at `at`.
 unfoldable pub isDeclared : List ℕ → List Element → ℕ → ℕ → Bool
 isDeclared s [] at size = false
@@ -393,7 +403,7 @@ pub record Declared : Type 0 where
 
 -- The element that is declared with this head and this content. Its attributes come with a list further on.
 abbrev pub declare : Head → ContentEnd → Element
-declare h x = record { at = h .name; size = h .size; start = h .start; end = h .end; content = x .content; repeated = x .repeated; attributes = [] }
+declare h x = elementWith (h .name) (h .size) (h .start) (h .end) (x .content) (x .repeated) []
 
 -- What follows the head: the content and the end of the declaration.
 unfoldable pub rest : (long : ℕ) → List ℕ → List Element → Head → Reading Declared
@@ -706,8 +716,7 @@ attributesOf (l ∷ ls) k = elim (eqb (l .element) k) [ true ↦ l .attributes |
 -- Each element with the attributes of its list. The first of these has the number k.
 unfoldable pub listed : ℕ → List AttList → List Element → List Element
 listed k ls [] = []
-listed k ls (e ∷ es) =
-    record { at = e .at; size = e .size; start = e .start; end = e .end; content = e .content; repeated = e .repeated; attributes = attributesOf ls k } ∷ listed (k + 1) ls es
+listed k ls (e ∷ es) = withList e (attributesOf ls k) ∷ listed (k + 1) ls es
 
 unfoldable pub typeFile : (long : ℕ) → List ℕ → Reading (List Element)
 typeFile long s = andThen (declarationsWithin long (suc (length s)) s 0 [] []) λ d. got (listed 1 (d .lists) (d .elements))
