@@ -1,7 +1,7 @@
 -- What is asked of the sets when a place is taken, in the terms of the groups around it and of the table that has them.
 use Prim.Native.Nat.{ℕ, _-_, _%_, _≤_, _<_}
 use mathlib.Core.Path.{_≡_}
-use mathlib.Core.Bool.{Bool, true, false, _||_, not}
+use mathlib.Core.Bool.{Bool, true, false, _||_}
 use mathlib.Core.List.{List}
 use Rattle.rules.specs.Walk.{Group}
 use Rattle.rules.specs.Bytes.{GRPGTCNT}

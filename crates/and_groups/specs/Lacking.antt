@@ -7,14 +7,14 @@ use mathlib.Core.List.{List, [], _∷_}
 use native.Mathlib.Decide.{ℕ-discrete, decLt}
 use native.Mathlib.Omega.{arith}
 use lib.Dec.{eqb, ltb}
-use borrow.Author.Tests.{eqb-true, eqb-false, lt-ltb, ltb-true}
+use borrow.Author.Tests.{eqb-true, eqb-false, lt-ltb, ltb-true, not-true}
 use Rattle.rules.specs.Bytes.{GRPGTCNT}
 use Rattle.layout.specs.Sizes.{ENDING}
 use Rattle.basic_laws.specs.Truth.{and-left, and-right, bool-cases}
-use Rattle.model_sets.specs.Sets.{hasM}
+use Rattle.model_sets.specs.Sets.{hasM, amount}
 use Rattle.and_laws.specs.Req.{restReq}
 use Rattle.and_laws.specs.Ranked.{Level, Rising}
-use Rattle.member_laws.specs.Members.{amount, groupAt, firstAt, dueAt, amongAt, isOwn, AllSets, Grouped, Chain, begunAt, Marked}
+use Rattle.member_laws.specs.Members.{groupAt, firstAt, dueAt, amongAt, isOwn, AllSets, Grouped, Chain, begunAt, Marked}
 use Rattle.member_laws.specs.Numbered.{rest-one, rest-two}
 use Rattle.member_laws.specs.Inside.{EachLevel}
 use Rattle.member_laws.specs.Around.{numbered-due, member-small, chain-kept}
@@ -22,7 +22,7 @@ use Rattle.member_laws.specs.Sets.{first-of, anyOwn, own-range, range-own, own-
 use Rattle.member_bits.specs.declared.Bits.{Bits}
 use Rattle.member_bits.specs.Having as having
 use Rattle.member_bits.specs.Having.{Has}
-use Rattle.member_bits.specs.Laws.{has-same}
+use Rattle.member_bits.specs.Operations.{has-same}
 use Rattle.and_groups.specs.Asked.{Awaits, Alone, Due}
 
 -- One group
@@ -100,11 +100,7 @@ module _ (M : List ℕ) (e inner x : ℕ) (b : Bits) (ends : ENDING < inner) whe
             rest-other M begun level e ls l kept S marked x waits y
             (subst (λ (g : ℕ). isOwn M e g y ≡ true) (alone .no z .1 ∙ own-group M e l kept x (waits .own)) (own-its M e ls all y (and-left (anyOwn M e y ls) _ i)))
             (ltb-true x y (and-right (anyOwn M e y ls && not (begunAt begun level y)) _ w))
-            (unset (begunAt begun level y) (and-right (anyOwn M e y ls) _ i))
-          where
-            unset : (t : Bool) → not t ≡ true → t ≡ false
-            unset true q = absurd (false≢true q)
-            unset false q = refl
+            (not-true (begunAt begun level y) (and-right (anyOwn M e y ls) _ i))
 
     -- No other has.
     module _ (q : ℕ) (read : q ≡ dueAt M e x) (z : r ≡ true) where

@@ -25,7 +25,7 @@ use Rattle.member_laws.specs.Around.{isHolder, numbered-small, chain-kept, mark
 use Rattle.member_laws.specs.Sets.{short-none}
 use Rattle.member_bits.specs.declared.Bits.{Bits}
 use Rattle.member_bits.specs.Having.{Has}
-use Rattle.member_bits.specs.Laws.{has-same}
+use Rattle.member_bits.specs.Operations.{has-same}
 use Rattle.begun_bits.specs.Levels.{Puts}
 use Rattle.and_groups.specs.Takes.{Takes, Blocked, free, held, FREE}
 use Rattle.and_groups.specs.Asked as asked

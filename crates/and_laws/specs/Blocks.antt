@@ -1,12 +1,11 @@
 -- A walk through "&" as its sequences that are not empty, in order (`Arr`): the same walks; where a member's sequence stands among others.
 use Prim.Native.Nat.{ℕ}
 use mathlib.Core.Path.{_≡_, refl, sym, _∙_, ap, subst}
-use mathlib.Core.Bool.{Bool, true, false, false≢true}
-use mathlib.Core.Logic.{_⊎_, inl, inr}
-use mathlib.Core.List.{List, [], _∷_, _++_, append-assoc, append-nil, nil≢cons, cons≢nil, head-eq-of-cons-eq, tail-eq-of-cons-eq}
-use Rattle.model_sets.specs.Sets.{has, hasM}
+use mathlib.Core.Logic.{inl, inr}
+use mathlib.Core.List.{List, [], _∷_, _++_, append-assoc, append-nil, head-eq-of-cons-eq, tail-eq-of-cons-eq}
+use Rattle.model_sets.specs.Sets.{hasM}
 use Rattle.rules.specs.Walk.{Group, and, Members, one, also, joined, Walk, Orders}
-use Rattle.and_laws.specs.Base.{mem, In, Ends, Cuts, cuts, joined-append}
+use Rattle.and_laws.specs.Base.{In, Ends, Cuts, cuts, joined-append}
 use Rattle.and_laws.specs.Sets.{walk-in}
 
 -- a sequence as a list of one, nothing if it is empty

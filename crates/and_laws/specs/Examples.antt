@@ -1,10 +1,10 @@
 -- Examples: (A & B) has exactly AB and BA; (A & B & C) exactly its six, ACB among them, which ((A & B) & C) lacks; folds compute.
 use Prim.Native.Nat.{ℕ}
-use mathlib.Core.Path.{_≡_, refl, sym, _∙_, ap, subst}
-use mathlib.Core.Bool.{Bool, true, false, false≢true}
+use mathlib.Core.Path.{_≡_, refl, sym, _∙_, ap}
+use mathlib.Core.Bool.{true, false, false≢true}
 use mathlib.Core.Logic.{_⊎_, inl, inr}
-use mathlib.Core.List.{List, [], _∷_, _++_, nil≢cons, cons≢nil, head-eq-of-cons-eq, tail-eq-of-cons-eq}
-use Rattle.rules.specs.Walk.{Group, place, seq, alt, opt, plus, and, Members, one, also, joined, Walk, Orders, Begins}
+use mathlib.Core.List.{List, [], _∷_, _++_, head-eq-of-cons-eq, tail-eq-of-cons-eq}
+use Rattle.rules.specs.Walk.{Group, place, seq, and, Members, one, also, joined, Walk, Orders}
 use Rattle.and_laws.specs.Base.{mem, ends-snoc}
 use Rattle.and_laws.specs.Sets.{Good}
 use Rattle.and_laws.specs.Later.{nil-parts}

@@ -1,18 +1,15 @@
 -- The required place from the row and from what has begun: where an "&" group that could end lacks a member, the place of the only member left; else the row's.
 use Prim.Native.Nat.{ℕ}
-use mathlib.Core.Path.{_≡_, refl, sym, _∙_, ap}
-use mathlib.Core.Bool.{Bool, true, false, _&&_, _||_, not, cond, false≢true}
-use mathlib.Core.Logic.{_⊎_, inl, inr}
-use lib.Dec.{eqb}
-use Rattle.basic_laws.specs.Truth.{or-left, or-right, or-cases, and-left, and-right, and-both, not-true, not-both, bool-cases}
+use mathlib.Core.Path.{_≡_, refl, _∙_}
+use mathlib.Core.Bool.{Bool, true, false, _&&_, _||_, not, cond, false≢true, and-false}
+use Rattle.basic_laws.specs.Truth.{or-cases, and-left, and-right, not-both, bool-cases, cond-same}
 use Rattle.model_sets.specs.Sets.{has, hasM, nullable, nullableM, last, lastM, must, mustM, mustAfter, mustAfterM}
 use Rattle.rules.specs.Walk.{Group, place, seq, alt, opt, plus, and, Members, one, also}
-use Rattle.and_laws.specs.Base.{Apart}
 use Rattle.and_laws.specs.Sets.{meets, Plain, Good, GoodM}
-use Rattle.and_laws.specs.Rest.{allM, anyM, or-none}
+use Rattle.and_laws.specs.Rest.{allM}
 use Rattle.and_laws.specs.Decide.{done, nowDone, or-only}
 use Rattle.and_laws.specs.Req.{anyIdle, restReq, reqAfter, reqNow}
-use Rattle.and_laws.specs.Rows.{last-has, lastM-has, fine, full, fullM, done-row, now-row, plain-full, and-no, and-yes, or-no}
+use Rattle.and_laws.specs.Rows.{last-has, lastM-has, fine, full, fullM, done-row, now-row}
 
 -- an "&" group around u lacks a member, where u can end the members that hold it, up to that group
 abbrev mutual
@@ -42,10 +39,6 @@ abbrev mutual
   loneM (one g) u S = lone g u S
   loneM (also m g) u S = cond (has g u) (lone g u S) (loneM m u S)
 
-both-same : {A : Type 0} (c : Bool) (x : A) → cond c x x ≡ x
-both-same true x = refl
-both-same false x = refl
-
 -- a group that can be nothing requires nothing
 mutual
   pub null-req : (g : Group) → nullable g ≡ true → must g ≡ 0
@@ -70,7 +63,7 @@ mutual
       (λ j. rw j (last-req h k u (or-cases (last h u) _ (λ x. x) (λ y. absurd (a u (last-has g u (and-right (nullable h) _ y)) j)) e)))
       (λ j.
       let y = or-cases (last h u) (nullable h && last g u) (λ x. absurd (not-both j (last-has h u x))) (λ y. y) e in
-      rw (j, and-left (nullable h) _ y, and-no (last g u)) (last-req g d u (and-right (nullable h) _ y)))
+      rw (j, and-left (nullable h) _ y, and-false (last g u)) (last-req g d u (and-right (nullable h) _ y)))
   last-req (alt g h) (d, k, a) u e =
       bool-cases
       (has h u)
@@ -95,7 +88,7 @@ fine-rest (also m g) S e =
     bool-cases
     (meets g S)
     (λ i. rw i (fine-rest m S (and-left (allM (fine S) m) _ e)))
-    (λ i. let n : nullable g ≡ true = rw i at (and-right (allM (fine S) m) (fine S g) e) in rw (i, null-req g n) (both-same (anyIdle S m) 0))
+    (λ i. let n : nullable g ≡ true = rw i at (and-right (allM (fine S) m) (fine S g) e) in rw (i, null-req g n) (cond-same (anyIdle S m) 0))
 
 joined-not : (x y : Bool) → not x && y ≡ not (x || not y)
 joined-not true y = refl
@@ -156,8 +149,8 @@ nowDone-blocks m d u S i =
 -- Of a group without "&" nothing blocks.
 pub plain-blocks : (g : Group) → Plain g → (u : ℕ) (S : ℕ → Bool) → blocks g u S ≡ false
 plain-blocks (place n) x u S = refl
-plain-blocks (seq g h) (x, y) u S = rw (plain-blocks g x u S, plain-blocks h y u S) (both-same (has h u) false)
-plain-blocks (alt g h) (x, y) u S = rw (plain-blocks g x u S, plain-blocks h y u S) (both-same (has h u) false)
+plain-blocks (seq g h) (x, y) u S = rw (plain-blocks g x u S, plain-blocks h y u S) (cond-same (has h u) false)
+plain-blocks (alt g h) (x, y) u S = rw (plain-blocks g x u S, plain-blocks h y u S) (cond-same (has h u) false)
 plain-blocks (opt g) x u S = plain-blocks g x u S
 plain-blocks (plus g) x u S = refl
 plain-blocks (and m) x u S = absurd x

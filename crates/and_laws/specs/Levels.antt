@@ -1,17 +1,17 @@
 -- The "&" groups around a place, from the inner to the outer ones: a walk through them finds the one that blocks, and its required place.
 use Prim.Native.Nat.{ℕ}
 use mathlib.Core.Path.{_≡_, refl, sym, _∙_, ap}
-use mathlib.Core.Bool.{Bool, true, false, _&&_, _||_, not, cond, false≢true}
+use mathlib.Core.Bool.{Bool, true, false, _&&_, _||_, not, cond, false≢true, or-false, and-false, and-true, and-assoc}
 use mathlib.Core.List.{List, [], _∷_, _++_, append-nil}
-use Rattle.basic_laws.specs.Truth.{or-left, or-right, or-cases, and-left, and-right, and-both, not-true, not-both, bool-cases}
+use Rattle.basic_laws.specs.Truth.{or-left, or-right, or-cases, and-left, and-right, and-both, not-true, not-both, bool-cases, or-none}
 use Rattle.model_sets.specs.Sets.{has, hasM, nullable, first, last, lastM, follow, followM}
 use Rattle.rules.specs.Walk.{Group, place, seq, alt, opt, plus, and, Members, one, also}
 use Rattle.and_laws.specs.Sets.{meets, Good, GoodM}
-use Rattle.and_laws.specs.Rest.{allM, anyM, or-none}
+use Rattle.and_laws.specs.Rest.{allM, anyM}
 use Rattle.and_laws.specs.Decide.{or-only}
 use Rattle.and_laws.specs.Req.{restReq}
-use Rattle.and_laws.specs.Unique.{first-has}
-use Rattle.and_laws.specs.Rows.{last-has, lastM-has, follow-from, followM-from, follow-to, followM-to, fine, full, fullM, unbegun, may, mayM, or-no, and-no, and-yes, gathered}
+use Rattle.and_laws.specs.Forced.{first-has}
+use Rattle.and_laws.specs.Rows.{last-has, lastM-has, follow-from, followM-from, follow-to, followM-to, fine, full, fullM, unbegun, may, mayM}
 use Rattle.and_laws.specs.Lacking.{blocks, blocksM, lone, loneM}
 
 -- the "&" groups around u, the innermost first; within "+" there is none
@@ -75,7 +75,7 @@ mutual
 
 -- one group more, around the others
 blocks-append : (xs : List Members) (m : Members) (u : ℕ) (S : ℕ → Bool) → blocksIn (xs ++ m ∷ []) u S ≡ blocksIn xs u S || (endsIn xs u && (lastM m u && not (allM (fine S) m)))
-blocks-append [] m u S = ap (λ (z : Bool). lastM m u && z) (or-no (not (allM (fine S) m)))
+blocks-append [] m u S = ap (λ (z : Bool). lastM m u && z) (or-false (not (allM (fine S) m)))
 blocks-append (x ∷ xs) m u S = ap (λ (z : Bool). lastM x u && (not (allM (fine S) x) || z)) (blocks-append xs m u S) ∙ spread (lastM x u) (not (allM (fine S) x)) (blocksIn xs u S) (endsIn xs u) (lastM m u && not (allM (fine S) m))
   where
     spread : (l f b e z : Bool) → l && (f || (b || (e && z))) ≡ (l && (f || b)) || ((l && e) && z)
@@ -96,7 +96,7 @@ mutual
       ∙ bool-cases
       (lastM m u)
       (λ e. rw (e, blocks-append (aroundM m u) m u S, lastM-ends m d u e, e))
-      (λ e. rw (e, blocks-append (aroundM m u) m u S, e, and-no (endsIn (aroundM m u) u)))
+      (λ e. rw (e, blocks-append (aroundM m u) m u S, e, and-false (endsIn (aroundM m u) u)))
 
   blocksM-in : (m : Members) → GoodM m → (u : ℕ) (S : ℕ → Bool) → hasM m u ≡ true → blocksM m u S ≡ blocksIn (aroundM m u) u S
   blocksM-in (one g) d u S i = blocks-in g d u S i
@@ -186,8 +186,8 @@ mutual
       bool-cases (has g u) (λ j. rw j (around-without g u p y)) (λ j. rw j (aroundM-without m u p x))
 
 full-append : (xs : List Members) (m : Members) (S : ℕ → Bool) → fullIn (xs ++ m ∷ []) S ≡ fullIn xs S && allM (fine S) m
-full-append [] m S = and-yes (allM (fine S) m)
-full-append (x ∷ xs) m S = ap (λ (z : Bool). allM (fine S) x && z) (full-append xs m S) ∙ sym (gathered (allM (fine S) x) (fullIn xs S) (allM (fine S) m))
+full-append [] m S = and-true (allM (fine S) m)
+full-append (x ∷ xs) m S = ap (λ (z : Bool). allM (fine S) x && z) (full-append xs m S) ∙ sym (and-assoc (allM (fine S) x) (fullIn xs S) (allM (fine S) m))
 
 mutual
   pub full-in : (g : Group) (u : ℕ) (S : ℕ → Bool) → full g u S ≡ fullIn (around g u) S
@@ -205,7 +205,7 @@ mutual
 -- groups that do not have p must not lack a member
 may-past : (xs ys : List Members) (u : ℕ) (S : ℕ → Bool) (p : ℕ) → Without xs p → mayIn (xs ++ ys) u S p ≡ fullIn xs S && mayIn ys u S p
 may-past [] ys u S p w = refl
-may-past (x ∷ xs) ys u S p (v, w) = rw v (ap (λ (z : Bool). allM (fine S) x && z) (may-past xs ys u S p w) ∙ sym (gathered (allM (fine S) x) (fullIn xs S) (mayIn ys u S p)))
+may-past (x ∷ xs) ys u S p (v, w) = rw v (ap (λ (z : Bool). allM (fine S) x && z) (may-past xs ys u S p w) ∙ sym (and-assoc (allM (fine S) x) (fullIn xs S) (mayIn ys u S p)))
 
 -- a group that has u and p in one member takes nothing away
 may-same : (xs : List Members) (m : Members) (u : ℕ) (S : ℕ → Bool) (p : ℕ) → hasM m p ≡ true → together m u p ≡ true → mayIn (xs ++ m ∷ []) u S p ≡ mayIn xs u S p
@@ -222,8 +222,8 @@ apart-u (one g) u p n = rw n
 apart-u (also m g) u p n = let (x, y) = or-none (hasM m u) (has g u) n in rw (y, apart-u m u p x)
 
 apart-p : (m : Members) (u p : ℕ) → hasM m p ≡ false → together m u p ≡ false
-apart-p (one g) u p n = rw (n, and-no (has g u))
-apart-p (also m g) u p n = let (x, y) = or-none (hasM m p) (has g p) n in rw (y, and-no (has g u), apart-p m u p x)
+apart-p (one g) u p n = rw (n, and-false (has g u))
+apart-p (also m g) u p n = let (x, y) = or-none (hasM m p) (has g p) n in rw (y, and-false (has g u), apart-p m u p x)
 
 none-unbegun : (m : Members) (S : ℕ → Bool) (p : ℕ) → hasM m p ≡ false → anyM (unbegun S p) m ≡ false
 none-unbegun (one g) S p n = rw n
@@ -258,7 +258,7 @@ module _ (u : ℕ) (S : ℕ → Bool) (p : ℕ) where
         (or-cases (follow h u p) _ (λ y. absurd (not-both j (follow-from h u p y))) (λ y. absurd (a p x (first-has h p (and-right (last g u) _ y)))))
         f in
         rw (j, x) (may-in g d l e))
-        (λ x. rw (j, x) (full-in g u S ∙ sym (and-yes (fullIn (around g u) S)) ∙ sym (may-past (around g u) [] u S p (around-without g u p x)) ∙ ap (λ (z : List Members). mayIn z u S p) (append-nil (around g u)))))
+        (λ x. rw (j, x) (full-in g u S ∙ sym (and-true (fullIn (around g u) S)) ∙ sym (may-past (around g u) [] u S p (around-without g u p x)) ∙ ap (λ (z : List Members). mayIn z u S p) (append-nil (around g u)))))
     may-in (alt g h) (d, k, a) i f =
         bool-cases
         (has h u)
@@ -290,7 +290,7 @@ module _ (u : ℕ) (S : ℕ → Bool) (p : ℕ) where
         rw (j, x) (may-in g k j e ∙ sym (may-same (around g u) (also m g) u S p (or-right (hasM m p) x) (or-right (together m u p) (and-both j x)))))
         (λ x.
         let o = or-only (hasM m p) (has g p) x (followM-to (also m g) u p f) in
-        rw (j, x) (ap (λ (z : Bool). z && anyM (unbegun S p) m) (full-in g u S) ∙ ap (λ (z : Bool). fullIn (around g u) S && z) (sym (tail m g o x (apart-u m u p n) (and-no (has g u)))) ∙ sym (may-past (around g u) (also m g ∷ []) u S p (around-without g u p x)))))
+        rw (j, x) (ap (λ (z : Bool). z && anyM (unbegun S p) m) (full-in g u S) ∙ ap (λ (z : Bool). fullIn (around g u) S && z) (sym (tail m g o x (apart-u m u p n) (and-false (has g u)))) ∙ sym (may-past (around g u) (also m g ∷ []) u S p (around-without g u p x)))))
         (λ j.
         let l = or-only (hasM m u) (has g u) j i in
         bool-cases
@@ -306,10 +306,10 @@ module _ (u : ℕ) (S : ℕ → Bool) (p : ℕ) where
         (or-cases (followM m u p) _ (λ y. y) (λ y. absurd (not-both j (follow-from g u p y))))
         (or-cases (lastM m u && first g p) _ (λ y. absurd (not-both x (first-has g p (and-right (lastM m u) _ y)))) (λ y. absurd (not-both j (last-has g u (and-left (last g u) _ y)))))
         f in
-        rw (j, x) (mayM-in m d l e ∙ may-last (aroundM m u) m (also m g) u S p o (or-left _ o) (rw (x, and-no (has g u), or-no (together m u p), or-no (anyM (unbegun S p) m))))))
+        rw (j, x) (mayM-in m d l e ∙ may-last (aroundM m u) m (also m g) u S p o (or-left _ o) (rw (x, and-false (has g u), or-false (together m u p), or-false (anyM (unbegun S p) m))))))
       where
         tail : (m : Members) (g : Group) → hasM m p ≡ true → has g p ≡ false → together m u p ≡ false → has g u && false ≡ false → mayIn (also m g ∷ []) u S p ≡ anyM (unbegun S p) m
-        tail m g o x t z = rw (o, x, t, z, or-no (anyM (unbegun S p) m))
+        tail m g o x t z = rw (o, x, t, z, or-false (anyM (unbegun S p) m))
 
         end : (m : Members) (g : Group) → has g p ≡ true → hasM m p ≡ false → has g u ≡ false → mayIn (also m g ∷ []) u S p ≡ not (meets g S)
         end m g x c j = rw (c, x, j, apart-p m u p c, none-unbegun m S p c)

@@ -1,17 +1,16 @@
 -- The places of a walk that belong to one part: of a walk through "&" they are a walk of that part. Views of what a last place does.
 use Prim.Native.Nat.{ℕ}
 use mathlib.Core.Path.{_≡_, refl, sym, _∙_, ap, subst}
-use mathlib.Core.Bool.{Bool, true, false, _&&_, _||_, false≢true, cond}
+use mathlib.Core.Bool.{Bool, true, false, false≢true, cond}
 use mathlib.Core.Logic.{_⊎_, inl, inr}
-use mathlib.Core.List.{List, [], _∷_, _++_, append-assoc, append-nil, nil≢cons, cons≢nil, head-eq-of-cons-eq, tail-eq-of-cons-eq}
-use Rattle.basic_laws.specs.Truth.{or-left, or-right, not-true}
+use mathlib.Core.List.{List, [], _∷_, _++_, append-assoc, append-nil, tail-eq-of-cons-eq}
+use Rattle.basic_laws.specs.Truth.{not-true}
 use Rattle.model_sets.specs.Sets.{has, hasM}
-use Rattle.rules.specs.Walk.{Group, place, seq, alt, opt, plus, and, Members, one, also, Runs, once, more, joined, Walk, Begins}
-use Rattle.and_laws.specs.Base.{mem, mem-left, mem-right, mem-cases, mem-head, In, Apart, in-append, Ends, ends-snoc, ends-append, ends-split, ends-mem, ends-some, Cuts, cuts, joined-append, Inside, inside}
+use Rattle.rules.specs.Walk.{Group, seq, plus, and, Members, also, Runs, once, more, joined, Walk, Begins}
+use Rattle.and_laws.specs.Base.{mem, mem-left, mem-right, mem-head, In, Apart, in-append, Ends, ends-snoc, ends-split, ends-some, Cuts, cuts, joined-append, Inside, inside}
 use Rattle.and_laws.specs.Sets.{walk-in}
 use Rattle.and_laws.specs.Blocks.{block, Arr, joined-block, walk-arr, arr-walk, arr-in, At, before, here, after, at-block}
 use Rattle.and_laws.specs.Later.{nil-parts}
-use Rattle.and_laws.specs.Left.{ends-in}
 
 abbrev pub only : (ℕ → Bool) → List ℕ → List ℕ
 only f [] = []

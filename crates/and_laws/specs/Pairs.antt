@@ -1,22 +1,22 @@
 -- Ambiguity without listing orders: `clash g p q` is true exactly if some sequence has both p and q as next (`pair-exact`).
 use Prim.Native.Nat.{ℕ, _<_}
 use mathlib.Core.Path.{_≡_, refl, sym, _∙_, ap, subst}
-use mathlib.Core.Bool.{Bool, true, false, _&&_, _||_, false≢true}
+use mathlib.Core.Bool.{Bool, true, _&&_, _||_}
 use mathlib.Core.Logic.{_⊎_, inl, inr, _↔_}
-use mathlib.Core.List.{List, [], _∷_, _++_, append-assoc, append-nil, nil≢cons, cons≢nil, head-eq-of-cons-eq, tail-eq-of-cons-eq}
+use mathlib.Core.List.{List, [], _∷_, _++_, append-nil, cons≢nil, head-eq-of-cons-eq, tail-eq-of-cons-eq}
 use lib.Dec.{eqb}
-use borrow.Author.Tests.{eqb-true, eq-eqb}
-use Rattle.basic_laws.specs.Truth.{or-left, or-right, or-cases, and-left, and-right, and-both}
-use Rattle.model_sets.specs.Sets.{has, hasM, nullable, first, firstM}
-use Rattle.rules.specs.Walk.{Group, place, seq, alt, opt, plus, and, Members, one, also, Runs, once, more, joined, Walk, Begins, MayComeNext}
+use borrow.Author.Tests.{eq-eqb}
+use Rattle.basic_laws.specs.Truth.{or-left, or-right, and-both}
+use Rattle.model_sets.specs.Sets.{has, hasM, first, firstM}
+use Rattle.rules.specs.Walk.{Group, place, seq, alt, opt, plus, and, Members, one, also, Runs, more, joined, Walk, Begins}
 use Rattle.rules.specs.Ambiguity.{PairAtFault}
-use Rattle.and_laws.specs.Base.{mem, In, Apart, Ends, ends-append, ends-mem, ends-some}
+use Rattle.and_laws.specs.Base.{mem, In, Apart, Ends, ends-append, ends-mem, mem-right, nil≢middle}
 use Rattle.and_laws.specs.Sets.{Plain, Good, GoodM, walk-in}
 use Rattle.and_laws.specs.Blocks.{Arr}
 use Rattle.and_laws.specs.Later.{nil-parts}
-use Rattle.and_laws.specs.Fold.{ends, endsM, cross, clash, clashM, GoesOn, Both, both-swap, walk-one, begins-less, clash-both}
+use Rattle.and_laws.specs.Fold.{ends, endsM, cross, clash, clashM, GoesOn, Both, walk-one, begins-less, clash-both}
 use Rattle.and_laws.specs.Only.{only, in-both, only-end, begins-in, ends-unique, ends-of, runs-last, SeqNext, in-g, in-h, seq-next, PlusNext, in-run, plus-next, MoreNext, own, other, more-next, own-only, own-rest, other-tail, other-only, other-begins}
-use Rattle.and_laws.specs.Exact.{walk-first, arr-first, begins-first, on-ends, plain-next, plus-goes, edge}
+use Rattle.and_laws.specs.Exact.{arr-first, begins-first, on-ends, plain-next, plus-goes, edge}
 
 seq-clash : (g h : Group) → Good g → Apart (has g) (has h) → (p q : ℕ) → (Both g p q → clash g p q ≡ true) → (Both h p q → clash h p q ≡ true) → Both (seq g h) p q → clash (seq g h) p q ≡ true
 seq-clash g h i d p q f k (s, x, y) = go (seq-next g h s p x) (seq-next g h s q y)
@@ -24,12 +24,8 @@ seq-clash g h i d p q f k (s, x, y) = go (seq-next g h s p x) (seq-next g h s q 
     -- a place of g and one of h: g is walked
     over : (p q : ℕ) → Begins g (s ++ p ∷ []) → (a c : List ℕ) → s ≡ a ++ c → Walk g a → Begins h (c ++ q ∷ []) → ends g p && first h q ≡ true
     over p q v a c e w b =
-        let n : c ≡ [] = in-both (has g) (has h) d c (λ r j. begins-in g s (p ∷ []) v r (subst (λ (l : List ℕ). mem l r ≡ true) (sym e) (second a c r j))) (begins-in h c (q ∷ []) b) in
+        let n : c ≡ [] = in-both (has g) (has h) d c (λ r j. begins-in g s (p ∷ []) v r (subst (λ (l : List ℕ). mem l r ≡ true) (sym e) (mem-right a c r j))) (begins-in h c (q ∷ []) b) in
         and-both (on-ends g i p (s, subst (Walk g) (sym (e ∙ ap (_++_ a) n ∙ append-nil a)) w, v)) (begins-first h q (subst (λ (l : List ℕ). Begins h (l ++ q ∷ [])) n b))
-      where
-        second : (a c : List ℕ) (r : ℕ) → mem c r ≡ true → mem (a ++ c) r ≡ true
-        second [] c r j = j
-        second (n ∷ a) c r j = or-right (eqb n r) (second a c r j)
 
     go : SeqNext g h s p → SeqNext g h s q → clash (seq g h) p q ≡ true
     go (in-g v) (in-g w) = or-left _ (or-left _ (f (s, v, w)))
@@ -60,11 +56,7 @@ plus-clash g d n p q f (s, (a, x), (b, y)) = go (plus-next g p x s a refl) (plus
   where
     -- s is whole walks, q begins one; and p goes on in the last
     whole : (p q : ℕ) (r c k : List ℕ) (l : ℕ) → s ≡ r ++ [] → (r ≡ []) ⊎ Runs (Walk g) r → first g q ≡ true → s ≡ k ++ l ∷ c → Begins g ((l ∷ c) ++ p ∷ []) → ends g p && first g q ≡ true
-    whole p q r c k l e (inl z) i j b = absurd (some k (sym j ∙ e ∙ ap (λ (o : List ℕ). o ++ []) z))
-      where
-        some : (k : List ℕ) → k ++ l ∷ c ≡ [] → ⊥
-        some [] o = cons≢nil o
-        some (h ∷ k) o = cons≢nil o
+    whole p q r c k l e (inl z) i j b = absurd (nil≢middle k l c (sym (sym j ∙ e ∙ ap (λ (o : List ℕ). o ++ []) z)))
     whole p q r c k l e (inr z) i j b = pick (plus-goes g d n s k (l ∷ c) p j (subst (Runs (Walk g)) (sym (e ∙ append-nil r)) z) b)
       where
         pick : (first g p ≡ true) ⊎ GoesOn g p → ends g p && first g q ≡ true

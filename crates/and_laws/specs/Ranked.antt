@@ -7,7 +7,7 @@ use native.Mathlib.Omega.{arith}
 use Rattle.basic_laws.specs.Truth.{bool-cases}
 use Rattle.model_sets.specs.Sets.{has}
 use Rattle.rules.specs.Walk.{Group, place, seq, alt, opt, plus, and, Members, one, also}
-use Rattle.and_laws.specs.Levels.{around, aroundM, within}
+use Rattle.and_laws.specs.Levels.{around, aroundM}
 
 -- how many "&" groups there are; within "+" there is none
 abbrev mutual
@@ -72,10 +72,6 @@ Rising a c (l ∷ ls) = (a < l .number) × Rising (l .number) c ls
 rising-wide : (a d c e : ℕ) (ls : List Level) → a ≤ d → c ≤ e → Rising d c ls → Rising a e ls
 rising-wide a d c e [] x y r = omega arith
 rising-wide a d c e (l ∷ ls) x y (i, r) = (omega arith, rising-wide (l .number) (l .number) c e ls (omega arith) y r)
-
-rising-top : (a c : ℕ) (ls : List Level) → Rising a c ls → a ≤ c
-rising-top a c [] r = r
-rising-top a c (l ∷ ls) (i, r) = omega (arith, rising-top (l .number) c ls r)
 
 rising-append : (a c n : ℕ) (m : Members) (ls : List Level) → c < n → Rising a c ls → Rising a n (ls ++ record { number = n; members = m } ∷ [])
 rising-append a c n m [] x r = (omega arith, omega arith)

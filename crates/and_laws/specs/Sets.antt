@@ -1,16 +1,16 @@
 -- What is computed of a group by recursion: its places, which are in "&" groups, whether it meets a set; `Good`: places differ, no "&" under "+".
 use Prim.Native.Nat.{ℕ}
-use mathlib.Core.Path.{_≡_, refl, sym, _∙_, ap, subst}
-use mathlib.Core.Bool.{Bool, true, false, _&&_, _||_, false≢true}
-use mathlib.Core.Logic.{_⊎_, inl, inr}
+use mathlib.Core.Path.{_≡_, refl, sym, subst}
+use mathlib.Core.Bool.{Bool, true, false, _||_, false≢true}
+use mathlib.Core.Logic.{inl, inr}
 use mathlib.Core.List.{List, [], _∷_, _++_}
 use lib.Dec.{eqb}
 use borrow.Author.Tests.{eqb-true, eq-eqb}
 use Rattle.basic_laws.specs.Truth.{or-left, or-right, or-cases}
 use Rattle.model_sets.specs.Sets.{has, hasM}
-use Rattle.rules.specs.Walk.{Group, place, seq, alt, opt, plus, and, Members, one, also, Runs, once, more, joined, Walk, Orders}
+use Rattle.rules.specs.Walk.{Group, place, seq, alt, opt, plus, and, Members, one, also, Runs, once, more, joined, Walk, Orders, Begins, MayComeNext}
 pub use Rattle.rules.specs.Walk.{Plain}
-use Rattle.and_laws.specs.Base.{mem, mem-left, mem-right, mem-cases, In, Apart, in-append, in-one, joined-append}
+use Rattle.and_laws.specs.Base.{mem, mem-left, mem-right, mem-cases, In, Apart, in-append, in-one, joined-append, Ends, ends-mem, ends-snoc}
 
 -- the place stands in an "&" group
 abbrev pub held : Group → ℕ → Bool
@@ -101,6 +101,14 @@ mutual
       (λ (z : List (List ℕ)). In (hasM (also m g)) (joined z))
       (sym e)
       (in-middle (hasM (also m g)) a b w (λ p i. or-left _ (orders-in m (a ++ b) o p i)) (λ p i. or-right (hasM m p) (walk-in g w x p i)))
+
+-- The last place of a beginning is one of the group's.
+pub ends-has : (g : Group) (s : List ℕ) (u : ℕ) → Ends s u → Begins g s → has g u ≡ true
+ends-has g s u e (t, w) = walk-in g (s ++ t) w u (mem-left s t u (ends-mem s u e))
+
+-- What may come next is a place of the group.
+pub has-next : (g : Group) (s : List ℕ) (p : ℕ) → MayComeNext g s p → has g p ≡ true
+has-next g s p b = ends-has g (s ++ p ∷ []) p (ends-snoc s p) b
 
 -- The set.
 

@@ -2,14 +2,14 @@
 -- lack nothing, and in the first that has it its member is that of the last place or has not begun.
 use Prim.Native.Nat.{ℕ, zero, suc, _+_, _%_, _≤_, _<_}
 use mathlib.Core.Path.{_≡_, refl, sym, _∙_, ap, subst}
-use mathlib.Core.Bool.{Bool, true, false, _&&_, _||_, not, false≢true}
+use mathlib.Core.Bool.{Bool, true, false, _&&_, _||_, not, false≢true, or-false, or-comm}
 use mathlib.Core.Logic.{inl, inr}
 use mathlib.Core.List.{List, [], _∷_}
 use native.Mathlib.Decide.{ℕ-discrete}
 use native.Mathlib.Omega.{arith}
 use lib.ListN.{length}
 use lib.Dec.{eqb}
-use borrow.Author.Tests.{eqb-true, eq-eqb, ne-eqb}
+use borrow.Author.Tests.{eqb-true, eq-eqb, ne-eqb, not-false}
 use Rattle.rules.specs.Walk.{Group, Members}
 use Rattle.rules.specs.Bytes.{GRPGTCNT}
 use Rattle.layout.specs.Sizes.{POSITIONS, AND-GROUPS, MEMBERS, ENDING}
@@ -25,7 +25,7 @@ use Rattle.and_laws.specs.Ranked.{count, Level, levels, groupsOf, levels-rise, 
 use Rattle.and_laws.specs.Taken.{groupsAt}
 use Rattle.member_laws.specs.Members.{needs, numberIn, groupAt, firstAt, isNeeded, holdsAt, amongAt, isOwn, AllSets, Grouped, Chain, Told, holderAt, begunAt, Marked, AllMarked, Standing}
 use Rattle.member_laws.specs.Numbered.{both-tests, any-numbered, numbered-any, numbered-place, numbered-once}
-use Rattle.member_laws.specs.Inside.{IsLevel, level-once, level-good, level-around, EachLevel, each-level, AnyLevel, IsSame, IsAround, levels-are}
+use Rattle.member_laws.specs.Inside.{IsLevel, level-once, level-good, level-around, EachLevel, each-level, AnyLevel, IsSame, IsAround, levels-are, Have}
 use Rattle.member_laws.specs.Around.{memberAt, isHolder, NumberedAt, held, member-group, member-small, member-begun, chain-kept, chain-none, any-holder}
 use Rattle.member_laws.specs.Sets.{First, first-of, short-none, anyOwn, own-range, own-group, member-own, begun-fine, fine-begun, holds-outward, among-outward, own-above, holder-above}
 use Rattle.member_bits.specs.declared.Bits.{Bits}
@@ -133,9 +133,6 @@ module _
   abbrev B : ℕ → Bool
   B n = begunAt begun level n
 
-  abbrev Have : ℕ → List Level → Type 0
-  Have v ls = EachLevel (λ (l : Level). hasM (l .members) v ≡ true) ls
-
   have : (v : ℕ) (ls : List Level) → EachLevel (IsAround g 0 v) ls → Have v ls
   have v = each-level (IsAround g 0 v) (λ (l : Level). hasM (l .members) v ≡ true) (λ l a. a .1)
 
@@ -165,11 +162,7 @@ module _
           let z = own-group M e l kept n o in
           let x : anyOwn M e n ps ≡ false = not-true (anyOwn M e n ps) (λ x. false≢true (sym apart ∙ own-meets M e sets g p l (around .0 .0) ps p-kept p-around n z x)) in
           let w : isHolder M e p n ps ≡ false = not-true (isHolder M e p n ps) (λ x. false≢true (sym apart ∙ holder-meets M e sets g p l (around .0 .0) ps p-kept p-around n z x .0)) in
-          rw (o, x, w) (or-none (isNeeded M e n && not (B n)))
-        where
-          or-none : (t : Bool) → t || false ≡ t
-          or-none true = refl
-          or-none false = refl
+          rw (o, x, w) (or-false (isNeeded M e n && not (B n)))
 
       bad-other : (n : ℕ) → isOwn M e (l .number) n ≡ false → badIn (l ∷ us) n ≡ badIn us n
       bad-other n o =
@@ -182,14 +175,10 @@ module _
       may-apart : ((n : ℕ) → 1 ≤ n → n < POSITIONS → badIn (l ∷ us) n ≡ false) → (((n : ℕ) → 1 ≤ n → n < POSITIONS → badIn us n ≡ false) → mayIn (groupsOf us) u S p ≡ true) → mayIn (groupsOf (l ∷ us)) u S p ≡ true
       may-apart f outer = rw apart (and-both all (outer rest))
         where
-          yes-of : (t : Bool) → not t ≡ false → t ≡ true
-          yes-of true q = refl
-          yes-of false q = absurd (false≢true (sym q))
-
           all : allM (fine S) (l .members) ≡ true
           all =
               begun-fine M e l kept sets begun level S marked
-              (λ n o m. let r = own-range M e l kept n o in yes-of (B n) (sym (bad-own n o ∙ ap (λ (t : Bool). t && not (B n)) m) ∙ f n (omega (arith, kept .some)) (omega (arith, kept .room))))
+              (λ n o m. let r = own-range M e l kept n o in not-false (B n) (sym (bad-own n o ∙ ap (λ (t : Bool). t && not (B n)) m) ∙ f n (omega (arith, kept .some)) (omega (arith, kept .room))))
 
           rest : (n : ℕ) → 1 ≤ n → n < POSITIONS → badIn us n ≡ false
           rest n x w = bool-cases (isOwn M e (l .number) n) (own-none n) (λ o. sym (bad-other n o) ∙ f n x w)
@@ -288,14 +277,8 @@ module _ (M : List ℕ) (e : ℕ) (sets : AllSets M e) (v c : ℕ) (ends : Bool)
         let f = first-of M e h v ends z k ks read chain (have .0) in
         let is : n ≡ k .number = at ∙ f .group in (
           ap (λ (q : ℕ). amongAt M e q m) is ∙ among-outward M e sets v 0 c ends z k ks chain rising have m x y,
-          ap (λ (q : ℕ). holdsAt M e q m || eqb m h) is ∙ ap (λ (t : Bool). t || eqb m h) (holds-outward M e sets v 0 c ends z k ks chain rising have m x y) ∙ turned (isHolder M e v m ks) (eqb m h) ∙ ap (λ (q : ℕ). eqb m q || isHolder M e v m ks) (f .is),
+          ap (λ (q : ℕ). holdsAt M e q m || eqb m h) is ∙ ap (λ (t : Bool). t || eqb m h) (holds-outward M e sets v 0 c ends z k ks chain rising have m x y) ∙ or-comm (isHolder M e v m ks) (eqb m h) ∙ ap (λ (q : ℕ). eqb m q || isHolder M e v m ks) (f .is),
         )
-      where
-        turned : (s t : Bool) → s || t ≡ t || s
-        turned true true = refl
-        turned true false = refl
-        turned false true = refl
-        turned false false = refl
 
   -- There is a first one, where there is such a member.
   first-there : (h : ℕ) → 1 ≤ h → (ks : List Level) → h ≡ z % ENDING → Chain M e v ends z ks → EachLevel (λ (k : Level). hasM (k .members) v ≡ true) ks → (k : Level) × First M e h v k

@@ -15,7 +15,7 @@ use Rattle.member_laws.specs.Members.{wordAt, begunAt, Elsewhere}
 use Rattle.member_bits.specs.declared.Bits.{Bits}
 use Rattle.member_bits.specs.Having.{Has}
 use Rattle.member_bits.specs.Bits.{mod-bit}
-use Rattle.member_bits.specs.Laws.{has-low, has-high, has-words}
+use Rattle.member_bits.specs.Operations.{has-low, has-high, has-words}
 use Rattle.begun_bits.specs.Levels.{Puts}
 
 -- The three words of a level have its members.

@@ -35,12 +35,6 @@ use Rattle.group_reader.specs.Further.{beforeEnd, MeetsFurther, closedTa
 
 -- Two tests of which one is to hold.
 
-pub or-first : (f g : Bool) → f ≡ true → (f || g) ≡ true
-or-first f g e = rw e
-
-pub or-second : (f g v : Bool) → f ≡ false → g ≡ v → (f || g) ≡ v
-or-second f g v e q = rw (e, q)
-
 pub or-other : (f : Bool) (n : ℕ) (r : Bool) → r ≡ (f || leb GRPGTCNT n) → r ≡ false → n < GRPGTCNT
 or-other true n r e q = absurd (true≢false (sym e ∙ q))
 or-other false n r e q = leb-false GRPGTCNT n (sym e ∙ q)

@@ -1,7 +1,7 @@
 -- What the table of lists says, and what the loops over it find.
 use Prim.Native.Nat.{ℕ, zero, suc, _+_, _*_, _-_, _≤_, _<_}
 use mathlib.Core.Path.{_≡_, refl, sym, _∙_, ap, subst}
-use mathlib.Core.Bool.{Bool, true, false, _||_, true≢false}
+use mathlib.Core.Bool.{Bool, true, false, _||_, true≢false, or-true}
 use mathlib.Core.Logic.{_⊎_, inl, inr}
 use mathlib.Core.List.{List, [], _∷_, _++_}
 use native.Mathlib.Decide.{ℕ-discrete}
@@ -11,11 +11,11 @@ use lib.Seq.{getD-set-same, getD-set-other}
 use lib.Dec.{eqb, leb}
 use borrow.Author.Tests.{eq-eqb, ne-eqb, le-leb, lt-leb}
 use Rattle.rules.specs.Bytes.{sameText, ATTCNT}
-use Rattle.rules.specs.Attributes.{Default, required, implied, literal, Attribute, isCalled, attributeFrom, attributeOf, attributeAt, isRequired, needsTag}
+use Rattle.rules.specs.Attributes.{required, implied, literal, Attribute, isCalled, attributeFrom, attributeOf, attributeAt, isRequired, needsTag}
 use Rattle.layout.specs.Sizes.{ATTRIBUTE, LIST}
 use Rattle.attribute_defaults.specs.DefaultOf.{defaultIs}
 use Rattle.list_table.specs.declared.Row.{Row}
-use Rattle.list_table.specs.Lists.{rowIn, Short, RowOf, isNamed, ListAt, Copied}
+use Rattle.list_table.specs.Lists.{rowIn, RowOf, isNamed, ListAt, Copied}
 
 pub getD-past : (l : List ℕ) (i : ℕ) → length l ≤ i → 0 ≡ getD l i 0
 getD-past [] i h = refl
@@ -52,10 +52,6 @@ required-not x n h = by-tests (eqb x 0) (eqb x 1) (ne-eqb x 0 h)
     by-tests true b e = absurd (true≢false e)
     by-tests false true e = refl
     by-tests false false e = refl
-
-or-true : (b : Bool) → (b || true) ≡ true
-or-true true = refl
-or-true false = refl
 
 needs-found : (xs : List Attribute) (k : ℕ) → k < length xs → isRequired (attributeAt xs k .default) ≡ true → needsTag xs ≡ true
 unfolding attributeAt needsTag

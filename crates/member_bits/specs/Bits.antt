@@ -7,7 +7,7 @@ use native.Mathlib.Decide.{decLt}
 use native.Mathlib.Omega.{arith}
 use lib.Dec.{eqb}
 use borrow.Author.Tests.{eqb-true, eqb-false}
-use Rattle.basic_laws.specs.Truth.{bool-cases}
+use Rattle.basic_laws.specs.Truth.{bool-cases, eqb-bit}
 use lib.Pow.{shr-shr, shr-le, high, low, field, mod-mod-pow, pow-mono, shl-exact}
 use lib.Bits.{bitAnd, bitOr, bitXor, and-shr, and-mod, or-shr, or-mod, xor-shr, xor-mod, and-step, and-self}
 use Rattle.member_bits.specs.Having.{Lowest}
@@ -73,11 +73,7 @@ xor-one = bit-by-bit bitXor differs xor-shr xor-mod refl refl refl refl
 
 -- A bit more is set.
 pub or-bit : (w i j : ℕ) → eqb (bitOr w (2 ^ i) / 2 ^ j % 2) 1 ≡ eqb (w / 2 ^ j % 2) 1 || eqb j i
-or-bit w i j = or-either w (2 ^ i) j ∙ ap (λ (b : Bool). eqb (w / 2 ^ j % 2) 1 || b) (ap (λ (n : ℕ). eqb n 1) (pow-bit i j) ∙ bit (eqb j i))
-  where
-    bit : (b : Bool) → eqb (cond b 1 0) 1 ≡ b
-    bit true = refl
-    bit false = refl
+or-bit w i j = or-either w (2 ^ i) j ∙ ap (λ (b : Bool). eqb (w / 2 ^ j % 2) 1 || b) (ap (λ (n : ℕ). eqb n 1) (pow-bit i j) ∙ eqb-bit (eqb j i))
 
 -- One shifted is a power of two.
 pub shifted-wide : (k : ℕ) → k ≤ 63 → 1 * 2 ^ k % 2 ^ 64 ≡ 2 ^ k

@@ -154,6 +154,10 @@ mutual
       (λ j. rw j (each-level (IsAround g (b + countM m) u) (λ (l : Level). IsLevelM (also m g) b l × (hasM (l .members) u ≡ true)) (λ l x. (inr (x .0), x .1)) (levels g (b + countM m) u) (levels-are g (b + countM m) u j)))
       (λ j. rw j (each-level (λ (l : Level). IsLevelM m b l × (hasM (l .members) u ≡ true)) (λ (l : Level). IsLevelM (also m g) b l × (hasM (l .members) u ≡ true)) (λ l x. (inl (x .0), x .1)) (levelsM m b u) (levelsM-are m b u (or-only (hasM m u) (has g u) j i))))
 
+-- Each of them has the place u.
+abbrev pub Have : ℕ → List Level → Type 0
+Have u ls = EachLevel (λ (l : Level). hasM (l .members) u ≡ true) ls
+
 -- Without "&" there is none.
 pub plain-levels : (g : Group) → Plain g → (b u : ℕ) → levels g b u ≡ []
 plain-levels (place n) d b u = refl

@@ -10,7 +10,7 @@ use lib.Dec.{eqb, ltb, leb}
 use Rattle.rules.specs.Bytes.{GRPCNT}
 use Rattle.rules.specs.Walk.{Group, place, seq, alt, opt, plus, and, Members, one, also}
 use Rattle.layout.specs.Sizes.{POSITIONS, AND-GROUPS, GROUP, REACHES, NEEDED, MEMBER-BITS, SETS, MEMBER, MEMBERS, BEGUN-WORDS, ENDING}
-use Rattle.model_sets.specs.Sets.{has, nullable, lastM, must}
+use Rattle.model_sets.specs.Sets.{has, nullable, lastM, must, amount}
 use Rattle.and_laws.specs.Base.{mem}
 use Rattle.and_laws.specs.Sets.{meets}
 use Rattle.and_laws.specs.Ranked.{Level, levels}
@@ -18,11 +18,7 @@ use Rattle.and_laws.specs.Taken.{IsLast}
 
 -- Numbers of members
 
--- how many members there are, how many cannot be nothing, how many can
-abbrev pub amount : Members → ℕ
-amount (one g) = 1
-amount (also m g) = amount m + 1
-
+-- How many members cannot be nothing, and how many can.
 abbrev pub needs : Members → ℕ
 needs (one g) = cond (nullable g) 0 1
 needs (also m g) = needs m + cond (nullable g) 0 1

@@ -1,7 +1,7 @@
 -- The end of an "&" group: its members, the last pieces of the stack, are put, and the group takes their place.
 use Prim.Native.Nat.{ℕ, suc, _+_, _-_, _*_, _≤_, _<_}
 use mathlib.Core.Path.{_≡_, refl, sym, _∙_, ap, subst}
-use mathlib.Core.Bool.{Bool}
+use mathlib.Core.Bool.{Bool, and-false, and-true}
 use mathlib.Core.Logic.{_⊎_, inl, inr}
 use mathlib.Core.List.{List, [], _∷_, _++_}
 use native.Mathlib.Omega.{arith}
@@ -14,11 +14,10 @@ use Rattle.rules.specs.Bytes.{GRPCNT, GRPGTCNT}
 use Rattle.rules.specs.Walk.{Group, and, Members, one, also}
 use Rattle.layout.specs.Sizes.{MEMBER, POSITIONS, AND-GROUPS, LASTS, REACHES}
 use Rattle.basic_laws.specs.Truth.{bool-cases}
-use Rattle.model_sets.specs.Sets.{hasM, size, sizeM, NumberedM, nullable, nullableM}
+use Rattle.model_sets.specs.Sets.{hasM, size, sizeM, NumberedM, nullable, nullableM, amount}
 use Rattle.and_laws.specs.Sets.{GoodM}
-use Rattle.and_laws.specs.Rows.{and-no, and-yes}
 use Rattle.model_code.specs.Spelled.{codes, codesM}
-use Rattle.member_laws.specs.Members.{amount, needs, firstAt, neededAt, sizeAt, outerAt, Grouped}
+use Rattle.member_laws.specs.Members.{needs, firstAt, neededAt, sizeAt, outerAt, Grouped}
 use Rattle.member_laws.specs.Numbered.{amount-both}
 use Rattle.member_entries.specs.Entries.{recordFrom, putRecord}
 use Rattle.member_entries.specs.Slots.{Slot}
@@ -79,8 +78,8 @@ none-needed (one g) = bool-cases (nullable g) (λ e. rw e) (λ e. rw e)
 none-needed (also m g) =
     bool-cases
     (nullable g)
-    (λ e. let z : needs m + 0 ≡ needs m = omega arith in rw (e, z, and-yes (nullableM m)) (none-needed m))
-    (λ e. rw (e, and-no (nullableM m), ne-eqb (needs m + 1) 0 (λ x. omega arith)))
+    (λ e. let z : needs m + 0 ≡ needs m = omega arith in rw (e, z, and-true (nullableM m)) (none-needed m))
+    (λ e. rw (e, and-false (nullableM m), ne-eqb (needs m + 1) 0 (λ x. omega arith)))
 
 closed-is : (stack : List Piece) (first : ℕ) (m : Members) (g : Group) (lo : ℕ) → Pieces stack first (also m g) lo
     → closedPiece (needs (also m g)) (pieceAt stack first) (pieceAt stack (first + amount (also m g) - 1)) ≡ pieceOf (and (also m g)) lo

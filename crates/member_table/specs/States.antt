@@ -12,7 +12,7 @@ use Rattle.rules.specs.Bytes.{GRPGTCNT}
 use Rattle.model_code.specs.Codes.{ALSO-CODE, ALT-CODE, AND-CODE, OPT-CODE, PLUS-CODE, SEQ-CODE}
 use Rattle.layout.specs.Sizes.{MEMBER, MODEL-ROWS, CODE, AND-GROUPS, LASTS, POSITIONS, REACHES}
 use Rattle.basic_laws.specs.Truth.{bool-cases}
-use Rattle.and_laws.specs.Base.{Apart}
+use Rattle.and_laws.specs.Base.{Apart, apart-no}
 use Rattle.and_laws.specs.Decide.{or-only}
 use Rattle.and_laws.specs.Ranked.{Level}
 use Rattle.model_code.specs.Spelled.{codeIn}
@@ -20,7 +20,6 @@ use Rattle.member_laws.specs.Members.{outerAt}
 use Rattle.member_entries.specs.Slots.{Slot}
 use Rattle.member_table.specs.declared.Piece.{Piece}
 use Rattle.member_table.specs.Filling.{State, pieceAt, nonePiece, placePiece, optPiece, joinedPiece, stacked, closeGroup, stepFill, startFill, runFill}
-use Rattle.member_table.specs.Beside.{not-right}
 use Rattle.member_table.specs.Chains.{baseOf, Spells, spells-map, Keeps, spells-keep}
 use Rattle.member_table.specs.Order.{InOrder}
 
@@ -231,7 +230,7 @@ chains-both e D₁ D₂ apart le cnt tot t r c A₁ A₂ A in-first into₁ into
     let x = or-only (D₁ u) (D₂ u) y i in
     rw y
     (spells-keep e (t .lasts) (t .groups) (t .count) D₂ (t .members) (r .members) (c .keeps) (r .lasts) (r .groups) (r .count) (omega (arith, c .groups)) (omega (arith, c .count)) (c .agree) u (A₁ u) (A u)
-    (λ ends v a. not-right apart (in-first u ends v a))
+    (λ ends v a. apart-no apart (in-first u ends v a))
     (into₁ u x)
     (L₁ u)
     true

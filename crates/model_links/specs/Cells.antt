@@ -1,15 +1,16 @@
 -- What each change leaves in the table, number by number.
 use Prim.Native.Nat.{ℕ, _+_, _*_, _≤_, _<_}
 use mathlib.Core.Path.{_≡_, refl, ap, subst, _∙_}
-use mathlib.Core.Logic.{_≢_, _⊎_, inl, inr, ⊎-elim}
+use mathlib.Core.Logic.{_≢_, _⊎_, ⊎-elim}
 use mathlib.Core.Bool.{Bool, true, false, _&&_, cond}
 use mathlib.Core.List.{List}
 use native.Mathlib.Omega.{arith}
-use native.Mathlib.Decide.{decLt}
 use lib.ListN.{length, getD, set, length-set}
 use lib.Seq.{getD-set-same, getD-set-other}
 use lib.Dec.{eqb}
 use borrow.Author.Count.{below-more}
+use Rattle.basic_laws.specs.Truth.{eqb-bit}
+use Rattle.basic_laws.specs.Numbers.{below-or-from}
 use Rattle.rules.specs.Bytes.{GRPGTCNT}
 use Rattle.layout.specs.Sizes.{MODEL-ROW, MODEL, POSITIONS}
 use Rattle.model_links.specs.Each.{each-keeps}
@@ -18,17 +19,6 @@ use Rattle.model_links.specs.Links.{linkCell, linkRow, linkFrom, link, s
 -- a flag as the table holds it
 abbrev pub bit : Bool → ℕ
 bit b = cond b 1 0
-
-pub eqb-bit : (b : Bool) → eqb (bit b) 1 ≡ b
-eqb-bit true = refl
-eqb-bit false = refl
-
-pub below-or-from : (a b : ℕ) → (a < b) ⊎ (b ≤ a)
-below-or-from a b = decided (decLt a b)
-  where
-    decided : Dec (a < b) → (a < b) ⊎ (b ≤ a)
-    decided (yes h) = inl h
-    decided (no h) = inr (omega arith)
 
 -- a store on a condition
 abbrev setIf : Bool → List ℕ → ℕ → ℕ → List ℕ

@@ -9,12 +9,12 @@ use lib.ListN.{length, getD, set, length-set}
 use lib.Seq.{getD-set-same, getD-set-other}
 use lib.Dec.{eqb}
 use borrow.Author.Count.{below-more}
+use Rattle.basic_laws.specs.Numbers.{below-or-from}
 use Rattle.rules.specs.Walk.{Group}
 use Rattle.rules.specs.TypeFile.{Place, Content, model}
 use Rattle.rules.specs.Bytes.{GRPGTCNT, elementLimit}
 use Rattle.layout.specs.Sizes.{MODEL-ROW, ROWS, LAST-BITS, POSITIONS, RAISE, REQUIRED, ROW}
 use Rattle.model_sets.specs.Sets.{size, nextIn, completeIn, requiredIn}
-use Rattle.model_links.specs.Cells.{below-or-from}
 use Rattle.model_table.specs.Shows.{Says}
 use Rattle.type_tables.specs.Tables.{rowAt, bitOf, completeAt, nextRow, completeRow, requiredRow, raisedAt}
 use Rattle.model_rows.specs.Bits.{cellOf, packedOf, flag-is, packed-bit, lowest-bit, single-bit}

@@ -21,10 +21,6 @@ abbrev pub findFrom : (ℕ → Bool) → ℕ → ℕ → ℕ
 findFrom f zero q = 0
 findFrom f (suc k) q = cond (f q) q (findFrom f k (suc q))
 
-pub findFrom-ext : (f h : ℕ → Bool) (k q : ℕ) → ((x : ℕ) → q ≤ x → x < q + k → f x ≡ h x) → findFrom f k q ≡ findFrom h k q
-findFrom-ext f h zero q e = refl
-findFrom-ext f h (suc k) q e = rw (e q (omega arith) (omega arith), findFrom-ext f h k (suc q) (λ x a b. e x (omega arith) (omega arith)))
-
 module _ (f : ℕ → Bool) where
   -- r is what a search of the k numbers from q on should give
   abbrev pub Finds : ℕ → ℕ → ℕ → Type 0
@@ -63,14 +59,6 @@ pairFrom t (suc k) p = pairOr p (findFrom (t p) k (suc p)) (pairFrom t k (suc p)
 -- the same, both from 1 to n
 abbrev pub searchPair : (ℕ → ℕ → Bool) → ℕ → ℕ × ℕ
 searchPair t n = pairFrom t n 1
-
-pub pairFrom-ext : (t v : ℕ → ℕ → Bool) (k p : ℕ) → ((a b : ℕ) → p ≤ a → a < b → b < p + k → t a b ≡ v a b) → pairFrom t k p ≡ pairFrom v k p
-pairFrom-ext t v zero p e = refl
-pairFrom-ext t v (suc k) p e =
-    rw (
-      findFrom-ext (t p) (v p) k (suc p) (λ x a b. e p x (omega arith) (omega arith) (omega arith)),
-      pairFrom-ext t v k (suc p) (λ a b l m n. e a b (omega arith) (omega arith) (omega arith)),
-    )
 
 module _ (t : ℕ → ℕ → Bool) where
   -- (x, y) comes before every pair among the numbers from p up to, not including, end that passes

@@ -20,6 +20,11 @@ abbrev mutual
   sizeM (one g) = size g
   sizeM (also m g) = sizeM m + size g
 
+-- how many members there are
+abbrev pub amount : Members → ℕ
+amount (one g) = 1
+amount (also m g) = amount m + 1
+
 -- the places of a group are numbered from `lo`, left to right
 abbrev mutual
   pub Numbered : Group → ℕ → Type 0

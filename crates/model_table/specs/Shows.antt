@@ -2,20 +2,22 @@
 use Prim.Native.Nat.{ℕ, zero, suc, _+_, _*_, _≤_, _<_}
 use mathlib.Core.Path.{_≡_, refl, sym, ap, _∙_}
 use mathlib.Core.Logic.{⊎-elim}
-use mathlib.Core.Bool.{Bool, true, false, _&&_, _||_, not, cond, and-true, or-comm}
+use mathlib.Core.Bool.{Bool, true, false, _&&_, _||_, not, cond, and-true, or-comm, or-assoc}
 use mathlib.Core.List.{List}
 use native.Mathlib.Omega.{arith}
 use lib.ListN.{length, getD, set, length-set}
 use lib.Seq.{getD-set-same, getD-set-other}
 use borrow.Author.Tests.{eq-eqb}
+use Rattle.basic_laws.specs.Numbers.{below-or-from}
 use Rattle.rules.specs.Walk.{Group, place, seq, alt, plus}
 use Rattle.rules.specs.Bytes.{GRPGTCNT}
 use Rattle.layout.specs.Sizes.{MODEL-ROW, MODEL-ROWS, MODEL, POSITIONS}
 use Rattle.model_sets.specs.Sets.{size, Numbered, has, nullable, first, last, follow, must, mustAfter, nextIn, completeIn, requiredIn}
 use Rattle.model_links.specs.Links.{link, settle, clearRow, unbegin}
 use Rattle.model_table.specs.Fill.{putPlace, closeEnds, closeStarts, joinSeq, joinAnd, partOf, finished}
-use Rattle.model_links.specs.Cells.{bit, below-or-from, Linked, linked, linked-same, linked-end, cond-and-false, Settled, settled, Cleared, cleared-row, unbegun}
-use Rattle.model_table.specs.Places.{none-first, none-last, none-follow, has-under, has-over, has-inside}
+use Rattle.model_links.specs.Cells.{bit, Linked, linked, linked-same, linked-end, cond-and-false, Settled, settled, Cleared, cleared-row, unbegun}
+use Rattle.model_table.specs.Places.{none-first, none-last, none-follow, has-under, has-over}
+use Rattle.model_sets.specs.Numbering.{has-inside}
 
 -- S says of the places [lo, hi) in row 0 F, in column 0 L, in the columns between N and in the last column M. What T says of other places in
 -- row 0, and in the rows before, S says too.
@@ -84,10 +86,6 @@ cond-or true true = refl
 cond-or true false = refl
 cond-or false true = refl
 cond-or false false = refl
-
-or-assoc : (a b c : Bool) → (a || b || c) ≡ (a || (b || c))
-or-assoc true b c = refl
-or-assoc false b c = refl
 
 or-and-false : (a b c : Bool) → b ≡ false → a ≡ (a || (b && c))
 or-and-false true b c e = refl

@@ -1,7 +1,7 @@
 -- Model groups and content, walked once: each law of a model that is read is an instance of `Builds`, and cites the walk.
 use Prim.Native.Nat.{ℕ, zero, suc, _+_, _-_, _≤_, _<_}
 use mathlib.Core.Path.{_≡_, refl, subst}
-use mathlib.Core.Bool.{Bool, true, false, _&&_, _||_, true≢false}
+use mathlib.Core.Bool.{Bool, true, false, _&&_, _||_}
 use mathlib.Core.List.{List, [], _∷_, _++_}
 use native.Mathlib.Omega.{arith}
 use lib.ListN.{length}
@@ -10,8 +10,8 @@ use borrow.Author.Tests.{eqb-true, eq-eqb, ltb-false, leb-false}
 use Rattle.rules.specs.Bytes.{byteAt, letter, nameEnd, separatorsEnd, GRPCNT, GRPLVL, GRPGTCNT, AND, DSO, GRPC, GRPO, MINUS, OPT, OR, PERO, PLUS, REP, RNI, SEQ}
 use Rattle.rules.specs.Reading.{Reading, got, andThen}
 use Rattle.rules.specs.Walk.{Group, place, seq, alt, opt, plus, and, Members, one, also, star}
-use Rattle.rules.specs.TypeFile.{isWord, isCut, PCDATA, EMPTY, ANY, CDATA, RCDATA, Place, Tokens, occurrence, newPlace, isConnector, membersOf, oneMore, join, earlier, joinTokens, nameToken, dataToken, token, Further, closed, joined, further, members, group, Content, empty, model, unfit, ContentEnd, contentWord, contentModel, content}
-use Rattle.basic_laws.specs.Truth.{and-left, not-both, bool-cases}
+use Rattle.rules.specs.TypeFile.{isWord, isCut, PCDATA, EMPTY, ANY, CDATA, RCDATA, Place, Tokens, occurrence, newPlace, isConnector, membersOf, join, earlier, joinTokens, nameToken, dataToken, token, Further, closed, joined, further, members, group, Content, empty, model, unfit, ContentEnd, contentWord, contentModel, content}
+use Rattle.basic_laws.specs.Truth.{and-left, not-both, bool-cases, or-none}
 use Rattle.and_laws.specs.Sets.{Plain}
 use Rattle.and_laws.specs.Numbers.{Guarded}
 use Rattle.text.specs.Words.{test-in, letter-in, nameEnd-from, nameEnd-le, nameEnd-more, separatorsEnd-from, separatorsEnd-le}
@@ -25,10 +25,6 @@ InType s n k = (3 ≤ n) × (n ≤ 8) × (k ≤ length s)
 -- The same of a refusal by what begins at `at`, if that stands in the input.
 abbrev pub InFrom : List ℕ → (at : ℕ) → (number position : ℕ) → Type 0
 InFrom s at n k = at ≤ length s → InType s n k
-
-or-none : (a b : Bool) → a || b ≡ false → (a ≡ false) × (b ≡ false)
-or-none true b e = absurd (true≢false e)
-or-none false b e = (refl, e)
 
 -- The tokens t, with another group and up to i, where the first "&" that is refused stands at n.
 abbrev pub grouped : Group → (i n : ℕ) → Tokens → Tokens

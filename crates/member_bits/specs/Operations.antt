@@ -1,7 +1,7 @@
 -- What the functions make of the members, over plain numbers.
 use Prim.Native.Nat.{ℕ, _+_, _-_, _*_, _/_, _%_, _^_, _≤_, _<_}
 use mathlib.Core.Path.{_≡_, refl, sym, _∙_, ap, ap₂, subst}
-use mathlib.Core.Bool.{Bool, true, false, _&&_, _||_, not, cond}
+use mathlib.Core.Bool.{Bool, true, false, _&&_, _||_, not, cond, or-false, and-false, and-true}
 use native.Mathlib.Decide.{ℕ-discrete, decLt, decLe}
 use native.Mathlib.Nat.{add-zero}
 use native.Mathlib.Omega.{arith}
@@ -14,10 +14,6 @@ use Rattle.layout.specs.Sizes.{POSITIONS}
 use Rattle.member_bits.specs.declared.Bits.{Bits}
 use Rattle.member_bits.specs.Having.{bitIn, Has, IsNone, First, none, some, Lowest}
 use Rattle.member_bits.specs.Bits.{zero-bit, or-either, and-both, differs, xor-one, or-bit, shifted-wide, low-bit, high-bit, pow-only, pow-set, ends, bit-below}
-
-or-no : (a : Bool) → a || false ≡ a
-or-no true = refl
-or-no false = refl
 
 abbrev bits : (low high : ℕ) → Bits
 bits l h = record { low = l; high = h }
@@ -104,7 +100,7 @@ more-low low high i j l = go (decLt j 64)
   where
     go : Dec (j < 64) → bitIn (bitOr low (2 ^ i)) high j ≡ bitIn low high j || eqb j i
     go (yes h) = bit-low (bitOr low (2 ^ i)) high j h ∙ or-bit low i j ∙ ap (λ (b : Bool). b || eqb j i) (sym (bit-low low high j h))
-    go (no h) = bit-high (bitOr low (2 ^ i)) high j (omega arith) ∙ sym (bit-high low high j (omega arith)) ∙ sym (ap (λ (b : Bool). bitIn low high j || b) (ne-eqb j i (λ e. omega arith)) ∙ or-no (bitIn low high j))
+    go (no h) = bit-high (bitOr low (2 ^ i)) high j (omega arith) ∙ sym (bit-high low high j (omega arith)) ∙ sym (ap (λ (b : Bool). bitIn low high j || b) (ne-eqb j i (λ e. omega arith)) ∙ or-false (bitIn low high j))
 
 -- numbers less the same are the same where they were
 less-same : (k j i : ℕ) → k ≤ j → k ≤ i → eqb (j - k) (i - k) ≡ eqb j i
@@ -118,7 +114,7 @@ more-high : (low high i j : ℕ) → 64 ≤ i → bitIn low (bitOr high (2 ^ (i 
 more-high low high i j l = go (decLt j 64)
   where
     go : Dec (j < 64) → bitIn low (bitOr high (2 ^ (i - 64))) j ≡ bitIn low high j || eqb j i
-    go (yes h) = bit-low low (bitOr high (2 ^ (i - 64))) j h ∙ sym (bit-low low high j h) ∙ sym (ap (λ (b : Bool). bitIn low high j || b) (ne-eqb j i (λ e. omega arith)) ∙ or-no (bitIn low high j))
+    go (yes h) = bit-low low (bitOr high (2 ^ (i - 64))) j h ∙ sym (bit-low low high j h) ∙ sym (ap (λ (b : Bool). bitIn low high j || b) (ne-eqb j i (λ e. omega arith)) ∙ or-false (bitIn low high j))
     go (no h) =
         bit-high low (bitOr high (2 ^ (i - 64))) j (omega arith)
         ∙ or-bit high (i - 64) (j - 64)
@@ -220,31 +216,20 @@ is-none b =
 -- Those above a member
 
 cut-le : (y s : ℕ) → y / 2 ^ s * 2 ^ s ≤ y
-cut-le y s = part (y / 2 ^ s * 2 ^ s) (y % 2 ^ s) y (split y s)
-  where
-    part : (a r n : ℕ) → a + r ≡ n → a ≤ n
-    part a r n e = omega arith
+cut-le y s = omega (arith, split y s)
 
 -- Cut off below and shifted back, a number keeps its bits from there on.
 cut-bit : (y s j : ℕ) → eqb (y / 2 ^ s * 2 ^ s / 2 ^ j % 2) 1 ≡ eqb (y / 2 ^ j % 2) 1 && leb s j
 cut-bit y s j = ap (λ (n : ℕ). eqb (n / 2 ^ j % 2) 1) (sym (add-zero (y / 2 ^ s * 2 ^ s))) ∙ go (decLt j s)
   where
-    and-no : (t : Bool) → t && false ≡ false
-    and-no true = refl
-    and-no false = refl
-
-    and-yes : (t : Bool) → t ≡ t && true
-    and-yes true = refl
-    and-yes false = refl
-
     go : Dec (j < s) → eqb ((y / 2 ^ s * 2 ^ s + 0) / 2 ^ j % 2) 1 ≡ eqb (y / 2 ^ j % 2) 1 && leb s j
-    go (yes l) = ap (λ (n : ℕ). eqb n 1) (low-bit s 0 (y / 2 ^ s) (pow-pos s) j l ∙ ap (λ (n : ℕ). n % 2) (zero-bit j)) ∙ sym (ap (λ (t : Bool). eqb (y / 2 ^ j % 2) 1 && t) (lt-leb s j l) ∙ and-no (eqb (y / 2 ^ j % 2) 1))
+    go (yes l) = ap (λ (n : ℕ). eqb n 1) (low-bit s 0 (y / 2 ^ s) (pow-pos s) j l ∙ ap (λ (n : ℕ). n % 2) (zero-bit j)) ∙ sym (ap (λ (t : Bool). eqb (y / 2 ^ j % 2) 1 && t) (lt-leb s j l) ∙ and-false (eqb (y / 2 ^ j % 2) 1))
     go (no l) =
         let e : s + (j - s) ≡ j = omega arith in
         ap (λ (n : ℕ). eqb ((y / 2 ^ s * 2 ^ s + 0) / 2 ^ n % 2) 1) (sym e)
         ∙ ap (λ (n : ℕ). eqb n 1) (high-bit s 0 (y / 2 ^ s) (pow-pos s) (j - s) ∙ ap (λ (n : ℕ). n % 2) (shr-shr y s (j - s)))
         ∙ ap (λ (n : ℕ). eqb (y / 2 ^ n % 2) 1) e
-        ∙ and-yes (eqb (y / 2 ^ j % 2) 1)
+        ∙ sym (and-true (eqb (y / 2 ^ j % 2) 1))
         ∙ ap (λ (t : Bool). eqb (y / 2 ^ j % 2) 1 && t) (sym (le-leb s j (omega arith)))
 
 cut-exact : (y s w : ℕ) → y < 2 ^ w → s ≤ w → w ≤ 64 → y / 2 ^ s * 2 ^ s % 2 ^ 64 ≡ y / 2 ^ s * 2 ^ s
@@ -267,21 +252,13 @@ module _ (b : Bits) (f : ℕ → Bool) (w : Has b f) (x : ℕ) where
     where
       go : (n : ℕ) → 1 ≤ n → n < POSITIONS → Dec (n ≤ 64) → bitIn (b .low / 2 ^ x * 2 ^ x) (b .high) (n - 1) ≡ f n && ltb x n
       go n l m (yes d) = bit-low _ (b .high) (n - 1) (omega arith) ∙ cut-bit (b .low) x (n - 1) ∙ ap (λ (t : Bool). t && leb x (n - 1)) (has-low b f w n l d) ∙ ap (λ (t : Bool). f n && t) (same-test n x (n - 1) (λ i. omega arith) (λ i. omega arith))
-      go n l m (no d) = let e : n - 1 - 64 ≡ n - 65 = omega arith in bit-high (b .low / 2 ^ x * 2 ^ x) (b .high) (n - 1) (omega arith) ∙ ap (λ (k : ℕ). eqb (b .high / 2 ^ k % 2) 1) e ∙ has-high b f w n (omega arith) (omega arith) ∙ all (f n) ∙ ap (λ (t : Bool). f n && t) (sym (lt-ltb x n (omega arith)))
-        where
-          all : (t : Bool) → t ≡ t && true
-          all true = refl
-          all false = refl
+      go n l m (no d) = let e : n - 1 - 64 ≡ n - 65 = omega arith in bit-high (b .low / 2 ^ x * 2 ^ x) (b .high) (n - 1) (omega arith) ∙ ap (λ (k : ℕ). eqb (b .high / 2 ^ k % 2) 1) e ∙ has-high b f w n (omega arith) (omega arith) ∙ sym (and-true (f n)) ∙ ap (λ (t : Bool). f n && t) (sym (lt-ltb x n (omega arith)))
 
   pub above-high : 64 ≤ x → x ≤ GRPGTCNT → (s : ℕ) → s ≡ x - 64 → Has (bits 0 (b .high / 2 ^ s * 2 ^ s % 2 ^ 64)) (λ (n : ℕ). f n && ltb x n)
   above-high many few s is = rw (cut-exact (b .high) s 32 (w .high) (omega arith) (omega arith)) (record { low = omega arith; high = omega (arith, cut-le (b .high) s, w .high); bits = λ n l m. go n l m (decLe n 64) })
     where
       go : (n : ℕ) → 1 ≤ n → n < POSITIONS → Dec (n ≤ 64) → bitIn 0 (b .high / 2 ^ s * 2 ^ s) (n - 1) ≡ f n && ltb x n
-      go n l m (yes d) = bit-low 0 (b .high / 2 ^ s * 2 ^ s) (n - 1) (omega arith) ∙ ap (λ (k : ℕ). eqb (k % 2) 1) (zero-bit (n - 1)) ∙ none-of (f n) ∙ ap (λ (t : Bool). f n && t) (sym (le-ltb x n (omega arith)))
-        where
-          none-of : (t : Bool) → false ≡ t && false
-          none-of true = refl
-          none-of false = refl
+      go n l m (yes d) = bit-low 0 (b .high / 2 ^ s * 2 ^ s) (n - 1) (omega arith) ∙ ap (λ (k : ℕ). eqb (k % 2) 1) (zero-bit (n - 1)) ∙ sym (and-false (f n)) ∙ ap (λ (t : Bool). f n && t) (sym (le-ltb x n (omega arith)))
       go n l m (no d) =
           let e : n - 1 - 64 ≡ n - 65 = omega arith in
           bit-high 0 (b .high / 2 ^ s * 2 ^ s) (n - 1) (omega arith)
