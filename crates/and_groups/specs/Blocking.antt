@@ -32,7 +32,7 @@ module _ (M : List ℕ) (e : ℕ) (sets : AllSets M e) (order : Ordered M e) (be
   abbrev lacking : List Level → ℕ → Bool
   lacking ls n = (anyOwn M e n ls && isNeeded M e n) && not (begunAt begun level n)
 
-  -- x is the first that does, or 0.
+  -- The number x is that of the first such member, or 0.
   abbrev FirstOf : List Level → ℕ → Type 0
   FirstOf ls x = having.First (lacking ls) x
 
@@ -171,7 +171,7 @@ module _ (M : List ℕ) (e : ℕ) (sets : AllSets M e) (order : Ordered M e) (be
       (λ z. found-on a c h l (chain .0) is says i m r x k ks (chain .4) rs j f z (λ next big rest. found (l .number) c (outerAt M e (l .number)) k ks next big rs j ms x rest))
       (found-lacks a c h l (chain .0) is says i m r x (k ∷ ks) (chain .4) rs j f)
 
--- What is read of the sets
+-- This is read of the sets.
 module _ (M : List ℕ) (e inner : ℕ) (b : Bits) where
   -- The member at hand cannot end, or there is none.
   pub blocks-none : inner ≤ ENDING → Blocks M e inner b 0

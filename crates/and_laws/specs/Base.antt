@@ -28,11 +28,11 @@ mem-cases (q ∷ a) b p f g e = or-cases (eqb q p) (mem (a ++ b) p) (λ x. f (or
 pub mem-head : (p : ℕ) (s : List ℕ) → mem (p ∷ s) p ≡ true
 mem-head p s = or-left _ (eq-eqb p p refl)
 
--- every place of w passes the test
+-- Every place of w passes the test.
 abbrev pub In : (ℕ → Bool) → List ℕ → Type 0
 In f w = (p : ℕ) → mem w p ≡ true → f p ≡ true
 
--- no place passes both tests
+-- No place passes both tests.
 abbrev pub Apart : (ℕ → Bool) → (ℕ → Bool) → Type 0
 Apart f k = (p : ℕ) → f p ≡ true → k p ≡ true → ⊥
 
@@ -46,7 +46,7 @@ in-append f a b x y p = mem-cases a b p (x p) (y p)
 pub in-one : (f : ℕ → Bool) (n : ℕ) → f n ≡ true → In f (n ∷ [])
 in-one f n e p i = or-cases (eqb n p) false (λ x. subst (λ (z : ℕ). f z ≡ true) (eqb-true n p x) e) (λ y. absurd (false≢true y)) i
 
--- the list is not empty and its last place is u
+-- The list is not empty and its last place is u.
 abbrev pub Ends : List ℕ → ℕ → Type 0
 Ends [] u = ⊥
 Ends (p ∷ s) u = ((s ≡ []) × (p ≡ u)) ⊎ Ends s u
@@ -59,7 +59,7 @@ pub ends-append : (a b : List ℕ) (u : ℕ) → Ends b u → Ends (a ++ b) u
 ends-append [] b u e = e
 ends-append (p ∷ a) b u e = inr (ends-append a b u e)
 
--- the last place of two lists is the last of the second, or that is empty
+-- The last place of two lists is the last of the second, unless that is empty.
 pub ends-split : (a b : List ℕ) (u : ℕ) → Ends (a ++ b) u → ((b ≡ []) × Ends a u) ⊎ Ends b u
 ends-split [] b u e = inr e
 ends-split (p ∷ a) b u (inl (n, e)) = here a b n
@@ -100,13 +100,13 @@ cuts {A} (x ∷ s) t (y ∷ a) b e = up (cuts s t a b (tail-eq-of-cons-eq e)) (h
     up (inl (c, p, q)) z = inl (c, rw (p, z), q)
     up (inr (c, p, q)) z = inr (c, rw (p, z), q)
 
--- Sequences joined.
+-- Sequences are joined.
 
 pub joined-append : (a b : List (List ℕ)) → joined (a ++ b) ≡ joined a ++ joined b
 joined-append [] b = refl
 joined-append (w ∷ a) b = ap (_++_ w) (joined-append a b) ∙ sym (append-assoc w (joined a) (joined b))
 
--- where a place is the last of s, which begins the joined sequences, it stands in one of them
+-- Where a place is the last of s, which begins the joined sequences, it stands in one of them.
 abbrev pub Inside : List ℕ → List ℕ → List (List ℕ) → ℕ → Type 0
 Inside s t bs u = (x : List (List ℕ)) × (v : List ℕ) × (z : List ℕ) × (y : List (List ℕ)) × (bs ≡ x ++ (v ++ z) ∷ y) × (s ≡ joined x ++ v) × (t ≡ z ++ joined y) × Ends v u
 

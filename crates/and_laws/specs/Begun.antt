@@ -16,12 +16,12 @@ use Rattle.and_laws.specs.Rows.{may, fit-row}
 use Rattle.and_laws.specs.Levels.{around, may-in, itself, around-has}
 use Rattle.and_laws.specs.Taken.{nextFrom, completeFrom, requiredFrom, IsLast, IsTaken, next-from, complete-from, required-from, plain-next, plain-complete, plain-required}
 
--- Beginnings
+-- Beginnings are shown to be such by a walk that goes on from them.
 
 pub begins-none : (g : Group) → Begins g []
 begins-none g = some-walk g
 
--- The last place taken
+-- The last place taken is found by going through them all.
 
 pub lastFrom-snoc : (u : ℕ) (s : List ℕ) (p : ℕ) → lastFrom u (s ++ p ∷ []) ≡ p
 lastFrom-snoc u [] p = refl
@@ -34,7 +34,7 @@ ends-last : (p : ℕ) (s : List ℕ) → Ends (p ∷ s) (lastFrom p s)
 ends-last p [] = inl (refl, refl)
 ends-last p (q ∷ s) = inr (ends-last q s)
 
--- the last place is one only
+-- There is one last place only.
 pub last-is : (s : List ℕ) (u : ℕ) → IsLast s u → lastOr0 s ≡ u
 last-is s zero e = ap lastOr0 e
 last-is [] (suc u) e = absurd e
@@ -46,7 +46,7 @@ last-is (p ∷ s) (suc u) e = ends-is p s (suc u) e
     ends-is p (q ∷ s) u (inl (n, e)) = absurd (cons≢nil n)
     ends-is p (q ∷ s) u (inr e) = ends-is q s u e
 
--- What the places taken decide
+-- The places taken decide by the last of them and the set of them.
 
 abbrev pub nextOf : Group → List ℕ → ℕ → Bool
 nextOf g s p = nextFrom g (lastOr0 s) (mem s) p
@@ -61,7 +61,7 @@ module _ (g : Group) (numbered : Numbered g 1) (guarded : Guarded g) where
   good : Good g
   good = numbered-good g 1 numbered guarded
 
-  -- the last place of a beginning is in the group, and was taken
+  -- The last place of a beginning is in the group, and was taken.
   begins-last : (p : ℕ) (s : List ℕ) → Begins g (p ∷ s) → (has g (lastFrom p s) ≡ true) × (mem (p ∷ s) (lastFrom p s) ≡ true)
   begins-last p s (t, w) =
       let m = ends-mem (p ∷ s) (lastFrom p s) (ends-last p s) in

@@ -14,7 +14,7 @@ pub record Alg (B : Type 0) : Type 0 where
   pub either : B → B → B
   pub maybe : B → B
   pub many : B → B
-  -- the first member, one more, and the whole "&" group
+  -- These are for the first member, for one more, and for the whole "&" group.
   pub begin : B → B
   pub added : B → B → B
   pub close : B → B

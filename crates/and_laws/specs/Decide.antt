@@ -18,7 +18,7 @@ use Rattle.and_laws.specs.Fold.{one-walk, add-back, some-walk, null-walk
 use Rattle.and_laws.specs.Exact.{walk-null, walk-first}
 use Rattle.and_laws.specs.Rest.{allM, anyM, arr-some, arr-empty, empty-arr, arr-starts, starts-arr, arr-passes, arr-avoids}
 
--- every walk passes p
+-- Every walk passes p.
 abbrev mutual
   pub passes : Group → ℕ → Bool
   passes (place n) p = eqb n p
@@ -90,7 +90,7 @@ mutual
 -- After the last place u, with S taken.
 
 abbrev mutual
-  -- content is complete
+  -- Content is complete.
   pub done : Group → ℕ → (ℕ → Bool) → Bool
   done (place n) u S = true
   done (seq g h) u S = cond (has h u) (done h u S) (done g u S && nullable h)
@@ -104,7 +104,7 @@ abbrev mutual
   nowDone (also m g) u S = cond (has g u) (done g u S) (nowDone m u S)
 
 abbrev mutual
-  -- p may come next
+  -- The place p may come next.
   pub fit : Group → ℕ → (ℕ → Bool) → ℕ → Bool
   fit (place n) u S p = false
   fit (seq g h) u S p = cond (has h u) (fit h u S p) (fit g u S p || (done g u S && first h p))
@@ -118,7 +118,7 @@ abbrev mutual
   nowFit (also m g) u S p = cond (has g u) (fit g u S p) (nowFit m u S p)
 
 abbrev mutual
-  -- whatever remains passes p
+  -- Whatever remains passes p.
   pub passesAfter : Group → ℕ → (ℕ → Bool) → ℕ → Bool
   passesAfter (place n) u S p = false
   passesAfter (seq g h) u S p = cond (has h u) (passesAfter h u S p) (passesAfter g u S p || passes h p)
@@ -134,7 +134,7 @@ abbrev mutual
 pub or-only : (a b : Bool) → b ≡ false → a || b ≡ true → a ≡ true
 or-only a b n e = or-cases a b (λ i. i) (λ j. absurd (not-both n j)) e
 
--- the members that do not hold u
+-- These laws are of the members that do not hold u.
 module _ (S : ℕ → Bool) where
   pub remains-some : (g : Group) → (w : List ℕ) × Remains S g w
   remains-some g = bool-cases (meets g S) (λ e. ([], inl (e, refl))) (λ e. let (w, x) = some-walk g in (w, inr (e, x)))
@@ -179,7 +179,7 @@ module _ (S : ℕ → Bool) where
         go (inl i) = ([], inl (i, refl), λ j. false≢true j)
         go (inr (i, j)) = let (w, x, n) = avoids g p j in (w, inr (i, x), n)
 
--- complete
+-- The test of completeness says what the walks say.
 
 mutual
   pub left-done : (g : Group) → Good g → (u : ℕ) (S : ℕ → Bool) → Left g u S [] → done g u S ≡ true
@@ -230,7 +230,7 @@ mutual
       (λ j. inl (j, done-left g u S j (sym (cond-yes (done g u S) (nowDone m u S) j) ∙ e)))
       (λ j. let k : hasM m u ≡ true = or-only (hasM m u) (has g u) j i in inr (k, done-now m u S k (sym (cond-no (done g u S) (nowDone m u S) j) ∙ e)))
 
--- next
+-- The test of what may come next says what the walks say.
 
 head-of : {C : Type 0} (p : ℕ) (t a b : List ℕ) → p ∷ t ≡ a ++ b → (a ≡ [] → b ≡ p ∷ t → C) → ((c : List ℕ) → a ≡ p ∷ c → C) → C
 head-of p t [] b e f k = f refl (sym e)
@@ -320,7 +320,7 @@ mutual
       let (t, l) = fit-now m u S p k (sym (cond-no (fit g u S p) (nowFit m u S p) j) ∙ e) in
       (t, inr (k, l)))
 
--- whatever remains passes p
+-- The test of what every remainder passes says what the walks say.
 
 mutual
   pub must-left : (g : Group) → Good g → (u : ℕ) (S : ℕ → Bool) (p : ℕ) → passesAfter g u S p ≡ true → (t : List ℕ) → Left g u S t → mem t p ≡ true

@@ -17,7 +17,7 @@ use Rattle.and_laws.specs.Back.{alike-next}
 use Rattle.and_laws.specs.Fold.{ends, endsM, GoesOn, walk-one}
 use Rattle.and_laws.specs.Only.{only, in-both, only-mid, only-sides, only-end, only-start, in-first, in-second, begins-in, arr-in-first, ends-of, SeqNext, in-g, in-h, seq-next, PlusNext, in-run, plus-next, runs-last, MoreNext, own, other, more-next, walk-parts, own-only, other-begins}
 
--- null
+-- What has an empty walk is told to be nullable.
 
 runs-null : (g : Group) → (Walk g [] → nullable g ≡ true) → {w : List ℕ} → Runs (Walk g) w → [] ≡ w → nullable g ≡ true
 runs-null g f (once x) e = f (subst (Walk g) (sym e) x)
@@ -41,7 +41,7 @@ mutual
       let j = nil-parts w (joined b) (sym (i .1)) in
       and-both (arr-null m (a ++ b) (sym (joined-append a b ∙ ap (λ (l : List ℕ). l ++ joined b) (i .0) ∙ j .1)) o) (walk-null g (subst (Walk g) (j .0) x))
 
--- first
+-- What begins a walk is told to be first.
 
 runs-first : (g : Group) (p : ℕ) → ((t : List ℕ) → Walk g (p ∷ t) → first g p ≡ true) → {w : List ℕ} → Runs (Walk g) w → (t : List ℕ) → w ≡ p ∷ t → first g p ≡ true
 runs-first g p f (once x) t e = f t (subst (Walk g) e x)
@@ -80,16 +80,16 @@ mutual
 pub begins-first : (g : Group) (p : ℕ) → Begins g (p ∷ []) → first g p ≡ true
 begins-first g p (t, w) = walk-first g p t w
 
--- ends
+-- What goes on after a walk is told by `ends`.
 
--- in a group without "&" only the last place counts
+-- In a group without "&" only the last place counts.
 pub plain-next : (g : Group) → Good g → Plain g → (u p : ℕ) (a c : List ℕ) → Ends a u → Ends c u → Begins g a → Begins g (c ++ p ∷ []) → Begins g (a ++ p ∷ [])
 plain-next g d n u p a c i j b k = alike-next g d c a p b (record { last = (u, j, i); same = λ q h. absurd (plain-held g n q h) }) k
 
 walk-begins : (g : Group) (s : List ℕ) → Walk g s → Begins g s
 walk-begins g s w = ([], rw append-nil w)
 
--- whole walks after which p goes on: p begins a walk, or goes on after one
+-- Where p goes on after whole walks, it begins a walk or goes on after one.
 pub plus-goes : (g : Group) → Good g → Plain g → (s r c : List ℕ) (p : ℕ) → s ≡ r ++ c → Runs (Walk g) s → Begins g (c ++ p ∷ []) → (first g p ≡ true) ⊎ GoesOn g p
 plus-goes g d n s r [] p e x b = inl (begins-first g p b)
 plus-goes g d n s r (q ∷ c) p e x b =
@@ -153,7 +153,7 @@ mutual
   onM-ends (one g) d p (s, x, (t, y)) = on-ends g d p (s, walk-one g s x, (t, walk-one g ((s ++ p ∷ []) ++ t) y))
   onM-ends (also m g) (d, k, a) p x = more-on m g a p (λ x. onM-ends m d p x) (λ x. on-ends g k p x) x
 
--- between two members of an "&" group: what comes next begins its member, or goes on after it
+-- Between two members of an "&" group, what comes next begins its member or goes on after it.
 
 pub edge : (m : Members) → GoodM m → (p : ℕ) (x y : List (List ℕ)) → Arr Walk m (x ++ y) → Begins (and m) (joined x ++ p ∷ []) → firstM m p || endsM m p ≡ true
 edge (one g) d p x y (w, e, n) (t, b) = go (where-block [] [] w x y (append-nil (block w) ∙ sym e))

@@ -13,7 +13,7 @@ use Rattle.and_laws.specs.Decide.{fit, done, passesAfter, left-fit}
 use Rattle.and_laws.specs.Left.{walk-left}
 use Rattle.and_laws.specs.Numbers.{numbered-good}
 
--- where a list of one or of two is cut
+-- These laws say where a list of one or of two can be cut.
 cut-one : {A : Type 0} (x : A) (a b : List A) → a ++ b ≡ x ∷ [] → ((a ≡ []) × (b ≡ x ∷ [])) ⊎ ((a ≡ x ∷ []) × (b ≡ []))
 cut-one x [] b e = inl (refl, e)
 cut-one x (y ∷ a) b e = let (i, j) = nil-parts a b (sym (tail-eq-of-cons-eq e)) in inr (rw (head-eq-of-cons-eq e, i), j)

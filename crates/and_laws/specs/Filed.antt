@@ -16,7 +16,7 @@ use Rattle.and_laws.specs.Rest.{allM}
 use Rattle.and_laws.specs.Req.{anyIdle, restReq}
 use Rattle.and_laws.specs.Rows.{fine}
 
--- Lists of numbers
+-- These laws are of lists of numbers.
 
 abbrev pub allOf : (ℕ → Bool) → List ℕ → Bool
 allOf t [] = true
@@ -26,7 +26,7 @@ abbrev pub anyOf : (ℕ → Bool) → List ℕ → Bool
 anyOf t [] = false
 anyOf t (n ∷ ns) = anyOf t ns || t n
 
--- no number stands twice
+-- No number stands twice.
 abbrev pub Distinct : List ℕ → Type 0
 Distinct [] = true ≡ true
 Distinct (n ∷ ns) = (mem ns n ≡ false) × Distinct ns
@@ -48,7 +48,7 @@ pub some-any : (t : ℕ → Bool) (ns : List ℕ) (n : ℕ) → mem ns n ≡ tru
 some-any t [] n i e = absurd (false≢true i)
 some-any t (k ∷ ns) n i e = or-cases (eqb k n) _ (λ x. or-right (anyOf t ns) (subst (λ (z : ℕ). t z ≡ true) (sym (eqb-true k n x)) e)) (λ y. or-left _ (some-any t ns n y e)) i
 
--- of those that have not begun, if there is one only, what it requires
+-- This is what the only one requires that has not begun, and 0 if there are more or none.
 abbrev pub loneOf : (ℕ → Bool) → (ℕ → ℕ) → List ℕ → ℕ
 loneOf B r [] = 0
 loneOf B r (n ∷ ns) = cond (B n) (loneOf B r ns) (cond (anyOf (λ (k : ℕ). not (B k)) ns) 0 (r n))
@@ -89,19 +89,19 @@ module _ (B : ℕ → Bool) (r : ℕ → ℕ) where
           (λ w. some-any (λ (z : ℕ). not (B z)) ns a w (false-not (B a) x))
           i
 
--- A group
+-- The members of a group stand for their numbers.
 
 module _ (S : ℕ → Bool) (B : ℕ → Bool) (null : ℕ → Bool) (r : ℕ → ℕ) where
-  -- the number of a member: its bit says whether it has begun, and the table whether it can be nothing and what it requires
+  -- The bit of a member's number says whether it has begun, and the table says whether it can be nothing and what it requires.
   abbrev pub IsNumber : ℕ → Group → Type 0
   IsNumber n g = (B n ≡ meets g S) × (null n ≡ nullable g) × (r n ≡ must g)
 
-  -- the members have these numbers, the last member's first
+  -- The members have these numbers, the last member's first.
   abbrev pub Filed : Members → List ℕ → Type 0
   Filed (one g) ns = (n : ℕ) × (ns ≡ n ∷ []) × IsNumber n g
   Filed (also m g) ns = (n : ℕ) × (ks : List ℕ) × (ns ≡ n ∷ ks) × IsNumber n g × Filed m ks
 
-  -- a member that has not begun can be nothing
+  -- A member that has not begun can be nothing.
   abbrev pub fineNumber : ℕ → Bool
   fineNumber n = B n || null n
 

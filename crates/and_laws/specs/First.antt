@@ -76,14 +76,14 @@ abbrev pub firstPairOf : (ℕ → ℕ → Bool) → Group → ℕ × ℕ
 firstPairOf same g = searchPair (λ p q. same p q && clash g p q) (size g)
 
 module _ (same : ℕ → ℕ → Bool) (g : Group) (numbered : Numbered g 1) (guarded : Guarded g) where
-  -- where the search finds none, no pair is at fault
+  -- Where the search finds none, no pair is at fault.
   pub firstPairOf-none : firstPairOf same g .0 ≡ 0 → (p q : ℕ) → PairAtFault same g p q → ⊥
   firstPairOf-none e p q f = no-pair same g numbered guarded (searchPair-none (λ a b. same a b && clash g a b) (size g) e) p q f
 
-  -- what the search finds is the first pair at fault
+  -- What the search finds is the first pair at fault.
   pub firstPairOf-first : 1 ≤ firstPairOf same g .0 → FirstPair same g (firstPairOf same g .0) (firstPairOf same g .1)
   firstPairOf-first l = first-pair same g numbered guarded (firstPairOf same g .0) (firstPairOf same g .1) (searchPair-some (λ a b. same a b && clash g a b) (size g) l)
 
-  -- the same of a pair by its numbers
+  -- A pair that the search gives by its numbers is the first pair at fault.
   pub firstPairOf-is : (p q : ℕ) → firstPairOf same g ≡ (p, q) → 1 ≤ p → FirstPair same g p q
   firstPairOf-is p q e l = subst (λ (r : ℕ × ℕ). 1 ≤ r .0 → FirstPair same g (r .0) (r .1)) e firstPairOf-first l

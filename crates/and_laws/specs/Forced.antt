@@ -75,7 +75,7 @@ State g u S = (s : List ℕ) × (z : List ℕ) × Ends s u × Agrees (held g) s 
 abbrev pub StateM : Members → ℕ → (ℕ → Bool) → Type 0
 StateM m u S = (x : List (List ℕ)) × (v : List ℕ) × (z : List ℕ) × (y : List (List ℕ)) × Ends v u × Agrees (hasM m) (joined x ++ v) S × Arr Walk m (x ++ (v ++ z) ∷ y)
 
--- no place in an "&" group of it is taken
+-- No place in an "&" group of it is taken.
 abbrev pub Fresh : Group → (ℕ → Bool) → Type 0
 Fresh h S = (p : ℕ) → held h p ≡ true → S p ≡ true → ⊥
 
@@ -126,7 +126,7 @@ opt-state g u S ([], z, e, i, w) = absurd e
 opt-state g u S (p ∷ s, z, e, i, inl n) = absurd (cons≢nil n)
 opt-state g u S (p ∷ s, z, e, i, inr w) = (p ∷ s, z, e, i, w)
 
--- without "&", any place of the group is the last of some beginning
+-- Without "&" any place of the group is the last of some beginning.
 pub plus-state : (g : Group) → Plain g → (u : ℕ) (S : ℕ → Bool) → {w : List ℕ} → Runs (Walk g) w → (s z : List ℕ) → Ends s u → w ≡ s ++ z → State g u S
 plus-state g n u S (once x) s z e q = (s, z, e, (λ p i. absurd (plain-held g n p i)), subst (Walk g) q x)
 plus-state g n u S (more a b c x r) s z e q = go (λ s j l. plus-state g n u S r s z j l) (cuts s z a b (sym q ∙ c))
@@ -148,7 +148,7 @@ and-state m u S (s, z, e, i, w) = go (walk-arr m (s ++ z) w)
     go : ((bs : List (List ℕ)) × (s ++ z ≡ joined bs) × Arr Walk m bs) → StateM m u S
     go (bs, q, o) = at bs o (inside bs s z u e q)
 
--- the last place is taken
+-- The last place is taken.
 pub stateM-taken : (m : Members) (u : ℕ) (S : ℕ → Bool) → StateM m u S → S u ≡ true
 stateM-taken m u S (x, v, z, y, e, i, o) = i u (arr-has m x v z y u e o) .1 (mem-right (joined x) v u (ends-mem v u e))
 
@@ -178,14 +178,14 @@ module _ (m : Members) (g : Group) (d : Apart (hasM m) (has g)) (u : ℕ) (S : �
 pub fresh-meets : (h : Group) (S : ℕ → Bool) (f : ℕ → Bool) → ((p : ℕ) → has h p ≡ true → f p ≡ true) → ((p : ℕ) → f p ≡ true → S p ≡ true → ⊥) → meets h S ≡ false
 fresh-meets h S f i n = not-true (meets h S) (λ j. let (p, x, y) = meets-common h S j in n p (i p x) y)
 
--- of two tests, the one whose group has the place
+-- Of two tests the one holds whose group has the place.
 pub or-first : (a b : Bool) → a || b ≡ true → (b ≡ true → ⊥) → a ≡ true
 or-first a b e n = or-only a b (not-true b n) e
 
 pub or-last : (a b : Bool) → a || b ≡ true → (a ≡ true → ⊥) → b ≡ true
 or-last a b e n = or-cases a b (λ i. absurd (n i)) (λ i. i) e
 
--- begins and is always passed
+-- The place begins the group, and every walk passes it.
 abbrev pub Start : Group → ℕ → Type 0
 Start g p = (first g p ≡ true) × (passes g p ≡ true)
 
@@ -205,7 +205,7 @@ module _ (g h : Group) (d : Apart (has g) (has h)) (p : ℕ) where
       ((and-right (nullable g) _ k, or-last (passes g p) _ y (λ j. d p (must-has g p j) i)), and-left (nullable g) _ k)
 
 module _ (S : ℕ → Bool) where
-  -- among the members not begun
+  -- The member has not begun, and can begin with the place.
   abbrev pub restFirst : ℕ → Group → Bool
   restFirst r g = not (meets g S) && first g r
 
@@ -232,7 +232,7 @@ module _ (S : ℕ → Bool) where
   pub rest-has : (m : Members) (r : ℕ) → RestM m r → hasM m r ≡ true
   rest-has m r (x, y) = any-has (restFirst r) r (rest-first-has r) m x
 
-  -- the place at hand is in a member that has begun
+  -- The place at hand is in a member that has begun.
   now-met : (m : Members) → GoodM m → (u r : ℕ) → hasM m u ≡ true → S u ≡ true → nowFit m u S r ≡ true → anyM (restMust r) m ≡ true → ⊥
   now-met (one g) d u r i t x y = not-both (tests.not-true (meets g S) (and-left (not (meets g S)) _ y)) (common-meets g S u i t)
   now-met (also m g) (d, k, a) u r i t x y =
@@ -279,13 +279,13 @@ module _ (S : ℕ → Bool) where
     alt-after-g j (x, y) = (sym (cond-no (fit h u S r) (fit g u S r) j) ∙ x, sym (cond-no (passesAfter h u S r) (passesAfter g u S r) j) ∙ y)
 
   module _ (m : Members) (d : GoodM m) (u r : ℕ) (i : hasM m u ≡ true) (t : S u ≡ true) where
-    -- the member at hand is done: p is in another
+    -- Where the member at hand is done, the place is in another.
     pub and-rest : nowDone m u S ≡ true → After (and m) u r → RestM m r
     and-rest n (x, y) =
         let k : anyM (restMust r) m ≡ true = or-last (nowPasses m u S r) _ y (λ l. false≢true (must-now m d u S r l [] (done-now m u S i n))) in
         (and-right (nowDone m u S) _ (or-last (nowFit m u S r) _ x (λ l. now-met m d u r i t l k)), k)
 
-    -- it is not: p is in it
+    -- Where it is not done, the place is in it.
     pub and-now : nowDone m u S ≡ false → After (and m) u r → AfterM m u r
     and-now n (x, y) =
         let k : nowFit m u S r ≡ true = or-first (nowFit m u S r) _ x (λ l. not-both n (and-left (nowDone m u S) _ l)) in

@@ -11,7 +11,7 @@ use Rattle.and_laws.specs.Decide.{done, nowDone, or-only}
 use Rattle.and_laws.specs.Req.{anyIdle, restReq, reqAfter, reqNow}
 use Rattle.and_laws.specs.Rows.{last-has, lastM-has, fine, full, fullM, done-row, now-row}
 
--- an "&" group around u lacks a member, where u can end the members that hold it, up to that group
+-- An "&" group around u lacks a member, where u can end the members that hold it, up to that group.
 abbrev mutual
   pub blocks : Group → ℕ → (ℕ → Bool) → Bool
   blocks (place n) u S = false
@@ -25,7 +25,7 @@ abbrev mutual
   blocksM (one g) u S = blocks g u S
   blocksM (also m g) u S = cond (has g u) (blocks g u S) (blocksM m u S)
 
--- the place that is required in the innermost of them: that of its only member that has not begun, 0 if there are several
+-- The place that is required in the innermost of them is that of its only member that has not begun, and 0 if there are several.
 abbrev mutual
   pub lone : Group → ℕ → (ℕ → Bool) → ℕ
   lone (place n) u S = 0
@@ -39,7 +39,7 @@ abbrev mutual
   loneM (one g) u S = lone g u S
   loneM (also m g) u S = cond (has g u) (lone g u S) (loneM m u S)
 
--- a group that can be nothing requires nothing
+-- A group that can be nothing requires nothing.
 mutual
   pub null-req : (g : Group) → nullable g ≡ true → must g ≡ 0
   null-req (place n) e = absurd (false≢true e)
@@ -53,7 +53,7 @@ mutual
   null-reqM (one g) e = null-req g e
   null-reqM (also m g) e = refl
 
--- a place that can end the group has nothing required after it
+-- A place that can end the group has nothing required after it.
 mutual
   pub last-req : (g : Group) → Good g → (u : ℕ) → last g u ≡ true → mustAfter g u ≡ 0
   last-req (place n) d u e = refl
@@ -81,7 +81,7 @@ mutual
       (λ j. rw j (last-req g k u (or-cases (lastM m u) _ (λ x. absurd (a u (lastM-has m u x) j)) (λ y. y) e)))
       (λ j. rw j (lastM-req m d u (or-cases (lastM m u) _ (λ x. x) (λ y. absurd (not-both j (last-has g u y))) e)))
 
--- where every member has begun or can be nothing, none is required
+-- Where every member has begun or can be nothing, none is required.
 fine-rest : (m : Members) (S : ℕ → Bool) → allM (fine S) m ≡ true → restReq m S ≡ 0
 fine-rest (one g) S e = bool-cases (meets g S) (λ i. rw i) (λ i. rw i (null-req g (rw i at e)))
 fine-rest (also m g) S e =
@@ -95,7 +95,7 @@ joined-not true y = refl
 joined-not false true = refl
 joined-not false false = refl
 
--- a place that can end the group is blocked exactly if some "&" group around it lacks a member
+-- A place that can end the group is blocked exactly if some "&" group around it lacks a member.
 mutual
   pub last-full : (g : Group) → Good g → (u : ℕ) (S : ℕ → Bool) → last g u ≡ true → full g u S ≡ not (blocks g u S)
   last-full (place n) d u S e = refl
@@ -129,7 +129,7 @@ done-blocks g d u S i =
     (λ e. done-row g d u S i ∙ rw e (last-full g d u S e))
     (λ e. done-row g d u S i ∙ rw e)
 
--- where nothing blocks and content is not complete, the place cannot end the group
+-- Where nothing blocks and content is not complete, the place cannot end the group.
 still-open : (l b c : Bool) → c ≡ l && not b → c ≡ false → b ≡ false → l ≡ false
 still-open true b c e x y = absurd (not-both x (e ∙ rw y))
 still-open false b c e x y = refl

@@ -11,14 +11,14 @@ use Rattle.and_laws.specs.Base.{mem, mem-left, mem-right, mem-cases, mem
 use Rattle.and_laws.specs.Sets.{meets, GoodM, walk-in, Common, meets-common, common-meets}
 use Rattle.and_laws.specs.Blocks.{block, Arr, joined-block, arr-in, Where, early, late, where-block}
 
--- what a member other than the one at hand leaves to come: nothing once it has begun, else a walk
+-- A member other than the one at hand leaves nothing to come once it has begun, and a walk before.
 abbrev pub Remains : (ℕ → Bool) → Group → List ℕ → Type 0
 Remains S g w = ((meets g S ≡ true) × (w ≡ [])) ⊎ ((meets g S ≡ false) × Walk g w)
 
 abbrev pub Touched : (ℕ → Bool) → List ℕ → Type 0
 Touched S w = (w ≡ []) ⊎ Common (mem w) S
 
--- each of the sequences is empty or has a place taken
+-- Each of the sequences is empty or has a place taken.
 abbrev pub Met : (ℕ → Bool) → List (List ℕ) → Type 0
 Met S [] = _≡_ {A = ℕ} 0 0
 Met S (w ∷ x) = Touched S w × Met S x
@@ -51,7 +51,7 @@ module _ (S : ℕ → Bool) (a c : List (List ℕ)) (w : List ℕ) where
   met-at : Met S (a ++ (block w ++ c)) → Touched S w
   met-at m = met-block S w (met-first S (block w) c (met-second S a (block w ++ c) m))
 
--- a place in the whole is in the part or in the rest
+-- A place in the whole is in the part or in the rest.
 pub mem-middle : {C : Type 0} (a c : List (List ℕ)) (w : List ℕ) (p : ℕ) → (mem w p ≡ true → C) → (mem (joined (a ++ c)) p ≡ true → C) → mem (joined (a ++ (block w ++ c))) p ≡ true → C
 mem-middle a c w p f k i =
     mem-cases
@@ -71,14 +71,14 @@ module _ (S : ℕ → Bool) (g : Group) (w : List ℕ) (x : Walk g w) where
   touched-none (inl e) f = e
   touched-none (inr (p, i, j)) f = absurd (not-both f (common-meets g S p (walk-in g w x p i) j))
 
-  -- a member that came early leaves nothing
+  -- A member that came early leaves nothing.
   remains-early : Touched S w → Remains S g []
   remains-early t = bool-cases (meets g S) (λ e. inl (e, refl)) (λ f. inr (f, subst (Walk g) (touched-none t f) x))
 
 pub unmet : (S : ℕ → Bool) (g : Group) → (Common (has g) S → ⊥) → meets g S ≡ false
 unmet S g f = not-true (meets g S) (λ e. f (meets-common g S e))
 
--- the members' places taken lie in x
+-- The members' places taken lie in x.
 abbrev pub Lies : Members → (ℕ → Bool) → List (List ℕ) → Type 0
 Lies m S x = (p : ℕ) → hasM m p ≡ true → S p ≡ true → mem (joined x) p ≡ true
 
@@ -89,7 +89,7 @@ module _ (S : ℕ → Bool) (m : Members) (g : Group) (apart : Apart (hasM m) (h
   lies-less : (x : List (List ℕ)) → Lies (also m g) S x → Lies m S x
   lies-less x l p i j = l p (or-left _ i) j
 
-  -- a member that is still to come has not begun
+  -- A member that is still to come has not begun.
   lies-unmet : (x y : List (List ℕ)) → Arr Walk m (x ++ y) → Lies (also m g) S x → meets g S ≡ false
   lies-unmet x y o l =
       unmet S g (λ (p, i, j). apart p (arr-in m (x ++ y) o p (rw joined-append (mem-left (joined x) (joined y) p (l p (or-right (hasM m p) i) j)))) i)

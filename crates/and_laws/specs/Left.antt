@@ -22,19 +22,19 @@ abbrev mutual
   Left (plus g) u S t = (a : List ℕ) × (b : List ℕ) × (t ≡ a ++ b) × Left g u S a × ((b ≡ []) ⊎ Runs (Walk g) b)
   Left (and m) u S t = (a : List ℕ) × (bs : List (List ℕ)) × (t ≡ a ++ joined bs) × Now m u S a × Arr (Remains S) m bs
 
-  -- what may remain of the member that holds u
+  -- This is what may remain of the member that holds u.
   pub Now : Members → ℕ → (ℕ → Bool) → List ℕ → Type 0
   Now (one g) u S a = Left g u S a
   Now (also m g) u S a = ((has g u ≡ true) × Left g u S a) ⊎ ((hasM m u ≡ true) × Now m u S a)
 
--- of the places that pass the test, those in S are those of s
+-- Of the places that pass the test, those in S are those of s.
 abbrev pub Agrees : (ℕ → Bool) → List ℕ → (ℕ → Bool) → Type 0
 Agrees f s S = (p : ℕ) → f p ≡ true → (S p ≡ true → mem s p ≡ true) × (mem s p ≡ true → S p ≡ true)
 
 pub agrees-less : (f k : ℕ → Bool) (s : List ℕ) (S : ℕ → Bool) → ((p : ℕ) → k p ≡ true → f p ≡ true) → Agrees f s S → Agrees k s S
 agrees-less f k s S i h p e = h p (i p e)
 
--- places before those of the second member do not count for it
+-- Places before those of the second member do not count for it.
 pub agrees-second : (f k : ℕ → Bool) (a c : List ℕ) (S : ℕ → Bool) → In f a → Apart f k → Agrees k (a ++ c) S → Agrees k c S
 agrees-second f k a c S i d h p e =
     (λ x. mem-cases a c p (λ y. absurd (d p (i p y) e)) (λ y. y) (h p e .0 x), λ y. h p e .1 (mem-right a c p y))
@@ -51,7 +51,7 @@ pub arr-has : (m : Members) (x : List (List ℕ)) (v z : List ℕ) (y : List (Li
 arr-has m x v z y u e o = in-at (hasM m) x v z y u e (arr-in m (x ++ (v ++ z) ∷ y) o)
 
 module _ (S : ℕ → Bool) (m : Members) (g : Group) (apart : Apart (hasM m) (has g)) where
-  -- the other members agree without this one's sequence
+  -- The other members agree without this one's sequence.
   pub agrees-out : (a c : List (List ℕ)) (w v : List ℕ) → Walk g w → Agrees (hasM (also m g)) (joined (a ++ (block w ++ c)) ++ v) S → Agrees (hasM m) (joined (a ++ c) ++ v) S
   agrees-out a c w v x h p e =
       let k = h p (or-left _ e) in (
@@ -63,7 +63,7 @@ module _ (S : ℕ → Bool) (m : Members) (g : Group) (apart : Apart (hasM m) (h
       back p j =
           rw joined-append (mem-cases (joined a) (joined c) p (mem-left (joined a) (joined (block w ++ c)) p) (λ i. mem-right (joined a) (joined (block w ++ c)) p (rw joined-block (mem-right w (joined c) p i))) (rw joined-append at j))
 
-  -- and this one agrees with its own
+  -- This member agrees with its own sequence.
   pub agrees-own : (x z : List (List ℕ)) (v : List ℕ) → Arr Walk m (x ++ z) → Agrees (hasM (also m g)) (joined x ++ v) S → Agrees (held g) v S
   agrees-own x z v o h =
       agrees-second (hasM m) (held g) (joined x) v S (λ p i. arr-in m (x ++ z) o p (rw joined-append (mem-left (joined x) (joined z) p i))) (λ p i j. apart p i (held-has g p j)) (agrees-less (hasM (also m g)) (held g) (joined x ++ v) S (λ p e. or-right (hasM m p) (held-has g p e)) h)
@@ -92,7 +92,7 @@ seq-rests g h d f k u S s t e i (a, b, q, x, y) = go (cuts s t a b q)
         let x2 : Walk g (s ++ c) = subst (Walk g) p x in
         inr (ends-in (has g) s c u e (walk-in g (s ++ c) x2), c, b, r, f u S s c e (agrees-less (held (seq g h)) (held g) s S (λ q l. or-left _ l) i) x2, y)
 
--- "+" over a group without "&": only the last place counts
+-- Under "+" over a group without "&" only the last place counts.
 plus-rests : (g : Group) → Plain g → Rests g → (u : ℕ) (S : ℕ → Bool) → {w : List ℕ} → Runs (Walk g) w → (s t : List ℕ) → Ends s u → w ≡ s ++ t → Left (plus g) u S t
 plus-rests g n f u S (once x) s t e q = (t, [], sym (append-nil t), f u S s t e (λ p i. absurd (plain-held g n p i)) (subst (Walk g) q x), inl refl)
 plus-rests g n f u S (more a b c x r) s t e q = go (λ s j l. plus-rests g n f u S r s t j l) (cuts s t a b (sym q ∙ c))
@@ -108,7 +108,7 @@ plus-rests g n f u S (more a b c x r) s t e q = go (λ s j l. plus-rests g n f u
     go k (inl (c, p, y)) = last k c y (ends-split a c u (rw p at e))
     go k (inr (c, p, y)) = (c, b, y, f u S s c e (none s) (subst (Walk g) p x), inr r)
 
--- the sequences before the place at hand, and its own, are those that the places taken touch
+-- The sequences before the place at hand, and its own, are those that the places taken touch.
 module _ (m : Members) (u : ℕ) (S : ℕ → Bool) (s : List ℕ) (e : Ends s u) (i : Agrees (hasM m) s S) (x : List (List ℕ)) (v z : List ℕ) (p : s ≡ joined x ++ v) where
   pub met-begun : (y : List (List ℕ)) → Ends v u → Arr Walk m (x ++ (v ++ z) ∷ y) → Met S (x ++ (v ++ z) ∷ [])
   met-begun y j o =

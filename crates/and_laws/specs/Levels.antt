@@ -14,7 +14,7 @@ use Rattle.and_laws.specs.Forced.{first-has}
 use Rattle.and_laws.specs.Rows.{last-has, lastM-has, follow-from, followM-from, follow-to, followM-to, fine, full, fullM, unbegun, may, mayM}
 use Rattle.and_laws.specs.Lacking.{blocks, blocksM, lone, loneM}
 
--- the "&" groups around u, the innermost first; within "+" there is none
+-- These are the "&" groups around u, the innermost first; within "+" there is none.
 abbrev mutual
   pub around : Group → ℕ → List Members
   around (place n) u = []
@@ -28,17 +28,17 @@ abbrev mutual
   aroundM (one g) u = around g u
   aroundM (also m g) u = cond (has g u) (around g u) (aroundM m u)
 
--- the first of the groups that lacks a member blocks, if u can end the members that hold it, up to that group
+-- The first of the groups that lacks a member blocks, if u can end the members that hold it, up to that group.
 abbrev pub blocksIn : List Members → ℕ → (ℕ → Bool) → Bool
 blocksIn [] u S = false
 blocksIn (m ∷ ms) u S = lastM m u && (not (allM (fine S) m) || blocksIn ms u S)
 
--- the place that is required in the first group that lacks a member
+-- This is the place that is required in the first group that lacks a member.
 abbrev pub loneIn : List Members → (ℕ → Bool) → ℕ
 loneIn [] S = 0
 loneIn (m ∷ ms) S = cond (allM (fine S) m) (loneIn ms S) (restReq m S)
 
--- u can end the members that hold it in all of these groups
+-- The place u can end the members that hold it in all of these groups.
 abbrev pub endsIn : List Members → ℕ → Bool
 endsIn [] u = true
 endsIn (m ∷ ms) u = lastM m u && endsIn ms u
@@ -47,7 +47,7 @@ ends-append : (xs : List Members) (m : Members) (u : ℕ) → endsIn xs u ≡ tr
 ends-append [] m u e f = rw f
 ends-append (x ∷ xs) m u e f = and-both (and-left (lastM x u) _ e) (ends-append xs m u (and-right (lastM x u) _ e) f)
 
--- a place that can end the group can end the members around it
+-- A place that can end the group can end the members around it.
 mutual
   pub last-ends : (g : Group) → Good g → (u : ℕ) → last g u ≡ true → endsIn (around g u) u ≡ true
   last-ends (place n) d u e = refl
@@ -73,7 +73,7 @@ mutual
       (λ j. rw j (last-ends g k u (or-cases (lastM m u) _ (λ x. absurd (a u (lastM-has m u x) j)) (λ y. y) e)))
       (λ j. rw j (lastM-ends m d u (or-cases (lastM m u) _ (λ x. x) (λ y. absurd (not-both j (last-has g u y))) e)))
 
--- one group more, around the others
+-- These laws are of one group more, around the others.
 blocks-append : (xs : List Members) (m : Members) (u : ℕ) (S : ℕ → Bool) → blocksIn (xs ++ m ∷ []) u S ≡ blocksIn xs u S || (endsIn xs u && (lastM m u && not (allM (fine S) m)))
 blocks-append [] m u S = ap (λ (z : Bool). lastM m u && z) (or-false (not (allM (fine S) m)))
 blocks-append (x ∷ xs) m u S = ap (λ (z : Bool). lastM x u && (not (allM (fine S) x) || z)) (blocks-append xs m u S) ∙ spread (lastM x u) (not (allM (fine S) x)) (blocksIn xs u S) (endsIn xs u) (lastM m u && not (allM (fine S) m))
@@ -102,7 +102,7 @@ mutual
   blocksM-in (one g) d u S i = blocks-in g d u S i
   blocksM-in (also m g) (d, k, a) u S i = bool-cases (has g u) (λ j. rw j (blocks-in g k u S j)) (λ j. rw j (blocksM-in m d u S (or-only (hasM m u) (has g u) j i)))
 
--- the first group that lacks a member is among those before, or there is none among them
+-- The first group that lacks a member is among those before, or there is none among them.
 lone-before : (xs ys : List Members) (u : ℕ) (S : ℕ → Bool) → blocksIn xs u S ≡ true → loneIn (xs ++ ys) S ≡ loneIn xs S
 lone-before [] ys u S e = absurd (false≢true e)
 lone-before (x ∷ xs) ys u S e = bool-cases (allM (fine S) x) (λ f. rw f (lone-before xs ys u S (and-right (lastM x u) _ (rw f at e)))) (λ f. rw f)
@@ -137,27 +137,27 @@ mutual
   loneM-in (one g) d u S i b = lone-in g d u S i b
   loneM-in (also m g) (d, k, a) u S i b = bool-cases (has g u) (λ j. rw j (lone-in g k u S j (rw j at b))) (λ j. rw j (loneM-in m d u S (or-only (hasM m u) (has g u) j i) (rw j at b)))
 
--- What may come next
+-- The groups around the last place tell what may come next.
 
--- u and p are in one member
+-- The places u and p are in one member.
 abbrev pub together : Members → ℕ → ℕ → Bool
 together m u p = anyM (λ (g : Group). has g u && has g p) m
 
--- p is in the group of u: in the member of u, or in one that has not begun
+-- The place p is in the group of u: in the member of u, or in one that has not begun.
 abbrev pub within : Members → ℕ → (ℕ → Bool) → ℕ → Bool
 within m u S p = together m u p || anyM (unbegun S p) m
 
--- each of the groups, up to the first that has p, lacks no member, and that one has p in the member of u or in one that has not begun
+-- Each of the groups, up to the first that has p, lacks no member, and that one has p in the member of u or in one that has not begun.
 abbrev pub mayIn : List Members → ℕ → (ℕ → Bool) → ℕ → Bool
 mayIn [] u S p = true
 mayIn (m ∷ ms) u S p = cond (hasM m p) (within m u S p) (allM (fine S) m && mayIn ms u S p)
 
--- no group lacks a member
+-- No group lacks a member.
 abbrev pub fullIn : List Members → (ℕ → Bool) → Bool
 fullIn [] S = true
 fullIn (m ∷ ms) S = allM (fine S) m && fullIn ms S
 
--- no group has p
+-- No group has p.
 abbrev Without : List Members → ℕ → Type 0
 Without [] p = p ≡ p
 Without (m ∷ ms) p = (hasM m p ≡ false) × Without ms p
@@ -202,17 +202,17 @@ mutual
   fullM-in (one g) u S = full-in g u S
   fullM-in (also m g) u S = bool-cases (has g u) (λ j. rw j (full-in g u S)) (λ j. rw j (fullM-in m u S))
 
--- groups that do not have p must not lack a member
+-- Groups that do not have p must not lack a member.
 may-past : (xs ys : List Members) (u : ℕ) (S : ℕ → Bool) (p : ℕ) → Without xs p → mayIn (xs ++ ys) u S p ≡ fullIn xs S && mayIn ys u S p
 may-past [] ys u S p w = refl
 may-past (x ∷ xs) ys u S p (v, w) = rw v (ap (λ (z : Bool). allM (fine S) x && z) (may-past xs ys u S p w) ∙ sym (and-assoc (allM (fine S) x) (fullIn xs S) (mayIn ys u S p)))
 
--- a group that has u and p in one member takes nothing away
+-- A group that has u and p in one member takes nothing away.
 may-same : (xs : List Members) (m : Members) (u : ℕ) (S : ℕ → Bool) (p : ℕ) → hasM m p ≡ true → together m u p ≡ true → mayIn (xs ++ m ∷ []) u S p ≡ mayIn xs u S p
 may-same [] m u S p i t = rw (i, t)
 may-same (x ∷ xs) m u S p i t = ap (λ (z : Bool). cond (hasM x p) (within x u S p) (allM (fine S) x && z)) (may-same xs m u S p i t)
 
--- only what the group says of p counts
+-- Only what the group says of p counts.
 may-last : (xs : List Members) (m k : Members) (u : ℕ) (S : ℕ → Bool) (p : ℕ) → hasM m p ≡ true → hasM k p ≡ true → within m u S p ≡ within k u S p → mayIn (xs ++ m ∷ []) u S p ≡ mayIn (xs ++ k ∷ []) u S p
 may-last [] m k u S p i j e = rw (i, j) e
 may-last (x ∷ xs) m k u S p i j e = ap (λ (z : Bool). cond (hasM x p) (within x u S p) (allM (fine S) x && z)) (may-last xs m k u S p i j e)

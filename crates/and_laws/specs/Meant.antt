@@ -12,7 +12,7 @@ use Rattle.and_laws.specs.Base.{mem}
 use Rattle.and_laws.specs.Sets.{meets, meets-common, common-meets}
 use Rattle.and_laws.specs.Required.{Other, OtherM, Unbegun, RequiredBy, mem-memᴰ, memᴰ-mem}
 
--- The places of a group.
+-- These laws are of the places of a group.
 mutual
   pub has-place : (g : Group) (p : ℕ) → has g p ≡ true → HasPlace g p
   has-place (place n) p e = eqb-true n p e
@@ -42,7 +42,7 @@ mutual
   some-has (also m g) p (inl x) = or-left _ (some-has m p x)
   some-has (also m g) p (inr y) = or-right (hasM m p) (place-has g p y)
 
--- The other members around a place.
+-- These laws are of the other members around a place.
 mutual
   pub other-is : (g : Group) (p : ℕ) (h : Group) → Other g p h → IsOther g p h
   other-is (place n) p h o = o

@@ -21,7 +21,7 @@ use Rattle.and_laws.specs.Exact.{arr-first, begins-first, on-ends, plain
 seq-clash : (g h : Group) → Good g → Apart (has g) (has h) → (p q : ℕ) → (Both g p q → clash g p q ≡ true) → (Both h p q → clash h p q ≡ true) → Both (seq g h) p q → clash (seq g h) p q ≡ true
 seq-clash g h i d p q f k (s, x, y) = go (seq-next g h s p x) (seq-next g h s q y)
   where
-    -- a place of g and one of h: g is walked
+    -- Where a place of g and one of h can both come next, g is walked.
     over : (p q : ℕ) → Begins g (s ++ p ∷ []) → (a c : List ℕ) → s ≡ a ++ c → Walk g a → Begins h (c ++ q ∷ []) → ends g p && first h q ≡ true
     over p q v a c e w b =
         let n : c ≡ [] = in-both (has g) (has h) d c (λ r j. begins-in g s (p ∷ []) v r (subst (λ (l : List ℕ). mem l r ≡ true) (sym e) (mem-right a c r j))) (begins-in h c (q ∷ []) b) in
@@ -54,7 +54,7 @@ opt-begins g (q ∷ s) p (t, inr w) = (t, w)
 plus-clash : (g : Group) → Good g → Plain g → (p q : ℕ) → (Both g p q → clash g p q ≡ true) → Both (plus g) p q → clash (plus g) p q ≡ true
 plus-clash g d n p q f (s, (a, x), (b, y)) = go (plus-next g p x s a refl) (plus-next g q y s b refl)
   where
-    -- s is whole walks, q begins one; and p goes on in the last
+    -- The sequence s is whole walks, q begins one, and p goes on in the last.
     whole : (p q : ℕ) (r c k : List ℕ) (l : ℕ) → s ≡ r ++ [] → (r ≡ []) ⊎ Runs (Walk g) r → first g q ≡ true → s ≡ k ++ l ∷ c → Begins g ((l ∷ c) ++ p ∷ []) → ends g p && first g q ≡ true
     whole p q r c k l e (inl z) i j b = absurd (nil≢middle k l c (sym (sym j ∙ e ∙ ap (λ (o : List ℕ). o ++ []) z)))
     whole p q r c k l e (inr z) i j b = pick (plus-goes g d n s k (l ∷ c) p j (subst (Runs (Walk g)) (sym (e ∙ append-nil r)) z) b)
@@ -79,7 +79,7 @@ plus-clash g d n p q f (s, (a, x), (b, y)) = go (plus-next g p x s a refl) (plus
             let z : v ≡ u = ends-unique s v u (subst (λ (o : List ℕ). Ends o v) (sym e2) (ends-append r2 (l2 ∷ c2) v j)) (subst (λ (o : List ℕ). Ends o u) (sym e) (ends-append r (l ∷ c) u i)) in
             or-left _ (f (l ∷ c, b, plain-next g d n u q (l ∷ c) (l2 ∷ c2) i (subst (Ends (l2 ∷ c2)) z j) (begins-less g (l ∷ c) (p ∷ []) b) b2))
 
--- p in a member before, q in the last
+-- The place p is in a member before, and q is in the last.
 more-cross : (m : Members) (g : Group) → GoodM m → Good g → Apart (hasM m) (has g) → (p q : ℕ) (s : List ℕ) → (x y : List (List ℕ)) (v : List ℕ) → s ≡ joined x ++ v → Arr Walk m (x ++ y) → Begins g (v ++ q ∷ []) → (a c : List (List ℕ)) (w v2 z : List ℕ) (y2 : List (List ℕ)) → s ≡ joined a ++ (w ++ (joined c ++ v2)) → (w ≡ []) ⊎ Walk g w → Arr Walk m ((a ++ c) ++ (v2 ++ p ∷ z) ∷ y2) → cross (firstM m p) (endsM m p) (first g q) (ends g q) ≡ true
 more-cross m g i j d p q s x y [] e o b a c w v2 z y2 e2 t o2 =
     or-left _ (and-both (edge m i p x y o (subst (λ (l : List ℕ). Begins (and m) (l ++ p ∷ [])) (own-rest m g d s q x y [] e o b) (other-begins m g d s p a c w v2 z y2 e2 t o2))) (begins-first g q b))
@@ -134,7 +134,7 @@ mutual
   bothM-clash (one g) d p q (s, (a, x), (b, y)) = both-clash g d p q (s, (a, walk-one g ((s ++ p ∷ []) ++ a) x), (b, walk-one g ((s ++ q ∷ []) ++ b) y))
   bothM-clash (also m g) (d, k, a) p q x = more-clash m g d k a p q (λ x. bothM-clash m d p q x) (λ x. both-clash g k p q x) x
 
--- Exact, with no order listed.
+-- The fold is exact, with no order listed.
 pub pair-exact : (g : Group) → Good g → (p q : ℕ) → (clash g p q ≡ true) ↔ Both g p q
 pair-exact g d p q = (clash-both g p q, both-clash g d p q)
 

@@ -19,12 +19,12 @@ use Rattle.and_laws.specs.Forced.{first-has, must-has, fit-has, nowFit-h
 abbrev pub anyIdle : (ℕ → Bool) → Members → Bool
 anyIdle S m = anyM (λ (g : Group). not (meets g S)) m
 
--- of the members not begun, if there is one only
+-- This is what the only member requires that has not begun, and 0 if there are more or none.
 abbrev pub restReq : Members → (ℕ → Bool) → ℕ
 restReq (one g) S = cond (meets g S) 0 (must g)
 restReq (also m g) S = cond (meets g S) (restReq m S) (cond (anyIdle S m) 0 (must g))
 
--- and after the place u
+-- This is what is required after the place u.
 abbrev mutual
   pub reqAfter : Group → ℕ → (ℕ → Bool) → ℕ
   reqAfter (place n) u S = 0
@@ -38,7 +38,7 @@ abbrev mutual
   reqNow (one g) u S = reqAfter g u S
   reqNow (also m g) u S = cond (has g u) (reqAfter g u S) (reqNow m u S)
 
--- a place whose other members are spoken of is in the group
+-- A place whose other members are spoken of is in the group.
 mutual
   pub other-has : (g : Group) (p : ℕ) (h : Group) → Other g p h → has g p ≡ true
   other-has (place n) p h o = absurd o
@@ -57,7 +57,7 @@ mutual
   otherM-place (also m g) p h (inr (inl (i, o))) = or-right (hasM m p) i
   otherM-place (also m g) p h (inr (inr (i, o))) = or-left _ i
 
--- every group can begin with some place
+-- Every group can begin with some place.
 mutual
   pub some-first : (g : Group) → (q : ℕ) × (first g q ≡ true)
   some-first (place n) = (n, eq-eqb n n refl)
@@ -81,7 +81,7 @@ member-any t (one g) h i e = subst (λ (k : Group). t k ≡ true) i e
 member-any t (also m g) h (inl i) e = or-left _ (member-any t m h i e)
 member-any t (also m g) h (inr i) e = or-right (anyM t m) (subst (λ (k : Group). t k ≡ true) i e)
 
--- where p can begin a group, the other members around it can
+-- Where p can begin a group, the other members around it can.
 module _ (p : ℕ) where
   pub plain-other : (g : Group) → Plain g → (h : Group) → Other g p h → ⊥
   plain-other (place n) y h o = o
@@ -241,7 +241,7 @@ module _ (p : ℕ) (pos : p ≡ 0 → ⊥) where
         cond-no (restReq m S) (cond (anyIdle S m) 0 (must g)) n ∙ cond-no 0 (must g) z ∙ complete0 g k (and-right (not (meets g S)) _ v, and-right (not (meets g S)) _ w) (λ h o. c h (inl (inr o)) (unmet-other g h o n)))
         (rest-has S (also m g) p x)
 
-    -- another member not begun can begin now
+    -- Another member not begun can begin now.
     rest-next : (m : Members) → GoodM m → (h : Group) → OtherM m p h → meets h S ≡ false → RestM S m p → (q : ℕ) → first h q ≡ true → anyM (restFirst S q) m ≡ true
     rest-next (one g) d h o n x q f = and-both (and-left (not (meets g S)) _ (x .0)) (first-other p g d h q o (and-right (not (meets g S)) _ (x .0)) f)
     rest-next (also m g) (d, k, a) h (inl (inl o)) n x q f = or-left _ (rest-next m d h o n (rest-others S m g a p (otherM-place m p h o) x) q f)

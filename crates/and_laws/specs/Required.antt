@@ -19,7 +19,7 @@ use Rattle.and_laws.specs.Decide.{passes, fit, passesAfter, next-fold, m
 abbrev pub Forced : Group → List ℕ → ℕ → Type 0
 Forced g s p = MayComeNext g s p × ((t : List ℕ) → Walk g (s ++ t) → List·Memᴰ p t)
 
--- h is another member of an "&" group in which a member has p
+-- The group h is another member of an "&" group in which a member has p.
 abbrev mutual
   pub Other : Group → ℕ → Group → Type 0
   Other (place n) p h = ⊥
@@ -33,7 +33,7 @@ abbrev mutual
   OtherM (one g) p h = Other g p h
   OtherM (also m g) p h = (OtherM m p h ⊎ Other g p h) ⊎ (((has g p ≡ true) × IsMember m h) ⊎ ((hasM m p ≡ true) × (h ≡ g)))
 
--- the member has not begun: no place of it is taken
+-- The member has not begun: no place of it is taken.
 abbrev pub Unbegun : Group → List ℕ → Type 0
 Unbegun h s = meets h (mem s) ≡ false
 
@@ -41,7 +41,7 @@ Unbegun h s = meets h (mem s) ≡ false
 abbrev pub RequiredBy : Group → List ℕ → ℕ → Type 0
 RequiredBy g s p = Forced g s p × ((h : Group) → Other g p h → Unbegun h s → (q : ℕ) → has h q ≡ true → MayComeNext g s q → ⊥)
 
--- some other member passes the test
+-- Some other member passes the test.
 abbrev mutual
   pub hinders : (Group → Bool) → Group → ℕ → Bool
   hinders t (place n) p = false
@@ -83,7 +83,7 @@ mutual
   otherM-has (also m g) p h q (inr (inl (i, o))) e = or-left _ (member-has m h q o e)
   otherM-has (also m g) p h q (inr (inr (i, o))) e = or-right (hasM m q) (subst (λ (k : Group). has k q ≡ true) o e)
 
--- The fold.
+-- The fold goes by the last place and the set of the places taken.
 
 abbrev pub ready : (ℕ → Bool) → (ℕ → Bool) → Group → Bool
 ready S N h = not (meets h S) && meets h N
@@ -104,7 +104,7 @@ memᴰ-mem (q ∷ t) p m = go (List·Memᴰ·cases-cons m) (memᴰ-mem t p)
     go (inr m) f = or-right (eqb q p) (f m)
 
 module _ (g : Group) (good : Good g) (u : ℕ) (S : ℕ → Bool) (s : List ℕ) (e : Ends s u) (agree : Agrees (held g) s S) (begun : Begins g s) (p : ℕ) where
-  -- another member has begun by S exactly if by s
+  -- Another member has begun by S exactly if by s.
   pub same-begun : (h : Group) → Other g p h → meets h S ≡ meets h (mem s)
   same-begun h o =
       bool-cases

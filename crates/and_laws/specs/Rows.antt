@@ -11,13 +11,13 @@ use Rattle.and_laws.specs.Rest.{allM, anyM}
 use Rattle.and_laws.specs.Decide.{done, nowDone, fit, nowFit, or-only}
 use Rattle.and_laws.specs.Forced.{first-has, fit-has, nowFit-has}
 
--- What has begun
+-- What has begun takes away from what the rows allow.
 
--- a member of the group that has not begun can be nothing
+-- A member of the group that has not begun can be nothing.
 abbrev pub fine : (ℕ → Bool) → Group → Bool
 fine S g = meets g S || nullable g
 
--- no "&" group around u lacks a member
+-- No "&" group around u lacks a member.
 abbrev mutual
   pub full : Group → ℕ → (ℕ → Bool) → Bool
   full (place n) u S = true
@@ -31,11 +31,11 @@ abbrev mutual
   fullM (one g) u S = full g u S
   fullM (also m g) u S = cond (has g u) (full g u S) (fullM m u S)
 
--- the member that has p has not begun
+-- The member that has p has not begun.
 abbrev pub unbegun : (ℕ → Bool) → ℕ → Group → Bool
 unbegun S p g = has g p && not (meets g S)
 
--- no "&" group that has u and not p lacks a member, and where an "&" group has them in two members, that of p has not begun
+-- No "&" group that has u and not p lacks a member, and where an "&" group has them in two members, that of p has not begun.
 abbrev mutual
   pub may : Group → ℕ → (ℕ → Bool) → ℕ → Bool
   may (place n) u S p = true
@@ -49,7 +49,7 @@ abbrev mutual
   mayM (one g) u S p = may g u S p
   mayM (also m g) u S p = cond (has g u) (cond (has g p) (may g u S p) (full g u S && anyM (unbegun S p) m)) (cond (has g p) (fullM m u S && not (meets g S)) (mayM m u S p))
 
--- Places
+-- What ends a group or follows in it is a place of the group.
 
 mutual
   pub last-has : (g : Group) (u : ℕ) → last g u ≡ true → has g u ≡ true
@@ -104,9 +104,9 @@ mutual
       (or-cases (lastM m u && first g p) _ (λ y. or-right (hasM m p) (first-has g p (and-right (lastM m u) _ y))) (λ y. or-left _ (first-has (and m) p (and-right (last g u) _ y))))
       e
 
--- Bits
+-- These laws put the parts of a test into another order.
 
--- the second two of three in the other order
+-- Three tests hold in another order as well.
 swapped : (a b c : Bool) → (a && b) && c ≡ (c && a) && b
 swapped true b true = and-true b
 swapped true b false = and-false b
@@ -127,7 +127,7 @@ plain-full (opt g) x u S = plain-full g x u S
 plain-full (plus g) x u S = refl
 plain-full (and m) x u S = absurd x
 
--- Complete
+-- Content is complete where the row says so and no group lacks a member.
 
 mutual
   -- Content is complete exactly if the row says so and no "&" group around the last place lacks a member.
@@ -157,9 +157,9 @@ mutual
       (λ j. let n = no-from (lastM-has m u) (not-true (hasM m u) (λ x. a u x j)) in rw (j, n) (done-row g k u S j))
       (λ j. let n = no-from (last-has g u) j in rw (j, n, or-false) (now-row m d u S (or-only (hasM m u) (has g u) j i)))
 
--- Next
+-- A place may come next where the row has it and the groups leave it.
 
--- of the members that have not begun one can begin with p exactly if one can and that which has p has not begun
+-- Of the members that have not begun one can begin with p exactly if one can and that which has p has not begun.
 rest-row : (m : Members) → GoodM m → (S : ℕ → Bool) (p : ℕ) → anyM (λ (g : Group). not (meets g S) && first g p) m ≡ firstM m p && anyM (unbegun S p) m
 rest-row (one g) d S p = bool-cases (first g p) (λ e. rw (e, first-has g p e, and-true)) (λ e. rw (e, and-false))
 rest-row (also m g) (d, k, a) S p =

@@ -34,7 +34,7 @@ abbrev pub requiredFrom : Group → ℕ → (ℕ → Bool) → ℕ
 requiredFrom g zero S = must g
 requiredFrom g (suc u) S = reqAfter g (suc u) S
 
--- u is the last place of s, 0 if there is none
+-- The place u is the last of s, and 0 if there is none.
 abbrev pub IsLast : List ℕ → ℕ → Type 0
 IsLast s zero = s ≡ []
 IsLast s (suc u) = Ends s (suc u)
@@ -57,7 +57,7 @@ module _ (g : Group) (good : Good g) (S : ℕ → Bool) where
   required-from zero s e agree begun p pos = subst (λ (l : List ℕ). (must g ≡ p) ↔ Required g l p) (sym e) (Iff·trans (number-required-start g good p pos) (required-meant g [] p))
   required-from (suc u) s e agree begun p pos = Iff·trans (number-required g good (suc u) S s e agree begun p pos) (required-meant g s p)
 
--- u is 0, or a place of the group that was taken
+-- The number u is 0, or a place of the group that was taken.
 abbrev pub IsTaken : Group → ℕ → (ℕ → Bool) → Type 0
 IsTaken g zero S = zero ≡ zero
 IsTaken g (suc u) S = (has g (suc u) ≡ true) × (S (suc u) ≡ true)

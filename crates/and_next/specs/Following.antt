@@ -33,7 +33,7 @@ use Rattle.member_bits.specs.Having.{Has}
 use Rattle.and_next.specs.Follows.{Follows}
 use Rattle.and_next.specs.Forbidding.{bad, IsFull, IsLeft, Pair, Comes}
 
--- One group that has both
+-- These laws are of one group that has both places.
 
 module _ (M begun : List ℕ) (level e : ℕ) (S : ℕ → Bool) (l : Level) (good : GoodM (l .members)) (marked : Marked begun level M e S l) (u p : ℕ) (i : hasM (l .members) u ≡ true) (j : hasM (l .members) p ≡ true) where
   -- They are in one member exactly if the numbers are the same.
@@ -66,7 +66,7 @@ module _ (M begun : List ℕ) (level e : ℕ) (S : ℕ → Bool) (l : Level) (go
   pub within-other : (memberAt M e u l ≡ memberAt M e p l → ⊥) → within (l .members) u S p ≡ not (begunAt begun level (memberAt M e p l))
   within-other z = ap (λ (t : Bool). t || anyM (unbegun S p) (l .members)) (other-member z) ∙ idle-member
 
--- The groups of p
+-- These laws are of the groups of p.
 
 module _ (M : List ℕ) (e : ℕ) (sets : AllSets M e) (g : Group) (p : ℕ) (l : Level) (is : IsLevel g 0 l) where
   -- A member of l that is one of the groups around p, or holds p there: p is in l.
@@ -123,7 +123,7 @@ none-and : (x y : Bool) → (x && false) && y ≡ false
 none-and true y = refl
 none-and false y = refl
 
--- The groups around both
+-- These laws are of the groups around both places.
 module _
     (M : List ℕ) (e : ℕ) (sets : AllSets M e) (begun : List ℕ) (level : ℕ) (g : Group) (good : Good g) (u p : ℕ) (S : ℕ → Bool)
     (y d : ℕ) (p-chain : Chain M e p true y (levels g 0 p)) (p-rising : Rising 0 d (levels g 0 p)) (p-around : EachLevel (IsAround g 0 p) (levels g 0 p)) where
@@ -143,7 +143,7 @@ module _
   abbrev pub badIn : List Level → ℕ → Bool
   badIn us = bad (λ (n : ℕ). anyOwn M e n us) (λ (n : ℕ). anyOwn M e n ps) (isNeeded M e) B (λ (n : ℕ). isHolder M e p n ps) (λ (n : ℕ). isHolder M e u n us)
 
-  -- The first of them, and those around it
+  -- The first of them stands before those around it.
   module _ (a c : ℕ) (ends : Bool) (h : ℕ) (l : Level) (us : List Level) (chain : Chain M e u ends h (l ∷ us)) (rising : Rising a c (l ∷ us)) (around : EachLevel (IsAround g 0 u) (l ∷ us)) (marked : Marked begun level M e S l) where
     kept : Grouped M e l
     kept = chain .0
@@ -155,7 +155,7 @@ module _
     own-once : (n : ℕ) → isOwn M e (l .number) n ≡ true → anyOwn M e n us ≡ false
     own-once n o = not-true (anyOwn M e n us) (λ x. omega (arith, own-group M e l kept n o, own-above M e sets u (l .number) c us outer-kept (rising .1) n x))
 
-    -- p is not in it.
+    -- The place p is not in it.
     module _ (apart : hasM (l .members) p ≡ false) where
       bad-own : (n : ℕ) → isOwn M e (l .number) n ≡ true → badIn (l ∷ us) n ≡ isNeeded M e n && not (B n)
       bad-own n o =
@@ -192,7 +192,7 @@ module _
           own : isOwn M e (l .number) n ≡ true → badIn (l ∷ us) n ≡ false
           own o = bad-own n o ∙ bool-cases (isNeeded M e n) (λ m. rw (m, fine-begun M e l kept sets begun level S marked (and-left (allM (fine S) (l .members)) _ t′) n o m)) (λ m. rw m)
 
-    -- p is in it.
+    -- The place p is in it.
     module _ (both : hasM (l .members) p ≡ true) where
       same : AnyLevel (IsSame l) ps
       same = level-around g 0 l (around .0 .0) good p both
@@ -251,7 +251,7 @@ module _
       none-within : within (l .members) u S p ≡ true → (n : ℕ) → 1 ≤ n → n < POSITIONS → badIn (l ∷ us) n ≡ false
       none-within t n x w = not-true (badIn (l ∷ us) n) (λ i. let (o, q) = bad-is n x w i in false≢true (ap not (sym q) ∙ sym (within-other M begun level e S l good-l marked u p (around .0 .1) both o) ∙ t))
 
-  -- p may come next exactly if no member forbids it.
+  -- The place p may come next exactly if no member forbids it.
   may-none : (a c : ℕ) (ends : Bool) (h : ℕ) (us : List Level) → Chain M e u ends h us → Rising a c us → EachLevel (IsAround g 0 u) us → AllMarked begun level M e S us → ((n : ℕ) → 1 ≤ n → n < POSITIONS → badIn us n ≡ false) → mayIn (groupsOf us) u S p ≡ true
   may-none a c ends h [] chain rising around marked f = refl
   may-none a c ends h (l ∷ us) chain rising around marked f =
@@ -266,7 +266,7 @@ module _
       (λ z. none-within a c ends h l us chain rising around (marked .0) z (rw z at t))
       (λ z. apart-may a c ends h l us chain rising around (marked .0) z t (none-may (l .number) c _ _ us (chain .4) (rising .1) (around .1) (marked .1)))
 
--- What is read of the sets
+-- This is read of the sets.
 
 -- The first of the groups around a place is that of the member that holds it.
 module _ (M : List ℕ) (e : ℕ) (sets : AllSets M e) (v c : ℕ) (ends : Bool) (z : ℕ) where
@@ -320,7 +320,7 @@ module _ (M : List ℕ) (e h i : ℕ) (b : Bits) where
     pub comes-far : AND-GROUPS < n → (r : Bool) → Comes M e h i b r
     comes-far z r = record { says = λ w. let (l, f) = u-first w in absurd (omega (arith, f .within)) }
 
-    -- p is in no group.
+    -- The place p is in no group.
     pub comes-full : i ≡ 0 → (r : Bool) → IsFull M e n b r → Comes M e h i b r
     comes-full z r full = comes-by r (λ w m. (amongAt M e n m && isNeeded M e m) && not (begunAt (w .begun) (w .level) m)) same (λ t w. full .none t (begunAt (w .begun) (w .level)) (w .has)) (λ t w. full .some t (begunAt (w .begun) (w .level)) (w .has))
       where
@@ -338,7 +338,7 @@ module _ (M : List ℕ) (e h i : ℕ) (b : Bits) where
                 first true false t o = refl
                 first false k t o = refl
 
-    -- p is in a group.
+    -- The place p is in a group.
     module _ (inner : 1 ≤ i) (q : ℕ) (at-q : q ≡ groupAt M e i) where
       p-sets : (w : Pair M e h i b) (m : ℕ) → 1 ≤ m → m < POSITIONS → (amongAt M e q m ≡ anyOwn M e m (levels (w .model) 0 (w .p))) × (holdsAt M e q m || eqb m i ≡ isHolder M e (w .p) m (levels (w .model) 0 (w .p)))
       p-sets w = set-of M e (w .sets) (w .p) (w .d) true (w .y) i q inner at-q (levels (w .model) 0 (w .p)) (w .p-read) (w .p-chain) (w .p-rising) (p-have w)
@@ -390,7 +390,7 @@ holder-few M e v h at g told here = go (levels g 0 v) (told .places v here) (lev
     go [] chain around = omega (arith, at ∙ ap (λ (x : ℕ). x % ENDING) chain)
     go (l ∷ ls) chain around = first-of M e h v true (holderAt M e v) l ls at chain (around .0 .1) .small .1
 
--- The places
+-- The numbers at the places lead to their groups.
 module _ (M begun : List ℕ) (level e u p h i : ℕ) (at-h : h ≡ holderAt M e u % ENDING) (at-i : i ≡ holderAt M e p % ENDING) where
   -- The last place is in no group.
   pub follows-none : h ≡ 0 → Follows M level e u p begun true

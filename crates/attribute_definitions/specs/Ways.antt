@@ -27,7 +27,7 @@ use Rattle.attribute_definitions.specs.declared.ValueRead.{ValueRead}
 use Rattle.attribute_definitions.specs.declared.ValueRead.the-variants as values
 use Rattle.attribute_definitions.specs.Definition.{NameFits, wordIs, wordOf, WordFits, tokensIn, valueFault, ValueAs, MeetsValue, ValueFits, DefinedAs}
 
--- Names
+-- Names are read.
 
 module _ (long : ℕ) (s : List ℕ) (xs : List Attribute) (from i e : ℕ) (ends : e ≡ nameEnd s i) where
   pub name-long : long < e - i → refused 3 i ≡ attributeName long s xs from i
@@ -53,7 +53,7 @@ module _ (long : ℕ) (s : List ℕ) (xs : List Attribute) (from i e : ℕ) (end
         unfolding attributeName
         name-got f = rw (attributeName, ← ends, le-ltb _ _ short, lt-ltb from i parted, ← ends, ← found, lt-leb 1 k (omega (arith, fresh)), lt-leb ATTCNT (length xs) f, ends)
 
--- Words
+-- Words are read.
 
 module _ (long : ℕ) (s : List ℕ) (i e : ℕ) (ends : e ≡ nameEnd s i) where
   pub word-long : long < e - i → refused 3 i ≡ valueWord long s i
@@ -94,7 +94,7 @@ module _ (long : ℕ) (s : List ℕ) (i e : ℕ) (ends : e ≡ nameEnd s i) wher
               unfolding valueWord
               word-wrong h = rw (valueWord, ← ends, le-ltb _ _ short, ← ends, ← is-cdata, na, ← ends, ← is-number, nb, ← ends, ← is-name, nd, ← ends, ← cut-cdata, np, ← cut-number, nq, ← cut-name, h)
 
--- Declared values
+-- Declared values are read.
 
 -- A word is a declared value without tokens.
 pub word-value : (long : ℕ) (s seen : List ℕ) (x k m e : ℕ) {y : Reading ValueEnd} → x ≤ 2 → k ≡ m → y ≡ got (record { value = wordIs x; at = e }) → ValueAs long s seen x k e (partsOf seen m) y
@@ -128,7 +128,7 @@ module _ (long : ℕ) (s : List ℕ) (ts : List Part) (i : ℕ) where
     unfolding declaredValue
     value-none l = rw (declaredValue, ne-eqb _ _ n, l)
 
--- Definitions
+-- Definitions are read.
 
 -- The tokens of a list with a further attribute.
 pub tokens-more : (xs : List Attribute) (a : Attribute) → tokensOf (xs ++ a ∷ []) ≡ tokensOf xs ++ tokensIn (a .value)

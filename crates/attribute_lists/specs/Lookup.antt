@@ -103,7 +103,7 @@ module _ (long : ℕ) (s : List ℕ) (es : List rules.Element) (ls : List AttLis
         unfolding listedElement
         listed-got h = rw (listedElement, l, ← ends, le-ltb _ _ short, ← ends, ← found, le-leb 1 k (omega (arith, some)), ← ends, ← found, listed, h, ← ends, ← found)
 
--- Whether one has a list
+-- An element may have a list.
 
 pub any-none : (heads : List ℕ) → anyIn heads 0 ≡ false
 unfolding anyIn

@@ -67,7 +67,7 @@ module _ (long : ℕ) (s l : List ℕ) (b : ℕ) (d : List ℕ) (w : Written) (m
         pub answer-unfitting : r ≡ false → Marks long s xs d before w (putMark marks (n - 1) (w .quote + 1) (w .width)) 22
         answer-unfitting t = unfitting new after (sym fit ∙ t)
 
--- All of a tag.
+-- All attributes of a tag are held against the list.
 module _ (long : ℕ) (s : List ℕ) (xs : List Attribute) (d : List ℕ) (ws : List Written) (marks : List ℕ) where
   -- What is answered of those that are kept is so of all.
   kept-given : (few : length xs ≤ ATTCNT) (f : Fault) → Given long s xs d (take (ATTCNT + 1) ws) marks f → Given long s xs d ws marks f

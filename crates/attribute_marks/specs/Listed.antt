@@ -45,7 +45,7 @@ module _ (s : List ℕ) (xs : List Attribute) (d : List ℕ) where
   pub listed-refused : (vs us : List Written) {n p : ℕ} → allListed s xs d [] vs ≡ refused n p → allListed s xs d [] (vs ++ us) ≡ refused n p
   listed-refused vs us e = listed-append [] vs us ∙ ap (λ (r : Reading (Unit {0})). andThen r (λ u. allListed s xs d (onto vs []) us)) e
 
-  -- One more.
+  -- One attribute more is listed.
   listed-one : (vs : List Written) (w : Written) → allListed s xs d [] vs ≡ got tt → allListed s xs d [] (vs ++ w ∷ []) ≡ elim (isNew s xs d vs w) [ true ↦ got tt | false ↦ refused 20 (w .at) ]
   unfolding allListed isGivenIn
   listed-one vs w e =
@@ -58,7 +58,7 @@ module _ (s : List ℕ) (xs : List Attribute) (d : List ℕ) where
   pub listed-ends : (vs : List Written) (w : Written) → allListed s xs d [] vs ≡ got tt → isNew s xs d vs w ≡ false → allListed s xs d [] (vs ++ w ∷ []) ≡ refused 20 (w .at)
   listed-ends vs w e n = listed-one vs w e ∙ rw n
 
--- Values
+-- Values fit what is declared.
 
 module _ (long : ℕ) (s : List ℕ) (xs : List Attribute) (d : List ℕ) where
   fit-append : (vs us : List Written) → allFit long s xs d (vs ++ us) ≡ andThen (allFit long s xs d vs) (λ u. allFit long s xs d us)
@@ -79,7 +79,7 @@ module _ (long : ℕ) (s : List ℕ) (xs : List Attribute) (d : List ℕ) where
   pub fit-ends : (vs : List Written) (w : Written) → allFit long s xs d vs ≡ got tt → isFitting long s xs d w ≡ false → allFit long s xs d (vs ++ w ∷ []) ≡ refused 22 (w .quote)
   fit-ends vs w e n = fit-one vs w e ∙ rw n
 
--- How many
+-- No more attributes are given than the list has.
 
 -- How many of the attributes are given.
 unfoldable counted : (s : List ℕ) → List Attribute → (d : List ℕ) → List Written → ℕ

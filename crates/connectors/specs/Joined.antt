@@ -151,7 +151,7 @@ module _ (end lo : ℕ) (T : List ℕ) (n d k joint : ℕ) (names table names' t
       (both (t .group) (w .group) lo (K .from) to (K .numbered) second T table table' (first-tabled ready .filled) (second-filled ready))
       behind-none)
 
-  -- one member more
+  -- The group has one member more.
   join-and : (i : ℕ) (M : Members) → Whole lo k joint T table (t .group) M
       → Keeps end (begun lo T n d) (k + 1) AND names' (joinTable AND lo m u table') (joinModel AND i m u)
       (record { group = and (also M (w .group)); at = w .at; places = w .places; tokens = w .tokens; and = earlier (t .and) i; repeated = earlier (t .repeated) (w .repeated) })
@@ -170,7 +170,7 @@ module _ (end lo : ℕ) (T : List ℕ) (n d k joint : ℕ) (names table names' t
       (both (and M) (w .group) lo (K .from) last (h .numbered) hn T table table' (h .filled (first-tabled ready .filled)) (rw z (second-filled ready)))))
       (rw is (and-behind table' lo (lo + sizeM M) (lo + sizeM M + size (w .group)) (omega arith) (omega arith) last)))
 
-  -- so by any connector that may stand there
+  -- Two groups are joined by any connector that may stand there.
   pub join-kept : (b i : ℕ) → isConnector b ≡ true → (eqb joint 0 || eqb joint b) ≡ true → Keeps end (begun lo T n d) (k + 1) b names' (joinTable b lo m u table') (joinModel b i m u) (joinTokens k b i t w)
   join-kept b i c j = ⊎-elim by-seq (λ x. ⊎-elim by-alt by-and x) (connector-is b c)
     where

@@ -22,12 +22,12 @@ getD-past [] i h = refl
 getD-past (x ∷ l) zero h = absurd (omega (arith, h))
 getD-past (x ∷ l) (suc i) h = getD-past l i (omega (arith, h))
 
--- A row, number by number.
+-- A row is read number by number.
 pub row-is : (l : List ℕ) (i : ℕ) {a b v d n : ℕ} → a ≡ getD l i 0 → b ≡ getD l (i + 1) 0 → v ≡ getD l (i + 2) 0 → d ≡ getD l (i + 3) 0 → n ≡ getD l (i + 4) 0
     → _≡_ {A = Row} (record { name = a; size = b; value = v; default = d; width = n }) (rowIn l i)
 row-is l i p q r t u = rw (p, q, r, t, u)
 
--- Attributes by number
+-- Attributes are found by number.
 
 pub at-before : (xs : List Attribute) (x : Attribute) (k : ℕ) → k < length xs → attributeAt (xs ++ x ∷ []) k ≡ attributeAt xs k
 unfolding attributeAt
@@ -40,7 +40,7 @@ unfolding attributeAt
 at-last [] x = refl
 at-last (a ∷ xs) x = at-last xs x
 
--- Whether one is required
+-- One of them may be required.
 
 pub required-is : (x n : ℕ) → x ≡ 0 → isRequired (defaultIs x n) ≡ true
 required-is x n e = rw (defaultIs, eq-eqb x 0 e)
@@ -89,7 +89,7 @@ module _ (l : List ℕ) (b : ℕ) where
     required-none k n m h w =
         sym (needs-none xs (λ j g. ap isRequired (sym (a .rows j g .default)) ∙ required-not _ _ (w .none j (omega (arith, g, h, m)))))
 
--- Which one is called so
+-- One of them may be called so.
 
 module _ (s t : List ℕ) (at size : ℕ) where
   from-found : (m : ℕ) (xs : List Attribute) (k : ℕ) → k < length xs → ((j : ℕ) → j < k → isCalled s (attributeAt xs j) t at size ≡ false) → isCalled s (attributeAt xs k) t at size ≡ true
@@ -155,7 +155,7 @@ module _ (s : List ℕ) (r : Row) (t : List ℕ) (at size : ℕ) where
   pub named-text : r .size ≡ size → r .name + size ≤ length s → {v : Bool} → v ≡ sameText s (r .name) t at size → v ≡ isNamed s r t at size
   named-text e h q = rw (isNamed, eq-eqb _ _ e, le-leb _ _ h) q
 
--- Rows written
+-- Rows are written.
 
 -- The five numbers from i on are those of r.
 abbrev pub putRow : List ℕ → ℕ → Row → List ℕ
@@ -247,7 +247,7 @@ list-put l k r full room long s xs x m a o =
         subst (λ (y : Attribute). RowOf long s (rowIn now (1 + ATTRIBUTE * j)) y) (sym (at-before xs x j (omega (arith, h, q, m))))
         (subst (λ (y : Row). RowOf long s y (attributeAt xs j)) (sym same) (a .rows j (omega (arith, h, q, m))))
 
--- Lists copied
+-- Lists are copied.
 
 -- The first i numbers of a list stand in the table from `from` on, and all others are what they were.
 pub record Copying (list : List ℕ) (from : ℕ) (before after : List ℕ) (i : ℕ) : Type 0 where

@@ -18,7 +18,7 @@ use Rattle.member_bits.specs.Bits.{zero-bit, or-either, and-both, differ
 abbrev bits : (low high : ℕ) → Bits
 bits l h = record { low = l; high = h }
 
--- Bits and members
+-- A bit stands for a member.
 
 pub bit-low : (low high i : ℕ) → i < 64 → bitIn low high i ≡ eqb (low / 2 ^ i % 2) 1
 bit-low low high i l = rw (lt-ltb i 64 l)
@@ -45,7 +45,7 @@ module _ (b : Bits) (f : ℕ → Bool) (w : Has b f) where
 pub has-same : {b : Bits} {f k : ℕ → Bool} → ((n : ℕ) → 1 ≤ n → n < POSITIONS → f n ≡ k n) → Has b f → Has b k
 has-same e w = record { low = w .low; high = w .high; bits = λ n l m. w .bits n l m ∙ e n l m }
 
--- None
+-- No bit is set where there is no member.
 
 no-bit : (i : ℕ) → bitIn 0 0 i ≡ false
 no-bit i = go (ltb i 64)
@@ -60,7 +60,7 @@ has-none = record { low = omega arith; high = omega arith; bits = λ n l m. no-b
 no-member : (b : Bits) (f : ℕ → Bool) → Has b f → b .low ≡ 0 → b .high ≡ 0 → (n : ℕ) → 1 ≤ n → n < POSITIONS → f n ≡ false
 no-member b f w x y n l m = sym (w .bits n l m) ∙ ap₂ (λ (p q : ℕ). bitIn p q (n - 1)) x y ∙ no-bit (n - 1)
 
--- Two sets together
+-- Two sets go together.
 
 -- An operation that goes bit by bit goes member by member.
 module _ (op : ℕ → ℕ → ℕ) (g : Bool → Bool → Bool) (law : (w x j : ℕ) → eqb (op w x / 2 ^ j % 2) 1 ≡ g (eqb (w / 2 ^ j % 2) 1) (eqb (x / 2 ^ j % 2) 1)) where
@@ -93,7 +93,7 @@ has-without a b f k v w = on-members less (λ (x y : Bool). x && not y) law a b 
     law : (w x j : ℕ) → eqb (less w x / 2 ^ j % 2) 1 ≡ eqb (w / 2 ^ j % 2) 1 && not (eqb (x / 2 ^ j % 2) 1)
     law w x j = and-both w (bitXor w x) j ∙ ap (λ (y : Bool). eqb (w / 2 ^ j % 2) 1 && y) (xor-one w x j) ∙ only (eqb (w / 2 ^ j % 2) 1) (eqb (x / 2 ^ j % 2) 1)
 
--- One more
+-- One member more is put.
 
 more-low : (low high i j : ℕ) → i < 64 → bitIn (bitOr low (2 ^ i)) high j ≡ bitIn low high j || eqb j i
 more-low low high i j l = go (decLt j 64)
@@ -102,7 +102,7 @@ more-low low high i j l = go (decLt j 64)
     go (yes h) = bit-low (bitOr low (2 ^ i)) high j h ∙ or-bit low i j ∙ ap (λ (b : Bool). b || eqb j i) (sym (bit-low low high j h))
     go (no h) = bit-high (bitOr low (2 ^ i)) high j (omega arith) ∙ sym (bit-high low high j (omega arith)) ∙ sym (ap (λ (b : Bool). bitIn low high j || b) (ne-eqb j i (λ e. omega arith)) ∙ or-false (bitIn low high j))
 
--- numbers less the same are the same where they were
+-- Numbers less the same are the same where they were.
 less-same : (k j i : ℕ) → k ≤ j → k ≤ i → eqb (j - k) (i - k) ≡ eqb j i
 less-same k j i l m = go (ℕ-discrete j i)
   where
@@ -136,7 +136,7 @@ module _ (b : Bits) (h : ℕ) (f : ℕ → Bool) (w : Has b f) (l : 1 ≤ h) whe
       rw (shifted-wide k (omega arith), i)
       (with-bit (b .low) (bitOr (b .high) (2 ^ (h - 1 - 64))) (w .low) (or-lt 32 (b .high) (2 ^ (h - 1 - 64)) (w .high) (pow-lt {j = 32} (omega arith))) (λ j. more-high (b .low) (b .high) (h - 1) j (omega arith)))
 
--- The lowest bit
+-- The lowest bit is searched for.
 
 -- The lowest bit of y is not below j, and b has it alone.
 pub record Seeks (y b j : ℕ) : Type 0 where
@@ -161,7 +161,7 @@ seeks-next {y} {b} {j} w n l = record { bit = w .bit; lowest = w .lowest; alone 
     go (yes e) = absurd (n (w .alone ∙ ap (λ (k : ℕ). 2 ^ k) (sym e) ∙ sym (shifted-wide j (omega arith))))
     go (no d) = omega (arith, w .ahead)
 
--- The first
+-- The first member is that of the lowest bit.
 
 module _ (b : Bits) (f : ℕ → Bool) (w : Has b f) (r : ℕ) where
   unset : {x : ℕ} → x ≡ 0 → eqb x 1 ≡ false
@@ -195,7 +195,7 @@ module _ (b : Bits) (f : ℕ → Bool) (w : Has b f) (r : ℕ) where
     pub first-none : b .high ≡ 0 → r ≡ 0 → First f r
     first-none e z = none z (no-member b f w empty e)
 
--- Whether there is none
+-- There may be no member.
 
 pub is-none : (b : Bits) → IsNone b (eqb (bitOr (b .low) (b .high)) 0)
 is-none b =
@@ -213,7 +213,7 @@ is-none b =
     go f w n (yes d) (no y) = let v = ends (b .high) (b .high) (omega arith) (omega arith) in found f (v .bit + 65) (omega arith) (first-high b f w (v .bit) d _ refl (v .lowest))
     go f w n (yes d) (yes y) = absurd (n (ap₂ bitOr d y))
 
--- Those above a member
+-- Those above a member stay where the bits up to it are cut off.
 
 cut-le : (y s : ℕ) → y / 2 ^ s * 2 ^ s ≤ y
 cut-le y s = omega (arith, split y s)
@@ -267,9 +267,9 @@ module _ (b : Bits) (f : ℕ → Bool) (w : Has b f) (x : ℕ) where
           ∙ ap (λ (t : Bool). t && leb s (n - 65)) (has-high b f w n (omega arith) (omega arith))
           ∙ ap (λ (t : Bool). f n && t) (same-test n s (n - 65) (λ i. omega arith) (λ i. omega arith))
 
--- Members one after another
+-- Members stand one after another.
 
--- b has the k members from `from` on.
+-- The bits b have the k members from `from` on.
 abbrev pub Ranged : (b : Bits) (from k : ℕ) → Type 0
 Ranged b from k = Has b (λ (n : ℕ). leb from n && ltb n (from + k))
 
@@ -314,7 +314,7 @@ ranged-past from k out w = has-same (λ n l m. no-other from n k (λ e. out (ome
 pub ranged-as : {b x : Bits} (from k n : ℕ) → x ≡ b → n ≡ k → Ranged b from k → Ranged x from n
 ranged-as from k n e d w = rw (e, d) w
 
--- Three words of 32 members each
+-- Three words have 32 members each.
 
 module _ (a b c : ℕ) (f : ℕ → Bool) (few-a : a < 4294967296) (few-b : b < 4294967296) (few-c : c < 4294967296) (in-a : (k : ℕ) → k < 32 → eqb (a / 2 ^ k % 2) 1 ≡ f (k + 1)) (in-b : (k : ℕ) → k < 32 → eqb (b / 2 ^ k % 2) 1 ≡ f (k + 33)) (in-c : (k : ℕ) → k < 32 → eqb (c / 2 ^ k % 2) 1 ≡ f (k + 65)) where
   side : a + b * 4294967296 ≡ b * 2 ^ 32 + a

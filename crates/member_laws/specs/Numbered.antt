@@ -83,7 +83,7 @@ module _ (first N : ℕ) where
     needed : nullable k ≡ false → first ≤ n → n < first + needs m → Ranged m n k
     spare : nullable k ≡ true → first + N ≤ n → n < first + N + spares m → Ranged m n k
 
-  -- the number of a member, by cases
+  -- The number of a member goes by whether it can be nothing.
   number-of : {C : Type 0} (g : Group) (a b : ℕ) → (nullable g ≡ true → numberFor first N a b g ≡ first + N + b → C) → (nullable g ≡ false → numberFor first N a b g ≡ first + a → C) → C
   number-of g a b f h = bool-cases (nullable g) (λ x. f x (rw x)) (λ x. h x (rw x))
 

@@ -15,7 +15,7 @@ use Rattle.and_laws.specs.Req.{anyIdle, restReq}
 abbrev pub OwnOr0 : (ℕ → Bool) → ℕ → Type 0
 OwnOr0 own n = (n ≡ 0) ⊎ (own n ≡ true)
 
--- a part's is the whole's
+-- What is a part's is the whole's.
 own-wider : (f h : ℕ → Bool) → ((n : ℕ) → f n ≡ true → h n ≡ true) → (n : ℕ) → OwnOr0 f n → OwnOr0 h n
 own-wider f h w n (inl z) = inl z
 own-wider f h w n (inr y) = inr (w n y)

@@ -27,7 +27,7 @@ module _ (M : List ℕ) (e : ℕ) where
   anyOwn n [] = false
   anyOwn n (l ∷ ls) = isOwn M e (l .number) n || anyOwn n ls
 
-  -- One group
+  -- These laws are of one group.
   module _ (l : Level) (kept : Grouped M e l) where
     pub own-range : (n : ℕ) → isOwn M e (l .number) n ≡ true → (firstAt M e (l .number) ≤ n) × (n < firstAt M e (l .number) + amount (l .members))
     own-range n i = (leb-true (firstAt M e (l .number)) n (and-left (leb (firstAt M e (l .number)) n) _ i), omega (arith, kept .size, ltb-true n (firstAt M e (l .number) + sizeAt M e (l .number)) (and-right (leb (firstAt M e (l .number)) n) _ i)))
@@ -100,7 +100,7 @@ module _ (M : List ℕ) (e : ℕ) where
       go (inl z) = z
       go (inr z) = absurd (omega arith)
 
-  -- The groups around a place
+  -- These laws are of the groups around a place.
   module _ (sets : AllSets M e) (u : ℕ) where
     abbrev Have : List Level → Type 0
     Have ls = EachLevel (λ (l : Level). hasM (l .members) u ≡ true) ls

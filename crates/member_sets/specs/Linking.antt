@@ -20,7 +20,7 @@ use Rattle.member_sets.specs.declared.Sets.{Sets}
 use Rattle.member_sets.specs.Storing.{PutBits, bit-same}
 use Rattle.member_bits.specs.Operations.{has-same}
 
--- What is read
+-- These are the numbers that are read of a member and of a group.
 
 -- The member h is numbered before those of its group that can be nothing.
 abbrev pub isDue : (M : List ℕ) (e h : ℕ) → Bool
@@ -98,7 +98,7 @@ module _
       go (yes l) = rw (lt-ltb ENDING outer l) (far l)
       go (no l) = rw (le-ltb ENDING outer (omega arith)) (near (omega arith))
 
--- Which members cannot be nothing, one after the other
+-- The members that cannot be nothing are gone through one after the other.
 
 pub due-by : (M : List ℕ) (e h g a b : ℕ) → g ≡ groupAt M e h → a ≡ getD M (recordAt M e g + 0) 0 → b ≡ getD M (recordAt M e g + 1) 0 → ltb h (a + b) ≡ isDue M e h
 due-by M e h g a b group first needed =
@@ -106,7 +106,7 @@ due-by M e h g a b group first needed =
     rw (first, needed, z) (ap (λ (x : ℕ). ltb h (firstAt M e x + neededAt M e x)) group)
 
 module _ (P : ℕ → Bool) where
-  -- those before h
+  -- These are those before h.
   abbrev pub Before : (h n : ℕ) → Bool
   Before h n = ltb n h && P n
 
@@ -137,7 +137,7 @@ module _ (P : ℕ → Bool) where
   pub before-all : (b : Bits) (h : ℕ) → POSITIONS ≤ h → Has b (Before h) → Has b P
   before-all b h l = has-same (λ n x y. rw (lt-ltb n h (omega arith)))
 
--- What stays
+-- Sets stay where the numbers that are read for them stay.
 
 -- The numbers of the element e before its sets.
 abbrev pub Low : (M S : List ℕ) (e : ℕ) → Type 0
@@ -186,7 +186,7 @@ module _ (M S : List ℕ) (e : ℕ) (low : Low M S e) where
     outer-same : outerAt S e n ≡ outerAt M e n
     outer-same = record-same n 3 few (omega arith)
 
-    -- what S has around the group n, by what M says of it
+    -- The table S has around the group n what M says of it.
     around-by : (W : ℕ → ℕ → Bool → Type 0) → Inner M e n W → (outerAt M e n % ENDING ≡ 0 → Outermost S e n)
         → ((outer f : ℕ) (ends : Bool) → n < f → f ≤ AND-GROUPS → W outer f ends → Within S e n outer f ends) → Around S e n
     around-by W inner none some =
@@ -216,7 +216,7 @@ module _ (M S : List ℕ) (e : ℕ) (low : Low M S e) where
           reach = here .reach ∙ w .reach ∙ ap (λ (x : ℕ). cond ends x n) (sym (there .reach));
         })
 
--- One group is put
+-- One group is put.
 
 -- The sets of the group g are put into M, and nothing else has changed.
 pub record PutGroup (M : List ℕ) (e g : ℕ) (S : List ℕ) : Type 0 where
@@ -230,7 +230,7 @@ module _
   put-low : Low M S e
   put-low k l = others (e * MEMBER + k) (inl (omega arith)) (λ z. omega arith)
 
-  -- the sets of another group
+  -- The sets of another group stay.
   put-same : (m : ℕ) → m ≤ AND-GROUPS → (m ≡ g → ⊥) → Same M S e m
   put-same m l ne = same-sets M S e m (λ k a b. others k (away k a b (decLt m g)) (λ z. omega arith)) (others (e * MEMBER + REACHES + m) (inl (omega arith)) (λ z. ne (omega arith)))
     where
@@ -287,7 +287,7 @@ module _
             });
       })
 
--- All groups are put
+-- All groups are put.
 
 -- The sets of the groups after the group g are put into M.
 pub record Linking (M : List ℕ) (e g : ℕ) (S : List ℕ) : Type 0 where

@@ -48,7 +48,7 @@ mutual
       let e : lo + sizeM m + size g - 1 ≡ lo + (sizeM m + size g) - 1 = omega arith in
       or-right (lastM m (lo + (sizeM m + size g) - 1)) (subst (λ (p : ℕ). last g p ≡ true) e (last-end g (lo + sizeM m) k))
 
--- where the second member begins
+-- This is where the second member begins.
 abbrev pub second : Members → ℕ → ℕ
 second (one g) lo = lo
 second (also (one g) h) lo = lo + size g

@@ -20,7 +20,7 @@ use Rattle.member_entries.specs.Slots.{Slot}
 use Rattle.member_table.specs.Joined.{each-map, InRange, number-from}
 use Rattle.and_laws.specs.Base.{apart-no}
 
--- Two places in one member
+-- Two places may be in one member.
 
 pub together-right : (m : Members) (u v : ℕ) → together m u v ≡ true → hasM m v ≡ true
 together-right (one g) u v t = and-right (has g u) (has g v) t
@@ -48,7 +48,7 @@ module _ (e : ℕ) where
   abbrev pub baseOf : ℕ
   baseOf = e * MEMBER
 
-  -- a group among the first b, whose members are among the first c
+  -- The group is among the first b, and its members are among the first c.
   abbrev pub Among : (M : List ℕ) (b c : ℕ) → Level → Type 0
   Among M b c l = (1 ≤ l .number) × (l .number ≤ b) × (firstAt M e (l .number) + amount (l .members) ≤ c + 1)
 

@@ -29,7 +29,7 @@ use Rattle.member_table.specs.Chains.{baseOf, Keeps, Closes}
 use Rattle.member_table.specs.States.{Common}
 use Rattle.member_table.specs.Order.{InOrder, order-more}
 
--- The last number of the code
+-- The last number of the code closes the group.
 
 lastOf : List ℕ → ℕ
 lastOf [] = 0
@@ -55,7 +55,7 @@ same-last xs x y e = ap (λ (z : ℕ). xs ++ z ∷ []) (sym (last-append xs x) �
 pub codes-and : (m : Members) → codes (and m) ≡ codesM m ++ (AND-CODE + amount m) ∷ []
 codes-and m = same-last (codesM m) _ (AND-CODE + amount m) (close-number m)
 
--- Pieces of the members
+-- The pieces of the members lie on the stack.
 
 module _ (stack : List Piece) (first : ℕ) where
   pub pieces-first : (m : Members) (lo : ℕ) → Pieces stack first m lo → pieceAt stack first .lo ≡ lo
@@ -89,7 +89,7 @@ closed-is stack first m g lo p =
     by : {a b c d : ℕ} {x y : Bool} → a ≡ b → c ≡ d → x ≡ y → _≡_ {A = Piece} (record { lo = a; last = c; null = x; required = 0 }) (record { lo = b; last = d; null = y; required = 0 })
     by i j k = rw (i, j, k)
 
--- The numbers of the group itself
+-- The numbers of the group itself are put.
 
 module _ (base groups own needed k : ℕ) (M : List ℕ) (room : base + REACHES ≤ length M) (few : groups < AND-GROUPS) where
   abbrev at : ℕ
@@ -189,7 +189,7 @@ module _
   in-slot : (s v : ℕ) → Slot (baseOf e) (t .lasts) (t .groups) s v → getD begun s 0 ≡ getD (t .members) s 0
   in-slot s v is = record-slot (baseOf e) (t .groups) (t .count + 1) (needs all) (amount all) (t .members) room few (t .lasts) s v is
 
-  -- a number that is none of a member, a place or a group before
+  -- This number is none of a member, of a place or of a group before.
   apart :
       (k : ℕ)
       → ((u : ℕ) → u ≤ GRPGTCNT → k ≡ baseOf e + u → ⊥)
@@ -202,7 +202,7 @@ module _
   before : (k : ℕ) → (k ≡ recordFrom (baseOf e) (t .groups + 1) → ⊥) → (k ≡ recordFrom (baseOf e) (t .groups + 1) + 1 → ⊥) → (k ≡ recordFrom (baseOf e) (t .groups + 1) + 2 → ⊥) → getD begun k 0 ≡ getD (t .members) k 0
   before = record-other (baseOf e) (t .groups) (t .count + 1) (needs all) (amount all) (t .members) room few
 
-  -- a number of a group's record, but not the last; and of any later group
+  -- The numbers of a group's record stay, but for the last, and so do those of any later group.
   in-record : (n r : ℕ) → r < 3 → getD closedMembers (recordFrom (baseOf e) n + r) 0 ≡ getD begun (recordFrom (baseOf e) n + r) 0
   in-record n r l = apart (recordFrom (baseOf e) n + r) (λ u x y. omega arith) (λ q x y z. omega arith) (λ q x y z. omega arith) (λ q x y z. omega arith)
 

@@ -52,7 +52,7 @@ record RanAll (e : ℕ) (m : Members) (lo : ℕ) (s t : State) : Type 0 where
 upon-none : (s : State) → Upon 0 s s
 upon-none s = record { top = omega arith; len = refl; below = λ j l. refl }
 
--- Without "&"
+-- Without "&" there is no group to put.
 
 plain-count : (g : Group) → Plain g → count g ≡ 0
 plain-count (place n) p = refl
@@ -66,7 +66,7 @@ pieces-same : (a b : List Piece) (first : ℕ) (m : Members) (lo : ℕ) → ((j 
 pieces-same a b first (one g) lo f p = f (first + 0) (omega arith) ∙ p
 pieces-same a b first (also m g) lo f (p, q) = (pieces-same a b first m lo (λ j l. f j (omega arith)) p, f (first + amount m) (omega arith) ∙ q)
 
--- Two groups, one after the other.
+-- Two groups are run one after the other.
 module _ (e : ℕ) (g h : Group) (lo : ℕ) (apart : Apart (has g) (has h)) (numbered : Numbered g lo) (high : lo + size g ≤ POSITIONS) (s t r : State) (P : Ran e g lo s t) (Q : Ran e h (lo + size g) t r) where
   pair-first : pieceAt (r .stack) (r .top - 2) ≡ pieceOf g lo
   pair-first =
@@ -101,7 +101,7 @@ module _ (e : ℕ) (g h : Group) (lo : ℕ) (apart : Apart (has g) (has h)) (num
       (P .chains)
       (λ u i. subst (λ (b : ℕ). Spells e (r .members) (r .lasts) (r .groups) (r .count) (InPart h u) u true (baseOf e + u) u (levels h b u)) (P .common .groups) (Q .chains u i))
 
--- what joins two groups makes of their pieces
+-- This is what a connector makes of the pieces of two groups.
 seq-is : (g h : Group) (lo : ℕ) (a b : Piece) → a ≡ pieceOf g lo → b ≡ pieceOf h (lo + size g) → joinedPiece SEQ-CODE a b ≡ pieceOf (seq g h) lo
 seq-is g h lo a b p q = let d : lo + size g + size h - 1 ≡ lo + (size g + size h) - 1 = omega arith in rw (p, q, d)
 
@@ -114,7 +114,7 @@ place-is n lo d = let z : lo + 1 - 1 ≡ n = omega arith in rw (z, d)
 stacked-is : (r : State) (j k : ℕ) (a b : Piece) → j ≡ k → a ≡ b → stacked r j a ≡ stacked r k b
 stacked-is r j k a b x y = rw (x, y)
 
--- The end of an "&" group
+-- An "&" group ends.
 module _ (e : ℕ) (T : List ℕ) (m : Members) (g : Group) (lo : ℕ) where
   abbrev group : Group
   group = and (also m g)
@@ -171,7 +171,7 @@ ran-and :
 ran-and e T (one g) lo n d (y, l, h) rows high s t R top-to groups-to count-to P q is = absurd (omega arith)
 ran-and e T (also m g) lo n d z rows high s t R top-to groups-to count-to P q is = ran-closed e T m g lo n d z rows high s t R top-to groups-to count-to P q is
 
--- The whole
+-- The whole code is run.
 module _ (e : ℕ) (T : List ℕ) where
   abbrev run : List ℕ → State → State
   run os s = runOps (baseOf e) T os s

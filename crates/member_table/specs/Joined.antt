@@ -28,7 +28,7 @@ use Rattle.member_table.specs.Putting.{ones-first, ones-last}
 use Rattle.member_table.specs.Beside.{Marks, EachMarks, not-left}
 use Rattle.model_sets.specs.Numbering.{size-one, amount-one, has-inside}
 
--- Pieces
+-- Pieces lie on the stack.
 
 -- What is on the stack of a group whose places begin at `lo`; the members of a group on the stack.
 abbrev pub pieceOf : Group → ℕ → Piece
@@ -55,7 +55,7 @@ module _ (stack : List Piece) (first : ℕ) where
       let e : amount m - neededIn stack first (amount m) ≡ spares m = omega (arith, amount-both m, needed-is m lo p) in
       rw (e, needed-is m lo p) (ap (λ (a : Piece). cond (a .null) (own + needed + spares m) (own + needs m)) q)
 
--- Numbers of members
+-- Members have numbers.
 
 abbrev pub InRange : (own needed a b n : ℕ) → Type 0
 InRange own needed a b n = ((own ≤ n) × (n < own + a)) ⊎ ((own + needed ≤ n) × (n < own + needed + b))
@@ -73,7 +73,7 @@ each-map own needed (also m g) f (e, p) = (
   f (numberFor own needed (needs m) (spares m) g) g (number-range own needed (needs m) (spares m) g) p,
 )
 
--- the next number is none of those before
+-- The next number is none of those before.
 number-new : (own needed a b : ℕ) (g : Group) (n : ℕ) → a + cond (nullable g) 0 1 ≤ needed → InRange own needed a b n → n ≡ numberFor own needed a b g → ⊥
 number-new own needed a b g n l (inl (i, j)) = bool-cases (nullable g) (λ e. rw e (λ x. omega (arith, (rw e at l)))) (λ e. rw e (λ x. omega arith))
 number-new own needed a b g n l (inr (i, j)) = bool-cases (nullable g) (λ e. rw e (λ x. omega arith)) (λ e. rw e (λ x. omega (arith, (rw e at l))))
@@ -84,9 +84,9 @@ number-from own needed a b g = bool-cases (nullable g) (λ e. rw e (omega arith)
 number-to : (own needed a b : ℕ) (g : Group) → a + cond (nullable g) 0 1 ≤ needed → own + needed + (b + cond (nullable g) 1 0) ≤ POSITIONS → numberFor own needed a b g ≤ GRPGTCNT
 number-to own needed a b g l r = bool-cases (nullable g) (λ e. rw e (omega (arith, (rw e at r)))) (λ e. rw e (omega (arith, (rw e at l), (rw e at r))))
 
--- A table in which the members have been put
+-- The members have been put into a table.
 
--- what the rows of the model's table tell
+-- This is what the rows of the model's table tell.
 abbrev pub rowsOf : List ℕ → ℕ → ℕ → Bool
 rowsOf T u w = eqb (getD T (u * MODEL-ROW + w) 0) 1
 
@@ -105,7 +105,7 @@ pub record Joined (base : ℕ) (lasts : List ℕ) (groups own needed : ℕ) (m :
       → getD S k 0 ≡ getD M k 0
 
 module _ (base : ℕ) (T lasts : List ℕ) (groups own needed : ℕ) where
-  -- the first member
+  -- The first member is put.
   joined-first :
       (g : Group) (lo w : ℕ)
       → Numbered g lo
@@ -126,7 +126,7 @@ module _ (base : ℕ) (T lasts : List ℕ) (groups own needed : ℕ) where
         rest = λ k a b c d. p .rest k a b (c (numberFor own needed 0 0 g) (number-from own needed 0 0 g) to) (d (numberFor own needed 0 0 g) (number-from own needed 0 0 g) to);
       }
 
-  -- one more
+  -- One member more is put.
   joined-more :
       (m : Members) (g : Group) (lo w : ℕ)
       → Numbered g lo

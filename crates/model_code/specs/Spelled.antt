@@ -64,7 +64,7 @@ module _ (T : List ℕ) (n op : ℕ) (room : n < CODE) where
       let e : codeNext n ≡ suc n = put-next ∙ add-one n in
       rw (e, put-is, before-put n (omega arith), getD-set-same T (MODEL-ROWS + n) op 0 (omega arith))
 
--- Numbers one after the other.
+-- Numbers are read one after the other.
 abbrev runNumbers : (p q : ℕ) → List ℕ → List Six → List Six
 runNumbers p q [] st = st
 runNumbers p q (o ∷ os) st = runNumbers p q os (stepCode p q o st)
@@ -86,7 +86,7 @@ module _ (p q : ℕ) where
   at-close k st =
       rw (le-ltb (AND-CODE + k) SEQ-CODE (omega arith), ne-eqb (AND-CODE + k) OPT-CODE (λ (e : AND-CODE + k ≡ OPT-CODE). omega arith), ne-eqb (AND-CODE + k) PLUS-CODE (λ (e : AND-CODE + k ≡ PLUS-CODE). omega arith), le-ltb (AND-CODE + k) AND-CODE (omega arith))
 
-  -- two groups, and what joins them
+  -- The code of two groups and of what joins them makes one value of theirs.
   two : (a b : List ℕ) (o : ℕ) (v w : Six) (st : List Six) → runNumbers p q a st ≡ v ∷ st → runNumbers p q b (v ∷ st) ≡ w ∷ (v ∷ st) → runNumbers p q (a ++ (b ++ o ∷ [])) st ≡ stepCode p q o (w ∷ (v ∷ st))
   two a b o v w st e f = run-append a (b ++ o ∷ []) st ∙ ap (runNumbers p q (b ++ o ∷ [])) e ∙ run-append b (o ∷ []) (v ∷ st) ∙ ap (stepCode p q o) f
 

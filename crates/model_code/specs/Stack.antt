@@ -28,7 +28,7 @@ pub record Passed (T : List ℕ) (p q i : ℕ) (a : List Pairing) (top : ℕ) : 
   pub low : top ≤ POSITIONS
   pub is : stacked a top ≡ runCode T p q i
 
--- One number more.
+-- One number more is read.
 module _ (T : List ℕ) (p q i : ℕ) (a : List Pairing) (top : ℕ) (so : Passed T p q i a top) (within : i < CODE) where
   abbrev Steps : (op : ℕ) (b : List Pairing) (k : ℕ) → Type 0
   Steps op b k = stacked b k ≡ stepCode p q op (stacked a top)

@@ -97,7 +97,7 @@ pub record Holds (table : List ℕ) (g : Group) (n code : ℕ) (has-and : Bool) 
   pub plain : has-and ≡ false → Plain g
 
 module _ (table : List ℕ) (g : Group) (n code : ℕ) (has-and : Bool) (holds : Holds table g n code has-and) where
-  -- a row of the table says what may come next
+  -- A row of the table says what may come next.
   row-says : (u p : ℕ) → u ≤ n → 1 ≤ p → p ≤ n → rowIn table u p ≡ nextIn g u p
   row-says u p u-to p-from p-to =
       let few = holds .few in

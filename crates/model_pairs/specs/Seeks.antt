@@ -176,7 +176,7 @@ module _ (s names table : List ℕ) (n code : ℕ) (and : Bool) (F : ℕ → ℕ
       let none : F p q ≡ false = not-true (F p q) (λ (x : F p q ≡ true). false≢true (sym e ∙ nearby ∙ tells .near p q from less to x)) in
       rw (none, and-false)
 
-  -- what the code or the rows tell where some row has both
+  -- The code or the rows tell it where some row has both.
   told-so : (b r : Bool) → and ≡ b → near ≡ true → (and ≡ false → r ≡ true) → (and ≡ true → Told table p q code r) → r ≡ F p q
   told-so false r is e plain told = plain is ∙ sym (tells .plain is p q from less to (sym nearby ∙ e))
   told-so true r is e plain told = tells .exact is p q from less to r (told is)

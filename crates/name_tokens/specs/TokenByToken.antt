@@ -21,7 +21,7 @@ use Rattle.text.specs.declared.Reached.the-variants.{At, Refused}
 use Rattle.text.specs.Refusal.{refusalOf, faultOf}
 use Rattle.name_tokens.specs.Tokens.{partIn, partsOf, tokenOf, TokenIn, ReadAs}
 
--- Tables
+-- A table holds the tokens that were seen.
 
 partsOf-ext : (seen other : List ℕ) (n : ℕ) → ((j : ℕ) → j < 2 * n → getD seen j 0 ≡ getD other j 0) → partsOf seen n ≡ partsOf other n
 unfolding partsOf
@@ -42,7 +42,7 @@ partsOf-put seen n at size h =
     let long : getD (set first (2 * n + 1) size) (2 * n + 1) 0 ≡ size = getD-set-same first (2 * n + 1) size 0 l in
     rw (add-one n, partsOf, kept, stands, long)
 
--- Whether a token was seen
+-- A token was seen or not.
 
 isToken-snoc : (s : List ℕ) (ps : List Part) (p : Part) (at size : ℕ) → isToken s (ps ++ p ∷ []) at size ≡ (isToken s ps at size || sameName s (p .at) (p .size) at size)
 unfolding isToken
@@ -81,7 +81,7 @@ module _ (s seen : List ℕ) (k at size m : ℕ) (sized : m ≡ getD seen (2 * k
   pub same-size : m ≡ size → (a : ℕ) → a ≡ getD seen (2 * k) 0 → {r : Bool} → r ≡ sameText s a s at size → r ≡ sameName s (partIn seen k .at) (partIn seen k .size) at size
   same-size e a h q = rw (sameName, ← sized, eq-eqb m size e, ← h) q
 
--- A token by the tests that the code makes
+-- A token is read by the tests that the code makes.
 
 module _ (long : ℕ) (s : List ℕ) (ts ps : List Part) (i e : ℕ) (ends : e ≡ nameEnd s i) where
   pub token-percent : e ≡ i → byteAt s i ≡ PERO → groupToken long s ts ps i ≡ refused 5 i

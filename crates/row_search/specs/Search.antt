@@ -35,7 +35,7 @@ unfolding search
 search-both f g zero = refl
 search-both f g (suc n) = bool-cases (f (suc n)) (λ x. rw (x, search) (rw (x, search) refl)) (λ x. rw (x, search) (search-both f g n))
 
--- The loop
+-- The loop keeps that what is left to search gives the answer.
 
 -- The place q is one of the linked ones or 0, and the search from it gives what the search from n gives.
 pub record Left (places : List ℕ) (e n q : ℕ) (f next : ℕ → Bool) : Type 0 where
@@ -87,7 +87,7 @@ module _ (Says : ℕ → Bool → Type 0) (places : List ℕ) (e n : ℕ) where
                 };
           }
 
--- A number that is raised
+-- A number that is raised is lowered before the search.
 module _ (Says : ℕ → Bool → Type 0) (places : List ℕ) (e p : ℕ) where
   pub raised-low : p < RAISE → LargestRaised Says places e p 0
   raised-low l = record { small = omega arith; finds = λ n z few. absurd (omega arith) }

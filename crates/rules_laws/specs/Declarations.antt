@@ -142,7 +142,7 @@ listed-length k ls [] = refl
 listed-length k ls (e ∷ es) = ap suc (listed-length (k + 1) ls es)
 
 module _ (s : List ℕ) where
-  -- The end of a declaration
+  -- A declaration ends.
 
   pub close-read : (i : ℕ) → Holds (InFrom s i) (Onward s (i + 1)) (close s i)
   unfolding close
@@ -151,7 +151,7 @@ module _ (s : List ℕ) where
       either (eqb b MDC) (λ x. reads (omega arith, omega (arith, test-in (λ v. eqb v MDC) refl s i x)))
       (λ x. either ((eqb b MINUS || eqb b PLUS) && eqb (byteAt s (i + 1)) GRPO) (λ y. stops (λ h. omega arith)) (λ y. unfit-holds s i (λ n k r. r)))
 
--- Element declarations
+-- Element declarations are read.
 
 module _ (long : ℕ) (s : List ℕ) where
   pub elementName-read : (i : ℕ) (es : List Element) → i ≤ length s → Holds (InType s) (NameRead long s es i) (elementName long s i es)
@@ -257,7 +257,7 @@ module _ (long : ℕ) (s : List ℕ) where
       let (y, w, a) = p in
       record { from = omega (arith, w .from, a .from); inside = a .inside; grows = declares at es y d r w a }
 
-  -- Attribute lists
+  -- Attribute lists are read.
 
   pub listed-read : (i : ℕ) (es : List Element) (ls : List AttList) → i ≤ length s → Holds (InFile s) (λ (l : Listed). (i < l .at) × (l .at ≤ length s)) (listedElement long s es ls i)
   unfolding listedElement
@@ -285,7 +285,7 @@ module _ (long : ℕ) (s : List ℕ) where
         lists = list (record { element = y .element; attributes = z .attributes }) (record { from = y .at; after = z .at; inside = q .1; read = r .0 });
       })
 
-  -- The type file
+  -- The type file is read.
 
   keyword-read : (i : ℕ) (es : List Element) (ls : List AttList) → i + 2 ≤ length s → Holds (InFile s) (DeclarationsRead long s i es ls) (keyword long s i es ls)
   unfolding keyword

@@ -97,7 +97,7 @@ pub record ListRead (long : ℕ) (s : List ℕ) (xs : List Attribute) : Type 0 w
   pub inside : from ≤ length s
   pub read : listFrom long s from ≡ got (record { attributes = xs; at = after })
 
--- Literals
+-- Literals are read.
 
 pub literal-holds : (s : List ℕ) (i : ℕ) → Holds (λ n k. (4 ≤ n) × (n ≤ 5) × (k ≤ length s)) (λ (e : ℕ). (i < e) × (e < length s)) (literalEnd s i)
 unfolding literalEnd
@@ -112,7 +112,7 @@ literal-in : (s : List ℕ) (i : ℕ) → Holds (InFile s) (λ (e : ℕ). (i < e
 literal-in s i = so (literal-holds s i) (λ n k x. in-file s (omega (arith, x))) (λ e x. x)
 
 module _ (long : ℕ) (s : List ℕ) where
-  -- Name token groups
+  -- Name token groups are read.
 
   record TokenRead (seen ps : List Part) (i : ℕ) (p : Part) : Type 0 where
     at : p .at ≡ i
@@ -167,7 +167,7 @@ module _ (long : ℕ) (s : List ℕ) where
       so (known (tokens-read seen (suc GRPCNT) 0 [] (at + 1) (omega arith) none)) (λ n k x. x)
       (λ t w. (omega (arith, w .1 .from), w .1 .inside, record { seen = seen; after = t .at; read = w .0; begins = h; few = w .1 .few; parts = w .1 .parts }))
 
-  -- Names, declared values and defaults
+  -- Names, declared values and defaults are read.
 
   record NameRead (xs : List Attribute) (i e : ℕ) : Type 0 where
     name : NameIn s i (e - i)
@@ -256,7 +256,7 @@ module _ (long : ℕ) (s : List ℕ) where
       (λ z. early s (omega arith)))
       (λ y. unfit-read i h)
 
-  -- Definitions
+  -- Definitions are read one after the other.
 
   record DefinitionRead (xs : List Attribute) (i : ℕ) (d : Definition) : Type 0 where
     at : d .attribute .at ≡ i

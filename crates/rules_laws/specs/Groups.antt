@@ -40,7 +40,7 @@ dataPlace at = record { at = at; size = 0 }
 abbrev pub withPlace : Group → ℕ → Place → List Place → ℕ → Tokens
 withPlace g i x ps n = record { group = g; at = i; places = ps ++ x ∷ []; tokens = n + 1; and = 0; repeated = 0 }
 
--- Each rule by its ways
+-- Each rule has its ways.
 
 -- What an indicator makes of a group, and where the first "&" that is refused then stands.
 pub data Indicated (t : Tokens) : Group → ℕ → Type 0 where
@@ -108,7 +108,7 @@ module _ {R : (number position : ℕ) → Type 0} (s : List ℕ) where
         next b i (separatorsEnd s (i + 1)) (and-left (isConnector b) _ z) refl from l (omega (arith, from, separatorsEnd-from s (i + 1))) (separatorsEnd-le s (i + 1) (omega arith)))
         (λ z. stops (stop 4 i (λ h. omega (arith, inside h))))))
 
--- Room
+-- There is room for each content token that is read.
 
 module _ (long : ℕ) (inner : ℕ → List Place → ℕ → Reading Tokens) (s : List ℕ) where
   -- A content token that is read had room.
@@ -140,7 +140,7 @@ module _ (long : ℕ) (inner : ℕ → List Place → ℕ → Reading Tokens) (s
       by-further ih (closed u) r = refl
       by-further ih (joined b u) r = ih b u r
 
--- The walk
+-- The walk builds what the groups are read as.
 
 -- What is to hold of a group g that is read behind the places ps, where qs are the places then: of a place, whose name has at most `long`
 -- bytes, of an indicator, of a connector.
@@ -160,7 +160,7 @@ pub record Read (s : List ℕ) (T : List Place → Group → List Place → Type
   pub inside : t .at ≤ length s
   pub fits : Fits s (t .places) (t .tokens)
   pub built : T ps (t .group) (t .places)
-  -- something was read; where no "&" is told, there is none, and where none is refused, none stands under "+"
+  -- Something was read; where no "&" is told, there is none, and where none is refused, none stands under "+".
   pub some : 1 ≤ t .at
   pub plain : t .and ≡ 0 → Plain (t .group)
   pub guarded : t .repeated ≡ 0 → Guarded (t .group)

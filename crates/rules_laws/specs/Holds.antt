@@ -26,7 +26,7 @@ module _ {R : (number position : ℕ) → Type 0} where
   was-got : {A : Type 0} {P : A → Type 0} {a : A} → Holds R P (got a) → P a
   was-got (reads p) = p
 
-  -- By an equation of the reading.
+  -- What holds of a reading holds by an equation of it.
   pub refused-so : {A : Type 0} {P : A → Type 0} {r : Reading A} {n k : ℕ} → Holds R P r → r ≡ refused n k → R n k
   refused-so {P = P} h e = was-refused (subst (Holds R P) e h)
 
@@ -51,7 +51,7 @@ module _ {R : (number position : ℕ) → Type 0} where
   on (stops h) f = stops h
   on (reads {a} p) f = f a p
 
-  -- Each way that a test parts.
+  -- A test parts two ways.
   pub either : {A : Type 0} {P : A → Type 0} {x y : Reading A} (b : Bool) → (b ≡ true → Holds R P x) → (b ≡ false → Holds R P y) → Holds R P (elim b [ true ↦ x | false ↦ y ])
   either true f g = f refl
   either false f g = g refl

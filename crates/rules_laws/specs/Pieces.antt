@@ -119,7 +119,7 @@ module _ (long : ℕ) (d : List ℕ) where
       reads (record { behind = h; some = omega (arith, nameEnd-more d at l); named = l; ends = omega arith; inside = omega (arith, test-in (λ v. eqb v MDC) refl d j y); closes = closed-there j y; given = none }))
       (λ y. early d (omega arith)))
 
-  -- A start tag
+  -- A start tag is read.
 
   literal-piece : (i : ℕ) → Holds (InPiece d) (λ (e : ℕ). (i < e) × (e < length d)) (literalEnd d i)
   literal-piece i = so (literal-holds d i) (λ n k x. (inl (omega (arith, x), omega (arith, x)), omega (arith, x))) (λ e x. x)

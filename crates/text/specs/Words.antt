@@ -177,7 +177,7 @@ module _ {r : Reached} {x : Reading ℕ} (h : reached r ≡ x) where
   pub reached-refused : {f g : Fault} → r ≡ Refused f → g ≡ faultOf r → x ≡ refusalOf g
   reached-refused q e = sym h ∙ ap reached q ∙ ap refusalOf (sym (e ∙ ap faultOf q))
 
--- Comments.
+-- Comments end with `--`.
 
 pub before-dashes : Before beforeDashes atDashes
 unfolding beforeDashes
@@ -196,7 +196,7 @@ dashes-in s i e = omega (arith, byte-is-in s (i + 1) MINUS (eqb-true _ _ (and-ri
 pub dashes-end-in : (s : List ℕ) (at e : ℕ) → e ≡ at + beforeDashes (drop at s) → e < length s → e + 2 ≤ length s
 dashes-end-in s at e q h = rw q (dashes-in s _ (before-hit _ _ before-dashes s at (rw q at h)))
 
--- Gaps.
+-- Gaps are separators and comments.
 
 -- What a gap comes to once its next separators are passed.
 unfoldable pub gapOn : ℕ → List ℕ → ℕ → Reading ℕ
@@ -307,7 +307,7 @@ gap-dashes s at d =
     let stays : at ≡ separatorsEnd s at = span-end separator s at _ here refl in
     ap (gapOn (length s) s) stays ∙ gap-start s at
 
--- Comment declarations.
+-- Comment declarations are read.
 
 -- Where the unfit byte stands, if no `>` follows the comments: behind a "-", which could only open a further one.
 abbrev pub behindDash : List ℕ → ℕ → ℕ
@@ -351,7 +351,7 @@ module _ (s : List ℕ) (at : ℕ) (d : atDashes s at ≡ true) where
           omega arith
       by-gap (got i) g = by-close i g (eqb (byteAt s i) MDC) refl
 
--- Words.
+-- Words are compared.
 
 module _ (s : List ℕ) (a : ℕ) (t : List ℕ) (b n : ℕ) where
   pub sameText-more : fold (byteAt s a) ≡ fold (byteAt t b) → sameText s a t b (suc n) ≡ sameText s (a + 1) t (b + 1) n

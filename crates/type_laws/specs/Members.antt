@@ -153,7 +153,7 @@ module _ (s : List ℕ) (n k : ℕ) (t u : Tokens) (grows : Growing s n k t) (so
           (λ x. whichever (λ (x : Group). Guarded x → Guarded (t .group) × Guarded (u .group)) (eqb b OR) (λ y f. f)
           (λ y. whichever (λ (m : Members). Guarded (and (also m (u .group))) → Guarded (t .group) × Guarded (u .group)) (leb k 1) (λ i f. f) (λ i f. (of-guarded (t .group) (f .0), f .1))))
 
--- Groups
+-- Groups are read member by member.
 
 module _ (long : ℕ) (s : List ℕ) where
   abbrev InnerCounts : (ℕ → List Place → ℕ → Reading Tokens) → Type 0

@@ -63,9 +63,7 @@ module _ (t : ℕ) where
       (token-full (x .long) (group (x .long) (x .levels) (x .s .now)) (x .s .now) (x .at) (l .before .byte .result) (x .full) (l .is-letter .result) _ (x .tokens) (l .before .byte .ensures) (l .is-letter .ensures) (d .if1 .left) (g .before .if2 .left) (g .if3 .taken) (c .before .if4 .taken))
 
   pub add-group-at : lts.Need-add-group-at (token-at-calls t) (token-at-at t) token-at.Post
-  add-group-at c =
-      let a = c .before .before .before .before .before .before .before in
-      omega (arith, a .pre .1 .1 .1 (c .if4 .left))
+  add-group-at c = let a = c .before .before .before .before .before .before .before in omega (arith, a .pre .1 .1 .1 (c .if4 .left))
 
   pub group-at-requires : lts.Need-group-at-requires (token-at-calls t) (token-at-at t) token-at.Post
   group-at-requires c κs =
