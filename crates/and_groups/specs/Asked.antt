@@ -1,7 +1,7 @@
 -- What is asked of the sets when a place is taken, in the terms of the groups around it and of the table that has them.
 use Prim.Native.Nat.{ℕ, _-_, _%_, _≤_, _<_}
 use mathlib.Core.Path.{_≡_}
-use mathlib.Core.Bool.{Bool, true, false, _||_, not}
+use mathlib.Core.Bool.{Bool, true, false, _||_}
 use mathlib.Core.List.{List}
 use Rattle.rules.specs.Walk.{Group}
 use Rattle.rules.specs.Bytes.{GRPGTCNT}
@@ -21,7 +21,7 @@ use Rattle.member_bits.specs.Having.{Has}
 pub record Enters (M : List ℕ) (e h : ℕ) (before after : Bits) : Type 0 where
   pub bits : AllSets M e → (B : ℕ → Bool) → Has before B → (u : ℕ) (ends : Bool) (x c : ℕ) (ls : List Level) → h ≡ x % ENDING → Chain M e u ends x ls → Rising 0 c ls → EachLevel (λ (l : Level). hasM (l .members) u ≡ true) ls → Has after (λ (n : ℕ). B n || isHolder M e u n ls)
 
--- x is the first member of the group l, one of the groups ls, that must come and has not begun.
+-- The number x is that of the first member of the group l, one of the groups ls, that must come and has not begun.
 pub record Awaits (M begun : List ℕ) (level e : ℕ) (ls : List Level) (l : Level) (x : ℕ) : Type 0 where
   pub own : isOwn M e (l .number) x ≡ true
   pub unset : begunAt begun level x ≡ false

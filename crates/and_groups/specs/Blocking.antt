@@ -1,11 +1,11 @@
 -- The first group that blocks is that of the first member which must come and has not begun, if the groups up to it can end.
 use Prim.Native.Nat.{ℕ, _+_, _-_, _≤_, _<_}
 use mathlib.Core.Path.{_≡_, refl, sym, _∙_, ap, subst}
-use mathlib.Core.Bool.{Bool, true, false, _&&_, _||_, not, cond, false≢true}
+use mathlib.Core.Bool.{Bool, true, false, _&&_, _||_, not, cond, false≢true, and-false}
 use mathlib.Core.List.{List, [], _∷_}
 use native.Mathlib.Omega.{arith}
 use lib.Dec.{ltb}
-use borrow.Author.Tests.{ltb-true, ltb-false}
+use borrow.Author.Tests.{ltb-true, ltb-false, not-true}
 use Rattle.rules.specs.Walk.{Group}
 use Rattle.layout.specs.Sizes.{AND-GROUPS, ENDING}
 use Rattle.basic_laws.specs.Truth.{and-left, and-right, or-left, or-right, or-cases, bool-cases}
@@ -21,21 +21,18 @@ use Rattle.member_laws.specs.Sets.{First, first-of, anyOwn, own-range, own-grou
 use Rattle.member_bits.specs.declared.Bits.{Bits}
 use Rattle.member_bits.specs.Having as having
 use Rattle.member_bits.specs.Having.{Has}
-use Rattle.member_bits.specs.Laws.{has-same}
+use Rattle.member_bits.specs.Operations.{has-same}
 use Rattle.and_groups.specs.Asked.{Awaits, Blocking, free, held, Blocks}
 
 module _ (M : List ℕ) (e : ℕ) (sets : AllSets M e) (order : Ordered M e) (begun : List ℕ) (level : ℕ) (g : Group) (p : ℕ) (S : ℕ → Bool) where
   abbrev Around : List Level → Type 0
   Around ls = EachLevel (IsAround g 0 p) ls
 
-  have : (ls : List Level) → Around ls → EachLevel (λ (l : Level). hasM (l .members) p ≡ true) ls
-  have = each-level (IsAround g 0 p) (λ (l : Level). hasM (l .members) p ≡ true) (λ l a. a .1)
-
   -- The member n must come in one of these groups and has not begun.
   abbrev lacking : List Level → ℕ → Bool
   lacking ls n = (anyOwn M e n ls && isNeeded M e n) && not (begunAt begun level n)
 
-  -- x is the first that does, or 0.
+  -- The number x is that of the first such member, or 0.
   abbrev FirstOf : List Level → ℕ → Type 0
   FirstOf ls x = having.First (lacking ls) x
 
@@ -65,13 +62,9 @@ module _ (M : List ℕ) (e : ℕ) (sets : AllSets M e) (order : Ordered M e) (be
     same-lacking : (n : ℕ) → lacking (l ∷ ls) n ≡ lacking ls n
     same-lacking n = bool-cases (isOwn M e (l .number) n)
         (λ o. bool-cases (isNeeded M e n)
-        (λ m. rw (fine-begun M e l kept sets begun level S marked all n o m, m, o) (sym (no-and (anyOwn M e n ls && true))))
-        (λ m. rw (m, o) (sym (ap (λ (t : Bool). t && not (begunAt begun level n)) (no-and (anyOwn M e n ls))))))
+        (λ m. rw (fine-begun M e l kept sets begun level S marked all n o m, m, o) (sym (and-false (anyOwn M e n ls && true))))
+        (λ m. rw (m, o) (sym (ap (λ (t : Bool). t && not (begunAt begun level n)) (and-false (anyOwn M e n ls))))))
         (λ o. rw o)
-      where
-        no-and : (t : Bool) → t && false ≡ false
-        no-and true = refl
-        no-and false = refl
 
     first-outward : (x : ℕ) → FirstOf (l ∷ ls) x → FirstOf ls x
     first-outward x (having.none z f) = having.none z (λ n a b. sym (same-lacking n) ∙ f n a b)
@@ -84,12 +77,8 @@ module _ (M : List ℕ) (e : ℕ) (sets : AllSets M e) (order : Ordered M e) (be
     where
       nothing : (n : ℕ) → isOwn M e (l .number) n ≡ true → isNeeded M e n ≡ true → lacking (l ∷ ls) n ≡ false → begunAt begun level n ≡ true
       nothing n o m q = bool-cases (begunAt begun level n) (λ b. b) (λ b. absurd (false≢true (sym q ∙ rw (o, m, b))))
-  first-own l kept marked some c ls ks rs lacks x (having.some a b y f) = (a, record { own = own; unset = not-begun (begunAt begun level x) (and-right (anyOwn M e x (l ∷ ls) && isNeeded M e x) _ y); before = before; inside = λ n o. or-left _ o })
+  first-own l kept marked some c ls ks rs lacks x (having.some a b y f) = (a, record { own = own; unset = not-true (begunAt begun level x) (and-right (anyOwn M e x (l ∷ ls) && isNeeded M e x) _ y); before = before; inside = λ n o. or-left _ o })
     where
-      not-begun : (t : Bool) → not t ≡ true → t ≡ false
-      not-begun true q = absurd (false≢true q)
-      not-begun false q = refl
-
       -- A member of the group that is needed and comes before x has begun.
       earlier : (n : ℕ) → isOwn M e (l .number) n ≡ true → isNeeded M e n ≡ true → n < x → begunAt begun level n ≡ true
       earlier n i m d = bool-cases (begunAt begun level n) (λ t. t) (λ t. absurd (false≢true (sym (f n (omega (arith, own-range M e l kept n i, kept .some)) d) ∙ rw (i, m, t))))
@@ -182,7 +171,7 @@ module _ (M : List ℕ) (e : ℕ) (sets : AllSets M e) (order : Ordered M e) (be
       (λ z. found-on a c h l (chain .0) is says i m r x k ks (chain .4) rs j f z (λ next big rest. found (l .number) c (outerAt M e (l .number)) k ks next big rs j ms x rest))
       (found-lacks a c h l (chain .0) is says i m r x (k ∷ ks) (chain .4) rs j f)
 
--- What is read of the sets
+-- This is read of the sets.
 module _ (M : List ℕ) (e inner : ℕ) (b : Bits) where
   -- The member at hand cannot end, or there is none.
   pub blocks-none : inner ≤ ENDING → Blocks M e inner b 0

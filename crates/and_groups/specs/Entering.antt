@@ -1,26 +1,21 @@
 -- The members around a place have begun besides those that had: the innermost that holds it, and those that hold its group.
 use Prim.Native.Nat.{ℕ, _%_, _<_}
-use mathlib.Core.Path.{_≡_, refl, sym, _∙_, ap}
-use mathlib.Core.Bool.{Bool, true, false, _||_}
+use mathlib.Core.Path.{_≡_, sym, _∙_, ap}
+use mathlib.Core.Bool.{Bool, false, _||_, or-false, or-assoc}
 use mathlib.Core.List.{List, [], _∷_}
 use native.Mathlib.Omega.{arith}
 use lib.Dec.{eqb}
 use Rattle.rules.specs.Bytes.{GRPGTCNT}
 use Rattle.layout.specs.Sizes.{AND-GROUPS, ENDING}
-use Rattle.model_sets.specs.Sets.{hasM}
-use Rattle.and_laws.specs.Rows.{or-no}
 use Rattle.and_laws.specs.Ranked.{Level, Rising}
 use Rattle.member_laws.specs.Members.{groupAt, holdsAt, AllSets, Chain}
-use Rattle.member_laws.specs.Inside.{EachLevel}
+use Rattle.member_laws.specs.Inside.{Have}
 use Rattle.member_laws.specs.Around.{isHolder}
 use Rattle.member_laws.specs.Sets.{First, first-of, holds-outward}
 use Rattle.member_bits.specs.declared.Bits.{Bits}
 use Rattle.member_bits.specs.Having.{Has}
-use Rattle.member_bits.specs.Laws.{has-same}
+use Rattle.member_bits.specs.Operations.{has-same}
 use Rattle.and_groups.specs.Asked.{Enters}
-
-abbrev Have : ℕ → List Level → Type 0
-Have u ls = EachLevel (λ (l : Level). hasM (l .members) u ≡ true) ls
 
 module _ (M : List ℕ) (e h : ℕ) where
   -- Where the holder is none of the table's members, there is no group.
@@ -28,7 +23,7 @@ module _ (M : List ℕ) (e h : ℕ) where
   enters-without b none = record { bits = λ sets B has u ends x c ls read chain rising have. go B has u ends x ls read chain have }
     where
       go : (B : ℕ → Bool) → Has b B → (u : ℕ) (ends : Bool) (x : ℕ) (ls : List Level) → h ≡ x % ENDING → Chain M e u ends x ls → Have u ls → Has b (λ (n : ℕ). B n || isHolder M e u n ls)
-      go B has u ends x [] read chain have = has-same (λ n y z. sym (or-no (B n))) has
+      go B has u ends x [] read chain have = has-same (λ n y z. sym (or-false (B n))) has
       go B has u ends x (l ∷ ls) read chain have = absurd (none u l (first-of M e h u ends x l ls read chain (have .0)))
 
   pub enters-none : (b : Bits) → h ≡ 0 → Enters M e h b b
@@ -44,10 +39,6 @@ module _ (M : List ℕ) (e h : ℕ) where
   pub enters-all : (h ≡ 0 → ⊥) → (b with-h holding r : Bits) (g : ℕ) → g ≡ groupAt M e h → ((B : ℕ → Bool) → Has b B → Has with-h (λ (n : ℕ). B n || eqb n h)) → Has holding (holdsAt M e g) → ((f k : ℕ → Bool) → Has with-h f → Has holding k → Has r (λ (n : ℕ). f n || k n)) → Enters M e h b r
   enters-all some b with-h holding r g at more held joins = record { bits = λ sets B has u ends x c ls read chain rising have. go sets B has u ends x c ls read chain rising have }
     where
-      grouped : (x y z : Bool) → (x || y) || z ≡ x || (y || z)
-      grouped true y z = refl
-      grouped false y z = refl
-
       go : AllSets M e → (B : ℕ → Bool) → Has b B → (u : ℕ) (ends : Bool) (x c : ℕ) (ls : List Level) → h ≡ x % ENDING → Chain M e u ends x ls → Rising 0 c ls → Have u ls → Has r (λ (n : ℕ). B n || isHolder M e u n ls)
       go sets B has u ends x c [] read chain rising have = absurd (some (read ∙ ap (λ (y : ℕ). y % ENDING) chain))
       go sets B has u ends x c (l ∷ ls) read chain rising have =
@@ -55,6 +46,6 @@ module _ (M : List ℕ) (e h : ℕ) where
           has-same
           (λ n y z.
           ap (λ (q : Bool). (B n || eqb n h) || q) (ap (λ (q : ℕ). holdsAt M e q n) (at ∙ f .group) ∙ holds-outward M e sets u 0 c ends x l ls chain rising have n y z)
-          ∙ grouped (B n) (eqb n h) (isHolder M e u n ls)
+          ∙ or-assoc (B n) (eqb n h) (isHolder M e u n ls)
           ∙ ap (λ (q : ℕ). B n || (eqb n q || isHolder M e u n ls)) (f .is))
           (joins _ _ (more B has) held)

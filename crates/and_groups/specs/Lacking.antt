@@ -7,14 +7,14 @@ use mathlib.Core.List.{List, [], _∷_}
 use native.Mathlib.Decide.{ℕ-discrete, decLt}
 use native.Mathlib.Omega.{arith}
 use lib.Dec.{eqb, ltb}
-use borrow.Author.Tests.{eqb-true, eqb-false, lt-ltb, ltb-true}
+use borrow.Author.Tests.{eqb-true, eqb-false, lt-ltb, ltb-true, not-true}
 use Rattle.rules.specs.Bytes.{GRPGTCNT}
 use Rattle.layout.specs.Sizes.{ENDING}
 use Rattle.basic_laws.specs.Truth.{and-left, and-right, bool-cases}
-use Rattle.model_sets.specs.Sets.{hasM}
+use Rattle.model_sets.specs.Sets.{hasM, amount}
 use Rattle.and_laws.specs.Req.{restReq}
 use Rattle.and_laws.specs.Ranked.{Level, Rising}
-use Rattle.member_laws.specs.Members.{amount, groupAt, firstAt, dueAt, amongAt, isOwn, AllSets, Grouped, Chain, begunAt, Marked}
+use Rattle.member_laws.specs.Members.{groupAt, firstAt, dueAt, amongAt, isOwn, AllSets, Grouped, Chain, begunAt, Marked}
 use Rattle.member_laws.specs.Numbered.{rest-one, rest-two}
 use Rattle.member_laws.specs.Inside.{EachLevel}
 use Rattle.member_laws.specs.Around.{numbered-due, member-small, chain-kept}
@@ -22,10 +22,10 @@ use Rattle.member_laws.specs.Sets.{first-of, anyOwn, own-range, range-own, own-
 use Rattle.member_bits.specs.declared.Bits.{Bits}
 use Rattle.member_bits.specs.Having as having
 use Rattle.member_bits.specs.Having.{Has}
-use Rattle.member_bits.specs.Laws.{has-same}
+use Rattle.member_bits.specs.Operations.{has-same}
 use Rattle.and_groups.specs.Asked.{Awaits, Alone, Due}
 
--- One group
+-- These laws are of one group.
 module _ (M begun : List ℕ) (level e : ℕ) (ls : List Level) (l : Level) (kept : Grouped M e l) (S : ℕ → Bool) (marked : Marked begun level M e S l) (x : ℕ) (waits : Awaits M begun level e ls l x) where
   abbrev first : ℕ
   first = firstAt M e (l .number)
@@ -60,7 +60,7 @@ module _ (M begun : List ℕ) (level e : ℕ) (ls : List Level) (l : Level) (kep
   rest-other n own less t =
       rest-two first (l .members) S B (dueAt M e) marked (numbered-due M e l kept) (x - first) (n - first) (λ z. omega (arith, at n own, at x (waits .own))) (inside x (waits .own)) (inside n own) (ap B (at x (waits .own)) ∙ waits .unset) (ap B (at n own) ∙ t)
 
--- What is read of the sets
+-- This is read of the sets.
 module _ (M : List ℕ) (e inner x : ℕ) (b : Bits) (ends : ENDING < inner) where
   due-by : (r : ℕ) → r ≤ GRPGTCNT → ((sets : AllSets M e) (begun : List ℕ) (level : ℕ) → Has b (begunAt begun level) → (p c : ℕ) (k : Level) (ks : List Level) → Chain M e p true inner (k ∷ ks) → Rising 0 c (k ∷ ks) → EachLevel (λ (l : Level). hasM (l .members) p ≡ true) (k ∷ ks) → (l : Level) (S : ℕ → Bool) → Awaits M begun level e (k ∷ ks) l x → Grouped M e l → Marked begun level M e S l → restReq (l .members) S ≤ GRPGTCNT → r ≡ restReq (l .members) S) → Due M e inner x b r
   due-by r small f = record { small = small; says = λ sets begun level has p S c ls chain rising have l waits kept marked few. go sets begun level has p c ls chain rising have l S waits kept marked few }
@@ -69,7 +69,7 @@ module _ (M : List ℕ) (e inner x : ℕ) (b : Bits) (ends : ENDING < inner) whe
       go sets begun level has p c [] chain rising have l S waits kept marked few = absurd (omega arith)
       go sets begun level has p c (k ∷ ks) chain rising have l S waits kept marked few = f sets begun level has p c k ks chain rising have l S waits kept marked few
 
-  -- x is no member.
+  -- The number x is that of no member.
   pub due-large : GRPGTCNT < x → Due M e inner x b 0
   due-large z = due-by 0 (omega arith) (λ sets begun level has p c k ks chain rising have l S waits kept marked few. absurd (omega (arith, own-range M e l kept x (waits .own), kept .room)))
 
@@ -100,11 +100,7 @@ module _ (M : List ℕ) (e inner x : ℕ) (b : Bits) (ends : ENDING < inner) whe
             rest-other M begun level e ls l kept S marked x waits y
             (subst (λ (g : ℕ). isOwn M e g y ≡ true) (alone .no z .1 ∙ own-group M e l kept x (waits .own)) (own-its M e ls all y (and-left (anyOwn M e y ls) _ i)))
             (ltb-true x y (and-right (anyOwn M e y ls && not (begunAt begun level y)) _ w))
-            (unset (begunAt begun level y) (and-right (anyOwn M e y ls) _ i))
-          where
-            unset : (t : Bool) → not t ≡ true → t ≡ false
-            unset true q = absurd (false≢true q)
-            unset false q = refl
+            (not-true (begunAt begun level y) (and-right (anyOwn M e y ls) _ i))
 
     -- No other has.
     module _ (q : ℕ) (read : q ≡ dueAt M e x) (z : r ≡ true) where
@@ -128,7 +124,7 @@ module _ (M : List ℕ) (e inner x : ℕ) (b : Bits) (ends : ENDING < inner) whe
       pub due-more : GRPGTCNT < q → Due M e inner x b 0
       due-more large = due-by 0 (omega arith) (λ sets begun level has p c k ks chain rising have l S waits kept marked small. absurd (omega (arith, is-due begun level (k ∷ ks) l S waits kept marked (next sets begun level has p c k ks chain rising have))))
 
--- The group of the next
+-- The next may be of the same group or of another.
 module _ (M : List ℕ) (e x y : ℕ) where
   pub alone-none : y ≡ 0 → Alone M e x y true
   alone-none z = record { yes = λ t some same. omega arith; no = λ t. absurd (false≢true (sym t)) }

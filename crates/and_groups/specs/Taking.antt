@@ -25,7 +25,7 @@ use Rattle.member_laws.specs.Around.{isHolder, numbered-small, chain-kept, mark
 use Rattle.member_laws.specs.Sets.{short-none}
 use Rattle.member_bits.specs.declared.Bits.{Bits}
 use Rattle.member_bits.specs.Having.{Has}
-use Rattle.member_bits.specs.Laws.{has-same}
+use Rattle.member_bits.specs.Operations.{has-same}
 use Rattle.begun_bits.specs.Levels.{Puts}
 use Rattle.and_groups.specs.Takes.{Takes, Blocked, free, held, FREE}
 use Rattle.and_groups.specs.Asked as asked
@@ -61,7 +61,7 @@ rest-small g numbered few p l (i, x) S = go (rest-own (l .members) S)
     go (inl z) = omega arith
     go (inr y) = omega (arith, has-range g 1 numbered (restReq (l .members) S) (level-has g 0 l i (restReq (l .members) S) y))
 
--- The place is taken
+-- The place is taken.
 module _ (M : List ℕ) (level e u p : ℕ) (before after : List ℕ) (h : ℕ) (b now : Bits) (ready : Ready M level e u before b) (read : h ≡ holderAt M e p) (enters : Enters M e (h % ENDING) b now) (puts : Puts level now before after) where
   module _ (g : Group) (good : Good g) (told : Told M e g) (taken : List ℕ) (standing : Standing before level M e g u taken) (here : has g p ≡ true) where
     kept-at : (q : ℕ) → has g q ≡ true → EachLevel (Grouped M e) (levels g 0 q)

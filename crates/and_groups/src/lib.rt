@@ -12,7 +12,6 @@ use layout::GRPGTCNT;
 use layout::MEMBERS;
 use layout::Place;
 use member_bits::Bits;
-ghost use mathlib.Core.Path.{_≡_};
 ghost use Prim.Native.Nat.{_-_, _≤_, _<_};
 ghost use lib.ListN.{length};
 ghost use Rattle.rules.specs.Bytes.{GRPGTCNT, TAGLVL, elementLimit};

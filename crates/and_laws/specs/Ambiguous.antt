@@ -11,10 +11,8 @@ use Rattle.rules.specs.Walk.{Group, Begins, MayComeNext}
 use Rattle.rules.specs.Ambiguity.{SpellSame, none, next, Ambiguous, PairAtFault, FirstPair}
 use Rattle.model_sets.specs.Search.{least-unique}
 use Rattle.and_laws.specs.Base.{In, mem-head, mem-right}
-use Rattle.and_laws.specs.Sets.{Good}
-use Rattle.and_laws.specs.Fold.{begins-less, clash}
+use Rattle.and_laws.specs.Fold.{begins-less}
 use Rattle.and_laws.specs.Only.{begins-in}
-use Rattle.and_laws.specs.Pairs.{fault-clash, clash-fault}
 
 module _ (same : ℕ → ℕ → Bool) where
   module _ (g : Group) where
@@ -42,10 +40,6 @@ module _ (same : ℕ → ℕ → Bool) where
 
       pub unambiguous-equal : ((p q : ℕ) → PairAtFault same g p q → ⊥) → (s t : List ℕ) → Begins g s → Begins g t → SpellSame same s t → s ≡ t
       unambiguous-equal none-at-fault s t a b e = ⊎-elim (λ st. st) (λ x. absurd (none-at-fault (x .0) (x .1) (x .2))) (equal-or-faulty [] e a b)
-
-      -- no clash, no ambiguity
-      pub unambiguous : Good g → ((p q : ℕ) → p < q → same p q ≡ true → clash g p q ≡ true → ⊥) → (s t : List ℕ) → Begins g s → Begins g t → SpellSame same s t → s ≡ t
-      unambiguous d n s t a b e = ⊎-elim (λ st. st) (λ (p, q, f). absurd (let (l, x, y) = fault-clash same g d p q f in n p q l x y)) (equal-or-faulty [] e a b)
 
     module _ (same-refl : (p : ℕ) → has g p ≡ true → same p p ≡ true) where
       spells : (s x y : List ℕ) → In (has g) s → SpellSame same x y → SpellSame same (s ++ x) (s ++ y)

@@ -1,17 +1,17 @@
 -- The residual, the other way: what `Left` says may remain does complete a beginning; so two beginnings alike have the same continuations.
 use Prim.Native.Nat.{ℕ}
 use mathlib.Core.Path.{_≡_, refl, sym, _∙_, ap, subst}
-use mathlib.Core.Bool.{Bool, true, false, _||_, false≢true}
-use mathlib.Core.Logic.{_⊎_, inl, inr, _↔_}
-use mathlib.Core.List.{List, [], _∷_, _++_, append-assoc, append-nil, nil≢cons, cons≢nil, head-eq-of-cons-eq, tail-eq-of-cons-eq}
-use Rattle.basic_laws.specs.Truth.{or-left, or-right, not-true, not-both, bool-cases}
+use mathlib.Core.Bool.{Bool, true}
+use mathlib.Core.Logic.{_⊎_, inl, inr}
+use mathlib.Core.List.{List, [], _∷_, _++_, append-assoc, append-nil, cons≢nil, head-eq-of-cons-eq, tail-eq-of-cons-eq}
+use Rattle.basic_laws.specs.Truth.{or-left, or-right}
 use Rattle.model_sets.specs.Sets.{has, hasM}
-use Rattle.rules.specs.Walk.{Group, place, seq, alt, opt, plus, and, Members, one, also, Runs, once, more, joined, Walk, Begins, MayComeNext, Complete}
-use Rattle.and_laws.specs.Base.{mem, mem-left, mem-right, mem-cases, In, Apart, Ends, ends-snoc, ends-split, ends-mem, Cuts, cuts, joined-append, Inside, inside}
+use Rattle.rules.specs.Walk.{Group, place, seq, alt, opt, plus, and, Members, one, also, Runs, once, more, joined, Walk, Begins, MayComeNext}
+use Rattle.and_laws.specs.Base.{mem, Apart, Ends, ends-split, Cuts, cuts, joined-append, Inside, inside, nil≢middle}
 use Rattle.and_laws.specs.Sets.{held, Plain, Good, GoodM, plain-held, held-has, walk-in}
-use Rattle.and_laws.specs.Blocks.{block, Arr, block-some, walk-arr, arr-walk, arr-in, At, before, here, after, at-block}
-use Rattle.and_laws.specs.Later.{Remains, later-arr}
-use Rattle.and_laws.specs.Left.{Left, Now, Agrees, agrees-less, agrees-second, agrees-out, agrees-own, ends-in, in-at, met-begun, lies-begun, walk-left}
+use Rattle.and_laws.specs.Blocks.{block, Arr, block-some, walk-arr, arr-walk, At, before, here, after, at-block}
+use Rattle.and_laws.specs.Later.{later-arr}
+use Rattle.and_laws.specs.Left.{Left, Now, Agrees, agrees-less, agrees-second, agrees-out, agrees-own, ends-in, met-begun, lies-begun, walk-left, arr-has}
 
 abbrev Joins : Group → Type 0
 Joins g = (u : ℕ) (S : ℕ → Bool) (s z t : List ℕ) → Ends s u → Agrees (held g) s S → Walk g (s ++ z) → Left g u S t → Walk g (s ++ t)
@@ -75,16 +75,13 @@ and-joins m d f u S s z t e i w (a, bs, q, n, l) = go (walk-arr m (s ++ z) w)
 more-joins : (m : Members) (g : Group) → Apart (hasM m) (has g) → JoinsM m → Joins g → JoinsM (also m g)
 more-joins m g d f k u S x v z t y e i (a, b, w, q, o, n) l = go (at-block a b w x (v ++ z) y (sym q)) l
   where
-    others : (x y : List (List ℕ)) → Arr Walk m (x ++ (v ++ z) ∷ y) → hasM m u ≡ true
-    others x y o = in-at (hasM m) x v z y u e (arr-in m (x ++ (v ++ z) ∷ y) o)
-
     early : (c : List (List ℕ)) → x ≡ a ++ (block w ++ c) → Arr Walk m ((a ++ c) ++ (v ++ z) ∷ y) → Now (also m g) u S t → Arr Walk (also m g) (x ++ (v ++ t) ∷ y)
-    early c p o (inl (j, l)) = absurd (d u (others (a ++ c) y o) j)
+    early c p o (inl (j, l)) = absurd (d u (arr-has m (a ++ c) v z y u e o) j)
     early c p o (inr (j, l)) =
         (a, c ++ (v ++ t) ∷ y, w, rw p (append-assoc a (block w ++ c) ((v ++ t) ∷ y) ∙ ap (_++_ a) (append-assoc (block w) c ((v ++ t) ∷ y))), rw append-assoc at (f u S (a ++ c) v z t y e (agrees-out S m g d a c w v n (subst (λ (l : List (List ℕ)). Agrees (hasM (also m g)) (joined l ++ v) S) p i)) o l), n)
 
     late : (c : List (List ℕ)) → y ≡ c ++ (block w ++ b) → Arr Walk m (x ++ (v ++ z) ∷ (c ++ b)) → Now (also m g) u S t → Arr Walk (also m g) (x ++ (v ++ t) ∷ y)
-    late c p o (inl (j, l)) = absurd (d u (others x (c ++ b) o) j)
+    late c p o (inl (j, l)) = absurd (d u (arr-has m x v z (c ++ b) u e o) j)
     late c p o (inr (j, l)) =
         (x ++ (v ++ t) ∷ c, b, w, rw p (sym (append-assoc x ((v ++ t) ∷ c) (block w ++ b))), rw append-assoc (f u S x v z t (c ++ b) e (agrees-less (hasM (also m g)) (hasM m) (joined x ++ v) S (λ p l. or-left _ l) i) o l), n)
 
@@ -101,15 +98,10 @@ one-joins : (g : Group) → Joins g → JoinsM (one g)
 one-joins g k u S x v z t y e i (w, q, n) l = go (at-block [] [] w x (v ++ z) y (append-nil (block w) ∙ sym q))
   where
     go : At [] [] w x (v ++ z) y → Arr Walk (one g) (x ++ (v ++ t) ∷ y)
-    go (before [] p r) = absurd (nil≢cons r)
-    go (before (h ∷ c) p r) = absurd (nil≢cons r)
+    go (before c p r) = absurd (nil≢middle c (v ++ z) y r)
     go (here p r j) =
         (v ++ t, rw (← r, ← j, block-some v t u e), k u S v z t e (agrees-less (has g) (held g) v S (held-has g) (subst (λ (h : List (List ℕ)). Agrees (has g) (joined h ++ v) S) (sym r) i)) (subst (Walk g) p n) l)
-    go (after c p r) = absurd (no x c r)
-      where
-        no : (x c : List (List ℕ)) → [] ≡ x ++ (v ++ z) ∷ c → ⊥
-        no [] c r = nil≢cons r
-        no (h ∷ x) c r = nil≢cons r
+    go (after c p r) = absurd (nil≢middle x (v ++ z) c r)
 
 mutual
   pub left-walk : (g : Group) → Good g → Joins g

@@ -1,12 +1,12 @@
 -- Lists of places: membership as a test, the last place, how two ways to cut a list meet; nothing about groups.
 use Prim.Native.Nat.{ℕ}
 use mathlib.Core.Path.{_≡_, refl, sym, _∙_, ap, subst}
-use mathlib.Core.Bool.{Bool, true, false, _&&_, _||_, false≢true}
+use mathlib.Core.Bool.{Bool, true, false, _||_, false≢true}
 use mathlib.Core.Logic.{_⊎_, inl, inr}
 use mathlib.Core.List.{List, [], _∷_, _++_, append-assoc, append-nil, nil≢cons, cons≢nil, head-eq-of-cons-eq, tail-eq-of-cons-eq}
 use lib.Dec.{eqb}
 use borrow.Author.Tests.{eqb-true, eq-eqb}
-use Rattle.basic_laws.specs.Truth.{or-left, or-right, or-cases}
+use Rattle.basic_laws.specs.Truth.{or-left, or-right, or-cases, not-true}
 use Rattle.rules.specs.Walk.{joined}
 
 abbrev pub mem : List ℕ → ℕ → Bool
@@ -28,13 +28,17 @@ mem-cases (q ∷ a) b p f g e = or-cases (eqb q p) (mem (a ++ b) p) (λ x. f (or
 pub mem-head : (p : ℕ) (s : List ℕ) → mem (p ∷ s) p ≡ true
 mem-head p s = or-left _ (eq-eqb p p refl)
 
--- every place of w passes the test
+-- Every place of w passes the test.
 abbrev pub In : (ℕ → Bool) → List ℕ → Type 0
 In f w = (p : ℕ) → mem w p ≡ true → f p ≡ true
 
--- no place passes both tests
+-- No place passes both tests.
 abbrev pub Apart : (ℕ → Bool) → (ℕ → Bool) → Type 0
 Apart f k = (p : ℕ) → f p ≡ true → k p ≡ true → ⊥
+
+-- A place that passes the first does not pass the second.
+pub apart-no : {f k : ℕ → Bool} → Apart f k → {p : ℕ} → f p ≡ true → k p ≡ false
+apart-no {f} {k} a {p} i = not-true (k p) (λ j. a p i j)
 
 pub in-append : (f : ℕ → Bool) (a b : List ℕ) → In f a → In f b → In f (a ++ b)
 in-append f a b x y p = mem-cases a b p (x p) (y p)
@@ -42,7 +46,7 @@ in-append f a b x y p = mem-cases a b p (x p) (y p)
 pub in-one : (f : ℕ → Bool) (n : ℕ) → f n ≡ true → In f (n ∷ [])
 in-one f n e p i = or-cases (eqb n p) false (λ x. subst (λ (z : ℕ). f z ≡ true) (eqb-true n p x) e) (λ y. absurd (false≢true y)) i
 
--- the list is not empty and its last place is u
+-- The list is not empty and its last place is u.
 abbrev pub Ends : List ℕ → ℕ → Type 0
 Ends [] u = ⊥
 Ends (p ∷ s) u = ((s ≡ []) × (p ≡ u)) ⊎ Ends s u
@@ -55,7 +59,7 @@ pub ends-append : (a b : List ℕ) (u : ℕ) → Ends b u → Ends (a ++ b) u
 ends-append [] b u e = e
 ends-append (p ∷ a) b u e = inr (ends-append a b u e)
 
--- the last place of two lists is the last of the second, or that is empty
+-- The last place of two lists is the last of the second, unless that is empty.
 pub ends-split : (a b : List ℕ) (u : ℕ) → Ends (a ++ b) u → ((b ≡ []) × Ends a u) ⊎ Ends b u
 ends-split [] b u e = inr e
 ends-split (p ∷ a) b u (inl (n, e)) = here a b n
@@ -78,6 +82,11 @@ pub ends-some : (s : List ℕ) (u : ℕ) → Ends s u → s ≡ [] → ⊥
 ends-some [] u e n = e
 ends-some (p ∷ s) u e n = cons≢nil n
 
+-- A list with something in it is not empty.
+pub nil≢middle : {A : Type 0} (x : List A) (y : A) (c : List A) → [] ≡ x ++ y ∷ c → ⊥
+nil≢middle [] y c r = nil≢cons r
+nil≢middle (h ∷ x) y c r = nil≢cons r
+
 -- Two ways to cut one list.
 abbrev pub Cuts : {A : Type 0} → List A → List A → List A → List A → Type 0
 Cuts {A} s t a b = ((c : List A) × (s ≡ a ++ c) × (b ≡ c ++ t)) ⊎ ((c : List A) × (a ≡ s ++ c) × (t ≡ c ++ b))
@@ -91,13 +100,13 @@ cuts {A} (x ∷ s) t (y ∷ a) b e = up (cuts s t a b (tail-eq-of-cons-eq e)) (h
     up (inl (c, p, q)) z = inl (c, rw (p, z), q)
     up (inr (c, p, q)) z = inr (c, rw (p, z), q)
 
--- Sequences joined.
+-- Sequences are joined.
 
 pub joined-append : (a b : List (List ℕ)) → joined (a ++ b) ≡ joined a ++ joined b
 joined-append [] b = refl
 joined-append (w ∷ a) b = ap (_++_ w) (joined-append a b) ∙ sym (append-assoc w (joined a) (joined b))
 
--- where a place is the last of s, which begins the joined sequences, it stands in one of them
+-- Where a place is the last of s, which begins the joined sequences, it stands in one of them.
 abbrev pub Inside : List ℕ → List ℕ → List (List ℕ) → ℕ → Type 0
 Inside s t bs u = (x : List (List ℕ)) × (v : List ℕ) × (z : List ℕ) × (y : List (List ℕ)) × (bs ≡ x ++ (v ++ z) ∷ y) × (s ≡ joined x ++ v) × (t ≡ z ++ joined y) × Ends v u
 
@@ -116,3 +125,12 @@ inside (w ∷ bs) s t u e q = go (λ c k m. inside bs c t u k m) (cuts s t w (jo
     go : ((c : List ℕ) → Ends c u → c ++ t ≡ joined bs → Inside c t bs u) → Cuts s t w (joined bs) → Inside s t (w ∷ bs) u
     go f (inl (c, n, m)) = last f c n m (ends-split w c u (rw n at e))
     go f (inr (c, n, m)) = ([], s, c, bs, rw n, refl, m, e)
+
+-- A place that begins joined sequences begins one of them.
+abbrev pub Starts : List (List ℕ) → ℕ → Type 0
+Starts bs p = (x : List (List ℕ)) × (z : List ℕ) × (y : List (List ℕ)) × (bs ≡ x ++ (p ∷ z) ∷ y)
+
+pub starts : (bs : List (List ℕ)) (p : ℕ) (t : List ℕ) → p ∷ t ≡ joined bs → Starts bs p
+starts [] p t e = absurd (cons≢nil e)
+starts ([] ∷ bs) p t e = let (x, z, y, q) = starts bs p t e in ([] ∷ x, z, y, ap (_∷_ []) q)
+starts ((n ∷ w) ∷ bs) p t e = ([], w, bs, rw (head-eq-of-cons-eq e))

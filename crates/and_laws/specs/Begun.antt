@@ -1,15 +1,14 @@
 -- What a reader asks, from the places taken: the last of them and the set of them decide. Of a numbered model without "&" under "+" this is what the walks say.
-use Prim.Native.Nat.{ℕ, zero, suc, _+_, _≤_, _<_}
+use Prim.Native.Nat.{ℕ, zero, suc, _+_, _≤_}
 use mathlib.Core.Path.{_≡_, refl, sym, _∙_, ap, subst}
 use mathlib.Core.Bool.{Bool, true, _&&_}
-use mathlib.Core.Logic.{_⊎_, inl, inr, _↔_}
+use mathlib.Core.Logic.{inl, inr, _↔_}
 use mathlib.Core.List.{List, [], _∷_, _++_, cons≢nil}
 use native.Mathlib.Omega.{arith}
-use Rattle.basic_laws.specs.Truth.{bool-cases}
 use Rattle.model_sets.specs.Sets.{size, Numbered, has, follow, nextIn, completeIn, requiredIn}
 use Rattle.rules.specs.Walk.{Group, Begins, lastFrom, lastOr0, MayComeNext, Complete, Required}
 use Rattle.and_laws.specs.Base.{mem, mem-left, mem-right, Ends, ends-mem}
-use Rattle.and_laws.specs.Sets.{held, Plain, Good, walk-in}
+use Rattle.and_laws.specs.Sets.{held, Plain, Good, walk-in, has-next}
 use Rattle.and_laws.specs.Left.{Agrees}
 use Rattle.and_laws.specs.Fold.{some-walk, begins-less}
 use Rattle.and_laws.specs.Numbers.{Guarded, has-range, numbered-good}
@@ -17,16 +16,12 @@ use Rattle.and_laws.specs.Rows.{may, fit-row}
 use Rattle.and_laws.specs.Levels.{around, may-in, itself, around-has}
 use Rattle.and_laws.specs.Taken.{nextFrom, completeFrom, requiredFrom, IsLast, IsTaken, next-from, complete-from, required-from, plain-next, plain-complete, plain-required}
 
--- Beginnings
+-- Beginnings are shown to be such by a walk that goes on from them.
 
 pub begins-none : (g : Group) → Begins g []
 begins-none g = some-walk g
 
--- a beginning of a beginning is a beginning
-pub begins-shorter : (g : Group) (s t : List ℕ) → Begins g (s ++ t) → Begins g s
-begins-shorter g s t b = begins-less g s t b
-
--- The last place taken
+-- The last place taken is found by going through them all.
 
 pub lastFrom-snoc : (u : ℕ) (s : List ℕ) (p : ℕ) → lastFrom u (s ++ p ∷ []) ≡ p
 lastFrom-snoc u [] p = refl
@@ -39,7 +34,7 @@ ends-last : (p : ℕ) (s : List ℕ) → Ends (p ∷ s) (lastFrom p s)
 ends-last p [] = inl (refl, refl)
 ends-last p (q ∷ s) = inr (ends-last q s)
 
--- the last place is one only
+-- There is one last place only.
 pub last-is : (s : List ℕ) (u : ℕ) → IsLast s u → lastOr0 s ≡ u
 last-is s zero e = ap lastOr0 e
 last-is [] (suc u) e = absurd e
@@ -51,7 +46,7 @@ last-is (p ∷ s) (suc u) e = ends-is p s (suc u) e
     ends-is p (q ∷ s) u (inl (n, e)) = absurd (cons≢nil n)
     ends-is p (q ∷ s) u (inr e) = ends-is q s u e
 
--- What the places taken decide
+-- The places taken decide by the last of them and the set of them.
 
 abbrev pub nextOf : Group → List ℕ → ℕ → Bool
 nextOf g s p = nextFrom g (lastOr0 s) (mem s) p
@@ -66,7 +61,7 @@ module _ (g : Group) (numbered : Numbered g 1) (guarded : Guarded g) where
   good : Good g
   good = numbered-good g 1 numbered guarded
 
-  -- the last place of a beginning is in the group, and was taken
+  -- The last place of a beginning is in the group, and was taken.
   begins-last : (p : ℕ) (s : List ℕ) → Begins g (p ∷ s) → (has g (lastFrom p s) ≡ true) × (mem (p ∷ s) (lastFrom p s) ≡ true)
   begins-last p s (t, w) =
       let m = ends-mem (p ∷ s) (lastFrom p s) (ends-last p s) in
@@ -103,12 +98,10 @@ module _ (g : Group) (numbered : Numbered g 1) (guarded : Guarded g) where
 
   -- What may come next is a place of the model.
   pub next-range : (s : List ℕ) (p : ℕ) → MayComeNext g s p → (1 ≤ p) × (p ≤ size g)
-  next-range s p (t, w) =
-      let m = mem-left (s ++ p ∷ []) t p (mem-right s (p ∷ []) p (ends-mem (p ∷ []) p (inl (refl, refl)))) in
-      omega (arith, has-range g 1 numbered p (walk-in g ((s ++ p ∷ []) ++ t) w p m))
+  next-range s p b = omega (arith, has-range g 1 numbered p (has-next g s p b))
 
   pub required-one : (s : List ℕ) (p : ℕ) → Required g s p → requiredOf g s ≡ p
-  required-one s p r = required-of s (begins-shorter g s (p ∷ []) (r .next)) p (next-range s p (r .next) .0) .1 r
+  required-one s p r = required-of s (begins-less g s (p ∷ []) (r .next)) p (next-range s p (r .next) .0) .1 r
 
   -- Without "&" the last place decides, by the rows alone.
   pub next-last : Plain g → (s : List ℕ) → Begins g s → (p : ℕ) → nextOf g s p ≡ nextIn g (lastOr0 s) p
@@ -122,11 +115,8 @@ module _ (g : Group) (numbered : Numbered g 1) (guarded : Guarded g) where
 
   -- A place that the row has after itself may come next after itself, whatever has begun: the group around it has it in one member.
   pub next-itself : (s : List ℕ) (p : ℕ) → MayComeNext g s p → follow g p p ≡ true → MayComeNext g (s ++ p ∷ []) p
-  next-itself s p b f = next-of (s ++ p ∷ []) b p .0 (subst (λ (u : ℕ). nextFrom g u (mem (s ++ p ∷ [])) p ≡ true) (sym (lastOr0-snoc s p)) (from-itself p (next-range s p b .0) (has-next s p b) f (mem-right s (p ∷ []) p (ends-mem (p ∷ []) p (inl (refl, refl))))))
+  next-itself s p b f = next-of (s ++ p ∷ []) b p .0 (subst (λ (u : ℕ). nextFrom g u (mem (s ++ p ∷ [])) p ≡ true) (sym (lastOr0-snoc s p)) (from-itself p (next-range s p b .0) (has-next g s p b) f (mem-right s (p ∷ []) p (ends-mem (p ∷ []) p (inl (refl, refl))))))
     where
-      has-next : (s : List ℕ) (p : ℕ) → MayComeNext g s p → has g p ≡ true
-      has-next s p (t, w) = walk-in g ((s ++ p ∷ []) ++ t) w p (mem-left (s ++ p ∷ []) t p (mem-right s (p ∷ []) p (ends-mem (p ∷ []) p (inl (refl, refl)))))
-
       from-itself : (u : ℕ) → 1 ≤ u → has g u ≡ true → follow g u u ≡ true → mem (s ++ p ∷ []) u ≡ true → nextFrom g u (mem (s ++ p ∷ [])) u ≡ true
       from-itself zero l i f m = absurd (omega arith)
       from-itself (suc u) l i f m = fit-row (suc u) (mem (s ++ p ∷ [])) m (suc u) g good i ∙ ap (λ (z : Bool). z && may g (suc u) (mem (s ++ p ∷ [])) (suc u)) f ∙ may-in (suc u) (mem (s ++ p ∷ [])) (suc u) g good i f ∙ itself (around g (suc u)) (suc u) (mem (s ++ p ∷ [])) (around-has g (suc u) i)

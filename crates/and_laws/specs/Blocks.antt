@@ -1,15 +1,14 @@
 -- A walk through "&" as its sequences that are not empty, in order (`Arr`): the same walks; where a member's sequence stands among others.
 use Prim.Native.Nat.{ℕ}
 use mathlib.Core.Path.{_≡_, refl, sym, _∙_, ap, subst}
-use mathlib.Core.Bool.{Bool, true, false, false≢true}
-use mathlib.Core.Logic.{_⊎_, inl, inr}
-use mathlib.Core.List.{List, [], _∷_, _++_, append-assoc, append-nil, nil≢cons, cons≢nil, head-eq-of-cons-eq, tail-eq-of-cons-eq}
-use Rattle.model_sets.specs.Sets.{has, hasM}
+use mathlib.Core.Logic.{inl, inr}
+use mathlib.Core.List.{List, [], _∷_, _++_, append-assoc, append-nil, head-eq-of-cons-eq, tail-eq-of-cons-eq}
+use Rattle.model_sets.specs.Sets.{hasM}
 use Rattle.rules.specs.Walk.{Group, and, Members, one, also, joined, Walk, Orders}
-use Rattle.and_laws.specs.Base.{mem, In, Ends, Cuts, cuts, joined-append}
+use Rattle.and_laws.specs.Base.{In, Ends, Cuts, cuts, joined-append}
 use Rattle.and_laws.specs.Sets.{walk-in}
 
--- a sequence as a list of one, nothing if it is empty
+-- A sequence is a list of one, and of none if it is empty.
 abbrev pub block : List ℕ → List (List ℕ)
 block [] = []
 block (p ∷ w) = (p ∷ w) ∷ []
@@ -18,7 +17,7 @@ abbrev pub dense : List (List ℕ) → List (List ℕ)
 dense [] = []
 dense (w ∷ bs) = block w ++ dense bs
 
--- a sequence of P for each member, in any order, the empty ones left out
+-- There is a sequence of P for each member, in any order, with the empty ones left out.
 abbrev pub Arr : (Group → List ℕ → Type 0) → Members → List (List ℕ) → Type 0
 Arr P (one g) bs = (w : List ℕ) × (bs ≡ block w) × P g w
 Arr P (also m g) bs = (a : List (List ℕ)) × (b : List (List ℕ)) × (w : List ℕ) × (bs ≡ a ++ (block w ++ b)) × Arr P m (a ++ b) × P g w
@@ -91,7 +90,7 @@ where-block a b (n ∷ w) x z e = go (cuts a ((n ∷ w) ∷ b) x z e)
     go (inl (c, p, q)) = late c q p
     go (inr (c, p, q)) = up c p q
 
--- before, at or after one of them
+-- The sequence stands before one of them, is that one, or stands after it.
 pub data At (a b : List (List ℕ)) (w : List ℕ) (x : List (List ℕ)) (v : List ℕ) (z : List (List ℕ)) : Type 0 where
   before : (c : List (List ℕ)) → x ≡ a ++ (block w ++ c) → b ≡ c ++ v ∷ z → At a b w x v z
   here : w ≡ v → a ≡ x → b ≡ z → At a b w x v z

@@ -3,23 +3,22 @@ use Prim.Native.Nat.{ℕ}
 use mathlib.Core.Path.{_≡_, refl, sym, _∙_, ap, subst}
 use mathlib.Core.Bool.{Bool, true, false, _&&_, _||_, not, cond, false≢true}
 use mathlib.Core.Logic.{_⊎_, inl, inr, _↔_}
-use mathlib.Core.List.{List, [], _∷_, _++_, append-assoc, append-nil, nil≢cons, cons≢nil, head-eq-of-cons-eq, tail-eq-of-cons-eq}
+use mathlib.Core.List.{List, [], _∷_, _++_, append-assoc, append-nil, cons≢nil, head-eq-of-cons-eq}
 use lib.Dec.{eqb}
-use borrow.Author.Tests.{eqb-true, eq-eqb}
-use Rattle.basic_laws.specs.Truth.{or-left, or-right, or-cases, and-left, and-right, and-both, not-true, not-both, bool-cases}
+use Rattle.basic_laws.specs.Truth.{or-left, or-right, or-cases, and-left, and-right, and-both, not-both, bool-cases, cond-yes, cond-no, or-none}
 use Rattle.model_sets.specs.Sets.{has, hasM, nullable, first}
 use Rattle.rules.specs.Walk.{Group, place, seq, alt, opt, plus, and, Members, one, also, Runs, once, more, joined, Walk, Begins, MayComeNext, Complete}
-use Rattle.and_laws.specs.Base.{mem, mem-left, mem-right, mem-cases, mem-head, In, Apart, in-one, Ends, ends-mem, joined-append}
-use Rattle.and_laws.specs.Sets.{held, meets, Good, GoodM, walk-in}
+use Rattle.and_laws.specs.Base.{mem, mem-left, mem-right, mem-cases, Ends, joined-append, apart-no}
+use Rattle.and_laws.specs.Sets.{held, meets, Good, GoodM, ends-has}
 use Rattle.and_laws.specs.Blocks.{block, Arr, joined-block, walk-arr}
 use Rattle.and_laws.specs.Later.{Remains, nil-parts}
 use Rattle.and_laws.specs.Left.{Left, Now, Agrees, walk-left}
 use Rattle.and_laws.specs.Back.{left-walk}
 use Rattle.and_laws.specs.Fold.{one-walk, add-back, some-walk, null-walk, first-begins}
 use Rattle.and_laws.specs.Exact.{walk-null, walk-first}
-use Rattle.and_laws.specs.Rest.{allM, anyM, or-none, arr-some, arr-empty, empty-arr, arr-starts, starts-arr, arr-passes, arr-avoids}
+use Rattle.and_laws.specs.Rest.{allM, anyM, arr-some, arr-empty, empty-arr, arr-starts, starts-arr, arr-passes, arr-avoids}
 
--- every walk passes p
+-- Every walk passes p.
 abbrev mutual
   pub passes : Group → ℕ → Bool
   passes (place n) p = eqb n p
@@ -91,7 +90,7 @@ mutual
 -- After the last place u, with S taken.
 
 abbrev mutual
-  -- content is complete
+  -- Content is complete.
   pub done : Group → ℕ → (ℕ → Bool) → Bool
   done (place n) u S = true
   done (seq g h) u S = cond (has h u) (done h u S) (done g u S && nullable h)
@@ -105,7 +104,7 @@ abbrev mutual
   nowDone (also m g) u S = cond (has g u) (done g u S) (nowDone m u S)
 
 abbrev mutual
-  -- p may come next
+  -- The place p may come next.
   pub fit : Group → ℕ → (ℕ → Bool) → ℕ → Bool
   fit (place n) u S p = false
   fit (seq g h) u S p = cond (has h u) (fit h u S p) (fit g u S p || (done g u S && first h p))
@@ -119,7 +118,7 @@ abbrev mutual
   nowFit (also m g) u S p = cond (has g u) (fit g u S p) (nowFit m u S p)
 
 abbrev mutual
-  -- whatever remains passes p
+  -- Whatever remains passes p.
   pub passesAfter : Group → ℕ → (ℕ → Bool) → ℕ → Bool
   passesAfter (place n) u S p = false
   passesAfter (seq g h) u S p = cond (has h u) (passesAfter h u S p) (passesAfter g u S p || passes h p)
@@ -132,20 +131,10 @@ abbrev mutual
   nowPasses (one g) u S p = passesAfter g u S p
   nowPasses (also m g) u S p = cond (has g u) (passesAfter g u S p) (nowPasses m u S p)
 
-pub cond-yes : (c x y : Bool) → c ≡ true → cond c x y ≡ x
-cond-yes c x y e = rw e
-
-pub cond-no : (c x y : Bool) → c ≡ false → cond c x y ≡ y
-cond-no c x y e = rw e
-
--- which of two holds u
-apart-no : (f k : ℕ → Bool) → Apart f k → (u : ℕ) → f u ≡ true → k u ≡ false
-apart-no f k d u i = not-true (k u) (d u i)
-
 pub or-only : (a b : Bool) → b ≡ false → a || b ≡ true → a ≡ true
 or-only a b n e = or-cases a b (λ i. i) (λ j. absurd (not-both n j)) e
 
--- the members that do not hold u
+-- These laws are of the members that do not hold u.
 module _ (S : ℕ → Bool) where
   pub remains-some : (g : Group) → (w : List ℕ) × Remains S g w
   remains-some g = bool-cases (meets g S) (λ e. ([], inl (e, refl))) (λ e. let (w, x) = some-walk g in (w, inr (e, x)))
@@ -190,17 +179,17 @@ module _ (S : ℕ → Bool) where
         go (inl i) = ([], inl (i, refl), λ j. false≢true j)
         go (inr (i, j)) = let (w, x, n) = avoids g p j in (w, inr (i, x), n)
 
--- complete
+-- The test of completeness says what the walks say.
 
 mutual
   pub left-done : (g : Group) → Good g → (u : ℕ) (S : ℕ → Bool) → Left g u S [] → done g u S ≡ true
   left-done (place n) d u S l = refl
-  left-done (seq g h) (d, k, a) u S (inl (i, l)) = cond-yes (has h u) (done h u S) (done g u S && nullable h) i ∙ left-done h k u S l
+  left-done (seq g h) (d, k, a) u S (inl (i, l)) = cond-yes (done h u S) (done g u S && nullable h) i ∙ left-done h k u S l
   left-done (seq g h) (d, k, a) u S (inr (i, x, y, e, l, w)) =
       let n = nil-parts x y e in
-      cond-no (has h u) (done h u S) (done g u S && nullable h) (apart-no (has g) (has h) a u i) ∙ and-both (left-done g d u S (subst (Left g u S) (n .0) l)) (walk-null h (subst (Walk h) (n .1) w))
-  left-done (alt g h) (d, k, a) u S (inl (i, l)) = cond-no (has h u) (done h u S) (done g u S) (apart-no (has g) (has h) a u i) ∙ left-done g d u S l
-  left-done (alt g h) (d, k, a) u S (inr (i, l)) = cond-yes (has h u) (done h u S) (done g u S) i ∙ left-done h k u S l
+      cond-no (done h u S) (done g u S && nullable h) (apart-no a i) ∙ and-both (left-done g d u S (subst (Left g u S) (n .0) l)) (walk-null h (subst (Walk h) (n .1) w))
+  left-done (alt g h) (d, k, a) u S (inl (i, l)) = cond-no (done h u S) (done g u S) (apart-no a i) ∙ left-done g d u S l
+  left-done (alt g h) (d, k, a) u S (inr (i, l)) = cond-yes (done h u S) (done g u S) i ∙ left-done h k u S l
   left-done (opt g) d u S l = left-done g d u S l
   left-done (plus g) (d, n) u S (x, y, e, l, r) = left-done g d u S (subst (Left g u S) (nil-parts x y e .0) l)
   left-done (and m) d u S (x, bs, e, n, o) =
@@ -209,8 +198,8 @@ mutual
 
   now-done : (m : Members) → GoodM m → (u : ℕ) (S : ℕ → Bool) → Now m u S [] → nowDone m u S ≡ true
   now-done (one g) d u S n = left-done g d u S n
-  now-done (also m g) (d, k, a) u S (inl (i, l)) = cond-yes (has g u) (done g u S) (nowDone m u S) i ∙ left-done g k u S l
-  now-done (also m g) (d, k, a) u S (inr (i, l)) = cond-no (has g u) (done g u S) (nowDone m u S) (apart-no (hasM m) (has g) a u i) ∙ now-done m d u S l
+  now-done (also m g) (d, k, a) u S (inl (i, l)) = cond-yes (done g u S) (nowDone m u S) i ∙ left-done g k u S l
+  now-done (also m g) (d, k, a) u S (inr (i, l)) = cond-no (done g u S) (nowDone m u S) (apart-no a i) ∙ now-done m d u S l
 
 mutual
   pub done-left : (g : Group) (u : ℕ) (S : ℕ → Bool) → has g u ≡ true → done g u S ≡ true → Left g u S []
@@ -218,16 +207,16 @@ mutual
   done-left (seq g h) u S i e =
       bool-cases
       (has h u)
-      (λ j. inl (j, done-left h u S j (sym (cond-yes (has h u) (done h u S) (done g u S && nullable h) j) ∙ e)))
+      (λ j. inl (j, done-left h u S j (sym (cond-yes (done h u S) (done g u S && nullable h) j) ∙ e)))
       (λ j.
-      let c : done g u S && nullable h ≡ true = sym (cond-no (has h u) (done h u S) (done g u S && nullable h) j) ∙ e in
+      let c : done g u S && nullable h ≡ true = sym (cond-no (done h u S) (done g u S && nullable h) j) ∙ e in
       let k : has g u ≡ true = or-only (has g u) (has h u) j i in
       inr (k, [], [], refl, done-left g u S k (and-left (done g u S) _ c), null-walk h (and-right (done g u S) _ c)))
   done-left (alt g h) u S i e =
       bool-cases
       (has h u)
-      (λ j. inr (j, done-left h u S j (sym (cond-yes (has h u) (done h u S) (done g u S) j) ∙ e)))
-      (λ j. let k : has g u ≡ true = or-only (has g u) (has h u) j i in inl (k, done-left g u S k (sym (cond-no (has h u) (done h u S) (done g u S) j) ∙ e)))
+      (λ j. inr (j, done-left h u S j (sym (cond-yes (done h u S) (done g u S) j) ∙ e)))
+      (λ j. let k : has g u ≡ true = or-only (has g u) (has h u) j i in inl (k, done-left g u S k (sym (cond-no (done h u S) (done g u S) j) ∙ e)))
   done-left (opt g) u S i e = done-left g u S i e
   done-left (plus g) u S i e = ([], [], refl, done-left g u S i e, inl refl)
   done-left (and m) u S i e =
@@ -238,10 +227,10 @@ mutual
   done-now (also m g) u S i e =
       bool-cases
       (has g u)
-      (λ j. inl (j, done-left g u S j (sym (cond-yes (has g u) (done g u S) (nowDone m u S) j) ∙ e)))
-      (λ j. let k : hasM m u ≡ true = or-only (hasM m u) (has g u) j i in inr (k, done-now m u S k (sym (cond-no (has g u) (done g u S) (nowDone m u S) j) ∙ e)))
+      (λ j. inl (j, done-left g u S j (sym (cond-yes (done g u S) (nowDone m u S) j) ∙ e)))
+      (λ j. let k : hasM m u ≡ true = or-only (hasM m u) (has g u) j i in inr (k, done-now m u S k (sym (cond-no (done g u S) (nowDone m u S) j) ∙ e)))
 
--- next
+-- The test of what may come next says what the walks say.
 
 head-of : {C : Type 0} (p : ℕ) (t a b : List ℕ) → p ∷ t ≡ a ++ b → (a ≡ [] → b ≡ p ∷ t → C) → ((c : List ℕ) → a ≡ p ∷ c → C) → C
 head-of p t [] b e f k = f refl (sym e)
@@ -250,11 +239,11 @@ head-of p t (q ∷ a) b e f k = k a (rw (head-eq-of-cons-eq e))
 mutual
   pub left-fit : (g : Group) → Good g → (u : ℕ) (S : ℕ → Bool) (p : ℕ) (t : List ℕ) → Left g u S (p ∷ t) → fit g u S p ≡ true
   left-fit (place n) d u S p t l = absurd (cons≢nil l)
-  left-fit (seq g h) (d, k, a) u S p t (inl (i, l)) = cond-yes (has h u) (fit h u S p) (fit g u S p || (done g u S && first h p)) i ∙ left-fit h k u S p t l
+  left-fit (seq g h) (d, k, a) u S p t (inl (i, l)) = cond-yes (fit h u S p) (fit g u S p || (done g u S && first h p)) i ∙ left-fit h k u S p t l
   left-fit (seq g h) (d, k, a) u S p t (inr (i, x, y, e, l, w)) =
-      cond-no (has h u) (fit h u S p) (fit g u S p || (done g u S && first h p)) (apart-no (has g) (has h) a u i) ∙ head-of p t x y e (λ n b. or-right (fit g u S p) (and-both (left-done g d u S (subst (Left g u S) n l)) (walk-first h p t (subst (Walk h) b w)))) (λ c n. or-left _ (left-fit g d u S p c (subst (Left g u S) n l)))
-  left-fit (alt g h) (d, k, a) u S p t (inl (i, l)) = cond-no (has h u) (fit h u S p) (fit g u S p) (apart-no (has g) (has h) a u i) ∙ left-fit g d u S p t l
-  left-fit (alt g h) (d, k, a) u S p t (inr (i, l)) = cond-yes (has h u) (fit h u S p) (fit g u S p) i ∙ left-fit h k u S p t l
+      cond-no (fit h u S p) (fit g u S p || (done g u S && first h p)) (apart-no a i) ∙ head-of p t x y e (λ n b. or-right (fit g u S p) (and-both (left-done g d u S (subst (Left g u S) n l)) (walk-first h p t (subst (Walk h) b w)))) (λ c n. or-left _ (left-fit g d u S p c (subst (Left g u S) n l)))
+  left-fit (alt g h) (d, k, a) u S p t (inl (i, l)) = cond-no (fit h u S p) (fit g u S p) (apart-no a i) ∙ left-fit g d u S p t l
+  left-fit (alt g h) (d, k, a) u S p t (inr (i, l)) = cond-yes (fit h u S p) (fit g u S p) i ∙ left-fit h k u S p t l
   left-fit (opt g) d u S p t l = left-fit g d u S p t l
   left-fit (plus g) (d, m) u S p t (x, y, e, l, inl z) = head-of p t x y e (λ n b. absurd (cons≢nil (sym b ∙ z))) (λ c n. or-left _ (left-fit g d u S p c (subst (Left g u S) n l)))
   left-fit (plus g) (d, m) u S p t (x, y, e, l, inr r) =
@@ -264,8 +253,8 @@ mutual
 
   now-fit : (m : Members) → GoodM m → (u : ℕ) (S : ℕ → Bool) (p : ℕ) (t : List ℕ) → Now m u S (p ∷ t) → nowFit m u S p ≡ true
   now-fit (one g) d u S p t n = left-fit g d u S p t n
-  now-fit (also m g) (d, k, a) u S p t (inl (i, l)) = cond-yes (has g u) (fit g u S p) (nowFit m u S p) i ∙ left-fit g k u S p t l
-  now-fit (also m g) (d, k, a) u S p t (inr (i, l)) = cond-no (has g u) (fit g u S p) (nowFit m u S p) (apart-no (hasM m) (has g) a u i) ∙ now-fit m d u S p t l
+  now-fit (also m g) (d, k, a) u S p t (inl (i, l)) = cond-yes (fit g u S p) (nowFit m u S p) i ∙ left-fit g k u S p t l
+  now-fit (also m g) (d, k, a) u S p t (inr (i, l)) = cond-no (fit g u S p) (nowFit m u S p) (apart-no a i) ∙ now-fit m d u S p t l
 
 abbrev Goes : Group → ℕ → (ℕ → Bool) → ℕ → Type 0
 Goes g u S p = (t : List ℕ) × Left g u S (p ∷ t)
@@ -279,7 +268,7 @@ mutual
   fit-left (seq g h) u S p i e =
       bool-cases
       (has h u)
-      (λ j. let (t, l) = fit-left h u S p j (sym (cond-yes (has h u) (fit h u S p) (fit g u S p || (done g u S && first h p)) j) ∙ e) in (t, inl (j, l)))
+      (λ j. let (t, l) = fit-left h u S p j (sym (cond-yes (fit h u S p) (fit g u S p || (done g u S && first h p)) j) ∙ e) in (t, inl (j, l)))
       (λ j.
       let k : has g u ≡ true = or-only (has g u) (has h u) j i in
       or-cases
@@ -290,14 +279,14 @@ mutual
       let (w, x) = some-walk h in
       (t ++ w, inr (k, p ∷ t, w, refl, l, x)))
       (λ c. let (t, x) = first-begins h p (and-right (done g u S) _ c) in (t, inr (k, [], p ∷ t, refl, done-left g u S k (and-left (done g u S) _ c), x)))
-      (sym (cond-no (has h u) (fit h u S p) (fit g u S p || (done g u S && first h p)) j) ∙ e))
+      (sym (cond-no (fit h u S p) (fit g u S p || (done g u S && first h p)) j) ∙ e))
   fit-left (alt g h) u S p i e =
       bool-cases
       (has h u)
-      (λ j. let (t, l) = fit-left h u S p j (sym (cond-yes (has h u) (fit h u S p) (fit g u S p) j) ∙ e) in (t, inr (j, l)))
+      (λ j. let (t, l) = fit-left h u S p j (sym (cond-yes (fit h u S p) (fit g u S p) j) ∙ e) in (t, inr (j, l)))
       (λ j.
       let k : has g u ≡ true = or-only (has g u) (has h u) j i in
-      let (t, l) = fit-left g u S p k (sym (cond-no (has h u) (fit h u S p) (fit g u S p) j) ∙ e) in
+      let (t, l) = fit-left g u S p k (sym (cond-no (fit h u S p) (fit g u S p) j) ∙ e) in
       (t, inl (k, l)))
   fit-left (opt g) u S p i e = fit-left g u S p i e
   fit-left (plus g) u S p i e =
@@ -325,18 +314,18 @@ mutual
   fit-now (also m g) u S p i e =
       bool-cases
       (has g u)
-      (λ j. let (t, l) = fit-left g u S p j (sym (cond-yes (has g u) (fit g u S p) (nowFit m u S p) j) ∙ e) in (t, inl (j, l)))
+      (λ j. let (t, l) = fit-left g u S p j (sym (cond-yes (fit g u S p) (nowFit m u S p) j) ∙ e) in (t, inl (j, l)))
       (λ j.
       let k : hasM m u ≡ true = or-only (hasM m u) (has g u) j i in
-      let (t, l) = fit-now m u S p k (sym (cond-no (has g u) (fit g u S p) (nowFit m u S p) j) ∙ e) in
+      let (t, l) = fit-now m u S p k (sym (cond-no (fit g u S p) (nowFit m u S p) j) ∙ e) in
       (t, inr (k, l)))
 
--- whatever remains passes p
+-- The test of what every remainder passes says what the walks say.
 
 mutual
   pub must-left : (g : Group) → Good g → (u : ℕ) (S : ℕ → Bool) (p : ℕ) → passesAfter g u S p ≡ true → (t : List ℕ) → Left g u S t → mem t p ≡ true
   must-left (place n) d u S p e t l = absurd (false≢true e)
-  must-left (seq g h) (d, k, a) u S p e t (inl (i, l)) = must-left h k u S p (sym (cond-yes (has h u) (passesAfter h u S p) (passesAfter g u S p || passes h p) i) ∙ e) t l
+  must-left (seq g h) (d, k, a) u S p e t (inl (i, l)) = must-left h k u S p (sym (cond-yes (passesAfter h u S p) (passesAfter g u S p || passes h p) i) ∙ e) t l
   must-left (seq g h) (d, k, a) u S p e t (inr (i, x, y, q, l, w)) =
       subst
       (λ (z : List ℕ). mem z p ≡ true)
@@ -346,9 +335,9 @@ mutual
       _
       (λ j. mem-left x y p (must-left g d u S p j x l))
       (λ j. mem-right x y p (must-walk h p j y w))
-      (sym (cond-no (has h u) (passesAfter h u S p) (passesAfter g u S p || passes h p) (apart-no (has g) (has h) a u i)) ∙ e))
-  must-left (alt g h) (d, k, a) u S p e t (inl (i, l)) = must-left g d u S p (sym (cond-no (has h u) (passesAfter h u S p) (passesAfter g u S p) (apart-no (has g) (has h) a u i)) ∙ e) t l
-  must-left (alt g h) (d, k, a) u S p e t (inr (i, l)) = must-left h k u S p (sym (cond-yes (has h u) (passesAfter h u S p) (passesAfter g u S p) i) ∙ e) t l
+      (sym (cond-no (passesAfter h u S p) (passesAfter g u S p || passes h p) (apart-no a i)) ∙ e))
+  must-left (alt g h) (d, k, a) u S p e t (inl (i, l)) = must-left g d u S p (sym (cond-no (passesAfter h u S p) (passesAfter g u S p) (apart-no a i)) ∙ e) t l
+  must-left (alt g h) (d, k, a) u S p e t (inr (i, l)) = must-left h k u S p (sym (cond-yes (passesAfter h u S p) (passesAfter g u S p) i) ∙ e) t l
   must-left (opt g) d u S p e t l = must-left g d u S p e t l
   must-left (plus g) (d, m) u S p e t (x, y, q, l, r) = subst (λ (z : List ℕ). mem z p ≡ true) (sym q) (mem-left x y p (must-left g d u S p e x l))
   must-left (and m) d u S p e t (x, bs, q, n, o) =
@@ -364,8 +353,8 @@ mutual
 
   pub must-now : (m : Members) → GoodM m → (u : ℕ) (S : ℕ → Bool) (p : ℕ) → nowPasses m u S p ≡ true → (t : List ℕ) → Now m u S t → mem t p ≡ true
   must-now (one g) d u S p e t n = must-left g d u S p e t n
-  must-now (also m g) (d, k, a) u S p e t (inl (i, l)) = must-left g k u S p (sym (cond-yes (has g u) (passesAfter g u S p) (nowPasses m u S p) i) ∙ e) t l
-  must-now (also m g) (d, k, a) u S p e t (inr (i, l)) = must-now m d u S p (sym (cond-no (has g u) (passesAfter g u S p) (nowPasses m u S p) (apart-no (hasM m) (has g) a u i)) ∙ e) t l
+  must-now (also m g) (d, k, a) u S p e t (inl (i, l)) = must-left g k u S p (sym (cond-yes (passesAfter g u S p) (nowPasses m u S p) i) ∙ e) t l
+  must-now (also m g) (d, k, a) u S p e t (inr (i, l)) = must-now m d u S p (sym (cond-no (passesAfter g u S p) (nowPasses m u S p) (apart-no a i)) ∙ e) t l
 
 abbrev Round : Group → ℕ → (ℕ → Bool) → ℕ → Type 0
 Round g u S p = (t : List ℕ) × Left g u S t × (mem t p ≡ true → ⊥)
@@ -379,20 +368,20 @@ mutual
   left-round (seq g h) u S p i e =
       bool-cases
       (has h u)
-      (λ j. let (t, l, n) = left-round h u S p j (sym (cond-yes (has h u) (passesAfter h u S p) (passesAfter g u S p || passes h p) j) ∙ e) in (t, inl (j, l), n))
+      (λ j. let (t, l, n) = left-round h u S p j (sym (cond-yes (passesAfter h u S p) (passesAfter g u S p || passes h p) j) ∙ e) in (t, inl (j, l), n))
       (λ j.
       let k : has g u ≡ true = or-only (has g u) (has h u) j i in
-      let c = or-none (passesAfter g u S p) (passes h p) (sym (cond-no (has h u) (passesAfter h u S p) (passesAfter g u S p || passes h p) j) ∙ e) in
+      let c = or-none (passesAfter g u S p) (passes h p) (sym (cond-no (passesAfter h u S p) (passesAfter g u S p || passes h p) j) ∙ e) in
       let (t, l, n) = left-round g u S p k (c .0) in
       let (w, x, o) = avoids h p (c .1) in
       (t ++ w, inr (k, t, w, refl, l, x), mem-cases t w p n o))
   left-round (alt g h) u S p i e =
       bool-cases
       (has h u)
-      (λ j. let (t, l, n) = left-round h u S p j (sym (cond-yes (has h u) (passesAfter h u S p) (passesAfter g u S p) j) ∙ e) in (t, inr (j, l), n))
+      (λ j. let (t, l, n) = left-round h u S p j (sym (cond-yes (passesAfter h u S p) (passesAfter g u S p) j) ∙ e) in (t, inr (j, l), n))
       (λ j.
       let k : has g u ≡ true = or-only (has g u) (has h u) j i in
-      let (t, l, n) = left-round g u S p k (sym (cond-no (has h u) (passesAfter h u S p) (passesAfter g u S p) j) ∙ e) in
+      let (t, l, n) = left-round g u S p k (sym (cond-no (passesAfter h u S p) (passesAfter g u S p) j) ∙ e) in
       (t, inl (k, l), n))
   left-round (opt g) u S p i e = left-round g u S p i e
   left-round (plus g) u S p i e = let (t, l, n) = left-round g u S p i e in (t, (t, [], sym (append-nil t), l, inl refl), n)
@@ -407,23 +396,20 @@ mutual
   now-round (also m g) u S p i e =
       bool-cases
       (has g u)
-      (λ j. let (t, l, n) = left-round g u S p j (sym (cond-yes (has g u) (passesAfter g u S p) (nowPasses m u S p) j) ∙ e) in (t, inl (j, l), n))
+      (λ j. let (t, l, n) = left-round g u S p j (sym (cond-yes (passesAfter g u S p) (nowPasses m u S p) j) ∙ e) in (t, inl (j, l), n))
       (λ j.
       let k : hasM m u ≡ true = or-only (hasM m u) (has g u) j i in
-      let (t, l, n) = now-round m u S p k (sym (cond-no (has g u) (passesAfter g u S p) (nowPasses m u S p) j) ∙ e) in
+      let (t, l, n) = now-round m u S p k (sym (cond-no (passesAfter g u S p) (nowPasses m u S p) j) ∙ e) in
       (t, inr (k, l), n))
 
 -- Over walks: of a beginning s with last place u, and any set S that has of the places in "&" groups those of s.
 module _ (g : Group) (good : Good g) (u : ℕ) (S : ℕ → Bool) (s : List ℕ) (e : Ends s u) (agree : Agrees (held g) s S) (begun : Begins g s) where
-  in-g : has g u ≡ true
-  in-g = walk-in g (s ++ begun .0) (begun .1) u (mem-left s (begun .0) u (ends-mem s u e))
-
   pub next-fold : (p : ℕ) → (fit g u S p ≡ true) ↔ MayComeNext g s p
   next-fold p = (there, back)
     where
       there : fit g u S p ≡ true → MayComeNext g s p
       there i =
-          let (t, l) = fit-left g u S p in-g i in
+          let (t, l) = fit-left g u S p (ends-has g s u e begun) i in
           (t, rw append-assoc (left-walk g good u S s (begun .0) (p ∷ t) e agree (begun .1) l))
 
       back : MayComeNext g s p → fit g u S p ≡ true
@@ -433,7 +419,7 @@ module _ (g : Group) (good : Good g) (u : ℕ) (S : ℕ → Bool) (s : List ℕ)
   complete-fold = (there, back)
     where
       there : done g u S ≡ true → Complete g s
-      there i = rw append-nil at (left-walk g good u S s (begun .0) [] e agree (begun .1) (done-left g u S in-g i))
+      there i = rw append-nil at (left-walk g good u S s (begun .0) [] e agree (begun .1) (done-left g u S (ends-has g s u e begun) i))
 
       back : Complete g s → done g u S ≡ true
       back w = left-done g good u S (walk-left g good u S s [] e agree (rw append-nil w))
@@ -446,7 +432,7 @@ module _ (g : Group) (good : Good g) (u : ℕ) (S : ℕ → Bool) (s : List ℕ)
           bool-cases
           (passesAfter g u S p)
           (λ i. i)
-          (λ i. let (t, l, n) = left-round g u S p in-g i in absurd (n (f t (left-walk g good u S s (begun .0) t e agree (begun .1) l))))
+          (λ i. let (t, l, n) = left-round g u S p (ends-has g s u e begun) i in absurd (n (f t (left-walk g good u S s (begun .0) t e agree (begun .1) l))))
 
 -- At the start.
 pub next-start : (g : Group) (p : ℕ) → (first g p ≡ true) ↔ MayComeNext g [] p

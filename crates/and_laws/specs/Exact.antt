@@ -1,23 +1,23 @@
 -- The fold for pairs is exact: whatever is so of walks (null, first, complete and p next, p and q both next), the fold says.
 use Prim.Native.Nat.{ℕ}
 use mathlib.Core.Path.{_≡_, refl, sym, _∙_, ap, subst}
-use mathlib.Core.Bool.{Bool, true, false, _&&_, _||_, false≢true}
-use mathlib.Core.Logic.{_⊎_, inl, inr, _↔_}
+use mathlib.Core.Bool.{true, false, _&&_, _||_, false≢true}
+use mathlib.Core.Logic.{_⊎_, inl, inr}
 use mathlib.Core.List.{List, [], _∷_, _++_, append-assoc, append-nil, nil≢cons, cons≢nil, head-eq-of-cons-eq, tail-eq-of-cons-eq}
 use lib.Dec.{eqb}
-use borrow.Author.Tests.{eqb-true, eq-eqb}
-use Rattle.basic_laws.specs.Truth.{or-left, or-right, or-cases, and-left, and-right, and-both}
+use borrow.Author.Tests.{eq-eqb}
+use Rattle.basic_laws.specs.Truth.{or-left, or-right, or-cases, and-both}
 use Rattle.model_sets.specs.Sets.{has, hasM, nullable, nullableM, first, firstM}
 use Rattle.rules.specs.Walk.{Group, place, seq, alt, opt, plus, and, Members, one, also, Runs, once, more, joined, Walk, Begins}
-use Rattle.and_laws.specs.Base.{mem, In, Apart, Ends, ends-append, ends-split, ends-mem, ends-some, joined-append, Inside, inside}
+use Rattle.and_laws.specs.Base.{In, Apart, Ends, ends-append, joined-append, starts, nil≢middle}
 use Rattle.and_laws.specs.Sets.{held, Plain, Good, GoodM, plain-held, walk-in}
-use Rattle.and_laws.specs.Blocks.{block, Arr, joined-block, walk-arr, arr-walk, arr-in, At, before, here, after, at-block, Where, early, late, where-block}
+use Rattle.and_laws.specs.Blocks.{block, Arr, joined-block, walk-arr, At, before, here, after, at-block, Where, early, late, where-block}
 use Rattle.and_laws.specs.Later.{nil-parts}
-use Rattle.and_laws.specs.Back.{Alike, alike-next}
-use Rattle.and_laws.specs.Fold.{ends, endsM, cross, clash, clashM, GoesOn, Both, both-swap, walk-one, begins-less, first-begins, clash-both}
-use Rattle.and_laws.specs.Only.{only, in-both, only-mid, only-sides, only-end, only-start, in-first, in-second, begins-in, arr-in-first, arr-in-second, ends-unique, ends-of, snoc-cut, SeqNext, in-g, in-h, seq-next, PlusNext, in-run, plus-next, runs-last, MoreNext, own, other, more-next, walk-parts, own-only, own-rest, other-tail, other-only, other-rest, other-begins}
+use Rattle.and_laws.specs.Back.{alike-next}
+use Rattle.and_laws.specs.Fold.{ends, endsM, GoesOn, walk-one}
+use Rattle.and_laws.specs.Only.{only, in-both, only-mid, only-sides, only-end, only-start, in-first, in-second, begins-in, arr-in-first, ends-of, SeqNext, in-g, in-h, seq-next, PlusNext, in-run, plus-next, runs-last, MoreNext, own, other, more-next, walk-parts, own-only, other-begins}
 
--- null
+-- What has an empty walk is told to be nullable.
 
 runs-null : (g : Group) → (Walk g [] → nullable g ≡ true) → {w : List ℕ} → Runs (Walk g) w → [] ≡ w → nullable g ≡ true
 runs-null g f (once x) e = f (subst (Walk g) (sym e) x)
@@ -41,21 +41,12 @@ mutual
       let j = nil-parts w (joined b) (sym (i .1)) in
       and-both (arr-null m (a ++ b) (sym (joined-append a b ∙ ap (λ (l : List ℕ). l ++ joined b) (i .0) ∙ j .1)) o) (walk-null g (subst (Walk g) (j .0) x))
 
--- first
+-- What begins a walk is told to be first.
 
 runs-first : (g : Group) (p : ℕ) → ((t : List ℕ) → Walk g (p ∷ t) → first g p ≡ true) → {w : List ℕ} → Runs (Walk g) w → (t : List ℕ) → w ≡ p ∷ t → first g p ≡ true
 runs-first g p f (once x) t e = f t (subst (Walk g) e x)
 runs-first g p f (more [] b c x r) t e = runs-first g p f r t (sym c ∙ e)
 runs-first g p f (more (q ∷ a) b c x r) t e = f a (subst (λ (y : ℕ). Walk g (y ∷ a)) (sym (head-eq-of-cons-eq (sym e ∙ c))) x)
-
--- a place that begins joined sequences begins one of them
-abbrev Starts : List (List ℕ) → ℕ → Type 0
-Starts bs p = (x : List (List ℕ)) × (z : List ℕ) × (y : List (List ℕ)) × (bs ≡ x ++ (p ∷ z) ∷ y)
-
-starts : (bs : List (List ℕ)) (p : ℕ) (t : List ℕ) → p ∷ t ≡ joined bs → Starts bs p
-starts [] p t e = absurd (cons≢nil e)
-starts ([] ∷ bs) p t e = let (x, z, y, q) = starts bs p t e in ([] ∷ x, z, y, ap (_∷_ []) q)
-starts ((n ∷ w) ∷ bs) p t e = ([], w, bs, rw (head-eq-of-cons-eq e))
 
 mutual
   pub walk-first : (g : Group) (p : ℕ) (t : List ℕ) → Walk g (p ∷ t) → first g p ≡ true
@@ -75,14 +66,10 @@ mutual
   pub arr-first : (m : Members) (p : ℕ) (x : List (List ℕ)) (z : List ℕ) (y : List (List ℕ)) → Arr Walk m (x ++ (p ∷ z) ∷ y) → firstM m p ≡ true
   arr-first (one g) p x z y (w, e, n) = go (λ t x. walk-first g p t x) (at-block [] [] w x (p ∷ z) y (append-nil (block w) ∙ sym e))
     where
-      no : (x c : List (List ℕ)) → [] ≡ x ++ (p ∷ z) ∷ c → ⊥
-      no [] c r = nil≢cons r
-      no (h ∷ x) c r = nil≢cons r
-
       go : ((t : List ℕ) → Walk g (p ∷ t) → first g p ≡ true) → At [] [] w x (p ∷ z) y → first g p ≡ true
-      go f (before c i j) = absurd (no c y j)
+      go f (before c i j) = absurd (nil≢middle c (p ∷ z) y j)
       go f (here i j k) = f z (subst (Walk g) i n)
-      go f (after c i j) = absurd (no x c j)
+      go f (after c i j) = absurd (nil≢middle x (p ∷ z) c j)
   arr-first (also m g) p x z y (a, b, w, e, o, n) = go (λ t x. walk-first g p t x) (λ x y o. arr-first m p x z y o) (at-block a b w x (p ∷ z) y (sym e))
     where
       go : ((t : List ℕ) → Walk g (p ∷ t) → first g p ≡ true) → ((x y : List (List ℕ)) → Arr Walk m (x ++ (p ∷ z) ∷ y) → firstM m p ≡ true) → At a b w x (p ∷ z) y → firstM (also m g) p ≡ true
@@ -93,16 +80,16 @@ mutual
 pub begins-first : (g : Group) (p : ℕ) → Begins g (p ∷ []) → first g p ≡ true
 begins-first g p (t, w) = walk-first g p t w
 
--- ends
+-- What goes on after a walk is told by `ends`.
 
--- in a group without "&" only the last place counts
+-- In a group without "&" only the last place counts.
 pub plain-next : (g : Group) → Good g → Plain g → (u p : ℕ) (a c : List ℕ) → Ends a u → Ends c u → Begins g a → Begins g (c ++ p ∷ []) → Begins g (a ++ p ∷ [])
 plain-next g d n u p a c i j b k = alike-next g d c a p b (record { last = (u, j, i); same = λ q h. absurd (plain-held g n q h) }) k
 
 walk-begins : (g : Group) (s : List ℕ) → Walk g s → Begins g s
 walk-begins g s w = ([], rw append-nil w)
 
--- whole walks after which p goes on: p begins a walk, or goes on after one
+-- Where p goes on after whole walks, it begins a walk or goes on after one.
 pub plus-goes : (g : Group) → Good g → Plain g → (s r c : List ℕ) (p : ℕ) → s ≡ r ++ c → Runs (Walk g) s → Begins g (c ++ p ∷ []) → (first g p ≡ true) ⊎ GoesOn g p
 plus-goes g d n s r [] p e x b = inl (begins-first g p b)
 plus-goes g d n s r (q ∷ c) p e x b =
@@ -132,11 +119,7 @@ alt-on g h d p f k (s, inr x, (t, inl y)) =
 alt-on g h d p f k (s, inr x, (t, inr y)) = or-left _ (or-right (ends g p) (k (s, x, (t, y))))
 
 opt-on : (g : Group) (p : ℕ) → (GoesOn g p → ends g p ≡ true) → GoesOn (opt g) p → ends (opt g) p ≡ true
-opt-on g p f (s, x, (t, inl n)) = absurd (no s n)
-  where
-    no : (s : List ℕ) → (s ++ p ∷ []) ++ t ≡ [] → ⊥
-    no [] n = cons≢nil n
-    no (q ∷ s) n = cons≢nil n
+opt-on g p f (s, x, (t, inl n)) = absurd (nil≢middle s p t (sym n ∙ append-assoc s (p ∷ []) t))
 opt-on g p f (s, inl n, (t, inr y)) = or-right (ends g p) (walk-first g p t (subst (λ (l : List ℕ). Walk g ((l ++ p ∷ []) ++ t)) n y))
 opt-on g p f (s, inr x, (t, inr y)) = or-left _ (f (s, x, (t, y)))
 
@@ -170,7 +153,7 @@ mutual
   onM-ends (one g) d p (s, x, (t, y)) = on-ends g d p (s, walk-one g s x, (t, walk-one g ((s ++ p ∷ []) ++ t) y))
   onM-ends (also m g) (d, k, a) p x = more-on m g a p (λ x. onM-ends m d p x) (λ x. on-ends g k p x) x
 
--- between two members of an "&" group: what comes next begins its member, or goes on after it
+-- Between two members of an "&" group, what comes next begins its member or goes on after it.
 
 pub edge : (m : Members) → GoodM m → (p : ℕ) (x y : List (List ℕ)) → Arr Walk m (x ++ y) → Begins (and m) (joined x ++ p ∷ []) → firstM m p || endsM m p ≡ true
 edge (one g) d p x y (w, e, n) (t, b) = go (where-block [] [] w x y (append-nil (block w) ∙ sym e))

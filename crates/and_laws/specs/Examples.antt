@@ -1,10 +1,10 @@
 -- Examples: (A & B) has exactly AB and BA; (A & B & C) exactly its six, ACB among them, which ((A & B) & C) lacks; folds compute.
 use Prim.Native.Nat.{ℕ}
-use mathlib.Core.Path.{_≡_, refl, sym, _∙_, ap, subst}
-use mathlib.Core.Bool.{Bool, true, false, false≢true}
+use mathlib.Core.Path.{_≡_, refl, sym, _∙_, ap}
+use mathlib.Core.Bool.{true, false, false≢true}
 use mathlib.Core.Logic.{_⊎_, inl, inr}
-use mathlib.Core.List.{List, [], _∷_, _++_, nil≢cons, cons≢nil, head-eq-of-cons-eq, tail-eq-of-cons-eq}
-use Rattle.rules.specs.Walk.{Group, place, seq, alt, opt, plus, and, Members, one, also, joined, Walk, Orders, Begins}
+use mathlib.Core.List.{List, [], _∷_, _++_, head-eq-of-cons-eq, tail-eq-of-cons-eq}
+use Rattle.rules.specs.Walk.{Group, place, seq, and, Members, one, also, joined, Walk, Orders}
 use Rattle.and_laws.specs.Base.{mem, ends-snoc}
 use Rattle.and_laws.specs.Sets.{Good}
 use Rattle.and_laws.specs.Later.{nil-parts}
@@ -13,7 +13,7 @@ use Rattle.and_laws.specs.Decide.{fit, done, passesAfter, left-fit}
 use Rattle.and_laws.specs.Left.{walk-left}
 use Rattle.and_laws.specs.Numbers.{numbered-good}
 
--- where a list of one or of two is cut
+-- These laws say where a list of one or of two can be cut.
 cut-one : {A : Type 0} (x : A) (a b : List A) → a ++ b ≡ x ∷ [] → ((a ≡ []) × (b ≡ x ∷ [])) ⊎ ((a ≡ x ∷ []) × (b ≡ []))
 cut-one x [] b e = inl (refl, e)
 cut-one x (y ∷ a) b e = let (i, j) = nil-parts a b (sym (tail-eq-of-cons-eq e)) in inr (rw (head-eq-of-cons-eq e, i), j)

@@ -1,22 +1,22 @@
 -- The members of an "&" group by number: which have begun is a bit for each, and the bits say whether the group lacks a member and which place the only
 -- member left requires.
-use Prim.Native.Nat.{ℕ, _+_, _≤_, _<_}
+use Prim.Native.Nat.{ℕ}
 use mathlib.Core.Path.{_≡_, refl, sym, _∙_, ap, subst}
 use mathlib.Core.Bool.{Bool, true, false, _&&_, _||_, not, cond, false≢true}
-use mathlib.Core.Logic.{_⊎_, inl, inr, _↔_}
 use mathlib.Core.List.{List, [], _∷_}
 use lib.Dec.{eqb}
+use borrow.Author.Tests as tests
 use borrow.Author.Tests.{eqb-true, eq-eqb}
-use Rattle.basic_laws.specs.Truth.{or-left, or-right, or-cases, and-left, and-right, and-both, not-true, not-both, bool-cases}
-use Rattle.model_sets.specs.Sets.{has, hasM, nullable, must}
+use Rattle.basic_laws.specs.Truth.{or-left, or-right, or-cases, and-left, and-right, and-both, not-true, not-both, bool-cases, false-not}
+use Rattle.model_sets.specs.Sets.{nullable, must}
 use Rattle.rules.specs.Walk.{Group, Members, one, also}
 use Rattle.and_laws.specs.Base.{mem}
 use Rattle.and_laws.specs.Sets.{meets}
-use Rattle.and_laws.specs.Rest.{allM, anyM}
+use Rattle.and_laws.specs.Rest.{allM}
 use Rattle.and_laws.specs.Req.{anyIdle, restReq}
-use Rattle.and_laws.specs.Rows.{fine, unbegun}
+use Rattle.and_laws.specs.Rows.{fine}
 
--- Lists of numbers
+-- These laws are of lists of numbers.
 
 abbrev pub allOf : (ℕ → Bool) → List ℕ → Bool
 allOf t [] = true
@@ -26,7 +26,7 @@ abbrev pub anyOf : (ℕ → Bool) → List ℕ → Bool
 anyOf t [] = false
 anyOf t (n ∷ ns) = anyOf t ns || t n
 
--- no number stands twice
+-- No number stands twice.
 abbrev pub Distinct : List ℕ → Type 0
 Distinct [] = true ≡ true
 Distinct (n ∷ ns) = (mem ns n ≡ false) × Distinct ns
@@ -48,19 +48,12 @@ pub some-any : (t : ℕ → Bool) (ns : List ℕ) (n : ℕ) → mem ns n ≡ tru
 some-any t [] n i e = absurd (false≢true i)
 some-any t (k ∷ ns) n i e = or-cases (eqb k n) _ (λ x. or-right (anyOf t ns) (subst (λ (z : ℕ). t z ≡ true) (sym (eqb-true k n x)) e)) (λ y. or-left _ (some-any t ns n y e)) i
 
--- of those that have not begun, if there is one only, what it requires
+-- This is what the only one requires that has not begun, and 0 if there are more or none.
 abbrev pub loneOf : (ℕ → Bool) → (ℕ → ℕ) → List ℕ → ℕ
 loneOf B r [] = 0
 loneOf B r (n ∷ ns) = cond (B n) (loneOf B r ns) (cond (anyOf (λ (k : ℕ). not (B k)) ns) 0 (r n))
 
 module _ (B : ℕ → Bool) (r : ℕ → ℕ) where
-  false-idle : (n : ℕ) → B n ≡ false → not (B n) ≡ true
-  false-idle n e = rw e
-
-  idle-false : (a : Bool) → not a ≡ true → a ≡ false
-  idle-false true e = absurd (false≢true e)
-  idle-false false e = refl
-
   -- Where n alone has not begun, it is what n requires.
   pub lone-one : (ns : List ℕ) → Distinct ns → (n : ℕ) → mem ns n ≡ true → B n ≡ false → ((k : ℕ) → mem ns k ≡ true → B k ≡ false → k ≡ n) → loneOf B r ns ≡ r n
   lone-one [] d n i e f = absurd (false≢true i)
@@ -72,7 +65,7 @@ module _ (B : ℕ → Bool) (r : ℕ → ℕ) where
       let same : k ≡ n = f k (or-left _ (eq-eqb k k refl)) b in
       let none : anyOf (λ (j : ℕ). not (B j)) ns ≡ false = not-true (anyOf (λ (j : ℕ). not (B j)) ns) (λ y.
       let (j, m, z) = any-some (λ (j : ℕ). not (B j)) ns y in
-      not-both x (subst (λ (z : ℕ). mem ns z ≡ true) (f j (or-right (eqb k j) m) (idle-false (B j) z) ∙ sym same) m)) in
+      not-both x (subst (λ (z : ℕ). mem ns z ≡ true) (f j (or-right (eqb k j) m) (tests.not-true (B j) z) ∙ sym same) m)) in
       rw (b, none) (ap r same))
 
   -- Where two have not begun, it is 0.
@@ -92,28 +85,23 @@ module _ (B : ℕ → Bool) (r : ℕ → ℕ) where
           or-cases
           (eqb k a)
           _
-          (λ w. or-cases (eqb k b) _ (λ v. absurd (n (sym (eqb-true k a w) ∙ eqb-true k b v))) (λ v. some-any (λ (z : ℕ). not (B z)) ns b v (false-idle b y)) j)
-          (λ w. some-any (λ (z : ℕ). not (B z)) ns a w (false-idle a x))
+          (λ w. or-cases (eqb k b) _ (λ v. absurd (n (sym (eqb-true k a w) ∙ eqb-true k b v))) (λ v. some-any (λ (z : ℕ). not (B z)) ns b v (false-not (B b) y)) j)
+          (λ w. some-any (λ (z : ℕ). not (B z)) ns a w (false-not (B a) x))
           i
 
-  -- Where all have begun, it is 0.
-  pub lone-none : (ns : List ℕ) → ((k : ℕ) → mem ns k ≡ true → B k ≡ true) → loneOf B r ns ≡ 0
-  lone-none [] f = refl
-  lone-none (k ∷ ns) f = rw (f k (or-left _ (eq-eqb k k refl))) (lone-none ns (λ j m. f j (or-right (eqb k j) m)))
-
--- A group
+-- The members of a group stand for their numbers.
 
 module _ (S : ℕ → Bool) (B : ℕ → Bool) (null : ℕ → Bool) (r : ℕ → ℕ) where
-  -- the number of a member: its bit says whether it has begun, and the table whether it can be nothing and what it requires
+  -- The bit of a member's number says whether it has begun, and the table says whether it can be nothing and what it requires.
   abbrev pub IsNumber : ℕ → Group → Type 0
   IsNumber n g = (B n ≡ meets g S) × (null n ≡ nullable g) × (r n ≡ must g)
 
-  -- the members have these numbers, the last member's first
+  -- The members have these numbers, the last member's first.
   abbrev pub Filed : Members → List ℕ → Type 0
   Filed (one g) ns = (n : ℕ) × (ns ≡ n ∷ []) × IsNumber n g
   Filed (also m g) ns = (n : ℕ) × (ks : List ℕ) × (ns ≡ n ∷ ks) × IsNumber n g × Filed m ks
 
-  -- a member that has not begun can be nothing
+  -- A member that has not begun can be nothing.
   abbrev pub fineNumber : ℕ → Bool
   fineNumber n = B n || null n
 

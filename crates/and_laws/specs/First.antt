@@ -1,8 +1,7 @@
 -- The first pair at fault of a numbered model is the first pair of one name that clashes, found by a search in order; two places that clash are both in some row.
 use Prim.Native.Nat.{ℕ, zero, suc, _+_, _≤_, _<_}
-use mathlib.Core.Path.{_≡_, refl, sym, _∙_, subst}
-use mathlib.Core.Bool.{Bool, true, false, _&&_, _||_}
-use mathlib.Core.Logic.{_⊎_, inl, inr}
+use mathlib.Core.Path.{_≡_, sym, _∙_, subst}
+use mathlib.Core.Bool.{Bool, true, _&&_}
 use mathlib.Core.List.{List, [], _∷_, _++_}
 use native.Mathlib.Omega.{arith}
 use Rattle.basic_laws.specs.Truth.{and-left, and-right, and-both}
@@ -10,30 +9,21 @@ use Rattle.model_sets.specs.Sets.{has, size, Numbered, nextIn}
 use Rattle.model_sets.specs.Search.{searchPair, NoPair, IsFirst, searchPair-none, searchPair-some}
 use Rattle.rules.specs.Walk.{Group, Begins, MayComeNext}
 use Rattle.rules.specs.Ambiguity.{PairAtFault, FirstPair}
-use Rattle.and_laws.specs.Base.{mem, mem-left, mem-right, Ends, ends-mem}
+use Rattle.and_laws.specs.Base.{mem, mem-left, Ends, ends-mem}
 use Rattle.and_laws.specs.Sets.{held, Good, walk-in}
 use Rattle.and_laws.specs.Left.{Agrees}
-use Rattle.and_laws.specs.Fold.{Both, clash, clash-both, begins-less, first-begins}
+use Rattle.and_laws.specs.Fold.{Both, clash, clash-both, begins-less}
 use Rattle.and_laws.specs.Exact.{begins-first}
 use Rattle.and_laws.specs.Only.{ends-of}
 use Rattle.and_laws.specs.Pairs.{fault-clash, clash-fault}
 use Rattle.and_laws.specs.Decide.{next-fold}
 use Rattle.and_laws.specs.Numbers.{Guarded, has-range, numbered-good}
-use Rattle.and_laws.specs.Unique.{first-has}
 use Rattle.and_laws.specs.Rows.{fit-row}
+use Rattle.and_laws.specs.Begun.{next-range}
 
 module _ (same : ℕ → ℕ → Bool) (g : Group) (numbered : Numbered g 1) (guarded : Guarded g) where
   good : Good g
   good = numbered-good g 1 numbered guarded
-
-  -- a place that may come next is one of the group's
-  next-range : (s : List ℕ) (p : ℕ) → MayComeNext g s p → (1 ≤ p) × (p ≤ size g)
-  next-range s p (t, w) =
-      let i = walk-in g ((s ++ p ∷ []) ++ t) w p (mem-left (s ++ p ∷ []) t p (mem-right s (p ∷ []) p (head p))) in
-      omega (arith, has-range g 1 numbered p i)
-    where
-      head : (p : ℕ) → mem (p ∷ []) p ≡ true
-      head p = ends-mem (p ∷ []) p (inl (refl, refl))
 
   abbrev pub fault : ℕ → ℕ → Bool
   fault p q = same p q && clash g p q
@@ -45,8 +35,8 @@ module _ (same : ℕ → ℕ → Bool) (g : Group) (numbered : Numbered g 1) (gu
   pair-fault p q f =
       let (l, e, c) = fault-clash same g good p q f in
       let (m, n, s, a, b) = f in
-      let (x, y) = next-range s p a in
-      let (v, w) = next-range s q b in
+      let (x, y) = next-range g numbered guarded s p a in
+      let (v, w) = next-range g numbered guarded s q b in
       (x, l, w, and-both e c)
 
   -- The first pair that the search finds is the first pair at fault.
@@ -86,14 +76,14 @@ abbrev pub firstPairOf : (ℕ → ℕ → Bool) → Group → ℕ × ℕ
 firstPairOf same g = searchPair (λ p q. same p q && clash g p q) (size g)
 
 module _ (same : ℕ → ℕ → Bool) (g : Group) (numbered : Numbered g 1) (guarded : Guarded g) where
-  -- where the search finds none, no pair is at fault
+  -- Where the search finds none, no pair is at fault.
   pub firstPairOf-none : firstPairOf same g .0 ≡ 0 → (p q : ℕ) → PairAtFault same g p q → ⊥
   firstPairOf-none e p q f = no-pair same g numbered guarded (searchPair-none (λ a b. same a b && clash g a b) (size g) e) p q f
 
-  -- what the search finds is the first pair at fault
+  -- What the search finds is the first pair at fault.
   pub firstPairOf-first : 1 ≤ firstPairOf same g .0 → FirstPair same g (firstPairOf same g .0) (firstPairOf same g .1)
   firstPairOf-first l = first-pair same g numbered guarded (firstPairOf same g .0) (firstPairOf same g .1) (searchPair-some (λ a b. same a b && clash g a b) (size g) l)
 
-  -- the same of a pair by its numbers
+  -- A pair that the search gives by its numbers is the first pair at fault.
   pub firstPairOf-is : (p q : ℕ) → firstPairOf same g ≡ (p, q) → 1 ≤ p → FirstPair same g p q
   firstPairOf-is p q e l = subst (λ (r : ℕ × ℕ). 1 ≤ r .0 → FirstPair same g (r .0) (r .1)) e firstPairOf-first l

@@ -2,17 +2,16 @@
 use Prim.Native.Nat.{ℕ}
 use mathlib.Core.Path.{_≡_, refl, sym, _∙_, ap, subst}
 use mathlib.Core.Bool.{Bool, true, false, _&&_, _||_, false≢true}
-use mathlib.Core.Logic.{_⊎_, inl, inr}
-use mathlib.Core.List.{List, [], _∷_, _++_, append-assoc, append-nil, nil≢cons, cons≢nil}
+use mathlib.Core.Logic.{inl, inr}
+use mathlib.Core.List.{List, [], _∷_, _++_, append-assoc, append-nil}
 use lib.Dec.{eqb}
-use borrow.Author.Tests.{eqb-true, eq-eqb}
-use Rattle.basic_laws.specs.Truth.{or-left, or-right, or-cases, and-left, and-right, and-both}
+use borrow.Author.Tests.{eqb-true}
+use Rattle.basic_laws.specs.Truth.{or-cases, and-left, and-right}
 use Rattle.model_sets.specs.Sets.{nullable, nullableM, first, firstM}
-use Rattle.rules.specs.Walk.{Group, place, seq, alt, opt, plus, and, Members, one, also, Runs, once, more, joined, Walk, Orders, Begins}
+use Rattle.rules.specs.Walk.{Group, place, seq, alt, opt, plus, and, Members, one, also, once, more, joined, Walk, Begins}
 use Rattle.and_laws.specs.Base.{joined-append}
-use Rattle.and_laws.specs.Later.{nil-parts}
 
--- p can go on after some walk
+-- The place p can go on after some walk.
 abbrev mutual
   pub ends : Group → ℕ → Bool
   ends (place n) p = false
@@ -26,11 +25,11 @@ abbrev mutual
   endsM (one g) p = ends g p
   endsM (also m g) p = endsM m p || ends g p
 
--- p of the members before and q of the last one can both come next
+-- The place p of the members before and q of the last one can both come next.
 abbrev pub cross : Bool → Bool → Bool → Bool → Bool
 cross fp ep fq eq = ((fp || ep) && fq) || (eq && fp)
 
--- p and q can both come next after some sequence
+-- The places p and q can both come next after some sequence.
 abbrev mutual
   pub clash : Group → ℕ → ℕ → Bool
   clash (place n) p q = eqb n p && eqb n q
@@ -60,7 +59,7 @@ one-walk g w x = (w ∷ [], sym (append-nil w), (w, refl, x))
 pub walk-one : (g : Group) (w : List ℕ) → Walk (and (one g)) w → Walk g w
 walk-one g w (bs, e, (v, q, x)) = subst (Walk g) (sym (e ∙ rw (q, append-nil))) x
 
--- the last member before all others, and after them
+-- The last member may come before all others, and after them.
 pub add-front : (m : Members) (g : Group) (v w : List ℕ) → Walk g v → Walk (and m) w → Walk (and (also m g)) (v ++ w)
 add-front m g v w x (bs, e, o) = (v ∷ bs, ap (_++_ v) e, ([], bs, v, refl, o, x))
 
@@ -86,7 +85,7 @@ mutual
       let (t, y) = some-walk g in
       (s ++ t, add-back m g s t x y)
 
--- Beginnings.
+-- These laws are of beginnings.
 
 pub begins-less : (g : Group) (s t : List ℕ) → Begins g (s ++ t) → Begins g s
 begins-less g s t (v, w) = (t ++ v, rw (← append-assoc) w)

@@ -1,20 +1,17 @@
 -- The required place from the row and from what has begun: where an "&" group that could end lacks a member, the place of the only member left; else the row's.
 use Prim.Native.Nat.{ℕ}
-use mathlib.Core.Path.{_≡_, refl, sym, _∙_, ap}
-use mathlib.Core.Bool.{Bool, true, false, _&&_, _||_, not, cond, false≢true}
-use mathlib.Core.Logic.{_⊎_, inl, inr}
-use lib.Dec.{eqb}
-use Rattle.basic_laws.specs.Truth.{or-left, or-right, or-cases, and-left, and-right, and-both, not-true, not-both, bool-cases}
+use mathlib.Core.Path.{_≡_, refl, _∙_}
+use mathlib.Core.Bool.{Bool, true, false, _&&_, _||_, not, cond, false≢true, and-false}
+use Rattle.basic_laws.specs.Truth.{or-cases, and-left, and-right, not-both, bool-cases, cond-same}
 use Rattle.model_sets.specs.Sets.{has, hasM, nullable, nullableM, last, lastM, must, mustM, mustAfter, mustAfterM}
 use Rattle.rules.specs.Walk.{Group, place, seq, alt, opt, plus, and, Members, one, also}
-use Rattle.and_laws.specs.Base.{Apart}
 use Rattle.and_laws.specs.Sets.{meets, Plain, Good, GoodM}
-use Rattle.and_laws.specs.Rest.{allM, anyM, or-none}
+use Rattle.and_laws.specs.Rest.{allM}
 use Rattle.and_laws.specs.Decide.{done, nowDone, or-only}
 use Rattle.and_laws.specs.Req.{anyIdle, restReq, reqAfter, reqNow}
-use Rattle.and_laws.specs.Rows.{last-has, lastM-has, fine, full, fullM, done-row, now-row, plain-full, and-no, and-yes, or-no}
+use Rattle.and_laws.specs.Rows.{last-has, lastM-has, fine, full, fullM, done-row, now-row}
 
--- an "&" group around u lacks a member, where u can end the members that hold it, up to that group
+-- An "&" group around u lacks a member, where u can end the members that hold it, up to that group.
 abbrev mutual
   pub blocks : Group → ℕ → (ℕ → Bool) → Bool
   blocks (place n) u S = false
@@ -28,7 +25,7 @@ abbrev mutual
   blocksM (one g) u S = blocks g u S
   blocksM (also m g) u S = cond (has g u) (blocks g u S) (blocksM m u S)
 
--- the place that is required in the innermost of them: that of its only member that has not begun, 0 if there are several
+-- The place that is required in the innermost of them is that of its only member that has not begun, and 0 if there are several.
 abbrev mutual
   pub lone : Group → ℕ → (ℕ → Bool) → ℕ
   lone (place n) u S = 0
@@ -42,11 +39,7 @@ abbrev mutual
   loneM (one g) u S = lone g u S
   loneM (also m g) u S = cond (has g u) (lone g u S) (loneM m u S)
 
-both-same : {A : Type 0} (c : Bool) (x : A) → cond c x x ≡ x
-both-same true x = refl
-both-same false x = refl
-
--- a group that can be nothing requires nothing
+-- A group that can be nothing requires nothing.
 mutual
   pub null-req : (g : Group) → nullable g ≡ true → must g ≡ 0
   null-req (place n) e = absurd (false≢true e)
@@ -60,7 +53,7 @@ mutual
   null-reqM (one g) e = null-req g e
   null-reqM (also m g) e = refl
 
--- a place that can end the group has nothing required after it
+-- A place that can end the group has nothing required after it.
 mutual
   pub last-req : (g : Group) → Good g → (u : ℕ) → last g u ≡ true → mustAfter g u ≡ 0
   last-req (place n) d u e = refl
@@ -70,7 +63,7 @@ mutual
       (λ j. rw j (last-req h k u (or-cases (last h u) _ (λ x. x) (λ y. absurd (a u (last-has g u (and-right (nullable h) _ y)) j)) e)))
       (λ j.
       let y = or-cases (last h u) (nullable h && last g u) (λ x. absurd (not-both j (last-has h u x))) (λ y. y) e in
-      rw (j, and-left (nullable h) _ y, and-no (last g u)) (last-req g d u (and-right (nullable h) _ y)))
+      rw (j, and-left (nullable h) _ y, and-false (last g u)) (last-req g d u (and-right (nullable h) _ y)))
   last-req (alt g h) (d, k, a) u e =
       bool-cases
       (has h u)
@@ -88,21 +81,21 @@ mutual
       (λ j. rw j (last-req g k u (or-cases (lastM m u) _ (λ x. absurd (a u (lastM-has m u x) j)) (λ y. y) e)))
       (λ j. rw j (lastM-req m d u (or-cases (lastM m u) _ (λ x. x) (λ y. absurd (not-both j (last-has g u y))) e)))
 
--- where every member has begun or can be nothing, none is required
+-- Where every member has begun or can be nothing, none is required.
 fine-rest : (m : Members) (S : ℕ → Bool) → allM (fine S) m ≡ true → restReq m S ≡ 0
 fine-rest (one g) S e = bool-cases (meets g S) (λ i. rw i) (λ i. rw i (null-req g (rw i at e)))
 fine-rest (also m g) S e =
     bool-cases
     (meets g S)
     (λ i. rw i (fine-rest m S (and-left (allM (fine S) m) _ e)))
-    (λ i. let n : nullable g ≡ true = rw i at (and-right (allM (fine S) m) (fine S g) e) in rw (i, null-req g n) (both-same (anyIdle S m) 0))
+    (λ i. let n : nullable g ≡ true = rw i at (and-right (allM (fine S) m) (fine S g) e) in rw (i, null-req g n) (cond-same (anyIdle S m) 0))
 
 joined-not : (x y : Bool) → not x && y ≡ not (x || not y)
 joined-not true y = refl
 joined-not false true = refl
 joined-not false false = refl
 
--- a place that can end the group is blocked exactly if some "&" group around it lacks a member
+-- A place that can end the group is blocked exactly if some "&" group around it lacks a member.
 mutual
   pub last-full : (g : Group) → Good g → (u : ℕ) (S : ℕ → Bool) → last g u ≡ true → full g u S ≡ not (blocks g u S)
   last-full (place n) d u S e = refl
@@ -136,7 +129,7 @@ done-blocks g d u S i =
     (λ e. done-row g d u S i ∙ rw e (last-full g d u S e))
     (λ e. done-row g d u S i ∙ rw e)
 
--- where nothing blocks and content is not complete, the place cannot end the group
+-- Where nothing blocks and content is not complete, the place cannot end the group.
 still-open : (l b c : Bool) → c ≡ l && not b → c ≡ false → b ≡ false → l ≡ false
 still-open true b c e x y = absurd (not-both x (e ∙ rw y))
 still-open false b c e x y = refl
@@ -156,8 +149,8 @@ nowDone-blocks m d u S i =
 -- Of a group without "&" nothing blocks.
 pub plain-blocks : (g : Group) → Plain g → (u : ℕ) (S : ℕ → Bool) → blocks g u S ≡ false
 plain-blocks (place n) x u S = refl
-plain-blocks (seq g h) (x, y) u S = rw (plain-blocks g x u S, plain-blocks h y u S) (both-same (has h u) false)
-plain-blocks (alt g h) (x, y) u S = rw (plain-blocks g x u S, plain-blocks h y u S) (both-same (has h u) false)
+plain-blocks (seq g h) (x, y) u S = rw (plain-blocks g x u S, plain-blocks h y u S) (cond-same (has h u) false)
+plain-blocks (alt g h) (x, y) u S = rw (plain-blocks g x u S, plain-blocks h y u S) (cond-same (has h u) false)
 plain-blocks (opt g) x u S = plain-blocks g x u S
 plain-blocks (plus g) x u S = refl
 plain-blocks (and m) x u S = absurd x

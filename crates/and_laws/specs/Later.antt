@@ -3,22 +3,22 @@ use Prim.Native.Nat.{ℕ}
 use mathlib.Core.Path.{_≡_, refl, sym, _∙_, ap, subst}
 use mathlib.Core.Bool.{Bool, true, false, false≢true}
 use mathlib.Core.Logic.{_⊎_, inl, inr}
-use mathlib.Core.List.{List, [], _∷_, _++_, append-assoc, append-nil, nil≢cons, cons≢nil}
+use mathlib.Core.List.{List, [], _∷_, _++_, append-assoc, append-nil, nil≢cons}
 use Rattle.basic_laws.specs.Truth.{or-left, or-right, not-true, not-both, bool-cases}
 use Rattle.model_sets.specs.Sets.{has, hasM}
-use Rattle.rules.specs.Walk.{Group, and, Members, one, also, joined, Walk}
-use Rattle.and_laws.specs.Base.{mem, mem-left, mem-right, mem-cases, mem-head, In, Apart, joined-append}
+use Rattle.rules.specs.Walk.{Group, Members, one, also, joined, Walk}
+use Rattle.and_laws.specs.Base.{mem, mem-left, mem-right, mem-cases, mem-head, Apart, joined-append}
 use Rattle.and_laws.specs.Sets.{meets, GoodM, walk-in, Common, meets-common, common-meets}
 use Rattle.and_laws.specs.Blocks.{block, Arr, joined-block, arr-in, Where, early, late, where-block}
 
--- what a member other than the one at hand leaves to come: nothing once it has begun, else a walk
+-- A member other than the one at hand leaves nothing to come once it has begun, and a walk before.
 abbrev pub Remains : (ℕ → Bool) → Group → List ℕ → Type 0
 Remains S g w = ((meets g S ≡ true) × (w ≡ [])) ⊎ ((meets g S ≡ false) × Walk g w)
 
 abbrev pub Touched : (ℕ → Bool) → List ℕ → Type 0
 Touched S w = (w ≡ []) ⊎ Common (mem w) S
 
--- each of the sequences is empty or has a place taken
+-- Each of the sequences is empty or has a place taken.
 abbrev pub Met : (ℕ → Bool) → List (List ℕ) → Type 0
 Met S [] = _≡_ {A = ℕ} 0 0
 Met S (w ∷ x) = Touched S w × Met S x
@@ -51,7 +51,7 @@ module _ (S : ℕ → Bool) (a c : List (List ℕ)) (w : List ℕ) where
   met-at : Met S (a ++ (block w ++ c)) → Touched S w
   met-at m = met-block S w (met-first S (block w) c (met-second S a (block w ++ c) m))
 
--- a place in the whole is in the part or in the rest
+-- A place in the whole is in the part or in the rest.
 pub mem-middle : {C : Type 0} (a c : List (List ℕ)) (w : List ℕ) (p : ℕ) → (mem w p ≡ true → C) → (mem (joined (a ++ c)) p ≡ true → C) → mem (joined (a ++ (block w ++ c))) p ≡ true → C
 mem-middle a c w p f k i =
     mem-cases
@@ -71,14 +71,14 @@ module _ (S : ℕ → Bool) (g : Group) (w : List ℕ) (x : Walk g w) where
   touched-none (inl e) f = e
   touched-none (inr (p, i, j)) f = absurd (not-both f (common-meets g S p (walk-in g w x p i) j))
 
-  -- a member that came early leaves nothing
+  -- A member that came early leaves nothing.
   remains-early : Touched S w → Remains S g []
   remains-early t = bool-cases (meets g S) (λ e. inl (e, refl)) (λ f. inr (f, subst (Walk g) (touched-none t f) x))
 
 pub unmet : (S : ℕ → Bool) (g : Group) → (Common (has g) S → ⊥) → meets g S ≡ false
 unmet S g f = not-true (meets g S) (λ e. f (meets-common g S e))
 
--- the members' places taken lie in x
+-- The members' places taken lie in x.
 abbrev pub Lies : Members → (ℕ → Bool) → List (List ℕ) → Type 0
 Lies m S x = (p : ℕ) → hasM m p ≡ true → S p ≡ true → mem (joined x) p ≡ true
 
@@ -89,16 +89,13 @@ module _ (S : ℕ → Bool) (m : Members) (g : Group) (apart : Apart (hasM m) (h
   lies-less : (x : List (List ℕ)) → Lies (also m g) S x → Lies m S x
   lies-less x l p i j = l p (or-left _ i) j
 
-  -- a member that is still to come has not begun
+  -- A member that is still to come has not begun.
   lies-unmet : (x y : List (List ℕ)) → Arr Walk m (x ++ y) → Lies (also m g) S x → meets g S ≡ false
   lies-unmet x y o l =
       unmet S g (λ (p, i, j). apart p (arr-in m (x ++ y) o p (rw joined-append (mem-left (joined x) (joined y) p (l p (or-right (hasM m p) i) j)))) i)
 
 none-unmet : (S : ℕ → Bool) (g : Group) (x : List (List ℕ)) → x ≡ [] → Lies (one g) S x → meets g S ≡ false
 none-unmet S g x e l = unmet S g (λ (p, i, j). false≢true (rw e at (l p i j)))
-
-regroup : {A : Type 0} (a c z : List A) → a ++ (c ++ z) ≡ (a ++ c) ++ z
-regroup a c z = sym (append-assoc a c z)
 
 pub arr-later : (m : Members) (S : ℕ → Bool) → GoodM m → (x z : List (List ℕ)) → Arr Walk m (x ++ z) → Met S x → Lies m S x → Arr (Remains S) m z
 arr-later (one g) S d x z (w, e, v) t l = go (where-block [] [] w x z (append-nil (block w) ∙ sym e))
@@ -110,7 +107,7 @@ arr-later (also m g) S (d, k, apart) x z (a, b, w, e, o, v) t l = go (arr-later 
   where
     go : ((x z : List (List ℕ)) → Arr Walk m (x ++ z) → Met S x → Lies m S x → Arr (Remains S) m z) → Where a b w x z → Arr (Remains S) (also m g) z
     go f (early c p q) =
-        ([], z, [], refl, f (a ++ c) z (subst (Arr Walk m) (ap (_++_ a) q ∙ regroup a c z) o) (met-out S a c w (rw p at t)) (lies-out S m g apart a c w v (rw p at l)), remains-early S g w v (met-at S a c w (rw p at t)))
+        ([], z, [], refl, f (a ++ c) z (subst (Arr Walk m) (ap (_++_ a) q ∙ sym (append-assoc a c z)) o) (met-out S a c w (rw p at t)) (lies-out S m g apart a c w v (rw p at l)), remains-early S g w v (met-at S a c w (rw p at t)))
     go f (late c p q) =
         let o2 : Arr Walk m (x ++ (c ++ b)) = subst (Arr Walk m) (ap (λ (y : List (List ℕ)). y ++ b) q ∙ append-assoc x c b) o in
         (c, b, w, p, f x (c ++ b) o2 t (lies-less S m g apart x l), inr (lies-unmet S m g apart x (c ++ b) o2 l, v))
@@ -127,11 +124,11 @@ later-arr (one g) S d x z y (w, e, v) t l (w2, e2, r) = go (where-block [] [] w 
 later-arr (also m g) S (d, k, apart) x z y (a, b, w, e, o, v) t l (a2, b2, w2, e2, o2, r) = go (later-arr m S d) (where-block a b w x z (sym e)) r
   where
     put : Arr Walk m (x ++ (a2 ++ b2)) → Walk g w2 → Arr Walk (also m g) (x ++ y)
-    put u n = (x ++ a2, b2, w2, ap (_++_ x) e2 ∙ regroup x a2 (block w2 ++ b2), subst (Arr Walk m) (regroup x a2 b2) u, n)
+    put u n = (x ++ a2, b2, w2, ap (_++_ x) e2 ∙ sym (append-assoc x a2 (block w2 ++ b2)), subst (Arr Walk m) (sym (append-assoc x a2 b2)) u, n)
 
     go : ((x z y : List (List ℕ)) → Arr Walk m (x ++ z) → Met S x → Lies m S x → Arr (Remains S) m y → Arr Walk m (x ++ y)) → Where a b w x z → Remains S g w2 → Arr Walk (also m g) (x ++ y)
     go f (early c p q) r =
-        let u : Arr Walk m ((a ++ c) ++ (a2 ++ b2)) = f (a ++ c) z (a2 ++ b2) (subst (Arr Walk m) (ap (_++_ a) q ∙ regroup a c z) o) (met-out S a c w (rw p at t)) (lies-out S m g apart a c w v (rw p at l)) o2 in
+        let u : Arr Walk m ((a ++ c) ++ (a2 ++ b2)) = f (a ++ c) z (a2 ++ b2) (subst (Arr Walk m) (ap (_++_ a) q ∙ sym (append-assoc a c z)) o) (met-out S a c w (rw p at t)) (lies-out S m g apart a c w v (rw p at l)) o2 in
         pick u r
       where
         pick : Arr Walk m ((a ++ c) ++ (a2 ++ b2)) → Remains S g w2 → Arr Walk (also m g) (x ++ y)

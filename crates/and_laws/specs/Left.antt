@@ -1,16 +1,16 @@
 -- The residual: what may remain of a walk after a beginning, from its last place and the set of places taken in "&" groups; both directions.
 use Prim.Native.Nat.{ℕ}
 use mathlib.Core.Path.{_≡_, refl, sym, _∙_, ap, subst}
-use mathlib.Core.Bool.{Bool, true, false, _||_, false≢true}
+use mathlib.Core.Bool.{Bool, true}
 use mathlib.Core.Logic.{_⊎_, inl, inr}
-use mathlib.Core.List.{List, [], _∷_, _++_, append-assoc, append-nil, nil≢cons, cons≢nil, head-eq-of-cons-eq, tail-eq-of-cons-eq}
-use Rattle.basic_laws.specs.Truth.{or-left, or-right, not-true, not-both, bool-cases}
+use mathlib.Core.List.{List, [], _∷_, _++_, append-assoc, append-nil, cons≢nil, tail-eq-of-cons-eq}
+use Rattle.basic_laws.specs.Truth.{or-left, or-right}
 use Rattle.model_sets.specs.Sets.{has, hasM}
-use Rattle.rules.specs.Walk.{Group, place, seq, alt, opt, plus, and, Members, one, also, Runs, once, more, joined, Walk, Begins}
-use Rattle.and_laws.specs.Base.{mem, mem-left, mem-right, mem-cases, mem-head, In, Apart, Ends, ends-append, ends-split, ends-mem, ends-some, Cuts, cuts, joined-append, Inside, inside}
-use Rattle.and_laws.specs.Sets.{held, meets, Plain, Good, GoodM, plain-held, held-has, walk-in, Common}
-use Rattle.and_laws.specs.Blocks.{block, Arr, joined-block, block-some, walk-arr, arr-walk, arr-in, At, before, here, after, at-block}
-use Rattle.and_laws.specs.Later.{Remains, Met, met-join, met-all, Lies, arr-later, later-arr, mem-middle}
+use Rattle.rules.specs.Walk.{Group, place, seq, alt, opt, plus, and, Members, one, also, Runs, once, more, joined, Walk}
+use Rattle.and_laws.specs.Base.{mem, mem-left, mem-right, mem-cases, In, Apart, Ends, ends-split, ends-mem, Cuts, cuts, joined-append, Inside, inside, nil≢middle}
+use Rattle.and_laws.specs.Sets.{held, Plain, Good, GoodM, plain-held, held-has, walk-in}
+use Rattle.and_laws.specs.Blocks.{block, Arr, joined-block, walk-arr, arr-in, At, before, here, after, at-block}
+use Rattle.and_laws.specs.Later.{Remains, Met, met-join, met-all, Lies, arr-later, mem-middle}
 
 -- What may remain of g once u is the last place taken and S the places taken.
 abbrev mutual
@@ -22,19 +22,19 @@ abbrev mutual
   Left (plus g) u S t = (a : List ℕ) × (b : List ℕ) × (t ≡ a ++ b) × Left g u S a × ((b ≡ []) ⊎ Runs (Walk g) b)
   Left (and m) u S t = (a : List ℕ) × (bs : List (List ℕ)) × (t ≡ a ++ joined bs) × Now m u S a × Arr (Remains S) m bs
 
-  -- what may remain of the member that holds u
+  -- This is what may remain of the member that holds u.
   pub Now : Members → ℕ → (ℕ → Bool) → List ℕ → Type 0
   Now (one g) u S a = Left g u S a
   Now (also m g) u S a = ((has g u ≡ true) × Left g u S a) ⊎ ((hasM m u ≡ true) × Now m u S a)
 
--- of the places that pass the test, those in S are those of s
+-- Of the places that pass the test, those in S are those of s.
 abbrev pub Agrees : (ℕ → Bool) → List ℕ → (ℕ → Bool) → Type 0
 Agrees f s S = (p : ℕ) → f p ≡ true → (S p ≡ true → mem s p ≡ true) × (mem s p ≡ true → S p ≡ true)
 
 pub agrees-less : (f k : ℕ → Bool) (s : List ℕ) (S : ℕ → Bool) → ((p : ℕ) → k p ≡ true → f p ≡ true) → Agrees f s S → Agrees k s S
 agrees-less f k s S i h p e = h p (i p e)
 
--- places before those of the second member do not count for it
+-- Places before those of the second member do not count for it.
 pub agrees-second : (f k : ℕ → Bool) (a c : List ℕ) (S : ℕ → Bool) → In f a → Apart f k → Agrees k (a ++ c) S → Agrees k c S
 agrees-second f k a c S i d h p e =
     (λ x. mem-cases a c p (λ y. absurd (d p (i p y) e)) (λ y. y) (h p e .0 x), λ y. h p e .1 (mem-right a c p y))
@@ -42,16 +42,16 @@ agrees-second f k a c S i d h p e =
 pub ends-in : (f : ℕ → Bool) (s t : List ℕ) (u : ℕ) → Ends s u → In f (s ++ t) → f u ≡ true
 ends-in f s t u e i = i u (mem-left s t u (ends-mem s u e))
 
-apart-sym : (f k : ℕ → Bool) → Apart f k → Apart k f
-apart-sym f k d p x y = d p y x
-
 -- The place at hand in an "&" group.
 
 pub in-at : (f : ℕ → Bool) (x : List (List ℕ)) (v z : List ℕ) (y : List (List ℕ)) (u : ℕ) → Ends v u → In f (joined (x ++ (v ++ z) ∷ y)) → f u ≡ true
 in-at f x v z y u e i = i u (rw joined-append (mem-right (joined x) ((v ++ z) ++ joined y) u (mem-left (v ++ z) (joined y) u (mem-left v z u (ends-mem v u e)))))
 
+pub arr-has : (m : Members) (x : List (List ℕ)) (v z : List ℕ) (y : List (List ℕ)) (u : ℕ) → Ends v u → Arr Walk m (x ++ (v ++ z) ∷ y) → hasM m u ≡ true
+arr-has m x v z y u e o = in-at (hasM m) x v z y u e (arr-in m (x ++ (v ++ z) ∷ y) o)
+
 module _ (S : ℕ → Bool) (m : Members) (g : Group) (apart : Apart (hasM m) (has g)) where
-  -- the other members agree without this one's sequence
+  -- The other members agree without this one's sequence.
   pub agrees-out : (a c : List (List ℕ)) (w v : List ℕ) → Walk g w → Agrees (hasM (also m g)) (joined (a ++ (block w ++ c)) ++ v) S → Agrees (hasM m) (joined (a ++ c) ++ v) S
   agrees-out a c w v x h p e =
       let k = h p (or-left _ e) in (
@@ -63,7 +63,7 @@ module _ (S : ℕ → Bool) (m : Members) (g : Group) (apart : Apart (hasM m) (h
       back p j =
           rw joined-append (mem-cases (joined a) (joined c) p (mem-left (joined a) (joined (block w ++ c)) p) (λ i. mem-right (joined a) (joined (block w ++ c)) p (rw joined-block (mem-right w (joined c) p i))) (rw joined-append at j))
 
-  -- and this one agrees with its own
+  -- This member agrees with its own sequence.
   pub agrees-own : (x z : List (List ℕ)) (v : List ℕ) → Arr Walk m (x ++ z) → Agrees (hasM (also m g)) (joined x ++ v) S → Agrees (held g) v S
   agrees-own x z v o h =
       agrees-second (hasM m) (held g) (joined x) v S (λ p i. arr-in m (x ++ z) o p (rw joined-append (mem-left (joined x) (joined z) p i))) (λ p i j. apart p i (held-has g p j)) (agrees-less (hasM (also m g)) (held g) (joined x ++ v) S (λ p e. or-right (hasM m p) (held-has g p e)) h)
@@ -92,7 +92,7 @@ seq-rests g h d f k u S s t e i (a, b, q, x, y) = go (cuts s t a b q)
         let x2 : Walk g (s ++ c) = subst (Walk g) p x in
         inr (ends-in (has g) s c u e (walk-in g (s ++ c) x2), c, b, r, f u S s c e (agrees-less (held (seq g h)) (held g) s S (λ q l. or-left _ l) i) x2, y)
 
--- "+" over a group without "&": only the last place counts
+-- Under "+" over a group without "&" only the last place counts.
 plus-rests : (g : Group) → Plain g → Rests g → (u : ℕ) (S : ℕ → Bool) → {w : List ℕ} → Runs (Walk g) w → (s t : List ℕ) → Ends s u → w ≡ s ++ t → Left (plus g) u S t
 plus-rests g n f u S (once x) s t e q = (t, [], sym (append-nil t), f u S s t e (λ p i. absurd (plain-held g n p i)) (subst (Walk g) q x), inl refl)
 plus-rests g n f u S (more a b c x r) s t e q = go (λ s j l. plus-rests g n f u S r s t j l) (cuts s t a b (sym q ∙ c))
@@ -108,7 +108,7 @@ plus-rests g n f u S (more a b c x r) s t e q = go (λ s j l. plus-rests g n f u
     go k (inl (c, p, y)) = last k c y (ends-split a c u (rw p at e))
     go k (inr (c, p, y)) = (c, b, y, f u S s c e (none s) (subst (Walk g) p x), inr r)
 
--- the sequences before the place at hand, and its own, are those that the places taken touch
+-- The sequences before the place at hand, and its own, are those that the places taken touch.
 module _ (m : Members) (u : ℕ) (S : ℕ → Bool) (s : List ℕ) (e : Ends s u) (i : Agrees (hasM m) s S) (x : List (List ℕ)) (v z : List ℕ) (p : s ≡ joined x ++ v) where
   pub met-begun : (y : List (List ℕ)) → Ends v u → Arr Walk m (x ++ (v ++ z) ∷ y) → Met S (x ++ (v ++ z) ∷ [])
   met-begun y j o =
@@ -137,32 +137,24 @@ and-rests m d f u S s t e i w = go (walk-arr m (s ++ t) w)
 more-rests : (m : Members) (g : Group) → Apart (hasM m) (has g) → RestsM m → Rests g → RestsM (also m g)
 more-rests m g d f k u S x v z y e i (a, b, w, q, o, n) = go (at-block a b w x (v ++ z) y (sym q))
   where
-    others : (x y : List (List ℕ)) → Arr Walk m (x ++ (v ++ z) ∷ y) → hasM m u ≡ true
-    others x y o = in-at (hasM m) x v z y u e (arr-in m (x ++ (v ++ z) ∷ y) o)
-
     go : At a b w x (v ++ z) y → Now (also m g) u S z
     go (before c p r) =
         let o2 : Arr Walk m ((a ++ c) ++ (v ++ z) ∷ y) = subst (Arr Walk m) (ap (_++_ a) r ∙ sym (append-assoc a c ((v ++ z) ∷ y))) o in
-        inr (others (a ++ c) y o2, f u S (a ++ c) v z y e (agrees-out S m g d a c w v n (subst (λ (l : List (List ℕ)). Agrees (hasM (also m g)) (joined l ++ v) S) p i)) o2)
+        inr (arr-has m (a ++ c) v z y u e o2, f u S (a ++ c) v z y e (agrees-out S m g d a c w v n (subst (λ (l : List (List ℕ)). Agrees (hasM (also m g)) (joined l ++ v) S) p i)) o2)
     go (here p r l) =
         let n2 : Walk g (v ++ z) = subst (Walk g) p n in
         inl (ends-in (has g) v z u e (walk-in g (v ++ z) n2), k u S v z e (agrees-own S m g d x y v (subst (Arr Walk m) (rw (r, l)) o) i) n2)
     go (after c p r) =
         let o2 : Arr Walk m (x ++ (v ++ z) ∷ (c ++ b)) = subst (Arr Walk m) (ap (λ (l : List (List ℕ)). l ++ b) r ∙ append-assoc x ((v ++ z) ∷ c) b) o in
-        inr (others x (c ++ b) o2, f u S x v z (c ++ b) e (agrees-less (hasM (also m g)) (hasM m) (joined x ++ v) S (λ p l. or-left _ l) i) o2)
+        inr (arr-has m x v z (c ++ b) u e o2, f u S x v z (c ++ b) e (agrees-less (hasM (also m g)) (hasM m) (joined x ++ v) S (λ p l. or-left _ l) i) o2)
 
 one-rests : (g : Group) → Rests g → RestsM (one g)
 one-rests g k u S x v z y e i (w, q, n) = go (at-block [] [] w x (v ++ z) y (append-nil (block w) ∙ sym q))
   where
     go : At [] [] w x (v ++ z) y → Now (one g) u S z
-    go (before [] p r) = absurd (nil≢cons r)
-    go (before (h ∷ c) p r) = absurd (nil≢cons r)
+    go (before c p r) = absurd (nil≢middle c (v ++ z) y r)
     go (here p r l) = k u S v z e (agrees-less (has g) (held g) v S (held-has g) (subst (λ (h : List (List ℕ)). Agrees (has g) (joined h ++ v) S) (sym r) i)) (subst (Walk g) p n)
-    go (after c p r) = absurd (no x c r)
-      where
-        no : (x c : List (List ℕ)) → [] ≡ x ++ (v ++ z) ∷ c → ⊥
-        no [] c r = nil≢cons r
-        no (h ∷ x) c r = nil≢cons r
+    go (after c p r) = absurd (nil≢middle x (v ++ z) c r)
 
 mutual
   pub walk-left : (g : Group) → Good g → Rests g

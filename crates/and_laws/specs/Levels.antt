@@ -1,20 +1,20 @@
 -- The "&" groups around a place, from the inner to the outer ones: a walk through them finds the one that blocks, and its required place.
 use Prim.Native.Nat.{ℕ}
 use mathlib.Core.Path.{_≡_, refl, sym, _∙_, ap}
-use mathlib.Core.Bool.{Bool, true, false, _&&_, _||_, not, cond, false≢true}
+use mathlib.Core.Bool.{Bool, true, false, _&&_, _||_, not, cond, false≢true, or-false, and-false, and-true, and-assoc}
 use mathlib.Core.List.{List, [], _∷_, _++_, append-nil}
-use Rattle.basic_laws.specs.Truth.{or-left, or-right, or-cases, and-left, and-right, and-both, not-true, not-both, bool-cases}
+use Rattle.basic_laws.specs.Truth.{or-left, or-right, or-cases, and-left, and-right, and-both, not-true, not-both, bool-cases, or-none}
 use Rattle.model_sets.specs.Sets.{has, hasM, nullable, first, last, lastM, follow, followM}
 use Rattle.rules.specs.Walk.{Group, place, seq, alt, opt, plus, and, Members, one, also}
 use Rattle.and_laws.specs.Sets.{meets, Good, GoodM}
-use Rattle.and_laws.specs.Rest.{allM, anyM, or-none}
+use Rattle.and_laws.specs.Rest.{allM, anyM}
 use Rattle.and_laws.specs.Decide.{or-only}
 use Rattle.and_laws.specs.Req.{restReq}
-use Rattle.and_laws.specs.Unique.{first-has}
-use Rattle.and_laws.specs.Rows.{last-has, lastM-has, follow-from, followM-from, follow-to, followM-to, fine, full, fullM, unbegun, may, mayM, or-no, and-no, and-yes, gathered}
+use Rattle.and_laws.specs.Forced.{first-has}
+use Rattle.and_laws.specs.Rows.{last-has, lastM-has, follow-from, followM-from, follow-to, followM-to, fine, full, fullM, unbegun, may, mayM}
 use Rattle.and_laws.specs.Lacking.{blocks, blocksM, lone, loneM}
 
--- the "&" groups around u, the innermost first; within "+" there is none
+-- These are the "&" groups around u, the innermost first; within "+" there is none.
 abbrev mutual
   pub around : Group → ℕ → List Members
   around (place n) u = []
@@ -28,17 +28,17 @@ abbrev mutual
   aroundM (one g) u = around g u
   aroundM (also m g) u = cond (has g u) (around g u) (aroundM m u)
 
--- the first of the groups that lacks a member blocks, if u can end the members that hold it, up to that group
+-- The first of the groups that lacks a member blocks, if u can end the members that hold it, up to that group.
 abbrev pub blocksIn : List Members → ℕ → (ℕ → Bool) → Bool
 blocksIn [] u S = false
 blocksIn (m ∷ ms) u S = lastM m u && (not (allM (fine S) m) || blocksIn ms u S)
 
--- the place that is required in the first group that lacks a member
+-- This is the place that is required in the first group that lacks a member.
 abbrev pub loneIn : List Members → (ℕ → Bool) → ℕ
 loneIn [] S = 0
 loneIn (m ∷ ms) S = cond (allM (fine S) m) (loneIn ms S) (restReq m S)
 
--- u can end the members that hold it in all of these groups
+-- The place u can end the members that hold it in all of these groups.
 abbrev pub endsIn : List Members → ℕ → Bool
 endsIn [] u = true
 endsIn (m ∷ ms) u = lastM m u && endsIn ms u
@@ -47,7 +47,7 @@ ends-append : (xs : List Members) (m : Members) (u : ℕ) → endsIn xs u ≡ tr
 ends-append [] m u e f = rw f
 ends-append (x ∷ xs) m u e f = and-both (and-left (lastM x u) _ e) (ends-append xs m u (and-right (lastM x u) _ e) f)
 
--- a place that can end the group can end the members around it
+-- A place that can end the group can end the members around it.
 mutual
   pub last-ends : (g : Group) → Good g → (u : ℕ) → last g u ≡ true → endsIn (around g u) u ≡ true
   last-ends (place n) d u e = refl
@@ -73,9 +73,9 @@ mutual
       (λ j. rw j (last-ends g k u (or-cases (lastM m u) _ (λ x. absurd (a u (lastM-has m u x) j)) (λ y. y) e)))
       (λ j. rw j (lastM-ends m d u (or-cases (lastM m u) _ (λ x. x) (λ y. absurd (not-both j (last-has g u y))) e)))
 
--- one group more, around the others
+-- These laws are of one group more, around the others.
 blocks-append : (xs : List Members) (m : Members) (u : ℕ) (S : ℕ → Bool) → blocksIn (xs ++ m ∷ []) u S ≡ blocksIn xs u S || (endsIn xs u && (lastM m u && not (allM (fine S) m)))
-blocks-append [] m u S = ap (λ (z : Bool). lastM m u && z) (or-no (not (allM (fine S) m)))
+blocks-append [] m u S = ap (λ (z : Bool). lastM m u && z) (or-false (not (allM (fine S) m)))
 blocks-append (x ∷ xs) m u S = ap (λ (z : Bool). lastM x u && (not (allM (fine S) x) || z)) (blocks-append xs m u S) ∙ spread (lastM x u) (not (allM (fine S) x)) (blocksIn xs u S) (endsIn xs u) (lastM m u && not (allM (fine S) m))
   where
     spread : (l f b e z : Bool) → l && (f || (b || (e && z))) ≡ (l && (f || b)) || ((l && e) && z)
@@ -96,13 +96,13 @@ mutual
       ∙ bool-cases
       (lastM m u)
       (λ e. rw (e, blocks-append (aroundM m u) m u S, lastM-ends m d u e, e))
-      (λ e. rw (e, blocks-append (aroundM m u) m u S, e, and-no (endsIn (aroundM m u) u)))
+      (λ e. rw (e, blocks-append (aroundM m u) m u S, e, and-false (endsIn (aroundM m u) u)))
 
   blocksM-in : (m : Members) → GoodM m → (u : ℕ) (S : ℕ → Bool) → hasM m u ≡ true → blocksM m u S ≡ blocksIn (aroundM m u) u S
   blocksM-in (one g) d u S i = blocks-in g d u S i
   blocksM-in (also m g) (d, k, a) u S i = bool-cases (has g u) (λ j. rw j (blocks-in g k u S j)) (λ j. rw j (blocksM-in m d u S (or-only (hasM m u) (has g u) j i)))
 
--- the first group that lacks a member is among those before, or there is none among them
+-- The first group that lacks a member is among those before, or there is none among them.
 lone-before : (xs ys : List Members) (u : ℕ) (S : ℕ → Bool) → blocksIn xs u S ≡ true → loneIn (xs ++ ys) S ≡ loneIn xs S
 lone-before [] ys u S e = absurd (false≢true e)
 lone-before (x ∷ xs) ys u S e = bool-cases (allM (fine S) x) (λ f. rw f (lone-before xs ys u S (and-right (lastM x u) _ (rw f at e)))) (λ f. rw f)
@@ -137,27 +137,27 @@ mutual
   loneM-in (one g) d u S i b = lone-in g d u S i b
   loneM-in (also m g) (d, k, a) u S i b = bool-cases (has g u) (λ j. rw j (lone-in g k u S j (rw j at b))) (λ j. rw j (loneM-in m d u S (or-only (hasM m u) (has g u) j i) (rw j at b)))
 
--- What may come next
+-- The groups around the last place tell what may come next.
 
--- u and p are in one member
+-- The places u and p are in one member.
 abbrev pub together : Members → ℕ → ℕ → Bool
 together m u p = anyM (λ (g : Group). has g u && has g p) m
 
--- p is in the group of u: in the member of u, or in one that has not begun
+-- The place p is in the group of u: in the member of u, or in one that has not begun.
 abbrev pub within : Members → ℕ → (ℕ → Bool) → ℕ → Bool
 within m u S p = together m u p || anyM (unbegun S p) m
 
--- each of the groups, up to the first that has p, lacks no member, and that one has p in the member of u or in one that has not begun
+-- Each of the groups, up to the first that has p, lacks no member, and that one has p in the member of u or in one that has not begun.
 abbrev pub mayIn : List Members → ℕ → (ℕ → Bool) → ℕ → Bool
 mayIn [] u S p = true
 mayIn (m ∷ ms) u S p = cond (hasM m p) (within m u S p) (allM (fine S) m && mayIn ms u S p)
 
--- no group lacks a member
+-- No group lacks a member.
 abbrev pub fullIn : List Members → (ℕ → Bool) → Bool
 fullIn [] S = true
 fullIn (m ∷ ms) S = allM (fine S) m && fullIn ms S
 
--- no group has p
+-- No group has p.
 abbrev Without : List Members → ℕ → Type 0
 Without [] p = p ≡ p
 Without (m ∷ ms) p = (hasM m p ≡ false) × Without ms p
@@ -186,8 +186,8 @@ mutual
       bool-cases (has g u) (λ j. rw j (around-without g u p y)) (λ j. rw j (aroundM-without m u p x))
 
 full-append : (xs : List Members) (m : Members) (S : ℕ → Bool) → fullIn (xs ++ m ∷ []) S ≡ fullIn xs S && allM (fine S) m
-full-append [] m S = and-yes (allM (fine S) m)
-full-append (x ∷ xs) m S = ap (λ (z : Bool). allM (fine S) x && z) (full-append xs m S) ∙ sym (gathered (allM (fine S) x) (fullIn xs S) (allM (fine S) m))
+full-append [] m S = and-true (allM (fine S) m)
+full-append (x ∷ xs) m S = ap (λ (z : Bool). allM (fine S) x && z) (full-append xs m S) ∙ sym (and-assoc (allM (fine S) x) (fullIn xs S) (allM (fine S) m))
 
 mutual
   pub full-in : (g : Group) (u : ℕ) (S : ℕ → Bool) → full g u S ≡ fullIn (around g u) S
@@ -202,17 +202,17 @@ mutual
   fullM-in (one g) u S = full-in g u S
   fullM-in (also m g) u S = bool-cases (has g u) (λ j. rw j (full-in g u S)) (λ j. rw j (fullM-in m u S))
 
--- groups that do not have p must not lack a member
+-- Groups that do not have p must not lack a member.
 may-past : (xs ys : List Members) (u : ℕ) (S : ℕ → Bool) (p : ℕ) → Without xs p → mayIn (xs ++ ys) u S p ≡ fullIn xs S && mayIn ys u S p
 may-past [] ys u S p w = refl
-may-past (x ∷ xs) ys u S p (v, w) = rw v (ap (λ (z : Bool). allM (fine S) x && z) (may-past xs ys u S p w) ∙ sym (gathered (allM (fine S) x) (fullIn xs S) (mayIn ys u S p)))
+may-past (x ∷ xs) ys u S p (v, w) = rw v (ap (λ (z : Bool). allM (fine S) x && z) (may-past xs ys u S p w) ∙ sym (and-assoc (allM (fine S) x) (fullIn xs S) (mayIn ys u S p)))
 
--- a group that has u and p in one member takes nothing away
+-- A group that has u and p in one member takes nothing away.
 may-same : (xs : List Members) (m : Members) (u : ℕ) (S : ℕ → Bool) (p : ℕ) → hasM m p ≡ true → together m u p ≡ true → mayIn (xs ++ m ∷ []) u S p ≡ mayIn xs u S p
 may-same [] m u S p i t = rw (i, t)
 may-same (x ∷ xs) m u S p i t = ap (λ (z : Bool). cond (hasM x p) (within x u S p) (allM (fine S) x && z)) (may-same xs m u S p i t)
 
--- only what the group says of p counts
+-- Only what the group says of p counts.
 may-last : (xs : List Members) (m k : Members) (u : ℕ) (S : ℕ → Bool) (p : ℕ) → hasM m p ≡ true → hasM k p ≡ true → within m u S p ≡ within k u S p → mayIn (xs ++ m ∷ []) u S p ≡ mayIn (xs ++ k ∷ []) u S p
 may-last [] m k u S p i j e = rw (i, j) e
 may-last (x ∷ xs) m k u S p i j e = ap (λ (z : Bool). cond (hasM x p) (within x u S p) (allM (fine S) x && z)) (may-last xs m k u S p i j e)
@@ -222,8 +222,8 @@ apart-u (one g) u p n = rw n
 apart-u (also m g) u p n = let (x, y) = or-none (hasM m u) (has g u) n in rw (y, apart-u m u p x)
 
 apart-p : (m : Members) (u p : ℕ) → hasM m p ≡ false → together m u p ≡ false
-apart-p (one g) u p n = rw (n, and-no (has g u))
-apart-p (also m g) u p n = let (x, y) = or-none (hasM m p) (has g p) n in rw (y, and-no (has g u), apart-p m u p x)
+apart-p (one g) u p n = rw (n, and-false (has g u))
+apart-p (also m g) u p n = let (x, y) = or-none (hasM m p) (has g p) n in rw (y, and-false (has g u), apart-p m u p x)
 
 none-unbegun : (m : Members) (S : ℕ → Bool) (p : ℕ) → hasM m p ≡ false → anyM (unbegun S p) m ≡ false
 none-unbegun (one g) S p n = rw n
@@ -258,7 +258,7 @@ module _ (u : ℕ) (S : ℕ → Bool) (p : ℕ) where
         (or-cases (follow h u p) _ (λ y. absurd (not-both j (follow-from h u p y))) (λ y. absurd (a p x (first-has h p (and-right (last g u) _ y)))))
         f in
         rw (j, x) (may-in g d l e))
-        (λ x. rw (j, x) (full-in g u S ∙ sym (and-yes (fullIn (around g u) S)) ∙ sym (may-past (around g u) [] u S p (around-without g u p x)) ∙ ap (λ (z : List Members). mayIn z u S p) (append-nil (around g u)))))
+        (λ x. rw (j, x) (full-in g u S ∙ sym (and-true (fullIn (around g u) S)) ∙ sym (may-past (around g u) [] u S p (around-without g u p x)) ∙ ap (λ (z : List Members). mayIn z u S p) (append-nil (around g u)))))
     may-in (alt g h) (d, k, a) i f =
         bool-cases
         (has h u)
@@ -290,7 +290,7 @@ module _ (u : ℕ) (S : ℕ → Bool) (p : ℕ) where
         rw (j, x) (may-in g k j e ∙ sym (may-same (around g u) (also m g) u S p (or-right (hasM m p) x) (or-right (together m u p) (and-both j x)))))
         (λ x.
         let o = or-only (hasM m p) (has g p) x (followM-to (also m g) u p f) in
-        rw (j, x) (ap (λ (z : Bool). z && anyM (unbegun S p) m) (full-in g u S) ∙ ap (λ (z : Bool). fullIn (around g u) S && z) (sym (tail m g o x (apart-u m u p n) (and-no (has g u)))) ∙ sym (may-past (around g u) (also m g ∷ []) u S p (around-without g u p x)))))
+        rw (j, x) (ap (λ (z : Bool). z && anyM (unbegun S p) m) (full-in g u S) ∙ ap (λ (z : Bool). fullIn (around g u) S && z) (sym (tail m g o x (apart-u m u p n) (and-false (has g u)))) ∙ sym (may-past (around g u) (also m g ∷ []) u S p (around-without g u p x)))))
         (λ j.
         let l = or-only (hasM m u) (has g u) j i in
         bool-cases
@@ -306,10 +306,10 @@ module _ (u : ℕ) (S : ℕ → Bool) (p : ℕ) where
         (or-cases (followM m u p) _ (λ y. y) (λ y. absurd (not-both j (follow-from g u p y))))
         (or-cases (lastM m u && first g p) _ (λ y. absurd (not-both x (first-has g p (and-right (lastM m u) _ y)))) (λ y. absurd (not-both j (last-has g u (and-left (last g u) _ y)))))
         f in
-        rw (j, x) (mayM-in m d l e ∙ may-last (aroundM m u) m (also m g) u S p o (or-left _ o) (rw (x, and-no (has g u), or-no (together m u p), or-no (anyM (unbegun S p) m))))))
+        rw (j, x) (mayM-in m d l e ∙ may-last (aroundM m u) m (also m g) u S p o (or-left _ o) (rw (x, and-false (has g u), or-false (together m u p), or-false (anyM (unbegun S p) m))))))
       where
         tail : (m : Members) (g : Group) → hasM m p ≡ true → has g p ≡ false → together m u p ≡ false → has g u && false ≡ false → mayIn (also m g ∷ []) u S p ≡ anyM (unbegun S p) m
-        tail m g o x t z = rw (o, x, t, z, or-no (anyM (unbegun S p) m))
+        tail m g o x t z = rw (o, x, t, z, or-false (anyM (unbegun S p) m))
 
         end : (m : Members) (g : Group) → has g p ≡ true → hasM m p ≡ false → has g u ≡ false → mayIn (also m g ∷ []) u S p ≡ not (meets g S)
         end m g x c j = rw (c, x, j, apart-p m u p c, none-unbegun m S p c)

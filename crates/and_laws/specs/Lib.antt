@@ -16,7 +16,7 @@ pub mod Rest
 pub mod Decide
 pub mod Required
 pub mod Meant
-pub mod Unique
+pub mod Forced
 pub mod Req
 pub mod Number
 pub mod Rows

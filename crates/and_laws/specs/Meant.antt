@@ -1,18 +1,18 @@
 -- What the folds call required is what the rules call required.
 use Prim.Native.Nat.{ℕ}
-use mathlib.Core.Path.{_≡_, refl, sym}
-use mathlib.Core.Bool.{true, false}
-use mathlib.Core.Logic.{_⊎_, inl, inr, _↔_}
+use mathlib.Core.Path.{_≡_}
+use mathlib.Core.Bool.{true}
+use mathlib.Core.Logic.{inl, inr, _↔_}
 use mathlib.Core.List.{List, List·Memᴰ}
 use borrow.Author.Tests.{eqb-true, eq-eqb}
 use Rattle.basic_laws.specs.Truth.{or-left, or-right, or-cases, not-true, not-both}
 use Rattle.model_sets.specs.Sets.{has, hasM}
-use Rattle.rules.specs.Walk.{Group, place, seq, alt, opt, plus, and, Members, one, also, MayComeNext, HasPlace, SomeHasPlace, IsMember, IsOther, IsOtherOf, MayBegin, Required}
+use Rattle.rules.specs.Walk.{Group, place, seq, alt, opt, plus, and, Members, one, also, HasPlace, SomeHasPlace, IsOther, IsOtherOf, Required}
 use Rattle.and_laws.specs.Base.{mem}
 use Rattle.and_laws.specs.Sets.{meets, meets-common, common-meets}
 use Rattle.and_laws.specs.Required.{Other, OtherM, Unbegun, RequiredBy, mem-memᴰ, memᴰ-mem}
 
--- The places of a group.
+-- These laws are of the places of a group.
 mutual
   pub has-place : (g : Group) (p : ℕ) → has g p ≡ true → HasPlace g p
   has-place (place n) p e = eqb-true n p e
@@ -42,7 +42,7 @@ mutual
   some-has (also m g) p (inl x) = or-left _ (some-has m p x)
   some-has (also m g) p (inr y) = or-right (hasM m p) (place-has g p y)
 
--- The other members around a place.
+-- These laws are of the other members around a place.
 mutual
   pub other-is : (g : Group) (p : ℕ) (h : Group) → Other g p h → IsOther g p h
   other-is (place n) p h o = o

@@ -1,29 +1,24 @@
 -- The required place is the fold's number; how the set of places taken grows; without "&" the set does not count.
 use Prim.Native.Nat.{ℕ}
-use mathlib.Core.Path.{_≡_, refl, sym, _∙_, ap, subst}
-use mathlib.Core.Bool.{Bool, true, false, _&&_, _||_, false≢true}
-use mathlib.Core.Logic.{_⊎_, inl, inr, _↔_}
-use mathlib.Core.List.{List, [], _∷_, _++_}
-use lib.Dec.{eqb}
-use borrow.Author.Tests.{eqb-true, eq-eqb}
-use Rattle.basic_laws.specs.Truth.{or-left, or-right, or-cases, and-left, and-right, and-both}
+use mathlib.Core.Path.{_≡_, sym, _∙_}
+use mathlib.Core.Bool.{Bool}
+use mathlib.Core.Logic.{_↔_}
+use mathlib.Core.List.{List, []}
+use Rattle.basic_laws.specs.Truth.{and-left, and-right, and-both}
 use Rattle.model_sets.specs.Sets.{has, first, must}
-use Rattle.rules.specs.Walk.{Group, Walk, Begins, MayComeNext}
-use Rattle.and_laws.specs.Base.{mem, mem-left, mem-right, mem-cases, Ends, ends-mem}
-use Rattle.and_laws.specs.Sets.{held, meets, Plain, Good, plain-held, walk-in}
+use Rattle.rules.specs.Walk.{Group, Begins}
+use Rattle.and_laws.specs.Base.{Ends}
+use Rattle.and_laws.specs.Sets.{held, Good, ends-has}
 use Rattle.and_laws.specs.Left.{Agrees}
-use Rattle.and_laws.specs.Decide.{passes, fit, passesAfter, next-fold, next-start}
-use Rattle.and_laws.specs.Required.{Other, RequiredBy, same-begun, forced-fold, forced-start, none-begun}
-use Rattle.and_laws.specs.Unique.{first-has, State, After}
+use Rattle.and_laws.specs.Decide.{fit, next-fold, next-start}
+use Rattle.and_laws.specs.Required.{RequiredBy, same-begun, forced-fold, forced-start, none-begun}
+use Rattle.and_laws.specs.Forced.{first-has, State}
 use Rattle.and_laws.specs.Req.{reqAfter, sound0, complete0, sound, complete, some-first, first-other}
 
 -- The set of places taken: nothing at the start, one place more at each step; without "&" any set will do.
 
 -- The required place, for p that is not 0.
 module _ (g : Group) (good : Good g) (u : ℕ) (S : ℕ → Bool) (s : List ℕ) (e : Ends s u) (agree : Agrees (held g) s S) (begun : Begins g s) (p : ℕ) (pos : p ≡ 0 → ⊥) where
-  in-g : has g u ≡ true
-  in-g = walk-in g (s ++ begun .0) (begun .1) u (mem-left s (begun .0) u (ends-mem s u e))
-
   state : State g u S
   state = (s, begun .0, e, agree, begun .1)
 
@@ -32,13 +27,13 @@ module _ (g : Group) (good : Good g) (u : ℕ) (S : ℕ → Bool) (s : List ℕ)
     where
       there : reqAfter g u S ≡ p → RequiredBy g s p
       there f =
-          let (x, c) = sound p pos S g good u in-g f in
+          let (x, c) = sound p pos S g good u (ends-has g s u e begun) f in
           (forced-fold g good u S s e agree begun p .0 (and-both (x .0) (x .1)), λ h o n q i y. c h o (same-begun g good u S s e agree begun p h o ∙ n) q i (next-fold g good u S s e agree begun q .1 y))
 
       back : RequiredBy g s p → reqAfter g u S ≡ p
       back (f, k) =
           let x = forced-fold g good u S s e agree begun p .1 f in
-          complete p pos S g good u in-g state (and-left (fit g u S p) _ x, and-right (fit g u S p) _ x) (λ h o n q i y. (k h o (sym (same-begun g good u S s e agree begun p h o) ∙ n) q i (next-fold g good u S s e agree begun q .0 y)))
+          complete p pos S g good u (ends-has g s u e begun) state (and-left (fit g u S p) _ x, and-right (fit g u S p) _ x) (λ h o n q i y. (k h o (sym (same-begun g good u S s e agree begun p h o) ∙ n) q i (next-fold g good u S s e agree begun q .0 y)))
 
 module _ (g : Group) (good : Good g) (p : ℕ) (pos : p ≡ 0 → ⊥) where
   pub number-required-start : (must g ≡ p) ↔ RequiredBy g [] p

@@ -1,14 +1,13 @@
 -- Places numbered from left to right differ; with no "&" under "+" a numbered group is `Good`.
 use Prim.Native.Nat.{ℕ, _+_, _≤_, _<_}
 use mathlib.Core.Path.{_≡_, refl}
-use mathlib.Core.Bool.{Bool, true, false, _||_}
+use mathlib.Core.Bool.{true}
 use native.Mathlib.Omega.{arith}
 use borrow.Author.Tests.{eqb-true}
 use Rattle.basic_laws.specs.Truth.{or-cases}
 use Rattle.model_sets.specs.Sets.{has, hasM, size, sizeM, Numbered, NumberedM}
 use Rattle.rules.specs.Walk.{Group, place, seq, alt, opt, plus, and, Members, one, also}
 pub use Rattle.rules.specs.Walk.{Guarded, GuardedM}
-use Rattle.and_laws.specs.Base.{Apart}
 use Rattle.and_laws.specs.Sets.{Plain, Good, GoodM}
 
 mutual

@@ -1,17 +1,16 @@
 -- The places of a walk that belong to one part: of a walk through "&" they are a walk of that part. Views of what a last place does.
 use Prim.Native.Nat.{ℕ}
 use mathlib.Core.Path.{_≡_, refl, sym, _∙_, ap, subst}
-use mathlib.Core.Bool.{Bool, true, false, _&&_, _||_, false≢true, cond}
+use mathlib.Core.Bool.{Bool, true, false, false≢true, cond}
 use mathlib.Core.Logic.{_⊎_, inl, inr}
-use mathlib.Core.List.{List, [], _∷_, _++_, append-assoc, append-nil, nil≢cons, cons≢nil, head-eq-of-cons-eq, tail-eq-of-cons-eq}
-use Rattle.basic_laws.specs.Truth.{or-left, or-right, not-true}
+use mathlib.Core.List.{List, [], _∷_, _++_, append-assoc, append-nil, tail-eq-of-cons-eq}
+use Rattle.basic_laws.specs.Truth.{not-true}
 use Rattle.model_sets.specs.Sets.{has, hasM}
-use Rattle.rules.specs.Walk.{Group, place, seq, alt, opt, plus, and, Members, one, also, Runs, once, more, joined, Walk, Begins}
-use Rattle.and_laws.specs.Base.{mem, mem-left, mem-right, mem-cases, mem-head, In, Apart, in-append, Ends, ends-snoc, ends-append, ends-split, ends-mem, ends-some, Cuts, cuts, joined-append, Inside, inside}
+use Rattle.rules.specs.Walk.{Group, seq, plus, and, Members, also, Runs, once, more, joined, Walk, Begins}
+use Rattle.and_laws.specs.Base.{mem, mem-left, mem-right, mem-head, In, Apart, in-append, Ends, ends-snoc, ends-split, ends-some, Cuts, cuts, joined-append, Inside, inside}
 use Rattle.and_laws.specs.Sets.{walk-in}
 use Rattle.and_laws.specs.Blocks.{block, Arr, joined-block, walk-arr, arr-walk, arr-in, At, before, here, after, at-block}
 use Rattle.and_laws.specs.Later.{nil-parts}
-use Rattle.and_laws.specs.Left.{ends-in}
 
 abbrev pub only : (ℕ → Bool) → List ℕ → List ℕ
 only f [] = []
@@ -33,11 +32,11 @@ only-out : (f k : ℕ → Bool) → Apart f k → (w : List ℕ) → In k w → 
 only-out f k d [] i = refl
 only-out f k d (p ∷ w) i = rw (not-true (f p) (λ e. d p e (i p (mem-head p w))), only-out f k d w (λ q j. i q (mem-right (p ∷ []) w q j)))
 
--- a place of both is none
+-- A list whose places pass both tests is empty.
 pub in-both : (f k : ℕ → Bool) → Apart f k → (w : List ℕ) → In f w → In k w → w ≡ []
 in-both f k d w i j = sym (only-in f w i) ∙ only-out f k d w j
 
--- a part of k within parts of f
+-- These laws are of a part of k within parts of f.
 module _ (f k : ℕ → Bool) (d : Apart f k) (a w c : List ℕ) (i : In f a) (j : In k w) (l : In f c) where
   pub only-mid : only k (a ++ (w ++ c)) ≡ w
   only-mid = rw (only-append k a (w ++ c), only-append k w c, only-out k f (λ p x y. d p y x) a i, only-in k w j, only-out k f (λ p x y. d p y x) c l) (append-nil w)
@@ -67,7 +66,7 @@ arr-in-first m x y o = in-first (hasM m) (joined x) (joined y) (subst (In (hasM 
 pub arr-in-second : (m : Members) (x y : List (List ℕ)) → Arr Walk m (x ++ y) → In (hasM m) (joined y)
 arr-in-second m x y o = in-second (hasM m) (joined x) (joined y) (subst (In (hasM m)) (joined-append x y) (arr-in m (x ++ y) o))
 
--- Last places.
+-- These laws are of last places.
 
 pub ends-unique : (s : List ℕ) (u v : ℕ) → Ends s u → Ends s v → u ≡ v
 ends-unique [] u v i j = absurd i
@@ -111,7 +110,7 @@ seq-next g h s p (t, (a, b, q, x, y)) = go (cuts (s ++ p ∷ []) t a b q)
     go (inl (c, i, j)) = last c i j (ends-split a c p (rw i at (ends-snoc s p)))
     go (inr (c, i, j)) = in-g (c, subst (Walk g) i x)
 
--- after some whole walks, in the next one
+-- The place stands after some whole walks, in the next one.
 pub data PlusNext (g : Group) (s : List ℕ) (p : ℕ) : Type 0 where
   in-run : (r c : List ℕ) → s ≡ r ++ c → (r ≡ []) ⊎ Runs (Walk g) r → Begins g (c ++ p ∷ []) → PlusNext g s p
 
@@ -131,7 +130,7 @@ plus-next g p (more a b q x r) s t e = go (λ d i. plus-next g p r d t i) (cuts 
     go f (inl (c, i, j)) = last f c i j (ends-split a c p (rw i at (ends-snoc s p)))
     go f (inr (c, i, j)) = in-run [] s refl (inl refl) (c, subst (Walk g) i x)
 
--- the last of some whole walks that is not empty
+-- The last place of some whole walks is the last of one that is not empty.
 pub runs-last : (g : Group) (u : ℕ) → {w : List ℕ} → Runs (Walk g) w → Ends w u → (a : List ℕ) × Walk g a × Ends a u
 runs-last g u (once {w} x) e = (w, x, e)
 runs-last g u (more a b q x r) e = go (λ i. runs-last g u r i) (ends-split a b u (rw q at e))
@@ -174,7 +173,7 @@ walk-parts m g d w x = go (walk-arr (also m g) w x)
           subst (Walk g) (sym (only-mid (hasM m) (has g) d (joined a) v (joined b) (arr-in-first m a b o) (walk-in g v n) (arr-in-second m a b o)) ∙ rw z) n,
         )
 
--- what the views say of the parts
+-- This is what the views say of the parts.
 module _ (m : Members) (g : Group) (d : Apart (hasM m) (has g)) (s : List ℕ) (p : ℕ) where
   pub own-only : (x y : List (List ℕ)) (v : List ℕ) → s ≡ joined x ++ v → Arr Walk m (x ++ y) → Begins g (v ++ p ∷ []) → only (has g) s ≡ v
   own-only x y v e o b = rw e (only-end (hasM m) (has g) d (joined x) v (arr-in-first m x y o) (begins-in g v (p ∷ []) b))

@@ -1,35 +1,31 @@
 -- Ambiguity without listing orders: `clash g p q` is true exactly if some sequence has both p and q as next (`pair-exact`).
 use Prim.Native.Nat.{ℕ, _<_}
 use mathlib.Core.Path.{_≡_, refl, sym, _∙_, ap, subst}
-use mathlib.Core.Bool.{Bool, true, false, _&&_, _||_, false≢true}
+use mathlib.Core.Bool.{Bool, true, _&&_, _||_}
 use mathlib.Core.Logic.{_⊎_, inl, inr, _↔_}
-use mathlib.Core.List.{List, [], _∷_, _++_, append-assoc, append-nil, nil≢cons, cons≢nil, head-eq-of-cons-eq, tail-eq-of-cons-eq}
+use mathlib.Core.List.{List, [], _∷_, _++_, append-nil, cons≢nil, head-eq-of-cons-eq, tail-eq-of-cons-eq}
 use lib.Dec.{eqb}
-use borrow.Author.Tests.{eqb-true, eq-eqb}
-use Rattle.basic_laws.specs.Truth.{or-left, or-right, or-cases, and-left, and-right, and-both}
-use Rattle.model_sets.specs.Sets.{has, hasM, nullable, first, firstM}
-use Rattle.rules.specs.Walk.{Group, place, seq, alt, opt, plus, and, Members, one, also, Runs, once, more, joined, Walk, Begins, MayComeNext}
+use borrow.Author.Tests.{eq-eqb}
+use Rattle.basic_laws.specs.Truth.{or-left, or-right, and-both}
+use Rattle.model_sets.specs.Sets.{has, hasM, first, firstM}
+use Rattle.rules.specs.Walk.{Group, place, seq, alt, opt, plus, and, Members, one, also, Runs, more, joined, Walk, Begins}
 use Rattle.rules.specs.Ambiguity.{PairAtFault}
-use Rattle.and_laws.specs.Base.{mem, In, Apart, Ends, ends-append, ends-mem, ends-some}
+use Rattle.and_laws.specs.Base.{mem, In, Apart, Ends, ends-append, ends-mem, mem-right, nil≢middle}
 use Rattle.and_laws.specs.Sets.{Plain, Good, GoodM, walk-in}
 use Rattle.and_laws.specs.Blocks.{Arr}
 use Rattle.and_laws.specs.Later.{nil-parts}
-use Rattle.and_laws.specs.Fold.{ends, endsM, cross, clash, clashM, GoesOn, Both, both-swap, walk-one, begins-less, clash-both}
+use Rattle.and_laws.specs.Fold.{ends, endsM, cross, clash, clashM, GoesOn, Both, walk-one, begins-less, clash-both}
 use Rattle.and_laws.specs.Only.{only, in-both, only-end, begins-in, ends-unique, ends-of, runs-last, SeqNext, in-g, in-h, seq-next, PlusNext, in-run, plus-next, MoreNext, own, other, more-next, own-only, own-rest, other-tail, other-only, other-begins}
-use Rattle.and_laws.specs.Exact.{walk-first, arr-first, begins-first, on-ends, plain-next, plus-goes, edge}
+use Rattle.and_laws.specs.Exact.{arr-first, begins-first, on-ends, plain-next, plus-goes, edge}
 
 seq-clash : (g h : Group) → Good g → Apart (has g) (has h) → (p q : ℕ) → (Both g p q → clash g p q ≡ true) → (Both h p q → clash h p q ≡ true) → Both (seq g h) p q → clash (seq g h) p q ≡ true
 seq-clash g h i d p q f k (s, x, y) = go (seq-next g h s p x) (seq-next g h s q y)
   where
-    -- a place of g and one of h: g is walked
+    -- Where a place of g and one of h can both come next, g is walked.
     over : (p q : ℕ) → Begins g (s ++ p ∷ []) → (a c : List ℕ) → s ≡ a ++ c → Walk g a → Begins h (c ++ q ∷ []) → ends g p && first h q ≡ true
     over p q v a c e w b =
-        let n : c ≡ [] = in-both (has g) (has h) d c (λ r j. begins-in g s (p ∷ []) v r (subst (λ (l : List ℕ). mem l r ≡ true) (sym e) (second a c r j))) (begins-in h c (q ∷ []) b) in
+        let n : c ≡ [] = in-both (has g) (has h) d c (λ r j. begins-in g s (p ∷ []) v r (subst (λ (l : List ℕ). mem l r ≡ true) (sym e) (mem-right a c r j))) (begins-in h c (q ∷ []) b) in
         and-both (on-ends g i p (s, subst (Walk g) (sym (e ∙ ap (_++_ a) n ∙ append-nil a)) w, v)) (begins-first h q (subst (λ (l : List ℕ). Begins h (l ++ q ∷ [])) n b))
-      where
-        second : (a c : List ℕ) (r : ℕ) → mem c r ≡ true → mem (a ++ c) r ≡ true
-        second [] c r j = j
-        second (n ∷ a) c r j = or-right (eqb n r) (second a c r j)
 
     go : SeqNext g h s p → SeqNext g h s q → clash (seq g h) p q ≡ true
     go (in-g v) (in-g w) = or-left _ (or-left _ (f (s, v, w)))
@@ -58,13 +54,9 @@ opt-begins g (q ∷ s) p (t, inr w) = (t, w)
 plus-clash : (g : Group) → Good g → Plain g → (p q : ℕ) → (Both g p q → clash g p q ≡ true) → Both (plus g) p q → clash (plus g) p q ≡ true
 plus-clash g d n p q f (s, (a, x), (b, y)) = go (plus-next g p x s a refl) (plus-next g q y s b refl)
   where
-    -- s is whole walks, q begins one; and p goes on in the last
+    -- The sequence s is whole walks, q begins one, and p goes on in the last.
     whole : (p q : ℕ) (r c k : List ℕ) (l : ℕ) → s ≡ r ++ [] → (r ≡ []) ⊎ Runs (Walk g) r → first g q ≡ true → s ≡ k ++ l ∷ c → Begins g ((l ∷ c) ++ p ∷ []) → ends g p && first g q ≡ true
-    whole p q r c k l e (inl z) i j b = absurd (some k (sym j ∙ e ∙ ap (λ (o : List ℕ). o ++ []) z))
-      where
-        some : (k : List ℕ) → k ++ l ∷ c ≡ [] → ⊥
-        some [] o = cons≢nil o
-        some (h ∷ k) o = cons≢nil o
+    whole p q r c k l e (inl z) i j b = absurd (nil≢middle k l c (sym (sym j ∙ e ∙ ap (λ (o : List ℕ). o ++ []) z)))
     whole p q r c k l e (inr z) i j b = pick (plus-goes g d n s k (l ∷ c) p j (subst (Runs (Walk g)) (sym (e ∙ append-nil r)) z) b)
       where
         pick : (first g p ≡ true) ⊎ GoesOn g p → ends g p && first g q ≡ true
@@ -87,7 +79,7 @@ plus-clash g d n p q f (s, (a, x), (b, y)) = go (plus-next g p x s a refl) (plus
             let z : v ≡ u = ends-unique s v u (subst (λ (o : List ℕ). Ends o v) (sym e2) (ends-append r2 (l2 ∷ c2) v j)) (subst (λ (o : List ℕ). Ends o u) (sym e) (ends-append r (l ∷ c) u i)) in
             or-left _ (f (l ∷ c, b, plain-next g d n u q (l ∷ c) (l2 ∷ c2) i (subst (Ends (l2 ∷ c2)) z j) (begins-less g (l ∷ c) (p ∷ []) b) b2))
 
--- p in a member before, q in the last
+-- The place p is in a member before, and q is in the last.
 more-cross : (m : Members) (g : Group) → GoodM m → Good g → Apart (hasM m) (has g) → (p q : ℕ) (s : List ℕ) → (x y : List (List ℕ)) (v : List ℕ) → s ≡ joined x ++ v → Arr Walk m (x ++ y) → Begins g (v ++ q ∷ []) → (a c : List (List ℕ)) (w v2 z : List ℕ) (y2 : List (List ℕ)) → s ≡ joined a ++ (w ++ (joined c ++ v2)) → (w ≡ []) ⊎ Walk g w → Arr Walk m ((a ++ c) ++ (v2 ++ p ∷ z) ∷ y2) → cross (firstM m p) (endsM m p) (first g q) (ends g q) ≡ true
 more-cross m g i j d p q s x y [] e o b a c w v2 z y2 e2 t o2 =
     or-left _ (and-both (edge m i p x y o (subst (λ (l : List ℕ). Begins (and m) (l ++ p ∷ [])) (own-rest m g d s q x y [] e o b) (other-begins m g d s p a c w v2 z y2 e2 t o2))) (begins-first g q b))
@@ -142,7 +134,7 @@ mutual
   bothM-clash (one g) d p q (s, (a, x), (b, y)) = both-clash g d p q (s, (a, walk-one g ((s ++ p ∷ []) ++ a) x), (b, walk-one g ((s ++ q ∷ []) ++ b) y))
   bothM-clash (also m g) (d, k, a) p q x = more-clash m g d k a p q (λ x. bothM-clash m d p q x) (λ x. both-clash g k p q x) x
 
--- Exact, with no order listed.
+-- The fold is exact, with no order listed.
 pub pair-exact : (g : Group) → Good g → (p q : ℕ) → (clash g p q ≡ true) ↔ Both g p q
 pair-exact g d p q = (clash-both g p q, both-clash g d p q)
 

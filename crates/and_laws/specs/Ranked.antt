@@ -7,9 +7,9 @@ use native.Mathlib.Omega.{arith}
 use Rattle.basic_laws.specs.Truth.{bool-cases}
 use Rattle.model_sets.specs.Sets.{has}
 use Rattle.rules.specs.Walk.{Group, place, seq, alt, opt, plus, and, Members, one, also}
-use Rattle.and_laws.specs.Levels.{around, aroundM, within}
+use Rattle.and_laws.specs.Levels.{around, aroundM}
 
--- how many "&" groups there are; within "+" there is none
+-- This is how many "&" groups there are; within "+" there is none.
 abbrev mutual
   pub count : Group → ℕ
   count (place n) = 0
@@ -23,12 +23,12 @@ abbrev mutual
   countM (one g) = count g
   countM (also m g) = countM m + count g
 
--- a group and its number
+-- A group goes with its number.
 pub record Level : Type 0 where
   pub number : ℕ
   pub members : Members
 
--- the groups around u with their numbers, where b groups come before; an inner one comes before those around it
+-- These are the groups around u with their numbers, where b groups come before; an inner one comes before those around it.
 abbrev mutual
   pub levels : Group → ℕ → ℕ → List Level
   levels (place n) b u = []
@@ -64,7 +64,7 @@ mutual
   levelsM-around (one g) b u = levels-around g b u
   levelsM-around (also m g) b u = bool-cases (has g u) (λ j. rw j (levels-around g (b + countM m) u)) (λ j. rw j (levelsM-around m b u))
 
--- every number is above a and at most c, and they rise
+-- Every number is above a and at most c, and they rise.
 abbrev pub Rising : ℕ → ℕ → List Level → Type 0
 Rising a c [] = a ≤ c
 Rising a c (l ∷ ls) = (a < l .number) × Rising (l .number) c ls
@@ -72,10 +72,6 @@ Rising a c (l ∷ ls) = (a < l .number) × Rising (l .number) c ls
 rising-wide : (a d c e : ℕ) (ls : List Level) → a ≤ d → c ≤ e → Rising d c ls → Rising a e ls
 rising-wide a d c e [] x y r = omega arith
 rising-wide a d c e (l ∷ ls) x y (i, r) = (omega arith, rising-wide (l .number) (l .number) c e ls (omega arith) y r)
-
-rising-top : (a c : ℕ) (ls : List Level) → Rising a c ls → a ≤ c
-rising-top a c [] r = r
-rising-top a c (l ∷ ls) (i, r) = omega (arith, rising-top (l .number) c ls r)
 
 rising-append : (a c n : ℕ) (m : Members) (ls : List Level) → c < n → Rising a c ls → Rising a n (ls ++ record { number = n; members = m } ∷ [])
 rising-append a c n m [] x r = (omega arith, omega arith)

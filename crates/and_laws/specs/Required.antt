@@ -1,6 +1,6 @@
 -- RequiredBy, with the clause of request twelve, as a fold, exact over walks.
 use Prim.Native.Nat.{ℕ}
-use mathlib.Core.Path.{_≡_, refl, sym, _∙_, ap, subst}
+use mathlib.Core.Path.{_≡_, refl, sym, _∙_, subst}
 use mathlib.Core.Bool.{Bool, true, false, _&&_, _||_, not, false≢true}
 use mathlib.Core.Logic.{_⊎_, inl, inr, _↔_}
 use mathlib.Core.List.{List, [], _∷_, _++_, List·Memᴰ, List·Memᴰ·head, List·Memᴰ·tail, List·Memᴰ·cases-cons, List·Memᴰ·not-nil}
@@ -10,7 +10,7 @@ use Rattle.basic_laws.specs.Truth.{or-left, or-right, or-cases, and-left, and-r
 use Rattle.model_sets.specs.Sets.{has, hasM, first}
 use Rattle.rules.specs.Walk.{Group, place, seq, alt, opt, plus, and, Members, one, also, Walk, Begins, MayComeNext, IsMember}
 use Rattle.and_laws.specs.Base.{mem, Ends}
-use Rattle.and_laws.specs.Sets.{held, meets, Good, Common, meets-common, common-meets, held-has}
+use Rattle.and_laws.specs.Sets.{held, meets, Good, meets-common, common-meets, held-has}
 use Rattle.and_laws.specs.Left.{Agrees}
 use Rattle.and_laws.specs.Rest.{anyM}
 use Rattle.and_laws.specs.Decide.{passes, fit, passesAfter, next-fold, must-fold, next-start, must-start}
@@ -19,7 +19,7 @@ use Rattle.and_laws.specs.Decide.{passes, fit, passesAfter, next-fold, m
 abbrev pub Forced : Group → List ℕ → ℕ → Type 0
 Forced g s p = MayComeNext g s p × ((t : List ℕ) → Walk g (s ++ t) → List·Memᴰ p t)
 
--- h is another member of an "&" group in which a member has p
+-- The group h is another member of an "&" group in which a member has p.
 abbrev mutual
   pub Other : Group → ℕ → Group → Type 0
   Other (place n) p h = ⊥
@@ -33,7 +33,7 @@ abbrev mutual
   OtherM (one g) p h = Other g p h
   OtherM (also m g) p h = (OtherM m p h ⊎ Other g p h) ⊎ (((has g p ≡ true) × IsMember m h) ⊎ ((hasM m p ≡ true) × (h ≡ g)))
 
--- the member has not begun: no place of it is taken
+-- The member has not begun: no place of it is taken.
 abbrev pub Unbegun : Group → List ℕ → Type 0
 Unbegun h s = meets h (mem s) ≡ false
 
@@ -41,7 +41,7 @@ Unbegun h s = meets h (mem s) ≡ false
 abbrev pub RequiredBy : Group → List ℕ → ℕ → Type 0
 RequiredBy g s p = Forced g s p × ((h : Group) → Other g p h → Unbegun h s → (q : ℕ) → has h q ≡ true → MayComeNext g s q → ⊥)
 
--- some other member passes the test
+-- Some other member passes the test.
 abbrev mutual
   pub hinders : (Group → Bool) → Group → ℕ → Bool
   hinders t (place n) p = false
@@ -55,65 +55,12 @@ abbrev mutual
   hindersM t (one g) p = hinders t g p
   hindersM t (also m g) p = (hindersM t m p || hinders t g p) || ((has g p && anyM t m) || (hasM m p && t g))
 
-member-any : (t : Group → Bool) (m : Members) (h : Group) → IsMember m h → t h ≡ true → anyM t m ≡ true
-member-any t (one g) h i e = subst (λ (k : Group). t k ≡ true) i e
-member-any t (also m g) h (inl i) e = or-left _ (member-any t m h i e)
-member-any t (also m g) h (inr i) e = or-right (anyM t m) (subst (λ (k : Group). t k ≡ true) i e)
-
 pub any-member : (t : Group → Bool) (m : Members) → anyM t m ≡ true → (h : Group) × IsMember m h × (t h ≡ true)
 any-member t (one g) e = (g, refl, e)
 any-member t (also m g) e = or-cases (anyM t m) _ (λ i. let (h, x, y) = any-member t m i in (h, inl x, y)) (λ i. (g, inr refl, i)) e
 
-module _ (t : Group → Bool) (p : ℕ) where
-  mutual
-    pub other-hinders : (g : Group) (h : Group) → Other g p h → t h ≡ true → hinders t g p ≡ true
-    other-hinders (place n) h o e = absurd o
-    other-hinders (seq g k) h (inl o) e = or-left _ (other-hinders g h o e)
-    other-hinders (seq g k) h (inr o) e = or-right (hinders t g p) (other-hinders k h o e)
-    other-hinders (alt g k) h (inl o) e = or-left _ (other-hinders g h o e)
-    other-hinders (alt g k) h (inr o) e = or-right (hinders t g p) (other-hinders k h o e)
-    other-hinders (opt g) h o e = other-hinders g h o e
-    other-hinders (plus g) h o e = other-hinders g h o e
-    other-hinders (and m) h o e = otherM-hinders m h o e
-
-    otherM-hinders : (m : Members) (h : Group) → OtherM m p h → t h ≡ true → hindersM t m p ≡ true
-    otherM-hinders (one g) h o e = other-hinders g h o e
-    otherM-hinders (also m g) h (inl (inl o)) e = or-left _ (or-left _ (otherM-hinders m h o e))
-    otherM-hinders (also m g) h (inl (inr o)) e = or-left _ (or-right (hindersM t m p) (other-hinders g h o e))
-    otherM-hinders (also m g) h (inr (inl (i, o))) e = or-right (hindersM t m p || hinders t g p) (or-left _ (and-both i (member-any t m h o e)))
-    otherM-hinders (also m g) h (inr (inr (i, o))) e = or-right (hindersM t m p || hinders t g p) (or-right (has g p && anyM t m) (and-both i (subst (λ (k : Group). t k ≡ true) o e)))
-
-  abbrev Hindered : Group → Type 0
-  Hindered g = (h : Group) × Other g p h × (t h ≡ true)
-
-  abbrev HinderedM : Members → Type 0
-  HinderedM m = (h : Group) × OtherM m p h × (t h ≡ true)
-
-  mutual
-    pub hinders-other : (g : Group) → hinders t g p ≡ true → Hindered g
-    hinders-other (place n) e = absurd (false≢true e)
-    hinders-other (seq g k) e = or-cases (hinders t g p) _ (λ i. let (h, x, y) = hinders-other g i in (h, inl x, y)) (λ i. let (h, x, y) = hinders-other k i in (h, inr x, y)) e
-    hinders-other (alt g k) e = or-cases (hinders t g p) _ (λ i. let (h, x, y) = hinders-other g i in (h, inl x, y)) (λ i. let (h, x, y) = hinders-other k i in (h, inr x, y)) e
-    hinders-other (opt g) e = hinders-other g e
-    hinders-other (plus g) e = hinders-other g e
-    hinders-other (and m) e = hindersM-other m e
-
-    hindersM-other : (m : Members) → hindersM t m p ≡ true → HinderedM m
-    hindersM-other (one g) e = hinders-other g e
-    hindersM-other (also m g) e =
-        or-cases
-        (hindersM t m p || hinders t g p)
-        _
-        (or-cases (hindersM t m p) _ (λ i. let (h, x, y) = hindersM-other m i in (h, inl (inl x), y)) (λ i. let (h, x, y) = hinders-other g i in (h, inl (inr x), y)))
-        (or-cases
-        (has g p && anyM t m)
-        _
-        (λ i. let (h, x, y) = any-member t m (and-right (has g p) _ i) in (h, inr (inl (and-left (has g p) _ i, x)), y))
-        (λ i. (g, inr (inr (and-left (hasM m p) _ i, refl)), and-right (hasM m p) _ i)))
-        e
-
--- another member stands in an "&" group
-member-has : (m : Members) (h : Group) (q : ℕ) → IsMember m h → has h q ≡ true → hasM m q ≡ true
+-- A place of a member is one of the members'.
+pub member-has : (m : Members) (h : Group) (q : ℕ) → IsMember m h → has h q ≡ true → hasM m q ≡ true
 member-has (one g) h q i e = subst (λ (k : Group). has k q ≡ true) i e
 member-has (also m g) h q (inl i) e = or-left _ (member-has m h q i e)
 member-has (also m g) h q (inr i) e = or-right (hasM m q) (subst (λ (k : Group). has k q ≡ true) i e)
@@ -136,20 +83,13 @@ mutual
   otherM-has (also m g) p h q (inr (inl (i, o))) e = or-left _ (member-has m h q o e)
   otherM-has (also m g) p h q (inr (inr (i, o))) e = or-right (hasM m q) (subst (λ (k : Group). has k q ≡ true) o e)
 
--- The fold.
+-- The fold goes by the last place and the set of the places taken.
 
 abbrev pub ready : (ℕ → Bool) → (ℕ → Bool) → Group → Bool
 ready S N h = not (meets h S) && meets h N
 
 abbrev pub required : Group → ℕ → (ℕ → Bool) → ℕ → Bool
 required g u S p = (fit g u S p && passesAfter g u S p) && not (hinders (ready S (fit g u S)) g p)
-
-not-true-false : (a : Bool) → not a ≡ true → a ≡ false
-not-true-false true e = absurd (false≢true e)
-not-true-false false e = refl
-
-false-not-true : (a : Bool) → a ≡ false → not a ≡ true
-false-not-true a e = rw e
 
 pub mem-memᴰ : (t : List ℕ) (p : ℕ) → mem t p ≡ true → List·Memᴰ p t
 mem-memᴰ [] p e = absurd (false≢true e)
@@ -164,7 +104,7 @@ memᴰ-mem (q ∷ t) p m = go (List·Memᴰ·cases-cons m) (memᴰ-mem t p)
     go (inr m) f = or-right (eqb q p) (f m)
 
 module _ (g : Group) (good : Good g) (u : ℕ) (S : ℕ → Bool) (s : List ℕ) (e : Ends s u) (agree : Agrees (held g) s S) (begun : Begins g s) (p : ℕ) where
-  -- another member has begun by S exactly if by s
+  -- Another member has begun by S exactly if by s.
   pub same-begun : (h : Group) → Other g p h → meets h S ≡ meets h (mem s)
   same-begun h o =
       bool-cases

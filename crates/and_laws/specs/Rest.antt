@@ -1,12 +1,11 @@
 -- Arrangements of any kind of sequence, one for each member: when they can be empty, begin with p, must pass p; by one test a member.
 use Prim.Native.Nat.{ℕ}
 use mathlib.Core.Path.{_≡_, refl, sym, _∙_, ap, subst}
-use mathlib.Core.Bool.{Bool, true, false, _&&_, _||_, false≢true}
-use mathlib.Core.Logic.{_⊎_, inl, inr}
-use mathlib.Core.List.{List, [], _∷_, _++_, append-assoc, append-nil, nil≢cons, cons≢nil, head-eq-of-cons-eq}
-use Rattle.basic_laws.specs.Truth.{or-left, or-right, or-cases, and-left, and-right, and-both, not-true, not-both}
+use mathlib.Core.Bool.{Bool, true, false, _&&_, _||_}
+use mathlib.Core.List.{List, [], _∷_, _++_, append-assoc, append-nil}
+use Rattle.basic_laws.specs.Truth.{or-left, or-right, or-cases, and-left, and-right, and-both, or-none}
 use Rattle.rules.specs.Walk.{Group, Members, one, also, joined}
-use Rattle.and_laws.specs.Base.{mem, mem-left, mem-right, mem-cases, joined-append}
+use Rattle.and_laws.specs.Base.{mem, mem-left, mem-right, mem-cases, joined-append, starts, nil≢middle}
 use Rattle.and_laws.specs.Blocks.{block, Arr, joined-block, At, before, here, after, at-block}
 use Rattle.and_laws.specs.Later.{nil-parts}
 
@@ -18,24 +17,11 @@ abbrev pub anyM : (Group → Bool) → Members → Bool
 anyM t (one g) = t g
 anyM t (also m g) = anyM t m || t g
 
-pub or-none : (a b : Bool) → a || b ≡ false → (a ≡ false) × (b ≡ false)
-or-none true b e = absurd (false≢true (sym e))
-or-none false b e = (refl, e)
-
 joined-put : (a b : List (List ℕ)) (w : List ℕ) → joined (a ++ (block w ++ b)) ≡ joined a ++ (w ++ joined b)
 joined-put a b w = joined-append a (block w ++ b) ∙ ap (_++_ (joined a)) (joined-block w b)
 
 joined-own : (w : List ℕ) → joined (block w) ≡ w
 joined-own w = ap joined (sym (append-nil (block w))) ∙ joined-block w [] ∙ append-nil w
-
--- a place that begins joined sequences begins one of them
-abbrev Starts : List (List ℕ) → ℕ → Type 0
-Starts bs p = (x : List (List ℕ)) × (z : List ℕ) × (y : List (List ℕ)) × (bs ≡ x ++ (p ∷ z) ∷ y)
-
-starts : (bs : List (List ℕ)) (p : ℕ) (t : List ℕ) → p ∷ t ≡ joined bs → Starts bs p
-starts [] p t e = absurd (cons≢nil e)
-starts ([] ∷ bs) p t e = let (x, z, y, q) = starts bs p t e in ([] ∷ x, z, y, ap (_∷_ []) q)
-starts ((n ∷ w) ∷ bs) p t e = ([], w, bs, rw (head-eq-of-cons-eq e))
 
 module _ (P : Group → List ℕ → Type 0) where
   pub arr-some : ((g : Group) → (w : List ℕ) × P g w) → (m : Members) → (bs : List (List ℕ)) × Arr P m bs
@@ -59,14 +45,10 @@ module _ (P : Group → List ℕ → Type 0) where
   arr-block : (t : Group → Bool) (p : ℕ) → ((g : Group) (z : List ℕ) → P g (p ∷ z) → t g ≡ true) → (m : Members) (x : List (List ℕ)) (z : List ℕ) (y : List (List ℕ)) → Arr P m (x ++ (p ∷ z) ∷ y) → anyM t m ≡ true
   arr-block t p f (one g) x z y (w, e, n) = go (at-block [] [] w x (p ∷ z) y (append-nil (block w) ∙ sym e))
     where
-      no : (x c : List (List ℕ)) → [] ≡ x ++ (p ∷ z) ∷ c → ⊥
-      no [] c r = nil≢cons r
-      no (h ∷ x) c r = nil≢cons r
-
       go : At [] [] w x (p ∷ z) y → t g ≡ true
-      go (before c i j) = absurd (no c y j)
+      go (before c i j) = absurd (nil≢middle c (p ∷ z) y j)
       go (here i j k) = f g z (subst (P g) i n)
-      go (after c i j) = absurd (no x c j)
+      go (after c i j) = absurd (nil≢middle x (p ∷ z) c j)
   arr-block t p f (also m g) x z y (a, b, w, e, o, n) = go (λ x y o. arr-block t p f m x z y o) (at-block a b w x (p ∷ z) y (sym e))
     where
       go : ((x y : List (List ℕ)) → Arr P m (x ++ (p ∷ z) ∷ y) → anyM t m ≡ true) → At a b w x (p ∷ z) y → anyM t (also m g) ≡ true

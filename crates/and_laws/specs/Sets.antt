@@ -1,18 +1,18 @@
 -- What is computed of a group by recursion: its places, which are in "&" groups, whether it meets a set; `Good`: places differ, no "&" under "+".
 use Prim.Native.Nat.{ℕ}
-use mathlib.Core.Path.{_≡_, refl, sym, _∙_, ap, subst}
-use mathlib.Core.Bool.{Bool, true, false, _&&_, _||_, false≢true}
-use mathlib.Core.Logic.{_⊎_, inl, inr}
+use mathlib.Core.Path.{_≡_, refl, sym, subst}
+use mathlib.Core.Bool.{Bool, true, false, _||_, false≢true}
+use mathlib.Core.Logic.{inl, inr}
 use mathlib.Core.List.{List, [], _∷_, _++_}
 use lib.Dec.{eqb}
 use borrow.Author.Tests.{eqb-true, eq-eqb}
 use Rattle.basic_laws.specs.Truth.{or-left, or-right, or-cases}
 use Rattle.model_sets.specs.Sets.{has, hasM}
-use Rattle.rules.specs.Walk.{Group, place, seq, alt, opt, plus, and, Members, one, also, Runs, once, more, joined, Walk, Orders}
+use Rattle.rules.specs.Walk.{Group, place, seq, alt, opt, plus, and, Members, one, also, Runs, once, more, joined, Walk, Orders, Begins, MayComeNext}
 pub use Rattle.rules.specs.Walk.{Plain}
-use Rattle.and_laws.specs.Base.{mem, mem-left, mem-right, mem-cases, In, Apart, in-append, in-one, joined-append}
+use Rattle.and_laws.specs.Base.{mem, mem-left, mem-right, mem-cases, In, Apart, in-append, in-one, joined-append, Ends, ends-mem, ends-snoc}
 
--- the place stands in an "&" group
+-- The place stands in an "&" group.
 abbrev pub held : Group → ℕ → Bool
 held (place n) p = false
 held (seq g h) p = held g p || held h p
@@ -21,7 +21,7 @@ held (opt g) p = held g p
 held (plus g) p = held g p
 held (and m) p = hasM m p
 
--- some place of the group is in the set
+-- Some place of the group is in the set.
 abbrev mutual
   pub meets : Group → (ℕ → Bool) → Bool
   meets (place n) S = S n
@@ -35,7 +35,7 @@ abbrev mutual
   meetsM (one g) S = meets g S
   meetsM (also m g) S = meetsM m S || meets g S
 
--- places differ, and no "&" stands under "+" or "*"
+-- Places differ, and no "&" stands under "+" or "*".
 abbrev mutual
   pub Good : Group → Type 0
   Good (place n) = n ≡ n
@@ -71,7 +71,7 @@ runs-in : (f : ℕ → Bool) (g : Group) → ((w : List ℕ) → Walk g w → In
 runs-in f g k (once {w} x) = k w x
 runs-in f g k (more s t e x r) = subst (In f) (sym e) (in-append f s t (k s x) (runs-in f g k r))
 
--- what a list of sequences is made of
+-- What holds of all places of some sequences and of one more holds of the list with that one put in.
 pub in-middle : (f : ℕ → Bool) (a b : List (List ℕ)) (w : List ℕ) → In f (joined (a ++ b)) → In f w → In f (joined (a ++ w ∷ b))
 in-middle f a b w x y p i =
     mem-cases
@@ -102,7 +102,15 @@ mutual
       (sym e)
       (in-middle (hasM (also m g)) a b w (λ p i. or-left _ (orders-in m (a ++ b) o p i)) (λ p i. or-right (hasM m p) (walk-in g w x p i)))
 
--- The set.
+-- The last place of a beginning is one of the group's.
+pub ends-has : (g : Group) (s : List ℕ) (u : ℕ) → Ends s u → Begins g s → has g u ≡ true
+ends-has g s u e (t, w) = walk-in g (s ++ t) w u (mem-left s t u (ends-mem s u e))
+
+-- What may come next is a place of the group.
+pub has-next : (g : Group) (s : List ℕ) (p : ℕ) → MayComeNext g s p → has g p ≡ true
+has-next g s p b = ends-has g (s ++ p ∷ []) p (ends-snoc s p) b
+
+-- A group meets a set if they have a place in common.
 
 abbrev pub Common : (ℕ → Bool) → (ℕ → Bool) → Type 0
 Common f S = (p : ℕ) × (f p ≡ true) × (S p ≡ true)

@@ -2,21 +2,21 @@
 -- begun say.
 use Prim.Native.Nat.{ℕ, zero, suc, _≤_}
 use mathlib.Core.Path.{_≡_, refl, sym, _∙_, ap, subst}
-use mathlib.Core.Bool.{Bool, true, false, _&&_, _||_, not, cond, false≢true}
-use mathlib.Core.Logic.{_⊎_, inl, inr, _↔_}
+use mathlib.Core.Bool.{Bool, true, _&&_, not, cond, and-true}
+use mathlib.Core.Logic.{_↔_, Iff·trans}
 use mathlib.Core.List.{List, [], _∷_, _++_}
 use native.Mathlib.Omega.{arith}
-use Rattle.basic_laws.specs.Truth.{and-both, not-true, bool-cases}
-use Rattle.model_sets.specs.Sets.{has, nullable, first, last, follow, must, mustAfter, nextIn, completeIn, requiredIn}
+use Rattle.basic_laws.specs.Truth.{bool-cases}
+use Rattle.model_sets.specs.Sets.{has, nullable, first, last, follow, must, nextIn, completeIn, requiredIn}
 use Rattle.rules.specs.Walk.{Group, Members, Begins, MayComeNext, Complete, Required}
-use Rattle.and_laws.specs.Base.{mem, mem-left, Ends, ends-snoc, ends-mem}
-use Rattle.and_laws.specs.Sets.{held, Plain, Good, walk-in}
+use Rattle.and_laws.specs.Base.{Ends, ends-snoc}
+use Rattle.and_laws.specs.Sets.{held, Plain, Good}
 use Rattle.and_laws.specs.Left.{Agrees}
 use Rattle.and_laws.specs.Decide.{fit, done, next-fold, complete-fold, next-start, complete-start}
 use Rattle.and_laws.specs.Meant.{required-meant}
 use Rattle.and_laws.specs.Req.{reqAfter}
 use Rattle.and_laws.specs.Number.{number-required, number-required-start}
-use Rattle.and_laws.specs.Rows.{may, fit-row, plain-may, and-yes}
+use Rattle.and_laws.specs.Rows.{may, fit-row, plain-may}
 use Rattle.and_laws.specs.Levels.{around, blocksIn, loneIn, mayIn, blocks-in, lone-in, may-in}
 use Rattle.and_laws.specs.Lacking.{blocks, lone, done-blocks, req-row, plain-blocks}
 
@@ -34,7 +34,7 @@ abbrev pub requiredFrom : Group → ℕ → (ℕ → Bool) → ℕ
 requiredFrom g zero S = must g
 requiredFrom g (suc u) S = reqAfter g (suc u) S
 
--- u is the last place of s, 0 if there is none
+-- The place u is the last of s, and 0 if there is none.
 abbrev pub IsLast : List ℕ → ℕ → Type 0
 IsLast s zero = s ≡ []
 IsLast s (suc u) = Ends s (suc u)
@@ -54,16 +54,10 @@ module _ (g : Group) (good : Good g) (S : ℕ → Bool) where
   complete-from (suc u) s e agree begun = complete-fold g good (suc u) S s e agree begun
 
   pub required-from : (u : ℕ) (s : List ℕ) → IsLast s u → Agrees (held g) s S → Begins g s → (p : ℕ) → (p ≡ 0 → ⊥) → (requiredFrom g u S ≡ p) ↔ Required g s p
-  required-from zero s e agree begun p pos = subst (λ (l : List ℕ). (must g ≡ p) ↔ Required g l p) (sym e) (through (number-required-start g good p pos) (required-meant g [] p))
-    where
-      through : {A B C : Type 0} → A ↔ B → B ↔ C → A ↔ C
-      through (f, h) (k, l) = (λ a. k (f a), λ c. h (l c))
-  required-from (suc u) s e agree begun p pos = through (number-required g good (suc u) S s e agree begun p pos) (required-meant g s p)
-    where
-      through : {A B C : Type 0} → A ↔ B → B ↔ C → A ↔ C
-      through (f, h) (k, l) = (λ a. k (f a), λ c. h (l c))
+  required-from zero s e agree begun p pos = subst (λ (l : List ℕ). (must g ≡ p) ↔ Required g l p) (sym e) (Iff·trans (number-required-start g good p pos) (required-meant g [] p))
+  required-from (suc u) s e agree begun p pos = Iff·trans (number-required g good (suc u) S s e agree begun p pos) (required-meant g s p)
 
--- u is 0, or a place of the group that was taken
+-- The number u is 0, or a place of the group that was taken.
 abbrev pub IsTaken : Group → ℕ → (ℕ → Bool) → Type 0
 IsTaken g zero S = zero ≡ zero
 IsTaken g (suc u) S = (has g (suc u) ≡ true) × (S (suc u) ≡ true)
@@ -78,11 +72,11 @@ module _ (g : Group) (good : Good g) (S : ℕ → Bool) where
   -- Without "&" the rows say it all.
   pub plain-next : Plain g → (u : ℕ) → IsTaken g u S → (p : ℕ) → nextFrom g u S p ≡ nextIn g u p
   plain-next n zero t p = refl
-  plain-next n (suc u) (i, t) p = fit-row (suc u) S t p g good i ∙ ap (λ (z : Bool). follow g (suc u) p && z) (plain-may (suc u) S t p g n) ∙ and-yes (follow g (suc u) p)
+  plain-next n (suc u) (i, t) p = fit-row (suc u) S t p g good i ∙ ap (λ (z : Bool). follow g (suc u) p && z) (plain-may (suc u) S t p g n) ∙ and-true (follow g (suc u) p)
 
   pub plain-complete : Plain g → (u : ℕ) → IsTaken g u S → completeFrom g u S ≡ completeIn g u
   plain-complete n zero t = refl
-  plain-complete n (suc u) (i, t) = done-blocks g good (suc u) S i ∙ ap (λ (z : Bool). last g (suc u) && not z) (plain-blocks g n (suc u) S) ∙ and-yes (last g (suc u))
+  plain-complete n (suc u) (i, t) = done-blocks g good (suc u) S i ∙ ap (λ (z : Bool). last g (suc u) && not z) (plain-blocks g n (suc u) S) ∙ and-true (last g (suc u))
 
   pub plain-required : Plain g → (u : ℕ) → IsTaken g u S → requiredFrom g u S ≡ requiredIn g u
   plain-required n zero t = refl
@@ -90,13 +84,13 @@ module _ (g : Group) (good : Good g) (S : ℕ → Bool) where
 
   -- By the groups around the last place: a place may come next exactly if the row has it and the walk through them leaves it.
   pub next-around : (u : ℕ) → IsTaken g u S → (p : ℕ) → nextFrom g u S p ≡ nextIn g u p && mayIn (groupsAt g u) u S p
-  next-around zero t p = sym (and-yes (first g p))
+  next-around zero t p = sym (and-true (first g p))
   next-around (suc u) (i, t) p =
       fit-row (suc u) S t p g good i ∙ bool-cases (follow g (suc u) p) (λ f. ap (λ (z : Bool). follow g (suc u) p && z) (may-in (suc u) S p g good i f)) (λ f. rw f)
 
   -- Content is complete exactly if the row says so and the walk finds no group that blocks.
   pub complete-around : (u : ℕ) → IsTaken g u S → completeFrom g u S ≡ completeIn g u && not (blocksIn (groupsAt g u) u S)
-  complete-around zero t = sym (and-yes (nullable g))
+  complete-around zero t = sym (and-true (nullable g))
   complete-around (suc u) (i, t) = done-blocks g good (suc u) S i ∙ ap (λ (z : Bool). last g (suc u) && not z) (blocks-in g good (suc u) S i)
 
   -- The required place is the row's, or that of the group that the walk finds.

@@ -2,14 +2,14 @@
 -- lack nothing, and in the first that has it its member is that of the last place or has not begun.
 use Prim.Native.Nat.{ℕ, zero, suc, _+_, _%_, _≤_, _<_}
 use mathlib.Core.Path.{_≡_, refl, sym, _∙_, ap, subst}
-use mathlib.Core.Bool.{Bool, true, false, _&&_, _||_, not, false≢true}
+use mathlib.Core.Bool.{Bool, true, false, _&&_, _||_, not, false≢true, or-false, or-comm}
 use mathlib.Core.Logic.{inl, inr}
 use mathlib.Core.List.{List, [], _∷_}
 use native.Mathlib.Decide.{ℕ-discrete}
 use native.Mathlib.Omega.{arith}
 use lib.ListN.{length}
 use lib.Dec.{eqb}
-use borrow.Author.Tests.{eqb-true, eq-eqb, ne-eqb}
+use borrow.Author.Tests.{eqb-true, eq-eqb, ne-eqb, not-false}
 use Rattle.rules.specs.Walk.{Group, Members}
 use Rattle.rules.specs.Bytes.{GRPGTCNT}
 use Rattle.layout.specs.Sizes.{POSITIONS, AND-GROUPS, MEMBERS, ENDING}
@@ -25,7 +25,7 @@ use Rattle.and_laws.specs.Ranked.{count, Level, levels, groupsOf, levels-rise, 
 use Rattle.and_laws.specs.Taken.{groupsAt}
 use Rattle.member_laws.specs.Members.{needs, numberIn, groupAt, firstAt, isNeeded, holdsAt, amongAt, isOwn, AllSets, Grouped, Chain, Told, holderAt, begunAt, Marked, AllMarked, Standing}
 use Rattle.member_laws.specs.Numbered.{both-tests, any-numbered, numbered-any, numbered-place, numbered-once}
-use Rattle.member_laws.specs.Inside.{IsLevel, level-once, level-good, level-around, EachLevel, each-level, AnyLevel, IsSame, IsAround, levels-are}
+use Rattle.member_laws.specs.Inside.{IsLevel, level-once, level-good, level-around, EachLevel, each-level, AnyLevel, IsSame, IsAround, levels-are, Have}
 use Rattle.member_laws.specs.Around.{memberAt, isHolder, NumberedAt, held, member-group, member-small, member-begun, chain-kept, chain-none, any-holder}
 use Rattle.member_laws.specs.Sets.{First, first-of, short-none, anyOwn, own-range, own-group, member-own, begun-fine, fine-begun, holds-outward, among-outward, own-above, holder-above}
 use Rattle.member_bits.specs.declared.Bits.{Bits}
@@ -33,7 +33,7 @@ use Rattle.member_bits.specs.Having.{Has}
 use Rattle.and_next.specs.Follows.{Follows}
 use Rattle.and_next.specs.Forbidding.{bad, IsFull, IsLeft, Pair, Comes}
 
--- One group that has both
+-- These laws are of one group that has both places.
 
 module _ (M begun : List ℕ) (level e : ℕ) (S : ℕ → Bool) (l : Level) (good : GoodM (l .members)) (marked : Marked begun level M e S l) (u p : ℕ) (i : hasM (l .members) u ≡ true) (j : hasM (l .members) p ≡ true) where
   -- They are in one member exactly if the numbers are the same.
@@ -66,7 +66,7 @@ module _ (M begun : List ℕ) (level e : ℕ) (S : ℕ → Bool) (l : Level) (go
   pub within-other : (memberAt M e u l ≡ memberAt M e p l → ⊥) → within (l .members) u S p ≡ not (begunAt begun level (memberAt M e p l))
   within-other z = ap (λ (t : Bool). t || anyM (unbegun S p) (l .members)) (other-member z) ∙ idle-member
 
--- The groups of p
+-- These laws are of the groups of p.
 
 module _ (M : List ℕ) (e : ℕ) (sets : AllSets M e) (g : Group) (p : ℕ) (l : Level) (is : IsLevel g 0 l) where
   -- A member of l that is one of the groups around p, or holds p there: p is in l.
@@ -123,7 +123,7 @@ none-and : (x y : Bool) → (x && false) && y ≡ false
 none-and true y = refl
 none-and false y = refl
 
--- The groups around both
+-- These laws are of the groups around both places.
 module _
     (M : List ℕ) (e : ℕ) (sets : AllSets M e) (begun : List ℕ) (level : ℕ) (g : Group) (good : Good g) (u p : ℕ) (S : ℕ → Bool)
     (y d : ℕ) (p-chain : Chain M e p true y (levels g 0 p)) (p-rising : Rising 0 d (levels g 0 p)) (p-around : EachLevel (IsAround g 0 p) (levels g 0 p)) where
@@ -132,9 +132,6 @@ module _
 
   abbrev B : ℕ → Bool
   B n = begunAt begun level n
-
-  abbrev Have : ℕ → List Level → Type 0
-  Have v ls = EachLevel (λ (l : Level). hasM (l .members) v ≡ true) ls
 
   have : (v : ℕ) (ls : List Level) → EachLevel (IsAround g 0 v) ls → Have v ls
   have v = each-level (IsAround g 0 v) (λ (l : Level). hasM (l .members) v ≡ true) (λ l a. a .1)
@@ -146,7 +143,7 @@ module _
   abbrev pub badIn : List Level → ℕ → Bool
   badIn us = bad (λ (n : ℕ). anyOwn M e n us) (λ (n : ℕ). anyOwn M e n ps) (isNeeded M e) B (λ (n : ℕ). isHolder M e p n ps) (λ (n : ℕ). isHolder M e u n us)
 
-  -- The first of them, and those around it
+  -- The first of them stands before those around it.
   module _ (a c : ℕ) (ends : Bool) (h : ℕ) (l : Level) (us : List Level) (chain : Chain M e u ends h (l ∷ us)) (rising : Rising a c (l ∷ us)) (around : EachLevel (IsAround g 0 u) (l ∷ us)) (marked : Marked begun level M e S l) where
     kept : Grouped M e l
     kept = chain .0
@@ -158,18 +155,14 @@ module _
     own-once : (n : ℕ) → isOwn M e (l .number) n ≡ true → anyOwn M e n us ≡ false
     own-once n o = not-true (anyOwn M e n us) (λ x. omega (arith, own-group M e l kept n o, own-above M e sets u (l .number) c us outer-kept (rising .1) n x))
 
-    -- p is not in it.
+    -- The place p is not in it.
     module _ (apart : hasM (l .members) p ≡ false) where
       bad-own : (n : ℕ) → isOwn M e (l .number) n ≡ true → badIn (l ∷ us) n ≡ isNeeded M e n && not (B n)
       bad-own n o =
           let z = own-group M e l kept n o in
           let x : anyOwn M e n ps ≡ false = not-true (anyOwn M e n ps) (λ x. false≢true (sym apart ∙ own-meets M e sets g p l (around .0 .0) ps p-kept p-around n z x)) in
           let w : isHolder M e p n ps ≡ false = not-true (isHolder M e p n ps) (λ x. false≢true (sym apart ∙ holder-meets M e sets g p l (around .0 .0) ps p-kept p-around n z x .0)) in
-          rw (o, x, w) (or-none (isNeeded M e n && not (B n)))
-        where
-          or-none : (t : Bool) → t || false ≡ t
-          or-none true = refl
-          or-none false = refl
+          rw (o, x, w) (or-false (isNeeded M e n && not (B n)))
 
       bad-other : (n : ℕ) → isOwn M e (l .number) n ≡ false → badIn (l ∷ us) n ≡ badIn us n
       bad-other n o =
@@ -182,14 +175,10 @@ module _
       may-apart : ((n : ℕ) → 1 ≤ n → n < POSITIONS → badIn (l ∷ us) n ≡ false) → (((n : ℕ) → 1 ≤ n → n < POSITIONS → badIn us n ≡ false) → mayIn (groupsOf us) u S p ≡ true) → mayIn (groupsOf (l ∷ us)) u S p ≡ true
       may-apart f outer = rw apart (and-both all (outer rest))
         where
-          yes-of : (t : Bool) → not t ≡ false → t ≡ true
-          yes-of true q = refl
-          yes-of false q = absurd (false≢true (sym q))
-
           all : allM (fine S) (l .members) ≡ true
           all =
               begun-fine M e l kept sets begun level S marked
-              (λ n o m. let r = own-range M e l kept n o in yes-of (B n) (sym (bad-own n o ∙ ap (λ (t : Bool). t && not (B n)) m) ∙ f n (omega (arith, kept .some)) (omega (arith, kept .room))))
+              (λ n o m. let r = own-range M e l kept n o in not-false (B n) (sym (bad-own n o ∙ ap (λ (t : Bool). t && not (B n)) m) ∙ f n (omega (arith, kept .some)) (omega (arith, kept .room))))
 
           rest : (n : ℕ) → 1 ≤ n → n < POSITIONS → badIn us n ≡ false
           rest n x w = bool-cases (isOwn M e (l .number) n) (own-none n) (λ o. sym (bad-other n o) ∙ f n x w)
@@ -203,7 +192,7 @@ module _
           own : isOwn M e (l .number) n ≡ true → badIn (l ∷ us) n ≡ false
           own o = bad-own n o ∙ bool-cases (isNeeded M e n) (λ m. rw (m, fine-begun M e l kept sets begun level S marked (and-left (allM (fine S) (l .members)) _ t′) n o m)) (λ m. rw m)
 
-    -- p is in it.
+    -- The place p is in it.
     module _ (both : hasM (l .members) p ≡ true) where
       same : AnyLevel (IsSame l) ps
       same = level-around g 0 l (around .0 .0) good p both
@@ -262,7 +251,7 @@ module _
       none-within : within (l .members) u S p ≡ true → (n : ℕ) → 1 ≤ n → n < POSITIONS → badIn (l ∷ us) n ≡ false
       none-within t n x w = not-true (badIn (l ∷ us) n) (λ i. let (o, q) = bad-is n x w i in false≢true (ap not (sym q) ∙ sym (within-other M begun level e S l good-l marked u p (around .0 .1) both o) ∙ t))
 
-  -- p may come next exactly if no member forbids it.
+  -- The place p may come next exactly if no member forbids it.
   may-none : (a c : ℕ) (ends : Bool) (h : ℕ) (us : List Level) → Chain M e u ends h us → Rising a c us → EachLevel (IsAround g 0 u) us → AllMarked begun level M e S us → ((n : ℕ) → 1 ≤ n → n < POSITIONS → badIn us n ≡ false) → mayIn (groupsOf us) u S p ≡ true
   may-none a c ends h [] chain rising around marked f = refl
   may-none a c ends h (l ∷ us) chain rising around marked f =
@@ -277,7 +266,7 @@ module _
       (λ z. none-within a c ends h l us chain rising around (marked .0) z (rw z at t))
       (λ z. apart-may a c ends h l us chain rising around (marked .0) z t (none-may (l .number) c _ _ us (chain .4) (rising .1) (around .1) (marked .1)))
 
--- What is read of the sets
+-- This is read of the sets.
 
 -- The first of the groups around a place is that of the member that holds it.
 module _ (M : List ℕ) (e : ℕ) (sets : AllSets M e) (v c : ℕ) (ends : Bool) (z : ℕ) where
@@ -288,14 +277,8 @@ module _ (M : List ℕ) (e : ℕ) (sets : AllSets M e) (v c : ℕ) (ends : Bool)
         let f = first-of M e h v ends z k ks read chain (have .0) in
         let is : n ≡ k .number = at ∙ f .group in (
           ap (λ (q : ℕ). amongAt M e q m) is ∙ among-outward M e sets v 0 c ends z k ks chain rising have m x y,
-          ap (λ (q : ℕ). holdsAt M e q m || eqb m h) is ∙ ap (λ (t : Bool). t || eqb m h) (holds-outward M e sets v 0 c ends z k ks chain rising have m x y) ∙ turned (isHolder M e v m ks) (eqb m h) ∙ ap (λ (q : ℕ). eqb m q || isHolder M e v m ks) (f .is),
+          ap (λ (q : ℕ). holdsAt M e q m || eqb m h) is ∙ ap (λ (t : Bool). t || eqb m h) (holds-outward M e sets v 0 c ends z k ks chain rising have m x y) ∙ or-comm (isHolder M e v m ks) (eqb m h) ∙ ap (λ (q : ℕ). eqb m q || isHolder M e v m ks) (f .is),
         )
-      where
-        turned : (s t : Bool) → s || t ≡ t || s
-        turned true true = refl
-        turned true false = refl
-        turned false true = refl
-        turned false false = refl
 
   -- There is a first one, where there is such a member.
   first-there : (h : ℕ) → 1 ≤ h → (ks : List Level) → h ≡ z % ENDING → Chain M e v ends z ks → EachLevel (λ (k : Level). hasM (k .members) v ≡ true) ks → (k : Level) × First M e h v k
@@ -337,7 +320,7 @@ module _ (M : List ℕ) (e h i : ℕ) (b : Bits) where
     pub comes-far : AND-GROUPS < n → (r : Bool) → Comes M e h i b r
     comes-far z r = record { says = λ w. let (l, f) = u-first w in absurd (omega (arith, f .within)) }
 
-    -- p is in no group.
+    -- The place p is in no group.
     pub comes-full : i ≡ 0 → (r : Bool) → IsFull M e n b r → Comes M e h i b r
     comes-full z r full = comes-by r (λ w m. (amongAt M e n m && isNeeded M e m) && not (begunAt (w .begun) (w .level) m)) same (λ t w. full .none t (begunAt (w .begun) (w .level)) (w .has)) (λ t w. full .some t (begunAt (w .begun) (w .level)) (w .has))
       where
@@ -355,7 +338,7 @@ module _ (M : List ℕ) (e h i : ℕ) (b : Bits) where
                 first true false t o = refl
                 first false k t o = refl
 
-    -- p is in a group.
+    -- The place p is in a group.
     module _ (inner : 1 ≤ i) (q : ℕ) (at-q : q ≡ groupAt M e i) where
       p-sets : (w : Pair M e h i b) (m : ℕ) → 1 ≤ m → m < POSITIONS → (amongAt M e q m ≡ anyOwn M e m (levels (w .model) 0 (w .p))) × (holdsAt M e q m || eqb m i ≡ isHolder M e (w .p) m (levels (w .model) 0 (w .p)))
       p-sets w = set-of M e (w .sets) (w .p) (w .d) true (w .y) i q inner at-q (levels (w .model) 0 (w .p)) (w .p-read) (w .p-chain) (w .p-rising) (p-have w)
@@ -407,7 +390,7 @@ holder-few M e v h at g told here = go (levels g 0 v) (told .places v here) (lev
     go [] chain around = omega (arith, at ∙ ap (λ (x : ℕ). x % ENDING) chain)
     go (l ∷ ls) chain around = first-of M e h v true (holderAt M e v) l ls at chain (around .0 .1) .small .1
 
--- The places
+-- The numbers at the places lead to their groups.
 module _ (M begun : List ℕ) (level e u p h i : ℕ) (at-h : h ≡ holderAt M e u % ENDING) (at-i : i ≡ holderAt M e p % ENDING) where
   -- The last place is in no group.
   pub follows-none : h ≡ 0 → Follows M level e u p begun true

@@ -21,7 +21,7 @@ use Rattle.attribute_definitions.specs.declared.ValueRead.the-variants a
 use Rattle.attribute_definitions.specs.declared.DefinitionRead.{DefinitionRead}
 use Rattle.attribute_definitions.specs.declared.DefinitionRead.the-variants as definitions
 
--- Refusals
+-- Refusals go by number and position.
 
 abbrev pub valueFault : ValueRead → Fault
 valueFault (values.Read x k e) = record { number = 0; at = 0 }
@@ -36,7 +36,7 @@ abbrev pub NameFits : (end i n : ℕ) → Reached → Type 0
 NameFits end i n (reached.At e) = (i ≤ e) × (e ≤ end) × (n < ATTCNT)
 NameFits end i n (reached.Refused f) = Unit {0}
 
--- Declared values
+-- Declared values are read.
 
 -- The word that a number stands for.
 abbrev pub wordIs : ℕ → DeclaredValue
@@ -74,7 +74,7 @@ abbrev pub ValueFits : (end i m : ℕ) → ValueRead → Type 0
 ValueFits end i m (values.Read x k e) = (x ≤ end) × (i ≤ e) × (e ≤ end) × (k ≤ m + GRPCNT)
 ValueFits end i m (values.Refused f) = Unit {0}
 
--- Definitions
+-- Definitions are read.
 
 -- A definition that was read behind the attributes xs.
 pub record DefinedAs (long : ℕ) (s seen : List ℕ) (r : Row) (k e : ℕ) (xs : List Attribute) (y : Reading Definition) : Type 0 where

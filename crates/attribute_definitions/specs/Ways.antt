@@ -2,15 +2,15 @@
 use Prim.Native.Nat.{ℕ, zero, suc, _+_, _-_, _≤_, _<_}
 use mathlib.Core.Path.{_≡_, refl, sym, _∙_, ap}
 use mathlib.Core.Bool.{Bool, true, false}
-use mathlib.Core.List.{List, [], _∷_, _++_}
+use mathlib.Core.List.{List, [], _∷_, _++_, append-nil, append-assoc}
 use native.Mathlib.Omega.{arith}
 use lib.ListN.{length}
 use lib.Dec.{eqb}
 use borrow.Author.Tests.{eq-eqb, ne-eqb, lt-ltb, le-ltb, le-leb, lt-leb}
 use Rattle.rules.specs.Bytes.{byteAt, letter, nameEnd, ATTCNT, GRPCNT, GRPO}
-use Rattle.rules.specs.Reading.{Reading, refused, got, andThen}
-use Rattle.rules.specs.Attributes.{Part, DeclaredValue, cdata, number, name, tokens, Default, Attribute, attributeOf}
-use Rattle.rules.specs.TypeFile.{gap, isWord, isCut, CDATA, NUMBER, NAME, unfit, TokensEnd, tokenGroup, tokensOf, attributeName, ValueEnd, valueWord, declaredValue, DefaultEnd, defaultValue, Definition, definition}
+use Rattle.rules.specs.Reading.{Reading, refused, got}
+use Rattle.rules.specs.Attributes.{Part, DeclaredValue, cdata, number, name, tokens, Attribute, attributeOf}
+use Rattle.rules.specs.TypeFile.{gap, isWord, isCut, CDATA, NUMBER, NAME, unfit, TokensEnd, tokenGroup, tokensOf, attributeName, ValueEnd, valueWord, declaredValue, DefaultEnd, defaultValue, definition}
 use Rattle.text.specs.declared.Fault.{Fault}
 use Rattle.text.specs.declared.Reached.{Reached}
 use Rattle.text.specs.declared.Reached.the-variants as reached
@@ -19,7 +19,7 @@ use Rattle.text.specs.Words.{test-in}
 use Rattle.name_tokens.specs.declared.GroupRead.{GroupRead}
 use Rattle.name_tokens.specs.declared.GroupRead.the-variants as groups
 use Rattle.name_tokens.specs.Tokens.{partsOf, groupFault, ReadAs, MeetsGroup, GroupIn}
-use Rattle.attribute_values.specs.Parts.{GroupAt, DeclaredAs, as-cdata, as-number, as-name, as-tokens}
+use Rattle.attribute_values.specs.Parts.{as-cdata, as-number, as-name, as-tokens}
 use Rattle.attribute_defaults.specs.declared.DefaultRead.{DefaultRead}
 use Rattle.attribute_defaults.specs.declared.DefaultRead.the-variants as defaults
 use Rattle.attribute_defaults.specs.DefaultOf.{defaultIs, defaultOf, defaultFault, DefaultFits}
@@ -27,7 +27,7 @@ use Rattle.attribute_definitions.specs.declared.ValueRead.{ValueRead}
 use Rattle.attribute_definitions.specs.declared.ValueRead.the-variants as values
 use Rattle.attribute_definitions.specs.Definition.{NameFits, wordIs, wordOf, WordFits, tokensIn, valueFault, ValueAs, MeetsValue, ValueFits, DefinedAs}
 
--- Names
+-- Names are read.
 
 module _ (long : ℕ) (s : List ℕ) (xs : List Attribute) (from i e : ℕ) (ends : e ≡ nameEnd s i) where
   pub name-long : long < e - i → refused 3 i ≡ attributeName long s xs from i
@@ -53,7 +53,7 @@ module _ (long : ℕ) (s : List ℕ) (xs : List Attribute) (from i e : ℕ) (end
         unfolding attributeName
         name-got f = rw (attributeName, ← ends, le-ltb _ _ short, lt-ltb from i parted, ← ends, ← found, lt-leb 1 k (omega (arith, fresh)), lt-leb ATTCNT (length xs) f, ends)
 
--- Words
+-- Words are read.
 
 module _ (long : ℕ) (s : List ℕ) (i e : ℕ) (ends : e ≡ nameEnd s i) where
   pub word-long : long < e - i → refused 3 i ≡ valueWord long s i
@@ -94,17 +94,13 @@ module _ (long : ℕ) (s : List ℕ) (i e : ℕ) (ends : e ≡ nameEnd s i) wher
               unfolding valueWord
               word-wrong h = rw (valueWord, ← ends, le-ltb _ _ short, ← ends, ← is-cdata, na, ← ends, ← is-number, nb, ← ends, ← is-name, nd, ← ends, ← cut-cdata, np, ← cut-number, nq, ← cut-name, h)
 
--- Declared values
-
-append-none : (l : List Part) → l ++ [] ≡ l
-append-none [] = refl
-append-none (p ∷ l) = ap (λ r. p ∷ r) (append-none l)
+-- Declared values are read.
 
 -- A word is a declared value without tokens.
 pub word-value : (long : ℕ) (s seen : List ℕ) (x k m e : ℕ) {y : Reading ValueEnd} → x ≤ 2 → k ≡ m → y ≡ got (record { value = wordIs x; at = e }) → ValueAs long s seen x k e (partsOf seen m) y
-word-value long s seen zero k m e h q r = record { value = cdata; read = r; declared = as-cdata; parts = ap (partsOf seen) q ∙ sym (append-none (partsOf seen m)) }
-word-value long s seen (suc zero) k m e h q r = record { value = number; read = r; declared = as-number; parts = ap (partsOf seen) q ∙ sym (append-none (partsOf seen m)) }
-word-value long s seen (suc (suc zero)) k m e h q r = record { value = name; read = r; declared = as-name; parts = ap (partsOf seen) q ∙ sym (append-none (partsOf seen m)) }
+word-value long s seen zero k m e h q r = record { value = cdata; read = r; declared = as-cdata; parts = ap (partsOf seen) q ∙ sym (append-nil (partsOf seen m)) }
+word-value long s seen (suc zero) k m e h q r = record { value = number; read = r; declared = as-number; parts = ap (partsOf seen) q ∙ sym (append-nil (partsOf seen m)) }
+word-value long s seen (suc (suc zero)) k m e h q r = record { value = name; read = r; declared = as-name; parts = ap (partsOf seen) q ∙ sym (append-nil (partsOf seen m)) }
 word-value long s seen (suc (suc (suc x))) k m e h q r = absurd (omega (arith, h))
 
 module _ (long : ℕ) (s : List ℕ) (ts : List Part) (i : ℕ) where
@@ -132,7 +128,7 @@ module _ (long : ℕ) (s : List ℕ) (ts : List Part) (i : ℕ) where
     unfolding declaredValue
     value-none l = rw (declaredValue, ne-eqb _ _ n, l)
 
--- Definitions
+-- Definitions are read.
 
 -- The tokens of a list with a further attribute.
 pub tokens-more : (xs : List Attribute) (a : Attribute) → tokensOf (xs ++ a ∷ []) ≡ tokensOf xs ++ tokensIn (a .value)
@@ -143,13 +139,9 @@ tokens-more [] a = by-value (a .value)
     by-value cdata = refl
     by-value number = refl
     by-value name = refl
-    by-value (tokens i ps) = append-none ps
+    by-value (tokens i ps) = append-nil ps
 tokens-more (x ∷ xs) a = by-value (x .value) (tokensOf (xs ++ a ∷ [])) (tokensOf xs) (tokens-more xs a)
   where
-    append-assoc : (a b d : List Part) → (a ++ b) ++ d ≡ a ++ (b ++ d)
-    append-assoc [] b d = refl
-    append-assoc (p ∷ a) b d = ap (λ r. p ∷ r) (append-assoc a b d)
-
     by-value : (v : DeclaredValue) (l m : List Part) → l ≡ m ++ tokensIn (a .value)
         → elim v [ cdata ↦ l | number ↦ l | name ↦ l | tokens i ps ↦ ps ++ l ] ≡ elim v [ cdata ↦ m | number ↦ m | name ↦ m | tokens i ps ↦ ps ++ m ] ++ tokensIn (a .value)
     by-value cdata l m e = e

@@ -29,6 +29,7 @@ pub enum ValueRead {
     Refused(Fault),
 }
 
+// The refusal of an answer that is one.
 fn fault_of_value(r: ValueRead) -> Fault
     ensures { λ f. ⌜ f ≡ valueFault r ⌝ }
 {
@@ -38,6 +39,7 @@ fn fault_of_value(r: ValueRead) -> Fault
     }
 }
 
+// A refusal by number and position.
 fn refusal(number: u32, at: usize) -> ValueRead
     ensures { λ r. ⌜ r ≡ values.Refused (record { number = number; at = at }) ⌝ }
 {

@@ -2,7 +2,7 @@
 use Prim.Native.Nat.{ℕ, zero, suc, _+_, _-_, _*_, _≤_, _<_}
 use mathlib.Core.Path.{_≡_, refl, sym, _∙_, ap, subst}
 use mathlib.Core.Bool.{Bool, true, false, not, _||_, true≢false}
-use mathlib.Core.Logic.{_⊎_, inl, inr}
+use mathlib.Core.Logic.{inl, inr}
 use mathlib.Core.List.{List, [], _∷_, _++_}
 use native.Mathlib.Decide.{ℕ-discrete}
 use native.Mathlib.Omega.{arith}
@@ -28,6 +28,7 @@ use Rattle.attribute_lists.specs.declared.ListedRead.{ListedRead}
 use Rattle.attribute_lists.specs.declared.ListedRead.the-variants as answers
 use Rattle.attribute_lists.specs.Listed.{HeadRead, Headed, HeadedAs, anyIn, listedOf, listedFault, ListedFits, ListsAs, Again}
 use Rattle.attribute_lists.specs.Lookup.{any-found}
+use Rattle.rules_laws.specs.Holds.{got-one}
 
 attributes-on : (b : Bool) (x q : List Attribute) {r : Bool} {a : List Attribute} → (b || r) ≡ false → (r ≡ false → q ≡ a) → elim b [ true ↦ x | false ↦ q ] ≡ a
 attributes-on true x q e f = absurd (true≢false e)
@@ -178,9 +179,6 @@ module _ (long : ℕ) (s : List ℕ) (at : ℕ) (es : List rules.Element) (ls : 
             headed = headed-more long s heads ls h k from e (d .attributes) sized least most begins inside free (d .read);
           }
 
-one-end : {x y : ListEnd} → got x ≡ got y → x ≡ y
-one-end e = cc
-
 -- The list of one element read again.
 module _ (long : ℕ) (s : List ℕ) (from k : ℕ) (lists : List ℕ) where
   pub again-outside : (3 ≤ from → from ≤ length s → ⊥) → Again long s from k lists lists
@@ -208,7 +206,7 @@ module _ (long : ℕ) (s : List ℕ) (from k : ℕ) (lists : List ℕ) where
       }
     where
       same : (xs ys : List Attribute) (i j : ℕ) → listFrom long s from ≡ got (record { attributes = xs; at = i }) → listFrom long s from ≡ got (record { attributes = ys; at = j }) → xs ≡ ys
-      same xs ys i j p q = ap (λ (l : ListEnd). l .attributes) (one-end (sym p ∙ q))
+      same xs ys i j p q = ap (λ (l : ListEnd). l .attributes) (got-one (sym p ∙ q))
 
 -- The first k lists are in the table, and the others are empty.
 pub record Fills (long : ℕ) (s heads lists : List ℕ) (k : ℕ) : Type 0 where

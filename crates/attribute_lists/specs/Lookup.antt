@@ -1,7 +1,7 @@
 -- Which element a list is for: a search through the records.
 use Prim.Native.Nat.{ℕ, zero, suc, _+_, _-_, _*_, _≤_, _<_}
-use mathlib.Core.Path.{_≡_, refl, sym, _∙_, ap, subst}
-use mathlib.Core.Bool.{Bool, true, false, not, _||_}
+use mathlib.Core.Path.{_≡_, refl, sym, _∙_, ap}
+use mathlib.Core.Bool.{Bool, true, false, not, _||_, or-true}
 use mathlib.Core.List.{List, [], _∷_}
 use native.Mathlib.Decide.{ℕ-discrete}
 use native.Mathlib.Numerals.{add-one}
@@ -103,7 +103,7 @@ module _ (long : ℕ) (s : List ℕ) (es : List rules.Element) (ls : List AttLis
         unfolding listedElement
         listed-got h = rw (listedElement, l, ← ends, le-ltb _ _ short, ← ends, ← found, le-leb 1 k (omega (arith, some)), ← ends, ← found, listed, h, ← ends, ← found)
 
--- Whether one has a list
+-- An element may have a list.
 
 pub any-none : (heads : List ℕ) → anyIn heads 0 ≡ false
 unfolding anyIn
@@ -120,10 +120,6 @@ unfolding anyIn
 any-found heads k zero h f = absurd (omega (arith, h))
 any-found heads k (suc n) h f = by-last (ℕ-discrete k n) (λ l. any-found heads k n l f)
   where
-    or-true : (b : Bool) → (b || true) ≡ true
-    or-true true = refl
-    or-true false = refl
-
     by-last : Dec (k ≡ n) → (k < n → anyIn heads n ≡ true) → anyIn heads (suc n) ≡ true
     by-last (yes q) ih = ap (λ b. anyIn heads n || not b) (ne-eqb (getD heads n 0) 0 (λ z. f (ap (λ m. getD heads m 0) q ∙ z))) ∙ or-true (anyIn heads n)
     by-last (no q) ih = ap (λ b. b || not (eqb (getD heads n 0) 0)) (ih (omega (arith, h, q)))

@@ -28,6 +28,7 @@ pub enum ListedRead {
     Refused(Fault),
 }
 
+// The refusal of an answer that is one.
 fn fault_of_listed(r: ListedRead) -> Fault
     ensures { λ f. ⌜ f ≡ listedFault r ⌝ }
 {

@@ -1,7 +1,7 @@
 -- What is answered of one attribute, and of all of a tag.
 use Prim.Native.Nat.{ℕ, _+_, _*_, _-_, _≤_}
 use mathlib.Core.Path.{_≡_, refl, sym, _∙_, ap, subst}
-use mathlib.Core.Bool.{Bool, true, false, _&&_}
+use mathlib.Core.Bool.{Bool, true, false, and-false}
 use mathlib.Core.List.{List, [], _∷_, _++_}
 use native.Mathlib.Omega.{arith}
 use lib.ListN.{length, getD, take}
@@ -25,10 +25,6 @@ use Rattle.attribute_marks.specs.Marks.{Marked, Attributed}
 use Rattle.attribute_marks.specs.Each.{isNew, isFitting, Marks, Given, unlisted, unfitting, fitting}
 use Rattle.attribute_marks.specs.Marking.{isSome, mark-none, mark-some, given-in, putMark, marked-more}
 use Rattle.attribute_marks.specs.Listed.{kept-all, kept-refused}
-
-and-false : (a : Bool) → (a && false) ≡ false
-and-false true = refl
-and-false false = refl
 
 -- One attribute w, of which the table at b finds the number n.
 module _ (long : ℕ) (s l : List ℕ) (b : ℕ) (d : List ℕ) (w : Written) (marks : List ℕ) (xs : List Attribute) (before : List Written) (a : ListAt long s l b xs) (u : NamesDiffer s xs) (m : Marked s xs d before marks) (n : ℕ)
@@ -71,7 +67,7 @@ module _ (long : ℕ) (s l : List ℕ) (b : ℕ) (d : List ℕ) (w : Written) (m
         pub answer-unfitting : r ≡ false → Marks long s xs d before w (putMark marks (n - 1) (w .quote + 1) (w .width)) 22
         answer-unfitting t = unfitting new after (sym fit ∙ t)
 
--- All of a tag.
+-- All attributes of a tag are held against the list.
 module _ (long : ℕ) (s : List ℕ) (xs : List Attribute) (d : List ℕ) (ws : List Written) (marks : List ℕ) where
   -- What is answered of those that are kept is so of all.
   kept-given : (few : length xs ≤ ATTCNT) (f : Fault) → Given long s xs d (take (ATTCNT + 1) ws) marks f → Given long s xs d ws marks f

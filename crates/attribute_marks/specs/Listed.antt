@@ -1,21 +1,21 @@
 -- The attributes that a tag gives, read one after the other: a refusal of the first is one of all, one more, and that no more are listed than the list has.
 use Prim.Native.Nat.{ℕ, _+_, _≤_, _<_}
 use mathlib.Core.Path.{_≡_, refl, sym, _∙_, ap}
-use mathlib.Core.Bool.{Bool, true, false, not, _&&_, _||_, true≢false}
+use mathlib.Core.Bool.{Bool, true, false, not, _||_, or-false}
 use mathlib.Core.List.{List, [], _∷_, _++_}
 use native.Mathlib.Decide.{decLe}
 use native.Mathlib.Omega.{arith}
 use lib.ListN.{length, take, drop, take-append-drop}
 use lib.Seq.{take-all, length-take-le}
 use lib.Dec.{leb}
-use borrow.Author.Tests.{leb-true}
+use borrow.Author.Tests.{leb-true, not-true}
 use Rattle.rules.specs.Bytes.{ATTCNT}
 use Rattle.rules.specs.Reading.{Reading, refused, got, andThen}
 use Rattle.rules.specs.Attributes.{Attribute, isCalled, attributeFrom, attributeOf}
 use Rattle.rules.specs.TypeFile.{sameName}
 use Rattle.rules.specs.Document.{Written}
 use Rattle.rules.specs.Given.{isGivenIn, allListed, allFit, givenFor}
-use Rattle.basic_laws.specs.Truth.{bool-cases}
+use Rattle.basic_laws.specs.Truth.{bool-cases, and-split}
 use Rattle.attribute_marks.specs.Each.{isNew, isFitting}
 use Rattle.attribute_marks.specs.Marking.{some-none, given-in}
 
@@ -29,10 +29,6 @@ or-swap true true c = refl
 or-swap true false c = refl
 or-swap false true c = refl
 or-swap false false c = refl
-
-or-false : (a : Bool) → (a || false) ≡ a
-or-false true = refl
-or-false false = refl
 
 onto-given : (d : List ℕ) (vs bs : List Written) (w : Written) → isGivenIn d (onto vs bs) w ≡ (isGivenIn d vs w || isGivenIn d bs w)
 unfolding onto isGivenIn
@@ -49,7 +45,7 @@ module _ (s : List ℕ) (xs : List Attribute) (d : List ℕ) where
   pub listed-refused : (vs us : List Written) {n p : ℕ} → allListed s xs d [] vs ≡ refused n p → allListed s xs d [] (vs ++ us) ≡ refused n p
   listed-refused vs us e = listed-append [] vs us ∙ ap (λ (r : Reading (Unit {0})). andThen r (λ u. allListed s xs d (onto vs []) us)) e
 
-  -- One more.
+  -- One attribute more is listed.
   listed-one : (vs : List Written) (w : Written) → allListed s xs d [] vs ≡ got tt → allListed s xs d [] (vs ++ w ∷ []) ≡ elim (isNew s xs d vs w) [ true ↦ got tt | false ↦ refused 20 (w .at) ]
   unfolding allListed isGivenIn
   listed-one vs w e =
@@ -62,7 +58,7 @@ module _ (s : List ℕ) (xs : List Attribute) (d : List ℕ) where
   pub listed-ends : (vs : List Written) (w : Written) → allListed s xs d [] vs ≡ got tt → isNew s xs d vs w ≡ false → allListed s xs d [] (vs ++ w ∷ []) ≡ refused 20 (w .at)
   listed-ends vs w e n = listed-one vs w e ∙ rw n
 
--- Values
+-- Values fit what is declared.
 
 module _ (long : ℕ) (s : List ℕ) (xs : List Attribute) (d : List ℕ) where
   fit-append : (vs us : List Written) → allFit long s xs d (vs ++ us) ≡ andThen (allFit long s xs d vs) (λ u. allFit long s xs d us)
@@ -83,15 +79,7 @@ module _ (long : ℕ) (s : List ℕ) (xs : List Attribute) (d : List ℕ) where
   pub fit-ends : (vs : List Written) (w : Written) → allFit long s xs d vs ≡ got tt → isFitting long s xs d w ≡ false → allFit long s xs d (vs ++ w ∷ []) ≡ refused 22 (w .quote)
   fit-ends vs w e n = fit-one vs w e ∙ rw n
 
-not-true : (b : Bool) → not b ≡ true → b ≡ false
-not-true true e = absurd (true≢false (sym e))
-not-true false e = refl
-
--- How many
-
-and-split : (a b : Bool) → (a && b) ≡ true → (a ≡ true) × (b ≡ true)
-and-split true b e = (refl, e)
-and-split false b e = absurd (true≢false (sym e))
+-- No more attributes are given than the list has.
 
 -- How many of the attributes are given.
 unfoldable counted : (s : List ℕ) → List Attribute → (d : List ℕ) → List Written → ℕ

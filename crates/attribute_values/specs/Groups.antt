@@ -1,19 +1,20 @@
 -- A name token group, read again for one value: token after token, whether the value is one of them; and which declared value a number
 -- stands for.
-use Prim.Native.Nat.{ℕ, zero, suc, _+_, _-_, _≤_, _<_}
+use Prim.Native.Nat.{ℕ, zero, suc, _+_, _-_, _<_}
 use mathlib.Core.Path.{_≡_, refl, sym, _∙_, ap, subst}
-use mathlib.Core.Bool.{Bool, true, false, _&&_, _||_, true≢false}
+use mathlib.Core.Bool.{Bool, true, false, _&&_, _||_, true≢false, or-false, or-assoc, or-true}
 use mathlib.Core.List.{List, [], _∷_, _++_}
 use native.Mathlib.Omega.{arith}
-use lib.ListN.{length, drop}
+use lib.ListN.{length}
 use lib.Dec.{eqb, leb, ltb}
 use borrow.Author.Tests.{eqb-true, ltb-true, ltb-false}
-use Rattle.rules.specs.Bytes.{byteAt, nameByte, nameEnd, separatorsEnd, sameText, GRPCNT, GRPC, PERO}
+use Rattle.basic_laws.specs.Truth.{and-left}
+use Rattle.rules.specs.Bytes.{byteAt, nameByte, nameEnd, separatorsEnd, GRPCNT, GRPC, PERO}
 use Rattle.rules.specs.Reading.{Reading, got, refused}
 use Rattle.rules.specs.Attributes.{Part, DeclaredValue, cdata, number, name, isOneOf, fits}
 use Rattle.rules.specs.TypeFile.{isToken, groupToken, TokensEnd, isTokenConnector, groupTokens, tokenGroup}
 use Rattle.text.specs.Words.{test-in, spanned, before-all, separatorsEnd-from}
-use Rattle.rules_laws.specs.Holds.{Holds, stops, reads, Gives, got-so, so, on, either}
+use Rattle.rules_laws.specs.Holds.{stops, reads, Gives, got-so, so, on, either}
 use Rattle.attribute_values.specs.Parts.{isSame, GroupAt, DeclaredAs, as-cdata, as-number, as-name, as-tokens}
 
 refused≢got : {A : Type 0} {n k : ℕ} {a : A} → _≡_ {A = Reading A} (refused n k) (got a) → ⊥
@@ -26,22 +27,6 @@ refused≢got e = true≢false (ap isRefused e)
 whatever : {A : Type 0} (r : Reading A) → Gives (λ (a : A). r ≡ got a) r
 whatever (refused n k) = stops tt
 whatever (got a) = reads refl
-
-or-false : (b : Bool) → (b || false) ≡ (false || b)
-or-false true = refl
-or-false false = refl
-
-or-true : (b : Bool) → (b || true) ≡ true
-or-true true = refl
-or-true false = refl
-
-or-assoc : (a b c : Bool) → (a || (b || c)) ≡ ((a || b) || c)
-or-assoc true b c = refl
-or-assoc false b c = refl
-
-and-left : (a b : Bool) → (a && b) ≡ true → a ≡ true
-and-left true b e = refl
-and-left false b e = e
 
 -- A name that has a byte begins in the text.
 name-in : (s : List ℕ) (i : ℕ) → i < nameEnd s i → i < length s
@@ -115,7 +100,7 @@ module _ (long : ℕ) (s : List ℕ) (seen : List Part) where
     one-more : (ps : List Part) (p : Part) → isOneOf s (ps ++ p ∷ []) v ≡ (isOneOf s ps v || isSame s p v)
     unfolding isOneOf
     one-more [] p = or-false (isSame s p v)
-    one-more (q ∷ ps) p = ap (λ b. isSame s q v || b) (one-more ps p) ∙ or-assoc (isSame s q v) (isOneOf s ps v) (isSame s p v)
+    one-more (q ∷ ps) p = ap (λ b. isSame s q v || b) (one-more ps p) ∙ sym (or-assoc (isSame s q v) (isOneOf s ps v) (isSame s p v))
 
     kept : (left connector : ℕ) (ps : List Part) (at : ℕ) (t : TokensEnd) → groupTokens long s seen left connector ps at ≡ got t → isOneOf s ps v ≡ true → isOneOf s (t .tokens) v ≡ true
     unfolding groupTokens

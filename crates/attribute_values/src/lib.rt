@@ -65,6 +65,7 @@ fn is_cdata(v: &[u8]) -> bool
     true
 }
 
+// Whether a byte is a digit.
 fn is_digit(b: u8) -> bool
     ensures { λ r. ⌜ r ≡ digit b ⌝ }
 {
@@ -107,6 +108,7 @@ fn is_name(long: usize, v: &[u8]) -> bool
     text::name_end(v, 0) == v.len()
 }
 
+// Whether a byte may join the tokens of a group.
 fn is_connector(b: u8) -> bool
     ensures { λ r. ⌜ r ≡ isTokenConnector b ⌝ }
 {

@@ -2,6 +2,7 @@
 use Prim.Native.Nat.{ℕ, zero, suc, _≤_, _<_}
 use mathlib.Core.Path.{_≡_, refl}
 use mathlib.Core.Logic.{_⊎_, inl, inr}
+use mathlib.Core.Bool.{Bool, true, false, cond}
 use native.Mathlib.Omega.{arith}
 use native.Mathlib.Decide.{decLt}
 use lib.ListN.{getD, replicate}
@@ -20,6 +21,11 @@ none-there n f = decided (decLt 0 n)
     decided : Dec (0 < n) → n ≡ 0
     decided (yes h) = absurd (f (omega arith))
     decided (no h) = omega arith
+
+-- A bit is at most 1.
+pub bit-most : (b : Bool) → cond b 1 0 ≤ 1
+bit-most true = omega arith
+bit-most false = omega arith
 
 -- Every number of a list is x, and behind it x is asked for.
 pub replicate-at : {A : Type 0} (n : ℕ) (x : A) (k : ℕ) → getD (replicate n x) k x ≡ x

@@ -1,6 +1,6 @@
 -- Truth values: what follows from a test, and from `||`, `&&` and `cond`.
 use mathlib.Core.Path.{_≡_, refl}
-use mathlib.Core.Bool.{Bool, true, false, _&&_, _||_, cond, false≢true}
+use mathlib.Core.Bool.{Bool, true, false, not, _&&_, _||_, cond, false≢true}
 use lib.Dec.{eqb}
 
 -- What follows from a test follows where it is true and where it is false.
@@ -15,6 +15,9 @@ not-true false f = refl
 
 pub not-both : {a : Bool} → a ≡ false → a ≡ true → ⊥
 not-both x y = false≢true (rw x at y)
+
+pub false-not : (a : Bool) → a ≡ false → not a ≡ true
+false-not a e = rw e
 
 -- A test from which a true one would follow is false where that one is.
 pub no-from : {a b : Bool} → (a ≡ true → b ≡ true) → b ≡ false → a ≡ false

@@ -15,7 +15,7 @@ use Rattle.member_laws.specs.Members.{wordAt, begunAt, Elsewhere}
 use Rattle.member_bits.specs.declared.Bits.{Bits}
 use Rattle.member_bits.specs.Having.{Has}
 use Rattle.member_bits.specs.Bits.{mod-bit}
-use Rattle.member_bits.specs.Laws.{has-low, has-high, has-words}
+use Rattle.member_bits.specs.Operations.{has-low, has-high, has-words}
 use Rattle.begun_bits.specs.Levels.{Puts}
 
 -- The three words of a level have its members.
@@ -79,7 +79,7 @@ module _ (before : List ℕ) (level i j k x y z : ℕ) (b : Bits) (a : level ≤
   word-2 : wordAt three level 2 ≡ z
   word-2 = stored-here two level 2 k z at-k in-three (omega arith)
 
-  -- a bit of the word w, which is v
+  -- This is a bit of the word w, which is v.
   bit-of : (n w t v : ℕ) → (n - 1) / 32 ≡ w → (n - 1) % 32 ≡ t → wordAt three level w ≡ v → begunAt three level n ≡ eqb (v / 2 ^ t % 2) 1
   bit-of n w t v d e q = ap₂ (λ (p s : ℕ). eqb (wordAt three level p / 2 ^ s % 2) 1) d e ∙ ap (λ (p : ℕ). eqb (p / 2 ^ t % 2) 1) q
 

@@ -27,16 +27,16 @@ use Rattle.connectors.specs.Kept.{begun, Ready, Tabled, Joins, Keeps, jo
 pub joins-one : (g : Group) → Joins 1 0 g
 joins-one g = record { few = omega arith; alone = λ e. refl; some = λ e. absurd (omega arith); whole = λ e. absurd (omega arith); members = λ e. absurd (omega arith) }
 
--- The table and its code.
+-- The table has its code behind the rows.
 module _ (lo : ℕ) (T : List ℕ) (n : ℕ) where
-  -- where less is due
+  -- What is ready where less is due is ready where more is due.
   pub ready-more : {d e : ℕ} → e ≤ d → Ready (begun lo T n e) → Ready (begun lo T n d)
   ready-more h r = record { len = r .len; owed = omega (arith, r .owed) }
 
   pub tabled-less : {d e τ c : ℕ} {g : Group} {own table : List ℕ} → e ≤ d → Tabled (begun lo T n d) g own τ table c → Tabled (begun lo T n e) g own τ table c
   tabled-less h x = record { filled = x .filled; code-holds = x .code-holds; room = omega (arith, x .room) }
 
-  -- one number more in the code, behind a table that says g
+  -- The code has one number more, behind a table that says g.
   pub tabled-put : (d τ c op : ℕ) (g : Group) (own S : List ℕ) → Ready (begun lo T n d) → lo + size g ≤ POSITIONS → τ ≤ GRPGTCNT
       → Filled g lo T S → codeIn S c ≡ codeIn T n ++ own → c + (d + 1) ≤ n + 2 + 4 * τ → Tabled (begun lo T n d) g (own ++ op ∷ []) τ (putCode S c op) (codeNext c)
   tabled-put d τ c op g own S ready to few f h r =
@@ -48,12 +48,12 @@ module _ (lo : ℕ) (T : List ℕ) (n : ℕ) where
         room = omega arith;
       }
 
-  -- the same where the rows were changed before
+  -- The code has one number more where the rows were changed before.
   pub tabled-on : (d τ c op : ℕ) (g : Group) (own R S : List ℕ) → Ready (begun lo T n d) → lo + size g ≤ POSITIONS → τ ≤ GRPGTCNT
       → Filled g lo T S → Behind R S → codeIn R c ≡ codeIn T n ++ own → c + (d + 1) ≤ n + 2 + 4 * τ → Tabled (begun lo T n d) g (own ++ op ∷ []) τ (putCode S c op) (codeNext c)
   tabled-on d τ c op g own R S ready to few f b h r = tabled-put d τ c op g own S ready to few f (code-same R S (b .same) c ∙ h) r
 
--- An occurrence indicator.
+-- An occurrence indicator changes one group.
 
 abbrev pub grouped : Group → (at repeated : ℕ) → Tokens → Tokens
 grouped g at n t = record { group = g; at = at; places = t .places; tokens = t .tokens; and = t .and; repeated = n }
@@ -128,7 +128,7 @@ keeps-less end lo T n d e k joint names table m t h K = record {
   tokens-in = K .tokens-in;
 }
 
--- The group repeated.
+-- The group is repeated.
 module _ (lo : ℕ) (T : List ℕ) (n d τ c : ℕ) (table table' : List ℕ) (g : Group) (from : 1 ≤ lo) (to : lo + size g ≤ POSITIONS) (few : τ ≤ GRPGTCNT) (gn : Numbered g lo) (hi : ℕ) (H : hi ≡ lo + size g) (r : table' ≡ repeated table lo hi)
     (ready : Ready (begun lo T n d)) where
   again : Filled g lo T table → Filled (plus g) lo T table'
@@ -190,7 +190,7 @@ module _ (s : List ℕ) (lo : ℕ) (T : List ℕ) (n d : ℕ) (names table : Lis
   pub occurs-not : (b ≡ OPT → ⊥) → (b ≡ PLUS → ⊥) → (b ≡ REP → ⊥) → Keeps (length s) (begun lo T n d) 1 0 names table m (occurrence s t)
   occurs-not x y z = rw (occurrence-none s t (not OPT x) (not PLUS y) (not REP z)) (keeps-less (length s) lo T n (d + 2) d 1 0 names table m t (omega arith) K)
 
--- Two groups joined by a connector.
+-- Two groups are joined by a connector.
 
 -- What the code keeps of them.
 abbrev pub bothKept : Model → Part → (code and repeated : ℕ) → Model

@@ -1,7 +1,7 @@
 -- Laws of two groups that are joined by a connector: what is kept of each makes what is kept of both.
 use Prim.Native.Nat.{ℕ, _+_, _*_, _≤_, _<_}
 use mathlib.Core.Path.{_≡_, refl, sym, ap, ap₂, subst, _∙_}
-use mathlib.Core.Bool.{true, false, _||_}
+use mathlib.Core.Bool.{true, _||_}
 use mathlib.Core.Logic.{_⊎_, inl, inr, ⊎-elim}
 use mathlib.Core.List.{List, [], _∷_, _++_, append-assoc}
 use native.Mathlib.Omega.{arith}
@@ -13,17 +13,18 @@ use Rattle.rules.specs.TypeFile.{Tokens, isConnector, membersOf, earlier, joinT
 use Rattle.rules.specs.Bytes.{AND, GRPCNT, OR, SEQ}
 use Rattle.layout.specs.Sizes.{POSITIONS}
 use Rattle.basic_laws.specs.Truth.{or-cases}
-use Rattle.model_sets.specs.Sets.{size, sizeM, Numbered, NumberedM}
+use Rattle.model_sets.specs.Sets.{size, sizeM, Numbered, NumberedM, amount}
 use Rattle.model_links.specs.Behind.{Behind, behind-none}
 use Rattle.model_table.specs.declared.Part.{Part}
 use Rattle.model_table.specs.Fill.{partOf, partSeq, partAlt, partAnd, joinSeq, joinAnd}
 use Rattle.model_table.specs.Shows.{Filled, both, sequence, any-order}
 use Rattle.model_table.specs.Behind.{seq-behind, and-behind}
 use Rattle.model_code.specs.Six.{putCode, codeNext}
-use Rattle.model_code.specs.Spelled.{count, codes, codesM, codeIn}
+use Rattle.model_code.specs.Spelled.{codes, codesM, codeIn}
 use Rattle.connectors.specs.declared.Model.{Model}
-use Rattle.connectors.specs.Kept.{begun, Ready, Tabled, spelt, Joins, Keeps, joinPart, joinModel, joinRows, joinNumber, joinTable}
+use Rattle.connectors.specs.Kept.{begun, Ready, Tabled, spelt, Joins, Keeps, joinModel, joinTable}
 use Rattle.connectors.specs.Grown.{tabled-on}
+use Rattle.model_sets.specs.Numbering.{amount-one}
 
 -- Which connectors there are.
 pub connector-is : (b : ℕ) → isConnector b ≡ true → (b ≡ SEQ) ⊎ ((b ≡ OR) ⊎ (b ≡ AND))
@@ -39,7 +40,7 @@ record Whole (lo k joint : ℕ) (T table : List ℕ) (g : Group) (M : Members) :
   sized : sizeM M ≡ size g
   parted : partOf (and M) ≡ partOf g
   spelled : spelt joint g ≡ codesM M
-  counted : count M ≡ k
+  counted : amount M ≡ k
 
 module _ (lo k joint : ℕ) (T table : List ℕ) (g : Group) (gn : Numbered g lo) (j : Joins k joint g) where
   whole-one : joint ≡ 0 → Whole lo k joint T table g (one g)
@@ -150,7 +151,7 @@ module _ (end lo : ℕ) (T : List ℕ) (n d k joint : ℕ) (names table names' t
       (both (t .group) (w .group) lo (K .from) to (K .numbered) second T table table' (first-tabled ready .filled) (second-filled ready))
       behind-none)
 
-  -- one member more
+  -- The group has one member more.
   join-and : (i : ℕ) (M : Members) → Whole lo k joint T table (t .group) M
       → Keeps end (begun lo T n d) (k + 1) AND names' (joinTable AND lo m u table') (joinModel AND i m u)
       (record { group = and (also M (w .group)); at = w .at; places = w .places; tokens = w .tokens; and = earlier (t .and) i; repeated = earlier (t .repeated) (w .repeated) })
@@ -161,19 +162,15 @@ module _ (end lo : ℕ) (T : List ℕ) (n d k joint : ℕ) (names table names' t
       let hn : Numbered (w .group) (lo + sizeM M) = rw z second in
       let last : lo + sizeM M + size (w .group) ≤ POSITIONS = omega (arith, to) in
       whole AND (and (also M (w .group))) (partAnd (m .part) (u .part)) (putCode R (u .code) ALSO-CODE) _ _ (ap₂ partAnd (K .part ∙ sym (h .parted)) (L .part)) (rw (K .and-at)) (h .numbered, hn) (omega arith)
-      (record { few = omega arith; alone = λ e. absurd (omega arith); some = λ e. omega (arith, members-some M, h .counted); whole = λ e. refl; members = λ e. omega (arith, h .counted) })
+      (record { few = omega arith; alone = λ e. absurd (omega arith); some = λ e. omega (arith, amount-one M, h .counted); whole = λ e. refl; members = λ e. omega (arith, h .counted) })
       (λ ready.
       joined-tabled ready (and (also M (w .group))) R (codesM M) ALSO-CODE (omega arith) (h .spelled)
       (rw is
       (any-order (and M) (w .group) lo (K .from) last (h .numbered) hn T table'
       (both (and M) (w .group) lo (K .from) last (h .numbered) hn T table table' (h .filled (first-tabled ready .filled)) (rw z (second-filled ready)))))
       (rw is (and-behind table' lo (lo + sizeM M) (lo + sizeM M + size (w .group)) (omega arith) (omega arith) last)))
-    where
-      members-some : (M : Members) → 1 ≤ count M
-      members-some (one g) = omega arith
-      members-some (also M g) = omega arith
 
-  -- so by any connector that may stand there
+  -- Two groups are joined by any connector that may stand there.
   pub join-kept : (b i : ℕ) → isConnector b ≡ true → (eqb joint 0 || eqb joint b) ≡ true → Keeps end (begun lo T n d) (k + 1) b names' (joinTable b lo m u table') (joinModel b i m u) (joinTokens k b i t w)
   join-kept b i c j = ⊎-elim by-seq (λ x. ⊎-elim by-alt by-and x) (connector-is b c)
     where

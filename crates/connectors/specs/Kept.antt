@@ -10,12 +10,12 @@ use Rattle.rules.specs.Walk.{Group, and}
 use Rattle.rules.specs.TypeFile.{Tokens, membersOf, earlier}
 use Rattle.rules.specs.Bytes.{AND, GRPCNT, GRPGTCNT, SEQ}
 use Rattle.layout.specs.Sizes.{MODEL}
-use Rattle.model_sets.specs.Sets.{size, Numbered}
+use Rattle.model_sets.specs.Sets.{size, Numbered, amount}
 use Rattle.model_table.specs.declared.Part.{Part}
 use Rattle.model_table.specs.Fill.{partOf, partSeq, partAlt, partAnd, joinSeq, joinAnd}
 use Rattle.model_table.specs.Shows.{Filled}
 use Rattle.model_code.specs.Six.{putCode, codeNext}
-use Rattle.model_code.specs.Spelled.{count, codes, codesM, codeIn}
+use Rattle.model_code.specs.Spelled.{codes, codesM, codeIn}
 use Rattle.model_names.specs.Places.{placesOf}
 use Rattle.connectors.specs.declared.Model.{Model}
 
@@ -51,9 +51,9 @@ pub record Joins (k joint : ℕ) (g : Group) : Type 0 where
   pub alone : joint ≡ 0 → k ≡ 1
   pub some : joint ≡ AND → 2 ≤ k
   pub whole : joint ≡ AND → g ≡ and (membersOf g)
-  pub members : joint ≡ AND → count (membersOf g) ≡ k
+  pub members : joint ≡ AND → amount (membersOf g) ≡ k
 
--- m is what the code keeps of t beside its two tables, of an input of `end` bytes: t is the group of k content tokens joined by the connector.
+-- The code keeps m of t beside its two tables, of an input of `end` bytes: t is the group of k content tokens joined by the connector.
 pub record Keeps (end : ℕ) (B : Begun) (k joint : ℕ) (names table : List ℕ) (m : Model) (t : Tokens) : Type 0 where
   pub at : m .at ≡ t .at
   pub places : m .places ≡ length (t .places)
@@ -63,7 +63,7 @@ pub record Keeps (end : ℕ) (B : Begun) (k joint : ℕ) (names table : List ℕ
   pub repeated-at : m .repeated ≡ t .repeated
   pub names-hold : placesOf names (m .places) ≡ t .places
   pub tabled : Ready B → Tabled B (t .group) (spelt joint (t .group)) (t .tokens) table (m .code)
-  -- and what holds of t itself
+  -- This is what holds of t itself.
   pub joins : Joins k joint (t .group)
   pub from : 1 ≤ B .lo
   pub numbered : Numbered (t .group) (B .lo)

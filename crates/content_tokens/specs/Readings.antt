@@ -29,13 +29,13 @@ module _ (end : ℕ) (B : Begun) (names table : List ℕ) where
   refused-meets r n k x p q = rw (p, q) (refl, refl)
 
 module _ (end : ℕ) (B : Begun) (names table : List ℕ) (r : ModelRead) (x : Reading Tokens) (M : Meets end B names table r x) where
-  -- what was read lies within its bounds
+  -- What was read lies within its bounds.
   pub read-in : (m : Model) → r ≡ Read m → (m .at ≤ end) × (m .places ≤ m .tokens) × (m .tokens ≤ GRPGTCNT)
   read-in m e =
       let w = read-got end B names table m x (rw e at M) in
       omega (arith, w .2)
 
-  -- what was refused stays so, and what was read goes on
+  -- What was refused stays so, and what was read goes on.
   pub refused-then : (C : Begun) (f : Fault) (g : Tokens → Reading Tokens) (y : Reading Tokens) → r ≡ Refused f → y ≡ andThen x g → Meets end C names table r y
   refused-then C f g y e q =
       let z = refused-is end B names table f x (rw e at M) in

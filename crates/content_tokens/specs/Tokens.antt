@@ -31,7 +31,7 @@ use Rattle.content_tokens.specs.declared.ModelRead.{ModelRead}
 use Rattle.content_tokens.specs.declared.ModelRead.the-variants.{Refused}
 use Rattle.content_tokens.specs.Meets.{wrongData}
 
--- A new place.
+-- A new place is put.
 
 module _ (end at at' size places tokens n : ℕ) (T names₀ names : List ℕ) (h : at' ≤ end) (i : places ≤ tokens) (j : tokens < GRPGTCNT)
     (e : placesOf names (places + 1) ≡ placesOf names₀ places ++ record { at = at; size = size } ∷ []) where
@@ -44,7 +44,7 @@ module _ (end at at' size places tokens n : ℕ) (T names₀ names : List ℕ) (
   counted : suc (length (placesOf names₀ places)) ≡ places + 1
   counted = omega (arith, placesOf-length names₀ places)
 
-  -- what is kept where the place is the group g, or has an indicator
+  -- This is kept where the place is the group g, or has an indicator.
   new-keeps : (d c : ℕ) (g : ℕ → Group) (p : Part) (S : List ℕ) → p ≡ partOf (g (places + 1)) → Numbered (g (places + 1)) (places + 1) → sets.size (g (places + 1)) ≡ 1
       → (Ready (begun (places + 1) T n d) → Tabled (begun (places + 1) T n d) (g (places + 1)) (codes (g (places + 1))) (tokens + 1) S c)
       → Keeps end (begun (places + 1) T n d) 1 0 names S (newModel p c) (newTokens (g (suc (length (placesOf names₀ places)))))
@@ -84,7 +84,7 @@ module _ (end at at' size places tokens n : ℕ) (T names₀ names : List ℕ) (
         rw (s, k)
         (tabled-on (places + 1) T n (4 * tokens + 3 + 2) (tokens + 1) n (places + 1) (place (places + 1)) [] T R ready (omega arith) (omega arith) (place-filled (ready .len)) place-kept (sym (append-nil (codeIn T n))) (omega arith)))
 
-    -- `#PCDATA`, which repeats or is left out
+    -- A `#PCDATA` repeats or is left out.
     pub new-data : (p : Part) (Q S₁ S₂ S : List ℕ) (c₁ c₂ c : ℕ) → p ≡ part true 0 → Q ≡ repeated R (places + 1) (places + 1 + 1) → S₁ ≡ putCode Q n (places + 1) → c₁ ≡ codeNext n
         → S₂ ≡ putCode S₁ c₁ PLUS-CODE → c₂ ≡ codeNext c₁ → S ≡ putCode S₂ c₂ OPT-CODE → c ≡ codeNext c₂
         → Keeps end (begun (places + 1) T n (4 * tokens + 3)) 1 0 names S (newModel p c) (newTokens (star (newPlace (placesOf names₀ places))))
@@ -117,7 +117,7 @@ module _ (long : ℕ) (s : List ℕ) (at e : ℕ) (full : Bool) (ps : List Place
   unfolding nameToken
   name-got h f = rw (le-ltb _ _ (rw E at h), f, nameToken, E)
 
--- `#PCDATA`.
+-- A `#PCDATA` is read.
 
 module _ (s : List ℕ) (at : ℕ) (full : Bool) (ps : List Place) (n : ℕ) where
   module _ (L : letter (byteAt s (at + 1)) ≡ true) (e : ℕ) (E : e ≡ nameEnd s (at + 1)) (w : Bool) (W : w ≡ isWord s (at + 1) e PCDATA) where

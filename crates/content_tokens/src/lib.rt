@@ -13,6 +13,7 @@ ghost use Rattle.model_names.specs.Places.{placesOf};
 ghost use Rattle.connectors.specs.Kept.{begun};
 ghost use Rattle.content_tokens.specs.Meets.{wrongData, Meets, modelFault};
 
+// A model, or a part of one, that was read, or the refusal of it.
 pub enum ModelRead {
     Read(Model),
     Refused(Fault),

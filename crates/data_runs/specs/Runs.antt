@@ -1,12 +1,13 @@
 -- What goes on a run of data, and the loops that pass one.
 use Prim.Native.Nat.{ℕ, suc, _+_, _-_, _≤_, _<_}
 use mathlib.Core.Path.{_≡_, refl, sym, ap}
-use mathlib.Core.Bool.{Bool, true, false, not, _&&_, _||_, true≢false}
+use mathlib.Core.Bool.{Bool, true, false, not, _&&_, _||_}
 use mathlib.Core.List.{List}
 use native.Mathlib.Omega.{arith}
 use lib.ListN.{length}
 use lib.Dec.{eqb}
 use borrow.Author.Tests.{eqb-true, eqb-false}
+use Rattle.basic_laws.specs.Truth.{or-none}
 use Rattle.rules.specs.Bytes.{byteAt, letter, AND, DSC, DSO, EXCLAMATION, MDC, OPT, RE, RS, SOLIDUS, SPACE, STAGO, TAB}
 use Rattle.rules.specs.Reading.{Reading, refused, got}
 use Rattle.rules.specs.TypeFile.{atDashes}
@@ -15,10 +16,6 @@ use Rattle.delimiters.specs.Classes.{special}
 use Rattle.rules_laws.specs.Runs.{anyPiece, isRun, runs, runEnd, runs-more, runs-none}
 use Rattle.document_text.specs.PieceOf.{asSkipped}
 use Rattle.document_text.specs.Ways.{declaration-out, declaration-data, markup-out, markup-data, byte-skipped, byte-blank, byte-data}
-
-neither : (a b : Bool) → (a || b) ≡ false → (a ≡ false) × (b ≡ false)
-neither true b e = absurd (true≢false e)
-neither false b e = (refl, e)
 
 -- What was read as a comment ends a run, refused or not.
 pub skipped-stops : (r : Reading ℕ) → isRun (asSkipped r) ≡ false
@@ -55,13 +52,13 @@ unfolding piece bytePiece
 plain-runs s i b q e = rw (piece, bytePiece, less .0, and .0, section .0, section .1) (by-blank (eqb (byteAt s i) TAB || (eqb (byteAt s i) RE || eqb (byteAt s i) SPACE)))
   where
     less : (eqb (byteAt s i) STAGO ≡ false) × ((eqb (byteAt s i) AND || (eqb (byteAt s i) DSC || eqb (byteAt s i) RS)) ≡ false)
-    less = neither _ _ (rw q at e)
+    less = or-none _ _ (rw q at e)
 
     and : (eqb (byteAt s i) AND ≡ false) × ((eqb (byteAt s i) DSC || eqb (byteAt s i) RS) ≡ false)
-    and = neither _ _ (less .1)
+    and = or-none _ _ (less .1)
 
     section : (eqb (byteAt s i) DSC ≡ false) × (eqb (byteAt s i) RS ≡ false)
-    section = neither _ _ (and .1)
+    section = or-none _ _ (and .1)
 
     by-blank : (w : Bool) → isRun (elim w [ true ↦ got blank | false ↦ got dataByte ]) ≡ true
     by-blank true = refl

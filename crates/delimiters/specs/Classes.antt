@@ -11,7 +11,7 @@ use Rattle.rules.specs.Bytes.{nameByte, AND, DSC, RS, STAGO}
 abbrev pub special : ℕ → Bool
 special b = eqb b STAGO || (eqb b AND || (eqb b DSC || eqb b RS))
 
--- x is the class of the byte b: 1 if it is special, and 2 more if it may go on a name.
+-- The class of the byte b is x: 1 if it is special, and 2 more if it may go on a name.
 pub record ClassOf (b x : ℕ) : Type 0 where
   pub specially : eqb (x % 2) 1 ≡ special b
   pub named : eqb (x / 2 % 2) 1 ≡ nameByte b

@@ -6,8 +6,8 @@ use mathlib.Core.List.{List, [], _∷_}
 use native.Mathlib.Omega.{arith}
 use lib.ListN.{length, getD}
 use lib.Dec.{eqb}
+use Rattle.basic_laws.specs.Truth.{and-left, and-right}
 use Rattle.rules.specs.Bytes.{letter, nameByte}
-use Rattle.text.specs.Words.{second}
 use Rattle.delimiters.specs.Classes.{special, ClassOf, Classes}
 
 -- The classes of the bytes from 0 on, sixteen a row.
@@ -40,10 +40,6 @@ same-is true b e = sym e
 same-is false false e = refl
 same-is false true e = e
 
-first : (a b : Bool) → (a && b) ≡ true → a ≡ true
-first true b e = refl
-first false b e = e
-
 abbrev right : (b x : ℕ) → Bool
 right b x = same (eqb (x % 2) 1) (special b) && same (eqb (x / 2 % 2) 1) (nameByte b)
 
@@ -53,16 +49,16 @@ allRight i [] = true
 allRight i (x ∷ xs) = right i x && allRight (suc i) xs
 
 right-is : (b x : ℕ) → right b x ≡ true → ClassOf b x
-right-is b x e = record { specially = same-is _ _ (first _ _ e); named = same-is _ _ (second (same (eqb (x % 2) 1) (special b)) _ e) }
+right-is b x e = record { specially = same-is _ _ (and-left _ _ e); named = same-is _ _ (and-right (same (eqb (x % 2) 1) (special b)) _ e) }
 
 each-right : (xs : List ℕ) (i : ℕ) → allRight i xs ≡ true → (k : ℕ) → k < length xs → ClassOf (i + k) (getD xs k 0)
 each-right [] i e k h = absurd (omega arith)
 each-right (x ∷ xs) i e zero h =
     let q : i + 0 ≡ i = omega arith in
-    rw q (right-is i x (first (right i x) _ e))
+    rw q (right-is i x (and-left (right i x) _ e))
 each-right (x ∷ xs) i e (suc k) h =
     let q : i + suc k ≡ suc i + k = omega arith in
-    rw q (each-right xs (suc i) (second (right i x) _ e) k (omega arith))
+    rw q (each-right xs (suc i) (and-right (right i x) _ e) k (omega arith))
 
 pub classes-right : Classes classTable
 unfolding nameByte letter

@@ -44,6 +44,7 @@ pub fn is_left_out(b: u8) -> bool
     b == b'['
 }
 
+// Whether a byte is a letter or a digit.
 fn is_letter_or_digit(b: u8) -> bool
     ensures { λ r. ⌜ r ≡ (letter b || (leb 48 b && leb b 57)) ⌝ }
 {
@@ -89,7 +90,7 @@ pub fn is_section_end(s: &[u8], i: usize) -> bool
 pub fn class_table() -> [u8; 256]
     ensures { λ r. ⌜ Classes r ⌝ }
 {
-    // The class of each byte, 32 a row, is 1 for one that may begin something else than data, 2 for one that may go on a name
+    // The class of each byte, 32 a row, is 1 for one that may begin something else than data, 2 for one that may go on a name.
     *b"\0\0\0\0\0\0\0\0\0\0\x01\0\0\0\0\0\0\0\0\0\0\0\0\0\0\0\0\0\0\0\0\0\
         \0\0\0\0\0\0\x01\0\0\0\0\0\0\x02\x02\0\x02\x02\x02\x02\x02\x02\x02\x02\x02\x02\0\0\x01\0\0\0\
         \0\x02\x02\x02\x02\x02\x02\x02\x02\x02\x02\x02\x02\x02\x02\x02\x02\x02\x02\x02\x02\x02\x02\x02\x02\x02\x02\0\0\x01\0\0\

@@ -35,12 +35,6 @@ use Rattle.group_reader.specs.Further.{beforeEnd, MeetsFurther, closedTa
 
 -- Two tests of which one is to hold.
 
-pub or-first : (f g : Bool) → f ≡ true → (f || g) ≡ true
-or-first f g e = rw e
-
-pub or-second : (f g v : Bool) → f ≡ false → g ≡ v → (f || g) ≡ v
-or-second f g v e q = rw (e, q)
-
 pub or-other : (f : Bool) (n : ℕ) (r : Bool) → r ≡ (f || leb GRPGTCNT n) → r ≡ false → n < GRPGTCNT
 or-other true n r e q = absurd (true≢false (sym e ∙ q))
 or-other false n r e q = leb-false GRPGTCNT n (sym e ∙ q)
@@ -76,7 +70,7 @@ module _ (end : ℕ) (B : Begun) (k : ℕ) (names table : List ℕ) where
   pub unfit-meets : (r : Next) (f : Fault) (x : Reading Further) → r ≡ Unfit f → x ≡ refused (f .number) (f .at) → MeetsFurther end B k names table r x
   unfit-meets r f x p q = rw (p, q) (refl, refl)
 
--- A content token.
+-- A content token is read.
 
 module _ (long : ℕ) (inner : ℕ → List Place → ℕ → Reading Tokens) (s : List ℕ) (at b : ℕ) (full l : Bool) (ps : List Place) (n : ℕ) (B : b ≡ byteAt s at) (L : l ≡ letter b) where
   pub token-name : l ≡ true → token long inner s at full ps n ≡ nameToken long s at full ps n
@@ -147,7 +141,7 @@ module _ (long : ℕ) (inner : ℕ → List Place → ℕ → Reading Tokens) (s
   unfolding members
   members-refused n p e = rw (left, members, e)
 
--- A group.
+-- A group is read.
 
 pub group-none : (long : ℕ) (levels : ℕ) (s : List ℕ) (at : ℕ) (ps : List Place) (n : ℕ) → levels ≡ 0 → group long levels s at ps n ≡ refused 6 at
 unfolding group
@@ -242,7 +236,7 @@ module _ (long : ℕ) (inner : ℕ → List Place → ℕ → Reading Tokens) (s
   pub so-first : So long inner s lo names₀ table₀ m₀ names₀ table₀ m₀ 1 0
   so-first = record { few = omega arith; read = λ T n d t K. (t, K, refl) }
 
-  -- what is kept of them lies within its bounds
+  -- What is kept of them lies within its bounds.
   pub so-in : (names table : List ℕ) (m : Model) (k joint : ℕ) → So long inner s lo names₀ table₀ m₀ names table m k joint
       → (T : List ℕ) (n d : ℕ) (t₀ : Tokens) → Keeps (length s) (begun lo T n (d + 1)) 1 0 names₀ table₀ m₀ t₀ → (m .at ≤ length s) × (m .places ≤ m .tokens) × (m .tokens ≤ GRPGTCNT)
   so-in names table m k joint S T n d t₀ K₀ = omega (arith, S .read T n d t₀ K₀ .1)

@@ -1,7 +1,7 @@
 -- What the table of lists says, and what the loops over it find.
 use Prim.Native.Nat.{ℕ, zero, suc, _+_, _*_, _-_, _≤_, _<_}
 use mathlib.Core.Path.{_≡_, refl, sym, _∙_, ap, subst}
-use mathlib.Core.Bool.{Bool, true, false, _||_, true≢false}
+use mathlib.Core.Bool.{Bool, true, false, _||_, true≢false, or-true}
 use mathlib.Core.Logic.{_⊎_, inl, inr}
 use mathlib.Core.List.{List, [], _∷_, _++_}
 use native.Mathlib.Decide.{ℕ-discrete}
@@ -11,23 +11,23 @@ use lib.Seq.{getD-set-same, getD-set-other}
 use lib.Dec.{eqb, leb}
 use borrow.Author.Tests.{eq-eqb, ne-eqb, le-leb, lt-leb}
 use Rattle.rules.specs.Bytes.{sameText, ATTCNT}
-use Rattle.rules.specs.Attributes.{Default, required, implied, literal, Attribute, isCalled, attributeFrom, attributeOf, attributeAt, isRequired, needsTag}
+use Rattle.rules.specs.Attributes.{required, implied, literal, Attribute, isCalled, attributeFrom, attributeOf, attributeAt, isRequired, needsTag}
 use Rattle.layout.specs.Sizes.{ATTRIBUTE, LIST}
 use Rattle.attribute_defaults.specs.DefaultOf.{defaultIs}
 use Rattle.list_table.specs.declared.Row.{Row}
-use Rattle.list_table.specs.Lists.{rowIn, Short, RowOf, isNamed, ListAt, Copied}
+use Rattle.list_table.specs.Lists.{rowIn, RowOf, isNamed, ListAt, Copied}
 
 pub getD-past : (l : List ℕ) (i : ℕ) → length l ≤ i → 0 ≡ getD l i 0
 getD-past [] i h = refl
 getD-past (x ∷ l) zero h = absurd (omega (arith, h))
 getD-past (x ∷ l) (suc i) h = getD-past l i (omega (arith, h))
 
--- A row, number by number.
+-- A row is read number by number.
 pub row-is : (l : List ℕ) (i : ℕ) {a b v d n : ℕ} → a ≡ getD l i 0 → b ≡ getD l (i + 1) 0 → v ≡ getD l (i + 2) 0 → d ≡ getD l (i + 3) 0 → n ≡ getD l (i + 4) 0
     → _≡_ {A = Row} (record { name = a; size = b; value = v; default = d; width = n }) (rowIn l i)
 row-is l i p q r t u = rw (p, q, r, t, u)
 
--- Attributes by number
+-- Attributes are found by number.
 
 pub at-before : (xs : List Attribute) (x : Attribute) (k : ℕ) → k < length xs → attributeAt (xs ++ x ∷ []) k ≡ attributeAt xs k
 unfolding attributeAt
@@ -40,7 +40,7 @@ unfolding attributeAt
 at-last [] x = refl
 at-last (a ∷ xs) x = at-last xs x
 
--- Whether one is required
+-- One of them may be required.
 
 pub required-is : (x n : ℕ) → x ≡ 0 → isRequired (defaultIs x n) ≡ true
 required-is x n e = rw (defaultIs, eq-eqb x 0 e)
@@ -52,10 +52,6 @@ required-not x n h = by-tests (eqb x 0) (eqb x 1) (ne-eqb x 0 h)
     by-tests true b e = absurd (true≢false e)
     by-tests false true e = refl
     by-tests false false e = refl
-
-or-true : (b : Bool) → (b || true) ≡ true
-or-true true = refl
-or-true false = refl
 
 needs-found : (xs : List Attribute) (k : ℕ) → k < length xs → isRequired (attributeAt xs k .default) ≡ true → needsTag xs ≡ true
 unfolding attributeAt needsTag
@@ -93,7 +89,7 @@ module _ (l : List ℕ) (b : ℕ) where
     required-none k n m h w =
         sym (needs-none xs (λ j g. ap isRequired (sym (a .rows j g .default)) ∙ required-not _ _ (w .none j (omega (arith, g, h, m)))))
 
--- Which one is called so
+-- One of them may be called so.
 
 module _ (s t : List ℕ) (at size : ℕ) where
   from-found : (m : ℕ) (xs : List Attribute) (k : ℕ) → k < length xs → ((j : ℕ) → j < k → isCalled s (attributeAt xs j) t at size ≡ false) → isCalled s (attributeAt xs k) t at size ≡ true
@@ -159,7 +155,7 @@ module _ (s : List ℕ) (r : Row) (t : List ℕ) (at size : ℕ) where
   pub named-text : r .size ≡ size → r .name + size ≤ length s → {v : Bool} → v ≡ sameText s (r .name) t at size → v ≡ isNamed s r t at size
   named-text e h q = rw (isNamed, eq-eqb _ _ e, le-leb _ _ h) q
 
--- Rows written
+-- Rows are written.
 
 -- The five numbers from i on are those of r.
 abbrev pub putRow : List ℕ → ℕ → Row → List ℕ
@@ -251,7 +247,7 @@ list-put l k r full room long s xs x m a o =
         subst (λ (y : Attribute). RowOf long s (rowIn now (1 + ATTRIBUTE * j)) y) (sym (at-before xs x j (omega (arith, h, q, m))))
         (subst (λ (y : Row). RowOf long s y (attributeAt xs j)) (sym same) (a .rows j (omega (arith, h, q, m))))
 
--- Lists copied
+-- Lists are copied.
 
 -- The first i numbers of a list stand in the table from `from` on, and all others are what they were.
 pub record Copying (list : List ℕ) (from : ℕ) (before after : List ℕ) (i : ℕ) : Type 0 where

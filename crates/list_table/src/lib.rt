@@ -14,7 +14,7 @@ ghost use mathlib.Core.List.{List, [], _∷_, _++_};
 ghost use Prim.Native.Nat.{ℕ, _+_, _*_, _-_, _≤_, _<_};
 ghost use lib.ListN.{length, getD};
 ghost use Rattle.rules.specs.Bytes.{ATTCNT, elementLimit};
-ghost use Rattle.rules.specs.Attributes.{Attribute, attributeAt, attributeOf, needsTag};
+ghost use Rattle.rules.specs.Attributes.{Attribute, attributeOf, needsTag};
 ghost use Rattle.layout.specs.Sizes.{ATTRIBUTE, LIST, LISTS};
 ghost use Rattle.list_table.specs.Lists.{rowIn, Short, RowOf, isNamed, ListAt, Copied};
 

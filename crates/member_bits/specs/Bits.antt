@@ -7,12 +7,12 @@ use native.Mathlib.Decide.{decLt}
 use native.Mathlib.Omega.{arith}
 use lib.Dec.{eqb}
 use borrow.Author.Tests.{eqb-true, eqb-false}
-use Rattle.basic_laws.specs.Truth.{bool-cases}
+use Rattle.basic_laws.specs.Truth.{bool-cases, eqb-bit}
 use lib.Pow.{shr-shr, shr-le, high, low, field, mod-mod-pow, pow-mono, shl-exact}
 use lib.Bits.{bitAnd, bitOr, bitXor, and-shr, and-mod, or-shr, or-mod, xor-shr, xor-mod, and-step, and-self}
 use Rattle.member_bits.specs.Having.{Lowest}
 
--- Halves
+-- A number is halved bit by bit.
 
 pub half-shift : (x j : ℕ) → x / 2 ^ suc j ≡ x / 2 / 2 ^ j
 half-shift x j = let e : suc j ≡ 1 + j = omega arith in ap (λ (n : ℕ). x / 2 ^ n) e ∙ sym (shr-shr x 1 j)
@@ -42,7 +42,7 @@ pow-unset (suc i) (suc j) n = ap (λ (n : ℕ). n % 2) (half-shift (2 ^ suc i) j
 pow-bit : (i j : ℕ) → 2 ^ i / 2 ^ j % 2 ≡ cond (eqb j i) 1 0
 pow-bit i j = bool-cases (eqb j i) (λ x. rw (x, eqb-true j i x) (pow-set i)) (λ x. rw x (pow-unset i j (eqb-false j i x)))
 
--- Two numbers together
+-- Two numbers go together bit by bit.
 
 -- An operation on two numbers goes bit by bit as an operation on Booleans does.
 module _ (op : ℕ → ℕ → ℕ) (f : Bool → Bool → Bool) (shr : (a b k : ℕ) → op a b / 2 ^ k ≡ op (a / 2 ^ k) (b / 2 ^ k)) (rest : (a b k : ℕ) → op a b % 2 ^ k ≡ op (a % 2 ^ k) (b % 2 ^ k)) (neither : eqb (op 0 0) 1 ≡ f false false) (second : eqb (op 0 1) 1 ≡ f false true) (first : eqb (op 1 0) 1 ≡ f true false) (both : eqb (op 1 1) 1 ≡ f true true) where
@@ -73,11 +73,7 @@ xor-one = bit-by-bit bitXor differs xor-shr xor-mod refl refl refl refl
 
 -- A bit more is set.
 pub or-bit : (w i j : ℕ) → eqb (bitOr w (2 ^ i) / 2 ^ j % 2) 1 ≡ eqb (w / 2 ^ j % 2) 1 || eqb j i
-or-bit w i j = or-either w (2 ^ i) j ∙ ap (λ (b : Bool). eqb (w / 2 ^ j % 2) 1 || b) (ap (λ (n : ℕ). eqb n 1) (pow-bit i j) ∙ bit (eqb j i))
-  where
-    bit : (b : Bool) → eqb (cond b 1 0) 1 ≡ b
-    bit true = refl
-    bit false = refl
+or-bit w i j = or-either w (2 ^ i) j ∙ ap (λ (b : Bool). eqb (w / 2 ^ j % 2) 1 || b) (ap (λ (n : ℕ). eqb n 1) (pow-bit i j) ∙ eqb-bit (eqb j i))
 
 -- One shifted is a power of two.
 pub shifted-wide : (k : ℕ) → k ≤ 63 → 1 * 2 ^ k % 2 ^ 64 ≡ 2 ^ k
@@ -90,9 +86,9 @@ shifted-wide k l = shl-exact {a = 1} 1 k 64 (omega arith) (omega arith) ∙ one 
 pub above-bit : (w x j : ℕ) → x < 2 ^ w → w ≤ j → x / 2 ^ j % 2 ≡ 0
 above-bit w x j small l = ap (λ (n : ℕ). n % 2) (div-eq-of-lt (omega (arith, small, pow-mono {i = w} {j = j} l)))
 
--- Parts
+-- A number is cut into parts.
 
--- the bits of a part are those of the whole
+-- The bits of a part are those of the whole.
 pub mod-bit : (n k j : ℕ) → j < k → n % 2 ^ k / 2 ^ j % 2 ≡ n / 2 ^ j % 2
 mod-bit n k j l =
     let e : k ≡ (k - j) + j = omega arith in
@@ -114,7 +110,7 @@ module _ (w lo hi : ℕ) (small : lo < 2 ^ w) where
 pub pow-only : (i j : ℕ) → 2 ^ i / 2 ^ j % 2 ≡ 1 → j ≡ i
 pow-only i j e = bool-cases (eqb j i) (λ x. eqb-true j i x) (λ x. absurd (omega (arith, pow-unset i j (eqb-false j i x))))
 
--- The lowest
+-- The lowest bit is found.
 
 -- Every number but 0 has a lowest bit, which is all that the number before does not share with it.
 pub record Ends (y : ℕ) : Type 0 where

@@ -1,4 +1,4 @@
 -- Members as bits.
 pub mod Having
 pub mod Bits
-pub mod Laws
+pub mod Operations

@@ -7,6 +7,7 @@ ghost use lib.Dec.{eqb, ltb, leb};
 ghost use Rattle.rules.specs.Bytes.{GRPGTCNT};
 ghost use Rattle.member_bits.specs.Having.{Has, IsNone, First, Lowest};
 
+// Sixty-four members in one number, the others in a second.
 pub struct Bits {
     pub low: usize,
     pub high: usize,
@@ -19,7 +20,7 @@ pub fn none() -> Bits
     Bits { low: 0, high: 0 }
 }
 
-// The member h too.
+// The members of b, and the member h.
 pub fn with(b: Bits, h: usize) -> Bits
     requires { ⌜ (1 ≤ h) × (h ≤ GRPGTCNT) ⌝ }
     ensures { λ r. ⌜ ((f : ℕ → Bool) → Has b f → Has r (λ (n : ℕ). f n || eqb n h)) ⌝ }
@@ -36,7 +37,7 @@ pub fn with(b: Bits, h: usize) -> Bits
     }
 }
 
-// Those of either.
+// The members of a or of b.
 pub fn joined(a: Bits, b: Bits) -> Bits
     ensures { λ r. ⌜ ((f k : ℕ → Bool) → Has a f → Has b k → Has r (λ (n : ℕ). f n || k n)) ⌝ }
 {
@@ -46,7 +47,7 @@ pub fn joined(a: Bits, b: Bits) -> Bits
     }
 }
 
-// Those of both.
+// The members of both a and b.
 pub fn common(a: Bits, b: Bits) -> Bits
     ensures { λ r. ⌜ ((f k : ℕ → Bool) → Has a f → Has b k → Has r (λ (n : ℕ). f n && k n)) ⌝ }
 {
@@ -56,7 +57,7 @@ pub fn common(a: Bits, b: Bits) -> Bits
     }
 }
 
-// Those of a that are not of b.
+// The members of a that are not of b.
 pub fn without(a: Bits, b: Bits) -> Bits
     ensures { λ r. ⌜ ((f k : ℕ → Bool) → Has a f → Has b k → Has r (λ (n : ℕ). f n && not (k n))) ⌝ }
 {
@@ -113,7 +114,7 @@ pub fn first(b: Bits) -> usize
     0
 }
 
-// Those above the member x.
+// The members of b above the member x.
 pub fn above(b: Bits, x: usize) -> Bits
     requires { ⌜ x ≤ GRPGTCNT ⌝ }
     ensures { λ r. ⌜ ((f : ℕ → Bool) → Has b f → Has r (λ (n : ℕ). f n && ltb x n)) ⌝ }

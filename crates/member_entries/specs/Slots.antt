@@ -41,7 +41,7 @@ module _ (t : ℕ → Bool) (at x : ℕ → ℕ) (apart : (i j : ℕ) → at i �
     pub each-kept : (k : ℕ) → 1 ≤ getD M k 0 → getD (each putAt M a b) k 0 ≡ getD M k 0
     each-kept k some = each-keeps putAt a b (λ S i. getD S k 0 ≡ getD M k 0) (λ S i l h e. turn-kept S i k (omega (arith, e)) ∙ e) M le refl
 
-    -- what is at the place u when all before i are done
+    -- This stands at the place u when all before i are done.
     abbrev Done : ℕ → List ℕ → ℕ → Type 0
     Done u S i = (length S ≡ length M) × (i ≤ u → getD S (at u) 0 ≡ 0) × (u < i → getD S (at u) 0 ≡ x u)
 
@@ -132,7 +132,7 @@ module _ (base : ℕ) (T lasts : List ℕ) (groups w h lo hi required : ℕ) (M 
   abbrev S : List ℕ
   S = set (set Q (base + POSITIONS + h) (groups + 1)) (base + 2 * POSITIONS + h) required
 
-  -- the two numbers of the member
+  -- But for the two numbers of the member all stays.
   set-rest : (k : ℕ) → (k ≡ base + POSITIONS + h → ⊥) → (k ≡ base + 2 * POSITIONS + h → ⊥) → getD S k 0 ≡ getD Q k 0
   set-rest k a b =
       getD-set-other (set Q (base + POSITIONS + h) (groups + 1)) (base + 2 * POSITIONS + h) k required 0 b

@@ -95,7 +95,7 @@ module _ (M : List ℕ) (base : ℕ) (T : List ℕ) (w h : ℕ) where
   unfolding putOuters
   outers-end lo hi lasts g end R l inv = each-end (λ N k. putOuter N base T w h lo hi (getD lasts k 0) k) M g end R l inv
 
--- One member, and one group.
+-- One member is put, and one group.
 module _ (M : List ℕ) (base : ℕ) (T lasts : List ℕ) (groups w h lo hi required : ℕ) where
   pub member-put :
       (S₁ S₂ S₃ S₄ : List ℕ) (end : ℕ) → S₁ ≡ putPlaces M base T w h lo hi → S₂ ≡ putOuters S₁ base T w h lo hi lasts 1 end → end ≡ groups + 1 →

@@ -20,16 +20,16 @@ use Rattle.member_laws.specs.Numbered.{both-tests, amount-both, IsNumber
 use Rattle.member_laws.specs.Inside.{IsLevel, level-once, level-good, level-around, EachLevel, AnyLevel, IsSame, IsAround, levels-are}
 
 module _ (M : List ℕ) (e : ℕ) where
-  -- the number of the member of the group that holds u
+  -- This is the number of the member of the group that holds u.
   abbrev pub memberAt : ℕ → Level → ℕ
   memberAt u l = numberIn (firstAt M e (l .number)) (needs (l .members)) (l .members) u
 
-  -- n is the number of such a member
+  -- The number n is that of such a member.
   abbrev pub isHolder : ℕ → ℕ → List Level → Bool
   isHolder u n [] = false
   isHolder u n (l ∷ ls) = eqb n (memberAt u l) || isHolder u n ls
 
-  -- a member and its number
+  -- The member k of the group has the number n.
   abbrev pub NumberedAt : Level → ℕ → Group → Type 0
   NumberedAt l n k = IsNumbered (firstAt M e (l .number)) (needs (l .members)) (l .members) n k
 
@@ -62,7 +62,7 @@ module _ (M : List ℕ) (e : ℕ) where
       pub member-small : (1 ≤ memberAt u l) × (memberAt u l ≤ GRPGTCNT)
       member-small = let h = held u l i in numbered-small (memberAt u l) (h .member) (h .numbered)
 
-  -- What a chain has
+  -- A chain has what the table keeps of its groups.
 
   pub chain-kept : (u : ℕ) (ends : Bool) (h : ℕ) (ls : List Level) → Chain M e u ends h ls → EachLevel (Grouped M e) ls
   chain-kept u ends h [] c = refl
@@ -78,7 +78,7 @@ module _ (M : List ℕ) (e : ℕ) where
   chain-first u ends h l ls (k, true, x, y, c) i = omega (arith, member-small l k u i)
   chain-first u ends h l ls (k, false, x, y, c) i = omega (arith, member-small l k u i)
 
-  -- The members around u
+  -- The bits of the members around u say which of them have begun.
 
   pub any-holder : (u n : ℕ) (ls : List Level) → AnyLevel (λ (k : Level). n ≡ memberAt u k) ls → isHolder u n ls ≡ true
   any-holder u n [] x = absurd x
@@ -94,7 +94,7 @@ module _ (M : List ℕ) (e : ℕ) where
     pub member-begun : (l : Level) → Marked begun level M e S l → (u : ℕ) → (i : hasM (l .members) u ≡ true) → begunAt begun level (memberAt u l) ≡ meets (held u l i .member) S
     member-begun l marked u i = each-at _ _ (λ (n : ℕ) (g : Group). begunAt begun level n ≡ meets g S) (l .members) marked (memberAt u l) (held u l i .member) (held u l i .numbered)
 
-  -- One place more
+  -- One place more is taken.
 
   -- Of all members the one that has p is the one whose number holds it.
   module _ (g : Group) (d : Good g) (p : ℕ) (has-p : has g p ≡ true) (kept : EachLevel (Grouped M e) (levels g 0 p)) where

@@ -104,9 +104,9 @@ mutual
   levelM-good (also m g) b l (inl i) (d, k, a) = levelM-good m b l i d
   levelM-good (also m g) b l (inr i) (d, k, a) = level-good g (b + countM m) l i k
 
--- The groups around a place
+-- These laws are of the groups around a place.
 
--- what holds of each of them
+-- P holds of each of them.
 abbrev pub EachLevel : (Level → Type 0) → List Level → Type 0
 EachLevel P [] = true ≡ true
 EachLevel P (l ∷ ls) = P l × EachLevel P ls
@@ -154,6 +154,10 @@ mutual
       (λ j. rw j (each-level (IsAround g (b + countM m) u) (λ (l : Level). IsLevelM (also m g) b l × (hasM (l .members) u ≡ true)) (λ l x. (inr (x .0), x .1)) (levels g (b + countM m) u) (levels-are g (b + countM m) u j)))
       (λ j. rw j (each-level (λ (l : Level). IsLevelM m b l × (hasM (l .members) u ≡ true)) (λ (l : Level). IsLevelM (also m g) b l × (hasM (l .members) u ≡ true)) (λ l x. (inl (x .0), x .1)) (levelsM m b u) (levelsM-are m b u (or-only (hasM m u) (has g u) j i))))
 
+-- Each of them has the place u.
+abbrev pub Have : ℕ → List Level → Type 0
+Have u ls = EachLevel (λ (l : Level). hasM (l .members) u ≡ true) ls
+
 -- Without "&" there is none.
 pub plain-levels : (g : Group) → Plain g → (b u : ℕ) → levels g b u ≡ []
 plain-levels (place n) d b u = refl
@@ -177,7 +181,7 @@ any-last : (P : Level → Type 0) (ls : List Level) (l : Level) → P l → AnyL
 any-last P [] l x = inl x
 any-last P (k ∷ ls) l x = inr (any-last P ls l x)
 
--- the same group under the same number
+-- It is the same group under the same number.
 abbrev pub IsSame : Level → Level → Type 0
 IsSame l k = (k .number ≡ l .number) × (k .members ≡ l .members)
 

@@ -10,19 +10,15 @@ use lib.Dec.{eqb, ltb, leb}
 use Rattle.rules.specs.Bytes.{GRPCNT}
 use Rattle.rules.specs.Walk.{Group, place, seq, alt, opt, plus, and, Members, one, also}
 use Rattle.layout.specs.Sizes.{POSITIONS, AND-GROUPS, GROUP, REACHES, NEEDED, MEMBER-BITS, SETS, MEMBER, MEMBERS, BEGUN-WORDS, ENDING}
-use Rattle.model_sets.specs.Sets.{has, nullable, lastM, must}
+use Rattle.model_sets.specs.Sets.{has, nullable, lastM, must, amount}
 use Rattle.and_laws.specs.Base.{mem}
 use Rattle.and_laws.specs.Sets.{meets}
 use Rattle.and_laws.specs.Ranked.{Level, levels}
 use Rattle.and_laws.specs.Taken.{IsLast}
 
--- Numbers of members
+-- Members have numbers.
 
--- how many members there are, how many cannot be nothing, how many can
-abbrev pub amount : Members → ℕ
-amount (one g) = 1
-amount (also m g) = amount m + 1
-
+-- How many members cannot be nothing, and how many can.
 abbrev pub needs : Members → ℕ
 needs (one g) = cond (nullable g) 0 1
 needs (also m g) = needs m + cond (nullable g) 0 1
@@ -35,12 +31,12 @@ spares (also m g) = spares m + cond (nullable g) 1 0
 abbrev pub numberFor : (first needed n k : ℕ) → Group → ℕ
 numberFor first needed n k g = cond (nullable g) (first + needed + k) (first + n)
 
--- the number of the member that has the place u
+-- This is the number of the member that has the place u.
 abbrev pub numberIn : (first needed : ℕ) → Members → ℕ → ℕ
 numberIn first needed (one g) u = numberFor first needed 0 0 g
 numberIn first needed (also m g) u = cond (has g u) (numberFor first needed (needs m) (spares m) g) (numberIn first needed m u)
 
--- what holds of each member and its number
+-- P holds of each member and its number.
 abbrev pub Each : (ℕ → Group → Type 0) → (first needed : ℕ) → Members → Type 0
 Each P first needed (one g) = P (numberFor first needed 0 0 g) g
 Each P first needed (also m g) = Each P first needed m × P (numberFor first needed (needs m) (spares m) g) g
@@ -73,7 +69,7 @@ abbrev mutual
   SizedM (one g) = Sized g
   SizedM (also m g) = SizedM m × Sized g
 
--- The table
+-- The table keeps numbers for each element.
 
 -- Whether the bit of the member h is set among those that stand from i on.
 abbrev pub bitAt : (M : List ℕ) (i h : ℕ) → Bool
@@ -112,7 +108,7 @@ module _ (M : List ℕ) (e : ℕ) where
   abbrev pub reachAt : ℕ → ℕ
   reachAt n = getD M (e * MEMBER + REACHES + n) 0
 
-  -- Sets of members
+  -- The table keeps sets of members.
 
   -- The member h cannot be nothing; it holds the group n; it is one of the group n or of a group around it.
   abbrev pub isNeeded : ℕ → Bool
@@ -183,7 +179,7 @@ module _ (M : List ℕ) (e : ℕ) where
     pub order : Ordered
     pub whole : (u : ℕ) → has g u ≡ true → (levels g 0 u ≡ []) ⊎ (MEMBERS ≤ length M)
 
--- What has begun
+-- What has begun is kept by bits.
 
 module _ (begun : List ℕ) (level : ℕ) where
   abbrev pub wordAt : ℕ → ℕ

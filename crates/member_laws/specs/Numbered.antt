@@ -11,14 +11,14 @@ use lib.Dec.{eqb, leb}
 use borrow.Author.Tests.{eqb-true, eq-eqb, le-leb, lt-leb}
 use Rattle.rules.specs.Walk.{Group, Members, one, also}
 use Rattle.basic_laws.specs.Truth.{or-left, or-right, or-cases, not-true, not-both, bool-cases}
-use Rattle.model_sets.specs.Sets.{has, hasM, nullable, must}
+use Rattle.model_sets.specs.Sets.{has, hasM, nullable, must, amount}
 use Rattle.and_laws.specs.Base.{mem}
 use Rattle.and_laws.specs.Sets.{meets, GoodM}
 use Rattle.and_laws.specs.Rest.{allM, anyM}
 use Rattle.and_laws.specs.Req.{restReq}
 use Rattle.and_laws.specs.Rows.{fine}
-use Rattle.and_laws.specs.Filed.{Distinct, all-each, each-all, lone-one, lone-two, lone-none, IsNumber, Filed, fineNumber, filed-fine, filed-rest}
-use Rattle.member_laws.specs.Members.{amount, needs, spares, numberFor, numberIn, Each}
+use Rattle.and_laws.specs.Filed.{Distinct, all-each, each-all, lone-one, lone-two, IsNumber, Filed, fineNumber, filed-fine, filed-rest}
+use Rattle.member_laws.specs.Members.{needs, spares, numberFor, numberIn, Each}
 
 -- Two tests that hold together are one.
 pub both-tests : (a b : Bool) → (a ≡ true → b ≡ true) → (b ≡ true → a ≡ true) → a ≡ b
@@ -83,7 +83,7 @@ module _ (first N : ℕ) where
     needed : nullable k ≡ false → first ≤ n → n < first + needs m → Ranged m n k
     spare : nullable k ≡ true → first + N ≤ n → n < first + N + spares m → Ranged m n k
 
-  -- the number of a member, by cases
+  -- The number of a member goes by whether it can be nothing.
   number-of : {C : Type 0} (g : Group) (a b : ℕ) → (nullable g ≡ true → numberFor first N a b g ≡ first + N + b → C) → (nullable g ≡ false → numberFor first N a b g ≡ first + a → C) → C
   number-of g a b f h = bool-cases (nullable g) (λ x. f x (rw x)) (λ x. h x (rw x))
 

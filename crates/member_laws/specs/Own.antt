@@ -15,7 +15,7 @@ use Rattle.and_laws.specs.Req.{anyIdle, restReq}
 abbrev pub OwnOr0 : (ℕ → Bool) → ℕ → Type 0
 OwnOr0 own n = (n ≡ 0) ⊎ (own n ≡ true)
 
--- a part's is the whole's
+-- What is a part's is the whole's.
 own-wider : (f h : ℕ → Bool) → ((n : ℕ) → f n ≡ true → h n ≡ true) → (n : ℕ) → OwnOr0 f n → OwnOr0 h n
 own-wider f h w n (inl z) = inl z
 own-wider f h w n (inr y) = inr (w n y)
@@ -81,15 +81,11 @@ rest-own (also m g) S =
     (λ y. rw y (inl refl))
     (λ y. rw y (own-wider (has g) (hasM (also m g)) (λ n z. or-right (hasM m n) z) (must g) (must-own g)))))
 
+own-size : (g : Group) → Numbered g 1 → (n : ℕ) → OwnOr0 (has g) n → n ≤ size g
+own-size g numbered n (inl z) = omega arith
+own-size g numbered n (inr y) = omega (arith, has-range g 1 numbered n y)
+
 -- The place that a row requires is one of the model's.
 pub required-size : (g : Group) → Numbered g 1 → (u : ℕ) → requiredIn g u ≤ size g
-required-size g numbered zero = go (must g) (must-own g)
-  where
-    go : (n : ℕ) → OwnOr0 (has g) n → n ≤ size g
-    go n (inl z) = omega arith
-    go n (inr y) = omega (arith, has-range g 1 numbered n y)
-required-size g numbered (suc u) = go (mustAfter g (suc u)) (after-own g (suc u))
-  where
-    go : (n : ℕ) → OwnOr0 (has g) n → n ≤ size g
-    go n (inl z) = omega arith
-    go n (inr y) = omega (arith, has-range g 1 numbered n y)
+required-size g numbered zero = own-size g numbered (must g) (must-own g)
+required-size g numbered (suc u) = own-size g numbered (mustAfter g (suc u)) (after-own g (suc u))

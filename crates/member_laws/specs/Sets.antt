@@ -1,7 +1,7 @@
 -- The sets of the groups around a place: who holds them, which members they have, which of these must come, and how far out they can end.
 use Prim.Native.Nat.{ℕ, _+_, _-_, _%_, _≤_, _<_}
 use mathlib.Core.Path.{_≡_, sym, _∙_, ap, subst}
-use mathlib.Core.Bool.{Bool, true, false, _||_, false≢true}
+use mathlib.Core.Bool.{Bool, true, false, _||_, false≢true, or-false}
 use mathlib.Core.Logic.{_⊎_, inl, inr}
 use mathlib.Core.List.{List, [], _∷_}
 use native.Mathlib.Omega.{arith}
@@ -12,11 +12,11 @@ use Rattle.rules.specs.Walk.{Group}
 use Rattle.rules.specs.Bytes.{GRPGTCNT}
 use Rattle.layout.specs.Sizes.{POSITIONS, AND-GROUPS, MEMBERS, ENDING}
 use Rattle.basic_laws.specs.Truth.{and-both, and-left, and-right, or-cases}
-use Rattle.model_sets.specs.Sets.{has, hasM}
+use Rattle.model_sets.specs.Sets.{has, hasM, amount}
 use Rattle.and_laws.specs.Rest.{allM}
-use Rattle.and_laws.specs.Rows.{fine, or-no}
+use Rattle.and_laws.specs.Rows.{fine}
 use Rattle.and_laws.specs.Ranked.{Level, levels, Rising}
-use Rattle.member_laws.specs.Members.{amount, needs, groupAt, dueAt, firstAt, neededAt, sizeAt, outerAt, isNeeded, holdsAt, amongAt, isOwn, Outermost, Within, AllSets, Grouped, Chain, Told, begunAt, Marked}
+use Rattle.member_laws.specs.Members.{needs, groupAt, dueAt, firstAt, neededAt, sizeAt, outerAt, isNeeded, holdsAt, amongAt, isOwn, Outermost, Within, AllSets, Grouped, Chain, Told, begunAt, Marked}
 use Rattle.member_laws.specs.Numbered.{amount-both, mem-numbered, range-numbers, numbered-range, Ranged, needed, spare, none-lacks, lacks-none}
 use Rattle.member_laws.specs.Inside.{EachLevel}
 use Rattle.member_laws.specs.Around.{memberAt, isHolder, held, numbered-group, numbered-due, member-group, member-small, chain-first}
@@ -27,7 +27,7 @@ module _ (M : List ℕ) (e : ℕ) where
   anyOwn n [] = false
   anyOwn n (l ∷ ls) = isOwn M e (l .number) n || anyOwn n ls
 
-  -- One group
+  -- These laws are of one group.
   module _ (l : Level) (kept : Grouped M e l) where
     pub own-range : (n : ℕ) → isOwn M e (l .number) n ≡ true → (firstAt M e (l .number) ≤ n) × (n < firstAt M e (l .number) + amount (l .members))
     own-range n i = (leb-true (firstAt M e (l .number)) n (and-left (leb (firstAt M e (l .number)) n) _ i), omega (arith, kept .size, ltb-true n (firstAt M e (l .number) + sizeAt M e (l .number)) (and-right (leb (firstAt M e (l .number)) n) _ i)))
@@ -100,7 +100,7 @@ module _ (M : List ℕ) (e : ℕ) where
       go (inl z) = z
       go (inr z) = absurd (omega arith)
 
-  -- The groups around a place
+  -- These laws are of the groups around a place.
   module _ (sets : AllSets M e) (u : ℕ) where
     abbrev Have : List Level → Type 0
     Have ls = EachLevel (λ (l : Level). hasM (l .members) u ≡ true) ls
@@ -125,7 +125,7 @@ module _ (M : List ℕ) (e : ℕ) where
 
     -- The members of the first and of those around it are those of all.
     pub among-outward : (a c : ℕ) (ends : Bool) (h : ℕ) (l : Level) (ls : List Level) → Chain M e u ends h (l ∷ ls) → Rising a c (l ∷ ls) → Have (l ∷ ls) → (n : ℕ) → 1 ≤ n → n < POSITIONS → amongAt M e (l .number) n ≡ anyOwn n (l ∷ ls)
-    among-outward a c ends h l [] (kept, flag, is, says, chain) (r, rs) (i, j) n x y = outermost l kept (omega arith) chain .among n x y ∙ sym (or-no (isOwn M e (l .number) n))
+    among-outward a c ends h l [] (kept, flag, is, says, chain) (r, rs) (i, j) n x y = outermost l kept (omega arith) chain .among n x y ∙ sym (or-false (isOwn M e (l .number) n))
     among-outward a c ends h l (k ∷ ks) (kept, flag, is, says, chain) (r, rs) (i, j) n x y =
         within-next l kept (omega arith) _ k ks chain (j .0) (rs .0) .among n x y
         ∙ ap (λ (b : Bool). isOwn M e (l .number) n || b) (among-outward (l .number) c _ _ k ks chain rs j n x y)

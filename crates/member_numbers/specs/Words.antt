@@ -9,7 +9,7 @@ use lib.Dec.{eqb}
 use Rattle.member_laws.specs.Members.{bitAt}
 use Rattle.member_bits.specs.Having.{Has}
 use Rattle.member_bits.specs.Bits.{low-bit, high-bit}
-use Rattle.member_bits.specs.Laws.{has-words}
+use Rattle.member_bits.specs.Operations.{has-words}
 
 -- The bits of r are those of the four numbers from i on, the lowest first.
 pub record Word (M : List ℕ) (i r : ℕ) : Type 0 where

@@ -1,7 +1,7 @@
 -- The sets of members, from the outermost group inwards: those of each are those of the group around it with what it adds.
 use Prim.Native.Nat.{ℕ, _+_, _-_, _*_, _%_, _≤_, _<_}
 use mathlib.Core.Path.{_≡_, refl, sym, _∙_, ap, subst}
-use mathlib.Core.Bool.{Bool, true, false, _&&_, _||_, cond}
+use mathlib.Core.Bool.{Bool, true, false, _&&_, _||_, cond, and-false, or-false, or-comm}
 use mathlib.Core.Logic.{_⊎_, inl, inr}
 use mathlib.Core.List.{List}
 use native.Mathlib.Decide.{ℕ-discrete, decLt}
@@ -13,14 +13,14 @@ use borrow.Author.Tests.{lt-ltb, le-ltb, eq-eqb, ne-eqb}
 use Rattle.rules.specs.Bytes.{elementLimit}
 use Rattle.layout.specs.Sizes.{POSITIONS, AND-GROUPS, GROUP, REACHES, NEEDED, MEMBER-BITS, SETS, MEMBER, MEMBERS, ENDING}
 use Rattle.basic_laws.specs.Truth.{or-right}
-use Rattle.and_laws.specs.Rows.{and-no, or-no}
-use Rattle.member_laws.specs.Members.{groupAt, recordAt, firstAt, neededAt, sizeAt, outerAt, reachAt, holdsAt, amongAt, isNeeded, isOwn, Outermost, Within, Around, AllSets}
+use Rattle.member_laws.specs.Members.{groupAt, recordAt, firstAt, neededAt, sizeAt, outerAt, reachAt, holdsAt, amongAt, isOwn, Outermost, Within, Around, AllSets}
 use Rattle.member_bits.specs.declared.Bits.{Bits}
 use Rattle.member_bits.specs.Having.{Has}
 use Rattle.member_sets.specs.declared.Sets.{Sets}
 use Rattle.member_sets.specs.Storing.{PutBits, bit-same}
+use Rattle.member_bits.specs.Operations.{has-same}
 
--- What is read
+-- These are the numbers that are read of a member and of a group.
 
 -- The member h is numbered before those of its group that can be nothing.
 abbrev pub isDue : (M : List ℕ) (e h : ℕ) → Bool
@@ -98,18 +98,15 @@ module _
       go (yes l) = rw (lt-ltb ENDING outer l) (far l)
       go (no l) = rw (le-ltb ENDING outer (omega arith)) (near (omega arith))
 
--- Which members cannot be nothing, one after the other
+-- The members that cannot be nothing are gone through one after the other.
 
 pub due-by : (M : List ℕ) (e h g a b : ℕ) → g ≡ groupAt M e h → a ≡ getD M (recordAt M e g + 0) 0 → b ≡ getD M (recordAt M e g + 1) 0 → ltb h (a + b) ≡ isDue M e h
 due-by M e h g a b group first needed =
     let z : recordAt M e g + 0 ≡ recordAt M e g = omega arith in
     rw (first, needed, z) (ap (λ (x : ℕ). ltb h (firstAt M e x + neededAt M e x)) group)
 
-has-same : (b : Bits) (f k : ℕ → Bool) → ((n : ℕ) → 1 ≤ n → n < POSITIONS → f n ≡ k n) → Has b f → Has b k
-has-same b f k same has = record { low = has .low; high = has .high; bits = λ n x y. has .bits n x y ∙ same n x y }
-
 module _ (P : ℕ → Bool) where
-  -- those before h
+  -- These are those before h.
   abbrev pub Before : (h n : ℕ) → Bool
   Before h n = ltb n h && P n
 
@@ -121,26 +118,26 @@ module _ (P : ℕ → Bool) where
       go (no l) = rw (le-ltb n h (omega arith), le-ltb n (h + 1) (omega arith))
 
   pub before-none : (b : Bits) → Has b (λ (n : ℕ). false) → Has b (Before 1)
-  before-none b = has-same b (λ (n : ℕ). false) (Before 1) (λ n x y. rw (le-ltb n 1 x))
+  before-none b = has-same (λ n x y. rw (le-ltb n 1 x))
 
   pub before-pass : (b : Bits) (h : ℕ) → P h ≡ false → Has b (Before h) → Has b (Before (h + 1))
-  before-pass b h no-due = has-same b (Before h) (Before (h + 1)) (λ n x y. go n (ℕ-discrete n h))
+  before-pass b h no-due = has-same (λ n x y. go n (ℕ-discrete n h))
     where
       go : (n : ℕ) → Dec (n ≡ h) → Before h n ≡ Before (h + 1) n
-      go n (yes z) = rw (z, no-due, and-no (ltb h h), and-no (ltb h (h + 1)))
+      go n (yes z) = rw (z, no-due, and-false (ltb h h), and-false (ltb h (h + 1)))
       go n (no z) = before-on h n z
 
   pub before-with : (b c : Bits) (h : ℕ) → P h ≡ true → ((f : ℕ → Bool) → Has b f → Has c (λ (n : ℕ). f n || eqb n h)) → Has b (Before h) → Has c (Before (h + 1))
-  before-with b c h is-due adds has = has-same c (λ (n : ℕ). Before h n || eqb n h) (Before (h + 1)) (λ n x y. go n (ℕ-discrete n h)) (adds (Before h) has)
+  before-with b c h is-due adds has = has-same (λ n x y. go n (ℕ-discrete n h)) (adds (Before h) has)
     where
       go : (n : ℕ) → Dec (n ≡ h) → Before h n || eqb n h ≡ Before (h + 1) n
       go n (yes z) = rw (z, is-due, lt-ltb h (h + 1) (omega arith), or-right (ltb h h && true) (eq-eqb h h refl))
-      go n (no z) = rw (ne-eqb n h z, or-no (Before h n)) (before-on h n z)
+      go n (no z) = rw (ne-eqb n h z, or-false (Before h n)) (before-on h n z)
 
   pub before-all : (b : Bits) (h : ℕ) → POSITIONS ≤ h → Has b (Before h) → Has b P
-  before-all b h l = has-same b (Before h) P (λ n x y. rw (lt-ltb n h (omega arith)))
+  before-all b h l = has-same (λ n x y. rw (lt-ltb n h (omega arith)))
 
--- What stays
+-- Sets stay where the numbers that are read for them stay.
 
 -- The numbers of the element e before its sets.
 abbrev pub Low : (M S : List ℕ) (e : ℕ) → Type 0
@@ -164,7 +161,7 @@ same-sets M S e n same reach =
     }
 
 module _ (M S : List ℕ) (e : ℕ) (low : Low M S e) where
-  low-at : (i k : ℕ) → i ≡ e * MEMBER + k → k < REACHES → getD S i 0 ≡ getD M i 0
+  pub low-at : (i k : ℕ) → i ≡ e * MEMBER + k → k < REACHES → getD S i 0 ≡ getD M i 0
   low-at i k q l = rw q (low k l)
 
   pub group-same : (h : ℕ) → h < POSITIONS → groupAt S e h ≡ groupAt M e h
@@ -189,7 +186,7 @@ module _ (M S : List ℕ) (e : ℕ) (low : Low M S e) where
     outer-same : outerAt S e n ≡ outerAt M e n
     outer-same = record-same n 3 few (omega arith)
 
-    -- what S has around the group n, by what M says of it
+    -- The table S has around the group n what M says of it.
     around-by : (W : ℕ → ℕ → Bool → Type 0) → Inner M e n W → (outerAt M e n % ENDING ≡ 0 → Outermost S e n)
         → ((outer f : ℕ) (ends : Bool) → n < f → f ≤ AND-GROUPS → W outer f ends → Within S e n outer f ends) → Around S e n
     around-by W inner none some =
@@ -219,7 +216,7 @@ module _ (M S : List ℕ) (e : ℕ) (low : Low M S e) where
           reach = here .reach ∙ w .reach ∙ ap (λ (x : ℕ). cond ends x n) (sym (there .reach));
         })
 
--- One group is put
+-- One group is put.
 
 -- The sets of the group g are put into M, and nothing else has changed.
 pub record PutGroup (M : List ℕ) (e g : ℕ) (S : List ℕ) : Type 0 where
@@ -227,19 +224,13 @@ pub record PutGroup (M : List ℕ) (e g : ℕ) (S : List ℕ) : Type 0 where
   pub others : (k : ℕ) → (k < setsFrom e g) ⊎ (setsFrom e g + 2 * MEMBER-BITS ≤ k) → (k ≡ e * MEMBER + REACHES + g → ⊥) → getD S k 0 ≡ getD M k 0
   pub around : Around S e g
 
-or-swap : (a b : Bool) → a || b ≡ b || a
-or-swap true true = refl
-or-swap true false = refl
-or-swap false true = refl
-or-swap false false = refl
-
 module _
     (M : List ℕ) (e g : ℕ) (S : List ℕ) (few : g ≤ AND-GROUPS)
     (others : (k : ℕ) → (k < setsFrom e g) ⊎ (setsFrom e g + 2 * MEMBER-BITS ≤ k) → (k ≡ e * MEMBER + REACHES + g → ⊥) → getD S k 0 ≡ getD M k 0) where
   put-low : Low M S e
   put-low k l = others (e * MEMBER + k) (inl (omega arith)) (λ z. omega arith)
 
-  -- the sets of another group
+  -- The sets of another group stay.
   put-same : (m : ℕ) → m ≤ AND-GROUPS → (m ≡ g → ⊥) → Same M S e m
   put-same m l ne = same-sets M S e m (λ k a b. others k (away k a b (decLt m g)) (λ z. omega arith)) (others (e * MEMBER + REACHES + m) (inl (omega arith)) (λ z. ne (omega arith)))
     where
@@ -290,13 +281,13 @@ module _
             (λ outer f ends c d w.
             let there = put-same M e g S few rest f d (λ z. omega arith) in
             record {
-              holds = λ h i j. put-holds (λ (h : ℕ). holdsAt M e f h || eqb h outer) (w .holding) h i j ∙ or-swap (holdsAt M e f h) (eqb h outer) ∙ ap (λ (x : Bool). eqb h outer || x) (sym (there .holds h i j));
+              holds = λ h i j. put-holds (λ (h : ℕ). holdsAt M e f h || eqb h outer) (w .holding) h i j ∙ or-comm (holdsAt M e f h) (eqb h outer) ∙ ap (λ (x : Bool). eqb h outer || x) (sym (there .holds h i j));
               among = λ h i j. put-among (λ (h : ℕ). isOwn M e g h || amongAt M e f h) (w .among) h i j ∙ rw (own-same M S e low g few h, there .among h i j);
               reach = put-reach ∙ w .reach ∙ ap (λ (x : ℕ). cond ends x g) (sym (there .reach));
             });
       })
 
--- All groups are put
+-- All groups are put.
 
 -- The sets of the groups after the group g are put into M.
 pub record Linking (M : List ℕ) (e g : ℕ) (S : List ℕ) : Type 0 where

@@ -1,7 +1,7 @@
 -- The table that is filled from a model's code and rows tells the members of its "&" groups and their sets; what it tells stays where its numbers stay.
 use Prim.Native.Nat.{ℕ, _+_, _-_, _*_, _/_, _%_, _^_, _≤_, _<_}
 use mathlib.Core.Path.{_≡_, sym, _∙_, ap, subst}
-use mathlib.Core.Bool.{Bool, true, false, _&&_}
+use mathlib.Core.Bool.{Bool, true, false}
 use mathlib.Core.Logic.{_⊎_, inl, inr}
 use mathlib.Core.List.{List, [], _∷_}
 use native.Mathlib.Omega.{arith}
@@ -12,13 +12,13 @@ use borrow.Author.Tests.{le-ltb}
 use Rattle.rules.specs.Walk.{Group, Members}
 use Rattle.rules.specs.Bytes.{GRPGTCNT}
 use Rattle.layout.specs.Sizes.{POSITIONS, AND-GROUPS, REACHES, NEEDED, MEMBER, MEMBERS}
-use Rattle.model_sets.specs.Sets.{has, must}
+use Rattle.model_sets.specs.Sets.{has, must, amount}
 use Rattle.and_laws.specs.Ranked.{Level, levels}
-use Rattle.member_laws.specs.Members.{amount, needs, bitAt, holderAt, groupAt, dueAt, recordAt, firstAt, neededAt, AllSets, Ordered, Grouped, Chain, Told}
+use Rattle.member_laws.specs.Members.{needs, bitAt, holderAt, groupAt, dueAt, recordAt, firstAt, neededAt, AllSets, Ordered, Grouped, Chain, Told}
 use Rattle.member_laws.specs.Numbered.{amount-both, each-at, at-each, Ranged, needed, spare, numbered-range}
 use Rattle.member_table.specs.Tells as tells
 use Rattle.member_sets.specs.Storing.{bit-same}
-use Rattle.member_sets.specs.Linking.{Low, same-sets, group-same, record-same, first-same, due-same, around-same, Linked}
+use Rattle.member_sets.specs.Linking.{Low, same-sets, group-same, record-same, first-same, due-same, around-same, Linked, low-at}
 
 number-below : (first : ℕ) (m : Members) (n : ℕ) (k : Group) → Ranged first (needs m) m n k → n < first + amount m
 number-below first m n k (needed a b c) = omega (arith, amount-both m)
@@ -26,9 +26,6 @@ number-below first m n k (spare a b c) = omega (arith, amount-both m)
 
 -- Groups and chains lie before the sets.
 module _ (M S : List ℕ) (e : ℕ) (same : Low M S e) where
-  at : (i k : ℕ) → i ≡ e * MEMBER + k → k < REACHES → getD S i 0 ≡ getD M i 0
-  at i k q l = rw q (same k l)
-
   grouped-still : (l : Level) → Grouped M e l → Grouped S e l
   grouped-still l h =
       let first = first-same M S e same (l .number) (h .within) in
@@ -47,7 +44,7 @@ module _ (M S : List ℕ) (e : ℕ) (same : Low M S e) where
             (λ n k i.
             let below = number-below start (l .members) n k (numbered-range start (needs (l .members)) (l .members) n k i) in
             let (a, b) = each-at start (needs (l .members)) (λ (n : ℕ) (g : Group). (groupAt M e n ≡ l .number) × (dueAt M e n ≡ must g)) (l .members) (h .members) n k i in
-            (at _ (POSITIONS + n) (omega arith) (omega arith) ∙ a, at _ (2 * POSITIONS + n) (omega arith) (omega arith) ∙ b)));
+            (low-at M S e same _ (POSITIONS + n) (omega arith) (omega arith) ∙ a, low-at M S e same _ (2 * POSITIONS + n) (omega arith) (omega arith) ∙ b)));
       }
 
   chain-still : (u : ℕ) (ls : List Level) (ends : Bool) (h h′ : ℕ) → h′ ≡ h → Chain M e u ends h ls → Chain S e u ends h′ ls
@@ -61,10 +58,10 @@ module _ (M S : List ℕ) (e : ℕ) (same : Low M S e) where
   )
 
   start-still : holderAt M e 0 ≡ 0 → holderAt S e 0 ≡ 0
-  start-still z = at _ 0 (omega arith) (omega arith) ∙ z
+  start-still z = low-at M S e same _ 0 (omega arith) (omega arith) ∙ z
 
   places-still : (g : Group) → ((u : ℕ) → has g u ≡ true → u ≤ GRPGTCNT) → ((u : ℕ) → has g u ≡ true → Chain M e u true (holderAt M e u) (levels g 0 u)) → (u : ℕ) → has g u ≡ true → Chain S e u true (holderAt S e u) (levels g 0 u)
-  places-still g few h u i = chain-still u (levels g 0 u) true _ _ (at _ u (omega arith) (omega (arith, few u i))) (h u i)
+  places-still g few h u i = chain-still u (levels g 0 u) true _ _ (low-at M S e same _ u (omega arith) (omega (arith, few u i))) (h u i)
 
   order-still : Ordered M e → Ordered S e
   order-still h n m a b c some =

@@ -1,24 +1,16 @@
 -- Where a member of an "&" group can end, as the rows of the model tell it: there a place that begins another member may come next.
 use Prim.Native.Nat.{ℕ, _+_, _-_}
 use mathlib.Core.Path.{_≡_, refl, _∙_, subst}
-use mathlib.Core.Bool.{Bool, true, false}
+use mathlib.Core.Bool.{Bool, true, false, and-false, and-true, or-false}
 use native.Mathlib.Omega.{arith}
 use borrow.Author.Tests.{eq-eqb}
 use Rattle.rules.specs.Walk.{Group, place, seq, alt, opt, plus, and, Members, one, also}
-use Rattle.basic_laws.specs.Truth.{or-left, or-right, not-true, not-both}
+use Rattle.basic_laws.specs.Truth.{or-left, or-right, not-true, no-from}
 use Rattle.model_sets.specs.Sets.{has, hasM, size, sizeM, Numbered, NumberedM, first, firstM, last, lastM, follow, followM}
-use Rattle.and_laws.specs.Base.{Apart}
+use Rattle.and_laws.specs.Base.{Apart, apart-no}
 use Rattle.and_laws.specs.Sets.{Good, GoodM, Plain}
-use Rattle.and_laws.specs.Rows.{last-has, lastM-has, follow-from, followM-from, follow-to, and-no, and-yes, or-no}
-use Rattle.and_laws.specs.Unique.{first-has, firstM-has}
-
--- What only places of a group do, one that is not there does not.
-pub without : {a b : Bool} → (a ≡ true → b ≡ true) → b ≡ false → a ≡ false
-without {a} f n = not-true a (λ e. not-both n (f e))
-
--- a place of one of two groups is not of the other
-pub not-right : {f k : ℕ → Bool} → Apart f k → {p : ℕ} → f p ≡ true → k p ≡ false
-not-right {f} {k} a {p} i = not-true (k p) (λ j. a p i j)
+use Rattle.and_laws.specs.Rows.{last-has, lastM-has, follow-from, followM-from, follow-to}
+use Rattle.and_laws.specs.Forced.{first-has, firstM-has}
 
 pub not-left : {f k : ℕ → Bool} → Apart f k → {p : ℕ} → k p ≡ true → f p ≡ false
 not-left {f} {k} a {p} j = not-true (f p) (λ i. a p i j)
@@ -56,7 +48,7 @@ mutual
       let e : lo + sizeM m + size g - 1 ≡ lo + (sizeM m + size g) - 1 = omega arith in
       or-right (lastM m (lo + (sizeM m + size g) - 1)) (subst (λ (p : ℕ). last g p ≡ true) e (last-end g (lo + sizeM m) k))
 
--- where the second member begins
+-- This is where the second member begins.
 abbrev pub second : Members → ℕ → ℕ
 second (one g) lo = lo
 second (also (one g) h) lo = lo + size g
@@ -75,29 +67,29 @@ module _ (R : ℕ → ℕ → Bool) where
     pub rows-seq-left : Rows (seq g h) → Rows g
     rows-seq-left f u w i j =
         f u w (or-left _ i) (or-left _ j)
-        ∙ rw (without (follow-from h u w) (not-right a i), without (first-has h w) (not-right a j), and-no (last g u), or-no (follow g u w))
+        ∙ rw (no-from (follow-from h u w) (apart-no a i), no-from (first-has h w) (apart-no a j), and-false (last g u), or-false (follow g u w))
 
     pub rows-seq-right : Rows (seq g h) → Rows h
     rows-seq-right f u w i j =
         f u w (or-right (has g u) i) (or-right (has g w) j)
-        ∙ rw (without (follow-from g u w) (not-left a i), without (last-has g u) (not-left a i), or-no (follow h u w))
+        ∙ rw (no-from (follow-from g u w) (not-left a i), no-from (last-has g u) (not-left a i), or-false (follow h u w))
 
     pub rows-alt-left : Rows (alt g h) → Rows g
-    rows-alt-left f u w i j = f u w (or-left _ i) (or-left _ j) ∙ rw (without (follow-from h u w) (not-right a i), or-no (follow g u w))
+    rows-alt-left f u w i j = f u w (or-left _ i) (or-left _ j) ∙ rw (no-from (follow-from h u w) (apart-no a i), or-false (follow g u w))
 
     pub rows-alt-right : Rows (alt g h) → Rows h
-    rows-alt-right f u w i j = f u w (or-right (has g u) i) (or-right (has g w) j) ∙ rw (without (follow-from g u w) (not-left a i))
+    rows-alt-right f u w i j = f u w (or-right (has g u) i) (or-right (has g w) j) ∙ rw (no-from (follow-from g u w) (not-left a i))
 
   module _ (m : Members) (g : Group) (a : Apart (hasM m) (has g)) where
     pub rows-before : RowsM (also m g) → RowsM m
     rows-before f u w i j =
         f u w (or-left _ i) (or-left _ j)
-        ∙ rw (without (follow-from g u w) (not-right a i), without (first-has g w) (not-right a j), without (last-has g u) (not-right a i), and-no (lastM m u), or-no (followM m u w), or-no (followM m u w))
+        ∙ rw (no-from (follow-from g u w) (apart-no a i), no-from (first-has g w) (apart-no a j), no-from (last-has g u) (apart-no a i), and-false (lastM m u), or-false (followM m u w), or-false (followM m u w))
 
     pub rows-added : RowsM (also m g) → Rows g
     rows-added f u w i j =
         f u w (or-right (hasM m u) i) (or-right (hasM m w) j)
-        ∙ rw (without (followM-from m u w) (not-left a i), without (lastM-has m u) (not-left a i), without (firstM-has m w) (not-left a j), and-no (last g u), or-no (follow g u w))
+        ∙ rw (no-from (followM-from m u w) (not-left a i), no-from (lastM-has m u) (not-left a i), no-from (firstM-has m w) (not-left a j), and-false (last g u), or-false (follow g u w))
 
   -- After a place of g, w may come next exactly if the place can end g.
   abbrev pub Marks : ℕ → Group → Type 0
@@ -113,7 +105,7 @@ module _ (R : ℕ → ℕ → Bool) where
       let b = firstM-lo m lo n in
       let j = firstM-has m lo b in
       f u lo (or-right (hasM m u) i) (or-left _ j)
-      ∙ rw (without (followM-from m u lo) (not-left a i), without (follow-to g u lo) (not-right a j), without (lastM-has m u) (not-left a i), b, and-yes (last g u))
+      ∙ rw (no-from (followM-from m u lo) (not-left a i), no-from (follow-to g u lo) (apart-no a j), no-from (lastM-has m u) (not-left a i), b, and-true (last g u))
 
   pub marks : (m : Members) (g : Group) (lo : ℕ) → NumberedM (also m g) lo → GoodM (also m g) → RowsM (also m g) → EachMarks lo (second (also m g) lo) (also m g)
   marks (one h) g lo (n, k) (d, c, a) f =
@@ -121,7 +113,7 @@ module _ (R : ℕ → ℕ → Bool) where
       let j = first-has g (lo + size h) b in (
         λ u i.
             f u (lo + size h) (or-left _ i) (or-right (has h (lo + size h)) j)
-            ∙ rw (without (follow-to h u (lo + size h)) (not-left a j), without (follow-from g u (lo + size h)) (not-right a i), without (last-has g u) (not-right a i), b, and-yes (last h u), or-no (last h u)),
+            ∙ rw (no-from (follow-to h u (lo + size h)) (not-left a j), no-from (follow-from g u (lo + size h)) (apart-no a i), no-from (last-has g u) (apart-no a i), b, and-true (last h u), or-false (last h u)),
         added-marks (one h) g lo (n, k) (d, c, a) f,
       )
   marks (also m x) g lo (n, k) (d, c, a) f = (marks m x lo n d (rows-before (also m x) g a f), added-marks (also m x) g lo (n, k) (d, c, a) f)

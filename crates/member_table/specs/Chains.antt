@@ -6,21 +6,21 @@ use mathlib.Core.Logic.{inl, inr}
 use mathlib.Core.List.{List, [], _∷_, _++_}
 use native.Mathlib.Omega.{arith}
 use lib.ListN.{getD}
-use Rattle.rules.specs.Walk.{Group, Members, one, also}
+use Rattle.rules.specs.Walk.{Members, one, also}
 use Rattle.layout.specs.Sizes.{MEMBER, ENDING}
 use Rattle.basic_laws.specs.Truth.{or-left, or-right, or-cases, and-left, and-right, bool-cases}
-use Rattle.model_sets.specs.Sets.{has, hasM, nullable, lastM}
+use Rattle.model_sets.specs.Sets.{has, hasM, lastM, amount}
 use Rattle.and_laws.specs.Sets.{GoodM}
 use Rattle.and_laws.specs.Levels.{together}
 use Rattle.and_laws.specs.Ranked.{Level}
 use Rattle.and_laws.specs.Rows.{lastM-has}
-use Rattle.member_laws.specs.Members.{amount, needs, spares, numberFor, numberIn, groupAt, dueAt, recordAt, firstAt, neededAt, sizeAt, outerAt, Grouped, Chain}
+use Rattle.member_laws.specs.Members.{needs, spares, numberIn, groupAt, dueAt, recordAt, firstAt, neededAt, sizeAt, outerAt, Grouped, Chain}
 use Rattle.member_laws.specs.Numbered.{amount-both}
 use Rattle.member_entries.specs.Slots.{Slot}
-use Rattle.member_table.specs.Joined.{each-map, InRange}
-use Rattle.member_table.specs.Beside.{not-right}
+use Rattle.member_table.specs.Joined.{each-map, InRange, number-from}
+use Rattle.and_laws.specs.Base.{apart-no}
 
--- Two places in one member
+-- Two places may be in one member.
 
 pub together-right : (m : Members) (u v : ℕ) → together m u v ≡ true → hasM m v ≡ true
 together-right (one g) u v t = and-right (has g u) (has g v) t
@@ -36,22 +36,19 @@ number-together first needed (also m g) (d, k, a) u v t =
     or-cases
     (together m u v)
     _
-    (λ x. rw (not-right a (together-left m u v x), not-right a (together-right m u v x)) (number-together first needed m d u v x))
+    (λ x. rw (apart-no a (together-left m u v x), apart-no a (together-right m u v x)) (number-together first needed m d u v x))
     (λ y. rw (and-left (has g u) (has g v) y, and-right (has g u) (has g v) y))
     t
 
-from-for : (first needed n k : ℕ) (g : Group) → first ≤ numberFor first needed n k g
-from-for first needed n k g = bool-cases (nullable g) (λ e. rw e (omega arith)) (λ e. rw e (omega arith))
-
 pub number-least : (first needed : ℕ) (m : Members) (u : ℕ) → first ≤ numberIn first needed m u
-number-least first needed (one g) u = from-for first needed 0 0 g
-number-least first needed (also m g) u = bool-cases (has g u) (λ e. rw e (from-for first needed (needs m) (spares m) g)) (λ e. rw e (number-least first needed m u))
+number-least first needed (one g) u = number-from first needed 0 0 g
+number-least first needed (also m g) u = bool-cases (has g u) (λ e. rw e (number-from first needed (needs m) (spares m) g)) (λ e. rw e (number-least first needed m u))
 
 module _ (e : ℕ) where
   abbrev pub baseOf : ℕ
   baseOf = e * MEMBER
 
-  -- a group among the first b, whose members are among the first c
+  -- The group is among the first b, and its members are among the first c.
   abbrev pub Among : (M : List ℕ) (b c : ℕ) → Level → Type 0
   Among M b c l = (1 ≤ l .number) × (l .number ≤ b) × (firstAt M e (l .number) + amount (l .members) ≤ c + 1)
 

@@ -1,7 +1,7 @@
 -- The end of an "&" group: its members, the last pieces of the stack, are put, and the group takes their place.
 use Prim.Native.Nat.{ℕ, suc, _+_, _-_, _*_, _≤_, _<_}
 use mathlib.Core.Path.{_≡_, refl, sym, _∙_, ap, subst}
-use mathlib.Core.Bool.{Bool}
+use mathlib.Core.Bool.{Bool, and-false, and-true}
 use mathlib.Core.Logic.{_⊎_, inl, inr}
 use mathlib.Core.List.{List, [], _∷_, _++_}
 use native.Mathlib.Omega.{arith}
@@ -14,11 +14,10 @@ use Rattle.rules.specs.Bytes.{GRPCNT, GRPGTCNT}
 use Rattle.rules.specs.Walk.{Group, and, Members, one, also}
 use Rattle.layout.specs.Sizes.{MEMBER, POSITIONS, AND-GROUPS, LASTS, REACHES}
 use Rattle.basic_laws.specs.Truth.{bool-cases}
-use Rattle.model_sets.specs.Sets.{hasM, size, sizeM, NumberedM, nullable, nullableM}
+use Rattle.model_sets.specs.Sets.{hasM, size, sizeM, NumberedM, nullable, nullableM, amount}
 use Rattle.and_laws.specs.Sets.{GoodM}
-use Rattle.and_laws.specs.Rows.{and-no, and-yes}
 use Rattle.model_code.specs.Spelled.{codes, codesM}
-use Rattle.member_laws.specs.Members.{amount, needs, firstAt, neededAt, sizeAt, outerAt, Grouped}
+use Rattle.member_laws.specs.Members.{needs, firstAt, neededAt, sizeAt, outerAt, Grouped}
 use Rattle.member_laws.specs.Numbered.{amount-both}
 use Rattle.member_entries.specs.Entries.{recordFrom, putRecord}
 use Rattle.member_entries.specs.Slots.{Slot}
@@ -30,7 +29,7 @@ use Rattle.member_table.specs.Chains.{baseOf, Keeps, Closes}
 use Rattle.member_table.specs.States.{Common}
 use Rattle.member_table.specs.Order.{InOrder, order-more}
 
--- The last number of the code
+-- The last number of the code closes the group.
 
 lastOf : List ℕ → ℕ
 lastOf [] = 0
@@ -56,7 +55,7 @@ same-last xs x y e = ap (λ (z : ℕ). xs ++ z ∷ []) (sym (last-append xs x) �
 pub codes-and : (m : Members) → codes (and m) ≡ codesM m ++ (AND-CODE + amount m) ∷ []
 codes-and m = same-last (codesM m) _ (AND-CODE + amount m) (close-number m)
 
--- Pieces of the members
+-- The pieces of the members lie on the stack.
 
 module _ (stack : List Piece) (first : ℕ) where
   pub pieces-first : (m : Members) (lo : ℕ) → Pieces stack first m lo → pieceAt stack first .lo ≡ lo
@@ -79,8 +78,8 @@ none-needed (one g) = bool-cases (nullable g) (λ e. rw e) (λ e. rw e)
 none-needed (also m g) =
     bool-cases
     (nullable g)
-    (λ e. let z : needs m + 0 ≡ needs m = omega arith in rw (e, z, and-yes (nullableM m)) (none-needed m))
-    (λ e. rw (e, and-no (nullableM m), ne-eqb (needs m + 1) 0 (λ x. omega arith)))
+    (λ e. let z : needs m + 0 ≡ needs m = omega arith in rw (e, z, and-true (nullableM m)) (none-needed m))
+    (λ e. rw (e, and-false (nullableM m), ne-eqb (needs m + 1) 0 (λ x. omega arith)))
 
 closed-is : (stack : List Piece) (first : ℕ) (m : Members) (g : Group) (lo : ℕ) → Pieces stack first (also m g) lo
     → closedPiece (needs (also m g)) (pieceAt stack first) (pieceAt stack (first + amount (also m g) - 1)) ≡ pieceOf (and (also m g)) lo
@@ -90,7 +89,7 @@ closed-is stack first m g lo p =
     by : {a b c d : ℕ} {x y : Bool} → a ≡ b → c ≡ d → x ≡ y → _≡_ {A = Piece} (record { lo = a; last = c; null = x; required = 0 }) (record { lo = b; last = d; null = y; required = 0 })
     by i j k = rw (i, j, k)
 
--- The numbers of the group itself
+-- The numbers of the group itself are put.
 
 module _ (base groups own needed k : ℕ) (M : List ℕ) (room : base + REACHES ≤ length M) (few : groups < AND-GROUPS) where
   abbrev at : ℕ
@@ -190,7 +189,7 @@ module _
   in-slot : (s v : ℕ) → Slot (baseOf e) (t .lasts) (t .groups) s v → getD begun s 0 ≡ getD (t .members) s 0
   in-slot s v is = record-slot (baseOf e) (t .groups) (t .count + 1) (needs all) (amount all) (t .members) room few (t .lasts) s v is
 
-  -- a number that is none of a member, a place or a group before
+  -- This number is none of a member, of a place or of a group before.
   apart :
       (k : ℕ)
       → ((u : ℕ) → u ≤ GRPGTCNT → k ≡ baseOf e + u → ⊥)
@@ -203,7 +202,7 @@ module _
   before : (k : ℕ) → (k ≡ recordFrom (baseOf e) (t .groups + 1) → ⊥) → (k ≡ recordFrom (baseOf e) (t .groups + 1) + 1 → ⊥) → (k ≡ recordFrom (baseOf e) (t .groups + 1) + 2 → ⊥) → getD begun k 0 ≡ getD (t .members) k 0
   before = record-other (baseOf e) (t .groups) (t .count + 1) (needs all) (amount all) (t .members) room few
 
-  -- a number of a group's record, but not the last; and of any later group
+  -- The numbers of a group's record stay, but for the last, and so do those of any later group.
   in-record : (n r : ℕ) → r < 3 → getD closedMembers (recordFrom (baseOf e) n + r) 0 ≡ getD begun (recordFrom (baseOf e) n + r) 0
   in-record n r l = apart (recordFrom (baseOf e) n + r) (λ u x y. omega arith) (λ q x y z. omega arith) (λ q x y z. omega arith) (λ q x y z. omega arith)
 

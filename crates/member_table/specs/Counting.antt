@@ -22,7 +22,7 @@ module _ (stack : List Piece) (first : ℕ) where
   needed-more j zero = let e : 0 + j ≡ j = omega arith in rw e (omega arith)
   needed-more j (suc k) = let e : suc k + j ≡ suc (k + j) = omega arith in rw e (omega (arith, needed-more j k, one-most (pieceAt stack (first + (k + j)) .null)))
 
-  -- k members from `own` on have numbers below `own + k`.
+  -- The k members from `own` on have numbers below `own + k`.
   pub number-below : (own j k : ℕ) → j < k → numberAt stack first own (neededIn stack first k) j < own + k
   number-below own j k less =
       let e : k - suc j + suc j ≡ k = omega arith in
@@ -34,7 +34,7 @@ module _ (stack : List Piece) (first : ℕ) where
       rw n (omega (arith, most, step, needed-below j)))
       (λ n. rw n (omega (arith, needed-below j)))
 
--- One piece more.
+-- One piece more is counted.
 module _ (stack : List Piece) (first j n : ℕ) (so : n ≡ neededIn stack first j) where
   pub needed-one : pieceAt stack (first + j) .null ≡ false → n + 1 ≡ neededIn stack first (j + 1)
   needed-one e = let s : j + 1 ≡ suc j = omega arith in rw (s, e) (omega (arith, so))

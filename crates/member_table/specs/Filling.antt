@@ -10,7 +10,7 @@ use Rattle.model_links.specs.Each.{each}
 use Rattle.member_entries.specs.Entries.{putMember, putRecord}
 use Rattle.member_table.specs.declared.Piece.{Piece}
 
--- Pieces
+-- Pieces lie on a stack.
 
 abbrev pub nonePiece : Piece
 nonePiece = record { lo = 0; last = 0; null = false; required = 0 }
@@ -71,7 +71,7 @@ abbrev pub putGroup : List ℕ → (base : ℕ) (T lasts : List ℕ) (groups own
 putGroup M base T lasts groups own stack first needed k =
     putOnes (putRecord M base groups own needed k) base T lasts groups own stack first needed 0 k
 
--- One number of the code
+-- One number of the code is read.
 
 -- The table, the stack with how many pieces are on it, the groups with the last place of each, and how many members there are.
 pub record State : Type 0 where
@@ -85,7 +85,7 @@ pub record State : Type 0 where
 abbrev pub fits : (k top groups count : ℕ) → Bool
 fits k top groups count = leb 2 k && (leb k top && (ltb groups AND-GROUPS && ltb (count + k) POSITIONS))
 
--- the stack with a piece at k, which is the last now
+-- The stack has a piece at k, which is the last now.
 abbrev pub stacked : State → (k : ℕ) → Piece → State
 stacked s k a = record { members = s .members; stack = set (s .stack) k a; top = k + 1; lasts = s .lasts; groups = s .groups; count = s .count }
 

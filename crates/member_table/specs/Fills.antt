@@ -1,7 +1,7 @@
 -- The code of a group is run: its piece lies on the stack, its "&" groups are in the table, and the chain of each of its places spells the groups around the place.
 use Prim.Native.Nat.{ℕ, suc, _+_, _-_, _≤_, _<_}
 use mathlib.Core.Path.{_≡_, refl, sym, _∙_, ap, subst}
-use mathlib.Core.Bool.{Bool, true, _&&_, _||_, cond}
+use mathlib.Core.Bool.{Bool, true, _&&_, _||_, cond, and-false, or-false}
 use mathlib.Core.Logic.{inl}
 use mathlib.Core.List.{List, [], _∷_, _++_}
 use native.Mathlib.Omega.{arith}
@@ -11,24 +11,25 @@ use Rattle.model_code.specs.Codes.{ALSO-CODE, ALT-CODE, AND-CODE, OPT-CODE, PLU
 use Rattle.rules.specs.Walk.{Group, place, seq, alt, opt, plus, and, Members, one, also}
 use Rattle.rules.specs.Bytes.{GRPCNT, GRPGTCNT}
 use Rattle.layout.specs.Sizes.{AND-GROUPS, LASTS, POSITIONS, REACHES}
-use Rattle.basic_laws.specs.Truth.{or-left, or-right, and-both, bool-cases}
-use Rattle.model_sets.specs.Sets.{has, hasM, size, sizeM, Numbered, NumberedM, nullable, last, lastM}
-use Rattle.and_laws.specs.Base.{Apart}
+use Rattle.basic_laws.specs.Truth.{or-left, or-right, and-both, or-none, no-from}
+use Rattle.model_sets.specs.Sets.{has, hasM, size, sizeM, Numbered, NumberedM, nullable, last, lastM, amount}
+use Rattle.and_laws.specs.Base.{Apart, apart-no}
 use Rattle.and_laws.specs.Sets.{Good, GoodM, Plain}
-use Rattle.and_laws.specs.Rest.{or-none}
-use Rattle.and_laws.specs.Rows.{last-has, lastM-has, and-no, or-no}
+use Rattle.and_laws.specs.Rows.{last-has, lastM-has}
 use Rattle.and_laws.specs.Levels.{together}
 use Rattle.and_laws.specs.Numbers.{has-range, hasM-range}
 use Rattle.and_laws.specs.Ranked.{Level, levels, levelsM, count, countM}
 use Rattle.model_code.specs.Spelled.{codes, codesM}
-use Rattle.member_laws.specs.Members.{amount, total, totalM, Sized, SizedM, outerAt}
+use Rattle.member_laws.specs.Members.{total, totalM, Sized, SizedM, outerAt}
 use Rattle.member_table.specs.declared.Piece.{Piece}
 use Rattle.member_table.specs.Filling.{State, pieceAt, nonePiece, placePiece, optPiece, joinedPiece, stacked}
-use Rattle.member_table.specs.Beside.{AndRows, AndRowsM, not-left, not-right, without}
-use Rattle.member_table.specs.Joined.{pieceOf, Pieces, rowsOf, size-one, sizeM-one, amount-size}
+use Rattle.member_table.specs.Beside.{AndRows, AndRowsM, not-left}
+use Rattle.member_table.specs.Joined.{pieceOf, Pieces, rowsOf, amount-size}
 use Rattle.member_table.specs.Chains.{baseOf, Spells, spells-map, spells-close, InMember, InGroup, together-right}
 use Rattle.member_table.specs.States.{runOps, run-append, run-one, step-place, step-opt, step-seq, step-alt, step-plus, step-also, step-close, Upon, upon-both, upon-one, Common, common-none, common-stack, common-both, Ready, ready-after, ready-part, chains-both}
 use Rattle.member_table.specs.Closing.{codes-and, closedState, close-is, closes, close-common}
+use Rattle.model_sets.specs.Numbering.{size-one, sizeM-one}
+use Rattle.member_laws.specs.Inside.{plain-levels}
 
 -- The place v is in g, and can end it if u can.
 abbrev pub InPart : Group → ℕ → Bool → ℕ → Type 0
@@ -51,7 +52,7 @@ record RanAll (e : ℕ) (m : Members) (lo : ℕ) (s t : State) : Type 0 where
 upon-none : (s : State) → Upon 0 s s
 upon-none s = record { top = omega arith; len = refl; below = λ j l. refl }
 
--- Without "&"
+-- Without "&" there is no group to put.
 
 plain-count : (g : Group) → Plain g → count g ≡ 0
 plain-count (place n) p = refl
@@ -61,19 +62,11 @@ plain-count (opt g) p = plain-count g p
 plain-count (plus g) p = refl
 plain-count (and m) p = absurd p
 
-plain-levels : (g : Group) → Plain g → (b u : ℕ) → levels g b u ≡ []
-plain-levels (place n) p b u = refl
-plain-levels (seq g h) (p, q) b u = bool-cases (has h u) (λ i. rw i (plain-levels h q (b + count g) u)) (λ i. rw i (plain-levels g p b u))
-plain-levels (alt g h) (p, q) b u = bool-cases (has h u) (λ i. rw i (plain-levels h q (b + count g) u)) (λ i. rw i (plain-levels g p b u))
-plain-levels (opt g) p b u = plain-levels g p b u
-plain-levels (plus g) p b u = refl
-plain-levels (and m) p b u = absurd p
-
 pieces-same : (a b : List Piece) (first : ℕ) (m : Members) (lo : ℕ) → ((j : ℕ) → j < first + amount m → pieceAt b j ≡ pieceAt a j) → Pieces a first m lo → Pieces b first m lo
 pieces-same a b first (one g) lo f p = f (first + 0) (omega arith) ∙ p
 pieces-same a b first (also m g) lo f (p, q) = (pieces-same a b first m lo (λ j l. f j (omega arith)) p, f (first + amount m) (omega arith) ∙ q)
 
--- Two groups, one after the other.
+-- Two groups are run one after the other.
 module _ (e : ℕ) (g h : Group) (lo : ℕ) (apart : Apart (has g) (has h)) (numbered : Numbered g lo) (high : lo + size g ≤ POSITIONS) (s t r : State) (P : Ran e g lo s t) (Q : Ran e h (lo + size g) t r) where
   pair-first : pieceAt (r .stack) (r .top - 2) ≡ pieceOf g lo
   pair-first =
@@ -108,7 +101,7 @@ module _ (e : ℕ) (g h : Group) (lo : ℕ) (apart : Apart (has g) (has h)) (num
       (P .chains)
       (λ u i. subst (λ (b : ℕ). Spells e (r .members) (r .lasts) (r .groups) (r .count) (InPart h u) u true (baseOf e + u) u (levels h b u)) (P .common .groups) (Q .chains u i))
 
--- what joins two groups makes of their pieces
+-- This is what a connector makes of the pieces of two groups.
 seq-is : (g h : Group) (lo : ℕ) (a b : Piece) → a ≡ pieceOf g lo → b ≡ pieceOf h (lo + size g) → joinedPiece SEQ-CODE a b ≡ pieceOf (seq g h) lo
 seq-is g h lo a b p q = let d : lo + size g + size h - 1 ≡ lo + (size g + size h) - 1 = omega arith in rw (p, q, d)
 
@@ -121,7 +114,7 @@ place-is n lo d = let z : lo + 1 - 1 ≡ n = omega arith in rw (z, d)
 stacked-is : (r : State) (j k : ℕ) (a b : Piece) → j ≡ k → a ≡ b → stacked r j a ≡ stacked r k b
 stacked-is r j k a b x y = rw (x, y)
 
--- The end of an "&" group
+-- An "&" group ends.
 module _ (e : ℕ) (T : List ℕ) (m : Members) (g : Group) (lo : ℕ) where
   abbrev group : Group
   group = and (also m g)
@@ -178,7 +171,7 @@ ran-and :
 ran-and e T (one g) lo n d (y, l, h) rows high s t R top-to groups-to count-to P q is = absurd (omega arith)
 ran-and e T (also m g) lo n d z rows high s t R top-to groups-to count-to P q is = ran-closed e T m g lo n d z rows high s t R top-to groups-to count-to P q is
 
--- The whole
+-- The whole code is run.
 module _ (e : ℕ) (T : List ℕ) where
   abbrev run : List ℕ → State → State
   run os s = runOps (baseOf e) T os s
@@ -222,8 +215,8 @@ module _ (e : ℕ) (T : List ℕ) where
           common = pair-common e g h lo a n (omega arith) s t q P Q b;
           chains =
               pair-chains e g h lo a n (omega arith) s t q P Q (InPart (seq g h))
-              (λ u i ends v p. (or-left _ (p .0), λ x. rw (without (last-has h v) (not-right a (p .0)), without (last-has h u) (not-right a i)) (ap (λ (c : Bool). nullable h && c) (p .1 x))))
-              (λ u i ends v p. (or-right (has g v) (p .0), λ x. rw (without (last-has g v) (not-left a (p .0)), without (last-has g u) (not-left a i), and-no (nullable h), or-no (last h v), or-no (last h u)) (p .1 x)));
+              (λ u i ends v p. (or-left _ (p .0), λ x. rw (no-from (last-has h v) (apart-no a (p .0)), no-from (last-has h u) (apart-no a i)) (ap (λ (c : Bool). nullable h && c) (p .1 x))))
+              (λ u i ends v p. (or-right (has g v) (p .0), λ x. rw (no-from (last-has g v) (not-left a (p .0)), no-from (last-has g u) (not-left a i), and-false (nullable h), or-false (last h v), or-false (last h u)) (p .1 x)));
         })
     runs (alt g h) lo (n, o) (d, k, a) (y, z) (f, r) high s R top-to groups-to count-to =
         let t = run (codes g) s in
@@ -239,8 +232,8 @@ module _ (e : ℕ) (T : List ℕ) where
           common = pair-common e g h lo a n (omega arith) s t q P Q b;
           chains =
               pair-chains e g h lo a n (omega arith) s t q P Q (InPart (alt g h))
-              (λ u i ends v p. (or-left _ (p .0), λ x. rw (without (last-has h v) (not-right a (p .0)), without (last-has h u) (not-right a i), or-no (last g v), or-no (last g u)) (p .1 x)))
-              (λ u i ends v p. (or-right (has g v) (p .0), λ x. rw (without (last-has g v) (not-left a (p .0)), without (last-has g u) (not-left a i)) (p .1 x)));
+              (λ u i ends v p. (or-left _ (p .0), λ x. rw (no-from (last-has h v) (apart-no a (p .0)), no-from (last-has h u) (apart-no a i), or-false (last g v), or-false (last g u)) (p .1 x)))
+              (λ u i ends v p. (or-right (has g v) (p .0), λ x. rw (no-from (last-has g v) (not-left a (p .0)), no-from (last-has g u) (not-left a i)) (p .1 x)));
         })
     runs (opt g) lo n d z f high s R top-to groups-to count-to =
         let t = run (codes g) s in
@@ -307,8 +300,8 @@ module _ (e : ℕ) (T : List ℕ) where
               chains-both e (hasM m) (has g) a (λ u i. omega (arith, hasM-range m lo n u i)) (count g) (total g) t q (Q .common) (InMember e m) (InPart g) (InMember e (also m g)) (λ u ends v p. together-right m u v (p .0))
               (λ u i ends v p.
               let j = together-right m u v (p .0) in
-              (or-left _ (p .0), λ x. rw (without (last-has g v) (not-right a j), without (last-has g u) (not-right a i), or-no (lastM m v), or-no (lastM m u)) (p .1 x)))
-              (λ u i ends v p. (or-right (together m u v) (and-both i (p .0)), λ x. rw (without (lastM-has m v) (not-left a (p .0)), without (lastM-has m u) (not-left a i)) (p .1 x)))
+              (or-left _ (p .0), λ x. rw (no-from (last-has g v) (apart-no a j), no-from (last-has g u) (apart-no a i), or-false (lastM m v), or-false (lastM m u)) (p .1 x)))
+              (λ u i ends v p. (or-right (together m u v) (and-both i (p .0)), λ x. rw (no-from (lastM-has m v) (not-left a (p .0)), no-from (lastM-has m u) (not-left a i)) (p .1 x)))
               (λ u. levelsM m (s .groups) u)
               (λ u. levels g (s .groups + countM m) u)
               (P .chains)

@@ -1,71 +1,34 @@
 -- The members of an "&" group, put one after the other: what the table then has of each.
 use Prim.Native.Nat.{ℕ, suc, _+_, _-_, _*_, _≤_, _<_}
 use mathlib.Core.Path.{_≡_, refl, _∙_, ap}
-use mathlib.Core.Bool.{Bool, true, false, cond}
+use mathlib.Core.Bool.{Bool, true, false, cond, or-false}
 use mathlib.Core.Logic.{_⊎_, inl, inr, ⊎-elim}
 use mathlib.Core.List.{List}
 use native.Mathlib.Omega.{arith}
 use lib.Dec.{eqb}
 use lib.ListN.{length, getD}
-use borrow.Author.Tests.{eq-eqb, ne-eqb}
-use Rattle.rules.specs.Walk.{Group, place, seq, alt, opt, plus, and, Members, one, also}
+use borrow.Author.Tests.{ne-eqb}
+use Rattle.rules.specs.Walk.{Group, Members, one, also}
 use Rattle.rules.specs.Bytes.{GRPGTCNT}
 use Rattle.layout.specs.Sizes.{POSITIONS, MODEL-ROW, AND-GROUPS, ENDING, REACHES}
-use Rattle.basic_laws.specs.Truth.{or-left, or-right, bool-cases, not-both}
-use Rattle.model_sets.specs.Sets.{has, hasM, size, sizeM, Numbered, NumberedM, nullable, last, lastM, must}
+use Rattle.basic_laws.specs.Truth.{bool-cases, not-both, or-none, no-from}
+use Rattle.model_sets.specs.Sets.{has, hasM, size, sizeM, Numbered, NumberedM, nullable, last, lastM, must, amount}
 use Rattle.and_laws.specs.Base.{Apart}
 use Rattle.and_laws.specs.Sets.{GoodM}
-use Rattle.and_laws.specs.Rest.{or-none}
 use Rattle.and_laws.specs.Decide.{or-only}
-use Rattle.and_laws.specs.Rows.{last-has, lastM-has, or-no}
+use Rattle.and_laws.specs.Rows.{last-has, lastM-has}
 use Rattle.and_laws.specs.Numbers.{has-range}
-use Rattle.member_laws.specs.Members.{amount, needs, spares, numberFor, numberIn, Each}
+use Rattle.member_laws.specs.Members.{needs, spares, numberFor, numberIn, Each}
 use Rattle.member_laws.specs.Numbered.{amount-both}
 use Rattle.member_entries.specs.Entries.{recordFrom}
 use Rattle.member_entries.specs.Slots.{Slot, Kept, Put, puts}
 use Rattle.member_table.specs.declared.Piece.{Piece}
 use Rattle.member_table.specs.Filling.{pieceAt, neededIn, numberAt, otherAt, putOne, putOnes}
 use Rattle.member_table.specs.Putting.{ones-first, ones-last}
-use Rattle.member_table.specs.Beside.{Marks, EachMarks, not-left, without}
+use Rattle.member_table.specs.Beside.{Marks, EachMarks, not-left}
+use Rattle.model_sets.specs.Numbering.{size-one, amount-one, has-inside}
 
-mutual
-  pub size-one : (g : Group) → 1 ≤ size g
-  size-one (place n) = omega arith
-  size-one (seq g h) = omega (arith, size-one g)
-  size-one (alt g h) = omega (arith, size-one g)
-  size-one (opt g) = size-one g
-  size-one (plus g) = size-one g
-  size-one (and m) = sizeM-one m
-
-  pub sizeM-one : (m : Members) → 1 ≤ sizeM m
-  sizeM-one (one g) = size-one g
-  sizeM-one (also m g) = omega (arith, size-one g)
-
-below : (p a : ℕ) {C : Type 0} → (p < a → C) → (a ≤ p → C) → C
-below p a f k = go (native.Mathlib.Decide.decLt p a) f k
-  where
-    go : {C : Type 0} → Dec (p < a) → (p < a → C) → (a ≤ p → C) → C
-    go (yes l) f k = f l
-    go (no n) f k = k (omega (arith, n))
-
--- Every number from the first place to the last is a place of the group.
-mutual
-  pub range-has : (g : Group) (lo : ℕ) → Numbered g lo → (p : ℕ) → lo ≤ p → p < lo + size g → has g p ≡ true
-  range-has (place n) lo e p a b = eq-eqb n p (omega arith)
-  range-has (seq g h) lo (m, n) p a b =
-      below p (lo + size g) (λ l. or-left _ (range-has g lo m p a l)) (λ l. or-right (has g p) (range-has h (lo + size g) n p l (omega arith)))
-  range-has (alt g h) lo (m, n) p a b =
-      below p (lo + size g) (λ l. or-left _ (range-has g lo m p a l)) (λ l. or-right (has g p) (range-has h (lo + size g) n p l (omega arith)))
-  range-has (opt g) lo n p a b = range-has g lo n p a b
-  range-has (plus g) lo n p a b = range-has g lo n p a b
-  range-has (and m) lo n p a b = rangeM-has m lo n p a b
-
-  pub rangeM-has : (m : Members) (lo : ℕ) → NumberedM m lo → (p : ℕ) → lo ≤ p → p < lo + sizeM m → hasM m p ≡ true
-  rangeM-has (one g) lo n p a b = range-has g lo n p a b
-  rangeM-has (also m g) lo (n, k) p a b =
-      below p (lo + sizeM m) (λ l. or-left _ (rangeM-has m lo n p a l)) (λ l. or-right (hasM m p) (range-has g (lo + sizeM m) k p l (omega arith)))
-
--- Pieces
+-- Pieces lie on the stack.
 
 -- What is on the stack of a group whose places begin at `lo`; the members of a group on the stack.
 abbrev pub pieceOf : Group → ℕ → Piece
@@ -74,10 +37,6 @@ pieceOf g lo = record { lo = lo; last = lo + size g - 1; null = nullable g; requ
 abbrev pub Pieces : List Piece → (first : ℕ) → Members → ℕ → Type 0
 Pieces stack first (one g) lo = pieceAt stack (first + 0) ≡ pieceOf g lo
 Pieces stack first (also m g) lo = Pieces stack first m lo × (pieceAt stack (first + amount m) ≡ pieceOf g (lo + sizeM m))
-
-pub amount-one : (m : Members) → 1 ≤ amount m
-amount-one (one g) = omega arith
-amount-one (also m g) = omega arith
 
 pub amount-size : (m : Members) → amount m ≤ sizeM m
 amount-size (one g) = size-one g
@@ -96,7 +55,7 @@ module _ (stack : List Piece) (first : ℕ) where
       let e : amount m - neededIn stack first (amount m) ≡ spares m = omega (arith, amount-both m, needed-is m lo p) in
       rw (e, needed-is m lo p) (ap (λ (a : Piece). cond (a .null) (own + needed + spares m) (own + needs m)) q)
 
--- Numbers of members
+-- Members have numbers.
 
 abbrev pub InRange : (own needed a b n : ℕ) → Type 0
 InRange own needed a b n = ((own ≤ n) × (n < own + a)) ⊎ ((own + needed ≤ n) × (n < own + needed + b))
@@ -114,20 +73,20 @@ each-map own needed (also m g) f (e, p) = (
   f (numberFor own needed (needs m) (spares m) g) g (number-range own needed (needs m) (spares m) g) p,
 )
 
--- the next number is none of those before
+-- The next number is none of those before.
 number-new : (own needed a b : ℕ) (g : Group) (n : ℕ) → a + cond (nullable g) 0 1 ≤ needed → InRange own needed a b n → n ≡ numberFor own needed a b g → ⊥
 number-new own needed a b g n l (inl (i, j)) = bool-cases (nullable g) (λ e. rw e (λ x. omega (arith, (rw e at l)))) (λ e. rw e (λ x. omega arith))
 number-new own needed a b g n l (inr (i, j)) = bool-cases (nullable g) (λ e. rw e (λ x. omega arith)) (λ e. rw e (λ x. omega (arith, (rw e at l))))
 
-number-from : (own needed a b : ℕ) (g : Group) → own ≤ numberFor own needed a b g
+pub number-from : (own needed a b : ℕ) (g : Group) → own ≤ numberFor own needed a b g
 number-from own needed a b g = bool-cases (nullable g) (λ e. rw e (omega arith)) (λ e. rw e (omega arith))
 
 number-to : (own needed a b : ℕ) (g : Group) → a + cond (nullable g) 0 1 ≤ needed → own + needed + (b + cond (nullable g) 1 0) ≤ POSITIONS → numberFor own needed a b g ≤ GRPGTCNT
 number-to own needed a b g l r = bool-cases (nullable g) (λ e. rw e (omega (arith, (rw e at r)))) (λ e. rw e (omega (arith, (rw e at l), (rw e at r))))
 
--- A table in which the members have been put
+-- The members have been put into a table.
 
--- what the rows of the model's table tell
+-- This is what the rows of the model's table tell.
 abbrev pub rowsOf : List ℕ → ℕ → ℕ → Bool
 rowsOf T u w = eqb (getD T (u * MODEL-ROW + w) 0) 1
 
@@ -146,7 +105,7 @@ pub record Joined (base : ℕ) (lasts : List ℕ) (groups own needed : ℕ) (m :
       → getD S k 0 ≡ getD M k 0
 
 module _ (base : ℕ) (T lasts : List ℕ) (groups own needed : ℕ) where
-  -- the first member
+  -- The first member is put.
   joined-first :
       (g : Group) (lo w : ℕ)
       → Numbered g lo
@@ -161,13 +120,13 @@ module _ (base : ℕ) (T lasts : List ℕ) (groups own needed : ℕ) where
         put = λ s v is i z.
             let r = has-range g lo n v i in
             p .taken s v is (r .0) (r .1) z ∙ ap (λ (b : Bool). numberFor own needed 0 0 g + cond b ENDING 0) (marks v i);
-        other = λ s v is i. p .other s v is (λ a b. not-both i (range-has g lo n v a b));
+        other = λ s v is i. p .other s v is (λ a b. not-both i (has-inside g lo v n a b));
         kept = p .kept;
         each = (p .group, p .due);
         rest = λ k a b c d. p .rest k a b (c (numberFor own needed 0 0 g) (number-from own needed 0 0 g) to) (d (numberFor own needed 0 0 g) (number-from own needed 0 0 g) to);
       }
 
-  -- one more
+  -- One member more is put.
   joined-more :
       (m : Members) (g : Group) (lo w : ℕ)
       → Numbered g lo
@@ -188,15 +147,15 @@ module _ (base : ℕ) (T lasts : List ℕ) (groups own needed : ℕ) where
             (has g v)
             (λ y.
             let r = has-range g lo n v y in
-            rw (y, without (lastM-has m v) (not-left a y))
+            rw (y, no-from (lastM-has m v) (not-left a y))
             (p .taken s v is (r .0) (r .1) (j .other s v is (not-left a y) ∙ z) ∙ ap (λ (b : Bool). numberFor own needed (needs m) (spares m) g + cond b ENDING 0) (marks v y)))
             (λ y.
             let x = or-only (hasM m v) (has g v) y i in
-            rw (y, without (last-has g v) y, or-no (lastM m v))
-            (p .other s v is (λ c d. not-both y (range-has g lo n v c d)) ∙ j .put s v is x z));
+            rw (y, no-from (last-has g v) y, or-false (lastM m v))
+            (p .other s v is (λ c d. not-both y (has-inside g lo v n c d)) ∙ j .put s v is x z));
         other = λ s v is i.
             let (x, y) = or-none (hasM m v) (has g v) i in
-            p .other s v is (λ c d. not-both y (range-has g lo n v c d)) ∙ j .other s v is x;
+            p .other s v is (λ c d. not-both y (has-inside g lo v n c d)) ∙ j .other s v is x;
         kept = λ s v is some.
             let e = j .kept s v is some in
             p .kept s v is (omega (arith, e)) ∙ e;

@@ -21,7 +21,7 @@ order-start e M free =
       later = λ n a b. free n b;
     }
 
--- A group of k members more.
+-- A group of k members more is put.
 module _ (e : ℕ) (M S : List ℕ) (groups count k : ℕ)
     (old-first : (n : ℕ) → n ≤ groups → firstAt S e n ≡ firstAt M e n)
     (old-size : (n : ℕ) → n ≤ groups → sizeAt S e n ≡ sizeAt M e n)

@@ -12,7 +12,7 @@ use Rattle.rules.specs.Bytes.{GRPGTCNT}
 use Rattle.model_code.specs.Codes.{ALSO-CODE, ALT-CODE, AND-CODE, OPT-CODE, PLUS-CODE, SEQ-CODE}
 use Rattle.layout.specs.Sizes.{MEMBER, MODEL-ROWS, CODE, AND-GROUPS, LASTS, POSITIONS, REACHES}
 use Rattle.basic_laws.specs.Truth.{bool-cases}
-use Rattle.and_laws.specs.Base.{Apart}
+use Rattle.and_laws.specs.Base.{Apart, apart-no}
 use Rattle.and_laws.specs.Decide.{or-only}
 use Rattle.and_laws.specs.Ranked.{Level}
 use Rattle.model_code.specs.Spelled.{codeIn}
@@ -20,11 +20,10 @@ use Rattle.member_laws.specs.Members.{outerAt}
 use Rattle.member_entries.specs.Slots.{Slot}
 use Rattle.member_table.specs.declared.Piece.{Piece}
 use Rattle.member_table.specs.Filling.{State, pieceAt, nonePiece, placePiece, optPiece, joinedPiece, stacked, closeGroup, stepFill, startFill, runFill}
-use Rattle.member_table.specs.Beside.{not-right}
 use Rattle.member_table.specs.Chains.{baseOf, Spells, spells-map, Keeps, spells-keep}
 use Rattle.member_table.specs.Order.{InOrder}
 
--- Numbers one after the other
+-- Numbers are read one after the other.
 
 unfoldable pub runOps : (base : ℕ) (T : List ℕ) → List ℕ → State → State
 runOps base T [] s = s
@@ -48,7 +47,7 @@ module _ (base : ℕ) (T : List ℕ) where
       rw (lt-ltb n CODE (omega arith))
       (ap (λ (s : State). stepFill base T s (getD T (MODEL-ROWS + n) 0)) (run-in M n (omega arith)) ∙ sym (run-append (codeIn T n) (getD T (MODEL-ROWS + n) 0 ∷ []) (startFill M)))
 
-  -- One number
+  -- One number is read.
 
   pub step-place : (s : State) (p : ℕ) → p < POSITIONS → s .top < POSITIONS → stepFill base T s p ≡ stacked s (s .top) (placePiece p)
   step-place s p small room = rw (lt-ltb p POSITIONS small, lt-ltb (s .top) POSITIONS room)
@@ -73,7 +72,7 @@ module _ (base : ℕ) (T : List ℕ) where
       let e : AND-CODE + k - AND-CODE ≡ k = omega arith in
       rw (le-ltb (AND-CODE + k) SEQ-CODE (omega arith), ne-eqb (AND-CODE + k) OPT-CODE (λ x. omega arith), le-ltb (AND-CODE + k) PLUS-CODE (omega arith), lt-ltb AND-CODE (AND-CODE + k) (omega arith), e, le-leb 2 k a, le-leb k (s .top) b, lt-ltb (s .groups) AND-GROUPS c, lt-ltb (s .count + k) POSITIONS d)
 
--- What is kept
+-- What lies below on the stack is kept.
 
 -- From the state s to t k pieces are put upon the stack.
 pub record Upon (k : ℕ) (s t : State) : Type 0 where
@@ -89,7 +88,7 @@ upon-both a b s t r p q =
       below = λ j l. q .below j (omega (arith, p .top)) ∙ p .below j l;
     }
 
--- one piece in place of those that were put
+-- One piece comes in place of those that were put.
 pub upon-one : (k : ℕ) (s t : State) → Upon k s t → (j : ℕ) (a : Piece) → j ≡ s .top → Upon 1 s (stacked t j a)
 upon-one k s t p j a e =
     record {
@@ -134,7 +133,7 @@ keeps-none e D lasts b c M =
       size = λ n l. refl;
     }
 
--- Nothing but the stack.
+-- Nothing but the stack changes.
 pub common-none : (e : ℕ) (D : ℕ → Bool) (s : State) (k : ℕ) (a : Piece) → Common e D 0 0 s (stacked s k a)
 common-none e D s k a =
     record {
@@ -163,7 +162,7 @@ common-stack e D cnt tot s t c k a =
       order = c .order;
     }
 
--- One after the other.
+-- What is put one after the other is put in all.
 module _ (e : ℕ) (D₁ D₂ D : ℕ → Bool) (n₁ m₁ n₂ m₂ : ℕ) (s t r : State) (p : Common e D₁ n₁ m₁ s t) (q : Common e D₂ n₂ m₂ t r) (left : (v : ℕ) → D v ≡ false → D₁ v ≡ false) (right : (v : ℕ) → D v ≡ false → D₂ v ≡ false) where
   keeps-both : Keeps e (s .lasts) (s .groups) (s .count) D (s .members) (r .members)
   keeps-both =
@@ -231,7 +230,7 @@ chains-both e D₁ D₂ apart le cnt tot t r c A₁ A₂ A in-first into₁ into
     let x = or-only (D₁ u) (D₂ u) y i in
     rw y
     (spells-keep e (t .lasts) (t .groups) (t .count) D₂ (t .members) (r .members) (c .keeps) (r .lasts) (r .groups) (r .count) (omega (arith, c .groups)) (omega (arith, c .count)) (c .agree) u (A₁ u) (A u)
-    (λ ends v a. not-right apart (in-first u ends v a))
+    (λ ends v a. apart-no apart (in-first u ends v a))
     (into₁ u x)
     (L₁ u)
     true

@@ -49,7 +49,7 @@ fits-told k top groups count e =
       ltb-true (count + k) POSITIONS (and-right (ltb groups AND-GROUPS) (ltb (count + k) POSITIONS) end),
     )
 
--- One number more.
+-- One number more is read.
 module _ (T : List ℕ) (base : ℕ) (M₀ : List ℕ) (i : ℕ) (M : List ℕ) (stack : List Piece) (top : ℕ) (lasts : List ℕ) (groups count : ℕ) (so : Running T base M₀ i M stack top lasts groups count) (room : i < CODE) (op : ℕ) (read : op ≡ getD T (MODEL-ROWS + i) 0) where
   stepped : (next : State) → next ≡ stepFill base T (stateOf M stack top lasts groups count) op → next ≡ runFill M₀ base T (i + 1)
   stepped next e =

@@ -1,7 +1,7 @@
 -- The table that is filled from a model's code and rows tells the members of its "&" groups.
 use Prim.Native.Nat.{ℕ, zero, suc, _+_, _*_, _≤_, _<_}
 use mathlib.Core.Path.{_≡_, refl, sym, _∙_, ap, subst}
-use mathlib.Core.Bool.{Bool, true, false, cond}
+use mathlib.Core.Bool.{true, cond}
 use mathlib.Core.Logic.{_⊎_, inl}
 use mathlib.Core.List.{List}
 use native.Mathlib.Omega.{arith}
@@ -10,7 +10,7 @@ use lib.ListN.{length, getD, length-replicate}
 use Rattle.rules.specs.Walk.{Group, place, seq, alt, opt, plus, and, Members, one, also}
 use Rattle.rules.specs.Bytes.{GRPGTCNT}
 use Rattle.layout.specs.Sizes.{POSITIONS, MODEL-ROW, CODE, MEMBER, MEMBERS, CONTENTS, AND-GROUPS, LASTS}
-use Rattle.basic_laws.specs.Truth.{not-true}
+use Rattle.basic_laws.specs.Truth.{not-true, eqb-bit}
 use Rattle.model_sets.specs.Sets.{has, size, Numbered, follow, nextIn}
 use Rattle.and_laws.specs.Numbers.{Guarded, numbered-good, has-range}
 use Rattle.and_laws.specs.Ranked.{count, countM, levels}
@@ -39,10 +39,6 @@ mutual
   countM-few (one g) z = count-few g z
   countM-few (also m g) (y, z) = omega (arith, countM-few m y, count-few g z)
 
-is-bit : (b : Bool) → eqb (cond b 1 0) 1 ≡ b
-is-bit true = refl
-is-bit false = refl
-
 -- The rows of the table are those of the model.
 abbrev pub HasRows : List ℕ → Group → Type 0
 HasRows T g = (u w : ℕ) → u ≤ size g → 1 ≤ w → w ≤ GRPGTCNT → getD T (u * MODEL-ROW + w) 0 ≡ cond (nextIn g u w) 1 0
@@ -52,7 +48,7 @@ rows-of T g n few f zero w i j = let r = has-range g 1 n 0 i in absurd (omega (a
 rows-of T g n few f (suc u) w i j =
     let a = has-range g 1 n (suc u) i in
     let b = has-range g 1 n w j in
-    ap (λ (x : ℕ). eqb x 1) (f (suc u) w (omega (arith, a .1)) (b .0) (omega (arith, b .1))) ∙ is-bit (follow g (suc u) w)
+    ap (λ (x : ℕ). eqb x 1) (f (suc u) w (omega (arith, a .1)) (b .0) (omega (arith, b .1))) ∙ eqb-bit (follow g (suc u) w)
 
 -- What comes of M for the element e, whose model is g: its part tells the members, but for the sets, and nothing else has changed.
 pub record Filled (M : List ℕ) (e : ℕ) (g : Group) (S : List ℕ) : Type 0 where

@@ -17,7 +17,7 @@ putCode T n op = cond (ltb n CODE) (set T (MODEL-ROWS + n) op) T
 abbrev pub codeNext : ℕ → ℕ
 codeNext n = cond (ltb n CODE) (n + 1) n
 
--- The six tests.
+-- A pairing is six tests.
 abbrev pub six : Pairing → Six
 six a = record { null = a .null; fp = a .«begins_p»; fq = a .«begins_q»; ep = a .«extends_p»; eq = a .«extends_q»; pq = a .clash }
 

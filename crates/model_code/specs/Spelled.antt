@@ -12,15 +12,11 @@ use Rattle.model_code.specs.Codes.{ALSO-CODE, ALT-CODE, AND-CODE, OPT-CO
 use Rattle.layout.specs.Sizes.{MODEL-ROWS, CODE, MODEL, POSITIONS}
 use Rattle.rules.specs.Walk.{Group, place, seq, alt, opt, plus, and, Members, one, also}
 use Rattle.rules.specs.Bytes.{GRPGTCNT}
-use Rattle.model_sets.specs.Sets.{size, sizeM, Numbered, NumberedM}
+use Rattle.model_sets.specs.Sets.{size, sizeM, Numbered, NumberedM, amount}
 use Rattle.and_laws.specs.Fold.{clash}
 use Rattle.and_laws.specs.Code.{Six, sixes, eval, evalM, six-eval}
 use Rattle.model_code.specs.Six.{putCode, codeNext, stepCode, runCode, Told}
-
--- How many members there are.
-abbrev pub count : Members → ℕ
-count (one g) = 1
-count (also m g) = count m + 1
+use Rattle.model_sets.specs.Numbering.{size-one, sizeM-one}
 
 abbrev mutual
   pub codes : Group → List ℕ
@@ -29,7 +25,7 @@ abbrev mutual
   codes (alt g h) = codes g ++ (codes h ++ ALT-CODE ∷ [])
   codes (opt g) = codes g ++ OPT-CODE ∷ []
   codes (plus g) = codes g ++ PLUS-CODE ∷ []
-  codes (and m) = codesM m ++ (AND-CODE + count m) ∷ []
+  codes (and m) = codesM m ++ (AND-CODE + amount m) ∷ []
 
   pub codesM : Members → List ℕ
   codesM (one g) = codes g
@@ -68,23 +64,10 @@ module _ (T : List ℕ) (n op : ℕ) (room : n < CODE) where
       let e : codeNext n ≡ suc n = put-next ∙ add-one n in
       rw (e, put-is, before-put n (omega arith), getD-set-same T (MODEL-ROWS + n) op 0 (omega arith))
 
--- Numbers one after the other.
+-- Numbers are read one after the other.
 abbrev runNumbers : (p q : ℕ) → List ℕ → List Six → List Six
 runNumbers p q [] st = st
 runNumbers p q (o ∷ os) st = runNumbers p q os (stepCode p q o st)
-
-mutual
-  size-one : (g : Group) → 1 ≤ size g
-  size-one (place n) = omega arith
-  size-one (seq g h) = omega (arith, size-one g)
-  size-one (alt g h) = omega (arith, size-one g)
-  size-one (opt g) = size-one g
-  size-one (plus g) = size-one g
-  size-one (and m) = size-oneM m
-
-  size-oneM : (m : Members) → 1 ≤ sizeM m
-  size-oneM (one g) = size-one g
-  size-oneM (also m g) = omega (arith, size-one g)
 
 module _ (p q : ℕ) where
   run-append : (a b : List ℕ) (st : List Six) → runNumbers p q (a ++ b) st ≡ runNumbers p q b (runNumbers p q a st)
@@ -103,7 +86,7 @@ module _ (p q : ℕ) where
   at-close k st =
       rw (le-ltb (AND-CODE + k) SEQ-CODE (omega arith), ne-eqb (AND-CODE + k) OPT-CODE (λ (e : AND-CODE + k ≡ OPT-CODE). omega arith), ne-eqb (AND-CODE + k) PLUS-CODE (λ (e : AND-CODE + k ≡ PLUS-CODE). omega arith), le-ltb (AND-CODE + k) AND-CODE (omega arith))
 
-  -- two groups, and what joins them
+  -- The code of two groups and of what joins them makes one value of theirs.
   two : (a b : List ℕ) (o : ℕ) (v w : Six) (st : List Six) → runNumbers p q a st ≡ v ∷ st → runNumbers p q b (v ∷ st) ≡ w ∷ (v ∷ st) → runNumbers p q (a ++ (b ++ o ∷ [])) st ≡ stepCode p q o (w ∷ (v ∷ st))
   two a b o v w st e f = run-append a (b ++ o ∷ []) st ∙ ap (runNumbers p q (b ++ o ∷ [])) e ∙ run-append b (o ∷ []) (v ∷ st) ∙ ap (stepCode p q o) f
 
@@ -127,13 +110,13 @@ module _ (p q : ℕ) where
         (spelled h (lo + size g) (d .1) (omega arith) (value g ∷ st) (omega (arith, size-one g)))
     spelled (opt g) lo d l st r = after (codes g) OPT-CODE (value g) st (spelled g lo d l st r)
     spelled (plus g) lo d l st r = after (codes g) PLUS-CODE (value g) st (spelled g lo d l st r)
-    spelled (and m) lo d l st r = after (codesM m) (AND-CODE + count m) (valueM m) st (spelledM m lo d l st r) ∙ at-close (count m) (valueM m ∷ st)
+    spelled (and m) lo d l st r = after (codesM m) (AND-CODE + amount m) (valueM m) st (spelledM m lo d l st r) ∙ at-close (amount m) (valueM m ∷ st)
 
     spelledM : (m : Members) (lo : ℕ) → NumberedM m lo → lo + sizeM m ≤ POSITIONS → (st : List Six) → length st + sizeM m ≤ POSITIONS → runNumbers p q (codesM m) st ≡ valueM m ∷ st
     spelledM (one g) lo d l st r = spelled g lo d l st r
     spelledM (also m g) lo d l st r =
         two (codesM m) (codes g) ALSO-CODE (valueM m) (value g) st (spelledM m lo (d .0) (omega arith) st (omega arith))
-        (spelled g (lo + sizeM m) (d .1) (omega arith) (valueM m ∷ st) (omega (arith, size-oneM m)))
+        (spelled g (lo + sizeM m) (d .1) (omega arith) (valueM m ∷ st) (omega (arith, sizeM-one m)))
 
   -- What the pass tells of a table in which the code of g is spelled.
   pub told-clash : (T : List ℕ) (n : ℕ) (g : Group) → n ≤ CODE → codeIn T n ≡ codes g → Numbered g 1 → size g ≤ GRPGTCNT → (r : Bool) → Told T p q n r → r ≡ clash g p q

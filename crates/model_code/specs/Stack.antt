@@ -1,25 +1,18 @@
 -- What one number of the code makes of the stack, and that the code may be read number by number.
 use Prim.Native.Nat.{ℕ, zero, suc, _+_, _-_, _≤_, _<_}
-use mathlib.Core.Path.{_≡_, refl, sym, ap, subst, _∙_}
-use mathlib.Core.Logic.{_⊎_, inl, inr, ⊎-elim}
+use mathlib.Core.Path.{_≡_, refl, sym, ap, _∙_}
+use mathlib.Core.Logic.{_⊎_, ⊎-elim}
 use mathlib.Core.List.{List, [], _∷_}
 use native.Mathlib.Omega.{arith}
-use native.Mathlib.Decide.{decLt}
 use lib.ListN.{length, getD, set, length-set}
 use lib.Seq.{getD-set-same, getD-set-other}
 use borrow.Author.Tests.{eq-eqb, ne-eqb, lt-ltb, le-ltb}
+use Rattle.basic_laws.specs.Numbers.{below-or-from}
 use Rattle.model_code.specs.Codes.{AND-CODE, OPT-CODE, PLUS-CODE, SEQ-CODE}
 use Rattle.layout.specs.Sizes.{MODEL-ROWS, CODE, POSITIONS}
 use Rattle.and_laws.specs.Code.{Six, sixes}
 use Rattle.model_code.specs.declared.Pairing.{Pairing}
 use Rattle.model_code.specs.Six.{six, maybeSix, manySix, joinedSix, stepCode, runCode, nonePairing, stacked, Told}
-
-decided : {a b : ℕ} → Dec (a < b) → (a < b) ⊎ (b ≤ a)
-decided (yes l) = inl l
-decided (no n) = inr (omega (arith, n))
-
-below-or-from : (a b : ℕ) → (a < b) ⊎ (b ≤ a)
-below-or-from a b = decided (decLt a b)
 
 stacked-set : (a : List Pairing) (n : ℕ) (x : Pairing) (m : ℕ) → m ≤ n → stacked (set a n x) m ≡ stacked a m
 stacked-set a n x zero l = refl
@@ -35,7 +28,7 @@ pub record Passed (T : List ℕ) (p q i : ℕ) (a : List Pairing) (top : ℕ) : 
   pub low : top ≤ POSITIONS
   pub is : stacked a top ≡ runCode T p q i
 
--- One number more.
+-- One number more is read.
 module _ (T : List ℕ) (p q i : ℕ) (a : List Pairing) (top : ℕ) (so : Passed T p q i a top) (within : i < CODE) where
   abbrev Steps : (op : ℕ) (b : List Pairing) (k : ℕ) → Type 0
   Steps op b k = stacked b k ≡ stepCode p q op (stacked a top)

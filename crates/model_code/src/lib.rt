@@ -13,16 +13,22 @@ ghost use Rattle.and_laws.specs.Fold.{cross};
 ghost use Rattle.and_laws.specs.Code.{sixes};
 ghost use Rattle.model_code.specs.Six.{putCode, codeNext, six, thenSix, eitherSix, addedSix, maybeSix, manySix, joinedSix, Told};
 
+// The two groups before are joined by ",". Every number below this one is a place.
 pub const SEQ_CODE: u8 = POSITIONS as u8;
 
+// The two groups before are joined by "|".
 pub const ALT_CODE: u8 = SEQ_CODE + 1;
 
+// The group before has "?".
 pub const OPT_CODE: u8 = SEQ_CODE + 2;
 
+// The group before has "+".
 pub const PLUS_CODE: u8 = SEQ_CODE + 3;
 
+// The group before is one member more of an "&" group.
 pub const ALSO_CODE: u8 = SEQ_CODE + 4;
 
+// An "&" group ends: what stands above this number says how many members it has.
 pub const AND_CODE: u8 = 128;
 
 // A number is put behind the n numbers of the code; how many there are now. Where there is no room for it nothing is put.
@@ -55,6 +61,7 @@ fn one_of(a: bool, b: bool) -> bool
     if a { true } else { b }
 }
 
+// Whether both tests hold.
 fn both(a: bool, b: bool) -> bool
     ensures { λ r. ⌜ r ≡ (a && b) ⌝ }
 {
@@ -71,6 +78,7 @@ fn crossing(begins_p: bool, extends_p: bool, begins_q: bool, extends_q: bool) ->
     )
 }
 
+// The place n alone, asked for the places p and q.
 fn at_place(n: usize, p: usize, q: usize) -> Pairing
     ensures { λ r. ⌜ six r ≡ sixes p q .at n ⌝ }
 {

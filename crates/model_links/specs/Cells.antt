@@ -1,36 +1,26 @@
 -- What each change leaves in the table, number by number.
 use Prim.Native.Nat.{ℕ, _+_, _*_, _≤_, _<_}
 use mathlib.Core.Path.{_≡_, refl, ap, subst, _∙_}
-use mathlib.Core.Logic.{_≢_, _⊎_, inl, inr, ⊎-elim}
+use mathlib.Core.Logic.{_≢_, _⊎_, ⊎-elim}
 use mathlib.Core.Bool.{Bool, true, false, _&&_, cond}
 use mathlib.Core.List.{List}
 use native.Mathlib.Omega.{arith}
-use native.Mathlib.Decide.{decLt}
 use lib.ListN.{length, getD, set, length-set}
 use lib.Seq.{getD-set-same, getD-set-other}
 use lib.Dec.{eqb}
 use borrow.Author.Count.{below-more}
+use Rattle.basic_laws.specs.Truth.{eqb-bit}
+use Rattle.basic_laws.specs.Numbers.{below-or-from}
 use Rattle.rules.specs.Bytes.{GRPGTCNT}
 use Rattle.layout.specs.Sizes.{MODEL-ROW, MODEL, POSITIONS}
 use Rattle.model_links.specs.Each.{each-keeps}
 use Rattle.model_links.specs.Links.{linkCell, linkRow, linkFrom, link, settleRow, settle, clearCell, clearRow, unbeginCell, unbegin}
 
--- a flag as the table holds it
+-- The table holds a flag as 1 or 0.
 abbrev pub bit : Bool → ℕ
 bit b = cond b 1 0
 
-pub eqb-bit : (b : Bool) → eqb (bit b) 1 ≡ b
-eqb-bit true = refl
-eqb-bit false = refl
-
-pub below-or-from : (a b : ℕ) → (a < b) ⊎ (b ≤ a)
-below-or-from a b = decided (decLt a b)
-  where
-    decided : Dec (a < b) → (a < b) ⊎ (b ≤ a)
-    decided (yes h) = inl h
-    decided (no h) = inr (omega arith)
-
--- a store on a condition
+-- A number is stored on a condition.
 abbrev setIf : Bool → List ℕ → ℕ → ℕ → List ℕ
 setIf b S j v = cond b (set S j v) S
 
@@ -148,7 +138,7 @@ module _ (starts : ℕ → Bool) (c d : ℕ) (c-to : c ≤ d) (d-to : d ≤ POSI
         each-keeps (linkFrom c d) a b (Linked starts ends T a) link-one T a-to
         record { len = l; rows-before = λ k lt. refl; rows-after = λ k le. refl; row = λ u p ge lt p-to. absurd (omega arith) }
 
--- what `link` leaves as it was in its rows
+-- This is what `link` leaves as it was in its rows.
 pub cond-and-false : (b c : Bool) (x y : ℕ) → c ≡ false → cond (b && c) x y ≡ y
 cond-and-false true c x y e = rw e
 cond-and-false false c x y e = refl
@@ -198,7 +188,7 @@ pub record Settled (ends : ℕ → Bool) (r : ℕ) (T : List ℕ) (a : ℕ) (S :
   pub row : (u p : ℕ) → a ≤ u → u < i → 1 ≤ p → p < POSITIONS → getD S (u * MODEL-ROW + p) 0 ≡ getD T (u * MODEL-ROW + p) 0
   pub required : (u : ℕ) → a ≤ u → u < i → getD S (u * MODEL-ROW + POSITIONS) 0 ≡ cond (ends u) r (getD T (u * MODEL-ROW + POSITIONS) 0)
 
--- a flag that is put out where it is on
+-- A flag that is put out where it is on is 0.
 cond-off : (b : Bool) → cond b 0 (bit b) ≡ 0
 cond-off true = refl
 cond-off false = refl

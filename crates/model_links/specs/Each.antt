@@ -4,12 +4,12 @@ use mathlib.Core.Path.{_≡_, sym, _∙_}
 use mathlib.Core.List.{List}
 use native.Mathlib.Omega.{arith}
 
--- f at i, i + 1, .., as many as the last argument says
+-- The function f goes at i, i + 1, .., as often as the last argument says.
 unfoldable pub turns : (List ℕ → ℕ → List ℕ) → List ℕ → ℕ → ℕ → List ℕ
 turns f T i zero = T
 turns f T i (suc k) = turns f (f T i) (i + 1) k
 
--- f at each of [a, b)
+-- The function f goes at each of [a, b).
 unfoldable pub each : (List ℕ → ℕ → List ℕ) → List ℕ → ℕ → ℕ → List ℕ
 each f T a b = turns f T a (b - a)
 
@@ -26,14 +26,14 @@ module _ (f : List ℕ → ℕ → List ℕ) (T : List ℕ) (a b : ℕ) where
       let e : b - a ≡ suc (b - (a + 1)) = omega arith in
       rw e
 
-  -- the turn of a loop that leaves R, and its end
+  -- These are the turn of a loop that leaves R, and its end.
   pub each-turn : (S R : List ℕ) → S ≡ f T a → a < b → each f T a b ≡ R → each f S (a + 1) b ≡ R
   each-turn S R e h r = rw e (sym (each-more h) ∙ r)
 
   pub each-end : (R : List ℕ) → b ≤ a → each f T a b ≡ R → T ≡ R
   each-end R h r = sym (each-none h) ∙ r
 
--- what holds at the start and is kept by each turn holds at the end
+-- What holds at the start and is kept by each turn holds at the end.
 module _ (f : List ℕ → ℕ → List ℕ) (a b : ℕ) (P : List ℕ → ℕ → Type 0) (keeps : (S : List ℕ) (i : ℕ) → a ≤ i → i < b → P S i → P (f S i) (i + 1)) where
   kept : (k : ℕ) (T : List ℕ) (i : ℕ) → a ≤ i → i + k ≡ b → P T i → P (turns f T i k) b
   unfolding turns

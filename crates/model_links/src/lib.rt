@@ -16,7 +16,7 @@ pub fn whole(table: [u8; MODEL])
     ensures { λ _. ⌜ length table ≡ MODEL ⌝ }
 {}
 
-// p may come after u if it can begin the group.
+// The place p may come after u if it can begin the group.
 fn link_cell(table: &mut [u8; MODEL], u: usize, p: usize)
     requires { ⌜ u < POSITIONS ⌝ }
     requires { ⌜ p < POSITIONS ⌝ }
@@ -60,7 +60,7 @@ pub fn link(table: &mut [u8; MODEL], a: usize, b: usize, c: usize, d: usize)
     }
 }
 
-// u can no longer end its group: what is required comes after it.
+// The place u can no longer end its group: what is required comes after it.
 fn settle_row(table: &mut [u8; MODEL], u: usize, required: u8)
     requires { ⌜ u < POSITIONS ⌝ }
     ensures { λ _. ⌜ now (table .exit) ≡ settleRow required (now (table .entry)) u ⌝ }

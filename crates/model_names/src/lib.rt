@@ -85,6 +85,7 @@ fn folded_at(s: &[u8], at: usize) -> u32
     wide(text::folded(text::byte(s, at)))
 }
 
+// A byte as a wider number.
 fn wide(b: u8) -> u32
     ensures { λ r. ⌜ (r ≡ b) × (r < 256) ⌝ }
 {

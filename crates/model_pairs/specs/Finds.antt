@@ -1,7 +1,7 @@
 -- The search of a model's tables finds the model's first pair at fault, in the rules' terms.
 use Prim.Native.Nat.{ℕ, zero, suc, _+_, _≤_}
-use mathlib.Core.Path.{_≡_, refl, sym, ap, subst, _∙_}
-use mathlib.Core.Bool.{Bool, true, false, _&&_, cond, false≢true}
+use mathlib.Core.Path.{_≡_, sym, ap, subst, _∙_}
+use mathlib.Core.Bool.{Bool, true, false, _&&_}
 use mathlib.Core.Logic.{inl, inr}
 use mathlib.Core.List.{List, [], _∷_, _++_, append-assoc}
 use native.Mathlib.Omega.{arith}
@@ -13,7 +13,7 @@ use Rattle.rules.specs.Ambiguity.{PairAtFault, FirstPair}
 use Rattle.rules.specs.Judge.{samePlace}
 use Rattle.rules.specs.Bytes.{GRPGTCNT}
 use Rattle.layout.specs.Sizes.{CODE}
-use Rattle.basic_laws.specs.Truth.{and-left, and-right, and-both, or-cases, or-left, or-right}
+use Rattle.basic_laws.specs.Truth.{and-left, and-right, and-both, or-cases, or-left, or-right, eqb-bit}
 use Rattle.model_sets.specs.Sets.{size, Numbered, has, follow, nextIn}
 use Rattle.model_sets.specs.Search.{searchPair}
 use Rattle.and_laws.specs.Sets.{Plain}
@@ -22,11 +22,11 @@ use Rattle.and_laws.specs.Fold.{clash, some-walk}
 use Rattle.and_laws.specs.Pairs.{both-clash}
 use Rattle.and_laws.specs.Begun.{begins-none, lastOr0-snoc, next-of, next-last}
 use Rattle.and_laws.specs.First.{clash-row, firstPairOf, firstPairOf-none, firstPairOf-is}
-use Rattle.model_table.specs.Places.{none-follow}
 use Rattle.model_table.specs.Shows.{Says}
 use Rattle.model_names.specs.Places.{placesOf}
 use Rattle.model_code.specs.Spelled.{codes, codeIn, told-clash}
 use Rattle.model_pairs.specs.Rows.{rowIn, clashIn, Tells, faultIn}
+use Rattle.and_laws.specs.Rows.{follow-from}
 
 row-clash : (next : ℕ → ℕ → Bool) (n p q u : ℕ) → u ≤ n → next u p ≡ true → next u q ≡ true → clashIn next n p q ≡ true
 row-clash next zero p q u l a b = let z : u ≡ 0 = omega arith in and-both (rw z at a) (rw z at b)
@@ -68,13 +68,6 @@ through (opt g) b p i = let (s, t, w) = through g b p i in (s, t, inr w)
 through (plus g) b p i = let (s, t, w) = through g b p i in (s, t, once w)
 through (and m) b p i = absurd b
 
-follow-has : (g : Group) (u p : ℕ) → follow g u p ≡ true → has g u ≡ true
-follow-has g u p e = go (has g u) refl
-  where
-    go : (b : Bool) → has g u ≡ b → has g u ≡ true
-    go true is = is
-    go false is = absurd (false≢true (sym (none-follow g u p is) ∙ e))
-
 -- Without "&", two places in one row can both come next after a beginning that ends in its place.
 module _ (g : Group) (numbered : Numbered g 1) (guarded : Guarded g) (plain : Plain g) where
   begun-both : (s : List ℕ) → Begins g s → (p q : ℕ) → nextIn g (lastOr0 s) p ≡ true → nextIn g (lastOr0 s) q ≡ true → clash g p q ≡ true
@@ -88,13 +81,9 @@ module _ (g : Group) (numbered : Numbered g 1) (guarded : Guarded g) (plain : Pl
   row-both : (u p q : ℕ) → nextIn g u p ≡ true → nextIn g u q ≡ true → clash g p q ≡ true
   row-both zero p q x y = begun-both [] (begins-none g) p q x y
   row-both (suc u) p q x y =
-      let (s, t, w) = through g plain (suc u) (follow-has g (suc u) p x) in
+      let (s, t, w) = through g plain (suc u) (follow-from g (suc u) p x) in
       let e : lastOr0 (s ++ suc u ∷ []) ≡ suc u = lastOr0-snoc s (suc u) in
       begun-both (s ++ suc u ∷ []) (t, rw append-assoc w) p q (ap (λ (v : ℕ). nextIn g v p) e ∙ x) (ap (λ (v : ℕ). nextIn g v q) e ∙ y)
-
-is-bit : (b : Bool) → eqb (cond b 1 0) 1 ≡ b
-is-bit true = refl
-is-bit false = refl
 
 -- The table says in its rows what is computed of the group g, and spells g behind them; g is without "&" where that is said.
 pub record Holds (table : List ℕ) (g : Group) (n code : ℕ) (has-and : Bool) : Type 0 where
@@ -108,12 +97,12 @@ pub record Holds (table : List ℕ) (g : Group) (n code : ℕ) (has-and : Bool) 
   pub plain : has-and ≡ false → Plain g
 
 module _ (table : List ℕ) (g : Group) (n code : ℕ) (has-and : Bool) (holds : Holds table g n code has-and) where
-  -- a row of the table says what may come next
+  -- A row of the table says what may come next.
   row-says : (u p : ℕ) → u ≤ n → 1 ≤ p → p ≤ n → rowIn table u p ≡ nextIn g u p
   row-says u p u-to p-from p-to =
       let few = holds .few in
       let sized = holds .sized in
-      ap (λ (x : ℕ). eqb x 1) (holds .says .next u p (omega arith) p-from (omega arith)) ∙ is-bit (nextIn g u p)
+      ap (λ (x : ℕ). eqb x 1) (holds .says .next u p (omega arith) p-from (omega arith)) ∙ eqb-bit (nextIn g u p)
 
   pub tells : Tells table n code has-and (clash g)
   tells =

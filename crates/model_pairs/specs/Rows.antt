@@ -10,15 +10,15 @@ use Rattle.layout.specs.Sizes.{MODEL-ROW}
 use Rattle.model_code.specs.Six.{Told}
 use Rattle.model_names.specs.Places.{placesOf}
 
--- the number that a row has at a place that may come next
+-- A row has this number at a place that may come next.
 abbrev pub isNext : ℕ → Bool
 isNext x = eqb x 1
 
--- p may come next after u, or at the start where u is 0
+-- The place p may come next after u, or at the start where u is 0.
 abbrev pub rowIn : List ℕ → ℕ → ℕ → Bool
 rowIn table u p = isNext (getD table (u * MODEL-ROW + p) 0)
 
--- some row u ≤ n of `next` has both p and q
+-- Some row u ≤ n of `next` has both p and q.
 abbrev pub clashIn : (ℕ → ℕ → Bool) → ℕ → ℕ → ℕ → Bool
 clashIn next zero p q = next 0 p && next 0 q
 clashIn next (suc n) p q = clashIn next n p q || (next (suc n) p && next (suc n) q)
@@ -30,6 +30,6 @@ pub record Tells (table : List ℕ) (n code : ℕ) (and : Bool) (F : ℕ → ℕ
   pub plain : and ≡ false → (p q : ℕ) → 1 ≤ p → p < q → q ≤ n → clashIn (rowIn table) n p q ≡ true → F p q ≡ true
   pub exact : and ≡ true → (p q : ℕ) → 1 ≤ p → p < q → q ≤ n → (r : Bool) → Told table p q code r → r ≡ F p q
 
--- the places p and q have the same name, and can both come next after one beginning
+-- The places p and q have the same name, and can both come next after one beginning.
 unfoldable pub faultIn : List ℕ → List ℕ → (ℕ → ℕ → Bool) → ℕ → ℕ → ℕ → Bool
 faultIn s names F n p q = samePlace s (placesOf names n) p q && F p q

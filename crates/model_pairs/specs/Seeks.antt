@@ -12,6 +12,7 @@ use lib.Seq.{getD-set-same, getD-set-other}
 use Rattle.rules.specs.Judge.{samePlace}
 use Rattle.layout.specs.Sizes.{MODEL-ROW, POSITIONS}
 use Rattle.basic_laws.specs.Truth.{not-true, and-left}
+use Rattle.basic_laws.specs.Numbers.{replicate-at}
 use Rattle.model_sets.specs.Search.{findFrom, pairOr, pairFrom, searchPair}
 use Rattle.model_code.specs.Six.{Told}
 use Rattle.model_names.specs.Places.{placesOf}
@@ -57,13 +58,8 @@ clash-row : (next : ℕ → ℕ → Bool) (u p q : ℕ) (b : Bool) → (u ≡ 0 
 clash-row next zero p q b none has = rw (none refl)
 clash-row next (suc u) p q b none has = let z : suc u - 1 ≡ u = omega arith in rw (has (omega arith), z)
 
-falses : (n k : ℕ) → getD (replicate n false) k false ≡ false
-falses zero k = refl
-falses (suc n) zero = refl
-falses (suc n) (suc k) = falses n k
-
 pub beside-none : (next : ℕ → ℕ → Bool) (p : ℕ) → Beside next p 0 (replicate POSITIONS false)
-beside-none next p = record { none = λ z q h. falses POSITIONS q; has = λ l. absurd (omega arith) }
+beside-none next p = record { none = λ z q h. replicate-at POSITIONS false q; has = λ l. absurd (omega arith) }
 
 module _ (next : ℕ → ℕ → Bool) (p u : ℕ) (set : List Bool) (b : Beside next p u set) where
   more : (q : ℕ) → q < POSITIONS → (getD set q false || (next u p && next u q)) ≡ clashIn next (u + 1 - 1) p q
@@ -180,7 +176,7 @@ module _ (s names table : List ℕ) (n code : ℕ) (and : Bool) (F : ℕ → ℕ
       let none : F p q ≡ false = not-true (F p q) (λ (x : F p q ≡ true). false≢true (sym e ∙ nearby ∙ tells .near p q from less to x)) in
       rw (none, and-false)
 
-  -- what the code or the rows tell where some row has both
+  -- The code or the rows tell it where some row has both.
   told-so : (b r : Bool) → and ≡ b → near ≡ true → (and ≡ false → r ≡ true) → (and ≡ true → Told table p q code r) → r ≡ F p q
   told-so false r is e plain told = plain is ∙ sym (tells .plain is p q from less to (sym nearby ∙ e))
   told-so true r is e plain told = tells .exact is p q from less to r (told is)

@@ -6,6 +6,7 @@ use mathlib.Core.List.{List}
 use native.Mathlib.Omega.{arith}
 use lib.ListN.{getD}
 use lib.Dec.{eqb}
+use Rattle.basic_laws.specs.Numbers.{bit-most}
 use Rattle.type_tables.specs.Tables.{bitOf}
 
 -- Whether a number of the table is 1, as 1 or 0.
@@ -29,17 +30,12 @@ module _ (a b c d e f g h : ℕ) (a-to : a ≤ 1) (b-to : b ≤ 1) (c-to : c ≤
   weighed : Bit 0 a × Bit 1 b × Bit 2 c × Bit 3 d × Bit 4 e × Bit 5 f × Bit 6 g × Bit 7 h
   weighed = omega arith
 
--- A flag, 1 or 0.
-pub flag-most : (b : Bool) → cond b 1 0 ≤ 1
-flag-most true = omega arith
-flag-most false = omega arith
-
 pub flag-is : (b : Bool) (x : ℕ) → x ≡ cond b 1 0 → eqb x 1 ≡ b
 flag-is true x q = rw q
 flag-is false x q = rw q
 
 pub cell-most : (T : List ℕ) (i : ℕ) → cellOf T i ≤ 1
-cell-most T i = flag-most (eqb (getD T i 0) 1)
+cell-most T i = bit-most (eqb (getD T i 0) 1)
 
 module _ (T : List ℕ) (i : ℕ) where
   most : (k : ℕ) → cellOf T (i + k) ≤ 1

@@ -9,17 +9,17 @@ use lib.ListN.{length, getD, set, length-set}
 use lib.Seq.{getD-set-same, getD-set-other}
 use lib.Dec.{eqb}
 use borrow.Author.Count.{below-more}
+use Rattle.basic_laws.specs.Numbers.{below-or-from}
 use Rattle.rules.specs.Walk.{Group}
 use Rattle.rules.specs.TypeFile.{Place, Content, model}
 use Rattle.rules.specs.Bytes.{GRPGTCNT, elementLimit}
 use Rattle.layout.specs.Sizes.{MODEL-ROW, ROWS, LAST-BITS, POSITIONS, RAISE, REQUIRED, ROW}
 use Rattle.model_sets.specs.Sets.{size, nextIn, completeIn, requiredIn}
-use Rattle.model_links.specs.Cells.{below-or-from}
 use Rattle.model_table.specs.Shows.{Says}
 use Rattle.type_tables.specs.Tables.{rowAt, bitOf, completeAt, nextRow, completeRow, requiredRow, raisedAt}
 use Rattle.model_rows.specs.Bits.{cellOf, packedOf, flag-is, packed-bit, lowest-bit, single-bit}
 
--- What is put
+-- The rows are put one after the other.
 
 -- How much higher the required place after the place u is kept than the table has it, where that is `raise` after a place. At the start it is kept as it is.
 abbrev pub lifted : (raise u : ℕ) → ℕ
@@ -132,7 +132,7 @@ module _ (table : List ℕ) (e raise : ℕ) (T : List ℕ) where
             (rw (lifted-later raise u from) (r .has));
       }
 
--- What is said
+-- The rows that were put say what the model's table says.
 
 -- What the row of the element e after the place u is to say of the content; `b` says whether its numbers are raised.
 pub record RowSays (c : Content) (b : Bool) (e u : ℕ) (rows : List ℕ) : Type 0 where

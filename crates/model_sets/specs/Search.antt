@@ -7,7 +7,7 @@ use native.Mathlib.Decide.{ℕ-discrete}
 use native.Mathlib.Omega.{arith}
 use Rattle.basic_laws.specs.Truth.{not-both}
 
--- two pairs neither of which comes after the other are equal
+-- Two pairs neither of which comes after the other are equal.
 pub least-unique : (p q a b : ℕ) → (p < a) ⊎ ((p ≡ a) × (q ≤ b)) → (a < p) ⊎ ((a ≡ p) × (b ≤ q)) → (p ≡ a) × (q ≡ b)
 least-unique p q a b (inl u) (inl v) = omega arith
 least-unique p q a b (inl u) (inr v) = omega arith
@@ -16,17 +16,13 @@ least-unique p q a b (inr u) (inr v) = omega arith
 
 -- The first number that passes a test.
 
--- the first of the k numbers from q on that passes, 0 if none does
+-- This is the first of the k numbers from q on that passes, and 0 if none does.
 abbrev pub findFrom : (ℕ → Bool) → ℕ → ℕ → ℕ
 findFrom f zero q = 0
 findFrom f (suc k) q = cond (f q) q (findFrom f k (suc q))
 
-pub findFrom-ext : (f h : ℕ → Bool) (k q : ℕ) → ((x : ℕ) → q ≤ x → x < q + k → f x ≡ h x) → findFrom f k q ≡ findFrom h k q
-findFrom-ext f h zero q e = refl
-findFrom-ext f h (suc k) q e = rw (e q (omega arith) (omega arith), findFrom-ext f h k (suc q) (λ x a b. e x (omega arith) (omega arith)))
-
 module _ (f : ℕ → Bool) where
-  -- r is what a search of the k numbers from q on should give
+  -- A search of the k numbers from q on should give r.
   abbrev pub Finds : ℕ → ℕ → ℕ → Type 0
   Finds k q r =
       ((r ≡ 0) × ((x : ℕ) → q ≤ x → x < q + k → f x ≡ true → ⊥))
@@ -50,40 +46,32 @@ module _ (f : ℕ → Bool) where
 
 -- The first pair of numbers, the smaller first, that passes a test.
 
--- the pair of p and what was found for it, or the pair found after p
+-- This is the pair of p and what was found for it, or the pair found after p.
 abbrev pub pairOr : ℕ → ℕ → ℕ × ℕ → ℕ × ℕ
 pairOr p zero r = r
 pairOr p (suc q) r = (p, suc q)
 
--- the first pair that passes, both among the k numbers from p on, (0, 0) if none does
+-- This is the first pair that passes, both among the k numbers from p on, and (0, 0) if none does.
 abbrev pub pairFrom : (ℕ → ℕ → Bool) → ℕ → ℕ → ℕ × ℕ
 pairFrom t zero p = (0, 0)
 pairFrom t (suc k) p = pairOr p (findFrom (t p) k (suc p)) (pairFrom t k (suc p))
 
--- the same, both from 1 to n
+-- This is the first pair that passes, both from 1 to n.
 abbrev pub searchPair : (ℕ → ℕ → Bool) → ℕ → ℕ × ℕ
 searchPair t n = pairFrom t n 1
 
-pub pairFrom-ext : (t v : ℕ → ℕ → Bool) (k p : ℕ) → ((a b : ℕ) → p ≤ a → a < b → b < p + k → t a b ≡ v a b) → pairFrom t k p ≡ pairFrom v k p
-pairFrom-ext t v zero p e = refl
-pairFrom-ext t v (suc k) p e =
-    rw (
-      findFrom-ext (t p) (v p) k (suc p) (λ x a b. e p x (omega arith) (omega arith) (omega arith)),
-      pairFrom-ext t v k (suc p) (λ a b l m n. e a b (omega arith) (omega arith) (omega arith)),
-    )
-
 module _ (t : ℕ → ℕ → Bool) where
-  -- (x, y) comes before every pair among the numbers from p up to, not including, end that passes
+  -- The pair (x, y) comes before every pair among the numbers from p up to, not including, end that passes.
   abbrev pub Before : ℕ → ℕ → ℕ → ℕ → Type 0
   Before p end x y = (a b : ℕ) → p ≤ a → a < b → b < end → t a b ≡ true → (x < a) ⊎ ((x ≡ a) × (y ≤ b))
 
-  -- r is what a search of the pairs among the k numbers from p on should give
+  -- A search of the pairs among the k numbers from p on should give r.
   abbrev pub FindsPair : ℕ → ℕ → ℕ × ℕ → Type 0
   FindsPair k p r =
       ((r ≡ (0, 0)) × ((a b : ℕ) → p ≤ a → a < b → b < p + k → t a b ≡ true → ⊥))
       ⊎ ((p ≤ r .0) × (r .0 < r .1) × (r .1 < p + k) × (t (r .0) (r .1) ≡ true) × Before p (p + k) (r .0) (r .1))
 
-  -- if p is in no pair, a pair from p on is a pair after p
+  -- If p is in no pair, a pair from p on is a pair after p.
   after : {C : Type 0} (k p : ℕ) → ((x : ℕ) → suc p ≤ x → x < suc p + k → t p x ≡ true → ⊥) → (a b : ℕ) → p ≤ a → a < b → b < p + suc k → t a b ≡ true → (suc p ≤ a → b < suc p + k → C) → C
   after {C} k p n a b l m o y f = go (ℕ-discrete p a)
     where
@@ -115,11 +103,11 @@ module _ (t : ℕ → ℕ → Bool) where
 
 -- What the search over 1 to n finds.
 module _ (t : ℕ → ℕ → Bool) (n : ℕ) where
-  -- no pair passes
+  -- No pair passes.
   abbrev pub NoPair : Type 0
   NoPair = (a b : ℕ) → 1 ≤ a → a < b → b ≤ n → t a b ≡ true → ⊥
 
-  -- the pair passes, and every other that does has a larger first number, or the same first and a larger second
+  -- The pair passes, and every other that does has a larger first number, or the same first and a larger second.
   abbrev pub IsFirst : ℕ → ℕ → Type 0
   IsFirst p q = (1 ≤ p) × (p < q) × (q ≤ n) × (t p q ≡ true) × ((a b : ℕ) → 1 ≤ a → a < b → b ≤ n → t a b ≡ true → (p < a) ⊎ ((p ≡ a) × (q ≤ b)))
 

@@ -6,7 +6,7 @@ use mathlib.Core.Bool.{Bool, true, false, _&&_, _||_, not, cond}
 use lib.Dec.{eqb}
 use Rattle.rules.specs.Walk.{Group, place, seq, alt, opt, plus, and, Members, one, also}
 
--- how many places a group has
+-- This is how many places a group has.
 abbrev mutual
   pub size : Group → ℕ
   size (place n) = 1
@@ -20,7 +20,12 @@ abbrev mutual
   sizeM (one g) = size g
   sizeM (also m g) = sizeM m + size g
 
--- the places of a group are numbered from `lo`, left to right
+-- This is how many members there are.
+abbrev pub amount : Members → ℕ
+amount (one g) = 1
+amount (also m g) = amount m + 1
+
+-- The places of a group are numbered from `lo`, left to right.
 abbrev mutual
   pub Numbered : Group → ℕ → Type 0
   Numbered (place n) lo = n ≡ lo
@@ -47,7 +52,7 @@ abbrev mutual
   hasM (one g) p = has g p
   hasM (also m g) p = hasM m p || has g p
 
--- a walk of no place
+-- The group has a walk of no place.
 abbrev mutual
   pub nullable : Group → Bool
   nullable (place n) = false
@@ -61,7 +66,7 @@ abbrev mutual
   nullableM (one g) = nullable g
   nullableM (also m g) = nullableM m && nullable g
 
--- the place can begin a walk
+-- The place can begin a walk.
 abbrev mutual
   pub first : Group → ℕ → Bool
   first (place n) p = eqb n p
@@ -75,7 +80,7 @@ abbrev mutual
   firstM (one g) p = first g p
   firstM (also m g) p = firstM m p || first g p
 
--- the place can end a walk
+-- The place can end a walk.
 abbrev mutual
   pub last : Group → ℕ → Bool
   last (place n) p = eqb n p
@@ -89,7 +94,7 @@ abbrev mutual
   lastM (one g) p = last g p
   lastM (also m g) p = lastM m p || last g p
 
--- p can stand directly after u in a walk
+-- The place p can stand directly after u in a walk.
 abbrev mutual
   pub follow : Group → ℕ → ℕ → Bool
   follow (place n) u p = false
@@ -103,7 +108,7 @@ abbrev mutual
   followM (one g) u p = follow g u p
   followM (also m g) u p = (followM m u p || follow g u p) || ((lastM m u && first g p) || (last g u && firstM m p))
 
--- the place required at the start, 0 if there is none
+-- This is the place required at the start, and 0 if there is none.
 abbrev mutual
   pub must : Group → ℕ
   must (place n) = n
@@ -117,7 +122,7 @@ abbrev mutual
   mustM (one g) = must g
   mustM (also m g) = 0
 
--- the place required once u was the last taken, 0 if there is none; were every "&" group around u whole
+-- This is the place that would be required once u was the last taken, were every "&" group around u whole, and 0 if there is none.
 abbrev mutual
   pub mustAfter : Group → ℕ → ℕ
   mustAfter (place n) u = 0

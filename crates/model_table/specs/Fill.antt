@@ -12,50 +12,50 @@ use Rattle.model_sets.specs.Sets.{nullable, must}
 use Rattle.model_links.specs.Links.{link, settle, clearRow, unbegin}
 use Rattle.model_table.specs.declared.Part.{Part}
 
--- a new place can begin and end itself, and nothing comes after it
+-- A new place can begin and end itself, and nothing comes after it.
 abbrev pub putPlace : List ℕ → ℕ → List ℕ
 putPlace T p = set (set (clearRow T p) p 1) (p * MODEL-ROW) 1
 
--- what is kept of a group beside the table
+-- This is kept of a group beside the table.
 abbrev pub part : Bool → ℕ → Part
 part n r = record { nullable = n; required = r }
 
--- two groups in sequence: the whole requires what the first does, or what the second does if the first can be empty
+-- Two groups in sequence require what the first does, or what the second does if the first can be empty.
 abbrev pub partSeq : Part → Part → Part
 partSeq g h = part (g .nullable && h .nullable) (cond (g .nullable) (h .required) (g .required))
 
--- two groups of which one is taken: the whole requires no place
+-- Two groups of which one is taken require no place.
 abbrev pub partAlt : Part → Part → Part
 partAlt g h = part (g .nullable || h .nullable) 0
 
--- two groups in any order: the whole requires no place
+-- Two groups in any order require no place.
 abbrev pub partAnd : Part → Part → Part
 partAnd g h = part (g .nullable && h .nullable) 0
 
--- the ends of a first group stay ends if the second can be empty
+-- The ends of a first group stay ends if the second can be empty.
 unfoldable pub closeEnds : List ℕ → ℕ → ℕ → Part → List ℕ
 closeEnds T lo mid h = cond (h .nullable) T (settle T lo mid (h .required))
 
--- the starts of a second group stay starts if the first can be empty
+-- The starts of a second group stay starts if the first can be empty.
 unfoldable pub closeStarts : List ℕ → ℕ → ℕ → Part → List ℕ
 closeStarts T mid hi g = cond (g .nullable) T (unbegin T mid hi)
 
--- [lo, mid) is filled with a first group, [mid, hi) with a second: the two in sequence
+-- Where [lo, mid) is filled with a first group and [mid, hi) with a second, the two are put in sequence.
 abbrev pub joinSeq : List ℕ → ℕ → ℕ → ℕ → Part → Part → List ℕ
 joinSeq T lo mid hi g h = closeStarts (closeEnds (link T lo mid mid hi) lo mid h) mid hi g
 
--- [lo, mid) is filled with a first group, [mid, hi) with a second: the two in any order
+-- Where [lo, mid) is filled with a first group and [mid, hi) with a second, the two are put in any order.
 abbrev pub joinAnd : List ℕ → ℕ → ℕ → ℕ → List ℕ
 joinAnd T lo mid hi = link (link T lo mid mid hi) mid hi lo mid
 
--- any of [lo, hi) that can end may be followed by any that can begin
+-- Any of [lo, hi) that can end may be followed by any that can begin.
 abbrev pub repeated : List ℕ → ℕ → ℕ → List ℕ
 repeated T lo hi = link T lo hi lo hi
 
--- row 0 gets its two columns: whether the whole model can be empty, and which place it requires
+-- Row 0 gets its two columns: whether the whole model can be empty, and which place it requires.
 abbrev pub finished : List ℕ → Part → List ℕ
 finished T g = set (set T 0 (cond (g .nullable) 1 0)) POSITIONS (g .required)
 
--- what is kept of a group
+-- This is kept of the group g.
 abbrev pub partOf : Group → Part
 partOf g = part (nullable g) (must g)

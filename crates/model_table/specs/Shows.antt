@@ -2,20 +2,22 @@
 use Prim.Native.Nat.{ℕ, zero, suc, _+_, _*_, _≤_, _<_}
 use mathlib.Core.Path.{_≡_, refl, sym, ap, _∙_}
 use mathlib.Core.Logic.{⊎-elim}
-use mathlib.Core.Bool.{Bool, true, false, _&&_, _||_, not, cond, and-true, or-comm}
+use mathlib.Core.Bool.{Bool, true, false, _&&_, _||_, not, cond, and-true, or-comm, or-assoc}
 use mathlib.Core.List.{List}
 use native.Mathlib.Omega.{arith}
 use lib.ListN.{length, getD, set, length-set}
 use lib.Seq.{getD-set-same, getD-set-other}
 use borrow.Author.Tests.{eq-eqb}
+use Rattle.basic_laws.specs.Numbers.{below-or-from}
 use Rattle.rules.specs.Walk.{Group, place, seq, alt, plus}
 use Rattle.rules.specs.Bytes.{GRPGTCNT}
 use Rattle.layout.specs.Sizes.{MODEL-ROW, MODEL-ROWS, MODEL, POSITIONS}
 use Rattle.model_sets.specs.Sets.{size, Numbered, has, nullable, first, last, follow, must, mustAfter, nextIn, completeIn, requiredIn}
 use Rattle.model_links.specs.Links.{link, settle, clearRow, unbegin}
 use Rattle.model_table.specs.Fill.{putPlace, closeEnds, closeStarts, joinSeq, joinAnd, partOf, finished}
-use Rattle.model_links.specs.Cells.{bit, below-or-from, Linked, linked, linked-same, linked-end, cond-and-false, Settled, settled, Cleared, cleared-row, unbegun}
-use Rattle.model_table.specs.Places.{none-first, none-last, none-follow, has-under, has-over, has-inside}
+use Rattle.model_links.specs.Cells.{bit, Linked, linked, linked-same, linked-end, cond-and-false, Settled, settled, Cleared, cleared-row, unbegun}
+use Rattle.model_table.specs.Places.{none-first, none-last, none-follow, has-under, has-over}
+use Rattle.model_sets.specs.Numbering.{has-inside}
 
 -- S says of the places [lo, hi) in row 0 F, in column 0 L, in the columns between N and in the last column M. What T says of other places in
 -- row 0, and in the rows before, S says too.
@@ -46,7 +48,7 @@ shows-same R lo-to hi-to l same s =
       requires = λ u ge lt. same (u * MODEL-ROW + POSITIONS) (omega arith) ∙ s .requires u ge lt;
     }
 
--- a place alone
+-- A place alone fills its row.
 pub placed : (n lo : ℕ) (T : List ℕ) → 1 ≤ lo → lo + 1 ≤ POSITIONS → n ≡ lo → length T ≡ MODEL → Filled (place n) lo T (putPlace T n)
 placed n lo T from to e l =
     let R : List ℕ = clearRow T n in
@@ -78,16 +80,12 @@ only-left false b e = sym e
 only-right : (a b : Bool) → a ≡ false → b ≡ (a || b)
 only-right a b e = rw e
 
--- a 1 written on a condition adds to what is there
+-- A 1 written on a condition adds to what is there.
 cond-or : (x a : Bool) → cond x 1 (bit a) ≡ bit (a || x)
 cond-or true true = refl
 cond-or true false = refl
 cond-or false true = refl
 cond-or false false = refl
-
-or-assoc : (a b c : Bool) → (a || b || c) ≡ (a || (b || c))
-or-assoc true b c = refl
-or-assoc false b c = refl
 
 or-and-false : (a b c : Bool) → b ≡ false → a ≡ (a || (b && c))
 or-and-false true b c e = refl
@@ -101,7 +99,7 @@ module _ (g h : Group) (lo : ℕ) (from : 1 ≤ lo) (to : lo + size g + size h �
   no-h : (p : ℕ) → p < lo + size g → has h p ≡ false
   no-h p lt = has-under h (lo + size g) p hn lt
 
-  -- what holds of a place of g and of a place of h
+  -- What holds of a place of g and of a place of h holds of a place of both.
   on-both : (P : ℕ → Type 0)
       → ((p : ℕ) → lo ≤ p → p < lo + size g → P p)
       → ((p : ℕ) → lo + size g ≤ p → p < lo + size g + size h → P p)
@@ -141,7 +139,7 @@ module _ (g h : Group) (lo : ℕ) (from : 1 ≤ lo) (to : lo + size g + size h �
             (λ u ge lt. rw (has-inside h (lo + size g) u hn ge lt) (fh .requires u ge lt));
       }
 
-  -- where g can end and h can begin, h follows g
+  -- Where g can end and h can begin, h follows g.
   module _ (T S : List ℕ) (s : Filled (alt g h) lo T S) where
     row-0 : (p : ℕ) → lo + size g ≤ p → p < lo + size g + size h → getD S p 0 ≡ bit (first h p)
     row-0 p ge lt = s .begins p (omega arith) (omega arith) ∙ ap bit (sym (only-right (first g p) (first h p) (none-first g p (no-g p ge))))
@@ -198,7 +196,7 @@ module _ (g h : Group) (lo : ℕ) (from : 1 ≤ lo) (to : lo + size g + size h �
               (below-or-from u (lo + size g));
         }
 
-  -- and where h can end and g can begin, g follows h
+  -- Where h can end and g can begin, g follows h.
   module _ (T R : List ℕ)
       (s : Shows lo (lo + (size g + size h)) T R (first (alt g h)) (last (alt g h)) (follow (seq g h)) (mustAfter (alt g h))) where
     back-row-0 : (p : ℕ) → lo ≤ p → p < lo + size g → getD R p 0 ≡ bit (first g p)
@@ -224,7 +222,7 @@ module _ (g h : Group) (lo : ℕ) (from : 1 ≤ lo) (to : lo + size g + size h �
     first-g-97 : first g POSITIONS ≡ false
     first-g-97 = none-first g POSITIONS (no-g POSITIONS (omega arith))
 
-    -- the four ways in which p can follow u, of which those that ask for the other's end are not
+    -- Of the four ways in which p can follow u, those that ask for the other's end are none.
     from-g : (a b x y z : Bool) → z ≡ false → (a || (b || x)) ≡ ((a || b) || (x || (z && y)))
     from-g a b x y z e = rw e (spread a b x)
       where
@@ -275,7 +273,7 @@ module _ (g h : Group) (lo : ℕ) (from : 1 ≤ lo) (to : lo + size g + size h �
               (below-or-from u (lo + size g));
         }
 
-  -- where h cannot be empty, g no longer ends the whole, and what h requires is required after it
+  -- Where h cannot be empty, g no longer ends the whole, and what h requires is required after it.
   module _ (T R : List ℕ)
       (s : Shows lo (lo + (size g + size h)) T R (first (alt g h)) (last (alt g h)) (follow (seq g h)) (mustAfter (alt g h))) where
     ends-g : (u : ℕ) → lo ≤ u → u < lo + size g → getD R (u * MODEL-ROW) 0 ≡ bit (last g u)
@@ -331,7 +329,7 @@ module _ (g h : Group) (lo : ℕ) (from : 1 ≤ lo) (to : lo + size g + size h �
               (below-or-from u (lo + size g));
         }
 
-  -- where g cannot be empty, h no longer begins the whole
+  -- Where g cannot be empty, h no longer begins the whole.
   starts-closed : (T R : List ℕ) (L : ℕ → Bool) (N : ℕ → ℕ → Bool) (M : ℕ → ℕ) (b : Bool)
       → Shows lo (lo + (size g + size h)) T R (first (alt g h)) L N M
       → Shows lo (lo + (size g + size h)) T (cond b R (unbegin R (lo + size g) (lo + size g + size h))) (λ p. first g p || (b && first h p)) L N M
@@ -363,7 +361,7 @@ module _ (g h : Group) (lo : ℕ) (from : 1 ≤ lo) (to : lo + size g + size h �
         requires = λ u ge lt. r .over (u * MODEL-ROW + POSITIONS) (omega arith) ∙ s .requires u ge lt;
       }
 
-  -- the two in sequence
+  -- The two are put in sequence.
   pub sequence : (T S : List ℕ) → Filled (alt g h) lo T S
       → Filled (seq g h) lo T (joinSeq S lo (lo + size g) (lo + size g + size h) (partOf g) (partOf h))
   unfolding R closeEnds closeStarts
@@ -373,14 +371,14 @@ module _ (g h : Group) (lo : ℕ) (from : 1 ≤ lo) (to : lo + size g + size h �
       (last (seq g h)) (follow (seq g h)) (mustAfter (seq g h)) (nullable g)
       (ends-closed T linked-up (in-sequence T S s) (nullable h))
 
-  -- the two in any order
+  -- The two are put in any order.
   pub any-order : (T S : List ℕ) → Filled (alt g h) lo T S
       → Shows lo (lo + (size g + size h)) T (joinAnd S lo (lo + size g) (lo + size g + size h)) (first (alt g h)) (last (alt g h))
       (λ u p. (follow g u p || follow h u p) || ((last g u && first h p) || (last h u && first g p))) (mustAfter (alt g h))
   unfolding R Q
   any-order T S s = in-any-order T (R T S s) (in-sequence T S s)
 
--- one group once or more: where it can end, it can begin again
+-- A group that stands once or more can begin again where it can end.
 module _ (g : Group) (lo : ℕ) (from : 1 ≤ lo) (to : lo + size g ≤ POSITIONS) (gn : Numbered g lo) (T S : List ℕ) (s : Filled g lo T S) where
   again : Linked (first g) (last g) S lo (link S lo (lo + size g) lo (lo + size g)) (lo + size g)
   again =
@@ -437,7 +435,7 @@ module _ (g : Group) (gn : Numbered g 1) (to : size g ≤ GRPGTCNT) (T F : List 
   unfolding Z
   len-Z = length-set F 0 (cond (nullable g) 1 0) ∙ f .len
 
-  -- all but the first number and that of column 97 of row 0 are as they were
+  -- All but the first number and that of column 97 of row 0 are as they were.
   as-filled : (k : ℕ) → 1 ≤ k → (k ≡ POSITIONS → ⊥) → getD (set Z POSITIONS (must g)) k 0 ≡ getD F k 0
   unfolding Z
   as-filled k ge ne = getD-set-other Z POSITIONS k (must g) 0 ne ∙ getD-set-other F 0 k (cond (nullable g) 1 0) 0 (omega arith)

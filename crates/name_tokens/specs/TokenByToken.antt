@@ -1,8 +1,8 @@
 -- Laws of the tokens seen, and of a group read token after token.
 use Prim.Native.Nat.{ℕ, zero, suc, _+_, _-_, _*_, _≤_, _<_}
 use mathlib.Core.Path.{_≡_, refl, sym, _∙_, ap, subst}
-use mathlib.Core.Bool.{Bool, true, false, _&&_, _||_}
-use mathlib.Core.List.{List, [], _∷_, _++_}
+use mathlib.Core.Bool.{Bool, true, false, _&&_, _||_, or-false, or-assoc, or-true}
+use mathlib.Core.List.{List, [], _∷_, _++_, append-nil, append-assoc}
 use native.Mathlib.Decide.{ℕ-discrete}
 use native.Mathlib.Numerals.{add-one}
 use native.Mathlib.Omega.{arith}
@@ -21,7 +21,7 @@ use Rattle.text.specs.declared.Reached.the-variants.{At, Refused}
 use Rattle.text.specs.Refusal.{refusalOf, faultOf}
 use Rattle.name_tokens.specs.Tokens.{partIn, partsOf, tokenOf, TokenIn, ReadAs}
 
--- Tables
+-- A table holds the tokens that were seen.
 
 partsOf-ext : (seen other : List ℕ) (n : ℕ) → ((j : ℕ) → j < 2 * n → getD seen j 0 ≡ getD other j 0) → partsOf seen n ≡ partsOf other n
 unfolding partsOf
@@ -42,24 +42,12 @@ partsOf-put seen n at size h =
     let long : getD (set first (2 * n + 1) size) (2 * n + 1) 0 ≡ size = getD-set-same first (2 * n + 1) size 0 l in
     rw (add-one n, partsOf, kept, stands, long)
 
--- Whether a token was seen
-
-or-false : (b : Bool) → (b || false) ≡ (false || b)
-or-false true = refl
-or-false false = refl
-
-or-assoc : (a b c : Bool) → (a || (b || c)) ≡ ((a || b) || c)
-or-assoc true b c = refl
-or-assoc false b c = refl
-
-or-true : (b : Bool) → (b || true) ≡ true
-or-true true = refl
-or-true false = refl
+-- A token was seen or not.
 
 isToken-snoc : (s : List ℕ) (ps : List Part) (p : Part) (at size : ℕ) → isToken s (ps ++ p ∷ []) at size ≡ (isToken s ps at size || sameName s (p .at) (p .size) at size)
 unfolding isToken
 isToken-snoc s [] p at size = or-false (sameName s (p .at) (p .size) at size)
-isToken-snoc s (q ∷ ps) p at size = ap (λ b. sameName s (q .at) (q .size) at size || b) (isToken-snoc s ps p at size) ∙ or-assoc (sameName s (q .at) (q .size) at size) (isToken s ps at size) (sameName s (p .at) (p .size) at size)
+isToken-snoc s (q ∷ ps) p at size = ap (λ b. sameName s (q .at) (q .size) at size || b) (isToken-snoc s ps p at size) ∙ sym (or-assoc (sameName s (q .at) (q .size) at size) (isToken s ps at size) (sameName s (p .at) (p .size) at size))
 
 module _ (s seen : List ℕ) (at size : ℕ) where
   next : (k : ℕ) → isToken s (partsOf seen (suc k)) at size ≡ (isToken s (partsOf seen k) at size || sameName s (partIn seen k .at) (partIn seen k .size) at size)
@@ -93,7 +81,7 @@ module _ (s seen : List ℕ) (k at size m : ℕ) (sized : m ≡ getD seen (2 * k
   pub same-size : m ≡ size → (a : ℕ) → a ≡ getD seen (2 * k) 0 → {r : Bool} → r ≡ sameText s a s at size → r ≡ sameName s (partIn seen k .at) (partIn seen k .size) at size
   same-size e a h q = rw (sameName, ← sized, eq-eqb m size e, ← h) q
 
--- A token by the tests that the code makes
+-- A token is read by the tests that the code makes.
 
 module _ (long : ℕ) (s : List ℕ) (ts ps : List Part) (i e : ℕ) (ends : e ≡ nameEnd s i) where
   pub token-percent : e ≡ i → byteAt s i ≡ PERO → groupToken long s ts ps i ≡ refused 5 i
@@ -123,10 +111,6 @@ module _ (long : ℕ) (s : List ℕ) (ts ps : List Part) (i e : ℕ) (ends : e �
         unfolding groupToken
         token-got h = rw (groupToken, ← ends, lt-ltb i e some, ← ends, le-ltb _ _ short, lt-leb _ _ room, ← ends, ← seen, h, ends)
 
-append-assoc : (a b d : List Part) → (a ++ b) ++ d ≡ a ++ (b ++ d)
-append-assoc [] b d = refl
-append-assoc (p ∷ a) b d = ap (λ r. p ∷ r) (append-assoc a b d)
-
 -- A group, token after token. What is left to read, where the table holds the tokens of the list and `connector` joins those of the group.
 pub record Goes (long : ℕ) (s : List ℕ) (ts : List Part) (x : Reading TokensEnd) (seen : List ℕ) (n m connector i : ℕ) : Type 0 where
   pub ps : List Part
@@ -139,11 +123,7 @@ pub record Goes (long : ℕ) (s : List ℕ) (ts : List Part) (x : Reading Tokens
 
 pub goes-first : (long : ℕ) (s : List ℕ) (seen : List ℕ) (n at i : ℕ) → i ≡ separatorsEnd s (at + 1) → Goes long s (partsOf seen n) (tokenGroup long s (partsOf seen n) at) seen n n 0 i
 unfolding tokenGroup
-goes-first long s seen n at i e = record { ps = []; from = at + 1; begins = e; counted = omega arith; few = omega arith; parts = sym (append-none (partsOf seen n)); due = refl }
-  where
-    append-none : (l : List Part) → l ++ [] ≡ l
-    append-none [] = refl
-    append-none (p ∷ l) = ap (λ r. p ∷ r) (append-none l)
+goes-first long s seen n at i e = record { ps = []; from = at + 1; begins = e; counted = omega arith; few = omega arith; parts = sym (append-nil (partsOf seen n)); due = refl }
 
 module _ (long : ℕ) (s : List ℕ) (ts : List Part) (x : Reading TokensEnd) (seen : List ℕ) (n m connector i : ℕ) (g : Goes long s ts x seen n m connector i) where
   -- The rest of a turn: behind the token p stands the byte b at j.

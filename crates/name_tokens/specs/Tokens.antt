@@ -3,7 +3,7 @@ use Prim.Native.Nat.{ℕ, zero, suc, _+_, _-_, _*_, _≤_, _<_}
 use mathlib.Core.Path.{_≡_}
 use mathlib.Core.List.{List, [], _∷_, _++_}
 use lib.ListN.{length, getD}
-use Rattle.rules.specs.Reading.{Reading, refused, got}
+use Rattle.rules.specs.Reading.{Reading, got}
 use Rattle.rules.specs.Attributes.{Part}
 use Rattle.rules.specs.TypeFile.{TokensEnd}
 use Rattle.rules.specs.Bytes.{GRPCNT}

@@ -90,6 +90,7 @@ fn token_at(long: usize, s: &[u8], i: usize, k: usize, seen: &[u16; TOKENS], n: 
     Reached::At(e)
 }
 
+// Whether a byte may join the tokens of a group.
 fn is_connector(b: u8) -> bool
     ensures { λ r. ⌜ r ≡ isTokenConnector b ⌝ }
 {

@@ -32,7 +32,7 @@ pub record Linked (places : List ℕ) (e : ℕ) (f : ℕ → Bool) (n : ℕ) : T
   pub last : 1 ≤ n → f n ≡ true
   pub below : (q : ℕ) → 1 ≤ q → q ≤ n → f q ≡ true → linkAt places e q ≡ search f (q - 1)
 
--- r is the largest of the linked places from n on of which it is said that they may come next, whichever they are, or 0.
+-- The number r is the largest of the linked places from n on of which it is said that they may come next, whichever they are, or 0.
 pub record Largest (Says : ℕ → Bool → Type 0) (places : List ℕ) (e n r : ℕ) : Type 0 where
   pub small : r ≤ GRPGTCNT
   pub finds : (f next : ℕ → Bool) → Linked places e f n → ((q : ℕ) (b : Bool) → 1 ≤ q → q ≤ n → Says q b → b ≡ next q) → r ≡ search (λ q. f q && next q) n

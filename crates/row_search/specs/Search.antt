@@ -2,13 +2,12 @@
 -- search: the places that are still to be looked at give the answer.
 use Prim.Native.Nat.{ℕ, zero, suc, _-_, _≤_, _<_}
 use mathlib.Core.Path.{_≡_, refl, sym, _∙_, ap, subst}
-use mathlib.Core.Bool.{Bool, true, false, _&&_}
+use mathlib.Core.Bool.{Bool, true, false, _&&_, and-false}
 use mathlib.Core.List.{List}
 use native.Mathlib.Omega.{arith}
 use Rattle.rules.specs.Bytes.{GRPGTCNT}
 use Rattle.layout.specs.Sizes.{RAISE}
 use Rattle.basic_laws.specs.Truth.{and-both, bool-cases}
-use Rattle.and_laws.specs.Rows.{and-no}
 use Rattle.document_laws.specs.Decide.{search, search-passes}
 use Rattle.row_search.specs.Rows.{linkAt, Linked, Largest, LargestRaised}
 
@@ -21,12 +20,12 @@ pub search-none : (f : ℕ → Bool) → search f 0 ≡ 0
 unfolding search
 search-none f = refl
 
-search-hit : (f : ℕ → Bool) (p : ℕ) → 1 ≤ p → f p ≡ true → search f p ≡ p
+pub search-hit : (f : ℕ → Bool) (p : ℕ) → 1 ≤ p → f p ≡ true → search f p ≡ p
 unfolding search
 search-hit f zero l x = absurd (omega arith)
 search-hit f (suc p) l x = rw (x, search)
 
-search-miss : (f : ℕ → Bool) (p : ℕ) → 1 ≤ p → f p ≡ false → search f p ≡ search f (p - 1)
+pub search-miss : (f : ℕ → Bool) (p : ℕ) → 1 ≤ p → f p ≡ false → search f p ≡ search f (p - 1)
 unfolding search
 search-miss f zero l x = absurd (omega arith)
 search-miss f (suc p) l x = let z : suc p - 1 ≡ p = omega arith in rw (z, x, search)
@@ -36,13 +35,7 @@ unfolding search
 search-both f g zero = refl
 search-both f g (suc n) = bool-cases (f (suc n)) (λ x. rw (x, search) (rw (x, search) refl)) (λ x. rw (x, search) (search-both f g n))
 
--- Tests that agree find the same place.
-pub search-same : (f g : ℕ → Bool) (n : ℕ) → ((q : ℕ) → 1 ≤ q → q ≤ n → f q ≡ g q) → search f n ≡ search g n
-unfolding search
-search-same f g zero e = refl
-search-same f g (suc n) e = ap (λ (b : Bool). elim b [ true ↦ suc n | false ↦ search f n ]) (e (suc n) (omega arith) (omega arith)) ∙ ap (λ (m : ℕ). elim (g (suc n)) [ true ↦ suc n | false ↦ m ]) (search-same f g n (λ q l h. e q l (omega arith)))
-
--- The loop
+-- The loop keeps that what is left to search gives the answer.
 
 -- The place q is one of the linked ones or 0, and the search from it gives what the search from n gives.
 pub record Left (places : List ℕ) (e n q : ℕ) (f next : ℕ → Bool) : Type 0 where
@@ -87,14 +80,14 @@ module _ (Says : ℕ → Bool → Type 0) (places : List ℕ) (e n : ℕ) where
                 λ f next linked says.
                 let left = seeks .left f next linked says in
                 let link : r ≡ search f (q - 1) = z ∙ link-is f next linked left in
-                let misses : f q && next q ≡ false = ap (λ (b : Bool). f q && b) (sym (says q false (omega arith) (seeks .within) s)) ∙ and-no (f q) in
+                let misses : f q && next q ≡ false = ap (λ (b : Bool). f q && b) (sym (says q false (omega arith) (seeks .within) s)) ∙ and-false (f q) in
                 record {
                   named = λ h. subst (λ (x : ℕ). f x ≡ true) (sym link) (search-passes f (q - 1) (omega arith));
                   still = left .still ∙ search-miss (λ p. f p && next p) q (omega arith) misses ∙ search-both f next (q - 1) ∙ ap (search (λ p. f p && next p)) (sym link);
                 };
           }
 
--- A number that is raised
+-- A number that is raised is lowered before the search.
 module _ (Says : ℕ → Bool → Type 0) (places : List ℕ) (e p : ℕ) where
   pub raised-low : p < RAISE → LargestRaised Says places e p 0
   raised-low l = record { small = omega arith; finds = λ n z few. absurd (omega arith) }

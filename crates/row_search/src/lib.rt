@@ -14,7 +14,6 @@ use layout::ROW;
 use layout::ROWS;
 ghost use mathlib.Core.Path.{_≡_};
 ghost use Prim.Native.Nat.{_+_, _*_, _/_, _%_, _≤_, _<_};
-ghost use lib.ListN.{getD};
 ghost use Rattle.rules.specs.Bytes.{GRPGTCNT, TAGLVL, elementLimit};
 ghost use Rattle.layout.specs.Sizes.{POSITIONS};
 ghost use Rattle.row_search.specs.Rows.{rowAt, nextBit, linkAt, Largest, LargestRaised, RowSays, BothSay};

@@ -18,7 +18,7 @@ module _ (long : ℕ) (s : List ℕ) (es : List Element) (d : List ℕ) where
   with-append [] b = refl
   with-append (e ∷ a) b = ap (λ (ev : List Event). attributesBefore long s es d e ++ e ∷ ev) (with-append a b) ∙ sym (append-assoc (attributesBefore long s es d e) (e ∷ With a) (With b))
 
-  -- An event before which none comes.
+  -- Before this event none comes.
   alone : (e : Event) → attributesBefore long s es d e ≡ [] → With (e ∷ []) ≡ e ∷ []
   unfolding withAttributes
   alone e h = ap (λ (ev : List Event). ev ++ e ∷ []) h

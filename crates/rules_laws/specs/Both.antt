@@ -33,7 +33,7 @@ module _ {R : (number position : ℕ) → Type 0} where
   refusals (stop x) = stops x
   refusals (read p) = reads tt
 
-  -- A reading and itself.
+  -- A reading goes like itself.
   pub itself : {A : Type 0} {P : A → Type 0} {r : Reading A} → Holds R P r → Both R (λ (a b : A). (a ≡ b) × P a) r r
   itself (stops x) = stop x
   itself (reads p) = read (refl, p)

@@ -1,7 +1,7 @@
 -- Element declarations and the type file, walked once: what is known of an element that was read is `Declares`, and each law of a type file
 -- that was read is an invariant of its elements, or goes by `Declares`.
 use Prim.Native.Nat.{ℕ, zero, suc, _+_, _-_, _≤_, _<_}
-use mathlib.Core.Path.{_≡_, refl, sym, _∙_, ap, subst}
+use mathlib.Core.Path.{_≡_, refl, sym, _∙_, ap, subst, ap₂}
 use mathlib.Core.Bool.{Bool, true, false, _&&_, _||_}
 use mathlib.Core.Logic.{_⊎_, inl, inr}
 use mathlib.Core.List.{List, [], _∷_, _++_}
@@ -10,10 +10,10 @@ use lib.ListN.{length}
 use lib.Dec.{eqb, leb, ltb}
 use borrow.Author.Tests.{eqb-false, ltb-false, leb-false}
 use Rattle.rules.specs.Bytes.{byteAt, letter, nameEnd, separatorsEnd, elementLimit, DSO, EXCLAMATION, GRPO, MDC, MINUS, OPT, PERO, PLUS, STAGO}
-use Rattle.rules.specs.Reading.{refused, got}
+use Rattle.rules.specs.Reading.{got}
 use Rattle.rules.specs.Attributes.{Attribute, AttList}
-use Rattle.rules.specs.TypeFile.{commentDeclaration, gap, isWord, O, ELEMENT, ATTLIST, ContentEnd, Element, isDeclared, elementName, Word, omission, Head, words, head, content, close, Declared, rest, element, declaredFrom, isListed, Listed, listedElement, Declarations, attributeList, keyword, markup, declaration, declarationsWithin, attributesOf, listed, typeFile, declare}
-use Rattle.text.specs.Words.{test-in, letter-in, nameEnd-from, nameEnd-le, nameEnd-more, separatorsEnd-from, separatorsEnd-le}
+use Rattle.rules.specs.TypeFile.{gap, isWord, O, ELEMENT, ATTLIST, ContentEnd, Element, isDeclared, elementName, Word, omission, Head, words, head, content, close, Declared, rest, element, declaredFrom, isListed, Listed, listedElement, Declarations, attributeList, keyword, markup, declaration, declarationsWithin, attributesOf, listed, typeFile, declare}
+use Rattle.text.specs.Words.{test-in, letter-in, nameEnd-from, nameEnd-le, nameEnd-more, separatorsEnd-from}
 use Rattle.rules_laws.specs.Holds.{Holds, stops, reads, got-so, known, so, on, on-same, either, whichever}
 use Rattle.rules_laws.specs.In.{All, none, more, all-snoc, NameIn}
 use Rattle.rules_laws.specs.Groups.{InType, InFrom, unfit-holds, content-read, whatever-builds}
@@ -129,23 +129,20 @@ bare-grown (one e d) a = all-snoc a (d .unlisted)
 bares-listed : (k : ℕ) (ls : List AttList) {es : List Element} → All Bare es → bares (listed k ls es) ≡ es
 unfolding bares listed
 bares-listed k ls none = refl
-bares-listed k ls (more {x = e} {xs = es} h a) = cong-cons (bare-same h) (bares-listed (k + 1) ls a)
-  where
-    cong-cons : {x y : Element} {xs ys : List Element} → x ≡ y → xs ≡ ys → x ∷ xs ≡ y ∷ ys
-    cong-cons p q = cc
+bares-listed k ls (more {x = e} {xs = es} h a) = ap₂ _∷_ (bare-same h) (bares-listed (k + 1) ls a)
 
 pub bares-length : (es : List Element) → length (bares es) ≡ length es
 unfolding bares
 bares-length [] = refl
 bares-length (e ∷ es) = ap suc (bares-length es)
 
-listed-length : (k : ℕ) (ls : List AttList) (es : List Element) → length (listed k ls es) ≡ length es
+pub listed-length : (k : ℕ) (ls : List AttList) (es : List Element) → length (listed k ls es) ≡ length es
 unfolding listed
 listed-length k ls [] = refl
 listed-length k ls (e ∷ es) = ap suc (listed-length (k + 1) ls es)
 
 module _ (s : List ℕ) where
-  -- The end of a declaration
+  -- A declaration ends.
 
   pub close-read : (i : ℕ) → Holds (InFrom s i) (Onward s (i + 1)) (close s i)
   unfolding close
@@ -154,7 +151,7 @@ module _ (s : List ℕ) where
       either (eqb b MDC) (λ x. reads (omega arith, omega (arith, test-in (λ v. eqb v MDC) refl s i x)))
       (λ x. either ((eqb b MINUS || eqb b PLUS) && eqb (byteAt s (i + 1)) GRPO) (λ y. stops (λ h. omega arith)) (λ y. unfit-holds s i (λ n k r. r)))
 
--- Element declarations
+-- Element declarations are read.
 
 module _ (long : ℕ) (s : List ℕ) where
   pub elementName-read : (i : ℕ) (es : List Element) → i ≤ length s → Holds (InType s) (NameRead long s es i) (elementName long s i es)
@@ -260,7 +257,7 @@ module _ (long : ℕ) (s : List ℕ) where
       let (y, w, a) = p in
       record { from = omega (arith, w .from, a .from); inside = a .inside; grows = declares at es y d r w a }
 
-  -- Attribute lists
+  -- Attribute lists are read.
 
   pub listed-read : (i : ℕ) (es : List Element) (ls : List AttList) → i ≤ length s → Holds (InFile s) (λ (l : Listed). (i < l .at) × (l .at ≤ length s)) (listedElement long s es ls i)
   unfolding listedElement
@@ -288,7 +285,7 @@ module _ (long : ℕ) (s : List ℕ) where
         lists = list (record { element = y .element; attributes = z .attributes }) (record { from = y .at; after = z .at; inside = q .1; read = r .0 });
       })
 
-  -- The type file
+  -- The type file is read.
 
   keyword-read : (i : ℕ) (es : List Element) (ls : List AttList) → i + 2 ≤ length s → Holds (InFile s) (DeclarationsRead long s i es ls) (keyword long s i es ls)
   unfolding keyword

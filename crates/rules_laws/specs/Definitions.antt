@@ -9,15 +9,16 @@ use native.Mathlib.Omega.{arith}
 use lib.ListN.{length, drop, length-append}
 use lib.Dec.{eqb, leb, ltb}
 use borrow.Author.Tests.{ltb-true, ltb-false, leb-true, leb-false}
+use Rattle.basic_laws.specs.Truth.{and-right}
 use Rattle.rules.specs.Bytes.{byteAt, letter, nameEnd, separatorsEnd, GRPCNT, ATTCNT, GRPC, GRPO, MDC, PERO, RNI}
 use Rattle.rules.specs.Reading.{Reading, refused, got}
 use Rattle.rules.specs.Attributes.{Part, bytesIn, quote, inLiteral, literalEnd, DeclaredValue, cdata, number, name, tokens, Default, required, implied, literal, Attribute, attributeOf, fits}
 use Rattle.rules.specs.TypeFile.{gap, isWord, isCut, CDATA, NUMBER, NAME, REQUIRED, IMPLIED, unfit, isToken, groupToken, TokensEnd, isTokenConnector, groupTokens, tokenGroup, tokensOf, attributeName, ValueEnd, valueWord, declaredValue, DefaultEnd, defaultWord, defaultLiteral, isGroup, defaultValue, Definition, definition, ListEnd, definitions, listFrom}
-use Rattle.text.specs.Words.{test-in, letter-in, nameEnd-from, nameEnd-le, nameEnd-more, separatorsEnd-from, separatorsEnd-le, second}
+use Rattle.text.specs.Words.{test-in, letter-in, nameEnd-from, nameEnd-le, nameEnd-more, separatorsEnd-from, separatorsEnd-le}
 use Rattle.rules_laws.specs.Holds.{Holds, stops, reads, known, so, on, either}
 use Rattle.rules_laws.specs.In.{All, none, more, all-snoc, NameIn}
-use Rattle.rules_laws.specs.Groups.{InType, InFrom, unfit-holds}
-use Rattle.rules_laws.specs.Gaps.{Onward, gap-within}
+use Rattle.rules_laws.specs.Groups.{InType, unfit-holds}
+use Rattle.rules_laws.specs.Gaps.{gap-within}
 
 -- A refusal of a type file is one of 3 to 8, 10, 20 and 22, and stands in it.
 abbrev pub IsFileNumber : ℕ → Type 0
@@ -96,7 +97,7 @@ pub record ListRead (long : ℕ) (s : List ℕ) (xs : List Attribute) : Type 0 w
   pub inside : from ≤ length s
   pub read : listFrom long s from ≡ got (record { attributes = xs; at = after })
 
--- Literals
+-- Literals are read.
 
 pub literal-holds : (s : List ℕ) (i : ℕ) → Holds (λ n k. (4 ≤ n) × (n ≤ 5) × (k ≤ length s)) (λ (e : ℕ). (i < e) × (e < length s)) (literalEnd s i)
 unfolding literalEnd
@@ -111,7 +112,7 @@ literal-in : (s : List ℕ) (i : ℕ) → Holds (InFile s) (λ (e : ℕ). (i < e
 literal-in s i = so (literal-holds s i) (λ n k x. in-file s (omega (arith, x))) (λ e x. x)
 
 module _ (long : ℕ) (s : List ℕ) where
-  -- Name token groups
+  -- Name token groups are read.
 
   record TokenRead (seen ps : List Part) (i : ℕ) (p : Part) : Type 0 where
     at : p .at ≡ i
@@ -166,7 +167,7 @@ module _ (long : ℕ) (s : List ℕ) where
       so (known (tokens-read seen (suc GRPCNT) 0 [] (at + 1) (omega arith) none)) (λ n k x. x)
       (λ t w. (omega (arith, w .1 .from), w .1 .inside, record { seen = seen; after = t .at; read = w .0; begins = h; few = w .1 .few; parts = w .1 .parts }))
 
-  -- Names, declared values and defaults
+  -- Names, declared values and defaults are read.
 
   record NameRead (xs : List Attribute) (i e : ℕ) : Type 0 where
     name : NameIn s i (e - i)
@@ -255,7 +256,7 @@ module _ (long : ℕ) (s : List ℕ) where
       (λ z. early s (omega arith)))
       (λ y. unfit-read i h)
 
-  -- Definitions
+  -- Definitions are read one after the other.
 
   record DefinitionRead (xs : List Attribute) (i : ℕ) (d : Definition) : Type 0 where
     at : d .attribute .at ≡ i
@@ -325,7 +326,7 @@ module _ (long : ℕ) (s : List ℕ) where
         either (eqb (byteAt s i) MDC && leb 1 (length xs))
         (λ y.
         let inside = test-in (λ v. eqb v MDC && leb 1 (length xs)) refl s i y in
-        reads (record { some = leb-true 1 (length xs) (second (eqb (byteAt s i) MDC) (leb 1 (length xs)) y); from = omega (arith, p); inside = omega arith; each = x }))
+        reads (record { some = leb-true 1 (length xs) (and-right (eqb (byteAt s i) MDC) (leb 1 (length xs)) y); from = omega (arith, p); inside = omega arith; each = x }))
         (λ y. either (letter (byteAt s i))
         (λ l. on (definition-read xs from i l) λ d r.
         so (definitions-hold left (xs ++ d .attribute ∷ []) (d .at) (r .1) (further xs (d .attribute) x (r .2))) (λ n k z. z)

@@ -1,5 +1,5 @@
 -- Gaps and comment declarations of a type file, walked once.
-use Prim.Native.Nat.{ℕ, zero, suc, _+_, _≤_, _<_}
+use Prim.Native.Nat.{ℕ, zero, suc, _+_, _≤_}
 use mathlib.Core.Path.{refl}
 use mathlib.Core.List.{List}
 use native.Mathlib.Omega.{arith}
@@ -13,7 +13,7 @@ use Rattle.rules_laws.specs.Holds.{Holds, stops, reads, known, so, on, e
 use Rattle.rules_laws.specs.In.{In}
 use Rattle.rules_laws.specs.Groups.{InType}
 
--- From i on, within the input.
+-- The position j is from i on, within the input.
 abbrev pub Onward : List ℕ → (i j : ℕ) → Type 0
 Onward s i j = (i ≤ j) × (j ≤ length s)
 

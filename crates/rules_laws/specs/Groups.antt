@@ -1,7 +1,7 @@
 -- Model groups and content, walked once: each law of a model that is read is an instance of `Builds`, and cites the walk.
 use Prim.Native.Nat.{ℕ, zero, suc, _+_, _-_, _≤_, _<_}
 use mathlib.Core.Path.{_≡_, refl, subst}
-use mathlib.Core.Bool.{Bool, true, false, _&&_, _||_, true≢false}
+use mathlib.Core.Bool.{Bool, true, false, _&&_, _||_}
 use mathlib.Core.List.{List, [], _∷_, _++_}
 use native.Mathlib.Omega.{arith}
 use lib.ListN.{length}
@@ -10,8 +10,8 @@ use borrow.Author.Tests.{eqb-true, eq-eqb, ltb-false, leb-false}
 use Rattle.rules.specs.Bytes.{byteAt, letter, nameEnd, separatorsEnd, GRPCNT, GRPLVL, GRPGTCNT, AND, DSO, GRPC, GRPO, MINUS, OPT, OR, PERO, PLUS, REP, RNI, SEQ}
 use Rattle.rules.specs.Reading.{Reading, got, andThen}
 use Rattle.rules.specs.Walk.{Group, place, seq, alt, opt, plus, and, Members, one, also, star}
-use Rattle.rules.specs.TypeFile.{isWord, isCut, PCDATA, EMPTY, ANY, CDATA, RCDATA, Place, Tokens, occurrence, newPlace, isConnector, membersOf, oneMore, join, earlier, joinTokens, nameToken, dataToken, token, Further, closed, joined, further, members, group, Content, empty, model, unfit, ContentEnd, contentWord, contentModel, content}
-use Rattle.basic_laws.specs.Truth.{and-left, not-both, bool-cases}
+use Rattle.rules.specs.TypeFile.{isWord, isCut, PCDATA, EMPTY, ANY, CDATA, RCDATA, Place, Tokens, occurrence, newPlace, isConnector, membersOf, join, earlier, joinTokens, nameToken, dataToken, token, Further, closed, joined, further, members, group, Content, empty, model, unfit, ContentEnd, contentWord, contentModel, content}
+use Rattle.basic_laws.specs.Truth.{and-left, not-both, bool-cases, or-none}
 use Rattle.and_laws.specs.Sets.{Plain}
 use Rattle.and_laws.specs.Numbers.{Guarded}
 use Rattle.text.specs.Words.{test-in, letter-in, nameEnd-from, nameEnd-le, nameEnd-more, separatorsEnd-from, separatorsEnd-le}
@@ -25,10 +25,6 @@ InType s n k = (3 ≤ n) × (n ≤ 8) × (k ≤ length s)
 -- The same of a refusal by what begins at `at`, if that stands in the input.
 abbrev pub InFrom : List ℕ → (at : ℕ) → (number position : ℕ) → Type 0
 InFrom s at n k = at ≤ length s → InType s n k
-
-or-none : (a b : Bool) → a || b ≡ false → (a ≡ false) × (b ≡ false)
-or-none true b e = absurd (true≢false e)
-or-none false b e = (refl, e)
 
 -- The tokens t, with another group and up to i, where the first "&" that is refused stands at n.
 abbrev pub grouped : Group → (i n : ℕ) → Tokens → Tokens
@@ -44,7 +40,7 @@ dataPlace at = record { at = at; size = 0 }
 abbrev pub withPlace : Group → ℕ → Place → List Place → ℕ → Tokens
 withPlace g i x ps n = record { group = g; at = i; places = ps ++ x ∷ []; tokens = n + 1; and = 0; repeated = 0 }
 
--- Each rule by its ways
+-- Each rule has its ways.
 
 -- What an indicator makes of a group, and where the first "&" that is refused then stands.
 pub data Indicated (t : Tokens) : Group → ℕ → Type 0 where
@@ -112,7 +108,7 @@ module _ {R : (number position : ℕ) → Type 0} (s : List ℕ) where
         next b i (separatorsEnd s (i + 1)) (and-left (isConnector b) _ z) refl from l (omega (arith, from, separatorsEnd-from s (i + 1))) (separatorsEnd-le s (i + 1) (omega arith)))
         (λ z. stops (stop 4 i (λ h. omega (arith, inside h))))))
 
--- Room
+-- There is room for each content token that is read.
 
 module _ (long : ℕ) (inner : ℕ → List Place → ℕ → Reading Tokens) (s : List ℕ) where
   -- A content token that is read had room.
@@ -144,7 +140,7 @@ module _ (long : ℕ) (inner : ℕ → List Place → ℕ → Reading Tokens) (s
       by-further ih (closed u) r = refl
       by-further ih (joined b u) r = ih b u r
 
--- The walk
+-- The walk builds what the groups are read as.
 
 -- What is to hold of a group g that is read behind the places ps, where qs are the places then: of a place, whose name has at most `long`
 -- bytes, of an indicator, of a connector.
@@ -164,7 +160,7 @@ pub record Read (s : List ℕ) (T : List Place → Group → List Place → Type
   pub inside : t .at ≤ length s
   pub fits : Fits s (t .places) (t .tokens)
   pub built : T ps (t .group) (t .places)
-  -- something was read; where no "&" is told, there is none, and where none is refused, none stands under "+"
+  -- Something was read; where no "&" is told, there is none, and where none is refused, none stands under "+".
   pub some : 1 ≤ t .at
   pub plain : t .and ≡ 0 → Plain (t .group)
   pub guarded : t .repeated ≡ 0 → Guarded (t .group)

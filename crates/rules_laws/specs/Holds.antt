@@ -26,7 +26,7 @@ module _ {R : (number position : ℕ) → Type 0} where
   was-got : {A : Type 0} {P : A → Type 0} {a : A} → Holds R P (got a) → P a
   was-got (reads p) = p
 
-  -- By an equation of the reading.
+  -- What holds of a reading holds by an equation of it.
   pub refused-so : {A : Type 0} {P : A → Type 0} {r : Reading A} {n k : ℕ} → Holds R P r → r ≡ refused n k → R n k
   refused-so {P = P} h e = was-refused (subst (Holds R P) e h)
 
@@ -51,10 +51,14 @@ module _ {R : (number position : ℕ) → Type 0} where
   on (stops h) f = stops h
   on (reads {a} p) f = f a p
 
-  -- Each way that a test parts.
+  -- A test parts two ways.
   pub either : {A : Type 0} {P : A → Type 0} {x y : Reading A} (b : Bool) → (b ≡ true → Holds R P x) → (b ≡ false → Holds R P y) → Holds R P (elim b [ true ↦ x | false ↦ y ])
   either true f g = f refl
   either false f g = g refl
+
+-- What is got is one thing.
+pub got-one : {A : Type 0} {a b : A} → got a ≡ got b → a ≡ b
+got-one e = cc
 
 -- Two ways to go on that agree where P holds.
 pub on-same : {A B : Type 0} {P : A → Type 0} {f h : A → Reading B} {r : Reading A} → Gives P r → ((a : A) → P a → f a ≡ h a) → andThen r f ≡ andThen r h

@@ -27,7 +27,7 @@ placeAt-length (y ∷ ps) x qs = placeAt-length ps x qs
 pub placeAt-next : (ps : List Place) (x : Place) (qs : List Place) (k : ℕ) → k ≡ length ps → placeAt (ps ++ x ∷ qs) k ≡ x
 placeAt-next ps x qs k e = rw e (placeAt-length ps x qs)
 
--- Places with the same name
+-- Places may have the same name.
 
 -- Two names that are the same are equally long and the same text.
 pub sameName-split : (s : List ℕ) (a m b n : ℕ) → sameName s a m b n ≡ true → (m ≡ n) × (sameText s a s b n ≡ true)

@@ -8,12 +8,13 @@ use native.Mathlib.Omega.{arith}
 use lib.ListN.{length}
 use lib.Dec.{eqb, ltb}
 use borrow.Author.Tests.{ltb-false, eqb-true}
+use Rattle.basic_laws.specs.Truth.{and-right}
 use Rattle.rules.specs.Bytes.{byteAt, letter, nameEnd, separatorsEnd, MDC, AND, DSO, EXCLAMATION, OPT, RE, RS, SOLIDUS, SPACE, STAGO, TAB, VI}
 use Rattle.rules.specs.Reading.{Reading, refused, got}
 use Rattle.rules.specs.TypeFile.{atDashes, commentDeclaration}
 use Rattle.rules.specs.Attributes.{quote, isReference, literalEnd}
 use Rattle.rules.specs.Document.{Written, Tag, Piece, startTag, endTag, skipped, blank, dataByte, tag, specification, specifications, startTagAt, malformed, declarationPiece, markupPiece, isSectionEnd, bytePiece, piece}
-use Rattle.text.specs.Words.{test-in, letter-in, nameEnd-from, nameEnd-le, nameEnd-more, separatorsEnd-from, separatorsEnd-le, second, dashes-in}
+use Rattle.text.specs.Words.{test-in, letter-in, nameEnd-from, nameEnd-le, nameEnd-more, separatorsEnd-from, separatorsEnd-le, dashes-in}
 use Rattle.rules_laws.specs.Holds.{got-so, Holds, stops, reads, Gives, each, so, on, either}
 use Rattle.rules_laws.specs.Groups.{InType}
 use Rattle.rules_laws.specs.In.{All, none, more, all-snoc}
@@ -118,7 +119,7 @@ module _ (long : ℕ) (d : List ℕ) where
       reads (record { behind = h; some = omega (arith, nameEnd-more d at l); named = l; ends = omega arith; inside = omega (arith, test-in (λ v. eqb v MDC) refl d j y); closes = closed-there j y; given = none }))
       (λ y. early d (omega arith)))
 
-  -- A start tag
+  -- A start tag is read.
 
   literal-piece : (i : ℕ) → Holds (InPiece d) (λ (e : ℕ). (i < e) × (e < length d)) (literalEnd d i)
   literal-piece i = so (literal-holds d i) (λ n k x. (inl (omega (arith, x), omega (arith, x)), omega (arith, x))) (λ e x. x)
@@ -192,7 +193,7 @@ module _ (long : ℕ) (d : List ℕ) where
   markup-read i h =
       let b = byteAt d (i + 1) in
       either (letter b) (λ x. on (start-read i (i + 1) (omega arith) x) (λ t r. reads r))
-      (λ x. either (eqb b SOLIDUS && letter (byteAt d (i + 2))) (λ y. on (tag-read i (i + 2) (omega arith) (second (eqb b SOLIDUS) (letter (byteAt d (i + 2))) y)) (λ t r. reads r))
+      (λ x. either (eqb b SOLIDUS && letter (byteAt d (i + 2))) (λ y. on (tag-read i (i + 2) (omega arith) (and-right (eqb b SOLIDUS) (letter (byteAt d (i + 2))) y)) (λ t r. reads r))
       (λ y. either (eqb b EXCLAMATION) (λ z. declaration-read d i h) (λ z. either (eqb b OPT) (λ u. early d (omega arith)) (λ u. reads tt))))
 
   pub piece-read : (i : ℕ) → i < length d → Holds (InPiece d) (PieceRead d i) (piece long d i)

@@ -24,7 +24,7 @@ elements-whole {s} es x = record { few = omega (arith, bares-length es, x .few);
     go (d ∷ ds) (more p a) = more (record { name = p .name; start = p .start; end = p .end; content = p .content }) (go ds a)
 
 module _ (long : ℕ) (s : List ℕ) where
-  -- An element that was declared.
+  -- An element that was declared stands in the input.
   pub declared-in : {es : List Element} {e : Element} → Declares long s es e → ElementIn s e
   declared-in d = record { name = d .name; start = d .start; end = d .end; content = got-so (content-read long s whatever-builds (d .before) (d .begun)) (d .contentRead) .content }
 

@@ -17,7 +17,7 @@ use Rattle.basic_laws.specs.Truth.{not-true, or-left, or-right, not-both}
 use Rattle.model_names.specs.Places.{placeIn, placesOf, keyOf}
 use Rattle.model_names.specs.Shared.{key-differs}
 
--- one of the n numbers from q on has that key
+-- One of the n numbers from q on has that key.
 unfoldable pub anyKey : List ℕ → (key n q : ℕ) → Bool
 anyKey keys key zero q = false
 anyKey keys key (suc n) q = eqb (getD keys q 0) key || anyKey keys key n (suc q)
@@ -52,7 +52,7 @@ module _ (s names : List ℕ) (n p q i : ℕ) (so-far : Unlike s names n p q i) 
             (λ b r. true≢false (sym r ∙ sym a ∙ e)) x to from;
       }
 
-  -- a place with another key has another name
+  -- A place with another key has another name.
   pub unlike-key : (keys : List ℕ) → ((x : ℕ) → 1 ≤ x → x ≤ n → getD keys x 0 ≡ keyOf s (placeIn names (x - 1))) → 1 ≤ p → p ≤ n → 1 ≤ i → i ≤ n
       → (getD keys i 0 ≡ getD keys p 0 → ⊥) → Unlike s names n p q (i + 1)
   unlike-key keys known p-from p-to i-from i-to ne =

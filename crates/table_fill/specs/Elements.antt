@@ -9,6 +9,7 @@ use native.Mathlib.Omega.{arith}
 use lib.ListN.{length, getD, set, length-set}
 use lib.Seq.{getD-set-same, getD-set-other}
 use lib.Dec.{eqb}
+use Rattle.basic_laws.specs.Numbers.{bit-most}
 use Rattle.rules.specs.Settings.{settings, mostNameLength}
 use Rattle.rules.specs.Walk.{Group}
 use Rattle.rules.specs.Attributes.{Attribute, needsTag}
@@ -41,7 +42,6 @@ use Rattle.list_table.specs.Lists.{ListAt, Lists}
 use Rattle.type_tables.specs.Tables.{rowAt, PlainIn}
 use Rattle.member_table.specs.Filling.{filled}
 use Rattle.member_sets.specs.Linking.{Linked}
-use Rattle.model_rows.specs.Bits.{flag-most}
 use Rattle.model_rows.specs.Rows.{RowsDue, RowsPut}
 use Rattle.table_fill.specs.Places.{PlacesPut, places-none}
 use Rattle.table_fill.specs.Told.{TellsIn, lent-still, members-put}
@@ -108,7 +108,7 @@ module _ (long : ℕ) (s : List ℕ) (es : List Element) (elements lists index R
       record {
         start = omega (arith, recorded-start elements es (due .indexed .recorded) k k-in);
         end = omega (arith, recorded-end elements es (due .indexed .recorded) k k-in);
-        kind = omega (arith, recorded-kind elements es (due .indexed .recorded) k k-in, flag-most (hasModel (elementAt es k .content)));
+        kind = omega (arith, recorded-kind elements es (due .indexed .recorded) k k-in, bit-most (hasModel (elementAt es k .content)));
       }
 
   -- Where the name stands, and how long the type file is.

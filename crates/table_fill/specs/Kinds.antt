@@ -12,6 +12,7 @@ use lib.ListN.{length, getD, set, replicate, length-set, length-replicate}
 use lib.Seq.{getD-set-same, getD-set-other}
 use lib.Dec.{eqb}
 use borrow.Author.Tests.{ne-eqb}
+use Rattle.basic_laws.specs.Numbers.{below-or-from}
 use Rattle.rules.specs.Reading.{got}
 use Rattle.rules.specs.Walk.{Group, place}
 use Rattle.rules.specs.TypeFile.{Place, empty, model, Element, typeFile}
@@ -20,7 +21,6 @@ use Rattle.rules.specs.Elements.{elementAt, contentOf, placesIn}
 use Rattle.layout.specs.Sizes.{ROWS, PLACES, FACTS, RAISE, REQUIRED, ROW}
 use Rattle.model_sets.specs.Sets.{size}
 use Rattle.model_table.specs.Shows.{Says}
-use Rattle.model_links.specs.Cells.{below-or-from}
 use Rattle.rules_laws.specs.Within.{typeFile-count}
 use Rattle.rules.specs.Bytes.{GRPGTCNT, elementLimit}
 use Rattle.type_laws.specs.Names.{typeFile-element, typeFile-distinct, isNamed-join}

@@ -1,7 +1,7 @@
 -- Laws of the rules' words: bytes, names, separators, comments and gaps.
 use Prim.Native.Nat.{ℕ, zero, suc, _+_, _-_, _≤_, _<_}
 use mathlib.Core.Path.{_≡_, refl, sym, ap, _∙_}
-use mathlib.Core.Bool.{Bool, true, false, not, _&&_, _||_, cond, true≢false}
+use mathlib.Core.Bool.{Bool, true, false, not, _||_, cond, true≢false}
 use mathlib.Core.List.{List, [], _∷_}
 use native.Mathlib.Omega.{arith}
 use native.Mathlib.Numerals.{add-one}
@@ -9,6 +9,7 @@ use native.Mathlib.Nat.{add-zero, sub-zero, zero-add, suc-add, add-assoc, not-su
 use lib.ListN.{length, drop, length-drop, drop-of-length-le}
 use lib.Dec.{eqb, ltb}
 use borrow.Author.Tests.{not-true, not-false, eq-eqb, eqb-true, lt-ltb, le-ltb, ltb-true, ltb-false, eqb-false, ne-eqb}
+use Rattle.basic_laws.specs.Truth.{and-left, and-right}
 use Rattle.rules.specs.Reading.{Reading, refused, got}
 use Rattle.rules.specs.Bytes.{byteAt, allowed, separator, letter, nameByte, fold, span, nameEnd, separatorsEnd, sameText, MDC, MINUS, PERO}
 use Rattle.rules.specs.TypeFile.{atDashes, beforeDashes, gapWithin, gap, commentClose, commentDeclaration, isWord}
@@ -52,8 +53,8 @@ allowed-in = test-in allowed refl
 pub or-taken : (f g r : Bool) → f ≡ true → r ≡ f → r ≡ (f || g)
 or-taken f g r e q = rw (q, e)
 
-pub or-left : (f g r : Bool) → f ≡ false → r ≡ g → r ≡ (f || g)
-or-left f g r e q = rw (e, q)
+pub or-passed : (f g r : Bool) → f ≡ false → r ≡ g → r ≡ (f || g)
+or-passed f g r e q = rw (e, q)
 
 -- What the code's test of a byte that it read says.
 pub tested : (t : ℕ → Bool) {x b : ℕ} {r v : Bool} → b ≡ x → r ≡ t b → r ≡ v → t x ≡ v
@@ -163,15 +164,6 @@ pub separatorsEnd-le : (s : List ℕ) (at : ℕ) → at ≤ length s → separat
 unfolding separatorsEnd
 separatorsEnd-le = span-in separator
 
--- Each part of a test that is passed.
-first : (a b : Bool) → (a && b) ≡ true → a ≡ true
-first true b e = refl
-first false b e = absurd (true≢false (sym e))
-
-pub second : (a b : Bool) → (a && b) ≡ true → b ≡ true
-second true b e = e
-second false b e = absurd (true≢false (sym e))
-
 -- A refusal at one of two places, as a test says.
 pub cut-or : {A : Type 0} (b : Bool) (x y : ℕ) → _≡_ {A = Reading A} (refused 4 (cond b x y)) (elim b [ true ↦ refused 4 x | false ↦ refused 4 y ])
 cut-or true x y = refl
@@ -185,7 +177,7 @@ module _ {r : Reached} {x : Reading ℕ} (h : reached r ≡ x) where
   pub reached-refused : {f g : Fault} → r ≡ Refused f → g ≡ faultOf r → x ≡ refusalOf g
   reached-refused q e = sym h ∙ ap reached q ∙ ap refusalOf (sym (e ∙ ap faultOf q))
 
--- Comments.
+-- Comments end with `--`.
 
 pub before-dashes : Before beforeDashes atDashes
 unfolding beforeDashes
@@ -198,13 +190,13 @@ before-dashes = record {
 
 -- `--` stands in the input.
 pub dashes-in : (s : List ℕ) (i : ℕ) → atDashes s i ≡ true → i + 2 ≤ length s
-dashes-in s i e = omega (arith, byte-is-in s (i + 1) MINUS (eqb-true _ _ (second (eqb (byteAt s i) MINUS) _ e)) (omega arith))
+dashes-in s i e = omega (arith, byte-is-in s (i + 1) MINUS (eqb-true _ _ (and-right (eqb (byteAt s i) MINUS) _ e)) (omega arith))
 
 -- Where `--` ends a comment from `at` on, it stands in the input.
 pub dashes-end-in : (s : List ℕ) (at e : ℕ) → e ≡ at + beforeDashes (drop at s) → e < length s → e + 2 ≤ length s
 dashes-end-in s at e q h = rw q (dashes-in s _ (before-hit _ _ before-dashes s at (rw q at h)))
 
--- Gaps.
+-- Gaps are separators and comments.
 
 -- What a gap comes to once its next separators are passed.
 unfoldable pub gapOn : ℕ → List ℕ → ℕ → Reading ℕ
@@ -310,12 +302,12 @@ gap-turn s i e j d q h p =
 gap-dashes : (s : List ℕ) (at : ℕ) → atDashes s at ≡ true → gapOn (length s) s at ≡ gap s at
 unfolding separatorsEnd separator
 gap-dashes s at d =
-    let b : byteAt s at ≡ MINUS = eqb-true _ _ (first (eqb (byteAt s at) MINUS) _ d) in
+    let b : byteAt s at ≡ MINUS = eqb-true _ _ (and-left (eqb (byteAt s at) MINUS) _ d) in
     let here : separator (byteAt s at) ≡ false = rw b in
     let stays : at ≡ separatorsEnd s at = span-end separator s at _ here refl in
     ap (gapOn (length s) s) stays ∙ gap-start s at
 
--- Comment declarations.
+-- Comment declarations are read.
 
 -- Where the unfit byte stands, if no `>` follows the comments: behind a "-", which could only open a further one.
 abbrev pub behindDash : List ℕ → ℕ → ℕ
@@ -359,7 +351,7 @@ module _ (s : List ℕ) (at : ℕ) (d : atDashes s at ≡ true) where
           omega arith
       by-gap (got i) g = by-close i g (eqb (byteAt s i) MDC) refl
 
--- Words.
+-- Words are compared.
 
 module _ (s : List ℕ) (a : ℕ) (t : List ℕ) (b n : ℕ) where
   pub sameText-more : fold (byteAt s a) ≡ fold (byteAt t b) → sameText s a t b (suc n) ≡ sameText s (a + 1) t (b + 1) n

@@ -34,6 +34,7 @@ pub fn byte(s: &[u8], at: usize) -> u8
     if at < s.len() { s[at] } else { 0 }
 }
 
+// Whether a byte may stand in an input at all.
 pub fn is_allowed(b: u8) -> bool
     ensures { λ r. ⌜ r ≡ allowed b ⌝ }
 {
@@ -44,12 +45,14 @@ pub fn is_allowed(b: u8) -> bool
     }
 }
 
+// Whether a byte is a tab, a line feed, a carriage return or a space.
 pub fn is_separator(b: u8) -> bool
     ensures { λ r. ⌜ r ≡ separator b ⌝ }
 {
     b == b'\t' || b == b'\n' || b == b'\r' || b == b' '
 }
 
+// Whether a byte is a letter, large or small.
 pub fn is_letter(b: u8) -> bool
     ensures { λ r. ⌜ r ≡ letter b ⌝ }
 {

@@ -9,21 +9,21 @@ use lib.ListN.{length}
 use lib.Dec.{eqb, leb, ltb}
 use borrow.Author.Tests.{eqb-true, leb-true, leb-false}
 use Rattle.rules.specs.Bytes.{byteAt, letter, nameEnd, GRPCNT, GRPLVL, GRPGTCNT, AND, SEQ, OR, GRPO}
-use Rattle.rules.specs.Reading.{Reading, refused, got, andThen}
+use Rattle.rules.specs.Reading.{Reading, got}
 use Rattle.rules.specs.Walk.{Group, place, seq, alt, opt, plus, and, Members, one, also}
-use Rattle.rules.specs.TypeFile.{isWord, isCut, EMPTY, ANY, CDATA, RCDATA, Place, Tokens, occurrence, isConnector, membersOf, join, oneMore, joinTokens, token, Further, closed, joined, further, members, group, Content, empty, model, ContentEnd, contentModel, contentWord, content, Element, typeFile}
+use Rattle.rules.specs.TypeFile.{isWord, isCut, EMPTY, ANY, CDATA, RCDATA, Place, Tokens, occurrence, isConnector, membersOf, join, joinTokens, token, Further, closed, joined, further, members, group, Content, empty, model, ContentEnd, contentModel, contentWord, content, Element, typeFile}
 use Rattle.rules.specs.Judge.{firstRepeated}
 use Rattle.rules.specs.Elements.{elementAt, contentOf}
-use Rattle.basic_laws.specs.Truth.{bool-cases}
+use Rattle.basic_laws.specs.Truth.{bool-cases, or-none}
 use Rattle.and_laws.specs.Sets.{Plain}
 use Rattle.and_laws.specs.Numbers.{Guarded, GuardedM}
-use Rattle.member_laws.specs.Members.{amount, total, totalM, Sized, SizedM}
-use Rattle.rules_laws.specs.Holds.{Holds, Gives, stops, reads, got-so, each, so, on, either, whichever}
+use Rattle.member_laws.specs.Members.{total, totalM, Sized, SizedM}
+use Rattle.rules_laws.specs.Holds.{Gives, stops, reads, got-so, each, so, on, either, whichever}
 use Rattle.rules_laws.specs.Within.{Fits, ContentIn}
 use Rattle.rules_laws.specs.Groups.{Indicated, optional, repeated, any, occurrence-holds, token-holds, further-holds, unfit-holds, GuardedIn}
-use Rattle.rules_laws.specs.Declarations.{Declares}
 use Rattle.type_laws.specs.Made.{each-content, typeFile-made}
 use Rattle.type_laws.specs.Width.{typeFile-content}
+use Rattle.model_sets.specs.Sets.{amount}
 
 -- No "&" stands in the text.
 abbrev pub Without : List ℕ → Type 0
@@ -153,11 +153,7 @@ module _ (s : List ℕ) (n k : ℕ) (t u : Tokens) (grows : Growing s n k t) (so
           (λ x. whichever (λ (x : Group). Guarded x → Guarded (t .group) × Guarded (u .group)) (eqb b OR) (λ y f. f)
           (λ y. whichever (λ (m : Members). Guarded (and (also m (u .group))) → Guarded (t .group) × Guarded (u .group)) (leb k 1) (λ i f. f) (λ i f. (of-guarded (t .group) (f .0), f .1))))
 
-or-first : (a b : Bool) → a || b ≡ false → a ≡ false
-or-first true b e = e
-or-first false b e = refl
-
--- Groups
+-- Groups are read member by member.
 
 module _ (long : ℕ) (s : List ℕ) where
   abbrev InnerCounts : (ℕ → List Place → ℕ → Reading Tokens) → Type 0
@@ -181,7 +177,7 @@ module _ (long : ℕ) (s : List ℕ) where
         (λ i l h. (grows .sized, omega (arith, grows .counted), grows .plain, grows .within))
         (λ b i j q e f m l h. on (token-counts j (leb GRPCNT k || leb GRPGTCNT (t .tokens)) (t .places) (t .tokens))
         (λ u x.
-        let room = leb-false GRPCNT k (or-first (leb GRPCNT k) (leb GRPGTCNT (t .tokens)) (x .0)) in
+        let room = leb-false GRPCNT k (or-none (leb GRPCNT k) (leb GRPGTCNT (t .tokens)) (x .0) .0) in
         let y = joined-by s n k t u grows some room (x .1) b in
         reads (record { sized = y .0; alone = λ l. absurd (omega arith); counted = y .1; few = λ l. y .2; plain = joined-plain s n k t u grows some room (x .1) b i q e m; within = joined-within s n k t u grows some room (x .1) b i e m })))
 

@@ -30,7 +30,7 @@ record Grown (ps : List Place) (g : Group) (qs : List Place) : Type 0 where
   kept : (k : ℕ) → k < length ps → placeAt qs k ≡ placeAt ps k
   repeats : Repeats g qs
 
--- One more place.
+-- One place more is read.
 module _ (long : ℕ) (ps : List Place) (x : Place) where
   placed : (p : ℕ) → eqb (suc (length ps)) p ≡ true → placeAt (ps ++ x ∷ []) (p - 1) ≡ x
   placed p e = placeAt-next ps x [] (p - 1) (omega (arith, eqb-true (suc (length ps)) p e))
@@ -56,7 +56,7 @@ module _ {ps qs rs : List Place} {g h : Group} (c : Grown ps g qs) (d : Grown qs
   both-kept : (k : ℕ) → k < length ps → placeAt rs k ≡ placeAt ps k
   both-kept k l = d .kept k (omega (arith, c .counting .counted)) ∙ c .kept k l
 
-  -- a place of the tokens before
+  -- A place of the tokens before repeats as it did.
   first-repeats : (p : ℕ) → has g p ≡ true → placeAt rs (p - 1) .size ≡ 0 → follow g p p ≡ true
   first-repeats p i z =
       let l : p - 1 < length qs = omega (arith, has-range g (suc (length ps)) (c .counting .numbered) p i, c .counting .counted) in
@@ -84,7 +84,7 @@ grown-builds {long} =
       another = λ c d. record { counting = counted-builds {long = long} .another (c .counting) (d .counting); kept = both-kept c d; repeats = any-repeats c d };
     }
 
--- A whole model.
+-- A model is whole.
 pub record Whole (g : Group) (ps : List Place) : Type 0 where
   pub numbered : Numbered g 1
   pub counted : size g ≡ length ps

@@ -24,7 +24,7 @@ use Rattle.rules_laws.specs.Within.{All, more, ElementIn, typeFile-elements}
 use Rattle.rules_laws.specs.Declarations.{bares, bares-length}
 use Rattle.type_laws.specs.Made.{elementAt-take, bares-at, typeFile-made}
 
--- The search by name
+-- The search goes by name.
 
 module _ (s t : List ℕ) (at size : ℕ) where
   -- A number that is found is that of an element with the name.
@@ -72,7 +72,7 @@ pub numberOf-none : (s : List ℕ) (es : List Element) (t : List ℕ) (at size :
 unfolding numberOf
 numberOf-none s es t at size f = numberFrom-none s t at size 1 es f
 
--- Names that are the same
+-- Names may be the same.
 
 pub isNamed-split : (s : List ℕ) (e : Element) (t : List ℕ) (at size : ℕ) → isNamed s e t at size ≡ true → (e .size ≡ size) × (sameText s (e .at) t at size ≡ true)
 isNamed-split s e t at size r =
@@ -97,7 +97,7 @@ fresh-differs s (e ∷ es) at size f zero h = not-true _ (λ x. true≢false (rw
 fresh-differs s (e ∷ es) at size f (suc k) h =
     bool-cases (sameName s (e .at) (e .size) at size) (λ x. absurd (true≢false (rw (x, isDeclared) at f))) (λ x. fresh-differs s es at size (rw (x, isDeclared) at f) k (le-of-suc-le-suc h))
 
--- A type file that was read
+-- These laws are of a type file that was read.
 
 pub typeFile-element : (long : ℕ) (s : List ℕ) (es : List Element) → typeFile long s ≡ got es → (k : ℕ) → k < length es → ElementIn s (elementAt es k)
 unfolding elementAt

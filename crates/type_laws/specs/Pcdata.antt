@@ -1,21 +1,18 @@
 -- "`#PCDATA` counts as "*"": where a data byte was taken as a place, the next one fits as the same place.
-use Prim.Native.Nat.{ℕ, zero, suc, _≤_}
+use Prim.Native.Nat.{ℕ, _≤_}
 use mathlib.Core.Path.{_≡_, refl, sym, _∙_, subst}
-use mathlib.Core.Logic.{inl}
-use mathlib.Core.Bool.{Bool, true, _&&_}
+use mathlib.Core.Bool.{true}
 use mathlib.Core.List.{List, [], _∷_, _++_}
-use native.Mathlib.Nat.{not-suc-le-zero}
 use native.Mathlib.Omega.{arith}
 use borrow.Author.Tests.{eqb-true}
 use Rattle.rules.specs.Settings.{Settings}
-use Rattle.rules.specs.Walk.{Group, Begins, MayComeNext}
-use Rattle.rules.specs.TypeFile.{Place, Content, empty, model, Element}
+use Rattle.rules.specs.Walk.{Group, Begins}
+use Rattle.rules.specs.TypeFile.{Place, model, Element}
 use Rattle.rules.specs.Judge.{Accepts}
 use Rattle.rules.specs.Elements.{contentOf}
-use Rattle.rules.specs.Decisions.{pcdata, hasName, Fits}
+use Rattle.rules.specs.Decisions.{pcdata, Fits}
 use Rattle.model_sets.specs.Sets.{has}
-use Rattle.and_laws.specs.Base.{mem-left, mem-right, ends-mem}
-use Rattle.and_laws.specs.Sets.{walk-in}
+use Rattle.and_laws.specs.Sets.{has-next}
 use Rattle.and_laws.specs.Numbers.{Guarded}
 use Rattle.and_laws.specs.Begun.{next-itself}
 use Rattle.rules_laws.specs.Groups.{GuardedIn}
@@ -32,11 +29,8 @@ module _ {c : Settings} (s : List ℕ) (es : List Element) (accepted : Accepts c
   fits-again taken p x =
       record {
         name = x .name;
-        next = next-itself g (whole .numbered) guarded taken p (x .next) (whole .repeats p (next-in taken p (x .next)) (eqb-true _ 0 (sym (pcdata-name s es ps p) ∙ x .name)));
+        next = next-itself g (whole .numbered) guarded taken p (x .next) (whole .repeats p (has-next g taken p (x .next)) (eqb-true _ 0 (sym (pcdata-name s es ps p) ∙ x .name)));
       }
-    where
-      next-in : (taken : List ℕ) (p : ℕ) → MayComeNext g taken p → has g p ≡ true
-      next-in taken p (t, w) = walk-in g ((taken ++ p ∷ []) ++ t) w p (mem-left (taken ++ p ∷ []) t p (mem-right taken (p ∷ []) p (ends-mem (p ∷ []) p (inl (refl, refl)))))
 
   stays : (taken : List ℕ) → Begins g taken → (p : ℕ) → fitsIn s es (model g ps n) taken pcdata ≡ p → 1 ≤ p → fitsIn s es (model g ps n) (taken ++ p ∷ []) pcdata ≡ p
   stays taken b p e l =

@@ -20,7 +20,7 @@ use Rattle.model_sets.specs.Sets.{has, nextIn}
 use Rattle.and_laws.specs.Base.{mem}
 use Rattle.and_laws.specs.Sets.{Plain}
 use Rattle.and_laws.specs.Numbers.{numbered-good}
-use Rattle.and_laws.specs.Unique.{first-has}
+use Rattle.and_laws.specs.Forced.{first-has}
 use Rattle.and_laws.specs.Rows.{follow-to}
 use Rattle.and_laws.specs.Levels.{mayIn}
 use Rattle.and_laws.specs.Taken.{nextFrom, IsLast, IsTaken, groupsAt, next-around, plain-next}

@@ -2,7 +2,7 @@
 -- rules' with this place more.
 use Prim.Native.Nat.{ℕ, zero, suc, _+_, _-_, _/_, _%_, _^_, _≤_, _<_}
 use mathlib.Core.Path.{_≡_, refl, sym, _∙_, ap, subst}
-use mathlib.Core.Bool.{Bool, true, false, _&&_, not, cond}
+use mathlib.Core.Bool.{Bool, true, false, _&&_, not, cond, and-false, and-true}
 use mathlib.Core.List.{List, [], _∷_, _++_}
 use native.Mathlib.Omega.{arith}
 use lib.ListN.{length, getD}
@@ -18,7 +18,6 @@ use Rattle.model_sets.specs.Sets.{size, has, completeIn, requiredIn}
 use Rattle.and_laws.specs.Base.{mem}
 use Rattle.and_laws.specs.Sets.{Plain, Good, meets}
 use Rattle.and_laws.specs.Numbers.{numbered-good}
-use Rattle.and_laws.specs.Rows.{and-no, and-yes}
 use Rattle.and_laws.specs.Levels.{around, blocksIn, loneIn}
 use Rattle.and_laws.specs.Ranked.{Level, levels}
 use Rattle.and_laws.specs.Taken.{completeFrom, requiredFrom, IsTaken, groupsAt, last-taken, plain-complete as rows-complete, plain-required as rows-required, complete-around, required-around}
@@ -193,12 +192,12 @@ module _ {s : List ℕ} {es : List Element} {rows places facts M before : List �
         go : kept - RAISE ≡ requiredIn g p → Blocked g p S r → (completeBy r (completeAt rows e p) ≡ completeFrom g p S) × (requiredBy r kept ≡ requiredFrom g p S)
         go z (free y f) =
             let t : eqb r FREE ≡ true = eq-eqb r FREE y in (
-              ap (λ (b : Bool). cond b (completeAt rows e p) false) t ∙ complete-read ∙ sym (complete-by false f ∙ and-yes (completeIn g p)),
+              ap (λ (b : Bool). cond b (completeAt rows e p) false) t ∙ complete-read ∙ sym (complete-by false f ∙ and-true (completeIn g p)),
               ap (λ (b : Bool). cond b (kept - RAISE) r) t ∙ z ∙ sym (required-by false f),
             )
         go z (held y few f) =
             let t : eqb r FREE ≡ false = ne-eqb r FREE (λ x. omega arith) in (
-              ap (λ (b : Bool). cond b (completeAt rows e p) false) t ∙ sym (complete-by true f ∙ and-no (completeIn g p)),
+              ap (λ (b : Bool). cond b (completeAt rows e p) false) t ∙ sym (complete-by true f ∙ and-false (completeIn g p)),
               ap (λ (b : Bool). cond b (kept - RAISE) r) t ∙ y ∙ sym (required-by true f),
             )
 

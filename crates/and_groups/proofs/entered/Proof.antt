@@ -1,5 +1,4 @@
 -- `entered` meets its contract: the member at hand, and those that hold its group, are those that hold the place.
-use native.Mathlib.Omega.{arith}
 use Rattle.and_groups.specs.Entering.{enters-none, enters-large, enters-far, enters-all}
 use borrow.Author.Needs.{needs}
 use Rattle.and_groups.proofs.entered.Statement.{statement}

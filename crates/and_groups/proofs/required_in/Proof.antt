@@ -1,19 +1,12 @@
 -- `required_in` meets its contract: the next that has not begun above the member is of another group.
-use mathlib.Core.Path.{_≡_, refl, sym}
-use mathlib.Core.Bool.{Bool, true, false, not, false≢true}
+use mathlib.Core.Path.{refl}
+use mathlib.Core.Bool.{true, false, not}
 use native.Mathlib.Omega.{arith}
 use Rattle.and_groups.specs.Lacking.{due-large, due-other, due-lone, due-more}
 use borrow.Author.Needs.{needs}
+use borrow.Author.Tests.{not-true, not-false}
 use Rattle.and_groups.proofs.required_in.Statement.{statement}
 use Rattle.and_groups.proofs.required_in.Tie as tie
-
-yes-of : (t : Bool) → not t ≡ false → t ≡ true
-yes-of true z = refl
-yes-of false z = absurd (false≢true (sym z))
-
-no-of : (t : Bool) → not t ≡ true → t ≡ false
-no-of true z = absurd (false≢true z)
-no-of false z = refl
 
 returns : tie.Need-returns
 returns c = due-large _ _ _ _ _ (omega arith) (c .if1 .taken)
@@ -47,7 +40,7 @@ returns-2 c =
     let idle = cut .before in
     let among = idle .before in
     let group = among .before in
-    due-other _ _ _ _ _ (omega (arith, group .before .before .before .pre)) _ refl _ (group .group-of .ensures .0) _ _ _ (among .among .ensures) (idle .without .ensures) (cut .above .ensures) _ (found .first .ensures .1) _ (alone .is-alone .ensures) (no-of _ (c .if2 .taken))
+    due-other _ _ _ _ _ (omega (arith, group .before .before .before .pre)) _ refl _ (group .group-of .ensures .0) _ _ _ (among .among .ensures) (idle .without .ensures) (cut .above .ensures) _ (found .first .ensures .1) _ (alone .is-alone .ensures) (not-true _ (c .if2 .taken))
 
 required-of-requires : tie.Need-required-of-requires
 required-of-requires c κs = search needs
@@ -60,7 +53,7 @@ returns-3 c =
     let idle = cut .before in
     let among = idle .before in
     let group = among .before in
-    due-more _ _ _ _ _ (omega (arith, group .before .before .before .pre)) _ refl _ (group .group-of .ensures .0) _ _ _ (among .among .ensures) (idle .without .ensures) (cut .above .ensures) _ (found .first .ensures .1) _ (alone .is-alone .ensures) _ (c .before .required-of .ensures .0) (yes-of _ (c .before .before .if2 .left)) (c .if3 .taken)
+    due-more _ _ _ _ _ (omega (arith, group .before .before .before .pre)) _ refl _ (group .group-of .ensures .0) _ _ _ (among .among .ensures) (idle .without .ensures) (cut .above .ensures) _ (found .first .ensures .1) _ (alone .is-alone .ensures) _ (c .before .required-of .ensures .0) (not-false _ (c .before .before .if2 .left)) (c .if3 .taken)
 
 returns-4 : tie.Need-returns-4
 returns-4 c =
@@ -70,7 +63,7 @@ returns-4 c =
     let idle = cut .before in
     let among = idle .before in
     let group = among .before in
-    due-lone _ _ _ _ _ (omega (arith, group .before .before .before .pre)) _ refl _ (group .group-of .ensures .0) _ _ _ (among .among .ensures) (idle .without .ensures) (cut .above .ensures) _ (found .first .ensures .1) _ (alone .is-alone .ensures) _ (c .before .required-of .ensures .0) (yes-of _ (c .before .before .if2 .left)) (c .if3 .left)
+    due-lone _ _ _ _ _ (omega (arith, group .before .before .before .pre)) _ refl _ (group .group-of .ensures .0) _ _ _ (among .among .ensures) (idle .without .ensures) (cut .above .ensures) _ (found .first .ensures .1) _ (alone .is-alone .ensures) _ (c .before .required-of .ensures .0) (not-false _ (c .before .before .if2 .left)) (c .if3 .left)
 
 pub required-in-spec : {M : Type 1} → statement M
 required-in-spec =

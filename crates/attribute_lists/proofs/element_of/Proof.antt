@@ -4,7 +4,6 @@ use mathlib.Core.Path.{_≡_}
 use mathlib.Core.List.{List}
 use native.Mathlib.Omega.{arith}
 use lib.ListN.{length}
-use borrow.Author.Needs.{needs}
 use Rattle.rules.specs.TypeFile as rules
 use Rattle.element_names.specs.Names.{Recorded}
 use Rattle.attribute_lists.specs.Lookup.{Looks, looks-first, looks-none, looks-found, looks-turn}

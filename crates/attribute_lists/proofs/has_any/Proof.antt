@@ -3,7 +3,6 @@ use Prim.Native.Nat.{_-_, _≤_}
 use mathlib.Core.Path.{_≡_, sym, _∙_, ap}
 use mathlib.Core.Bool.{false}
 use native.Mathlib.Omega.{arith}
-use borrow.Author.Needs.{needs}
 use Rattle.attribute_lists.specs.Listed.{anyIn}
 use Rattle.attribute_lists.specs.Lookup.{any-none, any-turn, any-found}
 use Rattle.attribute_lists.proofs.has_any.Statement.{statement}

@@ -1,6 +1,5 @@
 -- `is_same` meets its contract: names of another size are others.
 use borrow.Author.Needs.{needs}
-use native.Mathlib.Omega.{arith}
 use Rattle.attribute_lists.specs.Lookup.{other-size, same-size}
 use Rattle.attribute_lists.proofs.is_same.Statement.{statement}
 use Rattle.attribute_lists.proofs.is_same.Tie as tie

@@ -1,7 +1,5 @@
 -- `is_token` meets its contract: the sizes are compared first.
 use Prim.Native.Nat.{_-_}
-use mathlib.Core.Path.{sym}
-use lib.ListN.{length}
 use borrow.Author.Needs.{needs}
 use borrow.Author.Tests.{eq-eqb, ne-eqb}
 use Rattle.attribute_values.proofs.is_token.Statement.{statement}

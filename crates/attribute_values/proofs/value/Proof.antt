@@ -1,5 +1,4 @@
 -- `value` meets its contract: each way by the part of its text.
-use mathlib.Core.Path.{_≡_, _∙_}
 use borrow.Author.Needs.{needs}
 use Rattle.attribute_values.proofs.value.Statement.{statement}
 use Rattle.attribute_values.proofs.value.Tie as tie

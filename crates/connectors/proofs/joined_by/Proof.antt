@@ -1,6 +1,5 @@
 -- `joined_by` meets its contract, by the three connectors.
 use mathlib.Core.Path.{refl}
-use native.Mathlib.Omega.{arith}
 use borrow.Author.Needs.{needs}
 use Rattle.connectors.specs.Grown.{by-seq, by-and, by-alt}
 use Rattle.connectors.proofs.joined_by.Statement.{statement}

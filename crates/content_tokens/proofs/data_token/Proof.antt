@@ -34,14 +34,14 @@ at-put-place c = c .before .before .before .before
 abbrev at-put : (c : tie.After-optional) → tie.After-put
 at-put c = c .before .before .before
 
--- what the test says of the byte after `#`
+-- The test says this of the byte after `#`.
 is-one : (c : tie.Then1) → letter (byteAt (c .before .before .before .before .args .s .now) (c .before .before .before .before .args .at + 1)) ≡ true
 is-one c = ap letter (sym (c .before .before .byte .ensures)) ∙ sym (c .before .is-letter .ensures) ∙ c .if1 .taken
 
 is-none : (c : tie.Else1) → letter (byteAt (c .before .before .before .before .args .s .now) (c .before .before .before .before .args .at + 1)) ≡ false
 is-none c = ap letter (sym (c .before .before .byte .ensures)) ∙ sym (c .before .is-letter .ensures) ∙ c .if1 .left
 
--- room for one more token
+-- There is room for one more token.
 room : (c : tie.Else3) →
     let start = at-start (at-name-end c) in
     (start .args .places ≤ start .args .tokens) × (start .args .tokens < GRPGTCNT)

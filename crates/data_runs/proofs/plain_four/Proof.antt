@@ -24,7 +24,7 @@ at-start-5 c = at-start-4 (c .before .before .before .before)
 abbrev at-start-3 : (c : tie.After-is-special4) → tie.Start
 at-start-3 c = at-start-5 (c .before .before .before .before)
 
--- one byte is passed, two are, three are
+-- One byte is passed, two are, or three are.
 one : (c : tie.Else1) → let a = c .before .before .before .before .args in runEnd (a .s .now) (a .i + 1) ≡ runEnd (a .s .now) (a .i)
 one c =
     let a = c .before .before .before .before .args in

@@ -5,9 +5,10 @@ use native.Mathlib.Omega.{arith}
 use lib.ListN.{length}
 use lib.Dec.{eqb}
 use borrow.Author.Needs.{needs}
+use Rattle.basic_laws.specs.Truth.{and-right}
 use Rattle.rules.specs.Bytes.{byteAt, SOLIDUS}
 use Rattle.rules.specs.Document.{startTagAt}
-use Rattle.text.specs.Words.{letter-in, second}
+use Rattle.text.specs.Words.{letter-in}
 use Rattle.tags.specs.Tags.{tagOf}
 use Rattle.document_text.specs.Ways.{markup-start, markup-end, markup-declaration, markup-out, markup-data, end-no-start, declaration-no-start, meets-other}
 use Rattle.document_text.proofs.markup_at.Statement.{statement}
@@ -54,7 +55,7 @@ tag-at-requires : tie.Need-tag-at-requires
 tag-at-requires c κs =
     let p = at-start (c .before .before .before) in
     let a = p .args in
-    (p .pre .0, omega (arith, letter-in (a .s .now) (a .i + 2) (second (eqb (byteAt (a .s .now) (a .i + 1)) SOLIDUS) _ (sym (c .before .is-end-tag .ensures) ∙ c .if2 .taken))))
+    (p .pre .0, omega (arith, letter-in (a .s .now) (a .i + 2) (and-right (eqb (byteAt (a .s .now) (a .i + 1)) SOLIDUS) _ (sym (c .before .is-end-tag .ensures) ∙ c .if2 .taken))))
 
 end-tag-requires : tie.Need-end-tag-requires
 end-tag-requires c κs = search needs

@@ -1,7 +1,6 @@
 -- `find` meets its contract. The invariant: none of the attributes before the k-th is called so.
 use Prim.Native.Nat.{_*_, _-_, _≤_}
 use native.Mathlib.Omega.{arith}
-use borrow.Author.Needs.{needs}
 use Rattle.rules.specs.Bytes.{ATTCNT}
 use Rattle.layout.specs.Sizes.{LIST}
 use Rattle.list_table.specs.Finds.{NoneNamed, named-first, named-turn, named-found, named-none}

@@ -1,5 +1,4 @@
 -- `is_named` meets its contract, each way by the tests that led there.
-use native.Mathlib.Omega.{arith}
 use borrow.Author.Needs.{needs}
 use Rattle.list_table.specs.Finds.{named-size, named-outside, named-text}
 use Rattle.list_table.proofs.is_named.Statement.{statement}

@@ -1,6 +1,6 @@
 -- `above` meets its contract.
 use native.Mathlib.Omega.{arith}
-use Rattle.member_bits.specs.Laws.{above-low, above-high}
+use Rattle.member_bits.specs.Operations.{above-low, above-high}
 use borrow.Author.Needs.{needs}
 use Rattle.member_bits.proofs.above.Statement.{statement}
 use Rattle.member_bits.proofs.above.Tie as tie

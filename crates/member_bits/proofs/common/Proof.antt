@@ -1,5 +1,5 @@
 -- `common` meets its contract.
-use Rattle.member_bits.specs.Laws.{has-common}
+use Rattle.member_bits.specs.Operations.{has-common}
 use Rattle.member_bits.proofs.common.Statement.{statement}
 use Rattle.member_bits.proofs.common.Tie as tie
 

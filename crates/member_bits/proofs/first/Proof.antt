@@ -1,6 +1,6 @@
 -- `first` meets its contract.
 use native.Mathlib.Omega.{arith}
-use Rattle.member_bits.specs.Laws.{first-low, first-high, first-none}
+use Rattle.member_bits.specs.Operations.{first-low, first-high, first-none}
 use borrow.Author.Needs.{needs}
 use Rattle.member_bits.proofs.first.Statement.{statement}
 use Rattle.member_bits.proofs.first.Tie as tie

@@ -1,6 +1,6 @@
 -- `has` meets its contract.
 use native.Mathlib.Omega.{arith}
-use Rattle.member_bits.specs.Laws.{has-low, has-high}
+use Rattle.member_bits.specs.Operations.{has-low, has-high}
 use borrow.Author.Needs.{needs}
 use Rattle.member_bits.proofs.has.Statement.{statement}
 use Rattle.member_bits.proofs.has.Tie as tie

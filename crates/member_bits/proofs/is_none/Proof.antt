@@ -1,5 +1,5 @@
 -- `is_none` meets its contract.
-use Rattle.member_bits.specs.Laws.{is-none}
+use Rattle.member_bits.specs.Operations.{is-none}
 use Rattle.member_bits.proofs.is_none.Statement.{statement}
 use Rattle.member_bits.proofs.is_none.Tie as tie
 

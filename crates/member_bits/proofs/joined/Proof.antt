@@ -1,5 +1,5 @@
 -- `joined` meets its contract.
-use Rattle.member_bits.specs.Laws.{has-joined}
+use Rattle.member_bits.specs.Operations.{has-joined}
 use Rattle.member_bits.proofs.joined.Statement.{statement}
 use Rattle.member_bits.proofs.joined.Tie as tie
 

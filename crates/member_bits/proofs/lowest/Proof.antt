@@ -2,7 +2,7 @@
 use Prim.Native.Nat.{_-_, _≤_}
 use native.Mathlib.Omega.{arith}
 use lib.Bits.{and-le-l}
-use Rattle.member_bits.specs.Laws.{Seeks, seeks-start, seeks-found, seeks-next}
+use Rattle.member_bits.specs.Operations.{Seeks, seeks-start, seeks-found, seeks-next}
 use borrow.Author.Needs.{needs}
 use Rattle.member_bits.proofs.lowest.Statement.{statement}
 use Rattle.member_bits.proofs.lowest.Tie as tie

@@ -1,5 +1,5 @@
 -- `none` meets its contract.
-use Rattle.member_bits.specs.Laws.{has-none}
+use Rattle.member_bits.specs.Operations.{has-none}
 use Rattle.member_bits.proofs.none.Statement.{statement}
 use Rattle.member_bits.proofs.none.Tie as tie
 

@@ -3,7 +3,7 @@ use native.Mathlib.Omega.{arith}
 use Prim.Native.Nat.{_-_, _≤_}
 use mathlib.Core.Logic.{⊎-elim}
 use mathlib.Core.Path.{refl}
-use Rattle.member_bits.specs.Laws.{Ranged, ranged-none, ranged-more, ranged-past, ranged-as}
+use Rattle.member_bits.specs.Operations.{Ranged, ranged-none, ranged-more, ranged-past, ranged-as}
 use borrow.Author.Needs.{needs}
 use Rattle.member_bits.proofs.range.Statement.{statement}
 use Rattle.member_bits.proofs.range.Tie as tie

@@ -1,6 +1,6 @@
 -- `with` meets its contract.
 use native.Mathlib.Omega.{arith}
-use Rattle.member_bits.specs.Laws.{with-low, with-high}
+use Rattle.member_bits.specs.Operations.{with-low, with-high}
 use borrow.Author.Needs.{needs}
 use Rattle.member_bits.proofs.with.Statement.{statement}
 use Rattle.member_bits.proofs.with.Tie as tie

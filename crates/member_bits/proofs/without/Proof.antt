@@ -1,5 +1,5 @@
 -- `without` meets its contract.
-use Rattle.member_bits.specs.Laws.{has-without}
+use Rattle.member_bits.specs.Operations.{has-without}
 use Rattle.member_bits.proofs.without.Statement.{statement}
 use Rattle.member_bits.proofs.without.Tie as tie
 

@@ -1,5 +1,4 @@
 -- `put_bits` meets its contract.
-use native.Mathlib.Omega.{arith}
 use borrow.Author.Needs.{needs}
 use Rattle.member_sets.specs.Storing.{bits-put}
 use Rattle.member_sets.proofs.put_bits.Statement.{statement}

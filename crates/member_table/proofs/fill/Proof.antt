@@ -37,7 +37,7 @@ mul-base c = omega arith
 loop-holds : tie.Need-loop-holds Inv-loop μ-loop
 loop-holds c = (omega arith, record { long = refl; low = omega arith; few = omega arith; fewer = omega arith; is = run-start _ _ _ })
 
--- there is room for the number
+-- There is room for the number.
 inside : (c : tie.Then1 Inv-loop μ-loop) → c .before .before .loop .i < CODE
 inside c = ltb-true _ _ (c .if1 .taken)
 

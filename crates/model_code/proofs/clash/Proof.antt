@@ -1,5 +1,5 @@
 -- `clash` meets its contract. The invariant: the stack is what the numbers read so far leave.
-use Prim.Native.Nat.{_+_, _-_, _≤_, _<_}
+use Prim.Native.Nat.{_-_, _≤_, _<_}
 use mathlib.Core.Path.{refl}
 use mathlib.Core.Logic.{⊎-elim}
 use native.Mathlib.Omega.{arith}
@@ -19,7 +19,7 @@ abbrev μ-loop : tie.MeasureT-loop
 loop-holds : tie.Need-loop-holds Inv-loop μ-loop
 loop-holds c = (omega arith, omega arith, record { len = refl; low = omega arith; is = refl })
 
--- there is room for the number
+-- There is room for the number.
 inside : (c : tie.Then1 Inv-loop μ-loop) → c .before .before .loop .i < CODE
 inside c = ltb-true _ _ (c .if1 .taken)
 
@@ -125,7 +125,7 @@ loop-again c =
 element-copy-out-result : tie.Need-element-copy-out-result Inv-loop μ-loop
 element-copy-out-result c = omega arith
 
--- no number is left, or no room
+-- No number is left, or there is no room.
 over : (c : tie.Left-loop Inv-loop μ-loop) → c .before .loop .i < c .before .before .args .n → c .before .loop .i < CODE → ⊥
 over c few room =
     ⊎-elim

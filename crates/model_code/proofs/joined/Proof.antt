@@ -1,6 +1,6 @@
 -- `joined` meets its contract: one case for each connector.
 use Prim.Native.Nat.{ℕ}
-use mathlib.Core.Path.{_≡_, ap, _∙_, sym}
+use mathlib.Core.Path.{_≡_}
 use borrow.Author.Tests.{eq-eqb, ne-eqb}
 use borrow.Author.Needs.{needs}
 use Rattle.model_code.specs.Codes.{ALT-CODE, SEQ-CODE}

@@ -49,7 +49,7 @@ add-same-name c = omega arith
 same-name-requires : tie.Need-same-name-requires Inv-loop μ-loop
 same-name-requires c κs = (omega arith, c .before .before .before .pre .1)
 
--- where the search begins
+-- This is where the search begins.
 begun : (c : tie.After-same-name Inv-loop μ-loop) (F : ℕ → ℕ → Bool) →
     let x = c .before .before .before .before .args in
     Seeks (x .s .now) (x .names .now) F (x .n) (x .p) (c .same-name .result)

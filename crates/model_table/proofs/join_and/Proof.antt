@@ -16,7 +16,7 @@ link-requires-2 c κs = search needs
 part-and-requires : tie.Need-part-and-requires
 part-and-requires c κs = search needs
 
--- the changes, one after the other
+-- The changes go one after the other.
 in-turn : (A L B : List ℕ) (from to lo hi : ℕ) → A ≡ L → B ≡ link A from to lo hi → B ≡ link L from to lo hi
 in-turn A L B from to lo hi a b = cc
 

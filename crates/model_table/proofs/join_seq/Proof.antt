@@ -20,7 +20,7 @@ close-starts-requires c κs = search needs
 part-seq-requires : tie.Need-part-seq-requires
 part-seq-requires c κs = search needs
 
--- the changes, one after the other
+-- The changes go one after the other.
 in-turn : (A L B C : List ℕ) (lo mid from to : ℕ) (g h : Part)
     → A ≡ L → B ≡ closeEnds A lo mid h → C ≡ closeStarts B from to g → C ≡ closeStarts (closeEnds L lo mid h) from to g
 in-turn A L B C lo mid from to g h a b c = cc

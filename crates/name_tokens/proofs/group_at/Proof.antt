@@ -1,13 +1,13 @@
 -- `group_at` meets its contract. The invariant: what is left to read from the token at `i` on gives what the whole group gives.
-use Prim.Native.Nat.{ℕ, _+_, _-_, _≤_, _<_}
-use mathlib.Core.Path.{_≡_, refl, sym, _∙_, ap}
+use Prim.Native.Nat.{_+_, _-_, _≤_, _<_}
+use mathlib.Core.Path.{refl, sym, _∙_}
 use native.Mathlib.Omega.{arith}
 use lib.ListN.{length}
 use borrow.Author.Needs.{needs}
 use borrow.Author.Tests.{not-true, not-false}
-use Rattle.rules.specs.Bytes.{byteAt, GRPC, GRPCNT}
-use Rattle.rules.specs.TypeFile.{tokenGroup, isTokenConnector}
-use Rattle.text.specs.Words.{test-in, byte-is-in, separatorsEnd-from, separatorsEnd-le}
+use Rattle.rules.specs.Bytes.{GRPC, GRPCNT}
+use Rattle.rules.specs.TypeFile.{tokenGroup}
+use Rattle.text.specs.Words.{byte-is-in, separatorsEnd-from, separatorsEnd-le}
 use Rattle.name_tokens.specs.Tokens.{partsOf}
 use Rattle.name_tokens.specs.TokenByToken.{Goes, goes-first, goes-refused, goes-closed, goes-on, goes-percent, goes-unfit, joins-in, token-in, token-is, token-refused}
 use Rattle.name_tokens.proofs.group_at.Statement.{statement}

@@ -1,9 +1,8 @@
 -- `is_seen` meets its contract. The invariant: none of the tokens before the k-th is the one that is looked for.
-use Prim.Native.Nat.{_+_, _-_, _≤_}
+use Prim.Native.Nat.{_-_, _≤_}
 use mathlib.Core.Path.{_≡_, sym, _∙_, ap}
 use mathlib.Core.Bool.{false}
 use native.Mathlib.Omega.{arith}
-use borrow.Author.Needs.{needs}
 use Rattle.rules.specs.TypeFile.{isToken}
 use Rattle.name_tokens.specs.Tokens.{partsOf}
 use Rattle.name_tokens.specs.TokenByToken.{seen-none, seen-turn, seen-found}

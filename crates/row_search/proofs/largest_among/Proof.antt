@@ -25,7 +25,7 @@ at-start c = c .before .before .before
 abbrev at-then3 : (c : tie.After-smaller Inv-loop μ-loop) → tie.Then3 Inv-loop μ-loop
 at-then3 c = c .before .before .before
 
--- the row does not have the place, or what has begun does not leave it
+-- The row does not have the place, or what has begun does not leave it.
 misses : (c : tie.Joined4 Inv-loop μ-loop) →
     let looped = c .before .before .before .before in
     let a = at-start (looped .before .before) .args in

@@ -5,15 +5,15 @@ use mathlib.Core.Logic.{⊎-elim}
 use lib.Dec.{eqb}
 use borrow.Author.Tests.{eq-eqb, ne-eqb}
 use Rattle.rules.specs.Bytes.{separator, RE, RS, TAB}
-use Rattle.text.specs.Words.{or-taken, or-left}
+use Rattle.text.specs.Words.{or-taken, or-passed}
 use Rattle.text.proofs.is_separator.Statement.{statement}
 use Rattle.text.proofs.is_separator.Tie as tie
 
 two : (c : tie.Joined1) → c .if1 .if2 ≡ (eqb (c .before .args .b) TAB || eqb (c .before .args .b) RS)
-two c = ⊎-elim (λ w. or-taken _ _ _ (eq-eqb _ _ (w .0 .taken)) (w .1)) (λ w. or-left _ _ _ (ne-eqb _ _ (w .0 .left)) (w .1)) (c .if1 .came)
+two c = ⊎-elim (λ w. or-taken _ _ _ (eq-eqb _ _ (w .0 .taken)) (w .1)) (λ w. or-passed _ _ _ (ne-eqb _ _ (w .0 .left)) (w .1)) (c .if1 .came)
 
 three : (c : tie.Joined2) → c .if2 .if3 ≡ (eqb (c .before .before .args .b) TAB || eqb (c .before .before .args .b) RS || eqb (c .before .before .args .b) RE)
-three c = rw (← two (c .before)) (⊎-elim (λ w. or-taken _ _ _ (w .0 .taken) (w .1)) (λ w. or-left _ _ _ (w .0 .left) (w .1)) (c .if2 .came))
+three c = rw (← two (c .before)) (⊎-elim (λ w. or-taken _ _ _ (w .0 .taken) (w .1)) (λ w. or-passed _ _ _ (w .0 .left) (w .1)) (c .if2 .came))
 
 returns : tie.Need-returns
 unfolding separator

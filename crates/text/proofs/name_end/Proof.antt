@@ -1,7 +1,7 @@
 -- `name_end` meets its contract. The invariant: the bytes that pass the test end at the same place from `i` as from the start.
 use Prim.Native.Nat.{_+_, _-_, _≤_, _<_}
 use mathlib.Core.Path.{_≡_, refl}
-use mathlib.Core.Bool.{true, false}
+use mathlib.Core.Bool.{true}
 use native.Mathlib.Omega.{arith}
 use lib.ListN.{length, drop}
 use Rattle.rules.specs.Bytes.{byteAt, nameByte, letter, span, nameEnd}

@@ -75,11 +75,11 @@ module _ (t : ℕ) where
   pub loop-holds : lts.Need-loop-holds (group-at-calls t) (group-at-at t) group-at.Post Inv-loop μ-loop
   loop-holds c = so-first _ _ _ _ _ _ _
 
-  -- where the function began, at the loop
+  -- This is where the function began, seen from the loop.
   abbrev start : lts.At-loop (group-at-calls t) (group-at-at t) group-at.Post Inv-loop μ-loop → lts.Start (group-at-calls t) (group-at-at t) group-at.Post Inv-loop μ-loop
   start c = at-else1 (c .before .before .before .before) .before .before
 
-  -- the first token, as it was read
+  -- The first token is kept as it was read.
   first-read : (c : lts.At-loop (group-at-calls t) (group-at-at t) group-at.Post Inv-loop μ-loop)
       → (u : Tokens) × Keeps (length (start c .args .s .now)) (begun (start c .args .places + 1) (start c .args .table .now) (start c .args .code) (4 * start c .args .tokens + 2 + 1)) 1 0 (c .before .before .before .before .token-at .last .1 .1 .1 .1 .1 .1 .1 .1 .0) (c .before .before .before .before .token-at .last .1 .1 .1 .1 .1 .1 .1 .1 .1 .0) (c .before .before .r .given .0 .0) u
       × (group (start c .args .long) (start c .args .levels) (start c .args .s .now) (start c .args .at) (placesOf (start c .args .names .now) (start c .args .places)) (start c .args .tokens) ≡ members (start c .args .long) (group (start c .args .long) (start c .args .levels - 1) (start c .args .s .now)) (start c .args .s .now) GRPCNT 1 0 u)

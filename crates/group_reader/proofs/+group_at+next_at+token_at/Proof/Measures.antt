@@ -51,7 +51,7 @@ token-at-at t = and 3 token-at-kinds.ps (is 3 token-at-kinds.ps μ-token-at t) t
 abbrev pub token-at-below : ℕ → In 3 token-at-kinds.ps
 token-at-below t = and 3 token-at-kinds.ps (falls 3 token-at-kinds.ps _<_ μ-token-at t) token-at.Pre
 
--- what each member knows of what it calls
+-- Each member knows this of what it calls.
 abbrev pub group-at-calls : ℕ → group-at-lts.Claims
 group-at-calls t = (refusal-reads.Asked, refusal-reads.Learnt, separators-end-reads.Asked, separators-end-reads.Learnt, token-at-below t, token-at.Post, next-at-below t, next-at.Post)
 

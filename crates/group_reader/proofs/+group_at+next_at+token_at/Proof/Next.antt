@@ -11,7 +11,7 @@ use borrow.Author.Tests.{le-leb, lt-leb, not-true, not-false}
 use Rattle.rules.specs.TypeFile.{group, token}
 use Rattle.rules.specs.Bytes.{GRPCNT, GRPGTCNT, typeLimit}
 use Rattle.model_names.specs.Places.{placesOf}
-use Rattle.text.specs.Words.{separatorsEnd-le, or-taken, or-left}
+use Rattle.text.specs.Words.{separatorsEnd-le, or-taken, or-passed}
 use Rattle.content_tokens.specs.Readings.{read-in}
 use Rattle.group_reader.specs.Groups.{or-other, connector-in, next-closed, next-unfit, next-other, next-refused, next-joined}
 use Rattle.group_reader.proofs.next_at.Reads as next-at
@@ -26,21 +26,17 @@ module _ (t : ℕ) where
   abbrev at-else1 : (c : lts.After-separators-end2 (next-at-calls t) (next-at-at t) next-at.Post) → lts.Else1 (next-at-calls t) (next-at-at t) next-at.Post
   at-else1 c = c .before .before .before .before
 
-  -- the separators end in the input
+  -- The separators end in the input.
   here : (c : lts.After-separators-end (next-at-calls t) (next-at-at t) next-at.Post) → (c .separators-end .result ≤ length (c .before .before .args .s .now)) × (length (c .before .before .args .s .now) ≤ typeLimit)
-  here c =
-      let x = c .before .before .args in
-      omega (arith, c .before .before .pre .1, separatorsEnd-le (x .s .now) (x .m .at) (c .before .before .pre .1 .0 .0), c .separators-end .ensures)
+  here c = let x = c .before .before .args in omega (arith, c .before .before .pre .1, separatorsEnd-le (x .s .now) (x .m .at) (c .before .before .pre .1 .0 .0), c .separators-end .ensures)
 
-  -- and so does the connector
+  -- The connector ends in the input.
   past : (c : lts.Else3 (next-at-calls t) (next-at-at t) next-at.Post) → (c .before .before .before .before .before .separators-end .result < length (c .before .before .before .before .before .before .before .args .s .now)) × (length (c .before .before .before .before .before .before .before .args .s .now) ≤ typeLimit)
-  past c =
-      let x = c .before .before .before .before .before .before .before .args in
-      (connector-in (x .s .now) (c .before .before .before .before .before .separators-end .result) (c .before .before .before .before .byte .result) (x .c) (c .before .is-connector .result) (c .before .before .before .before .byte .ensures) (c .before .is-connector .ensures) (not-false _ (c .if3 .left)), here (c .before .before .before .before .before) .1)
+  past c = let x = c .before .before .before .before .before .before .before .args in (connector-in (x .s .now) (c .before .before .before .before .before .separators-end .result) (c .before .before .before .before .byte .result) (x .c) (c .before .is-connector .result) (c .before .before .before .before .byte .ensures) (c .before .is-connector .ensures) (not-false _ (c .if3 .left)), here (c .before .before .before .before .before) .1)
 
-  -- what the flag says of the room for one more token
+  -- The flag says whether there is room for one more token.
   room : (c : lts.Joined4 (next-at-calls t) (next-at-at t) next-at.Post) → c .if4 .full ≡ (leb GRPCNT (c .before .before .before .before .before .before .before .before .before .args .k) || leb GRPGTCNT (c .before .before .before .before .before .before .before .before .before .args .m .tokens))
-  room c = ⊎-elim (λ w. or-taken _ _ _ (le-leb _ _ (w .0 .taken)) (w .1)) (λ w. or-left _ _ _ (lt-leb _ _ (w .0 .left)) (w .1)) (c .if4 .came)
+  room c = ⊎-elim (λ w. or-taken _ _ _ (le-leb _ _ (w .0 .taken)) (w .1)) (λ w. or-passed _ _ _ (lt-leb _ _ (w .0 .left)) (w .1)) (c .if4 .came)
 
   pub separators-end-requires : lts.Need-separators-end-requires (next-at-calls t) (next-at-at t) next-at.Post
   separators-end-requires c κs = c .before .pre .1 .0 .0

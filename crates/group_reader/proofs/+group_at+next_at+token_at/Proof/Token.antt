@@ -5,13 +5,14 @@ use mathlib.Core.Logic.{⊎-elim}
 use native.Mathlib.Omega.{arith}
 use borrow.Author.Needs.{needs}
 use borrow.Author.Tests.{eq-eqb, ne-eqb}
+use Rattle.basic_laws.specs.Truth.{or-left}
 use Rattle.rules.specs.TypeFile.{group, occurrence}
 use Rattle.rules.specs.Bytes.{GRPO, RNI}
 use Rattle.model_names.specs.Places.{placesOf}
-use Rattle.text.specs.Words.{byte-is-in}
+use Rattle.text.specs.Words.{byte-is-in, or-passed}
 use Rattle.connectors.specs.Grown.{keeps-less}
 use Rattle.content_tokens.specs.Readings.{refused-meets, read-in, refused-then, read-then}
-use Rattle.group_reader.specs.Groups.{or-first, or-second, token-name, token-data, token-full, token-group, token-unfit, token-other}
+use Rattle.group_reader.specs.Groups.{token-name, token-data, token-full, token-group, token-unfit, token-other}
 use Rattle.group_reader.proofs.token_at.Reads as token-at
 use Rattle.group_reader.proofs.+group_at+next_at+token_at.Lts-token_at as lts
 use Rattle.group_reader.proofs.+group_at+next_at+token_at.Proof.Measures.{token-at-at, token-at-calls}
@@ -62,9 +63,7 @@ module _ (t : ℕ) where
       (token-full (x .long) (group (x .long) (x .levels) (x .s .now)) (x .s .now) (x .at) (l .before .byte .result) (x .full) (l .is-letter .result) _ (x .tokens) (l .before .byte .ensures) (l .is-letter .ensures) (d .if1 .left) (g .before .if2 .left) (g .if3 .taken) (c .before .if4 .taken))
 
   pub add-group-at : lts.Need-add-group-at (token-at-calls t) (token-at-at t) token-at.Post
-  add-group-at c =
-      let a = c .before .before .before .before .before .before .before in
-      omega (arith, a .pre .1 .1 .1 (c .if4 .left))
+  add-group-at c = let a = c .before .before .before .before .before .before .before in omega (arith, a .pre .1 .1 .1 (c .if4 .left))
 
   pub group-at-requires : lts.Need-group-at-requires (token-at-calls t) (token-at-at t) token-at.Post
   group-at-requires c κs =
@@ -130,7 +129,7 @@ module _ (t : ℕ) where
       let x = l .before .before .before .args in
       refused-meets _ _ _ _ _ 5 (x .at) _ (c .refusal2 .ensures)
       (token-unfit (x .long) (group (x .long) (x .levels) (x .s .now)) (x .s .now) (x .at) (l .before .byte .result) (x .full) (l .is-letter .result) _ (x .tokens) (l .before .byte .ensures) (l .is-letter .ensures) (d .if1 .left) (g .before .if2 .left) (g .if3 .left)
-      (⊎-elim (λ w. or-first _ _ (eq-eqb _ _ (w .taken))) (λ w. or-second _ _ _ (ne-eqb _ _ (w .0 .left)) (w .1 .taken)) (j .if5 .came)))
+      (⊎-elim (λ w. or-left _ (eq-eqb _ _ (w .taken))) (λ w. sym (or-passed _ _ _ (ne-eqb _ _ (w .0 .left)) (sym (w .1 .taken)))) (j .if5 .came)))
 
   pub refusal-requires-3 : lts.Need-refusal-requires-3 (token-at-calls t) (token-at-at t) token-at.Post
   refusal-requires-3 c κs = search needs
@@ -144,4 +143,4 @@ module _ (t : ℕ) where
       let x = l .before .before .before .args in
       refused-meets _ _ _ _ _ 4 (x .at) _ (c .refusal3 .ensures)
       (token-other (x .long) (group (x .long) (x .levels) (x .s .now)) (x .s .now) (x .at) (l .before .byte .result) (x .full) (l .is-letter .result) _ (x .tokens) (l .before .byte .ensures) (l .is-letter .ensures) (d .if1 .left) (g .before .if2 .left) (g .if3 .left)
-      (or-second _ _ _ (ne-eqb _ _ (e .if5 .left)) (c .before .if6 .left)))
+      (sym (or-passed _ _ _ (ne-eqb _ _ (e .if5 .left)) (sym (c .before .if6 .left)))))

@@ -1,7 +1,7 @@
 -- What the functions make of the members, over plain numbers.
 use Prim.Native.Nat.{ℕ, _+_, _-_, _*_, _/_, _%_, _^_, _≤_, _<_}
 use mathlib.Core.Path.{_≡_, refl, sym, _∙_, ap, ap₂, subst}
-use mathlib.Core.Bool.{Bool, true, false, _&&_, _||_, not, cond}
+use mathlib.Core.Bool.{Bool, true, false, _&&_, _||_, not, cond, or-false, and-false, and-true}
 use native.Mathlib.Decide.{ℕ-discrete, decLt, decLe}
 use native.Mathlib.Nat.{add-zero}
 use native.Mathlib.Omega.{arith}
@@ -15,14 +15,10 @@ use Rattle.member_bits.specs.declared.Bits.{Bits}
 use Rattle.member_bits.specs.Having.{bitIn, Has, IsNone, First, none, some, Lowest}
 use Rattle.member_bits.specs.Bits.{zero-bit, or-either, and-both, differs, xor-one, or-bit, shifted-wide, low-bit, high-bit, pow-only, pow-set, ends, bit-below}
 
-or-no : (a : Bool) → a || false ≡ a
-or-no true = refl
-or-no false = refl
-
 abbrev bits : (low high : ℕ) → Bits
 bits l h = record { low = l; high = h }
 
--- Bits and members
+-- A bit stands for a member.
 
 pub bit-low : (low high i : ℕ) → i < 64 → bitIn low high i ≡ eqb (low / 2 ^ i % 2) 1
 bit-low low high i l = rw (lt-ltb i 64 l)
@@ -49,7 +45,7 @@ module _ (b : Bits) (f : ℕ → Bool) (w : Has b f) where
 pub has-same : {b : Bits} {f k : ℕ → Bool} → ((n : ℕ) → 1 ≤ n → n < POSITIONS → f n ≡ k n) → Has b f → Has b k
 has-same e w = record { low = w .low; high = w .high; bits = λ n l m. w .bits n l m ∙ e n l m }
 
--- None
+-- No bit is set where there is no member.
 
 no-bit : (i : ℕ) → bitIn 0 0 i ≡ false
 no-bit i = go (ltb i 64)
@@ -64,7 +60,7 @@ has-none = record { low = omega arith; high = omega arith; bits = λ n l m. no-b
 no-member : (b : Bits) (f : ℕ → Bool) → Has b f → b .low ≡ 0 → b .high ≡ 0 → (n : ℕ) → 1 ≤ n → n < POSITIONS → f n ≡ false
 no-member b f w x y n l m = sym (w .bits n l m) ∙ ap₂ (λ (p q : ℕ). bitIn p q (n - 1)) x y ∙ no-bit (n - 1)
 
--- Two sets together
+-- Two sets go together.
 
 -- An operation that goes bit by bit goes member by member.
 module _ (op : ℕ → ℕ → ℕ) (g : Bool → Bool → Bool) (law : (w x j : ℕ) → eqb (op w x / 2 ^ j % 2) 1 ≡ g (eqb (w / 2 ^ j % 2) 1) (eqb (x / 2 ^ j % 2) 1)) where
@@ -97,16 +93,16 @@ has-without a b f k v w = on-members less (λ (x y : Bool). x && not y) law a b 
     law : (w x j : ℕ) → eqb (less w x / 2 ^ j % 2) 1 ≡ eqb (w / 2 ^ j % 2) 1 && not (eqb (x / 2 ^ j % 2) 1)
     law w x j = and-both w (bitXor w x) j ∙ ap (λ (y : Bool). eqb (w / 2 ^ j % 2) 1 && y) (xor-one w x j) ∙ only (eqb (w / 2 ^ j % 2) 1) (eqb (x / 2 ^ j % 2) 1)
 
--- One more
+-- One member more is put.
 
 more-low : (low high i j : ℕ) → i < 64 → bitIn (bitOr low (2 ^ i)) high j ≡ bitIn low high j || eqb j i
 more-low low high i j l = go (decLt j 64)
   where
     go : Dec (j < 64) → bitIn (bitOr low (2 ^ i)) high j ≡ bitIn low high j || eqb j i
     go (yes h) = bit-low (bitOr low (2 ^ i)) high j h ∙ or-bit low i j ∙ ap (λ (b : Bool). b || eqb j i) (sym (bit-low low high j h))
-    go (no h) = bit-high (bitOr low (2 ^ i)) high j (omega arith) ∙ sym (bit-high low high j (omega arith)) ∙ sym (ap (λ (b : Bool). bitIn low high j || b) (ne-eqb j i (λ e. omega arith)) ∙ or-no (bitIn low high j))
+    go (no h) = bit-high (bitOr low (2 ^ i)) high j (omega arith) ∙ sym (bit-high low high j (omega arith)) ∙ sym (ap (λ (b : Bool). bitIn low high j || b) (ne-eqb j i (λ e. omega arith)) ∙ or-false (bitIn low high j))
 
--- numbers less the same are the same where they were
+-- Numbers less the same are the same where they were.
 less-same : (k j i : ℕ) → k ≤ j → k ≤ i → eqb (j - k) (i - k) ≡ eqb j i
 less-same k j i l m = go (ℕ-discrete j i)
   where
@@ -118,7 +114,7 @@ more-high : (low high i j : ℕ) → 64 ≤ i → bitIn low (bitOr high (2 ^ (i 
 more-high low high i j l = go (decLt j 64)
   where
     go : Dec (j < 64) → bitIn low (bitOr high (2 ^ (i - 64))) j ≡ bitIn low high j || eqb j i
-    go (yes h) = bit-low low (bitOr high (2 ^ (i - 64))) j h ∙ sym (bit-low low high j h) ∙ sym (ap (λ (b : Bool). bitIn low high j || b) (ne-eqb j i (λ e. omega arith)) ∙ or-no (bitIn low high j))
+    go (yes h) = bit-low low (bitOr high (2 ^ (i - 64))) j h ∙ sym (bit-low low high j h) ∙ sym (ap (λ (b : Bool). bitIn low high j || b) (ne-eqb j i (λ e. omega arith)) ∙ or-false (bitIn low high j))
     go (no h) =
         bit-high low (bitOr high (2 ^ (i - 64))) j (omega arith)
         ∙ or-bit high (i - 64) (j - 64)
@@ -140,7 +136,7 @@ module _ (b : Bits) (h : ℕ) (f : ℕ → Bool) (w : Has b f) (l : 1 ≤ h) whe
       rw (shifted-wide k (omega arith), i)
       (with-bit (b .low) (bitOr (b .high) (2 ^ (h - 1 - 64))) (w .low) (or-lt 32 (b .high) (2 ^ (h - 1 - 64)) (w .high) (pow-lt {j = 32} (omega arith))) (λ j. more-high (b .low) (b .high) (h - 1) j (omega arith)))
 
--- The lowest bit
+-- The lowest bit is searched for.
 
 -- The lowest bit of y is not below j, and b has it alone.
 pub record Seeks (y b j : ℕ) : Type 0 where
@@ -165,7 +161,7 @@ seeks-next {y} {b} {j} w n l = record { bit = w .bit; lowest = w .lowest; alone 
     go (yes e) = absurd (n (w .alone ∙ ap (λ (k : ℕ). 2 ^ k) (sym e) ∙ sym (shifted-wide j (omega arith))))
     go (no d) = omega (arith, w .ahead)
 
--- The first
+-- The first member is that of the lowest bit.
 
 module _ (b : Bits) (f : ℕ → Bool) (w : Has b f) (r : ℕ) where
   unset : {x : ℕ} → x ≡ 0 → eqb x 1 ≡ false
@@ -199,7 +195,7 @@ module _ (b : Bits) (f : ℕ → Bool) (w : Has b f) (r : ℕ) where
     pub first-none : b .high ≡ 0 → r ≡ 0 → First f r
     first-none e z = none z (no-member b f w empty e)
 
--- Whether there is none
+-- There may be no member.
 
 pub is-none : (b : Bits) → IsNone b (eqb (bitOr (b .low) (b .high)) 0)
 is-none b =
@@ -217,34 +213,23 @@ is-none b =
     go f w n (yes d) (no y) = let v = ends (b .high) (b .high) (omega arith) (omega arith) in found f (v .bit + 65) (omega arith) (first-high b f w (v .bit) d _ refl (v .lowest))
     go f w n (yes d) (yes y) = absurd (n (ap₂ bitOr d y))
 
--- Those above a member
+-- Those above a member stay where the bits up to it are cut off.
 
 cut-le : (y s : ℕ) → y / 2 ^ s * 2 ^ s ≤ y
-cut-le y s = part (y / 2 ^ s * 2 ^ s) (y % 2 ^ s) y (split y s)
-  where
-    part : (a r n : ℕ) → a + r ≡ n → a ≤ n
-    part a r n e = omega arith
+cut-le y s = omega (arith, split y s)
 
 -- Cut off below and shifted back, a number keeps its bits from there on.
 cut-bit : (y s j : ℕ) → eqb (y / 2 ^ s * 2 ^ s / 2 ^ j % 2) 1 ≡ eqb (y / 2 ^ j % 2) 1 && leb s j
 cut-bit y s j = ap (λ (n : ℕ). eqb (n / 2 ^ j % 2) 1) (sym (add-zero (y / 2 ^ s * 2 ^ s))) ∙ go (decLt j s)
   where
-    and-no : (t : Bool) → t && false ≡ false
-    and-no true = refl
-    and-no false = refl
-
-    and-yes : (t : Bool) → t ≡ t && true
-    and-yes true = refl
-    and-yes false = refl
-
     go : Dec (j < s) → eqb ((y / 2 ^ s * 2 ^ s + 0) / 2 ^ j % 2) 1 ≡ eqb (y / 2 ^ j % 2) 1 && leb s j
-    go (yes l) = ap (λ (n : ℕ). eqb n 1) (low-bit s 0 (y / 2 ^ s) (pow-pos s) j l ∙ ap (λ (n : ℕ). n % 2) (zero-bit j)) ∙ sym (ap (λ (t : Bool). eqb (y / 2 ^ j % 2) 1 && t) (lt-leb s j l) ∙ and-no (eqb (y / 2 ^ j % 2) 1))
+    go (yes l) = ap (λ (n : ℕ). eqb n 1) (low-bit s 0 (y / 2 ^ s) (pow-pos s) j l ∙ ap (λ (n : ℕ). n % 2) (zero-bit j)) ∙ sym (ap (λ (t : Bool). eqb (y / 2 ^ j % 2) 1 && t) (lt-leb s j l) ∙ and-false (eqb (y / 2 ^ j % 2) 1))
     go (no l) =
         let e : s + (j - s) ≡ j = omega arith in
         ap (λ (n : ℕ). eqb ((y / 2 ^ s * 2 ^ s + 0) / 2 ^ n % 2) 1) (sym e)
         ∙ ap (λ (n : ℕ). eqb n 1) (high-bit s 0 (y / 2 ^ s) (pow-pos s) (j - s) ∙ ap (λ (n : ℕ). n % 2) (shr-shr y s (j - s)))
         ∙ ap (λ (n : ℕ). eqb (y / 2 ^ n % 2) 1) e
-        ∙ and-yes (eqb (y / 2 ^ j % 2) 1)
+        ∙ sym (and-true (eqb (y / 2 ^ j % 2) 1))
         ∙ ap (λ (t : Bool). eqb (y / 2 ^ j % 2) 1 && t) (sym (le-leb s j (omega arith)))
 
 cut-exact : (y s w : ℕ) → y < 2 ^ w → s ≤ w → w ≤ 64 → y / 2 ^ s * 2 ^ s % 2 ^ 64 ≡ y / 2 ^ s * 2 ^ s
@@ -267,21 +252,13 @@ module _ (b : Bits) (f : ℕ → Bool) (w : Has b f) (x : ℕ) where
     where
       go : (n : ℕ) → 1 ≤ n → n < POSITIONS → Dec (n ≤ 64) → bitIn (b .low / 2 ^ x * 2 ^ x) (b .high) (n - 1) ≡ f n && ltb x n
       go n l m (yes d) = bit-low _ (b .high) (n - 1) (omega arith) ∙ cut-bit (b .low) x (n - 1) ∙ ap (λ (t : Bool). t && leb x (n - 1)) (has-low b f w n l d) ∙ ap (λ (t : Bool). f n && t) (same-test n x (n - 1) (λ i. omega arith) (λ i. omega arith))
-      go n l m (no d) = let e : n - 1 - 64 ≡ n - 65 = omega arith in bit-high (b .low / 2 ^ x * 2 ^ x) (b .high) (n - 1) (omega arith) ∙ ap (λ (k : ℕ). eqb (b .high / 2 ^ k % 2) 1) e ∙ has-high b f w n (omega arith) (omega arith) ∙ all (f n) ∙ ap (λ (t : Bool). f n && t) (sym (lt-ltb x n (omega arith)))
-        where
-          all : (t : Bool) → t ≡ t && true
-          all true = refl
-          all false = refl
+      go n l m (no d) = let e : n - 1 - 64 ≡ n - 65 = omega arith in bit-high (b .low / 2 ^ x * 2 ^ x) (b .high) (n - 1) (omega arith) ∙ ap (λ (k : ℕ). eqb (b .high / 2 ^ k % 2) 1) e ∙ has-high b f w n (omega arith) (omega arith) ∙ sym (and-true (f n)) ∙ ap (λ (t : Bool). f n && t) (sym (lt-ltb x n (omega arith)))
 
   pub above-high : 64 ≤ x → x ≤ GRPGTCNT → (s : ℕ) → s ≡ x - 64 → Has (bits 0 (b .high / 2 ^ s * 2 ^ s % 2 ^ 64)) (λ (n : ℕ). f n && ltb x n)
   above-high many few s is = rw (cut-exact (b .high) s 32 (w .high) (omega arith) (omega arith)) (record { low = omega arith; high = omega (arith, cut-le (b .high) s, w .high); bits = λ n l m. go n l m (decLe n 64) })
     where
       go : (n : ℕ) → 1 ≤ n → n < POSITIONS → Dec (n ≤ 64) → bitIn 0 (b .high / 2 ^ s * 2 ^ s) (n - 1) ≡ f n && ltb x n
-      go n l m (yes d) = bit-low 0 (b .high / 2 ^ s * 2 ^ s) (n - 1) (omega arith) ∙ ap (λ (k : ℕ). eqb (k % 2) 1) (zero-bit (n - 1)) ∙ none-of (f n) ∙ ap (λ (t : Bool). f n && t) (sym (le-ltb x n (omega arith)))
-        where
-          none-of : (t : Bool) → false ≡ t && false
-          none-of true = refl
-          none-of false = refl
+      go n l m (yes d) = bit-low 0 (b .high / 2 ^ s * 2 ^ s) (n - 1) (omega arith) ∙ ap (λ (k : ℕ). eqb (k % 2) 1) (zero-bit (n - 1)) ∙ sym (and-false (f n)) ∙ ap (λ (t : Bool). f n && t) (sym (le-ltb x n (omega arith)))
       go n l m (no d) =
           let e : n - 1 - 64 ≡ n - 65 = omega arith in
           bit-high 0 (b .high / 2 ^ s * 2 ^ s) (n - 1) (omega arith)
@@ -290,9 +267,9 @@ module _ (b : Bits) (f : ℕ → Bool) (w : Has b f) (x : ℕ) where
           ∙ ap (λ (t : Bool). t && leb s (n - 65)) (has-high b f w n (omega arith) (omega arith))
           ∙ ap (λ (t : Bool). f n && t) (same-test n s (n - 65) (λ i. omega arith) (λ i. omega arith))
 
--- Members one after another
+-- Members stand one after another.
 
--- b has the k members from `from` on.
+-- The bits b have the k members from `from` on.
 abbrev pub Ranged : (b : Bits) (from k : ℕ) → Type 0
 Ranged b from k = Has b (λ (n : ℕ). leb from n && ltb n (from + k))
 
@@ -337,7 +314,7 @@ ranged-past from k out w = has-same (λ n l m. no-other from n k (λ e. out (ome
 pub ranged-as : {b x : Bits} (from k n : ℕ) → x ≡ b → n ≡ k → Ranged b from k → Ranged x from n
 ranged-as from k n e d w = rw (e, d) w
 
--- Three words of 32 members each
+-- Three words have 32 members each.
 
 module _ (a b c : ℕ) (f : ℕ → Bool) (few-a : a < 4294967296) (few-b : b < 4294967296) (few-c : c < 4294967296) (in-a : (k : ℕ) → k < 32 → eqb (a / 2 ^ k % 2) 1 ≡ f (k + 1)) (in-b : (k : ℕ) → k < 32 → eqb (b / 2 ^ k % 2) 1 ≡ f (k + 33)) (in-c : (k : ℕ) → k < 32 → eqb (c / 2 ^ k % 2) 1 ≡ f (k + 65)) where
   side : a + b * 4294967296 ≡ b * 2 ^ 32 + a
