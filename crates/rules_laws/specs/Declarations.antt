@@ -139,7 +139,7 @@ unfolding bares
 bares-length [] = refl
 bares-length (e ∷ es) = ap suc (bares-length es)
 
-listed-length : (k : ℕ) (ls : List AttList) (es : List Element) → length (listed k ls es) ≡ length es
+pub listed-length : (k : ℕ) (ls : List AttList) (es : List Element) → length (listed k ls es) ≡ length es
 unfolding listed
 listed-length k ls [] = refl
 listed-length k ls (e ∷ es) = ap suc (listed-length (k + 1) ls es)

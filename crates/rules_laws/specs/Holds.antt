@@ -56,6 +56,10 @@ module _ {R : (number position : ℕ) → Type 0} where
   either true f g = f refl
   either false f g = g refl
 
+-- What was got is one.
+pub got-one : {A : Type 0} {a b : A} → got a ≡ got b → a ≡ b
+got-one e = cc
+
 -- Two ways to go on that agree where P holds.
 pub on-same : {A B : Type 0} {P : A → Type 0} {f h : A → Reading B} {r : Reading A} → Gives P r → ((a : A) → P a → f a ≡ h a) → andThen r f ≡ andThen r h
 on-same (stops h) e = refl
