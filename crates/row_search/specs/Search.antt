@@ -21,12 +21,12 @@ pub search-none : (f : ℕ → Bool) → search f 0 ≡ 0
 unfolding search
 search-none f = refl
 
-search-hit : (f : ℕ → Bool) (p : ℕ) → 1 ≤ p → f p ≡ true → search f p ≡ p
+pub search-hit : (f : ℕ → Bool) (p : ℕ) → 1 ≤ p → f p ≡ true → search f p ≡ p
 unfolding search
 search-hit f zero l x = absurd (omega arith)
 search-hit f (suc p) l x = rw (x, search)
 
-search-miss : (f : ℕ → Bool) (p : ℕ) → 1 ≤ p → f p ≡ false → search f p ≡ search f (p - 1)
+pub search-miss : (f : ℕ → Bool) (p : ℕ) → 1 ≤ p → f p ≡ false → search f p ≡ search f (p - 1)
 unfolding search
 search-miss f zero l x = absurd (omega arith)
 search-miss f (suc p) l x = let z : suc p - 1 ≡ p = omega arith in rw (z, x, search)
