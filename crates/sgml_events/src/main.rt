@@ -93,6 +93,7 @@ fn print(s: &[u8], s_last: usize, d: &[u8], d_last: usize)
     }
 }
 
+// The program: it reads both files, and prints the events or the refusal.
 fn main() {
     // Each buffer holds one byte more than the reader takes, so that it refuses what is longer.
     let mut s = [0u8; TYPE_LIMIT + 1];
