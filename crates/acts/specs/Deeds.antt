@@ -6,12 +6,11 @@ use mathlib.Core.List.{List, [], _∷_, _++_}
 use native.Mathlib.Omega.{arith}
 use native.Mathlib.Decide.{decLt}
 use lib.Dec.{eqb}
-use borrow.Author.Tests.{eqb-true}
 use Rattle.rules.specs.TypeFile.{Element}
 use Rattle.rules.specs.Decisions.{pcdata, Decisions}
 use Rattle.rules.specs.Events.{Event, dataRun, withData}
-use Rattle.rules.specs.Settling.{State, nothingOpen, note, fitting, takeToken}
-use Rattle.rules.specs.Acts.{Act, starts, empties, infers, data-byte, infers-end, ends, Acts, still, next, dataTaken, Deed, opened, passed, inferred, fitted, inferred-end, closed, Deeds, nothing, then}
+use Rattle.rules.specs.Settling.{State, nothingOpen, fitting, takeToken}
+use Rattle.rules.specs.Acts.{Act, starts, empties, infers, data-byte, infers-end, ends, Acts, still, next, dataTaken, opened, passed, inferred, fitted, inferred-end, closed, Deeds, nothing, then}
 
 -- A data byte behind an event: the run that ends where it stands goes on, or it begins a new one.
 withData-behind : (at : ℕ) (ev : List Event) (e : Event) → withData at (ev ++ e ∷ []) ≡ elim (eqb (e .kind) 5 && eqb (e .offset + e .size) at) [ true ↦ ev ++ dataRun (e .offset) (e .size + 1) ∷ [] | false ↦ (ev ++ e ∷ []) ++ dataRun at 1 ∷ [] ]

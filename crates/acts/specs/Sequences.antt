@@ -6,7 +6,7 @@ use Rattle.rules.specs.TypeFile.{Element}
 use Rattle.rules.specs.Decisions.{Decisions}
 use Rattle.rules.specs.Events.{Event}
 use Rattle.rules.specs.Settling.{Open, State}
-use Rattle.rules.specs.Acts.{Act, Acts, still, next}
+use Rattle.rules.specs.Acts.{Acts, still, next}
 use Rattle.rules_laws.specs.In.{All, more}
 use Rattle.document_laws.specs.Same.{Begun, AllBegun}
 
@@ -19,7 +19,7 @@ ended-begun {es} u us ev e b = let (p, q) = parts (subst (All (Begun es)) e (b .
 
 module _ {s : List ℕ} {es : List Element} {D : Decisions} where
   module _ {P : State → Type 0} where
-    -- Acts, and others after them.
+    -- Acts and others after them are acts.
     pub acts-then : {z y x : State} → Acts s es D P z y → Acts s es D P y x → Acts s es D P z x
     acts-then (still p) b = b
     acts-then (next p a r) b = next p a (acts-then r b)
@@ -32,12 +32,3 @@ module _ {s : List ℕ} {es : List Element} {D : Decisions} where
     pub acts-last : {z y : State} → Acts s es D P z y → P y
     acts-last (still p) = p
     acts-last (next p a r) = acts-last r
-
-    pub acts-so : {Q : State → Type 0} → ((z : State) → P z → Q z) → {z y : State} → Acts s es D P z y → Acts s es D Q z y
-    acts-so f {z} (still p) = still (f z p)
-    acts-so f {z} (next p a r) = next (f z p) a (acts-so f r)
-
-    -- What every act keeps holds of each state besides.
-    pub acts-keep : {Q : State → Type 0} → ((z y : State) → Act s es D z y → Q z → Q y) → {z y : State} → Q z → Acts s es D P z y → Acts s es D (λ (x : State). P x × Q x) z y
-    acts-keep f q (still p) = still (p, q)
-    acts-keep f {z} q (next {y = y} p a r) = next (p, q) a (acts-keep f (f z y a q) r)

@@ -20,6 +20,7 @@ use Rattle.rules_laws.specs.Within.{ContentIn, all-mem, placeAt-in, typeFile-wi
 use Rattle.and_laws.specs.Ambiguous.{ambiguous-pair, pair-ambiguous, unambiguous-equal, first-pair-unique}
 use Rattle.rules_laws.specs.Names.{samePlace-refl, samePlace-sym}
 use Rattle.type_laws.specs.Members.{typeFile-repeated}
+use Rattle.document_laws.specs.Answers.{both}
 
 -- The first model with a pair at fault.
 
@@ -75,7 +76,7 @@ module _ (s : List ℕ) (g : Group) (ps : List Place) where
   model-exactly =
       (ambiguous-pair (samePlace s ps) g (samePlace-sym s ps), λ (p, q, f). pair-ambiguous (samePlace s ps) g (λ i h. samePlace-refl s ps i) p q f)
 
-  -- g is the model of an element e of es, where no model has a pair at fault.
+  -- The group g is the model of an element e of es, where no model has a pair at fault.
   module _ {es : List Element} {e : Element} {n : ℕ} (all : AllUnambiguous s es) (m : List·Memᴰ e es) (c : e .content ≡ model g ps n) where
     no-pair : (p q : ℕ) → PairAtFault (samePlace s ps) g p q → ⊥
     no-pair = rw c at (all-content s all m)
@@ -102,9 +103,6 @@ data Read (l : Lent) (s before : List ℕ) (a : Answer) (after : List ℕ) : Rea
   clash : {es : List Element} → firstRepeated es ≡ 0 → (k p q : ℕ) → FirstAmbiguous s k p q es → a ≡ refusal 9 k p q → after ≡ zeroed before → Read l s before a after (got es)
   tight : {es : List Element} → firstRepeated es ≡ 0 → AllUnambiguous s es → room l before < recordWidth * length es → a ≡ refusal 19 0 0 0 → after ≡ zeroed before → Read l s before a after (got es)
   enough : {es : List Element} → firstRepeated es ≡ 0 → AllUnambiguous s es → recordWidth * length es ≤ room l before → a ≡ acceptance (length es) → after ≡ filledWith (standing l (records es)) before → Read l s before a after (got es)
-
-both : {a b c : Answer} {x y z : List ℕ} → (a ≡ c) × (x ≡ z) → (b ≡ c) × (y ≡ z) → (a ≡ b) × (x ≡ y)
-both (e, f) (g, h) = (e ∙ sym g, f ∙ sym h)
 
 module _ {l : Lent} {s before : List ℕ} where
   read-one : {a b : Answer} {after other : List ℕ} {r : Reading (List Element)} → Read l s before a after r → Read l s before b other r → (a ≡ b) × (after ≡ other)

@@ -8,10 +8,10 @@ use lib.ListN.{length}
 use lib.Dec.{eqb, leb, ltb}
 use borrow.Author.Tests.{eq-eqb, ne-eqb, le-leb, lt-leb, ltb-true, ltb-false, not-true, not-false}
 use Rattle.rules.specs.Bytes.{byteAt, letter, nameEnd, RNI}
-use Rattle.rules.specs.Reading.{Reading, refused, got, andThen}
-use Rattle.rules.specs.Attributes.{Part, bytesIn, quote, literalEnd, DeclaredValue, Default, required, implied, literal, fits}
+use Rattle.rules.specs.Reading.{refused, got, andThen}
+use Rattle.rules.specs.Attributes.{bytesIn, quote, literalEnd, DeclaredValue, required, implied, literal, fits}
 use Rattle.rules.specs.Given.{valueBytes}
-use Rattle.rules.specs.TypeFile.{isWord, isCut, REQUIRED, IMPLIED, unfit, DefaultEnd, defaultWord, defaultLiteral, isGroup, defaultValue}
+use Rattle.rules.specs.TypeFile.{isWord, isCut, REQUIRED, IMPLIED, unfit, defaultWord, defaultLiteral, isGroup, defaultValue}
 use Rattle.text.specs.Words.{test-in}
 use Rattle.attribute_values.specs.Parts.{DeclaredAs, as-cdata, as-number, as-name, as-tokens}
 use Rattle.attribute_defaults.specs.DefaultOf.{defaultIs}

@@ -31,6 +31,7 @@ pub fn fault_of(r: DefaultRead) -> Fault
     }
 }
 
+// The refusal with this number at this position.
 fn refusal(number: u32, at: usize) -> DefaultRead
     ensures { λ r. ⌜ r ≡ answers.Refused (record { number = number; at = at }) ⌝ }
 {

@@ -34,7 +34,7 @@ fn put_one(
     event_buffer::put_attribute(numbers, bytes, n, 8, a, r.default, r.width)
 }
 
-// Those before the start of the element e, of which a tag gives what the marks say.
+// Puts the attribute events before the start of the element e, of which a tag gives what the marks say.
 fn put_all(
     lists: &[u16],
     marks: &[u16; MARKS],
@@ -58,7 +58,7 @@ fn put_all(
     m
 }
 
-// Those before the start of the element e that a tag with these marks brings, none for data; gives how many events there are now. A type without attributes is told at
+// Puts the attribute events before the start of the element e that a tag with these marks brings, none for data, and gives how many events there are now. A type without attributes is told at
 // once.
 pub fn put_written(
     lists: &[u16],
@@ -77,7 +77,7 @@ pub fn put_written(
     put_all(lists, marks, e, n, numbers, bytes)
 }
 
-// Those before the start of the element e that is inferred: all are defaulted.
+// Puts the attribute events before the start of the element e that is inferred: all are defaulted.
 pub fn put_defaults(
     lists: &[u16],
     e: ElementNo,

@@ -7,7 +7,7 @@ use native.Mathlib.Omega.{arith}
 use native.Mathlib.Numerals.{add-one}
 use lib.ListN.{length, take, length-append}
 use lib.Seq.{length-take-le}
-use borrow.Author.Tests.{ne-eqb, lt-ltb, le-ltb}
+use borrow.Author.Tests.{lt-ltb, le-ltb}
 use Rattle.rules.specs.Attributes.{DeclaredValue, cdata, number, name, tokens, Default, required, implied, literal, Attribute, attributeAt}
 use Rattle.rules.specs.TypeFile.{Element}
 use Rattle.rules.specs.Elements.{elementAt}
@@ -17,6 +17,7 @@ use Rattle.attribute_defaults.specs.DefaultOf.{defaultIs}
 use Rattle.list_table.specs.declared.Row.{Row}
 use Rattle.list_table.specs.Lists.{RowOf}
 use Rattle.attribute_records.specs.Recorded.{kindOf, detailOf, rowNumbers}
+use Rattle.attribute_defaults.specs.Ways.{value-is}
 
 -- A kind and what goes with it, by the test that the code makes.
 module _ (m x : ℕ) where
@@ -40,10 +41,6 @@ value-numbers as-number = refl
 value-numbers as-name = refl
 value-numbers (as-tokens at ps h g) = rw (← kind-last 3 at h, ← detail-last 3 at at h)
 
--- A number from 2 on is where a literal's value begins.
-literal-is : (d n : ℕ) → 2 ≤ d → defaultIs d n ≡ literal (record { at = d; size = n })
-literal-is d n h = rw (defaultIs, ne-eqb d 0 (λ e. omega arith), ne-eqb d 1 (λ e. omega arith))
-
 default-numbers : (d n : ℕ) → defaultNumbers (defaultIs d n) ≡ kindOf 2 d ∷ detailOf 2 d d ∷ detailOf 2 d n ∷ []
 default-numbers d n = go (decLt d 2)
   where
@@ -56,15 +53,15 @@ default-numbers d n = go (decLt d 2)
     go (yes h) = low d h
     go (no h) =
         let k : 2 ≤ d = omega arith in
-        rw (literal-is d n k, ← kind-last 2 d k, ← detail-last 2 d d k, ← detail-last 2 d n k)
+        rw (value-is d n k, ← kind-last 2 d k, ← detail-last 2 d d k, ← detail-last 2 d n k)
 
-value-length : (x : DeclaredValue) → length (valueNumbers x) ≡ 2
+pub value-length : (x : DeclaredValue) → length (valueNumbers x) ≡ 2
 value-length cdata = refl
 value-length number = refl
 value-length name = refl
 value-length (tokens at ps) = refl
 
-default-length : (x : Default) → length (defaultNumbers x) ≡ 3
+pub default-length : (x : Default) → length (defaultNumbers x) ≡ 3
 default-length required = refl
 default-length implied = refl
 default-length (literal p) = refl
@@ -130,7 +127,7 @@ take-element [] k h = absurd (omega arith)
 take-element (e ∷ es) zero h = refl
 take-element (e ∷ es) (suc k) h = ap (λ (l : List Element). e ∷ l) (take-element es k (omega arith))
 
--- One element more.
+-- One element more is passed.
 module _ (es : List Element) (k : ℕ) (h : k < length es) where
   pub lists-more : listNumbers 1 (take (k + 1) es) ≡ listNumbers 1 (take k es) ++ attributeNumbers (k + 1) 1 (elementAt es k .attributes)
   unfolding listNumbers

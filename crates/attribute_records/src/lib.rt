@@ -66,7 +66,7 @@ fn note_numbers(buffer: &mut [u32], i: usize, row: &[u32])
     }
 }
 
-// The same as four bytes each, low byte first, from the i-th byte on.
+// The numbers of a record as four bytes each, low byte first, from the i-th byte of a buffer on, if they fit.
 fn note_bytes(buffer: &mut [u8], i: usize, row: &[u32])
     requires { ⌜ (i < 4 * ATTRIBUTE-RECORDS) × (length (now row) ≡ attributeWidth) ⌝ }
     ensures { λ _. ⌜ now (buffer .exit) ≡ written (now (buffer .entry)) i (bytesOf (now (row .entry))) ⌝ }

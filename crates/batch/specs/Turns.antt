@@ -1,6 +1,6 @@
 -- Laws of the loop over the documents of a batch: a write to one stretch leaves the others, and an answer leaves those before it.
 use Prim.Native.Nat.{ℕ, _+_, _-_, _*_, _≤_, _<_}
-use mathlib.Core.Path.{_≡_, refl, sym, ap, subst, _∙_}
+use mathlib.Core.Path.{_≡_, refl, sym, _∙_}
 use mathlib.Core.Bool.{Bool, true, false}
 use mathlib.Core.List.{List, [], _++_}
 use native.Mathlib.Omega.{arith}
@@ -8,7 +8,7 @@ use native.Mathlib.Decide.{ℕ-discrete}
 use lib.ListN.{length, take, drop, getD, length-append, length-drop, List·getD-append, drop-of-length-le}
 use lib.Dec.{leb}
 use borrow.Author.Tests.{leb-true, leb-false}
-use lib.Seq.{length-take-le, getD-append-add, getD-take, getD-drop, drop-drop, ext-getD}
+use lib.Seq.{length-take-le, getD-append-add, getD-take, getD-drop, ext-getD}
 use Rattle.rules.specs.Settings.{Settings}
 use Rattle.rules.specs.Lent.{Lent, filledWith}
 use Rattle.rules.specs.Judge.{Answer}

@@ -6,9 +6,6 @@ use mathlib.Core.Logic.{_⊎_, inl, inr}
 use native.Mathlib.Omega.{arith}
 use Rattle.rules.specs.Settings.{Settings}
 use Rattle.rules.specs.Batch.{RefusesPart}
-use Rattle.rules.specs.Judge.{Accepts}
-use Rattle.rules.specs.TypeFile.{Element}
-use Rattle.rules.specs.Reader.{BothLegible}
 use Rattle.text.specs.declared.Fault.{Fault}
 use Rattle.element_records.specs.declared.Clash.{Clash}
 use Rattle.type_stage.specs.Stages.{Staged, OrderedAs, PartRefused}

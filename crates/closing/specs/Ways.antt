@@ -1,5 +1,5 @@
 -- What `end_tag` and `finish` promise, by each way that their code goes.
-use Prim.Native.Nat.{ℕ, zero, suc, _+_, _-_, _≤_, _<_}
+use Prim.Native.Nat.{ℕ, _+_, _-_, _≤_, _<_}
 use mathlib.Core.Path.{_≡_, refl, ap, sym, _∙_}
 use mathlib.Core.Bool.{Bool, true, false}
 use mathlib.Core.List.{List, [], _∷_, _++_, append-assoc}
@@ -25,6 +25,7 @@ use Rattle.left_out_ends.specs.Until.{Brings, Until}
 use Rattle.left_out_ends.specs.Ends.{inferredFrom, closeOn, close-none, close-ends, endOn, end-ends, element-open, element-shut, close-incomplete, close-complete, document-end, end-incomplete, end-complete}
 use Rattle.left_out_ends.specs.Loop.{stands-complete, stands-numbered, left}
 use Rattle.closing.specs.Closed.{Tagged, Finished}
+use Rattle.basic_laws.specs.Numbers.{none-there}
 
 -- An end tag
 
@@ -134,10 +135,6 @@ module _ {facts : List ℕ} {x at : ℕ} (after : ℕ) {n : ℕ} {o : Open} {num
           })
 
 -- The document's end
-
-none-there : (n : ℕ) → (1 ≤ n → ⊥) → n ≡ 0
-none-there zero h = refl
-none-there (suc n) h = absurd (h (omega arith))
 
 -- These are the events of the document.
 abbrev Are : List Event → List Event → Type 0

@@ -1,6 +1,6 @@
 -- What paper 02, request five, asks of a call for many documents: `BatchKeeps`, and that the rules' answer to a batch keeps it.
 use Prim.Native.Nat.{ℕ, _+_, _*_, _<_, _≤_}
-use mathlib.Core.Path.{_≡_, refl, sym, ap, subst, _∙_}
+use mathlib.Core.Path.{_≡_, sym, ap, _∙_}
 use mathlib.Core.Bool.{true, false, true≢false}
 use mathlib.Core.Logic.{_⊎_, inl, inr, _↔_}
 use mathlib.Core.List.{List}
@@ -9,7 +9,7 @@ use lib.ListN.{length, getD}
 use Rattle.rules.specs.Settings.{Settings, isOffered}
 use Rattle.rules.specs.Bytes.{typeLimit}
 use Rattle.rules.specs.Lent.{Lent, zeroed}
-use Rattle.rules.specs.Judge.{Answer, refusal, acceptance}
+use Rattle.rules.specs.Judge.{Answer, refusal}
 use Rattle.rules.specs.Reader.{documentRefusal, ReadAs}
 use Rattle.rules.specs.Calls.{answerNumbers}
 use Rattle.rules.specs.Batch.{Batch, stretch, Has, Unfit, RefusesPart, PartAs, AllRead, Batched, answerWidth}

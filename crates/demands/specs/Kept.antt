@@ -1,13 +1,13 @@
 -- The demands proved, one theorem each: Demands has them together, to be read first.
 use Prim.Native.Nat.{ℕ, _-_, _*_, _<_, _≤_}
 use mathlib.Core.Path.{_≡_, refl, sym, _∙_, ap}
-use mathlib.Core.Bool.{Bool, true, false, _&&_, _||_}
+use mathlib.Core.Bool.{true, false, _||_}
 use mathlib.Core.Logic.{_↔_, ⊎-elim}
 use mathlib.Core.List.{List, _++_}
 use native.Mathlib.Omega.{arith}
 use lib.ListN.{length}
-use lib.Dec.{eqb, leb}
-use borrow.Author.Tests.{not-true}
+use lib.Dec.{eqb}
+use borrow.Author.Tests.{not-true, le-leb}
 use Rattle.rules.specs.Settings.{Settings, isOffered}
 use Rattle.rules.specs.Bytes.{byteAt, AND}
 use Rattle.rules.specs.Lent.{Lent, room}
@@ -18,10 +18,10 @@ use Rattle.rules.specs.TypeFile.{Place, Element, typeFile}
 use Rattle.rules.specs.Judge.{samePlace, Answer, refusal, firstRepeated, Legible, Refuses, noRoom, Accepts, Judged, refuses, accepts, recordWidth}
 use Rattle.rules.specs.Events.{Event, eventWidth}
 use Rattle.rules.specs.Attributes.{needsTag}
-use Rattle.rules.specs.Elements.{elementAt, contentOf, hasModel, startO}
+use Rattle.rules.specs.Elements.{elementAt}
 use Rattle.rules.specs.Given.{attributesBefore, withAttributes}
 use Rattle.rules.specs.Decisions.{Decisions, Means}
-use Rattle.rules.specs.Settling.{Open, State, elementOf, requiredPlace, inferable}
+use Rattle.rules.specs.Settling.{Open, State, inferable}
 use Rattle.rules.specs.Acts.{Deeds, IsStart, Took}
 use Rattle.rules.specs.Records.{isEnd, recordsSettled}
 use Rattle.rules.specs.Reader.{BothLegible, Reads, RefusesBoth, ReadAs}
@@ -29,7 +29,8 @@ use Rattle.demands.specs.Words.{Refusal, Acceptance, ModelOf, SomeRepeat
 use Rattle.answer_laws.specs.Judge.{settled-one, settled-refuses, settled-accepts, settled-fair, settled-faulty, refuses-named, refuses-some, settled-twenty-four, settled-twenty-five, settled-repeated, settled-nine, settled-nineteen, first-model, model-exactly, not-ambiguous, names-alone, settled-length}
 use Rattle.demands.specs.Models.{pair-in, names-first, some-repeated, repeated-some, unrepeated-none, none-repeated}
 use Rattle.document_laws.specs.OneReading.{same-elements}
-use Rattle.basic_laws.specs.Truth.{and-left, and-right}
+use Rattle.document_laws.specs.Chain.{inferable-may}
+use Rattle.basic_laws.specs.Truth.{and-right}
 use Rattle.type_laws.specs.Members.{typeFile-ampersand}
 use Rattle.record_due.specs.Due.{to-other}
 use Rattle.record_due.specs.Among.{Among, cut-run, stands, among}
@@ -249,18 +250,4 @@ told-among c s es accepted D means d {y} deeds before e (there first last i j) =
 
 -- Paper 02, request one: no start of an element with a required attribute is inferred.
 pub required-never-inferred : (s : List ℕ) (es : List Element) (D : Decisions) (o : Open) → 1 ≤ inferable s es D o → needsTag (elementAt es (inferable s es D o - 1) .attributes) ≡ false
-unfolding inferable
-required-never-inferred s es D o some = go test refl some
-  where
-    p : ℕ
-    p = requiredPlace s es D o
-
-    k : ℕ
-    k = elementOf s es o p
-
-    test : Bool
-    test = leb 1 p && (leb 1 k && (startO es k && hasModel (contentOf es k)))
-
-    go : (b : Bool) → test ≡ b → 1 ≤ elim b [ true ↦ k | false ↦ 0 ] → needsTag (elementAt es (elim b [ true ↦ k | false ↦ 0 ] - 1) .attributes) ≡ false
-    go true e l = not-true _ (and-right (eqb (elementAt es (k - 1) .start) 1) _ (and-left (startO es k) _ (and-right (leb 1 k) _ (and-right (leb 1 p) _ e))))
-    go false e l = absurd (omega arith)
+required-never-inferred s es D o some = not-true _ (and-right (eqb (elementAt es (inferable s es D o - 1) .start) 1) _ (inferable-may s es D o (le-leb 1 (inferable s es D o) some) .start))

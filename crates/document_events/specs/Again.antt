@@ -1,5 +1,5 @@
 -- Where the last place is taken again, as by each further byte of a run of data, the open elements stand for the rules' state as before.
-use Prim.Native.Nat.{ℕ, _≤_}
+use Prim.Native.Nat.{ℕ}
 use mathlib.Core.Path.{_≡_, sym, _∙_, subst}
 use mathlib.Core.Bool.{Bool}
 use mathlib.Core.List.{List}

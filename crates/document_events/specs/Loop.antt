@@ -1,5 +1,5 @@
 -- What the events of a document are, and what the loop over its tokens leaves, in the rules' terms.
-use Prim.Native.Nat.{ℕ, _+_, _*_, _≤_, _<_}
+use Prim.Native.Nat.{ℕ, _*_, _≤_, _<_}
 use mathlib.Core.Path.{_≡_}
 use mathlib.Core.List.{List}
 use lib.ListN.{length}
@@ -10,7 +10,6 @@ use Rattle.rules.specs.Lent.{bytesOf}
 use Rattle.rules.specs.Events.{Event}
 use Rattle.rules.specs.Given.{withAttributes}
 use Rattle.rules.specs.Settling.{State}
-use Rattle.rules.specs.Records.{Line}
 use Rattle.rules.specs.Reader.{document, eventNumbers}
 use Rattle.layout.specs.Sizes.{MOST-EVENTS}
 use Rattle.numbers.specs.Written.{Written}

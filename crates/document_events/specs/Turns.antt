@@ -1,10 +1,10 @@
 -- The loop over a document's tokens: what a turn leaves, and what the document reads as where the loop ends.
-use Prim.Native.Nat.{ℕ, zero, suc, _+_, _-_, _*_, _≤_, _<_}
+use Prim.Native.Nat.{ℕ, zero, suc, _+_, _-_, _≤_, _<_}
 use mathlib.Core.Path.{_≡_, refl, sym, _∙_, ap, subst}
 use mathlib.Core.Bool.{Bool, true}
-use mathlib.Core.List.{List, [], _++_}
+use mathlib.Core.List.{List, _++_}
 use native.Mathlib.Omega.{arith}
-use lib.ListN.{length, length-append}
+use lib.ListN.{length}
 use Rattle.rules.specs.Settings.{Settings}
 use Rattle.rules.specs.Bytes.{byteAt, MDC, TAGLVL, documentLimit, elementLimit}
 use Rattle.rules.specs.Reading.{Reading, refused, got}
@@ -16,7 +16,7 @@ use Rattle.rules.specs.Document as text
 use Rattle.rules.specs.Decisions.{pcdata}
 use Rattle.rules.specs.Events.{Event}
 use Rattle.rules.specs.Given.{withAttributes}
-use Rattle.rules.specs.Settling.{State, fitting, startElement, endElement, endDocument}
+use Rattle.rules.specs.Settling.{State, fitting, endElement, endDocument}
 use Rattle.rules.specs.Settling as rules
 use Rattle.rules.specs.Records.{Line, isFresh, markBehind, recordsSettled}
 use Rattle.rules.specs.Reader.{pieceUnder, document, eventNumbers}
@@ -56,7 +56,7 @@ use Rattle.record_ends.specs.Ignoring.{shown-short, shown-whole, shown-tag}
 use Rattle.token_due.specs.Shown.{ends-are, starts-are, due-token}
 use Rattle.token_due.specs.Freed.{Has, has-behind, freed}
 use Rattle.token_due.specs.EndTags.{due-end-tag}
-use Rattle.settling.specs.Settled.{takes, Gives, Settles}
+use Rattle.settling.specs.Settled.{takes, takes-start, takes-run, Gives, Settles}
 use Rattle.closing.specs.Closed.{Tagged, Finished}
 use Rattle.pieces.specs.declared.Piece.{Piece}
 use Rattle.pieces.specs.declared.Piece.the-variants as found
@@ -83,15 +83,6 @@ module _ (c : Settings) (s : List ℕ) (es : List Element) (d : List ℕ) (at : 
   start-closes inside = got-so (piece-read (c .nameLength) d at inside) start-text .closes
 
 -- What a token comes to
-
-module _ (s : List ℕ) (es : List Element) (at after : ℕ) (z : State) where
-  takes-start : (x : ℕ) → 1 ≤ x → takes s es x at after z ≡ startElement s es (decided s es) x at after z
-  takes-start zero l = absurd (omega arith)
-  takes-start (suc k) l = refl
-
-  takes-run : (x : ℕ) → x ≡ 0 → takes s es x at after z ≡ takeRun s es (decided s es) at (after - at) z
-  takes-run zero l = refl
-  takes-run (suc k) l = absurd (omega arith)
 
 -- The events of a run of data end with it.
 latest-data : (c : Settings) (d : List ℕ) (at after : ℕ) → at < after → (ev : List Event) (x : ℕ) (opens : Bool) (taken : ℕ) → x ≡ 0 → Latest c d after at (ev ++ writtenOf x opens taken at after)

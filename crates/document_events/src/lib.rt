@@ -33,6 +33,7 @@ pub enum Counted {
     Refused(Fault),
 }
 
+// The refusal with this number at this position.
 fn refusal(number: u32, at: usize) -> Counted
     ensures { λ r. ⌜ r ≡ Counted.Refused (record { number = number; at = at }) ⌝ }
 {

@@ -3,7 +3,7 @@
 use Prim.Native.Nat.{ℕ, _*_, _<_, _≤_}
 use mathlib.Core.Path.{_≡_, sym, _∙_, ap, subst}
 use mathlib.Core.Bool.{true, false, true≢false}
-use mathlib.Core.List.{List, []}
+use mathlib.Core.List.{List}
 use native.Mathlib.Omega.{arith}
 use lib.ListN.{length}
 use Rattle.rules.specs.Settings.{Settings, isOffered}
@@ -13,7 +13,8 @@ use Rattle.rules.specs.Reading.{Reading, refused, got}
 use Rattle.rules.specs.TypeFile.{Element, typeFile}
 use Rattle.rules.specs.Judge.{Answer, refusal, acceptance, AllUnambiguous, FirstAmbiguous, firstRepeated, Legible, Accepts}
 use Rattle.rules.specs.Events.{Event, eventWidth}
-use Rattle.rules.specs.Reader.{eventNumbers, documentRefusal, BothLegible, Reads, RefusesBoth, notOffered, typeTooLong, documentTooLong, typeNotAllowed, documentNotAllowed, malformed, repeated, ambiguous, unsettled, noRoom, ReadAs, refuses, accepts}
+use Rattle.rules.specs.Reader.{eventNumbers, documentRefusal, BothLegible, Reads, notOffered, typeTooLong, documentTooLong, typeNotAllowed, documentNotAllowed, malformed, repeated, ambiguous, unsettled, noRoom, ReadAs, refuses, accepts}
+use Rattle.rules_laws.specs.Holds.{got-one}
 use Rattle.document_laws.specs.OneReading.{same-elements, reads-one}
 
 -- What the reader promises of legible inputs.
@@ -25,7 +26,8 @@ data Read (l : Lent) (c : Settings) (s d before : List ℕ) (a : Answer) (after 
   tight : (es : List Element) (ev : List Event) → Reads c s d es (got ev) → room l before < eventWidth * length ev → a ≡ documentRefusal 19 0 → after ≡ zeroed before → Read l c s d before a after
   enough : (es : List Element) (ev : List Event) → Reads c s d es (got ev) → eventWidth * length ev ≤ room l before → a ≡ acceptance (length ev) → after ≡ filledWith (standing l (eventNumbers ev)) before → Read l c s d before a after
 
-both : {a b c : Answer} {x y z : List ℕ} → (a ≡ c) × (x ≡ z) → (b ≡ c) × (y ≡ z) → (a ≡ b) × (x ≡ y)
+-- Two answers that are a third are one.
+pub both : {a b c : Answer} {x y z : List ℕ} → (a ≡ c) × (x ≡ z) → (b ≡ c) × (y ≡ z) → (a ≡ b) × (x ≡ y)
 both (e, f) (g, h) = (e ∙ sym g, f ∙ sym h)
 
 -- What a reading got, or a refusal.
@@ -44,14 +46,6 @@ refusedIn f (got a) = f 0 0
 same-refusal : {A : Type 0} (f : ℕ → ℕ → Answer) (n k m j : ℕ) → _≡_ {A = Reading A} (refused n k) (refused m j) → f n k ≡ f m j
 unfolding refusedIn
 same-refusal f n k m j e = ap (refusedIn f) e
-
-eventsOf : Reading (List Event) → List Event
-eventsOf (refused n k) = []
-eventsOf (got ev) = ev
-
-same-events : (ev fv : List Event) → got ev ≡ got fv → ev ≡ fv
-unfolding eventsOf
-same-events ev fv e = ap eventsOf e
 
 abbrev OneFirst : List ℕ → Type 0
 OneFirst s = (k p q j a b : ℕ) (es : List Element) → FirstAmbiguous s k p q es → FirstAmbiguous s j a b es → (k ≡ j) × (p ≡ a) × (q ≡ b)
@@ -156,7 +150,7 @@ module _ (lent : Lent) (c : Settings) (s d before : List ℕ) (one-first : OneFi
   accepted-bad n k fs e a = not-got (sym e ∙ a .elements)
 
   same-got : (es fs : List Element) (ev fv : List Event) → Reads c s d es (got ev) → Reads c s d fs (got fv) → ev ≡ fv
-  same-got es fs ev fv x y = same-events ev fv (reads-one s d es fs (got ev) (got fv) x y .1)
+  same-got es fs ev fv x y = got-one (reads-one s d es fs (got ev) (got fv) x y .1)
 
   not-both : (es fs : List Element) (n k : ℕ) (ev : List Event) → Reads c s d es (refused n k) → Reads c s d fs (got ev) → ⊥
   not-both es fs n k ev x y = not-got (reads-one s d es fs (refused n k) (got ev) x y .1)

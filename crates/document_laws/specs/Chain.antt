@@ -60,7 +60,7 @@ unfolding without
 without-once m [] o = tt
 without-once m (k ∷ ks) (a, o) = bool-cases (eqb k m) (λ e. rw (e, without) o) (λ e. rw (e, without) (λ x. a (without-member m k ks o x .0), without-once m ks o))
 
--- numbers from 1 to n, none twice, are at most n
+-- Numbers from 1 to n, none of them twice, are at most n.
 few : (n : ℕ) (ks : List ℕ) → Once ks → ((p : ℕ) → List·Memᴰ p ks → (1 ≤ p) × (p ≤ n)) → length ks ≤ n
 few zero [] o r = omega arith
 few zero (k ∷ ks) o r = absurd (omega (arith, r k (List·Memᴰ·head refl)))
@@ -109,10 +109,11 @@ pub inferable-is : (s : List ℕ) (es : List Element) (D : Decisions) (o : Open)
 unfolding inferable chosen
 inferable-is s es D o = refl
 
--- Its place is required, it is one of the elements, and it has a model.
+-- Its place is required, it is one of the elements, its start is "O", and it has a model.
 pub record MayInfer (es : List Element) (p k : ℕ) : Type 0 where
   pub place : 1 ≤ p
   pub declared : k ≤ length es
+  pub start : startO es k ≡ true
   pub model : hasModel (contentOf es k) ≡ true
 
 chosen-may : (s : List ℕ) (es : List Element) (n p : ℕ) → leb 1 (chosen s es n p) ≡ true → MayInfer es p (chosen s es n p)
@@ -133,6 +134,7 @@ chosen-may s es n p h = go test refl h
         record {
           place = leb-true 1 p (and-left (leb 1 p) _ e);
           declared = omega (arith, numberFrom-range s s (x .at) (x .size) 1 es (omega arith));
+          start = and-left (startO es k) _ (and-right (leb 1 k) _ (and-right (leb 1 p) _ e));
           model = and-right (startO es k) _ (and-right (leb 1 k) _ (and-right (leb 1 p) _ e));
         }
     go false e l = absurd (false≢true l)
@@ -140,10 +142,26 @@ chosen-may s es n p h = go test refl h
 pub inferable-may : (s : List ℕ) (es : List Element) (D : Decisions) (o : Open) → leb 1 (inferable s es D o) ≡ true → MayInfer es (requiredPlace s es D o) (inferable s es D o)
 inferable-may s es D o h = rw (inferable-is s es D o) (chosen-may s es (o .number) (requiredPlace s es D o) (rw (inferable-is s es D o) at h))
 
-module _ (s : List ℕ) (es : List Element) (D : Decisions) (t : Token) where
-  abbrev fresh : ℕ → Open
-  fresh k = record { number = k; taken = [] }
+-- The start of an element that is inferred has the name of the place that it takes.
+pub inferable-named : (s : List ℕ) (es : List Element) (D : Decisions) (o : Open) (k : ℕ) → inferable s es D o ≡ k → 1 ≤ k → elementOf s es o (requiredPlace s es D o) ≡ k
+unfolding inferable
+inferable-named s es D o k e l = go (leb 1 p && (leb 1 j && (startO es j && hasModel (contentOf es j)))) refl e
+  where
+    p : ℕ
+    p = requiredPlace s es D o
 
+    j : ℕ
+    j = elementOf s es o p
+
+    go : (b : Bool) → (leb 1 p && (leb 1 j && (startO es j && hasModel (contentOf es j)))) ≡ b → elim b [ true ↦ j | false ↦ 0 ] ≡ k → j ≡ k
+    go true i f = f
+    go false i f = absurd (omega arith)
+
+-- An element in which nothing was taken yet.
+abbrev pub fresh : ℕ → Open
+fresh k = record { number = k; taken = [] }
+
+module _ (s : List ℕ) (es : List Element) (D : Decisions) (t : Token) where
   -- The elements ks follow one another from o, each the one to infer in the one before, and the token fits at the last (at o, if there is none).
   abbrev pub Leads : Open → List ℕ → Type 0
   Leads o [] = leb 1 (fitting s es D o t) ≡ true
@@ -156,7 +174,7 @@ module _ (s : List ℕ) (es : List Element) (D : Decisions) (t : Token) where
       bound : k ≤ length es
       bound = rw e at (inferable-may s es D o (rw e i) .declared)
 
-  -- what follows an element of a chain follows that element anywhere
+  -- What follows an element of a chain follows that element anywhere.
   cut : (o : Open) (k : ℕ) (js : List ℕ) → Leads o js → Once js → List·Memᴰ k js → (ks : List ℕ) × Leads (fresh k) ks × Once (k ∷ ks) × (length ks ≤ length js)
   cut o k [] l a m = absurd (List·Memᴰ·not-nil m)
   cut o k (j ∷ js) (e, i, l) (a, b) m =
@@ -164,7 +182,7 @@ module _ (s : List ℕ) (es : List Element) (D : Decisions) (t : Token) where
       (λ n. let (ks, x, y, z) = cut (fresh j) k js l b n in (ks, x, y, omega arith))
       (List·Memᴰ·cases-cons m)
 
-  -- a chain behind k with no element twice and k not again, no longer
+  -- Behind k there is a chain that is no longer, has no element twice, and does not have k again.
   loop-free : (k : ℕ) (ks : List ℕ) → Leads (fresh k) ks → (js : List ℕ) × Leads (fresh k) js × Once (k ∷ js) × (length js ≤ length ks)
   loop-free k [] l = ([], l, (List·Memᴰ·not-nil, tt), omega arith)
   loop-free k (j ∷ ks) (e, i, l) = go (loop-free j ks l)
@@ -180,7 +198,7 @@ module _ (s : List ℕ) (es : List Element) (D : Decisions) (t : Token) where
   unfolding chain link
   chain-step n o k e = ap (λ k. link k (fitting s es D (fresh k) t) (chain s es D n t (fresh k))) e
 
-  -- a chain of at most n is found among n, the shortest
+  -- Where there is a chain of at most n, one is found among n, and it is no longer.
   chain-finds : (n : ℕ) (o : Open) (k : ℕ) (ks : List ℕ) → Leads o (k ∷ ks) → length ks < n → (js : List ℕ) × (chain s es D n t o ≡ k ∷ js) × (length js ≤ length ks)
   chain-finds zero o k ks l b = absurd (omega arith)
   chain-finds (suc n) o k ks (e, i, l) b = bool-cases (leb 1 (fitting s es D (fresh k) t)) (λ f. ([], chain-step n o k e ∙ link-fits k _ _ i f, omega arith)) (λ f. further ks l b f (λ j js m c. chain-finds n (fresh k) j js m c))

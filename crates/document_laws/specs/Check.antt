@@ -58,7 +58,7 @@ mutual
   all-numbered (one g) lo e = numbered g lo e
   all-numbered (also m g) lo e = (all-numbered m lo (and-left (areNumbered m lo) _ e), numbered g (lo + sizeM m) (and-right (areNumbered m lo) _ e))
 
--- the content is EMPTY, or a model numbered from 1 without a pair at fault
+-- The content is EMPTY, or a model that is numbered from 1 and has no pair at fault.
 unfoldable pub isFair : List ℕ → Content → Bool
 isFair s empty = true
 isFair s (model g ps n) = isNumbered g 1 && eqb (firstPairOf (samePlace s ps) g .0) 0

@@ -1,7 +1,7 @@
 -- Under a type whose models are numbered from 1, have no "&" under "+" and no pair at fault, the walks can be decided: by the last place taken and by the set of
 -- places taken.
 use Prim.Native.Nat.{ℕ, zero, suc, _+_, _-_, _≤_, _<_}
-use mathlib.Core.Path.{_≡_, refl, sym, _∙_, ap, subst}
+use mathlib.Core.Path.{_≡_, refl, sym, _∙_, subst}
 use mathlib.Core.Bool.{Bool, true, false, _&&_}
 use mathlib.Core.Logic.{_↔_}
 use mathlib.Core.List.{List, [], _∷_}
@@ -90,7 +90,7 @@ names-same s es ps t p q x y =
 -- One model
 
 module _ (s : List ℕ) (es : List Element) (g : Group) (ps : List Place) (numbered : Numbered g 1) (guarded : Guarded g) (fair : (p q : ℕ) → PairAtFault (samePlace s ps) g p q → ⊥) (taken : List ℕ) (begun : Begins g taken) where
-  -- a token fits as one place only
+  -- A token fits as one place only.
   fits-once : (t : Token) (p q : ℕ) → Fits s es g ps taken t p → Fits s es g ps taken t q → p ≡ q
   fits-once t p q x y = go (decLt p q) (decLt q p)
     where
@@ -166,7 +166,7 @@ element-fair s [] a d u k = (tt, tt, tt)
 element-fair s (e ∷ es) a d u zero = (a .0, d .0, u .0)
 element-fair s (e ∷ es) a d u (suc k) = element-fair s es (a .1) (d .1) (u .1) k
 
--- the document itself has one place
+-- The document itself has one place.
 document-fair : (same : ℕ → ℕ → Bool) (p q : ℕ) → PairAtFault same (place 1) p q → ⊥
 document-fair same p q (l, e, t, a, b) =
     let x = next-range (place 1) refl refl t p a in

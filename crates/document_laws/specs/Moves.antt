@@ -26,13 +26,12 @@ use Rattle.rules_laws.specs.Holds.{stops, reads, Refuses}
 use Rattle.rules_laws.specs.Holds as holds
 use Rattle.rules_laws.specs.Both.{Both, stop, read, on, either, so, itself}
 use Rattle.document_laws.specs.Chain.{chosen, inferable-is, inferable-may, link-same, Leads, chain-step, chain-leads}
+pub use Rattle.document_laws.specs.Chain.{fresh}
+use Rattle.rules.specs.Acts.{Passes, begins, goes}
 pub use Rattle.rules.specs.Acts.{Few}
 
 abbrev pub state : Open → List Open → List Event → State
 state o around ev = record { current = o; around = around; events = ev }
-
-abbrev pub fresh : ℕ → Open
-fresh k = record { number = k; taken = [] }
 
 -- The place that an element shows which took p in o.
 pub placeTaken-took : (o : Open) (p : ℕ) → placeTaken (record { number = o .number; taken = o .taken ++ p ∷ [] }) ≡ shown (o .number) p
@@ -459,3 +458,35 @@ any-datum at z y q = (ap (withDatum at) (q .0), tt)
 -- A state and itself are fresh alike.
 pub itself-fresh : (P : State → Type 0) (z y : State) → Itself P z y → isFresh (z .current) ≡ isFresh (y .current)
 itself-fresh P z y q = ap (λ (w : State). isFresh (w .current)) (q .0)
+
+-- A document that is read
+
+-- Reading comes behind the last byte, and what the document's end gives there are the events ev.
+pub record AtEnd (c : Settings) (s : List ℕ) (es : List Element) (D : Decisions) (d : List ℕ) (ev : List Event) : Type 0 where
+  pub at : ℕ
+  pub line : Line
+  pub there : State
+  pub passes : Passes c s es D d at line there
+  pub over : length d ≤ at
+  pub gives : endDocument s es D (length d) there ≡ got ev
+
+module _ (c : Settings) (s : List ℕ) (es : List Element) (D : Decisions) (d : List ℕ) where
+  pieces-come : (turns at : ℕ) (l : Line) (z : State) → Passes c s es D d at l z → holds.Gives (AtEnd c s es D d) (piecesWithin c s es D d turns at l z)
+  unfolding piecesWithin
+  pieces-come zero at l z h = stops tt
+  pieces-come (suc turns) at l z h =
+      holds.either (leb (length d) at)
+      (λ e. holds.each (endDocument s es D (length d) z) (λ n k i. tt) (λ ev i. record { at = at; line = l; there = z; passes = h; over = leb-true (length d) at e; gives = i }))
+      (λ e. holds.on (holds.each (pieceUnder c s es d at l (z .current)) (λ n k i. tt) (λ p i. i)) λ p i.
+      holds.on (holds.each (settlePiece s es D d p at z) (λ n k j. tt) (λ r j. j)) λ r j.
+      pieces-come turns (r .at) (lineAfter s es D d p at l z) (r .state) (goes r h (leb-false (length d) at e) i j))
+
+  -- Its events are those, without the bytes 13 that are ignored as the last, and with attribute events before each start.
+  pub record Came (given : List Event) : Type 0 where
+    pub events : List Event
+    pub end : AtEnd c s es D d events
+    pub shown : given ≡ withAttributes (c .nameLength) s es d (recordsSettled c d events)
+
+  pub document-came : (given : List Event) → document c s es D d ≡ got given → Came given
+  unfolding document
+  document-came given e = holds.got-so {P = Came} (holds.on (pieces-come (suc (length d)) 0 newLine nothingOpen begins) (λ ev a. reads (record { events = ev; end = a; shown = refl }))) e

@@ -1,6 +1,6 @@
 -- A piece of a document under a type: it is what stands there, and the attributes of a start tag are those of its element's list.
 use Prim.Native.Nat.{ℕ, _+_, _-_, _≤_, _<_}
-use mathlib.Core.Path.{_≡_, refl, sym, _∙_, ap}
+use mathlib.Core.Path.{_≡_, refl, _∙_}
 use mathlib.Core.Bool.{Bool, true, false, not, _&&_}
 use mathlib.Core.Logic.{_⊎_, inl, inr}
 use mathlib.Core.List.{List, [], _∷_}
@@ -18,7 +18,7 @@ use Rattle.rules.specs.Given.{valuePart, isGivenIn, allListed, allFit, givenFor
 use Rattle.rules.specs.Settling.{Open}
 use Rattle.rules.specs.Records.{Line, isIgnored, recordEnds}
 use Rattle.rules.specs.Reader.{pieceUnder}
-use Rattle.rules_laws.specs.Holds.{Holds, Refuses, stops, reads, known, so, on, either}
+use Rattle.rules_laws.specs.Holds.{Refuses, stops, reads, known, so, on, either}
 use Rattle.rules_laws.specs.In.{All, none, more}
 use Rattle.rules_laws.specs.Pieces.{WrittenIn, PieceRead, piece-read}
 

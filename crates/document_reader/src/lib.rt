@@ -172,7 +172,7 @@ fn answered(c: Settings, s: &[u8], d: &[u8], bytes: &mut [u8]) -> Answer
     }
 }
 
-// The same to numbers, as the small program lends them. It fills all tables.
+// Judges the type and reads the document to numbers, as the small program lends them; a refusal zeroes nothing yet. It fills all tables.
 fn numbered(c: Settings, s: &[u8], d: &[u8], numbers: &mut [u32]) -> Answer
     ensures { λ r. ⌜ Answers (settingsOf c) (now (s .entry)) (now (d .entry)) (now (numbers .entry)) (now (numbers .exit)) [] [] r ⌝ }
 {

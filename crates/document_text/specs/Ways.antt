@@ -109,7 +109,7 @@ module _ (r : TagRead) (end : ℕ) (g : List ℕ) (x : Reading Tag) (m : MeetsTa
   pub meets-refused : {f : Fault} → r ≡ tagRead.Refused f → MeetsPiece end g (token.Refused f) (asStartTag x)
   meets-refused q = ap asStartTag (subst (λ (y : TagRead). MeetsTag end g y x) q m)
 
--- Whether a start tag was read.
+-- A start tag was read.
 abbrev isStart : Reading Piece → Bool
 isStart (refused n k) = false
 isStart (got (startTag t)) = true
@@ -118,7 +118,7 @@ isStart (got (skipped i)) = false
 isStart (got blank) = false
 isStart (got dataByte) = false
 
--- None was.
+-- No start tag was read.
 pub record NoStart (x : Reading Piece) : Type 0 where
   no : isStart x ≡ false
 

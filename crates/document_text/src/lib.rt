@@ -32,6 +32,7 @@ pub enum Token {
     Refused(Fault),
 }
 
+// A start tag that was read, as a token.
 fn start_tag(r: TagRead) -> Token
     ensures { λ t. ⌜ ((end : ℕ) (g : List ℕ) (x : Reading rules.Tag) → MeetsTag end g r x → MeetsPiece end g t (asStartTag x)) ⌝ }
 {
@@ -41,6 +42,7 @@ fn start_tag(r: TagRead) -> Token
     }
 }
 
+// An end tag that was read, as a token.
 fn end_tag(r: TagRead) -> Token
     ensures { λ t. ⌜ pieceOf t ≡ asEndTag (tagOf r) ⌝ }
 {
@@ -108,6 +110,7 @@ fn markup_at(
     Token::Data
 }
 
+// Whether the byte is a tab, a record end or a space.
 fn is_blank(b: u8) -> bool
     ensures { λ r. ⌜ r ≡ (eqb b TAB || (eqb b RE || eqb b SPACE)) ⌝ }
 {

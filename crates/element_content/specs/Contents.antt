@@ -111,7 +111,7 @@ module _ {end : ℕ} {names T table : List ℕ} {m : Model} {t : Tokens} (k : Ke
         );
       }
 
--- The content.
+-- The content is EMPTY or a model.
 module _ (long : ℕ) (s : List ℕ) (from i : ℕ) where
   pub content-model : byteAt s i ≡ GRPO → content long s from i ≡ contentModel long s i
   unfolding content
@@ -146,7 +146,7 @@ module _ (end : ℕ) (names table : List ℕ) where
   pub body-refused : (f : Fault) (x : Reading ContentEnd) → x ≡ refused (f .number) (f .at) → MeetsBody end names table (bodyRead.Refused f) x
   body-refused f x q = rw q (refl, refl)
 
-  -- a wrong word from i to e
+  -- The word from i to e is wrong.
   pub body-wrong : (s : List ℕ) (from i e : ℕ) (f : Fault) (x : Reading ContentEnd) → e ≡ nameEnd s i → f ≡ record { number = 4; at = wrongWord s from i e }
       → x ≡ refused 4 (wrongWord s from i (nameEnd s i)) → MeetsBody end names table (bodyRead.Refused f) x
   body-wrong s from i e f x E F q = body-refused f x (rw (F, E) q)

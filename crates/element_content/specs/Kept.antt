@@ -45,6 +45,11 @@ abbrev pub KeepsContent : (names table : List ℕ) (kind tokens places code and 
 KeepsContent names table kind tokens places code a r empty = (kind ≡ 0) × (tokens ≡ 0)
 KeepsContent names table kind tokens places code a r (model g ps n) = (kind ≡ 1) × (tokens ≡ n) × (n ≤ GRPGTCNT) × KeepsModel names table places code a r g ps
 
+-- A model has at most 96 places.
+pub content-places : (names table : List ℕ) (kind tokens places code a r : ℕ) (c : Content) → KeepsContent names table kind tokens places code a r c → (kind ≡ 0 → ⊥) → places ≤ GRPGTCNT
+content-places names table kind tokens places code a r empty m z = absurd (z (m .0))
+content-places names table kind tokens places code a r (model g ps n) m z = m .3 .places-in
+
 -- What is kept of the content of an input of `end` bytes.
 pub record KeepsBody (end : ℕ) (names table : List ℕ) (b : Body) (c : ContentEnd) : Type 0 where
   pub at : b .at ≡ c .at

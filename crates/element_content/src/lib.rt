@@ -23,6 +23,7 @@ pub struct Body {
     pub repeated: usize,
 }
 
+// What is read of a declaration's content: the content, or the refusal.
 pub enum BodyRead {
     Read(Body),
     Refused(Fault),

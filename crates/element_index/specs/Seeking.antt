@@ -463,9 +463,6 @@ module _ (s : List ℕ) (es : List Element) (index : List ℕ) (k : ℕ) (in-ran
 
 -- The element k is put into the bucket of the name that its record says.
 module _ {c : Settings} (s : List ℕ) (es : List Element) (elements : List ℕ) (k : ℕ) (accepted : Accepts c s es) (recorded : Recorded elements es) (from : 1 ≤ k) (to : k ≤ length es) where
-  few : length es ≤ elementLimit
-  few = typeFile-count (c .nameLength) s es (accepted .elements) .1
-
   pub size-in : (1 ≤ getD elements (recordWidth * (k - 1) + 1) 0) × (getD elements (recordWidth * (k - 1) + 1) 0 ≤ mostNameLength)
   size-in =
       let z = typeFile-sizes (c .nameLength) s es (accepted .elements) (k - 1) (omega arith) in
@@ -481,7 +478,7 @@ module _ {c : Settings} (s : List ℕ) (es : List Element) (elements : List ℕ)
 
   pub filled-more : (index : List ℕ) → Filled s es index k → {after : List ℕ}
       → after ≡ putIn index (bucketOf (byteAt s (getD elements (recordWidth * (k - 1)) 0)) (getD elements (recordWidth * (k - 1) + 1) 0)) k → Filled s es after (k - 1)
-  filled-more index done e = rw (e, bucket-is) (filled-put s es index k bucket-in from to few done)
+  filled-more index done e = rw (e, bucket-is) (filled-put s es index k bucket-in from to (typeFile-count (c .nameLength) s es (accepted .elements) .1) done)
 
 pub filled-all : {c : Settings} (s : List ℕ) (es : List Element) (elements index : List ℕ) (k : ℕ) → Accepts c s es → Recorded elements es → k ≡ 0 → Filled s es index k → Indexed s es elements index
 filled-all {c} s es elements index k accepted recorded e done =

@@ -23,6 +23,7 @@ ghost use Rattle.layout.specs.Sizes.{INDEX, CONTENTS};
 ghost use Rattle.element_reader.specs.Keeps.{Recorded};
 ghost use Rattle.element_index.specs.Indexed.{Judged, bucketOf, follows, Indexed, putIn};
 
+// How many letters there are, as a byte.
 const LETTER: u8 = LETTERS as u8;
 
 // The bucket of a name by its first byte and its length. Letters that fold to one another are in the same.

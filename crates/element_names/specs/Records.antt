@@ -1,7 +1,7 @@
 -- Laws of the table of elements: the records in it, and a name looked for among them.
 use Prim.Native.Nat.{ℕ, zero, suc, _+_, _*_, _≤_, _<_}
 use mathlib.Core.Path.{_≡_, refl, sym, ap, _∙_}
-use mathlib.Core.Bool.{Bool, true, false, _&&_, false≢true}
+use mathlib.Core.Bool.{Bool, true, false, false≢true}
 use mathlib.Core.List.{List, [], _∷_}
 use native.Mathlib.Omega.{arith}
 use native.Mathlib.Nat.{not-suc-le-zero, le-of-suc-le-suc, suc-add}
@@ -12,10 +12,14 @@ use borrow.Author.Tests.{eq-eqb, ne-eqb}
 use Rattle.rules.specs.Bytes.{byteAt, fold, sameText}
 use Rattle.rules.specs.TypeFile.{Content, empty, model, isDeclared}
 use Rattle.rules.specs.TypeFile as rules
-use Rattle.rules.specs.Judge.{records, recordWidth}
+use Rattle.rules.specs.Judge.{records, contentNumbers, recordWidth}
 use Rattle.rules.specs.Elements.{isNamed}
 use Rattle.rules.specs.Lookup.{isAlike, compared}
 use Rattle.element_names.specs.Names.{Recorded, nameAt}
+
+-- The six numbers of an element's record.
+abbrev pub recordOf : rules.Element → List ℕ
+recordOf x = x .at ∷ x .size ∷ x .start ∷ x .end ∷ contentNumbers (x .content)
 
 -- The k-th element of es, and the two numbers that its record begins with.
 pub record RecordAt (numbers : List ℕ) (es : List rules.Element) (k : ℕ) : Type 0 where
@@ -99,7 +103,7 @@ module _ (s : List ℕ) (at size : ℕ) where
   pub seeks-start : (es : List rules.Element) {k n : ℕ} → k ≡ 0 → n ≡ 0 → Seeks s es at size k n
   seeks-start es e q = rw (e, q) (record { answer = refl; count = omega arith })
 
-  -- One element passed.
+  -- One element is passed.
   module _ (e : rules.Element) (es : List rules.Element) where
     here-answer : isNamed s e s at size ≡ true → isDeclared s (e ∷ es) at size ≡ true
     unfolding isDeclared

@@ -34,6 +34,7 @@ pub struct Element {
     pub repeated: usize,
 }
 
+// What is read of a declaration: the element, or the refusal.
 pub enum ElementRead {
     Read(Element),
     Refused(Fault),

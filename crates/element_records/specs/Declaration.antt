@@ -10,7 +10,7 @@ use Rattle.rules.specs.Judge.{firstRepeated, recordWidth}
 use Rattle.rules_laws.specs.Groups.{earlier-none}
 use Rattle.rules.specs.Bytes.{GRPGTCNT, elementLimit, typeLimit}
 use Rattle.text.specs.declared.Fault.{Fault}
-use Rattle.element_content.specs.Kept.{KeepsContent}
+use Rattle.element_content.specs.Kept.{KeepsContent, content-places}
 use Rattle.element_reader.specs.Keeps.{KeepsElement, MeetsElement, elementFault}
 use Rattle.element_reader.specs.declared as declared
 use Rattle.element_reader.specs.declared.ElementRead.{ElementRead}
@@ -50,11 +50,7 @@ module _ (s : List ℕ) (from : ℕ) (names table : List ℕ) (es : List Element
         by-content (model g ps n) m = omega (arith, m .1, m .2)
 
     pub element-places : (e .kind ≡ 0 → ⊥) → e .places ≤ GRPGTCNT
-    element-places z = by-content (k .element .content) (k .content)
-      where
-        by-content : (c : Content) → KeepsContent names table (e .kind) (e .tokens) (e .places) (e .code) (e .and) (e .repeated) c → e .places ≤ GRPGTCNT
-        by-content empty m = absurd (z (m .0))
-        by-content (model g ps n) m = m .3 .places-in
+    element-places z = content-places names table (e .kind) (e .tokens) (e .places) (e .code) (e .and) (e .repeated) (k .element .content) (k .content) z
 
     pub element-step : (before after : List ℕ) (p : Progress) (c : Clash) (first : ℕ) (x : Reading Declared) → x ≡ got d → KeepsProgress s before p es → p .count < elementLimit
         → take (recordWidth * (p .count + 1)) after ≡ take (recordWidth * p .count) before ++ numbersOf e → first ≡ earlier (p .repeated) (e .repeated)

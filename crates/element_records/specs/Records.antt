@@ -16,15 +16,12 @@ use Rattle.element_names.specs.Names.{Recorded}
 use Rattle.element_content.specs.Kept.{KeepsContent}
 use Rattle.element_reader.specs.declared as declared
 use Rattle.element_records.specs.Progress.{numbersOf}
+use Rattle.element_names.specs.Records.{recordOf}
 
 -- One more element.
 
 pub length-more : (es : List Element) (x : Element) → length (es ++ x ∷ []) ≡ length es + 1
 length-more es x = length-append es (x ∷ [])
-
--- The six numbers of an element's record.
-abbrev pub recordOf : Element → List ℕ
-recordOf x = x .at ∷ x .size ∷ x .start ∷ x .end ∷ contentNumbers (x .content)
 
 pub records-more : (es : List Element) (x : Element) → records (es ++ x ∷ []) ≡ records es ++ recordOf x
 unfolding records

@@ -32,6 +32,7 @@ pub struct Progress {
     pub repeated: usize,
 }
 
+// What a declaration comes to: the progress behind it, or the refusal.
 pub enum Step {
     Read(Progress),
     Refused(Fault),

@@ -10,7 +10,7 @@ use Rattle.rules.specs.Events.{Event, eventWidth}
 use Rattle.rules.specs.Reader.{eventNumbers}
 use Rattle.numbers.specs.Written.{written, Written}
 use Rattle.numbers.specs.Stores.{bytesOf-append, bytesOf-length, eventNumbers-length, splice-turn, written-fits, written-keeps, written-more}
-use Rattle.event_buffer.specs.Buffers.{noted, Holds, Puts, PutsOver}
+use Rattle.event_buffer.specs.Buffers.{noted, Puts, PutsOver}
 
 -- Events as numbers.
 pub eventNumbers-append : (ev fv : List Event) → eventNumbers (ev ++ fv) ≡ eventNumbers ev ++ eventNumbers fv

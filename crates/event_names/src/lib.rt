@@ -19,6 +19,7 @@ ghost use Rattle.layout.specs.Sizes.{PROGRAM-EVENTS};
 ghost use Rattle.line_text.specs.Adds.{Adds};
 ghost use Rattle.event_names.specs.Names.{Fits, FitsAttributes, nameIn, startsAt, recordOf, attributeIn, namedAt};
 
+// How many elements a type may have, as a number of an event.
 const ELEMENTS: u32 = layout::ELEMENTS as u32;
 
 // The name of the element with the number x, `-` for 0, and a space after it.

@@ -1,11 +1,10 @@
 -- Whether an "&" stands in a text.
-use Prim.Native.Nat.{ℕ, suc, _+_, _≤_, _<_}
-use mathlib.Core.Path.{_≡_, subst}
+use Prim.Native.Nat.{ℕ, _+_, _<_}
+use mathlib.Core.Path.{_≡_}
 use mathlib.Core.Bool.{Bool, true, false}
 use mathlib.Core.List.{List}
 use native.Mathlib.Omega.{arith}
 use native.Mathlib.Decide.{ℕ-discrete}
-use lib.ListN.{length}
 use Rattle.rules.specs.Bytes.{byteAt, AND}
 
 -- Whether one stands among the first n bytes.
@@ -13,7 +12,7 @@ abbrev pub Tells : List ℕ → ℕ → Bool → Type 0
 Tells s n true = (i : ℕ) × (i < n) × (byteAt s i ≡ AND)
 Tells s n false = (i : ℕ) → i < n → byteAt s i ≡ AND → ⊥
 
--- One byte more.
+-- One byte more is looked at.
 pub tells-here : (s : List ℕ) (n : ℕ) {b : Bool} → byteAt s n ≡ AND → b ≡ true → Tells s (n + 1) b
 tells-here s n e z = rw z (n, omega arith, e)
 

@@ -28,7 +28,7 @@ use Rattle.list_table.specs.Lists.{Lists}
 use Rattle.attribute_events.specs.PutBefore.{PutsDefaults}
 use Rattle.inferring.specs.Inferring.{StartsAt, no-start, one-start, inferOne, inferMany, Infers, InfersOn, Chooses, InfersStart}
 
--- By whatever decisions
+-- These hold by whatever decisions.
 module _ (s : List ℕ) (es : List Element) (D : Decisions) where
   -- The start of k is inferred at the place p.
   abbrev starting : (at p k : ℕ) → State → State
@@ -62,7 +62,7 @@ module _ (s : List ℕ) (es : List Element) (D : Decisions) where
 
 module _ {rows places facts M before : List ℕ} {at n : ℕ} {o : Open} {numbers bytes : List ℕ} {r : Open} {after numbers′ bytes′ : List ℕ}
     (i : InfersStart rows places facts M before at n o numbers bytes r after numbers′ bytes′) (less : o .count < TAGLVL) where
-  -- its event, with the place that it took
+  -- Its event has the place that it took.
   abbrev started : Event
   started = startInferred (i .k) at (shown (o .element .0) (o .required .0))
 
@@ -99,7 +99,7 @@ module _ {rows places facts M before : List ℕ} {at n : ℕ} {o : Open} {number
 
 -- Many starts
 
--- k of the starts are inferred, and what is left to infer comes to the same as all of them from the first state. What is put are their events, with the
+-- The first k of the starts are inferred, and what is left to infer comes to the same as all of them from the first state. What is put are their events, with the
 -- attribute events before each: at most ATTCNT + 1 for a start.
 pub record Along (rows places facts M lists : List ℕ) (at m₀ starts k : ℕ) (o₀ : Open) (begun₀ numbers₀ bytes₀ : List ℕ) (m : ℕ) (o : Open) (begun numbers bytes : List ℕ) : Type 0 where
   pub most : k ≤ starts
@@ -145,7 +145,7 @@ module _ (rows places facts M lists : List ℕ) (at m₀ starts : ℕ) where
       left : starts - k ≡ suc (starts - (k + 1))
       left = omega arith
 
-      -- what is left to infer before the turn
+      -- This is left to infer before the turn.
       here : (s : List ℕ) (es : List Element) → Tables s es rows places facts M → (z : State) → Stands es M begun₀ o₀ z → (t : Token) → Infers s es (decided s es) t starts (z .current)
           → InfersOn s es M begun t at (suc (starts - (k + 1))) o (h .events) starts z
       here s es tables z stands t infers = rw left at (h .along s es tables z stands t infers)

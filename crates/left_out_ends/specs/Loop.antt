@@ -23,7 +23,7 @@ use Rattle.open_elements.specs.declared.Open.{Open}
 use Rattle.open_elements.specs.declared.Outcome.{Outcome}
 use Rattle.open_elements.specs.Stands.{none, ended, Ranged, Kept, AllKept, Stands}
 use Rattle.open_elements.specs.Becomes.{StandsWith, becomes-refused, becomes-got}
-use Rattle.open_elements.specs.Methods.{stands-element, stands-around, stands-alone, ranged-ended}
+use Rattle.open_elements.specs.Methods.{stands-declared, stands-around, stands-alone, ranged-ended}
 use Rattle.left_out_ends.specs.Until.{inferEnds, dueOf, Judges, Brings, Until}
 use Rattle.left_out_ends.specs.Ends.{inferredFrom, Numbered, left-incomplete, left-required, left-out, ends-here, ends-none, ends-past}
 
@@ -32,10 +32,6 @@ use Rattle.left_out_ends.specs.Ends.{inferredFrom, Numbered, left-incomp
 module _ {es : List Element} {M begun : List ℕ} {o : Open} {z : State} (h : Stands es M begun o z) where
   pub stands-complete : (s : List ℕ) → isComplete s es (decided s es) (z .current) ≡ o .complete
   stands-complete s = ap (λ (k : ℕ). isCompleteIn (contentOf es k) (z .current .taken)) (h .current .entered .number) ∙ sym (h .current .complete)
-
-  -- The current element is declared, where something is around it.
-  declared : 1 ≤ o .count → Declares es (start (o .element .0))
-  declared l = (stands-element h l, h .current .entered .declared)
 
 -- Each element that is around another has a number.
 kept-numbered : {es : List Element} {M begun : List ℕ} (a : List Entry) (n : ℕ) (x : Entry) (o : rules.Open) (os : List rules.Open) → Kept es M begun n x o → AllKept es M begun a n os → Numbered o os
@@ -63,7 +59,7 @@ module _ (facts : List ℕ) (o : Open) where
 
   module _ {d : Bool} (e : o .complete ≡ true) (m : SaysOmitted facts (o .element .0) d) where
     omitted : (s : List ℕ) (es : List Element) (raised : ℕ → Bool) → Facts s es raised facts → {M begun : List ℕ} {z : State} → Stands es M begun o z → 1 ≤ o .count → endO es (z .current .number) ≡ d
-    omitted s es raised f h l = ap (endO es) (h .current .entered .number) ∙ sym (m s es raised f (declared h l))
+    omitted s es raised f h l = ap (endO es) (h .current .entered .number) ∙ sym (m s es raised f (stands-declared h l))
 
     pub judges-required : d ≡ false → Judges facts o 14
     judges-required g =

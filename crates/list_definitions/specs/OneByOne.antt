@@ -10,7 +10,7 @@ use borrow.Author.Tests.{eq-eqb, ne-eqb}
 use Rattle.rules.specs.Bytes.{byteAt, letter, ATTCNT, GRPCNT, MDC}
 use Rattle.rules.specs.Reading.{Reading, got, andThen}
 use Rattle.rules.specs.Attributes.{Attribute}
-use Rattle.rules.specs.TypeFile.{gap, unfit, tokensOf, Definition, definition, ListEnd, definitions, listFrom}
+use Rattle.rules.specs.TypeFile.{gap, unfit, tokensOf, Definition, definition, definitions, listFrom}
 use Rattle.text.specs.declared.Fault.{Fault}
 use Rattle.text.specs.Refusal.{refusalOf}
 use Rattle.text.specs.Words.{test-in}

@@ -1,8 +1,8 @@
 -- The scan of a literal: a byte that does not end it is passed, and each way in which it ends is what the rules say.
 use Prim.Native.Nat.{ℕ, suc, _+_, _≤_, _<_}
 use mathlib.Core.Path.{_≡_, refl}
-use mathlib.Core.Bool.{true, false, _&&_}
-use mathlib.Core.List.{List, _∷_}
+use mathlib.Core.Bool.{_&&_}
+use mathlib.Core.List.{List}
 use native.Mathlib.Nat.{suc-add}
 use lib.ListN.{length, drop}
 use lib.Dec.{eqb}
@@ -10,7 +10,7 @@ use borrow.Author.Tests.{eq-eqb, ne-eqb, lt-ltb, le-ltb}
 use Rattle.rules.specs.Bytes.{byteAt, AND}
 use Rattle.rules.specs.Reading.{refused, got}
 use Rattle.rules.specs.Attributes.{isReference, endsLiteral, inLiteral, literalEnd}
-use Rattle.text.specs.Words.{Before, before-turn, before-stop, before-all}
+use Rattle.text.specs.Words.{Before}
 
 pub in-literal : (q : ℕ) → Before (inLiteral q) (endsLiteral q)
 unfolding inLiteral

@@ -3,12 +3,12 @@ use text::Fault;
 use text::Reached;
 ghost use mathlib.Core.Path.{_≡_};
 ghost use mathlib.Core.Bool.{true};
-ghost use Prim.Native.Nat.{_≤_, _<_};
+ghost use Prim.Native.Nat.{_<_};
 ghost use lib.ListN.{length};
-ghost use Rattle.rules.specs.Bytes.{byteAt};
 ghost use Rattle.rules.specs.Attributes.{quote, literalEnd};
 ghost use Rattle.text.specs.Refusal.{reached};
 
+// Whether the byte is one of the two quotes.
 pub fn is_quote(b: u8) -> bool
     ensures { λ r. ⌜ r ≡ quote b ⌝ }
 {

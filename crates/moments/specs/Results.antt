@@ -1,5 +1,5 @@
 -- What the functions of the program give is what the acts of the rules give: by their contracts as they stand.
-use Prim.Native.Nat.{ℕ, zero, suc, _-_, _≤_}
+use Prim.Native.Nat.{ℕ, _-_, _≤_}
 use mathlib.Core.Path.{_≡_, refl, sym, _∙_, ap, subst}
 use mathlib.Core.Bool.{true}
 use mathlib.Core.List.{List, [], _++_}
@@ -19,7 +19,6 @@ use Rattle.rules_laws.specs.Holds.{got-so}
 use Rattle.document_laws.specs.Decide.{decided}
 use Rattle.document_laws.specs.OneReading.{accepted-decided}
 use Rattle.document_laws.specs.Moves.{withDatum}
-use Rattle.turn_laws.specs.RunAtOnce.{takeRun}
 use Rattle.turn_laws.specs.Steps.{takeData-got}
 use Rattle.turn_laws.specs.Run.{run-taken}
 use Rattle.turn_laws.specs.Turns.{Reaches}
@@ -30,7 +29,7 @@ use Rattle.open_elements.specs.Stands.{fresh, Ranged, Stands}
 use Rattle.open_elements.specs.Becomes.{StandsWith, was-got}
 use Rattle.open_elements.specs.Methods.{stands-noted}
 use Rattle.placing.specs.Noting.{writtenOf}
-use Rattle.settling.specs.Settled.{takes, Settles}
+use Rattle.settling.specs.Settled.{takes, Settles, takes-start, takes-run}
 use Rattle.settling.specs.Steps.{Steps, steps-settle}
 use Rattle.closing.specs.Closed.{Tagged}
 use Rattle.acts.specs.Readings.{startElement-acts, takeData-acts, endElement-acts, passes-acts, document-acts}
@@ -38,7 +37,7 @@ use Rattle.moments.specs.Moment.{Moment, Beside, Leads}
 use Rattle.moments.specs.Beside.{moment, moment-first, acts-beside, acts-begun}
 use Rattle.moments.specs.Alike.{stands-alike}
 
--- By whatever decisions mean the walks
+-- These hold by whatever decisions mean the walks.
 module _ {s : List ℕ} {es : List Element} {rows places facts M : List ℕ} (tables : Tables s es rows places facts M) (D : Decisions) (means : Means s es D) (bits d : List ℕ) where
   -- Wherever reading comes, acts lead to, from nothing open on, and the program's open elements stand beside at every moment.
   pub passes-beside : {c : Settings} {at : ℕ} {l : Line} {z : State} → Passes c s es D d at l z → Beside s es D rows M nothingOpen fresh bits z
@@ -80,26 +79,18 @@ module _ {s : List ℕ} {es : List Element} {rows places facts M : List ℕ} (ta
     settles-leads : 1 ≤ x → x ≤ length es → r .number ≡ 0 → (z : State) → Moment es M bits z o → (y : State) × (startElement s es D x at after z ≡ got y) × Leads s es D rows M z o bits y (r .open) bits′
     settles-leads some most done z m =
         let (y, e, came) = settled most done z m in
-        let i : startElement s es D x at after z ≡ got y = sym (starts x some) ∙ e in
+        let i : startElement s es D x at after z ≡ got y = sym (takes-start s es at after z x some) ∙ e in
         (y, i, leads m (got-so (startElement-acts s es D x at after z (some, most) (omega (arith, m .many, m .ranged .few))) i) (h .ranged) (came .0))
-      where
-        starts : (k : ℕ) → 1 ≤ k → takes s es k at after z ≡ startElement s es D k at after z
-        starts zero l = absurd (omega arith)
-        starts (suc k) l = refl
 
     -- A run of data: the ends and the starts that its first byte infers, then that byte. The further bytes of the run take the same place again, which
     -- leaves the program's open elements as they are.
     data-leads : x ≡ 0 → r .number ≡ 0 → (z : State) → Moment es M bits z o → (y : State) × (takeData s es D at z ≡ got y) × Leads s es D rows M z o bits y (r .open) bits′
     data-leads nothing done z m =
         let (w, e, came) = settled (omega arith) done z m in
-        let (y, settles, few, left) = run-taken s es D at (after - at) z w (sym (runs x nothing) ∙ e) in
+        let (y, settles, few, left) = run-taken s es D at (after - at) z w (sym (takes-run s es at after z x nothing) ∙ e) in
         let i = takeData-got s es D at z y settles few in
         let stands = stands-noted (subst (Stands es M bits′ (r .open)) (sym left) (came .0)) (withData at (y .events)) in
         (withDatum at y, i, leads m (got-so (takeData-acts s es D at z (omega (arith, m .many, m .ranged .few))) i) (h .ranged) stands)
-      where
-        runs : (k : ℕ) → k ≡ 0 → takes s es k at after z ≡ takeRun s es D at (after - at) z
-        runs zero l = refl
-        runs (suc k) l = absurd (omega arith)
 
   -- The same by the steps of the token in order, as the program takes them.
   module _ {lists marks : List ℕ} {x at after n : ℕ} {o : Open} {bits numbers bytes : List ℕ} {q : Open} {bits′ numbers′ bytes′ : List ℕ} (h : Steps rows places facts M lists marks x at after n o bits numbers bytes q bits′ numbers′ bytes′) where

@@ -42,7 +42,8 @@ use Rattle.inferring.specs.Starts.{chain-infers}
 use Rattle.left_out_ends.specs.Until.{inferEnds, Until}
 use Rattle.left_out_ends.specs.Ends.{inferredFrom}
 use Rattle.closing.specs.Closed.{Finished}
-use Rattle.acts.specs.Readings.{Comes, leftOut, noted-acts, endDocument-acts}
+use Rattle.acts.specs.Settled.{all-ended, all-started, Comes, leftOut}
+use Rattle.acts.specs.Readings.{noted-acts, endDocument-acts}
 use Rattle.acts.specs.Sequences.{acts-then, acts-last}
 use Rattle.moments.specs.Moment.{Moment, Beside, Leads}
 use Rattle.moments.specs.Beside.{can-take, moment-took, moment-act, acts-beside}
@@ -176,8 +177,8 @@ module _ {s : List ℕ} {es : List Element} {rows places facts M : List ℕ} (ta
       let none : suc k ≡ 0 → b ≡ false = (λ e. absurd (omega arith)) in
       let (y, e, came) = noted (suc k) h most fine z m right new b none (λ i. refl) opened in
       let same = place-fits (suc k) h most fine z m right new in
-      let comes : Comes s es (D s es) (start (suc k)) z (takePlace (h .p) z) =
-      record { here = z; acts = λ n l j. act.still l; fits = fits-some (suc k) h most fine z m right new; taken = ap (λ (q : ℕ). takePlace q z) same } in (
+      let comes : Comes s es (D s es) (start (suc k)) at z (takePlace (h .p) z) =
+      record { between = z; ended = all-ended; here = z; started = all-started; fits = fits-some (suc k) h most fine z m right new; taken = ap (λ (q : ℕ). takePlace q z) same } in (
         y,
         ap (λ (q : ℕ). noting es (suc k) at after (takePlace q z)) (sym same) ∙ e,
         leads tables m (got-so (noted-acts s es (D s es) (suc k) at after z (takePlace (h .p) z) (some, most) (moment-small m) comes) e) (opened-ranged h fine b none opened (omega (arith, most, tables .few))) (came .0),

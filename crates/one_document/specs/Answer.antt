@@ -73,7 +73,7 @@ Answers c s d numbers numbersAfter bytes bytesAfter (answer.InType f) = RefusesA
 Answers c s d numbers numbersAfter bytes bytesAfter (answer.Ambiguous x) = RefusesAlways c s d (answerOf (answer.Ambiguous x))
 Answers c s d numbers numbersAfter bytes bytesAfter (answer.InDocument f) = RefusesAlways c s d (answerOf (answer.InDocument f))
 
--- n events, or number 19 where they do not fit: "19 only where nothing else is wrong".
+-- There are n events, or it is number 19 where they do not fit: "19 only where nothing else is wrong".
 abbrev pub unlessFull : (full : Bool) (n : ℕ) → Answer
 unlessFull true n = answer.InDocument (record { number = 19; at = 0 })
 unlessFull false n = answer.Accepted n

@@ -12,7 +12,6 @@ use Rattle.rules.specs.Settings.{Settings}
 use Rattle.rules.specs.Lent.{Lent, bytesOf, standing, room, zeroed}
 use Rattle.rules.specs.TypeFile.{Element}
 use Rattle.rules.specs.Judge.{acceptance, Accepts}
-use Rattle.rules.specs.Judge as rules
 use Rattle.rules.specs.Events.{Event, eventWidth}
 use Rattle.rules.specs.Reader.{eventNumbers, BothLegible, RefusesBoth, ReadAs}
 use Rattle.numbers.specs.Written.{Written}
@@ -129,7 +128,7 @@ fitted-other (answer.Ambiguous x) room other = refl
 fitted-other (answer.InDocument f) room other = refl
 
 module _ (c : Settings) (s d numbers numbersAfter bytes bytesAfter : List ℕ) (room : ℕ) where
-  -- n events are counted, and fit.
+  -- There are n events, as counted, and they fit.
   abbrev Fitting : ℕ → Type 0
   Fitting n = Counts c s d numbers numbersAfter bytes bytesAfter n × (n ≤ room)
 

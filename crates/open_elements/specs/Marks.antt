@@ -1,7 +1,7 @@
 -- What the kept marks say of the places taken, over walks: "Keep "complete" instead of asking again .. At every moment both must equal what
 -- 01's definition says of the places taken." (paper 02, request four)
-use Prim.Native.Nat.{ℕ, zero, suc, _≤_}
-use mathlib.Core.Path.{_≡_, refl, sym, _∙_, subst}
+use Prim.Native.Nat.{ℕ, zero, suc}
+use mathlib.Core.Path.{_≡_, sym, _∙_, subst}
 use mathlib.Core.List.{List, [], _∷_}
 use native.Mathlib.Omega.{arith}
 use lib.ListN.{getD}
@@ -23,6 +23,7 @@ use Rattle.open_elements.specs.declared.Entry.{Entry}
 use Rattle.open_elements.specs.declared.Open.{Open}
 use Rattle.open_elements.specs.Stands as kept
 use Rattle.open_elements.specs.Stands.{covered, Kept, AllKept, Stands}
+use Rattle.basic_laws.specs.Numbers.{none-there}
 
 -- The entry is that of the rules' open element o, and its marks say so. An EMPTY element has no model, and none is ever entered.
 pub record Say (es : List Element) (x : Entry) (o : rules.Open) : Type 0 where
@@ -62,13 +63,9 @@ module _ {c : Settings} (s : List ℕ) (es : List Element) (accepted : Accepts c
               λ t p r.
                   let q : p ≡ 0 = sym (means .required .only p r) ∙ sym is-required ∙ t in
                   omega (arith, next-range g numbered guarded (o .taken) p (r .next)),
-              λ none. is-required ∙ zero-if (decided s es .required (o .number) (o .taken)) (λ l. none _ (means .required .some l)),
+              λ none. is-required ∙ none-there (decided s es .required (o .number) (o .taken)) (λ l. none _ (means .required .some l)),
             );
           }
-        where
-          zero-if : (n : ℕ) → (1 ≤ n → ⊥) → n ≡ 0
-          zero-if zero h = refl
-          zero-if (suc n) h = absurd (h (omega arith))
 
   all-say : (M begun : List ℕ) (a : List Entry) (n : ℕ) (os : List rules.Open) → AllKept es M begun a n os → AllSay es a n os
   all-say M begun a zero [] h = tt

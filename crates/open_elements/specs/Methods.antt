@@ -22,12 +22,13 @@ use Rattle.document_laws.specs.Decide.{isCompleteIn, requiredFor, decided}
 use Rattle.document_laws.specs.Moves.{state}
 use Rattle.document_laws.specs.Moves as moves
 use Rattle.and_groups.specs.Takes.{Elsewhere}
-use Rattle.type_tables.specs.Tables.{completeAt, requiredAt, Tables}
+use Rattle.type_tables.specs.Tables.{completeAt, requiredAt, Declares, Tables}
 use Rattle.type_tables.specs.Ranges.{required-small}
 use Rattle.type_tables.specs.Marks.{entered-elsewhere, entered-fresh, fresh-complete, fresh-required}
 use Rattle.open_elements.specs.declared.Entry.{Entry}
 use Rattle.open_elements.specs.declared.Open.{Open}
 use Rattle.open_elements.specs.Stands.{none, fresh, covered, opening, parentOf, ended, aroundOf, bare, Within, Ranged, Kept, AllKept, Stands, Marking, Taking}
+use Rattle.rules.specs.Decisions.{start}
 
 -- What was read of the rows makes the state that `opening` gives.
 pub opening-by : (rows : List ℕ) (k : ElementNo) (o : Open) {x : Entry} {c : Bool} {q : Place} → x ≡ covered o → c ≡ completeAt rows (k .0) 0 → q .0 ≡ requiredAt rows (k .0) 0
@@ -141,15 +142,16 @@ module _ {es : List Element} {M begun : List ℕ} {o : Open} {z : State} (h : St
   stands-deep = all-length es M begun (o .around) (o .count) (z .around) (h .around)
 
   -- The marks of the current one, as the rules ask for them.
-  pub stands-complete : (s : List ℕ) → o .complete ≡ rules.isComplete s es (decided s es) (z .current)
-  stands-complete s = rw (h .current .entered .number) (h .current .complete)
-
   pub stands-required : (s : List ℕ) → o .required .0 ≡ rules.requiredPlace s es (decided s es) (z .current)
   stands-required s = rw (h .current .entered .number) (h .current .required)
 
   -- Where one is open, the current one is an element, and not the document itself.
   pub stands-element : 1 ≤ o .count → 1 ≤ o .element .0
   stands-element l = h .current .inner l
+
+  -- It is one of the type.
+  pub stands-declared : 1 ≤ o .count → Declares es (start (o .element .0))
+  stands-declared l = (stands-element l, h .current .entered .declared)
 
   pub stands-ended : (u : rules.Open) (os : List rules.Open) → z .around ≡ u ∷ os → (ev : List Event) → Stands es M begun (ended o) (state u os ev)
   stands-ended u os e ev =

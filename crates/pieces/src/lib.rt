@@ -53,6 +53,7 @@ pub enum Piece {
     Refused(Fault),
 }
 
+// The tag at `at` is of an undeclared name, number 10.
 fn undeclared(at: usize) -> Piece
     ensures { λ r. ⌜ r ≡ Piece.Refused (record { number = 10; at = at }) ⌝ }
 {

@@ -1,5 +1,5 @@
 -- What the events before an event did leaves one state: it is computed from these events alone.
-use Prim.Native.Nat.{ℕ, zero, suc}
+use Prim.Native.Nat.{ℕ}
 use mathlib.Core.Path.{_≡_, refl, sym, _∙_, ap}
 use mathlib.Core.Bool.{true, false}
 use mathlib.Core.List.{List, [], _∷_, _++_, append-assoc}
@@ -10,6 +10,7 @@ use Rattle.rules.specs.Decisions.{start, Decisions}
 use Rattle.rules.specs.Events.{Event, startWritten, startInferred, endWritten, endInferred, dataRun, endOfEmpty}
 use Rattle.rules.specs.Settling.{Open, State, nothingOpen, takePlace, placeTaken, enter, note, requiredPlace, takeToken}
 use Rattle.rules.specs.Acts.{dataTaken, Deed, opened, passed, inferred, fitted, inferred-end, closed, Deeds, nothing, then}
+use Rattle.place_laws.specs.Taken.{data-keeps}
 
 module _ (s : List ℕ) (es : List Element) (D : Decisions) where
   -- The current element is closed in what lies around it.
@@ -42,10 +43,6 @@ module _ (s : List ℕ) (es : List Element) (D : Decisions) where
   leftBy-behind [] fv z = refl
   leftBy-behind (x ∷ ev) fv z = leftBy-behind ev fv (left x z)
 
-  data-keeps : (n : ℕ) (z : State) → dataTaken s es D n z .events ≡ z .events
-  data-keeps zero z = refl
-  data-keeps (suc n) z = data-keeps n z
-
   -- A deed adds one event or two, which lead where the deed does.
   deed-left : {z y : State} → Deed s es D z y → (ev : List Event) × (y .events ≡ z .events ++ ev) × (y ≡ leftBy ev z)
   deed-left {z} (opened k at after d f m) = (startWritten k at after (placeTaken (takeToken s es D (start k) z .current)) ∷ [], refl, rw m)
@@ -53,7 +50,7 @@ module _ (s : List ℕ) (es : List Element) (D : Decisions) where
       let x = startWritten k at after (placeTaken (takeToken s es D (start k) z .current)) in
       (x ∷ endOfEmpty k after ∷ [], append-assoc (z .events) (x ∷ []) (endOfEmpty k after ∷ []), rw m)
   deed-left {z} (inferred k at e l) = (startInferred k at (placeTaken (takePlace (requiredPlace s es D (z .current)) z .current)) ∷ [], refl, refl)
-  deed-left {z} (fitted at size l f) = (dataRun at size ∷ [], ap (λ (ev : List Event). ev ++ dataRun at size ∷ []) (data-keeps size z), refl)
+  deed-left {z} (fitted at size l f) = (dataRun at size ∷ [], ap (λ (ev : List Event). ev ++ dataRun at size ∷ []) (data-keeps s es D size z), refl)
   deed-left {z} (inferred-end u us at e c o) = (endInferred (z .current .number) at ∷ [], refl, rw e)
   deed-left {z} (closed u us at after e c) = (endWritten (z .current .number) at after ∷ [], refl, rw e)
 

@@ -1,28 +1,28 @@
 -- Each start took the one place that the walks allow for its name, by demand 3.
 use Prim.Native.Nat.{ℕ, zero, suc, _+_, _-_, _≤_, _<_}
 use mathlib.Core.Path.{_≡_, refl, sym, _∙_, ap, ap₂, subst}
-use mathlib.Core.Bool.{Bool, true, false, _&&_, false≢true}
+use mathlib.Core.Bool.{true, false, false≢true}
 use mathlib.Core.Logic.{_⊎_, inl, inr, ⊎-elim}
 use mathlib.Core.List.{List, [], _∷_, _++_, List·Memᴰ, List·Memᴰ·head, List·Memᴰ·tail}
 use native.Mathlib.Omega.{arith}
 use lib.ListN.{length, length-append}
 use lib.Dec.{eqb, leb}
-use borrow.Author.Tests.{leb-true, le-leb, eq-eqb, ne-eqb}
+use borrow.Author.Tests.{le-leb, eq-eqb, ne-eqb}
 use Rattle.rules.specs.Settings.{Settings}
-use Rattle.rules.specs.Walk.{Group, Begins, lastOr0}
+use Rattle.rules.specs.Walk.{Group, lastOr0}
 use Rattle.rules.specs.Ambiguity.{SpellSame, none, next}
-use Rattle.rules.specs.TypeFile.{Place, Content, empty, model, Element}
+use Rattle.rules.specs.TypeFile.{Place, model, Element}
 use Rattle.rules.specs.Judge.{samePlace, placeAt, Accepts}
-use Rattle.rules.specs.Elements.{elementAt, isNamed, numberOf, contentOf, placesIn, hasModel, startO}
+use Rattle.rules.specs.Elements.{elementAt, isNamed, numberOf, contentOf, placesIn, hasModel}
 use Rattle.rules.specs.Decisions.{Token, start, pcdata, Fits, Decisions, Means}
 use Rattle.rules.specs.Events.{Event, dataRun}
-use Rattle.rules.specs.Settling.{Open, State, nothingOpen, takePlace, shown, placeTaken, enter, note, elementOf, fitting, requiredPlace, inferable, takeToken}
+use Rattle.rules.specs.Settling.{Open, State, takePlace, shown, placeTaken, enter, fitting, requiredPlace, inferable, takeToken}
 use Rattle.rules.specs.Acts.{Declared, dataTaken, Deed, opened, passed, inferred, fitted, inferred-end, closed, Deeds, nothing, then, IsStart, Took, document-element, in-model}
 use Rattle.text.specs.Words.{sameText-refl}
 use Rattle.rules_laws.specs.Names.{samePlace-refl}
-use Rattle.basic_laws.specs.Truth.{and-left, and-right}
 use Rattle.and_laws.specs.Begun.{lastOr0-snoc, next-range}
 use Rattle.rules_laws.specs.Groups.{GuardedIn}
+use Rattle.document_laws.specs.Chain.{inferable-named}
 use Rattle.document_laws.specs.Decide.{names-same, content-guarded}
 use Rattle.document_laws.specs.Numbers.{typeFile-guarded}
 use Rattle.document_laws.specs.Chain.{inferable-may}
@@ -45,20 +45,10 @@ spell-same : (s : List ℕ) (ps : List Place) (taken : List ℕ) (p q : ℕ) →
 spell-same s ps [] p q e = next e none
 spell-same s ps (u ∷ taken) p q e = next (samePlace-refl s ps u) (spell-same s ps taken p q e)
 
--- The start of an element that is inferred has the name of the place that it takes.
-inferable-named : (s : List ℕ) (es : List Element) (D : Decisions) (o : Open) (k : ℕ) → inferable s es D o ≡ k → 1 ≤ k → elementOf s es o (requiredPlace s es D o) ≡ k
-unfolding inferable
-inferable-named s es D o k e l = go (leb 1 p && (leb 1 j && (startO es j && hasModel (contentOf es j)))) refl e
-  where
-    p : ℕ
-    p = requiredPlace s es D o
-
-    j : ℕ
-    j = elementOf s es o p
-
-    go : (b : Bool) → (leb 1 p && (leb 1 j && (startO es j && hasModel (contentOf es j)))) ≡ b → elim b [ true ↦ j | false ↦ 0 ] ≡ k → j ≡ k
-    go true i f = f
-    go false i f = absurd (omega arith)
+-- Data that takes its place adds no event yet.
+pub data-keeps : (s : List ℕ) (es : List Element) (D : Decisions) (n : ℕ) (z : State) → dataTaken s es D n z .events ≡ z .events
+data-keeps s es D zero z = refl
+data-keeps s es D (suc n) z = data-keeps s es D n z
 
 module _ {c : Settings} (s : List ℕ) (es : List Element) (accepted : Accepts c s es) where
   -- Demand 3: of two places that a start fits as next after the same places, both are one.
@@ -106,10 +96,6 @@ module _ {c : Settings} (s : List ℕ) (es : List Element) (accepted : Accepts c
 
   -- Each deed keeps that the places taken begin walks, adds one event, and a start took its place.
   module _ (D : Decisions) (means : Means s es D) where
-    data-same : (n : ℕ) (z : State) → dataTaken s es D n z .events ≡ z .events
-    data-same zero z = refl
-    data-same (suc n) z = data-same n z
-
     data-begun : (n : ℕ) (z : State) → AllBegun es z → ((k : ℕ) → k < n → 1 ≤ fitting s es D (dataTaken s es D k z .current) pcdata) → AllBegun es (dataTaken s es D n z)
     data-begun zero z b f = b
     data-begun (suc n) z b f = begun-moves s es D D means means .taking (refl, data-begun n z b (λ k h. f k (omega arith))) _ (fits pcdata (f n (omega arith))) .1
@@ -169,7 +155,7 @@ module _ {c : Settings} (s : List ℕ) (es : List Element) (accepted : Accepts c
     deed-adds {z} b (opened k at after d f m) = one _ refl (λ i. fits-took z b k d f _ refl refl) (λ n. absurd (n (inl refl)))
     deed-adds {z} b (passed k at after d f m l) = both _ _ refl refl (fits-took z b k d f _ refl refl) (omega arith) refl
     deed-adds {z} b (inferred k at e l) = one _ refl (λ i. required-took z b k e l _ refl refl) (λ n. absurd (n (inr refl)))
-    deed-adds {z} b (fitted at size l f) = one (dataRun at size) (ap (λ (ev : List Event). ev ++ dataRun at size ∷ []) (data-same size z)) (no-start 5 (omega arith)) (λ n. refl)
+    deed-adds {z} b (fitted at size l f) = one (dataRun at size) (ap (λ (ev : List Event). ev ++ dataRun at size ∷ []) (data-keeps s es D size z)) (no-start 5 (omega arith)) (λ n. refl)
     deed-adds b (inferred-end u us at e c o) = one _ refl (no-start 4 (omega arith)) (λ n. refl)
     deed-adds b (closed u us at after e c) = one _ refl (no-start 3 (omega arith)) (λ n. refl)
 
@@ -181,10 +167,7 @@ parted (y ∷ ev) x [] e after i = inr (ev, let j : y ≡ e = cc in ap (λ (z : 
 parted (y ∷ ev) x (b ∷ before) e after i =
     let j : y ≡ b = cc in
     let k : ev ++ x ∷ [] ≡ before ++ e ∷ after = cc in
-    ⊎-elim (λ h. inl (longer j (h .0), h .1)) (λ h. inr (h .0, longer j (h .1))) (parted ev x before e after k)
-  where
-    longer : {a b : Event} {l m : List Event} → a ≡ b → l ≡ m → a ∷ l ≡ b ∷ m
-    longer i j = ap₂ _∷_ i j
+    ⊎-elim (λ h. inl (ap₂ _∷_ j (h .0), h .1)) (λ h. inr (h .0, ap₂ _∷_ j (h .1))) (parted ev x before e after k)
 
 module _ {c : Settings} (s : List ℕ) (es : List Element) (accepted : Accepts c s es) (D : Decisions) (means : Means s es D) where
   -- Where the event e comes behind those before it, a start took its place in the state that they lead to, and another carries 0.

@@ -27,6 +27,8 @@ use Rattle.event_buffer.specs.EventByEvent.{puts-none, puts-then}
 use Rattle.ways.specs.declared.Way.{Way}
 use Rattle.ways.specs.Asks.{tokenOf, tokenOf-number, tokenOf-declared, placeOf}
 use Rattle.placing.specs.Noting.{noting, Opens, writtenOf, shownOf, Writes, entering, Notes, Placed, openedBy, Follows, Places}
+use Rattle.basic_laws.specs.Truth.{not-both}
+use Rattle.record_due.specs.Lists.{no-run, run-whole}
 
 -- The limit of 24
 
@@ -74,15 +76,6 @@ module _ (es : List Element) (y : State) where
 
 -- What is shown of the token
 
-module _ (at : ℕ) where
-  due-none : (n : ℕ) → n ≡ 0 → dueRun at n ≡ []
-  due-none zero l = refl
-  due-none (suc n) l = absurd (omega arith)
-
-  pub due-some : (n : ℕ) → 1 ≤ n → dueRun at n ≡ dataRun at n ∷ []
-  due-some zero l = absurd (omega arith)
-  due-some (suc n) l = refl
-
 module _ (at after p : ℕ) where
   started : (x : ℕ) → (x ≡ 0 → ⊥) → shownOf x true p at after ≡ startWritten x at after p ∷ []
   started zero i = absurd (i refl)
@@ -99,12 +92,12 @@ unopened facts = (λ e. refl, λ s es raised facts d. absurd (omega (arith, d .0
 module _ {facts numbers bytes : List ℕ} {x at n : ℕ} (after p : ℕ) where
   pub writes-run : x ≡ 0 → at < after → {r : ℕ} {numbers′ bytes′ : List ℕ} → r ≡ n + 1 → Puts numbers bytes n (noted 5 x at (after - at) 0 ∷ []) numbers′ bytes′ → Writes facts x p at after n numbers bytes r numbers′ bytes′
   writes-run z l e puts =
-      let some : dueRun at (after - at) ≡ dataRun at (after - at) ∷ [] = due-some at (after - at) (omega arith) in
+      let some : dueRun at (after - at) ≡ dataRun at (after - at) ∷ [] = run-whole at (after - at) (omega arith) in
       rw z record { b = false; opens = unopened facts; counted = rw some e; puts = rw some (rw z at puts) }
 
   pub writes-nothing : x ≡ 0 → at ≡ after → Writes facts x p at after n numbers bytes n numbers bytes
   writes-nothing z l =
-      let none : dueRun at (after - at) ≡ [] = due-none at (after - at) (omega arith) in
+      let none : dueRun at (after - at) ≡ [] = no-run at (after - at) (omega arith) in
       rw z record { b = false; opens = unopened facts; counted = rw none (omega arith); puts = rw none (puts-none numbers bytes n) }
 
   -- Of an element: its start, and its end unless it opens.
@@ -123,9 +116,6 @@ shown-few : (x : ℕ) (b : Bool) (p at shown : ℕ) → length (shownOf x b p at
 shown-few zero b p at shown = due-few at (shown - at)
 shown-few (suc k) true p at shown = omega arith
 shown-few (suc k) false p at shown = omega arith
-
-clash : {b : Bool} → b ≡ true → b ≡ false → ⊥
-clash e i = let z : _≡_ {A = ℕ} 0 1 = cc in omega arith
 
 -- The place of the token x in the element e is p, by what was found.
 pub record Asked (rows places facts : List ℕ) (found : Way) (x e p : ℕ) : Type 0 where
@@ -174,7 +164,7 @@ module _ {rows places facts : List ℕ} (M begun : List ℕ) {found : Way} {x at
   module _ (some : p ≡ 0 → ⊥) {full : Bool} (fills : (x ≡ 0 → full ≡ false) × ((x ≡ 0 → ⊥) → full ≡ leb TAGLVL (o .count))) where
     pub placed-full : full ≡ true → Placed rows places facts M begun found x at to n o numbers bytes (record { «open» = o; events = n; number = 15 }) begun numbers bytes
     placed-full e =
-        let element : x ≡ 0 → ⊥ = (λ z. clash e (fills .0 z)) in
+        let element : x ≡ 0 → ⊥ = (λ z. not-both (fills .0 z) e) in
         record {
           ranged = h;
           small = omega arith;
@@ -251,7 +241,7 @@ module _ {rows places facts M begun : List ℕ} {found : Way} {x at to n : ℕ} 
     opened-ranged small = rw i (by-flag b none)
       where
         by-flag : (b : Bool) → (x ≡ 0 → b ≡ false) → Ranged (openedBy rows x b (r .open))
-        by-flag true none = ranged-opening rows x (h .ranged) (h .room fine (λ z. clash refl (none z))) small
+        by-flag true none = ranged-opening rows x (h .ranged) (h .room fine (λ z. not-both (none z) refl)) small
         by-flag false none = h .ranged
 
     -- By the tables of a type the element has a model, or the token is another: the open elements stand for what the rules make of it.
@@ -268,7 +258,7 @@ module _ {rows places facts M begun : List ℕ} {found : Way} {x at to n : ℕ} 
 
           by-flag : (b : Bool) → (x ≡ 0 → b ≡ false) → ((x ≡ 0 → ⊥) → hasModel (contentOf es x) ≡ b) → Stands es M begun′ (openedBy rows x b (r .open)) (entering es x y)
           by-flag true none model =
-              let element : x ≡ 0 → ⊥ = (λ z. clash refl (none z)) in
+              let element : x ≡ 0 → ⊥ = (λ z. not-both (none z) refl) in
               rw (entering-model es y x element (model element)) (stands-opening there tables x (h .room fine element) (omega (arith, element)) most)
           by-flag false none model = rw (entering-none es y x model) there
 

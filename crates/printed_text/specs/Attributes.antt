@@ -8,7 +8,7 @@ use lib.ListN.{length, drop, getD, length-append}
 use lib.Seq.{drop-at, getD-drop, drop-drop}
 use lib.Dec.{eqb, ltb}
 use borrow.Author.Tests.{eq-eqb, ne-eqb, lt-ltb, le-ltb}
-use Rattle.rules.specs.Attributes.{DeclaredValue, cdata, number, name, tokens, Default, required, implied, literal, Attribute, attributeAt}
+use Rattle.rules.specs.Attributes.{number, Attribute, attributeAt}
 use Rattle.rules.specs.TypeFile.{Element}
 use Rattle.rules.specs.Elements.{elementAt}
 use Rattle.rules.specs.Listing.{valueNumbers, defaultNumbers, attributeNumbers, attributeWidth, listNumbers, attributeCount}
@@ -17,6 +17,7 @@ use Rattle.rules_laws.specs.Within.{All, none, more}
 use Rattle.rules.specs.Settings.{leastNameLength}
 use Rattle.type_laws.specs.Attributes.{AttributeIn, AttributesIn}
 use Rattle.event_names.specs.Names.{FitsAttributes, recordWithin, attributeIn}
+use Rattle.attribute_records.specs.Numbers.{value-length, default-length}
 
 -- A record: the attribute with this number in the list of the element with that number.
 record Listed : Type 0 where
@@ -33,24 +34,13 @@ allOf : (k : ℕ) → List Element → List Listed
 allOf k [] = []
 allOf k (e ∷ es) = listOf k 1 (e .attributes) ++ allOf (k + 1) es
 
--- Their numbers.
+-- These are their numbers.
 nine : Listed → List ℕ
 nine r = r .element ∷ r .number ∷ r .attribute .at ∷ r .attribute .size ∷ (valueNumbers (r .attribute .value) ++ defaultNumbers (r .attribute .default))
 
 numbersOf : List Listed → List ℕ
 numbersOf [] = []
 numbersOf (r ∷ rs) = nine r ++ numbersOf rs
-
-value-length : (x : DeclaredValue) → length (valueNumbers x) ≡ 2
-value-length cdata = refl
-value-length number = refl
-value-length name = refl
-value-length (tokens at ps) = refl
-
-default-length : (x : Default) → length (defaultNumbers x) ≡ 3
-default-length required = refl
-default-length implied = refl
-default-length (literal p) = refl
 
 nine-length : (r : Listed) → length (nine r) ≡ attributeWidth
 unfolding nine

@@ -5,7 +5,7 @@ use mathlib.Core.Bool.{Bool, true, false, _||_}
 use mathlib.Core.List.{List, [], _∷_, _++_}
 use native.Mathlib.Omega.{arith}
 use native.Mathlib.Decide.{decLt}
-use lib.ListN.{length, drop, getD, replicate, length-replicate, getD-replicate, List·getD-eq-default}
+use lib.ListN.{length, drop, getD, replicate, length-replicate}
 use lib.Dec.{eqb}
 use lib.Seq.{take-at, getD-append-add, getD-drop, drop-drop}
 use Rattle.rules.specs.Settings.{Settings, leastNameLength}
@@ -25,13 +25,7 @@ use Rattle.rules.specs.Printed.{programSettings, nameText, startsNext, attribut
 use Rattle.layout.specs.Sizes.{RECORDS}
 use Rattle.event_names.specs.Names.{Fits, nameIn, startsWithin, attributeIn, namedAt}
 use Rattle.event_lines.specs.TextOf.{lineAt, linesFrom, textOf}
-
-zero-at : (n i : ℕ) → _≡_ {A = ℕ} (getD (replicate n 0) i 0) 0
-zero-at n i = by-place (decLt i n)
-  where
-    by-place : Dec (i < n) → _≡_ {A = ℕ} (getD (replicate n 0) i 0) 0
-    by-place (yes h) = getD-replicate n i 0 0 h
-    by-place (no h) = List·getD-eq-default (replicate n 0) 0 {n = i} (omega (arith, length-replicate {A = ℕ} n 0))
+use Rattle.basic_laws.specs.Numbers.{replicate-at}
 
 -- What was judged under the settings that the program gives.
 pub judged-given : {c : Settings} {s before : List ℕ} {a : Answer} {after : List ℕ} → c ≡ programSettings → Judged numbers c s before a after → Judged numbers programSettings s before a after
@@ -58,7 +52,7 @@ module _ (s : List ℕ) (es : List Element) (accepted : Accepts programSettings 
   behind : (j : ℕ) → recordWidth * length es ≤ j → getD elements j 0 ≡ 0
   behind j h =
       let z : j ≡ length (records es) + (j - recordWidth * length es) = omega (arith, records-length es) in
-      rw (elements-are, z, getD-append-add, getD-drop, lent, zero-at)
+      rw (elements-are, z, getD-append-add, getD-drop, lent, replicate-at)
 
   at-is : (k : ℕ) → getD elements (recordWidth * k) 0 ≡ elementAt es k .at
   at-is k = by-place (decLt k (length es))

@@ -2,9 +2,8 @@
 use Prim.Native.Nat.{ℕ, zero, suc, _+_, _-_}
 use mathlib.Core.Path.{_≡_, refl, sym, _∙_, ap, ap₂, subst}
 use mathlib.Core.Bool.{Bool, true, false, _&&_}
-use mathlib.Core.List.{List, [], _∷_, _++_, head-eq-of-cons-eq, tail-eq-of-cons-eq}
+use mathlib.Core.List.{List, [], _∷_, _++_, head-eq-of-cons-eq, tail-eq-of-cons-eq, append-nil}
 use native.Mathlib.Omega.{arith}
-use lib.ListN.{length}
 use lib.Dec.{eqb}
 use Rattle.rules.specs.Settings.{Settings, isSecond}
 use Rattle.rules.specs.Bytes.{byteAt, RE}
@@ -46,7 +45,7 @@ module _ (d : List ℕ) where
       go true = left-cut x
       go false = same
 
-  -- In edition 2.
+  -- These hold in edition 2.
   data Found (ev first : List Event) (e : Event) : Type 0 where
     found-run : e .kind ≡ 5 → e .place ≡ 0 → Found ev first e
     found : (a b : List Event) → ev ≡ a ++ e ∷ b → before d e b a ≡ first → Found ev first e
@@ -55,11 +54,7 @@ module _ (d : List ℕ) where
   before-more : (x g e : Event) (ev a b : List Event) → g ∷ ev ≡ a ++ e ∷ b → before d e b (x ∷ a) ≡ beside d e b x g ++ before d e b a
   before-more x g e ev [] b i =
       let z : g ≡ e = head-eq-of-cons-eq i in
-      one-before d e b x ∙ ap (λ (f : Event). beside d e b x f) (sym z) ∙ sym (nil-behind (beside d e b x g)) ∙ ap (λ (v : List Event). beside d e b x g ++ v) (sym (none-before d e b))
-    where
-      nil-behind : (v : List Event) → v ++ [] ≡ v
-      nil-behind [] = refl
-      nil-behind (f ∷ v) = ap (λ (w : List Event). f ∷ w) (nil-behind v)
+      one-before d e b x ∙ ap (λ (f : Event). beside d e b x f) (sym z) ∙ sym (append-nil (beside d e b x g)) ∙ ap (λ (v : List Event). beside d e b x g ++ v) (sym (none-before d e b))
   before-more x g e ev (h ∷ a) b i =
       let z : g ≡ h = head-eq-of-cons-eq i in
       more-before d e b x h a ∙ ap (λ (f : Event). beside d e b x f ++ before d e b (h ∷ a)) (sym z)

@@ -1,5 +1,5 @@
 -- The events that are due: those of `recordsSettled`, where an end comes next. What an event more does to both is one law each, by the event.
-use Prim.Native.Nat.{ℕ, zero, suc, _+_, _-_}
+use Prim.Native.Nat.{ℕ, _+_, _-_}
 use mathlib.Core.Path.{_≡_, refl, sym, _∙_, ap}
 use mathlib.Core.Bool.{Bool, true, false, _&&_, false≢true}
 use mathlib.Core.List.{List, [], _∷_, _++_, append-assoc}
@@ -19,7 +19,7 @@ dueNow d (e ∷ f ∷ ev) = elim (isEnd f) [ true ↦ cut d e | false ↦ e ∷ 
 unfoldable pub due : Settings → (d : List ℕ) → List Event → List Event
 due c d ev = elim (isSecond c) [ true ↦ dueNow d ev | false ↦ ev ]
 
--- The last event then.
+-- This is what stands of the last event then.
 unfoldable pub shown : Settings → (d : List ℕ) → Event → List Event
 shown c d e = elim (isSecond c) [ true ↦ cut d e | false ↦ e ∷ [] ]
 

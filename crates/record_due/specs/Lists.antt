@@ -1,18 +1,17 @@
 -- Several events more: ends, which show what is due, and events that are neither ends nor data, before which it is settled; and a run of data.
-use Prim.Native.Nat.{ℕ, zero, suc, _+_, _-_}
-use mathlib.Core.Path.{_≡_, refl, sym, _∙_, ap, ap₂, subst}
-use mathlib.Core.Bool.{Bool, true, false, _&&_, _||_, false≢true}
+use Prim.Native.Nat.{ℕ, zero, suc, _+_, _-_, _≤_}
+use mathlib.Core.Path.{_≡_, refl, sym, _∙_, ap, ap₂}
+use mathlib.Core.Bool.{Bool, true, false, _||_}
 use mathlib.Core.List.{List, [], _∷_, _++_, append-assoc, append-nil}
 use lib.Dec.{eqb}
 use borrow.Author.Tests.{eqb-true, ne-eqb}
 use native.Mathlib.Omega.{arith}
-use Rattle.rules.specs.Settings.{Settings, isSecond}
-use Rattle.rules.specs.Bytes.{byteAt, RE}
+use Rattle.rules.specs.Settings.{Settings}
 use Rattle.rules.specs.Events.{Event, dataRun}
 use Rattle.rules.specs.Records.{isEnd, dueRun, recordsSettled}
 use Rattle.rules_laws.specs.In.{All, none, more}
 use Rattle.rules_laws.specs.BeforeStarts.{Plain, plain-none, plain-data}
-use Rattle.record_due.specs.Due.{due, shown, settledTo, due-none, due-one, settled-none, settled-one, settled-append, due-append, to-end, to-other, shown-other, shown-run, shown-held}
+use Rattle.record_due.specs.Due.{due, shown, settledTo, due-one, settled-one, settled-append, due-append, to-end, to-other, shown-other}
 
 -- All of these are ends; none of these is an end or data.
 abbrev pub Ends : List Event → Type 0
@@ -76,6 +75,15 @@ module _ (c : Settings) (d : List ℕ) where
 
   pub due-run : (a : List Event) (at n : ℕ) → due c d (a ++ dataRun at n ∷ []) ≡ recordsSettled c d a ++ shown c d (dataRun at n)
   due-run a at n = due-other a (dataRun at n) refl
+
+-- A run of nothing is no event, any other one.
+pub no-run : (at n : ℕ) → n ≡ 0 → dueRun at n ≡ []
+no-run at zero e = refl
+no-run at (suc n) e = absurd (omega arith)
+
+pub run-whole : (at n : ℕ) → 1 ≤ n → dueRun at n ≡ dataRun at n ∷ []
+run-whole at zero h = absurd (omega arith)
+run-whole at (suc n) h = refl
 
 -- Attribute events come before no run that is due.
 pub plain-run : (at n : ℕ) → Plain (dueRun at n)

@@ -23,7 +23,7 @@ isHeld e d since = eqb e secondEdition && (ltb 0 since && eqb (byteAt d (since -
 abbrev pub shownEnd : (edition : ℕ) → (d : List ℕ) → (after : ℕ) → ℕ
 shownEnd e d after = elim (isHeld e d after) [ true ↦ after - 1 | false ↦ after ]
 
--- u is the place taken last in the open element o, 0 for none, and none is taken where neither a tag nor data came.
+-- The place u is the one taken last in the open element o, 0 for none, and none is taken where neither a tag nor data came.
 pub record Since (since u : ℕ) (o : Open) : Type 0 where
   pub fresh : isFresh o ≡ eqb u 0
   pub begun : since ≡ 0 → isFresh o ≡ true

@@ -9,7 +9,7 @@ use borrow.Author.Tests.{eqb-true, eqb-false, eq-eqb, ne-eqb, lt-ltb, le-ltb}
 use Rattle.rules.specs.Settings.{settings}
 use Rattle.rules.specs.Bytes.{byteAt, RS, RE, MDC}
 use Rattle.rules.specs.Settling.{Open}
-use Rattle.rules.specs.Records.{Line, isFresh, atOnce, isIgnored, markBehind}
+use Rattle.rules.specs.Records.{atOnce, isIgnored, markBehind}
 use Rattle.record_ends.specs.Held.{lineOf, isHeld, shownEnd, Since}
 
 -- Held

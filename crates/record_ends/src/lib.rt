@@ -12,8 +12,10 @@ ghost use Rattle.rules.specs.Settling as rules;
 ghost use Rattle.rules.specs.Records.{isIgnored, markBehind};
 ghost use Rattle.record_ends.specs.Held.{lineOf, isHeld, shownEnd, Since, PutsWhole, Frees};
 
+// The record end, byte 13.
 const RE: u8 = b'\r';
 
+// The record start, byte 10.
 const RS: u8 = b'\n';
 
 // Whether the byte at `at`, which would be data, is a byte 13 that is ignored by what came before it. u is the last place taken in the current element.

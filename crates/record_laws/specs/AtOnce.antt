@@ -3,7 +3,7 @@
 use Prim.Native.Nat.{ℕ, _+_, _-_, _≤_, _<_}
 use native.Mathlib.Omega.{arith}
 use mathlib.Core.Path.{_≡_, refl, sym, _∙_, ap, subst}
-use mathlib.Core.Bool.{Bool, true, false, not, _&&_, _||_}
+use mathlib.Core.Bool.{true, false, not, _&&_, _||_, and-false, or-true}
 use mathlib.Core.Logic.{_↔_, _⊎_, inl, inr}
 use mathlib.Core.List.{List, [], _∷_, _++_}
 use lib.Dec.{eqb, leb, ltb}
@@ -15,7 +15,7 @@ use Rattle.rules.specs.Decisions.{pcdata, Decisions}
 use Rattle.rules.specs.Settling.{Open, State, nothingOpen, fitting, takePlace}
 use Rattle.rules.specs.Records.{Line, newLine, isFresh, atOnce}
 use Rattle.rules.specs.RecordEnds.{Thing, markup, boundary, recordEnd, datum, subelement, Contents, noContents, overIn, TakesNoPlace, Fills}
-use Rattle.record_laws.specs.Marks.{and-false, isOnce, Mark, fresh, directly, markupSince, other, marked, dropsNow, markOf, marks-snoc, mark-decides}
+use Rattle.record_laws.specs.Marks.{isOnce, Mark, fresh, directly, markupSince, other, marked, dropsNow, markOf, marks-snoc, mark-decides}
 use Rattle.record_laws.specs.Cases.{once-means}
 use Rattle.record_laws.specs.Moves.{Step, opens, passes, closes, Moves, moves-keep, dataTaken}
 use Rattle.record_laws.specs.Turns.{Turn, tags, markups, tens, dropped, ignored, takes, bytes, fills-keep}
@@ -72,10 +72,6 @@ not-same a b h = ap not (ne-eqb a b h)
 
 same-not : (a b : ℕ) → a ≡ b → not (eqb a b) ≡ false
 same-not a b h = ap not (eq-eqb a b h)
-
-or-true : (b : Bool) → (b || true) ≡ true
-or-true true = refl
-or-true false = refl
 
 module _ (d : List ℕ) (at : ℕ) (l : Line) (o : Open) where
   -- The two ways of the test.

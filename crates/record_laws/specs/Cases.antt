@@ -149,7 +149,7 @@ case-last (recordEnd p ∷ a) b w =
 case-last (datum p ∷ a) b w = absurd (w .noData p (List·Memᴰ·head refl))
 case-last (subelement ∷ a) b w = absurd (w .noSubelement (List·Memᴰ·head refl))
 
--- t is neither data nor a subelement, and if it is a byte 13 it is ignored by what stands before.
+-- The thing t is neither data nor a subelement, and if it is a byte 13 it is ignored by what stands before.
 record Quiet (b : List Thing) (t : Thing) : Type 0 where
   noData : (p : ℕ) → ¬ (datum p ≡ t)
   noSubelement : ¬ (subelement ≡ t)

@@ -23,7 +23,7 @@ use Rattle.record_laws.specs.Turns.{Turn, tags, markups, tens, dropped, 
 use Rattle.record_laws.specs.AtOnce.{Lined, turn-lined, lined-first, lined-test}
 
 -- How often p is data in an element that has not ended, if something follows that shows a held byte to be data.
-abbrev lineCount : ℕ → Track → ℕ
+abbrev pub lineCount : ℕ → Track → ℕ
 lineCount p l = count p (l .written) + count p (due (l .held))
 
 abbrev pub soFar : ℕ → List Thing → ℕ
@@ -142,7 +142,7 @@ kept-counted d ev k at b o w =
       around = w .around;
     }
 
--- A data byte.
+-- A data byte is one thing more.
 datum-counted : (d : List ℕ) (ev : List Event) (k : Contents) (at : ℕ) → ¬ (byteAt d at ≡ RE) → Counted d ev k → Counted d (withData at ev) (add (datum at) k)
 datum-counted d ev k at b w =
     let l = readIn (k .current) in

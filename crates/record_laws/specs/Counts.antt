@@ -13,6 +13,7 @@ use Rattle.rules.specs.Events.{Event, dataRun, withData}
 use Rattle.rules.specs.Records.{isEnd, dueRun, cut, cutBeforeEnds}
 use Rattle.basic_laws.specs.Truth.{and-left, and-right}
 use Rattle.record_laws.specs.Tracks.{Held, nothing, one, due}
+use Rattle.record_laws.specs.Marks.{isSome}
 
 -- 1 if p is q, else 0.
 unfoldable pub same : (p q : ℕ) → ℕ
@@ -140,10 +141,6 @@ module _ (p : ℕ) (d : List ℕ) where
   headEnd [] = false
   headEnd (e ∷ ev) = isEnd e
 
-  abbrev isSome : List Event → Bool
-  isSome [] = false
-  isSome (e ∷ ev) = true
-
   cut-cons : (e : Event) (l : List Event) → isSome l ≡ true → cutBeforeEnds d (e ∷ l) ≡ before (headEnd l) e ++ cutBeforeEnds d l
   unfolding cutBeforeEnds
   cut-cons e [] h = absurd (let z : _≡_ {A = ℕ} 0 1 = cc in omega arith)
@@ -196,7 +193,7 @@ module _ (d : List ℕ) where
       let r : n + 1 ≡ suc n = omega arith in
       ap (λ (i : ℕ). heldIf (eqb (byteAt d i) RE) o (n + 1)) q ∙ ap (heldIf (eqb (byteAt d at) RE) o) r ∙ held-by (eqb (byteAt d at) RE) o n at e
 
-  held-cons : (e : Event) (l : List Event) → isSome 0 d l ≡ true → heldIn d (e ∷ l) ≡ heldIn d l
+  held-cons : (e : Event) (l : List Event) → isSome l ≡ true → heldIn d (e ∷ l) ≡ heldIn d l
   held-cons e [] h = absurd (let z : _≡_ {A = ℕ} 0 1 = cc in omega arith)
   held-cons e (f ∷ l) h = refl
 

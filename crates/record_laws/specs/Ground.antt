@@ -15,7 +15,8 @@ use Rattle.rules.specs.Events.{Event, withData}
 use Rattle.rules.specs.Settling.{Open, State, takePlace, fitting}
 use Rattle.rules.specs.Records.{Line}
 use Rattle.rules.specs.RecordEnds.{Thing, markup, boundary, recordEnd, datum, subelement, Contents, add, overIn, Fills}
-use Rattle.record_laws.specs.Moves.{state, Step, opens, passes, closes, Moves, moves-keep, comes-moves}
+use Rattle.document_laws.specs.Moves.{state}
+use Rattle.record_laws.specs.Moves.{Step, opens, passes, closes, Moves, moves-keep, comes-moves}
 use Rattle.record_laws.specs.Turns.{Turn, tags, markups, tens, dropped, ignored, takes, bytes, fills-with}
 use Rattle.record_laws.specs.AtOnce.{Rooted, Parents, moves-rooted, Lined, turn-lined, lined-first}
 use Rattle.record_laws.specs.Places.{placeOf, places, places-append}
@@ -38,7 +39,7 @@ floor-taken : (around : List Open) (o : Open) (p : ℕ) → floor around (record
 floor-taken [] o p = refl
 floor-taken (u ∷ around) o p = refl
 
--- A thing that is no byte.
+-- The thing is no byte.
 bottom-quiet : (p : ℕ) (around : List (List Thing)) (c : List Thing) (t : Thing) → placeOf p t ≡ 0 → places p (bottom around (c ++ t ∷ [])) ≡ places p (bottom around c)
 bottom-quiet p [] c t h = omega (arith, places-append p c (t ∷ []))
 bottom-quiet p (u ∷ around) c t h = refl
@@ -61,7 +62,7 @@ step-ground z y k j (closes u us e q c) w =
 pub moves-ground : {z y : State} {k j : Contents} → Moves z k y j → Ground z k → Ground y j
 moves-ground m w = moves-keep Ground step-ground m w
 
--- A byte inside an element.
+-- The byte stands inside an element.
 inside-add : (around : List (List Thing)) (c : List Thing) (t : Thing) → ¬ (around ≡ []) → bottom around (c ++ t ∷ []) ≡ bottom around c
 inside-add [] c t h = absurd (h refl)
 inside-add (u ∷ around) c t h = refl

@@ -11,13 +11,10 @@ use Rattle.record_laws.specs.Marks.{dropsNow}
 use Rattle.record_laws.specs.Cases.{isDropped}
 use Rattle.record_laws.specs.Tracks.{kept, due, Track, ended13, next, through, atStart}
 use Rattle.record_laws.specs.Counts.{same, count, count-append}
-use Rattle.record_laws.specs.Counted.{soFar, openCount, endedCount}
+use Rattle.record_laws.specs.Counted.{lineCount, soFar, endedCount}
 use Rattle.record_laws.specs.Places.{placeOf, places, places-append, allPlaces}
 
 -- What is data is a thing
-
-abbrev lineCount : ℕ → Track → ℕ
-lineCount p l = count p (l .written) + count p (due (l .held))
 
 ended-most : (p q : ℕ) (l : Track) (b : Bool) → lineCount p (ended13 l q b) ≤ lineCount p l + same p q
 ended-most p q l true = omega arith
@@ -36,10 +33,6 @@ through-most p (t ∷ a) l = omega (arith, line-most p l t, through-most p a (ne
 
 pub soFar-most : (p : ℕ) (c : List Thing) → soFar p c ≤ places p c
 soFar-most p c = omega (arith, through-most p c atStart)
-
-pub open-most : (p : ℕ) (cs : List (List Thing)) → openCount p cs ≤ allPlaces p cs
-open-most p [] = omega arith
-open-most p (c ∷ cs) = omega (arith, soFar-most p c, open-most p cs)
 
 pub kept-most : (p : ℕ) (a b : List Thing) → count p (kept b a) ≤ places p a
 kept-most p [] b = omega arith

@@ -1,7 +1,7 @@
 -- The two cases that go by what stands before, as tests, and the mark by which they are decided from left to right: fresh, directly behind a byte 10 or
 -- 13, markup since, or other.
 use mathlib.Core.Path.{_≡_, refl, sym, _∙_, ap, ap₂}
-use mathlib.Core.Bool.{Bool, true, false, _&&_, _||_}
+use mathlib.Core.Bool.{Bool, true, false, _&&_, _||_, and-false, and-true, and-assoc}
 use mathlib.Core.List.{List, [], _∷_, _++_, append-assoc, append-nil}
 use Rattle.rules.specs.RecordEnds.{Thing, markup, boundary, recordEnd, datum, subelement}
 
@@ -29,7 +29,7 @@ abbrev pub isFirst : List Thing → Bool
 isFirst before = all isMarkup before
 
 -- The last byte 10 or 13 is followed by markup only, and by some: what follows the first thing is looked at first.
-abbrev pub isSome : List Thing → Bool
+abbrev pub isSome : {A : Type 0} → List A → Bool
 isSome [] = false
 isSome (t ∷ ts) = true
 
@@ -70,18 +70,6 @@ dropsNow markupSince = true
 dropsNow other = false
 
 -- A test at one thing more
-
-pub and-false : (b : Bool) → (b && false) ≡ false
-and-false true = refl
-and-false false = refl
-
-and-true : (b : Bool) → (b && true) ≡ b
-and-true true = refl
-and-true false = refl
-
-and-assoc : (a b c : Bool) → (a && b && c) ≡ (a && (b && c))
-and-assoc true b c = refl
-and-assoc false b c = refl
 
 or-shuffle : (a d r : Bool) → ((a || d) || r) ≡ ((a || r) || d)
 or-shuffle true d r = refl

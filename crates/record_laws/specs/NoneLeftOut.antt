@@ -17,6 +17,7 @@ use Rattle.rules.specs.Settling.{State, fitting}
 use Rattle.rules.specs.Records.{Line, lineAfter}
 use Rattle.rules.specs.Reader.{Reached, pieceUnder, settlePiece}
 use Rattle.rules.specs.RecordEnds.{Thing, markup, boundary, recordEnd, datum, subelement, Contents, add, overIn, contentsAfter, Fills, begins, goes}
+use Rattle.rules_laws.specs.Holds.{got-one}
 use Rattle.record_laws.specs.Counts.{same}
 use Rattle.record_laws.specs.Kept.{same-one}
 use Rattle.record_laws.specs.InEvents.{some-more}
@@ -166,9 +167,6 @@ module _ (c : Settings) (s : List ℕ) (es : List Element) (D : Decisions) (d : 
 
   abbrev behind : Point → Piece → Reached → Point
   behind x p r = point (r .at) (lineAfter s es D d p (x .at) (x .line) (x .state)) (r .state) (contentsAfter s es D d p (x .at) (x .state) (r .state) (x .contents))
-
-  got-one : {A : Type 0} {a b : A} → got a ≡ got b → a ≡ b
-  got-one e = cc
 
   behind-one : (x y : Point) (p q : Piece) (r t : Reached) → x ≡ y → pieceUnder c s es d (x .at) (x .line) (x .state .current) ≡ got p → pieceUnder c s es d (y .at) (y .line) (y .state .current) ≡ got q
       → settlePiece s es D d p (x .at) (x .state) ≡ got r → settlePiece s es D d q (y .at) (y .state) ≡ got t → behind x p r ≡ behind y q t

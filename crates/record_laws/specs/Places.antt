@@ -61,7 +61,7 @@ pub record Placed (at : ℕ) (k : Contents) : Type 0 where
   pub before : (p : ℕ) → at ≤ p → placesIn p k ≡ 0
   pub once : (p : ℕ) → placesIn p k ≤ 1
 
--- The same bytes, and further on.
+-- The bytes are the same, and reading is further on.
 placed-same : {at : ℕ} (i : ℕ) (k j : Contents) → at ≤ i → ((p : ℕ) → placesIn p j ≡ placesIn p k) → Placed at k → Placed i j
 placed-same i k j h e w = record { before = λ p l. e p ∙ w .before p (omega arith); once = λ p. omega (arith, e p, w .once p) }
 
@@ -97,7 +97,7 @@ placed-add at t k j s e w =
     go p (inl f) = omega (arith, add-places p t j, s p, e p, w .before p (omega arith), same-most p at)
     go p (inr f) = omega (arith, add-places p t j, s p, e p, w .once p)
 
--- Reading, in either edition.
+-- It holds in either edition.
 module _ (c : Settings) (s : List ℕ) (es : List Element) (D : Decisions) (d : List ℕ) where
   turn-placed : (at i : ℕ) (l m : Line) (z y : State) (k j : Contents) → Turn c s es D d at l z k i m y j → Placed at k → Placed i j
   turn-placed at i l m z y k j (tags after t a h b) w = placed-same after k j (omega arith) (λ p. moves-places p (comes-moves t)) w

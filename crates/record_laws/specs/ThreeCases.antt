@@ -1,5 +1,5 @@
 -- The events of a document that is read in edition 2 are those of the paper's three cases.
-use Prim.Native.Nat.{ℕ, zero, suc, _+_, _-_, _≤_, _<_}
+use Prim.Native.Nat.{ℕ, _+_, _-_, _≤_, _<_}
 use native.Mathlib.Omega.{arith}
 use mathlib.Core.Path.{_≡_, refl, sym, _∙_, ap, subst}
 use mathlib.Core.Bool.{Bool, true, false}
@@ -7,21 +7,21 @@ use mathlib.Core.Logic.{_↔_}
 use mathlib.Core.List.{List, [], _∷_, _++_, nil≢cons, List·Memᴰ}
 use lib.ListN.{length}
 use lib.Dec.{eqb, leb}
-use borrow.Author.Tests.{leb-true, leb-false, le-leb}
+use borrow.Author.Tests.{le-leb}
 use Rattle.rules.specs.Settings.{Settings, isSecond}
-use Rattle.rules.specs.Reading.{Reading, refused, got, andThen}
+use Rattle.rules.specs.Reading.{got}
 use Rattle.rules.specs.Attributes.{Default, required, implied, literal, Attribute}
 use Rattle.rules.specs.TypeFile.{Element}
-use Rattle.rules.specs.Document.{Written, Piece, startTagAt}
+use Rattle.rules.specs.Document.{Written, startTagAt}
 use Rattle.rules.specs.Elements.{elementAt}
 use Rattle.rules.specs.Bytes.{byteAt, RE}
 use Rattle.rules.specs.Decisions.{pcdata, Decisions}
 use Rattle.rules.specs.Events.{Event}
 use Rattle.rules.specs.Given.{givenFor, attributeEvent, attributeEvents, givenBy, attributesBefore, withAttributes}
-use Rattle.rules.specs.Settling.{State, nothingOpen, fitting, endDocument}
-use Rattle.rules.specs.Records.{Line, newLine, lineAfter, cutBeforeEnds, recordsSettled}
-use Rattle.rules.specs.Reader.{Reached, settlePiece, pieceUnder, piecesWithin, document}
-use Rattle.rules.specs.RecordEnds.{Thing, recordEnd, datum, Contents, noContents, afterEvents, newIn, contentsAfter, Ignored, Fills, begins, goes, Filled, IsData, ByThreeCases, SecondEdition}
+use Rattle.rules.specs.Settling.{State, fitting}
+use Rattle.rules.specs.Records.{Line, cutBeforeEnds, recordsSettled}
+use Rattle.rules.specs.Reader.{document}
+use Rattle.rules.specs.RecordEnds.{Thing, recordEnd, datum, Contents, afterEvents, newIn, Ignored, Fills, Filled, IsData, ByThreeCases, SecondEdition}
 use Rattle.rules_laws.specs.Holds.{got-so}
 use Rattle.record_laws.specs.Cases.{isDropped, dropped-means}
 use Rattle.record_laws.specs.Tracks.{kept}
@@ -34,6 +34,8 @@ use Rattle.record_laws.specs.Kept.{soFar-most, kept-datum, kept-end, sam
 use Rattle.record_laws.specs.InEvents.{counted-data, data-counted, ended-stands, one-place}
 use Rattle.record_laws.specs.NoneLeftOut.{allEnds, endsIn, moves-ends, ends-places, all-stand, stood-counted}
 use Rattle.record_laws.specs.Ground.{bottom, Ground, moves-ground, rooted-none, NoData, fills-ground}
+use Rattle.document_laws.specs.Moves.{document-came as read-came}
+use Rattle.record_laws.specs.Passed.{passes-fills}
 
 -- Where each place is in the data events as often as the three cases keep it in the elements, and is one thing of one element.
 pub record Settled (ev : List Event) (elements : List (List Thing)) : Type 0 where
@@ -119,31 +121,6 @@ attributes-count p long s es d (e ∷ ev) =
 -- A document read to its end
 
 module _ (c : Settings) (s : List ℕ) (es : List Element) (D : Decisions) (d : List ℕ) where
-  -- What came in a document that is read.
-  pieces-filled : (turns at : ℕ) (l : Line) (z : State) (k : Contents) (ev : List Event) → Fills c s es D d at l z k → piecesWithin c s es D d turns at l z ≡ got ev → (j : Contents) × Filled c s es D d ev j
-  unfolding piecesWithin
-  pieces-filled zero at l z k ev h e = absurd (let z : _≡_ {A = ℕ} 0 1 = cc in omega arith)
-  pieces-filled (suc turns) at l z k ev h e = by-end (λ i m y j g. pieces-filled turns i m y j ev g) (leb (length d) at) refl e
-    where
-      settled-on : ((i : ℕ) (m : Line) (y : State) (j : Contents) → Fills c s es D d i m y j → piecesWithin c s es D d turns i m y ≡ got ev → (x : Contents) × Filled c s es D d ev x)
-          → at < length d → (p : Piece) → pieceUnder c s es d at l (z .current) ≡ got p → (q : Reading Reached) → settlePiece s es D d p at z ≡ q
-          → andThen q (λ (y : Reached). piecesWithin c s es D d turns (y .at) (lineAfter s es D d p at l z) (y .state)) ≡ got ev → (j : Contents) × Filled c s es D d ev j
-      settled-on ih i p u (refused n o) f g = absurd (let z : _≡_ {A = ℕ} 0 1 = cc in omega arith)
-      settled-on ih i p u (got r) f g = ih (r .at) (lineAfter s es D d p at l z) (r .state) (contentsAfter s es D d p at z (r .state) k) (goes r h i u f) g
-
-      by-piece : ((i : ℕ) (m : Line) (y : State) (j : Contents) → Fills c s es D d i m y j → piecesWithin c s es D d turns i m y ≡ got ev → (x : Contents) × Filled c s es D d ev x)
-          → at < length d → (q : Reading Piece) → pieceUnder c s es d at l (z .current) ≡ q
-          → (andThen q λ (p : Piece). andThen (settlePiece s es D d p at z) λ (y : Reached). piecesWithin c s es D d turns (y .at) (lineAfter s es D d p at l z) (y .state)) ≡ got ev → (j : Contents) × Filled c s es D d ev j
-      by-piece ih i (refused n o) u g = absurd (let z : _≡_ {A = ℕ} 0 1 = cc in omega arith)
-      by-piece ih i (got p) u g = settled-on ih i p u (settlePiece s es D d p at z) refl g
-
-      by-end : ((i : ℕ) (m : Line) (y : State) (j : Contents) → Fills c s es D d i m y j → piecesWithin c s es D d turns i m y ≡ got ev → (x : Contents) × Filled c s es D d ev x)
-          → (b : Bool) → leb (length d) at ≡ b
-          → _≡_ {A = Reading (List Event)} (elim b [ true ↦ endDocument s es D (length d) z | false ↦ andThen (pieceUnder c s es d at l (z .current)) λ (p : Piece). andThen (settlePiece s es D d p at z) λ (y : Reached). piecesWithin c s es D d turns (y .at) (lineAfter s es D d p at l z) (y .state) ]) (got ev)
-          → (j : Contents) × Filled c s es D d ev j
-      by-end ih true o g = (afterEvents (newIn (z .events) ev) k, record { at = at; line = l; state = z; before = k; fills = h; over = leb-true (length d) at o; ends = g; contents = refl })
-      by-end ih false o g = by-piece ih (leb-false (length d) at o) (pieceUnder c s es d at l (z .current)) refl g
-
   -- The events of a document, those that reading came to with the records settled and attributes added, and what came in it.
   record Came (given : List Event) : Type 0 where
     events : List Event
@@ -152,14 +129,16 @@ module _ (c : Settings) (s : List ℕ) (es : List Element) (D : Decisions) (d : 
     gives : given ≡ withAttributes (c .nameLength) s es d (recordsSettled c d events)
 
   document-came : (given : List Event) → document c s es D d ≡ got given → Came given
-  unfolding document
-  document-came given = by-pieces (piecesWithin c s es D d (suc (length d)) 0 newLine nothingOpen) refl
-    where
-      by-pieces : (r : Reading (List Event)) → piecesWithin c s es D d (suc (length d)) 0 newLine nothingOpen ≡ r → (andThen r λ (ev : List Event). got (withAttributes (c .nameLength) s es d (recordsSettled c d ev))) ≡ got given → Came given
-      by-pieces (refused n o) e f = absurd (let z : _≡_ {A = ℕ} 0 1 = cc in omega arith)
-      by-pieces (got ev) e f =
-          let w = pieces-filled (suc (length d)) 0 newLine nothingOpen noContents ev begins e in
-          record { events = ev; contents = w .0; filled = w .1; gives = let q : withAttributes (c .nameLength) s es d (recordsSettled c d ev) ≡ given = cc in sym q }
+  document-came given e =
+      let x = read-came c s es D d given e in
+      let a = x .end in
+      let (k, fills) = passes-fills (a .passes) in
+      record {
+        events = x .events;
+        contents = afterEvents (newIn (a .there .events) (x .events)) k;
+        filled = record { at = a .at; line = a .line; state = a .there; before = k; fills = fills; over = a .over; ends = a .gives; contents = refl };
+        gives = x .shown;
+      }
 
   module _ (none : (at : ℕ) (l : Line) (z : State) (k : Contents) → Fills c s es D d at l z k → NoData s es D z) (second : isSecond c ≡ true) where
     nothing-open : (p : ℕ) (cs : List (List Thing)) → cs ≡ [] → openCount p cs ≡ 0

@@ -10,19 +10,21 @@ use lib.Dec.{eqb, leb}
 use borrow.Author.Tests.{eqb-true, eqb-false, leb-true}
 use Rattle.rules.specs.Settings.{Settings, isSecond}
 use Rattle.rules.specs.Bytes.{byteAt, RS, RE, STAGO, MDC}
-use Rattle.rules.specs.Reading.{Reading, got}
+use Rattle.rules.specs.Reading.{got}
 use Rattle.rules.specs.TypeFile.{Element}
 use Rattle.rules.specs.Document.{Piece, startTag, endTag, skipped, blank, dataByte}
 use Rattle.rules.specs.Decisions.{pcdata, Decisions}
 use Rattle.rules.specs.Events.{Event, dataRun, withData}
-use Rattle.rules.specs.Settling.{State, nothingOpen, fitting, takeData, takeBlank}
+use Rattle.rules.specs.Settling.{State, nothingOpen, fitting}
 use Rattle.rules.specs.Records.{Line, newLine, atOnce, markBehind, ignoredBehind, takenBehind, lineAfter}
-use Rattle.rules.specs.Reader.{Reached, goOn, tagged, settlePiece, pieceUnder}
+use Rattle.rules.specs.Reader.{Reached, tagged, settlePiece, pieceUnder}
 use Rattle.rules.specs.RecordEnds.{Thing, markup, boundary, recordEnd, datum, Contents, noContents, add, sort, afterSort, afterEvents, newIn, endThing, addBlank, contentsAfter, Fills, begins, goes}
-use Rattle.rules_laws.specs.Holds.{reads, Gives, each, on, got-so}
+use Rattle.rules_laws.specs.Holds.{got-so}
+use Rattle.document_laws.specs.Moves.{state}
+use Rattle.acts.specs.Pieces.{PieceSettled, start-tag, end-tag, passed-over, blank-data, no-data, byte, settlePiece-settled}
 use Rattle.record_laws.specs.Counts.{and-parts}
 use Rattle.record_laws.specs.Pieces.{Found, piece-found}
-use Rattle.record_laws.specs.Moves.{state, Comes, comes-moves, Takes, placeFor, Data, dataTaken, still, moves-adds, moves-new, start-comes, end-comes, data-takes, data-same}
+use Rattle.record_laws.specs.Moves.{Comes, comes-moves, Takes, placeFor, Data, dataTaken, still, moves-adds, moves-new, tagged-comes, closed-comes, datum-data}
 
 -- A data byte starts and ends nothing, whether its run goes on or begins.
 
@@ -101,39 +103,38 @@ module _ (c : Settings) (s : List ℕ) (es : List Element) (D : Decisions) (d : 
   mark-either true = inl refl
   mark-either false = inr refl
 
-  blank-turn : Found c d at l (z .current) blank → (f : Bool) → fits ≡ f
-      → Gives (λ (r : Reached). Turned (r .at) (elim f as (λ _. Line) [ true ↦ takenBehind (at + 1) l | false ↦ ignoredBehind d at l ]) (r .state) (addBlank f here at k)) (goOn (at + 1) (elim f as (λ _. Reading State) [ true ↦ takeData s es D at z | false ↦ got z ]))
-  blank-turn h true f =
-      on (data-same s es D at z f) λ y q.
-      reads (subst (λ (w : State). Turned (at + 1) (takenBehind (at + 1) l) w (addBlank true here at k)) (sym q) (by-byte (eqb here RE) refl))
+  -- A blank where data fits, and elsewhere.
+  blank-taken : Found c d at l (z .current) blank → fits ≡ true → Turned (at + 1) (takenBehind (at + 1) l) (dataTaken s es D at z) (addBlank true here at k)
+  blank-taken h f = by-byte (eqb here RE) refl
     where
       by-byte : (x : Bool) → eqb here RE ≡ x → Turned (at + 1) (takenBehind (at + 1) l) (dataTaken s es D at z) (elim x as (λ _. Contents) [ true ↦ add (recordEnd at) k | false ↦ add (datum at) k ])
       by-byte true e =
           let b = eqb-true here RE e in
           takes b f (λ i. h i b)
       by-byte false e = bytes (eqb-false here RE e) (record { here = z; contents = k; moves = still; taken = refl; fits = λ i. leb-true 1 (fitting s es D (z .current) pcdata) f })
-  blank-turn h false f = reads (ignored f (markBehind d at (l .mark)) (mark-either (eqb here RS || eqb here RE)) (addBlank false here at k) (by-byte (eqb here RE)))
+
+  blank-passed : fits ≡ false → Turned (at + 1) (ignoredBehind d at l) z (addBlank false here at k)
+  blank-passed f = ignored f (markBehind d at (l .mark)) (mark-either (eqb here RS || eqb here RE)) (addBlank false here at k) (by-byte (eqb here RE))
     where
       by-byte : (x : Bool) → _⊎_ (_≡_ {A = Contents} (elim x as (λ _. Contents) [ true ↦ add boundary k | false ↦ k ]) k) (_≡_ {A = Contents} (elim x as (λ _. Contents) [ true ↦ add boundary k | false ↦ k ]) (add boundary k))
       by-byte true = inr refl
       by-byte false = inl refl
 
-  some-number : {A : Type 0} (r : Reading A) → Gives (λ (n : A). Unit {0}) r
-  some-number r = each r (λ n q e. tt) (λ n e. tt)
-
-  piece-turn : (p : Piece) → Found c d at l (z .current) p → Gives (By p) (settlePiece s es D d p at z)
-  unfolding settlePiece lineAfter contentsAfter takeBlank
-  piece-turn (startTag t) h =
-      on (some-number (tagged s es D d at t)) λ n u.
-      on (start-comes s es D n at (t .after) z k) λ y w.
-      reads (subst (λ (j : Contents). Turned (t .after) (takenBehind (t .after) l) y j) (moves-new (comes-moves w)) (tags (t .after) w (h .0) (h .1 .0) (h .1 .1)))
-  piece-turn (endTag t) h =
-      on (some-number (tagged s es D d at t)) λ n u.
-      on (end-comes s es D n at (t .after) z k) λ y w.
-      reads (subst (λ (j : Contents). Turned (t .after) (takenBehind (t .after) l) y j) (moves-new (comes-moves w)) (tags (t .after) w (h .0) (h .1 .0) (h .1 .1)))
-  piece-turn (skipped e) h = reads (skipped-turn e h (eqb here RS) (eqb here RE) fits refl refl refl)
-  piece-turn blank h = blank-turn h fits refl
-  piece-turn dataByte h = on (data-takes s es D at z k) λ y q. reads (datum-turn y q)
+  piece-turn : (p : Piece) → Found c d at l (z .current) p → {r : Reached} → PieceSettled s es D at z p r → By p r
+  unfolding lineAfter contentsAfter
+  piece-turn (startTag t) h (start-tag {x = y} n u a) =
+      let w = tagged-comes s es D n at (t .after) z k a in
+      subst (λ (j : Contents). Turned (t .after) (takenBehind (t .after) l) y j) (moves-new (comes-moves w)) (tags (t .after) w (h .0) (h .1 .0) (h .1 .1))
+  piece-turn (endTag t) h (end-tag {x = y} n u a) =
+      let w = closed-comes s es D n at (t .after) z k a in
+      subst (λ (j : Contents). Turned (t .after) (takenBehind (t .after) l) y j) (moves-new (comes-moves w)) (tags (t .after) w (h .0) (h .1 .0) (h .1 .1))
+  piece-turn (skipped e) h passed-over = skipped-turn e h (eqb here RS) (eqb here RE) fits refl refl refl
+  piece-turn blank h (blank-data {x} f q few) =
+      subst (λ (w : State). Turned (at + 1) (elim fits as (λ _. Line) [ true ↦ takenBehind (at + 1) l | false ↦ ignoredBehind d at l ]) w (addBlank fits here at k)) (sym q)
+      (subst (λ (b : Bool). Turned (at + 1) (elim b as (λ _. Line) [ true ↦ takenBehind (at + 1) l | false ↦ ignoredBehind d at l ]) (dataTaken s es D at z) (addBlank b here at k)) (sym f) (blank-taken h f))
+  piece-turn blank h (no-data f) =
+      subst (λ (b : Bool). Turned (at + 1) (elim b as (λ _. Line) [ true ↦ takenBehind (at + 1) l | false ↦ ignoredBehind d at l ]) z (addBlank b here at k)) (sym f) (blank-passed f)
+  piece-turn dataByte h (byte {x} a) = datum-turn x (datum-data s es D at z k a)
     where
       datum-turn : (y : State) → Data s es D at z k y → Turned (at + 1) (takenBehind (at + 1) l) y (add (datum at) (afterEvents (newIn (z .events) (y .events)) k))
       datum-turn y (w, t, q) =
@@ -146,7 +147,7 @@ module _ (c : Settings) (s : List ℕ) (es : List Element) (D : Decisions) (d : 
 -- What a piece that is settled does.
 pub goes-turn : (c : Settings) (s : List ℕ) (es : List Element) (D : Decisions) (d : List ℕ) (at : ℕ) (l : Line) (z : State) (k : Contents) {p : Piece} {r : Reached} → at < length d → pieceUnder c s es d at l (z .current) ≡ got p → settlePiece s es D d p at z ≡ got r
     → Turn c s es D d at l z k (r .at) (lineAfter s es D d p at l z) (r .state) (contentsAfter s es D d p at z (r .state) k)
-goes-turn c s es D d at l z k {p} i u e = got-so (piece-turn c s es D d at l z k p (piece-found c d at l (z .current) s es i u)) e
+goes-turn c s es D d at l z k {p} i u e = piece-turn c s es D d at l z k p (piece-found c d at l (z .current) s es i u) (got-so (settlePiece-settled s es D d p at z) e)
 
 -- What holds at first, and what every piece keeps, holds wherever reading comes to.
 module _ {c : Settings} {s : List ℕ} {es : List Element} {D : Decisions} {d : List ℕ} (P : ℕ → Line → State → Contents → Type 0) (b : P 0 newLine nothingOpen noContents) where

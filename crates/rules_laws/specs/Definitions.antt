@@ -17,8 +17,11 @@ use Rattle.rules.specs.TypeFile.{gap, isWord, isCut, CDATA, NUMBER, NAME, REQUI
 use Rattle.text.specs.Words.{test-in, letter-in, nameEnd-from, nameEnd-le, nameEnd-more, separatorsEnd-from, separatorsEnd-le}
 use Rattle.rules_laws.specs.Holds.{Holds, stops, reads, known, so, on, either}
 use Rattle.rules_laws.specs.In.{All, none, more, all-snoc, NameIn}
-use Rattle.rules_laws.specs.Groups.{InType, unfit-holds}
-use Rattle.rules_laws.specs.Gaps.{gap-within}
+use Rattle.rules_laws.specs.Groups.{InType, InFrom, unfit-holds}
+use Rattle.rules_laws.specs.Gaps.{Onward, gap-within}
+use mathlib.Core.Bool.{Bool}
+use Rattle.rules.specs.Reading.{andThen}
+use Rattle.rules_laws.specs.Holds.{Gives, each, on-same}
 
 -- A refusal of a type file is one of 3 to 8, 10, 20 and 22, and stands in it.
 abbrev pub IsFileNumber : ℕ → Type 0
@@ -336,3 +339,49 @@ module _ (long : ℕ) (s : List ℕ) where
     pub list-holds : (from : ℕ) → from ≤ length s → I [] → Holds (InFile s) (EndRead from) (listFrom long s from)
     unfolding listFrom
     list-holds from h x = definitions-hold (suc ATTCNT) [] from h x
+
+  -- Bounds that are never reached: any two that are enough give the same
+
+  -- A token is read where the group has room for it.
+  token-room : (seen ps : List Part) (i : ℕ) → Gives (λ (p : Part). length ps < GRPCNT) (groupToken long s seen ps i)
+  unfolding groupToken
+  token-room seen ps i =
+      let e = nameEnd s i in
+      either (ltb i e)
+      (λ x. either (ltb long (e - i)) (λ y. stops tt) (λ y. either (leb GRPCNT (length ps)) (λ z. stops tt) (λ z. either (isToken s (seen ++ ps) i (e - i)) (λ u. stops tt) (λ u. reads (leb-false _ _ z)))))
+      (λ x. either (eqb (byteAt s i) PERO) (λ y. stops tt) (λ y. stops tt))
+
+  pub groupTokens-enough : (seen : List Part) (m n connector : ℕ) (ps : List Part) (at : ℕ) → length ps ≤ GRPCNT → GRPCNT < m + length ps → GRPCNT < n + length ps → groupTokens long s seen m connector ps at ≡ groupTokens long s seen n connector ps at
+  unfolding groupTokens
+  groupTokens-enough seen zero n connector ps at h i j = absurd (omega arith)
+  groupTokens-enough seen (suc m) zero connector ps at h i j = absurd (omega arith)
+  groupTokens-enough seen (suc m) (suc n) connector ps at h i j =
+      on-same (token-room seen ps (separatorsEnd s at)) λ p r.
+      let k = separatorsEnd s (p .at + p .size) in
+      let b = byteAt s k in
+      let more = length-append ps (p ∷ []) in
+      by-byte p (eqb b GRPC) (eqb b PERO) (isTokenConnector b && (eqb connector 0 || eqb connector b)) (groupTokens-enough seen m n b (ps ++ p ∷ []) (k + 1) (omega (arith, more)) (omega (arith, more)) (omega (arith, more)))
+    where
+      by-byte : (p : Part) (x y z : Bool) {r q : Reading TokensEnd} → r ≡ q
+          → _≡_ {A = Reading TokensEnd} (elim x [ true ↦ got (record { tokens = ps ++ p ∷ []; at = separatorsEnd s (p .at + p .size) + 1 }) | false ↦ elim y [ true ↦ refused 5 (separatorsEnd s (p .at + p .size)) | false ↦ elim z [ true ↦ r | false ↦ refused 4 (separatorsEnd s (p .at + p .size)) ] ] ])
+          (elim x [ true ↦ got (record { tokens = ps ++ p ∷ []; at = separatorsEnd s (p .at + p .size) + 1 }) | false ↦ elim y [ true ↦ refused 5 (separatorsEnd s (p .at + p .size)) | false ↦ elim z [ true ↦ q | false ↦ refused 4 (separatorsEnd s (p .at + p .size)) ] ] ])
+      by-byte p true y z e = refl
+      by-byte p false true z e = refl
+      by-byte p false false true e = e
+      by-byte p false false false e = refl
+
+  pub definitions-enough : (m n : ℕ) (xs : List Attribute) (from : ℕ) → length xs ≤ ATTCNT → ATTCNT < m + length xs → ATTCNT < n + length xs → definitions long s m xs from ≡ definitions long s n xs from
+  unfolding definitions
+  definitions-enough zero n xs from h i j = absurd (omega arith)
+  definitions-enough (suc m) zero xs from h i j = absurd (omega arith)
+  definitions-enough (suc m) (suc n) xs from h i j =
+      on-same (each {P = λ (k : ℕ). Unit {0}} (gap s from) (λ a b e. tt) (λ a e. tt)) λ k u.
+      by-byte k (eqb (byteAt s k) MDC && leb 1 (length xs)) (letter (byteAt s k)) refl
+      (λ d r. let more = length-append xs (d .attribute ∷ []) in definitions-enough m n (xs ++ d .attribute ∷ []) (d .at) (omega (arith, more)) (omega (arith, more)) (omega (arith, more)))
+    where
+      by-byte : (k : ℕ) (x y : Bool) → letter (byteAt s k) ≡ y → ((d : Definition) → length xs < ATTCNT → definitions long s m (xs ++ d .attribute ∷ []) (d .at) ≡ definitions long s n (xs ++ d .attribute ∷ []) (d .at))
+          → _≡_ {A = Reading ListEnd} (elim x [ true ↦ got (record { attributes = xs; at = k + 1 }) | false ↦ elim y [ true ↦ andThen (definition long s xs from k) λ d. definitions long s m (xs ++ d .attribute ∷ []) (d .at) | false ↦ unfit s k ] ])
+          (elim x [ true ↦ got (record { attributes = xs; at = k + 1 }) | false ↦ elim y [ true ↦ andThen (definition long s xs from k) λ d. definitions long s n (xs ++ d .attribute ∷ []) (d .at) | false ↦ unfit s k ] ])
+      by-byte k true y l e = refl
+      by-byte k false true l e = on-same (so (definition-read xs from k l) (λ a b c. tt) (λ d r. r .2 .room)) e
+      by-byte k false false l e = refl

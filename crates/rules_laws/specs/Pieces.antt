@@ -20,6 +20,11 @@ use Rattle.rules_laws.specs.Groups.{InType}
 use Rattle.rules_laws.specs.In.{All, none, more, all-snoc}
 use Rattle.rules_laws.specs.Gaps.{Onward, comment-within}
 use Rattle.rules_laws.specs.Definitions.{literal-holds}
+use mathlib.Core.Bool.{Bool, false}
+use borrow.Author.Tests.{eqb-false}
+use Rattle.rules.specs.Bytes.{DSC}
+use Rattle.rules.specs.Reading.{andThen}
+use Rattle.rules_laws.specs.Holds.{on-same}
 
 -- A piece is refused by 3 to 5 or 17, in the document.
 abbrev pub InPiece : List ℕ → (number position : ℕ) → Type 0
@@ -280,3 +285,76 @@ module _ (long : ℕ) (d : List ℕ) (i : ℕ) where
 
   pub piece-start-tag : {t : Tag} → piece long d i ≡ got (startTag t) → startTagAt long d (i + 1) ≡ got t
   piece-start-tag e = got-so piece-starts e
+
+-- The first byte of a piece
+
+-- Which byte a piece at i begins with; a byte 10 that is skipped is one byte.
+abbrev pub Begins : (d : List ℕ) (i : ℕ) → Piece → Type 0
+Begins d i (startTag t) = byteAt d i ≡ STAGO
+Begins d i (endTag t) = byteAt d i ≡ STAGO
+Begins d i (skipped e) = ((byteAt d i ≡ RS) × (e ≡ i + 1)) ⊎ (byteAt d i ≡ STAGO)
+Begins d i blank = Unit {0}
+Begins d i dataByte = ¬ (byteAt d i ≡ RE)
+
+module _ (long : ℕ) (d : List ℕ) (i : ℕ) where
+  markup-begins : (p : Piece) → byteAt d i ≡ STAGO → Begins d i p
+  markup-begins (startTag t) e = e
+  markup-begins (endTag t) e = e
+  markup-begins (skipped after) e = inr e
+  markup-begins blank e = tt
+  markup-begins dataByte e = λ f. omega arith
+
+  or-not : (a b c : Bool) → (a || (b || c)) ≡ false → b ≡ false
+  or-not true b c e = absurd (let z : _≡_ {A = ℕ} 0 1 = cc in omega arith)
+  or-not false true c e = absurd (let z : _≡_ {A = ℕ} 0 1 = cc in omega arith)
+  or-not false false c e = refl
+
+  byte-begins : Gives (Begins d i) (bytePiece d i)
+  unfolding bytePiece
+  byte-begins =
+      let b = byteAt d i in
+      either (eqb b RS) (λ x. reads (inl (eqb-true b RS x, refl)))
+      (λ x. either (eqb b TAB || (eqb b RE || eqb b SPACE)) (λ y. reads tt) (λ y. reads (eqb-false b RE (or-not (eqb b TAB) (eqb b RE) (eqb b SPACE) y))))
+
+  pub piece-begins : Gives (Begins d i) (piece long d i)
+  unfolding piece
+  piece-begins =
+      either (eqb (byteAt d i) STAGO) (λ x. each (markupPiece long d i) (λ n k e. tt) (λ p e. markup-begins p (eqb-true (byteAt d i) STAGO x)))
+      (λ x. either (eqb (byteAt d i) AND && isReference d i) (λ y. stops tt)
+      (λ y. either (isSectionEnd d i) (λ z. stops tt) (λ z. byte-begins)))
+
+-- A byte 13 is a piece by itself.
+byte-blank : (d : List ℕ) (i b : ℕ) → byteAt d i ≡ b → bytePiece d i ≡ elim (eqb b RS) as (λ _. Reading Piece) [ true ↦ got (skipped (i + 1)) | false ↦ elim (eqb b TAB || (eqb b RE || eqb b SPACE)) as (λ _. Reading Piece) [ true ↦ got blank | false ↦ got dataByte ] ]
+unfolding bytePiece
+byte-blank d i b e = ap {B = Reading Piece} (λ (x : ℕ). elim (eqb x RS) as (λ _. Reading Piece) [ true ↦ got (skipped (i + 1)) | false ↦ elim (eqb x TAB || (eqb x RE || eqb x SPACE)) as (λ _. Reading Piece) [ true ↦ got blank | false ↦ got dataByte ] ]) e
+
+pub piece-blank : (long : ℕ) (d : List ℕ) (i : ℕ) → byteAt d i ≡ RE → piece long d i ≡ got blank
+unfolding piece
+piece-blank long d i e =
+    ap {B = Reading Piece} (λ (x : ℕ). elim (eqb x STAGO) as (λ _. Reading Piece) [
+      | true ↦ markupPiece long d i
+      | false ↦ elim (eqb x AND && isReference d i) as (λ _. Reading Piece) [
+        | true ↦ refused 5 i
+        | false ↦ elim (eqb x DSC && (eqb (byteAt d (i + 1)) DSC && eqb (byteAt d (i + 2)) MDC)) as (λ _. Reading Piece) [ true ↦ refused 17 i | false ↦ bytePiece d i ]
+      ]
+    ]) e
+    ∙ byte-blank d i RE e
+
+-- The bound on the attributes of a start tag is never reached: any two that are enough give the same.
+module _ (long : ℕ) (d : List ℕ) (name e : ℕ) where
+  pub specifications-enough : (m n at : ℕ) (ws : List Written) → length d - at < m → length d - at < n → specifications long m d name e at ws ≡ specifications long n d name e at ws
+  unfolding specifications
+  specifications-enough zero n at ws i j = absurd (omega arith)
+  specifications-enough (suc m) zero at ws i j = absurd (omega arith)
+  specifications-enough (suc m) (suc n) at ws i j =
+      let from = separatorsEnd-from d at in
+      by-byte (separatorsEnd d at) (eqb (byteAt d (separatorsEnd d at)) MDC) (letter (byteAt d (separatorsEnd d at))) refl
+      (λ w r. specifications-enough m n (w .quote + 1 + w .width + 1) (ws ++ w ∷ []) (omega (arith, from, r .at, r .parted, r .inside)) (omega (arith, from, r .at, r .parted, r .inside)))
+    where
+      by-byte : (k : ℕ) (x y : Bool) → letter (byteAt d k) ≡ y
+          → ((w : Written) → SpecificationRead long d k w → specifications long m d name e (w .quote + 1 + w .width + 1) (ws ++ w ∷ []) ≡ specifications long n d name e (w .quote + 1 + w .width + 1) (ws ++ w ∷ []))
+          → _≡_ {A = Reading Tag} (elim x [ true ↦ got (record { name = name; size = e - name; after = k + 1; written = ws }) | false ↦ elim y [ true ↦ andThen (specification long d k) λ w. specifications long m d name e (w .quote + 1 + w .width + 1) (ws ++ w ∷ []) | false ↦ refused 4 k ] ])
+          (elim x [ true ↦ got (record { name = name; size = e - name; after = k + 1; written = ws }) | false ↦ elim y [ true ↦ andThen (specification long d k) λ w. specifications long n d name e (w .quote + 1 + w .width + 1) (ws ++ w ∷ []) | false ↦ refused 4 k ] ])
+      by-byte k true y l h = refl
+      by-byte k false true l h = on-same (so (specification-read long d k l) (λ a b c. tt) (λ w r. r)) h
+      by-byte k false false l h = refl

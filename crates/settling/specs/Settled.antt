@@ -1,6 +1,6 @@
 -- What has become of a token, in the rules' terms, once all its steps were taken.
-use Prim.Native.Nat.{ℕ, zero, suc, _+_, _-_, _≤_, _<_, _*_}
-use mathlib.Core.Path.{_≡_}
+use Prim.Native.Nat.{ℕ, zero, suc, _+_, _-_, _*_, _≤_, _<_}
+use mathlib.Core.Path.{_≡_, refl}
 use mathlib.Core.Bool.{Bool}
 use mathlib.Core.List.{List, _++_}
 use lib.ListN.{length}
@@ -24,11 +24,21 @@ use Rattle.open_elements.specs.Becomes.{StandsWith}
 use Rattle.event_buffer.specs.Buffers.{Puts}
 use Rattle.inferring.specs.Inferring.{EndsAt, StartsAt}
 use Rattle.placing.specs.Noting.{writtenOf, shownOf}
+use native.Mathlib.Omega.{arith}
 
 -- What the rules make of a start tag of the element x, or of a run of data for 0, from `at` to `after`.
 abbrev pub takes : List ℕ → List Element → (x at after : ℕ) → State → Reading State
 takes s es zero at after z = takeRun s es (decided s es) at (after - at) z
 takes s es (suc k) at after z = startElement s es (decided s es) (suc k) at after z
+
+module _ (s : List ℕ) (es : List Element) (at after : ℕ) (z : State) where
+  pub takes-start : (x : ℕ) → 1 ≤ x → takes s es x at after z ≡ startElement s es (decided s es) x at after z
+  takes-start zero l = absurd (omega arith)
+  takes-start (suc k) l = refl
+
+  pub takes-run : (x : ℕ) → x ≡ 0 → takes s es x at after z ≡ takeRun s es (decided s es) at (after - at) z
+  takes-run zero l = refl
+  takes-run (suc k) l = absurd (omega arith)
 
 -- What the start tag of the element x at `at` gives is marked.
 pub record Gives (long : ℕ) (s : List ℕ) (es : List Element) (d : List ℕ) (x at : ℕ) (marks : List ℕ) : Type 0 where

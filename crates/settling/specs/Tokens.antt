@@ -7,17 +7,18 @@ use native.Mathlib.Omega.{arith}
 use lib.ListN.{length, length-append}
 use Rattle.rules.specs.Reading.{Reading, refused, got, andThen}
 use Rattle.rules.specs.TypeFile.{Element}
-use Rattle.rules.specs.Decisions.{Token, Decisions}
+use Rattle.rules.specs.Decisions.{Token}
 use Rattle.rules.specs.Document.{Tag, startTagAt}
 use Rattle.rules.specs.Elements.{elementAt}
 use Rattle.rules.specs.Events.{Event, startWritten, endOfEmpty}
 use Rattle.rules.specs.Given.{attributeEvents, withAttributes}
-use Rattle.rules.specs.Settling.{State, takePlace, fitting, takeToken, isOver, settleFrom, settle, startElement}
+use Rattle.rules.specs.Settling.{State, takePlace, fitting, takeToken, isOver, settleFrom, settle}
 use Rattle.rules.specs.Records.{dueRun}
-use Rattle.rules_laws.specs.BeforeStarts.{Plain, with-append, with-start-written, plain-none, plain-data, plain-end-of-empty}
+use Rattle.rules_laws.specs.BeforeStarts.{with-append, with-start-written, plain-end-of-empty}
 use Rattle.rules.specs.Bytes.{TAGLVL}
 use Rattle.document_laws.specs.Decide.{decided}
-use Rattle.turn_laws.specs.RunAtOnce.{takeRun}
+use Rattle.acts.specs.Settled.{settle-over, settle-on, startElement-is}
+use Rattle.turn_laws.specs.Steps.{takeRun-is}
 use Rattle.list_table.specs.Lists.{Lists}
 use Rattle.attribute_events.specs.PutBefore.{PutsWritten}
 use Rattle.type_tables.specs.Tables.{Tables, CanTake}
@@ -39,34 +40,22 @@ use Rattle.inferring.specs.Ends.{found-at, found-settled, found-refused}
 use Rattle.placing.specs.Noting.{noting, writtenOf, shownOf, Placed, Follows, Places}
 use Rattle.placing.specs.Places.{noting-many, becomes-more}
 use Rattle.settling.specs.Settled.{takes, Gives, Settles}
+use Rattle.record_due.specs.Lists.{plain-run}
 
 -- What the rules make of a token: it is settled, then noted.
 takes-noting : (s : List ℕ) (es : List Element) (x at after : ℕ) (z : State) → takes s es x at after z ≡ andThen (settle s es (decided s es) (tokenOf x) at z) (noting es x at after)
-unfolding startElement takeRun
-takes-noting s es zero at after z = refl
-takes-noting s es (suc k) at after z = refl
-
-settle-over : (s : List ℕ) (es : List Element) (D : Decisions) (t : Token) (at : ℕ) (z : State) → isOver s es D z ≡ true → settle s es D t at z ≡ refused 16 at
-unfolding settle
-settle-over s es D t at z e = rw (e, settle)
-
-settle-on : (s : List ℕ) (es : List Element) (D : Decisions) (t : Token) (at : ℕ) (z : State) → isOver s es D z ≡ false → settle s es D t at z ≡ settleFrom s es D t at (z .around) (z .current) (z .events)
-unfolding settle
-settle-on s es D t at z e = rw (e, settle)
+takes-noting s es zero at after z = takeRun-is s es (decided s es) at (after - at) z
+takes-noting s es (suc k) at after z = startElement-is s es (decided s es) (suc k) at after z
 
 -- A refusal by the number that the code has.
 becomes-refused : (P : State → Type 0) (at : ℕ) {n m : ℕ} {q : Reading State} → n ≡ m → 1 ≤ m → q ≡ refused m at → Becomes at n P q
 becomes-refused P at {n} e l i = subst (Becomes at n P) (sym i) (e, omega (arith, e), refl)
 
-due-plain : (at n : ℕ) → Plain (dueRun at n)
-due-plain at zero = plain-none
-due-plain at (suc n) = plain-data at (suc n)
-
 -- The attribute events of a tag and what is shown of its token are that with attribute events before its start; data has none.
 given-shown : (long : ℕ) (s : List ℕ) (es : List Element) (d : List ℕ) (at shown : ℕ) (b : Bool) (v x : ℕ) (given : List Event) → (x ≡ 0 → given ≡ [])
     → (1 ≤ x → (t : Tag) × (startTagAt long d (at + 1) ≡ got t) × (given ≡ attributeEvents 1 s (elementAt es (x - 1) .attributes) d (t .written)))
     → given ++ shownOf x b v at shown ≡ withAttributes long s es d (shownOf x b v at shown)
-given-shown long s es d at shown b v zero given none some = ap (λ (i : List Event). i ++ dueRun at (shown - at)) (none refl) ∙ sym (due-plain at (shown - at) .plain long s es d)
+given-shown long s es d at shown b v zero given none some = ap (λ (i : List Event). i ++ dueRun at (shown - at)) (none refl) ∙ sym (plain-run at (shown - at) .plain long s es d)
 given-shown long s es d at shown true v (suc k) given none some =
     let (t, there, are) = some (omega arith) in
     ap (λ (i : List Event). i ++ startWritten (suc k) at shown v ∷ []) are ∙ sym (with-start-written long s es d (suc k) at shown v there)
@@ -112,7 +101,7 @@ module _ {rows places facts M begun : List ℕ} {x at n : ℕ} {o₀ : Open} {nu
     come : Comes s es M begun t at (f .open) (h .turns .events) z
     come = h .turns .comes s es tables z stands t (tokenOf-number x) (tokenOf-declared es x most)
 
-    -- the state of the rules that was come to
+    -- This is the state of the rules that was come to.
     abbrev there : State
     there = come .there
 
@@ -123,7 +112,7 @@ module _ {rows places facts M begun : List ℕ} {x at n : ℕ} {o₀ : Open} {nu
     from-there : (after : ℕ) (q : Reading State) → settleFrom s es (decided s es) t at (there .around) (there .current) (there .events) ≡ q → takes s es x at after z ≡ andThen q (noting es x at after)
     from-there after q e = takes-noting s es x at after z ∙ ap (λ r. andThen r (noting es x at after)) (settle-on s es (decided s es) t at z (on s es z stands) ∙ sym (come .same) ∙ e)
 
-    -- so many starts would be too many
+    -- So many starts would be too many.
     many : (after k : ℕ) → f .found ≡ Inferred k → TAGLVL < f .open .count + k → takes s es x at after z ≡ refused 15 at
     many after k e l =
         let y = takeToken s es (decided s es) t (inferMany s es (decided s es) at k there) in

@@ -6,7 +6,6 @@ use native.Mathlib.Omega.{arith}
 use Rattle.rules.specs.Settings.{Settings}
 use Rattle.rules.specs.Bytes.{ATTCNT, elementLimit, typeLimit}
 use Rattle.rules.specs.Lent.{Lent}
-use Rattle.rules.specs.TypeFile.{Element}
 use Rattle.rules.specs.Judge.{Answer, refusal, acceptance, Refuses, notOffered, tooLong, notAllowed, malformed, repeated, ambiguous, noRoom, Judged}
 use Rattle.rules.specs.Listing.{Lists}
 use Rattle.rules_laws.specs.Within.{typeFile-within, typeFile-count}

@@ -1,6 +1,6 @@
 -- Laws of the tests of stretches: what one of them leaves for the whole.
 use Prim.Native.Nat.{ℕ, _+_, _-_, _≤_, _<_}
-use mathlib.Core.Path.{_≡_, refl, sym, _∙_}
+use mathlib.Core.Path.{_≡_, refl, sym}
 use mathlib.Core.Bool.{Bool, true, false}
 use mathlib.Core.List.{List}
 use native.Mathlib.Omega.{arith}
@@ -8,7 +8,7 @@ use native.Mathlib.Decide.{ℕ-discrete}
 use lib.ListN.{length, getD}
 use lib.Dec.{leb}
 use borrow.Author.Tests.{le-leb, lt-leb, leb-true, leb-false}
-use Rattle.rules.specs.Batch.{InStretch, Equal, Unfit, batchLimit}
+use Rattle.rules.specs.Batch.{Equal, Unfit, batchLimit}
 use Rattle.stretches.specs.Fit.{Apart, AllWithin, Shared, ApartFrom, AllApart, batchOf, Fits}
 
 -- What is left behind the start is as much as the stretch has.
@@ -58,7 +58,7 @@ all-turn froms sizes n h a i j k l m = go (ℕ-discrete i n)
     go (yes z) e = a j k (omega arith) (rw z at e)
     go (no z) e = h i j k (omega arith) m e
 
--- The whole.
+-- All tests together say that the stretches fit.
 module _ (starts lengths froms sizes : List ℕ) (answers room : ℕ) where
   pub fits-whole : (b : Bool) → length starts ≤ batchLimit → Equal (batchOf starts lengths froms sizes) answers → AllWithin froms sizes room (length froms) true → AllApart froms sizes (length froms) b → Fits starts lengths froms sizes answers room b
   fits-whole true few q w a = go

@@ -5,7 +5,7 @@
 use layout::ANSWER;
 use layout::DOCUMENTS;
 ghost use mathlib.Core.Path.{_≡_};
-ghost use Prim.Native.Nat.{_+_, _≤_, _<_};
+ghost use Prim.Native.Nat.{_+_, _<_};
 ghost use lib.Dec.{leb};
 ghost use lib.ListN.{length};
 ghost use Rattle.stretches.specs.Fit.{Apart, ApartFrom, AllApart, AllWithin, Fits};

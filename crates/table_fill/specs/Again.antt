@@ -17,11 +17,9 @@ use Rattle.element_reader.specs.declared.ElementRead.the-variants as elementRea
 use Rattle.rules_laws.specs.Declarations.{bare, bares, bares-length}
 use Rattle.type_laws.specs.Made.{elementAt-next}
 use Rattle.type_laws.specs.Again.{typeFile-again}
+use Rattle.element_names.specs.Records.{recordOf}
 
 -- Records
-
-abbrev recordOf : Element → List ℕ
-recordOf x = x .at ∷ x .size ∷ x .start ∷ x .end ∷ contentNumbers (x .content)
 
 record-length : (x : Element) → length (recordOf x) ≡ recordWidth
 record-length x = by-content (x .content)

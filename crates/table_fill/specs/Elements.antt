@@ -2,7 +2,7 @@
 use Prim.Native.Nat.{ℕ, zero, suc, _+_, _-_, _*_, _≤_, _<_}
 use mathlib.Core.Path.{_≡_, refl, sym, ap, subst, _∙_}
 use mathlib.Core.Bool.{Bool, true, false, not, _&&_, and-true, and-false, cond, true≢false}
-use mathlib.Core.Logic.{_⊎_, inl, inr}
+use mathlib.Core.Logic.{inl, inr}
 use mathlib.Core.List.{List, [], _∷_}
 use native.Mathlib.Nat.{not-suc-le-zero, le-of-suc-le-suc}
 use native.Mathlib.Omega.{arith}
@@ -49,6 +49,7 @@ use Rattle.table_fill.specs.Filled.{Filled, RowsFor, TagsPut, LargestPut
 use Rattle.table_fill.specs.Kinds.{rows-model, rows-empty}
 use Rattle.table_fill.specs.Again.{ReadsAs, recorded-name, recorded-start, recorded-end, recorded-kind, content-at, reads-again}
 use Rattle.table_fill.specs.Names.{IsName, NamesFit, PlacesDue}
+use Rattle.element_content.specs.Kept.{content-places}
 
 -- What is kept of the start of the element e: 1 where it may be inferred, by its record and its list.
 pub record StartFact (elements lists : List ℕ) (e n : ℕ) : Type 0 where
@@ -162,11 +163,7 @@ module _ (long : ℕ) (s : List ℕ) (es : List Element) (elements lists index R
       keeps = rw is at again
 
       pub places-few : (d .kind ≡ 0 → ⊥) → d .places ≤ GRPGTCNT
-      places-few z = by-content (contentOf es e) keeps
-        where
-          by-content : (y : Content) → KeepsContent names table (d .kind) (d .tokens) (d .places) (d .code) (d .and) (d .repeated) y → d .places ≤ GRPGTCNT
-          by-content empty w = absurd (z (w .0))
-          by-content (model g ps n) w = w .3 .places-in
+      places-few z = content-places names table (d .kind) (d .tokens) (d .places) (d .code) (d .and) (d .repeated) (contentOf es e) keeps z
 
       names-fit : (d .kind ≡ 0 → ⊥) → NamesFit s names (d .places)
       names-fit z = by-content (contentOf es e) keeps (typeFile-content long s es (due .accepted .elements) e) (typeFile-places-short long s es (due .accepted .elements) e)

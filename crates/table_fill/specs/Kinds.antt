@@ -30,6 +30,7 @@ use Rattle.model_rows.specs.Rows.{RowsPut, RowSays, row-says}
 use Rattle.table_fill.specs.Places.{PlacePut, places-none, places-more}
 use Rattle.table_fill.specs.Told.{NoMembers, none-lent, none-rest}
 use Rattle.table_fill.specs.Filled.{Filled, RowsFor, largest-same, members-same, filled-more}
+use Rattle.basic_laws.specs.Numbers.{replicate-at}
 
 -- A model: its table row by row.
 pub rows-model : (table : List ℕ) (g : Group) (ps : List Place) (n e : ℕ) (b : Bool) (T S : List ℕ) → Says g table → size g ≡ length ps → size g ≤ GRPGTCNT → RowsPut table e (cond b RAISE 0) T S (length ps + 1) → RowsFor (model g ps n) b e T S
@@ -163,11 +164,6 @@ noPlaces = replicate PLACES 0
 abbrev pub noFacts : List ℕ
 noFacts = replicate FACTS 0
 
-zeros-in : (n k : ℕ) → _≡_ {A = ℕ} (getD (replicate n 0) k 0) 0
-zeros-in zero k = refl
-zeros-in (suc n) zero = refl
-zeros-in (suc n) (suc k) = zeros-in n k
-
 module _ (long : ℕ) (s : List ℕ) (es : List Element) (read : typeFile long s ≡ got es) where
   -- The document's one place names the first element.
   document-names : 1 ≡ namedBy s es (placesIn (contentOf es 0)) 1
@@ -185,8 +181,8 @@ module _ (long : ℕ) (s : List ℕ) (es : List Element) (read : typeFile long s
         rows-len = length-replicate {A = ℕ} ROWS 0;
         places-len = length-replicate {A = ℕ} PLACES 0;
         facts-len = length-replicate {A = ℕ} FACTS 0;
-        rows-rest = λ k h. zeros-in ROWS k;
-        facts-rest = λ k h. zeros-in FACTS k;
+        rows-rest = λ k h. replicate-at {A = ℕ} ROWS 0 k;
+        facts-rest = λ k h. replicate-at {A = ℕ} FACTS 0 k;
         lent = none-lent s M none;
         members-rest = λ k h. none-rest s M none k;
         raised = λ k. false;
@@ -199,9 +195,9 @@ module _ (long : ℕ) (s : List ℕ) (es : List Element) (read : typeFile long s
       let ps = placesIn (contentOf es 0) in
       let put =
       places-more long s es read ps 0 noPlaces noFacts noPlaces noFacts 1 (omega arith) (omega arith)
-      (places-none long s es read ps 0 noPlaces noFacts (h .places-len) (h .facts-len) (λ k a b. zeros-in FACTS k)) 1 document-names P F w in
+      (places-none long s es read ps 0 noPlaces noFacts (h .places-len) (h .facts-len) (λ k a b. replicate-at {A = ℕ} FACTS 0 k)) 1 document-names P F w in
       filled-more long s es read 0 false noRows noPlaces noFacts M h (documentRows noRows) noFacts P F F M
-      (rows-document noRows (h .rows-len) (λ k. zeros-in ROWS k) ps refl)
+      (rows-document noRows (h .rows-len) (λ k. replicate-at {A = ℕ} ROWS 0 k) ps refl)
       (record { len = h .facts-len; under = λ k l. refl; over = λ k l. refl; tags = λ l. absurd (omega arith) })
       put
       (largest-same 0 F (put .facts-len))

@@ -1,7 +1,7 @@
 -- The places of a model, filed by name: what each names, the next smaller of its name, and the largest of each name.
-use Prim.Native.Nat.{ℕ, zero, suc, _+_, _-_, _*_, _≤_, _<_}
+use Prim.Native.Nat.{ℕ, _+_, _-_, _*_, _≤_, _<_}
 use mathlib.Core.Path.{_≡_, refl, sym, ap, _∙_}
-use mathlib.Core.Bool.{Bool, true, false, cond}
+use mathlib.Core.Bool.{true, false, cond}
 use mathlib.Core.List.{List}
 use native.Mathlib.Omega.{arith}
 use lib.ListN.{length, getD, set, length-set}
@@ -21,6 +21,7 @@ use Rattle.rules_laws.specs.Within.{typeFile-count}
 use Rattle.rules.specs.Bytes.{GRPGTCNT, elementLimit}
 use Rattle.type_laws.specs.Names.{named-number, numberOf-range, numberOf-pcdata, pcdata-name}
 use Rattle.type_tables.specs.Tables.{nameNumber, Declares, namedBy}
+use Rattle.row_search.specs.Search.{search-hit, search-miss}
 
 -- By which number a place that names v is filed: that of the element, 0 for `#PCDATA`.
 abbrev pub slotOf : ℕ → ℕ
@@ -35,14 +36,11 @@ module _ (long : ℕ) (s : List ℕ) (es : List Element) (read : typeFile long s
   abbrev size : ℕ
   size = placeAt ps (p - 1) .size
 
-  few : length es ≤ elementLimit
-  few = typeFile-count long s es read .1
-
   -- What the place names is an element or nothing, or `#PCDATA`.
   element-or-none : (size ≡ 0 → ⊥) → (v ≡ numberOf s es s at size) × (v ≤ elementLimit) × (slotOf v ≡ v)
   element-or-none z =
       let q : v ≡ numberOf s es s at size = is ∙ rw (ne-eqb size 0 z) in
-      let l : v ≤ elementLimit = omega (arith, numberOf-range s es s at size, few) in
+      let l : v ≤ elementLimit = omega (arith, numberOf-range s es s at size, typeFile-count long s es read) in
       (q, l, rw (ne-eqb v PCDATA (λ y. omega arith)))
 
   pcdata-there : size ≡ 0 → v ≡ PCDATA
@@ -135,17 +133,6 @@ pub record PlacesPut (s : List ℕ) (es : List Element) (ps : List Place) (e : �
 pub number-few : (es : List Element) (t : Token) → length es ≤ elementLimit → Declares es t → nameNumber t ≤ elementLimit
 number-few es (start k) l d = omega arith
 number-few es pcdata l d = omega arith
-
--- A search that goes one place further.
-search-hit : (f : ℕ → Bool) (p : ℕ) → 1 ≤ p → f p ≡ true → search f p ≡ p
-unfolding search
-search-hit f zero l h = absurd (omega arith)
-search-hit f (suc p) l h = rw (h, search)
-
-search-miss : (f : ℕ → Bool) (p : ℕ) → 1 ≤ p → f p ≡ false → search f p ≡ search f (p - 1)
-unfolding search
-search-miss f zero l h = absurd (omega arith)
-search-miss f (suc p) l h = let z : suc p - 1 ≡ p = omega arith in rw (z, h, search)
 
 module _ (long : ℕ) (s : List ℕ) (es : List Element) (read : typeFile long s ≡ got es) (ps : List Place) (e : ℕ) (P F : List ℕ) where
   pub places-none : length P ≡ PLACES → length F ≡ FACTS → ((k : ℕ) → e * FACT ≤ k → k < e * FACT + START-OMITTED → getD F k 0 ≡ 0) → PlacesPut s es ps e P F P F 1

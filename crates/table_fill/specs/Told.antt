@@ -1,6 +1,6 @@
 -- The part of an element in the table of members: it still tells what it told where its numbers are as they were, and a model without "&" is told by none.
-use Prim.Native.Nat.{ℕ, zero, suc, _+_, _*_, _≤_, _<_}
-use mathlib.Core.Path.{_≡_, refl, sym, _∙_}
+use Prim.Native.Nat.{ℕ, _+_, _*_, _≤_, _<_}
+use mathlib.Core.Path.{_≡_, sym, _∙_}
 use mathlib.Core.Bool.{true}
 use mathlib.Core.Logic.{_⊎_, inl, inr, ⊎-elim}
 use mathlib.Core.List.{List, []}
@@ -21,6 +21,7 @@ use Rattle.member_table.specs.Tells.{HasRows, fills}
 use Rattle.member_sets.specs.Linking.{Linked}
 use Rattle.member_sets.specs.Telling.{told-still, told-none, Filled, filled-linked}
 use Rattle.type_laws.specs.Members.{Without}
+use Rattle.basic_laws.specs.Numbers.{replicate-at}
 
 -- The content of an element is told; its places are 96 at most.
 abbrev pub TellsIn : (M : List ℕ) (e : ℕ) → Content → Type 0
@@ -41,17 +42,12 @@ NoMembers s M = (M ≡ replicate MEMBERS 0) ⊎ ((M ≡ []) × Without s)
 none-in : (M : List ℕ) → length M ≡ 0 → (k : ℕ) → getD M k 0 ≡ 0
 none-in M z k = List·getD-eq-default M 0 (omega arith)
 
-zeros-in : (n k : ℕ) → _≡_ {A = ℕ} (getD (replicate n 0) k 0) 0
-zeros-in zero k = refl
-zeros-in (suc n) zero = refl
-zeros-in (suc n) (suc k) = zeros-in n k
-
 pub none-lent : (s M : List ℕ) → NoMembers s M → Lent s M
 none-lent s M (inl e) = inl (rw e (length-replicate {A = ℕ} MEMBERS 0))
 none-lent s M (inr (e, w)) = inr (rw e, w)
 
 pub none-rest : (s M : List ℕ) → NoMembers s M → (k : ℕ) → getD M k 0 ≡ 0
-none-rest s M (inl e) k = rw e (zeros-in MEMBERS k)
+none-rest s M (inl e) k = rw e (replicate-at {A = ℕ} MEMBERS 0 k)
 none-rest s M (inr (e, w)) k = rw e
 
 pub lent-still : (s M S : List ℕ) → length S ≡ length M → Lent s M → Lent s S

@@ -46,6 +46,7 @@ ghost use Rattle.table_fill.specs.Names.{nameOf, IsName, PlacesDue};
 ghost use Rattle.table_fill.specs.Own.{elementsOf};
 ghost use Rattle.table_fill.specs.Elements.{Flags, StartFact, FactsPut, ElementDue};
 
+// What a place is raised by in a model with "&", as a byte of the tables.
 const RAISED: u8 = RAISE as u8;
 
 // By which number a place that names v is filed: that of the element, 0 for `#PCDATA`.

@@ -80,7 +80,7 @@ module _ (g : List ℕ) (n : ℕ) (w : Written) where
   pub keeps-all : ATTCNT < n → Keeps g n w g n
   keeps-all h = record { more = λ x. absurd (omega (arith, h, x)); enough = λ x. (refl, refl) }
 
--- None yet.
+-- None is kept yet.
 pub kept-none : (g : List ℕ) → KeptAs g 0 []
 unfolding keptOf
 kept-none g = record { few = omega arith; kept = refl }

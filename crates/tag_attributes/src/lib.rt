@@ -22,6 +22,7 @@ pub struct Written {
     pub width: usize,
 }
 
+// What is read of an attribute: where it stands, or the refusal.
 pub enum WrittenRead {
     Read(Written),
     Refused(Fault),
@@ -37,6 +38,7 @@ pub fn fault_of(r: WrittenRead) -> Fault
     }
 }
 
+// Whether a name may have the byte, by the table of byte classes.
 fn is_name_byte(classes: &[u8; 256], b: u8) -> bool
     requires { ⌜ Classes (now classes) ⌝ }
     ensures { λ r. ⌜ r ≡ nameByte b ⌝ }

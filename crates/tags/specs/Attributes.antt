@@ -14,7 +14,7 @@ use Rattle.text.specs.Words.{letter-in, separatorsEnd-from, separatorsEnd-le}
 use Rattle.rules_laws.specs.Holds.{got-so}
 use Rattle.rules_laws.specs.Pieces.{specification-read}
 use Rattle.tag_attributes.specs.declared.Written as code
-use Rattle.tag_attributes.specs.Given.{writtenAs, KeptAs, WrittenIn, GivenIn, Keeps}
+use Rattle.tag_attributes.specs.Given.{writtenAs, WrittenIn, Keeps}
 use Rattle.tag_attributes.specs.Kept.{kept-none, given-none, kept-more, given-more}
 use Rattle.tags.specs.Given.{ReadAs}
 

@@ -21,6 +21,7 @@ pub struct Tag {
     pub given: usize,
 }
 
+// What is read of a tag: the tag, or the refusal.
 pub enum TagRead {
     Read(Tag),
     Refused(Fault),

@@ -11,7 +11,7 @@ use Rattle.rules.specs.TypeFile.{Element}
 use Rattle.rules.specs.Events.{Event, dataRun}
 use Rattle.rules.specs.Given.{withAttributes}
 use Rattle.rules.specs.Records.{dueRun, recordsSettled}
-use Rattle.rules_laws.specs.In.{none, more}
+use Rattle.rules_laws.specs.In.{more}
 use Rattle.rules_laws.specs.BeforeStarts.{with-append, Plain, plain-data}
 use Rattle.record_due.specs.Due.{due}
 use Rattle.record_due.specs.Lists.{Ends, settled-ends, settled-run, plain-run}

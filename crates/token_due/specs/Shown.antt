@@ -1,17 +1,17 @@
 -- What is due behind a start tag or a run of data: what was settled before it, the starts that were inferred, and what is shown of its own events.
 use Prim.Native.Nat.{ℕ, zero, suc, _+_, _-_, _≤_, _<_}
 use mathlib.Core.Path.{_≡_, refl, sym, _∙_, ap}
-use mathlib.Core.Bool.{Bool, true, false, false≢true}
+use mathlib.Core.Bool.{Bool, true, false}
 use mathlib.Core.List.{List, [], _∷_, _++_, append-assoc}
 use native.Mathlib.Omega.{arith}
 use lib.Dec.{eqb}
 use Rattle.rules.specs.Settings.{Settings}
-use Rattle.rules.specs.Events.{Event, startWritten, startInferred, endInferred, dataRun, endOfEmpty}
+use Rattle.rules.specs.Events.{Event, startWritten, dataRun, endOfEmpty}
 use Rattle.rules.specs.Records.{isEnd, dueRun, recordsSettled}
-use Rattle.rules_laws.specs.In.{All, none, more, all-snoc}
+use Rattle.rules_laws.specs.In.{none, more, all-snoc}
 use Rattle.record_due.specs.Due.{due}
-use Rattle.record_due.specs.Lists.{Ends, Quiet, settled-quiet, due-quiet, settled-run}
-use Rattle.turn_laws.specs.Latest.{isHeld, Latest, latest-run, held-due}
+use Rattle.record_due.specs.Lists.{Ends, Quiet, settled-quiet, due-quiet, settled-run, run-whole}
+use Rattle.turn_laws.specs.Latest.{isHeld, latest-run, held-due}
 use Rattle.inferring.specs.Inferring.{EndsAt, no-end, one-end, StartsAt, no-start, one-start}
 use Rattle.placing.specs.Noting.{writtenOf, shownOf}
 
@@ -28,10 +28,6 @@ starts-are (one-start k p h) = all-snoc (starts-are h) (refl, refl)
 shown-run : (b : Bool) (p at shown n : ℕ) → shown - at ≡ n → shownOf 0 b p at shown ≡ dueRun at n
 shown-run b p at shown zero e = rw e refl
 shown-run b p at shown (suc n) e = rw e refl
-
-due-whole : (at n : ℕ) → 1 ≤ n → dueRun at n ≡ dataRun at n ∷ []
-due-whole at zero h = absurd (omega arith)
-due-whole at (suc n) h = refl
 
 module _ (c : Settings) (d : List ℕ) (ev : List Event) {starts : List Event} (quiet : Quiet starts) where
   -- What is settled before the token's own events.
@@ -51,7 +47,7 @@ module _ (c : Settings) (d : List ℕ) (ev : List Event) {starts : List Event} (
         let all : shown - at ≡ after - at = omega (arith, free h) in
         let run = dataRun at (after - at) ∷ [] in
         latest-run c d after at on (ev ++ starts) .other h ∙ settled-run c d (ev ++ starts) at (after - at) ∙ ap (λ (v : List Event). v ++ run) settled-starts ∙ append-assoc (recordsSettled c d ev) starts run
-        ∙ ap (λ (v : List Event). recordsSettled c d ev ++ (starts ++ v)) (sym (shown-run b p at shown (after - at) all ∙ due-whole at (after - at) (omega arith)))
+        ∙ ap (λ (v : List Event). recordsSettled c d ev ++ (starts ++ v)) (sym (shown-run b p at shown (after - at) all ∙ run-whole at (after - at) (omega arith)))
 
     -- A tag ends where it is shown to end.
     pub due-token : (x : ℕ) (b : Bool) (p : ℕ) → (1 ≤ x → after ≡ shown) → due c d ((ev ++ starts) ++ writtenOf x b p at after) ≡ recordsSettled c d ev ++ (starts ++ shownOf x b p at shown)

@@ -28,7 +28,7 @@ mem-again s p q h = bool-cases (mem s q) (λ e. mem-left s (p ∷ []) q e ∙ sy
 pub again-itself : (o : Open) → Again o o
 again-itself o = record { number = refl; ends = λ u h. h; last = refl; same = refl }
 
--- Once more.
+-- The place is taken once more.
 pub again-took : {o v : Open} → Again o v → (p : ℕ) → 1 ≤ p → lastOr0 (o .taken) ≡ p → mem (o .taken) p ≡ true → Again o (took v p)
 again-took {o} {v} a p l e m =
     let there : mem (v .taken) p ≡ true = ap (λ (S : ℕ → Bool). S p) (a .same) ∙ m in

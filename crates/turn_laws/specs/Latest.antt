@@ -1,35 +1,34 @@
 -- Which event is the last, by where the last tag or data ended: a run of data whose last byte is a byte 13 is held in edition 2, until it is known whether an end comes
 -- next. And what the document's end does to the events that are due.
-use Prim.Native.Nat.{ℕ, _+_, _-_, _≤_, _<_}
+use Prim.Native.Nat.{ℕ, _+_, _-_, _<_}
 use mathlib.Core.Path.{_≡_, refl, sym, _∙_, ap, subst}
 use mathlib.Core.Bool.{Bool, true, false, _&&_, false≢true}
-use mathlib.Core.List.{List, [], _∷_, _++_, append-nil, append-assoc, append-cancel-left}
+use mathlib.Core.List.{List, [], _∷_, _++_, append-nil, append-assoc, append-cancel-left, cons≢nil}
 use native.Mathlib.Omega.{arith}
 use lib.ListN.{length}
 use lib.Dec.{eqb, ltb}
 use borrow.Author.Tests.{eq-eqb, ne-eqb, lt-ltb}
 use Rattle.rules.specs.Settings.{Settings, isSecond}
 use Rattle.rules.specs.Bytes.{byteAt, RE, MDC}
-use Rattle.rules.specs.Reading.{refused, got}
+use Rattle.rules.specs.Reading.{got}
 use Rattle.rules.specs.TypeFile.{Element}
 use Rattle.rules.specs.Document.{Tag, Piece, startTag, endTag, piece}
-use Rattle.rules.specs.Elements.{endO}
 use Rattle.rules.specs.Decisions.{Decisions}
 use Rattle.rules.specs.Events.{Event, dataRun, endInferred}
-use Rattle.rules.specs.Settling.{Open, State, isComplete, startElement, endLeftOut, endElement, endFrom, endDocument}
+use Rattle.rules.specs.Settling.{State, startElement, endElement, endDocument}
 use Rattle.rules.specs.Records.{Line, isEnd, dueRun, cut, cutBeforeEnds, recordsSettled}
 use Rattle.rules.specs.Reader.{pieceUnder}
-use Rattle.rules_laws.specs.Holds.{Gives, stops, reads, on, either, so, got-so}
-use Rattle.rules_laws.specs.In.{All, none, more}
+use Rattle.rules_laws.specs.Holds.{so, got-so}
+use Rattle.rules_laws.specs.In.{none, more}
 use Rattle.rules_laws.specs.Pieces.{piece-read}
-use Rattle.rules_laws.specs.Runs.{runEnd, runEnd-in}
 use Rattle.document_laws.specs.Decide.{decided}
+use Rattle.document_laws.specs.Moves.{state}
 use Rattle.document_laws.specs.Under.{Stands, unchanged, ignored, stands, under-text}
 use Rattle.record_due.specs.Due.{dueNow, due, shown, due-none, settled-none, shown-run, shown-held}
 use Rattle.record_due.specs.Lists.{Ends, settled-ends, settled-run, due-run}
-use Rattle.turn_laws.specs.RunAtOnce.{takeRun, joins}
-use Rattle.turn_laws.specs.Leaves.{Parted, startElement-parted, endElement-parted}
-use Rattle.turn_laws.specs.Run.{run-taken}
+use Rattle.acts.specs.Settled.{Ended, all-ended, ends-then, endDocument-closed}
+use Rattle.turn_laws.specs.RunAtOnce.{joins}
+use Rattle.turn_laws.specs.Leaves.{startElement-parted, endElement-parted}
 use Rattle.turn_laws.specs.Turns.{Reaches}
 
 -- The last event
@@ -126,37 +125,30 @@ module _ (c : Settings) (d : List ℕ) (since from : ℕ) (h : from < since) whe
 
 -- The document's end
 
-module _ (s : List ℕ) (es : List Element) (D : Decisions) where
-  left-end : (at : ℕ) (o : Open) → Gives (λ (e : Event). isEnd e ≡ true) (endLeftOut s es D at o)
-  unfolding endLeftOut
-  left-end at o = either (isComplete s es D o) (λ c. either (endO es (o .number)) (λ e. reads refl) (λ e. stops tt)) (λ c. stops tt)
+-- Behind the events of z stand ends alone in y, and where there are none nothing has ended.
+pub record EndsBehind (z y : State) : Type 0 where
+  pub ends : List Event
+  pub are : Ends ends
+  pub adds : y .events ≡ z .events ++ ends
+  pub none : ends ≡ [] → y ≡ z
 
-  -- The ends that are put there: some, unless none is open.
-  pub record EndsOf (around : List Open) (before after : List Event) : Type 0 where
-    pub ends : List Event
-    pub are : Ends ends
-    pub adds : after ≡ before ++ ends
-    pub some : ends ≡ [] → around ≡ []
+-- Others come behind one end.
+ends-first : (z w y : State) (e : Event) → isEnd e ≡ true → w .events ≡ z .events ++ e ∷ [] → EndsBehind w y → EndsBehind z y
+ends-first z w y e i q r =
+    record { ends = e ∷ r .ends; are = more i (r .are); adds = r .adds ∙ ap (λ (l : List Event). l ++ r .ends) q ∙ append-assoc (z .events) (e ∷ []) (r .ends); none = λ n. absurd (cons≢nil n) }
 
-  endFrom-ends : (at : ℕ) (around : List Open) (o : Open) (ev : List Event) → Gives (EndsOf around ev) (endFrom s es D at around o ev)
-  unfolding endFrom
-  endFrom-ends at [] o ev = either (isComplete s es D o) (λ c. reads (record { ends = []; are = none; adds = sym (append-nil ev); some = λ e. refl })) (λ c. stops tt)
-  endFrom-ends at (u ∷ around) o ev =
-      on (left-end at o) λ e i.
-      so (endFrom-ends at around u (ev ++ e ∷ [])) (λ n k x. x)
-      (λ after r. record { ends = e ∷ r .ends; are = more i (r .are); adds = r .adds ∙ append-assoc ev (e ∷ []) (r .ends); some = λ q. let no : _≡_ {A = ℕ} 0 1 = cc in absurd (omega arith) })
-
-  pub endDocument-ends : (at : ℕ) (z : State) → Gives (EndsOf (z .around) (z .events)) (endDocument s es D at z)
-  unfolding endDocument
-  endDocument-ends at z = endFrom-ends at (z .around) (z .current) (z .events)
+pub ended-behind : {s : List ℕ} {es : List Element} {D : Decisions} {at : ℕ} {z y : State} → Ended s es D at z y → EndsBehind z y
+ended-behind {z = z} all-ended = record { ends = []; are = none; adds = sym (append-nil (z .events)); none = λ e. refl }
+ended-behind {at = at} {z} {y} (ends-then u us e c o r) = ends-first z (state u us (z .events ++ endInferred (z .current .number) at ∷ [])) y (endInferred (z .current .number) at) refl refl (ended-behind r)
 
 -- What was due stands, and the ends behind it.
 pub end-settles : {c : Settings} {s : List ℕ} {es : List Element} {d : List ℕ} {at : ℕ} {l : Line} {z : State} → Reaches c s es d at l z → (b : List Event) → endDocument s es (decided s es) (length d) z ≡ got (z .events ++ b)
     → recordsSettled c d (z .events ++ b) ≡ due c d (z .events) ++ b
 end-settles {c} {s} {es} {d} {z = z} r b e =
-    let x = got-so (endDocument-ends s es (decided s es) (length d) z) e in
-    let same : b ≡ x .ends = append-cancel-left (z .events) b (x .ends) (x .adds) in
-    go b (subst Ends (sym same) (x .are)) (λ i. x .some (sym same ∙ i))
+    let a = got-so (endDocument-closed s es (decided s es) (length d) z) e in
+    let x = ended-behind (a .ended) in
+    let same : b ≡ x .ends = append-cancel-left (z .events) b (x .ends) (sym (a .events) ∙ x .adds) in
+    go b (subst Ends (sym same) (x .are)) (λ i. ap (λ (w : State). w .around) (sym (x .none (sym same ∙ i))) ∙ a .nothing)
   where
     go : (b : List Event) → Ends b → (b ≡ [] → z .around ≡ []) → recordsSettled c d (z .events ++ b) ≡ due c d (z .events) ++ b
     go [] none some = ap (recordsSettled c d) (append-nil (z .events)) ∙ sym (parted-due c d (z .events) (r .outside (some refl))) ∙ sym (append-nil (due c d (z .events)))

@@ -29,7 +29,7 @@ pub record Settled (s : List ℕ) (es : List Element) (D : Decisions) (t : Token
 abbrev pub Parted : State → Type 0
 Parted z = (j : ℕ) → joins j (z .events) ≡ false
 
--- Nor on one that is new.
+-- Data goes on no event that is new.
 abbrev PartedFrom : List Event → State → Type 0
 PartedFrom before z = (j : ℕ) → joins j before ≡ false → joins j (z .events) ≡ false
 

@@ -1,8 +1,7 @@
 -- A run of data settled at once is the run settled byte by byte: after a data byte another fits as the same place.
 use Prim.Native.Nat.{ℕ, zero, suc, _+_, _-_, _≤_, _<_}
 use mathlib.Core.Path.{_≡_, refl, sym, _∙_, ap, subst}
-use mathlib.Core.Bool.{Bool, true, false, _&&_, false≢true}
-use mathlib.Core.Logic.{inl}
+use mathlib.Core.Bool.{Bool, true, false, _&&_, false≢true, and-false}
 use mathlib.Core.List.{List, [], _∷_, _++_}
 use native.Mathlib.Omega.{arith}
 use lib.ListN.{length}
@@ -30,13 +29,14 @@ use Rattle.document_laws.specs.Decide.{search, fitsIn, decided}
 use Rattle.document_laws.specs.OneReading.{accepted-decided}
 use Rattle.document_laws.specs.Moves.{state}
 use Rattle.document_laws.specs.Under.{under-blank, under-data, Stands, unchanged, ignored, stands, under-text}
-use Rattle.document_laws.specs.Same.{Begun, Passes, goes, passes-begun}
+use Rattle.document_laws.specs.Same.{Passes, goes, passes-begun}
 use Rattle.type_laws.specs.Pcdata.{pcdata-stays}
 use Rattle.turn_laws.specs.RunAtOnce.{takeRun, pieces, joins, took, Again}
 use Rattle.turn_laws.specs.Again.{again-itself, again-took, again-fits}
 use Rattle.turn_laws.specs.Joins.{withData-new, withData-more}
 use Rattle.turn_laws.specs.Enough.{pieces-stop}
-use Rattle.turn_laws.specs.Steps.{data-settles, blank-settles, settle-fits, takeData-got, Ways, refused-both, taken-both, ways}
+use Rattle.acts.specs.Pieces.{data-settles, blank-settles}
+use Rattle.turn_laws.specs.Steps.{settle-fits, takeData-got, Ways, refused-both, taken-both, ways}
 use Rattle.turn_laws.specs.Leaves.{Settled, settle-leaves, passes-bottom}
 
 -- In the document itself, which has one place, nothing fits behind that.
@@ -101,14 +101,9 @@ not-fresh o h = go (o .taken) h
     go [] h = absurd (omega arith)
     go (p ∷ ps) h = refl
 
-and-never : (a b : Bool) → (a && (b && false)) ≡ false
-and-never true true = refl
-and-never true false = refl
-and-never false b = refl
-
 pub not-ignored : (c : Settings) (d : List ℕ) (i : ℕ) (l : Line) (o : Open) → l .mark ≤ i → isFresh o ≡ false → isIgnored c d i (takenBehind i l) o ≡ false
 unfolding isIgnored atOnce
-not-ignored c d i l o h f = rw (isIgnored, atOnce, le-ltb i (l .mark) h, f, le-ltb i i (omega arith)) (and-never (isSecond c) (eqb (byteAt d i) RE))
+not-ignored c d i l o h f = rw (isIgnored, atOnce, le-ltb i (l .mark) h, f, le-ltb i i (omega arith)) (ap (λ (b : Bool). isSecond c && b) (and-false (eqb (byteAt d i) RE)) ∙ and-false (isSecond c))
 
 -- So what goes on a run in the text does so there.
 pub run-under : (c : Settings) (s : List ℕ) (es : List Element) (d : List ℕ) (i : ℕ) (l : Line) (o : Open) → isIgnored c d i l o ≡ false → isRun (piece (c .nameLength) d i) ≡ true → isRun (pieceUnder c s es d i l o) ≡ true
@@ -219,7 +214,7 @@ module _ {given : Settings} (c : Settings) (s : List ℕ) (es : List Element) (a
         let m : at + (k + 1) ≡ at + 1 + k = omega arith in
         rw m (run-any (c .nameLength) d (at + 1 + k) ∙ runs-each (length d - (at + 1)) d (at + 1) k few)
 
-    -- The whole run
+    -- The whole run is taken.
     pub run-passes : (v : Open) × Again (x .current) v × Passes c s es D d (runEnd d (at + 1)) (takenBehind (runEnd d (at + 1)) l) (state v (x .around) (x .events ++ dataRun at (runEnd d (at + 1) - at) ∷ []))
     run-passes =
         let n = runs (length d - (at + 1)) d (at + 1) in

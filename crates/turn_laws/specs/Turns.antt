@@ -28,7 +28,7 @@ use Rattle.turn_laws.specs.RunAtOnce.{takeRun, pieces, attributing, join
 use Rattle.turn_laws.specs.Joins.{joins-snoc}
 use Rattle.turn_laws.specs.Enough.{under-moves, passes-rest, pieces-end, pieces-refused, pieces-stop}
 use Rattle.turn_laws.specs.Leaves.{Parted, startElement-parted, endElement-parted}
-use Rattle.turn_laws.specs.Steps.{start-settles, end-settles, start-undeclared, end-undeclared, skipped-settles, blank-ignored}
+use Rattle.acts.specs.Pieces.{start-settles, end-settles, start-undeclared, end-undeclared, skipped-settles, blank-ignored}
 use Rattle.turn_laws.specs.Run.{runEnd-stop, run-text, run-passes, run-within, run-taken, run-refused, data-stop}
 
 -- The rules come to `at` of the document with the state z, where l says how record ends stand: neither number of it is behind `at`. A run of data that begins here or

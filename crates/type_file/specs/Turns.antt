@@ -23,14 +23,10 @@ use Rattle.element_records.specs.Progress.{Pending, KeepsProgress}
 use Rattle.attribute_lists.specs.Listed.{Headed, HeadedAs}
 use Rattle.attribute_lists.specs.Heads.{headed-none, headed-all}
 use Rattle.type_file.specs.File.{MeetsDeclarations, MeetsFile}
+use Rattle.rules_laws.specs.Declarations.{listed-length}
 
 -- The attributes of an element change nothing else of it.
 module _ (ls : List AttList) where
-  listed-count : (k : ℕ) (es : List Element) → length (listed k ls es) ≡ length es
-  unfolding listed
-  listed-count k [] = refl
-  listed-count k (e ∷ es) = ap suc (listed-count (k + 1) es)
-
   listed-records : (k : ℕ) (es : List Element) → records (listed k ls es) ≡ records es
   unfolding listed records
   listed-records k [] = refl
@@ -58,7 +54,7 @@ module _ (ls : List AttList) where
 
     listed-keeps : (elements : List ℕ) (p : Progress) (es : List Element) → KeepsProgress s elements p es → KeepsProgress s elements p (listed 1 ls es)
     listed-keeps elements p es k =
-        let n = listed-count 1 es in
+        let n = listed-length 1 ls es in
         record {
           counted = k .counted ∙ sym n;
           room = omega (arith, k .room);
@@ -72,7 +68,7 @@ module _ (ls : List AttList) where
 abbrev elementsOf : Reading Declarations → Reading (List Element)
 elementsOf r = andThen r λ d. got (listed 1 (d .lists) (d .elements))
 
--- The type file.
+-- The whole type file is read.
 module _ (long : ℕ) (turns : ℕ) (s : List ℕ) (at : ℕ) (es : List Element) (ls : List AttList) where
   file-none : length s ≤ separatorsEnd s at → length es ≡ 0 → declarationsWithin long (suc turns) s at es ls ≡ refused 8 (length s)
   unfolding declarationsWithin

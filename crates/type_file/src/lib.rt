@@ -22,6 +22,7 @@ ghost use Rattle.attribute_lists.specs.Listed.{Headed};
 ghost use Rattle.element_records.specs.Progress.{KeepsProgress, InProgress};
 ghost use Rattle.type_file.specs.File.{MeetsDeclarations, MeetsFile};
 
+// The refusal with this number at this position.
 fn refusal(number: u32, at: usize) -> Step
     ensures { λ r. ⌜ r ≡ Step.Refused (record { number = number; at = at }) ⌝ }
 {

@@ -34,7 +34,7 @@ module _ (c : Settings) (s : List ℕ) (room : ℕ) (legible : Legible c s) wher
       by-reading (refused n k) y h = malformed legible n k y (rw (h .0, h .1))
       by-reading (got es) y h = absurd h
 
-  -- an "&" is refused
+  -- An "&" is refused.
   pub decides-repeated : (es : List Element) → typeFile (c .nameLength) s ≡ got es → (n : ℕ) → n ≡ firstRepeated es → (n ≡ 0 → ⊥) → Refuses c s room (refusal 25 n 0 0)
   decides-repeated es y n e z = repeated legible es y (omega arith) (ap (λ (k : ℕ). refusal 25 k 0 0) e)
 

@@ -7,9 +7,9 @@ use mathlib.Core.Logic.{_⊎_, inl, inr}
 use native.Mathlib.Omega.{arith}
 use lib.ListN.{length}
 use Rattle.rules.specs.Settings.{Settings, isOffered}
-use Rattle.rules.specs.Bytes.{allowed, span, typeLimit, documentLimit}
+use Rattle.rules.specs.Bytes.{typeLimit, documentLimit}
 use Rattle.rules.specs.Judge.{Answer, refusal, Legible, Refuses}
-use Rattle.rules.specs.Reader.{documentRefusal, BothLegible, RefusesBoth}
+use Rattle.rules.specs.Reader.{BothLegible, RefusesBoth}
 use Rattle.rules.specs.Batch.{RefusesPart, notOffered, typeTooLong, passesEnd}
 use Rattle.rules_laws.specs.Within.{typeFile-count}
 use Rattle.layout.specs.Sizes.{RECORDS}
@@ -23,7 +23,7 @@ use Rattle.type_stage.specs.declared.Stage.{Stage}
 use Rattle.type_stage.specs.declared.Stage.the-variants as stage
 use Rattle.type_stage.specs.declared.Ordered.{Ordered}
 use Rattle.type_stage.specs.declared.Ordered.the-variants as ordered
-use Rattle.type_stage.specs.Stages.{JudgedHeads, Staged, OrderedAs, PartRefused, aloneOf, isUnclean}
+use Rattle.type_stage.specs.Stages.{Staged, OrderedAs, PartRefused, aloneOf, isUnclean}
 
 -- The tag of the first stage is none of the others.
 pub not-first : (_≡_ {A = ℕ} 0 1) ⊎ ((_≡_ {A = ℕ} 0 2) ⊎ ((_≡_ {A = ℕ} 0 3) ⊎ (_≡_ {A = ℕ} 0 4))) → ⊥

@@ -45,7 +45,7 @@ module _ {s : List ℕ} {es : List Element} {rows places facts M : List ℕ} (ta
   abbrev next : ℕ → Bool
   next p = nextAfter (contentOf es e) taken p
 
-  -- the largest place of the name
+  -- The search begins at the largest place of the name.
   abbrev top : ℕ
   top = search named (width es e)
 
@@ -143,7 +143,7 @@ module _ {s : List ℕ} {es : List Element} {rows places facts M : List ℕ} (ta
                 let (i, z) = module-next x m in
                 f g (m .numbered) (m .guarded) d taken (stands g ps n y) (has-last u i) (has-next u (sym r ∙ v)) ∙ sym (z ∙ ap (λ (z : Bool). z && mayIn (groupsAt g u) u (mem taken) q) (sym r ∙ v))
 
--- An open element
+-- Of an open element it says the same.
 module _ {s : List ℕ} {es : List Element} {rows places facts M begun : List ℕ} {level e u : ℕ} {o : Open} (tables : Tables s es rows places facts M) (entered : Entered es M begun level e u o) (t : Token) (known : Declares es t) (x p r : ℕ) (name : nameNumber t ≡ x) (read : p ≡ getD facts (e * FACT + x) 0) where
   begun-with : (g : Group) (ps : List Place) (n : ℕ) → contentOf es e ≡ model g ps n → Begins g (o .taken) × IsLast (o .taken) u
   begun-with g ps n c = (entered .begins c, entered .stands c .last)

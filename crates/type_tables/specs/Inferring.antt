@@ -51,9 +51,6 @@ infers-by places facts e p r f s es rows M tables o begun level u entered requir
     f s es rows M (o .taken) tables (record { declared = entered .declared; within = omega (arith, needs, required-most s es (tables .accepted) e (o .taken) (λ g ps n c. entered .begins c)); required = needs }) ∙ ap (inferable s es (decided s es)) (sym is)
 
 module _ (rows places facts M : List ℕ) (e p : ℕ) (s : List ℕ) (es : List Element) (taken : List ℕ) (tables : Tables s es rows places facts M) (requires : Requires s es e p taken) where
-  required-within : p ≤ width es e
-  required-within = requires .within
-
   -- The element that the required place names.
   abbrev named : ℕ
   named = elementOf s es (opened e taken) p
@@ -64,7 +61,7 @@ module _ (rows places facts M : List ℕ) (e p : ℕ) (s : List ℕ) (es : List 
 
   -- No type requires so large a place.
   pub large-required : GRPGTCNT < p → 0 ≡ inferable s es (decided s es) (opened e taken)
-  large-required l = absurd (omega (arith, required-within, width-most s es (tables .accepted) e))
+  large-required l = absurd (omega (arith, requires .within, width-most s es (tables .accepted) e))
 
   pub none-required : p ≡ 0 → 0 ≡ inferable s es (decided s es) (opened e taken)
   none-required z = sym (inferred ∙ let x : leb 1 p ≡ false = rw z in rw x)
@@ -78,7 +75,7 @@ module _ (rows places facts M : List ℕ) (e p : ℕ) (s : List ℕ) (es : List 
     stands = placeAt (placesIn (contentOf es e)) (p - 1)
 
     said : k ≡ namedBy s es (placesIn (contentOf es e)) p
-    said = read ∙ tables .places-say .named e p (requires .declared) (omega arith) required-within
+    said = read ∙ tables .places-say .named e p (requires .declared) (omega arith) (requires .within)
 
     named-range : named ≤ length es
     named-range = numberOf-range s es s (stands .at) (stands .size)

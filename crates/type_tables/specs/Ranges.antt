@@ -1,11 +1,11 @@
 -- The models of a type that is accepted: numbered, guarded, of at most 96 places; what is required in them is one of their places.
 use Prim.Native.Nat.{ℕ, zero, suc, _+_, _≤_, _<_}
 use mathlib.Core.Path.{_≡_, refl, sym, _∙_, ap, subst}
-use mathlib.Core.Bool.{Bool, true, false, cond}
+use mathlib.Core.Bool.{Bool, true, false}
 use mathlib.Core.List.{List, []}
 use native.Mathlib.Omega.{arith}
 use lib.ListN.{length, getD}
-use lib.Dec.{eqb, leb}
+use lib.Dec.{leb}
 use borrow.Author.Tests.{le-leb, lt-leb, leb-true}
 use Rattle.rules.specs.Settings.{Settings}
 use Rattle.rules.specs.Walk.{Group, Begins}
@@ -22,11 +22,6 @@ use Rattle.document_laws.specs.Decide.{requiredFor, isCompleteIn, content-guard
 use Rattle.document_laws.specs.Numbers.{typeFile-guarded}
 use Rattle.type_laws.specs.Width.{typeFile-width}
 use Rattle.type_tables.specs.Tables.{width, rowAt, placeOr0, completeRow, requiredRow, completeAt, requiredAt, Rows}
-
--- A test that is kept as a number.
-pub one-if : (b : Bool) → eqb (cond b 1 0) 1 ≡ b
-one-if true = refl
-one-if false = refl
 
 -- One model
 

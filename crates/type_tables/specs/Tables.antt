@@ -70,7 +70,7 @@ abbrev pub raisedPlace : Bool → ℕ → ℕ
 raisedPlace b zero = 0
 raisedPlace b (suc p) = cond b (RAISE + suc p) (suc p)
 
--- q is the place that a number is which may be raised; 0 where it is none.
+-- The place q is what a number is which may be raised; 0 where it is none.
 pub record Lowered (p q : ℕ) : Type 0 where
   pub small : q ≤ GRPGTCNT
   pub low : p ≤ GRPGTCNT → q ≡ p

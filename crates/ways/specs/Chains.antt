@@ -38,16 +38,6 @@ link-more k f r q h i is = by-tests (leb 1 k) (leb 1 f) r h
     by-tests true false (j ∷ js) h e = rw (h j js refl) e
     by-tests false c r h e = e
 
-link-most : (k f : ℕ) (r : List ℕ) → length (link k f r) ≤ suc (length r)
-unfolding link
-link-most k f r = by-tests (leb 1 k) (leb 1 f) r
-  where
-    by-tests : (b c : Bool) (r : List ℕ) → length {A = ℕ} (elim b [ true ↦ elim c [ true ↦ k ∷ [] | false ↦ elim r [ [] ↦ [] | j ∷ js ↦ k ∷ j ∷ js ] ] | false ↦ [] ]) ≤ suc (length r)
-    by-tests true true r = omega arith
-    by-tests true false [] = omega arith
-    by-tests true false (j ∷ js) = omega arith
-    by-tests false c r = omega arith
-
 -- How many starts there are, if any, after k others.
 abbrev past : ℕ → List ℕ → ℕ
 past k [] = 0
@@ -66,7 +56,7 @@ past-none : (k : ℕ) (f : ℕ) (r : List ℕ) → past k (link 0 f r) ≡ 0
 unfolding link
 past-none k f r = refl
 
--- By whatever decisions
+-- These hold by whatever decisions.
 module _ (s : List ℕ) (es : List Element) (D : Decisions) where
   -- The element whose start is inferred is one of the type.
   pub inferable-most : (o : Open) → inferable s es D o ≤ length es
@@ -105,14 +95,6 @@ module _ (s : List ℕ) (es : List Element) (D : Decisions) where
         let j = inferable s es D o in
         link-more j (fitting s es D (fresh j) t) _ _ (λ i is. chain-more n m (omega arith) (fresh j) i is) k ks e
 
-    -- A chain found among n elements has at most n.
-    pub chain-most : (n : ℕ) (o : Open) → length (chain s es D n t o) ≤ n
-    unfolding chain link
-    chain-most zero o = omega arith
-    chain-most (suc n) o =
-        let k = inferable s es D o in
-        omega (arith, link-most k (fitting s es D (fresh k) t) (chain s es D n t (fresh k)), chain-most n (fresh k))
-
     -- To look among more than there are finds no other.
     pub chain-enough : (n : ℕ) → length es ≤ n → (o : Open) → chain s es D n t o ≡ chain s es D (length es) t o
     chain-enough n l o = by-chain _ refl _ refl
@@ -146,7 +128,7 @@ module _ (s : List ℕ) (es : List Element) (D : Decisions) (t : Token) (o : Ope
   unfolding chainFrom
   ahead-over l = let e : CONTENTS - n ≡ 0 = omega arith in sym (h .still ∙ rw (e, chainFrom))
 
-  -- one turn, where there is one
+  -- This is one turn, where there is one.
   turn : (l : ℕ) → l ≡ CONTENTS - n → 1 ≤ l → chained s es D t o ≡ past (n - 1) (link c (fitting s es D (fresh c) t) (chainFrom s es D t (CONTENTS - (n + 1)) (inferable s es D (fresh c))))
   unfolding chainFrom
   turn zero e i = absurd (omega arith)

@@ -1,18 +1,16 @@
 -- When an end is inferred, and when the document is over.
 use Prim.Native.Nat.{ℕ, suc, zero, _≤_, _<_}
 use mathlib.Core.Path.{_≡_, refl, sym, _∙_, ap}
-use mathlib.Core.Bool.{Bool, true, false, _&&_}
+use mathlib.Core.Bool.{Bool, true, false, _&&_, and-true, and-false}
 use mathlib.Core.List.{List, [], _∷_}
 use native.Mathlib.Omega.{arith}
 use lib.Dec.{eqb, leb}
 use borrow.Author.Tests.{le-leb}
 use Rattle.rules.specs.TypeFile.{Element}
 use Rattle.rules.specs.Elements.{contentOf, endO}
-use Rattle.rules.specs.Decisions.{start}
 use Rattle.rules.specs.Settling.{State, isOver}
 use Rattle.rules.specs.Settling as rules
 use Rattle.document_laws.specs.Decide.{isCompleteIn, decided}
-use Rattle.type_tables.specs.Tables.{Declares}
 use Rattle.open_elements.specs.declared.Open.{Open}
 use Rattle.open_elements.specs.Stands.{ended, Stands}
 use Rattle.open_elements.specs.Methods.{stands-element, stands-around, stands-alone}
@@ -28,10 +26,6 @@ module _ (s : List ℕ) {es : List Element} {M begun : List ℕ} {o : Open} {z :
   pub over-says : (eqb (o .element .0) 0 && o .complete) ≡ isOver s es (decided s es) z
   over-says = rw (stands .current .entered .number) (ap (λ b. eqb (o .element .0) 0 && b) (stands .current .complete))
 
-  -- What is open is an element of the type.
-  pub stands-declared : 1 ≤ o .count → Declares es (start (o .element .0))
-  stands-declared some = (stands-element stands some, stands .current .entered .declared)
-
   -- An end is inferred by the marks, and if the parent is an element.
   may-end : 1 ≤ o .count → mayEnd s es (decided s es) (z .current) (z .around) ≡ o .complete && (endO es (o .element .0) && leb 1 (ended o .element .0))
   may-end some =
@@ -45,23 +39,14 @@ module _ (s : List ℕ) {es : List Element} {M begun : List ℕ} {o : Open} {z :
   pub document-stays : o .count ≤ 1 → false ≡ mayEnd s es (decided s es) (z .current) (z .around)
   document-stays l = by-count (o .count) refl
     where
-      none : (b c : Bool) → b && (c && false) ≡ false
-      none true true = refl
-      none true false = refl
-      none false c = refl
-
       by-count : (n : ℕ) → o .count ≡ n → false ≡ mayEnd s es (decided s es) (z .current) (z .around)
       by-count zero e = rw (stands-alone stands e) refl
       by-count (suc n) e =
           let document : ended o .element .0 ≡ 0 = stands-around stands (omega arith) .stands [] .current .document (omega arith) in
-          sym (may-end (omega arith) ∙ rw document (none (o .complete) (endO es (o .element .0))))
+          sym (may-end (omega arith) ∙ rw document (ap (λ b. o .complete && b) (and-false (endO es (o .element .0))) ∙ and-false (o .complete)))
 
   -- Any other element's parent is an element.
   pub ends-in-parent : 1 < o .count → o .complete ≡ true → endO es (o .element .0) ≡ mayEnd s es (decided s es) (z .current) (z .around)
   ends-in-parent l e =
       let inner : 1 ≤ ended o .element .0 = stands-element (stands-around stands (omega arith) .stands []) (omega arith) in
-      sym (may-end (omega arith) ∙ rw (e, le-leb 1 (ended o .element .0) inner) (all (endO es (o .element .0))))
-    where
-      all : (b : Bool) → b && true ≡ b
-      all true = refl
-      all false = refl
+      sym (may-end (omega arith) ∙ rw (e, le-leb 1 (ended o .element .0) inner) (and-true (endO es (o .element .0))))

@@ -39,7 +39,7 @@ says c = let a = first c .args in Fits (a .starts .now) (a .lengths .now) (a .fr
 read-all-requires : tie.Need-read-all-requires
 read-all-requires c κs = subst (says (c .before .before .before)) (c .before .before .if1 .taken) (c .before .before .before .are-fit .ensures)
 
--- Where the documents were read.
+-- The documents were read.
 fit : (c : tie.After-read-all) → says (asked c) true
 fit c = subst (says (asked c)) (c .before .before .before .if1 .taken) (asked c .are-fit .ensures)
 
@@ -54,7 +54,7 @@ returns-2 c =
     let r = read (c .before) in
     (Batched.noneOffered (fit r) (sym (c .before .is-offered .ensures) ∙ c .if2 .left) refl (r .read-all .ensures), omega arith)
 
--- Where they are not.
+-- The documents were not read.
 unfit : (c : tie.After-is-offered2) → says (at-else1 (c .before .before) .before) false
 unfit c =
     let else1 = at-else1 (c .before .before) in

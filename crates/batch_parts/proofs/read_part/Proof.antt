@@ -1,12 +1,12 @@
 -- `read_part` meets its contract: the part is read as the single call reads it, or is refused since it passes the string's end.
-use Prim.Native.Nat.{ℕ, _+_, _-_, _≤_}
+use Prim.Native.Nat.{_+_, _-_, _≤_}
 use mathlib.Core.Path.{_≡_, sym, _∙_}
 use native.Mathlib.Omega.{arith}
 use lib.ListN.{length, take, drop}
 use borrow.Author.Tests.{leb-true, leb-false, not-true, not-false}
 use Rattle.rules.specs.Settings.{settings}
 use Rattle.rules.specs.Lent.{Lent}
-use Rattle.rules.specs.Batch.{PartAs, stretch}
+use Rattle.rules.specs.Batch.{PartAs}
 use Rattle.answer_numbers.specs.Fits.{answer-fits, part-fits}
 use borrow.Author.Needs.{needs}
 use Rattle.batch_parts.proofs.read_part.Statement.{statement}

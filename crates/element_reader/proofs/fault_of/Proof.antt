@@ -2,19 +2,15 @@ use borrow.Author.Needs.{needs}
 use Rattle.element_reader.proofs.fault_of.Statement.{statement}
 use Rattle.element_reader.proofs.fault_of.Tie as tie
 
--- src/lib.rt:96:33
 enum-told : tie.Need-enum-told
 enum-told c = search needs
 
--- src/lib.rt:97:30
 enum-known-r : tie.Need-enum-known-r
 enum-known-r c = search needs
 
--- src/lib.rt:92:1
 returns : tie.Need-returns
 returns c = cc
 
--- src/lib.rt:92:1
 returns-2 : tie.Need-returns-2
 returns-2 c = search needs
 

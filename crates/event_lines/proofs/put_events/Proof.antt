@@ -1,5 +1,4 @@
 -- `event_lines::put_events` puts the text of the events.
-use native.Mathlib.Omega.{arith}
 use borrow.Author.Needs.{needs}
 use Rattle.event_lines.specs.LineByLine.{puts-events}
 use Rattle.event_lines.proofs.put_events.Statement.{statement}

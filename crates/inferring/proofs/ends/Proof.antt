@@ -40,7 +40,7 @@ may-end-requires c κs = search needs
 abbrev first : tie.At-loop Inv-loop μ-loop → tie.Start Inv-loop μ-loop
 first c = c .before .before .before .before
 
--- an end is inferred: something is open, and its content complete
+-- An end is inferred: something is open, and its content is complete.
 goes-on : (c : tie.Else1 Inv-loop μ-loop) →
     let o = at-loop (c .before .before .before .before) .loop .o in
     (1 < o .count) × (o .complete ≡ true)

@@ -1,7 +1,6 @@
 -- `end_fault` meets its contract: each way by what the tables answer.
 use borrow.Author.Tests.{not-true, not-false}
 use Rattle.left_out_ends.specs.Loop.{judges-incomplete, judges-required, judges-out}
-use borrow.Author.Needs.{needs}
 use Rattle.left_out_ends.proofs.end_fault.Statement.{statement}
 use Rattle.left_out_ends.proofs.end_fault.Tie as tie
 

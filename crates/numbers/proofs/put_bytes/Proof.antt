@@ -1,8 +1,8 @@
 -- `put_bytes` meets its contract: after k turns the bytes of the first k numbers stand at the start, and the rest is as it was.
-use Prim.Native.Nat.{_≤_, _*_, _-_}
+use Prim.Native.Nat.{_≤_, _-_}
 use mathlib.Core.Path.{_≡_, refl, sym, _∙_}
 use native.Mathlib.Omega.{arith}
-use lib.ListN.{length, take, length-set}
+use lib.ListN.{length, take}
 use Rattle.rules.specs.Lent.{bytesOf}
 use Rattle.numbers.specs.Stores.{spliced, splice-none, splice-first, bytes-turn}
 use Rattle.numbers.proofs.put_bytes.Statement.{statement}

@@ -1,6 +1,5 @@
 -- `is_ignored` meets its contract: each `return` is a case of the rule.
 use mathlib.Core.Path.{sym, _∙_}
-use native.Mathlib.Omega.{arith}
 use borrow.Author.Needs.{needs}
 use Rattle.record_ends.specs.Ignoring.{ignored-first, ignored-other, ignored-marked, ignored-fresh, ignored-directly, ignored-held}
 use Rattle.record_ends.proofs.is_ignored.Statement.{statement}

@@ -1,6 +1,5 @@
 -- `are_apart` meets its contract: one of them has no number, or one ends before the other begins, or they share a number.
 use mathlib.Core.Path.{sym, _∙_}
-use native.Mathlib.Omega.{arith}
 use borrow.Author.Needs.{needs}
 use borrow.Author.Tests.{leb-true, leb-false}
 use Rattle.stretches.specs.Tests.{apart-behind, apart-by}

@@ -1,7 +1,7 @@
 -- `is_apart` meets its contract: after j turns the i-th stretch shares no number with the first j.
 use Prim.Native.Nat.{_-_, _≤_}
 use mathlib.Core.Bool.{true}
-use mathlib.Core.Path.{sym, _∙_, subst}
+use mathlib.Core.Path.{subst}
 use native.Mathlib.Omega.{arith}
 use lib.ListN.{getD}
 use borrow.Author.Tests.{not-true, not-false}

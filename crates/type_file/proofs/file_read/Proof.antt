@@ -56,9 +56,6 @@ loop-holds c = (c .before .pre .0, reads-start (c .before .args .long) (c .befor
 separators-end-requires : tie.Need-separators-end-requires Inv-loop μ-loop
 separators-end-requires c κs = c .loop .inv .1 .keeps .at-in
 
-refusal-requires : tie.Need-refusal-requires Inv-loop μ-loop
-refusal-requires c κs = tt
-
 returns : tie.Need-returns Inv-loop μ-loop
 returns c =
     let x = c .before .before .before .before .before .before .before .args in
@@ -87,9 +84,7 @@ returns-3 c =
     (read (c .before .before))
 
 loop-less : tie.Need-loop-less Inv-loop μ-loop
-loop-less c =
-    let (on, further, within) = turned (c .before) in
-    omega arith
+loop-less c = omega (arith, turned (c .before) .1, turned (c .before) .2)
 
 loop-again : tie.Need-loop-again Inv-loop μ-loop
 loop-again c = (at-separators-end (c .before .before .before) .before .loop .inv .0, turned (c .before) .0)
@@ -102,7 +97,7 @@ file-read-spec =
     μ-loop
     loop-holds
     separators-end-requires
-    refusal-requires
+    (λ c κs. tt)
     returns
     returns-2
     declaration-at-requires

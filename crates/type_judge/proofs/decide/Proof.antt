@@ -1,7 +1,6 @@
 -- `decide` meets its contract: each way by the tests that led there.
 use mathlib.Core.Path.{_≡_, refl, sym, _∙_}
 use mathlib.Core.Bool.{true}
-use native.Mathlib.Omega.{arith}
 use borrow.Author.Tests.{not-true, not-false}
 use Rattle.rules.specs.Settings.{isOffered}
 use Rattle.rules.specs.Judge.{Legible, notOffered, tooLong, notAllowed}

@@ -20,13 +20,13 @@ abbrev μ-loop : tie.MeasureT-loop
 abbrev at-loop-turn : (c : tie.After-fitting-first Inv-loop μ-loop) → tie.In-loop Inv-loop μ-loop
 at-loop-turn c = c .before .before .before
 
--- what is still to be looked for
+-- This is still to be looked for.
 looks : (p : tie.At-loop Inv-loop μ-loop) →
     let a = p .before .before .args in
     Looks (a .rows .now) (a .places .now) (a .facts .now) (a .e .0) (a .q .0) (a .x .0) (p .loop .c .0) (p .loop .n)
 looks p = p .loop .inv .2 .on _ _ (looks-start _ _ _ _ _ _ _ (p .before .startable .ensures .0))
 
--- the chain goes on
+-- The chain goes on.
 there : (c : tie.Then1 Inv-loop μ-loop) → c .before .before .before .loop .c .0 ≡ 0 → ⊥
 there c = eqb-false _ _ (not-true _ (c .if1 .taken))
 

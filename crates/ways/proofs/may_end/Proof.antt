@@ -5,7 +5,8 @@ use mathlib.Core.Bool.{true, false}
 use native.Mathlib.Omega.{arith}
 use borrow.Author.Needs.{needs}
 use borrow.Author.Tests.{not-true, not-false}
-use Rattle.ways.specs.Ends.{stands-declared, document-stays, incomplete-stays, ends-in-parent}
+use Rattle.open_elements.specs.Methods.{stands-declared}
+use Rattle.ways.specs.Ends.{document-stays, incomplete-stays, ends-in-parent}
 use Rattle.ways.proofs.may_end.Statement.{statement}
 use Rattle.ways.proofs.may_end.Tie as tie
 
@@ -25,7 +26,7 @@ returns-3 : tie.Need-returns-3
 returns-3 c =
     let inner = c .before .before .before .before .if1 .left in
     let complete = not-false _ (c .before .before .if2 .left) in (
-      λ s es raised facts M begun z stands. c .end-omitted .ensures s es raised facts (stands-declared s stands (omega (arith, inner))) ∙ ends-in-parent s stands (omega (arith, inner)) complete,
+      λ s es raised facts M begun z stands. c .end-omitted .ensures s es raised facts (stands-declared stands (omega (arith, inner))) ∙ ends-in-parent s stands (omega (arith, inner)) complete,
       λ e. (omega (arith, inner), complete),
     )
 

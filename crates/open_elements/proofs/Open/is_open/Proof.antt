@@ -25,7 +25,7 @@ at-start c = at-start-2 (c .before .before .before)
 abbrev at-loop : (c : tie.After-number Inv-loop μ-loop) → tie.At-loop Inv-loop μ-loop
 at-loop c = c .before .before .before
 
--- the current element is another
+-- The current element is another.
 past : (p : tie.At-loop Inv-loop μ-loop) →
     let a = at-start p .args in
     isOpen (a .x .0) (bare (a .self)) ≡ isOpen (a .x .0) (aroundOf (a .self .around) (p .loop .i))

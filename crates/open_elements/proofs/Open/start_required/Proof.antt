@@ -26,7 +26,7 @@ take-requires c κs = search needs
 weighed-requires : tie.Need-weighed-requires
 weighed-requires c κs = search needs
 
--- the place is taken
+-- The place is taken.
 took : (c : tie.Joined1) →
     let a = at-start (c .before .before .before) .args in
     Taking (a .rows .now) (a .members .now) (a .begun .now) (a .self .required .0) (a .self)
