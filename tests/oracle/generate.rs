@@ -469,7 +469,7 @@ pub fn name_length(random: &mut Random) -> usize {
 
 /// The text with some names made longer, for readers that allow `longest` bytes to a name: those of 8 come
 /// to just that, the one of 9 to one more, others to a length between. What is a name goes by its bytes
-/// alone, so that a type file and a document go on together, damaged or not.
+/// alone, so that a type file and a document go on together, damaged or not; NAME, which is a declared value too, stays.
 pub fn stretched(text: &[u8], longest: usize) -> Vec<u8> {
     let is_name_byte = |byte: &u8| byte.is_ascii_alphanumeric() || b".-".contains(byte);
     let mut changed = Vec::new();
@@ -487,7 +487,7 @@ pub fn stretched(text: &[u8], longest: usize) -> Vec<u8> {
             b"ABCDEFGH" | b"UVWXYZ12" => longest,
             b"ABCDEFGHI" => longest + 1,
             b"LIST" => longest - 1,
-            b"ITEM" | b"NAME" => 9,
+            b"ITEM" => 9,
             b"X-Y" => (8 + longest) / 2,
             _ => name.len(),
         };
