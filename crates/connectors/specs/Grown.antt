@@ -79,6 +79,19 @@ module _ (s : List ℕ) (t : Tokens) where
 abbrev pub goneOn : Model → (at : ℕ) → Part → (code repeated : ℕ) → Model
 goneOn m at p c q = record { at = at; places = m .places; tokens = m .tokens; part = p; code = c; and = m .and; repeated = q }
 
+-- A group with "?" behind it, and one with "+", where that ends at `end`, as the code does it.
+abbrev pub optModel : (end : ℕ) → Model → Model
+optModel end m = goneOn m end (part true 0) (codeNext (m .code)) (m .repeated)
+
+abbrev pub optTable : Model → List ℕ → List ℕ
+optTable m T = putCode T (m .code) OPT-CODE
+
+abbrev pub plusModel : (end : ℕ) → Model → Model
+plusModel end m = goneOn m end (m .part) (codeNext (m .code)) (m .and)
+
+abbrev pub plusTable : (lo : ℕ) → Model → List ℕ → List ℕ
+plusTable lo m T = putCode (repeated T lo (m .places + 1)) (m .code) PLUS-CODE
+
 -- A model goes on: another group of as many places, and another end.
 module _ (end lo : ℕ) (T : List ℕ) (n d k joint : ℕ) (names table table' : List ℕ) (m : Model) (t : Tokens) (K : Keeps end (begun lo T n d) k joint names table m t) where
   pub keeps-on : (e : ℕ) (g : Group) (a b : ℕ) (p : Part) (c q r : ℕ) → a ≡ b → b ≤ end → p ≡ partOf g → q ≡ r
@@ -156,32 +169,31 @@ module _ (s : List ℕ) (lo : ℕ) (T : List ℕ) (n d : ℕ) (names table : Lis
   before : Ready (begun lo T n d) → Tabled (begun lo T n (d + 2)) (t .group) (codes (t .group)) (t .tokens) table (m .code)
   before r = K .tabled (ready-more lo T n (omega arith) r)
 
-  pub occurs-opt : (p : Part) (table' : List ℕ) (c : ℕ) → b ≡ OPT → p ≡ part true 0 → table' ≡ putCode table (m .code) OPT-CODE → c ≡ codeNext (m .code)
-      → Keeps (length s) (begun lo T n d) 1 0 names table' (goneOn m (m .at + 1) p c (m .repeated)) (occurrence s t)
-  occurs-opt p table' c e q f g =
-      rw (occurrence-opt s t (is OPT e), f, g)
-      (keeps-on _ lo T n (d + 2) 1 0 names table (putCode table (m .code) OPT-CODE) m t K d (opt (t .group)) _ _ p _ _ _ (ap (λ (n : ℕ). n + 1) (K .at)) (at-after OPT e (omega arith)) q (K .repeated-at)
-      (λ r. let x = before r in tabled-put lo T n d (t .tokens) (m .code) OPT-CODE (opt (t .group)) (codes (t .group)) table r (last-place _ lo T n (d + 2) 1 0 names table table m t K) (K .tokens-in) (x .filled) (x .code-holds) (omega (arith, x .room)))
-      (K .numbered) refl)
+  plus-tabled : (e : ℕ) → e + 1 ≤ d + 2 → Ready (begun lo T n d) → Ready (begun lo T n e) → Tabled (begun lo T n e) (plus (t .group)) (codes (plus (t .group))) (t .tokens) (plusTable lo m table) (codeNext (m .code))
+  plus-tabled e h a i =
+      tabled-plus lo T n e (t .tokens) (m .code) table (repeated table lo (m .places + 1)) (t .group) (K .from) (last-place _ lo T n (d + 2) 1 0 names table table m t K) (K .tokens-in) (K .numbered) (m .places + 1) (next-place _ lo T n (d + 2) 1 0 names table table m t K) refl i (tabled-less lo T n h (before a))
 
-  module _ (table' : List ℕ) (x : b ≡ OPT → ⊥) (r : table' ≡ repeated table lo (m .places + 1)) where
-    plus-tabled : (e : ℕ) → e + 1 ≤ d + 2 → Ready (begun lo T n d) → Ready (begun lo T n e) → Tabled (begun lo T n e) (plus (t .group)) (codes (plus (t .group))) (t .tokens) (putCode table' (m .code) PLUS-CODE) (codeNext (m .code))
-    plus-tabled e h a i =
-        tabled-plus lo T n e (t .tokens) (m .code) table table' (t .group) (K .from) (last-place _ lo T n (d + 2) 1 0 names table table m t K) (K .tokens-in) (K .numbered) (m .places + 1) (next-place _ lo T n (d + 2) 1 0 names table table m t K) r i (tabled-less lo T n h (before a))
+  module _ {r : Model} {table' : List ℕ} where
+    pub occurs-opt : b ≡ OPT → r ≡ optModel (m .at + 1) m → table' ≡ optTable m table → Keeps (length s) (begun lo T n d) 1 0 names table' r (occurrence s t)
+    occurs-opt e f g =
+        rw (occurrence-opt s t (is OPT e), f, g)
+        (keeps-on _ lo T n (d + 2) 1 0 names table (optTable m table) m t K d (opt (t .group)) _ _ _ _ _ _ (ap (λ (n : ℕ). n + 1) (K .at)) (at-after OPT e (omega arith)) refl (K .repeated-at)
+        (λ r. let x = before r in tabled-put lo T n d (t .tokens) (m .code) OPT-CODE (opt (t .group)) (codes (t .group)) table r (last-place _ lo T n (d + 2) 1 0 names table table m t K) (K .tokens-in) (x .filled) (x .code-holds) (omega (arith, x .room)))
+        (K .numbered) refl)
 
-    pub occurs-plus : (table″ : List ℕ) (c : ℕ) → b ≡ PLUS → table″ ≡ putCode table' (m .code) PLUS-CODE → c ≡ codeNext (m .code)
-        → Keeps (length s) (begun lo T n d) 1 0 names table″ (goneOn m (m .at + 1) (m .part) c (m .and)) (occurrence s t)
-    occurs-plus table″ c e f g =
+    pub occurs-plus : (b ≡ OPT → ⊥) → b ≡ PLUS → r ≡ plusModel (m .at + 1) m → table' ≡ plusTable lo m table → Keeps (length s) (begun lo T n d) 1 0 names table' r (occurrence s t)
+    occurs-plus x e f g =
         rw (occurrence-plus s t (not OPT x) (is PLUS e), f, g)
-        (keeps-on _ lo T n (d + 2) 1 0 names table (putCode table' (m .code) PLUS-CODE) m t K d (plus (t .group)) _ _ _ _ _ _ (ap (λ (n : ℕ). n + 1) (K .at)) (at-after PLUS e (omega arith)) (K .part) (K .and-at)
+        (keeps-on _ lo T n (d + 2) 1 0 names table (plusTable lo m table) m t K d (plus (t .group)) _ _ _ _ _ _ (ap (λ (n : ℕ). n + 1) (K .at)) (at-after PLUS e (omega arith)) (K .part) (K .and-at)
         (λ a. plus-tabled d (omega arith) a a) (K .numbered) refl)
 
-    pub occurs-star : (p : Part) (once table″ : List ℕ) (c c' : ℕ) → (b ≡ PLUS → ⊥) → b ≡ REP → p ≡ part true 0 → once ≡ putCode table' (m .code) PLUS-CODE → c ≡ codeNext (m .code) → table″ ≡ putCode once c OPT-CODE → c' ≡ codeNext c
-        → Keeps (length s) (begun lo T n d) 1 0 names table″ (goneOn m (m .at + 1) p c' (m .and)) (occurrence s t)
-    occurs-star p once table″ c c' y e q f g h i =
-        let S : List ℕ = putCode table' (m .code) PLUS-CODE in
+    -- "*" is "+" and then "?".
+    pub occurs-star : {some : Model} {once : List ℕ} → (b ≡ OPT → ⊥) → (b ≡ PLUS → ⊥) → b ≡ REP → some ≡ plusModel (m .at + 1) m → once ≡ plusTable lo m table → r ≡ optModel (m .at + 1) some → table' ≡ optTable some once
+        → Keeps (length s) (begun lo T n d) 1 0 names table' r (occurrence s t)
+    occurs-star x y e f g h i =
+        let S : List ℕ = plusTable lo m table in
         rw (occurrence-star s t (not OPT x) (not PLUS y) (is REP e), h, i, f, g)
-        (keeps-on _ lo T n (d + 2) 1 0 names table (putCode S (codeNext (m .code)) OPT-CODE) m t K d (star (t .group)) _ _ p _ _ _ (ap (λ (n : ℕ). n + 1) (K .at)) (at-after REP e (omega arith)) q (K .and-at)
+        (keeps-on _ lo T n (d + 2) 1 0 names table (putCode S (codeNext (m .code)) OPT-CODE) m t K d (star (t .group)) _ _ _ _ _ _ (ap (λ (n : ℕ). n + 1) (K .at)) (at-after REP e (omega arith)) refl (K .and-at)
         (λ a.
         let z = plus-tabled (d + 1) (omega arith) a (ready-more lo T n (omega arith) a) in
         tabled-put lo T n d (t .tokens) (codeNext (m .code)) OPT-CODE (star (t .group)) (codes (plus (t .group))) S a (last-place _ lo T n (d + 2) 1 0 names table table m t K) (K .tokens-in) (z .filled) (z .code-holds) (z .room))

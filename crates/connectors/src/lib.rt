@@ -10,6 +10,7 @@ ghost use lib.ListN.{length};
 ghost use Rattle.rules.specs.TypeFile.{Tokens, occurrence, isConnector, earlier};
 ghost use Rattle.rules.specs.Bytes.{GRPGTCNT, typeLimit};
 ghost use Rattle.connectors.specs.Kept.{begun, Keeps, joinModel, joinTable};
+ghost use Rattle.connectors.specs.Grown.{optModel, optTable, plusModel, plusTable};
 
 // What is kept of a model while it is read: where it ends so far, how many places and content tokens it has, what
 // its table goes on with, how many numbers its code has, and where the first "&" of the group stands and the first that is refused, or 0.
@@ -23,6 +24,41 @@ pub struct Model {
     pub repeated: u16,
 }
 
+// The group m with "?" behind it, which ends at `end`: it may be left out.
+fn with_opt(table: &mut [u8; MODEL], end: usize, m: Model) -> Model
+    ensures { λ r. ⌜ r ≡ optModel end m ⌝ }
+    ensures { λ _. ⌜ now (table .exit) ≡ optTable m (now (table .entry)) ⌝ }
+{
+    Model {
+        at: end,
+        places: m.places,
+        tokens: m.tokens,
+        part: model_table::optional(m.part),
+        code: model_code::put(table, m.code, model_code::OPT_CODE),
+        and: m.and,
+        repeated: m.repeated,
+    }
+}
+
+// The group m, whose first place is `lo`, with "+" behind it, which ends at `end`: it may come again, and its first "&" is refused then.
+fn with_plus(table: &mut [u8; MODEL], lo: usize, end: usize, m: Model) -> Model
+    requires { ⌜ m .places ≤ GRPGTCNT ⌝ }
+    ensures { λ r. ⌜ r ≡ plusModel end m ⌝ }
+    ensures { λ _. ⌜ now (table .exit) ≡ plusTable lo m (now (table .entry)) ⌝ }
+{
+    let part = m.part;
+    model_table::repeat(table, lo, m.places + 1);
+    Model {
+        at: end,
+        places: m.places,
+        tokens: m.tokens,
+        part: part,
+        code: model_code::put(table, m.code, model_code::PLUS_CODE),
+        and: m.and,
+        repeated: m.and,
+    }
+}
+
 // The occurrence indicator at once after a name or a group whose first place is `lo`. What it gives where m and the table stand for no
 // such group is not decided.
 pub fn with_occurrence(s: &[u8], table: &mut [u8; MODEL], lo: usize, m: Model) -> Model
@@ -32,47 +68,16 @@ pub fn with_occurrence(s: &[u8], table: &mut [u8; MODEL], lo: usize, m: Model) -
         Keeps (length (now (s .entry))) (begun lo T n d) 1 0 names (now (table .exit)) r (occurrence (now (s .entry)) t)) ⌝ }
 {
     let at = m.at;
-    let places = m.places;
-    let tokens = m.tokens;
-    let part = m.part;
-    let code = m.code;
-    let and = m.and;
     let b = text::byte(s, at);
     if b == b'?' {
-        return Model {
-            at: at + 1,
-            places: places,
-            tokens: tokens,
-            part: model_table::optional(part),
-            code: model_code::put(table, code, model_code::OPT_CODE),
-            and: and,
-            repeated: m.repeated,
-        };
+        return with_opt(table, at + 1, m);
     }
     if b == b'+' {
-        model_table::repeat(table, lo, places + 1);
-        return Model {
-            at: at + 1,
-            places: places,
-            tokens: tokens,
-            part: part,
-            code: model_code::put(table, code, model_code::PLUS_CODE),
-            and: and,
-            repeated: and,
-        };
+        return with_plus(table, lo, at + 1, m);
     }
     if b == b'*' {
-        model_table::repeat(table, lo, places + 1);
-        let once = model_code::put(table, code, model_code::PLUS_CODE);
-        return Model {
-            at: at + 1,
-            places: places,
-            tokens: tokens,
-            part: model_table::optional(part),
-            code: model_code::put(table, once, model_code::OPT_CODE),
-            and: and,
-            repeated: and,
-        };
+        let some = with_plus(table, lo, at + 1, m);
+        return with_opt(table, at + 1, some);
     }
     m
 }

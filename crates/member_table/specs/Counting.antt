@@ -50,9 +50,6 @@ module _ (stack : List Piece) (first own needed j n : ℕ) (so : n ≡ neededIn 
   pub number-needed : pieceAt stack (first + j) .null ≡ false → (h : ℕ) → h ≡ own + n → h ≡ numberAt stack first own needed j
   number-needed e h is = rw (e, sym so) is
 
--- The number of a member of a group that has room is small, and so is how many cannot be nothing.
+-- The number of a member of a group that has room is small.
 pub number-small : (stack : List Piece) (first own needed j k : ℕ) → needed ≡ neededIn stack first k → j < k → own + k ≤ POSITIONS → numberAt stack first own needed j < POSITIONS
 number-small stack first own needed j k e l room = let less = number-below stack first own j k l in rw e (omega (arith, less))
-
-pub needed-small : (stack : List Piece) (first needed k : ℕ) → needed ≡ neededIn stack first k → needed ≤ k
-needed-small stack first needed k e = rw e (needed-below stack first k)

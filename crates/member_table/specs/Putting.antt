@@ -7,7 +7,7 @@ use borrow.Author.Tests.{eq-eqb, ne-eqb}
 use Rattle.model_links.specs.Each.{each, each-none, each-more, each-turn, each-end}
 use Rattle.member_entries.specs.Entries.{putMember, putRecord}
 use Rattle.member_table.specs.declared.Piece.{Piece}
-use Rattle.member_table.specs.Filling.{pieceAt, numberAt, otherAt, putOne, putOnes, putGroup}
+use Rattle.member_table.specs.Filling.{pieceAt, neededIn, numberAt, otherAt, putOne, putOnes, putGroup}
 
 -- A place that begins another member.
 module _ (stack : List Piece) (first j o : ℕ) where
@@ -51,5 +51,7 @@ module _ (M : List ℕ) (base : ℕ) (T lasts : List ℕ) (groups own : ℕ) (st
   ones-first =
       ones-last 0 ∙ ap (λ (S : List ℕ). putOne S base T lasts groups own stack first needed 0) (each-none (λ N i. putOne N base T lasts groups own stack first needed i) M 0 0 (omega arith))
 
-  pub group-put : (k : ℕ) (S R : List ℕ) → S ≡ putRecord M base groups own needed k → R ≡ putOnes S base T lasts groups own stack first needed 0 k → R ≡ putGroup M base T lasts groups own stack first needed k
-  group-put k S R e f = rw (e) at f
+pub group-put :
+    (M : List ℕ) (base : ℕ) (T lasts : List ℕ) (groups own : ℕ) (stack : List Piece) (first needed k : ℕ) → needed ≡ neededIn stack first k → (S R : List ℕ) → S ≡ putRecord M base groups own needed k → R ≡ putOnes S base T lasts groups own stack first needed 0 k →
+    R ≡ putGroup M base T lasts groups own stack first (neededIn stack first k) k
+group-put M base T lasts groups own stack first needed k n S R e f = rw (e, n) at f

@@ -5,13 +5,13 @@ use mathlib.Core.Bool.{true, false, _&&_}
 use lib.Dec.{ltb, leb}
 use mathlib.Core.List.{List}
 use native.Mathlib.Omega.{arith}
-use lib.ListN.{length, getD, set}
+use lib.ListN.{length, getD, set, replicate}
 use borrow.Author.Tests.{eq-eqb, ne-eqb, lt-ltb, le-ltb, le-leb, lt-leb, ltb-true, leb-true}
 use Rattle.model_code.specs.Codes.{AND-CODE, OPT-CODE, PLUS-CODE, SEQ-CODE}
 use Rattle.basic_laws.specs.Truth.{and-left, and-right}
 use Rattle.layout.specs.Sizes.{MODEL-ROWS, CODE, AND-GROUPS, POSITIONS}
 use Rattle.member_table.specs.declared.Piece.{Piece}
-use Rattle.member_table.specs.Filling.{State, pieceAt, placePiece, optPiece, joinedPiece, closedPiece, neededIn, putGroup, fits, closeGroup, stepFill, startFill, runFill}
+use Rattle.member_table.specs.Filling.{State, nonePiece, pieceAt, placePiece, optPiece, joinedPiece, closedPiece, neededIn, putGroup, fits, closeGroup, stepFill, runFill}
 
 abbrev pub stateOf : List ℕ → List Piece → ℕ → List ℕ → (groups count : ℕ) → State
 stateOf M stack top lasts groups count = record { members = M; stack = stack; top = top; lasts = lasts; groups = groups; count = count }
@@ -24,9 +24,9 @@ pub record Running (T : List ℕ) (base : ℕ) (M₀ : List ℕ) (i : ℕ) (M : 
   pub fewer : count < POSITIONS
   pub is : stateOf M stack top lasts groups count ≡ runFill M₀ base T i
 
-pub run-start : (T : List ℕ) (base : ℕ) (M : List ℕ) → startFill M ≡ runFill M base T 0
+pub run-start : (T : List ℕ) (base : ℕ) (M : List ℕ) (none : Piece) → none ≡ nonePiece → stateOf M (replicate POSITIONS none) 0 (replicate (AND-GROUPS + 1) 0) 0 0 ≡ runFill M base T 0
 unfolding runFill
-run-start T base M = refl
+run-start T base M none e = rw e
 
 run-next : (T : List ℕ) (base : ℕ) (M : List ℕ) (i : ℕ) → i < CODE → stepFill base T (runFill M base T i) (getD T (MODEL-ROWS + i) 0) ≡ runFill M base T (i + 1)
 unfolding runFill
@@ -62,14 +62,14 @@ module _ (T : List ℕ) (base : ℕ) (M₀ : List ℕ) (i : ℕ) (M : List ℕ) 
   stacks k x up u l e =
       record { long = so .long; low = l; few = so .few; fewer = so .fewer; is = ap (λ (n : ℕ). stateOf M (set stack k x) n lasts groups count) u ∙ stepped (stateOf M (set stack k x) (k + 1) lasts groups count) e }
 
-  pub runs-place : op < SEQ-CODE → top < POSITIONS → Running T base M₀ (i + 1) M (set stack top (placePiece op)) (top + 1) lasts groups count
-  runs-place small l = stacks top (placePiece op) (top + 1) refl (omega arith) (rw (lt-ltb op SEQ-CODE small, lt-ltb top POSITIONS l))
+  pub runs-place : op < SEQ-CODE → top < POSITIONS → (x : Piece) → x ≡ placePiece op → Running T base M₀ (i + 1) M (set stack top x) (top + 1) lasts groups count
+  runs-place small l x e = rw e (stacks top (placePiece op) (top + 1) refl (omega arith) (rw (lt-ltb op SEQ-CODE small, lt-ltb top POSITIONS l)))
 
   pub runs-full : op < SEQ-CODE → POSITIONS ≤ top → Running T base M₀ (i + 1) M stack top lasts groups count
   runs-full small l = stays (rw (lt-ltb op SEQ-CODE small, le-ltb top POSITIONS l))
 
-  pub runs-opt : op ≡ OPT-CODE → 1 ≤ top → Running T base M₀ (i + 1) M (set stack (top - 1) (optPiece (pieceAt stack (top - 1)))) top lasts groups count
-  runs-opt is l = stacks (top - 1) (optPiece (pieceAt stack (top - 1))) top (omega arith) (so .low) (rw (le-ltb op SEQ-CODE (omega arith), eq-eqb op OPT-CODE is, le-leb 1 top l))
+  pub runs-opt : op ≡ OPT-CODE → 1 ≤ top → (x : Piece) → x ≡ optPiece (pieceAt stack (top - 1)) → Running T base M₀ (i + 1) M (set stack (top - 1) x) top lasts groups count
+  runs-opt is l x e = rw e (stacks (top - 1) (optPiece (pieceAt stack (top - 1))) top (omega arith) (so .low) (rw (le-ltb op SEQ-CODE (omega arith), eq-eqb op OPT-CODE is, le-leb 1 top l)))
 
   pub runs-opt-none : op ≡ OPT-CODE → top < 1 → Running T base M₀ (i + 1) M stack top lasts groups count
   runs-opt-none is l = stays (rw (le-ltb op SEQ-CODE (omega arith), eq-eqb op OPT-CODE is, lt-leb 1 top l))
@@ -94,13 +94,14 @@ module _ (T : List ℕ) (base : ℕ) (M₀ : List ℕ) (i : ℕ) (M : List ℕ) 
   -- A group ends: its members are on the stack, and there is room for them.
   pub runs-close :
       AND-CODE < op → (wide : ℕ) → wide ≡ op → fits (wide - AND-CODE) top groups count ≡ true → (needed : ℕ) → needed ≡ neededIn stack (top - (wide - AND-CODE)) (wide - AND-CODE) →
-      (M₁ : List ℕ) → length M₁ ≡ length M → M₁ ≡ putGroup M base T lasts groups (count + 1) stack (top - (wide - AND-CODE)) needed (wide - AND-CODE) →
-      Running T base M₀ (i + 1) M₁ (set stack (top - (wide - AND-CODE)) (closedPiece needed (pieceAt stack (top - (wide - AND-CODE))) (pieceAt stack (top - 1)))) (top - (wide - AND-CODE) + 1)
+      (M₁ : List ℕ) → length M₁ ≡ length M → M₁ ≡ putGroup M base T lasts groups (count + 1) stack (top - (wide - AND-CODE)) (neededIn stack (top - (wide - AND-CODE)) (wide - AND-CODE)) (wide - AND-CODE) →
+      (x : Piece) → x ≡ closedPiece needed (pieceAt stack (top - (wide - AND-CODE))) (pieceAt stack (top - 1)) →
+      Running T base M₀ (i + 1) M₁ (set stack (top - (wide - AND-CODE)) x) (top - (wide - AND-CODE) + 1)
       (set lasts (groups + 1) (pieceAt stack (top - 1) .last)) (groups + 1) (count + (wide - AND-CODE))
-  runs-close n wide e f needed is M₁ len puts =
+  runs-close n wide e f needed is M₁ len puts x shut =
       let told = fits-told (wide - AND-CODE) top groups count f in
       let g : fits (op - AND-CODE) top groups count ≡ true = rw e at f in
-      let closed : stateOf M₁ (set stack (top - (wide - AND-CODE)) (closedPiece needed (pieceAt stack (top - (wide - AND-CODE))) (pieceAt stack (top - 1)))) (top - (wide - AND-CODE) + 1) (set lasts (groups + 1) (pieceAt stack (top - 1) .last)) (groups + 1) (count + (wide - AND-CODE)) ≡ closeGroup base T (op - AND-CODE) (stateOf M stack top lasts groups count) = rw (puts, is, e) in
+      let closed : stateOf M₁ (set stack (top - (wide - AND-CODE)) x) (top - (wide - AND-CODE) + 1) (set lasts (groups + 1) (pieceAt stack (top - 1) .last)) (groups + 1) (count + (wide - AND-CODE)) ≡ closeGroup base T (op - AND-CODE) (stateOf M stack top lasts groups count) = rw (puts, shut, is, e) in
       record {
         long = len ∙ so .long;
         low = omega (arith, told .0, so .low);

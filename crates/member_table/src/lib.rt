@@ -14,7 +14,7 @@ ghost use mathlib.Core.Path.{_≡_};
 ghost use Prim.Native.Nat.{_+_, _*_, _≤_, _<_};
 ghost use Rattle.rules.specs.Bytes.{GRPGTCNT};
 ghost use Rattle.layout.specs.Sizes.{AND-GROUPS, CONTENTS, MEMBERS, POSITIONS};
-ghost use Rattle.member_table.specs.Filling.{neededIn, numberAt, putOne, putGroup, fits, joinedPiece, filled};
+ghost use Rattle.member_table.specs.Filling.{neededIn, numberAt, putOne, putGroup, fits, placePiece, optPiece, joinedPiece, closedPiece, filled};
 
 const AND_CODE: usize = model_code::AND_CODE as usize;
 
@@ -90,27 +90,29 @@ fn put_one(
     );
 }
 
-// The next group: its members are the k pieces of the stack from `first` on, of which `needed` cannot be nothing.
+// The next group: its members are the k pieces of the stack from `first` on, numbered behind the `count` members that
+// there are. It gives how many of them cannot be nothing.
 fn put_group(
     members: &mut [u8],
     base: usize,
     table: &[u8; MODEL],
     lasts: [u8; LASTS],
     groups: usize,
-    own: usize,
+    count: usize,
     stack: [Piece; POSITIONS],
     first: usize,
-    needed: usize,
     k: usize,
-)
+) -> usize
     requires { ⌜ base < MEMBERS ⌝ }
     requires { ⌜ groups < AND-GROUPS ⌝ }
     requires { ⌜ 2 ≤ k ⌝ }
     requires { ⌜ first + k ≤ POSITIONS ⌝ }
-    requires { ⌜ own + k ≤ POSITIONS ⌝ }
-    requires { ⌜ needed ≡ neededIn stack first k ⌝ }
-    ensures { λ _. ⌜ now (members .exit) ≡ putGroup (now (members .entry)) base (now (table .entry)) lasts groups own stack first needed k ⌝ }
+    requires { ⌜ count + k < POSITIONS ⌝ }
+    ensures { λ _. ⌜ now (members .exit) ≡ putGroup (now (members .entry)) base (now (table .entry)) lasts groups (count + 1) stack first (neededIn stack first k) k ⌝ }
+    ensures { λ r. ⌜ r ≡ neededIn stack first k ⌝ }
 {
+    let own = count + 1;
+    let needed = needed_in(stack, first, k);
     member_entries::put_record(members, base, groups, own, needed, k);
     for j in 0..k {
         put_one(
@@ -126,6 +128,7 @@ fn put_group(
             j,
         );
     }
+    needed
 }
 
 // Whether a group of k members can be put, where so many pieces are on the stack and so many groups and members are put.
@@ -169,18 +172,50 @@ fn joined(op: u8, a: Piece, b: Piece) -> Piece
     }
 }
 
+// A place by itself.
+fn placed(p: u8) -> Piece
+    ensures { λ r. ⌜ r ≡ placePiece p ⌝ }
+{
+    Piece {
+        lo: p,
+        last: p,
+        null: false,
+        required: p,
+    }
+}
+
+// A piece that may be left out.
+fn optional(a: Piece) -> Piece
+    ensures { λ r. ⌜ r ≡ optPiece a ⌝ }
+{
+    Piece {
+        lo: a.lo,
+        last: a.last,
+        null: true,
+        required: 0,
+    }
+}
+
+// An "&" group from the piece a to the piece b, of whose members so many cannot be nothing.
+fn closed(needed: usize, a: Piece, b: Piece) -> Piece
+    ensures { λ r. ⌜ r ≡ closedPiece needed a b ⌝ }
+{
+    Piece {
+        lo: a.lo,
+        last: b.last,
+        null: needed == 0,
+        required: 0,
+    }
+}
+
 // The members of the element e, whose model has its table in `table` with n numbers of code. Where they are all 0 before, the table tells the model then (`fills`).
 pub fn fill(members: &mut [u8], e: ElementNo, table: &[u8; MODEL], n: usize)
     requires { ⌜ e .0 < CONTENTS ⌝ }
     ensures { λ _. ⌜ now (members .exit) ≡ filled (now (members .entry)) (e .0) (now (table .entry)) n ⌝ }
 {
     let base = e.0 * MEMBER;
-    let mut stack = [Piece {
-        lo: 0,
-        last: 0,
-        null: false,
-        required: 0,
-    }; POSITIONS];
+    let none = placed(0);
+    let mut stack = [none; POSITIONS];
     let mut lasts = [0u8; LASTS];
     let mut groups = 0;
     let mut count = 0;
@@ -190,23 +225,12 @@ pub fn fill(members: &mut [u8], e: ElementNo, table: &[u8; MODEL], n: usize)
         let op = table[MODEL_ROWS + i];
         if op < model_code::SEQ_CODE {
             if top < POSITIONS {
-                stack[top] = Piece {
-                    lo: op,
-                    last: op,
-                    null: false,
-                    required: op,
-                };
+                stack[top] = placed(op);
                 top += 1;
             }
         } else if op == model_code::OPT_CODE {
             if 1 <= top {
-                let a = stack[top - 1];
-                stack[top - 1] = Piece {
-                    lo: a.lo,
-                    last: a.last,
-                    null: true,
-                    required: 0,
-                };
+                stack[top - 1] = optional(stack[top - 1]);
             }
         } else if op < model_code::PLUS_CODE {
             if 2 <= top {
@@ -217,27 +241,9 @@ pub fn fill(members: &mut [u8], e: ElementNo, table: &[u8; MODEL], n: usize)
             let k = numbers::wide(op) - AND_CODE;
             if fits(k, top, groups, count) {
                 let first = top - k;
-                let needed = needed_in(stack, first, k);
-                put_group(
-                    members,
-                    base,
-                    table,
-                    lasts,
-                    groups,
-                    count + 1,
-                    stack,
-                    first,
-                    needed,
-                    k,
-                );
-                let a = stack[first];
+                let needed = put_group(members, base, table, lasts, groups, count, stack, first, k);
                 let b = stack[top - 1];
-                stack[first] = Piece {
-                    lo: a.lo,
-                    last: b.last,
-                    null: needed == 0,
-                    required: 0,
-                };
+                stack[first] = closed(needed, stack[first], b);
                 groups += 1;
                 count += k;
                 lasts[groups] = b.last;
